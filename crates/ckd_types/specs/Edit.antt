@@ -1,0 +1,16 @@
+-- What a write does to the records of a track.
+use Rattle.std.specs.Prelude.{◌+◌, List, [], ◌∷◌, ◌++◌, take, slice_index_or, slice_set}
+use Rattle.ckd_types.specs.declared.record.Record.{Record}
+use Rattle.ckd_types.specs.declared.record.Track.{Track}
+use Rattle.ckd_types.specs.declared.record.Edit.{Edit}
+use Rattle.ckd_types.specs.declared.record.Edit.TheVariants.{Update, Format, Zero}
+use Rattle.ckd_types.specs.Track.{empty_zero}
+
+-- one record has another key and data; or a record comes behind some that stay; or record 0 is alone
+abbrev pub edited : Edit → List Record → List Record
+edited (Update index key body) records = slice_set records index (record (slice_index_or records index (empty_zero 0)) { key = key; body = body })
+edited (Format after added) records = take (after + 1) records ++ added ∷ []
+edited (Zero added) records = added ∷ []
+
+abbrev pub apply_edit : Edit → Track → Track
+apply_edit e t = record t { records = edited e t.records }

@@ -1,0 +1,13 @@
+pub mod Held
+pub mod Roomy
+pub mod Status
+pub mod Ccw
+pub mod Commands
+pub mod Program
+pub mod Geometry
+pub mod Track
+pub mod Volume
+pub mod Edit
+pub mod Parameters
+pub mod Domains
+pub mod Sense

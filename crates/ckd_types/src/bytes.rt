@@ -1,0 +1,74 @@
+ghost use Rattle.std.specs.Prelude.{◌≡◌, ◌==◌, [], IfOk, length};
+
+use crate::NoMemory;
+use std::alloc::Global;
+use std::marker::Model;
+
+/// A list of bytes, which takes no memory while it is empty.
+#[derive(Debug, Drop)]
+pub struct Bytes {
+    items: Option<Vec<u8>>,
+}
+
+impl Model for Bytes {
+    ghost use Rattle.std.specs.Prelude.{ℕ, List};
+
+    ghost Value = { List ℕ };
+
+    ghost use Rattle.ckd_types.specs.Held.{held_bytes};
+
+    ghost view = { λ b. held_bytes b.items };
+}
+
+impl Bytes {
+    /// No bytes. Takes no memory.
+    pub fn new() -> Bytes
+        ensures { result ≡ [] }
+    {
+        Bytes { items: None }
+    }
+
+    pub fn from_slice(alloc: Global, bytes: &[u8]) -> Result<Bytes, NoMemory>
+        ensures { IfOk result (λ made. made ≡ bytes.now) }
+    {
+        if bytes.is_empty() {
+            return Ok(Bytes::new());
+        }
+        let items = bytes.to_vec(alloc)?;
+        Ok(Bytes { items: Some(items) })
+    }
+
+    /// The bytes of a vector, which is kept as it is.
+    pub fn from_vec(items: Vec<u8>) -> Bytes
+        ensures { result ≡ items.items }
+    {
+        Bytes { items: Some(items) }
+    }
+
+    pub fn as_slice(&self) -> &[u8]
+        ensures { result.now ≡ self.now }
+    {
+        match &self.items {
+            Some(items) => items,
+            None => &[],
+        }
+    }
+
+    pub fn len(&self) -> usize
+        ensures { result ≡ length self.now }
+    {
+        self.as_slice().len()
+    }
+
+    pub fn is_empty(&self) -> bool
+        ensures { result ≡ (length self.now == 0) }
+    {
+        self.as_slice().is_empty()
+    }
+
+    pub fn copy(&self, alloc: Global) -> Result<Bytes, NoMemory>
+        ensures { IfOk result (λ made. made ≡ self.now) }
+    {
+        Bytes::from_slice(alloc, self.as_slice())
+    }
+}

@@ -1,0 +1,36 @@
+//! The plain types of count-key-data storage, and the definitions that every crate above cites.
+#![tactic(auto)]
+
+mod bytes;
+mod channel;
+mod command;
+mod geometry;
+mod growing;
+mod memory;
+mod number;
+mod parameters;
+mod paths;
+mod record;
+mod sense;
+mod status;
+#[cfg(test)]
+mod tests;
+
+pub use bytes::Bytes;
+pub use channel::{Ccw, CommandEnd, EndList, Note, Why};
+pub use command::{
+    Command, Comparison, Direction, Group, command_of, direction_of, group_of, is_multitrack,
+    required_count,
+};
+pub use geometry::{Cchh, Geometry, HEADS, MOST_CYLINDERS, capacity, cchh_of, cost, track_of};
+pub use growing::Growing;
+pub use memory::NoMemory;
+pub use number::{DeviceNo, PathNo, TrackNo};
+pub use parameters::{
+    Domain, Extent, Mode, Operation, Orientation, ParamFault, accepts, mode_of, operation_code,
+    operation_of,
+};
+pub use paths::{GroupId, Owner, PathState, Side};
+pub use record::{Edit, RecId, Record, Records, Track, empty_track};
+pub use sense::Sense;
+pub use status::UnitStatus;

@@ -1,0 +1,43 @@
+/// A side of a device: B is the second volume of a duplex pair.
+#[derive(Clone, Copy, Debug, PartialEq, Eq)]
+pub enum Side {
+    A,
+    B,
+}
+
+/// The eleven bytes that name a path group.
+#[derive(Clone, Copy, Debug, PartialEq, Eq)]
+pub struct GroupId {
+    pub bytes: [u8; 11],
+}
+
+impl GroupId {
+    ghost use Rattle.std.specs.Prelude.{◌≡◌};
+
+    pub fn new(bytes: [u8; 11]) -> GroupId
+        ensures { result.bytes ≡ bytes }
+    {
+        GroupId { bytes }
+    }
+
+    pub fn bytes(&self) -> &[u8; 11]
+        ensures { result.now ≡ self.now.bytes }
+    {
+        &self.bytes
+    }
+}
+
+/// Whom a path stands for, and who holds a reserved device: a path group, or a path by itself.
+#[derive(Clone, Copy, Debug, PartialEq, Eq)]
+pub enum Owner {
+    Group(GroupId),
+    Path(crate::PathNo),
+}
+
+/// What a device keeps of a path's membership in a path group.
+#[derive(Clone, Copy, Debug, PartialEq, Eq)]
+pub enum PathState {
+    Reset,
+    Ungrouped,
+    Grouped { id: GroupId, multipath: bool },
+}

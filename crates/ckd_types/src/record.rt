@@ -1,0 +1,122 @@
+ghost use Rattle.std.specs.Prelude.{◌≡◌, ◌<◌, ◌+◌, ◌^◌, IfOk, IfSome, length, slice_index_or};
+ghost use Rattle.ckd_types.specs.Track.{empty_track, find_id};
+
+use crate::{Bytes, Cchh, NoMemory, TrackNo, cchh_of};
+use std::alloc::Global;
+use std::marker::Model;
+
+/// A record's id: a cylinder, a head and a number, as they were written.
+#[derive(Clone, Copy, Debug, PartialEq, Eq)]
+pub struct RecId {
+    pub cchh: Cchh,
+    pub r: u8,
+}
+
+/// A record: its id, its key of at most 255 bytes and its data of at most 65,534 bytes.
+#[derive(Debug, Drop)]
+pub struct Record {
+    pub id: RecId,
+    pub key: Bytes,
+    pub body: Bytes,
+}
+
+impl Record {
+    pub fn copy(&self, alloc: Global) -> Result<Record, NoMemory>
+        ensures { IfOk result (λ made. made ≡ self.now) }
+    {
+        Ok(Record {
+            id: self.id,
+            key: self.key.copy(alloc)?,
+            body: self.body.copy(alloc)?,
+        })
+    }
+}
+
+/// What a write does to a track.
+#[derive(Debug, Drop)]
+pub enum Edit {
+    /// Record `index` has this key and this data.
+    Update {
+        index: usize,
+        key: Bytes,
+        body: Bytes,
+    },
+    /// Behind record `after` stands this one, and nothing behind it.
+    Format {
+        after: usize,
+        added: Record,
+    },
+    /// The track has this record alone.
+    Zero {
+        added: Record,
+    },
+}
+
+/// The records of a track, record 0 first.
+#[derive(Debug, Drop)]
+pub struct Records {
+    items: Vec<Record>,
+}
+
+impl Model for Records {
+    ghost use Rattle.std.specs.Prelude.{List};
+    ghost use Rattle.ckd_types.specs.declared.record.Record.{Record};
+
+    ghost Value = { List Record };
+
+    ghost view = { λ r. r.items.items };
+}
+
+impl Records {
+    pub fn from_vec(items: Vec<Record>) -> Records
+        ensures { result ≡ items.items }
+    {
+        Records { items }
+    }
+
+    pub fn as_slice(&self) -> &[Record]
+        ensures { result.now ≡ self.now }
+    {
+        &self.items
+    }
+
+    pub fn len(&self) -> usize
+        ensures value { result ≡ length self.now }
+        ensures range { result < 2 ^ 63 }
+    {
+        self.items.len()
+    }
+
+    /// The first record with an id.
+    pub fn find(&self, id: RecId) -> Option<usize>
+        ensures found { result ≡ find_id id self.now }
+        ensures range { IfSome result (λ i. i < length self.now) }
+    {
+        self.items.iter().position(|record| record.id == id)
+    }
+}
+
+/// A track as a plain list: where it is, and its records.
+#[derive(Debug, Drop)]
+pub struct Track {
+    pub home: Cchh,
+    pub records: Records,
+}
+
+/// A track that has record 0 alone, with eight zero bytes of data.
+pub fn empty_track(alloc: Global, track: TrackNo) -> Result<Track, NoMemory>
+    ensures { IfOk result (λ made. made ≡ empty_track track) }
+{
+    let home = cchh_of(track);
+    let zero = Record {
+        id: RecId { cchh: home, r: 0 },
+        key: Bytes::new(),
+        body: Bytes::from_slice(alloc, &[0; 8])?,
+    };
+    let mut items = Vec::new(alloc);
+    items.push(zero)?;
+    Ok(Track {
+        home,
+        records: Records { items },
+    })
+}
