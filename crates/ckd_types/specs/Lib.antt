@@ -11,3 +11,4 @@ pub mod Edit
 pub mod Parameters
 pub mod Domains
 pub mod Sense
+pub mod Mask

@@ -28,7 +28,7 @@ pub use memory::NoMemory;
 pub use number::{DeviceNo, PathNo, TrackNo};
 pub use parameters::{
     Domain, Extent, Mode, Operation, Orientation, ParamFault, accepts, mode_of, operation_code,
-    operation_of,
+    operation_of, permits_move,
 };
 pub use paths::{GroupId, Owner, PathState, Side};
 pub use record::{Edit, RecId, Record, Records, Track, empty_track};

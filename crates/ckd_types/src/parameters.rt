@@ -1,6 +1,7 @@
 ghost use Rattle.std.specs.Prelude.{◌≡◌};
 ghost use Rattle.ckd_types.specs.Parameters.{mode_of, operation_of, operation_code};
 ghost use Rattle.ckd_types.specs.Domains.{accepts};
+ghost use Rattle.ckd_types.specs.Mask.{permits_move};
 
 use crate::{Command, RecId, TrackNo};
 
@@ -129,4 +130,11 @@ pub fn accepts(operation: Operation, command: Command) -> bool
         Command::ReadTrack => matches!(operation, Operation::ReadTracks),
         _ => false,
     }
+}
+
+/// Whether a file mask lets a multitrack command outside a domain go to the next track.
+pub fn permits_move(mask: u8) -> bool
+    ensures { result ≡ permits_move mask }
+{
+    mask & 0x18 != 0x18
 }

@@ -1,0 +1,114 @@
+-- The order of checks before a command looks at its track.
+use Rattle.std.specs.Prelude.{ℕ, ◌==◌, ◌&&◌, ◌||◌, not, is_some, is_ok, nat_lt, nat_le, Bool, true, false, Option, None, Some, Result, Ok, Err, if◌then◌else◌}
+use Rattle.ckd_types.specs.declared.channel.Ccw.{Ccw}
+use Rattle.ckd_types.specs.declared.command.Command.{Command}
+use Rattle.ckd_types.specs.declared.command.Command.TheVariants.{DefineExtent, LocateRecord, SetFileMask, WriteData, UpdateData, WriteKeyData, UpdateKeyData, WriteCountKeyData, WriteNextTrack, WriteZero, ReadTrack, Reserve, Release, UnconditionalReserve}
+use Rattle.ckd_types.specs.declared.parameters.Extent.{Extent}
+use Rattle.ckd_types.specs.declared.parameters.Domain.{Domain}
+use Rattle.ckd_types.specs.declared.parameters.ParamFault.{ParamFault}
+use Rattle.ckd_types.specs.declared.sense.Sense.{Sense}
+use Rattle.ckd_types.specs.declared.command.Group.{Group}
+use Rattle.ckd_types.specs.declared.command.Group.TheVariants as groups
+use Rattle.ckd_types.specs.Commands.{required_count, group_of}
+use Rattle.ckd_types.specs.Domains.{accepts}
+use Rattle.ckd_types.specs.Parameters.{given, extent_of, domain_of}
+use Rattle.ckd_types.specs.Sense.{reject_sense, file_protected_sense}
+use Rattle.plain_defs.specs.declared.stance.After.{After}
+use Rattle.plain_defs.specs.declared.stance.After.TheVariants.{Other, IdEqual, KeyEqual, HomeEqual, Found, Wrote}
+use Rattle.plain_defs.specs.declared.stance.Stance.{Stance}
+
+-- what a write outside a domain needs of the command before it
+abbrev pub after_data : After → Bool
+after_data IdEqual = true
+after_data KeyEqual = true
+after_data Other = false
+after_data HomeEqual = false
+after_data Found = false
+after_data Wrote = false
+
+abbrev pub after_id : After → Bool
+after_id IdEqual = true
+after_id KeyEqual = false
+after_id Other = false
+after_id HomeEqual = false
+after_id Found = false
+after_id Wrote = false
+
+abbrev pub after_record : After → Bool
+after_record IdEqual = true
+after_record KeyEqual = true
+after_record Found = true
+after_record Wrote = true
+after_record Other = false
+after_record HomeEqual = false
+
+abbrev pub after_home : After → Bool
+after_home HomeEqual = true
+after_home IdEqual = false
+after_home KeyEqual = false
+after_home Other = false
+after_home Found = false
+after_home Wrote = false
+
+-- outside a domain: what needs an earlier command, or that there was none
+abbrev pub may_follow : Stance → Command → Bool
+may_follow s DefineExtent = not s.mask_set
+may_follow s SetFileMask = not s.mask_set
+may_follow s LocateRecord = is_some s.extent
+may_follow s WriteData = after_data s.after
+may_follow s WriteKeyData = after_id s.after
+may_follow s WriteCountKeyData = after_record s.after
+may_follow s WriteZero = after_home s.after
+may_follow s UpdateData = false
+may_follow s UpdateKeyData = false
+may_follow s WriteNextTrack = false
+may_follow s ReadTrack = false
+may_follow s Reserve = s.commands == 0
+may_follow s Release = s.commands == 0
+may_follow s UnconditionalReserve = s.commands == 0
+may_follow s _ = true
+
+-- inside a domain: the commands of its operation
+abbrev pub is_in_sequence : Stance → Option Domain → Command → Bool
+is_in_sequence s None command = may_follow s command
+is_in_sequence s (Some d) command = accepts d.operation command
+
+-- the parameter bytes mean something on a device with this many cylinders
+abbrev pub has_parameters : ℕ → Ccw → Command → Bool
+has_parameters cylinders c DefineExtent = is_ok (extent_of cylinders (given 16 c))
+has_parameters cylinders c LocateRecord = is_ok (domain_of cylinders (given 16 c))
+has_parameters cylinders c _ = true
+
+abbrev pub sought_track : Result Domain ParamFault → Option ℕ
+sought_track (Ok d) = Some d.seek
+sought_track (Err fault) = None
+
+abbrev pub track_by_group : Group → ℕ → Option ℕ
+track_by_group groups.Search t = Some t
+track_by_group groups.Read t = Some t
+track_by_group groups.Write t = Some t
+track_by_group groups.Control t = None
+track_by_group groups.Sense t = None
+
+-- the track that a command is on, or goes to
+abbrev pub first_track : ℕ → Stance → Ccw → Command → Option ℕ
+first_track cylinders s c LocateRecord = sought_track (domain_of cylinders (given 16 c))
+first_track cylinders s c command = track_by_group (group_of command) s.track
+
+abbrev pub is_between : Extent → ℕ → Bool
+is_between e t = nat_le e.first t && nat_le t e.last
+
+abbrev pub is_within : Option Extent → Option ℕ → Bool
+is_within None t = true
+is_within (Some e) None = true
+is_within (Some e) (Some t) = is_between e t
+
+-- the first check that fails, as the sense that it gives: code, sequence, count, parameters, extent
+abbrev pub first_check : ℕ → Stance → Ccw → Option Command → Option Sense
+first_check cylinders s c None = Some (reject_sense 1)
+first_check cylinders s c (Some command) =
+    if not (is_in_sequence s s.domain command) then Some (reject_sense 2)
+    else if nat_lt c.count (required_count command) then Some (reject_sense 3)
+    else if not (has_parameters cylinders c command) then Some (reject_sense 4)
+    else if not (is_within s.extent (first_track cylinders s c command)) then Some file_protected_sense
+    else None

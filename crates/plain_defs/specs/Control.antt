@@ -1,0 +1,57 @@
+-- Define extent and locate record.
+use Rattle.std.specs.Prelude.{ℕ, ◌∷◌, [], List, Option, None, Some, Result, Ok, Err, true, if◌then◌else◌}
+use Rattle.ckd_types.specs.declared.channel.Ccw.{Ccw}
+use Rattle.ckd_types.specs.declared.record.Track.{Track}
+use Rattle.ckd_types.specs.declared.parameters.Extent.{Extent}
+use Rattle.ckd_types.specs.declared.parameters.Domain.{Domain}
+use Rattle.ckd_types.specs.declared.parameters.Orientation.{Orientation}
+use Rattle.ckd_types.specs.declared.parameters.Orientation.TheVariants as orientations
+use Rattle.ckd_types.specs.declared.parameters.ParamFault.{ParamFault}
+use Rattle.ckd_types.specs.Domains.{is_reading_tracks}
+use Rattle.ckd_types.specs.Parameters.{is_orient}
+use Rattle.ckd_types.specs.Sense.{reject_sense, no_record_sense}
+use Rattle.ckd_types.specs.Track.{find_id}
+use Rattle.plain_defs.specs.declared.stance.Stance.{Stance}
+use Rattle.plain_defs.specs.declared.stance.Place.{Place}
+use Rattle.plain_defs.specs.declared.stance.Place.TheVariants.{Index, Home, Count, Body}
+use Rattle.plain_defs.specs.declared.stance.After.TheVariants.{Other}
+use Rattle.plain_defs.specs.declared.outcome.Outcome.{Outcome}
+use Rattle.plain_defs.specs.Outcome.{normal, refused, ended}
+
+-- place and track stay as they were
+abbrev pub define_extent : Stance → Ccw → Result Extent ParamFault → Outcome
+define_extent s c (Ok e) = ended (record s { extent = Some e; mask = e.mask; mask_set = true; passes = 0; after = Other }) c 16 normal []
+define_extent s c (Err fault) = refused s c (reject_sense 4)
+
+-- orient opens no domain
+abbrev pub opened : Domain → Option Domain
+opened d = if is_orient d.operation then None else Some d
+
+-- for read tracks the place is the index, whatever was looked for
+abbrev pub place_for : Domain → Place → Place
+place_for d place = if is_reading_tracks d.operation then Index else place
+
+-- the chain is on the track that was sought
+abbrev pub placed : Stance → Ccw → Domain → Place → Outcome
+placed s c d place = ended (record s { domain = opened d; left = d.count; track = d.seek; place = place_for d place; passes = 0; after = Other }) c 16 normal []
+
+-- the record with the id that was looked for, by its count area or its data
+abbrev pub area_of : Orientation → ℕ → Place
+area_of orientations.Count i = Count i
+area_of orientations.Body i = Body i
+area_of orientations.Home i = Home
+area_of orientations.Index i = Index
+
+abbrev pub oriented : Stance → Ccw → Domain → Option ℕ → Outcome
+oriented s c d (Some i) = placed s c d (area_of d.orientation i)
+oriented s c d None = refused s c no_record_sense
+
+-- home address and index need no look at the track
+abbrev pub needs_record : Orientation → Option Place
+needs_record orientations.Count = None
+needs_record orientations.Body = None
+needs_record orientations.Home = Some Home
+needs_record orientations.Index = Some Index
+
+abbrev pub locate_on : Track → Stance → Ccw → Domain → Outcome
+locate_on t s c d = oriented s c d (find_id d.search t.records)

@@ -1,0 +1,13 @@
+pub mod Stance
+pub mod Outcome
+pub mod Finding
+pub mod Sought
+pub mod Checks
+pub mod Control
+pub mod Reads
+pub mod PlainState
+pub mod Effect
+pub mod Chain
+pub mod Entry
+pub mod Journal
+pub mod Room

@@ -1,0 +1,20 @@
+-- What the stance of a running chain meets.
+use Rattle.std.specs.Prelude.{◌≡◌, ℕ, ◌+◌, ◌<◌, ◌≤◌, IsSome, IfSome}
+use Rattle.plain_defs.specs.declared.stance.Stance.{Stance}
+
+-- one more command may be counted
+pub record HasRoom (s : Stance) : Type 0 where
+  pub commands : s.commands < 4096
+  pub moved : s.moved < 1048576
+
+-- the stance is on a device with this many tracks
+pub record Stands (tracks : ℕ) (s : Stance) : Type 0 where
+  pub track : s.track < tracks
+  pub extent : IfSome s.extent (λ e. e.last < tracks)
+  pub left : IsSome s.domain → 0 < s.left
+  pub passes : s.passes ≤ 1
+
+-- a command leaves a stance on the device, and was counted
+pub record GoesOn (tracks : ℕ) (old new : Stance) : Type 0 where
+  pub stands : Stands tracks new
+  pub commands : new.commands ≡ old.commands + 1

@@ -1,0 +1,159 @@
+ghost use Rattle.std.specs.Prelude.{◌≡◌, ◌<◌, ◌≤◌, ◌+◌, ◌%◌, ◌^◌, IfSome, IfOk, IsSome, IsSomeAnd, length};
+ghost use Rattle.plain_defs.specs.Finding.{kept_place, place_on, next_data, if_there, next_track, track_after, find_from, missed, from_index};
+ghost use Rattle.plain_defs.specs.Sought.{IsHere, IsOnward};
+ghost use Rattle.plain_defs.specs.Room.{Stands};
+
+use crate::sense::{end_of_cylinder, file_protected, no_record};
+use crate::{Place, Stance};
+use ckd_types::{Extent, HEADS, Records, Sense, TrackNo, permits_move};
+
+/// Where a command finds its record: on this track, with the passes of its index so far; on the next
+/// track; or nowhere.
+#[derive(Clone, Copy, Debug, PartialEq, Eq)]
+pub enum Sought {
+    Here { index: usize, passes: u8 },
+    Onward(TrackNo),
+    Nowhere(Sense),
+}
+
+fn kept_place(records: &Records, i: usize, place: Place) -> Place
+    requires { 0 < length records.now }
+    ensures { result ≡ kept_place records.now i place }
+{
+    if i < records.len() {
+        place
+    } else {
+        Place::Body(records.len() - 1)
+    }
+}
+
+/// The place on this track: behind a record that isn't there it is the data of the last. Own.
+pub fn place_on(records: &Records, place: Place) -> Place
+    requires { 0 < length records.now }
+    ensures { result ≡ place_on records.now place }
+{
+    match place {
+        Place::Index => Place::Index,
+        Place::Home => Place::Home,
+        Place::Count(i) => kept_place(records, i, place),
+        Place::Key(i) => kept_place(records, i, place),
+        Place::Body(i) => kept_place(records, i, place),
+    }
+}
+
+/// The record whose data comes next.
+pub fn next_data(place: Place) -> usize
+    requires { next_data place < 2 ^ 64 }
+    ensures { result ≡ next_data place }
+{
+    match place {
+        Place::Index | Place::Home => 1,
+        Place::Count(i) | Place::Key(i) => i,
+        Place::Body(i) => i + 1,
+    }
+}
+
+/// Record `i`, where the track has it.
+pub fn if_there(records: &Records, i: usize) -> Option<usize>
+    ensures found { result ≡ if_there records.now i }
+    ensures range { IfSome result (λ k. k < length records.now) }
+{
+    if i < records.len() { Some(i) } else { None }
+}
+
+/// The track behind this one, or the sense that ends the command.
+fn track_after(extent: Option<Extent>, t: TrackNo, tracks: usize) -> Result<TrackNo, Sense>
+    requires cylinders { tracks % 15 ≡ 0 }
+    requires device { tracks ≤ 960 }
+    requires track { t < tracks }
+    requires extent { IfSome extent (λ e. e.last < tracks) }
+    ensures after { result ≡ track_after extent t }
+    ensures track { IfOk result (λ u. u < tracks) }
+{
+    let n = t.get();
+    match extent {
+        None => {
+            if n % HEADS == HEADS - 1 {
+                return Err(end_of_cylinder());
+            }
+        }
+        Some(e) => {
+            if e.last.get() <= n {
+                return Err(file_protected());
+            }
+        }
+    }
+    Ok(TrackNo::new(n + 1).unwrap())
+}
+
+fn next_track(stance: &Stance, tracks: usize) -> Result<TrackNo, Sense>
+    requires cylinders { tracks % 15 ≡ 0 }
+    requires device { tracks ≤ 960 }
+    requires stands { Stands tracks stance.now }
+    ensures after { result ≡ next_track stance.now }
+    ensures track { IfOk result (λ u. u < tracks) }
+{
+    if stance.domain.is_none() && !permits_move(stance.mask) {
+        return Err(file_protected());
+    }
+    let track = stance.track;
+    track_after(stance.extent, track, tracks)
+}
+
+fn from_index(passes: u8, again: Option<usize>) -> Sought
+    ensures { result ≡ from_index passes again }
+{
+    match again {
+        Some(index) => Sought::Here { index, passes },
+        None => Sought::Nowhere(no_record()),
+    }
+}
+
+fn missed(multitrack: bool, stance: &Stance, again: Option<usize>, tracks: usize) -> Sought
+    requires cylinders { tracks % 15 ≡ 0 }
+    requires device { tracks ≤ 960 }
+    requires stands { Stands tracks stance.now }
+    ensures sought { result ≡ missed multitrack stance.now again }
+    ensures on_device { IsOnward result (λ t. t < tracks) }
+    ensures there { IsHere result (λ i. IsSomeAnd again (λ k. i ≡ k)) }
+{
+    if multitrack {
+        return match next_track(stance, tracks) {
+            Ok(t) => Sought::Onward(t),
+            Err(sense) => Sought::Nowhere(sense),
+        };
+    }
+    if stance.passes >= 1 {
+        return Sought::Nowhere(no_record());
+    }
+    from_index(stance.passes + 1, again)
+}
+
+/// Where a command finds its record: `first` is the candidate from its place, `again` the one from
+/// the index, each a record of this track.
+pub fn find_from(
+    multitrack: bool,
+    stance: &Stance,
+    records: &Records,
+    first: Option<usize>,
+    again: Option<usize>,
+    tracks: usize,
+) -> Sought
+    requires first { IfSome first (λ i. i < length records.now) }
+    requires again { IfSome again (λ i. i < length records.now) }
+    requires cylinders { tracks % 15 ≡ 0 }
+    requires device { tracks ≤ 960 }
+    requires stands { Stands tracks stance.now }
+    ensures sought { result ≡ find_from multitrack stance.now first again }
+    ensures on_device { IsOnward result (λ t. t < tracks) }
+    ensures there { IsHere result (λ i. i < length records.now) }
+{
+    let _ = records.len();
+    match first {
+        Some(index) => Sought::Here {
+            index,
+            passes: stance.passes,
+        },
+        None => missed(multitrack, stance, again, tracks),
+    }
+}
