@@ -1,1 +1,4 @@
 pub mod Lists
+pub mod FollowLemmas
+pub mod EmptyLemmas
+pub mod PartLemmas

@@ -1,5 +1,5 @@
 -- A channel program is a fold of its commands, with a stance.
-use Rattle.std.specs.Prelude.{ℕ, zero, suc, ◌==◌, ◌&&◌, ◌||◌, not, is_some, nat_lt, nat_le, Bool, true, false, List, [], ◌∷◌, length, Option, None, Some, if◌then◌else◌}
+use Rattle.std.specs.Prelude.{ℕ, zero, suc, ◌==◌, ◌&&◌, ◌||◌, not, nat_le, Bool, true, false, List, [], ◌∷◌, Option, None, Some, if◌then◌else◌}
 use Rattle.ckd_types.specs.declared.channel.Ccw.{Ccw}
 use Rattle.ckd_types.specs.declared.channel.CommandEnd.{CommandEnd}
 use Rattle.ckd_types.specs.declared.channel.Note.{Note}
@@ -12,7 +12,7 @@ use Rattle.plain_defs.specs.declared.stance.Stance.{Stance}
 use Rattle.plain_defs.specs.declared.outcome.Outcome.{Outcome}
 use Rattle.plain_defs.specs.Stance.{first_stance}
 use Rattle.plain_defs.specs.PlainState.{PlainState, with_sense}
-use Rattle.plain_defs.specs.Effect.{Effect, command_effect}
+use Rattle.plain_defs.specs.Effect.{command_effect}
 
 abbrev pub is_plain : Note → Bool
 is_plain Plain = true
@@ -62,16 +62,19 @@ unfoldable pub part_from : ℕ → PlainState → ℕ → List Ccw → Stance �
 part_from zero state path ccws s next = stopped state s
 part_from (suc k) state path ccws s next =
     if_some next (stopped state s) (λ i.
-      let e = command_effect state path s (ccw_at ccws i) in
-      onto (end_of i (ccw_at ccws i) e.outcome) (part_from k e.state path ccws e.outcome.stance (goes_to ccws i e.outcome)))
+    let e = command_effect state path s (ccw_at ccws i) in
+    onto (end_of i (ccw_at ccws i) e.outcome) (part_from k e.state path ccws e.outcome.stance (goes_to ccws i e.outcome)))
 
 -- sense, reserve, release and unconditional reserve send the sense that a path has
 abbrev pub sends_sense : ℕ → Bool
 sends_sense command = (command == 0x04) || (command == 0xb4) || (command == 0x94) || (command == 0x14)
 
+abbrev pub starts_with_sense : List Ccw → Bool
+starts_with_sense ccws = sends_sense (ccw_at ccws 0).command
+
 -- every other program begins with a sense of zeros
 abbrev pub begun : PlainState → ℕ → List Ccw → PlainState
-begun state path ccws = if sends_sense (ccw_at ccws 0).command then state else with_sense state path (Some zero_sense)
+begun state path ccws = if starts_with_sense ccws then state else with_sense state path (Some zero_sense)
 
 -- the first k commands of a program
 abbrev pub part_of : PlainState → ℕ → List Ccw → ℕ → Part

@@ -1,5 +1,5 @@
 -- The order of checks before a command looks at its track.
-use Rattle.std.specs.Prelude.{ℕ, ◌==◌, ◌&&◌, ◌||◌, not, is_some, is_ok, nat_lt, nat_le, Bool, true, false, Option, None, Some, Result, Ok, Err, if◌then◌else◌}
+use Rattle.std.specs.Prelude.{ℕ, ◌==◌, ◌&&◌, not, is_some, is_ok, nat_lt, nat_le, Bool, true, false, Option, None, Some, Result, Ok, Err, if◌then◌else◌}
 use Rattle.ckd_types.specs.declared.channel.Ccw.{Ccw}
 use Rattle.ckd_types.specs.declared.command.Command.{Command}
 use Rattle.ckd_types.specs.declared.command.Command.TheVariants.{DefineExtent, LocateRecord, SetFileMask, WriteData, UpdateData, WriteKeyData, UpdateKeyData, WriteCountKeyData, WriteNextTrack, WriteZero, ReadTrack, Reserve, Release, UnconditionalReserve}

@@ -1,5 +1,5 @@
 -- Define extent and locate record.
-use Rattle.std.specs.Prelude.{ℕ, ◌∷◌, [], List, Option, None, Some, Result, Ok, Err, true, if◌then◌else◌}
+use Rattle.std.specs.Prelude.{ℕ, [], Option, None, Some, Result, Ok, Err, true, if◌then◌else◌}
 use Rattle.ckd_types.specs.declared.channel.Ccw.{Ccw}
 use Rattle.ckd_types.specs.declared.record.Track.{Track}
 use Rattle.ckd_types.specs.declared.parameters.Extent.{Extent}

@@ -48,9 +48,9 @@ unfoldable pub follow : ℕ → List Track → Stance → Ccw → (Track → Sta
 follow zero v s c on = untouched v (refused s c end_of_cylinder_sense)
 follow (suc n) v s c on =
     by_turn (on (track_in v s.track) s)
-      (λ o. record { volume = v; outcome = o; touched = s.track ∷ [] })
-      (λ t. touching s.track (follow n v (record s { track = t; place = Index }) c on))
-      (λ e o. record { volume = slice_set v s.track (apply_edit e (track_in v s.track)); outcome = o; touched = s.track ∷ [] })
+    (λ o. record { volume = v; outcome = o; touched = s.track ∷ [] })
+    (λ t. touching s.track (follow n v (record s { track = t; place = Index }) c on))
+    (λ e o. record { volume = slice_set v s.track (apply_edit e (track_in v s.track)); outcome = o; touched = s.track ∷ [] })
 
 abbrev pub looked_up : List Track → Stance → Ccw → Domain → Option Place → Traced
 looked_up v s c d (Some place) = untouched v (placed s c d place)

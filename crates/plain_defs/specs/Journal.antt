@@ -1,5 +1,5 @@
 -- What a device's journal holds, the plain device that it leads to, and which journals a plain device could have made.
-use Rattle.std.specs.Prelude.{◌≡◌, ◌⊎◌, ℕ, ◌+◌, ◌-◌, ◌==◌, ◌<◌, ◌≤◌, Bool, true, false, List, [], ◌∷◌, ◌++◌, take, length, count_by, slice_index_or, Option, None, Some, ⊤}
+use Rattle.std.specs.Prelude.{◌≡◌, ◌⊎◌, ℕ, ◌+◌, ◌-◌, ◌==◌, ◌≤◌, Bool, true, false, List, [], ◌∷◌, ◌++◌, take, length, count_by, slice_index_or, Option, None, Some, ⊤}
 use Rattle.ckd_types.specs.declared.channel.Ccw.{Ccw}
 use Rattle.ckd_types.specs.declared.channel.CommandEnd.{CommandEnd}
 use Rattle.ckd_types.specs.declared.channel.Note.TheVariants.{Plain}
@@ -14,7 +14,7 @@ use Rattle.plain_defs.specs.declared.journal.Item.{Item}
 use Rattle.plain_defs.specs.declared.journal.Item.TheVariants.{Program, Reset, Fresh}
 use Rattle.plain_defs.specs.Outcome.{check}
 use Rattle.plain_defs.specs.PlainState.{PlainState, with_sense, is_admitted, reset_path}
-use Rattle.plain_defs.specs.Chain.{Part, part_of, whole_run}
+use Rattle.plain_defs.specs.Chain.{part_of, whole_run}
 
 -- of each path the programs that are planned, in their order
 abbrev pub Plans : Type 0

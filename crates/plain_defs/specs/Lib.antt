@@ -10,4 +10,7 @@ pub mod Effect
 pub mod Chain
 pub mod Entry
 pub mod Journal
+pub mod Followed
+pub mod Built
 pub mod Room
+pub mod Turn

@@ -1,5 +1,5 @@
 -- How a command comes out.
-use Rattle.std.specs.Prelude.{ℕ, ◌+◌, ◌-◌, ◌==◌, ◌||◌, min, List, [], take, Option, None, Some, if◌then◌else◌}
+use Rattle.std.specs.Prelude.{ℕ, ◌+◌, ◌-◌, ◌==◌, ◌||◌, min, List, [], take, None, Some, if◌then◌else◌}
 use Rattle.ckd_types.specs.declared.channel.Ccw.{Ccw}
 use Rattle.ckd_types.specs.declared.channel.Note.{Note}
 use Rattle.ckd_types.specs.declared.channel.Note.TheVariants.{Plain, IncorrectLength}

@@ -1,5 +1,5 @@
 -- Reads of one track.
-use Rattle.std.specs.Prelude.{ℕ, ◌==◌, Bool, List, length, slice_index_or, Option, if◌then◌else◌}
+use Rattle.std.specs.Prelude.{ℕ, ◌==◌, List, length, slice_index_or, if◌then◌else◌}
 use Rattle.ckd_types.specs.declared.channel.Ccw.{Ccw}
 use Rattle.ckd_types.specs.declared.record.Record.{Record}
 use Rattle.ckd_types.specs.declared.record.Track.{Track}

@@ -18,3 +18,8 @@ pub record Stands (tracks : ℕ) (s : Stance) : Type 0 where
 pub record GoesOn (tracks : ℕ) (old new : Stance) : Type 0 where
   pub stands : Stands tracks new
   pub commands : new.commands ≡ old.commands + 1
+
+-- the chain goes on at a word, and one more command may be counted
+pub record IsRunning (index : ℕ) (s : Stance) : Type 0 where
+  pub word : index < 65536
+  pub room : HasRoom s

@@ -1,5 +1,5 @@
 -- Where a chain stands between two commands.
-use Rattle.std.specs.Prelude.{ℕ, ◌-◌, ◌==◌, is_some, Bool, false, Option, None, Some, if◌then◌else◌}
+use Rattle.std.specs.Prelude.{ℕ, ◌-◌, ◌==◌, is_some, false, Option, None, if◌then◌else◌}
 use Rattle.ckd_types.specs.declared.parameters.Domain.{Domain}
 use Rattle.plain_defs.specs.declared.stance.Stance.{Stance}
 use Rattle.plain_defs.specs.declared.stance.Place.TheVariants.{Index}

@@ -17,8 +17,10 @@ pub enum Sought {
 }
 
 fn kept_place(records: &Records, i: usize, place: Place) -> Place
-    requires { 0 < length records.now }
-    ensures { result ≡ kept_place records.now i place }
+    requires some { 0 < length records.now }
+    requires bound { i < length records.now → next_data place < 2 ^ 64 }
+    ensures kept { result ≡ kept_place records.now i place }
+    ensures bound { next_data result < 2 ^ 64 }
 {
     if i < records.len() {
         place
@@ -30,8 +32,10 @@ fn kept_place(records: &Records, i: usize, place: Place) -> Place
 /// The place on this track: behind a record that isn't there it is the data of the last. Own.
 pub fn place_on(records: &Records, place: Place) -> Place
     requires { 0 < length records.now }
-    ensures { result ≡ place_on records.now place }
+    ensures place { result ≡ place_on records.now place }
+    ensures bound { next_data result < 2 ^ 64 }
 {
+    let _ = records.len();
     match place {
         Place::Index => Place::Index,
         Place::Home => Place::Home,

@@ -15,6 +15,7 @@ mod sense;
 mod stance;
 mod volume;
 
+pub use device::PlainDevice;
 pub use finding::Sought;
 pub use journal::{Entry, How, Item, Journal};
 pub use outcome::{Outcome, Turned};

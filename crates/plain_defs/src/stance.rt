@@ -1,5 +1,5 @@
-ghost use Rattle.std.specs.Prelude.{◌≡◌};
-ghost use Rattle.plain_defs.specs.Stance.{first_stance};
+ghost use Rattle.std.specs.Prelude.{◌≡◌, ◌<◌, IsSome};
+ghost use Rattle.plain_defs.specs.Stance.{first_stance, one_less};
 
 use ckd_types::{Domain, Extent, TrackNo};
 
@@ -60,4 +60,19 @@ pub fn first_stance() -> Stance
         commands: 0,
         moved: 0,
     }
+}
+
+/// One command of the domain, where there is one, ended well; with its last the domain ends.
+pub fn one_less(stance: &Stance) -> Stance
+    requires { IsSome stance.now.domain → 0 < stance.now.left }
+    ensures { result ≡ one_less stance.now }
+{
+    let mut after = *stance;
+    if after.domain.is_some() {
+        after.left -= 1;
+        if after.left == 0 {
+            after.domain = None;
+        }
+    }
+    after
 }

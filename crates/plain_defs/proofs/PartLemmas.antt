@@ -1,0 +1,96 @@
+-- A running program, one command on.
+use Rattle.std.proofs.Common.{◌≡◌, ◌-◌, ◌++◌, ◌∷◌, [], ℕ, zero, suc, List, Option, Some, None, length, refl, arith, sym, ap, subst, ◌∙◌, append_assoc}
+use Rattle.std.specs.Prelude.{IfSome}
+use Rattle.std.proofs.lemmas.List.{append-nil}
+use Rattle.ckd_types.specs.declared.channel.Ccw.{Ccw}
+use Rattle.ckd_types.specs.declared.channel.CommandEnd.{CommandEnd}
+use Rattle.ckd_types.specs.declared.record.Track.{Track}
+use Rattle.ckd_types.specs.declared.sense.Sense.{Sense}
+use Rattle.ckd_types.specs.Ccw.{ccw_at}
+use Rattle.plain_defs.specs.declared.stance.Stance.{Stance}
+use Rattle.plain_defs.specs.declared.outcome.Outcome.{Outcome}
+use Rattle.plain_defs.specs.PlainState.{PlainState, with_sense, senses_with}
+use Rattle.plain_defs.specs.Effect.{volume_effect, command_effect}
+use Rattle.plain_defs.specs.Chain.{Part, part_from, whole_run, end_of, goes_to, onto}
+use Rattle.plain_defs.specs.Followed.{Gives}
+use Rattle.plain_defs.specs.Room.{Stands, GoesOn, IsRunning}
+
+-- the ends so far, and those of what is left, are those of the whole run
+pub record IsPart (start : PlainState) (path : ℕ) (ccws : List Ccw) (state : PlainState) (s : Stance) (next : Option ℕ) (ends : List CommandEnd) : Type 0 where
+  pub ends_are : ends ++ (part_from (4096 - s.commands) state path ccws s next).ends ≡ (whole_run start path ccws).ends
+  pub state_is : (part_from (4096 - s.commands) state path ccws s next).state ≡ (whole_run start path ccws).state
+  pub stands : Stands (length state.volume) s
+  pub running : IfSome next (λ i. IsRunning i s)
+
+module _ (state : PlainState) (path : ℕ) (ccws : List Ccw) (s : Stance) where
+  pub none_left : (k : ℕ) → part_from k state path ccws s None ≡ record { state = state; stance = s; ends = [] }
+  unfolding part_from
+  none_left zero = refl
+  none_left (suc k) = refl
+
+  pub one_more : (k i : ℕ) → part_from (suc k) state path ccws s (Some i)
+      ≡ onto (end_of i (ccw_at ccws i) (command_effect state path s (ccw_at ccws i)).outcome)
+      (part_from k (command_effect state path s (ccw_at ccws i)).state path ccws (command_effect state path s (ccw_at ccws i)).outcome.stance (goes_to ccws i (command_effect state path s (ccw_at ccws i)).outcome))
+  unfolding part_from
+  one_more k i = refl
+
+module _ (start : PlainState) (path : ℕ) (ccws : List Ccw) (state : PlainState) (s : Stance) (next : Option ℕ) (ends : List CommandEnd) (p : IsPart start path ccws state s next ends) where
+  pub ends_all : next ≡ None → ends ≡ (whole_run start path ccws).ends
+  ends_all none =
+      sym (append-nil ends)
+      ∙ ap (λ (x : Part). ends ++ x.ends) (sym (none_left state path ccws s (4096 - s.commands)))
+      ∙ ap (λ (n : Option ℕ). ends ++ (part_from (4096 - s.commands) state path ccws s n).ends) (sym none)
+      ∙ p.ends_are
+
+  pub state_all : next ≡ None → state ≡ (whole_run start path ccws).state
+  state_all none =
+      ap (λ (x : Part). x.state) (sym (none_left state path ccws s (4096 - s.commands)))
+      ∙ ap (λ (n : Option ℕ). (part_from (4096 - s.commands) state path ccws s n).state) (sym none)
+      ∙ p.state_is
+
+  module _ (i : ℕ) (c : Ccw) (o : Outcome) (senses : List Sense) (then_next : Option ℕ) (then_ends : List CommandEnd) (next_is : next ≡ Some i) (c_is : c ≡ ccw_at ccws i)
+      (gives : Gives state.volume (volume_effect state.cylinders state.volume s c) o) (goes_on : GoesOn (length state.volume) s o.stance)
+      (senses_are : senses ≡ senses_with state.senses path o.sense) (then_is : then_next ≡ goes_to ccws i o) (then_running : IfSome then_next (λ j. IsRunning j o.stance))
+      (ends_is : then_ends ≡ ends ++ end_of i c o ∷ []) where
+    is_running : IsRunning i s
+    is_running = subst (λ (n : Option ℕ). IfSome n (λ j. IsRunning j s)) next_is p.running
+
+    left : 4096 - s.commands ≡ suc (4096 - o.stance.commands)
+    left = omega (arith, is_running.room.commands, goes_on.commands)
+
+    outcome_is : (command_effect state path s (ccw_at ccws i)).outcome ≡ o
+    outcome_is = ap (λ (d : Ccw). (command_effect state path s d).outcome) (sym c_is) ∙ sym gives.outcome
+
+    state_then : (command_effect state path s (ccw_at ccws i)).state ≡ record state { senses = senses }
+    state_then =
+        ap (λ (d : Ccw). (command_effect state path s d).state) (sym c_is)
+        ∙ ap (λ (v : List Track). with_sense (record state { volume = v }) path (volume_effect state.cylinders state.volume s c).outcome.sense) gives.volume
+        ∙ ap (λ (x : Outcome). with_sense state path x.sense) (sym gives.outcome)
+        ∙ ap (λ (l : List Sense). record state { senses = l }) (sym senses_are)
+
+    rest : Part
+    rest = part_from (4096 - o.stance.commands) (record state { senses = senses }) path ccws o.stance then_next
+
+    unrolled : part_from (4096 - s.commands) state path ccws s next ≡ onto (end_of i c o) rest
+    unfolding rest
+    unrolled =
+        ap (λ (n : Option ℕ). part_from (4096 - s.commands) state path ccws s n) next_is
+        ∙ ap (λ (k : ℕ). part_from k state path ccws s (Some i)) left
+        ∙ one_more state path ccws s (4096 - o.stance.commands) i
+        ∙ ap (λ (x : Outcome). onto (end_of i (ccw_at ccws i) x) (part_from (4096 - o.stance.commands) (command_effect state path s (ccw_at ccws i)).state path ccws x.stance (goes_to ccws i x))) outcome_is
+        ∙ ap (λ (d : Ccw). onto (end_of i d o) (part_from (4096 - o.stance.commands) (command_effect state path s (ccw_at ccws i)).state path ccws o.stance (goes_to ccws i o))) (sym c_is)
+        ∙ ap (λ (q : PlainState). onto (end_of i c o) (part_from (4096 - o.stance.commands) q path ccws o.stance (goes_to ccws i o))) state_then
+        ∙ ap (λ (n : Option ℕ). onto (end_of i c o) (part_from (4096 - o.stance.commands) (record state { senses = senses }) path ccws o.stance n)) (sym then_is)
+
+    pub part_more : IsPart start path ccws (record state { senses = senses }) o.stance then_next then_ends
+    unfolding rest
+    part_more = record {
+      ends_are =
+          ap (λ (l : List CommandEnd). l ++ rest.ends) ends_is
+          ∙ append_assoc ends (end_of i c o ∷ []) rest.ends
+          ∙ ap (λ (x : Part). ends ++ x.ends) (sym unrolled)
+          ∙ p.ends_are;
+      state_is = ap (λ (x : Part). x.state) (sym unrolled) ∙ p.state_is;
+      stands = goes_on.stands;
+      running = then_running;
+    }

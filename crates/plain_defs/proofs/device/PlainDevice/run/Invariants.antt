@@ -1,0 +1,12 @@
+use Rattle.std.proofs.Common.{◌≡◌, ◌-◌}
+use Rattle.ckd_types.specs.Ccw.{no_ccw}
+use Rattle.plain_defs.proofs.PartLemmas.{IsPart}
+use Rattle.plain_defs.proofs.device.PlainDevice.run.Given as goal
+
+abbrev pub invariant-loop-next : goal.invariant-loop-next
+invariant-loop-next l =
+    IsPart l.fn.self l.path l.ccws (record l.fn.self { senses = l.senses }) l.stance l.next l.ends.items
+    × (l.nothing ≡ no_ccw)
+
+abbrev pub decreases-loop-next : goal.decreases-loop-next
+decreases-loop-next l = 4096 - l.stance.commands

@@ -1,0 +1,5 @@
+use Rattle.plain_defs.proofs.FollowLemmas.{IsFollowed}
+use Rattle.plain_defs.proofs.effect.read_data.Given as goal
+
+abbrev pub invariant-loop-turn : goal.invariant-loop-turn
+invariant-loop-turn l = IsFollowed l.volume l.stance l.c l.here l._turn
