@@ -10,5 +10,5 @@ pub mod Volume
 pub mod Edit
 pub mod Parameters
 pub mod Domains
-pub mod Sense
 pub mod Mask
+pub mod Sense

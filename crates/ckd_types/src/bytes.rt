@@ -66,6 +66,16 @@ impl Bytes {
         self.as_slice().is_empty()
     }
 
+    /// Writes as many other bytes over these. Takes no memory.
+    pub fn overwrite(&mut self, bytes: &[u8])
+        requires { length bytes.now ≡ length self.old }
+        ensures { self.new ≡ bytes.now }
+    {
+        if let Some(items) = &mut self.items {
+            items.as_mut_slice().copy_from_slice(bytes);
+        }
+    }
+
     pub fn copy(&self, alloc: Global) -> Result<Bytes, NoMemory>
         ensures { IfOk result (λ made. made ≡ self.now) }
     {

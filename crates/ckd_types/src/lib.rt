@@ -27,8 +27,9 @@ pub use growing::Growing;
 pub use memory::NoMemory;
 pub use number::{DeviceNo, PathNo, TrackNo};
 pub use parameters::{
-    Domain, Extent, Mode, Operation, Orientation, ParamFault, accepts, mode_of, operation_code,
-    operation_of, permits_move,
+    ALL_SEEKS, ALL_WRITES, Domain, Extent, Mode, NO_SEEKS, NO_WRITES, NO_ZERO_WRITES, Operation,
+    Orientation, ParamFault, SEEK_CONTROL, SEEK_CYLINDER, WRITE_CONTROL, accepts, mode_of,
+    operation_code, operation_of, permits_move, permits_seek, permits_write,
 };
 pub use paths::{GroupId, Owner, PathState, Side};
 pub use record::{Edit, RecId, Record, Records, Track, empty_track};

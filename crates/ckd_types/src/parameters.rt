@@ -1,9 +1,33 @@
 ghost use Rattle.std.specs.Prelude.{◌≡◌};
 ghost use Rattle.ckd_types.specs.Parameters.{mode_of, operation_of, operation_code};
 ghost use Rattle.ckd_types.specs.Domains.{accepts};
-ghost use Rattle.ckd_types.specs.Mask.{permits_move};
+ghost use Rattle.ckd_types.specs.Mask.{permits_write, permits_seek, permits_move};
 
 use crate::{Command, RecId, TrackNo};
+
+/// The bits of the mask that say which writes are permitted.
+pub const WRITE_CONTROL: u8 = 0xc0;
+
+/// Write control: all writes but that of record 0.
+pub const NO_ZERO_WRITES: u8 = 0x00;
+
+/// Write control: no writes.
+pub const NO_WRITES: u8 = 0x40;
+
+/// Write control: all writes. The fourth value, 0x80, permits the update writes alone.
+pub const ALL_WRITES: u8 = 0xc0;
+
+/// The bits of the mask that say which seeks are permitted.
+pub const SEEK_CONTROL: u8 = 0x18;
+
+/// Seek control: all seeks, and recalibrate.
+pub const ALL_SEEKS: u8 = 0x00;
+
+/// Seek control: seek cylinder and seek head.
+pub const SEEK_CYLINDER: u8 = 0x08;
+
+/// Seek control: no seeks. The fourth value, 0x10, permits seek head alone.
+pub const NO_SEEKS: u8 = 0x18;
 
 /// How the cache serves a chain (bits 3 to 5 of the second byte of define extent).
 #[derive(Clone, Copy, Debug, PartialEq, Eq)]
@@ -132,9 +156,39 @@ pub fn accepts(operation: Operation, command: Command) -> bool
     }
 }
 
-/// Whether a file mask lets a multitrack command outside a domain go to the next track.
+/// Whether a mask permits a write. Every command that is no write is permitted.
+pub fn permits_write(mask: u8, command: Command) -> bool
+    ensures { result ≡ permits_write mask command }
+{
+    let control = mask & WRITE_CONTROL;
+    match command {
+        Command::WriteData | Command::UpdateData | Command::WriteKeyData | Command::UpdateKeyData =>
+            control != NO_WRITES,
+        Command::WriteCountKeyData | Command::WriteNextTrack => {
+            control == NO_ZERO_WRITES || control == ALL_WRITES
+        }
+        Command::WriteZero => control == ALL_WRITES,
+        _ => true,
+    }
+}
+
+/// Whether a mask permits a seek or a recalibrate. Every other command is permitted. Own in what
+/// each value of the seek control permits.
+pub fn permits_seek(mask: u8, command: Command) -> bool
+    ensures { result ≡ permits_seek mask command }
+{
+    let control = mask & SEEK_CONTROL;
+    match command {
+        Command::Seek | Command::Recalibrate => control == ALL_SEEKS,
+        Command::SeekCylinder => control == ALL_SEEKS || control == SEEK_CYLINDER,
+        Command::SeekHead => control != NO_SEEKS,
+        _ => true,
+    }
+}
+
+/// Whether a mask lets a multitrack command go on to the next track, outside a domain. Own.
 pub fn permits_move(mask: u8) -> bool
     ensures { result ≡ permits_move mask }
 {
-    mask & 0x18 != 0x18
+    mask & SEEK_CONTROL != NO_SEEKS
 }

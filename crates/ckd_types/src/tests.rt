@@ -47,3 +47,43 @@ fn copies_are_equal(rt: HostRuntime) -> Result<(), Fail> {
     assert_eq!(rt; end.sent.as_slice(), [7].as_slice());
     Ok(())
 }
+
+#[test]
+fn writes_that_masks_permit(rt: HostRuntime) -> Result<(), Fail> {
+    let rows = [
+        (0x00, [true, true, true, true, true, true, false, true]),
+        (
+            0x40,
+            [false, false, false, false, false, false, false, true],
+        ),
+        (0x80, [true, true, true, true, false, false, false, true]),
+        (0xff, [true, true, true, true, true, true, true, true]),
+    ];
+    let codes = [0x05, 0x85, 0x0d, 0x8d, 0x1d, 0x9d, 0x15, 0x06];
+    for (mask, wanted) in rows {
+        for (code, want) in codes.into_iter().zip(wanted) {
+            let command = command_of(code).ok_or("code")?;
+            assert_eq!(rt; permits_write(mask, command), want);
+        }
+    }
+    Ok(())
+}
+
+#[test]
+fn seeks_that_masks_permit(rt: HostRuntime) -> Result<(), Fail> {
+    let rows = [
+        (0x00, [true, true, true, true, true]),
+        (0x08, [false, false, true, true, true]),
+        (0x10, [false, false, false, true, true]),
+        (0xff, [false, false, false, false, true]),
+    ];
+    let codes = [0x07, 0x13, 0x0b, 0x1b, 0x06];
+    for (mask, wanted) in rows {
+        for (code, want) in codes.into_iter().zip(wanted) {
+            let command = command_of(code).ok_or("code")?;
+            assert_eq!(rt; permits_seek(mask, command), want);
+        }
+        assert_eq!(rt; permits_move(mask), mask != 0xff);
+    }
+    Ok(())
+}

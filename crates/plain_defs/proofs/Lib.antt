@@ -2,3 +2,4 @@ pub mod Lists
 pub mod FollowLemmas
 pub mod EmptyLemmas
 pub mod PartLemmas
+mod Rows

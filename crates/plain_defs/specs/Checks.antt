@@ -11,6 +11,7 @@ use Rattle.ckd_types.specs.declared.command.Group.{Group}
 use Rattle.ckd_types.specs.declared.command.Group.TheVariants as groups
 use Rattle.ckd_types.specs.Commands.{required_count, group_of}
 use Rattle.ckd_types.specs.Domains.{accepts}
+use Rattle.ckd_types.specs.Mask.{permits_write, permits_seek}
 use Rattle.ckd_types.specs.Parameters.{given, extent_of, domain_of}
 use Rattle.ckd_types.specs.Sense.{reject_sense, file_protected_sense}
 use Rattle.plain_defs.specs.declared.stance.After.{After}
@@ -103,12 +104,14 @@ is_within None t = true
 is_within (Some e) None = true
 is_within (Some e) (Some t) = is_between e t
 
--- the first check that fails, as the sense that it gives: code, sequence, count, parameters, extent
+-- the first check that fails, as the sense that it gives: code, sequence, count, parameters, mask and extent
 abbrev pub first_check : ℕ → Stance → Ccw → Option Command → Option Sense
 first_check cylinders s c None = Some (reject_sense 1)
 first_check cylinders s c (Some command) =
     if not (is_in_sequence s s.domain command) then Some (reject_sense 2)
     else if nat_lt c.count (required_count command) then Some (reject_sense 3)
     else if not (has_parameters cylinders c command) then Some (reject_sense 4)
+    else if not (permits_write s.mask command) then Some (reject_sense 2)
+    else if not (permits_seek s.mask command) then Some file_protected_sense
     else if not (is_within s.extent (first_track cylinders s c command)) then Some file_protected_sense
     else None

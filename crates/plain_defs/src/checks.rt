@@ -6,7 +6,8 @@ use crate::params::{domain_of, extent_of, given};
 use crate::sense::{file_protected, reject};
 use crate::{After, Stance};
 use ckd_types::{
-    Ccw, Command, Domain, Extent, Group, Sense, TrackNo, accepts, group_of, required_count,
+    Ccw, Command, Domain, Extent, Group, Sense, TrackNo, accepts, group_of, permits_seek,
+    permits_write, required_count,
 };
 
 /// Outside a domain: what needs an earlier command, or that there was none. Own.
@@ -108,6 +109,12 @@ pub fn first_check(
     }
     if !has_parameters(cylinders, c, command) {
         return Some(reject(4));
+    }
+    if !permits_write(stance.mask, command) {
+        return Some(reject(2));
+    }
+    if !permits_seek(stance.mask, command) {
+        return Some(file_protected());
     }
     if !is_within(stance.extent, first_track(cylinders, stance, c, command)) {
         return Some(file_protected());
