@@ -3,3 +3,4 @@ pub mod FollowLemmas
 pub mod EmptyLemmas
 pub mod PartLemmas
 mod Rows
+pub mod Laws

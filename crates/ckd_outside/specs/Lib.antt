@@ -1,0 +1,4 @@
+pub mod Causes
+pub mod Texts
+pub mod Memory
+pub mod Pieces
