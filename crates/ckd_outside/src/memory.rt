@@ -1,4 +1,4 @@
-ghost use Rattle.std.specs.Prelude.{◌≡◌, ◌≤◌, ◌<◌, ◌+◌, ◌-◌, ◌↔◌, ◌⊎◌, [], Some, IfOk, IsErr, IsTrue, length, min};
+ghost use Rattle.std.specs.Prelude.{◌≡◌, ◌≤◌, ◌<◌, ◌+◌, ◌-◌, ◌↔◌, ◌⊎◌, [], Some, IfOk, IsErr, IsTrue, OnOk, length, min};
 ghost use Rattle.std.specs.Io.{ReadsAtMost, WritesAtMost};
 ghost use Rattle.std.specs.Io.KnownBytes.{ReadConsumes, WriteAppends};
 ghost use Rattle.ckd_outside.specs.Causes.{HasCause, Spends};
@@ -84,6 +84,7 @@ impl Source for MemSource {
         ensures fails { IsErr result ↔ IsTrue (is_next self.old.reads self.old.fail_reads) }
         ensures size { IfOk result (λ n. n ≡ min (min self.old.piece (length self.old.left)) (length into.old)) }
         ensures count { self.new.reads ≡ one_more self.old.reads }
+        ensures calm { OnOk result (self.new.faults ≡ self.old.faults) }
         ensures list { self.new.fail_reads ≡ self.old.fail_reads }
         ensures same { self.new.piece ≡ self.old.piece }
     {
@@ -165,6 +166,7 @@ impl Sink for MemSink {
         ensures size { IfOk result (λ n. n ≡ min (min self.old.piece (length piece.now)) self.old.room) }
         ensures room { IfOk result (λ n. self.new.room + n ≡ self.old.room) }
         ensures count { self.new.writes ≡ one_more self.old.writes }
+        ensures calm { OnOk result (self.new.faults ≡ self.old.faults) }
         ensures list { self.new.fail_writes ≡ self.old.fail_writes }
         ensures same { self.new.piece ≡ self.old.piece }
     {

@@ -1,0 +1,44 @@
+-- The parameter bytes of an extent and of a domain.
+use Rattle.std.specs.Prelude.{ℕ, ◌+◌, ◌*◌, Bool, List, [], ◌∷◌, ◌++◌, if◌then◌else◌}
+use Rattle.ckd_types.specs.declared.parameters.Mode.{Mode}
+use Rattle.ckd_types.specs.declared.parameters.Mode.TheVariants.{Normal, Bypass, InhibitLoad, Sequential}
+use Rattle.ckd_types.specs.declared.parameters.Extent.{Extent}
+use Rattle.ckd_types.specs.declared.parameters.Orientation.{Orientation}
+use Rattle.ckd_types.specs.declared.parameters.Orientation.TheVariants.{Count, Home, Body, Index}
+use Rattle.ckd_types.specs.declared.parameters.Operation.{Operation}
+use Rattle.ckd_types.specs.declared.parameters.Domain.{Domain}
+use Rattle.ckd_types.specs.Geometry.{cchh_of}
+use Rattle.ckd_types.specs.Track.{cchh_bytes}
+use Rattle.ckd_types.specs.Parameters.{operation_code}
+
+abbrev pub mode_code : Mode → ℕ
+mode_code Normal = 0
+mode_code Bypass = 1
+mode_code InhibitLoad = 2
+mode_code Sequential = 3
+
+-- bits 0 and 1 are set, bits 3 to 5 are the mode, and bit 7 inhibits fast writes
+abbrev pub attributes : Mode → Bool → ℕ
+attributes mode inhibit = 0xc0 + mode_code mode * 4 + (if inhibit then 1 else 0)
+
+-- no block size and no cache fast write id
+abbrev pub extent_bytes : Extent → List ℕ
+extent_bytes e =
+    (e.mask ∷ attributes e.mode e.inhibit_fast ∷ 0 ∷ 0 ∷ 0 ∷ 0 ∷ 0 ∷ 0 ∷ [])
+    ++ cchh_bytes (cchh_of e.first) ++ cchh_bytes (cchh_of e.last)
+
+abbrev pub orientation_code : Orientation → ℕ
+orientation_code Count = 0
+orientation_code Home = 1
+orientation_code Body = 2
+orientation_code Index = 3
+
+-- bits 0 and 1 are the orientation, the low six bits the operation
+abbrev pub actions : Orientation → Operation → ℕ
+actions orientation operation = orientation_code orientation * 64 + operation_code operation
+
+-- no sector and no transfer length factor
+abbrev pub domain_bytes : Domain → List ℕ
+domain_bytes d =
+    (actions d.orientation d.operation ∷ 0 ∷ 0 ∷ d.count ∷ [])
+    ++ cchh_bytes (cchh_of d.seek) ++ cchh_bytes d.search.cchh ++ (d.search.r ∷ 0 ∷ 0 ∷ 0 ∷ [])

@@ -1,0 +1,11 @@
+//! The parameter bytes of define extent and locate record: reading them, and writing them.
+#![tactic(auto)]
+
+mod bits;
+mod decode;
+mod encode;
+#[cfg(test)]
+mod tests;
+
+pub use decode::{decode_domain, decode_extent, is_mask};
+pub use encode::{encode_domain, encode_extent};

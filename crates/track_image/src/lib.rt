@@ -1,0 +1,19 @@
+//! Tracks of count-key-data volumes in memory, and their bytes.
+#![tactic(auto)]
+
+mod costs;
+mod count;
+mod fault;
+mod image;
+mod laws;
+mod reading;
+mod view;
+mod writing;
+
+pub use fault::{AddFault, BytesFault};
+pub use image::TrackImage;
+pub use laws::{no_prefix, reads_back};
+pub use view::RecordRef;
+
+#[cfg(test)]
+mod tests;
