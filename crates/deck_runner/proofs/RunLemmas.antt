@@ -37,7 +37,7 @@ program_is_built d =
     let read = read_ccw d.multitrack d.count in
     let locate = locate_ccw d.track d.number in
     All-cons IsBuilt extent_ccw (locate ∷ read ∷ []) built_extent
-      (All-cons IsBuilt locate (read ∷ []) (built_locate d.track d.number) (All-cons IsBuilt read [] (built_read d.multitrack d.count) (All-nil IsBuilt)))
+    (All-cons IsBuilt locate (read ∷ []) (built_locate d.track d.number) (All-cons IsBuilt read [] (built_read d.multitrack d.count) (All-nil IsBuilt)))
 
 steps_lines : (done ends : List CommandEnd) → flat_map (λ (h : Happened). event_lines h.event) (steps_from done ends) ≡ flat_map end_lines ends
 steps_lines done [] = refl
@@ -50,9 +50,9 @@ start_lines false = refl
 pub report_is : (d : Deck) → report_text (run_of d) ≡ (if d.started then start_line 1 else []) ++ flat_map end_lines (ends_of d) ++ finish_line
 report_is d =
     ap (λ (l : List ℕ). l ++ finish_line)
-      (flat_map-append (λ (h : Happened). event_lines h.event) (start_of d.started) (steps_from [] (ends_of d))
-      ∙ ap (λ (l : List ℕ). l ++ flat_map (λ (h : Happened). event_lines h.event) (steps_from [] (ends_of d))) (start_lines d.started)
-      ∙ ap (λ (l : List ℕ). (if d.started then start_line 1 else []) ++ l) (steps_lines [] (ends_of d)))
+    (flat_map-append (λ (h : Happened). event_lines h.event) (start_of d.started) (steps_from [] (ends_of d))
+    ∙ ap (λ (l : List ℕ). l ++ flat_map (λ (h : Happened). event_lines h.event) (steps_from [] (ends_of d))) (start_lines d.started)
+    ∙ ap (λ (l : List ℕ). (if d.started then start_line 1 else []) ++ l) (steps_lines [] (ends_of d)))
 
 pub ends_ran : (d : Deck) → d.ran ≡ true → (whole_run empty_device 1 (program_of d)).ends ≡ ends_of d
 ends_ran d is = ap (λ (ran : Bool). if ran then (whole_run empty_device 1 (program_of d)).ends else []) (sym is)

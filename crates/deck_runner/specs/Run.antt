@@ -21,8 +21,8 @@ abbrev pub plans_of : Deck → Plans
 plans_of d = (program_of d ∷ []) ∷ [] ∷ [] ∷ [] ∷ []
 
 pub data Event : Type 0 where
-  Started : ℕ → Event          -- path 1 started its program with this ordinal
-  Ended : CommandEnd → Event   -- a command of it ended
+  Started : ℕ → Event  -- path 1 started its program with this ordinal
+  Ended : CommandEnd → Event  -- a command of it ended
 
 -- what happened to the device, and the ends so far of the program that runs, where one does
 pub record Kept : Type 0 where

@@ -87,11 +87,7 @@ fn write_over<K: Sink>(sink: &mut K, buffer: &mut LineBuffer, over: bool) -> Res
     write_pieces(sink, buffer, &[Piece::Text(b"OVER 1 0 1 FULL\n")])
 }
 
-fn write_end<K: Sink>(
-    sink: &mut K,
-    buffer: &mut LineBuffer,
-    end: &CommandEnd,
-) -> Result<(), Failed>
+fn write_end<K: Sink>(sink: &mut K, buffer: &mut LineBuffer, end: &CommandEnd) -> Result<(), Failed>
     ensures bytes { Puts (K.held sink.old) buffer.old (K.held sink.new) buffer.new result (end_lines end.now) }
     ensures cause { HasCause (K.faults sink.old) (K.faults sink.new) result }
 {
@@ -116,11 +112,7 @@ fn write_ends<K: Sink>(
 }
 
 #[tactic(auto, unfolding(crate::specs::Report::start_line))]
-fn write_start<K: Sink>(
-    sink: &mut K,
-    buffer: &mut LineBuffer,
-    ordinal: u16,
-) -> Result<(), Failed>
+fn write_start<K: Sink>(sink: &mut K, buffer: &mut LineBuffer, ordinal: u16) -> Result<(), Failed>
     ensures bytes { Puts (K.held sink.old) buffer.old (K.held sink.new) buffer.new result (start_line ordinal) }
     ensures cause { HasCause (K.faults sink.old) (K.faults sink.new) result }
 {
@@ -156,11 +148,7 @@ fn write_finish<K: Sink>(sink: &mut K, buffer: &mut LineBuffer) -> Result<(), Fa
 }
 
 /// Writes the report of a run: whether the program was started, and the ends of its commands.
-pub fn write_report<K: Sink>(
-    sink: &mut K,
-    started: bool,
-    ends: &[CommandEnd],
-) -> Result<(), Failed>
+pub fn write_report<K: Sink>(sink: &mut K, started: bool, ends: &[CommandEnd]) -> Result<(), Failed>
     ensures bytes { Writes (K.held sink.old) (K.held sink.new) result ((if started then start_line 1 else []) ++ flat_map end_lines ends.now ++ finish_line) }
     ensures cause { HasCause (K.faults sink.old) (K.faults sink.new) result }
 {

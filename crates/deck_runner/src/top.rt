@@ -11,7 +11,9 @@ ghost use Rattle.deck_runner.specs.Report.{report_text};
 ghost use Rattle.deck_runner.specs.Answers.{is_run, usage_text, why_text, refused_text, limit_text, TellsText, Tells};
 
 use crate::report::write_report;
-use ckd_outside::{Failed, LineBuffer, Piece, ReadError, Sink, Source, flush, read_up_to, write_pieces};
+use ckd_outside::{
+    Failed, LineBuffer, Piece, ReadError, Sink, Source, flush, read_up_to, write_pieces,
+};
 use ckd_types::{CommandEnd, EndList, Geometry, NoMemory, PathNo};
 use deck_text::{Deck, DeckFault, DeckWhy, Which, program_of, read_deck};
 use plain_defs::PlainDevice;
@@ -57,9 +59,7 @@ fn write_usage<K: Sink>(sink: &mut K) -> Result<(), Failed>
     ensures bytes { Writes (K.held sink.old) (K.held sink.new) result usage_text }
     ensures cause { HasCause (K.faults sink.old) (K.faults sink.new) result }
 {
-    let pieces = [Piece::Text(
-        b"usage: run, check, paths, generate SEED COUNT\n",
-    )];
+    let pieces = [Piece::Text(b"usage: run, check, paths, generate SEED COUNT\n")];
     write_line(sink, &pieces)
 }
 

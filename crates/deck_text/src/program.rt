@@ -21,9 +21,7 @@ fn extent_ccw(alloc: Global) -> Result<Ccw, NoMemory>
 fn locate_ccw(alloc: Global, track: u8, number: u8) -> Result<Ccw, NoMemory>
     ensures { IfOk result (λ c. c ≡ locate_ccw track number) }
 {
-    let given = [
-        6, 0, 0, 1, 0, 0, 0, track, 0, 0, 0, track, number, 0, 0, 0,
-    ];
+    let given = [6, 0, 0, 1, 0, 0, 0, track, 0, 0, 0, track, number, 0, 0, 0];
     Ok(Ccw {
         command: 0x47,
         flags: Ccw::CHAIN,

@@ -6,7 +6,7 @@ use Rattle.deck_runner.proofs.report.write_ends.Goals as goal
 pub returns-in_err-write_end-clause-bytes : goal.returns-in_err-write_end-clause-bytes
 returns-in_err-write_end-clause-bytes g c =
     puts_stopped _ _ _ _ _ _ _ c.from_residual.ensures.1
-      (put_stopped _ _ _ _ _ _ _ _ _ _ c.loop-end.invariant.0 (flat_step end_lines c.args.ends.now c.loop-end.end-index c.end-item.result c.loop-end-test.true c.end-item.is) c.in_err-write_end.ensures.bytes)
+    (put_stopped _ _ _ _ _ _ _ _ _ _ c.loop-end.invariant.0 (flat_step end_lines c.args.ends.now c.loop-end.end-index c.end-item.result c.loop-end-test.true c.end-item.is) c.in_err-write_end.ensures.bytes)
 
 pub loop-end-preserved : goal.loop-end-preserved
 loop-end-preserved g c = (

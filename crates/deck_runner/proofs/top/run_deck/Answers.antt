@@ -16,8 +16,8 @@ pub returns : goal.returns
 returns c =
     let path : c.unwrap.result ≡ 1 = rw c.unwrap.ensures at c.new-2.ensures.value in
     let ends =
-        ap (λ (x : PlainState). (whole_run x c.unwrap.result c.deref.result.now).ends) c.in_ok-device.ensures
-        ∙ ap (λ (p : ℕ). (whole_run empty_device p c.deref.result.now).ends) path
-        ∙ ap (λ (ccws : List Ccw). (whole_run empty_device 1 ccws).ends) (c.deref.ensures.value ∙ c.in_ok-ccws.ensures)
-        ∙ ends_ran c.args.deck.now c.if-not-deck.false
+    ap (λ (x : PlainState). (whole_run x c.unwrap.result c.deref.result.now).ends) c.in_ok-device.ensures
+    ∙ ap (λ (p : ℕ). (whole_run empty_device p c.deref.result.now).ends) path
+    ∙ ap (λ (ccws : List Ccw). (whole_run empty_device 1 ccws).ends) (c.deref.ensures.value ∙ c.in_ok-ccws.ensures)
+    ∙ ends_ran c.args.deck.now c.if-not-deck.false
     in subst (λ (l : List CommandEnd). IfOk c.run.result (λ ends'. ends'.items ≡ l)) ends c.run.ensures.ends

@@ -10,5 +10,5 @@ use Rattle.deck_runner.proofs.top.write_run.Goals as goal
 pub returns-clause-bytes : goal.returns-clause-bytes
 returns-clause-bytes g c =
     subst (λ (text : List ℕ). Writes (g.K.Sink.held c.args.sink.now) (g.K.Sink.held c.write_report.new.sink) c.write_report.result text)
-      (ap (λ (ends : List CommandEnd). (if c.args.deck.now.started then start_line 1 else []) ++ flat_map end_lines ends ++ finish_line) c.requires ∙ sym (report_is c.args.deck.now))
-      c.write_report.ensures.bytes
+    (ap (λ (ends : List CommandEnd). (if c.args.deck.now.started then start_line 1 else []) ++ flat_map end_lines ends ++ finish_line) c.requires ∙ sym (report_is c.args.deck.now))
+    c.write_report.ensures.bytes
