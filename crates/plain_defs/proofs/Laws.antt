@@ -45,7 +45,7 @@ module _ (path : ℕ) (ccws : List Ccw) where
   part_closes (suc n) state s (Some i) =
       let e = command_effect state path s (ccw_at ccws i) in (
         λ over.
-          ap (λ (next' : Option ℕ). (part_from n e.state path ccws e.outcome.stance next').ends) (over_stops (is_over (ccw_at ccws i) e.outcome) _ over)
-          ∙ ap (λ (p : Part). p.ends) (none_left e.state path ccws e.outcome.stance n),
+            ap (λ (next' : Option ℕ). (part_from n e.state path ccws e.outcome.stance next').ends) (over_stops (is_over (ccw_at ccws i) e.outcome) _ over)
+            ∙ ap (λ (p : Part). p.ends) (none_left e.state path ccws e.outcome.stance n),
         part_closes n e.state e.outcome.stance (goes_to ccws i e.outcome),
       )

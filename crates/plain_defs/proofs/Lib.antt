@@ -3,4 +3,5 @@ pub mod FollowLemmas
 pub mod EmptyLemmas
 pub mod PartLemmas
 mod Rows
+mod WriteRows
 pub mod Laws

@@ -133,26 +133,25 @@ fn missed(multitrack: bool, stance: &Stance, again: Option<usize>, tracks: usize
     from_index(stance.passes + 1, again)
 }
 
-/// Where a command finds its record: `first` is the candidate from its place, `again` the one from
-/// the index, each a record of this track.
+/// Where a command finds its record on a track of so many records: `first` is the candidate from
+/// its place, `again` the one from the index.
 pub fn find_from(
     multitrack: bool,
     stance: &Stance,
-    records: &Records,
+    records: usize,
     first: Option<usize>,
     again: Option<usize>,
     tracks: usize,
 ) -> Sought
-    requires first { IfSome first (λ i. i < length records.now) }
-    requires again { IfSome again (λ i. i < length records.now) }
+    requires first { IfSome first (λ i. i < records) }
+    requires again { IfSome again (λ i. i < records) }
     requires cylinders { tracks % 15 ≡ 0 }
     requires device { tracks ≤ 960 }
     requires stands { Stands tracks stance.now }
     ensures sought { result ≡ find_from multitrack stance.now first again }
     ensures on_device { IsOnward result (λ t. t < tracks) }
-    ensures there { IsHere result (λ i. i < length records.now) }
+    ensures there { IsHere result (λ i. i < records) }
 {
-    let _ = records.len();
     match first {
         Some(index) => Sought::Here {
             index,

@@ -16,8 +16,8 @@ mod stance;
 mod volume;
 
 pub use device::PlainDevice;
-pub use finding::Sought;
+pub use finding::{Sought, find_from};
 pub use journal::{Entry, How, Item, Journal};
-pub use outcome::{Outcome, Turned};
-pub use stance::{After, Place, Stance};
+pub use outcome::{Outcome, Turned, ended, refused};
+pub use stance::{After, Place, Stance, one_less};
 pub use volume::PlainVolume;
