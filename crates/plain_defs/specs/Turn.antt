@@ -1,5 +1,5 @@
 -- Facts about what a command did on one track.
-use Rattle.std.specs.Prelude.{◌≡◌, ◌<◌, ℕ, List, length, true}
+use Rattle.std.specs.Prelude.{◌≡◌, ◌<◌, ℕ, List, length, true, Ok}
 use Rattle.ckd_types.specs.declared.geometry.Geometry.{Geometry}
 use Rattle.ckd_types.specs.declared.record.Record.{Record}
 use Rattle.ckd_types.specs.declared.record.Edit.{Edit}
@@ -10,7 +10,8 @@ use Rattle.plain_defs.specs.declared.outcome.Turned.{Turned}
 use Rattle.plain_defs.specs.declared.outcome.Turned.TheVariants.{Ended, NextTrack, Write}
 use Rattle.plain_defs.specs.Reads.{record_at}
 use Rattle.plain_defs.specs.Formats.{has_room_behind}
-use Rattle.plain_defs.specs.Room.{GoesOn}
+use Rattle.plain_defs.specs.Finding.{track_after}
+use Rattle.plain_defs.specs.Room.{GoesOn, Stays}
 
 -- it ended, or goes on to a track of the device, and writes nothing
 abbrev pub Looks : ℕ → Stance → Turned → Type 0
@@ -41,8 +42,8 @@ Suits g records (Update index key body) = IsUpdate records index key body
 Suits g records (Format after added) = IsFormat g records after added
 Suits g records (Zero added) = IsZero added
 
--- it ended, goes on to a track of the device, or edits this one
-abbrev pub Turns : ℕ → Geometry → List Record → Stance → Turned → Type 0
-Turns tracks g records s (Ended o) = GoesOn tracks s o.stance
-Turns tracks g records s (NextTrack t) = t < tracks
-Turns tracks g records s (Write e o) = Suits g records e × GoesOn tracks s o.stance
+-- it ended, goes on to the track behind this one, or edits this one
+abbrev pub Turns : Geometry → List Record → Stance → Turned → Type 0
+Turns g records s (Ended o) = Stays s o.stance
+Turns g records s (NextTrack t) = track_after s.extent s.track ≡ Ok t
+Turns g records s (Write e o) = Suits g records e × Stays s o.stance

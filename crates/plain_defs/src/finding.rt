@@ -1,4 +1,4 @@
-ghost use Rattle.std.specs.Prelude.{◌≡◌, ◌<◌, ◌≤◌, ◌+◌, ◌%◌, ◌^◌, IfSome, IfOk, IsSome, IsSomeAnd, length};
+ghost use Rattle.std.specs.Prelude.{◌≡◌, ◌<◌, ◌≤◌, ◌+◌, ◌%◌, ◌^◌, IfSome, IfOk, IsSome, IsSomeAnd, Ok, length};
 ghost use Rattle.plain_defs.specs.Finding.{kept_place, place_on, next_data, if_there, next_track, track_after, find_from, missed, from_index};
 ghost use Rattle.plain_defs.specs.Sought.{IsHere, IsOnward};
 ghost use Rattle.plain_defs.specs.Room.{Stands};
@@ -94,7 +94,8 @@ fn next_track(stance: &Stance, tracks: usize) -> Result<TrackNo, Sense>
     requires cylinders { tracks % 15 ≡ 0 }
     requires device { tracks ≤ 960 }
     requires stands { Stands tracks stance.now }
-    ensures after { result ≡ next_track stance.now }
+    ensures next { result ≡ next_track stance.now }
+    ensures after { IfOk result (λ u. track_after stance.now.extent stance.now.track ≡ Ok u) }
     ensures track { IfOk result (λ u. u < tracks) }
 {
     if stance.domain.is_none() && !permits_move(stance.mask) {
@@ -118,6 +119,7 @@ fn missed(multitrack: bool, stance: &Stance, again: Option<usize>, tracks: usize
     requires device { tracks ≤ 960 }
     requires stands { Stands tracks stance.now }
     ensures sought { result ≡ missed multitrack stance.now again }
+    ensures after { IsOnward result (λ t. track_after stance.now.extent stance.now.track ≡ Ok t) }
     ensures on_device { IsOnward result (λ t. t < tracks) }
     ensures there { IsHere result (λ i. IsSomeAnd again (λ k. i ≡ k)) }
 {
@@ -149,6 +151,7 @@ pub fn find_from(
     requires device { tracks ≤ 960 }
     requires stands { Stands tracks stance.now }
     ensures sought { result ≡ find_from multitrack stance.now first again }
+    ensures after { IsOnward result (λ t. track_after stance.now.extent stance.now.track ≡ Ok t) }
     ensures on_device { IsOnward result (λ t. t < tracks) }
     ensures there { IsHere result (λ i. i < records) }
 {

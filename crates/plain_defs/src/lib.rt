@@ -1,6 +1,7 @@
 //! What a plain, uncached volume does with channel programs, and a slow executor of it.
 #![tactic(auto)]
 
+mod area;
 mod chain;
 mod checks;
 mod control;
@@ -15,6 +16,7 @@ mod sense;
 mod stance;
 mod volume;
 
+pub use area::{count_given, given_at};
 pub use device::PlainDevice;
 pub use finding::{Sought, find_from};
 pub use journal::{Entry, How, Item, Journal};
