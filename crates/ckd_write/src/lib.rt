@@ -8,3 +8,6 @@ mod place;
 mod update;
 
 pub use command::write;
+
+#[cfg(test)]
+mod tests;

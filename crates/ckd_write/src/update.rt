@@ -6,8 +6,8 @@ ghost use Rattle.plain_defs.specs.Sought.{IsHere, IsOnward};
 ghost use Rattle.plain_defs.specs.Turn.{Turns};
 ghost use Rattle.plain_defs.specs.Updates.{after_update, update_ended, update_data, update_key_data, update_record, update_sought, update_on};
 
-use crate::place::{if_there, next_area, place_on};
 use crate::command::TRACKS;
+use crate::place::{if_there, next_area, place_on};
 use ckd_types::{Bytes, Ccw, Edit, NoMemory, UnitStatus};
 use plain_defs::{
     After, Outcome, Place, Sought, Stance, Turned, ended, find_from, given_at, one_less, refused,
