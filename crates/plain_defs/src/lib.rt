@@ -8,13 +8,16 @@ mod control;
 mod device;
 mod effect;
 mod finding;
+mod formats;
 mod journal;
 mod outcome;
 mod params;
 mod reads;
 mod sense;
 mod stance;
+mod updates;
 mod volume;
+mod writes;
 
 pub use area::{count_given, given_at};
 pub use device::PlainDevice;

@@ -21,7 +21,7 @@ fn found_after(after: After) -> After
     }
 }
 
-fn status_of(body: &[u8]) -> UnitStatus
+pub fn status_of(body: &[u8]) -> UnitStatus
     ensures { result ≡ status_of body.now }
 {
     if body.is_empty() {
