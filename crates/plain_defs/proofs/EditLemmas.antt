@@ -1,6 +1,6 @@
 -- A track that fits still fits with an edit that suits it.
-use Rattle.std.proofs.Common.{◌≡◌, ◌≤◌, ◌<◌, ◌+◌, ℕ, zero, suc, List, [], ◌∷◌, ◌++◌, length, take, drop, get_or, set, map, sum_by, length-set, leb-true, refl, arith, sym, ap, subst, ◌∙◌}
-use Rattle.std.specs.Prelude.{All, slice_set}
+use Rattle.std.proofs.Common.{◌≡◌, ◌<◌, ◌+◌, ℕ, zero, suc, List, [], ◌∷◌, ◌++◌, length, take, get_or, map, length-set, leb-true, refl, arith, sym, ap, subst, ◌∙◌}
+use Rattle.std.specs.Prelude.{slice_set}
 use Rattle.std.proofs.lemmas.List.Elements.{All-set, All-take, All-append, All-cons, All-nil}
 use Rattle.std.proofs.lemmas.List.Sums.{sum_by-set, sum_by_push}
 use Rattle.ckd_types.specs.declared.geometry.Geometry.{Geometry}
@@ -8,8 +8,8 @@ use Rattle.ckd_types.specs.declared.record.Edit.{Edit}
 use Rattle.ckd_types.specs.declared.record.Edit.TheVariants.{Update, Format, Zero}
 use Rattle.ckd_types.specs.declared.record.Record.{Record}
 use Rattle.ckd_types.specs.declared.record.Track.{Track}
-use Rattle.ckd_types.specs.Edit.{edited, apply_edit, IsWithin}
-use Rattle.ckd_types.specs.Geometry.{cost, capacity}
+use Rattle.ckd_types.specs.Edit.{apply_edit, IsWithin}
+use Rattle.ckd_types.specs.Geometry.{cost}
 use Rattle.ckd_types.specs.Track.{IsRecord, HasZero, Fits, cost_of, empty_zero, empty_track}
 use Rattle.ckd_types.specs.Volume.{track_in, empty_volume}
 use Rattle.plain_defs.specs.Reads.{record_at}

@@ -1,6 +1,5 @@
 pub mod Lists
 pub mod FollowLemmas
-pub mod EmptyLemmas
 pub mod EditLemmas
 pub mod NextTrack
 pub mod PartLemmas

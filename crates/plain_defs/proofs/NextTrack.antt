@@ -1,7 +1,6 @@
 -- The track behind one of the device is one of the device.
-use Rattle.std.proofs.Common.{◌≡◌, ◌≢◌, ◌<◌, ◌≤◌, ◌+◌, ◌%◌, ℕ, Bool, true, false, Option, Some, None, Ok, Err, Result, cond, refl, arith}
+use Rattle.std.proofs.Common.{◌≡◌, ◌<◌, ◌≤◌, ◌+◌, ◌%◌, ℕ, Bool, true, false, Option, Some, None, Ok, Err, cond, refl, arith}
 use Rattle.std.specs.Prelude.{IfSome, nat_eq, nat_le}
-use Rattle.std.proofs.lemmas.Grind.{common_steps}
 use Rattle.std.proofs.lemmas.Bool.Decides.{nat_tests}
 use Rattle.ckd_types.specs.declared.parameters.Extent.{Extent}
 use Rattle.ckd_types.specs.declared.sense.Sense.{Sense}

@@ -1,5 +1,5 @@
 -- Writes of one track.
-use Rattle.std.specs.Prelude.{true, false, is_some, Option, None, Some}
+use Rattle.std.specs.Prelude.{true, false, is_some, Option, Some}
 use Rattle.ckd_types.specs.declared.channel.Ccw.{Ccw}
 use Rattle.ckd_types.specs.declared.command.Command.{Command}
 use Rattle.ckd_types.specs.declared.command.Command.TheVariants.{WriteData, UpdateData, WriteKeyData, UpdateKeyData, WriteCountKeyData, WriteNextTrack, WriteZero}

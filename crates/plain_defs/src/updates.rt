@@ -156,5 +156,7 @@ pub fn update_on(
     let first = if_there(records, next_area(with_key, place));
     let again = if_there(records, 1);
     let sought = find_from(multitrack, stance, count, first, again, TRACKS);
-    update_sought(alloc, geometry, records, with_key, multitrack, stance, ccw, sought)
+    update_sought(
+        alloc, geometry, records, with_key, multitrack, stance, ccw, sought,
+    )
 }

@@ -30,9 +30,13 @@ pub fn write_on(
 {
     let in_domain = stance.domain.is_some();
     match command_of(ccw.command) {
-        Some(Command::WriteData) => update_on(alloc, geometry, track, false, in_domain, stance, ccw),
+        Some(Command::WriteData) => update_on(
+            alloc, geometry, track, false, in_domain, stance, ccw,
+        ),
         Some(Command::UpdateData) => update_on(alloc, geometry, track, false, true, stance, ccw),
-        Some(Command::WriteKeyData) => update_on(alloc, geometry, track, true, in_domain, stance, ccw),
+        Some(Command::WriteKeyData) => update_on(
+            alloc, geometry, track, true, in_domain, stance, ccw,
+        ),
         Some(Command::UpdateKeyData) => update_on(alloc, geometry, track, true, true, stance, ccw),
         Some(Command::WriteCountKeyData) => format_on(alloc, geometry, track, stance, ccw),
         Some(Command::WriteNextTrack) => {
