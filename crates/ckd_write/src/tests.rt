@@ -137,7 +137,7 @@ fn outcome(turned: &Turned) -> Option<&Outcome> {
 }
 
 /// Status, residual, whether incorrect length is noted, and the second sense byte.
-fn end(turned: &Turned) -> (u8, u16, bool, u8) {
+fn end(turned: &Turned) -> End {
     match outcome(turned) {
         Some(o) => (
             o.status.0,
@@ -158,12 +158,30 @@ fn behind(turned: &Turned) -> Option<(Place, After, u8)> {
     Some((o.stance.place, o.stance.after, o.stance.left))
 }
 
+type End = (u8, u16, bool, u8);
+
+/// Whether a write ends like this, and makes this edit.
+fn gives(
+    alloc: Global,
+    image: &TrackImage,
+    here: &Stance,
+    ccw: &Ccw,
+    want: End,
+    made: Made<'_>,
+) -> Result<bool, NoMemory>
+    requires room { HasRoom here.now }
+    requires stands { Stands 960 here.now }
+{
+    let turned = write(alloc, image, here, ccw)?;
+    Ok(end(&turned) == want && is_made(&turned, made))
+}
+
 #[test]
 fn updates_of_the_data(rt: HostRuntime) -> Result<(), Fail> {
     let alloc = rt.alloc();
     let image = image(alloc)?;
     let zeros = [0; 8];
-    let rows: [(Place, u8, u16, &[u8], (u8, u16, bool, u8), Made<'_>); 14] = [
+    let rows: [(Place, u8, u16, &[u8], End, Made<'_>); 14] = [
         (
             Place::Count(1),
             0,
@@ -279,14 +297,8 @@ fn updates_of_the_data(rt: HostRuntime) -> Result<(), Fail> {
     ];
     for (place, flags, count, given, want, made) in rows {
         let here = stance(place, false, Some(Operation::WriteData));
-        let turned = write(
-            alloc,
-            &image,
-            &here,
-            &word(alloc, 0x85, flags, count, given)?,
-        )?;
-        assert_eq!(rt; end(&turned), want);
-        assert!(rt; is_made(&turned, made));
+        let ccw = word(alloc, 0x85, flags, count, given)?;
+        assert!(rt; gives(alloc, &image, &here, &ccw, want, made)?);
     }
     Ok(())
 }
@@ -295,7 +307,7 @@ fn updates_of_the_data(rt: HostRuntime) -> Result<(), Fail> {
 fn updates_of_key_and_data(rt: HostRuntime) -> Result<(), Fail> {
     let alloc = rt.alloc();
     let image = image(alloc)?;
-    let rows: [(Place, u16, &[u8], (u8, u16, bool, u8), Made<'_>); 5] = [
+    let rows: [(Place, u16, &[u8], End, Made<'_>); 5] = [
         (
             Place::Count(2),
             5,
@@ -328,9 +340,8 @@ fn updates_of_key_and_data(rt: HostRuntime) -> Result<(), Fail> {
     ];
     for (place, count, given, want, made) in rows {
         let here = stance(place, false, Some(Operation::WriteData));
-        let turned = write(alloc, &image, &here, &word(alloc, 0x8d, 0, count, given)?)?;
-        assert_eq!(rt; end(&turned), want);
-        assert!(rt; is_made(&turned, made));
+        let ccw = word(alloc, 0x8d, 0, count, given)?;
+        assert!(rt; gives(alloc, &image, &here, &ccw, want, made)?);
     }
     Ok(())
 }
@@ -341,7 +352,7 @@ fn formats_at_each_place(rt: HostRuntime) -> Result<(), Fail> {
     let image = image(alloc)?;
     let given = [0, 1, 0, 2, 9, 1, 0, 2, 5, 6, 7];
     let end_of_file = [0, 1, 0, 2, 9, 0, 0, 0];
-    let rows: [(u8, Place, u16, &[u8], (u8, u16, bool, u8), Made<'_>); 12] = [
+    let rows: [(u8, Place, u16, &[u8], End, Made<'_>); 12] = [
         (
             0x1d,
             Place::Index,
@@ -441,9 +452,8 @@ fn formats_at_each_place(rt: HostRuntime) -> Result<(), Fail> {
     ];
     for (code, place, count, given, want, made) in rows {
         let here = stance(place, false, Some(Operation::Format));
-        let turned = write(alloc, &image, &here, &word(alloc, code, 0, count, given)?)?;
-        assert_eq!(rt; end(&turned), want);
-        assert!(rt; is_made(&turned, made));
+        let ccw = word(alloc, code, 0, count, given)?;
+        assert!(rt; gives(alloc, &image, &here, &ccw, want, made)?);
     }
     Ok(())
 }
