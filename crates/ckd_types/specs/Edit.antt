@@ -1,5 +1,5 @@
 -- What a write does to the records of a track.
-use Rattle.std.specs.Prelude.{◌+◌, List, [], ◌∷◌, ◌++◌, take, slice_index_or, slice_set}
+use Rattle.std.specs.Prelude.{ℕ, ◌+◌, ◌<◌, List, [], ◌∷◌, ◌++◌, take, slice_index_or, slice_set}
 use Rattle.ckd_types.specs.declared.record.Record.{Record}
 use Rattle.ckd_types.specs.declared.record.Track.{Track}
 use Rattle.ckd_types.specs.declared.record.Edit.{Edit}
@@ -14,3 +14,9 @@ edited (Zero added) records = added ∷ []
 
 abbrev pub apply_edit : Edit → Track → Track
 apply_edit e t = record t { records = edited e t.records }
+
+-- the edit is of a track with this many records
+abbrev pub IsWithin : Edit → ℕ → Type 0
+IsWithin (Update index key body) n = index < n
+IsWithin (Format after added) n = after < n
+IsWithin (Zero added) n = 0 < n

@@ -1,4 +1,5 @@
-ghost use Rattle.std.specs.Prelude.{◌≡◌, ◌<◌, ◌+◌, ◌^◌, IfOk, IfSome, length, slice_index_or};
+ghost use Rattle.std.specs.Prelude.{◌≡◌, ◌<◌, ◌+◌, ◌++◌, ◌∷◌, ◌^◌, [], IfOk, OnOk, OnErr, IfSome, length, take, slice_index_or};
+ghost use Rattle.ckd_types.specs.Edit.{edited, IsWithin};
 ghost use Rattle.ckd_types.specs.Track.{empty_track, find_id};
 
 use crate::{Bytes, Cchh, NoMemory, TrackNo, cchh_of};
@@ -67,6 +68,21 @@ impl Model for Records {
     ghost view = { λ r. r.items.items };
 }
 
+/// Puts a record behind the one at `after`, in place of all that stood there.
+fn put_behind(records: &mut Vec<Record>, after: usize, added: Record) -> Result<(), NoMemory>
+    requires { after < length records.old.items }
+    ensures done { OnOk result (records.new.items ≡ take (after + 1) records.old.items ++ added ∷ []) }
+    ensures same { OnErr result (records.new.items ≡ records.old.items) }
+{
+    if after + 1 < records.len() {
+        records[after + 1] = added;
+        records.truncate(after + 2);
+    } else {
+        records.push(added)?;
+    }
+    Ok(())
+}
+
 impl Records {
     pub fn from_vec(items: Vec<Record>) -> Records
         ensures { result ≡ items.items }
@@ -94,6 +110,38 @@ impl Records {
     {
         self.items.iter().position(|record| record.id == id)
     }
+
+    /// Makes an edit. Takes memory only for a record behind the last one.
+    pub fn edit(&mut self, edit: Edit) -> Result<(), NoMemory>
+        requires within { IsWithin edit (length self.old) }
+        ensures done { OnOk result (self.new ≡ edited edit self.old) }
+        ensures same { OnErr result (self.new ≡ self.old) }
+    {
+        match edit {
+            Edit::Update { index, key, body } => {
+                let changed = &mut self.items[index];
+                changed.key = key;
+                changed.body = body;
+                Ok(())
+            }
+            Edit::Format { after, added } => put_behind(&mut self.items, after, added),
+            Edit::Zero { added } => {
+                self.items[0] = added;
+                self.items.truncate(1);
+                Ok(())
+            }
+        }
+    }
+
+    pub fn copy(&self, alloc: Global) -> Result<Records, NoMemory>
+        ensures { IfOk result (λ made. made ≡ self.now) }
+    {
+        let mut items = Vec::with_capacity(alloc, self.items.len())?;
+        for record in &self.items {
+            items.push(record.copy(alloc)?)?;
+        }
+        Ok(Records { items })
+    }
 }
 
 /// A track as a plain list: where it is, and its records.
@@ -101,6 +149,17 @@ impl Records {
 pub struct Track {
     pub home: Cchh,
     pub records: Records,
+}
+
+impl Track {
+    pub fn copy(&self, alloc: Global) -> Result<Track, NoMemory>
+        ensures { IfOk result (λ made. made ≡ self.now) }
+    {
+        Ok(Track {
+            home: self.home,
+            records: self.records.copy(alloc)?,
+        })
+    }
 }
 
 /// A track that has record 0 alone, with eight zero bytes of data.

@@ -1,6 +1,8 @@
 pub mod Lists
 pub mod FollowLemmas
-pub mod EmptyLemmas
+pub mod EditLemmas
+pub mod NextTrack
 pub mod PartLemmas
 mod Rows
+mod WriteRows
 pub mod Laws

@@ -48,8 +48,8 @@ module _ (start : PlainState) (path : ℕ) (ccws : List Ccw) (state : PlainState
       ∙ ap (λ (n : Option ℕ). (part_from (4096 - s.commands) state path ccws s n).state) (sym none)
       ∙ p.state_is
 
-  module _ (i : ℕ) (c : Ccw) (o : Outcome) (senses : List Sense) (then_next : Option ℕ) (then_ends : List CommandEnd) (next_is : next ≡ Some i) (c_is : c ≡ ccw_at ccws i)
-      (gives : Gives state.volume (volume_effect state.cylinders state.volume s c) o) (goes_on : GoesOn (length state.volume) s o.stance)
+  module _ (i : ℕ) (c : Ccw) (o : Outcome) (volume : List Track) (senses : List Sense) (then_next : Option ℕ) (then_ends : List CommandEnd) (next_is : next ≡ Some i) (c_is : c ≡ ccw_at ccws i)
+      (gives : Gives volume (volume_effect state.geometry state.cylinders state.volume s c) o) (goes_on : GoesOn (length state.volume) s o.stance) (tracks_are : length volume ≡ length state.volume)
       (senses_are : senses ≡ senses_with state.senses path o.sense) (then_is : then_next ≡ goes_to ccws i o) (then_running : IfSome then_next (λ j. IsRunning j o.stance))
       (ends_is : then_ends ≡ ends ++ end_of i c o ∷ []) where
     is_running : IsRunning i s
@@ -61,15 +61,15 @@ module _ (start : PlainState) (path : ℕ) (ccws : List Ccw) (state : PlainState
     outcome_is : (command_effect state path s (ccw_at ccws i)).outcome ≡ o
     outcome_is = ap (λ (d : Ccw). (command_effect state path s d).outcome) (sym c_is) ∙ sym gives.outcome
 
-    state_then : (command_effect state path s (ccw_at ccws i)).state ≡ record state { senses = senses }
+    state_then : (command_effect state path s (ccw_at ccws i)).state ≡ record state { senses = senses; volume = volume }
     state_then =
         ap (λ (d : Ccw). (command_effect state path s d).state) (sym c_is)
-        ∙ ap (λ (v : List Track). with_sense (record state { volume = v }) path (volume_effect state.cylinders state.volume s c).outcome.sense) gives.volume
-        ∙ ap (λ (x : Outcome). with_sense state path x.sense) (sym gives.outcome)
-        ∙ ap (λ (l : List Sense). record state { senses = l }) (sym senses_are)
+        ∙ ap (λ (v : List Track). with_sense (record state { volume = v }) path (volume_effect state.geometry state.cylinders state.volume s c).outcome.sense) gives.volume
+        ∙ ap (λ (x : Outcome). with_sense (record state { volume = volume }) path x.sense) (sym gives.outcome)
+        ∙ ap (λ (l : List Sense). record state { senses = l; volume = volume }) (sym senses_are)
 
     rest : Part
-    rest = part_from (4096 - o.stance.commands) (record state { senses = senses }) path ccws o.stance then_next
+    rest = part_from (4096 - o.stance.commands) (record state { senses = senses; volume = volume }) path ccws o.stance then_next
 
     unrolled : part_from (4096 - s.commands) state path ccws s next ≡ onto (end_of i c o) rest
     unfolding rest
@@ -80,9 +80,9 @@ module _ (start : PlainState) (path : ℕ) (ccws : List Ccw) (state : PlainState
         ∙ ap (λ (x : Outcome). onto (end_of i (ccw_at ccws i) x) (part_from (4096 - o.stance.commands) (command_effect state path s (ccw_at ccws i)).state path ccws x.stance (goes_to ccws i x))) outcome_is
         ∙ ap (λ (d : Ccw). onto (end_of i d o) (part_from (4096 - o.stance.commands) (command_effect state path s (ccw_at ccws i)).state path ccws o.stance (goes_to ccws i o))) (sym c_is)
         ∙ ap (λ (q : PlainState). onto (end_of i c o) (part_from (4096 - o.stance.commands) q path ccws o.stance (goes_to ccws i o))) state_then
-        ∙ ap (λ (n : Option ℕ). onto (end_of i c o) (part_from (4096 - o.stance.commands) (record state { senses = senses }) path ccws o.stance n)) (sym then_is)
+        ∙ ap (λ (n : Option ℕ). onto (end_of i c o) (part_from (4096 - o.stance.commands) (record state { senses = senses; volume = volume }) path ccws o.stance n)) (sym then_is)
 
-    pub part_more : IsPart start path ccws (record state { senses = senses }) o.stance then_next then_ends
+    pub part_more : IsPart start path ccws (record state { senses = senses; volume = volume }) o.stance then_next then_ends
     unfolding rest
     part_more = record {
       ends_are =
@@ -91,6 +91,6 @@ module _ (start : PlainState) (path : ℕ) (ccws : List Ccw) (state : PlainState
           ∙ ap (λ (x : Part). ends ++ x.ends) (sym unrolled)
           ∙ p.ends_are;
       state_is = ap (λ (x : Part). x.state) (sym unrolled) ∙ p.state_is;
-      stands = goes_on.stands;
+      stands = subst (λ (n : ℕ). Stands n o.stance) (sym tracks_are) goes_on.stands;
       running = then_running;
     }

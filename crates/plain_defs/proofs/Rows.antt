@@ -47,3 +47,16 @@ record_one_is_not_found = refl
 ten_bytes_are_too_many : map shown (part_of (empty_state D3390 1) 1 (program 0 0 0x06 10) 3).ends ≡ quiet 0 ∷ quiet 1 ∷ record { index = 2; status = 0x0c; residual = 2; note = IncorrectLength; sent = replicate 8 0 } ∷ []
 unfolding program shown quiet part_from follow command_of is_multitrack
 ten_bytes_are_too_many = refl
+
+-- record 1 of four bytes is formatted, and read from the index on
+format_and_read : List Ccw
+format_and_read =
+    record { command = 0x63; flags = 0x40; count = 16; given = 0xc0 ∷ 0xc0 ∷ 0x10 ∷ 0 ∷ 0 ∷ 0 ∷ 0 ∷ 0 ∷ 0 ∷ 0 ∷ 0 ∷ 0 ∷ 0 ∷ 0 ∷ 0 ∷ 0x0e ∷ [] }
+    ∷ record { command = 0x47; flags = 0x40; count = 16; given = 3 ∷ 0 ∷ 0 ∷ 1 ∷ 0 ∷ 0 ∷ 0 ∷ 2 ∷ 0 ∷ 0 ∷ 0 ∷ 2 ∷ 0 ∷ 0 ∷ 0 ∷ 0 ∷ [] }
+    ∷ record { command = 0x1d; flags = 0x40; count = 12; given = 0 ∷ 0 ∷ 0 ∷ 2 ∷ 1 ∷ 0 ∷ 0 ∷ 4 ∷ 5 ∷ 6 ∷ 7 ∷ [] }
+    ∷ record { command = 0x06; flags = 0; count = 4; given = [] }
+    ∷ []
+
+what_was_formatted_is_read : map shown (part_of (empty_state D3390 1) 1 format_and_read 4).ends ≡ quiet 0 ∷ quiet 1 ∷ quiet 2 ∷ record { index = 3; status = 0x0c; residual = 0; note = Plain; sent = 5 ∷ 6 ∷ 7 ∷ 0 ∷ [] } ∷ []
+unfolding format_and_read shown quiet part_from follow command_of is_multitrack
+what_was_formatted_is_read = refl

@@ -16,6 +16,8 @@ use Rattle.ckd_types.specs.Parameters.{given, extent_of, domain_of}
 use Rattle.ckd_types.specs.Sense.{reject_sense, file_protected_sense}
 use Rattle.plain_defs.specs.declared.stance.After.{After}
 use Rattle.plain_defs.specs.declared.stance.After.TheVariants.{Other, IdEqual, KeyEqual, HomeEqual, Found, Wrote}
+use Rattle.plain_defs.specs.declared.stance.Place.{Place}
+use Rattle.plain_defs.specs.declared.stance.Place.TheVariants.{Index, Home, Count, Key, Body}
 use Rattle.plain_defs.specs.declared.stance.Stance.{Stance}
 
 -- what a write outside a domain needs of the command before it
@@ -69,10 +71,22 @@ may_follow s Release = s.commands == 0
 may_follow s UnconditionalReserve = s.commands == 0
 may_follow s _ = true
 
+abbrev pub is_before_records : Place → Bool
+is_before_records Index = true
+is_before_records Home = true
+is_before_records (Count i) = false
+is_before_records (Key i) = false
+is_before_records (Body i) = false
+
+-- inside a domain record 0 is written before all records, without a search
+abbrev pub may_stand_at : Place → Command → Bool
+may_stand_at place WriteZero = is_before_records place
+may_stand_at place _ = true
+
 -- inside a domain: the commands of its operation
 abbrev pub is_in_sequence : Stance → Option Domain → Command → Bool
 is_in_sequence s None command = may_follow s command
-is_in_sequence s (Some d) command = accepts d.operation command
+is_in_sequence s (Some d) command = accepts d.operation command && may_stand_at s.place command
 
 -- the parameter bytes mean something on a device with this many cylinders
 abbrev pub has_parameters : ℕ → Ccw → Command → Bool

@@ -2,7 +2,8 @@
 use Rattle.std.specs.Prelude.{ℕ, zero, suc, List, [], ◌∷◌, length, slice_set, Option, None, Some, Result, Ok, Err}
 use Rattle.ckd_types.specs.declared.channel.Ccw.{Ccw}
 use Rattle.ckd_types.specs.declared.command.Command.{Command}
-use Rattle.ckd_types.specs.declared.command.Command.TheVariants.{DefineExtent, LocateRecord, ReadData}
+use Rattle.ckd_types.specs.declared.command.Command.TheVariants.{DefineExtent, LocateRecord, ReadData, WriteData, UpdateData, WriteKeyData, UpdateKeyData, WriteCountKeyData, WriteNextTrack, WriteZero}
+use Rattle.ckd_types.specs.declared.geometry.Geometry.{Geometry}
 use Rattle.ckd_types.specs.declared.parameters.Domain.{Domain}
 use Rattle.ckd_types.specs.declared.parameters.ParamFault.{ParamFault}
 use Rattle.ckd_types.specs.declared.record.Edit.{Edit}
@@ -22,7 +23,9 @@ use Rattle.plain_defs.specs.declared.outcome.Turned.TheVariants.{Ended, NextTrac
 use Rattle.plain_defs.specs.Outcome.{refused}
 use Rattle.plain_defs.specs.Checks.{first_check}
 use Rattle.plain_defs.specs.Control.{define_extent, placed, needs_record, locate_on}
+use Rattle.plain_defs.specs.Finding.{track_after}
 use Rattle.plain_defs.specs.Reads.{read_data_on}
+use Rattle.plain_defs.specs.Writes.{write_on}
 use Rattle.plain_defs.specs.PlainState.{PlainState, with_sense}
 
 -- the volume behind a command, how it came out, and the tracks that it looked at, in order
@@ -60,19 +63,34 @@ abbrev pub locate_record : List Track → Stance → Ccw → Result Domain Param
 locate_record v s c (Ok d) = looked_up v s c d (needs_record d.orientation)
 locate_record v s c (Err fault) = untouched v (refused s c (reject_sense 4))
 
+abbrev pub write_data : Geometry → List Track → Stance → Ccw → Traced
+write_data g v s c = follow (length v) v s c (λ t z. write_on g t z c)
+
+-- a format on the next track goes there first, whatever the mask says of moves
+abbrev pub write_next : Geometry → List Track → Stance → Ccw → Result ℕ Sense → Traced
+write_next g v s c (Ok t) = write_data g v (record s { track = t; place = Index }) c
+write_next g v s c (Err sense) = untouched v (refused s c sense)
+
 -- a command that no check refuses. What the others do is not defined yet
-abbrev pub done_by : ℕ → List Track → Stance → Ccw → Option Command → Traced
-done_by cylinders v s c (Some DefineExtent) = untouched v (define_extent s c (extent_of cylinders (given 16 c)))
-done_by cylinders v s c (Some LocateRecord) = locate_record v s c (domain_of cylinders (given 16 c))
-done_by cylinders v s c (Some ReadData) = follow (length v) v s c (λ t z. read_data_on t z c)
-done_by cylinders v s c _ = untouched v (refused s c zero_sense)
+abbrev pub done_by : Geometry → ℕ → List Track → Stance → Ccw → Option Command → Traced
+done_by g cylinders v s c (Some DefineExtent) = untouched v (define_extent s c (extent_of cylinders (given 16 c)))
+done_by g cylinders v s c (Some LocateRecord) = locate_record v s c (domain_of cylinders (given 16 c))
+done_by g cylinders v s c (Some ReadData) = follow (length v) v s c (λ t z. read_data_on t z c)
+done_by g cylinders v s c (Some WriteData) = write_data g v s c
+done_by g cylinders v s c (Some UpdateData) = write_data g v s c
+done_by g cylinders v s c (Some WriteKeyData) = write_data g v s c
+done_by g cylinders v s c (Some UpdateKeyData) = write_data g v s c
+done_by g cylinders v s c (Some WriteCountKeyData) = write_data g v s c
+done_by g cylinders v s c (Some WriteNextTrack) = write_next g v s c (track_after s.extent s.track)
+done_by g cylinders v s c (Some WriteZero) = write_data g v s c
+done_by g cylinders v s c _ = untouched v (refused s c zero_sense)
 
-abbrev pub checked : ℕ → List Track → Stance → Ccw → Option Command → Option Sense → Traced
-checked cylinders v s c command (Some sense) = untouched v (refused s c sense)
-checked cylinders v s c command None = done_by cylinders v s c command
+abbrev pub checked : Geometry → ℕ → List Track → Stance → Ccw → Option Command → Option Sense → Traced
+checked g cylinders v s c command (Some sense) = untouched v (refused s c sense)
+checked g cylinders v s c command None = done_by g cylinders v s c command
 
-abbrev pub volume_effect : ℕ → List Track → Stance → Ccw → Traced
-volume_effect cylinders v s c = checked cylinders v s c (command_of c.command) (first_check cylinders s c (command_of c.command))
+abbrev pub volume_effect : Geometry → ℕ → List Track → Stance → Ccw → Traced
+volume_effect g cylinders v s c = checked g cylinders v s c (command_of c.command) (first_check cylinders s c (command_of c.command))
 
 -- the whole effect of one command of a path
 pub record Effect : Type 0 where
@@ -84,4 +102,4 @@ abbrev pub kept_by : PlainState → ℕ → Traced → Effect
 kept_by state path e = record { state = with_sense (record state { volume = e.volume }) path e.outcome.sense; outcome = e.outcome; touched = e.touched }
 
 abbrev pub command_effect : PlainState → ℕ → Stance → Ccw → Effect
-command_effect state path s c = kept_by state path (volume_effect state.cylinders state.volume s c)
+command_effect state path s c = kept_by state path (volume_effect state.geometry state.cylinders state.volume s c)

@@ -14,3 +14,7 @@ pub mod Followed
 pub mod Built
 pub mod Room
 pub mod Turn
+pub mod Area
+pub mod Updates
+pub mod Formats
+pub mod Writes

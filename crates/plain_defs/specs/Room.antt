@@ -19,6 +19,14 @@ pub record GoesOn (tracks : ℕ) (old new : Stance) : Type 0 where
   pub stands : Stands tracks new
   pub commands : new.commands ≡ old.commands + 1
 
+-- a command leaves a stance on its track, and was counted
+pub record Stays (old new : Stance) : Type 0 where
+  pub track : new.track ≡ old.track
+  pub extent : new.extent ≡ old.extent
+  pub left : IsSome new.domain → 0 < new.left
+  pub passes : new.passes ≤ 1
+  pub commands : new.commands ≡ old.commands + 1
+
 -- the chain goes on at a word, and one more command may be counted
 pub record IsRunning (index : ℕ) (s : Stance) : Type 0 where
   pub word : index < 65536

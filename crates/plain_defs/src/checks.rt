@@ -1,10 +1,10 @@
 ghost use Rattle.std.specs.Prelude.{◌≡◌, ◌≤◌, ◌<◌, ◌*◌, ◌^◌, IfOk, IfSome};
 ghost use Rattle.ckd_types.specs.Parameters.{given};
-ghost use Rattle.plain_defs.specs.Checks.{may_follow, is_in_sequence, has_parameters, first_track, is_between, is_within, first_check};
+ghost use Rattle.plain_defs.specs.Checks.{may_follow, may_stand_at, is_in_sequence, has_parameters, first_track, is_between, is_within, first_check};
 
 use crate::params::{domain_of, extent_of, given};
 use crate::sense::{file_protected, reject};
-use crate::{After, Stance};
+use crate::{After, Place, Stance};
 use ckd_types::{
     Ccw, Command, Domain, Extent, Group, Sense, TrackNo, accepts, group_of, permits_seek,
     permits_write, required_count,
@@ -36,12 +36,22 @@ fn may_follow(stance: &Stance, command: Command) -> bool
     }
 }
 
+/// In a domain record 0 is written before all records, without a search.
+fn may_stand_at(place: Place, command: Command) -> bool
+    ensures { result ≡ may_stand_at place command }
+{
+    match command {
+        Command::WriteZero => matches!(place, Place::Index | Place::Home),
+        _ => true,
+    }
+}
+
 fn is_in_sequence(stance: &Stance, domain: Option<Domain>, command: Command) -> bool
     ensures { result ≡ is_in_sequence stance.now domain command }
 {
     match domain {
         None => may_follow(stance, command),
-        Some(d) => accepts(d.operation, command),
+        Some(d) => accepts(d.operation, command) && may_stand_at(stance.place, command),
     }
 }
 

@@ -29,14 +29,14 @@ pub struct PlainDevice {
 
 impl Model for PlainDevice {
     ghost use Rattle.std.specs.Prelude.{◌≡◌, ◌≤◌, ◌*◌, length};
-    ghost use Rattle.plain_defs.specs.Followed.{HasRecords};
+    ghost use Rattle.plain_defs.specs.Followed.{AllFit};
     ghost use Rattle.plain_defs.specs.PlainState.{PlainState};
 
     ghost Value = { PlainState };
 
     ghost view = { λ d. record { geometry = d.geometry; cylinders = d.cylinders; volume = d.volume; paths = d.paths; owner = d.owner; senses = d.senses } };
 
-    ghost invariant = { λ d. (1 ≤ d.cylinders) × (d.cylinders ≤ 64) × (length d.volume ≡ d.cylinders * 15) × HasRecords d.volume };
+    ghost invariant = { λ d. (1 ≤ d.cylinders) × (d.cylinders ≤ 64) × (length d.volume ≡ d.cylinders * 15) × AllFit d.geometry d.volume };
 }
 
 fn starts_with_sense(ccws: &[Ccw]) -> bool
@@ -85,6 +85,8 @@ impl PlainDevice {
         ensures after { OnOk result (self.new ≡ (whole_run self.old path ccws.now).state) }
         ensures err { OnErr result (self.new ≡ self.old) }
     {
+        let (geometry, cylinders) = (self.geometry, self.cylinders);
+        let mut volume = self.volume.copy(alloc)?;
         let mut senses = self.senses;
         if !starts_with_sense(ccws) {
             keep_sense(&mut senses, path, Some(zero()));
@@ -100,13 +102,14 @@ impl PlainDevice {
         };
         while let Some(index) = next {
             let c = word_at(ccws, index, &nothing);
-            let outcome = volume_effect(alloc, self.cylinders, &self.volume, &stance, c)?;
+            let outcome = volume_effect(alloc, geometry, cylinders, &mut volume, &stance, c)?;
             stance = outcome.stance;
             keep_sense(&mut senses, path, outcome.sense);
             next = goes_to(ccws, index, c, &outcome);
             ends.reserve(1)?;
             ends.push(end_of(index as u16, c, outcome));
         }
+        self.volume = volume;
         self.senses = senses;
         Ok(ends)
     }

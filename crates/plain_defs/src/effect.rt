@@ -1,18 +1,21 @@
-ghost use Rattle.std.specs.Prelude.{◌≡◌, ◌<◌, ◌≤◌, ◌*◌, ◌+◌, ◌%◌, IfOk, Ok, IsSome, IfSome, false, true, length, ℕ};
+ghost use Rattle.std.specs.Prelude.{◌≡◌, ◌<◌, ◌≤◌, ◌*◌, ◌+◌, ◌%◌, IfOk, OnOk, Ok, IsSome, IfSome, false, true, length, ℕ};
 ghost use Rattle.ckd_types.specs.Commands.{command_of};
 ghost use Rattle.ckd_types.specs.Parameters.{is_bad_count};
-ghost use Rattle.plain_defs.specs.Effect.{Traced, follow, looked_up, locate_record, done_by, volume_effect};
-ghost use Rattle.plain_defs.specs.Followed.{HasRecords, follow_read, Gives};
+ghost use Rattle.plain_defs.specs.Effect.{Traced, follow, looked_up, locate_record, write_data, write_next, done_by, volume_effect};
+ghost use Rattle.plain_defs.specs.Finding.{track_after};
+ghost use Rattle.plain_defs.specs.Followed.{HasRecords, AllFit, follow_read, Gives, Replaces};
 ghost use Rattle.plain_defs.specs.Room.{HasRoom, Stands, GoesOn};
 
 use crate::checks::first_check;
 use crate::control::{define_extent, locate_on, needs_record, placed};
+use crate::finding::track_after;
 use crate::outcome::refused;
 use crate::params::{domain_of, extent_of, given};
 use crate::reads::read_data_on;
 use crate::sense::{end_of_cylinder, reject, zero};
+use crate::writes::write_on;
 use crate::{Outcome, Place, PlainVolume, Stance, Turned};
-use ckd_types::{Ccw, Command, Domain, NoMemory, ParamFault, command_of};
+use ckd_types::{Ccw, Command, Domain, Geometry, NoMemory, ParamFault, command_of};
 use std::alloc::Global;
 
 /// Read data, from track to track.
@@ -41,6 +44,41 @@ fn read_data(
                 here.place = Place::Index;
             }
             Turned::Write(_, _) => unreachable!(),
+        }
+    }
+    Ok(refused(&here, c, end_of_cylinder()))
+}
+
+/// A write, from track to track.
+fn write_data(
+    alloc: Global,
+    geometry: Geometry,
+    volume: &mut PlainVolume,
+    stance: &Stance,
+    c: &Ccw,
+) -> Result<Outcome, NoMemory>
+    requires cylinders { length volume.old % 15 ≡ 0 }
+    requires device { length volume.old ≤ 960 }
+    requires fits { AllFit geometry volume.old }
+    requires room { HasRoom stance.now }
+    requires stands { Stands (length volume.old) stance.now }
+    ensures gives { IfOk result (Gives volume.new (write_data geometry volume.old stance.now c.now)) }
+    ensures goes_on { IfOk result (λ o. GoesOn (length volume.old) stance.now o.stance) }
+    ensures replaces { OnOk result (Replaces geometry volume.old volume.new) }
+{
+    let tracks = volume.len();
+    let mut here = *stance;
+    for _turn in 0..tracks {
+        match write_on(alloc, geometry, volume.track(here.track), &here, c)? {
+            Turned::Ended(outcome) => return Ok(outcome),
+            Turned::NextTrack(t) => {
+                here.track = t;
+                here.place = Place::Index;
+            }
+            Turned::Write(edit, outcome) => {
+                volume.edit(here.track, edit)?;
+                return Ok(outcome);
+            }
         }
     }
     Ok(refused(&here, c, end_of_cylinder()))
@@ -86,21 +124,52 @@ fn locate_record(
     }
 }
 
+/// A format on the next track, to which the chain goes first.
+fn write_next(
+    alloc: Global,
+    geometry: Geometry,
+    volume: &mut PlainVolume,
+    stance: &Stance,
+    c: &Ccw,
+) -> Result<Outcome, NoMemory>
+    requires cylinders { length volume.old % 15 ≡ 0 }
+    requires device { length volume.old ≤ 960 }
+    requires fits { AllFit geometry volume.old }
+    requires room { HasRoom stance.now }
+    requires stands { Stands (length volume.old) stance.now }
+    ensures gives { IfOk result (Gives volume.new (write_next geometry volume.old stance.now c.now (track_after stance.now.extent stance.now.track))) }
+    ensures goes_on { IfOk result (λ o. GoesOn (length volume.old) stance.now o.stance) }
+    ensures replaces { OnOk result (Replaces geometry volume.old volume.new) }
+{
+    let track = stance.track;
+    match track_after(stance.extent, track, volume.len()) {
+        Ok(t) => {
+            let mut there = *stance;
+            there.track = t;
+            there.place = Place::Index;
+            write_data(alloc, geometry, volume, &there, c)
+        }
+        Err(sense) => Ok(refused(stance, c, sense)),
+    }
+}
+
 fn done_by(
     alloc: Global,
+    geometry: Geometry,
     cylinders: u8,
-    volume: &PlainVolume,
+    volume: &mut PlainVolume,
     stance: &Stance,
     c: &Ccw,
     command: Option<Command>,
 ) -> Result<Outcome, NoMemory>
     requires cylinders { cylinders ≤ 64 }
-    requires tracks { length volume.now ≡ cylinders * 15 }
-    requires records { HasRecords volume.now }
+    requires tracks { length volume.old ≡ cylinders * 15 }
+    requires fits { AllFit geometry volume.old }
     requires room { HasRoom stance.now }
-    requires stands { Stands (length volume.now) stance.now }
-    ensures gives { IfOk result (Gives volume.now (done_by cylinders volume.now stance.now c.now command)) }
-    ensures goes_on { IfOk result (λ o. GoesOn (length volume.now) stance.now o.stance) }
+    requires stands { Stands (length volume.old) stance.now }
+    ensures gives { IfOk result (Gives volume.new (done_by geometry cylinders volume.old stance.now c.now command)) }
+    ensures goes_on { IfOk result (λ o. GoesOn (length volume.old) stance.now o.stance) }
+    ensures replaces { OnOk result (Replaces geometry volume.old volume.new) }
 {
     match command {
         Some(Command::DefineExtent) => {
@@ -112,29 +181,41 @@ fn done_by(
             Ok(locate_record(volume, stance, c, domain))
         }
         Some(Command::ReadData) => read_data(alloc, volume, stance, c),
+        Some(Command::WriteNextTrack) => write_next(alloc, geometry, volume, stance, c),
+        Some(
+            Command::WriteData
+            | Command::UpdateData
+            | Command::WriteKeyData
+            | Command::UpdateKeyData
+            | Command::WriteCountKeyData
+            | Command::WriteZero,
+        ) => write_data(alloc, geometry, volume, stance, c),
         _ => Ok(refused(stance, c, zero())),
     }
 }
 
-/// What one command does to a volume, from track to track. It writes nothing yet.
+/// What one command does to a volume, from track to track. After want of memory the volume is one
+/// that is of no use.
 pub fn volume_effect(
     alloc: Global,
+    geometry: Geometry,
     cylinders: u8,
-    volume: &PlainVolume,
+    volume: &mut PlainVolume,
     stance: &Stance,
     c: &Ccw,
 ) -> Result<Outcome, NoMemory>
     requires cylinders { cylinders ≤ 64 }
-    requires tracks { length volume.now ≡ cylinders * 15 }
-    requires records { HasRecords volume.now }
+    requires tracks { length volume.old ≡ cylinders * 15 }
+    requires fits { AllFit geometry volume.old }
     requires room { HasRoom stance.now }
-    requires stands { Stands (length volume.now) stance.now }
-    ensures gives { IfOk result (Gives volume.now (volume_effect cylinders volume.now stance.now c.now)) }
-    ensures goes_on { IfOk result (λ o. GoesOn (length volume.now) stance.now o.stance) }
+    requires stands { Stands (length volume.old) stance.now }
+    ensures gives { IfOk result (Gives volume.new (volume_effect geometry cylinders volume.old stance.now c.now)) }
+    ensures goes_on { IfOk result (λ o. GoesOn (length volume.old) stance.now o.stance) }
+    ensures replaces { OnOk result (Replaces geometry volume.old volume.new) }
 {
     let command = command_of(c.command);
     match first_check(cylinders, stance, c, command) {
         Some(sense) => Ok(refused(stance, c, sense)),
-        None => done_by(alloc, cylinders, volume, stance, c, command),
+        None => done_by(alloc, geometry, cylinders, volume, stance, c, command),
     }
 }

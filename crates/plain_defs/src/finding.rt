@@ -1,11 +1,16 @@
-ghost use Rattle.std.specs.Prelude.{◌≡◌, ◌<◌, ◌≤◌, ◌+◌, ◌%◌, ◌^◌, IfSome, IfOk, IsSome, IsSomeAnd, length};
+ghost use Rattle.std.specs.Prelude.{◌≡◌, ◌<◌, ◌≤◌, ◌+◌, ◌%◌, ◌^◌, IfSome, IfOk, IsSome, IsSomeAnd, Ok, length};
 ghost use Rattle.plain_defs.specs.Finding.{kept_place, place_on, next_data, if_there, next_track, track_after, find_from, missed, from_index};
+ghost use Rattle.plain_defs.specs.Formats.{record_of};
+ghost use Rattle.plain_defs.specs.Updates.{next_key, next_area};
 ghost use Rattle.plain_defs.specs.Sought.{IsHere, IsOnward};
 ghost use Rattle.plain_defs.specs.Room.{Stands};
 
 use crate::sense::{end_of_cylinder, file_protected, no_record};
 use crate::{Place, Stance};
 use ckd_types::{Extent, HEADS, Records, Sense, TrackNo, permits_move};
+
+/// The most tracks that a device has.
+pub const TRACKS: usize = 960;
 
 /// Where a command finds its record: on this track, with the passes of its index so far; on the next
 /// track; or nowhere.
@@ -19,8 +24,10 @@ pub enum Sought {
 fn kept_place(records: &Records, i: usize, place: Place) -> Place
     requires some { 0 < length records.now }
     requires bound { i < length records.now → next_data place < 2 ^ 64 }
+    requires record { record_of place ≡ i }
     ensures kept { result ≡ kept_place records.now i place }
     ensures bound { next_data result < 2 ^ 64 }
+    ensures within { record_of result < length records.now }
 {
     if i < records.len() {
         place
@@ -34,6 +41,7 @@ pub fn place_on(records: &Records, place: Place) -> Place
     requires { 0 < length records.now }
     ensures place { result ≡ place_on records.now place }
     ensures bound { next_data result < 2 ^ 64 }
+    ensures within { record_of result < length records.now }
 {
     let _ = records.len();
     match place {
@@ -57,6 +65,41 @@ pub fn next_data(place: Place) -> usize
     }
 }
 
+/// The record whose key comes next.
+fn next_key(place: Place) -> usize
+    requires { record_of place + 1 < 2 ^ 64 }
+    ensures { result ≡ next_key place }
+{
+    match place {
+        Place::Index | Place::Home => 1,
+        Place::Count(i) => i,
+        Place::Key(i) | Place::Body(i) => i + 1,
+    }
+}
+
+/// The record whose data comes next, or whose key does.
+pub fn next_area(with_key: bool, place: Place) -> usize
+    requires data { next_data place < 2 ^ 64 }
+    requires key { record_of place + 1 < 2 ^ 64 }
+    ensures { result ≡ next_area with_key place }
+{
+    if with_key {
+        next_key(place)
+    } else {
+        next_data(place)
+    }
+}
+
+/// The record that a place is at; before all records that is record 0.
+pub fn record_of(place: Place) -> usize
+    ensures { result ≡ record_of place }
+{
+    match place {
+        Place::Index | Place::Home => 0,
+        Place::Count(i) | Place::Key(i) | Place::Body(i) => i,
+    }
+}
+
 /// Record `i`, where the track has it.
 pub fn if_there(records: &Records, i: usize) -> Option<usize>
     ensures found { result ≡ if_there records.now i }
@@ -66,7 +109,7 @@ pub fn if_there(records: &Records, i: usize) -> Option<usize>
 }
 
 /// The track behind this one, or the sense that ends the command.
-fn track_after(extent: Option<Extent>, t: TrackNo, tracks: usize) -> Result<TrackNo, Sense>
+pub fn track_after(extent: Option<Extent>, t: TrackNo, tracks: usize) -> Result<TrackNo, Sense>
     requires cylinders { tracks % 15 ≡ 0 }
     requires device { tracks ≤ 960 }
     requires track { t < tracks }
@@ -94,7 +137,8 @@ fn next_track(stance: &Stance, tracks: usize) -> Result<TrackNo, Sense>
     requires cylinders { tracks % 15 ≡ 0 }
     requires device { tracks ≤ 960 }
     requires stands { Stands tracks stance.now }
-    ensures after { result ≡ next_track stance.now }
+    ensures next { result ≡ next_track stance.now }
+    ensures after { IfOk result (λ u. track_after stance.now.extent stance.now.track ≡ Ok u) }
     ensures track { IfOk result (λ u. u < tracks) }
 {
     if stance.domain.is_none() && !permits_move(stance.mask) {
@@ -118,6 +162,7 @@ fn missed(multitrack: bool, stance: &Stance, again: Option<usize>, tracks: usize
     requires device { tracks ≤ 960 }
     requires stands { Stands tracks stance.now }
     ensures sought { result ≡ missed multitrack stance.now again }
+    ensures after { IsOnward result (λ t. track_after stance.now.extent stance.now.track ≡ Ok t) }
     ensures on_device { IsOnward result (λ t. t < tracks) }
     ensures there { IsHere result (λ i. IsSomeAnd again (λ k. i ≡ k)) }
 {
@@ -133,26 +178,26 @@ fn missed(multitrack: bool, stance: &Stance, again: Option<usize>, tracks: usize
     from_index(stance.passes + 1, again)
 }
 
-/// Where a command finds its record: `first` is the candidate from its place, `again` the one from
-/// the index, each a record of this track.
+/// Where a command finds its record on a track of so many records: `first` is the candidate from
+/// its place, `again` the one from the index.
 pub fn find_from(
     multitrack: bool,
     stance: &Stance,
-    records: &Records,
+    records: usize,
     first: Option<usize>,
     again: Option<usize>,
     tracks: usize,
 ) -> Sought
-    requires first { IfSome first (λ i. i < length records.now) }
-    requires again { IfSome again (λ i. i < length records.now) }
+    requires first { IfSome first (λ i. i < records) }
+    requires again { IfSome again (λ i. i < records) }
     requires cylinders { tracks % 15 ≡ 0 }
     requires device { tracks ≤ 960 }
     requires stands { Stands tracks stance.now }
     ensures sought { result ≡ find_from multitrack stance.now first again }
+    ensures after { IsOnward result (λ t. track_after stance.now.extent stance.now.track ≡ Ok t) }
     ensures on_device { IsOnward result (λ t. t < tracks) }
-    ensures there { IsHere result (λ i. i < length records.now) }
+    ensures there { IsHere result (λ i. i < records) }
 {
-    let _ = records.len();
     match first {
         Some(index) => Sought::Here {
             index,

@@ -18,14 +18,16 @@ pub fn given(c: &Ccw) -> [u8; 16]
     bytes
 }
 
-fn number_at(bytes: &[u8], i: usize) -> u16
+/// Two bytes, the high one first.
+pub fn number_at(bytes: &[u8], i: usize) -> u16
     requires { i + 1 < length bytes.now }
     ensures { result ≡ number_at bytes.now i }
 {
     u16::from(bytes[i]) * 256 + u16::from(bytes[i + 1])
 }
 
-fn cchh_at(bytes: &[u8], i: usize) -> Cchh
+/// The cylinder and head of four bytes.
+pub fn cchh_at(bytes: &[u8], i: usize) -> Cchh
     requires { i + 3 < length bytes.now }
     ensures { result ≡ cchh_at bytes.now i }
 {

@@ -21,7 +21,7 @@ fn found_after(after: After) -> After
     }
 }
 
-fn status_of(body: &[u8]) -> UnitStatus
+pub fn status_of(body: &[u8]) -> UnitStatus
     ensures { result ≡ status_of body.now }
 {
     if body.is_empty() {
@@ -98,6 +98,6 @@ pub fn read_data_on(
     let first = if_there(records, next_data(place_on(records, stance.place)));
     let again = if_there(records, 1);
     let multitrack = is_multitrack(c.command);
-    let sought = find_from(multitrack, stance, records, first, again, tracks);
+    let sought = find_from(multitrack, stance, records.len(), first, again, tracks);
     read_sought(alloc, records, stance, c, sought, tracks)
 }

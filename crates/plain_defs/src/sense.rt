@@ -1,5 +1,5 @@
 ghost use Rattle.std.specs.Prelude.{◌≡◌};
-ghost use Rattle.ckd_types.specs.Sense.{sense_of, reject_sense, no_record_sense, file_protected_sense, end_of_cylinder_sense, zero_sense};
+ghost use Rattle.ckd_types.specs.Sense.{sense_of, reject_sense, track_format_sense, no_record_sense, file_protected_sense, end_of_cylinder_sense, zero_sense};
 
 use ckd_types::Sense;
 
@@ -17,6 +17,12 @@ pub fn reject(message: u8) -> Sense
     ensures { result ≡ reject_sense message }
 {
     sense_of(0x80, 0, message)
+}
+
+pub fn track_format() -> Sense
+    ensures { result ≡ track_format_sense }
+{
+    sense_of(0, 0x40, 0)
 }
 
 pub fn no_record() -> Sense

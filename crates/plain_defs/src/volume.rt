@@ -1,7 +1,8 @@
-ghost use Rattle.std.specs.Prelude.{◌≡◌, ◌<◌, ◌≤◌, ◌*◌, ◌+◌, IfOk, length};
+ghost use Rattle.std.specs.Prelude.{◌≡◌, ◌<◌, ◌≤◌, ◌*◌, ◌+◌, IfOk, OnOk, length, slice_set};
+ghost use Rattle.ckd_types.specs.Edit.{apply_edit, IsWithin};
 ghost use Rattle.ckd_types.specs.Volume.{empty_volume, track_in};
 
-use ckd_types::{HEADS, NoMemory, Track, TrackNo, empty_track};
+use ckd_types::{Edit, HEADS, NoMemory, Track, TrackNo, empty_track};
 use std::alloc::Global;
 use std::marker::Model;
 
@@ -46,5 +47,24 @@ impl PlainVolume {
         ensures { result.now ≡ track_in self.now t }
     {
         &self.tracks[usize::from(t.get())]
+    }
+
+    /// Edits a track. Takes memory only for a record behind its last one.
+    pub fn edit(&mut self, t: TrackNo, edit: Edit) -> Result<(), NoMemory>
+        requires track { t < length self.old }
+        requires within { IsWithin edit (length (track_in self.old t).records) }
+        ensures { OnOk result (self.new ≡ slice_set self.old t (apply_edit edit (track_in self.old t))) }
+    {
+        self.tracks[usize::from(t.get())].records.edit(edit)
+    }
+
+    pub fn copy(&self, alloc: Global) -> Result<PlainVolume, NoMemory>
+        ensures { IfOk result (λ made. made ≡ self.now) }
+    {
+        let mut tracks = Vec::with_capacity(alloc, self.tracks.len())?;
+        for track in &self.tracks {
+            tracks.push(track.copy(alloc)?)?;
+        }
+        Ok(PlainVolume { tracks })
     }
 }

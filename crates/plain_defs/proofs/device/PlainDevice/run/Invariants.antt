@@ -1,12 +1,15 @@
-use Rattle.std.proofs.Common.{◌≡◌, ◌-◌}
+use Rattle.std.proofs.Common.{◌≡◌, ◌-◌, ◌*◌, length}
 use Rattle.ckd_types.specs.Ccw.{no_ccw}
+use Rattle.plain_defs.specs.Followed.{AllFit}
 use Rattle.plain_defs.proofs.PartLemmas.{IsPart}
 use Rattle.plain_defs.proofs.device.PlainDevice.run.Given as goal
 
 abbrev pub invariant-loop-next : goal.invariant-loop-next
 invariant-loop-next l =
-    IsPart l.fn.self l.path l.ccws (record l.fn.self { senses = l.senses }) l.stance l.next l.ends.items
+    IsPart l.fn.self l.path l.ccws (record l.fn.self { senses = l.senses; volume = l.volume }) l.stance l.next l.ends.items
     × (l.nothing ≡ no_ccw)
+    × (length l.volume ≡ l.cylinders * 15)
+    × AllFit l.geometry l.volume
 
 abbrev pub decreases-loop-next : goal.decreases-loop-next
 decreases-loop-next l = 4096 - l.stance.commands

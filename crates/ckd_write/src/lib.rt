@@ -1,0 +1,13 @@
+//! Writes of one track: updates of a record, and formats.
+#![tactic(auto)]
+
+mod command;
+mod count;
+mod format;
+mod place;
+mod update;
+
+pub use command::write;
+
+#[cfg(test)]
+mod tests;

@@ -1,0 +1,75 @@
+-- Formats of one track: a new record, and nothing behind it.
+use Rattle.std.specs.Prelude.{ℕ, ◌+◌, ◌==◌, ◌&&◌, nat_le, Bool, List, [], take, slice_index, if◌then◌else◌}
+use Rattle.ckd_types.specs.declared.channel.Ccw.{Ccw}
+use Rattle.ckd_types.specs.declared.geometry.Geometry.{Geometry}
+use Rattle.ckd_types.specs.declared.record.Record.{Record}
+use Rattle.ckd_types.specs.declared.record.Track.{Track}
+use Rattle.ckd_types.specs.declared.record.Edit.TheVariants.{Format, Zero}
+use Rattle.ckd_types.specs.Geometry.{cost, capacity}
+use Rattle.ckd_types.specs.Parameters.{number_at, cchh_at}
+use Rattle.ckd_types.specs.Sense.{track_format_sense}
+use Rattle.ckd_types.specs.Track.{cost_of}
+use Rattle.plain_defs.specs.declared.stance.Stance.{Stance}
+use Rattle.plain_defs.specs.declared.stance.Place.{Place}
+use Rattle.plain_defs.specs.declared.stance.Place.TheVariants.{Index, Home, Count, Key, Body}
+use Rattle.plain_defs.specs.declared.stance.After.{After}
+use Rattle.plain_defs.specs.declared.stance.After.TheVariants.{Wrote}
+use Rattle.plain_defs.specs.declared.outcome.Outcome.{Outcome}
+use Rattle.plain_defs.specs.declared.outcome.Turned.{Turned}
+use Rattle.plain_defs.specs.declared.outcome.Turned.TheVariants.{Ended, Write}
+use Rattle.plain_defs.specs.Area.{given_at}
+use Rattle.plain_defs.specs.Stance.{one_less}
+use Rattle.plain_defs.specs.Outcome.{normal, refused, ended}
+use Rattle.plain_defs.specs.Finding.{place_on}
+
+-- the first eight bytes are the new count area: an id, and the lengths of key and data
+abbrev pub count_given : Ccw → List ℕ
+count_given c = given_at 0 8 c
+
+abbrev pub key_given : Ccw → ℕ
+key_given c = slice_index (count_given c) 5
+
+abbrev pub body_given : Ccw → ℕ
+body_given c = number_at (count_given c) 6
+
+abbrev pub record_given : Ccw → Record
+record_given c = record {
+  id = record { cchh = cchh_at (count_given c) 0; r = slice_index (count_given c) 4 };
+  key = given_at 8 (key_given c) c;
+  body = given_at (8 + key_given c) (body_given c) c;
+}
+
+-- the record that a place is at; the index and the home address are before record 0
+abbrev pub record_of : Place → ℕ
+record_of Index = 0
+record_of Home = 0
+record_of (Count i) = i
+record_of (Key i) = i
+record_of (Body i) = i
+
+-- the capacity holds records 1 to i and one more behind them. None of 65,535 bytes of data does
+abbrev pub has_room_behind : Geometry → List Record → ℕ → ℕ → ℕ → Bool
+has_room_behind g records i key body = nat_le (cost_of g (take (i + 1) records) + cost g key body) (capacity g)
+
+-- record i is the new one
+abbrev pub format_ended : After → Stance → Ccw → ℕ → ℕ → Outcome
+format_ended after s c i area = ended (one_less (record s { place = Body i; passes = 0; after = after })) c area normal []
+
+-- the new record stands behind record i
+abbrev pub format_behind : Geometry → List Record → After → Stance → Ccw → ℕ → Turned
+format_behind g records after s c i =
+    if has_room_behind g records i (key_given c) (body_given c) then
+    Write (Format i (record_given c)) (format_ended after s c (i + 1) (8 + key_given c + body_given c))
+    else Ended (refused s c track_format_sense)
+
+abbrev pub format_on : Geometry → Track → Stance → Ccw → Turned
+format_on g t s c = format_behind g t.records Wrote s c (record_of (place_on t.records s.place))
+
+-- record 0 has no key and eight bytes of data
+abbrev pub is_zero_given : Ccw → Bool
+is_zero_given c = (key_given c == 0) && (body_given c == 8)
+
+abbrev pub zero_on : Stance → Ccw → Turned
+zero_on s c =
+    if is_zero_given c then Write (Zero (record_given c)) (format_ended Wrote s c 0 16)
+    else Ended (refused s c track_format_sense)

@@ -1,0 +1,162 @@
+ghost use Rattle.std.specs.Prelude.{◌≡◌, ◌<◌, IfOk, Ok, length};
+ghost use Rattle.plain_defs.specs.Finding.{track_after, place_on, if_there, find_from};
+ghost use Rattle.plain_defs.specs.Reads.{record_at, status_of};
+ghost use Rattle.plain_defs.specs.Room.{HasRoom, Stands, Stays};
+ghost use Rattle.plain_defs.specs.Sought.{IsHere, IsOnward};
+ghost use Rattle.plain_defs.specs.Turn.{Turns};
+ghost use Rattle.plain_defs.specs.Updates.{after_update, update_ended, update_data, update_key_data, update_record, update_sought, update_on};
+
+use crate::area::given_at;
+use crate::finding::{TRACKS, find_from, if_there, next_area, place_on};
+use crate::outcome::{ended, refused};
+use crate::reads::status_of;
+use crate::stance::one_less;
+use crate::{After, Outcome, Place, Sought, Stance, Turned};
+use ckd_types::{Bytes, Ccw, Edit, Geometry, NoMemory, Records, Track};
+use std::alloc::Global;
+
+fn after_update(multitrack: bool) -> After
+    ensures { result ≡ after_update multitrack }
+{
+    if multitrack {
+        After::Other
+    } else {
+        After::Wrote
+    }
+}
+
+/// The end of an update of record `i`.
+fn update_ended(
+    multitrack: bool,
+    stance: &Stance,
+    ccw: &Ccw,
+    i: usize,
+    body: &[u8],
+    area: usize,
+) -> Outcome
+    requires room { HasRoom stance.now }
+    requires stands { Stands 960 stance.now }
+    ensures outcome { result ≡ update_ended multitrack stance.now ccw.now i body.now area }
+    ensures stays { Stays stance.now result.stance }
+{
+    let mut after = *stance;
+    after.place = Place::Body(i);
+    after.passes = 0;
+    after.after = after_update(multitrack);
+    ended(&one_less(&after), ccw, area, status_of(body), Bytes::new())
+}
+
+/// Writes the data of record `i`. An end of file has none.
+fn update_data(
+    alloc: Global,
+    geometry: Geometry,
+    records: &Records,
+    multitrack: bool,
+    stance: &Stance,
+    ccw: &Ccw,
+    i: usize,
+) -> Result<Turned, NoMemory>
+    requires place { i < length records.now }
+    requires room { HasRoom stance.now }
+    requires stands { Stands 960 stance.now }
+    ensures turned { IfOk result (λ turned. turned ≡ update_data multitrack stance.now ccw.now i (record_at records.now i)) }
+    ensures turns { IfOk result (Turns geometry records.now stance.now) }
+{
+    let record = &records.as_slice()[i];
+    let body = record.body.as_slice();
+    let outcome = update_ended(multitrack, stance, ccw, i, body, body.len());
+    if body.is_empty() {
+        return Ok(Turned::Ended(outcome));
+    }
+    let edit = Edit::Update {
+        index: i,
+        key: record.key.copy(alloc)?,
+        body: given_at(alloc, ccw, 0, body.len())?,
+    };
+    Ok(Turned::Write(edit, outcome))
+}
+
+/// Writes key and data of record `i`, also the key of an end of file.
+fn update_key_data(
+    alloc: Global,
+    geometry: Geometry,
+    records: &Records,
+    multitrack: bool,
+    stance: &Stance,
+    ccw: &Ccw,
+    i: usize,
+) -> Result<Turned, NoMemory>
+    requires place { i < length records.now }
+    requires room { HasRoom stance.now }
+    requires stands { Stands 960 stance.now }
+    ensures turned { IfOk result (λ turned. turned ≡ update_key_data multitrack stance.now ccw.now i (record_at records.now i)) }
+    ensures turns { IfOk result (Turns geometry records.now stance.now) }
+{
+    let record = &records.as_slice()[i];
+    let key = record.key.as_slice().len();
+    let body = record.body.as_slice();
+    let outcome = update_ended(multitrack, stance, ccw, i, body, key + body.len());
+    let edit = Edit::Update {
+        index: i,
+        key: given_at(alloc, ccw, 0, key)?,
+        body: given_at(alloc, ccw, key, body.len())?,
+    };
+    Ok(Turned::Write(edit, outcome))
+}
+
+fn update_sought(
+    alloc: Global,
+    geometry: Geometry,
+    records: &Records,
+    with_key: bool,
+    multitrack: bool,
+    stance: &Stance,
+    ccw: &Ccw,
+    sought: Sought,
+) -> Result<Turned, NoMemory>
+    requires there { IsHere sought (λ i. i < length records.now) }
+    requires after { IsOnward sought (λ t. track_after stance.now.extent stance.now.track ≡ Ok t) }
+    requires room { HasRoom stance.now }
+    requires stands { Stands 960 stance.now }
+    ensures turned { IfOk result (λ turned. turned ≡ update_sought with_key multitrack records.now stance.now ccw.now sought) }
+    ensures turns { IfOk result (Turns geometry records.now stance.now) }
+{
+    match sought {
+        Sought::Here { index, .. } => {
+            if with_key {
+                update_key_data(alloc, geometry, records, multitrack, stance, ccw, index)
+            } else {
+                update_data(alloc, geometry, records, multitrack, stance, ccw, index)
+            }
+        }
+        Sought::Onward(t) => Ok(Turned::NextTrack(t)),
+        Sought::Nowhere(sense) => Ok(Turned::Ended(refused(stance, ccw, sense))),
+    }
+}
+
+/// Writes the data, or key and data, of the record that comes next.
+pub fn update_on(
+    alloc: Global,
+    geometry: Geometry,
+    track: &Track,
+    with_key: bool,
+    multitrack: bool,
+    stance: &Stance,
+    ccw: &Ccw,
+) -> Result<Turned, NoMemory>
+    requires records { 0 < length track.now.records }
+    requires room { HasRoom stance.now }
+    requires stands { Stands 960 stance.now }
+    ensures turned { IfOk result (λ turned. turned ≡ update_on with_key multitrack track.now stance.now ccw.now) }
+    ensures turns { IfOk result (Turns geometry track.now.records stance.now) }
+{
+    let records = &track.records;
+    let count = records.len();
+    let place = place_on(records, stance.place);
+    let first = if_there(records, next_area(with_key, place));
+    let again = if_there(records, 1);
+    let sought = find_from(multitrack, stance, count, first, again, TRACKS);
+    update_sought(
+        alloc, geometry, records, with_key, multitrack, stance, ccw, sought,
+    )
+}
