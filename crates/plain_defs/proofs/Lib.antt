@@ -4,3 +4,5 @@ pub mod EmptyLemmas
 pub mod PartLemmas
 mod Rows
 pub mod Laws
+pub mod JournalLaws
+pub mod EndsLaws

@@ -14,3 +14,4 @@ pub mod Followed
 pub mod Built
 pub mod Room
 pub mod Turn
+pub mod Ends

@@ -19,5 +19,6 @@ pub use device::PlainDevice;
 pub use finding::Sought;
 pub use journal::{Entry, How, Item, Journal};
 pub use outcome::{Outcome, Turned};
+pub use params::given;
 pub use stance::{After, Place, Stance};
 pub use volume::PlainVolume;
