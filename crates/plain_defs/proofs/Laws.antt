@@ -49,3 +49,12 @@ module _ (path : ℕ) (ccws : List Ccw) where
             ∙ ap (λ (p : Part). p.ends) (none_left e.state path ccws e.outcome.stance n),
         part_closes n e.state e.outcome.stance (goes_to ccws i e.outcome),
       )
+
+  -- no command of the profile so far takes or frees the device
+  pub part_owner : (n : ℕ) (state : PlainState) (s : Stance) (next : Option ℕ) → (part_from n state path ccws s next).state.owner ≡ state.owner
+  unfolding part_from
+  part_owner zero state s next = refl
+  part_owner (suc n) state s None = refl
+  part_owner (suc n) state s (Some i) =
+      let e = command_effect state path s (ccw_at ccws i) in
+      part_owner n e.state e.outcome.stance (goes_to ccws i e.outcome)

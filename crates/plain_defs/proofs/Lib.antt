@@ -6,3 +6,5 @@ pub mod PartLemmas
 mod Rows
 mod WriteRows
 pub mod Laws
+pub mod JournalLaws
+pub mod EndsLaws

@@ -18,3 +18,4 @@ pub mod Area
 pub mod Updates
 pub mod Formats
 pub mod Writes
+pub mod Ends

@@ -1,4 +1,4 @@
-ghost use Rattle.std.specs.Prelude.{◌≡◌, ◌<◌, ◌≤◌, ◌*◌, ◌+◌, ◌++◌, ◌∷◌, [], ◌^◌, IfOk, IfSome, OnErr, length};
+ghost use Rattle.std.specs.Prelude.{◌≡◌, ◌<◌, ◌≤◌, ◌*◌, ◌+◌, ◌++◌, ◌∷◌, [], ◌^◌, IfSome, IfNone, true, length};
 ghost use Rattle.plain_defs.specs.Room.{IsRunning};
 ghost use Rattle.plain_defs.specs.Chain.{would_go_on, at_limit, is_over, note_of, end_of, goes_to};
 ghost use Rattle.ckd_types.specs.Ccw.{is_transfer, ccw_at, no_ccw};
@@ -93,6 +93,7 @@ pub fn goes_to(ccws: &[Ccw], index: usize, c: &Ccw, outcome: &Outcome) -> Option
     requires word { c.now ≡ ccw_at ccws.now index }
     ensures next { result ≡ goes_to ccws.now index outcome.now }
     ensures running { IfSome result (λ j. IsRunning j outcome.now.stance) }
+    ensures over { IfNone result (is_over c.now outcome.now ≡ true) }
 {
     if index >= ccws.len() || is_over(c, outcome) {
         return None;

@@ -59,6 +59,7 @@ fn keep_sense(senses: &mut [Sense; 4], path: PathNo, sense: Option<Sense>)
 impl PlainDevice {
     ghost use Rattle.plain_defs.specs.PlainState.{empty_state};
     ghost use Rattle.plain_defs.specs.Built.{IsBuilt};
+    ghost use Rattle.plain_defs.specs.Ends.{LastIsOver};
 
     /// A device of empty tracks, of which no path has used anything.
     pub fn empty(alloc: Global, geometry: Geometry, cylinders: u8) -> Result<PlainDevice, NoMemory>
@@ -83,6 +84,7 @@ impl PlainDevice {
         requires built { All IsBuilt ccws.now }
         ensures ends { IfOk result (λ ends. ends.items ≡ (whole_run self.old path ccws.now).ends) }
         ensures after { OnOk result (self.new ≡ (whole_run self.old path ccws.now).state) }
+        ensures over { IfOk result (λ ends. LastIsOver ends.items) }
         ensures err { OnErr result (self.new ≡ self.old) }
     {
         let (geometry, cylinders) = (self.geometry, self.cylinders);

@@ -24,5 +24,6 @@ pub use device::PlainDevice;
 pub use finding::{Sought, find_from};
 pub use journal::{Entry, How, Item, Journal};
 pub use outcome::{Outcome, Turned, ended, refused};
+pub use params::given;
 pub use stance::{After, Place, Stance, one_less};
 pub use volume::PlainVolume;

@@ -1,5 +1,7 @@
 use Rattle.std.proofs.Common.{◌≡◌, ◌-◌, ◌*◌, length}
+use Rattle.std.specs.Prelude.{IfNone}
 use Rattle.ckd_types.specs.Ccw.{no_ccw}
+use Rattle.plain_defs.specs.Ends.{LastIsOver}
 use Rattle.plain_defs.specs.Followed.{AllFit}
 use Rattle.plain_defs.proofs.PartLemmas.{IsPart}
 use Rattle.plain_defs.proofs.device.PlainDevice.run.Given as goal
@@ -10,6 +12,7 @@ invariant-loop-next l =
     × (l.nothing ≡ no_ccw)
     × (length l.volume ≡ l.cylinders * 15)
     × AllFit l.geometry l.volume
+    × IfNone l.next (LastIsOver l.ends.items)
 
 abbrev pub decreases-loop-next : goal.decreases-loop-next
 decreases-loop-next l = 4096 - l.stance.commands

@@ -1,0 +1,13 @@
+use ckd_types::CommandEnd;
+
+/// What happens in a run: an answer to a START line, the end of a command of program `ordinal`, or that
+/// there was nothing to do.
+#[derive(Debug, Drop)]
+pub enum RunEvent {
+    Accepted(u16),
+    AlreadyRunning,
+    PlanDone,
+    Ended { ordinal: u16, end: CommandEnd },
+    StepIdle,
+    RunIdle,
+}
