@@ -1,13 +1,16 @@
-//! The text of a deck of the first run: one device, one program of three commands, two events.
+//! The text of a deck: its lines, what they say, and the text that they make again.
 #![tactic(auto)]
 
 mod deck;
+mod events;
 mod forms;
+mod keyword;
+mod line;
 mod lines;
 mod numbers;
-mod program;
-mod read;
+mod place;
+mod planned;
+mod words;
 
-pub use deck::{Deck, DeckFault, DeckWhy, Which};
-pub use program::program_of;
-pub use read::read_deck;
+pub use deck::Deck;
+pub use line::{DeckFault, DeckWhy, DeviceLine, FaultLine, PlannedProgram, Which};
