@@ -1,7 +1,13 @@
 -- What a call says of a reading: want of memory alone says nothing.
-use Rattle.std.specs.Prelude.{◌≡◌, Result, Ok, Err}
+use Rattle.std.specs.Prelude.{◌≡◌, ℕ, Result, Ok, Err}
+use Rattle.deck_text.specs.declared.line.DeckWhy.{DeckWhy}
 use Rattle.deck_text.specs.declared.line.DeckFault.{DeckFault}
 use Rattle.deck_text.specs.declared.line.DeckFault.TheVariants.{Refused, Limit, NoMemory}
+
+-- a line's own reason stands at the line
+abbrev pub refusing : {T : Type 0} → ℕ → Result T DeckWhy → Result T DeckFault
+refusing n (Err why) = Err (Refused n why)
+refusing n (Ok x) = Ok x
 
 -- what is answered is so, but for want of memory, which says nothing
 abbrev pub Parses : {T : Type 0} → Result T DeckFault → Result T DeckFault → Type 0

@@ -1,5 +1,5 @@
 -- What the words behind the first one say, for each line up to the events.
-use Rattle.std.specs.Prelude.{ℕ, ◌+◌, ◌==◌, ◌&&◌, ◌||◌, nat_lt, Bool, true, false, List, [], ◌∷◌, ◌++◌, codes, slice_index, Option, Some, None, Result, Ok, Err, if◌then◌else◌}
+use Rattle.std.specs.Prelude.{ℕ, ◌==◌, nat_lt, Bool, true, false, List, [], ◌∷◌, ◌++◌, codes, slice_index, Option, Some, None, Result, Ok, Err, if◌then◌else◌}
 use Rattle.std.specs.Str.{bytes_eq}
 use Rattle.std.specs.List.{list_all, list_any}
 use Rattle.hex.specs.Hex.{decode_of, decode_sized}
@@ -94,22 +94,30 @@ first_byte (Err e) = None
 abbrev pub byte_of : List ℕ → Option ℕ
 byte_of word = first_byte (decode_sized word 1)
 
--- the bytes of words of digits, behind others: each word has whole bytes
-abbrev pub hex_then : List ℕ → Result (List ℕ) FromHexError → (List ℕ → Result (List ℕ) DeckWhy) → Result (List ℕ) DeckWhy
-hex_then sofar (Ok bytes) go = go (sofar ++ bytes)
-hex_then sofar (Err e) go = Err Hex
+-- whole bytes
+abbrev pub decoded : Result (List ℕ) FromHexError → Result (List ℕ) DeckWhy
+decoded (Ok bytes) = Ok bytes
+decoded (Err e) = Err Hex
 
+abbrev pub word_bytes : List ℕ → Result (List ℕ) DeckWhy
+word_bytes word = decoded (decode_of word)
+
+-- the bytes of words of digits, behind others
 abbrev pub bytes_of : List ℕ → List (List ℕ) → Result (List ℕ) DeckWhy
 bytes_of sofar [] = Ok sofar
-bytes_of sofar (word ∷ words) = hex_then sofar (decode_of word) (λ more. bytes_of more words)
+bytes_of sofar (word ∷ words) = and_then (word_bytes word) (λ bytes. bytes_of (sofar ++ bytes) words)
 
--- CCW cc ff n and its bytes: the count is looked at before any digits
+-- the command, the flags and the count: the count is looked at before any digits
+abbrev pub head_of : List ℕ → List ℕ → List ℕ → Result (ℕ × ℕ × ℕ) DeckWhy
+head_of code flags count =
+    and_then (needed Number (number_in 0 65535 count)) (λ n.
+        and_then (needed Hex (byte_of code)) (λ c. and_then (needed Hex (byte_of flags)) (λ f. Ok (c, f, n))))
+
+-- CCW cc ff n and its bytes
 abbrev pub ccw_line : List (List ℕ) → Result Ccw DeckWhy
 ccw_line [] = Err Words
 ccw_line (code ∷ []) = Err Words
 ccw_line (code ∷ flags ∷ []) = Err Words
 ccw_line (code ∷ flags ∷ count ∷ bytes) =
-    and_then (needed Number (number_in 0 65535 count)) (λ n.
-        and_then (needed Hex (byte_of code)) (λ c.
-            and_then (needed Hex (byte_of flags)) (λ f.
-                and_then (bytes_of [] bytes) (λ given. Ok (record { command = c; flags = f; count = n; given = given })))))
+    and_then (head_of code flags count) (λ h.
+        and_then (bytes_of [] bytes) (λ given. Ok (record { command = h.0; flags = h.1; count = h.2; given = given })))

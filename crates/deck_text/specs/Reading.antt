@@ -1,5 +1,5 @@
 -- What a line does to a reading.
-use Rattle.std.specs.Prelude.{◌≡◌, ℕ, ◌+◌, nat_le, Bool, true, false, List, [], ◌∷◌, ◌++◌, length, slice_index_or, Option, Some, None, Result, Ok, Err, if◌then◌else◌}
+use Rattle.std.specs.Prelude.{ℕ, ◌<◌, nat_le, Bool, true, false, List, [], ◌∷◌, ◌++◌, length, slice_index_or, Option, Some, None, Result, Ok, Err, if◌then◌else◌}
 use Rattle.ckd_types.specs.declared.channel.Ccw.{Ccw}
 use Rattle.ckd_types.specs.declared.channel.Why.{Why}
 use Rattle.ckd_types.specs.Program.{first_fault}
@@ -27,6 +27,11 @@ pub record State : Type 0 where
   pub words : List Ccw
   pub lines : List ℕ
 
+-- where a program is open the deck has room for it
+abbrev pub HasRoom : Place → ℕ → Type 0
+HasRoom (places.Inside path device) programs = programs < 512
+HasRoom _ programs = Unit {0}
+
 -- which lines may stand at a place
 abbrev pub may_stand : Keyword → Place → Bool
 may_stand Deck places.Front = true
@@ -52,16 +57,25 @@ abbrev pub or_refuse : {T : Type 0} → ℕ → Result T DeckWhy → (T → Resu
 or_refuse n (Err why) go = Err (Refused n why)
 or_refuse n (Ok x) go = go x
 
--- a program's END: its first bad word is named, or END where there is no word
-abbrev pub end_program : ℕ → State → Place → Option (ℕ × Why) → Result State DeckFault
-end_program n s (places.Inside path device) None = Ok (record s {
+-- the path and the device of the program that is open
+abbrev pub open_program : Place → Option (ℕ × ℕ)
+open_program (places.Inside path device) = Some (path, device)
+open_program _ = None
+
+-- the program is a part of the deck, and none is open
+abbrev pub with_program : State → ℕ × ℕ → State
+with_program s at = record s {
   place = places.Programs;
-  deck = record s.deck { programs = s.deck.programs ++ record { path = path; device = device; program = s.words } ∷ [] };
+  deck = record s.deck { programs = s.deck.programs ++ record { path = at.0; device = at.1; program = s.words } ∷ [] };
   words = [];
   lines = [];
-})
-end_program n s place (Some fault) = Err (Refused (slice_index_or s.lines fault.0 n) reasons.Program)
-end_program n s place None = Err (Refused n reasons.Order)
+}
+
+-- a program's END: its first bad word is named, or END where there is no word
+abbrev pub end_program : ℕ → State → Option (ℕ × ℕ) → Option (ℕ × Why) → Result State DeckFault
+end_program n s None fault = Err (Refused n reasons.Order)
+end_program n s (Some at) (Some fault) = Err (Refused (slice_index_or s.lines fault.0 n) reasons.Program)
+end_program n s (Some at) None = Ok (with_program s at)
 
 -- what a line with this first word does
 abbrev pub put : ℕ → State → Keyword → List (List ℕ) → Result State DeckFault
@@ -82,7 +96,7 @@ put n s ChannelWord words =
     or_refuse n (ccw_line words) (λ ccw.
         if nat_le 256 (length s.words) then Err (Refused n reasons.Program)
         else Ok (record s { words = s.words ++ ccw ∷ []; lines = s.lines ++ n ∷ [] }))
-put n s End words = or_refuse n (no_words words) (λ none. end_program n s s.place (first_fault s.words))
+put n s End words = or_refuse n (no_words words) (λ none. end_program n s (open_program s.place) (first_fault s.words))
 put n s Events words = or_refuse n (no_words words) (λ none. Ok (record s { place = places.Events }))
 put n s (Event word) words =
     or_refuse n (event_line s.deck.devices word words) (λ line.

@@ -1,4 +1,4 @@
-ghost use Rattle.std.specs.Prelude.{◌≡◌, ◌<◌, ◌++◌, ◌∷◌, [], IfOk, OnOk, length, slice_index_or};
+ghost use Rattle.std.specs.Prelude.{◌≡◌, ◌<◌, ◌++◌, ◌∷◌, [], IfOk, OnOk, OnErr, length, slice_index_or};
 ghost use Rattle.deck_text.specs.DeckLines.{no_lines};
 ghost use Rattle.deck_text.specs.Plans.{plans_of};
 
@@ -56,14 +56,16 @@ impl Deck {
     }
 
     pub(crate) fn push_device(&mut self, line: DeviceLine) -> Result<(), NoMemory>
-        ensures { OnOk result (self.new ≡ record self.old { devices = self.old.devices ++ line ∷ [] }) }
+        ensures ok { OnOk result (self.new ≡ record self.old { devices = self.old.devices ++ line ∷ [] }) }
+        ensures err { OnErr result (self.new ≡ self.old) }
     {
         self.devices.push(line)?;
         Ok(())
     }
 
     pub(crate) fn push_fault(&mut self, line: FaultLine) -> Result<(), NoMemory>
-        ensures { OnOk result (self.new ≡ record self.old { faults = self.old.faults ++ line ∷ [] }) }
+        ensures ok { OnOk result (self.new ≡ record self.old { faults = self.old.faults ++ line ∷ [] }) }
+        ensures err { OnErr result (self.new ≡ self.old) }
     {
         self.faults.push(line)?;
         Ok(())
@@ -75,13 +77,15 @@ impl Deck {
         planned: PlannedProgram,
     ) -> Result<(), NoMemory>
         requires { length self.old.programs < 512 }
-        ensures { OnOk result (self.new ≡ record self.old { programs = self.old.programs ++ planned ∷ [] }) }
+        ensures ok { OnOk result (self.new ≡ record self.old { programs = self.old.programs ++ planned ∷ [] }) }
+        ensures err { OnErr result (self.new ≡ self.old) }
     {
         self.programs.push(alloc, planned)
     }
 
     pub(crate) fn push_event(&mut self, line: EventLine) -> Result<(), NoMemory>
-        ensures { OnOk result (self.new ≡ record self.old { events = self.old.events ++ line ∷ [] }) }
+        ensures ok { OnOk result (self.new ≡ record self.old { events = self.old.events ++ line ∷ [] }) }
+        ensures err { OnErr result (self.new ≡ self.old) }
     {
         self.schedule.reserve(1)?;
         self.schedule.push(line);
