@@ -22,7 +22,7 @@ device_words devices words = and_then (needed Words (one_word words)) (device_of
 abbrev pub pair_words : List DeviceLine → List (List ℕ) → Result (ℕ × ℕ) DeckWhy
 pair_words devices words =
     and_then (needed Words (two_words words)) (λ w.
-        and_then (device_of devices w.0) (λ a. and_then (device_of devices w.1) (λ b. Ok (a, b))))
+    and_then (device_of devices w.0) (λ a. and_then (device_of devices w.1) (λ b. Ok (a, b))))
 
 -- a device and a side
 abbrev pub side_words : List DeviceLine → List ℕ → List ℕ → Result (ℕ × Side) DeckWhy

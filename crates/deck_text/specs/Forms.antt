@@ -48,9 +48,9 @@ rising devices line = if rises devices line.number then Ok line else Err Number
 abbrev pub device_line : List DeviceLine → List (List ℕ) → Result DeviceLine DeckWhy
 device_line devices words =
     and_then (needed Words (three_words words)) (λ w.
-        and_then (needed Number (number_in 0 15 w.0)) (λ d.
-            and_then (needed Number (geometry_of w.1)) (λ g.
-                and_then (needed Number (number_in 1 64 w.2)) (λ c. rising devices (record { number = d; geometry = g; cylinders = c })))))
+    and_then (needed Number (number_in 0 15 w.0)) (λ d.
+    and_then (needed Number (geometry_of w.1)) (λ g.
+    and_then (needed Number (number_in 1 64 w.2)) (λ c. rising devices (record { number = d; geometry = g; cylinders = c })))))
 
 -- a declared device
 abbrev pub is_declared : List DeviceLine → ℕ → Bool
@@ -76,15 +76,15 @@ side_of word = if bytes_eq word (codes "A") then Some A else if bytes_eq word (c
 abbrev pub fault_line : List DeviceLine → List (List ℕ) → Result FaultLine DeckWhy
 fault_line devices words =
     and_then (needed Words (three_words words)) (λ w.
-        and_then (needed Words (is_write w.1)) (λ write.
-            and_then (device_of devices w.0) (λ d.
-                and_then (needed Number (number_in 1 4294967295 w.2)) (λ n. Ok (record { device = d; write = write; call = n })))))
+    and_then (needed Words (is_write w.1)) (λ write.
+    and_then (device_of devices w.0) (λ d.
+    and_then (needed Number (number_in 1 4294967295 w.2)) (λ n. Ok (record { device = d; write = write; call = n })))))
 
 -- a path and a device
 abbrev pub path_and_device : List DeviceLine → List (List ℕ) → Result (ℕ × ℕ) DeckWhy
 path_and_device devices words =
     and_then (needed Words (two_words words)) (λ w.
-        and_then (path_of w.0) (λ p. and_then (device_of devices w.1) (λ d. Ok (p, d))))
+    and_then (path_of w.0) (λ p. and_then (device_of devices w.1) (λ d. Ok (p, d))))
 
 -- two hex digits of either case
 abbrev pub first_byte : Result (List ℕ) FromHexError → Option ℕ
@@ -111,7 +111,7 @@ bytes_of sofar (word ∷ words) = and_then (word_bytes word) (λ bytes. bytes_of
 abbrev pub head_of : List ℕ → List ℕ → List ℕ → Result (ℕ × ℕ × ℕ) DeckWhy
 head_of code flags count =
     and_then (needed Number (number_in 0 65535 count)) (λ n.
-        and_then (needed Hex (byte_of code)) (λ c. and_then (needed Hex (byte_of flags)) (λ f. Ok (c, f, n))))
+    and_then (needed Hex (byte_of code)) (λ c. and_then (needed Hex (byte_of flags)) (λ f. Ok (c, f, n))))
 
 -- CCW cc ff n and its bytes
 abbrev pub ccw_line : List (List ℕ) → Result Ccw DeckWhy
@@ -120,4 +120,4 @@ ccw_line (code ∷ []) = Err Words
 ccw_line (code ∷ flags ∷ []) = Err Words
 ccw_line (code ∷ flags ∷ count ∷ bytes) =
     and_then (head_of code flags count) (λ h.
-        and_then (bytes_of [] bytes) (λ given. Ok (record { command = h.0; flags = h.1; count = h.2; given = given })))
+    and_then (bytes_of [] bytes) (λ given. Ok (record { command = h.0; flags = h.1; count = h.2; given = given })))

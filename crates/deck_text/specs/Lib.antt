@@ -9,3 +9,4 @@ pub mod Events
 pub mod Reading
 pub mod Parse
 pub mod Answers
+pub mod Canonical

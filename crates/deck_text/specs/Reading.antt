@@ -86,22 +86,22 @@ put n s Device words =
     or_refuse n (device_line s.deck.devices words) (λ line. Ok (record s { place = places.Devices; deck = record s.deck { devices = s.deck.devices ++ line ∷ [] } }))
 put n s Fault words =
     or_refuse n (fault_line s.deck.devices words) (λ line.
-        if nat_le 1024 (length s.deck.faults) then Err (Limit limits.Faults)
-        else Ok (record s { place = places.Faults; deck = record s.deck { faults = s.deck.faults ++ line ∷ [] } }))
+    if nat_le 1024 (length s.deck.faults) then Err (Limit limits.Faults)
+    else Ok (record s { place = places.Faults; deck = record s.deck { faults = s.deck.faults ++ line ∷ [] } }))
 put n s Program words =
     or_refuse n (path_and_device s.deck.devices words) (λ at.
-        if nat_le 512 (length s.deck.programs) then Err (Limit limits.Programs)
-        else Ok (record s { place = places.Inside at.0 at.1; words = []; lines = [] }))
+    if nat_le 512 (length s.deck.programs) then Err (Limit limits.Programs)
+    else Ok (record s { place = places.Inside at.0 at.1; words = []; lines = [] }))
 put n s ChannelWord words =
     or_refuse n (ccw_line words) (λ ccw.
-        if nat_le 256 (length s.words) then Err (Refused n reasons.Program)
-        else Ok (record s { words = s.words ++ ccw ∷ []; lines = s.lines ++ n ∷ [] }))
+    if nat_le 256 (length s.words) then Err (Refused n reasons.Program)
+    else Ok (record s { words = s.words ++ ccw ∷ []; lines = s.lines ++ n ∷ [] }))
 put n s End words = or_refuse n (no_words words) (λ none. end_program n s (open_program s.place) (first_fault s.words))
 put n s Events words = or_refuse n (no_words words) (λ none. Ok (record s { place = places.Events }))
 put n s (Event word) words =
     or_refuse n (event_line s.deck.devices word words) (λ line.
-        if nat_le 65536 (length s.deck.events) then Err (Limit limits.Events)
-        else Ok (record s { deck = record s.deck { events = s.deck.events ++ line ∷ [] } }))
+    if nat_le 65536 (length s.deck.events) then Err (Limit limits.Events)
+    else Ok (record s { deck = record s.deck { events = s.deck.events ++ line ∷ [] } }))
 
 abbrev pub put_words : ℕ → State → Option Keyword → List (List ℕ) → Result State DeckFault
 put_words n s None words = Err (Refused n reasons.Word)

@@ -98,6 +98,18 @@ impl Deck {
         &self.devices
     }
 
+    pub(crate) fn faults(&self) -> &[FaultLine]
+        ensures { result.now ≡ self.now.faults }
+    {
+        &self.faults
+    }
+
+    pub(crate) fn programs(&self) -> &[PlannedProgram]
+        ensures { result.now ≡ self.now.programs }
+    {
+        self.programs.programs()
+    }
+
     /// The frames of the cache.
     pub fn frames(&self) -> u16
         ensures { result ≡ self.now.frames }

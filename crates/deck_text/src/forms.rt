@@ -152,10 +152,7 @@ pub fn fault_line(devices: &[DeviceLine], rest: &[u8]) -> Result<FaultLine, Deck
 }
 
 /// A path and a device.
-pub fn path_and_device(
-    devices: &[DeviceLine],
-    rest: &[u8],
-) -> Result<(PathNo, DeviceNo), DeckWhy>
+pub fn path_and_device(devices: &[DeviceLine], rest: &[u8]) -> Result<(PathNo, DeviceNo), DeckWhy>
     ensures { result ≡ path_and_device devices.now (words_of rest.now) }
 {
     let (path, device) = two_words(rest).ok_or(DeckWhy::Words)?;

@@ -14,7 +14,12 @@ mod planned;
 mod read;
 mod reading;
 mod words;
+mod write;
+mod write_events;
+mod write_lines;
+mod write_programs;
 
 pub use deck::Deck;
-pub use read::read_deck;
 pub use line::{DeckFault, DeckWhy, DeviceLine, FaultLine, PlannedProgram, Which};
+pub use read::read_deck;
+pub use write::write_deck;
