@@ -1,5 +1,5 @@
 -- Where the first word of a line ends.
-use Rattle.std.proofs.Common.{◌≡◌, ◌≢◌, ◌<◌, ◌==◌, ◌∷◌, [], ℕ, zero, suc, List, length, get_or, take, drop, refl, arith, ap, ◌∙◌}
+use Rattle.std.proofs.Common.{◌≡◌, ◌≢◌, ◌<◌, ◌∷◌, [], ℕ, zero, suc, List, length, get_or, take, drop, refl, arith, ap, ◌∙◌}
 use Rattle.std.proofs.lemmas.Bool.Decides.{nat_tests}
 use Rattle.deck_text.specs.Lines.{onto_first}
 use Rattle.deck_text.specs.Words.{words_of, word_and}

@@ -1,5 +1,5 @@
 -- The programs of a deck by device and path.
-use Rattle.std.specs.Prelude.{◌≡◌, ◌<◌, ◌≤◌, ℕ, ◌==◌, List, [], ◌∷◌, length, slice_index_or, if◌then◌else◌}
+use Rattle.std.specs.Prelude.{◌≡◌, ◌<◌, ℕ, ◌==◌, List, [], ◌∷◌, length, slice_index_or, if◌then◌else◌}
 use Rattle.deck_plan.specs.Plans.{Plans, no_plans, with_program}
 use Rattle.deck_text.specs.declared.line.PlannedProgram.{PlannedProgram}
 

@@ -8,7 +8,6 @@ use Rattle.deck_text.specs.declared.line.DeckWhy.TheVariants as reasons
 use Rattle.deck_text.specs.declared.line.Which.TheVariants as limits
 use Rattle.deck_text.specs.declared.line.DeckFault.{DeckFault}
 use Rattle.deck_text.specs.declared.line.DeckFault.TheVariants.{Refused, Limit}
-use Rattle.deck_text.specs.declared.line.PlannedProgram.{PlannedProgram}
 use Rattle.deck_text.specs.declared.keyword.Keyword.{Keyword}
 use Rattle.deck_text.specs.declared.keyword.Keyword.TheVariants.{Deck, Cache, Store, Device, Fault, Program, Ccw as ChannelWord, End, Events, Event}
 use Rattle.deck_text.specs.declared.place.Place.{Place}

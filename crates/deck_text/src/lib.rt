@@ -13,6 +13,8 @@ mod place;
 mod planned;
 mod read;
 mod reading;
+#[cfg(test)]
+mod tests;
 mod words;
 mod write;
 mod write_events;

@@ -1,4 +1,4 @@
-use Rattle.std.proofs.Common.{◌≡◌, ◌≤◌, ℕ, length, get_or}
+use Rattle.std.proofs.Common.{◌≡◌, ℕ, length, get_or}
 use Rattle.deck_plan.specs.Plans.{no_plans}
 use Rattle.deck_text.proofs.planned.empty_plans.Given as goal
 

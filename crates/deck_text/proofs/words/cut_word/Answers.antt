@@ -1,4 +1,4 @@
-use Rattle.std.proofs.Common.{◌≡◌, ◌∙◌, ap, sym, ℕ, List, take, arith}
+use Rattle.std.proofs.Common.{◌∙◌, ap, sym, ℕ, List, take, arith}
 use Rattle.deck_text.specs.Words.{words_of, word_and}
 use Rattle.deck_text.proofs.LineLemmas.{rest_from}
 use Rattle.deck_text.proofs.WordLemmas.{word_cut, word_only}
