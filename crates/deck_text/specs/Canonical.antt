@@ -1,4 +1,4 @@
--- The canonical text of a deck: the lines of its decks without those that are skipped.
+-- The canonical text of a deck: its lines without those that were skipped.
 use Rattle.std.specs.Prelude.{ℕ, List, [], ◌∷◌, ◌++◌, codes, decimal, Bool, if◌then◌else◌}
 use Rattle.std.specs.List.{flat_map}
 use Rattle.hex.specs.Hex.{encode_upper}

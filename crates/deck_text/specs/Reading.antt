@@ -62,8 +62,8 @@ open_program (places.Inside path device) = Some (path, device)
 open_program _ = None
 
 -- the program is a part of the deck, and none is open
-abbrev pub with_program : State → ℕ × ℕ → State
-with_program s at = record s {
+abbrev pub ended : State → ℕ × ℕ → State
+ended s at = record s {
   place = places.Programs;
   deck = record s.deck { programs = s.deck.programs ++ record { path = at.0; device = at.1; program = s.words } ∷ [] };
   words = [];
@@ -74,7 +74,7 @@ with_program s at = record s {
 abbrev pub end_program : ℕ → State → Option (ℕ × ℕ) → Option (ℕ × Why) → Result State DeckFault
 end_program n s None fault = Err (Refused n reasons.Order)
 end_program n s (Some at) (Some fault) = Err (Refused (slice_index_or s.lines fault.0 n) reasons.Program)
-end_program n s (Some at) None = Ok (with_program s at)
+end_program n s (Some at) None = Ok (ended s at)
 
 -- what a line with this first word does
 abbrev pub put : ℕ → State → Keyword → List (List ℕ) → Result State DeckFault
