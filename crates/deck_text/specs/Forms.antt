@@ -1,66 +1,123 @@
--- The form of each line of a deck.
-use Rattle.std.specs.Prelude.{ℕ, ◌==◌, ◌&&◌, ◌||◌, nat_le, nat_eq, Bool, true, false, List, [], length, drop, slice_range, codes, Option, Some, None, if◌then◌else◌}
+-- What the words behind the first one say, for each line up to the events.
+use Rattle.std.specs.Prelude.{ℕ, ◌==◌, nat_lt, Bool, true, false, List, [], ◌∷◌, ◌++◌, codes, slice_index, Option, Some, None, Result, Ok, Err, if◌then◌else◌}
 use Rattle.std.specs.Str.{bytes_eq}
-use Rattle.std.specs.List.{starts_with}
-use Rattle.deck_text.specs.declared.deck.Deck.{Deck}
-use Rattle.deck_text.specs.Numbers.{number_of, byte_at}
+use Rattle.std.specs.List.{list_all, list_any}
+use Rattle.hex.specs.Hex.{decode_of, decode_sized}
+use Rattle.hex.specs.declared.error.FromHexError.{FromHexError}
+use Rattle.ckd_types.specs.declared.channel.Ccw.{Ccw}
+use Rattle.ckd_types.specs.declared.paths.Side.{Side}
+use Rattle.ckd_types.specs.declared.paths.Side.TheVariants.{A, B}
+use Rattle.deck_text.specs.declared.line.DeckWhy.{DeckWhy}
+use Rattle.deck_text.specs.declared.line.DeckWhy.TheVariants.{Words, Number, Hex}
+use Rattle.deck_text.specs.declared.line.DeviceLine.{DeviceLine}
+use Rattle.deck_text.specs.declared.line.FaultLine.{FaultLine}
+use Rattle.deck_text.specs.Numbers.{number_in, geometry_of}
+use Rattle.deck_text.specs.Words.{one_word, two_words, three_words}
 
-abbrev pub located : Deck → Option ℕ → Option ℕ → Option ℕ → Option Deck
-located d (Some t) (Some u) (Some r) = if (t == u) && nat_le t 14 then Some (record d { track = t; number = r }) else None
-located d (Some t) (Some u) None = None
-located d (Some t) None r = None
-located d None u r = None
+-- what is there, or the reason
+abbrev pub needed : {T : Type 0} → DeckWhy → Option T → Result T DeckWhy
+needed why None = Err why
+needed why (Some x) = Ok x
 
--- CCW 47 40 16 06000001 000000tt 000000tt rr000000, whatever tt and rr are
-unfoldable pub is_locate : List ℕ → Bool
-is_locate line =
-    (length line == 48)
-    && bytes_eq (slice_range line 0 28) (codes "CCW 47 40 16 06000001 000000")
-    && bytes_eq (slice_range line 30 37) (codes " 000000")
-    && bytes_eq (slice_range line 39 40) (codes " ")
-    && bytes_eq (slice_range line 42 48) (codes "000000")
+abbrev pub and_then : {S T : Type 0} → Result S DeckWhy → (S → Result T DeckWhy) → Result T DeckWhy
+and_then (Err why) go = Err why
+and_then (Ok x) go = go x
 
-abbrev pub locate_line : List ℕ → Deck → Option Deck
-locate_line line d = if is_locate line then located d (byte_at line 28) (byte_at line 37) (byte_at line 40) else None
+abbrev pub no_words : List (List ℕ) → Result (Unit {0}) DeckWhy
+no_words [] = Ok tt
+no_words (word ∷ words) = Err Words
 
--- CCW 06 00 n, or CCW 86 00 n, which is multitrack
-unfoldable pub reads_multitrack : List ℕ → Option Bool
-reads_multitrack line = if starts_with nat_eq line (codes "CCW 06 00 ") then Some false else if starts_with nat_eq line (codes "CCW 86 00 ") then Some true else None
+-- DECK 1
+unfoldable pub is_one : List ℕ → Bool
+is_one word = bytes_eq word (codes "1")
 
-abbrev pub counted : Deck → Option Bool → Option ℕ → Option Deck
-counted d (Some multitrack) (Some n) = Some (record d { multitrack = multitrack; count = n })
-counted d (Some multitrack) None = None
-counted d None n = None
+abbrev pub deck_line : List (List ℕ) → Result (Unit {0}) DeckWhy
+deck_line words = and_then (needed Words (one_word words)) (λ w. if is_one w then Ok tt else Err Words)
 
-abbrev pub read_line : List ℕ → Deck → Option Deck
-read_line line d = counted d (reads_multitrack line) (number_of (drop 10 line))
+-- CACHE n and STORE n
+abbrev pub count_line : ℕ → ℕ → List (List ℕ) → Result ℕ DeckWhy
+count_line least most words = and_then (needed Words (one_word words)) (λ w. needed Number (number_in least most w))
 
--- the lines that are one text
-unfoldable pub text_at : ℕ → List ℕ
-text_at n =
-    if n == 1 then codes "DECK 1"
-    else if n == 2 then codes "CACHE 1"
-    else if n == 3 then codes "STORE 0"
-    else if n == 4 then codes "DEVICE 0 3390 1"
-    else if n == 5 then codes "PROGRAM 1 0"
-    else if n == 6 then codes "CCW 63 40 16 40C01000 00000000 00000000 0000000E"
-    else if n == 9 then codes "END"
-    else if n == 10 then codes "EVENTS"
-    else if n == 11 then codes "START 1 0"
-    else if n == 12 then codes "RUN 0"
-    else []
+-- DEVICE d g c, behind these lines, whose numbers are all less
+abbrev pub rises : List DeviceLine → ℕ → Bool
+rises devices d = list_all (λ line. nat_lt line.number d) devices
 
--- what such a line says
-abbrev pub changed : ℕ → Deck → Deck
-changed n d =
-    if n == 11 then record d { started = true }
-    else if n == 12 then record d { ran = true }
-    else d
+abbrev pub rising : List DeviceLine → DeviceLine → Result DeviceLine DeckWhy
+rising devices line = if rises devices line.number then Ok line else Err Number
 
--- the line of this number
-abbrev pub put_line : ℕ → List ℕ → Deck → Option Deck
-put_line n line d =
-    if n == 7 then locate_line line d
-    else if n == 8 then read_line line d
-    else if nat_le n 12 && bytes_eq line (text_at n) then Some (changed n d)
-    else None
+abbrev pub device_line : List DeviceLine → List (List ℕ) → Result DeviceLine DeckWhy
+device_line devices words =
+    and_then (needed Words (three_words words)) (λ w.
+    and_then (needed Number (number_in 0 15 w.0)) (λ d.
+    and_then (needed Number (geometry_of w.1)) (λ g.
+    and_then (needed Number (number_in 1 64 w.2)) (λ c. rising devices (record { number = d; geometry = g; cylinders = c })))))
+
+-- a declared device
+abbrev pub is_declared : List DeviceLine → ℕ → Bool
+is_declared devices d = list_any (λ line. line.number == d) devices
+
+abbrev pub declared : List DeviceLine → ℕ → Result ℕ DeckWhy
+declared devices d = if is_declared devices d then Ok d else Err Number
+
+abbrev pub device_of : List DeviceLine → List ℕ → Result ℕ DeckWhy
+device_of devices word = and_then (needed Number (number_in 0 15 word)) (declared devices)
+
+abbrev pub path_of : List ℕ → Result ℕ DeckWhy
+path_of word = needed Number (number_in 1 4 word)
+
+-- READ, or WRITE
+unfoldable pub is_write : List ℕ → Option Bool
+is_write word = if bytes_eq word (codes "READ") then Some false else if bytes_eq word (codes "WRITE") then Some true else None
+
+unfoldable pub side_of : List ℕ → Option Side
+side_of word = if bytes_eq word (codes "A") then Some A else if bytes_eq word (codes "B") then Some B else None
+
+-- FAULT d READ n, or WRITE
+abbrev pub fault_line : List DeviceLine → List (List ℕ) → Result FaultLine DeckWhy
+fault_line devices words =
+    and_then (needed Words (three_words words)) (λ w.
+    and_then (needed Words (is_write w.1)) (λ write.
+    and_then (device_of devices w.0) (λ d.
+    and_then (needed Number (number_in 1 4294967295 w.2)) (λ n. Ok (record { device = d; write = write; call = n })))))
+
+-- a path and a device
+abbrev pub path_and_device : List DeviceLine → List (List ℕ) → Result (ℕ × ℕ) DeckWhy
+path_and_device devices words =
+    and_then (needed Words (two_words words)) (λ w.
+    and_then (path_of w.0) (λ p. and_then (device_of devices w.1) (λ d. Ok (p, d))))
+
+-- two hex digits of either case
+abbrev pub first_byte : Result (List ℕ) FromHexError → Option ℕ
+first_byte (Ok bytes) = Some (slice_index bytes 0)
+first_byte (Err e) = None
+
+abbrev pub byte_of : List ℕ → Option ℕ
+byte_of word = first_byte (decode_sized word 1)
+
+-- whole bytes
+abbrev pub decoded : Result (List ℕ) FromHexError → Result (List ℕ) DeckWhy
+decoded (Ok bytes) = Ok bytes
+decoded (Err e) = Err Hex
+
+abbrev pub word_bytes : List ℕ → Result (List ℕ) DeckWhy
+word_bytes word = decoded (decode_of word)
+
+-- the bytes of words of digits, behind others
+abbrev pub bytes_of : List ℕ → List (List ℕ) → Result (List ℕ) DeckWhy
+bytes_of sofar [] = Ok sofar
+bytes_of sofar (word ∷ words) = and_then (word_bytes word) (λ bytes. bytes_of (sofar ++ bytes) words)
+
+-- the command, the flags and the count: the count is looked at before any digits
+abbrev pub head_of : List ℕ → List ℕ → List ℕ → Result (ℕ × ℕ × ℕ) DeckWhy
+head_of code flags count =
+    and_then (needed Number (number_in 0 65535 count)) (λ n.
+    and_then (needed Hex (byte_of code)) (λ c. and_then (needed Hex (byte_of flags)) (λ f. Ok (c, f, n))))
+
+-- CCW cc ff n and its bytes
+abbrev pub ccw_line : List (List ℕ) → Result Ccw DeckWhy
+ccw_line [] = Err Words
+ccw_line (code ∷ []) = Err Words
+ccw_line (code ∷ flags ∷ []) = Err Words
+ccw_line (code ∷ flags ∷ count ∷ bytes) =
+    and_then (head_of code flags count) (λ h.
+    and_then (bytes_of [] bytes) (λ given. Ok (record { command = h.0; flags = h.1; count = h.2; given = given })))

@@ -1,5 +1,12 @@
 pub mod Lines
+pub mod Words
 pub mod Numbers
-pub mod Program
+pub mod Keywords
+pub mod DeckLines
+pub mod Plans
 pub mod Forms
+pub mod Events
+pub mod Reading
 pub mod Parse
+pub mod Answers
+pub mod Canonical

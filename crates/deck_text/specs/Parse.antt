@@ -1,24 +1,31 @@
--- What a text is: a deck, or the first fault.
-use Rattle.std.specs.Prelude.{◌≡◌, ℕ, ◌+◌, nat_le, nat_lt, false, List, [], ◌∷◌, length, Option, Some, None, Result, Ok, Err, if◌then◌else◌}
-use Rattle.deck_text.specs.declared.deck.Deck.{Deck}
-use Rattle.deck_text.specs.declared.deck.DeckWhy.TheVariants.{Later, Unfinished}
-use Rattle.deck_text.specs.declared.deck.Which.TheVariants.{Size}
-use Rattle.deck_text.specs.declared.deck.DeckFault.{DeckFault}
-use Rattle.deck_text.specs.declared.deck.DeckFault.TheVariants.{Refused, Limit}
+-- What a text is: a deck, or its first fault.
+use Rattle.std.specs.Prelude.{ℕ, ◌+◌, nat_lt, List, [], ◌∷◌, length, Result, Ok, Err, if◌then◌else◌}
+use Rattle.deck_text.specs.declared.line.DeckWhy.TheVariants.{Unfinished}
+use Rattle.deck_text.specs.declared.line.Which.TheVariants.{Size}
+use Rattle.deck_text.specs.declared.line.DeckFault.{DeckFault}
+use Rattle.deck_text.specs.declared.line.DeckFault.TheVariants.{Refused, Limit}
+use Rattle.deck_text.specs.declared.place.Place.{Place}
+use Rattle.deck_text.specs.declared.place.Place.TheVariants as places
+use Rattle.deck_text.specs.DeckLines.{DeckLines, no_lines}
 use Rattle.deck_text.specs.Lines.{lines_of}
-use Rattle.deck_text.specs.Forms.{put_line}
+use Rattle.deck_text.specs.Reading.{State, take_line}
 
-abbrev pub empty_deck : Deck
-empty_deck = record { track = 0; number = 0; multitrack = false; count = 0; started = false; ran = false }
+abbrev pub start : State
+start = record { place = places.Front; deck = no_lines; words = []; lines = [] }
 
-abbrev pub or_refuse : ℕ → Option Deck → (Deck → Result Deck DeckFault) → Result Deck DeckFault
-or_refuse n (Some d) go = go d
-or_refuse n None go = Err (Refused n Later)
+-- a text that ends before EVENTS isn't finished
+abbrev pub finished : ℕ → Place → DeckLines → Result DeckLines DeckFault
+finished n places.Events deck = Ok deck
+finished n _ deck = Err (Refused n Unfinished)
 
--- the lines from number n on, behind a deck
-abbrev pub read_lines : ℕ → Deck → List (List ℕ) → Result Deck DeckFault
-read_lines n d [] = if nat_le n 10 then Err (Refused n Unfinished) else Ok d
-read_lines n d (line ∷ lines) = or_refuse n (put_line n line d) (λ e. read_lines (n + 1) e lines)
+abbrev pub or_stop : Result State DeckFault → (State → Result DeckLines DeckFault) → Result DeckLines DeckFault
+or_stop (Err fault) go = Err fault
+or_stop (Ok s) go = go s
 
-abbrev pub parsed : List ℕ → Result Deck DeckFault
-parsed text = if nat_lt 16777216 (length text) then Err (Limit Size) else read_lines 1 empty_deck (lines_of text)
+-- the lines from number n on
+abbrev pub read_lines : ℕ → State → List (List ℕ) → Result DeckLines DeckFault
+read_lines n s [] = finished n s.place s.deck
+read_lines n s (line ∷ lines) = or_stop (take_line n line s) (λ t. read_lines (n + 1) t lines)
+
+abbrev pub parsed : List ℕ → Result DeckLines DeckFault
+parsed text = if nat_lt 16777216 (length text) then Err (Limit Size) else read_lines 1 start (lines_of text)

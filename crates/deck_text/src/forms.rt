@@ -1,127 +1,162 @@
-ghost use Rattle.std.specs.Prelude.{◌≡◌, ◌<◌, ◌+◌, ◌≤◌, length, true, false, Some, None, IsSome, IsTrue, if◌then◌else◌};
-ghost use Rattle.std.specs.Str.{bytes_eq};
-ghost use Rattle.deck_text.specs.Forms.{is_locate, located, locate_line, reads_multitrack, read_line, text_at, changed, put_line};
+ghost use Rattle.std.specs.Prelude.{◌≡◌, ◌≤◌, IfOk};
+ghost use Rattle.deck_text.specs.Words.{words_of};
+ghost use Rattle.deck_text.specs.Numbers.{number_in};
+ghost use Rattle.deck_text.specs.Forms.{no_words, is_one, deck_line, count_line, rises, device_line, is_declared, device_of, path_of, is_write, side_of, fault_line, path_and_device};
 
-use crate::Deck;
-use crate::numbers::{byte_at, number_of};
+use crate::keyword::is_text;
+use crate::numbers::{geometry_of, number_in};
+use crate::words::{next_word, one_word, three_words, two_words};
+use crate::{DeckWhy, DeviceLine, FaultLine};
+use ckd_types::{DeviceNo, PathNo, Side};
 
-fn is_text(text: &[u8], want: &[u8]) -> bool
-    ensures { result ≡ bytes_eq text.now want.now }
+const MOST_CALLS: u32 = 4_294_967_295;
+
+/// END and EVENTS.
+pub fn no_words(rest: &[u8]) -> Result<(), DeckWhy>
+    ensures { result ≡ no_words (words_of rest.now) }
 {
-    text == want
-}
-
-#[tactic(auto, unfolding(crate::specs::Forms::is_locate))]
-fn is_locate(line: &[u8]) -> bool
-    ensures { result ≡ is_locate line.now }
-{
-    line.len() == 48
-        && is_text(&line[0..28], b"CCW 47 40 16 06000001 000000")
-        && is_text(&line[30..37], b" 000000")
-        && is_text(&line[39..40], b" ")
-        && is_text(&line[42..48], b"000000")
-}
-
-fn located(deck: &mut Deck, t: Option<u8>, u: Option<u8>, r: Option<u8>) -> bool
-    ensures { located deck.old t u r ≡ (if result then Some deck.new else None) }
-{
-    let (Some(t), Some(u), Some(r)) = (t, u, r) else {
-        return false;
-    };
-    if t != u || t > 14 {
-        return false;
+    let (word, _) = next_word(rest);
+    if word.is_empty() {
+        Ok(())
+    } else {
+        Err(DeckWhy::Words)
     }
-    deck.track = t;
-    deck.number = r;
-    true
 }
 
-#[tactic(auto, unfolding(crate::specs::Forms::is_locate))]
-fn locate_line(line: &[u8], deck: &mut Deck) -> bool
-    ensures { locate_line line.now deck.old ≡ (if result then Some deck.new else None) }
+#[tactic(auto, unfolding(crate::specs::Forms::is_one))]
+fn is_one(word: &[u8]) -> bool
+    ensures { result ≡ is_one word.now }
 {
-    if !is_locate(line) {
-        return false;
+    is_text(word, b"1")
+}
+
+/// DECK 1.
+pub fn deck_line(rest: &[u8]) -> Result<(), DeckWhy>
+    ensures { result ≡ deck_line (words_of rest.now) }
+{
+    let word = one_word(rest).ok_or(DeckWhy::Words)?;
+    if is_one(word) {
+        Ok(())
+    } else {
+        Err(DeckWhy::Words)
     }
-    located(
-        deck,
-        byte_at(line, 28),
-        byte_at(line, 37),
-        byte_at(line, 40),
-    )
 }
 
-#[tactic(auto, unfolding(crate::specs::Forms::reads_multitrack))]
-fn reads_multitrack(line: &[u8]) -> Option<bool>
-    ensures value { result ≡ reads_multitrack line.now }
-    ensures long { IsSome result → 10 ≤ length line.now }
+/// CACHE n and STORE n.
+pub fn count_line(least: u32, most: u32, rest: &[u8]) -> Result<u32, DeckWhy>
+    ensures value { result ≡ count_line least most (words_of rest.now) }
+    ensures range { IfOk result (λ n. n ≤ most) }
 {
-    if line.starts_with(b"CCW 06 00 ") {
+    let word = one_word(rest).ok_or(DeckWhy::Words)?;
+    number_in(least, most, word).ok_or(DeckWhy::Number)
+}
+
+fn device_number(word: &[u8]) -> Option<DeviceNo>
+    ensures { result ≡ number_in 0 15 word.now }
+{
+    let n = number_in(0, 15, word)?;
+    DeviceNo::new(n as u8)
+}
+
+fn rises(devices: &[DeviceLine], device: DeviceNo) -> bool
+    ensures { result ≡ rises devices.now device }
+{
+    let d = device.get();
+    devices.iter().all(|line| line.number.get() < d)
+}
+
+/// DEVICE d g c, behind these lines.
+pub fn device_line(devices: &[DeviceLine], rest: &[u8]) -> Result<DeviceLine, DeckWhy>
+    ensures { result ≡ device_line devices.now (words_of rest.now) }
+{
+    let (number, geometry, cylinders) = three_words(rest).ok_or(DeckWhy::Words)?;
+    let number = device_number(number).ok_or(DeckWhy::Number)?;
+    let geometry = geometry_of(geometry).ok_or(DeckWhy::Number)?;
+    let cylinders = number_in(1, 64, cylinders).ok_or(DeckWhy::Number)?;
+    if !rises(devices, number) {
+        return Err(DeckWhy::Number);
+    }
+    Ok(DeviceLine {
+        number,
+        geometry,
+        cylinders: cylinders as u8,
+    })
+}
+
+fn is_declared(devices: &[DeviceLine], device: DeviceNo) -> bool
+    ensures { result ≡ is_declared devices.now device }
+{
+    let d = device.get();
+    devices.iter().any(|line| line.number.get() == d)
+}
+
+/// A device that is declared.
+pub fn device_of(devices: &[DeviceLine], word: &[u8]) -> Result<DeviceNo, DeckWhy>
+    ensures { result ≡ device_of devices.now word.now }
+{
+    let device = device_number(word).ok_or(DeckWhy::Number)?;
+    if is_declared(devices, device) {
+        Ok(device)
+    } else {
+        Err(DeckWhy::Number)
+    }
+}
+
+fn path_of(word: &[u8]) -> Result<PathNo, DeckWhy>
+    ensures { result ≡ path_of word.now }
+{
+    let n = number_in(1, 4, word).ok_or(DeckWhy::Number)?;
+    PathNo::new(n as u8).ok_or(DeckWhy::Number)
+}
+
+#[tactic(auto, unfolding(crate::specs::Forms::is_write))]
+fn is_write(word: &[u8]) -> Option<bool>
+    ensures { result ≡ is_write word.now }
+{
+    if is_text(word, b"READ") {
         Some(false)
-    } else if line.starts_with(b"CCW 86 00 ") {
+    } else if is_text(word, b"WRITE") {
         Some(true)
     } else {
         None
     }
 }
 
-fn read_line(line: &[u8], deck: &mut Deck) -> bool
-    ensures { read_line line.now deck.old ≡ (if result then Some deck.new else None) }
+/// The side that a word names.
+#[tactic(auto, unfolding(crate::specs::Forms::side_of))]
+pub fn side_of(word: &[u8]) -> Option<Side>
+    ensures { result ≡ side_of word.now }
 {
-    let Some(multitrack) = reads_multitrack(line) else {
-        return false;
-    };
-    let Some(count) = number_of(&line[10..]) else {
-        return false;
-    };
-    deck.multitrack = multitrack;
-    deck.count = count;
-    true
-}
-
-#[tactic(auto, unfolding(crate::specs::Forms::text_at))]
-fn text_at(n: u32) -> &'static [u8]
-    ensures { result.now ≡ text_at n }
-{
-    match n {
-        1 => b"DECK 1",
-        2 => b"CACHE 1",
-        3 => b"STORE 0",
-        4 => b"DEVICE 0 3390 1",
-        5 => b"PROGRAM 1 0",
-        6 => b"CCW 63 40 16 40C01000 00000000 00000000 0000000E",
-        9 => b"END",
-        10 => b"EVENTS",
-        11 => b"START 1 0",
-        12 => b"RUN 0",
-        _ => b"",
+    if is_text(word, b"A") {
+        Some(Side::A)
+    } else if is_text(word, b"B") {
+        Some(Side::B)
+    } else {
+        None
     }
 }
 
-fn change(n: u32, deck: &mut Deck)
-    ensures { deck.new ≡ changed n deck.old }
+/// FAULT d READ n, or FAULT d WRITE n.
+pub fn fault_line(devices: &[DeviceLine], rest: &[u8]) -> Result<FaultLine, DeckWhy>
+    ensures { result ≡ fault_line devices.now (words_of rest.now) }
 {
-    match n {
-        11 => deck.started = true,
-        12 => deck.ran = true,
-        _ => {}
-    }
+    let (device, call, number) = three_words(rest).ok_or(DeckWhy::Words)?;
+    let write = is_write(call).ok_or(DeckWhy::Words)?;
+    let device = device_of(devices, device)?;
+    let call = number_in(1, MOST_CALLS, number).ok_or(DeckWhy::Number)?;
+    Ok(FaultLine {
+        device,
+        write,
+        call,
+    })
 }
 
-/// Puts the line of this number into the deck, where it has its form.
-pub fn put_line(n: u32, line: &[u8], deck: &mut Deck) -> bool
-    ensures put { put_line n line.now deck.old ≡ (if result then Some deck.new else None) }
-    ensures number { IsTrue result → n ≤ 12 }
+/// A path and a device.
+pub fn path_and_device(devices: &[DeviceLine], rest: &[u8]) -> Result<(PathNo, DeviceNo), DeckWhy>
+    ensures { result ≡ path_and_device devices.now (words_of rest.now) }
 {
-    if n == 7 {
-        return locate_line(line, deck);
-    }
-    if n == 8 {
-        return read_line(line, deck);
-    }
-    if n > 12 || !is_text(line, text_at(n)) {
-        return false;
-    }
-    change(n, deck);
-    true
+    let (path, device) = two_words(rest).ok_or(DeckWhy::Words)?;
+    let path = path_of(path)?;
+    let device = device_of(devices, device)?;
+    Ok((path, device))
 }

@@ -1,13 +1,27 @@
-//! The text of a deck of the first run: one device, one program of three commands, two events.
+//! The text of a deck: its lines, what they say, and the text that they make again.
 #![tactic(auto)]
 
+mod ccw;
 mod deck;
+mod events;
 mod forms;
+mod keyword;
+mod line;
 mod lines;
 mod numbers;
-mod program;
+mod place;
+mod planned;
 mod read;
+mod reading;
+#[cfg(test)]
+mod tests;
+mod words;
+mod write;
+mod write_events;
+mod write_lines;
+mod write_programs;
 
-pub use deck::{Deck, DeckFault, DeckWhy, Which};
-pub use program::program_of;
+pub use deck::Deck;
+pub use line::{DeckFault, DeckWhy, DeviceLine, FaultLine, PlannedProgram, Which};
 pub use read::read_deck;
+pub use write::write_deck;

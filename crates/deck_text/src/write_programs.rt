@@ -1,0 +1,99 @@
+ghost use Rattle.std.specs.Prelude.{◌++◌, List, ℕ};
+ghost use Rattle.std.specs.List.{flat_map};
+ghost use Rattle.ckd_outside.specs.Causes.{HasCause};
+ghost use Rattle.ckd_outside.specs.Texts.{Puts, Writes};
+ghost use Rattle.deck_text.specs.Canonical.{bytes_text, ccw_text, end_text, line_end, planned_text, word_text};
+
+use crate::PlannedProgram;
+use crate::write_lines::{write_end, write_program_line};
+use ckd_outside::{Failed, LineBuffer, Piece, Sink, write_pieces};
+use ckd_types::Ccw;
+
+#[tactic(auto, unfolding(crate::specs::Canonical::word_text))]
+fn write_word<K: Sink>(sink: &mut K, buffer: &mut LineBuffer, ccw: &Ccw) -> Result<(), Failed>
+    ensures bytes { Puts (K.held sink.old) buffer.old (K.held sink.new) buffer.new result (word_text ccw.now) }
+    ensures cause { HasCause (K.faults sink.old) (K.faults sink.new) result }
+{
+    let pieces = [
+        Piece::Text(b"CCW "),
+        Piece::Byte(ccw.command),
+        Piece::Text(b" "),
+        Piece::Byte(ccw.flags),
+        Piece::Text(b" "),
+        Piece::Number(u64::from(ccw.count)),
+    ];
+    write_pieces(sink, buffer, &pieces)
+}
+
+fn write_bytes<K: Sink>(sink: &mut K, buffer: &mut LineBuffer, bytes: &[u8]) -> Result<(), Failed>
+    ensures bytes { Puts (K.held sink.old) buffer.old (K.held sink.new) buffer.new result (bytes_text bytes.now) }
+    ensures cause { HasCause (K.faults sink.old) (K.faults sink.new) result }
+{
+    if bytes.is_empty() {
+        return Ok(());
+    }
+    write_pieces(sink, buffer, &[Piece::Text(b" "), Piece::Hex(bytes)])
+}
+
+#[tactic(auto, unfolding(crate::specs::Canonical::line_end))]
+fn write_line_end<K: Sink>(sink: &mut K, buffer: &mut LineBuffer) -> Result<(), Failed>
+    ensures bytes { Puts (K.held sink.old) buffer.old (K.held sink.new) buffer.new result (line_end) }
+    ensures cause { HasCause (K.faults sink.old) (K.faults sink.new) result }
+{
+    write_pieces(sink, buffer, &[Piece::Text(b"\n")])
+}
+
+fn write_behind_word<K: Sink>(
+    sink: &mut K,
+    buffer: &mut LineBuffer,
+    bytes: &[u8],
+) -> Result<(), Failed>
+    ensures bytes { Puts (K.held sink.old) buffer.old (K.held sink.new) buffer.new result (bytes_text bytes.now ++ line_end) }
+    ensures cause { HasCause (K.faults sink.old) (K.faults sink.new) result }
+{
+    write_bytes(sink, buffer, bytes)?;
+    write_line_end(sink, buffer)
+}
+
+fn write_ccw<K: Sink>(sink: &mut K, buffer: &mut LineBuffer, ccw: &Ccw) -> Result<(), Failed>
+    ensures bytes { Puts (K.held sink.old) buffer.old (K.held sink.new) buffer.new result (ccw_text ccw.now) }
+    ensures cause { HasCause (K.faults sink.old) (K.faults sink.new) result }
+{
+    write_word(sink, buffer, ccw)?;
+    write_behind_word(sink, buffer, ccw.given.as_slice())
+}
+
+fn write_ccws<K: Sink>(sink: &mut K, buffer: &mut LineBuffer, ccws: &[Ccw]) -> Result<(), Failed>
+    ensures bytes { Puts (K.held sink.old) buffer.old (K.held sink.new) buffer.new result (flat_map ccw_text ccws.now) }
+    ensures cause { HasCause (K.faults sink.old) (K.faults sink.new) result }
+{
+    for ccw in ccws {
+        write_ccw(sink, buffer, ccw)?;
+    }
+    Ok(())
+}
+
+fn write_behind_program<K: Sink>(
+    sink: &mut K,
+    buffer: &mut LineBuffer,
+    ccws: &[Ccw],
+) -> Result<(), Failed>
+    ensures bytes { Puts (K.held sink.old) buffer.old (K.held sink.new) buffer.new result (flat_map ccw_text ccws.now ++ end_text) }
+    ensures cause { HasCause (K.faults sink.old) (K.faults sink.new) result }
+{
+    write_ccws(sink, buffer, ccws)?;
+    write_end(sink, buffer)
+}
+
+/// PROGRAM, its CCWs and END.
+pub fn write_planned<K: Sink>(
+    sink: &mut K,
+    buffer: &mut LineBuffer,
+    planned: &PlannedProgram,
+) -> Result<(), Failed>
+    ensures bytes { Puts (K.held sink.old) buffer.old (K.held sink.new) buffer.new result (planned_text planned.now) }
+    ensures cause { HasCause (K.faults sink.old) (K.faults sink.new) result }
+{
+    write_program_line(sink, buffer, planned)?;
+    write_behind_program(sink, buffer, planned.program.ccws())
+}
