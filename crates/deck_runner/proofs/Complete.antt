@@ -1,41 +1,52 @@
 -- A deck is reported where nothing fails.
-use Rattle.std.proofs.Common.{◌≡◌, ◌⊎◌, inl, inr, ◌<◌, ◌≤◌, ℕ, Bool, true, false, List, [], ◌++◌, length, Option, Some, None, Result, Ok, Err, refl, sym, ap, subst, ◌∙◌, arith, length-append}
+use Rattle.std.proofs.Common.{◌≡◌, ◌⊎◌, inl, inr, ◌<◌, ◌≤◌, ℕ, List, [], ◌++◌, length, Option, Some, None, Result, Ok, Err, refl, sym, ap, subst, ◌∙◌, arith, length-append}
 use Rattle.std.proofs.lemmas.Bool.{cases_lt}
 use Rattle.std.proofs.lemmas.Bool.Decides.{nat_tests}
 use Rattle.std.proofs.lemmas.List.{append-nil}
-use Rattle.deck_text.specs.declared.deck.Deck.{Deck}
-use Rattle.deck_text.specs.declared.deck.DeckFault.{DeckFault}
-use Rattle.deck_text.specs.declared.deck.DeckFault.TheVariants as faults
-use Rattle.deck_text.specs.declared.deck.Which.TheVariants.{Size}
+use Rattle.std.proofs.lemmas.Option.{none-some, same_Some}
+use Rattle.deck_text.specs.DeckLines.{DeckLines}
+use Rattle.deck_text.specs.declared.line.DeckFault.{DeckFault}
+use Rattle.deck_text.specs.declared.line.DeckFault.TheVariants as faults
+use Rattle.deck_text.specs.declared.line.Which.TheVariants.{Size}
 use Rattle.deck_text.specs.Parse.{parsed}
+use Rattle.deck_runner.specs.declared.task.Task.{Task}
 use Rattle.deck_runner.specs.declared.top.Status.{Status}
 use Rattle.deck_runner.specs.declared.top.Status.TheVariants.{Reported, DeckRefused, ReadFault, WriteFault, Limit, NoMemory, Usage}
-use Rattle.deck_runner.specs.Answers.{Reads, Tells}
+use Rattle.deck_runner.specs.Answers.{Reads, Tells, TellsTask, deck_for, open_deck, if_read}
 
 parse_long : (text : List ℕ) → 16777217 ≤ length text → parsed text ≡ Err (faults.Limit Size)
 parse_long text long = grind (arith, nat_tests)
 
-no_fault : (d : Deck) (f : DeckFault) (parsed : Result Deck DeckFault) → parsed ≡ Ok d → parsed ≡ Err f → ⊥
-no_fault d f parsed p q = cc
+no_fault : (d : DeckLines) (f : DeckFault) (deck : Result DeckLines DeckFault) → deck ≡ Ok d → deck ≡ Err f → ⊥
+no_fault d f deck p q = cc
 
-same_text : (text read : List ℕ) (after : Option (List ℕ)) (d : Deck) → Reads (Some text) after read → parsed text ≡ Ok d → read ≡ text
-same_text text read None d r p = absurd r.read
-same_text text read (Some rest) d r p = elim (cases_lt (length read) 16777217) [
+same_text : (task : Task) (text read : List ℕ) (after : Option (List ℕ)) (d : DeckLines) → Reads (Some text) after read → deck_for task text ≡ Ok d → read ≡ text
+same_text task text read None d r p = absurd r.read
+same_text task text read (Some rest) d r p = elim (cases_lt (length read) 16777217) [
   | inl short ↦ sym (r.read ∙ ap (λ (l : List ℕ). read ++ l) (r.whole short) ∙ append-nil read)
-  | inr long ↦ absurd (no_fault d (faults.Limit Size) (parsed text) p (parse_long text (omega (arith, ap length r.read, length-append read rest))))
+  | inr long ↦ absurd (no_fault d (faults.Limit Size) (deck_for task text) p
+    (ap (λ (x : Result DeckLines DeckFault). if_read x (open_deck task)) (parse_long text (omega (arith, ap length r.read, length-append read rest)))))
 ]
 
-refused : (text read : List ℕ) (before after : Option (List ℕ)) (d : Deck) (f : DeckFault) → before ≡ Some text → Reads before after read → parsed text ≡ Ok d → parsed read ≡ Err f → ⊥
-refused text read before after d f is r p q =
-    no_fault d f (parsed read) (ap parsed (same_text text read after d (subst (λ b. Reads b after read) is r) p) ∙ p) q
+refused : (task : Task) (text read : List ℕ) (before after : Option (List ℕ)) (d : DeckLines) (f : DeckFault) → before ≡ Some text → Reads before after read
+    → deck_for task text ≡ Ok d → deck_for task read ≡ Err f → ⊥
+refused task text read before after d f is r p q =
+    no_fault d f (deck_for task read) (ap (deck_for task) (same_text task text read after d (subst (λ b. Reads b after read) is r) p) ∙ p) q
 
-pub complete : (status : Status) (runs : Bool) (before after held holds : Option (List ℕ)) (text : List ℕ) (d : Deck)
-    → before ≡ Some text → runs ≡ true → parsed text ≡ Ok d → Tells status runs before after held holds → (status ≡ ReadFault → ⊥) → (status ≡ WriteFault → ⊥)
+by_task : (status : Status) (task : Task) (before after held holds : Option (List ℕ)) (text : List ℕ) (d : DeckLines)
+    → before ≡ Some text → deck_for task text ≡ Ok d → TellsTask status task before after held holds → (status ≡ ReadFault → ⊥) → (status ≡ WriteFault → ⊥)
     → (status ≡ Reported) ⊎ (status ≡ NoMemory)
-complete Reported runs before after held holds text d is go p told nr nw = inl refl
-complete NoMemory runs before after held holds text d is go p told nr nw = inr refl
-complete ReadFault runs before after held holds text d is go p told nr nw = absurd (nr refl)
-complete WriteFault runs before after held holds text d is go p told nr nw = absurd (nw refl)
-complete Usage runs before after held holds text d is go p told nr nw = absurd (let e : true ≡ false = sym go ∙ told.0 in cc)
-complete (DeckRefused line why) runs before after held holds text d is go p told nr nw = absurd (refused text told.1 before after d (faults.Refused line why) is told.2 p told.3.0)
-complete (Limit which) runs before after held holds text d is go p told nr nw = absurd (refused text told.1 before after d (faults.Limit which) is told.2 p told.3.0)
+by_task Reported task before after held holds text d is p told nr nw = inl refl
+by_task NoMemory task before after held holds text d is p told nr nw = inr refl
+by_task ReadFault task before after held holds text d is p told nr nw = absurd (nr refl)
+by_task WriteFault task before after held holds text d is p told nr nw = absurd (nw refl)
+by_task Usage task before after held holds text d is p told nr nw = absurd told.2
+by_task (DeckRefused line why) task before after held holds text d is p told nr nw = absurd (refused task text told.0 before after d (faults.Refused line why) is told.1 p told.2.0)
+by_task (Limit which) task before after held holds text d is p told nr nw = absurd (refused task text told.0 before after d (faults.Limit which) is told.1 p told.2.0)
+
+pub complete : (status : Status) (task : Option Task) (wanted : Task) (before after held holds : Option (List ℕ)) (text : List ℕ) (d : DeckLines)
+    → before ≡ Some text → task ≡ Some wanted → deck_for wanted text ≡ Ok d → Tells status task before after held holds → (status ≡ ReadFault → ⊥) → (status ≡ WriteFault → ⊥)
+    → (status ≡ Reported) ⊎ (status ≡ NoMemory)
+complete status None wanted before after held holds text d is task_is p told nr nw = absurd (none-some wanted task_is)
+complete status (Some task) wanted before after held holds text d is task_is p told nr nw =
+    by_task status wanted before after held holds text d is p (subst (λ (t : Task). TellsTask status t before after held holds) (same_Some task wanted task_is) told) nr nw

@@ -1,45 +1,92 @@
 -- What the top call answers, and what it then has written.
-use Rattle.std.specs.Prelude.{◌≡◌, ◌⊎◌, ◌<◌, ◌≤◌, ℕ, Bool, true, false, List, [], ◌∷◌, ◌++◌, length, codes, decimal, Option, Result, Ok, Err}
+use Rattle.std.specs.Prelude.{◌≡◌, ◌⊎◌, ◌<◌, ◌≤◌, ℕ, Bool, List, [], ◌∷◌, ◌++◌, length, codes, decimal, Option, Some, None, Result, Ok, Err, if◌then◌else◌}
 use Rattle.std.specs.Str.{bytes_eq}
 use Rattle.std.specs.Io.KnownBytes.{Consumes, IsAtEnd, Appends}
 use Rattle.ckd_outside.specs.Texts.{AppendsFront}
-use Rattle.deck_text.specs.declared.deck.Deck.{Deck}
-use Rattle.deck_text.specs.declared.deck.DeckFault.{DeckFault}
-use Rattle.deck_text.specs.declared.deck.DeckFault.TheVariants as faults
-use Rattle.deck_text.specs.declared.deck.DeckWhy.{DeckWhy}
-use Rattle.deck_text.specs.declared.deck.DeckWhy.TheVariants.{Later, Unfinished}
-use Rattle.deck_text.specs.declared.deck.Which.{Which}
-use Rattle.deck_text.specs.declared.deck.Which.TheVariants.{Size}
+use Rattle.deck_text.specs.DeckLines.{DeckLines}
+use Rattle.deck_text.specs.declared.line.DeckFault.{DeckFault}
+use Rattle.deck_text.specs.declared.line.DeckFault.TheVariants as faults
+use Rattle.deck_text.specs.declared.line.DeckWhy.{DeckWhy}
+use Rattle.deck_text.specs.declared.line.DeckWhy.TheVariants as reasons
+use Rattle.deck_text.specs.declared.line.Which.{Which}
+use Rattle.deck_text.specs.declared.line.Which.TheVariants as limits
+use Rattle.deck_text.specs.Canonical.{canonical}
 use Rattle.deck_text.specs.Parse.{parsed}
+use Rattle.deck_runner.specs.declared.task.Task.{Task}
+use Rattle.deck_runner.specs.declared.task.Task.TheVariants.{Run, Check}
 use Rattle.deck_runner.specs.declared.top.Status.{Status}
 use Rattle.deck_runner.specs.declared.top.Status.TheVariants.{Reported, DeckRefused, ReadFault, WriteFault, Limit, NoMemory, Usage}
-use Rattle.deck_runner.specs.Run.{run_of, RunsPlainly}
+use Rattle.deck_runner.specs.Later.{first_later}
+use Rattle.deck_runner.specs.Run.{run_of, DeckRunsPlainly}
 use Rattle.deck_runner.specs.Report.{report_text}
 
--- the words are `run` alone
-unfoldable pub is_run : List (List ℕ) → Bool
-is_run [] = false
-is_run (word ∷ []) = bytes_eq word (codes "run")
-is_run (word ∷ other ∷ words) = false
+abbrev pub task_by : List ℕ → Option Task
+task_by word = if bytes_eq word (codes "run") then Some Run else if bytes_eq word (codes "check") then Some Check else None
+
+-- one word alone names a task
+unfoldable pub task_of : List (List ℕ) → Option Task
+task_of [] = None
+task_of (word ∷ []) = task_by word
+task_of (word ∷ other ∷ words) = None
 
 unfoldable pub usage_text : List ℕ
 usage_text = codes "usage: run, check, paths, generate SEED COUNT\n"
 
 abbrev pub why_text : DeckWhy → List ℕ
-why_text Later = codes "later"
-why_text Unfinished = codes "unfinished"
+why_text reasons.Byte = codes "byte"
+why_text reasons.Word = codes "word"
+why_text reasons.Order = codes "order"
+why_text reasons.Words = codes "words"
+why_text reasons.Number = codes "number"
+why_text reasons.Hex = codes "hex"
+why_text reasons.Program = codes "program"
+why_text reasons.Unfinished = codes "unfinished"
+why_text reasons.Later = codes "later"
 
 unfoldable pub refused_text : ℕ → DeckWhy → List ℕ
 refused_text line why = codes "deck line " ++ (decimal line ++ (codes ": " ++ (why_text why ++ codes "\n")))
 
-unfoldable pub limit_text : Which → List ℕ
-limit_text Size = codes "limit: size\n"
+abbrev pub which_text : Which → List ℕ
+which_text limits.Size = codes "size"
+which_text limits.Programs = codes "programs"
+which_text limits.Events = codes "events"
+which_text limits.Faults = codes "faults"
 
--- what is written for a text
-abbrev pub output_of : Result Deck DeckFault → List ℕ
-output_of (Ok d) = report_text (run_of d)
-output_of (Err (faults.Refused line why)) = refused_text line why
-output_of (Err (faults.Limit which)) = limit_text which
+unfoldable pub limit_text : Which → List ℕ
+limit_text which = codes "limit: " ++ (which_text which ++ codes "\n")
+
+abbrev pub unless_later : DeckLines → Option ℕ → Result DeckLines DeckFault
+unless_later d (Some n) = Err (faults.Refused n reasons.Later)
+unless_later d None = Ok d
+
+-- `run` alone refuses what it doesn't run yet
+abbrev pub open_deck : Task → DeckLines → Result DeckLines DeckFault
+open_deck Run d = unless_later d (first_later d)
+open_deck Check d = Ok d
+
+abbrev pub if_read : Result DeckLines DeckFault → (DeckLines → Result DeckLines DeckFault) → Result DeckLines DeckFault
+if_read (Ok d) go = go d
+if_read (Err fault) go = Err fault
+
+-- the deck that a text is for a task, or its fault
+abbrev pub deck_for : Task → List ℕ → Result DeckLines DeckFault
+deck_for task text = if_read (parsed text) (open_deck task)
+
+-- what a task writes for a deck: the report of its run, or its canonical text
+abbrev pub output_of : Task → DeckLines → List ℕ
+output_of Run d = report_text (run_of d)
+output_of Check d = canonical d
+
+-- what is written
+abbrev pub text_of : Task → Result DeckLines DeckFault → List ℕ
+text_of task (Ok d) = output_of task d
+text_of task (Err (faults.Refused line why)) = refused_text line why
+text_of task (Err (faults.Limit which)) = limit_text which
+text_of task (Err faults.NoMemory) = []
+
+abbrev pub TaskRunsPlainly : Task → DeckLines → Type 0
+TaskRunsPlainly Run d = DeckRunsPlainly d
+TaskRunsPlainly Check d = Unit {0}
 
 -- the source gave this text: all of it, or its first 16,777,217 bytes
 pub record Reads (before after : Option (List ℕ)) (text : List ℕ) : Type 0 where
@@ -47,24 +94,28 @@ pub record Reads (before after : Option (List ℕ)) (text : List ℕ) : Type 0 w
   pub bound : length text ≤ 16777217
   pub whole : length text < 16777217 → IsAtEnd after
 
--- what an answer says of the text that was read, and of what the sink holds
-abbrev pub TellsText : Status → List ℕ → Option (List ℕ) → Option (List ℕ) → Type 0
-TellsText Reported text held holds = (d : Deck) × (parsed text ≡ Ok d) × Appends held holds (report_text (run_of d)) × RunsPlainly d
-TellsText (DeckRefused line why) text held holds = (parsed text ≡ Err (faults.Refused line why)) × Appends held holds (refused_text line why)
-TellsText (Limit which) text held holds = (parsed text ≡ Err (faults.Limit which)) × Appends held holds (limit_text which)
-TellsText WriteFault text held holds = AppendsFront held holds (output_of (parsed text))
-TellsText NoMemory text held holds = holds ≡ held
-TellsText ReadFault text held holds = ⊥
-TellsText Usage text held holds = ⊥
+-- what an answer says of the deck that was read, and of what the sink holds
+abbrev pub TellsDeck : Status → Task → Result DeckLines DeckFault → Option (List ℕ) → Option (List ℕ) → Type 0
+TellsDeck Reported task deck held holds = (d : DeckLines) × (deck ≡ Ok d) × Appends held holds (output_of task d) × TaskRunsPlainly task d
+TellsDeck (DeckRefused line why) task deck held holds = (deck ≡ Err (faults.Refused line why)) × Appends held holds (refused_text line why)
+TellsDeck (Limit which) task deck held holds = (deck ≡ Err (faults.Limit which)) × Appends held holds (limit_text which)
+TellsDeck WriteFault task deck held holds = AppendsFront held holds (text_of task deck)
+TellsDeck NoMemory task deck held holds = holds ≡ held
+TellsDeck ReadFault task deck held holds = ⊥
+TellsDeck Usage task deck held holds = ⊥
+
+-- what an answer to a task says of the source and of the sink
+abbrev pub TellsTask : Status → Task → Option (List ℕ) → Option (List ℕ) → Option (List ℕ) → Option (List ℕ) → Type 0
+TellsTask ReadFault task before after held holds = holds ≡ held
+TellsTask NoMemory task before after held holds = holds ≡ held
+TellsTask status task before after held holds = (text : List ℕ) × Reads before after text × TellsDeck status task (deck_for task text) held holds
+
+-- what the answer to words that name no task says
+abbrev pub TellsUsage : Status → Option (List ℕ) → Option (List ℕ) → Option (List ℕ) → Option (List ℕ) → Type 0
+TellsUsage status before after held holds =
+    (after ≡ before) × (((status ≡ Usage) × Appends held holds usage_text) ⊎ ((status ≡ WriteFault) × AppendsFront held holds usage_text))
 
 -- what an answer says of the words, of the source and of the sink
-abbrev pub Tells : Status → Bool → Option (List ℕ) → Option (List ℕ) → Option (List ℕ) → Option (List ℕ) → Type 0
-Tells Usage runs before after held holds = (runs ≡ false) × (after ≡ before) × Appends held holds usage_text
-Tells ReadFault runs before after held holds = (runs ≡ true) × (holds ≡ held)
-Tells NoMemory runs before after held holds = (runs ≡ true) × (holds ≡ held)
-Tells WriteFault runs before after held holds =
-    ((runs ≡ false) × (after ≡ before) × AppendsFront held holds usage_text)
-    ⊎ ((runs ≡ true) × (text : List ℕ) × Reads before after text × TellsText WriteFault text held holds)
-Tells Reported runs before after held holds = (runs ≡ true) × (text : List ℕ) × Reads before after text × TellsText Reported text held holds
-Tells (DeckRefused line why) runs before after held holds = (runs ≡ true) × (text : List ℕ) × Reads before after text × TellsText (DeckRefused line why) text held holds
-Tells (Limit which) runs before after held holds = (runs ≡ true) × (text : List ℕ) × Reads before after text × TellsText (Limit which) text held holds
+abbrev pub Tells : Status → Option Task → Option (List ℕ) → Option (List ℕ) → Option (List ℕ) → Option (List ℕ) → Type 0
+Tells status None before after held holds = TellsUsage status before after held holds
+Tells status (Some task) before after held holds = TellsTask status task before after held holds

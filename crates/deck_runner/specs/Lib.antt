@@ -1,3 +1,4 @@
 pub mod Run
+pub mod Later
 pub mod Report
 pub mod Answers

@@ -1,7 +1,9 @@
 //! Runs a deck of channel programs against a plain volume, and writes a report.
 #![tactic(auto)]
 
+mod later;
 mod report;
+mod task;
 #[cfg(test)]
 mod tests;
 mod top;

@@ -1,11 +1,12 @@
-ghost use Rattle.std.specs.Prelude.{◌≡◌, ◌++◌, [], List, ℕ, if◌then◌else◌};
+ghost use Rattle.std.specs.Prelude.{◌≡◌};
 ghost use Rattle.std.specs.List.{flat_map};
 ghost use Rattle.ckd_outside.specs.Causes.{HasCause};
 ghost use Rattle.ckd_outside.specs.Texts.{Puts, Writes};
-ghost use Rattle.deck_runner.specs.Report.{note_text, status_line, data_line, sense_line, over_line, end_lines, start_line, finish_line};
+ghost use Rattle.deck_runner.specs.Report.{note_text, status_line, data_line, sense_line, over_line, end_lines, accepted_line, running_line, done_line, step_idle_line, run_idle_line, event_lines, finish_line, report_text};
 
 use ckd_outside::{Failed, LineBuffer, Piece, Sink, flush, write_pieces};
 use ckd_types::{Bytes, CommandEnd, Note, Sense};
+use plain_run::RunEvent;
 
 fn note_text(note: Note) -> &'static [u8]
     ensures { result.now ≡ note_text note }
@@ -21,13 +22,16 @@ fn note_text(note: Note) -> &'static [u8]
 fn write_status<K: Sink>(
     sink: &mut K,
     buffer: &mut LineBuffer,
+    ordinal: u16,
     end: &CommandEnd,
 ) -> Result<(), Failed>
-    ensures bytes { Puts (K.held sink.old) buffer.old (K.held sink.new) buffer.new result (status_line end.now) }
+    ensures bytes { Puts (K.held sink.old) buffer.old (K.held sink.new) buffer.new result (status_line ordinal end.now) }
     ensures cause { HasCause (K.faults sink.old) (K.faults sink.new) result }
 {
     let pieces = [
-        Piece::Text(b"END 1 0 1 "),
+        Piece::Text(b"END 1 0 "),
+        Piece::Number(u64::from(ordinal)),
+        Piece::Text(b" "),
         Piece::Number(u64::from(end.index)),
         Piece::Text(b" "),
         Piece::Byte(end.status.0),
@@ -77,43 +81,48 @@ fn write_sense<K: Sink>(
 }
 
 #[tactic(auto, unfolding(crate::specs::Report::over_line))]
-fn write_over<K: Sink>(sink: &mut K, buffer: &mut LineBuffer, over: bool) -> Result<(), Failed>
-    ensures bytes { Puts (K.held sink.old) buffer.old (K.held sink.new) buffer.new result (over_line over) }
+fn write_over<K: Sink>(
+    sink: &mut K,
+    buffer: &mut LineBuffer,
+    ordinal: u16,
+    over: bool,
+) -> Result<(), Failed>
+    ensures bytes { Puts (K.held sink.old) buffer.old (K.held sink.new) buffer.new result (over_line ordinal over) }
     ensures cause { HasCause (K.faults sink.old) (K.faults sink.new) result }
 {
     if !over {
         return Ok(());
     }
-    write_pieces(sink, buffer, &[Piece::Text(b"OVER 1 0 1 FULL\n")])
+    let pieces = [
+        Piece::Text(b"OVER 1 0 "),
+        Piece::Number(u64::from(ordinal)),
+        Piece::Text(b" FULL\n"),
+    ];
+    write_pieces(sink, buffer, &pieces)
 }
 
-fn write_end<K: Sink>(sink: &mut K, buffer: &mut LineBuffer, end: &CommandEnd) -> Result<(), Failed>
-    ensures bytes { Puts (K.held sink.old) buffer.old (K.held sink.new) buffer.new result (end_lines end.now) }
-    ensures cause { HasCause (K.faults sink.old) (K.faults sink.new) result }
-{
-    write_status(sink, buffer, end)?;
-    write_data(sink, buffer, &end.sent)?;
-    write_sense(sink, buffer, &end.sense)?;
-    write_over(sink, buffer, end.over)
-}
-
-fn write_ends<K: Sink>(
+fn write_end<K: Sink>(
     sink: &mut K,
     buffer: &mut LineBuffer,
-    ends: &[CommandEnd],
+    ordinal: u16,
+    end: &CommandEnd,
 ) -> Result<(), Failed>
-    ensures bytes { Puts (K.held sink.old) buffer.old (K.held sink.new) buffer.new result (flat_map end_lines ends.now) }
+    ensures bytes { Puts (K.held sink.old) buffer.old (K.held sink.new) buffer.new result (end_lines ordinal end.now) }
     ensures cause { HasCause (K.faults sink.old) (K.faults sink.new) result }
 {
-    for end in ends {
-        write_end(sink, buffer, end)?;
-    }
-    Ok(())
+    write_status(sink, buffer, ordinal, end)?;
+    write_data(sink, buffer, &end.sent)?;
+    write_sense(sink, buffer, &end.sense)?;
+    write_over(sink, buffer, ordinal, end.over)
 }
 
-#[tactic(auto, unfolding(crate::specs::Report::start_line))]
-fn write_start<K: Sink>(sink: &mut K, buffer: &mut LineBuffer, ordinal: u16) -> Result<(), Failed>
-    ensures bytes { Puts (K.held sink.old) buffer.old (K.held sink.new) buffer.new result (start_line ordinal) }
+#[tactic(auto, unfolding(crate::specs::Report::accepted_line))]
+fn write_accepted<K: Sink>(
+    sink: &mut K,
+    buffer: &mut LineBuffer,
+    ordinal: u16,
+) -> Result<(), Failed>
+    ensures bytes { Puts (K.held sink.old) buffer.old (K.held sink.new) buffer.new result (accepted_line ordinal) }
     ensures cause { HasCause (K.faults sink.old) (K.faults sink.new) result }
 {
     let pieces = [
@@ -124,19 +133,36 @@ fn write_start<K: Sink>(sink: &mut K, buffer: &mut LineBuffer, ordinal: u16) -> 
     write_pieces(sink, buffer, &pieces)
 }
 
-fn write_started<K: Sink>(
-    sink: &mut K,
-    buffer: &mut LineBuffer,
-    started: bool,
-) -> Result<(), Failed>
-    ensures bytes { Puts (K.held sink.old) buffer.old (K.held sink.new) buffer.new result (if started then start_line 1 else []) }
+#[tactic(auto, unfolding(crate::specs::Report::running_line))]
+fn write_running<K: Sink>(sink: &mut K, buffer: &mut LineBuffer) -> Result<(), Failed>
+    ensures bytes { Puts (K.held sink.old) buffer.old (K.held sink.new) buffer.new result running_line }
     ensures cause { HasCause (K.faults sink.old) (K.faults sink.new) result }
 {
-    if started {
-        write_start(sink, buffer, 1)
-    } else {
-        Ok(())
-    }
+    write_pieces(sink, buffer, &[Piece::Text(b"START 1 0 RUNNING\n")])
+}
+
+#[tactic(auto, unfolding(crate::specs::Report::done_line))]
+fn write_done<K: Sink>(sink: &mut K, buffer: &mut LineBuffer) -> Result<(), Failed>
+    ensures bytes { Puts (K.held sink.old) buffer.old (K.held sink.new) buffer.new result done_line }
+    ensures cause { HasCause (K.faults sink.old) (K.faults sink.new) result }
+{
+    write_pieces(sink, buffer, &[Piece::Text(b"START 1 0 DONE\n")])
+}
+
+#[tactic(auto, unfolding(crate::specs::Report::step_idle_line))]
+fn write_step_idle<K: Sink>(sink: &mut K, buffer: &mut LineBuffer) -> Result<(), Failed>
+    ensures bytes { Puts (K.held sink.old) buffer.old (K.held sink.new) buffer.new result step_idle_line }
+    ensures cause { HasCause (K.faults sink.old) (K.faults sink.new) result }
+{
+    write_pieces(sink, buffer, &[Piece::Text(b"STEP 0 IDLE\n")])
+}
+
+#[tactic(auto, unfolding(crate::specs::Report::run_idle_line))]
+fn write_run_idle<K: Sink>(sink: &mut K, buffer: &mut LineBuffer) -> Result<(), Failed>
+    ensures bytes { Puts (K.held sink.old) buffer.old (K.held sink.new) buffer.new result run_idle_line }
+    ensures cause { HasCause (K.faults sink.old) (K.faults sink.new) result }
+{
+    write_pieces(sink, buffer, &[Piece::Text(b"RUN 0 IDLE\n")])
 }
 
 #[tactic(auto, unfolding(crate::specs::Report::finish_line))]
@@ -147,14 +173,45 @@ fn write_finish<K: Sink>(sink: &mut K, buffer: &mut LineBuffer) -> Result<(), Fa
     write_pieces(sink, buffer, &[Piece::Text(b"FINISH\n")])
 }
 
-/// Writes the report of a run: whether the program was started, and the ends of its commands.
-pub fn write_report<K: Sink>(sink: &mut K, started: bool, ends: &[CommandEnd]) -> Result<(), Failed>
-    ensures bytes { Writes (K.held sink.old) (K.held sink.new) result ((if started then start_line 1 else []) ++ flat_map end_lines ends.now ++ finish_line) }
+fn write_event<K: Sink>(
+    sink: &mut K,
+    buffer: &mut LineBuffer,
+    event: &RunEvent,
+) -> Result<(), Failed>
+    ensures bytes { Puts (K.held sink.old) buffer.old (K.held sink.new) buffer.new result (event_lines event.now) }
+    ensures cause { HasCause (K.faults sink.old) (K.faults sink.new) result }
+{
+    match event {
+        RunEvent::Accepted(ordinal) => write_accepted(sink, buffer, *ordinal),
+        RunEvent::AlreadyRunning => write_running(sink, buffer),
+        RunEvent::PlanDone => write_done(sink, buffer),
+        RunEvent::Ended { ordinal, end } => write_end(sink, buffer, *ordinal, end),
+        RunEvent::StepIdle => write_step_idle(sink, buffer),
+        RunEvent::RunIdle => write_run_idle(sink, buffer),
+    }
+}
+
+fn write_events<K: Sink>(
+    sink: &mut K,
+    buffer: &mut LineBuffer,
+    events: &[RunEvent],
+) -> Result<(), Failed>
+    ensures bytes { Puts (K.held sink.old) buffer.old (K.held sink.new) buffer.new result (flat_map event_lines events.now) }
+    ensures cause { HasCause (K.faults sink.old) (K.faults sink.new) result }
+{
+    for event in events {
+        write_event(sink, buffer, event)?;
+    }
+    Ok(())
+}
+
+/// Writes the report of a run, event by event.
+pub fn write_report<K: Sink>(sink: &mut K, events: &[RunEvent]) -> Result<(), Failed>
+    ensures bytes { Writes (K.held sink.old) (K.held sink.new) result (report_text events.now) }
     ensures cause { HasCause (K.faults sink.old) (K.faults sink.new) result }
 {
     let mut buffer = LineBuffer::new();
-    write_started(sink, &mut buffer, started)?;
-    write_ends(sink, &mut buffer, ends)?;
+    write_events(sink, &mut buffer, events)?;
     write_finish(sink, &mut buffer)?;
     flush(sink, &mut buffer)
 }

@@ -1,22 +1,21 @@
-ghost use Rattle.std.specs.Prelude.{◌≡◌, ◌⊎◌, ◌≤◌, IfOk, Ok, Err, Some, map, List, ℕ, true};
+ghost use Rattle.std.specs.Prelude.{◌≡◌, ◌⊎◌, ◌≤◌, IfOk, Ok, Err, Some, None, map, List, ℕ};
 ghost use Rattle.std.specs.Io.KnownBytes.{Appends};
 ghost use Rattle.std.specs.List.{flat_map};
 ghost use Rattle.ckd_outside.specs.Pieces.{piece_text};
 ghost use Rattle.ckd_outside.specs.Causes.{Rose, HasCause};
 ghost use Rattle.ckd_outside.specs.Texts.{Writes, AppendsFront};
-ghost use Rattle.deck_text.specs.Parse.{parsed};
-ghost use Rattle.deck_text.specs.declared.deck.Deck.{Deck};
-ghost use Rattle.deck_runner.specs.Run.{ends_of, run_of};
-ghost use Rattle.deck_runner.specs.Report.{report_text};
-ghost use Rattle.deck_runner.specs.Answers.{is_run, usage_text, why_text, refused_text, limit_text, TellsText, Tells};
+ghost use Rattle.deck_text.specs.DeckLines.{DeckLines};
+ghost use Rattle.deck_runner.specs.Later.{first_later};
+ghost use Rattle.deck_runner.specs.Run.{run_of, DeckRunsPlainly};
+ghost use Rattle.deck_runner.specs.Answers.{task_by, task_of, usage_text, why_text, refused_text, which_text, limit_text, open_deck, deck_for, TellsDeck, TellsTask, TellsUsage, Tells};
 
+use crate::later::first_later;
 use crate::report::write_report;
-use ckd_outside::{
-    Failed, LineBuffer, Piece, ReadError, Sink, Source, flush, read_up_to, write_pieces,
-};
-use ckd_types::{CommandEnd, EndList, Geometry, NoMemory, PathNo};
-use deck_text::{Deck, DeckFault, DeckWhy, Which, program_of, read_deck};
-use plain_defs::PlainDevice;
+use crate::task::Task;
+use ckd_outside::{Failed, LineBuffer, Piece, ReadError, Sink, Source, flush, read_up_to, write_pieces};
+use ckd_types::{DeviceNo, NoMemory};
+use deck_text::{Deck, DeckFault, DeckWhy, Which, read_deck, write_deck};
+use plain_run::{RunRecord, run_lines};
 use std::alloc::Global;
 
 /// How the program ends.
@@ -34,13 +33,25 @@ pub enum Status {
 /// One byte more than a deck may have.
 const MOST_READ: usize = 16_777_217;
 
-#[tactic(auto, unfolding(crate::specs::Answers::is_run))]
-fn is_run(words: &[&str]) -> bool
-    ensures { result ≡ is_run (map (λ w. w.now) words.now) }
+fn task_by(word: &str) -> Option<Task>
+    ensures { result ≡ task_by word.now }
+{
+    if word.as_bytes() == b"run".as_slice() {
+        Some(Task::Run)
+    } else if word.as_bytes() == b"check".as_slice() {
+        Some(Task::Check)
+    } else {
+        None
+    }
+}
+
+#[tactic(auto, unfolding(crate::specs::Answers::task_of))]
+fn task_of(words: &[&str]) -> Option<Task>
+    ensures { result ≡ task_of (map (λ w. w.now) words.now) }
 {
     match words {
-        [word] => word.as_bytes() == b"run".as_slice(),
-        _ => false,
+        [word] => task_by(word),
+        _ => None,
     }
 }
 
@@ -59,7 +70,9 @@ fn write_usage<K: Sink>(sink: &mut K) -> Result<(), Failed>
     ensures bytes { Writes (K.held sink.old) (K.held sink.new) result usage_text }
     ensures cause { HasCause (K.faults sink.old) (K.faults sink.new) result }
 {
-    let pieces = [Piece::Text(b"usage: run, check, paths, generate SEED COUNT\n")];
+    let pieces = [Piece::Text(
+        b"usage: run, check, paths, generate SEED COUNT\n",
+    )];
     write_line(sink, &pieces)
 }
 
@@ -67,8 +80,15 @@ fn why_text(why: DeckWhy) -> &'static [u8]
     ensures { result.now ≡ why_text why }
 {
     match why {
-        DeckWhy::Later => b"later",
+        DeckWhy::Byte => b"byte",
+        DeckWhy::Word => b"word",
+        DeckWhy::Order => b"order",
+        DeckWhy::Words => b"words",
+        DeckWhy::Number => b"number",
+        DeckWhy::Hex => b"hex",
+        DeckWhy::Program => b"program",
         DeckWhy::Unfinished => b"unfinished",
+        DeckWhy::Later => b"later",
     }
 }
 
@@ -87,53 +107,32 @@ fn write_refused<K: Sink>(sink: &mut K, line: u32, why: DeckWhy) -> Result<(), F
     write_line(sink, &pieces)
 }
 
+fn which_text(which: Which) -> &'static [u8]
+    ensures { result.now ≡ which_text which }
+{
+    match which {
+        Which::Size => b"size",
+        Which::Programs => b"programs",
+        Which::Events => b"events",
+        Which::Faults => b"faults",
+    }
+}
+
 #[tactic(auto, unfolding(crate::specs::Answers::limit_text))]
 fn write_limit<K: Sink>(sink: &mut K, which: Which) -> Result<(), Failed>
     ensures bytes { Writes (K.held sink.old) (K.held sink.new) result (limit_text which) }
     ensures cause { HasCause (K.faults sink.old) (K.faults sink.new) result }
 {
-    match which {
-        Which::Size => write_line(sink, &[Piece::Text(b"limit: size\n")]),
-    }
-}
-
-/// The command ends of a deck's run.
-fn run_deck(alloc: Global, deck: &Deck) -> Result<EndList, NoMemory>
-    ensures { IfOk result (λ ends. ends.items ≡ ends_of deck.now) }
-{
-    if !deck.ran {
-        return Ok(EndList::new(alloc));
-    }
-    let ccws = program_of(alloc, deck)?;
-    let mut device = PlainDevice::empty(alloc, Geometry::D3390, 1)?;
-    device.run(alloc, PathNo::new(1).unwrap(), &ccws)
-}
-
-/// Writes the report of a deck's run, of which these are the ends.
-fn write_run<K: Sink>(sink: &mut K, deck: &Deck, ends: &[CommandEnd]) -> Result<(), Failed>
-    requires { ends.now ≡ ends_of deck.now }
-    ensures bytes { Writes (K.held sink.old) (K.held sink.new) result (report_text (run_of deck.now)) }
-    ensures cause { HasCause (K.faults sink.old) (K.faults sink.new) result }
-{
-    write_report(sink, deck.started, ends)
-}
-
-fn report<K: Sink>(alloc: Global, deck: &Deck, sink: &mut K) -> Status
-    ensures told { (text : List ℕ) → parsed text ≡ Ok deck.now → TellsText result text (K.held sink.old) (K.held sink.new) }
-    ensures later { K.faults sink.old ≤ K.faults sink.new }
-    ensures write { result ≡ Status.WriteFault → Rose (K.faults sink.old) (K.faults sink.new) }
-{
-    let Ok(ends) = run_deck(alloc, deck) else {
-        return Status::NoMemory;
-    };
-    match write_run(sink, deck, ends.as_slice()) {
-        Ok(()) => Status::Reported,
-        Err(_) => Status::WriteFault,
-    }
+    let pieces = [
+        Piece::Text(b"limit: "),
+        Piece::Text(which_text(which)),
+        Piece::Text(b"\n"),
+    ];
+    write_line(sink, &pieces)
 }
 
 fn refuse<K: Sink>(sink: &mut K, line: u32, why: DeckWhy) -> Status
-    ensures told { (text : List ℕ) → parsed text ≡ Err (DeckFault.Refused line why) → TellsText result text (K.held sink.old) (K.held sink.new) }
+    ensures told { (task : Task) → TellsDeck result task (Err (DeckFault.Refused line why)) (K.held sink.old) (K.held sink.new) }
     ensures later { K.faults sink.old ≤ K.faults sink.new }
     ensures write { result ≡ Status.WriteFault → Rose (K.faults sink.old) (K.faults sink.new) }
 {
@@ -144,7 +143,7 @@ fn refuse<K: Sink>(sink: &mut K, line: u32, why: DeckWhy) -> Status
 }
 
 fn limit<K: Sink>(sink: &mut K, which: Which) -> Status
-    ensures told { (text : List ℕ) → parsed text ≡ Err (DeckFault.Limit which) → TellsText result text (K.held sink.old) (K.held sink.new) }
+    ensures told { (task : Task) → TellsDeck result task (Err (DeckFault.Limit which)) (K.held sink.old) (K.held sink.new) }
     ensures later { K.faults sink.old ≤ K.faults sink.new }
     ensures write { result ≡ Status.WriteFault → Rose (K.faults sink.old) (K.faults sink.new) }
 {
@@ -154,15 +153,74 @@ fn limit<K: Sink>(sink: &mut K, which: Which) -> Status
     }
 }
 
-fn answer<K: Sink>(alloc: Global, text: &[u8], sink: &mut K) -> Status
-    ensures told { TellsText result text.now (K.held sink.old) (K.held sink.new) }
+/// What happens in a deck's run.
+fn run_deck(alloc: Global, deck: &Deck) -> Result<RunRecord, NoMemory>
+    requires { first_later deck.now ≡ None }
+    ensures run { IfOk result (λ events. events ≡ run_of deck.now) }
+    ensures plain { IfOk result (λ events. DeckRunsPlainly deck.now) }
+{
+    let plans = deck.plans(DeviceNo::new(0).unwrap());
+    run_lines(alloc, plans, deck.schedule())
+}
+
+fn report<K: Sink>(alloc: Global, deck: &Deck, sink: &mut K) -> Status
+    requires { first_later deck.now ≡ None }
+    ensures told { TellsDeck result Task.Run (Ok deck.now) (K.held sink.old) (K.held sink.new) }
     ensures later { K.faults sink.old ≤ K.faults sink.new }
     ensures write { result ≡ Status.WriteFault → Rose (K.faults sink.old) (K.faults sink.new) }
 {
-    match read_deck(text) {
-        Ok(deck) => report(alloc, &deck, sink),
+    let Ok(events) = run_deck(alloc, deck) else {
+        return Status::NoMemory;
+    };
+    match write_report(sink, events.events()) {
+        Ok(()) => Status::Reported,
+        Err(_) => Status::WriteFault,
+    }
+}
+
+fn run<K: Sink>(alloc: Global, deck: &Deck, sink: &mut K) -> Status
+    ensures told { TellsDeck result Task.Run (open_deck Task.Run deck.now) (K.held sink.old) (K.held sink.new) }
+    ensures later { K.faults sink.old ≤ K.faults sink.new }
+    ensures write { result ≡ Status.WriteFault → Rose (K.faults sink.old) (K.faults sink.new) }
+{
+    match first_later(deck) {
+        Some(line) => refuse(sink, line, DeckWhy::Later),
+        None => report(alloc, deck, sink),
+    }
+}
+
+fn check<K: Sink>(deck: &Deck, sink: &mut K) -> Status
+    ensures told { TellsDeck result Task.Check (Ok deck.now) (K.held sink.old) (K.held sink.new) }
+    ensures later { K.faults sink.old ≤ K.faults sink.new }
+    ensures write { result ≡ Status.WriteFault → Rose (K.faults sink.old) (K.faults sink.new) }
+{
+    match write_deck(deck, sink) {
+        Ok(()) => Status::Reported,
+        Err(_) => Status::WriteFault,
+    }
+}
+
+fn serve_deck<K: Sink>(alloc: Global, task: Task, deck: &Deck, sink: &mut K) -> Status
+    ensures told { TellsDeck result task (open_deck task deck.now) (K.held sink.old) (K.held sink.new) }
+    ensures later { K.faults sink.old ≤ K.faults sink.new }
+    ensures write { result ≡ Status.WriteFault → Rose (K.faults sink.old) (K.faults sink.new) }
+{
+    match task {
+        Task::Run => run(alloc, deck, sink),
+        Task::Check => check(deck, sink),
+    }
+}
+
+fn answer<K: Sink>(alloc: Global, task: Task, text: &[u8], sink: &mut K) -> Status
+    ensures told { TellsDeck result task (deck_for task text.now) (K.held sink.old) (K.held sink.new) }
+    ensures later { K.faults sink.old ≤ K.faults sink.new }
+    ensures write { result ≡ Status.WriteFault → Rose (K.faults sink.old) (K.faults sink.new) }
+{
+    match read_deck(alloc, text) {
+        Ok(deck) => serve_deck(alloc, task, &deck, sink),
         Err(DeckFault::Refused { line, why }) => refuse(sink, line, why),
         Err(DeckFault::Limit(which)) => limit(sink, which),
+        Err(DeckFault::NoMemory) => Status::NoMemory,
     }
 }
 
@@ -178,38 +236,52 @@ fn usage<K: Sink>(sink: &mut K) -> Status
     }
 }
 
-fn serve<S: Source, K: Sink>(alloc: Global, words: &[&str], source: &mut S, sink: &mut K) -> Status
-    ensures told { Tells result (is_run (map (λ w. w.now) words.now))
-        (S.left source.old) (S.left source.new) (K.held sink.old) (K.held sink.new) }
+fn serve_task<S: Source, K: Sink>(
+    alloc: Global,
+    task: Task,
+    source: &mut S,
+    sink: &mut K,
+) -> Status
+    ensures told { TellsTask result task (S.left source.old) (S.left source.new) (K.held sink.old) (K.held sink.new) }
     ensures read { result ≡ Status.ReadFault → Rose (S.faults source.old) (S.faults source.new) }
     ensures write { result ≡ Status.WriteFault → Rose (K.faults sink.old) (K.faults sink.new) }
 {
-    if !is_run(words) {
-        return usage(sink);
-    }
     match read_up_to(alloc, source, MOST_READ) {
-        Ok(text) => answer(alloc, &text, sink),
+        Ok(text) => answer(alloc, task, &text, sink),
         Err(ReadError::Failed) => Status::ReadFault,
         Err(ReadError::NoMemory) => Status::NoMemory,
     }
 }
 
-/// Does what the words ask for, over a source and a sink. The only words are `run` alone: a deck is
-/// read from the source, and the report of its run written to the sink.
+fn serve<S: Source, K: Sink>(alloc: Global, words: &[&str], source: &mut S, sink: &mut K) -> Status
+    ensures told { Tells result (task_of (map (λ w. w.now) words.now))
+        (S.left source.old) (S.left source.new) (K.held sink.old) (K.held sink.new) }
+    ensures read { result ≡ Status.ReadFault → Rose (S.faults source.old) (S.faults source.new) }
+    ensures write { result ≡ Status.WriteFault → Rose (K.faults sink.old) (K.faults sink.new) }
+{
+    match task_of(words) {
+        Some(task) => serve_task(alloc, task, source, sink),
+        None => usage(sink),
+    }
+}
+
+/// Does what the words ask for, over a source and a sink. `run` reads a deck and writes the report of its
+/// run; `check` reads a deck and writes its canonical text.
 pub fn deck_top<S: Source, K: Sink>(
     alloc: Global,
     words: &[&str],
     source: &mut S,
     sink: &mut K,
 ) -> Status
-    ensures told { Tells result (is_run (map (λ w. w.now) words.now))
+    ensures told { Tells result (task_of (map (λ w. w.now) words.now))
         (S.left source.old) (S.left source.new) (K.held sink.old) (K.held sink.new) }
     ensures read { result ≡ Status.ReadFault → Rose (S.faults source.old) (S.faults source.new) }
     ensures write { result ≡ Status.WriteFault → Rose (K.faults sink.old) (K.faults sink.new) }
 
-    // A deck is reported, unless memory runs out or the outside fails.
-    ensures complete { (text : List ℕ) (d : Deck) → S.left source.old ≡ Some text
-        → is_run (map (λ w. w.now) words.now) ≡ true → parsed text ≡ Ok d
+    // Every deck is checked, and every deck that `run` serves so far is run, unless memory runs out or the
+    // outside fails.
+    ensures complete { (text : List ℕ) (task : Task) (d : DeckLines) → S.left source.old ≡ Some text
+        → task_of (map (λ w. w.now) words.now) ≡ Some task → deck_for task text ≡ Ok d
         → ¬ Rose (S.faults source.old) (S.faults source.new) → ¬ Rose (K.faults sink.old) (K.faults sink.new)
         → (result ≡ Status.Reported) ⊎ (result ≡ Status.NoMemory) }
 {

@@ -1,10 +1,10 @@
 -- After every event of a run the device is one that a plain device could be.
-use Rattle.std.proofs.Common.{◌≡◌, ◌<◌, ◌≤◌, ◌+◌, ◌-◌, ℕ, zero, suc, List, [], ◌∷◌, ◌++◌, Option, Some, None, Bool, true, false, true≢false, length, take, drop, map, get_or, cond, refl, arith, sym, ap, subst, ◌∙◌, append_assoc, nat_lt}
+use Rattle.std.proofs.Common.{◌≡◌, ◌<◌, ◌≤◌, ◌+◌, ◌-◌, ℕ, List, [], ◌∷◌, ◌++◌, Option, Some, None, Bool, true, false, length, take, drop, map, get_or, cond, refl, arith, sym, ap, subst, ◌∙◌, nat_lt}
 use Rattle.std.specs.List.{list_all}
 use Rattle.std.proofs.lemmas.List.Sums.{sum_by_push}
 use Rattle.std.specs.Prelude.{◌==◌, ◌||◌, All, IfSome, count_by, slice_get, slice_index_or, if◌then◌else◌}
 use Rattle.std.proofs.lemmas.Option.{none-some, same_Some, slice_get-get_or}
-use Rattle.std.proofs.lemmas.List.{append-nil, length-take-le, length-drop, take_more, drop_more, drop_all}
+use Rattle.std.proofs.lemmas.List.{length-take-le, length-drop, take_more, drop_more, drop_all}
 use Rattle.std.proofs.Math.Seq.{take-length}
 use Rattle.std.proofs.lemmas.List.Elements.{All-nil, All-cons, All-append}
 use Rattle.ckd_types.specs.declared.channel.Ccw.{Ccw}
@@ -17,7 +17,7 @@ use Rattle.ckd_types.specs.Ccw.{ccw_at}
 use Rattle.ckd_types.specs.Sense.{zero_sense}
 use Rattle.plain_defs.specs.PlainState.{PlainState, with_sense, owner_of, is_free_for, is_admitted, asks_for_group}
 use Rattle.plain_defs.specs.Stance.{first_stance}
-use Rattle.plain_defs.specs.Chain.{Part, part_from, part_of, whole_run, begun, starts_with_sense}
+use Rattle.plain_defs.specs.Chain.{Part, part_of, whole_run, begun, starts_with_sense}
 use Rattle.plain_defs.specs.Ends.{LastIsOver}
 use Rattle.plain_defs.specs.Journal.{Plans, program_of, is_of_path, replay, IsLegal}
 use Rattle.plain_defs.proofs.Laws.{IsClosed, part_front, part_length, part_closes, part_owner}
@@ -30,8 +30,8 @@ use Rattle.plain_run.specs.Running.{RunningProgram}
 use Rattle.plain_run.specs.declared.machine.Machine.{Machine}
 use Rattle.plain_run.specs.declared.event.RunEvent.{RunEvent}
 use Rattle.plain_run.specs.declared.event.RunEvent.TheVariants.{Accepted, AlreadyRunning, PlanDone, Ended, StepIdle, RunIdle}
-use Rattle.plain_run.specs.Run.{empty_device, Moved, start, step, finish, ended, begin_with, line_done, first_machine, Did, HasLast}
-use Rattle.plain_run.specs.Kept.{Open, Kept, kept_after, kept_end, kept_from, IsPlain, nothing_kept, ends_so_far}
+use Rattle.plain_run.specs.Run.{empty_device, start, step, finish, ended, begin_with, line_done, first_machine, Did, HasLast}
+use Rattle.plain_run.specs.Kept.{Open, Kept, kept_after, kept_from, IsPlain, nothing_kept, ends_so_far}
 
 -- what is kept behind all of some events
 abbrev pub kept_last : Kept → List RunEvent → Kept
@@ -84,7 +84,7 @@ module _ (plans : Plans) where
   first_ends m k None idle = subst (λ (x : Option Open). IfSome x (λ o. o.ends ≡ (part_of (at_rest k) 1 (program_of plans 1 o.ordinal) (length o.ends)).ends)) (sym idle.running) tt
   first_ends m k (Some r) at =
       subst (λ (x : Option Open). IfSome x (λ o. o.ends ≡ (part_of (at_rest k) 1 (program_of plans 1 o.ordinal) (length o.ends)).ends)) (sym at.running)
-        (front k r (at_rest k) at.ends at.inside)
+      (front k r (at_rest k) at.ends at.inside)
 
   plain_of : (m : Machine) (k : Kept) → Belongs m k → IsPlain plans k
   plain_of m k b = record { legal = b.legal; first = first_ends m k m.running b.at }
@@ -116,7 +116,7 @@ module _ (plans : Plans) where
   begun_plain m k legal idle last =
       let p = slice_index_or (plan_of plans 1) m.started [] in
       let same : whole_run m.device 1 p ≡ whole_run (at_rest k) 1 (program_of plans 1 (m.started + 1)) =
-          ap (λ (s : PlainState). whole_run s 1 p) idle.device ∙ ap (λ (c : List Ccw). whole_run (at_rest k) 1 c) (sym (program_is m.started))
+      ap (λ (s : PlainState). whole_run s 1 p) idle.device ∙ ap (λ (c : List Ccw). whole_run (at_rest k) 1 c) (sym (program_is m.started))
       in record {
         legal = legal;
         at = record {
@@ -153,13 +153,13 @@ module _ (plans : Plans) where
     more_after more =
         let next : r.count + 1 < length r.ends = not_the_last r.ends r.count e at.last at.inside (sym (ap (λ (x : CommandEnd). x.over) e_is) ∙ more) in
         let kept : kept_after k (Ended r.ordinal e) ≡ record k { running = Some (record { ordinal = r.ordinal; ends = take (r.count + 1) r.ends }) } =
-            ap (λ (b : Bool). if b then (record { items = k.items ++ Program (record { path = 1; ordinal = r.ordinal; how = Full; ends = ends_so_far k.running ++ e ∷ [] }) ∷ []; running = None }) else (record k { running = Some (record { ordinal = r.ordinal; ends = ends_so_far k.running ++ e ∷ [] }) })) more
-            ∙ ap (λ (l : List CommandEnd). record k { running = Some (record { ordinal = r.ordinal; ends = l }) }) so_far
+        ap (λ (b : Bool). if b then (record { items = k.items ++ Program (record { path = 1; ordinal = r.ordinal; how = Full; ends = ends_so_far k.running ++ e ∷ [] }) ∷ []; running = None }) else (record k { running = Some (record { ordinal = r.ordinal; ends = ends_so_far k.running ++ e ∷ [] }) })) more
+        ∙ ap (λ (l : List CommandEnd). record k { running = Some (record { ordinal = r.ordinal; ends = l }) }) so_far
         in subst (λ (x : Kept). Belongs (record m { running = Some (record r { count = r.count + 1 }) }) x) (sym kept)
-          (record {
-            legal = legal;
-            at = record { started = at.started; others = at.others; ends = at.ends; device = at.device; inside = next; last = at.last; free = at.free; running = refl };
-          })
+        (record {
+          legal = legal;
+          at = record { started = at.started; others = at.others; ends = at.ends; device = at.device; inside = next; last = at.last; free = at.free; running = refl };
+        })
 
     -- an end that says over is the last
     count_of : e.over ≡ true → r.count + 1 ≡ length r.ends
@@ -175,18 +175,18 @@ module _ (plans : Plans) where
         let item = Program (record { path = 1; ordinal = r.ordinal; how = Full; ends = r.ends }) in
         let all : take (r.count + 1) r.ends ≡ r.ends = ap (λ (n : ℕ). take n r.ends) (count_of over) ∙ take-length r.ends in
         let kept : kept_after k (Ended r.ordinal e) ≡ record { items = k.items ++ item ∷ []; running = None } =
-            ap (λ (b : Bool). if b then (record { items = k.items ++ Program (record { path = 1; ordinal = r.ordinal; how = Full; ends = ends_so_far k.running ++ e ∷ [] }) ∷ []; running = None }) else (record k { running = Some (record { ordinal = r.ordinal; ends = ends_so_far k.running ++ e ∷ [] }) })) over
-            ∙ ap (λ (l : List CommandEnd). record { items = k.items ++ Program (record { path = 1; ordinal = r.ordinal; how = Full; ends = l }) ∷ []; running = None }) (so_far ∙ all)
+        ap (λ (b : Bool). if b then (record { items = k.items ++ Program (record { path = 1; ordinal = r.ordinal; how = Full; ends = ends_so_far k.running ++ e ∷ [] }) ∷ []; running = None }) else (record k { running = Some (record { ordinal = r.ordinal; ends = ends_so_far k.running ++ e ∷ [] }) })) over
+        ∙ ap (λ (l : List CommandEnd). record { items = k.items ++ Program (record { path = 1; ordinal = r.ordinal; how = Full; ends = l }) ∷ []; running = None }) (so_far ∙ all)
         in subst (λ (x : Kept). Belongs (record m { running = None }) x) (sym kept)
-          (record {
-            legal = legal_more plans empty_device [] k.items item legal (record { admitted = admitted_free (at_rest k) p at.free; ordinal = at.started ∙ at.others; ends = at.ends }, tt);
-            at = record {
-              others = at.others ∙ sym (sum_by_push (λ (x : Item). cond (is_of_path 1 x) 1 0) k.items item);
-              device = at.device ∙ sym (replay-append plans empty_device k.items (item ∷ []));
-              free = ap (λ (x : PlainState). x.owner) (replay-append plans empty_device k.items (item ∷ [])) ∙ still_free (at_rest k) p at.free;
-              running = refl;
-            };
-          })
+        (record {
+          legal = legal_more plans empty_device [] k.items item legal (record { admitted = admitted_free (at_rest k) p at.free; ordinal = at.started ∙ at.others; ends = at.ends }, tt);
+          at = record {
+            others = at.others ∙ sym (sum_by_push (λ (x : Item). cond (is_of_path 1 x) 1 0) k.items item);
+            device = at.device ∙ sym (replay-append plans empty_device k.items (item ∷ []));
+            free = ap (λ (x : PlainState). x.owner) (replay-append plans empty_device k.items (item ∷ [])) ∙ still_free (at_rest k) p at.free;
+            running = refl;
+          };
+        })
 
   module _ (m : Machine) (k : Kept) (r : RunningProgram) (b : Belongs m k) (at : IsAtEnd m k r) where
     one_end : (e : CommandEnd) → e ≡ get_or r.ends r.count e → (over : Bool) → e.over ≡ over
@@ -211,13 +211,13 @@ module _ (plans : Plans) where
     one_then true over e_is left_is later =
         let none : left ≡ [] = left_is ∙ ap (λ (n : ℕ). drop n r.ends) (count_of m k r b.legal at e e_is over) ∙ drop_all (length r.ends) r.ends (omega arith) in
         subst (λ (l : List CommandEnd). Follows (record m { running = None }) k (map (λ (e : CommandEnd). Ended r.ordinal e) (e ∷ l))) (sym none)
-          (one_end m k r b at e e_is true over)
+        (one_end m k r b at e e_is true over)
     one_then false more e_is left_is later =
         let q = record r { count = r.count + 1 } in
         let next = record m { running = Some q } in
         let b' = more_after m k r b.legal at e e_is more in
         then_event next (record m { running = None }) k (Ended r.ordinal e) (map (λ (e : CommandEnd). Ended r.ordinal e) left) b'
-          (later next (kept_after k (Ended r.ordinal e)) q refl b' b'.at left_is)
+        (later next (kept_after k (Ended r.ordinal e)) q refl b' b'.at left_is)
 
   finish_plain : (left : List CommandEnd) (m : Machine) (k : Kept) (r : RunningProgram) → Belongs m k → IsAtEnd m k r → left ≡ drop r.count r.ends
       → Follows (record m { running = None }) k (map (λ (e : CommandEnd). Ended r.ordinal e) left)
@@ -225,12 +225,12 @@ module _ (plans : Plans) where
   finish_plain (e ∷ left) m k r b at is =
       let more : e ∷ left ≡ get_or r.ends r.count e ∷ drop (r.count + 1) r.ends = is ∙ drop_more r.ends r.count e at.inside in
       one_then m k r b at e left e.over refl (ap (λ (l : List CommandEnd). get_or l 0 e) more) (ap (λ (l : List CommandEnd). drop 1 l) more)
-        (λ next later q same b' at' left_is. finish_plain left next later q b' at' left_is)
+      (λ next later q same b' at' left_is. finish_plain left next later q b' at' left_is)
 
   begin_or_done : (m : Machine) (k : Kept) → Belongs m k → IsIdle m k → (some : Bool)
       → HasLast (if some then begin_with m (slice_index_or (plan_of plans 1) m.started []) else (record { machine = m; events = PlanDone ∷ [] })).machine
       → Follows (if some then begin_with m (slice_index_or (plan_of plans 1) m.started []) else (record { machine = m; events = PlanDone ∷ [] })).machine k
-        (if some then begin_with m (slice_index_or (plan_of plans 1) m.started []) else (record { machine = m; events = PlanDone ∷ [] })).events
+      (if some then begin_with m (slice_index_or (plan_of plans 1) m.started []) else (record { machine = m; events = PlanDone ∷ [] })).events
   begin_or_done m k b idle true last = one_event (begin_with m (slice_index_or (plan_of plans 1) m.started [])).machine k (Accepted (m.started + 1)) (begun_plain m k b.legal idle last)
   begin_or_done m k b idle false last = one_event m k PlanDone b
 

@@ -7,7 +7,7 @@ use Rattle.deck_plan.specs.declared.event.EventLine.{EventLine}
 use Rattle.plain_run.specs.declared.machine.Machine.{Machine}
 use Rattle.plain_run.specs.declared.event.RunEvent.{RunEvent}
 use Rattle.plain_run.specs.declared.event.RunEvent.TheVariants.{Ended}
-use Rattle.plain_run.specs.Run.{Moved, Did, line_done, events_from}
+use Rattle.plain_run.specs.Run.{Did, line_done, events_from}
 
 abbrev pub ends_from : ℕ → List CommandEnd → List RunEvent
 ends_from n ends = map (λ (e : CommandEnd). Ended n e) ends

@@ -1,4 +1,4 @@
-use Rattle.std.proofs.Common.{◌≡◌, ◌<◌, ℕ, List, length, get_or, sym, subst, ◌∙◌}
+use Rattle.std.proofs.Common.{◌≡◌, ◌<◌, List, length, get_or, subst, ◌∙◌}
 use Rattle.deck_plan.specs.declared.event.EventLine.{EventLine}
 use Rattle.deck_plan.specs.Plans.{plan_of}
 use Rattle.plain_run.proofs.RunSteps.{line_more}
@@ -13,10 +13,9 @@ loop-line-preserved c =
     let lines = c.as_slice-line-items.ensures in
     let inside : c.loop-line.line-index < length c.args.schedule.now.items = subst (λ (l : List EventLine). c.loop-line.line-index < length l) lines c.loop-line-test.true in
     let is : c.line-item.result ≡ get_or c.args.schedule.now.items c.loop-line.line-index c.line-item.result =
-        subst (λ (l : List EventLine). c.line-item.result ≡ get_or l c.loop-line.line-index c.line-item.result) lines c.line-item.is in
-    (
+    subst (λ (l : List EventLine). c.line-item.result ≡ get_or l c.loop-line.line-index c.line-item.result) lines c.line-item.is in (
       line_more (plan_of plans 1) c.loop-line.machine c.line_done.new.machine c.loop-line.happened c.line_done.new.happened c.args.schedule.now.items c.loop-line.line-index c.line-item.result inside is did
-      ∙ c.loop-line.invariant.0,
+          ∙ c.loop-line.invariant.0,
       last,
       line_plain plans c.loop-line.machine c.line_done.new.machine c.loop-line.happened c.line_done.new.happened c.line-item.result c.loop-line.invariant.2 did last,
     )
