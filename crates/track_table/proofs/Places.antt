@@ -1,0 +1,32 @@
+-- One more place, and the entries of the places that are left.
+use Rattle.std.proofs.Common.{◌≡◌, ℕ, zero, suc, ◌+◌, ◌-◌, ◌≤◌, Bool, true, false, cond, List, [], ◌∷◌, ◌++◌, drop, get_or, refl, ap, ◌∙◌, append_assoc, add-one, arith}
+use Rattle.std.specs.Prelude.{replicate, count_by}
+use Rattle.std.proofs.lemmas.List.{replicate-append-replicate, get_or-drop}
+use Rattle.std.proofs.lemmas.List.Sums.{sum_by-cons}
+
+pub one_more_place : {X : Type 0} (xs : List X) (n : ℕ) (x : X) → (xs ++ replicate n x) ++ x ∷ [] ≡ xs ++ replicate (n + 1) x
+one_more_place xs n x = append_assoc xs (replicate n x) (x ∷ []) ∙ ap (λ ys. xs ++ ys) (replicate-append-replicate n 1 x)
+
+tested : (b : Bool) (n m : ℕ) → m ≡ cond b 1 0 + n → m ≡ 0 → (b ≡ false) × (n ≡ 0)
+tested true n m e none = absurd (omega arith)
+tested false n m e none = (refl, omega arith)
+
+-- where none passes, no place does
+none_passes : {X : Type 0} (p : X → Bool) (d : X) → p d ≡ false → (xs : List X) → count_by p xs ≡ 0 → (q : ℕ) → p (get_or xs q d) ≡ false
+none_passes p d e [] none q = e
+none_passes p d e (x ∷ xs) none zero = (tested (p x) _ _ (sum_by-cons (λ y. cond (p y) 1 0) x xs) none).0
+none_passes p d e (x ∷ xs) none (suc q) = none_passes p d e xs (tested (p x) _ _ (sum_by-cons (λ y. cond (p y) 1 0) x xs) none).1 q
+
+-- where none of the places from n on passes, none of them does
+pub none_left : {X : Type 0} (p : X → Bool) (xs : List X) (d : X) (n q : ℕ) → count_by p (drop n xs) ≡ 0 → p d ≡ false → n ≤ q → p (get_or xs q d) ≡ false
+none_left p xs d n q none e below =
+    let place : n + (q - n) ≡ q = omega arith in
+    let passed = none_passes p d e (drop n xs) none (q - n) in
+    rw place at (rw get_or-drop at passed)
+
+-- the places from n on, and those behind it
+pub one_less_left : {X : Type 0} (p : X → Bool) (xs : List X) (d : X) (n : ℕ) → p d ≡ false → count_by p (drop n xs) ≡ cond (p (get_or xs n d)) 1 0 + count_by p (drop (n + 1) xs)
+one_less_left p [] d zero e = rw e refl
+one_less_left p [] d (suc n) e = rw (add-one, e) refl
+one_less_left p (x ∷ xs) d zero e = sum_by-cons (λ y. cond (p y) 1 0) x xs
+one_less_left p (x ∷ xs) d (suc n) e = rw add-one (rw add-one at (one_less_left p xs d n e))
