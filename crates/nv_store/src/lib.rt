@@ -1,0 +1,10 @@
+//! The writes that the nonvolatile store holds until a volume has them.
+#![tactic(auto)]
+
+mod patch;
+mod patches;
+#[cfg(test)]
+mod tests;
+
+pub use patch::{Kept, Patch, Replacement};
+pub use patches::{Patches, Stored};
