@@ -7,6 +7,7 @@ use track_cache::Frames;
 use track_table::MOST_TRACKS;
 
 /// The least track that is modified and has a patch.
+#[tactic(auto, unfolding(track_table::specs::Tracks::least))]
 pub fn next(frames: &Frames, patches: &Patches) -> Option<TrackNo>
     ensures { result ≡ next_destaged frames.now patches.now }
 {
@@ -17,12 +18,11 @@ pub fn next(frames: &Frames, patches: &Patches) -> Option<TrackNo>
             return None;
         }
         let t = TrackNo::new(n).unwrap();
-        if frames.modified(t) {
-            if patches.has(t) {
-                return Some(t);
-            }
-            modified -= 1;
+        let here = frames.modified(t);
+        if here && patches.has(t) {
+            return Some(t);
         }
+        modified -= usize::from(here);
     }
     None
 }

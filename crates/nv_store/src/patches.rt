@@ -80,9 +80,8 @@ impl Patches {
     /// The number of patches.
     pub fn count(&self) -> usize
         ensures count { result ≡ count_by is_some self.now }
-        ensures places { length self.now ≤ 960 }
+        ensures range { result ≤ 960 }
     {
-        let _ = self.table.places();
         self.table.count()
     }
 

@@ -102,9 +102,10 @@ impl Frames {
     }
 
     /// The number of modified frames.
+    #[tactic(auto, using(crate::proofs::Counts::modified_count_le))]
     pub fn modified_count(&self) -> usize
         ensures count { result ≡ modified_count self.now }
-        ensures places { length self.now ≤ 960 }
+        ensures range { result ≤ 960 }
     {
         let _ = self.table.places();
         self.modified

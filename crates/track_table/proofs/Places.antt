@@ -1,9 +1,9 @@
 -- One more place, and the entries of the places that are left.
-use Rattle.std.proofs.Common.{◌≡◌, ℕ, zero, suc, ◌+◌, ◌-◌, ◌≤◌, Bool, true, false, cond, List, [], ◌∷◌, ◌++◌, drop, get_or, refl, ap, ◌∙◌, append_assoc, add-one, arith}
+use Rattle.std.proofs.Common.{◌≡◌, ℕ, zero, suc, ◌+◌, ◌-◌, ◌≤◌, Bool, true, false, cond, List, [], ◌∷◌, ◌++◌, length, drop, get_or, refl, ap, ◌∙◌, append_assoc, add-one, arith}
 use Rattle.std.specs.Prelude.{replicate, count_by}
 use Rattle.std.proofs.Math.ListN.{set}
 use Rattle.std.proofs.lemmas.List.{replicate-append-replicate, get_or-drop, set-get_or}
-use Rattle.std.proofs.lemmas.List.Sums.{sum_by-cons}
+use Rattle.std.proofs.lemmas.List.Sums.{sum_by-cons, count_by-le-length}
 
 pub one_more_place : {X : Type 0} (xs : List X) (n : ℕ) (x : X) → (xs ++ replicate n x) ++ x ∷ [] ≡ xs ++ replicate (n + 1) x
 one_more_place xs n x = append_assoc xs (replicate n x) (x ∷ []) ∙ ap (λ ys. xs ++ ys) (replicate-append-replicate n 1 x)
@@ -41,3 +41,6 @@ set_again (z ∷ xs) (suc i) x y = ap (λ ys. z ∷ ys) (set_again xs i x y)
 -- what was taken is put back
 pub put_back : {X : Type 0} (xs : List X) (i : ℕ) (x y d : X) → y ≡ get_or xs i d → set (set xs i x) i y ≡ xs
 put_back xs i x y d e = set_again xs i x y ∙ ap (λ z. set xs i z) e ∙ set-get_or xs i d
+
+pub count_le : {X : Type 0} (p : X → Bool) (xs : List X) → count_by p xs ≤ length xs
+count_le p xs = count_by-le-length p xs

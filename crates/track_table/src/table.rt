@@ -72,8 +72,10 @@ impl<T: Drop> TrackTable<T> {
     }
 
     /// The number of tracks that have an entry.
+    #[tactic(auto, using(crate::proofs::Places::count_le))]
     pub fn count(&self) -> usize
-        ensures { result ≡ count_by is_some self.now }
+        ensures count { result ≡ count_by is_some self.now }
+        ensures range { result ≤ 960 }
     {
         self.held
     }
