@@ -1,2 +1,4 @@
+pub mod Fit
+pub mod Gives
 pub mod Patch
 pub mod Patches

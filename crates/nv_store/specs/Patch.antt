@@ -1,9 +1,13 @@
 -- A patch: which records of a track stay, other keys and data of some of those, and the records behind them.
-use Rattle.std.specs.Prelude.{◌≡◌, ℕ, ◌+◌, ◌-◌, ◌==◌, nat_le, not, Bool, true, false, List, [], ◌∷◌, ◌++◌, length, filter, if◌then◌else◌}
+use Rattle.std.specs.Prelude.{◌≡◌, ℕ, ◌+◌, ◌-◌, ◌==◌, ◌&&◌, nat_le, nat_lt, not, Bool, true, false, List, [], ◌∷◌, ◌++◌, length, take, filter, slice_index_or, Option, Some, None, if◌then◌else◌}
+use Rattle.std.specs.List.{list_all}
 use Rattle.ckd_types.specs.declared.record.Record.{Record}
 use Rattle.ckd_types.specs.declared.record.Edit.{Edit}
 use Rattle.ckd_types.specs.declared.record.Edit.TheVariants.{Update, Format, Zero}
 use Rattle.ckd_types.specs.Edit.{edited}
+use Rattle.ckd_types.specs.Track.{empty_zero}
+use Rattle.track_image.specs.Image.{Image}
+use Rattle.nv_store.specs.Fit.{is_fit}
 use Rattle.nv_store.specs.declared.patch.Replacement.{Replacement}
 use Rattle.nv_store.specs.declared.patch.Kept.{Kept}
 use Rattle.nv_store.specs.declared.patch.Kept.TheVariants.{Whole, UpTo, Nothing}
@@ -50,3 +54,45 @@ added p (Format after new) =
     if is_kept p.kept after then record { replaced = filter (λ r. nat_le r.index after) p.replaced; kept = UpTo after; behind = new ∷ [] }
     else record p { behind = edited (Format (place_behind p.kept after) new) p.behind }
 added p (Zero new) = record { replaced = []; kept = Nothing; behind = new ∷ [] }
+
+abbrev pub stay : Kept → List Record → List Record
+stay Whole records = records
+stay (UpTo last) records = take (last + 1) records
+stay Nothing records = []
+
+-- the records with their replacements
+abbrev pub revised : List Replacement → List Record → List Record
+revised [] records = records
+revised (r ∷ replaced) records = revised replaced (edited (Update r.index r.key r.body) records)
+
+-- the records of a track with the patch
+abbrev pub patched : PatchView → List Record → List Record
+patched p records = revised p.replaced (stay p.kept records) ++ p.behind
+
+-- the record that a cut follows is there
+abbrev pub reaches : Kept → List Record → Bool
+reaches Whole records = true
+reaches (UpTo last) records = nat_lt last (length records)
+reaches Nothing records = true
+
+-- a record is there, and its key and its data have these lengths
+abbrev pub has_lengths : List Record → ℕ → ℕ → ℕ → Bool
+has_lengths records index key body =
+    nat_lt index (length records)
+    && ((length (slice_index_or records index (empty_zero 0)).key == key) && (length (slice_index_or records index (empty_zero 0)).body == body))
+
+abbrev pub is_replaceable : Kept → List Record → Replacement → Bool
+is_replaceable kept records r = is_kept kept r.index && has_lengths records r.index (length r.key) (length r.body)
+
+abbrev pub patched_image : PatchView → Image → Image
+patched_image p i = record i { track = record i.track { records = patched p i.track.records } }
+
+-- the image has what the patch needs, and the track that comes of it fits
+abbrev pub applies : PatchView → Image → Bool
+applies p i =
+    reaches p.kept i.track.records
+    && (list_all (is_replaceable p.kept i.track.records) p.replaced && is_fit i.geometry (patched p i.track.records))
+
+-- the image with the patch, or nothing where the patch is unfit for it
+abbrev pub applied : PatchView → Image → Option Image
+applied p i = if applies p i then Some (patched_image p i) else None

@@ -25,7 +25,7 @@ pub enum Kept {
 }
 
 impl Kept {
-    fn keeps(self, index: usize) -> bool
+    pub(crate) fn keeps(self, index: usize) -> bool
         ensures { result ≡ is_kept self index }
     {
         match self {
@@ -36,7 +36,7 @@ impl Kept {
     }
 
     /// Where a record is among those behind the ones that stay.
-    fn place_behind(self, index: usize) -> usize
+    pub(crate) fn place_behind(self, index: usize) -> usize
         requires { is_kept self index ≡ false }
         ensures { result ≡ place_behind self index }
     {
@@ -135,6 +135,24 @@ impl Patch {
         ensures { IsPatch self.now }
     {
         let _ = &self.kept;
+    }
+
+    pub(crate) fn replaced(&self) -> &[Replacement]
+        ensures { result.now ≡ self.now.replaced }
+    {
+        &self.replaced
+    }
+
+    pub(crate) fn kept(&self) -> Kept
+        ensures { result ≡ self.now.kept }
+    {
+        self.kept
+    }
+
+    pub(crate) fn behind(&self) -> &[Record]
+        ensures { result.now ≡ self.now.behind }
+    {
+        &self.behind
     }
 
     /// Adds an edit behind those that were added.

@@ -1,5 +1,5 @@
 -- What a cache holds: a list with a place for each track.
-use Rattle.std.specs.Prelude.{ℕ, ◌+◌, Bool, false, List, slice_set, count_by, Option, Some, None, is_some, if◌then◌else◌}
+use Rattle.std.specs.Prelude.{ℕ, ◌+◌, Bool, false, List, slice_set, count_by, Option, Some, None, if◌then◌else◌}
 use Rattle.track_image.specs.Image.{Image}
 use Rattle.track_table.specs.Table.{entry_at, has_entry, with_places}
 use Rattle.track_cache.specs.declared.frames.Frame.{Frame}

@@ -2,7 +2,7 @@
 use Rattle.std.proofs.Common.{◌≡◌, ℕ, zero, suc, ◌+◌, ◌-◌, ◌≤◌, Bool, true, false, cond, List, [], ◌∷◌, ◌++◌, length, drop, get_or, refl, ap, ◌∙◌, append_assoc, add-one, arith}
 use Rattle.std.specs.Prelude.{replicate, count_by}
 use Rattle.std.proofs.Math.ListN.{set}
-use Rattle.std.proofs.lemmas.List.{replicate-append-replicate, get_or-drop, set-get_or}
+use Rattle.std.proofs.lemmas.List.{replicate-append-replicate, get_or-drop, set-set, set-get_or}
 use Rattle.std.proofs.lemmas.List.Sums.{sum_by-cons, count_by-le-length}
 
 pub one_more_place : {X : Type 0} (xs : List X) (n : ℕ) (x : X) → (xs ++ replicate n x) ++ x ∷ [] ≡ xs ++ replicate (n + 1) x
@@ -34,9 +34,7 @@ one_less_left p (x ∷ xs) d (suc n) e = rw add-one (rw add-one at (one_less_lef
 
 -- of two changes of one place the second stays
 pub set_again : {X : Type 0} (xs : List X) (i : ℕ) (x y : X) → set (set xs i x) i y ≡ set xs i y
-set_again [] i x y = refl
-set_again (z ∷ xs) zero x y = refl
-set_again (z ∷ xs) (suc i) x y = ap (λ ys. z ∷ ys) (set_again xs i x y)
+set_again xs i x y = set-set xs i x y
 
 -- what was taken is put back
 pub put_back : {X : Type 0} (xs : List X) (i : ℕ) (x y d : X) → y ≡ get_or xs i d → set (set xs i x) i y ≡ xs
