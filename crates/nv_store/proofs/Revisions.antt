@@ -72,7 +72,7 @@ update_take n i key body records = elim (cases_lt i n) [ | inl before ↦ inside
         let past : length (take n records) ≤ i = omega (arith, length-take n records) in
         take-set-le n records i (changed records i key body) behind ∙ sym (set_past (take n records) i (changed (take n records) i key body) past)
 
-revised_take : (n : ℕ) (rs : List Replacement) (records : List Record) → take n (revised rs records) ≡ revised rs (take n records)
+pub revised_take : (n : ℕ) (rs : List Replacement) (records : List Record) → take n (revised rs records) ≡ revised rs (take n records)
 revised_take n [] records = refl
 revised_take n (r ∷ rs) records = revised_take n rs (edited (Update r.index r.key r.body) records) ∙ ap (revised rs) (update_take n r.index r.key r.body records)
 

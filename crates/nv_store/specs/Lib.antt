@@ -2,3 +2,4 @@ pub mod Fit
 pub mod Gives
 pub mod Patch
 pub mod Patches
+pub mod Edits

@@ -4,11 +4,13 @@
 mod apply;
 mod fault;
 mod fit;
+mod laws;
 mod patch;
 mod patches;
 #[cfg(test)]
 mod tests;
 
 pub use fault::ApplyFault;
+pub use laws::{edits_in_order, twice_is_once};
 pub use patch::{Kept, Patch, Replacement};
 pub use patches::{Patches, Stored};
