@@ -1,9 +1,9 @@
 -- Applying a patch to what it gave gives the same.
-use Rattle.std.proofs.Common.{◌≡◌, ◌≢◌, ℕ, ◌+◌, ◌<◌, ◌≤◌, Bool, true, false, ◌==◌, ◌&&◌, ◌⊎◌, inl, inr, cond, List, [], ◌∷◌, ◌++◌, length, get_or, take, refl, sym, ap, subst, ◌∙◌, append_assoc, arith}
-use Rattle.std.specs.Prelude.{nat_lt, Option, Some, None}
+use Rattle.std.proofs.Common.{◌≡◌, ◌≢◌, ℕ, ◌+◌, ◌<◌, ◌≤◌, Bool, true, false, ◌==◌, inl, inr, cond, List, [], ◌∷◌, ◌++◌, length, get_or, take, refl, sym, ap, subst, ◌∙◌, arith}
+use Rattle.std.specs.Prelude.{nat_lt, Some, None}
 use Rattle.std.specs.List.{list_all}
-use Rattle.std.proofs.Math.ListN.{set, get_or-append}
-use Rattle.std.proofs.lemmas.Bool.{and_parts, and_from, ltb-true, lt-ltb, eq-eqb, eqb-true, leb-true, cases_eq, cases_lt, cases_Bool}
+use Rattle.std.proofs.Math.ListN.{get_or-append}
+use Rattle.std.proofs.lemmas.Bool.{and_parts, and_from, ltb-true, lt-ltb, eq-eqb, eqb-true, leb-true, cases_eq, cases_lt}
 use Rattle.std.proofs.lemmas.List.{append-nil, take_at, length-append, length-take, get_or-set_same, get_or-set_other, get_or-take, set-set, set_comm, set_past}
 use Rattle.ckd_types.specs.declared.record.Record.{Record}
 use Rattle.ckd_types.specs.declared.record.Edit.TheVariants.{Update}
@@ -26,10 +26,11 @@ new_record r records = record (get_or records r.index (empty_zero 0)) { key = r.
 -- ---- replacements one after the other
 
 pub overwritten : (r s : Replacement) → r.index ≡ s.index → (x : List Record) → put r (put s x) ≡ put r x
-overwritten r s same x = elim (cases_lt s.index (length x)) [ | inl there ↦ inside there | inr past ↦ outside past ]
+overwritten r s same x = elim (cases_lt s.index (length x)) [ inl there ↦ inside there | inr past ↦ outside past ]
   where
     inside : s.index < length x → put r (put s x) ≡ put r x
     inside there = rw (same, get_or-set_same x s.index (new_record s x) (empty_zero 0) there) (set-set x s.index (new_record s x) (record (get_or x s.index (empty_zero 0)) { key = r.key; body = r.body }))
+
     outside : length x ≤ s.index → put r (put s x) ≡ put r x
     outside past = ap (put r) (set_past x s.index (new_record s x) past)
 

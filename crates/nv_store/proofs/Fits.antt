@@ -1,8 +1,8 @@
 -- Which records fit on a track.
-use Rattle.std.proofs.Common.{◌≡◌, ℕ, suc, ◌+◌, ◌<◌, ◌≤◌, Bool, true, false, ◌&&◌, List, [], ◌∷◌, ◌++◌, length, get_or, take, drop, refl, sym, ap, ◌∙◌, append_assoc, arith}
-use Rattle.std.specs.Prelude.{nat_le, All, sum_by}
+use Rattle.std.proofs.Common.{◌≡◌, ℕ, suc, ◌+◌, ◌<◌, ◌≤◌, true, false, List, [], ◌∷◌, ◌++◌, length, get_or, take, drop, refl, sym, ap, ◌∙◌, append_assoc, arith}
+use Rattle.std.specs.Prelude.{All, sum_by}
 use Rattle.std.specs.List.{list_all}
-use Rattle.std.proofs.lemmas.Bool.{and_parts, and_from, and_left, and_right, cases_Bool, both_ways, false_from_ne_true, leb-true, leb-false, le-leb, lt-leb, eq-eqb}
+use Rattle.std.proofs.lemmas.Bool.{and_parts, and_from, and_left, and_right, both_ways, false_from_ne_true, leb-true, leb-false, le-leb, lt-leb, eq-eqb}
 use Rattle.std.proofs.lemmas.List.{length-take, length-append, take_all, at_drop_more}
 use Rattle.std.proofs.lemmas.List.Folds.{list_all-append}
 use Rattle.std.proofs.lemmas.List.Sums.{sum_by-append}
@@ -11,7 +11,7 @@ use Rattle.ckd_types.specs.declared.record.Record.{Record}
 use Rattle.ckd_types.specs.Geometry.{cost, capacity}
 use Rattle.ckd_types.specs.Track.{IsRecord, HasZero, Fits, cost_of}
 use Rattle.track_image.specs.Image.{Image, is_room_behind}
-use Rattle.nv_store.specs.Fit.{is_record, is_zero, has_zero, is_fit}
+use Rattle.nv_store.specs.Fit.{is_record, has_zero, is_fit}
 
 -- the units of some records, and of more behind them
 cost-append : (g : Geometry) (xs ys : List Record) → 0 < length xs → cost_of g (xs ++ ys) ≡ cost_of g xs + sum_by (λ (r : Record). cost g (length r.key) (length r.body)) ys

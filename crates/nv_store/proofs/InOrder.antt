@@ -1,9 +1,9 @@
 -- A patch that is applied does what its edits do one after the other.
-use Rattle.std.proofs.Common.{◌≡◌, ◌≢◌, ℕ, ◌+◌, ◌-◌, ◌<◌, ◌≤◌, Bool, true, false, ◌==◌, not, ◌⊎◌, inl, inr, List, [], ◌∷◌, ◌++◌, length, get_or, take, filter, refl, sym, ap, subst, ◌∙◌, append_assoc, arith}
-use Rattle.std.specs.Prelude.{nat_le, nat_lt, Option, Some, None}
+use Rattle.std.proofs.Common.{◌≡◌, ℕ, ◌+◌, ◌-◌, ◌<◌, ◌≤◌, true, false, ◌==◌, not, ◌⊎◌, inl, inr, List, [], ◌∷◌, ◌++◌, length, get_or, take, filter, refl, sym, ap, subst, ◌∙◌, append_assoc, arith}
+use Rattle.std.specs.Prelude.{nat_le, Some}
 use Rattle.std.proofs.Math.ListN.{set, get_or-append}
 use Rattle.std.proofs.Math.Seq.{take-append-add}
-use Rattle.std.proofs.lemmas.Bool.{and_parts, ltb-true, ltb-false, lt-ltb, le-ltb, leb-true, leb-false, eqb-true, ne_eqb, cases_lt, cases_Bool}
+use Rattle.std.proofs.lemmas.Bool.{and_parts, ltb-true, lt-ltb, leb-true, leb-false, eqb-true, ne_eqb, cases_lt, cases_Bool}
 use Rattle.std.proofs.lemmas.List.{append-nil, take_all, take-take, take-append-le, length-append, length-take, length-set, get_or-append-add, set-append_left, set-append_right, set_past}
 use Rattle.ckd_types.specs.declared.record.Record.{Record}
 use Rattle.ckd_types.specs.declared.record.Edit.{Edit}
@@ -14,7 +14,7 @@ use Rattle.track_image.specs.Image.{Image}
 use Rattle.nv_store.specs.declared.patch.Replacement.{Replacement}
 use Rattle.nv_store.specs.declared.patch.Kept.{Kept}
 use Rattle.nv_store.specs.declared.patch.Kept.TheVariants.{Whole, UpTo, Nothing}
-use Rattle.nv_store.specs.Patch.{PatchView, IsPatch, no_edits, is_whole, is_kept, with_replacement, added, reaches, revised, stay, patched, patched_image, applied}
+use Rattle.nv_store.specs.Patch.{PatchView, IsPatch, no_edits, is_whole, with_replacement, added, reaches, revised, stay, applied}
 use Rattle.nv_store.specs.Edits.{all_added, all_edited}
 use Rattle.nv_store.proofs.Revisions.{update_take, length_revised, revised_take, revised_nothing}
 use Rattle.nv_store.proofs.Again.{put, erased, revised-push, nothing_behind, length_front, applied_is}
@@ -27,10 +27,11 @@ without r rs = filter (λ (x : Replacement). not (x.index == r.index)) rs
 
 without_erased : (r : Replacement) (rs : List Replacement) (x : List Record) → put r (revised (without r rs) x) ≡ put r (revised rs x)
 without_erased r [] x = refl
-without_erased r (w ∷ rs) x = elim (cases_Bool (w.index == r.index)) [ | inl same ↦ here same (without_erased r rs x) | inr other ↦ there other (without_erased r rs (put w x)) ]
+without_erased r (w ∷ rs) x = elim (cases_Bool (w.index == r.index)) [ inl same ↦ here same (without_erased r rs x) | inr other ↦ there other (without_erased r rs (put w x)) ]
   where
     here : (w.index == r.index) ≡ true → put r (revised (without r rs) x) ≡ put r (revised rs x) → put r (revised (without r (w ∷ rs)) x) ≡ put r (revised (w ∷ rs) x)
     here same rest = rw same (rest ∙ sym (erased r w (eqb-true _ _ same) rs x))
+
     there : (w.index == r.index) ≡ false → put r (revised (without r rs) (put w x)) ≡ put r (revised rs (put w x)) → put r (revised (without r (w ∷ rs)) x) ≡ put r (revised (w ∷ rs) x)
     there other rest = rw other rest
 
@@ -49,10 +50,11 @@ up_to_short : (a : ℕ) (rs : List Replacement) (x : List Record) → length x �
 up_to_short a [] x short = refl
 up_to_short a (w ∷ rs) x short =
     let longer : length (put w x) ≤ a + 1 = omega (arith, short, length-set x w.index (record (get_or x w.index (empty_zero 0)) { key = w.key; body = w.body })) in
-    elim (cases_Bool (nat_le w.index a)) [ | inl before ↦ here before (up_to_short a rs (put w x) longer) | inr behind ↦ there behind (up_to_short a rs x short) ]
+    elim (cases_Bool (nat_le w.index a)) [ inl before ↦ here before (up_to_short a rs (put w x) longer) | inr behind ↦ there behind (up_to_short a rs x short) ]
   where
     here : nat_le w.index a ≡ true → revised (up_to a rs) (put w x) ≡ revised rs (put w x) → revised (up_to a (w ∷ rs)) x ≡ revised (w ∷ rs) x
     here before rest = rw before rest
+
     there : nat_le w.index a ≡ false → revised (up_to a rs) x ≡ revised rs x → revised (up_to a (w ∷ rs)) x ≡ revised (w ∷ rs) x
     there behind rest =
         let past : length x ≤ w.index = omega (arith, short, leb-false w.index a behind) in
@@ -142,7 +144,7 @@ cut_there : (a : ℕ) (new : Record) (rs : List Replacement) (x s : List Record)
 cut_there a new rs x s there front = inl (there, ap (λ (y : List Record). y ++ new ∷ []) (front ∙ cut_front a rs x))
 
 cut_whole : (a : ℕ) (new : Record) (rs : List Replacement) (x s : List Record) → s ≡ revised rs x → FollowsBy (UpTo a) (up_to a rs) (new ∷ []) x (take (a + 1) s ++ new ∷ [])
-cut_whole a new rs x s plain = elim (cases_lt a (length x)) [ | inl there ↦ cut_there a new rs x s there (ap (take (a + 1)) plain) | inr past ↦ outside past ]
+cut_whole a new rs x s plain = elim (cases_lt a (length x)) [ inl there ↦ cut_there a new rs x s there (ap (take (a + 1)) plain) | inr past ↦ outside past ]
   where
     outside : length x ≤ a → FollowsBy (UpTo a) (up_to a rs) (new ∷ []) x (take (a + 1) s ++ new ∷ [])
     outside past =
@@ -156,7 +158,7 @@ cut_kept a last new rs behind x s before (inl h) =
     let there : a < length x = omega (arith, before, h.0) in
     let same : take (a + 1) front ≡ take (a + 1) (revised rs x) = ap (take (a + 1)) (sym (revised_take (last + 1) rs x)) ∙ take-take (a + 1) (last + 1) (revised rs x) (omega (arith, before)) in
     cut_there a new rs x s there (ap (take (a + 1)) h.1 ∙ take-append-le (a + 1) front behind long ∙ same)
-cut_kept a last new rs behind x s before (inr h) = elim (cases_lt a (length x)) [ | inl there ↦ inside there | inr past ↦ ends_short a new rs (new ∷ []) x s past h.1.0 h.1.1 ]
+cut_kept a last new rs behind x s before (inr h) = elim (cases_lt a (length x)) [ inl there ↦ inside there | inr past ↦ ends_short a new rs (new ∷ []) x s past h.1.0 h.1.1 ]
   where
     inside : a < length x → FollowsBy (UpTo a) (up_to a rs) (new ∷ []) x (take (a + 1) s ++ new ∷ [])
     inside there = cut_there a new rs x s there (sym (take-take (a + 1) (length x) s (omega arith)) ∙ ap (take (a + 1)) h.1.0)
@@ -175,18 +177,20 @@ follows_added (Update i key body) Whole rs behind x s is h =
     let r : Replacement = record { index = i; key = key; body = body } in
     ap (put r) (no_cut rs behind x s is h) ∙ sym (revised_with r rs x) ∙ sym (append-nil (revised (with_replacement r rs) x)) ∙ ap (λ (y : List Record). revised (with_replacement r rs) x ++ y) (sym (nothing_behind behind is))
 follows_added (Update i key body) Nothing rs behind x s is h = ap (edited (Update i key body)) h
-follows_added (Update i key body) (UpTo last) rs behind x s is h = elim (cases_Bool (nat_le i last)) [ | inl before' ↦ here before' | inr past' ↦ there past' ]
+follows_added (Update i key body) (UpTo last) rs behind x s is h = elim (cases_Bool (nat_le i last)) [ inl before' ↦ here before' | inr past' ↦ there past' ]
   where
     here : nat_le i last ≡ true → Follows (added (parts rs (UpTo last) behind) (Update i key body)) x (edited (Update i key body) s)
     here is_before = rw is_before (update_kept (record { index = i; key = key; body = body }) last rs behind x s (leb-true i last is_before) h)
+
     there : nat_le i last ≡ false → Follows (added (parts rs (UpTo last) behind) (Update i key body)) x (edited (Update i key body) s)
     there is_past = rw is_past (update_behind (record { index = i; key = key; body = body }) last rs behind x s (leb-false i last is_past) h)
 follows_added (Format a new) Whole rs behind x s is h = cut_whole a new rs x s (no_cut rs behind x s is h)
 follows_added (Format a new) Nothing rs behind x s is h = ap (edited (Format a new)) h
-follows_added (Format a new) (UpTo last) rs behind x s is h = elim (cases_Bool (nat_le a last)) [ | inl before' ↦ here before' | inr past' ↦ there past' ]
+follows_added (Format a new) (UpTo last) rs behind x s is h = elim (cases_Bool (nat_le a last)) [ inl before' ↦ here before' | inr past' ↦ there past' ]
   where
     here : nat_le a last ≡ true → Follows (added (parts rs (UpTo last) behind) (Format a new)) x (edited (Format a new) s)
     here is_before = rw is_before (cut_kept a last new rs behind x s (leb-true a last is_before) h)
+
     there : nat_le a last ≡ false → Follows (added (parts rs (UpTo last) behind) (Format a new)) x (edited (Format a new) s)
     there is_past = rw is_past (cut_behind a last new rs behind x s (leb-false a last is_past) h)
 follows_added (Zero new) kept rs behind x s is h = refl
@@ -197,18 +201,20 @@ some_record ys new = sym (ne_eqb (length (ys ++ new ∷ [])) 0 (λ e. omega (ari
 added_is_patch : (e : Edit) (kept : Kept) (rs : List Replacement) (behind : List Record) → is_whole kept ≡ (length behind == 0) → IsPatch (added (parts rs kept behind) e)
 added_is_patch (Update i key body) Whole rs behind is = record { behind = is }
 added_is_patch (Update i key body) Nothing rs behind is = record { behind = is ∙ ap (λ (n : ℕ). n == 0) (sym (length_put (record { index = i; key = key; body = body }) behind)) }
-added_is_patch (Update i key body) (UpTo last) rs behind is = elim (cases_Bool (nat_le i last)) [ | inl before' ↦ here before' | inr past' ↦ there past' ]
+added_is_patch (Update i key body) (UpTo last) rs behind is = elim (cases_Bool (nat_le i last)) [ inl before' ↦ here before' | inr past' ↦ there past' ]
   where
     here : nat_le i last ≡ true → IsPatch (added (parts rs (UpTo last) behind) (Update i key body))
     here is_before = record { behind = rw is_before is }
+
     there : nat_le i last ≡ false → IsPatch (added (parts rs (UpTo last) behind) (Update i key body))
     there is_past = record { behind = rw is_past (is ∙ ap (λ (n : ℕ). n == 0) (sym (length_put (record { index = i - (last + 1); key = key; body = body }) behind))) }
 added_is_patch (Format a new) Whole rs behind is = record { behind = refl }
 added_is_patch (Format a new) Nothing rs behind is = record { behind = some_record (take (a + 1) behind) new }
-added_is_patch (Format a new) (UpTo last) rs behind is = elim (cases_Bool (nat_le a last)) [ | inl before' ↦ here before' | inr past' ↦ there past' ]
+added_is_patch (Format a new) (UpTo last) rs behind is = elim (cases_Bool (nat_le a last)) [ inl before' ↦ here before' | inr past' ↦ there past' ]
   where
     here : nat_le a last ≡ true → IsPatch (added (parts rs (UpTo last) behind) (Format a new))
     here is_before = record { behind = rw is_before refl }
+
     there : nat_le a last ≡ false → IsPatch (added (parts rs (UpTo last) behind) (Format a new))
     there is_past = record { behind = rw is_past (some_record (take (a - (last + 1) + 1) behind) new) }
 added_is_patch (Zero new) kept rs behind is = record { behind = refl }

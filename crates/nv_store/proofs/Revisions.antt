@@ -1,6 +1,5 @@
 -- Replacements keep the lengths of the records of a track.
-use Rattle.std.proofs.Common.{◌≡◌, ◌≢◌, ℕ, ◌+◌, ◌<◌, ◌≤◌, Bool, true, false, ◌==◌, ◌&&◌, ◌⊎◌, inl, inr, List, [], ◌∷◌, length, get_or, take, drop, refl, sym, ap, subst, ◌∙◌, arith}
-use Rattle.std.specs.Prelude.{nat_lt}
+use Rattle.std.proofs.Common.{◌≡◌, ◌≢◌, ℕ, ◌+◌, ◌<◌, ◌≤◌, Bool, true, ◌&&◌, inl, inr, List, [], ◌∷◌, length, get_or, take, drop, refl, sym, ap, subst, ◌∙◌, arith}
 use Rattle.std.specs.List.{list_all}
 use Rattle.std.proofs.Math.ListN.{set}
 use Rattle.std.proofs.Math.Seq.{take-set-lt}
@@ -29,12 +28,13 @@ abbrev changed : List Record → ℕ → List ℕ → List ℕ → Record
 changed records i key body = record (get_or records i (empty_zero 0)) { key = key; body = body }
 
 pub lengths_kept : (records : List Record) (i : ℕ) (key body : List ℕ) (j k b : ℕ) → has_lengths records i (length key) (length body) ≡ true → has_lengths (edited (Update i key body) records) j k b ≡ has_lengths records j k b
-lengths_kept records i key body j k b h = elim (cases_eq j i) [ | inl same ↦ here same | inr other ↦ there other ]
+lengths_kept records i key body j k b h = elim (cases_eq j i) [ inl same ↦ here same | inr other ↦ there other ]
   where
     here : j ≡ i → has_lengths (edited (Update i key body) records) j k b ≡ has_lengths records j k b
     here same =
         let place : i < length records = place_there records i _ _ h in
         rw (same, length-set records i (changed records i key body), get_or-set_same records i (changed records i key body) (empty_zero 0) place, key_there records i _ _ h, body_there records i _ _ h) refl
+
     there : j ≢ i → has_lengths (edited (Update i key body) records) j k b ≡ has_lengths records j k b
     there other = rw (length-set records i (changed records i key body), get_or-set_other records i j (changed records i key body) (empty_zero 0) other) refl
 
@@ -62,11 +62,12 @@ next_revised records rs i r below is =
 
 -- a replacement before a cut is one of what stays
 pub update_take : (n i : ℕ) (key body : List ℕ) (records : List Record) → take n (edited (Update i key body) records) ≡ edited (Update i key body) (take n records)
-update_take n i key body records = elim (cases_lt i n) [ | inl before ↦ inside before | inr behind ↦ outside behind ]
+update_take n i key body records = elim (cases_lt i n) [ inl before ↦ inside before | inr behind ↦ outside behind ]
   where
     inside : i < n → take n (edited (Update i key body) records) ≡ edited (Update i key body) (take n records)
     inside before = take-set-lt n records i (changed records i key body) before
         ∙ ap (λ (x : Record). set (take n records) i (record x { key = key; body = body })) (sym (get_or-take n records i (empty_zero 0) before))
+
     outside : n ≤ i → take n (edited (Update i key body) records) ≡ edited (Update i key body) (take n records)
     outside behind =
         let past : length (take n records) ≤ i = omega (arith, length-take n records) in

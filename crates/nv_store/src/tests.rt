@@ -121,9 +121,24 @@ fn edits_in_order(rt: HostRuntime) -> Result<(), Fail> {
         &[],
         &[Step::Update(2, 1), Step::Format(1, 2), Step::Update(2, 3)],
         &[Step::Update(1, 1), Step::Update(1, 2), Step::Update(3, 3)],
-        &[Step::Format(2, 1), Step::Format(3, 2), Step::Update(4, 3), Step::Update(0, 4)],
-        &[Step::Format(9, 1), Step::Update(5, 2), Step::Format(1, 3), Step::Update(1, 4)],
-        &[Step::Zero(1), Step::Update(0, 2), Step::Format(0, 3), Step::Update(1, 4)],
+        &[
+            Step::Format(2, 1),
+            Step::Format(3, 2),
+            Step::Update(4, 3),
+            Step::Update(0, 4),
+        ],
+        &[
+            Step::Format(9, 1),
+            Step::Update(5, 2),
+            Step::Format(1, 3),
+            Step::Update(1, 4),
+        ],
+        &[
+            Step::Zero(1),
+            Step::Update(0, 2),
+            Step::Format(0, 3),
+            Step::Update(1, 4),
+        ],
         &[Step::Update(4, 1), Step::Zero(2), Step::Format(3, 3)],
         &[Step::Format(1, 1), Step::Update(7, 2)],
         &[Step::Update(9, 1), Step::Format(0, 2)],
@@ -149,7 +164,10 @@ fn update_of_a_record_behind_a_cut(rt: HostRuntime) -> Result<(), Fail> {
     let patched = apply(alloc, &patch, &track(alloc, 3)?)?.ok_or("unfit")?;
     assert_eq!(rt; patched.len(), 3);
     let new = patched.record_at(2);
-    assert_eq!(rt; (new.id().r, new.key(), new.body()), (2, &[3u8][..], &[3u8, 3][..]));
+    assert_eq!(rt;
+        (new.id().r, new.key(), new.body()),
+        (2, &[3u8][..], &[3u8, 3][..])
+    );
     let alone = apply(alloc, &patch, &track(alloc, 0)?)?;
     assert!(rt; alone.is_none());
     Ok(())
@@ -216,7 +234,10 @@ fn patches_come_and_go(rt: HostRuntime) -> Result<(), Fail> {
     if !patches.has(t) {
         patches.put(t, Patch::new(alloc), 7)?;
     }
-    assert_eq!(rt; (patches.has(t), patches.slot_of(t), patches.count()), (true, Some(7), 1));
+    assert_eq!(rt;
+        (patches.has(t), patches.slot_of(t), patches.count()),
+        (true, Some(7), 1)
+    );
     if patches.has(t) {
         patches.add(t, edit(alloc, Step::Zero(1))?)?;
     }

@@ -1,8 +1,8 @@
 //! Which tracks wait for the writing that a loss made necessary.
 #![tactic(auto)]
 
-mod waiting;
 #[cfg(test)]
 mod tests;
+mod waiting;
 
 pub use waiting::{next, pending, waits};
