@@ -11,6 +11,6 @@ mod patches;
 mod tests;
 
 pub use fault::ApplyFault;
-pub use laws::{edits_in_order, twice_is_once};
+pub use laws::{edits_in_order, fit_is_tested, twice_is_once};
 pub use patch::{Kept, Patch, Replacement};
 pub use patches::{Patches, Stored};

@@ -1,4 +1,4 @@
-use Rattle.std.proofs.Common.{◌≡◌, ◌+◌, ◌≤◌, cond, sym, arith}
+use Rattle.std.proofs.Common.{◌≡◌, cond, sym, arith}
 use Rattle.track_cache.specs.Frames.{is_modified}
 use Rattle.nv_store.specs.Patches.{has_patch}
 use Rattle.track_table.proofs.Tracks.{count_more, all_counted}
