@@ -1,0 +1,5 @@
+pub mod Fits
+pub mod Revisions
+pub mod Applied
+pub mod Again
+pub mod InOrder

@@ -1,0 +1,21 @@
+-- Whether records fit on a track, as a test.
+use Rattle.std.specs.Prelude.{◌==◌, ◌&&◌, nat_le, Bool, false, List, [], ◌∷◌, length}
+use Rattle.std.specs.List.{list_all}
+use Rattle.ckd_types.specs.declared.geometry.Geometry.{Geometry}
+use Rattle.ckd_types.specs.declared.record.Record.{Record}
+use Rattle.ckd_types.specs.Geometry.{capacity}
+use Rattle.ckd_types.specs.Track.{cost_of}
+
+abbrev pub is_record : Record → Bool
+is_record r = nat_le (length r.key) 255 && nat_le (length r.body) 65534
+
+-- the lengths of a record 0
+abbrev pub is_zero : Record → Bool
+is_zero r = (length r.key == 0) && (length r.body == 8)
+
+abbrev pub has_zero : List Record → Bool
+has_zero [] = false
+has_zero (r ∷ rest) = is_zero r
+
+abbrev pub is_fit : Geometry → List Record → Bool
+is_fit g records = has_zero records && (list_all is_record records && nat_le (cost_of g records) (capacity g))

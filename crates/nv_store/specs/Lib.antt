@@ -1,0 +1,5 @@
+pub mod Fit
+pub mod Gives
+pub mod Patch
+pub mod Patches
+pub mod Edits

@@ -1,0 +1,143 @@
+ghost use Rattle.std.specs.Prelude.{◌≡◌, ◌<◌, ◌+◌, ◌++◌, ◌&&◌, ◌==◌, Err, Some, OnOk, IfOk, true, false, take, length};
+ghost use Rattle.std.specs.List.{list_all};
+ghost use Rattle.ckd_types.specs.declared.record.Edit.TheVariants as edits;
+ghost use Rattle.track_image.specs.Image.{edited_image};
+ghost use Rattle.nv_store.specs.Fit.{is_fit};
+ghost use Rattle.nv_store.specs.Gives.{Gives};
+ghost use Rattle.nv_store.specs.Patch.{is_whole, reaches, has_lengths, is_replaceable, revised, stay, applied};
+
+use crate::fit::{is_zero, put_copies, put_copy};
+use crate::{ApplyFault, Kept, Patch, Replacement};
+use ckd_types::Record;
+use std::alloc::Global;
+use track_image::TrackImage;
+
+/// Whether the record that a cut follows is there.
+fn reaches(kept: Kept, image: &TrackImage) -> bool
+    ensures { result ≡ reaches kept image.now.track.records }
+{
+    match kept {
+        Kept::UpTo(last) => last < image.len(),
+        _ => true,
+    }
+}
+
+/// Whether a record stays and is there, and its key and its data are as long as the new ones.
+fn is_replaceable(kept: Kept, image: &TrackImage, r: &Replacement) -> bool
+    ensures { result ≡ is_replaceable kept image.now.track.records r.now }
+{
+    if !kept.keeps(r.index) {
+        return false;
+    }
+    if r.index >= image.len() {
+        return false;
+    }
+    let old = image.record_at(r.index);
+    old.key().len() == r.key.len() && old.body().len() == r.body.len()
+}
+
+fn are_replaceable(kept: Kept, image: &TrackImage, replaced: &[Replacement]) -> bool
+    ensures { result ≡ list_all (is_replaceable kept image.now.track.records) replaced.now }
+{
+    replaced.iter().all(|r| is_replaceable(kept, image, r))
+}
+
+#[tactic(auto, using(crate::proofs::Revisions::place_there, crate::proofs::Revisions::key_there, crate::proofs::Revisions::body_there))]
+fn replace(image: &mut TrackImage, r: &Replacement)
+    requires { has_lengths image.old.track.records r.now.index (length r.now.key) (length r.now.body) ≡ true }
+    ensures { image.new ≡ edited_image (edits.Update r.now.index r.now.key r.now.body) image.old }
+{
+    image.update(r.index, r.key.as_slice(), r.body.as_slice());
+}
+
+/// Puts the replacements into an image, of which a patch keeps all that are replaced.
+fn revise(image: &mut TrackImage, kept: Kept, replaced: &[Replacement])
+    requires { list_all (is_replaceable kept image.old.track.records) replaced.now ≡ true }
+    ensures { image.new ≡ record image.old { track = record image.old.track { records = revised replaced.now image.old.track.records } } }
+{
+    let _ = kept;
+    for r in replaced {
+        replace(image, r);
+    }
+}
+
+/// Puts copies of records behind record `last`, instead of what stands there.
+fn cut_behind(
+    alloc: Global,
+    image: &mut TrackImage,
+    last: usize,
+    behind: &[Record],
+) -> Result<(), ApplyFault>
+    requires place { last < length image.old.track.records }
+    requires some { 0 < length behind.now }
+    ensures cut { OnOk result (image.new ≡ record image.old { track = record image.old.track { records = take (last + 1) image.old.track.records ++ behind.now } }) }
+    ensures unfit { result ≡ Err ApplyFault.Unfit → is_fit image.old.geometry (take (last + 1) image.old.track.records ++ behind.now) ≡ false }
+{
+    put_copy(alloc, image, last, &behind[0])?;
+    put_copies(alloc, image, &behind[1..])
+}
+
+/// Puts copies of records in place of all.
+fn put_all(alloc: Global, image: &mut TrackImage, records: &[Record]) -> Result<(), ApplyFault>
+    requires { 0 < length records.now }
+    ensures put { OnOk result (image.new ≡ record image.old { track = record image.old.track { records = records.now } }) }
+    ensures unfit { result ≡ Err ApplyFault.Unfit → is_fit image.old.geometry records.now ≡ false }
+{
+    if !is_zero(&records[0]) {
+        return Err(ApplyFault::Unfit);
+    }
+    image.set_zero(records[0].copy(alloc)?);
+    put_copies(alloc, image, &records[1..])
+}
+
+fn cut(
+    alloc: Global,
+    image: &mut TrackImage,
+    kept: Kept,
+    behind: &[Record],
+) -> Result<(), ApplyFault>
+    requires reached { reaches kept image.old.track.records ≡ true }
+    requires behind { is_whole kept ≡ (length behind.now == 0) }
+    ensures cut { OnOk result (image.new ≡ record image.old { track = record image.old.track { records = stay kept image.old.track.records ++ behind.now } }) }
+    ensures unfit { result ≡ Err ApplyFault.Unfit → is_fit image.old.geometry (stay kept image.old.track.records ++ behind.now) ≡ false }
+{
+    match kept {
+        Kept::Whole => Ok(()),
+        Kept::UpTo(last) => cut_behind(alloc, image, last, behind),
+        Kept::Nothing => put_all(alloc, image, behind),
+    }
+}
+
+fn patched(
+    alloc: Global,
+    image: &TrackImage,
+    kept: Kept,
+    replaced: &[Replacement],
+    behind: &[Record],
+) -> Result<TrackImage, ApplyFault>
+    requires { is_whole kept ≡ (length behind.now == 0) }
+    ensures { Gives result (applied (record { replaced = replaced.now; kept = kept; behind = behind.now }) image.now) }
+{
+    if !reaches(kept, image) {
+        return Err(ApplyFault::Unfit);
+    }
+    if !are_replaceable(kept, image, replaced) {
+        return Err(ApplyFault::Unfit);
+    }
+    let mut patched = image.copy(alloc)?;
+    revise(&mut patched, kept, replaced);
+    cut(alloc, &mut patched, kept, behind)?;
+    patched.fits();
+    Ok(patched)
+}
+
+impl Patch {
+    /// The image of the track with the edits that were added, in their order. An update of a record
+    /// that isn't there changes nothing.
+    pub fn apply(&self, alloc: Global, image: &TrackImage) -> Result<TrackImage, ApplyFault>
+        ensures { Gives result (applied self.now image.now) }
+    {
+        self.is_patch();
+        patched(alloc, image, self.kept(), self.replaced(), self.behind())
+    }
+}

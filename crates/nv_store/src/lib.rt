@@ -1,0 +1,16 @@
+//! The writes that the nonvolatile store holds until a volume has them.
+#![tactic(auto)]
+
+mod apply;
+mod fault;
+mod fit;
+mod laws;
+mod patch;
+mod patches;
+#[cfg(test)]
+mod tests;
+
+pub use fault::ApplyFault;
+pub use laws::{edits_in_order, fit_is_tested, twice_is_once};
+pub use patch::{Kept, Patch, Replacement};
+pub use patches::{Patches, Stored};

@@ -1,0 +1,128 @@
+ghost use Rattle.std.specs.Prelude.{◌≡◌, ◌≤◌, ◌<◌, ◌*◌, IsOk, OnOk, OnErr, IsTrue, false, [], None, length, replicate, count_by, is_some, slice_set};
+ghost use Rattle.std.specs.Option.{option_copied};
+ghost use Rattle.track_table.specs.Table.{with_places};
+ghost use Rattle.nv_store.specs.Patches.{stored_at, has_patch, patch_at, slot_at, with_edit, put_patch};
+
+use crate::Patch;
+use ckd_types::{Edit, HEADS, NoMemory, TrackNo};
+use std::alloc::Global;
+use std::marker::Model;
+use track_table::TrackTable;
+
+/// A patch, and the slot of the store that holds it.
+#[derive(Debug, Drop)]
+pub struct Stored {
+    pub patch: Patch,
+    pub slot: usize,
+}
+
+/// The patches of a device's tracks. Contracts see a place for each track that has been made room for.
+#[derive(Debug, Drop)]
+pub struct Patches {
+    table: TrackTable<Stored>,
+}
+
+impl Model for Patches {
+    ghost use Rattle.std.specs.Prelude.{List, Option};
+    ghost use Rattle.nv_store.specs.declared.patches.Stored.{Stored};
+
+    ghost Value = { List (Option Stored) };
+
+    ghost view = { λ p. p.table };
+}
+
+impl Patches {
+    /// No patch. Takes no memory.
+    pub fn new(alloc: Global) -> Patches
+        ensures { result ≡ [] }
+    {
+        Patches {
+            table: TrackTable::new(alloc),
+        }
+    }
+
+    /// Makes places for the tracks of a device, in which `put` takes no memory.
+    pub fn reserve(&mut self, cylinders: u8) -> Result<(), NoMemory>
+        requires { cylinders ≤ 64 }
+        ensures made { OnOk result (self.new ≡ with_places (cylinders * 15) self.old) }
+        ensures same { OnErr result (self.new ≡ self.old) }
+        ensures free { cylinders * 15 ≤ length self.old → IsOk result }
+    {
+        self.table
+            .reserve(usize::from(cylinders) * usize::from(HEADS))
+    }
+
+    /// Whether a track has a patch.
+    pub fn has(&self, t: TrackNo) -> bool
+        ensures { result ≡ has_patch self.now t }
+    {
+        self.table.has(t)
+    }
+
+    /// A track's patch.
+    pub fn get(&self, t: TrackNo) -> Option<&Patch>
+        ensures { option_copied result ≡ patch_at self.now t }
+    {
+        let stored = self.table.get(t)?;
+        Some(&stored.patch)
+    }
+
+    /// The slot of a track's patch.
+    pub fn slot_of(&self, t: TrackNo) -> Option<usize>
+        ensures { result ≡ slot_at self.now t }
+    {
+        match self.table.get(t) {
+            Some(stored) => Some(stored.slot),
+            None => None,
+        }
+    }
+
+    /// The number of patches.
+    pub fn count(&self) -> usize
+        ensures count { result ≡ count_by is_some self.now }
+        ensures range { result ≤ 960 }
+    {
+        self.table.count()
+    }
+
+    /// Puts a patch and its slot into a track's place. Takes memory only where the track has no place.
+    pub fn put(&mut self, t: TrackNo, patch: Patch, slot: usize) -> Result<(), NoMemory>
+        requires { has_patch self.old t ≡ false }
+        ensures put { OnOk result (self.new ≡ put_patch t patch slot self.old) }
+        ensures same { OnErr result (self.new ≡ self.old) }
+        ensures free { t < length self.old → IsOk result }
+    {
+        self.table.reserve(usize::from(t.get()) + 1)?;
+        self.table.exchange(t, Some(Stored { patch, slot }));
+        Ok(())
+    }
+
+    /// Adds an edit to a track's patch.
+    #[tactic(auto, using(track_table::proofs::Places::set_again))]
+    pub fn add(&mut self, t: TrackNo, e: Edit) -> Result<(), NoMemory>
+        requires { IsTrue (has_patch self.old t) }
+        ensures added { OnOk result (self.new ≡ slice_set self.old t (with_edit e (stored_at self.old t))) }
+        ensures same { OnErr result (self.new ≡ self.old) }
+    {
+        let mut stored = self.table.exchange(t, None).unwrap();
+        let added = stored.patch.add(e);
+        self.table.exchange(t, Some(stored));
+        added
+    }
+
+    /// Drops a track's patch, and gives its slot.
+    pub fn take(&mut self, t: TrackNo) -> Option<usize>
+        ensures slot { result ≡ slot_at self.old t }
+        ensures rest { self.new ≡ slice_set self.old t None }
+    {
+        let stored = self.table.exchange(t, None)?;
+        Some(stored.slot)
+    }
+
+    /// Drops every patch. The places stay.
+    pub fn lose_all(&mut self)
+        ensures { self.new ≡ replicate (length self.old) None }
+    {
+        self.table.clear();
+    }
+}

@@ -1,0 +1,248 @@
+ghost use Rattle.std.specs.Prelude.{◌≡◌, ◌≤◌, IfOk, length};
+ghost use Rattle.ckd_types.specs.Track.{IsRecord};
+
+use crate::{ApplyFault, Patch, Patches};
+use ckd_types::{Bytes, Cchh, Edit, Geometry, NoMemory, RecId, Record, TrackNo};
+use std::alloc::Global;
+use std::test::Fail;
+use track_image::{AddFault, TrackImage};
+
+/// An edit whose bytes are all the same. Record 0 has eight bytes of data, each other record a key
+/// of one byte and two bytes of data.
+#[derive(Clone, Copy)]
+enum Step {
+    Update(usize, u8),
+    Format(usize, u8),
+    Zero(u8),
+}
+
+fn record(alloc: Global, r: u8, key: &[u8], body: &[u8]) -> Result<Record, NoMemory>
+    ensures { IfOk result (λ made. (made.key ≡ key.now) × (made.body ≡ body.now)) }
+{
+    Ok(Record {
+        id: RecId {
+            cchh: Cchh { cc: 1, hh: 2 },
+            r,
+        },
+        key: Bytes::from_slice(alloc, key)?,
+        body: Bytes::from_slice(alloc, body)?,
+    })
+}
+
+fn edit(alloc: Global, step: Step) -> Result<Edit, NoMemory> {
+    Ok(match step {
+        Step::Update(0, byte) => Edit::Update {
+            index: 0,
+            key: Bytes::new(),
+            body: Bytes::from_slice(alloc, &[byte; 8])?,
+        },
+        Step::Update(index, byte) => Edit::Update {
+            index,
+            key: Bytes::from_slice(alloc, &[byte; 1])?,
+            body: Bytes::from_slice(alloc, &[byte; 2])?,
+        },
+        Step::Format(after, byte) => Edit::Format {
+            after,
+            added: record(alloc, byte, &[byte; 1], &[byte; 2])?,
+        },
+        Step::Zero(byte) => Edit::Zero {
+            added: record(alloc, byte, &[], &[byte; 8])?,
+        },
+    })
+}
+
+fn patch_of(alloc: Global, steps: &[Step]) -> Result<Patch, NoMemory> {
+    let mut patch = Patch::new(alloc);
+    for step in steps {
+        patch.add(edit(alloc, *step)?)?;
+    }
+    Ok(patch)
+}
+
+/// Writes over a record that is there and is as long.
+fn update(image: &mut TrackImage, i: usize, key: &[u8], body: &[u8]) {
+    if i < image.len() {
+        let old = image.record_at(i);
+        if old.key().len() == key.len() && old.body().len() == body.len() {
+            image.update(i, key, body);
+        }
+    }
+}
+
+fn put_behind(alloc: Global, image: &mut TrackImage, after: usize, byte: u8) -> Result<(), Fail> {
+    let last = image.len() - 1;
+    let place = if after < last { after } else { last };
+    match image.cut_and_add(place, record(alloc, byte, &[byte; 1], &[byte; 2])?) {
+        Ok(()) => Ok(()),
+        Err(AddFault::Unfit) => Err(Fail::from("no room")),
+        Err(AddFault::NoMemory) => Err(Fail::from("no memory")),
+    }
+}
+
+/// The edits one after the other, on the image itself.
+fn edit_in_order(alloc: Global, image: &mut TrackImage, steps: &[Step]) -> Result<(), Fail> {
+    for step in steps {
+        match *step {
+            Step::Update(0, byte) => update(image, 0, &[], &[byte; 8]),
+            Step::Update(i, byte) => update(image, i, &[byte; 1], &[byte; 2]),
+            Step::Format(after, byte) => put_behind(alloc, image, after, byte)?,
+            Step::Zero(byte) => image.set_zero(record(alloc, byte, &[], &[byte; 8])?),
+        }
+    }
+    Ok(())
+}
+
+/// A track of record 0 and some more.
+fn track(alloc: Global, more: usize) -> Result<TrackImage, Fail> {
+    let t = TrackNo::new(17).ok_or("track")?;
+    let mut image = TrackImage::empty(alloc, Geometry::D3390, t)?;
+    for n in 0..more {
+        put_behind(alloc, &mut image, n, 100)?;
+    }
+    Ok(image)
+}
+
+fn apply(alloc: Global, patch: &Patch, image: &TrackImage) -> Result<Option<TrackImage>, Fail> {
+    match patch.apply(alloc, image) {
+        Ok(patched) => Ok(Some(patched)),
+        Err(ApplyFault::Unfit) => Ok(None),
+        Err(ApplyFault::NoMemory) => Err(Fail::from("no memory")),
+    }
+}
+
+fn are_same(alloc: Global, a: &TrackImage, b: &TrackImage) -> Result<bool, NoMemory> {
+    Ok(a.to_bytes(alloc)?.as_slice() == b.to_bytes(alloc)?.as_slice())
+}
+
+#[test]
+fn edits_in_order(rt: HostRuntime) -> Result<(), Fail> {
+    let alloc = rt.alloc();
+    let rows: [&[Step]; 9] = [
+        &[],
+        &[Step::Update(2, 1), Step::Format(1, 2), Step::Update(2, 3)],
+        &[Step::Update(1, 1), Step::Update(1, 2), Step::Update(3, 3)],
+        &[
+            Step::Format(2, 1),
+            Step::Format(3, 2),
+            Step::Update(4, 3),
+            Step::Update(0, 4),
+        ],
+        &[
+            Step::Format(9, 1),
+            Step::Update(5, 2),
+            Step::Format(1, 3),
+            Step::Update(1, 4),
+        ],
+        &[
+            Step::Zero(1),
+            Step::Update(0, 2),
+            Step::Format(0, 3),
+            Step::Update(1, 4),
+        ],
+        &[Step::Update(4, 1), Step::Zero(2), Step::Format(3, 3)],
+        &[Step::Format(1, 1), Step::Update(7, 2)],
+        &[Step::Update(9, 1), Step::Format(0, 2)],
+    ];
+    for steps in rows {
+        let patch = patch_of(alloc, steps)?;
+        let old = track(alloc, 4)?;
+        let mut wanted = old.copy(alloc)?;
+        edit_in_order(alloc, &mut wanted, steps)?;
+        let patched = apply(alloc, &patch, &old)?.ok_or("unfit")?;
+        assert!(rt; are_same(alloc, &patched, &wanted)?);
+        let again = apply(alloc, &patch, &patched)?.ok_or("unfit again")?;
+        assert!(rt; are_same(alloc, &again, &wanted)?);
+    }
+    Ok(())
+}
+
+#[test]
+fn update_of_a_record_behind_a_cut(rt: HostRuntime) -> Result<(), Fail> {
+    let alloc = rt.alloc();
+    let steps = [Step::Update(2, 1), Step::Format(1, 2), Step::Update(2, 3)];
+    let patch = patch_of(alloc, &steps)?;
+    let patched = apply(alloc, &patch, &track(alloc, 3)?)?.ok_or("unfit")?;
+    assert_eq!(rt; patched.len(), 3);
+    let new = patched.record_at(2);
+    assert_eq!(rt;
+        (new.id().r, new.key(), new.body()),
+        (2, &[3u8][..], &[3u8, 3][..])
+    );
+    let alone = apply(alloc, &patch, &track(alloc, 0)?)?;
+    assert!(rt; alone.is_none());
+    Ok(())
+}
+
+#[test]
+fn unfit(rt: HostRuntime) -> Result<(), Fail> {
+    let alloc = rt.alloc();
+    let long = Bytes::from_vec(vec![in alloc; 0; 56000]?);
+    let edits = [
+        edit(alloc, Step::Update(3, 1))?,
+        edit(alloc, Step::Format(3, 1))?,
+        Edit::Update {
+            index: 1,
+            key: Bytes::new(),
+            body: Bytes::from_slice(alloc, &[0; 2])?,
+        },
+        Edit::Update {
+            index: 1,
+            key: Bytes::from_slice(alloc, &[0; 1])?,
+            body: Bytes::new(),
+        },
+        Edit::Format {
+            after: 1,
+            added: Record {
+                id: RecId {
+                    cchh: Cchh { cc: 1, hh: 2 },
+                    r: 2,
+                },
+                key: long.copy(alloc)?,
+                body: Bytes::new(),
+            },
+        },
+        Edit::Format {
+            after: 1,
+            added: Record {
+                id: RecId {
+                    cchh: Cchh { cc: 1, hh: 2 },
+                    r: 2,
+                },
+                key: Bytes::new(),
+                body: long,
+            },
+        },
+        Edit::Zero {
+            added: record(alloc, 0, &[1], &[0; 8])?,
+        },
+    ];
+    let old = track(alloc, 2)?;
+    for edit in edits {
+        let mut patch = Patch::new(alloc);
+        patch.add(edit)?;
+        assert!(rt; apply(alloc, &patch, &old)?.is_none());
+    }
+    Ok(())
+}
+
+#[test]
+fn patches_come_and_go(rt: HostRuntime) -> Result<(), Fail> {
+    let alloc = rt.alloc();
+    let mut patches = Patches::new(alloc);
+    patches.reserve(1)?;
+    let t = TrackNo::new(14).ok_or("track")?;
+    if !patches.has(t) {
+        patches.put(t, Patch::new(alloc), 7)?;
+    }
+    assert_eq!(rt;
+        (patches.has(t), patches.slot_of(t), patches.count()),
+        (true, Some(7), 1)
+    );
+    if patches.has(t) {
+        patches.add(t, edit(alloc, Step::Zero(1))?)?;
+    }
+    let patched = apply(alloc, patches.get(t).ok_or("patch")?, &track(alloc, 2)?)?;
+    assert_eq!(rt; patched.ok_or("unfit")?.len(), 1);
+    assert_eq!(rt; (patches.take(t), patches.has(t)), (Some(7), false));
+    Ok(())
+}

@@ -1,0 +1,195 @@
+ghost use Rattle.std.specs.Prelude.{◌≡◌, ◌≤◌, ◌<◌, ◌*◌, IsOk, OnOk, OnErr, IfErr, IsTrue, [], None, Some, length, replicate, slice_set};
+ghost use Rattle.std.specs.Option.{option_copied};
+ghost use Rattle.track_table.specs.Table.{with_places};
+ghost use Rattle.track_cache.specs.Frames.{frame_at, has_frame, image_at, is_modified_frame, is_modified, modified_count, with_mark, unless_clean, put_frame};
+ghost use Rattle.track_cache.specs.declared.frames.PutRefused.TheVariants as refusals;
+
+use ckd_types::{HEADS, NoMemory, TrackNo};
+use std::alloc::Global;
+use std::marker::Model;
+use track_image::TrackImage;
+use track_table::TrackTable;
+
+/// A track in the cache. A modified frame has what its volume doesn't have.
+#[derive(Debug, Drop)]
+pub struct Frame {
+    pub image: TrackImage,
+    pub modified: bool,
+}
+
+/// Why a track got no frame. The image comes back.
+#[derive(Debug, Drop)]
+pub enum PutRefused {
+    NoMemory(TrackImage),
+}
+
+/// The frames of a device's tracks. Contracts see a place for each track that has been made room for.
+#[derive(Debug, Drop)]
+pub struct Frames {
+    table: TrackTable<Frame>,
+    /// The number of modified frames.
+    modified: usize,
+}
+
+impl Model for Frames {
+    ghost use Rattle.std.specs.Prelude.{◌≡◌, List, Option};
+    ghost use Rattle.track_cache.specs.declared.frames.Frame.{Frame};
+
+    ghost Value = { List (Option Frame) };
+
+    ghost use Rattle.track_cache.specs.Frames.{modified_count};
+
+    ghost view = { λ f. f.table };
+
+    ghost invariant = { λ f. f.modified ≡ modified_count f.table };
+}
+
+fn is_modified(frame: &Option<Frame>) -> bool
+    ensures { result ≡ is_modified_frame frame.now }
+{
+    match frame {
+        Some(frame) => frame.modified,
+        None => false,
+    }
+}
+
+impl Frames {
+    /// No frame. Takes no memory.
+    pub fn new(alloc: Global) -> Frames
+        ensures { result ≡ [] }
+    {
+        Frames {
+            table: TrackTable::new(alloc),
+            modified: 0,
+        }
+    }
+
+    /// Makes places for the tracks of a device, in which `put` takes no memory.
+    #[tactic(auto, using(crate::proofs::Counts::modified_count_more))]
+    pub fn reserve(&mut self, cylinders: u8) -> Result<(), NoMemory>
+        requires { cylinders ≤ 64 }
+        ensures made { OnOk result (self.new ≡ with_places (cylinders * 15) self.old) }
+        ensures same { OnErr result (self.new ≡ self.old) }
+        ensures free { cylinders * 15 ≤ length self.old → IsOk result }
+    {
+        self.table
+            .reserve(usize::from(cylinders) * usize::from(HEADS))
+    }
+
+    /// Whether a track has a frame.
+    pub fn has(&self, t: TrackNo) -> bool
+        ensures { result ≡ has_frame self.now t }
+    {
+        self.table.has(t)
+    }
+
+    /// The image in a track's frame.
+    pub fn get(&self, t: TrackNo) -> Option<&TrackImage>
+        ensures { option_copied result ≡ image_at self.now t }
+    {
+        let frame = self.table.get(t)?;
+        Some(&frame.image)
+    }
+
+    /// Whether a track has a modified frame.
+    pub fn modified(&self, t: TrackNo) -> bool
+        ensures { result ≡ is_modified self.now t }
+    {
+        match self.table.get(t) {
+            Some(frame) => frame.modified,
+            None => false,
+        }
+    }
+
+    /// The number of modified frames.
+    #[tactic(auto, using(crate::proofs::Counts::modified_count_le))]
+    pub fn modified_count(&self) -> usize
+        ensures count { result ≡ modified_count self.now }
+        ensures range { result ≤ 960 }
+    {
+        let _ = self.table.places();
+        self.modified
+    }
+
+    /// Puts another frame, or none, into a track's place, and gives what was there.
+    #[tactic(auto, using(crate::proofs::Counts::modified_count_set, crate::proofs::Counts::modified_count_le))]
+    fn exchange(&mut self, t: TrackNo, frame: Option<Frame>) -> Option<Frame>
+        ensures now { self.new ≡ slice_set self.old t frame }
+        ensures was { result ≡ frame_at self.old t }
+    {
+        if usize::from(t.get()) < self.table.places() {
+            if is_modified(&frame) {
+                self.modified += 1;
+            }
+            let old = self.table.exchange(t, frame);
+            if is_modified(&old) {
+                self.modified -= 1;
+            }
+            old
+        } else {
+            None
+        }
+    }
+
+    /// Puts a clean frame into a track's place, instead of what is there. Takes memory only where the
+    /// track has no place.
+    #[tactic(auto, using(crate::proofs::Counts::modified_count_more))]
+    pub fn put(&mut self, t: TrackNo, image: TrackImage) -> Result<(), PutRefused>
+        ensures put { OnOk result (self.new ≡ put_frame t image self.old) }
+        ensures same { OnErr result (self.new ≡ self.old) }
+        ensures back { IfErr result (λ e. e ≡ refusals.NoMemory image) }
+        ensures free { t < length self.old → IsOk result }
+    {
+        if self.table.reserve(usize::from(t.get()) + 1).is_err() {
+            return Err(PutRefused::NoMemory(image));
+        }
+        let modified = false;
+        self.exchange(t, Some(Frame { image, modified }));
+        Ok(())
+    }
+
+    /// Puts another image into a track's frame, which keeps its mark. Takes no memory.
+    pub fn edit(&mut self, t: TrackNo, image: TrackImage)
+        requires { IsTrue (has_frame self.old t) }
+        ensures { self.new ≡ slice_set self.old t (Some (record { image = image; modified = is_modified self.old t })) }
+    {
+        let modified = self.modified(t);
+        self.exchange(t, Some(Frame { image, modified }));
+    }
+
+    /// Marks a track's frame as modified, or as clean. Without a frame there is nothing to mark.
+    #[tactic(auto, using(track_table::proofs::Places::set_again))]
+    pub fn mark(&mut self, t: TrackNo, modified: bool)
+        ensures { self.new ≡ slice_set self.old t (with_mark modified (frame_at self.old t)) }
+    {
+        if let Some(frame) = self.exchange(t, None) {
+            let image = frame.image;
+            self.exchange(t, Some(Frame { image, modified }));
+        }
+    }
+
+    /// Drops a track's frame.
+    pub fn remove(&mut self, t: TrackNo)
+        ensures { self.new ≡ slice_set self.old t None }
+    {
+        self.exchange(t, None);
+    }
+
+    /// Drops a track's frame where it is clean.
+    pub fn drop_clean(&mut self, t: TrackNo)
+        ensures { self.new ≡ slice_set self.old t (unless_clean (frame_at self.old t)) }
+    {
+        if !self.modified(t) {
+            self.remove(t);
+        }
+    }
+
+    /// Drops every frame. The places stay.
+    #[tactic(auto, using(crate::proofs::Counts::no_modified))]
+    pub fn lose_all(&mut self)
+        ensures { self.new ≡ replicate (length self.old) None }
+    {
+        self.table.clear();
+        self.modified = 0;
+    }
+}
