@@ -53,15 +53,15 @@ word_by : (k : ℕ) (c : Ccw) (zeroth first : Bool) → (cond zeroth (is_extent 
 word_by k c true first is =
     let bytes = is_extent_bytes (given 16 c) in
     built_by c 0x63 extent_built
-      (first_true (c.command == 0x63) (c.flags == 0x40)
-        (first_true ((c.command == 0x63) && (c.flags == 0x40)) (c.count == 16) (first_true ((c.command == 0x63) && (c.flags == 0x40) && (c.count == 16)) bytes is)))
+    (first_true (c.command == 0x63) (c.flags == 0x40)
+    (first_true ((c.command == 0x63) && (c.flags == 0x40)) (c.count == 16) (first_true ((c.command == 0x63) && (c.flags == 0x40) && (c.count == 16)) bytes is)))
 word_by k c false true is =
     let bytes = is_locate_bytes (given 16 c) (slice_index (given 16 c) 7) (slice_index (given 16 c) 12) in
     built_by c 0x47 locate_built
-      (first_true (c.command == 0x47) (c.flags == 0x40)
-        (first_true ((c.command == 0x47) && (c.flags == 0x40)) (c.count == 16)
-          (first_true ((c.command == 0x47) && (c.flags == 0x40) && (c.count == 16)) bytes
-            (first_true ((c.command == 0x47) && (c.flags == 0x40) && (c.count == 16) && bytes) (nat_le (slice_index (given 16 c) 7) 14) is))))
+    (first_true (c.command == 0x47) (c.flags == 0x40)
+    (first_true ((c.command == 0x47) && (c.flags == 0x40)) (c.count == 16)
+    (first_true ((c.command == 0x47) && (c.flags == 0x40) && (c.count == 16)) bytes
+    (first_true ((c.command == 0x47) && (c.flags == 0x40) && (c.count == 16) && bytes) (nat_le (slice_index (given 16 c) 7) 14) is))))
 word_by k c false false is = read_by c (c.command == 0x06) refl (first_true ((c.command == 0x06) || (c.command == 0x86)) (c.flags == 0) (second_true (k == 2) (is_read c) is))
 
 -- a word that is right, before others that are
@@ -107,7 +107,7 @@ all_built n plans [] none all = all
 all_built n plans (p ∷ ps) none all =
     let here : bad_program p ≡ None = none_here n (bad_program p) (later_program (n + 5) ps) none in
     all_built (n + 5) (planned 0 plans p) ps (none_later n (bad_program p) (later_program (n + 5) ps) none)
-      (planned_built (p.device == 0) plans p (program_by p ((p.path == 1) && (p.device == 0)) here) all)
+    (planned_built (p.device == 0) plans p (program_by p ((p.path == 1) && (p.device == 0)) here) all)
 
 pub deck_built : (d : DeckLines) → first_later d ≡ None → PlanBuilt (plans_of d.programs 0)
 deck_built d none =

@@ -25,7 +25,7 @@ same_text task text read None d r p = absurd r.read
 same_text task text read (Some rest) d r p = elim (cases_lt (length read) 16777217) [
   | inl short ↦ sym (r.read ∙ ap (λ (l : List ℕ). read ++ l) (r.whole short) ∙ append-nil read)
   | inr long ↦ absurd (no_fault d (faults.Limit Size) (deck_for task text) p
-    (ap (λ (x : Result DeckLines DeckFault). if_read x (open_deck task)) (parse_long text (omega (arith, ap length r.read, length-append read rest)))))
+      (ap (λ (x : Result DeckLines DeckFault). if_read x (open_deck task)) (parse_long text (omega (arith, ap length r.read, length-append read rest)))))
 ]
 
 refused : (task : Task) (text read : List ℕ) (before after : Option (List ℕ)) (d : DeckLines) (f : DeckFault) → before ≡ Some text → Reads before after read

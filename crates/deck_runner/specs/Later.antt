@@ -95,6 +95,6 @@ first_later d =
     let programs = faults + length d.faults in
     let events = programs + 5 * length d.programs + 1 in
     or_else (later_device d.devices)
-      (or_else (later_fault faults d.faults)
-        (or_else (later_program programs d.programs)
-          (later_event events d.events)))
+    (or_else (later_fault faults d.faults)
+    (or_else (later_program programs d.programs)
+    (later_event events d.events)))

@@ -12,7 +12,9 @@ ghost use Rattle.deck_runner.specs.Answers.{task_by, task_of, usage_text, why_te
 use crate::later::first_later;
 use crate::report::write_report;
 use crate::task::Task;
-use ckd_outside::{Failed, LineBuffer, Piece, ReadError, Sink, Source, flush, read_up_to, write_pieces};
+use ckd_outside::{
+    Failed, LineBuffer, Piece, ReadError, Sink, Source, flush, read_up_to, write_pieces,
+};
 use ckd_types::{DeviceNo, NoMemory};
 use deck_text::{Deck, DeckFault, DeckWhy, Which, read_deck, write_deck};
 use plain_run::{RunRecord, run_lines};
@@ -70,9 +72,7 @@ fn write_usage<K: Sink>(sink: &mut K) -> Result<(), Failed>
     ensures bytes { Writes (K.held sink.old) (K.held sink.new) result usage_text }
     ensures cause { HasCause (K.faults sink.old) (K.faults sink.new) result }
 {
-    let pieces = [Piece::Text(
-        b"usage: run, check, paths, generate SEED COUNT\n",
-    )];
+    let pieces = [Piece::Text(b"usage: run, check, paths, generate SEED COUNT\n")];
     write_line(sink, &pieces)
 }
 
@@ -236,12 +236,7 @@ fn usage<K: Sink>(sink: &mut K) -> Status
     }
 }
 
-fn serve_task<S: Source, K: Sink>(
-    alloc: Global,
-    task: Task,
-    source: &mut S,
-    sink: &mut K,
-) -> Status
+fn serve_task<S: Source, K: Sink>(alloc: Global, task: Task, source: &mut S, sink: &mut K) -> Status
     ensures told { TellsTask result task (S.left source.old) (S.left source.new) (K.held sink.old) (K.held sink.new) }
     ensures read { result ≡ Status.ReadFault → Rose (S.faults source.old) (S.faults source.new) }
     ensures write { result ≡ Status.WriteFault → Rose (K.faults sink.old) (K.faults sink.new) }

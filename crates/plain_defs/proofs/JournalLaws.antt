@@ -28,9 +28,8 @@ item_more plans s earlier Fresh later more h = tt
 -- a legal item behind a legal journal
 pub legal_more : (plans : Plans) (s : PlainState) (earlier xs : List Item) (x : Item) → IsLegalFrom plans s earlier xs → IsLegalItem plans (replay plans s xs) (earlier ++ xs) x [] → IsLegalFrom plans s earlier (xs ++ x ∷ [])
 legal_more plans s earlier [] x h more = (subst (λ (l : List Item). IsLegalItem plans s l x []) (append-nil earlier) more, tt)
-legal_more plans s earlier (y ∷ ys) x h more =
-    (
-      item_more plans s earlier y ys (x ∷ []) h.0,
-      legal_more plans (replay_item plans s y) (earlier ++ y ∷ []) ys x h.1
-        (subst (λ (l : List Item). IsLegalItem plans (replay plans (replay_item plans s y) ys) l x []) (sym (append_assoc earlier (y ∷ []) ys)) more),
-    )
+legal_more plans s earlier (y ∷ ys) x h more = (
+  item_more plans s earlier y ys (x ∷ []) h.0,
+  legal_more plans (replay_item plans s y) (earlier ++ y ∷ []) ys x h.1
+      (subst (λ (l : List Item). IsLegalItem plans (replay plans (replay_item plans s y) ys) l x []) (sym (append_assoc earlier (y ∷ []) ys)) more),
+)
