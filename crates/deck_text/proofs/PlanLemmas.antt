@@ -86,5 +86,5 @@ has_more programs more plans d x new p h at lt was is all =
     rw (all, made, at)
     (record {
       devices = length-set plans p.device (with_program (plans_of programs p.device) p.path p.program) ∙ h.devices;
-      each = λ k lt'. each_more (p.device == k) programs plans p.device k p refl h lt lt' ∙ sym (planned_more k no_plans programs p);
+      each = λ k klt. each_more (p.device == k) programs plans p.device k p refl h lt klt ∙ sym (planned_more k no_plans programs p);
     })

@@ -6,6 +6,7 @@ mod deck;
 mod events;
 mod forms;
 mod keyword;
+mod law;
 mod line;
 mod lines;
 mod numbers;
@@ -22,6 +23,7 @@ mod write_lines;
 mod write_programs;
 
 pub use deck::Deck;
+pub use law::reads_back;
 pub use line::{DeckFault, DeckWhy, DeviceLine, FaultLine, PlannedProgram, Which};
 pub use read::read_deck;
 pub use write::write_deck;
