@@ -1,5 +1,5 @@
 -- The programs of a deck that is run are made of commands that are defined.
-use Rattle.std.proofs.Common.{◌≡◌, ℕ, zero, suc, ◌+◌, ◌-◌, ◌++◌, length, List, [], ◌∷◌, Option, Some, None, Bool, true, false, cond, refl, sym, subst, ap, ◌∙◌}
+use Rattle.std.proofs.Common.{◌≡◌, ℕ, zero, suc, ◌+◌, ◌-◌, ◌++◌, length, List, [], ◌∷◌, Option, Some, None, Bool, true, false, cond, refl, sym, subst}
 use Rattle.std.specs.Prelude.{◌==◌, ◌&&◌, ◌||◌, nat_le, slice_index, slice_index_or, slice_set, All}
 use Rattle.ckd_types.specs.Parameters.{given}
 use Rattle.std.proofs.lemmas.Bool.{true≢false}

@@ -1,9 +1,7 @@
 -- One event, program or word on.
-use Rattle.std.proofs.Common.{◌≡◌, ◌<◌, ◌≤◌, ◌+◌, ℕ, List, [], ◌∷◌, Option, Some, None, Bool, true, false, length, drop, get_or, cond, ap, ◌∙◌, sym}
-use Rattle.std.specs.Prelude.{◌==◌}
+use Rattle.std.proofs.Common.{◌≡◌, ◌<◌, ◌≤◌, ◌+◌, ℕ, List, [], Option, Some, None, Bool, true, false, length, drop, get_or, cond, ap, ◌∙◌, sym}
 use Rattle.std.proofs.lemmas.List.{at_drop_more, at_drop_all}
 use Rattle.ckd_types.specs.declared.channel.Ccw.{Ccw}
-use Rattle.ckd_types.specs.Ccw.{ccw_at}
 use Rattle.deck_plan.specs.declared.event.EventLine.{EventLine}
 use Rattle.deck_text.specs.declared.line.PlannedProgram.{PlannedProgram}
 use Rattle.deck_runner.specs.Later.{is_word, bad_word, or_later, bad_program, later_program, is_open_event, later_event}

@@ -1,6 +1,6 @@
 -- What a line says is written in words.
-use Rattle.std.proofs.Common.{◌≡◌, ◌≤◌, ◌<◌, ◌^◌, ◌∷◌, [], ◌++◌, ℕ, List, Bool, true, false, Option, Some, None, Result, Ok, Err, refl, sym, ap, ◌∙◌, arith}
-use Rattle.std.specs.Prelude.{decimal, codes, if◌then◌else◌}
+use Rattle.std.proofs.Common.{◌≡◌, ◌<◌, ◌^◌, ◌∷◌, [], ℕ, List, Bool, true, false, Result, Ok, refl, arith}
+use Rattle.std.specs.Prelude.{decimal}
 use Rattle.ckd_types.specs.declared.geometry.Geometry.{Geometry}
 use Rattle.ckd_types.specs.declared.geometry.Geometry.TheVariants.{D3390, D3380}
 use Rattle.ckd_types.specs.declared.paths.Side.{Side}
@@ -8,15 +8,15 @@ use Rattle.ckd_types.specs.declared.paths.Side.TheVariants.{A, B}
 use Rattle.deck_plan.specs.declared.event.EventLine.{EventLine}
 use Rattle.deck_plan.specs.declared.event.EventLine.TheVariants as events
 use Rattle.deck_text.specs.declared.line.DeckWhy.{DeckWhy}
-use Rattle.deck_text.specs.declared.line.DeckWhy.TheVariants.{Words, Number, Hex}
+use Rattle.deck_text.specs.declared.line.DeckWhy.TheVariants.{Words, Number}
 use Rattle.deck_text.specs.declared.line.DeviceLine.{DeviceLine}
 use Rattle.deck_text.specs.declared.line.FaultLine.{FaultLine}
 use Rattle.deck_text.specs.Numbers.{number_in, geometry_of}
 use Rattle.deck_text.specs.Words.{one_word, two_words, three_words}
 use Rattle.deck_text.specs.Forms.{needed, and_then, rises, rising, device_line, is_declared, declared, device_of, path_of, is_write, fault_line, path_and_device, side_of}
-use Rattle.deck_text.specs.Events.{device_words, pair_words, side_words, part_of, is_volume, event_line}
+use Rattle.deck_text.specs.Events.{device_words, pair_words, side_words, is_volume}
 use Rattle.deck_text.specs.Canonical.{geometry_number}
-use Rattle.deck_text.proofs.FormsAgain.{Went, went, needed_is, if_ok, number_range}
+use Rattle.deck_text.proofs.FormsAgain.{went, needed_is, if_ok, number_range}
 use Rattle.deck_text.proofs.EventsAgain.{call_word, side_word, behind_of, Again}
 use Rattle.deck_text.proofs.CcwAgain.{IsWord, decimal_word}
 use Rattle.deck_text.proofs.LineAgain.{AreWords}

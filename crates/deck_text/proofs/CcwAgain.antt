@@ -1,17 +1,16 @@
 -- The words that a CCW line is written with say the word again, and numbers are words.
-use Rattle.std.proofs.Common.{◌≡◌, ◌≤◌, ◌<◌, ◌^◌, ◌∷◌, [], ◌++◌, ◌+◌, ◌-◌, ℕ, zero, suc, List, Bool, true, false, length, Option, Some, None, Result, Ok, Err, refl, sym, ap, ◌∙◌, arith}
-use Rattle.std.specs.Prelude.{decimal, slice_index, nat_lt, nat_le, ◌&&◌, ◌==◌}
+use Rattle.std.proofs.Common.{◌≡◌, ◌<◌, ◌^◌, ◌∷◌, [], ◌++◌, ℕ, zero, suc, List, true, length, Some, Result, Ok, Err, refl, sym, ap, ◌∙◌, arith}
+use Rattle.std.specs.Prelude.{decimal, slice_index}
 use Rattle.std.proofs.lemmas.Fmt.{decimal_nonempty, digits_decimal}
-use Rattle.hex.specs.Hex.{encode_upper, encode_with, upper_digits, decode_of, decode_sized, IsBytes}
+use Rattle.hex.specs.Hex.{encode_upper, decode_of, decode_sized, IsBytes}
 use Rattle.hex.specs.declared.error.FromHexError.{FromHexError}
 use Rattle.hex.proofs.HexLemmas.{decode_of-ok, decode_sized-ok, decode_sized-twice}
 use Rattle.ckd_types.specs.declared.channel.Ccw.{Ccw}
-use Rattle.deck_text.specs.declared.line.DeckWhy.{DeckWhy}
-use Rattle.deck_text.specs.declared.line.DeckWhy.TheVariants.{Words, Number, Hex}
+use Rattle.deck_text.specs.declared.line.DeckWhy.TheVariants.{Number, Hex}
 use Rattle.deck_text.specs.Numbers.{number_in}
 use Rattle.deck_text.specs.Forms.{needed, and_then, byte_of, first_byte, decoded, word_bytes, bytes_of, head_of, ccw_line}
 use Rattle.deck_text.proofs.ReadBack.{are_letters, digits_letters, own, byte_read, bytes_read, number_read}
-use Rattle.deck_text.proofs.FormsAgain.{Went, went, needed_is, if_ok, number_again, Ranged, number_range}
+use Rattle.deck_text.proofs.FormsAgain.{went, needed_is, if_ok, number_range}
 
 pub record IsWord (w : List ℕ) : Type 0 where
   pub some : 0 < length w

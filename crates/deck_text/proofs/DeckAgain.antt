@@ -1,22 +1,18 @@
 -- The canonical text of a deck is read as the deck.
-use Rattle.std.proofs.Common.{◌≡◌, ◌≢◌, ◌≤◌, ◌<◌, ◌^◌, ◌∷◌, [], ◌++◌, ◌+◌, ◌/◌, ◌%◌, ℕ, zero, suc, List, Bool, true, false, length, Option, Some, None, Result, Ok, Err, refl, sym, ap, ◌∙◌, arith, append_assoc, length-append}
+use Rattle.std.proofs.Common.{◌≡◌, ◌≢◌, ◌≤◌, ◌<◌, ◌∷◌, [], ◌++◌, ◌+◌, ◌/◌, ◌%◌, ℕ, zero, suc, List, Bool, true, false, length, Option, Some, None, Ok, refl, sym, ap, ◌∙◌, arith, append_assoc, length-append}
 use Rattle.std.specs.Prelude.{decimal, codes, slice_index, nat_lt, nat_le, ◌&&◌, ◌==◌, if◌then◌else◌}
 use Rattle.std.specs.List.{flat_map}
-use Rattle.std.proofs.lemmas.Bool.{and_from, true≢false}
+use Rattle.std.proofs.lemmas.Bool.{and_from}
 use Rattle.std.proofs.lemmas.Bool.Decides.{nat_tests}
 use Rattle.std.proofs.lemmas.List.{append-nil}
 use Rattle.hex.specs.Hex.{encode_upper, encode_with, upper_digits, IsBytes}
 use Rattle.hex.proofs.HexLemmas.{length-encode_with}
 use Rattle.ckd_types.specs.declared.channel.Ccw.{Ccw}
 use Rattle.ckd_types.specs.declared.channel.Why.{Why}
-use Rattle.ckd_types.specs.declared.paths.Side.{Side}
 use Rattle.ckd_types.specs.declared.paths.Side.TheVariants.{A, B}
-use Rattle.ckd_types.specs.Program.{IsProgram, first_fault, fault_from}
+use Rattle.ckd_types.specs.Program.{IsProgram, fault_from}
 use Rattle.deck_plan.specs.declared.event.EventLine.{EventLine}
 use Rattle.deck_plan.specs.declared.event.EventLine.TheVariants as events
-use Rattle.deck_text.specs.declared.keyword.EventWord.{EventWord}
-use Rattle.deck_text.specs.declared.keyword.EventWord.TheVariants as words
-use Rattle.deck_text.specs.declared.keyword.Keyword.{Keyword}
 use Rattle.deck_text.specs.declared.keyword.Keyword.TheVariants.{Deck, Cache, Store, Device, Fault, Program, Ccw as ChannelWord, End, Events, Event}
 use Rattle.deck_text.specs.declared.line.DeviceLine.{DeviceLine}
 use Rattle.deck_text.specs.declared.line.FaultLine.{FaultLine}
@@ -26,10 +22,10 @@ use Rattle.deck_text.specs.declared.place.Place.TheVariants as places
 use Rattle.deck_text.specs.DeckLines.{DeckLines, no_lines}
 use Rattle.deck_text.specs.Lines.{lines_of}
 use Rattle.deck_text.specs.Keywords.{keyword_of, head_of, event_word_of}
-use Rattle.deck_text.specs.Forms.{is_one, count_line, needed, device_line, fault_line, path_and_device, ccw_line}
-use Rattle.deck_text.specs.Reading.{State, may_stand, put, or_refuse, end_program}
+use Rattle.deck_text.specs.Forms.{is_one, device_line, fault_line, path_and_device}
+use Rattle.deck_text.specs.Reading.{State, may_stand, or_refuse, end_program}
 use Rattle.deck_text.specs.Parse.{start, read_lines, parsed}
-use Rattle.deck_text.specs.Canonical.{head_text, geometry_number, device_text, call_text, fault_text, program_text, bytes_text, word_text, line_end, ccw_text, end_text, planned_text, events_text, side_text, with_one, with_two, with_side, event_text, from_events, from_programs, from_faults, from_devices, canonical}
+use Rattle.deck_text.specs.Canonical.{head_text, geometry_number, device_text, call_text, fault_text, program_text, word_text, line_end, ccw_text, end_text, planned_text, events_text, side_text, with_one, with_two, with_side, event_text, from_events, from_programs, from_faults, from_devices, canonical}
 use Rattle.deck_text.proofs.ReadBack.{are_letters, number_read}
 use Rattle.deck_text.proofs.EventsAgain.{call_word, side_word, word_of, behind_of, Again}
 use Rattle.deck_text.proofs.CcwAgain.{IsWord, decimal_word, given_words, ccw_words, CcwFacts, ccw_again}

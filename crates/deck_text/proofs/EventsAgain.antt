@@ -1,10 +1,6 @@
 -- The words that a FAULT, a CCW or an event line is written with say what its words said.
-use Rattle.std.proofs.Common.{◌≡◌, ◌≤◌, ◌<◌, ◌^◌, ◌∷◌, [], ◌++◌, ℕ, zero, suc, List, Bool, true, false, Option, Some, None, Result, Ok, Err, refl, sym, ap, ◌∙◌, arith, cond}
-use Rattle.std.specs.Prelude.{decimal, codes, slice_index, if◌then◌else◌}
-use Rattle.std.specs.Str.{bytes_eq}
-use Rattle.hex.specs.Hex.{encode_upper, decode_of, decode_sized, IsBytes}
-use Rattle.hex.specs.declared.error.FromHexError.{FromHexError}
-use Rattle.ckd_types.specs.declared.channel.Ccw.{Ccw}
+use Rattle.std.proofs.Common.{◌≡◌, ◌∷◌, [], ℕ, List, Bool, true, false, Option, Some, None, Ok, Err, refl, ap, ◌∙◌, arith}
+use Rattle.std.specs.Prelude.{decimal, codes, if◌then◌else◌}
 use Rattle.ckd_types.specs.declared.paths.Side.{Side}
 use Rattle.ckd_types.specs.declared.paths.Side.TheVariants.{A, B}
 use Rattle.deck_plan.specs.declared.event.EventLine.{EventLine}
@@ -13,16 +9,14 @@ use Rattle.deck_text.specs.declared.keyword.EventWord.{EventWord}
 use Rattle.deck_text.specs.declared.keyword.EventWord.TheVariants.{Start, Step, Run, Back, Settle, Reset, Fail, Repair, Replace, Pair, Unpair, Suspend, Resume}
 use Rattle.deck_text.specs.declared.keyword.Part.{Part}
 use Rattle.deck_text.specs.declared.keyword.Part.TheVariants.{Cache, Store}
-use Rattle.deck_text.specs.declared.line.DeckWhy.{DeckWhy}
-use Rattle.deck_text.specs.declared.line.DeckWhy.TheVariants.{Words, Number, Hex}
+use Rattle.deck_text.specs.declared.line.DeckWhy.TheVariants.{Words, Number}
 use Rattle.deck_text.specs.declared.line.DeviceLine.{DeviceLine}
 use Rattle.deck_text.specs.declared.line.FaultLine.{FaultLine}
 use Rattle.deck_text.specs.Numbers.{number_in}
 use Rattle.deck_text.specs.Words.{one_word, two_words, three_words}
-use Rattle.deck_text.specs.Forms.{needed, and_then, device_of, path_of, is_write, side_of, fault_line, path_and_device, byte_of, word_bytes, bytes_of, head_of, ccw_line}
-use Rattle.deck_text.specs.Events.{device_words, pair_words, side_words, part_of, is_volume, part_words, failed_part, repaired_part, fail_by, fail_line, repair_line, replace_line, event_line}
-use Rattle.deck_text.proofs.ReadBack.{byte_read, bytes_read}
-use Rattle.deck_text.proofs.FormsAgain.{Went, went, needed_is, if_ok, number_again, device_again, pair_again}
+use Rattle.deck_text.specs.Forms.{needed, and_then, device_of, is_write, side_of, fault_line, path_and_device}
+use Rattle.deck_text.specs.Events.{device_words, pair_words, side_words, part_of, is_volume, part_words, failed_part, repaired_part, fail_by, event_line}
+use Rattle.deck_text.proofs.FormsAgain.{went, needed_is, if_ok, number_again, device_again, pair_again}
 
 unfoldable pub call_word : Bool → List ℕ
 call_word true = codes "WRITE"

@@ -1,19 +1,15 @@
 -- The words that a line is written with say what its words said.
 use Rattle.std.proofs.Common.{◌≡◌, ◌≤◌, ◌<◌, ◌^◌, ◌&&◌, ◌∷◌, [], ℕ, List, Bool, true, false, Option, Some, None, Result, Ok, Err, refl, sym, ap, ◌∙◌, arith}
-use Rattle.std.specs.Prelude.{decimal, nat_le, codes, if◌then◌else◌}
-use Rattle.std.proofs.lemmas.Bool.Decides.{nat_tests}
+use Rattle.std.specs.Prelude.{decimal, nat_le, if◌then◌else◌}
 use Rattle.std.proofs.lemmas.Bool.{and_parts, leb-true}
-use Rattle.hex.specs.Hex.{encode_upper, decode_of, IsBytes}
-use Rattle.ckd_types.specs.declared.channel.Ccw.{Ccw}
 use Rattle.ckd_types.specs.declared.geometry.Geometry.{Geometry}
 use Rattle.ckd_types.specs.declared.geometry.Geometry.TheVariants.{D3390, D3380}
 use Rattle.deck_text.specs.declared.line.DeckWhy.{DeckWhy}
-use Rattle.deck_text.specs.declared.line.DeckWhy.TheVariants.{Words, Number, Hex}
+use Rattle.deck_text.specs.declared.line.DeckWhy.TheVariants.{Words, Number}
 use Rattle.deck_text.specs.declared.line.DeviceLine.{DeviceLine}
-use Rattle.deck_text.specs.declared.line.FaultLine.{FaultLine}
 use Rattle.deck_text.specs.Numbers.{number_of, within, number_in, geometry_from, geometry_of}
 use Rattle.deck_text.specs.Words.{one_word, two_words, three_words}
-use Rattle.deck_text.specs.Forms.{needed, and_then, count_line, rises, rising, device_line, is_declared, declared, device_of, path_of, is_write, fault_line, path_and_device}
+use Rattle.deck_text.specs.Forms.{needed, and_then, count_line, rises, rising, device_line, is_declared, declared, device_of, path_of, path_and_device}
 use Rattle.deck_text.specs.Canonical.{geometry_number}
 use Rattle.deck_text.proofs.ReadBack.{number_read, decimal_read}
 

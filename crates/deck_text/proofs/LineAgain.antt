@@ -1,16 +1,14 @@
 -- A line of words with one space between them is read as these words.
-use Rattle.std.proofs.Common.{◌≡◌, ◌≢◌, ◌≤◌, ◌<◌, ◌∷◌, [], ◌++◌, ◌+◌, ℕ, zero, suc, List, Bool, true, false, length, Option, Some, None, Result, Ok, Err, refl, sym, ap, ◌∙◌, arith, append_assoc}
-use Rattle.std.specs.Prelude.{slice_index, nat_lt, nat_le, ◌&&◌, ◌||◌, ◌==◌, if◌then◌else◌}
-use Rattle.std.proofs.lemmas.Bool.{and_parts, or_parts}
+use Rattle.std.proofs.Common.{◌≡◌, ◌≢◌, ◌≤◌, ◌∷◌, [], ◌++◌, ◌+◌, ℕ, List, true, false, Option, Some, Ok, refl, ap, ◌∙◌, arith, append_assoc}
+use Rattle.std.specs.Prelude.{slice_index, nat_lt, nat_le, ◌&&◌}
+use Rattle.std.proofs.lemmas.Bool.{and_parts}
 use Rattle.std.proofs.lemmas.Bool.Decides.{nat_tests}
 use Rattle.std.proofs.lemmas.List.{append-nil}
 use Rattle.deck_text.specs.declared.keyword.Keyword.{Keyword}
-use Rattle.deck_text.specs.declared.line.DeckFault.{DeckFault}
-use Rattle.deck_text.specs.DeckLines.{DeckLines}
 use Rattle.deck_text.specs.Lines.{lines_of, has_bad_byte, is_comment}
 use Rattle.deck_text.specs.Words.{words_of}
 use Rattle.deck_text.specs.Keywords.{keyword_of}
-use Rattle.deck_text.specs.Reading.{State, may_stand, put, put_words, take_words, take_line}
+use Rattle.deck_text.specs.Reading.{State, may_stand, put, put_words, take_line}
 use Rattle.deck_text.specs.Parse.{or_stop, read_lines}
 use Rattle.deck_text.proofs.ReadBack.{are_letters, word_then, word_alone, line_then}
 use Rattle.deck_text.proofs.CcwAgain.{IsWord}

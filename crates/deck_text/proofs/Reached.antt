@@ -1,12 +1,12 @@
 -- What holds along a reading.
-use Rattle.std.proofs.Common.{◌≡◌, ◌≤◌, ◌<◌, ◌+◌, ◌∷◌, [], ◌++◌, ℕ, List, Bool, true, false, length, Option, Some, None, Result, Ok, Err, refl, sym, ap, subst, ◌∙◌, arith, append_assoc, length-append}
-use Rattle.std.specs.Prelude.{decimal, nat_le, nat_lt, ◌==◌, slice_index_or, if◌then◌else◌}
+use Rattle.std.proofs.Common.{◌≡◌, ◌≤◌, ◌<◌, ◌+◌, ◌∷◌, [], ◌++◌, ℕ, List, Bool, true, false, length, Option, Some, None, Result, Ok, Err, refl, sym, subst, arith, append_assoc, length-append}
+use Rattle.std.specs.Prelude.{nat_le, nat_lt, if◌then◌else◌}
 use Rattle.std.proofs.lemmas.List.{append-nil}
 use Rattle.std.proofs.lemmas.Bool.{true≢false}
 use Rattle.std.proofs.lemmas.Bool.Decides.{nat_tests}
 use Rattle.ckd_types.specs.declared.channel.Ccw.{Ccw}
 use Rattle.ckd_types.specs.declared.channel.Why.{Why}
-use Rattle.ckd_types.specs.Program.{IsProgram, first_fault}
+use Rattle.ckd_types.specs.Program.{first_fault}
 use Rattle.deck_plan.specs.declared.event.EventLine.{EventLine}
 use Rattle.deck_text.specs.declared.keyword.EventWord.{EventWord}
 use Rattle.deck_text.specs.declared.keyword.Keyword.{Keyword}
@@ -21,16 +21,16 @@ use Rattle.deck_text.specs.declared.line.FaultLine.{FaultLine}
 use Rattle.deck_text.specs.declared.line.PlannedProgram.{PlannedProgram}
 use Rattle.deck_text.specs.declared.place.Place.{Place}
 use Rattle.deck_text.specs.declared.place.Place.TheVariants as places
-use Rattle.deck_text.specs.DeckLines.{DeckLines, no_lines}
+use Rattle.deck_text.specs.DeckLines.{DeckLines}
 use Rattle.deck_text.specs.Lines.{is_comment, has_bad_byte, lines_of}
 use Rattle.deck_text.specs.Words.{one_word, words_of}
 use Rattle.deck_text.specs.Numbers.{number_in}
 use Rattle.deck_text.specs.Keywords.{keyword_of}
 use Rattle.deck_text.specs.Forms.{needed, no_words, deck_line, count_line, device_line, fault_line, path_and_device, ccw_line}
 use Rattle.deck_text.specs.Events.{event_line}
-use Rattle.deck_text.specs.Reading.{State, may_stand, or_refuse, open_program, ended, end_program, put, put_words, take_words, take_line}
+use Rattle.deck_text.specs.Reading.{State, may_stand, or_refuse, ended, end_program, put, put_words, take_words, take_line}
 use Rattle.deck_text.specs.Parse.{start, finished, or_stop, read_lines, parsed}
-use Rattle.deck_text.proofs.FormsAgain.{Went, went, needed_is, Ranged, number_range, pair_again, line_again}
+use Rattle.deck_text.proofs.FormsAgain.{went, needed_is, Ranged, number_range, pair_again, line_again}
 use Rattle.deck_text.proofs.EventsAgain.{fault_again, event_again}
 use Rattle.deck_text.proofs.CcwAgain.{CcwFacts, ccw_facts}
 use Rattle.deck_text.proofs.LineAgain.{AreWords}

@@ -1,14 +1,14 @@
 -- What is written in canonical form is read again: numbers, bytes, words and lines.
-use Rattle.std.proofs.Common.{◌≡◌, ◌≢◌, ◌≤◌, ◌<◌, ◌^◌, ◌+◌, ◌-◌, ◌*◌, ◌==◌, ◌&&◌, ◌||◌, ◌∷◌, [], ◌++◌, ℕ, zero, suc, List, Bool, true, false, not, cond, length, get_or, Option, Some, None, Result, Ok, Err, refl, sym, ap, ◌∙◌, arith, rules, ◌⊎◌, inl, inr}
-use Rattle.std.specs.Prelude.{decimal, nat_lt, nat_le, slice_index, slice_index_or, if◌then◌else◌}
+use Rattle.std.proofs.Common.{◌≡◌, ◌≢◌, ◌≤◌, ◌<◌, ◌^◌, ◌&&◌, ◌||◌, ◌∷◌, [], ◌++◌, ℕ, zero, suc, List, Bool, true, false, length, get_or, Some, Ok, refl, ap, ◌∙◌, arith, rules, ◌⊎◌, inl, inr}
+use Rattle.std.specs.Prelude.{decimal, nat_lt, nat_le}
 use Rattle.std.proofs.lemmas.Bool.{and_from, and_parts, or_parts}
 use Rattle.std.proofs.lemmas.Bool.Decides.{nat_tests}
 use Rattle.std.proofs.lemmas.Fmt.{decimal_nonempty, length-decimal-le, first_decimal, decimal_digit, digits_decimal, digits_value-decimal}
 use Rattle.std.proofs.lemmas.Str.Parse.{IsNumeralModel, numerals_by_fold}
-use Rattle.hex.specs.Hex.{encode_upper, decode_of, decode_sized, IsBytes}
+use Rattle.hex.specs.Hex.{encode_upper, IsBytes}
 use Rattle.hex.proofs.HexLemmas.{decode_of-encode_upper, decode_sized-twice, length-encode_with}
 use Rattle.deck_text.specs.Numbers.{are_digits, is_digit, value_after, has_form, number_of, within, number_in}
-use Rattle.deck_text.specs.Lines.{lines_of, onto_first, is_passed_over, has_bad_byte}
+use Rattle.deck_text.specs.Lines.{lines_of, onto_first, has_bad_byte}
 use Rattle.deck_text.specs.Words.{words_of}
 use Rattle.deck_text.specs.Forms.{byte_of, first_byte, word_bytes, decoded}
 

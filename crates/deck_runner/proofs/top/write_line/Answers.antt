@@ -1,4 +1,4 @@
-use Rattle.ckd_outside.proofs.Lines.{written_all, written_front}
+use Rattle.ckd_outside.proofs.Lines.{written_all}
 use Rattle.deck_runner.proofs.top.write_line.Goals as goal
 
 pub returns-clause-bytes : goal.returns-clause-bytes
