@@ -1,5 +1,5 @@
 -- A channel program is a fold of its commands, with a stance.
-use Rattle.std.specs.Prelude.{ℕ, zero, suc, ◌==◌, ◌&&◌, ◌||◌, not, nat_le, Bool, true, false, List, [], ◌∷◌, Option, None, Some, if◌then◌else◌}
+use Rattle.std.specs.Prelude.{ℕ, zero, suc, ◌==◌, ◌&&◌, ◌||◌, not, nat_le, Bool, true, false, List, [], ◌∷◌, ◌++◌, Option, None, Some, if◌then◌else◌}
 use Rattle.ckd_types.specs.declared.channel.Ccw.{Ccw}
 use Rattle.ckd_types.specs.declared.channel.CommandEnd.{CommandEnd}
 use Rattle.ckd_types.specs.declared.channel.Note.{Note}
@@ -12,7 +12,7 @@ use Rattle.plain_defs.specs.declared.stance.Stance.{Stance}
 use Rattle.plain_defs.specs.declared.outcome.Outcome.{Outcome}
 use Rattle.plain_defs.specs.Stance.{first_stance}
 use Rattle.plain_defs.specs.PlainState.{PlainState, with_sense}
-use Rattle.plain_defs.specs.Effect.{command_effect}
+use Rattle.plain_defs.specs.Effect.{TrackEdit, command_effect}
 
 abbrev pub is_plain : Note → Bool
 is_plain Plain = true
@@ -41,17 +41,18 @@ end_of i c o = record { index = i; status = o.status; residual = o.residual; not
 abbrev pub goes_to : List Ccw → ℕ → Outcome → Option ℕ
 goes_to ccws i o = if is_over (ccw_at ccws i) o then None else next_ccw ccws i (has_status_modifier o.status)
 
--- the device behind some commands of a program, the stance, and their ends
+-- the device behind some commands of a program, the stance, their ends and their edits
 pub record Part : Type 0 where
   pub state : PlainState
   pub stance : Stance
   pub ends : List CommandEnd
+  pub edits : List TrackEdit
 
 abbrev pub stopped : PlainState → Stance → Part
-stopped state s = record { state = state; stance = s; ends = [] }
+stopped state s = record { state = state; stance = s; ends = []; edits = [] }
 
-abbrev pub onto : CommandEnd → Part → Part
-onto e p = record p { ends = e ∷ p.ends }
+abbrev pub onto : CommandEnd → List TrackEdit → Part → Part
+onto e edits p = record p { ends = e ∷ p.ends; edits = edits ++ p.edits }
 
 abbrev pub if_some : {X : Type 0} → Option ℕ → X → (ℕ → X) → X
 if_some None x f = x
@@ -63,7 +64,7 @@ part_from zero state path ccws s next = stopped state s
 part_from (suc k) state path ccws s next =
     if_some next (stopped state s) (λ i.
     let e = command_effect state path s (ccw_at ccws i) in
-    onto (end_of i (ccw_at ccws i) e.outcome) (part_from k e.state path ccws e.outcome.stance (goes_to ccws i e.outcome)))
+    onto (end_of i (ccw_at ccws i) e.outcome) e.edits (part_from k e.state path ccws e.outcome.stance (goes_to ccws i e.outcome)))
 
 -- sense, reserve, release and unconditional reserve send the sense that a path has
 abbrev pub sends_sense : ℕ → Bool

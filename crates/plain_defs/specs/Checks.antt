@@ -1,8 +1,9 @@
 -- The order of checks before a command looks at its track.
-use Rattle.std.specs.Prelude.{ℕ, ◌==◌, ◌&&◌, not, is_some, is_ok, nat_lt, nat_le, Bool, true, false, Option, None, Some, Result, Ok, Err, if◌then◌else◌}
+use Rattle.std.specs.Prelude.{ℕ, ◌+◌, ◌*◌, ◌/◌, ◌==◌, ◌&&◌, not, is_some, is_ok, nat_lt, nat_le, Bool, true, false, List, slice_index, Option, None, Some, Result, Ok, Err, if◌then◌else◌}
+use Rattle.std.specs.Int.RustNames.{bit_and}
 use Rattle.ckd_types.specs.declared.channel.Ccw.{Ccw}
 use Rattle.ckd_types.specs.declared.command.Command.{Command}
-use Rattle.ckd_types.specs.declared.command.Command.TheVariants.{DefineExtent, LocateRecord, SetFileMask, WriteData, UpdateData, WriteKeyData, UpdateKeyData, WriteCountKeyData, WriteNextTrack, WriteZero, ReadTrack, Reserve, Release, UnconditionalReserve}
+use Rattle.ckd_types.specs.declared.command.Command.TheVariants.{Seek, SeekCylinder, SeekHead, Recalibrate, DefineExtent, LocateRecord, SetFileMask, WriteData, UpdateData, WriteKeyData, UpdateKeyData, WriteCountKeyData, WriteNextTrack, WriteZero, ReadTrack, Reserve, Release, UnconditionalReserve}
 use Rattle.ckd_types.specs.declared.parameters.Extent.{Extent}
 use Rattle.ckd_types.specs.declared.parameters.Domain.{Domain}
 use Rattle.ckd_types.specs.declared.parameters.ParamFault.{ParamFault}
@@ -12,7 +13,8 @@ use Rattle.ckd_types.specs.declared.command.Group.TheVariants as groups
 use Rattle.ckd_types.specs.Commands.{required_count, group_of}
 use Rattle.ckd_types.specs.Domains.{accepts}
 use Rattle.ckd_types.specs.Mask.{permits_write, permits_seek}
-use Rattle.ckd_types.specs.Parameters.{given, extent_of, domain_of}
+use Rattle.ckd_types.specs.Geometry.{track_at}
+use Rattle.ckd_types.specs.Parameters.{given, number_at, cchh_at, extent_of, domain_of}
 use Rattle.ckd_types.specs.Sense.{reject_sense, file_protected_sense}
 use Rattle.plain_defs.specs.declared.stance.After.{After}
 use Rattle.plain_defs.specs.declared.stance.After.TheVariants.{Other, IdEqual, KeyEqual, HomeEqual, Found, Wrote}
@@ -88,27 +90,51 @@ abbrev pub is_in_sequence : Stance → Option Domain → Command → Bool
 is_in_sequence s None command = may_follow s command
 is_in_sequence s (Some d) command = accepts d.operation command && may_stand_at s.place command
 
+-- seek and seek cylinder go where their bytes say
+abbrev pub seek_to : ℕ → List ℕ → Option ℕ
+seek_to cylinders bytes = if number_at bytes 0 == 0 then track_at cylinders (cchh_at bytes 2) else None
+
+-- seek head goes to a head of the cylinder at hand; the cylinder that it is given is not looked at
+abbrev pub head_to : ℕ → List ℕ → Option ℕ
+head_to track bytes = if (number_at bytes 0 == 0) && nat_lt (number_at bytes 4) 15 then Some (track / 15 * 15 + number_at bytes 4) else None
+
+abbrev pub located_track : Result Domain ParamFault → Option ℕ
+located_track (Ok d) = Some d.seek
+located_track (Err fault) = None
+
+-- the track that a control command goes to
+abbrev pub target_track : ℕ → Stance → Ccw → Command → Option ℕ
+target_track cylinders s c Seek = seek_to cylinders (given 16 c)
+target_track cylinders s c SeekCylinder = seek_to cylinders (given 16 c)
+target_track cylinders s c SeekHead = head_to s.track (given 16 c)
+target_track cylinders s c Recalibrate = Some 0
+target_track cylinders s c LocateRecord = located_track (domain_of cylinders (given 16 c))
+target_track cylinders s c _ = None
+
+-- bit 2 of a file mask is clear
+abbrev pub is_mask : ℕ → Bool
+is_mask byte = bit_and byte 0x20 == 0
+
 -- the parameter bytes mean something on a device with this many cylinders
-abbrev pub has_parameters : ℕ → Ccw → Command → Bool
-has_parameters cylinders c DefineExtent = is_ok (extent_of cylinders (given 16 c))
-has_parameters cylinders c LocateRecord = is_ok (domain_of cylinders (given 16 c))
-has_parameters cylinders c _ = true
+abbrev pub has_parameters : ℕ → Stance → Ccw → Command → Bool
+has_parameters cylinders s c DefineExtent = is_ok (extent_of cylinders (given 16 c))
+has_parameters cylinders s c LocateRecord = is_ok (domain_of cylinders (given 16 c))
+has_parameters cylinders s c Seek = is_some (target_track cylinders s c Seek)
+has_parameters cylinders s c SeekCylinder = is_some (target_track cylinders s c SeekCylinder)
+has_parameters cylinders s c SeekHead = is_some (target_track cylinders s c SeekHead)
+has_parameters cylinders s c SetFileMask = is_mask (slice_index (given 16 c) 0)
+has_parameters cylinders s c _ = true
 
-abbrev pub sought_track : Result Domain ParamFault → Option ℕ
-sought_track (Ok d) = Some d.seek
-sought_track (Err fault) = None
-
-abbrev pub track_by_group : Group → ℕ → Option ℕ
-track_by_group groups.Search t = Some t
-track_by_group groups.Read t = Some t
-track_by_group groups.Write t = Some t
-track_by_group groups.Control t = None
-track_by_group groups.Sense t = None
+abbrev pub is_on_track : Group → Bool
+is_on_track groups.Search = true
+is_on_track groups.Read = true
+is_on_track groups.Write = true
+is_on_track groups.Control = false
+is_on_track groups.Sense = false
 
 -- the track that a command is on, or goes to
 abbrev pub first_track : ℕ → Stance → Ccw → Command → Option ℕ
-first_track cylinders s c LocateRecord = sought_track (domain_of cylinders (given 16 c))
-first_track cylinders s c command = track_by_group (group_of command) s.track
+first_track cylinders s c command = if is_on_track (group_of command) then Some s.track else target_track cylinders s c command
 
 abbrev pub is_between : Extent → ℕ → Bool
 is_between e t = nat_le e.first t && nat_le t e.last
@@ -124,7 +150,7 @@ first_check cylinders s c None = Some (reject_sense 1)
 first_check cylinders s c (Some command) =
     if not (is_in_sequence s s.domain command) then Some (reject_sense 2)
     else if nat_lt c.count (required_count command) then Some (reject_sense 3)
-    else if not (has_parameters cylinders c command) then Some (reject_sense 4)
+    else if not (has_parameters cylinders s c command) then Some (reject_sense 4)
     else if not (permits_write s.mask command) then Some (reject_sense 2)
     else if not (permits_seek s.mask command) then Some file_protected_sense
     else if not (is_within s.extent (first_track cylinders s c command)) then Some file_protected_sense

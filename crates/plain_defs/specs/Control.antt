@@ -1,5 +1,5 @@
--- Define extent and locate record.
-use Rattle.std.specs.Prelude.{ℕ, [], Option, None, Some, Result, Ok, Err, true, if◌then◌else◌}
+-- The control commands.
+use Rattle.std.specs.Prelude.{ℕ, [], slice_index, Option, None, Some, Result, Ok, Err, true, if◌then◌else◌}
 use Rattle.ckd_types.specs.declared.channel.Ccw.{Ccw}
 use Rattle.ckd_types.specs.declared.record.Track.{Track}
 use Rattle.ckd_types.specs.declared.parameters.Extent.{Extent}
@@ -8,7 +8,7 @@ use Rattle.ckd_types.specs.declared.parameters.Orientation.{Orientation}
 use Rattle.ckd_types.specs.declared.parameters.Orientation.TheVariants as orientations
 use Rattle.ckd_types.specs.declared.parameters.ParamFault.{ParamFault}
 use Rattle.ckd_types.specs.Domains.{is_reading_tracks}
-use Rattle.ckd_types.specs.Parameters.{is_orient}
+use Rattle.ckd_types.specs.Parameters.{given, is_orient}
 use Rattle.ckd_types.specs.Sense.{reject_sense, no_record_sense}
 use Rattle.ckd_types.specs.Track.{find_id}
 use Rattle.plain_defs.specs.declared.stance.Stance.{Stance}
@@ -17,6 +17,26 @@ use Rattle.plain_defs.specs.declared.stance.Place.TheVariants.{Index, Home, Coun
 use Rattle.plain_defs.specs.declared.stance.After.TheVariants.{Other}
 use Rattle.plain_defs.specs.declared.outcome.Outcome.{Outcome}
 use Rattle.plain_defs.specs.Outcome.{normal, refused, ended}
+
+-- behind a command that neither searches, reads nor writes
+abbrev pub controlled : Stance → Stance
+controlled s = record s { passes = 0; after = Other }
+
+-- the chain is before the index of a track
+abbrev pub went_to : Stance → ℕ → Stance
+went_to s t = record (controlled s) { track = t; place = Index }
+
+-- a seek takes six bytes
+abbrev pub seek : Stance → Ccw → Option ℕ → Outcome
+seek s c (Some t) = ended (went_to s t) c 6 normal []
+seek s c None = refused s c (reject_sense 4)
+
+-- the sector is taken, and of no effect
+abbrev pub set_sector : Stance → Ccw → Outcome
+set_sector s c = ended (controlled s) c 1 normal []
+
+abbrev pub set_file_mask : Stance → Ccw → Outcome
+set_file_mask s c = ended (record (controlled s) { mask = slice_index (given 16 c) 0; mask_set = true }) c 1 normal []
 
 -- place and track stay as they were
 abbrev pub define_extent : Stance → Ccw → Result Extent ParamFault → Outcome
@@ -53,5 +73,6 @@ needs_record orientations.Body = None
 needs_record orientations.Home = Some Home
 needs_record orientations.Index = Some Index
 
-abbrev pub locate_on : Track → Stance → Ccw → Domain → Outcome
-locate_on t s c d = oriented s c d (find_id d.search t.records)
+abbrev pub locate_on : Track → Stance → Ccw → Result Domain ParamFault → Outcome
+locate_on t s c (Ok d) = oriented s c d (find_id d.search t.records)
+locate_on t s c (Err fault) = refused s c (reject_sense 4)

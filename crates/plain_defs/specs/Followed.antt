@@ -1,14 +1,11 @@
 -- Commands that go from track to track, and what a command gives.
 use Rattle.std.specs.Prelude.{◌≡◌, ◌<◌, ℕ, List, length}
-use Rattle.ckd_types.specs.declared.channel.Ccw.{Ccw}
 use Rattle.ckd_types.specs.declared.geometry.Geometry.{Geometry}
 use Rattle.ckd_types.specs.declared.record.Track.{Track}
 use Rattle.ckd_types.specs.Track.{Fits}
 use Rattle.ckd_types.specs.Volume.{track_in}
-use Rattle.plain_defs.specs.declared.stance.Stance.{Stance}
 use Rattle.plain_defs.specs.declared.outcome.Outcome.{Outcome}
-use Rattle.plain_defs.specs.Effect.{Traced, follow}
-use Rattle.plain_defs.specs.Reads.{read_data_on}
+use Rattle.plain_defs.specs.Effect.{Traced}
 
 -- each track has a record
 abbrev pub HasRecords : List Track → Type 0
@@ -17,9 +14,6 @@ HasRecords v = (t : ℕ) → 0 < length (track_in v t).records
 -- each track fits
 abbrev pub AllFit : Geometry → List Track → Type 0
 AllFit g v = (t : ℕ) → Fits g (track_in v t)
-
-abbrev pub follow_read : List Track → Stance → Ccw → Traced
-follow_read v s c = follow (length v) v s c (λ t z. read_data_on t z c)
 
 -- this outcome, and this volume
 pub record Gives (v : List Track) (e : Traced) (o : Outcome) : Type 0 where

@@ -1,5 +1,5 @@
 -- Formats of one track: a new record, and nothing behind it.
-use Rattle.std.specs.Prelude.{ℕ, ◌+◌, ◌==◌, ◌&&◌, nat_le, Bool, List, [], take, slice_index, if◌then◌else◌}
+use Rattle.std.specs.Prelude.{ℕ, ◌+◌, ◌==◌, ◌&&◌, nat_le, Bool, List, [], take, length, slice_index, if◌then◌else◌}
 use Rattle.ckd_types.specs.declared.channel.Ccw.{Ccw}
 use Rattle.ckd_types.specs.declared.geometry.Geometry.{Geometry}
 use Rattle.ckd_types.specs.declared.record.Record.{Record}
@@ -10,8 +10,7 @@ use Rattle.ckd_types.specs.Parameters.{number_at, cchh_at}
 use Rattle.ckd_types.specs.Sense.{track_format_sense}
 use Rattle.ckd_types.specs.Track.{cost_of}
 use Rattle.plain_defs.specs.declared.stance.Stance.{Stance}
-use Rattle.plain_defs.specs.declared.stance.Place.{Place}
-use Rattle.plain_defs.specs.declared.stance.Place.TheVariants.{Index, Home, Count, Key, Body}
+use Rattle.plain_defs.specs.declared.stance.Place.TheVariants.{Body}
 use Rattle.plain_defs.specs.declared.stance.After.{After}
 use Rattle.plain_defs.specs.declared.stance.After.TheVariants.{Wrote}
 use Rattle.plain_defs.specs.declared.outcome.Outcome.{Outcome}
@@ -20,7 +19,7 @@ use Rattle.plain_defs.specs.declared.outcome.Turned.TheVariants.{Ended, Write}
 use Rattle.plain_defs.specs.Area.{given_at}
 use Rattle.plain_defs.specs.Stance.{one_less}
 use Rattle.plain_defs.specs.Outcome.{normal, refused, ended}
-use Rattle.plain_defs.specs.Finding.{place_on}
+use Rattle.plain_defs.specs.Finding.{place_on, record_of}
 
 -- the first eight bytes are the new count area: an id, and the lengths of key and data
 abbrev pub count_given : Ccw → List ℕ
@@ -39,14 +38,6 @@ record_given c = record {
   body = given_at (8 + key_given c) (body_given c) c;
 }
 
--- the record that a place is at; the index and the home address are before record 0
-abbrev pub record_of : Place → ℕ
-record_of Index = 0
-record_of Home = 0
-record_of (Count i) = i
-record_of (Key i) = i
-record_of (Body i) = i
-
 -- the capacity holds records 1 to i and one more behind them. None of 65,535 bytes of data does
 abbrev pub has_room_behind : Geometry → List Record → ℕ → ℕ → ℕ → Bool
 has_room_behind g records i key body = nat_le (cost_of g (take (i + 1) records) + cost g key body) (capacity g)
@@ -63,7 +54,7 @@ format_behind g records after s c i =
     else Ended (refused s c track_format_sense)
 
 abbrev pub format_on : Geometry → Track → Stance → Ccw → Turned
-format_on g t s c = format_behind g t.records Wrote s c (record_of (place_on t.records s.place))
+format_on g t s c = format_behind g t.records Wrote s c (record_of (place_on (length t.records) s.place))
 
 -- record 0 has no key and eight bytes of data
 abbrev pub is_zero_given : Ccw → Bool

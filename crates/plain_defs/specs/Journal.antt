@@ -14,6 +14,7 @@ use Rattle.plain_defs.specs.declared.journal.Item.{Item}
 use Rattle.plain_defs.specs.declared.journal.Item.TheVariants.{Program, Reset, Fresh}
 use Rattle.plain_defs.specs.Outcome.{check}
 use Rattle.plain_defs.specs.PlainState.{PlainState, with_sense, is_admitted, reset_path}
+use Rattle.plain_defs.specs.Effect.{TrackEdit}
 use Rattle.plain_defs.specs.Chain.{part_of, whole_run}
 
 -- of each path the programs that are planned, in their order
@@ -43,6 +44,22 @@ replay_item plans state Fresh = record state { volume = empty_volume state.cylin
 abbrev pub replay : Plans → PlainState → List Item → PlainState
 replay plans state [] = state
 replay plans state (x ∷ xs) = replay plans (replay_item plans state x) xs
+
+-- the edits of a program whose commands were told as done: those of its ends without unit check
+abbrev pub entry_edits : PlainState → List Ccw → ProgramEntry → How → List TrackEdit
+entry_edits state ccws e Full = (whole_run state e.path ccws).edits
+entry_edits state ccws e (Cut effect) = (part_of state e.path ccws (length e.ends)).edits
+entry_edits state ccws e Checked = (part_of state e.path ccws (length e.ends - 1)).edits
+
+abbrev pub item_edits : Plans → PlainState → Item → List TrackEdit
+item_edits plans state (Program e) = entry_edits state (program_of plans e.path e.ordinal) e e.how
+item_edits plans state (Reset path) = []
+item_edits plans state Fresh = []
+
+-- the edits that a journal acknowledged, in their order
+abbrev pub acknowledged : Plans → PlainState → List Item → List TrackEdit
+acknowledged plans state [] = []
+acknowledged plans state (x ∷ xs) = item_edits plans state x ++ acknowledged plans (replay_item plans state x) xs
 
 abbrev pub is_of_path : ℕ → Item → Bool
 is_of_path path (Program e) = e.path == path

@@ -5,6 +5,10 @@ pub mod Sought
 pub mod Checks
 pub mod Control
 pub mod Reads
+pub mod Searches
+pub mod Opening
+pub mod Turned
+pub mod Acts
 pub mod PlainState
 pub mod Effect
 pub mod Chain

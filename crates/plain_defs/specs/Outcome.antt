@@ -9,10 +9,15 @@ use Rattle.ckd_types.specs.Ccw.{suppresses_length, skips}
 use Rattle.plain_defs.specs.declared.stance.Stance.{Stance}
 use Rattle.plain_defs.specs.declared.outcome.Outcome.{Outcome}
 
--- channel end and device end; with unit exception; with unit check
+-- channel end and device end
 abbrev pub normal : UnitStatus
 normal = record { 0 = 0x0c }
 
+-- with status modifier: a search was satisfied
+abbrev pub satisfied : UnitStatus
+satisfied = record { 0 = 0x4c }
+
+-- with unit exception; with unit check
 abbrev pub exception : UnitStatus
 exception = record { 0 = 0x0d }
 
@@ -26,6 +31,10 @@ counted s moved = record s { commands = s.commands + 1; moved = s.moved + moved 
 -- a command that ends with unit check moves nothing
 abbrev pub refused : Stance → Ccw → Sense → Outcome
 refused s c sense = record { stance = counted s 0; status = check; residual = c.count; note = Plain; sent = []; sense = Some sense }
+
+-- an immediate command moves nothing, and notes no incorrect length
+abbrev pub immediate : Stance → Ccw → Outcome
+immediate s c = record { stance = counted s 0; status = normal; residual = c.count; note = Plain; sent = []; sense = None }
 
 -- incorrect length is noted where count and area length differ, unless the flag suppresses it
 abbrev pub length_note : Ccw → ℕ → Note

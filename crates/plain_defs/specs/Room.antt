@@ -1,5 +1,7 @@
 -- What the stance of a running chain meets.
-use Rattle.std.specs.Prelude.{◌≡◌, ℕ, ◌+◌, ◌<◌, ◌≤◌, IsSome, IfSome}
+use Rattle.std.specs.Prelude.{◌≡◌, ℕ, ◌+◌, ◌<◌, ◌≤◌, IsSome, IfSome, ⊤}
+use Rattle.plain_defs.specs.declared.opening.Opening.{Opening}
+use Rattle.plain_defs.specs.declared.opening.Opening.TheVariants.{Over, Looks, Asks}
 use Rattle.plain_defs.specs.declared.stance.Stance.{Stance}
 
 -- one more command may be counted
@@ -31,3 +33,15 @@ pub record Stays (old new : Stance) : Type 0 where
 pub record IsRunning (index : ℕ) (s : Stance) : Type 0 where
   pub word : index < 65536
   pub room : HasRoom s
+
+-- a command is on another track of the device, and was not counted yet
+pub record IsAt (tracks : ℕ) (old new : Stance) : Type 0 where
+  pub stands : Stands tracks new
+  pub commands : new.commands ≡ old.commands
+  pub moved : new.moved ≡ old.moved
+
+-- how a command begins leaves a stance on the device
+abbrev pub Opens : ℕ → Stance → Opening → Type 0
+Opens tracks s (Over o) = GoesOn tracks s o.stance
+Opens tracks s (Looks z) = IsAt tracks s z
+Opens tracks s (Asks act) = ⊤

@@ -13,12 +13,6 @@ use Rattle.plain_defs.specs.Formats.{has_room_behind}
 use Rattle.plain_defs.specs.Finding.{track_after}
 use Rattle.plain_defs.specs.Room.{GoesOn, Stays}
 
--- it ended, or goes on to a track of the device, and writes nothing
-abbrev pub Looks : ℕ → Stance → Turned → Type 0
-Looks tracks s (Ended o) = GoesOn tracks s o.stance
-Looks tracks s (NextTrack t) = t < tracks
-Looks tracks s (Write e o) = ⊥
-
 -- an update keeps the lengths of its record
 pub record IsUpdate (records : List Record) (i : ℕ) (key body : List ℕ) : Type 0 where
   pub place : i < length records
@@ -47,3 +41,9 @@ abbrev pub Turns : Geometry → List Record → Stance → Turned → Type 0
 Turns g records s (Ended o) = Stays s o.stance
 Turns g records s (NextTrack t) = track_after s.extent s.track ≡ Ok t
 Turns g records s (Write e o) = Suits g records e × Stays s o.stance
+
+-- on a device with this many tracks
+abbrev pub TurnsOn : Geometry → ℕ → List Record → Stance → Turned → Type 0
+TurnsOn g tracks records s (Ended o) = GoesOn tracks s o.stance
+TurnsOn g tracks records s (NextTrack t) = track_after s.extent s.track ≡ Ok t
+TurnsOn g tracks records s (Write e o) = Suits g records e × GoesOn tracks s o.stance

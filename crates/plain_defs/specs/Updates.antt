@@ -6,7 +6,7 @@ use Rattle.ckd_types.specs.declared.record.Track.{Track}
 use Rattle.ckd_types.specs.declared.record.Edit.TheVariants.{Update}
 use Rattle.plain_defs.specs.declared.stance.Stance.{Stance}
 use Rattle.plain_defs.specs.declared.stance.Place.{Place}
-use Rattle.plain_defs.specs.declared.stance.Place.TheVariants.{Index, Home, Count, Key, Body}
+use Rattle.plain_defs.specs.declared.stance.Place.TheVariants.{Body}
 use Rattle.plain_defs.specs.declared.stance.After.{After}
 use Rattle.plain_defs.specs.declared.stance.After.TheVariants.{Other, Wrote}
 use Rattle.plain_defs.specs.declared.finding.Sought.{Sought}
@@ -17,16 +17,8 @@ use Rattle.plain_defs.specs.declared.outcome.Turned.TheVariants.{Ended, NextTrac
 use Rattle.plain_defs.specs.Area.{given_at}
 use Rattle.plain_defs.specs.Stance.{one_less}
 use Rattle.plain_defs.specs.Outcome.{refused, ended}
-use Rattle.plain_defs.specs.Finding.{place_on, next_data, if_there, find_from}
+use Rattle.plain_defs.specs.Finding.{place_on, next_data, next_key, if_there, find_from}
 use Rattle.plain_defs.specs.Reads.{record_at, status_of}
-
--- the record whose key comes next
-abbrev pub next_key : Place → ℕ
-next_key Index = 1
-next_key Home = 1
-next_key (Count i) = i
-next_key (Key i) = i + 1
-next_key (Body i) = i + 1
 
 abbrev pub next_area : Bool → Place → ℕ
 next_area with_key place = if with_key then next_key place else next_data place
@@ -61,4 +53,4 @@ update_sought with_key multitrack records s c (Nowhere sense) = Ended (refused s
 
 abbrev pub update_on : Bool → Bool → Track → Stance → Ccw → Turned
 update_on with_key multitrack t s c =
-    update_sought with_key multitrack t.records s c (find_from multitrack s (if_there t.records (next_area with_key (place_on t.records s.place))) (if_there t.records 1))
+    update_sought with_key multitrack t.records s c (find_from multitrack s (if_there (length t.records) (next_area with_key (place_on (length t.records) s.place))) (if_there (length t.records) 1))

@@ -1,12 +1,12 @@
 ghost use Rattle.std.specs.Prelude.{◌≡◌, ◌≤◌, ◌<◌, ◌*◌, ◌^◌, IfOk, IfSome};
 ghost use Rattle.ckd_types.specs.Parameters.{given};
-ghost use Rattle.plain_defs.specs.Checks.{may_follow, may_stand_at, is_in_sequence, has_parameters, first_track, is_between, is_within, first_check};
+ghost use Rattle.plain_defs.specs.Checks.{may_follow, may_stand_at, is_in_sequence, seek_to, head_to, target_track, is_mask, has_parameters, is_on_track, first_track, is_between, is_within, first_check};
 
-use crate::params::{domain_of, extent_of, given};
+use crate::params::{cchh_at, domain_of, extent_of, given, number_at, track_at};
 use crate::sense::{file_protected, reject};
 use crate::{After, Place, Stance};
 use ckd_types::{
-    Ccw, Command, Domain, Extent, Group, Sense, TrackNo, accepts, group_of, permits_seek,
+    Ccw, Command, Domain, Extent, Group, HEADS, Sense, TrackNo, accepts, group_of, permits_seek,
     permits_write, required_count,
 };
 
@@ -55,31 +55,106 @@ fn is_in_sequence(stance: &Stance, domain: Option<Domain>, command: Command) -> 
     }
 }
 
-fn has_parameters(cylinders: u8, c: &Ccw, command: Command) -> bool
+fn seek_to(cylinders: u8, bytes: &[u8; 16]) -> Option<TrackNo>
     requires { cylinders ≤ 64 }
-    ensures { result ≡ has_parameters cylinders c.now command }
+    ensures track { result ≡ seek_to cylinders bytes.now }
+    ensures on_device { IfSome result (λ t. t < cylinders * 15) }
 {
-    match command {
-        Command::DefineExtent => extent_of(cylinders, &given(c)).is_ok(),
-        Command::LocateRecord => domain_of(cylinders, &given(c)).is_ok(),
-        _ => true,
+    if number_at(bytes, 0) == 0 {
+        track_at(cylinders, cchh_at(bytes, 2))
+    } else {
+        None
     }
 }
 
-fn first_track(cylinders: u8, stance: &Stance, c: &Ccw, command: Command) -> Option<TrackNo>
-    requires { cylinders ≤ 64 }
-    ensures { result ≡ first_track cylinders stance.now c.now command }
+/// The cylinder that a seek head is given isn't looked at. Own.
+fn head_to(track: TrackNo, bytes: &[u8; 16], cylinders: u8) -> Option<TrackNo>
+    requires most { cylinders ≤ 64 }
+    requires track { track < cylinders * 15 }
+    ensures track { result ≡ head_to track bytes.now }
+    ensures on_device { IfSome result (λ t. t < cylinders * 15) }
 {
-    let track = stance.track;
+    let head = number_at(bytes, 4);
+    if number_at(bytes, 0) == 0 && head < HEADS {
+        TrackNo::new(track.get() / HEADS * HEADS + head)
+    } else {
+        None
+    }
+}
+
+/// The track that a control command goes to.
+pub fn target_track(
+    cylinders: u8,
+    stance: &Stance,
+    c: &Ccw,
+    command: Command,
+) -> Option<TrackNo>
+    requires some { 1 ≤ cylinders }
+    requires most { cylinders ≤ 64 }
+    requires track { stance.now.track < cylinders * 15 }
+    ensures track { result ≡ target_track cylinders stance.now c.now command }
+    ensures on_device { IfSome result (λ t. t < cylinders * 15) }
+{
     match command {
+        Command::Seek | Command::SeekCylinder => seek_to(cylinders, &given(c)),
+        Command::SeekHead => {
+            let track = stance.track;
+            head_to(track, &given(c), cylinders)
+        }
+        Command::Recalibrate => TrackNo::new(0),
         Command::LocateRecord => match domain_of(cylinders, &given(c)) {
             Ok(d) => Some(d.seek),
             Err(_) => None,
         },
-        _ => match group_of(command) {
-            Group::Search | Group::Read | Group::Write => Some(track),
-            Group::Control | Group::Sense => None,
-        },
+        _ => None,
+    }
+}
+
+/// Bit 2 of a file mask is clear.
+fn is_mask(byte: u8) -> bool
+    ensures { result ≡ is_mask byte }
+{
+    byte & 0x20 == 0
+}
+
+fn has_parameters(cylinders: u8, stance: &Stance, c: &Ccw, command: Command) -> bool
+    requires some { 1 ≤ cylinders }
+    requires most { cylinders ≤ 64 }
+    requires track { stance.now.track < cylinders * 15 }
+    ensures { result ≡ has_parameters cylinders stance.now c.now command }
+{
+    match command {
+        Command::DefineExtent => extent_of(cylinders, &given(c)).is_ok(),
+        Command::LocateRecord => domain_of(cylinders, &given(c)).is_ok(),
+        Command::Seek | Command::SeekCylinder | Command::SeekHead => {
+            target_track(cylinders, stance, c, command).is_some()
+        }
+        Command::SetFileMask => is_mask(given(c)[0]),
+        _ => true,
+    }
+}
+
+/// Searches, reads and writes are on a track.
+pub fn is_on_track(group: Group) -> bool
+    ensures { result ≡ is_on_track group }
+{
+    match group {
+        Group::Search | Group::Read | Group::Write => true,
+        Group::Control | Group::Sense => false,
+    }
+}
+
+fn first_track(cylinders: u8, stance: &Stance, c: &Ccw, command: Command) -> Option<TrackNo>
+    requires some { 1 ≤ cylinders }
+    requires most { cylinders ≤ 64 }
+    requires track { stance.now.track < cylinders * 15 }
+    ensures { result ≡ first_track cylinders stance.now c.now command }
+{
+    let track = stance.track;
+    if is_on_track(group_of(command)) {
+        Some(track)
+    } else {
+        target_track(cylinders, stance, c, command)
     }
 }
 
@@ -105,7 +180,9 @@ pub fn first_check(
     c: &Ccw,
     command: Option<Command>,
 ) -> Option<Sense>
-    requires { cylinders ≤ 64 }
+    requires some { 1 ≤ cylinders }
+    requires most { cylinders ≤ 64 }
+    requires track { stance.now.track < cylinders * 15 }
     ensures { result ≡ first_check cylinders stance.now c.now command }
 {
     let Some(command) = command else {
@@ -117,7 +194,7 @@ pub fn first_check(
     if c.count < required_count(command) {
         return Some(reject(3));
     }
-    if !has_parameters(cylinders, c, command) {
+    if !has_parameters(cylinders, stance, c, command) {
         return Some(reject(4));
     }
     if !permits_write(stance.mask, command) {

@@ -1,13 +1,12 @@
 ghost use Rattle.std.specs.Prelude.{◌≡◌, ◌<◌, ◌≤◌, ◌+◌, ◌%◌, ◌^◌, IfSome, IfOk, IsSome, IsSomeAnd, Ok, length};
-ghost use Rattle.plain_defs.specs.Finding.{kept_place, place_on, next_data, if_there, next_track, track_after, find_from, missed, from_index};
-ghost use Rattle.plain_defs.specs.Formats.{record_of};
-ghost use Rattle.plain_defs.specs.Updates.{next_key, next_area};
-ghost use Rattle.plain_defs.specs.Sought.{IsHere, IsOnward};
+ghost use Rattle.plain_defs.specs.Finding.{kept_place, place_on, record_of, next_id, next_count, next_data, next_key, zero_from, home_from, if_there, next_track, track_after, find_from, missed, from_index};
+ghost use Rattle.plain_defs.specs.Updates.{next_area};
+ghost use Rattle.plain_defs.specs.Sought.{IsHere, IsOnward, PassedOnce};
 ghost use Rattle.plain_defs.specs.Room.{Stands};
 
 use crate::sense::{end_of_cylinder, file_protected, no_record};
 use crate::{Place, Stance};
-use ckd_types::{Extent, HEADS, Records, Sense, TrackNo, permits_move};
+use ckd_types::{Extent, HEADS, Sense, TrackNo, permits_move};
 
 /// The most tracks that a device has.
 pub const TRACKS: usize = 960;
@@ -21,29 +20,26 @@ pub enum Sought {
     Nowhere(Sense),
 }
 
-fn kept_place(records: &Records, i: usize, place: Place) -> Place
-    requires some { 0 < length records.now }
-    requires bound { i < length records.now → next_data place < 2 ^ 64 }
+fn kept_place(records: usize, i: usize, place: Place) -> Place
+    requires some { 0 < records }
     requires record { record_of place ≡ i }
-    ensures kept { result ≡ kept_place records.now i place }
-    ensures bound { next_data result < 2 ^ 64 }
-    ensures within { record_of result < length records.now }
+    ensures kept { result ≡ kept_place records i place }
+    ensures within { record_of result < records }
 {
-    if i < records.len() {
+    if i < records {
         place
     } else {
-        Place::Body(records.len() - 1)
+        Place::Body(records - 1)
     }
 }
 
-/// The place on this track: behind a record that isn't there it is the data of the last. Own.
-pub fn place_on(records: &Records, place: Place) -> Place
-    requires { 0 < length records.now }
-    ensures place { result ≡ place_on records.now place }
-    ensures bound { next_data result < 2 ^ 64 }
-    ensures within { record_of result < length records.now }
+/// The place on a track of so many records: behind a record that isn't there it is the data of the
+/// last. Own.
+pub fn place_on(records: usize, place: Place) -> Place
+    requires { 0 < records }
+    ensures place { result ≡ place_on records place }
+    ensures within { record_of result < records }
 {
-    let _ = records.len();
     match place {
         Place::Index => Place::Index,
         Place::Home => Place::Home,
@@ -53,9 +49,31 @@ pub fn place_on(records: &Records, place: Place) -> Place
     }
 }
 
+/// The record whose id comes next.
+pub fn next_id(place: Place) -> usize
+    requires { record_of place + 1 < 2 ^ 64 }
+    ensures { result ≡ next_id place }
+{
+    match place {
+        Place::Index | Place::Home => 0,
+        Place::Count(i) | Place::Key(i) | Place::Body(i) => i + 1,
+    }
+}
+
+/// The record whose count area comes next; record 0 has reads of its own.
+pub fn next_count(place: Place) -> usize
+    requires { record_of place + 1 < 2 ^ 64 }
+    ensures { result ≡ next_count place }
+{
+    match place {
+        Place::Index | Place::Home => 1,
+        Place::Count(i) | Place::Key(i) | Place::Body(i) => i + 1,
+    }
+}
+
 /// The record whose data comes next.
 pub fn next_data(place: Place) -> usize
-    requires { next_data place < 2 ^ 64 }
+    requires { record_of place + 1 < 2 ^ 64 }
     ensures { result ≡ next_data place }
 {
     match place {
@@ -66,7 +84,7 @@ pub fn next_data(place: Place) -> usize
 }
 
 /// The record whose key comes next.
-fn next_key(place: Place) -> usize
+pub fn next_key(place: Place) -> usize
     requires { record_of place + 1 < 2 ^ 64 }
     ensures { result ≡ next_key place }
 {
@@ -79,8 +97,7 @@ fn next_key(place: Place) -> usize
 
 /// The record whose data comes next, or whose key does.
 pub fn next_area(with_key: bool, place: Place) -> usize
-    requires data { next_data place < 2 ^ 64 }
-    requires key { record_of place + 1 < 2 ^ 64 }
+    requires { record_of place + 1 < 2 ^ 64 }
     ensures { result ≡ next_area with_key place }
 {
     if with_key {
@@ -100,12 +117,34 @@ pub fn record_of(place: Place) -> usize
     }
 }
 
-/// Record `i`, where the track has it.
-pub fn if_there(records: &Records, i: usize) -> Option<usize>
-    ensures found { result ≡ if_there records.now i }
-    ensures range { IfSome result (λ k. k < length records.now) }
+/// Record 0, which only a place before it shows.
+pub fn zero_from(place: Place) -> Option<usize>
+    ensures shown { result ≡ zero_from place }
+    ensures zero { IfSome result (λ i. i ≡ 0) }
 {
-    if i < records.len() { Some(i) } else { None }
+    match place {
+        Place::Index | Place::Home => Some(0),
+        _ => None,
+    }
+}
+
+/// The home address, which only the index shows.
+pub fn home_from(place: Place) -> Option<usize>
+    ensures shown { result ≡ home_from place }
+    ensures zero { IfSome result (λ i. i ≡ 0) }
+{
+    match place {
+        Place::Index => Some(0),
+        _ => None,
+    }
+}
+
+/// Record `i`, where there are more.
+pub fn if_there(records: usize, i: usize) -> Option<usize>
+    ensures found { result ≡ if_there records i }
+    ensures range { IfSome result (λ k. k < records) }
+{
+    if i < records { Some(i) } else { None }
 }
 
 /// The track behind this one, or the sense that ends the command.
@@ -165,6 +204,7 @@ fn missed(multitrack: bool, stance: &Stance, again: Option<usize>, tracks: usize
     ensures after { IsOnward result (λ t. track_after stance.now.extent stance.now.track ≡ Ok t) }
     ensures on_device { IsOnward result (λ t. t < tracks) }
     ensures there { IsHere result (λ i. IsSomeAnd again (λ k. i ≡ k)) }
+    ensures passed { PassedOnce result }
 {
     if multitrack {
         return match next_track(stance, tracks) {
@@ -197,6 +237,7 @@ pub fn find_from(
     ensures after { IsOnward result (λ t. track_after stance.now.extent stance.now.track ≡ Ok t) }
     ensures on_device { IsOnward result (λ t. t < tracks) }
     ensures there { IsHere result (λ i. i < records) }
+    ensures passed { PassedOnce result }
 {
     match first {
         Some(index) => Sought::Here {

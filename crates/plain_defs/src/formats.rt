@@ -1,7 +1,7 @@
 ghost use Rattle.std.specs.Prelude.{◌≡◌, ◌<◌, ◌≤◌, ◌+◌, ◌^◌, IfOk, IsTrue, All, length, sum_by};
 ghost use Rattle.ckd_types.specs.Geometry.{cost, capacity};
 ghost use Rattle.ckd_types.specs.Track.{IsRecord, Fits, cost_of};
-ghost use Rattle.plain_defs.specs.Formats.{key_given, body_given, record_given, record_of, has_room_behind, format_ended, format_behind, format_on, is_zero_given, zero_on};
+ghost use Rattle.plain_defs.specs.Formats.{key_given, body_given, record_given, has_room_behind, format_ended, format_behind, format_on, is_zero_given, zero_on};
 ghost use Rattle.plain_defs.specs.Room.{HasRoom, Stands, Stays};
 ghost use Rattle.plain_defs.specs.Turn.{Turns};
 
@@ -165,7 +165,7 @@ pub fn format_on(
     ensures turned { IfOk result (λ turned. turned ≡ format_on geometry track.now stance.now ccw.now) }
     ensures turns { IfOk result (Turns geometry track.now.records stance.now) }
 {
-    let at = record_of(place_on(&track.records, stance.place));
+    let at = record_of(place_on(track.records.len(), stance.place));
     format_behind(alloc, geometry, track, After::Wrote, stance, ccw, at)
 }
 

@@ -5,11 +5,10 @@ mod area;
 mod chain;
 mod checks;
 mod control;
-mod device;
-mod effect;
 mod finding;
 mod formats;
 mod journal;
+mod opening;
 mod outcome;
 mod params;
 mod reads;
@@ -20,10 +19,14 @@ mod volume;
 mod writes;
 
 pub use area::{count_given, given_at};
-pub use device::PlainDevice;
-pub use finding::{Sought, find_from};
+pub use finding::{
+    Sought, find_from, home_from, if_there, next_area, next_count, next_data, next_id, next_key,
+    place_on, record_of, zero_from,
+};
 pub use journal::{Entry, How, Item, Journal};
-pub use outcome::{Outcome, Turned, ended, refused};
+pub use opening::{LocalAct, Opening, opening_of};
+pub use outcome::{Outcome, Turned, ended, immediate, refused};
+pub use reads::{found_after, status_of};
 pub use params::given;
 pub use stance::{After, Place, Stance, one_less};
 pub use volume::PlainVolume;

@@ -1,5 +1,5 @@
 ghost use Rattle.std.specs.Prelude.{◌≡◌, ◌<◌, ◌^◌, ◌*◌, [], None, IfOk, length};
-ghost use Rattle.plain_defs.specs.Outcome.{length_note, refused, ended, sent_of};
+ghost use Rattle.plain_defs.specs.Outcome.{length_note, refused, immediate, ended, sent_of};
 
 use crate::Stance;
 use ckd_types::{Bytes, Ccw, Edit, NoMemory, Note, Sense, TrackNo, UnitStatus};
@@ -39,6 +39,23 @@ pub fn refused(stance: &Stance, c: &Ccw, sense: Sense) -> Outcome
         note: Note::Plain,
         sent: Bytes::new(),
         sense: Some(sense),
+    }
+}
+
+/// The end of a command that moves nothing, whatever its count.
+pub fn immediate(stance: &Stance, c: &Ccw) -> Outcome
+    requires { stance.now.commands < 4096 }
+    ensures { result ≡ immediate stance.now c.now }
+{
+    let mut after = *stance;
+    after.commands += 1;
+    Outcome {
+        stance: after,
+        status: UnitStatus::normal(),
+        residual: c.count,
+        note: Note::Plain,
+        sent: Bytes::new(),
+        sense: None,
     }
 }
 

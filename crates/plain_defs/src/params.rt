@@ -37,7 +37,8 @@ pub fn cchh_at(bytes: &[u8], i: usize) -> Cchh
     }
 }
 
-fn track_at(cylinders: u8, place: Cchh) -> Option<TrackNo>
+/// The track at a cylinder and head of a device with this many cylinders.
+pub fn track_at(cylinders: u8, place: Cchh) -> Option<TrackNo>
     requires { cylinders ≤ 64 }
     ensures track { result ≡ track_at cylinders place }
     ensures on_device { IfSome result (λ t. t < cylinders * 15) }

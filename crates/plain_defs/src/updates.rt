@@ -152,9 +152,9 @@ pub fn update_on(
 {
     let records = &track.records;
     let count = records.len();
-    let place = place_on(records, stance.place);
-    let first = if_there(records, next_area(with_key, place));
-    let again = if_there(records, 1);
+    let place = place_on(count, stance.place);
+    let first = if_there(count, next_area(with_key, place));
+    let again = if_there(count, 1);
     let sought = find_from(multitrack, stance, count, first, again, TRACKS);
     update_sought(
         alloc, geometry, records, with_key, multitrack, stance, ccw, sought,
