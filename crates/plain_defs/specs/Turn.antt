@@ -42,6 +42,12 @@ Turns g records s (Ended o) = Stays s o.stance
 Turns g records s (NextTrack t) = track_after s.extent s.track ≡ Ok t
 Turns g records s (Write e o) = Suits g records e × Stays s o.stance
 
+-- it ended on this track, or goes on to the one behind it, and edits nothing
+abbrev pub LooksOn : Stance → Turned → Type 0
+LooksOn s (Ended o) = Stays s o.stance
+LooksOn s (NextTrack t) = track_after s.extent s.track ≡ Ok t
+LooksOn s (Write e o) = ⊥
+
 -- on a device with this many tracks
 abbrev pub TurnsOn : Geometry → ℕ → List Record → Stance → Turned → Type 0
 TurnsOn g tracks records s (Ended o) = GoesOn tracks s o.stance
