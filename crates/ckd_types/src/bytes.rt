@@ -1,4 +1,4 @@
-ghost use Rattle.std.specs.Prelude.{◌≡◌, ◌==◌, [], IfOk, length};
+ghost use Rattle.std.specs.Prelude.{◌≡◌, ◌==◌, [], IfOk, length, take};
 
 use crate::NoMemory;
 use std::alloc::Global;
@@ -74,6 +74,16 @@ impl Bytes {
         if let Some(items) = &mut self.items {
             items.as_mut_slice().copy_from_slice(bytes);
         }
+    }
+
+    /// The first bytes, at most this many. Takes no memory.
+    pub fn cut_to(mut self, most: usize) -> Bytes
+        ensures { result ≡ take most self }
+    {
+        if let Some(items) = &mut self.items {
+            items.truncate(most);
+        }
+        self
     }
 
     pub fn copy(&self, alloc: Global) -> Result<Bytes, NoMemory>

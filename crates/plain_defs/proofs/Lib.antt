@@ -1,3 +1,10 @@
 pub mod Lists
+pub mod FollowLemmas
 pub mod EditLemmas
 pub mod NextTrack
+pub mod PartLemmas
+mod Rows
+mod WriteRows
+pub mod Laws
+pub mod JournalLaws
+pub mod EndsLaws

@@ -62,9 +62,9 @@ area_of orientations.Body i = Body i
 area_of orientations.Home i = Home
 area_of orientations.Index i = Index
 
-abbrev pub oriented : Stance → Ccw → Domain → Option ℕ → Outcome
-oriented s c d (Some i) = placed s c d (area_of d.orientation i)
-oriented s c d None = refused s c no_record_sense
+abbrev pub located : Stance → Ccw → Domain → Option ℕ → Outcome
+located s c d (Some i) = placed s c d (area_of d.orientation i)
+located s c d None = refused s c no_record_sense
 
 -- home address and index need no look at the track
 abbrev pub needs_record : Orientation → Option Place
@@ -74,5 +74,5 @@ needs_record orientations.Home = Some Home
 needs_record orientations.Index = Some Index
 
 abbrev pub locate_on : Track → Stance → Ccw → Result Domain ParamFault → Outcome
-locate_on t s c (Ok d) = oriented s c d (find_id d.search t.records)
+locate_on t s c (Ok d) = located s c d (find_id d.search t.records)
 locate_on t s c (Err fault) = refused s c (reject_sense 4)

@@ -51,5 +51,5 @@ LooksOn s (Write e o) = ⊥
 -- on a device with this many tracks
 abbrev pub TurnsOn : Geometry → ℕ → List Record → Stance → Turned → Type 0
 TurnsOn g tracks records s (Ended o) = GoesOn tracks s o.stance
-TurnsOn g tracks records s (NextTrack t) = track_after s.extent s.track ≡ Ok t
+TurnsOn g tracks records s (NextTrack t) = t < tracks
 TurnsOn g tracks records s (Write e o) = Suits g records e × GoesOn tracks s o.stance

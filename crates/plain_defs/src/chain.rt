@@ -5,7 +5,7 @@ ghost use Rattle.ckd_types.specs.Ccw.{is_transfer, ccw_at, no_ccw};
 ghost use Rattle.ckd_types.specs.Program.{target};
 
 use crate::{Outcome, Stance};
-use ckd_types::{Ccw, CommandEnd, Note};
+use ckd_types::{Bytes, Ccw, CommandEnd, Note};
 
 /// The most commands that end in a chain.
 pub const MOST_COMMANDS: u16 = 4096;
@@ -76,6 +76,18 @@ fn target(ccws: &[Ccw], i: usize) -> usize
         usize::from(ccws[i].count)
     } else {
         i
+    }
+}
+
+/// What stands past the end of a program.
+pub fn no_ccw() -> Ccw
+    ensures { result ≡ no_ccw }
+{
+    Ccw {
+        command: 0,
+        flags: 0,
+        count: 0,
+        given: Bytes::new(),
     }
 }
 

@@ -1,7 +1,7 @@
 ghost use Rattle.std.specs.Prelude.{◌≡◌, ◌<◌, ◌≤◌, ◌*◌, ◌+◌, ◌^◌, [], Some, Ok, IfOk, IfSome, IsSome, false, length};
 ghost use Rattle.ckd_types.specs.Domains.{is_reading_tracks};
 ghost use Rattle.ckd_types.specs.Parameters.{is_orient, is_bad_count};
-ghost use Rattle.plain_defs.specs.Control.{controlled, went_to, seek, set_sector, set_file_mask, define_extent, opened, place_for, placed, area_of, oriented, needs_record, locate_on};
+ghost use Rattle.plain_defs.specs.Control.{controlled, went_to, seek, set_sector, set_file_mask, define_extent, opened, place_for, placed, area_of, located, needs_record, locate_on};
 ghost use Rattle.plain_defs.specs.Room.{HasRoom, Stands, GoesOn};
 
 use crate::outcome::{ended, refused};
@@ -175,12 +175,13 @@ pub fn needs_record(orientation: Orientation) -> Option<Place>
     }
 }
 
-pub fn oriented(stance: &Stance, c: &Ccw, d: &Domain, found: Option<usize>, tracks: usize) -> Outcome
+/// The end of a locate record that looked for its record: where it was found, if it was.
+pub fn located(stance: &Stance, c: &Ccw, d: &Domain, found: Option<usize>, tracks: usize) -> Outcome
     requires room { HasRoom stance.now }
     requires stands { Stands tracks stance.now }
     requires seek { d.now.seek < tracks }
     requires counted { is_bad_count d.now.operation d.now.count ≡ false }
-    ensures outcome { result ≡ oriented stance.now c.now d.now found }
+    ensures outcome { result ≡ located stance.now c.now d.now found }
     ensures goes_on { GoesOn tracks stance.now result.stance }
 {
     match found {
@@ -205,7 +206,7 @@ pub fn locate_on(
     ensures goes_on { GoesOn tracks stance.now result.stance }
 {
     match domain {
-        Ok(d) => oriented(stance, c, &d, track.records.find(d.search), tracks),
+        Ok(d) => located(stance, c, &d, track.records.find(d.search), tracks),
         Err(_) => refused(stance, c, reject(4)),
     }
 }

@@ -1,6 +1,7 @@
 //! What a plain, uncached volume does with channel programs, and a slow executor of it.
 #![tactic(auto)]
 
+mod acts;
 mod area;
 mod chain;
 mod checks;
@@ -18,7 +19,10 @@ mod updates;
 mod volume;
 mod writes;
 
+pub use acts::{answered, sense_id_bytes};
 pub use area::{count_given, given_at};
+pub use chain::{end_of, goes_to, no_ccw, word_at};
+pub use control::located;
 pub use finding::{
     Sought, find_from, home_from, if_there, next_area, next_count, next_data, next_id, next_key,
     place_on, record_of, zero_from,
@@ -27,6 +31,6 @@ pub use journal::{Entry, How, Item, Journal};
 pub use opening::{LocalAct, Opening, opening_of};
 pub use outcome::{Outcome, Turned, ended, immediate, refused};
 pub use reads::{found_after, status_of};
-pub use params::given;
-pub use stance::{After, Place, Stance, one_less};
+pub use params::{domain_of, given};
+pub use stance::{After, Place, Stance, first_stance, one_less};
 pub use volume::PlainVolume;

@@ -1,0 +1,10 @@
+//! A running channel program, one step at a time.
+#![tactic(auto)]
+
+mod chain;
+mod progress;
+mod turn;
+
+pub use chain::{Chain, Mark};
+pub use plain_defs::LocalAct;
+pub use progress::{Progress, Settled};

@@ -1,0 +1,35 @@
+-- A journal with one item more.
+use Rattle.std.proofs.Common.{◌≡◌, ℕ, List, [], ◌∷◌, ◌++◌, refl, sym, ap, subst, ◌∙◌, append_assoc}
+use Rattle.std.proofs.lemmas.List.{append-nil}
+use Rattle.plain_defs.specs.declared.journal.How.{How}
+use Rattle.plain_defs.specs.declared.journal.How.TheVariants.{Full, Cut, Checked}
+use Rattle.plain_defs.specs.declared.journal.Item.{Item}
+use Rattle.plain_defs.specs.declared.journal.Item.TheVariants.{Program, Reset, Fresh}
+use Rattle.plain_defs.specs.PlainState.{PlainState}
+use Rattle.plain_defs.specs.Journal.{Plans, replay, replay_item, FollowsCut, IsLegalItem, IsLegalFrom}
+
+pub replay-append : (plans : Plans) (s : PlainState) (xs ys : List Item) → replay plans s (xs ++ ys) ≡ replay plans (replay plans s xs) ys
+replay-append plans s [] ys = refl
+replay-append plans s (x ∷ xs) ys = replay-append plans (replay_item plans s x) xs ys
+
+follows_more : (how : How) (path : ℕ) (xs ys : List Item) → FollowsCut how path xs → FollowsCut how path (xs ++ ys)
+follows_more Full path xs ys h = tt
+follows_more Checked path xs ys h = tt
+follows_more (Cut effect) path [] ys h = absurd h
+follows_more (Cut effect) path (Reset p ∷ xs) ys h = h
+follows_more (Cut effect) path (Program e ∷ xs) ys h = absurd h
+follows_more (Cut effect) path (Fresh ∷ xs) ys h = absurd h
+
+item_more : (plans : Plans) (s : PlainState) (earlier : List Item) (y : Item) (later more : List Item) → IsLegalItem plans s earlier y later → IsLegalItem plans s earlier y (later ++ more)
+item_more plans s earlier (Program e) later more h = (h.0, follows_more e.how e.path later more h.1)
+item_more plans s earlier (Reset p) later more h = tt
+item_more plans s earlier Fresh later more h = tt
+
+-- a legal item behind a legal journal
+pub legal_more : (plans : Plans) (s : PlainState) (earlier xs : List Item) (x : Item) → IsLegalFrom plans s earlier xs → IsLegalItem plans (replay plans s xs) (earlier ++ xs) x [] → IsLegalFrom plans s earlier (xs ++ x ∷ [])
+legal_more plans s earlier [] x h more = (subst (λ (l : List Item). IsLegalItem plans s l x []) (append-nil earlier) more, tt)
+legal_more plans s earlier (y ∷ ys) x h more = (
+  item_more plans s earlier y ys (x ∷ []) h.0,
+  legal_more plans (replay_item plans s y) (earlier ++ y ∷ []) ys x h.1
+      (subst (λ (l : List Item). IsLegalItem plans (replay plans (replay_item plans s y) ys) l x []) (sym (append_assoc earlier (y ∷ []) ys)) more),
+)

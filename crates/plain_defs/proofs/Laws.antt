@@ -1,0 +1,70 @@
+-- Laws of the parts of a program.
+use Rattle.std.proofs.Common.{◌≡◌, ◌≤◌, ℕ, zero, suc, List, [], ◌∷◌, Option, Some, None, Bool, true, false, length, take, refl, arith, ap, ◌∙◌, cond}
+use Rattle.ckd_types.specs.declared.channel.Ccw.{Ccw}
+use Rattle.ckd_types.specs.declared.channel.CommandEnd.{CommandEnd}
+use Rattle.ckd_types.specs.Ccw.{ccw_at}
+use Rattle.plain_defs.specs.declared.stance.Stance.{Stance}
+use Rattle.plain_defs.specs.PlainState.{PlainState}
+use Rattle.plain_defs.specs.declared.opening.LocalAct.TheVariants.{Sense, SenseId}
+use Rattle.plain_defs.specs.declared.opening.Opening.{Opening}
+use Rattle.plain_defs.specs.declared.opening.Opening.TheVariants.{Over, Looks, Asks}
+use Rattle.plain_defs.specs.Opening.{opening_of}
+use Rattle.plain_defs.specs.Effect.{effect_by, command_effect}
+use Rattle.plain_defs.specs.Chain.{Part, part_from, goes_to, end_of, is_over}
+use Rattle.plain_defs.proofs.PartLemmas.{none_left}
+
+-- an end that says over is the last
+abbrev pub IsClosed : List CommandEnd → Type 0
+IsClosed [] = Unit {0}
+IsClosed (e ∷ ends) = (e.over ≡ true → ends ≡ []) × IsClosed ends
+
+over_stops : (b : Bool) (x : Option ℕ) → b ≡ true → cond b None x ≡ None
+over_stops true x is = refl
+over_stops false x is = absurd (let e : false ≡ true = is in cc)
+
+-- no command of the profile so far takes or frees the device
+effect_owner : (state : PlainState) (path : ℕ) (s : Stance) (c : Ccw) (how : Opening) → (effect_by state path s c how).state.owner ≡ state.owner
+effect_owner state path s c (Over o) = refl
+effect_owner state path s c (Looks z) = refl
+effect_owner state path s c (Asks Sense) = refl
+effect_owner state path s c (Asks SenseId) = refl
+
+module _ (path : ℕ) (ccws : List Ccw) where
+  -- the ends of the first k commands are the first k ends
+  pub part_front : (k n : ℕ) → k ≤ n → (state : PlainState) (s : Stance) (next : Option ℕ) → (part_from k state path ccws s next).ends ≡ take k (part_from n state path ccws s next).ends
+  unfolding part_from
+  part_front zero n le state s next = refl
+  part_front (suc k) zero le state s next = absurd (omega arith)
+  part_front (suc k) (suc n) le state s None = refl
+  part_front (suc k) (suc n) le state s (Some i) =
+      let e = command_effect state path s (ccw_at ccws i) in
+      ap (λ (l : List CommandEnd). end_of i (ccw_at ccws i) e.outcome ∷ l) (part_front k n (omega arith) e.state e.outcome.stance (goes_to ccws i e.outcome))
+
+  pub part_length : (n : ℕ) (state : PlainState) (s : Stance) (next : Option ℕ) → length (part_from n state path ccws s next).ends ≤ n
+  unfolding part_from
+  part_length zero state s next = omega arith
+  part_length (suc n) state s None = omega arith
+  part_length (suc n) state s (Some i) =
+      let e = command_effect state path s (ccw_at ccws i) in
+      let rest = part_length n e.state e.outcome.stance (goes_to ccws i e.outcome) in
+      omega arith
+
+  pub part_closes : (n : ℕ) (state : PlainState) (s : Stance) (next : Option ℕ) → IsClosed (part_from n state path ccws s next).ends
+  unfolding part_from
+  part_closes zero state s next = tt
+  part_closes (suc n) state s None = tt
+  part_closes (suc n) state s (Some i) =
+      let e = command_effect state path s (ccw_at ccws i) in (
+        λ over.
+            ap (λ (next' : Option ℕ). (part_from n e.state path ccws e.outcome.stance next').ends) (over_stops (is_over (ccw_at ccws i) e.outcome) _ over)
+            ∙ ap (λ (p : Part). p.ends) (none_left e.state path ccws e.outcome.stance n),
+        part_closes n e.state e.outcome.stance (goes_to ccws i e.outcome),
+      )
+
+  pub part_owner : (n : ℕ) (state : PlainState) (s : Stance) (next : Option ℕ) → (part_from n state path ccws s next).state.owner ≡ state.owner
+  unfolding part_from
+  part_owner zero state s next = refl
+  part_owner (suc n) state s None = refl
+  part_owner (suc n) state s (Some i) =
+      let e = command_effect state path s (ccw_at ccws i) in
+      part_owner n e.state e.outcome.stance (goes_to ccws i e.outcome) ∙ effect_owner state path s (ccw_at ccws i) (opening_of state.cylinders s (ccw_at ccws i))

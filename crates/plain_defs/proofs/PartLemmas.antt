@@ -1,0 +1,85 @@
+-- A running program, one command on.
+use Rattle.std.proofs.Common.{◌≡◌, ◌-◌, ◌*◌, ◌++◌, ◌∷◌, [], ℕ, zero, suc, List, Option, Some, None, refl, arith, sym, ap, subst, ◌∙◌, append_assoc}
+use Rattle.std.specs.Prelude.{IfSome}
+use Rattle.std.proofs.lemmas.List.{append-nil}
+use Rattle.ckd_types.specs.declared.channel.Ccw.{Ccw}
+use Rattle.ckd_types.specs.declared.channel.CommandEnd.{CommandEnd}
+use Rattle.ckd_types.specs.Ccw.{ccw_at}
+use Rattle.plain_defs.specs.declared.stance.Stance.{Stance}
+use Rattle.plain_defs.specs.declared.outcome.Outcome.{Outcome}
+use Rattle.plain_defs.specs.PlainState.{PlainState}
+use Rattle.plain_defs.specs.Effect.{TrackEdit, command_effect}
+use Rattle.plain_defs.specs.Chain.{Part, part_from, whole_run, end_of, goes_to, onto}
+use Rattle.plain_defs.specs.Room.{Stands, GoesOn, IsRunning}
+
+-- the ends so far, and those of what is left, are those of the whole run
+pub record IsPart (start : PlainState) (path : ℕ) (ccws : List Ccw) (state : PlainState) (s : Stance) (next : Option ℕ) (ends : List CommandEnd) : Type 0 where
+  pub ends_are : ends ++ (part_from (4096 - s.commands) state path ccws s next).ends ≡ (whole_run start path ccws).ends
+  pub state_is : (part_from (4096 - s.commands) state path ccws s next).state ≡ (whole_run start path ccws).state
+  pub stands : Stands (state.cylinders * 15) s
+  pub running : IfSome next (λ i. IsRunning i s)
+
+module _ (state : PlainState) (path : ℕ) (ccws : List Ccw) (s : Stance) where
+  pub none_left : (k : ℕ) → part_from k state path ccws s None ≡ record { state = state; stance = s; ends = []; edits = [] }
+  unfolding part_from
+  none_left zero = refl
+  none_left (suc k) = refl
+
+  pub one_more : (k i : ℕ) → part_from (suc k) state path ccws s (Some i)
+      ≡ onto (end_of i (ccw_at ccws i) (command_effect state path s (ccw_at ccws i)).outcome) (command_effect state path s (ccw_at ccws i)).edits
+      (part_from k (command_effect state path s (ccw_at ccws i)).state path ccws (command_effect state path s (ccw_at ccws i)).outcome.stance (goes_to ccws i (command_effect state path s (ccw_at ccws i)).outcome))
+  unfolding part_from
+  one_more k i = refl
+
+module _ (start : PlainState) (path : ℕ) (ccws : List Ccw) (state : PlainState) (s : Stance) (next : Option ℕ) (ends : List CommandEnd) (p : IsPart start path ccws state s next ends) where
+  pub ends_all : next ≡ None → ends ≡ (whole_run start path ccws).ends
+  ends_all none =
+      sym (append-nil ends)
+      ∙ ap (λ (x : Part). ends ++ x.ends) (sym (none_left state path ccws s (4096 - s.commands)))
+      ∙ ap (λ (n : Option ℕ). ends ++ (part_from (4096 - s.commands) state path ccws s n).ends) (sym none)
+      ∙ p.ends_are
+
+  pub state_all : next ≡ None → state ≡ (whole_run start path ccws).state
+  state_all none =
+      ap (λ (x : Part). x.state) (sym (none_left state path ccws s (4096 - s.commands)))
+      ∙ ap (λ (n : Option ℕ). (part_from (4096 - s.commands) state path ccws s n).state) (sym none)
+      ∙ p.state_is
+
+  module _ (i : ℕ) (c : Ccw) (o : Outcome) (then_state : PlainState) (then_next : Option ℕ) (then_ends : List CommandEnd) (next_is : next ≡ Some i) (c_is : c ≡ ccw_at ccws i)
+      (outcome_is : o ≡ (command_effect state path s c).outcome) (state_is : then_state ≡ (command_effect state path s c).state) (goes_on : GoesOn (state.cylinders * 15) s o.stance) (cylinders_are : then_state.cylinders ≡ state.cylinders)
+      (then_is : then_next ≡ goes_to ccws i o) (then_running : IfSome then_next (λ j. IsRunning j o.stance)) (ends_is : then_ends ≡ ends ++ end_of i c o ∷ []) where
+    is_running : IsRunning i s
+    is_running = subst (λ (n : Option ℕ). IfSome n (λ j. IsRunning j s)) next_is p.running
+
+    left : 4096 - s.commands ≡ suc (4096 - o.stance.commands)
+    left = omega (arith, is_running.room.commands, goes_on.commands)
+
+    edits : List TrackEdit
+    edits = (command_effect state path s c).edits
+
+    rest : Part
+    rest = part_from (4096 - o.stance.commands) then_state path ccws o.stance then_next
+
+    unrolled : part_from (4096 - s.commands) state path ccws s next ≡ onto (end_of i c o) edits rest
+    unfolding rest edits
+    unrolled =
+        ap (λ (n : Option ℕ). part_from (4096 - s.commands) state path ccws s n) next_is
+        ∙ ap (λ (k : ℕ). part_from k state path ccws s (Some i)) left
+        ∙ one_more state path ccws s (4096 - o.stance.commands) i
+        ∙ ap (λ (d : Ccw). onto (end_of i d (command_effect state path s d).outcome) (command_effect state path s d).edits (part_from (4096 - o.stance.commands) (command_effect state path s d).state path ccws (command_effect state path s d).outcome.stance (goes_to ccws i (command_effect state path s d).outcome))) (sym c_is)
+        ∙ ap (λ (x : Outcome). onto (end_of i c x) edits (part_from (4096 - o.stance.commands) (command_effect state path s c).state path ccws x.stance (goes_to ccws i x))) (sym outcome_is)
+        ∙ ap (λ (q : PlainState). onto (end_of i c o) edits (part_from (4096 - o.stance.commands) q path ccws o.stance (goes_to ccws i o))) (sym state_is)
+        ∙ ap (λ (n : Option ℕ). onto (end_of i c o) edits (part_from (4096 - o.stance.commands) then_state path ccws o.stance n)) (sym then_is)
+
+    pub part_more : IsPart start path ccws then_state o.stance then_next then_ends
+    unfolding rest
+    part_more = record {
+      ends_are =
+          ap (λ (l : List CommandEnd). l ++ rest.ends) ends_is
+          ∙ append_assoc ends (end_of i c o ∷ []) rest.ends
+          ∙ ap (λ (x : Part). ends ++ x.ends) (sym unrolled)
+          ∙ p.ends_are;
+      state_is = ap (λ (x : Part). x.state) (sym unrolled) ∙ p.state_is;
+      stands = subst (λ (n : ℕ). Stands (n * 15) o.stance) (sym cylinders_are) goes_on.stands;
+      running = then_running;
+    }
