@@ -1,3 +1,4 @@
 pub mod Lists
 pub mod EditLemmas
 pub mod NextTrack
+pub mod Comparing
