@@ -8,3 +8,4 @@ mod WriteRows
 pub mod Laws
 pub mod JournalLaws
 pub mod EndsLaws
+pub mod Comparing

@@ -6,7 +6,7 @@ use ckd_types::{Bytes, Ccw, NoMemory};
 use std::alloc::Global;
 
 /// The bytes that a word gives and its count reaches.
-fn taken(c: &Ccw) -> &[u8]
+pub(crate) fn taken(c: &Ccw) -> &[u8]
     ensures { result.now ≡ given_taken c.now }
 {
     let given = c.given.as_slice();

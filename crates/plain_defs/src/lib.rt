@@ -13,6 +13,7 @@ mod opening;
 mod outcome;
 mod params;
 mod reads;
+mod searches;
 mod sense;
 mod stance;
 mod updates;
@@ -30,7 +31,10 @@ pub use finding::{
 pub use journal::{Entry, How, Item, Journal};
 pub use opening::{LocalAct, Opening, opening_of};
 pub use outcome::{Outcome, Turned, ended, immediate, refused};
-pub use reads::{found_after, status_of};
 pub use params::{domain_of, given};
+pub use reads::{found_after, status_of};
+pub use searches::{
+    cchh_bytes, compared, id_bytes, satisfies, search_ended, search_found, search_on,
+};
 pub use stance::{After, Place, Stance, first_stance, one_less};
 pub use volume::PlainVolume;
