@@ -26,7 +26,9 @@ pub use finding::{
 pub use journal::{Entry, How, Item, Journal};
 pub use opening::{LocalAct, Opening, opening_of};
 pub use outcome::{Outcome, Turned, ended, immediate, refused};
-pub use reads::{found_after, status_of};
 pub use params::given;
+pub use reads::{
+    find_read, found_after, read_candidate, read_on, read_stance, read_status, status_of,
+};
 pub use stance::{After, Place, Stance, one_less};
 pub use volume::PlainVolume;
