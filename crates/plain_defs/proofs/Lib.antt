@@ -2,6 +2,7 @@ pub mod Lists
 pub mod FollowLemmas
 pub mod EditLemmas
 pub mod NextTrack
+pub mod EffectLemmas
 pub mod PartLemmas
 mod Rows
 mod WriteRows

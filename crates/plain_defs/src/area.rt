@@ -1,8 +1,9 @@
 ghost use Rattle.std.specs.Prelude.{◌≡◌, ◌<◌, IfOk, length};
+ghost use Rattle.ckd_types.specs.Track.{IsRecord, home_bytes, count_area};
 ghost use Rattle.plain_defs.specs.Area.{given_taken, given_at};
 ghost use Rattle.plain_defs.specs.Formats.{count_given};
 
-use ckd_types::{Bytes, Ccw, NoMemory};
+use ckd_types::{Bytes, Cchh, Ccw, NoMemory, Record};
 use std::alloc::Global;
 
 /// The bytes that a word gives and its count reaches.
@@ -34,4 +35,26 @@ pub fn count_given(c: &Ccw) -> [u8; 8]
     let count = from.len().min(8);
     bytes[..count].copy_from_slice(&from[..count]);
     bytes
+}
+
+/// The home address of a track.
+pub fn home_area(home: Cchh) -> [u8; 5]
+    ensures { result ≡ home_bytes home }
+{
+    let cc = home.cc.to_be_bytes();
+    let hh = home.hh.to_be_bytes();
+    [0, cc[0], cc[1], hh[0], hh[1]]
+}
+
+/// The count area of a record: its id, and the lengths of its key and data.
+pub fn count_area(counted: &Record) -> [u8; 8]
+    requires { IsRecord counted.now }
+    ensures { result ≡ count_area counted.now }
+{
+    let id = counted.id;
+    let cc = id.cchh.cc.to_be_bytes();
+    let hh = id.cchh.hh.to_be_bytes();
+    let key = counted.key.len() as u8;
+    let body = (counted.body.len() as u16).to_be_bytes();
+    [cc[0], cc[1], hh[0], hh[1], id.r, key, body[0], body[1]]
 }

@@ -6,6 +6,8 @@ mod area;
 mod chain;
 mod checks;
 mod control;
+mod device;
+mod effect;
 mod finding;
 mod formats;
 mod journal;
@@ -16,6 +18,7 @@ mod reads;
 mod searches;
 mod sense;
 mod stance;
+mod turned;
 mod updates;
 mod volume;
 mod writes;
@@ -24,6 +27,7 @@ pub use acts::{answered, sense_id_bytes};
 pub use area::{count_given, given_at};
 pub use chain::{end_of, goes_to, no_ccw, word_at};
 pub use control::located;
+pub use device::PlainDevice;
 pub use finding::{
     Sought, find_from, home_from, if_there, next_area, next_count, next_data, next_id, next_key,
     place_on, record_of, zero_from,
@@ -32,7 +36,9 @@ pub use journal::{Entry, How, Item, Journal};
 pub use opening::{LocalAct, Opening, opening_of};
 pub use outcome::{Outcome, Turned, ended, immediate, refused};
 pub use params::{domain_of, given};
-pub use reads::{found_after, status_of};
+pub use reads::{
+    find_read, found_after, read_candidate, read_on, read_stance, read_status, status_of,
+};
 pub use searches::{
     cchh_bytes, compared, id_bytes, satisfies, search_ended, search_found, search_on,
 };

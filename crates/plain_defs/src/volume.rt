@@ -1,4 +1,4 @@
-ghost use Rattle.std.specs.Prelude.{◌≡◌, ◌<◌, ◌≤◌, ◌*◌, ◌+◌, IfOk, OnOk, length, slice_set};
+ghost use Rattle.std.specs.Prelude.{◌≡◌, ◌<◌, ◌≤◌, ◌*◌, ◌+◌, IfOk, OnOk, OnErr, length, slice_set};
 ghost use Rattle.ckd_types.specs.Edit.{apply_edit, IsWithin};
 ghost use Rattle.ckd_types.specs.Volume.{empty_volume, track_in};
 
@@ -53,7 +53,8 @@ impl PlainVolume {
     pub fn edit(&mut self, t: TrackNo, edit: Edit) -> Result<(), NoMemory>
         requires track { t < length self.old }
         requires within { IsWithin edit (length (track_in self.old t).records) }
-        ensures { OnOk result (self.new ≡ slice_set self.old t (apply_edit edit (track_in self.old t))) }
+        ensures done { OnOk result (self.new ≡ slice_set self.old t (apply_edit edit (track_in self.old t))) }
+        ensures same { OnErr result (self.new ≡ self.old) }
     {
         self.tracks[usize::from(t.get())].records.edit(edit)
     }
