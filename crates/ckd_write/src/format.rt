@@ -1,13 +1,14 @@
 ghost use Rattle.std.specs.Prelude.{◌≡◌, ◌<◌, ◌≤◌, ◌+◌, ◌^◌, IfOk, IsTrue, length};
-ghost use Rattle.plain_defs.specs.Formats.{key_given, body_given, record_given, record_of, has_room_behind, format_ended, format_behind, format_on, is_zero_given, zero_on};
+ghost use Rattle.plain_defs.specs.Formats.{key_given, body_given, record_given, has_room_behind, format_ended, format_behind, format_on, is_zero_given, zero_on};
 ghost use Rattle.plain_defs.specs.Room.{HasRoom, Stands, Stays};
 ghost use Rattle.plain_defs.specs.Turn.{Turns};
 
 use crate::count::{AREA, NewCount, new_count, record_given};
-use crate::place::{place_on, record_of};
 use ckd_sense::track_format;
 use ckd_types::{Bytes, Ccw, Edit, NoMemory, UnitStatus};
-use plain_defs::{After, Outcome, Place, Stance, Turned, ended, one_less, refused};
+use plain_defs::{
+    After, Outcome, Place, Stance, Turned, ended, one_less, place_on, record_of, refused,
+};
 use std::alloc::Global;
 use track_image::TrackImage;
 
@@ -78,7 +79,7 @@ pub fn format_on(
     ensures turned { IfOk result (λ turned. turned ≡ format_on image.now.geometry image.now.track stance.now ccw.now) }
     ensures turns { IfOk result (Turns image.now.geometry image.now.track.records stance.now) }
 {
-    let at = record_of(place_on(image, stance.place));
+    let at = record_of(place_on(image.len(), stance.place));
     format_behind(alloc, image, After::Wrote, stance, ccw, at)
 }
 

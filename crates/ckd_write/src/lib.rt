@@ -4,7 +4,6 @@
 mod command;
 mod count;
 mod format;
-mod place;
 mod update;
 
 pub use command::write;

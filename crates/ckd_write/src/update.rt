@@ -7,10 +7,10 @@ ghost use Rattle.plain_defs.specs.Turn.{Turns};
 ghost use Rattle.plain_defs.specs.Updates.{after_update, update_ended, update_data, update_key_data, update_record, update_sought, update_on};
 
 use crate::command::TRACKS;
-use crate::place::{if_there, next_area, place_on};
-use ckd_types::{Bytes, Ccw, Edit, NoMemory, UnitStatus};
+use ckd_types::{Bytes, Ccw, Edit, NoMemory};
 use plain_defs::{
-    After, Outcome, Place, Sought, Stance, Turned, ended, find_from, given_at, one_less, refused,
+    After, Outcome, Place, Sought, Stance, Turned, ended, find_from, given_at, if_there, next_area,
+    one_less, place_on, refused, status_of,
 };
 use std::alloc::Global;
 use track_image::TrackImage;
@@ -22,16 +22,6 @@ fn after_update(multitrack: bool) -> After
         After::Other
     } else {
         After::Wrote
-    }
-}
-
-fn status_of(body: &[u8]) -> UnitStatus
-    ensures { result ≡ status_of body.now }
-{
-    if body.is_empty() {
-        UnitStatus::exception()
-    } else {
-        UnitStatus::normal()
     }
 }
 
@@ -156,9 +146,9 @@ pub fn update_on(
     ensures turns { IfOk result (Turns image.now.geometry image.now.track.records stance.now) }
 {
     let records = image.len();
-    let place = place_on(image, stance.place);
-    let first = if_there(image, next_area(with_key, place));
-    let again = if_there(image, 1);
+    let place = place_on(records, stance.place);
+    let first = if_there(records, next_area(with_key, place));
+    let again = if_there(records, 1);
     let sought = find_from(multitrack, stance, records, first, again, TRACKS);
     update_sought(alloc, image, with_key, multitrack, stance, ccw, sought)
 }
