@@ -1,3 +1,4 @@
 pub mod Loop
 pub mod Fields
 pub mod Tracks
+pub mod Sizes

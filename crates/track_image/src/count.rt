@@ -1,9 +1,9 @@
 ghost use Rattle.std.specs.Prelude.{◌≡◌, ◌≤◌, length};
-ghost use Rattle.ckd_types.specs.Track.{IsRecord, home_bytes, count_area};
+ghost use Rattle.ckd_types.specs.Track.{home_bytes, count_area};
 ghost use Rattle.track_image.specs.Reading.{count_at};
 
 use byteorder::{BigEndian, ByteOrder};
-use ckd_types::{Cchh, RecId, Record};
+use ckd_types::{Cchh, RecId};
 
 /// The bytes of a count area.
 pub(crate) const AREA: usize = 8;
@@ -34,17 +34,18 @@ pub(crate) fn count_at(bytes: &[u8]) -> Count
     }
 }
 
-/// A record's count area.
-pub(crate) fn count_area(written: &Record) -> [u8; 8]
-    requires { IsRecord written.now }
-    ensures { result ≡ count_area written.now }
+/// The count area of a record with this id, key and data.
+pub(crate) fn count_area(id: RecId, key: &[u8], body: &[u8]) -> [u8; 8]
+    requires key { length key.now ≤ 255 }
+    requires body { length body.now ≤ 65534 }
+    ensures { result ≡ count_area (record { id = id; key = key.now; body = body.now }) }
 {
     let mut area = [0; 8];
-    BigEndian::write_u16(&mut area, written.id.cchh.cc);
-    BigEndian::write_u16(&mut area[2..], written.id.cchh.hh);
-    area[4] = written.id.r;
-    area[5] = written.key.len() as u8;
-    BigEndian::write_u16(&mut area[6..], written.body.len() as u16);
+    BigEndian::write_u16(&mut area, id.cchh.cc);
+    BigEndian::write_u16(&mut area[2..], id.cchh.hh);
+    area[4] = id.r;
+    area[5] = key.len() as u8;
+    BigEndian::write_u16(&mut area[6..], body.len() as u16);
     area
 }
 

@@ -1,10 +1,12 @@
-ghost use Rattle.std.specs.Prelude.{◌≡◌, ◌≢◌, IsOk, ◌<◌, ◌≤◌, ◌^◌, ◌+◌, ◌↔◌, false, Err, IfOk, OnOk, OnErr, IfSome, All, [], ◌∷◌, ◌++◌, length, take};
+ghost use Rattle.std.specs.Prelude.{◌≡◌, ◌≢◌, IsOk, ◌<◌, ◌≤◌, ◌^◌, ◌+◌, ◌↔◌, false, Err, IfOk, OnOk, OnErr, IfSome, All, [], ◌∷◌, ◌++◌, length, take, drop};
+ghost use Rattle.std.specs.List.{flat_map};
 ghost use Rattle.ckd_types.specs.Geometry.{cost, capacity};
-ghost use Rattle.ckd_types.specs.Track.{IsRecord, Fits, cost_of, find_id, empty_track};
+ghost use Rattle.ckd_types.specs.Track.{IsRecord, Fits, cost_of, find_id, empty_track, home_bytes, record_bytes};
 ghost use Rattle.ckd_types.specs.declared.record.Edit.TheVariants as edits;
 ghost use Rattle.track_image.specs.Image.{IsImage, record_in, edited_image, is_room_behind, with_record};
 
 use crate::costs::{cost_of_record, cost_of_records};
+use crate::count::{AREA, home_area};
 use crate::{AddFault, RecordRef};
 use ckd_types::{Bytes, Cchh, Geometry, NoMemory, RecId, Record, TrackNo, capacity, cchh_of, cost};
 use std::alloc::Global;
@@ -116,6 +118,13 @@ impl TrackImage {
         self.home
     }
 
+    /// The home address, as the track begins with it.
+    pub fn home_area(&self) -> [u8; 5]
+        ensures { result ≡ home_bytes self.now.track.home }
+    {
+        home_area(self.home)
+    }
+
     /// An image fits its volume, and its ids can be written.
     pub fn fits(&self)
         ensures { IsImage self.now }
@@ -150,6 +159,19 @@ impl TrackImage {
     {
         let record = &self.records[i];
         RecordRef::new(record.id, record.key.as_slice(), record.body.as_slice())
+    }
+
+    /// How many bytes record `i` and those behind it have.
+    pub fn bytes_from(&self, i: usize) -> usize
+        requires { i ≤ length self.now.track.records }
+        ensures value { result ≡ length (flat_map record_bytes (drop i self.now.track.records)) }
+        ensures bound { result < 2 ^ 32 }
+    {
+        let mut total = 0;
+        for record in &self.records[i..] {
+            total += AREA + record.key.len() + record.body.len();
+        }
+        total
     }
 
     /// Whether a record with a key and data of these lengths fits behind record `after`.

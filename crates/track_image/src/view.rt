@@ -1,5 +1,7 @@
-ghost use Rattle.std.specs.Prelude.{◌≡◌};
+ghost use Rattle.std.specs.Prelude.{◌≡◌, ◌≤◌, length};
+ghost use Rattle.ckd_types.specs.Track.{IsRecord, count_area, record_bytes};
 
+use crate::count::{AREA, count_area};
 use ckd_types::RecId;
 use std::marker::Model;
 
@@ -13,14 +15,18 @@ pub struct RecordRef<'a> {
 
 impl<'a> Model for RecordRef<'a> {
     ghost use Rattle.ckd_types.specs.declared.record.Record.{Record};
+    ghost use Rattle.ckd_types.specs.Track.{IsRecord};
 
     ghost Value = { Record };
 
     ghost view = { λ r. record { id = r.id; key = r.key.now; body = r.body.now } };
+
+    ghost invariant = { λ r. IsRecord (record { id = r.id; key = r.key.now; body = r.body.now }) };
 }
 
 impl<'a> RecordRef<'a> {
     pub(crate) fn new(id: RecId, key: &'a [u8], body: &'a [u8]) -> RecordRef<'a>
+        requires { IsRecord (record { id = id; key = key.now; body = body.now }) }
         ensures { result ≡ record { id = id; key = key.now; body = body.now } }
     {
         RecordRef { id, key, body }
@@ -42,5 +48,20 @@ impl<'a> RecordRef<'a> {
         ensures { result.now ≡ self.now.body }
     {
         self.body
+    }
+
+    /// The record's count area: its id, and the lengths of its key and its data.
+    pub fn count_area(&self) -> [u8; 8]
+        ensures { result ≡ count_area self.now }
+    {
+        count_area(self.id, self.key, self.body)
+    }
+
+    /// How many bytes its count area, its key and its data have.
+    pub fn size(&self) -> usize
+        ensures value { result ≡ length (record_bytes self.now) }
+        ensures most { result ≤ 65797 }
+    {
+        AREA + self.key.len() + self.body.len()
     }
 }

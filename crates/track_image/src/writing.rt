@@ -2,7 +2,7 @@ ghost use Rattle.std.specs.Prelude.{◌≡◌, ◌++◌, IfOk, OnOk};
 ghost use Rattle.ckd_types.specs.Track.{IsRecord, record_bytes, track_bytes};
 
 use crate::TrackImage;
-use crate::count::{count_area, home_area};
+use crate::count::count_area;
 use ckd_types::{Bytes, NoMemory, Record};
 use std::alloc::Global;
 
@@ -10,9 +10,11 @@ fn put_record(out: &mut Vec<u8>, written: &Record) -> Result<(), NoMemory>
     requires { IsRecord written.now }
     ensures { OnOk result (out.new.items ≡ out.old.items ++ record_bytes written.now) }
 {
-    out.extend_from_slice(&count_area(written))?;
-    out.extend_from_slice(written.key.as_slice())?;
-    out.extend_from_slice(written.body.as_slice())?;
+    let key = written.key.as_slice();
+    let body = written.body.as_slice();
+    out.extend_from_slice(&count_area(written.id, key, body))?;
+    out.extend_from_slice(key)?;
+    out.extend_from_slice(body)?;
     Ok(())
 }
 
@@ -23,7 +25,7 @@ impl TrackImage {
     {
         self.fits();
         let mut out = Vec::new(alloc);
-        out.extend_from_slice(&home_area(self.home()))?;
+        out.extend_from_slice(&self.home_area())?;
         for record in self.records() {
             put_record(&mut out, record)?;
         }

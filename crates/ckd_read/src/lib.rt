@@ -1,0 +1,11 @@
+//! Reads of one track.
+#![tactic(auto)]
+
+mod area;
+mod command;
+mod sending;
+
+pub use command::read;
+
+#[cfg(test)]
+mod tests;
