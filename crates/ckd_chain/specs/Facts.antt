@@ -1,9 +1,11 @@
 -- What a running chain keeps to.
-use Rattle.std.specs.Prelude.{◌≡◌, ℕ, ◌*◌, ◌≤◌, ◌<◌, length, IfSome, IsSome, IsNone, ⊤, Option, Some, None}
+use Rattle.std.specs.Prelude.{◌≡◌, ℕ, ◌+◌, ◌*◌, ◌≤◌, ◌<◌, length, IfSome, ⊤, Option, Some, None}
 use Rattle.ckd_chain.specs.declared.chain.Mark.{Mark}
 use Rattle.ckd_chain.specs.declared.progress.Progress.{Progress}
 use Rattle.ckd_chain.specs.declared.progress.Progress.TheVariants.{Ended, Need, Write, Local}
 use Rattle.ckd_chain.specs.State.{ChainState}
+use Rattle.plain_defs.specs.declared.opening.Opening.{Opening}
+use Rattle.plain_defs.specs.declared.opening.Opening.TheVariants.{Looks}
 use Rattle.plain_defs.specs.Room.{Stands, IsRunning, IsAt, GoesOn}
 use Rattle.plain_defs.specs.Turn.{Suits}
 use Rattle.track_image.specs.Image.{Image}
@@ -26,3 +28,8 @@ pub record IsChain (s : ChainState) : Type 0 where
 abbrev pub SuitsTrack : Option Image → Progress → Type 0
 SuitsTrack (Some image) (Write t e) = Suits image.geometry image.track.records e
 SuitsTrack image progress = ⊤
+
+-- with the image of the track that it needs, a command goes on to the track behind it
+abbrev pub GoesFurther : ℕ → Opening → Option Image → Progress → Type 0
+GoesFurther tracks (Looks z) (Some image) (Need t) = (t ≡ z.track + 1) × (t < tracks)
+GoesFurther tracks hand image progress = ⊤

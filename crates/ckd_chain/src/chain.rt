@@ -1,9 +1,10 @@
 ghost use Rattle.std.specs.Prelude.{◌≡◌, ◌<◌, ◌≤◌, ◌*◌, IfOk, IfSome, IsSome, OnOk, OnErr, is_none, length, Some, None};
-ghost use Rattle.std.specs.Option.{option_copied};
+ghost use Rattle.std.specs.Prelude.{option_map};
 ghost use Rattle.plain_defs.specs.Room.{HasRoom, Stands, IsRunning, IsAt, GoesOn, Opens};
 ghost use Rattle.plain_defs.specs.Turned.{turn_on};
-ghost use Rattle.ckd_chain.specs.Facts.{IsChain, SuitsTrack};
-ghost use Rattle.ckd_chain.specs.Steps.{begun_chain, index_of, word_of, hand_of, looked_track, need_of, behind, end_with, waiting, turned_with, stepped, settled_by, again_from, mode_by, inhibits_by, last_by};
+ghost use Rattle.ckd_chain.specs.Facts.{IsChain, SuitsTrack, GoesFurther};
+ghost use Rattle.plain_defs.specs.declared.opening.Opening.TheVariants.{Looks};
+ghost use Rattle.ckd_chain.specs.Steps.{first_mark, begun_chain, index_of, word_of, hand_of, looked_track, need_of, behind, end_with, waiting, turned_with, stepped, settled_by, again_from, mode_by, inhibits_by, last_by};
 
 use crate::turn::turn_on;
 use crate::{Progress, Settled};
@@ -50,6 +51,15 @@ impl Model for Chain {
     ghost invariant = { λ c. IsChain (record { ccws = c.program; cylinders = c.cylinders; at = c.at; before = c.before; here = c.here; held = c.held }) };
 }
 
+fn first_mark() -> Mark
+    ensures { result ≡ first_mark }
+{
+    Mark {
+        stance: first_stance(),
+        next: Some(0),
+    }
+}
+
 fn index_of(next: Option<usize>) -> usize
     ensures { result ≡ index_of next }
 {
@@ -76,15 +86,11 @@ impl Chain {
         ensures { result ≡ begun_chain program cylinders }
     {
         let _ = program.len();
-        let first = Mark {
-            stance: first_stance(),
-            next: Some(0),
-        };
         Chain {
             program,
             cylinders,
-            at: first,
-            before: first,
+            at: first_mark(),
+            before: first_mark(),
             here: None,
             held: None,
         }
@@ -172,6 +178,7 @@ impl Chain {
         ensures progress { IfOk result (λ progress. progress ≡ (turned_with self.old there (turn_on image.now.geometry self.old.cylinders image.now.track there (word_of self.old))).progress) }
         ensures chain { OnOk result (self.new ≡ (turned_with self.old there (turn_on image.now.geometry self.old.cylinders image.now.track there (word_of self.old))).chain) }
         ensures suits { IfOk result (SuitsTrack (Some image.now)) }
+        ensures further { IfOk result (GoesFurther (self.old.cylinders * 15) (Looks there) (Some image.now)) }
         ensures same { OnErr result (self.new ≡ self.old) }
     {
         let nothing = no_ccw();
@@ -195,15 +202,12 @@ impl Chain {
 
     /// A step of the command at hand, with the image of the track that it needs. Without that image
     /// it asks for it again. After want of memory the chain is as it was.
-    pub fn step(
-        &mut self,
-        alloc: Global,
-        image: Option<&TrackImage>,
-    ) -> Result<Progress, NoMemory>
+    pub fn step(&mut self, alloc: Global, image: Option<&TrackImage>) -> Result<Progress, NoMemory>
         requires running { IsSome self.old.at.next }
-        ensures progress { IfOk result (λ progress. progress ≡ (stepped self.old (option_copied image)).progress) }
-        ensures chain { OnOk result (self.new ≡ (stepped self.old (option_copied image)).chain) }
-        ensures suits { IfOk result (SuitsTrack (option_copied image)) }
+        ensures progress { IfOk result (λ progress. progress ≡ (stepped self.old (option_map (λ i. i.now) image.entry)).progress) }
+        ensures chain { OnOk result (self.new ≡ (stepped self.old (option_map (λ i. i.now) image.entry)).chain) }
+        ensures suits { IfOk result (SuitsTrack (option_map (λ i. i.now) image.entry)) }
+        ensures further { IfOk result (GoesFurther (self.old.cylinders * 15) (hand_of self.old) (option_map (λ i. i.now) image.entry)) }
         ensures same { OnErr result (self.new ≡ self.old) }
     {
         let nothing = no_ccw();

@@ -12,6 +12,7 @@ use plain_defs::{Stance, Turned, domain_of, given, located, refused};
 use std::alloc::Global;
 use track_image::TrackImage;
 
+#[tactic(auto, using(plain_defs::proofs::NextTrack::turns_on, plain_defs::proofs::NextTrack::looks_on))]
 fn group_on(
     alloc: Global,
     cylinders: u8,
@@ -62,10 +63,6 @@ pub fn turn_on(
             Ok(Turned::Ended(outcome))
         }
         Some(command) => group_on(alloc, cylinders, image, stance, ccw, group_of(command)),
-        None => Ok(Turned::Ended(refused(
-            stance,
-            ccw,
-            reject(INVALID_COMMAND),
-        ))),
+        None => Ok(Turned::Ended(refused(stance, ccw, reject(INVALID_COMMAND)))),
     }
 }

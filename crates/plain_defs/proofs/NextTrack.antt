@@ -24,15 +24,15 @@ in_cylinder tracks n whole on test = grind (arith, nat_tests)
 in_extent : (last n : ℕ) → nat_le last n ≡ false → n + 1 ≤ last
 in_extent last n test = grind (arith, nat_tests)
 
-pub next_on_device : (tracks : ℕ) (e : Option Extent) (n t : ℕ) → tracks % 15 ≡ 0 → n < tracks → IfSome e (λ x. x.last < tracks) → track_after e n ≡ Ok t → t < tracks
+pub next_on_device : (tracks : ℕ) (e : Option Extent) (n t : ℕ) → tracks % 15 ≡ 0 → n < tracks → IfSome e (λ x. x.last < tracks) → track_after e n ≡ Ok t → (t ≡ n + 1) × (t < tracks)
 next_on_device tracks None n t whole on within is =
     let p : (nat_eq (n % 15) 14 ≡ false) × (n + 1 ≡ t) = goes _ _ _ _ is in
     let q : n + 1 < tracks = in_cylinder tracks n whole on p.0 in
-    let r : n + 1 ≡ t = p.1 in omega arith
+    let r : n + 1 ≡ t = p.1 in (omega arith, omega arith)
 next_on_device tracks (Some e) n t whole on within is =
     let p : (nat_le e.last n ≡ false) × (n + 1 ≡ t) = goes _ _ _ _ is in
     let q : n + 1 ≤ e.last = in_extent e.last n p.0 in
-    let r : n + 1 ≡ t = p.1 in omega (arith, within)
+    let r : n + 1 ≡ t = p.1 in (omega arith, omega (arith, within))
 
 -- a stance that stays on its track is on the device
 stays_on : (tracks : ℕ) (old new : Stance) → Stands tracks old → Stays old new → GoesOn tracks old new

@@ -1,5 +1,5 @@
 -- Facts about what a command did on one track.
-use Rattle.std.specs.Prelude.{◌≡◌, ◌<◌, ℕ, List, length, true, Ok}
+use Rattle.std.specs.Prelude.{◌≡◌, ◌<◌, ◌+◌, ℕ, List, length, true, Ok}
 use Rattle.ckd_types.specs.declared.geometry.Geometry.{Geometry}
 use Rattle.ckd_types.specs.declared.record.Record.{Record}
 use Rattle.ckd_types.specs.declared.record.Edit.{Edit}
@@ -51,5 +51,5 @@ LooksOn s (Write e o) = ⊥
 -- on a device with this many tracks
 abbrev pub TurnsOn : Geometry → ℕ → List Record → Stance → Turned → Type 0
 TurnsOn g tracks records s (Ended o) = GoesOn tracks s o.stance
-TurnsOn g tracks records s (NextTrack t) = t < tracks
+TurnsOn g tracks records s (NextTrack t) = (t ≡ s.track + 1) × (t < tracks)
 TurnsOn g tracks records s (Write e o) = Suits g records e × GoesOn tracks s o.stance

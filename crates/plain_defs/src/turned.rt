@@ -15,6 +15,7 @@ use crate::{Stance, Turned};
 use ckd_types::{Ccw, Command, Geometry, Group, HEADS, NoMemory, Track, command_of, group_of};
 use std::alloc::Global;
 
+#[tactic(auto, using(crate::proofs::NextTrack::turns_on, crate::proofs::NextTrack::looks_on))]
 fn group_on(
     alloc: Global,
     geometry: Geometry,

@@ -35,7 +35,7 @@ pub loop-turn-preserved : goal.loop-turn-preserved
 loop-turn-preserved c = (
   followed_on _ _ _ _ _ _ c.loop-turn.invariant.0 c.in-NextTrack.t c.in_ok-outcome.field-0 (omega arith)
       (c.in_ok-outcome.ensures.turned ∙ ap (λ (t : Track). turn_on c.args.geometry c.args.cylinders t c.loop-turn.here c.args.c.now) (c.track.ensures ∙ ap (λ (v : List Track). track_in v c.loop-turn.here.track) c.loop-turn.invariant.1)) c.in-NextTrack.is
-      (let on = subst (λ (x : Turned). TurnsOn c.args.geometry (c.args.cylinders * 15) c.track.result.now.records c.loop-turn.here x) c.in-NextTrack.is c.in_ok-outcome.ensures.turns in omega (arith, on, c.requires.tracks)),
+      (let on = subst (λ (x : Turned). TurnsOn c.args.geometry (c.args.cylinders * 15) c.track.result.now.records c.loop-turn.here x) c.in-NextTrack.is c.in_ok-outcome.ensures.turns in omega (arith, on.1, c.requires.tracks)),
   c.loop-turn.invariant.1,
 )
 
