@@ -1,3 +1,4 @@
-pub mod Running
+pub mod State
 pub mod Run
 pub mod Kept
+pub mod Driven
