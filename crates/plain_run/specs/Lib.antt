@@ -1,4 +1,5 @@
 pub mod State
+pub mod Volume
 pub mod Run
 pub mod Kept
-pub mod Driven
+pub mod Between

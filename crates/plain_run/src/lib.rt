@@ -7,6 +7,7 @@ mod event;
 mod machine;
 mod record;
 mod run;
+mod volume;
 
 pub use event::RunEvent;
 pub use record::RunRecord;

@@ -1,0 +1,150 @@
+ghost use Rattle.std.specs.Prelude.{◌≡◌, ◌++◌, ◌∷◌, ◌<◌, ◌≤◌, ◌+◌, [], All, IfOk, OnOk, IsSome, length};
+ghost use Rattle.plain_defs.specs.Built.{IsBuilt};
+ghost use Rattle.plain_defs.specs.PlainState.{empty_state};
+ghost use Rattle.deck_plan.specs.Plans.{plan_of};
+ghost use Rattle.plain_run.specs.Run.{first_machine, begin_with, start, step, finish, line_done, events_from, Did};
+ghost use Rattle.plain_run.specs.Kept.{RunsPlainly};
+
+use crate::device::Device;
+use crate::machine::{Machine, Running};
+use crate::{RunEvent, RunRecord};
+use ckd_ccw::Program;
+use ckd_chain::Chain;
+use ckd_types::{Geometry, NoMemory, PathNo};
+use deck_plan::{EventLine, PathPlans, Schedule};
+use std::alloc::Global;
+
+/// The path of all programs so far.
+fn path() -> PathNo
+    ensures { result ≡ 1 }
+{
+    PathNo::new(1).unwrap()
+}
+
+fn first_machine(alloc: Global, geometry: Geometry, cylinders: u8) -> Result<Machine, NoMemory>
+    requires some { 1 ≤ cylinders }
+    requires most { cylinders ≤ 64 }
+    ensures { IfOk result (λ machine. machine ≡ first_machine geometry cylinders) }
+{
+    Ok(Machine {
+        device: Device::empty(alloc, geometry, cylinders)?,
+        started: 0,
+        running: None,
+    })
+}
+
+/// A program is copied when it begins.
+fn begin_with(
+    alloc: Global,
+    machine: &mut Machine,
+    program: &Program,
+    happened: &mut RunRecord,
+) -> Result<(), NoMemory>
+    requires room { machine.old.started < 65535 }
+    ensures did { OnOk result (Did machine.new happened.old happened.new (begin_with machine.old program.now)) }
+{
+    let chain = Chain::begin(program.copy(alloc)?, machine.device.cylinders());
+    machine.device.begin(program);
+    machine.started += 1;
+    let ordinal = machine.started;
+    machine.running = Some(Running { ordinal, chain });
+    happened.push(RunEvent::Accepted(ordinal))
+}
+
+fn start(
+    alloc: Global,
+    machine: &mut Machine,
+    plans: &PathPlans,
+    happened: &mut RunRecord,
+) -> Result<(), NoMemory>
+    ensures did { OnOk result (Did machine.new happened.old happened.new (start (plan_of plans.now 1) machine.old machine.old.running)) }
+{
+    if machine.running.is_some() {
+        return happened.push(RunEvent::AlreadyRunning);
+    }
+    let at = usize::from(machine.started);
+    if at >= plans.len(path()) {
+        return happened.push(RunEvent::PlanDone);
+    }
+    begin_with(alloc, machine, plans.at(path(), at), happened)
+}
+
+/// The command at hand of the running program.
+fn one_command(
+    alloc: Global,
+    machine: &mut Machine,
+    happened: &mut RunRecord,
+) -> Result<(), NoMemory>
+    requires running { IsSome machine.old.running }
+    ensures did { OnOk result (Did machine.new happened.old happened.new (step machine.old machine.old.running)) }
+{
+    let Some(mut running) = machine.running.take() else {
+        unreachable!()
+    };
+    let ordinal = running.ordinal;
+    let end = machine.device.command(alloc, &mut running.chain)?;
+    if !running.chain.over() {
+        machine.running = Some(running);
+    }
+    happened.push(RunEvent::Ended { ordinal, end })
+}
+
+fn step(alloc: Global, machine: &mut Machine, happened: &mut RunRecord) -> Result<(), NoMemory>
+    ensures did { OnOk result (Did machine.new happened.old happened.new (step machine.old machine.old.running)) }
+{
+    if machine.running.is_none() {
+        return happened.push(RunEvent::StepIdle);
+    }
+    one_command(alloc, machine, happened)
+}
+
+fn finish(alloc: Global, machine: &mut Machine, happened: &mut RunRecord) -> Result<(), NoMemory>
+    ensures did { OnOk result (Did machine.new happened.old happened.new (finish machine.old machine.old.running)) }
+{
+    if machine.running.is_none() {
+        return happened.push(RunEvent::RunIdle);
+    }
+    while machine.running.is_some() {
+        one_command(alloc, machine, happened)?;
+    }
+    Ok(())
+}
+
+fn line_done(
+    alloc: Global,
+    machine: &mut Machine,
+    plans: &PathPlans,
+    line: EventLine,
+    happened: &mut RunRecord,
+) -> Result<(), NoMemory>
+    ensures did { OnOk result (Did machine.new happened.old happened.new (line_done (plan_of plans.now 1) machine.old line)) }
+{
+    match line {
+        EventLine::Start(_, _) => start(alloc, machine, plans, happened),
+        EventLine::Step(_) => step(alloc, machine, happened),
+        EventLine::Run(_) => finish(alloc, machine, happened),
+        _ => Ok(()),
+    }
+}
+
+/// Runs the event lines of a deck over an empty volume of this geometry and this many cylinders.
+pub fn run_lines(
+    alloc: Global,
+    geometry: Geometry,
+    cylinders: u8,
+    plans: &PathPlans,
+    schedule: &Schedule,
+) -> Result<RunRecord, NoMemory>
+    requires some { 1 ≤ cylinders }
+    requires most { cylinders ≤ 64 }
+    requires built { All (λ ccws. All IsBuilt ccws) (plan_of plans.now 1) }
+    ensures run { IfOk result (λ made. made ≡ events_from (plan_of plans.now 1) (first_machine geometry cylinders) schedule.now.items) }
+    ensures plain { IfOk result (λ made. RunsPlainly (empty_state geometry cylinders) plans.now made) }
+{
+    let mut machine = first_machine(alloc, geometry, cylinders)?;
+    let mut happened = RunRecord::new(alloc);
+    for line in schedule.as_slice() {
+        line_done(alloc, &mut machine, plans, *line, &mut happened)?;
+    }
+    Ok(happened)
+}
