@@ -1,4 +1,4 @@
-ghost use Rattle.std.specs.Prelude.{◌≡◌, ◌<◌, ◌≤◌, ◌*◌, ◌+◌, ◌++◌, ◌∷◌, ◌-◌, [], All, Some, None, IfOk, IfSome, OnErr, OnOk, length, slice_set};
+ghost use Rattle.std.specs.Prelude.{◌≡◌, ◌<◌, ◌≤◌, ◌*◌, ◌+◌, ◌++◌, ◌∷◌, ◌-◌, [], Some, None, IfOk, IfSome, OnErr, OnOk, length, slice_set};
 ghost use Rattle.ckd_types.specs.Ccw.{ccw_at};
 ghost use Rattle.ckd_types.specs.Commands.{command_of};
 ghost use Rattle.ckd_types.specs.declared.sense.Sense.{Sense};
@@ -57,7 +57,6 @@ pub fn starts_with_sense(ccws: &[Ccw]) -> bool
 
 impl PlainDevice {
     ghost use Rattle.plain_defs.specs.PlainState.{empty_state};
-    ghost use Rattle.plain_defs.specs.Built.{IsBuilt};
     ghost use Rattle.plain_defs.specs.Ends.{LastIsOver};
 
     /// A device of empty tracks, of which no path has used anything.
@@ -158,7 +157,6 @@ impl PlainDevice {
     /// Runs a program on a path from its beginning to its end.
     pub fn run(&mut self, alloc: Global, path: PathNo, ccws: &[Ccw]) -> Result<EndList, NoMemory>
         requires short { length ccws.now ≤ 256 }
-        requires built { All IsBuilt ccws.now }
         ensures ends { IfOk result (λ ends. ends.items ≡ (whole_run self.old path ccws.now).ends) }
         ensures after { OnOk result (self.new ≡ (whole_run self.old path ccws.now).state) }
         ensures over { IfOk result (λ ends. LastIsOver ends.items) }
