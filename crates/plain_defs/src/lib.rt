@@ -10,6 +10,7 @@ mod device;
 mod effect;
 mod finding;
 mod formats;
+mod grouping;
 mod journal;
 mod opening;
 mod outcome;
@@ -31,6 +32,10 @@ pub use device::{PlainDevice, starts_with_sense};
 pub use finding::{
     Sought, find_from, home_from, if_there, next_area, next_count, next_data, next_id, next_key,
     place_on, record_of, zero_from,
+};
+pub use grouping::{
+    GroupFault, group_fault, is_in_group, is_same_owner, owner_after, owner_by, owner_set,
+    set_paths, state_byte,
 };
 pub use journal::{Entry, How, Item, Journal};
 pub use opening::{LocalAct, Opening, opening_of};

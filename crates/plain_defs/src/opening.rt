@@ -14,9 +14,7 @@ use crate::outcome::{immediate, refused};
 use crate::params::{domain_of, extent_of, given};
 use crate::sense::{reject, zero};
 use crate::{Outcome, Place, Stance};
-use ckd_types::{
-    Ccw, Command, Domain, HEADS, ParamFault, Sense, TrackNo, command_of, group_of,
-};
+use ckd_types::{Ccw, Command, Domain, HEADS, ParamFault, Sense, TrackNo, command_of, group_of};
 
 /// What a command asks of the device that its path is on.
 #[derive(Clone, Copy, Debug, PartialEq, Eq)]
@@ -100,7 +98,12 @@ fn next_track(stance: &Stance, ccw: &Ccw, tracks: usize) -> Opening
     ensures opens { Opens tracks stance.now result }
 {
     let track = stance.track;
-    moved(stance, ccw, track_after(stance.extent, track, tracks), tracks)
+    moved(
+        stance,
+        ccw,
+        track_after(stance.extent, track, tracks),
+        tracks,
+    )
 }
 
 fn track_from(stance: &Stance, ccw: &Ccw, place: Place, tracks: usize) -> Opening
