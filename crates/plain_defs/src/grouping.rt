@@ -1,7 +1,7 @@
 ghost use Rattle.std.specs.Prelude.{◌≡◌, ◌≤◌, map};
 ghost use Rattle.std.specs.List.{list_any};
 ghost use Rattle.plain_defs.specs.PlainState.{is_same_group, is_in_group, owner_by, is_same_owner, owner_after};
-ghost use Rattle.plain_defs.specs.Grouping.{establishes, resigns, asks_multipath, is_bad_function, is_elsewhere, is_bad_id, group_fault, disbanded, paths_set, owner_joined, owner_left, owner_set, member_bits, reserved_bits, mode_bit, state_byte};
+ghost use Rattle.plain_defs.specs.Grouping.{establishes, resigns, asks_multipath, is_bad_function, is_elsewhere, is_bad_id, group_fault, disbanded, paths_set, owner_joined, owner_left, owner_set, member_bits, reserved_bits, mode_bit, state_byte, group_id_bytes, group_bytes};
 
 use ckd_types::{GroupId, Owner, PathNo, PathState};
 
@@ -269,4 +269,23 @@ pub fn state_byte(state: PathState, path: PathNo, owner: Option<Owner>) -> u8
     ensures { result ≡ state_byte state path owner }
 {
     member_bits(state) + reserved_bits(owner, &owner_by(state, path)) + mode_bit(state)
+}
+
+fn group_id_bytes(state: PathState) -> [u8; 11]
+    ensures { result ≡ group_id_bytes state }
+{
+    match state {
+        PathState::Grouped { id, .. } => id.bytes,
+        PathState::Reset | PathState::Ungrouped => [0; 11],
+    }
+}
+
+/// The bytes of sense path group ID: the state byte, and the ID.
+pub fn group_bytes(state: PathState, path: PathNo, owner: Option<Owner>) -> [u8; 12]
+    ensures { result ≡ group_bytes state path owner }
+{
+    let mut bytes = [0; 12];
+    bytes[0] = state_byte(state, path, owner);
+    bytes[1..].copy_from_slice(&group_id_bytes(state));
+    bytes
 }
