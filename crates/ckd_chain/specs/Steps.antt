@@ -20,7 +20,7 @@ use Rattle.plain_defs.specs.declared.outcome.Turned.{Turned}
 use Rattle.plain_defs.specs.declared.outcome.Turned.TheVariants.{Ended, NextTrack, Write}
 use Rattle.plain_defs.specs.declared.stance.Place.TheVariants.{Index}
 use Rattle.plain_defs.specs.declared.stance.Stance.{Stance}
-use Rattle.plain_defs.specs.Acts.{answered}
+use Rattle.plain_defs.specs.Acts.{answered, held_for}
 use Rattle.plain_defs.specs.Chain.{end_of, goes_to}
 use Rattle.plain_defs.specs.Opening.{opening_of}
 use Rattle.plain_defs.specs.Outcome.{refused}
@@ -90,7 +90,7 @@ looked_with s z None = record { progress = progresses.Need z.track; chain = wait
 abbrev pub stepped_by : ChainState → Option Image → Opening → Stepped
 stepped_by s image (Over o) = ended_with s o
 stepped_by s image (Looks z) = looked_with s z image
-stepped_by s image (Asks act) = record { progress = progresses.Local act; chain = waiting s s.here None }
+stepped_by s image (Asks act) = record { progress = progresses.Local act; chain = waiting s s.here (held_for s.at.stance (word_of s) act) }
 
 -- one step, with the image of the track that it needs
 abbrev pub stepped : ChainState → Option Image → Stepped

@@ -1,6 +1,7 @@
 ghost use Rattle.std.specs.Prelude.{◌≡◌, ◌<◌, ◌≤◌, ◌+◌, ◌*◌, IfOk, IfSome, IsSome, OnOk, OnErr, is_none, length, Some, None};
 ghost use Rattle.std.specs.Prelude.{option_map};
 ghost use Rattle.plain_defs.specs.Room.{HasRoom, Stands, IsRunning, IsAt, GoesOn, Opens};
+ghost use Rattle.plain_defs.specs.Acts.{held_for};
 ghost use Rattle.plain_defs.specs.Turned.{turn_on};
 ghost use Rattle.ckd_chain.specs.Facts.{IsChain, SuitsTrack, GoesFurther, CountsEnd};
 ghost use Rattle.plain_defs.specs.declared.opening.Opening.TheVariants.{Looks};
@@ -13,7 +14,7 @@ use ckd_sense::{INVALID_COMMAND, INVALID_PARAMETER, data_check, equipment, rejec
 use ckd_types::{Ccw, CommandEnd, HEADS, Mode, NoMemory, TrackNo};
 use plain_defs::{
     LocalAct, Opening, Outcome, Place, Stance, Turned, answered, end_of, first_stance, goes_to,
-    no_ccw, opening_of, refused, word_at,
+    held_for, no_ccw, opening_of, refused, word_at,
 };
 use std::alloc::Global;
 use std::marker::Model;
@@ -175,6 +176,18 @@ impl Chain {
         self.held = held;
     }
 
+    /// The command at hand asks the device, and waits.
+    fn ask(&mut self, act: LocalAct)
+        requires { IsSome self.old.at.next }
+        ensures { self.new ≡ waiting self.old self.old.here (held_for self.old.at.stance (word_of self.old) act) }
+    {
+        let nothing = no_ccw();
+        let tracks = usize::from(self.cylinders) * usize::from(HEADS);
+        let ccw = word_at(self.program.ccws(), index_of(self.at.next), &nothing);
+        let held = held_for(&self.at.stance, ccw, act, tracks);
+        self.wait(self.here, held);
+    }
+
     /// A look at a track.
     fn look(
         &mut self,
@@ -234,7 +247,7 @@ impl Chain {
                 }
             },
             Opening::Asks(act) => {
-                self.wait(self.here, None);
+                self.ask(act);
                 Ok(Progress::Local(act))
             }
         }

@@ -17,7 +17,7 @@ pub enum Progress {
 /// How a command that waits fared.
 #[derive(Debug, Drop)]
 pub enum Settled {
-    /// Its edit was made.
+    /// Its edit was made, or the device did its act and answers no bytes.
     Written,
     /// Its track can't be had, or its edit can't be made.
     Equipment,

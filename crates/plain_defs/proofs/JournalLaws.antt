@@ -6,7 +6,7 @@ use Rattle.plain_defs.specs.declared.journal.How.TheVariants.{Full, Cut, Checked
 use Rattle.plain_defs.specs.declared.journal.Item.{Item}
 use Rattle.plain_defs.specs.declared.journal.Item.TheVariants.{Program, Reset, Fresh}
 use Rattle.plain_defs.specs.PlainState.{PlainState}
-use Rattle.plain_defs.specs.Journal.{Plans, replay, replay_item, FollowsCut, IsLegalItem, IsLegalFrom}
+use Rattle.plain_defs.specs.Journal.{Plans, replay, replay_item, FollowsCut, IsUncut, IsLegalItem, IsLegalFrom}
 
 pub replay-append : (plans : Plans) (s : PlainState) (xs ys : List Item) → replay plans s (xs ++ ys) ≡ replay plans (replay plans s xs) ys
 replay-append plans s [] ys = refl
@@ -33,3 +33,27 @@ legal_more plans s earlier (y ∷ ys) x h more = (
   legal_more plans (replay_item plans s y) (earlier ++ y ∷ []) ys x h.1
       (subst (λ (l : List Item). IsLegalItem plans (replay plans (replay_item plans s y) ys) l x []) (sym (append_assoc earlier (y ∷ []) ys)) more),
 )
+
+follows_less : (how : How) (path : ℕ) (y : Item) (ys zs : List Item) → FollowsCut how path (y ∷ ys) → FollowsCut how path (y ∷ zs)
+follows_less Full path y ys zs h = tt
+follows_less Checked path y ys zs h = tt
+follows_less (Cut effect) path (Reset p) ys zs h = h
+follows_less (Cut effect) path (Program e) ys zs h = absurd h
+follows_less (Cut effect) path Fresh ys zs h = absurd h
+
+item_less : (plans : Plans) (s : PlainState) (earlier : List Item) (x y : Item) (ys zs : List Item) → IsLegalItem plans s earlier x (y ∷ ys) → IsLegalItem plans s earlier x (y ∷ zs)
+item_less plans s earlier (Program e) y ys zs h = (h.0, follows_less e.how e.path y ys zs h.1)
+item_less plans s earlier (Reset p) y ys zs h = tt
+item_less plans s earlier Fresh y ys zs h = tt
+
+item_last : (plans : Plans) (s : PlainState) (earlier : List Item) (x : Item) (later : List Item) → IsLegalItem plans s earlier x later → IsUncut x → IsLegalItem plans s earlier x []
+item_last plans s earlier (Program e) later h uncut = (h.0, uncut)
+item_last plans s earlier (Reset p) later h uncut = tt
+item_last plans s earlier Fresh later h uncut = tt
+
+-- a front that ends with no program that was cut
+pub legal_less : (plans : Plans) (s : PlainState) (earlier xs : List Item) (x : Item) (later : List Item) → IsLegalFrom plans s earlier (xs ++ x ∷ later) → IsUncut x → IsLegalFrom plans s earlier (xs ++ x ∷ [])
+legal_less plans s earlier [] x later h uncut = (item_last plans s earlier x later h.0 uncut, tt)
+legal_less plans s earlier (y ∷ []) x later h uncut = (item_less plans s earlier y x later [] h.0, legal_less plans (replay_item plans s y) (earlier ++ y ∷ []) [] x later h.1 uncut)
+legal_less plans s earlier (y ∷ z ∷ xs) x later h uncut =
+    (item_less plans s earlier y z (xs ++ x ∷ later) (xs ++ x ∷ []) h.0, legal_less plans (replay_item plans s y) (earlier ++ y ∷ []) (z ∷ xs) x later h.1 uncut)

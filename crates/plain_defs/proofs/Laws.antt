@@ -1,16 +1,15 @@
 -- Laws of the parts of a program.
 use Rattle.std.proofs.Common.{◌≡◌, ◌≤◌, ℕ, zero, suc, List, [], ◌∷◌, Option, Some, None, Bool, true, false, length, take, refl, arith, ap, ◌∙◌, cond}
+use Rattle.std.specs.Prelude.{All}
 use Rattle.ckd_types.specs.declared.channel.Ccw.{Ccw}
 use Rattle.ckd_types.specs.declared.channel.CommandEnd.{CommandEnd}
 use Rattle.ckd_types.specs.Ccw.{ccw_at}
 use Rattle.plain_defs.specs.declared.stance.Stance.{Stance}
 use Rattle.plain_defs.specs.PlainState.{PlainState}
-use Rattle.plain_defs.specs.declared.opening.LocalAct.TheVariants.{Sense, SenseId}
-use Rattle.plain_defs.specs.declared.opening.Opening.{Opening}
-use Rattle.plain_defs.specs.declared.opening.Opening.TheVariants.{Over, Looks, Asks}
-use Rattle.plain_defs.specs.Opening.{opening_of}
-use Rattle.plain_defs.specs.Effect.{effect_by, command_effect}
+use Rattle.plain_defs.specs.Built.{IsBuilt}
+use Rattle.plain_defs.specs.Effect.{command_effect}
 use Rattle.plain_defs.specs.Chain.{Part, part_from, goes_to, end_of, is_over}
+use Rattle.plain_defs.proofs.OwnerLemmas.{built_at, command_owner}
 use Rattle.plain_defs.proofs.PartLemmas.{none_left}
 
 -- an end that says over is the last
@@ -21,13 +20,6 @@ IsClosed (e ∷ ends) = (e.over ≡ true → ends ≡ []) × IsClosed ends
 over_stops : (b : Bool) (x : Option ℕ) → b ≡ true → cond b None x ≡ None
 over_stops true x is = refl
 over_stops false x is = absurd (let e : false ≡ true = is in cc)
-
--- no command of the profile so far takes or frees the device
-effect_owner : (state : PlainState) (path : ℕ) (s : Stance) (c : Ccw) (how : Opening) → (effect_by state path s c how).state.owner ≡ state.owner
-effect_owner state path s c (Over o) = refl
-effect_owner state path s c (Looks z) = refl
-effect_owner state path s c (Asks Sense) = refl
-effect_owner state path s c (Asks SenseId) = refl
 
 module _ (path : ℕ) (ccws : List Ccw) where
   -- the ends of the first k commands are the first k ends
@@ -61,10 +53,11 @@ module _ (path : ℕ) (ccws : List Ccw) where
         part_closes n e.state e.outcome.stance (goes_to ccws i e.outcome),
       )
 
-  pub part_owner : (n : ℕ) (state : PlainState) (s : Stance) (next : Option ℕ) → (part_from n state path ccws s next).state.owner ≡ state.owner
+  -- a program without reservation and path group commands neither takes nor frees the device
+  pub part_owner : All IsBuilt ccws → (n : ℕ) (state : PlainState) (s : Stance) (next : Option ℕ) → (part_from n state path ccws s next).state.owner ≡ state.owner
   unfolding part_from
-  part_owner zero state s next = refl
-  part_owner (suc n) state s None = refl
-  part_owner (suc n) state s (Some i) =
+  part_owner built zero state s next = refl
+  part_owner built (suc n) state s None = refl
+  part_owner built (suc n) state s (Some i) =
       let e = command_effect state path s (ccw_at ccws i) in
-      part_owner n e.state e.outcome.stance (goes_to ccws i e.outcome) ∙ effect_owner state path s (ccw_at ccws i) (opening_of state.cylinders s (ccw_at ccws i))
+      part_owner built n e.state e.outcome.stance (goes_to ccws i e.outcome) ∙ command_owner state path s (ccw_at ccws i) (built_at ccws built i)

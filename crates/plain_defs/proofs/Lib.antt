@@ -10,3 +10,5 @@ pub mod Laws
 pub mod JournalLaws
 pub mod EndsLaws
 pub mod Comparing
+pub mod OwnerLemmas
+mod GroupRows

@@ -1,11 +1,11 @@
--- The commands that are defined so far.
+-- The commands that the run of a deck opens so far: reservation and path groups are defined, but no deck with them is run yet.
 use Rattle.std.specs.Prelude.{◌≡◌, Bool, true, false, Option, None, Some}
 use Rattle.ckd_types.specs.declared.channel.Ccw.{Ccw}
 use Rattle.ckd_types.specs.declared.command.Command.{Command}
 use Rattle.ckd_types.specs.declared.command.Command.TheVariants.{Reserve, Release, UnconditionalReserve, SetPathGroup, SensePathGroup}
 use Rattle.ckd_types.specs.Commands.{command_of}
 
--- a code that is no command is refused, and that is defined
+-- a code that is no command is refused by the chain
 abbrev pub is_built : Option Command → Bool
 is_built (Some Reserve) = false
 is_built (Some Release) = false

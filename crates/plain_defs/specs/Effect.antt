@@ -1,11 +1,12 @@
 -- What one command does to the plain device, from track to track.
-use Rattle.std.specs.Prelude.{ℕ, zero, suc, List, [], ◌∷◌, length, slice_set}
+use Rattle.std.specs.Prelude.{ℕ, zero, suc, List, [], ◌∷◌, length, slice_set, Option, None, Some}
 use Rattle.ckd_types.specs.declared.channel.Ccw.{Ccw}
 use Rattle.ckd_types.specs.declared.record.Edit.{Edit}
 use Rattle.ckd_types.specs.declared.record.Track.{Track}
 use Rattle.ckd_types.specs.Edit.{apply_edit}
-use Rattle.ckd_types.specs.Sense.{end_of_cylinder_sense}
+use Rattle.ckd_types.specs.Sense.{end_of_cylinder_sense, reject_sense}
 use Rattle.ckd_types.specs.Volume.{track_in}
+use Rattle.plain_defs.specs.declared.grouping.GroupFault.{GroupFault}
 use Rattle.plain_defs.specs.declared.opening.LocalAct.{LocalAct}
 use Rattle.plain_defs.specs.declared.opening.Opening.{Opening}
 use Rattle.plain_defs.specs.declared.opening.Opening.TheVariants.{Over, Looks, Asks}
@@ -14,7 +15,7 @@ use Rattle.plain_defs.specs.declared.outcome.Turned.{Turned}
 use Rattle.plain_defs.specs.declared.outcome.Turned.TheVariants.{Ended, NextTrack, Write}
 use Rattle.plain_defs.specs.declared.stance.Place.TheVariants.{Index}
 use Rattle.plain_defs.specs.declared.stance.Stance.{Stance}
-use Rattle.plain_defs.specs.Acts.{act_bytes, act_state, answered}
+use Rattle.plain_defs.specs.Acts.{act_fault, act_bytes, act_state, act_outcome}
 use Rattle.plain_defs.specs.Opening.{opening_of}
 use Rattle.plain_defs.specs.Outcome.{refused}
 use Rattle.plain_defs.specs.PlainState.{PlainState, with_sense}
@@ -67,8 +68,13 @@ kept_by state path e = record { state = with_sense (record state { volume = e.vo
 abbrev pub looked : PlainState → Stance → Ccw → Traced
 looked state s c = follow (length state.volume) state.volume s c (λ t z. turn_on state.geometry state.cylinders t z c)
 
+-- an act that the device refuses is reject message 4
+abbrev pub acted_by : PlainState → ℕ → Stance → Ccw → LocalAct → Option GroupFault → Effect
+acted_by state path s c act (Some fault) = kept_by state path (untouched state.volume (refused s c (reject_sense 4)))
+acted_by state path s c act None = record { state = act_state state path act; outcome = act_outcome s c act (act_bytes state path act); touched = []; edits = [] }
+
 abbrev pub acted : PlainState → ℕ → Stance → Ccw → LocalAct → Effect
-acted state path s c act = record { state = act_state state path act; outcome = answered s c (act_bytes state path act); touched = []; edits = [] }
+acted state path s c act = acted_by state path s c act (act_fault state path act)
 
 abbrev pub effect_by : PlainState → ℕ → Stance → Ccw → Opening → Effect
 effect_by state path s c (Over o) = kept_by state path (untouched state.volume o)

@@ -102,6 +102,12 @@ FollowsCut (Cut effect) path _ = ⊥
 FollowsCut Full path later = ⊤
 FollowsCut Checked path later = ⊤
 
+-- no program that was cut
+abbrev pub IsUncut : Item → Type 0
+IsUncut (Program e) = FollowsCut e.how e.path []
+IsUncut (Reset path) = ⊤
+IsUncut Fresh = ⊤
+
 abbrev pub IsLegalItem : Plans → PlainState → List Item → Item → List Item → Type 0
 IsLegalItem plans state earlier (Program e) later = IsLegalEntry plans state earlier e × FollowsCut e.how e.path later
 IsLegalItem plans state earlier (Reset path) later = ⊤

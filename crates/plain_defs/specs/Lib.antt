@@ -10,6 +10,7 @@ pub mod Opening
 pub mod Turned
 pub mod Acts
 pub mod PlainState
+pub mod Grouping
 pub mod Effect
 pub mod Chain
 pub mod Entry

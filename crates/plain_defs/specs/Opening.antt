@@ -1,14 +1,14 @@
 -- How a command begins: what it does before it looks at a track.
-use Rattle.std.specs.Prelude.{ℕ, Option, None, Some, Result, Ok, Err, if◌then◌else◌}
+use Rattle.std.specs.Prelude.{ℕ, List, take, drop, slice_index, Option, None, Some, Result, Ok, Err}
 use Rattle.ckd_types.specs.declared.channel.Ccw.{Ccw}
 use Rattle.ckd_types.specs.declared.command.Command.{Command}
 use Rattle.ckd_types.specs.declared.command.Command.TheVariants as commands
 use Rattle.ckd_types.specs.declared.parameters.Domain.{Domain}
 use Rattle.ckd_types.specs.declared.parameters.ParamFault.{ParamFault}
 use Rattle.ckd_types.specs.declared.sense.Sense.{Sense}
-use Rattle.ckd_types.specs.Commands.{command_of, group_of}
+use Rattle.ckd_types.specs.Commands.{command_of}
 use Rattle.ckd_types.specs.Parameters.{given, extent_of, domain_of}
-use Rattle.ckd_types.specs.Sense.{reject_sense, zero_sense}
+use Rattle.ckd_types.specs.Sense.{reject_sense}
 use Rattle.plain_defs.specs.declared.opening.LocalAct.{LocalAct}
 use Rattle.plain_defs.specs.declared.opening.LocalAct.TheVariants as acts
 use Rattle.plain_defs.specs.declared.opening.Opening.{Opening}
@@ -16,7 +16,7 @@ use Rattle.plain_defs.specs.declared.opening.Opening.TheVariants.{Over, Looks, A
 use Rattle.plain_defs.specs.declared.stance.Place.{Place}
 use Rattle.plain_defs.specs.declared.stance.Place.TheVariants.{Index, Home, Count, Key, Body}
 use Rattle.plain_defs.specs.declared.stance.Stance.{Stance}
-use Rattle.plain_defs.specs.Checks.{first_check, target_track, is_on_track}
+use Rattle.plain_defs.specs.Checks.{first_check, target_track}
 use Rattle.plain_defs.specs.Control.{controlled, went_to, seek, set_sector, set_file_mask, define_extent, placed, needs_record}
 use Rattle.plain_defs.specs.Finding.{track_after}
 use Rattle.plain_defs.specs.Outcome.{refused, immediate}
@@ -40,7 +40,11 @@ abbrev pub track_from : Stance → Ccw → Place → Opening
 track_from s c Index = Looks s
 track_from s c _ = moved s c (track_after s.extent s.track)
 
--- a command that no check refuses. What reserve, release and the path group commands do is not defined yet
+-- the function byte and the ID that set path group ID is given
+abbrev pub sets_group : List ℕ → LocalAct
+sets_group bytes = acts.SetGroup (slice_index bytes 0) (record { bytes = take 11 (drop 1 bytes) })
+
+-- a command that no check refuses: what isn't named here looks at the track at hand
 abbrev pub begins : ℕ → Stance → Ccw → Command → Opening
 begins cylinders s c commands.NoOperation = Over (immediate (controlled s) c)
 begins cylinders s c commands.Seek = Over (seek s c (target_track cylinders s c commands.Seek))
@@ -55,7 +59,12 @@ begins cylinders s c commands.WriteNextTrack = moved s c (track_after s.extent s
 begins cylinders s c commands.ReadTrack = track_from s c s.place
 begins cylinders s c commands.Sense = Asks acts.Sense
 begins cylinders s c commands.SenseId = Asks acts.SenseId
-begins cylinders s c command = if is_on_track (group_of command) then Looks s else Over (refused s c zero_sense)
+begins cylinders s c commands.Reserve = Asks acts.Reserve
+begins cylinders s c commands.Release = Asks acts.Release
+begins cylinders s c commands.UnconditionalReserve = Asks acts.Steal
+begins cylinders s c commands.SetPathGroup = Asks (sets_group (given 16 c))
+begins cylinders s c commands.SensePathGroup = Asks acts.SenseGroup
+begins cylinders s c command = Looks s
 
 abbrev pub begins_by : ℕ → Stance → Ccw → Option Command → Opening
 begins_by cylinders s c (Some command) = begins cylinders s c command

@@ -83,12 +83,7 @@ fn head_to(track: TrackNo, bytes: &[u8; 16], cylinders: u8) -> Option<TrackNo>
 }
 
 /// The track that a control command goes to.
-pub fn target_track(
-    cylinders: u8,
-    stance: &Stance,
-    c: &Ccw,
-    command: Command,
-) -> Option<TrackNo>
+pub fn target_track(cylinders: u8, stance: &Stance, c: &Ccw, command: Command) -> Option<TrackNo>
     requires some { 1 ≤ cylinders }
     requires most { cylinders ≤ 64 }
     requires track { stance.now.track < cylinders * 15 }

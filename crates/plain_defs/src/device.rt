@@ -2,21 +2,24 @@ ghost use Rattle.std.specs.Prelude.{◌≡◌, ◌<◌, ◌≤◌, ◌*◌, ◌+
 ghost use Rattle.ckd_types.specs.Ccw.{ccw_at};
 ghost use Rattle.ckd_types.specs.Commands.{command_of};
 ghost use Rattle.ckd_types.specs.declared.sense.Sense.{Sense};
-ghost use Rattle.plain_defs.specs.Acts.{act_bytes, act_state};
+ghost use Rattle.plain_defs.specs.Acts.{act_fault, act_bytes, act_state, sensed, regrouped};
 ghost use Rattle.plain_defs.specs.Chain.{sends_sense, begun, whole_run, starts_with_sense};
 ghost use Rattle.plain_defs.specs.Effect.{command_effect, acted};
-ghost use Rattle.plain_defs.specs.PlainState.{PlainState, senses_with, with_sense};
+ghost use Rattle.plain_defs.specs.PlainState.{PlainState, senses_with, with_sense, sense_for, state_of, reset_path};
 ghost use Rattle.plain_defs.specs.Room.{HasRoom, Stands, GoesOn};
 
-use crate::acts::{answered, sense_id_bytes};
+use crate::acts::{act_outcome, sense_id_bytes};
 use crate::chain::{end_of, goes_to, no_ccw, word_at};
 use crate::effect::follow;
+use crate::grouping::{group_bytes, group_fault, owner_after, owner_by, owner_set, set_paths};
 use crate::opening::opening_of;
-use crate::sense::zero;
+use crate::outcome::refused;
+use crate::sense::{reject, zero};
 use crate::stance::first_stance;
-use crate::{LocalAct, Opening, Outcome, PlainVolume, Stance};
+use crate::{GroupFault, LocalAct, Opening, Outcome, PlainVolume, Stance};
 use ckd_types::{
-    Bytes, Ccw, CommandEnd, EndList, Geometry, HEADS, NoMemory, Owner, PathNo, PathState, Sense,
+    Bytes, Ccw, CommandEnd, EndList, Geometry, GroupId, HEADS, NoMemory, Owner, PathNo, PathState,
+    Sense,
 };
 use std::alloc::Global;
 use std::marker::Model;
@@ -98,19 +101,75 @@ impl PlainDevice {
         }
     }
 
+    fn state(&self, path: PathNo) -> PathState
+        ensures { result ≡ state_of self.now path }
+    {
+        self.paths[usize::from(path.get() - 1)]
+    }
+
+    /// Why the device refuses an act, where it does.
+    fn act_fault(&self, path: PathNo, act: LocalAct) -> Option<GroupFault>
+        ensures { result ≡ act_fault self.now path act }
+    {
+        match act {
+            LocalAct::SetGroup { function, id } => group_fault(function, id, self.state(path)),
+            _ => None,
+        }
+    }
+
+    /// Sends the sense of a path, which is then zero.
+    fn sensed(&mut self, alloc: Global, path: PathNo) -> Result<Bytes, NoMemory>
+        ensures bytes { IfOk result (λ bytes. bytes ≡ (sense_for self.old path).bytes) }
+        ensures after { OnOk result (self.new ≡ sensed self.old path) }
+    {
+        let at = usize::from(path.get() - 1);
+        let bytes = Bytes::from_slice(alloc, &self.senses[at].bytes)?;
+        self.keep_sense(path, Some(zero()));
+        Ok(bytes)
+    }
+
+    fn regroup(&mut self, path: PathNo, function: u8, id: GroupId)
+        ensures { self.new ≡ regrouped self.old path function id }
+    {
+        set_paths(&mut self.paths, path, function, id);
+        self.owner = owner_set(&self.paths, path, function, id, self.owner);
+    }
+
+    /// Resets a path: its state and its sense, and what it held.
+    pub fn reset(&mut self, path: PathNo)
+        ensures { self.new ≡ reset_path self.old path }
+    {
+        let at = usize::from(path.get() - 1);
+        self.paths[at] = PathState::Reset;
+        self.owner = owner_after(&self.paths, path, self.owner);
+        self.senses[at] = zero();
+    }
+
     /// The bytes that the device answers an act, which it then does.
     fn act(&mut self, alloc: Global, path: PathNo, act: LocalAct) -> Result<Bytes, NoMemory>
         ensures bytes { IfOk result (λ bytes. bytes ≡ act_bytes self.old path act) }
         ensures after { OnOk result (self.new ≡ act_state self.old path act) }
     {
         match act {
-            LocalAct::Sense => {
-                let at = usize::from(path.get() - 1);
-                let bytes = Bytes::from_slice(alloc, &self.senses[at].bytes)?;
-                self.keep_sense(path, Some(zero()));
-                Ok(bytes)
+            LocalAct::Sense => self.sensed(alloc, path),
+            LocalAct::Reserve | LocalAct::Steal => {
+                let owner = owner_by(self.state(path), path);
+                self.owner = Some(owner);
+                self.sensed(alloc, path)
+            }
+            LocalAct::Release => {
+                self.owner = None;
+                self.sensed(alloc, path)
             }
             LocalAct::SenseId => Bytes::from_slice(alloc, &sense_id_bytes(self.geometry)),
+            LocalAct::SetGroup { function, id } => {
+                self.regroup(path, function, id);
+                Ok(Bytes::new())
+            }
+            LocalAct::SenseGroup => {
+                let bytes = group_bytes(self.state(path), path, self.owner);
+                Bytes::from_slice(alloc, &bytes)
+            }
         }
     }
 
@@ -148,8 +207,13 @@ impl PlainDevice {
                 Ok(outcome)
             }
             Opening::Asks(act) => {
+                if self.act_fault(path, act).is_some() {
+                    let outcome = refused(stance, c, reject(4));
+                    self.keep_sense(path, outcome.sense);
+                    return Ok(outcome);
+                }
                 let bytes = self.act(alloc, path, act)?;
-                Ok(answered(stance, c, bytes, tracks))
+                Ok(act_outcome(stance, c, act, bytes, tracks))
             }
         }
     }

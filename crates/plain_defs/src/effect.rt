@@ -32,7 +32,14 @@ pub fn follow(
     let tracks = volume.len();
     let mut here = *stance;
     for _turn in 0..tracks {
-        match turn_on(alloc, geometry, cylinders, volume.track(here.track), &here, c)? {
+        match turn_on(
+            alloc,
+            geometry,
+            cylinders,
+            volume.track(here.track),
+            &here,
+            c,
+        )? {
             Turned::Ended(outcome) => return Ok(outcome),
             Turned::NextTrack(t) => {
                 here.track = t;

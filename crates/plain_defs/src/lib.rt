@@ -10,7 +10,9 @@ mod device;
 mod effect;
 mod finding;
 mod formats;
+mod grouping;
 mod journal;
+mod law;
 mod opening;
 mod outcome;
 mod params;
@@ -23,7 +25,7 @@ mod updates;
 mod volume;
 mod writes;
 
-pub use acts::{answered, sense_id_bytes};
+pub use acts::{act_outcome, answered, held_for, sense_id_bytes};
 pub use area::{count_given, given_at};
 pub use chain::{end_of, goes_to, no_ccw, word_at};
 pub use control::located;
@@ -32,7 +34,12 @@ pub use finding::{
     Sought, find_from, home_from, if_there, next_area, next_count, next_data, next_id, next_key,
     place_on, record_of, zero_from,
 };
+pub use grouping::{
+    GroupFault, group_bytes, group_fault, is_in_group, is_same_owner, owner_after, owner_by,
+    owner_set, set_paths, state_byte,
+};
 pub use journal::{Entry, How, Item, Journal};
+pub use law::{legal_front, legal_with_one_more, replays_one_more};
 pub use opening::{LocalAct, Opening, opening_of};
 pub use outcome::{Outcome, Turned, ended, immediate, refused};
 pub use params::{domain_of, given};

@@ -2,21 +2,19 @@ ghost use Rattle.std.specs.Prelude.{◌≡◌, ◌<◌, ◌≤◌, ◌+◌, ◌*
 ghost use Rattle.ckd_types.specs.Commands.{command_of};
 ghost use Rattle.ckd_types.specs.Parameters.{is_bad_count};
 ghost use Rattle.plain_defs.specs.Finding.{track_after};
-ghost use Rattle.plain_defs.specs.Opening.{looks_for, locate_record, moved, track_from, begins, begins_by, unless_refused, opening_of};
+ghost use Rattle.plain_defs.specs.Opening.{looks_for, locate_record, moved, track_from, sets_group, begins, begins_by, unless_refused, opening_of};
 ghost use Rattle.plain_defs.specs.Room.{HasRoom, Stands, Opens};
 
-use crate::checks::{first_check, is_on_track, target_track};
+use crate::checks::{first_check, target_track};
 use crate::control::{
     controlled, define_extent, needs_record, placed, seek, set_file_mask, set_sector, went_to,
 };
 use crate::finding::track_after;
 use crate::outcome::{immediate, refused};
 use crate::params::{domain_of, extent_of, given};
-use crate::sense::{reject, zero};
+use crate::sense::reject;
 use crate::{Outcome, Place, Stance};
-use ckd_types::{
-    Ccw, Command, Domain, HEADS, ParamFault, Sense, TrackNo, command_of, group_of,
-};
+use ckd_types::{Ccw, Command, Domain, GroupId, HEADS, ParamFault, Sense, TrackNo, command_of};
 
 /// What a command asks of the device that its path is on.
 #[derive(Clone, Copy, Debug, PartialEq, Eq)]
@@ -25,6 +23,16 @@ pub enum LocalAct {
     Sense,
     /// What the control unit and the device are.
     SenseId,
+    /// Reserves the device, and answers as sense does.
+    Reserve,
+    /// Frees the device, and answers as sense does.
+    Release,
+    /// Moves the reservation to the path, whoever holds the device, and answers as sense does.
+    Steal,
+    /// Sets the path's group ID. It answers no bytes, and may be refused.
+    SetGroup { function: u8, id: GroupId },
+    /// The path's state byte and group ID.
+    SenseGroup,
 }
 
 /// How a command begins: it is over without a look at a track; it looks at the track of this stance,
@@ -100,7 +108,12 @@ fn next_track(stance: &Stance, ccw: &Ccw, tracks: usize) -> Opening
     ensures opens { Opens tracks stance.now result }
 {
     let track = stance.track;
-    moved(stance, ccw, track_after(stance.extent, track, tracks), tracks)
+    moved(
+        stance,
+        ccw,
+        track_after(stance.extent, track, tracks),
+        tracks,
+    )
 }
 
 fn track_from(stance: &Stance, ccw: &Ccw, place: Place, tracks: usize) -> Opening
@@ -114,6 +127,17 @@ fn track_from(stance: &Stance, ccw: &Ccw, place: Place, tracks: usize) -> Openin
     match place {
         Place::Index => Opening::Looks(*stance),
         _ => next_track(stance, ccw, tracks),
+    }
+}
+
+fn sets_group(bytes: &[u8; 16]) -> LocalAct
+    ensures { result ≡ sets_group bytes.now }
+{
+    let mut id = [0; 11];
+    id.copy_from_slice(&bytes[1..12]);
+    LocalAct::SetGroup {
+        function: bytes[0],
+        id: GroupId::new(id),
     }
 }
 
@@ -150,13 +174,12 @@ fn begins(cylinders: u8, stance: &Stance, ccw: &Ccw, command: Command) -> Openin
         Command::ReadTrack => track_from(stance, ccw, stance.place, tracks),
         Command::Sense => Opening::Asks(LocalAct::Sense),
         Command::SenseId => Opening::Asks(LocalAct::SenseId),
-        _ => {
-            if is_on_track(group_of(command)) {
-                Opening::Looks(*stance)
-            } else {
-                Opening::Over(refused(stance, ccw, zero()))
-            }
-        }
+        Command::Reserve => Opening::Asks(LocalAct::Reserve),
+        Command::Release => Opening::Asks(LocalAct::Release),
+        Command::UnconditionalReserve => Opening::Asks(LocalAct::Steal),
+        Command::SetPathGroup => Opening::Asks(sets_group(&given(ccw))),
+        Command::SensePathGroup => Opening::Asks(LocalAct::SenseGroup),
+        _ => Opening::Looks(*stance),
     }
 }
 

@@ -1,0 +1,8 @@
+//! Who holds a reserved device.
+#![tactic(auto)]
+
+mod reserve;
+#[cfg(test)]
+mod tests;
+
+pub use reserve::{Held, Reserve};
