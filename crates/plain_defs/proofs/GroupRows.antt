@@ -1,10 +1,9 @@
 -- Known rows of path groups and reservation, computed from the definitions alone.
-use Rattle.std.proofs.Common.{◌≡◌, ℕ, List, [], ◌∷◌, Option, Some, None, Bool, true, false, map, refl}
+use Rattle.std.proofs.Common.{◌≡◌, ℕ, List, [], ◌∷◌, Some, None, true, false, map, refl}
 use Rattle.std.specs.Prelude.{replicate}
 use Rattle.ckd_types.specs.declared.channel.Ccw.{Ccw}
 use Rattle.ckd_types.specs.declared.channel.CommandEnd.{CommandEnd}
 use Rattle.ckd_types.specs.declared.geometry.Geometry.TheVariants.{D3390}
-use Rattle.ckd_types.specs.declared.paths.GroupId.{GroupId}
 use Rattle.ckd_types.specs.declared.paths.Owner.TheVariants.{Group, Path}
 use Rattle.ckd_types.specs.Commands.{command_of}
 use Rattle.ckd_types.specs.Sense.{reject_sense}

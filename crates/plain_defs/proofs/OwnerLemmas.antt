@@ -1,5 +1,5 @@
 -- The commands that neither take nor free a device: of it they ask nothing but sense and sense ID.
-use Rattle.std.proofs.Common.{◌≡◌, ℕ, ◌<◌, ◌≤◌, ◌*◌, List, [], ◌∷◌, Option, Some, None, Bool, true, false, Result, Ok, Err, length, refl, sym, subst, inl, inr}
+use Rattle.std.proofs.Common.{◌≡◌, ℕ, ◌<◌, ◌≤◌, List, Option, Some, None, true, false, Result, Ok, Err, length, refl, sym, subst, inl, inr}
 use Rattle.std.specs.Prelude.{All, ⊤, ◌⊎◌}
 use Rattle.std.proofs.lemmas.Bool.{cases_lt}
 use Rattle.std.proofs.lemmas.List.{get_or_past}
@@ -13,7 +13,6 @@ use Rattle.ckd_types.specs.declared.sense.Sense.{Sense}
 use Rattle.ckd_types.specs.Ccw.{no_ccw, ccw_at}
 use Rattle.ckd_types.specs.Commands.{command_of}
 use Rattle.ckd_types.specs.Parameters.{given, domain_of}
-use Rattle.plain_defs.specs.declared.opening.LocalAct.{LocalAct}
 use Rattle.plain_defs.specs.declared.opening.LocalAct.TheVariants as acts
 use Rattle.plain_defs.specs.declared.opening.Opening.{Opening}
 use Rattle.plain_defs.specs.declared.opening.Opening.TheVariants.{Over, Looks, Asks}

@@ -1,5 +1,5 @@
 -- The commands that the run of a deck opens so far: reservation and path groups are defined, but no deck with them is run yet.
-use Rattle.std.specs.Prelude.{◌≡◌, Bool, true, false, Option, None, Some}
+use Rattle.std.specs.Prelude.{◌≡◌, Bool, true, false, Option, Some}
 use Rattle.ckd_types.specs.declared.channel.Ccw.{Ccw}
 use Rattle.ckd_types.specs.declared.command.Command.{Command}
 use Rattle.ckd_types.specs.declared.command.Command.TheVariants.{Reserve, Release, UnconditionalReserve, SetPathGroup, SensePathGroup}

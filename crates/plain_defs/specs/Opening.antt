@@ -14,7 +14,7 @@ use Rattle.plain_defs.specs.declared.opening.LocalAct.TheVariants as acts
 use Rattle.plain_defs.specs.declared.opening.Opening.{Opening}
 use Rattle.plain_defs.specs.declared.opening.Opening.TheVariants.{Over, Looks, Asks}
 use Rattle.plain_defs.specs.declared.stance.Place.{Place}
-use Rattle.plain_defs.specs.declared.stance.Place.TheVariants.{Index, Home, Count, Key, Body}
+use Rattle.plain_defs.specs.declared.stance.Place.TheVariants.{Index}
 use Rattle.plain_defs.specs.declared.stance.Stance.{Stance}
 use Rattle.plain_defs.specs.Checks.{first_check, target_track}
 use Rattle.plain_defs.specs.Control.{controlled, went_to, seek, set_sector, set_file_mask, define_extent, placed, needs_record}
