@@ -33,3 +33,8 @@ SuitsTrack image progress = ⊤
 abbrev pub GoesFurther : ℕ → Opening → Option Image → Progress → Type 0
 GoesFurther tracks (Looks z) (Some image) (Need t) = (t ≡ z.track + 1) × (t < tracks)
 GoesFurther tracks hand image progress = ⊤
+
+-- with its end a command is counted
+abbrev pub CountsEnd : ChainState → ChainState → Progress → Type 0
+CountsEnd old new (Ended e) = new.at.stance.commands ≡ old.at.stance.commands + 1
+CountsEnd old new progress = ⊤

@@ -1,8 +1,8 @@
-ghost use Rattle.std.specs.Prelude.{◌≡◌, ◌<◌, ◌≤◌, ◌*◌, IfOk, IfSome, IsSome, OnOk, OnErr, is_none, length, Some, None};
+ghost use Rattle.std.specs.Prelude.{◌≡◌, ◌<◌, ◌≤◌, ◌+◌, ◌*◌, IfOk, IfSome, IsSome, OnOk, OnErr, is_none, length, Some, None};
 ghost use Rattle.std.specs.Prelude.{option_map};
 ghost use Rattle.plain_defs.specs.Room.{HasRoom, Stands, IsRunning, IsAt, GoesOn, Opens};
 ghost use Rattle.plain_defs.specs.Turned.{turn_on};
-ghost use Rattle.ckd_chain.specs.Facts.{IsChain, SuitsTrack, GoesFurther};
+ghost use Rattle.ckd_chain.specs.Facts.{IsChain, SuitsTrack, GoesFurther, CountsEnd};
 ghost use Rattle.plain_defs.specs.declared.opening.Opening.TheVariants.{Looks};
 ghost use Rattle.ckd_chain.specs.Steps.{first_mark, begun_chain, index_of, word_of, hand_of, looked_track, need_of, behind, end_with, waiting, turned_with, stepped, settled_by, again_from, mode_by, inhibits_by, last_by};
 
@@ -128,6 +128,7 @@ impl Chain {
         requires { IsSome self.now.at.next }
         ensures need { result ≡ need_of self.now }
         ensures on_device { IfSome result (λ t. t < self.now.cylinders * 15) }
+        ensures opens { Opens (self.now.cylinders * 15) self.now.at.stance (hand_of self.now) }
     {
         let nothing = no_ccw();
         let ccw = word_at(self.program.ccws(), index_of(self.at.next), &nothing);
@@ -139,6 +140,7 @@ impl Chain {
         requires goes_on { GoesOn (self.old.cylinders * 15) self.old.at.stance outcome.stance }
         ensures end { result ≡ end_with self.old outcome }
         ensures behind { self.new ≡ behind self.old outcome }
+        ensures counted { self.new.at.stance.commands ≡ self.old.at.stance.commands + 1 }
     {
         let nothing = no_ccw();
         let index = index_of(self.at.next);
@@ -179,6 +181,7 @@ impl Chain {
         ensures chain { OnOk result (self.new ≡ (turned_with self.old there (turn_on image.now.geometry self.old.cylinders image.now.track there (word_of self.old))).chain) }
         ensures suits { IfOk result (SuitsTrack (Some image.now)) }
         ensures further { IfOk result (GoesFurther (self.old.cylinders * 15) (Looks there) (Some image.now)) }
+        ensures counted { IfOk result (CountsEnd self.old self.new) }
         ensures same { OnErr result (self.new ≡ self.old) }
     {
         let nothing = no_ccw();
@@ -208,6 +211,7 @@ impl Chain {
         ensures chain { OnOk result (self.new ≡ (stepped self.old (option_map (λ i. i.now) image.entry)).chain) }
         ensures suits { IfOk result (SuitsTrack (option_map (λ i. i.now) image.entry)) }
         ensures further { IfOk result (GoesFurther (self.old.cylinders * 15) (hand_of self.old) (option_map (λ i. i.now) image.entry)) }
+        ensures counted { IfOk result (CountsEnd self.old self.new) }
         ensures same { OnErr result (self.new ≡ self.old) }
     {
         let nothing = no_ccw();
@@ -261,6 +265,7 @@ impl Chain {
         requires running { IsSome self.old.at.next }
         ensures end { result ≡ end_with self.old (settled_by self.old how) }
         ensures chain { self.new ≡ behind self.old (settled_by self.old how) }
+        ensures counted { self.new.at.stance.commands ≡ self.old.at.stance.commands + 1 }
     {
         let outcome = self.settled(how);
         self.end(outcome)

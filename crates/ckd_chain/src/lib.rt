@@ -2,9 +2,11 @@
 #![tactic(auto)]
 
 mod chain;
+mod edit;
 mod progress;
 mod turn;
 
 pub use chain::{Chain, Mark};
+pub use edit::edit_image;
 pub use plain_defs::LocalAct;
 pub use progress::{Progress, Settled};

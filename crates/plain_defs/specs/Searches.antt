@@ -1,5 +1,5 @@
 -- Searches of one track.
-use Rattle.std.specs.Prelude.{ℕ, ◌+◌, ◌==◌, not, min, Bool, true, false, List, [], ◌∷◌, ◌++◌, length, take, drop, position, Option, None, Some, if◌then◌else◌}
+use Rattle.std.specs.Prelude.{ℕ, ◌+◌, ◌==◌, not, min, Bool, List, [], ◌∷◌, ◌++◌, length, take, drop, position, Option, None, Some, if◌then◌else◌}
 use Rattle.std.specs.declared.cmp.Ordering.{Ordering}
 use Rattle.std.specs.Ordering.{is_eq, is_gt, is_ge, nat_cmp}
 use Rattle.std.specs.Cmp.Lexicographic.{slice_cmp}

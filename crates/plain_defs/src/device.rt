@@ -45,7 +45,8 @@ impl Model for PlainDevice {
     ghost invariant = { λ d. (1 ≤ d.cylinders) × (d.cylinders ≤ 64) × (length d.volume ≡ d.cylinders * 15) × AllFit d.geometry d.volume };
 }
 
-fn starts_with_sense(ccws: &[Ccw]) -> bool
+/// Sense, reserve, release and unconditional reserve send the sense that their path has.
+pub fn starts_with_sense(ccws: &[Ccw]) -> bool
     ensures { result ≡ starts_with_sense ccws.now }
 {
     match ccws.first() {

@@ -27,7 +27,7 @@ pub use acts::{answered, sense_id_bytes};
 pub use area::{count_given, given_at};
 pub use chain::{end_of, goes_to, no_ccw, word_at};
 pub use control::located;
-pub use device::PlainDevice;
+pub use device::{PlainDevice, starts_with_sense};
 pub use finding::{
     Sought, find_from, home_from, if_there, next_area, next_count, next_data, next_id, next_key,
     place_on, record_of, zero_from,

@@ -6,9 +6,9 @@ use Rattle.plain_defs.specs.declared.journal.Item.{Item}
 use Rattle.plain_defs.specs.declared.journal.Item.TheVariants.{Program}
 use Rattle.plain_defs.specs.Chain.{part_of}
 use Rattle.plain_defs.specs.Journal.{Plans, program_of, replay, IsLegal}
+use Rattle.plain_defs.specs.PlainState.{PlainState}
 use Rattle.plain_run.specs.declared.event.RunEvent.{RunEvent}
 use Rattle.plain_run.specs.declared.event.RunEvent.TheVariants.{Accepted, AlreadyRunning, PlanDone, Ended, StepIdle, RunIdle}
-use Rattle.plain_run.specs.Run.{empty_device}
 
 -- a program that runs, with its ends so far
 pub record Open : Type 0 where
@@ -46,11 +46,12 @@ abbrev pub kept_from : Kept → List RunEvent → List Kept
 kept_from k [] = []
 kept_from k (e ∷ es) = kept_after k e ∷ kept_from (kept_after k e) es
 
--- the journal is one that the plain device could have made, and the running program's ends are its first ones there
-pub record IsPlain (plans : Plans) (k : Kept) : Type 0 where
-  pub legal : IsLegal plans empty_device k.items
-  pub first : IfSome k.running (λ o. o.ends ≡ (part_of (replay plans empty_device k.items) 1 (program_of plans 1 o.ordinal) (length o.ends)).ends)
+-- from an empty device on, the journal is one that the plain device could have made, and the running program's
+-- ends are its first ones there
+pub record IsPlain (empty : PlainState) (plans : Plans) (k : Kept) : Type 0 where
+  pub legal : IsLegal plans empty k.items
+  pub first : IfSome k.running (λ o. o.ends ≡ (part_of (replay plans empty k.items) 1 (program_of plans 1 o.ordinal) (length o.ends)).ends)
 
 -- so it is after every one of some events
-abbrev pub RunsPlainly : Plans → List RunEvent → Type 0
-RunsPlainly plans events = All (IsPlain plans) (kept_from nothing_kept events)
+abbrev pub RunsPlainly : PlainState → Plans → List RunEvent → Type 0
+RunsPlainly empty plans events = All (IsPlain empty plans) (kept_from nothing_kept events)

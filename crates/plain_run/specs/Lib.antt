@@ -1,3 +1,5 @@
-pub mod Running
+pub mod State
+pub mod Volume
 pub mod Run
 pub mod Kept
+pub mod Between

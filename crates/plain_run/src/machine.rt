@@ -1,68 +1,31 @@
-use crate::RunEvent;
-use ckd_types::EndList;
-use plain_defs::PlainDevice;
+use crate::device::Device;
+use ckd_chain::Chain;
 use std::marker::Model;
 
-/// The program that runs: its ordinal, the ends of its commands, and how many of them have come.
+/// The program that runs: its ordinal, and its chain.
 #[derive(Drop)]
 pub struct Running {
     pub ordinal: u16,
-    pub ends: EndList,
-    pub count: usize,
+    pub chain: Chain,
 }
 
-impl Model for Running {
-    ghost use Rattle.plain_run.specs.Running.{RunningProgram};
-
-    ghost Value = { RunningProgram };
-
-    ghost view = { λ r. record { ordinal = r.ordinal; ends = r.ends.items; count = r.count } };
-}
-
-/// The device behind the programs that were started, how many were, and the one that runs.
+/// The device behind the commands that have ended, how many programs were started, and the one that
+/// runs.
 #[derive(Drop)]
 pub struct Machine {
-    pub device: PlainDevice,
+    pub device: Device,
     pub started: u16,
     pub running: Option<Running>,
 }
 
-/// What happened so far.
-#[derive(Drop)]
-pub struct RunRecord {
-    events: Vec<RunEvent>,
-}
+impl Model for Machine {
+    ghost use Rattle.std.specs.Prelude.{IfSome, option_map};
+    ghost use Rattle.plain_run.specs.Between.{running_program, IsBetween};
+    ghost use Rattle.plain_run.specs.State.{MachineState};
 
-impl Model for RunRecord {
-    ghost use Rattle.std.specs.Prelude.{List};
-    ghost use Rattle.plain_run.specs.declared.event.RunEvent.{RunEvent};
+    ghost Value = { MachineState };
 
-    ghost Value = { List RunEvent };
+    ghost view = { λ m. record { device = m.device; started = m.started; running = option_map running_program m.running } };
 
-    ghost view = { λ r. r.events.items };
-}
-
-impl RunRecord {
-    ghost use Rattle.std.specs.Prelude.{◌≡◌, ◌++◌, ◌∷◌, [], IfOk, OnOk};
-
-    pub fn new(alloc: std::alloc::Global) -> RunRecord
-        ensures { result ≡ [] }
-    {
-        RunRecord {
-            events: Vec::new(alloc),
-        }
-    }
-
-    pub fn push(&mut self, event: RunEvent) -> Result<(), ckd_types::NoMemory>
-        ensures { OnOk result (self.new ≡ self.old ++ event ∷ []) }
-    {
-        self.events.push(event)?;
-        Ok(())
-    }
-
-    pub fn events(&self) -> &[RunEvent]
-        ensures { result.now ≡ self.now }
-    {
-        &self.events
-    }
+    ghost invariant = { λ m. IfSome m.running (λ r. IsBetween m.device r.chain) };
 }

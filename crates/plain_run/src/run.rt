@@ -1,17 +1,17 @@
-ghost use Rattle.std.specs.Prelude.{◌≡◌, ◌++◌, ◌∷◌, ◌<◌, ◌≤◌, ◌+◌, ◌^◌, [], All, IfOk, IfSome, OnOk, List, length, map, drop, slice_get, slice_index_or, Some, None};
+ghost use Rattle.std.specs.Prelude.{◌≡◌, ◌++◌, ◌∷◌, ◌<◌, ◌≤◌, ◌+◌, [], All, IfOk, OnOk, IsSome, length};
 ghost use Rattle.plain_defs.specs.Built.{IsBuilt};
+ghost use Rattle.plain_defs.specs.PlainState.{empty_state};
 ghost use Rattle.deck_plan.specs.Plans.{plan_of};
-ghost use Rattle.plain_run.specs.declared.event.RunEvent.TheVariants.{Ended};
-ghost use Rattle.plain_run.specs.Run.{empty_device, first_machine, begin_with, start, ended, step, finish, line_done, events_from, Did, HasLast};
-ghost use Rattle.plain_defs.specs.Ends.{LastIsOver};
+ghost use Rattle.plain_run.specs.Run.{first_machine, begin_with, start, step, finish, line_done, events_from, Did};
 ghost use Rattle.plain_run.specs.Kept.{RunsPlainly};
 
-use crate::RunEvent;
-use crate::machine::{Machine, RunRecord, Running};
+use crate::device::Device;
+use crate::machine::{Machine, Running};
+use crate::{RunEvent, RunRecord};
 use ckd_ccw::Program;
-use ckd_types::{CommandEnd, Geometry, NoMemory, PathNo};
+use ckd_chain::Chain;
+use ckd_types::{Geometry, NoMemory, PathNo};
 use deck_plan::{EventLine, PathPlans, Schedule};
-use plain_defs::PlainDevice;
 use std::alloc::Global;
 
 /// The path of all programs so far.
@@ -21,16 +21,19 @@ fn path() -> PathNo
     PathNo::new(1).unwrap()
 }
 
-fn first_machine(alloc: Global) -> Result<Machine, NoMemory>
-    ensures { IfOk result (λ machine. machine ≡ first_machine) }
+fn first_machine(alloc: Global, geometry: Geometry, cylinders: u8) -> Result<Machine, NoMemory>
+    requires some { 1 ≤ cylinders }
+    requires most { cylinders ≤ 64 }
+    ensures { IfOk result (λ machine. machine ≡ first_machine geometry cylinders) }
 {
     Ok(Machine {
-        device: PlainDevice::empty(alloc, Geometry::D3390, 1)?,
+        device: Device::empty(alloc, geometry, cylinders)?,
         started: 0,
         running: None,
     })
 }
 
+/// A program is copied when it begins.
 fn begin_with(
     alloc: Global,
     machine: &mut Machine,
@@ -38,19 +41,13 @@ fn begin_with(
     happened: &mut RunRecord,
 ) -> Result<(), NoMemory>
     requires room { machine.old.started < 65535 }
-    requires built { All IsBuilt program.now }
-    ensures last { OnOk result (HasLast machine.new) }
     ensures did { OnOk result (Did machine.new happened.old happened.new (begin_with machine.old program.now)) }
 {
-    let _ = program.len();
-    let ends = machine.device.run(alloc, path(), program.ccws())?;
+    let chain = Chain::begin(program.copy(alloc)?, machine.device.cylinders());
+    machine.device.begin(program);
     machine.started += 1;
     let ordinal = machine.started;
-    machine.running = Some(Running {
-        ordinal,
-        ends,
-        count: 0,
-    });
+    machine.running = Some(Running { ordinal, chain });
     happened.push(RunEvent::Accepted(ordinal))
 }
 
@@ -60,9 +57,6 @@ fn start(
     plans: &PathPlans,
     happened: &mut RunRecord,
 ) -> Result<(), NoMemory>
-    requires built { All (λ ccws. All IsBuilt ccws) (plan_of plans.now 1) }
-    requires last { HasLast machine.old }
-    ensures last { OnOk result (HasLast machine.new) }
     ensures did { OnOk result (Did machine.new happened.old happened.new (start (plan_of plans.now 1) machine.old machine.old.running)) }
 {
     if machine.running.is_some() {
@@ -75,84 +69,45 @@ fn start(
     begin_with(alloc, machine, plans.at(path(), at), happened)
 }
 
-/// The next end of the running program that hasn't come yet.
-fn next_end(alloc: Global, running: &Running) -> Result<Option<CommandEnd>, NoMemory>
-    ensures value { IfOk result (λ end. end ≡ slice_get running.now.ends running.now.count) }
-    ensures room { IfOk result (λ end. IfSome end (λ e. running.now.count + 1 < 2 ^ 64)) }
-{
-    match running.ends.as_slice().get(running.count) {
-        Some(end) => Ok(Some(end.copy(alloc)?)),
-        None => Ok(None),
-    }
-}
-
-fn one_more(mut running: Running) -> Running
-    requires { running.count + 1 < 2 ^ 64 }
-    ensures { result ≡ record running { count = running.count + 1 } }
-{
-    running.count += 1;
-    running
-}
-
-fn ended(
+/// The command at hand of the running program.
+fn one_command(
+    alloc: Global,
     machine: &mut Machine,
-    running: Running,
-    end: Option<CommandEnd>,
     happened: &mut RunRecord,
 ) -> Result<(), NoMemory>
-    requires idle { machine.old.running ≡ None }
-    requires room { IfSome end (λ e. running.count + 1 < 2 ^ 64) }
-    requires last { LastIsOver running.ends }
-    ensures last { OnOk result (HasLast machine.new) }
-    ensures did { OnOk result (Did machine.new happened.old happened.new (ended machine.old running end)) }
+    requires running { IsSome machine.old.running }
+    ensures did { OnOk result (Did machine.new happened.old happened.new (step machine.old machine.old.running)) }
 {
-    let Some(end) = end else {
-        return Ok(());
+    let Some(mut running) = machine.running.take() else {
+        unreachable!()
     };
-    let over = end.over;
     let ordinal = running.ordinal;
-    happened.push(RunEvent::Ended { ordinal, end })?;
-    if !over {
-        machine.running = Some(one_more(running));
+    let end = machine.device.command(alloc, &mut running.chain)?;
+    if !running.chain.over() {
+        machine.running = Some(running);
     }
-    Ok(())
+    happened.push(RunEvent::Ended { ordinal, end })
 }
 
 fn step(alloc: Global, machine: &mut Machine, happened: &mut RunRecord) -> Result<(), NoMemory>
-    requires last { HasLast machine.old }
-    ensures last { OnOk result (HasLast machine.new) }
     ensures did { OnOk result (Did machine.new happened.old happened.new (step machine.old machine.old.running)) }
 {
-    match machine.running.take() {
-        None => happened.push(RunEvent::StepIdle),
-        Some(running) => {
-            let end = next_end(alloc, &running)?;
-            ended(machine, running, end, happened)
-        }
+    if machine.running.is_none() {
+        return happened.push(RunEvent::StepIdle);
     }
-}
-
-fn finish_with(alloc: Global, running: &Running, happened: &mut RunRecord) -> Result<(), NoMemory>
-    ensures { OnOk result (happened.new ≡ happened.old ++ map (λ e. Ended running.now.ordinal e) (drop running.now.count running.now.ends)) }
-{
-    let ordinal = running.ordinal;
-    let ends = running.ends.as_slice();
-    for i in running.count..ends.len() {
-        let end = ends[i].copy(alloc)?;
-        happened.push(RunEvent::Ended { ordinal, end })?;
-    }
-    Ok(())
+    one_command(alloc, machine, happened)
 }
 
 fn finish(alloc: Global, machine: &mut Machine, happened: &mut RunRecord) -> Result<(), NoMemory>
-    requires last { HasLast machine.old }
-    ensures last { OnOk result (HasLast machine.new) }
     ensures did { OnOk result (Did machine.new happened.old happened.new (finish machine.old machine.old.running)) }
 {
-    match machine.running.take() {
-        None => happened.push(RunEvent::RunIdle),
-        Some(running) => finish_with(alloc, &running, happened),
+    if machine.running.is_none() {
+        return happened.push(RunEvent::RunIdle);
     }
+    while machine.running.is_some() {
+        one_command(alloc, machine, happened)?;
+    }
+    Ok(())
 }
 
 fn line_done(
@@ -162,9 +117,6 @@ fn line_done(
     line: EventLine,
     happened: &mut RunRecord,
 ) -> Result<(), NoMemory>
-    requires built { All (λ ccws. All IsBuilt ccws) (plan_of plans.now 1) }
-    requires last { HasLast machine.old }
-    ensures last { OnOk result (HasLast machine.new) }
     ensures did { OnOk result (Did machine.new happened.old happened.new (line_done (plan_of plans.now 1) machine.old line)) }
 {
     match line {
@@ -175,17 +127,21 @@ fn line_done(
     }
 }
 
-/// Runs the event lines of a deck over one 3390 of one cylinder.
+/// Runs the event lines of a deck over an empty volume of this geometry and this many cylinders.
 pub fn run_lines(
     alloc: Global,
+    geometry: Geometry,
+    cylinders: u8,
     plans: &PathPlans,
     schedule: &Schedule,
 ) -> Result<RunRecord, NoMemory>
+    requires some { 1 ≤ cylinders }
+    requires most { cylinders ≤ 64 }
     requires built { All (λ ccws. All IsBuilt ccws) (plan_of plans.now 1) }
-    ensures run { IfOk result (λ made. made ≡ events_from (plan_of plans.now 1) first_machine schedule.now.items) }
-    ensures plain { IfOk result (λ made. RunsPlainly plans.now made) }
+    ensures run { IfOk result (λ made. made ≡ events_from (plan_of plans.now 1) (first_machine geometry cylinders) schedule.now.items) }
+    ensures plain { IfOk result (λ made. RunsPlainly (empty_state geometry cylinders) plans.now made) }
 {
-    let mut machine = first_machine(alloc)?;
+    let mut machine = first_machine(alloc, geometry, cylinders)?;
     let mut happened = RunRecord::new(alloc);
     for line in schedule.as_slice() {
         line_done(alloc, &mut machine, plans, *line, &mut happened)?;

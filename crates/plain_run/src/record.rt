@@ -1,0 +1,44 @@
+ghost use Rattle.std.specs.Prelude.{◌≡◌, ◌++◌, ◌∷◌, [], OnOk};
+
+use crate::RunEvent;
+use ckd_types::NoMemory;
+use std::alloc::Global;
+use std::marker::Model;
+
+/// What happened so far.
+#[derive(Drop)]
+pub struct RunRecord {
+    events: Vec<RunEvent>,
+}
+
+impl Model for RunRecord {
+    ghost use Rattle.std.specs.Prelude.{List};
+    ghost use Rattle.plain_run.specs.declared.event.RunEvent.{RunEvent};
+
+    ghost Value = { List RunEvent };
+
+    ghost view = { λ r. r.events.items };
+}
+
+impl RunRecord {
+    pub fn new(alloc: Global) -> RunRecord
+        ensures { result ≡ [] }
+    {
+        RunRecord {
+            events: Vec::new(alloc),
+        }
+    }
+
+    pub fn push(&mut self, event: RunEvent) -> Result<(), NoMemory>
+        ensures { OnOk result (self.new ≡ self.old ++ event ∷ []) }
+    {
+        self.events.push(event)?;
+        Ok(())
+    }
+
+    pub fn events(&self) -> &[RunEvent]
+        ensures { result.now ≡ self.now }
+    {
+        &self.events
+    }
+}
