@@ -1,8 +1,7 @@
 -- The programs of a deck that is run are made of commands that are defined, and its device has 1 to 64 cylinders.
 use Rattle.std.proofs.Common.{◌≡◌, ◌≤◌, ℕ, zero, suc, ◌+◌, ◌-◌, ◌++◌, length, List, [], ◌∷◌, Option, Some, None, Bool, true, false, cond, refl, sym, arith}
 use Rattle.std.specs.Prelude.{◌==◌, ◌&&◌, nat_le, slice_index_or, slice_set, All}
-use Rattle.std.proofs.lemmas.Bool.{true≢false}
-use Rattle.std.proofs.lemmas.Bool.Decides.{Decides-leb}
+use Rattle.std.proofs.lemmas.Bool.{true≢false, leb-true}
 use Rattle.std.proofs.lemmas.Option.{none-some}
 use Rattle.std.proofs.lemmas.List.Elements.{All-nil, All-cons, All-append}
 use Rattle.ckd_types.specs.declared.channel.Ccw.{Ccw}
@@ -76,7 +75,7 @@ abbrev pub Fits : DeviceLine → Type 0
 Fits d = (1 ≤ d.cylinders) × (d.cylinders ≤ 64)
 
 fits_by : (d : DeviceLine) (zero least most : Bool) → nat_le 1 d.cylinders ≡ least → nat_le d.cylinders 64 ≡ most → (zero && least && most) ≡ true → Fits d
-fits_by d true true true least most is = ((Decides-leb 1 d.cylinders).0 least, (Decides-leb d.cylinders 64).0 most)
+fits_by d true true true least most is = (leb-true 1 d.cylinders least, leb-true d.cylinders 64 most)
 fits_by d true true false least most is = absurd (true≢false (sym is))
 fits_by d true false most least is_most is = absurd (true≢false (sym is))
 fits_by d false least most is_least is_most is = absurd (true≢false (sym is))
