@@ -84,7 +84,7 @@ open_fits : (d : DeviceLine) (here : Bool) (n : ℕ) → is_open_device d ≡ he
 open_fits d true n is none = fits_by d (d.number == 0) (nat_le 1 d.cylinders) (nat_le d.cylinders 64) refl refl is
 open_fits d false n is none = absurd (none-some n (sym none))
 
-two_devices : (here : Bool) → cond here (Some 5) (Some 4) ≡ None → ⊥
+two_devices : (here : Bool) → cond {A = Option ℕ} here (Some 5) (Some 4) ≡ None → ⊥
 two_devices true none = none-some 5 (sym none)
 two_devices false none = none-some 4 (sym none)
 
