@@ -1,1 +1,7 @@
-
+pub mod Images
+pub mod Driven
+pub mod Left
+pub mod Behind
+pub mod RunSteps
+pub mod Goes
+pub mod RunPlain

@@ -1,5 +1,5 @@
 -- A running program between two commands.
-use Rattle.std.specs.Prelude.{◌≡◌, ◌+◌, IsSome, None}
+use Rattle.std.specs.Prelude.{◌≡◌, ◌+◌, ◌<◌, IsSome, IfSome, Option, Some, None, ⊤}
 use Rattle.ckd_types.specs.declared.channel.CommandEnd.{CommandEnd}
 use Rattle.ckd_chain.specs.State.{ChainState}
 use Rattle.ckd_chain.specs.Steps.{word_of, behind, end_with}
@@ -26,3 +26,13 @@ pub record Ends (device after : PlainState) (chain then_chain : ChainState) (end
   pub device_is : after ≡ (effect_of device chain).state
   pub chain_is : then_chain ≡ behind chain (effect_of device chain).outcome
   pub counted : then_chain.at.stance.commands ≡ chain.at.stance.commands + 1
+
+-- the running program was at a word, and its command was counted, one of at most 4,096
+pub record Counted (r : RunningProgram) (then_running : Option RunningProgram) : Type 0 where
+  pub running : IsSome r.next
+  pub room : r.stance.commands < 4096
+  pub counted : IfSome then_running (λ q. q.stance.commands ≡ r.stance.commands + 1)
+
+abbrev pub Counts : Option RunningProgram → Option RunningProgram → Type 0
+Counts (Some r) then_running = Counted r then_running
+Counts None then_running = ⊤

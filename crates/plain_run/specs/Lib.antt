@@ -3,3 +3,4 @@ pub mod Volume
 pub mod Run
 pub mod Kept
 pub mod Between
+pub mod Belongs

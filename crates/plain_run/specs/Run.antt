@@ -3,7 +3,7 @@ use Rattle.std.specs.Prelude.{◌≡◌, ℕ, zero, suc, ◌+◌, ◌-◌, nat_l
 use Rattle.ckd_types.specs.declared.channel.Ccw.{Ccw}
 use Rattle.ckd_types.specs.declared.geometry.Geometry.{Geometry}
 use Rattle.ckd_types.specs.Ccw.{ccw_at}
-use Rattle.plain_defs.specs.PlainState.{PlainState, empty_state}
+use Rattle.plain_defs.specs.PlainState.{empty_state}
 use Rattle.plain_defs.specs.Chain.{begun, end_of, goes_to}
 use Rattle.plain_defs.specs.Effect.{Effect, command_effect}
 use Rattle.plain_defs.specs.Stance.{first_stance}

@@ -1,8 +1,9 @@
 ghost use Rattle.std.specs.Prelude.{◌≡◌, ◌<◌, ◌≤◌, ◌*◌, ◌+◌, IfOk, IfSome, IsSome, OnOk, OnErr, Some, None, length};
-ghost use Rattle.ckd_chain.specs.Steps.{need_of};
+ghost use Rattle.ckd_chain.specs.Steps.{hand_of, need_of};
 ghost use Rattle.plain_defs.specs.Acts.{act_bytes, act_state};
 ghost use Rattle.plain_defs.specs.Chain.{begun};
 ghost use Rattle.plain_defs.specs.PlainState.{empty_state, with_sense};
+ghost use Rattle.plain_defs.specs.Room.{Opens};
 ghost use Rattle.plain_run.specs.Between.{IsBetween, Ends};
 
 use crate::volume::Images;
@@ -100,8 +101,10 @@ impl Device {
     ) -> Result<CommandEnd, NoMemory>
         requires between { IsBetween self.old chain.old }
         requires need { need_of chain.old ≡ Some first }
+        requires opens { Opens (chain.old.cylinders * 15) chain.old.at.stance (hand_of chain.old) }
         ensures ends { IfOk result (Ends self.old self.new chain.old chain.new) }
     {
+        chain.stands();
         let mut track = first;
         for _turn in 0..self.volume.len() {
             match chain.step(alloc, Some(self.volume.image(track)))? {

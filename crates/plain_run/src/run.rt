@@ -3,6 +3,8 @@ ghost use Rattle.plain_defs.specs.Built.{IsBuilt};
 ghost use Rattle.plain_defs.specs.PlainState.{empty_state};
 ghost use Rattle.deck_plan.specs.Plans.{plan_of};
 ghost use Rattle.plain_run.specs.Run.{first_machine, begin_with, start, step, finish, line_done, events_from, Did};
+ghost use Rattle.plain_run.specs.Belongs.{Keeps, KeepsAll};
+ghost use Rattle.plain_run.specs.Between.{Counts};
 ghost use Rattle.plain_run.specs.Kept.{RunsPlainly};
 
 use crate::device::Device;
@@ -51,7 +53,8 @@ fn begin_with(
     happened.push(RunEvent::Accepted(ordinal))
 }
 
-fn start(
+/// The path's next program, unless one runs or there is none.
+fn begin(
     alloc: Global,
     machine: &mut Machine,
     plans: &PathPlans,
@@ -69,19 +72,31 @@ fn start(
     begin_with(alloc, machine, plans.at(path(), at), happened)
 }
 
-/// The command at hand of the running program.
-fn one_command(
+/// A start line: what is plain stays plain.
+fn start(
     alloc: Global,
     machine: &mut Machine,
+    plans: &PathPlans,
     happened: &mut RunRecord,
 ) -> Result<(), NoMemory>
+    ensures did { OnOk result (Did machine.new happened.old happened.new (start (plan_of plans.now 1) machine.old machine.old.running)) }
+    ensures keeps { OnOk result (Keeps plans.now machine.old machine.new happened.old happened.new) }
+{
+    begin(alloc, machine, plans, happened)?;
+    Ok(())
+}
+
+/// The command at hand of the running program.
+fn command(alloc: Global, machine: &mut Machine, happened: &mut RunRecord) -> Result<(), NoMemory>
     requires running { IsSome machine.old.running }
     ensures did { OnOk result (Did machine.new happened.old happened.new (step machine.old machine.old.running)) }
+    ensures counts { OnOk result (Counts machine.old.running machine.new.running) }
 {
     let Some(mut running) = machine.running.take() else {
         unreachable!()
     };
     let ordinal = running.ordinal;
+    running.chain.stands();
     let end = machine.device.command(alloc, &mut running.chain)?;
     if !running.chain.over() {
         machine.running = Some(running);
@@ -89,20 +104,39 @@ fn one_command(
     happened.push(RunEvent::Ended { ordinal, end })
 }
 
+/// The command at hand: what is plain stays plain.
+fn one_command(
+    alloc: Global,
+    machine: &mut Machine,
+    happened: &mut RunRecord,
+) -> Result<(), NoMemory>
+    requires running { IsSome machine.old.running }
+    ensures did { OnOk result (Did machine.new happened.old happened.new (step machine.old machine.old.running)) }
+    ensures counts { OnOk result (Counts machine.old.running machine.new.running) }
+    ensures keeps { OnOk result (KeepsAll machine.old machine.new happened.old happened.new) }
+{
+    command(alloc, machine, happened)?;
+    Ok(())
+}
+
 fn step(alloc: Global, machine: &mut Machine, happened: &mut RunRecord) -> Result<(), NoMemory>
     ensures did { OnOk result (Did machine.new happened.old happened.new (step machine.old machine.old.running)) }
+    ensures keeps { OnOk result (KeepsAll machine.old machine.new happened.old happened.new) }
 {
     if machine.running.is_none() {
-        return happened.push(RunEvent::StepIdle);
+        happened.push(RunEvent::StepIdle)?;
+        return Ok(());
     }
     one_command(alloc, machine, happened)
 }
 
 fn finish(alloc: Global, machine: &mut Machine, happened: &mut RunRecord) -> Result<(), NoMemory>
     ensures did { OnOk result (Did machine.new happened.old happened.new (finish machine.old machine.old.running)) }
+    ensures keeps { OnOk result (KeepsAll machine.old machine.new happened.old happened.new) }
 {
     if machine.running.is_none() {
-        return happened.push(RunEvent::RunIdle);
+        happened.push(RunEvent::RunIdle)?;
+        return Ok(());
     }
     while machine.running.is_some() {
         one_command(alloc, machine, happened)?;
@@ -118,6 +152,7 @@ fn line_done(
     happened: &mut RunRecord,
 ) -> Result<(), NoMemory>
     ensures did { OnOk result (Did machine.new happened.old happened.new (line_done (plan_of plans.now 1) machine.old line)) }
+    ensures keeps { OnOk result (Keeps plans.now machine.old machine.new happened.old happened.new) }
 {
     match line {
         EventLine::Start(_, _) => start(alloc, machine, plans, happened),
