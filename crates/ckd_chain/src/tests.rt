@@ -53,6 +53,7 @@ fn answer(alloc: Global, act: LocalAct) -> Result<Bytes, Fail> {
     let bytes = match act {
         LocalAct::Sense => Bytes::from_slice(alloc, &[0; 32])?,
         LocalAct::SenseId => Bytes::from_slice(alloc, &sense_id_bytes(Geometry::D3390))?,
+        _ => return Err(Fail::from("another act")),
     };
     Ok(bytes)
 }
