@@ -102,7 +102,7 @@ fn third_fails(alloc: Global, program: u16, end: &str, bytes: &str) -> Result<St
 
 /// Sense bytes, with zeros behind these.
 fn sense_line(alloc: Global, bytes: &str) -> Result<String, Fail> {
-    let zeros = "0".repeat(alloc, 64 - bytes.len())?;
+    let zeros = "0".repeat(alloc, 64_usize.saturating_sub(bytes.len()))?;
     Ok(format!(in alloc; "SENSE {bytes}{zeros}\n")?)
 }
 
@@ -116,9 +116,9 @@ fn expect(
     let mut deck = format!(in alloc; "DECK 1\nCACHE 4\nSTORE 2\nDEVICE {device}\n")?;
     let mut events = format!(in alloc; "EVENTS\n")?;
     let mut report = String::new(alloc);
-    let mut ordinal = 0u16;
-    for (program, ends) in programs {
-        ordinal += 1;
+    for i in 0..programs.len() {
+        let (program, ends) = programs[i];
+        let ordinal = i + 1;
         let text = format!(in alloc; "PROGRAM 1 0\n{program}END\n")?;
         deck.push_str(&text)?;
         events.push_str("START 1 0\nRUN 0\n")?;
