@@ -136,6 +136,14 @@ impl Chain {
         looked_track(&self.hand(ccw))
     }
 
+    /// No command goes on or waits.
+    fn forget(&mut self)
+        ensures { self.new ≡ record self.old { here = None; held = None } }
+    {
+        self.here = None;
+        self.held = None;
+    }
+
     /// The command at hand ended.
     fn end(&mut self, outcome: Outcome) -> CommandEnd
         requires goes_on { GoesOn (self.old.cylinders * 15) self.old.at.stance outcome.stance }
@@ -151,10 +159,9 @@ impl Chain {
             next: goes_to(self.program.ccws(), index, ccw, &outcome),
         };
         let end = end_of(index as u16, ccw, outcome);
+        self.forget();
         self.before = self.at;
         self.at = behind;
-        self.here = None;
-        self.held = None;
         end
     }
 
@@ -289,9 +296,8 @@ impl Chain {
     pub fn again(&mut self)
         ensures { self.new ≡ again_from self.old }
     {
+        self.forget();
         self.at = self.before;
-        self.here = None;
-        self.held = None;
     }
 
     /// How the extent asks for the cache to be used.

@@ -4,6 +4,8 @@
 mod chain;
 mod edit;
 mod progress;
+#[cfg(test)]
+mod tests;
 mod turn;
 
 pub use chain::{Chain, Mark};

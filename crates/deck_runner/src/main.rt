@@ -2,6 +2,8 @@
 #![tactic(auto)]
 
 mod later;
+#[cfg(test)]
+mod program_tests;
 mod report;
 mod task;
 #[cfg(test)]

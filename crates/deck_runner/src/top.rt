@@ -6,7 +6,7 @@ ghost use Rattle.ckd_outside.specs.Causes.{Rose, HasCause};
 ghost use Rattle.ckd_outside.specs.Texts.{Writes, AppendsFront};
 ghost use Rattle.deck_text.specs.DeckLines.{DeckLines};
 ghost use Rattle.deck_runner.specs.Later.{first_later};
-ghost use Rattle.deck_runner.specs.Run.{run_of, DeckRunsPlainly};
+ghost use Rattle.deck_runner.specs.Run.{first_device, run_of, DeckRunsPlainly};
 ghost use Rattle.deck_runner.specs.Answers.{task_by, task_of, usage_text, why_text, refused_text, which_text, limit_text, open_deck, deck_for, TellsDeck, TellsTask, TellsUsage, Tells};
 
 use crate::later::first_later;
@@ -15,8 +15,8 @@ use crate::task::Task;
 use ckd_outside::{
     Failed, LineBuffer, Piece, ReadError, Sink, Source, flush, read_up_to, write_pieces,
 };
-use ckd_types::{DeviceNo, NoMemory};
-use deck_text::{Deck, DeckFault, DeckWhy, Which, read_deck, write_deck};
+use ckd_types::{DeviceNo, Geometry, NoMemory};
+use deck_text::{Deck, DeckFault, DeckWhy, DeviceLine, Which, read_deck, write_deck};
 use plain_run::{RunRecord, run_lines};
 use std::alloc::Global;
 
@@ -153,14 +153,35 @@ fn limit<K: Sink>(sink: &mut K, which: Which) -> Status
     }
 }
 
+/// The first device that is declared, or a 3390 of one cylinder where none is.
+fn first_device(deck: &Deck) -> DeviceLine
+    ensures { result ≡ first_device deck.now.devices }
+{
+    if deck.device_count() == 0 {
+        return DeviceLine {
+            number: DeviceNo::new(0).unwrap(),
+            geometry: Geometry::D3390,
+            cylinders: 1,
+        };
+    }
+    deck.device_at(0)
+}
+
 /// What happens in a deck's run.
 fn run_deck(alloc: Global, deck: &Deck) -> Result<RunRecord, NoMemory>
     requires { first_later deck.now ≡ None }
     ensures run { IfOk result (λ events. events ≡ run_of deck.now) }
     ensures plain { IfOk result (λ events. DeckRunsPlainly deck.now) }
 {
+    let device = first_device(deck);
     let plans = deck.plans(DeviceNo::new(0).unwrap());
-    run_lines(alloc, plans, deck.schedule())
+    run_lines(
+        alloc,
+        device.geometry,
+        device.cylinders,
+        plans,
+        deck.schedule(),
+    )
 }
 
 fn report<K: Sink>(alloc: Global, deck: &Deck, sink: &mut K) -> Status

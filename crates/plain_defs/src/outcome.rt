@@ -43,16 +43,16 @@ pub fn refused(stance: &Stance, c: &Ccw, sense: Sense) -> Outcome
 }
 
 /// The end of a command that moves nothing, whatever its count.
-pub fn immediate(stance: &Stance, c: &Ccw) -> Outcome
+pub fn immediate(stance: &Stance, ccw: &Ccw) -> Outcome
     requires { stance.now.commands < 4096 }
-    ensures { result ≡ immediate stance.now c.now }
+    ensures { result ≡ immediate stance.now ccw.now }
 {
     let mut after = *stance;
     after.commands += 1;
     Outcome {
         stance: after,
         status: UnitStatus::normal(),
-        residual: c.count,
+        residual: ccw.count,
         note: Note::Plain,
         sent: Bytes::new(),
         sense: None,

@@ -3,11 +3,14 @@ use Rattle.std.proofs.Common.{◌≡◌, Option, Some, None, true, false, refl, 
 use Rattle.std.specs.Prelude.{ℕ, IsSome, is_none, is_some, option_map}
 use Rattle.ckd_types.specs.declared.channel.Ccw.{Ccw}
 use Rattle.ckd_types.specs.declared.channel.CommandEnd.{CommandEnd}
-use Rattle.plain_defs.specs.declared.opening.LocalAct.TheVariants.{Sense, SenseId}
+use Rattle.plain_defs.specs.declared.grouping.GroupFault.{GroupFault}
+use Rattle.plain_defs.specs.declared.opening.LocalAct.{LocalAct}
+use Rattle.plain_defs.specs.declared.opening.LocalAct.TheVariants as acts
 use Rattle.plain_defs.specs.declared.opening.Opening.{Opening}
 use Rattle.plain_defs.specs.declared.opening.Opening.TheVariants.{Over, Looks, Asks}
 use Rattle.plain_defs.specs.declared.stance.Stance.{Stance}
-use Rattle.plain_defs.specs.Effect.{effect_by}
+use Rattle.plain_defs.specs.Acts.{act_fault}
+use Rattle.plain_defs.specs.Effect.{effect_by, acted_by}
 use Rattle.plain_defs.specs.Opening.{opening_of}
 use Rattle.plain_defs.specs.PlainState.{PlainState}
 use Rattle.ckd_chain.specs.State.{ChainState}
@@ -15,11 +18,20 @@ use Rattle.ckd_chain.specs.Steps.{word_of}
 use Rattle.plain_run.specs.declared.machine.Running.{Running}
 use Rattle.plain_run.specs.Between.{IsBetween, Ends, running_program}
 
+acted_cylinders : (state : PlainState) (path : ℕ) (s : Stance) (c : Ccw) (act : LocalAct) (fault : Option GroupFault) → (acted_by state path s c act fault).state.cylinders ≡ state.cylinders
+acted_cylinders state path s c act (Some fault) = refl
+acted_cylinders state path s c acts.Sense None = refl
+acted_cylinders state path s c acts.SenseId None = refl
+acted_cylinders state path s c acts.Reserve None = refl
+acted_cylinders state path s c acts.Release None = refl
+acted_cylinders state path s c acts.Steal None = refl
+acted_cylinders state path s c (acts.SetGroup function id) None = refl
+acted_cylinders state path s c acts.SenseGroup None = refl
+
 effect_cylinders : (state : PlainState) (path : ℕ) (s : Stance) (c : Ccw) (how : Opening) → (effect_by state path s c how).state.cylinders ≡ state.cylinders
 effect_cylinders state path s c (Over o) = refl
 effect_cylinders state path s c (Looks z) = refl
-effect_cylinders state path s c (Asks Sense) = refl
-effect_cylinders state path s c (Asks SenseId) = refl
+effect_cylinders state path s c (Asks act) = acted_cylinders state path s c act (act_fault state path act)
 
 some_of : (next : Option ℕ) → is_none next ≡ false → IsSome next
 some_of (Some i) is = refl

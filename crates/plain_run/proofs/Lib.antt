@@ -1,5 +1,6 @@
 pub mod Images
 pub mod Driven
+pub mod Answered
 pub mod Left
 pub mod Behind
 pub mod RunSteps

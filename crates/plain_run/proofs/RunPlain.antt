@@ -1,10 +1,11 @@
 -- After every event of a run the device is one that a plain device could be.
-use Rattle.std.proofs.Common.{◌≡◌, ◌<◌, ◌≤◌, ◌+◌, ◌-◌, ℕ, suc, List, [], ◌∷◌, ◌++◌, Option, Some, None, Bool, true, false, length, take, cond, refl, arith, sym, ap, subst, ◌∙◌, append_assoc, nat_lt}
+use Rattle.std.proofs.Common.{◌≡◌, ◌<◌, ◌≤◌, ◌+◌, ◌-◌, ℕ, suc, List, [], ◌∷◌, ◌++◌, Option, Some, None, Bool, true, false, length, take, cond, refl, arith, sym, ap, subst, inl, inr, ◌∙◌, append_assoc, nat_lt}
 use Rattle.std.specs.List.{list_all}
 use Rattle.std.proofs.lemmas.List.Sums.{sum_by_push}
-use Rattle.std.specs.Prelude.{◌==◌, ◌||◌, All, IfSome, IsSome, slice_index_or, if◌then◌else◌}
-use Rattle.std.proofs.lemmas.List.{append-nil}
-use Rattle.std.proofs.lemmas.List.Elements.{All-nil, All-cons, All-append}
+use Rattle.std.specs.Prelude.{◌==◌, ◌||◌, ◌⊎◌, All, IfSome, IsSome, slice_index_or, if◌then◌else◌}
+use Rattle.std.proofs.lemmas.Bool.{cases_lt}
+use Rattle.std.proofs.lemmas.List.{append-nil, get_or_past}
+use Rattle.std.proofs.lemmas.List.Elements.{All-nil, All-cons, All-append, All-get_or}
 use Rattle.ckd_types.specs.declared.channel.Ccw.{Ccw}
 use Rattle.ckd_types.specs.declared.channel.CommandEnd.{CommandEnd}
 use Rattle.ckd_types.specs.declared.paths.Owner.{Owner}
@@ -14,6 +15,7 @@ use Rattle.plain_defs.specs.declared.journal.How.TheVariants.{Full}
 use Rattle.plain_defs.specs.declared.journal.Item.{Item}
 use Rattle.plain_defs.specs.declared.journal.Item.TheVariants.{Program}
 use Rattle.plain_defs.specs.declared.stance.Stance.{Stance}
+use Rattle.plain_defs.specs.Built.{IsBuilt}
 use Rattle.plain_defs.specs.Chain.{Part, part_from, part_of, whole_run, begun, starts_with_sense, end_of, is_over, goes_to, onto}
 use Rattle.plain_defs.specs.Effect.{Effect, command_effect}
 use Rattle.plain_defs.specs.Journal.{Plans, program_of, is_of_path, IsLegal}
@@ -25,7 +27,7 @@ use Rattle.plain_defs.proofs.PartLemmas.{none_left, one_more}
 use Rattle.deck_plan.specs.Plans.{plan_of}
 use Rattle.plain_run.specs.declared.event.RunEvent.{RunEvent}
 use Rattle.plain_run.specs.declared.event.RunEvent.TheVariants.{Accepted, AlreadyRunning, PlanDone, Ended}
-use Rattle.plain_run.specs.Belongs.{kept_last, IsFront, at_rest, IsAtCommand, IsIdle, IsAt, Belongs, Follows}
+use Rattle.plain_run.specs.Belongs.{AreBuilt, kept_last, IsFront, at_rest, IsAtCommand, IsIdle, IsAt, Belongs, Follows}
 use Rattle.plain_run.specs.Between.{Counted, Counts}
 use Rattle.plain_run.specs.Kept.{Open, Kept, kept_after, kept_from, IsPlain, nothing_kept, ends_so_far}
 use Rattle.plain_run.specs.Run.{Did, begin_with, start, one_command, step, ended_at, goes_on_at}
@@ -82,8 +84,15 @@ begun_owner : (b : Bool) (s : PlainState) → (if b then s else with_sense s 1 (
 begun_owner true s = refl
 begun_owner false s = refl
 
-still_free : (s : PlainState) (ccws : List Ccw) → s.owner ≡ None → (whole_run s 1 ccws).state.owner ≡ None
-still_free s ccws free = part_owner 1 ccws 4096 (begun s 1 ccws) first_stance (Some 0) ∙ begun_owner (starts_with_sense ccws) s ∙ free
+still_free : (s : PlainState) (ccws : List Ccw) → All IsBuilt ccws → s.owner ≡ None → (whole_run s 1 ccws).state.owner ≡ None
+still_free s ccws built free = part_owner 1 ccws built 4096 (begun s 1 ccws) first_stance (Some 0) ∙ begun_owner (starts_with_sense ccws) s ∙ free
+
+-- no program of path 1 takes or frees the device
+program_built : (plans : Plans) → AreBuilt plans → (n : ℕ) → All IsBuilt (program_of plans 1 n)
+program_built plans built n = by_place (cases_lt (n - 1) (length (plan_of plans 1))) where
+  by_place : (n - 1 < length (plan_of plans 1)) ⊎ (length (plan_of plans 1) ≤ n - 1) → All IsBuilt (program_of plans 1 n)
+  by_place (inl inside) = All-get_or (λ (ccws : List Ccw). All IsBuilt ccws) (plan_of plans 1) (n - 1) [] inside built
+  by_place (inr outside) = subst (λ (ccws : List Ccw). All IsBuilt ccws) (sym (get_or_past (plan_of plans 1) (n - 1) [] outside)) (All-nil IsBuilt)
 
 admitted_free : (s : PlainState) (ccws : List Ccw) → s.owner ≡ None → is_admitted s 1 ccws ≡ true
 admitted_free s ccws free = ap (λ (o : Option Owner). is_free_for o (owner_of s 1) || ((ccw_at ccws 0).command == 0x14) || list_all asks_for_group ccws) free
@@ -137,7 +146,7 @@ module _ (empty : PlainState) (plans : Plans) where
         };
       }
 
-  module _ (m : MachineState) (k : Kept) (r : RunningProgram) (i : ℕ) (b : Belongs empty plans m k) (at : IsAtCommand empty plans m k r) (next_is : r.next ≡ Some i) where
+  module _ (m : MachineState) (k : Kept) (r : RunningProgram) (i : ℕ) (built : AreBuilt plans) (b : Belongs empty plans m k) (at : IsAtCommand empty plans m k r) (next_is : r.next ≡ Some i) where
     effect : Effect
     effect = command_effect m.device 1 r.stance (ccw_at r.ccws i)
 
@@ -175,7 +184,7 @@ module _ (empty : PlainState) (plans : Plans) where
             at = record {
               others = at.others ∙ sym (sum_by_push (λ (x : Item). cond (is_of_path 1 x) 1 0) k.items item);
               device = state_is ∙ sym (replay-append plans empty k.items (item ∷ []));
-              free = ap (λ (x : PlainState). x.owner) (replay-append plans empty k.items (item ∷ [])) ∙ still_free rest p at.free;
+              free = ap (λ (x : PlainState). x.owner) (replay-append plans empty k.items (item ∷ [])) ∙ still_free rest p (program_built plans built r.ordinal) at.free;
               running = refl;
             };
           })
@@ -212,7 +221,7 @@ counted_by : (r : RunningProgram) (e : Effect) (g : Option ℕ) → IfSome (goes
 counted_by r e (Some j) h some = h
 counted_by r e None h some = absurd (cc)
 
-module _ (empty : PlainState) (plans : Plans) (m n : MachineState) (before now : List RunEvent) (f : Follows empty plans m before) where
+module _ (empty : PlainState) (plans : Plans) (m n : MachineState) (before now : List RunEvent) (built : AreBuilt plans) (f : Follows empty plans m before) where
   at_word : (r : RunningProgram) (y : Option ℕ) → r.next ≡ y → IsAtCommand empty plans m (kept_last nothing_kept before) r → Did n before now (one_command m r y) → Counted r n.running → Follows empty plans n now
   unfolding effect end
   at_word r None is at did counts = absurd (subst (λ (x : Option ℕ). IsSome x → ⊥) (sym is) (λ some. (cc)) counts.running)
@@ -222,7 +231,7 @@ module _ (empty : PlainState) (plans : Plans) (m n : MachineState) (before now :
       let counted = subst (λ (x : MachineState). IfSome x.running (λ q. q.stance.commands ≡ r.stance.commands + 1)) did.machine_is counts.counted in
       event_more empty plans n before now (Ended r.ordinal (end_of i (ccw_at r.ccws i) e.outcome)) f.plain did.events_are
       (subst (λ (x : MachineState). Belongs empty plans x (kept_after k (Ended r.ordinal (end_of i (ccw_at r.ccws i) e.outcome)))) (sym did.machine_is)
-      (moved_belongs empty plans m k r i f.belongs at is counts.room (counted_by r e (goes_to r.ccws i e.outcome) counted) (is_over (ccw_at r.ccws i) e.outcome) refl))
+      (moved_belongs empty plans m k r i built f.belongs at is counts.room (counted_by r e (goes_to r.ccws i e.outcome) counted) (is_over (ccw_at r.ccws i) e.outcome) refl))
 
   running_by : (x : Option RunningProgram) → IsAt empty plans m (kept_last nothing_kept before) x → IsSome x → Did n before now (step m x) → Counts x n.running → Follows empty plans n now
   running_by None at some did counts = absurd (cc)

@@ -3,9 +3,11 @@ use Rattle.std.specs.Prelude.{◌≡◌, ℕ, ◌+◌, ◌-◌, List, [], ◌∷
 use Rattle.ckd_types.specs.declared.channel.Ccw.{Ccw}
 use Rattle.ckd_types.specs.declared.channel.CommandEnd.{CommandEnd}
 use Rattle.plain_defs.specs.declared.stance.Stance.{Stance}
+use Rattle.plain_defs.specs.Built.{IsBuilt}
 use Rattle.plain_defs.specs.Chain.{part_from, whole_run}
 use Rattle.plain_defs.specs.Journal.{Plans, program_of, is_of_path, replay, IsLegal}
 use Rattle.plain_defs.specs.PlainState.{PlainState}
+use Rattle.deck_plan.specs.Plans.{plan_of}
 use Rattle.plain_run.specs.declared.event.RunEvent.{RunEvent}
 use Rattle.plain_run.specs.Kept.{Kept, kept_after, kept_from, nothing_kept, IsPlain}
 use Rattle.plain_run.specs.State.{RunningProgram, MachineState}
@@ -56,9 +58,13 @@ pub record Follows (empty : PlainState) (plans : Plans) (m : MachineState) (even
   pub plain : All (IsPlain empty plans) (kept_from nothing_kept events)
   pub belongs : Belongs empty plans m (kept_last nothing_kept events)
 
+-- no program of path 1 takes or frees the device
+abbrev pub AreBuilt : Plans → Type 0
+AreBuilt plans = All (λ (ccws : List Ccw). All IsBuilt ccws) (plan_of plans 1)
+
 -- what is plain stays plain
 abbrev pub Keeps : Plans → MachineState → MachineState → List RunEvent → List RunEvent → Type 0
-Keeps plans m n before now = (empty : PlainState) → Follows empty plans m before → Follows empty plans n now
+Keeps plans m n before now = (empty : PlainState) → AreBuilt plans → Follows empty plans m before → Follows empty plans n now
 
 -- whatever is planned
 abbrev pub KeepsAll : MachineState → MachineState → List RunEvent → List RunEvent → Type 0

@@ -1,38 +1,52 @@
 ghost use Rattle.std.specs.Prelude.{◌≡◌, ◌<◌, ◌≤◌, ◌*◌, ◌+◌, IfOk, IfSome, IsSome, OnOk, OnErr, Some, None, length};
 ghost use Rattle.ckd_chain.specs.Steps.{hand_of, need_of};
-ghost use Rattle.plain_defs.specs.Acts.{act_bytes, act_state};
+ghost use Rattle.plain_defs.specs.Acts.{sensed};
 ghost use Rattle.plain_defs.specs.Chain.{begun};
-ghost use Rattle.plain_defs.specs.PlainState.{empty_state, with_sense};
+ghost use Rattle.plain_defs.specs.PlainState.{empty_state, sense_for, with_sense};
 ghost use Rattle.plain_defs.specs.Room.{Opens};
+ghost use Rattle.plain_defs.specs.declared.opening.LocalAct.TheVariants.{SetGroup};
+ghost use Rattle.ckd_chain.specs.declared.progress.Settled.TheVariants.{Sent};
+ghost use Rattle.plain_run.specs.Acted.{settled_act, device_after};
 ghost use Rattle.plain_run.specs.Between.{IsBetween, Ends};
 
 use crate::volume::Images;
 use ckd_ccw::Program;
 use ckd_chain::{Chain, LocalAct, Progress, Settled};
 use ckd_sense::zero;
-use ckd_types::{Bytes, CommandEnd, Geometry, NoMemory, Sense, TrackNo};
-use plain_defs::{sense_id_bytes, starts_with_sense};
+use ckd_types::{Bytes, CommandEnd, Geometry, GroupId, NoMemory, PathNo, Sense, TrackNo};
+use path_group::Groups;
+use plain_defs::{group_bytes, sense_id_bytes, starts_with_sense};
+use reserve_state::Reserve;
 use std::alloc::Global;
 use std::marker::Model;
 
-/// An uncached device of which path 1 alone is used: its volume, and the sense of each path.
+/// An uncached device of which path 1 alone is used: its volume, the groups of its paths, who holds it,
+/// and the sense of each path.
 #[derive(Debug, Drop)]
 pub struct Device {
     cylinders: u8,
     volume: Images,
+    groups: Groups,
+    reserve: Reserve,
     senses: [Sense; 4],
 }
 
 impl Model for Device {
-    ghost use Rattle.std.specs.Prelude.{◌≡◌, ◌≤◌, ◌*◌, length, replicate, None};
-    ghost use Rattle.ckd_types.specs.declared.paths.PathState.TheVariants.{Reset};
+    ghost use Rattle.std.specs.Prelude.{◌≡◌, ◌≤◌, ◌*◌, length};
     ghost use Rattle.plain_defs.specs.PlainState.{PlainState};
 
     ghost Value = { PlainState };
 
-    ghost view = { λ d. record { geometry = d.volume.geometry; cylinders = d.cylinders; volume = d.volume.tracks; paths = replicate 4 Reset; owner = None; senses = d.senses } };
+    ghost view = { λ d. record { geometry = d.volume.geometry; cylinders = d.cylinders; volume = d.volume.tracks; paths = d.groups; owner = d.reserve; senses = d.senses } };
 
     ghost invariant = { λ d. (1 ≤ d.cylinders) × (d.cylinders ≤ 64) × (length d.volume.tracks ≡ d.cylinders * 15) };
+}
+
+/// The path of all programs so far.
+pub fn path() -> PathNo
+    ensures { result ≡ 1 }
+{
+    PathNo::new(1).unwrap()
 }
 
 impl Device {
@@ -45,6 +59,8 @@ impl Device {
         Ok(Device {
             cylinders,
             volume: Images::empty(alloc, geometry, cylinders)?,
+            groups: Groups::new(),
+            reserve: Reserve::new(),
             senses: [zero(); 4],
         })
     }
@@ -75,19 +91,54 @@ impl Device {
         }
     }
 
-    /// The bytes that the device answers an act, which it then does.
-    fn act(&mut self, alloc: Global, act: LocalAct) -> Result<Bytes, NoMemory>
-        ensures bytes { IfOk result (λ bytes. bytes ≡ act_bytes self.old 1 act) }
-        ensures after { OnOk result (self.new ≡ act_state self.old 1 act) }
+    /// Sends the sense of the path, which is then zero.
+    fn sensed(&mut self, alloc: Global) -> Result<Settled, NoMemory>
+        ensures how { IfOk result (λ how. how ≡ Sent (sense_for self.old 1).bytes) }
+        ensures after { OnOk result (self.new ≡ sensed self.old 1) }
+    {
+        let bytes = Bytes::from_slice(alloc, &self.senses[0].bytes)?;
+        self.keep_sense(Some(zero()));
+        Ok(Settled::Sent(bytes))
+    }
+
+    fn set_group(&mut self, function: u8, id: GroupId) -> Settled
+        ensures how { result ≡ settled_act self.old (SetGroup function id) }
+        ensures after { self.new ≡ device_after self.old (SetGroup function id) }
+    {
+        match self.groups.set(path(), function, id) {
+            Ok(()) => {
+                self.reserve
+                    .group_set(self.groups.paths(), path(), function, id);
+                Settled::Written
+            }
+            Err(_) => Settled::BadParameter,
+        }
+    }
+
+    /// Does what a command asks, and says how the command is to be settled.
+    fn act(&mut self, alloc: Global, act: LocalAct) -> Result<Settled, NoMemory>
+        ensures how { IfOk result (λ how. how ≡ settled_act self.old act) }
+        ensures after { OnOk result (self.new ≡ device_after self.old act) }
     {
         match act {
-            LocalAct::Sense => {
-                let bytes = Bytes::from_slice(alloc, &self.senses[0].bytes)?;
-                self.keep_sense(Some(zero()));
-                Ok(bytes)
+            LocalAct::Sense => self.sensed(alloc),
+            LocalAct::Reserve | LocalAct::Steal => {
+                self.reserve.steal(self.groups.owner_of(path()));
+                self.sensed(alloc)
+            }
+            LocalAct::Release => {
+                self.reserve.free();
+                self.sensed(alloc)
             }
             LocalAct::SenseId => {
-                Bytes::from_slice(alloc, &sense_id_bytes(self.volume.geometry()))
+                let bytes = Bytes::from_slice(alloc, &sense_id_bytes(self.volume.geometry()))?;
+                Ok(Settled::Sent(bytes))
+            }
+            LocalAct::SetGroup { function, id } => Ok(self.set_group(function, id)),
+            LocalAct::SenseGroup => {
+                let state = self.groups.paths()[0];
+                let bytes = group_bytes(state, path(), self.reserve.owner());
+                Ok(Settled::Sent(Bytes::from_slice(alloc, &bytes)?))
             }
         }
     }
@@ -137,8 +188,10 @@ impl Device {
                 Ok(end)
             }
             Progress::Local(act) => {
-                let bytes = self.act(alloc, act)?;
-                Ok(chain.settle(Settled::Sent(bytes)))
+                let how = self.act(alloc, act)?;
+                let end = chain.settle(how);
+                self.keep_sense(end.sense);
+                Ok(end)
             }
             Progress::Need(_) | Progress::Write { .. } => unreachable!(),
         }

@@ -7,6 +7,8 @@ mod event;
 mod machine;
 mod record;
 mod run;
+#[cfg(test)]
+mod tests;
 mod volume;
 
 pub use event::RunEvent;

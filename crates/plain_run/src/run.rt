@@ -7,21 +7,14 @@ ghost use Rattle.plain_run.specs.Belongs.{Keeps, KeepsAll};
 ghost use Rattle.plain_run.specs.Between.{Counts};
 ghost use Rattle.plain_run.specs.Kept.{RunsPlainly};
 
-use crate::device::Device;
+use crate::device::{Device, path};
 use crate::machine::{Machine, Running};
 use crate::{RunEvent, RunRecord};
 use ckd_ccw::Program;
 use ckd_chain::Chain;
-use ckd_types::{Geometry, NoMemory, PathNo};
+use ckd_types::{Geometry, NoMemory};
 use deck_plan::{EventLine, PathPlans, Schedule};
 use std::alloc::Global;
-
-/// The path of all programs so far.
-fn path() -> PathNo
-    ensures { result ≡ 1 }
-{
-    PathNo::new(1).unwrap()
-}
 
 fn first_machine(alloc: Global, geometry: Geometry, cylinders: u8) -> Result<Machine, NoMemory>
     requires some { 1 ≤ cylinders }

@@ -18,14 +18,14 @@ pub loop-alloc-preserved : goal.loop-alloc-preserved
 loop-alloc-preserved c =
     let some = subst (λ (m : MachineState). IsSome m.running) c.machine-in-loop-alloc.view_is (mapped_some c.machine-in-loop-alloc.inside.running (sym c.is_some.ensures ∙ c.loop-alloc-test.true)) in
     let more = left_more c.loop-alloc.machine c.one_command.new.machine c.loop-alloc.happened c.one_command.new.happened some c.in_ok-one_command.ensures.did c.in_ok-one_command.ensures.counts in
-    (more.0 ∙ c.loop-alloc.invariant.0, more.1 ∙ c.loop-alloc.invariant.1, λ plans empty f. c.in_ok-one_command.ensures.keeps plans empty (c.loop-alloc.invariant.2 plans empty f))
+    (more.0 ∙ c.loop-alloc.invariant.0, more.1 ∙ c.loop-alloc.invariant.1, λ plans empty built f. c.in_ok-one_command.ensures.keeps plans empty built (c.loop-alloc.invariant.2 plans empty built f))
 
 pub loop-alloc-init : goal.loop-alloc-init
-loop-alloc-init c = (refl, refl, λ plans empty f. f)
+loop-alloc-init c = (refl, refl, λ plans empty built f. f)
 
 pub returns-then-is_none-clause-keeps : goal.returns-then-is_none-clause-keeps
-returns-then-is_none-clause-keeps c = λ plans empty f.
-    idle_keeps empty plans c.args.machine.now c.args.machine.now c.args.happened.now c.push.new.self f RunIdle refl (record { machine_is = refl; events_are = c.in_ok-push.ensures })
+returns-then-is_none-clause-keeps c = λ plans empty built f.
+    idle_keeps empty plans c.args.machine.now c.args.machine.now c.args.happened.now c.push.new.self built f RunIdle refl (record { machine_is = refl; events_are = c.in_ok-push.ensures })
 
 pub returns : goal.returns
 returns c =

@@ -28,5 +28,5 @@ loop-line-preserved c =
     subst (λ (l : List EventLine). c.line-item.result ≡ get_or l c.loop-line.line-index c.line-item.result) lines c.line-item.is in (
       line_more (plan_of plans 1) c.loop-line.machine c.line_done.new.machine c.loop-line.happened c.line_done.new.happened c.args.schedule.now.items c.loop-line.line-index c.line-item.result inside is c.in_ok-line_done.ensures.did
           ∙ c.loop-line.invariant.0,
-      c.in_ok-line_done.ensures.keeps (empty_state c.args.geometry c.args.cylinders) c.loop-line.invariant.1,
+      c.in_ok-line_done.ensures.keeps (empty_state c.args.geometry c.args.cylinders) c.requires.built c.loop-line.invariant.1,
     )

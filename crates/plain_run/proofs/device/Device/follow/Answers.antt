@@ -1,7 +1,6 @@
 use Rattle.std.proofs.Common.{◌≡◌, ◌<◌, ◌*◌, length, refl, ap, sym, subst, arith, ◌∙◌}
-use Rattle.std.specs.Prelude.{slice_set, replicate, IsSome, None}
+use Rattle.std.specs.Prelude.{slice_set, IsSome}
 use Rattle.ckd_types.specs.declared.geometry.Geometry.{Geometry}
-use Rattle.ckd_types.specs.declared.paths.PathState.TheVariants.{Reset}
 use Rattle.ckd_types.specs.Edit.{apply_edit}
 use Rattle.ckd_types.specs.Volume.{track_in}
 use Rattle.plain_defs.specs.PlainState.{PlainState, with_sense}
@@ -72,7 +71,7 @@ returns-in-Write c =
           ∙ ap (λ (x : PlainState). slice_set x.volume c.in-Write.track (apply_edit c.in-Write.edit (track_in x.volume c.in-Write.track))) (c.self-in-loop-turn.view_is ∙ c.loop-turn.invariant.1))
           c.settle-end.ensures.end c.settle-end.ensures.chain
           (c.keep_sense-in-Write.ensures
-          ∙ ap (λ (g : Geometry). with_sense (record { geometry = g; cylinders = c.self-in-loop-turn.inside.cylinders; volume = c.edit.new.self.tracks; paths = replicate 4 Reset; owner = None; senses = c.self-in-loop-turn.inside.senses }) 1 c.settle-end.result.sense)
+          ∙ ap (λ (g : Geometry). with_sense (record { geometry = g; cylinders = c.self-in-loop-turn.inside.cylinders; volume = c.edit.new.self.tracks; paths = c.self-in-loop-turn.inside.groups; owner = c.self-in-loop-turn.inside.reserve; senses = c.self-in-loop-turn.inside.senses }) 1 c.settle-end.result.sense)
           (ap (λ (v : ImageVolume). v.geometry) c.in_ok-edit-in-Write.ensures.done)
           ∙ ap (λ (x : PlainState). with_sense (record x { volume = c.edit.new.self.tracks }) 1 c.settle-end.result.sense) (c.self-in-loop-turn.view_is ∙ c.loop-turn.invariant.1))
           c.settle-end.ensures.counted;
