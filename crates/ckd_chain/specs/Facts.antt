@@ -1,8 +1,8 @@
 -- What a running chain keeps to.
-use Rattle.std.specs.Prelude.{◌≡◌, ℕ, ◌+◌, ◌*◌, ◌≤◌, ◌<◌, length, IfSome, ⊤, Option, Some, None}
+use Rattle.std.specs.Prelude.{◌≡◌, ℕ, ◌+◌, ◌*◌, ◌≤◌, ◌<◌, length, IfSome, ⊤, Option, Some}
 use Rattle.ckd_chain.specs.declared.chain.Mark.{Mark}
 use Rattle.ckd_chain.specs.declared.progress.Progress.{Progress}
-use Rattle.ckd_chain.specs.declared.progress.Progress.TheVariants.{Ended, Need, Write, Local}
+use Rattle.ckd_chain.specs.declared.progress.Progress.TheVariants.{Ended, Need, Write}
 use Rattle.ckd_chain.specs.State.{ChainState}
 use Rattle.plain_defs.specs.declared.opening.Opening.{Opening}
 use Rattle.plain_defs.specs.declared.opening.Opening.TheVariants.{Looks}
