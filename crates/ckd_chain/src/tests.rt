@@ -72,7 +72,7 @@ fn volume(alloc: Global) -> Result<Vec<TrackImage>, Fail> {
 fn command(
     alloc: Global,
     chain: &mut Chain,
-    images: &mut [TrackImage],
+    images: &mut Vec<TrackImage>,
 ) -> Result<CommandEnd, Fail> {
     for _turn in 0..16 {
         if chain.over() {
@@ -105,21 +105,21 @@ fn command(
 }
 
 /// Makes a format or a replacement of data.
-fn made(images: &mut [TrackImage], track: TrackNo, edit: Edit) -> Result<(), Fail> {
+fn made(images: &mut Vec<TrackImage>, track: TrackNo, edit: Edit) -> Result<(), Fail> {
     let at = usize::from(track.get());
     if at >= images.len() {
         return Err(Fail::from("no such track"));
     }
+    let Edit::Format { after, added } = edit else {
+        return Err(Fail::from("no format"));
+    };
     let image = &mut images[at];
-    match edit {
-        Edit::Format { after, added }
-            if after < image.len() && added.key.len() <= 255 && added.body.len() <= 65534 => {
-            match image.cut_and_add(after, added) {
-                Ok(()) => Ok(()),
-                Err(_) => Err(Fail::from("the record does not fit")),
-            }
-        }
-        _ => Err(Fail::from("no format")),
+    if after >= image.len() || added.key.len() > 255 || added.body.len() > 65534 {
+        return Err(Fail::from("no record of this track"));
+    }
+    match image.cut_and_add(after, added) {
+        Ok(()) => Ok(()),
+        Err(_) => Err(Fail::from("the record does not fit")),
     }
 }
 
@@ -132,14 +132,12 @@ fn compare(rt: &impl Abort, alloc: Global, words: &[Word], commands: usize) -> R
     let expected = plain.run(alloc, path, made.ccws())?;
     let mut images = volume(alloc)?;
     let mut chain = Chain::begin(made, 1);
-    let mut count = 0;
     for other in expected.as_slice() {
         let end = command(alloc, &mut chain, &mut images)?;
         assert!(rt; same(&end, other));
-        count += 1;
     }
     assert!(rt; chain.over());
-    assert_eq!(rt; count, commands);
+    assert_eq!(rt; expected.as_slice().len(), commands);
     Ok(())
 }
 

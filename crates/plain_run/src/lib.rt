@@ -7,8 +7,6 @@ mod event;
 mod machine;
 mod record;
 mod run;
-#[cfg(test)]
-mod tests;
 mod volume;
 
 pub use event::RunEvent;
