@@ -9,13 +9,10 @@ use crate::candidate::search_candidate;
 use ckd_sense::{INVALID_COMMAND, reject};
 use ckd_types::{Ccw, Command, command_of, is_multitrack};
 use plain_defs::{
-    Outcome, Place, Sought, Stance, Turned, cchh_bytes, find_from, id_bytes, place_on, refused,
-    search_found,
+    Outcome, Place, Sought, Stance, TRACKS, Turned, cchh_bytes, find_from, id_bytes, place_on,
+    refused, search_found,
 };
 use track_image::TrackImage;
-
-/// The most tracks that a device has.
-pub const TRACKS: usize = 960;
 
 /// Searches record `i`, or the home address.
 fn search_here(

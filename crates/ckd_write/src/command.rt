@@ -12,9 +12,6 @@ use plain_defs::{After, Stance, Turned, refused};
 use std::alloc::Global;
 use track_image::TrackImage;
 
-/// The most tracks that a device has.
-pub const TRACKS: usize = 960;
-
 /// What a write does to the track that the chain is on. A format on the next track is not moved to
 /// it: the stance is there already. The command is one of the write group, and no check of its word
 /// and its stance refuses it.

@@ -6,11 +6,10 @@ ghost use Rattle.plain_defs.specs.Sought.{IsHere, IsOnward};
 ghost use Rattle.plain_defs.specs.Turn.{Turns};
 ghost use Rattle.plain_defs.specs.Updates.{after_update, update_ended, update_data, update_key_data, update_record, update_sought, update_on};
 
-use crate::command::TRACKS;
 use ckd_types::{Bytes, Ccw, Edit, NoMemory};
 use plain_defs::{
-    After, Outcome, Place, Sought, Stance, Turned, ended, find_from, given_at, if_there, next_area,
-    one_less, place_on, refused, status_of,
+    After, Outcome, Place, Sought, Stance, TRACKS, Turned, ended, find_from, given_at, if_there,
+    next_area, one_less, place_on, refused, status_of,
 };
 use std::alloc::Global;
 use track_image::TrackImage;

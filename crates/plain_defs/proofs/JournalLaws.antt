@@ -22,7 +22,7 @@ follows_more (Cut effect) path (Fresh ∷ xs) ys h = absurd h
 
 item_more : (plans : Plans) (s : PlainState) (earlier : List Item) (y : Item) (later more : List Item) → IsLegalItem plans s earlier y later → IsLegalItem plans s earlier y (later ++ more)
 item_more plans s earlier (Program e) later more h = (h.0, follows_more e.how e.path later more h.1)
-item_more plans s earlier (Reset p) later more h = tt
+item_more plans s earlier (Reset p) later more h = h
 item_more plans s earlier Fresh later more h = tt
 
 -- a legal item behind a legal journal
@@ -43,12 +43,12 @@ follows_less (Cut effect) path Fresh ys zs h = absurd h
 
 item_less : (plans : Plans) (s : PlainState) (earlier : List Item) (x y : Item) (ys zs : List Item) → IsLegalItem plans s earlier x (y ∷ ys) → IsLegalItem plans s earlier x (y ∷ zs)
 item_less plans s earlier (Program e) y ys zs h = (h.0, follows_less e.how e.path y ys zs h.1)
-item_less plans s earlier (Reset p) y ys zs h = tt
+item_less plans s earlier (Reset p) y ys zs h = h
 item_less plans s earlier Fresh y ys zs h = tt
 
 item_last : (plans : Plans) (s : PlainState) (earlier : List Item) (x : Item) (later : List Item) → IsLegalItem plans s earlier x later → IsUncut x → IsLegalItem plans s earlier x []
 item_last plans s earlier (Program e) later h uncut = (h.0, uncut)
-item_last plans s earlier (Reset p) later h uncut = tt
+item_last plans s earlier (Reset p) later h uncut = h
 item_last plans s earlier Fresh later h uncut = tt
 
 -- a front that ends with no program that was cut

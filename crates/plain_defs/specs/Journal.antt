@@ -1,5 +1,5 @@
 -- What a device's journal holds, the plain device that it leads to, and which journals a plain device could have made.
-use Rattle.std.specs.Prelude.{◌≡◌, ◌⊎◌, ℕ, ◌+◌, ◌-◌, ◌==◌, ◌≤◌, Bool, true, false, List, [], ◌∷◌, ◌++◌, take, length, count_by, slice_index_or, Option, None, Some, ⊤}
+use Rattle.std.specs.Prelude.{◌≡◌, ◌⊎◌, ℕ, ◌+◌, ◌-◌, ◌==◌, ◌&&◌, ◌||◌, ◌≤◌, not, Bool, true, false, List, [], ◌∷◌, ◌++◌, take, length, count_by, slice_index_or, Option, None, Some, ⊤}
 use Rattle.ckd_types.specs.declared.channel.Ccw.{Ccw}
 use Rattle.ckd_types.specs.declared.channel.CommandEnd.{CommandEnd}
 use Rattle.ckd_types.specs.declared.channel.Note.TheVariants.{Plain}
@@ -108,9 +108,20 @@ IsUncut (Program e) = FollowsCut e.how e.path []
 IsUncut (Reset path) = ⊤
 IsUncut Fresh = ⊤
 
+-- whether a path ran a program since its last reset
+abbrev pub used_by : ℕ → Bool → Item → Bool
+used_by path used (Program e) = (e.path == path) || used
+used_by path used (Reset p) = not (p == path) && used
+used_by path used Fresh = used
+
+abbrev pub is_used : ℕ → Bool → List Item → Bool
+is_used path used [] = used
+is_used path used (x ∷ xs) = is_used path (used_by path used x) xs
+
+-- a reset of a path that was not used since its last one is no item
 abbrev pub IsLegalItem : Plans → PlainState → List Item → Item → List Item → Type 0
 IsLegalItem plans state earlier (Program e) later = IsLegalEntry plans state earlier e × FollowsCut e.how e.path later
-IsLegalItem plans state earlier (Reset path) later = ⊤
+IsLegalItem plans state earlier (Reset path) later = is_used path false earlier ≡ true
 IsLegalItem plans state earlier Fresh later = ⊤
 
 abbrev pub IsLegalFrom : Plans → PlainState → List Item → List Item → Type 0

@@ -1,9 +1,16 @@
-//! Laws of journals.
+//! Laws of programs and of journals.
 
-ghost use Rattle.std.specs.Prelude.{◌≡◌, ◌++◌, ◌∷◌, [], List};
+ghost use Rattle.std.specs.Prelude.{◌≡◌, ℕ, ◌≤◌, ◌++◌, ◌∷◌, [], List, take};
+ghost use Rattle.ckd_types.specs.declared.channel.Ccw.{Ccw};
+ghost use Rattle.plain_defs.specs.Chain.{part_of};
 ghost use Rattle.plain_defs.specs.declared.journal.Item.{Item};
 ghost use Rattle.plain_defs.specs.PlainState.{PlainState};
 ghost use Rattle.plain_defs.specs.Journal.{Plans, replay, replay_item, IsUncut, IsLegalItem, IsLegal};
+
+/// The ends of a program's first commands are its first ends.
+pub fn first_ends()
+    ensures { (state : PlainState) (path : ℕ) (ccws : List Ccw) (k n : ℕ) → k ≤ n → (part_of state path ccws k).ends ≡ take k (part_of state path ccws n).ends }
+{}
 
 /// One item more leads to what that item makes of the device behind the others.
 pub fn replays_one_more()

@@ -31,15 +31,15 @@ pub use chain::{end_of, goes_to, no_ccw, word_at};
 pub use control::located;
 pub use device::{PlainDevice, starts_with_sense};
 pub use finding::{
-    Sought, find_from, home_from, if_there, next_area, next_count, next_data, next_id, next_key,
-    place_on, record_of, zero_from,
+    Sought, TRACKS, find_from, home_from, if_there, next_area, next_count, next_data, next_id,
+    next_key, place_on, record_of, zero_from,
 };
 pub use grouping::{
     GroupFault, group_bytes, group_fault, is_in_group, is_same_owner, owner_after, owner_by,
     owner_set, set_paths, state_byte,
 };
 pub use journal::{Entry, How, Item, Journal};
-pub use law::{legal_front, legal_with_one_more, replays_one_more};
+pub use law::{first_ends, legal_front, legal_with_one_more, replays_one_more};
 pub use opening::{LocalAct, Opening, opening_of};
 pub use outcome::{Outcome, Turned, ended, immediate, refused};
 pub use params::{domain_of, given};
