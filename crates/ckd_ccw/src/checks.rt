@@ -1,9 +1,8 @@
 ghost use Rattle.std.specs.Prelude.{◌≡◌, ◌<◌, ◌≤◌, length};
 ghost use Rattle.ckd_types.specs.Ccw.{ccw_at};
-ghost use Rattle.ckd_types.specs.Commands.{is_search};
 ghost use Rattle.ckd_types.specs.Program.{is_bad_command, is_input, has_too_much, runs_past_end, fault_of};
 
-use ckd_types::{Ccw, Group, Why, command_of, group_of};
+use ckd_types::{Ccw, Why, is_search};
 
 /// The flag bits that no program sets.
 const UNUSED_FLAGS: u8 = 0x8f;
@@ -18,15 +17,6 @@ fn is_input(code: u8) -> bool
     ensures { result ≡ is_input code }
 {
     code % 4 == 2 || code % 16 == 4 || code % 16 == 12
-}
-
-pub fn is_search(code: u8) -> bool
-    ensures { result ≡ is_search code }
-{
-    match command_of(code) {
-        Some(command) => matches!(group_of(command), Group::Search),
-        None => false,
-    }
 }
 
 fn has_too_much(ccw: &Ccw) -> bool

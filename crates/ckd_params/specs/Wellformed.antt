@@ -1,13 +1,9 @@
 -- Which extents and domains parameters have on a device.
-use Rattle.std.specs.Prelude.{◌≡◌, ℕ, ◌*◌, ◌==◌, ◌<◌, ◌≤◌, Bool, true, false}
-use Rattle.std.specs.Int.RustNames.{bit_and}
+use Rattle.std.specs.Prelude.{◌≡◌, ℕ, ◌*◌, ◌<◌, ◌≤◌, true, false}
 use Rattle.ckd_types.specs.declared.parameters.Extent.{Extent}
 use Rattle.ckd_types.specs.declared.parameters.Domain.{Domain}
+use Rattle.ckd_types.specs.Mask.{is_mask}
 use Rattle.ckd_types.specs.Parameters.{is_bad_count}
-
--- bit 2 is clear
-abbrev pub is_mask : ℕ → Bool
-is_mask byte = bit_and byte 0x20 == 0
 
 -- an extent of a device with this many cylinders
 pub record IsExtent (cylinders : ℕ) (e : Extent) : Type 0 where

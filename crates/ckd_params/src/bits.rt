@@ -1,9 +1,6 @@
 /// Bytes of the parameters of either command.
 pub const PARAMETERS: usize = 16;
 
-/// The bit of the mask that is clear.
-pub const RESERVED_MASK: u8 = 0x20;
-
 /// The bits of the attributes that are set.
 pub const ARCHITECTURE: u8 = 0xc0;
 

@@ -1,24 +1,17 @@
-ghost use Rattle.std.specs.Prelude.{◌≡◌, ◌+◌, ◌<◌, ◌≤◌, IfOk, length, slice_index};
+ghost use Rattle.std.specs.Prelude.{◌≡◌, ◌+◌, ◌*◌, ◌<◌, ◌≤◌, IfOk, IfSome, length, slice_index};
 ghost use Rattle.ckd_types.specs.Geometry.{track_at};
-ghost use Rattle.ckd_types.specs.Parameters.{cchh_at, attributes_mode, orientation_of, is_bad_count, extent_of, domain_of};
-ghost use Rattle.ckd_params.specs.Wellformed.{is_mask, IsExtent, IsDomain};
+ghost use Rattle.ckd_types.specs.Parameters.{number_at, cchh_at, seek_to, head_to, attributes_mode, orientation_of, is_bad_count, extent_of, domain_of};
+ghost use Rattle.ckd_params.specs.Wellformed.{IsExtent, IsDomain};
 
 use crate::bits::{
     ARCHITECTURE, CACHE_FAST_WRITE, INHIBIT_FAST_WRITE, MODE, MODE_UNIT, OPERATION,
-    ORIENTATION_UNIT, PARAMETERS, RESERVED_AUXILIARY, RESERVED_MASK,
+    ORIENTATION_UNIT, PARAMETERS, RESERVED_AUXILIARY,
 };
 use byteorder::{BigEndian, ByteOrder};
 use ckd_types::{
-    Cchh, Domain, Extent, HEADS, Mode, Operation, Orientation, ParamFault, RecId, TrackNo, mode_of,
-    operation_of,
+    Cchh, Domain, Extent, HEADS, Mode, Operation, Orientation, ParamFault, RecId, TrackNo, is_mask,
+    mode_of, operation_of,
 };
-
-/// Whether a byte is a mask, of define extent or of set file mask.
-pub fn is_mask(byte: u8) -> bool
-    ensures { result ≡ is_mask byte }
-{
-    byte & RESERVED_MASK == 0
-}
 
 fn attributes_mode(byte: u8) -> Option<Mode>
     ensures { result ≡ attributes_mode byte }
@@ -40,22 +33,57 @@ fn orientation_of(n: u8) -> Orientation
     }
 }
 
+fn number_at(bytes: &[u8], i: usize) -> u16
+    requires { i + 2 ≤ length bytes.now }
+    ensures { result ≡ number_at bytes.now i }
+{
+    BigEndian::read_u16(&bytes[i..i + 2])
+}
+
 fn cchh_at(bytes: &[u8], i: usize) -> Cchh
     requires { i + 4 ≤ length bytes.now }
     ensures { result ≡ cchh_at bytes.now i }
 {
     Cchh {
-        cc: BigEndian::read_u16(&bytes[i..i + 2]),
-        hh: BigEndian::read_u16(&bytes[i + 2..i + 4]),
+        cc: number_at(bytes, i),
+        hh: number_at(bytes, i + 2),
     }
 }
 
 fn track_at(cylinders: u8, place: Cchh) -> Option<TrackNo>
     requires { cylinders ≤ 64 }
-    ensures { result ≡ track_at cylinders place }
+    ensures track { result ≡ track_at cylinders place }
+    ensures on_device { IfSome result (λ t. t < cylinders * 15) }
 {
     if place.hh < HEADS && place.cc < u16::from(cylinders) {
         TrackNo::new(place.cc * HEADS + place.hh)
+    } else {
+        None
+    }
+}
+
+/// The track that the parameters of seek and seek cylinder give on a device with so many cylinders:
+/// two bytes of zeros, a cylinder and a head (IBM).
+pub fn decode_seek(bytes: &[u8; 16], cylinders: u8) -> Option<TrackNo>
+    requires { cylinders ≤ 64 }
+    ensures track { result ≡ seek_to cylinders bytes.now }
+    ensures on_device { IfSome result (λ t. t < cylinders * 15) }
+{
+    if number_at(bytes, 0) == 0 {
+        track_at(cylinders, cchh_at(bytes, 2))
+    } else {
+        None
+    }
+}
+
+/// The track that the parameters of seek head give, on the cylinder of a track. Own: the cylinder that
+/// is given isn't looked at.
+pub fn decode_seek_head(bytes: &[u8; 16], track: TrackNo) -> Option<TrackNo>
+    ensures { result ≡ head_to track bytes.now }
+{
+    let head = number_at(bytes, 4);
+    if number_at(bytes, 0) == 0 && head < HEADS {
+        TrackNo::new(track.get() / HEADS * HEADS + head)
     } else {
         None
     }

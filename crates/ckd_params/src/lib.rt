@@ -7,5 +7,5 @@ mod encode;
 #[cfg(test)]
 mod tests;
 
-pub use decode::{decode_domain, decode_extent, is_mask};
+pub use decode::{decode_domain, decode_extent, decode_seek, decode_seek_head};
 pub use encode::{encode_domain, encode_extent};

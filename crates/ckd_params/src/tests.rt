@@ -122,11 +122,3 @@ fn the_largest_device(rt: HostRuntime) -> Result<(), Fail> {
     assert_eq!(rt; decode_domain(&bytes, 63), Err(BadRange));
     Ok(())
 }
-
-#[test]
-fn masks(rt: HostRuntime) -> Result<(), Fail> {
-    for (byte, fine) in [(0x00, true), (0xdf, true), (0x20, false), (0xff, false)] {
-        assert_eq!(rt; is_mask(byte), fine);
-    }
-    Ok(())
-}

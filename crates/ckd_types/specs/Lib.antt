@@ -12,3 +12,4 @@ pub mod Parameters
 pub mod Domains
 pub mod Mask
 pub mod Sense
+pub mod Fixed

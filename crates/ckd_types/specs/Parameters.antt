@@ -1,5 +1,5 @@
--- What the parameter bytes of define extent and locate record mean.
-use Rattle.std.specs.Prelude.{ℕ, ◌+◌, ◌*◌, ◌-◌, ◌/◌, ◌==◌, ◌||◌, not, nat_lt, nat_le, Bool, true, false, List, ◌++◌, take, replicate, length, slice_index, Option, None, Some, Result, Ok, Err, if◌then◌else◌}
+-- What the parameter bytes of seeks, define extent and locate record mean.
+use Rattle.std.specs.Prelude.{ℕ, ◌+◌, ◌*◌, ◌-◌, ◌/◌, ◌==◌, ◌&&◌, ◌||◌, not, nat_lt, nat_le, Bool, true, false, List, ◌++◌, take, replicate, length, slice_index, Option, None, Some, Result, Ok, Err, if◌then◌else◌}
 use Rattle.std.specs.Int.RustNames.{bit_and}
 use Rattle.ckd_types.specs.declared.geometry.Cchh.{Cchh}
 use Rattle.ckd_types.specs.declared.channel.Ccw.{Ccw}
@@ -14,6 +14,7 @@ use Rattle.ckd_types.specs.declared.parameters.Domain.{Domain}
 use Rattle.ckd_types.specs.declared.parameters.ParamFault.{ParamFault}
 use Rattle.ckd_types.specs.declared.parameters.ParamFault.TheVariants.{Short, BadMask, BadMode, BadOperation, BadCount, BadAux, BadRange}
 use Rattle.ckd_types.specs.Geometry.{track_at}
+use Rattle.ckd_types.specs.Mask.{is_mask}
 
 -- the first n bytes that a word gives: those that are missing up to its count are zeros
 abbrev pub given : ℕ → Ccw → List ℕ
@@ -25,6 +26,14 @@ number_at bytes i = slice_index bytes i * 256 + slice_index bytes (i + 1)
 
 abbrev pub cchh_at : List ℕ → ℕ → Cchh
 cchh_at bytes i = record { cc = number_at bytes i; hh = number_at bytes (i + 2) }
+
+-- seek and seek cylinder go where their bytes say
+abbrev pub seek_to : ℕ → List ℕ → Option ℕ
+seek_to cylinders bytes = if number_at bytes 0 == 0 then track_at cylinders (cchh_at bytes 2) else None
+
+-- seek head goes to a head of the cylinder at hand; the cylinder that it is given is not looked at
+abbrev pub head_to : ℕ → List ℕ → Option ℕ
+head_to track bytes = if (number_at bytes 0 == 0) && nat_lt (number_at bytes 4) 15 then Some (track / 15 * 15 + number_at bytes 4) else None
 
 -- bits 3 to 5 of the second byte of define extent
 abbrev pub mode_of : ℕ → Option Mode
@@ -56,7 +65,7 @@ moded_extent cylinders bytes None = Err BadMode
 abbrev pub extent_of : ℕ → List ℕ → Result Extent ParamFault
 extent_of cylinders bytes =
     if nat_lt (length bytes) 16 then Err Short
-    else if not (bit_and (slice_index bytes 0) 0x20 == 0) then Err BadMask
+    else if not (is_mask (slice_index bytes 0)) then Err BadMask
     else moded_extent cylinders bytes (attributes_mode (slice_index bytes 1))
 
 -- bits 0 and 1 of the first byte of locate record

@@ -1,7 +1,8 @@
 ghost use Rattle.std.specs.Prelude.{◌≡◌};
-ghost use Rattle.ckd_types.specs.Commands.{command_of, is_multitrack, group_of, required_count, direction_of};
+ghost use Rattle.ckd_types.specs.Commands.{is_multitrack, search_command, read_command, command_of, is_search, required_count};
 
-/// What a search looks for in a record's area: the bytes given, or greater ones.
+/// How a search compares a record's area with the bytes given: they are equal, or the record's are
+/// greater.
 #[derive(Clone, Copy, Debug, PartialEq, Eq)]
 pub enum Comparison {
     Equal,
@@ -9,27 +10,9 @@ pub enum Comparison {
     EqualOrHigh,
 }
 
-/// The groups of commands.
+/// The commands that move the chain or say what may follow, and no-operation.
 #[derive(Clone, Copy, Debug, PartialEq, Eq)]
-pub enum Group {
-    Control,
-    Search,
-    Read,
-    Write,
-    Sense,
-}
-
-/// Which way a command moves bytes: to the device, from it, or neither.
-#[derive(Clone, Copy, Debug, PartialEq, Eq)]
-pub enum Direction {
-    Takes,
-    Sends,
-    Neither,
-}
-
-/// The commands of the profile. Record zero is the first record of a track, which has a use of its own.
-#[derive(Clone, Copy, Debug)]
-pub enum Command {
+pub enum Control {
     NoOperation,
     Seek,
     SeekCylinder,
@@ -39,24 +22,61 @@ pub enum Command {
     SetFileMask,
     DefineExtent,
     LocateRecord,
-    SearchId(Comparison),
-    SearchKey(Comparison),
-    SearchHome,
-    ReadHome,
-    ReadZero,
-    ReadCount,
-    ReadData,
-    ReadKeyData,
-    ReadCountKeyData,
-    ReadMultiple,
-    ReadTrack,
-    WriteData,
+}
+
+/// What a search looks at: the id or the key of a record, or the home address, which it compares for
+/// equality.
+#[derive(Clone, Copy, Debug, PartialEq, Eq)]
+pub enum SearchArea {
+    Id(Comparison),
+    Key(Comparison),
+    Home,
+}
+
+/// A search. Its multitrack form goes on to the next track where its own shows nothing more.
+#[derive(Clone, Copy, Debug, PartialEq, Eq)]
+pub struct Search {
+    pub area: SearchArea,
+    pub multitrack: bool,
+}
+
+/// What a read reads: the home address, record 0, areas of the next record, all records from the
+/// next one on, or the whole track.
+#[derive(Clone, Copy, Debug, PartialEq, Eq)]
+pub enum ReadArea {
+    Home,
+    Zero,
+    Count,
+    Data,
+    KeyData,
+    CountKeyData,
+    Multiple,
+    Track,
+}
+
+/// A read. Its multitrack form goes on to the next track where its own shows nothing more.
+#[derive(Clone, Copy, Debug, PartialEq, Eq)]
+pub struct Read {
+    pub area: ReadArea,
+    pub multitrack: bool,
+}
+
+/// The writes. The updates are the forms of write data and of write key and data that stand in a
+/// domain alone; `NextTrack` is write count, key and data on the next track.
+#[derive(Clone, Copy, Debug, PartialEq, Eq)]
+pub enum Write {
+    Data,
     UpdateData,
-    WriteKeyData,
+    KeyData,
     UpdateKeyData,
-    WriteCountKeyData,
-    WriteNextTrack,
-    WriteZero,
+    CountKeyData,
+    NextTrack,
+    Zero,
+}
+
+/// The commands that ask the device that the path is on.
+#[derive(Clone, Copy, Debug, PartialEq, Eq)]
+pub enum DeviceCommand {
     Sense,
     SenseId,
     Reserve,
@@ -66,144 +86,116 @@ pub enum Command {
     SensePathGroup,
 }
 
-/// The command that a code stands for (IBM's codes). The codes of searches and reads come in pairs:
-/// the second is the multitrack form.
+/// The commands of the profile, by kind.
+#[derive(Clone, Copy, Debug, PartialEq, Eq)]
+pub enum Command {
+    Control(Control),
+    Search(Search),
+    Read(Read),
+    Write(Write),
+    Device(DeviceCommand),
+}
+
+/// The codes of searches and reads come in pairs: the multitrack form has the high bit (IBM).
+fn is_multitrack(code: u8) -> bool
+    ensures { result ≡ is_multitrack code }
+{
+    code >= 0x80
+}
+
+fn search_command(area: SearchArea, code: u8) -> Command
+    ensures { result ≡ search_command area code }
+{
+    Command::Search(Search {
+        area,
+        multitrack: is_multitrack(code),
+    })
+}
+
+fn read_command(area: ReadArea, code: u8) -> Command
+    ensures { result ≡ read_command area code }
+{
+    Command::Read(Read {
+        area,
+        multitrack: is_multitrack(code),
+    })
+}
+
+/// Read multiple and read track have no multitrack form.
+fn read_alone(area: ReadArea) -> Command
+    ensures { result ≡ read_command area 0 }
+{
+    Command::Read(Read {
+        area,
+        multitrack: false,
+    })
+}
+
+/// The command that a code stands for (IBM's codes).
 #[tactic(auto, unfolding(crate::specs::Commands::command_of))]
 pub fn command_of(code: u8) -> Option<Command>
     ensures { result ≡ command_of code }
 {
     let command = match code {
-        0x03 => Command::NoOperation,
-        0x07 => Command::Seek,
-        0x0b => Command::SeekCylinder,
-        0x1b => Command::SeekHead,
-        0x13 => Command::Recalibrate,
-        0x23 => Command::SetSector,
-        0x1f => Command::SetFileMask,
-        0x63 => Command::DefineExtent,
-        0x47 => Command::LocateRecord,
-        0x31 | 0xb1 => Command::SearchId(Comparison::Equal),
-        0x51 | 0xd1 => Command::SearchId(Comparison::High),
-        0x71 | 0xf1 => Command::SearchId(Comparison::EqualOrHigh),
-        0x29 | 0xa9 => Command::SearchKey(Comparison::Equal),
-        0x49 | 0xc9 => Command::SearchKey(Comparison::High),
-        0x69 | 0xe9 => Command::SearchKey(Comparison::EqualOrHigh),
-        0x39 | 0xb9 => Command::SearchHome,
-        0x1a | 0x9a => Command::ReadHome,
-        0x16 | 0x96 => Command::ReadZero,
-        0x12 | 0x92 => Command::ReadCount,
-        0x06 | 0x86 => Command::ReadData,
-        0x0e | 0x8e => Command::ReadKeyData,
-        0x1e | 0x9e => Command::ReadCountKeyData,
-        0x5e => Command::ReadMultiple,
-        0xde => Command::ReadTrack,
-        0x05 => Command::WriteData,
-        0x85 => Command::UpdateData,
-        0x0d => Command::WriteKeyData,
-        0x8d => Command::UpdateKeyData,
-        0x1d => Command::WriteCountKeyData,
-        0x9d => Command::WriteNextTrack,
-        0x15 => Command::WriteZero,
-        0x04 => Command::Sense,
-        0xe4 => Command::SenseId,
-        0xb4 => Command::Reserve,
-        0x94 => Command::Release,
-        0x14 => Command::UnconditionalReserve,
-        0xaf => Command::SetPathGroup,
-        0x34 => Command::SensePathGroup,
+        0x03 => Command::Control(Control::NoOperation),
+        0x07 => Command::Control(Control::Seek),
+        0x0b => Command::Control(Control::SeekCylinder),
+        0x1b => Command::Control(Control::SeekHead),
+        0x13 => Command::Control(Control::Recalibrate),
+        0x23 => Command::Control(Control::SetSector),
+        0x1f => Command::Control(Control::SetFileMask),
+        0x63 => Command::Control(Control::DefineExtent),
+        0x47 => Command::Control(Control::LocateRecord),
+        0x31 | 0xb1 => search_command(SearchArea::Id(Comparison::Equal), code),
+        0x51 | 0xd1 => search_command(SearchArea::Id(Comparison::High), code),
+        0x71 | 0xf1 => search_command(SearchArea::Id(Comparison::EqualOrHigh), code),
+        0x29 | 0xa9 => search_command(SearchArea::Key(Comparison::Equal), code),
+        0x49 | 0xc9 => search_command(SearchArea::Key(Comparison::High), code),
+        0x69 | 0xe9 => search_command(SearchArea::Key(Comparison::EqualOrHigh), code),
+        0x39 | 0xb9 => search_command(SearchArea::Home, code),
+        0x1a | 0x9a => read_command(ReadArea::Home, code),
+        0x16 | 0x96 => read_command(ReadArea::Zero, code),
+        0x12 | 0x92 => read_command(ReadArea::Count, code),
+        0x06 | 0x86 => read_command(ReadArea::Data, code),
+        0x0e | 0x8e => read_command(ReadArea::KeyData, code),
+        0x1e | 0x9e => read_command(ReadArea::CountKeyData, code),
+        0x5e => read_alone(ReadArea::Multiple),
+        0xde => read_alone(ReadArea::Track),
+        0x05 => Command::Write(Write::Data),
+        0x85 => Command::Write(Write::UpdateData),
+        0x0d => Command::Write(Write::KeyData),
+        0x8d => Command::Write(Write::UpdateKeyData),
+        0x1d => Command::Write(Write::CountKeyData),
+        0x9d => Command::Write(Write::NextTrack),
+        0x15 => Command::Write(Write::Zero),
+        0x04 => Command::Device(DeviceCommand::Sense),
+        0xe4 => Command::Device(DeviceCommand::SenseId),
+        0xb4 => Command::Device(DeviceCommand::Reserve),
+        0x94 => Command::Device(DeviceCommand::Release),
+        0x14 => Command::Device(DeviceCommand::UnconditionalReserve),
+        0xaf => Command::Device(DeviceCommand::SetPathGroup),
+        0x34 => Command::Device(DeviceCommand::SensePathGroup),
         _ => return None,
     };
     Some(command)
 }
 
-/// The code's command goes on to the next track where its own shows nothing more.
-#[tactic(auto, unfolding(crate::specs::Commands::is_multitrack))]
-pub fn is_multitrack(code: u8) -> bool
-    ensures { result ≡ is_multitrack code }
+/// Whether a code is a search's: a satisfied search passes over the next word.
+pub fn is_search(code: u8) -> bool
+    ensures { result ≡ is_search code }
 {
-    match code {
-        0xb1
-        | 0xd1
-        | 0xf1
-        | 0xa9
-        | 0xc9
-        | 0xe9
-        | 0xb9
-        | 0x9a
-        | 0x96
-        | 0x92
-        | 0x86
-        | 0x8e
-        | 0x9e
-        | 0x85
-        | 0x8d => true,
-        _ => false,
-    }
+    matches!(command_of(code), Some(Command::Search(_)))
 }
 
-/// The group of a command.
-pub fn group_of(command: Command) -> Group
-    ensures { result ≡ group_of command }
-{
-    match command {
-        Command::NoOperation
-        | Command::Seek
-        | Command::SeekCylinder
-        | Command::SeekHead
-        | Command::Recalibrate
-        | Command::SetSector
-        | Command::SetFileMask
-        | Command::DefineExtent
-        | Command::LocateRecord => Group::Control,
-        Command::SearchId(_) | Command::SearchKey(_) | Command::SearchHome => Group::Search,
-        Command::ReadHome
-        | Command::ReadZero
-        | Command::ReadCount
-        | Command::ReadData
-        | Command::ReadKeyData
-        | Command::ReadCountKeyData
-        | Command::ReadMultiple
-        | Command::ReadTrack => Group::Read,
-        Command::WriteData
-        | Command::UpdateData
-        | Command::WriteKeyData
-        | Command::UpdateKeyData
-        | Command::WriteCountKeyData
-        | Command::WriteNextTrack
-        | Command::WriteZero => Group::Write,
-        Command::Sense
-        | Command::SenseId
-        | Command::Reserve
-        | Command::Release
-        | Command::UnconditionalReserve
-        | Command::SetPathGroup
-        | Command::SensePathGroup => Group::Sense,
-    }
-}
-
-/// The least count that a command's word has to have.
+/// The least count that a command's word has to have (IBM).
 pub fn required_count(command: Command) -> u16
     ensures { result ≡ required_count command }
 {
     match command {
-        Command::DefineExtent | Command::LocateRecord => 16,
-        Command::SetPathGroup => 12,
-        Command::WriteCountKeyData | Command::WriteNextTrack | Command::WriteZero => 8,
-        Command::Seek | Command::SeekCylinder | Command::SeekHead => 6,
+        Command::Control(Control::DefineExtent | Control::LocateRecord) => 16,
+        Command::Device(DeviceCommand::SetPathGroup) => 12,
+        Command::Write(Write::CountKeyData | Write::NextTrack | Write::Zero) => 8,
+        Command::Control(Control::Seek | Control::SeekCylinder | Control::SeekHead) => 6,
         _ => 1,
-    }
-}
-
-/// Which way a command moves bytes.
-pub fn direction_of(command: Command) -> Direction
-    ensures { result ≡ direction_of command }
-{
-    match command {
-        Command::NoOperation | Command::Recalibrate => Direction::Neither,
-        Command::SetPathGroup => Direction::Takes,
-        _ => match group_of(command) {
-            Group::Read | Group::Sense => Direction::Sends,
-            _ => Direction::Takes,
-        },
     }
 }

@@ -4,6 +4,7 @@
 mod bytes;
 mod channel;
 mod command;
+mod fixed;
 mod geometry;
 mod growing;
 mod memory;
@@ -19,16 +20,17 @@ mod tests;
 pub use bytes::Bytes;
 pub use channel::{Ccw, CommandEnd, EndList, Note, Why};
 pub use command::{
-    Command, Comparison, Direction, Group, command_of, direction_of, group_of, is_multitrack,
-    required_count,
+    Command, Comparison, Control, DeviceCommand, Read, ReadArea, Search, SearchArea, Write,
+    command_of, is_search, required_count,
 };
+pub use fixed::FixedData;
 pub use geometry::{Cchh, Geometry, HEADS, MOST_CYLINDERS, capacity, cchh_of, cost, track_of};
 pub use growing::Growing;
 pub use memory::NoMemory;
 pub use number::{DeviceNo, PathNo, TrackNo};
 pub use parameters::{
     ALL_SEEKS, ALL_WRITES, Domain, Extent, Mode, NO_SEEKS, NO_WRITES, NO_ZERO_WRITES, Operation,
-    Orientation, ParamFault, SEEK_CONTROL, SEEK_CYLINDER, WRITE_CONTROL, accepts, mode_of,
+    Orientation, ParamFault, SEEK_CONTROL, SEEK_CYLINDER, WRITE_CONTROL, accepts, is_mask, mode_of,
     operation_code, operation_of, permits_move, permits_seek, permits_write,
 };
 pub use paths::{GroupId, Owner, PathState, Side};

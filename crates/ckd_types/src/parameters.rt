@@ -1,9 +1,12 @@
 ghost use Rattle.std.specs.Prelude.{◌≡◌};
 ghost use Rattle.ckd_types.specs.Parameters.{mode_of, operation_of, operation_code};
-ghost use Rattle.ckd_types.specs.Domains.{accepts};
-ghost use Rattle.ckd_types.specs.Mask.{permits_write, permits_seek, permits_move};
+ghost use Rattle.ckd_types.specs.Domains.{accepts, accepts_read, accepts_write, is_format};
+ghost use Rattle.ckd_types.specs.Mask.{is_mask, permits_write, permits_seek, permits_move};
 
-use crate::{Command, RecId, TrackNo};
+use crate::{Command, Control, ReadArea, RecId, TrackNo, Write};
+
+/// The bit of a mask that is clear.
+const RESERVED_MASK: u8 = 0x20;
 
 /// The bits of the mask that say which writes are permitted.
 pub const WRITE_CONTROL: u8 = 0xc0;
@@ -133,55 +136,80 @@ pub fn operation_code(operation: Operation) -> u8
     }
 }
 
+/// Whether a read may stand in an operation's domain. Own.
+fn accepts_read(operation: Operation, area: ReadArea) -> bool
+    ensures { result ≡ accepts_read operation area }
+{
+    match operation {
+        Operation::ReadTracks => matches!(area, ReadArea::Track),
+        Operation::ReadData | Operation::Read => !matches!(area, ReadArea::Track),
+        _ => false,
+    }
+}
+
+/// The write gives a count area.
+fn is_format(write: Write) -> bool
+    ensures { result ≡ is_format write }
+{
+    matches!(write, Write::CountKeyData | Write::NextTrack | Write::Zero)
+}
+
+/// Whether a write may stand in an operation's domain. Own.
+fn accepts_write(operation: Operation, format: bool) -> bool
+    ensures { result ≡ accepts_write operation format }
+{
+    match operation {
+        Operation::WriteData => !format,
+        Operation::Format => format,
+        _ => false,
+    }
+}
+
 /// Whether a command may stand in an operation's domain. Own.
 pub fn accepts(operation: Operation, command: Command) -> bool
     ensures { result ≡ accepts operation command }
 {
     match command {
-        Command::NoOperation => true,
-        Command::WriteData | Command::UpdateData | Command::WriteKeyData | Command::UpdateKeyData =>
-            matches!(operation, Operation::WriteData),
-        Command::WriteCountKeyData | Command::WriteNextTrack | Command::WriteZero => {
-            matches!(operation, Operation::Format)
-        }
-        Command::ReadHome
-        | Command::ReadZero
-        | Command::ReadCount
-        | Command::ReadData
-        | Command::ReadKeyData
-        | Command::ReadCountKeyData
-        | Command::ReadMultiple => matches!(operation, Operation::ReadData | Operation::Read),
-        Command::ReadTrack => matches!(operation, Operation::ReadTracks),
+        Command::Control(Control::NoOperation) => true,
+        Command::Read(read) => accepts_read(operation, read.area),
+        Command::Write(write) => accepts_write(operation, is_format(write)),
         _ => false,
     }
 }
 
-/// Whether a mask permits a write. Every command that is no write is permitted.
-pub fn permits_write(mask: u8, command: Command) -> bool
-    ensures { result ≡ permits_write mask command }
+/// Whether a byte is a mask, of define extent or of set file mask: its bit 2 is clear.
+pub fn is_mask(byte: u8) -> bool
+    ensures { result ≡ is_mask byte }
+{
+    byte & RESERVED_MASK == 0
+}
+
+/// Whether a mask permits a write.
+pub fn permits_write(mask: u8, write: Write) -> bool
+    ensures { result ≡ permits_write mask write }
 {
     let control = mask & WRITE_CONTROL;
-    match command {
-        Command::WriteData | Command::UpdateData | Command::WriteKeyData | Command::UpdateKeyData =>
-            control != NO_WRITES,
-        Command::WriteCountKeyData | Command::WriteNextTrack => {
+    match write {
+        Write::Data | Write::UpdateData | Write::KeyData | Write::UpdateKeyData => {
+            control != NO_WRITES
+        }
+        Write::CountKeyData | Write::NextTrack => {
             control == NO_ZERO_WRITES || control == ALL_WRITES
         }
-        Command::WriteZero => control == ALL_WRITES,
-        _ => true,
+        Write::Zero => control == ALL_WRITES,
     }
 }
 
-/// Whether a mask permits a seek or a recalibrate. Every other command is permitted. Own in what
-/// each value of the seek control permits.
-pub fn permits_seek(mask: u8, command: Command) -> bool
-    ensures { result ≡ permits_seek mask command }
+/// Whether a mask permits a seek or a recalibrate. Every other control command is permitted. Own in
+/// what each value of the seek control permits.
+pub fn permits_seek(mask: u8, control: Control) -> bool
+    ensures { result ≡ permits_seek mask control }
 {
-    let control = mask & SEEK_CONTROL;
-    match command {
-        Command::Seek | Command::Recalibrate => control == ALL_SEEKS,
-        Command::SeekCylinder => control == ALL_SEEKS || control == SEEK_CYLINDER,
-        Command::SeekHead => control != NO_SEEKS,
+    let seeks = mask & SEEK_CONTROL;
+    match control {
+        Control::Seek | Control::Recalibrate => seeks == ALL_SEEKS,
+        Control::SeekCylinder => seeks == ALL_SEEKS || seeks == SEEK_CYLINDER,
+        Control::SeekHead => seeks != NO_SEEKS,
         _ => true,
     }
 }

@@ -51,19 +51,23 @@ fn copies_are_equal(rt: HostRuntime) -> Result<(), Fail> {
 #[test]
 fn writes_that_masks_permit(rt: HostRuntime) -> Result<(), Fail> {
     let rows = [
-        (0x00, [true, true, true, true, true, true, false, true]),
-        (
-            0x40,
-            [false, false, false, false, false, false, false, true],
-        ),
-        (0x80, [true, true, true, true, false, false, false, true]),
-        (0xff, [true, true, true, true, true, true, true, true]),
+        (0x00, [true, true, true, true, true, true, false]),
+        (0x40, [false, false, false, false, false, false, false]),
+        (0x80, [true, true, true, true, false, false, false]),
+        (0xff, [true, true, true, true, true, true, true]),
     ];
-    let codes = [0x05, 0x85, 0x0d, 0x8d, 0x1d, 0x9d, 0x15, 0x06];
+    let writes = [
+        Write::Data,
+        Write::UpdateData,
+        Write::KeyData,
+        Write::UpdateKeyData,
+        Write::CountKeyData,
+        Write::NextTrack,
+        Write::Zero,
+    ];
     for (mask, wanted) in rows {
-        for (code, want) in codes.into_iter().zip(wanted) {
-            let command = command_of(code).ok_or("code")?;
-            assert_eq!(rt; permits_write(mask, command), want);
+        for (write, want) in writes.into_iter().zip(wanted) {
+            assert_eq!(rt; permits_write(mask, write), want);
         }
     }
     Ok(())
@@ -77,11 +81,16 @@ fn seeks_that_masks_permit(rt: HostRuntime) -> Result<(), Fail> {
         (0x10, [false, false, false, true, true]),
         (0xff, [false, false, false, false, true]),
     ];
-    let codes = [0x07, 0x13, 0x0b, 0x1b, 0x06];
+    let controls = [
+        Control::Seek,
+        Control::Recalibrate,
+        Control::SeekCylinder,
+        Control::SeekHead,
+        Control::SetSector,
+    ];
     for (mask, wanted) in rows {
-        for (code, want) in codes.into_iter().zip(wanted) {
-            let command = command_of(code).ok_or("code")?;
-            assert_eq!(rt; permits_seek(mask, command), want);
+        for (control, want) in controls.into_iter().zip(wanted) {
+            assert_eq!(rt; permits_seek(mask, control), want);
         }
         assert_eq!(rt; permits_move(mask), mask != 0xff);
     }
