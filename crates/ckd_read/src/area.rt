@@ -1,12 +1,12 @@
 ghost use Rattle.std.specs.Prelude.{◌≡◌, ◌<◌, ◌≤◌, IfOk, OnOk, length, drop};
 ghost use Rattle.std.specs.List.{flat_map};
 ghost use Rattle.ckd_types.specs.Track.{record_bytes};
-ghost use Rattle.plain_defs.specs.Outcome.{sent_of};
-ghost use Rattle.plain_defs.specs.Reads.{read_area};
+ghost use Rattle.ckd_rules.specs.Ending.{sent_of};
+ghost use Rattle.ckd_rules.specs.Reads.{read_bytes};
 ghost use Rattle.ckd_read.specs.Sending.{Takes};
 
 use crate::sending::Sending;
-use ckd_types::{Bytes, Ccw, Command, NoMemory};
+use ckd_types::{Bytes, Ccw, NoMemory, ReadArea};
 use std::alloc::Global;
 use track_image::{RecordRef, TrackImage};
 
@@ -20,21 +20,20 @@ const COUNT: usize = 8;
 const END_MARK: [u8; 8] = [0xff; 8];
 
 /// How many bytes the area has that a read of record `i`, or from it on, reads.
-pub fn area_len(image: &TrackImage, command: Command, i: usize) -> usize
+pub fn area_len(image: &TrackImage, area: ReadArea, i: usize) -> usize
     requires { i < length image.now.track.records }
-    ensures { result ≡ length (read_area image.now.track command i) }
+    ensures { result ≡ length (read_bytes image.now.track area i) }
 {
     let read = image.record_at(i);
-    match command {
-        Command::ReadHome => HOME,
-        Command::ReadZero => COUNT + read.body().len(),
-        Command::ReadCount => COUNT,
-        Command::ReadData => read.body().len(),
-        Command::ReadKeyData => read.key().len() + read.body().len(),
-        Command::ReadCountKeyData => read.size(),
-        Command::ReadMultiple => image.bytes_from(i),
-        Command::ReadTrack => image.bytes_from(0) + END_MARK.len(),
-        _ => 0,
+    match area {
+        ReadArea::Home => HOME,
+        ReadArea::Zero => COUNT + read.body().len(),
+        ReadArea::Count => COUNT,
+        ReadArea::Data => read.body().len(),
+        ReadArea::KeyData => read.key().len() + read.body().len(),
+        ReadArea::CountKeyData => read.size(),
+        ReadArea::Multiple => image.bytes_from(i),
+        ReadArea::Track => image.bytes_from(0) + END_MARK.len(),
     }
 }
 
@@ -61,52 +60,51 @@ fn put_records(sending: &mut Sending, image: &TrackImage, i: usize) -> Result<()
 fn put_area(
     sending: &mut Sending,
     image: &TrackImage,
-    command: Command,
+    area: ReadArea,
     i: usize,
 ) -> Result<(), NoMemory>
     requires { i < length image.now.track.records }
-    ensures { OnOk result (Takes sending.old sending.new (read_area image.now.track command i)) }
+    ensures { OnOk result (Takes sending.old sending.new (read_bytes image.now.track area i)) }
 {
     let read = image.record_at(i);
-    match command {
-        Command::ReadHome => sending.put(&image.home_area())?,
-        Command::ReadZero => {
+    match area {
+        ReadArea::Home => sending.put(&image.home_area())?,
+        ReadArea::Zero => {
             sending.put(&read.count_area())?;
             sending.put(read.body())?;
         }
-        Command::ReadCount => sending.put(&read.count_area())?,
-        Command::ReadData => sending.put(read.body())?,
-        Command::ReadKeyData => {
+        ReadArea::Count => sending.put(&read.count_area())?,
+        ReadArea::Data => sending.put(read.body())?,
+        ReadArea::KeyData => {
             sending.put(read.key())?;
             sending.put(read.body())?;
         }
-        Command::ReadCountKeyData => put_record(sending, &read)?,
-        Command::ReadMultiple => put_records(sending, image, i)?,
-        Command::ReadTrack => {
+        ReadArea::CountKeyData => put_record(sending, &read)?,
+        ReadArea::Multiple => put_records(sending, image, i)?,
+        ReadArea::Track => {
             put_records(sending, image, 0)?;
             sending.put(&END_MARK)?;
         }
-        _ => {}
     }
     Ok(())
 }
 
-/// What is sent of the area, which has so many bytes.
+/// What is sent of an area that has so many bytes.
 pub fn sent_of(
     alloc: Global,
     image: &TrackImage,
-    command: Command,
+    area: ReadArea,
     ccw: &Ccw,
     i: usize,
-    area: usize,
+    len: usize,
 ) -> Result<Bytes, NoMemory>
     requires { i < length image.now.track.records }
-    ensures { IfOk result (λ sent. sent ≡ sent_of ccw.now (read_area image.now.track command i)) }
+    ensures { IfOk result (λ sent. sent ≡ sent_of ccw.now (read_bytes image.now.track area i)) }
 {
     if ccw.skips() {
         return Ok(Bytes::new());
     }
-    let mut sending = Sending::new(alloc, usize::from(ccw.count), area)?;
-    put_area(&mut sending, image, command, i)?;
+    let mut sending = Sending::new(alloc, usize::from(ccw.count), len)?;
+    put_area(&mut sending, image, area, i)?;
     Ok(sending.into_bytes())
 }

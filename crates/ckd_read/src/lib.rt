@@ -6,6 +6,3 @@ mod command;
 mod sending;
 
 pub use command::read;
-
-#[cfg(test)]
-mod tests;

@@ -6,8 +6,8 @@ use Rattle.std.specs.Prelude.{position}
 use Rattle.std.specs.List.{position_or_len}
 use Rattle.ckd_types.specs.declared.record.Record.{Record}
 use Rattle.ckd_types.specs.Track.{empty_zero}
-use Rattle.plain_defs.specs.Reads.{record_at}
-use Rattle.plain_defs.specs.Searches.{has_key, key_from, plus}
+use Rattle.ckd_rules.specs.Reads.{record_at}
+use Rattle.ckd_rules.specs.Searches.{has_key, key_from, plus}
 
 below_more : (q n : ℕ) → nat_lt (1 + q) (suc n) ≡ nat_lt q n
 below_more q n = grind (arith, nat_tests)

@@ -1,9 +1,9 @@
 ghost use Rattle.std.specs.Prelude.{◌≡◌, ◌<◌, IfSome, length};
-ghost use Rattle.plain_defs.specs.Finding.{record_of};
-ghost use Rattle.plain_defs.specs.Searches.{key_from, search_candidate};
+ghost use Rattle.ckd_rules.specs.Finding.{record_of};
+ghost use Rattle.ckd_rules.specs.Searches.{key_from, search_candidate};
 
-use ckd_types::Command;
-use plain_defs::{Place, home_from, if_there, next_id, next_key};
+use ckd_rules::{Place, home_from, if_there, next_id, next_key};
+use ckd_types::SearchArea;
 use track_image::TrackImage;
 
 /// The first record with a key, from record `i` on.
@@ -22,16 +22,15 @@ fn key_from(image: &TrackImage, i: usize) -> Option<usize>
 
 /// The record that a place shows to a search: of ids each record is one, of keys each record that
 /// has one, and the home address is shown by the index alone.
-pub fn search_candidate(image: &TrackImage, command: Command, place: Place) -> Option<usize>
+pub fn search_candidate(image: &TrackImage, area: SearchArea, place: Place) -> Option<usize>
     requires { record_of place < length image.now.track.records }
-    ensures shown { result ≡ search_candidate image.now.track.records command place }
+    ensures shown { result ≡ search_candidate image.now.track.records area place }
     ensures there { IfSome result (λ i. i < length image.now.track.records) }
 {
     let count = image.len();
-    match command {
-        Command::SearchId(_) => if_there(count, next_id(place)),
-        Command::SearchKey(_) => key_from(image, next_key(place)),
-        Command::SearchHome => home_from(place),
-        _ => None,
+    match area {
+        SearchArea::Id(_) => if_there(count, next_id(place)),
+        SearchArea::Key(_) => key_from(image, next_key(place)),
+        SearchArea::Home => home_from(place),
     }
 }

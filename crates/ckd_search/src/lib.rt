@@ -3,8 +3,6 @@
 
 mod candidate;
 mod command;
+mod comparing;
 
 pub use command::search;
-
-#[cfg(test)]
-mod tests;

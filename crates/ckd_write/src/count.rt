@@ -1,10 +1,10 @@
 ghost use Rattle.std.specs.Prelude.{◌≡◌, ◌≤◌, ◌+◌, IfOk, length};
 ghost use Rattle.ckd_types.specs.Parameters.{number_at, cchh_at};
-ghost use Rattle.plain_defs.specs.Formats.{count_given, key_given, body_given, record_given};
+ghost use Rattle.ckd_rules.specs.Formats.{count_given, key_given, body_given, record_given};
 
+use crate::area::{count_given, given_at};
 use byteorder::{BigEndian, ByteOrder};
 use ckd_types::{Cchh, Ccw, NoMemory, RecId, Record};
-use plain_defs::{count_given, given_at};
 use std::alloc::Global;
 
 /// Bytes of a count area.

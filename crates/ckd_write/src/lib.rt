@@ -1,12 +1,10 @@
 //! Writes of one track: updates of a record, and formats.
 #![tactic(auto)]
 
+mod area;
 mod command;
 mod count;
 mod format;
 mod update;
 
 pub use command::write;
-
-#[cfg(test)]
-mod tests;

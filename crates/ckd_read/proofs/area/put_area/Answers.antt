@@ -1,17 +1,17 @@
 use Rattle.ckd_read.proofs.Takes.{takes_both}
 use Rattle.ckd_read.proofs.area.put_area.Goals as goal
 
-pub returns-in_ok-put-in-ReadZero-2 : goal.returns-in_ok-put-in-ReadZero-2
-returns-in_ok-put-in-ReadZero-2 c =
-    let count = rw (c.count_area.ensures, c.record_at-read.ensures) at c.in_ok-put-in-ReadZero.ensures in
-    let body = rw (c.body.ensures, c.record_at-read.ensures) at c.in_ok-put-in-ReadZero-2.ensures in
-    rw c.in-ReadZero.is (takes_both _ _ _ _ _ count body)
+pub returns-in_ok-put-in-Zero-2 : goal.returns-in_ok-put-in-Zero-2
+returns-in_ok-put-in-Zero-2 c =
+    let count = rw (c.count_area.ensures, c.record_at-read.ensures) at c.in_ok-put-in-Zero.ensures in
+    let body = rw (c.body.ensures, c.record_at-read.ensures) at c.in_ok-put-in-Zero-2.ensures in
+    rw c.in-Zero.is (takes_both _ _ _ _ _ count body)
 
-pub returns-in_ok-put-in-ReadKeyData-2 : goal.returns-in_ok-put-in-ReadKeyData-2
-returns-in_ok-put-in-ReadKeyData-2 c =
-    let key = rw (c.key.ensures, c.record_at-read.ensures) at c.in_ok-put-in-ReadKeyData.ensures in
-    let body = rw (c.body-in-ReadKeyData.ensures, c.record_at-read.ensures) at c.in_ok-put-in-ReadKeyData-2.ensures in
-    rw c.in-ReadKeyData.is (takes_both _ _ _ _ _ key body)
+pub returns-in_ok-put-in-KeyData-2 : goal.returns-in_ok-put-in-KeyData-2
+returns-in_ok-put-in-KeyData-2 c =
+    let key = rw (c.key.ensures, c.record_at-read.ensures) at c.in_ok-put-in-KeyData.ensures in
+    let body = rw (c.body-in-KeyData.ensures, c.record_at-read.ensures) at c.in_ok-put-in-KeyData-2.ensures in
+    rw c.in-KeyData.is (takes_both _ _ _ _ _ key body)
 
-pub returns-in_ok-put-in-ReadTrack : goal.returns-in_ok-put-in-ReadTrack
-returns-in_ok-put-in-ReadTrack c = rw c.in-ReadTrack.is (takes_both _ _ _ _ _ c.in_ok-put_records-in-ReadTrack.ensures c.in_ok-put-in-ReadTrack.ensures)
+pub returns-in_ok-put-in-Track : goal.returns-in_ok-put-in-Track
+returns-in_ok-put-in-Track c = rw c.in-Track.is (takes_both _ _ _ _ _ c.in_ok-put_records-in-Track.ensures c.in_ok-put-in-Track.ensures)

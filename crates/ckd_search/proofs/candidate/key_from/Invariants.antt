@@ -1,5 +1,5 @@
 use Rattle.std.proofs.Common.{◌≡◌}
-use Rattle.plain_defs.specs.Searches.{key_from}
+use Rattle.ckd_rules.specs.Searches.{key_from}
 use Rattle.ckd_search.proofs.candidate.key_from.Given as goal
 
 abbrev pub invariant-loop-k : goal.invariant-loop-k

@@ -10,8 +10,8 @@ use Rattle.std.specs.declared.cmp.Ordering.TheVariants.{Less, Equal, Greater}
 use Rattle.std.specs.Ordering.{nat_cmp, ordering_then}
 use Rattle.std.specs.Cmp.Lexicographic.{slice_cmp}
 use Rattle.ckd_types.specs.declared.channel.Ccw.{Ccw}
-use Rattle.plain_defs.specs.Area
-use Rattle.plain_defs.specs.Searches
+use Rattle.ckd_rules.specs.Area
+use Rattle.ckd_rules.specs.Searches
 
 equal_first : (x : ℕ) → (x == 0) ≡ true → nat_cmp x 0 ≡ Equal
 equal_first x h = grind (arith, nat_tests)
