@@ -1,38 +1,43 @@
--- One step of a chain at a time: what the plain device does with a command, cut where it needs a track, an edit or an answer.
+-- One step of a chain at a time: what a command does, cut where it needs a track, an edit or an answer.
 use Rattle.std.specs.Prelude.{ℕ, List, Bool, false, Option, None, Some}
 use Rattle.ckd_types.specs.declared.channel.Ccw.{Ccw}
 use Rattle.ckd_types.specs.declared.channel.CommandEnd.{CommandEnd}
 use Rattle.ckd_types.specs.declared.parameters.Extent.{Extent}
 use Rattle.ckd_types.specs.declared.parameters.Mode.{Mode}
 use Rattle.ckd_types.specs.declared.parameters.Mode.TheVariants.{Normal}
+use Rattle.ckd_types.specs.declared.sense.Sense.{Sense}
 use Rattle.ckd_types.specs.Ccw.{ccw_at}
+use Rattle.ckd_types.specs.Fixed.{Fixed}
 use Rattle.ckd_types.specs.Sense.{reject_sense, equipment_sense, data_check_sense}
-use Rattle.ckd_chain.specs.declared.chain.Mark.{Mark}
+use Rattle.ckd_chain.specs.declared.mark.Mark.{Mark}
+use Rattle.ckd_chain.specs.declared.mark.Stage.{Stage}
+use Rattle.ckd_chain.specs.declared.mark.Stage.TheVariants.{Over, Looks, Asks}
 use Rattle.ckd_chain.specs.declared.progress.Progress.{Progress}
 use Rattle.ckd_chain.specs.declared.progress.Progress.TheVariants as progresses
 use Rattle.ckd_chain.specs.declared.progress.Settled.{Settled}
 use Rattle.ckd_chain.specs.declared.progress.Settled.TheVariants.{Written, Equipment, DataCheck, Sent, BadParameter}
 use Rattle.ckd_chain.specs.State.{ChainState}
-use Rattle.plain_defs.specs.declared.opening.Opening.{Opening}
-use Rattle.plain_defs.specs.declared.opening.Opening.TheVariants.{Over, Looks, Asks}
-use Rattle.plain_defs.specs.declared.outcome.Outcome.{Outcome}
-use Rattle.plain_defs.specs.declared.outcome.Turned.{Turned}
-use Rattle.plain_defs.specs.declared.outcome.Turned.TheVariants.{Ended, NextTrack, Write}
-use Rattle.plain_defs.specs.declared.stance.Place.TheVariants.{Index}
-use Rattle.plain_defs.specs.declared.stance.Stance.{Stance}
-use Rattle.plain_defs.specs.Acts.{answered, held_for}
-use Rattle.plain_defs.specs.Chain.{end_of, goes_to}
-use Rattle.plain_defs.specs.Opening.{opening_of}
-use Rattle.plain_defs.specs.Outcome.{refused}
-use Rattle.plain_defs.specs.Stance.{first_stance}
-use Rattle.plain_defs.specs.Turned.{turn_on}
+use Rattle.ckd_rules.specs.declared.ending.Ending.{Ending}
+use Rattle.ckd_rules.specs.declared.opening.Opening.{Opening}
+use Rattle.ckd_rules.specs.declared.opening.Opening.TheVariants as openings
+use Rattle.ckd_rules.specs.declared.order.Look.{Look}
+use Rattle.ckd_rules.specs.declared.stance.Stance.{Stance}
+use Rattle.ckd_rules.specs.declared.turned.Turned.{Turned}
+use Rattle.ckd_rules.specs.declared.turned.Turned.TheVariants as turns
+use Rattle.ckd_rules.specs.Acts.{answered, taken}
+use Rattle.ckd_rules.specs.Ending.{Outcome, refused}
+use Rattle.ckd_rules.specs.Ends.{end_of, goes_to}
+use Rattle.ckd_rules.specs.Look.{look_on}
+use Rattle.ckd_rules.specs.Looked.{Looked}
+use Rattle.ckd_rules.specs.Opening.{Opened, opening_of}
+use Rattle.ckd_rules.specs.Stance.{first_stance}
 use Rattle.track_image.specs.Image.{Image}
 
 abbrev pub first_mark : Mark
 first_mark = record { stance = first_stance; next = Some 0 }
 
-abbrev pub begun_chain : List Ccw → ℕ → ChainState
-begun_chain ccws cylinders = record { ccws = ccws; cylinders = cylinders; at = first_mark; before = first_mark; here = None; held = None }
+abbrev pub begun_chain : List Ccw → Fixed → ChainState
+begun_chain ccws fixed = record { ccws = ccws; fixed = fixed; at = first_mark; before = first_mark; stage = None; held = None }
 
 -- the word of the command at hand
 abbrev pub index_of : Option ℕ → ℕ
@@ -42,31 +47,71 @@ index_of None = 0
 abbrev pub word_of : ChainState → Ccw
 word_of s = ccw_at s.ccws (index_of s.at.next)
 
--- how the command at hand begins, or that it goes on to a track
-abbrev pub hand_by : ChainState → Option Stance → Opening
-hand_by s (Some z) = Looks z
-hand_by s None = opening_of s.cylinders s.at.stance (word_of s)
+-- the chain stands elsewhere
+abbrev pub standing : ChainState → Stance → ChainState
+standing s z = record s { at = record s.at { stance = z } }
 
-abbrev pub hand_of : ChainState → Opening
-hand_of s = hand_by s s.here
+-- The command at hand begins.
 
--- the track that the command at hand looks at first
-abbrev pub looked_track : Opening → Option ℕ
-looked_track (Looks z) = Some z.track
-looked_track (Over o) = None
-looked_track (Asks act) = None
+abbrev pub opening_at : ChainState → Opened
+opening_at s = opening_of s.fixed s.at.stance (word_of s)
 
+abbrev pub stage_for : Opening → Stage
+stage_for (openings.Over e) = Over
+stage_for (openings.Looks look) = Looks look
+stage_for (openings.Asks act) = Asks act
+
+abbrev pub held_for : Opening → Option Ending
+held_for (openings.Over e) = Some e
+held_for (openings.Looks look) = None
+held_for (openings.Asks act) = None
+
+abbrev pub begin_with : ChainState → Opened → ChainState
+begin_with s o = record (standing s o.stance) { before = s.at; stage = Some (stage_for o.opening); held = held_for o.opening }
+
+abbrev pub opened_by : ChainState → Option Stage → ChainState
+opened_by s None = begin_with s (opening_at s)
+opened_by s (Some stage) = s
+
+-- it has begun
+abbrev pub opened : ChainState → ChainState
+opened s = opened_by s s.stage
+
+abbrev pub stage_by : ChainState → Option Stage → Stage
+stage_by s None = stage_for (opening_at s).opening
+stage_by s (Some stage) = stage
+
+-- how far it is then
+abbrev pub stage_of : ChainState → Stage
+stage_of s = stage_by s s.stage
+
+abbrev pub needed : ChainState → Stage → Option ℕ
+needed s (Looks look) = Some s.at.stance.track
+needed s Over = None
+needed s (Asks act) = None
+
+-- the track that it looks at
 abbrev pub need_of : ChainState → Option ℕ
-need_of s = looked_track (hand_of s)
+need_of s = needed (opened s) (stage_of s)
 
--- the chain behind a command
+-- It ends.
+
+abbrev pub mark_by : ChainState → Option Stage → Mark
+mark_by s None = s.at
+mark_by s (Some stage) = s.before
+
+-- where the chain was before it
+abbrev pub start_of : ChainState → Mark
+start_of s = mark_by s s.stage
+
 abbrev pub behind : ChainState → Outcome → ChainState
-behind s o = record s { at = record { stance = o.stance; next = goes_to s.ccws (index_of s.at.next) o }; before = s.at; here = None; held = None }
+behind s o = record s { at = record { stance = o.stance; next = goes_to s.ccws (index_of s.at.next) o }; before = start_of s; stage = None; held = None }
 
 abbrev pub end_with : ChainState → Outcome → CommandEnd
 end_with s o = end_of (index_of s.at.next) (word_of s) o
 
--- what a step gives, and the chain behind it
+-- A step: what it gives, and the chain behind it.
+
 pub record Stepped : Type 0 where
   pub progress : Progress
   pub chain : ChainState
@@ -74,43 +119,57 @@ pub record Stepped : Type 0 where
 abbrev pub ended_with : ChainState → Outcome → Stepped
 ended_with s o = record { progress = progresses.Ended (end_with s o); chain = behind s o }
 
--- the command waits, for a track, an edit or an answer
-abbrev pub waiting : ChainState → Option Stance → Option Outcome → ChainState
-waiting s here held = record s { before = s.at; here = here; held = held }
+-- the command waits for its edit
+abbrev pub waiting : ChainState → Stance → Ending → ChainState
+waiting s z e = record (standing s z) { stage = Some Over; held = Some e }
 
-abbrev pub turned_with : ChainState → Stance → Turned → Stepped
-turned_with s z (Ended o) = ended_with s o
-turned_with s z (NextTrack t) = record { progress = progresses.Need t; chain = waiting s (Some (record z { track = t; place = Index })) None }
-turned_with s z (Write e o) = record { progress = progresses.Write z.track e; chain = waiting s s.here (Some o) }
+abbrev pub turned_by : ChainState → Stance → Turned → Stepped
+turned_by s z (turns.Ended e) = ended_with s (record { stance = z; ending = e })
+turned_by s z turns.Onward = record { progress = progresses.Need z.track; chain = standing s z }
+turned_by s z (turns.Edits edit e) = record { progress = progresses.Write s.at.stance.track edit; chain = waiting s z e }
 
-abbrev pub looked_with : ChainState → Stance → Option Image → Stepped
-looked_with s z (Some image) = turned_with s z (turn_on image.geometry s.cylinders image.track z (word_of s))
-looked_with s z None = record { progress = progresses.Need z.track; chain = waiting s (Some z) None }
+abbrev pub turned_with : ChainState → Looked → Stepped
+turned_with s l = turned_by s l.stance l.turned
 
-abbrev pub stepped_by : ChainState → Option Image → Opening → Stepped
-stepped_by s image (Over o) = ended_with s o
-stepped_by s image (Looks z) = looked_with s z image
-stepped_by s image (Asks act) = record { progress = progresses.Local act; chain = waiting s s.here (held_for s.at.stance (word_of s) act) }
+abbrev pub looked_with : ChainState → Look → Option Image → Stepped
+looked_with s look (Some image) = turned_with s (look_on image.geometry image.track s.at.stance (word_of s) look)
+looked_with s look None = record { progress = progresses.Need s.at.stance.track; chain = s }
 
--- one step, with the image of the track that it needs
+-- how the command ends whose edit was made, or that began and was over
+abbrev pub held_outcome : ChainState → Option Ending → Outcome
+held_outcome s (Some e) = record { stance = s.at.stance; ending = e }
+held_outcome s None = refused (start_of s).stance (word_of s) equipment_sense
+
+abbrev pub stepped_by : ChainState → Option Image → Stage → Stepped
+stepped_by s image Over = ended_with s (held_outcome s s.held)
+stepped_by s image (Looks look) = looked_with s look image
+stepped_by s image (Asks act) = record { progress = progresses.Local act; chain = s }
+
+-- one step, with the image of the track that the command looks at
 abbrev pub stepped : ChainState → Option Image → Stepped
-stepped s image = stepped_by s image (hand_of s)
+stepped s image = stepped_by (opened s) image (stage_of s)
 
--- how the command at hand comes out once it is known how its edit, its answer or its track fared
-abbrev pub held_or : ChainState → Option Outcome → Outcome
-held_or s (Some o) = o
-held_or s None = refused s.at.stance (word_of s) (reject_sense 1)
+-- The command at hand is settled: it is known how its edit, its answer or its track fared.
+
+-- a command that is refused so ends as if it had done nothing
+abbrev pub checked : ChainState → Sense → Outcome
+checked s sense = refused (start_of s).stance (word_of s) sense
+
+-- the device took what it was given, or the edit was made
+abbrev pub written_by : ChainState → Option Stage → Outcome
+written_by s (Some (Asks act)) = taken s.at.stance (word_of s)
+written_by s _ = held_outcome s s.held
 
 abbrev pub settled_by : ChainState → Settled → Outcome
-settled_by s Written = held_or s s.held
-settled_by s Equipment = refused s.at.stance (word_of s) equipment_sense
-settled_by s DataCheck = refused s.at.stance (word_of s) data_check_sense
+settled_by s Written = written_by s s.stage
+settled_by s Equipment = checked s equipment_sense
+settled_by s DataCheck = checked s data_check_sense
 settled_by s (Sent bytes) = answered s.at.stance (word_of s) bytes
-settled_by s BadParameter = refused s.at.stance (word_of s) (reject_sense 4)
+settled_by s BadParameter = checked s (reject_sense 4)
 
 -- the chain as it was before the command
 abbrev pub again_from : ChainState → ChainState
-again_from s = record s { at = s.before; here = None; held = None }
+again_from s = record s { at = s.before; stage = None; held = None }
 
 -- how the chain's extent asks for the cache to be used
 abbrev pub mode_by : Option Extent → Mode

@@ -1,44 +1,36 @@
-ghost use Rattle.std.specs.Prelude.{◌≡◌, ◌<◌, ◌≤◌, ◌+◌, ◌*◌, IfOk, IfSome, IsSome, OnOk, OnErr, is_none, length, Some, None};
+ghost use Rattle.std.specs.Prelude.{◌≡◌, ◌<◌, ◌≤◌, ◌+◌, ◌*◌, IfOk, IfSome, IsSome, OnOk, OnErr, is_none, Some, None};
 ghost use Rattle.std.specs.Prelude.{option_map};
-ghost use Rattle.plain_defs.specs.Room.{HasRoom, Stands, IsRunning, IsAt, GoesOn, Opens};
-ghost use Rattle.plain_defs.specs.Acts.{held_for};
-ghost use Rattle.plain_defs.specs.Turned.{turn_on};
-ghost use Rattle.ckd_chain.specs.Facts.{IsChain, SuitsTrack, GoesFurther, CountsEnd};
-ghost use Rattle.plain_defs.specs.declared.opening.Opening.TheVariants.{Looks};
-ghost use Rattle.ckd_chain.specs.Steps.{first_mark, begun_chain, index_of, word_of, hand_of, looked_track, need_of, behind, end_with, waiting, turned_with, stepped, settled_by, again_from, mode_by, inhibits_by, last_by};
+ghost use Rattle.ckd_chain.specs.Facts.{IsChain, SuitsTrack, NeedsTrack, FurtherFrom, GoesFurther, CountsEnd, IsAsking, MayBeWritten, MaySettle};
+ghost use Rattle.ckd_chain.specs.Steps.{first_mark, begun_chain, index_of, word_of, standing, stage_of, opened, begin_with, opening_at, needed, need_of, start_of, behind, end_with, waiting, turned_with, looked_with, held_outcome, stepped_by, stepped, checked, written_by, settled_by, again_from, mode_by, inhibits_by, last_by};
+ghost use Rattle.ckd_rules.specs.Facts.{HasRoom, Stands, Behind, IsLook};
+ghost use Rattle.ckd_rules.specs.Acts.{answered, taken};
+ghost use Rattle.ckd_chain.specs.declared.mark.Stage.TheVariants.{Over, Looks};
 
-use crate::turn::turn_on;
-use crate::{Progress, Settled};
+use crate::look::look_on;
+use crate::{Mark, Progress, Settled, Stage};
 use ckd_ccw::Program;
-use ckd_sense::{INVALID_COMMAND, INVALID_PARAMETER, data_check, equipment, reject};
-use ckd_types::{Ccw, CommandEnd, HEADS, Mode, NoMemory, TrackNo};
-use plain_defs::{
-    LocalAct, Opening, Outcome, Place, Stance, Turned, answered, end_of, first_stance, goes_to,
-    held_for, no_ccw, opening_of, refused, word_at,
+use ckd_rules::{
+    Ending, LocalAct, Look, Opening, Stance, Turned, answer, end_of, first_stance, goes_to, no_ccw,
+    open, refuse, take, word_at,
 };
+use ckd_sense::{INVALID_PARAMETER, data_check, equipment, reject};
+use ckd_types::{Bytes, CommandEnd, FixedData, Mode, NoMemory, Sense, TrackNo};
 use std::alloc::Global;
 use std::marker::Model;
 use track_image::TrackImage;
 
-/// Where a chain is between two commands: its stance, and the word of the next command, if there is
-/// one.
-#[derive(Clone, Copy, Debug)]
-pub struct Mark {
-    pub stance: Stance,
-    pub next: Option<usize>,
-}
-
 /// A running channel program. It runs a command in steps: it says which track the command looks at
 /// (`need`), takes that track's image (`step`), and waits where the command edits a track or asks the
-/// device (`settle`). Nothing of the device is kept in it but where the chain stands.
+/// device (`settle`). Nothing of the device is kept in it but its fixed data and where the chain
+/// stands.
 #[derive(Debug, Drop)]
 pub struct Chain {
     program: Program,
-    cylinders: u8,
+    fixed: FixedData,
     at: Mark,
     before: Mark,
-    here: Option<Stance>,
-    held: Option<Outcome>,
+    stage: Option<Stage>,
+    held: Option<Ending>,
 }
 
 impl Model for Chain {
@@ -47,9 +39,9 @@ impl Model for Chain {
 
     ghost Value = { ChainState };
 
-    ghost view = { λ c. record { ccws = c.program; cylinders = c.cylinders; at = c.at; before = c.before; here = c.here; held = c.held } };
+    ghost view = { λ c. record { ccws = c.program; fixed = c.fixed; at = c.at; before = c.before; stage = c.stage; held = c.held } };
 
-    ghost invariant = { λ c. IsChain (record { ccws = c.program; cylinders = c.cylinders; at = c.at; before = c.before; here = c.here; held = c.held }) };
+    ghost invariant = { λ c. IsChain (record { ccws = c.program; fixed = c.fixed; at = c.at; before = c.before; stage = c.stage; held = c.held }) };
 }
 
 fn first_mark() -> Mark
@@ -70,29 +62,19 @@ fn index_of(next: Option<usize>) -> usize
     }
 }
 
-fn looked_track(hand: &Opening) -> Option<TrackNo>
-    ensures { result ≡ looked_track hand.now }
-{
-    match hand {
-        Opening::Looks(there) => Some(there.track),
-        Opening::Over(_) | Opening::Asks(_) => None,
-    }
-}
-
 impl Chain {
-    /// A chain at the first word of a program, on a device with this many cylinders.
-    pub fn begin(program: Program, cylinders: u8) -> Chain
-        requires some { 1 ≤ cylinders }
-        requires most { cylinders ≤ 64 }
-        ensures { result ≡ begun_chain program cylinders }
+    /// A chain at the first word of a program, on a device.
+    pub fn begin(program: Program, fixed: FixedData) -> Chain
+        ensures { result ≡ begun_chain program fixed }
     {
         let _ = program.len();
+        let _ = fixed.cylinders();
         Chain {
             program,
-            cylinders,
+            fixed,
             at: first_mark(),
             before: first_mark(),
-            here: None,
+            stage: None,
             held: None,
         }
     }
@@ -101,7 +83,7 @@ impl Chain {
     pub fn stands(&self)
         ensures { IsChain self.now }
     {
-        let _ = &self.cylinders;
+        let _ = &self.fixed;
     }
 
     /// The program is over.
@@ -111,193 +93,271 @@ impl Chain {
         self.at.next.is_none()
     }
 
-    /// How the command at hand begins, or that it goes on to a track.
-    fn hand(&self, ccw: &Ccw) -> Opening
-        requires running { IsSome self.now.at.next }
-        requires word { ccw.now ≡ word_of self.now }
-        ensures hand { result ≡ hand_of self.now }
-        ensures opens { Opens (self.now.cylinders * 15) self.now.at.stance result }
-    {
-        match self.here {
-            Some(there) => Opening::Looks(there),
-            None => opening_of(self.cylinders, &self.at.stance, ccw),
-        }
-    }
-
-    /// The track that the command at hand looks at first; None where it looks at none.
-    pub fn need(&self) -> Option<TrackNo>
-        requires { IsSome self.now.at.next }
-        ensures need { result ≡ need_of self.now }
-        ensures on_device { IfSome result (λ t. t < self.now.cylinders * 15) }
-        ensures opens { Opens (self.now.cylinders * 15) self.now.at.stance (hand_of self.now) }
+    /// The command at hand begins: what it does before it looks at a track.
+    fn begin_command(&mut self)
+        requires running { IsSome self.old.at.next }
+        requires ready { self.old.stage ≡ None }
+        ensures { self.new ≡ opened self.old }
     {
         let nothing = no_ccw();
         let ccw = word_at(self.program.ccws(), index_of(self.at.next), &nothing);
-        looked_track(&self.hand(ccw))
+        let before = self.at;
+        let mut stance = self.at.stance;
+        let opening = open(&self.fixed, &mut stance, ccw);
+        self.before = before;
+        self.at.stance = stance;
+        match opening {
+            Opening::Over(ending) => {
+                self.stage = Some(Stage::Over);
+                self.held = Some(ending);
+            }
+            Opening::Looks(look) => self.stage = Some(Stage::Looks(look)),
+            Opening::Asks(act) => self.stage = Some(Stage::Asks(act)),
+        }
     }
 
-    /// No command goes on or waits.
-    fn forget(&mut self)
-        ensures { self.new ≡ record self.old { here = None; held = None } }
+    /// The command at hand has begun.
+    fn open(&mut self)
+        requires running { IsSome self.old.at.next }
+        ensures chain { self.new ≡ opened self.old }
+        ensures stage { self.new.stage ≡ Some (stage_of self.old) }
     {
-        self.here = None;
-        self.held = None;
+        if self.stage.is_none() {
+            self.begin_command();
+        }
     }
 
-    /// The command at hand ended.
-    fn end(&mut self, outcome: Outcome) -> CommandEnd
-        requires goes_on { GoesOn (self.old.cylinders * 15) self.old.at.stance outcome.stance }
-        ensures end { result ≡ end_with self.old outcome }
-        ensures behind { self.new ≡ behind self.old outcome }
-        ensures counted { self.new.at.stance.commands ≡ self.old.at.stance.commands + 1 }
+    /// The track that the command at hand looks at; None where it looks at none. The command has begun
+    /// then.
+    pub fn need(&mut self) -> Option<TrackNo>
+        requires { IsSome self.old.at.next }
+        ensures need { result ≡ need_of self.old }
+        ensures chain { self.new ≡ opened self.old }
+        ensures on_device { IfSome result (λ t. t < self.old.fixed.cylinders * 15) }
+    {
+        self.open();
+        match self.stage {
+            Some(Stage::Looks(_)) => Some(self.at.stance.track),
+            _ => None,
+        }
+    }
+
+    /// The command at hand ended, with this stance behind it.
+    fn end(&mut self, stance: Stance, ending: Ending) -> CommandEnd
+        requires running { IsSome self.old.at.next }
+        requires begun { self.old.before ≡ start_of self.old }
+        requires behind { Behind (self.old.fixed.cylinders * 15) self.old.before.stance stance }
+        ensures end { result ≡ end_with self.old (record { stance = stance; ending = ending }) }
+        ensures chain { self.new ≡ behind self.old (record { stance = stance; ending = ending }) }
+        ensures counted { self.new.at.stance.commands ≡ (start_of self.old).stance.commands + 1 }
     {
         let nothing = no_ccw();
         let index = index_of(self.at.next);
         let ccw = word_at(self.program.ccws(), index, &nothing);
-        let behind = Mark {
-            stance: outcome.stance,
-            next: goes_to(self.program.ccws(), index, ccw, &outcome),
-        };
-        let end = end_of(index as u16, ccw, outcome);
-        self.forget();
-        self.before = self.at;
-        self.at = behind;
+        let next = goes_to(self.program.ccws(), index, ccw, &stance, &ending);
+        let end = end_of(index as u16, ccw, &stance, ending);
+        self.at = Mark { stance, next };
+        self.stage = None;
+        self.held = None;
         end
     }
 
-    /// The command at hand waits.
-    fn wait(&mut self, here: Option<Stance>, held: Option<Outcome>)
-        requires here { IfSome here (λ z. IsAt (self.old.cylinders * 15) self.old.at.stance z) }
-        requires held { IfSome held (λ o. GoesOn (self.old.cylinders * 15) self.old.at.stance o.stance) }
-        ensures { self.new ≡ waiting self.old here held }
-    {
-        self.before = self.at;
-        self.here = here;
-        self.held = held;
-    }
-
-    /// The command at hand asks the device, and waits.
-    fn ask(&mut self, act: LocalAct)
-        requires { IsSome self.old.at.next }
-        ensures { self.new ≡ waiting self.old self.old.here (held_for self.old.at.stance (word_of self.old) act) }
-    {
-        let nothing = no_ccw();
-        let tracks = usize::from(self.cylinders) * usize::from(HEADS);
-        let ccw = word_at(self.program.ccws(), index_of(self.at.next), &nothing);
-        let held = held_for(&self.at.stance, ccw, act, tracks);
-        self.wait(self.here, held);
-    }
-
-    /// A look at a track.
-    fn look(
-        &mut self,
-        alloc: Global,
-        there: Stance,
-        image: &TrackImage,
-    ) -> Result<Progress, NoMemory>
+    /// The command at hand ends as it is held to.
+    fn finish(&mut self) -> CommandEnd
         requires running { IsSome self.old.at.next }
-        requires there { IsAt (self.old.cylinders * 15) self.old.at.stance there }
-        ensures progress { IfOk result (λ progress. progress ≡ (turned_with self.old there (turn_on image.now.geometry self.old.cylinders image.now.track there (word_of self.old))).progress) }
-        ensures chain { OnOk result (self.new ≡ (turned_with self.old there (turn_on image.now.geometry self.old.cylinders image.now.track there (word_of self.old))).chain) }
+        requires over { self.old.stage ≡ Some Over }
+        ensures end { result ≡ end_with self.old (held_outcome self.old self.old.held) }
+        ensures chain { self.new ≡ behind self.old (held_outcome self.old self.old.held) }
+        ensures counted { self.new.at.stance.commands ≡ (start_of self.old).stance.commands + 1 }
+    {
+        let Some(ending) = self.held.take() else {
+            unreachable!()
+        };
+        let nothing = no_ccw();
+        let index = index_of(self.at.next);
+        let ccw = word_at(self.program.ccws(), index, &nothing);
+        let stance = self.at.stance;
+        let next = goes_to(self.program.ccws(), index, ccw, &stance, &ending);
+        let end = end_of(index as u16, ccw, &stance, ending);
+        self.at.next = next;
+        self.stage = None;
+        end
+    }
+
+    /// A look at the track of the stance.
+    fn look(&mut self, alloc: Global, look: &Look, image: &TrackImage) -> Result<Progress, NoMemory>
+        requires running { IsSome self.old.at.next }
+        requires looks { self.old.stage ≡ Some (Looks look.now) }
+        ensures progress { IfOk result (λ progress. progress ≡ (looked_with self.old look.now (Some image.now)).progress) }
+        ensures chain { OnOk result (self.new ≡ (looked_with self.old look.now (Some image.now)).chain) }
         ensures suits { IfOk result (SuitsTrack (Some image.now)) }
-        ensures further { IfOk result (GoesFurther (self.old.cylinders * 15) (Looks there) (Some image.now)) }
+        ensures needs { IfOk result (NeedsTrack (self.old.fixed.cylinders * 15)) }
+        ensures further { IfOk result (FurtherFrom self.old (Looks look.now) (Some image.now)) }
         ensures counted { IfOk result (CountsEnd self.old self.new) }
         ensures same { OnErr result (self.new ≡ self.old) }
     {
         let nothing = no_ccw();
         let ccw = word_at(self.program.ccws(), index_of(self.at.next), &nothing);
-        match turn_on(alloc, self.cylinders, image, &there, ccw)? {
-            Turned::Ended(outcome) => Ok(Progress::Ended(self.end(outcome))),
-            Turned::NextTrack(track) => {
-                let mut next = there;
-                next.track = track;
-                next.place = Place::Index;
-                self.wait(Some(next), None);
-                Ok(Progress::Need(track))
+        let track = self.at.stance.track;
+        let mut stance = self.at.stance;
+        match look_on(alloc, &self.fixed, image, &mut stance, ccw, look)? {
+            Turned::Ended(ending) => Ok(Progress::Ended(self.end(stance, ending))),
+            Turned::Onward => {
+                let next = stance.track;
+                self.at.stance = stance;
+                Ok(Progress::Need(next))
             }
-            Turned::Write(edit, outcome) => {
-                let track = there.track;
-                self.wait(self.here, Some(outcome));
+            Turned::Edits(edit, ending) => {
+                self.at.stance = stance;
+                self.stage = Some(Stage::Over);
+                self.held = Some(ending);
                 Ok(Progress::Write { track, edit })
             }
         }
     }
 
+    /// A step of a command that has begun.
+    fn step_on(
+        &mut self,
+        alloc: Global,
+        stage: &Stage,
+        image: Option<&TrackImage>,
+    ) -> Result<Progress, NoMemory>
+        requires running { IsSome self.old.at.next }
+        requires stage { self.old.stage ≡ Some stage.now }
+        ensures progress { IfOk result (λ progress. progress ≡ (stepped_by self.old (option_map (λ i. i.now) image.entry) stage.now).progress) }
+        ensures chain { OnOk result (self.new ≡ (stepped_by self.old (option_map (λ i. i.now) image.entry) stage.now).chain) }
+        ensures suits { IfOk result (SuitsTrack (option_map (λ i. i.now) image.entry)) }
+        ensures needs { IfOk result (NeedsTrack (self.old.fixed.cylinders * 15)) }
+        ensures further { IfOk result (FurtherFrom self.old stage.now (option_map (λ i. i.now) image.entry)) }
+        ensures counted { IfOk result (CountsEnd self.old self.new) }
+        ensures same { OnErr result (self.new ≡ self.old) }
+    {
+        match stage {
+            Stage::Over => Ok(Progress::Ended(self.finish())),
+            Stage::Looks(look) => match image {
+                Some(image) => self.look(alloc, look, image),
+                None => Ok(Progress::Need(self.at.stance.track)),
+            },
+            Stage::Asks(act) => Ok(Progress::Local(*act)),
+        }
+    }
+
     /// A step of the command at hand, with the image of the track that it needs. Without that image
-    /// it asks for it again. After want of memory the chain is as it was.
+    /// it asks for it again; behind the edit of a track it ends. After want of memory the command has
+    /// begun, and nothing else.
     pub fn step(&mut self, alloc: Global, image: Option<&TrackImage>) -> Result<Progress, NoMemory>
         requires running { IsSome self.old.at.next }
         ensures progress { IfOk result (λ progress. progress ≡ (stepped self.old (option_map (λ i. i.now) image.entry)).progress) }
         ensures chain { OnOk result (self.new ≡ (stepped self.old (option_map (λ i. i.now) image.entry)).chain) }
         ensures suits { IfOk result (SuitsTrack (option_map (λ i. i.now) image.entry)) }
-        ensures further { IfOk result (GoesFurther (self.old.cylinders * 15) (hand_of self.old) (option_map (λ i. i.now) image.entry)) }
+        ensures needs { IfOk result (NeedsTrack (self.old.fixed.cylinders * 15)) }
+        ensures further { IfOk result (GoesFurther self.old (option_map (λ i. i.now) image.entry)) }
         ensures counted { IfOk result (CountsEnd self.old self.new) }
-        ensures same { OnErr result (self.new ≡ self.old) }
+        ensures same { OnErr result (self.new ≡ opened self.old) }
     {
-        let nothing = no_ccw();
-        let ccw = word_at(self.program.ccws(), index_of(self.at.next), &nothing);
-        match self.hand(ccw) {
-            Opening::Over(outcome) => Ok(Progress::Ended(self.end(outcome))),
-            Opening::Looks(there) => match image {
-                Some(image) => self.look(alloc, there, image),
-                None => {
-                    let track = there.track;
-                    self.wait(Some(there), None);
-                    Ok(Progress::Need(track))
-                }
-            },
-            Opening::Asks(act) => {
-                self.ask(act);
-                Ok(Progress::Local(act))
-            }
+        self.open();
+        match self.stage {
+            Some(stage) => self.step_on(alloc, &stage, image),
+            None => unreachable!(),
         }
     }
 
-    /// How the command at hand comes out.
-    fn settled(&mut self, how: Settled) -> Outcome
+    /// Where the chain was before the command at hand is kept as that.
+    fn keep_start(&mut self)
+        ensures { self.new ≡ record self.old { before = start_of self.old } }
+    {
+        if self.stage.is_none() {
+            self.before = self.at;
+        }
+    }
+
+    /// The command at hand ends with a check, as if it had done nothing.
+    fn check(&mut self, sense: Sense) -> CommandEnd
         requires running { IsSome self.old.at.next }
-        ensures outcome { result ≡ settled_by self.old how }
-        ensures goes_on { GoesOn (self.old.cylinders * 15) self.old.at.stance result.stance }
-        ensures chain { self.new ≡ record self.old { held = None } }
+        ensures end { result ≡ end_with self.old (checked self.old sense) }
+        ensures chain { self.new ≡ behind self.old (checked self.old sense) }
+        ensures counted { self.new.at.stance.commands ≡ (start_of self.old).stance.commands + 1 }
     {
-        let held = self.held.take();
+        self.keep_start();
         let nothing = no_ccw();
         let ccw = word_at(self.program.ccws(), index_of(self.at.next), &nothing);
-        let stance = &self.at.stance;
-        match how {
-            Settled::Written => match held {
-                Some(outcome) => outcome,
-                None => refused(stance, ccw, reject(INVALID_COMMAND)),
-            },
-            Settled::Equipment => refused(stance, ccw, equipment()),
-            Settled::DataCheck => refused(stance, ccw, data_check()),
-            Settled::Sent(bytes) => {
-                let tracks = usize::from(self.cylinders) * usize::from(HEADS);
-                answered(stance, ccw, bytes, tracks)
-            }
-            Settled::BadParameter => refused(stance, ccw, reject(INVALID_PARAMETER)),
+        let mut stance = self.before.stance;
+        let ending = refuse(&mut stance, ccw, sense);
+        self.end(stance, ending)
+    }
+
+    /// The device took what the command gave it.
+    fn taken(&mut self) -> CommandEnd
+        requires running { IsSome self.old.at.next }
+        requires asks { IsAsking self.old.stage }
+        ensures end { result ≡ end_with self.old (taken self.old.at.stance (word_of self.old)) }
+        ensures chain { self.new ≡ behind self.old (taken self.old.at.stance (word_of self.old)) }
+        ensures counted { self.new.at.stance.commands ≡ (start_of self.old).stance.commands + 1 }
+    {
+        let nothing = no_ccw();
+        let ccw = word_at(self.program.ccws(), index_of(self.at.next), &nothing);
+        let mut stance = self.at.stance;
+        let ending = take(&mut stance, ccw);
+        self.end(stance, ending)
+    }
+
+    /// The device answered these bytes.
+    fn sent(&mut self, bytes: Bytes) -> CommandEnd
+        requires running { IsSome self.old.at.next }
+        requires asks { IsAsking self.old.stage }
+        ensures end { result ≡ end_with self.old (answered self.old.at.stance (word_of self.old) bytes) }
+        ensures chain { self.new ≡ behind self.old (answered self.old.at.stance (word_of self.old) bytes) }
+        ensures counted { self.new.at.stance.commands ≡ (start_of self.old).stance.commands + 1 }
+    {
+        let nothing = no_ccw();
+        let ccw = word_at(self.program.ccws(), index_of(self.at.next), &nothing);
+        let mut stance = self.at.stance;
+        let ending = answer(&mut stance, ccw, bytes);
+        self.end(stance, ending)
+    }
+
+    /// The edit of the command was made, or the device took what it was given.
+    fn written(&mut self) -> CommandEnd
+        requires running { IsSome self.old.at.next }
+        requires written { MayBeWritten self.old.stage }
+        ensures end { result ≡ end_with self.old (written_by self.old self.old.stage) }
+        ensures chain { self.new ≡ behind self.old (written_by self.old self.old.stage) }
+        ensures counted { self.new.at.stance.commands ≡ (start_of self.old).stance.commands + 1 }
+    {
+        match self.stage {
+            Some(Stage::Over) => self.finish(),
+            Some(Stage::Asks(_)) => self.taken(),
+            _ => unreachable!(),
         }
     }
 
-    /// Ends the command at hand: after a write or a local act, and in place of a step where the track
-    /// can't be had. Takes no memory.
+    /// Ends the command at hand: after its edit or its act, or with a check in place of any step. A
+    /// check ends it as if it had done nothing. Takes no memory.
     pub fn settle(&mut self, how: Settled) -> CommandEnd
         requires running { IsSome self.old.at.next }
+        requires how { MaySettle self.old how }
         ensures end { result ≡ end_with self.old (settled_by self.old how) }
         ensures chain { self.new ≡ behind self.old (settled_by self.old how) }
-        ensures counted { self.new.at.stance.commands ≡ self.old.at.stance.commands + 1 }
+        ensures counted { self.new.at.stance.commands ≡ (start_of self.old).stance.commands + 1 }
     {
-        let outcome = self.settled(how);
-        self.end(outcome)
+        match how {
+            Settled::Written => self.written(),
+            Settled::Equipment => self.check(equipment()),
+            Settled::DataCheck => self.check(data_check()),
+            Settled::Sent(bytes) => self.sent(bytes),
+            Settled::BadParameter => self.check(reject(INVALID_PARAMETER)),
+        }
     }
 
-    /// Goes back to before the command at hand, or directly behind an end to before the command that
-    /// ended. Takes no memory.
+    /// Goes back to before the command at hand, where that has begun, or else to before the command
+    /// that ended last. Takes no memory.
     pub fn again(&mut self)
         ensures { self.new ≡ again_from self.old }
     {
-        self.forget();
         self.at = self.before;
+        self.stage = None;
+        self.held = None;
     }
 
     /// How the extent asks for the cache to be used.

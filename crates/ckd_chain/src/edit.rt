@@ -1,5 +1,5 @@
 ghost use Rattle.std.specs.Prelude.{◌≡◌, OnOk, OnErr};
-ghost use Rattle.plain_defs.specs.Turn.{Suits};
+ghost use Rattle.ckd_rules.specs.Facts.{Suits};
 ghost use Rattle.track_image.specs.Image.{edited_image};
 
 use ckd_types::{Edit, NoMemory};

@@ -3,12 +3,12 @@
 
 mod chain;
 mod edit;
+mod look;
+mod mark;
 mod progress;
-#[cfg(test)]
-mod tests;
-mod turn;
 
-pub use chain::{Chain, Mark};
+pub use chain::Chain;
+pub use ckd_rules::LocalAct;
 pub use edit::edit_image;
-pub use plain_defs::LocalAct;
+pub use mark::{Mark, Stage};
 pub use progress::{Progress, Settled};

@@ -1,5 +1,5 @@
+use ckd_rules::LocalAct;
 use ckd_types::{Bytes, CommandEnd, Edit, TrackNo};
-use plain_defs::LocalAct;
 
 /// What a step of a chain came to.
 #[derive(Debug, Drop)]

@@ -1,5 +1,5 @@
 -- An order of a device is begun on it.
-use Rattle.std.proofs.Common.{◌≡◌, ◌<◌, ◌≤◌, ◌+◌, ◌*◌, ◌%◌, ℕ, Bool, true, false, Option, Some, None, Ok, Err, Result, cond, refl, arith, sym, ap, subst}
+use Rattle.std.proofs.Common.{◌≡◌, ◌<◌, ◌≤◌, ◌+◌, ◌*◌, ◌%◌, ℕ, Bool, true, false, Option, Some, None, Ok, Err, Result, List, cond, refl, arith, sym, ap, subst}
 use Rattle.std.specs.Prelude.{IfSome, IsSome, if◌then◌else◌}
 use Rattle.std.proofs.lemmas.Bool.Decides.{nat_tests}
 use Rattle.ckd_types.specs.declared.channel.Ccw.{Ccw}
@@ -13,7 +13,11 @@ use Rattle.ckd_types.specs.declared.parameters.Operation.{Operation}
 use Rattle.ckd_types.specs.declared.parameters.Operation.TheVariants as operations
 use Rattle.ckd_types.specs.declared.sense.Sense.{Sense}
 use Rattle.ckd_types.specs.Parameters.{is_bad_count, is_orient}
+use Rattle.ckd_types.specs.declared.geometry.Geometry.{Geometry}
+use Rattle.ckd_types.specs.declared.record.Record.{Record}
+use Rattle.ckd_rules.specs.declared.ending.Ending.{Ending}
 use Rattle.ckd_rules.specs.declared.opening.Opening.{Opening}
+use Rattle.ckd_rules.specs.declared.turned.Turned.TheVariants.{Ended}
 use Rattle.ckd_rules.specs.declared.order.Look.{Look}
 use Rattle.ckd_rules.specs.declared.order.Look.TheVariants.{Finds, Searches, Reads, Writes}
 use Rattle.ckd_rules.specs.declared.order.Order.{Order}
@@ -21,8 +25,8 @@ use Rattle.ckd_rules.specs.declared.order.Order.TheVariants.{Nothing, Seeks, Rec
 use Rattle.ckd_rules.specs.declared.stance.Place.{Place}
 use Rattle.ckd_rules.specs.declared.stance.Place.TheVariants.{Index, Home, Count, Key, Body}
 use Rattle.ckd_rules.specs.declared.stance.Stance.{Stance}
-use Rattle.ckd_rules.specs.Control.{opened_domain, unseen_place}
-use Rattle.ckd_rules.specs.Facts.{HasRoom, Stands, Behind, Before, IsSought, IsLook, IsOrder, Opens}
+use Rattle.ckd_rules.specs.Control.{unseen_place, located}
+use Rattle.ckd_rules.specs.Facts.{HasRoom, Stands, Behind, Before, IsSought, IsLook, IsOrder, Opens, TurnsOn}
 use Rattle.ckd_rules.specs.Finding.{track_after}
 use Rattle.ckd_rules.specs.Opening.{Opened, moved, read_from, look_from, locating, begun}
 use Rattle.ckd_rules.proofs.NextTrack.{next_on_device}
@@ -92,3 +96,11 @@ pub opens : (tracks : ℕ) (s : Stance) (c : Ccw) (order : Order) (new : Stance)
     → new ≡ (begun s c order).stance → how ≡ (begun s c order).opening → Opens tracks s new how
 opens tracks s c order new how on some whole good new_is how_is =
     subst (λ (z : Stance). Opens tracks s z how) (sym new_is) (subst (λ (h : Opening). Opens tracks s (begun s c order).stance h) (sym how_is) (begins tracks s c on order some whole good))
+
+-- a locate record that looked for its record is on the device
+pub located_on : (g : Geometry) (tracks : ℕ) (records : List Record) (old new : Stance) (c : Ccw) (d : Domain) (found : Option ℕ) (e : Ending) → Stands tracks old → IsSought tracks d
+    → new ≡ (located old c d found).stance → TurnsOn g tracks records old new (Ended e)
+located_on g tracks records old new c d (Some i) e on good is =
+    subst (λ (z : Stance). Behind tracks old z) (sym is) (record { stands = record { track = good.seek; extent = on.extent; left = counts d.operation d.count d good.count; passes = omega arith }; commands = refl })
+located_on g tracks records old new c d None e on good is =
+    subst (λ (z : Stance). Behind tracks old z) (sym is) (record { stands = record { track = on.track; extent = on.extent; left = on.left; passes = on.passes }; commands = refl })
