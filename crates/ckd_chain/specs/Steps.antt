@@ -157,14 +157,14 @@ checked s sense = refused (start_of s).stance (word_of s) sense
 
 -- the device took what it was given, or the edit was made
 abbrev pub written_by : ChainState → Option Stage → Outcome
-written_by s (Some (Asks act)) = taken s.at.stance (word_of s)
+written_by s (Some (Asks act)) = taken (start_of s).stance (word_of s)
 written_by s _ = held_outcome s s.held
 
 abbrev pub settled_by : ChainState → Settled → Outcome
 settled_by s Written = written_by s s.stage
 settled_by s Equipment = checked s equipment_sense
 settled_by s DataCheck = checked s data_check_sense
-settled_by s (Sent bytes) = answered s.at.stance (word_of s) bytes
+settled_by s (Sent bytes) = answered (start_of s).stance (word_of s) bytes
 settled_by s BadParameter = checked s (reject_sense 4)
 
 -- the chain as it was before the command

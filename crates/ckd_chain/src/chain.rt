@@ -291,13 +291,13 @@ impl Chain {
     fn taken(&mut self) -> CommandEnd
         requires running { IsSome self.old.at.next }
         requires asks { IsAsking self.old.stage }
-        ensures end { result ≡ end_with self.old (taken self.old.at.stance (word_of self.old)) }
-        ensures chain { self.new ≡ behind self.old (taken self.old.at.stance (word_of self.old)) }
+        ensures end { result ≡ end_with self.old (taken (start_of self.old).stance (word_of self.old)) }
+        ensures chain { self.new ≡ behind self.old (taken (start_of self.old).stance (word_of self.old)) }
         ensures counted { self.new.at.stance.commands ≡ (start_of self.old).stance.commands + 1 }
     {
         let nothing = no_ccw();
         let ccw = word_at(self.program.ccws(), index_of(self.at.next), &nothing);
-        let mut stance = self.at.stance;
+        let mut stance = self.before.stance;
         let ending = take(&mut stance, ccw);
         self.end(stance, ending)
     }
@@ -306,13 +306,13 @@ impl Chain {
     fn sent(&mut self, bytes: Bytes) -> CommandEnd
         requires running { IsSome self.old.at.next }
         requires asks { IsAsking self.old.stage }
-        ensures end { result ≡ end_with self.old (answered self.old.at.stance (word_of self.old) bytes) }
-        ensures chain { self.new ≡ behind self.old (answered self.old.at.stance (word_of self.old) bytes) }
+        ensures end { result ≡ end_with self.old (answered (start_of self.old).stance (word_of self.old) bytes) }
+        ensures chain { self.new ≡ behind self.old (answered (start_of self.old).stance (word_of self.old) bytes) }
         ensures counted { self.new.at.stance.commands ≡ (start_of self.old).stance.commands + 1 }
     {
         let nothing = no_ccw();
         let ccw = word_at(self.program.ccws(), index_of(self.at.next), &nothing);
-        let mut stance = self.at.stance;
+        let mut stance = self.before.stance;
         let ending = answer(&mut stance, ccw, bytes);
         self.end(stance, ending)
     }

@@ -1,3 +1,4 @@
 pub mod Lists
 pub mod NextTrack
 pub mod Openings
+mod WriteRows

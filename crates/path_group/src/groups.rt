@@ -1,10 +1,10 @@
 ghost use Rattle.std.specs.Prelude.{◌≡◌, ◌-◌, MatchResult, None, OnErr, OnOk, Some, replicate, slice_set};
 ghost use Rattle.ckd_types.specs.declared.paths.PathState.TheVariants.{Reset};
-ghost use Rattle.plain_defs.specs.PlainState.{owner_by};
-ghost use Rattle.plain_defs.specs.Grouping.{group_fault, group_in, paths_set, state_byte, state_in};
+ghost use Rattle.ckd_rules.specs.Grouping.{owner_by};
+ghost use Rattle.ckd_rules.specs.Grouping.{group_fault, group_in, paths_set, state_byte, state_in};
 
+use ckd_rules::{GroupFault, group_fault, owner_by, set_paths, state_byte};
 use ckd_types::{GroupId, Owner, PathNo, PathState};
-use plain_defs::{GroupFault, group_fault, owner_by, set_paths, state_byte};
 use std::marker::Model;
 
 /// What a device keeps of the groups of its four paths. Contracts see the list of their states.

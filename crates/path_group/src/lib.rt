@@ -5,5 +5,5 @@ mod groups;
 #[cfg(test)]
 mod tests;
 
+pub use ckd_rules::GroupFault;
 pub use groups::Groups;
-pub use plain_defs::GroupFault;

@@ -4,8 +4,8 @@ use Rattle.std.proofs.Common.{inl, inr, ◌∙◌, ◌≤◌, false, true≢fals
 use Rattle.std.specs.Prelude.{IfNone, ◌⊎◌}
 use Rattle.std.proofs.lemmas.Bool.{cases_lt}
 use Rattle.ckd_types.specs.declared.channel.Ccw.{Ccw}
-use Rattle.plain_defs.specs.declared.outcome.Outcome.{Outcome}
-use Rattle.plain_defs.specs.Chain.{is_over, end_of}
+use Rattle.ckd_rules.specs.Ending.{Outcome}
+use Rattle.ckd_rules.specs.Ends.{is_over, end_of}
 use Rattle.ckd_types.specs.declared.channel.CommandEnd.{CommandEnd}
 use Rattle.plain_defs.specs.Ends.{LastIsOver}
 use Rattle.plain_defs.proofs.Laws.{IsClosed}

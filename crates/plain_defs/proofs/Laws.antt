@@ -4,11 +4,12 @@ use Rattle.std.specs.Prelude.{All}
 use Rattle.ckd_types.specs.declared.channel.Ccw.{Ccw}
 use Rattle.ckd_types.specs.declared.channel.CommandEnd.{CommandEnd}
 use Rattle.ckd_types.specs.Ccw.{ccw_at}
-use Rattle.plain_defs.specs.declared.stance.Stance.{Stance}
+use Rattle.ckd_rules.specs.declared.stance.Stance.{Stance}
 use Rattle.plain_defs.specs.PlainState.{PlainState}
 use Rattle.plain_defs.specs.Built.{IsBuilt}
 use Rattle.plain_defs.specs.Effect.{command_effect}
-use Rattle.plain_defs.specs.Chain.{Part, part_from, goes_to, end_of, is_over}
+use Rattle.ckd_rules.specs.Ends.{goes_to, end_of, is_over}
+use Rattle.plain_defs.specs.Chain.{Part, part_from}
 use Rattle.plain_defs.proofs.OwnerLemmas.{built_at, command_owner}
 use Rattle.plain_defs.proofs.PartLemmas.{none_left}
 

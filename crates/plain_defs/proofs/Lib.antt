@@ -1,14 +1,8 @@
-pub mod Lists
-pub mod FollowLemmas
-pub mod EditLemmas
-pub mod NextTrack
 pub mod EffectLemmas
 pub mod PartLemmas
 mod Rows
-mod WriteRows
+mod GroupRows
 pub mod Laws
 pub mod JournalLaws
 pub mod EndsLaws
-pub mod Comparing
 pub mod OwnerLemmas
-mod GroupRows

@@ -1,125 +1,206 @@
 -- The commands that neither take nor free a device: of it they ask nothing but sense and sense ID.
-use Rattle.std.proofs.Common.{◌≡◌, ℕ, ◌<◌, ◌≤◌, List, Option, Some, None, true, false, Result, Ok, Err, length, refl, sym, subst, inl, inr}
-use Rattle.std.specs.Prelude.{All, ⊤, ◌⊎◌}
+use Rattle.std.proofs.Common.{◌≡◌, ℕ, ◌<◌, ◌≤◌, List, Option, Some, None, Bool, true, false, cond, Result, Ok, Err, length, refl, sym, subst, inl, inr}
+use Rattle.std.specs.Prelude.{All, ⊤, ◌⊎◌, slice_index, not, nat_lt}
 use Rattle.std.proofs.lemmas.Bool.{cases_lt}
 use Rattle.std.proofs.lemmas.List.{get_or_past}
 use Rattle.std.proofs.lemmas.List.Elements.{All-get_or}
 use Rattle.ckd_types.specs.declared.channel.Ccw.{Ccw}
 use Rattle.ckd_types.specs.declared.command.Command.{Command}
 use Rattle.ckd_types.specs.declared.command.Command.TheVariants as commands
+use Rattle.ckd_types.specs.declared.command.Control.{Control}
+use Rattle.ckd_types.specs.declared.command.Control.TheVariants as controls
+use Rattle.ckd_types.specs.declared.command.DeviceCommand.{DeviceCommand}
+use Rattle.ckd_types.specs.declared.command.DeviceCommand.TheVariants as devices
+use Rattle.ckd_types.specs.declared.command.Read.{Read}
+use Rattle.ckd_types.specs.declared.command.ReadArea.{ReadArea}
+use Rattle.ckd_types.specs.declared.command.ReadArea.TheVariants as reads
+use Rattle.ckd_types.specs.declared.command.Write.TheVariants as writes
 use Rattle.ckd_types.specs.declared.parameters.Domain.{Domain}
+use Rattle.ckd_types.specs.declared.parameters.Extent.{Extent}
 use Rattle.ckd_types.specs.declared.parameters.ParamFault.{ParamFault}
 use Rattle.ckd_types.specs.declared.sense.Sense.{Sense}
 use Rattle.ckd_types.specs.Ccw.{no_ccw, ccw_at}
-use Rattle.ckd_types.specs.Commands.{command_of}
-use Rattle.ckd_types.specs.Parameters.{given, domain_of}
-use Rattle.plain_defs.specs.declared.opening.LocalAct.TheVariants as acts
-use Rattle.plain_defs.specs.declared.opening.Opening.{Opening}
-use Rattle.plain_defs.specs.declared.opening.Opening.TheVariants.{Over, Looks, Asks}
-use Rattle.plain_defs.specs.declared.stance.Place.{Place}
-use Rattle.plain_defs.specs.declared.stance.Place.TheVariants.{Index, Home, Count, Key, Body}
-use Rattle.plain_defs.specs.declared.stance.Stance.{Stance}
+use Rattle.ckd_types.specs.Commands.{command_of, required_count}
+use Rattle.ckd_types.specs.Fixed.{Fixed}
+use Rattle.ckd_types.specs.Mask.{is_mask}
+use Rattle.ckd_types.specs.Parameters.{given, seek_to, head_to, extent_of, domain_of}
+use Rattle.ckd_types.specs.Sense.{reject_sense, file_protected_sense}
+use Rattle.ckd_rules.specs.declared.opening.Opening.{Opening}
+use Rattle.ckd_rules.specs.declared.opening.Opening.TheVariants as openings
+use Rattle.ckd_rules.specs.declared.order.LocalAct.{LocalAct}
+use Rattle.ckd_rules.specs.declared.order.LocalAct.TheVariants as acts
+use Rattle.ckd_rules.specs.declared.order.Look.{Look}
+use Rattle.ckd_rules.specs.declared.order.Look.TheVariants.{Finds, Searches, Reads, Writes}
+use Rattle.ckd_rules.specs.declared.order.Order.{Order}
+use Rattle.ckd_rules.specs.declared.order.Order.TheVariants.{Nothing, Seeks, Recalibrates, SetsSector, SetsMask, Defines, Locates, Looks, Asks}
+use Rattle.ckd_rules.specs.declared.stance.Place.{Place}
+use Rattle.ckd_rules.specs.declared.stance.Place.TheVariants.{Index, Home, Count, Key, Body}
+use Rattle.ckd_rules.specs.declared.stance.Stance.{Stance}
+use Rattle.ckd_rules.specs.Checks.{seeks, defines, locates, control_order, device_act, decoded, mask_fault, first_track, is_within, is_in_sequence, masked_order, permitted_order, order_by, order_of}
+use Rattle.ckd_rules.specs.Control.{unseen_place}
+use Rattle.ckd_rules.specs.Finding.{track_after}
+use Rattle.ckd_rules.specs.Opening.{moved, read_from, look_from, locating, begun, opened_by, opening_of}
 use Rattle.plain_defs.specs.Built.{is_built, IsBuilt}
-use Rattle.plain_defs.specs.Checks.{first_check}
-use Rattle.plain_defs.specs.Control.{needs_record}
 use Rattle.plain_defs.specs.Effect.{effect_by, command_effect}
-use Rattle.plain_defs.specs.Finding.{track_after}
-use Rattle.plain_defs.specs.Opening.{looks_for, locate_record, moved, track_from, begins, begins_by, unless_refused, opening_of}
-use Rattle.plain_defs.specs.PlainState.{PlainState}
+use Rattle.plain_defs.specs.PlainState.{PlainState, fixed_of}
 
 -- of the device it asks nothing but sense and sense ID
+abbrev pub IsQuiet : LocalAct → Type 0
+IsQuiet acts.Sense = ⊤
+IsQuiet acts.SenseId = ⊤
+IsQuiet _ = ⊥
+
 abbrev pub AsksSense : Opening → Type 0
-AsksSense (Asks acts.Sense) = ⊤
-AsksSense (Asks acts.SenseId) = ⊤
-AsksSense (Asks acts.Reserve) = ⊥
-AsksSense (Asks acts.Release) = ⊥
-AsksSense (Asks acts.Steal) = ⊥
-AsksSense (Asks (acts.SetGroup function id)) = ⊥
-AsksSense (Asks acts.SenseGroup) = ⊥
-AsksSense (Over o) = ⊤
-AsksSense (Looks z) = ⊤
+AsksSense (openings.Asks act) = IsQuiet act
+AsksSense _ = ⊤
 
-effect_owner : (state : PlainState) (path : ℕ) (s : Stance) (c : Ccw) (how : Opening) → AsksSense how → (effect_by state path s c how).state.owner ≡ state.owner
-effect_owner state path s c (Over o) quiet = refl
-effect_owner state path s c (Looks z) quiet = refl
-effect_owner state path s c (Asks acts.Sense) quiet = refl
-effect_owner state path s c (Asks acts.SenseId) quiet = refl
-effect_owner state path s c (Asks acts.SenseGroup) quiet = absurd quiet
-effect_owner state path s c (Asks acts.Reserve) quiet = absurd quiet
-effect_owner state path s c (Asks acts.Release) quiet = absurd quiet
-effect_owner state path s c (Asks acts.Steal) quiet = absurd quiet
-effect_owner state path s c (Asks (acts.SetGroup function id)) quiet = absurd quiet
+abbrev pub IsQuietOrder : Order → Type 0
+IsQuietOrder (Asks act) = IsQuiet act
+IsQuietOrder _ = ⊤
 
-module _ (cylinders : ℕ) (s : Stance) (c : Ccw) where
-  looks_quiet : (d : Domain) (place : Option Place) → AsksSense (looks_for s c d place)
-  looks_quiet d (Some place) = tt
-  looks_quiet d None = tt
+abbrev pub IfQuiet : Option Order → Type 0
+IfQuiet (Some order) = IsQuietOrder order
+IfQuiet None = ⊤
 
-  locate_quiet : (domain : Result Domain ParamFault) → AsksSense (locate_record s c domain)
-  locate_quiet (Ok d) = looks_quiet d (needs_record d.orientation)
-  locate_quiet (Err fault) = tt
+abbrev pub OkQuiet : Result Order Sense → Type 0
+OkQuiet (Ok order) = IsQuietOrder order
+OkQuiet (Err sense) = ⊤
 
-  moved_quiet : (track : Result ℕ Sense) → AsksSense (moved s c track)
-  moved_quiet (Ok t) = tt
-  moved_quiet (Err sense) = tt
+effect_owner : (state : PlainState) (path : ℕ) (start : Stance) (c : Ccw) (s : Stance) (how : Opening) → AsksSense how → (effect_by state path start c s how).state.owner ≡ state.owner
+effect_owner state path start c s (openings.Over e) quiet = refl
+effect_owner state path start c s (openings.Looks look) quiet = refl
+effect_owner state path start c s (openings.Asks acts.Sense) quiet = refl
+effect_owner state path start c s (openings.Asks acts.SenseId) quiet = refl
+effect_owner state path start c s (openings.Asks acts.SenseGroup) quiet = absurd quiet
+effect_owner state path start c s (openings.Asks acts.Reserve) quiet = absurd quiet
+effect_owner state path start c s (openings.Asks acts.Release) quiet = absurd quiet
+effect_owner state path start c s (openings.Asks acts.Steal) quiet = absurd quiet
+effect_owner state path start c s (openings.Asks (acts.SetGroup function id)) quiet = absurd quiet
 
-  track_quiet : (place : Place) → AsksSense (track_from s c place)
-  track_quiet Index = tt
-  track_quiet Home = moved_quiet (track_after s.extent s.track)
-  track_quiet (Count i) = moved_quiet (track_after s.extent s.track)
-  track_quiet (Key i) = moved_quiet (track_after s.extent s.track)
-  track_quiet (Body i) = moved_quiet (track_after s.extent s.track)
+-- Decoding.
 
-  begins_quiet : (command : Command) → is_built (Some command) ≡ true → AsksSense (begins cylinders s c command)
-  begins_quiet commands.NoOperation built = tt
-  begins_quiet commands.Seek built = tt
-  begins_quiet commands.SeekCylinder built = tt
-  begins_quiet commands.SeekHead built = tt
-  begins_quiet commands.Recalibrate built = tt
-  begins_quiet commands.SetSector built = tt
-  begins_quiet commands.SetFileMask built = tt
-  begins_quiet commands.DefineExtent built = tt
-  begins_quiet commands.LocateRecord built = locate_quiet (domain_of cylinders (given 16 c))
-  begins_quiet (commands.SearchId comparison) built = tt
-  begins_quiet (commands.SearchKey comparison) built = tt
-  begins_quiet commands.SearchHome built = tt
-  begins_quiet commands.ReadHome built = tt
-  begins_quiet commands.ReadZero built = tt
-  begins_quiet commands.ReadCount built = tt
-  begins_quiet commands.ReadData built = tt
-  begins_quiet commands.ReadKeyData built = tt
-  begins_quiet commands.ReadCountKeyData built = tt
-  begins_quiet commands.ReadMultiple built = tt
-  begins_quiet commands.ReadTrack built = track_quiet s.place
-  begins_quiet commands.WriteData built = tt
-  begins_quiet commands.UpdateData built = tt
-  begins_quiet commands.WriteKeyData built = tt
-  begins_quiet commands.UpdateKeyData built = tt
-  begins_quiet commands.WriteCountKeyData built = tt
-  begins_quiet commands.WriteNextTrack built = moved_quiet (track_after s.extent s.track)
-  begins_quiet commands.WriteZero built = tt
-  begins_quiet commands.Sense built = tt
-  begins_quiet commands.SenseId built = tt
-  begins_quiet commands.Reserve built = absurd (let e : false ≡ true = built in cc)
-  begins_quiet commands.Release built = absurd (let e : false ≡ true = built in cc)
-  begins_quiet commands.UnconditionalReserve built = absurd (let e : false ≡ true = built in cc)
-  begins_quiet commands.SetPathGroup built = absurd (let e : false ≡ true = built in cc)
-  begins_quiet commands.SensePathGroup built = absurd (let e : false ≡ true = built in cc)
+seeks_quiet : (track : Option ℕ) → IfQuiet (seeks track)
+seeks_quiet (Some t) = tt
+seeks_quiet None = tt
 
-  found_quiet : (found : Option Command) → is_built found ≡ true → AsksSense (begins_by cylinders s c found)
-  found_quiet (Some command) built = begins_quiet command built
-  found_quiet None built = tt
+mask_quiet : (mask : ℕ) (good : Bool) → IfQuiet (cond good (Some (SetsMask mask)) None)
+mask_quiet mask true = tt
+mask_quiet mask false = tt
 
-  unless_quiet : (sense : Option Sense) (how : Opening) → AsksSense how → AsksSense (unless_refused s c sense how)
-  unless_quiet (Some sense) how quiet = tt
-  unless_quiet None how quiet = quiet
+defines_quiet : (e : Result Extent ParamFault) → IfQuiet (defines e)
+defines_quiet (Ok e) = tt
+defines_quiet (Err fault) = tt
+
+locates_quiet : (d : Result Domain ParamFault) → IfQuiet (locates d)
+locates_quiet (Ok d) = tt
+locates_quiet (Err fault) = tt
+
+module _ (f : Fixed) (s : Stance) (c : Ccw) where
+  control_quiet : (bytes : List ℕ) (k : Control) → IfQuiet (control_order f s bytes k)
+  control_quiet bytes controls.NoOperation = tt
+  control_quiet bytes controls.Seek = seeks_quiet (seek_to f.cylinders bytes)
+  control_quiet bytes controls.SeekCylinder = seeks_quiet (seek_to f.cylinders bytes)
+  control_quiet bytes controls.SeekHead = seeks_quiet (head_to s.track bytes)
+  control_quiet bytes controls.Recalibrate = tt
+  control_quiet bytes controls.SetSector = tt
+  control_quiet bytes controls.SetFileMask = mask_quiet (slice_index bytes 0) (is_mask (slice_index bytes 0))
+  control_quiet bytes controls.DefineExtent = defines_quiet (extent_of f.cylinders bytes)
+  control_quiet bytes controls.LocateRecord = locates_quiet (domain_of f.cylinders bytes)
+
+  device_quiet : (d : DeviceCommand) → is_built (Some (commands.Device d)) ≡ true → IsQuiet (device_act (given 16 c) d)
+  device_quiet devices.Sense built = tt
+  device_quiet devices.SenseId built = tt
+  device_quiet devices.Reserve built = absurd (let e : false ≡ true = built in cc)
+  device_quiet devices.Release built = absurd (let e : false ≡ true = built in cc)
+  device_quiet devices.UnconditionalReserve built = absurd (let e : false ≡ true = built in cc)
+  device_quiet devices.SetPathGroup built = absurd (let e : false ≡ true = built in cc)
+  device_quiet devices.SensePathGroup built = absurd (let e : false ≡ true = built in cc)
+
+  decoded_quiet : (command : Command) → is_built (Some command) ≡ true → IfQuiet (decoded f s c command)
+  decoded_quiet (commands.Control k) built = control_quiet (given 16 c) k
+  decoded_quiet (commands.Search x) built = tt
+  decoded_quiet (commands.Read r) built = tt
+  decoded_quiet (commands.Write w) built = tt
+  decoded_quiet (commands.Device d) built = device_quiet d built
+
+  placed_quiet : (order : Order) (good : Bool) → IsQuietOrder order → OkQuiet (cond good (Ok order) (Err file_protected_sense))
+  placed_quiet order true quiet = quiet
+  placed_quiet order false quiet = tt
+
+  masked_quiet : (order : Order) (fault : Option Sense) → IsQuietOrder order → OkQuiet (masked_order s order fault)
+  masked_quiet order (Some sense) quiet = tt
+  masked_quiet order None quiet = placed_quiet order (is_within s.extent (first_track s order)) quiet
+
+  permitted_quiet : (command : Command) (order : Option Order) → IfQuiet order → OkQuiet (permitted_order s command order)
+  permitted_quiet command (Some order) quiet = masked_quiet order (mask_fault s.mask command) quiet
+  permitted_quiet command None quiet = tt
+
+  -- behind two tests
+  tested_quiet : (a b : Bool) (x y : Sense) (r : Result Order Sense) → OkQuiet r → OkQuiet (cond a (Err x) (cond b (Err y) r))
+  tested_quiet true b x y r quiet = tt
+  tested_quiet false true x y r quiet = tt
+  tested_quiet false false x y r quiet = quiet
+
+  order_quiet : (found : Option Command) → is_built found ≡ true → OkQuiet (order_by f s c found)
+  order_quiet None built = tt
+  order_quiet (Some command) built =
+      tested_quiet (not (is_in_sequence s s.domain command)) (nat_lt c.count (required_count command)) (reject_sense 2) (reject_sense 3) (permitted_order s command (decoded f s c command)) (permitted_quiet command (decoded f s c command) (decoded_quiet command built))
+
+  moved_quiet : (look : Look) (track : Result ℕ Sense) → AsksSense (moved s c look track).opening
+  moved_quiet look (Ok t) = tt
+  moved_quiet look (Err sense) = tt
+
+  read_quiet : (r : Read) (area : ReadArea) (place : Place) → AsksSense (read_from s c r area place).opening
+  read_quiet r reads.Home place = tt
+  read_quiet r reads.Zero place = tt
+  read_quiet r reads.Count place = tt
+  read_quiet r reads.Data place = tt
+  read_quiet r reads.KeyData place = tt
+  read_quiet r reads.CountKeyData place = tt
+  read_quiet r reads.Multiple place = tt
+  read_quiet r reads.Track Index = tt
+  read_quiet r reads.Track Home = moved_quiet (Reads r) (track_after s.extent s.track)
+  read_quiet r reads.Track (Count i) = moved_quiet (Reads r) (track_after s.extent s.track)
+  read_quiet r reads.Track (Key i) = moved_quiet (Reads r) (track_after s.extent s.track)
+  read_quiet r reads.Track (Body i) = moved_quiet (Reads r) (track_after s.extent s.track)
+
+  look_quiet : (look : Look) → AsksSense (look_from s c look).opening
+  look_quiet (Finds d) = tt
+  look_quiet (Searches x) = tt
+  look_quiet (Reads r) = read_quiet r r.area s.place
+  look_quiet (Writes writes.Data) = tt
+  look_quiet (Writes writes.UpdateData) = tt
+  look_quiet (Writes writes.KeyData) = tt
+  look_quiet (Writes writes.UpdateKeyData) = tt
+  look_quiet (Writes writes.CountKeyData) = tt
+  look_quiet (Writes writes.NextTrack) = moved_quiet (Writes writes.NextTrack) (track_after s.extent s.track)
+  look_quiet (Writes writes.Zero) = tt
+
+  locating_quiet : (d : Domain) (place : Option Place) → AsksSense (locating s c d place).opening
+  locating_quiet d (Some place) = tt
+  locating_quiet d None = tt
+
+  begun_quiet : (order : Order) → IsQuietOrder order → AsksSense (begun s c order).opening
+  begun_quiet Nothing quiet = tt
+  begun_quiet (Seeks t) quiet = tt
+  begun_quiet Recalibrates quiet = tt
+  begun_quiet SetsSector quiet = tt
+  begun_quiet (SetsMask mask) quiet = tt
+  begun_quiet (Defines e) quiet = tt
+  begun_quiet (Locates d) quiet = locating_quiet d (unseen_place d.orientation)
+  begun_quiet (Looks look) quiet = look_quiet look
+  begun_quiet (Asks act) quiet = quiet
+
+  opened_quiet : (order : Result Order Sense) → OkQuiet order → AsksSense (opened_by s c order).opening
+  opened_quiet (Ok order) quiet = begun_quiet order quiet
+  opened_quiet (Err sense) quiet = tt
 
   -- a command that the run of a deck opens
-  pub opening_quiet : IsBuilt c → AsksSense (opening_of cylinders s c)
-  opening_quiet built = unless_quiet (first_check cylinders s c (command_of c.command)) (begins_by cylinders s c (command_of c.command)) (found_quiet (command_of c.command) built)
+  pub opening_quiet : IsBuilt c → AsksSense (opening_of f s c).opening
+  opening_quiet built = opened_quiet (order_of f s c) (order_quiet (command_of c.command) built)
 
 pub command_owner : (state : PlainState) (path : ℕ) (s : Stance) (c : Ccw) → IsBuilt c → (command_effect state path s c).state.owner ≡ state.owner
-command_owner state path s c built = effect_owner state path s c (opening_of state.cylinders s c) (opening_quiet state.cylinders s c built)
+command_owner state path s c built = effect_owner state path s c (opening_of (fixed_of state) s c).stance (opening_of (fixed_of state) s c).opening (opening_quiet (fixed_of state) s c built)
 
 -- past the end of a program stands no command
 nothing_built : IsBuilt no_ccw

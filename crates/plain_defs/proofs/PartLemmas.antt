@@ -5,12 +5,14 @@ use Rattle.std.proofs.lemmas.List.{append-nil}
 use Rattle.ckd_types.specs.declared.channel.Ccw.{Ccw}
 use Rattle.ckd_types.specs.declared.channel.CommandEnd.{CommandEnd}
 use Rattle.ckd_types.specs.Ccw.{ccw_at}
-use Rattle.plain_defs.specs.declared.stance.Stance.{Stance}
-use Rattle.plain_defs.specs.declared.outcome.Outcome.{Outcome}
+use Rattle.ckd_rules.specs.declared.stance.Stance.{Stance}
+use Rattle.ckd_rules.specs.Ending.{Outcome}
+use Rattle.ckd_rules.specs.Ends.{end_of, goes_to}
+use Rattle.ckd_rules.specs.Walk.{TrackEdit}
 use Rattle.plain_defs.specs.PlainState.{PlainState}
-use Rattle.plain_defs.specs.Effect.{TrackEdit, command_effect}
-use Rattle.plain_defs.specs.Chain.{Part, part_from, whole_run, end_of, goes_to, onto}
-use Rattle.plain_defs.specs.Room.{Stands, GoesOn, IsRunning}
+use Rattle.plain_defs.specs.Effect.{command_effect}
+use Rattle.plain_defs.specs.Chain.{Part, part_from, whole_run, edits_of, onto}
+use Rattle.ckd_rules.specs.Facts.{Stands, Behind, IsRunning}
 
 -- the ends so far, and those of what is left, are those of the whole run
 pub record IsPart (start : PlainState) (path : ℕ) (ccws : List Ccw) (state : PlainState) (s : Stance) (next : Option ℕ) (ends : List CommandEnd) : Type 0 where
@@ -26,7 +28,7 @@ module _ (state : PlainState) (path : ℕ) (ccws : List Ccw) (s : Stance) where
   none_left (suc k) = refl
 
   pub one_more : (k i : ℕ) → part_from (suc k) state path ccws s (Some i)
-      ≡ onto (end_of i (ccw_at ccws i) (command_effect state path s (ccw_at ccws i)).outcome) (command_effect state path s (ccw_at ccws i)).edits
+      ≡ onto (end_of i (ccw_at ccws i) (command_effect state path s (ccw_at ccws i)).outcome) (edits_of (command_effect state path s (ccw_at ccws i)).edit)
       (part_from k (command_effect state path s (ccw_at ccws i)).state path ccws (command_effect state path s (ccw_at ccws i)).outcome.stance (goes_to ccws i (command_effect state path s (ccw_at ccws i)).outcome))
   unfolding part_from
   one_more k i = refl
@@ -46,7 +48,7 @@ module _ (start : PlainState) (path : ℕ) (ccws : List Ccw) (state : PlainState
       ∙ p.state_is
 
   module _ (i : ℕ) (c : Ccw) (o : Outcome) (then_state : PlainState) (then_next : Option ℕ) (then_ends : List CommandEnd) (next_is : next ≡ Some i) (c_is : c ≡ ccw_at ccws i)
-      (outcome_is : o ≡ (command_effect state path s c).outcome) (state_is : then_state ≡ (command_effect state path s c).state) (goes_on : GoesOn (state.cylinders * 15) s o.stance) (cylinders_are : then_state.cylinders ≡ state.cylinders)
+      (outcome_is : o ≡ (command_effect state path s c).outcome) (state_is : then_state ≡ (command_effect state path s c).state) (goes_on : Behind (state.cylinders * 15) s o.stance) (cylinders_are : then_state.cylinders ≡ state.cylinders)
       (then_is : then_next ≡ goes_to ccws i o) (then_running : IfSome then_next (λ j. IsRunning j o.stance)) (ends_is : then_ends ≡ ends ++ end_of i c o ∷ []) where
     is_running : IsRunning i s
     is_running = subst (λ (n : Option ℕ). IfSome n (λ j. IsRunning j s)) next_is p.running
@@ -55,7 +57,7 @@ module _ (start : PlainState) (path : ℕ) (ccws : List Ccw) (state : PlainState
     left = omega (arith, is_running.room.commands, goes_on.commands)
 
     edits : List TrackEdit
-    edits = (command_effect state path s c).edits
+    edits = edits_of (command_effect state path s c).edit
 
     rest : Part
     rest = part_from (4096 - o.stance.commands) then_state path ccws o.stance then_next
@@ -66,7 +68,7 @@ module _ (start : PlainState) (path : ℕ) (ccws : List Ccw) (state : PlainState
         ap (λ (n : Option ℕ). part_from (4096 - s.commands) state path ccws s n) next_is
         ∙ ap (λ (k : ℕ). part_from k state path ccws s (Some i)) left
         ∙ one_more state path ccws s (4096 - o.stance.commands) i
-        ∙ ap (λ (d : Ccw). onto (end_of i d (command_effect state path s d).outcome) (command_effect state path s d).edits (part_from (4096 - o.stance.commands) (command_effect state path s d).state path ccws (command_effect state path s d).outcome.stance (goes_to ccws i (command_effect state path s d).outcome))) (sym c_is)
+        ∙ ap (λ (d : Ccw). onto (end_of i d (command_effect state path s d).outcome) (edits_of (command_effect state path s d).edit) (part_from (4096 - o.stance.commands) (command_effect state path s d).state path ccws (command_effect state path s d).outcome.stance (goes_to ccws i (command_effect state path s d).outcome))) (sym c_is)
         ∙ ap (λ (x : Outcome). onto (end_of i c x) edits (part_from (4096 - o.stance.commands) (command_effect state path s c).state path ccws x.stance (goes_to ccws i x))) (sym outcome_is)
         ∙ ap (λ (q : PlainState). onto (end_of i c o) edits (part_from (4096 - o.stance.commands) q path ccws o.stance (goes_to ccws i o))) (sym state_is)
         ∙ ap (λ (n : Option ℕ). onto (end_of i c o) edits (part_from (4096 - o.stance.commands) then_state path ccws o.stance n)) (sym then_is)

@@ -1,45 +1,15 @@
 -- A channel program is a fold of its commands, with a stance.
-use Rattle.std.specs.Prelude.{ℕ, zero, suc, ◌==◌, ◌&&◌, ◌||◌, not, nat_le, Bool, true, false, List, [], ◌∷◌, ◌++◌, Option, None, Some, if◌then◌else◌}
+use Rattle.std.specs.Prelude.{ℕ, zero, suc, ◌==◌, ◌||◌, Bool, List, [], ◌∷◌, ◌++◌, Option, None, Some, if◌then◌else◌}
 use Rattle.ckd_types.specs.declared.channel.Ccw.{Ccw}
 use Rattle.ckd_types.specs.declared.channel.CommandEnd.{CommandEnd}
-use Rattle.ckd_types.specs.declared.channel.Note.{Note}
-use Rattle.ckd_types.specs.declared.channel.Note.TheVariants.{Plain, IncorrectLength, Limit}
-use Rattle.ckd_types.specs.Ccw.{is_chained, ccw_at}
-use Rattle.ckd_types.specs.Program.{next_ccw}
+use Rattle.ckd_types.specs.Ccw.{ccw_at}
 use Rattle.ckd_types.specs.Sense.{zero_sense}
-use Rattle.ckd_types.specs.Status.{has_unit_check, has_unit_exception, has_status_modifier}
-use Rattle.plain_defs.specs.declared.stance.Stance.{Stance}
-use Rattle.plain_defs.specs.declared.outcome.Outcome.{Outcome}
-use Rattle.plain_defs.specs.Stance.{first_stance}
+use Rattle.ckd_rules.specs.declared.stance.Stance.{Stance}
+use Rattle.ckd_rules.specs.Ends.{end_of, goes_to}
+use Rattle.ckd_rules.specs.Stance.{first_stance}
+use Rattle.ckd_rules.specs.Walk.{TrackEdit}
+use Rattle.plain_defs.specs.Effect.{command_effect}
 use Rattle.plain_defs.specs.PlainState.{PlainState, with_sense}
-use Rattle.plain_defs.specs.Effect.{TrackEdit, command_effect}
-
-abbrev pub is_plain : Note → Bool
-is_plain Plain = true
-is_plain IncorrectLength = false
-is_plain Limit = false
-
--- the chain would go on behind a command
-abbrev pub would_go_on : Ccw → Outcome → Bool
-would_go_on c o = is_chained c && not (has_unit_check o.status) && not (has_unit_exception o.status) && is_plain o.note
-
--- as many commands have ended, or bytes were moved, as a chain may have
-abbrev pub at_limit : Stance → Bool
-at_limit s = nat_le 4096 s.commands || nat_le 1048576 s.moved
-
-abbrev pub is_over : Ccw → Outcome → Bool
-is_over c o = not (would_go_on c o) || at_limit o.stance
-
-abbrev pub note_of : Ccw → Outcome → Note
-note_of c o = if would_go_on c o && at_limit o.stance then Limit else o.note
-
--- the end of the command of word i
-abbrev pub end_of : ℕ → Ccw → Outcome → CommandEnd
-end_of i c o = record { index = i; status = o.status; residual = o.residual; note = note_of c o; sent = o.sent; sense = o.sense; over = is_over c o }
-
--- where the chain goes, if it goes on
-abbrev pub goes_to : List Ccw → ℕ → Outcome → Option ℕ
-goes_to ccws i o = if is_over (ccw_at ccws i) o then None else next_ccw ccws i (has_status_modifier o.status)
 
 -- the device behind some commands of a program, the stance, their ends and their edits
 pub record Part : Type 0 where
@@ -47,6 +17,10 @@ pub record Part : Type 0 where
   pub stance : Stance
   pub ends : List CommandEnd
   pub edits : List TrackEdit
+
+abbrev pub edits_of : Option TrackEdit → List TrackEdit
+edits_of (Some e) = e ∷ []
+edits_of None = []
 
 abbrev pub stopped : PlainState → Stance → Part
 stopped state s = record { state = state; stance = s; ends = []; edits = [] }
@@ -64,7 +38,7 @@ part_from zero state path ccws s next = stopped state s
 part_from (suc k) state path ccws s next =
     if_some next (stopped state s) (λ i.
     let e = command_effect state path s (ccw_at ccws i) in
-    onto (end_of i (ccw_at ccws i) e.outcome) e.edits (part_from k e.state path ccws e.outcome.stance (goes_to ccws i e.outcome)))
+    onto (end_of i (ccw_at ccws i) e.outcome) (edits_of e.edit) (part_from k e.state path ccws e.outcome.stance (goes_to ccws i e.outcome)))
 
 -- sense, reserve, release and unconditional reserve send the sense that a path has
 abbrev pub sends_sense : ℕ → Bool

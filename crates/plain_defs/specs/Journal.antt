@@ -12,9 +12,9 @@ use Rattle.plain_defs.specs.declared.journal.How.{How}
 use Rattle.plain_defs.specs.declared.journal.How.TheVariants.{Full, Cut, Checked}
 use Rattle.plain_defs.specs.declared.journal.Item.{Item}
 use Rattle.plain_defs.specs.declared.journal.Item.TheVariants.{Program, Reset, Fresh}
-use Rattle.plain_defs.specs.Outcome.{check}
+use Rattle.ckd_rules.specs.Ending.{check}
 use Rattle.plain_defs.specs.PlainState.{PlainState, with_sense, is_admitted, reset_path}
-use Rattle.plain_defs.specs.Effect.{TrackEdit}
+use Rattle.ckd_rules.specs.Walk.{TrackEdit}
 use Rattle.plain_defs.specs.Chain.{part_of, whole_run}
 
 -- of each path the programs that are planned, in their order

@@ -1,9 +1,9 @@
 ghost use Rattle.std.specs.Prelude.{◌≡◌, MatchResult, None, OnErr, OnOk, Some, false, true};
-ghost use Rattle.plain_defs.specs.PlainState.{is_free_for, is_same_owner, owner_after};
-ghost use Rattle.plain_defs.specs.Grouping.{owner_set};
+ghost use Rattle.ckd_rules.specs.Grouping.{is_free_for, is_same_owner, owner_after};
+ghost use Rattle.ckd_rules.specs.Grouping.{owner_set};
 
 use ckd_types::{GroupId, Owner, PathNo, PathState};
-use plain_defs::{is_same_owner, owner_after, owner_set};
+use ckd_rules::{is_same_owner, owner_after, owner_set};
 use std::marker::Model;
 
 /// The device is held by somebody else.
@@ -66,8 +66,8 @@ impl Reserve {
         self.owner = None;
     }
 
-    /// Moves the reservation to this owner, whoever holds the device.
-    pub fn steal(&mut self, by: Owner)
+    /// This owner holds the device from now on, whoever held it.
+    pub fn hold(&mut self, by: Owner)
         ensures { self.new ≡ Some by }
     {
         self.owner = Some(by);

@@ -1,6 +1,6 @@
 use crate::*;
 use ckd_types::{Bytes, Ccw, Geometry, GroupId, NoMemory, Owner, PathNo, PathState};
-use plain_defs::PlainDevice;
+use ckd_rules::PlainDevice;
 use std::alloc::Global;
 use std::test::Fail;
 
@@ -34,7 +34,7 @@ fn claims(rt: HostRuntime) -> Result<(), Fail> {
     assert_eq!(rt; reserve.claim(one) == Ok(()), true);
     assert_eq!(rt; reserve.claim(three) == Err(Held { by: one }), true);
     assert_eq!(rt; reserve.owner() == Some(one), true);
-    reserve.steal(three);
+    reserve.hold(three);
     assert_eq!(rt; reserve.owner() == Some(three), true);
     assert_eq!(rt; reserve.claim(one) == Err(Held { by: three }), true);
     reserve.free();
@@ -58,7 +58,7 @@ fn claims_of_groups(rt: HostRuntime) -> Result<(), Fail> {
         reserve.claim(Owner::Path(path(4)?)) == Err(Held { by: group }),
         true
     );
-    reserve.steal(Owner::Path(path(3)?));
+    reserve.hold(Owner::Path(path(3)?));
     assert_eq!(rt; reserve.owner() == Some(Owner::Path(path(3)?)), true);
     Ok(())
 }
@@ -87,7 +87,7 @@ fn changes_of_groups(rt: HostRuntime) -> Result<(), Fail> {
         let mut reserve = Reserve::new();
         reserve.group_set(&paths, path(1)?, function, FIRST);
         assert_eq!(rt; reserve.owner() == None, true);
-        reserve.steal(before);
+        reserve.hold(before);
         reserve.group_set(&paths, path(1)?, function, FIRST);
         assert_eq!(rt; reserve.owner() == Some(want), true, "function {function}");
     }
@@ -111,7 +111,7 @@ fn resets(rt: HostRuntime) -> Result<(), Fail> {
         let mut reserve = Reserve::new();
         reserve.path_reset(&paths, path(1)?);
         assert_eq!(rt; reserve.owner() == None, true);
-        reserve.steal(before);
+        reserve.hold(before);
         reserve.path_reset(&paths, path(1)?);
         assert_eq!(rt; reserve.owner() == want, true);
     }

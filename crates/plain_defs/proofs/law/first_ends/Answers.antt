@@ -1,6 +1,6 @@
 use Rattle.std.proofs.Common.{Some}
 use Rattle.plain_defs.specs.Chain.{begun}
-use Rattle.plain_defs.specs.Stance.{first_stance}
+use Rattle.ckd_rules.specs.Stance.{first_stance}
 use Rattle.plain_defs.proofs.Laws.{part_front}
 use Rattle.plain_defs.proofs.law.first_ends.Goals as goal
 

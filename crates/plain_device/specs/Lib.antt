@@ -1,0 +1,4 @@
+pub mod Volume
+pub mod Acted
+pub mod Between
+pub mod Looking
