@@ -2,3 +2,4 @@ pub mod Lists
 pub mod NextTrack
 pub mod Openings
 mod WriteRows
+pub mod Goes

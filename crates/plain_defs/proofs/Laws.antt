@@ -8,8 +8,9 @@ use Rattle.ckd_rules.specs.declared.stance.Stance.{Stance}
 use Rattle.plain_defs.specs.PlainState.{PlainState}
 use Rattle.plain_defs.specs.Built.{IsBuilt}
 use Rattle.plain_defs.specs.Effect.{command_effect}
-use Rattle.ckd_rules.specs.Ends.{goes_to, end_of, is_over}
+use Rattle.ckd_rules.specs.Ends.{goes_to, end_of}
 use Rattle.plain_defs.specs.Chain.{Part, part_from}
+use Rattle.ckd_rules.proofs.Goes.{over_stops}
 use Rattle.plain_defs.proofs.OwnerLemmas.{built_at, command_owner}
 use Rattle.plain_defs.proofs.PartLemmas.{none_left}
 
@@ -17,10 +18,6 @@ use Rattle.plain_defs.proofs.PartLemmas.{none_left}
 abbrev pub IsClosed : List CommandEnd → Type 0
 IsClosed [] = Unit {0}
 IsClosed (e ∷ ends) = (e.over ≡ true → ends ≡ []) × IsClosed ends
-
-over_stops : (b : Bool) (x : Option ℕ) → b ≡ true → cond b None x ≡ None
-over_stops true x is = refl
-over_stops false x is = absurd (let e : false ≡ true = is in cc)
 
 module _ (path : ℕ) (ccws : List Ccw) where
   -- the ends of the first k commands are the first k ends
@@ -49,7 +46,7 @@ module _ (path : ℕ) (ccws : List Ccw) where
   part_closes (suc n) state s (Some i) =
       let e = command_effect state path s (ccw_at ccws i) in (
         λ over.
-            ap (λ (next' : Option ℕ). (part_from n e.state path ccws e.outcome.stance next').ends) (over_stops (is_over (ccw_at ccws i) e.outcome) _ over)
+            ap (λ (next' : Option ℕ). (part_from n e.state path ccws e.outcome.stance next').ends) (over_stops ccws i e.outcome over)
             ∙ ap (λ (p : Part). p.ends) (none_left e.state path ccws e.outcome.stance n),
         part_closes n e.state e.outcome.stance (goes_to ccws i e.outcome),
       )

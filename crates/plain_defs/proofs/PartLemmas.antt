@@ -1,5 +1,5 @@
 -- A running program, one command on.
-use Rattle.std.proofs.Common.{◌≡◌, ◌-◌, ◌*◌, ◌++◌, ◌∷◌, [], ℕ, zero, suc, List, Option, Some, None, refl, arith, sym, ap, subst, ◌∙◌, append_assoc}
+use Rattle.std.proofs.Common.{◌≡◌, ◌-◌, ◌+◌, ◌<◌, ◌++◌, ◌∷◌, [], ℕ, zero, suc, List, Option, Some, None, refl, arith, sym, ap, subst, ◌∙◌, append_assoc}
 use Rattle.std.specs.Prelude.{IfSome}
 use Rattle.std.proofs.lemmas.List.{append-nil}
 use Rattle.ckd_types.specs.declared.channel.Ccw.{Ccw}
@@ -11,15 +11,14 @@ use Rattle.ckd_rules.specs.Ends.{end_of, goes_to}
 use Rattle.ckd_rules.specs.Walk.{TrackEdit}
 use Rattle.plain_defs.specs.PlainState.{PlainState}
 use Rattle.plain_defs.specs.Effect.{command_effect}
-use Rattle.plain_defs.specs.Chain.{Part, part_from, whole_run, edits_of, onto}
-use Rattle.ckd_rules.specs.Facts.{Stands, Behind, IsRunning}
+use Rattle.ckd_rules.specs.Stance.{first_stance}
+use Rattle.plain_defs.specs.Chain.{Part, begun, part_from, whole_run, edits_of, onto}
 
 -- the ends so far, and those of what is left, are those of the whole run
 pub record IsPart (start : PlainState) (path : ℕ) (ccws : List Ccw) (state : PlainState) (s : Stance) (next : Option ℕ) (ends : List CommandEnd) : Type 0 where
   pub ends_are : ends ++ (part_from (4096 - s.commands) state path ccws s next).ends ≡ (whole_run start path ccws).ends
   pub state_is : (part_from (4096 - s.commands) state path ccws s next).state ≡ (whole_run start path ccws).state
-  pub stands : Stands (state.cylinders * 15) s
-  pub running : IfSome next (λ i. IsRunning i s)
+  pub room : IfSome next (λ i. s.commands < 4096)
 
 module _ (state : PlainState) (path : ℕ) (ccws : List Ccw) (s : Stance) where
   pub none_left : (k : ℕ) → part_from k state path ccws s None ≡ record { state = state; stance = s; ends = []; edits = [] }
@@ -48,13 +47,13 @@ module _ (start : PlainState) (path : ℕ) (ccws : List Ccw) (state : PlainState
       ∙ p.state_is
 
   module _ (i : ℕ) (c : Ccw) (o : Outcome) (then_state : PlainState) (then_next : Option ℕ) (then_ends : List CommandEnd) (next_is : next ≡ Some i) (c_is : c ≡ ccw_at ccws i)
-      (outcome_is : o ≡ (command_effect state path s c).outcome) (state_is : then_state ≡ (command_effect state path s c).state) (goes_on : Behind (state.cylinders * 15) s o.stance) (cylinders_are : then_state.cylinders ≡ state.cylinders)
-      (then_is : then_next ≡ goes_to ccws i o) (then_running : IfSome then_next (λ j. IsRunning j o.stance)) (ends_is : then_ends ≡ ends ++ end_of i c o ∷ []) where
-    is_running : IsRunning i s
-    is_running = subst (λ (n : Option ℕ). IfSome n (λ j. IsRunning j s)) next_is p.running
+      (outcome_is : o ≡ (command_effect state path s c).outcome) (state_is : then_state ≡ (command_effect state path s c).state) (counted : o.stance.commands ≡ s.commands + 1)
+      (then_is : then_next ≡ goes_to ccws i o) (then_room : IfSome then_next (λ j. o.stance.commands < 4096)) (ends_is : then_ends ≡ ends ++ end_of i c o ∷ []) where
+    has_room : s.commands < 4096
+    has_room = subst (λ (n : Option ℕ). IfSome n (λ j. s.commands < 4096)) next_is p.room
 
     left : 4096 - s.commands ≡ suc (4096 - o.stance.commands)
-    left = omega (arith, is_running.room.commands, goes_on.commands)
+    left = omega (arith, has_room, counted)
 
     edits : List TrackEdit
     edits = edits_of (command_effect state path s c).edit
@@ -82,6 +81,9 @@ module _ (start : PlainState) (path : ℕ) (ccws : List Ccw) (state : PlainState
           ∙ ap (λ (x : Part). ends ++ x.ends) (sym unrolled)
           ∙ p.ends_are;
       state_is = ap (λ (x : Part). x.state) (sym unrolled) ∙ p.state_is;
-      stands = subst (λ (n : ℕ). Stands (n * 15) o.stance) (sym cylinders_are) goes_on.stands;
-      running = then_running;
+      room = then_room;
     }
+
+-- a program that has begun
+pub part_first : (start : PlainState) (path : ℕ) (ccws : List Ccw) → IsPart start path ccws (begun start path ccws) first_stance (Some 0) []
+part_first start path ccws = record { ends_are = refl; state_is = refl; room = omega arith }

@@ -1,1 +1,7 @@
-pub mod Images
+pub mod Tracks
+pub mod Turns
+pub mod Looks
+pub mod Following
+pub mod Answering
+pub mod Opened
+pub mod Running

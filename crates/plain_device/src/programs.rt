@@ -29,6 +29,7 @@ impl PlainDevice {
         while !chain.over() {
             chain.stands();
             let end = device.command(alloc, path, &mut chain)?;
+            chain.stands();
             ends.reserve(1)?;
             ends.push(end);
         }

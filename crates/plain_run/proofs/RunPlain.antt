@@ -14,13 +14,14 @@ use Rattle.ckd_types.specs.Sense.{zero_sense}
 use Rattle.plain_defs.specs.declared.journal.How.TheVariants.{Full}
 use Rattle.plain_defs.specs.declared.journal.Item.{Item}
 use Rattle.plain_defs.specs.declared.journal.Item.TheVariants.{Program}
-use Rattle.plain_defs.specs.declared.stance.Stance.{Stance}
+use Rattle.ckd_rules.specs.declared.stance.Stance.{Stance}
 use Rattle.plain_defs.specs.Built.{IsBuilt}
-use Rattle.plain_defs.specs.Chain.{Part, part_from, part_of, whole_run, begun, starts_with_sense, end_of, is_over, goes_to, onto}
+use Rattle.ckd_rules.specs.Ends.{end_of, is_over, goes_to}
+use Rattle.plain_defs.specs.Chain.{Part, part_from, part_of, whole_run, begun, starts_with_sense, edits_of, onto}
 use Rattle.plain_defs.specs.Effect.{Effect, command_effect}
 use Rattle.plain_defs.specs.Journal.{Plans, program_of, is_of_path, IsLegal}
 use Rattle.plain_defs.specs.PlainState.{PlainState, with_sense, owner_of, is_free_for, is_admitted, asks_for_group}
-use Rattle.plain_defs.specs.Stance.{first_stance}
+use Rattle.ckd_rules.specs.Stance.{first_stance}
 use Rattle.plain_defs.proofs.JournalLaws.{replay-append, legal_more}
 use Rattle.plain_defs.proofs.Laws.{part_front, part_length, part_owner}
 use Rattle.plain_defs.proofs.PartLemmas.{none_left, one_more}
@@ -32,7 +33,7 @@ use Rattle.plain_run.specs.Between.{Counted, Counts}
 use Rattle.plain_run.specs.Kept.{Open, Kept, kept_after, kept_from, IsPlain, nothing_kept, ends_so_far}
 use Rattle.plain_run.specs.Run.{Did, begin_with, start, one_command, step, ended_at, goes_on_at}
 use Rattle.plain_run.specs.State.{RunningProgram, MachineState}
-use Rattle.plain_run.proofs.Goes.{over_stops, more_goes}
+use Rattle.ckd_rules.proofs.Goes.{over_stops, more_goes}
 
 take_front : {X : Type 0} (xs ys : List X) → take (length xs) (xs ++ ys) ≡ xs
 take_front [] ys = refl
@@ -72,7 +73,7 @@ module _ (start : PlainState) (ccws : List Ccw) where
         let k = 4096 - (s.commands + 1) in
         let left_is : f.left ≡ suc k = omega (arith, f.fits refl, room) in
         let rest = part_from k e.state 1 ccws e.outcome.stance (goes_to ccws i e.outcome) in
-        let all : part_from f.left state 1 ccws s (Some i) ≡ onto end e.edits rest = ap (λ (n : ℕ). part_from n state 1 ccws s (Some i)) left_is ∙ one_more state 1 ccws s k i in
+        let all : part_from f.left state 1 ccws s (Some i) ≡ onto end (edits_of e.edit) rest = ap (λ (n : ℕ). part_from n state 1 ccws s (Some i)) left_is ∙ one_more state 1 ccws s k i in
         record {
           left = k;
           fits = λ some. ap (λ (n : ℕ). 4096 - n) (sym (counted some));

@@ -2,7 +2,7 @@
 use Rattle.std.specs.Prelude.{◌≡◌, ℕ, ◌+◌, ◌-◌, List, [], ◌∷◌, ◌++◌, All, IsSome, count_by, Option, Some, None}
 use Rattle.ckd_types.specs.declared.channel.Ccw.{Ccw}
 use Rattle.ckd_types.specs.declared.channel.CommandEnd.{CommandEnd}
-use Rattle.plain_defs.specs.declared.stance.Stance.{Stance}
+use Rattle.ckd_rules.specs.declared.stance.Stance.{Stance}
 use Rattle.plain_defs.specs.Built.{IsBuilt}
 use Rattle.plain_defs.specs.Chain.{part_from, whole_run}
 use Rattle.plain_defs.specs.Journal.{Plans, program_of, is_of_path, replay, IsLegal}

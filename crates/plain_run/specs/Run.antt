@@ -4,9 +4,10 @@ use Rattle.ckd_types.specs.declared.channel.Ccw.{Ccw}
 use Rattle.ckd_types.specs.declared.geometry.Geometry.{Geometry}
 use Rattle.ckd_types.specs.Ccw.{ccw_at}
 use Rattle.plain_defs.specs.PlainState.{empty_state}
-use Rattle.plain_defs.specs.Chain.{begun, end_of, goes_to}
+use Rattle.ckd_rules.specs.Ends.{end_of, goes_to}
+use Rattle.plain_defs.specs.Chain.{begun}
 use Rattle.plain_defs.specs.Effect.{Effect, command_effect}
-use Rattle.plain_defs.specs.Stance.{first_stance}
+use Rattle.ckd_rules.specs.Stance.{first_stance}
 use Rattle.deck_plan.specs.declared.event.EventLine.{EventLine}
 use Rattle.deck_plan.specs.declared.event.EventLine.TheVariants.{Start, Step, Run}
 use Rattle.plain_run.specs.State.{RunningProgram, MachineState}

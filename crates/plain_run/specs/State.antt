@@ -1,7 +1,7 @@
 -- A device with the program that runs on it.
 use Rattle.std.specs.Prelude.{ℕ, List, Option}
 use Rattle.ckd_types.specs.declared.channel.Ccw.{Ccw}
-use Rattle.plain_defs.specs.declared.stance.Stance.{Stance}
+use Rattle.ckd_rules.specs.declared.stance.Stance.{Stance}
 use Rattle.plain_defs.specs.PlainState.{PlainState}
 
 -- its ordinal, its words, and between two commands its stance and the word of the next one, if there is one

@@ -1,5 +1,5 @@
-use crate::device::Device;
 use ckd_chain::Chain;
+use plain_device::PlainDevice;
 use std::marker::Model;
 
 /// The program that runs: its ordinal, and its chain.
@@ -13,14 +13,15 @@ pub struct Running {
 /// runs.
 #[derive(Drop)]
 pub struct Machine {
-    pub device: Device,
+    pub device: PlainDevice,
     pub started: u16,
     pub running: Option<Running>,
 }
 
 impl Model for Machine {
     ghost use Rattle.std.specs.Prelude.{IfSome, option_map};
-    ghost use Rattle.plain_run.specs.Between.{running_program, IsBetween};
+    ghost use Rattle.plain_device.specs.Between.{IsBetween};
+    ghost use Rattle.plain_run.specs.Between.{running_program};
     ghost use Rattle.plain_run.specs.State.{MachineState};
 
     ghost Value = { MachineState };

@@ -7,14 +7,21 @@ ghost use Rattle.plain_run.specs.Belongs.{Keeps, KeepsAll};
 ghost use Rattle.plain_run.specs.Between.{Counts};
 ghost use Rattle.plain_run.specs.Kept.{RunsPlainly};
 
-use crate::device::{Device, path};
 use crate::machine::{Machine, Running};
 use crate::{RunEvent, RunRecord};
 use ckd_ccw::Program;
 use ckd_chain::Chain;
-use ckd_types::{Geometry, NoMemory};
+use ckd_types::{Geometry, NoMemory, PathNo};
 use deck_plan::{EventLine, PathPlans, Schedule};
+use plain_device::PlainDevice;
 use std::alloc::Global;
+
+/// The path of all programs so far.
+fn path() -> PathNo
+    ensures { result ≡ 1 }
+{
+    PathNo::new(1).unwrap()
+}
 
 fn first_machine(alloc: Global, geometry: Geometry, cylinders: u8) -> Result<Machine, NoMemory>
     requires some { 1 ≤ cylinders }
@@ -22,7 +29,7 @@ fn first_machine(alloc: Global, geometry: Geometry, cylinders: u8) -> Result<Mac
     ensures { IfOk result (λ machine. machine ≡ first_machine geometry cylinders) }
 {
     Ok(Machine {
-        device: Device::empty(alloc, geometry, cylinders)?,
+        device: PlainDevice::new(alloc, geometry, cylinders)?,
         started: 0,
         running: None,
     })
@@ -38,8 +45,8 @@ fn begin_with(
     requires room { machine.old.started < 65535 }
     ensures did { OnOk result (Did machine.new happened.old happened.new (begin_with machine.old program.now)) }
 {
-    let chain = Chain::begin(program.copy(alloc)?, machine.device.cylinders());
-    machine.device.begin(program);
+    let chain = Chain::begin(program.copy(alloc)?, machine.device.fixed());
+    machine.device.begin(path(), program.ccws());
     machine.started += 1;
     let ordinal = machine.started;
     machine.running = Some(Running { ordinal, chain });
@@ -90,7 +97,7 @@ fn command(alloc: Global, machine: &mut Machine, happened: &mut RunRecord) -> Re
     };
     let ordinal = running.ordinal;
     running.chain.stands();
-    let end = machine.device.command(alloc, &mut running.chain)?;
+    let end = machine.device.command(alloc, path(), &mut running.chain)?;
     if !running.chain.over() {
         machine.running = Some(running);
     }

@@ -1,7 +1,7 @@
 use Rattle.std.proofs.Common.{Option, sym, subst, ◌∙◌}
 use Rattle.std.specs.Prelude.{IfSome}
 use Rattle.plain_run.specs.declared.machine.Running.{Running}
-use Rattle.plain_run.specs.Between.{IsBetween}
+use Rattle.plain_device.specs.Between.{IsBetween}
 use Rattle.plain_run.proofs.Behind.{between_after}
 use Rattle.plain_run.proofs.run.command.Goals as goal
 

@@ -5,7 +5,7 @@ use Rattle.ckd_types.specs.Edit.{apply_edit}
 use Rattle.ckd_types.specs.Track.{empty_track}
 use Rattle.ckd_types.specs.Volume.{track_in}
 use Rattle.plain_device.specs.Volume.{ImageVolume, tracks_of}
-use Rattle.plain_device.proofs.Images.{edited_tracks, tracks_length}
+use Rattle.plain_device.proofs.Tracks.{edited_tracks, tracks_length}
 use Rattle.plain_device.proofs.volume.Images.edit.Goals as goal
 
 pub returns-clause-done : goal.returns-clause-done

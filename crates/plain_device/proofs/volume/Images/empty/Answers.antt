@@ -1,7 +1,7 @@
 use Rattle.std.proofs.Common.{ℕ, arith, ap, ◌∙◌}
 use Rattle.std.proofs.lemmas.Grind.{common_steps}
 use Rattle.ckd_types.specs.Track.{empty_track}
-use Rattle.plain_device.proofs.Images.{images_more}
+use Rattle.plain_device.proofs.Tracks.{images_more}
 use Rattle.plain_device.proofs.volume.Images.empty.Goals as goal
 
 pub loop-n-preserved : goal.loop-n-preserved

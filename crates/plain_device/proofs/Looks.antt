@@ -1,0 +1,156 @@
+-- A command of the plain device that looks at a track.
+use Rattle.std.proofs.Common.{◌≡◌, ◌+◌, ◌*◌, ◌<◌, ℕ, suc, zero, List, Some, None, Option, refl, sym, ap, subst, ◌∙◌}
+use Rattle.std.specs.Prelude.{slice_set}
+use Rattle.ckd_types.specs.declared.channel.CommandEnd.{CommandEnd}
+use Rattle.ckd_types.specs.declared.record.Edit.{Edit}
+use Rattle.ckd_types.specs.declared.record.Track.{Track}
+use Rattle.ckd_types.specs.Edit.{apply_edit}
+use Rattle.ckd_types.specs.Volume.{track_in}
+use Rattle.ckd_chain.specs.declared.mark.Stage.{Stage}
+use Rattle.ckd_chain.specs.declared.mark.Stage.TheVariants.{Over, Looks, Asks}
+use Rattle.ckd_chain.specs.declared.progress.Progress.{Progress}
+use Rattle.ckd_chain.specs.declared.progress.Progress.TheVariants as progresses
+use Rattle.ckd_chain.specs.declared.progress.Settled.TheVariants.{Written}
+use Rattle.ckd_chain.specs.State.{ChainState}
+use Rattle.ckd_chain.specs.Steps.{word_of, start_of, standing, waiting, behind, end_with, Stepped, turned_by, turned_with, stepped, settled_by}
+use Rattle.ckd_rules.specs.declared.ending.Ending.{Ending}
+use Rattle.ckd_rules.specs.declared.order.LocalAct.{LocalAct}
+use Rattle.ckd_rules.specs.declared.order.Look.{Look}
+use Rattle.ckd_rules.specs.declared.stance.Stance.{Stance}
+use Rattle.ckd_rules.specs.declared.turned.Turned.{Turned}
+use Rattle.ckd_rules.specs.Ending.{Outcome}
+use Rattle.ckd_rules.specs.Look.{look_on}
+use Rattle.ckd_rules.specs.Looked.{Looked}
+use Rattle.ckd_rules.specs.Walk.{Walked, walked, walk}
+use Rattle.plain_defs.specs.Effect.{kept_by}
+use Rattle.plain_defs.specs.PlainState.{PlainState, with_sense}
+use Rattle.plain_device.specs.Between.{EndsBy}
+use Rattle.plain_device.specs.Looking.{IsAtLook, walk_of, IsSameWalk, GoesTo}
+use Rattle.plain_device.proofs.Turns.{CameEnded, came_ended, CameOnward, came_onward, CameEditing, came_editing, never_local}
+use Rattle.track_image.specs.Image.{Image}
+
+abbrev pub at_look : ChainState → Look → ChainState
+at_look s look = record s { stage = Some (Looks look) }
+
+-- what it looks for
+pub record HasLook (s : ChainState) : Type 0 where
+  pub look : Look
+  pub is : s ≡ at_look s look
+
+pub has_look : (s : ChainState) (stage : Option Stage) → s.stage ≡ stage → IsAtLook stage → HasLook s
+has_look s (Some (Looks look)) is at = record { look = look; is = ap (λ (x : Option Stage). record s { stage = x }) is }
+has_look s (Some Over) is at = absurd at
+has_look s (Some (Asks act)) is at = absurd at
+has_look s None is at = absurd at
+
+-- the image of the track that a chain is on
+abbrev pub image_for : PlainState → ChainState → Image
+image_for d s = record { geometry = d.geometry; track = track_in d.volume s.at.stance.track }
+
+module _ (d : PlainState) (b : ChainState) (look : Look) where
+  came : Looked
+  came = look_on d.geometry (track_in d.volume b.at.stance.track) b.at.stance (word_of b) look
+
+  step_is : (i : Image) → i ≡ image_for d b → stepped (at_look b look) (Some i) ≡ turned_by (at_look b look) came.stance came.turned
+  unfolding came
+  step_is i is = ap (λ (x : Image). turned_with (at_look b look) (look_on x.geometry x.track b.at.stance (word_of b) look)) is
+
+  walk_more : (n : ℕ) → walk_of d (at_look b look) (suc n) ≡ walked b.at.stance.track (walk n d.geometry (track_in d.volume) b.before.stance (word_of b) look) came.stance came.turned
+  unfolding walk came
+  walk_more n = refl
+
+  module _ (i : Image) (image_is : i ≡ image_for d b) (progress : Progress) (after : ChainState) (progress_is : progress ≡ (stepped (at_look b look) (Some i)).progress) (after_is : after ≡ (stepped (at_look b look) (Some i)).chain) where
+    turned_is : (p : Progress) → progress ≡ p → (turned_by (at_look b look) came.stance came.turned).progress ≡ p
+    turned_is p is = ap (λ (x : Stepped). x.progress) (sym (step_is i image_is)) ∙ sym progress_is ∙ is
+
+    then_is : after ≡ (turned_by (at_look b look) came.stance came.turned).chain
+    then_is = after_is ∙ ap (λ (x : Stepped). x.chain) (step_is i image_is)
+
+    star_ended : (path : ℕ) (end : CommandEnd) (device : PlainState) → progress ≡ progresses.Ended end → device ≡ with_sense d path end.sense
+        → after.at.stance.commands ≡ (start_of (at_look b look)).stance.commands + 1 → (n : ℕ) → EndsBy device (at_look b look) after end (kept_by d path (walk_of d (at_look b look) (suc n)))
+    star_ended path end device is device_is counted n =
+        let c : CameEnded (at_look b look) came.stance came.turned end = came_ended (at_look b look) came.stance came.turned end (turned_is (progresses.Ended end) is) in
+        let w = walk_more n ∙ ap (λ (t : Turned). walked b.at.stance.track (walk n d.geometry (track_in d.volume) b.before.stance (word_of b) look) came.stance t) c.turned in
+        record {
+          end_is = c.end_is ∙ ap (λ (x : Walked). end_with (at_look b look) x.outcome) (sym w);
+          device_is = device_is ∙ ap (λ (e : CommandEnd). with_sense d path e.sense) c.end_is ∙ ap (λ (x : Walked). (kept_by d path x).state) (sym w);
+          chain_is = then_is ∙ c.chain ∙ ap (λ (x : Walked). behind (at_look b look) x.outcome) (sym w);
+          counted = counted;
+        }
+
+    star_onward : (track : ℕ) (device : PlainState) → progress ≡ progresses.Need track → device ≡ d → track < d.cylinders * 15 → GoesTo d device (at_look b look) after track
+    star_onward track device is device_is inside =
+        let c : CameOnward (at_look b look) came.stance came.turned track = came_onward (at_look b look) came.stance came.turned track (turned_is (progresses.Need track) is) in
+        let gone : after ≡ standing (at_look b look) came.stance = then_is ∙ c.chain in record {
+          device_is = device_is;
+          chain_is = gone ∙ ap (λ (z : Stance). standing (at_look b look) z) (ap (λ (s : ChainState). s.at.stance) (sym gone));
+          rest = λ n.
+              let w = walk_more n ∙ ap (λ (t : Turned). walked b.at.stance.track (walk n d.geometry (track_in d.volume) b.before.stance (word_of b) look) came.stance t) c.turned in record {
+                outcome = ap (λ (x : Walked). x.outcome) w ∙ ap (λ (s : ChainState). (walk_of d s n).outcome) (sym gone);
+                edit = ap (λ (x : Walked). x.edit) w ∙ ap (λ (s : ChainState). (walk_of d s n).edit) (sym gone);
+              };
+          track_is = c.track_is ∙ ap (λ (s : ChainState). s.at.stance.track) (sym gone);
+          on_device = inside;
+        }
+
+    star_editing : (path track : ℕ) (edit : Edit) (volume : List Track) (end : CommandEnd) (last : ChainState) (device : PlainState) → progress ≡ progresses.Write track edit
+        → volume ≡ slice_set d.volume track (apply_edit edit (track_in d.volume track)) → end ≡ end_with after (settled_by after Written) → last ≡ behind after (settled_by after Written)
+        → device ≡ with_sense (record d { volume = volume }) path end.sense → last.at.stance.commands ≡ (start_of after).stance.commands + 1
+        → (n : ℕ) → EndsBy device (at_look b look) last end (kept_by d path (walk_of d (at_look b look) (suc n)))
+    star_editing path track edit volume end last device is volume_is end_is last_is device_is counted n =
+        let c : CameEditing (at_look b look) came.stance came.turned track edit = came_editing (at_look b look) came.stance came.turned track edit (turned_is (progresses.Write track edit) is) in
+        let waits : after ≡ waiting (at_look b look) came.stance c.ending = then_is ∙ c.chain in
+        let w = walk_more n ∙ ap (λ (t : Turned). walked b.at.stance.track (walk n d.geometry (track_in d.volume) b.before.stance (word_of b) look) came.stance t) c.turned in
+        let ends : end ≡ end_with (at_look b look) (record { stance = came.stance; ending = c.ending }) = end_is ∙ ap (λ (s : ChainState). end_with s (settled_by s Written)) waits in record {
+          end_is = ends ∙ ap (λ (x : Walked). end_with (at_look b look) x.outcome) (sym w);
+          device_is =
+              device_is
+              ∙ ap (λ (v : List Track). with_sense (record d { volume = v }) path end.sense) volume_is
+              ∙ ap (λ (u : ℕ). with_sense (record d { volume = slice_set d.volume u (apply_edit edit (track_in d.volume u)) }) path end.sense) c.track_is
+              ∙ ap (λ (e : CommandEnd). with_sense (record d { volume = slice_set d.volume b.at.stance.track (apply_edit edit (track_in d.volume b.at.stance.track)) }) path e.sense) ends
+              ∙ ap (λ (x : Walked). (kept_by d path x).state) (sym w);
+          chain_is = last_is ∙ ap (λ (s : ChainState). behind s (settled_by s Written)) waits ∙ ap (λ (x : Walked). behind (at_look b look) x.outcome) (sym w);
+          counted = counted ∙ ap (λ (s : ChainState). (start_of s).stance.commands + 1) waits;
+        }
+
+    star_editing_at : (track : ℕ) (edit : Edit) → progress ≡ progresses.Write track edit → (track ≡ b.at.stance.track) × (after.at.next ≡ b.at.next) × (after.stage ≡ Some Over)
+    star_editing_at track edit is =
+        let c : CameEditing (at_look b look) came.stance came.turned track edit = came_editing (at_look b look) came.stance came.turned track edit (turned_is (progresses.Write track edit) is) in
+        let waits : after ≡ waiting (at_look b look) came.stance c.ending = then_is ∙ c.chain in (c.track_is, ap (λ (s : ChainState). s.at.next) waits, ap (λ (s : ChainState). s.stage) waits)
+
+    star_local : (act : LocalAct) → progress ≡ progresses.Local act → ⊥
+    star_local act is = never_local (at_look b look) came.stance came.turned act (turned_is (progresses.Local act) is)
+
+module _ (d : PlainState) (s : ChainState) (at : IsAtLook s.stage) (i : Image) (image_is : i ≡ image_for d s) (progress : Progress) (after : ChainState) (progress_is : progress ≡ (stepped s (Some i)).progress) (after_is : after ≡ (stepped s (Some i)).chain) where
+  looked : HasLook s
+  looked = has_look s s.stage refl at
+
+  steps_progress : progress ≡ (stepped (at_look s looked.look) (Some i)).progress
+  steps_progress = progress_is ∙ ap (λ (x : ChainState). (stepped x (Some i)).progress) looked.is
+
+  steps_after : after ≡ (stepped (at_look s looked.look) (Some i)).chain
+  steps_after = after_is ∙ ap (λ (x : ChainState). (stepped x (Some i)).chain) looked.is
+
+  pub look_ended : (path : ℕ) (end : CommandEnd) (device : PlainState) → progress ≡ progresses.Ended end → device ≡ with_sense d path end.sense
+      → after.at.stance.commands ≡ (start_of s).stance.commands + 1 → (n : ℕ) → EndsBy device s after end (kept_by d path (walk_of d s (suc n)))
+  look_ended path end device is device_is counted n =
+      subst (λ (x : ChainState). EndsBy device x after end (kept_by d path (walk_of d x (suc n)))) (sym looked.is)
+      (star_ended d s looked.look i image_is progress after steps_progress steps_after path end device is device_is (counted ∙ ap (λ (x : ChainState). (start_of x).stance.commands + 1) looked.is) n)
+
+  pub look_onward : (track : ℕ) (device : PlainState) → progress ≡ progresses.Need track → device ≡ d → track < d.cylinders * 15 → GoesTo d device s after track
+  look_onward track device is device_is inside =
+      subst (λ (x : ChainState). GoesTo d device x after track) (sym looked.is) (star_onward d s looked.look i image_is progress after steps_progress steps_after track device is device_is inside)
+
+  pub look_edited : (path track : ℕ) (edit : Edit) (volume : List Track) (end : CommandEnd) (last : ChainState) (device : PlainState) → progress ≡ progresses.Write track edit
+      → volume ≡ slice_set d.volume track (apply_edit edit (track_in d.volume track)) → end ≡ end_with after (settled_by after Written) → last ≡ behind after (settled_by after Written)
+      → device ≡ with_sense (record d { volume = volume }) path end.sense → last.at.stance.commands ≡ (start_of after).stance.commands + 1
+      → (n : ℕ) → EndsBy device s last end (kept_by d path (walk_of d s (suc n)))
+  look_edited path track edit volume end last device is volume_is end_is last_is device_is counted n =
+      subst (λ (x : ChainState). EndsBy device x last end (kept_by d path (walk_of d x (suc n)))) (sym looked.is)
+      (star_editing d s looked.look i image_is progress after steps_progress steps_after path track edit volume end last device is volume_is end_is last_is device_is counted n)
+
+  pub look_edits_at : (track : ℕ) (edit : Edit) → progress ≡ progresses.Write track edit → (track ≡ s.at.stance.track) × (after.at.next ≡ s.at.next) × (after.stage ≡ Some Over)
+  look_edits_at track edit is = star_editing_at d s looked.look i image_is progress after steps_progress steps_after track edit is
+
+  pub look_asks_nothing : (act : LocalAct) → progress ≡ progresses.Local act → ⊥
+  look_asks_nothing act is = star_local d s looked.look i image_is progress after steps_progress steps_after act is

@@ -1,0 +1,25 @@
+use Rattle.std.proofs.Common.{◌≡◌, ◌<◌, ◌≤◌, length, ap, subst, ◌∙◌, arith}
+use Rattle.plain_defs.specs.PlainState.{PlainState, with_sense}
+use Rattle.plain_device.specs.declared.device.Went.{Went}
+use Rattle.plain_device.specs.Looking.{IsWent}
+use Rattle.plain_device.proofs.Following.{following_over, following_none}
+use Rattle.plain_device.proofs.device.PlainDevice.follow.Goals as goal
+
+pub returns-in-Over : goal.returns-in-Over
+returns-in-Over c =
+    let many : length c.self.inside.volume.tracks ≡ length c.args.self.now.volume = ap (λ (x : PlainState). length x.volume) c.self.view_is in
+    let more : c.loop-turn._turn < length c.args.self.now.volume = omega (arith, c.loop-turn-test.true, c.len-turn-end.ensures, many) in
+    record {
+      ends = following_over c.args.self.now c.args.chain.now c.loop-turn.chain c.loop-turn.track c.loop-turn._turn c.loop-turn.invariant.0 c.args.path c.look.new.self c.look.new.chain c.in-Over.end c.requires.looking.stage more
+          (subst (λ (w : Went). IsWent c.args.self.now c.args.path c.look.new.self c.loop-turn.chain c.look.new.chain w) c.in-Over.is
+          (subst (λ (d : PlainState). IsWent d c.args.path c.look.new.self c.loop-turn.chain c.look.new.chain c.in_ok-end.field-0) c.loop-turn.invariant.1 c.in_ok-end.ensures.went));
+    }
+
+pub returns : goal.returns
+returns c =
+    let many : length c.self.inside.volume.tracks ≡ length c.args.self.now.volume = ap (λ (x : PlainState). length x.volume) c.self.view_is in
+    let past : length c.args.self.now.volume ≤ c.loop-turn._turn = omega (arith, c.loop-turn-test.false, c.len-turn-end.ensures, many) in
+    record {
+      ends = following_none c.args.self.now c.args.chain.now c.loop-turn.chain c.loop-turn.track c.loop-turn._turn c.loop-turn.invariant.0 c.args.path c.keep_sense.new.self c.settle-end.new.self c.settle-end.result c.requires.looking.stage past c.settle-end.ensures.end
+          c.settle-end.ensures.chain (c.keep_sense.ensures ∙ ap (λ (d : PlainState). with_sense d c.args.path c.settle-end.result.sense) c.loop-turn.invariant.1) c.settle-end.ensures.counted;
+    }
