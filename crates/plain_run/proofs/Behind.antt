@@ -16,13 +16,13 @@ some_of (Some i) is = refl
 some_of None is = absurd (cc)
 
 -- a chain that isn't over is between two commands
-pub between_after : (device after : PlainState) (chain then_chain : ChainState) (e : CommandEnd) → IsBetween device chain → Ends device 1 after chain then_chain e → is_none then_chain.at.next ≡ false → IsBetween after then_chain
-between_after device after chain then_chain e between ends more =
+pub between_after : (device after : PlainState) (path : ℕ) (chain then_chain : ChainState) (e : CommandEnd) → IsBetween device chain → Ends device path after chain then_chain e → is_none then_chain.at.next ≡ false → IsBetween after then_chain
+between_after device after path chain then_chain e between ends more =
     let o = opening_of (fixed_of device) chain.at.stance (word_of chain) in record {
       fixed =
           ap (λ (s : ChainState). s.fixed) ends.chain_is
           ∙ between.fixed
-          ∙ sym (ap (λ (x : PlainState). fixed_of x) ends.device_is ∙ effect_fixed device 1 chain.at.stance (word_of chain) o.stance o.opening);
+          ∙ sym (ap (λ (x : PlainState). fixed_of x) ends.device_is ∙ effect_fixed device path chain.at.stance (word_of chain) o.stance o.opening);
       stage = ap (λ (s : ChainState). s.stage) ends.chain_is;
       running = some_of then_chain.at.next more;
     }

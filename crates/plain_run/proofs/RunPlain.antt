@@ -20,7 +20,8 @@ use Rattle.ckd_rules.specs.Ends.{end_of, is_over, goes_to}
 use Rattle.plain_defs.specs.Chain.{Part, part_from, part_of, whole_run, begun, starts_with_sense, edits_of, onto}
 use Rattle.plain_defs.specs.Effect.{Effect, command_effect}
 use Rattle.plain_defs.specs.Journal.{Plans, program_of, is_of_path, IsLegal}
-use Rattle.plain_defs.specs.PlainState.{PlainState, with_sense, owner_of, is_free_for, is_admitted, asks_for_group}
+use Rattle.ckd_rules.specs.Grouping.{is_free_for}
+use Rattle.plain_defs.specs.PlainState.{PlainState, with_sense, owner_of, is_admitted, asks_for_group}
 use Rattle.ckd_rules.specs.Stance.{first_stance}
 use Rattle.plain_defs.proofs.JournalLaws.{replay-append, legal_more}
 use Rattle.plain_defs.proofs.Laws.{part_front, part_length, part_owner}
