@@ -1,7 +1,11 @@
 -- The table of command codes.
 use Rattle.std.specs.Prelude.{ℕ, ◌==◌, ◌||◌, Bool, true, false, Option, Some, None, if◌then◌else◌}
 use Rattle.ckd_types.specs.declared.command.Command.{Command}
-use Rattle.ckd_types.specs.declared.command.Command.TheVariants.{NoOperation, Seek, SeekCylinder, SeekHead, Recalibrate, SetSector, SetFileMask, DefineExtent, LocateRecord, SearchId, SearchKey, SearchHome, ReadHome, ReadZero, ReadCount, ReadData, ReadKeyData, ReadCountKeyData, ReadMultiple, ReadTrack, WriteData, UpdateData, WriteKeyData, UpdateKeyData, WriteCountKeyData, WriteNextTrack, WriteZero, Sense, SenseId, Reserve, Release, UnconditionalReserve, SetPathGroup, SensePathGroup}
+use Rattle.ckd_types.specs.declared.command.Command.TheVariants.{NoOperation, Seek, SeekCylinder, SeekHead, Recalibrate, SetSector, SetFileMask, DefineExtent}
+use Rattle.ckd_types.specs.declared.command.Command.TheVariants.{LocateRecord, SearchId, SearchKey, SearchHome, ReadHome, ReadZero, ReadCount, ReadData}
+use Rattle.ckd_types.specs.declared.command.Command.TheVariants.{ReadKeyData, ReadCountKeyData, ReadMultiple, ReadTrack, WriteData, UpdateData, WriteKeyData}
+use Rattle.ckd_types.specs.declared.command.Command.TheVariants.{UpdateKeyData, WriteCountKeyData, WriteNextTrack, WriteZero, Sense, SenseId, Reserve, Release}
+use Rattle.ckd_types.specs.declared.command.Command.TheVariants.{UnconditionalReserve, SetPathGroup, SensePathGroup}
 use Rattle.ckd_types.specs.declared.command.Comparison.TheVariants.{Equal, High, EqualOrHigh}
 use Rattle.ckd_types.specs.declared.command.Group.{Group}
 use Rattle.ckd_types.specs.declared.command.Group.TheVariants as groups

@@ -2,7 +2,8 @@
 use Rattle.std.specs.Prelude.{ℕ, ◌==◌, ◌||◌, not, Bool, true}
 use Rattle.std.specs.Int.RustNames.{bit_and}
 use Rattle.ckd_types.specs.declared.command.Command.{Command}
-use Rattle.ckd_types.specs.declared.command.Command.TheVariants.{Seek, SeekCylinder, SeekHead, Recalibrate, WriteData, UpdateData, WriteKeyData, UpdateKeyData, WriteCountKeyData, WriteNextTrack, WriteZero}
+use Rattle.ckd_types.specs.declared.command.Command.TheVariants.{Seek, SeekCylinder, SeekHead, Recalibrate, WriteData, UpdateData, WriteKeyData, UpdateKeyData}
+use Rattle.ckd_types.specs.declared.command.Command.TheVariants.{WriteCountKeyData, WriteNextTrack, WriteZero}
 
 -- bits 0 and 1: 00 no writes of record 0, 01 no writes, 10 update writes alone, 11 all writes
 abbrev pub write_control : ℕ → ℕ

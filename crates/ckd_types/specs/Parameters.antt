@@ -1,5 +1,6 @@
 -- What the parameter bytes of define extent and locate record mean.
-use Rattle.std.specs.Prelude.{ℕ, ◌+◌, ◌*◌, ◌-◌, ◌/◌, ◌==◌, ◌||◌, not, nat_lt, nat_le, Bool, true, false, List, ◌++◌, take, replicate, length, slice_index, Option, None, Some, Result, Ok, Err, if◌then◌else◌}
+use Rattle.std.specs.Prelude.{ℕ, ◌+◌, ◌*◌, ◌-◌, ◌/◌, ◌==◌, ◌||◌, not, nat_lt, nat_le, Bool, true, false, List, ◌++◌, take, replicate, length, slice_index}
+use Rattle.std.specs.Prelude.{Option, None, Some, Result, Ok, Err, if◌then◌else◌}
 use Rattle.std.specs.Int.RustNames.{bit_and}
 use Rattle.ckd_types.specs.declared.geometry.Cchh.{Cchh}
 use Rattle.ckd_types.specs.declared.channel.Ccw.{Ccw}
@@ -49,7 +50,8 @@ ranged_extent mask mode inhibit None last = Err BadRange
 
 abbrev pub moded_extent : ℕ → List ℕ → Option Mode → Result Extent ParamFault
 moded_extent cylinders bytes (Some mode) =
-    ranged_extent (slice_index bytes 0) mode (not (bit_and (slice_index bytes 1) 1 == 0)) (track_at cylinders (cchh_at bytes 8)) (track_at cylinders (cchh_at bytes 12))
+    ranged_extent (slice_index bytes 0) mode (not (bit_and (slice_index bytes 1) 1 == 0)) (track_at cylinders (cchh_at bytes 8))
+    (track_at cylinders (cchh_at bytes 12))
 moded_extent cylinders bytes None = Err BadMode
 
 -- the parameters of define extent on a device with this many cylinders

@@ -66,8 +66,8 @@ pub enum Command {
     SensePathGroup,
 }
 
-/// The command that a code stands for (IBM's codes). The codes of searches and reads come in pairs:
-/// the second is the multitrack form.
+/// The command that a code stands for (IBM's codes), or none. The codes of searches and reads come in pairs:
+/// the second is the multitrack form. A transfer in channel is no command.
 #[tactic(auto, unfolding(crate::specs::Commands::command_of))]
 pub fn command_of(code: u8) -> Option<Command>
     ensures { result ≡ command_of code }
@@ -181,7 +181,7 @@ pub fn group_of(command: Command) -> Group
     }
 }
 
-/// The least count that a command's word has to have.
+/// The least count in bytes that a command's word has to have: with less it is rejected.
 pub fn required_count(command: Command) -> u16
     ensures { result ≡ required_count command }
 {
@@ -194,7 +194,7 @@ pub fn required_count(command: Command) -> u16
     }
 }
 
-/// Which way a command moves bytes.
+/// Which way a command moves bytes: what the bytes of its word are for.
 pub fn direction_of(command: Command) -> Direction
     ensures { result ≡ direction_of command }
 {
