@@ -1,88 +1,65 @@
-ghost use Rattle.std.specs.Prelude.{◌≤◌, IfOk, length};
-ghost use Rattle.ckd_types.specs.Track.{IsRecord};
 ghost use Rattle.plain_defs.specs.Room.{HasRoom, Stands};
 
 use crate::*;
 use ckd_types::{
     Bytes, Cchh, Ccw, Domain, Edit, Geometry, NoMemory, Note, Operation, Orientation, RecId,
-    Record, TrackNo,
+    TrackNo,
 };
 use plain_defs::{After, Outcome, Place, Stance, Turned};
 use std::alloc::Global;
 use std::test::Fail;
 use track_image::TrackImage;
 
-/// An id of cylinder 1, head 2.
-fn id(r: u8) -> RecId {
-    RecId {
-        cchh: Cchh { cc: 1, hh: 2 },
-        r,
-    }
-}
+/// The track at cylinder 1, head 2. Record 2 has a key; record 3 is an end of file with a key.
+const TRACK: [u8; 63] = [
+    0, 0, 1, 0, 2, // home address
+    0, 1, 0, 2, 0, 0, 0, 8, 0, 0, 0, 0, 0, 0, 0, 0, // record 0
+    0, 1, 0, 2, 1, 0, 0, 4, 1, 2, 3, 4, // record 1
+    0, 1, 0, 2, 2, 2, 0, 3, 7, 8, 5, 6, 7, // record 2
+    0, 1, 0, 2, 3, 1, 0, 0, 9, // record 3
+    255, 255, 255, 255, 255, 255, 255, 255,
+];
 
-fn record(alloc: Global, r: u8, key: &[u8], body: &[u8]) -> Result<Record, NoMemory>
-    requires key { length key.now ≤ 255 }
-    requires body { length body.now ≤ 65534 }
-    ensures { IfOk result (λ made. IsRecord made) }
-{
-    Ok(Record {
-        id: id(r),
-        key: Bytes::from_slice(alloc, key)?,
-        body: Bytes::from_slice(alloc, body)?,
-    })
-}
+/// What an update gives.
+const DATA: &[u8] = &[5, 6, 7];
 
-/// Record 2 has a key; records 3 and 4 are ends of file; record 5 has the id of record 1.
+/// A count area of a key of one byte and data of two, that key and that data.
+const ADDED: &[u8] = &[0, 1, 0, 2, 9, 1, 0, 2, 5, 6, 7];
+
+/// A count area of record 0, and the first two bytes of its data.
+const ZERO: &[u8] = &[0, 1, 0, 2, 0, 0, 0, 8, 5, 6];
+
 fn image(alloc: Global) -> Result<TrackImage, Fail> {
     let track = TrackNo::new(17).ok_or("track")?;
-    let mut image = TrackImage::empty(alloc, Geometry::D3390, track)?;
-    let rows: [(u8, &[u8], &[u8]); 5] = [
-        (1, &[], &[1, 2, 3, 4]),
-        (2, &[7, 8], &[5, 6, 7]),
-        (3, &[9], &[]),
-        (4, &[], &[]),
-        (1, &[], &[1, 2]),
-    ];
-    for (r, key, body) in rows {
-        if key.len() <= 255 && body.len() <= 65534 {
-            let last = image.len() - 1;
-            if image
-                .cut_and_add(last, record(alloc, r, key, body)?)
-                .is_err()
-            {
-                return Err(Fail::from("a record does not fit"));
-            }
-        }
-    }
-    Ok(image)
+    let image = TrackImage::from_bytes(alloc, Geometry::D3390, track, TRACK.as_slice());
+    Ok(image.ok().ok_or("no track")?)
 }
 
-/// A stance at a place of track 17, in a domain of three commands if in any.
-fn stance(place: Place, passes: bool, operation: Option<Operation>) -> Stance
+/// A stance on track 17, in a domain of three commands.
+fn stance(place: Place, operation: Operation) -> Stance
     ensures room { HasRoom result }
     ensures stands { Stands 960 result }
 {
-    let seek = TrackNo::new(17).unwrap();
-    let domain = match operation {
-        Some(operation) => Some(Domain {
-            orientation: Orientation::Index,
-            operation,
-            count: 3,
-            seek,
-            search: id(0),
-        }),
-        None => None,
-    };
+    let track = TrackNo::new(17).unwrap();
     Stance {
         extent: None,
         mask: 0xc0,
         mask_set: true,
-        domain,
+        domain: Some(Domain {
+            orientation: Orientation::Index,
+            operation,
+            count: 3,
+            seek: track,
+            search: RecId {
+                cchh: Cchh { cc: 1, hh: 2 },
+                r: 0,
+            },
+        }),
         left: 3,
-        track: seek,
+        track,
         place,
-        passes: if passes { 1 } else { 0 },
-        after: After::IdEqual,
+        passes: 0,
+        after: After::Other,
         commands: 2,
         moved: 32,
     }
@@ -97,502 +74,164 @@ fn word(alloc: Global, command: u8, flags: u8, count: u16, given: &[u8]) -> Resu
     })
 }
 
-/// The edit that a write is to make.
-#[derive(Clone, Copy)]
-enum Made<'a> {
-    Nothing,
-    Next(u16),
-    Update(usize, &'a [u8], &'a [u8]),
-    Format(usize, u8, &'a [u8], &'a [u8]),
-    Zero(u8, &'a [u8]),
-}
-
-fn has_bytes(added: &Record, r: u8, key: &[u8], body: &[u8]) -> bool {
-    added.id == id(r) && added.key.as_slice() == key && added.body.as_slice() == body
-}
-
-fn is_made(turned: &Turned, made: Made<'_>) -> bool {
-    match (turned, made) {
-        (Turned::Ended(_), Made::Nothing) => true,
-        (Turned::NextTrack(t), Made::Next(n)) => t.get() == n,
-        (Turned::Write(Edit::Update { index, key, body }, _), Made::Update(i, k, b)) => {
-            *index == i && key.as_slice() == k && body.as_slice() == b
-        }
-        (Turned::Write(Edit::Format { after, added }, _), Made::Format(i, r, k, b)) => {
-            *after == i && has_bytes(added, r, k, b)
-        }
-        (Turned::Write(Edit::Zero { added }, _), Made::Zero(r, b)) => {
-            has_bytes(added, r, &[], b)
-        }
-        _ => false,
+fn given_by(code: u8) -> &'static [u8] {
+    match code {
+        0x05 | 0x85 | 0x8d => DATA,
+        0x15 => ZERO,
+        _ => ADDED,
     }
 }
 
 fn outcome(turned: &Turned) -> Option<&Outcome> {
     match turned {
-        Turned::Ended(outcome) => Some(outcome),
-        Turned::Write(_, outcome) => Some(outcome),
+        Turned::Ended(outcome) | Turned::Write(_, outcome) => Some(outcome),
         Turned::NextTrack(_) => None,
     }
 }
 
 /// Status, residual, whether incorrect length is noted, and the second sense byte.
-fn end(turned: &Turned) -> End {
-    match outcome(turned) {
-        Some(o) => (
-            o.status.0,
-            o.residual,
-            matches!(o.note, Note::IncorrectLength),
-            match &o.sense {
-                Some(sense) => sense.bytes[1],
-                None => 0,
-            },
-        ),
-        None => (0, 0, false, 0),
-    }
-}
-
-/// The place, what was done last, and how many commands the domain has left.
-fn behind(turned: &Turned) -> Option<(Place, After, u8)> {
+fn end(turned: &Turned) -> Option<(u8, u16, bool, u8)> {
     let o = outcome(turned)?;
-    Some((o.stance.place, o.stance.after, o.stance.left))
+    let second = match &o.sense {
+        Some(sense) => sense.bytes[1],
+        None => 0,
+    };
+    let incorrect = matches!(o.note, Note::IncorrectLength);
+    Some((o.status.0, o.residual, incorrect, second))
 }
 
-type End = (u8, u16, bool, u8);
-
-/// Whether a write ends like this, and makes this edit.
-fn gives(
-    alloc: Global,
-    image: &TrackImage,
-    here: &Stance,
-    ccw: &Ccw,
-    want: End,
-    made: Made<'_>,
-) -> Result<bool, NoMemory>
-    requires room { HasRoom here.now }
-    requires stands { Stands 960 here.now }
-{
-    let turned = write(alloc, image, here, ccw)?;
-    Ok(end(&turned) == want && is_made(&turned, made))
+fn byte(bytes: &Bytes, i: usize) -> u8 {
+    match bytes.as_slice().get(i) {
+        Some(b) => *b,
+        None => 0,
+    }
 }
 
+/// What an edit does: U, F or Z with its record, the lengths of key and data, and the first four bytes
+/// of the data.
+type Shown = (u8, usize, usize, usize, [u8; 4]);
+
+const NOTHING: Shown = (b'-', 0, 0, 0, [0; 4]);
+
+fn edit_of(turned: &Turned) -> Shown {
+    let Turned::Write(edit, _) = turned else {
+        return NOTHING;
+    };
+    let (kind, index, key, body) = match edit {
+        Edit::Update { index, key, body } => (b'U', *index, key, body),
+        Edit::Format { after, added } => (b'F', *after, &added.key, &added.body),
+        Edit::Zero { added } => (b'Z', 0, &added.key, &added.body),
+    };
+    let data = [byte(body, 0), byte(body, 1), byte(body, 2), byte(body, 3)];
+    (kind, index, key.len(), body.len(), data)
+}
+
+/// Code, place, flags, count, the end, and the edit.
 #[test]
-fn updates_of_the_data(rt: HostRuntime) -> Result<(), Fail> {
+fn what_each_write_makes(rt: HostRuntime) -> Result<(), Fail> {
     let alloc = rt.alloc();
     let image = image(alloc)?;
-    let zeros = [0; 8];
-    let rows: [(Place, u8, u16, &[u8], End, Made<'_>); 14] = [
-        (
-            Place::Count(1),
-            0,
-            4,
-            &[9, 8, 7, 6],
-            (0x0c, 0, false, 0),
-            Made::Update(1, &[], &[9, 8, 7, 6]),
-        ),
-        (
-            Place::Count(1),
-            0,
-            2,
-            &[9, 8],
-            (0x0c, 0, true, 0),
-            Made::Update(1, &[], &[9, 8, 0, 0]),
-        ),
-        (
-            Place::Count(1),
-            0x20,
-            2,
-            &[9, 8],
-            (0x0c, 0, false, 0),
-            Made::Update(1, &[], &[9, 8, 0, 0]),
-        ),
-        (
-            Place::Count(1),
-            0,
-            6,
-            &[9],
-            (0x0c, 2, true, 0),
-            Made::Update(1, &[], &[9, 0, 0, 0]),
-        ),
-        (
-            Place::Count(2),
-            0,
-            3,
-            &[9, 8, 7],
-            (0x0c, 0, false, 0),
-            Made::Update(2, &[7, 8], &[9, 8, 7]),
-        ),
-        (
-            Place::Key(2),
-            0,
-            3,
-            &[9, 8, 7],
-            (0x0c, 0, false, 0),
-            Made::Update(2, &[7, 8], &[9, 8, 7]),
-        ),
-        (
-            Place::Body(1),
-            0,
-            3,
-            &[9, 8, 7],
-            (0x0c, 0, false, 0),
-            Made::Update(2, &[7, 8], &[9, 8, 7]),
-        ),
-        (
-            Place::Index,
-            0,
-            4,
-            &[],
-            (0x0c, 0, false, 0),
-            Made::Update(1, &[], &[0, 0, 0, 0]),
-        ),
-        (
-            Place::Home,
-            0,
-            4,
-            &[],
-            (0x0c, 0, false, 0),
-            Made::Update(1, &[], &[0, 0, 0, 0]),
-        ),
-        (
-            Place::Count(3),
-            0,
-            1,
-            &[9],
-            (0x0d, 1, true, 0),
-            Made::Nothing,
-        ),
-        (
-            Place::Count(4),
-            0x20,
-            1,
-            &[9],
-            (0x0d, 1, false, 0),
-            Made::Nothing,
-        ),
-        (
-            Place::Count(5),
-            0,
-            2,
-            &[9, 8],
-            (0x0c, 0, false, 0),
-            Made::Update(5, &[], &[9, 8]),
-        ),
-        (
-            Place::Count(0),
-            0,
-            8,
-            &[],
-            (0x0c, 0, false, 0),
-            Made::Update(0, &[], &zeros),
-        ),
-        (
-            Place::Count(6),
-            0,
-            2,
-            &[9, 8],
-            (0, 0, false, 0),
-            Made::Next(18),
-        ),
-    ];
-    for (place, flags, count, given, want, made) in rows {
-        let here = stance(place, false, Some(Operation::WriteData));
-        let ccw = word(alloc, 0x85, flags, count, given)?;
-        assert!(rt; gives(alloc, &image, &here, &ccw, want, made)?);
-    }
-    Ok(())
-}
-
-#[test]
-fn updates_of_key_and_data(rt: HostRuntime) -> Result<(), Fail> {
-    let alloc = rt.alloc();
-    let image = image(alloc)?;
-    let rows: [(Place, u16, &[u8], End, Made<'_>); 5] = [
-        (
-            Place::Count(2),
-            5,
-            &[1, 2, 3, 4, 5],
-            (0x0c, 0, false, 0),
-            Made::Update(2, &[1, 2], &[3, 4, 5]),
-        ),
-        (
-            Place::Key(1),
-            2,
-            &[1, 2],
-            (0x0c, 0, true, 0),
-            Made::Update(2, &[1, 2], &[0, 0, 0]),
-        ),
-        (
-            Place::Key(2),
-            1,
-            &[4],
-            (0x0d, 0, false, 0),
-            Made::Update(3, &[4], &[]),
-        ),
-        (
-            Place::Body(3),
-            1,
-            &[4],
-            (0x0d, 1, true, 0),
-            Made::Update(4, &[], &[]),
-        ),
-        (Place::Body(5), 1, &[4], (0, 0, false, 0), Made::Next(18)),
-    ];
-    for (place, count, given, want, made) in rows {
-        let here = stance(place, false, Some(Operation::WriteData));
-        let ccw = word(alloc, 0x8d, 0, count, given)?;
-        assert!(rt; gives(alloc, &image, &here, &ccw, want, made)?);
-    }
-    Ok(())
-}
-
-#[test]
-fn formats_at_each_place(rt: HostRuntime) -> Result<(), Fail> {
-    let alloc = rt.alloc();
-    let image = image(alloc)?;
-    let given = [0, 1, 0, 2, 9, 1, 0, 2, 5, 6, 7];
-    let end_of_file = [0, 1, 0, 2, 9, 0, 0, 0];
-    let rows: [(u8, Place, u16, &[u8], End, Made<'_>); 12] = [
-        (
-            0x1d,
-            Place::Index,
-            11,
-            &given,
-            (0x0c, 0, false, 0),
-            Made::Format(0, 9, &[5], &[6, 7]),
-        ),
-        (
-            0x1d,
-            Place::Home,
-            11,
-            &given,
-            (0x0c, 0, false, 0),
-            Made::Format(0, 9, &[5], &[6, 7]),
-        ),
-        (
-            0x1d,
-            Place::Count(0),
-            11,
-            &given,
-            (0x0c, 0, false, 0),
-            Made::Format(0, 9, &[5], &[6, 7]),
-        ),
-        (
-            0x1d,
-            Place::Key(2),
-            10,
-            &given[..10],
-            (0x0c, 0, true, 0),
-            Made::Format(2, 9, &[5], &[6, 0]),
-        ),
-        (
-            0x1d,
-            Place::Body(3),
-            8,
-            &given[..8],
-            (0x0c, 0, true, 0),
-            Made::Format(3, 9, &[0], &[0, 0]),
-        ),
-        (
-            0x1d,
-            Place::Body(5),
-            12,
-            &given,
-            (0x0c, 1, true, 0),
-            Made::Format(5, 9, &[5], &[6, 7]),
-        ),
-        (
-            0x1d,
-            Place::Body(6),
-            11,
-            &given,
-            (0x0c, 0, false, 0),
-            Made::Format(5, 9, &[5], &[6, 7]),
-        ),
-        (
-            0x1d,
-            Place::Body(1),
-            8,
-            &end_of_file,
-            (0x0c, 0, false, 0),
-            Made::Format(1, 9, &[], &[]),
-        ),
-        (
-            0x9d,
-            Place::Index,
-            11,
-            &given,
-            (0x0c, 0, false, 0),
-            Made::Format(0, 9, &[5], &[6, 7]),
-        ),
-        (
-            0x15,
-            Place::Home,
-            11,
-            &given,
-            (0x0e, 11, false, 0x40),
-            Made::Nothing,
-        ),
-        (
-            0x15,
-            Place::Home,
-            8,
-            &end_of_file,
-            (0x0e, 8, false, 0x40),
-            Made::Nothing,
-        ),
-        (
-            0x15,
-            Place::Index,
-            10,
-            &[0, 1, 0, 2, 9, 0, 0, 8, 3, 4],
-            (0x0c, 0, true, 0),
-            Made::Zero(9, &[3, 4, 0, 0, 0, 0, 0, 0]),
-        ),
-    ];
-    for (code, place, count, given, want, made) in rows {
-        let here = stance(place, false, Some(Operation::Format));
-        let ccw = word(alloc, code, 0, count, given)?;
-        assert!(rt; gives(alloc, &image, &here, &ccw, want, made)?);
-    }
-    Ok(())
-}
-
-#[test]
-fn largest_records(rt: HostRuntime) -> Result<(), Fail> {
-    let alloc = rt.alloc();
-    let track = TrackNo::new(17).ok_or("track")?;
+    let full = (0x0c, 0, false, 0);
     let rows = [
-        (Geometry::D3390, 56672, 0xdd, 0x58, (0x0c, 0, false, 0)),
         (
-            Geometry::D3390,
-            56673,
-            0xdd,
-            0x59,
-            (0x0e, 56673, false, 0x40),
+            0x85,
+            Place::Count(1),
+            4,
+            full,
+            (b'U', 1, 0, 4, [5, 6, 7, 0]),
         ),
-        (Geometry::D3380, 47484, 0xb9, 0x74, (0x0c, 0, false, 0)),
+        (0x85, Place::Body(1), 3, full, (b'U', 2, 2, 3, [5, 6, 7, 0])),
         (
-            Geometry::D3380,
-            47485,
-            0xb9,
-            0x75,
-            (0x0e, 47485, false, 0x40),
+            0x85,
+            Place::Index,
+            2,
+            (0x0c, 0, true, 0),
+            (b'U', 1, 0, 4, [5, 6, 0, 0]),
         ),
         (
-            Geometry::D3390,
-            65535,
-            0xff,
-            0xff,
-            (0x0e, 65535, false, 0x40),
+            0x85,
+            Place::Index,
+            6,
+            (0x0c, 2, true, 0),
+            (b'U', 1, 0, 4, [5, 6, 7, 0]),
         ),
+        (0x85, Place::Count(3), 1, (0x0d, 1, true, 0), NOTHING),
+        (0x8d, Place::Key(1), 5, full, (b'U', 2, 2, 3, [7, 0, 0, 0])),
+        (
+            0x8d,
+            Place::Key(2),
+            1,
+            (0x0d, 0, false, 0),
+            (b'U', 3, 1, 0, [0; 4]),
+        ),
+        (0x1d, Place::Index, 11, full, (b'F', 0, 1, 2, [6, 7, 0, 0])),
+        (
+            0x1d,
+            Place::Body(3),
+            10,
+            (0x0c, 0, true, 0),
+            (b'F', 3, 1, 2, [6, 0, 0, 0]),
+        ),
+        (0x9d, Place::Index, 11, full, (b'F', 0, 1, 2, [6, 7, 0, 0])),
+        (0x15, Place::Home, 16, full, (b'Z', 0, 0, 8, [5, 6, 0, 0])),
     ];
-    for (geometry, count, high, low, want) in rows {
-        let image = TrackImage::empty(alloc, geometry, track)?;
-        let here = stance(Place::Count(0), false, Some(Operation::Format));
-        let given = [0, 1, 0, 2, 1, 0, high, low];
-        let turned = write(alloc, &image, &here, &word(alloc, 0x1d, 0, count, &given)?)?;
-        assert_eq!(rt; end(&turned), want);
+    for (code, place, count, want, edit) in rows {
+        let operation = if code & 0x80 != 0 && code != 0x9d {
+            Operation::WriteData
+        } else {
+            Operation::Format
+        };
+        let given = word(alloc, code, 0, count, given_by(code))?;
+        let turned = write(alloc, &image, &stance(place, operation), &given)?;
+        assert_eq!(rt; end(&turned), Some(want));
+        assert_eq!(rt; edit_of(&turned), edit);
     }
     Ok(())
 }
 
+/// Outside a domain a write lets another follow; with each one of a domain is taken.
 #[test]
 fn the_stance_behind(rt: HostRuntime) -> Result<(), Fail> {
     let alloc = rt.alloc();
     let image = image(alloc)?;
-    let writing = Some(Operation::WriteData);
-    let formatting = Some(Operation::Format);
     let rows = [
-        (
-            0x05,
-            Place::Count(1),
-            None,
-            Some((Place::Body(1), After::Wrote, 3)),
-        ),
-        (
-            0x0d,
-            Place::Count(2),
-            None,
-            Some((Place::Body(2), After::Wrote, 3)),
-        ),
-        (
-            0x05,
-            Place::Count(1),
-            writing,
-            Some((Place::Body(1), After::Other, 2)),
-        ),
-        (
-            0x0d,
-            Place::Count(2),
-            writing,
-            Some((Place::Body(2), After::Other, 2)),
-        ),
-        (
-            0x85,
-            Place::Count(3),
-            writing,
-            Some((Place::Body(3), After::Other, 2)),
-        ),
-        (
-            0x8d,
-            Place::Count(3),
-            writing,
-            Some((Place::Body(3), After::Other, 2)),
-        ),
-        (
-            0x1d,
-            Place::Count(2),
-            None,
-            Some((Place::Body(3), After::Wrote, 3)),
-        ),
-        (
-            0x1d,
-            Place::Count(2),
-            formatting,
-            Some((Place::Body(3), After::Wrote, 2)),
-        ),
-        (
-            0x9d,
-            Place::Index,
-            formatting,
-            Some((Place::Body(1), After::Other, 2)),
-        ),
-        (
-            0x15,
-            Place::Home,
-            None,
-            Some((Place::Body(0), After::Wrote, 3)),
-        ),
-        (
-            0x15,
-            Place::Index,
-            formatting,
-            Some((Place::Body(0), After::Wrote, 2)),
-        ),
-        (
-            0x05,
-            Place::Body(5),
-            None,
-            Some((Place::Body(1), After::Wrote, 3)),
-        ),
-        (0x05, Place::Body(5), writing, None),
+        (0x05, Place::Count(1), (Place::Body(1), After::Wrote, 3)),
+        (0x85, Place::Count(1), (Place::Body(1), After::Other, 2)),
+        (0x1d, Place::Count(2), (Place::Body(3), After::Wrote, 2)),
+        (0x9d, Place::Index, (Place::Body(1), After::Other, 2)),
+        (0x15, Place::Index, (Place::Body(0), After::Wrote, 2)),
     ];
-    for (code, place, operation, want) in rows {
-        let here = stance(place, false, operation);
-        let zero = word(alloc, code, 0x20, 16, &[0, 1, 0, 2, 1, 0, 0, 8])?;
-        let turned = write(alloc, &image, &here, &zero)?;
-        assert_eq!(rt; behind(&turned), want);
+    for (code, place, want) in rows {
+        let mut here = stance(place, Operation::Format);
+        if code == 0x05 {
+            here.domain = None;
+        }
+        let turned = write(
+            alloc,
+            &image,
+            &here,
+            &word(alloc, code, 0x20, 16, given_by(code))?,
+        )?;
+        let behind = outcome(&turned).ok_or("no end")?.stance;
+        assert_eq!(rt; (behind.place, behind.after, behind.left), want);
     }
     Ok(())
 }
 
 #[test]
-fn nothing_after_two_passes(rt: HostRuntime) -> Result<(), Fail> {
+fn no_room_and_no_record(rt: HostRuntime) -> Result<(), Fail> {
     let alloc = rt.alloc();
     let image = image(alloc)?;
-    let here = stance(Place::Body(5), true, None);
-    let turned = write(alloc, &image, &here, &word(alloc, 0x05, 0, 4, &[])?)?;
-    assert_eq!(rt; end(&turned), (0x0e, 4, false, 0x08));
+    let large = word(alloc, 0x1d, 0, 65535, &[0, 1, 0, 2, 9, 0, 0xff, 0xf7])?;
+    let turned = write(
+        alloc,
+        &image,
+        &stance(Place::Body(3), Operation::Format),
+        &large,
+    )?;
+    assert_eq!(rt; end(&turned), Some((0x0e, 65535, false, 0x40)));
+    let behind = stance(Place::Body(3), Operation::WriteData);
+    let turned = write(alloc, &image, &behind, &word(alloc, 0x85, 0, 4, DATA)?)?;
+    assert_eq!(rt; end(&turned), None);
     Ok(())
 }
