@@ -20,6 +20,7 @@ fn is_input(code: u8) -> bool
     code % 4 == 2 || code % 16 == 4 || code % 16 == 12
 }
 
+/// Whether a code is a search's, which may skip the word behind it.
 pub fn is_search(code: u8) -> bool
     ensures { result ≡ is_search code }
 {
