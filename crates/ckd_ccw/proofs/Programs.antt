@@ -37,7 +37,9 @@ word_of ccws i c h =
     let given = failed (has_too_much c) _ _ count.1 in
     let input = failed (nat_lt 0 (length c.given) && is_input c.command) _ _ given.1 in
     let end' = failed (runs_past_end ccws i c) _ _ input.1 in
-    let behind = λ (t : is_transfer c ≡ false) (n : is_chained c ≡ true). or_parts (nat_le (length ccws) (i + 1)) (is_search c.command && nat_le (length ccws) (i + 2)) (second_failed (is_chained c && not (is_transfer c)) _ (and_from _ _ n (not_from_false _ t)) end'.0) in
+    let behind =
+    λ (t : is_transfer c ≡ false) (n : is_chained c ≡ true). or_parts (nat_le (length ccws) (i + 1)) (is_search c.command && nat_le (length ccws) (i + 2))
+    (second_failed (is_chained c && not (is_transfer c)) _ (and_from _ _ n (not_from_false _ t)) end'.0) in
     record {
       first = λ t. positive i (second_failed (is_transfer c) (i == 0) t first.0);
       target = λ t. leb-false _ _ (second_failed (is_transfer c) (nat_le (length ccws) c.count) t target.0);
@@ -54,7 +56,8 @@ both_none i (Some why) later h = absurd (none-some (i, why) (sym h))
 both_none i None later h = (refl, h)
 
 -- the word at k of those from i on has no fault where none of them has
-fault_at : (ccws : List Ccw) (i : ℕ) (cs : List Ccw) (k j : ℕ) → j ≡ i + k → fault_from ccws i cs ≡ None → k < length cs → fault_of ccws j (slice_index_or cs k no_ccw) ≡ None
+fault_at : (ccws : List Ccw) (i : ℕ) (cs : List Ccw) (k j : ℕ) → j ≡ i + k → fault_from ccws i cs ≡ None → k < length cs
+    → fault_of ccws j (slice_index_or cs k no_ccw) ≡ None
 fault_at ccws i [] k j e h lt = absurd (omega (arith, lt))
 fault_at ccws i (c ∷ cs) zero j e h lt =
     let same : j ≡ i = omega arith in

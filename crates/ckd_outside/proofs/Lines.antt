@@ -65,7 +65,8 @@ puts_then o m n w x y a b (Ok v) first second = moves_then o m n w x y a b first
 puts_then o m n w x y a b (Err e) first second = stops_then o m n w x y a b first second
 
 -- the exit of a `?`
-pub puts_stopped : {T E : Type 0} (Q : E → Type 0) (o n : Option (List ℕ)) (w y text : List ℕ) (r : Result T E) → IsErrAnd r Q → Stops o w n y text → Puts o w n y r text
+pub puts_stopped : {T E : Type 0} (Q : E → Type 0) (o n : Option (List ℕ)) (w y text : List ℕ) (r : Result T E) → IsErrAnd r Q → Stops o w n y text
+    → Puts o w n y r text
 puts_stopped Q o n w y text r is s = let p = err_from_is_err_and r is in rw p.1 s
 
 -- a flush at the end
@@ -80,11 +81,13 @@ flushed o m n w x text (Err e) first last =
     }
 
 -- a flush of what an empty buffer took
-pub written_all : {T E : Type 0} (o m n : Option (List ℕ)) (w x text : List ℕ) (r : Result T E) → w ≡ [] → Moves o w m x text → Writes m n r x → Writes o n r text
+pub written_all : {T E : Type 0} (o m n : Option (List ℕ)) (w x text : List ℕ) (r : Result T E) → w ≡ [] → Moves o w m x text → Writes m n r x
+    → Writes o n r text
 written_all o m n w x text r empty first last = subst (λ (l : List ℕ). Writes o n r (l ++ text)) empty (flushed o m n w x text r first last)
 
 -- the exit of a `?` behind an empty buffer
-pub written_front : {T E : Type 0} (Q : E → Type 0) (o n : Option (List ℕ)) (w y text : List ℕ) (r : Result T E) → w ≡ [] → IsErrAnd r Q → Stops o w n y text → Writes o n r text
+pub written_front : {T E : Type 0} (Q : E → Type 0) (o n : Option (List ℕ)) (w y text : List ℕ) (r : Result T E) → w ≡ [] → IsErrAnd r Q → Stops o w n y text
+    → Writes o n r text
 written_front Q o n w y text r empty is s =
     let p = err_from_is_err_and r is in
     rw p.1 (subst (λ (l : List ℕ). AppendsFront o n (l ++ text)) empty s.grew)
@@ -99,7 +102,8 @@ pub put_none : (o : Option (List ℕ)) (w text : List ℕ) → Put o w o w text 
 put_none o w text = record { done = []; whole = refl; moved = moves_none o w }
 
 -- the front of the rest was put too
-pub put_more : (o m n : Option (List ℕ)) (w x y text rest piece tail : List ℕ) → Put o w m x text rest → rest ≡ piece ++ tail → Moves m x n y piece → Put o w n y text tail
+pub put_more : (o m n : Option (List ℕ)) (w x y text rest piece tail : List ℕ) → Put o w m x text rest → rest ≡ piece ++ tail → Moves m x n y piece
+    → Put o w n y text tail
 put_more o m n w x y text rest piece tail p is more =
     record {
       done = p.done ++ piece;
@@ -108,7 +112,8 @@ put_more o m n w x y text rest piece tail p is more =
     }
 
 -- a fault in the front of the rest
-pub put_stopped : (o m n : Option (List ℕ)) (w x y text rest piece tail : List ℕ) → Put o w m x text rest → rest ≡ piece ++ tail → Stops m x n y piece → Stops o w n y text
+pub put_stopped : (o m n : Option (List ℕ)) (w x y text rest piece tail : List ℕ) → Put o w m x text rest → rest ≡ piece ++ tail → Stops m x n y piece
+    → Stops o w n y text
 put_stopped o m n w x y text rest piece tail p is s =
     let e : text ≡ (p.done ++ piece) ++ tail = p.whole ∙ ap (λ (l : List ℕ). p.done ++ l) is ∙ sym (append_assoc p.done piece tail) in
     subst (λ (l : List ℕ). Stops o w n y l) (sym e) (stops_longer o n w y (p.done ++ piece) tail (stops_then o m n w x y p.done piece p.moved s))
@@ -120,5 +125,6 @@ put_all o n w y text rest p is =
     subst (λ (l : List ℕ). Moves o w n y l) (sym e) p.moved
 
 -- the texts of the items that are left, one item on
-pub flat_step : {X : Type 0} (f : X → List ℕ) (xs : List X) (i : ℕ) (x : X) → i < length xs → x ≡ get_or xs i x → flat_map f (drop i xs) ≡ f x ++ flat_map f (drop (i + 1) xs)
+pub flat_step : {X : Type 0} (f : X → List ℕ) (xs : List X) (i : ℕ) (x : X) → i < length xs → x ≡ get_or xs i x
+    → flat_map f (drop i xs) ≡ f x ++ flat_map f (drop (i + 1) xs)
 flat_step f xs i x inside is = at_drop_more (flat_map f) xs i x inside ∙ ap (λ y. f y ++ flat_map f (drop (i + 1) xs)) (sym is)

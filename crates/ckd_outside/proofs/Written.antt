@@ -14,7 +14,8 @@ pub record Wrote (old new : Option (List ℕ)) (text rest : List ℕ) : Type 0 w
 pub wrote_none : (a : Option (List ℕ)) (text : List ℕ) → Wrote a a text text
 wrote_none a text = record { front = []; whole = refl; grew = Appends-nil a }
 
-pub wrote_more : (a b c : Option (List ℕ)) (text rest tail : List ℕ) (n : ℕ) → Wrote a b text rest → Appends b c (take n rest) → tail ≡ drop n rest → Wrote a c text tail
+pub wrote_more : (a b c : Option (List ℕ)) (text rest tail : List ℕ) (n : ℕ) → Wrote a b text rest → Appends b c (take n rest) → tail ≡ drop n rest
+    → Wrote a c text tail
 wrote_more a b c text rest tail n w more is =
     let split : rest ≡ take n rest ++ tail = sym (take-append-drop n rest) ∙ ap (λ (l : List ℕ). take n rest ++ l) (sym is) in
     record {
@@ -25,7 +26,8 @@ wrote_more a b c text rest tail n w more is =
 
 pub wrote_all : (a b : Option (List ℕ)) (text rest : List ℕ) → Wrote a b text rest → rest ≡ [] → Appends a b text
 wrote_all a b text rest w is =
-    let e : w.front ≡ text = sym (append-nil w.front) ∙ ap (λ (l : List ℕ). w.front ++ l) (sym is) ∙ sym w.whole in subst (λ (l : List ℕ). Appends a b l) e w.grew
+    let e : w.front ≡ text = sym (append-nil w.front) ∙ ap (λ (l : List ℕ). w.front ++ l) (sym is) ∙ sym w.whole in
+    subst (λ (l : List ℕ). Appends a b l) e w.grew
 
 -- at a fault a front was written
 pub wrote_front : (a b c : Option (List ℕ)) (text rest : List ℕ) → Wrote a b text rest → Appends b c [] → AppendsFront a c text

@@ -23,7 +23,7 @@ fn is_next_listed(calls: &mut u32, numbers: &[u32]) -> bool
     numbers.contains(calls)
 }
 
-/// A source over bytes in memory, of which the reads with listed numbers fail.
+/// A source over bytes in memory, of which the reads with listed numbers fail. For tests and trials.
 #[derive(Drop)]
 pub struct MemSource {
     bytes: Vec<u8>,
@@ -100,7 +100,8 @@ impl Source for MemSource {
     }
 }
 
-/// A sink in memory with some room, of which the writes with listed numbers fail.
+/// A sink in memory with some room, of which the writes with listed numbers fail, and each one that finds no
+/// room. For tests and trials.
 #[derive(Drop)]
 pub struct MemSink {
     bytes: Vec<u8>,
@@ -144,6 +145,7 @@ impl MemSink {
         })
     }
 
+    /// What it took so far.
     pub fn bytes(&self) -> &[u8]
         ensures { result.now ≡ self.now.held }
     {

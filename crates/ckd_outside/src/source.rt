@@ -1,4 +1,4 @@
-ghost use Rattle.std.specs.Prelude.{◌≡◌, ◌≤◌, ◌<◌, List, ℕ, Option, length, IfOk, IfErr, OnErr, IsErrOf};
+ghost use Rattle.std.specs.Prelude.{◌≡◌, ◌≤◌, ◌<◌, List, ℕ, Option, length, IfOk, IfErr, OnOk, OnErr, IsErrOf};
 ghost use Rattle.std.specs.Io.{ReadsAtMost};
 ghost use Rattle.std.specs.Io.KnownBytes.{Consumes, IsAtEnd, ReadConsumes};
 ghost use Rattle.ckd_outside.specs.Causes.{Rose, HasCause, Spends, IsKept, IsLowered};
@@ -17,13 +17,16 @@ pub trait Source: Faulty {
         ensures bound { ReadsAtMost result into.new }
         ensures bytes { ReadConsumes (left self.old) (left self.new) result into.new }
         ensures cause { HasCause (Self.faults self.old) (Self.faults self.new) result }
+        ensures calm { OnOk result (Self.faults self.new ≡ Self.faults self.old) }
         ensures spends { Spends (Self.allowance self.old) (Self.allowance self.new) result };
 }
 
 /// Why a text was not read.
 #[derive(Clone, Copy, Debug, PartialEq, Eq)]
 pub enum ReadError {
+    /// The source failed.
     Failed,
+    /// There was no room for the text.
     NoMemory,
 }
 
@@ -51,7 +54,8 @@ impl From<Failed> for ReadError {
 
 const PIECE: usize = 4096;
 
-/// Reads to the end of the source, or until there are `most` bytes.
+/// Reads to the end of the source, or until there are `most` bytes. An answer other than `Failed` says that no
+/// read failed. At a fault what was read is lost.
 pub fn read_up_to<S: Source>(
     alloc: Global,
     source: &mut S,
@@ -63,6 +67,8 @@ pub fn read_up_to<S: Source>(
     ensures part { OnErr result (ConsumesSome (S.left source.old) (S.left source.new) most) }
     ensures later { S.faults source.old ≤ S.faults source.new }
     ensures failed { IsErrOf result ReadError.Failed → Rose (S.faults source.old) (S.faults source.new) }
+    ensures calm { OnOk result (S.faults source.new ≡ S.faults source.old) }
+    ensures want { IsErrOf result ReadError.NoMemory → S.faults source.new ≡ S.faults source.old }
     ensures kept { IsKept (S.allowance source.old) (S.allowance source.new) }
     ensures lowered { IsErrOf result ReadError.Failed → IsLowered (S.allowance source.old) (S.allowance source.new) }
 {

@@ -11,6 +11,7 @@ pub struct StdSource<R> {
 }
 
 impl<R: Read> StdSource<R> {
+    /// A source that has counted no fault.
     pub fn new(reader: R) -> StdSource<R>
         ensures left { ⟦<StdSource<R> as Source>⟧.left result ≡ R.remaining reader }
         ensures faults { ⟦<StdSource<R> as Faulty>⟧.faults result ≡ 0 }
@@ -47,6 +48,7 @@ pub struct StdSink<W> {
 }
 
 impl<W: Write> StdSink<W> {
+    /// A sink that has counted no fault.
     pub fn new(writer: W) -> StdSink<W>
         ensures held { ⟦<StdSink<W> as Sink>⟧.held result ≡ W.contents writer }
         ensures faults { ⟦<StdSink<W> as Sink>⟧.faults result ≡ 0 }

@@ -20,6 +20,7 @@ impl<T: Faulty> Model for NeverFails<T> {
 }
 
 impl<T: Faulty> NeverFails<T> {
+    /// What has no fault left to give: a `MemSource` with none listed that is still to come.
     pub fn new(inner: T) -> NeverFails<T>
         requires sure { T.allowance inner ≡ Some 0 }
         ensures { result ≡ inner }

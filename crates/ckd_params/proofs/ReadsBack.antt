@@ -87,7 +87,8 @@ operation_back : (orientation : Orientation) (operation : Operation) → operati
 operation_back orientation operation =
     ap operation_of (low_part (orientation_code orientation) (operation_code operation) (code_low operation)) ∙ of_operation_code operation
 
-pub extent_back : (cylinders : ℕ) (e : Extent) → IsExtent cylinders e → IsHeld (cchh_of e.first) → IsHeld (cchh_of e.last) → extent_of cylinders (extent_bytes e) ≡ Ok e
+pub extent_back : (cylinders : ℕ) (e : Extent) → IsExtent cylinders e → IsHeld (cchh_of e.first) → IsHeld (cchh_of e.last)
+    → extent_of cylinders (extent_bytes e) ≡ Ok e
 extent_back cylinders e is first last =
     let order : nat_le e.first e.last ≡ true = grind (arith, nat_tests, is.order) in
     let before : e.first < cylinders * 15 = omega (arith, is.order, is.range) in
@@ -95,7 +96,8 @@ extent_back cylinders e is first last =
     let end = track_back cylinders e.last is.range last in
     rw (is.mask, mode_back e.mode e.inhibit_fast, inhibit_back e.mode e.inhibit_fast, start, end, order) refl
 
-pub domain_back : (cylinders : ℕ) (d : Domain) → IsDomain cylinders d → IsHeld (cchh_of d.seek) → IsHeld d.search.cchh → domain_of cylinders (domain_bytes d) ≡ Ok d
+pub domain_back : (cylinders : ℕ) (d : Domain) → IsDomain cylinders d → IsHeld (cchh_of d.seek) → IsHeld d.search.cchh
+    → domain_of cylinders (domain_bytes d) ≡ Ok d
 domain_back cylinders d is seek search =
     let sought = track_back cylinders d.seek is.range seek in
     let orientation = orientation_back d.orientation d.operation in

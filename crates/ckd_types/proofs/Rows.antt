@@ -56,7 +56,8 @@ mode_4_is_refused : extent_of 1 (whole 0xd0) ≡ Err BadMode
 unfolding whole
 mode_4_is_refused = refl
 
-located : domain_of 1 (0x06 ∷ 0 ∷ 0 ∷ 1 ∷ 0 ∷ 0 ∷ 0 ∷ 5 ∷ 0 ∷ 0 ∷ 0 ∷ 5 ∷ 3 ∷ 0 ∷ 0 ∷ 0 ∷ []) ≡ Ok (record { orientation = Count; operation = ReadData; count = 1; seek = 5; search = record { cchh = record { cc = 0; hh = 5 }; r = 3 } })
+located : domain_of 1 (0x06 ∷ 0 ∷ 0 ∷ 1 ∷ 0 ∷ 0 ∷ 0 ∷ 5 ∷ 0 ∷ 0 ∷ 0 ∷ 5 ∷ 3 ∷ 0 ∷ 0 ∷ 0 ∷ [])
+    ≡ Ok (record { orientation = Count; operation = ReadData; count = 1; seek = 5; search = record { cchh = record { cc = 0; hh = 5 }; r = 3 } })
 located = refl
 
 past_the_device : domain_of 1 (0x83 ∷ 0 ∷ 0 ∷ 1 ∷ 0 ∷ 1 ∷ 0 ∷ 5 ∷ 0 ∷ 0 ∷ 0 ∷ 5 ∷ 3 ∷ 0 ∷ 0 ∷ 0 ∷ []) ≡ Err BadRange

@@ -3,7 +3,8 @@ use Rattle.std.specs.Prelude.{◌≡◌, ℕ, ◌+◌, ◌%◌, ◌==◌, ◌&&�
 use Rattle.std.specs.Int.RustNames.{bit_and}
 use Rattle.ckd_types.specs.declared.channel.Ccw.{Ccw}
 use Rattle.ckd_types.specs.declared.channel.Why.{Why}
-use Rattle.ckd_types.specs.declared.channel.Why.TheVariants.{Empty, TooLong, BadCommand, BadFlags, TicFirst, Target, TicToTic, ZeroCount, TooMuchData, DataOnInput, PastEnd}
+use Rattle.ckd_types.specs.declared.channel.Why.TheVariants.{Empty, TooLong, BadCommand, BadFlags, TicFirst, Target, TicToTic, ZeroCount, TooMuchData}
+use Rattle.ckd_types.specs.declared.channel.Why.TheVariants.{DataOnInput, PastEnd}
 use Rattle.ckd_types.specs.Ccw.{is_chained, is_transfer, ccw_at}
 use Rattle.ckd_types.specs.Commands.{is_search}
 

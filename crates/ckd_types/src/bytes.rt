@@ -28,6 +28,7 @@ impl Bytes {
         Bytes { items: None }
     }
 
+    /// A copy of some bytes. No bytes take no memory.
     pub fn from_slice(alloc: Global, bytes: &[u8]) -> Result<Bytes, NoMemory>
         ensures { IfOk result (λ made. made ≡ bytes.now) }
     {
@@ -45,6 +46,7 @@ impl Bytes {
         Bytes { items: Some(items) }
     }
 
+    /// All of them, in order.
     pub fn as_slice(&self) -> &[u8]
         ensures { result.now ≡ self.now }
     {
@@ -54,12 +56,14 @@ impl Bytes {
         }
     }
 
+    /// How many bytes there are.
     pub fn len(&self) -> usize
         ensures { result ≡ length self.now }
     {
         self.as_slice().len()
     }
 
+    /// Whether there are none.
     pub fn is_empty(&self) -> bool
         ensures { result ≡ (length self.now == 0) }
     {
@@ -86,6 +90,7 @@ impl Bytes {
         self
     }
 
+    /// The same bytes in memory of their own.
     pub fn copy(&self, alloc: Global) -> Result<Bytes, NoMemory>
         ensures { IfOk result (λ made. made ≡ self.now) }
     {

@@ -4,8 +4,9 @@ ghost use Rattle.ckd_types.specs.Ccw.{is_chained, suppresses_length, skips, is_t
 use crate::{Bytes, Growing, NoMemory, Sense, UnitStatus};
 use std::alloc::Global;
 
-/// A channel command word of a deck: its command, its flags, its count, and the bytes given to the
-/// device. In a transfer in channel the count is the index of the word that follows.
+/// A channel command word: its command code and flags (IBM's), its count in bytes, and the bytes given to
+/// the device, zeros standing for those that are missing up to the count. In a transfer in channel the count
+/// is the index of the word that follows (own: a deck has no addresses).
 #[derive(Debug, Drop)]
 pub struct Ccw {
     pub command: u8,
@@ -15,12 +16,16 @@ pub struct Ccw {
 }
 
 impl Ccw {
+    /// Command chaining: the next word follows.
     pub const CHAIN: u8 = 0x40;
 
+    /// Suppress length indication: a count that differs from the area is no incorrect length.
     pub const SUPPRESS_LENGTH: u8 = 0x20;
 
+    /// Skip: what a command sends isn't kept. It changes nothing at other commands.
     pub const SKIP: u8 = 0x10;
 
+    /// The code of a transfer in channel.
     pub const TRANSFER: u8 = 0x08;
 
     /// The chain goes on behind this word.
@@ -51,6 +56,7 @@ impl Ccw {
         self.command == Ccw::TRANSFER
     }
 
+    /// The same word in memory of its own.
     pub fn copy(&self, alloc: Global) -> Result<Ccw, NoMemory>
         ensures { IfOk result (λ made. made ≡ self.now) }
     {
@@ -63,23 +69,35 @@ impl Ccw {
     }
 }
 
-/// Why a list of channel command words is no program.
+/// Why a list of channel command words is no program, in the order in which a word's reasons are looked for.
+/// Own, but for what IBM's program check covers.
 #[derive(Clone, Copy, Debug, PartialEq, Eq)]
 pub enum Why {
+    /// It has no words.
     Empty,
+    /// It has more than 256 words.
     TooLong,
+    /// The code's low digit is 0, or it is 8 and the code isn't 08.
     BadCommand,
+    /// A flag is neither chaining, suppress length nor skip.
     BadFlags,
+    /// The first word is a transfer.
     TicFirst,
+    /// A transfer leads to no word.
     Target,
+    /// A transfer leads to a transfer.
     TicToTic,
+    /// The count is zero, at a command.
     ZeroCount,
+    /// More bytes are given than the count, or any to a transfer.
     TooMuchData,
+    /// A read or a sense is given bytes.
     DataOnInput,
+    /// The word behind a chained one isn't there, or the second behind a chained search.
     PastEnd,
 }
 
-/// What is noted at a command's end.
+/// What is noted at a command's end: nothing, IBM's incorrect length, or that the chain met a limit (own).
 #[derive(Clone, Copy, Debug, PartialEq, Eq)]
 pub enum Note {
     Plain,
@@ -87,8 +105,9 @@ pub enum Note {
     Limit,
 }
 
-/// How a command ended: the index of its word, its status, its residual count, the bytes that it
-/// sent, its sense where it has unit check, and whether the program is over with it.
+/// How a command ended: the index of its word from 0 on, its status, its residual count in bytes, the bytes
+/// that it sent (none where they are skipped), its sense where it has unit check, and whether the program is
+/// over with it.
 #[derive(Debug, Drop)]
 pub struct CommandEnd {
     pub index: u16,
@@ -101,6 +120,7 @@ pub struct CommandEnd {
 }
 
 impl CommandEnd {
+    /// The same end in memory of its own.
     pub fn copy(&self, alloc: Global) -> Result<CommandEnd, NoMemory>
         ensures { IfOk result (λ made. made ≡ self.now) }
     {

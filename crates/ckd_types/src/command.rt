@@ -131,7 +131,7 @@ fn read_alone(area: ReadArea) -> Command
     })
 }
 
-/// The command that a code stands for (IBM's codes).
+/// The command that a code stands for (IBM's codes), or none. A transfer in channel is no command.
 #[tactic(auto, unfolding(crate::specs::Commands::command_of))]
 pub fn command_of(code: u8) -> Option<Command>
     ensures { result ≡ command_of code }
@@ -187,7 +187,7 @@ pub fn is_search(code: u8) -> bool
     matches!(command_of(code), Some(Command::Search(_)))
 }
 
-/// The least count that a command's word has to have (IBM).
+/// The least count in bytes that a command's word has to have (IBM): with less it is rejected.
 pub fn required_count(command: Command) -> u16
     ensures { result ≡ required_count command }
 {

@@ -9,14 +9,14 @@ pub const HEADS: u16 = 15;
 /// The most cylinders that a device has.
 pub const MOST_CYLINDERS: u16 = 64;
 
-/// What kind of device a volume is.
+/// What kind of device a volume is: how many bytes its tracks hold (IBM's). Both have 15 heads.
 #[derive(Clone, Copy, Debug, PartialEq, Eq)]
 pub enum Geometry {
     D3390,
     D3380,
 }
 
-/// Where a track is: its cylinder and head, as a count area has them.
+/// Where a track is: its cylinder and head, two bytes each with the high one first, as a count area has them.
 #[derive(Clone, Copy, Debug, PartialEq, Eq)]
 pub struct Cchh {
     pub cc: u16,
@@ -66,7 +66,7 @@ pub fn cost(geometry: Geometry, key: u8, body: u16) -> u32
     }
 }
 
-/// The units that the records of a track behind record 0 take at most.
+/// The units that the records of a track behind record 0 take at most (the 3390's is IBM's, the 3380's own).
 pub fn capacity(geometry: Geometry) -> u32
     ensures { result ≡ capacity geometry }
 {
@@ -76,7 +76,7 @@ pub fn capacity(geometry: Geometry) -> u32
     }
 }
 
-/// The track at a cylinder and head.
+/// The track at a cylinder and head: none from head 15 or cylinder 64 on.
 pub fn track_of(place: Cchh) -> Option<TrackNo>
     ensures { result ≡ track_of place }
 {

@@ -30,12 +30,14 @@ impl<T> Growing<T> {
         }
     }
 
+    /// How many items there are.
     pub fn len(&self) -> usize
         ensures { result ≡ length self.now.items }
     {
         self.items.len()
     }
 
+    /// Item `i`, from 0 on.
     pub fn at(&self, i: usize) -> &T
         requires { i < length self.now.items }
         ensures { result.now ≡ slice_index_or self.now.items i result.now }
@@ -43,13 +45,14 @@ impl<T> Growing<T> {
         &self.items[i]
     }
 
+    /// All of them, in order.
     pub fn as_slice(&self) -> &[T]
         ensures { result.now ≡ self.now.items }
     {
         &self.items
     }
 
-    /// Makes room for `n` more items.
+    /// Makes room for `n` more items. At want of memory no item is lost.
     pub fn reserve(&mut self, n: usize) -> Result<(), NoMemory>
         ensures room { OnOk result (n ≤ self.new.spare) }
         ensures same { self.new.items ≡ self.old.items }

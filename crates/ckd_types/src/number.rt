@@ -2,7 +2,7 @@ ghost use Rattle.std.specs.Prelude.{◌≡◌, ◌<◌, ◌≤◌, ◌↔◌, Is
 
 use std::marker::Model;
 
-/// A device of a subsystem, 0 to 15.
+/// A device of a subsystem, 0 to 15 (own: a 3990 has more).
 #[derive(Clone, Copy, Debug, PartialEq, Eq)]
 pub struct DeviceNo(u8);
 
@@ -19,6 +19,7 @@ impl Model for DeviceNo {
 }
 
 impl DeviceNo {
+    /// The device of a number, or none from 16 on.
     pub fn new(n: u8) -> Option<DeviceNo>
         ensures made { IsSome result ↔ (n < 16) }
         ensures value { IfSome result (λ d. d ≡ n) }
@@ -26,6 +27,7 @@ impl DeviceNo {
         if n < 16 { Some(DeviceNo(n)) } else { None }
     }
 
+    /// Its number.
     pub fn get(&self) -> u8
         ensures value { result ≡ self.now }
         ensures range { result < 16 }
@@ -34,7 +36,7 @@ impl DeviceNo {
     }
 }
 
-/// A channel path, 1 to 4.
+/// A channel path, 1 to 4 (own).
 #[derive(Clone, Copy, Debug, PartialEq, Eq)]
 pub struct PathNo(u8);
 
@@ -51,6 +53,7 @@ impl Model for PathNo {
 }
 
 impl PathNo {
+    /// The path of a number, or none.
     pub fn new(n: u8) -> Option<PathNo>
         ensures made { IsSome result ↔ ((1 ≤ n) × (n ≤ 4)) }
         ensures value { IfSome result (λ p. p ≡ n) }
@@ -62,6 +65,7 @@ impl PathNo {
         }
     }
 
+    /// Its number.
     pub fn get(&self) -> u8
         ensures value { result ≡ self.now }
         ensures least { 1 ≤ result }
@@ -88,6 +92,7 @@ impl Model for TrackNo {
 }
 
 impl TrackNo {
+    /// The track of a number, or none from 960 on. Whether a volume has it, its cylinders say.
     pub fn new(n: u16) -> Option<TrackNo>
         ensures made { IsSome result ↔ (n < 960) }
         ensures value { IfSome result (λ t. t ≡ n) }
@@ -95,6 +100,7 @@ impl TrackNo {
         if n < 960 { Some(TrackNo(n)) } else { None }
     }
 
+    /// Its number.
     pub fn get(&self) -> u16
         ensures value { result ≡ self.now }
         ensures range { result < 960 }

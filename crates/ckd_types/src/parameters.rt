@@ -82,15 +82,23 @@ pub struct Domain {
     pub search: RecId,
 }
 
-/// Why parameter bytes are refused.
+/// Why parameter bytes are refused, in the order in which it is looked for. The chain tells each as a command
+/// reject, invalid parameter.
 #[derive(Clone, Copy, Debug, PartialEq, Eq)]
 pub enum ParamFault {
+    /// There are fewer than sixteen bytes.
     Short,
+    /// Bit 2 of the mask is set.
     BadMask,
+    /// Bits 0 and 1 of the second byte aren't set, bit 6 is, or bits 3 to 5 are no mode.
     BadMode,
+    /// The first byte names no operation of the profile.
     BadOperation,
+    /// Orient has a count, or another operation has none.
     BadCount,
+    /// A bit of bytes 1 and 2 is set, other than the first.
     BadAux,
+    /// A track isn't on the device, or the last stands before the first.
     BadRange,
 }
 

@@ -5,7 +5,7 @@ pub enum Side {
     B,
 }
 
-/// The eleven bytes that name a path group.
+/// The eleven bytes that name a path group. What they say is the system's own affair.
 #[derive(Clone, Copy, Debug, PartialEq, Eq)]
 pub struct GroupId {
     pub bytes: [u8; 11],
@@ -14,12 +14,14 @@ pub struct GroupId {
 impl GroupId {
     ghost use Rattle.std.specs.Prelude.{◌≡◌};
 
+    /// The ID of these bytes.
     pub fn new(bytes: [u8; 11]) -> GroupId
         ensures { result.bytes ≡ bytes }
     {
         GroupId { bytes }
     }
 
+    /// Its bytes, as they were given.
     pub fn bytes(&self) -> &[u8; 11]
         ensures { result.now ≡ self.now.bytes }
     {
@@ -34,7 +36,8 @@ pub enum Owner {
     Path(crate::PathNo),
 }
 
-/// What a device keeps of a path's membership in a path group.
+/// What a device keeps of a path's membership in a path group: it was reset and has set no ID since; it was
+/// ungrouped; or it is in the group of an ID, in single or multipath mode (GA32-0099).
 #[derive(Clone, Copy, Debug, PartialEq, Eq)]
 pub enum PathState {
     Reset,

@@ -6,14 +6,16 @@ use crate::{Bytes, Cchh, NoMemory, TrackNo, cchh_of};
 use std::alloc::Global;
 use std::marker::Model;
 
-/// A record's id: a cylinder, a head and a number, as they were written.
+/// A record's id: a cylinder, a head and a number. They are five bytes as they were written, and need not be
+/// those of the track that the record is on (IBM's rule).
 #[derive(Clone, Copy, Debug, PartialEq, Eq)]
 pub struct RecId {
     pub cchh: Cchh,
     pub r: u8,
 }
 
-/// A record: its id, its key of at most 255 bytes and its data of at most 65,534 bytes.
+/// A record: its id, its key of at most 255 bytes and its data of at most 65,534 bytes. One without data is an
+/// end of file (IBM's rule).
 #[derive(Debug, Drop)]
 pub struct Record {
     pub id: RecId,
@@ -22,6 +24,7 @@ pub struct Record {
 }
 
 impl Record {
+    /// The same record in memory of its own.
     pub fn copy(&self, alloc: Global) -> Result<Record, NoMemory>
         ensures { IfOk result (λ made. made ≡ self.now) }
     {
@@ -84,18 +87,21 @@ fn put_behind(records: &mut Vec<Record>, after: usize, added: Record) -> Result<
 }
 
 impl Records {
+    /// The records of a vector, which is kept as it is.
     pub fn from_vec(items: Vec<Record>) -> Records
         ensures { result ≡ items.items }
     {
         Records { items }
     }
 
+    /// All of them, record 0 first.
     pub fn as_slice(&self) -> &[Record]
         ensures { result.now ≡ self.now }
     {
         &self.items
     }
 
+    /// How many records there are, with record 0.
     pub fn len(&self) -> usize
         ensures value { result ≡ length self.now }
         ensures range { result < 2 ^ 63 }
@@ -133,6 +139,7 @@ impl Records {
         }
     }
 
+    /// The same records in memory of their own.
     pub fn copy(&self, alloc: Global) -> Result<Records, NoMemory>
         ensures { IfOk result (λ made. made ≡ self.now) }
     {
@@ -152,6 +159,7 @@ pub struct Track {
 }
 
 impl Track {
+    /// The same track in memory of its own.
     pub fn copy(&self, alloc: Global) -> Result<Track, NoMemory>
         ensures { IfOk result (λ made. made ≡ self.now) }
     {

@@ -3,7 +3,7 @@ ghost use Rattle.ckd_types.specs.Status.{has_unit_check, has_unit_exception, has
 
 use bitflags::{Flag, Flags, bitflag_items};
 
-/// The unit status of a command's end.
+/// The unit status of a command's end: IBM's eight bits.
 #[derive(Clone, Copy, PartialEq, Eq, Debug)]
 pub struct UnitStatus(pub u8);
 
@@ -71,18 +71,21 @@ impl UnitStatus {
         UnitStatus::normal().union(UnitStatus::UNIT_CHECK)
     }
 
+    /// The command was refused or failed.
     pub fn has_unit_check(self) -> bool
         ensures { result ≡ has_unit_check self }
     {
         self.contains(UnitStatus::UNIT_CHECK)
     }
 
+    /// The command met an end of file.
     pub fn has_unit_exception(self) -> bool
         ensures { result ≡ has_unit_exception self }
     {
         self.contains(UnitStatus::UNIT_EXCEPTION)
     }
 
+    /// A search was satisfied, so the chain skips a word.
     pub fn has_status_modifier(self) -> bool
         ensures { result ≡ has_status_modifier self }
     {

@@ -74,6 +74,7 @@ impl PathPlans {
         self.plan(path).len()
     }
 
+    /// Program `i` of a path, from 0 on; in reports its ordinal is one more.
     pub fn at(&self, path: PathNo, i: usize) -> &Program
         requires { i < length (plan_of self.now path) }
         ensures { result.now ≡ slice_index_or (plan_of self.now path) i [] }

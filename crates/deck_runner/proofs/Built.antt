@@ -19,7 +19,8 @@ abbrev pub AreBuilt : List Ccw → Type 0
 AreBuilt ccws = All IsBuilt ccws
 
 -- a word whose command is run, before others
-words_from : (k : ℕ) (c : Ccw) (cs : List Ccw) (built : Bool) → is_built (command_of c.command) ≡ built → cond built (bad_word (k + 1) cs) (Some (k + 1)) ≡ None → (bad_word (k + 1) cs ≡ None → AreBuilt cs) → AreBuilt (c ∷ cs)
+words_from : (k : ℕ) (c : Ccw) (cs : List Ccw) (built : Bool) → is_built (command_of c.command) ≡ built → cond built (bad_word (k + 1) cs) (Some (k + 1)) ≡ None
+    → (bad_word (k + 1) cs ≡ None → AreBuilt cs) → AreBuilt (c ∷ cs)
 words_from k c cs true built none others = All-cons IsBuilt c cs built (others none)
 words_from k c cs false built none others = absurd (none-some (k + 1) (sym none))
 
@@ -52,7 +53,8 @@ set_built [] i program built all = all
 set_built (q ∷ qs) zero program built all = All-append AreBuilt q (program ∷ []) all (All-cons AreBuilt program [] built (All-nil AreBuilt))
 set_built (q ∷ qs) (suc i) program built all = all
 
-planned_built : (here : Bool) (plans : Plans) (p : PlannedProgram) → AreBuilt p.program → PlanBuilt plans → PlanBuilt (cond here (with_program plans p.path p.program) plans)
+planned_built : (here : Bool) (plans : Plans) (p : PlannedProgram) → AreBuilt p.program → PlanBuilt plans
+    → PlanBuilt (cond here (with_program plans p.path p.program) plans)
 planned_built true plans p built all = set_built plans (p.path - 1) p.program built all
 planned_built false plans p built all = all
 

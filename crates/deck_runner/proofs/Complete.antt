@@ -1,5 +1,6 @@
 -- A deck is reported where nothing fails.
-use Rattle.std.proofs.Common.{◌≡◌, ◌⊎◌, inl, inr, ◌≤◌, ℕ, List, ◌++◌, length, Option, Some, None, Result, Ok, Err, refl, sym, ap, subst, ◌∙◌, arith, length-append}
+use Rattle.std.proofs.Common.{◌≡◌, ◌⊎◌, inl, inr, ◌≤◌, ℕ, List, ◌++◌, length, Option, Some, None, Result, Ok, Err, refl, sym, ap, subst, ◌∙◌, arith}
+use Rattle.std.proofs.Common.{length-append}
 use Rattle.std.proofs.lemmas.Bool.{cases_lt}
 use Rattle.std.proofs.lemmas.Bool.Decides.{nat_tests}
 use Rattle.std.proofs.lemmas.List.{append-nil}
@@ -20,7 +21,8 @@ parse_long text long = grind (arith, nat_tests)
 no_fault : (d : DeckLines) (f : DeckFault) (deck : Result DeckLines DeckFault) → deck ≡ Ok d → deck ≡ Err f → ⊥
 no_fault d f deck p q = cc
 
-same_text : (task : Task) (text read : List ℕ) (after : Option (List ℕ)) (d : DeckLines) → Reads (Some text) after read → deck_for task text ≡ Ok d → read ≡ text
+same_text : (task : Task) (text read : List ℕ) (after : Option (List ℕ)) (d : DeckLines) → Reads (Some text) after read → deck_for task text ≡ Ok d
+    → read ≡ text
 same_text task text read None d r p = absurd r.read
 same_text task text read (Some rest) d r p = elim (cases_lt (length read) 16777217) [
   | inl short ↦ sym (r.read ∙ ap (λ (l : List ℕ). read ++ l) (r.whole short) ∙ append-nil read)
@@ -41,12 +43,16 @@ by_task NoMemory task before after held holds text d is p told nr nw = inr refl
 by_task ReadFault task before after held holds text d is p told nr nw = absurd (nr refl)
 by_task WriteFault task before after held holds text d is p told nr nw = absurd (nw refl)
 by_task Usage task before after held holds text d is p told nr nw = absurd told.2
-by_task (DeckRefused line why) task before after held holds text d is p told nr nw = absurd (refused task text told.0 before after d (faults.Refused line why) is told.1 p told.2.0)
-by_task (Limit which) task before after held holds text d is p told nr nw = absurd (refused task text told.0 before after d (faults.Limit which) is told.1 p told.2.0)
+by_task (DeckRefused line why) task before after held holds text d is p told nr nw =
+    absurd (refused task text told.0 before after d (faults.Refused line why) is told.1 p told.2.0)
+by_task (Limit which) task before after held holds text d is p told nr nw =
+    absurd (refused task text told.0 before after d (faults.Limit which) is told.1 p told.2.0)
 
 pub complete : (status : Status) (task : Option Task) (wanted : Task) (before after held holds : Option (List ℕ)) (text : List ℕ) (d : DeckLines)
-    → before ≡ Some text → task ≡ Some wanted → deck_for wanted text ≡ Ok d → Tells status task before after held holds → (status ≡ ReadFault → ⊥) → (status ≡ WriteFault → ⊥)
+    → before ≡ Some text → task ≡ Some wanted → deck_for wanted text ≡ Ok d → Tells status task before after held holds → (status ≡ ReadFault → ⊥)
+    → (status ≡ WriteFault → ⊥)
     → (status ≡ Reported) ⊎ (status ≡ NoMemory)
 complete status None wanted before after held holds text d is task_is p told nr nw = absurd (none-some wanted task_is)
 complete status (Some task) wanted before after held holds text d is task_is p told nr nw =
-    by_task status wanted before after held holds text d is p (subst (λ (t : Task). TellsTask status t before after held holds) (same_Some task wanted task_is) told) nr nw
+    by_task status wanted before after held holds text d is p
+    (subst (λ (t : Task). TellsTask status t before after held holds) (same_Some task wanted task_is) told) nr nw

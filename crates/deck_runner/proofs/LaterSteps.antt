@@ -10,7 +10,8 @@ use Rattle.deck_runner.specs.Later.{bad_word, or_later, bad_program, lines_of, l
 
 module _ (es : List EventLine) (i n : ℕ) (e : EventLine) (inside : i < length es) (is : e ≡ get_or es i e) where
   at_event : later_event n (drop i es) ≡ cond (is_open_event e) (later_event (n + 1) (drop (i + 1) es)) (Some n)
-  at_event = at_drop_more (later_event n) es i e inside ∙ ap (λ (x : EventLine). cond (is_open_event x) (later_event (n + 1) (drop (i + 1) es)) (Some n)) (sym is)
+  at_event =
+      at_drop_more (later_event n) es i e inside ∙ ap (λ (x : EventLine). cond (is_open_event x) (later_event (n + 1) (drop (i + 1) es)) (Some n)) (sym is)
 
   pub event_more : is_open_event e ≡ true → later_event n (drop i es) ≡ later_event (n + 1) (drop (i + 1) es)
   event_more served = at_event ∙ ap (λ (b : Bool). cond b (later_event (n + 1) (drop (i + 1) es)) (Some n)) served
@@ -23,7 +24,9 @@ event_none es i n past = at_drop_all (later_event n) es i past
 
 module _ (ps : List PlannedProgram) (i n : ℕ) (p : PlannedProgram) (inside : i < length ps) (is : p ≡ get_or ps i p) where
   at_program : later_program n (drop i ps) ≡ or_later n (bad_program p) (later_program (n + lines_of p) (drop (i + 1) ps))
-  at_program = at_drop_more (later_program n) ps i p inside ∙ ap (λ (x : PlannedProgram). or_later n (bad_program x) (later_program (n + lines_of x) (drop (i + 1) ps))) (sym is)
+  at_program =
+      at_drop_more (later_program n) ps i p inside
+      ∙ ap (λ (x : PlannedProgram). or_later n (bad_program x) (later_program (n + lines_of x) (drop (i + 1) ps))) (sym is)
 
   pub program_more : bad_program p ≡ None → later_program n (drop i ps) ≡ later_program (n + lines_of p) (drop (i + 1) ps)
   program_more good = at_program ∙ ap (λ (x : Option ℕ). or_later n x (later_program (n + lines_of p) (drop (i + 1) ps))) good

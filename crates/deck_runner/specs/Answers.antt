@@ -20,6 +20,16 @@ use Rattle.deck_runner.specs.Later.{first_later}
 use Rattle.deck_runner.specs.Run.{run_of, DeckRunsPlainly}
 use Rattle.deck_runner.specs.Report.{report_text}
 
+-- the exit status of the program
+abbrev pub code_of : Status → ℕ
+code_of Reported = 0
+code_of (DeckRefused line why) = 1
+code_of ReadFault = 2
+code_of WriteFault = 3
+code_of (Limit which) = 4
+code_of NoMemory = 5
+code_of Usage = 6
+
 abbrev pub task_by : List ℕ → Option Task
 task_by word = if bytes_eq word (codes "run") then Some Run else if bytes_eq word (codes "check") then Some Check else None
 

@@ -16,7 +16,12 @@ note_text Limit = codes "LIMIT"
 
 -- program, index, status, residual and note of a command's end
 unfoldable pub status_line : ℕ → CommandEnd → List ℕ
-status_line n e = codes "END 1 0 " ++ (decimal n ++ (codes " " ++ (decimal e.index ++ (codes " " ++ (encode_upper (e.status.0 ∷ []) ++ (codes " " ++ (decimal e.residual ++ (codes " " ++ (note_text e.note ++ codes "\n")))))))))
+status_line n e =
+    codes "END 1 0 "
+    ++ (decimal n
+    ++ (codes " "
+    ++ (decimal e.index
+    ++ (codes " " ++ (encode_upper (e.status.0 ∷ []) ++ (codes " " ++ (decimal e.residual ++ (codes " " ++ (note_text e.note ++ codes "\n")))))))))
 
 unfoldable pub data_line : List ℕ → List ℕ
 data_line sent = if length sent == 0 then [] else codes "DATA " ++ (encode_upper sent ++ codes "\n")

@@ -11,50 +11,41 @@ mod tests;
 mod top;
 
 use ckd_outside::{StdSink, StdSource};
-use std::alloc::Global;
+use std::alloc::AllocError;
+use std::env::Args;
 use std::process::ExitCode;
 use std::{env, io};
-use top::{Status, deck_top};
+use top::{Status, code_of, deck_top, words_of};
 
-const NO_MEMORY: u8 = 5;
-
-fn code_of(status: Status) -> u8 {
-    match status {
-        Status::Reported => 0,
-        Status::DeckRefused { .. } => 1,
-        Status::ReadFault => 2,
-        Status::WriteFault => 3,
-        Status::Limit(_) => 4,
-        Status::NoMemory => NO_MEMORY,
-        Status::Usage => 6,
-    }
+fn ended(status: Status) -> ExitCode {
+    ExitCode::from(code_of(status))
 }
 
 /// Runs over the standard streams.
-fn serve(rt: &HostRuntime, words: &[&str]) -> ExitCode {
+fn serve(rt: &HostRuntime, arguments: Option<&[&str]>) -> ExitCode {
     let mut source = StdSource::new(rt.reader());
     let mut sink = StdSink::new(io::writer(rt));
-    ExitCode::from(code_of(deck_top(rt.alloc(), words, &mut source, &mut sink)))
+    let words = words_of(arguments);
+    ended(deck_top(rt.alloc(), words, &mut source, &mut sink))
+}
+
+/// Runs with the arguments behind the program's name.
+fn serve_args(rt: &HostRuntime, args: Args) -> Result<ExitCode, AllocError> {
+    let mut owned = Vec::new(rt.alloc());
+    for arg in args.skip(1) {
+        owned.push(arg)?;
+    }
+    let mut words = Vec::new(rt.alloc());
+    for arg in owned.iter() {
+        words.push(arg.as_str())?;
+    }
+    Ok(serve(rt, Some(&words)))
 }
 
 fn main(rt: HostRuntime) -> ExitCode {
-    let alloc: Global = rt.alloc();
-    let args = match env::args(&rt) {
-        Ok(args) => args,
-        Err(e) if e.kind() == io::ErrorKind::OutOfMemory => return ExitCode::from(NO_MEMORY),
-        Err(_) => return serve(&rt, &[]),
-    };
-    let mut owned = Vec::new(alloc);
-    for arg in args.skip(1) {
-        if owned.push(arg).is_err() {
-            return ExitCode::from(NO_MEMORY);
-        }
+    match env::args(&rt) {
+        Ok(args) => serve_args(&rt, args).unwrap_or(ended(Status::NoMemory)),
+        Err(e) if e.kind() == io::ErrorKind::OutOfMemory => ended(Status::NoMemory),
+        Err(_) => serve(&rt, None),
     }
-    let mut words = Vec::new(alloc);
-    for arg in owned.iter() {
-        if words.push(arg.as_str()).is_err() {
-            return ExitCode::from(NO_MEMORY);
-        }
-    }
-    serve(&rt, &words)
 }

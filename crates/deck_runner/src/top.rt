@@ -1,4 +1,4 @@
-ghost use Rattle.std.specs.Prelude.{◌≡◌, ◌⊎◌, ◌≤◌, IfOk, Ok, Err, Some, None, map, List, ℕ};
+ghost use Rattle.std.specs.Prelude.{◌≡◌, ◌≢◌, ◌⊎◌, ◌≤◌, IfOk, IfSome, Ok, Err, Some, None, [], map, List, ℕ};
 ghost use Rattle.std.specs.Io.KnownBytes.{Appends};
 ghost use Rattle.std.specs.List.{flat_map};
 ghost use Rattle.ckd_outside.specs.Pieces.{piece_text};
@@ -7,7 +7,7 @@ ghost use Rattle.ckd_outside.specs.Texts.{Writes, AppendsFront};
 ghost use Rattle.deck_text.specs.DeckLines.{DeckLines};
 ghost use Rattle.deck_runner.specs.Later.{first_later};
 ghost use Rattle.deck_runner.specs.Run.{first_device, run_of, DeckRunsPlainly};
-ghost use Rattle.deck_runner.specs.Answers.{task_by, task_of, usage_text, why_text, refused_text, which_text, limit_text, open_deck, deck_for, TellsDeck, TellsTask, TellsUsage, Tells};
+ghost use Rattle.deck_runner.specs.Answers.{code_of, task_by, task_of, usage_text, why_text, refused_text, which_text, limit_text, open_deck, deck_for, TellsDeck, TellsTask, TellsUsage, Tells};
 
 use crate::later::first_later;
 use crate::report::write_report;
@@ -23,12 +23,19 @@ use std::alloc::Global;
 /// How the program ends.
 #[derive(Clone, Copy, Debug, PartialEq, Eq)]
 pub enum Status {
+    /// The report, or the canonical deck, was written.
     Reported,
+    /// The first line that is refused, from 1 on, and its first reason, were written.
     DeckRefused { line: u32, why: DeckWhy },
+    /// A read failed, and nothing was written.
     ReadFault,
+    /// A write failed: a front of what was to be written was taken.
     WriteFault,
+    /// The deck passes this limit, which was written.
     Limit(Which),
+    /// Memory is wanting, and nothing was written.
     NoMemory,
+    /// The words name no task, and the usage was written.
     Usage,
 }
 
@@ -54,6 +61,32 @@ fn task_of(words: &[&str]) -> Option<Task>
     match words {
         [word] => task_by(word),
         _ => None,
+    }
+}
+
+/// The exit status of the program.
+pub fn code_of(status: Status) -> u8
+    ensures { result ≡ code_of status }
+{
+    match status {
+        Status::Reported => 0,
+        Status::DeckRefused { .. } => 1,
+        Status::ReadFault => 2,
+        Status::WriteFault => 3,
+        Status::Limit(_) => 4,
+        Status::NoMemory => 5,
+        Status::Usage => 6,
+    }
+}
+
+/// The words of the arguments: none where one of them isn't text, which no task's name is.
+pub fn words_of<'a>(arguments: Option<&'a [&'a str]>) -> &'a [&'a str]
+    ensures text { IfSome arguments.entry (λ words. result.now ≡ words.now) }
+    ensures none { arguments.entry ≡ None → result.now ≡ [] }
+{
+    match arguments {
+        Some(words) => words,
+        None => &[],
     }
 }
 
@@ -260,6 +293,7 @@ fn usage<K: Sink>(sink: &mut K) -> Status
 fn serve_task<S: Source, K: Sink>(alloc: Global, task: Task, source: &mut S, sink: &mut K) -> Status
     ensures told { TellsTask result task (S.left source.old) (S.left source.new) (K.held sink.old) (K.held sink.new) }
     ensures read { result ≡ Status.ReadFault → Rose (S.faults source.old) (S.faults source.new) }
+    ensures calm { result ≢ Status.ReadFault → S.faults source.new ≡ S.faults source.old }
     ensures write { result ≡ Status.WriteFault → Rose (K.faults sink.old) (K.faults sink.new) }
 {
     match read_up_to(alloc, source, MOST_READ) {
@@ -273,6 +307,7 @@ fn serve<S: Source, K: Sink>(alloc: Global, words: &[&str], source: &mut S, sink
     ensures told { Tells result (task_of (map (λ w. w.now) words.now))
         (S.left source.old) (S.left source.new) (K.held sink.old) (K.held sink.new) }
     ensures read { result ≡ Status.ReadFault → Rose (S.faults source.old) (S.faults source.new) }
+    ensures calm { result ≢ Status.ReadFault → S.faults source.new ≡ S.faults source.old }
     ensures write { result ≡ Status.WriteFault → Rose (K.faults sink.old) (K.faults sink.new) }
 {
     match task_of(words) {
@@ -282,7 +317,7 @@ fn serve<S: Source, K: Sink>(alloc: Global, words: &[&str], source: &mut S, sink
 }
 
 /// Does what the words ask for, over a source and a sink. `run` reads a deck and writes the report of its
-/// run; `check` reads a deck and writes its canonical text.
+/// run; `check` reads a deck and writes its canonical text. A read fault is answered exactly where a read failed.
 pub fn deck_top<S: Source, K: Sink>(
     alloc: Global,
     words: &[&str],
@@ -292,6 +327,7 @@ pub fn deck_top<S: Source, K: Sink>(
     ensures told { Tells result (task_of (map (λ w. w.now) words.now))
         (S.left source.old) (S.left source.new) (K.held sink.old) (K.held sink.new) }
     ensures read { result ≡ Status.ReadFault → Rose (S.faults source.old) (S.faults source.new) }
+    ensures calm { result ≢ Status.ReadFault → S.faults source.new ≡ S.faults source.old }
     ensures write { result ≡ Status.WriteFault → Rose (K.faults sink.old) (K.faults sink.new) }
 
     // Every deck is checked, and every deck that `run` serves so far is run, unless memory runs out or the

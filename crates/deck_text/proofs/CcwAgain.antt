@@ -75,7 +75,8 @@ ccw_facts (x ∷ y ∷ z ∷ bytes) c h =
     let a = went (head_of x y z) (λ t. and_then (bytes_of [] bytes) (λ given. Ok (record { command = t.0; flags = t.1; count = t.2; given = given }))) c h in
     let b = went (bytes_of [] bytes) (λ given. Ok (record { command = a.value.0; flags = a.value.1; count = a.value.2; given = given })) c a.second in
     let same = if_ok true (record { command = a.value.0; flags = a.value.1; count = a.value.2; given = b.value }) c Hex b.second in
-    let n = went (needed Number (number_in 0 65535 z)) (λ n. and_then (needed Hex (byte_of x)) (λ c. and_then (needed Hex (byte_of y)) (λ f. Ok (c, f, n)))) a.value a.first in
+    let n = went (needed Number (number_in 0 65535 z)) (λ n. and_then (needed Hex (byte_of x)) (λ c. and_then (needed Hex (byte_of y)) (λ f. Ok (c, f, n))))
+    a.value a.first in
     let p = went (needed Hex (byte_of x)) (λ c. and_then (needed Hex (byte_of y)) (λ f. Ok (c, f, n.value))) a.value n.second in
     let q = went (needed Hex (byte_of y)) (λ f. Ok (p.value, f, n.value)) a.value p.second in
     let head = if_ok true (p.value, q.value, n.value) a.value Hex q.second in

@@ -1,5 +1,6 @@
 -- The canonical text of a deck is read as the deck.
-use Rattle.std.proofs.Common.{◌≡◌, ◌≢◌, ◌≤◌, ◌<◌, ◌∷◌, [], ◌++◌, ◌+◌, ◌/◌, ◌%◌, ℕ, zero, suc, List, Bool, true, false, length, Option, Some, None, Ok, refl, sym, ap, ◌∙◌, arith, append_assoc, length-append}
+use Rattle.std.proofs.Common.{◌≡◌, ◌≢◌, ◌≤◌, ◌<◌, ◌∷◌, [], ◌++◌, ◌+◌, ◌/◌, ◌%◌, ℕ, zero, suc, List, Bool, true, false, length, Option, Some, None, Ok, refl}
+use Rattle.std.proofs.Common.{sym, ap, ◌∙◌, arith, append_assoc, length-append}
 use Rattle.std.specs.Prelude.{decimal, codes, slice_index, nat_lt, nat_le, ◌&&◌, ◌==◌, if◌then◌else◌}
 use Rattle.std.specs.List.{flat_map}
 use Rattle.std.proofs.lemmas.Bool.{and_from}
@@ -25,7 +26,9 @@ use Rattle.deck_text.specs.Keywords.{keyword_of, head_of, event_word_of}
 use Rattle.deck_text.specs.Forms.{is_one, device_line, fault_line, path_and_device}
 use Rattle.deck_text.specs.Reading.{State, may_stand, or_refuse, end_program}
 use Rattle.deck_text.specs.Parse.{start, read_lines, parsed}
-use Rattle.deck_text.specs.Canonical.{head_text, geometry_number, device_text, call_text, fault_text, program_text, word_text, line_end, ccw_text, end_text, planned_text, events_text, side_text, with_one, with_two, with_side, event_text, from_events, from_programs, from_faults, from_devices, canonical}
+use Rattle.deck_text.specs.Canonical.{head_text, geometry_number, device_text, call_text, fault_text, program_text, word_text, line_end, ccw_text, end_text}
+use Rattle.deck_text.specs.Canonical.{planned_text, events_text, side_text, with_one, with_two, with_side, event_text, from_events, from_programs, from_faults}
+use Rattle.deck_text.specs.Canonical.{from_devices, canonical}
 use Rattle.deck_text.proofs.ReadBack.{are_letters, number_read}
 use Rattle.deck_text.proofs.EventsAgain.{call_word, side_word, word_of, behind_of, Again}
 use Rattle.deck_text.proofs.CcwAgain.{IsWord, decimal_word, given_words, ccw_words, CcwFacts, ccw_again}
@@ -99,23 +102,29 @@ with_devices frames slots devices = record { frames = frames; slots = slots; dev
 device_leads : (frames slots : ℕ) (place : Place) (before : List DeviceLine) (d : DeviceLine) → may_stand Device place ≡ true → DeviceOk before d
     → Leads (outside place (with_devices frames slots before)) (device_text d) (outside places.Devices (with_devices frames slots (before ++ d ∷ [])))
 device_leads frames slots place before d stands ok =
-    leads_line (outside place (with_devices frames slots before)) (outside places.Devices (with_devices frames slots (before ++ d ∷ []))) 68 (codes "EVICE") (device_words d) Device (device_text d) (device_is d) (omega arith)
+    leads_line (outside place (with_devices frames slots before)) (outside places.Devices (with_devices frames slots (before ++ d ∷ []))) 68 (codes "EVICE")
+    (device_words d) Device (device_text d) (device_is d) (omega arith)
     (record { some = omega arith; letters = refl }, ok.are) device_key stands
     (λ n. ap (λ r. or_refuse n r (λ line. Ok (outside places.Devices (with_devices frames slots (before ++ line ∷ []))))) ok.again)
 
 devices_lead : (frames slots : ℕ) (before ds : List DeviceLine) → AllDevices before ds
-    → Leads (outside places.Devices (with_devices frames slots before)) (flat_map device_text ds) (outside places.Devices (with_devices frames slots (before ++ ds)))
+    → Leads (outside places.Devices (with_devices frames slots before)) (flat_map device_text ds)
+    (outside places.Devices (with_devices frames slots (before ++ ds)))
 devices_lead frames slots before [] h = rw append-nil (leads_none (outside places.Devices (with_devices frames slots before)))
 devices_lead frames slots before (d ∷ ds) h =
     let more = devices_lead frames slots (before ++ d ∷ []) ds h.1 in
-    let all = leads_then (outside places.Devices (with_devices frames slots before)) (outside places.Devices (with_devices frames slots (before ++ d ∷ []))) (outside places.Devices (with_devices frames slots ((before ++ d ∷ []) ++ ds))) (device_text d) (flat_map device_text ds) (device_leads frames slots places.Devices before d refl h.0) more in
+    let all =
+    leads_then (outside places.Devices (with_devices frames slots before)) (outside places.Devices (with_devices frames slots (before ++ d ∷ [])))
+    (outside places.Devices (with_devices frames slots ((before ++ d ∷ []) ++ ds))) (device_text d) (flat_map device_text ds)
+    (device_leads frames slots places.Devices before d refl h.0) more in
     rw append_assoc at all
 
 all_devices_lead : (frames slots : ℕ) (ds : List DeviceLine) → 0 < length ds → AllDevices [] ds
     → Leads (outside places.FirstDevice (with_devices frames slots [])) (flat_map device_text ds) (outside places.Devices (with_devices frames slots ds))
 all_devices_lead frames slots [] some h = absurd (omega arith)
 all_devices_lead frames slots (d ∷ ds) some h =
-    leads_then (outside places.FirstDevice (with_devices frames slots [])) (outside places.Devices (with_devices frames slots (d ∷ []))) (outside places.Devices (with_devices frames slots (d ∷ ds))) (device_text d) (flat_map device_text ds)
+    leads_then (outside places.FirstDevice (with_devices frames slots [])) (outside places.Devices (with_devices frames slots (d ∷ [])))
+    (outside places.Devices (with_devices frames slots (d ∷ ds))) (device_text d) (flat_map device_text ds)
     (device_leads frames slots places.FirstDevice [] d refl h.0) (devices_lead frames slots (d ∷ []) ds h.1)
 
 -- where PROGRAM and EVENTS may stand
@@ -130,7 +139,8 @@ record Reaches (s : State) (text : List ℕ) (deck : DeckLines) : Type 0 where
   pub leads : Leads s text (outside place deck)
 
 -- FAULT lines
-fault_is : (f : FaultLine) (write : Bool) → f.write ≡ write → fault_text f ≡ join ((70 ∷ codes "AULT") ∷ decimal f.device ∷ call_word write ∷ decimal f.call ∷ []) ++ 10 ∷ []
+fault_is : (f : FaultLine) (write : Bool) → f.write ≡ write
+    → fault_text f ≡ join ((70 ∷ codes "AULT") ∷ decimal f.device ∷ call_word write ∷ decimal f.call ∷ []) ++ 10 ∷ []
 unfolding fault_text join call_text call_word
 fault_is f true is = rw is (simp append_assoc)
 fault_is f false is = rw is (simp append_assoc)
@@ -146,11 +156,13 @@ fault_leads : (deck : DeckLines) (place : Place) (f : FaultLine) → may_stand F
     → Leads (outside place deck) (fault_text f) (outside places.Faults (record deck { faults = deck.faults ++ f ∷ [] }))
 fault_leads deck place f stands ok room =
     let full : nat_le 1024 (length deck.faults) ≡ false = grind (arith, nat_tests) in
-    leads_line (outside place deck) (outside places.Faults (record deck { faults = deck.faults ++ f ∷ [] })) 70 (codes "AULT") (fault_words f) Fault (fault_text f) (fault_is f f.write refl) (omega arith)
+    leads_line (outside place deck) (outside places.Faults (record deck { faults = deck.faults ++ f ∷ [] })) 70 (codes "AULT") (fault_words f) Fault
+    (fault_text f) (fault_is f f.write refl) (omega arith)
     (record { some = omega arith; letters = refl }, ok.are) fault_key stands
     (λ n. rw (ok.again, full) refl)
 
-faults_lead : (deck : DeckLines) (place : Place) (fs : List FaultLine) → may_stand Fault place ≡ true → IsBehind place → Each (FaultOk deck.devices) fs → length deck.faults + length fs ≤ 1024
+faults_lead : (deck : DeckLines) (place : Place) (fs : List FaultLine) → may_stand Fault place ≡ true → IsBehind place → Each (FaultOk deck.devices) fs
+    → length deck.faults + length fs ≤ 1024
     → Reaches (outside place deck) (flat_map fault_text fs) (record deck { faults = deck.faults ++ fs })
 faults_lead deck place [] stands behind h few = rw append-nil (record { place = place; behind = behind; leads = leads_none (outside place deck) })
 faults_lead deck place (f ∷ fs) stands behind h few =
@@ -159,7 +171,8 @@ faults_lead deck place (f ∷ fs) stands behind h few =
     let all : Reaches (outside place deck) (fault_text f ++ flat_map fault_text fs) (record deck { faults = (deck.faults ++ f ∷ []) ++ fs }) = record {
       place = more.place;
       behind = more.behind;
-      leads = leads_then (outside place deck) (outside places.Faults next) (outside more.place (record deck { faults = (deck.faults ++ f ∷ []) ++ fs })) (fault_text f) (flat_map fault_text fs) (fault_leads deck place f stands h.0 (omega arith)) more.leads;
+      leads = leads_then (outside place deck) (outside places.Faults next) (outside more.place (record deck { faults = (deck.faults ++ f ∷ []) ++ fs }))
+          (fault_text f) (flat_map fault_text fs) (fault_leads deck place f stands h.0 (omega arith)) more.leads;
     } in
     let same : (deck.faults ++ f ∷ []) ++ fs ≡ deck.faults ++ (f ∷ fs) = append_assoc deck.faults (f ∷ []) fs in
     rw (← same) all
@@ -209,7 +222,10 @@ ccw_are : (c : Ccw) → CcwFacts c → AreWords ((67 ∷ codes "CW") ∷ ccw_wor
 unfolding ccw_words
 ccw_are c f = (
   record { some = omega arith; letters = refl },
-  (hex_word c.command [] (one_byte c.command f.command), (hex_word c.flags [] (one_byte c.flags f.flags), (decimal_word c.count (omega (arith, f.count)), given_are c.given f.given))),
+  (
+    hex_word c.command [] (one_byte c.command f.command),
+    (hex_word c.flags [] (one_byte c.flags f.flags), (decimal_word c.count (omega (arith, f.count)), given_are c.given f.given)),
+  ),
 )
 
 ccw_is : (c : Ccw) (given : List ℕ) → c.given ≡ given → ccw_text c ≡ join ((67 ∷ codes "CW") ∷ ccw_words c) ++ 10 ∷ []
@@ -228,17 +244,21 @@ inside deck path device words lines = record { place = places.Inside path device
 record Comes (deck : DeckLines) (path device n : ℕ) (words : List Ccw) (lines : List ℕ) (text rest : List ℕ) (all : List Ccw) : Type 0 where
   pub number : ℕ
   pub numbers : List ℕ
-  pub leads : read_lines n (inside deck path device words lines) (lines_of (text ++ rest)) ≡ read_lines number (inside deck path device all numbers) (lines_of rest)
+  pub leads : read_lines n (inside deck path device words lines) (lines_of (text ++ rest))
+      ≡ read_lines number (inside deck path device all numbers) (lines_of rest)
 
 ccw_comes : (deck : DeckLines) (path device n : ℕ) (words : List Ccw) (lines : List ℕ) (c : Ccw) (rest : List ℕ) → CcwFacts c → length words < 256
-    → read_lines n (inside deck path device words lines) (lines_of (ccw_text c ++ rest)) ≡ read_lines (n + 1) (inside deck path device (words ++ c ∷ []) (lines ++ n ∷ [])) (lines_of rest)
+    → read_lines n (inside deck path device words lines) (lines_of (ccw_text c ++ rest))
+    ≡ read_lines (n + 1) (inside deck path device (words ++ c ∷ []) (lines ++ n ∷ [])) (lines_of rest)
 ccw_comes deck path device n words lines c rest f room =
     let full : nat_le 256 (length words) ≡ false = grind (arith, nat_tests) in
-    line_at n (inside deck path device words lines) (inside deck path device (words ++ c ∷ []) (lines ++ n ∷ [])) 67 (codes "CW") (ccw_words c) ChannelWord (ccw_text c) rest (ccw_is c c.given refl) (omega arith)
+    line_at n (inside deck path device words lines) (inside deck path device (words ++ c ∷ []) (lines ++ n ∷ [])) 67 (codes "CW") (ccw_words c) ChannelWord
+    (ccw_text c) rest (ccw_is c c.given refl) (omega arith)
     (ccw_are c f) ccw_key refl
     (rw (ccw_again c f, full) refl)
 
-ccws_come : (deck : DeckLines) (path device n : ℕ) (words : List Ccw) (lines : List ℕ) (cs : List Ccw) (rest : List ℕ) → Each CcwFacts cs → length words + length cs ≤ 256
+ccws_come : (deck : DeckLines) (path device n : ℕ) (words : List Ccw) (lines : List ℕ) (cs : List Ccw) (rest : List ℕ) → Each CcwFacts cs
+    → length words + length cs ≤ 256
     → Comes deck path device n words lines (flat_map ccw_text cs) rest (words ++ cs)
 ccws_come deck path device n words lines [] rest f few = rw append-nil (record { number = n; numbers = lines; leads = refl })
 ccws_come deck path device n words lines (c ∷ cs) rest f few =
@@ -263,9 +283,13 @@ unfolding head_of event_word_of
 end_key = refl
 
 end_comes : (deck : DeckLines) (path device n : ℕ) (words : List Ccw) (lines rest : List ℕ) → IsProgram words
-    → read_lines n (inside deck path device words lines) (lines_of (end_text ++ rest)) ≡ read_lines (n + 1) (outside places.Programs (record deck { programs = deck.programs ++ record { path = path; device = device; program = words } ∷ [] })) (lines_of rest)
+    → read_lines n (inside deck path device words lines) (lines_of (end_text ++ rest))
+    ≡ read_lines (n + 1)
+    (outside places.Programs (record deck { programs = deck.programs ++ record { path = path; device = device; program = words } ∷ [] })) (lines_of rest)
 end_comes deck path device n words lines rest program =
-    line_at n (inside deck path device words lines) (outside places.Programs (record deck { programs = deck.programs ++ record { path = path; device = device; program = words } ∷ [] })) 69 (codes "ND") [] End end_text rest end_is (omega arith)
+    line_at n (inside deck path device words lines)
+    (outside places.Programs (record deck { programs = deck.programs ++ record { path = path; device = device; program = words } ∷ [] })) 69 (codes "ND") []
+    End end_text rest end_is (omega arith)
     (record { some = omega arith; letters = refl }, tt) end_key refl
     (ap (end_program n (inside deck path device words lines) (Some (path, device))) program)
 
@@ -277,7 +301,8 @@ program_key : keyword_of (80 ∷ codes "ROGRAM") ≡ Some Program
 unfolding head_of event_word_of
 program_key = refl
 
-short_by : (ccws : List Ccw) (a b : Bool) (x y : ℕ × Why) (o : Option (ℕ × Why)) → (nat_lt 256 (length ccws)) ≡ b → (if a then Some x else if b then Some y else o) ≡ None → length ccws ≤ 256
+short_by : (ccws : List Ccw) (a b : Bool) (x y : ℕ × Why) (o : Option (ℕ × Why)) → (nat_lt 256 (length ccws)) ≡ b
+    → (if a then Some x else if b then Some y else o) ≡ None → length ccws ≤ 256
 short_by ccws true b x y o is h = absurd (cc)
 short_by ccws false true x y o is h = absurd (cc)
 short_by ccws false false x y o is h = grind (arith, nat_tests)
@@ -289,19 +314,23 @@ planned_leads : (deck : DeckLines) (place : Place) (p : PlannedProgram) → may_
     → Leads (outside place deck) (planned_text p) (outside places.Programs (record deck { programs = deck.programs ++ p ∷ [] }))
 planned_leads deck place p stands ok room = λ n rest.
     let full : nat_le 512 (length deck.programs) ≡ false = grind (arith, nat_tests) in
-    let first = line_at n (outside place deck) (inside deck p.path p.device [] []) 80 (codes "ROGRAM") (program_words p.path p.device) Program (program_text p.path p.device) ((flat_map ccw_text p.program ++ end_text) ++ rest) (program_is p.path p.device) (omega arith)
+    let first =
+    line_at n (outside place deck) (inside deck p.path p.device [] []) 80 (codes "ROGRAM") (program_words p.path p.device) Program
+    (program_text p.path p.device) ((flat_map ccw_text p.program ++ end_text) ++ rest) (program_is p.path p.device) (omega arith)
     (record { some = omega arith; letters = refl }, ok.are) program_key stands (rw (ok.again, full) refl) in
     let ccws = ccws_come deck p.path p.device (n + 1) [] [] p.program (end_text ++ rest) ok.ccws (omega (arith, short p.program ok.program)) in
     let last = end_comes deck p.path p.device ccws.number p.program ccws.numbers rest ok.program in (
       ccws.number + 1,
-      ap (λ (l : List ℕ). read_lines n (outside place deck) (lines_of l)) (append_assoc (program_text p.path p.device) (flat_map ccw_text p.program ++ end_text) rest)
+      ap (λ (l : List ℕ). read_lines n (outside place deck) (lines_of l))
+          (append_assoc (program_text p.path p.device) (flat_map ccw_text p.program ++ end_text) rest)
           ∙ first
           ∙ ap (λ (l : List ℕ). read_lines (n + 1) (inside deck p.path p.device [] []) (lines_of l)) (append_assoc (flat_map ccw_text p.program) end_text rest)
           ∙ ccws.leads
           ∙ last,
     )
 
-programs_lead : (deck : DeckLines) (place : Place) (ps : List PlannedProgram) → IsBehind place → Each (ProgramOk deck.devices) ps → length deck.programs + length ps ≤ 512
+programs_lead : (deck : DeckLines) (place : Place) (ps : List PlannedProgram) → IsBehind place → Each (ProgramOk deck.devices) ps
+    → length deck.programs + length ps ≤ 512
     → Reaches (outside place deck) (flat_map planned_text ps) (record deck { programs = deck.programs ++ ps })
 programs_lead deck place [] behind h few = rw append-nil (record { place = place; behind = behind; leads = leads_none (outside place deck) })
 programs_lead deck place (p ∷ ps) behind h few =
@@ -310,7 +339,8 @@ programs_lead deck place (p ∷ ps) behind h few =
     let all : Reaches (outside place deck) (planned_text p ++ flat_map planned_text ps) (record deck { programs = (deck.programs ++ p ∷ []) ++ ps }) = record {
       place = more.place;
       behind = more.behind;
-      leads = leads_then (outside place deck) (outside places.Programs next) (outside more.place (record deck { programs = (deck.programs ++ p ∷ []) ++ ps })) (planned_text p) (flat_map planned_text ps) (planned_leads deck place p behind.program h.0 (omega arith)) more.leads;
+      leads = leads_then (outside place deck) (outside places.Programs next) (outside more.place (record deck { programs = (deck.programs ++ p ∷ []) ++ ps }))
+          (planned_text p) (flat_map planned_text ps) (planned_leads deck place p behind.program h.0 (omega arith)) more.leads;
     } in
     let same : (deck.programs ++ p ∷ []) ++ ps ≡ deck.programs ++ (p ∷ ps) = append_assoc deck.programs (p ∷ []) ps in
     rw (← same) all
@@ -332,7 +362,14 @@ events_key = refl
 
 events_start : (deck : DeckLines) (place : Place) → may_stand Events place ≡ true → Leads (outside place deck) events_text (outside places.Events deck)
 events_start deck place stands =
-    leads_line (outside place deck) (outside places.Events deck) 69 (codes "VENTS") [] Events events_text events_is (omega arith) (record { some = omega arith; letters = refl }, tt) events_key stands (λ n. refl)
+    leads_line (outside place deck) (outside places.Events deck) 69 (codes "VENTS") [] Events events_text events_is (omega arith) (
+      record {
+        some =
+            omega arith;
+        letters = refl;
+      },
+      tt,
+    ) events_key stands (λ n. refl)
 
 -- the first word of an event's line
 record IsNamed (e : EventLine) : Type 0 where
@@ -345,30 +382,154 @@ record IsNamed (e : EventLine) : Type 0 where
 
 named : (e : EventLine) → IsNamed e
 unfolding head_of event_word_of event_text with_one with_two with_side side_text side_word behind_of join
-named (events.Start path device) = record { first = 83; others = codes "TART"; letter = omega arith; word = record { some = omega arith; letters = refl }; key = refl; text = simp append_assoc }
-named (events.Step device) = record { first = 83; others = codes "TEP"; letter = omega arith; word = record { some = omega arith; letters = refl }; key = refl; text = simp append_assoc }
-named (events.Run device) = record { first = 82; others = codes "UN"; letter = omega arith; word = record { some = omega arith; letters = refl }; key = refl; text = simp append_assoc }
-named (events.Back device) = record { first = 66; others = codes "ACK"; letter = omega arith; word = record { some = omega arith; letters = refl }; key = refl; text = simp append_assoc }
-named (events.Settle device) = record { first = 83; others = codes "ETTLE"; letter = omega arith; word = record { some = omega arith; letters = refl }; key = refl; text = simp append_assoc }
-named (events.Reset path device) = record { first = 82; others = codes "ESET"; letter = omega arith; word = record { some = omega arith; letters = refl }; key = refl; text = simp append_assoc }
-named events.FailCache = record { first = 70; others = codes "AIL"; letter = omega arith; word = record { some = omega arith; letters = refl }; key = refl; text = refl }
-named events.FailStore = record { first = 70; others = codes "AIL"; letter = omega arith; word = record { some = omega arith; letters = refl }; key = refl; text = refl }
-named (events.FailVolume device A) = record { first = 70; others = codes "AIL"; letter = omega arith; word = record { some = omega arith; letters = refl }; key = refl; text = simp append_assoc }
-named (events.FailVolume device B) = record { first = 70; others = codes "AIL"; letter = omega arith; word = record { some = omega arith; letters = refl }; key = refl; text = simp append_assoc }
-named events.RepairCache = record { first = 82; others = codes "EPAIR"; letter = omega arith; word = record { some = omega arith; letters = refl }; key = refl; text = refl }
-named events.RepairStore = record { first = 82; others = codes "EPAIR"; letter = omega arith; word = record { some = omega arith; letters = refl }; key = refl; text = refl }
-named (events.Replace device A) = record { first = 82; others = codes "EPLACE"; letter = omega arith; word = record { some = omega arith; letters = refl }; key = refl; text = simp append_assoc }
-named (events.Replace device B) = record { first = 82; others = codes "EPLACE"; letter = omega arith; word = record { some = omega arith; letters = refl }; key = refl; text = simp append_assoc }
-named (events.Pair first second) = record { first = 80; others = codes "AIR"; letter = omega arith; word = record { some = omega arith; letters = refl }; key = refl; text = simp append_assoc }
-named (events.Unpair device) = record { first = 85; others = codes "NPAIR"; letter = omega arith; word = record { some = omega arith; letters = refl }; key = refl; text = simp append_assoc }
-named (events.Suspend device) = record { first = 83; others = codes "USPEND"; letter = omega arith; word = record { some = omega arith; letters = refl }; key = refl; text = simp append_assoc }
-named (events.Resume device) = record { first = 82; others = codes "ESUME"; letter = omega arith; word = record { some = omega arith; letters = refl }; key = refl; text = simp append_assoc }
+named (events.Start path device) =
+    record {
+      first = 83;
+      others = codes "TART";
+      letter = omega arith;
+      word = record { some = omega arith; letters = refl };
+      key = refl;
+      text =
+          simp append_assoc;
+    }
+named (events.Step device) =
+    record {
+      first = 83;
+      others = codes "TEP";
+      letter = omega arith;
+      word = record { some = omega arith; letters = refl };
+      key = refl;
+      text =
+          simp append_assoc;
+    }
+named (events.Run device) =
+    record { first = 82; others = codes "UN"; letter = omega arith; word = record { some = omega arith; letters = refl }; key = refl; text = simp append_assoc }
+named (events.Back device) =
+    record {
+      first = 66;
+      others = codes "ACK";
+      letter = omega arith;
+      word = record { some = omega arith; letters = refl };
+      key = refl;
+      text =
+          simp append_assoc;
+    }
+named (events.Settle device) =
+    record {
+      first = 83;
+      others = codes "ETTLE";
+      letter = omega arith;
+      word = record { some = omega arith; letters = refl };
+      key = refl;
+      text =
+          simp append_assoc;
+    }
+named (events.Reset path device) =
+    record {
+      first = 82;
+      others = codes "ESET";
+      letter = omega arith;
+      word = record { some = omega arith; letters = refl };
+      key = refl;
+      text =
+          simp append_assoc;
+    }
+named events.FailCache =
+    record { first = 70; others = codes "AIL"; letter = omega arith; word = record { some = omega arith; letters = refl }; key = refl; text = refl }
+named events.FailStore =
+    record { first = 70; others = codes "AIL"; letter = omega arith; word = record { some = omega arith; letters = refl }; key = refl; text = refl }
+named (events.FailVolume device A) =
+    record {
+      first = 70;
+      others = codes "AIL";
+      letter = omega arith;
+      word = record { some = omega arith; letters = refl };
+      key = refl;
+      text =
+          simp append_assoc;
+    }
+named (events.FailVolume device B) =
+    record {
+      first = 70;
+      others = codes "AIL";
+      letter = omega arith;
+      word = record { some = omega arith; letters = refl };
+      key = refl;
+      text =
+          simp append_assoc;
+    }
+named events.RepairCache =
+    record { first = 82; others = codes "EPAIR"; letter = omega arith; word = record { some = omega arith; letters = refl }; key = refl; text = refl }
+named events.RepairStore =
+    record { first = 82; others = codes "EPAIR"; letter = omega arith; word = record { some = omega arith; letters = refl }; key = refl; text = refl }
+named (events.Replace device A) =
+    record {
+      first = 82;
+      others = codes "EPLACE";
+      letter = omega arith;
+      word = record { some = omega arith; letters = refl };
+      key = refl;
+      text =
+          simp append_assoc;
+    }
+named (events.Replace device B) =
+    record {
+      first = 82;
+      others = codes "EPLACE";
+      letter = omega arith;
+      word = record { some = omega arith; letters = refl };
+      key = refl;
+      text =
+          simp append_assoc;
+    }
+named (events.Pair first second) =
+    record {
+      first = 80;
+      others = codes "AIR";
+      letter = omega arith;
+      word = record { some = omega arith; letters = refl };
+      key = refl;
+      text =
+          simp append_assoc;
+    }
+named (events.Unpair device) =
+    record {
+      first = 85;
+      others = codes "NPAIR";
+      letter = omega arith;
+      word = record { some = omega arith; letters = refl };
+      key = refl;
+      text =
+          simp append_assoc;
+    }
+named (events.Suspend device) =
+    record {
+      first = 83;
+      others = codes "USPEND";
+      letter = omega arith;
+      word = record { some = omega arith; letters = refl };
+      key = refl;
+      text =
+          simp append_assoc;
+    }
+named (events.Resume device) =
+    record {
+      first = 82;
+      others = codes "ESUME";
+      letter = omega arith;
+      word = record { some = omega arith; letters = refl };
+      key = refl;
+      text =
+          simp append_assoc;
+    }
 
-event_leads : (deck : DeckLines) (e : EventLine) → EventOk deck.devices e → length deck.events < 65536 → Leads (outside places.Events deck) (event_text e) (outside places.Events (record deck { events = deck.events ++ e ∷ [] }))
+event_leads : (deck : DeckLines) (e : EventLine) → EventOk deck.devices e → length deck.events < 65536
+    → Leads (outside places.Events deck) (event_text e) (outside places.Events (record deck { events = deck.events ++ e ∷ [] }))
 event_leads deck e ok room =
     let w = named e in
     let full : nat_le 65536 (length deck.events) ≡ false = not_full 65536 (length deck.events) room in
-    leads_line (outside places.Events deck) (outside places.Events (record deck { events = deck.events ++ e ∷ [] })) w.first w.others (behind_of e) (Event (word_of e)) (event_text e) w.text w.letter (w.word, ok.are) w.key refl
+    leads_line (outside places.Events deck) (outside places.Events (record deck { events = deck.events ++ e ∷ [] })) w.first w.others (behind_of e)
+    (Event (word_of e)) (event_text e) w.text w.letter (w.word, ok.are) w.key refl
     (λ n. rw (ok.again, full) refl)
 
 events_lead : (deck : DeckLines) (es : List EventLine) → Each (EventOk deck.devices) es → length deck.events + length es ≤ 65536
@@ -377,14 +538,20 @@ events_lead deck [] h few = rw append-nil (leads_none (outside places.Events dec
 events_lead deck (e ∷ es) h few =
     let next = record deck { events = deck.events ++ e ∷ [] } in
     let more = events_lead next es h.1 (omega (arith, length-append deck.events (e ∷ []))) in
-    let all = leads_then (outside places.Events deck) (outside places.Events next) (outside places.Events (record deck { events = (deck.events ++ e ∷ []) ++ es })) (event_text e) (flat_map event_text es) (event_leads deck e h.0 (omega arith)) more in
+    let all =
+    leads_then (outside places.Events deck) (outside places.Events next) (outside places.Events (record deck { events = (deck.events ++ e ∷ []) ++ es }))
+    (event_text e) (flat_map event_text es) (event_leads deck e h.0 (omega arith)) more in
     let same : (deck.events ++ e ∷ []) ++ es ≡ deck.events ++ (e ∷ es) = append_assoc deck.events (e ∷ []) es in
     rw (← same) all
 
 -- the first three lines
-head_is : (frames slots : ℕ) → head_text frames slots ≡ (join ((68 ∷ codes "ECK") ∷ codes "1" ∷ []) ++ 10 ∷ []) ++ ((join ((67 ∷ codes "ACHE") ∷ decimal frames ∷ []) ++ 10 ∷ []) ++ (join ((83 ∷ codes "TORE") ∷ decimal slots ∷ []) ++ 10 ∷ []))
+head_is : (frames slots : ℕ)
+    → head_text frames slots ≡ (join ((68 ∷ codes "ECK") ∷ codes "1" ∷ []) ++ 10 ∷ [])
+    ++ ((join ((67 ∷ codes "ACHE") ∷ decimal frames ∷ []) ++ 10 ∷ []) ++ (join ((83 ∷ codes "TORE") ∷ decimal slots ∷ []) ++ 10 ∷ []))
 unfolding head_text join
-head_is frames slots = ap (λ (l : List ℕ). codes "DECK 1\nCACHE " ++ l) (sym (append_assoc (decimal frames) (10 ∷ []) (join ((83 ∷ codes "TORE") ∷ decimal slots ∷ []) ++ 10 ∷ [])))
+head_is frames slots =
+    ap (λ (l : List ℕ). codes "DECK 1\nCACHE " ++ l)
+    (sym (append_assoc (decimal frames) (10 ∷ []) (join ((83 ∷ codes "TORE") ∷ decimal slots ∷ []) ++ 10 ∷ [])))
 
 deck_key : keyword_of (68 ∷ codes "ECK") ≡ Some Deck
 unfolding head_of event_word_of
@@ -401,23 +568,41 @@ store_key = refl
 deck_leads : Leads start (join ((68 ∷ codes "ECK") ∷ codes "1" ∷ []) ++ 10 ∷ []) (outside places.Sizes no_lines)
 unfolding is_one
 deck_leads =
-    leads_line start (outside places.Sizes no_lines) 68 (codes "ECK") (codes "1" ∷ []) Deck _ refl (omega arith) (record { some = omega arith; letters = refl }, (record { some = omega arith; letters = refl }, tt)) deck_key refl (λ n. refl)
+    leads_line start (outside places.Sizes no_lines) 68 (codes "ECK") (codes "1" ∷ []) Deck _ refl (omega arith) (
+      record {
+        some = omega arith;
+        letters =
+            refl;
+      },
+      (record { some = omega arith; letters = refl }, tt),
+    ) deck_key refl (λ n. refl)
 
-cache_leads : (frames : ℕ) → 1 ≤ frames → frames ≤ 4096 → Leads (outside places.Sizes no_lines) (join ((67 ∷ codes "ACHE") ∷ decimal frames ∷ []) ++ 10 ∷ []) (outside places.Slots (record no_lines { frames = frames }))
+cache_leads : (frames : ℕ) → 1 ≤ frames → frames ≤ 4096
+    → Leads (outside places.Sizes no_lines) (join ((67 ∷ codes "ACHE") ∷ decimal frames ∷ []) ++ 10 ∷ [])
+    (outside places.Slots (record no_lines { frames = frames }))
 cache_leads frames low high =
-    leads_line (outside places.Sizes no_lines) (outside places.Slots (record no_lines { frames = frames })) 67 (codes "ACHE") (decimal frames ∷ []) Cache _ refl (omega arith) (record { some = omega arith; letters = refl }, (decimal_word frames (omega arith), tt)) cache_key refl
+    leads_line (outside places.Sizes no_lines) (outside places.Slots (record no_lines { frames = frames })) 67 (codes "ACHE") (decimal frames ∷ []) Cache _ refl
+    (omega arith) (record { some = omega arith; letters = refl }, (decimal_word frames (omega arith), tt)) cache_key refl
     (λ n. rw (number_read 1 4096 frames low high (omega arith)) refl)
 
-store_leads : (frames slots : ℕ) → slots ≤ 1024 → Leads (outside places.Slots (record no_lines { frames = frames })) (join ((83 ∷ codes "TORE") ∷ decimal slots ∷ []) ++ 10 ∷ []) (outside places.FirstDevice (with_devices frames slots []))
+store_leads : (frames slots : ℕ) → slots ≤ 1024
+    → Leads (outside places.Slots (record no_lines { frames = frames })) (join ((83 ∷ codes "TORE") ∷ decimal slots ∷ []) ++ 10 ∷ [])
+    (outside places.FirstDevice (with_devices frames slots []))
 store_leads frames slots high =
-    leads_line (outside places.Slots (record no_lines { frames = frames })) (outside places.FirstDevice (with_devices frames slots [])) 83 (codes "TORE") (decimal slots ∷ []) Store _ refl (omega arith) (record { some = omega arith; letters = refl }, (decimal_word slots (omega arith), tt)) store_key refl
+    leads_line (outside places.Slots (record no_lines { frames = frames })) (outside places.FirstDevice (with_devices frames slots [])) 83 (codes "TORE")
+    (decimal slots ∷ []) Store _ refl (omega arith) (record { some = omega arith; letters = refl }, (decimal_word slots (omega arith), tt)) store_key refl
     (λ n. rw (number_read 0 1024 slots (omega arith) high (omega arith)) refl)
 
-head_leads : (frames slots : ℕ) → 1 ≤ frames → frames ≤ 4096 → slots ≤ 1024 → Leads start (head_text frames slots) (outside places.FirstDevice (with_devices frames slots []))
+head_leads : (frames slots : ℕ) → 1 ≤ frames → frames ≤ 4096 → slots ≤ 1024
+    → Leads start (head_text frames slots) (outside places.FirstDevice (with_devices frames slots []))
 head_leads frames slots low high few =
     rw (head_is frames slots)
-    (leads_then start (outside places.Sizes no_lines) (outside places.FirstDevice (with_devices frames slots [])) (join ((68 ∷ codes "ECK") ∷ codes "1" ∷ []) ++ 10 ∷ []) ((join ((67 ∷ codes "ACHE") ∷ decimal frames ∷ []) ++ 10 ∷ []) ++ (join ((83 ∷ codes "TORE") ∷ decimal slots ∷ []) ++ 10 ∷ [])) deck_leads
-    (leads_then (outside places.Sizes no_lines) (outside places.Slots (record no_lines { frames = frames })) (outside places.FirstDevice (with_devices frames slots [])) (join ((67 ∷ codes "ACHE") ∷ decimal frames ∷ []) ++ 10 ∷ []) (join ((83 ∷ codes "TORE") ∷ decimal slots ∷ []) ++ 10 ∷ []) (cache_leads frames low high) (store_leads frames slots few)))
+    (leads_then start (outside places.Sizes no_lines) (outside places.FirstDevice (with_devices frames slots []))
+    (join ((68 ∷ codes "ECK") ∷ codes "1" ∷ []) ++ 10 ∷ [])
+    ((join ((67 ∷ codes "ACHE") ∷ decimal frames ∷ []) ++ 10 ∷ []) ++ (join ((83 ∷ codes "TORE") ∷ decimal slots ∷ []) ++ 10 ∷ [])) deck_leads
+    (leads_then (outside places.Sizes no_lines) (outside places.Slots (record no_lines { frames = frames }))
+    (outside places.FirstDevice (with_devices frames slots [])) (join ((67 ∷ codes "ACHE") ∷ decimal frames ∷ []) ++ 10 ∷ [])
+    (join ((83 ∷ codes "TORE") ∷ decimal slots ∷ []) ++ 10 ∷ []) (cache_leads frames low high) (store_leads frames slots few)))
 
 -- the whole text
 deck_reads : (d : DeckLines) → IsDeck d → Leads start (canonical d) (outside places.Events d)
@@ -431,11 +616,16 @@ deck_reads d ok =
     let second = all_devices_lead d.frames d.slots d.devices ok.some ok.devices in
     let fifth = events_start programmed programs.place programs.behind.events in
     let sixth = events_lead programmed d.events ok.events (omega (arith, ok.event_count)) in
-    leads_then start (outside places.FirstDevice (with_devices d.frames d.slots [])) (outside places.Events d) (head_text d.frames d.slots) (from_devices d) first
-    (leads_then (outside places.FirstDevice (with_devices d.frames d.slots [])) (outside places.Devices devices) (outside places.Events d) (flat_map device_text d.devices) (from_faults d) second
-    (leads_then (outside places.Devices devices) (outside faults.place faulted) (outside places.Events d) (flat_map fault_text d.faults) (from_programs d) faults.leads
-    (leads_then (outside faults.place faulted) (outside programs.place programmed) (outside places.Events d) (flat_map planned_text d.programs) (from_events d) programs.leads
-    (leads_then (outside programs.place programmed) (outside places.Events programmed) (outside places.Events d) events_text (flat_map event_text d.events) fifth sixth))))
+    leads_then start (outside places.FirstDevice (with_devices d.frames d.slots [])) (outside places.Events d) (head_text d.frames d.slots) (from_devices d)
+    first
+    (leads_then (outside places.FirstDevice (with_devices d.frames d.slots [])) (outside places.Devices devices) (outside places.Events d)
+    (flat_map device_text d.devices) (from_faults d) second
+    (leads_then (outside places.Devices devices) (outside faults.place faulted) (outside places.Events d) (flat_map fault_text d.faults) (from_programs d)
+    faults.leads
+    (leads_then (outside faults.place faulted) (outside programs.place programmed) (outside places.Events d) (flat_map planned_text d.programs) (from_events d)
+    programs.leads
+    (leads_then (outside programs.place programmed) (outside places.Events programmed) (outside places.Events d) events_text (flat_map event_text d.events)
+    fifth sixth))))
 
 -- the law for what holds of each deck that a text is
 pub reads_again : (d : DeckLines) → IsDeck d → length (canonical d) ≤ 16777216 → parsed (canonical d) ≡ Ok d

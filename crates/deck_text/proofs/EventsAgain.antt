@@ -30,9 +30,15 @@ call_again false = refl
 pub fault_again : (devices : List DeviceLine) (words : List (List ℕ)) (f : FaultLine) → fault_line devices words ≡ Ok f
     → fault_line devices (decimal f.device ∷ call_word f.write ∷ decimal f.call ∷ []) ≡ Ok f
 fault_again devices words f h =
-    let a = went (needed Words (three_words words)) (λ w. and_then (needed Words (is_write w.1)) (λ write. and_then (device_of devices w.0) (λ d. and_then (needed Number (number_in 1 4294967295 w.2)) (λ n. Ok (record { device = d; write = write; call = n }))))) f h in
-    let b = went (needed Words (is_write a.value.1)) (λ write. and_then (device_of devices a.value.0) (λ d. and_then (needed Number (number_in 1 4294967295 a.value.2)) (λ n. Ok (record { device = d; write = write; call = n })))) f a.second in
-    let c = went (device_of devices a.value.0) (λ d. and_then (needed Number (number_in 1 4294967295 a.value.2)) (λ n. Ok (record { device = d; write = b.value; call = n }))) f b.second in
+    let a = went (needed Words (three_words words))
+    (λ w. and_then (needed Words (is_write w.1))
+    (λ write. and_then (device_of devices w.0)
+    (λ d. and_then (needed Number (number_in 1 4294967295 w.2)) (λ n. Ok (record { device = d; write = write; call = n }))))) f h in
+    let b = went (needed Words (is_write a.value.1))
+    (λ write. and_then (device_of devices a.value.0)
+    (λ d. and_then (needed Number (number_in 1 4294967295 a.value.2)) (λ n. Ok (record { device = d; write = write; call = n })))) f a.second in
+    let c = went (device_of devices a.value.0)
+    (λ d. and_then (needed Number (number_in 1 4294967295 a.value.2)) (λ n. Ok (record { device = d; write = b.value; call = n }))) f b.second in
     let e = went (needed Number (number_in 1 4294967295 a.value.2)) (λ n. Ok (record { device = c.value; write = b.value; call = n })) f c.second in
     let same = if_ok true (record { device = c.value; write = b.value; call = e.value }) f Number e.second in
     let d : c.value ≡ f.device = ap (λ (x : FaultLine). x.device) same in
@@ -50,7 +56,8 @@ unfolding side_word side_of
 side_again A = refl
 side_again B = refl
 
-sided_again : (devices : List DeviceLine) (device side : List ℕ) (at : ℕ × Side) → side_words devices device side ≡ Ok at → side_words devices (decimal at.0) (side_word at.1) ≡ Ok at
+sided_again : (devices : List DeviceLine) (device side : List ℕ) (at : ℕ × Side) → side_words devices device side ≡ Ok at
+    → side_words devices (decimal at.0) (side_word at.1) ≡ Ok at
 sided_again devices device side at h =
     let a = went (needed Words (side_of side)) (λ s. and_then (device_of devices device) (λ d. Ok (d, s))) at h in
     let b = went (device_of devices device) (λ d. Ok (d, a.value)) at a.second in
@@ -62,7 +69,8 @@ one_again : (devices : List DeviceLine) (words : List (List ℕ)) (d : ℕ) → 
 one_again devices words d h =
     let a = went (needed Words (one_word words)) (device_of devices) d h in device_again devices a.value d a.second
 
-two_again : (devices : List DeviceLine) (words : List (List ℕ)) (at : ℕ × ℕ) → pair_words devices words ≡ Ok at → pair_words devices (decimal at.0 ∷ decimal at.1 ∷ []) ≡ Ok at
+two_again : (devices : List DeviceLine) (words : List (List ℕ)) (at : ℕ × ℕ) → pair_words devices words ≡ Ok at
+    → pair_words devices (decimal at.0 ∷ decimal at.1 ∷ []) ≡ Ok at
 two_again devices words at h =
     let a = went (needed Words (two_words words)) (λ w. and_then (device_of devices w.0) (λ a. and_then (device_of devices w.1) (λ b. Ok (a, b)))) at h in
     let b = went (device_of devices a.value.0) (λ x. and_then (device_of devices a.value.1) (λ y. Ok (x, y))) at a.second in
@@ -123,23 +131,27 @@ unfolding behind_of part_of is_volume
 repairs_again devices Cache = refl
 repairs_again devices Store = refl
 
-volume_again : (devices : List DeviceLine) (at : ℕ × Side) → side_words devices (decimal at.0) (side_word at.1) ≡ Ok at → Again devices (events.FailVolume at.0 at.1)
+volume_again : (devices : List DeviceLine) (at : ℕ × Side) → side_words devices (decimal at.0) (side_word at.1) ≡ Ok at
+    → Again devices (events.FailVolume at.0 at.1)
 unfolding behind_of part_of is_volume
 volume_again devices at h = ap (λ r. and_then r (λ x. Ok (events.FailVolume x.0 x.1))) h
 
-replaced_again : (devices : List DeviceLine) (at : ℕ × Side) → side_words devices (decimal at.0) (side_word at.1) ≡ Ok at → Again devices (events.Replace at.0 at.1)
+replaced_again : (devices : List DeviceLine) (at : ℕ × Side) → side_words devices (decimal at.0) (side_word at.1) ≡ Ok at
+    → Again devices (events.Replace at.0 at.1)
 unfolding behind_of
 replaced_again devices at h = ap (λ r. and_then r (λ x. Ok (events.Replace x.0 x.1))) h
 
 -- an event of one device
 device_event : (make : ℕ → EventLine) (devices : List DeviceLine) (words : List (List ℕ)) (e : EventLine)
-    → ((d : ℕ) → device_words devices (decimal d ∷ []) ≡ Ok d → Again devices (make d)) → and_then (device_words devices words) (λ d. Ok (make d)) ≡ Ok e → Again devices e
+    → ((d : ℕ) → device_words devices (decimal d ∷ []) ≡ Ok d → Again devices (make d)) → and_then (device_words devices words) (λ d. Ok (make d)) ≡ Ok e
+    → Again devices e
 device_event make devices words e again h =
     let a = went (device_words devices words) (λ d. Ok (make d)) e h in
     let same : make a.value ≡ e = if_ok true (make a.value) e Number a.second in
     rw (← same) (again a.value (one_again devices words a.value a.first))
 
-fail_again : (devices : List DeviceLine) (words : List (List ℕ)) (o : Option (List ℕ × List ℕ × List ℕ)) (e : EventLine) → fail_by o devices words ≡ Ok e → Again devices e
+fail_again : (devices : List DeviceLine) (words : List (List ℕ)) (o : Option (List ℕ × List ℕ × List ℕ)) (e : EventLine) → fail_by o devices words ≡ Ok e
+    → Again devices e
 fail_again devices words None e h =
     let a = went (part_words words) (λ part. Ok (failed_part part)) e h in
     let same : failed_part a.value ≡ e = if_ok true (failed_part a.value) e Number a.second in
@@ -153,7 +165,8 @@ fail_again devices words (Some w) e h = volume_if (is_volume w.0) h
         rw (← same) (volume_again devices a.value (sided_again devices w.1 w.2 a.value a.first))
     volume_if false g = absurd (cc)
 
-pub event_again : (devices : List DeviceLine) (word : EventWord) (words : List (List ℕ)) (e : EventLine) → event_line devices word words ≡ Ok e → Again devices e
+pub event_again : (devices : List DeviceLine) (word : EventWord) (words : List (List ℕ)) (e : EventLine) → event_line devices word words ≡ Ok e
+    → Again devices e
 unfolding behind_of
 event_again devices Start words e h =
     let a = went (path_and_device devices words) (λ at. Ok (events.Start at.0 at.1)) e h in

@@ -52,7 +52,8 @@ pub number_again : (least most : ℕ) (w : List ℕ) (n : ℕ) → most < 10 ^ 1
 number_again least most w n small h =
     let r = within_is least most (number_of w) n h in number_read least most n r.low r.high small
 
-pub count_again : (least most : ℕ) (words : List (List ℕ)) (n : ℕ) → most < 10 ^ 10 → count_line least most words ≡ Ok n → count_line least most (decimal n ∷ []) ≡ Ok n
+pub count_again : (least most : ℕ) (words : List (List ℕ)) (n : ℕ) → most < 10 ^ 10 → count_line least most words ≡ Ok n
+    → count_line least most (decimal n ∷ []) ≡ Ok n
 count_again least most words n small h =
     let a = went (needed Words (one_word words)) (λ w. needed Number (number_in least most w)) n h in
     ap (needed Number) (number_again least most a.value n small (needed_is Number (number_in least most a.value) n a.second))
@@ -69,7 +70,8 @@ device_again devices w d h =
 pub path_again : (w : List ℕ) (p : ℕ) → path_of w ≡ Ok p → path_of (decimal p) ≡ Ok p
 path_again w p h = ap (needed Number) (number_again 1 4 w p (omega arith) (needed_is Number (number_in 1 4 w) p h))
 
-pub pair_again : (devices : List DeviceLine) (words : List (List ℕ)) (at : ℕ × ℕ) → path_and_device devices words ≡ Ok at → path_and_device devices (decimal at.0 ∷ decimal at.1 ∷ []) ≡ Ok at
+pub pair_again : (devices : List DeviceLine) (words : List (List ℕ)) (at : ℕ × ℕ) → path_and_device devices words ≡ Ok at
+    → path_and_device devices (decimal at.0 ∷ decimal at.1 ∷ []) ≡ Ok at
 pair_again devices words at h =
     let a = went (needed Words (two_words words)) (λ w. and_then (path_of w.0) (λ p. and_then (device_of devices w.1) (λ d. Ok (p, d)))) at h in
     let b = went (path_of a.value.0) (λ p. and_then (device_of devices a.value.1) (λ d. Ok (p, d))) at a.second in
@@ -88,10 +90,18 @@ geometry_again D3380 = ap geometry_from (decimal_read 3380 (omega arith))
 pub line_again : (devices : List DeviceLine) (words : List (List ℕ)) (d : DeviceLine) → device_line devices words ≡ Ok d
     → device_line devices (decimal d.number ∷ decimal (geometry_number d.geometry) ∷ decimal d.cylinders ∷ []) ≡ Ok d
 line_again devices words d h =
-    let go0 = λ (w : List ℕ × List ℕ × List ℕ). and_then (needed Number (number_in 0 15 w.0)) (λ n. and_then (needed Number (geometry_of w.1)) (λ g. and_then (needed Number (number_in 1 64 w.2)) (λ c. rising devices (record { number = n; geometry = g; cylinders = c })))) in
+    let go0 =
+    λ (w : List ℕ × List ℕ
+    × List ℕ). and_then (needed Number (number_in 0 15 w.0))
+    (λ n. and_then (needed Number (geometry_of w.1))
+    (λ g. and_then (needed Number (number_in 1 64 w.2)) (λ c. rising devices (record { number = n; geometry = g; cylinders = c })))) in
     let a = went (needed Words (three_words words)) go0 d h in
-    let b = went (needed Number (number_in 0 15 a.value.0)) (λ n. and_then (needed Number (geometry_of a.value.1)) (λ g. and_then (needed Number (number_in 1 64 a.value.2)) (λ c. rising devices (record { number = n; geometry = g; cylinders = c })))) d a.second in
-    let e = went (needed Number (geometry_of a.value.1)) (λ g. and_then (needed Number (number_in 1 64 a.value.2)) (λ c. rising devices (record { number = b.value; geometry = g; cylinders = c }))) d b.second in
+    let b = went (needed Number (number_in 0 15 a.value.0))
+    (λ n. and_then (needed Number (geometry_of a.value.1))
+    (λ g. and_then (needed Number (number_in 1 64 a.value.2)) (λ c. rising devices (record { number = n; geometry = g; cylinders = c })))) d a.second in
+    let e = went (needed Number (geometry_of a.value.1))
+    (λ g. and_then (needed Number (number_in 1 64 a.value.2)) (λ c. rising devices (record { number = b.value; geometry = g; cylinders = c }))) d b.second
+    in
     let f = went (needed Number (number_in 1 64 a.value.2)) (λ c. rising devices (record { number = b.value; geometry = e.value; cylinders = c })) d e.second in
     let same = if_ok (rises devices b.value) (record { number = b.value; geometry = e.value; cylinders = f.value }) d Number f.second in
     let n : b.value ≡ d.number = ap (λ (x : DeviceLine). x.number) same in

@@ -47,7 +47,8 @@ joined_good : (ws : List (List ℕ)) → AreWords ws → has_bad_byte (join ws) 
 unfolding join
 joined_good [] h = refl
 joined_good (w ∷ []) h = let e = letters_good w [] h.0.letters refl in rw append-nil at e
-joined_good (w ∷ v ∷ ws) h = letters_good w (32 ∷ join (v ∷ ws)) h.0.letters (good_byte 32 (join (v ∷ ws)) (omega arith) (omega arith) (joined_good (v ∷ ws) h.1))
+joined_good (w ∷ v ∷ ws) h =
+    letters_good w (32 ∷ join (v ∷ ws)) h.0.letters (good_byte 32 (join (v ∷ ws)) (omega arith) (omega arith) (joined_good (v ∷ ws) h.1))
 
 joined_first : (b : ℕ) (w : List ℕ) (ws : List (List ℕ)) → slice_index (join ((b ∷ w) ∷ ws)) 0 ≡ b
 unfolding join
@@ -58,7 +59,8 @@ no_comment : (line : List ℕ) (b : ℕ) → slice_index line 0 ≡ b → b ≢ 
 no_comment line b is ne = grind (arith, nat_tests)
 
 -- a line of these words does what they say
-line_does : (n : ℕ) (s : State) (b : ℕ) (w : List ℕ) (ws : List (List ℕ)) → b ≢ 42 → AreWords ((b ∷ w) ∷ ws) → take_line n (join ((b ∷ w) ∷ ws)) s ≡ put_words n s (keyword_of (b ∷ w)) ws
+line_does : (n : ℕ) (s : State) (b : ℕ) (w : List ℕ) (ws : List (List ℕ)) → b ≢ 42 → AreWords ((b ∷ w) ∷ ws)
+    → take_line n (join ((b ∷ w) ∷ ws)) s ≡ put_words n s (keyword_of (b ∷ w)) ws
 line_does n s b w ws ne h =
     let comment = no_comment (join ((b ∷ w) ∷ ws)) b (joined_first b w ws) ne in
     let good = joined_good ((b ∷ w) ∷ ws) h in
@@ -78,17 +80,20 @@ leads_then s t u a b first second = λ n rest.
     let g = second f.0 rest in
     (g.0, ap (λ (l : List ℕ). read_lines n s (lines_of l)) (append_assoc a b rest) ∙ f.1 ∙ g.1)
 
-put_known : (n : ℕ) (s t : State) (word : Option Keyword) (k : Keyword) (ws : List (List ℕ)) → word ≡ Some k → may_stand k s.place ≡ true → put n s k ws ≡ Ok t → put_words n s word ws ≡ Ok t
+put_known : (n : ℕ) (s t : State) (word : Option Keyword) (k : Keyword) (ws : List (List ℕ)) → word ≡ Some k → may_stand k s.place ≡ true → put n s k ws ≡ Ok t
+    → put_words n s word ws ≡ Ok t
 put_known n s t word k ws is stands does = rw (is, stands) does
 
-one_line : (n : ℕ) (s t : State) (b : ℕ) (w : List ℕ) (ws : List (List ℕ)) (k : Keyword) (rest : List ℕ) → b ≢ 42 → AreWords ((b ∷ w) ∷ ws) → keyword_of (b ∷ w) ≡ Some k → may_stand k s.place ≡ true → put n s k ws ≡ Ok t
+one_line : (n : ℕ) (s t : State) (b : ℕ) (w : List ℕ) (ws : List (List ℕ)) (k : Keyword) (rest : List ℕ) → b ≢ 42 → AreWords ((b ∷ w) ∷ ws)
+    → keyword_of (b ∷ w) ≡ Some k → may_stand k s.place ≡ true → put n s k ws ≡ Ok t
     → read_lines n s (lines_of (join ((b ∷ w) ∷ ws) ++ 10 ∷ rest)) ≡ read_lines (n + 1) t (lines_of rest)
 one_line n s t b w ws k rest ne h is stands does =
     ap (read_lines n s) (line_then (join ((b ∷ w) ∷ ws)) rest (joined_good ((b ∷ w) ∷ ws) h))
     ∙ ap (λ r. or_stop r (λ u. read_lines (n + 1) u (lines_of rest))) (line_does n s b w ws ne h ∙ put_known n s t (keyword_of (b ∷ w)) k ws is stands does)
 
 -- one line, with what it does at each number
-pub leads_line : (s t : State) (b : ℕ) (w : List ℕ) (ws : List (List ℕ)) (k : Keyword) (text : List ℕ) → text ≡ join ((b ∷ w) ∷ ws) ++ 10 ∷ [] → b ≢ 42 → AreWords ((b ∷ w) ∷ ws) → keyword_of (b ∷ w) ≡ Some k → may_stand k s.place ≡ true
+pub leads_line : (s t : State) (b : ℕ) (w : List ℕ) (ws : List (List ℕ)) (k : Keyword) (text : List ℕ) → text ≡ join ((b ∷ w) ∷ ws) ++ 10 ∷ [] → b ≢ 42
+    → AreWords ((b ∷ w) ∷ ws) → keyword_of (b ∷ w) ≡ Some k → may_stand k s.place ≡ true
     → ((n : ℕ) → put n s k ws ≡ Ok t) → Leads s text t
 leads_line s t b w ws k text is ne h key stands does = λ n rest. (
   n + 1,
@@ -97,7 +102,8 @@ leads_line s t b w ws k text is ne h key stands does = λ n rest. (
 )
 
 -- the same where the state behind it has the line's number
-pub line_at : (n : ℕ) (s t : State) (b : ℕ) (w : List ℕ) (ws : List (List ℕ)) (k : Keyword) (text rest : List ℕ) → text ≡ join ((b ∷ w) ∷ ws) ++ 10 ∷ [] → b ≢ 42 → AreWords ((b ∷ w) ∷ ws) → keyword_of (b ∷ w) ≡ Some k → may_stand k s.place ≡ true
+pub line_at : (n : ℕ) (s t : State) (b : ℕ) (w : List ℕ) (ws : List (List ℕ)) (k : Keyword) (text rest : List ℕ) → text ≡ join ((b ∷ w) ∷ ws) ++ 10 ∷ []
+    → b ≢ 42 → AreWords ((b ∷ w) ∷ ws) → keyword_of (b ∷ w) ≡ Some k → may_stand k s.place ≡ true
     → put n s k ws ≡ Ok t → read_lines n s (lines_of (text ++ rest)) ≡ read_lines (n + 1) t (lines_of rest)
 line_at n s t b w ws k text rest is ne h key stands does =
     ap (λ (l : List ℕ). read_lines n s (lines_of l)) (ap (λ (l : List ℕ). l ++ rest) is ∙ append_assoc (join ((b ∷ w) ∷ ws)) (10 ∷ []) rest)

@@ -1,5 +1,6 @@
 -- How a program comes to the plans of its device.
-use Rattle.std.proofs.Common.{◌≡◌, ◌≤◌, ◌<◌, ◌+◌, ◌-◌, ◌==◌, ◌∷◌, [], ◌++◌, ℕ, zero, suc, List, Bool, true, false, cond, length, get_or, length-append, refl, arith, ap, sym, ◌∙◌}
+use Rattle.std.proofs.Common.{◌≡◌, ◌≤◌, ◌<◌, ◌+◌, ◌-◌, ◌==◌, ◌∷◌, [], ◌++◌, ℕ, zero, suc, List, Bool, true, false, cond, length, get_or, length-append, refl}
+use Rattle.std.proofs.Common.{arith, ap, sym, ◌∙◌}
 use Rattle.std.proofs.Math.ListN.{length-set}
 use Rattle.std.proofs.lemmas.List.{get_or_read}
 use Rattle.std.proofs.lemmas.Bool.{true≢false}
@@ -10,7 +11,8 @@ use Rattle.deck_plan.specs.Plans.{Plans, no_plans, plan_of, with_program}
 use Rattle.deck_text.specs.declared.line.PlannedProgram.{PlannedProgram}
 use Rattle.deck_text.specs.Plans.{planned, planned_all, plans_of, HasPlans}
 
-pub planned_more : (d : ℕ) (plans : Plans) (ps : List PlannedProgram) (p : PlannedProgram) → planned_all d plans (ps ++ p ∷ []) ≡ planned d (planned_all d plans ps) p
+pub planned_more : (d : ℕ) (plans : Plans) (ps : List PlannedProgram) (p : PlannedProgram)
+    → planned_all d plans (ps ++ p ∷ []) ≡ planned d (planned_all d plans ps) p
 planned_more d plans [] p = refl
 planned_more d plans (q ∷ ps) p = planned_more d (planned d plans q) ps p
 
@@ -18,7 +20,8 @@ planned_more d plans (q ∷ ps) p = planned_more d (planned d plans q) ps p
 abbrev pub IsBounded : Plans → ℕ → Type 0
 IsBounded plans n = (j : ℕ) → length (slice_index_or plans j []) ≤ n
 
-bounded_set : (plans : Plans) (i j n : ℕ) (plan : List (List Ccw)) → length plan ≤ n → length (slice_index_or plans j []) ≤ n → length (slice_index_or (slice_set plans i plan) j []) ≤ n
+bounded_set : (plans : Plans) (i j n : ℕ) (plan : List (List Ccw)) → length plan ≤ n → length (slice_index_or plans j []) ≤ n
+    → length (slice_index_or (slice_set plans i plan) j []) ≤ n
 bounded_set [] i j n plan one old = old
 bounded_set (p ∷ plans) zero zero n plan one old = one
 bounded_set (p ∷ plans) zero (suc j) n plan one old = old
@@ -27,7 +30,8 @@ bounded_set (p ∷ plans) (suc i) (suc j) n plan one old = bounded_set plans i j
 
 bounded_with : (plans : Plans) (path n : ℕ) (program : List Ccw) → IsBounded plans n → IsBounded (with_program plans path program) (n + 1)
 bounded_with plans path n program h = λ j.
-    bounded_set plans (path - 1) j (n + 1) (plan_of plans path ++ program ∷ []) (omega (arith, length-append (plan_of plans path) (program ∷ []), h (path - 1))) (omega (arith, h j))
+    bounded_set plans (path - 1) j (n + 1) (plan_of plans path ++ program ∷ []) (omega (arith, length-append (plan_of plans path) (program ∷ []), h (path - 1)))
+    (omega (arith, h j))
 
 bounded_if : (b : Bool) (plans more : Plans) (n : ℕ) → IsBounded plans n → IsBounded more (n + 1) → IsBounded (if b then more else plans) (n + 1)
 bounded_if true plans more n h g = g
@@ -36,7 +40,11 @@ bounded_if false plans more n h g = λ j. omega (arith, h j)
 bounded_all : (d : ℕ) (plans : Plans) (ps : List PlannedProgram) (n : ℕ) → IsBounded plans n → IsBounded (planned_all d plans ps) (n + length ps)
 bounded_all d plans [] n h = λ j. omega (arith, h j)
 bounded_all d plans (p ∷ ps) n h = λ j.
-    omega (arith, bounded_all d (planned d plans p) ps (n + 1) (bounded_if (p.device == d) plans (with_program plans p.path p.program) n h (bounded_with plans p.path n p.program h)) j)
+    omega (
+      arith,
+      bounded_all d (planned d plans p) ps (n + 1)
+          (bounded_if (p.device == d) plans (with_program plans p.path p.program) n h (bounded_with plans p.path n p.program h)) j,
+    )
 
 bounded_none : IsBounded no_plans 0
 bounded_none zero = omega arith
@@ -63,25 +71,31 @@ set_elsewhere (p ∷ plans) (suc i) zero new ne = refl
 set_elsewhere (p ∷ plans) (suc i) (suc j) new ne = set_elsewhere plans i j new (λ e. ne (ap suc e))
 
 -- the plans of a device have room for one more program
-pub has_room : (programs : List PlannedProgram) (plans : List Plans) (d path : ℕ) (x : Plans) → HasPlans programs plans → d < 16 → x ≡ get_or plans d x → length programs < 512 → length (plan_of x path) < 65535
+pub has_room : (programs : List PlannedProgram) (plans : List Plans) (d path : ℕ) (x : Plans) → HasPlans programs plans → d < 16 → x ≡ get_or plans d x
+    → length programs < 512 → length (plan_of x path) < 65535
 has_room programs plans d path x h lt is few =
     let e : x ≡ plans_of programs d = get_or_read plans d x (omega (arith, h.devices)) is no_plans ∙ h.each d lt in
     rw e (omega (arith, plan_bound programs d path))
 
 -- a device's plans, where a program came to those of device d
-each_more : (b : Bool) (programs : List PlannedProgram) (plans : List Plans) (d e : ℕ) (p : PlannedProgram) → (d == e) ≡ b → HasPlans programs plans → d < 16 → e < 16
-    → slice_index_or (slice_set plans d (with_program (plans_of programs d) p.path p.program)) e no_plans ≡ cond b (with_program (plans_of programs e) p.path p.program) (plans_of programs e)
+each_more : (b : Bool) (programs : List PlannedProgram) (plans : List Plans) (d e : ℕ) (p : PlannedProgram) → (d == e) ≡ b → HasPlans programs plans → d < 16
+    → e < 16
+    → slice_index_or (slice_set plans d (with_program (plans_of programs d) p.path p.program)) e no_plans
+    ≡ cond b (with_program (plans_of programs e) p.path p.program) (plans_of programs e)
 each_more true programs plans d e p is h dlt elt =
     let same : d ≡ e = (Decides-eqb d e).0 is in
     rw (← same) (set_here plans d (with_program (plans_of programs d) p.path p.program) (omega (arith, h.devices)))
 each_more false programs plans d e p is h dlt elt =
-    set_elsewhere plans d e (with_program (plans_of programs d) p.path p.program) (λ same. absurd (true≢false (sym ((Decides-eqb d e).1 same) ∙ is))) ∙ h.each e elt
+    set_elsewhere plans d e (with_program (plans_of programs d) p.path p.program) (λ same. absurd (true≢false (sym ((Decides-eqb d e).1 same) ∙ is)))
+    ∙ h.each e elt
 
 -- a program comes to the deck and to the plans of its device
-pub has_more : (programs more : List PlannedProgram) (plans : List Plans) (d : ℕ) (x new : Plans) (p : PlannedProgram) → HasPlans programs plans → d ≡ p.device → p.device < 16 → x ≡ get_or plans d x → new ≡ with_program x p.path p.program → more ≡ programs ++ p ∷ []
+pub has_more : (programs more : List PlannedProgram) (plans : List Plans) (d : ℕ) (x new : Plans) (p : PlannedProgram) → HasPlans programs plans → d ≡ p.device
+    → p.device < 16 → x ≡ get_or plans d x → new ≡ with_program x p.path p.program → more ≡ programs ++ p ∷ []
     → HasPlans more (slice_set plans d new)
 has_more programs more plans d x new p h at lt was is all =
-    let e : x ≡ plans_of programs p.device = get_or_read plans d x (omega (arith, h.devices)) was no_plans ∙ ap (λ (k : ℕ). slice_index_or plans k no_plans) at ∙ h.each p.device lt in
+    let e : x ≡ plans_of programs p.device =
+    get_or_read plans d x (omega (arith, h.devices)) was no_plans ∙ ap (λ (k : ℕ). slice_index_or plans k no_plans) at ∙ h.each p.device lt in
     let made : new ≡ with_program (plans_of programs p.device) p.path p.program = is ∙ ap (λ (y : Plans). with_program y p.path p.program) e in
     rw (all, made, at)
     (record {

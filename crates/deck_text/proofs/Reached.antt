@@ -1,5 +1,6 @@
 -- What holds along a reading.
-use Rattle.std.proofs.Common.{◌≡◌, ◌≤◌, ◌<◌, ◌+◌, ◌∷◌, [], ◌++◌, ℕ, List, Bool, true, false, length, Option, Some, None, Result, Ok, Err, refl, sym, subst, arith, append_assoc, length-append}
+use Rattle.std.proofs.Common.{◌≡◌, ◌≤◌, ◌<◌, ◌+◌, ◌∷◌, [], ◌++◌, ℕ, List, Bool, true, false, length, Option, Some, None, Result, Ok, Err, refl, sym, subst}
+use Rattle.std.proofs.Common.{arith, append_assoc, length-append}
 use Rattle.std.specs.Prelude.{nat_le, nat_lt, if◌then◌else◌}
 use Rattle.std.proofs.lemmas.List.{append-nil}
 use Rattle.std.proofs.lemmas.Bool.{true≢false}
@@ -131,12 +132,14 @@ each_more P (y ∷ xs) x h p = (h.0, each_more P xs x h.1 p)
 
 devices_more : (before ds : List DeviceLine) (d : DeviceLine) → AllDevices before ds → DeviceOk (before ++ ds) d → AllDevices before (ds ++ d ∷ [])
 devices_more before [] d h ok = let e = ok in (subst (λ (l : List DeviceLine). DeviceOk l d) (append-nil before) e, tt)
-devices_more before (x ∷ ds) d h ok = (h.0, devices_more (before ++ x ∷ []) ds d h.1 (subst (λ (l : List DeviceLine). DeviceOk l d) (sym (append_assoc before (x ∷ []) ds)) ok))
+devices_more before (x ∷ ds) d h ok =
+    (h.0, devices_more (before ++ x ∷ []) ds d h.1 (subst (λ (l : List DeviceLine). DeviceOk l d) (sym (append_assoc before (x ∷ []) ds)) ok))
 
 no_stand : {X : Type 0} → false ≡ true → X
 no_stand h = absurd (true≢false (sym h))
 
-deck_good : (n : ℕ) (place : Place) (deck : DeckLines) (words : List Ccw) (lines : List ℕ) (t : State) (ws : List (List ℕ)) → may_stand Deck place ≡ true → Good place deck words → put n (st place deck words lines) Deck ws ≡ Ok t → IsGood t
+deck_good : (n : ℕ) (place : Place) (deck : DeckLines) (words : List Ccw) (lines : List ℕ) (t : State) (ws : List (List ℕ)) → may_stand Deck place ≡ true
+    → Good place deck words → put n (st place deck words lines) Deck ws ≡ Ok t → IsGood t
 deck_good n places.Front deck words lines t ws stands g h =
     let a = passed n (deck_line ws) (λ one. Ok (st places.Sizes deck words lines)) t h in
     let e = ok_is (st places.Sizes deck words lines) t a.second in
@@ -150,28 +153,59 @@ count_range least most ws n h =
 
 -- lists that don't see the sizes
 sized : (deck : DeckLines) (frames slots : ℕ) → Lists deck → Lists (record deck { frames = frames; slots = slots })
-sized deck frames slots h = record { devices = h.devices; faults = h.faults; fault_count = h.fault_count; programs = h.programs; program_count = h.program_count; events = h.events; event_count = h.event_count }
+sized deck frames slots h =
+    record {
+      devices = h.devices;
+      faults = h.faults;
+      fault_count = h.fault_count;
+      programs = h.programs;
+      program_count = h.program_count;
+      events =
+          h.events;
+      event_count = h.event_count;
+    }
 
-cache_good : (n : ℕ) (place : Place) (deck : DeckLines) (words : List Ccw) (lines : List ℕ) (t : State) (ws : List (List ℕ)) → may_stand Cache place ≡ true → Good place deck words → put n (st place deck words lines) Cache ws ≡ Ok t → IsGood t
+cache_good : (n : ℕ) (place : Place) (deck : DeckLines) (words : List Ccw) (lines : List ℕ) (t : State) (ws : List (List ℕ)) → may_stand Cache place ≡ true
+    → Good place deck words → put n (st place deck words lines) Cache ws ≡ Ok t → IsGood t
 cache_good n places.Sizes deck words lines t ws stands g h =
     let a = passed n (count_line 1 4096 ws) (λ k. Ok (st places.Slots (record deck { frames = k }) words lines)) t h in
     let e = ok_is (st places.Slots (record deck { frames = a.value }) words lines) t a.second in
     let r = count_range 1 4096 ws a.value a.first in
     let o = g.others in
-    subst IsGood e (record { frames = (r.low, r.high); slots = tt; devices = g.devices; others = record { faults = o.faults; programs = o.programs; events = o.events }; opened = tt; lists = sized deck a.value deck.slots g.lists; facts = g.facts })
+    subst IsGood e (record {
+      frames = (r.low, r.high);
+      slots = tt;
+      devices = g.devices;
+      others =
+          record { faults = o.faults; programs = o.programs; events = o.events };
+      opened = tt;
+      lists = sized deck a.value deck.slots g.lists;
+      facts = g.facts;
+    })
 cache_good n _ deck words lines t ws stands g h = no_stand stands
 
-store_good : (n : ℕ) (place : Place) (deck : DeckLines) (words : List Ccw) (lines : List ℕ) (t : State) (ws : List (List ℕ)) → may_stand Store place ≡ true → Good place deck words → put n (st place deck words lines) Store ws ≡ Ok t → IsGood t
+store_good : (n : ℕ) (place : Place) (deck : DeckLines) (words : List Ccw) (lines : List ℕ) (t : State) (ws : List (List ℕ)) → may_stand Store place ≡ true
+    → Good place deck words → put n (st place deck words lines) Store ws ≡ Ok t → IsGood t
 store_good n places.Slots deck words lines t ws stands g h =
     let a = passed n (count_line 0 1024 ws) (λ k. Ok (st places.FirstDevice (record deck { slots = k }) words lines)) t h in
     let e = ok_is (st places.FirstDevice (record deck { slots = a.value }) words lines) t a.second in
     let r = count_range 0 1024 ws a.value a.first in
     let o = g.others in
-    subst IsGood e (record { frames = g.frames; slots = r.high; devices = g.devices; others = record { faults = o.faults; programs = o.programs; events = o.events }; opened = tt; lists = sized deck deck.frames a.value g.lists; facts = g.facts })
+    subst IsGood e (record {
+      frames = g.frames;
+      slots = r.high;
+      devices = g.devices;
+      others =
+          record { faults = o.faults; programs = o.programs; events = o.events };
+      opened = tt;
+      lists = sized deck deck.frames a.value g.lists;
+      facts = g.facts;
+    })
 store_good n _ deck words lines t ws stands g h = no_stand stands
 
 -- one more device, where there is nothing else yet
-device_lists : (deck : DeckLines) (line : DeviceLine) → NoOthers deck → Lists deck → DeviceOk deck.devices line → Lists (record deck { devices = deck.devices ++ line ∷ [] })
+device_lists : (deck : DeckLines) (line : DeviceLine) → NoOthers deck → Lists deck → DeviceOk deck.devices line
+    → Lists (record deck { devices = deck.devices ++ line ∷ [] })
 device_lists deck line o h ok = record {
   devices = devices_more [] deck.devices line h.devices ok;
   faults = subst (λ (l : List FaultLine). Each (FaultOk (deck.devices ++ line ∷ [])) l) (sym o.faults) tt;
@@ -182,7 +216,8 @@ device_lists deck line o h ok = record {
   event_count = h.event_count;
 }
 
-device_put : (n : ℕ) (place : Place) (deck : DeckLines) (words : List Ccw) (lines : List ℕ) (t : State) (ws : List (List ℕ)) → (1 ≤ deck.frames) × (deck.frames ≤ 4096) → deck.slots ≤ 1024 → NoOthers deck → Lists deck → Each CcwFacts words
+device_put : (n : ℕ) (place : Place) (deck : DeckLines) (words : List Ccw) (lines : List ℕ) (t : State) (ws : List (List ℕ)) → (1 ≤ deck.frames)
+    × (deck.frames ≤ 4096) → deck.slots ≤ 1024 → NoOthers deck → Lists deck → Each CcwFacts words
     → put n (st place deck words lines) Device ws ≡ Ok t → IsGood t
 device_put n place deck words lines t ws frames slots o lists facts h =
     let a = passed n (device_line deck.devices ws) (λ line. Ok (st places.Devices (record deck { devices = deck.devices ++ line ∷ [] }) words lines)) t h in
@@ -197,8 +232,10 @@ device_put n place deck words lines t ws frames slots o lists facts h =
       facts = facts;
     })
 
-device_good : (n : ℕ) (place : Place) (deck : DeckLines) (words : List Ccw) (lines : List ℕ) (t : State) (ws : List (List ℕ)) → may_stand Device place ≡ true → Good place deck words → put n (st place deck words lines) Device ws ≡ Ok t → IsGood t
-device_good n places.FirstDevice deck words lines t ws stands g h = device_put n places.FirstDevice deck words lines t ws g.frames g.slots g.others g.lists g.facts h
+device_good : (n : ℕ) (place : Place) (deck : DeckLines) (words : List Ccw) (lines : List ℕ) (t : State) (ws : List (List ℕ)) → may_stand Device place ≡ true
+    → Good place deck words → put n (st place deck words lines) Device ws ≡ Ok t → IsGood t
+device_good n places.FirstDevice deck words lines t ws stands g h =
+    device_put n places.FirstDevice deck words lines t ws g.frames g.slots g.others g.lists g.facts h
 device_good n places.Devices deck words lines t ws stands g h = device_put n places.Devices deck words lines t ws g.frames g.slots g.others g.lists g.facts h
 device_good n _ deck words lines t ws stands g h = no_stand stands
 
@@ -210,7 +247,8 @@ record Behind (deck : DeckLines) (words : List Ccw) : Type 0 where
   pub lists : Lists deck
   pub facts : Each CcwFacts words
 
-fault_put : (n : ℕ) (place : Place) (deck : DeckLines) (words : List Ccw) (lines : List ℕ) (t : State) (ws : List (List ℕ)) → Behind deck words → put n (st place deck words lines) Fault ws ≡ Ok t → IsGood t
+fault_put : (n : ℕ) (place : Place) (deck : DeckLines) (words : List Ccw) (lines : List ℕ) (t : State) (ws : List (List ℕ)) → Behind deck words
+    → put n (st place deck words lines) Fault ws ≡ Ok t → IsGood t
 fault_put n place deck words lines t ws g h =
     let next = λ (line : FaultLine). st places.Faults (record deck { faults = deck.faults ++ line ∷ [] }) words lines in
     let a = passed n (fault_line deck.devices ws) (λ line. if nat_le 1024 (length deck.faults) then Err (Limit limits.Faults) else Ok (next line)) t h in
@@ -224,7 +262,12 @@ fault_put n place deck words lines t ws g h =
       opened = tt;
       lists = record {
         devices = l.devices;
-        faults = each_more (FaultOk deck.devices) deck.faults a.value l.faults (record { again = fault_again deck.devices ws a.value a.first; are = fault_are deck.devices ws a.value a.first });
+        faults =
+            each_more (FaultOk deck.devices) deck.faults a.value l.faults (record {
+              again = fault_again deck.devices ws a.value a.first;
+              are =
+                  fault_are deck.devices ws a.value a.first;
+            });
         fault_count = omega (arith, r.room, length-append deck.faults (a.value ∷ []));
         programs = l.programs;
         program_count = l.program_count;
@@ -234,12 +277,16 @@ fault_put n place deck words lines t ws g h =
       facts = g.facts;
     })
 
-fault_good : (n : ℕ) (place : Place) (deck : DeckLines) (words : List Ccw) (lines : List ℕ) (t : State) (ws : List (List ℕ)) → may_stand Fault place ≡ true → Good place deck words → put n (st place deck words lines) Fault ws ≡ Ok t → IsGood t
-fault_good n places.Devices deck words lines t ws stands g h = fault_put n places.Devices deck words lines t ws (record { frames = g.frames; slots = g.slots; some = g.devices; lists = g.lists; facts = g.facts }) h
-fault_good n places.Faults deck words lines t ws stands g h = fault_put n places.Faults deck words lines t ws (record { frames = g.frames; slots = g.slots; some = g.devices; lists = g.lists; facts = g.facts }) h
+fault_good : (n : ℕ) (place : Place) (deck : DeckLines) (words : List Ccw) (lines : List ℕ) (t : State) (ws : List (List ℕ)) → may_stand Fault place ≡ true
+    → Good place deck words → put n (st place deck words lines) Fault ws ≡ Ok t → IsGood t
+fault_good n places.Devices deck words lines t ws stands g h =
+    fault_put n places.Devices deck words lines t ws (record { frames = g.frames; slots = g.slots; some = g.devices; lists = g.lists; facts = g.facts }) h
+fault_good n places.Faults deck words lines t ws stands g h =
+    fault_put n places.Faults deck words lines t ws (record { frames = g.frames; slots = g.slots; some = g.devices; lists = g.lists; facts = g.facts }) h
 fault_good n _ deck words lines t ws stands g h = no_stand stands
 
-program_put : (n : ℕ) (place : Place) (deck : DeckLines) (words : List Ccw) (lines : List ℕ) (t : State) (ws : List (List ℕ)) → Behind deck words → put n (st place deck words lines) Program ws ≡ Ok t → IsGood t
+program_put : (n : ℕ) (place : Place) (deck : DeckLines) (words : List Ccw) (lines : List ℕ) (t : State) (ws : List (List ℕ)) → Behind deck words
+    → put n (st place deck words lines) Program ws ≡ Ok t → IsGood t
 program_put n place deck words lines t ws g h =
     let next = λ (at : ℕ × ℕ). st (places.Inside at.0 at.1) deck [] [] in
     let a = passed n (path_and_device deck.devices ws) (λ at. if nat_le 512 (length deck.programs) then Err (Limit limits.Programs) else Ok (next at)) t h in
@@ -254,13 +301,18 @@ program_put n place deck words lines t ws g h =
       facts = tt;
     })
 
-program_good : (n : ℕ) (place : Place) (deck : DeckLines) (words : List Ccw) (lines : List ℕ) (t : State) (ws : List (List ℕ)) → may_stand Program place ≡ true → Good place deck words → put n (st place deck words lines) Program ws ≡ Ok t → IsGood t
-program_good n places.Devices deck words lines t ws stands g h = program_put n places.Devices deck words lines t ws (record { frames = g.frames; slots = g.slots; some = g.devices; lists = g.lists; facts = g.facts }) h
-program_good n places.Faults deck words lines t ws stands g h = program_put n places.Faults deck words lines t ws (record { frames = g.frames; slots = g.slots; some = g.devices; lists = g.lists; facts = g.facts }) h
-program_good n places.Programs deck words lines t ws stands g h = program_put n places.Programs deck words lines t ws (record { frames = g.frames; slots = g.slots; some = g.devices; lists = g.lists; facts = g.facts }) h
+program_good : (n : ℕ) (place : Place) (deck : DeckLines) (words : List Ccw) (lines : List ℕ) (t : State) (ws : List (List ℕ)) → may_stand Program place ≡ true
+    → Good place deck words → put n (st place deck words lines) Program ws ≡ Ok t → IsGood t
+program_good n places.Devices deck words lines t ws stands g h =
+    program_put n places.Devices deck words lines t ws (record { frames = g.frames; slots = g.slots; some = g.devices; lists = g.lists; facts = g.facts }) h
+program_good n places.Faults deck words lines t ws stands g h =
+    program_put n places.Faults deck words lines t ws (record { frames = g.frames; slots = g.slots; some = g.devices; lists = g.lists; facts = g.facts }) h
+program_good n places.Programs deck words lines t ws stands g h =
+    program_put n places.Programs deck words lines t ws (record { frames = g.frames; slots = g.slots; some = g.devices; lists = g.lists; facts = g.facts }) h
 program_good n _ deck words lines t ws stands g h = no_stand stands
 
-ccw_good : (n : ℕ) (place : Place) (deck : DeckLines) (words : List Ccw) (lines : List ℕ) (t : State) (ws : List (List ℕ)) → may_stand ChannelWord place ≡ true → Good place deck words → put n (st place deck words lines) ChannelWord ws ≡ Ok t → IsGood t
+ccw_good : (n : ℕ) (place : Place) (deck : DeckLines) (words : List Ccw) (lines : List ℕ) (t : State) (ws : List (List ℕ)) → may_stand ChannelWord place ≡ true
+    → Good place deck words → put n (st place deck words lines) ChannelWord ws ≡ Ok t → IsGood t
 ccw_good n (places.Inside path device) deck words lines t ws stands g h =
     let next = λ (ccw : Ccw). st (places.Inside path device) deck (words ++ ccw ∷ []) (lines ++ n ∷ []) in
     let a = passed n (ccw_line ws) (λ ccw. if nat_le 256 (length words) then Err (Refused n reasons.Program) else Ok (next ccw)) t h in
@@ -284,7 +336,8 @@ end_is : (n : ℕ) (s t : State) (at : ℕ × ℕ) (o : Option (ℕ × Why)) →
 end_is n s t at (Some fault) h = absurd (cc)
 end_is n s t at None h = record { none = refl; same = ok_is (ended s at) t h }
 
-end_good : (n : ℕ) (place : Place) (deck : DeckLines) (words : List Ccw) (lines : List ℕ) (t : State) (ws : List (List ℕ)) → may_stand End place ≡ true → Good place deck words → put n (st place deck words lines) End ws ≡ Ok t → IsGood t
+end_good : (n : ℕ) (place : Place) (deck : DeckLines) (words : List Ccw) (lines : List ℕ) (t : State) (ws : List (List ℕ)) → may_stand End place ≡ true
+    → Good place deck words → put n (st place deck words lines) End ws ≡ Ok t → IsGood t
 end_good n (places.Inside path device) deck words lines t ws stands g h =
     let s = st (places.Inside path device) deck words lines in
     let a = passed n (no_words ws) (λ none. end_program n s (Some (path, device)) (first_fault words)) t h in
@@ -311,19 +364,25 @@ end_good n (places.Inside path device) deck words lines t ws stands g h =
     })
 end_good n _ deck words lines t ws stands g h = no_stand stands
 
-events_put : (n : ℕ) (place : Place) (deck : DeckLines) (words : List Ccw) (lines : List ℕ) (t : State) (ws : List (List ℕ)) → Behind deck words → put n (st place deck words lines) Events ws ≡ Ok t → IsGood t
+events_put : (n : ℕ) (place : Place) (deck : DeckLines) (words : List Ccw) (lines : List ℕ) (t : State) (ws : List (List ℕ)) → Behind deck words
+    → put n (st place deck words lines) Events ws ≡ Ok t → IsGood t
 events_put n place deck words lines t ws g h =
     let a = passed n (no_words ws) (λ none. Ok (st places.Events deck words lines)) t h in
     let e = ok_is (st places.Events deck words lines) t a.second in
     subst IsGood e (record { frames = g.frames; slots = g.slots; devices = g.some; others = tt; opened = tt; lists = g.lists; facts = g.facts })
 
-events_good : (n : ℕ) (place : Place) (deck : DeckLines) (words : List Ccw) (lines : List ℕ) (t : State) (ws : List (List ℕ)) → may_stand Events place ≡ true → Good place deck words → put n (st place deck words lines) Events ws ≡ Ok t → IsGood t
-events_good n places.Devices deck words lines t ws stands g h = events_put n places.Devices deck words lines t ws (record { frames = g.frames; slots = g.slots; some = g.devices; lists = g.lists; facts = g.facts }) h
-events_good n places.Faults deck words lines t ws stands g h = events_put n places.Faults deck words lines t ws (record { frames = g.frames; slots = g.slots; some = g.devices; lists = g.lists; facts = g.facts }) h
-events_good n places.Programs deck words lines t ws stands g h = events_put n places.Programs deck words lines t ws (record { frames = g.frames; slots = g.slots; some = g.devices; lists = g.lists; facts = g.facts }) h
+events_good : (n : ℕ) (place : Place) (deck : DeckLines) (words : List Ccw) (lines : List ℕ) (t : State) (ws : List (List ℕ)) → may_stand Events place ≡ true
+    → Good place deck words → put n (st place deck words lines) Events ws ≡ Ok t → IsGood t
+events_good n places.Devices deck words lines t ws stands g h =
+    events_put n places.Devices deck words lines t ws (record { frames = g.frames; slots = g.slots; some = g.devices; lists = g.lists; facts = g.facts }) h
+events_good n places.Faults deck words lines t ws stands g h =
+    events_put n places.Faults deck words lines t ws (record { frames = g.frames; slots = g.slots; some = g.devices; lists = g.lists; facts = g.facts }) h
+events_good n places.Programs deck words lines t ws stands g h =
+    events_put n places.Programs deck words lines t ws (record { frames = g.frames; slots = g.slots; some = g.devices; lists = g.lists; facts = g.facts }) h
 events_good n _ deck words lines t ws stands g h = no_stand stands
 
-event_good : (n : ℕ) (place : Place) (deck : DeckLines) (words : List Ccw) (lines : List ℕ) (t : State) (word : EventWord) (ws : List (List ℕ)) → may_stand (Event word) place ≡ true → Good place deck words → put n (st place deck words lines) (Event word) ws ≡ Ok t → IsGood t
+event_good : (n : ℕ) (place : Place) (deck : DeckLines) (words : List Ccw) (lines : List ℕ) (t : State) (word : EventWord) (ws : List (List ℕ))
+    → may_stand (Event word) place ≡ true → Good place deck words → put n (st place deck words lines) (Event word) ws ≡ Ok t → IsGood t
 event_good n places.Events deck words lines t word ws stands g h =
     let next = λ (line : EventLine). st places.Events (record deck { events = deck.events ++ line ∷ [] }) words lines in
     let a = passed n (event_line deck.devices word ws) (λ line. if nat_le 65536 (length deck.events) then Err (Limit limits.Events) else Ok (next line)) t h in
@@ -361,7 +420,8 @@ put_good n s t End ws stands g h = end_good n s.place s.deck s.words s.lines t w
 put_good n s t Events ws stands g h = events_good n s.place s.deck s.words s.lines t ws stands g h
 put_good n s t (Event word) ws stands g h = event_good n s.place s.deck s.words s.lines t word ws stands g h
 
-stands_good : (n : ℕ) (s t : State) (k : Keyword) (ws : List (List ℕ)) (b : Bool) → may_stand k s.place ≡ b → IsGood s → (if b then put n s k ws else Err (Refused n reasons.Order)) ≡ Ok t → IsGood t
+stands_good : (n : ℕ) (s t : State) (k : Keyword) (ws : List (List ℕ)) (b : Bool) → may_stand k s.place ≡ b → IsGood s
+    → (if b then put n s k ws else Err (Refused n reasons.Order)) ≡ Ok t → IsGood t
 stands_good n s t k ws true is g h = put_good n s t k ws is g h
 stands_good n s t k ws false is g h = absurd (cc)
 
@@ -375,7 +435,8 @@ bytes_good n s t false r e f h = f h
 
 take_good : (n : ℕ) (line : List ℕ) (s t : State) (ws : List (List ℕ)) → IsGood s → take_words n line s ws ≡ Ok t → IsGood t
 take_good n line s t [] g h = subst IsGood (ok_is s t h) g
-take_good n line s t (w ∷ ws) g h = bytes_good n s t (has_bad_byte line) (put_words n s (keyword_of w) ws) (Refused n reasons.Byte) (λ e. words_good n s t (keyword_of w) ws g e) h
+take_good n line s t (w ∷ ws) g h =
+    bytes_good n s t (has_bad_byte line) (put_words n s (keyword_of w) ws) (Refused n reasons.Byte) (λ e. words_good n s t (keyword_of w) ws g e) h
 
 comment_good : (n : ℕ) (line : List ℕ) (s t : State) (b : Bool) → IsGood s → (if b then Ok s else take_words n line s (words_of line)) ≡ Ok t → IsGood t
 comment_good n line s t true g h = subst IsGood (ok_is s t h) g
@@ -405,7 +466,8 @@ last_good n places.Events deck d words g h =
     })
 last_good n _ deck d words g h = absurd (cc)
 
-next_good : (n : ℕ) (line : List ℕ) (s : State) (d : DeckLines) (go : State → Result DeckLines DeckFault) → ((t : State) → IsGood t → go t ≡ Ok d → IsDeck d) → IsGood s → (r : Result State DeckFault) → take_line n line s ≡ r → or_stop r go ≡ Ok d → IsDeck d
+next_good : (n : ℕ) (line : List ℕ) (s : State) (d : DeckLines) (go : State → Result DeckLines DeckFault) → ((t : State) → IsGood t → go t ≡ Ok d → IsDeck d)
+    → IsGood s → (r : Result State DeckFault) → take_line n line s ≡ r → or_stop r go ≡ Ok d → IsDeck d
 next_good n line s d go later g (Ok t) is h = later t (line_good n line s t g is) h
 next_good n line s d go later g (Err fault) is h = absurd (cc)
 

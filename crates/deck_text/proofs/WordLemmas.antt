@@ -14,7 +14,8 @@ only_letter b ne = grind (arith, nat_tests)
 more_letters : (b c : ℕ) (bytes : List ℕ) → b ≢ 32 → c ≢ 32 → words_of (b ∷ c ∷ bytes) ≡ onto_first b (words_of (c ∷ bytes))
 more_letters b c bytes ne nc = grind (arith, nat_tests)
 
-cut_at : (line : List ℕ) (i : ℕ) → ((k : ℕ) → k < suc i → get_or line k 0 ≢ 32) → suc i < length line → get_or line (suc i) 0 ≡ 32 → words_of line ≡ take (suc i) line ∷ words_of (drop (suc i) line)
+cut_at : (line : List ℕ) (i : ℕ) → ((k : ℕ) → k < suc i → get_or line k 0 ≢ 32) → suc i < length line → get_or line (suc i) 0 ≡ 32
+    → words_of line ≡ take (suc i) line ∷ words_of (drop (suc i) line)
 cut_at [] i none lt is = absurd (omega arith)
 cut_at (b ∷ []) i none lt is = absurd (omega arith)
 cut_at (b ∷ c ∷ bytes) zero none lt is = last_letter b c bytes (none 0 (omega arith)) is
@@ -22,7 +23,8 @@ cut_at (b ∷ c ∷ bytes) (suc i) none lt is =
     more_letters b c bytes (none 0 (omega arith)) (none 1 (omega arith))
     ∙ ap (λ (l : List (List ℕ)). onto_first b l) (cut_at (c ∷ bytes) i (λ k h. none (suc k) (omega arith)) (omega arith) is)
 
-pub word_cut : (line : List ℕ) (i : ℕ) → ((k : ℕ) → k < i → get_or line k 0 ≢ 32) → i < length line → get_or line i 0 ≡ 32 → get_or line 0 0 ≢ 32 → words_of line ≡ word_and (take i line) (words_of (drop i line))
+pub word_cut : (line : List ℕ) (i : ℕ) → ((k : ℕ) → k < i → get_or line k 0 ≢ 32) → i < length line → get_or line i 0 ≡ 32 → get_or line 0 0 ≢ 32
+    → words_of line ≡ word_and (take i line) (words_of (drop i line))
 word_cut [] i none lt is first = absurd (omega arith)
 word_cut (b ∷ bytes) zero none lt is first = absurd (first is)
 word_cut (b ∷ bytes) (suc i) none lt is first = cut_at (b ∷ bytes) i none lt is

@@ -8,7 +8,8 @@ use Rattle.ckd_types.specs.declared.geometry.Geometry.TheVariants.{D3390, D3380}
 use Rattle.ckd_types.specs.declared.paths.Side.{Side}
 use Rattle.ckd_types.specs.declared.paths.Side.TheVariants.{A, B}
 use Rattle.deck_plan.specs.declared.event.EventLine.{EventLine}
-use Rattle.deck_plan.specs.declared.event.EventLine.TheVariants.{Start, Step, Run, Back, Settle, Reset, FailCache, FailStore, FailVolume, RepairCache, RepairStore, Replace, Pair, Unpair, Suspend, Resume}
+use Rattle.deck_plan.specs.declared.event.EventLine.TheVariants.{Start, Step, Run, Back, Settle, Reset, FailCache, FailStore, FailVolume, RepairCache}
+use Rattle.deck_plan.specs.declared.event.EventLine.TheVariants.{RepairStore, Replace, Pair, Unpair, Suspend, Resume}
 use Rattle.deck_text.specs.declared.line.DeviceLine.{DeviceLine}
 use Rattle.deck_text.specs.declared.line.FaultLine.{FaultLine}
 use Rattle.deck_text.specs.declared.line.PlannedProgram.{PlannedProgram}

@@ -1,5 +1,6 @@
 -- What a line does to a reading.
-use Rattle.std.specs.Prelude.{ℕ, ◌<◌, nat_le, Bool, true, false, List, [], ◌∷◌, ◌++◌, length, slice_index_or, Option, Some, None, Result, Ok, Err, if◌then◌else◌}
+use Rattle.std.specs.Prelude.{ℕ, ◌<◌, nat_le, Bool, true, false, List, [], ◌∷◌, ◌++◌, length, slice_index_or, Option, Some, None, Result, Ok, Err}
+use Rattle.std.specs.Prelude.{if◌then◌else◌}
 use Rattle.ckd_types.specs.declared.channel.Ccw.{Ccw}
 use Rattle.ckd_types.specs.declared.channel.Why.{Why}
 use Rattle.ckd_types.specs.Program.{first_fault}
@@ -82,7 +83,8 @@ put n s Deck words = or_refuse n (deck_line words) (λ one. Ok (record s { place
 put n s Cache words = or_refuse n (count_line 1 4096 words) (λ k. Ok (record s { place = places.Slots; deck = record s.deck { frames = k } }))
 put n s Store words = or_refuse n (count_line 0 1024 words) (λ k. Ok (record s { place = places.FirstDevice; deck = record s.deck { slots = k } }))
 put n s Device words =
-    or_refuse n (device_line s.deck.devices words) (λ line. Ok (record s { place = places.Devices; deck = record s.deck { devices = s.deck.devices ++ line ∷ [] } }))
+    or_refuse n (device_line s.deck.devices words)
+    (λ line. Ok (record s { place = places.Devices; deck = record s.deck { devices = s.deck.devices ++ line ∷ [] } }))
 put n s Fault words =
     or_refuse n (fault_line s.deck.devices words) (λ line.
     if nat_le 1024 (length s.deck.faults) then Err (Limit limits.Faults)

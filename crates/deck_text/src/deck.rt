@@ -129,12 +129,14 @@ impl Deck {
         self.slots
     }
 
+    /// How many DEVICE lines there are, at most 16.
     pub fn device_count(&self) -> usize
         ensures { result ≡ length self.now.devices }
     {
         self.devices.len()
     }
 
+    /// DEVICE line `i`, from 0 on.
     pub fn device_at(&self, i: usize) -> DeviceLine
         requires { i < length self.now.devices }
         ensures { result ≡ slice_index_or self.now.devices i result }
@@ -142,12 +144,14 @@ impl Deck {
         self.devices[i]
     }
 
+    /// How many FAULT lines there are, at most 1,024.
     pub fn fault_count(&self) -> usize
         ensures { result ≡ length self.now.faults }
     {
         self.faults.len()
     }
 
+    /// FAULT line `i`, from 0 on.
     pub fn fault_at(&self, i: usize) -> FaultLine
         requires { i < length self.now.faults }
         ensures { result ≡ slice_index_or self.now.faults i result }
@@ -155,6 +159,7 @@ impl Deck {
         self.faults[i]
     }
 
+    /// How many programs there are, at most 512.
     pub fn program_count(&self) -> usize
         ensures value { result ≡ length self.now.programs }
         ensures most { result ≤ 512 }
@@ -162,6 +167,7 @@ impl Deck {
         self.programs.programs().len()
     }
 
+    /// Program `i` in the deck's order, from 0 on.
     pub fn program_at(&self, i: usize) -> &PlannedProgram
         requires { i < length self.now.programs }
         ensures { result.now ≡ slice_index_or self.now.programs i result.now }
@@ -176,6 +182,7 @@ impl Deck {
         self.programs.plans(d)
     }
 
+    /// How many event lines there are, at most 65,536.
     pub fn event_count(&self) -> usize
         ensures value { result ≡ length self.now.events }
         ensures most { result ≤ 65536 }

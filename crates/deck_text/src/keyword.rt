@@ -42,6 +42,7 @@ pub enum Part {
     Store,
 }
 
+/// Whether a word is this one, letter by letter: small letters are others.
 pub fn is_text(text: &[u8], want: &[u8]) -> bool
     ensures { result ≡ bytes_eq text.now want.now }
 {

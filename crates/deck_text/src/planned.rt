@@ -39,6 +39,7 @@ fn empty_plans(alloc: Global) -> Result<Vec<PathPlans>, NoMemory>
 }
 
 impl Planned {
+    /// No programs.
     pub fn new(alloc: Global) -> Result<Planned, NoMemory>
         ensures { IfOk result (λ planned. planned ≡ []) }
     {
@@ -48,6 +49,7 @@ impl Planned {
         })
     }
 
+    /// Adds a program behind the others, and a copy of it to its device's plans.
     pub fn push(&mut self, alloc: Global, planned: PlannedProgram) -> Result<(), NoMemory>
         requires { length self.old < 512 }
         ensures ok { OnOk result (self.new ≡ self.old ++ planned ∷ []) }
@@ -61,12 +63,14 @@ impl Planned {
         Ok(())
     }
 
+    /// All programs, in the deck's order.
     pub fn programs(&self) -> &[PlannedProgram]
         ensures { result.now ≡ self.now }
     {
         &self.programs
     }
 
+    /// A device's programs by path, in the deck's order.
     pub fn plans(&self, device: DeviceNo) -> &PathPlans
         ensures { result.now ≡ plans_of self.now device }
     {

@@ -36,6 +36,7 @@ pub fn next_word(line: &[u8]) -> (&[u8], &[u8])
     cut_word(without_spaces(line))
 }
 
+/// The word of a line's rest, if it is one.
 pub fn one_word(line: &[u8]) -> Option<&[u8]>
     ensures { MatchOption result (one_word (words_of line.now) ≡ None) (λ w. one_word (words_of line.now) ≡ Some w.now) }
 {
@@ -47,6 +48,7 @@ pub fn one_word(line: &[u8]) -> Option<&[u8]>
     Some(first)
 }
 
+/// The two words of a line's rest, if these are all.
 pub fn two_words(line: &[u8]) -> Option<(&[u8], &[u8])>
     ensures { MatchOption result (two_words (words_of line.now) ≡ None) (λ w. two_words (words_of line.now) ≡ Some (w.0.now, w.1.now)) }
 {
@@ -58,6 +60,7 @@ pub fn two_words(line: &[u8]) -> Option<(&[u8], &[u8])>
     Some((first, second))
 }
 
+/// The three words of a line's rest, if these are all.
 pub fn three_words(line: &[u8]) -> Option<(&[u8], &[u8], &[u8])>
     ensures { MatchOption result (three_words (words_of line.now) ≡ None) (λ w. three_words (words_of line.now) ≡ Some (w.0.now, w.1.now, w.2.now)) }
 {

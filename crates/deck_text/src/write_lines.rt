@@ -37,6 +37,7 @@ fn geometry_number(geometry: Geometry) -> u64
     }
 }
 
+/// A DEVICE line.
 #[tactic(auto, unfolding(crate::specs::Canonical::device_text))]
 pub fn write_device<K: Sink>(
     sink: &mut K,
@@ -65,6 +66,7 @@ fn call_text(write: bool) -> &'static [u8]
     if write { b" WRITE " } else { b" READ " }
 }
 
+/// A FAULT line.
 #[tactic(auto, unfolding(crate::specs::Canonical::fault_text))]
 pub fn write_fault<K: Sink>(
     sink: &mut K,
@@ -84,6 +86,7 @@ pub fn write_fault<K: Sink>(
     write_pieces(sink, buffer, &pieces)
 }
 
+/// A PROGRAM line, without its words.
 #[tactic(auto, unfolding(crate::specs::Canonical::program_text))]
 pub fn write_program_line<K: Sink>(
     sink: &mut K,
@@ -103,6 +106,7 @@ pub fn write_program_line<K: Sink>(
     write_pieces(sink, buffer, &pieces)
 }
 
+/// An END line.
 #[tactic(auto, unfolding(crate::specs::Canonical::end_text))]
 pub fn write_end<K: Sink>(sink: &mut K, buffer: &mut LineBuffer) -> Result<(), Failed>
     ensures bytes { Puts (K.held sink.old) buffer.old (K.held sink.new) buffer.new result (end_text) }
@@ -111,6 +115,7 @@ pub fn write_end<K: Sink>(sink: &mut K, buffer: &mut LineBuffer) -> Result<(), F
     write_pieces(sink, buffer, &[Piece::Text(b"END\n")])
 }
 
+/// The EVENTS line, without its events.
 #[tactic(auto, unfolding(crate::specs::Canonical::events_text))]
 pub fn write_events_line<K: Sink>(sink: &mut K, buffer: &mut LineBuffer) -> Result<(), Failed>
     ensures bytes { Puts (K.held sink.old) buffer.old (K.held sink.new) buffer.new result (events_text) }

@@ -7,5 +7,7 @@ pub loop-rest-init : goal.loop-rest-init
 loop-rest-init g c = (wrote_none _ _, omega arith)
 
 pub loop-rest-preserved : goal.loop-rest-preserved
-loop-rest-preserved g c =
-    (wrote_more _ _ _ _ _ _ _ c.loop-rest.invariant.0 c.in_ok-count.ensures.bytes (grind (arith, common_steps)), omega (arith, c.loop-rest.invariant.1, c.in_ok-count.ensures.cause.later))
+loop-rest-preserved g c = (
+  wrote_more _ _ _ _ _ _ _ c.loop-rest.invariant.0 c.in_ok-count.ensures.bytes (grind (arith, common_steps)),
+  omega (arith, c.loop-rest.invariant.1, c.in_ok-count.ensures.cause.later),
+)

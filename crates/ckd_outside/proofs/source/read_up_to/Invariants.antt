@@ -8,7 +8,7 @@ invariant-loop-buffer g l =
     Consumes (g.S.Source.left l.fn.source) (g.S.Source.left l.source) l.text.items
     × (vec_len l.text ≤ l.most)
     × (length l.buffer ≡ 4096)
-    × (g.S.Faulty.faults l.fn.source ≤ g.S.Faulty.faults l.source)
+    × (g.S.Faulty.faults l.source ≡ g.S.Faulty.faults l.fn.source)
     × IsKept (g.S.Faulty.allowance l.fn.source) (g.S.Faulty.allowance l.source)
 
 abbrev pub decreases-loop-buffer : goal.decreases-loop-buffer

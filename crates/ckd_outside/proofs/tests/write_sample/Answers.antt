@@ -12,4 +12,5 @@ returns-in_err-write_data-clause-bytes g c =
 
 pub returns-clause-bytes : goal.returns-clause-bytes
 returns-clause-bytes g c =
-    written_all _ _ _ _ _ _ _ c.new-buffer.ensures (moves_then _ _ _ _ _ _ _ _ c.in_ok-write_count.ensures.bytes c.in_ok-write_data.ensures.bytes) c.flush.ensures.bytes
+    written_all _ _ _ _ _ _ _ c.new-buffer.ensures (moves_then _ _ _ _ _ _ _ _ c.in_ok-write_count.ensures.bytes c.in_ok-write_data.ensures.bytes)
+    c.flush.ensures.bytes

@@ -3,4 +3,6 @@ use Rattle.deck_runner.specs.Later.{later_event}
 use Rattle.deck_runner.proofs.later.later_event.Given as goal
 
 abbrev pub invariant-loop-i : goal.invariant-loop-i
-invariant-loop-i l = (l.line ≡ l.fn.from + l.i) × (later_event l.fn.from l.deck.events ≡ later_event l.line (drop l.i l.deck.events)) × (l.i-end ≡ length l.deck.events) × (l.i-end ≤ 65536)
+invariant-loop-i l =
+    (l.line ≡ l.fn.from + l.i) × (later_event l.fn.from l.deck.events ≡ later_event l.line (drop l.i l.deck.events)) × (l.i-end ≡ length l.deck.events)
+    × (l.i-end ≤ 65536)

@@ -4,4 +4,5 @@ use Rattle.deck_runner.proofs.later.later_program.Given as goal
 
 abbrev pub invariant-loop-i : goal.invariant-loop-i
 invariant-loop-i l =
-    (l.line ≤ l.fn.from + 258 * l.i) × (later_program l.fn.from l.deck.programs ≡ later_program l.line (drop l.i l.deck.programs)) × (l.i-end ≡ length l.deck.programs) × (l.i-end ≤ 512)
+    (l.line ≤ l.fn.from + 258 * l.i) × (later_program l.fn.from l.deck.programs ≡ later_program l.line (drop l.i l.deck.programs))
+    × (l.i-end ≡ length l.deck.programs) × (l.i-end ≤ 512)

@@ -15,10 +15,12 @@ pub returns-in_err-write_sense-clause-bytes : goal.returns-in_err-write_sense-cl
 returns-in_err-write_sense-clause-bytes g c =
     puts_stopped _ _ _ _ _ _ _ c.from_residual-in_err-write_sense.ensures.1
     (stops_longer _ _ _ _ _ _
-    (stops_then _ _ _ _ _ _ _ _ (moves_then _ _ _ _ _ _ _ _ c.in_ok-write_status.ensures.bytes c.in_ok-write_data.ensures.bytes) c.in_err-write_sense.ensures.bytes))
+    (stops_then _ _ _ _ _ _ _ _ (moves_then _ _ _ _ _ _ _ _ c.in_ok-write_status.ensures.bytes c.in_ok-write_data.ensures.bytes)
+    c.in_err-write_sense.ensures.bytes))
 
 pub returns-clause-bytes : goal.returns-clause-bytes
 returns-clause-bytes g c =
     puts_then _ _ _ _ _ _ _ _ _
-    (moves_then _ _ _ _ _ _ _ _ (moves_then _ _ _ _ _ _ _ _ c.in_ok-write_status.ensures.bytes c.in_ok-write_data.ensures.bytes) c.in_ok-write_sense.ensures.bytes)
+    (moves_then _ _ _ _ _ _ _ _ (moves_then _ _ _ _ _ _ _ _ c.in_ok-write_status.ensures.bytes c.in_ok-write_data.ensures.bytes)
+    c.in_ok-write_sense.ensures.bytes)
     c.write_over.ensures.bytes

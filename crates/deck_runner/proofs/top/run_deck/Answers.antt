@@ -10,8 +10,10 @@ use Rattle.deck_runner.proofs.top.run_deck.Goals as goal
 pub run_lines-requires : goal.run_lines-requires
 run_lines-requires c =
     let number : c.unwrap.result ≡ 0 = rw c.unwrap.ensures at c.new.ensures.value in
-    let plans : c.plans-plans.result.now ≡ plans_of c.args.deck.now.programs 0 = c.plans-plans.ensures ∙ ap (λ (d : ℕ). plans_of c.args.deck.now.programs d) number in
-    let fits : Fits c.first_device-device.result = subst (λ (d : DeviceLine). Fits d) (sym c.first_device-device.ensures) (deck_fits c.args.deck.now c.requires) in
+    let plans : c.plans-plans.result.now ≡ plans_of c.args.deck.now.programs 0 =
+    c.plans-plans.ensures ∙ ap (λ (d : ℕ). plans_of c.args.deck.now.programs d) number in
+    let fits : Fits c.first_device-device.result =
+    subst (λ (d : DeviceLine). Fits d) (sym c.first_device-device.ensures) (deck_fits c.args.deck.now c.requires) in
     record {
       some = fits.0;
       most = fits.1;

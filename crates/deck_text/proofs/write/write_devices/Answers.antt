@@ -6,10 +6,14 @@ use Rattle.deck_text.proofs.write.write_devices.Goals as goal
 pub returns-in_err-write_device-clause-bytes : goal.returns-in_err-write_device-clause-bytes
 returns-in_err-write_device-clause-bytes g c =
     puts_stopped _ _ _ _ _ _ _ c.from_residual.ensures.1
-    (put_stopped _ _ _ _ _ _ _ _ _ _ c.loop-line.invariant.0 (flat_step device_text c.args.devices.now c.loop-line.line-index c.line-item.result c.loop-line-test.true c.line-item.is) c.in_err-write_device.ensures.bytes)
+    (put_stopped _ _ _ _ _ _ _ _ _ _ c.loop-line.invariant.0
+    (flat_step device_text c.args.devices.now c.loop-line.line-index c.line-item.result c.loop-line-test.true c.line-item.is)
+    c.in_err-write_device.ensures.bytes)
 
 pub loop-line-preserved : goal.loop-line-preserved
 loop-line-preserved g c = (
-  put_more _ _ _ _ _ _ _ _ _ _ c.loop-line.invariant.0 (flat_step device_text c.args.devices.now c.loop-line.line-index c.line-item.result c.loop-line-test.true c.line-item.is) c.in_ok-write_device.ensures.bytes,
+  put_more _ _ _ _ _ _ _ _ _ _ c.loop-line.invariant.0
+      (flat_step device_text c.args.devices.now c.loop-line.line-index c.line-item.result c.loop-line-test.true c.line-item.is)
+      c.in_ok-write_device.ensures.bytes,
   omega (arith, c.loop-line.invariant.1, c.in_ok-write_device.ensures.cause.later),
 )

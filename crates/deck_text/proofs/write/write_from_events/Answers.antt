@@ -6,4 +6,5 @@ returns-in_err-write_events_line-clause-bytes g c =
     puts_stopped _ _ _ _ _ _ _ c.from_residual.ensures.1 (stops_longer _ _ _ _ _ _ c.in_err-write_events_line.ensures.bytes)
 
 pub returns-clause-bytes : goal.returns-clause-bytes
-returns-clause-bytes g c = puts_then _ _ _ _ _ _ _ _ _ c.in_ok-write_events_line.ensures.bytes (rw (c.as_slice.ensures, c.schedule.ensures) at c.write_events.ensures.bytes)
+returns-clause-bytes g c =
+    puts_then _ _ _ _ _ _ _ _ _ c.in_ok-write_events_line.ensures.bytes (rw (c.as_slice.ensures, c.schedule.ensures) at c.write_events.ensures.bytes)

@@ -12,6 +12,7 @@ served a n xs cp tail is len =
 pub returns-clause-bytes : goal.returns-clause-bytes
 returns-clause-bytes c = (
   ap (λ s. s.left) (sym c.self.view_is)
-      ∙ served c.self.inside.at c.min-count.result c.self.inside.bytes.items c.copy_from_slice.new.self _ (grind (arith, common_steps)) (grind (arith, common_steps)),
+      ∙ served c.self.inside.at c.min-count.result c.self.inside.bytes.items c.copy_from_slice.new.self _ (grind (arith, common_steps))
+      (grind (arith, common_steps)),
   λ zero some. drop_all (c.self.inside.at + c.min-count.result) c.self.inside.bytes.items (grind (arith, common_steps)),
 )
