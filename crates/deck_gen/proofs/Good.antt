@@ -1,12 +1,10 @@
 -- Each generated deck keeps to what holds of each deck that a text is.
-use Rattle.std.proofs.Common.{◌≡◌, ◌<◌, ◌≤◌, ◌+◌, ◌-◌, ◌*◌, ◌^◌, ℕ, zero, suc, List, [], ◌∷◌, ◌++◌, length, Bool, true, false, Some, Ok, refl, sym, ap, ◌∙◌, arith, length-append, ◌⊎◌, inl, inr}
+use Rattle.std.proofs.Common.{◌≡◌, ◌<◌, ◌≤◌, ◌+◌, ◌*◌, ℕ, zero, suc, List, [], ◌∷◌, ◌++◌, length, Bool, true, false, Some, Ok, refl, ap, arith, length-append}
 use Rattle.std.specs.Prelude.{◌==◌, ◌%◌, decimal, if◌then◌else◌}
 use Rattle.ckd_types.specs.declared.geometry.Geometry.TheVariants.{D3390}
 use Rattle.deck_plan.specs.declared.event.EventLine.{EventLine}
 use Rattle.deck_plan.specs.declared.event.EventLine.TheVariants.{Start, Run, Back, Settle, Pair}
 use Rattle.deck_text.specs.declared.line.DeviceLine.{DeviceLine}
-use Rattle.deck_text.specs.declared.line.PlannedProgram.{PlannedProgram}
-use Rattle.deck_text.specs.DeckLines.{DeckLines}
 use Rattle.deck_text.specs.Numbers.{geometry_from, geometry_of}
 use Rattle.deck_text.specs.Forms.{device_line as read_line, rises, is_declared, device_of, path_and_device}
 use Rattle.deck_text.proofs.ReadBack.{number_read, decimal_read}

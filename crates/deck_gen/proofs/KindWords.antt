@@ -1,16 +1,14 @@
 -- The programs of each kind are programs, and their words are words of a deck.
-use Rattle.std.proofs.Common.{◌≡◌, ◌<◌, ◌≤◌, ◌+◌, ◌*◌, ◌/◌, ◌%◌, ◌^◌, ℕ, zero, suc, List, [], ◌∷◌, ◌++◌, length, refl, arith}
+use Rattle.std.proofs.Common.{◌<◌, ℕ, zero, suc, List, [], ◌∷◌, ◌++◌, refl, arith}
 use Rattle.std.specs.Int.{byte_at, bytes_high_first, w64, to_be_bytes}
-use Rattle.std.specs.Prelude.{slice_index}
 use Rattle.hex.specs.Hex.{IsBytes}
-use Rattle.ckd_types.specs.declared.channel.Ccw.{Ccw}
 use Rattle.ckd_types.specs.Commands.{command_of}
 use Rattle.ckd_types.specs.Program.{IsProgram}
 use Rattle.deck_text.proofs.CcwAgain.{CcwFacts}
 use Rattle.deck_text.proofs.DeckAgain.{Each}
 use Rattle.deck_gen.specs.declared.choice.Kind.{Kind}
 use Rattle.deck_gen.specs.declared.choice.Kind.TheVariants.{Format, Update, Read, ReadTracks}
-use Rattle.deck_gen.specs.Programs.{place_bytes, extent_word, locate_word, format_word, update_word, read_word, format_words, update_words, read_words, track_words, program_of}
+use Rattle.deck_gen.specs.Programs.{place_bytes, extent_word, locate_word, format_word, update_word, read_word, program_of}
 
 pub is_program : (k : Kind) (t x : ℕ) → IsProgram (program_of k t x)
 unfolding command_of

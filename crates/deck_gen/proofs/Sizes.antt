@@ -1,15 +1,14 @@
 -- The text of each generated deck isn't too long.
-use Rattle.std.proofs.Common.{◌≡◌, ◌<◌, ◌≤◌, ◌+◌, ◌-◌, ◌*◌, ◌^◌, ℕ, zero, suc, List, [], ◌∷◌, ◌++◌, length, Bool, true, false, refl, sym, ap, ◌∙◌, arith, length-append}
+use Rattle.std.proofs.Common.{◌≡◌, ◌<◌, ◌≤◌, ◌+◌, ◌*◌, ℕ, zero, suc, List, [], ◌∷◌, ◌++◌, length, Bool, true, false, arith, length-append}
 use Rattle.std.specs.Prelude.{◌==◌, ◌%◌, decimal, codes, if◌then◌else◌}
 use Rattle.std.specs.List.{flat_map}
 use Rattle.std.proofs.lemmas.Fmt.{length-decimal-le}
-use Rattle.hex.specs.Hex.{encode_upper, encode_with, upper_digits}
+use Rattle.hex.specs.Hex.{encode_upper, upper_digits}
 use Rattle.hex.proofs.HexLemmas.{length-encode_with}
 use Rattle.ckd_types.specs.declared.channel.Ccw.{Ccw}
 use Rattle.deck_plan.specs.declared.event.EventLine.{EventLine}
-use Rattle.deck_plan.specs.declared.event.EventLine.TheVariants.{Start, Run, Back, Settle, Pair}
-use Rattle.deck_text.specs.Canonical.{head_text, device_text, program_text, word_text, line_end, bytes_text, ccw_text, end_text, planned_text, events_text, with_one, with_two, event_text, from_events, from_programs, canonical}
-use Rattle.deck_text.proofs.CcwAgain.{CcwFacts}
+use Rattle.deck_plan.specs.declared.event.EventLine.TheVariants.{Back, Settle, Pair}
+use Rattle.deck_text.specs.Canonical.{head_text, device_text, program_text, word_text, line_end, bytes_text, ccw_text, end_text, planned_text, events_text, with_one, with_two, event_text, canonical}
 use Rattle.deck_text.proofs.DeckAgain.{Each}
 use Rattle.deck_gen.specs.declared.choice.Kind.{Kind}
 use Rattle.deck_gen.specs.declared.choice.Kind.TheVariants.{Format, Update, Read, ReadTracks}
@@ -17,7 +16,6 @@ use Rattle.deck_gen.specs.declared.choice.Choice.{Choice}
 use Rattle.deck_gen.specs.Choices.{choices, choice_behind}
 use Rattle.deck_gen.specs.Programs.{program_of}
 use Rattle.deck_gen.specs.Generated.{device_line, path_of, planned, programs_from, lines_of, events_from, deck_of_seed}
-use Rattle.deck_gen.proofs.KindWords.{words_facts}
 use Rattle.deck_gen.proofs.Good.{path_most, device_declared, three}
 
 digit_size : (n : ℕ) → n < 10 → length (decimal n) ≤ 1
