@@ -53,6 +53,21 @@ has_append k (e ∷ es) fs h = (elim (e.0 == k) as (λ b. (b || has k (es ++ fs)
   | false ↦ λ f. has_append k es fs f
 ]) h
 
+has_either : (k : ℕ) (es fs : List (ℕ × ℕ)) → (has k es ≡ true) ⊎ (has k fs ≡ true) → has k (es ++ fs) ≡ true
+has_either k [] fs (inl h) = cc
+has_either k [] fs (inr h) = h
+has_either k (e ∷ es) fs h = (elim (e.0 == k) as (λ b. ((b || has k es) ≡ true) ⊎ (has k fs ≡ true) → (b || has k (es ++ fs)) ≡ true) [
+  | true ↦ λ f. refl
+  | false ↦ λ f. has_either k es fs f
+]) h
+
+-- what a seat has taken in, where it takes in the next one
+pub has_next : (k n : ℕ) (x : ℕ) (us vs : List (ℕ × ℕ)) → k < n + 1 → (k < n → has k vs ≡ true) → has k (((n, x) ∷ us) ++ vs) ≡ true
+has_next k n x us vs low before = (elim (n == k) as (λ b. (n == k) ≡ b → (b || has k (us ++ vs)) ≡ true) [
+  | true ↦ λ t. refl
+  | false ↦ λ t. has_either k us vs (inr (before (let ne : n ≢ k = (λ e. let yes : (n == k) ≡ true = grind (arith, nat_tests, e) in cc) in omega arith)))
+]) refl
+
 module _ {H Q : Type 0} (fit : Q → H → Type 0) (counts : H → List ℕ) where
   names_more : (m : Mode) (vs : List (View Q)) (n : ℕ) (id : ℕ) (v w x : View Q) → get_elem? vs id ≡ some v → w.number ≡ v.number → Names m vs n → Names m (set vs id w ++ x ∷ []) n
   names_more free vs n id v w x at same t = t
@@ -301,3 +316,10 @@ module _ {H Q : Type 0} (fit : Q → H → Type 0) (counts : H → List ℕ) whe
       let P : List ℕ → Type 0 = λ ws. Kept fit counts p (record { words = ws; homes = s.homes; views = set (set s.views id (both v u)) other (spent nothing) }) in
       subst P (sym k.words) (kept fit counts p k.mode k.made k.turn k.ws s.homes (set (set s.views id (both v u)) other (spent nothing))
       (joins_world nothing p k.made k.turn k.ws s.homes s.views k.mode id other v u at there differ live also rests (world fit counts p s k)))
+
+-- seat 0 owns each number, where it has taken in each other one
+pub owns_all : {Q : Type 0} (v : View Q) (n : ℕ) → v.live ≡ true → v.number ≡ 0 → ((k : ℕ) → 0 < k → k < n → has k v.joined ≡ true) → (k : ℕ) → k < n → has k (owned v) ≡ true
+owns_all v n live number others zero low = rw (live, number) refl
+owns_all v n live number others (suc k) low =
+    let no : (0 == suc k) ≡ false = grind (arith, nat_tests) in
+    rw (live, number, no) (others (suc k) (omega arith) low)

@@ -1,5 +1,5 @@
 -- Views of the seats of a turn, one of which changes.
-use Rattle.std.proofs.Common.{◌≡◌, ◌≢◌, ℕ, ◌+◌, ◌<◌, ◌==◌, ◌||◌, zero, suc, true, false, List, [], ◌∷◌, length, set, slice_index, arith, refl, sym, ap, ◌∙◌, subst, inl, inr, get_or-set_other, get_or-set_same, if◌then◌else◌}
+use Rattle.std.proofs.Common.{◌≡◌, ◌≢◌, ℕ, ◌+◌, ◌<◌, ◌==◌, ◌||◌, zero, suc, true, false, List, [], ◌∷◌, length, set, slice_index, Option, Some, None, arith, refl, sym, ap, ◌∙◌, subst, inl, inr, get_or-set_other, get_or-set_same, if◌then◌else◌}
 use Rattle.std.proofs.lemmas.Bool.Decides.{nat_tests}
 use mathlib.Core.Option.{some, some-injective, some-ne-none}
 use mathlib.Core.Logic.{dite}
@@ -9,7 +9,7 @@ use Rattle.atomic_table.proofs.Lists.{at_set, set_else}
 use Rattle.device_turn.specs.declared.view.Stage.{Stage}
 use Rattle.device_turn.specs.declared.view.Stage.TheVariants.{Away, Turn, Out}
 use Rattle.device_turn.specs.declared.view.View.{View}
-use Rattle.device_turn.specs.Rule.{Mode, free, taken, out, stage_at, IsNamed, Still, Without, has, owned, Fits, staged, worded, noted, away}
+use Rattle.device_turn.specs.Rule.{Mode, free, taken, out, stage_at, IsNamed, Still, Without, has, owned, KeptBy, Fits, staged, worded, noted, away}
 
 pub set_there : {A : Type 0} (l : List A) (i : ℕ) (a b : A) → get_elem? l i ≡ some a → get_elem? (set l i b) i ≡ some b
 set_there [] i a b e = absurd (some-ne-none a (sym e))
@@ -56,6 +56,11 @@ without k (e ∷ es) h = (elim (e.0 == k) as (λ b. (e.0 == k) ≡ b → (b || h
   | true ↦ λ t f. cc
   | false ↦ λ t f. ((λ same. let yes : (e.0 == k) ≡ true = grind (arith, nat_tests, same) in cc), without k es f)
 ]) refl h
+
+-- what keeps each promise still keeps the one that was made
+pub kept_through : {P H : Type 0} (keeps : P → H → Type 0) (o : Option P) (a b : H) → ((p : P) → keeps p a → keeps p b) → KeptBy keeps o a → KeptBy keeps o b
+kept_through keeps None a b each h = h
+kept_through keeps (Some p) a b each h = each p h
 
 module _ {Q : Type 0} where
   -- the same numbers are owned

@@ -2,6 +2,8 @@
 //! that names the seat whose turn it is, and a word for each of six seats that counts what the seat did.
 #![tactic(auto)]
 
+#[cfg(test)]
+mod counters;
 mod enter;
 mod holder;
 mod place;
