@@ -81,7 +81,7 @@ module _ {H Q : Type 0} (fit : Q → H → Type 0) (counts : H → List ℕ) whe
   rests_past (out h) vs n j past t = let low = at_below vs h t.0 t.1 in sym (others_stage h j Out Away (λ e. omega arith))
 
   module _ (p : Q) (made turn : ℕ) (ws : List ℕ) (hs : Homes H) (vs : List (View Q)) (m : Mode) (id : ℕ) (v : View Q) (at : get_elem? vs id ≡ some v) where
-    -- K8
+    -- split
     other_counted : World fit counts p m made turn ws hs vs → v.live ≡ true → v.number ≡ 0 → (i : ℕ) (u : View Q) → i ≢ id → get_elem? vs i ≡ some u → Fits p (v.made + 1) m ws i u
     other_counted w live zero_number i u other now =
         let f = w.fits i u now in
@@ -297,7 +297,7 @@ module _ {H Q : Type 0} (fit : Q → H → Type 0) (counts : H → List ℕ) whe
     names_joined (out h) is t =
         named_joined h (λ e. let clash : Away ≡ Out = sym rests ∙ (w.fits other u there).stage ∙ ap (λ m. stage_at m other) is ∙ ap (λ j. stage_at (out h) j) (sym e) ∙ own_stage h Out Away in cc) t
 
-    -- K9
+    -- join
     pub joins_world : World fit counts p m made turn ws hs (set (set vs id (both v u)) other (spent nothing))
     joins_world = record {
       six = w.six;

@@ -66,7 +66,7 @@ module _ {H Q : Type 0} (fit : Q → H → Type 0) (counts : H → List ℕ) whe
       let named = w.names.2 in
       finds p st ws hs vs id me n (me.0.number + 1) (λ z. omega arith) (λ e. other (omega arith)) (omega (arith, named, busy.1, w.few)) at (kept fit counts p (out h) made n ws hs vs w)
 
-  -- K1 and K2
+  -- take, and found taken
   pub takes_turn : (p : Q) (slots : ℕ) (st : Step (Option H)) (id : ℕ) (me : Me (Option H) (View Q)) → me.0.live ≡ true → me.0.stage ≡ Away
       → Allows (Kept fit counts p) slots id me 0 (λ k. either (k == 0) (me.0.number + 1) k) (Takes st me)
   takes_turn p slots st id me live rests s k size at low =
@@ -84,7 +84,7 @@ module _ {H Q : Type 0} (fit : Q → H → Type 0) (counts : H → List ℕ) whe
       let P : Mode → Type 0 = λ m. World fit counts p m k.made k.turn k.ws s.homes s.views in
       subst P (is_out k.mode id (sym mine ∙ (k.fits id v at).stage)) (world fit counts p s k)
 
-  -- K3, by the holder
+  -- load, by the seat whose turn it is
   pub notes_word : (p : Q) (slots : ℕ) (st : Step (Option H)) (id : ℕ) (me : Me (Option H) (View Q)) (j : ℕ) → st.word ≡ j + 1 → me.0.stage ≡ Turn → j ≢ me.0.number
       → Allows (Kept fit counts p) slots id me (j + 1) (λ k. k) (Notes st me)
   notes_word p slots st id me j word mine other s k size at low =
@@ -97,7 +97,7 @@ module _ {H Q : Type 0} (fit : Q → H → Type 0) (counts : H → List ℕ) whe
       let R : ℕ → Type 0 = λ i. Gives p (k.turn ∷ k.ws) s.homes s.views id me i (λ k. k) (Notes st me) in
       subst P (sym k.words) (subst R (sym (add-one j)) (noted j n me.0, keeps, tt, done, tells))
 
-  -- K3, by any seat
+  -- load, by any seat
   pub looks : (p : Q) (slots : ℕ) (st : Step (Option H)) (id : ℕ) (me : Me (Option H) (View Q)) (j : ℕ) → st.word ≡ j + 1 → Allows (Kept fit counts p) slots id me (j + 1) (λ k. k) (Looks st me)
   looks p slots st id me j is s k size at low =
       let n = slice_index k.ws j in
@@ -115,7 +115,7 @@ module _ {H Q : Type 0} (fit : Q → H → Type 0) (counts : H → List ℕ) whe
   own_word : (p : Q) (made : ℕ) (m : Mode) (ws : List ℕ) (i : ℕ) (v : View Q) → v.live ≡ true → Fits p made m ws i v → slice_index ws v.number ≡ v.word
   own_word p made m ws i v live f = let s : Still ws ((v.number, v.word) ∷ v.joined) = rw live at f.words in s.0
 
-  -- K4
+  -- slot out
   pub fetches_device : (p : Q) (slots : ℕ) (st : Step (Option H)) (id : ℕ) (me : Me (Option H) (View Q)) → me.0.live ≡ true → me.0.stage ≡ Turn
       → Allows (Kept fit counts p) slots id me 0 (λ k. k) (Fetches fit counts st me)
   fetches_device p slots st id me live mine s k size at low =
@@ -140,7 +140,7 @@ module _ {H Q : Type 0} (fit : Q → H → Type 0) (counts : H → List ℕ) whe
         ),
       )
 
-  -- K5
+  -- store
   pub stores_word : (p : Q) (slots : ℕ) (st : Step (Option H)) (id : ℕ) (me : Me (Option H) (View Q)) (x : ℕ) → me.0.live ≡ true → me.0.number < 6 → me.0.stage ≡ Out
       → Allows (Kept fit counts p) slots id me (me.0.number + 1) (λ k. x) (λ _. Words st me x)
   stores_word p slots st id me x live small mine s k size at low =
@@ -158,7 +158,7 @@ module _ {H Q : Type 0} (fit : Q → H → Type 0) (counts : H → List ℕ) whe
       (λ ne. still_same k xs ys v.loaded (whole k (omega arith) ne) a b) in
       get_or_default xs k d 0 h ∙ each ∙ get_or_default ys k 0 d (omega arith))
 
-  -- K6
+  -- slot in
   pub returns_device : (p : Q) (slots : ℕ) (st : Step (Option H)) (id : ℕ) (me : Me (Option H) (View Q)) (d : H) → me.0.live ≡ true → me.0.stage ≡ Out → me.1 ≡ (0, Some d) ∷ rest me.1 → length (counts d) ≡ 6 → IsComplete me.0 → MayLeave fit counts me.0 d → slice_index (counts d) me.0.number ≡ me.0.word
       → Allows (Kept fit counts p) slots id me 0 (λ k. k) (Returns st me)
   returns_device p slots st id me d live mine has_it six whole may own s k size at low =
@@ -171,7 +171,7 @@ module _ {H Q : Type 0} (fit : Q → H → Type 0) (counts : H → List ℕ) whe
       rw has_it (kept fit counts p (taken id) k.made k.turn k.ws (slice_set s.homes 0 (some (Some d))) (set s.views id (staged Turn me.0)) returned) in
       subst P (sym k.words) (staged Turn me.0, gives, tt, done, refl)
 
-  -- K7
+  -- give back
   pub ends_turn : (p : Q) (slots : ℕ) (st : Step (Option H)) (id : ℕ) (me : Me (Option H) (View Q)) → me.0.stage ≡ Turn
       → Allows (Kept fit counts p) slots id me 0 (λ k. 0) (λ _. Ends st me 0)
   ends_turn p slots st id me mine s k size at low =

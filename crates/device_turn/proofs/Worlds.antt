@@ -33,7 +33,7 @@ module _ {H Q : Type 0} (fit : Q → H → Type 0) (counts : H → List ℕ) whe
   world p s k = record { six = k.six; few = k.few; names = k.names; slot = k.slot; fits = k.fits; apart = k.apart; unmade = k.unmade }
 
   module _ (p : Q) (made turn : ℕ) (ws : List ℕ) (hs : Homes H) (vs : List (View Q)) (id : ℕ) (v : View Q) (at : get_elem? vs id ≡ some v) where
-    -- K1
+    -- take
     pub takes_world : v.live ≡ true → v.stage ≡ Away → World p free made turn ws hs vs → World p (taken id) made (v.number + 1) ws hs (set vs id (staged Turn v))
     takes_world live away_now w = record {
       six = w.six;
@@ -46,7 +46,7 @@ module _ {H Q : Type 0} (fit : Q → H → Type 0) (counts : H → List ℕ) whe
       unmade = w.unmade;
     }
 
-    -- K3
+    -- load
     pub notes_world : (k n : ℕ) → v.stage ≡ Turn → k ≢ v.number → slice_index ws k ≡ n → World p (taken id) made turn ws hs vs → World p (taken id) made turn ws hs (set vs id (noted k n v))
     notes_world k n mine other is w = record {
       six = w.six;
@@ -58,7 +58,7 @@ module _ {H Q : Type 0} (fit : Q → H → Type 0) (counts : H → List ℕ) whe
       unmade = w.unmade;
     }
 
-    -- K4
+    -- slot out
     pub fetches_world : v.live ≡ true → World p (taken id) made turn ws hs vs → World p (out id) made turn ws (slice_set hs 0 none) (set vs id (staged Out v))
     fetches_world live w = record {
       six = w.six;
@@ -71,7 +71,7 @@ module _ {H Q : Type 0} (fit : Q → H → Type 0) (counts : H → List ℕ) whe
       unmade = w.unmade;
     }
 
-    -- K6
+    -- slot in
     pub returns_world : (d : H) → v.live ≡ true → fit p d → counts d ≡ ws → World p (out id) made turn ws hs vs → World p (taken id) made turn ws (slice_set hs 0 (some (Some d))) (set vs id (staged Turn v))
     returns_world d live keeping same w = record {
       six = w.six;
@@ -84,7 +84,7 @@ module _ {H Q : Type 0} (fit : Q → H → Type 0) (counts : H → List ℕ) whe
       unmade = w.unmade;
     }
 
-    -- K7
+    -- give back
     pub ends_world : World p (taken id) made turn ws hs vs → World p free made 0 ws hs (set vs id (away v))
     ends_world w = record {
       six = w.six;
@@ -108,7 +108,7 @@ module _ {H Q : Type 0} (fit : Q → H → Type 0) (counts : H → List ℕ) whe
       | false ↦ λ t. refl
     ]) refl
 
-    -- K5
+    -- store
     other_words : (x : ℕ) → v.live ≡ true → World p (out id) made turn ws hs vs → (i : ℕ) (u : View Q) → i ≢ id → get_elem? vs i ≡ some u → Fits p made (out id) (set ws v.number x) i u
     other_words x live w i u other now =
         let f = w.fits i u now in

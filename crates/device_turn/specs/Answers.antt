@@ -1,5 +1,5 @@
 -- What the calls of a turn answer and ask for.
-use Rattle.std.specs.Prelude.{◌≡◌, ◌≢◌, ◌<◌, ℕ, true, List, [], ◌∷◌, slice_index, Option, Some, None}
+use Rattle.std.specs.Prelude.{◌≡◌, ◌≢◌, ◌<◌, ℕ, true, List, [], ◌∷◌, slice_index, Option, None}
 use Rattle.atomic_table.specs.Table.{Me}
 use Rattle.device_turn.specs.declared.enter.Enter.{Enter}
 use Rattle.device_turn.specs.declared.enter.Enter.TheVariants.{Got, Taken}

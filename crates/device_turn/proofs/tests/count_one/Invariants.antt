@@ -1,5 +1,4 @@
 use Rattle.std.proofs.Common.{◌≡◌}
-use Rattle.device_turn.specs.Answers.{IsAway}
 use Rattle.device_turn.proofs.tests.count_one.Given as goal
 
 abbrev pub invariant-loop : goal.invariant-loop

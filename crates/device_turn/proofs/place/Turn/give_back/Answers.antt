@@ -1,7 +1,6 @@
-use Rattle.std.proofs.Common.{◌≡◌, ◌∙◌, ℕ, List, arith, sym, ap, refl, subst, slice_index, Option}
+use Rattle.std.proofs.Common.{◌≡◌, ◌∙◌, arith, sym, ap, refl, subst, slice_index}
 use mathlib.Core.Option.{none}
 use Rattle.atomic_table.specs.Table.{step}
-use Rattle.device_turn.specs.declared.view.View.{View}
 use Rattle.device_turn.specs.Rule.{KeptBy}
 use Rattle.device_turn.specs.Answers.{IsComplete, MayLeave}
 use Rattle.device_turn.proofs.Moves.{returns_device, ends_turn}
