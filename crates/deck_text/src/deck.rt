@@ -33,8 +33,8 @@ impl Model for Deck {
 }
 
 impl Deck {
-    /// Nothing yet.
-    pub(crate) fn new(alloc: Global) -> Result<Deck, NoMemory>
+    /// A deck without lines yet.
+    pub fn new(alloc: Global) -> Result<Deck, NoMemory>
         ensures { IfOk result (λ deck. deck ≡ no_lines) }
     {
         Ok(Deck {
@@ -47,19 +47,19 @@ impl Deck {
         })
     }
 
-    pub(crate) fn set_frames(&mut self, frames: u16)
+    pub fn set_frames(&mut self, frames: u16)
         ensures { self.new ≡ record self.old { frames = frames } }
     {
         self.frames = frames;
     }
 
-    pub(crate) fn set_slots(&mut self, slots: u16)
+    pub fn set_slots(&mut self, slots: u16)
         ensures { self.new ≡ record self.old { slots = slots } }
     {
         self.slots = slots;
     }
 
-    pub(crate) fn push_device(&mut self, line: DeviceLine) -> Result<(), NoMemory>
+    pub fn push_device(&mut self, line: DeviceLine) -> Result<(), NoMemory>
         ensures ok { OnOk result (self.new ≡ record self.old { devices = self.old.devices ++ line ∷ [] }) }
         ensures err { OnErr result (self.new ≡ self.old) }
     {
@@ -75,7 +75,7 @@ impl Deck {
         Ok(())
     }
 
-    pub(crate) fn push_program(
+    pub fn push_program(
         &mut self,
         alloc: Global,
         planned: PlannedProgram,
@@ -87,7 +87,7 @@ impl Deck {
         self.programs.push(alloc, planned)
     }
 
-    pub(crate) fn push_event(&mut self, line: EventLine) -> Result<(), NoMemory>
+    pub fn push_event(&mut self, line: EventLine) -> Result<(), NoMemory>
         requires { length self.old.events < 65536 }
         ensures ok { OnOk result (self.new ≡ record self.old { events = self.old.events ++ line ∷ [] }) }
         ensures err { OnErr result (self.new ≡ self.old) }

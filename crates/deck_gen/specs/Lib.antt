@@ -1,0 +1,4 @@
+pub mod Draws
+pub mod Choices
+pub mod Programs
+pub mod Generated

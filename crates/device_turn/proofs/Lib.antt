@@ -1,0 +1,4 @@
+pub mod Views
+pub mod Worlds
+pub mod Members
+pub mod Moves
