@@ -1,0 +1,6 @@
+pub mod Runs
+pub mod AfterRules
+pub mod SharedSlots
+pub mod RanAfter
+pub mod BothRules
+pub mod Link

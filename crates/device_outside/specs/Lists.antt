@@ -1,0 +1,16 @@
+-- Lists of numbers.
+use Rattle.std.specs.Prelude.{ℕ, ◌==◌, Bool, true, false, List, [], ◌∷◌, if◌then◌else◌}
+
+unfoldable pub is_in : ℕ → List ℕ → Bool
+is_in x [] = false
+is_in x (y ∷ ys) = if x == y then true else is_in x ys
+
+-- without the first x
+unfoldable pub less_one : ℕ → List ℕ → List ℕ
+less_one x [] = []
+less_one x (y ∷ ys) = if x == y then ys else y ∷ less_one x ys
+
+-- without any x
+unfoldable pub less_all : ℕ → List ℕ → List ℕ
+less_all x [] = []
+less_all x (y ∷ ys) = if x == y then less_all x ys else y ∷ less_all x ys
