@@ -1,8 +1,8 @@
 -- How two interactions are walked together, and what of it holds of the one alone.
-use Rattle.std.proofs.Common.{◌≡◌, ℕ, Bool, true, false, cond, List, Option, Some, None, get_or, refl, sym, subst}
-use Rattle.device_outside.specs.Pool.{Call, AnswerTo}
+use Rattle.std.proofs.Common.{◌≡◌, ℕ, Bool, true, false, cond, List, Option, Some, None, refl, sym, subst}
+use Rattle.device_outside.specs.Pool.{Call}
 use Rattle.device_outside.specs.Slots.{MayAsk, gives_back}
-use Rattle.device_outside.specs.Interaction.{Interaction, Done, Try, Ask, Read, Write, Tell, and_then}
+use Rattle.device_outside.specs.Interaction.{Interaction, and_then}
 use Rattle.device_outside.specs.After as W
 use Rattle.device_outside.specs.After.{Holdings, After, Surely}
 use Rattle.device_outside.specs.Both.{Both, both_done, both_try, both_ask, both_free, both_read, both_write, both_tell}

@@ -4,3 +4,5 @@ pub mod SharedSlots
 pub mod RanAfter
 pub mod BothRules
 pub mod Link
+mod Calls
+mod Delivered

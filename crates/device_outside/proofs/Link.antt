@@ -1,15 +1,15 @@
 -- A run with told pool, contents and failing calls, and memory had, is the other interaction's own run.
-use Rattle.std.proofs.Common.{◌≡◌, ◌<◌, ◌+◌, ℕ, Bool, true, false, cond, List, Option, Some, None, is_some, length, set, get_or, refl, sym, ap, subst, ◌∙◌}
+use Rattle.std.proofs.Common.{◌≡◌, ℕ, Bool, true, false, cond, List, Option, Some, None, is_some, set, get_or, refl, sym, ap, subst, ◌∙◌}
 use Rattle.std.proofs.lemmas.List.{get_or_default}
 use Rattle.ckd_types.specs.declared.paths.Side.{Side}
 use Rattle.ckd_types.specs.declared.paths.Side.TheVariants as sides
 use Rattle.device_outside.specs.Lists.{is_in}
-use Rattle.device_outside.specs.Pool.{Pool, Call, FreeSlot, AnswerTo, IsAnswer, answer, after, unnumbered, counted_slots}
-use Rattle.device_outside.specs.Slots.{MayAsk, MayAnswer, Owns, gives_back, held_after, slots_after, SlotsTold, AreShared}
+use Rattle.device_outside.specs.Pool.{Pool, Call, FreeSlot, AnswerTo, answer, after, unnumbered}
+use Rattle.device_outside.specs.Slots.{MayAsk, MayAnswer, Owns, gives_back, held_after, slots_after, SlotsTold}
 use Rattle.device_outside.specs.Volume.{Plan, Planned, Delivers, Stores, VolumeView, ReadOf, WriteOf, counted}
 use Rattle.device_outside.specs.Keeper.{Message, BeforeEdit, Firm, ReplyTo, reply, Hearing}
-use Rattle.device_outside.specs.Interaction.{Interaction, Done, Try, Ask, Read, Write, Tell}
-use Rattle.device_outside.specs.Outside.{PortView, ByPool, Answered, Outside, view_of, with_view, Had, Ran, done, tried, asked, read, wrote, told}
+use Rattle.device_outside.specs.Interaction.{Interaction}
+use Rattle.device_outside.specs.Outside.{ByPool, Outside, view_of, with_view, Had, Ran, done, tried, asked, read, wrote, told}
 use Rattle.device_outside.specs.Told as H
 use Rattle.device_outside.specs.Told.{Calls, Told, calls_of, read_counted, write_counted, read_fails, write_fails, Outcome, hold}
 use Rattle.device_outside.specs.After.{Holdings, holds_of, with_held, with_slots}

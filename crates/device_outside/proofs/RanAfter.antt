@@ -1,14 +1,14 @@
 -- What surely holds after an interaction holds after each run of it with volumes that tell what they hold.
-use Rattle.std.proofs.Common.{◌≡◌, ◌<◌, ℕ, Bool, true, false, List, Option, Some, None, length, set, get_or, ap, sym, subst, ◌∙◌}
+use Rattle.std.proofs.Common.{◌≡◌, ℕ, Bool, true, false, List, Option, Some, None, set, get_or, ap, sym, subst, ◌∙◌}
 use Rattle.std.proofs.lemmas.List.{get_or_default}
 use Rattle.ckd_types.specs.declared.paths.Side.{Side}
 use Rattle.ckd_types.specs.declared.paths.Side.TheVariants as sides
-use Rattle.device_outside.specs.Pool.{Pool, Call, AnswerTo, IsAnswer, after}
-use Rattle.device_outside.specs.Slots.{MayAsk, MayAnswer, held_after, SlotsTold, AreShared}
-use Rattle.device_outside.specs.Volume.{VolumeView, ReadOf, WriteOf, Delivers, Stores}
+use Rattle.device_outside.specs.Pool.{Pool, Call, AnswerTo}
+use Rattle.device_outside.specs.Slots.{MayAsk, MayAnswer, held_after, SlotsTold}
+use Rattle.device_outside.specs.Volume.{VolumeView, Delivers, Stores}
 use Rattle.device_outside.specs.Keeper.{Hearing}
 use Rattle.device_outside.specs.Interaction.{Interaction, Done, Try, Ask, Read, Write, Tell}
-use Rattle.device_outside.specs.Outside.{PortView, ByPool, Answered, Outside, view_of, with_view, Ran, done, tried, asked, read, wrote, told}
+use Rattle.device_outside.specs.Outside.{ByPool, Outside, view_of, with_view, Ran, done, tried, asked, read, wrote, told}
 use Rattle.device_outside.specs.After as W
 use Rattle.device_outside.specs.After.{After, Holdings, holds_of, with_held, with_slots, Tells, Has, Holds}
 use Rattle.device_outside.proofs.SharedSlots.{shared_after, free_of_own}

@@ -1,12 +1,11 @@
 -- How interactions are run.
-use Rattle.std.proofs.Common.{◌≡◌, ℕ, Bool, true, Option, Some, None, subst, refl}
-use Rattle.ckd_types.specs.declared.paths.Side.{Side}
+use Rattle.std.proofs.Common.{◌≡◌, ℕ, Bool, Option, Some, subst}
 use Rattle.ckd_types.specs.declared.paths.Side.TheVariants as sides
 use Rattle.device_outside.specs.Pool.{Call, AnswerTo}
 use Rattle.device_outside.specs.Volume.{VolumeView, ReadOf, WriteOf}
 use Rattle.device_outside.specs.Keeper.{Message, BeforeEdit, Firm, ReplyTo, Hearing}
 use Rattle.device_outside.specs.Interaction.{Interaction, Done, Try, Ask, Read, Write, Tell, and_then}
-use Rattle.device_outside.specs.Outside.{PortView, Answered, Outside, view_of, with_view, Had, Ran, done, tried, asked, read, wrote, told}
+use Rattle.device_outside.specs.Outside.{PortView, Answered, Outside, Had, Ran, done, tried, asked, read, wrote, told}
 
 module _ {R I K : Type 0} {had : Bool → Type 0} {hears : Hearing I K} where
   -- it ends in an equal state, with an equal answer

@@ -1,7 +1,6 @@
 -- What slots given and given back leave: each device's slots are in use, and no two devices share one.
-use Rattle.std.proofs.Common.{◌≡◌, ◌<◌, ◌+◌, ℕ, zero, suc, ◌==◌, Bool, true, false, cond, List, [], ◌∷◌, Option, Some, None, length, refl, sym, ap, subst, ◌∙◌, arith}
+use Rattle.std.proofs.Common.{◌≡◌, ℕ, suc, ◌==◌, Bool, true, false, cond, List, [], ◌∷◌, length, refl, ap, subst, ◌∙◌, arith}
 use Rattle.std.specs.Prelude.{replicate}
-use Rattle.device_outside.specs.declared.port.SlotGrant.{SlotGrant}
 use Rattle.device_outside.specs.declared.port.SlotGrant.TheVariants.{Given, Denied, Down}
 use Rattle.device_outside.specs.Lists as L
 use Rattle.device_outside.specs.Lists.{is_in, less_one, less_all}
@@ -15,19 +14,19 @@ unfolding L.is_in L.less_all
 in_less j k [] e = e
 in_less j k (x ∷ xs) e = go (k == x) (j == x) refl e (in_less j k xs)
   where
-  go : (b c : Bool) → (j == x) ≡ c → is_in j (cond b (less_all k xs) (x ∷ less_all k xs)) ≡ true → (is_in j (less_all k xs) ≡ true → is_in j xs ≡ true) → cond c true (is_in j xs) ≡ true
-  go b true p e f = refl
-  go true false p e f = f e
-  go false false p e f = f (subst (λ (v : Bool). cond v true (is_in j (less_all k xs)) ≡ true) p e)
+    go : (b c : Bool) → (j == x) ≡ c → is_in j (cond b (less_all k xs) (x ∷ less_all k xs)) ≡ true → (is_in j (less_all k xs) ≡ true → is_in j xs ≡ true) → cond c true (is_in j xs) ≡ true
+    go b true p e f = refl
+    go true false p e f = f e
+    go false false p e f = f (subst (λ (v : Bool). cond v true (is_in j (less_all k xs)) ≡ true) p e)
 
 not_in_less : (k : ℕ) (xs : List ℕ) → is_in k (less_all k xs) ≡ false
 unfolding L.is_in L.less_all
 not_in_less k [] = refl
 not_in_less k (x ∷ xs) = go (k == x) refl (not_in_less k xs)
   where
-  go : (b : Bool) → (k == x) ≡ b → is_in k (less_all k xs) ≡ false → is_in k (cond b (less_all k xs) (x ∷ less_all k xs)) ≡ false
-  go true p e = e
-  go false p e = ap (λ (v : Bool). cond v true (is_in k (less_all k xs))) p ∙ e
+    go : (b : Bool) → (k == x) ≡ b → is_in k (less_all k xs) ≡ false → is_in k (cond b (less_all k xs) (x ∷ less_all k xs)) ≡ false
+    go true p e = e
+    go false p e = ap (λ (v : Bool). cond v true (is_in k (less_all k xs))) p ∙ e
 
 -- other numbers stay
 others_stay : (j k : ℕ) (xs : List ℕ) → (j == k) ≡ false → is_in j xs ≡ true → is_in j (less_one k xs) ≡ true
@@ -35,11 +34,11 @@ unfolding L.is_in L.less_one
 others_stay j k [] n e = e
 others_stay j k (x ∷ xs) n e = go (k == x) (j == x) refl refl e (others_stay j k xs n)
   where
-  go : (b c : Bool) → (k == x) ≡ b → (j == x) ≡ c → cond c true (is_in j xs) ≡ true → (is_in j xs ≡ true → is_in j (less_one k xs) ≡ true) → is_in j (cond b xs (x ∷ less_one k xs)) ≡ true
-  go true true p r e f = let s : (j == k) ≡ true = grind arith in absurd cc
-  go true false p r e f = e
-  go false true p r e f = ap (λ (v : Bool). cond v true (is_in j (less_one k xs))) r
-  go false false p r e f = ap (λ (v : Bool). cond v true (is_in j (less_one k xs))) r ∙ f e
+    go : (b c : Bool) → (k == x) ≡ b → (j == x) ≡ c → cond c true (is_in j xs) ≡ true → (is_in j xs ≡ true → is_in j (less_one k xs) ≡ true) → is_in j (cond b xs (x ∷ less_one k xs)) ≡ true
+    go true true p r e f = let s : (j == k) ≡ true = grind arith in absurd cc
+    go true false p r e f = e
+    go false true p r e f = ap (λ (v : Bool). cond v true (is_in j (less_one k xs))) r
+    go false false p r e f = ap (λ (v : Bool). cond v true (is_in j (less_one k xs))) r ∙ f e
 
 -- and there is one fewer
 one_fewer : (k : ℕ) (xs : List ℕ) → is_in k xs ≡ true → length xs ≡ suc (length (less_one k xs))
@@ -47,48 +46,48 @@ unfolding L.is_in L.less_one
 one_fewer k [] e = absurd cc
 one_fewer k (x ∷ xs) e = go (k == x) e (one_fewer k xs)
   where
-  go : (b : Bool) → cond b true (is_in k xs) ≡ true → (is_in k xs ≡ true → length xs ≡ suc (length (less_one k xs))) → suc (length xs) ≡ suc (length (cond b xs (x ∷ less_one k xs)))
-  go true e f = refl
-  go false e f = ap suc (f e)
+    go : (b : Bool) → cond b true (is_in k xs) ≡ true → (is_in k xs ≡ true → length xs ≡ suc (length (less_one k xs))) → suc (length xs) ≡ suc (length (cond b xs (x ∷ less_one k xs)))
+    go true e f = refl
+    go false e f = ap suc (f e)
 
 -- a slot that is given is new to all
 given_shared : (used mine others : List ℕ) (k : ℕ) → is_in k used ≡ false → AreShared used mine others → AreShared (k ∷ used) (k ∷ mine) others
 unfolding L.is_in
 given_shared used mine others k free s = record { own = own; foreign = foreign; apart = apart }
   where
-  own : (j : ℕ) → cond (j == k) true (is_in j mine) ≡ true → cond (j == k) true (is_in j used) ≡ true
-  own j e = go (j == k) e
-    where
-    go : (b : Bool) → cond b true (is_in j mine) ≡ true → cond b true (is_in j used) ≡ true
-    go true x = refl
-    go false x = s.own j x
+    own : (j : ℕ) → cond (j == k) true (is_in j mine) ≡ true → cond (j == k) true (is_in j used) ≡ true
+    own j e = go (j == k) e
+      where
+        go : (b : Bool) → cond b true (is_in j mine) ≡ true → cond b true (is_in j used) ≡ true
+        go true x = refl
+        go false x = s.own j x
 
-  foreign : (j : ℕ) → is_in j others ≡ true → cond (j == k) true (is_in j used) ≡ true
-  foreign j e = go (j == k)
-    where
-    go : (b : Bool) → cond b true (is_in j used) ≡ true
-    go true = refl
-    go false = s.foreign j e
+    foreign : (j : ℕ) → is_in j others ≡ true → cond (j == k) true (is_in j used) ≡ true
+    foreign j e = go (j == k)
+      where
+        go : (b : Bool) → cond b true (is_in j used) ≡ true
+        go true = refl
+        go false = s.foreign j e
 
-  apart : (j : ℕ) → cond (j == k) true (is_in j mine) ≡ true → is_in j others ≡ false
-  apart j e = go (j == k) (is_in j others) refl refl e
-    where
-    go : (b c : Bool) → (j == k) ≡ b → is_in j others ≡ c → cond b true (is_in j mine) ≡ true → is_in j others ≡ false
-    go b false p r x = r
-    go true true p r x = let same : j ≡ k = grind arith in let in_use : is_in k used ≡ true = subst (λ (v : ℕ). is_in v used ≡ true) same (s.foreign j r) in absurd cc
-    go false true p r x = s.apart j x
+    apart : (j : ℕ) → cond (j == k) true (is_in j mine) ≡ true → is_in j others ≡ false
+    apart j e = go (j == k) (is_in j others) refl refl e
+      where
+        go : (b c : Bool) → (j == k) ≡ b → is_in j others ≡ c → cond b true (is_in j mine) ≡ true → is_in j others ≡ false
+        go b false p r x = r
+        go true true p r x = let same : j ≡ k = grind arith in let in_use : is_in k used ≡ true = subst (λ (v : ℕ). is_in v used ≡ true) same (s.foreign j r) in absurd cc
+        go false true p r x = s.apart j x
 
 -- one that is given back is nobody's
 freed_shared : (used mine others : List ℕ) (k : ℕ) → is_in k mine ≡ true → AreShared used mine others → AreShared (less_one k used) (less_all k mine) others
 freed_shared used mine others k own s = record { own = λ j e. kept j e (j == k) refl; foreign = λ j e. foreign j e (j == k) refl; apart = λ j e. s.apart j (in_less j k mine e) }
   where
-  kept : (j : ℕ) → is_in j (less_all k mine) ≡ true → (b : Bool) → (j == k) ≡ b → is_in j (less_one k used) ≡ true
-  kept j e true p = let same : j ≡ k = grind arith in let f : is_in k (less_all k mine) ≡ true = subst (λ (v : ℕ). is_in v (less_all k mine) ≡ true) same e in let n = not_in_less k mine in absurd cc
-  kept j e false p = others_stay j k used p (s.own j (in_less j k mine e))
+    kept : (j : ℕ) → is_in j (less_all k mine) ≡ true → (b : Bool) → (j == k) ≡ b → is_in j (less_one k used) ≡ true
+    kept j e true p = let same : j ≡ k = grind arith in let f : is_in k (less_all k mine) ≡ true = subst (λ (v : ℕ). is_in v (less_all k mine) ≡ true) same e in let n = not_in_less k mine in absurd cc
+    kept j e false p = others_stay j k used p (s.own j (in_less j k mine e))
 
-  foreign : (j : ℕ) → is_in j others ≡ true → (b : Bool) → (j == k) ≡ b → is_in j (less_one k used) ≡ true
-  foreign j e true p = let same : j ≡ k = grind arith in let f : is_in k others ≡ true = subst (λ (v : ℕ). is_in v others ≡ true) same e in let n = s.apart k own in absurd cc
-  foreign j e false p = others_stay j k used p (s.foreign j e)
+    foreign : (j : ℕ) → is_in j others ≡ true → (b : Bool) → (j == k) ≡ b → is_in j (less_one k used) ≡ true
+    foreign j e true p = let same : j ≡ k = grind arith in let f : is_in k others ≡ true = subst (λ (v : ℕ). is_in v others ≡ true) same e in let n = s.apart k own in absurd cc
+    foreign j e false p = others_stay j k used p (s.foreign j e)
 
 pub shared_after : (p : Pool) (c : Call) (a : AnswerTo c) (mine others : List ℕ) → Owns mine c → IsFree p.used c a → AreShared p.used mine others → AreShared (after p c a).used (slots_after mine c a) others
 unfolding P.after
@@ -114,9 +113,9 @@ free_of_own p (SetClean d t) a mine others s f = f
 free_of_own p (DropFrame d t) a mine others s f = f
 free_of_own p WantSlot (Given k) mine others s f = go (is_in k mine) refl
   where
-  go : (b : Bool) → is_in k mine ≡ b → is_in k mine ≡ false
-  go true e = let i = s.own k e in absurd cc
-  go false e = e
+    go : (b : Bool) → is_in k mine ≡ b → is_in k mine ≡ false
+    go true e = let i = s.own k e in absurd cc
+    go false e = e
 free_of_own p WantSlot Denied mine others s f = f
 free_of_own p WantSlot Down mine others s f = f
 free_of_own p (FreeSlot k) a mine others s f = f

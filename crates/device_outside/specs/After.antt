@@ -1,11 +1,11 @@
 -- What holds after an interaction, whatever is answered and whichever calls fail, where the volumes tell what they hold.
-use Rattle.std.specs.Prelude.{◌≡◌, ℕ, Bool, true, false, List, Option, Some, None, slice_index_or, slice_set}
+use Rattle.std.specs.Prelude.{◌≡◌, ℕ, true, false, List, Option, Some, None, slice_index_or, slice_set}
 use Rattle.ckd_types.specs.declared.paths.Side.{Side}
 use Rattle.ckd_types.specs.declared.paths.Side.TheVariants.{A, B}
-use Rattle.device_outside.specs.Pool.{Pool, Call, AnswerTo}
+use Rattle.device_outside.specs.Pool.{Call, AnswerTo}
 use Rattle.device_outside.specs.Slots.{MayAsk, MayAnswer, held_after, SlotsTold}
 use Rattle.device_outside.specs.Volume.{VolumeView}
-use Rattle.device_outside.specs.Keeper.{Message, ReplyTo}
+use Rattle.device_outside.specs.Keeper.{ReplyTo}
 use Rattle.device_outside.specs.Interaction.{Interaction, Done, Try, Ask, Read, Write, Tell}
 use Rattle.device_outside.specs.Outside.{Outside}
 

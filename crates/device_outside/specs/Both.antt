@@ -1,5 +1,5 @@
 -- Two interactions walked together: a device's own, and the step that keeps no contents. Both are instances of one text.
-use Rattle.std.specs.Prelude.{◌≡◌, ℕ, Bool, true, false, List, Option, Some, None, slice_index_or, replicate, length}
+use Rattle.std.specs.Prelude.{◌≡◌, ℕ, Bool, true, false, List, Option, Some, None, slice_index_or}
 use Rattle.ckd_types.specs.declared.paths.Side.{Side}
 use Rattle.device_outside.specs.Pool.{Pool, Call, FreeSlot, AnswerTo, unnumbered, counted_slots}
 use Rattle.device_outside.specs.Slots.{gives_back, MayAsk, MayAnswer, SlotsTold}

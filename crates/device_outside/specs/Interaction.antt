@@ -7,10 +7,10 @@ use Rattle.device_outside.specs.Keeper.{Message, ReplyTo}
 -- R is what a read hands over and a write takes, I what a keeper is told, S the state that is left, A the answer
 pub data Interaction (R I S A : Type 0) : Type 0 where
   Done : S → A → Interaction R I S A
-  Try : (Bool → Interaction R I S A) → Interaction R I S A                                        -- whether memory is had
+  Try : (Bool → Interaction R I S A) → Interaction R I S A  -- whether memory is had
   Ask : (call : Call) → (AnswerTo call → Interaction R I S A) → Interaction R I S A
-  Read : Side → ℕ → (Option R → Interaction R I S A) → Interaction R I S A                        -- None: it failed
-  Write : Side → ℕ → R → (Bool → Interaction R I S A) → Interaction R I S A                       -- false: it failed
+  Read : Side → ℕ → (Option R → Interaction R I S A) → Interaction R I S A  -- None: it failed
+  Write : Side → ℕ → R → (Bool → Interaction R I S A) → Interaction R I S A  -- false: it failed
   Tell : (message : Message I) → (ReplyTo message → Interaction R I S A) → Interaction R I S A
 
 -- one, and then another by its outcome

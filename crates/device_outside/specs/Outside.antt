@@ -11,8 +11,12 @@ use Rattle.device_outside.specs.Interaction.{Interaction, Done, Try, Ask, Read, 
 
 -- what a port tells
 pub record PortView : Type 0 where
-  pub pool : Option Pool              -- where told
-  pub denials : ℕ                     -- how often it denied a frame
+  pub pool : Option Pool  -- where told
+  pub denials : ℕ  -- how often it denied a frame
+
+-- it tells no pool
+abbrev pub no_pool : ℕ → PortView
+no_pool denials = record { pool = None; denials = denials }
 
 abbrev pub is_given : Grant → Bool
 is_given Given = true
@@ -38,6 +42,11 @@ ByPool (Some p) call a new = IsAnswer p call a × (new ≡ Some (after p call a)
 pub record Answered (old : PortView) (call : Call) (a : AnswerTo call) (new : PortView) : Type 0 where
   pub by_pool : ByPool old.pool call a new.pool
   pub denials : new.denials ≡ counted_if (denies call a) old.denials
+
+-- the same of a call that may lack memory, which then changes nothing. The grant is seen by view
+abbrev pub WantedFrame : {G E : Type 0} → PortView → (call : Call) → (G → AnswerTo call) → Result G E → PortView → Type 0
+WantedFrame old call view (Ok grant) new = Answered old call (view grant) new
+WantedFrame old call view (Err e) new = new ≡ old
 
 -- the port, the two sides and the keeper; a device that has no such side asks nothing of it
 pub record Outside (R K : Type 0) : Type 0 where

@@ -1,5 +1,5 @@
 -- The pool of frames and slots that the devices share, and what each call of a device answers and makes of it.
-use Rattle.std.specs.Prelude.{◌≡◌, ℕ, ◌==◌, ◌&&◌, ◌<◌, Bool, true, false, List, [], ◌∷◌, ◌++◌, length, Option, Some, None, if◌then◌else◌, nat_lt, slice_index_or, slice_set, is_some, sum, replicate}
+use Rattle.std.specs.Prelude.{◌≡◌, ℕ, ◌==◌, ◌&&◌, Bool, true, false, List, [], ◌∷◌, ◌++◌, length, Option, Some, None, if◌then◌else◌, nat_lt, slice_index_or, slice_set, is_some, sum, replicate}
 use Rattle.device_outside.specs.declared.port.SlotGrant.{SlotGrant}
 use Rattle.device_outside.specs.declared.port.SlotGrant.TheVariants.{Given, Denied, Down}
 use Rattle.device_outside.specs.Lists.{is_in, less_one}
@@ -11,12 +11,12 @@ pub record PoolFrame : Type 0 where
   pub modified : Bool
 
 pub record Pool : Type 0 where
-  pub frames : List PoolFrame         -- the most recent first
-  pub room : ℕ                        -- how many frames there may be
-  pub notes : List (List ℕ)           -- of each device: the tracks whose frames were taken from it, the oldest note first
-  pub waiting : List ℕ                -- of each device: how many of its tracks wait for recovery
-  pub slots : ℕ                       -- how many slots there are
-  pub used : List ℕ                   -- the slots in use, the last given first
+  pub frames : List PoolFrame  -- the most recent first
+  pub room : ℕ  -- how many frames there may be
+  pub notes : List (List ℕ)  -- of each device: the tracks whose frames were taken from it, the oldest note first
+  pub waiting : List ℕ  -- of each device: how many of its tracks wait for recovery
+  pub slots : ℕ  -- how many slots there are
+  pub used : List ℕ  -- the slots in use, the last given first
   pub cache_up : Bool
   pub store_up : Bool
 

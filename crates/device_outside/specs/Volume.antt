@@ -1,5 +1,5 @@
 -- What a volume tells, and what a read and a write of it do. R is what stands for the bytes of a track.
-use Rattle.std.specs.Prelude.{◌≡◌, ◌<◌, ◌≤◌, ℕ, ◌+◌, ◌-◌, ◌^◌, ◌==◌, min, Bool, true, false, List, Option, Some, None, Result, Ok, Err, is_some, not, slice_index_or, slice_set, length, if◌then◌else◌}
+use Rattle.std.specs.Prelude.{◌≡◌, ◌<◌, ℕ, ◌+◌, ◌-◌, ◌^◌, min, Bool, true, false, List, Option, Some, None, Result, Ok, Err, is_some, not, slice_index_or, slice_set, length, if◌then◌else◌}
 use Rattle.ckd_outside.specs.Causes.{IsKept, IsLowered}
 use Rattle.device_outside.specs.Lists.{is_in}
 
@@ -9,14 +9,14 @@ pub record Plan : Type 0 where
   pub writes : List ℕ
 
 pub record VolumeView (R : Type 0) : Type 0 where
-  pub contents : Option (List R)      -- where told
-  pub tracks : ℕ                      -- how many it has
-  pub delivered : Option R            -- by the last read that didn't fail
-  pub reads : ℕ                       -- how many there were, the failed ones too
+  pub contents : Option (List R)  -- where told
+  pub tracks : ℕ  -- how many it has
+  pub delivered : Option R  -- by the last read that didn't fail
+  pub reads : ℕ  -- how many there were, the failed ones too
   pub writes : ℕ
-  pub faults : ℕ                      -- how many calls failed
-  pub plan : Option Plan              -- which calls fail, where told
-  pub allowance : Option ℕ            -- how many faults it may still give, where told
+  pub faults : ℕ  -- how many calls failed
+  pub plan : Option Plan  -- which calls fail, where told
+  pub allowance : Option ℕ  -- how many faults it may still give, where told
 
 -- counts stop at the greatest of 64 bits
 unfoldable pub counted : ℕ → ℕ
