@@ -6,3 +6,4 @@ pub mod BothRules
 pub mod Link
 mod Calls
 mod Delivered
+mod Rows

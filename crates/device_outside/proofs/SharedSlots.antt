@@ -1,9 +1,9 @@
 -- What slots given and given back leave: each device's slots are in use, and no two devices share one.
-use Rattle.std.proofs.Common.{◌≡◌, ℕ, suc, ◌==◌, Bool, true, false, cond, List, [], ◌∷◌, length, refl, ap, subst, ◌∙◌, arith}
-use Rattle.std.specs.Prelude.{replicate}
+use Rattle.std.proofs.Common.{◌≡◌, ℕ, suc, ◌==◌, Bool, true, false, cond, List, [], ◌∷◌, length, refl, ap, subst, ◌∙◌, arith, zero, sym}
+use Rattle.std.specs.Prelude.{replicate, nat_lt}
 use Rattle.device_outside.specs.declared.port.SlotGrant.TheVariants.{Given, Denied, Down}
 use Rattle.device_outside.specs.Lists as L
-use Rattle.device_outside.specs.Lists.{is_in, less_one, less_all}
+use Rattle.device_outside.specs.Lists.{is_in, with_number, less_one, less_all}
 use Rattle.device_outside.specs.Pool as P
 use Rattle.device_outside.specs.Pool.{Pool, Call, NextNotice, Touch, WantFrame, SetModified, SetClean, DropFrame, WantSlot, FreeSlot, TellWaiting, AnswerTo, IsAnswer, IsFree, answer, after, unnumbered, counted_slots}
 use Rattle.device_outside.specs.Slots.{Owns, gives_back, slots_after, AreShared}
@@ -50,20 +50,50 @@ one_fewer k (x ∷ xs) e = go (k == x) e (one_fewer k xs)
     go true e f = refl
     go false e f = ap suc (f e)
 
+swapped : (b c d : Bool) → cond b true (cond c true d) ≡ cond c true (cond b true d)
+swapped true true d = refl
+swapped true false d = refl
+swapped false true d = refl
+swapped false false d = refl
+
+-- a number that is put in is there beside the others
+is_in_more : (j k : ℕ) (xs : List ℕ) → is_in j (with_number k xs) ≡ cond (j == k) true (is_in j xs)
+unfolding L.is_in L.with_number
+is_in_more j k [] = refl
+is_in_more j k (x ∷ xs) = go (nat_lt x k) (is_in_more j k xs)
+  where
+    go : (b : Bool) → is_in j (with_number k xs) ≡ cond (j == k) true (is_in j xs) → is_in j (cond b (x ∷ with_number k xs) (k ∷ x ∷ xs)) ≡ cond (j == k) true (cond (j == x) true (is_in j xs))
+    go true e = ap (λ (v : Bool). cond (j == x) true v) e ∙ swapped (j == x) (j == k) (is_in j xs)
+    go false e = refl
+
+one_more : (k : ℕ) (xs : List ℕ) → length (with_number k xs) ≡ suc (length xs)
+unfolding L.with_number
+one_more k [] = refl
+one_more k (x ∷ xs) = go (nat_lt x k) (one_more k xs)
+  where
+    go : (b : Bool) → length (with_number k xs) ≡ suc (length xs) → length (cond b (x ∷ with_number k xs) (k ∷ x ∷ xs)) ≡ suc (suc (length xs))
+    go true e = ap suc e
+    go false e = refl
+
+zeros_more : (n : ℕ) → with_number 0 (replicate n 0) ≡ replicate (suc n) 0
+unfolding L.with_number
+zeros_more zero = refl
+zeros_more (suc n) = refl
+
 -- a slot that is given is new to all
-given_shared : (used mine others : List ℕ) (k : ℕ) → is_in k used ≡ false → AreShared used mine others → AreShared (k ∷ used) (k ∷ mine) others
+given_shared : (used mine others : List ℕ) (k : ℕ) → is_in k used ≡ false → AreShared used mine others → AreShared (with_number k used) (k ∷ mine) others
 unfolding L.is_in
 given_shared used mine others k free s = record { own = own; foreign = foreign; apart = apart }
   where
-    own : (j : ℕ) → cond (j == k) true (is_in j mine) ≡ true → cond (j == k) true (is_in j used) ≡ true
-    own j e = go (j == k) e
+    own : (j : ℕ) → cond (j == k) true (is_in j mine) ≡ true → is_in j (with_number k used) ≡ true
+    own j e = is_in_more j k used ∙ go (j == k) e
       where
         go : (b : Bool) → cond b true (is_in j mine) ≡ true → cond b true (is_in j used) ≡ true
         go true x = refl
         go false x = s.own j x
 
-    foreign : (j : ℕ) → is_in j others ≡ true → cond (j == k) true (is_in j used) ≡ true
-    foreign j e = go (j == k)
+    foreign : (j : ℕ) → is_in j others ≡ true → is_in j (with_number k used) ≡ true
+    foreign j e = is_in_more j k used ∙ go (j == k)
       where
         go : (b : Bool) → cond b true (is_in j used) ≡ true
         go true = refl
@@ -146,7 +176,7 @@ counted_after p (WantFrame d t) a o = refl
 counted_after p (SetModified d t) a o = refl
 counted_after p (SetClean d t) a o = refl
 counted_after p (DropFrame d t) a o = refl
-counted_after p WantSlot (Given k) o = refl
+counted_after p WantSlot (Given k) o = ap (λ (v : List ℕ). record p { used = v }) (zeros_more (length p.used) ∙ ap (λ (n : ℕ). replicate n 0) (sym (one_more k p.used)))
 counted_after p WantSlot Denied o = refl
 counted_after p WantSlot Down o = refl
 counted_after p (FreeSlot k) a o = absurd cc

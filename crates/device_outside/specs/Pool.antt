@@ -1,22 +1,22 @@
 -- The pool of frames and slots that the devices share, and what each call of a device answers and makes of it.
-use Rattle.std.specs.Prelude.{◌≡◌, ℕ, ◌==◌, ◌&&◌, Bool, true, false, List, [], ◌∷◌, ◌++◌, length, Option, Some, None, if◌then◌else◌, nat_lt, slice_index_or, slice_set, is_some, sum, replicate}
+use Rattle.std.specs.Prelude.{◌≡◌, ℕ, ◌==◌, ◌&&◌, Bool, true, false, List, [], ◌∷◌, ◌++◌, length, Option, Some, None, if◌then◌else◌, nat_lt, slice_index_or, slice_set, is_some, sum, replicate, reverse}
+use Rattle.std.specs.Option.{option_map_or}
+use Rattle.std.specs.Map.{lookup, lookup_entry, remove_entry, set_value}
 use Rattle.device_outside.specs.declared.port.SlotGrant.{SlotGrant}
 use Rattle.device_outside.specs.declared.port.SlotGrant.TheVariants.{Given, Denied, Down}
-use Rattle.device_outside.specs.Lists.{is_in, less_one}
+use Rattle.device_outside.specs.Lists.{is_in, with_number, less_one}
 
--- the frame of a track of a device, by its mark
-pub record PoolFrame : Type 0 where
-  pub device : ℕ
-  pub track : ℕ
-  pub modified : Bool
+-- the frame of a track: device and track, and whether it is modified
+abbrev pub Frame : Type 0
+Frame = (ℕ × ℕ) × Bool
 
 pub record Pool : Type 0 where
-  pub frames : List PoolFrame  -- the most recent first
+  pub frames : List Frame  -- the most recent first
   pub room : ℕ  -- how many frames there may be
   pub notes : List (List ℕ)  -- of each device: the tracks whose frames were taken from it, the oldest note first
   pub waiting : List ℕ  -- of each device: how many of its tracks wait for recovery
   pub slots : ℕ  -- how many slots there are
-  pub used : List ℕ  -- the slots in use, the last given first
+  pub used : List ℕ  -- the slots in use, in rising order
   pub cache_up : Bool
   pub store_up : Bool
 
@@ -44,32 +44,31 @@ AnswerTo WantSlot = SlotGrant
 AnswerTo (FreeSlot k) = Unit {0}
 AnswerTo (TellWaiting d n) = Unit {0}
 
-abbrev pub is_of : ℕ → ℕ → PoolFrame → Bool
-is_of d t f = (f.device == d) && (f.track == t)
+-- whether a frame is of this track
+abbrev pub is_of : ℕ → ℕ → ℕ × ℕ → Bool
+is_of d t place = (d == place.0) && (t == place.1)
 
-unfoldable pub is_listed : List PoolFrame → ℕ → ℕ → Bool
-is_listed [] d t = false
-is_listed (f ∷ fs) d t = if is_of d t f then true else is_listed fs d t
+abbrev pub is_listed : List Frame → ℕ → ℕ → Bool
+is_listed fs d t = is_some (lookup (is_of d t) fs)
 
-unfoldable pub is_modified : List PoolFrame → ℕ → ℕ → Bool
-is_modified [] d t = false
-is_modified (f ∷ fs) d t = if is_of d t f then f.modified else is_modified fs d t
+abbrev pub without : List Frame → ℕ → ℕ → List Frame
+without fs d t = remove_entry (is_of d t) fs
 
-unfoldable pub without : List PoolFrame → ℕ → ℕ → List PoolFrame
-without [] d t = []
-without (f ∷ fs) d t = if is_of d t f then fs else f ∷ without fs d t
+abbrev pub marked : List Frame → ℕ → ℕ → Bool → List Frame
+marked fs d t m = set_value (is_of d t) fs m
 
-unfoldable pub marked : List PoolFrame → ℕ → ℕ → Bool → List PoolFrame
-marked [] d t m = []
-marked (f ∷ fs) d t m = if is_of d t f then record f { modified = m } ∷ fs else f ∷ marked fs d t m
+-- it comes first, where it is listed
+abbrev pub in_front : List Frame → ℕ → ℕ → List Frame
+in_front fs d t = option_map_or (λ f. f ∷ without fs d t) (lookup_entry (is_of d t) fs) fs
 
--- the least recent clean frame
-unfoldable pub victim : List PoolFrame → Option PoolFrame
-victim [] = None
-victim (f ∷ fs) = elim (victim fs) [ Some g ↦ Some g | None ↦ if f.modified then None else Some f ]
+-- the first clean frame of a list
+abbrev pub first_clean : List Frame → Option (ℕ × ℕ)
+first_clean [] = None
+first_clean (f ∷ fs) = if f.1 then first_clean fs else Some f.0
 
-abbrev pub frame : ℕ → ℕ → Bool → PoolFrame
-frame d t m = record { device = d; track = t; modified = m }
+-- the least recent clean one
+abbrev pub victim : List Frame → Option (ℕ × ℕ)
+victim fs = first_clean (reverse fs)
 
 abbrev pub has_room : Pool → Bool
 has_room p = nat_lt (length p.frames) p.room
@@ -126,29 +125,23 @@ pub record IsAnswer (p : Pool) (c : Call) (a : AnswerTo c) : Type 0 where
   pub same : unnumbered c a ≡ answer p c
   pub free : IsFree p.used c a
 
-abbrev pub in_front : List PoolFrame → ℕ → ℕ → List PoolFrame
-in_front fs d t = frame d t (is_modified fs d t) ∷ without fs d t
-
-abbrev pub touched : List PoolFrame → ℕ → ℕ → List PoolFrame
-touched fs d t = if is_listed fs d t then in_front fs d t else fs
-
 -- one frame fewer, and a note of its track for its device
-abbrev pub less_frame : List PoolFrame → Option PoolFrame → List PoolFrame
+abbrev pub less_frame : List Frame → Option (ℕ × ℕ) → List Frame
 less_frame fs None = fs
-less_frame fs (Some f) = without fs f.device f.track
+less_frame fs (Some f) = without fs f.0 f.1
 
-abbrev pub noted : List (List ℕ) → Option PoolFrame → List (List ℕ)
+abbrev pub noted : List (List ℕ) → Option (ℕ × ℕ) → List (List ℕ)
 noted notes None = notes
-noted notes (Some f) = slice_set notes f.device (slice_index_or notes f.device [] ++ f.track ∷ [])
+noted notes (Some f) = slice_set notes f.0 (slice_index_or notes f.0 [] ++ f.1 ∷ [])
 
 -- the frame that goes where a track without one gets one
-abbrev pub evicted : Pool → Option PoolFrame
+abbrev pub evicted : Pool → Option (ℕ × ℕ)
 evicted p = if has_room p then None else victim p.frames
 
-abbrev pub frames_wanted : Pool → ℕ → ℕ → List PoolFrame
+abbrev pub frames_wanted : Pool → ℕ → ℕ → List Frame
 frames_wanted p d t =
     if is_listed p.frames d t then in_front p.frames d t
-    else (if grants p then frame d t false ∷ less_frame p.frames (evicted p) else p.frames)
+    else (if grants p then ((d, t), false) ∷ less_frame p.frames (evicted p) else p.frames)
 
 abbrev pub notes_wanted : Pool → ℕ → ℕ → List (List ℕ)
 notes_wanted p d t = if is_listed p.frames d t then p.notes else (if grants p then noted p.notes (evicted p) else p.notes)
@@ -158,14 +151,14 @@ notes_less notes d [] = notes
 notes_less notes d (t ∷ ts) = slice_set notes d ts
 
 abbrev pub used_more : List ℕ → SlotGrant → List ℕ
-used_more used (Given k) = k ∷ used
+used_more used (Given k) = with_number k used
 used_more used Denied = used
 used_more used Down = used
 
 -- the pool behind a call with this answer
 unfoldable pub after : Pool → (c : Call) → AnswerTo c → Pool
 after p (NextNotice d) a = record p { notes = notes_less p.notes d (notes_of p d) }
-after p (Touch d t) a = record p { frames = touched p.frames d t }
+after p (Touch d t) a = record p { frames = in_front p.frames d t }
 after p (WantFrame d t) a = record p { frames = frames_wanted p d t; notes = notes_wanted p d t }
 after p (SetModified d t) a = record p { frames = marked p.frames d t true }
 after p (SetClean d t) a = record p { frames = marked p.frames d t false }

@@ -1,4 +1,4 @@
-ghost use Rattle.std.specs.Prelude.{◌≡◌, ◌≤◌, ◌<◌, ◌+◌, ◌++◌, ◌∷◌, [], IfOk, OnOk, OnErr, length, slice_index_or};
+ghost use Rattle.std.specs.Prelude.{◌≡◌, ◌≤◌, ◌<◌, ◌+◌, ◌*◌, ◌++◌, ◌∷◌, [], IfOk, OnOk, OnErr, length, slice_index_or};
 ghost use Rattle.device_outside.specs.Disk.{new_disk};
 ghost use Rattle.device_outside.specs.Bay.{spoil_all};
 
@@ -26,7 +26,8 @@ pub struct Spoiled {
 /// Spoils the tracks of a volume that are named for its device.
 #[tactic(auto, unfolding(crate::specs::Bay::spoil_all))]
 fn spoil_all(spoiled: &[Spoiled], d: DeviceNo, volume: &mut MemVolume)
-    ensures { volume.new ≡ spoil_all spoiled.now d volume.old }
+    ensures volume { volume.new ≡ spoil_all spoiled.now d volume.old }
+    ensures tracks { length volume.new.tracks ≡ length volume.old.tracks }
 {
     for s in spoiled {
         if s.device == d && usize::from(s.track.get()) < volume.len() {
@@ -100,6 +101,7 @@ impl MemBay {
     ) -> Result<MemVolume, NoMemory>
         requires { cylinders ≤ 64 }
         ensures volume { IfOk result (λ v. v ≡ spoil_all self.old.spoiled d (new_disk cylinders fail_reads.now fail_writes.now)) }
+        ensures tracks { IfOk result (λ v. length v.tracks ≡ cylinders * 15) }
         ensures made { OnOk result (self.new ≡ record self.old { made = self.old.made + 1 }) }
         ensures same { OnErr result (self.new ≡ self.old) }
     {

@@ -1,4 +1,4 @@
-ghost use Rattle.std.specs.Prelude.{◌≡◌, ◌<◌, ◌≤◌, ◌^◌, not, IfOk, IsTrue, is_ok, length};
+ghost use Rattle.std.specs.Prelude.{◌≡◌, ◌<◌, ◌≤◌, ◌*◌, ◌^◌, not, IfOk, IsTrue, is_ok, length};
 ghost use Rattle.ckd_outside.specs.Memory.{to_come};
 ghost use Rattle.device_outside.specs.Lists.{is_in};
 ghost use Rattle.device_outside.specs.Volume.{counted, ReadOf, WriteOf, delivery};
@@ -76,7 +76,8 @@ impl MemVolume {
         fail_writes: &[u32],
     ) -> Result<MemVolume, NoMemory>
         requires { cylinders ≤ 64 }
-        ensures { IfOk result (λ made. made ≡ new_disk cylinders fail_reads.now fail_writes.now) }
+        ensures volume { IfOk result (λ made. made ≡ new_disk cylinders fail_reads.now fail_writes.now) }
+        ensures tracks { IfOk result (λ made. length made.tracks ≡ cylinders * 15) }
     {
         Ok(MemVolume {
             held: Tracks::new(alloc, cylinders)?,

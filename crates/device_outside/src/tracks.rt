@@ -25,7 +25,8 @@ fn empty_bytes(t: TrackNo) -> [u8; 29]
 /// The empty tracks of this many cylinders.
 fn empty_tracks(alloc: Global, cylinders: u8) -> Result<Vec<TrackBuffer>, NoMemory>
     requires { cylinders ≤ 64 }
-    ensures { IfOk result (λ made. made.items ≡ empty_contents (cylinders * 15)) }
+    ensures held { IfOk result (λ made. made.items ≡ empty_contents (cylinders * 15)) }
+    ensures tracks { IfOk result (λ made. length made.items ≡ cylinders * 15) }
 {
     let mut tracks = Vec::new(alloc);
     for n in 0..u16::from(cylinders) * HEADS {
@@ -74,7 +75,8 @@ impl Model for Tracks {
 impl Tracks {
     pub(crate) fn new(alloc: Global, cylinders: u8) -> Result<Tracks, NoMemory>
         requires { cylinders ≤ 64 }
-        ensures { IfOk result (λ made. made ≡ record { tracks = empty_contents (cylinders * 15); delivered = None }) }
+        ensures held { IfOk result (λ made. made ≡ record { tracks = empty_contents (cylinders * 15); delivered = None }) }
+        ensures tracks { IfOk result (λ made. length made.tracks ≡ cylinders * 15) }
     {
         Ok(Tracks {
             tracks: empty_tracks(alloc, cylinders)?,
