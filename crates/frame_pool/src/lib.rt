@@ -5,5 +5,7 @@ mod notes;
 mod place;
 mod pool;
 mod recency;
+#[cfg(test)]
+mod tests;
 
 pub use pool::{Pending, Pool};

@@ -1,5 +1,5 @@
-ghost use Rattle.std.specs.Prelude.{◌≡◌, Some, true, false, IfOk, OnOk, OnErr, ◌∷◌, option_map, slice_get, sum};
-ghost use Rattle.device_outside.specs.Pool.{NextNotice, Touch, WantFrame, SetModified, SetClean, DropFrame, WantSlot, FreeSlot, TellWaiting, in_front, is_listed, has_room, victim, without, noted, new_pool, cache_failed, store_failed, power_lost};
+ghost use Rattle.std.specs.Prelude.{◌≡◌, Some, true, false, IfOk, MatchOption, ◌<◌, OnOk, OnErr, ◌∷◌, option_map, slice_get, sum};
+ghost use Rattle.device_outside.specs.Pool.{NextNotice, Touch, WantFrame, SetModified, SetClean, DropFrame, WantSlot, FreeSlot, TellWaiting, in_front, is_listed, has_room, victim, without, noted, new_pool, cache_failed, store_failed, power_lost, all_waiting};
 ghost use Rattle.device_outside.specs.Volume.{counted};
 ghost use Rattle.frame_pool.specs.Shared.{Shared, shared_view, Repairs};
 
@@ -83,12 +83,19 @@ impl Pool {
         self.slots.is_up()
     }
 
+    /// Power was lost: frames and notes are gone.
+    pub fn power(&mut self)
+        ensures { self.new ≡ record self.old { pool = power_lost self.old.pool } }
+    {
+        self.frames.clear();
+        self.notes.clear();
+    }
+
     /// The cache is lost with its frames.
     pub fn fail_cache(&mut self)
         ensures { self.new ≡ record self.old { pool = cache_failed self.old.pool } }
     {
-        self.frames.clear();
-        self.notes.clear();
+        self.power();
         self.cache_up = false;
     }
 
@@ -98,31 +105,31 @@ impl Pool {
         self.slots.fail();
     }
 
-    /// Power was lost: frames and notes are gone.
-    pub fn power(&mut self)
-        ensures { self.new ≡ record self.old { pool = power_lost self.old.pool } }
+    /// How many tracks wait, where some do.
+    fn pending(&self) -> Option<Pending>
+        ensures { MatchOption result (all_waiting self.now.pool ≡ 0) (λ e. (e.n ≡ all_waiting self.now.pool) × (0 < e.n)) }
     {
-        self.frames.clear();
-        self.notes.clear();
+        let n = sum_of(&self.waiting);
+        if n > 0 { Some(Pending { n }) } else { None }
     }
 
+    /// The cache is up again where no track waits.
     pub fn repair_cache(&mut self) -> Result<(), Pending>
         ensures { Repairs self.old (record self.old { pool = record self.old.pool { cache_up = true } }) result self.new }
     {
-        let n = sum_of(&self.waiting);
-        if n > 0 {
-            return Err(Pending { n });
+        if let Some(pending) = self.pending() {
+            return Err(pending);
         }
         self.cache_up = true;
         Ok(())
     }
 
+    /// The store is up again where no track waits.
     pub fn repair_store(&mut self) -> Result<(), Pending>
         ensures { Repairs self.old (record self.old { pool = record self.old.pool { store_up = true } }) result self.new }
     {
-        let n = sum_of(&self.waiting);
-        if n > 0 {
-            return Err(Pending { n });
+        if let Some(pending) = self.pending() {
+            return Err(pending);
         }
         self.slots.repair();
         Ok(())
