@@ -1,5 +1,5 @@
-ghost use Rattle.std.specs.Prelude.{ℕ, is_ok};
-ghost use Rattle.device_outside.specs.Keeper.{Message, BeforeEdit, Firm, ReplyTo, Heard};
+ghost use Rattle.std.specs.Prelude.{◌≡◌, ℕ, is_ok};
+ghost use Rattle.device_outside.specs.Keeper.{Message, BeforeEdit, Firm, ReplyTo, Heard, reply};
 
 use ckd_types::{DeviceNo, NoMemory, TrackNo};
 
@@ -22,12 +22,12 @@ pub trait Keep<I> {
         ensures { Heard hears takes self.old (Firm d t now.now) tt self.new };
 }
 
-/// A keeper that keeps nothing.
+/// A keeper that keeps nothing, and never lacks memory.
 #[derive(Clone, Copy, Debug)]
 pub struct NoKeep;
 
 impl<I> Keep<I> for NoKeep {
-    ghost hears = { λ _ _ _ _. Unit {0} };
+    ghost hears = { λ _ m r _. r ≡ reply m };
 
     ghost takes = { λ _ _ _ _. Unit {0} };
 
