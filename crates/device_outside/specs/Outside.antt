@@ -4,7 +4,7 @@ use Rattle.ckd_types.specs.declared.paths.Side.{Side}
 use Rattle.ckd_types.specs.declared.paths.Side.TheVariants.{A, B}
 use Rattle.device_outside.specs.declared.port.Grant.{Grant}
 use Rattle.device_outside.specs.declared.port.Grant.TheVariants.{Given, Denied}
-use Rattle.device_outside.specs.Pool.{Pool, Call, NextNotice, Touch, WantFrame, SetModified, SetClean, DropFrame, WantSlot, FreeSlot, TellWaiting, AnswerTo, IsAnswer, after}
+use Rattle.device_outside.specs.Pool.{Pool, Call, WantFrame, AnswerTo, IsAnswer, after}
 use Rattle.device_outside.specs.Volume.{VolumeView, ReadOf, WriteOf, counted_if}
 use Rattle.device_outside.specs.Keeper.{Message, BeforeEdit, Firm, ReplyTo, Hearing}
 use Rattle.device_outside.specs.Interaction.{Interaction, Done, Try, Ask, Read, Write, Tell}
@@ -24,15 +24,8 @@ is_given Denied = false
 
 -- whether a frame was denied
 abbrev pub denies : (c : Call) → AnswerTo c → Bool
-denies (NextNotice d) a = false
-denies (Touch d t) a = false
 denies (WantFrame d t) a = not a
-denies (SetModified d t) a = false
-denies (SetClean d t) a = false
-denies (DropFrame d t) a = false
-denies WantSlot a = false
-denies (FreeSlot k) a = false
-denies (TellWaiting d n) a = false
+denies c a = false
 
 abbrev pub ByPool : Option Pool → (c : Call) → AnswerTo c → Option Pool → Type 0
 ByPool None call a new = new ≡ None

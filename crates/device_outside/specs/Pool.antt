@@ -94,31 +94,13 @@ answer p (TellWaiting d n) = tt
 
 -- an answer without the number of a slot
 abbrev pub unnumbered : (c : Call) → AnswerTo c → AnswerTo c
-unnumbered (NextNotice d) a = a
-unnumbered (Touch d t) a = a
-unnumbered (WantFrame d t) a = a
-unnumbered (SetModified d t) a = a
-unnumbered (SetClean d t) a = a
-unnumbered (DropFrame d t) a = a
 unnumbered WantSlot (Given k) = Given 0
-unnumbered WantSlot Denied = Denied
-unnumbered WantSlot Down = Down
-unnumbered (FreeSlot k) a = a
-unnumbered (TellWaiting d n) a = a
+unnumbered c a = a
 
 -- a slot that is given wasn't in use
 abbrev pub IsFree : List ℕ → (c : Call) → AnswerTo c → Type 0
-IsFree used (NextNotice d) a = Unit {0}
-IsFree used (Touch d t) a = Unit {0}
-IsFree used (WantFrame d t) a = Unit {0}
-IsFree used (SetModified d t) a = Unit {0}
-IsFree used (SetClean d t) a = Unit {0}
-IsFree used (DropFrame d t) a = Unit {0}
 IsFree used WantSlot (Given k) = is_in k used ≡ false
-IsFree used WantSlot Denied = Unit {0}
-IsFree used WantSlot Down = Unit {0}
-IsFree used (FreeSlot k) a = Unit {0}
-IsFree used (TellWaiting d n) a = Unit {0}
+IsFree used c a = Unit {0}
 
 -- which slot is given is the pool's choice among those that are free
 pub record IsAnswer (p : Pool) (c : Call) (a : AnswerTo c) : Type 0 where
@@ -152,8 +134,7 @@ notes_less notes d (t ∷ ts) = slice_set notes d ts
 
 abbrev pub used_more : List ℕ → SlotGrant → List ℕ
 used_more used (Given k) = with_number k used
-used_more used Denied = used
-used_more used Down = used
+used_more used s = used
 
 -- the pool behind a call with this answer
 unfoldable pub after : Pool → (c : Call) → AnswerTo c → Pool

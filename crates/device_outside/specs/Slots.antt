@@ -1,50 +1,29 @@
 -- The slots of one device, where the pool tells which are in use: each that it has is in use, and none is another device's too.
 use Rattle.std.specs.Prelude.{◌≡◌, ℕ, Bool, true, false, List, ◌∷◌, Option, Some, None}
 use Rattle.device_outside.specs.declared.port.SlotGrant.{SlotGrant}
-use Rattle.device_outside.specs.declared.port.SlotGrant.TheVariants.{Given, Denied, Down}
+use Rattle.device_outside.specs.declared.port.SlotGrant.TheVariants.{Given}
 use Rattle.device_outside.specs.Lists.{is_in, less_all}
-use Rattle.device_outside.specs.Pool.{Pool, Call, NextNotice, Touch, WantFrame, SetModified, SetClean, DropFrame, WantSlot, FreeSlot, TellWaiting, AnswerTo, IsFree}
+use Rattle.device_outside.specs.Pool.{Pool, Call, WantSlot, FreeSlot, AnswerTo, IsFree}
 
 -- a device gives back only a slot that it has
 abbrev pub Owns : List ℕ → Call → Type 0
-Owns mine (NextNotice d) = Unit {0}
-Owns mine (Touch d t) = Unit {0}
-Owns mine (WantFrame d t) = Unit {0}
-Owns mine (SetModified d t) = Unit {0}
-Owns mine (SetClean d t) = Unit {0}
-Owns mine (DropFrame d t) = Unit {0}
-Owns mine WantSlot = Unit {0}
 Owns mine (FreeSlot k) = is_in k mine ≡ true
-Owns mine (TellWaiting d n) = Unit {0}
+Owns mine c = Unit {0}
 
 -- whether it is the call that gives back a slot
 abbrev pub gives_back : Call → Bool
-gives_back (NextNotice d) = false
-gives_back (Touch d t) = false
-gives_back (WantFrame d t) = false
-gives_back (SetModified d t) = false
-gives_back (SetClean d t) = false
-gives_back (DropFrame d t) = false
-gives_back WantSlot = false
 gives_back (FreeSlot k) = true
-gives_back (TellWaiting d n) = false
+gives_back c = false
 
 abbrev pub more_slots : List ℕ → SlotGrant → List ℕ
 more_slots mine (Given k) = k ∷ mine
-more_slots mine Denied = mine
-more_slots mine Down = mine
+more_slots mine s = mine
 
 -- the slots that it has behind a call with this answer
 abbrev pub slots_after : List ℕ → (c : Call) → AnswerTo c → List ℕ
-slots_after mine (NextNotice d) a = mine
-slots_after mine (Touch d t) a = mine
-slots_after mine (WantFrame d t) a = mine
-slots_after mine (SetModified d t) a = mine
-slots_after mine (SetClean d t) a = mine
-slots_after mine (DropFrame d t) a = mine
 slots_after mine WantSlot a = more_slots mine a
 slots_after mine (FreeSlot k) a = less_all k mine
-slots_after mine (TellWaiting d n) a = mine
+slots_after mine c a = mine
 
 -- where the port doesn't tell its pool, nothing is said of slots
 abbrev pub MayAsk : Option (List ℕ) → Call → Type 0
