@@ -1,0 +1,13 @@
+pub mod Lists
+pub mod Pool
+pub mod Slots
+pub mod Volume
+pub mod Disk
+pub mod Last
+pub mod Bay
+pub mod Keeper
+pub mod Interaction
+pub mod Outside
+pub mod Told
+pub mod After
+pub mod Both

@@ -1,0 +1,155 @@
+ghost use Rattle.std.specs.Prelude.{◌≡◌, ◌<◌, ◌≤◌, ◌*◌, ◌^◌, not, IfOk, IsTrue, is_ok, length};
+ghost use Rattle.ckd_outside.specs.Memory.{to_come};
+ghost use Rattle.device_outside.specs.Lists.{is_in};
+ghost use Rattle.device_outside.specs.Volume.{counted, ReadOf, WriteOf, delivery};
+ghost use Rattle.device_outside.specs.Disk.{new_disk, disk_view, read_of_disk, written_disk, spoiled_disk, read_fails, write_fails};
+
+use crate::tracks::Tracks;
+use crate::{TrackBuffer, Volume};
+use ckd_outside::Failed;
+use ckd_types::{NoMemory, TrackNo};
+use std::alloc::Global;
+use std::marker::Model;
+
+/// One more, or the greatest number.
+#[tactic(auto, unfolding(crate::specs::Volume::counted))]
+pub(crate) fn one_more(n: u64) -> u64
+    ensures value { result ≡ counted n }
+    ensures later { n ≤ result }
+    ensures more { result < 2 ^ 32 → n < result }
+{
+    n.saturating_add(1)
+}
+
+/// Whether a call's number is listed.
+#[tactic(auto, unfolding(crate::specs::Lists::is_in))]
+fn is_listed(call: u64, numbers: &[u32]) -> bool
+    ensures listed { result ≡ is_in call numbers.now }
+    ensures small { IsTrue result → call < 2 ^ 32 }
+{
+    for n in numbers {
+        if call == u64::from(*n) {
+            return true;
+        }
+    }
+    false
+}
+
+/// Counts a call, and answers whether it fails.
+fn count_call(calls: &mut u64, numbers: &[u32]) -> bool
+    ensures count { calls.new ≡ counted calls.old }
+    ensures listed { result ≡ is_in calls.new numbers.now }
+    ensures kept { to_come calls.new numbers.now ≤ to_come calls.old numbers.now }
+    ensures lowered { IsTrue result → to_come calls.new numbers.now < to_come calls.old numbers.now }
+{
+    *calls = one_more(*calls);
+    is_listed(*calls, numbers)
+}
+
+/// A volume in memory, of which the calls with listed numbers fail.
+#[derive(Drop)]
+pub struct MemVolume {
+    held: Tracks,
+    reads: u64,
+    writes: u64,
+    faults: u64,
+    fail_reads: Vec<u32>,
+    fail_writes: Vec<u32>,
+    spoiled: bool,
+}
+
+impl Model for MemVolume {
+    ghost use Rattle.device_outside.specs.Disk.{Disk};
+
+    ghost Value = { Disk };
+
+    ghost view = { λ v. record { tracks = v.held.tracks; delivered = v.held.delivered; reads = v.reads; writes = v.writes; faults = v.faults; plan = record { reads = v.fail_reads.items; writes = v.fail_writes.items }; spoiled = v.spoiled } };
+}
+
+impl MemVolume {
+    /// Empty tracks. Reads and writes are numbered from 1. Room for 65,536 bytes of each track is taken
+    /// here.
+    pub fn new(
+        alloc: Global,
+        cylinders: u8,
+        fail_reads: &[u32],
+        fail_writes: &[u32],
+    ) -> Result<MemVolume, NoMemory>
+        requires { cylinders ≤ 64 }
+        ensures volume { IfOk result (λ made. made ≡ new_disk cylinders fail_reads.now fail_writes.now) }
+        ensures tracks { IfOk result (λ made. length made.tracks ≡ cylinders * 15) }
+    {
+        Ok(MemVolume {
+            held: Tracks::new(alloc, cylinders)?,
+            reads: 0,
+            writes: 0,
+            faults: 0,
+            fail_reads: fail_reads.to_vec(alloc)?,
+            fail_writes: fail_writes.to_vec(alloc)?,
+            spoiled: false,
+        })
+    }
+
+    pub fn reads(&self) -> u64
+        ensures { result ≡ self.now.reads }
+    {
+        self.reads
+    }
+
+    pub fn writes(&self) -> u64
+        ensures { result ≡ self.now.writes }
+    {
+        self.writes
+    }
+
+    pub fn len(&self) -> usize
+        ensures { result ≡ length self.now.tracks }
+    {
+        self.held.len()
+    }
+
+    /// Spoils a track: from here on the volume doesn't tell what it holds.
+    pub fn spoil(&mut self, t: TrackNo, bytes: &[u8])
+        requires track { t < length self.old.tracks }
+        requires most { length bytes.now ≤ 65536 }
+        ensures { self.new ≡ spoiled_disk self.old t bytes.now }
+    {
+        self.held.put(t, bytes);
+        self.spoiled = true;
+    }
+}
+
+impl Volume for MemVolume {
+    ghost view = { disk_view };
+
+    fn read_track(&mut self, t: TrackNo, into: &mut TrackBuffer) -> Result<(), Failed>
+        requires { t < length self.old.tracks }
+        ensures disk { self.new ≡ read_of_disk self.old t }
+        ensures fails { is_ok result ≡ not (read_fails self.old) }
+        ensures gives { ReadOf (disk_view self.old) t (delivery result into.new) (disk_view self.new) }
+    {
+        if count_call(&mut self.reads, &self.fail_reads) {
+            self.faults = one_more(self.faults);
+            return Err(Failed);
+        }
+        self.held.deliver(t, into);
+        Ok(())
+    }
+
+    /// A write that fails leaves no bytes on its track.
+    fn write_track(&mut self, t: TrackNo, bytes: &[u8]) -> Result<(), Failed>
+        requires track { t < length self.old.tracks }
+        requires most { length bytes.now ≤ 65536 }
+        ensures disk { self.new ≡ written_disk self.old t bytes.now }
+        ensures fails { is_ok result ≡ not (write_fails self.old) }
+        ensures takes { WriteOf (disk_view self.old) t bytes.now (is_ok result) (disk_view self.new) }
+    {
+        if count_call(&mut self.writes, &self.fail_writes) {
+            self.faults = one_more(self.faults);
+            self.held.put(t, &[]);
+            return Err(Failed);
+        }
+        self.held.put(t, bytes);
+        Ok(())
+    }
+}

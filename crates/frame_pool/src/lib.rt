@@ -1,0 +1,11 @@
+//! The pool of frames and slots that all devices share.
+#![tactic(auto)]
+
+mod notes;
+mod place;
+mod pool;
+mod recency;
+#[cfg(test)]
+mod tests;
+
+pub use pool::{Pending, Pool};

@@ -1,0 +1,8 @@
+//! The slots of the nonvolatile store, one for each patch that a device keeps.
+#![tactic(auto)]
+
+mod slots;
+#[cfg(test)]
+mod tests;
+
+pub use slots::Slots;
