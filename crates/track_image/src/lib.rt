@@ -6,7 +6,9 @@ mod count;
 mod fault;
 mod image;
 mod laws;
+mod packed;
 mod reading;
+mod tape;
 mod view;
 mod writing;
 
