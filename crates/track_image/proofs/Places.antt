@@ -274,12 +274,12 @@ pub counts : (home : Cchh) (bytes places : List ℕ) (rs : List Record) → IsPa
 counts home bytes places rs p =
     let long : length places ≡ length rs = ap length p.places_are ∙ length-places 5 rs in
     same_lists _ _ (length-map places (counts_in bytes) ∙ long ∙ sym (length-map rs counted)) (λ k d h.
-        let there : k < length rs = omega (arith, long, h, length-map places (counts_in bytes)) in
-        let r = get_or rs k (record_from bytes) in
-        let s = stands home bytes places rs k 0 (record_from bytes) p there in
-        get_or-map (counts_in bytes) places k 0 d (omega (arith, long))
-        ∙ count_stands bytes (get_or places k 0) r (before home rs k) (behind rs k) s (p.lengths k (record_from bytes) there) (p.addressed k (record_from bytes) there)
-        ∙ sym (get_or-map counted rs k (record_from bytes) d there))
+    let there : k < length rs = omega (arith, long, h, length-map places (counts_in bytes)) in
+    let r = get_or rs k (record_from bytes) in
+    let s = stands home bytes places rs k 0 (record_from bytes) p there in
+    get_or-map (counts_in bytes) places k 0 d (omega (arith, long))
+    ∙ count_stands bytes (get_or places k 0) r (before home rs k) (behind rs k) s (p.lengths k (record_from bytes) there) (p.addressed k (record_from bytes) there)
+    ∙ sym (get_or-map counted rs k (record_from bytes) d there))
 
 -- the second write goes behind the first
 pub written_twice : (at : ℕ) (key body bytes : List ℕ) → at + (length key + length body) ≤ length bytes

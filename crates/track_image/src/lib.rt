@@ -1,7 +1,6 @@
 //! Tracks of count-key-data volumes in memory, and their bytes.
 #![tactic(auto)]
 
-mod costs;
 mod count;
 mod fault;
 mod image;
@@ -10,7 +9,6 @@ mod packed;
 mod reading;
 mod tape;
 mod view;
-mod writing;
 
 pub use fault::{AddFault, BytesFault};
 pub use image::TrackImage;

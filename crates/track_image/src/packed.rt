@@ -10,8 +10,8 @@ ghost use Rattle.track_image.specs.Reading.{count_at, size_of};
 
 use crate::RecordRef;
 use crate::count::{AREA, count_at, home_area, id_at};
-use crate::tape::{MOST, end_with, make_room, write_areas};
-use ckd_types::{Cchh, Geometry, NoMemory, RecId, Record, cost};
+use crate::tape::{MOST, end_with, make_room, rest_of, write_areas};
+use ckd_types::{Cchh, Geometry, NoMemory, RecId, cost};
 use std::alloc::Global;
 use std::marker::Model;
 
@@ -40,15 +40,6 @@ impl Model for Packed {
     ghost view = { λ p. record { home = p.home; records = unpacked p.bytes.items p.places.items } };
 
     ghost invariant = { λ p. IsPacked p.home p.bytes.items p.places.items (unpacked p.bytes.items p.places.items) × HasRoom p.places.items (vec_capacity p.bytes) };
-}
-
-/// The bytes from a place on.
-fn rest_of(bytes: &[u8], at: usize) -> &[u8]
-    requires { at ≤ length bytes.now }
-    ensures { result.now ≡ drop at bytes.now }
-{
-    let (_, rest) = bytes.split_at(at);
-    rest
 }
 
 /// The record at the front of bytes.
@@ -125,7 +116,7 @@ impl Packed {
     }
 
     /// Record 0 alone.
-    pub fn one(alloc: Global, home: Cchh, zero: &Record) -> Result<Packed, NoMemory>
+    pub fn one(alloc: Global, home: Cchh, zero: &RecordRef<'_>) -> Result<Packed, NoMemory>
         requires addressed { IsAddressed zero.now }
         requires key { length zero.now.key ≡ 0 }
         requires body { length zero.now.body ≡ 8 }
@@ -221,7 +212,7 @@ impl Packed {
 
     /// Puts a record behind record `after`, in place of all that stood there. Takes memory only behind
     /// the last record.
-    pub fn cut_and_add(&mut self, after: usize, added: &Record) -> Result<(), NoMemory>
+    pub fn cut_and_add(&mut self, after: usize, added: &RecordRef<'_>) -> Result<(), NoMemory>
         requires place { after < length self.old.records }
         requires lengths { IsRecord added.now }
         requires addressed { IsAddressed added.now }
@@ -238,7 +229,7 @@ impl Packed {
     }
 
     /// Makes a record the only one. Takes no memory.
-    pub fn set_zero(&mut self, zero: &Record)
+    pub fn set_zero(&mut self, zero: &RecordRef<'_>)
         requires addressed { IsAddressed zero.now }
         requires key { length zero.now.key ≡ 0 }
         requires body { length zero.now.body ≡ 8 }

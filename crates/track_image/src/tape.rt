@@ -1,16 +1,26 @@
 ghost use Rattle.std.specs.Prelude.{◌≡◌, ◌≤◌, ◌<◌, ◌+◌, ◌++◌, OnOk, OnErr, length, take, drop, vec_capacity};
-ghost use Rattle.ckd_types.specs.Track.{IsRecord, record_bytes, end_mark};
+ghost use Rattle.ckd_types.specs.Track.{record_bytes, end_mark};
 ghost use Rattle.track_image.specs.Packed.{most_bytes};
 ghost use Rattle.track_image.specs.Reading.{size_of};
 
-use crate::count::{AREA, count_area};
-use ckd_types::{NoMemory, Record};
+use crate::RecordRef;
+use crate::count::AREA;
+use ckd_types::NoMemory;
 
 /// The end mark of a track.
 const END_MARK: [u8; AREA] = [0xff; AREA];
 
 /// The most bytes of a track: its home address, record 0, 34 for each unit of a 3390, and the end mark.
 pub(crate) const MOST: usize = 58_815;
+
+/// The bytes from a place on.
+pub(crate) fn rest_of(bytes: &[u8], at: usize) -> &[u8]
+    requires { at ≤ length bytes.now }
+    ensures { result.now ≡ drop at bytes.now }
+{
+    let (_, rest) = bytes.split_at(at);
+    rest
+}
 
 /// Makes room for a whole track.
 pub(crate) fn make_room(bytes: &mut Vec<u8>) -> Result<(), NoMemory>
@@ -37,19 +47,16 @@ fn append(bytes: &mut Vec<u8>, more: &[u8])
 }
 
 /// Ends a track at `end` with one more record, in room that was made.
-pub(crate) fn end_with(bytes: &mut Vec<u8>, end: usize, added: &Record)
-    requires lengths { IsRecord added.now }
+pub(crate) fn end_with(bytes: &mut Vec<u8>, end: usize, added: &RecordRef<'_>)
     requires place { end ≤ length bytes.old.items }
     requires room { end + size_of added.now + 8 ≤ vec_capacity bytes.old }
     ensures items { bytes.new.items ≡ take end bytes.old.items ++ (record_bytes added.now ++ end_mark) }
     ensures room { vec_capacity bytes.old ≤ vec_capacity bytes.new }
 {
-    let key = added.key.as_slice();
-    let body = added.body.as_slice();
     bytes.truncate(end);
-    append(bytes, &count_area(added.id, key, body));
-    append(bytes, key);
-    append(bytes, body);
+    append(bytes, &added.count_area());
+    append(bytes, added.key());
+    append(bytes, added.body());
     append(bytes, &END_MARK);
 }
 
