@@ -57,6 +57,7 @@ behind_at home bytes places rs i n p is =
 pub record Whole (bytes : List ℕ) (n : ℕ) (r : Record) : Type 0 where
   pub within : n + size_of r + 8 ≤ length bytes
   pub count : count_at (drop n bytes) ≡ counted r
+  pub front : take (size_of r) (drop n bytes) ≡ record_bytes r
 
 pub whole_at : (home : Cchh) (bytes places : List ℕ) (rs : List Record) (i n : ℕ) (d : Record) → IsPacked home bytes places rs → i < length rs → n ≡ get_or places i n → Whole bytes n (get_or rs i d)
 whole_at home bytes places rs i n d p there is =
@@ -65,6 +66,7 @@ whole_at home bytes places rs i n d p there is =
     record {
       within = s.within;
       count = count_stands bytes n r (before home rs i) (behind rs i) s (p.lengths i d there) (p.addressed i d there);
+      front = ap (take (size_of r)) (ap (drop n) s.whole ∙ drop_at (before home rs i) (record_bytes r ++ behind rs i) n s.here) ∙ take_at (record_bytes r) (behind rs i) (size_of r) (length-record_bytes r);
     }
 
 -- the record that is read at a place

@@ -6,7 +6,7 @@ ghost use Rattle.ckd_types.specs.declared.record.Edit.TheVariants as edits;
 ghost use Rattle.track_image.specs.Image.{IsImage, record_in, edited_image, is_room_behind};
 ghost use Rattle.track_image.specs.Packed.{most_bytes};
 
-use crate::count::{AREA, home_area};
+use crate::count::home_area;
 use crate::packed::Packed;
 use crate::{AddFault, RecordRef};
 use ckd_types::{Bytes, Cchh, Geometry, NoMemory, RecId, Record, TrackNo, capacity, cchh_of, cost};
@@ -119,6 +119,22 @@ impl TrackImage {
         self.packed.bytes_behind(i)
     }
 
+    /// The bytes of record `i`. Takes no memory.
+    pub fn bytes_of(&self, i: usize) -> &[u8]
+        requires { i < length self.now.track.records }
+        ensures { result.now ≡ record_bytes (record_in self.now i) }
+    {
+        self.packed.bytes_of(i)
+    }
+
+    /// The bytes of record `i` and those behind it. Takes no memory.
+    pub fn bytes_of_rest(&self, i: usize) -> &[u8]
+        requires { i ≤ length self.now.track.records }
+        ensures { result.now ≡ flat_map record_bytes (drop i self.now.track.records) }
+    {
+        self.packed.bytes_of_rest(i)
+    }
+
     /// The index of the first record with an id.
     pub fn find(&self, id: RecId) -> Option<usize>
         ensures found { result ≡ find_id id self.now.track.records }
@@ -140,7 +156,7 @@ impl TrackImage {
         ensures value { result ≡ length (flat_map record_bytes (drop i self.now.track.records)) }
         ensures bound { result < 2 ^ 32 }
     {
-        self.packed.bytes_behind(i).len() - AREA
+        self.packed.bytes_of_rest(i).len()
     }
 
     /// Whether a record with a key and data of these lengths fits behind record `after`.

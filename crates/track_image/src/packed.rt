@@ -55,6 +55,17 @@ fn record_of(bytes: &[u8]) -> RecordRef<'_>
     RecordRef::new(count.id, key, body)
 }
 
+/// The bytes of the record at the front of bytes.
+fn whole_of(bytes: &[u8]) -> &[u8]
+    requires { 8 + ((count_at bytes.now).key + (count_at bytes.now).body) ≤ length bytes.now }
+    ensures { result.now ≡ take (8 + ((count_at bytes.now).key + (count_at bytes.now).body)) bytes.now }
+{
+    let count = count_at(bytes);
+    let size = AREA + (usize::from(count.key) + usize::from(count.body));
+    let (whole, _) = bytes.split_at(size);
+    whole
+}
+
 /// The index of the first of some places where a record with an id begins.
 fn find_at(bytes: &[u8], places: &[u16], id: RecId) -> Option<usize>
     requires { All (λ place. place + 8 ≤ length bytes.now) places.now }
@@ -173,6 +184,25 @@ impl Packed {
         ensures most { length result.now ≤ most_bytes }
     {
         rest_of(&self.bytes, self.place_of(i))
+    }
+
+    /// The bytes of record `i`.
+    pub fn bytes_of(&self, i: usize) -> &[u8]
+        requires { i < length self.now.records }
+        ensures { result.now ≡ record_bytes (slice_index_or self.now.records i (empty_zero 0)) }
+    {
+        whole_of(rest_of(&self.bytes, usize::from(self.places[i])))
+    }
+
+    /// The bytes of record `i` and those behind it.
+    pub fn bytes_of_rest(&self, i: usize) -> &[u8]
+        requires { i ≤ length self.now.records }
+        ensures value { result.now ≡ flat_map record_bytes (drop i self.now.records) }
+        ensures most { length result.now ≤ most_bytes }
+    {
+        let behind = self.bytes_behind(i);
+        let (records, _) = behind.split_at(behind.len() - AREA);
+        records
     }
 
     /// The index of the first record with an id.
