@@ -1,6 +1,4 @@
-ghost use Rattle.std.specs.Prelude.{◌≡◌, ◌<◌, ◌≤◌, IfOk, OnOk, length, drop};
-ghost use Rattle.std.specs.List.{flat_map};
-ghost use Rattle.ckd_types.specs.Track.{record_bytes};
+ghost use Rattle.std.specs.Prelude.{◌≡◌, ◌<◌, IfOk, OnOk, length};
 ghost use Rattle.plain_defs.specs.Outcome.{sent_of};
 ghost use Rattle.plain_defs.specs.Reads.{read_area};
 ghost use Rattle.ckd_read.specs.Sending.{Takes};
@@ -8,16 +6,13 @@ ghost use Rattle.ckd_read.specs.Sending.{Takes};
 use crate::sending::Sending;
 use ckd_types::{Bytes, Ccw, Command, NoMemory};
 use std::alloc::Global;
-use track_image::{RecordRef, TrackImage};
+use track_image::TrackImage;
 
 /// Bytes of a home address.
 const HOME: usize = 5;
 
 /// Bytes of a count area.
 const COUNT: usize = 8;
-
-/// What a read track sends behind the last record.
-const END_MARK: [u8; 8] = [0xff; 8];
 
 /// How many bytes the area has that a read of record `i`, or from it on, reads.
 pub fn area_len(image: &TrackImage, command: Command, i: usize) -> usize
@@ -33,29 +28,9 @@ pub fn area_len(image: &TrackImage, command: Command, i: usize) -> usize
         Command::ReadKeyData => read.key().len() + read.body().len(),
         Command::ReadCountKeyData => read.size(),
         Command::ReadMultiple => image.bytes_from(i),
-        Command::ReadTrack => image.bytes_from(0) + END_MARK.len(),
+        Command::ReadTrack => image.bytes_behind(0).len(),
         _ => 0,
     }
-}
-
-fn put_record(sending: &mut Sending, read: &RecordRef<'_>) -> Result<(), NoMemory>
-    ensures { OnOk result (Takes sending.old sending.new (record_bytes read.now)) }
-{
-    sending.put(&read.count_area())?;
-    sending.put(read.key())?;
-    sending.put(read.body())?;
-    Ok(())
-}
-
-/// Sends record `i` and those behind it.
-fn put_records(sending: &mut Sending, image: &TrackImage, i: usize) -> Result<(), NoMemory>
-    requires { i ≤ length image.now.track.records }
-    ensures { OnOk result (Takes sending.old sending.new (flat_map record_bytes (drop i image.now.track.records))) }
-{
-    for k in i..image.len() {
-        put_record(sending, &image.record_at(k))?;
-    }
-    Ok(())
 }
 
 fn put_area(
@@ -80,12 +55,9 @@ fn put_area(
             sending.put(read.key())?;
             sending.put(read.body())?;
         }
-        Command::ReadCountKeyData => put_record(sending, &read)?,
-        Command::ReadMultiple => put_records(sending, image, i)?,
-        Command::ReadTrack => {
-            put_records(sending, image, 0)?;
-            sending.put(&END_MARK)?;
-        }
+        Command::ReadCountKeyData => sending.put(image.bytes_of(i))?,
+        Command::ReadMultiple => sending.put(image.bytes_of_rest(i))?,
+        Command::ReadTrack => sending.put(image.bytes_behind(0))?,
         _ => {}
     }
     Ok(())

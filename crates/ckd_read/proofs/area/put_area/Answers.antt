@@ -12,6 +12,3 @@ returns-in_ok-put-in-ReadKeyData-2 c =
     let key = rw (c.key.ensures, c.record_at-read.ensures) at c.in_ok-put-in-ReadKeyData.ensures in
     let body = rw (c.body-in-ReadKeyData.ensures, c.record_at-read.ensures) at c.in_ok-put-in-ReadKeyData-2.ensures in
     rw c.in-ReadKeyData.is (takes_both _ _ _ _ _ key body)
-
-pub returns-in_ok-put-in-ReadTrack : goal.returns-in_ok-put-in-ReadTrack
-returns-in_ok-put-in-ReadTrack c = rw c.in-ReadTrack.is (takes_both _ _ _ _ _ c.in_ok-put_records-in-ReadTrack.ensures c.in_ok-put-in-ReadTrack.ensures)
