@@ -107,7 +107,10 @@ impl TrackImage {
     pub fn to_bytes(&self, alloc: Global) -> Result<Bytes, NoMemory>
         ensures { IfOk result (λ made. made ≡ track_bytes self.now.track) }
     {
-        Bytes::from_slice(alloc, self.packed.bytes())
+        let bytes = self.packed.bytes();
+        let mut out = Vec::with_capacity(alloc, bytes.len())?;
+        out.extend_from_slice(bytes)?;
+        Ok(Bytes::from_vec(out))
     }
 
     /// The bytes of record `i` and those behind it, and the end mark. Takes no memory.

@@ -118,11 +118,12 @@ impl Packed {
         let room = if places.len() == 1 { LEAST } else { MOST };
         let mut own = Vec::with_capacity(alloc, room)?;
         own.extend_from_slice(bytes)?;
-        let places = Vec::from_slice(alloc, places)?;
+        let mut own_places = Vec::with_capacity(alloc, places.len())?;
+        own_places.extend_from_slice(places)?;
         Ok(Packed {
             home,
             bytes: own,
-            places,
+            places: own_places,
         })
     }
 
