@@ -1,14 +1,14 @@
 -- Reading records one after the other, as a loop does.
-use Rattle.std.proofs.Common.{◌≡◌, ℕ, suc, ◌+◌, ◌-◌, ◌*◌, ◌^◌, ◌<◌, ◌≤◌, List, [], ◌∷◌, ◌++◌, length, get_or, take, drop, map, All, Some, None, Result, Ok, Err, refl, sym, ap, subst, ◌∙◌, append_assoc, arith}
-use Rattle.std.proofs.lemmas.List.{append-nil, drop-drop, length-take, length-drop, length-map, length-append, length_push, map_push, nil_from_length}
+use Rattle.std.proofs.Common.{◌≡◌, ℕ, suc, ◌+◌, ◌-◌, ◌*◌, ◌<◌, ◌≤◌, List, [], ◌∷◌, ◌++◌, length, drop, All, Some, None, Result, Ok, Err, refl, sym, ap, subst, ◌∙◌, append_assoc, arith}
+use Rattle.std.proofs.lemmas.List.{append-nil, drop-drop, length-take, length-drop, length-append, length_push, map_push, nil_from_length}
 use Rattle.std.proofs.lemmas.List.Concat.{flat_map-append}
 use Rattle.std.proofs.lemmas.List.Elements.{All-push, All-cons, All-nil}
 use Rattle.ckd_types.specs.declared.geometry.Geometry.{Geometry}
 use Rattle.ckd_types.specs.declared.record.Record.{Record}
 use Rattle.ckd_types.specs.Geometry.{cost, capacity}
-use Rattle.ckd_types.specs.Track.{IsRecord, HasZero, cost_of, record_bytes, end_mark}
+use Rattle.ckd_types.specs.Track.{IsRecord, HasZero, cost_of, record_bytes}
 use Rattle.track_image.specs.declared.count.Count.{Count}
-use Rattle.track_image.specs.Packed.{most_bytes, record_from, unpacked, places_from, IsFound}
+use Rattle.track_image.specs.Packed.{record_from, unpacked, places_from, IsFound}
 use Rattle.track_image.specs.Reading.{◌>>=◌, map_ok, count_at, next_at, size_of, records_at, IsNext}
 use Rattle.track_image.proofs.Fields.{IsBytes, IsBytes-drop, length-record_bytes, next_ends}
 use Rattle.track_image.proofs.Places.{all_bytes, places_push}

@@ -1,8 +1,8 @@
 -- What a packed track's calls need: facts of its places, and that an edit leaves it packed.
-use Rattle.std.proofs.Common.{◌≡◌, ℕ, ◌+◌, ◌-◌, ◌*◌, ◌≤◌, ◌<◌, Bool, true, false, cond, not, List, [], ◌∷◌, ◌++◌, length, get_or, set, take, drop, map, position, sum_by, All, Some, None, refl, sym, ap, subst, ◌∙◌, append_assoc, arith}
-use Rattle.std.specs.List.{flat_map, position_or_len}
+use Rattle.std.proofs.Common.{◌≡◌, ℕ, ◌+◌, ◌-◌, ◌≤◌, ◌<◌, Bool, true, false, cond, not, List, [], ◌∷◌, ◌++◌, length, get_or, take, drop, map, position, sum_by, All, Some, None, refl, sym, ap, subst, ◌∙◌, append_assoc, arith}
+use Rattle.std.specs.List.{position_or_len}
 use Rattle.std.proofs.lemmas.Bool.{lt-ltb, le-ltb}
-use Rattle.std.proofs.lemmas.List.{length-append, length-map, length-take, take_at, take_all, drop_at, take-append-drop, take-map, drop-map, drop-take, get_or-map}
+use Rattle.std.proofs.lemmas.List.{length-append, length-map, take_at, drop_at, take-append-drop, take-map, drop-map, drop-take, get_or-map}
 use Rattle.std.proofs.lemmas.List.Concat.{flat_map-append}
 use Rattle.std.proofs.lemmas.List.Folds.{fold-map}
 use Rattle.std.proofs.lemmas.List.Sums.{position_or_len_is}
@@ -12,13 +12,12 @@ use Rattle.ckd_types.specs.declared.record.RecId.{RecId}
 use Rattle.ckd_types.specs.declared.record.Record.{Record}
 use Rattle.ckd_types.specs.declared.record.Track.{Track}
 use Rattle.ckd_types.specs.Geometry.{cost}
-use Rattle.ckd_types.specs.Track.{IsRecord, is_same_id, cost_of, find_id, home_bytes, record_bytes, end_mark, track_bytes}
+use Rattle.ckd_types.specs.Track.{is_same_id, cost_of, find_id, home_bytes, record_bytes, end_mark}
 use Rattle.track_image.specs.declared.count.Count.{Count}
-use Rattle.track_image.specs.Image.{IsAddressed}
-use Rattle.track_image.specs.Packed.{most_bytes, record_from, unpacked, places_from, IsPacked}
+use Rattle.track_image.specs.Packed.{record_from, unpacked, IsPacked}
 use Rattle.track_image.specs.Reading.{count_at, size_of}
 use Rattle.track_image.proofs.Fields.{length-record_bytes}
-use Rattle.track_image.proofs.Places.{all_bytes, place_at, length-places, Stands, before, behind, stands, count_stands, counted, counts_in, counts, unpacked_is, repacked}
+use Rattle.track_image.proofs.Places.{all_bytes, place_at, length-places, Stands, before, behind, stands, count_stands, counted, counts_in, counts}
 
 -- the invariant, of the track that is seen
 pub given : (home : Cchh) (bytes places : List ℕ) (t : Track) → ◌≡◌ {A = Track} (record { home = home; records = unpacked bytes places }) t → IsPacked home bytes places (unpacked bytes places) → IsPacked home bytes places t.records

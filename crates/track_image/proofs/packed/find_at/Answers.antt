@@ -1,4 +1,4 @@
-use Rattle.std.proofs.Common.{ℕ, ◌≡◌, ◌<◌, List, true, length, get_or, drop, sym, ap, ◌∙◌, arith}
+use Rattle.std.proofs.Common.{ℕ, ◌≡◌, List, true, get_or, drop, sym, ap, ◌∙◌, arith}
 use Rattle.ckd_types.specs.declared.record.RecId.{RecId}
 use Rattle.ckd_types.specs.Track.{is_same_id}
 use Rattle.track_image.specs.Reading.{count_at}

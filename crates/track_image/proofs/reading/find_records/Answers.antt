@@ -1,10 +1,10 @@
-use Rattle.std.proofs.Common.{◌≡◌, ◌≤◌, ◌<◌, ◌+◌, ◌∷◌, [], ◌++◌, List, ℕ, Some, None, Ok, Err, length, set, take, drop, option_map, sym, ap, subst, ◌∙◌, arith}
+use Rattle.std.proofs.Common.{◌≡◌, ◌+◌, ◌∷◌, List, ℕ, Some, Ok, length, take, drop, option_map, sym, ap, subst, ◌∙◌, arith}
 use Rattle.std.proofs.lemmas.List.{take_more_set, length-set, length-take}
 use Rattle.std.proofs.lemmas.Result.{err_from_is_err_and}
 use Rattle.ckd_types.specs.declared.record.Record.{Record}
 use Rattle.ckd_types.specs.Geometry.{cost}
 use Rattle.track_image.specs.Packed.{record_from, unpacked}
-use Rattle.track_image.specs.Reading.{map_ok, next_at, records_at, IsNext}
+use Rattle.track_image.specs.Reading.{map_ok, next_at, records_at}
 use Rattle.track_image.proofs.Fields.{IsBytes}
 use Rattle.track_image.proofs.Loop.{ReadSo, starts_so, reads_on, read_fails, read_done, found_all}
 use Rattle.track_image.proofs.Sizes.{within}

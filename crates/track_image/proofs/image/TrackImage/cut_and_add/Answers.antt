@@ -1,7 +1,7 @@
-use Rattle.std.proofs.Common.{◌≡◌, ◌≤◌, ◌+◌, ℕ, length, take, sym, ap, subst, ◌∙◌, refl, arith, rules}
+use Rattle.std.proofs.Common.{◌≡◌, ◌+◌, length, take, sym, ap, subst, ◌∙◌, refl, arith, rules}
 use Rattle.ckd_types.specs.declared.record.Record.{Record}
 use Rattle.ckd_types.specs.declared.record.Track.{Track}
-use Rattle.ckd_types.specs.Geometry.{cost, capacity}
+use Rattle.ckd_types.specs.Geometry.{cost}
 use Rattle.ckd_types.specs.Track.{IsRecord, cost_of}
 use Rattle.track_image.specs.Image.{Image, IsAddressed, IsImage}
 use Rattle.track_image.proofs.Sizes.{fits_behind, formats}

@@ -1,4 +1,4 @@
-use Rattle.std.proofs.Common.{◌≡◌, ◌≤◌, length, drop, ap, ◌∙◌, arith}
+use Rattle.std.proofs.Common.{length, drop, ap, ◌∙◌, arith}
 use Rattle.track_image.proofs.Packs.{given, behind_at}
 use Rattle.track_image.proofs.packed.Packed.bytes_behind.Goals as goal
 

@@ -1,9 +1,8 @@
 use Rattle.std.specs.Vec.{vec_capacity}
-use Rattle.std.proofs.Common.{◌≡◌, ◌≤◌, ◌<◌, ◌+◌, List, [], ◌∷◌, ◌++◌, ℕ, length, take, drop, sym, ap, ◌∙◌, arith}
-use Rattle.ckd_types.specs.declared.record.Record.{Record}
+use Rattle.std.proofs.Common.{◌≡◌, ◌+◌, List, ◌++◌, ℕ, length, take, ap, ◌∙◌, arith}
 use Rattle.ckd_types.specs.declared.record.Track.{Track}
 use Rattle.ckd_types.specs.Track.{record_bytes, end_mark}
-use Rattle.track_image.specs.Packed.{IsPacked, HasRoom}
+use Rattle.track_image.specs.Packed.{HasRoom}
 use Rattle.track_image.proofs.Places.{adds, unpacked_is, repacked}
 use Rattle.track_image.proofs.Packs.{given, behind_at, made_of, seen_as}
 use Rattle.track_image.proofs.packed.Packed.cut_and_add.Goals as goal

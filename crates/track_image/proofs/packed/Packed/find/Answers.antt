@@ -1,5 +1,4 @@
-use Rattle.std.proofs.Common.{◌≡◌, ◌≤◌, ◌+◌, ℕ, List, length, All, sym, ap, ◌∙◌}
-use Rattle.ckd_types.specs.declared.record.Record.{Record}
+use Rattle.std.proofs.Common.{◌≡◌, ap, ◌∙◌}
 use Rattle.ckd_types.specs.declared.record.Track.{Track}
 use Rattle.track_image.specs.Packed.{unpacked}
 use Rattle.track_image.proofs.Packs.{given, all_within, finds}

@@ -1,6 +1,4 @@
-use Rattle.std.proofs.Common.{◌≡◌, List, [], ◌∷◌, ◌++◌, ℕ, length, take, refl, sym, ap, ◌∙◌, arith}
-use Rattle.ckd_types.specs.declared.record.Record.{Record}
-use Rattle.ckd_types.specs.declared.record.Track.{Track}
+use Rattle.std.proofs.Common.{◌≡◌, List, ◌++◌, ℕ, take, refl, ap, ◌∙◌, arith}
 use Rattle.ckd_types.specs.Track.{IsRecord, home_bytes, record_bytes, end_mark}
 use Rattle.track_image.proofs.Places.{starts, unpacked_is}
 use Rattle.track_image.proofs.Packs.{made_of, seen_as}

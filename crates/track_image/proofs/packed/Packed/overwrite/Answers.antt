@@ -1,12 +1,10 @@
-use Rattle.std.proofs.Common.{◌≡◌, ◌≤◌, ◌<◌, ◌+◌, List, ℕ, length, get_or, set, take, drop, refl, sym, ap, ◌∙◌, arith}
+use Rattle.std.proofs.Common.{◌≡◌, ◌+◌, ℕ, length, get_or, refl, ap, ◌∙◌, arith}
 use Rattle.std.proofs.lemmas.List.{with_items_is}
 use Rattle.std.specs.Vec.{with_items}
-use Rattle.ckd_types.specs.declared.record.Record.{Record}
 use Rattle.ckd_types.specs.declared.record.Track.{Track}
 use Rattle.ckd_types.specs.Track.{empty_zero}
-use Rattle.track_image.specs.Packed.{IsPacked}
 use Rattle.track_image.proofs.Places.{overwritten, updates, unpacked_is, repacked}
-use Rattle.track_image.proofs.Packs.{given, as_many, whole_at, made_of, seen_as}
+use Rattle.track_image.proofs.Packs.{given, whole_at, made_of, seen_as}
 use Rattle.track_image.proofs.packed.Packed.overwrite.Goals as goal
 
 pub write_areas-requires : goal.write_areas-requires

@@ -1,4 +1,4 @@
-use Rattle.std.proofs.Common.{◌≡◌, ◌<◌, length, get_or, ◌∙◌, arith}
+use Rattle.std.proofs.Common.{◌<◌, length, ◌∙◌, arith}
 use Rattle.track_image.proofs.Packs.{given, place_here}
 use Rattle.track_image.proofs.packed.Packed.place_of.Goals as goal
 

@@ -1,10 +1,9 @@
 use Rattle.std.specs.Vec.{vec_capacity}
-use Rattle.std.proofs.Common.{◌≡◌, ◌≤◌, ◌<◌, ◌+◌, List, [], ◌∷◌, ◌++◌, ℕ, length, take, drop, sym, ap, ◌∙◌, arith}
+use Rattle.std.proofs.Common.{◌≤◌, length, take, ap, arith}
 use Rattle.std.proofs.lemmas.List.{length-take}
-use Rattle.ckd_types.specs.declared.record.Record.{Record}
 use Rattle.ckd_types.specs.declared.record.Track.{Track}
 use Rattle.ckd_types.specs.Track.{IsRecord}
-use Rattle.track_image.specs.Packed.{IsPacked, HasRoom}
+use Rattle.track_image.specs.Packed.{HasRoom}
 use Rattle.track_image.proofs.Places.{restarts, unpacked_is, repacked}
 use Rattle.track_image.proofs.Packs.{given, made_of, seen_as}
 use Rattle.track_image.proofs.packed.Packed.set_zero.Goals as goal
