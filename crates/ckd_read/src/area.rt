@@ -1,6 +1,4 @@
-ghost use Rattle.std.specs.Prelude.{◌≡◌, ◌<◌, ◌≤◌, IfOk, OnOk, length, drop};
-ghost use Rattle.std.specs.List.{flat_map};
-ghost use Rattle.ckd_types.specs.Track.{record_bytes};
+ghost use Rattle.std.specs.Prelude.{◌≡◌, ◌<◌, IfOk, OnOk, length};
 ghost use Rattle.ckd_rules.specs.Ending.{sent_of};
 ghost use Rattle.ckd_rules.specs.Reads.{read_bytes};
 ghost use Rattle.ckd_read.specs.Sending.{Takes};
@@ -8,16 +6,13 @@ ghost use Rattle.ckd_read.specs.Sending.{Takes};
 use crate::sending::Sending;
 use ckd_types::{Bytes, Ccw, NoMemory, ReadArea};
 use std::alloc::Global;
-use track_image::{RecordRef, TrackImage};
+use track_image::TrackImage;
 
 /// Bytes of a home address.
 const HOME: usize = 5;
 
 /// Bytes of a count area.
 const COUNT: usize = 8;
-
-/// What a read track sends behind the last record.
-const END_MARK: [u8; 8] = [0xff; 8];
 
 /// How many bytes the area has that a read of record `i`, or from it on, reads.
 pub fn area_len(image: &TrackImage, area: ReadArea, i: usize) -> usize
@@ -33,28 +28,8 @@ pub fn area_len(image: &TrackImage, area: ReadArea, i: usize) -> usize
         ReadArea::KeyData => read.key().len() + read.body().len(),
         ReadArea::CountKeyData => read.size(),
         ReadArea::Multiple => image.bytes_from(i),
-        ReadArea::Track => image.bytes_from(0) + END_MARK.len(),
+        ReadArea::Track => image.bytes_behind(0).len(),
     }
-}
-
-fn put_record(sending: &mut Sending, read: &RecordRef<'_>) -> Result<(), NoMemory>
-    ensures { OnOk result (Takes sending.old sending.new (record_bytes read.now)) }
-{
-    sending.put(&read.count_area())?;
-    sending.put(read.key())?;
-    sending.put(read.body())?;
-    Ok(())
-}
-
-/// Sends record `i` and those behind it.
-fn put_records(sending: &mut Sending, image: &TrackImage, i: usize) -> Result<(), NoMemory>
-    requires { i ≤ length image.now.track.records }
-    ensures { OnOk result (Takes sending.old sending.new (flat_map record_bytes (drop i image.now.track.records))) }
-{
-    for k in i..image.len() {
-        put_record(sending, &image.record_at(k))?;
-    }
-    Ok(())
 }
 
 fn put_area(
@@ -79,12 +54,9 @@ fn put_area(
             sending.put(read.key())?;
             sending.put(read.body())?;
         }
-        ReadArea::CountKeyData => put_record(sending, &read)?,
-        ReadArea::Multiple => put_records(sending, image, i)?,
-        ReadArea::Track => {
-            put_records(sending, image, 0)?;
-            sending.put(&END_MARK)?;
-        }
+        ReadArea::CountKeyData => sending.put(image.bytes_of(i))?,
+        ReadArea::Multiple => sending.put(image.bytes_of_rest(i))?,
+        ReadArea::Track => sending.put(image.bytes_behind(0))?,
     }
     Ok(())
 }

@@ -125,7 +125,7 @@ areas_again at r rest =
     rw (whole, both, key, body) refl
 
 -- the bytes of a record behind its count area
-regroup : (r : Record) (rest : List ℕ) → record_bytes r ++ rest ≡ count_area r ++ ((r.key ++ r.body) ++ rest)
+pub regroup : (r : Record) (rest : List ℕ) → record_bytes r ++ rest ≡ count_area r ++ ((r.key ++ r.body) ++ rest)
 regroup r rest = ap (λ (x : List ℕ). x ++ rest) (append_assoc (count_area r) r.key r.body) ∙ append_assoc (count_area r) (r.key ++ r.body) rest
 
 pub length-record_bytes : (r : Record) → length (record_bytes r) ≡ size_of r

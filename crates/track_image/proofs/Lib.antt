@@ -2,3 +2,5 @@ pub mod Loop
 pub mod Fields
 pub mod Tracks
 pub mod Sizes
+pub mod Places
+pub mod Packs

@@ -1,59 +1,162 @@
 -- Reading records one after the other, as a loop does.
-use Rattle.std.proofs.Common.{◌≡◌, ℕ, suc, ◌+◌, ◌<◌, List, [], ◌∷◌, ◌++◌, length, drop, Option, Some, None, Result, Ok, Err, refl, sym, ap, ◌∙◌, append_assoc, arith}
-use Rattle.std.proofs.lemmas.List.{append-nil, drop-drop}
-use Rattle.std.proofs.lemmas.List.Sums.{sum_by_push}
+use Rattle.std.proofs.Common.{◌≡◌, ℕ, suc, ◌+◌, ◌-◌, ◌*◌, ◌<◌, ◌≤◌, List, [], ◌∷◌, ◌++◌, length, drop, All, Some, None, Result, Ok, Err, refl, sym, ap, subst, ◌∙◌, append_assoc, arith}
+use Rattle.std.proofs.lemmas.List.{append-nil, drop-drop, length-take, length-drop, length-append, length_push, map_push, nil_from_length}
+use Rattle.std.proofs.lemmas.List.Concat.{flat_map-append}
+use Rattle.std.proofs.lemmas.List.Elements.{All-push, All-cons, All-nil}
 use Rattle.ckd_types.specs.declared.geometry.Geometry.{Geometry}
-use Rattle.ckd_types.specs.declared.geometry.Cchh.{Cchh}
 use Rattle.ckd_types.specs.declared.record.Record.{Record}
-use Rattle.ckd_types.specs.declared.record.Track.{Track}
-use Rattle.ckd_types.specs.Geometry.{cost}
-use Rattle.ckd_types.specs.Track.{cost_of}
-use Rattle.track_image.specs.declared.fault.BytesFault.{BytesFault}
-use Rattle.track_image.specs.declared.fault.BytesFault.TheVariants.{BadTrack, NoMemory}
-use Rattle.track_image.specs.Image.{Image, with_record}
-use Rattle.track_image.specs.Reading.{◌>>=◌, Gives, next_at, size_of, records_at, with_others}
+use Rattle.ckd_types.specs.Geometry.{cost, capacity}
+use Rattle.ckd_types.specs.Track.{IsRecord, HasZero, cost_of, record_bytes}
+use Rattle.track_image.specs.declared.count.Count.{Count}
+use Rattle.track_image.specs.Packed.{record_from, unpacked, places_from, IsFound}
+use Rattle.track_image.specs.Reading.{◌>>=◌, map_ok, count_at, next_at, size_of, records_at, IsNext}
+use Rattle.track_image.proofs.Fields.{IsBytes, IsBytes-drop, length-record_bytes, next_ends}
+use Rattle.track_image.proofs.Places.{all_bytes, places_push}
+use Rattle.track_image.proofs.Sizes.{cost_push, unit_room, some_units, within}
 
-spent_more : (g : Geometry) (records : List Record) (r : Record) → 0 < length records → cost_of g (records ++ r ∷ []) ≡ cost_of g records + cost g (length r.key) (length r.body)
-spent_more g [] r some = absurd (omega arith)
-spent_more g (x ∷ records) r some = sum_by_push (λ (y : Record). cost g (length y.key) (length y.body)) records r
+-- more records behind the last, where reading gave them
+abbrev pub with_more : List Record → Result (List Record) ℕ → Result (List Record) ℕ
+with_more rs read = read >>= (λ more. Ok (rs ++ more))
 
-regroup : (i : Image) (r : Record) (read : Result (List Record) ℕ) → with_others i (read >>= (λ others. Ok (r ∷ others))) ≡ with_others (with_record i r) read
-regroup i r (Ok others) = ap (λ (records : List Record). Ok (record i { track = record i.track { records = records } })) (sym (append_assoc i.track.records (r ∷ []) others))
-regroup i r (Err at) = refl
+mapped : (r : Record) (read : Result (List Record) ℕ) → with_more (r ∷ []) read ≡ map_ok (λ (others : List Record). r ∷ others) read
+mapped r (Ok others) = refl
+mapped r (Err at) = refl
 
-pub goes_on : (i : Image) (r : Record) (steps after at : ℕ) (bytes : List ℕ) (total : Result Image ℕ) → steps ≡ suc after → 0 < length i.track.records → next_at i.geometry (cost_of i.geometry i.track.records) at (drop at bytes) ≡ Ok (Some r)
-    → with_others i (records_at steps i.geometry (cost_of i.geometry i.track.records) at (drop at bytes)) ≡ total
-    → with_others (with_record i r) (records_at after i.geometry (cost_of i.geometry (i.track.records ++ r ∷ [])) (at + size_of r) (drop (at + size_of r) bytes)) ≡ total
+regroup : (rs : List Record) (r : Record) (read : Result (List Record) ℕ) → with_more rs (read >>= (λ others. Ok (r ∷ others))) ≡ with_more (rs ++ r ∷ []) read
+regroup rs r (Ok others) = ap (λ (x : List Record). Ok x) (sym (append_assoc rs (r ∷ []) others))
+regroup rs r (Err at) = refl
+
+goes_on : (rs : List Record) (r : Record) (g : Geometry) (steps after spent at : ℕ) (bytes : List ℕ) (total : Result (List Record) ℕ) → steps ≡ suc after → next_at g spent at (drop at bytes) ≡ Ok (Some r)
+    → with_more rs (records_at steps g spent at (drop at bytes)) ≡ total
+    → with_more (rs ++ r ∷ []) (records_at after g (spent + cost g (length r.key) (length r.body)) (at + size_of r) (drop (at + size_of r) bytes)) ≡ total
 unfolding records_at
-goes_on i r steps after at bytes total steps_is some next so_far =
-    let one : with_others i (records_at steps i.geometry (cost_of i.geometry i.track.records) at (drop at bytes)) ≡ with_others i (records_at after i.geometry (cost_of i.geometry i.track.records + cost i.geometry (length r.key) (length r.body)) (at + size_of r) (drop (size_of r) (drop at bytes)) >>= (λ others. Ok (r ∷ others))) = rw (steps_is, next) refl in
-    rw (spent_more i.geometry i.track.records r some, ← drop-drop (size_of r) at bytes) (sym (regroup i r _) ∙ sym one ∙ so_far)
+goes_on rs r g steps after spent at bytes total steps_is next so_far =
+    let one : with_more rs (records_at steps g spent at (drop at bytes)) ≡ with_more rs (records_at after g (spent + cost g (length r.key) (length r.body)) (at + size_of r) (drop (size_of r) (drop at bytes)) >>= (λ others. Ok (r ∷ others))) = rw (steps_is, next) refl in
+    rw (← drop-drop (size_of r) at bytes) (sym (regroup rs r _) ∙ sym one ∙ so_far)
 
-pub ends : (i : Image) (e : BytesFault) (steps after at : ℕ) (bytes : List ℕ) (total : Result Image ℕ) → steps ≡ suc after → Gives (λ (o : Option Record). o) (Err e) (next_at i.geometry (cost_of i.geometry i.track.records) at (drop at bytes))
-    → with_others i (records_at steps i.geometry (cost_of i.geometry i.track.records) at (drop at bytes)) ≡ total → Gives (λ (x : Image). x) (Err e) total
+fails : (rs : List Record) (g : Geometry) (steps after spent at offset : ℕ) (bytes : List ℕ) (total : Result (List Record) ℕ) → steps ≡ suc after → next_at g spent at (drop at bytes) ≡ Err offset
+    → with_more rs (records_at steps g spent at (drop at bytes)) ≡ total → total ≡ Err offset
 unfolding records_at
-ends i NoMemory steps after at bytes total steps_is fails so_far = tt
-ends i (BadTrack offset) steps after at bytes total steps_is fails so_far =
-    let one : with_others i (records_at steps i.geometry (cost_of i.geometry i.track.records) at (drop at bytes)) ≡ Err offset = rw (steps_is, fails) refl in
+fails rs g steps after spent at offset bytes total steps_is next so_far =
+    let one : with_more rs (records_at steps g spent at (drop at bytes)) ≡ Err offset = rw (steps_is, next) refl in
     sym so_far ∙ one
 
-pub is_done : (i : Image) (steps after at : ℕ) (bytes : List ℕ) (total : Result Image ℕ) → steps ≡ suc after → next_at i.geometry (cost_of i.geometry i.track.records) at (drop at bytes) ≡ Ok None
-    → with_others i (records_at steps i.geometry (cost_of i.geometry i.track.records) at (drop at bytes)) ≡ total → total ≡ Ok i
+is_done : (rs : List Record) (g : Geometry) (steps after spent at : ℕ) (bytes : List ℕ) (total : Result (List Record) ℕ) → steps ≡ suc after → next_at g spent at (drop at bytes) ≡ Ok None
+    → with_more rs (records_at steps g spent at (drop at bytes)) ≡ total → total ≡ Ok rs
 unfolding records_at
-is_done i steps after at bytes total steps_is next so_far =
-    let one : with_others i (records_at steps i.geometry (cost_of i.geometry i.track.records) at (drop at bytes)) ≡ Ok i = rw (steps_is, next) (ap (λ (records : List Record). Ok (record i { track = record i.track { records = records } })) (append-nil i.track.records)) in
+is_done rs g steps after spent at bytes total steps_is next so_far =
+    let one : with_more rs (records_at steps g spent at (drop at bytes)) ≡ Ok rs = rw (steps_is, next) (ap (λ (x : List Record). Ok x) (append-nil rs)) in
     sym so_far ∙ one
 
--- the track of the image
-of_track : Result Image ℕ → Result Track ℕ
-of_track read = read >>= (λ i. Ok i.track)
+-- the records that were read so far, where the next one stands, and what they took
+pub record ReadSo (g : Geometry) (bytes places : List ℕ) (rs : List Record) (at spent : ℕ) (total : Result (List Record) ℕ) : Type 0 where
+  pub within : at ≤ length bytes
+  pub zero : HasZero rs
+  pub lengths : All IsRecord rs
+  pub spent_is : spent ≡ cost_of g rs
+  pub room : spent ≤ capacity g
+  pub few : 16 * length places ≤ spent + 16
+  pub near : at ≤ 21 + 34 * spent
+  pub steps : length places + 20 ≤ at
+  pub place : at ≡ 5 + length (all_bytes rs)
+  pub places_are : places ≡ places_from 5 rs
+  pub read : with_more rs (records_at (length bytes + 1 - length places) g spent at (drop at bytes)) ≡ total
 
--- the records behind record 0 make the track
-pub whole : (g : Geometry) (home : Cchh) (first : Record) (read : Result (List Record) ℕ) (r : Result Image BytesFault) → Gives (λ (i : Image). i) r (with_others (record { geometry = g; track = record { home = home; records = first ∷ [] } }) read)
-    → Gives (λ (i : Image). i.track) r (read >>= (λ others. Ok (record { home = home; records = first ∷ others })))
-unfolding of_track
-whole g home first (Ok others) (Ok i) h = ap of_track h
-whole g home first (Err at) (Ok i) h = absurd cc
-whole g home first (Ok others) (Err (BadTrack at)) h = absurd cc
-whole g home first (Err at) (Err (BadTrack offset)) h = ap of_track h
-whole g home first read (Err NoMemory) h = tt
+zero_stays : (rs : List Record) (r : Record) → HasZero rs → HasZero (rs ++ r ∷ [])
+zero_stays [] r first = absurd first
+zero_stays (x ∷ rs) r first = first
+
+-- the lengths of a record that stands whole in bytes
+record Lengths (r : Record) (key body : ℕ) : Type 0 where
+  pub key_is : length r.key ≡ key
+  pub body_is : length r.body ≡ body
+
+lengths_from : (bytes : List ℕ) → 8 + ((count_at bytes).key + (count_at bytes).body) ≤ length bytes → Lengths (record_from bytes) (count_at bytes).key (count_at bytes).body
+lengths_from bytes whole =
+    let k = (count_at bytes).key in
+    let d = (count_at bytes).body in
+    record {
+      key_is = omega (arith, length-take k (drop 8 bytes), length-drop 8 bytes);
+      body_is = omega (arith, length-take d (drop k (drop 8 bytes)), length-drop k (drop 8 bytes), length-drop 8 bytes);
+    }
+
+pub starts_so : (g : Geometry) (bytes : List ℕ) → 21 ≤ length bytes → (count_at (drop 5 bytes)).key ≡ 0 → (count_at (drop 5 bytes)).body ≡ 8
+    → ReadSo g bytes (5 ∷ []) (unpacked bytes (5 ∷ [])) 21 0 (map_ok (λ others. record_from (drop 5 bytes) ∷ others) (records_at (length bytes) g 0 21 (drop 21 bytes)))
+starts_so g bytes long key body =
+    let r = record_from (drop 5 bytes) in
+    let l = lengths_from (drop 5 bytes) (omega (arith, length-drop 5 bytes)) in
+    let keys : length r.key ≡ 0 = l.key_is ∙ key in
+    let bodies : length r.body ≡ 8 = l.body_is ∙ body in
+    let steps : length bytes + 1 - 1 ≡ length bytes = omega arith in
+    record {
+      within = long;
+      zero = (nil_from_length r.key keys, bodies);
+      lengths = All-cons IsRecord r [] (record { key = omega (arith, keys); body = omega (arith, bodies) }) (All-nil IsRecord);
+      spent_is = refl;
+      room = omega arith;
+      few = omega arith;
+      near = omega arith;
+      steps = omega arith;
+      place = omega (arith, keys, bodies, length-record_bytes r, length-append (record_bytes r) []);
+      places_are = refl;
+      read = ap (λ (n : ℕ). with_more (r ∷ []) (records_at n g 0 21 (drop 21 bytes))) steps ∙ mapped r (records_at (length bytes) g 0 21 (drop 21 bytes));
+    }
+
+reads_more : (g : Geometry) (bytes places : List ℕ) (rs : List Record) (r : Record) (at spent key body : ℕ) (total : Result (List Record) ℕ) → ReadSo g bytes places rs at spent total → next_at g spent at (drop at bytes) ≡ Ok (Some r)
+    → length r.key ≡ key → length r.body ≡ body → key < 256 → at + (8 + key + body) ≤ length bytes → spent + cost g key body ≤ capacity g
+    → ReadSo g bytes (places ++ at ∷ []) (rs ++ r ∷ []) (at + (8 + key + body)) (spent + cost g key body) total
+reads_more g bytes places rs r at spent key body total s next keys bodies small whole room =
+    let longer = length_push places at in
+    let same : cost g (length r.key) (length r.body) ≡ cost g key body = rw (keys, bodies) refl in
+    let size : size_of r ≡ 8 + key + body = rw (keys, bodies) refl in
+    let after = length bytes + 1 - length (places ++ at ∷ []) in
+    let steps : length bytes + 1 - length places ≡ suc after = omega (arith, longer, s.steps, s.within) in
+    let all = flat_map-append record_bytes rs (r ∷ []) in
+    record {
+      within = whole;
+      zero = zero_stays rs r s.zero;
+      lengths = All-push IsRecord rs r s.lengths (record { key = omega (arith, keys, small); body = omega (arith, bodies, room, unit_room g key body, within g) });
+      spent_is = omega (arith, cost_push g rs r s.zero, same, s.spent_is);
+      room = room;
+      few = omega (arith, longer, s.few, some_units g key body);
+      near = omega (arith, s.near, unit_room g key body);
+      steps = omega (arith, longer, s.steps);
+      place = omega (arith, s.place, size, ap length all, length-append (all_bytes rs) (all_bytes (r ∷ [])), length-append (record_bytes r) [], length-record_bytes r);
+      places_are = ap (λ (x : List ℕ). x ++ at ∷ []) s.places_are ∙ ap (λ (n : ℕ). places_from 5 rs ++ n ∷ []) s.place ∙ sym (places_push 5 rs r);
+      read =
+          ap (λ (n : ℕ). with_more (rs ++ r ∷ []) (records_at after g (spent + n) (at + (8 + key + body)) (drop (at + (8 + key + body)) bytes))) (sym same)
+          ∙ ap (λ (n : ℕ). with_more (rs ++ r ∷ []) (records_at after g (spent + cost g (length r.key) (length r.body)) (at + n) (drop (at + n) bytes))) (sym size)
+          ∙ goes_on rs r g (length bytes + 1 - length places) after spent at bytes total steps next s.read;
+    }
+
+pub reads_on : (g : Geometry) (bytes places : List ℕ) (at spent : ℕ) (count : Count) (total : Result (List Record) ℕ) → IsBytes bytes → at ≤ length bytes → ReadSo g bytes places (unpacked bytes places) at spent total
+    → next_at g spent at (drop at bytes) ≡ Ok (Some (record_from (drop at bytes))) → IsNext g spent (drop at bytes) count
+    → ReadSo g bytes (places ++ at ∷ []) (unpacked bytes (places ++ at ∷ [])) (at + (8 + count.key + count.body)) (spent + cost g count.key count.body) total
+reads_on g bytes places at spent count total fits near s next n =
+    let r = record_from (drop at bytes) in
+    let key_is : count.key ≡ (count_at (drop at bytes)).key = ap (λ (x : Count). x.key) n.here in
+    let body_is : count.body ≡ (count_at (drop at bytes)).body = ap (λ (x : Count). x.body) n.here in
+    let l = lengths_from (drop at bytes) (omega (arith, n.within, key_is, body_is)) in
+    let small : count.key < 256 = subst (λ (k : ℕ). k < 256) (sym key_is) (IsBytes-drop at bytes fits 5) in
+    let more = reads_more g bytes places (unpacked bytes places) r at spent count.key count.body total s next (l.key_is ∙ sym key_is) (l.body_is ∙ sym body_is) small (omega (arith, n.within, length-drop at bytes)) n.room in
+    subst (λ (x : List Record). ReadSo g bytes (places ++ at ∷ []) x (at + (8 + count.key + count.body)) (spent + cost g count.key count.body) total) (sym (map_push (λ (p : ℕ). record_from (drop p bytes)) places at)) more
+
+pub read_fails : (g : Geometry) (bytes places : List ℕ) (rs : List Record) (at spent offset : ℕ) (total : Result (List Record) ℕ) → ReadSo g bytes places rs at spent total → next_at g spent at (drop at bytes) ≡ Err offset → total ≡ Err offset
+read_fails g bytes places rs at spent offset total s next =
+    fails rs g (length bytes + 1 - length places) (length bytes - length places) spent at offset bytes total (omega (arith, s.steps, s.within)) next s.read
+
+pub read_done : (g : Geometry) (bytes places : List ℕ) (rs : List Record) (at spent : ℕ) (total : Result (List Record) ℕ) → ReadSo g bytes places rs at spent total → next_at g spent at (drop at bytes) ≡ Ok None → total ≡ Ok rs
+read_done g bytes places rs at spent total s next =
+    is_done rs g (length bytes + 1 - length places) (length bytes - length places) spent at bytes total (omega (arith, s.steps, s.within)) next s.read
+
+pub found_all : (g : Geometry) (bytes places : List ℕ) (at spent : ℕ) (total : Result (List Record) ℕ) → ReadSo g bytes places (unpacked bytes places) at spent total → next_at g spent at (drop at bytes) ≡ Ok None → IsFound g bytes places spent
+found_all g bytes places at spent total s next =
+    let ends : length (drop at bytes) ≡ 8 = ap length (next_ends g spent at (drop at bytes) next) in
+    record {
+      zero = s.zero;
+      lengths = s.lengths;
+      spent_is = s.spent_is;
+      room = s.room;
+      places_are = s.places_are;
+      short = omega (arith, ends, length-drop at bytes, s.near, s.room, within g, s.within);
+    }

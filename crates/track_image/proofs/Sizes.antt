@@ -1,97 +1,102 @@
--- An image's records have few bytes: each takes one unit at least, and the units are bounded.
-use Rattle.std.proofs.Common.{◌≡◌, ℕ, zero, suc, ◌+◌, ◌*◌, ◌^◌, ◌≤◌, ◌<◌, ◌==◌, Bool, true, false, cond, List, [], ◌∷◌, length, take, drop, get_or, All, sum_by, ap, arith}
-use Rattle.std.specs.List.{flat_map}
+-- A record has at most 34 bytes for each unit that it takes, and a track 1,729 units.
+use Rattle.std.proofs.Common.{◌≡◌, ℕ, ◌+◌, ◌*◌, ◌≤◌, ◌==◌, Bool, true, false, cond, List, [], ◌∷◌, ◌++◌, length, take, sum_by, refl, sym, ap, add-one, arith}
+use Rattle.std.proofs.lemmas.Bool.{eqb-true}
 use Rattle.std.proofs.lemmas.List.{length-append}
-use Rattle.std.proofs.lemmas.List.Elements.{All-head, All-tail}
-use Rattle.std.proofs.lemmas.List.Concat.{flat_map-cons}
-use Rattle.std.proofs.lemmas.List.Folds.{length-flat_map-take}
-use Rattle.std.proofs.lemmas.List.Sums.{sum_by-cons}
+use Rattle.std.proofs.lemmas.List.Sums.{sum_by-cons, sum_by_push}
+use Rattle.std.proofs.lemmas.List.Elements.{All-take, All-push}
 use Rattle.ckd_types.specs.declared.geometry.Geometry.{Geometry}
 use Rattle.ckd_types.specs.declared.geometry.Geometry.TheVariants.{D3390, D3380}
 use Rattle.ckd_types.specs.declared.record.Record.{Record}
+use Rattle.ckd_types.specs.declared.record.Track.{Track}
+use Rattle.ckd_types.specs.declared.record.Edit.TheVariants.{Format}
+use Rattle.ckd_types.specs.Edit.{apply_edit}
 use Rattle.ckd_types.specs.Geometry.{cost, capacity, data_units, key_units}
-use Rattle.ckd_types.specs.Track.{IsRecord, cost_of, record_bytes}
-use Rattle.track_image.specs.Image.{Image, IsImage}
+use Rattle.ckd_types.specs.Track.{IsRecord, HasZero, cost_of, record_bytes}
+use Rattle.track_image.specs.Image.{IsAddressed, IsImage}
+use Rattle.track_image.specs.Packed.{most_bytes}
+use Rattle.track_image.specs.Reading.{size_of}
 use Rattle.track_image.proofs.Fields.{length-record_bytes}
+use Rattle.track_image.proofs.Places.{all_bytes}
 
-abbrev units : Geometry → Record → ℕ
-units g r = cost g (length r.key) (length r.body)
+data_room : (g : Geometry) (body : ℕ) → 8 + body ≤ 34 * data_units g body
+data_room D3390 body = omega arith
+data_room D3380 body = omega arith
 
-either : (b : Bool) (x y : ℕ) → 1 ≤ x → 1 ≤ y → 1 ≤ cond b x y
-either true x y a b = a
-either false x y a b = b
+some_data : (g : Geometry) (body : ℕ) → 16 ≤ data_units g body
+some_data D3390 body = omega arith
+some_data D3380 body = omega arith
 
-some_unit : (g : Geometry) (body : ℕ) → 1 ≤ data_units g body
-some_unit D3390 body = omega arith
-some_unit D3380 body = omega arith
+key_room : (g : Geometry) (key : ℕ) → key ≤ 34 * key_units g key
+key_room D3390 key = omega arith
+key_room D3380 key = omega arith
 
-some_units : (g : Geometry) (key body : ℕ) → 1 ≤ cost g key body
-some_units g key body =
-    let more : 1 ≤ data_units g body + key_units g key = omega (arith, some_unit g body) in
-    either (key == 0) (data_units g body) (data_units g body + key_units g key) (some_unit g body) more
+chosen : (b : Bool) (key m x y : ℕ) → (b ≡ true → key ≡ 0) → m ≤ 34 * x → key ≤ 34 * y → m + key ≤ 34 * cond b x (x + y)
+chosen true key m x y none long keyed = omega (arith, none refl)
+chosen false key m x y none long keyed = omega arith
 
-bytes_of : (g : Geometry) (rs : List Record) → All IsRecord rs → length (flat_map record_bytes rs) ≤ 65797 * sum_by (units g) rs
-bytes_of g [] lengths = omega arith
-bytes_of g (r ∷ rs) lengths =
-    let first = All-head IsRecord r rs lengths in
-    omega (
-      arith,
-      bytes_of g rs (All-tail IsRecord r rs lengths),
-      some_units g (length r.key) (length r.body),
-      first.key,
-      first.body,
-      length-record_bytes r,
-      ap length (flat_map-cons record_bytes r rs),
-      length-append (record_bytes r) (flat_map record_bytes rs),
-      sum_by-cons (units g) r rs,
-    )
+either : (b : Bool) (x y : ℕ) → 16 ≤ x → 16 ≤ cond b x (x + y)
+either true x y some = some
+either false x y some = omega arith
 
-within : (g : Geometry) → capacity g ≤ 1729
+pub unit_room : (g : Geometry) (key body : ℕ) → 8 + key + body ≤ 34 * cost g key body
+unit_room g key body =
+    let both = chosen (key == 0) key (8 + body) (data_units g body) (key_units g key) (eqb-true key 0) (data_room g body) (key_room g key) in
+    omega (arith, both)
+
+pub some_units : (g : Geometry) (key body : ℕ) → 16 ≤ cost g key body
+some_units g key body = either (key == 0) (data_units g body) (key_units g key) (some_data g body)
+
+pub within : (g : Geometry) → capacity g ≤ 1729
 within D3390 = omega arith
 within D3380 = omega arith
 
-bytes_of_all : (g : Geometry) (rs : List Record) → All IsRecord rs → cost_of g rs ≤ capacity g → length (flat_map record_bytes rs) < 2 ^ 32
-bytes_of_all g [] lengths room = omega arith
-bytes_of_all g (r ∷ rs) lengths room =
-    let first = All-head IsRecord r rs lengths in
+bytes_of : (g : Geometry) (rs : List Record) → length (all_bytes rs) ≤ 34 * sum_by (λ (r : Record). cost g (length r.key) (length r.body)) rs
+bytes_of g [] = omega arith
+bytes_of g (r ∷ rs) =
     omega (
       arith,
-      bytes_of g rs (All-tail IsRecord r rs lengths),
-      within g,
-      room,
-      first.key,
-      first.body,
+      bytes_of g rs,
+      unit_room g (length r.key) (length r.body),
       length-record_bytes r,
-      ap length (flat_map-cons record_bytes r rs),
-      length-append (record_bytes r) (flat_map record_bytes rs),
+      length-append (record_bytes r) (all_bytes rs),
+      sum_by-cons (λ (x : Record). cost g (length x.key) (length x.body)) r rs,
     )
 
-bytes_behind : (i : ℕ) (rs : List Record) → length (flat_map record_bytes (drop i rs)) ≤ length (flat_map record_bytes rs)
-bytes_behind zero [] = omega arith
-bytes_behind (suc i) [] = omega arith
-bytes_behind zero (r ∷ rs) = omega arith
-bytes_behind (suc i) (r ∷ rs) = omega (arith, bytes_behind i rs, ap length (flat_map-cons record_bytes r rs), length-append (record_bytes r) (flat_map record_bytes rs))
+-- the bytes of records that begin with record 0
+pub few_bytes : (g : Geometry) (rs : List Record) → HasZero rs → length (all_bytes rs) ≤ 16 + 34 * cost_of g rs
+few_bytes g [] first = absurd first
+few_bytes g (r ∷ rs) first = omega (arith, bytes_of g rs, first.1, ap length first.0, length-record_bytes r, length-append (record_bytes r) (all_bytes rs))
 
-pub bytes_before : (i : ℕ) (rs : List Record) → length (flat_map record_bytes (take i rs)) ≤ length (flat_map record_bytes rs)
-bytes_before zero [] = omega arith
-bytes_before (suc i) [] = omega arith
-bytes_before zero (r ∷ rs) = omega arith
-bytes_before (suc i) (r ∷ rs) =
-    omega (
-      arith,
-      bytes_before i rs,
-      ap length (flat_map-cons record_bytes r rs),
-      ap length (flat_map-cons record_bytes r (take i rs)),
-      length-append (record_bytes r) (flat_map record_bytes rs),
-      length-append (record_bytes r) (flat_map record_bytes (take i rs)),
-    )
+zero_kept : (n : ℕ) (rs : List Record) → HasZero rs → HasZero (take (n + 1) rs)
+zero_kept n [] first = absurd first
+zero_kept n (r ∷ rs) first = rw add-one first
 
--- the bytes of a record, with those before it
-pub bytes_to : (rs : List Record) (i : ℕ) (r : Record) → i < length rs → r ≡ get_or rs i r → length (flat_map record_bytes (take i rs)) + (8 + length r.key + length r.body) ≤ length (flat_map record_bytes rs)
-bytes_to rs i r there is =
-    omega (arith, length-flat_map-take record_bytes rs i r there, ap (λ (x : Record). length (record_bytes x)) is, length-record_bytes r)
+-- one more record behind some that are kept, where all fit
+pub fits_behind : (g : Geometry) (rs : List Record) (after : ℕ) (r : Record) → HasZero rs → cost_of g (take (after + 1) rs) + cost g (length r.key) (length r.body) ≤ capacity g → length (all_bytes (take (after + 1) rs)) + size_of r + 13 ≤ most_bytes
+fits_behind g rs after r first room =
+    omega (arith, room, few_bytes g (take (after + 1) rs) (zero_kept after rs first), unit_room g (length r.key) (length r.body), within g)
 
--- the bytes of an image from a record on
-pub bytes_from : (i : ℕ) (image : Image) → IsImage image → length (flat_map record_bytes (drop i image.track.records)) < 2 ^ 32
-bytes_from i image is =
-    omega (arith, bytes_behind i image.track.records, bytes_of_all image.geometry image.track.records is.fits.records is.fits.cost)
+zero_still : (rs : List Record) (r : Record) → HasZero rs → HasZero (rs ++ r ∷ [])
+zero_still [] r first = absurd first
+zero_still (x ∷ rs) r first = first
+
+pub cost_push : (g : Geometry) (rs : List Record) (r : Record) → HasZero rs → cost_of g (rs ++ r ∷ []) ≡ cost_of g rs + cost g (length r.key) (length r.body)
+cost_push g [] r first = absurd first
+cost_push g (x ∷ rs) r first = sum_by_push (λ (y : Record). cost g (length y.key) (length y.body)) rs r
+
+-- the image after a record was put behind some that are kept
+pub formats : (g : Geometry) (t : Track) (after : ℕ) (r : Record) → IsImage (record { geometry = g; track = t }) → IsRecord r → IsAddressed r → cost_of g (take (after + 1) t.records) + cost g (length r.key) (length r.body) ≤ capacity g
+    → IsImage (record { geometry = g; track = apply_edit (Format after r) t }) × (cost_of g (take (after + 1) t.records) + cost g (length r.key) (length r.body) ≡ cost_of g (apply_edit (Format after r) t).records)
+formats g t after r is lengths addressed room =
+    let kept = take (after + 1) t.records in
+    let first = zero_kept after t.records is.fits.zero in
+    let sum = cost_push g kept r first in
+    let made : IsImage (record { geometry = g; track = apply_edit (Format after r) t }) = record {
+      fits = record {
+        zero = zero_still kept r first;
+        records = All-push IsRecord kept r (All-take IsRecord (after + 1) t.records is.fits.records) lengths;
+        cost = omega (arith, sum, room);
+      };
+      addressed = All-push IsAddressed kept r (All-take IsAddressed (after + 1) t.records is.addressed) addressed;
+    } in
+    (made, sym sum)

@@ -1,10 +1,10 @@
 -- The bytes that are read are the track's, and the track's bytes are read again, with nothing behind them.
-use Rattle.std.proofs.Common.{◌≡◌, ℕ, zero, suc, ◌+◌, ◌-◌, ◌≤◌, true, false, ltb, nat_eq, eqb, List, [], ◌∷◌, ◌++◌, length, take, drop, All, Some, None, Result, Ok, Err, sum_by, add-zero, refl, sym, ap, ◌∙◌, append_assoc, arith}
+use Rattle.std.proofs.Common.{◌≡◌, ℕ, zero, suc, ◌+◌, ◌-◌, ◌≤◌, true, false, ltb, nat_eq, eqb, List, [], ◌∷◌, ◌++◌, length, get_or, take, drop, All, Some, None, Result, Ok, Err, sum_by, add-zero, refl, sym, ap, ◌∙◌, append_assoc, arith}
 use Rattle.std.specs.Prelude.{IfOk}
 use Rattle.std.specs.List.{starts_with, flat_map}
 use Rattle.std.proofs.lemmas.Bool.{le-ltb, ne_eqb}
-use Rattle.std.proofs.lemmas.List.{take-append-drop, length-append, drop_at, drop-drop, append-nil}
-use Rattle.std.proofs.lemmas.List.Elements.{All-head, All-tail}
+use Rattle.std.proofs.lemmas.List.{take-append-drop, length-append, drop_at, drop-drop, append-nil, get_or-drop}
+use Rattle.std.proofs.lemmas.List.Elements.{All-head, All-tail, All-map}
 use Rattle.std.proofs.lemmas.List.Concat.{flat_map-cons}
 use Rattle.std.proofs.lemmas.List.Sums.{sum_by-cons}
 use Rattle.std.proofs.lemmas.Slice.Eq.{bytes_eq-Decides}
@@ -16,6 +16,7 @@ use Rattle.ckd_types.specs.Geometry.{cost, capacity}
 use Rattle.ckd_types.specs.Track.{IsRecord, HasZero, Fits, cost_of, home_bytes, record_bytes, end_mark, track_bytes}
 use Rattle.track_image.specs.declared.fault.BytesFault.{BytesFault}
 use Rattle.track_image.specs.Image.{Image, IsAddressed, IsImage}
+use Rattle.track_image.specs.Packed.{record_from, unpacked, IsFound, IsPacked}
 use Rattle.track_image.specs.Reading.{◌>>=◌, Gives, zero_at, next_at, or_end, size_of, records_at, reading}
 use Rattle.track_image.proofs.Fields.{IsBytes, IsBytes-drop, bind_ok, then_ok, ok_is, length-record_bytes, zero_takes, next_takes, next_ends, next_again, zero_again}
 
@@ -185,6 +186,21 @@ nothing_behind g a b (x ∷ rest) a_fits a_addressed b_fits b_addressed e =
     let fault = past_mark g a.home a.records x rest a_fits.zero a_fits.records a_addressed a_fits.cost in
     let both : reading g a.home (track_bytes moved) ≡ Err fault.0 = ap (reading g a.home) (sym same ∙ e) ∙ fault.1 in
     absurd cc
+
+-- what stands in bytes has ids of two bytes each
+addressed_from : (bytes : List ℕ) → IsBytes bytes → IsAddressed (record_from bytes)
+addressed_from bytes fits = record { cc = omega (arith, fits 0, fits 1); hh = omega (arith, fits 2, fits 3, get_or-drop 2 bytes 0 0, get_or-drop 2 bytes 1 0) }
+
+pub found_packed : (g : Geometry) (home : Cchh) (bytes places : List ℕ) (spent : ℕ) → IsBytes bytes → IsFound g bytes places spent → reading g home bytes ≡ Ok (record { home = home; records = unpacked bytes places })
+    → IsPacked home bytes places (unpacked bytes places)
+found_packed g home bytes places spent fits f read = record {
+  zero = f.zero;
+  lengths = f.lengths;
+  addressed = All-map IsAddressed (λ (p : ℕ). record_from (drop p bytes)) places (λ k d h. addressed_from (drop (get_or places k d) bytes) (IsBytes-drop (get_or places k d) bytes fits));
+  bytes_are = reading_takes g home bytes (record { home = home; records = unpacked bytes places }) fits read;
+  places_are = f.places_are;
+  short = f.short;
+}
 
 pub is_found : (g : Geometry) (home : Cchh) (bytes : List ℕ) (r : Result Image BytesFault) → IsBytes bytes → Gives (λ (i : Image). i.track) r (reading g home bytes) → IfOk r (λ (i : Image). IsImage i) → IfOk r (λ (i : Image). Fits i.geometry i.track × (bytes ≡ track_bytes i.track))
 is_found g home bytes (Ok i) fits read image = (image.fits, reading_takes g home bytes i.track fits read)

@@ -1,5 +1,5 @@
 -- The image of a track: the geometry of its volume, and a track that fits it.
-use Rattle.std.specs.Prelude.{ℕ, ◌+◌, ◌<◌, ◌^◌, nat_le, Bool, [], ◌∷◌, ◌++◌, take, All, slice_index_or}
+use Rattle.std.specs.Prelude.{ℕ, ◌+◌, ◌<◌, ◌^◌, nat_le, Bool, take, All, slice_index_or}
 use Rattle.ckd_types.specs.declared.geometry.Geometry.{Geometry}
 use Rattle.ckd_types.specs.declared.record.Record.{Record}
 use Rattle.ckd_types.specs.declared.record.Track.{Track}
@@ -34,7 +34,3 @@ edited_image e i = record i { track = apply_edit e i.track }
 abbrev pub is_room_behind : Image → ℕ → ℕ → ℕ → Bool
 is_room_behind i after key body =
     nat_le (cost_of i.geometry (take (after + 1) i.track.records) + cost i.geometry key body) (capacity i.geometry)
-
--- the image with one more record, behind the last
-abbrev pub with_record : Image → Record → Image
-with_record i added = record i { track = record i.track { records = i.track.records ++ added ∷ [] } }

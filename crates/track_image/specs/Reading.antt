@@ -1,5 +1,5 @@
 -- Reading the bytes of a track from left to right. A fault is the offset of the first field that is wrong or cut.
-use Rattle.std.specs.Prelude.{◌≡◌, ◌≤◌, ℕ, zero, suc, ◌+◌, ◌==◌, ◌&&◌, nat_eq, nat_lt, nat_le, List, ◌∷◌, [], ◌++◌, length, take, drop, slice_index, Option, Some, None, Result, Ok, Err, if◌then◌else◌}
+use Rattle.std.specs.Prelude.{◌≡◌, ◌≤◌, ℕ, zero, suc, ◌+◌, ◌==◌, ◌&&◌, nat_eq, nat_lt, nat_le, List, ◌∷◌, [], length, take, drop, slice_index, Option, Some, None, Result, Ok, Err, if◌then◌else◌}
 use Rattle.std.specs.List.{starts_with}
 use Rattle.byteorder.specs.Endian.{big_number}
 use Rattle.ckd_types.specs.declared.geometry.Cchh.{Cchh}
@@ -7,8 +7,7 @@ use Rattle.ckd_types.specs.declared.geometry.Geometry.{Geometry}
 use Rattle.ckd_types.specs.declared.record.Record.{Record}
 use Rattle.ckd_types.specs.declared.record.Track.{Track}
 use Rattle.ckd_types.specs.Geometry.{cost, capacity}
-use Rattle.ckd_types.specs.Track.{IsRecord, home_bytes, end_mark}
-use Rattle.track_image.specs.Image.{Image}
+use Rattle.ckd_types.specs.Track.{home_bytes, end_mark}
 use Rattle.track_image.specs.declared.count.Count.{Count}
 use Rattle.track_image.specs.declared.fault.BytesFault.{BytesFault}
 use Rattle.track_image.specs.declared.fault.BytesFault.TheVariants.{BadTrack, NoMemory}
@@ -17,6 +16,11 @@ infixl 10 ◌>>=◌
 abbrev pub ◌>>=◌ : {A B : Type 0} → Result A ℕ → (A → Result B ℕ) → Result B ℕ
 (Ok x) >>= f = f x
 (Err at) >>= f = Err at
+
+-- what was read, seen by view, or the same fault
+abbrev pub map_ok : {A B : Type 0} → (A → B) → Result A ℕ → Result B ℕ
+map_ok view (Ok x) = Ok (view x)
+map_ok view (Err at) = Err at
 
 -- What a call gave, seen by view, is what reading gives, unless memory ran out.
 abbrev pub Gives : {X Y : Type 0} → (X → Y) → Result X BytesFault → Result Y ℕ → Type 0
@@ -32,12 +36,16 @@ count_at bytes = record {
   body = big_number 2 (drop 6 bytes);
 }
 
+-- the record with a count area, and then key and data
+abbrev pub has_areas : Count → List ℕ → Record
+has_areas count bytes = record { id = count.id; key = take count.key bytes; body = take count.body (drop count.key bytes) }
+
 -- key and data, which stand at `at` behind their count area
 unfoldable pub areas_at : ℕ → Count → List ℕ → Result Record ℕ
 areas_at at count bytes =
     if nat_lt (length bytes) count.key then Err at
     else if nat_lt (length bytes) (count.key + count.body) then Err (at + count.key)
-    else Ok (record { id = count.id; key = take count.key bytes; body = take count.body (drop count.key bytes) })
+    else Ok (has_areas count bytes)
 
 -- record 0, which has no key and eight bytes of data
 unfoldable pub zero_at : ℕ → List ℕ → Result Record ℕ
@@ -78,11 +86,7 @@ reading g home bytes =
     else Err 0
 
 -- a record that stands in bytes, and fits behind those that took `spent` units
-pub record IsNext (g : Geometry) (spent : ℕ) (bytes : List ℕ) (r : Record) : Type 0 where
-  pub lengths : IsRecord r
-  pub size : size_of r ≤ length bytes
-  pub room : spent + cost g (length r.key) (length r.body) ≤ capacity g
-
--- the image with more records behind the last, where reading gave them
-abbrev pub with_others : Image → Result (List Record) ℕ → Result Image ℕ
-with_others i others = others >>= (λ more. Ok (record i { track = record i.track { records = i.track.records ++ more } }))
+pub record IsNext (g : Geometry) (spent : ℕ) (bytes : List ℕ) (count : Count) : Type 0 where
+  pub here : count ≡ count_at bytes
+  pub within : 8 + (count.key + count.body) ≤ length bytes
+  pub room : spent + cost g count.key count.body ≤ capacity g

@@ -16,22 +16,26 @@ pub(crate) struct Count {
     pub body: u16,
 }
 
+/// The id at the front of a count area.
+pub(crate) fn id_at(bytes: &[u8]) -> RecId
+    requires { 5 ≤ length bytes.now }
+    ensures { result ≡ (count_at bytes.now).id }
+{
+    let cc = BigEndian::read_u16(bytes);
+    let hh = BigEndian::read_u16(&bytes[2..]);
+    let cchh = Cchh { cc, hh };
+    RecId { cchh, r: bytes[4] }
+}
+
 /// The count area at the front of bytes.
 pub(crate) fn count_at(bytes: &[u8]) -> Count
     requires { 8 ≤ length bytes.now }
     ensures { result ≡ count_at bytes.now }
 {
-    let cc = BigEndian::read_u16(bytes);
-    let hh = BigEndian::read_u16(&bytes[2..]);
-    let r = bytes[4];
+    let id = id_at(bytes);
     let key = bytes[5];
     let body = BigEndian::read_u16(&bytes[6..]);
-    let cchh = Cchh { cc, hh };
-    Count {
-        id: RecId { cchh, r },
-        key,
-        body,
-    }
+    Count { id, key, body }
 }
 
 /// The count area of a record with this id, key and data.

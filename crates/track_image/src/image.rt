@@ -1,25 +1,25 @@
 ghost use Rattle.std.specs.Prelude.{◌≡◌, ◌≢◌, IsOk, ◌<◌, ◌≤◌, ◌^◌, ◌+◌, ◌↔◌, false, Err, IfOk, OnOk, OnErr, IfSome, All, [], ◌∷◌, ◌++◌, length, take, drop};
 ghost use Rattle.std.specs.List.{flat_map};
 ghost use Rattle.ckd_types.specs.Geometry.{cost, capacity};
-ghost use Rattle.ckd_types.specs.Track.{IsRecord, Fits, cost_of, find_id, empty_track, home_bytes, record_bytes};
+ghost use Rattle.ckd_types.specs.Track.{IsRecord, Fits, cost_of, find_id, empty_track, home_bytes, record_bytes, end_mark, track_bytes};
 ghost use Rattle.ckd_types.specs.declared.record.Edit.TheVariants as edits;
-ghost use Rattle.track_image.specs.Image.{IsImage, record_in, edited_image, is_room_behind, with_record};
+ghost use Rattle.track_image.specs.Image.{IsImage, record_in, edited_image, is_room_behind};
+ghost use Rattle.track_image.specs.Packed.{most_bytes};
 
-use crate::costs::{cost_of_record, cost_of_records};
-use crate::count::{AREA, home_area};
+use crate::count::home_area;
+use crate::packed::Packed;
 use crate::{AddFault, RecordRef};
 use ckd_types::{Bytes, Cchh, Geometry, NoMemory, RecId, Record, TrackNo, capacity, cchh_of, cost};
 use std::alloc::Global;
 use std::marker::Model;
 
-/// The records of a track that fits on its volume, record 0 first.
+/// The records of a track that fits on its volume, record 0 first, kept as the track's bytes.
 #[derive(Debug, Drop)]
 pub struct TrackImage {
-    geometry: Geometry,
-    home: Cchh,
-    records: Vec<Record>,
+    packed: Packed,
     /// The units that the records behind record 0 take.
     spent: u32,
+    geometry: Geometry,
 }
 
 impl Model for TrackImage {
@@ -29,25 +29,9 @@ impl Model for TrackImage {
 
     ghost Value = { Image };
 
-    ghost view = { λ i. record { geometry = i.geometry; track = record { home = i.home; records = i.records.items } } };
+    ghost view = { λ i. record { geometry = i.geometry; track = i.packed } };
 
-    ghost invariant = { λ i. IsImage (record { geometry = i.geometry; track = record { home = i.home; records = i.records.items } }) × (i.spent ≡ cost_of i.geometry i.records.items) };
-}
-
-/// Puts a record behind the one at `after`, in place of all that stood there.
-fn put_behind(records: &mut Vec<Record>, after: usize, added: Record) -> Result<(), NoMemory>
-    requires { after < length records.old.items }
-    ensures added { OnOk result (records.new.items ≡ take (after + 1) records.old.items ++ added ∷ []) }
-    ensures same { OnErr result (records.new.items ≡ records.old.items) }
-    ensures cut { after + 1 < length records.old.items → IsOk result }
-{
-    if after + 1 < records.len() {
-        records[after + 1] = added;
-        records.truncate(after + 2);
-    } else {
-        records.push(added)?;
-    }
-    Ok(())
+    ghost invariant = { λ i. IsImage (record { geometry = i.geometry; track = i.packed }) × (i.spent ≡ cost_of i.geometry i.packed.records) };
 }
 
 impl TrackImage {
@@ -56,54 +40,26 @@ impl TrackImage {
         ensures { IfOk result (λ made. made ≡ record { geometry = geometry; track = empty_track track }) }
     {
         let home = cchh_of(track);
-        let zero = Record {
-            id: RecId { cchh: home, r: 0 },
-            key: Bytes::new(),
-            body: Bytes::from_slice(alloc, &[0; 8])?,
-        };
-        TrackImage::of_zero(alloc, geometry, home, zero)
-    }
-
-    /// A track that has record 0 alone.
-    pub(crate) fn of_zero(
-        alloc: Global,
-        geometry: Geometry,
-        home: Cchh,
-        zero: Record,
-    ) -> Result<TrackImage, NoMemory>
-        requires key { length zero.key ≡ 0 }
-        requires body { length zero.body ≡ 8 }
-        ensures { IfOk result (λ made. made ≡ record { geometry = geometry; track = record { home = home; records = zero ∷ [] } }) }
-    {
-        let mut records = Vec::new(alloc);
-        records.push(zero)?;
+        let zero = RecordRef::new(RecId { cchh: home, r: 0 }, &[], &[0; 8]);
+        let packed = Packed::one(alloc, home, &zero)?;
         Ok(TrackImage {
-            geometry,
-            home,
-            records,
+            packed,
             spent: 0,
+            geometry,
         })
     }
 
-    /// Adds a record behind the last one.
-    pub(crate) fn push(&mut self, added: Record) -> Result<(), NoMemory>
-        requires lengths { IsRecord added }
-        requires room { cost_of self.old.geometry self.old.track.records + cost self.old.geometry (length added.key) (length added.body) ≤ capacity self.old.geometry }
-        ensures { OnOk result (self.new ≡ with_record self.old added) }
+    /// The track of packed records, of which those behind record 0 take so many units.
+    pub(crate) fn of(geometry: Geometry, packed: Packed, spent: u32) -> TrackImage
+        requires fits { IsImage (record { geometry = geometry; track = packed }) }
+        requires spent { spent ≡ cost_of geometry packed.records }
+        ensures { result ≡ record { geometry = geometry; track = packed } }
     {
-        let spent = self.spent + cost_of_record(self.geometry, &added);
-        self.records.push(added)?;
-        self.spent = spent;
-        Ok(())
-    }
-
-    /// The units that the records behind record 0 take.
-    pub(crate) fn spent(&self) -> u32
-        ensures value { result ≡ cost_of self.now.geometry self.now.track.records }
-        ensures bound { result ≤ capacity self.now.geometry }
-        ensures some { 0 < length self.now.track.records }
-    {
-        self.spent
+        TrackImage {
+            packed,
+            spent,
+            geometry,
+        }
     }
 
     pub fn geometry(&self) -> Geometry
@@ -115,14 +71,14 @@ impl TrackImage {
     pub fn home(&self) -> Cchh
         ensures { result ≡ self.now.track.home }
     {
-        self.home
+        self.packed.home()
     }
 
     /// The home address, as the track begins with it.
     pub fn home_area(&self) -> [u8; 5]
         ensures { result ≡ home_bytes self.now.track.home }
     {
-        home_area(self.home)
+        home_area(self.packed.home())
     }
 
     /// An image fits its volume, and its ids can be written.
@@ -136,13 +92,50 @@ impl TrackImage {
         ensures value { result ≡ length self.now.track.records }
         ensures least { 1 ≤ result }
     {
-        self.records.len()
+        self.packed.len()
     }
 
-    pub(crate) fn records(&self) -> &[Record]
-        ensures { result.now ≡ self.now.track.records }
+    /// The bytes of the track, as a volume holds them. Takes no memory.
+    pub fn bytes(&self) -> &[u8]
+        ensures value { result.now ≡ track_bytes self.now.track }
+        ensures most { length result.now ≤ most_bytes }
     {
-        &self.records
+        self.packed.bytes()
+    }
+
+    /// A copy of the bytes of the track, as a volume holds them.
+    pub fn to_bytes(&self, alloc: Global) -> Result<Bytes, NoMemory>
+        ensures { IfOk result (λ made. made ≡ track_bytes self.now.track) }
+    {
+        let bytes = self.packed.bytes();
+        let mut out = Vec::with_capacity(alloc, bytes.len())?;
+        out.extend_from_slice(bytes)?;
+        Ok(Bytes::from_vec(out))
+    }
+
+    /// The bytes of record `i` and those behind it, and the end mark. Takes no memory.
+    pub fn bytes_behind(&self, i: usize) -> &[u8]
+        requires { i ≤ length self.now.track.records }
+        ensures value { result.now ≡ flat_map record_bytes (drop i self.now.track.records) ++ end_mark }
+        ensures most { length result.now ≤ most_bytes }
+    {
+        self.packed.bytes_behind(i)
+    }
+
+    /// The bytes of record `i`. Takes no memory.
+    pub fn bytes_of(&self, i: usize) -> &[u8]
+        requires { i < length self.now.track.records }
+        ensures { result.now ≡ record_bytes (record_in self.now i) }
+    {
+        self.packed.bytes_of(i)
+    }
+
+    /// The bytes of record `i` and those behind it. Takes no memory.
+    pub fn bytes_of_rest(&self, i: usize) -> &[u8]
+        requires { i ≤ length self.now.track.records }
+        ensures { result.now ≡ flat_map record_bytes (drop i self.now.track.records) }
+    {
+        self.packed.bytes_of_rest(i)
     }
 
     /// The index of the first record with an id.
@@ -150,15 +143,14 @@ impl TrackImage {
         ensures found { result ≡ find_id id self.now.track.records }
         ensures range { IfSome result (λ i. i < length self.now.track.records) }
     {
-        self.records.iter().position(|record| record.id == id)
+        self.packed.find(id)
     }
 
     pub fn record_at(&self, i: usize) -> RecordRef<'_>
         requires { i < length self.now.track.records }
         ensures { result ≡ record_in self.now i }
     {
-        let record = &self.records[i];
-        RecordRef::new(record.id, record.key.as_slice(), record.body.as_slice())
+        self.packed.record_at(i)
     }
 
     /// How many bytes record `i` and those behind it have.
@@ -167,11 +159,7 @@ impl TrackImage {
         ensures value { result ≡ length (flat_map record_bytes (drop i self.now.track.records)) }
         ensures bound { result < 2 ^ 32 }
     {
-        let mut total = 0;
-        for record in &self.records[i..] {
-            total += AREA + record.key.len() + record.body.len();
-        }
-        total
+        self.packed.bytes_of_rest(i).len()
     }
 
     /// Whether a record with a key and data of these lengths fits behind record `after`.
@@ -188,11 +176,11 @@ impl TrackImage {
         ensures value { result ≡ cost_of self.now.geometry (take (after + 1) self.now.track.records) }
         ensures bound { result ≤ capacity self.now.geometry }
     {
-        let last = self.records.len() - 1;
+        let last = self.packed.len() - 1;
         if after == last {
             self.spent
         } else {
-            cost_of_records(self.geometry, &self.records[1..after + 1])
+            self.packed.cost_to(self.geometry, after)
         }
     }
 
@@ -203,9 +191,7 @@ impl TrackImage {
         requires body { length body.now ≡ length (record_in self.old i).body }
         ensures { self.new ≡ edited_image (edits.Update i key.now body.now) self.old }
     {
-        let changed = &mut self.records[i];
-        changed.key.overwrite(key);
-        changed.body.overwrite(body);
+        self.packed.overwrite(i, key, body);
     }
 
     /// Adds a record behind record `after`, and erases what stood there. Takes memory only behind
@@ -218,11 +204,14 @@ impl TrackImage {
         ensures same { OnErr result (self.new ≡ self.old) }
         ensures cut { after + 1 < length self.old.track.records → result ≢ Err AddFault.NoMemory }
     {
-        let spent = self.cost_to(after) + cost_of_record(self.geometry, &added);
+        let key = added.key.as_slice();
+        let body = added.body.as_slice();
+        let spent = self.cost_to(after) + cost(self.geometry, key.len() as u8, body.len() as u16);
         if spent > capacity(self.geometry) {
             return Err(AddFault::Unfit);
         }
-        put_behind(&mut self.records, after, added)?;
+        self.packed
+            .cut_and_add(after, &RecordRef::new(added.id, key, body))?;
         self.spent = spent;
         Ok(())
     }
@@ -233,23 +222,19 @@ impl TrackImage {
         requires body { length zero.body ≡ 8 }
         ensures { self.new ≡ edited_image (edits.Zero zero) self.old }
     {
-        self.records[0] = zero;
-        self.records.truncate(1);
+        let zero = RecordRef::new(zero.id, zero.key.as_slice(), zero.body.as_slice());
+        self.packed.set_zero(&zero);
         self.spent = 0;
     }
 
     pub fn copy(&self, alloc: Global) -> Result<TrackImage, NoMemory>
         ensures { IfOk result (λ made. made ≡ self.now) }
     {
-        let mut records = Vec::with_capacity(alloc, self.records.len())?;
-        for record in &self.records {
-            records.push(record.copy(alloc)?)?;
-        }
+        let packed = self.packed.copy(alloc)?;
         Ok(TrackImage {
-            geometry: self.geometry,
-            home: self.home,
-            records,
+            packed,
             spent: self.spent,
+            geometry: self.geometry,
         })
     }
 }

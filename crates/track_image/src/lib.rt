@@ -1,14 +1,14 @@
 //! Tracks of count-key-data volumes in memory, and their bytes.
 #![tactic(auto)]
 
-mod costs;
 mod count;
 mod fault;
 mod image;
 mod laws;
+mod packed;
 mod reading;
+mod tape;
 mod view;
-mod writing;
 
 pub use fault::{AddFault, BytesFault};
 pub use image::TrackImage;

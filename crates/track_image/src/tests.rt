@@ -125,3 +125,24 @@ fn edits_and_bytes(rt: HostRuntime) -> Result<(), Fail> {
     assert_eq!(rt; again.ok().ok_or("bytes of a track")?.len(), 3);
     Ok(())
 }
+
+#[test]
+fn eighty_records_take_few_requests_for_memory(rt: HostRuntime) -> Result<(), Fail> {
+    let mut bytes = [0xff; 1309];
+    bytes[..21].copy_from_slice(&EMPTY[..21]);
+    for i in 0..80 {
+        let at = 21 + 16 * i;
+        bytes[at..at + 8].copy_from_slice(&[0, 1, 0, 2, i as u8 + 1, 0, 0, 8]);
+    }
+    let track = TrackNo::new(17).ok_or("track")?;
+    let read = TrackImage::from_bytes(rt.alloc(), Geometry::D3390, track, &bytes);
+    let image = read.ok().ok_or("a track of eighty records")?;
+    assert_eq!(rt; image.len(), 81);
+    for i in 0..image.len() {
+        let record = image.record_at(i);
+        assert_eq!(rt; usize::from(record.id().r), i);
+        assert_eq!(rt; record.body().len(), 8);
+    }
+    assert_eq!(rt; image.bytes(), bytes.as_slice());
+    Ok(())
+}

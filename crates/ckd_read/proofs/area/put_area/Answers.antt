@@ -12,6 +12,3 @@ returns-in_ok-put-in-KeyData-2 c =
     let key = rw (c.key.ensures, c.record_at-read.ensures) at c.in_ok-put-in-KeyData.ensures in
     let body = rw (c.body-in-KeyData.ensures, c.record_at-read.ensures) at c.in_ok-put-in-KeyData-2.ensures in
     rw c.in-KeyData.is (takes_both _ _ _ _ _ key body)
-
-pub returns-in_ok-put-in-Track : goal.returns-in_ok-put-in-Track
-returns-in_ok-put-in-Track c = rw c.in-Track.is (takes_both _ _ _ _ _ c.in_ok-put_records-in-Track.ensures c.in_ok-put-in-Track.ensures)
