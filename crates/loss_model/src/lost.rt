@@ -1,35 +1,41 @@
-ghost use Rattle.std.specs.Prelude.{◌≡◌, ◌*◌, ◌<◌, ◌≤◌, IfOk, true, false, length, replicate, slice_get, slice_index_or, slice_set};
+ghost use Rattle.std.specs.Prelude.{◌≡◌, ℕ, ◌*◌, ◌<◌, ◌≤◌, true, false, length, replicate, slice_get, slice_index_or, slice_set};
+ghost use Rattle.track_table.specs.Bits.{is_marked};
+ghost use Rattle.track_table.specs.Marked.{marked_left};
 ghost use Rattle.loss_model.specs.Lost.{lost_tracks};
 
-use ckd_types::{HEADS, MOST_CYLINDERS, NoMemory, TrackNo};
-use std::alloc::Global;
+use ckd_types::{HEADS, TrackNo};
 use std::marker::Model;
+use track_table::{Marked, TrackBits};
 
 /// The lost tracks of a device. Contracts see a mark for each of its tracks.
 #[derive(Debug, Drop)]
 pub struct LostList {
-    marks: Vec<bool>,
+    marks: TrackBits,
+    /// The tracks of the device.
+    tracks: usize,
 }
 
 impl Model for LostList {
-    ghost use Rattle.std.specs.Prelude.{Bool, List, ◌≤◌, length};
+    ghost use Rattle.std.specs.Prelude.{◌≡◌, ℕ, Bool, false, List, ◌≤◌, length, take};
+    ghost use Rattle.track_table.specs.Bits.{is_marked};
 
     ghost Value = { List Bool };
 
-    ghost view = { λ l. l.marks.items };
+    ghost view = { λ l. take l.tracks l.marks };
 
-    ghost invariant = { λ l. length l.marks.items ≤ 960 };
+    ghost invariant = { λ l. (l.tracks ≤ 960) × (length l.marks ≡ 960) × ((t : ℕ) → l.tracks ≤ t → is_marked l.marks t ≡ false) };
 }
 
 impl LostList {
-    /// No track of a device with so many cylinders.
-    pub fn new(alloc: Global, cylinders: u8) -> Result<LostList, NoMemory>
+    /// No track of a device with so many cylinders. Takes no memory, as every call of a lost list.
+    pub fn new(cylinders: u8) -> LostList
         requires { cylinders ≤ 64 }
-        ensures { IfOk result (λ made. made ≡ replicate (cylinders * 15) false) }
+        ensures { result ≡ replicate (cylinders * 15) false }
     {
-        let tracks = usize::from(cylinders) * usize::from(HEADS);
-        let marks = vec![in alloc; false; tracks]?;
-        Ok(LostList { marks })
+        LostList {
+            marks: TrackBits::new(),
+            tracks: usize::from(cylinders) * usize::from(HEADS),
+        }
     }
 
     /// Adds a track. A track that is there stays there once.
@@ -37,41 +43,46 @@ impl LostList {
         requires { t < length self.old }
         ensures { self.new ≡ slice_set self.old t true }
     {
-        self.marks[usize::from(t.get())] = true;
+        self.marks.set(t, true);
     }
 
     pub fn has(&self, t: TrackNo) -> bool
         ensures { result ≡ slice_index_or self.now t false }
     {
-        let t = usize::from(t.get());
-        t < self.marks.len() && self.marks[t]
+        self.marks.has(t)
     }
 
     pub fn len(&self) -> usize
         ensures { result ≡ length (lost_tracks self.now) }
     {
-        let mut count = 0;
-        for lost in &self.marks {
-            if *lost {
-                count += 1;
-            }
-        }
-        count
+        usize::from(self.marks.count())
     }
 
     /// Track `i` of the list in rising order, counted from 0.
     pub fn nth(&self, i: usize) -> Option<TrackNo>
         ensures { result ≡ slice_get (lost_tracks self.now) i }
     {
-        let mut before = i;
-        for (t, lost) in self.marks.iter().enumerate() {
-            if *lost {
-                if before == 0 {
-                    return TrackNo::new(t as u16);
-                }
-                before -= 1;
-            }
-        }
-        None
+        self.marks.nth(i)
+    }
+
+    /// The tracks in rising order.
+    pub fn iter(&self) -> Marked<'_>
+        ensures { marked_left result ≡ lost_tracks self.now }
+    {
+        self.marks.iter()
+    }
+
+    /// The lost tracks as marks.
+    pub fn marks(&self) -> &TrackBits
+        ensures { (t : ℕ) → is_marked result.now t ≡ slice_index_or self.now t false }
+    {
+        &self.marks
+    }
+
+    /// No track is lost any more.
+    pub fn clear(&mut self)
+        ensures { self.new ≡ replicate (length self.old) false }
+    {
+        self.marks = TrackBits::new();
     }
 }

@@ -67,7 +67,7 @@ revised_twice rs x = revised_between rs [] x
 
 -- ---- lengths
 
-lengths_from : (x : List Record) (i k b : ℕ) → i < length x → length (get_or x i (empty_zero 0)).key ≡ k → length (get_or x i (empty_zero 0)).body ≡ b → has_lengths x i k b ≡ true
+pub lengths_from : (x : List Record) (i k b : ℕ) → i < length x → length (get_or x i (empty_zero 0)).key ≡ k → length (get_or x i (empty_zero 0)).body ≡ b → has_lengths x i k b ≡ true
 lengths_from x i k b place key body = and_from _ _ (lt-ltb _ _ place) (and_from _ _ (eq-eqb _ _ key) (eq-eqb _ _ body))
 
 pub front_lengths : (kept : Kept) (x : List Record) (i k b : ℕ) → is_kept kept i ≡ true → has_lengths x i k b ≡ true → has_lengths (stay kept x) i k b ≡ true
@@ -92,7 +92,7 @@ revised_lengths (r ∷ rs) x i k b all h =
     revised_lengths rs (put r x) i k b (all_kept Whole x r.index r.key r.body rs parts.0 ∙ parts.1) (lengths_kept x r.index r.key r.body i k b parts.0 ∙ h)
 
 -- the replacements of what stays
-front_replaceable : (kept : Kept) (x : List Record) (rs : List Replacement) → list_all (is_replaceable kept x) rs ≡ true → list_all (is_replaceable Whole (stay kept x)) rs ≡ true
+pub front_replaceable : (kept : Kept) (x : List Record) (rs : List Replacement) → list_all (is_replaceable kept x) rs ≡ true → list_all (is_replaceable Whole (stay kept x)) rs ≡ true
 front_replaceable kept x [] all = refl
 front_replaceable kept x (r ∷ rs) all =
     let parts = and_parts (is_replaceable kept x r) (list_all (is_replaceable kept x) rs) all in

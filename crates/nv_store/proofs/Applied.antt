@@ -20,7 +20,7 @@ use Rattle.nv_store.proofs.Revisions.{length_revised, revised_stay}
 abbrev fault : ApplyFault → Result Image ApplyFault
 fault e = Err e
 
-unfit_applied : (p : PatchView) (i : Image) → applies p i ≡ false → applied p i ≡ None
+pub unfit_applied : (p : PatchView) (i : Image) → applies p i ≡ false → applied p i ≡ None
 unfit_applied p i unfit = rw unfit refl
 
 pub unreached : (p : PatchView) (i : Image) → reaches p.kept i.track.records ≡ false → applied p i ≡ None
@@ -34,10 +34,13 @@ too_much p i unfit =
     let fit : is_fit i.geometry (patched p i.track.records) ≡ false = rw revised_stay at unfit in
     unfit_applied p i (and_right _ _ (and_right _ _ fit))
 
+pub no_memory : (p : PatchView) (i : Image) → applies p i ≡ true → Gives (fault NoMemory) (applied p i)
+no_memory p i good = rw good refl
+
 -- the end of a cut that failed
-pub cut_failed : (p : PatchView) (i : Image) (e : ApplyFault) → (e ≡ Unfit → is_fit i.geometry (stay p.kept (revised p.replaced i.track.records) ++ p.behind) ≡ false) → Gives (fault e) (applied p i)
-cut_failed p i Unfit unfit = too_much p i (unfit refl)
-cut_failed p i NoMemory unfit = tt
+pub cut_failed : (p : PatchView) (i : Image) (e : ApplyFault) → applies p i ≡ true → (e ≡ Unfit → is_fit i.geometry (stay p.kept (revised p.replaced i.track.records) ++ p.behind) ≡ false) → Gives (fault e) (applied p i)
+cut_failed p i Unfit good unfit = too_much p i (unfit refl)
+cut_failed p i NoMemory good unfit = no_memory p i good
 
 -- the image that was made
 pub made : (p : PatchView) (i out : Image) → reaches p.kept i.track.records ≡ true → list_all (is_replaceable p.kept i.track.records) p.replaced ≡ true → Fits out.geometry out.track

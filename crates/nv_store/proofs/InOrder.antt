@@ -42,7 +42,7 @@ put_past : (r : Replacement) (x : List Record) → length x ≤ r.index → put 
 put_past r x past = set_past x r.index (record (get_or x r.index (empty_zero 0)) { key = r.key; body = r.body }) past
 
 -- the replacements up to one
-abbrev up_to : ℕ → List Replacement → List Replacement
+abbrev pub up_to : ℕ → List Replacement → List Replacement
 up_to a rs = filter (λ (x : Replacement). nat_le x.index a) rs
 
 -- those behind it are of no record of a short track
@@ -100,16 +100,16 @@ length_put r s = length-set s r.index (record (get_or s r.index (empty_zero 0)) 
 -- ---- the records after the edits, by the patch
 
 -- what a patch makes of records, and where it reaches behind their end, as far as they go
-abbrev FollowsBy : Kept → List Replacement → List Record → List Record → List Record → Type 0
+abbrev pub FollowsBy : Kept → List Replacement → List Record → List Record → List Record → Type 0
 FollowsBy Whole rs behind x s = s ≡ revised rs x ++ behind
 FollowsBy Nothing rs behind x s = s ≡ behind
 FollowsBy (UpTo last) rs behind x s =
     ((last < length x) × (s ≡ revised rs (take (last + 1) x) ++ behind)) ⊎ ((length x ≤ last) × ((take (length x) s ≡ revised rs x) × (length x ≤ length s)))
 
-abbrev Follows : PatchView → List Record → List Record → Type 0
+abbrev pub Follows : PatchView → List Record → List Record → Type 0
 Follows p x s = FollowsBy p.kept p.replaced p.behind x s
 
-abbrev parts : List Replacement → Kept → List Record → PatchView
+abbrev pub parts : List Replacement → Kept → List Record → PatchView
 parts rs kept behind = record { replaced = rs; kept = kept; behind = behind }
 
 no_cut : (rs : List Replacement) (behind x s : List Record) → true ≡ (length behind == 0) → s ≡ revised rs x ++ behind → s ≡ revised rs x
@@ -172,7 +172,7 @@ cut_behind a last new rs behind x s past (inr h) =
     let fits : length x ≤ a + 1 = omega (arith, h.0) in
     inr (h.0, (short_cut a (length x) s new h.1.1 fits ∙ h.1.0, length_cut a (length x) s new h.1.1 fits))
 
-follows_added : (e : Edit) (kept : Kept) (rs : List Replacement) (behind x s : List Record) → is_whole kept ≡ (length behind == 0) → FollowsBy kept rs behind x s → Follows (added (parts rs kept behind) e) x (edited e s)
+pub follows_added : (e : Edit) (kept : Kept) (rs : List Replacement) (behind x s : List Record) → is_whole kept ≡ (length behind == 0) → FollowsBy kept rs behind x s → Follows (added (parts rs kept behind) e) x (edited e s)
 follows_added (Update i key body) Whole rs behind x s is h =
     let r : Replacement = record { index = i; key = key; body = body } in
     ap (put r) (no_cut rs behind x s is h) ∙ sym (revised_with r rs x) ∙ sym (append-nil (revised (with_replacement r rs) x)) ∙ ap (λ (y : List Record). revised (with_replacement r rs) x ++ y) (sym (nothing_behind behind is))
@@ -223,7 +223,7 @@ follows_all : (es : List Edit) (p : PatchView) (x s : List Record) → IsPatch p
 follows_all [] p x s is h = h
 follows_all (e ∷ es) p x s is h = follows_all es (added p e) x (edited e s) (added_is_patch e p.kept p.replaced p.behind is.behind) (follows_added e p.kept p.replaced p.behind x s is.behind h)
 
-follows_reached : (kept : Kept) (rs : List Replacement) (behind x s : List Record) → reaches kept x ≡ true → FollowsBy kept rs behind x s → s ≡ revised rs (stay kept x) ++ behind
+pub follows_reached : (kept : Kept) (rs : List Replacement) (behind x s : List Record) → reaches kept x ≡ true → FollowsBy kept rs behind x s → s ≡ revised rs (stay kept x) ++ behind
 follows_reached Whole rs behind x s reached h = h
 follows_reached Nothing rs behind x s reached h = rw (revised_nothing rs) h
 follows_reached (UpTo last) rs behind x s reached (inl h) = h.1

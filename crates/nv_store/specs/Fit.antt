@@ -1,9 +1,9 @@
 -- Whether records fit on a track, as a test.
-use Rattle.std.specs.Prelude.{◌==◌, ◌&&◌, nat_le, Bool, false, List, [], ◌∷◌, length}
+use Rattle.std.specs.Prelude.{ℕ, ◌+◌, ◌==◌, ◌&&◌, nat_le, sum_by, Bool, false, List, [], ◌∷◌, length}
 use Rattle.std.specs.List.{list_all}
 use Rattle.ckd_types.specs.declared.geometry.Geometry.{Geometry}
 use Rattle.ckd_types.specs.declared.record.Record.{Record}
-use Rattle.ckd_types.specs.Geometry.{capacity}
+use Rattle.ckd_types.specs.Geometry.{cost, capacity}
 use Rattle.ckd_types.specs.Track.{cost_of}
 
 abbrev pub is_record : Record → Bool
@@ -19,3 +19,7 @@ has_zero (r ∷ rest) = is_zero r
 
 abbrev pub is_fit : Geometry → List Record → Bool
 is_fit g records = has_zero records && (list_all is_record records && nat_le (cost_of g records) (capacity g))
+
+-- records fit behind others that take some units
+abbrev pub fit_units : Geometry → ℕ → List Record → Bool
+fit_units g spent records = list_all is_record records && nat_le (spent + sum_by (λ r. cost g (length r.key) (length r.body)) records) (capacity g)

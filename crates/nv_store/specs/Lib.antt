@@ -3,3 +3,4 @@ pub mod Gives
 pub mod Patch
 pub mod Patches
 pub mod Edits
+pub mod Room

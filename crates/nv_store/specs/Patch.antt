@@ -35,6 +35,16 @@ is_kept Whole index = true
 is_kept (UpTo last) index = nat_le index last
 is_kept Nothing index = false
 
+-- no two replacements are of one record
+abbrev pub is_once : List Replacement → Bool
+is_once [] = true
+is_once (r ∷ replaced) = list_all (λ s. not (s.index == r.index)) replaced && is_once replaced
+
+-- each record that stays has one replacement at most, and no other record has one
+pub record IsReduced (p : PatchView) : Type 0 where
+  pub once : is_once p.replaced ≡ true
+  pub stays : list_all (λ r. is_kept p.kept r.index) p.replaced ≡ true
+
 -- where a record that doesn't stay is among those behind
 abbrev pub place_behind : Kept → ℕ → ℕ
 place_behind Whole index = index

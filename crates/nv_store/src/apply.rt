@@ -4,9 +4,9 @@ ghost use Rattle.ckd_types.specs.declared.record.Edit.TheVariants as edits;
 ghost use Rattle.track_image.specs.Image.{edited_image};
 ghost use Rattle.nv_store.specs.Fit.{is_fit};
 ghost use Rattle.nv_store.specs.Gives.{Gives};
-ghost use Rattle.nv_store.specs.Patch.{is_whole, reaches, has_lengths, is_replaceable, revised, stay, applied};
+ghost use Rattle.nv_store.specs.Patch.{is_whole, reaches, has_lengths, is_replaceable, revised, stay, applies, applied};
 
-use crate::fit::{is_zero, put_copies, put_copy};
+use crate::fit::{fits, is_zero, put_copies, put_copy};
 use crate::{ApplyFault, Kept, Patch, Replacement};
 use ckd_types::Record;
 use std::alloc::Global;
@@ -108,36 +108,60 @@ fn cut(
     }
 }
 
+/// Whether a patch has what it needs in an image, and what comes of it fits the track.
+fn applies(image: &TrackImage, kept: Kept, replaced: &[Replacement], behind: &[Record]) -> bool
+    requires { is_whole kept ≡ (length behind.now == 0) }
+    ensures { result ≡ applies (record { replaced = replaced.now; kept = kept; behind = behind.now }) image.now }
+{
+    if !reaches(kept, image) {
+        return false;
+    }
+    if !are_replaceable(kept, image, replaced) {
+        return false;
+    }
+    fits(image, kept, behind)
+}
+
+/// The patched image, of one that the patch applies to.
 fn patched(
     alloc: Global,
-    image: &TrackImage,
+    mut image: TrackImage,
     kept: Kept,
     replaced: &[Replacement],
     behind: &[Record],
 ) -> Result<TrackImage, ApplyFault>
-    requires { is_whole kept ≡ (length behind.now == 0) }
-    ensures { Gives result (applied (record { replaced = replaced.now; kept = kept; behind = behind.now }) image.now) }
+    requires behind { is_whole kept ≡ (length behind.now == 0) }
+    requires applies { applies (record { replaced = replaced.now; kept = kept; behind = behind.now }) image ≡ true }
+    ensures { Gives result (applied (record { replaced = replaced.now; kept = kept; behind = behind.now }) image) }
 {
-    if !reaches(kept, image) {
-        return Err(ApplyFault::Unfit);
-    }
-    if !are_replaceable(kept, image, replaced) {
-        return Err(ApplyFault::Unfit);
-    }
-    let mut patched = image.copy(alloc)?;
-    revise(&mut patched, kept, replaced);
-    cut(alloc, &mut patched, kept, behind)?;
-    patched.fits();
-    Ok(patched)
+    revise(&mut image, kept, replaced);
+    cut(alloc, &mut image, kept, behind)?;
+    image.fits();
+    Ok(image)
 }
 
 impl Patch {
     /// The image of the track with the edits that were added, in their order. An update of a record
-    /// that isn't there changes nothing.
+    /// that isn't there changes nothing. The image itself stays as it is.
     pub fn apply(&self, alloc: Global, image: &TrackImage) -> Result<TrackImage, ApplyFault>
         ensures { Gives result (applied self.now image.now) }
     {
         self.is_patch();
+        if !applies(image, self.kept(), self.replaced(), self.behind()) {
+            return Err(ApplyFault::Unfit);
+        }
+        let image = image.copy(alloc)?;
+        patched(alloc, image, self.kept(), self.replaced(), self.behind())
+    }
+
+    /// The same image, made of the one that is handed in, without a copy of it.
+    pub fn apply_in_place(&self, alloc: Global, image: TrackImage) -> Result<TrackImage, ApplyFault>
+        ensures { Gives result (applied self.now image) }
+    {
+        self.is_patch();
+        if !applies(&image, self.kept(), self.replaced(), self.behind()) {
+            return Err(ApplyFault::Unfit);
+        }
         patched(alloc, image, self.kept(), self.replaced(), self.behind())
     }
 }

@@ -1,10 +1,13 @@
-ghost use Rattle.std.specs.Prelude.{◌≡◌, ◌<◌, ◌+◌, ◌++◌, ◌∷◌, [], Err, OnOk, false, take, length};
+ghost use Rattle.std.specs.Prelude.{◌≡◌, ◌≤◌, ◌==◌, true, ◌<◌, ◌+◌, ◌++◌, ◌∷◌, [], Err, OnOk, false, take, length};
 ghost use Rattle.ckd_types.specs.declared.record.Edit.TheVariants as edits;
 ghost use Rattle.track_image.specs.Image.{edited_image};
-ghost use Rattle.nv_store.specs.Fit.{is_record, is_zero, is_fit};
+ghost use Rattle.ckd_types.specs.Geometry.{capacity};
+ghost use Rattle.ckd_types.specs.Track.{cost_of};
+ghost use Rattle.nv_store.specs.Fit.{is_record, is_zero, is_fit, fit_units};
+ghost use Rattle.nv_store.specs.Patch.{is_whole, reaches, stay};
 
-use crate::ApplyFault;
-use ckd_types::{NoMemory, Record};
+use crate::{ApplyFault, Kept};
+use ckd_types::{Geometry, NoMemory, Record, capacity, cost};
 use std::alloc::Global;
 use track_image::{AddFault, TrackImage};
 
@@ -57,4 +60,56 @@ pub(crate) fn put_copies(
         put_copy(alloc, image, last, record)?;
     }
     Ok(())
+}
+
+/// Whether records have a record's lengths and fit behind others that take so many units.
+fn fit_behind(geometry: Geometry, spent: u32, records: &[Record]) -> bool
+    requires { spent ≤ capacity geometry }
+    ensures { result ≡ fit_units geometry spent records.now }
+{
+    let mut units = u64::from(spent);
+    for record in records {
+        if !is_record(record) {
+            return false;
+        }
+        let (key, body) = (record.key.len() as u8, record.body.len() as u16);
+        units += u64::from(cost(geometry, key, body));
+        if units > u64::from(capacity(geometry)) {
+            return false;
+        }
+    }
+    true
+}
+
+/// The units that records 1 to `last` take.
+fn units_to(image: &TrackImage, last: usize) -> u32
+    requires { last < length image.now.track.records }
+    ensures value { result ≡ cost_of image.now.geometry (take (last + 1) image.now.track.records) }
+    ensures bound { result ≤ capacity image.now.geometry }
+{
+    image.fits();
+    let mut units = 0;
+    for i in 0..last {
+        let record = image.record_at(i + 1);
+        let (key, body) = (record.key().len() as u8, record.body().len() as u16);
+        units += cost(image.geometry(), key, body);
+    }
+    units
+}
+
+/// Whether the records that stay and those behind them fit on the track.
+pub(crate) fn fits(image: &TrackImage, kept: Kept, behind: &[Record]) -> bool
+    requires reached { reaches kept image.now.track.records ≡ true }
+    requires behind { is_whole kept ≡ (length behind.now == 0) }
+    ensures { result ≡ is_fit image.now.geometry (stay kept image.now.track.records ++ behind.now) }
+{
+    image.fits();
+    match kept {
+        Kept::Whole => true,
+        Kept::UpTo(last) => fit_behind(image.geometry(), units_to(image, last), behind),
+        Kept::Nothing => {
+            let zero = &behind[0];
+            is_zero(zero) && is_record(zero) && fit_behind(image.geometry(), 0, &behind[1..])
+        }
+    }
 }

@@ -7,10 +7,12 @@ mod fit;
 mod laws;
 mod patch;
 mod patches;
+mod room;
 #[cfg(test)]
 mod tests;
 
 pub use fault::ApplyFault;
-pub use laws::{edits_in_order, fit_is_tested, twice_is_once};
+pub use laws::{edits_in_order, fit_is_tested, one_more, twice_is_once};
 pub use patch::{Kept, Patch, Replacement};
 pub use patches::{Patches, Stored};
+pub use room::EditRoom;

@@ -1,8 +1,10 @@
-ghost use Rattle.std.specs.Prelude.{◌≡◌, ◌≤◌, ◌<◌, ◌+◌, ◌==◌, ◌++◌, not, false, OnOk, OnErr, [], ◌∷◌, filter, nat_le, length, vec_len, vec_capacity};
+ghost use Rattle.std.specs.Prelude.{◌≡◌, ◌≤◌, ◌<◌, ◌+◌, ◌==◌, ◌++◌, not, false, IfOk, OnOk, OnErr, [], ◌∷◌, filter, nat_le, length, vec_len, vec_capacity};
 ghost use Rattle.ckd_types.specs.declared.record.Edit.TheVariants as edits;
 ghost use Rattle.ckd_types.specs.Edit.{edited};
-ghost use Rattle.nv_store.specs.Patch.{IsPatch, no_edits, is_kept, place_behind, with_replacement, added};
+ghost use Rattle.nv_store.specs.Patch.{IsPatch, IsReduced, no_edits, is_kept, place_behind, with_replacement, added};
+ghost use Rattle.nv_store.specs.Room.{room_of};
 
+use crate::EditRoom;
 use ckd_types::{Bytes, Edit, NoMemory, Record};
 use std::alloc::Global;
 use std::marker::Model;
@@ -57,24 +59,23 @@ pub struct Patch {
 }
 
 impl Model for Patch {
-    ghost use Rattle.nv_store.specs.Patch.{PatchView, IsPatch};
+    ghost use Rattle.nv_store.specs.Patch.{PatchView, IsPatch, IsReduced};
 
     ghost Value = { PatchView };
 
     ghost view = { λ p. record { replaced = p.replaced.items; kept = p.kept; behind = p.behind.items } };
 
-    ghost invariant = { λ p. IsPatch (record { replaced = p.replaced.items; kept = p.kept; behind = p.behind.items }) };
+    ghost invariant = { λ p. IsPatch (record { replaced = p.replaced.items; kept = p.kept; behind = p.behind.items }) × IsReduced (record { replaced = p.replaced.items; kept = p.kept; behind = p.behind.items }) };
 }
 
-fn put_replacement(replaced: &mut Vec<Replacement>, new: Replacement) -> Result<(), NoMemory>
-    ensures put { OnOk result (replaced.new.items ≡ with_replacement new replaced.old.items) }
-    ensures same { OnErr result (replaced.new.items ≡ replaced.old.items) }
+/// Puts a replacement in the place of an older one of its record, in room that was made.
+fn put_replacement(replaced: &mut Vec<Replacement>, new: Replacement)
+    requires { vec_len replaced.old < vec_capacity replaced.old }
+    ensures { replaced.new.items ≡ with_replacement new replaced.old.items }
 {
-    replaced.reserve(1)?;
     let index = new.index;
     replaced.retain(|r| r.index != index);
     replaced.push_reserved(new);
-    Ok(())
 }
 
 /// Changes a record, where it is there.
@@ -88,34 +89,82 @@ fn update_record(records: &mut Vec<Record>, index: usize, key: Bytes, body: Byte
     }
 }
 
-/// Puts a record behind another one, or behind the last, and drops what stood there.
-fn put_record(records: &mut Vec<Record>, after: usize, new: Record) -> Result<(), NoMemory>
-    ensures put { OnOk result (records.new.items ≡ edited (edits.Format after new) records.old.items) }
-    ensures same { OnErr result (records.new.items ≡ records.old.items) }
+/// Puts a record behind another one, or behind the last, in room that was made, and drops what stood there.
+fn put_record(records: &mut Vec<Record>, after: usize, new: Record)
+    requires { vec_len records.old < vec_capacity records.old }
+    ensures { records.new.items ≡ edited (edits.Format after new) records.old.items }
 {
-    records.reserve(1)?;
     if after < records.len() {
         records.truncate(after + 1);
     }
     records.push_reserved(new);
-    Ok(())
 }
 
-/// Puts a record in place of all.
-fn put_alone(records: &mut Vec<Record>, new: Record) -> Result<(), NoMemory>
-    ensures put { OnOk result (records.new.items ≡ new ∷ []) }
-    ensures same { OnErr result (records.new.items ≡ records.old.items) }
+/// Puts a record in place of all, in room that was made.
+fn put_alone(records: &mut Vec<Record>, new: Record)
+    requires { vec_len records.old < vec_capacity records.old }
+    ensures { records.new.items ≡ new ∷ [] }
 {
-    records.reserve(1)?;
     records.clear();
     records.push_reserved(new);
-    Ok(())
 }
 
 fn drop_behind(replaced: &mut Vec<Replacement>, after: usize)
     ensures { replaced.new.items ≡ filter (λ r. nat_le r.index after) replaced.old.items }
 {
     replaced.retain(|r| r.index <= after);
+}
+
+/// Adds an edit in room that was made.
+fn put_edit(replaced: &mut Vec<Replacement>, kept: &mut Kept, behind: &mut Vec<Record>, e: Edit)
+    requires { (vec_len replaced.old < vec_capacity replaced.old) × (vec_len behind.old < vec_capacity behind.old) }
+    ensures { record { replaced = replaced.new.items; kept = kept.new; behind = behind.new.items } ≡ added (record { replaced = replaced.old.items; kept = kept.old; behind = behind.old.items }) e }
+{
+    match e {
+        Edit::Update { index, key, body } => {
+            if kept.keeps(index) {
+                put_replacement(replaced, Replacement { index, key, body });
+            } else {
+                update_record(behind, kept.place_behind(index), key, body);
+            }
+        }
+        Edit::Format { after, added } => {
+            if kept.keeps(after) {
+                put_alone(behind, added);
+                drop_behind(replaced, after);
+                *kept = Kept::UpTo(after);
+            } else {
+                put_record(behind, kept.place_behind(after), added);
+            }
+        }
+        Edit::Zero { added } => {
+            put_alone(behind, added);
+            replaced.clear();
+            *kept = Kept::Nothing;
+        }
+    }
+}
+
+impl Replacement {
+    fn copy(&self, alloc: Global) -> Result<Replacement, NoMemory>
+        ensures { IfOk result (λ made. made ≡ self.now) }
+    {
+        Ok(Replacement {
+            index: self.index,
+            key: self.key.copy(alloc)?,
+            body: self.body.copy(alloc)?,
+        })
+    }
+}
+
+fn copies(alloc: Global, records: &[Record]) -> Result<Vec<Record>, NoMemory>
+    ensures { IfOk result (λ made. made.items ≡ records.now) }
+{
+    let mut made = Vec::with_capacity(alloc, records.len())?;
+    for record in records {
+        made.push(record.copy(alloc)?)?;
+    }
+    Ok(made)
 }
 
 impl Patch {
@@ -130,11 +179,44 @@ impl Patch {
         }
     }
 
-    /// A patch has records behind those that stay exactly where not all stay.
+    /// A copy with one more edit.
+    pub fn with(&self, alloc: Global, e: Edit) -> Result<Patch, NoMemory>
+        ensures { IfOk result (λ made. made ≡ added self.now e) }
+    {
+        let mut made = self.copy(alloc)?;
+        made.add(e)?;
+        Ok(made)
+    }
+
+    pub fn copy(&self, alloc: Global) -> Result<Patch, NoMemory>
+        ensures { IfOk result (λ made. made ≡ self.now) }
+    {
+        let mut replaced = Vec::with_capacity(alloc, self.replaced.len())?;
+        for r in &self.replaced {
+            replaced.push(r.copy(alloc)?)?;
+        }
+        let behind = copies(alloc, &self.behind)?;
+        Ok(Patch {
+            replaced,
+            kept: self.kept,
+            behind,
+        })
+    }
+
+    /// What is so of every patch: records stand behind those that stay exactly where not all stay, and
+    /// each record that stays has one replacement at most, and no other record has one.
     pub fn is_patch(&self)
-        ensures { IsPatch self.now }
+        ensures behind { IsPatch self.now }
+        ensures reduced { IsReduced self.now }
     {
         let _ = &self.kept;
+    }
+
+    /// How many edits the room has to have in which one more is added.
+    pub fn room(&self) -> usize
+        ensures { result ≡ room_of self.now }
+    {
+        self.replaced.len().max(self.behind.len()) + 1
     }
 
     pub(crate) fn replaced(&self) -> &[Replacement]
@@ -160,46 +242,18 @@ impl Patch {
         ensures added { OnOk result (self.new ≡ added self.old e) }
         ensures same { OnErr result (self.new ≡ self.old) }
     {
-        match e {
-            Edit::Update { index, key, body } => self.add_update(index, key, body),
-            Edit::Format { after, added } => self.add_format(after, added),
-            Edit::Zero { added } => self.add_zero(added),
-        }
-    }
-
-    fn add_update(&mut self, index: usize, key: Bytes, body: Bytes) -> Result<(), NoMemory>
-        ensures added { OnOk result (self.new ≡ added self.old (edits.Update index key body)) }
-        ensures same { OnErr result (self.new ≡ self.old) }
-    {
-        if self.kept.keeps(index) {
-            put_replacement(&mut self.replaced, Replacement { index, key, body })
-        } else {
-            update_record(&mut self.behind, self.kept.place_behind(index), key, body);
-            Ok(())
-        }
-    }
-
-    fn add_format(&mut self, after: usize, new: Record) -> Result<(), NoMemory>
-        ensures added { OnOk result (self.new ≡ added self.old (edits.Format after new)) }
-        ensures same { OnErr result (self.new ≡ self.old) }
-    {
-        if self.kept.keeps(after) {
-            put_alone(&mut self.behind, new)?;
-            drop_behind(&mut self.replaced, after);
-            self.kept = Kept::UpTo(after);
-            Ok(())
-        } else {
-            put_record(&mut self.behind, self.kept.place_behind(after), new)
-        }
-    }
-
-    fn add_zero(&mut self, new: Record) -> Result<(), NoMemory>
-        ensures added { OnOk result (self.new ≡ added self.old (edits.Zero new)) }
-        ensures same { OnErr result (self.new ≡ self.old) }
-    {
-        put_alone(&mut self.behind, new)?;
-        self.replaced.clear();
-        self.kept = Kept::Nothing;
+        self.replaced.reserve(1)?;
+        self.behind.reserve(1)?;
+        put_edit(&mut self.replaced, &mut self.kept, &mut self.behind, e);
         Ok(())
+    }
+
+    /// Adds an edit behind those that were added, in room that was made. Takes no memory.
+    pub fn add_within(&mut self, e: Edit, room: &mut EditRoom)
+        requires { room_of self.old ≤ room.old }
+        ensures { self.new ≡ added self.old e }
+    {
+        room.serve(&mut self.replaced, &mut self.behind);
+        put_edit(&mut self.replaced, &mut self.kept, &mut self.behind, e);
     }
 }

@@ -1,13 +1,15 @@
-ghost use Rattle.std.specs.Prelude.{◌≡◌, ◌≤◌, ◌<◌, ◌*◌, IsOk, OnOk, OnErr, IsTrue, false, [], None, length, replicate, count_by, is_some, slice_set};
+ghost use Rattle.std.specs.Prelude.{◌≡◌, ℕ, ◌<◌, ◌≤◌, ◌*◌, IsOk, OnOk, OnErr, IsTrue, false, [], None, length, replicate, slice_set};
 ghost use Rattle.std.specs.Option.{option_copied};
+ghost use Rattle.track_table.specs.Bits.{is_marked};
 ghost use Rattle.track_table.specs.Table.{with_places};
 ghost use Rattle.nv_store.specs.Patches.{stored_at, has_patch, patch_at, slot_at, with_edit, put_patch};
+ghost use Rattle.nv_store.specs.Room.{room_for};
 
-use crate::Patch;
+use crate::{EditRoom, Patch};
 use ckd_types::{Edit, HEADS, NoMemory, TrackNo};
 use std::alloc::Global;
 use std::marker::Model;
-use track_table::TrackTable;
+use track_table::{TrackBits, TrackTable};
 
 /// A patch, and the slot of the store that holds it.
 #[derive(Debug, Drop)]
@@ -77,12 +79,11 @@ impl Patches {
         }
     }
 
-    /// The number of patches.
-    pub fn count(&self) -> usize
-        ensures count { result ≡ count_by is_some self.now }
-        ensures range { result ≤ 960 }
+    /// The tracks that have a patch.
+    pub fn patched_tracks(&self) -> &TrackBits
+        ensures { (t : ℕ) → is_marked result.now t ≡ has_patch self.now t }
     {
-        self.table.count()
+        self.table.held()
     }
 
     /// Puts a patch and its slot into a track's place. Takes memory only where the track has no place.
@@ -108,6 +109,38 @@ impl Patches {
         let added = stored.patch.add(e);
         self.table.exchange(t, Some(stored));
         added
+    }
+
+    /// Makes room for one more edit of a track's patch, or for a first one.
+    pub fn room(&self, t: TrackNo, room: &mut EditRoom) -> Result<(), NoMemory>
+        ensures made { OnOk result (room_for (stored_at self.now t) ≤ room.new) }
+        ensures least { room.old ≤ room.new }
+    {
+        let edits = match self.table.get(t) {
+            Some(stored) => stored.patch.room(),
+            None => 1,
+        };
+        room.reserve(edits)
+    }
+
+    /// Adds an edit to a track's patch, in room that was made. Takes no memory.
+    #[tactic(auto, using(track_table::proofs::Places::set_again))]
+    pub fn add_within(&mut self, t: TrackNo, e: Edit, room: &mut EditRoom)
+        requires patch { IsTrue (has_patch self.old t) }
+        requires room { room_for (stored_at self.old t) ≤ room.old }
+        ensures { self.new ≡ slice_set self.old t (with_edit e (stored_at self.old t)) }
+    {
+        let mut stored = self.table.exchange(t, None).unwrap();
+        stored.patch.add_within(e, room);
+        self.table.exchange(t, Some(stored));
+    }
+
+    /// Puts another patch and its slot, or none, into a track's place. Takes no memory: without a
+    /// place there is nothing to do.
+    pub fn set(&mut self, t: TrackNo, stored: Option<Stored>)
+        ensures { self.new ≡ slice_set self.old t stored }
+    {
+        self.table.exchange(t, stored);
     }
 
     /// Drops a track's patch, and gives its slot.

@@ -1,7 +1,7 @@
 ghost use Rattle.std.specs.Prelude.{◌≡◌, ◌≤◌, IfOk, length};
 ghost use Rattle.ckd_types.specs.Track.{IsRecord};
 
-use crate::{ApplyFault, Patch, Patches};
+use crate::{ApplyFault, EditRoom, Patch, Patches};
 use ckd_types::{Bytes, Cchh, Edit, Geometry, NoMemory, RecId, Record, TrackNo};
 use std::alloc::Global;
 use std::test::Fail;
@@ -235,7 +235,11 @@ fn patches_come_and_go(rt: HostRuntime) -> Result<(), Fail> {
         patches.put(t, Patch::new(alloc), 7)?;
     }
     assert_eq!(rt;
-        (patches.has(t), patches.slot_of(t), patches.count()),
+        (
+            patches.has(t),
+            patches.slot_of(t),
+            patches.patched_tracks().count()
+        ),
         (true, Some(7), 1)
     );
     if patches.has(t) {
@@ -244,5 +248,27 @@ fn patches_come_and_go(rt: HostRuntime) -> Result<(), Fail> {
     let patched = apply(alloc, patches.get(t).ok_or("patch")?, &track(alloc, 2)?)?;
     assert_eq!(rt; patched.ok_or("unfit")?.len(), 1);
     assert_eq!(rt; (patches.take(t), patches.has(t)), (Some(7), false));
+    Ok(())
+}
+
+#[test]
+fn edits_in_room(rt: HostRuntime) -> Result<(), Fail> {
+    let alloc = rt.alloc();
+    let mut room = EditRoom::new(alloc);
+    let mut patch = Patch::new(alloc);
+    room.reserve(patch.room())?;
+    patch.add_within(edit(alloc, Step::Zero(1))?, &mut room);
+    let patched = patch.apply_in_place(alloc, track(alloc, 2)?);
+    assert_eq!(rt; patched.is_ok(), true);
+    let mut patches = Patches::new(alloc);
+    let t = TrackNo::new(3).ok_or("track")?;
+    if !patches.has(t) {
+        patches.put(t, patch, 0)?;
+    }
+    patches.room(t, &mut room)?;
+    if patches.has(t) {
+        patches.add_within(t, edit(alloc, Step::Format(0, 2))?, &mut room);
+    }
+    assert_eq!(rt; patches.has(t), true);
     Ok(())
 }

@@ -26,7 +26,7 @@ fn waiting_tracks(rt: HostRuntime) -> Result<(), Fail> {
     let alloc = rt.alloc();
     let mut frames = Frames::new(alloc);
     let mut patches = Patches::new(alloc);
-    let mut lost = LostList::new(alloc, 4)?;
+    let mut lost = LostList::new(4);
     assert_eq!(rt;
         (
             pending(&frames, &patches, &lost),

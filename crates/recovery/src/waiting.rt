@@ -1,11 +1,12 @@
-ghost use Rattle.std.specs.Prelude.{◌≡◌, ◌≤◌};
+ghost use Rattle.std.specs.Prelude.{◌≡◌, ℕ};
+ghost use Rattle.track_table.specs.Bits.{is_marked};
 ghost use Rattle.recovery.specs.Waiting.{is_waiting, waiting_count, next_waiting};
 
 use ckd_types::TrackNo;
 use loss_model::LostList;
 use nv_store::Patches;
 use track_cache::Frames;
-use track_table::MOST_TRACKS;
+use track_table::TrackBits;
 
 /// Whether a track that isn't lost has a patch and no frame, or a modified frame and no patch.
 pub fn waits(frames: &Frames, patches: &Patches, lost: &LostList, t: TrackNo) -> bool
@@ -20,41 +21,26 @@ pub fn waits(frames: &Frames, patches: &Patches, lost: &LostList, t: TrackNo) ->
     }
 }
 
+/// The tracks that wait.
+fn waiting(frames: &Frames, patches: &Patches, lost: &LostList) -> TrackBits
+    ensures { (t : ℕ) → is_marked result t ≡ is_waiting frames.now patches.now lost.now t }
+{
+    let patched = patches.patched_tracks();
+    let without_frame = patched.without(frames.framed_tracks());
+    let without_patch = frames.modified_tracks().without(patched);
+    without_frame.or(&without_patch).without(lost.marks())
+}
+
 /// The number of waiting tracks.
-#[tactic(auto, unfolding(track_table::specs::Tracks::count_below))]
 pub fn pending(frames: &Frames, patches: &Patches, lost: &LostList) -> u16
     ensures { result ≡ waiting_count frames.now patches.now lost.now }
 {
-    let mut waiting = 0;
-    // The modified frames and the patches of track `n` and behind it: only they can wait.
-    let mut left = frames.modified_count() + patches.count();
-    for n in 0..MOST_TRACKS {
-        if left == 0 {
-            return waiting;
-        }
-        let t = TrackNo::new(n).unwrap();
-        waiting += u16::from(waits(frames, patches, lost, t));
-        left -= usize::from(frames.modified(t)) + usize::from(patches.has(t));
-    }
-    waiting
+    waiting(frames, patches, lost).count()
 }
 
 /// The least waiting track.
-#[tactic(auto, unfolding(track_table::specs::Tracks::least))]
 pub fn next(frames: &Frames, patches: &Patches, lost: &LostList) -> Option<TrackNo>
     ensures { result ≡ next_waiting frames.now patches.now lost.now }
 {
-    // The modified frames and the patches of track `n` and behind it: only they can wait.
-    let mut left = frames.modified_count() + patches.count();
-    for n in 0..MOST_TRACKS {
-        if left == 0 {
-            return None;
-        }
-        let t = TrackNo::new(n).unwrap();
-        if waits(frames, patches, lost, t) {
-            return Some(t);
-        }
-        left -= usize::from(frames.modified(t)) + usize::from(patches.has(t));
-    }
-    None
+    waiting(frames, patches, lost).first()
 }

@@ -4,7 +4,7 @@ use ckd_types::TrackNo;
 use std::marker::Model;
 
 /// Tracks that wait, at most 64. Contracts see them as a list, the oldest first.
-#[derive(Drop)]
+#[derive(Debug, Drop)]
 pub struct Queue {
     slots: [TrackNo; 64],
     oldest: usize,

@@ -1,6 +1,8 @@
 -- What a cache holds: a list with a place for each track.
-use Rattle.std.specs.Prelude.{ℕ, ◌+◌, Bool, false, List, slice_set, count_by, Option, Some, None, if◌then◌else◌}
-use Rattle.track_image.specs.Image.{Image}
+use Rattle.std.specs.Prelude.{ℕ, ◌+◌, Bool, false, List, slice_set, Option, Some, None, if◌then◌else◌}
+use Rattle.ckd_types.specs.declared.record.Edit.{Edit}
+use Rattle.plain_defs.specs.Turn.{Suits}
+use Rattle.track_image.specs.Image.{Image, edited_image}
 use Rattle.track_table.specs.Table.{entry_at, has_entry, with_places}
 use Rattle.track_cache.specs.declared.frames.Frame.{Frame}
 
@@ -26,14 +28,20 @@ is_modified_frame (Some f) = f.modified
 abbrev pub is_modified : List (Option Frame) → ℕ → Bool
 is_modified frames t = is_modified_frame (frame_at frames t)
 
--- the number of modified frames
-abbrev pub modified_count : List (Option Frame) → ℕ
-modified_count frames = count_by is_modified_frame frames
-
 -- the frame with the mark
 abbrev pub with_mark : Bool → Option Frame → Option Frame
 with_mark modified None = None
 with_mark modified (Some f) = Some (record f { modified = modified })
+
+-- the frame with an edit of its image
+abbrev pub edited_frame : Edit → Option Frame → Option Frame
+edited_frame e None = None
+edited_frame e (Some f) = Some (record f { image = edited_image e f.image })
+
+-- there is a frame, and the edit suits its image
+abbrev pub SuitsFrame : Edit → Option Frame → Type 0
+SuitsFrame e None = ⊥
+SuitsFrame e (Some f) = Suits f.image.geometry f.image.track.records e
 
 -- the frame, where it is modified
 abbrev pub unless_clean : Option Frame → Option Frame

@@ -1,14 +1,16 @@
-ghost use Rattle.std.specs.Prelude.{◌≡◌, ◌≤◌, ◌<◌, ◌*◌, IsOk, OnOk, OnErr, IfErr, IsTrue, [], None, Some, length, replicate, slice_set};
+ghost use Rattle.std.specs.Prelude.{◌≡◌, ℕ, ◌≤◌, ◌<◌, ◌*◌, IsOk, OnOk, OnErr, IfErr, IsTrue, [], None, Some, length, replicate, slice_set};
 ghost use Rattle.std.specs.Option.{option_copied};
+ghost use Rattle.track_table.specs.Bits.{is_marked};
 ghost use Rattle.track_table.specs.Table.{with_places};
-ghost use Rattle.track_cache.specs.Frames.{frame_at, has_frame, image_at, is_modified_frame, is_modified, modified_count, with_mark, unless_clean, put_frame};
+ghost use Rattle.track_cache.specs.Frames.{frame_at, has_frame, image_at, is_modified_frame, is_modified, with_mark, edited_frame, SuitsFrame, unless_clean, put_frame};
 ghost use Rattle.track_cache.specs.declared.frames.PutRefused.TheVariants as refusals;
 
-use ckd_types::{HEADS, NoMemory, TrackNo};
+use ckd_chain::edit_image;
+use ckd_types::{Edit, HEADS, NoMemory, TrackNo};
 use std::alloc::Global;
 use std::marker::Model;
 use track_image::TrackImage;
-use track_table::TrackTable;
+use track_table::{TrackBits, TrackTable};
 
 /// A track in the cache. A modified frame has what its volume doesn't have.
 #[derive(Debug, Drop)]
@@ -27,21 +29,22 @@ pub enum PutRefused {
 #[derive(Debug, Drop)]
 pub struct Frames {
     table: TrackTable<Frame>,
-    /// The number of modified frames.
-    modified: usize,
+    /// The tracks that have a modified frame.
+    modified: TrackBits,
 }
 
 impl Model for Frames {
-    ghost use Rattle.std.specs.Prelude.{◌≡◌, List, Option};
+    ghost use Rattle.std.specs.Prelude.{◌≡◌, ℕ, List, Option};
     ghost use Rattle.track_cache.specs.declared.frames.Frame.{Frame};
 
     ghost Value = { List (Option Frame) };
 
-    ghost use Rattle.track_cache.specs.Frames.{modified_count};
+    ghost use Rattle.track_table.specs.Bits.{is_marked};
+    ghost use Rattle.track_cache.specs.Frames.{is_modified};
 
     ghost view = { λ f. f.table };
 
-    ghost invariant = { λ f. f.modified ≡ modified_count f.table };
+    ghost invariant = { λ f. (t : ℕ) → is_marked f.modified t ≡ is_modified f.table t };
 }
 
 fn is_modified(frame: &Option<Frame>) -> bool
@@ -60,12 +63,11 @@ impl Frames {
     {
         Frames {
             table: TrackTable::new(alloc),
-            modified: 0,
+            modified: TrackBits::new(),
         }
     }
 
     /// Makes places for the tracks of a device, in which `put` takes no memory.
-    #[tactic(auto, using(crate::proofs::Counts::modified_count_more))]
     pub fn reserve(&mut self, cylinders: u8) -> Result<(), NoMemory>
         requires { cylinders ≤ 64 }
         ensures made { OnOk result (self.new ≡ with_places (cylinders * 15) self.old) }
@@ -95,45 +97,53 @@ impl Frames {
     pub fn modified(&self, t: TrackNo) -> bool
         ensures { result ≡ is_modified self.now t }
     {
-        match self.table.get(t) {
-            Some(frame) => frame.modified,
-            None => false,
-        }
+        self.modified.has(t)
     }
 
-    /// The number of modified frames.
-    #[tactic(auto, using(crate::proofs::Counts::modified_count_le))]
-    pub fn modified_count(&self) -> usize
-        ensures count { result ≡ modified_count self.now }
-        ensures range { result ≤ 960 }
+    /// The tracks that have a frame.
+    pub fn framed_tracks(&self) -> &TrackBits
+        ensures { (t : ℕ) → is_marked result.now t ≡ has_frame self.now t }
     {
-        let _ = self.table.places();
-        self.modified
+        self.table.held()
+    }
+
+    /// The tracks that have a modified frame.
+    pub fn modified_tracks(&self) -> &TrackBits
+        ensures { (t : ℕ) → is_marked result.now t ≡ is_modified self.now t }
+    {
+        &self.modified
     }
 
     /// Puts another frame, or none, into a track's place, and gives what was there.
-    #[tactic(auto, using(crate::proofs::Counts::modified_count_set, crate::proofs::Counts::modified_count_le))]
     fn exchange(&mut self, t: TrackNo, frame: Option<Frame>) -> Option<Frame>
         ensures now { self.new ≡ slice_set self.old t frame }
         ensures was { result ≡ frame_at self.old t }
     {
         if usize::from(t.get()) < self.table.places() {
-            if is_modified(&frame) {
-                self.modified += 1;
-            }
-            let old = self.table.exchange(t, frame);
-            if is_modified(&old) {
-                self.modified -= 1;
-            }
-            old
+            self.modified.set(t, is_modified(&frame));
+            self.table.exchange(t, frame)
         } else {
             None
         }
     }
 
+    /// Puts another frame, or none, into a track's place. Takes no memory: without a place there is
+    /// nothing to do.
+    pub fn set(&mut self, t: TrackNo, frame: Option<Frame>)
+        ensures { self.new ≡ slice_set self.old t frame }
+    {
+        self.exchange(t, frame);
+    }
+
+    /// A track's frame.
+    pub fn frame(&self, t: TrackNo) -> Option<&Frame>
+        ensures { option_copied result ≡ frame_at self.now t }
+    {
+        self.table.get(t)
+    }
+
     /// Puts a clean frame into a track's place, instead of what is there. Takes memory only where the
     /// track has no place.
-    #[tactic(auto, using(crate::proofs::Counts::modified_count_more))]
     pub fn put(&mut self, t: TrackNo, image: TrackImage) -> Result<(), PutRefused>
         ensures put { OnOk result (self.new ≡ put_frame t image self.old) }
         ensures same { OnErr result (self.new ≡ self.old) }
@@ -148,13 +158,18 @@ impl Frames {
         Ok(())
     }
 
-    /// Puts another image into a track's frame, which keeps its mark. Takes no memory.
-    pub fn edit(&mut self, t: TrackNo, image: TrackImage)
-        requires { IsTrue (has_frame self.old t) }
-        ensures { self.new ≡ slice_set self.old t (Some (record { image = image; modified = is_modified self.old t })) }
+    /// Makes an edit in a track's frame, in place. The frame keeps its mark. Takes memory only for a
+    /// record behind the last one.
+    #[tactic(auto, using(track_table::proofs::Places::set_again))]
+    pub fn edit(&mut self, t: TrackNo, edit: Edit) -> Result<(), NoMemory>
+        requires { SuitsFrame edit (frame_at self.old t) }
+        ensures done { OnOk result (self.new ≡ slice_set self.old t (edited_frame edit (frame_at self.old t))) }
+        ensures same { OnErr result (self.new ≡ self.old) }
     {
-        let modified = self.modified(t);
-        self.exchange(t, Some(Frame { image, modified }));
+        let mut frame = self.exchange(t, None).unwrap();
+        let done = edit_image(&mut frame.image, edit);
+        self.exchange(t, Some(frame));
+        done
     }
 
     /// Marks a track's frame as modified, or as clean. Without a frame there is nothing to mark.
@@ -168,11 +183,12 @@ impl Frames {
         }
     }
 
-    /// Drops a track's frame.
-    pub fn remove(&mut self, t: TrackNo)
-        ensures { self.new ≡ slice_set self.old t None }
+    /// Takes a track's frame out, if it has one.
+    pub fn take(&mut self, t: TrackNo) -> Option<Frame>
+        ensures frame { result ≡ frame_at self.old t }
+        ensures rest { self.new ≡ slice_set self.old t None }
     {
-        self.exchange(t, None);
+        self.exchange(t, None)
     }
 
     /// Drops a track's frame where it is clean.
@@ -180,16 +196,15 @@ impl Frames {
         ensures { self.new ≡ slice_set self.old t (unless_clean (frame_at self.old t)) }
     {
         if !self.modified(t) {
-            self.remove(t);
+            self.exchange(t, None);
         }
     }
 
     /// Drops every frame. The places stay.
-    #[tactic(auto, using(crate::proofs::Counts::no_modified))]
     pub fn lose_all(&mut self)
         ensures { self.new ≡ replicate (length self.old) None }
     {
         self.table.clear();
-        self.modified = 0;
+        self.modified = TrackBits::new();
     }
 }

@@ -25,11 +25,17 @@ fn frames_come_and_go(rt: HostRuntime) -> Result<(), Fail> {
     put(&mut frames, t, empty(alloc, 14)?)?;
     assert_eq!(rt; (frames.has(t), frames.modified(t)), (true, false));
     frames.mark(t, true);
-    assert_eq!(rt; (frames.modified(t), frames.modified_count()), (true, 1));
+    assert_eq!(rt;
+        (frames.modified(t), frames.modified_tracks().count()),
+        (true, 1)
+    );
     frames.drop_clean(t);
     assert_eq!(rt; frames.get(t).ok_or("frame")?.len(), 1);
     put(&mut frames, t, empty(alloc, 14)?)?;
-    assert_eq!(rt; (frames.modified(t), frames.modified_count()), (false, 0));
+    assert_eq!(rt;
+        (frames.modified(t), frames.modified_tracks().count()),
+        (false, 0)
+    );
     frames.drop_clean(t);
     assert_eq!(rt; frames.has(t), false);
     Ok(())
@@ -41,7 +47,10 @@ fn frame_without_a_place_that_was_made(rt: HostRuntime) -> Result<(), Fail> {
     let mut frames = Frames::new(alloc);
     let last = TrackNo::new(959).ok_or("track")?;
     put(&mut frames, last, empty(alloc, 959)?)?;
-    assert_eq!(rt; (frames.has(last), frames.modified_count()), (true, 0));
+    assert_eq!(rt;
+        (frames.has(last), frames.modified_tracks().count()),
+        (true, 0)
+    );
     frames.lose_all();
     assert_eq!(rt; frames.has(last), false);
     Ok(())

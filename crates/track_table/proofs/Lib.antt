@@ -1,2 +1,5 @@
+pub mod Marks
 pub mod Places
+pub mod Rising
 pub mod Tracks
+pub mod Words

@@ -1,11 +1,10 @@
-//! What a device keeps by track, and the tracks that pass a test.
+//! What a device keeps by track, and marks of its tracks.
 #![tactic(auto)]
 
+mod bits;
 mod table;
 #[cfg(test)]
 mod tests;
 
+pub use bits::{Marked, TrackBits};
 pub use table::TrackTable;
-
-/// The tracks of the largest device.
-pub const MOST_TRACKS: u16 = 960;

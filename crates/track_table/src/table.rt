@@ -1,7 +1,9 @@
-ghost use Rattle.std.specs.Prelude.{◌≡◌, ◌≤◌, ◌<◌, ◌+◌, ◌++◌, IsOk, OnOk, OnErr, [], None, length, replicate, count_by, is_some, slice_set, vec_len, vec_capacity};
+ghost use Rattle.std.specs.Prelude.{◌≡◌, ℕ, ◌≤◌, ◌<◌, ◌+◌, ◌++◌, IsOk, OnOk, OnErr, [], None, length, replicate, slice_set, vec_len, vec_capacity};
 ghost use Rattle.std.specs.Option.{option_copied};
+ghost use Rattle.track_table.specs.Bits.{is_marked};
 ghost use Rattle.track_table.specs.Table.{entry_at, has_entry, with_places};
 
+use crate::TrackBits;
 use ckd_types::{NoMemory, TrackNo};
 use std::alloc::Global;
 use std::marker::Model;
@@ -12,18 +14,20 @@ use std::mem;
 #[derive(Debug, Drop)]
 pub struct TrackTable<T> {
     places: Vec<Option<T>>,
-    /// The number of entries.
-    held: usize,
+    /// The tracks that have an entry.
+    held: TrackBits,
 }
 
 impl<T> Model for TrackTable<T> {
-    ghost use Rattle.std.specs.Prelude.{◌≡◌, ◌≤◌, List, Option, length, count_by, is_some};
+    ghost use Rattle.std.specs.Prelude.{◌≡◌, ℕ, ◌≤◌, List, Option, length};
+    ghost use Rattle.track_table.specs.Bits.{is_marked};
+    ghost use Rattle.track_table.specs.Table.{has_entry};
 
     ghost Value = { List (Option T) };
 
     ghost view = { λ t. t.places.items };
 
-    ghost invariant = { λ t. (length t.places.items ≤ 960) × (t.held ≡ count_by is_some t.places.items) };
+    ghost invariant = { λ a. (length a.places.items ≤ 960) × ((t : ℕ) → is_marked a.held t ≡ has_entry a.places.items t) };
 }
 
 /// Adds empty places at the end, in room that was made.
@@ -44,7 +48,7 @@ impl<T: Drop> TrackTable<T> {
     {
         TrackTable {
             places: Vec::new(alloc),
-            held: 0,
+            held: TrackBits::new(),
         }
     }
 
@@ -71,21 +75,18 @@ impl<T: Drop> TrackTable<T> {
         self.places.len()
     }
 
-    /// The number of tracks that have an entry.
-    #[tactic(auto, using(crate::proofs::Places::count_le))]
-    pub fn count(&self) -> usize
-        ensures count { result ≡ count_by is_some self.now }
-        ensures range { result ≤ 960 }
+    /// The tracks that have an entry.
+    pub fn held(&self) -> &TrackBits
+        ensures { (t : ℕ) → is_marked result.now t ≡ has_entry self.now t }
     {
-        self.held
+        &self.held
     }
 
     /// Whether a track has an entry.
     pub fn has(&self, t: TrackNo) -> bool
         ensures { result ≡ has_entry self.now t }
     {
-        let t = usize::from(t.get());
-        t < self.places.len() && self.places[t].is_some()
+        self.held.has(t)
     }
 
     /// A track's entry.
@@ -106,16 +107,10 @@ impl<T: Drop> TrackTable<T> {
         ensures now { self.new ≡ slice_set self.old t entry }
         ensures was { result ≡ entry_at self.old t }
     {
-        let t = usize::from(t.get());
-        if t < self.places.len() {
-            let old = mem::replace(&mut self.places[t], entry);
-            if self.places[t].is_some() {
-                self.held += 1;
-            }
-            if old.is_some() {
-                self.held -= 1;
-            }
-            old
+        let place = usize::from(t.get());
+        if place < self.places.len() {
+            self.held.set(t, entry.is_some());
+            mem::replace(&mut self.places[place], entry)
         } else {
             None
         }
@@ -128,6 +123,6 @@ impl<T: Drop> TrackTable<T> {
         let places = self.places.len();
         self.places.clear();
         add_places(&mut self.places, places);
-        self.held = 0;
+        self.held = TrackBits::new();
     }
 }

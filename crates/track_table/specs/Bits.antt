@@ -1,0 +1,26 @@
+-- Marks of tracks, in words of 64 bits. A list of marks begins with the mark of track 0.
+use Rattle.std.specs.Prelude.{◌≡◌, ℕ, ◌+◌, ◌/◌, ◌%◌, ◌==◌, ◌<◌, ◌≤◌, Bool, true, false, Option, Some, None, List, [], ◌∷◌, map, slice_index_or, if◌then◌else◌}
+use Rattle.std.specs.Int.{bit_at}
+use Rattle.std.specs.List.{range_with_len}
+
+-- whether the bit of a track is set
+abbrev pub is_set : List ℕ → ℕ → Bool
+is_set words t = bit_at (slice_index_or words (t / 64) 0) (t % 64) == 1
+
+-- the marks of the tracks of the largest device
+unfoldable pub marks_of : List ℕ → List Bool
+marks_of words = map (is_set words) (range_with_len 0 960)
+
+-- a track that has no mark isn't marked
+abbrev pub is_marked : List Bool → ℕ → Bool
+is_marked marks t = slice_index_or marks t false
+
+-- the marked tracks in rising order, where the first mark is that of track t
+abbrev pub marked_from : ℕ → List Bool → List ℕ
+marked_from t [] = []
+marked_from t (marked ∷ marks) = if marked then t ∷ marked_from (t + 1) marks else marked_from (t + 1) marks
+
+-- the least marked track from one on, or that there is none
+abbrev pub IsLeastFrom : ℕ → List Bool → Option ℕ → Type 0
+IsLeastFrom from marks None = (q : ℕ) → from ≤ q → is_marked marks q ≡ false
+IsLeastFrom from marks (Some t) = (from ≤ t) × (t < 960) × (is_marked marks t ≡ true) × ((q : ℕ) → from ≤ q → q < t → is_marked marks q ≡ false)
