@@ -2,13 +2,11 @@
 #![tactic(auto)]
 
 mod chain;
-mod edit;
 mod look;
 mod mark;
 mod progress;
 
 pub use chain::Chain;
 pub use ckd_rules::LocalAct;
-pub use edit::edit_image;
 pub use mark::{Mark, Stage};
 pub use progress::{Progress, Settled};

@@ -4,7 +4,9 @@
 mod area;
 mod command;
 mod count;
+mod edit;
 mod format;
 mod update;
 
 pub use command::write;
+pub use edit::edit_image;

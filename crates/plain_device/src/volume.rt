@@ -3,8 +3,8 @@ ghost use Rattle.ckd_types.specs.Edit.{apply_edit};
 ghost use Rattle.ckd_types.specs.Volume.{empty_volume, track_in};
 ghost use Rattle.ckd_rules.specs.Facts.{Suits};
 
-use ckd_chain::edit_image;
 use ckd_types::{Edit, Geometry, HEADS, NoMemory, TrackNo};
+use ckd_write::edit_image;
 use std::alloc::Global;
 use std::marker::Model;
 use track_image::TrackImage;

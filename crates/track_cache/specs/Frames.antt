@@ -1,7 +1,7 @@
 -- What a cache holds: a list with a place for each track.
 use Rattle.std.specs.Prelude.{ℕ, ◌+◌, Bool, false, List, slice_set, Option, Some, None, if◌then◌else◌}
 use Rattle.ckd_types.specs.declared.record.Edit.{Edit}
-use Rattle.plain_defs.specs.Turn.{Suits}
+use Rattle.ckd_rules.specs.Facts.{Suits}
 use Rattle.track_image.specs.Image.{Image, edited_image}
 use Rattle.track_table.specs.Table.{entry_at, has_entry, with_places}
 use Rattle.track_cache.specs.declared.frames.Frame.{Frame}

@@ -5,9 +5,9 @@ ghost use Rattle.track_table.specs.Table.{with_places};
 ghost use Rattle.track_cache.specs.Frames.{frame_at, has_frame, image_at, is_modified_frame, is_modified, with_mark, edited_frame, SuitsFrame, unless_clean, put_frame};
 ghost use Rattle.track_cache.specs.declared.frames.PutRefused.TheVariants as refusals;
 
-use ckd_chain::edit_image;
 use ckd_types::{Edit, HEADS, NoMemory, TrackNo};
 use std::alloc::Global;
+use ckd_write::edit_image;
 use std::marker::Model;
 use track_image::TrackImage;
 use track_table::{TrackBits, TrackTable};
