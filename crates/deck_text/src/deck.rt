@@ -75,11 +75,7 @@ impl Deck {
         Ok(())
     }
 
-    pub fn push_program(
-        &mut self,
-        alloc: Global,
-        planned: PlannedProgram,
-    ) -> Result<(), NoMemory>
+    pub fn push_program(&mut self, alloc: Global, planned: PlannedProgram) -> Result<(), NoMemory>
         requires { length self.old.programs < 512 }
         ensures ok { OnOk result (self.new ≡ record self.old { programs = self.old.programs ++ planned ∷ [] }) }
         ensures err { OnErr result (self.new ≡ self.old) }

@@ -97,9 +97,9 @@ module _ (start : PlainState) (path : ℕ) (ccws : List Ccw) (device after : Pla
   fewer_left stood more =
       let counted : then_chain.at.stance.commands ≡ chain.at.stance.commands + 1 = done.counted ∙ ap (λ (m : Mark). m.stance.commands + 1) (start_is chain r.stage) in
       let room = has_room chain.at.next (room_of chain stood r.stage) more in omega (arith, counted, room) where
-    has_room : (next : Option ℕ) → IfSome next (λ i. chain.at.stance.commands < 4096) → is_none next ≡ false → chain.at.stance.commands < 4096
-    has_room (Some i) room some = room
-    has_room None room some = absurd (cc)
+        has_room : (next : Option ℕ) → IfSome next (λ i. chain.at.stance.commands < 4096) → is_none next ≡ false → chain.at.stance.commands < 4096
+        has_room (Some i) room some = room
+        has_room None room some = absurd (cc)
 
 none_of : (next : Option ℕ) → is_none next ≡ true → next ≡ None
 none_of None is = refl

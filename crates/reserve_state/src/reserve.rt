@@ -2,8 +2,8 @@ ghost use Rattle.std.specs.Prelude.{◌≡◌, MatchResult, None, OnErr, OnOk, S
 ghost use Rattle.ckd_rules.specs.Grouping.{is_free_for, is_same_owner, owner_after};
 ghost use Rattle.ckd_rules.specs.Grouping.{owner_set};
 
-use ckd_types::{GroupId, Owner, PathNo, PathState};
 use ckd_rules::{is_same_owner, owner_after, owner_set};
+use ckd_types::{GroupId, Owner, PathNo, PathState};
 use std::marker::Model;
 
 /// The device is held by somebody else.

@@ -1,6 +1,6 @@
 use crate::*;
-use ckd_types::{Bytes, Ccw, Geometry, GroupId, NoMemory, Owner, PathNo, PathState};
 use ckd_rules::PlainDevice;
+use ckd_types::{Bytes, Ccw, Geometry, GroupId, NoMemory, Owner, PathNo, PathState};
 use std::alloc::Global;
 use std::test::Fail;
 

@@ -6,8 +6,8 @@ ghost use Rattle.track_cache.specs.Frames.{frame_at, has_frame, image_at, is_mod
 ghost use Rattle.track_cache.specs.declared.frames.PutRefused.TheVariants as refusals;
 
 use ckd_types::{Edit, HEADS, NoMemory, TrackNo};
-use std::alloc::Global;
 use ckd_write::edit_image;
+use std::alloc::Global;
 use std::marker::Model;
 use track_image::TrackImage;
 use track_table::{TrackBits, TrackTable};
