@@ -4,7 +4,7 @@ ghost use Rattle.plain_defs.specs.Built.{is_built};
 ghost use Rattle.deck_runner.specs.Later.{is_open_device, later_device, later_fault, bad_word, bad_program, lines_of, later_program, line_behind, is_open_event, later_event, first_later};
 
 use ckd_ccw::Program;
-use ckd_types::{Command, command_of};
+use ckd_types::{Command, DeviceCommand, command_of};
 use deck_plan::EventLine;
 use deck_text::{Deck, DeviceLine, PlannedProgram};
 
@@ -33,14 +33,16 @@ fn later_device(deck: &Deck) -> Option<u32>
 fn is_built(command: Option<Command>) -> bool
     ensures { result ≡ is_built command }
 {
-    match command {
-        Some(Command::Reserve)
-        | Some(Command::Release)
-        | Some(Command::UnconditionalReserve)
-        | Some(Command::SetPathGroup)
-        | Some(Command::SensePathGroup) => false,
-        _ => true,
-    }
+    !matches!(
+        command,
+        Some(Command::Device(
+            DeviceCommand::Reserve
+                | DeviceCommand::Release
+                | DeviceCommand::UnconditionalReserve
+                | DeviceCommand::SetPathGroup
+                | DeviceCommand::SensePathGroup
+        ))
+    )
 }
 
 #[tactic(auto, using(crate::proofs::LaterSteps::word_more, crate::proofs::LaterSteps::word_here, crate::proofs::LaterSteps::word_none))]
