@@ -1,10 +1,10 @@
 -- One more edit of what a patch gave: the patch with that edit gives the image with it.
-use Rattle.std.proofs.Common.{◌≡◌, ℕ, ◌+◌, ◌-◌, ◌<◌, ◌≤◌, Bool, true, false, cond, ◌==◌, ◌&&◌, not, inl, inr, List, [], ◌∷◌, ◌++◌, length, get_or, take, filter, refl, sym, ap, subst, ◌∙◌, arith}
-use Rattle.std.specs.Prelude.{nat_lt, nat_le, Some, None}
+use Rattle.std.proofs.Common.{◌≡◌, ℕ, ◌+◌, ◌-◌, ◌<◌, Bool, true, false, cond, ◌==◌, not, inl, inr, List, [], ◌∷◌, ◌++◌, length, get_or, take, filter, refl, sym, ap, subst, ◌∙◌, arith}
+use Rattle.std.specs.Prelude.{nat_le, Some, None}
 use Rattle.std.specs.List.{list_all}
 use Rattle.std.proofs.Math.ListN.{get_or-append}
 use Rattle.std.proofs.lemmas.Bool.{and_parts, and_from, ltb-true, lt-ltb, leb-true, cases_Bool}
-use Rattle.std.proofs.lemmas.List.{append-nil, length-append, length-take, get_or-take}
+use Rattle.std.proofs.lemmas.List.{append-nil, length-take, get_or-take}
 use Rattle.std.proofs.lemmas.List.Folds.{list_all-append}
 use Rattle.ckd_types.specs.declared.record.Record.{Record}
 use Rattle.ckd_types.specs.declared.record.Edit.{Edit}
@@ -20,7 +20,7 @@ use Rattle.nv_store.specs.Edits.{Meets}
 use Rattle.nv_store.specs.Patch.{PatchView, IsPatch, is_whole, is_kept, with_replacement, added, reaches, has_lengths, is_replaceable, revised, stay, patched, patched_image, applies, applied}
 use Rattle.nv_store.proofs.Revisions.{place_there, key_there, body_there, lengths_kept, all_kept, length_revised, revised_take, revised_nothing}
 use Rattle.nv_store.proofs.Again.{put, lengths_from, nothing_behind, length_front, applied_is}
-use Rattle.nv_store.proofs.InOrder.{FollowsBy, Follows, parts, up_to, follows_added, follows_reached}
+use Rattle.nv_store.proofs.InOrder.{FollowsBy, parts, up_to, follows_added, follows_reached}
 
 take_lengths : (n : ℕ) (x : List Record) (i k b : ℕ) → has_lengths (take n x) i k b ≡ true → has_lengths x i k b ≡ true
 take_lengths n x i k b h =

@@ -1,24 +1,24 @@
 -- Whether what comes of a patch fits, by lengths alone.
-use Rattle.std.proofs.Common.{◌≡◌, ℕ, zero, suc, ◌+◌, ◌-◌, ◌<◌, ◌≤◌, Bool, true, false, ◌==◌, ◌&&◌, inl, inr, List, [], ◌∷◌, ◌++◌, length, get_or, take, drop, refl, sym, ap, subst, ◌∙◌, append_assoc, add-one, arith}
-use Rattle.std.specs.Prelude.{nat_le, sum_by, All}
+use Rattle.std.proofs.Common.{◌≡◌, ℕ, zero, suc, ◌+◌, ◌-◌, ◌<◌, Bool, true, ◌==◌, ◌&&◌, inl, inr, List, [], ◌∷◌, ◌++◌, length, get_or, take, refl, sym, ap, ◌∙◌, add-one, arith}
+use Rattle.std.specs.Prelude.{sum_by}
 use Rattle.std.specs.List.{list_all}
 use Rattle.std.proofs.Math.ListN.{set}
-use Rattle.std.proofs.lemmas.Bool.{and_parts, and_from, and_left, and_right, cases_lt, le-leb, lt-leb}
-use Rattle.std.proofs.lemmas.List.{append-nil, at_drop_more, drop_all, set_past}
+use Rattle.std.proofs.lemmas.Bool.{and_parts, and_from, cases_lt}
+use Rattle.std.proofs.lemmas.List.{append-nil, set_past}
 use Rattle.std.proofs.lemmas.List.Folds.{list_all-append}
-use Rattle.std.proofs.lemmas.List.Sums.{sum_by-append, sum_by-cons, sum_by-set, sum_by_more, sum_by-take-le}
+use Rattle.std.proofs.lemmas.List.Sums.{sum_by-append, sum_by-set}
 use Rattle.ckd_types.specs.declared.geometry.Geometry.{Geometry}
 use Rattle.ckd_types.specs.declared.record.Record.{Record}
-use Rattle.ckd_types.specs.Geometry.{cost, capacity}
+use Rattle.ckd_types.specs.Geometry.{cost}
 use Rattle.ckd_types.specs.Track.{Fits, cost_of, empty_zero}
 use Rattle.track_image.specs.Image.{Image}
 use Rattle.nv_store.specs.declared.patch.Replacement.{Replacement}
 use Rattle.nv_store.specs.declared.patch.Kept.{Kept}
-use Rattle.nv_store.specs.declared.patch.Kept.TheVariants.{Whole, UpTo, Nothing}
-use Rattle.nv_store.specs.Fit.{is_record, is_zero, has_zero, is_fit, fit_units}
-use Rattle.nv_store.specs.Patch.{PatchView, has_lengths, is_replaceable, is_whole, revised, stay, applies}
+use Rattle.nv_store.specs.declared.patch.Kept.TheVariants.{Whole}
+use Rattle.nv_store.specs.Fit.{is_record, is_zero, is_fit, fit_units}
+use Rattle.nv_store.specs.Patch.{has_lengths, is_replaceable, revised, stay}
 use Rattle.nv_store.proofs.Fits.{fit_test}
-use Rattle.nv_store.proofs.Revisions.{place_there, key_there, body_there, all_kept}
+use Rattle.nv_store.proofs.Revisions.{key_there, body_there, all_kept}
 use Rattle.nv_store.proofs.Again.{put, front_replaceable, nothing_behind}
 
 abbrev pub units : Geometry → Record → ℕ

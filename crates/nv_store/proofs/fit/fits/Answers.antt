@@ -1,7 +1,5 @@
-use Rattle.std.proofs.Common.{◌≡◌, true, ◌==◌, length, sym}
+use Rattle.std.proofs.Common.{length}
 use Rattle.std.proofs.lemmas.Bool.{ltb-true}
-use Rattle.nv_store.specs.declared.patch.Kept.{Kept}
-use Rattle.nv_store.specs.Patch.{is_whole, reaches}
 use Rattle.nv_store.proofs.Units.{whole_fits, front_fits}
 use Rattle.nv_store.proofs.fit.fits.Goals as goal
 

@@ -1,7 +1,4 @@
-use Rattle.std.proofs.Common.{◌≡◌, List, refl, sym}
-use Rattle.ckd_types.specs.declared.record.Record.{Record}
-use Rattle.nv_store.specs.declared.patch.Replacement.{Replacement}
-use Rattle.nv_store.specs.Patch.{PatchView}
+use Rattle.std.proofs.Common.{sym}
 use Rattle.nv_store.proofs.Reduced.{still_so, same_view}
 use Rattle.nv_store.proofs.patch.Patch.add.Goals as goal
 
