@@ -59,16 +59,6 @@ fn patch_of(alloc: Global, steps: &[Step]) -> Result<Patch, NoMemory> {
     Ok(patch)
 }
 
-/// Writes over a record that is there and is as long.
-fn update(image: &mut TrackImage, i: usize, key: &[u8], body: &[u8]) {
-    if i < image.len() {
-        let old = image.record_at(i);
-        if old.key().len() == key.len() && old.body().len() == body.len() {
-            image.update(i, key, body);
-        }
-    }
-}
-
 fn put_behind(alloc: Global, image: &mut TrackImage, after: usize, byte: u8) -> Result<(), Fail> {
     let last = image.len() - 1;
     let place = if after < last { after } else { last };
@@ -77,19 +67,6 @@ fn put_behind(alloc: Global, image: &mut TrackImage, after: usize, byte: u8) -> 
         Err(AddFault::Unfit) => Err(Fail::from("no room")),
         Err(AddFault::NoMemory) => Err(Fail::from("no memory")),
     }
-}
-
-/// The edits one after the other, on the image itself.
-fn edit_in_order(alloc: Global, image: &mut TrackImage, steps: &[Step]) -> Result<(), Fail> {
-    for step in steps {
-        match *step {
-            Step::Update(0, byte) => update(image, 0, &[], &[byte; 8]),
-            Step::Update(i, byte) => update(image, i, &[byte; 1], &[byte; 2]),
-            Step::Format(after, byte) => put_behind(alloc, image, after, byte)?,
-            Step::Zero(byte) => image.set_zero(record(alloc, byte, &[], &[byte; 8])?),
-        }
-    }
-    Ok(())
 }
 
 /// A track of record 0 and some more.
@@ -110,52 +87,6 @@ fn apply(alloc: Global, patch: &Patch, image: &TrackImage) -> Result<Option<Trac
     }
 }
 
-fn are_same(alloc: Global, a: &TrackImage, b: &TrackImage) -> Result<bool, NoMemory> {
-    Ok(a.to_bytes(alloc)?.as_slice() == b.to_bytes(alloc)?.as_slice())
-}
-
-#[test]
-fn edits_in_order(rt: HostRuntime) -> Result<(), Fail> {
-    let alloc = rt.alloc();
-    let rows: [&[Step]; 9] = [
-        &[],
-        &[Step::Update(2, 1), Step::Format(1, 2), Step::Update(2, 3)],
-        &[Step::Update(1, 1), Step::Update(1, 2), Step::Update(3, 3)],
-        &[
-            Step::Format(2, 1),
-            Step::Format(3, 2),
-            Step::Update(4, 3),
-            Step::Update(0, 4),
-        ],
-        &[
-            Step::Format(9, 1),
-            Step::Update(5, 2),
-            Step::Format(1, 3),
-            Step::Update(1, 4),
-        ],
-        &[
-            Step::Zero(1),
-            Step::Update(0, 2),
-            Step::Format(0, 3),
-            Step::Update(1, 4),
-        ],
-        &[Step::Update(4, 1), Step::Zero(2), Step::Format(3, 3)],
-        &[Step::Format(1, 1), Step::Update(7, 2)],
-        &[Step::Update(9, 1), Step::Format(0, 2)],
-    ];
-    for steps in rows {
-        let patch = patch_of(alloc, steps)?;
-        let old = track(alloc, 4)?;
-        let mut wanted = old.copy(alloc)?;
-        edit_in_order(alloc, &mut wanted, steps)?;
-        let patched = apply(alloc, &patch, &old)?.ok_or("unfit")?;
-        assert!(rt; are_same(alloc, &patched, &wanted)?);
-        let again = apply(alloc, &patch, &patched)?.ok_or("unfit again")?;
-        assert!(rt; are_same(alloc, &again, &wanted)?);
-    }
-    Ok(())
-}
-
 #[test]
 fn update_of_a_record_behind_a_cut(rt: HostRuntime) -> Result<(), Fail> {
     let alloc = rt.alloc();
@@ -170,58 +101,6 @@ fn update_of_a_record_behind_a_cut(rt: HostRuntime) -> Result<(), Fail> {
     );
     let alone = apply(alloc, &patch, &track(alloc, 0)?)?;
     assert!(rt; alone.is_none());
-    Ok(())
-}
-
-#[test]
-fn unfit(rt: HostRuntime) -> Result<(), Fail> {
-    let alloc = rt.alloc();
-    let long = Bytes::from_vec(vec![in alloc; 0; 56000]?);
-    let edits = [
-        edit(alloc, Step::Update(3, 1))?,
-        edit(alloc, Step::Format(3, 1))?,
-        Edit::Update {
-            index: 1,
-            key: Bytes::new(),
-            body: Bytes::from_slice(alloc, &[0; 2])?,
-        },
-        Edit::Update {
-            index: 1,
-            key: Bytes::from_slice(alloc, &[0; 1])?,
-            body: Bytes::new(),
-        },
-        Edit::Format {
-            after: 1,
-            added: Record {
-                id: RecId {
-                    cchh: Cchh { cc: 1, hh: 2 },
-                    r: 2,
-                },
-                key: long.copy(alloc)?,
-                body: Bytes::new(),
-            },
-        },
-        Edit::Format {
-            after: 1,
-            added: Record {
-                id: RecId {
-                    cchh: Cchh { cc: 1, hh: 2 },
-                    r: 2,
-                },
-                key: Bytes::new(),
-                body: long,
-            },
-        },
-        Edit::Zero {
-            added: record(alloc, 0, &[1], &[0; 8])?,
-        },
-    ];
-    let old = track(alloc, 2)?;
-    for edit in edits {
-        let mut patch = Patch::new(alloc);
-        patch.add(edit)?;
-        assert!(rt; apply(alloc, &patch, &old)?.is_none());
-    }
     Ok(())
 }
 
