@@ -5,6 +5,8 @@ mod chain;
 mod look;
 mod mark;
 mod progress;
+#[cfg(test)]
+mod tests;
 
 pub use chain::Chain;
 pub use ckd_rules::LocalAct;

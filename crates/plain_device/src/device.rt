@@ -77,6 +77,7 @@ impl PlainDevice {
         })
     }
 
+    /// Copies the whole volume.
     pub fn copy(&self, alloc: Global) -> Result<PlainDevice, NoMemory>
         ensures { IfOk result (λ made. made ≡ self.now) }
     {

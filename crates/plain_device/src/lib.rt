@@ -3,6 +3,8 @@
 
 mod device;
 mod programs;
+#[cfg(test)]
+mod tests;
 mod volume;
 
 pub use device::PlainDevice;

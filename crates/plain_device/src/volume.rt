@@ -44,18 +44,21 @@ impl Images {
         Ok(Images { geometry, images })
     }
 
+    /// The model that all of its tracks are of.
     pub fn geometry(&self) -> Geometry
         ensures { result ≡ self.now.geometry }
     {
         self.geometry
     }
 
+    /// How many tracks there are.
     pub fn len(&self) -> usize
         ensures { result ≡ length self.now.tracks }
     {
         self.images.len()
     }
 
+    /// The image of a track.
     pub fn image(&self, t: TrackNo) -> &TrackImage
         requires { t < length self.now.tracks }
         ensures { result.now ≡ record { geometry = self.now.geometry; track = track_in self.now.tracks t } }
@@ -74,6 +77,7 @@ impl Images {
         Ok(())
     }
 
+    /// Copies every track.
     pub fn copy(&self, alloc: Global) -> Result<Images, NoMemory>
         ensures { IfOk result (λ made. made ≡ self.now) }
     {

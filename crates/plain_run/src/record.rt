@@ -21,6 +21,7 @@ impl Model for RunRecord {
 }
 
 impl RunRecord {
+    /// Nothing has happened. Takes no memory.
     pub fn new(alloc: Global) -> RunRecord
         ensures { result ≡ [] }
     {
@@ -29,6 +30,7 @@ impl RunRecord {
         }
     }
 
+    /// One event more, behind the others. What a record is after want of memory is not said.
     pub fn push(&mut self, event: RunEvent) -> Result<(), NoMemory>
         ensures { OnOk result (self.new ≡ self.old ++ event ∷ []) }
     {
@@ -36,6 +38,7 @@ impl RunRecord {
         Ok(())
     }
 
+    /// The events in their order.
     pub fn events(&self) -> &[RunEvent]
         ensures { result.now ≡ self.now }
     {

@@ -1,0 +1,240 @@
+use crate::PlainDevice;
+use ckd_ccw::Program;
+use ckd_types::{Bytes, Ccw, EndList, Geometry, Note, PathNo};
+use std::alloc::Global;
+use std::test::Fail;
+
+/// The count area of record 1 with four bytes of data, and three of them.
+const RECORD_ONE: &[u8] = &[0, 0, 0, 0, 1, 0, 0, 4, 5, 6, 7];
+
+/// The count area of record 2, an end of file.
+const END_OF_FILE: &[u8] = &[0, 0, 0, 0, 2, 0, 0, 0];
+
+/// What an update gives.
+const DATA: &[u8] = &[9, 8];
+
+fn path(n: u8) -> Result<PathNo, Fail> {
+    Ok(PathNo::new(n).ok_or("path")?)
+}
+
+fn word(alloc: Global, command: u8, flags: u8, count: u16, given: &[u8]) -> Result<Ccw, Fail> {
+    Ok(Ccw {
+        command,
+        flags,
+        count,
+        given: Bytes::from_slice(alloc, given)?,
+    })
+}
+
+fn program(ccws: Vec<Ccw>) -> Result<Program, Fail> {
+    Ok(Program::new(ccws).ok().ok_or("a word is bad")?)
+}
+
+/// Define extent over cylinder 0, locate record for one command on track 0, and that command.
+fn located(
+    alloc: Global,
+    mask: u8,
+    operation: u8,
+    record: u8,
+    command: Ccw,
+) -> Result<Program, Fail> {
+    let extent = [mask, 0xc0, 0x10, 0, 0, 0, 0, 0, 0, 0, 0, 0, 0, 0, 0, 0x0e];
+    let locate = [operation, 0, 0, 1, 0, 0, 0, 0, 0, 0, 0, 0, record, 0, 0, 0];
+    let mut ccws = Vec::new(alloc);
+    ccws.push(word(alloc, 0x63, 0x40, 16, extent.as_slice())?)?;
+    ccws.push(word(alloc, 0x47, 0x40, 16, locate.as_slice())?)?;
+    ccws.push(command)?;
+    program(ccws)
+}
+
+/// What a write gives.
+fn given_by(command: u8, count: u16) -> &'static [u8] {
+    match (command, count) {
+        (0x1d, 8) => END_OF_FILE,
+        (0x1d, _) => RECORD_ONE,
+        (0x85, _) => DATA,
+        _ => &[],
+    }
+}
+
+/// How many commands ended; of the last its status, its residual count and whether incorrect length
+/// is noted; and how many bytes it sent, with the first and the second of them.
+type Shown = (usize, u8, u16, bool, usize, u8, u8);
+
+fn shown(ends: &EndList) -> Result<Shown, Fail> {
+    let ends = ends.as_slice();
+    let end = ends.last().ok_or("no end")?;
+    let sent = end.sent.as_slice();
+    Ok((
+        ends.len(),
+        end.status.0,
+        end.residual,
+        matches!(end.note, Note::IncorrectLength),
+        sent.len(),
+        sent.first().copied().unwrap_or(0),
+        sent.get(1).copied().unwrap_or(0),
+    ))
+}
+
+/// A device whose track 0 has record 1 with four bytes of data, and an end of file.
+fn written(alloc: Global) -> Result<PlainDevice, Fail> {
+    let mut device = PlainDevice::new(alloc, Geometry::D3390, 1)?;
+    for (record, count) in [(0, 12), (1, 8)] {
+        let format = word(alloc, 0x1d, 0, count, given_by(0x1d, count))?;
+        let format = located(alloc, 0xc0, 3, record, format)?;
+        device.run(alloc, path(1)?, &format)?;
+    }
+    Ok(device)
+}
+
+/// Programs of define extent, locate record and one command, one behind another.
+#[test]
+fn records_are_written_and_read(rt: HostRuntime) -> Result<(), Fail> {
+    let alloc = rt.alloc();
+    let rows = [
+        (0x40, 6, 0, 0x06, 0, 8, (3, 0x0c, 0, false, 8, 0, 0)),
+        (0x40, 6, 0, 0x06, 0, 10, (3, 0x0c, 2, true, 8, 0, 0)),
+        (0x40, 6, 1, 0x06, 0, 8, (2, 0x0e, 16, false, 0, 0, 0)),
+        (0xc0, 3, 0, 0x1d, 0, 12, (3, 0x0c, 0, false, 0, 0, 0)),
+        (0x40, 6, 1, 0x86, 0, 4, (3, 0x0c, 0, false, 4, 5, 6)),
+        (0x40, 6, 1, 0x86, 0x20, 5, (3, 0x0c, 1, false, 4, 5, 6)),
+        (0x80, 1, 1, 0x85, 0x20, 2, (3, 0x0c, 0, false, 0, 0, 0)),
+        (0x40, 6, 1, 0x86, 0, 1, (3, 0x0c, 0, true, 1, 9, 0)),
+        (0x40, 6, 1, 0x86, 0, 4, (3, 0x0c, 0, false, 4, 9, 8)),
+        (0x40, 1, 1, 0x85, 0x20, 2, (3, 0x0e, 2, false, 0, 0, 0)),
+        (0xc0, 3, 1, 0x1d, 0, 8, (3, 0x0c, 0, false, 0, 0, 0)),
+        (0x40, 6, 2, 0x86, 0x20, 100, (3, 0x0d, 100, false, 0, 0, 0)),
+    ];
+    let mut device = PlainDevice::new(alloc, Geometry::D3390, 1)?;
+    for (mask, operation, record, command, flags, count, want) in rows {
+        let last = word(alloc, command, flags, count, given_by(command, count))?;
+        let program = located(alloc, mask, operation, record, last)?;
+        let ends = device.run(alloc, path(1)?, &program)?;
+        assert_eq!(rt; shown(&ends)?, want, "command {command} of record {record}");
+    }
+    Ok(())
+}
+
+/// Seeks track 0, searches it for a record in a loop, and reads it.
+#[test]
+fn a_search_in_a_loop(rt: HostRuntime) -> Result<(), Fail> {
+    let alloc = rt.alloc();
+    let rows = [
+        (0, (3, 0x0c, 0, false, 8, 0, 0)),
+        (1, (4, 0x0c, 4, false, 4, 5, 6)),
+        (2, (5, 0x0d, 8, false, 0, 0, 0)),
+        (9, (8, 0x0e, 5, false, 0, 0, 0)),
+    ];
+    let mut device = written(alloc)?;
+    for (record, want) in rows {
+        let id = [0, 0, 0, 0, record];
+        let mut ccws = Vec::new(alloc);
+        ccws.push(word(alloc, 0x07, 0x40, 6, &[])?)?;
+        ccws.push(word(alloc, 0x31, 0x40, 5, id.as_slice())?)?;
+        ccws.push(word(alloc, 0x08, 0, 1, &[])?)?;
+        ccws.push(word(alloc, 0x06, 0x20, 8, &[])?)?;
+        let ends = device.run(alloc, path(1)?, &program(ccws)?)?;
+        assert_eq!(rt; shown(&ends)?, want, "record {record}");
+    }
+    Ok(())
+}
+
+/// A program of one command, which sets the path group ID where it is one of that.
+fn single(alloc: Global, command: u8, function: u8) -> Result<Program, Fail> {
+    let set = [function, 1, 2, 3, 4, 5, 6, 7, 8, 9, 10, 11];
+    let (count, given): (u16, &[u8]) = match command {
+        0xaf => (12, &set),
+        0x34 => (12, &[]),
+        0xe4 => (7, &[]),
+        _ => (32, &[]),
+    };
+    let mut ccws = Vec::new(alloc);
+    ccws.push(word(alloc, command, 0, count, given)?)?;
+    program(ccws)
+}
+
+/// Of the only command how many bytes it sent, the first of them, and byte 7 of its sense.
+fn told(
+    alloc: Global,
+    device: &mut PlainDevice,
+    n: u8,
+    program: &Program,
+) -> Result<(usize, u8, u8), Fail> {
+    let ends = device.run(alloc, path(n)?, program)?;
+    let end = ends.as_slice().first().ok_or("no end")?;
+    let sent = end.sent.as_slice();
+    let seventh = end.sense.map_or(0, |sense| sense.bytes[7]);
+    Ok((sent.len(), sent.first().copied().unwrap_or(0), seventh))
+}
+
+/// Path groups and the reservation: path, command and function byte, and what is told.
+#[test]
+fn programs_of_a_device(rt: HostRuntime) -> Result<(), Fail> {
+    let rows = [
+        (1, 0xaf, 0x80, (0, 0, 0)),
+        (2, 0xaf, 0x80, (0, 0, 0)),
+        (1, 0xb4, 0, (32, 0, 0)),
+        (1, 0x34, 0, (12, 0xf8, 0)),
+        (2, 0x34, 0, (12, 0xf8, 0)),
+        (4, 0x34, 0, (12, 0x20, 0)),
+        (3, 0x14, 0, (32, 0, 0)),
+        (3, 0x34, 0, (12, 0x30, 0)),
+        (1, 0x34, 0, (12, 0xe8, 0)),
+        (3, 0x94, 0, (32, 0, 0)),
+        (1, 0x34, 0, (12, 0xc8, 0)),
+        (2, 0xaf, 0x60, (0, 0, 4)),
+        (4, 0xaf, 0x40, (0, 0, 4)),
+        (2, 0xaf, 0x40, (0, 0, 0)),
+        (2, 0xaf, 0x40, (0, 0, 4)),
+        (2, 0x34, 0, (12, 0x80, 0)),
+    ];
+    let alloc = rt.alloc();
+    let mut device = PlainDevice::new(alloc, Geometry::D3390, 1)?;
+    for (n, command, function, want) in rows {
+        let program = single(alloc, command, function)?;
+        let seen = told(alloc, &mut device, n, &program)?;
+        assert_eq!(rt; seen, want, "command {command} of path {n}");
+    }
+    Ok(())
+}
+
+/// 02 is no command. Its sense stays until its path sends it, or begins another program.
+#[test]
+fn senses_of_the_paths(rt: HostRuntime) -> Result<(), Fail> {
+    let rows = [
+        (1, 0x02, (0, 0, 1)),
+        (2, 0x04, (32, 0, 0)),
+        (1, 0x04, (32, 0x80, 0)),
+        (1, 0x04, (32, 0, 0)),
+        (1, 0x02, (0, 0, 1)),
+        (1, 0xb4, (32, 0x80, 0)),
+        (1, 0x02, (0, 0, 1)),
+        (1, 0xe4, (7, 0xff, 0)),
+        (1, 0x04, (32, 0, 0)),
+    ];
+    let alloc = rt.alloc();
+    let mut device = PlainDevice::new(alloc, Geometry::D3390, 1)?;
+    for (n, command, want) in rows {
+        let program = single(alloc, command, 0)?;
+        let seen = told(alloc, &mut device, n, &program)?;
+        assert_eq!(rt; seen, want, "command {command} of path {n}");
+    }
+    Ok(())
+}
+
+/// The bytes of sense path group ID, and what a reset leaves of them.
+#[test]
+fn sense_path_group_id(rt: HostRuntime) -> Result<(), Fail> {
+    let alloc = rt.alloc();
+    let mut device = PlainDevice::new(alloc, Geometry::D3390, 1)?;
+    device.run(alloc, path(1)?, &single(alloc, 0xaf, 0x80)?)?;
+    device.run(alloc, path(1)?, &single(alloc, 0xb4, 0)?)?;
+    let told = [0xf8, 1, 2, 3, 4, 5, 6, 7, 8, 9, 10, 11];
+    for want in [told, [0; 12]] {
+        let ends = device.run(alloc, path(1)?, &single(alloc, 0x34, 0)?)?;
+        let end = ends.as_slice().first().ok_or("no end")?;
+        assert_eq!(rt; end.sent.as_slice() == want.as_slice(), true);
+        device.reset(path(1)?);
+    }
+    Ok(())
+}
