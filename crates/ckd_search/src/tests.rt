@@ -49,6 +49,14 @@ fn stance(place: Place, passes: bool) -> Stance
     }
 }
 
+/// Record 2 is the next one.
+fn before_record_2() -> Stance
+    ensures room { HasRoom result }
+    ensures stands { Stands 960 result }
+{
+    stance(Place::Count(1), false)
+}
+
 /// A word whose command was decoded before.
 fn word(alloc: Global, flags: u8, count: u16, given: &[u8]) -> Result<Ccw, NoMemory> {
     Ok(Ccw {
@@ -100,7 +108,6 @@ fn searched(
 fn ids_below_at_and_above(rt: HostRuntime) -> Result<(), Fail> {
     let alloc = rt.alloc();
     let image = image(alloc)?;
-    let here = stance(Place::Count(1), false);
     let rows = [
         (Comparison::Equal, 1, 0x0c),
         (Comparison::Equal, 2, 0x4c),
@@ -114,7 +121,13 @@ fn ids_below_at_and_above(rt: HostRuntime) -> Result<(), Fail> {
     ];
     for (comparison, r, status) in rows {
         let ccw = word(alloc, 0, 5, &[0, 1, 0, 2, r])?;
-        let (seen, _) = searched(&image, here, &ccw, SearchArea::Id(comparison), false);
+        let (seen, _) = searched(
+            &image,
+            before_record_2(),
+            &ccw,
+            SearchArea::Id(comparison),
+            false,
+        );
         assert_eq!(rt; seen, Seen::End(status, 0, false));
     }
     Ok(())
@@ -125,7 +138,6 @@ fn ids_below_at_and_above(rt: HostRuntime) -> Result<(), Fail> {
 fn keys_at_and_above(rt: HostRuntime) -> Result<(), Fail> {
     let alloc = rt.alloc();
     let image = image(alloc)?;
-    let here = stance(Place::Count(1), false);
     let rows = [
         (Comparison::Equal, 5, 0x4c),
         (Comparison::High, 5, 0x0c),
@@ -133,7 +145,13 @@ fn keys_at_and_above(rt: HostRuntime) -> Result<(), Fail> {
     ];
     for (comparison, key, status) in rows {
         let ccw = word(alloc, 0, 1, &[key])?;
-        let (seen, _) = searched(&image, here, &ccw, SearchArea::Key(comparison), false);
+        let (seen, _) = searched(
+            &image,
+            before_record_2(),
+            &ccw,
+            SearchArea::Key(comparison),
+            false,
+        );
         assert_eq!(rt; seen, Seen::End(status, 0, false));
     }
     Ok(())
@@ -143,11 +161,10 @@ fn keys_at_and_above(rt: HostRuntime) -> Result<(), Fail> {
 fn counts_of_a_search(rt: HostRuntime) -> Result<(), Fail> {
     let alloc = rt.alloc();
     let image = image(alloc)?;
-    let here = stance(Place::Count(1), false);
     let rows = [(0, 4, 0, true), (0x20, 4, 0, false), (0, 7, 2, true)];
     for (flags, count, residual, incorrect) in rows {
         let ccw = word(alloc, flags, count, &[0, 1, 0, 2, 2])?;
-        let (seen, _) = searched(&image, here, &ccw, ID, false);
+        let (seen, _) = searched(&image, before_record_2(), &ccw, ID, false);
         assert_eq!(rt; seen, Seen::End(0x4c, residual, incorrect));
     }
     Ok(())
