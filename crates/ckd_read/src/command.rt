@@ -1,12 +1,12 @@
 ghost use Rattle.std.specs.Prelude.{◌≡◌, ◌<◌, ◌≤◌, Ok, IfOk, IfSome, IsSome, OnErr, OnOk, length};
 ghost use Rattle.ckd_rules.specs.Finding.{record_of, track_after, find_on};
 ghost use Rattle.ckd_rules.specs.Facts.{HasRoom, Stands, Stays, IsHere, IsOnward, PassedOnce, LooksOn};
-ghost use Rattle.ckd_rules.specs.Reads.{read_candidate, read_place, read_passes, found_after, read_after, status_of, read_status, read_stance, read_ended, read_sought, read_on};
+ghost use Rattle.ckd_rules.specs.Reads.{read_candidate, read_place, read_passes, found_after, read_after, read_status, read_stance, read_ended, read_sought, read_on};
 
 use crate::area::{area_len, sent_of};
 use ckd_rules::{
     After, Ending, Place, Sought, Stance, Turned, end, find_from, home_from, if_there, next_count,
-    next_data, next_key, place_on, refuse, spend_one, zero_from,
+    next_data, next_key, place_on, refuse, spend_one, status_of, zero_from,
 };
 use ckd_types::{Ccw, NoMemory, Read, ReadArea, UnitStatus};
 use std::alloc::Global;
@@ -85,17 +85,6 @@ fn read_after(area: ReadArea, after: After) -> After
     match area {
         ReadArea::Data | ReadArea::KeyData => found_after(after),
         _ => After::Other,
-    }
-}
-
-/// A record without data is an end of file.
-fn status_of(body: &[u8]) -> UnitStatus
-    ensures { result ≡ status_of body.now }
-{
-    if body.is_empty() {
-        UnitStatus::exception()
-    } else {
-        UnitStatus::normal()
     }
 }
 

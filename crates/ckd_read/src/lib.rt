@@ -4,5 +4,7 @@
 mod area;
 mod command;
 mod sending;
+#[cfg(test)]
+mod tests;
 
 pub use command::read;

@@ -33,6 +33,7 @@ impl Sending {
         Ok(())
     }
 
+    /// All that was sent.
     pub fn into_bytes(self) -> Bytes
         ensures { result ≡ self.bytes.items }
     {

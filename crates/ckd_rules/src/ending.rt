@@ -1,5 +1,6 @@
 ghost use Rattle.std.specs.Prelude.{◌≡◌, ◌<◌, ◌+◌, ◌^◌, [], None, length};
 ghost use Rattle.ckd_rules.specs.Ending.{counted, length_note, refused, immediate, ended};
+ghost use Rattle.ckd_rules.specs.Reads.{status_of};
 
 use crate::Stance;
 use ckd_types::{Bytes, Ccw, Note, Sense, UnitStatus};
@@ -87,5 +88,18 @@ pub fn end(stance: &mut Stance, ccw: &Ccw, area: usize, status: UnitStatus, sent
         residual: ccw.count - moved,
         status,
         note: length_note(ccw, area),
+    }
+}
+
+/// The status at the end of a record with this data: one without data is an end of file (IBM,
+/// GA32-0099).
+#[inline(always)]
+pub fn status_of(body: &[u8]) -> UnitStatus
+    ensures { result ≡ status_of body.now }
+{
+    if body.is_empty() {
+        UnitStatus::exception()
+    } else {
+        UnitStatus::normal()
     }
 }

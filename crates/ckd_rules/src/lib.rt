@@ -18,7 +18,7 @@ mod turned;
 pub use acts::{answer, is_given, sense_id_bytes, take};
 pub use checks::order_of;
 pub use control::locate;
-pub use ending::{Ending, end, refuse};
+pub use ending::{Ending, end, refuse, status_of};
 pub use ends::{end_of, goes_to, no_ccw, word_at};
 pub use finding::{
     Sought, find_from, home_from, if_there, next_area, next_count, next_data, next_id, next_key,

@@ -4,5 +4,7 @@
 mod candidate;
 mod command;
 mod comparing;
+#[cfg(test)]
+mod tests;
 
 pub use command::search;

@@ -9,10 +9,13 @@ use ckd_types::{Ccw, NoMemory, Write};
 use std::alloc::Global;
 use track_image::TrackImage;
 
-/// What a write does to the track that the chain is on. A format on the next track is not moved to
-/// it: the stance is there already. No check of its word and its stance refuses the command. The
-/// stance is changed in place: behind the command, or on the next track before its index. After want
-/// of memory it is as it was.
+/// What a write does to the track that the chain is on (IBM, GA32-0099): it ends there, with an edit
+/// of that track where it writes, or goes on to the next track. The edit isn't made here. A format on
+/// the next track is not moved to it: the stance is there already. No check of its word and its stance
+/// refuses the command. The stance is changed in place: behind the command, or on the next track before
+/// its index. After want of memory it is as it was.
+///
+/// Own: bytes that are not given are zeros, and in a domain every update is an update write.
 pub fn write(
     alloc: Global,
     image: &TrackImage,

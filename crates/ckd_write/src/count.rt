@@ -35,6 +35,7 @@ pub struct NewCount {
     pub body: u16,
 }
 
+/// Reads the count area that a format is given: id, key length and data length in eight bytes (IBM).
 pub fn new_count(ccw: &Ccw) -> NewCount
     ensures id { result.id ≡ (record_given ccw.now).id }
     ensures key { result.key ≡ key_given ccw.now }

@@ -1,15 +1,15 @@
 ghost use Rattle.std.specs.Prelude.{◌≡◌, ◌<◌, IfOk, Ok, OnErr, OnOk, length};
 ghost use Rattle.ckd_rules.specs.Finding.{track_after, place_on, if_there, find_from};
-ghost use Rattle.ckd_rules.specs.Reads.{record_at, status_of};
+ghost use Rattle.ckd_rules.specs.Reads.{record_at};
 ghost use Rattle.ckd_rules.specs.Facts.{HasRoom, Stands, Stays, IsHere, IsOnward, Turns};
 ghost use Rattle.ckd_rules.specs.Updates.{after_update, update_ended, update_data, update_key_data, update_record, update_sought, update_on};
 
 use crate::area::given_at;
 use ckd_rules::{
     After, Ending, Place, Sought, Stance, Turned, end, find_from, if_there, next_area, place_on,
-    refuse, spend_one,
+    refuse, spend_one, status_of,
 };
-use ckd_types::{Bytes, Ccw, Edit, NoMemory, UnitStatus};
+use ckd_types::{Bytes, Ccw, Edit, NoMemory};
 use std::alloc::Global;
 use track_image::TrackImage;
 
@@ -21,17 +21,6 @@ fn after_update(in_domain: bool) -> After
         After::Other
     } else {
         After::Wrote
-    }
-}
-
-/// A record without data is an end of file.
-fn status_of(body: &[u8]) -> UnitStatus
-    ensures { result ≡ status_of body.now }
-{
-    if body.is_empty() {
-        UnitStatus::exception()
-    } else {
-        UnitStatus::normal()
     }
 }
 
