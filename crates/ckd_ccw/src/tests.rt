@@ -1,6 +1,5 @@
-use crate::checks::is_search;
 use crate::*;
-use ckd_types::{Bytes, Ccw, NoMemory};
+use ckd_types::{Bytes, Ccw, NoMemory, is_search};
 use std::alloc::Global;
 use std::test::Fail;
 

@@ -20,8 +20,8 @@ pub struct Pending {
     pub n: u32,
 }
 
-/// The pool of frames and slots. No call but `new` and `want_frame` takes memory, and none but a
-/// `want_frame` that passes modified frames walks the list.
+/// The pool of frames and slots. No call but `new` and `want_frame` takes memory. None walks the list but a
+/// `want_frame` that passes modified frames, and `entry`, which passes those before its own.
 #[derive(Drop)]
 pub struct Pool {
     frames: Frames,
