@@ -1,0 +1,51 @@
+-- A volume file: the tracks of a volume as plain bytes.
+use Rattle.std.specs.Prelude.{◌≡◌, ◌≤◌, ◌<◌, ◌*◌, ℕ, List, [], ◌∷◌, ◌++◌, length, map, slice_index_or}
+use Rattle.std.specs.List.{flat_map, range_with_len}
+use Rattle.byteorder.specs.Endian.{big_bytes}
+use Rattle.ckd_types.specs.declared.geometry.Geometry.{Geometry}
+use Rattle.ckd_types.specs.declared.geometry.Geometry.TheVariants.{D3390, D3380}
+use Rattle.ckd_types.specs.Geometry.{cchh_of}
+use Rattle.ckd_types.specs.Track.{empty_track, track_bytes}
+use Rattle.track_image.specs.Image.{Image}
+
+-- a volume, with the images of its tracks in rising order
+pub record ImageVolume : Type 0 where
+  pub geometry : Geometry
+  pub cylinders : ℕ
+  pub images : List Image
+
+abbrev pub empty_image : Geometry → ℕ → Image
+empty_image g t = record { geometry = g; track = empty_track t }
+
+abbrev pub image_in : ImageVolume → ℕ → Image
+image_in v t = slice_index_or v.images t (empty_image v.geometry t)
+
+-- what is so of every volume of a file: each track is where it says, and of the volume's model
+pub record IsWhole (v : ImageVolume) : Type 0 where
+  pub least : 1 ≤ v.cylinders
+  pub most : v.cylinders ≤ 64
+  pub tracks : length v.images ≡ v.cylinders * 15
+  pub models : (t : ℕ) → t < length v.images → (image_in v t).geometry ≡ v.geometry
+  pub homes : (t : ℕ) → t < length v.images → (image_in v t).track.home ≡ cchh_of t
+
+abbrev pub empty_images : Geometry → ℕ → List Image
+empty_images g cylinders = map (empty_image g) (range_with_len 0 (cylinders * 15))
+
+-- the file begins with CKDVOL01
+abbrev pub signature : List ℕ
+signature = 0x43 ∷ 0x4b ∷ 0x44 ∷ 0x56 ∷ 0x4f ∷ 0x4c ∷ 0x30 ∷ 0x31 ∷ []
+
+abbrev pub model_byte : Geometry → ℕ
+model_byte D3390 = 1
+model_byte D3380 = 2
+
+-- then come the model, the cylinders and two zero bytes
+abbrev pub head_of : Geometry → ℕ → List ℕ
+head_of g cylinders = signature ++ model_byte g ∷ cylinders ∷ 0 ∷ 0 ∷ []
+
+-- a track: how many bytes it has, in four bytes with the high one first, and then these bytes
+abbrev pub track_part : Image → List ℕ
+track_part i = big_bytes 4 (length (track_bytes i.track)) ++ track_bytes i.track
+
+abbrev pub file_of : ImageVolume → List ℕ
+file_of v = head_of v.geometry v.cylinders ++ flat_map track_part v.images

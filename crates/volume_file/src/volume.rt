@@ -1,0 +1,104 @@
+ghost use Rattle.std.specs.Prelude.{◌≡◌, ◌≤◌, ◌<◌, IfOk, length, slice_set};
+ghost use Rattle.ckd_types.specs.Geometry.{cchh_of};
+ghost use Rattle.volume_file.specs.File.{IsWhole, empty_images, image_in};
+
+use ckd_types::{Geometry, HEADS, NoMemory, TrackNo};
+use std::alloc::Global;
+use std::marker::Model;
+use track_image::TrackImage;
+
+/// A volume with the images of all its tracks: what a file holds.
+#[derive(Debug, Drop)]
+pub struct FileVolume {
+    geometry: Geometry,
+    cylinders: u8,
+    images: Vec<TrackImage>,
+}
+
+impl Model for FileVolume {
+    ghost use Rattle.volume_file.specs.File.{ImageVolume, IsWhole};
+
+    ghost Value = { ImageVolume };
+
+    ghost view = { λ v. record { geometry = v.geometry; cylinders = v.cylinders; images = v.images.items } };
+
+    ghost invariant = { λ v. IsWhole (record { geometry = v.geometry; cylinders = v.cylinders; images = v.images.items }) };
+}
+
+/// The images of the empty tracks of this many cylinders.
+fn empty_images(
+    alloc: Global,
+    geometry: Geometry,
+    cylinders: u8,
+) -> Result<Vec<TrackImage>, NoMemory>
+    requires { cylinders ≤ 64 }
+    ensures { IfOk result (λ made. made.items ≡ empty_images geometry cylinders) }
+{
+    let count = u16::from(cylinders) * HEADS;
+    let mut images = Vec::with_capacity(alloc, usize::from(count))?;
+    for n in 0..count {
+        let image = TrackImage::empty(alloc, geometry, TrackNo::new(n).unwrap())?;
+        images.push(image)?;
+    }
+    Ok(images)
+}
+
+impl FileVolume {
+    /// A volume whose tracks are empty.
+    pub fn new(alloc: Global, geometry: Geometry, cylinders: u8) -> Result<FileVolume, NoMemory>
+        requires least { 1 ≤ cylinders }
+        requires most { cylinders ≤ 64 }
+        ensures { IfOk result (λ v. v ≡ record { geometry = geometry; cylinders = cylinders; images = empty_images geometry cylinders }) }
+    {
+        let images = empty_images(alloc, geometry, cylinders)?;
+        Ok(FileVolume {
+            geometry,
+            cylinders,
+            images,
+        })
+    }
+
+    /// Each track is where it says.
+    pub fn is_whole(&self)
+        ensures { IsWhole self.now }
+    {
+        let _ = &self.geometry;
+    }
+
+    pub fn geometry(&self) -> Geometry
+        ensures { result ≡ self.now.geometry }
+    {
+        self.geometry
+    }
+
+    pub fn cylinders(&self) -> u8
+        ensures { result ≡ self.now.cylinders }
+    {
+        self.cylinders
+    }
+
+    /// The images of all tracks, in rising order.
+    pub fn images(&self) -> &[TrackImage]
+        ensures { result.now ≡ self.now.images }
+    {
+        &self.images
+    }
+
+    /// The image of a track of the volume.
+    pub fn image(&self, t: TrackNo) -> &TrackImage
+        requires { t < length self.now.images }
+        ensures { result.now ≡ image_in self.now t }
+    {
+        &self.images[usize::from(t.get())]
+    }
+
+    /// Puts another image in place of a track's.
+    pub fn set(&mut self, t: TrackNo, image: TrackImage)
+        requires track { t < length self.old.images }
+        requires model { image.geometry ≡ self.old.geometry }
+        requires home { image.track.home ≡ cchh_of t }
+        ensures { self.new ≡ record self.old { images = slice_set self.old.images t image } }
+    {
+        self.images[usize::from(t.get())] = image;
+    }
+}
