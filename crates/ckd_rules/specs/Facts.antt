@@ -108,7 +108,7 @@ pub record IsUpdate (records : List Record) (i : ℕ) (key body : List ℕ) : Ty
 -- a format puts a record behind one that is there, and the capacity holds it
 pub record IsFormat (g : Geometry) (records : List Record) (after : ℕ) (added : Record) : Type 0 where
   pub place : after < length records
-  pub lengths : IsRecord added
+  pub ranges : IsRecord added
   pub room : has_room_behind g records after (length added.key) (length added.body) ≡ true
 
 -- record 0 has no key and eight bytes of data

@@ -8,7 +8,7 @@ use Rattle.ckd_types.specs.declared.command.ReadArea.TheVariants as reads
 use Rattle.ckd_types.specs.declared.command.Write.{Write}
 use Rattle.ckd_types.specs.declared.command.Write.TheVariants as writes
 use Rattle.ckd_types.specs.declared.parameters.Operation.{Operation}
-use Rattle.ckd_types.specs.declared.parameters.Operation.TheVariants.{Orient, WriteData, Format, ReadData, ReadTracks, Read}
+use Rattle.ckd_types.specs.declared.parameters.Operation.TheVariants.{WriteData, Format, ReadData, ReadTracks, Read}
 
 abbrev pub is_reading_tracks : Operation → Bool
 is_reading_tracks ReadTracks = true

@@ -1,5 +1,5 @@
 -- A track: where it is, and its records, record 0 first.
-use Rattle.std.specs.Prelude.{◌≡◌, ℕ, ◌/◌, ◌%◌, ◌==◌, ◌&&◌, ◌≤◌, Bool, List, [], ◌∷◌, ◌++◌, length, drop, replicate, sum_by, position, All, Option}
+use Rattle.std.specs.Prelude.{◌≡◌, ℕ, ◌/◌, ◌%◌, ◌^◌, ◌==◌, ◌&&◌, ◌≤◌, ◌<◌, Bool, List, [], ◌∷◌, ◌++◌, length, drop, replicate, sum_by, position, All, Option}
 use Rattle.std.specs.List.{flat_map}
 use Rattle.ckd_types.specs.declared.geometry.Cchh.{Cchh}
 use Rattle.ckd_types.specs.declared.geometry.Geometry.{Geometry}
@@ -24,8 +24,15 @@ empty_zero t = record { id = record { cchh = cchh_of t; r = 0 }; key = []; body 
 abbrev pub empty_track : ℕ → Track
 empty_track t = record { home = cchh_of t; records = empty_zero t ∷ [] }
 
--- the lengths that a record may have
+-- a cylinder and a head are two bytes each
+pub record IsCchh (p : Cchh) : Type 0 where
+  pub cc : p.cc < 2 ^ 16
+  pub hh : p.hh < 2 ^ 16
+
+-- the ranges of an id, and the lengths that a record may have
 pub record IsRecord (r : Record) : Type 0 where
+  pub cchh : IsCchh r.id.cchh
+  pub number : r.id.r < 2 ^ 8
   pub key : length r.key ≤ 255
   pub body : length r.body ≤ 65534
 
@@ -40,6 +47,7 @@ cost_of g records = sum_by (λ (r : Record). cost g (length r.key) (length r.bod
 
 -- a track that a volume of this geometry can hold
 pub record Fits (g : Geometry) (t : Track) : Type 0 where
+  pub home : IsCchh t.home
   pub zero : HasZero t.records
   pub records : All IsRecord t.records
   pub cost : cost_of g t.records ≤ capacity g

@@ -1,5 +1,6 @@
-ghost use Rattle.std.specs.Prelude.{◌≡◌, ◌≤◌, ◌+◌, IfOk, length};
+ghost use Rattle.std.specs.Prelude.{◌≡◌, ◌≤◌, ◌<◌, ◌+◌, ◌^◌, IfOk, length};
 ghost use Rattle.ckd_types.specs.Parameters.{number_at, cchh_at};
+ghost use Rattle.ckd_types.specs.Track.{IsCchh};
 ghost use Rattle.ckd_rules.specs.Formats.{count_given, key_given, body_given, record_given};
 
 use crate::area::{count_given, given_at};
@@ -59,6 +60,8 @@ pub fn record_given(alloc: Global, ccw: &Ccw, count: NewCount) -> Result<Record,
     requires key { count.key ≡ key_given ccw.now }
     requires body { count.body ≡ body_given ccw.now }
     ensures given { IfOk result (λ made. made ≡ record_given ccw.now) }
+    ensures cchh { IfOk result (λ made. IsCchh made.id.cchh) }
+    ensures number { IfOk result (λ made. made.id.r < 2 ^ 8) }
     ensures key { IfOk result (λ made. length made.key ≡ key_given ccw.now) }
     ensures body { IfOk result (λ made. length made.body ≡ body_given ccw.now) }
 {

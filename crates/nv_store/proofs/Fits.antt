@@ -1,8 +1,8 @@
 -- Which records fit on a track.
 use Rattle.std.proofs.Common.{◌≡◌, ℕ, zero, suc, ◌+◌, ◌<◌, ◌≤◌, ◌==◌, ◌↔◌, true, false, List, [], ◌∷◌, ◌++◌, length, get_or, take, drop, refl, sym, ap, ◌∙◌, append_assoc, arith}
-use Rattle.std.specs.Prelude.{All, sum_by}
+use Rattle.std.specs.Prelude.{All, nat_lt, sum_by}
 use Rattle.std.specs.List.{list_all}
-use Rattle.std.proofs.lemmas.Bool.{and_parts, and_from, and_left, and_right, both_ways, false_from_ne_true, leb-true, leb-false, le-leb, lt-leb, eq-eqb, eqb-true}
+use Rattle.std.proofs.lemmas.Bool.{and_parts, and_from, and_left, and_right, both_ways, false_from_ne_true, leb-true, leb-false, le-leb, lt-leb, lt-ltb, ltb-true, eq-eqb, eqb-true}
 use Rattle.std.proofs.lemmas.List.{length-take, length-append, take_all, at_drop_more}
 use Rattle.std.proofs.lemmas.List.Folds.{list_all-append}
 use Rattle.std.proofs.lemmas.List.Sums.{sum_by-append}
@@ -10,9 +10,9 @@ use Rattle.ckd_types.specs.declared.geometry.Geometry.{Geometry}
 use Rattle.ckd_types.specs.declared.record.Record.{Record}
 use Rattle.ckd_types.specs.declared.record.Track.{Track}
 use Rattle.ckd_types.specs.Geometry.{cost, capacity}
-use Rattle.ckd_types.specs.Track.{IsRecord, HasZero, Fits, cost_of}
+use Rattle.ckd_types.specs.Track.{IsCchh, IsRecord, HasZero, Fits, cost_of}
 use Rattle.track_image.specs.Image.{Image, is_room_behind}
-use Rattle.nv_store.specs.Fit.{is_record, has_zero, is_fit}
+use Rattle.nv_store.specs.Fit.{is_id, is_record, has_zero, is_fit}
 
 -- the units of some records, and of more behind them
 cost-append : (g : Geometry) (xs ys : List Record) → 0 < length xs → cost_of g (xs ++ ys) ≡ cost_of g xs + sum_by (λ (r : Record). cost g (length r.key) (length r.body)) ys
@@ -44,7 +44,11 @@ unfit_more g (x ∷ xs) ys some unfit = false_from_ne_true _ (λ fit.
     both_ways _ unfit (and_from _ _ first.0 (and_from _ _ records.0 (le-leb _ _ room))))
 
 record_test : (r : Record) → IsRecord r → is_record r ≡ true
-record_test r is = and_from _ _ (le-leb _ _ is.key) (le-leb _ _ is.body)
+record_test r is =
+    let cc : r.id.cchh.cc < 65536 = omega (arith, is.cchh.cc) in
+    let hh : r.id.cchh.hh < 65536 = omega (arith, is.cchh.hh) in
+    let number : r.id.r < 256 = omega (arith, is.number) in
+    and_from _ _ (and_from _ _ (lt-ltb _ _ cc) (and_from _ _ (lt-ltb _ _ hh) (lt-ltb _ _ number))) (and_from _ _ (le-leb _ _ is.key) (le-leb _ _ is.body))
 
 records_test : (records : List Record) → All IsRecord records → list_all is_record records ≡ true
 records_test [] all = refl
@@ -90,16 +94,24 @@ zero_from (r ∷ records) h =
 records_from : (records : List Record) → list_all is_record records ≡ true → All IsRecord records
 records_from [] all k d below = absurd (omega arith)
 records_from (r ∷ records) all zero d below =
-    let tests = and_parts _ _ (and_parts (is_record r) (list_all is_record records) all).0 in
-    record { key = leb-true _ _ tests.0; body = leb-true _ _ tests.1 }
+    let tests = and_parts (is_id r.id) _ (and_parts (is_record r) (list_all is_record records) all).0 in
+    let id = and_parts (nat_lt r.id.cchh.cc 65536) _ tests.0 in
+    let head = and_parts (nat_lt r.id.cchh.hh 65536) (nat_lt r.id.r 256) id.1 in
+    let lengths = and_parts _ _ tests.1 in
+    record {
+      cchh = record { cc = omega (arith, ltb-true _ _ id.0); hh = omega (arith, ltb-true _ _ head.0) };
+      number = omega (arith, ltb-true _ _ head.1);
+      key = leb-true _ _ lengths.0;
+      body = leb-true _ _ lengths.1;
+    }
 records_from (r ∷ records) all (suc k) d below = records_from records (and_parts (is_record r) (list_all is_record records) all).1 k d (omega arith)
 
 -- the test says what a track that fits is
-pub fit_says : (g : Geometry) (t : Track) → (is_fit g t.records ≡ true) ↔ Fits g t
-fit_says g t = (says, λ fits. fit_test (record { geometry = g; track = t }) fits)
+pub fit_says : (g : Geometry) (t : Track) → (IsCchh t.home × (is_fit g t.records ≡ true)) ↔ Fits g t
+fit_says g t = (says, λ fits. (fits.home, fit_test (record { geometry = g; track = t }) fits))
   where
-    says : is_fit g t.records ≡ true → Fits g t
+    says : IsCchh t.home × (is_fit g t.records ≡ true) → Fits g t
     says h =
-        let first = and_parts (has_zero t.records) _ h in
+        let first = and_parts (has_zero t.records) _ h.1 in
         let rest = and_parts (list_all is_record t.records) _ first.1 in
-        record { zero = zero_from t.records first.0; records = records_from t.records rest.0; cost = leb-true _ _ rest.1 }
+        record { home = h.0; zero = zero_from t.records first.0; records = records_from t.records rest.0; cost = leb-true _ _ rest.1 }

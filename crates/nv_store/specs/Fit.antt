@@ -1,13 +1,18 @@
 -- Whether records fit on a track, as a test.
-use Rattle.std.specs.Prelude.{ℕ, ◌+◌, ◌==◌, ◌&&◌, nat_le, sum_by, Bool, false, List, [], ◌∷◌, length}
+use Rattle.std.specs.Prelude.{ℕ, ◌+◌, ◌==◌, ◌&&◌, nat_le, nat_lt, sum_by, Bool, false, List, [], ◌∷◌, length}
 use Rattle.std.specs.List.{list_all}
 use Rattle.ckd_types.specs.declared.geometry.Geometry.{Geometry}
+use Rattle.ckd_types.specs.declared.record.RecId.{RecId}
 use Rattle.ckd_types.specs.declared.record.Record.{Record}
 use Rattle.ckd_types.specs.Geometry.{cost, capacity}
 use Rattle.ckd_types.specs.Track.{cost_of}
 
+-- the ranges of an id
+abbrev pub is_id : RecId → Bool
+is_id id = nat_lt id.cchh.cc 65536 && (nat_lt id.cchh.hh 65536 && nat_lt id.r 256)
+
 abbrev pub is_record : Record → Bool
-is_record r = nat_le (length r.key) 255 && nat_le (length r.body) 65534
+is_record r = is_id r.id && (nat_le (length r.key) 255 && nat_le (length r.body) 65534)
 
 -- the lengths of a record 0
 abbrev pub is_zero : Record → Bool

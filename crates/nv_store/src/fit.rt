@@ -3,17 +3,25 @@ ghost use Rattle.ckd_types.specs.declared.record.Edit.TheVariants as edits;
 ghost use Rattle.track_image.specs.Image.{edited_image};
 ghost use Rattle.ckd_types.specs.Geometry.{capacity};
 ghost use Rattle.ckd_types.specs.Track.{cost_of};
-ghost use Rattle.nv_store.specs.Fit.{is_record, is_zero, is_fit, fit_units};
+ghost use Rattle.nv_store.specs.Fit.{is_id, is_record, is_zero, is_fit, fit_units};
 ghost use Rattle.nv_store.specs.Patch.{is_whole, reaches, stay};
 
 use crate::{ApplyFault, Kept};
-use ckd_types::{Geometry, NoMemory, Record, capacity, cost};
+use ckd_types::{Geometry, NoMemory, RecId, Record, capacity, cost};
 use std::alloc::Global;
 use track_image::{AddFault, TrackImage};
+
+/// The numbers of an id are in their ranges.
+fn in_range(id: RecId)
+    ensures { is_id id ≡ true }
+{
+    let _ = id;
+}
 
 fn is_record(r: &Record) -> bool
     ensures { result ≡ is_record r.now }
 {
+    in_range(r.id);
     r.key.len() <= 255 && r.body.len() <= 65534
 }
 

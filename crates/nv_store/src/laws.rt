@@ -3,7 +3,7 @@
 ghost use Rattle.std.specs.Prelude.{◌≡◌, ◌↔◌, List, Some, true};
 ghost use Rattle.ckd_types.specs.declared.geometry.Geometry.{Geometry};
 ghost use Rattle.ckd_types.specs.declared.record.Track.{Track};
-ghost use Rattle.ckd_types.specs.Track.{Fits};
+ghost use Rattle.ckd_types.specs.Track.{IsCchh, Fits};
 ghost use Rattle.ckd_types.specs.Edit.{edited};
 ghost use Rattle.nv_store.specs.Fit.{is_fit};
 ghost use Rattle.ckd_types.specs.declared.record.Edit.{Edit};
@@ -27,7 +27,7 @@ pub fn one_more()
     ensures { (p : PatchView) (e : Edit) (i out : Image) → IsPatch p → applied p i ≡ Some out → Meets e out.track.records → is_fit i.geometry (edited e out.track.records) ≡ true → applied (added p e) i ≡ Some (edited_image e out) }
 {}
 
-/// The test of a patch's result is that the track fits.
+/// The test of a patch's result is that the track fits, where its home address has its range.
 pub fn fit_is_tested()
-    ensures { (g : Geometry) (t : Track) → (is_fit g t.records ≡ true) ↔ Fits g t }
+    ensures { (g : Geometry) (t : Track) → (IsCchh t.home × (is_fit g t.records ≡ true)) ↔ Fits g t }
 {}

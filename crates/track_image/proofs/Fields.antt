@@ -4,12 +4,13 @@ use Rattle.std.specs.List.{starts_with}
 use Rattle.std.proofs.lemmas.Bool.{ltb-false, le-ltb, le-leb, eqb-true}
 use Rattle.std.proofs.lemmas.List.{take_at, take_all, drop_at, take-append-drop, length-append, length-take, length-drop, get_or-drop, drop-drop}
 use Rattle.std.proofs.lemmas.Slice.Eq.{bytes_eq-Decides}
+use Rattle.ckd_types.specs.declared.geometry.Cchh.{Cchh}
 use Rattle.ckd_types.specs.declared.geometry.Geometry.{Geometry}
 use Rattle.ckd_types.specs.declared.record.Record.{Record}
 use Rattle.ckd_types.specs.Geometry.{cost, capacity}
-use Rattle.ckd_types.specs.Track.{IsRecord, two_bytes, cchh_bytes, count_area, record_bytes, end_mark}
+use Rattle.ckd_types.specs.Track.{IsCchh, IsRecord, two_bytes, cchh_bytes, home_bytes, count_area, record_bytes, end_mark}
 use Rattle.track_image.specs.declared.count.Count.{Count}
-use Rattle.track_image.specs.Image.{IsAddressed}
+use Rattle.track_image.specs.Packed.{record_from}
 use Rattle.track_image.specs.Reading.{◌>>=◌, count_at, areas_at, zero_at, next_at, size_of}
 
 abbrev pub IsBytes : List ℕ → Type 0
@@ -82,10 +83,27 @@ count_takes (a ∷ b ∷ c ∷ d ∷ e ∷ f ∷ g ∷ h ∷ rest) fits long =
     let body = two_written _ g h refl (fits 6) (fits 7) in
     cc
 
-pub count_again : (r : Record) (rest : List ℕ) → IsRecord r → IsAddressed r → count_at (count_area r ++ rest) ≡ record { id = r.id; key = length r.key; body = length r.body }
-count_again r rest lengths addressed =
-    let small : length r.body < 2 ^ 16 = omega (arith, lengths.body) in
-    rw (two_read r.id.cchh.cc addressed.cc, two_read r.id.cchh.hh addressed.hh, two_read (length r.body) small) refl
+pub count_again : (r : Record) (rest : List ℕ) → IsRecord r → count_at (count_area r ++ rest) ≡ record { id = r.id; key = length r.key; body = length r.body }
+count_again r rest ranges =
+    let small : length r.body < 2 ^ 16 = omega (arith, ranges.body) in
+    rw (two_read r.id.cchh.cc ranges.cchh.cc, two_read r.id.cchh.hh ranges.cchh.hh, two_read (length r.body) small) refl
+
+-- what stands in bytes has an id of two, two and one byte
+pub ranges_from : (bytes : List ℕ) → IsBytes bytes → length (record_from bytes).key ≤ 255 → length (record_from bytes).body ≤ 65534 → IsRecord (record_from bytes)
+ranges_from bytes fits key body = record {
+  cchh = record { cc = omega (arith, fits 0, fits 1); hh = omega (arith, fits 2, fits 3, get_or-drop 2 bytes 0 0, get_or-drop 2 bytes 1 0) };
+  number = fits 4;
+  key = key;
+  body = body;
+}
+
+-- a home address
+pub home_again : (a b : Cchh) → IsCchh a → IsCchh b → home_bytes a ≡ home_bytes b → a ≡ b
+home_again a b a_is b_is e =
+    let at = λ (i : ℕ). ap (λ (x : List ℕ). get_or x i 0) e in
+    let cylinder : a.cc ≡ b.cc = omega (arith, at 1, at 2, a_is.cc, b_is.cc) in
+    let head : a.hh ≡ b.hh = omega (arith, at 3, at 4, a_is.hh, b_is.hh) in
+    rw (cylinder, head) refl
 
 -- ---- key and data
 
@@ -157,11 +175,11 @@ zero_takes at bytes r fits e =
 
 -- a count area is no end mark
 not_mark : (r : Record) (rest : List ℕ) → IsRecord r → starts_with nat_eq (count_area r ++ rest) end_mark ≡ false
-not_mark r rest lengths = not_true _ (λ t.
+not_mark r rest ranges = not_true _ (λ t.
     let same = (bytes_eq-Decides end_mark (take 8 (count_area r ++ rest))).0 t in
     let high : 255 ≡ length r.body / 256 % 256 = ap (λ (x : List ℕ). get_or x 6 0) same in
     let low : 255 ≡ length r.body % 256 = ap (λ (x : List ℕ). get_or x 7 0) same in
-    omega (arith, lengths.body))
+    omega (arith, ranges.body))
 
 -- the end mark, with nothing behind it
 abbrev at_mark : ℕ → List ℕ → Result (Option Record) ℕ
@@ -218,18 +236,18 @@ zero_from at bytes count count_is long key body =
     let here : family count = rw (eq-eqb count.key 0 key, eq-eqb count.body 8 body) refl in
     rw full (subst family (sym count_is) here)
 
-pub next_again : (g : Geometry) (spent at : ℕ) (r : Record) (rest : List ℕ) → IsRecord r → IsAddressed r → spent + cost g (length r.key) (length r.body) ≤ capacity g → next_at g spent at (record_bytes r ++ rest) ≡ Ok (Some r)
-next_again g spent at r rest lengths addressed room =
+pub next_again : (g : Geometry) (spent at : ℕ) (r : Record) (rest : List ℕ) → IsRecord r → spent + cost g (length r.key) (length r.body) ≤ capacity g → next_at g spent at (record_bytes r ++ rest) ≡ Ok (Some r)
+next_again g spent at r rest ranges room =
     let areas = (r.key ++ r.body) ++ rest in
     let count : Count = record { id = r.id; key = length r.key; body = length r.body } in
     ap (next_at g spent at) (regroup r rest)
-    ∙ next_from g spent at (count_area r ++ areas) count (count_again r areas lengths addressed) (omega arith) (not_mark r areas lengths) room
+    ∙ next_from g spent at (count_area r ++ areas) count (count_again r areas ranges) (omega arith) (not_mark r areas ranges) room
     ∙ ap (λ (x : Result Record ℕ). x >>= (λ y. Ok (Some y))) (areas_again (at + 8) r rest)
 
-pub zero_again : (at : ℕ) (r : Record) (rest : List ℕ) → IsRecord r → IsAddressed r → length r.key ≡ 0 → length r.body ≡ 8 → zero_at at (record_bytes r ++ rest) ≡ Ok r
-zero_again at r rest lengths addressed key body =
+pub zero_again : (at : ℕ) (r : Record) (rest : List ℕ) → IsRecord r → length r.key ≡ 0 → length r.body ≡ 8 → zero_at at (record_bytes r ++ rest) ≡ Ok r
+zero_again at r rest ranges key body =
     let areas = (r.key ++ r.body) ++ rest in
     let count : Count = record { id = r.id; key = length r.key; body = length r.body } in
     ap (zero_at at) (regroup r rest)
-    ∙ zero_from at (count_area r ++ areas) count (count_again r areas lengths addressed) (omega arith) key body
+    ∙ zero_from at (count_area r ++ areas) count (count_again r areas ranges) (omega arith) key body
     ∙ areas_again (at + 8) r rest

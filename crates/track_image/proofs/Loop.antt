@@ -10,7 +10,7 @@ use Rattle.ckd_types.specs.Track.{IsRecord, HasZero, cost_of, record_bytes}
 use Rattle.track_image.specs.declared.count.Count.{Count}
 use Rattle.track_image.specs.Packed.{record_from, unpacked, places_from, IsFound}
 use Rattle.track_image.specs.Reading.{◌>>=◌, map_ok, count_at, next_at, size_of, records_at, IsNext}
-use Rattle.track_image.proofs.Fields.{IsBytes, IsBytes-drop, length-record_bytes, next_ends}
+use Rattle.track_image.proofs.Fields.{IsBytes, IsBytes-drop, ranges_from, length-record_bytes, next_ends}
 use Rattle.track_image.proofs.Places.{all_bytes, places_push}
 use Rattle.track_image.proofs.Sizes.{cost_push, unit_room, some_units, within}
 
@@ -52,7 +52,7 @@ is_done rs g steps after spent at bytes total steps_is next so_far =
 pub record ReadSo (g : Geometry) (bytes places : List ℕ) (rs : List Record) (at spent : ℕ) (total : Result (List Record) ℕ) : Type 0 where
   pub within : at ≤ length bytes
   pub zero : HasZero rs
-  pub lengths : All IsRecord rs
+  pub ranges : All IsRecord rs
   pub spent_is : spent ≡ cost_of g rs
   pub room : spent ≤ capacity g
   pub few : 16 * length places ≤ spent + 16
@@ -66,7 +66,7 @@ zero_stays : (rs : List Record) (r : Record) → HasZero rs → HasZero (rs ++ r
 zero_stays [] r first = absurd first
 zero_stays (x ∷ rs) r first = first
 
--- the lengths of a record that stands whole in bytes
+-- the ranges of a record that stands whole in bytes
 record Lengths (r : Record) (key body : ℕ) : Type 0 where
   pub key_is : length r.key ≡ key
   pub body_is : length r.body ≡ body
@@ -80,9 +80,9 @@ lengths_from bytes whole =
       body_is = omega (arith, length-take d (drop k (drop 8 bytes)), length-drop k (drop 8 bytes), length-drop 8 bytes);
     }
 
-pub starts_so : (g : Geometry) (bytes : List ℕ) → 21 ≤ length bytes → (count_at (drop 5 bytes)).key ≡ 0 → (count_at (drop 5 bytes)).body ≡ 8
+pub starts_so : (g : Geometry) (bytes : List ℕ) → IsBytes bytes → 21 ≤ length bytes → (count_at (drop 5 bytes)).key ≡ 0 → (count_at (drop 5 bytes)).body ≡ 8
     → ReadSo g bytes (5 ∷ []) (unpacked bytes (5 ∷ [])) 21 0 (map_ok (λ others. record_from (drop 5 bytes) ∷ others) (records_at (length bytes) g 0 21 (drop 21 bytes)))
-starts_so g bytes long key body =
+starts_so g bytes fits long key body =
     let r = record_from (drop 5 bytes) in
     let l = lengths_from (drop 5 bytes) (omega (arith, length-drop 5 bytes)) in
     let keys : length r.key ≡ 0 = l.key_is ∙ key in
@@ -91,7 +91,7 @@ starts_so g bytes long key body =
     record {
       within = long;
       zero = (nil_from_length r.key keys, bodies);
-      lengths = All-cons IsRecord r [] (record { key = omega (arith, keys); body = omega (arith, bodies) }) (All-nil IsRecord);
+      ranges = All-cons IsRecord r [] (ranges_from (drop 5 bytes) (IsBytes-drop 5 bytes fits) (omega (arith, keys)) (omega (arith, bodies))) (All-nil IsRecord);
       spent_is = refl;
       room = omega arith;
       few = omega arith;
@@ -103,9 +103,9 @@ starts_so g bytes long key body =
     }
 
 reads_more : (g : Geometry) (bytes places : List ℕ) (rs : List Record) (r : Record) (at spent key body : ℕ) (total : Result (List Record) ℕ) → ReadSo g bytes places rs at spent total → next_at g spent at (drop at bytes) ≡ Ok (Some r)
-    → length r.key ≡ key → length r.body ≡ body → key < 256 → at + (8 + key + body) ≤ length bytes → spent + cost g key body ≤ capacity g
+    → length r.key ≡ key → length r.body ≡ body → IsRecord r → at + (8 + key + body) ≤ length bytes → spent + cost g key body ≤ capacity g
     → ReadSo g bytes (places ++ at ∷ []) (rs ++ r ∷ []) (at + (8 + key + body)) (spent + cost g key body) total
-reads_more g bytes places rs r at spent key body total s next keys bodies small whole room =
+reads_more g bytes places rs r at spent key body total s next keys bodies is whole room =
     let longer = length_push places at in
     let same : cost g (length r.key) (length r.body) ≡ cost g key body = rw (keys, bodies) refl in
     let size : size_of r ≡ 8 + key + body = rw (keys, bodies) refl in
@@ -115,7 +115,7 @@ reads_more g bytes places rs r at spent key body total s next keys bodies small 
     record {
       within = whole;
       zero = zero_stays rs r s.zero;
-      lengths = All-push IsRecord rs r s.lengths (record { key = omega (arith, keys, small); body = omega (arith, bodies, room, unit_room g key body, within g) });
+      ranges = All-push IsRecord rs r s.ranges is;
       spent_is = omega (arith, cost_push g rs r s.zero, same, s.spent_is);
       room = room;
       few = omega (arith, longer, s.few, some_units g key body);
@@ -138,7 +138,10 @@ reads_on g bytes places at spent count total fits near s next n =
     let body_is : count.body ≡ (count_at (drop at bytes)).body = ap (λ (x : Count). x.body) n.here in
     let l = lengths_from (drop at bytes) (omega (arith, n.within, key_is, body_is)) in
     let small : count.key < 256 = subst (λ (k : ℕ). k < 256) (sym key_is) (IsBytes-drop at bytes fits 5) in
-    let more = reads_more g bytes places (unpacked bytes places) r at spent count.key count.body total s next (l.key_is ∙ sym key_is) (l.body_is ∙ sym body_is) small (omega (arith, n.within, length-drop at bytes)) n.room in
+    let keys : length r.key ≡ count.key = l.key_is ∙ sym key_is in
+    let bodies : length r.body ≡ count.body = l.body_is ∙ sym body_is in
+    let is = ranges_from (drop at bytes) (IsBytes-drop at bytes fits) (omega (arith, keys, small)) (omega (arith, bodies, n.room, unit_room g count.key count.body, within g)) in
+    let more = reads_more g bytes places (unpacked bytes places) r at spent count.key count.body total s next keys bodies is (omega (arith, n.within, length-drop at bytes)) n.room in
     subst (λ (x : List Record). ReadSo g bytes (places ++ at ∷ []) x (at + (8 + count.key + count.body)) (spent + cost g count.key count.body) total) (sym (map_push (λ (p : ℕ). record_from (drop p bytes)) places at)) more
 
 pub read_fails : (g : Geometry) (bytes places : List ℕ) (rs : List Record) (at spent offset : ℕ) (total : Result (List Record) ℕ) → ReadSo g bytes places rs at spent total → next_at g spent at (drop at bytes) ≡ Err offset → total ≡ Err offset
@@ -154,7 +157,7 @@ found_all g bytes places at spent total s next =
     let ends : length (drop at bytes) ≡ 8 = ap length (next_ends g spent at (drop at bytes) next) in
     record {
       zero = s.zero;
-      lengths = s.lengths;
+      ranges = s.ranges;
       spent_is = s.spent_is;
       room = s.room;
       places_are = s.places_are;

@@ -64,7 +64,7 @@ whole_at home bytes places rs i n d p there is =
     let s = subst (λ (m : ℕ). Stands bytes m r (before home rs i) (behind rs i)) (sym is) (stands home bytes places rs i n d p there) in
     record {
       within = s.within;
-      count = count_stands bytes n r (before home rs i) (behind rs i) s (p.lengths i d there) (p.addressed i d there);
+      count = count_stands bytes n r (before home rs i) (behind rs i) s (p.ranges i d there);
       front = ap (take (size_of r)) (ap (drop n) s.whole ∙ drop_at (before home rs i) (record_bytes r ++ behind rs i) n s.here) ∙ take_at (record_bytes r) (behind rs i) (size_of r) (length-record_bytes r);
     }
 

@@ -8,7 +8,6 @@ use Rattle.ckd_types.specs.declared.geometry.Cchh.{Cchh}
 use Rattle.ckd_types.specs.declared.record.Record.{Record}
 use Rattle.ckd_types.specs.Track.{IsRecord, HasZero, home_bytes, count_area, record_bytes, end_mark, track_bytes}
 use Rattle.track_image.specs.declared.count.Count.{Count}
-use Rattle.track_image.specs.Image.{IsAddressed}
 use Rattle.track_image.specs.Packed.{most_bytes, record_from, unpacked, places_from, IsPacked}
 use Rattle.track_image.specs.Reading.{count_at, size_of}
 use Rattle.track_image.proofs.Fields.{regroup, length-record_bytes, count_again}
@@ -58,28 +57,28 @@ parts_set rs i r there =
     ap all_bytes (set_split rs i r there) ∙ flat_map-append record_bytes (take i rs) (r ∷ drop (suc i) rs)
     ∙ ap (λ (n : ℕ). all_bytes (take i rs) ++ (record_bytes r ++ all_bytes (drop n rs))) next
 
-pub record_again : (r : Record) (rest : List ℕ) → IsRecord r → IsAddressed r → record_from (record_bytes r ++ rest) ≡ r
-record_again r rest lengths addressed =
+pub record_again : (r : Record) (rest : List ℕ) → IsRecord r → record_from (record_bytes r ++ rest) ≡ r
+record_again r rest ranges =
     let areas = (r.key ++ r.body) ++ rest in
     let made : Count → Record = λ c. record { id = c.id; key = take c.key areas; body = take c.body (drop c.key areas) } in
     let regrouped : areas ≡ r.key ++ (r.body ++ rest) = append_assoc r.key r.body rest in
     let key : take (length r.key) areas ≡ r.key = rw regrouped (take_at r.key (r.body ++ rest) (length r.key) refl) in
     let body : take (length r.body) (drop (length r.key) areas) ≡ r.body = rw (regrouped, drop_at r.key (r.body ++ rest) (length r.key) refl) (take_at r.body rest (length r.body) refl) in
     let same : made (record { id = r.id; key = length r.key; body = length r.body }) ≡ r = rw (key, body) refl in
-    ap record_from (regroup r rest) ∙ ap made (count_again r areas lengths addressed) ∙ same
+    ap record_from (regroup r rest) ∙ ap made (count_again r areas ranges) ∙ same
 
-pub unpacks : (at : ℕ) (front tail : List ℕ) (rs : List Record) → length front ≡ at → All IsRecord rs → All IsAddressed rs → unpacked (front ++ (all_bytes rs ++ tail)) (places_from at rs) ≡ rs
-unpacks at front tail [] here lengths addressed = refl
-unpacks at front tail (r ∷ rs) here lengths addressed =
+pub unpacks : (at : ℕ) (front tail : List ℕ) (rs : List Record) → length front ≡ at → All IsRecord rs → unpacked (front ++ (all_bytes rs ++ tail)) (places_from at rs) ≡ rs
+unpacks at front tail [] here ranges = refl
+unpacks at front tail (r ∷ rs) here ranges =
     let rest = all_bytes rs ++ tail in
     let bytes = front ++ (all_bytes (r ∷ rs) ++ tail) in
     let regrouped : all_bytes (r ∷ rs) ++ tail ≡ record_bytes r ++ rest = append_assoc (record_bytes r) (all_bytes rs) tail in
     let first : record_from (drop at bytes) ≡ r =
-    ap record_from (drop_at front (all_bytes (r ∷ rs) ++ tail) at here ∙ regrouped) ∙ record_again r rest (All-head IsRecord r rs lengths) (All-head IsAddressed r rs addressed) in
+    ap record_from (drop_at front (all_bytes (r ∷ rs) ++ tail) at here ∙ regrouped) ∙ record_again r rest (All-head IsRecord r rs ranges) in
     let moved : bytes ≡ (front ++ record_bytes r) ++ rest = ap (λ (x : List ℕ). front ++ x) regrouped ∙ sym (append_assoc front (record_bytes r) rest) in
     let others : unpacked bytes (places_from (at + size_of r) rs) ≡ rs =
     ap (λ (x : List ℕ). unpacked x (places_from (at + size_of r) rs)) moved
-    ∙ unpacks (at + size_of r) (front ++ record_bytes r) tail rs (omega (arith, length-append front (record_bytes r), length-record_bytes r)) (All-tail IsRecord r rs lengths) (All-tail IsAddressed r rs addressed) in
+    ∙ unpacks (at + size_of r) (front ++ record_bytes r) tail rs (omega (arith, length-append front (record_bytes r), length-record_bytes r)) (All-tail IsRecord r rs ranges) in
     ap (λ (x : Record). x ∷ unpacked bytes (places_from (at + size_of r) rs)) first ∙ ap (λ (x : List Record). r ∷ x) others
 
 -- ---- whole tracks
@@ -91,7 +90,7 @@ pub unpacked_is : (home : Cchh) (bytes places : List ℕ) (rs : List Record) →
 unpacked_is home bytes places rs p =
     ap (λ (x : List ℕ). unpacked x places) (p.bytes_are ∙ grouped home rs)
     ∙ ap (unpacked (home_bytes home ++ (all_bytes rs ++ end_mark))) p.places_are
-    ∙ unpacks 5 (home_bytes home) end_mark rs refl p.lengths p.addressed
+    ∙ unpacks 5 (home_bytes home) end_mark rs refl p.ranges
 
 pub repacked : (home : Cchh) (bytes places : List ℕ) (rs : List Record) → IsPacked home bytes places rs → IsPacked home bytes places (unpacked bytes places)
 repacked home bytes places rs p = subst (IsPacked home bytes places) (sym (unpacked_is home bytes places rs p)) p
@@ -135,10 +134,10 @@ ends_at home bytes places rs i p last =
     ap length (p.bytes_are ∙ grouped home rs) ∙ omega (arith, length-append (all_bytes rs) end_mark, ap (λ (x : List Record). length (all_bytes x)) all)
 
 -- what a record's count area says
-pub count_stands : (bytes : List ℕ) (at : ℕ) (r : Record) (front behind : List ℕ) → Stands bytes at r front behind → IsRecord r → IsAddressed r → count_at (drop at bytes) ≡ record { id = r.id; key = length r.key; body = length r.body }
-count_stands bytes at r front behind s lengths addressed =
+pub count_stands : (bytes : List ℕ) (at : ℕ) (r : Record) (front behind : List ℕ) → Stands bytes at r front behind → IsRecord r → count_at (drop at bytes) ≡ record { id = r.id; key = length r.key; body = length r.body }
+count_stands bytes at r front behind s ranges =
     ap (λ (x : List ℕ). count_at (drop at x)) s.whole ∙ ap count_at (drop_at front (record_bytes r ++ behind) at s.here ∙ regroup r behind)
-    ∙ count_again r ((r.key ++ r.body) ++ behind) lengths addressed
+    ∙ count_again r ((r.key ++ r.body) ++ behind) ranges
 
 -- ---- edits
 
@@ -200,8 +199,7 @@ updates home bytes places rs i e d key body p there keys bodies =
     ) in
     record {
       zero = zero_stays rs i d key body p.zero there keys bodies;
-      lengths = All-set IsRecord rs i changed (record { key = omega (arith, (p.lengths i d there).key); body = omega (arith, (p.lengths i d there).body) }) p.lengths;
-      addressed = All-set IsAddressed rs i changed (record { cc = (p.addressed i d there).cc; hh = (p.addressed i d there).hh }) p.addressed;
+      ranges = All-set IsRecord rs i changed (record { cchh = (p.ranges i d there).cchh; number = (p.ranges i d there).number; key = omega (arith, (p.ranges i d there).key); body = omega (arith, (p.ranges i d there).body) }) p.ranges;
       bytes_are = written ∙ sym are;
       places_are = p.places_are ∙ sym (places_same 5 rs i changed d there (omega arith));
       short = omega (arith, p.short);
@@ -211,9 +209,9 @@ zero_first : (rs : List Record) (n : ℕ) (r : Record) → HasZero rs → HasZer
 zero_first [] n r first = absurd first
 zero_first (x ∷ rs) n r first = rw add-one first
 
-pub adds : (home : Cchh) (bytes places : List ℕ) (rs : List Record) (after end : ℕ) (r : Record) → IsPacked home bytes places rs → after < length rs → IsRecord r → IsAddressed r → end ≡ 5 + length (all_bytes (take (after + 1) rs)) → end + size_of r + 8 ≤ most_bytes
+pub adds : (home : Cchh) (bytes places : List ℕ) (rs : List Record) (after end : ℕ) (r : Record) → IsPacked home bytes places rs → after < length rs → IsRecord r → end ≡ 5 + length (all_bytes (take (after + 1) rs)) → end + size_of r + 8 ≤ most_bytes
     → IsPacked home (take end bytes ++ (record_bytes r ++ end_mark)) (take (after + 1) places ++ end ∷ []) (take (after + 1) rs ++ r ∷ [])
-adds home bytes places rs after end r p there lengths addressed end_is short =
+adds home bytes places rs after end r p there ranges end_is short =
     let kept = take (after + 1) rs in
     let front = home_bytes home ++ all_bytes kept in
     let split : all_bytes rs ≡ all_bytes kept ++ all_bytes (drop (after + 1) rs) = ap all_bytes (sym (take-append-drop (after + 1) rs)) ∙ flat_map-append record_bytes kept (drop (after + 1) rs) in
@@ -232,19 +230,17 @@ adds home bytes places rs after end r p there lengths addressed end_is short =
     let written : new ≡ front ++ (record_bytes r ++ end_mark) = ap (λ (x : List ℕ). x ++ (record_bytes r ++ end_mark)) cut in
     record {
       zero = zero_first rs after r p.zero;
-      lengths = All-append IsRecord kept (r ∷ []) (All-take IsRecord (after + 1) rs p.lengths) (All-cons IsRecord r [] lengths (All-nil IsRecord));
-      addressed = All-append IsAddressed kept (r ∷ []) (All-take IsAddressed (after + 1) rs p.addressed) (All-cons IsAddressed r [] addressed (All-nil IsAddressed));
+      ranges = All-append IsRecord kept (r ∷ []) (All-take IsRecord (after + 1) rs p.ranges) (All-cons IsRecord r [] ranges (All-nil IsRecord));
       bytes_are = written ∙ sym are;
       places_are = ap (λ (x : List ℕ). take (after + 1) x ++ end ∷ []) p.places_are ∙ ap (λ (x : List ℕ). x ++ end ∷ []) (take-places 5 (after + 1) rs) ∙ ap (λ (n : ℕ). places_from 5 kept ++ n ∷ []) end_is ∙ sym (places_push 5 kept r);
       short = omega (arith, ap length written, length-append front (record_bytes r ++ end_mark), length-append (record_bytes r) end_mark, length-record_bytes r);
     }
 
 -- record 0 alone
-pub starts : (home : Cchh) (r : Record) → IsRecord r → IsAddressed r → length r.key ≡ 0 → length r.body ≡ 8 → IsPacked home (home_bytes home ++ (record_bytes r ++ end_mark)) (5 ∷ []) (r ∷ [])
-starts home r lengths addressed key body = record {
+pub starts : (home : Cchh) (r : Record) → IsRecord r → length r.key ≡ 0 → length r.body ≡ 8 → IsPacked home (home_bytes home ++ (record_bytes r ++ end_mark)) (5 ∷ []) (r ∷ [])
+starts home r ranges key body = record {
   zero = (nil_from_length r.key key, body);
-  lengths = All-cons IsRecord r [] lengths (All-nil IsRecord);
-  addressed = All-cons IsAddressed r [] addressed (All-nil IsAddressed);
+  ranges = All-cons IsRecord r [] ranges (All-nil IsRecord);
   bytes_are = ap (λ (x : List ℕ). home_bytes home ++ (x ++ end_mark)) (sym (append-nil (record_bytes r))) ∙ sym (grouped home (r ∷ []));
   places_are = refl;
   short = omega (arith, length-append (record_bytes r) end_mark, length-record_bytes r);
@@ -254,12 +250,12 @@ first_place : (rs : List Record) → HasZero rs → take 1 (places_from 5 rs) �
 first_place [] first = absurd first
 first_place (r ∷ rs) first = refl
 
-pub restarts : (home : Cchh) (bytes places : List ℕ) (rs : List Record) (r : Record) → IsPacked home bytes places rs → IsRecord r → IsAddressed r → length r.key ≡ 0 → length r.body ≡ 8
+pub restarts : (home : Cchh) (bytes places : List ℕ) (rs : List Record) (r : Record) → IsPacked home bytes places rs → IsRecord r → length r.key ≡ 0 → length r.body ≡ 8
     → IsPacked home (take 5 bytes ++ (record_bytes r ++ end_mark)) (take 1 places) (r ∷ [])
-restarts home bytes places rs r p lengths addressed key body =
+restarts home bytes places rs r p ranges key body =
     let front : take 5 bytes ≡ home_bytes home = ap (take 5) p.bytes_are in
     let place : take 1 places ≡ 5 ∷ [] = ap (take 1) p.places_are ∙ first_place rs p.zero in
-    rw (front, place) (starts home r lengths addressed key body)
+    rw (front, place) (starts home r ranges key body)
 
 -- ---- what count areas say
 
@@ -277,7 +273,7 @@ counts home bytes places rs p =
     let r = get_or rs k (record_from bytes) in
     let s = stands home bytes places rs k 0 (record_from bytes) p there in
     get_or-map (counts_in bytes) places k 0 d (omega (arith, long))
-    ∙ count_stands bytes (get_or places k 0) r (before home rs k) (behind rs k) s (p.lengths k (record_from bytes) there) (p.addressed k (record_from bytes) there)
+    ∙ count_stands bytes (get_or places k 0) r (before home rs k) (behind rs k) s (p.ranges k (record_from bytes) there)
     ∙ sym (get_or-map counted rs k (record_from bytes) d there))
 
 -- the second write goes behind the first

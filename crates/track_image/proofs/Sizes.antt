@@ -11,8 +11,7 @@ use Rattle.ckd_types.specs.declared.record.Track.{Track}
 use Rattle.ckd_types.specs.declared.record.Edit.TheVariants.{Format}
 use Rattle.ckd_types.specs.Edit.{apply_edit}
 use Rattle.ckd_types.specs.Geometry.{cost, capacity, data_units, key_units}
-use Rattle.ckd_types.specs.Track.{IsRecord, HasZero, cost_of, record_bytes}
-use Rattle.track_image.specs.Image.{IsAddressed, IsImage}
+use Rattle.ckd_types.specs.Track.{IsRecord, HasZero, Fits, cost_of, record_bytes}
 use Rattle.track_image.specs.Packed.{most_bytes}
 use Rattle.track_image.specs.Reading.{size_of}
 use Rattle.track_image.proofs.Fields.{length-record_bytes}
@@ -85,18 +84,16 @@ cost_push g [] r first = absurd first
 cost_push g (x ∷ rs) r first = sum_by_push (λ (y : Record). cost g (length y.key) (length y.body)) rs r
 
 -- the image after a record was put behind some that are kept
-pub formats : (g : Geometry) (t : Track) (after : ℕ) (r : Record) → IsImage (record { geometry = g; track = t }) → IsRecord r → IsAddressed r → cost_of g (take (after + 1) t.records) + cost g (length r.key) (length r.body) ≤ capacity g
-    → IsImage (record { geometry = g; track = apply_edit (Format after r) t }) × (cost_of g (take (after + 1) t.records) + cost g (length r.key) (length r.body) ≡ cost_of g (apply_edit (Format after r) t).records)
-formats g t after r is lengths addressed room =
+pub formats : (g : Geometry) (t : Track) (after : ℕ) (r : Record) → Fits g t → IsRecord r → cost_of g (take (after + 1) t.records) + cost g (length r.key) (length r.body) ≤ capacity g
+    → Fits g (apply_edit (Format after r) t) × (cost_of g (take (after + 1) t.records) + cost g (length r.key) (length r.body) ≡ cost_of g (apply_edit (Format after r) t).records)
+formats g t after r fits ranges room =
     let kept = take (after + 1) t.records in
-    let first = zero_kept after t.records is.fits.zero in
+    let first = zero_kept after t.records fits.zero in
     let sum = cost_push g kept r first in
-    let made : IsImage (record { geometry = g; track = apply_edit (Format after r) t }) = record {
-      fits = record {
-        zero = zero_still kept r first;
-        records = All-push IsRecord kept r (All-take IsRecord (after + 1) t.records is.fits.records) lengths;
-        cost = omega (arith, sum, room);
-      };
-      addressed = All-push IsAddressed kept r (All-take IsAddressed (after + 1) t.records is.addressed) addressed;
+    let made : Fits g (apply_edit (Format after r) t) = record {
+      home = fits.home;
+      zero = zero_still kept r first;
+      records = All-push IsRecord kept r (All-take IsRecord (after + 1) t.records fits.records) ranges;
+      cost = omega (arith, sum, room);
     } in
     (made, sym sum)

@@ -5,7 +5,6 @@ use Rattle.ckd_types.specs.declared.record.Record.{Record}
 use Rattle.ckd_types.specs.declared.geometry.Geometry.{Geometry}
 use Rattle.ckd_types.specs.Geometry.{capacity}
 use Rattle.ckd_types.specs.Track.{IsRecord, HasZero, cost_of, track_bytes}
-use Rattle.track_image.specs.Image.{IsAddressed}
 use Rattle.track_image.specs.Reading.{count_at, has_areas, size_of}
 
 -- the most bytes of a track: 21 before record 1, 34 for each of 1,729 units, and eight of the end mark
@@ -28,8 +27,7 @@ places_from at (r ∷ rs) = at ∷ places_from (at + size_of r) rs
 -- the bytes are a track with these records, which begin at these places
 pub record IsPacked (home : Cchh) (bytes places : List ℕ) (rs : List Record) : Type 0 where
   pub zero : HasZero rs
-  pub lengths : All IsRecord rs
-  pub addressed : All IsAddressed rs
+  pub ranges : All IsRecord rs
   pub bytes_are : bytes ≡ track_bytes (record { home = home; records = rs })
   pub places_are : places ≡ places_from 5 rs
   pub short : length bytes ≤ most_bytes
@@ -42,7 +40,7 @@ pub record HasRoom (places : List ℕ) (room : ℕ) : Type 0 where
 -- the records that begin at these places of bytes fit together, and these are all places
 pub record IsFound (g : Geometry) (bytes places : List ℕ) (spent : ℕ) : Type 0 where
   pub zero : HasZero (unpacked bytes places)
-  pub lengths : All IsRecord (unpacked bytes places)
+  pub ranges : All IsRecord (unpacked bytes places)
   pub spent_is : spent ≡ cost_of g (unpacked bytes places)
   pub room : spent ≤ capacity g
   pub places_are : places ≡ places_from 5 (unpacked bytes places)

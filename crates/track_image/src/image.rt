@@ -3,7 +3,7 @@ ghost use Rattle.std.specs.List.{flat_map};
 ghost use Rattle.ckd_types.specs.Geometry.{cost, capacity};
 ghost use Rattle.ckd_types.specs.Track.{IsRecord, Fits, cost_of, find_id, empty_track, home_bytes, record_bytes, end_mark, track_bytes};
 ghost use Rattle.ckd_types.specs.declared.record.Edit.TheVariants as edits;
-ghost use Rattle.track_image.specs.Image.{IsImage, record_in, edited_image, is_room_behind};
+ghost use Rattle.track_image.specs.Image.{record_in, edited_image, is_room_behind};
 ghost use Rattle.track_image.specs.Packed.{most_bytes};
 
 use crate::count::home_area;
@@ -24,14 +24,14 @@ pub struct TrackImage {
 
 impl Model for TrackImage {
     ghost use Rattle.std.specs.Prelude.{◌≡◌};
-    ghost use Rattle.ckd_types.specs.Track.{cost_of};
-    ghost use Rattle.track_image.specs.Image.{Image, IsImage};
+    ghost use Rattle.ckd_types.specs.Track.{Fits, cost_of};
+    ghost use Rattle.track_image.specs.Image.{Image};
 
     ghost Value = { Image };
 
     ghost view = { λ i. record { geometry = i.geometry; track = i.packed } };
 
-    ghost invariant = { λ i. IsImage (record { geometry = i.geometry; track = i.packed }) × (i.spent ≡ cost_of i.geometry i.packed.records) };
+    ghost invariant = { λ i. Fits i.geometry i.packed × (i.spent ≡ cost_of i.geometry i.packed.records) };
 }
 
 impl TrackImage {
@@ -51,7 +51,7 @@ impl TrackImage {
 
     /// The track of packed records, of which those behind record 0 take so many units.
     pub(crate) fn of(geometry: Geometry, packed: Packed, spent: u32) -> TrackImage
-        requires fits { IsImage (record { geometry = geometry; track = packed }) }
+        requires fits { Fits geometry packed }
         requires spent { spent ≡ cost_of geometry packed.records }
         ensures { result ≡ record { geometry = geometry; track = packed } }
     {
@@ -81,9 +81,9 @@ impl TrackImage {
         home_area(self.packed.home())
     }
 
-    /// An image fits its volume, and its ids can be written.
+    /// An image fits its volume.
     pub fn fits(&self)
-        ensures { IsImage self.now }
+        ensures { Fits self.now.geometry self.now.track }
     {
         let _ = &self.geometry;
     }
@@ -198,7 +198,7 @@ impl TrackImage {
     /// the last record.
     pub fn cut_and_add(&mut self, after: usize, added: Record) -> Result<(), AddFault>
         requires place { after < length self.old.track.records }
-        requires lengths { IsRecord added }
+        requires ranges { IsRecord added }
         ensures unfit { (result ≡ Err AddFault.Unfit) ↔ (is_room_behind self.old after (length added.key) (length added.body) ≡ false) }
         ensures added { OnOk result (self.new ≡ edited_image (edits.Format after added) self.old) }
         ensures same { OnErr result (self.new ≡ self.old) }

@@ -12,7 +12,7 @@ mod view;
 
 pub use fault::{AddFault, BytesFault};
 pub use image::TrackImage;
-pub use laws::{no_prefix, reads_back};
+pub use laws::{no_prefix, reads_back, same_bytes};
 pub use view::RecordRef;
 
 #[cfg(test)]

@@ -4,7 +4,6 @@ ghost use Rattle.ckd_types.specs.Geometry.{cost};
 ghost use Rattle.ckd_types.specs.Track.{IsRecord, cost_of, find_id, is_same_id, empty_zero, record_bytes, end_mark, track_bytes};
 ghost use Rattle.ckd_types.specs.Edit.{apply_edit};
 ghost use Rattle.ckd_types.specs.declared.record.Edit.TheVariants as edits;
-ghost use Rattle.track_image.specs.Image.{IsAddressed};
 ghost use Rattle.track_image.specs.Packed.{IsPacked, most_bytes, record_from, unpacked};
 ghost use Rattle.track_image.specs.Reading.{count_at, size_of};
 
@@ -45,7 +44,7 @@ impl Model for Packed {
 /// The record at the front of bytes.
 fn record_of(bytes: &[u8]) -> RecordRef<'_>
     requires within { 8 + ((count_at bytes.now).key + (count_at bytes.now).body) ≤ length bytes.now }
-    requires lengths { IsRecord (record_from bytes.now) }
+    requires ranges { IsRecord (record_from bytes.now) }
     ensures { result ≡ record_from bytes.now }
 {
     let count = count_at(bytes);
@@ -129,7 +128,7 @@ impl Packed {
 
     /// Record 0 alone.
     pub fn one(alloc: Global, home: Cchh, zero: &RecordRef<'_>) -> Result<Packed, NoMemory>
-        requires addressed { IsAddressed zero.now }
+        requires ranges { IsRecord zero.now }
         requires key { length zero.now.key ≡ 0 }
         requires body { length zero.now.body ≡ 8 }
         ensures { IfOk result (λ made. made ≡ record { home = home; records = zero.now ∷ [] }) }
@@ -245,8 +244,7 @@ impl Packed {
     /// the last record.
     pub fn cut_and_add(&mut self, after: usize, added: &RecordRef<'_>) -> Result<(), NoMemory>
         requires place { after < length self.old.records }
-        requires lengths { IsRecord added.now }
-        requires addressed { IsAddressed added.now }
+        requires ranges { IsRecord added.now }
         requires short { length (flat_map record_bytes (take (after + 1) self.old.records)) + size_of added.now + 13 ≤ most_bytes }
         ensures added { OnOk result (self.new ≡ apply_edit (edits.Format after added.now) self.old) }
         ensures same { OnErr result (self.new ≡ self.old) }
@@ -261,7 +259,7 @@ impl Packed {
 
     /// Makes a record the only one. Takes no memory.
     pub fn set_zero(&mut self, zero: &RecordRef<'_>)
-        requires addressed { IsAddressed zero.now }
+        requires ranges { IsRecord zero.now }
         requires key { length zero.now.key ≡ 0 }
         requires body { length zero.now.body ≡ 8 }
         ensures { self.new ≡ apply_edit (edits.Zero zero.now) self.old }

@@ -2,7 +2,6 @@ ghost use Rattle.std.specs.Prelude.{◌≡◌, ◌≤◌, ◌<◌, ◌+◌, ◌*
 ghost use Rattle.ckd_types.specs.declared.record.Track.{Track};
 ghost use Rattle.ckd_types.specs.Geometry.{cost, capacity, cchh_of};
 ghost use Rattle.ckd_types.specs.Track.{Fits, cost_of, track_bytes};
-ghost use Rattle.track_image.specs.Image.{IsAddressed, IsImage};
 ghost use Rattle.track_image.specs.Packed.{IsFound, record_from, unpacked};
 ghost use Rattle.track_image.specs.Reading.{Gives, map_ok, areas_at, count_at, zero_at, next_at, reading, records_at, IsNext, has_areas};
 
@@ -147,7 +146,7 @@ fn image_at(
 ) -> Result<TrackImage, BytesFault>
     ensures exact { Gives (λ i. i.track) result (reading geometry home bytes.now) }
     ensures memory { result ≡ Err BytesFault.NoMemory → IsOk (reading geometry home bytes.now) }
-    ensures fits { IfOk result (λ i. IsImage i) }
+    ensures fits { IfOk result (λ i. Fits i.geometry i.track) }
     ensures place { IfOk result (λ i. (i.geometry ≡ geometry) × (i.track.home ≡ home)) }
 {
     let mut places = [0; MOST];
@@ -176,7 +175,7 @@ impl TrackImage {
         // An image is the track that the bytes spell, and fits.
         ensures found { IfOk result (λ i. Fits i.geometry i.track × (bytes.now ≡ track_bytes i.track)) }
         // The bytes of a track that fits are that track, unless memory runs out.
-        ensures only { (t : Track) → Fits geometry t → All IsAddressed t.records → t.home ≡ cchh_of track → bytes.now ≡ track_bytes t → Gives (λ i. i.track) result (Ok t) }
+        ensures only { (t : Track) → Fits geometry t → t.home ≡ cchh_of track → bytes.now ≡ track_bytes t → Gives (λ i. i.track) result (Ok t) }
         ensures place { IfOk result (λ i. (i.geometry ≡ geometry) × (i.track.home ≡ cchh_of track)) }
     {
         image_at(alloc, geometry, cchh_of(track), bytes)

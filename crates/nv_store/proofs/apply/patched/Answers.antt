@@ -22,4 +22,4 @@ returns c =
     let patch : PatchView = record { replaced = c.args.replaced.now; kept = c.args.kept; behind = c.args.behind.now } in
     let tests = and_parts (reaches c.args.kept c.args.image.track.records) _ c.requires.applies in
     let whole = rw c.revise.ensures at c.in_ok-cut.ensures.cut in
-    made patch c.args.image c.cut.new.image tests.0 (and_parts _ _ tests.1).0 c.fits.ensures.fits whole
+    made patch c.args.image c.cut.new.image tests.0 (and_parts _ _ tests.1).0 c.fits.ensures whole

@@ -18,7 +18,7 @@ records-init c =
     record {
       few = omega arith;
       all = omega (arith, length-set c.args.places.now 0 5, c.requires.places);
-      read = subst (λ (ps : List ℕ). ReadSo c.args.geometry bytes ps (unpacked bytes ps) 21 0 total) (sym first) (starts_so c.args.geometry bytes c.requires.long c.requires.key c.requires.body);
+      read = subst (λ (ps : List ℕ). ReadSo c.args.geometry bytes ps (unpacked bytes ps) 21 0 total) (sym first) (starts_so c.args.geometry bytes (λ i. omega (arith, c.type_inv.bytes i)) c.requires.long c.requires.key c.requires.body);
     }
 
 pub returns-in_err-area-clause-exact : goal.returns-in_err-area-clause-exact

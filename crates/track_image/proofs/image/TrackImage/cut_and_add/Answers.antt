@@ -1,9 +1,9 @@
-use Rattle.std.proofs.Common.{◌≡◌, ◌+◌, length, take, sym, ap, subst, ◌∙◌, refl, arith, rules}
+use Rattle.std.proofs.Common.{◌≡◌, ◌+◌, length, take, sym, ap, subst, ◌∙◌, refl, arith}
 use Rattle.ckd_types.specs.declared.record.Record.{Record}
 use Rattle.ckd_types.specs.declared.record.Track.{Track}
 use Rattle.ckd_types.specs.Geometry.{cost}
-use Rattle.ckd_types.specs.Track.{IsRecord, cost_of}
-use Rattle.track_image.specs.Image.{Image, IsAddressed, IsImage}
+use Rattle.ckd_types.specs.Track.{IsRecord, Fits, cost_of}
+use Rattle.track_image.specs.Image.{Image}
 use Rattle.track_image.proofs.Sizes.{fits_behind, formats}
 use Rattle.track_image.proofs.image.TrackImage.cut_and_add.Goals as goal
 
@@ -13,7 +13,7 @@ cut_and_add-requires-clause-short c =
     let rs = c.self.inside.packed.records in
     let spent : c.cost_to.result ≡ cost_of g (take (c.args.after + 1) rs) = c.cost_to.ensures.value ∙ ap (λ (i : Image). cost_of i.geometry (take (c.args.after + 1) i.track.records)) (sym c.self.view_is) in
     let units : c.cost.result ≡ cost g (length c.new.result.key) (length c.new.result.body) = c.cost.ensures ∙ ap (λ (r : Record). cost g (length r.key) (length r.body)) (sym c.new.ensures) in
-    fits_behind g rs c.args.after c.new.result c.self.invariant.0.fits.zero (omega (arith, spent, units, c.if-spent-capacity.false, c.capacity.ensures))
+    fits_behind g rs c.args.after c.new.result c.self.invariant.0.zero (omega (arith, spent, units, c.if-spent-capacity.false, c.capacity.ensures))
 
 pub invariant_of-self-2 : goal.invariant_of-self-2
 invariant_of-self-2 c =
@@ -22,8 +22,7 @@ invariant_of-self-2 c =
     let spent : c.cost_to.result ≡ cost_of g (take (c.args.after + 1) rs) = c.cost_to.ensures.value ∙ ap (λ (i : Image). cost_of i.geometry (take (c.args.after + 1) i.track.records)) (sym c.self.view_is) in
     let units : c.cost.result ≡ cost g (length c.new.result.key) (length c.new.result.body) = c.cost.ensures ∙ ap (λ (r : Record). cost g (length r.key) (length r.body)) (sym c.new.ensures) in
     let same : c.new.result ≡ c.args.added = c.new.ensures ∙ rw (c.as_slice-key.ensures, c.as_slice-body.ensures) refl in
-    let addressed : IsAddressed c.new.result = subst IsAddressed (sym same) (search rules) in
-    let lengths : IsRecord c.new.result = subst IsRecord (sym same) c.requires.lengths in
-    let made = formats g c.self.inside.packed c.args.after c.new.result c.self.invariant.0 lengths addressed (omega (arith, spent, units, c.if-spent-capacity.false, c.capacity.ensures)) in
-    let sum = λ (t : Track). IsImage (record { geometry = g; track = t }) × (c.cost_to.result + c.cost.result ≡ cost_of g t.records) in
+    let ranges : IsRecord c.new.result = subst IsRecord (sym same) c.requires.ranges in
+    let made = formats g c.self.inside.packed c.args.after c.new.result c.self.invariant.0 ranges (omega (arith, spent, units, c.if-spent-capacity.false, c.capacity.ensures)) in
+    let sum = λ (t : Track). Fits g t × (c.cost_to.result + c.cost.result ≡ cost_of g t.records) in
     subst sum (sym c.in_ok-cut_and_add.ensures.added) (made.0, omega (arith, spent, units, made.1))

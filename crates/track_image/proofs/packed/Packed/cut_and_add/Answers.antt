@@ -18,8 +18,7 @@ invariant_of-self-2 c =
     let p = given c.self.inside.home c.self.inside.bytes.items c.self.inside.places.items c.args.self.now c.self.view_is c.self.invariant.0 in
     let r = c.args.added.now in
     let end = c.place_of-end.result in
-    let addressed = c.requires.addressed in
-    let made = adds c.self.inside.home c.self.inside.bytes.items c.self.inside.places.items c.args.self.now.records c.args.after end r p c.requires.place c.requires.lengths addressed c.place_of-end.ensures (omega (arith, c.requires.short, c.place_of-end.ensures)) in
+    let made = adds c.self.inside.home c.self.inside.bytes.items c.self.inside.places.items c.args.self.now.records c.args.after end r p c.requires.place c.requires.ranges c.place_of-end.ensures (omega (arith, c.requires.short, c.place_of-end.ensures)) in
     let bytes_are : c.end_with.new.bytes.items ≡ take end c.self.inside.bytes.items ++ (record_bytes r ++ end_mark) = c.end_with.ensures.items ∙ ap (λ (x : List ℕ). take end x ++ (record_bytes r ++ end_mark)) c.make_room.ensures.items in
     let changed = made_of c.self.inside.home c.end_with.new.bytes.items c.put_behind.new.places.items _ _ _ bytes_are c.in_ok-put_behind.ensures.added made in
     let room : HasRoom c.put_behind.new.places.items (vec_capacity c.end_with.new.bytes) = record { least = omega (arith, c.in_ok-make_room.ensures.made, c.end_with.ensures.room); most = λ _. omega (arith, c.in_ok-make_room.ensures.made, c.end_with.ensures.room) } in
@@ -30,8 +29,7 @@ returns-clause-added c =
     let p = given c.self.inside.home c.self.inside.bytes.items c.self.inside.places.items c.args.self.now c.self.view_is c.self.invariant.0 in
     let r = c.args.added.now in
     let end = c.place_of-end.result in
-    let addressed = c.requires.addressed in
-    let made = adds c.self.inside.home c.self.inside.bytes.items c.self.inside.places.items c.args.self.now.records c.args.after end r p c.requires.place c.requires.lengths addressed c.place_of-end.ensures (omega (arith, c.requires.short, c.place_of-end.ensures)) in
+    let made = adds c.self.inside.home c.self.inside.bytes.items c.self.inside.places.items c.args.self.now.records c.args.after end r p c.requires.place c.requires.ranges c.place_of-end.ensures (omega (arith, c.requires.short, c.place_of-end.ensures)) in
     let bytes_are : c.end_with.new.bytes.items ≡ take end c.self.inside.bytes.items ++ (record_bytes r ++ end_mark) = c.end_with.ensures.items ∙ ap (λ (x : List ℕ). take end x ++ (record_bytes r ++ end_mark)) c.make_room.ensures.items in
     let changed = made_of c.self.inside.home c.end_with.new.bytes.items c.put_behind.new.places.items _ _ _ bytes_are c.in_ok-put_behind.ensures.added made in
     seen_as (ap (λ (t : Track). t.home) c.self.view_is) (unpacked_is c.self.inside.home _ _ _ changed)
