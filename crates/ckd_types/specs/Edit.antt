@@ -1,5 +1,5 @@
 -- What a write does to the records of a track.
-use Rattle.std.specs.Prelude.{ℕ, ◌+◌, ◌<◌, List, [], ◌∷◌, ◌++◌, take, slice_index_or, slice_set}
+use Rattle.std.specs.Prelude.{ℕ, ◌+◌, ◌<◌, ⊤, List, [], ◌∷◌, ◌++◌, take, slice_index_or, slice_set}
 use Rattle.ckd_types.specs.declared.record.Record.{Record}
 use Rattle.ckd_types.specs.declared.record.Track.{Track}
 use Rattle.ckd_types.specs.declared.record.Edit.{Edit}
@@ -20,3 +20,9 @@ abbrev pub IsWithin : Edit → ℕ → Type 0
 IsWithin (Update index key body) n = index < n
 IsWithin (Format after added) n = after < n
 IsWithin (Zero added) n = 0 < n
+
+-- the edit puts no record behind the last of this many
+abbrev pub IsInside : Edit → ℕ → Type 0
+IsInside (Update index key body) n = ⊤
+IsInside (Format after added) n = after + 1 < n
+IsInside (Zero added) n = ⊤

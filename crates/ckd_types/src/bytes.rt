@@ -1,4 +1,4 @@
-ghost use Rattle.std.specs.Prelude.{◌≡◌, ◌==◌, [], IfOk, length, take};
+ghost use Rattle.std.specs.Prelude.{◌≡◌, ◌==◌, [], IsOk, IfOk, length, take};
 
 use crate::NoMemory;
 use std::alloc::Global;
@@ -30,7 +30,8 @@ impl Bytes {
 
     /// A copy of some bytes. No bytes take no memory.
     pub fn from_slice(alloc: Global, bytes: &[u8]) -> Result<Bytes, NoMemory>
-        ensures { IfOk result (λ made. made ≡ bytes.now) }
+        ensures made { IfOk result (λ made. made ≡ bytes.now) }
+        ensures none { length bytes.now ≡ 0 → IsOk result }
     {
         if bytes.is_empty() {
             return Ok(Bytes::new());
@@ -90,9 +91,10 @@ impl Bytes {
         self
     }
 
-    /// The same bytes in memory of their own.
+    /// The same bytes in memory of their own. No bytes take no memory.
     pub fn copy(&self, alloc: Global) -> Result<Bytes, NoMemory>
-        ensures { IfOk result (λ made. made ≡ self.now) }
+        ensures made { IfOk result (λ made. made ≡ self.now) }
+        ensures none { length self.now ≡ 0 → IsOk result }
     {
         Bytes::from_slice(alloc, self.as_slice())
     }

@@ -1,5 +1,5 @@
-ghost use Rattle.std.specs.Prelude.{◌≡◌, ◌<◌, ◌+◌, ◌++◌, ◌∷◌, ◌^◌, [], IfOk, OnOk, OnErr, IfSome, length, take, slice_index_or};
-ghost use Rattle.ckd_types.specs.Edit.{edited, IsWithin};
+ghost use Rattle.std.specs.Prelude.{◌≡◌, ◌<◌, ◌+◌, ◌++◌, ◌∷◌, ◌^◌, [], IsOk, IfOk, OnOk, OnErr, IfSome, length, take, slice_index_or};
+ghost use Rattle.ckd_types.specs.Edit.{edited, IsWithin, IsInside};
 ghost use Rattle.ckd_types.specs.Track.{empty_track, find_id};
 
 use crate::{Bytes, Cchh, NoMemory, TrackNo, cchh_of};
@@ -76,6 +76,7 @@ fn put_behind(records: &mut Vec<Record>, after: usize, added: Record) -> Result<
     requires { after < length records.old.items }
     ensures done { OnOk result (records.new.items ≡ take (after + 1) records.old.items ++ added ∷ []) }
     ensures same { OnErr result (records.new.items ≡ records.old.items) }
+    ensures cut { after + 1 < length records.old.items → IsOk result }
 {
     if after + 1 < records.len() {
         records[after + 1] = added;
@@ -122,6 +123,7 @@ impl Records {
         requires within { IsWithin edit (length self.old) }
         ensures done { OnOk result (self.new ≡ edited edit self.old) }
         ensures same { OnErr result (self.new ≡ self.old) }
+        ensures inside { IsInside edit (length self.old) → IsOk result }
     {
         match edit {
             Edit::Update { index, key, body } => {

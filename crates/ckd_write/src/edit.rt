@@ -1,4 +1,5 @@
-ghost use Rattle.std.specs.Prelude.{◌≡◌, OnOk, OnErr};
+ghost use Rattle.std.specs.Prelude.{◌≡◌, IsOk, OnOk, OnErr, length};
+ghost use Rattle.ckd_types.specs.Edit.{IsInside};
 ghost use Rattle.ckd_rules.specs.Facts.{Suits};
 ghost use Rattle.track_image.specs.Image.{edited_image};
 
@@ -11,6 +12,7 @@ pub fn edit_image(image: &mut TrackImage, edit: Edit) -> Result<(), NoMemory>
     requires { Suits image.old.geometry image.old.track.records edit }
     ensures done { OnOk result (image.new ≡ edited_image edit image.old) }
     ensures same { OnErr result (image.new ≡ image.old) }
+    ensures inside { IsInside edit (length image.old.track.records) → IsOk result }
 {
     match edit {
         Edit::Update { index, key, body } => {
