@@ -41,7 +41,7 @@ pub fn answer(stance: &mut Stance, ccw: &Ccw, bytes: Bytes) -> Ending
     end(stance, ccw, area, UnitStatus::normal(), sent)
 }
 
-/// The end of a command of which the device took twelve bytes.
+/// The end of a set path group ID, which the device took: a function byte and an ID of eleven bytes (IBM).
 pub fn take(stance: &mut Stance, ccw: &Ccw) -> Ending
     requires commands { stance.old.commands < 4096 }
     requires moved { stance.old.moved < 2 ^ 21 }

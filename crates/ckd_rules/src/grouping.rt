@@ -131,6 +131,8 @@ pub fn owner_by(state: PathState, path: PathNo) -> Owner
     }
 }
 
+/// Two owners are one where they are the same path or have the same eleven bytes as group ID. A path is
+/// never the same as a group, also where it is one of its paths. Own.
 pub fn is_same_owner(a: &Owner, b: &Owner) -> bool
     ensures { result ≡ is_same_owner a.now b.now }
 {

@@ -43,7 +43,7 @@ pub struct Stance {
     pub moved: u32,
 }
 
-/// A chain begins at track 0. Own.
+/// A chain begins before the index of track 0, with mask 00, without extent and domain. Own.
 pub fn first_stance() -> Stance
     ensures { result ≡ first_stance }
 {

@@ -1,5 +1,5 @@
 -- What a write does to the records of a track.
-use Rattle.std.specs.Prelude.{ℕ, ◌+◌, ◌<◌, ⊤, List, [], ◌∷◌, ◌++◌, take, slice_index_or, slice_set}
+use Rattle.std.specs.Prelude.{ℕ, ◌+◌, ◌<◌, ◌≤◌, ⊤, List, [], ◌∷◌, ◌++◌, take, slice_index_or, slice_set}
 use Rattle.ckd_types.specs.declared.record.Record.{Record}
 use Rattle.ckd_types.specs.declared.record.Track.{Track}
 use Rattle.ckd_types.specs.declared.record.Edit.{Edit}
@@ -26,3 +26,9 @@ abbrev pub IsInside : Edit → ℕ → Type 0
 IsInside (Update index key body) n = ⊤
 IsInside (Format after added) n = after + 1 < n
 IsInside (Zero added) n = ⊤
+
+-- of a track with this many records the edit has room in what is made for so many: for one more behind the last
+abbrev pub HasRoomFor : Edit → ℕ → ℕ → Type 0
+HasRoomFor (Update index key body) n room = ⊤
+HasRoomFor (Format after added) n room = n ≤ after + 1 → n < room
+HasRoomFor (Zero added) n room = ⊤

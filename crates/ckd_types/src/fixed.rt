@@ -26,6 +26,7 @@ impl Model for FixedData {
 }
 
 impl FixedData {
+    /// The fixed data of a device of 1 to 64 cylinders.
     pub fn new(geometry: Geometry, cylinders: u8, number: u16) -> FixedData
         requires some { 1 ≤ cylinders }
         requires most { cylinders ≤ 64 }
@@ -38,12 +39,14 @@ impl FixedData {
         }
     }
 
+    /// The model that the device is.
     pub fn geometry(&self) -> Geometry
         ensures { result ≡ self.now.geometry }
     {
         self.geometry
     }
 
+    /// How many cylinders it has, of fifteen tracks each.
     pub fn cylinders(&self) -> u8
         ensures value { result ≡ self.now.cylinders }
         ensures some { 1 ≤ result }

@@ -11,4 +11,4 @@ mod tests;
 mod update;
 
 pub use command::write;
-pub use edit::edit_image;
+pub use edit::{edit_image, edit_within, make_room};

@@ -1,14 +1,16 @@
+ghost use Rattle.std.specs.Prelude.{◌≡◌, IfOk, length};
+ghost use Rattle.ckd_types.specs.Track.{IsRecord};
 ghost use Rattle.ckd_rules.specs.Facts.{HasRoom, Stands};
 
 use crate::*;
 use ckd_rules::{After, Ending, Place, Stance, Turned};
 use ckd_types::{
     Bytes, Cchh, Ccw, Domain, Edit, Geometry, NoMemory, Note, Operation, Orientation, RecId,
-    TrackNo, Write,
+    Record, TrackNo, Write,
 };
 use std::alloc::Global;
 use std::test::Fail;
-use track_image::TrackImage;
+use track_image::{RecordRoom, TrackImage};
 
 /// The track at cylinder 1, head 2. Record 2 has a key; record 3 is an end of file with a key.
 const TRACK: [u8; 63] = [
@@ -276,5 +278,35 @@ fn no_room_and_no_record(rt: HostRuntime) -> Result<(), Fail> {
     let turned = write(alloc, &image, &mut here, &data, Write::UpdateData)?;
     assert!(rt; matches!(turned, Turned::Onward));
     assert_eq!(rt; (here.track.get(), here.place), (18, Place::Index));
+    Ok(())
+}
+
+/// A record of two bytes of data.
+fn added(alloc: Global) -> Result<Record, NoMemory>
+    ensures { IfOk result (λ made. IsRecord made × (length made.key ≡ 0) × (length made.body ≡ 2)) }
+{
+    Ok(Record {
+        id: RecId {
+            cchh: Cchh { cc: 1, hh: 2 },
+            r: 9,
+        },
+        key: Bytes::new(),
+        body: Bytes::from_slice(alloc, &[5, 6])?,
+    })
+}
+
+#[test]
+fn a_record_behind_the_last_comes_in_room_that_was_made(rt: HostRuntime) -> Result<(), Fail> {
+    let alloc = rt.alloc();
+    let mut image = image(alloc)?;
+    let mut room = RecordRoom::new(alloc);
+    let after = image.len() - 1;
+    let added = added(alloc)?;
+    let fits = image.takes(after, 0, 2);
+    assert!(rt; fits);
+    let edit = Edit::Format { after, added };
+    make_room(&image, &edit, &mut room)?;
+    edit_within(&mut image, edit, &mut room);
+    assert_eq!(rt; image.len(), 5);
     Ok(())
 }

@@ -46,12 +46,14 @@ impl LostList {
         self.marks.set(t, true);
     }
 
+    /// Whether a track is lost.
     pub fn has(&self, t: TrackNo) -> bool
         ensures { result ≡ slice_index_or self.now t false }
     {
         self.marks.has(t)
     }
 
+    /// How many tracks are lost.
     pub fn len(&self) -> usize
         ensures { result ≡ length (lost_tracks self.now) }
     {

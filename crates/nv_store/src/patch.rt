@@ -188,6 +188,7 @@ impl Patch {
         Ok(made)
     }
 
+    /// The same patch in memory of its own.
     pub fn copy(&self, alloc: Global) -> Result<Patch, NoMemory>
         ensures { IfOk result (λ made. made ≡ self.now) }
     {

@@ -1,6 +1,7 @@
 -- What a cache holds: a list with a place for each track.
-use Rattle.std.specs.Prelude.{ℕ, ◌+◌, Bool, false, List, slice_set, Option, Some, None, if◌then◌else◌}
+use Rattle.std.specs.Prelude.{ℕ, ◌+◌, Bool, false, ⊤, List, length, slice_set, Option, Some, None, if◌then◌else◌}
 use Rattle.ckd_types.specs.declared.record.Edit.{Edit}
+use Rattle.ckd_types.specs.Edit.{IsInside, HasRoomFor}
 use Rattle.ckd_rules.specs.Facts.{Suits}
 use Rattle.track_image.specs.Image.{Image, edited_image}
 use Rattle.track_table.specs.Table.{entry_at, has_entry, with_places}
@@ -42,6 +43,16 @@ edited_frame e (Some f) = Some (record f { image = edited_image e f.image })
 abbrev pub SuitsFrame : Edit → Option Frame → Type 0
 SuitsFrame e None = ⊥
 SuitsFrame e (Some f) = Suits f.image.geometry f.image.track.records e
+
+-- the edit of the frame's image has room in what is made for so many records
+abbrev pub HasFrameRoom : Edit → Option Frame → ℕ → Type 0
+HasFrameRoom e None room = ⊤
+HasFrameRoom e (Some f) room = HasRoomFor e (length f.image.track.records) room
+
+-- the edit puts no record behind the last of the frame's image
+abbrev pub IsInsideFrame : Edit → Option Frame → Type 0
+IsInsideFrame e None = ⊤
+IsInsideFrame e (Some f) = IsInside e (length f.image.track.records)
 
 -- the frame, where it is modified
 abbrev pub unless_clean : Option Frame → Option Frame

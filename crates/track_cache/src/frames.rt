@@ -2,14 +2,14 @@ ghost use Rattle.std.specs.Prelude.{◌≡◌, ℕ, ◌≤◌, ◌<◌, ◌*◌,
 ghost use Rattle.std.specs.Option.{option_copied};
 ghost use Rattle.track_table.specs.Bits.{is_marked};
 ghost use Rattle.track_table.specs.Table.{with_places};
-ghost use Rattle.track_cache.specs.Frames.{frame_at, has_frame, image_at, is_modified_frame, is_modified, with_mark, edited_frame, SuitsFrame, unless_clean, put_frame};
+ghost use Rattle.track_cache.specs.Frames.{frame_at, has_frame, image_at, is_modified_frame, is_modified, with_mark, edited_frame, SuitsFrame, HasFrameRoom, IsInsideFrame, unless_clean, put_frame};
 ghost use Rattle.track_cache.specs.declared.frames.PutRefused.TheVariants as refusals;
 
 use ckd_types::{Edit, HEADS, NoMemory, TrackNo};
-use ckd_write::edit_image;
+use ckd_write::{edit_within, make_room};
 use std::alloc::Global;
 use std::marker::Model;
-use track_image::TrackImage;
+use track_image::{RecordRoom, TrackImage};
 use track_table::{TrackBits, TrackTable};
 
 /// A track in the cache. A modified frame has what its volume doesn't have.
@@ -158,18 +158,29 @@ impl Frames {
         Ok(())
     }
 
-    /// Makes an edit in a track's frame, in place. The frame keeps its mark. Takes memory only for a
-    /// record behind the last one.
+    /// Makes the room that an edit of a track's frame needs, which is some only for a record behind the last one.
+    pub fn room(&self, t: TrackNo, edit: &Edit, room: &mut RecordRoom) -> Result<(), NoMemory>
+        ensures made { OnOk result (HasFrameRoom edit.now (frame_at self.now t) room.new) }
+        ensures least { room.old ≤ room.new }
+        ensures inside { IsInsideFrame edit.now (frame_at self.now t) → IsOk result }
+    {
+        match self.table.get(t) {
+            Some(frame) => make_room(&frame.image, edit, room),
+            None => Ok(()),
+        }
+    }
+
+    /// Makes an edit in a track's frame, in place and in room that was made. The frame keeps its mark. Takes
+    /// no memory.
     #[tactic(auto, using(track_table::proofs::Places::set_again))]
-    pub fn edit(&mut self, t: TrackNo, edit: Edit) -> Result<(), NoMemory>
-        requires { SuitsFrame edit (frame_at self.old t) }
-        ensures done { OnOk result (self.new ≡ slice_set self.old t (edited_frame edit (frame_at self.old t))) }
-        ensures same { OnErr result (self.new ≡ self.old) }
+    pub fn edit(&mut self, t: TrackNo, edit: Edit, room: &mut RecordRoom)
+        requires suits { SuitsFrame edit (frame_at self.old t) }
+        requires room { HasFrameRoom edit (frame_at self.old t) room.old }
+        ensures { self.new ≡ slice_set self.old t (edited_frame edit (frame_at self.old t)) }
     {
         let mut frame = self.exchange(t, None).unwrap();
-        let done = edit_image(&mut frame.image, edit);
+        edit_within(&mut frame.image, edit, room);
         self.exchange(t, Some(frame));
-        done
     }
 
     /// Marks a track's frame as modified, or as clean. Without a frame there is nothing to mark.

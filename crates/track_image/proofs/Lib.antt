@@ -4,3 +4,4 @@ pub mod Tracks
 pub mod Sizes
 pub mod Places
 pub mod Packs
+pub mod Rooms

@@ -1,6 +1,6 @@
 -- A record has at most 34 bytes for each unit that it takes, and a track 1,729 units.
 use Rattle.std.proofs.Common.{◌≡◌, ℕ, ◌+◌, ◌*◌, ◌≤◌, ◌==◌, Bool, true, false, cond, List, [], ◌∷◌, ◌++◌, length, take, sum_by, refl, sym, ap, add-one, arith}
-use Rattle.std.proofs.lemmas.Bool.{eqb-true}
+use Rattle.std.proofs.lemmas.Bool.{eqb-true, leb-true}
 use Rattle.std.proofs.lemmas.List.{length-append}
 use Rattle.std.proofs.lemmas.List.Sums.{sum_by-cons, sum_by_push}
 use Rattle.std.proofs.lemmas.List.Elements.{All-take, All-push}
@@ -12,6 +12,7 @@ use Rattle.ckd_types.specs.declared.record.Edit.TheVariants.{Format}
 use Rattle.ckd_types.specs.Edit.{apply_edit}
 use Rattle.ckd_types.specs.Geometry.{cost, capacity, data_units, key_units}
 use Rattle.ckd_types.specs.Track.{IsRecord, HasZero, Fits, cost_of, record_bytes}
+use Rattle.track_image.specs.Image.{Image, is_room_behind}
 use Rattle.track_image.specs.Packed.{most_bytes}
 use Rattle.track_image.specs.Reading.{size_of}
 use Rattle.track_image.proofs.Fields.{length-record_bytes}
@@ -82,6 +83,11 @@ zero_still (x ∷ rs) r first = first
 pub cost_push : (g : Geometry) (rs : List Record) (r : Record) → HasZero rs → cost_of g (rs ++ r ∷ []) ≡ cost_of g rs + cost g (length r.key) (length r.body)
 cost_push g [] r first = absurd first
 cost_push g (x ∷ rs) r first = sum_by_push (λ (y : Record). cost g (length y.key) (length y.body)) rs r
+
+-- the room that an image has for a record, as the numbers that its test compares
+pub has_room : (i j : Image) (after : ℕ) (r added : Record) → i ≡ j → r ≡ added → is_room_behind j after (length added.key) (length added.body) ≡ true
+    → cost_of i.geometry (take (after + 1) i.track.records) + cost i.geometry (length r.key) (length r.body) ≤ capacity i.geometry
+has_room i j after r added image record' room = rw (image, record') (leb-true _ _ room)
 
 -- the image after a record was put behind some that are kept
 pub formats : (g : Geometry) (t : Track) (after : ℕ) (r : Record) → Fits g t → IsRecord r → cost_of g (take (after + 1) t.records) + cost g (length r.key) (length r.body) ≤ capacity g

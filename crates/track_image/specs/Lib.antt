@@ -1,3 +1,4 @@
 pub mod Image
 pub mod Packed
 pub mod Reading
+pub mod Room

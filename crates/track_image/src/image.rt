@@ -1,4 +1,4 @@
-ghost use Rattle.std.specs.Prelude.{◌≡◌, ◌≢◌, IsOk, ◌<◌, ◌≤◌, ◌^◌, ◌+◌, ◌↔◌, false, Err, IfOk, OnOk, OnErr, IfSome, All, [], ◌∷◌, ◌++◌, length, take, drop};
+ghost use Rattle.std.specs.Prelude.{◌≡◌, ◌≢◌, IsOk, ◌<◌, ◌≤◌, ◌^◌, ◌+◌, ◌↔◌, false, Err, IfOk, OnOk, OnErr, IfSome, All, true, [], ◌∷◌, ◌++◌, length, take, drop};
 ghost use Rattle.std.specs.List.{flat_map};
 ghost use Rattle.ckd_types.specs.Geometry.{cost, capacity};
 ghost use Rattle.ckd_types.specs.Track.{IsRecord, Fits, cost_of, find_id, empty_track, home_bytes, record_bytes, end_mark, track_bytes};
@@ -8,7 +8,7 @@ ghost use Rattle.track_image.specs.Packed.{most_bytes};
 
 use crate::count::home_area;
 use crate::packed::Packed;
-use crate::{AddFault, RecordRef};
+use crate::{AddFault, RecordRef, RecordRoom};
 use ckd_types::{Bytes, Cchh, Geometry, NoMemory, RecId, Record, TrackNo, capacity, cchh_of, cost};
 use std::alloc::Global;
 use std::marker::Model;
@@ -62,12 +62,14 @@ impl TrackImage {
         }
     }
 
+    /// The model of its volume.
     pub fn geometry(&self) -> Geometry
         ensures { result ≡ self.now.geometry }
     {
         self.geometry
     }
 
+    /// Where the track is: the cylinder and the head of its home address.
     pub fn home(&self) -> Cchh
         ensures { result ≡ self.now.track.home }
     {
@@ -88,9 +90,11 @@ impl TrackImage {
         let _ = &self.geometry;
     }
 
+    /// How many records there are, with record 0.
     pub fn len(&self) -> usize
         ensures value { result ≡ length self.now.track.records }
         ensures least { 1 ≤ result }
+        ensures range { result < 2 ^ 63 }
     {
         self.packed.len()
     }
@@ -146,6 +150,7 @@ impl TrackImage {
         self.packed.find(id)
     }
 
+    /// Record `i`, from 0 on, which lends its key and its data. Takes no memory.
     pub fn record_at(&self, i: usize) -> RecordRef<'_>
         requires { i < length self.now.track.records }
         ensures { result ≡ record_in self.now i }
@@ -216,6 +221,23 @@ impl TrackImage {
         Ok(())
     }
 
+    /// Adds a record that fits behind record `after`, and erases what stood there. Behind the last record it
+    /// comes into room that was made. Takes no memory.
+    pub fn cut_and_add_within(&mut self, after: usize, added: Record, room: &mut RecordRoom)
+        requires place { after < length self.old.track.records }
+        requires ranges { IsRecord added }
+        requires fits { is_room_behind self.old after (length added.key) (length added.body) ≡ true }
+        requires room { length self.old.track.records ≤ after + 1 → length self.old.track.records < room.old }
+        ensures { self.new ≡ edited_image (edits.Format after added) self.old }
+    {
+        let key = added.key.as_slice();
+        let body = added.body.as_slice();
+        let units = self.cost_to(after) + cost(self.geometry, key.len() as u8, body.len() as u16);
+        self.packed
+            .cut_and_add_within(after, &RecordRef::new(added.id, key, body), room);
+        self.spent = units;
+    }
+
     /// Makes a record the track's only one. Takes no memory.
     pub fn set_zero(&mut self, zero: Record)
         requires key { length zero.key ≡ 0 }
@@ -227,6 +249,7 @@ impl TrackImage {
         self.spent = 0;
     }
 
+    /// The same image in memory of its own.
     pub fn copy(&self, alloc: Global) -> Result<TrackImage, NoMemory>
         ensures { IfOk result (λ made. made ≡ self.now) }
     {

@@ -7,12 +7,14 @@ mod image;
 mod laws;
 mod packed;
 mod reading;
+mod room;
 mod tape;
 mod view;
 
 pub use fault::{AddFault, BytesFault};
 pub use image::TrackImage;
 pub use laws::{no_prefix, reads_back, same_bytes};
+pub use room::RecordRoom;
 pub use view::RecordRef;
 
 #[cfg(test)]

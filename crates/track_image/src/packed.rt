@@ -1,4 +1,4 @@
-ghost use Rattle.std.specs.Prelude.{◌≡◌, ◌<◌, ◌≤◌, ◌+◌, ◌∷◌, [], ◌++◌, IfOk, OnOk, OnErr, IsOk, IfSome, All, length, take, drop, slice_index_or, position, sum_by, ◌^◌};
+ghost use Rattle.std.specs.Prelude.{◌≡◌, ◌<◌, ◌≤◌, ◌+◌, ◌∷◌, [], ◌++◌, IfOk, OnOk, OnErr, IsOk, IfSome, All, length, take, drop, slice_index_or, position, sum_by, vec_capacity, vec_len, ◌^◌};
 ghost use Rattle.std.specs.List.{flat_map};
 ghost use Rattle.ckd_types.specs.Geometry.{cost};
 ghost use Rattle.ckd_types.specs.Track.{IsRecord, cost_of, find_id, is_same_id, empty_zero, record_bytes, end_mark, track_bytes};
@@ -7,9 +7,9 @@ ghost use Rattle.ckd_types.specs.declared.record.Edit.TheVariants as edits;
 ghost use Rattle.track_image.specs.Packed.{IsPacked, most_bytes, record_from, unpacked};
 ghost use Rattle.track_image.specs.Reading.{count_at, size_of};
 
-use crate::RecordRef;
 use crate::count::{AREA, count_at, home_area, id_at};
 use crate::tape::{MOST, end_with, make_room, rest_of, write_areas};
+use crate::{RecordRef, RecordRoom};
 use ckd_types::{Cchh, Geometry, NoMemory, RecId, cost};
 use std::alloc::Global;
 use std::marker::Model;
@@ -92,20 +92,47 @@ fn cost_at(geometry: Geometry, bytes: &[u8], places: &[u16]) -> u32
     total
 }
 
-/// Puts a place behind the one at `after`, in place of all that stood there.
-fn put_behind(places: &mut Vec<u16>, after: usize, place: u16) -> Result<(), NoMemory>
+/// Sees that a place can come behind the one at `after`.
+fn make_place(places: &mut Vec<u16>, after: usize) -> Result<(), NoMemory>
     requires { after < length places.old.items }
-    ensures added { OnOk result (places.new.items ≡ take (after + 1) places.old.items ++ place ∷ []) }
-    ensures same { OnErr result (places.new.items ≡ places.old.items) }
+    ensures same { places.new.items ≡ places.old.items }
+    ensures spare { OnOk result (length places.new.items ≤ after + 1 → vec_len places.new < vec_capacity places.new) }
     ensures cut { after + 1 < length places.old.items → IsOk result }
+{
+    if places.len() <= after + 1 {
+        places.reserve(1)?;
+    }
+    Ok(())
+}
+
+/// Sees that a record can come behind the one at `after`, in room that was made.
+fn serve_behind(room: &mut RecordRoom, bytes: &mut Vec<u8>, places: &mut Vec<u16>, after: usize)
+    requires place { after < length places.old.items }
+    requires short { length bytes.old.items ≤ most_bytes }
+    requires long { after + 1 < length places.old.items → most_bytes ≤ vec_capacity bytes.old }
+    requires room { length places.old.items ≤ after + 1 → length places.old.items < room.old }
+    ensures bytes { bytes.new.items ≡ bytes.old.items }
+    ensures places { places.new.items ≡ places.old.items }
+    ensures long { most_bytes ≤ vec_capacity bytes.new }
+    ensures spare { length places.new.items ≤ after + 1 → vec_len places.new < vec_capacity places.new }
+{
+    if places.len() <= after + 1 {
+        room.serve(bytes, places);
+    }
+}
+
+/// Puts a place behind the one at `after`, in place of all that stood there and in room that was made.
+fn put_behind(places: &mut Vec<u16>, after: usize, place: u16)
+    requires place { after < length places.old.items }
+    requires spare { length places.old.items ≤ after + 1 → vec_len places.old < vec_capacity places.old }
+    ensures { places.new.items ≡ take (after + 1) places.old.items ++ place ∷ [] }
 {
     if after + 1 < places.len() {
         places[after + 1] = place;
         places.truncate(after + 2);
     } else {
-        places.push(place)?;
+        places.push_reserved(place);
     }
-    Ok(())
 }
 
 impl Packed {
@@ -153,6 +180,7 @@ impl Packed {
     pub fn len(&self) -> usize
         ensures value { result ≡ length self.now.records }
         ensures least { 1 ≤ result }
+        ensures range { result < 2 ^ 63 }
     {
         self.places.len()
     }
@@ -252,9 +280,25 @@ impl Packed {
     {
         let end = self.place_of(after + 1);
         make_room(&mut self.bytes)?;
-        put_behind(&mut self.places, after, end as u16)?;
+        make_place(&mut self.places, after)?;
+        put_behind(&mut self.places, after, end as u16);
         end_with(&mut self.bytes, end, added);
         Ok(())
+    }
+
+    /// Puts a record behind record `after`, in place of all that stood there and in room that was made.
+    /// Takes no memory.
+    pub fn cut_and_add_within(&mut self, after: usize, added: &RecordRef<'_>, room: &mut RecordRoom)
+        requires place { after < length self.old.records }
+        requires ranges { IsRecord added.now }
+        requires short { length (flat_map record_bytes (take (after + 1) self.old.records)) + size_of added.now + 13 ≤ most_bytes }
+        requires room { length self.old.records ≤ after + 1 → length self.old.records < room.old }
+        ensures { self.new ≡ apply_edit (edits.Format after added.now) self.old }
+    {
+        let end = self.place_of(after + 1);
+        serve_behind(room, &mut self.bytes, &mut self.places, after);
+        put_behind(&mut self.places, after, end as u16);
+        end_with(&mut self.bytes, end, added);
     }
 
     /// Makes a record the only one. Takes no memory.

@@ -32,18 +32,21 @@ impl<'a> RecordRef<'a> {
         RecordRef { id, key, body }
     }
 
+    /// Its id as it was written, which need not name the track that it is on (IBM).
     pub fn id(&self) -> RecId
         ensures { result ≡ self.now.id }
     {
         self.id
     }
 
+    /// Its key: at most 255 bytes, none where it has no key.
     pub fn key(&self) -> &'a [u8]
         ensures { result.now ≡ self.now.key }
     {
         self.key
     }
 
+    /// Its data: at most 65,534 bytes, none at an end of file (IBM).
     pub fn body(&self) -> &'a [u8]
         ensures { result.now ≡ self.now.body }
     {
