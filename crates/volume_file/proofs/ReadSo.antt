@@ -1,5 +1,5 @@
 -- How far a file was read, and which images its tracks gave.
-use Rattle.std.proofs.Common.{◌≡◌, ℕ, zero, suc, ◌+◌, ◌-◌, ◌*◌, ◌<◌, ◌≤◌, ◌⊎◌, inl, inr, List, [], ◌∷◌, ◌++◌, length, get_or, Option, Some, None, Result, Ok, Err, IfOk, OnOk, refl, sym, ap, subst, ◌∙◌, append_assoc, arith}
+use Rattle.std.proofs.Common.{◌≡◌, ℕ, zero, suc, ◌+◌, ◌-◌, ◌*◌, ◌<◌, ◌≤◌, inl, inr, List, [], ◌∷◌, ◌++◌, length, get_or, Option, Some, None, Result, Ok, Err, IfOk, OnOk, refl, sym, ap, subst, ◌∙◌, append_assoc, arith}
 use Rattle.std.specs.List.{flat_map}
 use Rattle.std.specs.Io.KnownBytes.{Consumes, IsAtEnd}
 use Rattle.std.proofs.KnownBytes.{Consumes-trans}
@@ -11,7 +11,7 @@ use Rattle.track_image.specs.Image.{Image}
 use Rattle.volume_file.specs.declared.fault.LoadFault.{LoadFault}
 use Rattle.volume_file.specs.declared.fault.LoadFault.TheVariants.{BadHead, BadTrack, Trailing, ReadFault, NoMemory}
 use Rattle.volume_file.specs.File.{ImageVolume, IsPlaced, IsWhole, file_of, head_of, track_part}
-use Rattle.volume_file.specs.Loading.{◌>>=◌, end_at, head_at, loading, track_at, tracks_at}
+use Rattle.volume_file.specs.Loading.{end_at, head_at, loading, track_at, tracks_at}
 use Rattle.volume_file.specs.Answers.{Gives, IsProgress, IsRefused, Progress, Tells, TellsFault}
 use Rattle.volume_file.proofs.Told.{refused_first, refused_then, tells_on}
 use Rattle.volume_file.proofs.Through.{loads_back, refused_through}

@@ -1,5 +1,5 @@
 -- What is written of a volume is read again.
-use Rattle.std.proofs.Common.{◌≡◌, ℕ, zero, suc, ◌+◌, ◌-◌, ◌*◌, ◌^◌, ◌<◌, ◌≤◌, Bool, true, false, cond, ltb, List, [], ◌∷◌, ◌++◌, length, get_or, take, drop, Option, Result, Ok, Err, IfOk, refl, sym, ap, subst, ◌∙◌, append_assoc, arith}
+use Rattle.std.proofs.Common.{◌≡◌, ℕ, suc, ◌+◌, ◌-◌, ◌*◌, ◌<◌, ◌≤◌, false, ltb, List, [], ◌∷◌, ◌++◌, length, get_or, take, drop, Option, Result, Ok, Err, IfOk, refl, sym, ap, subst, ◌∙◌, append_assoc, arith}
 use Rattle.std.specs.List.{flat_map}
 use Rattle.std.specs.Io.KnownBytes.{Consumes}
 use Rattle.std.proofs.KnownBytes.{Consumes-trans}
@@ -8,11 +8,10 @@ use Rattle.std.proofs.lemmas.Bool.Decides.{nat_tests}
 use Rattle.std.proofs.lemmas.List.{append-nil, length-append, take_at, drop_at, get_or_default}
 use Rattle.std.proofs.lemmas.List.Concat.{flat_map-cons}
 use Rattle.byteorder.specs.Endian.{big_bytes, big_number}
-use Rattle.byteorder.specs.Numbers.{big_number-reads_back, length-bytes_high_first}
+use Rattle.byteorder.specs.Numbers.{big_number-reads_back}
 use Rattle.ckd_types.specs.declared.geometry.Cchh.{Cchh}
 use Rattle.ckd_types.specs.declared.geometry.Geometry.{Geometry}
 use Rattle.ckd_types.specs.declared.geometry.Geometry.TheVariants.{D3390, D3380}
-use Rattle.ckd_types.specs.declared.record.Track.{Track}
 use Rattle.ckd_types.specs.Geometry.{cchh_of}
 use Rattle.ckd_types.specs.Track.{home_bytes, record_bytes, end_mark, track_bytes}
 use Rattle.track_image.specs.Image.{Image, IsImage}
@@ -21,11 +20,10 @@ use Rattle.track_image.specs.Reading.{reading}
 use Rattle.track_image.proofs.Sizes.{few_bytes, within}
 use Rattle.track_image.proofs.Tracks.{reading_again}
 use Rattle.volume_file.specs.declared.fault.LoadFault.{LoadFault}
-use Rattle.volume_file.specs.declared.head.Head.{Head}
-use Rattle.volume_file.specs.File.{ImageVolume, IsPlaced, IsWhole, empty_image, file_of, head_of, image_in, track_part}
+use Rattle.volume_file.specs.File.{ImageVolume, IsPlaced, IsWhole, empty_image, file_of, head_of, track_part}
 use Rattle.volume_file.specs.Answers.{Tells, TellsFault}
 use Rattle.volume_file.proofs.Told.{refused_first, refused_then, tells_on}
-use Rattle.volume_file.specs.Loading.{◌>>=◌, end_at, head_at, head_in, image_at, image_by, length_in, loading, track_at, tracks_at}
+use Rattle.volume_file.specs.Loading.{◌>>=◌, head_at, head_in, image_at, length_in, loading, track_at, tracks_at}
 
 -- the bytes of an image are read as its track
 image_again : (i : Image) → IsImage i → reading i.geometry i.track.home (track_bytes i.track) ≡ Ok i.track
@@ -178,10 +176,10 @@ loads_through v n rest least most count placed =
     let ended : ℕ → ℕ → Result ImageVolume LoadFault = λ x y. seen g c (behind v.images (tracks_at n g x y rest)) in
     let first : 0 + length v.images ≡ length v.images = omega arith in
     rw head (
-      ap (λ (l : List ℕ). seen g c (tracks_at (c * 15) g 0 12 l)) left
-      ∙ ap (seen g c) through
-      ∙ ap (λ (x : ℕ). ended x (12 + length parts)) first
-      ∙ ap (λ (x : ℕ). ended (length v.images) x) at
+    ap (λ (l : List ℕ). seen g c (tracks_at (c * 15) g 0 12 l)) left
+    ∙ ap (seen g c) through
+    ∙ ap (λ (x : ℕ). ended x (12 + length parts)) first
+    ∙ ap (λ (x : ℕ). ended (length v.images) x) at
     )
 
 -- a fault behind some tracks

@@ -1,4 +1,3 @@
-use Rattle.std.proofs.Common.{◌≡◌, ap, ◌∙◌}
 use Rattle.byteorder.specs.Endian.{big_bytes}
 use Rattle.volume_file.specs.Loading.{length_in}
 use Rattle.volume_file.proofs.Told.{field_told, gives_same}

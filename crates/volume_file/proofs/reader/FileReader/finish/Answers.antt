@@ -1,4 +1,4 @@
-use Rattle.std.proofs.Common.{◌≡◌, ap, sym, ◌∙◌}
+use Rattle.std.proofs.Common.{◌≡◌, ap, ◌∙◌}
 use Rattle.volume_file.specs.Answers.{Progress}
 use Rattle.volume_file.proofs.Told.{end_told, not_none}
 use Rattle.volume_file.proofs.reader.FileReader.finish.Goals as goal
