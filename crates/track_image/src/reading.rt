@@ -1,4 +1,4 @@
-ghost use Rattle.std.specs.Prelude.{◌≡◌, ◌≤◌, ◌<◌, ◌+◌, ◌*◌, ◌^◌, ◌∷◌, [], ℕ, IfOk, IfSome, OnOk, IsOk, All, Ok, Err, length, take, drop, option_map};
+ghost use Rattle.std.specs.Prelude.{◌≡◌, ◌≤◌, ◌<◌, ◌+◌, ◌*◌, ◌^◌, ◌∷◌, [], ℕ, IfErr, IfOk, IfSome, OnOk, IsOk, All, Ok, Err, length, take, drop, option_map};
 ghost use Rattle.ckd_types.specs.declared.record.Track.{Track};
 ghost use Rattle.ckd_types.specs.Geometry.{cost, capacity, cchh_of};
 ghost use Rattle.ckd_types.specs.Track.{Fits, cost_of, track_bytes};
@@ -34,6 +34,7 @@ fn areas_at(count: Count, rest: &[u8], at: usize) -> Result<(), usize>
     requires { at + length rest.now < 2 ^ 64 }
     ensures exact { areas_at at count rest.now ≡ map_ok (λ _. has_areas count rest.now) result }
     ensures within { OnOk result (count.key + count.body ≤ length rest.now) }
+    ensures fault { IfErr result (λ offset. offset ≤ at + length rest.now) }
 {
     let key = usize::from(count.key);
     let body = usize::from(count.body);
@@ -54,6 +55,7 @@ fn zero_at(rest: &[u8], at: usize) -> Result<(), usize>
     ensures key { OnOk result ((count_at rest.now).key ≡ 0) }
     ensures body { OnOk result ((count_at rest.now).body ≡ 8) }
     ensures within { OnOk result (16 ≤ length rest.now) }
+    ensures fault { IfErr result (λ offset. offset ≤ at + length rest.now) }
 {
     if rest.len() < AREA {
         return Err(at);
@@ -74,6 +76,7 @@ fn next_at(geometry: Geometry, spent: u32, rest: &[u8], at: usize) -> Result<Opt
     requires spent { spent ≤ capacity geometry }
     ensures exact { next_at geometry spent at rest.now ≡ map_ok (λ o. option_map (λ _. record_from rest.now) o) result }
     ensures next { IfOk result (λ o. IfSome o (λ c. IsNext geometry spent rest.now c)) }
+    ensures fault { IfErr result (λ offset. offset ≤ at + length rest.now) }
 {
     if rest.len() < AREA {
         return Err(at);
@@ -101,6 +104,7 @@ fn find_records(geometry: Geometry, bytes: &[u8], places: &mut [u16]) -> Result<
     ensures exact { map_ok (λ others. record_from (drop HOME bytes.now) ∷ others) (records_at (length bytes.now) geometry 0 BEHIND_ZERO (drop BEHIND_ZERO bytes.now))
         ≡ map_ok (λ f. unpacked bytes.now (take f.count places.new)) result }
     ensures found { IfOk result (λ f. IsFound geometry bytes.now (take f.count places.new) f.spent) }
+    ensures fault { IfErr result (λ offset. offset ≤ length bytes.now) }
     ensures count { IfOk result (λ f. f.count ≤ MOST) }
     ensures places { length places.new ≡ MOST }
 {
@@ -128,6 +132,7 @@ fn find_all(
     requires places { length places.old ≡ MOST }
     ensures exact { reading geometry home bytes.now ≡ map_ok (λ f. record { home = home; records = unpacked bytes.now (take f.count places.new) }) result }
     ensures found { IfOk result (λ f. IsFound geometry bytes.now (take f.count places.new) f.spent) }
+    ensures fault { IfErr result (λ offset. offset ≤ length bytes.now) }
     ensures count { IfOk result (λ f. f.count ≤ MOST) }
     ensures places { length places.new ≡ MOST }
 {
@@ -147,6 +152,7 @@ fn image_at(
     ensures exact { Gives (λ i. i.track) result (reading geometry home bytes.now) }
     ensures memory { result ≡ Err BytesFault.NoMemory → IsOk (reading geometry home bytes.now) }
     ensures fits { IfOk result (λ i. Fits i.geometry i.track) }
+    ensures within { (offset : ℕ) → result ≡ Err (BytesFault.BadTrack offset) → offset ≤ length bytes.now }
     ensures place { IfOk result (λ i. (i.geometry ≡ geometry) × (i.track.home ≡ home)) }
 {
     let mut places = [0; MOST];
@@ -172,6 +178,8 @@ impl TrackImage {
         ensures exact { Gives (λ i. i.track) result (reading geometry (cchh_of track) bytes.now) }
         // Memory runs out only where the bytes are a track.
         ensures memory { result ≡ Err BytesFault.NoMemory → IsOk (reading geometry (cchh_of track) bytes.now) }
+        // A fault is among the bytes, or directly behind them.
+        ensures within { (offset : ℕ) → result ≡ Err (BytesFault.BadTrack offset) → offset ≤ length bytes.now }
         // An image is the track that the bytes spell, and fits.
         ensures found { IfOk result (λ i. Fits i.geometry i.track × (bytes.now ≡ track_bytes i.track)) }
         // The bytes of a track that fits are that track, unless memory runs out.

@@ -6,7 +6,7 @@ use Rattle.ckd_types.specs.declared.geometry.Geometry.{Geometry}
 use Rattle.ckd_types.specs.declared.geometry.Geometry.TheVariants.{D3390, D3380}
 use Rattle.ckd_types.specs.Geometry.{cchh_of}
 use Rattle.ckd_types.specs.Track.{empty_track, track_bytes}
-use Rattle.track_image.specs.Image.{Image}
+use Rattle.track_image.specs.Image.{Image, IsImage}
 
 -- a volume, with the images of its tracks in rising order
 pub record ImageVolume : Type 0 where
@@ -20,13 +20,18 @@ empty_image g t = record { geometry = g; track = empty_track t }
 abbrev pub image_in : ImageVolume → ℕ → Image
 image_in v t = slice_index_or v.images t (empty_image v.geometry t)
 
--- what is so of every volume of a file: each track is where it says, and of the volume's model
+-- an image may be that of a track of a volume: it is of the volume's model, and is where it says
+pub record IsPlaced (g : Geometry) (t : ℕ) (i : Image) : Type 0 where
+  pub fits : IsImage i
+  pub model : i.geometry ≡ g
+  pub home : i.track.home ≡ cchh_of t
+
+-- what is so of every volume of a file
 pub record IsWhole (v : ImageVolume) : Type 0 where
   pub least : 1 ≤ v.cylinders
   pub most : v.cylinders ≤ 64
   pub tracks : length v.images ≡ v.cylinders * 15
-  pub models : (t : ℕ) → t < length v.images → (image_in v t).geometry ≡ v.geometry
-  pub homes : (t : ℕ) → t < length v.images → (image_in v t).track.home ≡ cchh_of t
+  pub placed : (t : ℕ) → t < length v.images → IsPlaced v.geometry t (image_in v t)
 
 abbrev pub empty_images : Geometry → ℕ → List Image
 empty_images g cylinders = map (empty_image g) (range_with_len 0 (cylinders * 15))

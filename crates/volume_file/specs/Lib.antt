@@ -1,1 +1,3 @@
 pub mod File
+pub mod Loading
+pub mod Answers

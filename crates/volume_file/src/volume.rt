@@ -1,6 +1,6 @@
-ghost use Rattle.std.specs.Prelude.{◌≡◌, ◌≤◌, ◌<◌, IfOk, length, slice_set};
+ghost use Rattle.std.specs.Prelude.{◌≡◌, ◌≤◌, ◌<◌, ◌*◌, IfOk, OnOk, ℕ, length, slice_set};
 ghost use Rattle.ckd_types.specs.Geometry.{cchh_of};
-ghost use Rattle.volume_file.specs.File.{IsWhole, empty_images, image_in};
+ghost use Rattle.volume_file.specs.File.{IsPlaced, IsWhole, empty_image, empty_images, image_in};
 
 use ckd_types::{Geometry, HEADS, NoMemory, TrackNo};
 use std::alloc::Global;
@@ -32,12 +32,14 @@ fn empty_images(
     cylinders: u8,
 ) -> Result<Vec<TrackImage>, NoMemory>
     requires { cylinders ≤ 64 }
-    ensures { IfOk result (λ made. made.items ≡ empty_images geometry cylinders) }
+    ensures images { IfOk result (λ made. made.items ≡ empty_images geometry cylinders) }
+    ensures placed { OnOk result ((t : ℕ) → t < cylinders * 15 → IsPlaced geometry t (empty_image geometry t)) }
 {
     let count = u16::from(cylinders) * HEADS;
     let mut images = Vec::with_capacity(alloc, usize::from(count))?;
     for n in 0..count {
         let image = TrackImage::empty(alloc, geometry, TrackNo::new(n).unwrap())?;
+        image.fits();
         images.push(image)?;
     }
     Ok(images)
@@ -58,7 +60,19 @@ impl FileVolume {
         })
     }
 
-    /// Each track is where it says.
+    /// The volume of the images of all its tracks.
+    pub(crate) fn of(geometry: Geometry, cylinders: u8, images: Vec<TrackImage>) -> FileVolume
+        requires { IsWhole (record { geometry = geometry; cylinders = cylinders; images = images.items }) }
+        ensures { result ≡ record { geometry = geometry; cylinders = cylinders; images = images.items } }
+    {
+        FileVolume {
+            geometry,
+            cylinders,
+            images,
+        }
+    }
+
+    /// Each track fits and is where it says.
     pub fn is_whole(&self)
         ensures { IsWhole self.now }
     {
@@ -99,6 +113,7 @@ impl FileVolume {
         requires home { image.track.home ≡ cchh_of t }
         ensures { self.new ≡ record self.old { images = slice_set self.old.images t image } }
     {
+        image.fits();
         self.images[usize::from(t.get())] = image;
     }
 }

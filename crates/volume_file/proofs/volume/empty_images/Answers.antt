@@ -1,11 +1,15 @@
-use Rattle.std.proofs.Common.{arith, ap, ◌∙◌}
+use Rattle.std.proofs.Common.{◌≡◌, arith, refl, ap, subst, below_more, ◌∙◌}
 use Rattle.std.proofs.lemmas.Grind.{common_steps}
-use Rattle.volume_file.specs.File.{empty_image}
+use Rattle.track_image.specs.Image.{Image, IsImage}
+use Rattle.volume_file.specs.File.{IsPlaced, empty_image}
 use Rattle.volume_file.proofs.EmptyImages.{images_more}
 use Rattle.volume_file.proofs.volume.empty_images.Goals as goal
 
 pub loop-n-preserved : goal.loop-n-preserved
 loop-n-preserved c =
-    images_more c.args.geometry c.loop-n.images.items c.push.new.self.items c.loop-n.n c.in_ok-image.image c.in_ok-push.ensures.items
-    (c.in_ok-image.ensures ∙ ap (empty_image c.args.geometry) (grind (arith, common_steps)))
-    c.loop-n.invariant
+    let g = c.args.geometry in
+    let is : c.in_ok-image.image ≡ empty_image g c.loop-n.n = c.in_ok-image.ensures ∙ ap (empty_image g) (grind (arith, common_steps)) in
+    record {
+      images = images_more g c.loop-n.images.items c.push.new.self.items c.loop-n.n c.in_ok-image.image c.in_ok-push.ensures.items is c.loop-n.invariant.images;
+      placed = below_more (λ t. IsPlaced g t (empty_image g t)) _ c.loop-n.invariant.placed (record { fits = subst (λ (i : Image). IsImage i) is c.fits.ensures; model = refl; home = refl });
+    }
