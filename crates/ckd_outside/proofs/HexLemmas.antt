@@ -1,13 +1,18 @@
--- The hex text of what is left, one byte on, and at the end.
-use Rattle.std.proofs.Common.{◌≡◌, ◌<◌, ◌+◌, ◌∷◌, [], ◌++◌, ℕ, List, length, drop, get_or, refl}
-use Rattle.std.proofs.lemmas.List.{at_drop_more}
+-- The hex text of some bytes in two parts, and of none.
+use Rattle.std.proofs.Common.{◌≡◌, ◌∷◌, [], ◌++◌, ℕ, List, refl, ap, ◌∙◌}
 use Rattle.hex.specs.Hex.{encode_upper, encode_with}
-
-pub hex_step : (bytes : List ℕ) (i : ℕ) → i < length bytes
-    → encode_upper (drop i bytes) ≡ encode_upper (get_or bytes i 0 ∷ []) ++ encode_upper (drop (i + 1) bytes)
-unfolding encode_with
-hex_step bytes i inside = at_drop_more encode_upper bytes i 0 inside
 
 pub hex_end : encode_upper [] ≡ []
 unfolding encode_with
 hex_end = refl
+
+pub hex_both : (xs ys : List ℕ) → encode_upper (xs ++ ys) ≡ encode_upper xs ++ encode_upper ys
+unfolding encode_with
+hex_both [] ys = refl
+hex_both (x ∷ xs) ys = rw (hex_both xs ys) refl
+
+pub hex_parts : (xs front back : List ℕ) → xs ≡ front ++ back → encode_upper xs ≡ encode_upper front ++ encode_upper back
+hex_parts xs front back is = ap encode_upper is ∙ hex_both front back
+
+pub hex_none : (xs : List ℕ) → xs ≡ [] → encode_upper xs ≡ []
+hex_none xs is = ap encode_upper is ∙ hex_end

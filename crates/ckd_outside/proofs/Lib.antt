@@ -2,3 +2,4 @@ pub mod Written
 pub mod Lines
 pub mod Calls
 pub mod HexLemmas
+pub mod DecimalLengths

@@ -35,3 +35,7 @@ pub record Stops (old : Option (List ℕ)) (waited : List ℕ) (new : Option (Li
 abbrev pub Puts : {T E : Type 0} → Option (List ℕ) → List ℕ → Option (List ℕ) → List ℕ → Result T E → List ℕ → Type 0
 Puts old waited new waits (Ok x) text = Moves old waited new waits text
 Puts old waited new waits (Err e) text = Stops old waited new waits text
+
+-- how many bytes wait in a buffer at most
+abbrev pub buffer_size : ℕ
+buffer_size = 32768

@@ -102,18 +102,18 @@ fn lines_reach_a_slow_sink(rt: HostRuntime) -> Result<(), Fail> {
 
 #[test]
 fn long_texts_pass_the_buffer(rt: HostRuntime) -> Result<(), Fail> {
-    let mut sink = MemSink::new(rt.alloc(), 20000, 3000, &[])?;
+    let mut sink = MemSink::new(rt.alloc(), 130000, 30000, &[])?;
     let mut buffer = LineBuffer::new();
     let pieces = [
         Piece::Byte(0xc5),
-        Piece::Text(&[b'x'; 5000]),
-        Piece::Hex(&[0x3f; 5000]),
+        Piece::Text(&[b'x'; 40000]),
+        Piece::Hex(&[0x3f; 40000]),
     ];
     assert_eq!(rt; write_pieces(&mut sink, &mut buffer, &pieces), Ok(()));
     assert_eq!(rt; flush(&mut sink, &mut buffer), Ok(()));
-    assert_eq!(rt; sink.bytes().len(), 15002);
+    assert_eq!(rt; sink.bytes().len(), 120002);
     assert_eq!(rt; &sink.bytes()[..3], b"C5x".as_slice());
-    assert_eq!(rt; &sink.bytes()[5000..5005], b"xx3F3".as_slice());
-    assert_eq!(rt; &sink.bytes()[15000..], b"3F".as_slice());
+    assert_eq!(rt; &sink.bytes()[40000..40005], b"xx3F3".as_slice());
+    assert_eq!(rt; &sink.bytes()[120000..], b"3F".as_slice());
     Ok(())
 }

@@ -1,20 +1,24 @@
-ghost use Rattle.std.specs.Prelude.{◌≡◌};
-ghost use Rattle.std.specs.List.{flat_map};
+ghost use Rattle.std.specs.Prelude.{◌≡◌, ◌≤◌, ◌+◌, ◌++◌, codes, decimal, length};
+ghost use Rattle.hex.specs.Hex.{encode_upper};
 ghost use Rattle.ckd_outside.specs.Causes.{HasCause};
-ghost use Rattle.ckd_outside.specs.Texts.{Puts, Writes};
-ghost use Rattle.deck_runner.specs.Report.{note_text, status_line, data_line, sense_line, over_line, end_lines, accepted_line, running_line, done_line, step_idle_line, run_idle_line, event_lines, finish_line, report_text};
+ghost use Rattle.ckd_outside.specs.Texts.{Puts, Writes, buffer_size};
+ghost use Rattle.deck_runner.specs.Report.{note_text, status_line, data_line, sense_line, over_line, end_lines, accepted_line, event_lines, report_text};
 
-use ckd_outside::{Failed, LineBuffer, Piece, Sink, flush, write_pieces};
+use ckd_outside::{
+    Failed, LineBuffer, Sink, Spelling, make_room, put_all, put_hex, put_text, write_out,
+};
 use ckd_types::{Bytes, CommandEnd, Note, Sense};
 use plain_run::RunEvent;
 
-fn note_text(note: Note) -> &'static [u8]
-    ensures { result.now ≡ note_text note }
+fn put_note(buffer: &mut LineBuffer, note: Note)
+    requires room { length buffer.old + 5 ≤ buffer_size }
+    ensures text { buffer.new ≡ buffer.old ++ note_text note }
+    ensures len { length buffer.new ≤ length buffer.old + 5 }
 {
     match note {
-        Note::Plain => b"-",
-        Note::IncorrectLength => b"IL",
-        Note::Limit => b"LIMIT",
+        Note::Plain => buffer.put(b"-"),
+        Note::IncorrectLength => buffer.put(b"IL"),
+        Note::Limit => buffer.put(b"LIMIT"),
     }
 }
 
@@ -28,20 +32,35 @@ fn write_status<K: Sink>(
     ensures bytes { Puts (K.held sink.old) buffer.old (K.held sink.new) buffer.new result (status_line ordinal end.now) }
     ensures cause { HasCause (K.faults sink.old) (K.faults sink.new) result }
 {
-    let pieces = [
-        Piece::Text(b"END 1 0 "),
-        Piece::Number(u64::from(ordinal)),
-        Piece::Text(b" "),
-        Piece::Number(u64::from(end.index)),
-        Piece::Text(b" "),
-        Piece::Byte(end.status.0),
-        Piece::Text(b" "),
-        Piece::Number(u64::from(end.residual)),
-        Piece::Text(b" "),
-        Piece::Text(note_text(end.note)),
-        Piece::Text(b"\n"),
-    ];
-    write_pieces(sink, buffer, &pieces)
+    make_room(sink, buffer, 96)?;
+    buffer.put(b"END 1 0 ");
+    buffer.put_number(u64::from(ordinal));
+    buffer.put(b" ");
+    buffer.put_number(u64::from(end.index));
+    buffer.put(b" ");
+    buffer.put_byte(end.status.0);
+    buffer.put(b" ");
+    buffer.put_number(u64::from(end.residual));
+    buffer.put(b" ");
+    put_note(buffer, end.note);
+    buffer.put(b"\n");
+    Ok(())
+}
+
+/// Writes a word, the digits of bytes, and the line's end.
+fn write_bytes<const N: usize, K: Sink>(
+    sink: &mut K,
+    buffer: &mut LineBuffer,
+    word: &[u8; N],
+    bytes: &[u8],
+) -> Result<(), Failed>
+    requires short { N ≤ buffer_size }
+    ensures bytes { Puts (K.held sink.old) buffer.old (K.held sink.new) buffer.new result (word.now ++ (encode_upper bytes.now ++ codes "\n")) }
+    ensures cause { HasCause (K.faults sink.old) (K.faults sink.new) result }
+{
+    put_text(sink, buffer, word)?;
+    put_hex(sink, buffer, bytes)?;
+    put_text(sink, buffer, b"\n")
 }
 
 #[tactic(auto, unfolding(crate::specs::Report::data_line))]
@@ -52,12 +71,7 @@ fn write_data<K: Sink>(sink: &mut K, buffer: &mut LineBuffer, sent: &Bytes) -> R
     if sent.is_empty() {
         return Ok(());
     }
-    let pieces = [
-        Piece::Text(b"DATA "),
-        Piece::Hex(sent.as_slice()),
-        Piece::Text(b"\n"),
-    ];
-    write_pieces(sink, buffer, &pieces)
+    write_bytes(sink, buffer, b"DATA ", sent.as_slice())
 }
 
 #[tactic(auto, unfolding(crate::specs::Report::sense_line))]
@@ -69,15 +83,29 @@ fn write_sense<K: Sink>(
     ensures bytes { Puts (K.held sink.old) buffer.old (K.held sink.new) buffer.new result (sense_line sense.now) }
     ensures cause { HasCause (K.faults sink.old) (K.faults sink.new) result }
 {
-    let Some(sense) = sense else {
-        return Ok(());
-    };
-    let pieces = [
-        Piece::Text(b"SENSE "),
-        Piece::Hex(&sense.bytes),
-        Piece::Text(b"\n"),
-    ];
-    write_pieces(sink, buffer, &pieces)
+    match sense {
+        Some(sense) => write_bytes(sink, buffer, b"SENSE ", &sense.bytes),
+        None => Ok(()),
+    }
+}
+
+/// Writes a text, a number and another text.
+fn write_number<const N: usize, const M: usize, K: Sink>(
+    sink: &mut K,
+    buffer: &mut LineBuffer,
+    before: &[u8; N],
+    n: u64,
+    behind: &[u8; M],
+) -> Result<(), Failed>
+    requires short { N + M + 20 ≤ buffer_size }
+    ensures bytes { Puts (K.held sink.old) buffer.old (K.held sink.new) buffer.new result (before.now ++ (decimal n ++ behind.now)) }
+    ensures cause { HasCause (K.faults sink.old) (K.faults sink.new) result }
+{
+    make_room(sink, buffer, N + M + 20)?;
+    buffer.put(before);
+    buffer.put_number(n);
+    buffer.put(behind);
+    Ok(())
 }
 
 #[tactic(auto, unfolding(crate::specs::Report::over_line))]
@@ -93,12 +121,7 @@ fn write_over<K: Sink>(
     if !over {
         return Ok(());
     }
-    let pieces = [
-        Piece::Text(b"OVER 1 0 "),
-        Piece::Number(u64::from(ordinal)),
-        Piece::Text(b" FULL\n"),
-    ];
-    write_pieces(sink, buffer, &pieces)
+    write_number(sink, buffer, b"OVER 1 0 ", u64::from(ordinal), b" FULL\n")
 }
 
 fn write_end<K: Sink>(
@@ -125,84 +148,46 @@ fn write_accepted<K: Sink>(
     ensures bytes { Puts (K.held sink.old) buffer.old (K.held sink.new) buffer.new result (accepted_line ordinal) }
     ensures cause { HasCause (K.faults sink.old) (K.faults sink.new) result }
 {
-    let pieces = [
-        Piece::Text(b"START 1 0 ACCEPTED "),
-        Piece::Number(u64::from(ordinal)),
-        Piece::Text(b"\n"),
-    ];
-    write_pieces(sink, buffer, &pieces)
+    write_number(
+        sink,
+        buffer,
+        b"START 1 0 ACCEPTED ",
+        u64::from(ordinal),
+        b"\n",
+    )
 }
 
-#[tactic(auto, unfolding(crate::specs::Report::running_line))]
-fn write_running<K: Sink>(sink: &mut K, buffer: &mut LineBuffer) -> Result<(), Failed>
-    ensures bytes { Puts (K.held sink.old) buffer.old (K.held sink.new) buffer.new result running_line }
-    ensures cause { HasCause (K.faults sink.old) (K.faults sink.new) result }
-{
-    write_pieces(sink, buffer, &[Piece::Text(b"START 1 0 RUNNING\n")])
-}
+/// How a report is spelled.
+pub struct ReportSpelling;
 
-#[tactic(auto, unfolding(crate::specs::Report::done_line))]
-fn write_done<K: Sink>(sink: &mut K, buffer: &mut LineBuffer) -> Result<(), Failed>
-    ensures bytes { Puts (K.held sink.old) buffer.old (K.held sink.new) buffer.new result done_line }
-    ensures cause { HasCause (K.faults sink.old) (K.faults sink.new) result }
-{
-    write_pieces(sink, buffer, &[Piece::Text(b"START 1 0 DONE\n")])
-}
+impl Spelling<RunEvent> for ReportSpelling {
+    ghost text = { event_lines };
 
-#[tactic(auto, unfolding(crate::specs::Report::step_idle_line))]
-fn write_step_idle<K: Sink>(sink: &mut K, buffer: &mut LineBuffer) -> Result<(), Failed>
-    ensures bytes { Puts (K.held sink.old) buffer.old (K.held sink.new) buffer.new result step_idle_line }
-    ensures cause { HasCause (K.faults sink.old) (K.faults sink.new) result }
-{
-    write_pieces(sink, buffer, &[Piece::Text(b"STEP 0 IDLE\n")])
-}
-
-#[tactic(auto, unfolding(crate::specs::Report::run_idle_line))]
-fn write_run_idle<K: Sink>(sink: &mut K, buffer: &mut LineBuffer) -> Result<(), Failed>
-    ensures bytes { Puts (K.held sink.old) buffer.old (K.held sink.new) buffer.new result run_idle_line }
-    ensures cause { HasCause (K.faults sink.old) (K.faults sink.new) result }
-{
-    write_pieces(sink, buffer, &[Piece::Text(b"RUN 0 IDLE\n")])
-}
-
-#[tactic(auto, unfolding(crate::specs::Report::finish_line))]
-fn write_finish<K: Sink>(sink: &mut K, buffer: &mut LineBuffer) -> Result<(), Failed>
-    ensures bytes { Puts (K.held sink.old) buffer.old (K.held sink.new) buffer.new result finish_line }
-    ensures cause { HasCause (K.faults sink.old) (K.faults sink.new) result }
-{
-    write_pieces(sink, buffer, &[Piece::Text(b"FINISH\n")])
-}
-
-fn write_event<K: Sink>(
-    sink: &mut K,
-    buffer: &mut LineBuffer,
-    event: &RunEvent,
-) -> Result<(), Failed>
-    ensures bytes { Puts (K.held sink.old) buffer.old (K.held sink.new) buffer.new result (event_lines event.now) }
-    ensures cause { HasCause (K.faults sink.old) (K.faults sink.new) result }
-{
-    match event {
-        RunEvent::Accepted(ordinal) => write_accepted(sink, buffer, *ordinal),
-        RunEvent::AlreadyRunning => write_running(sink, buffer),
-        RunEvent::PlanDone => write_done(sink, buffer),
-        RunEvent::Ended { ordinal, end } => write_end(sink, buffer, *ordinal, end),
-        RunEvent::StepIdle => write_step_idle(sink, buffer),
-        RunEvent::RunIdle => write_run_idle(sink, buffer),
+    #[tactic(auto, unfolding(crate::specs::Report::running_line, crate::specs::Report::done_line, crate::specs::Report::step_idle_line, crate::specs::Report::run_idle_line))]
+    fn put<K: Sink>(sink: &mut K, buffer: &mut LineBuffer, it: &RunEvent) -> Result<(), Failed> {
+        match it {
+            RunEvent::Accepted(ordinal) => write_accepted(sink, buffer, *ordinal),
+            RunEvent::AlreadyRunning => put_text(sink, buffer, b"START 1 0 RUNNING\n"),
+            RunEvent::PlanDone => put_text(sink, buffer, b"START 1 0 DONE\n"),
+            RunEvent::Ended { ordinal, end } => write_end(sink, buffer, *ordinal, end),
+            RunEvent::StepIdle => put_text(sink, buffer, b"STEP 0 IDLE\n"),
+            RunEvent::RunIdle => put_text(sink, buffer, b"RUN 0 IDLE\n"),
+        }
     }
 }
 
-fn write_events<K: Sink>(
-    sink: &mut K,
-    buffer: &mut LineBuffer,
-    events: &[RunEvent],
-) -> Result<(), Failed>
-    ensures bytes { Puts (K.held sink.old) buffer.old (K.held sink.new) buffer.new result (flat_map event_lines events.now) }
-    ensures cause { HasCause (K.faults sink.old) (K.faults sink.new) result }
-{
-    for event in events {
-        write_event(sink, buffer, event)?;
+impl<'a> Spelling<&'a [RunEvent]> for ReportSpelling {
+    ghost text = { λ events. report_text events.now };
+
+    #[tactic(auto, unfolding(crate::specs::Report::finish_line))]
+    fn put<K: Sink>(
+        sink: &mut K,
+        buffer: &mut LineBuffer,
+        it: &&'a [RunEvent],
+    ) -> Result<(), Failed> {
+        put_all::<ReportSpelling, RunEvent, K>(sink, buffer, it)?;
+        put_text(sink, buffer, b"FINISH\n")
     }
-    Ok(())
 }
 
 /// Writes the report of a run, event by event.
@@ -210,8 +195,5 @@ pub fn write_report<K: Sink>(sink: &mut K, events: &[RunEvent]) -> Result<(), Fa
     ensures bytes { Writes (K.held sink.old) (K.held sink.new) result (report_text events.now) }
     ensures cause { HasCause (K.faults sink.old) (K.faults sink.new) result }
 {
-    let mut buffer = LineBuffer::new();
-    write_events(sink, &mut buffer, events)?;
-    write_finish(sink, &mut buffer)?;
-    flush(sink, &mut buffer)
+    write_out::<ReportSpelling, &[RunEvent], K>(sink, &events)
 }

@@ -6,7 +6,7 @@ ghost use Rattle.deck_text.specs.Canonical.{bytes_text, ccw_text, end_text, line
 
 use crate::PlannedProgram;
 use crate::write_lines::{write_end, write_program_line};
-use ckd_outside::{Failed, LineBuffer, Piece, Sink, write_pieces};
+use ckd_outside::{Failed, LineBuffer, Piece, Sink, Spelling, put_all, write_pieces};
 use ckd_types::Ccw;
 
 #[tactic(auto, unfolding(crate::specs::Canonical::word_text))]
@@ -63,14 +63,15 @@ fn write_ccw<K: Sink>(sink: &mut K, buffer: &mut LineBuffer, ccw: &Ccw) -> Resul
     write_behind_word(sink, buffer, ccw.given.as_slice())
 }
 
-fn write_ccws<K: Sink>(sink: &mut K, buffer: &mut LineBuffer, ccws: &[Ccw]) -> Result<(), Failed>
-    ensures bytes { Puts (K.held sink.old) buffer.old (K.held sink.new) buffer.new result (flat_map ccw_text ccws.now) }
-    ensures cause { HasCause (K.faults sink.old) (K.faults sink.new) result }
-{
-    for ccw in ccws {
-        write_ccw(sink, buffer, ccw)?;
+/// How a channel command word is spelled in a deck.
+pub struct CcwSpelling;
+
+impl Spelling<Ccw> for CcwSpelling {
+    ghost text = { ccw_text };
+
+    fn put<K: Sink>(sink: &mut K, buffer: &mut LineBuffer, it: &Ccw) -> Result<(), Failed> {
+        write_ccw(sink, buffer, it)
     }
-    Ok(())
 }
 
 fn write_behind_program<K: Sink>(
@@ -81,7 +82,7 @@ fn write_behind_program<K: Sink>(
     ensures bytes { Puts (K.held sink.old) buffer.old (K.held sink.new) buffer.new result (flat_map ccw_text ccws.now ++ end_text) }
     ensures cause { HasCause (K.faults sink.old) (K.faults sink.new) result }
 {
-    write_ccws(sink, buffer, ccws)?;
+    put_all::<CcwSpelling, Ccw, K>(sink, buffer, ccws)?;
     write_end(sink, buffer)
 }
 

@@ -7,4 +7,4 @@ returns-in_err-write_events_line-clause-bytes g c =
 
 pub returns-clause-bytes : goal.returns-clause-bytes
 returns-clause-bytes g c =
-    puts_then _ _ _ _ _ _ _ _ _ c.in_ok-write_events_line.ensures.bytes (rw (c.as_slice.ensures, c.schedule.ensures) at c.write_events.ensures.bytes)
+    puts_then _ _ _ _ _ _ _ _ _ c.in_ok-write_events_line.ensures.bytes (rw (c.as_slice.ensures, c.schedule.ensures) at c.put_all.ensures.bytes)
