@@ -240,7 +240,7 @@ acted_at_paths acts p None = refl
 
 module _ (path : ℕ) (ccws : List Ccw) (acts : List Acted) (built : All IsBuilt ccws) where
   stepped_owner : (p : Part) (next : Option ℕ) → (stepped_at path ccws p next).state.paths.owner ≡ p.state.paths.owner
-  stepped_owner p (Some i) = command_owner (fixed_of p.state) p.state.paths (track_in p.state.volume) path p.stance (ccw_at ccws i) (built_at ccws built i)
+  stepped_owner p (Some i) = command_owner p.fixed p.state.paths (track_in p.state.volume) path p.stance (ccw_at ccws i) (built_at ccws built i)
   stepped_owner p None = refl
 
   acted_owner : (p : Part) → (acted acts p).state.paths.owner ≡ p.state.paths.owner

@@ -19,17 +19,18 @@ use Rattle.plain_defs.specs.Program.{Part, first_part, acts_at, with_act, with_a
 
 -- the same place in the program, with the same ends
 pub record IsBeside (p q : Part) : Type 0 where
+  pub fixed : q.fixed ≡ p.fixed
   pub stance : q.stance ≡ p.stance
   pub next : q.next ≡ p.next
   pub ends : q.ends ≡ p.ends
 
 with_acts_beside : (acts : List Act) (p : Part) → IsBeside p (with_acts acts p)
-with_acts_beside [] p = record { stance = refl; next = refl; ends = refl }
-with_acts_beside (act ∷ acts) p = let rest = with_acts_beside acts (with_act p act) in record { stance = rest.stance; next = rest.next; ends = rest.ends }
+with_acts_beside [] p = record { fixed = refl; stance = refl; next = refl; ends = refl }
+with_acts_beside (act ∷ acts) p = let rest = with_acts_beside acts (with_act p act) in record { fixed = rest.fixed; stance = rest.stance; next = rest.next; ends = rest.ends }
 
 acted_at_beside : (acts : List Acted) (p : Part) (next : Option ℕ) → IsBeside p (acted_at acts p next)
 acted_at_beside acts p (Some i) = with_acts_beside (acts_at acts (length p.ends)) p
-acted_at_beside acts p None = record { stance = refl; next = refl; ends = refl }
+acted_at_beside acts p None = record { fixed = refl; stance = refl; next = refl; ends = refl }
 
 -- acts change neither the place nor the ends
 pub acted_beside : (acts : List Acted) (p : Part) → IsBeside p (acted acts p)
@@ -50,13 +51,13 @@ module _ (path : ℕ) (ccws : List Ccw) (acts : List Acted) where
       ap (λ (q : Part). acted acts q) here ∙ ap (λ (next : Option ℕ). acted_at acts p next) none
 
   -- else there is one end more
-  pub more_ends : (p : Part) (i : ℕ) → p.next ≡ Some i → (one_more path ccws acts p).ends ≡ p.ends ++ end_of i (ccw_at ccws i) (effect_on p.state path p.stance (ccw_at ccws i)).outcome ∷ []
+  pub more_ends : (p : Part) (i : ℕ) → p.next ≡ Some i → (one_more path ccws acts p).ends ≡ p.ends ++ end_of i (ccw_at ccws i) (effect_on p.fixed p.state path p.stance (ccw_at ccws i)).outcome ∷ []
   more_ends p i is = (acted_beside acts (stepped path ccws p)).ends ∙ ap (λ (next : Option ℕ). (stepped_at path ccws p next).ends) is
 
-  pub more_next : (p : Part) (i : ℕ) → p.next ≡ Some i → (one_more path ccws acts p).next ≡ goes_to ccws i (effect_on p.state path p.stance (ccw_at ccws i)).outcome
+  pub more_next : (p : Part) (i : ℕ) → p.next ≡ Some i → (one_more path ccws acts p).next ≡ goes_to ccws i (effect_on p.fixed p.state path p.stance (ccw_at ccws i)).outcome
   more_next p i is = (acted_beside acts (stepped path ccws p)).next ∙ ap (λ (next : Option ℕ). (stepped_at path ccws p next).next) is
 
-  pub more_stance : (p : Part) (i : ℕ) → p.next ≡ Some i → (one_more path ccws acts p).stance ≡ (effect_on p.state path p.stance (ccw_at ccws i)).outcome.stance
+  pub more_stance : (p : Part) (i : ℕ) → p.next ≡ Some i → (one_more path ccws acts p).stance ≡ (effect_on p.fixed p.state path p.stance (ccw_at ccws i)).outcome.stance
   more_stance p i is = (acted_beside acts (stepped path ccws p)).stance ∙ ap (λ (next : Option ℕ). (stepped_at path ccws p next).stance) is
 
   module _ (state : PlainState) where
@@ -82,7 +83,7 @@ module _ (path : ℕ) (ccws : List Ccw) (acts : List Acted) where
         let same = over_stays p is in
         subst (λ (q : Part). Counts (suc k) q) (sym same) (record { most = omega (arith, c.most); all = λ some. absurd (subst (λ (n : Option ℕ). IsSome n → ⊥) (sym is) (λ none. (cc)) some) })
     counts_more k p (Some i) is c =
-        let e = end_of i (ccw_at ccws i) (effect_on p.state path p.stance (ccw_at ccws i)).outcome in
+        let e = end_of i (ccw_at ccws i) (effect_on p.fixed p.state path p.stance (ccw_at ccws i)).outcome in
         let many : length (one_more path ccws acts p).ends ≡ length p.ends + 1 = ap length (more_ends p i is) ∙ length-append p.ends (e ∷ []) in
         let before : length p.ends ≡ k = c.all (subst (λ (n : Option ℕ). IsSome n) (sym is) refl) in
         record { most = omega (arith, many, before); all = λ some. omega (arith, many, before) }
@@ -95,7 +96,7 @@ module _ (path : ℕ) (ccws : List Ccw) (acts : List Acted) where
     front_more k n le None is = ap (λ (q : Part). take k q.ends) (part_more n ∙ over_stays (part_of state path ccws acts n) is)
     front_more k n le (Some i) is =
         let p = part_of state path ccws acts n in
-        let e = end_of i (ccw_at ccws i) (effect_on p.state path p.stance (ccw_at ccws i)).outcome in
+        let e = end_of i (ccw_at ccws i) (effect_on p.fixed p.state path p.stance (ccw_at ccws i)).outcome in
         let many : length p.ends ≡ n = (part_counts n).all (subst (λ (x : Option ℕ). IsSome x) (sym is) refl) in
         ap (λ (q : Part). take k q.ends) (part_more n) ∙ ap (λ (l : List CommandEnd). take k l) (more_ends p i is) ∙ take-append-le k p.ends (e ∷ []) (omega (arith, many, le))
 
@@ -133,7 +134,7 @@ module _ (path : ℕ) (ccws : List Ccw) (acts : List Acted) where
     over_more : (p : Part) (next : Option ℕ) → p.next ≡ next → (p.next ≡ None → LastIsOver p.ends) → (one_more path ccws acts p).next ≡ None → LastIsOver (one_more path ccws acts p).ends
     over_more p None is earlier none = subst (λ (q : Part). LastIsOver q.ends) (sym (over_stays p is)) (earlier is)
     over_more p (Some i) is earlier none =
-        let o = (effect_on p.state path p.stance (ccw_at ccws i)).outcome in
+        let o = (effect_on p.fixed p.state path p.stance (ccw_at ccws i)).outcome in
         subst LastIsOver (sym (more_ends p i is)) (last_behind p.ends (end_of i (ccw_at ccws i) o) (none_over i o (sym (more_next p i is) ∙ none)))
 
     pub part_over : (k : ℕ) → (part_of state path ccws acts k).next ≡ None → LastIsOver (part_of state path ccws acts k).ends

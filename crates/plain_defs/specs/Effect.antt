@@ -16,7 +16,7 @@ use Rattle.ckd_rules.specs.Ending.{Outcome, refused}
 use Rattle.ckd_rules.specs.Opening.{opening_of}
 use Rattle.ckd_rules.specs.Walk.{TrackEdit, Walked, untouched, walk}
 use Rattle.plain_defs.specs.Acts.{act_fault, act_bytes, paths_after, act_outcome}
-use Rattle.plain_defs.specs.PlainState.{PathsState, PlainState, fixed_of, with_sense}
+use Rattle.plain_defs.specs.PlainState.{PathsState, PlainState, with_sense}
 
 -- how a command came out, the tracks that it looked at in order, its edit, and what is kept of the paths behind it
 pub record Effect : Type 0 where
@@ -51,9 +51,9 @@ effect_by device paths tracks path start c s (Asks act) = acted device paths pat
 abbrev pub command_effect : Fixed → PathsState → (ℕ → Track) → ℕ → Stance → Ccw → Effect
 command_effect device paths tracks path s c = effect_by device paths tracks path s c (opening_of device s c).stance (opening_of device s c).opening
 
--- on a plain device
-abbrev pub effect_on : PlainState → ℕ → Stance → Ccw → Effect
-effect_on state path s c = command_effect (fixed_of state) state.paths (track_in state.volume) path s c
+-- on a plain device, of a program that goes by what the device was when it began
+abbrev pub effect_on : Fixed → PlainState → ℕ → Stance → Ccw → Effect
+effect_on device state path s c = command_effect device state.paths (track_in state.volume) path s c
 
 -- a volume with the edit of a command
 abbrev pub edited_volume : List Track → Option TrackEdit → List Track

@@ -43,7 +43,7 @@ AreActs state edited (Harden t ∷ acts) = (is_loose state t ≡ true) × AreAct
 AreActs state edited (CfwLost ∷ acts) = IsSomeLoose state.loose × AreActs (act_done state CfwLost) edited acts
 
 abbrev pub edit_at : ℕ → List Ccw → Part → Option ℕ → Option TrackEdit
-edit_at path ccws p (Some i) = (effect_on p.state path p.stance (ccw_at ccws i)).edit
+edit_at path ccws p (Some i) = (effect_on p.fixed p.state path p.stance (ccw_at ccws i)).edit
 edit_at path ccws p None = None
 
 -- the edit of the next command

@@ -3,6 +3,7 @@ use Rattle.std.specs.Prelude.{ℕ, zero, suc, ◌==◌, ◌||◌, Bool, List, []
 use Rattle.ckd_types.specs.declared.channel.Ccw.{Ccw}
 use Rattle.ckd_types.specs.declared.channel.CommandEnd.{CommandEnd}
 use Rattle.ckd_types.specs.Ccw.{ccw_at}
+use Rattle.ckd_types.specs.Fixed.{Fixed}
 use Rattle.ckd_types.specs.Sense.{zero_sense}
 use Rattle.ckd_rules.specs.declared.stance.Stance.{Stance}
 use Rattle.ckd_rules.specs.Ends.{end_of, goes_to}
@@ -12,10 +13,11 @@ use Rattle.plain_defs.specs.declared.journal.Acted.{Acted}
 use Rattle.plain_defs.specs.Acknowledged.{Told, told_by_edit, told_by_act}
 use Rattle.plain_defs.specs.Effect.{Effect, effect_on, behind_effect}
 use Rattle.plain_defs.specs.Loose.{act_done}
-use Rattle.plain_defs.specs.PlainState.{PathsState, PlainState, with_sense}
+use Rattle.plain_defs.specs.PlainState.{PathsState, PlainState, fixed_of, with_sense}
 
--- behind some commands of a program: the device, the stance, the word of the next command unless the chain is over, the ends, and what was told of edits
+-- behind some commands of a program: the device and what the program goes by of it, the stance, the word of the next command unless the chain is over, the ends, and what was told of edits
 pub record Part : Type 0 where
+  pub fixed : Fixed
   pub state : PlainState
   pub stance : Stance
   pub next : Option ℕ
@@ -34,7 +36,7 @@ abbrev pub begun : PathsState → ℕ → List Ccw → PathsState
 begun paths path ccws = if starts_with_sense ccws then paths else with_sense paths path (Some zero_sense)
 
 abbrev pub first_part : PlainState → ℕ → List Ccw → Part
-first_part state path ccws = record { state = record state { paths = begun state.paths path ccws }; stance = first_stance; next = Some 0; ends = []; told = [] }
+first_part state path ccws = record { fixed = fixed_of state; state = record state { paths = begun state.paths path ccws }; stance = first_stance; next = Some 0; ends = []; told = [] }
 
 -- the acts that stand behind so many ends
 abbrev pub acts_at : List Acted → ℕ → List Act
@@ -58,7 +60,7 @@ acted acts p = acted_at acts p p.next
 
 -- the command of word i ended
 abbrev pub ended_with : List Ccw → Part → ℕ → Effect → Part
-ended_with ccws p i e = record {
+ended_with ccws p i e = record p {
   state = behind_effect p.state e;
   stance = e.outcome.stance;
   next = goes_to ccws i e.outcome;
@@ -67,7 +69,7 @@ ended_with ccws p i e = record {
 }
 
 abbrev pub stepped_at : ℕ → List Ccw → Part → Option ℕ → Part
-stepped_at path ccws p (Some i) = ended_with ccws p i (effect_on p.state path p.stance (ccw_at ccws i))
+stepped_at path ccws p (Some i) = ended_with ccws p i (effect_on p.fixed p.state path p.stance (ccw_at ccws i))
 stepped_at path ccws p None = p
 
 -- one command more, unless the chain is over
