@@ -1,5 +1,6 @@
 -- Cache fast write on a plain device: tracks that become loose and firm again, and the loss of their data.
 use Rattle.std.specs.Prelude.{ℕ, ◌+◌, ◌==◌, not, Bool, true, false, List, [], ◌∷◌, ◌++◌, slice_set, if◌then◌else◌}
+use Rattle.std.specs.List.{filter}
 use Rattle.ckd_types.specs.declared.record.Track.{Track}
 use Rattle.ckd_types.specs.Volume.{track_in}
 use Rattle.plain_defs.specs.declared.journal.Act.{Act}
@@ -22,14 +23,14 @@ firm_in (l ∷ loose) t plain = if l.track == t then l.firm else firm_in loose t
 abbrev pub firm : PlainState → ℕ → Track
 firm state t = firm_in state.loose t (track_in state.volume t)
 
+-- the others
 abbrev pub without : ℕ → List LooseTrack → List LooseTrack
-without t [] = []
-without t (l ∷ loose) = if l.track == t then loose else l ∷ without t loose
+without t loose = filter (λ (l : LooseTrack). not (l.track == t)) loose
 
 -- each loose track is its firm one again
 abbrev pub restored : List LooseTrack → List Track → List Track
 restored [] v = v
-restored (l ∷ loose) v = restored loose (slice_set v l.track l.firm)
+restored (l ∷ loose) v = slice_set (restored loose v) l.track l.firm
 
 -- the number goes from 65,535 to 0
 abbrev pub next_number : ℕ → ℕ
