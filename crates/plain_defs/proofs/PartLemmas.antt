@@ -69,7 +69,7 @@ module _ (path : ℕ) (ccws : List Ccw) (acts : List Acted) where
     unfolding part_of
     no_ends = (acted_beside acts (first_part state path ccws)).ends
 
-    first_next : (part_of state path ccws acts 0).next ≡ Some 0
+    pub first_next : (part_of state path ccws acts 0).next ≡ Some 0
     unfolding part_of
     first_next = (acted_beside acts (first_part state path ccws)).next
 
