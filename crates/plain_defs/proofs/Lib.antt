@@ -1,8 +1,7 @@
-pub mod EffectLemmas
 pub mod PartLemmas
 mod Rows
 mod GroupRows
-pub mod Laws
 pub mod JournalLaws
-pub mod EndsLaws
+pub mod HistoryLaws
+pub mod LooseLemmas
 pub mod OwnerLemmas

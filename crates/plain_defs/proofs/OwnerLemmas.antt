@@ -1,5 +1,5 @@
 -- The commands that neither take nor free a device: of it they ask nothing but sense and sense ID.
-use Rattle.std.proofs.Common.{◌≡◌, ℕ, ◌<◌, ◌≤◌, List, Option, Some, None, Bool, true, false, cond, Result, Ok, Err, length, refl, sym, subst, inl, inr}
+use Rattle.std.proofs.Common.{◌≡◌, ◌∙◌, ap, ℕ, zero, suc, [], ◌∷◌, ◌<◌, ◌≤◌, List, Option, Some, None, Bool, true, false, cond, Result, Ok, Err, length, refl, sym, subst, inl, inr}
 use Rattle.std.specs.Prelude.{All, ⊤, ◌⊎◌, slice_index, not, nat_lt}
 use Rattle.std.proofs.lemmas.Bool.{cases_lt}
 use Rattle.std.proofs.lemmas.List.{get_or_past}
@@ -18,13 +18,15 @@ use Rattle.ckd_types.specs.declared.command.Write.TheVariants as writes
 use Rattle.ckd_types.specs.declared.parameters.Domain.{Domain}
 use Rattle.ckd_types.specs.declared.parameters.Extent.{Extent}
 use Rattle.ckd_types.specs.declared.parameters.ParamFault.{ParamFault}
+use Rattle.ckd_types.specs.declared.record.Track.{Track}
 use Rattle.ckd_types.specs.declared.sense.Sense.{Sense}
 use Rattle.ckd_types.specs.Ccw.{no_ccw, ccw_at}
 use Rattle.ckd_types.specs.Commands.{command_of, required_count}
 use Rattle.ckd_types.specs.Fixed.{Fixed}
 use Rattle.ckd_types.specs.Mask.{is_mask}
 use Rattle.ckd_types.specs.Parameters.{given, seek_to, head_to, extent_of, domain_of}
-use Rattle.ckd_types.specs.Sense.{reject_sense, file_protected_sense}
+use Rattle.ckd_types.specs.Sense.{zero_sense, reject_sense, file_protected_sense}
+use Rattle.ckd_types.specs.Volume.{track_in}
 use Rattle.ckd_rules.specs.declared.opening.Opening.{Opening}
 use Rattle.ckd_rules.specs.declared.opening.Opening.TheVariants as openings
 use Rattle.ckd_rules.specs.declared.order.LocalAct.{LocalAct}
@@ -42,7 +44,12 @@ use Rattle.ckd_rules.specs.Finding.{track_after}
 use Rattle.ckd_rules.specs.Opening.{moved, read_from, look_from, locating, begun, opened_by, opening_of}
 use Rattle.plain_defs.specs.Built.{is_built, IsBuilt}
 use Rattle.plain_defs.specs.Effect.{effect_by, command_effect}
-use Rattle.plain_defs.specs.PlainState.{PlainState, fixed_of}
+use Rattle.plain_defs.specs.declared.journal.Act.{Act}
+use Rattle.plain_defs.specs.declared.journal.Act.TheVariants.{Loosen, Harden, CfwLost}
+use Rattle.plain_defs.specs.declared.journal.Acted.{Acted}
+use Rattle.plain_defs.specs.Loose.{act_done}
+use Rattle.plain_defs.specs.PlainState.{PathsState, PlainState, fixed_of, with_sense}
+use Rattle.plain_defs.specs.Program.{Part, starts_with_sense, first_part, acts_at, with_act, with_acts, acted_at, acted, stepped_at, stepped, part_of}
 
 -- of the device it asks nothing but sense and sense ID
 abbrev pub IsQuiet : LocalAct → Type 0
@@ -66,16 +73,17 @@ abbrev pub OkQuiet : Result Order Sense → Type 0
 OkQuiet (Ok order) = IsQuietOrder order
 OkQuiet (Err sense) = ⊤
 
-effect_owner : (state : PlainState) (path : ℕ) (start : Stance) (c : Ccw) (s : Stance) (how : Opening) → AsksSense how → (effect_by state path start c s how).state.owner ≡ state.owner
-effect_owner state path start c s (openings.Over e) quiet = refl
-effect_owner state path start c s (openings.Looks look) quiet = refl
-effect_owner state path start c s (openings.Asks acts.Sense) quiet = refl
-effect_owner state path start c s (openings.Asks acts.SenseId) quiet = refl
-effect_owner state path start c s (openings.Asks acts.SenseGroup) quiet = absurd quiet
-effect_owner state path start c s (openings.Asks acts.Reserve) quiet = absurd quiet
-effect_owner state path start c s (openings.Asks acts.Release) quiet = absurd quiet
-effect_owner state path start c s (openings.Asks acts.Steal) quiet = absurd quiet
-effect_owner state path start c s (openings.Asks (acts.SetGroup function id)) quiet = absurd quiet
+effect_owner : (device : Fixed) (paths : PathsState) (tracks : ℕ → Track) (path : ℕ) (start : Stance) (c : Ccw) (s : Stance) (how : Opening) → AsksSense how
+    → (effect_by device paths tracks path start c s how).paths.owner ≡ paths.owner
+effect_owner device paths tracks path start c s (openings.Over e) quiet = refl
+effect_owner device paths tracks path start c s (openings.Looks look) quiet = refl
+effect_owner device paths tracks path start c s (openings.Asks acts.Sense) quiet = refl
+effect_owner device paths tracks path start c s (openings.Asks acts.SenseId) quiet = refl
+effect_owner device paths tracks path start c s (openings.Asks acts.SenseGroup) quiet = absurd quiet
+effect_owner device paths tracks path start c s (openings.Asks acts.Reserve) quiet = absurd quiet
+effect_owner device paths tracks path start c s (openings.Asks acts.Release) quiet = absurd quiet
+effect_owner device paths tracks path start c s (openings.Asks acts.Steal) quiet = absurd quiet
+effect_owner device paths tracks path start c s (openings.Asks (acts.SetGroup function id)) quiet = absurd quiet
 
 -- Decoding.
 
@@ -199,8 +207,8 @@ module _ (f : Fixed) (s : Stance) (c : Ccw) where
   pub opening_quiet : IsBuilt c → AsksSense (opening_of f s c).opening
   opening_quiet built = opened_quiet (order_of f s c) (order_quiet (command_of c.command) built)
 
-pub command_owner : (state : PlainState) (path : ℕ) (s : Stance) (c : Ccw) → IsBuilt c → (command_effect state path s c).state.owner ≡ state.owner
-command_owner state path s c built = effect_owner state path s c (opening_of (fixed_of state) s c).stance (opening_of (fixed_of state) s c).opening (opening_quiet (fixed_of state) s c built)
+pub command_owner : (device : Fixed) (paths : PathsState) (tracks : ℕ → Track) (path : ℕ) (s : Stance) (c : Ccw) → IsBuilt c → (command_effect device paths tracks path s c).paths.owner ≡ paths.owner
+command_owner device paths tracks path s c built = effect_owner device paths tracks path s c (opening_of device s c).stance (opening_of device s c).opening (opening_quiet device s c built)
 
 -- past the end of a program stands no command
 nothing_built : IsBuilt no_ccw
@@ -212,3 +220,36 @@ built_at ccws built i = by_place (cases_lt i (length ccws)) where
   by_place : (i < length ccws) ⊎ (length ccws ≤ i) → IsBuilt (ccw_at ccws i)
   by_place (inl inside) = All-get_or IsBuilt ccws i no_ccw inside built
   by_place (inr outside) = subst IsBuilt (sym (get_or_past ccws i no_ccw outside)) nothing_built
+
+begun_by : (b : Bool) (paths : PathsState) (path : ℕ) → (cond b paths (with_sense paths path (Some zero_sense))).owner ≡ paths.owner
+begun_by true paths path = refl
+begun_by false paths path = refl
+
+act_owner : (state : PlainState) (act : Act) → (act_done state act).paths ≡ state.paths
+act_owner state (Loosen t) = refl
+act_owner state (Harden t) = refl
+act_owner state CfwLost = refl
+
+with_acts_paths : (acts : List Act) (p : Part) → (with_acts acts p).state.paths ≡ p.state.paths
+with_acts_paths [] p = refl
+with_acts_paths (act ∷ acts) p = with_acts_paths acts (with_act p act) ∙ act_owner p.state act
+
+acted_at_paths : (acts : List Acted) (p : Part) (next : Option ℕ) → (acted_at acts p next).state.paths ≡ p.state.paths
+acted_at_paths acts p (Some i) = with_acts_paths (acts_at acts (length p.ends)) p
+acted_at_paths acts p None = refl
+
+module _ (path : ℕ) (ccws : List Ccw) (acts : List Acted) (built : All IsBuilt ccws) where
+  stepped_owner : (p : Part) (next : Option ℕ) → (stepped_at path ccws p next).state.paths.owner ≡ p.state.paths.owner
+  stepped_owner p (Some i) = command_owner p.fixed p.state.paths (track_in p.state.volume) path p.stance (ccw_at ccws i) (built_at ccws built i)
+  stepped_owner p None = refl
+
+  acted_owner : (p : Part) → (acted acts p).state.paths.owner ≡ p.state.paths.owner
+  acted_owner p = ap (λ (x : PathsState). x.owner) (acted_at_paths acts p p.next)
+
+  -- a program without reservation and path group commands neither takes nor frees the device
+  pub part_owner : (state : PlainState) (k : ℕ) → (part_of state path ccws acts k).state.paths.owner ≡ state.paths.owner
+  unfolding part_of
+  part_owner state zero = acted_owner (first_part state path ccws) ∙ begun_by (starts_with_sense ccws) state.paths path
+  part_owner state (suc k) =
+      let p = part_of state path ccws acts k in
+      acted_owner (stepped path ccws p) ∙ stepped_owner p p.next ∙ part_owner state k

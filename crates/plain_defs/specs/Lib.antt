@@ -1,8 +1,12 @@
 pub mod PlainState
 pub mod Acts
 pub mod Effect
-pub mod Chain
+pub mod Loose
+pub mod Acknowledged
+pub mod Program
 pub mod Entry
 pub mod Journal
+pub mod Legal
+pub mod History
 pub mod Ends
 pub mod Built

@@ -14,11 +14,13 @@ use Rattle.ckd_rules.specs.declared.grouping.GroupFault.{GroupFault}
 use Rattle.ckd_rules.specs.declared.order.LocalAct.{LocalAct}
 use Rattle.ckd_rules.specs.declared.order.LocalAct.TheVariants as acts
 use Rattle.ckd_rules.specs.Ending.{Outcome}
+use Rattle.ckd_rules.specs.Walk.{TrackEdit}
+use Rattle.ckd_types.specs.Fixed.{Fixed}
 use Rattle.plain_defs.specs.Acts.{act_fault}
-use Rattle.plain_defs.specs.Effect.{acted_by, acted}
-use Rattle.plain_defs.specs.PlainState.{PlainState, with_sense}
-use Rattle.plain_device.specs.Acted.{settled_with, settled_act, device_with, device_after}
-use Rattle.plain_device.specs.Between.{EndsBy}
+use Rattle.plain_defs.specs.Effect.{Effect, acted_by, acted, edited_volume}
+use Rattle.plain_defs.specs.PlainState.{PathsState, PlainState, with_sense}
+use Rattle.plain_device.specs.Acted.{settled_with, settled_act, paths_with, paths_behind}
+use Rattle.plain_device.specs.Between.{EndsBy, fixed_with}
 use Rattle.plain_device.specs.Looking.{IsAtAnswer, stage_effect}
 
 abbrev pub at_act : ChainState → LocalAct → ChainState
@@ -44,8 +46,8 @@ asks_for s (Some (Asks a)) stage_is at progress then_chain act progress_is chain
 asks_for s (Some (Looks look)) stage_is at progress then_chain act progress_is chain_is is = absurd at
 asks_for s None stage_is at progress then_chain act progress_is chain_is is = absurd at
 
-module _ (d : PlainState) (path : ℕ) (b : ChainState) where
-  outcome_by : (act : LocalAct) (fault : Option GroupFault) → settled_by (at_act b act) (settled_with d path act fault) ≡ (acted_by d path b.before.stance (word_of b) act fault).outcome
+module _ (f : Fixed) (paths : PathsState) (path : ℕ) (b : ChainState) where
+  outcome_by : (act : LocalAct) (fault : Option GroupFault) → settled_by (at_act b act) (settled_with f.geometry paths path act fault) ≡ (acted_by f paths path b.before.stance (word_of b) act fault).outcome
   outcome_by act (Some fault) = refl
   outcome_by acts.Sense None = refl
   outcome_by acts.SenseId None = refl
@@ -55,18 +57,22 @@ module _ (d : PlainState) (path : ℕ) (b : ChainState) where
   outcome_by (acts.SetGroup function id) None = refl
   outcome_by acts.SenseGroup None = refl
 
-  state_by : (act : LocalAct) (fault : Option GroupFault)
-      → with_sense (device_with d path act fault) path (acted_by d path b.before.stance (word_of b) act fault).outcome.ending.sense ≡ (acted_by d path b.before.stance (word_of b) act fault).state
-  state_by act (Some fault) = refl
-  state_by acts.Sense None = refl
-  state_by acts.SenseId None = refl
-  state_by acts.Reserve None = refl
-  state_by acts.Release None = refl
-  state_by acts.Steal None = refl
-  state_by (acts.SetGroup function id) None = refl
-  state_by acts.SenseGroup None = refl
+  paths_by : (act : LocalAct) (fault : Option GroupFault)
+      → with_sense (paths_with paths path act fault) path (acted_by f paths path b.before.stance (word_of b) act fault).outcome.ending.sense ≡ (acted_by f paths path b.before.stance (word_of b) act fault).paths
+  paths_by act (Some fault) = refl
+  paths_by acts.Sense None = refl
+  paths_by acts.SenseId None = refl
+  paths_by acts.Reserve None = refl
+  paths_by acts.Release None = refl
+  paths_by acts.Steal None = refl
+  paths_by (acts.SetGroup function id) None = refl
+  paths_by acts.SenseGroup None = refl
 
-  may_by : (act : LocalAct) (fault : Option GroupFault) → act_fault d path act ≡ fault → MaySettle (at_act b act) (settled_with d path act fault)
+  edit_by : (act : LocalAct) (fault : Option GroupFault) → (acted_by f paths path b.before.stance (word_of b) act fault).edit ≡ None
+  edit_by act (Some fault) = refl
+  edit_by act None = refl
+
+  may_by : (act : LocalAct) (fault : Option GroupFault) → act_fault paths path act ≡ fault → MaySettle (at_act b act) (settled_with f.geometry paths path act fault)
   may_by (acts.SetGroup function id) (Some fault) is = refl
   may_by acts.Sense (Some fault) is = absurd (cc)
   may_by acts.SenseId (Some fault) is = absurd (cc)
@@ -82,32 +88,41 @@ module _ (d : PlainState) (path : ℕ) (b : ChainState) where
   may_by (acts.SetGroup function id) None is = refl
   may_by acts.SenseGroup None is = refl
 
-  star_answered : (act : LocalAct) (last : ChainState) (how : Settled) (middle after : PlainState) (e : CommandEnd) → how ≡ settled_act d path act → middle ≡ device_after d path act
-      → e ≡ end_with (at_act b act) (settled_by (at_act b act) how) → last ≡ behind (at_act b act) (settled_by (at_act b act) how) → after ≡ with_sense middle path e.sense → last.at.stance.commands ≡ b.before.stance.commands + 1
-      → EndsBy after (at_act b act) last e (acted d path b.before.stance (word_of b) act)
-  star_answered act last how middle after e how_is middle_is end_is last_is after_is counted =
-      let fault = act_fault d path act in
-      let out : settled_by (at_act b act) how ≡ (acted d path b.before.stance (word_of b) act).outcome = ap (λ (x : Settled). settled_by (at_act b act) x) how_is ∙ outcome_by act fault in
-      let ends : e ≡ end_with (at_act b act) (acted d path b.before.stance (word_of b) act).outcome = end_is ∙ ap (λ (o : Outcome). end_with (at_act b act) o) out in record {
+module _ (d : PlainState) (path : ℕ) where
+  -- what the device's paths make of an act of a chain on it
+  abbrev act_effect : ChainState → LocalAct → Effect
+  act_effect s act = acted (fixed_with d s.fixed.number) d.paths path (start_of s).stance (word_of s) act
+
+  star_answered : (b : ChainState) (act : LocalAct) (last : ChainState) (how : Settled) (middle : PathsState) (after : PlainState) (e : CommandEnd) → how ≡ settled_act d.geometry d.paths path act → middle ≡ paths_behind d.paths path act
+      → e ≡ end_with (at_act b act) (settled_by (at_act b act) how) → last ≡ behind (at_act b act) (settled_by (at_act b act) how) → after ≡ record d { paths = with_sense middle path e.sense }
+      → last.at.stance.commands ≡ b.before.stance.commands + 1 → EndsBy d after (at_act b act) last e (act_effect (at_act b act) act)
+  star_answered b act last how middle after e how_is middle_is end_is last_is after_is counted =
+      let f = fixed_with d b.fixed.number in
+      let fault = act_fault d.paths path act in
+      let made = acted f d.paths path b.before.stance (word_of b) act in
+      let out : settled_by (at_act b act) how ≡ made.outcome = ap (λ (x : Settled). settled_by (at_act b act) x) how_is ∙ outcome_by f d.paths path b act fault in
+      let ends : e ≡ end_with (at_act b act) made.outcome = end_is ∙ ap (λ (o : Outcome). end_with (at_act b act) o) out in record {
         end_is = ends;
         device_is =
             after_is
-            ∙ ap (λ (x : PlainState). with_sense x path e.sense) middle_is
-            ∙ ap (λ (x : CommandEnd). with_sense (device_after d path act) path x.sense) ends
-            ∙ state_by act fault;
+            ∙ ap (λ (x : PathsState). record d { paths = with_sense x path e.sense }) middle_is
+            ∙ ap (λ (x : CommandEnd). record d { paths = with_sense (paths_behind d.paths path act) path x.sense }) ends
+            ∙ ap (λ (x : PathsState). record d { paths = x }) (paths_by f d.paths path b act fault)
+            ∙ ap (λ (x : Option TrackEdit). record d { volume = edited_volume d.volume x; paths = made.paths }) (sym (edit_by f d.paths path b act fault));
         chain_is = last_is ∙ ap (λ (o : Outcome). behind (at_act b act) o) out;
         counted = counted;
       }
 
-pub may_settle : (d : PlainState) (path : ℕ) (s then_chain : ChainState) (act : LocalAct) (how : Settled) → AsksFor s act then_chain → how ≡ settled_act d path act → MaySettle then_chain how
-may_settle d path s then_chain act how asks how_is =
-    subst (λ (x : ChainState). MaySettle x how) (sym (asks.chain ∙ asks.is)) (subst (λ (h : Settled). MaySettle (at_act s act) h) (sym how_is) (may_by d path s act (act_fault d path act) refl))
+  pub may_settle : (s then_chain : ChainState) (act : LocalAct) (how : Settled) → AsksFor s act then_chain → how ≡ settled_act d.geometry d.paths path act → MaySettle then_chain how
+  may_settle s then_chain act how asks how_is =
+      subst (λ (x : ChainState). MaySettle x how) (sym (asks.chain ∙ asks.is))
+      (subst (λ (h : Settled). MaySettle (at_act s act) h) (sym how_is) (may_by (fixed_with d 0) d.paths path s act (act_fault d.paths path act) refl))
 
-pub answered_ends : (d : PlainState) (path : ℕ) (s then_chain : ChainState) (act : LocalAct) → AsksFor s act then_chain → (last : ChainState) (how : Settled) (middle after : PlainState) (e : CommandEnd) → how ≡ settled_act d path act
-    → middle ≡ device_after d path act → e ≡ end_with then_chain (settled_by then_chain how) → last ≡ behind then_chain (settled_by then_chain how) → after ≡ with_sense middle path e.sense
-    → last.at.stance.commands ≡ (start_of then_chain).stance.commands + 1 → EndsBy after s last e (stage_effect d path s s.stage)
-answered_ends d path s then_chain act asks last how middle after e how_is middle_is end_is last_is after_is counted =
-    let here : then_chain ≡ at_act s act = asks.chain ∙ asks.is in
-    subst (λ (x : ChainState). EndsBy after x last e (stage_effect d path x x.stage)) (sym asks.is)
-    (star_answered d path s act last how middle after e how_is middle_is (end_is ∙ ap (λ (x : ChainState). end_with x (settled_by x how)) here) (last_is ∙ ap (λ (x : ChainState). behind x (settled_by x how)) here) after_is
-    (counted ∙ ap (λ (x : ChainState). (start_of x).stance.commands + 1) here))
+  pub answered_ends : (s then_chain : ChainState) (act : LocalAct) → AsksFor s act then_chain → (last : ChainState) (how : Settled) (middle : PathsState) (after : PlainState) (e : CommandEnd) → how ≡ settled_act d.geometry d.paths path act
+      → middle ≡ paths_behind d.paths path act → e ≡ end_with then_chain (settled_by then_chain how) → last ≡ behind then_chain (settled_by then_chain how) → after ≡ record d { paths = with_sense middle path e.sense }
+      → last.at.stance.commands ≡ (start_of then_chain).stance.commands + 1 → EndsBy d after s last e (stage_effect d path s s.stage)
+  answered_ends s then_chain act asks last how middle after e how_is middle_is end_is last_is after_is counted =
+      let here : then_chain ≡ at_act s act = asks.chain ∙ asks.is in
+      subst (λ (x : ChainState). EndsBy d after x last e (stage_effect d path x x.stage)) (sym asks.is)
+      (star_answered s act last how middle after e how_is middle_is (end_is ∙ ap (λ (x : ChainState). end_with x (settled_by x how)) here) (last_is ∙ ap (λ (x : ChainState). behind x (settled_by x how)) here) after_is
+      (counted ∙ ap (λ (x : ChainState). (start_of x).stance.commands + 1) here))

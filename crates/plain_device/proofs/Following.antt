@@ -11,9 +11,9 @@ use Rattle.ckd_chain.specs.Steps.{start_of, standing, behind, end_with, checked}
 use Rattle.ckd_rules.specs.declared.stance.Stance.{Stance}
 use Rattle.ckd_rules.specs.Ending.{Outcome}
 use Rattle.ckd_rules.specs.Walk.{TrackEdit, Walked, untouched, walk}
-use Rattle.plain_defs.specs.Effect.{edited_volume, kept_by}
+use Rattle.plain_defs.specs.Effect.{edited_volume, kept_by, behind_effect}
 use Rattle.plain_defs.specs.PlainState.{PlainState, with_sense}
-use Rattle.plain_device.specs.Between.{EndsBy}
+use Rattle.plain_device.specs.Between.{EndsBy, fixed_with}
 use Rattle.plain_device.specs.Looking.{IsLooking, IsAtLook, walk_of, IsSameWalk, GoesTo}
 use Rattle.plain_device.proofs.Looks.{HasLook, has_look, at_look}
 
@@ -21,13 +21,13 @@ use Rattle.plain_device.proofs.Looks.{HasLook, has_look, at_look}
 pub record IsFollowing (d : PlainState) (s now : ChainState) (track k : ℕ) : Type 0 where
   pub looking : IsLooking d now
   pub stands : now ≡ standing s now.at.stance
-  pub rest : IsSameWalk (walk_of d s (length d.volume)) (walk_of d now (length d.volume - k))
+  pub rest : IsSameWalk (walk_of d s (d.cylinders * 15)) (walk_of d now ((d.cylinders * 15) - k))
   pub track_is : track ≡ now.at.stance.track
   pub on_device : track < d.cylinders * 15
 
 pub following_first : (d : PlainState) (s : ChainState) (track : ℕ) → IsLooking d s → track ≡ s.at.stance.track → track < d.cylinders * 15 → IsFollowing d s s track 0
 following_first d s track looking at inside =
-    let all : length d.volume ≡ length d.volume - 0 = omega arith in record {
+    let all : (d.cylinders * 15) ≡ (d.cylinders * 15) - 0 = omega arith in record {
       looking = looking;
       stands = refl;
       rest = record { outcome = ap (λ (n : ℕ). (walk_of d s n).outcome) all; edit = ap (λ (n : ℕ). (walk_of d s n).edit) all };
@@ -53,38 +53,38 @@ nothing_left d s at =
 
 module _ (d : PlainState) (s now : ChainState) (track k : ℕ) (f : IsFollowing d s now track k) (path : ℕ) where
   -- how what is left ends is how all of it ends
-  ends_all : (after : PlainState) (then_chain : ChainState) (end : CommandEnd) → IsAtLook s.stage → EndsBy after now then_chain end (kept_by d path (walk_of d now (length d.volume - k)))
-      → EndsBy after s then_chain end (kept_by d path (walk_of d s (length d.volume)))
+  ends_all : (after : PlainState) (then_chain : ChainState) (end : CommandEnd) → IsAtLook s.stage → EndsBy d after now then_chain end (kept_by d.paths path (walk_of d now ((d.cylinders * 15) - k)))
+      → EndsBy d after s then_chain end (kept_by d.paths path (walk_of d s (d.cylinders * 15)))
   ends_all after then_chain end at e = record {
     end_is =
         e.end_is
-        ∙ ap (λ (x : ChainState). end_with x (walk_of d now (length d.volume - k)).outcome) f.stands
+        ∙ ap (λ (x : ChainState). end_with x (walk_of d now ((d.cylinders * 15) - k)).outcome) f.stands
         ∙ ap (λ (o : Outcome). end_with s o) (sym f.rest.outcome);
     device_is =
         e.device_is
-        ∙ ap (λ (x : Option TrackEdit). with_sense (record d { volume = edited_volume d.volume x }) path (walk_of d now (length d.volume - k)).outcome.ending.sense) (sym f.rest.edit)
-        ∙ ap (λ (o : Outcome). with_sense (record d { volume = edited_volume d.volume (walk_of d s (length d.volume)).edit }) path o.ending.sense) (sym f.rest.outcome);
+        ∙ ap (λ (x : Option TrackEdit). record d { volume = edited_volume d.volume x; paths = with_sense d.paths path (walk_of d now ((d.cylinders * 15) - k)).outcome.ending.sense }) (sym f.rest.edit)
+        ∙ ap (λ (o : Outcome). record d { volume = edited_volume d.volume (walk_of d s (d.cylinders * 15)).edit; paths = with_sense d.paths path o.ending.sense }) (sym f.rest.outcome);
     chain_is =
         e.chain_is
-        ∙ ap (λ (x : ChainState). behind x (walk_of d now (length d.volume - k)).outcome) f.stands
-        ∙ behind_standing s at now.at.stance (walk_of d now (length d.volume - k)).outcome
+        ∙ ap (λ (x : ChainState). behind x (walk_of d now ((d.cylinders * 15) - k)).outcome) f.stands
+        ∙ behind_standing s at now.at.stance (walk_of d now ((d.cylinders * 15) - k)).outcome
         ∙ ap (λ (o : Outcome). behind s o) (sym f.rest.outcome);
     counted = e.counted ∙ ap (λ (x : ChainState). (start_of x).stance.commands + 1) f.stands ∙ ap (λ (m : Mark). m.stance.commands + 1) (starts_standing s at now.at.stance);
   }
 
-  left : k < length d.volume → length d.volume - k ≡ suc (length d.volume - (k + 1))
+  left : k < (d.cylinders * 15) → (d.cylinders * 15) - k ≡ suc ((d.cylinders * 15) - (k + 1))
   left more = omega (arith, more)
 
-  pub following_over : (after : PlainState) (then_chain : ChainState) (end : CommandEnd) → IsAtLook s.stage → k < length d.volume
-      → ((n : ℕ) → EndsBy after now then_chain end (kept_by d path (walk_of d now (suc n)))) → EndsBy after s then_chain end (kept_by d path (walk_of d s (length d.volume)))
+  pub following_over : (after : PlainState) (then_chain : ChainState) (end : CommandEnd) → IsAtLook s.stage → k < (d.cylinders * 15)
+      → ((n : ℕ) → EndsBy d after now then_chain end (kept_by d.paths path (walk_of d now (suc n)))) → EndsBy d after s then_chain end (kept_by d.paths path (walk_of d s (d.cylinders * 15)))
   following_over after then_chain end at more e =
-      ends_all after then_chain end at (subst (λ (n : ℕ). EndsBy after now then_chain end (kept_by d path (walk_of d now n))) (sym (left more)) (e (length d.volume - (k + 1))))
+      ends_all after then_chain end at (subst (λ (n : ℕ). EndsBy d after now then_chain end (kept_by d.paths path (walk_of d now n))) (sym (left more)) (e ((d.cylinders * 15) - (k + 1))))
 
-  pub following_on : (after : PlainState) (then_chain : ChainState) (t : ℕ) → k < length d.volume → GoesTo d after now then_chain t → IsFollowing d s then_chain t (k + 1)
+  pub following_on : (after : PlainState) (then_chain : ChainState) (t : ℕ) → k < (d.cylinders * 15) → GoesTo d after now then_chain t → IsFollowing d s then_chain t (k + 1)
   following_on after then_chain t more g =
-      let rest = g.rest (length d.volume - (k + 1)) in record {
+      let rest = g.rest ((d.cylinders * 15) - (k + 1)) in record {
         looking = record {
-          fixed = ap (λ (x : ChainState). x.fixed) g.chain_is ∙ f.looking.fixed;
+          fixed = subst (λ (n : ℕ). then_chain.fixed ≡ fixed_with d n) (ap (λ (x : ChainState). x.fixed.number) (sym g.chain_is)) (ap (λ (x : ChainState). x.fixed) g.chain_is ∙ f.looking.fixed);
           stage = subst (λ (x : ChainState). IsAtLook x.stage) (sym g.chain_is) f.looking.stage;
           running = subst (λ (x : ChainState). IsSome x.at.next) (sym g.chain_is) f.looking.running;
         };
@@ -98,14 +98,14 @@ module _ (d : PlainState) (s now : ChainState) (track k : ℕ) (f : IsFollowing 
       }
 
   -- no track is left to look at
-  pub following_none : (after : PlainState) (last : ChainState) (end : CommandEnd) → IsAtLook s.stage → length d.volume ≤ k → end ≡ end_with now (checked now equipment_sense) → last ≡ behind now (checked now equipment_sense)
-      → after ≡ with_sense d path end.sense → last.at.stance.commands ≡ (start_of now).stance.commands + 1 → EndsBy after s last end (kept_by d path (walk_of d s (length d.volume)))
+  pub following_none : (after : PlainState) (last : ChainState) (end : CommandEnd) → IsAtLook s.stage → (d.cylinders * 15) ≤ k → end ≡ end_with now (checked now equipment_sense) → last ≡ behind now (checked now equipment_sense)
+      → after ≡ record d { paths = with_sense d.paths path end.sense } → last.at.stance.commands ≡ (start_of now).stance.commands + 1 → EndsBy d after s last end (kept_by d.paths path (walk_of d s (d.cylinders * 15)))
   following_none after last end at past end_is last_is after_is counted =
-      let none : length d.volume - k ≡ 0 = omega (arith, past) in
-      let w : walk_of d now (length d.volume - k) ≡ untouched (checked now equipment_sense) = ap (λ (n : ℕ). walk_of d now n) none ∙ nothing_left d now f.looking.stage in
+      let none : (d.cylinders * 15) - k ≡ 0 = omega (arith, past) in
+      let w : walk_of d now ((d.cylinders * 15) - k) ≡ untouched (checked now equipment_sense) = ap (λ (n : ℕ). walk_of d now n) none ∙ nothing_left d now f.looking.stage in
       ends_all after last end at (record {
         end_is = end_is ∙ ap (λ (x : Walked). end_with now x.outcome) (sym w);
-        device_is = after_is ∙ ap (λ (e : CommandEnd). with_sense d path e.sense) end_is ∙ ap (λ (x : Walked). (kept_by d path x).state) (sym w);
+        device_is = after_is ∙ ap (λ (e : CommandEnd). record d { paths = with_sense d.paths path e.sense }) end_is ∙ ap (λ (x : Walked). behind_effect d (kept_by d.paths path x)) (sym w);
         chain_is = last_is ∙ ap (λ (x : Walked). behind now x.outcome) (sym w);
         counted = counted;
       })

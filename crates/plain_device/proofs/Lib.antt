@@ -5,3 +5,4 @@ pub mod Following
 pub mod Answering
 pub mod Opened
 pub mod Running
+pub mod Kept

@@ -22,7 +22,7 @@ use Rattle.ckd_rules.specs.Ending.{Outcome}
 use Rattle.ckd_rules.specs.Look.{look_on}
 use Rattle.ckd_rules.specs.Looked.{Looked}
 use Rattle.ckd_rules.specs.Walk.{Walked, walked, walk}
-use Rattle.plain_defs.specs.Effect.{kept_by}
+use Rattle.plain_defs.specs.Effect.{kept_by, behind_effect}
 use Rattle.plain_defs.specs.PlainState.{PlainState, with_sense}
 use Rattle.plain_device.specs.Between.{EndsBy}
 use Rattle.plain_device.specs.Looking.{IsAtLook, walk_of, IsSameWalk, GoesTo}
@@ -66,14 +66,14 @@ module _ (d : PlainState) (b : ChainState) (look : Look) where
     then_is : after ≡ (turned_by (at_look b look) came.stance came.turned).chain
     then_is = after_is ∙ ap (λ (x : Stepped). x.chain) (step_is i image_is)
 
-    star_ended : (path : ℕ) (end : CommandEnd) (device : PlainState) → progress ≡ progresses.Ended end → device ≡ with_sense d path end.sense
-        → after.at.stance.commands ≡ (start_of (at_look b look)).stance.commands + 1 → (n : ℕ) → EndsBy device (at_look b look) after end (kept_by d path (walk_of d (at_look b look) (suc n)))
+    star_ended : (path : ℕ) (end : CommandEnd) (device : PlainState) → progress ≡ progresses.Ended end → device ≡ record d { paths = with_sense d.paths path end.sense }
+        → after.at.stance.commands ≡ (start_of (at_look b look)).stance.commands + 1 → (n : ℕ) → EndsBy d device (at_look b look) after end (kept_by d.paths path (walk_of d (at_look b look) (suc n)))
     star_ended path end device is device_is counted n =
         let c : CameEnded (at_look b look) came.stance came.turned end = came_ended (at_look b look) came.stance came.turned end (turned_is (progresses.Ended end) is) in
         let w = walk_more n ∙ ap (λ (t : Turned). walked b.at.stance.track (walk n d.geometry (track_in d.volume) b.before.stance (word_of b) look) came.stance t) c.turned in
         record {
           end_is = c.end_is ∙ ap (λ (x : Walked). end_with (at_look b look) x.outcome) (sym w);
-          device_is = device_is ∙ ap (λ (e : CommandEnd). with_sense d path e.sense) c.end_is ∙ ap (λ (x : Walked). (kept_by d path x).state) (sym w);
+          device_is = device_is ∙ ap (λ (e : CommandEnd). record d { paths = with_sense d.paths path e.sense }) c.end_is ∙ ap (λ (x : Walked). behind_effect d (kept_by d.paths path x)) (sym w);
           chain_is = then_is ∙ c.chain ∙ ap (λ (x : Walked). behind (at_look b look) x.outcome) (sym w);
           counted = counted;
         }
@@ -95,8 +95,8 @@ module _ (d : PlainState) (b : ChainState) (look : Look) where
 
     star_editing : (path track : ℕ) (edit : Edit) (volume : List Track) (end : CommandEnd) (last : ChainState) (device : PlainState) → progress ≡ progresses.Write track edit
         → volume ≡ slice_set d.volume track (apply_edit edit (track_in d.volume track)) → end ≡ end_with after (settled_by after Written) → last ≡ behind after (settled_by after Written)
-        → device ≡ with_sense (record d { volume = volume }) path end.sense → last.at.stance.commands ≡ (start_of after).stance.commands + 1
-        → (n : ℕ) → EndsBy device (at_look b look) last end (kept_by d path (walk_of d (at_look b look) (suc n)))
+        → device ≡ record d { volume = volume; paths = with_sense d.paths path end.sense } → last.at.stance.commands ≡ (start_of after).stance.commands + 1
+        → (n : ℕ) → EndsBy d device (at_look b look) last end (kept_by d.paths path (walk_of d (at_look b look) (suc n)))
     star_editing path track edit volume end last device is volume_is end_is last_is device_is counted n =
         let c : CameEditing (at_look b look) came.stance came.turned track edit = came_editing (at_look b look) came.stance came.turned track edit (turned_is (progresses.Write track edit) is) in
         let waits : after ≡ waiting (at_look b look) came.stance c.ending = then_is ∙ c.chain in
@@ -105,10 +105,10 @@ module _ (d : PlainState) (b : ChainState) (look : Look) where
           end_is = ends ∙ ap (λ (x : Walked). end_with (at_look b look) x.outcome) (sym w);
           device_is =
               device_is
-              ∙ ap (λ (v : List Track). with_sense (record d { volume = v }) path end.sense) volume_is
-              ∙ ap (λ (u : ℕ). with_sense (record d { volume = slice_set d.volume u (apply_edit edit (track_in d.volume u)) }) path end.sense) c.track_is
-              ∙ ap (λ (e : CommandEnd). with_sense (record d { volume = slice_set d.volume b.at.stance.track (apply_edit edit (track_in d.volume b.at.stance.track)) }) path e.sense) ends
-              ∙ ap (λ (x : Walked). (kept_by d path x).state) (sym w);
+              ∙ ap (λ (v : List Track). record d { volume = v; paths = with_sense d.paths path end.sense }) volume_is
+              ∙ ap (λ (u : ℕ). record d { volume = slice_set d.volume u (apply_edit edit (track_in d.volume u)); paths = with_sense d.paths path end.sense }) c.track_is
+              ∙ ap (λ (e : CommandEnd). record d { volume = slice_set d.volume b.at.stance.track (apply_edit edit (track_in d.volume b.at.stance.track)); paths = with_sense d.paths path e.sense }) ends
+              ∙ ap (λ (x : Walked). behind_effect d (kept_by d.paths path x)) (sym w);
           chain_is = last_is ∙ ap (λ (s : ChainState). behind s (settled_by s Written)) waits ∙ ap (λ (x : Walked). behind (at_look b look) x.outcome) (sym w);
           counted = counted ∙ ap (λ (s : ChainState). (start_of s).stance.commands + 1) waits;
         }
@@ -131,10 +131,10 @@ module _ (d : PlainState) (s : ChainState) (at : IsAtLook s.stage) (i : Image) (
   steps_after : after ≡ (stepped (at_look s looked.look) (Some i)).chain
   steps_after = after_is ∙ ap (λ (x : ChainState). (stepped x (Some i)).chain) looked.is
 
-  pub look_ended : (path : ℕ) (end : CommandEnd) (device : PlainState) → progress ≡ progresses.Ended end → device ≡ with_sense d path end.sense
-      → after.at.stance.commands ≡ (start_of s).stance.commands + 1 → (n : ℕ) → EndsBy device s after end (kept_by d path (walk_of d s (suc n)))
+  pub look_ended : (path : ℕ) (end : CommandEnd) (device : PlainState) → progress ≡ progresses.Ended end → device ≡ record d { paths = with_sense d.paths path end.sense }
+      → after.at.stance.commands ≡ (start_of s).stance.commands + 1 → (n : ℕ) → EndsBy d device s after end (kept_by d.paths path (walk_of d s (suc n)))
   look_ended path end device is device_is counted n =
-      subst (λ (x : ChainState). EndsBy device x after end (kept_by d path (walk_of d x (suc n)))) (sym looked.is)
+      subst (λ (x : ChainState). EndsBy d device x after end (kept_by d.paths path (walk_of d x (suc n)))) (sym looked.is)
       (star_ended d s looked.look i image_is progress after steps_progress steps_after path end device is device_is (counted ∙ ap (λ (x : ChainState). (start_of x).stance.commands + 1) looked.is) n)
 
   pub look_onward : (track : ℕ) (device : PlainState) → progress ≡ progresses.Need track → device ≡ d → track < d.cylinders * 15 → GoesTo d device s after track
@@ -143,10 +143,10 @@ module _ (d : PlainState) (s : ChainState) (at : IsAtLook s.stage) (i : Image) (
 
   pub look_edited : (path track : ℕ) (edit : Edit) (volume : List Track) (end : CommandEnd) (last : ChainState) (device : PlainState) → progress ≡ progresses.Write track edit
       → volume ≡ slice_set d.volume track (apply_edit edit (track_in d.volume track)) → end ≡ end_with after (settled_by after Written) → last ≡ behind after (settled_by after Written)
-      → device ≡ with_sense (record d { volume = volume }) path end.sense → last.at.stance.commands ≡ (start_of after).stance.commands + 1
-      → (n : ℕ) → EndsBy device s last end (kept_by d path (walk_of d s (suc n)))
+      → device ≡ record d { volume = volume; paths = with_sense d.paths path end.sense } → last.at.stance.commands ≡ (start_of after).stance.commands + 1
+      → (n : ℕ) → EndsBy d device s last end (kept_by d.paths path (walk_of d s (suc n)))
   look_edited path track edit volume end last device is volume_is end_is last_is device_is counted n =
-      subst (λ (x : ChainState). EndsBy device x last end (kept_by d path (walk_of d x (suc n)))) (sym looked.is)
+      subst (λ (x : ChainState). EndsBy d device x last end (kept_by d.paths path (walk_of d x (suc n)))) (sym looked.is)
       (star_editing d s looked.look i image_is progress after steps_progress steps_after path track edit volume end last device is volume_is end_is last_is device_is counted n)
 
   pub look_edits_at : (track : ℕ) (edit : Edit) → progress ≡ progresses.Write track edit → (track ≡ s.at.stance.track) × (after.at.next ≡ s.at.next) × (after.stage ≡ Some Over)

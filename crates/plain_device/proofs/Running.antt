@@ -1,35 +1,38 @@
 -- A program of the plain device, one command on.
-use Rattle.std.proofs.Common.{◌≡◌, ◌+◌, ◌-◌, ◌<◌, ◌++◌, ◌∷◌, [], ℕ, List, Some, None, Option, true, false, refl, sym, ap, subst, ◌∙◌, arith}
-use Rattle.std.specs.Prelude.{IfSome, IfNone, IsSome, is_none}
+use Rattle.std.proofs.Common.{◌≡◌, ◌+◌, ◌-◌, ◌<◌, ◌≤◌, ◌++◌, ◌∷◌, [], ℕ, suc, List, Some, None, Option, true, false, length, refl, sym, ap, subst, ◌∙◌, arith}
+use Rattle.std.specs.Prelude.{IfSome, IsSome, is_none}
+use Rattle.std.proofs.lemmas.List.{length-append}
 use Rattle.ckd_types.specs.declared.channel.Ccw.{Ccw}
 use Rattle.ckd_types.specs.declared.channel.CommandEnd.{CommandEnd}
 use Rattle.ckd_types.specs.Ccw.{ccw_at}
+use Rattle.ckd_types.specs.Fixed.{Fixed}
 use Rattle.ckd_chain.specs.declared.mark.Mark.{Mark}
 use Rattle.ckd_chain.specs.declared.mark.Stage.{Stage}
 use Rattle.ckd_chain.specs.Facts.{IsChain, AtHand}
 use Rattle.ckd_chain.specs.State.{ChainState}
 use Rattle.ckd_chain.specs.Steps.{index_of, word_of, mark_by, start_of, begun_chain}
 use Rattle.ckd_rules.specs.declared.stance.Stance.{Stance}
-use Rattle.ckd_rules.specs.Ends.{end_of, goes_to, is_over}
 use Rattle.ckd_rules.specs.Facts.{HasRoom}
-use Rattle.ckd_rules.specs.Opening.{opening_of}
-use Rattle.ckd_rules.specs.Stance.{first_stance}
-use Rattle.ckd_rules.proofs.Goes.{over_where_none}
-use Rattle.plain_defs.specs.Chain.{begun, whole_run}
+use Rattle.plain_defs.specs.Acknowledged.{Told}
+use Rattle.ckd_rules.specs.Ends.{end_of, goes_to}
+use Rattle.plain_defs.specs.Effect.{Effect, effect_on, behind_effect}
 use Rattle.plain_defs.specs.Ends.{LastIsOver}
 use Rattle.plain_defs.specs.PlainState.{PlainState, fixed_of}
-use Rattle.plain_defs.proofs.EffectLemmas.{effect_fixed}
-use Rattle.plain_defs.proofs.EndsLaws.{last_is_over}
-use Rattle.plain_defs.proofs.PartLemmas.{IsPart, part_more, part_first, ends_all, state_all}
-use Rattle.plain_device.specs.Between.{IsBetween, Ends, effect_of}
+use Rattle.plain_defs.specs.Program.{Part, first_part, begun, stepped, one_more, part_of, whole_run}
+use Rattle.plain_defs.proofs.PartLemmas.{acted_nothing, part_more, part_over, over_later, no_ends}
+use Rattle.plain_device.specs.Between.{IsBetween, Ends, fixed_with}
 
--- a chain between two commands of a program, with the ends so far
-pub record IsRunningOn (start : PlainState) (path : ℕ) (ccws : List Ccw) (device : PlainState) (chain : ChainState) (ends : List CommandEnd) : Type 0 where
-  pub part : IsPart start path ccws device chain.at.stance chain.at.next ends
+-- a device and a chain on it are where the part of a program is, with its ends
+pub record IsAtPart (p : Part) (ccws : List Ccw) (device : PlainState) (chain : ChainState) (ends : List CommandEnd) : Type 0 where
+  pub device_is : device ≡ p.state
+  pub fixed_is : chain.fixed ≡ p.fixed
+  pub stance_is : chain.at.stance ≡ p.stance
+  pub next_is : chain.at.next ≡ p.next
+  pub ends_are : ends ≡ p.ends
   pub words : chain.ccws ≡ ccws
-  pub fixed : chain.fixed ≡ fixed_of device
   pub stage : chain.stage ≡ None
-  pub last : IfNone chain.at.next (LastIsOver ends)
+  pub on : chain.fixed ≡ fixed_with device chain.fixed.number
+  pub counted : chain.at.stance.commands ≡ length ends
 
 start_is : (s : ChainState) → s.stage ≡ None → start_of s ≡ s.at
 start_is s is = ap (λ (x : Option Stage). mark_by s x) is
@@ -38,79 +41,139 @@ some_of : (next : Option ℕ) → is_none next ≡ false → IsSome next
 some_of (Some i) is = refl
 some_of None is = absurd (cc)
 
-pub between_of : (start : PlainState) (path : ℕ) (ccws : List Ccw) (device : PlainState) (chain : ChainState) (ends : List CommandEnd) → IsRunningOn start path ccws device chain ends → is_none chain.at.next ≡ false → IsBetween device chain
-between_of start path ccws device chain ends r more = record { fixed = r.fixed; stage = r.stage; running = some_of chain.at.next more }
-
--- the chain of a program that has begun
-pub running_first : (start : PlainState) (path : ℕ) (ccws : List Ccw) (device : PlainState) (chain : ChainState) → device ≡ begun start path ccws → chain ≡ begun_chain ccws (fixed_of device) → IsRunningOn start path ccws device chain []
-running_first start path ccws device chain device_is chain_is =
-    subst (λ (s : ChainState). IsRunningOn start path ccws device s []) (sym chain_is) (record {
-      part = subst (λ (d : PlainState). IsPart start path ccws d first_stance (Some 0) []) (sym device_is) (part_first start path ccws);
-      words = refl;
-      fixed = refl;
-      stage = refl;
-      last = tt;
-    })
-
-room_of : (s : ChainState) → IsChain s → s.stage ≡ None → IfSome s.at.next (λ i. s.at.stance.commands < 4096)
-room_of s chain stage = by_next s.at.next (subst (AtHand s) stage chain.hand).room where
-  by_next : (next : Option ℕ) → IfSome next (λ i. HasRoom s.at.stance) → IfSome next (λ i. s.at.stance.commands < 4096)
-  by_next (Some i) room = room.commands
-  by_next None room = tt
-
-module _ (start : PlainState) (path : ℕ) (ccws : List Ccw) (device after : PlainState) (chain then_chain : ChainState) (ends : List CommandEnd) (e : CommandEnd) (r : IsRunningOn start path ccws device chain ends) (done : Ends device path after chain then_chain e)
-    (stands : IsChain then_chain) where
-  at_word : (next : Option ℕ) → chain.at.next ≡ next → is_none next ≡ false → (later : List CommandEnd) → later ≡ ends ++ e ∷ [] → IsRunningOn start path ccws after then_chain later
-  at_word None next_is more later later_is = absurd (cc)
-  at_word (Some i) next_is more later later_is =
-      let o = (effect_of device path chain).outcome in
-      let opened = opening_of (fixed_of device) chain.at.stance (word_of chain) in
-      let fixed : then_chain.fixed ≡ fixed_of after =
-      ap (λ (s : ChainState). s.fixed) done.chain_is ∙ r.fixed ∙ sym (ap (λ (d : PlainState). fixed_of d) done.device_is ∙ effect_fixed device path chain.at.stance (word_of chain) opened.stance opened.opening)
-      in
-      let stage : then_chain.stage ≡ None = ap (λ (s : ChainState). s.stage) done.chain_is in
-      let word : word_of chain ≡ ccw_at ccws i = ap (λ (l : List Ccw). ccw_at l (index_of chain.at.next)) r.words ∙ ap (λ (n : Option ℕ). ccw_at ccws (index_of n)) next_is in
-      let goes : then_chain.at.next ≡ goes_to ccws i o =
-      ap (λ (s : ChainState). s.at.next) done.chain_is ∙ ap (λ (l : List Ccw). goes_to l (index_of chain.at.next) o) r.words ∙ ap (λ (n : Option ℕ). goes_to ccws (index_of n) o) next_is
-      in
-      let stance : then_chain.at.stance ≡ o.stance = ap (λ (s : ChainState). s.at.stance) done.chain_is in
-      let end : e ≡ end_of i (word_of chain) o = done.end_is ∙ ap (λ (n : Option ℕ). end_of (index_of n) (word_of chain) o) next_is in
-      let all : later ≡ ends ++ end_of i (word_of chain) o ∷ [] = later_is ∙ ap (λ (x : CommandEnd). ends ++ x ∷ []) end in
-      let over : IfNone then_chain.at.next (is_over (word_of chain) o ≡ true) =
-      subst (λ (n : Option ℕ). IfNone n (is_over (word_of chain) o ≡ true)) (sym goes) (subst (λ (c : Ccw). IfNone (goes_to ccws i o) (is_over c o ≡ true)) (sym word) (over_where_none ccws i o))
-      in record {
-        part = subst (λ (z : Stance). IsPart start path ccws after z then_chain.at.next later) (sym stance)
-            (part_more start path ccws device chain.at.stance chain.at.next ends r.part i (word_of chain) o after then_chain.at.next later next_is word refl done.device_is
-            (sym (ap (λ (z : Stance). z.commands) stance) ∙ done.counted ∙ ap (λ (m : Mark). m.stance.commands + 1) (start_is chain r.stage)) goes
-            (subst (λ (z : Stance). IfSome then_chain.at.next (λ j. z.commands < 4096)) stance (room_of then_chain stands stage)) all);
-        words = ap (λ (s : ChainState). s.ccws) done.chain_is ∙ r.words;
-        fixed = fixed;
-        stage = stage;
-        last = last_is_over then_chain.at.next ends later i (word_of chain) o over all;
-      }
-
-  -- one command more
-  pub running_more : is_none chain.at.next ≡ false → (later : List CommandEnd) → later ≡ ends ++ e ∷ [] → IsRunningOn start path ccws after then_chain later
-  running_more more later later_is = at_word chain.at.next refl more later later_is
-
-  pub fewer_left : IsChain chain → is_none chain.at.next ≡ false → 4096 - then_chain.at.stance.commands < 4096 - chain.at.stance.commands
-  fewer_left stood more =
-      let counted : then_chain.at.stance.commands ≡ chain.at.stance.commands + 1 = done.counted ∙ ap (λ (m : Mark). m.stance.commands + 1) (start_is chain r.stage) in
-      let room = has_room chain.at.next (room_of chain stood r.stage) more in omega (arith, counted, room) where
-        has_room : (next : Option ℕ) → IfSome next (λ i. chain.at.stance.commands < 4096) → is_none next ≡ false → chain.at.stance.commands < 4096
-        has_room (Some i) room some = room
-        has_room None room some = absurd (cc)
-
 none_of : (next : Option ℕ) → is_none next ≡ true → next ≡ None
 none_of None is = refl
 none_of (Some i) is = absurd (cc)
 
-module _ (start : PlainState) (path : ℕ) (ccws : List Ccw) (device : PlainState) (chain : ChainState) (ends : List CommandEnd) (r : IsRunningOn start path ccws device chain ends) (over : is_none chain.at.next ≡ true) where
-  pub all_ends : ends ≡ (whole_run start path ccws).ends
-  all_ends = ends_all start path ccws device chain.at.stance chain.at.next ends r.part (none_of chain.at.next over)
+pub between_of : (p : Part) (ccws : List Ccw) (device : PlainState) (chain : ChainState) (ends : List CommandEnd) → IsAtPart p ccws device chain ends → is_none chain.at.next ≡ false → IsBetween device chain
+between_of p ccws device chain ends at more = record { fixed = at.on; stage = at.stage; running = some_of chain.at.next more }
 
-  pub all_done : device ≡ (whole_run start path ccws).state
-  all_done = state_all start path ccws device chain.at.stance chain.at.next ends r.part (none_of chain.at.next over)
+-- the chain of a program that has begun
+pub at_first : (start : PlainState) (path : ℕ) (ccws : List Ccw) (device : PlainState) (chain : ChainState) → device ≡ record start { paths = begun start.paths path ccws } → chain ≡ begun_chain ccws (fixed_of start) → IsAtPart (first_part start path ccws) ccws device chain []
+at_first start path ccws device chain device_is chain_is =
+    subst (λ (d : PlainState). IsAtPart (first_part start path ccws) ccws d chain []) (sym device_is)
+    (subst (λ (s : ChainState). IsAtPart (first_part start path ccws) ccws (record start { paths = begun start.paths path ccws }) s []) (sym chain_is)
+    (record { device_is = refl; fixed_is = refl; stance_is = refl; next_is = refl; ends_are = refl; words = refl; stage = refl; on = refl; counted = refl }))
 
-  pub all_over : LastIsOver ends
-  all_over = subst (λ (n : Option ℕ). IfNone n (LastIsOver ends)) (none_of chain.at.next over) r.last
+abbrev part_with : PlainState → ChainState → ℕ → List CommandEnd → List Told → Part
+part_with device chain i ends told = record { fixed = chain.fixed; state = device; stance = chain.at.stance; next = Some i; ends = ends; told = told }
+
+module _ (p : Part) (path : ℕ) (ccws : List Ccw) (device after : PlainState) (chain then_chain : ChainState) (ends : List CommandEnd) (e : CommandEnd) (at : IsAtPart p ccws device chain ends) (done : Ends device path after chain then_chain e) where
+  part_is : (i : ℕ) → chain.at.next ≡ Some i → part_with device chain i ends p.told ≡ p
+  part_is i is =
+      ap (λ (x : PlainState). part_with x chain i ends p.told) at.device_is
+      ∙ ap (λ (x : Fixed). record (part_with p.state chain i ends p.told) { fixed = x }) at.fixed_is
+      ∙ ap (λ (x : Stance). record (part_with p.state chain i ends p.told) { fixed = p.fixed; stance = x }) at.stance_is
+      ∙ ap (λ (x : Option ℕ). record (part_with p.state chain i ends p.told) { fixed = p.fixed; stance = p.stance; next = x }) (sym is ∙ at.next_is)
+      ∙ ap (λ (x : List CommandEnd). record p { ends = x }) at.ends_are
+
+  abbrev effect_at : List Ccw → Option ℕ → Effect
+  effect_at l n = effect_on chain.fixed device path chain.at.stance (ccw_at l (index_of n))
+
+  -- the end of the command of a word of some program
+  pub record EndsAt (l : List Ccw) (n : Option ℕ) : Type 0 where
+    pub end_is : e ≡ end_of (index_of n) (ccw_at l (index_of n)) (effect_at l n).outcome
+    pub device_is : after ≡ behind_effect device (effect_at l n)
+    pub goes : then_chain.at.next ≡ goes_to l (index_of n) (effect_at l n).outcome
+    pub stance : then_chain.at.stance ≡ (effect_at l n).outcome.stance
+
+  ends_here : EndsAt chain.ccws chain.at.next
+  ends_here = record {
+    end_is = done.end_is;
+    device_is = done.device_is;
+    goes = ap (λ (s : ChainState). s.at.next) done.chain_is;
+    stance = ap (λ (s : ChainState). s.at.stance) done.chain_is;
+  }
+
+  ends_at : (i : ℕ) → chain.at.next ≡ Some i → EndsAt ccws (Some i)
+  ends_at i is = subst (λ (n : Option ℕ). EndsAt ccws n) is (subst (λ (l : List Ccw). EndsAt l chain.at.next) at.words ends_here)
+
+  module _ (later : List CommandEnd) (later_is : later ≡ ends ++ e ∷ []) where
+    at_word : (i : ℕ) → chain.at.next ≡ Some i → IsAtPart (stepped path ccws (part_with device chain i ends p.told)) ccws after then_chain later
+    at_word i is =
+        let here = ends_at i is in
+        let fixed : then_chain.fixed ≡ chain.fixed = ap (λ (s : ChainState). s.fixed) done.chain_is in
+        let many : length later ≡ length ends + 1 = ap length later_is ∙ length-append ends (e ∷ []) in
+        let ended : then_chain.at.stance.commands ≡ chain.at.stance.commands + 1 = done.counted ∙ ap (λ (m : Mark). m.stance.commands + 1) (start_is chain at.stage) in
+        let before : chain.at.stance.commands ≡ length ends = at.counted in
+        record {
+          device_is = here.device_is;
+          fixed_is = fixed;
+          stance_is = here.stance;
+          next_is = here.goes;
+          ends_are = later_is ∙ ap (λ (x : CommandEnd). ends ++ x ∷ []) here.end_is;
+          words = ap (λ (s : ChainState). s.ccws) done.chain_is ∙ at.words;
+          stage = ap (λ (s : ChainState). s.stage) done.chain_is;
+          on =
+              fixed
+              ∙ at.on
+              ∙ ap (λ (f : Fixed). fixed_with device f.number) (sym fixed)
+              ∙ ap (λ (x : PlainState). fixed_with x then_chain.fixed.number) (sym here.device_is);
+          counted = omega (arith, many, ended, before);
+        }
+
+    -- one command more
+    pub at_more : is_none chain.at.next ≡ false → IsAtPart (stepped path ccws p) ccws after then_chain later
+    at_more more = by_next chain.at.next refl more where
+      by_next : (next : Option ℕ) → chain.at.next ≡ next → is_none next ≡ false → IsAtPart (stepped path ccws p) ccws after then_chain later
+      by_next (Some i) is some = subst (λ (q : Part). IsAtPart (stepped path ccws q) ccws after then_chain later) (part_is i is) (at_word i is)
+      by_next None is some = absurd (cc)
+
+-- with no acts between its commands
+abbrev pub IsRunningOn : PlainState → ℕ → List Ccw → PlainState → ChainState → List CommandEnd → Type 0
+IsRunningOn start path ccws device chain ends = IsAtPart (part_of start path ccws [] (length ends)) ccws device chain ends
+
+module _ (start : PlainState) (path : ℕ) (ccws : List Ccw) where
+  pub running_first : (device : PlainState) (chain : ChainState) → device ≡ record start { paths = begun start.paths path ccws } → chain ≡ begun_chain ccws (fixed_of start) → IsRunningOn start path ccws device chain []
+  unfolding part_of
+  running_first device chain device_is chain_is =
+      subst (λ (p : Part). IsAtPart p ccws device chain []) (sym (acted_nothing [] (first_part start path ccws) refl)) (at_first start path ccws device chain device_is chain_is)
+
+  stepped_is : (k : ℕ) → stepped path ccws (part_of start path ccws [] k) ≡ part_of start path ccws [] (suc k)
+  stepped_is k = sym (acted_nothing [] (stepped path ccws (part_of start path ccws [] k)) refl) ∙ sym (part_more path ccws [] start k)
+
+  module _ (device : PlainState) (chain : ChainState) (ends : List CommandEnd) (r : IsRunningOn start path ccws device chain ends) where
+    pub running_more : (after : PlainState) (then_chain : ChainState) (e : CommandEnd) → Ends device path after chain then_chain e → is_none chain.at.next ≡ false → (later : List CommandEnd) → later ≡ ends ++ e ∷ [] → IsRunningOn start path ccws after then_chain later
+    running_more after then_chain e done more later later_is =
+        let one : length later ≡ suc (length ends) = many (ap length later_is ∙ length-append ends (e ∷ [])) in
+        subst (λ (k : ℕ). IsAtPart (part_of start path ccws [] k) ccws after then_chain later) (sym one)
+        (subst (λ (p : Part). IsAtPart p ccws after then_chain later) (stepped_is (length ends)) (at_more (part_of start path ccws [] (length ends)) path ccws device after chain then_chain ends e r done later later_is more)) where
+          many : {n m : ℕ} → n ≡ m + 1 → n ≡ suc m
+          many is = omega (arith, is)
+
+    room_of : IsChain chain → is_none chain.at.next ≡ false → chain.at.stance.commands < 4096
+    room_of stands more = by_next chain.at.next (subst (AtHand chain) r.stage stands.hand).room more where
+      by_next : (next : Option ℕ) → IfSome next (λ i. HasRoom chain.at.stance) → is_none next ≡ false → chain.at.stance.commands < 4096
+      by_next (Some i) room some = room.commands
+      by_next None room some = absurd (cc)
+
+    -- a program of so many ends isn't over only where it has fewer than 4,096
+    pub few_ends : IsChain chain → is_none chain.at.next ≡ false → (later : List CommandEnd) (e : CommandEnd) → later ≡ ends ++ e ∷ [] → length later ≤ 4096
+    few_ends stands more later e later_is =
+        let room = room_of stands more in
+        let counted = r.counted in
+        let many : length later ≡ length ends + 1 = ap length later_is ∙ length-append ends (e ∷ []) in omega (arith, room, counted, many)
+
+    pub fewer_left : (after : PlainState) (then_chain : ChainState) (e : CommandEnd) → Ends device path after chain then_chain e → IsChain chain → is_none chain.at.next ≡ false
+        → 4096 - then_chain.at.stance.commands < 4096 - chain.at.stance.commands
+    fewer_left after then_chain e done stands more =
+        let counted : then_chain.at.stance.commands ≡ chain.at.stance.commands + 1 = done.counted ∙ ap (λ (m : Mark). m.stance.commands + 1) (start_is chain r.stage) in
+        let room = room_of stands more in omega (arith, counted, room)
+
+    module _ (most : length ends ≤ 4096) (over : is_none chain.at.next ≡ true) where
+      is_over : (part_of start path ccws [] (length ends)).next ≡ None
+      is_over = sym r.next_is ∙ none_of chain.at.next over
+
+      all_is : part_of start path ccws [] (length ends) ≡ whole_run start path ccws []
+      all_is =
+          let all : (4096 - length ends) + length ends ≡ 4096 = omega (arith, most) in
+          sym (over_later path ccws [] start (length ends) (4096 - length ends) is_over) ∙ ap (λ (k : ℕ). part_of start path ccws [] k) all
+
+      pub all_ends : ends ≡ (whole_run start path ccws []).ends
+      all_ends = r.ends_are ∙ ap (λ (p : Part). p.ends) all_is
+
+      pub all_done : device ≡ (whole_run start path ccws []).state
+      all_done = r.device_is ∙ ap (λ (p : Part). p.state) all_is
+
+      pub all_over : LastIsOver ends
+      all_over = subst LastIsOver (sym r.ends_are) (part_over path ccws [] start (length ends) is_over)

@@ -1,8 +1,10 @@
 -- The tracks of some images.
-use Rattle.std.proofs.Common.{◌≡◌, ◌<◌, ◌+◌, ℕ, zero, suc, List, [], ◌∷◌, ◌++◌, length, get_or, map, length-append, arith, refl, sym, ap, subst, ◌∙◌}
-use Rattle.std.specs.Prelude.{slice_set, All}
-use Rattle.std.specs.List.{range_with_len}
-use Rattle.std.proofs.lemmas.List.Elements.{All-nil, All-cons, All-append}
+use Rattle.std.proofs.Common.{◌≡◌, ◌<◌, ◌+◌, ℕ, zero, suc, List, [], ◌∷◌, ◌++◌, Bool, true, false, cond, length, get_or, map, length-append, arith, refl, sym, ap, subst, ◌∙◌}
+use Rattle.std.specs.Prelude.{◌==◌, not, slice_set, All}
+use Rattle.std.specs.List.{filter, range_with_len}
+use Rattle.std.proofs.lemmas.List.Elements.{All-nil, All-cons, All-append, All-take}
+use Rattle.std.proofs.lemmas.List.{length-set}
+use Rattle.std.proofs.Math.Seq.{take-append_seam}
 use Rattle.ckd_types.specs.declared.geometry.Geometry.{Geometry}
 use Rattle.ckd_types.specs.declared.record.Edit.{Edit}
 use Rattle.ckd_types.specs.declared.record.Track.{Track}
@@ -10,7 +12,10 @@ use Rattle.ckd_types.specs.Edit.{apply_edit}
 use Rattle.ckd_types.specs.Track.{empty_track}
 use Rattle.track_image.specs.Image.{Image, edited_image}
 use Rattle.ckd_rules.proofs.Lists.{map-range_more}
-use Rattle.plain_device.specs.Volume.{tracks_of}
+use Rattle.plain_defs.specs.Loose.{without, restored}
+use Rattle.plain_defs.specs.PlainState.{LooseTrack}
+use Rattle.plain_device.specs.declared.loose.LooseImage.{LooseImage}
+use Rattle.plain_device.specs.Volume.{tracks_of, loose_of, IsLooseOf}
 
 track_at : (images : List Image) (t : ℕ) (d : Image) (e : Track) → t < length images → (get_or images t d).track ≡ get_or (tracks_of images) t e
 track_at [] t d e inside = absurd (omega arith)
@@ -21,7 +26,7 @@ pub tracks_length : (images : List Image) → length (tracks_of images) ≡ leng
 tracks_length [] = refl
 tracks_length (i ∷ images) = let rest = tracks_length images in omega (arith, rest)
 
-tracks_set : (images : List Image) (t : ℕ) (x : Image) → tracks_of (slice_set images t x) ≡ slice_set (tracks_of images) t x.track
+pub tracks_set : (images : List Image) (t : ℕ) (x : Image) → tracks_of (slice_set images t x) ≡ slice_set (tracks_of images) t x.track
 tracks_set [] t x = refl
 tracks_set (i ∷ images) zero x = refl
 tracks_set (i ∷ images) (suc t) x = ap (λ (l : List Track). i.track ∷ l) (tracks_set images t x)
@@ -53,3 +58,39 @@ images_more g images later n i later_is is tracks len all = (
   subst (All (λ (x : Image). x.geometry ≡ g)) (sym later_is)
       (All-append (λ (x : Image). x.geometry ≡ g) images (i ∷ []) all (All-cons (λ (x : Image). x.geometry ≡ g) i [] (ap (λ (x : Image). x.geometry) is) (All-nil (λ (x : Image). x.geometry ≡ g)))),
 )
+
+-- those of other tracks, with their images or without
+pub loose_others : (t : ℕ) (loose : List LooseImage) → loose_of (filter (λ (l : LooseImage). not (l.track == t)) loose) ≡ without t (loose_of loose)
+loose_others t [] = refl
+loose_others t (l ∷ loose) = by_track (not (l.track == t)) (loose_others t loose) where
+  by_track : (keep : Bool) → loose_of (filter (λ (k : LooseImage). not (k.track == t)) loose) ≡ without t (loose_of loose)
+      → loose_of (cond keep (l ∷ filter (λ (k : LooseImage). not (k.track == t)) loose) (filter (λ (k : LooseImage). not (k.track == t)) loose))
+      ≡ cond keep (record { track = l.track; firm = l.image.track } ∷ without t (loose_of loose)) (without t (loose_of loose))
+  by_track true rest = ap (λ (ls : List LooseTrack). record { track = l.track; firm = l.image.track } ∷ ls) rest
+  by_track false rest = rest
+
+pub loose_append : (xs ys : List LooseImage) → loose_of (xs ++ ys) ≡ loose_of xs ++ loose_of ys
+loose_append [] ys = refl
+loose_append (x ∷ xs) ys = ap (λ (ls : List LooseTrack). record { track = x.track; firm = x.image.track } ∷ ls) (loose_append xs ys)
+
+pub loose_more : (g : Geometry) (tracks : ℕ) (loose : List LooseImage) (l : LooseImage) → All (IsLooseOf g tracks) loose → l.image.geometry ≡ g → l.track < tracks → All (IsLooseOf g tracks) (loose ++ l ∷ [])
+loose_more g tracks loose l all model inside = All-append (IsLooseOf g tracks) loose (l ∷ []) all (All-cons (IsLooseOf g tracks) l [] (model, inside) (All-nil (IsLooseOf g tracks)))
+
+-- the last one is put back first
+restored_last : (loose : List LooseTrack) (l : LooseTrack) (v : List Track) → restored (loose ++ l ∷ []) v ≡ restored loose (slice_set v l.track l.firm)
+restored_last [] l v = refl
+restored_last (k ∷ loose) l v = ap (λ (w : List Track). slice_set w k.track k.firm) (restored_last loose l v)
+
+pub restored_more : (loose rest : List LooseImage) (l : LooseImage) (v : List Track) → loose ≡ rest ++ l ∷ [] → restored (loose_of loose) v ≡ restored (loose_of rest) (slice_set v l.track l.image.track)
+restored_more loose rest l v is =
+    ap (λ (ls : List LooseImage). restored (loose_of ls) v) is
+    ∙ ap (λ (ls : List LooseTrack). restored ls v) (loose_append rest (l ∷ []))
+    ∙ restored_last (loose_of rest) (record { track = l.track; firm = l.image.track }) v
+
+pub restored_length : (loose : List LooseTrack) (v : List Track) → length (restored loose v) ≡ length v
+restored_length [] v = refl
+restored_length (l ∷ loose) v = length-set (restored loose v) l.track l.firm ∙ restored_length loose v
+
+pub loose_front : (g : Geometry) (tracks : ℕ) (loose rest : List LooseImage) (l : LooseImage) → loose ≡ rest ++ l ∷ [] → All (IsLooseOf g tracks) loose → All (IsLooseOf g tracks) rest
+loose_front g tracks loose rest l is all =
+    subst (All (IsLooseOf g tracks)) (take-append_seam rest (l ∷ [])) (All-take (IsLooseOf g tracks) (length rest) (rest ++ l ∷ []) (subst (All (IsLooseOf g tracks)) is all))

@@ -1,5 +1,5 @@
 -- A command that looks at the tracks of a device.
-use Rattle.std.specs.Prelude.{◌≡◌, ℕ, suc, ◌*◌, ◌+◌, ◌<◌, length, None, IsSome, ⊤, Option, Some}
+use Rattle.std.specs.Prelude.{◌≡◌, ℕ, suc, ◌*◌, ◌+◌, ◌<◌, None, IsSome, ⊤, Option, Some}
 use Rattle.ckd_types.specs.Sense.{equipment_sense}
 use Rattle.ckd_types.specs.Volume.{track_in}
 use Rattle.ckd_chain.specs.declared.mark.Stage.{Stage}
@@ -9,8 +9,8 @@ use Rattle.ckd_chain.specs.Steps.{word_of, start_of, standing, checked, held_out
 use Rattle.ckd_rules.specs.declared.stance.Stance.{Stance}
 use Rattle.ckd_rules.specs.Walk.{Walked, untouched, walk}
 use Rattle.plain_defs.specs.Effect.{Effect, kept_by, acted}
-use Rattle.plain_defs.specs.PlainState.{PlainState, fixed_of}
-use Rattle.plain_device.specs.Between.{EndsBy}
+use Rattle.plain_defs.specs.PlainState.{PlainState}
+use Rattle.plain_device.specs.Between.{EndsBy, fixed_with}
 use Rattle.plain_device.specs.declared.device.Went.{Went}
 use Rattle.plain_device.specs.declared.device.Went.TheVariants as goes
 
@@ -20,7 +20,7 @@ IsAtLook _ = ⊥
 
 -- the command at hand of a chain on the device looks at a track
 pub record IsLooking (device : PlainState) (chain : ChainState) : Type 0 where
-  pub fixed : chain.fixed ≡ fixed_of device
+  pub fixed : chain.fixed ≡ fixed_with device chain.fixed.number
   pub stage : IsAtLook chain.stage
   pub running : IsSome chain.at.next
 
@@ -34,9 +34,9 @@ walk_of device chain n = walk_by device chain n chain.stage chain.at.stance
 
 -- the effect of a command that has begun
 abbrev pub stage_effect : PlainState → ℕ → ChainState → Option Stage → Effect
-stage_effect device path chain (Some Over) = kept_by device path (untouched (held_outcome chain chain.held))
-stage_effect device path chain (Some (Asks act)) = acted device path (start_of chain).stance (word_of chain) act
-stage_effect device path chain _ = kept_by device path (walk_of device chain (length device.volume))
+stage_effect device path chain (Some Over) = kept_by device.paths path (untouched (held_outcome chain chain.held))
+stage_effect device path chain (Some (Asks act)) = acted (fixed_with device chain.fixed.number) device.paths path (start_of chain).stance (word_of chain) act
+stage_effect device path chain _ = kept_by device.paths path (walk_of device chain (device.cylinders * 15))
 
 -- it looks at no track
 abbrev pub IsAtAnswer : Option Stage → Type 0
@@ -58,5 +58,5 @@ pub record GoesTo (device after : PlainState) (chain then_chain : ChainState) (t
   pub on_device : track < device.cylinders * 15
 
 abbrev pub IsWent : PlainState → ℕ → PlainState → ChainState → ChainState → Went → Type 0
-IsWent device path after chain then_chain (goes.Over end) = (n : ℕ) → EndsBy after chain then_chain end (kept_by device path (walk_of device chain (suc n)))
+IsWent device path after chain then_chain (goes.Over end) = (n : ℕ) → EndsBy device after chain then_chain end (kept_by device.paths path (walk_of device chain (suc n)))
 IsWent device path after chain then_chain (goes.On track) = GoesTo device after chain then_chain track

@@ -1,47 +1,46 @@
-ghost use Rattle.std.specs.Prelude.{◌≡◌, ◌<◌, ◌≤◌, ◌*◌, ◌+◌, IfOk, IfSome, IsSome, OnOk, length};
+ghost use Rattle.std.specs.Prelude.{◌≡◌, ◌<◌, ◌≤◌, ◌*◌, ◌+◌, [], IfOk, IfSome, IsSome, OnOk, OnErr};
+ghost use Rattle.ckd_types.specs.Volume.{empty_volume};
 ghost use Rattle.ckd_chain.specs.Steps.{need_of};
-ghost use Rattle.ckd_chain.specs.declared.progress.Settled.TheVariants.{Sent};
-ghost use Rattle.ckd_rules.specs.declared.order.LocalAct.TheVariants.{SetGroup};
-ghost use Rattle.plain_defs.specs.Acts.{sensed};
-ghost use Rattle.plain_defs.specs.Chain.{begun, starts_with_sense};
-ghost use Rattle.plain_defs.specs.PlainState.{fixed_of, empty_state, sense_for, with_sense, reset_path};
-ghost use Rattle.plain_device.specs.Acted.{settled_act, device_after};
+ghost use Rattle.plain_defs.specs.declared.journal.Act.TheVariants.{Loosen};
 ghost use Rattle.plain_defs.specs.Effect.{kept_by};
-ghost use Rattle.plain_device.specs.Between.{IsBetween, EndsBy, Ends};
+ghost use Rattle.plain_defs.specs.Loose.{act_done, cfw_lost, power_off};
+ghost use Rattle.plain_defs.specs.PlainState.{fixed_of, empty_state, reset_path, is_admitted};
+ghost use Rattle.plain_defs.specs.Program.{begun};
+ghost use Rattle.plain_device.specs.Between.{IsBetween, EndsBy, Ends, fixed_with};
 ghost use Rattle.plain_device.specs.Looking.{IsLooking, IsAtAnswer, IsWent, stage_effect, walk_of};
+ghost use Rattle.plain_device.specs.Volume.{IsActOn};
 
+use crate::loose::{LooseImage, copies, put_back, take_out};
+use crate::paths::Paths;
 use crate::volume::Images;
-use ckd_chain::{Chain, LocalAct, Progress, Settled};
-use ckd_rules::{group_bytes, sense_id_bytes};
-use ckd_sense::zero;
+use ckd_chain::{Chain, Progress, Settled};
 use ckd_types::{
-    Bytes, Ccw, CommandEnd, FixedData, Geometry, GroupId, NoMemory, PathNo, Sense, TrackNo,
+    Ccw, CommandEnd, FixedData, Geometry, HEADS, NoMemory, PathNo, TrackNo,
 };
-use path_group::Groups;
-use reserve_state::Reserve;
+use plain_defs::Act;
 use std::alloc::Global;
 use std::marker::Model;
+use std::mem::replace;
 
-/// A plain, uncached device: its volume, the groups of its four paths, who holds it, and a sense for
-/// each path.
+/// A plain, uncached device: its volume, what is kept of its paths, and its loose tracks.
 #[derive(Debug, Drop)]
 pub struct PlainDevice {
     fixed: FixedData,
     volume: Images,
-    groups: Groups,
-    reserve: Reserve,
-    senses: [Sense; 4],
+    paths: Paths,
+    loose: Vec<LooseImage>,
 }
 
 impl Model for PlainDevice {
-    ghost use Rattle.std.specs.Prelude.{◌≡◌, ◌*◌, length};
+    ghost use Rattle.std.specs.Prelude.{◌≡◌, ◌*◌, All, length};
     ghost use Rattle.plain_defs.specs.PlainState.{PlainState};
+    ghost use Rattle.plain_device.specs.Volume.{loose_of, IsLooseOf};
 
     ghost Value = { PlainState };
 
-    ghost view = { λ d. record { geometry = d.fixed.geometry; cylinders = d.fixed.cylinders; volume = d.volume.tracks; paths = d.groups; owner = d.reserve; senses = d.senses } };
+    ghost view = { λ d. record { geometry = d.fixed.geometry; cylinders = d.fixed.cylinders; volume = d.volume.tracks; paths = d.paths; loose = loose_of d.loose.items; number = d.fixed.number } };
 
-    ghost invariant = { λ d. (d.volume.geometry ≡ d.fixed.geometry) × (d.fixed.number ≡ 0) × (length d.volume.tracks ≡ d.fixed.cylinders * 15) };
+    ghost invariant = { λ d. (d.volume.geometry ≡ d.fixed.geometry) × (length d.volume.tracks ≡ d.fixed.cylinders * 15) × All (IsLooseOf d.fixed.geometry (d.fixed.cylinders * 15)) d.loose.items };
 }
 
 /// A look at one track: the command is over, or goes on to another one.
@@ -49,16 +48,6 @@ impl Model for PlainDevice {
 pub enum Went {
     Over(CommandEnd),
     On(TrackNo),
-}
-
-/// Sense, reserve, release and unconditional reserve send the sense that their path has.
-fn starts_with_sense(ccws: &[Ccw]) -> bool
-    ensures { result ≡ starts_with_sense ccws.now }
-{
-    match ccws.first() {
-        Some(ccw) => matches!(ccw.command, 0x04 | 0xb4 | 0x94 | 0x14),
-        None => false,
-    }
 }
 
 impl PlainDevice {
@@ -71,22 +60,20 @@ impl PlainDevice {
         Ok(PlainDevice {
             fixed: FixedData::new(geometry, cylinders, 0),
             volume: Images::empty(alloc, geometry, cylinders)?,
-            groups: Groups::new(),
-            reserve: Reserve::new(),
-            senses: [zero(); 4],
+            paths: Paths::new(),
+            loose: Vec::new(alloc),
         })
     }
 
-    /// Copies the whole volume.
+    /// Copies the whole volume, and the loose tracks.
     pub fn copy(&self, alloc: Global) -> Result<PlainDevice, NoMemory>
         ensures { IfOk result (λ made. made ≡ self.now) }
     {
         Ok(PlainDevice {
             fixed: self.fixed,
             volume: self.volume.copy(alloc)?,
-            groups: self.groups,
-            reserve: self.reserve,
-            senses: self.senses,
+            paths: self.paths,
+            loose: copies(alloc, &self.loose)?,
         })
     }
 
@@ -97,84 +84,93 @@ impl PlainDevice {
         self.fixed
     }
 
-    /// Keeps the sense of a path, where a command's end has one.
-    fn keep_sense(&mut self, path: PathNo, sense: Option<Sense>)
-        ensures { self.new ≡ with_sense self.old path sense }
+    /// What is kept of its paths.
+    pub fn paths(&self) -> &Paths
+        ensures { result.now ≡ self.now.paths }
     {
-        if let Some(sense) = sense {
-            self.senses[usize::from(path.get() - 1)] = sense;
-        }
+        &self.paths
+    }
+
+    /// Whether a program may start on a path.
+    pub fn is_admitted(&self, path: PathNo, ccws: &[Ccw]) -> bool
+        ensures { result ≡ is_admitted self.now.paths path ccws.now }
+    {
+        self.paths.is_admitted(path, ccws)
     }
 
     /// A program begins: unless it begins with a command that sends the sense of its path, that is zero.
     pub fn begin(&mut self, path: PathNo, ccws: &[Ccw])
-        ensures { self.new ≡ begun self.old path ccws.now }
+        ensures { self.new ≡ record self.old { paths = begun self.old.paths path ccws.now } }
     {
-        if !starts_with_sense(ccws) {
-            self.keep_sense(path, Some(zero()));
-        }
+        self.paths.begin(path, ccws);
     }
 
     /// Resets a path: its state and its sense, and what it held.
     pub fn reset(&mut self, path: PathNo)
-        ensures { self.new ≡ reset_path self.old path }
+        ensures { self.new ≡ record self.old { paths = reset_path self.old.paths path } }
     {
-        self.groups.reset(path);
-        self.reserve.path_reset(self.groups.paths(), path);
-        self.senses[usize::from(path.get() - 1)] = zero();
+        self.paths.reset(path);
     }
 
-    /// Sends the sense of a path, which is then zero.
-    fn sensed(&mut self, alloc: Global, path: PathNo) -> Result<Settled, NoMemory>
-        ensures how { IfOk result (λ how. how ≡ Sent (sense_for self.old path).bytes) }
-        ensures after { OnOk result (self.new ≡ sensed self.old path) }
+    /// A track becomes loose: the device keeps what it is now.
+    fn loosen(&mut self, alloc: Global, t: TrackNo) -> Result<(), NoMemory>
+        requires { t < self.old.cylinders * 15 }
+        ensures done { OnOk result (self.new ≡ act_done self.old (Loosen t)) }
+        ensures same { OnErr result (self.new ≡ self.old) }
     {
-        let at = usize::from(path.get() - 1);
-        let bytes = Bytes::from_slice(alloc, &self.senses[at].bytes)?;
-        self.keep_sense(path, Some(zero()));
-        Ok(Settled::Sent(bytes))
+        self.loose.reserve(1)?;
+        let image = self.volume.image(t).copy(alloc)?;
+        self.loose.push_reserved(LooseImage { track: t, image });
+        Ok(())
     }
 
-    fn set_group(&mut self, path: PathNo, function: u8, id: GroupId) -> Settled
-        ensures how { result ≡ settled_act self.old path (SetGroup function id) }
-        ensures after { self.new ≡ device_after self.old path (SetGroup function id) }
+    /// All loose tracks go back to what they were, and the number is raised.
+    fn lose_loose(&mut self, alloc: Global)
+        ensures { self.new ≡ cfw_lost self.old }
     {
-        match self.groups.set(path, function, id) {
-            Ok(()) => {
-                self.reserve
-                    .group_set(self.groups.paths(), path, function, id);
-                Settled::Written
-            }
-            Err(_) => Settled::BadParameter,
-        }
+        let loose = replace(&mut self.loose, Vec::new(alloc));
+        put_back(&mut self.volume, loose);
+        let number = self.fixed.number().checked_add(1).unwrap_or(0);
+        self.fixed = FixedData::new(self.fixed.geometry(), self.fixed.cylinders(), number);
     }
 
-    /// Does what a command of a path asks, and says how the command is to be settled.
-    fn act(&mut self, alloc: Global, path: PathNo, act: LocalAct) -> Result<Settled, NoMemory>
-        ensures how { IfOk result (λ how. how ≡ settled_act self.old path act) }
-        ensures after { OnOk result (self.new ≡ device_after self.old path act) }
+    /// Does an act of cache fast write. Only one that loosens takes memory.
+    pub fn act(&mut self, alloc: Global, act: Act) -> Result<(), NoMemory>
+        requires { IsActOn (self.old.cylinders * 15) act }
+        ensures done { OnOk result (self.new ≡ act_done self.old act) }
+        ensures same { OnErr result (self.new ≡ self.old) }
     {
         match act {
-            LocalAct::Sense => self.sensed(alloc, path),
-            LocalAct::Reserve | LocalAct::Steal => {
-                self.reserve.hold(self.groups.owner_of(path));
-                self.sensed(alloc, path)
+            Act::Loosen(t) => self.loosen(alloc, t),
+            Act::Harden(t) => {
+                take_out(&mut self.loose, t);
+                Ok(())
             }
-            LocalAct::Release => {
-                self.reserve.free();
-                self.sensed(alloc, path)
-            }
-            LocalAct::SenseId => {
-                let bytes = Bytes::from_slice(alloc, &sense_id_bytes(self.fixed.geometry()))?;
-                Ok(Settled::Sent(bytes))
-            }
-            LocalAct::SetGroup { function, id } => Ok(self.set_group(path, function, id)),
-            LocalAct::SenseGroup => {
-                let state = self.groups.paths()[usize::from(path.get() - 1)];
-                let bytes = group_bytes(state, path, self.reserve.owner());
-                Ok(Settled::Sent(Bytes::from_slice(alloc, &bytes)?))
+            Act::CfwLost => {
+                self.lose_loose(alloc);
+                Ok(())
             }
         }
+    }
+
+    /// A power loss takes the data of cache fast write, and all that is kept of the paths.
+    pub fn power_off(&mut self, alloc: Global)
+        ensures { self.new ≡ power_off self.old }
+    {
+        if !self.loose.is_empty() {
+            self.lose_loose(alloc);
+        }
+        self.paths = Paths::new();
+    }
+
+    /// Another volume takes the place of the old one: its tracks are empty.
+    pub fn empty(&mut self, alloc: Global) -> Result<(), NoMemory>
+        ensures done { OnOk result (self.new ≡ record self.old { volume = empty_volume self.old.cylinders; loose = [] }) }
+        ensures same { OnErr result (self.new ≡ self.old) }
+    {
+        self.volume = Images::empty(alloc, self.fixed.geometry(), self.fixed.cylinders())?;
+        self.loose.clear();
+        Ok(())
     }
 
     /// A look at the track that the command at hand is on.
@@ -192,14 +188,14 @@ impl PlainDevice {
     {
         match chain.step(alloc, Some(self.volume.image(track)))? {
             Progress::Ended(end) => {
-                self.keep_sense(path, end.sense);
+                self.paths.keep_sense(path, end.sense);
                 Ok(Went::Over(end))
             }
             Progress::Need(next) => Ok(Went::On(next)),
             Progress::Write { track, edit } => {
                 self.volume.edit(track, edit)?;
                 let end = chain.settle(Settled::Written);
-                self.keep_sense(path, end.sense);
+                self.paths.keep_sense(path, end.sense);
                 Ok(Went::Over(end))
             }
             Progress::Local(_) => unreachable!(),
@@ -217,17 +213,18 @@ impl PlainDevice {
         requires looking { IsLooking self.old chain.old }
         requires track { first ≡ chain.old.at.stance.track }
         requires on_device { first < self.old.cylinders * 15 }
-        ensures ends { IfOk result (λ end. EndsBy self.new chain.old chain.new end (kept_by self.old path (walk_of self.old chain.old (length self.old.volume)))) }
+        ensures ends { IfOk result (λ end. EndsBy self.old self.new chain.old chain.new end (kept_by self.old.paths path (walk_of self.old chain.old (self.old.cylinders * 15)))) }
     {
         let mut track = first;
-        for _turn in 0..self.volume.len() {
+        let tracks = u16::from(self.fixed.cylinders()) * HEADS;
+        for _turn in 0..tracks {
             match self.look(alloc, path, chain, track)? {
                 Went::Over(end) => return Ok(end),
                 Went::On(next) => track = next,
             }
         }
         let end = chain.settle(Settled::Equipment);
-        self.keep_sense(path, end.sense);
+        self.paths.keep_sense(path, end.sense);
         Ok(end)
     }
 
@@ -240,17 +237,17 @@ impl PlainDevice {
     ) -> Result<CommandEnd, NoMemory>
         requires running { IsSome chain.old.at.next }
         requires answers { IsAtAnswer chain.old.stage }
-        ensures ends { IfOk result (λ end. EndsBy self.new chain.old chain.new end (stage_effect self.old path chain.old chain.old.stage)) }
+        ensures ends { IfOk result (λ end. EndsBy self.old self.new chain.old chain.new end (stage_effect self.old path chain.old chain.old.stage)) }
     {
         match chain.step(alloc, None)? {
             Progress::Ended(end) => {
-                self.keep_sense(path, end.sense);
+                self.paths.keep_sense(path, end.sense);
                 Ok(end)
             }
             Progress::Local(act) => {
-                let how = self.act(alloc, path, act)?;
+                let how = self.paths.act(alloc, self.fixed.geometry(), path, act)?;
                 let end = chain.settle(how);
-                self.keep_sense(path, end.sense);
+                self.paths.keep_sense(path, end.sense);
                 Ok(end)
             }
             Progress::Need(_) | Progress::Write { .. } => unreachable!(),
@@ -265,12 +262,12 @@ impl PlainDevice {
         chain: &mut Chain,
         need: Option<TrackNo>,
     ) -> Result<CommandEnd, NoMemory>
-        requires fixed { chain.old.fixed ≡ fixed_of self.old }
+        requires fixed { chain.old.fixed ≡ fixed_with self.old chain.old.fixed.number }
         requires running { IsSome chain.old.at.next }
         requires begun { IsSome chain.old.stage }
         requires need { need ≡ need_of chain.old }
         requires on_device { IfSome need (λ t. t < self.old.cylinders * 15) }
-        ensures ends { IfOk result (λ end. EndsBy self.new chain.old chain.new end (stage_effect self.old path chain.old chain.old.stage)) }
+        ensures ends { IfOk result (λ end. EndsBy self.old self.new chain.old chain.new end (stage_effect self.old path chain.old chain.old.stage)) }
     {
         match need {
             Some(track) => self.follow(alloc, path, chain, track),

@@ -1,5 +1,5 @@
-ghost use Rattle.std.specs.Prelude.{◌≡◌, IfOk, OnErr, OnOk};
-ghost use Rattle.plain_defs.specs.Chain.{whole_run};
+ghost use Rattle.std.specs.Prelude.{◌≡◌, [], IfOk, OnErr, OnOk};
+ghost use Rattle.plain_defs.specs.Program.{whole_run};
 ghost use Rattle.plain_defs.specs.Ends.{LastIsOver};
 
 use crate::PlainDevice;
@@ -17,8 +17,8 @@ impl PlainDevice {
         path: PathNo,
         program: &Program,
     ) -> Result<EndList, NoMemory>
-        ensures ends { IfOk result (λ ends. ends.items ≡ (whole_run self.old path program.now).ends) }
-        ensures after { OnOk result (self.new ≡ (whole_run self.old path program.now).state) }
+        ensures ends { IfOk result (λ ends. ends.items ≡ (whole_run self.old path program.now []).ends) }
+        ensures after { OnOk result (self.new ≡ (whole_run self.old path program.now []).state) }
         ensures over { IfOk result (λ ends. LastIsOver ends.items) }
         ensures err { OnErr result (self.new ≡ self.old) }
     {

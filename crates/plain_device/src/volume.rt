@@ -77,6 +77,15 @@ impl Images {
         Ok(())
     }
 
+    /// Puts another image in place of a track's.
+    pub fn set(&mut self, t: TrackNo, image: TrackImage)
+        requires track { t < length self.old.tracks }
+        requires model { image.geometry ≡ self.old.geometry }
+        ensures { self.new ≡ record self.old { tracks = slice_set self.old.tracks t image.track } }
+    {
+        self.images[usize::from(t.get())] = image;
+    }
+
     /// Copies every track.
     pub fn copy(&self, alloc: Global) -> Result<Images, NoMemory>
         ensures { IfOk result (λ made. made ≡ self.now) }

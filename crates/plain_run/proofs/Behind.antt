@@ -3,11 +3,9 @@ use Rattle.std.proofs.Common.{◌≡◌, ℕ, Option, Some, None, true, false, r
 use Rattle.std.specs.Prelude.{IsSome, is_none, is_some, option_map}
 use Rattle.ckd_types.specs.declared.channel.CommandEnd.{CommandEnd}
 use Rattle.ckd_chain.specs.State.{ChainState}
-use Rattle.ckd_chain.specs.Steps.{word_of}
-use Rattle.ckd_rules.specs.Opening.{opening_of}
-use Rattle.plain_defs.specs.PlainState.{PlainState, fixed_of}
-use Rattle.plain_defs.proofs.EffectLemmas.{effect_fixed}
-use Rattle.plain_device.specs.Between.{IsBetween, Ends}
+use Rattle.ckd_types.specs.Fixed.{Fixed}
+use Rattle.plain_defs.specs.PlainState.{PlainState}
+use Rattle.plain_device.specs.Between.{IsBetween, Ends, fixed_with}
 use Rattle.plain_run.specs.declared.machine.Running.{Running}
 use Rattle.plain_run.specs.Between.{running_program}
 
@@ -18,11 +16,12 @@ some_of None is = absurd (cc)
 -- a chain that isn't over is between two commands
 pub between_after : (device after : PlainState) (path : ℕ) (chain then_chain : ChainState) (e : CommandEnd) → IsBetween device chain → Ends device path after chain then_chain e → is_none then_chain.at.next ≡ false → IsBetween after then_chain
 between_after device after path chain then_chain e between ends more =
-    let o = opening_of (fixed_of device) chain.at.stance (word_of chain) in record {
+    let fixed : then_chain.fixed ≡ chain.fixed = ap (λ (s : ChainState). s.fixed) ends.chain_is in record {
       fixed =
-          ap (λ (s : ChainState). s.fixed) ends.chain_is
+          fixed
           ∙ between.fixed
-          ∙ sym (ap (λ (x : PlainState). fixed_of x) ends.device_is ∙ effect_fixed device path chain.at.stance (word_of chain) o.stance o.opening);
+          ∙ ap (λ (f : Fixed). fixed_with device f.number) (sym fixed)
+          ∙ ap (λ (x : PlainState). fixed_with x then_chain.fixed.number) (sym ends.device_is);
       stage = ap (λ (s : ChainState). s.stage) ends.chain_is;
       running = some_of then_chain.at.next more;
     }

@@ -1,62 +1,73 @@
--- What a machine has to do with what is kept of its run.
-use Rattle.std.specs.Prelude.{◌≡◌, ℕ, ◌+◌, ◌-◌, List, [], ◌∷◌, ◌++◌, All, IsSome, count_by, Option, Some, None}
+-- What a machine has to do with the history of its run.
+use Rattle.std.specs.Prelude.{◌≡◌, ℕ, ◌+◌, List, [], ◌∷◌, All, count_by, length, Option, Some, None}
 use Rattle.ckd_types.specs.declared.channel.Ccw.{Ccw}
 use Rattle.ckd_types.specs.declared.channel.CommandEnd.{CommandEnd}
-use Rattle.ckd_rules.specs.declared.stance.Stance.{Stance}
 use Rattle.plain_defs.specs.Built.{IsBuilt}
-use Rattle.plain_defs.specs.Chain.{part_from, whole_run}
-use Rattle.plain_defs.specs.Journal.{Plans, program_of, is_of_path, replay, IsLegal}
+use Rattle.plain_defs.specs.History.{OpenEntry, History, no_history, IsPlain}
+use Rattle.plain_defs.specs.Journal.{Plans, program_of, replay}
+use Rattle.plain_defs.specs.Legal.{is_of_path}
 use Rattle.plain_defs.specs.PlainState.{PlainState}
+use Rattle.plain_defs.specs.Program.{Part, part_of}
 use Rattle.deck_plan.specs.Plans.{plan_of}
 use Rattle.plain_run.specs.declared.event.RunEvent.{RunEvent}
-use Rattle.plain_run.specs.Kept.{Kept, kept_after, kept_from, nothing_kept, IsPlain}
+use Rattle.plain_run.specs.Kept.{kept_after, kept_from}
 use Rattle.plain_run.specs.State.{RunningProgram, MachineState}
 
--- what is kept behind all of some events
-abbrev pub kept_last : Kept → List RunEvent → Kept
-kept_last k [] = k
-kept_last k (e ∷ es) = kept_last (kept_after k e) es
+-- the history behind all of some events
+abbrev pub kept_last : History → List RunEvent → History
+kept_last h [] = h
+kept_last h (e ∷ es) = kept_last (kept_after h e) es
 
--- the ends so far, and those of the commands that are left, are those of the whole program
-pub record IsFront (start : PlainState) (ccws : List Ccw) (state : PlainState) (s : Stance) (next : Option ℕ) (ends : List CommandEnd) : Type 0 where
-  pub left : ℕ
-  pub fits : IsSome next → left ≡ 4096 - s.commands
-  pub ends_are : ends ++ (part_from left state 1 ccws s next).ends ≡ (whole_run start 1 ccws).ends
-  pub state_is : (part_from left state 1 ccws s next).state ≡ (whole_run start 1 ccws).state
+-- the machine is where a part of its program is
+pub record HasPart (p : Part) (m : MachineState) (r : RunningProgram) (ends : List CommandEnd) : Type 0 where
+  pub device_is : m.device ≡ p.state
+  pub fixed_is : r.fixed ≡ p.fixed
+  pub stance_is : r.stance ≡ p.stance
+  pub next_is : r.next ≡ p.next
+  pub ends_are : ends ≡ p.ends
 
 -- the journal of the programs that are over leads to this device
-abbrev pub at_rest : PlainState → Plans → Kept → PlainState
-at_rest empty plans k = replay plans empty k.items
+abbrev pub at_rest : PlainState → Plans → History → PlainState
+at_rest empty plans h = replay plans empty h.items
+
+-- its program on path 1, with its ends so far
+abbrev pub open_of : RunningProgram → List CommandEnd → OpenEntry
+open_of r ends = record { path = 1; ordinal = r.ordinal; ends = ends; acts = [] }
 
 -- a program runs from there
-pub record IsAtCommand (empty : PlainState) (plans : Plans) (m : MachineState) (k : Kept) (r : RunningProgram) : Type 0 where
+pub record IsAtCommand (empty : PlainState) (plans : Plans) (m : MachineState) (h : History) (r : RunningProgram) : Type 0 where
   pub started : r.ordinal ≡ m.started
-  pub others : m.started ≡ count_by (is_of_path 1) k.items + 1
+  pub others : m.started ≡ count_by (is_of_path 1) h.items + 1
   pub program : r.ccws ≡ program_of plans 1 r.ordinal
   pub ends : List CommandEnd
-  pub front : IsFront (at_rest empty plans k) r.ccws m.device r.stance r.next ends
-  pub free : (at_rest empty plans k).owner ≡ None
-  pub running : k.running ≡ Some (record { ordinal = r.ordinal; ends = ends })
+  pub part : HasPart (part_of (at_rest empty plans h) 1 r.ccws [] (length ends)) m r ends
+  pub running : h.running ≡ Some (open_of r ends)
 
-pub record IsIdle (empty : PlainState) (plans : Plans) (m : MachineState) (k : Kept) : Type 0 where
-  pub others : m.started ≡ count_by (is_of_path 1) k.items
-  pub device : m.device ≡ at_rest empty plans k
-  pub free : (at_rest empty plans k).owner ≡ None
-  pub running : k.running ≡ None
+pub record IsIdle (empty : PlainState) (plans : Plans) (m : MachineState) (h : History) : Type 0 where
+  pub others : m.started ≡ count_by (is_of_path 1) h.items
+  pub device : m.device ≡ at_rest empty plans h
+  pub running : h.running ≡ None
 
-abbrev pub IsAt : PlainState → Plans → MachineState → Kept → Option RunningProgram → Type 0
-IsAt empty plans m k None = IsIdle empty plans m k
-IsAt empty plans m k (Some r) = IsAtCommand empty plans m k r
+abbrev pub IsAt : PlainState → Plans → MachineState → History → Option RunningProgram → Type 0
+IsAt empty plans m h None = IsIdle empty plans m h
+IsAt empty plans m h (Some r) = IsAtCommand empty plans m h r
 
--- the machine and what is kept belong together
-pub record Belongs (empty : PlainState) (plans : Plans) (m : MachineState) (k : Kept) : Type 0 where
-  pub legal : IsLegal plans empty k.items
-  pub at : IsAt empty plans m k m.running
+-- between two programs nobody holds the device, and no track is loose
+pub record IsQuiet (state : PlainState) : Type 0 where
+  pub free : state.paths.owner ≡ None
+  pub firm : state.loose ≡ []
+
+-- the machine and the history belong together
+pub record Belongs (empty : PlainState) (plans : Plans) (m : MachineState) (h : History) : Type 0 where
+  pub plain : IsPlain plans empty h
+  pub quiet : IsQuiet (at_rest empty plans h)
+  pub none_waits : h.waiting ≡ []
+  pub at : IsAt empty plans m h m.running
 
 -- the events so far are plain, and led to this machine
 pub record Follows (empty : PlainState) (plans : Plans) (m : MachineState) (events : List RunEvent) : Type 0 where
-  pub plain : All (IsPlain empty plans) (kept_from nothing_kept events)
-  pub belongs : Belongs empty plans m (kept_last nothing_kept events)
+  pub plain : All (IsPlain plans empty) (kept_from no_history events)
+  pub belongs : Belongs empty plans m (kept_last no_history events)
 
 -- no program of path 1 takes or frees the device
 abbrev pub AreBuilt : Plans → Type 0

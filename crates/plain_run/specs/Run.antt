@@ -3,10 +3,10 @@ use Rattle.std.specs.Prelude.{◌≡◌, ℕ, zero, suc, ◌+◌, ◌-◌, nat_l
 use Rattle.ckd_types.specs.declared.channel.Ccw.{Ccw}
 use Rattle.ckd_types.specs.declared.geometry.Geometry.{Geometry}
 use Rattle.ckd_types.specs.Ccw.{ccw_at}
-use Rattle.plain_defs.specs.PlainState.{empty_state}
+use Rattle.plain_defs.specs.PlainState.{empty_state, fixed_of}
 use Rattle.ckd_rules.specs.Ends.{end_of, goes_to}
-use Rattle.plain_defs.specs.Chain.{begun}
-use Rattle.plain_defs.specs.Effect.{Effect, command_effect}
+use Rattle.plain_defs.specs.Program.{begun}
+use Rattle.plain_defs.specs.Effect.{Effect, effect_on, behind_effect}
 use Rattle.ckd_rules.specs.Stance.{first_stance}
 use Rattle.deck_plan.specs.declared.event.EventLine.{EventLine}
 use Rattle.deck_plan.specs.declared.event.EventLine.TheVariants.{Start, Step, Run}
@@ -26,9 +26,9 @@ pub record Moved : Type 0 where
 abbrev pub begin_with : MachineState → List Ccw → Moved
 begin_with m ccws = record {
   machine = record {
-    device = begun m.device 1 ccws;
+    device = record m.device { paths = begun m.device.paths 1 ccws };
     started = m.started + 1;
-    running = Some (record { ordinal = m.started + 1; ccws = ccws; stance = first_stance; next = Some 0 });
+    running = Some (record { ordinal = m.started + 1; fixed = fixed_of m.device; ccws = ccws; stance = first_stance; next = Some 0 });
   };
   events = Accepted (m.started + 1) ∷ [];
 }
@@ -48,12 +48,12 @@ goes_on_at r e None = None
 -- the command of word i ended
 abbrev pub ended_at : MachineState → RunningProgram → ℕ → Effect → Moved
 ended_at m r i e = record {
-  machine = record m { device = e.state; running = goes_on_at r e (goes_to r.ccws i e.outcome) };
+  machine = record m { device = behind_effect m.device e; running = goes_on_at r e (goes_to r.ccws i e.outcome) };
   events = Ended r.ordinal (end_of i (ccw_at r.ccws i) e.outcome) ∷ [];
 }
 
 abbrev pub one_command : MachineState → RunningProgram → Option ℕ → Moved
-one_command m r (Some i) = ended_at m r i (command_effect m.device 1 r.stance (ccw_at r.ccws i))
+one_command m r (Some i) = ended_at m r i (effect_on r.fixed m.device 1 r.stance (ccw_at r.ccws i))
 one_command m r None = record { machine = record m { running = None }; events = [] }
 
 abbrev pub step : MachineState → Option RunningProgram → Moved

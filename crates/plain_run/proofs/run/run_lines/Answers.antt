@@ -16,7 +16,7 @@ loop-line-init c =
       ap (λ (l : List RunEvent). l ++ events_from plan c.in_ok-machine.machine c.args.schedule.now.items) c.new-happened.ensures
           ∙ ap (λ (m : MachineState). events_from plan m c.args.schedule.now.items) c.in_ok-machine.ensures,
       subst (λ (l : List RunEvent). Follows (empty_state c.args.geometry c.args.cylinders) c.args.plans.now c.in_ok-machine.machine l) (sym c.new-happened.ensures)
-          (nothing_yet (empty_state c.args.geometry c.args.cylinders) c.args.plans.now c.in_ok-machine.machine c.in_ok-machine.ensures refl),
+          (nothing_yet (empty_state c.args.geometry c.args.cylinders) c.args.plans.now c.in_ok-machine.machine c.in_ok-machine.ensures (record { free = refl; firm = refl })),
     )
 
 pub loop-line-preserved : goal.loop-line-preserved

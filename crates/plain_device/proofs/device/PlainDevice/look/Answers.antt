@@ -6,8 +6,9 @@ use Rattle.ckd_types.specs.Fixed.{Fixed}
 use Rattle.ckd_types.specs.Volume.{track_in}
 use Rattle.ckd_chain.specs.declared.progress.Progress.{Progress}
 use Rattle.ckd_chain.specs.Facts.{CountsEnd, NeedsTrack}
-use Rattle.plain_defs.specs.PlainState.{PlainState, with_sense}
+use Rattle.plain_defs.specs.PlainState.{PlainState}
 use Rattle.plain_device.specs.Volume.{ImageVolume}
+use Rattle.plain_device.proofs.Kept.{kept_is, kept_edited}
 use Rattle.plain_device.proofs.Looks.{image_for, look_ended, look_onward, look_edited}
 use Rattle.plain_device.proofs.device.PlainDevice.look.Goals as goal
 
@@ -19,8 +20,8 @@ returns-in-Ended c =
     ∙ ap (λ (x : PlainState). record { geometry = x.geometry; track = track_in x.volume c.args.track }) c.self.view_is
     ∙ ap (λ (u : ℕ). record { geometry = c.args.self.now.geometry; track = track_in c.args.self.now.volume u }) c.requires.track
     in record {
-      went = look_ended c.args.self.now c.args.chain.now c.requires.looking.stage c.image.result.now image c.in_ok-end.field-0 c.step.new.self c.in_ok-end.ensures.progress c.in_ok-end.ensures.chain c.args.path c.in-Ended.end c.keep_sense.new.self c.in-Ended.is
-          c.keep_sense.ensures
+      went = look_ended c.args.self.now c.args.chain.now c.requires.looking.stage c.image.result.now image c.in_ok-end.field-0 c.step.new.self c.in_ok-end.ensures.progress c.in_ok-end.ensures.chain c.args.path c.in-Ended.end _ c.in-Ended.is
+          (kept_is _ c.args.self.now c.keep_sense.new.self c.args.path c.in-Ended.end.sense c.self.view_is c.keep_sense.ensures)
           (subst (λ (p : Progress). CountsEnd c.args.chain.now c.step.new.self p) c.in-Ended.is c.in_ok-end.ensures.counted);
     }
 
@@ -44,10 +45,10 @@ returns-in_ok-edit-in-Write c =
     ∙ ap (λ (x : PlainState). record { geometry = x.geometry; track = track_in x.volume c.args.track }) c.self.view_is
     ∙ ap (λ (u : ℕ). record { geometry = c.args.self.now.geometry; track = track_in c.args.self.now.volume u }) c.requires.track
     in record {
-      went = look_edited c.args.self.now c.args.chain.now c.requires.looking.stage c.image.result.now image c.in_ok-end.field-0 c.step.new.self c.in_ok-end.ensures.progress c.in_ok-end.ensures.chain c.args.path c.in-Write.track c.in-Write.edit c.edit.new.self.tracks c.settle-end.result c.settle-end.new.self c.keep_sense-in-Write.new.self c.in-Write.is
+      went = look_edited c.args.self.now c.args.chain.now c.requires.looking.stage c.image.result.now image c.in_ok-end.field-0 c.step.new.self c.in_ok-end.ensures.progress c.in_ok-end.ensures.chain c.args.path c.in-Write.track c.in-Write.edit c.edit.new.self.tracks c.settle-end.result c.settle-end.new.self _ c.in-Write.is
           (ap (λ (v : ImageVolume). v.tracks) c.in_ok-edit-in-Write.ensures.done
           ∙ ap (λ (x : PlainState). slice_set x.volume c.in-Write.track (apply_edit c.in-Write.edit (track_in x.volume c.in-Write.track))) c.self.view_is)
           c.settle-end.ensures.end c.settle-end.ensures.chain
-          (c.keep_sense-in-Write.ensures ∙ ap (λ (x : PlainState). with_sense (record x { volume = c.edit.new.self.tracks }) c.args.path c.settle-end.result.sense) c.self.view_is)
+          (kept_edited _ c.args.self.now c.keep_sense-in-Write.new.self c.args.path c.settle-end.result.sense c.self.view_is c.edit.new.self.tracks c.keep_sense-in-Write.ensures)
           c.settle-end.ensures.counted;
     }
