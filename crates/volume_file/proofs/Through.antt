@@ -13,8 +13,8 @@ use Rattle.ckd_types.specs.declared.geometry.Cchh.{Cchh}
 use Rattle.ckd_types.specs.declared.geometry.Geometry.{Geometry}
 use Rattle.ckd_types.specs.declared.geometry.Geometry.TheVariants.{D3390, D3380}
 use Rattle.ckd_types.specs.Geometry.{cchh_of}
-use Rattle.ckd_types.specs.Track.{home_bytes, record_bytes, end_mark, track_bytes}
-use Rattle.track_image.specs.Image.{Image, IsImage}
+use Rattle.ckd_types.specs.Track.{Fits, home_bytes, record_bytes, end_mark, track_bytes}
+use Rattle.track_image.specs.Image.{Image}
 use Rattle.track_image.specs.Packed.{most_bytes}
 use Rattle.track_image.specs.Reading.{reading}
 use Rattle.track_image.proofs.Sizes.{few_bytes, within}
@@ -26,18 +26,18 @@ use Rattle.volume_file.proofs.Told.{refused_first, refused_then, tells_on}
 use Rattle.volume_file.specs.Loading.{◌>>=◌, head_at, head_in, image_at, length_in, loading, track_at, tracks_at}
 
 -- the bytes of an image are read as its track
-image_again : (i : Image) → IsImage i → reading i.geometry i.track.home (track_bytes i.track) ≡ Ok i.track
-image_again i is = reading_again i.geometry i.track is.fits is.addressed
+image_again : (i : Image) → Fits i.geometry i.track → reading i.geometry i.track.home (track_bytes i.track) ≡ Ok i.track
+image_again i is = reading_again i.geometry i.track is
 
-pub few : (i : Image) → IsImage i → length (track_bytes i.track) ≤ most_bytes
+pub few : (i : Image) → Fits i.geometry i.track → length (track_bytes i.track) ≤ most_bytes
 few i is =
     omega (
       arith,
       length-append (home_bytes i.track.home ++ flat_map record_bytes i.track.records) end_mark,
       length-append (home_bytes i.track.home) (flat_map record_bytes i.track.records),
-      few_bytes i.geometry i.track.records is.fits.zero,
+      few_bytes i.geometry i.track.records is.zero,
       within i.geometry,
-      is.fits.cost,
+      is.cost,
     )
 
 pub length-part : (i : Image) → length (track_part i) ≡ 4 + length (track_bytes i.track)

@@ -5,8 +5,8 @@ use Rattle.byteorder.specs.Endian.{big_bytes}
 use Rattle.ckd_types.specs.declared.geometry.Geometry.{Geometry}
 use Rattle.ckd_types.specs.declared.geometry.Geometry.TheVariants.{D3390, D3380}
 use Rattle.ckd_types.specs.Geometry.{cchh_of}
-use Rattle.ckd_types.specs.Track.{empty_track, track_bytes}
-use Rattle.track_image.specs.Image.{Image, IsImage}
+use Rattle.ckd_types.specs.Track.{Fits, empty_track, track_bytes}
+use Rattle.track_image.specs.Image.{Image}
 
 -- a volume, with the images of its tracks in rising order
 pub record ImageVolume : Type 0 where
@@ -22,7 +22,7 @@ image_in v t = slice_index_or v.images t (empty_image v.geometry t)
 
 -- an image may be that of a track of a volume: it is of the volume's model, and is where it says
 pub record IsPlaced (g : Geometry) (t : ℕ) (i : Image) : Type 0 where
-  pub fits : IsImage i
+  pub fits : Fits i.geometry i.track
   pub model : i.geometry ≡ g
   pub home : i.track.home ≡ cchh_of t
 
