@@ -1,5 +1,6 @@
 ghost use Rattle.std.specs.Prelude.{◌≡◌, ◌<◌, ◌≤◌, ◌+◌, ◌*◌, IfOk, IfSome, IsSome, OnOk, OnErr, is_none, Some, None};
 ghost use Rattle.std.specs.Prelude.{option_map};
+ghost use Rattle.ckd_types.specs.Parameters.{is_provisional};
 ghost use Rattle.ckd_chain.specs.Facts.{IsChain, SuitsTrack, NeedsTrack, FurtherFrom, GoesFurther, CountsEnd, IsAsking, MayBeWritten, MaySettle};
 ghost use Rattle.ckd_chain.specs.Steps.{first_mark, begun_chain, index_of, word_of, standing, stage_of, opened, begin_with, opening_at, needed, need_of, start_of, behind, end_with, waiting, turned_with, looked_with, held_outcome, stepped_by, stepped, checked, written_by, settled_by, again_from, mode_by, inhibits_by, last_by};
 ghost use Rattle.ckd_rules.specs.Facts.{HasRoom, Stands, Behind, IsLook};
@@ -376,6 +377,16 @@ impl Chain {
     {
         match self.at.stance.extent {
             Some(extent) => extent.inhibit_fast,
+            None => false,
+        }
+    }
+
+    /// Whether writes may live in the cache alone: the extent has a number, and its mode isn't bypass. Own.
+    pub fn provisional(&self) -> bool
+        ensures { result ≡ is_provisional self.now.at.stance.extent }
+    {
+        match self.at.stance.extent {
+            Some(extent) => extent.number.is_some() && extent.mode != Mode::Bypass,
             None => false,
         }
     }

@@ -1,5 +1,5 @@
 -- The parameter bytes of an extent and of a domain.
-use Rattle.std.specs.Prelude.{ℕ, ◌+◌, ◌*◌, Bool, List, [], ◌∷◌, ◌++◌, if◌then◌else◌}
+use Rattle.std.specs.Prelude.{ℕ, ◌+◌, ◌*◌, Bool, is_some, unwrap_or, Option, List, [], ◌∷◌, ◌++◌, if◌then◌else◌}
 use Rattle.ckd_types.specs.declared.parameters.Mode.{Mode}
 use Rattle.ckd_types.specs.declared.parameters.Mode.TheVariants.{Normal, Bypass, InhibitLoad, Sequential}
 use Rattle.ckd_types.specs.declared.parameters.Extent.{Extent}
@@ -8,7 +8,7 @@ use Rattle.ckd_types.specs.declared.parameters.Orientation.TheVariants.{Count, H
 use Rattle.ckd_types.specs.declared.parameters.Operation.{Operation}
 use Rattle.ckd_types.specs.declared.parameters.Domain.{Domain}
 use Rattle.ckd_types.specs.Geometry.{cchh_of}
-use Rattle.ckd_types.specs.Track.{cchh_bytes}
+use Rattle.ckd_types.specs.Track.{two_bytes, cchh_bytes}
 use Rattle.ckd_types.specs.Parameters.{operation_code}
 
 abbrev pub mode_code : Mode → ℕ
@@ -17,14 +17,18 @@ mode_code Bypass = 1
 mode_code InhibitLoad = 2
 mode_code Sequential = 3
 
--- bits 0 and 1 are set, bits 3 to 5 are the mode, and bit 7 inhibits fast writes
-abbrev pub attributes : Mode → Bool → ℕ
-attributes mode inhibit = 0xc0 + mode_code mode * 4 + (if inhibit then 1 else 0)
+-- bits 0 and 1 are set, bits 3 to 5 are the mode, bit 6 says that there is a number, and bit 7 inhibits fast writes
+abbrev pub attributes : Mode → Bool → Bool → ℕ
+attributes mode numbered inhibit = 0xc0 + mode_code mode * 4 + (if numbered then 2 else 0) + (if inhibit then 1 else 0)
 
--- no block size and no cache fast write id
+-- the number of cache fast write data, or zeros
+abbrev pub number_bytes : Option ℕ → List ℕ
+number_bytes number = two_bytes (unwrap_or number 0)
+
+-- no block size
 abbrev pub extent_bytes : Extent → List ℕ
 extent_bytes e =
-    (e.mask ∷ attributes e.mode e.inhibit_fast ∷ 0 ∷ 0 ∷ 0 ∷ 0 ∷ 0 ∷ 0 ∷ [])
+    (e.mask ∷ attributes e.mode (is_some e.number) e.inhibit_fast ∷ 0 ∷ 0 ∷ []) ++ number_bytes e.number ++ (0 ∷ 0 ∷ [])
     ++ cchh_bytes (cchh_of e.first) ++ cchh_bytes (cchh_of e.last)
 
 abbrev pub orientation_code : Orientation → ℕ

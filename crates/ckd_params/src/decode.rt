@@ -1,6 +1,6 @@
 ghost use Rattle.std.specs.Prelude.{◌≡◌, ◌+◌, ◌*◌, ◌<◌, ◌≤◌, IfOk, IfSome, length, slice_index};
 ghost use Rattle.ckd_types.specs.Geometry.{track_at};
-ghost use Rattle.ckd_types.specs.Parameters.{number_at, cchh_at, seek_to, head_to, attributes_mode, orientation_of, is_bad_count, extent_of, domain_of};
+ghost use Rattle.ckd_types.specs.Parameters.{number_at, cchh_at, seek_to, head_to, attributes_mode, extent_number, orientation_of, is_bad_count, extent_of, domain_of};
 ghost use Rattle.ckd_params.specs.Wellformed.{IsExtent, IsDomain};
 
 use crate::bits::{
@@ -16,7 +16,7 @@ use ckd_types::{
 fn attributes_mode(byte: u8) -> Option<Mode>
     ensures { result ≡ attributes_mode byte }
 {
-    if byte & ARCHITECTURE != ARCHITECTURE || byte & CACHE_FAST_WRITE != 0 {
+    if byte & ARCHITECTURE != ARCHITECTURE {
         return None;
     }
     mode_of((byte & MODE) / MODE_UNIT)
@@ -99,8 +99,20 @@ fn is_bad_count(operation: Operation, count: u8) -> bool
     }
 }
 
-/// The extent that the parameters of define extent give on a device with so many cylinders. The
-/// block size and the id of cache fast write are ignored.
+/// The number of cache fast write data that an extent gives. Its bytes are ignored without its bit.
+fn extent_number(bytes: &[u8]) -> Option<u16>
+    requires { 6 ≤ length bytes.now }
+    ensures { result ≡ extent_number bytes.now }
+{
+    if bytes[1] & CACHE_FAST_WRITE == 0 {
+        None
+    } else {
+        Some(number_at(bytes, 4))
+    }
+}
+
+/// The extent that the parameters of define extent give on a device with so many cylinders, with any
+/// number. The block size is ignored.
 pub fn decode_extent(bytes: &[u8], cylinders: u8) -> Result<Extent, ParamFault>
     requires { cylinders ≤ 64 }
     ensures value { result ≡ extent_of cylinders bytes.now }
@@ -123,6 +135,7 @@ pub fn decode_extent(bytes: &[u8], cylinders: u8) -> Result<Extent, ParamFault>
         mask,
         mode,
         inhibit_fast: bytes[1] & INHIBIT_FAST_WRITE != 0,
+        number: extent_number(bytes),
         first,
         last,
     })

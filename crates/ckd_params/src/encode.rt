@@ -1,10 +1,12 @@
-ghost use Rattle.std.specs.Prelude.{◌≡◌, ℕ, ◌≤◌, ◌++◌, Ok, drop, length};
-ghost use Rattle.ckd_types.specs.Track.{cchh_bytes};
-ghost use Rattle.ckd_types.specs.Parameters.{cchh_at, extent_of, domain_of};
-ghost use Rattle.ckd_params.specs.Encoding.{mode_code, attributes, orientation_code, actions, extent_bytes, domain_bytes};
+ghost use Rattle.std.specs.Prelude.{◌≡◌, ℕ, ◌≤◌, ◌++◌, Ok, IfSome, drop, length};
+ghost use Rattle.ckd_types.specs.Track.{two_bytes, cchh_bytes};
+ghost use Rattle.ckd_types.specs.Parameters.{number_at, cchh_at, extent_of, domain_of};
+ghost use Rattle.ckd_params.specs.Encoding.{mode_code, attributes, number_bytes, orientation_code, actions, extent_bytes, domain_bytes};
 ghost use Rattle.ckd_params.specs.Wellformed.{IsExtent, IsDomain};
 
-use crate::bits::{ARCHITECTURE, INHIBIT_FAST_WRITE, MODE_UNIT, ORIENTATION_UNIT, PARAMETERS};
+use crate::bits::{
+    ARCHITECTURE, CACHE_FAST_WRITE, INHIBIT_FAST_WRITE, MODE_UNIT, ORIENTATION_UNIT, PARAMETERS,
+};
 use byteorder::{BigEndian, ByteOrder};
 use ckd_types::{Cchh, Domain, Extent, Mode, Operation, Orientation, cchh_of, operation_code};
 
@@ -19,11 +21,12 @@ fn mode_code(mode: Mode) -> u8
     }
 }
 
-fn attributes(mode: Mode, inhibit_fast: bool) -> u8
-    ensures { result ≡ attributes mode inhibit_fast }
+fn attributes(mode: Mode, numbered: bool, inhibit_fast: bool) -> u8
+    ensures { result ≡ attributes mode numbered inhibit_fast }
 {
+    let fast = if numbered { CACHE_FAST_WRITE } else { 0 };
     let inhibit = if inhibit_fast { INHIBIT_FAST_WRITE } else { 0 };
-    ARCHITECTURE + mode_code(mode) * MODE_UNIT + inhibit
+    ARCHITECTURE + mode_code(mode) * MODE_UNIT + fast + inhibit
 }
 
 fn orientation_code(orientation: Orientation) -> u8
@@ -52,6 +55,18 @@ fn put_cchh(out: &mut [u8], place: Cchh)
     BigEndian::write_u16(&mut out[2..], place.hh);
 }
 
+/// Two zeros where there is no number.
+fn put_number(out: &mut [u8], number: Option<u16>)
+    requires { 2 ≤ length out.old }
+    ensures bytes { out.new ≡ number_bytes number ++ drop 2 out.old }
+    ensures reads_back { IfSome number (λ n. number_at (two_bytes n) 0 ≡ n) }
+{
+    match number {
+        Some(number) => BigEndian::write_u16(out, number),
+        None => BigEndian::write_u16(out, 0),
+    }
+}
+
 /// Parameters of define extent that give an extent.
 pub fn encode_extent(e: &Extent) -> [u8; 16]
     ensures bytes { result ≡ extent_bytes e.now }
@@ -59,7 +74,8 @@ pub fn encode_extent(e: &Extent) -> [u8; 16]
 {
     let mut bytes = [0; PARAMETERS];
     bytes[0] = e.mask;
-    bytes[1] = attributes(e.mode, e.inhibit_fast);
+    bytes[1] = attributes(e.mode, e.number.is_some(), e.inhibit_fast);
+    put_number(&mut bytes[4..], e.number);
     put_cchh(&mut bytes[8..], cchh_of(e.first));
     put_cchh(&mut bytes[12..], cchh_of(e.last));
     bytes

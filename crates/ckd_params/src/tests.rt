@@ -41,13 +41,13 @@ fn faults_of_an_extent(rt: HostRuntime) -> Result<(), Fail> {
         (16, extent(0x00, 0x00, 0, 0, 14), Some(BadMode)),
         (16, extent(0x00, 0x80, 0, 0, 14), Some(BadMode)),
         (16, extent(0x00, 0xd0, 0, 0, 14), Some(BadMode)),
-        (16, extent(0x00, 0xc2, 0, 0, 14), Some(BadMode)),
-        (16, extent(0x00, 0xc2, 0, 1, 14), Some(BadMode)),
+        (16, extent(0x00, 0x42, 0, 1, 14), Some(BadMode)),
         (16, extent(0x00, 0xc0, 0, 1, 14), Some(BadRange)),
         (16, extent(0x00, 0xc0, 0, 0, 15), Some(BadRange)),
         (16, extent(0x00, 0xc0, 15, 0, 14), Some(BadRange)),
         (16, extent(0x00, 0xc0, 5, 0, 4), Some(BadRange)),
         (16, extent(0xdf, 0xe1, 4, 0, 4), None),
+        (16, extent(0x00, 0xc2, 0, 0, 14), None),
         (17, extent(0x00, 0xcd, 0, 0, 14), None),
     ];
     for (length, bytes, fault) in rows {
@@ -94,11 +94,12 @@ fn the_largest_device(rt: HostRuntime) -> Result<(), Fail> {
         mask: 0xc0,
         mode: Mode::Sequential,
         inhibit_fast: true,
+        number: Some(0x0102),
         first: TrackNo::new(17).ok_or("first")?,
         last: TrackNo::new(959).ok_or("last")?,
     };
     let bytes = encode_extent(&extent);
-    let want = [0xc0, 0xcd, 0, 0, 0, 0, 0, 0, 0, 1, 0, 2, 0, 63, 0, 14];
+    let want = [0xc0, 0xcf, 0, 0, 1, 2, 0, 0, 0, 1, 0, 2, 0, 63, 0, 14];
     assert_eq!(rt; bytes, want);
     assert_eq!(rt; decode_extent(&bytes, 64), Ok(extent));
     assert_eq!(rt; decode_extent(&bytes, 63), Err(BadRange));

@@ -97,9 +97,14 @@ seeks None = None
 abbrev pub sets_mask : ℕ → Option Order
 sets_mask mask = if is_mask mask then Some (SetsMask mask) else None
 
-abbrev pub defines : Result Extent ParamFault → Option Order
-defines (Ok e) = Some (Defines e)
-defines (Err fault) = None
+-- an extent that has a number has the device's
+abbrev pub has_own_number : ℕ → Option ℕ → Bool
+has_own_number own None = true
+has_own_number own (Some number) = number == own
+
+abbrev pub defines : ℕ → Result Extent ParamFault → Option Order
+defines own (Ok e) = if has_own_number own e.number then Some (Defines e) else None
+defines own (Err fault) = None
 
 abbrev pub locates : Result Domain ParamFault → Option Order
 locates (Ok d) = Some (Locates d)
@@ -114,7 +119,7 @@ control_order f s bytes SeekHead = seeks (head_to s.track bytes)
 control_order f s bytes Recalibrate = Some Recalibrates
 control_order f s bytes SetSector = Some SetsSector
 control_order f s bytes SetFileMask = sets_mask (slice_index bytes 0)
-control_order f s bytes DefineExtent = defines (extent_of f.cylinders bytes)
+control_order f s bytes DefineExtent = defines f.number (extent_of f.cylinders bytes)
 control_order f s bytes LocateRecord = locates (domain_of f.cylinders bytes)
 
 -- set path group ID is given a function byte and an ID

@@ -1,8 +1,8 @@
-ghost use Rattle.std.specs.Prelude.{◌≡◌, ◌<◌, ◌*◌, IfOk, IfSome, Some};
+ghost use Rattle.std.specs.Prelude.{◌≡◌, ◌<◌, ◌*◌, IfOk, IfSome, Ok, Some};
 ghost use Rattle.ckd_types.specs.Parameters.{given};
-ghost use Rattle.ckd_rules.specs.Checks.{control_may_follow, write_may_follow, read_may_follow, device_may_follow, may_follow, is_before_records, may_stand_at, is_in_sequence, seeks, sets_mask, defines, locates, control_order, device_act, decoded, mask_fault, first_track, is_between, is_within, placed_order, masked_order, permitted_order, order_by, order_of};
+ghost use Rattle.ckd_rules.specs.Checks.{control_may_follow, write_may_follow, read_may_follow, device_may_follow, may_follow, is_before_records, may_stand_at, is_in_sequence, seeks, sets_mask, has_own_number, defines, locates, control_order, device_act, decoded, mask_fault, first_track, is_between, is_within, placed_order, masked_order, permitted_order, order_by, order_of};
 ghost use Rattle.ckd_rules.specs.Facts.{IsOrder};
-ghost use Rattle.ckd_rules.specs.declared.order.Order.TheVariants.{Seeks};
+ghost use Rattle.ckd_rules.specs.declared.order.Order.TheVariants.{Seeks, Defines};
 ghost use Rattle.ckd_types.specs.declared.command.DeviceCommand.TheVariants.{SetPathGroup};
 
 use crate::{After, LocalAct, Look, Order, Place, Stance};
@@ -122,6 +122,27 @@ fn sets_mask(mask: u8) -> Option<Order>
     }
 }
 
+/// An extent that has a number has the device's. Own.
+fn has_own_number(own: u16, number: Option<u16>) -> bool
+    ensures { result ≡ has_own_number own number }
+{
+    match number {
+        Some(number) => number == own,
+        None => true,
+    }
+}
+
+fn defines(own: u16, extent: Extent) -> Option<Order>
+    ensures order { result ≡ defines own (Ok extent) }
+    ensures kept { IfSome result (λ o. o ≡ Defines extent) }
+{
+    if has_own_number(own, extent.number) {
+        Some(Order::Defines(extent))
+    } else {
+        None
+    }
+}
+
 /// What a control command is to do; None where its bytes mean nothing on the device.
 fn control_order(
     fixed: &FixedData,
@@ -144,7 +165,7 @@ fn control_order(
         Control::SetSector => Some(Order::SetsSector),
         Control::SetFileMask => sets_mask(bytes[0]),
         Control::DefineExtent => match decode_extent(bytes, fixed.cylinders()) {
-            Ok(extent) => Some(Order::Defines(extent)),
+            Ok(extent) => defines(fixed.number(), extent),
             Err(_) => None,
         },
         Control::LocateRecord => match decode_domain(bytes, fixed.cylinders()) {

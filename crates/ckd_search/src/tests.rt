@@ -229,6 +229,7 @@ fn next_tracks(rt: HostRuntime) -> Result<(), Fail> {
                 mask,
                 mode: Mode::Normal,
                 inhibit_fast: false,
+                number: None,
                 first: TrackNo::new(0).ok_or("track")?,
                 last: TrackNo::new(last).ok_or("track")?,
             });

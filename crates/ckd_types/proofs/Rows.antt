@@ -4,13 +4,15 @@ use Rattle.std.specs.Prelude.{replicate}
 use Rattle.ckd_types.specs.declared.channel.Ccw.{Ccw}
 use Rattle.ckd_types.specs.declared.channel.Why.TheVariants.{Empty, TicToTic, PastEnd}
 use Rattle.ckd_types.specs.declared.geometry.Geometry.TheVariants.{D3390, D3380}
+use Rattle.ckd_types.specs.declared.parameters.Extent.{Extent}
+use Rattle.ckd_types.specs.declared.parameters.Mode.{Mode}
 use Rattle.ckd_types.specs.declared.parameters.Mode.TheVariants.{Normal, Bypass, Sequential}
 use Rattle.ckd_types.specs.declared.parameters.ParamFault.TheVariants.{BadMode, BadRange, BadCount}
 use Rattle.ckd_types.specs.declared.parameters.Orientation.TheVariants.{Count}
 use Rattle.ckd_types.specs.declared.parameters.Operation.TheVariants.{ReadData}
 use Rattle.ckd_types.specs.Geometry.{cost}
 use Rattle.ckd_types.specs.Track.{empty_track, track_bytes}
-use Rattle.ckd_types.specs.Parameters.{extent_of, domain_of}
+use Rattle.ckd_types.specs.Parameters.{extent_of, is_provisional, domain_of}
 use Rattle.ckd_types.specs.Commands.{command_of}
 use Rattle.ckd_types.specs.Program.{first_fault, next_ccw}
 
@@ -36,21 +38,43 @@ bytes_of_an_empty_track = refl
 whole : ℕ → List ℕ
 whole attributes = 0x40 ∷ attributes ∷ 0x10 ∷ 0 ∷ 0 ∷ 0 ∷ 0 ∷ 0 ∷ 0 ∷ 0 ∷ 0 ∷ 0 ∷ 0 ∷ 0 ∷ 0 ∷ 0x0e ∷ []
 
-bypass : extent_of 1 (whole 0xc4) ≡ Ok (record { mask = 0x40; mode = Bypass; inhibit_fast = false; first = 0; last = 14 })
+bypass : extent_of 1 (whole 0xc4) ≡ Ok (record { mask = 0x40; mode = Bypass; inhibit_fast = false; number = None; first = 0; last = 14 })
 unfolding whole
 bypass = refl
 
-sequential : extent_of 1 (whole 0xcc) ≡ Ok (record { mask = 0x40; mode = Sequential; inhibit_fast = false; first = 0; last = 14 })
+sequential : extent_of 1 (whole 0xcc) ≡ Ok (record { mask = 0x40; mode = Sequential; inhibit_fast = false; number = None; first = 0; last = 14 })
 unfolding whole
 sequential = refl
 
-inhibits_fast_write : extent_of 1 (whole 0xc1) ≡ Ok (record { mask = 0x40; mode = Normal; inhibit_fast = true; first = 0; last = 14 })
+inhibits_fast_write : extent_of 1 (whole 0xc1) ≡ Ok (record { mask = 0x40; mode = Normal; inhibit_fast = true; number = None; first = 0; last = 14 })
 unfolding whole
 inhibits_fast_write = refl
 
-cache_fast_write_is_refused : extent_of 1 (whole 0xc2) ≡ Err BadMode
-unfolding whole
-cache_fast_write_is_refused = refl
+-- the same device with a number
+numbered : ℕ → List ℕ
+numbered attributes = 0x40 ∷ attributes ∷ 0x10 ∷ 0 ∷ 1 ∷ 2 ∷ 0 ∷ 0 ∷ 0 ∷ 0 ∷ 0 ∷ 0 ∷ 0 ∷ 0 ∷ 0 ∷ 0x0e ∷ []
+
+cache_fast_write : extent_of 1 (numbered 0xc2)
+    ≡ Ok (record { mask = 0x40; mode = Normal; inhibit_fast = false; number = Some 258; first = 0; last = 14 })
+unfolding numbered
+cache_fast_write = refl
+
+number_without_its_bit : extent_of 1 (numbered 0xc0)
+    ≡ Ok (record { mask = 0x40; mode = Normal; inhibit_fast = false; number = None; first = 0; last = 14 })
+unfolding numbered
+number_without_its_bit = refl
+
+-- an extent with a number, in a mode
+asked : Mode → Extent
+asked mode = record { mask = 0; mode = mode; inhibit_fast = false; number = Some 0; first = 0; last = 0 }
+
+provisional_in_sequence : is_provisional (Some (asked Sequential)) ≡ true
+unfolding asked
+provisional_in_sequence = refl
+
+not_provisional_in_bypass : is_provisional (Some (asked Bypass)) ≡ false
+unfolding asked
+not_provisional_in_bypass = refl
 
 mode_4_is_refused : extent_of 1 (whole 0xd0) ≡ Err BadMode
 unfolding whole

@@ -1,5 +1,5 @@
 -- What the parameter bytes of seeks, define extent and locate record mean.
-use Rattle.std.specs.Prelude.{ℕ, ◌+◌, ◌*◌, ◌-◌, ◌/◌, ◌==◌, ◌&&◌, ◌||◌, not, nat_lt, nat_le, Bool, true, false, List, ◌++◌, take, replicate, length, slice_index, Option, None, Some, Result, Ok, Err, if◌then◌else◌}
+use Rattle.std.specs.Prelude.{ℕ, ◌+◌, ◌*◌, ◌-◌, ◌/◌, ◌==◌, ◌&&◌, ◌||◌, not, is_some, nat_lt, nat_le, Bool, true, false, List, ◌++◌, take, replicate, length, slice_index, Option, None, Some, Result, Ok, Err, if◌then◌else◌}
 use Rattle.std.specs.Int.RustNames.{bit_and}
 use Rattle.ckd_types.specs.declared.geometry.Cchh.{Cchh}
 use Rattle.ckd_types.specs.declared.channel.Ccw.{Ccw}
@@ -44,21 +44,27 @@ mode_of n =
     else if n == 3 then Some Sequential
     else None
 
--- bits 0 and 1 are set, bit 6 is clear, and bits 3 to 5 are a mode
+-- bits 0 and 1 are set, and bits 3 to 5 are a mode
 abbrev pub attributes_mode : ℕ → Option Mode
-attributes_mode byte = if not (bit_and byte 0xc0 == 0xc0) || not (bit_and byte 2 == 0) then None else mode_of (bit_and byte 0x1c / 4)
+attributes_mode byte = if not (bit_and byte 0xc0 == 0xc0) then None else mode_of (bit_and byte 0x1c / 4)
+
+-- with bit 6 of the second byte, bytes 4 and 5 are the number of cache fast write data
+abbrev pub extent_number : List ℕ → Option ℕ
+extent_number bytes = if bit_and (slice_index bytes 1) 2 == 0 then None else Some (number_at bytes 4)
 
 -- from the first to the last track
-abbrev pub ranged_extent : ℕ → Mode → Bool → Option ℕ → Option ℕ → Result Extent ParamFault
-ranged_extent mask mode inhibit (Some first) (Some last) =
-    if nat_le first last then Ok (record { mask = mask; mode = mode; inhibit_fast = inhibit; first = first; last = last })
+abbrev pub ranged_extent : ℕ → Mode → Bool → Option ℕ → Option ℕ → Option ℕ → Result Extent ParamFault
+ranged_extent mask mode inhibit number (Some first) (Some last) =
+    if nat_le first last then
+    Ok (record { mask = mask; mode = mode; inhibit_fast = inhibit; number = number; first = first; last = last })
     else Err BadRange
-ranged_extent mask mode inhibit (Some first) None = Err BadRange
-ranged_extent mask mode inhibit None last = Err BadRange
+ranged_extent mask mode inhibit number (Some first) None = Err BadRange
+ranged_extent mask mode inhibit number None last = Err BadRange
 
 abbrev pub moded_extent : ℕ → List ℕ → Option Mode → Result Extent ParamFault
 moded_extent cylinders bytes (Some mode) =
-    ranged_extent (slice_index bytes 0) mode (not (bit_and (slice_index bytes 1) 1 == 0)) (track_at cylinders (cchh_at bytes 8)) (track_at cylinders (cchh_at bytes 12))
+    ranged_extent (slice_index bytes 0) mode (not (bit_and (slice_index bytes 1) 1 == 0)) (extent_number bytes)
+    (track_at cylinders (cchh_at bytes 8)) (track_at cylinders (cchh_at bytes 12))
 moded_extent cylinders bytes None = Err BadMode
 
 -- the parameters of define extent on a device with this many cylinders
@@ -67,6 +73,15 @@ extent_of cylinders bytes =
     if nat_lt (length bytes) 16 then Err Short
     else if not (is_mask (slice_index bytes 0)) then Err BadMask
     else moded_extent cylinders bytes (attributes_mode (slice_index bytes 1))
+
+abbrev pub is_bypass : Mode → Bool
+is_bypass Bypass = true
+is_bypass _ = false
+
+-- writes under the extent may live in the cache alone
+abbrev pub is_provisional : Option Extent → Bool
+is_provisional None = false
+is_provisional (Some e) = is_some e.number && not (is_bypass e.mode)
 
 -- bits 0 and 1 of the first byte of locate record
 abbrev pub orientation_of : ℕ → Orientation

@@ -43,11 +43,14 @@ pub enum Mode {
 
 /// The tracks that a chain may reach, and what it may do there: the parameters of define extent.
 /// The mask is the first byte: bits 0 and 1 say which writes are permitted, bits 3 and 4 which seeks.
+/// The number is that of the device's cache fast write data: with one, writes may live in the cache alone
+/// (own in what the number is for; IBM names the bit and the bytes).
 #[derive(Clone, Copy, Debug, PartialEq, Eq)]
 pub struct Extent {
     pub mask: u8,
     pub mode: Mode,
     pub inhibit_fast: bool,
+    pub number: Option<u16>,
     pub first: TrackNo,
     pub last: TrackNo,
 }
@@ -90,7 +93,7 @@ pub enum ParamFault {
     Short,
     /// Bit 2 of the mask is set.
     BadMask,
-    /// Bits 0 and 1 of the second byte aren't set, bit 6 is, or bits 3 to 5 are no mode.
+    /// Bits 0 and 1 of the second byte aren't set, or bits 3 to 5 are no mode.
     BadMode,
     /// The first byte names no operation of the profile.
     BadOperation,

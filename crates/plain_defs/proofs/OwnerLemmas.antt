@@ -38,7 +38,7 @@ use Rattle.ckd_rules.specs.declared.order.Order.TheVariants.{Nothing, Seeks, Rec
 use Rattle.ckd_rules.specs.declared.stance.Place.{Place}
 use Rattle.ckd_rules.specs.declared.stance.Place.TheVariants.{Index, Home, Count, Key, Body}
 use Rattle.ckd_rules.specs.declared.stance.Stance.{Stance}
-use Rattle.ckd_rules.specs.Checks.{seeks, defines, locates, control_order, device_act, decoded, mask_fault, first_track, is_within, is_in_sequence, masked_order, permitted_order, order_by, order_of}
+use Rattle.ckd_rules.specs.Checks.{seeks, has_own_number, defines, locates, control_order, device_act, decoded, mask_fault, first_track, is_within, is_in_sequence, masked_order, permitted_order, order_by, order_of}
 use Rattle.ckd_rules.specs.Control.{unseen_place}
 use Rattle.ckd_rules.specs.Finding.{track_after}
 use Rattle.ckd_rules.specs.Opening.{moved, read_from, look_from, locating, begun, opened_by, opening_of}
@@ -95,9 +95,13 @@ mask_quiet : (mask : ℕ) (good : Bool) → IfQuiet (cond good (Some (SetsMask m
 mask_quiet mask true = tt
 mask_quiet mask false = tt
 
-defines_quiet : (e : Result Extent ParamFault) → IfQuiet (defines e)
-defines_quiet (Ok e) = tt
-defines_quiet (Err fault) = tt
+own_quiet : (e : Extent) (own : Bool) → IfQuiet (cond own (Some (Defines e)) None)
+own_quiet e true = tt
+own_quiet e false = tt
+
+defines_quiet : (own : ℕ) (e : Result Extent ParamFault) → IfQuiet (defines own e)
+defines_quiet own (Ok e) = own_quiet e (has_own_number own e.number)
+defines_quiet own (Err fault) = tt
 
 locates_quiet : (d : Result Domain ParamFault) → IfQuiet (locates d)
 locates_quiet (Ok d) = tt
@@ -112,7 +116,7 @@ module _ (f : Fixed) (s : Stance) (c : Ccw) where
   control_quiet bytes controls.Recalibrate = tt
   control_quiet bytes controls.SetSector = tt
   control_quiet bytes controls.SetFileMask = mask_quiet (slice_index bytes 0) (is_mask (slice_index bytes 0))
-  control_quiet bytes controls.DefineExtent = defines_quiet (extent_of f.cylinders bytes)
+  control_quiet bytes controls.DefineExtent = defines_quiet f.number (extent_of f.cylinders bytes)
   control_quiet bytes controls.LocateRecord = locates_quiet (domain_of f.cylinders bytes)
 
   device_quiet : (d : DeviceCommand) → is_built (Some (commands.Device d)) ≡ true → IsQuiet (device_act (given 16 c) d)
