@@ -119,7 +119,7 @@ ended before now after text front none = subst (Consumes before after) (append-n
 no_fault : {A : Type 0} (x : A) (fault : LoadFault) (r : Result A LoadFault) → r ≡ Ok x → r ≡ Err fault → ⊥
 no_fault x fault r p q = cc
 
-not_refused : (v : ImageVolume) (before : Option (List ℕ)) (fault : LoadFault) → IsWhole v → before ≡ Some (file_of v) → IsRefused loading before fault → ⊥
+pub not_refused : (v : ImageVolume) (before : Option (List ℕ)) (fault : LoadFault) → IsWhole v → before ≡ Some (file_of v) → IsRefused loading before fault → ⊥
 not_refused v before fault w is r =
     let text : file_of v ≡ r.text = rw is at r.left in
     no_fault v fault (loading (file_of v)) (loads_back v w) (ap loading text ∙ r.refused)
