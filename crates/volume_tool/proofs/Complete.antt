@@ -10,7 +10,8 @@ use Rattle.volume_tool.specs.declared.top.VolumeStatus.{VolumeStatus}
 use Rattle.volume_tool.specs.declared.top.VolumeStatus.TheVariants.{Done, BadHead, BadTrack, Trailing, ReadFault, WriteFault, NoMemory, Usage}
 use Rattle.volume_tool.specs.Answers.{Tells, TellsList}
 
-listed : (status : VolumeStatus) (before after held holds : Option (List ℕ)) (v : ImageVolume) → IsWhole v → before ≡ Some (file_of v) → TellsList status before after held holds
+listed : (status : VolumeStatus) (before after held holds : Option (List ℕ)) (v : ImageVolume) → IsWhole v → before ≡ Some (file_of v)
+    → TellsList status before after held holds
     → (status ≡ ReadFault → ⊥) → (status ≡ WriteFault → ⊥) → (status ≡ Done) ⊎ (status ≡ NoMemory)
 listed Done before after held holds v w is told nr nw = inl refl
 listed NoMemory before after held holds v w is told nr nw = inr refl
@@ -21,7 +22,8 @@ listed (BadHead offset) before after held holds v w is told nr nw = absurd (not_
 listed (BadTrack track offset) before after held holds v w is told nr nw = absurd (not_refused v before (faults.BadTrack track offset) w is told.0)
 listed (Trailing offset) before after held holds v w is told nr nw = absurd (not_refused v before (faults.Trailing offset) w is told.0)
 
-pub complete : (status : VolumeStatus) (task : Option Task) (before after held holds : Option (List ℕ)) (v : ImageVolume) → IsWhole v → before ≡ Some (file_of v)
+pub complete : (status : VolumeStatus) (task : Option Task) (before after held holds : Option (List ℕ)) (v : ImageVolume) → IsWhole v
+    → before ≡ Some (file_of v)
     → task ≡ Some tasks.List → Tells status task before after held holds → (status ≡ ReadFault → ⊥) → (status ≡ WriteFault → ⊥)
     → (status ≡ Done) ⊎ (status ≡ NoMemory)
 complete status None before after held holds v w is named told nr nw = absurd (none-some tasks.List named)

@@ -11,7 +11,8 @@ use Rattle.volume_file.proofs.ReadSo.{ReadSo, ended, reads_on, so_far, starts_so
 use Rattle.volume_tool.specs.declared.listing.Row.{Row}
 use Rattle.volume_tool.specs.List.{Lists, row_of, rows_from, track_line}
 
-rows_push : (t n : ℕ) (images : List Image) (i : Image) → n ≡ t + length images → rows_from t (images ++ i ∷ []) ≡ rows_from t images ++ row_of n i ∷ []
+rows_push : (t n : ℕ) (images : List Image) (i : Image) → n ≡ t + length images
+    → rows_from t (images ++ i ∷ []) ≡ rows_from t images ++ row_of n i ∷ []
 rows_push t n [] i is = ap (λ (x : ℕ). row_of x i ∷ []) (omega (arith, is))
 rows_push t n (j ∷ images) i is = ap (λ (l : List Row). row_of t j ∷ l) (rows_push (t + 1) n images i (omega (arith, is)))
 
@@ -25,8 +26,10 @@ pub lists_none : (before now : Option (List ℕ)) (p : Progress) (rows : List Ro
     → Listed before now p rows
 lists_none before now p rows read start none = record { images = []; so = starts_so before now p [] read start refl; each = none }
 
-pub lists_on : (before now later : Option (List ℕ)) (p q : Progress) (rows more : List Row) (row : Row) (i : Image) → Listed before now p rows
-    → Consumes now later (track_part i) → IsPlaced p.geometry p.next i → q ≡ record p { next = p.next + 1; offset = p.offset + length (track_part i) }
+pub lists_on : (before now later : Option (List ℕ)) (p q : Progress) (rows more : List Row) (row : Row) (i : Image)
+    → Listed before now p rows
+    → Consumes now later (track_part i) → IsPlaced p.geometry p.next i
+    → q ≡ record p { next = p.next + 1; offset = p.offset + length (track_part i) }
     → row ≡ row_of p.next i → more ≡ rows ++ row ∷ []
     → Listed before later q more
 lists_on before now later p q rows more row i l read place moved row_is pushed =
@@ -41,7 +44,8 @@ lists_on before now later p q rows more row i l read place moved row_is pushed =
           ∙ sym (rows_push 0 p.next l.images i (omega (arith, l.so.next)));
     }
 
-pub lists_all : (before now after : Option (List ℕ)) (p : Progress) (g : Geometry) (cylinders : ℕ) (rows : List Row) → Listed before now p rows → p.next ≡ p.cylinders * 15
+pub lists_all : (before now after : Option (List ℕ)) (p : Progress) (g : Geometry) (cylinders : ℕ) (rows : List Row)
+    → Listed before now p rows → p.next ≡ p.cylinders * 15
     → g ≡ p.geometry → cylinders ≡ p.cylinders → Consumes now after [] → IsAtEnd after
     → Lists before after g cylinders rows
 lists_all before now after p g cylinders rows l all g_is cylinders_is read end =

@@ -70,7 +70,8 @@ TellsFault status faults.NoMemory held holds = (status ≡ NoMemory) × (holds �
 abbrev pub TellsList : VolumeStatus → Option (List ℕ) → Option (List ℕ) → Option (List ℕ) → Option (List ℕ) → Type 0
 TellsList Done before after held holds = (v : ImageVolume) × IsFile before after v × Appends held holds (list_text v)
 TellsList (BadHead offset) before after held holds = IsRefused loading before (faults.BadHead offset) × Appends held holds (head_text offset)
-TellsList (BadTrack track offset) before after held holds = IsRefused loading before (faults.BadTrack track offset) × Appends held holds (track_text track offset)
+TellsList (BadTrack track offset) before after held holds =
+    IsRefused loading before (faults.BadTrack track offset) × Appends held holds (track_text track offset)
 TellsList (Trailing offset) before after held holds = IsRefused loading before (faults.Trailing offset) × Appends held holds (trailing_text offset)
 TellsList WriteFault before after held holds =
     ((v : ImageVolume) × IsFile before after v × AppendsFront held holds (list_text v))

@@ -40,7 +40,8 @@ fn row_of(track: u16, image: &TrackImage) -> Row
 
 /// Reads a file to its end, and keeps a row of each track.
 pub fn read_listing<S: Source>(alloc: Global, source: &mut S) -> Result<Listing, LoadFault>
-    ensures list { IfOk result (λ l. Lists (S.left source.old) (S.left source.new) l.geometry l.cylinders l.rows.items) }
+    ensures list { IfOk result (λ l. Lists
+        (S.left source.old) (S.left source.new) l.geometry l.cylinders l.rows.items) }
     ensures fault { IfErr result (λ fault. TellsFault loading (S.left source.old) fault) }
     ensures cause { IsCaused (S.faults source.old) (S.faults source.new) result }
 {
@@ -74,7 +75,8 @@ fn write_volume<K: Sink>(
     geometry: Geometry,
     cylinders: u8,
 ) -> Result<(), Failed>
-    ensures bytes { Puts (K.held sink.old) buffer.old (K.held sink.new) buffer.new result (volume_line geometry cylinders) }
+    ensures bytes { Puts
+        (K.held sink.old) buffer.old (K.held sink.new) buffer.new result (volume_line geometry cylinders) }
     ensures cause { HasCause (K.faults sink.old) (K.faults sink.new) result }
 {
     let pieces = [
@@ -105,7 +107,8 @@ fn write_row<K: Sink>(sink: &mut K, buffer: &mut LineBuffer, row: &Row) -> Resul
 }
 
 fn write_rows<K: Sink>(sink: &mut K, buffer: &mut LineBuffer, rows: &[Row]) -> Result<(), Failed>
-    ensures bytes { Puts (K.held sink.old) buffer.old (K.held sink.new) buffer.new result (flat_map track_line rows.now) }
+    ensures bytes { Puts
+        (K.held sink.old) buffer.old (K.held sink.new) buffer.new result (flat_map track_line rows.now) }
     ensures cause { HasCause (K.faults sink.old) (K.faults sink.new) result }
 {
     for row in rows {

@@ -142,7 +142,8 @@ fn write_trailing<K: Sink>(sink: &mut K, offset: u32) -> Result<(), Failed>
 }
 
 fn bad_head<K: Sink>(sink: &mut K, offset: u32) -> VolumeStatus
-    ensures told { IsWritten result (VolumeStatus.BadHead offset) (K.held sink.old) (K.held sink.new) (head_text offset) }
+    ensures told { IsWritten result (VolumeStatus.BadHead offset)
+        (K.held sink.old) (K.held sink.new) (head_text offset) }
     ensures later { K.faults sink.old ≤ K.faults sink.new }
     ensures write { result ≡ VolumeStatus.WriteFault → Rose (K.faults sink.old) (K.faults sink.new) }
 {
@@ -153,7 +154,8 @@ fn bad_head<K: Sink>(sink: &mut K, offset: u32) -> VolumeStatus
 }
 
 fn bad_track<K: Sink>(sink: &mut K, track: TrackNo, offset: u32) -> VolumeStatus
-    ensures told { IsWritten result (VolumeStatus.BadTrack track offset) (K.held sink.old) (K.held sink.new) (track_text track offset) }
+    ensures told { IsWritten result (VolumeStatus.BadTrack track offset)
+        (K.held sink.old) (K.held sink.new) (track_text track offset) }
     ensures later { K.faults sink.old ≤ K.faults sink.new }
     ensures write { result ≡ VolumeStatus.WriteFault → Rose (K.faults sink.old) (K.faults sink.new) }
 {
@@ -164,7 +166,8 @@ fn bad_track<K: Sink>(sink: &mut K, track: TrackNo, offset: u32) -> VolumeStatus
 }
 
 fn trailing<K: Sink>(sink: &mut K, offset: u32) -> VolumeStatus
-    ensures told { IsWritten result (VolumeStatus.Trailing offset) (K.held sink.old) (K.held sink.new) (trailing_text offset) }
+    ensures told { IsWritten result (VolumeStatus.Trailing offset)
+        (K.held sink.old) (K.held sink.new) (trailing_text offset) }
     ensures later { K.faults sink.old ≤ K.faults sink.new }
     ensures write { result ≡ VolumeStatus.WriteFault → Rose (K.faults sink.old) (K.faults sink.new) }
 {
@@ -190,7 +193,8 @@ fn refuse<K: Sink>(sink: &mut K, fault: LoadFault) -> VolumeStatus
 }
 
 fn list<K: Sink>(sink: &mut K, geometry: Geometry, cylinders: u8, rows: &[Row]) -> VolumeStatus
-    ensures told { IsWritten result VolumeStatus.Done (K.held sink.old) (K.held sink.new) (rows_text geometry cylinders rows.now) }
+    ensures told { IsWritten result VolumeStatus.Done
+        (K.held sink.old) (K.held sink.new) (rows_text geometry cylinders rows.now) }
     ensures later { K.faults sink.old ≤ K.faults sink.new }
     ensures write { result ≡ VolumeStatus.WriteFault → Rose (K.faults sink.old) (K.faults sink.new) }
 {

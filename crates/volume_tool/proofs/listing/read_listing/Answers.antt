@@ -27,7 +27,8 @@ track-requires g c = omega (arith, c.tracks.invariant.next, c.tracks.invariant.c
 pub returns-in_err-image-clause-fault : goal.returns-in_err-image-clause-fault
 returns-in_err-image-clause-fault g c =
     let p = err_from_is_err_and c.from_residual-in_err-image.result c.from_residual-in_err-image.ensures.1 in
-    rw (p.1, p.2) (track_told _ _ c.tracks.file c.tracks.invariant.so.images _ c.tracks.invariant.so.so (omega (arith, c.tracks.invariant.next, c.tracks.invariant.count)) c.in_err-image.ensures.told)
+    rw (p.1, p.2) (track_told _ _ c.tracks.file c.tracks.invariant.so.images _ c.tracks.invariant.so.so (omega
+    (arith, c.tracks.invariant.next, c.tracks.invariant.count)) c.in_err-image.ensures.told)
 
 pub returns-in_err-image-clause-cause : goal.returns-in_err-image-clause-cause
 returns-in_err-image-clause-cause g c =
@@ -43,8 +44,10 @@ pub tracks-preserved : goal.tracks-preserved
 tracks-preserved g c =
     let moved = c.in_ok-image.ensures.moved in
     record {
-      so = lists_on _ _ _ c.tracks.file c.track.new.self c.tracks.rows.items c.push.new.self.items c.row_of.result c.in_ok-image.image c.tracks.invariant.so c.in_ok-image.ensures.told
-          c.in_ok-image.ensures.placed moved (c.row_of.ensures ∙ ap (λ (t : ℕ). row_of t c.in_ok-image.image) (sym c.tracks.invariant.next)) c.in_ok-push.ensures.items;
+      so = lists_on _ _ _ c.tracks.file c.track.new.self c.tracks.rows.items c.push.new.self.items c.row_of.result c.in_ok-image.image
+          c.tracks.invariant.so c.in_ok-image.ensures.told
+          c.in_ok-image.ensures.placed moved (c.row_of.ensures ∙ ap (λ (t : ℕ). row_of t c.in_ok-image.image) (sym c.tracks.invariant.next))
+          c.in_ok-push.ensures.items;
       next = rw moved (omega (arith, c.tracks.invariant.next));
       count = rw moved c.tracks.invariant.count;
       calm = c.in_ok-image.ensures.cause ∙ c.tracks.invariant.calm;
@@ -53,7 +56,8 @@ tracks-preserved g c =
 pub returns-in_err-finish-clause-fault : goal.returns-in_err-finish-clause-fault
 returns-in_err-finish-clause-fault g c =
     let p = err_from_is_err_and c.from_residual-in_err-finish.result c.from_residual-in_err-finish.ensures.1 in
-    rw (p.1, p.2) (end_told _ _ c.tracks.file c.tracks.invariant.so.images _ c.tracks.invariant.so.so (omega (arith, c.tracks.invariant.next, c.tracks.invariant.count)) c.in_err-finish.ensures.told)
+    rw (p.1, p.2) (end_told _ _ c.tracks.file c.tracks.invariant.so.images _ c.tracks.invariant.so.so (omega
+    (arith, c.tracks.invariant.next, c.tracks.invariant.count)) c.in_err-finish.ensures.told)
 
 pub returns-in_err-finish-clause-cause : goal.returns-in_err-finish-clause-cause
 returns-in_err-finish-clause-cause g c =
@@ -62,7 +66,8 @@ returns-in_err-finish-clause-cause g c =
 
 pub returns-clause-list : goal.returns-clause-list
 returns-clause-list g c =
-    lists_all _ _ _ c.tracks.file _ _ c.tracks.rows.items c.tracks.invariant.so (omega (arith, c.tracks.invariant.next, c.tracks.invariant.count)) c.geometry.ensures c.cylinders.ensures
+    lists_all _ _ _ c.tracks.file _ _ c.tracks.rows.items c.tracks.invariant.so (omega (arith, c.tracks.invariant.next, c.tracks.invariant.count))
+    c.geometry.ensures c.cylinders.ensures
     c.in_ok-finish.ensures.told c.in_ok-finish.ensures.end
 
 pub returns-clause-cause : goal.returns-clause-cause

@@ -6,7 +6,8 @@ use Rattle.volume_tool.proofs.listing.write_rows.Goals as goal
 pub returns-in_err-write_row-clause-bytes : goal.returns-in_err-write_row-clause-bytes
 returns-in_err-write_row-clause-bytes g c =
     puts_stopped _ _ _ _ _ _ _ c.from_residual.ensures.1
-    (put_stopped _ _ _ _ _ _ _ _ _ _ c.loop-row.invariant.0 (lines_step c.args.rows.now c.loop-row.row-index c.loop-row-test.true) c.in_err-write_row.ensures.bytes)
+    (put_stopped _ _ _ _ _ _ _ _ _ _ c.loop-row.invariant.0
+    (lines_step c.args.rows.now c.loop-row.row-index c.loop-row-test.true) c.in_err-write_row.ensures.bytes)
 
 pub loop-row-preserved : goal.loop-row-preserved
 loop-row-preserved g c = (
