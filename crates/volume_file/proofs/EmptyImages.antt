@@ -17,13 +17,15 @@ images_more g images later n i later_is is front =
     ∙ ap (λ (x : Image). map (empty_image g) (range_with_len 0 n) ++ x ∷ []) is
     ∙ sym (map-range_with_len_more (empty_image g) 0 n n (omega arith))
 
-image_at : (g : Geometry) (cylinders t : ℕ) → t < length (empty_images g cylinders) → get_or (empty_images g cylinders) t (empty_image g t) ≡ empty_image g t
+image_at : (g : Geometry) (cylinders t : ℕ) → t < length (empty_images g cylinders)
+    → get_or (empty_images g cylinders) t (empty_image g t) ≡ empty_image g t
 image_at g cylinders t inside =
     let many = length-map-range_with_len (empty_image g) 0 (cylinders * 15) in
     get_or-map-range_with_len (empty_image g) 0 (cylinders * 15) t t (empty_image g t) (subst (λ (n : ℕ). t < n) many inside) (omega arith)
 
 -- empty tracks are a whole volume
-pub empty_is_whole : (g : Geometry) (cylinders : ℕ) (images : List Image) → 1 ≤ cylinders → cylinders ≤ 64 → images ≡ empty_images g cylinders
+pub empty_is_whole : (g : Geometry) (cylinders : ℕ) (images : List Image) → 1 ≤ cylinders → cylinders ≤ 64
+    → images ≡ empty_images g cylinders
     → ((t : ℕ) → t < cylinders * 15 → IsPlaced g t (empty_image g t))
     → IsWhole (record { geometry = g; cylinders = cylinders; images = images })
 empty_is_whole g cylinders images least most is placed =
@@ -36,7 +38,8 @@ empty_is_whole g cylinders images least most is placed =
     })
 
 -- one image in place of another
-pub set_is_whole : (v : ImageVolume) (t : ℕ) (i : Image) → IsWhole v → t < length v.images → IsPlaced v.geometry t i → IsWhole (record v { images = set v.images t i })
+pub set_is_whole : (v : ImageVolume) (t : ℕ) (i : Image) → IsWhole v → t < length v.images → IsPlaced v.geometry t i
+    → IsWhole (record v { images = set v.images t i })
 set_is_whole v t i w inside place = record {
   least = w.least;
   most = w.most;

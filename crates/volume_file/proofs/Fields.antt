@@ -15,7 +15,8 @@ four (a ∷ b ∷ c ∷ []) is = absurd (omega (arith, is))
 four (a ∷ b ∷ c ∷ d ∷ []) is = refl
 four (a ∷ b ∷ c ∷ d ∷ e ∷ rest) is = absurd (omega (arith, is))
 
-bytes_are : (n a b c d : ℕ) → n ≡ a * 16777216 + (b * 65536 + (c * 256 + (d * 1 + 0))) → a < 256 → b < 256 → c < 256 → d < 256 → a ∷ b ∷ c ∷ d ∷ [] ≡ big_bytes 4 n
+bytes_are : (n a b c d : ℕ) → n ≡ a * 16777216 + (b * 65536 + (c * 256 + (d * 1 + 0))) → a < 256 → b < 256 → c < 256 → d < 256
+    → a ∷ b ∷ c ∷ d ∷ [] ≡ big_bytes 4 n
 bytes_are n a b c d is ha hb hc hd =
     let first : n / 16777216 % 256 ≡ a = omega arith in
     let second : n / 65536 % 256 ≡ b = omega arith in
@@ -24,11 +25,14 @@ bytes_are n a b c d is ha hb hc hd =
     rw (first, second, third, last) refl
 
 -- the four bytes of a number
-pub number_spelled : (field : List ℕ) (n : ℕ) → ((k : ℕ) → get_or field k 0 < 256) → length field ≡ 4 → n ≡ big_number 4 field → field ≡ big_bytes 4 n
-number_spelled field n fits four_long is = four field four_long ∙ bytes_are n (get_or field 0 0) (get_or field 1 0) (get_or field 2 0) (get_or field 3 0) is (fits 0) (fits 1) (fits 2) (fits 3)
+pub number_spelled : (field : List ℕ) (n : ℕ) → ((k : ℕ) → get_or field k 0 < 256) → length field ≡ 4 → n ≡ big_number 4 field
+    → field ≡ big_bytes 4 n
+number_spelled field n fits four_long is =
+    four field four_long ∙ bytes_are n (get_or field 0 0) (get_or field 1 0) (get_or field 2 0) (get_or field 3 0) is (fits 0) (fits 1) (fits 2) (fits 3)
 
 -- the twelve bytes of a head
-pub head_spelled : (field : List ℕ) (g : Geometry) (c : ℕ) → starts_with nat_eq field signature ≡ true → length field ≡ 12 → get_or field 8 0 ≡ model_byte g → get_or field 9 0 ≡ c → get_or field 10 0 ≡ 0
+pub head_spelled : (field : List ℕ) (g : Geometry) (c : ℕ) → starts_with nat_eq field signature ≡ true → length field ≡ 12
+    → get_or field 8 0 ≡ model_byte g → get_or field 9 0 ≡ c → get_or field 10 0 ≡ 0
     → get_or field 11 0 ≡ 0
     → field ≡ head_of g c
 head_spelled field g c start long model cylinders first second =

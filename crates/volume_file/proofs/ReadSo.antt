@@ -29,7 +29,8 @@ pub record ReadSo (before now : Option (List ℕ)) (p : Progress) (images : List
   pub read : Consumes before now (file_of (so_far p images))
 
 -- the head was read
-pub starts_so : (before now : Option (List ℕ)) (p : Progress) (images : List Image) → Consumes before now (head_of p.geometry p.cylinders) → IsProgress p × (p.next ≡ 0) × (p.offset ≡ 12)
+pub starts_so : (before now : Option (List ℕ)) (p : Progress) (images : List Image) → Consumes before now (head_of p.geometry p.cylinders)
+    → IsProgress p × (p.next ≡ 0) × (p.offset ≡ 12)
     → images ≡ [] → ReadSo before now p images
 starts_so before now p images read start none = subst (ReadSo before now p) (sym none) (record {
   least = start.0.least;
@@ -45,14 +46,17 @@ pub head_told : (before : Option (List ℕ)) (fault : LoadFault) → TellsFault 
 unfolding loading
 head_told before fault told = tells_on head_at loading before before fault (refused_first head_at loading before fault (λ text e. rw e refl)) told
 
-one_more : (p : Progress) (images : List Image) (i : Image) → file_of (so_far p (images ++ i ∷ [])) ≡ file_of (so_far p images) ++ track_part i
+one_more : (p : Progress) (images : List Image) (i : Image)
+    → file_of (so_far p (images ++ i ∷ [])) ≡ file_of (so_far p images) ++ track_part i
 one_more p images i =
     let head = head_of p.geometry p.cylinders in
-    ap (λ (l : List ℕ). head ++ l) (flat_map-append track_part images (i ∷ []) ∙ ap (λ (l : List ℕ). flat_map track_part images ++ l) (append-nil (track_part i)))
+    ap (λ (l : List ℕ). head ++ l)
+    (flat_map-append track_part images (i ∷ []) ∙ ap (λ (l : List ℕ). flat_map track_part images ++ l) (append-nil (track_part i)))
     ∙ sym (append_assoc head (flat_map track_part images) (track_part i))
 
 -- and one track more
-pub reads_on : (before now later : Option (List ℕ)) (p q : Progress) (images more : List Image) (i : Image) → ReadSo before now p images → Consumes now later (track_part i)
+pub reads_on : (before now later : Option (List ℕ)) (p q : Progress) (images more : List Image) (i : Image) → ReadSo before now p images
+    → Consumes now later (track_part i)
     → IsPlaced p.geometry p.next i → q ≡ record p { next = p.next + 1; offset = p.offset + length (track_part i) } → more ≡ images ++ i ∷ []
     → ReadSo before later q more
 reads_on before now later p q images more i s read place moved pushed =
@@ -67,19 +71,23 @@ reads_on before now later p q images more i s read place moved pushed =
         | inl old ↦ subst (IsPlaced p.geometry k) (sym (get_or_append_left images (i ∷ []) d k old)) (s.placed k d old)
         | inr new ↦
             (let last : k ≡ length images = omega (arith, new, inside, count) in
-            subst (λ (x : Image). IsPlaced p.geometry k x) (sym (get_or_push images i d k (sym last))) (subst (λ (x : ℕ). IsPlaced p.geometry x i) (s.next ∙ sym last) place))
+            subst (λ (x : Image). IsPlaced p.geometry k x) (sym (get_or_push images i d k (sym last)))
+            (subst (λ (x : ℕ). IsPlaced p.geometry x i) (s.next ∙ sym last) place))
       ];
-      read = subst (λ (l : List ℕ). Consumes before later l) (sym (one_more p images i)) (Consumes-trans before now later (file_of (so_far p images)) (track_part i) s.read read);
+      read = subst (λ (l : List ℕ). Consumes before later l) (sym (one_more p images i))
+          (Consumes-trans before now later (file_of (so_far p images)) (track_part i) s.read read);
     } in
     subst (λ (x : Progress). ReadSo before later x more) (sym moved) (subst (λ (l : List Image). ReadSo before later on l) (sym pushed) made)
 
-stopped : (n : ℕ) (g : Geometry) (t at : ℕ) (text : List ℕ) (fault : LoadFault) → 0 < n → track_at g t at text ≡ Err fault → tracks_at n g t at text ≡ Err fault
+stopped : (n : ℕ) (g : Geometry) (t at : ℕ) (text : List ℕ) (fault : LoadFault) → 0 < n → track_at g t at text ≡ Err fault
+    → tracks_at n g t at text ≡ Err fault
 unfolding tracks_at
 stopped zero g t at text fault some e = absurd (omega (arith, some))
 stopped (suc n) g t at text fault some e = rw e refl
 
 -- a fault of the next track is the file's
-pub track_told : (before now : Option (List ℕ)) (p : Progress) (images : List Image) (fault : LoadFault) → ReadSo before now p images → p.next < p.cylinders * 15
+pub track_told : (before now : Option (List ℕ)) (p : Progress) (images : List Image) (fault : LoadFault) → ReadSo before now p images
+    → p.next < p.cylinders * 15
     → TellsFault (track_at p.geometry p.next p.offset) now fault → TellsFault loading before fault
 track_told before now p images fault s more told =
     let v = so_far p images in
@@ -89,11 +97,13 @@ track_told before now p images fault s more told =
     (λ text e.
     let here : track_at p.geometry (length images) (length (file_of v)) text ≡ Err fault =
     ap (λ (x : ℕ). track_at p.geometry x (length (file_of v)) text) (sym s.next) ∙ ap (λ (x : ℕ). track_at p.geometry p.next x text) (sym s.offset) ∙ e in
-    refused_through v n text fault s.least s.most (omega (arith, s.next, more)) s.placed (stopped n p.geometry (length images) (length (file_of v)) text fault (omega (arith, more)) here)))
+    refused_through v n text fault s.least s.most (omega (arith, s.next, more)) s.placed
+    (stopped n p.geometry (length images) (length (file_of v)) text fault (omega (arith, more)) here)))
     told
 
 -- a byte behind the last track
-pub end_told : (before now : Option (List ℕ)) (p : Progress) (images : List Image) (fault : LoadFault) → ReadSo before now p images → p.next ≡ p.cylinders * 15
+pub end_told : (before now : Option (List ℕ)) (p : Progress) (images : List Image) (fault : LoadFault) → ReadSo before now p images
+    → p.next ≡ p.cylinders * 15
     → TellsFault (end_at p.offset) now fault → TellsFault loading before fault
 unfolding tracks_at
 end_told before now p images fault s all told =
@@ -104,7 +114,8 @@ end_told before now p images fault s all told =
     told
 
 -- all tracks were read
-pub whole : (before now : Option (List ℕ)) (p : Progress) (images : List Image) → ReadSo before now p images → p.next ≡ p.cylinders * 15 → IsWhole (so_far p images)
+pub whole : (before now : Option (List ℕ)) (p : Progress) (images : List Image) → ReadSo before now p images → p.next ≡ p.cylinders * 15
+    → IsWhole (so_far p images)
 whole before now p images s all = record {
   least = s.least;
   most = s.most;
@@ -113,18 +124,21 @@ whole before now p images s all = record {
 }
 
 -- and nothing more
-pub ended : (before now after : Option (List ℕ)) (text : List ℕ) → Consumes before now text → Consumes now after [] → Consumes before after text
+pub ended : (before now after : Option (List ℕ)) (text : List ℕ) → Consumes before now text → Consumes now after []
+    → Consumes before after text
 ended before now after text front none = subst (Consumes before after) (append-nil text) (Consumes-trans before now after text [] front none)
 
 no_fault : {A : Type 0} (x : A) (fault : LoadFault) (r : Result A LoadFault) → r ≡ Ok x → r ≡ Err fault → ⊥
 no_fault x fault r p q = cc
 
-not_refused : (v : ImageVolume) (before : Option (List ℕ)) (fault : LoadFault) → IsWhole v → before ≡ Some (file_of v) → IsRefused loading before fault → ⊥
+pub not_refused : (v : ImageVolume) (before : Option (List ℕ)) (fault : LoadFault) → IsWhole v → before ≡ Some (file_of v)
+    → IsRefused loading before fault → ⊥
 not_refused v before fault w is r =
     let text : file_of v ≡ r.text = rw is at r.left in
     no_fault v fault (loading (file_of v)) (loads_back v w) (ap loading text ∙ r.refused)
 
-same_file : (v u : ImageVolume) (before after : Option (List ℕ)) → IsWhole v → IsWhole u → before ≡ Some (file_of v) → Consumes before after (file_of u) → IsAtEnd after
+same_file : (v u : ImageVolume) (before after : Option (List ℕ)) → IsWhole v → IsWhole u → before ≡ Some (file_of v)
+    → Consumes before after (file_of u) → IsAtEnd after
     → ◌≡◌ {A = Result ImageVolume LoadFault} (Ok u) (Ok v)
 same_file v u before None w x is read end = absurd (rw is at read)
 same_file v u before (Some left) w x is read end =
@@ -133,7 +147,8 @@ same_file v u before (Some left) w x is read end =
     sym (loads_back u x) ∙ ap loading text ∙ loads_back v w
 
 -- what was saved is loaded
-pub saved : (v : ImageVolume) (before after : Option (List ℕ)) (r : Result ImageVolume LoadFault) → IsWhole v → before ≡ Some (file_of v) → Tells loading file_of before after r
+pub saved : (v : ImageVolume) (before after : Option (List ℕ)) (r : Result ImageVolume LoadFault) → IsWhole v → before ≡ Some (file_of v)
+    → Tells loading file_of before after r
     → OnOk r (IsAtEnd after) → IfOk r (λ u. IsWhole u) → Gives r (Ok v)
 saved v before after (Ok u) w is told end x = same_file v u before after w x is told end
 saved v before after (Err (BadHead offset)) w is told end x = absurd (not_refused v before (BadHead offset) w is told)

@@ -40,9 +40,6 @@ few i is =
       is.cost,
     )
 
-pub length-part : (i : Image) → length (track_part i) ≡ 4 + length (track_bytes i.track)
-length-part i = length-append (big_bytes 4 (length (track_bytes i.track))) (track_bytes i.track)
-
 length_again : (t at n : ℕ) (rest : List ℕ) → n ≤ most_bytes → length_in t at (take 4 (big_bytes 4 n ++ rest)) ≡ Ok n
 unfolding length_in
 length_again t at n rest most =
@@ -50,7 +47,8 @@ length_again t at n rest most =
     let small : ltb most_bytes n ≡ false = le-ltb _ _ most in
     rw (number, small) refl
 
-image_back : (g : Geometry) (t at n : ℕ) (i : Image) → n ≡ length (track_bytes i.track) → IsPlaced g t i → image_at g t at n (track_bytes i.track) ≡ Ok i
+image_back : (g : Geometry) (t at n : ℕ) (i : Image) → n ≡ length (track_bytes i.track) → IsPlaced g t i
+    → image_at g t at n (track_bytes i.track) ≡ Ok i
 unfolding image_at
 image_back g t at n i size p =
     let bytes = track_bytes i.track in
@@ -70,35 +68,42 @@ track_again g t at i rest p =
     let n = length bytes in
     let split : track_part i ++ rest ≡ big_bytes 4 n ++ (bytes ++ rest) = append_assoc (big_bytes 4 n) bytes rest in
     let field : take n (drop 4 (track_part i ++ rest)) ≡ bytes = ap (λ (l : List ℕ). take n (drop 4 l)) split ∙ take_at bytes rest n refl in
-    let size : length_in t at (take 4 (track_part i ++ rest)) ≡ Ok n = ap (λ (l : List ℕ). length_in t at (take 4 l)) split ∙ length_again t at n (bytes ++ rest) (few i p.fits) in
+    let size : length_in t at (take 4 (track_part i ++ rest)) ≡ Ok n =
+    ap (λ (l : List ℕ). length_in t at (take 4 l)) split ∙ length_again t at n (bytes ++ rest) (few i p.fits) in
     rw size (ap (image_at g t (at + 4) n) field ∙ image_back g t (at + 4) n i refl p)
 
 -- a fault of the length
-length_refused : (g : Geometry) (t at : ℕ) (text : List ℕ) (fault : LoadFault) → length_in t at (take 4 text) ≡ Err fault → track_at g t at text ≡ Err fault
+length_refused : (g : Geometry) (t at : ℕ) (text : List ℕ) (fault : LoadFault) → length_in t at (take 4 text) ≡ Err fault
+    → track_at g t at text ≡ Err fault
 unfolding track_at
 length_refused g t at text fault e = rw e refl
 
 -- a fault behind the length
-image_refused : (g : Geometry) (t at n : ℕ) (text : List ℕ) (fault : LoadFault) → n ≤ most_bytes → image_at g t (at + 4) n (take n text) ≡ Err fault
+image_refused : (g : Geometry) (t at n : ℕ) (text : List ℕ) (fault : LoadFault) → n ≤ most_bytes
+    → image_at g t (at + 4) n (take n text) ≡ Err fault
     → track_at g t at (big_bytes 4 n ++ text) ≡ Err fault
 unfolding track_at
 image_refused g t at n text fault most e = rw (length_again t at n text most) e
 
 -- a track, of which the length can't be read
-pub length_told : (g : Geometry) (t at : ℕ) (b : Option (List ℕ)) (fault : LoadFault) → TellsFault (λ bytes. length_in t at (take 4 bytes)) b fault → TellsFault (track_at g t at) b fault
+pub length_told : (g : Geometry) (t at : ℕ) (b : Option (List ℕ)) (fault : LoadFault)
+    → TellsFault (λ bytes. length_in t at (take 4 bytes)) b fault → TellsFault (track_at g t at) b fault
 length_told g t at b fault told =
     tells_on (λ bytes. length_in t at (take 4 bytes)) (track_at g t at) b b fault
     (refused_first (λ bytes. length_in t at (take 4 bytes)) (track_at g t at) b fault (λ text. length_refused g t at text fault)) told
 
 -- a track, behind its length
-pub track_told : (g : Geometry) (t at n : ℕ) (b m a : Option (List ℕ)) (r : Result Image LoadFault) → n ≤ most_bytes → Consumes b m (big_bytes 4 n)
-    → Tells (λ bytes. image_at g t (at + 4) n (take n bytes)) (λ i. track_bytes i.track) m a r → IfOk r (λ i. length (track_bytes i.track) ≡ n)
+pub track_told : (g : Geometry) (t at n : ℕ) (b m a : Option (List ℕ)) (r : Result Image LoadFault) → n ≤ most_bytes
+    → Consumes b m (big_bytes 4 n)
+    → Tells (λ bytes. image_at g t (at + 4) n (take n bytes)) (λ i. track_bytes i.track) m a r
+    → IfOk r (λ i. length (track_bytes i.track) ≡ n)
     → Tells (track_at g t at) track_part b a r
 track_told g t at n b m a (Ok i) most front told size =
     subst (λ (x : ℕ). Consumes b a (big_bytes 4 x ++ track_bytes i.track)) (sym size) (Consumes-trans b m a (big_bytes 4 n) (track_bytes i.track) front told)
 track_told g t at n b m a (Err fault) most front told size =
     tells_on (λ bytes. image_at g t (at + 4) n (take n bytes)) (track_at g t at) b m fault
-    (refused_then (λ bytes. image_at g t (at + 4) n (take n bytes)) (track_at g t at) b m (big_bytes 4 n) fault front (λ text. image_refused g t at n text fault most)) told
+    (refused_then (λ bytes. image_at g t (at + 4) n (take n bytes)) (track_at g t at) b m (big_bytes 4 n) fault front
+    (λ text. image_refused g t at n text fault most)) told
 
 -- several tracks, and then what stands behind them
 abbrev pub behind : List Image → Result (List Image) LoadFault → Result (List Image) LoadFault
@@ -108,7 +113,8 @@ behind_none : (others : Result (List Image) LoadFault) → others ≡ behind [] 
 behind_none (Ok is) = refl
 behind_none (Err f) = refl
 
-behind_one : (i : Image) (front : List Image) (others : Result (List Image) LoadFault) → (behind front others >>= (λ is. Ok (i ∷ is))) ≡ behind (i ∷ front) others
+behind_one : (i : Image) (front : List Image) (others : Result (List Image) LoadFault)
+    → (behind front others >>= (λ is. Ok (i ∷ is))) ≡ behind (i ∷ front) others
 behind_one i front (Ok is) = refl
 behind_one i front (Err f) = refl
 
@@ -122,7 +128,8 @@ one_more total fewer g t at i rest one p =
 
 pub tracks_through : (images : List Image) (n total : ℕ) (g : Geometry) (t at : ℕ) (rest : List ℕ) → total ≡ length images + n
     → ((k : ℕ) (d : Image) → k < length images → IsPlaced g (t + k) (get_or images k d))
-    → tracks_at total g t at (flat_map track_part images ++ rest) ≡ behind images (tracks_at n g (t + length images) (at + length (flat_map track_part images)) rest)
+    → tracks_at total g t at (flat_map track_part images ++ rest) ≡ behind images
+    (tracks_at n g (t + length images) (at + length (flat_map track_part images)) rest)
 tracks_through [] n total g t at rest is placed =
     let same : total ≡ n = omega arith in
     let here : t ≡ t + 0 = omega arith in
@@ -140,7 +147,8 @@ tracks_through (i ∷ images) n total g t at rest is placed =
     λ k d inside. subst (λ (x : ℕ). IsPlaced g x (get_or images k d)) (omega arith) (placed (suc k) d (omega (arith, inside))) in
     let hypothesis = tracks_through images n fewer g (t + 1) (at + length part) rest (omega (arith, is)) others in
     let t_is : (t + 1) + length images ≡ t + length (i ∷ images) = omega arith in
-    let at_is : (at + length part) + length tail ≡ at + length (flat_map track_part (i ∷ images)) = omega (arith, ap length (flat_map-cons track_part i images), length-append part tail) in
+    let at_is : (at + length part) + length tail ≡ at + length (flat_map track_part (i ∷ images)) =
+    omega (arith, ap length (flat_map-cons track_part i images), length-append part tail) in
     let ended : ℕ → ℕ → Result (List Image) LoadFault = λ x y. behind (i ∷ images) (tracks_at n g x y rest) in
     ap (λ (l : List ℕ). tracks_at total g t at (l ++ rest)) (flat_map-cons track_part i images)
     ∙ ap (tracks_at total g t at) (append_assoc part tail rest)
@@ -151,7 +159,8 @@ tracks_through (i ∷ images) n total g t at rest is placed =
     ∙ ap (λ (x : ℕ). ended (t + length (i ∷ images)) x) at_is
 
 -- the head
-pub head_again : (g : Geometry) (c : ℕ) (rest : List ℕ) → 1 ≤ c → c ≤ 64 → head_at (head_of g c ++ rest) ≡ Ok (record { geometry = g; cylinders = c })
+pub head_again : (g : Geometry) (c : ℕ) (rest : List ℕ) → 1 ≤ c → c ≤ 64
+    → head_at (head_of g c ++ rest) ≡ Ok (record { geometry = g; cylinders = c })
 unfolding head_in
 head_again D3390 c rest least most = grind (arith, nat_tests)
 head_again D3380 c rest least most = grind (arith, nat_tests)
@@ -172,7 +181,9 @@ loads_through v n rest least most count placed =
     let head : head_at (file_of v ++ rest) ≡ Ok (record { geometry = g; cylinders = c }) = ap head_at split ∙ head_again g c (parts ++ rest) least most in
     let left : drop 12 (file_of v ++ rest) ≡ parts ++ rest = ap (drop 12) split ∙ drop_at (head_of g c) (parts ++ rest) 12 refl in
     let at : 12 + length parts ≡ length (file_of v) = sym (length-append (head_of g c) parts) in
-    let through = tracks_through v.images n (c * 15) g 0 12 rest (sym count) (λ k d inside. subst (λ (x : ℕ). IsPlaced g x (get_or v.images k d)) (omega arith) (placed k d inside)) in
+    let through =
+    tracks_through v.images n (c * 15) g 0 12 rest (sym count)
+    (λ k d inside. subst (λ (x : ℕ). IsPlaced g x (get_or v.images k d)) (omega arith) (placed k d inside)) in
     let ended : ℕ → ℕ → Result ImageVolume LoadFault = λ x y. seen g c (behind v.images (tracks_at n g x y rest)) in
     let first : 0 + length v.images ≡ length v.images = omega arith in
     rw head (
@@ -183,7 +194,8 @@ loads_through v n rest least most count placed =
     )
 
 -- a fault behind some tracks
-pub refused_through : (v : ImageVolume) (n : ℕ) (rest : List ℕ) (fault : LoadFault) → 1 ≤ v.cylinders → v.cylinders ≤ 64 → length v.images + n ≡ v.cylinders * 15
+pub refused_through : (v : ImageVolume) (n : ℕ) (rest : List ℕ) (fault : LoadFault) → 1 ≤ v.cylinders → v.cylinders ≤ 64
+    → length v.images + n ≡ v.cylinders * 15
     → ((k : ℕ) (d : Image) → k < length v.images → IsPlaced v.geometry k (get_or v.images k d))
     → tracks_at n v.geometry (length v.images) (length (file_of v)) rest ≡ Err fault
     → loading (file_of v ++ rest) ≡ Err fault

@@ -1,5 +1,5 @@
 -- What one read after another tells.
-use Rattle.std.proofs.Common.{Bool, false, eqb, eq-eqb, ◌≡◌, ◌⊎◌, inl, inr, ℕ, List, [], ◌∷◌, ◌++◌, length, take, Option, Some, None, Result, Ok, Err, IfOk, refl, sym, ap, subst, ◌∙◌, arith}
+use Rattle.std.proofs.Common.{Bool, false, eqb, eq-eqb, ◌≡◌, inl, inr, ℕ, List, [], ◌∷◌, ◌++◌, length, take, Option, Some, None, Result, Ok, Err, IfOk, refl, sym, ap, subst, ◌∙◌, arith}
 use Rattle.std.proofs.lemmas.Bool.{cases_lt, false≢true}
 use Rattle.std.proofs.lemmas.List.{append-nil, take_all, take_at}
 use Rattle.std.specs.Io.KnownBytes.{Consumes, IsAtEnd}
@@ -48,8 +48,10 @@ refused_field read b a size field fault f wrong = record {
 }
 
 -- a fault behind what was read
-pub refused_then : {B C : Type 0} (later : List ℕ → Result C LoadFault) (read : List ℕ → Result B LoadFault) (b m : Option (List ℕ)) (front : List ℕ) (fault : LoadFault)
-    → Consumes b m front → ((text : List ℕ) → later text ≡ Err fault → read (front ++ text) ≡ Err fault) → IsRefused later m fault → IsRefused read b fault
+pub refused_then : {B C : Type 0} (later : List ℕ → Result C LoadFault) (read : List ℕ → Result B LoadFault) (b m : Option (List ℕ)) (front : List ℕ)
+    (fault : LoadFault)
+    → Consumes b m front → ((text : List ℕ) → later text ≡ Err fault → read (front ++ text) ≡ Err fault) → IsRefused later m fault
+    → IsRefused read b fault
 refused_then later read b m front fault taken same r =
     record { text = front ++ r.text; left = text_then b m front r.text taken r.left; refused = same r.text r.refused }
 
@@ -58,7 +60,8 @@ pub refused_first : {B C : Type 0} (first : List ℕ → Result C LoadFault) (re
     → ((text : List ℕ) → first text ≡ Err fault → read text ≡ Err fault) → IsRefused first b fault → IsRefused read b fault
 refused_first first read b fault same r = record { text = r.text; left = r.left; refused = same r.text r.refused }
 
-pub tells_refused : {B : Type 0} (read : List ℕ → Result B LoadFault) (b : Option (List ℕ)) (fault : LoadFault) → IsRefused read b fault → TellsFault read b fault
+pub tells_refused : {B : Type 0} (read : List ℕ → Result B LoadFault) (b : Option (List ℕ)) (fault : LoadFault) → IsRefused read b fault
+    → TellsFault read b fault
 tells_refused read b (BadHead offset) r = r
 tells_refused read b (BadTrack track offset) r = r
 tells_refused read b (Trailing offset) r = r
@@ -74,13 +77,11 @@ tells_on later read b m (Trailing offset) on t = on t
 tells_on later read b m ReadFault on t = tt
 tells_on later read b m NoMemory on t = tt
 
-pub tells_early : {B : Type 0} (read : List ℕ → Result B LoadFault) (b : Option (List ℕ)) (fault : LoadFault) → (fault ≡ ReadFault) ⊎ (fault ≡ NoMemory) → TellsFault read b fault
-tells_early read b fault (inl is) = rw is tt
-tells_early read b fault (inr is) = rw is tt
-
 -- a field that was read by itself
-pub field_told : {A : Type 0} (read : List ℕ → Result A LoadFault) (spelled : A → List ℕ) (b a : Option (List ℕ)) (size : ℕ) (field : List ℕ) (r : Result A LoadFault)
-    → IsField b a size field → Gives r (read field) → IfOk r (λ x. field ≡ spelled x) → Tells (λ bytes. read (take size bytes)) spelled b a r
+pub field_told : {A : Type 0} (read : List ℕ → Result A LoadFault) (spelled : A → List ℕ) (b a : Option (List ℕ)) (size : ℕ) (field : List ℕ)
+    (r : Result A LoadFault)
+    → IsField b a size field → Gives r (read field) → IfOk r (λ x. field ≡ spelled x)
+    → Tells (λ bytes. read (take size bytes)) spelled b a r
 field_told read spelled b a size field (Ok x) f gives is = subst (Consumes b a) is f.read
 field_told read spelled b a size field (Err (BadHead offset)) f gives is = refused_field read b a size field (BadHead offset) f (sym gives)
 field_told read spelled b a size field (Err (BadTrack track offset)) f gives is = refused_field read b a size field (BadTrack track offset) f (sym gives)
@@ -97,7 +98,8 @@ gives_same (Err ReadFault) wanted is = tt
 gives_same (Err NoMemory) wanted is = tt
 
 -- a fault that is handed on
-pub caused_on : (A B : Type 0) (b n : ℕ) (fault : LoadFault) → (let r : Result A LoadFault = Err fault in IsCaused b n r) → (let r : Result B LoadFault = Err fault in IsCaused b n r)
+pub caused_on : (A B : Type 0) (b n : ℕ) (fault : LoadFault) → (let r : Result A LoadFault = Err fault in IsCaused b n r)
+    → (let r : Result B LoadFault = Err fault in IsCaused b n r)
 caused_on A B b n (BadHead offset) c = c
 caused_on A B b n (BadTrack track offset) c = c
 caused_on A B b n (Trailing offset) c = c
@@ -107,26 +109,23 @@ caused_on A B b n NoMemory c = c
 pub caused_then : {A : Type 0} (b m n : ℕ) (r : Result A LoadFault) → m ≡ b → IsCaused m n r → IsCaused b n r
 caused_then b m n r same c = subst (λ (x : ℕ). IsCaused x n r) same c
 
-pub caused_calm : {A : Type 0} (b n : ℕ) (r : Result A LoadFault) → n ≡ b → (r ≡ Err ReadFault → ⊥) → IsCaused b n r
-caused_calm b n (Ok x) same calm = same
-caused_calm b n (Err (BadHead offset)) same calm = same
-caused_calm b n (Err (BadTrack track offset)) same calm = same
-caused_calm b n (Err (Trailing offset)) same calm = same
-caused_calm b n (Err ReadFault) same calm = absurd (calm refl)
-caused_calm b n (Err NoMemory) same calm = same
-
 -- the end of a file is looked for, and a byte is there
-pub end_told : (at : ℕ) (b a : Option (List ℕ)) (field : List ℕ) → IsField b a 1 field → (length field ≡ 0 → ⊥) → IsRefused (end_at at) b (Trailing at)
+pub end_told : (at : ℕ) (b a : Option (List ℕ)) (field : List ℕ) → IsField b a 1 field → (length field ≡ 0 → ⊥)
+    → IsRefused (end_at at) b (Trailing at)
 end_told at b a [] f some = absurd (some refl)
-end_told at b a (x ∷ field) f some = record { text = x ∷ (field ++ left_of a); left = text_then b a (x ∷ field) (left_of a) f.read (text_left a); refused = refl }
+end_told at b a (x ∷ field) f some =
+    record { text = x ∷ (field ++ left_of a); left = text_then b a (x ∷ field) (left_of a) f.read (text_left a); refused = refl }
 
-pub field_refused : {B : Type 0} (read : List ℕ → Result B LoadFault) (b a : Option (List ℕ)) (size : ℕ) (field : List ℕ) (fault : LoadFault) → IsField b a size field
+pub field_refused : {B : Type 0} (read : List ℕ → Result B LoadFault) (b a : Option (List ℕ)) (size : ℕ) (field : List ℕ) (fault : LoadFault)
+    → IsField b a size field
     → Err fault ≡ read field → TellsFault (λ bytes. read (take size bytes)) b fault
-field_refused read b a size field fault f wrong = tells_refused (λ bytes. read (take size bytes)) b fault (refused_field read b a size field fault f (sym wrong))
+field_refused read b a size field fault f wrong =
+    tells_refused (λ bytes. read (take size bytes)) b fault (refused_field read b a size field fault f (sym wrong))
 
 pub not_none : (n : ℕ) (b : Bool) → b ≡ eqb n 0 → b ≡ false → n ≡ 0 → ⊥
 not_none n b is untrue none = absurd (false≢true (sym untrue ∙ is ∙ eq-eqb n 0 none))
 
 -- a fault is handed on behind reads that did not fail
-pub caused_behind : (A B : Type 0) (b m n : ℕ) (fault : LoadFault) → m ≡ b → (let r : Result A LoadFault = Err fault in IsCaused m n r) → (let r : Result B LoadFault = Err fault in IsCaused b n r)
+pub caused_behind : (A B : Type 0) (b m n : ℕ) (fault : LoadFault) → m ≡ b → (let r : Result A LoadFault = Err fault in IsCaused m n r)
+    → (let r : Result B LoadFault = Err fault in IsCaused b n r)
 caused_behind A B b m n fault same c = caused_on A B b n fault (caused_then {A = A} b m n (Err fault) same c)

@@ -30,7 +30,9 @@ unfoldable pub head_in : List ℕ → Result Head LoadFault
 head_in field =
     if starts_with nat_eq field signature then
     model_in (slice_index field 8) >>= (λ g. cylinders_in (slice_index field 9) >>= (λ n.
-    if (length field == 12) && (slice_index field 10 == 0) && (slice_index field 11 == 0) then Ok (record { geometry = g; cylinders = n }) else Err (BadHead 10)))
+    if (length field == 12) && (slice_index field 10 == 0) && (slice_index field 11 == 0)
+    then Ok (record { geometry = g; cylinders = n })
+    else Err (BadHead 10)))
     else Err (BadHead 0)
 
 -- a file begins with its head

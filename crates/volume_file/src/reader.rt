@@ -30,13 +30,15 @@ impl Model for FileReader {
 
     ghost view = { λ r. record { geometry = r.geometry; cylinders = r.cylinders; next = r.next; offset = r.offset } };
 
-    ghost invariant = { λ r. IsProgress (record { geometry = r.geometry; cylinders = r.cylinders; next = r.next; offset = r.offset }) };
+    ghost invariant = { λ r. IsProgress
+        (record { geometry = r.geometry; cylinders = r.cylinders; next = r.next; offset = r.offset }) };
 }
 
 impl FileReader {
     /// Reads the head of a file.
     pub fn begin<S: Source>(alloc: Global, source: &mut S) -> Result<FileReader, LoadFault>
-        ensures told { Tells head_at (λ p. head_of p.geometry p.cylinders) (S.left source.old) (S.left source.new) result }
+        ensures told { Tells head_at (λ p. head_of p.geometry p.cylinders)
+            (S.left source.old) (S.left source.new) result }
         ensures start { IfOk result (λ p. IsProgress p × (p.next ≡ 0) × (p.offset ≡ 12)) }
         ensures cause { IsCaused (S.faults source.old) (S.faults source.new) result }
     {
@@ -69,16 +71,18 @@ impl FileReader {
         u16::from(self.cylinders) * HEADS
     }
 
-    /// Reads the next track. After a fault that isn't of the file there is no going on.
+    /// Reads the next track. After a fault there is no going on: part of the track may have been taken.
     pub fn track<S: Source>(
         &mut self,
         alloc: Global,
         source: &mut S,
     ) -> Result<TrackImage, LoadFault>
         requires { self.old.next < self.old.cylinders * 15 }
-        ensures told { Tells (track_at self.old.geometry self.old.next self.old.offset) track_part (S.left source.old) (S.left source.new) result }
+        ensures told { Tells (track_at self.old.geometry self.old.next self.old.offset) track_part
+            (S.left source.old) (S.left source.new) result }
         ensures placed { IfOk result (λ i. IsPlaced self.old.geometry self.old.next i) }
-        ensures moved { IfOk result (λ i. self.new ≡ record self.old { next = self.old.next + 1; offset = self.old.offset + length (track_part i) }) }
+        ensures moved { IfOk result (λ i. self.new
+            ≡ record self.old { next = self.old.next + 1; offset = self.old.offset + length (track_part i) }) }
         ensures same { OnErr result (self.new ≡ self.old) }
         ensures cause { IsCaused (S.faults source.old) (S.faults source.new) result }
     {

@@ -45,7 +45,8 @@ fn read_length<S: Source>(
     track: TrackNo,
     offset: u32,
 ) -> Result<u32, LoadFault>
-    ensures told { Tells (λ bytes. length_in track offset (take 4 bytes)) (big_bytes 4) (S.left source.old) (S.left source.new) result }
+    ensures told { Tells (λ bytes. length_in track offset (take 4 bytes)) (big_bytes 4)
+        (S.left source.old) (S.left source.new) result }
     ensures most { IfOk result (λ size. size ≤ most_bytes) }
     ensures cause { IsCaused (S.faults source.old) (S.faults source.new) result }
 {
@@ -96,7 +97,8 @@ fn read_image<S: Source>(
     size: u32,
 ) -> Result<TrackImage, LoadFault>
     requires place { offset + size < 2 ^ 32 }
-    ensures told { Tells (λ bytes. image_at geometry track offset size (take size bytes)) (λ i. track_bytes i.track) (S.left source.old) (S.left source.new) result }
+    ensures told { Tells (λ bytes. image_at geometry track offset size (take size bytes)) (λ i. track_bytes i.track)
+        (S.left source.old) (S.left source.new) result }
     ensures size { IfOk result (λ i. length (track_bytes i.track) ≡ size) }
     ensures placed { IfOk result (λ i. IsPlaced geometry track i) }
     ensures cause { IsCaused (S.faults source.old) (S.faults source.new) result }

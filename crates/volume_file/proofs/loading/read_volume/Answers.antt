@@ -26,7 +26,8 @@ track-requires g c = omega (arith, c.tracks.invariant.next, c.tracks.invariant.c
 pub returns-in_err-image-clause-told : goal.returns-in_err-image-clause-told
 returns-in_err-image-clause-told g c =
     let p = err_from_is_err_and c.from_residual-in_err-image.result c.from_residual-in_err-image.ensures.1 in
-    rw (p.1, p.2) (track_told _ _ c.tracks.file c.tracks.images.items _ c.tracks.invariant.so (omega (arith, c.tracks.invariant.next, c.tracks.invariant.count)) c.in_err-image.ensures.told)
+    rw (p.1, p.2) (track_told _ _ c.tracks.file c.tracks.images.items _ c.tracks.invariant.so (omega
+    (arith, c.tracks.invariant.next, c.tracks.invariant.count)) c.in_err-image.ensures.told)
 
 pub returns-in_err-image-clause-cause : goal.returns-in_err-image-clause-cause
 returns-in_err-image-clause-cause g c =
@@ -42,7 +43,8 @@ pub tracks-preserved : goal.tracks-preserved
 tracks-preserved g c =
     let moved = c.in_ok-image.ensures.moved in
     record {
-      so = reads_on _ _ _ c.tracks.file c.track.new.self c.tracks.images.items c.push.new.self.items c.in_ok-image.image c.tracks.invariant.so c.in_ok-image.ensures.told c.in_ok-image.ensures.placed moved c.in_ok-push.ensures.items;
+      so = reads_on _ _ _ c.tracks.file c.track.new.self c.tracks.images.items c.push.new.self.items c.in_ok-image.image c.tracks.invariant.so
+          c.in_ok-image.ensures.told c.in_ok-image.ensures.placed moved c.in_ok-push.ensures.items;
       next = rw moved (omega (arith, c.tracks.invariant.next));
       count = rw moved c.tracks.invariant.count;
       calm = c.in_ok-image.ensures.cause ∙ c.tracks.invariant.calm;
@@ -51,7 +53,8 @@ tracks-preserved g c =
 pub returns-in_err-finish-clause-told : goal.returns-in_err-finish-clause-told
 returns-in_err-finish-clause-told g c =
     let p = err_from_is_err_and c.from_residual-in_err-finish.result c.from_residual-in_err-finish.ensures.1 in
-    rw (p.1, p.2) (end_told _ _ c.tracks.file c.tracks.images.items _ c.tracks.invariant.so (omega (arith, c.tracks.invariant.next, c.tracks.invariant.count)) c.in_err-finish.ensures.told)
+    rw (p.1, p.2) (end_told _ _ c.tracks.file c.tracks.images.items _ c.tracks.invariant.so (omega
+    (arith, c.tracks.invariant.next, c.tracks.invariant.count)) c.in_err-finish.ensures.told)
 
 pub returns-in_err-finish-clause-cause : goal.returns-in_err-finish-clause-cause
 returns-in_err-finish-clause-cause g c =
@@ -60,7 +63,8 @@ returns-in_err-finish-clause-cause g c =
 
 pub of-requires : goal.of-requires
 of-requires g c =
-    rw (c.geometry.ensures, c.cylinders.ensures) (whole _ _ c.tracks.file c.tracks.images.items c.tracks.invariant.so (omega (arith, c.tracks.invariant.next, c.tracks.invariant.count)))
+    rw (c.geometry.ensures, c.cylinders.ensures)
+    (whole _ _ c.tracks.file c.tracks.images.items c.tracks.invariant.so (omega (arith, c.tracks.invariant.next, c.tracks.invariant.count)))
 
 pub returns-clause-told : goal.returns-clause-told
 returns-clause-told g c =

@@ -9,5 +9,6 @@ returns-in_err-size-clause-told g c =
 
 pub returns-clause-told : goal.returns-clause-told
 returns-clause-told g c =
-    track_told c.args.geometry c.args.track c.args.offset c.in_ok-size.size _ _ _ c.read_image.result c.in_ok-size.ensures.most c.in_ok-size.ensures.told c.read_image.ensures.told
+    track_told c.args.geometry c.args.track c.args.offset c.in_ok-size.size _ _ _ c.read_image.result c.in_ok-size.ensures.most c.in_ok-size.ensures.told
+    c.read_image.ensures.told
     c.read_image.ensures.size

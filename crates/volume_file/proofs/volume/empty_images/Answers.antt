@@ -11,6 +11,8 @@ loop-n-preserved c =
     let g = c.args.geometry in
     let is : c.in_ok-image.image ≡ empty_image g c.loop-n.n = c.in_ok-image.ensures ∙ ap (empty_image g) (grind (arith, common_steps)) in
     record {
-      images = images_more g c.loop-n.images.items c.push.new.self.items c.loop-n.n c.in_ok-image.image c.in_ok-push.ensures.items is c.loop-n.invariant.images;
-      placed = below_more (λ t. IsPlaced g t (empty_image g t)) _ c.loop-n.invariant.placed (record { fits = subst (λ (i : Image). Fits i.geometry i.track) is c.fits.ensures; model = refl; home = refl });
+      images = images_more g c.loop-n.images.items c.push.new.self.items c.loop-n.n c.in_ok-image.image c.in_ok-push.ensures.items is
+          c.loop-n.invariant.images;
+      placed = below_more (λ t. IsPlaced g t (empty_image g t)) _ c.loop-n.invariant.placed
+          (record { fits = subst (λ (i : Image). Fits i.geometry i.track) is c.fits.ensures; model = refl; home = refl });
     }

@@ -1,0 +1,6 @@
+use Rattle.volume_tool.proofs.Complete.{complete}
+use Rattle.volume_tool.proofs.top.volume_top.Goals as goal
+
+pub returns-clause-complete : goal.returns-clause-complete
+returns-clause-complete g c = λ v whole is names calm_source calm_sink.
+    complete _ _ _ _ _ _ v whole is names c.serve.ensures.told (λ r. calm_source (c.serve.ensures.read r)) (λ w. calm_sink (c.serve.ensures.write w))

@@ -1,0 +1,86 @@
+-- What the top call answers, and what it then has written.
+use Rattle.std.specs.Prelude.{◌≡◌, ◌⊎◌, ℕ, List, [], ◌∷◌, ◌++◌, codes, decimal, Option, Some, None, if◌then◌else◌}
+use Rattle.std.specs.Str.{bytes_eq}
+use Rattle.std.specs.Io.KnownBytes.{Appends}
+use Rattle.ckd_outside.specs.Texts.{AppendsFront}
+use Rattle.volume_file.specs.declared.fault.LoadFault.{LoadFault}
+use Rattle.volume_file.specs.declared.fault.LoadFault.TheVariants as faults
+use Rattle.volume_file.specs.File.{ImageVolume}
+use Rattle.volume_file.specs.Loading.{loading}
+use Rattle.volume_file.specs.Answers.{IsRefused}
+use Rattle.volume_tool.specs.declared.task.Task.{Task}
+use Rattle.volume_tool.specs.declared.task.Task.TheVariants as tasks
+use Rattle.volume_tool.specs.declared.top.VolumeStatus.{VolumeStatus}
+use Rattle.volume_tool.specs.declared.top.VolumeStatus.TheVariants.{Done, BadHead, BadTrack, Trailing, ReadFault, WriteFault, NoMemory, Usage}
+use Rattle.volume_tool.specs.List.{IsFile, list_text}
+
+-- the exit status of the program
+abbrev pub code_of : VolumeStatus → ℕ
+code_of Done = 0
+code_of ReadFault = 2
+code_of WriteFault = 3
+code_of NoMemory = 5
+code_of Usage = 6
+code_of (BadHead offset) = 8
+code_of (BadTrack track offset) = 8
+code_of (Trailing offset) = 8
+
+abbrev pub task_by : List ℕ → Option Task
+task_by word = if bytes_eq word (codes "list") then Some tasks.List else None
+
+-- one word alone names a task
+unfoldable pub task_of : List (List ℕ) → Option Task
+task_of [] = None
+task_of (word ∷ []) = task_by word
+task_of (word ∷ other ∷ words) = None
+
+unfoldable pub usage_text : List ℕ
+usage_text = codes "usage: save D, list\n"
+
+unfoldable pub head_text : ℕ → List ℕ
+head_text offset = codes "bad file head offset " ++ (decimal offset ++ codes "\n")
+
+unfoldable pub track_text : ℕ → ℕ → List ℕ
+track_text track offset = codes "bad file track " ++ (decimal track ++ (codes " offset " ++ (decimal offset ++ codes "\n")))
+
+unfoldable pub trailing_text : ℕ → List ℕ
+trailing_text offset = codes "bad file trailing offset " ++ (decimal offset ++ codes "\n")
+
+-- what is written of a file that is refused
+abbrev pub refused_text : LoadFault → List ℕ
+refused_text (faults.BadHead offset) = head_text offset
+refused_text (faults.BadTrack track offset) = track_text track offset
+refused_text (faults.Trailing offset) = trailing_text offset
+refused_text faults.ReadFault = []
+refused_text faults.NoMemory = []
+
+-- a text was written, or at a fault a front of it
+abbrev pub IsWritten : VolumeStatus → VolumeStatus → Option (List ℕ) → Option (List ℕ) → List ℕ → Type 0
+IsWritten status wanted held holds text = ((status ≡ wanted) × Appends held holds text) ⊎ ((status ≡ WriteFault) × AppendsFront held holds text)
+
+-- the answer to a file that couldn't be loaded
+abbrev pub TellsFault : VolumeStatus → LoadFault → Option (List ℕ) → Option (List ℕ) → Type 0
+TellsFault status (faults.BadHead offset) held holds = IsWritten status (BadHead offset) held holds (head_text offset)
+TellsFault status (faults.BadTrack track offset) held holds = IsWritten status (BadTrack track offset) held holds (track_text track offset)
+TellsFault status (faults.Trailing offset) held holds = IsWritten status (Trailing offset) held holds (trailing_text offset)
+TellsFault status faults.ReadFault held holds = (status ≡ ReadFault) × (holds ≡ held)
+TellsFault status faults.NoMemory held holds = (status ≡ NoMemory) × (holds ≡ held)
+
+-- what an answer to `list` says of the source and of the sink
+abbrev pub TellsList : VolumeStatus → Option (List ℕ) → Option (List ℕ) → Option (List ℕ) → Option (List ℕ) → Type 0
+TellsList Done before after held holds = (v : ImageVolume) × IsFile before after v × Appends held holds (list_text v)
+TellsList (BadHead offset) before after held holds = IsRefused loading before (faults.BadHead offset) × Appends held holds (head_text offset)
+TellsList (BadTrack track offset) before after held holds =
+    IsRefused loading before (faults.BadTrack track offset) × Appends held holds (track_text track offset)
+TellsList (Trailing offset) before after held holds = IsRefused loading before (faults.Trailing offset) × Appends held holds (trailing_text offset)
+TellsList WriteFault before after held holds =
+    ((v : ImageVolume) × IsFile before after v × AppendsFront held holds (list_text v))
+    ⊎ ((fault : LoadFault) × IsRefused loading before fault × AppendsFront held holds (refused_text fault))
+TellsList ReadFault before after held holds = holds ≡ held
+TellsList NoMemory before after held holds = holds ≡ held
+TellsList Usage before after held holds = ⊥
+
+-- what an answer says of the words, of the source and of the sink
+abbrev pub Tells : VolumeStatus → Option Task → Option (List ℕ) → Option (List ℕ) → Option (List ℕ) → Option (List ℕ) → Type 0
+Tells status None before after held holds = (after ≡ before) × IsWritten status Usage held holds usage_text
+Tells status (Some tasks.List) before after held holds = TellsList status before after held holds

@@ -1,0 +1,269 @@
+ghost use Rattle.std.specs.Prelude.{◌≡◌, ◌≢◌, ◌⊎◌, ◌≤◌, IfSome, Some, None, [], map};
+ghost use Rattle.std.specs.List.{flat_map};
+ghost use Rattle.ckd_outside.specs.Pieces.{piece_text};
+ghost use Rattle.ckd_outside.specs.Causes.{Rose, HasCause};
+ghost use Rattle.ckd_outside.specs.Texts.{Writes};
+ghost use Rattle.volume_file.specs.File.{ImageVolume, IsWhole, file_of};
+ghost use Rattle.volume_tool.specs.Answers.{IsWritten, Tells, TellsFault, TellsList, code_of, head_text, task_by, task_of, track_text, trailing_text, usage_text};
+ghost use Rattle.volume_tool.specs.List.{rows_text};
+
+use crate::listing::{Row, read_listing, write_listing};
+use crate::task::Task;
+use ckd_outside::{Failed, LineBuffer, Piece, Sink, Source, flush, write_pieces};
+use ckd_types::{Geometry, TrackNo};
+use std::alloc::Global;
+use volume_file::LoadFault;
+
+/// How the program ends.
+#[derive(Clone, Copy, Debug, PartialEq, Eq)]
+pub enum VolumeStatus {
+    /// The list was written.
+    Done,
+    /// A read failed, and nothing was written.
+    ReadFault,
+    /// A write failed: a front of what was to be written was taken.
+    WriteFault,
+    /// Memory is wanting, and nothing was written.
+    NoMemory,
+    /// The words name no task, and the usage was written.
+    Usage,
+    /// The file's first field that is wrong or cut is one of its head, which was written.
+    BadHead { offset: u32 },
+    /// It is one of this track, which was written.
+    BadTrack { track: TrackNo, offset: u32 },
+    /// A byte follows the file's last track, which was written.
+    Trailing { offset: u32 },
+}
+
+fn task_by(word: &str) -> Option<Task>
+    ensures { result ≡ task_by word.now }
+{
+    if word.as_bytes() == b"list".as_slice() {
+        Some(Task::List)
+    } else {
+        None
+    }
+}
+
+#[tactic(auto, unfolding(crate::specs::Answers::task_of))]
+fn task_of(words: &[&str]) -> Option<Task>
+    ensures { result ≡ task_of (map (λ w. w.now) words.now) }
+{
+    match words {
+        [word] => task_by(word),
+        _ => None,
+    }
+}
+
+/// The exit status of the program.
+pub fn code_of(status: VolumeStatus) -> u8
+    ensures { result ≡ code_of status }
+{
+    match status {
+        VolumeStatus::Done => 0,
+        VolumeStatus::ReadFault => 2,
+        VolumeStatus::WriteFault => 3,
+        VolumeStatus::NoMemory => 5,
+        VolumeStatus::Usage => 6,
+        VolumeStatus::BadHead { .. }
+        | VolumeStatus::BadTrack { .. }
+        | VolumeStatus::Trailing { .. } => 8,
+    }
+}
+
+/// The words of the arguments: none where one of them isn't text, which no task's name is.
+pub fn words_of<'a>(arguments: Option<&'a [&'a str]>) -> &'a [&'a str]
+    ensures text { IfSome arguments.entry (λ words. result.now ≡ words.now) }
+    ensures none { arguments.entry ≡ None → result.now ≡ [] }
+{
+    match arguments {
+        Some(words) => words,
+        None => &[],
+    }
+}
+
+/// Writes a line by itself.
+fn write_line<K: Sink>(sink: &mut K, pieces: &[Piece]) -> Result<(), Failed>
+    ensures bytes { Writes (K.held sink.old) (K.held sink.new) result (flat_map piece_text pieces.now) }
+    ensures cause { HasCause (K.faults sink.old) (K.faults sink.new) result }
+{
+    let mut buffer = LineBuffer::new();
+    write_pieces(sink, &mut buffer, pieces)?;
+    flush(sink, &mut buffer)
+}
+
+#[tactic(auto, unfolding(crate::specs::Answers::usage_text))]
+fn write_usage<K: Sink>(sink: &mut K) -> Result<(), Failed>
+    ensures bytes { Writes (K.held sink.old) (K.held sink.new) result usage_text }
+    ensures cause { HasCause (K.faults sink.old) (K.faults sink.new) result }
+{
+    write_line(sink, &[Piece::Text(b"usage: save D, list\n")])
+}
+
+#[tactic(auto, unfolding(crate::specs::Answers::head_text))]
+fn write_head<K: Sink>(sink: &mut K, offset: u32) -> Result<(), Failed>
+    ensures bytes { Writes (K.held sink.old) (K.held sink.new) result (head_text offset) }
+    ensures cause { HasCause (K.faults sink.old) (K.faults sink.new) result }
+{
+    let pieces = [
+        Piece::Text(b"bad file head offset "),
+        Piece::Number(u64::from(offset)),
+        Piece::Text(b"\n"),
+    ];
+    write_line(sink, &pieces)
+}
+
+#[tactic(auto, unfolding(crate::specs::Answers::track_text))]
+fn write_track<K: Sink>(sink: &mut K, track: TrackNo, offset: u32) -> Result<(), Failed>
+    ensures bytes { Writes (K.held sink.old) (K.held sink.new) result (track_text track offset) }
+    ensures cause { HasCause (K.faults sink.old) (K.faults sink.new) result }
+{
+    let pieces = [
+        Piece::Text(b"bad file track "),
+        Piece::Number(u64::from(track.get())),
+        Piece::Text(b" offset "),
+        Piece::Number(u64::from(offset)),
+        Piece::Text(b"\n"),
+    ];
+    write_line(sink, &pieces)
+}
+
+#[tactic(auto, unfolding(crate::specs::Answers::trailing_text))]
+fn write_trailing<K: Sink>(sink: &mut K, offset: u32) -> Result<(), Failed>
+    ensures bytes { Writes (K.held sink.old) (K.held sink.new) result (trailing_text offset) }
+    ensures cause { HasCause (K.faults sink.old) (K.faults sink.new) result }
+{
+    let pieces = [
+        Piece::Text(b"bad file trailing offset "),
+        Piece::Number(u64::from(offset)),
+        Piece::Text(b"\n"),
+    ];
+    write_line(sink, &pieces)
+}
+
+fn bad_head<K: Sink>(sink: &mut K, offset: u32) -> VolumeStatus
+    ensures told { IsWritten result (VolumeStatus.BadHead offset)
+        (K.held sink.old) (K.held sink.new) (head_text offset) }
+    ensures later { K.faults sink.old ≤ K.faults sink.new }
+    ensures write { result ≡ VolumeStatus.WriteFault → Rose (K.faults sink.old) (K.faults sink.new) }
+{
+    match write_head(sink, offset) {
+        Ok(()) => VolumeStatus::BadHead { offset },
+        Err(_) => VolumeStatus::WriteFault,
+    }
+}
+
+fn bad_track<K: Sink>(sink: &mut K, track: TrackNo, offset: u32) -> VolumeStatus
+    ensures told { IsWritten result (VolumeStatus.BadTrack track offset)
+        (K.held sink.old) (K.held sink.new) (track_text track offset) }
+    ensures later { K.faults sink.old ≤ K.faults sink.new }
+    ensures write { result ≡ VolumeStatus.WriteFault → Rose (K.faults sink.old) (K.faults sink.new) }
+{
+    match write_track(sink, track, offset) {
+        Ok(()) => VolumeStatus::BadTrack { track, offset },
+        Err(_) => VolumeStatus::WriteFault,
+    }
+}
+
+fn trailing<K: Sink>(sink: &mut K, offset: u32) -> VolumeStatus
+    ensures told { IsWritten result (VolumeStatus.Trailing offset)
+        (K.held sink.old) (K.held sink.new) (trailing_text offset) }
+    ensures later { K.faults sink.old ≤ K.faults sink.new }
+    ensures write { result ≡ VolumeStatus.WriteFault → Rose (K.faults sink.old) (K.faults sink.new) }
+{
+    match write_trailing(sink, offset) {
+        Ok(()) => VolumeStatus::Trailing { offset },
+        Err(_) => VolumeStatus::WriteFault,
+    }
+}
+
+/// Tells why a file wasn't loaded.
+fn refuse<K: Sink>(sink: &mut K, fault: LoadFault) -> VolumeStatus
+    ensures told { TellsFault result fault (K.held sink.old) (K.held sink.new) }
+    ensures later { K.faults sink.old ≤ K.faults sink.new }
+    ensures write { result ≡ VolumeStatus.WriteFault → Rose (K.faults sink.old) (K.faults sink.new) }
+{
+    match fault {
+        LoadFault::BadHead { offset } => bad_head(sink, offset),
+        LoadFault::BadTrack { track, offset } => bad_track(sink, track, offset),
+        LoadFault::Trailing { offset } => trailing(sink, offset),
+        LoadFault::ReadFault => VolumeStatus::ReadFault,
+        LoadFault::NoMemory => VolumeStatus::NoMemory,
+    }
+}
+
+fn list<K: Sink>(sink: &mut K, geometry: Geometry, cylinders: u8, rows: &[Row]) -> VolumeStatus
+    ensures told { IsWritten result VolumeStatus.Done
+        (K.held sink.old) (K.held sink.new) (rows_text geometry cylinders rows.now) }
+    ensures later { K.faults sink.old ≤ K.faults sink.new }
+    ensures write { result ≡ VolumeStatus.WriteFault → Rose (K.faults sink.old) (K.faults sink.new) }
+{
+    match write_listing(sink, geometry, cylinders, rows) {
+        Ok(()) => VolumeStatus::Done,
+        Err(_) => VolumeStatus::WriteFault,
+    }
+}
+
+fn serve_list<S: Source, K: Sink>(alloc: Global, source: &mut S, sink: &mut K) -> VolumeStatus
+    ensures told { TellsList result (S.left source.old) (S.left source.new) (K.held sink.old) (K.held sink.new) }
+    ensures read { result ≡ VolumeStatus.ReadFault → Rose (S.faults source.old) (S.faults source.new) }
+    ensures calm { result ≢ VolumeStatus.ReadFault → S.faults source.new ≡ S.faults source.old }
+    ensures write { result ≡ VolumeStatus.WriteFault → Rose (K.faults sink.old) (K.faults sink.new) }
+{
+    match read_listing(alloc, source) {
+        Ok(listing) => list(sink, listing.geometry, listing.cylinders, &listing.rows),
+        Err(fault) => refuse(sink, fault),
+    }
+}
+
+fn usage<K: Sink>(sink: &mut K) -> VolumeStatus
+    ensures told { IsWritten result VolumeStatus.Usage (K.held sink.old) (K.held sink.new) usage_text }
+    ensures later { K.faults sink.old ≤ K.faults sink.new }
+    ensures write { result ≡ VolumeStatus.WriteFault → Rose (K.faults sink.old) (K.faults sink.new) }
+{
+    match write_usage(sink) {
+        Ok(()) => VolumeStatus::Usage,
+        Err(_) => VolumeStatus::WriteFault,
+    }
+}
+
+fn serve<S: Source, K: Sink>(
+    alloc: Global,
+    words: &[&str],
+    source: &mut S,
+    sink: &mut K,
+) -> VolumeStatus
+    ensures told { Tells result (task_of (map (λ w. w.now) words.now))
+        (S.left source.old) (S.left source.new) (K.held sink.old) (K.held sink.new) }
+    ensures read { result ≡ VolumeStatus.ReadFault → Rose (S.faults source.old) (S.faults source.new) }
+    ensures calm { result ≢ VolumeStatus.ReadFault → S.faults source.new ≡ S.faults source.old }
+    ensures write { result ≡ VolumeStatus.WriteFault → Rose (K.faults sink.old) (K.faults sink.new) }
+{
+    match task_of(words) {
+        Some(Task::List) => serve_list(alloc, source, sink),
+        None => usage(sink),
+    }
+}
+
+/// Does what the words ask for, over a source and a sink. `list` reads a volume file and writes what its tracks
+/// hold; nothing is written before the file was read. A read fault is answered exactly where a read failed.
+pub fn volume_top<S: Source, K: Sink>(
+    alloc: Global,
+    words: &[&str],
+    source: &mut S,
+    sink: &mut K,
+) -> VolumeStatus
+    ensures told { Tells result (task_of (map (λ w. w.now) words.now))
+        (S.left source.old) (S.left source.new) (K.held sink.old) (K.held sink.new) }
+    ensures read { result ≡ VolumeStatus.ReadFault → Rose (S.faults source.old) (S.faults source.new) }
+    ensures calm { result ≢ VolumeStatus.ReadFault → S.faults source.new ≡ S.faults source.old }
+    ensures write { result ≡ VolumeStatus.WriteFault → Rose (K.faults sink.old) (K.faults sink.new) }
+
+    // The file of every volume is listed, unless memory runs out or the outside fails.
+    ensures complete { (v : ImageVolume) → IsWhole v → S.left source.old ≡ Some (file_of v)
+        → task_of (map (λ w. w.now) words.now) ≡ Some Task.List
+        → ¬ Rose (S.faults source.old) (S.faults source.new) → ¬ Rose (K.faults sink.old) (K.faults sink.new)
+        → (result ≡ VolumeStatus.Done) ⊎ (result ≡ VolumeStatus.NoMemory) }
+{
+    serve(alloc, words, source, sink)
+}
