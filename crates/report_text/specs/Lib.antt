@@ -1,3 +1,4 @@
 pub mod Keywords
 pub mod Words
 pub mod Lines
+pub mod Ends

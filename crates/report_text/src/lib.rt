@@ -3,6 +3,7 @@
 
 mod answer_words;
 mod answers;
+mod ends;
 mod keyword;
 mod line;
 mod order;
@@ -12,6 +13,7 @@ mod words;
 pub use answers::{
     BackAnswer, DeviceTotals, HowOver, LooseAnswer, OrderAnswer, OrderFault, StartAnswer, SumOf,
 };
+pub use ends::put_end;
 pub use keyword::{Keyword, keyword_text};
 pub use line::{EndLine, ReportLine};
 pub use order::Order;
