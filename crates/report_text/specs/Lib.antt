@@ -2,3 +2,4 @@ pub mod Keywords
 pub mod Words
 pub mod Lines
 pub mod Ends
+pub mod Summary

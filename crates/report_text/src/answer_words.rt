@@ -5,7 +5,7 @@ ghost use Rattle.ckd_outside.specs.Texts.{Puts};
 ghost use Rattle.report_text.specs.declared.answers.DeviceTotals.TheVariants.{Calls};
 ghost use Rattle.report_text.specs.declared.keyword.Keyword.TheVariants as words;
 ghost use Rattle.report_text.specs.Keywords.{keyword_text};
-ghost use Rattle.report_text.specs.Words.{all_spaced, answer_words, back_words, fault_words, loose_words, mark_key, note_key, order_words, over_words, owner_words, side_key, start_words, totals_words, writes_words};
+ghost use Rattle.report_text.specs.Words.{all_spaced, answer_words, back_words, fault_words, loose_words, mark_key, order_words, over_words, owner_words, side_key, start_words, totals_words, writes_words};
 
 use crate::words::{
     HexWord, KeyWord, Words, put_behind, put_count, put_key, put_key_and, put_numbers,
@@ -15,18 +15,7 @@ use crate::{
     StartAnswer,
 };
 use ckd_outside::{Failed, LineBuffer, Sink};
-use ckd_types::{Note, Owner, Side, TrackNo};
-
-/// How the note of a command's end is written.
-pub fn note_key(note: Note) -> Keyword
-    ensures { result ≡ note_key note }
-{
-    match note {
-        Note::Plain => Keyword::Plain,
-        Note::IncorrectLength => Keyword::Incorrect,
-        Note::Limit => Keyword::Limit,
-    }
-}
+use ckd_types::{Owner, Side, TrackNo};
 
 /// How a frame's mark is written.
 pub fn mark_key(modified: bool) -> Keyword

@@ -4,8 +4,8 @@ ghost use Rattle.ckd_outside.specs.Texts.{Puts};
 ghost use Rattle.report_text.specs.declared.line.ReportLine.TheVariants.{End as end_of};
 ghost use Rattle.report_text.specs.Ends.{data_lines, end_line, end_lines, lines_text, over_lines, sense_lines};
 
-use crate::words::{HexWord, put_line};
-use crate::{EndLine, HowOver, Keyword, LineSpelling, ReportLine, put_data};
+use crate::words::{HexWord, put_often};
+use crate::{EndLine, HowOver, LineSpelling, ReportLine, put_data};
 use ckd_outside::{Failed, LineBuffer, Sink, Spelling};
 use ckd_types::{Bytes, CommandEnd, DeviceNo, PathNo, Sense};
 
@@ -14,7 +14,7 @@ fn put_end_line<K: Sink>(sink: &mut K, buffer: &mut LineBuffer, end: &EndLine) -
     ensures bytes { Puts (K.held sink.old) buffer.old (K.held sink.new) buffer.new result (lines_text (end_of end.now ∷ [])) }
     ensures cause { HasCause (K.faults sink.old) (K.faults sink.new) result }
 {
-    put_line(sink, buffer, Keyword::End, end)
+    put_often(sink, buffer, b"END", end)
 }
 
 fn put_sent<K: Sink>(sink: &mut K, buffer: &mut LineBuffer, sent: &Bytes) -> Result<(), Failed>
@@ -37,7 +37,7 @@ fn put_sense<K: Sink>(
     ensures cause { HasCause (K.faults sink.old) (K.faults sink.new) result }
 {
     match sense {
-        Some(sense) => put_line(sink, buffer, Keyword::Sense, &HexWord(&sense.bytes)),
+        Some(sense) => put_often(sink, buffer, b"SENSE", &HexWord(&sense.bytes)),
         None => Ok(()),
     }
 }

@@ -8,6 +8,9 @@ mod keyword;
 mod line;
 mod order;
 mod report_lines;
+mod summary;
+#[cfg(test)]
+mod tests;
 mod words;
 
 pub use answers::{
@@ -18,4 +21,5 @@ pub use keyword::{Keyword, keyword_text};
 pub use line::{EndLine, ReportLine};
 pub use order::Order;
 pub use report_lines::{LineSpelling, put_data};
+pub use summary::{Summary, write_summary};
 pub use words::Words;

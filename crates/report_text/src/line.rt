@@ -43,7 +43,7 @@ pub enum ReportLine {
     Lost(DeviceNo, TrackNo),
     /// A frame of the cache, and whether it is modified.
     Frame(DeviceNo, TrackNo, bool),
-    /// The device lost what a power loss takes.
+    /// The device's volume was made empty.
     Fresh(DeviceNo),
     /// So many programs of the path weren't started.
     Left(PathNo, DeviceNo, u16),

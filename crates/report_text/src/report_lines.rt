@@ -1,17 +1,17 @@
-ghost use Rattle.std.specs.Prelude.{◌≡◌, ◌++◌, ◌∷◌, [], decimal};
+ghost use Rattle.std.specs.Prelude.{◌≡◌, ◌≤◌, ◌+◌, ◌++◌, ◌∷◌, [], decimal, length};
 ghost use Rattle.ckd_outside.specs.Causes.{HasCause};
-ghost use Rattle.ckd_outside.specs.Texts.{Puts};
+ghost use Rattle.ckd_outside.specs.Texts.{Puts, buffer_size};
 ghost use Rattle.report_text.specs.declared.line.ReportLine.TheVariants.{Data as data_line};
 ghost use Rattle.report_text.specs.Keywords.{keyword_text};
-ghost use Rattle.report_text.specs.Words.{all_spaced, answer_words, order_words};
+ghost use Rattle.report_text.specs.Words.{all_spaced, answer_words, note_key, order_words, spaced};
 ghost use Rattle.report_text.specs.Lines.{end_words, line_text, words_of};
 
-use crate::answer_words::{mark_key, note_key};
+use crate::answer_words::mark_key;
 use crate::line::key_of;
-use crate::words::{HexWord, KeyWord, Words, put_behind, put_key, put_line, put_numbers};
+use crate::words::{HexWord, KeyWord, Words, put_behind, put_line, put_numbers, put_often};
 use crate::{EndLine, Keyword, Order, OrderAnswer, ReportLine, keyword_text};
 use ckd_outside::{Failed, LineBuffer, Sink, Spelling, make_room};
-use ckd_types::{DeviceNo, PathNo, TrackNo};
+use ckd_types::{DeviceNo, Note, PathNo, TrackNo};
 
 fn path_word(path: &PathNo) -> u64
     ensures { result ≡ path.now }
@@ -31,12 +31,24 @@ fn track_word(track: &TrackNo) -> u64
     u64::from(track.get())
 }
 
+/// A note behind other words, for which room was made.
+fn put_note(buffer: &mut LineBuffer, note: Note)
+    requires room { length buffer.old + 6 ≤ buffer_size }
+    ensures text { buffer.new ≡ buffer.old ++ spaced (keyword_text (note_key note)) }
+{
+    match note {
+        Note::Plain => buffer.put(b" -"),
+        Note::IncorrectLength => buffer.put(b" IL"),
+        Note::Limit => buffer.put(b" LIMIT"),
+    }
+}
+
 impl Words for EndLine {
     ghost words = { end_words };
 
     /// Room is made once: a report has more of these lines than of all others.
     fn put<K: Sink>(&self, sink: &mut K, buffer: &mut LineBuffer) -> Result<(), Failed> {
-        make_room(sink, buffer, 110)?;
+        make_room(sink, buffer, 120)?;
         buffer.put(b" ");
         buffer.put_number(path_word(&self.path));
         buffer.put(b" ");
@@ -49,7 +61,8 @@ impl Words for EndLine {
         buffer.put_byte(self.status.0);
         buffer.put(b" ");
         buffer.put_number(u64::from(self.residual));
-        put_key(sink, buffer, note_key(self.note))
+        put_note(buffer, self.note);
+        Ok(())
     }
 }
 
@@ -158,5 +171,5 @@ pub fn put_data<K: Sink>(sink: &mut K, buffer: &mut LineBuffer, bytes: &[u8]) ->
     ensures bytes { Puts (K.held sink.old) buffer.old (K.held sink.new) buffer.new result (line_text (data_line bytes.now)) }
     ensures cause { HasCause (K.faults sink.old) (K.faults sink.new) result }
 {
-    put_line(sink, buffer, Keyword::Data, &HexWord(bytes))
+    put_often(sink, buffer, b"DATA", &HexWord(bytes))
 }

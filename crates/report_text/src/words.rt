@@ -1,14 +1,14 @@
-ghost use Rattle.std.specs.Prelude.{◌≡◌, ◌++◌, ◌∷◌, [], List, ℕ, codes, decimal, map};
+ghost use Rattle.std.specs.Prelude.{◌≡◌, ◌≤◌, ◌++◌, ◌∷◌, [], List, ℕ, codes, decimal, map};
 ghost use Rattle.hex.specs.Hex.{encode_upper};
 ghost use Rattle.ckd_outside.specs.Causes.{HasCause};
-ghost use Rattle.ckd_outside.specs.Texts.{Puts};
+ghost use Rattle.ckd_outside.specs.Texts.{Puts, buffer_size};
 ghost use Rattle.report_text.specs.Keywords.{keyword_text};
 ghost use Rattle.report_text.specs.Words.{all_spaced, spaced};
 
 use crate::{Keyword, keyword_text};
 use ckd_outside::{
-    Failed, LineBuffer, Piece, PieceSpelling, Sink, Spelling, make_room, put_all, put_text,
-    write_pieces,
+    Failed, LineBuffer, Piece, PieceSpelling, Sink, Spelling, make_room, put_all, put_hex,
+    put_text, write_pieces,
 };
 
 /// What stands in a line behind its first words: some words more.
@@ -127,7 +127,8 @@ impl<'a> Words for HexWord<'a> {
     ghost words = { λ w. encode_upper w.0.now ∷ [] };
 
     fn put<K: Sink>(&self, sink: &mut K, buffer: &mut LineBuffer) -> Result<(), Failed> {
-        write_pieces(sink, buffer, &[Piece::Text(b" "), Piece::Hex(self.0)])
+        put_text(sink, buffer, b" ")?;
+        put_hex(sink, buffer, self.0)
     }
 }
 
@@ -142,6 +143,22 @@ pub fn put_line<W: Words, K: Sink>(
     ensures cause { HasCause (K.faults sink.old) (K.faults sink.new) result }
 {
     PieceSpelling::put(sink, buffer, &Piece::Text(keyword_text(key)))?;
+    words.put(sink, buffer)?;
+    put_text(sink, buffer, b"\n")
+}
+
+/// Puts a line that is written often: its keyword is given as text of a known length.
+pub fn put_often<const N: usize, W: Words, K: Sink>(
+    sink: &mut K,
+    buffer: &mut LineBuffer,
+    key: &[u8; N],
+    words: &W,
+) -> Result<(), Failed>
+    requires short { N ≤ buffer_size }
+    ensures bytes { Puts (K.held sink.old) buffer.old (K.held sink.new) buffer.new result ((key.now ++ all_spaced (W.words words.now)) ++ codes "\n") }
+    ensures cause { HasCause (K.faults sink.old) (K.faults sink.new) result }
+{
+    put_text(sink, buffer, key)?;
     words.put(sink, buffer)?;
     put_text(sink, buffer, b"\n")
 }

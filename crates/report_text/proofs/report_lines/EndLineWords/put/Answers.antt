@@ -1,12 +1,8 @@
-use Rattle.std.proofs.Common.{◌∷◌, [], refl}
-use Rattle.std.specs.Prelude.{decimal}
+use Rattle.std.proofs.Common.{[], refl}
 use Rattle.std.proofs.lemmas.List.{append_assoc, append-nil}
-use Rattle.hex.specs.Hex.{encode_upper}
 use Rattle.ckd_outside.proofs.Lines.{moves_in, moves_then, puts_stopped, stops_longer}
-use Rattle.report_text.specs.Keywords.{keyword_text}
-use Rattle.report_text.specs.Words.{all_spaced, note_key}
+use Rattle.report_text.specs.Words.{all_spaced}
 use Rattle.report_text.specs.Lines.{end_words}
-use Rattle.report_text.proofs.Spaced.{spaced_then}
 use Rattle.report_text.proofs.report_lines.EndLineWords.put.Goals as goal
 
 pub returns-in_err-make_room-clause-bytes : goal.returns-in_err-make_room-clause-bytes
@@ -15,13 +11,10 @@ returns-in_err-make_room-clause-bytes g c =
 
 pub returns-clause-bytes : goal.returns-clause-bytes
 returns-clause-bytes g c =
-    let e = c.args.self.now in
-    spaced_then _ _ _ _ _ _
-    (decimal e.path ∷ decimal e.device ∷ decimal e.ordinal ∷ decimal e.index ∷ encode_upper (e.status.0 ∷ []) ∷ decimal e.residual ∷ [])
-    (keyword_text (note_key e.note) ∷ []) _
-    (moves_then _ _ _ _ _ _ [] _ c.in_ok-make_room.ensures.bytes
+    moves_then _ _ _ _ _ _ [] (all_spaced (end_words c.args.self.now)) c.in_ok-make_room.ensures.bytes
     (moves_in _ _ _ _
     (rw (
+      c.put_note.ensures.text,
       c.put_number-5.ensures.text,
       c.put-6.ensures.text,
       c.put_byte.ensures.text,
@@ -39,5 +32,4 @@ returns-clause-bytes g c =
       c.from.ensures,
       c.from-2.ensures,
       c.from-3.ensures,
-    ) (simp (append_assoc, append-nil) refl))))
-    (rw c.note_key.ensures at c.put_key.ensures.bytes)
+    ) (simp (append_assoc, append-nil) refl)))
