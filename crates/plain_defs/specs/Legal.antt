@@ -4,10 +4,10 @@ use Rattle.ckd_types.specs.declared.channel.Ccw.{Ccw}
 use Rattle.ckd_types.specs.declared.channel.CommandEnd.{CommandEnd}
 use Rattle.ckd_types.specs.declared.channel.Note.TheVariants.{Plain}
 use Rattle.ckd_types.specs.Ccw.{ccw_at}
+use Rattle.ckd_types.specs.Parameters.{is_provisional}
 use Rattle.ckd_types.specs.Sense.{equipment_sense, data_check_sense}
 use Rattle.ckd_rules.specs.declared.stance.Stance.{Stance}
 use Rattle.ckd_rules.specs.Ending.{check}
-use Rattle.plain_defs.specs.Loose.{is_provisional}
 use Rattle.ckd_rules.specs.Walk.{TrackEdit}
 use Rattle.plain_defs.specs.declared.journal.Act.{Act}
 use Rattle.plain_defs.specs.declared.journal.Act.TheVariants.{Loosen, Harden, CfwLost}
@@ -56,7 +56,7 @@ track_of None = None
 
 -- a loose track is edited only as data of cache fast write
 abbrev pub MayEdit : PlainState → Stance → Option TrackEdit → Type 0
-MayEdit state s (Some e) = is_loose state e.track ≡ true → is_provisional s ≡ true
+MayEdit state s (Some e) = is_loose state e.track ≡ true → is_provisional s.extent ≡ true
 MayEdit state s None = ⊤
 
 -- the part behind k commands, before the acts there

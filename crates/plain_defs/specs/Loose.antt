@@ -5,7 +5,6 @@ use Rattle.ckd_types.specs.declared.record.Track.{Track}
 use Rattle.ckd_types.specs.Volume.{track_in}
 use Rattle.plain_defs.specs.declared.journal.Act.{Act}
 use Rattle.plain_defs.specs.declared.journal.Act.TheVariants.{Loosen, Harden, CfwLost}
-use Rattle.ckd_rules.specs.declared.stance.Stance.{Stance}
 use Rattle.plain_defs.specs.PlainState.{LooseTrack, PlainState, fresh_paths}
 
 abbrev pub is_loose_in : List LooseTrack → ℕ → Bool
@@ -51,7 +50,3 @@ lost_by_power state (l ∷ loose) = cfw_lost state
 -- a power loss takes the data of cache fast write, and all that is kept of the paths
 abbrev pub power_off : PlainState → PlainState
 power_off state = record (lost_by_power state state.loose) { paths = fresh_paths }
-
--- a stub until extents have a number
-abbrev pub is_provisional : Stance → Bool
-is_provisional s = false

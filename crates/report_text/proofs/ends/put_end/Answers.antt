@@ -1,0 +1,22 @@
+use Rattle.std.proofs.Common.{◌∷◌, ◌++◌, []}
+use Rattle.ckd_outside.proofs.Lines.{puts_stopped}
+use Rattle.report_text.specs.declared.line.ReportLine.TheVariants.{End}
+use Rattle.report_text.specs.Lines.{line_text}
+use Rattle.report_text.specs.Ends.{data_lines, end_line, over_lines, sense_lines}
+use Rattle.report_text.proofs.Spaced.{flat_longer, flat_then}
+use Rattle.report_text.proofs.ends.put_end.Goals as goal
+
+pub returns-in_err-put_end_line-clause-bytes : goal.returns-in_err-put_end_line-clause-bytes
+returns-in_err-put_end_line-clause-bytes g c =
+    puts_stopped _ _ _ _ _ _ _ c.from_residual.ensures.1
+    (flat_longer line_text _ (g.K.Sink.held c.args.sink.now) _ _ [] _
+    (End (end_line c.args.path c.args.device c.args.ordinal c.args.end.now) ∷ [])
+    (data_lines c.args.end.now.sent ++ (sense_lines c.args.end.now.sense ++ over_lines c.args.path c.args.device c.args.ordinal c.args.end.now.over))
+    (rw c.end_line-line.ensures at c.in_err-put_end_line.ensures.bytes))
+
+pub returns-clause-bytes : goal.returns-clause-bytes
+returns-clause-bytes g c =
+    flat_then line_text _ _ _ _ _ _
+    (End (end_line c.args.path c.args.device c.args.ordinal c.args.end.now) ∷ [])
+    (data_lines c.args.end.now.sent ++ (sense_lines c.args.end.now.sense ++ over_lines c.args.path c.args.device c.args.ordinal c.args.end.now.over)) _
+    (rw c.end_line-line.ensures at c.in_ok-put_end_line.ensures.bytes) (rw c.end_line-line.ensures at c.put_behind_end.ensures.bytes)

@@ -1,0 +1,5 @@
+pub mod Keywords
+pub mod Words
+pub mod Lines
+pub mod Ends
+pub mod Summary

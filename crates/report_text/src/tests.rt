@@ -1,0 +1,137 @@
+ghost use Rattle.std.specs.Prelude.{◌≡◌};
+
+use crate::*;
+use ckd_outside::{LineBuffer, MemSink, flush, put_all};
+use ckd_types::{DeviceNo, GroupId, Note, Owner, PathNo, Sense, Side, TrackNo, UnitStatus};
+use std::test::Fail;
+
+fn path() -> PathNo
+    ensures { result ≡ 2 }
+{
+    PathNo::new(2).unwrap()
+}
+
+fn device() -> DeviceNo
+    ensures { result ≡ 10 }
+{
+    DeviceNo::new(10).unwrap()
+}
+
+fn track() -> TrackNo
+    ensures { result ≡ 17 }
+{
+    TrackNo::new(17).unwrap()
+}
+
+const EVENTS: &str =
+    "START 2 10 ACCEPTED 65535\nSTART 2 10 SECONDARY 10\nSTART 2 10 RESERVED P 2\nSTART 2 10 SHUT G C9C2D4000000000000000A\nEND 2 10 65535 3 0E 512 LIMIT\nHALF 2 10 17\nBACK 10 NOTHING\nBACK 10 BADBYTES B\nRUN 10 IDLE\nCFW 10 LOST 3 00AF\nIO 18446744073709551615 0\nOVER 2 10 7 CUT 3\nRESET 2 10\n";
+
+const TOTALS: &str =
+    "FAIL VOLUME 10 A DONE\nPAIR 10 10 REFUSED NOTLEVEL 30\nPOWER DONE\nUNPAIR 10 PENDING 4\nDEVICE 10 READS 5 WRITES 6 LOST 1\nLOST 10 17\nDEVICE 10 LENT 10\nFRAME 10 17 MODIFIED\nFRAME 10 17 CLEAN\nFRESH 10\nLEFT 2 10 8\nUNUSED 9\nCHECKS 11\nFINISH\n";
+
+#[test]
+fn lines_of_events(rt: HostRuntime) -> Result<(), Fail> {
+    let (p, d, t) = (path(), device(), track());
+    let id = GroupId::new([0xc9, 0xc2, 0xd4, 0, 0, 0, 0, 0, 0, 0, 10]);
+    let end = EndLine {
+        path: p,
+        device: d,
+        ordinal: 65535,
+        index: 3,
+        status: UnitStatus(0x0e),
+        residual: 512,
+        note: Note::Limit,
+    };
+    let lines = [
+        ReportLine::Start(p, d, StartAnswer::Accepted(65535)),
+        ReportLine::Start(p, d, StartAnswer::Secondary(d)),
+        ReportLine::Start(p, d, StartAnswer::Reserved(Owner::Path(p))),
+        ReportLine::Start(p, d, StartAnswer::Shut(Owner::Group(id))),
+        ReportLine::End(end),
+        ReportLine::Half(p, d, t),
+        ReportLine::Back(d, BackAnswer::Nothing),
+        ReportLine::Back(d, BackAnswer::BadBytes(Side::B)),
+        ReportLine::RunIdle(d),
+        ReportLine::Loose(
+            d,
+            LooseAnswer::Lost {
+                count: 3,
+                id: [0, 0xaf],
+            },
+        ),
+        ReportLine::Io {
+            reads: u64::MAX,
+            writes: 0,
+        },
+        ReportLine::Over(p, d, 7, HowOver::Cut(3)),
+        ReportLine::Reset(p, d),
+    ];
+    let mut sink = MemSink::new(rt.alloc(), 1000, 1000, &[])?;
+    let mut buffer = LineBuffer::new();
+    assert_eq!(rt;
+        put_all::<LineSpelling, ReportLine, MemSink>(&mut sink, &mut buffer, &lines),
+        Ok(())
+    );
+    assert_eq!(rt; flush(&mut sink, &mut buffer), Ok(()));
+    assert_eq!(rt; sink.bytes(), EVENTS.as_bytes());
+    Ok(())
+}
+
+#[test]
+fn lines_of_orders_and_totals(rt: HostRuntime) -> Result<(), Fail> {
+    let (p, d, t) = (path(), device(), track());
+    let lines = [
+        ReportLine::Order(Order::FailVolume(d, Side::A), OrderAnswer::Done),
+        ReportLine::Order(
+            Order::Pair(d, d),
+            OrderAnswer::Refused(OrderFault::NotLevel(30)),
+        ),
+        ReportLine::Order(Order::Power, OrderAnswer::Done),
+        ReportLine::Order(Order::Unpair(d), OrderAnswer::Pending(4)),
+        ReportLine::Device(
+            d,
+            DeviceTotals::Calls {
+                reads: 5,
+                writes: 6,
+                lost: 1,
+            },
+        ),
+        ReportLine::Lost(d, t),
+        ReportLine::Device(d, DeviceTotals::Lent(d)),
+        ReportLine::Frame(d, t, true),
+        ReportLine::Frame(d, t, false),
+        ReportLine::Fresh(d),
+        ReportLine::Left(p, d, 8),
+        ReportLine::Unused(9),
+        ReportLine::Sum(SumOf::Checks, 11),
+        ReportLine::Finish,
+    ];
+    let mut sink = MemSink::new(rt.alloc(), 1000, 1000, &[])?;
+    let mut buffer = LineBuffer::new();
+    assert_eq!(rt;
+        put_all::<LineSpelling, ReportLine, MemSink>(&mut sink, &mut buffer, &lines),
+        Ok(())
+    );
+    assert_eq!(rt; flush(&mut sink, &mut buffer), Ok(()));
+    assert_eq!(rt; sink.bytes(), TOTALS.as_bytes());
+    Ok(())
+}
+
+#[test]
+fn a_sense_line_has_all_bytes(rt: HostRuntime) -> Result<(), Fail> {
+    let mut sink = MemSink::new(rt.alloc(), 1000, 1000, &[])?;
+    let mut buffer = LineBuffer::new();
+    let mut bytes = [0; 32];
+    bytes[1] = 0x08;
+    let lines = [ReportLine::Sense(Sense::new(bytes))];
+    assert_eq!(rt;
+        put_all::<LineSpelling, ReportLine, MemSink>(&mut sink, &mut buffer, &lines),
+        Ok(())
+    );
+    assert_eq!(rt; put_data(&mut sink, &mut buffer, &[0x0a, 0xf9]), Ok(()));
+    assert_eq!(rt; flush(&mut sink, &mut buffer), Ok(()));
+    let wanted =
+        "SENSE 0008000000000000000000000000000000000000000000000000000000000000\nDATA 0AF9\n";
+    assert_eq!(rt; sink.bytes(), wanted.as_bytes());
+    Ok(())
+}
