@@ -1,6 +1,7 @@
 pub mod PartLemmas
 mod Rows
 mod GroupRows
+mod LegalRows
 pub mod JournalLaws
 pub mod HistoryLaws
 pub mod LooseLemmas

@@ -53,10 +53,14 @@ checked_paths paths e Full = paths
 checked_paths paths e (Cut effect) = paths
 checked_paths paths e Checked = with_sense paths e.path (last_sense e.ends)
 
-abbrev pub replay_entry : Plans → PlainState → ProgramEntry → PlainState
-replay_entry plans state e =
-    let p = entry_part plans state e (effects_of e.how e.ends) in
+-- the device behind an entry of this program
+abbrev pub replay_program : List Ccw → PlainState → ProgramEntry → PlainState
+replay_program ccws state e =
+    let p = part_of state e.path ccws e.acts (effects_of e.how e.ends) in
     record p.state { paths = checked_paths p.state.paths e e.how }
+
+abbrev pub replay_entry : Plans → PlainState → ProgramEntry → PlainState
+replay_entry plans state e = replay_program (program_of plans e.path e.ordinal) state e
 
 abbrev pub replay_item : Plans → PlainState → Item → PlainState
 replay_item plans state (Program e) = replay_entry plans state e

@@ -43,6 +43,10 @@ abbrev pub acts_at : List Acted → ℕ → List Act
 acts_at [] n = []
 acts_at (a ∷ acts) n = if a.after == n then a.act ∷ acts_at acts n else acts_at acts n
 
+abbrev pub acts_done : PlainState → List Act → PlainState
+acts_done state [] = state
+acts_done state (act ∷ acts) = acts_done (act_done state act) acts
+
 abbrev pub with_act : Part → Act → Part
 with_act p act = record p { state = act_done p.state act; told = p.told ++ told_by_act act }
 

@@ -6,3 +6,4 @@ pub mod Answering
 pub mod Opened
 pub mod Running
 pub mod Kept
+pub mod Acts

@@ -4,6 +4,7 @@ use Rattle.std.specs.Prelude.{IfSome, IsSome, is_none}
 use Rattle.std.proofs.lemmas.List.{length-append}
 use Rattle.ckd_types.specs.declared.channel.Ccw.{Ccw}
 use Rattle.ckd_types.specs.declared.channel.CommandEnd.{CommandEnd}
+use Rattle.ckd_types.specs.declared.geometry.Geometry.{Geometry}
 use Rattle.ckd_types.specs.Ccw.{ccw_at}
 use Rattle.ckd_types.specs.Fixed.{Fixed}
 use Rattle.ckd_chain.specs.declared.mark.Mark.{Mark}
@@ -18,21 +19,12 @@ use Rattle.ckd_rules.specs.Ends.{end_of, goes_to}
 use Rattle.plain_defs.specs.Effect.{Effect, effect_on, behind_effect}
 use Rattle.plain_defs.specs.Ends.{LastIsOver}
 use Rattle.plain_defs.specs.PlainState.{PlainState, fixed_of}
-use Rattle.plain_defs.specs.Program.{Part, first_part, begun, stepped, one_more, part_of, whole_run}
-use Rattle.plain_defs.proofs.PartLemmas.{acted_nothing, part_more, part_over, over_later, no_ends}
+use Rattle.plain_defs.specs.declared.journal.Act.{Act}
+use Rattle.plain_defs.specs.declared.journal.Acted.{Acted}
+use Rattle.plain_defs.specs.Program.{Part, first_part, begun, acts_at, acts_done, with_act, with_acts, acted_at, acted, stepped, one_more, part_of, whole_run}
+use Rattle.plain_defs.proofs.PartLemmas.{acted_beside, acted_nothing, over_stays, part_more, part_over, over_later}
 use Rattle.plain_device.specs.Between.{IsBetween, Ends, fixed_with}
-
--- a device and a chain on it are where the part of a program is, with its ends
-pub record IsAtPart (p : Part) (ccws : List Ccw) (device : PlainState) (chain : ChainState) (ends : List CommandEnd) : Type 0 where
-  pub device_is : device ≡ p.state
-  pub fixed_is : chain.fixed ≡ p.fixed
-  pub stance_is : chain.at.stance ≡ p.stance
-  pub next_is : chain.at.next ≡ p.next
-  pub ends_are : ends ≡ p.ends
-  pub words : chain.ccws ≡ ccws
-  pub stage : chain.stage ≡ None
-  pub on : chain.fixed ≡ fixed_with device chain.fixed.number
-  pub counted : chain.at.stance.commands ≡ length ends
+use Rattle.plain_device.specs.Parts.{IsAtPart}
 
 start_is : (s : ChainState) → s.stage ≡ None → start_of s ≡ s.at
 start_is s is = ap (λ (x : Option Stage). mark_by s x) is
@@ -44,6 +36,10 @@ some_of None is = absurd (cc)
 none_of : (next : Option ℕ) → is_none next ≡ true → next ≡ None
 none_of None is = refl
 none_of (Some i) is = absurd (cc)
+
+pub is_running : (next : Option ℕ) → IsSome next → is_none next ≡ false
+is_running (Some i) some = refl
+is_running None some = absurd (cc)
 
 pub between_of : (p : Part) (ccws : List Ccw) (device : PlainState) (chain : ChainState) (ends : List CommandEnd) → IsAtPart p ccws device chain ends → is_none chain.at.next ≡ false → IsBetween device chain
 between_of p ccws device chain ends at more = record { fixed = at.on; stage = at.stage; running = some_of chain.at.next more }
@@ -119,6 +115,44 @@ module _ (p : Part) (path : ℕ) (ccws : List Ccw) (device after : PlainState) (
       by_next (Some i) is some = subst (λ (q : Part). IsAtPart (stepped path ccws q) ccws after then_chain later) (part_is i is) (at_word i is)
       by_next None is some = absurd (cc)
 
+with_acts_state : (acts : List Act) (p : Part) → (with_acts acts p).state ≡ acts_done p.state acts
+with_acts_state [] p = refl
+with_acts_state (act ∷ acts) p = with_acts_state acts (with_act p act)
+
+-- and the acts behind its last end, while it runs
+pub at_acted : (acts : List Acted) (p : Part) (ccws : List Ccw) (device after : PlainState) (chain : ChainState) (ends : List CommandEnd) → IsAtPart p ccws device chain ends → is_none chain.at.next ≡ false
+    → after ≡ acts_done device (acts_at acts (length ends)) → (after.geometry ≡ device.geometry) × (after.cylinders ≡ device.cylinders) → IsAtPart (acted acts p) ccws after chain ends
+at_acted acts p ccws device after chain ends at more after_is same = by_next chain.at.next refl more where
+  by_next : (next : Option ℕ) → chain.at.next ≡ next → is_none next ≡ false → IsAtPart (acted acts p) ccws after chain ends
+  by_next None is some = absurd (cc)
+  by_next (Some i) is some =
+      let beside = acted_beside acts p in
+      let here : acted acts p ≡ with_acts (acts_at acts (length p.ends)) p = ap (λ (next : Option ℕ). acted_at acts p next) (sym at.next_is ∙ is) in record {
+        device_is =
+            after_is
+            ∙ ap (λ (l : List CommandEnd). acts_done device (acts_at acts (length l))) at.ends_are
+            ∙ ap (λ (d : PlainState). acts_done d (acts_at acts (length p.ends))) at.device_is
+            ∙ sym (with_acts_state (acts_at acts (length p.ends)) p)
+            ∙ ap (λ (q : Part). q.state) (sym here);
+        fixed_is = at.fixed_is ∙ sym beside.fixed;
+        stance_is = at.stance_is ∙ sym beside.stance;
+        next_is = at.next_is ∙ sym beside.next;
+        ends_are = at.ends_are ∙ sym beside.ends;
+        words = at.words;
+        stage = at.stage;
+        on = at.on ∙ ap (λ (g : Geometry). record { geometry = g; cylinders = device.cylinders; number = chain.fixed.number }) (sym same.0) ∙ ap (λ (c : ℕ). record { geometry = after.geometry; cylinders = c; number = chain.fixed.number }) (sym same.1);
+        counted = at.counted;
+      }
+
+-- a chain that is over has none
+pub at_over : (acts : List Acted) (p : Part) (ccws : List Ccw) (device : PlainState) (chain : ChainState) (ends : List CommandEnd) → IsAtPart p ccws device chain ends → is_none chain.at.next ≡ true → IsAtPart (acted acts p) ccws device chain ends
+at_over acts p ccws device chain ends at over =
+    subst (λ (q : Part). IsAtPart q ccws device chain ends) (sym (ap (λ (next : Option ℕ). acted_at acts p next) (sym at.next_is ∙ none_of chain.at.next over))) at
+
+-- and stays where it is
+pub at_stays : (path : ℕ) (acts : List Acted) (p : Part) (ccws : List Ccw) (device : PlainState) (chain : ChainState) (ends : List CommandEnd) → IsAtPart p ccws device chain ends → is_none chain.at.next ≡ true → IsAtPart (one_more path ccws acts p) ccws device chain ends
+at_stays path acts p ccws device chain ends at over = subst (λ (q : Part). IsAtPart q ccws device chain ends) (sym (over_stays path ccws acts p (sym at.next_is ∙ none_of chain.at.next over))) at
+
 -- with no acts between its commands
 abbrev pub IsRunningOn : PlainState → ℕ → List Ccw → PlainState → ChainState → List CommandEnd → Type 0
 IsRunningOn start path ccws device chain ends = IsAtPart (part_of start path ccws [] (length ends)) ccws device chain ends
@@ -177,3 +211,17 @@ module _ (start : PlainState) (path : ℕ) (ccws : List Ccw) where
 
       pub all_over : LastIsOver ends
       all_over = subst LastIsOver (sym r.ends_are) (part_over path ccws [] start (length ends) is_over)
+
+module _ (start : PlainState) (path : ℕ) (ccws : List Ccw) (acts : List Acted) where
+  pub part_first : (device after : PlainState) (chain : ChainState) → device ≡ record start { paths = begun start.paths path ccws } → chain ≡ begun_chain ccws (fixed_of start) → after ≡ acts_done device (acts_at acts 0)
+      → (after.geometry ≡ device.geometry) × (after.cylinders ≡ device.cylinders) → (ends : List CommandEnd) → ends ≡ [] → IsAtPart (part_of start path ccws acts 0) ccws after chain ends
+  unfolding part_of
+  part_first device after chain device_is chain_is after_is same ends none =
+      subst (λ (l : List CommandEnd). IsAtPart (acted acts (first_part start path ccws)) ccws after chain l) (sym none)
+      (at_acted acts (first_part start path ccws) ccws device after chain [] (at_first start path ccws device chain device_is chain_is) (ap (λ (s : ChainState). is_none s.at.next) chain_is) after_is same)
+
+  pub part_next : (k : ℕ) (device : PlainState) (chain : ChainState) (ends : List CommandEnd) → IsAtPart (one_more path ccws acts (part_of start path ccws acts k)) ccws device chain ends → IsAtPart (part_of start path ccws acts (k + 1)) ccws device chain ends
+  part_next k device chain ends at =
+      let same : suc k ≡ k + 1 = omega arith in
+      subst (λ (n : ℕ). IsAtPart (part_of start path ccws acts n) ccws device chain ends) same
+      (subst (λ (p : Part). IsAtPart p ccws device chain ends) (sym (part_more path ccws acts start k)) at)

@@ -2,3 +2,4 @@ pub mod Volume
 pub mod Acted
 pub mod Between
 pub mod Looking
+pub mod Parts

@@ -1,11 +1,11 @@
-ghost use Rattle.std.specs.Prelude.{◌≡◌, ◌<◌, ◌≤◌, ◌*◌, ◌+◌, [], IfOk, IfSome, IsSome, OnOk, OnErr};
+ghost use Rattle.std.specs.Prelude.{◌≡◌, All, ◌<◌, ◌≤◌, ◌*◌, ◌+◌, [], IfOk, IfSome, IsSome, OnOk, OnErr};
 ghost use Rattle.ckd_types.specs.Volume.{empty_volume};
 ghost use Rattle.ckd_chain.specs.Steps.{need_of};
 ghost use Rattle.plain_defs.specs.declared.journal.Act.TheVariants.{Loosen};
 ghost use Rattle.plain_defs.specs.Effect.{kept_by};
 ghost use Rattle.plain_defs.specs.Loose.{act_done, cfw_lost, power_off};
 ghost use Rattle.plain_defs.specs.PlainState.{fixed_of, empty_state, reset_path, is_admitted};
-ghost use Rattle.plain_defs.specs.Program.{begun};
+ghost use Rattle.plain_defs.specs.Program.{begun, acts_at, acts_done};
 ghost use Rattle.plain_device.specs.Between.{IsBetween, EndsBy, Ends, fixed_with};
 ghost use Rattle.plain_device.specs.Looking.{IsLooking, IsAtAnswer, IsWent, stage_effect, walk_of};
 ghost use Rattle.plain_device.specs.Volume.{IsActOn};
@@ -17,7 +17,7 @@ use ckd_chain::{Chain, Progress, Settled};
 use ckd_types::{
     Ccw, CommandEnd, FixedData, Geometry, HEADS, NoMemory, PathNo, TrackNo,
 };
-use plain_defs::Act;
+use plain_defs::{Act, Acted};
 use std::alloc::Global;
 use std::marker::Model;
 use std::mem::replace;
@@ -32,7 +32,7 @@ pub struct PlainDevice {
 }
 
 impl Model for PlainDevice {
-    ghost use Rattle.std.specs.Prelude.{◌≡◌, ◌*◌, All, length};
+    ghost use Rattle.std.specs.Prelude.{◌≡◌, All, ◌*◌, All, length};
     ghost use Rattle.plain_defs.specs.PlainState.{PlainState};
     ghost use Rattle.plain_device.specs.Volume.{loose_of, IsLooseOf};
 
@@ -151,6 +151,20 @@ impl PlainDevice {
                 Ok(())
             }
         }
+    }
+
+    /// Does those acts of a program that stand behind so many of its ends.
+    pub fn act_behind(&mut self, alloc: Global, acts: &[Acted], ends: usize) -> Result<(), NoMemory>
+        requires { All (λ a. IsActOn (self.old.cylinders * 15) a.act) acts.now }
+        ensures done { OnOk result (self.new ≡ acts_done self.old (acts_at acts.now ends)) }
+        ensures same { (self.new.geometry ≡ self.old.geometry) × (self.new.cylinders ≡ self.old.cylinders) }
+    {
+        for acted in acts {
+            if usize::from(acted.after) == ends {
+                self.act(alloc, acted.act)?;
+            }
+        }
+        Ok(())
     }
 
     /// A power loss takes the data of cache fast write, and all that is kept of the paths.
