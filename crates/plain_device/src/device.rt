@@ -4,7 +4,7 @@ ghost use Rattle.ckd_chain.specs.Steps.{need_of};
 ghost use Rattle.plain_defs.specs.declared.journal.Act.TheVariants.{Loosen};
 ghost use Rattle.plain_defs.specs.Effect.{kept_by};
 ghost use Rattle.plain_defs.specs.Loose.{act_done, cfw_lost, power_off};
-ghost use Rattle.plain_defs.specs.PlainState.{fixed_of, empty_state, reset_path, is_admitted};
+ghost use Rattle.plain_defs.specs.PlainState.{fixed_of, empty_state, reset_path, is_admitted, with_sense};
 ghost use Rattle.plain_defs.specs.Program.{begun, acts_at, acts_done};
 ghost use Rattle.plain_device.specs.Between.{IsBetween, EndsBy, Ends, fixed_with};
 ghost use Rattle.plain_device.specs.Looking.{IsLooking, IsAtAnswer, IsWent, stage_effect, walk_of};
@@ -15,7 +15,7 @@ use crate::paths::Paths;
 use crate::volume::Images;
 use ckd_chain::{Chain, Progress, Settled};
 use ckd_types::{
-    Ccw, CommandEnd, FixedData, Geometry, HEADS, NoMemory, PathNo, TrackNo,
+    Ccw, CommandEnd, FixedData, Geometry, HEADS, NoMemory, PathNo, Sense, TrackNo,
 };
 use plain_defs::{Act, Acted};
 use std::alloc::Global;
@@ -89,6 +89,13 @@ impl PlainDevice {
         ensures { result.now ≡ self.now.paths }
     {
         &self.paths
+    }
+
+    /// Keeps the sense of a path, where a command's end has one.
+    pub fn keep_sense(&mut self, path: PathNo, sense: Option<Sense>)
+        ensures { self.new ≡ record self.old { paths = with_sense self.old.paths path sense } }
+    {
+        self.paths.keep_sense(path, sense);
     }
 
     /// Whether a program may start on a path.

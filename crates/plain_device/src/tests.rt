@@ -1,6 +1,7 @@
 use crate::PlainDevice;
 use ckd_ccw::Program;
-use ckd_types::{Bytes, Ccw, EndList, Geometry, Note, PathNo};
+use ckd_types::{Bytes, Ccw, EndList, Geometry, Note, PathNo, TrackNo};
+use plain_defs::Act;
 use std::alloc::Global;
 use std::test::Fail;
 
@@ -236,5 +237,37 @@ fn sense_path_group_id(rt: HostRuntime) -> Result<(), Fail> {
         assert_eq!(rt; end.sent.as_slice() == want.as_slice(), true);
         device.reset(path(1)?);
     }
+    Ok(())
+}
+
+/// Record 0 is updated as data of cache fast write, under number 0.
+fn provisional_update(alloc: Global) -> Result<Program, Fail> {
+    let extent = [0x80, 0xc2, 0x10, 0, 0, 0, 0, 0, 0, 0, 0, 0, 0, 0, 0, 0x0e];
+    let locate = [1, 0, 0, 1, 0, 0, 0, 0, 0, 0, 0, 0, 0, 0, 0, 0];
+    let data = [0x11, 0x22, 0x33, 0x44, 0x55, 0x66, 0x77, 0x88];
+    let mut ccws = Vec::new(alloc);
+    ccws.push(word(alloc, 0x63, 0x40, 16, extent.as_slice())?)?;
+    ccws.push(word(alloc, 0x47, 0x40, 16, locate.as_slice())?)?;
+    ccws.push(word(alloc, 0x85, 0, 8, data.as_slice())?)?;
+    program(ccws)
+}
+
+/// Its data are read until they are lost; then the old number is refused.
+#[test]
+fn data_of_cache_fast_write_are_lost(rt: HostRuntime) -> Result<(), Fail> {
+    let alloc = rt.alloc();
+    let mut device = PlainDevice::new(alloc, Geometry::D3390, 1)?;
+    let update = provisional_update(alloc)?;
+    let read = located(alloc, 0x40, 6, 0, word(alloc, 0x06, 0, 8, &[])?)?;
+    device.act(alloc, Act::Loosen(TrackNo::new(0).ok_or("track")?))?;
+    let ends = device.run(alloc, path(1)?, &update)?;
+    assert_eq!(rt; shown(&ends)?, (3, 0x0c, 0, false, 0, 0, 0));
+    let ends = device.run(alloc, path(1)?, &read)?;
+    assert_eq!(rt; shown(&ends)?, (3, 0x0c, 0, false, 8, 0x11, 0x22));
+    device.act(alloc, Act::CfwLost)?;
+    let ends = device.run(alloc, path(1)?, &read)?;
+    assert_eq!(rt; shown(&ends)?, (3, 0x0c, 0, false, 8, 0, 0));
+    let ends = device.run(alloc, path(1)?, &update)?;
+    assert_eq!(rt; shown(&ends)?, (1, 0x0e, 16, false, 0, 0, 0));
     Ok(())
 }
