@@ -1,5 +1,5 @@
 -- Journals that a plain device could have made, and forged ones, computed from the definitions alone.
-use Rattle.std.proofs.Common.{◌≡◌, ◌<◌, ◌≤◌, ℕ, List, [], ◌∷◌, ◌++◌, Option, Some, None, true, false, length, refl, arith, sym, ap, inl, ◌∙◌}
+use Rattle.std.proofs.Common.{◌≡◌, ◌<◌, ◌≤◌, ℕ, zero, suc, List, [], ◌∷◌, ◌++◌, Option, Some, None, true, false, length, refl, arith, sym, ap, inl, ◌∙◌}
 use Rattle.std.specs.Prelude.{IsSome}
 use Rattle.std.proofs.lemmas.Bool.{true≢false}
 use Rattle.ckd_types.specs.declared.channel.Ccw.{Ccw}
@@ -8,6 +8,7 @@ use Rattle.ckd_types.specs.declared.channel.Note.TheVariants.{Plain}
 use Rattle.ckd_types.specs.declared.geometry.Geometry.TheVariants.{D3390}
 use Rattle.ckd_types.specs.Commands.{command_of}
 use Rattle.ckd_types.specs.Sense.{equipment_sense}
+use Rattle.ckd_rules.specs.Walk.{walk}
 use Rattle.plain_defs.specs.declared.journal.Act.{Act}
 use Rattle.plain_defs.specs.declared.journal.Act.TheVariants.{Loosen, Harden, CfwLost}
 use Rattle.plain_defs.specs.declared.journal.Acted.{Acted}
@@ -16,7 +17,7 @@ use Rattle.plain_defs.specs.declared.journal.How.TheVariants.{Full, Cut, Checked
 use Rattle.plain_defs.specs.declared.journal.Item.{Item}
 use Rattle.plain_defs.specs.declared.journal.Item.TheVariants as items
 use Rattle.plain_defs.specs.Journal.{Plans}
-use Rattle.plain_defs.specs.Legal.{IsLegal, IsLegalEntry, next_edit}
+use Rattle.plain_defs.specs.Legal.{IsLegal, IsLegalEntry, IsPoint, next_edit}
 use Rattle.plain_defs.proofs.LooseLemmas.{may_edit, part_loose}
 use Rattle.plain_defs.specs.PlainState.{PlainState, empty_state}
 use Rattle.plain_defs.specs.Program.{part_of}
@@ -160,3 +161,47 @@ none_is_some t is = cc
 
 loosened_between_programs : IsLegal plans device (items.Act (Loosen 0) ∷ []) → ⊥
 loosened_between_programs legal = none_is_some 0 legal.0.1
+
+-- Cache fast write: an extent of this attribute byte, a locate of record 0 on track 0, and an update of its data; track 0 becomes loose before that
+updates : ℕ → List Ccw
+updates attributes =
+    record { command = 0x63; flags = 0x40; count = 16; given = 0x80 ∷ attributes ∷ 0x10 ∷ 0 ∷ 0 ∷ 0 ∷ 0 ∷ 0 ∷ 0 ∷ 0 ∷ 0 ∷ 0 ∷ 0 ∷ 0 ∷ 0 ∷ 0x0e ∷ [] }
+    ∷ record { command = 0x47; flags = 0x40; count = 16; given = 1 ∷ 0 ∷ 0 ∷ 1 ∷ 0 ∷ 0 ∷ 0 ∷ 0 ∷ 0 ∷ 0 ∷ 0 ∷ 0 ∷ 0 ∷ 0 ∷ 0 ∷ 0 ∷ [] }
+    ∷ record { command = 0x85; flags = 0; count = 8; given = 17 ∷ 34 ∷ 51 ∷ 68 ∷ 85 ∷ 102 ∷ 119 ∷ 136 ∷ [] }
+    ∷ []
+
+loosened : List Acted
+loosened = record { after = 2; act = Loosen 0 } ∷ []
+
+updated : ℕ → Item
+updated attributes = items.Program (record { path = 1; ordinal = 1; how = Full; ends = (part_of device 1 (updates attributes) loosened 3).ends; acts = loosened })
+
+planned_updates : ℕ → Plans
+planned_updates attributes = (updates attributes ∷ []) ∷ [] ∷ [] ∷ [] ∷ []
+
+-- under number 0
+update_points : (j : ℕ) → j < 3 → IsPoint device 1 (updates 0xc2) loosened j
+unfolding device updates loosened part_of walk command_of
+update_points zero below = record { acts_are = tt; edit_is = tt }
+update_points (suc zero) below = record { acts_are = tt; edit_is = tt }
+update_points (suc (suc zero)) below = record { acts_are = (refl, refl); edit_is = λ loose. refl }
+update_points (suc (suc (suc j))) below = absurd (omega (arith, below))
+
+cache_fast_write_is_legal : IsLegal (planned_updates 0xc2) device (updated 0xc2 ∷ [])
+unfolding planned_updates updated device updates loosened part_of walk command_of
+cache_fast_write_is_legal = ((record {
+  started = record { least = omega arith; most = omega arith; in_plan = omega arith; ordinal_is = refl; admitted = refl };
+  ends = record { ends_are = refl; over = refl };
+  order = (omega arith, omega arith, tt);
+  acts = record { points = update_points; last = tt };
+}, tt), tt)
+
+-- without a number the track may not be loose
+loose_edit_without_a_number : IsLegal (planned_updates 0xc0) device (updated 0xc0 ∷ []) → ⊥
+unfolding planned_updates updated device updates loosened part_of walk command_of
+loose_edit_without_a_number legal = let point = legal.0.0.acts.points 2 (omega arith) in true≢false (sym (point.edit_is refl))
+
+-- and it becomes loose only directly before its edit
+loosened_too_early : IsLegal (planned_updates 0xc2) device (items.Program (record { path = 1; ordinal = 1; how = Full; ends = (part_of device 1 (updates 0xc2) [] 3).ends; acts = record { after = 1; act = Loosen 0 } ∷ [] }) ∷ []) → ⊥
+unfolding planned_updates device updates part_of walk command_of
+loosened_too_early legal = let point = legal.0.0.acts.points 1 (omega arith) in none_is_some 0 point.acts_are.1

@@ -8,5 +8,6 @@ pub mod Entry
 pub mod Journal
 pub mod Legal
 pub mod History
+pub mod Whole
 pub mod Ends
 pub mod Built

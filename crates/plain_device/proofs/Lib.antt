@@ -7,3 +7,5 @@ pub mod Opened
 pub mod Running
 pub mod Kept
 pub mod Acts
+pub mod Suiting
+pub mod Wholes
