@@ -25,33 +25,46 @@ use Rattle.nv_store.proofs.InOrder.{FollowsBy, parts, up_to, follows_added, foll
 take_lengths : (n : ℕ) (x : List Record) (i k b : ℕ) → has_lengths (take n x) i k b ≡ true → has_lengths x i k b ≡ true
 take_lengths n x i k b h =
     let place : i < length (take n x) = place_there (take n x) i k b h in
-    let same : get_or (take n x) i (empty_zero 0) ≡ get_or x i (empty_zero 0) = get_or-take n x i (empty_zero 0) (omega (arith, place, length-take n x)) in
-    lengths_from x i k b (omega (arith, place, length-take n x)) (ap (λ (r : Record). length r.key) (sym same) ∙ key_there (take n x) i k b h) (ap (λ (r : Record). length r.body) (sym same) ∙ body_there (take n x) i k b h)
+    let same : get_or (take n x) i (empty_zero 0) ≡ get_or x i (empty_zero 0) =
+    get_or-take n x i (empty_zero 0) (omega (arith, place, length-take n x)) in
+    lengths_from x i k b (omega (arith, place, length-take n x))
+    (ap (λ (r : Record). length r.key) (sym same) ∙ key_there (take n x) i k b h)
+    (ap (λ (r : Record). length r.body) (sym same) ∙ body_there (take n x) i k b h)
 
-left_lengths : (x behind : List Record) (i k b : ℕ) → i < length x → has_lengths (x ++ behind) i k b ≡ true → has_lengths x i k b ≡ true
+left_lengths : (x behind : List Record) (i k b : ℕ) → i < length x → has_lengths (x ++ behind) i k b ≡ true
+    → has_lengths x i k b ≡ true
 left_lengths x behind i k b place h =
-    let same : get_or (x ++ behind) i (empty_zero 0) ≡ get_or x i (empty_zero 0) = get_or-append x behind (empty_zero 0) i place in
-    lengths_from x i k b place (ap (λ (r : Record). length r.key) (sym same) ∙ key_there (x ++ behind) i k b h) (ap (λ (r : Record). length r.body) (sym same) ∙ body_there (x ++ behind) i k b h)
+    let same : get_or (x ++ behind) i (empty_zero 0) ≡ get_or x i (empty_zero 0) =
+    get_or-append x behind (empty_zero 0) i place in
+    lengths_from x i k b place (ap (λ (r : Record). length r.key) (sym same) ∙ key_there (x ++ behind) i k b h)
+    (ap (λ (r : Record). length r.body) (sym same) ∙ body_there (x ++ behind) i k b h)
 
-unrevised : (kept : Kept) (rs : List Replacement) (x : List Record) (i k b : ℕ) → list_all (is_replaceable kept x) rs ≡ true → has_lengths (revised rs x) i k b ≡ true → has_lengths x i k b ≡ true
+unrevised : (kept : Kept) (rs : List Replacement) (x : List Record) (i k b : ℕ)
+    → list_all (is_replaceable kept x) rs ≡ true → has_lengths (revised rs x) i k b ≡ true → has_lengths x i k b ≡ true
 unrevised kept [] x i k b all h = h
 unrevised kept (r ∷ rs) x i k b all h =
     let both = and_parts (is_replaceable kept x r) (list_all (is_replaceable kept x) rs) all in
     let one = and_parts (is_kept kept r.index) (has_lengths x r.index (length r.key) (length r.body)) both.0 in
-    sym (lengths_kept x r.index r.key r.body i k b one.1) ∙ unrevised kept rs (put r x) i k b (all_kept kept x r.index r.key r.body rs one.1 ∙ both.1) h
+    sym (lengths_kept x r.index r.key r.body i k b one.1)
+    ∙ unrevised kept rs (put r x) i k b (all_kept kept x r.index r.key r.body rs one.1 ∙ both.1) h
 
 -- a record that stays has the lengths that it has in what the patch gave
-found : (kept : Kept) (rs : List Replacement) (behind x : List Record) (i k b : ℕ) → is_kept kept i ≡ true → is_whole kept ≡ (length behind == 0) → reaches kept x ≡ true → list_all (is_replaceable kept x) rs ≡ true
+found : (kept : Kept) (rs : List Replacement) (behind x : List Record) (i k b : ℕ) → is_kept kept i ≡ true
+    → is_whole kept ≡ (length behind == 0) → reaches kept x ≡ true → list_all (is_replaceable kept x) rs ≡ true
     → has_lengths (revised rs (stay kept x) ++ behind) i k b ≡ true → has_lengths x i k b ≡ true
 found Whole rs behind x i k b here is reached all h =
-    let g : has_lengths (revised rs x) i k b ≡ true = subst (λ (y : List Record). has_lengths y i k b ≡ true) (ap (λ (y : List Record). revised rs x ++ y) (nothing_behind behind is) ∙ append-nil (revised rs x)) h in
+    let g : has_lengths (revised rs x) i k b ≡ true = subst (λ (y : List Record). has_lengths y i k b ≡ true)
+    (ap (λ (y : List Record). revised rs x ++ y) (nothing_behind behind is) ∙ append-nil (revised rs x)) h in
     unrevised Whole rs x i k b all g
 found Nothing rs behind x i k b here is reached all h = absurd cc
 found (UpTo last) rs behind x i k b here is reached all h =
-    let front = left_lengths (revised rs (take (last + 1) x)) behind i k b (omega (arith, leb-true i last here, length_front last rs x reached)) h in
-    unrevised (UpTo last) rs x i k b all (take_lengths (last + 1) (revised rs x) i k b (subst (λ (y : List Record). has_lengths y i k b ≡ true) (sym (revised_take (last + 1) rs x)) front))
+    let front = left_lengths (revised rs (take (last + 1) x)) behind i k b
+    (omega (arith, leb-true i last here, length_front last rs x reached)) h in
+    unrevised (UpTo last) rs x i k b all (take_lengths (last + 1) (revised rs x) i k b
+    (subst (λ (y : List Record). has_lengths y i k b ≡ true) (sym (revised_take (last + 1) rs x)) front))
 
-step_filtered : (P q : Replacement → Bool) (r : Replacement) (rs : List Replacement) → P r ≡ true → list_all P (filter q rs) ≡ true → list_all P (filter q (r ∷ rs)) ≡ true
+step_filtered : (P q : Replacement → Bool) (r : Replacement) (rs : List Replacement) → P r ≡ true
+    → list_all P (filter q rs) ≡ true → list_all P (filter q (r ∷ rs)) ≡ true
 step_filtered P q r rs one rest = elim (cases_Bool (q r)) [ inl y ↦ here y | inr n ↦ there n ]
   where
     here : q r ≡ true → list_all P (filter q (r ∷ rs)) ≡ true
@@ -60,30 +73,40 @@ step_filtered P q r rs one rest = elim (cases_Bool (q r)) [ inl y ↦ here y | i
     there : q r ≡ false → list_all P (filter q (r ∷ rs)) ≡ true
     there n = rw n rest
 
-pub filtered : (P q : Replacement → Bool) (rs : List Replacement) → list_all P rs ≡ true → list_all P (filter q rs) ≡ true
+pub filtered : (P q : Replacement → Bool) (rs : List Replacement) → list_all P rs ≡ true
+    → list_all P (filter q rs) ≡ true
 filtered P q [] all = refl
-filtered P q (r ∷ rs) all = let both = and_parts (P r) (list_all P rs) all in step_filtered P q r rs both.0 (filtered P q rs both.1)
+filtered P q (r ∷ rs) all = let both = and_parts (P r) (list_all P rs) all in step_filtered P q r rs both.0
+    (filtered P q rs both.1)
 
-step_narrowed : (a : ℕ) (x : List Record) (r : Replacement) (rs : List Replacement) → has_lengths x r.index (length r.key) (length r.body) ≡ true → list_all (is_replaceable (UpTo a) x) (up_to a rs) ≡ true → list_all (is_replaceable (UpTo a) x) (up_to a (r ∷ rs)) ≡ true
+step_narrowed : (a : ℕ) (x : List Record) (r : Replacement) (rs : List Replacement)
+    → has_lengths x r.index (length r.key) (length r.body) ≡ true
+    → list_all (is_replaceable (UpTo a) x) (up_to a rs) ≡ true
+    → list_all (is_replaceable (UpTo a) x) (up_to a (r ∷ rs)) ≡ true
 step_narrowed a x r rs one rest = elim (cases_Bool (nat_le r.index a)) [ inl y ↦ here y | inr n ↦ there n ]
   where
     here : nat_le r.index a ≡ true → list_all (is_replaceable (UpTo a) x) (up_to a (r ∷ rs)) ≡ true
-    here y = subst (λ (b : Bool). list_all (is_replaceable (UpTo a) x) (cond b (r ∷ up_to a rs) (up_to a rs)) ≡ true) (sym y) (and_from _ _ (and_from _ _ y one) rest)
+    here y = subst (λ (b : Bool). list_all (is_replaceable (UpTo a) x) (cond b (r ∷ up_to a rs) (up_to a rs)) ≡ true)
+        (sym y) (and_from _ _ (and_from _ _ y one) rest)
 
     there : nat_le r.index a ≡ false → list_all (is_replaceable (UpTo a) x) (up_to a (r ∷ rs)) ≡ true
     there n = rw n rest
 
-narrowed : (kept : Kept) (a : ℕ) (x : List Record) (rs : List Replacement) → list_all (is_replaceable kept x) rs ≡ true → list_all (is_replaceable (UpTo a) x) (up_to a rs) ≡ true
+narrowed : (kept : Kept) (a : ℕ) (x : List Record) (rs : List Replacement) → list_all (is_replaceable kept x) rs ≡ true
+    → list_all (is_replaceable (UpTo a) x) (up_to a rs) ≡ true
 narrowed kept a x [] all = refl
 narrowed kept a x (r ∷ rs) all =
     let both = and_parts (is_replaceable kept x r) (list_all (is_replaceable kept x) rs) all in
     let one = and_parts (is_kept kept r.index) (has_lengths x r.index (length r.key) (length r.body)) both.0 in
     step_narrowed a x r rs one.1 (narrowed kept a x rs both.1)
 
-reached_added : (e : Edit) (kept : Kept) (rs : List Replacement) (behind x : List Record) → is_whole kept ≡ (length behind == 0) → reaches kept x ≡ true → Meets e (revised rs (stay kept x) ++ behind) → reaches (added (parts rs kept behind) e).kept x ≡ true
+reached_added : (e : Edit) (kept : Kept) (rs : List Replacement) (behind x : List Record)
+    → is_whole kept ≡ (length behind == 0) → reaches kept x ≡ true → Meets e (revised rs (stay kept x) ++ behind)
+    → reaches (added (parts rs kept behind) e).kept x ≡ true
 reached_added (Update i key body) Whole rs behind x is reached meets = refl
 reached_added (Update i key body) Nothing rs behind x is reached meets = refl
-reached_added (Update i key body) (UpTo last) rs behind x is reached meets = elim (cases_Bool (nat_le i last)) [ inl y ↦ here y | inr n ↦ there n ]
+reached_added (Update i key body) (UpTo last) rs behind x is reached meets =
+    elim (cases_Bool (nat_le i last)) [ inl y ↦ here y | inr n ↦ there n ]
   where
     here : nat_le i last ≡ true → reaches (added (parts rs (UpTo last) behind) (Update i key body)).kept x ≡ true
     here y = rw y reached
@@ -91,10 +114,12 @@ reached_added (Update i key body) (UpTo last) rs behind x is reached meets = eli
     there : nat_le i last ≡ false → reaches (added (parts rs (UpTo last) behind) (Update i key body)).kept x ≡ true
     there n = rw n reached
 reached_added (Format a new) Whole rs behind x is reached meets =
-    let m : a < length (revised rs x) = subst (λ (y : List Record). a < length y) (ap (λ (y : List Record). revised rs x ++ y) (nothing_behind behind is) ∙ append-nil (revised rs x)) meets in
+    let m : a < length (revised rs x) = subst (λ (y : List Record). a < length y)
+    (ap (λ (y : List Record). revised rs x ++ y) (nothing_behind behind is) ∙ append-nil (revised rs x)) meets in
     lt-ltb a (length x) (omega (arith, m, length_revised rs x))
 reached_added (Format a new) Nothing rs behind x is reached meets = refl
-reached_added (Format a new) (UpTo last) rs behind x is reached meets = elim (cases_Bool (nat_le a last)) [ inl y ↦ here y | inr n ↦ there n ]
+reached_added (Format a new) (UpTo last) rs behind x is reached meets =
+    elim (cases_Bool (nat_le a last)) [ inl y ↦ here y | inr n ↦ there n ]
   where
     here : nat_le a last ≡ true → reaches (added (parts rs (UpTo last) behind) (Format a new)).kept x ≡ true
     here y = rw y (lt-ltb a (length x) (omega (arith, leb-true a last y, ltb-true last (length x) reached)))
@@ -104,42 +129,60 @@ reached_added (Format a new) (UpTo last) rs behind x is reached meets = elim (ca
 reached_added (Zero new) kept rs behind x is reached meets = refl
 
 -- an update of a record that stays
-kept_update : (i : ℕ) (key body : List ℕ) (kept : Kept) (rs : List Replacement) (behind x : List Record) → is_kept kept i ≡ true → is_whole kept ≡ (length behind == 0) → reaches kept x ≡ true → list_all (is_replaceable kept x) rs ≡ true → Meets (Update i key body) (revised rs (stay kept x) ++ behind)
+kept_update : (i : ℕ) (key body : List ℕ) (kept : Kept) (rs : List Replacement) (behind x : List Record)
+    → is_kept kept i ≡ true → is_whole kept ≡ (length behind == 0) → reaches kept x ≡ true
+    → list_all (is_replaceable kept x) rs ≡ true → Meets (Update i key body) (revised rs (stay kept x) ++ behind)
     → list_all (is_replaceable kept x) (with_replacement (record { index = i; key = key; body = body }) rs) ≡ true
 kept_update i key body kept rs behind x here is reached all meets =
     let r : Replacement = record { index = i; key = key; body = body } in
     list_all-append (is_replaceable kept x) (filter (λ (w : Replacement). not (w.index == r.index)) rs) (r ∷ [])
-    ∙ and_from _ _ (filtered (is_replaceable kept x) (λ (w : Replacement). not (w.index == r.index)) rs all) (and_from _ _ (and_from _ _ here (found kept rs behind x i (length key) (length body) here is reached all meets)) refl)
+    ∙ and_from _ _ (filtered (is_replaceable kept x) (λ (w : Replacement). not (w.index == r.index)) rs all)
+    (and_from _ _ (and_from _ _ here (found kept rs behind x i (length key) (length body) here is reached all
+    meets)) refl)
 
-replaceable_added : (e : Edit) (kept : Kept) (rs : List Replacement) (behind x : List Record) → is_whole kept ≡ (length behind == 0) → reaches kept x ≡ true → list_all (is_replaceable kept x) rs ≡ true → Meets e (revised rs (stay kept x) ++ behind)
+replaceable_added : (e : Edit) (kept : Kept) (rs : List Replacement) (behind x : List Record)
+    → is_whole kept ≡ (length behind == 0) → reaches kept x ≡ true → list_all (is_replaceable kept x) rs ≡ true
+    → Meets e (revised rs (stay kept x) ++ behind)
     → list_all (is_replaceable (added (parts rs kept behind) e).kept x) (added (parts rs kept behind) e).replaced ≡ true
-replaceable_added (Update i key body) Whole rs behind x is reached all meets = kept_update i key body Whole rs behind x refl is reached all meets
+replaceable_added (Update i key body) Whole rs behind x is reached all meets =
+    kept_update i key body Whole rs behind x refl is reached all meets
 replaceable_added (Update i key body) Nothing rs behind x is reached all meets = all
-replaceable_added (Update i key body) (UpTo last) rs behind x is reached all meets = elim (cases_Bool (nat_le i last)) [ inl y ↦ here y | inr n ↦ there n ]
+replaceable_added (Update i key body) (UpTo last) rs behind x is reached all meets =
+    elim (cases_Bool (nat_le i last)) [ inl y ↦ here y | inr n ↦ there n ]
   where
-    here : nat_le i last ≡ true → list_all (is_replaceable (added (parts rs (UpTo last) behind) (Update i key body)).kept x) (added (parts rs (UpTo last) behind) (Update i key body)).replaced ≡ true
+    here : nat_le i last ≡ true → list_all (is_replaceable
+        (added (parts rs (UpTo last) behind) (Update i key body)).kept x)
+        (added (parts rs (UpTo last) behind) (Update i key body)).replaced ≡ true
     here y = rw y (kept_update i key body (UpTo last) rs behind x y is reached all meets)
 
-    there : nat_le i last ≡ false → list_all (is_replaceable (added (parts rs (UpTo last) behind) (Update i key body)).kept x) (added (parts rs (UpTo last) behind) (Update i key body)).replaced ≡ true
+    there : nat_le i last ≡ false → list_all (is_replaceable
+        (added (parts rs (UpTo last) behind) (Update i key body)).kept x)
+        (added (parts rs (UpTo last) behind) (Update i key body)).replaced ≡ true
     there n = rw n all
 replaceable_added (Format a new) Whole rs behind x is reached all meets = narrowed Whole a x rs all
 replaceable_added (Format a new) Nothing rs behind x is reached all meets = all
-replaceable_added (Format a new) (UpTo last) rs behind x is reached all meets = elim (cases_Bool (nat_le a last)) [ inl y ↦ here y | inr n ↦ there n ]
+replaceable_added (Format a new) (UpTo last) rs behind x is reached all meets =
+    elim (cases_Bool (nat_le a last)) [ inl y ↦ here y | inr n ↦ there n ]
   where
-    here : nat_le a last ≡ true → list_all (is_replaceable (added (parts rs (UpTo last) behind) (Format a new)).kept x) (added (parts rs (UpTo last) behind) (Format a new)).replaced ≡ true
+    here : nat_le a last ≡ true → list_all (is_replaceable (added (parts rs (UpTo last) behind) (Format a new)).kept x)
+        (added (parts rs (UpTo last) behind) (Format a new)).replaced ≡ true
     here y = rw y (narrowed (UpTo last) a x rs all)
 
-    there : nat_le a last ≡ false → list_all (is_replaceable (added (parts rs (UpTo last) behind) (Format a new)).kept x) (added (parts rs (UpTo last) behind) (Format a new)).replaced ≡ true
+    there : nat_le a last ≡ false → list_all (is_replaceable (added (parts rs (UpTo last) behind) (Format a new)).kept
+        x) (added (parts rs (UpTo last) behind) (Format a new)).replaced ≡ true
     there n = rw n all
 replaceable_added (Zero new) kept rs behind x is reached all meets = refl
 
-follows_of : (kept : Kept) (rs : List Replacement) (behind x : List Record) → reaches kept x ≡ true → FollowsBy kept rs behind x (revised rs (stay kept x) ++ behind)
+follows_of : (kept : Kept) (rs : List Replacement) (behind x : List Record) → reaches kept x ≡ true
+    → FollowsBy kept rs behind x (revised rs (stay kept x) ++ behind)
 follows_of Whole rs behind x reached = refl
 follows_of Nothing rs behind x reached = ap (λ (y : List Record). y ++ behind) (revised_nothing rs)
 follows_of (UpTo last) rs behind x reached = inl (ltb-true last (length x) reached, refl)
 
 -- where the edited track fits, the patch with one more edit gives it
-pub one_more : (p : PatchView) (e : Edit) (i out : Image) → IsPatch p → applied p i ≡ Some out → Meets e out.track.records → is_fit i.geometry (edited e out.track.records) ≡ true → applied (added p e) i ≡ Some (edited_image e out)
+pub one_more : (p : PatchView) (e : Edit) (i out : Image) → IsPatch p → applied p i ≡ Some out
+    → Meets e out.track.records → is_fit i.geometry (edited e out.track.records) ≡ true
+    → applied (added p e) i ≡ Some (edited_image e out)
 one_more p e i out is gave meets fits =
     let x = i.track.records in
     let was = applied_is p i out gave in
@@ -149,8 +192,13 @@ one_more p e i out is gave meets fits =
     let m : Meets e (patched p x) = subst (Meets e) same meets in
     let reach = reached_added e p.kept p.replaced p.behind x is.behind t.0 m in
     let repl = replaceable_added e p.kept p.replaced p.behind x is.behind t.0 u.0 m in
-    let now : edited e (patched p x) ≡ patched (added p e) x = follows_reached (added p e).kept (added p e).replaced (added p e).behind x (edited e (patched p x)) reach (follows_added e p.kept p.replaced p.behind x (patched p x) is.behind (follows_of p.kept p.replaced p.behind x t.0)) in
-    let fit : is_fit i.geometry (patched (added p e) x) ≡ true = ap (is_fit i.geometry) (sym now ∙ ap (edited e) (sym same)) ∙ fits in
+    let now : edited e (patched p x) ≡ patched (added p e) x =
+    follows_reached (added p e).kept (added p e).replaced (added p e).behind x (edited e (patched p x)) reach
+    (follows_added e p.kept p.replaced p.behind x (patched p x) is.behind
+    (follows_of p.kept p.replaced p.behind x t.0)) in
+    let fit : is_fit i.geometry (patched (added p e) x) ≡ true =
+    ap (is_fit i.geometry) (sym now ∙ ap (edited e) (sym same)) ∙ fits in
     let all : applies (added p e) i ≡ true = and_from _ _ reach (and_from _ _ repl fit) in
     ap (λ (b : Bool). cond b (Some (patched_image (added p e) i)) None) all
-    ∙ ap Some (ap (λ (y : List Record). record i { track = record i.track { records = y } }) (sym now) ∙ ap (edited_image e) was.1)
+    ∙ ap Some (ap (λ (y : List Record). record i { track = record i.track { records = y } }) (sym now)
+    ∙ ap (edited_image e) was.1)

@@ -32,22 +32,33 @@ passed q [] = refl
 passed q (r ∷ rs) = elim (cases_Bool (q r)) [ inl y ↦ rw y (and_from _ _ y (passed q rs)) | inr n ↦ rw n (passed q rs) ]
 
 turned : (a b : ℕ) → not (a == b) ≡ not (b == a)
-turned a b = elim (cases_eq a b) [ inl e ↦ rw e refl | inr other ↦ rw (ne_eqb a b other, ne_eqb b a (λ e. other (sym e))) refl ]
+turned a b = elim (cases_eq a b) [
+  | inl e ↦ rw e refl
+  | inr other ↦ rw
+      (ne_eqb a b other, ne_eqb b a (λ e. other (sym e))) refl
+]
 
-push_once : (rs : List Replacement) (new : Replacement) → is_once rs ≡ true → list_all (is_other new.index) rs ≡ true → is_once (rs ++ new ∷ []) ≡ true
+push_once : (rs : List Replacement) (new : Replacement) → is_once rs ≡ true → list_all (is_other new.index) rs ≡ true
+    → is_once (rs ++ new ∷ []) ≡ true
 push_once [] new once others = refl
 push_once (r ∷ rs) new once others =
     let both = and_parts (list_all (is_other r.index) rs) (is_once rs) once in
     let rest = and_parts (is_other new.index r) (list_all (is_other new.index) rs) others in
-    and_from _ _ (list_all-append (is_other r.index) rs (new ∷ []) ∙ and_from _ _ both.0 (and_from _ _ (turned new.index r.index ∙ rest.0) refl)) (push_once rs new both.1 rest.1)
+    and_from _ _ (list_all-append (is_other r.index) rs (new ∷ [])
+    ∙ and_from _ _ both.0 (and_from _ _ (turned new.index r.index ∙ rest.0) refl)) (push_once rs new both.1 rest.1)
 
-replaced_once : (new : Replacement) (rs : List Replacement) → is_once rs ≡ true → is_once (with_replacement new rs) ≡ true
-replaced_once new rs once = push_once (filter (is_other new.index) rs) new (others_once (is_other new.index) rs once) (passed (is_other new.index) rs)
+replaced_once : (new : Replacement) (rs : List Replacement) → is_once rs ≡ true
+    → is_once (with_replacement new rs) ≡ true
+replaced_once new rs once = push_once (filter (is_other new.index) rs) new (others_once (is_other new.index) rs once)
+    (passed (is_other new.index) rs)
 
-replaced_stays : (kept : Kept) (new : Replacement) (rs : List Replacement) → is_kept kept new.index ≡ true → list_all (λ r. is_kept kept r.index) rs ≡ true → list_all (λ r. is_kept kept r.index) (with_replacement new rs) ≡ true
+replaced_stays : (kept : Kept) (new : Replacement) (rs : List Replacement) → is_kept kept new.index ≡ true
+    → list_all (λ r. is_kept kept r.index) rs ≡ true → list_all (λ r. is_kept kept r.index) (with_replacement new rs)
+    ≡ true
 replaced_stays kept new rs here stays =
     list_all-append (λ (r : Replacement). is_kept kept r.index) (filter (is_other new.index) rs) (new ∷ [])
-    ∙ and_from _ _ (filtered (λ (r : Replacement). is_kept kept r.index) (is_other new.index) rs stays) (and_from _ _ here refl)
+    ∙ and_from _ _ (filtered (λ (r : Replacement). is_kept kept r.index) (is_other new.index) rs stays)
+    (and_from _ _ here refl)
 
 pub added_reduced : (p : PatchView) (e : Edit) → IsReduced p → IsReduced (added p e)
 added_reduced p (Update index key body) is = elim (cases_Bool (is_kept p.kept index)) [
@@ -86,9 +97,13 @@ added_is p (Format after new) is = elim (cases_Bool (is_kept p.kept after)) [
 added_is p (Zero new) is = record { behind = refl }
 
 -- what is so of every patch is so behind an edit
-pub still_so : (p q r : PatchView) (e : Edit) → IsPatch p × IsReduced p → p ≡ q → r ≡ added q e → IsPatch r × IsReduced r
-still_so p q r e so same is = subst (λ (x : PatchView). IsPatch x × IsReduced x) (ap (λ (x : PatchView). added x e) same ∙ sym is) (added_is p e so.0, added_reduced p e so.1)
+pub still_so : (p q r : PatchView) (e : Edit) → IsPatch p × IsReduced p → p ≡ q → r ≡ added q e
+    → IsPatch r × IsReduced r
+still_so p q r e so same is = subst (λ (x : PatchView). IsPatch x × IsReduced x)
+    (ap (λ (x : PatchView). added x e) same ∙ sym is) (added_is p e so.0, added_reduced p e so.1)
 
 pub same_view : (rs ss : List Replacement) (kept : Kept) (xs ys : List Record) → rs ≡ ss → xs ≡ ys
-    → ◌≡◌ {A = PatchView} (record { replaced = rs; kept = kept; behind = xs }) (record { replaced = ss; kept = kept; behind = ys })
-same_view rs ss kept xs ys same_replaced same_behind = λ i. record { replaced = same_replaced i; kept = kept; behind = same_behind i }
+    → ◌≡◌ {A = PatchView} (record { replaced = rs; kept = kept; behind = xs })
+    (record { replaced = ss; kept = kept; behind = ys })
+same_view rs ss kept xs ys same_replaced same_behind =
+    λ i. record { replaced = same_replaced i; kept = kept; behind = same_behind i }

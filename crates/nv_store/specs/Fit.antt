@@ -27,4 +27,5 @@ is_fit g records = has_zero records && (list_all is_record records && nat_le (co
 
 -- records fit behind others that take some units
 abbrev pub fit_units : Geometry → ℕ → List Record → Bool
-fit_units g spent records = list_all is_record records && nat_le (spent + sum_by (λ r. cost g (length r.key) (length r.body)) records) (capacity g)
+fit_units g spent records = list_all is_record records && nat_le
+    (spent + sum_by (λ r. cost g (length r.key) (length r.body)) records) (capacity g)

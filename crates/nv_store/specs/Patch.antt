@@ -58,10 +58,18 @@ with_replacement new replaced = filter (λ r. not (r.index == new.index)) replac
 -- the patch with one more edit, which changes a record that stays or one behind those, or cuts the track
 abbrev pub added : PatchView → Edit → PatchView
 added p (Update index key body) =
-    if is_kept p.kept index then record p { replaced = with_replacement (record { index = index; key = key; body = body }) p.replaced }
+    if is_kept p.kept index then record p {
+      replaced =
+          with_replacement (record { index = index; key = key; body = body }) p.replaced;
+    }
     else record p { behind = edited (Update (place_behind p.kept index) key body) p.behind }
 added p (Format after new) =
-    if is_kept p.kept after then record { replaced = filter (λ r. nat_le r.index after) p.replaced; kept = UpTo after; behind = new ∷ [] }
+    if is_kept p.kept after then record {
+      replaced = filter (λ r. nat_le r.index after) p.replaced;
+      kept =
+          UpTo after;
+      behind = new ∷ [];
+    }
     else record p { behind = edited (Format (place_behind p.kept after) new) p.behind }
 added p (Zero new) = record { replaced = []; kept = Nothing; behind = new ∷ [] }
 
@@ -89,7 +97,8 @@ reaches Nothing records = true
 abbrev pub has_lengths : List Record → ℕ → ℕ → ℕ → Bool
 has_lengths records index key body =
     nat_lt index (length records)
-    && ((length (slice_index_or records index (empty_zero 0)).key == key) && (length (slice_index_or records index (empty_zero 0)).body == body))
+    && ((length (slice_index_or records index (empty_zero 0)).key == key) &&
+    (length (slice_index_or records index (empty_zero 0)).body == body))
 
 abbrev pub is_replaceable : Kept → List Record → Replacement → Bool
 is_replaceable kept records r = is_kept kept r.index && has_lengths records r.index (length r.key) (length r.body)

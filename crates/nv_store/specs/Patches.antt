@@ -31,4 +31,5 @@ with_edit e (Some s) = Some (record s { patch = added s.patch e })
 
 -- a patch and its slot, in a place that is made where there is none
 abbrev pub put_patch : ℕ → PatchView → ℕ → List (Option Stored) → List (Option Stored)
-put_patch t patch slot patches = slice_set (with_places (t + 1) patches) t (Some (record { patch = patch; slot = slot }))
+put_patch t patch slot patches = slice_set (with_places (t + 1) patches) t
+    (Some (record { patch = patch; slot = slot }))

@@ -20,17 +20,20 @@ pub IsBytes-drop : (n : ℕ) (bytes : List ℕ) → IsBytes bytes → IsBytes (d
 IsBytes-drop n bytes h i = rw get_or-drop (h (n + i))
 
 -- the value of a step that did not fail
-pub bind_ok : {A B : Type 0} (r : Result A ℕ) (f : A → Result B ℕ) (y : B) → (r >>= f) ≡ Ok y → (x : A) × (r ≡ Ok x) × (f x ≡ Ok y)
+pub bind_ok : {A B : Type 0} (r : Result A ℕ) (f : A → Result B ℕ) (y : B) → (r >>= f) ≡ Ok y
+    → (x : A) × (r ≡ Ok x) × (f x ≡ Ok y)
 bind_ok (Ok x) f y e = (x, refl, e)
 bind_ok (Err at) f y e = absurd cc
 
 -- a test that let a fault by
-pub unless_ok : {A : Type 0} (b : Bool) (at : ℕ) (r : Result A ℕ) (y : A) → cond b (Err at) r ≡ Ok y → (b ≡ false) × (r ≡ Ok y)
+pub unless_ok : {A : Type 0} (b : Bool) (at : ℕ) (r : Result A ℕ) (y : A) → cond b (Err at) r ≡ Ok y
+    → (b ≡ false) × (r ≡ Ok y)
 unless_ok true at r y e = absurd cc
 unless_ok false at r y e = (refl, e)
 
 -- a test that had to pass
-pub then_ok : {A : Type 0} (b : Bool) (r : Result A ℕ) (at : ℕ) (y : A) → cond b r (Err at) ≡ Ok y → (b ≡ true) × (r ≡ Ok y)
+pub then_ok : {A : Type 0} (b : Bool) (r : Result A ℕ) (at : ℕ) (y : A) → cond b r (Err at) ≡ Ok y
+    → (b ≡ true) × (r ≡ Ok y)
 then_ok true r at y e = (refl, e)
 then_ok false r at y e = absurd cc
 
@@ -48,7 +51,8 @@ both_true : (a b : Bool) → (a && b) ≡ true → (a ≡ true) × (b ≡ true)
 both_true true b e = (refl, e)
 both_true false b e = absurd cc
 
-either : {A : Type 0} (b : Bool) (x y : Result A ℕ) (z : A) → cond b x y ≡ Ok z → ((b ≡ true) × (x ≡ Ok z)) ⊎ ((b ≡ false) × (y ≡ Ok z))
+either : {A : Type 0} (b : Bool) (x y : Result A ℕ) (z : A) → cond b x y ≡ Ok z
+    → ((b ≡ true) × (x ≡ Ok z)) ⊎ ((b ≡ false) × (y ≡ Ok z))
 either true x y z e = inl (refl, e)
 either false x y z e = inr (refl, e)
 
@@ -83,15 +87,21 @@ count_takes (a ∷ b ∷ c ∷ d ∷ e ∷ f ∷ g ∷ h ∷ rest) fits long =
     let body = two_written _ g h refl (fits 6) (fits 7) in
     cc
 
-pub count_again : (r : Record) (rest : List ℕ) → IsRecord r → count_at (count_area r ++ rest) ≡ record { id = r.id; key = length r.key; body = length r.body }
+pub count_again : (r : Record) (rest : List ℕ) → IsRecord r
+    → count_at (count_area r ++ rest) ≡ record { id = r.id; key = length r.key; body = length r.body }
 count_again r rest ranges =
     let small : length r.body < 2 ^ 16 = omega (arith, ranges.body) in
     rw (two_read r.id.cchh.cc ranges.cchh.cc, two_read r.id.cchh.hh ranges.cchh.hh, two_read (length r.body) small) refl
 
 -- what stands in bytes has an id of two, two and one byte
-pub ranges_from : (bytes : List ℕ) → IsBytes bytes → length (record_from bytes).key ≤ 255 → length (record_from bytes).body ≤ 65534 → IsRecord (record_from bytes)
+pub ranges_from : (bytes : List ℕ) → IsBytes bytes → length (record_from bytes).key ≤ 255
+    → length (record_from bytes).body ≤ 65534 → IsRecord (record_from bytes)
 ranges_from bytes fits key body = record {
-  cchh = record { cc = omega (arith, fits 0, fits 1); hh = omega (arith, fits 2, fits 3, get_or-drop 2 bytes 0 0, get_or-drop 2 bytes 1 0) };
+  cchh = record {
+    cc = omega (arith, fits 0, fits 1);
+    hh =
+        omega (arith, fits 2, fits 3, get_or-drop 2 bytes 0 0, get_or-drop 2 bytes 1 0);
+  };
   number = fits 4;
   key = key;
   body = body;
@@ -113,16 +123,26 @@ pub record HasAreas (count : Count) (bytes : List ℕ) (r : Record) : Type 0 whe
   pub body : length r.body ≡ count.body
   pub parts : bytes ≡ (r.key ++ r.body) ++ drop (count.key + count.body) bytes
 
-pub areas_take : (at : ℕ) (count : Count) (bytes : List ℕ) (r : Record) → areas_at at count bytes ≡ Ok r → HasAreas count bytes r
+pub areas_take : (at : ℕ) (count : Count) (bytes : List ℕ) (r : Record) → areas_at at count bytes ≡ Ok r
+    → HasAreas count bytes r
 unfolding areas_at
 areas_take at count bytes r e =
-    let made : Record = record { id = count.id; key = take count.key bytes; body = take count.body (drop count.key bytes) } in
-    let a = unless_ok (ltb (length bytes) count.key) at (cond (ltb (length bytes) (count.key + count.body)) (Err (at + count.key)) (Ok made)) r e in
+    let made : Record = record {
+      id = count.id;
+      key = take count.key bytes;
+      body =
+          take count.body (drop count.key bytes);
+    } in
+    let a = unless_ok (ltb (length bytes) count.key) at
+    (cond (ltb (length bytes) (count.key + count.body)) (Err (at + count.key)) (Ok made)) r e in
     let b = unless_ok (ltb (length bytes) (count.key + count.body)) (at + count.key) (Ok made) r a.1 in
     let long : count.key + count.body ≤ length bytes = ltb-false _ _ b.0 in
-    let parts : bytes ≡ (take count.key bytes ++ take count.body (drop count.key bytes)) ++ drop (count.key + count.body) bytes =
-    sym (append_assoc (take count.key bytes) (take count.body (drop count.key bytes)) (drop (count.key + count.body) bytes)
-    ∙ ap (λ (x : List ℕ). take count.key bytes ++ (take count.body (drop count.key bytes) ++ x)) (sym (drop-drop count.body count.key bytes))
+    let parts : bytes ≡ (take count.key bytes ++ take count.body (drop count.key bytes))
+    ++ drop (count.key + count.body) bytes =
+    sym (append_assoc (take count.key bytes) (take count.body (drop count.key bytes))
+    (drop (count.key + count.body) bytes)
+    ∙ ap (λ (x : List ℕ). take count.key bytes ++ (take count.body (drop count.key bytes) ++ x))
+    (sym (drop-drop count.body count.key bytes))
     ∙ ap (λ (x : List ℕ). take count.key bytes ++ x) (take-append-drop count.body (drop count.key bytes))
     ∙ take-append-drop count.key bytes) in
     subst (λ (x : Record). HasAreas count bytes x) (ok_is made r b.1) (record {
@@ -132,45 +152,62 @@ areas_take at count bytes r e =
       parts = parts;
     })
 
-pub areas_again : (at : ℕ) (r : Record) (rest : List ℕ) → areas_at at (record { id = r.id; key = length r.key; body = length r.body }) ((r.key ++ r.body) ++ rest) ≡ Ok r
+pub areas_again : (at : ℕ) (r : Record) (rest : List ℕ)
+    → areas_at at (record { id = r.id; key = length r.key; body = length r.body }) ((r.key ++ r.body) ++ rest) ≡ Ok r
 unfolding areas_at
 areas_again at r rest =
-    let whole : ltb (length ((r.key ++ r.body) ++ rest)) (length r.key) ≡ false = le-ltb _ _ (omega (arith, length-append (r.key ++ r.body) rest, length-append r.key r.body)) in
-    let both : ltb (length ((r.key ++ r.body) ++ rest)) (length r.key + length r.body) ≡ false = le-ltb _ _ (omega (arith, length-append (r.key ++ r.body) rest, length-append r.key r.body)) in
+    let whole : ltb (length ((r.key ++ r.body) ++ rest)) (length r.key) ≡ false =
+    le-ltb _ _ (omega (arith, length-append (r.key ++ r.body) rest, length-append r.key r.body)) in
+    let both : ltb (length ((r.key ++ r.body) ++ rest)) (length r.key + length r.body) ≡ false =
+    le-ltb _ _ (omega (arith, length-append (r.key ++ r.body) rest, length-append r.key r.body)) in
     let regrouped : (r.key ++ r.body) ++ rest ≡ r.key ++ (r.body ++ rest) = append_assoc r.key r.body rest in
-    let key : take (length r.key) ((r.key ++ r.body) ++ rest) ≡ r.key = rw regrouped (take_at r.key (r.body ++ rest) (length r.key) refl) in
-    let body : take (length r.body) (drop (length r.key) ((r.key ++ r.body) ++ rest)) ≡ r.body = rw (regrouped, drop_at r.key (r.body ++ rest) (length r.key) refl) (take_at r.body rest (length r.body) refl) in
+    let key : take (length r.key) ((r.key ++ r.body) ++ rest) ≡ r.key =
+    rw regrouped (take_at r.key (r.body ++ rest) (length r.key) refl) in
+    let body : take (length r.body) (drop (length r.key) ((r.key ++ r.body) ++ rest)) ≡ r.body =
+    rw (regrouped, drop_at r.key (r.body ++ rest) (length r.key) refl) (take_at r.body rest (length r.body) refl) in
     rw (whole, both, key, body) refl
 
 -- the bytes of a record behind its count area
 pub regroup : (r : Record) (rest : List ℕ) → record_bytes r ++ rest ≡ count_area r ++ ((r.key ++ r.body) ++ rest)
-regroup r rest = ap (λ (x : List ℕ). x ++ rest) (append_assoc (count_area r) r.key r.body) ∙ append_assoc (count_area r) (r.key ++ r.body) rest
+regroup r rest = ap (λ (x : List ℕ). x ++ rest) (append_assoc (count_area r) r.key r.body)
+    ∙ append_assoc (count_area r) (r.key ++ r.body) rest
 
 pub length-record_bytes : (r : Record) → length (record_bytes r) ≡ size_of r
 length-record_bytes r = omega (arith, length-append (count_area r ++ r.key) r.body, length-append (count_area r) r.key)
 
 -- what a count area and the areas behind it are together
-whole_record : (at : ℕ) (bytes : List ℕ) (r : Record) → IsBytes bytes → 8 ≤ length bytes → areas_at at (count_at bytes) (drop 8 bytes) ≡ Ok r → bytes ≡ record_bytes r ++ drop (size_of r) bytes
+whole_record : (at : ℕ) (bytes : List ℕ) (r : Record) → IsBytes bytes → 8 ≤ length bytes
+    → areas_at at (count_at bytes) (drop 8 bytes) ≡ Ok r → bytes ≡ record_bytes r ++ drop (size_of r) bytes
 whole_record at bytes r fits long e =
     let count = count_at bytes in
     let a = areas_take at count (drop 8 bytes) r e in
     let area : spelled count ≡ count_area r = rw (a.id, a.key, a.body) refl in
     let size : 8 + (count.key + count.body) ≡ size_of r = omega (arith, a.key, a.body) in
-    let rest : drop (count.key + count.body) (drop 8 bytes) ≡ drop (size_of r) bytes = drop-drop (count.key + count.body) 8 bytes ∙ ap (λ (n : ℕ). drop n bytes) size in
+    let rest : drop (count.key + count.body) (drop 8 bytes) ≡ drop (size_of r) bytes =
+    drop-drop (count.key + count.body) 8 bytes ∙ ap (λ (n : ℕ). drop n bytes) size in
     count_takes bytes fits long
     ∙ ap (λ (x : List ℕ). spelled count ++ x) (a.parts ∙ ap (λ (x : List ℕ). (r.key ++ r.body) ++ x) rest)
     ∙ ap (λ (x : List ℕ). x ++ ((r.key ++ r.body) ++ drop (size_of r) bytes)) area
     ∙ sym (regroup r (drop (size_of r) bytes))
 
-pub zero_takes : (at : ℕ) (bytes : List ℕ) (r : Record) → IsBytes bytes → zero_at at bytes ≡ Ok r → (bytes ≡ record_bytes r ++ drop 16 bytes)
+pub zero_takes : (at : ℕ) (bytes : List ℕ) (r : Record) → IsBytes bytes → zero_at at bytes ≡ Ok r
+    → (bytes ≡ record_bytes r ++ drop 16 bytes)
 unfolding zero_at
 zero_takes at bytes r fits e =
     let count = count_at bytes in
-    let a = unless_ok (ltb (length bytes) 8) at (cond ((count.key == 0) && (count.body == 8)) (areas_at (at + 8) count (drop 8 bytes)) (Err at)) r e in
+    let a = unless_ok (ltb (length bytes) 8) at (cond ((count.key == 0) && (count.body == 8))
+    (areas_at (at + 8) count (drop 8 bytes)) (Err at)) r e in
     let b = then_ok ((count.key == 0) && (count.body == 8)) (areas_at (at + 8) count (drop 8 bytes)) at r a.1 in
     let tests = both_true (count.key == 0) (count.body == 8) b.0 in
     let areas = areas_take (at + 8) count (drop 8 bytes) r b.1 in
-    let size : size_of r ≡ 16 = omega (arith, areas.key, areas.body, eqb-true count.key 0 tests.0, eqb-true count.body 8 tests.1) in
+    let size : size_of r ≡ 16 = omega (
+      arith,
+      areas.key,
+      areas.body,
+      eqb-true count.key 0 tests.0,
+      eqb-true count.body 8
+          tests.1,
+    ) in
     whole_record (at + 8) bytes r fits (ltb-false _ _ a.0) b.1 ∙ ap (λ (n : ℕ). record_bytes r ++ drop n bytes) size
 
 -- a count area is no end mark
@@ -187,16 +224,20 @@ at_mark at bytes = cond (length bytes == 8) (Ok None) (Err (at + 8))
 
 -- a record that fits
 abbrev at_record : Geometry → ℕ → ℕ → List ℕ → Result (Option Record) ℕ
-at_record g spent at bytes = cond (leb (spent + cost g (count_at bytes).key (count_at bytes).body) (capacity g)) (areas_at (at + 8) (count_at bytes) (drop 8 bytes) >>= (λ r. Ok (Some r))) (Err at)
+at_record g spent at bytes = cond (leb (spent + cost g (count_at bytes).key (count_at bytes).body) (capacity g))
+    (areas_at (at + 8) (count_at bytes) (drop 8 bytes) >>= (λ r. Ok (Some r))) (Err at)
 
-pub next_takes : (g : Geometry) (spent at : ℕ) (bytes : List ℕ) (r : Record) → IsBytes bytes → next_at g spent at bytes ≡ Ok (Some r) → bytes ≡ record_bytes r ++ drop (size_of r) bytes
+pub next_takes : (g : Geometry) (spent at : ℕ) (bytes : List ℕ) (r : Record) → IsBytes bytes
+    → next_at g spent at bytes ≡ Ok (Some r) → bytes ≡ record_bytes r ++ drop (size_of r) bytes
 unfolding next_at
 next_takes g spent at bytes r fits e =
-    let a = unless_ok (ltb (length bytes) 8) at (cond (starts_with nat_eq bytes end_mark) (at_mark at bytes) (at_record g spent at bytes)) (Some r) e in
+    let a = unless_ok (ltb (length bytes) 8) at (cond (starts_with nat_eq bytes end_mark) (at_mark at bytes)
+    (at_record g spent at bytes)) (Some r) e in
     elim (either (starts_with nat_eq bytes end_mark) (at_mark at bytes) (at_record g spent at bytes) (Some r) a.1) [
       | inl m ↦ (let n = then_ok (length bytes == 8) (Ok None) (at + 8) (Some r) m.1 in absurd cc)
       | inr t ↦
-          (let room = then_ok (leb (spent + cost g (count_at bytes).key (count_at bytes).body) (capacity g)) (areas_at (at + 8) (count_at bytes) (drop 8 bytes) >>= (λ x. Ok (Some x))) at (Some r) t.1 in
+          (let room = then_ok (leb (spent + cost g (count_at bytes).key (count_at bytes).body) (capacity g))
+          (areas_at (at + 8) (count_at bytes) (drop 8 bytes) >>= (λ x. Ok (Some x))) at (Some r) t.1 in
           let found = bind_ok (areas_at (at + 8) (count_at bytes) (drop 8 bytes)) (λ x. Ok (Some x)) (Some r) room.1 in
           let same : found.0 ≡ r = cc (found.2) in
           whole_record (at + 8) bytes r fits (ltb-false _ _ a.0) (found.1 ∙ ap Ok same))
@@ -205,46 +246,57 @@ next_takes g spent at bytes r fits e =
 pub next_ends : (g : Geometry) (spent at : ℕ) (bytes : List ℕ) → next_at g spent at bytes ≡ Ok None → bytes ≡ end_mark
 unfolding next_at
 next_ends g spent at bytes e =
-    let a = unless_ok (ltb (length bytes) 8) at (cond (starts_with nat_eq bytes end_mark) (at_mark at bytes) (at_record g spent at bytes)) None e in
+    let a = unless_ok (ltb (length bytes) 8) at (cond (starts_with nat_eq bytes end_mark) (at_mark at bytes)
+    (at_record g spent at bytes)) None e in
     elim (either (starts_with nat_eq bytes end_mark) (at_mark at bytes) (at_record g spent at bytes) None a.1) [
       | inl m ↦
           (let n = then_ok (length bytes == 8) (Ok None) (at + 8) None m.1 in
           let all : take 8 bytes ≡ bytes = take_all 8 bytes (omega (arith, eqb-true (length bytes) 8 n.0)) in
           sym ((bytes_eq-Decides end_mark (take 8 bytes)).0 m.0 ∙ all))
       | inr t ↦
-          (let room = then_ok (leb (spent + cost g (count_at bytes).key (count_at bytes).body) (capacity g)) (areas_at (at + 8) (count_at bytes) (drop 8 bytes) >>= (λ x. Ok (Some x))) at None t.1 in
+          (let room = then_ok (leb (spent + cost g (count_at bytes).key (count_at bytes).body) (capacity g))
+          (areas_at (at + 8) (count_at bytes) (drop 8 bytes) >>= (λ x. Ok (Some x))) at None t.1 in
           let found = bind_ok (areas_at (at + 8) (count_at bytes) (drop 8 bytes)) (λ x. Ok (Some x)) None room.1 in
           absurd (cc (found.2)))
     ]
 
 -- the next record by its count area
-next_from : (g : Geometry) (spent at : ℕ) (bytes : List ℕ) (count : Count) → count_at bytes ≡ count → 8 ≤ length bytes → starts_with nat_eq bytes end_mark ≡ false → spent + cost g count.key count.body ≤ capacity g
+next_from : (g : Geometry) (spent at : ℕ) (bytes : List ℕ) (count : Count) → count_at bytes ≡ count → 8 ≤ length bytes
+    → starts_with nat_eq bytes end_mark ≡ false → spent + cost g count.key count.body ≤ capacity g
     → next_at g spent at bytes ≡ (areas_at (at + 8) count (drop 8 bytes) >>= (λ r. Ok (Some r)))
 unfolding next_at
 next_from g spent at bytes count count_is long no_mark room =
     let full : ltb (length bytes) 8 ≡ false = le-ltb _ _ long in
-    let family : Count → Type 0 = λ c. cond (leb (spent + cost g c.key c.body) (capacity g)) (areas_at (at + 8) c (drop 8 bytes) >>= (λ r. Ok (Some r))) (Err at) ≡ (areas_at (at + 8) count (drop 8 bytes) >>= (λ r. Ok (Some r))) in
+    let family : Count → Type 0 = λ c. cond (leb (spent + cost g c.key c.body) (capacity g))
+    (areas_at (at + 8) c (drop 8 bytes) >>= (λ r. Ok (Some r))) (Err at)
+    ≡ (areas_at (at + 8) count (drop 8 bytes) >>= (λ r. Ok (Some r))) in
     let here : family count = rw (le-leb _ _ room) refl in
     rw (full, no_mark) (subst family (sym count_is) here)
 
 -- record 0 by its count area
-zero_from : (at : ℕ) (bytes : List ℕ) (count : Count) → count_at bytes ≡ count → 8 ≤ length bytes → count.key ≡ 0 → count.body ≡ 8 → zero_at at bytes ≡ areas_at (at + 8) count (drop 8 bytes)
+zero_from : (at : ℕ) (bytes : List ℕ) (count : Count) → count_at bytes ≡ count → 8 ≤ length bytes → count.key ≡ 0
+    → count.body ≡ 8 → zero_at at bytes ≡ areas_at (at + 8) count (drop 8 bytes)
 unfolding zero_at
 zero_from at bytes count count_is long key body =
     let full : ltb (length bytes) 8 ≡ false = le-ltb _ _ long in
-    let family : Count → Type 0 = λ c. cond ((c.key == 0) && (c.body == 8)) (areas_at (at + 8) c (drop 8 bytes)) (Err at) ≡ areas_at (at + 8) count (drop 8 bytes) in
+    let family : Count → Type 0 = λ c. cond ((c.key == 0) && (c.body == 8)) (areas_at (at + 8) c (drop 8 bytes))
+    (Err at) ≡ areas_at (at + 8) count (drop 8 bytes) in
     let here : family count = rw (eq-eqb count.key 0 key, eq-eqb count.body 8 body) refl in
     rw full (subst family (sym count_is) here)
 
-pub next_again : (g : Geometry) (spent at : ℕ) (r : Record) (rest : List ℕ) → IsRecord r → spent + cost g (length r.key) (length r.body) ≤ capacity g → next_at g spent at (record_bytes r ++ rest) ≡ Ok (Some r)
+pub next_again : (g : Geometry) (spent at : ℕ) (r : Record) (rest : List ℕ) → IsRecord r
+    → spent + cost g (length r.key) (length r.body) ≤ capacity g
+    → next_at g spent at (record_bytes r ++ rest) ≡ Ok (Some r)
 next_again g spent at r rest ranges room =
     let areas = (r.key ++ r.body) ++ rest in
     let count : Count = record { id = r.id; key = length r.key; body = length r.body } in
     ap (next_at g spent at) (regroup r rest)
-    ∙ next_from g spent at (count_area r ++ areas) count (count_again r areas ranges) (omega arith) (not_mark r areas ranges) room
+    ∙ next_from g spent at (count_area r ++ areas) count (count_again r areas ranges) (omega arith)
+    (not_mark r areas ranges) room
     ∙ ap (λ (x : Result Record ℕ). x >>= (λ y. Ok (Some y))) (areas_again (at + 8) r rest)
 
-pub zero_again : (at : ℕ) (r : Record) (rest : List ℕ) → IsRecord r → length r.key ≡ 0 → length r.body ≡ 8 → zero_at at (record_bytes r ++ rest) ≡ Ok r
+pub zero_again : (at : ℕ) (r : Record) (rest : List ℕ) → IsRecord r → length r.key ≡ 0 → length r.body ≡ 8
+    → zero_at at (record_bytes r ++ rest) ≡ Ok r
 zero_again at r rest ranges key body =
     let areas = (r.key ++ r.body) ++ rest in
     let count : Count = record { id = r.id; key = length r.key; body = length r.body } in

@@ -18,38 +18,48 @@ use Rattle.track_image.proofs.Sizes.{cost_push, unit_room, some_units, within}
 abbrev pub with_more : List Record → Result (List Record) ℕ → Result (List Record) ℕ
 with_more rs read = read >>= (λ more. Ok (rs ++ more))
 
-mapped : (r : Record) (read : Result (List Record) ℕ) → with_more (r ∷ []) read ≡ map_ok (λ (others : List Record). r ∷ others) read
+mapped : (r : Record) (read : Result (List Record) ℕ) → with_more (r ∷ []) read
+    ≡ map_ok (λ (others : List Record). r ∷ others) read
 mapped r (Ok others) = refl
 mapped r (Err at) = refl
 
-regroup : (rs : List Record) (r : Record) (read : Result (List Record) ℕ) → with_more rs (read >>= (λ others. Ok (r ∷ others))) ≡ with_more (rs ++ r ∷ []) read
+regroup : (rs : List Record) (r : Record) (read : Result (List Record) ℕ)
+    → with_more rs (read >>= (λ others. Ok (r ∷ others))) ≡ with_more (rs ++ r ∷ []) read
 regroup rs r (Ok others) = ap (λ (x : List Record). Ok x) (sym (append_assoc rs (r ∷ []) others))
 regroup rs r (Err at) = refl
 
-goes_on : (rs : List Record) (r : Record) (g : Geometry) (steps after spent at : ℕ) (bytes : List ℕ) (total : Result (List Record) ℕ) → steps ≡ suc after → next_at g spent at (drop at bytes) ≡ Ok (Some r)
+goes_on : (rs : List Record) (r : Record) (g : Geometry) (steps after spent at : ℕ) (bytes : List ℕ)
+    (total : Result (List Record) ℕ) → steps ≡ suc after → next_at g spent at (drop at bytes) ≡ Ok (Some r)
     → with_more rs (records_at steps g spent at (drop at bytes)) ≡ total
-    → with_more (rs ++ r ∷ []) (records_at after g (spent + cost g (length r.key) (length r.body)) (at + size_of r) (drop (at + size_of r) bytes)) ≡ total
+    → with_more (rs ++ r ∷ []) (records_at after g (spent + cost g (length r.key) (length r.body)) (at + size_of r)
+    (drop (at + size_of r) bytes)) ≡ total
 unfolding records_at
 goes_on rs r g steps after spent at bytes total steps_is next so_far =
-    let one : with_more rs (records_at steps g spent at (drop at bytes)) ≡ with_more rs (records_at after g (spent + cost g (length r.key) (length r.body)) (at + size_of r) (drop (size_of r) (drop at bytes)) >>= (λ others. Ok (r ∷ others))) = rw (steps_is, next) refl in
+    let one : with_more rs (records_at steps g spent at (drop at bytes))
+    ≡ with_more rs (records_at after g (spent + cost g (length r.key) (length r.body)) (at + size_of r)
+    (drop (size_of r) (drop at bytes)) >>= (λ others. Ok (r ∷ others))) = rw (steps_is, next) refl in
     rw (← drop-drop (size_of r) at bytes) (sym (regroup rs r _) ∙ sym one ∙ so_far)
 
-fails : (rs : List Record) (g : Geometry) (steps after spent at offset : ℕ) (bytes : List ℕ) (total : Result (List Record) ℕ) → steps ≡ suc after → next_at g spent at (drop at bytes) ≡ Err offset
+fails : (rs : List Record) (g : Geometry) (steps after spent at offset : ℕ) (bytes : List ℕ)
+    (total : Result (List Record) ℕ) → steps ≡ suc after → next_at g spent at (drop at bytes) ≡ Err offset
     → with_more rs (records_at steps g spent at (drop at bytes)) ≡ total → total ≡ Err offset
 unfolding records_at
 fails rs g steps after spent at offset bytes total steps_is next so_far =
     let one : with_more rs (records_at steps g spent at (drop at bytes)) ≡ Err offset = rw (steps_is, next) refl in
     sym so_far ∙ one
 
-is_done : (rs : List Record) (g : Geometry) (steps after spent at : ℕ) (bytes : List ℕ) (total : Result (List Record) ℕ) → steps ≡ suc after → next_at g spent at (drop at bytes) ≡ Ok None
+is_done : (rs : List Record) (g : Geometry) (steps after spent at : ℕ) (bytes : List ℕ) (total : Result (List Record) ℕ)
+    → steps ≡ suc after → next_at g spent at (drop at bytes) ≡ Ok None
     → with_more rs (records_at steps g spent at (drop at bytes)) ≡ total → total ≡ Ok rs
 unfolding records_at
 is_done rs g steps after spent at bytes total steps_is next so_far =
-    let one : with_more rs (records_at steps g spent at (drop at bytes)) ≡ Ok rs = rw (steps_is, next) (ap (λ (x : List Record). Ok x) (append-nil rs)) in
+    let one : with_more rs (records_at steps g spent at (drop at bytes)) ≡ Ok rs =
+    rw (steps_is, next) (ap (λ (x : List Record). Ok x) (append-nil rs)) in
     sym so_far ∙ one
 
 -- the records that were read so far, where the next one stands, and what they took
-pub record ReadSo (g : Geometry) (bytes places : List ℕ) (rs : List Record) (at spent : ℕ) (total : Result (List Record) ℕ) : Type 0 where
+pub record ReadSo (g : Geometry) (bytes places : List ℕ) (rs : List Record) (at spent : ℕ)
+    (total : Result (List Record) ℕ) : Type 0 where
   pub within : at ≤ length bytes
   pub zero : HasZero rs
   pub ranges : All IsRecord rs
@@ -71,7 +81,8 @@ record Lengths (r : Record) (key body : ℕ) : Type 0 where
   pub key_is : length r.key ≡ key
   pub body_is : length r.body ≡ body
 
-lengths_from : (bytes : List ℕ) → 8 + ((count_at bytes).key + (count_at bytes).body) ≤ length bytes → Lengths (record_from bytes) (count_at bytes).key (count_at bytes).body
+lengths_from : (bytes : List ℕ) → 8 + ((count_at bytes).key + (count_at bytes).body) ≤ length bytes
+    → Lengths (record_from bytes) (count_at bytes).key (count_at bytes).body
 lengths_from bytes whole =
     let k = (count_at bytes).key in
     let d = (count_at bytes).body in
@@ -80,8 +91,10 @@ lengths_from bytes whole =
       body_is = omega (arith, length-take d (drop k (drop 8 bytes)), length-drop k (drop 8 bytes), length-drop 8 bytes);
     }
 
-pub starts_so : (g : Geometry) (bytes : List ℕ) → IsBytes bytes → 21 ≤ length bytes → (count_at (drop 5 bytes)).key ≡ 0 → (count_at (drop 5 bytes)).body ≡ 8
-    → ReadSo g bytes (5 ∷ []) (unpacked bytes (5 ∷ [])) 21 0 (map_ok (λ others. record_from (drop 5 bytes) ∷ others) (records_at (length bytes) g 0 21 (drop 21 bytes)))
+pub starts_so : (g : Geometry) (bytes : List ℕ) → IsBytes bytes → 21 ≤ length bytes → (count_at (drop 5 bytes)).key ≡ 0
+    → (count_at (drop 5 bytes)).body ≡ 8
+    → ReadSo g bytes (5 ∷ []) (unpacked bytes (5 ∷ [])) 21 0
+    (map_ok (λ others. record_from (drop 5 bytes) ∷ others) (records_at (length bytes) g 0 21 (drop 21 bytes)))
 starts_so g bytes fits long key body =
     let r = record_from (drop 5 bytes) in
     let l = lengths_from (drop 5 bytes) (omega (arith, length-drop 5 bytes)) in
@@ -91,7 +104,8 @@ starts_so g bytes fits long key body =
     record {
       within = long;
       zero = (nil_from_length r.key keys, bodies);
-      ranges = All-cons IsRecord r [] (ranges_from (drop 5 bytes) (IsBytes-drop 5 bytes fits) (omega (arith, keys)) (omega (arith, bodies))) (All-nil IsRecord);
+      ranges = All-cons IsRecord r [] (ranges_from (drop 5 bytes) (IsBytes-drop 5 bytes fits) (omega (arith, keys))
+          (omega (arith, bodies))) (All-nil IsRecord);
       spent_is = refl;
       room = omega arith;
       few = omega arith;
@@ -99,11 +113,15 @@ starts_so g bytes fits long key body =
       steps = omega arith;
       place = omega (arith, keys, bodies, length-record_bytes r, length-append (record_bytes r) []);
       places_are = refl;
-      read = ap (λ (n : ℕ). with_more (r ∷ []) (records_at n g 0 21 (drop 21 bytes))) steps ∙ mapped r (records_at (length bytes) g 0 21 (drop 21 bytes));
+      read = ap (λ (n : ℕ). with_more (r ∷ []) (records_at n g 0 21 (drop 21 bytes))) steps
+          ∙ mapped r (records_at (length bytes) g 0 21 (drop 21 bytes));
     }
 
-reads_more : (g : Geometry) (bytes places : List ℕ) (rs : List Record) (r : Record) (at spent key body : ℕ) (total : Result (List Record) ℕ) → ReadSo g bytes places rs at spent total → next_at g spent at (drop at bytes) ≡ Ok (Some r)
-    → length r.key ≡ key → length r.body ≡ body → IsRecord r → at + (8 + key + body) ≤ length bytes → spent + cost g key body ≤ capacity g
+reads_more : (g : Geometry) (bytes places : List ℕ) (rs : List Record) (r : Record) (at spent key body : ℕ)
+    (total : Result (List Record) ℕ) → ReadSo g bytes places rs at spent total
+    → next_at g spent at (drop at bytes) ≡ Ok (Some r)
+    → length r.key ≡ key → length r.body ≡ body → IsRecord r → at + (8 + key + body) ≤ length bytes
+    → spent + cost g key body ≤ capacity g
     → ReadSo g bytes (places ++ at ∷ []) (rs ++ r ∷ []) (at + (8 + key + body)) (spent + cost g key body) total
 reads_more g bytes places rs r at spent key body total s next keys bodies is whole room =
     let longer = length_push places at in
@@ -121,17 +139,31 @@ reads_more g bytes places rs r at spent key body total s next keys bodies is who
       few = omega (arith, longer, s.few, some_units g key body);
       near = omega (arith, s.near, unit_room g key body);
       steps = omega (arith, longer, s.steps);
-      place = omega (arith, s.place, size, ap length all, length-append (all_bytes rs) (all_bytes (r ∷ [])), length-append (record_bytes r) [], length-record_bytes r);
-      places_are = ap (λ (x : List ℕ). x ++ at ∷ []) s.places_are ∙ ap (λ (n : ℕ). places_from 5 rs ++ n ∷ []) s.place ∙ sym (places_push 5 rs r);
+      place = omega (
+        arith,
+        s.place,
+        size,
+        ap length all,
+        length-append (all_bytes rs) (all_bytes (r ∷ [])),
+        length-append (record_bytes r) [],
+        length-record_bytes r,
+      );
+      places_are = ap (λ (x : List ℕ). x ++ at ∷ []) s.places_are ∙ ap (λ (n : ℕ). places_from 5 rs ++ n ∷ []) s.place
+          ∙ sym (places_push 5 rs r);
       read =
-          ap (λ (n : ℕ). with_more (rs ++ r ∷ []) (records_at after g (spent + n) (at + (8 + key + body)) (drop (at + (8 + key + body)) bytes))) (sym same)
-          ∙ ap (λ (n : ℕ). with_more (rs ++ r ∷ []) (records_at after g (spent + cost g (length r.key) (length r.body)) (at + n) (drop (at + n) bytes))) (sym size)
+          ap (λ (n : ℕ). with_more (rs ++ r ∷ []) (records_at after g (spent + n) (at + (8 + key + body))
+          (drop (at + (8 + key + body)) bytes))) (sym same)
+          ∙ ap (λ (n : ℕ). with_more (rs ++ r ∷ []) (records_at after g (spent + cost g (length r.key) (length r.body))
+          (at + n) (drop (at + n) bytes))) (sym size)
           ∙ goes_on rs r g (length bytes + 1 - length places) after spent at bytes total steps next s.read;
     }
 
-pub reads_on : (g : Geometry) (bytes places : List ℕ) (at spent : ℕ) (count : Count) (total : Result (List Record) ℕ) → IsBytes bytes → at ≤ length bytes → ReadSo g bytes places (unpacked bytes places) at spent total
-    → next_at g spent at (drop at bytes) ≡ Ok (Some (record_from (drop at bytes))) → IsNext g spent (drop at bytes) count
-    → ReadSo g bytes (places ++ at ∷ []) (unpacked bytes (places ++ at ∷ [])) (at + (8 + count.key + count.body)) (spent + cost g count.key count.body) total
+pub reads_on : (g : Geometry) (bytes places : List ℕ) (at spent : ℕ) (count : Count) (total : Result (List Record) ℕ)
+    → IsBytes bytes → at ≤ length bytes → ReadSo g bytes places (unpacked bytes places) at spent total
+    → next_at g spent at (drop at bytes) ≡ Ok (Some (record_from (drop at bytes)))
+    → IsNext g spent (drop at bytes) count
+    → ReadSo g bytes (places ++ at ∷ []) (unpacked bytes (places ++ at ∷ [])) (at + (8 + count.key + count.body))
+    (spent + cost g count.key count.body) total
 reads_on g bytes places at spent count total fits near s next n =
     let r = record_from (drop at bytes) in
     let key_is : count.key ≡ (count_at (drop at bytes)).key = ap (λ (x : Count). x.key) n.here in
@@ -140,19 +172,31 @@ reads_on g bytes places at spent count total fits near s next n =
     let small : count.key < 256 = subst (λ (k : ℕ). k < 256) (sym key_is) (IsBytes-drop at bytes fits 5) in
     let keys : length r.key ≡ count.key = l.key_is ∙ sym key_is in
     let bodies : length r.body ≡ count.body = l.body_is ∙ sym body_is in
-    let is = ranges_from (drop at bytes) (IsBytes-drop at bytes fits) (omega (arith, keys, small)) (omega (arith, bodies, n.room, unit_room g count.key count.body, within g)) in
-    let more = reads_more g bytes places (unpacked bytes places) r at spent count.key count.body total s next keys bodies is (omega (arith, n.within, length-drop at bytes)) n.room in
-    subst (λ (x : List Record). ReadSo g bytes (places ++ at ∷ []) x (at + (8 + count.key + count.body)) (spent + cost g count.key count.body) total) (sym (map_push (λ (p : ℕ). record_from (drop p bytes)) places at)) more
+    let is = ranges_from (drop at bytes) (IsBytes-drop at bytes fits) (omega (arith, keys, small))
+    (omega (arith, bodies, n.room, unit_room g count.key count.body, within g)) in
+    let more = reads_more g bytes places (unpacked bytes places) r at spent count.key count.body total s next keys
+    bodies is (omega (arith, n.within, length-drop at bytes)) n.room in
+    subst (λ (x : List Record). ReadSo g bytes (places ++ at ∷ []) x (at + (8 + count.key + count.body))
+    (spent + cost g count.key count.body) total) (sym (map_push (λ (p : ℕ). record_from (drop p bytes)) places at))
+    more
 
-pub read_fails : (g : Geometry) (bytes places : List ℕ) (rs : List Record) (at spent offset : ℕ) (total : Result (List Record) ℕ) → ReadSo g bytes places rs at spent total → next_at g spent at (drop at bytes) ≡ Err offset → total ≡ Err offset
+pub read_fails : (g : Geometry) (bytes places : List ℕ) (rs : List Record) (at spent offset : ℕ)
+    (total : Result (List Record) ℕ) → ReadSo g bytes places rs at spent total
+    → next_at g spent at (drop at bytes) ≡ Err offset → total ≡ Err offset
 read_fails g bytes places rs at spent offset total s next =
-    fails rs g (length bytes + 1 - length places) (length bytes - length places) spent at offset bytes total (omega (arith, s.steps, s.within)) next s.read
+    fails rs g (length bytes + 1 - length places) (length bytes - length places) spent at offset bytes total
+    (omega (arith, s.steps, s.within)) next s.read
 
-pub read_done : (g : Geometry) (bytes places : List ℕ) (rs : List Record) (at spent : ℕ) (total : Result (List Record) ℕ) → ReadSo g bytes places rs at spent total → next_at g spent at (drop at bytes) ≡ Ok None → total ≡ Ok rs
+pub read_done : (g : Geometry) (bytes places : List ℕ) (rs : List Record) (at spent : ℕ)
+    (total : Result (List Record) ℕ) → ReadSo g bytes places rs at spent total
+    → next_at g spent at (drop at bytes) ≡ Ok None → total ≡ Ok rs
 read_done g bytes places rs at spent total s next =
-    is_done rs g (length bytes + 1 - length places) (length bytes - length places) spent at bytes total (omega (arith, s.steps, s.within)) next s.read
+    is_done rs g (length bytes + 1 - length places) (length bytes - length places) spent at bytes total
+    (omega (arith, s.steps, s.within)) next s.read
 
-pub found_all : (g : Geometry) (bytes places : List ℕ) (at spent : ℕ) (total : Result (List Record) ℕ) → ReadSo g bytes places (unpacked bytes places) at spent total → next_at g spent at (drop at bytes) ≡ Ok None → IsFound g bytes places spent
+pub found_all : (g : Geometry) (bytes places : List ℕ) (at spent : ℕ) (total : Result (List Record) ℕ)
+    → ReadSo g bytes places (unpacked bytes places) at spent total → next_at g spent at (drop at bytes) ≡ Ok None
+    → IsFound g bytes places spent
 found_all g bytes places at spent total s next =
     let ends : length (drop at bytes) ≡ 8 = ap length (next_ends g spent at (drop at bytes) next) in
     record {

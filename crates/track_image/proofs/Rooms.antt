@@ -21,6 +21,8 @@ less : (b c : Bool) (places more : ℕ) → (b ≡ true → c ≡ true) → plac
 less true c places more still many = rw (still refl) many
 less false c places more still many = omega arith
 
-pub no_less_room : (bytes places bytes' places' : ℕ) → bytes ≤ bytes' → places ≤ places' → room_in bytes places ≤ room_in bytes' places'
+pub no_less_room : (bytes places bytes' places' : ℕ) → bytes ≤ bytes' → places ≤ places'
+    → room_in bytes places ≤ room_in bytes' places'
 no_less_room bytes places bytes' places' longer more =
-    less (leb most_bytes bytes) (leb most_bytes bytes') places places' (λ h. le-leb _ _ (omega (arith, leb-true _ _ h))) more
+    less (leb most_bytes bytes) (leb most_bytes bytes') places places' (λ h. le-leb _ _ (omega (arith, leb-true _ _ h)))
+    more

@@ -38,7 +38,12 @@ count_at bytes = record {
 
 -- the record with a count area, and then key and data
 abbrev pub has_areas : Count → List ℕ → Record
-has_areas count bytes = record { id = count.id; key = take count.key bytes; body = take count.body (drop count.key bytes) }
+has_areas count bytes = record {
+  id = count.id;
+  key = take count.key bytes;
+  body =
+      take count.body (drop count.key bytes);
+}
 
 -- key and data, which stand at `at` behind their count area
 unfoldable pub areas_at : ℕ → Count → List ℕ → Result Record ℕ
@@ -51,7 +56,8 @@ areas_at at count bytes =
 unfoldable pub zero_at : ℕ → List ℕ → Result Record ℕ
 zero_at at bytes =
     if nat_lt (length bytes) 8 then Err at
-    else if ((count_at bytes).key == 0) && ((count_at bytes).body == 8) then areas_at (at + 8) (count_at bytes) (drop 8 bytes)
+    else if ((count_at bytes).key == 0) && ((count_at bytes).body == 8) then areas_at (at + 8) (count_at bytes)
+    (drop 8 bytes)
     else Err at
 
 -- the next record, which fits behind those that took `spent` units, or none at the end mark, with nothing behind it
@@ -76,13 +82,15 @@ unfoldable pub records_at : ℕ → Geometry → ℕ → ℕ → List ℕ → Re
 records_at zero g spent at bytes = Err at
 records_at (suc steps) g spent at bytes =
     next_at g spent at bytes >>= (λ next. or_end next (λ r.
-    records_at steps g (spent + cost g (length r.key) (length r.body)) (at + size_of r) (drop (size_of r) bytes) >>= (λ others. Ok (r ∷ others))))
+    records_at steps g (spent + cost g (length r.key) (length r.body)) (at + size_of r) (drop (size_of r) bytes)
+    >>= (λ others. Ok (r ∷ others))))
 
 -- a whole track: no record is shorter than a byte, so there are as many steps as bytes
 unfoldable pub reading : Geometry → Cchh → List ℕ → Result Track ℕ
 reading g home bytes =
     if starts_with nat_eq bytes (home_bytes home) then
-    zero_at 5 (drop 5 bytes) >>= (λ first. records_at (length bytes) g 0 21 (drop 21 bytes) >>= (λ others. Ok (record { home = home; records = first ∷ others })))
+    zero_at 5 (drop 5 bytes) >>= (λ first. records_at (length bytes) g 0 21 (drop 21 bytes)
+    >>= (λ others. Ok (record { home = home; records = first ∷ others })))
     else Err 0
 
 -- a record that stands in bytes, and fits behind those that took `spent` units

@@ -110,10 +110,10 @@ pub caused_then : {A : Type 0} (b m n : ℕ) (r : Result A LoadFault) → m ≡ 
 caused_then b m n r same c = subst (λ (x : ℕ). IsCaused x n r) same c
 
 -- the end of a file is looked for, and a byte is there
-pub end_told : (at : ℕ) (b a : Option (List ℕ)) (field : List ℕ) → IsField b a 1 field → (length field ≡ 0 → ⊥)
+pub end_told : (at : ℕ) (b a : Option (List ℕ)) (size : ℕ) (field : List ℕ) → IsField b a size field → (length field ≡ 0 → ⊥)
     → IsRefused (end_at at) b (Trailing at)
-end_told at b a [] f some = absurd (some refl)
-end_told at b a (x ∷ field) f some =
+end_told at b a size [] f some = absurd (some refl)
+end_told at b a size (x ∷ field) f some =
     record { text = x ∷ (field ++ left_of a); left = text_then b a (x ∷ field) (left_of a) f.read (text_left a); refused = refl }
 
 pub field_refused : {B : Type 0} (read : List ℕ → Result B LoadFault) (b a : Option (List ℕ)) (size : ℕ) (field : List ℕ) (fault : LoadFault)

@@ -1,6 +1,5 @@
 use Rattle.std.proofs.Common.{arith, refl, [], take}
 use Rattle.std.proofs.lemmas.Grind.{common_steps}
-use Rattle.hex.specs.Hex.{encode_upper}
 use Rattle.ckd_outside.proofs.HexLemmas.{hex_parts, hex_none}
 use Rattle.ckd_outside.proofs.Lines.{moves_in, moves_then, put_more, put_stopped, put_all, puts_stopped}
 use Rattle.ckd_outside.proofs.pieces.put_hex.Goals as goal

@@ -1,5 +1,4 @@
 use Rattle.std.proofs.Common.{◌∷◌, []}
-use Rattle.std.specs.Prelude.{decimal}
 use Rattle.hex.specs.Hex.{encode_upper}
 use Rattle.ckd_outside.proofs.Lines.{moves_in, moves_then, stops_longer, puts_stopped}
 use Rattle.ckd_outside.proofs.pieces.write_byte.Goals as goal

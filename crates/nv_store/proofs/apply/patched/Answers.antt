@@ -15,7 +15,8 @@ pub returns-in_err-cut : goal.returns-in_err-cut
 returns-in_err-cut c =
     let patch : PatchView = record { replaced = c.args.replaced.now; kept = c.args.kept; behind = c.args.behind.now } in
     let p = err_from_is_err_and c.from_residual.result c.from_residual.ensures.1 in
-    rw (p.1, p.2) (cut_failed patch c.args.image c.in_err-cut.field-0.0 c.requires.applies (λ unfit. rw c.revise.ensures at (c.in_err-cut.ensures.unfit (ap Err unfit))))
+    rw (p.1, p.2) (cut_failed patch c.args.image c.in_err-cut.field-0.0 c.requires.applies
+    (λ unfit. rw c.revise.ensures at (c.in_err-cut.ensures.unfit (ap Err unfit))))
 
 pub returns : goal.returns
 returns c =

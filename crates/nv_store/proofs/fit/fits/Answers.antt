@@ -12,4 +12,5 @@ pub returns-in-UpTo : goal.returns-in-UpTo
 returns-in-UpTo c =
     let reached = rw c.in-UpTo.is at c.requires.reached in
     let there = ltb-true c.in-UpTo.last (length c.args.image.now.track.records) reached in
-    rw (c.fit_behind.ensures, c.geometry.ensures, c.units_to.ensures.value, c.in-UpTo.is) (front_fits c.args.image.now c.in-UpTo.last c.args.behind.now c.fits.ensures there)
+    rw (c.fit_behind.ensures, c.geometry.ensures, c.units_to.ensures.value, c.in-UpTo.is)
+    (front_fits c.args.image.now c.in-UpTo.last c.args.behind.now c.fits.ensures there)

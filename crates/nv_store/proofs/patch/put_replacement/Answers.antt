@@ -7,5 +7,6 @@ use Rattle.nv_store.proofs.patch.put_replacement.Goals as goal
 pub returns : goal.returns
 returns c =
     let index = c.args.new.index in
-    let kept : c.retain.new.self.items ≡ filter (λ (r : Replacement). not (r.index == index)) c.args.replaced.now.items = filter_same _ _ _ (λ r kept f called. search rules) _ _ c.retain.ensures.filtered in
+    let kept : c.retain.new.self.items ≡ filter (λ (r : Replacement). not (r.index == index))
+    c.args.replaced.now.items = filter_same _ _ _ (λ r kept f called. search rules) _ _ c.retain.ensures.filtered in
     grind (arith, common_steps, kept)

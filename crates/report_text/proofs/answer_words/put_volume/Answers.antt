@@ -1,6 +1,5 @@
 use Rattle.std.proofs.Common.{◌∷◌, []}
 use Rattle.std.specs.Prelude.{decimal}
-use Rattle.hex.specs.Hex.{encode_upper}
 use Rattle.ckd_outside.proofs.Lines.{puts_stopped}
 use Rattle.report_text.specs.declared.keyword.Keyword.TheVariants as words
 use Rattle.report_text.specs.Keywords.{keyword_text}

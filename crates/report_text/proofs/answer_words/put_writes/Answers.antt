@@ -1,10 +1,8 @@
 use Rattle.std.proofs.Common.{◌∷◌, []}
 use Rattle.std.specs.Prelude.{decimal}
-use Rattle.hex.specs.Hex.{encode_upper}
 use Rattle.ckd_outside.proofs.Lines.{puts_stopped}
 use Rattle.report_text.specs.declared.keyword.Keyword.TheVariants as words
 use Rattle.report_text.specs.Keywords.{keyword_text}
-use Rattle.report_text.specs.Words.{side_key}
 use Rattle.report_text.proofs.Spaced.{spaced_longer, spaced_then}
 use Rattle.report_text.proofs.answer_words.put_writes.Goals as goal
 

@@ -1,8 +1,7 @@
-use Rattle.std.proofs.Common.{◌∷◌, ◌++◌, []}
+use Rattle.std.proofs.Common.{[]}
 use Rattle.ckd_outside.proofs.Lines.{puts_stopped}
-use Rattle.report_text.specs.declared.line.ReportLine.TheVariants.{End}
 use Rattle.report_text.specs.Lines.{line_text}
-use Rattle.report_text.specs.Ends.{data_lines, end_line, over_lines, sense_lines}
+use Rattle.report_text.specs.Ends.{over_lines, sense_lines}
 use Rattle.report_text.proofs.Spaced.{flat_longer, flat_then}
 use Rattle.report_text.proofs.ends.put_behind_data.Goals as goal
 

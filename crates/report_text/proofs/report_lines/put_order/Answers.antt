@@ -1,9 +1,5 @@
-use Rattle.std.proofs.Common.{◌∷◌, []}
-use Rattle.std.specs.Prelude.{decimal}
-use Rattle.hex.specs.Hex.{encode_upper}
+use Rattle.std.proofs.Common.{[]}
 use Rattle.ckd_outside.proofs.Lines.{puts_stopped}
-use Rattle.report_text.specs.declared.keyword.Keyword.TheVariants as words
-use Rattle.report_text.specs.Keywords.{keyword_text}
 use Rattle.report_text.specs.Words.{answer_words, order_words}
 use Rattle.report_text.proofs.Spaced.{spaced_longer, spaced_then}
 use Rattle.report_text.proofs.report_lines.put_order.Goals as goal

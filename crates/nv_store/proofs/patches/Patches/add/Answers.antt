@@ -17,4 +17,5 @@ returns-clause-same c =
     let patch : c.add-added.new.self ≡ stored.patch = same in
     let taken = ap (holding stored) patch ∙ sym c.unwrap-stored.ensures ∙ c.exchange.ensures.was in
     let back = put_back c.self.inside.table c.args.t None (holding stored c.add-added.new.self) None taken in
-    c.exchange-2.ensures.now ∙ ap (λ (xs : List (Option Stored)). slice_set xs c.args.t (holding stored c.add-added.new.self)) c.exchange.ensures.now ∙ back ∙ c.self.view_is) c.add-added.ensures.same
+    c.exchange-2.ensures.now ∙ ap (λ (xs : List (Option Stored)). slice_set xs c.args.t
+    (holding stored c.add-added.new.self)) c.exchange.ensures.now ∙ back ∙ c.self.view_is) c.add-added.ensures.same

@@ -11,21 +11,32 @@ pub cut_and_add_within-requires-clause-short : goal.cut_and_add_within-requires-
 cut_and_add_within-requires-clause-short c =
     let g = c.self.inside.geometry in
     let rs = c.self.inside.packed.records in
-    let spent : c.cost_to.result ≡ cost_of g (take (c.args.after + 1) rs) = c.cost_to.ensures.value ∙ ap (λ (i : Image). cost_of i.geometry (take (c.args.after + 1) i.track.records)) (sym c.self.view_is) in
-    let units : c.cost.result ≡ cost g (length c.new.result.key) (length c.new.result.body) = c.cost.ensures ∙ ap (λ (r : Record). cost g (length r.key) (length r.body)) (sym c.new.ensures) in
-    let same : c.new.result ≡ c.args.added = c.new.ensures ∙ rw (c.as_slice-key.ensures, c.as_slice-body.ensures) refl in
-    let fits = has_room (record { geometry = g; track = c.self.inside.packed }) c.args.self.now c.args.after c.new.result c.args.added c.self.view_is same c.requires.fits in
+    let spent : c.cost_to.result ≡ cost_of g (take (c.args.after + 1) rs) =
+    c.cost_to.ensures.value ∙ ap (λ (i : Image). cost_of i.geometry (take (c.args.after + 1) i.track.records))
+    (sym c.self.view_is) in
+    let units : c.cost.result ≡ cost g (length c.new.result.key) (length c.new.result.body) =
+    c.cost.ensures ∙ ap (λ (r : Record). cost g (length r.key) (length r.body)) (sym c.new.ensures) in
+    let same : c.new.result ≡ c.args.added = c.new.ensures
+    ∙ rw (c.as_slice-key.ensures, c.as_slice-body.ensures) refl in
+    let fits = has_room (record { geometry = g; track = c.self.inside.packed }) c.args.self.now c.args.after
+    c.new.result c.args.added c.self.view_is same c.requires.fits in
     fits_behind g rs c.args.after c.new.result c.self.invariant.0.zero (omega (arith, spent, units, fits))
 
 pub invariant_of-self : goal.invariant_of-self
 invariant_of-self c =
     let g = c.self.inside.geometry in
     let rs = c.self.inside.packed.records in
-    let spent : c.cost_to.result ≡ cost_of g (take (c.args.after + 1) rs) = c.cost_to.ensures.value ∙ ap (λ (i : Image). cost_of i.geometry (take (c.args.after + 1) i.track.records)) (sym c.self.view_is) in
-    let units : c.cost.result ≡ cost g (length c.new.result.key) (length c.new.result.body) = c.cost.ensures ∙ ap (λ (r : Record). cost g (length r.key) (length r.body)) (sym c.new.ensures) in
-    let same : c.new.result ≡ c.args.added = c.new.ensures ∙ rw (c.as_slice-key.ensures, c.as_slice-body.ensures) refl in
+    let spent : c.cost_to.result ≡ cost_of g (take (c.args.after + 1) rs) =
+    c.cost_to.ensures.value ∙ ap (λ (i : Image). cost_of i.geometry (take (c.args.after + 1) i.track.records))
+    (sym c.self.view_is) in
+    let units : c.cost.result ≡ cost g (length c.new.result.key) (length c.new.result.body) =
+    c.cost.ensures ∙ ap (λ (r : Record). cost g (length r.key) (length r.body)) (sym c.new.ensures) in
+    let same : c.new.result ≡ c.args.added = c.new.ensures
+    ∙ rw (c.as_slice-key.ensures, c.as_slice-body.ensures) refl in
     let ranges : IsRecord c.new.result = subst IsRecord (sym same) c.requires.ranges in
-    let fits = has_room (record { geometry = g; track = c.self.inside.packed }) c.args.self.now c.args.after c.new.result c.args.added c.self.view_is same c.requires.fits in
-    let made = formats g c.self.inside.packed c.args.after c.new.result c.self.invariant.0 ranges (omega (arith, spent, units, fits)) in
+    let fits = has_room (record { geometry = g; track = c.self.inside.packed }) c.args.self.now c.args.after
+    c.new.result c.args.added c.self.view_is same c.requires.fits in
+    let made = formats g c.self.inside.packed c.args.after c.new.result c.self.invariant.0 ranges
+    (omega (arith, spent, units, fits)) in
     let sum = λ (t : Track). Fits g t × (c.cost_to.result + c.cost.result ≡ cost_of g t.records) in
     subst sum (sym c.cut_and_add_within.ensures) (made.0, omega (arith, spent, units, made.1))
