@@ -67,7 +67,7 @@ padded_length : (n : ℕ) (bytes : List ℕ) → length (padded n bytes) ≡ n
 padded_length n bytes =
     let sum = length-append (take n bytes) (replicate (n - length bytes) 0) in
     let front = length-take n bytes in
-    let zeros = length-replicate (n - length bytes) 0 in omega (arith, sum, front, zeros)
+    let zeros = length-replicate {A = ℕ} (n - length bytes) 0 in omega (arith, sum, front, zeros)
 
 given_bytes : (from n : ℕ) (c : Ccw) → GivesBytes c → AreBytes (given_at from n c)
 given_bytes from n c all = padded_bytes n (drop from (given_taken c)) (All-drop (λ (byte : ℕ). byte < 256) from (given_taken c) (All-take (λ (byte : ℕ). byte < 256) c.count c.given all))

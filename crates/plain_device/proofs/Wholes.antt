@@ -36,11 +36,11 @@ use Rattle.ckd_types.specs.declared.paths.PathState.{PathState}
 use Rattle.ckd_types.specs.declared.paths.PathState.TheVariants.{Reset, Ungrouped, Grouped}
 use Rattle.ckd_types.specs.declared.sense.Sense.{Sense}
 use Rattle.ckd_types.specs.Fixed.{Fixed}
-use Rattle.ckd_types.specs.Sense.{zero_sense}
+use Rattle.ckd_types.specs.Sense.{zero_sense, reject_sense}
 use Rattle.plain_defs.specs.declared.journal.Act.{Act}
 use Rattle.plain_defs.specs.declared.journal.Act.TheVariants.{Loosen, Harden, CfwLost}
 use Rattle.plain_defs.specs.Acts.{act_fault, reserved, paths_after}
-use Rattle.plain_defs.specs.Effect.{acted_by, effect_by, effect_on, edited_volume, behind_effect}
+use Rattle.plain_defs.specs.Effect.{looked, acted_by, effect_by, effect_on, edited_volume, behind_effect}
 use Rattle.plain_defs.specs.Loose.{restored, act_done, lost_by_power, power_off}
 use Rattle.plain_defs.specs.PlainState.{PathsState, LooseTrack, PlainState, empty_state, with_sense, reset_path}
 use Rattle.plain_device.specs.Volume.{IsActOn}
@@ -91,19 +91,19 @@ edited_fits g t (Zero added) fits suits ranges = record {
 
 -- The edit of a walk
 
-module _ (g : Geometry) (tracks : ℕ → Track) (start : Stance) (c : Ccw) (bytes : GivesBytes c) (look : Look) where
-  -- it suits the track that it is of, where that fits
-  abbrev IsSuiting : Option TrackEdit → Type 0
-  IsSuiting None = ⊤
-  IsSuiting (Some e) = Fits g (tracks e.track) → Suits g (tracks e.track).records e.edit × HasRanges e.edit
+-- it suits the track that it is of, where that fits
+abbrev pub IsSuiting : Geometry → (ℕ → Track) → Option TrackEdit → Type 0
+IsSuiting g tracks None = ⊤
+IsSuiting g tracks (Some e) = Fits g (tracks e.track) → Suits g (tracks e.track).records e.edit × HasRanges e.edit
 
-  walked_suits : (n : ℕ) (s z : Stance) (turned : Turned) → (Fits g (tracks s.track) → SuitsTurn g (tracks s.track).records turned) → ((z : Stance) → IsSuiting (walk n g tracks start c look z).edit)
-      → IsSuiting (walked s.track (walk n g tracks start c look) z turned).edit
+module _ (g : Geometry) (tracks : ℕ → Track) (start : Stance) (c : Ccw) (bytes : GivesBytes c) (look : Look) where
+  walked_suits : (n : ℕ) (s z : Stance) (turned : Turned) → (Fits g (tracks s.track) → SuitsTurn g (tracks s.track).records turned) → ((z : Stance) → IsSuiting g tracks (walk n g tracks start c look z).edit)
+      → IsSuiting g tracks (walked s.track (walk n g tracks start c look) z turned).edit
   walked_suits n s z (Ended e) suits rest = tt
   walked_suits n s z Onward suits rest = rest z
   walked_suits n s z (Edits edit e) suits rest = suits
 
-  pub walk_suits : (n : ℕ) (s : Stance) → IsSuiting (walk n g tracks start c look s).edit
+  pub walk_suits : (n : ℕ) (s : Stance) → IsSuiting g tracks (walk n g tracks start c look s).edit
   unfolding walk
   walk_suits zero s = tt
   walk_suits (suc n) s =
@@ -138,7 +138,7 @@ volume_edited g cylinders v (Some e) is suits =
 pub volume_empty : (g : Geometry) (cylinders : ℕ) → cylinders ≤ 64 → IsVolume g cylinders (empty_volume cylinders)
 volume_empty g cylinders most = record { tracks = many; homes = λ t inside. ap (λ (x : Track). x.home) (here t inside); fits = λ t inside. subst (Fits g) (sym (here t inside)) (fits t inside) } where
   many : length (empty_volume cylinders) ≡ cylinders * 15
-  many = length-map empty_track (range_with_len 0 (cylinders * 15)) ∙ length-range_with_len 0 (cylinders * 15)
+  many = length-map (range_with_len 0 (cylinders * 15)) empty_track ∙ length-range_with_len 0 (cylinders * 15)
 
   here : (t : ℕ) → t < cylinders * 15 → track_in (empty_volume cylinders) t ≡ empty_track t
   here t inside = get_or-map-range_with_len empty_track 0 (cylinders * 15) t t (empty_track t) inside (omega arith)
@@ -171,7 +171,7 @@ set_four states path function id four = by_function (establishes function) (resi
   by_function : (one two : Bool) → length (cond one (set states (path - 1) (Grouped id (asks_multipath function))) (cond two (set states (path - 1) Ungrouped) (map (disbanded id) states))) ≡ 4
   by_function true two = length-set states (path - 1) (Grouped id (asks_multipath function)) ∙ four
   by_function false true = length-set states (path - 1) Ungrouped ∙ four
-  by_function false false = length-map (disbanded id) states ∙ four
+  by_function false false = length-map states (disbanded id) ∙ four
 
 act_four : (paths : PathsState) (path : ℕ) (act : LocalAct) → AreFour paths → AreFour (paths_after paths path act)
 act_four paths path acts.Sense four = sense_four paths path (Some zero_sense) four
@@ -183,7 +183,7 @@ act_four paths path (acts.SetGroup function id) four = (set_four paths.states pa
 act_four paths path acts.SenseGroup four = four
 
 acted_four : (f : Fixed) (paths : PathsState) (path : ℕ) (s : Stance) (c : Ccw) (act : LocalAct) (fault : Option GroupFault) → AreFour paths → AreFour (acted_by f paths path s c act fault).paths
-acted_four f paths path s c act (Some fault) four = sense_four paths path _ four
+acted_four f paths path s c act (Some fault) four = sense_four paths path (Some (reject_sense 4)) four
 acted_four f paths path s c act None four = act_four paths path act four
 
 acted_edit : (f : Fixed) (paths : PathsState) (path : ℕ) (s : Stance) (c : Ccw) (act : LocalAct) (fault : Option GroupFault) → (acted_by f paths path s c act fault).edit ≡ None
@@ -192,7 +192,7 @@ acted_edit f paths path s c act None = refl
 
 effect_four : (f : Fixed) (paths : PathsState) (tracks : ℕ → Track) (path : ℕ) (start : Stance) (c : Ccw) (s : Stance) (how : Opening) → AreFour paths → AreFour (effect_by f paths tracks path start c s how).paths
 effect_four f paths tracks path start c s (Over e) four = sense_four paths path e.sense four
-effect_four f paths tracks path start c s (Looks look) four = sense_four paths path _ four
+effect_four f paths tracks path start c s (Looks look) four = sense_four paths path (looked f tracks start c look s).outcome.ending.sense four
 effect_four f paths tracks path start c s (Asks act) four = acted_four f paths path start c act (act_fault paths path act) four
 
 effect_suits : (f : Fixed) (paths : PathsState) (tracks : ℕ → Track) (path : ℕ) (start : Stance) (c : Ccw) → GivesBytes c → (s : Stance) (how : Opening) → IsSuiting f.geometry tracks (effect_by f paths tracks path start c s how).edit
@@ -221,8 +221,14 @@ whole_reset d path is = record { volume = is.volume; states = length-set d.paths
 
 pub whole_act : (d : PlainState) (act : Act) → IsActOn (d.cylinders * 15) act → IsWhole d → IsWhole (act_done d act)
 whole_act d (Loosen t) on is =
-    record is { loose = All-push (IsFirm d.geometry d.cylinders) d.loose (record { track = t; firm = track_in d.volume t }) is.loose (record { inside = on; home = is.volume.homes t on; fits = is.volume.fits t on }) }
-whole_act d (Harden t) on is = record is { loose = All-filter (λ (l : LooseTrack). not (l.track == t)) (IsFirm d.geometry d.cylinders) d.loose is.loose }
+    record {
+      volume = is.volume;
+      states = is.states;
+      senses = is.senses;
+      loose = All-push (IsFirm d.geometry d.cylinders) d.loose (record { track = t; firm = track_in d.volume t }) is.loose (record { inside = on; home = is.volume.homes t on; fits = is.volume.fits t on });
+    }
+whole_act d (Harden t) on is =
+    record { volume = is.volume; states = is.states; senses = is.senses; loose = All-filter (λ (l : LooseTrack). not (l.track == t)) (IsFirm d.geometry d.cylinders) d.loose is.loose }
 whole_act d CfwLost on is = record { volume = volume_restored d.geometry d.cylinders d.loose d.volume is.loose is.volume; states = is.states; senses = is.senses; loose = All-nil (IsFirm d.geometry d.cylinders) }
 
 pub whole_fresh : (d : PlainState) → d.cylinders ≤ 64 → IsWhole d → IsWhole (record d { volume = empty_volume d.cylinders; loose = [] })
