@@ -27,7 +27,8 @@ sent_by state path ccws = map (λ (e : CommandEnd). e.sent) (part_of state path 
 
 -- paths 1 and 2 are a group, and path 1 reserved the device
 reserved_by_group : PlainState
-reserved_by_group = state_behind (state_behind (state_behind (empty_state D3390 1) 1 (set_group 0x80)) 2 (set_group 0x80)) 1 (one 0xb4 32 [])
+reserved_by_group = state_behind (state_behind (state_behind (empty_state D3390 1) 1 (set_group 0x80)) 2
+    (set_group 0x80)) 1 (one 0xb4 32 [])
 
 group_holds : reserved_by_group.paths.owner ≡ Some (Group (record { bytes = group }))
 unfolding reserved_by_group state_behind set_group one group part_of command_of
@@ -61,11 +62,13 @@ path_3_takes_it : (state_behind reserved_by_group 3 (one 0x14 32 [])).paths.owne
 unfolding reserved_by_group state_behind set_group one group part_of command_of
 path_3_takes_it = refl
 
-path_1_may_not_release_it : is_admitted (state_behind reserved_by_group 3 (one 0x14 32 [])).paths 1 (one 0x94 32 []) ≡ false
+path_1_may_not_release_it : is_admitted (state_behind reserved_by_group 3 (one 0x14 32 [])).paths 1 (one 0x94 32 [])
+    ≡ false
 unfolding reserved_by_group state_behind set_group one group part_of command_of
 path_1_may_not_release_it = refl
 
-path_3_releases_it : (state_behind (state_behind reserved_by_group 3 (one 0x14 32 [])) 3 (one 0x94 32 [])).paths.owner ≡ None
+path_3_releases_it : (state_behind (state_behind reserved_by_group 3 (one 0x14 32 [])) 3 (one 0x94 32 [])).paths.owner
+    ≡ None
 unfolding reserved_by_group state_behind set_group one group part_of command_of
 path_3_releases_it = refl
 
@@ -82,6 +85,7 @@ unfolding reserved_by_group state_behind set_group one group part_of command_of
 two_resets_free_it = refl
 
 -- a path that isn't in the group can't resign from it
-resigned_by_path_4 : map (λ (e : CommandEnd). e.sense) (part_of reserved_by_group 4 (set_group 0x40) [] 1).ends ≡ Some (reject_sense 4) ∷ []
+resigned_by_path_4 : map (λ (e : CommandEnd). e.sense) (part_of reserved_by_group 4 (set_group 0x40) [] 1).ends
+    ≡ Some (reject_sense 4) ∷ []
 unfolding reserved_by_group state_behind set_group one group part_of command_of
 resigned_by_path_4 = refl

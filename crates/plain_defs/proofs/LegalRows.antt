@@ -1,5 +1,5 @@
 -- Journals that a plain device could have made, and forged ones, computed from the definitions alone.
-use Rattle.std.proofs.Common.{◌≡◌, ◌<◌, ◌≤◌, ℕ, zero, suc, List, [], ◌∷◌, ◌++◌, Option, Some, None, true, false, length, refl, arith, sym, ap, inl, ◌∙◌}
+use Rattle.std.proofs.Common.{◌≡◌, ◌<◌, ◌≤◌, ℕ, zero, suc, List, [], ◌∷◌, Option, Some, None, true, refl, arith, sym, ap, inl}
 use Rattle.std.specs.Prelude.{IsSome}
 use Rattle.std.proofs.lemmas.Bool.{true≢false}
 use Rattle.ckd_types.specs.declared.channel.Ccw.{Ccw}
@@ -9,7 +9,6 @@ use Rattle.ckd_types.specs.declared.geometry.Geometry.TheVariants.{D3390}
 use Rattle.ckd_types.specs.Commands.{command_of}
 use Rattle.ckd_types.specs.Sense.{equipment_sense}
 use Rattle.ckd_rules.specs.Walk.{walk}
-use Rattle.plain_defs.specs.declared.journal.Act.{Act}
 use Rattle.plain_defs.specs.declared.journal.Act.TheVariants.{Loosen, Harden, CfwLost}
 use Rattle.plain_defs.specs.declared.journal.Acted.{Acted}
 use Rattle.plain_defs.specs.declared.journal.How.{How}
@@ -33,7 +32,16 @@ plans : Plans
 plans = (one ∷ []) ∷ [] ∷ [] ∷ [] ∷ []
 
 its_end : CommandEnd
-its_end = record { index = 0; status = record { 0 = 0x0c }; residual = 1; note = Plain; sent = []; sense = None; over = true }
+its_end = record {
+  index = 0;
+  status = record { 0 = 0x0c };
+  residual = 1;
+  note = Plain;
+  sent = [];
+  sense = None;
+  over =
+      true;
+}
 
 ran : ℕ → How → List CommandEnd → List Acted → Item
 ran ordinal how ends acts = items.Program (record { path = 1; ordinal = ordinal; how = how; ends = ends; acts = acts })
@@ -48,7 +56,16 @@ index_of (e ∷ ends) = e.index
 
 -- an equipment check of a word
 checked_at : ℕ → CommandEnd
-checked_at index = record { index = index; status = record { 0 = 0x0e }; residual = 1; note = Plain; sent = []; sense = Some equipment_sense; over = true }
+checked_at index = record {
+  index = index;
+  status = record { 0 = 0x0e };
+  residual = 1;
+  note = Plain;
+  sent = [];
+  sense =
+      Some equipment_sense;
+  over = true;
+}
 
 below_zero : (j : ℕ) → j < 0 → ⊥
 below_zero j below = omega (arith, below)
@@ -56,28 +73,75 @@ below_zero j below = omega (arith, below)
 -- it runs whole
 whole_is_legal : IsLegal plans device (ran 1 Full (its_end ∷ []) [] ∷ [])
 unfolding plans device one its_end ran part_of command_of
-whole_is_legal = ((record {
-  started = record { least = omega arith; most = omega arith; in_plan = omega arith; ordinal_is = refl; admitted = refl };
-  ends = record { ends_are = refl; over = refl };
-  order = tt;
-  acts = record { points = λ j below. record { acts_are = tt; edit_is = may_edit (part_of device 1 one [] j).state (part_of device 1 one [] j).stance (next_edit 1 one (part_of device 1 one [] j)) (part_loose 1 one device j) }; last = tt };
-}, tt), tt)
+whole_is_legal = (
+  (
+    record {
+      started = record {
+        least = omega arith;
+        most = omega arith;
+        in_plan = omega arith;
+        ordinal_is = refl;
+        admitted =
+            refl;
+      };
+      ends = record { ends_are = refl; over = refl };
+      order = tt;
+      acts = record {
+        points = λ j below. record {
+          acts_are = tt;
+          edit_is =
+              may_edit (part_of device 1 one [] j).state (part_of device 1 one [] j).stance
+              (next_edit 1 one (part_of device 1 one [] j)) (part_loose 1 one device j);
+        };
+        last = tt;
+      };
+    },
+    tt,
+  ),
+  tt,
+)
 
 -- its command ends with equipment check
 checked_is_legal : IsLegal plans device (ran 1 Checked (checked_at 0 ∷ []) [] ∷ [])
 unfolding plans device one checked_at ran part_of command_of
-checked_is_legal = ((record {
-  started = record { least = omega arith; most = omega arith; in_plan = omega arith; ordinal_is = refl; admitted = refl };
-  ends = record { last = checked_at 0; ends_are = refl; next_is = refl; checked = record { status = refl; residual = refl; sent = refl; note = refl; sense = inl refl; over = refl } };
-  order = tt;
-  acts = record { points = λ j below. absurd (below_zero j below); last = tt };
-}, tt), tt)
+checked_is_legal = (
+  (
+    record {
+      started = record {
+        least = omega arith;
+        most = omega arith;
+        in_plan = omega arith;
+        ordinal_is = refl;
+        admitted =
+            refl;
+      };
+      ends = record {
+        last = checked_at 0;
+        ends_are = refl;
+        next_is = refl;
+        checked =
+            record { status = refl; residual = refl; sent = refl; note = refl; sense = inl refl; over = refl };
+      };
+      order = tt;
+      acts = record { points = λ j below. absurd (below_zero j below); last = tt };
+    },
+    tt,
+  ),
+  tt,
+)
 
 -- it is cut before its first command
 cut_entry : IsLegalEntry plans device [] (record { path = 1; ordinal = 1; how = Cut 0; ends = []; acts = [] })
 unfolding plans device one part_of command_of
 cut_entry = record {
-  started = record { least = omega arith; most = omega arith; in_plan = omega arith; ordinal_is = refl; admitted = refl };
+  started = record {
+    least = omega arith;
+    most = omega arith;
+    in_plan = omega arith;
+    ordinal_is = refl;
+    admitted =
+        refl;
+  };
   ends = record { ends_are = refl; ran_on = refl; least = omega arith; most = omega arith };
   order = tt;
   acts = record { points = λ j below. absurd (below_zero j below); last = tt };
@@ -114,12 +178,14 @@ unplanned : IsLegal [] device (ran 1 Full (its_end ∷ []) [] ∷ []) → ⊥
 unfolding ran
 unplanned legal = let few : 1 ≤ 0 = legal.0.0.started.in_plan in omega (arith, few)
 
-on_a_fifth_path : IsLegal plans device (items.Program (record { path = 5; ordinal = 1; how = Full; ends = its_end ∷ []; acts = [] }) ∷ []) → ⊥
+on_a_fifth_path : IsLegal plans device (items.Program (record
+    { path = 5; ordinal = 1; how = Full; ends = its_end ∷ []; acts = [] }) ∷ []) → ⊥
 on_a_fifth_path legal = let most : 5 ≤ 4 = legal.0.0.started.most in omega (arith, most)
 
 forged_end : IsLegal plans device (ran 1 Full (record its_end { residual = 0 } ∷ []) [] ∷ []) → ⊥
 unfolding ran plans device one its_end part_of command_of
-forged_end legal = let same : ◌≡◌ {A = ℕ} 0 1 = ap (λ (l : List CommandEnd). residual_of l) legal.0.0.ends.ends_are in omega (arith, same)
+forged_end legal = let same : ◌≡◌ {A = ℕ} 0 1 = ap (λ (l : List CommandEnd). residual_of l) legal.0.0.ends.ends_are in
+    omega (arith, same)
 
 check_behind_the_end : IsLegal plans device (ran 1 Checked (its_end ∷ checked_at 77 ∷ []) [] ∷ []) → ⊥
 unfolding ran plans device one its_end checked_at part_of command_of
@@ -165,8 +231,20 @@ loosened_between_programs legal = none_is_some 0 legal.0.1
 -- Cache fast write: an extent of this attribute byte, a locate of record 0 on track 0, and an update of its data; track 0 becomes loose before that
 updates : ℕ → List Ccw
 updates attributes =
-    record { command = 0x63; flags = 0x40; count = 16; given = 0x80 ∷ attributes ∷ 0x10 ∷ 0 ∷ 0 ∷ 0 ∷ 0 ∷ 0 ∷ 0 ∷ 0 ∷ 0 ∷ 0 ∷ 0 ∷ 0 ∷ 0 ∷ 0x0e ∷ [] }
-    ∷ record { command = 0x47; flags = 0x40; count = 16; given = 1 ∷ 0 ∷ 0 ∷ 1 ∷ 0 ∷ 0 ∷ 0 ∷ 0 ∷ 0 ∷ 0 ∷ 0 ∷ 0 ∷ 0 ∷ 0 ∷ 0 ∷ 0 ∷ [] }
+    record {
+      command = 0x63;
+      flags = 0x40;
+      count = 16;
+      given =
+          0x80 ∷ attributes ∷ 0x10 ∷ 0 ∷ 0 ∷ 0 ∷ 0 ∷ 0 ∷ 0 ∷ 0 ∷ 0 ∷ 0 ∷ 0 ∷ 0 ∷ 0 ∷ 0x0e ∷ [];
+    }
+    ∷ record {
+      command = 0x47;
+      flags = 0x40;
+      count = 16;
+      given =
+          1 ∷ 0 ∷ 0 ∷ 1 ∷ 0 ∷ 0 ∷ 0 ∷ 0 ∷ 0 ∷ 0 ∷ 0 ∷ 0 ∷ 0 ∷ 0 ∷ 0 ∷ 0 ∷ [];
+    }
     ∷ record { command = 0x85; flags = 0; count = 8; given = 17 ∷ 34 ∷ 51 ∷ 68 ∷ 85 ∷ 102 ∷ 119 ∷ 136 ∷ [] }
     ∷ []
 
@@ -174,7 +252,14 @@ loosened : List Acted
 loosened = record { after = 2; act = Loosen 0 } ∷ []
 
 updated : ℕ → Item
-updated attributes = items.Program (record { path = 1; ordinal = 1; how = Full; ends = (part_of device 1 (updates attributes) loosened 3).ends; acts = loosened })
+updated attributes = items.Program (record {
+  path = 1;
+  ordinal = 1;
+  how = Full;
+  ends =
+      (part_of device 1 (updates attributes) loosened 3).ends;
+  acts = loosened;
+})
 
 planned_updates : ℕ → Plans
 planned_updates attributes = (updates attributes ∷ []) ∷ [] ∷ [] ∷ [] ∷ []
@@ -189,19 +274,41 @@ update_points (suc (suc (suc j))) below = absurd (omega (arith, below))
 
 cache_fast_write_is_legal : IsLegal (planned_updates 0xc2) device (updated 0xc2 ∷ [])
 unfolding planned_updates updated device updates loosened part_of walk command_of
-cache_fast_write_is_legal = ((record {
-  started = record { least = omega arith; most = omega arith; in_plan = omega arith; ordinal_is = refl; admitted = refl };
-  ends = record { ends_are = refl; over = refl };
-  order = (omega arith, omega arith, tt);
-  acts = record { points = update_points; last = tt };
-}, tt), tt)
+cache_fast_write_is_legal = (
+  (
+    record {
+      started = record {
+        least = omega arith;
+        most = omega arith;
+        in_plan = omega arith;
+        ordinal_is = refl;
+        admitted =
+            refl;
+      };
+      ends = record { ends_are = refl; over = refl };
+      order = (omega arith, omega arith, tt);
+      acts = record { points = update_points; last = tt };
+    },
+    tt,
+  ),
+  tt,
+)
 
 -- without a number the track may not be loose
 loose_edit_without_a_number : IsLegal (planned_updates 0xc0) device (updated 0xc0 ∷ []) → ⊥
 unfolding planned_updates updated device updates loosened part_of walk command_of
-loose_edit_without_a_number legal = let point = legal.0.0.acts.points 2 (omega arith) in true≢false (sym (point.edit_is refl))
+loose_edit_without_a_number legal = let point = legal.0.0.acts.points 2 (omega arith) in true≢false
+    (sym (point.edit_is refl))
 
 -- and it becomes loose only directly before its edit
-loosened_too_early : IsLegal (planned_updates 0xc2) device (items.Program (record { path = 1; ordinal = 1; how = Full; ends = (part_of device 1 (updates 0xc2) [] 3).ends; acts = record { after = 1; act = Loosen 0 } ∷ [] }) ∷ []) → ⊥
+loosened_too_early : IsLegal (planned_updates 0xc2) device
+    (items.Program (record {
+      path = 1;
+      ordinal = 1;
+      how = Full;
+      ends =
+          (part_of device 1 (updates 0xc2) [] 3).ends;
+      acts = record { after = 1; act = Loosen 0 } ∷ [];
+    }) ∷ []) → ⊥
 unfolding planned_updates device updates part_of walk command_of
 loosened_too_early legal = let point = legal.0.0.acts.points 1 (omega arith) in none_is_some 0 point.acts_are.1

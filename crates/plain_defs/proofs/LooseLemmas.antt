@@ -1,5 +1,5 @@
 -- A device without data of cache fast write.
-use Rattle.std.proofs.Common.{◌≡◌, ℕ, zero, suc, List, [], ◌∷◌, Option, Some, None, Bool, true, false, refl, sym, ap, subst, ◌∙◌}
+use Rattle.std.proofs.Common.{◌≡◌, ℕ, zero, suc, List, [], Option, Some, None, refl, sym, ap, ◌∙◌}
 use Rattle.std.proofs.lemmas.Bool.{true≢false}
 use Rattle.ckd_types.specs.declared.channel.Ccw.{Ccw}
 use Rattle.ckd_rules.specs.declared.stance.Stance.{Stance}
@@ -12,7 +12,8 @@ use Rattle.plain_defs.proofs.PartLemmas.{acted_nothing}
 
 -- nothing is loose there, so everything may be edited
 pub may_edit : (s : PlainState) (z : Stance) (edit : Option TrackEdit) → s.loose ≡ [] → MayEdit s z edit
-may_edit s z (Some e) none = λ loose. absurd (true≢false (sym loose ∙ ap (λ (l : List LooseTrack). is_loose_in l e.track) none))
+may_edit s z (Some e) none = λ loose. absurd (true≢false
+    (sym loose ∙ ap (λ (l : List LooseTrack). is_loose_in l e.track) none))
 may_edit s z None none = tt
 
 module _ (path : ℕ) (ccws : List Ccw) where
@@ -26,4 +27,5 @@ module _ (path : ℕ) (ccws : List Ccw) where
   part_loose state zero = ap (λ (p : Part). p.state.loose) (acted_nothing [] (first_part state path ccws) refl)
   part_loose state (suc k) =
       let p = part_of state path ccws [] k in
-      ap (λ (q : Part). q.state.loose) (acted_nothing [] (stepped path ccws p) refl) ∙ stepped_loose p p.next ∙ part_loose state k
+      ap (λ (q : Part). q.state.loose) (acted_nothing [] (stepped path ccws p) refl) ∙ stepped_loose p p.next
+      ∙ part_loose state k

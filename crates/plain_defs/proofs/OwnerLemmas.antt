@@ -48,7 +48,7 @@ use Rattle.plain_defs.specs.declared.journal.Act.{Act}
 use Rattle.plain_defs.specs.declared.journal.Act.TheVariants.{Loosen, Harden, CfwLost}
 use Rattle.plain_defs.specs.declared.journal.Acted.{Acted}
 use Rattle.plain_defs.specs.Loose.{act_done}
-use Rattle.plain_defs.specs.PlainState.{PathsState, PlainState, fixed_of, with_sense}
+use Rattle.plain_defs.specs.PlainState.{PathsState, PlainState, with_sense}
 use Rattle.plain_defs.specs.Program.{Part, starts_with_sense, first_part, acts_at, with_act, with_acts, acted_at, acted, stepped_at, stepped, part_of}
 
 -- of the device it asks nothing but sense and sense ID
@@ -73,7 +73,8 @@ abbrev pub OkQuiet : Result Order Sense → Type 0
 OkQuiet (Ok order) = IsQuietOrder order
 OkQuiet (Err sense) = ⊤
 
-effect_owner : (device : Fixed) (paths : PathsState) (tracks : ℕ → Track) (path : ℕ) (start : Stance) (c : Ccw) (s : Stance) (how : Opening) → AsksSense how
+effect_owner : (device : Fixed) (paths : PathsState) (tracks : ℕ → Track) (path : ℕ) (start : Stance) (c : Ccw)
+    (s : Stance) (how : Opening) → AsksSense how
     → (effect_by device paths tracks path start c s how).paths.owner ≡ paths.owner
 effect_owner device paths tracks path start c s (openings.Over e) quiet = refl
 effect_owner device paths tracks path start c s (openings.Looks look) quiet = refl
@@ -135,7 +136,8 @@ module _ (f : Fixed) (s : Stance) (c : Ccw) where
   decoded_quiet (commands.Write w) built = tt
   decoded_quiet (commands.Device d) built = device_quiet d built
 
-  placed_quiet : (order : Order) (good : Bool) → IsQuietOrder order → OkQuiet (cond good (Ok order) (Err file_protected_sense))
+  placed_quiet : (order : Order) (good : Bool) → IsQuietOrder order
+      → OkQuiet (cond good (Ok order) (Err file_protected_sense))
   placed_quiet order true quiet = quiet
   placed_quiet order false quiet = tt
 
@@ -143,12 +145,14 @@ module _ (f : Fixed) (s : Stance) (c : Ccw) where
   masked_quiet order (Some sense) quiet = tt
   masked_quiet order None quiet = placed_quiet order (is_within s.extent (first_track s order)) quiet
 
-  permitted_quiet : (command : Command) (order : Option Order) → IfQuiet order → OkQuiet (permitted_order s command order)
+  permitted_quiet : (command : Command) (order : Option Order) → IfQuiet order
+      → OkQuiet (permitted_order s command order)
   permitted_quiet command (Some order) quiet = masked_quiet order (mask_fault s.mask command) quiet
   permitted_quiet command None quiet = tt
 
   -- behind two tests
-  tested_quiet : (a b : Bool) (x y : Sense) (r : Result Order Sense) → OkQuiet r → OkQuiet (cond a (Err x) (cond b (Err y) r))
+  tested_quiet : (a b : Bool) (x y : Sense) (r : Result Order Sense) → OkQuiet r
+      → OkQuiet (cond a (Err x) (cond b (Err y) r))
   tested_quiet true b x y r quiet = tt
   tested_quiet false true x y r quiet = tt
   tested_quiet false false x y r quiet = quiet
@@ -156,7 +160,9 @@ module _ (f : Fixed) (s : Stance) (c : Ccw) where
   order_quiet : (found : Option Command) → is_built found ≡ true → OkQuiet (order_by f s c found)
   order_quiet None built = tt
   order_quiet (Some command) built =
-      tested_quiet (not (is_in_sequence s s.domain command)) (nat_lt c.count (required_count command)) (reject_sense 2) (reject_sense 3) (permitted_order s command (decoded f s c command)) (permitted_quiet command (decoded f s c command) (decoded_quiet command built))
+      tested_quiet (not (is_in_sequence s s.domain command)) (nat_lt c.count (required_count command)) (reject_sense 2)
+      (reject_sense 3) (permitted_order s command (decoded f s c command))
+      (permitted_quiet command (decoded f s c command) (decoded_quiet command built))
 
   moved_quiet : (look : Look) (track : Result ℕ Sense) → AsksSense (moved s c look track).opening
   moved_quiet look (Ok t) = tt
@@ -211,8 +217,10 @@ module _ (f : Fixed) (s : Stance) (c : Ccw) where
   pub opening_quiet : IsBuilt c → AsksSense (opening_of f s c).opening
   opening_quiet built = opened_quiet (order_of f s c) (order_quiet (command_of c.command) built)
 
-pub command_owner : (device : Fixed) (paths : PathsState) (tracks : ℕ → Track) (path : ℕ) (s : Stance) (c : Ccw) → IsBuilt c → (command_effect device paths tracks path s c).paths.owner ≡ paths.owner
-command_owner device paths tracks path s c built = effect_owner device paths tracks path s c (opening_of device s c).stance (opening_of device s c).opening (opening_quiet device s c built)
+pub command_owner : (device : Fixed) (paths : PathsState) (tracks : ℕ → Track) (path : ℕ) (s : Stance) (c : Ccw)
+    → IsBuilt c → (command_effect device paths tracks path s c).paths.owner ≡ paths.owner
+command_owner device paths tracks path s c built = effect_owner device paths tracks path s c
+    (opening_of device s c).stance (opening_of device s c).opening (opening_quiet device s c built)
 
 -- past the end of a program stands no command
 nothing_built : IsBuilt no_ccw
@@ -225,7 +233,8 @@ built_at ccws built i = by_place (cases_lt i (length ccws)) where
   by_place (inl inside) = All-get_or IsBuilt ccws i no_ccw inside built
   by_place (inr outside) = subst IsBuilt (sym (get_or_past ccws i no_ccw outside)) nothing_built
 
-begun_by : (b : Bool) (paths : PathsState) (path : ℕ) → (cond b paths (with_sense paths path (Some zero_sense))).owner ≡ paths.owner
+begun_by : (b : Bool) (paths : PathsState) (path : ℕ) → (cond b paths (with_sense paths path (Some zero_sense))).owner
+    ≡ paths.owner
 begun_by true paths path = refl
 begun_by false paths path = refl
 
@@ -244,7 +253,8 @@ acted_at_paths acts p None = refl
 
 module _ (path : ℕ) (ccws : List Ccw) (acts : List Acted) (built : All IsBuilt ccws) where
   stepped_owner : (p : Part) (next : Option ℕ) → (stepped_at path ccws p next).state.paths.owner ≡ p.state.paths.owner
-  stepped_owner p (Some i) = command_owner p.fixed p.state.paths (track_in p.state.volume) path p.stance (ccw_at ccws i) (built_at ccws built i)
+  stepped_owner p (Some i) = command_owner p.fixed p.state.paths (track_in p.state.volume) path p.stance (ccw_at ccws i)
+      (built_at ccws built i)
   stepped_owner p None = refl
 
   acted_owner : (p : Part) → (acted acts p).state.paths.owner ≡ p.state.paths.owner

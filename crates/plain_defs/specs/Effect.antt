@@ -27,7 +27,13 @@ pub record Effect : Type 0 where
 
 -- the path keeps the sense
 abbrev pub kept_by : PathsState → ℕ → Walked → Effect
-kept_by paths path w = record { outcome = w.outcome; touched = w.touched; edit = w.edit; paths = with_sense paths path w.outcome.ending.sense }
+kept_by paths path w = record {
+  outcome = w.outcome;
+  touched = w.touched;
+  edit = w.edit;
+  paths =
+      with_sense paths path w.outcome.ending.sense;
+}
 
 -- a command that began at a stance looks at tracks, from the one of another stance on
 abbrev pub looked : Fixed → (ℕ → Track) → Stance → Ccw → Look → Stance → Walked
@@ -36,20 +42,29 @@ looked device tracks start c look s = walk (device.cylinders * 15) device.geomet
 -- an act that the device refuses is reject message 4
 abbrev pub acted_by : Fixed → PathsState → ℕ → Stance → Ccw → LocalAct → Option GroupFault → Effect
 acted_by device paths path s c act (Some fault) = kept_by paths path (untouched (refused s c (reject_sense 4)))
-acted_by device paths path s c act None = record { outcome = act_outcome s c (act_bytes device.geometry paths path act) act; touched = []; edit = None; paths = paths_after paths path act }
+acted_by device paths path s c act None = record {
+  outcome =
+      act_outcome s c (act_bytes device.geometry paths path act) act;
+  touched = [];
+  edit = None;
+  paths =
+      paths_after paths path act;
+}
 
 abbrev pub acted : Fixed → PathsState → ℕ → Stance → Ccw → LocalAct → Effect
 acted device paths path s c act = acted_by device paths path s c act (act_fault paths path act)
 
 -- a command that has begun, with the stance that it has then
 abbrev pub effect_by : Fixed → PathsState → (ℕ → Track) → ℕ → Stance → Ccw → Stance → Opening → Effect
-effect_by device paths tracks path start c s (Over e) = kept_by paths path (untouched (record { stance = s; ending = e }))
+effect_by device paths tracks path start c s (Over e) =
+    kept_by paths path (untouched (record { stance = s; ending = e }))
 effect_by device paths tracks path start c s (Looks look) = kept_by paths path (looked device tracks start c look s)
 effect_by device paths tracks path start c s (Asks act) = acted device paths path start c act
 
 -- the whole effect of one command of a path, where each track is what it is
 abbrev pub command_effect : Fixed → PathsState → (ℕ → Track) → ℕ → Stance → Ccw → Effect
-command_effect device paths tracks path s c = effect_by device paths tracks path s c (opening_of device s c).stance (opening_of device s c).opening
+command_effect device paths tracks path s c = effect_by device paths tracks path s c (opening_of device s c).stance
+    (opening_of device s c).opening
 
 -- on a plain device, of a program that goes by what the device was when it began
 abbrev pub effect_on : Fixed → PlainState → ℕ → Stance → Ccw → Effect

@@ -1,6 +1,5 @@
 -- What a device has of its past between two events, and what each event makes of it.
-use Rattle.std.specs.Prelude.{◌≡◌, ℕ, ◌+◌, ◌==◌, ◌<◌, ◌||◌, ◌&&◌, nat_lt, Bool, true, false, List, [], ◌∷◌, ◌++◌, length, IsSome, IfSome, Option, Some, None, if◌then◌else◌}
-use Rattle.ckd_types.specs.declared.channel.Ccw.{Ccw}
+use Rattle.std.specs.Prelude.{◌≡◌, ℕ, ◌+◌, ◌==◌, ◌||◌, nat_lt, Bool, false, List, [], ◌∷◌, ◌++◌, length, IsSome, IfSome, Option, Some, None, if◌then◌else◌}
 use Rattle.ckd_types.specs.declared.channel.CommandEnd.{CommandEnd}
 use Rattle.plain_defs.specs.declared.journal.Act.{Act}
 use Rattle.plain_defs.specs.declared.journal.Acted.{Acted}
@@ -78,20 +77,29 @@ put path (p ∷ paths) = if path == p then p ∷ paths else if nat_lt path p the
 
 -- the reset of the running program's path cuts it; of so many commands more than ended it took the effect
 abbrev pub cut_by : History → OpenEntry → ℕ → History
-cut_by h o more = record { items = h.items ++ entry_of o (Cut (length o.ends + more)) ∷ items.Reset o.path ∷ resets_of h.waiting; running = None; waiting = [] }
+cut_by h o more = record {
+  items = h.items ++ entry_of o (Cut (length o.ends + more)) ∷ items.Reset o.path
+      ∷ resets_of h.waiting;
+  running = None;
+  waiting = [];
+}
 
 abbrev pub reset_in : History → ℕ → ℕ → Option OpenEntry → History
 reset_in h path more (Some o) =
     if o.path == path then cut_by h o more
     else if is_used path false h.items then record h { waiting = put path h.waiting } else h
-reset_in h path more None = if is_used path false h.items then record h { items = h.items ++ items.Reset path ∷ [] } else h
+reset_in h path more None = if is_used path false h.items then record h { items = h.items ++ items.Reset path ∷ [] }
+    else h
 
 -- a path is reset. More: 1 where a half write of the running program's command is open, else 0
 abbrev pub reset : History → ℕ → ℕ → History
 reset h path more = reset_in h path more h.running
 
 abbrev pub acted_in : History → Act → Option OpenEntry → History
-acted_in h act (Some o) = record h { running = Some (record o { acts = o.acts ++ record { after = length o.ends; act = act } ∷ [] }) }
+acted_in h act (Some o) = record h {
+  running = Some (record o
+      { acts = o.acts ++ record { after = length o.ends; act = act } ∷ [] });
+}
 acted_in h act None = record h { items = h.items ++ items.Act act ∷ [] }
 
 -- an act while a program runs stands in its entry; any other is an item
@@ -99,8 +107,14 @@ abbrev pub acted : History → Act → History
 acted h act = acted_in h act h.running
 
 abbrev pub lost_power_in : History → ℕ → Option OpenEntry → History
-lost_power_in h more (Some o) = record { items = h.items ++ entry_of o (Cut (length o.ends + more)) ∷ items.Power ∷ []; running = None; waiting = [] }
-lost_power_in h more None = if is_started false h.items then record { items = h.items ++ items.Power ∷ []; running = None; waiting = [] } else h
+lost_power_in h more (Some o) = record {
+  items = h.items ++ entry_of o (Cut (length o.ends + more)) ∷ items.Power
+      ∷ [];
+  running = None;
+  waiting = [];
+}
+lost_power_in h more None = if is_started false h.items then
+    record { items = h.items ++ items.Power ∷ []; running = None; waiting = [] } else h
 
 -- the power is lost: the running program is cut, and the resets that waited are dropped
 abbrev pub lost_power : History → ℕ → History

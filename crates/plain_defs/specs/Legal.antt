@@ -66,8 +66,10 @@ bare_part state path ccws acts (suc k) = stepped path ccws (part_of state path c
 
 -- the acts behind k commands, of a program of which more commands took effect
 pub record IsPoint (state : PlainState) (path : ℕ) (ccws : List Ccw) (acts : List Acted) (k : ℕ) : Type 0 where
-  pub acts_are : AreActs (bare_part state path ccws acts k).state (track_of (next_edit path ccws (part_of state path ccws acts k))) (acts_at acts k)
-  pub edit_is : MayEdit (part_of state path ccws acts k).state (part_of state path ccws acts k).stance (next_edit path ccws (part_of state path ccws acts k))
+  pub acts_are : AreActs (bare_part state path ccws acts k).state
+      (track_of (next_edit path ccws (part_of state path ccws acts k))) (acts_at acts k)
+  pub edit_is : MayEdit (part_of state path ccws acts k).state (part_of state path ccws acts k).stance
+      (next_edit path ccws (part_of state path ccws acts k))
 
 -- the acts of a program of which k commands took effect
 pub record HasActs (state : PlainState) (path : ℕ) (ccws : List Ccw) (acts : List Acted) (k : ℕ) : Type 0 where
@@ -113,7 +115,8 @@ pub record EndsFull (p : Part) (ends : List CommandEnd) : Type 0 where
 abbrev pub HasEnds : Plans → PlainState → ProgramEntry → How → Type 0
 HasEnds plans state e Full = EndsFull (entry_part plans state e (length e.ends)) e.ends
 HasEnds plans state e (Cut effect) = EndsCut (entry_part plans state e (length e.ends)) effect e.ends
-HasEnds plans state e Checked = EndsChecked (entry_part plans state e (length e.ends - 1)) (program_of plans e.path e.ordinal) e.ends
+HasEnds plans state e Checked = EndsChecked (entry_part plans state e (length e.ends - 1))
+    (program_of plans e.path e.ordinal) e.ends
 
 -- Items
 
@@ -172,7 +175,8 @@ is_started started (x ∷ xs) = is_started (started_by started x) xs
 
 -- a reset of a path that wasn't used, and a power loss before the first start, are no items; a track becomes loose only within a program
 abbrev pub IsLegalItem : Plans → PlainState → List Item → Item → List Item → Type 0
-IsLegalItem plans state earlier (items.Program e) later = IsLegalEntry plans state earlier e × FollowsCut e.how e.path later
+IsLegalItem plans state earlier (items.Program e) later =
+    IsLegalEntry plans state earlier e × FollowsCut e.how e.path later
 IsLegalItem plans state earlier (items.Reset path) later = is_used path false earlier ≡ true
 IsLegalItem plans state earlier items.Fresh later = ⊤
 IsLegalItem plans state earlier (items.Act act) later = AreActs state None (act ∷ [])
@@ -180,7 +184,8 @@ IsLegalItem plans state earlier items.Power later = is_started false earlier ≡
 
 abbrev pub IsLegalFrom : Plans → PlainState → List Item → List Item → Type 0
 IsLegalFrom plans state earlier [] = ⊤
-IsLegalFrom plans state earlier (x ∷ xs) = IsLegalItem plans state earlier x xs × IsLegalFrom plans (replay_item plans state x) (earlier ++ x ∷ []) xs
+IsLegalFrom plans state earlier (x ∷ xs) = IsLegalItem plans state earlier x xs
+    × IsLegalFrom plans (replay_item plans state x) (earlier ++ x ∷ []) xs
 
 -- the journal is one that the plain device could have made
 abbrev pub IsLegal : Plans → PlainState → List Item → Type 0

@@ -36,10 +36,18 @@ abbrev pub next_number : ℕ → ℕ
 next_number n = if n == 65535 then 0 else n + 1
 
 abbrev pub cfw_lost : PlainState → PlainState
-cfw_lost state = record state { volume = restored state.loose state.volume; loose = []; number = next_number state.number }
+cfw_lost state = record state {
+  volume = restored state.loose state.volume;
+  loose = [];
+  number =
+      next_number state.number;
+}
 
 abbrev pub act_done : PlainState → Act → PlainState
-act_done state (Loosen t) = record state { loose = state.loose ++ record { track = t; firm = track_in state.volume t } ∷ [] }
+act_done state (Loosen t) = record state {
+  loose = state.loose ++ record { track = t; firm = track_in state.volume t }
+      ∷ [];
+}
 act_done state (Harden t) = record state { loose = without t state.loose }
 act_done state CfwLost = cfw_lost state
 

@@ -79,4 +79,9 @@ is_admitted paths path ccws =
 abbrev pub reset_path : PathsState → ℕ → PathsState
 reset_path paths path =
     let states = slice_set paths.states (path - 1) Reset in
-    record { states = states; owner = owner_after states path paths.owner; senses = slice_set paths.senses (path - 1) zero_sense }
+    record {
+      states = states;
+      owner = owner_after states path paths.owner;
+      senses =
+          slice_set paths.senses (path - 1) zero_sense;
+    }

@@ -36,7 +36,15 @@ abbrev pub begun : PathsState → ℕ → List Ccw → PathsState
 begun paths path ccws = if starts_with_sense ccws then paths else with_sense paths path (Some zero_sense)
 
 abbrev pub first_part : PlainState → ℕ → List Ccw → Part
-first_part state path ccws = record { fixed = fixed_of state; state = record state { paths = begun state.paths path ccws }; stance = first_stance; next = Some 0; ends = []; told = [] }
+first_part state path ccws = record {
+  fixed = fixed_of state;
+  state =
+      record state { paths = begun state.paths path ccws };
+  stance = first_stance;
+  next = Some 0;
+  ends = [];
+  told = [];
+}
 
 -- the acts that stand behind so many ends
 abbrev pub acts_at : List Acted → ℕ → List Act

@@ -1,6 +1,5 @@
 -- A command of the plain device that asks it.
-use Rattle.std.proofs.Common.{◌≡◌, ◌+◌, ℕ, Some, None, Option, true, false, refl, sym, ap, subst, ◌∙◌}
-use Rattle.std.specs.Prelude.{IsSome}
+use Rattle.std.proofs.Common.{◌≡◌, ◌+◌, ℕ, Some, None, Option, refl, sym, ap, subst, ◌∙◌}
 use Rattle.ckd_types.specs.declared.channel.CommandEnd.{CommandEnd}
 use Rattle.ckd_chain.specs.declared.mark.Stage.{Stage}
 use Rattle.ckd_chain.specs.declared.mark.Stage.TheVariants.{Over, Looks, Asks}
@@ -31,14 +30,18 @@ pub record AsksFor (s : ChainState) (act : LocalAct) (then_chain : ChainState) :
   pub is : s ≡ at_act s act
   pub chain : then_chain ≡ s
 
-pub asks_for : (s : ChainState) (stage : Option Stage) → s.stage ≡ stage → IsAtAnswer stage → (progress : Progress) (then_chain : ChainState) (act : LocalAct) → progress ≡ (stepped s None).progress → then_chain ≡ (stepped s None).chain
+pub asks_for : (s : ChainState) (stage : Option Stage) → s.stage ≡ stage → IsAtAnswer stage
+    → (progress : Progress) (then_chain : ChainState) (act : LocalAct) → progress ≡ (stepped s None).progress
+    → then_chain ≡ (stepped s None).chain
     → progress ≡ progresses.Local act → AsksFor s act then_chain
 asks_for s (Some Over) stage_is at progress then_chain act progress_is chain_is is =
     let here : s ≡ record s { stage = Some Over } = ap (λ (x : Option Stage). record s { stage = x }) stage_is in
-    absurd (let e : (stepped (record s { stage = Some Over }) None).progress ≡ progresses.Local act = sym (progress_is ∙ ap (λ (x : ChainState). (stepped x None).progress) here) ∙ is in cc)
+    absurd (let e : (stepped (record s { stage = Some Over }) None).progress ≡ progresses.Local act =
+    sym (progress_is ∙ ap (λ (x : ChainState). (stepped x None).progress) here) ∙ is in cc)
 asks_for s (Some (Asks a)) stage_is at progress then_chain act progress_is chain_is is =
     let here : s ≡ at_act s a = ap (λ (x : Option Stage). record s { stage = x }) stage_is in
-    let e : (stepped (at_act s a) None).progress ≡ progresses.Local act = sym (progress_is ∙ ap (λ (x : ChainState). (stepped x None).progress) here) ∙ is in
+    let e : (stepped (at_act s a) None).progress ≡ progresses.Local act =
+    sym (progress_is ∙ ap (λ (x : ChainState). (stepped x None).progress) here) ∙ is in
     let same : a ≡ act = cc in record {
       is = here ∙ ap (λ (x : LocalAct). at_act s x) same;
       chain = chain_is ∙ ap (λ (x : ChainState). (stepped x None).chain) here ∙ sym here;
@@ -47,7 +50,9 @@ asks_for s (Some (Looks look)) stage_is at progress then_chain act progress_is c
 asks_for s None stage_is at progress then_chain act progress_is chain_is is = absurd at
 
 module _ (f : Fixed) (paths : PathsState) (path : ℕ) (b : ChainState) where
-  outcome_by : (act : LocalAct) (fault : Option GroupFault) → settled_by (at_act b act) (settled_with f.geometry paths path act fault) ≡ (acted_by f paths path b.before.stance (word_of b) act fault).outcome
+  outcome_by : (act : LocalAct) (fault : Option GroupFault)
+      → settled_by (at_act b act) (settled_with f.geometry paths path act fault)
+      ≡ (acted_by f paths path b.before.stance (word_of b) act fault).outcome
   outcome_by act (Some fault) = refl
   outcome_by acts.Sense None = refl
   outcome_by acts.SenseId None = refl
@@ -58,7 +63,9 @@ module _ (f : Fixed) (paths : PathsState) (path : ℕ) (b : ChainState) where
   outcome_by acts.SenseGroup None = refl
 
   paths_by : (act : LocalAct) (fault : Option GroupFault)
-      → with_sense (paths_with paths path act fault) path (acted_by f paths path b.before.stance (word_of b) act fault).outcome.ending.sense ≡ (acted_by f paths path b.before.stance (word_of b) act fault).paths
+      → with_sense (paths_with paths path act fault) path
+      (acted_by f paths path b.before.stance (word_of b) act fault).outcome.ending.sense
+      ≡ (acted_by f paths path b.before.stance (word_of b) act fault).paths
   paths_by act (Some fault) = refl
   paths_by acts.Sense None = refl
   paths_by acts.SenseId None = refl
@@ -68,11 +75,13 @@ module _ (f : Fixed) (paths : PathsState) (path : ℕ) (b : ChainState) where
   paths_by (acts.SetGroup function id) None = refl
   paths_by acts.SenseGroup None = refl
 
-  edit_by : (act : LocalAct) (fault : Option GroupFault) → (acted_by f paths path b.before.stance (word_of b) act fault).edit ≡ None
+  edit_by : (act : LocalAct) (fault : Option GroupFault)
+      → (acted_by f paths path b.before.stance (word_of b) act fault).edit ≡ None
   edit_by act (Some fault) = refl
   edit_by act None = refl
 
-  may_by : (act : LocalAct) (fault : Option GroupFault) → act_fault paths path act ≡ fault → MaySettle (at_act b act) (settled_with f.geometry paths path act fault)
+  may_by : (act : LocalAct) (fault : Option GroupFault) → act_fault paths path act ≡ fault
+      → MaySettle (at_act b act) (settled_with f.geometry paths path act fault)
   may_by (acts.SetGroup function id) (Some fault) is = refl
   may_by acts.Sense (Some fault) is = absurd (cc)
   may_by acts.SenseId (Some fault) is = absurd (cc)
@@ -93,36 +102,53 @@ module _ (d : PlainState) (path : ℕ) where
   abbrev act_effect : ChainState → LocalAct → Effect
   act_effect s act = acted (fixed_with d s.fixed.number) d.paths path (start_of s).stance (word_of s) act
 
-  star_answered : (b : ChainState) (act : LocalAct) (last : ChainState) (how : Settled) (middle : PathsState) (after : PlainState) (e : CommandEnd) → how ≡ settled_act d.geometry d.paths path act → middle ≡ paths_behind d.paths path act
-      → e ≡ end_with (at_act b act) (settled_by (at_act b act) how) → last ≡ behind (at_act b act) (settled_by (at_act b act) how) → after ≡ record d { paths = with_sense middle path e.sense }
-      → last.at.stance.commands ≡ b.before.stance.commands + 1 → EndsBy d after (at_act b act) last e (act_effect (at_act b act) act)
+  star_answered : (b : ChainState) (act : LocalAct) (last : ChainState) (how : Settled) (middle : PathsState)
+      (after : PlainState) (e : CommandEnd) → how ≡ settled_act d.geometry d.paths path act
+      → middle ≡ paths_behind d.paths path act
+      → e ≡ end_with (at_act b act) (settled_by (at_act b act) how)
+      → last ≡ behind (at_act b act) (settled_by (at_act b act) how)
+      → after ≡ record d { paths = with_sense middle path e.sense }
+      → last.at.stance.commands ≡ b.before.stance.commands + 1
+      → EndsBy d after (at_act b act) last e (act_effect (at_act b act) act)
   star_answered b act last how middle after e how_is middle_is end_is last_is after_is counted =
       let f = fixed_with d b.fixed.number in
       let fault = act_fault d.paths path act in
       let made = acted f d.paths path b.before.stance (word_of b) act in
-      let out : settled_by (at_act b act) how ≡ made.outcome = ap (λ (x : Settled). settled_by (at_act b act) x) how_is ∙ outcome_by f d.paths path b act fault in
-      let ends : e ≡ end_with (at_act b act) made.outcome = end_is ∙ ap (λ (o : Outcome). end_with (at_act b act) o) out in record {
+      let out : settled_by (at_act b act) how ≡ made.outcome =
+      ap (λ (x : Settled). settled_by (at_act b act) x) how_is ∙ outcome_by f d.paths path b act fault in
+      let ends : e ≡ end_with (at_act b act) made.outcome =
+      end_is ∙ ap (λ (o : Outcome). end_with (at_act b act) o) out in record {
         end_is = ends;
         device_is =
             after_is
             ∙ ap (λ (x : PathsState). record d { paths = with_sense x path e.sense }) middle_is
             ∙ ap (λ (x : CommandEnd). record d { paths = with_sense (paths_behind d.paths path act) path x.sense }) ends
             ∙ ap (λ (x : PathsState). record d { paths = x }) (paths_by f d.paths path b act fault)
-            ∙ ap (λ (x : Option TrackEdit). record d { volume = edited_volume d.volume x; paths = made.paths }) (sym (edit_by f d.paths path b act fault));
+            ∙ ap (λ (x : Option TrackEdit). record d { volume = edited_volume d.volume x; paths = made.paths })
+            (sym (edit_by f d.paths path b act fault));
         chain_is = last_is ∙ ap (λ (o : Outcome). behind (at_act b act) o) out;
         counted = counted;
       }
 
-  pub may_settle : (s then_chain : ChainState) (act : LocalAct) (how : Settled) → AsksFor s act then_chain → how ≡ settled_act d.geometry d.paths path act → MaySettle then_chain how
+  pub may_settle : (s then_chain : ChainState) (act : LocalAct) (how : Settled) → AsksFor s act then_chain
+      → how ≡ settled_act d.geometry d.paths path act → MaySettle then_chain how
   may_settle s then_chain act how asks how_is =
       subst (λ (x : ChainState). MaySettle x how) (sym (asks.chain ∙ asks.is))
-      (subst (λ (h : Settled). MaySettle (at_act s act) h) (sym how_is) (may_by (fixed_with d 0) d.paths path s act (act_fault d.paths path act) refl))
+      (subst (λ (h : Settled). MaySettle (at_act s act) h) (sym how_is)
+      (may_by (fixed_with d 0) d.paths path s act (act_fault d.paths path act) refl))
 
-  pub answered_ends : (s then_chain : ChainState) (act : LocalAct) → AsksFor s act then_chain → (last : ChainState) (how : Settled) (middle : PathsState) (after : PlainState) (e : CommandEnd) → how ≡ settled_act d.geometry d.paths path act
-      → middle ≡ paths_behind d.paths path act → e ≡ end_with then_chain (settled_by then_chain how) → last ≡ behind then_chain (settled_by then_chain how) → after ≡ record d { paths = with_sense middle path e.sense }
-      → last.at.stance.commands ≡ (start_of then_chain).stance.commands + 1 → EndsBy d after s last e (stage_effect d path s s.stage)
+  pub answered_ends : (s then_chain : ChainState) (act : LocalAct) → AsksFor s act then_chain
+      → (last : ChainState) (how : Settled) (middle : PathsState) (after : PlainState) (e : CommandEnd)
+      → how ≡ settled_act d.geometry d.paths path act
+      → middle ≡ paths_behind d.paths path act → e ≡ end_with then_chain (settled_by then_chain how)
+      → last ≡ behind then_chain (settled_by then_chain how)
+      → after ≡ record d { paths = with_sense middle path e.sense }
+      → last.at.stance.commands ≡ (start_of then_chain).stance.commands + 1
+      → EndsBy d after s last e (stage_effect d path s s.stage)
   answered_ends s then_chain act asks last how middle after e how_is middle_is end_is last_is after_is counted =
       let here : then_chain ≡ at_act s act = asks.chain ∙ asks.is in
       subst (λ (x : ChainState). EndsBy d after x last e (stage_effect d path x x.stage)) (sym asks.is)
-      (star_answered s act last how middle after e how_is middle_is (end_is ∙ ap (λ (x : ChainState). end_with x (settled_by x how)) here) (last_is ∙ ap (λ (x : ChainState). behind x (settled_by x how)) here) after_is
+      (star_answered s act last how middle after e how_is middle_is
+      (end_is ∙ ap (λ (x : ChainState). end_with x (settled_by x how)) here)
+      (last_is ∙ ap (λ (x : ChainState). behind x (settled_by x how)) here) after_is
       (counted ∙ ap (λ (x : ChainState). (start_of x).stance.commands + 1) here))

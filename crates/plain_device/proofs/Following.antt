@@ -1,11 +1,9 @@
 -- A command of the plain device that goes from track to track.
-use Rattle.std.proofs.Common.{◌≡◌, ◌+◌, ◌-◌, ◌*◌, ◌<◌, ◌≤◌, ℕ, suc, zero, length, Some, None, Option, refl, sym, ap, subst, ◌∙◌, arith}
+use Rattle.std.proofs.Common.{◌≡◌, ◌+◌, ◌-◌, ◌*◌, ◌<◌, ◌≤◌, ℕ, suc, Option, refl, sym, ap, subst, ◌∙◌, arith}
 use Rattle.std.specs.Prelude.{IsSome}
 use Rattle.ckd_types.specs.declared.channel.CommandEnd.{CommandEnd}
-use Rattle.ckd_types.specs.Fixed.{Fixed}
 use Rattle.ckd_types.specs.Sense.{equipment_sense}
 use Rattle.ckd_chain.specs.declared.mark.Mark.{Mark}
-use Rattle.ckd_chain.specs.declared.mark.Stage.{Stage}
 use Rattle.ckd_chain.specs.State.{ChainState}
 use Rattle.ckd_chain.specs.Steps.{start_of, standing, behind, end_with, checked}
 use Rattle.ckd_rules.specs.declared.stance.Stance.{Stance}
@@ -15,7 +13,7 @@ use Rattle.plain_defs.specs.Effect.{edited_volume, kept_by, behind_effect}
 use Rattle.plain_defs.specs.PlainState.{PlainState, with_sense}
 use Rattle.plain_device.specs.Between.{EndsBy, fixed_with}
 use Rattle.plain_device.specs.Looking.{IsLooking, IsAtLook, walk_of, IsSameWalk, GoesTo}
-use Rattle.plain_device.proofs.Looks.{HasLook, has_look, at_look}
+use Rattle.plain_device.proofs.Looks.{HasLook, has_look}
 
 -- what is left of the command comes to what all of it comes to
 pub record IsFollowing (d : PlainState) (s now : ChainState) (track k : ℕ) : Type 0 where
@@ -25,12 +23,17 @@ pub record IsFollowing (d : PlainState) (s now : ChainState) (track k : ℕ) : T
   pub track_is : track ≡ now.at.stance.track
   pub on_device : track < d.cylinders * 15
 
-pub following_first : (d : PlainState) (s : ChainState) (track : ℕ) → IsLooking d s → track ≡ s.at.stance.track → track < d.cylinders * 15 → IsFollowing d s s track 0
+pub following_first : (d : PlainState) (s : ChainState) (track : ℕ) → IsLooking d s → track ≡ s.at.stance.track
+    → track < d.cylinders * 15 → IsFollowing d s s track 0
 following_first d s track looking at inside =
     let all : (d.cylinders * 15) ≡ (d.cylinders * 15) - 0 = omega arith in record {
       looking = looking;
       stands = refl;
-      rest = record { outcome = ap (λ (n : ℕ). (walk_of d s n).outcome) all; edit = ap (λ (n : ℕ). (walk_of d s n).edit) all };
+      rest = record {
+        outcome = ap (λ (n : ℕ). (walk_of d s n).outcome) all;
+        edit =
+            ap (λ (n : ℕ). (walk_of d s n).edit) all;
+      };
       track_is = at;
       on_device = inside;
     }
@@ -40,12 +43,14 @@ starts_standing s at z =
     let l : HasLook s = has_look s s.stage refl at in
     subst (λ (x : ChainState). start_of (standing x z) ≡ start_of x) (sym l.is) refl
 
-behind_standing : (s : ChainState) → IsAtLook s.stage → (z : Stance) (o : Outcome) → behind (standing s z) o ≡ behind s o
+behind_standing : (s : ChainState) → IsAtLook s.stage → (z : Stance) (o : Outcome)
+    → behind (standing s z) o ≡ behind s o
 behind_standing s at z o =
     let l : HasLook s = has_look s s.stage refl at in
     subst (λ (x : ChainState). behind (standing x z) o ≡ behind x o) (sym l.is) refl
 
-nothing_left : (d : PlainState) (s : ChainState) → IsAtLook s.stage → walk_of d s 0 ≡ untouched (checked s equipment_sense)
+nothing_left : (d : PlainState) (s : ChainState) → IsAtLook s.stage
+    → walk_of d s 0 ≡ untouched (checked s equipment_sense)
 unfolding walk
 nothing_left d s at =
     let l : HasLook s = has_look s s.stage refl at in
@@ -53,7 +58,8 @@ nothing_left d s at =
 
 module _ (d : PlainState) (s now : ChainState) (track k : ℕ) (f : IsFollowing d s now track k) (path : ℕ) where
   -- how what is left ends is how all of it ends
-  ends_all : (after : PlainState) (then_chain : ChainState) (end : CommandEnd) → IsAtLook s.stage → EndsBy d after now then_chain end (kept_by d.paths path (walk_of d now ((d.cylinders * 15) - k)))
+  ends_all : (after : PlainState) (then_chain : ChainState) (end : CommandEnd) → IsAtLook s.stage
+      → EndsBy d after now then_chain end (kept_by d.paths path (walk_of d now ((d.cylinders * 15) - k)))
       → EndsBy d after s then_chain end (kept_by d.paths path (walk_of d s (d.cylinders * 15)))
   ends_all after then_chain end at e = record {
     end_is =
@@ -62,29 +68,44 @@ module _ (d : PlainState) (s now : ChainState) (track k : ℕ) (f : IsFollowing 
         ∙ ap (λ (o : Outcome). end_with s o) (sym f.rest.outcome);
     device_is =
         e.device_is
-        ∙ ap (λ (x : Option TrackEdit). record d { volume = edited_volume d.volume x; paths = with_sense d.paths path (walk_of d now ((d.cylinders * 15) - k)).outcome.ending.sense }) (sym f.rest.edit)
-        ∙ ap (λ (o : Outcome). record d { volume = edited_volume d.volume (walk_of d s (d.cylinders * 15)).edit; paths = with_sense d.paths path o.ending.sense }) (sym f.rest.outcome);
+        ∙ ap (λ (x : Option TrackEdit). record d {
+          volume = edited_volume d.volume x;
+          paths =
+              with_sense d.paths path (walk_of d now ((d.cylinders * 15) - k)).outcome.ending.sense;
+        }) (sym f.rest.edit)
+        ∙ ap (λ (o : Outcome). record d {
+          volume = edited_volume d.volume (walk_of d s (d.cylinders * 15)).edit;
+          paths =
+              with_sense d.paths path o.ending.sense;
+        }) (sym f.rest.outcome);
     chain_is =
         e.chain_is
         ∙ ap (λ (x : ChainState). behind x (walk_of d now ((d.cylinders * 15) - k)).outcome) f.stands
         ∙ behind_standing s at now.at.stance (walk_of d now ((d.cylinders * 15) - k)).outcome
         ∙ ap (λ (o : Outcome). behind s o) (sym f.rest.outcome);
-    counted = e.counted ∙ ap (λ (x : ChainState). (start_of x).stance.commands + 1) f.stands ∙ ap (λ (m : Mark). m.stance.commands + 1) (starts_standing s at now.at.stance);
+    counted = e.counted ∙ ap (λ (x : ChainState). (start_of x).stance.commands + 1) f.stands
+        ∙ ap (λ (m : Mark). m.stance.commands + 1) (starts_standing s at now.at.stance);
   }
 
   left : k < (d.cylinders * 15) → (d.cylinders * 15) - k ≡ suc ((d.cylinders * 15) - (k + 1))
   left more = omega (arith, more)
 
-  pub following_over : (after : PlainState) (then_chain : ChainState) (end : CommandEnd) → IsAtLook s.stage → k < (d.cylinders * 15)
-      → ((n : ℕ) → EndsBy d after now then_chain end (kept_by d.paths path (walk_of d now (suc n)))) → EndsBy d after s then_chain end (kept_by d.paths path (walk_of d s (d.cylinders * 15)))
+  pub following_over : (after : PlainState) (then_chain : ChainState) (end : CommandEnd) → IsAtLook s.stage
+      → k < (d.cylinders * 15)
+      → ((n : ℕ) → EndsBy d after now then_chain end (kept_by d.paths path (walk_of d now (suc n))))
+      → EndsBy d after s then_chain end (kept_by d.paths path (walk_of d s (d.cylinders * 15)))
   following_over after then_chain end at more e =
-      ends_all after then_chain end at (subst (λ (n : ℕ). EndsBy d after now then_chain end (kept_by d.paths path (walk_of d now n))) (sym (left more)) (e ((d.cylinders * 15) - (k + 1))))
+      ends_all after then_chain end at (subst (λ (n : ℕ). EndsBy d after now then_chain end
+      (kept_by d.paths path (walk_of d now n))) (sym (left more)) (e ((d.cylinders * 15) - (k + 1))))
 
-  pub following_on : (after : PlainState) (then_chain : ChainState) (t : ℕ) → k < (d.cylinders * 15) → GoesTo d after now then_chain t → IsFollowing d s then_chain t (k + 1)
+  pub following_on : (after : PlainState) (then_chain : ChainState) (t : ℕ) → k < (d.cylinders * 15)
+      → GoesTo d after now then_chain t → IsFollowing d s then_chain t (k + 1)
   following_on after then_chain t more g =
       let rest = g.rest ((d.cylinders * 15) - (k + 1)) in record {
         looking = record {
-          fixed = subst (λ (n : ℕ). then_chain.fixed ≡ fixed_with d n) (ap (λ (x : ChainState). x.fixed.number) (sym g.chain_is)) (ap (λ (x : ChainState). x.fixed) g.chain_is ∙ f.looking.fixed);
+          fixed = subst (λ (n : ℕ). then_chain.fixed ≡ fixed_with d n)
+              (ap (λ (x : ChainState). x.fixed.number) (sym g.chain_is))
+              (ap (λ (x : ChainState). x.fixed) g.chain_is ∙ f.looking.fixed);
           stage = subst (λ (x : ChainState). IsAtLook x.stage) (sym g.chain_is) f.looking.stage;
           running = subst (λ (x : ChainState). IsSome x.at.next) (sym g.chain_is) f.looking.running;
         };
@@ -98,14 +119,20 @@ module _ (d : PlainState) (s now : ChainState) (track k : ℕ) (f : IsFollowing 
       }
 
   -- no track is left to look at
-  pub following_none : (after : PlainState) (last : ChainState) (end : CommandEnd) → IsAtLook s.stage → (d.cylinders * 15) ≤ k → end ≡ end_with now (checked now equipment_sense) → last ≡ behind now (checked now equipment_sense)
-      → after ≡ record d { paths = with_sense d.paths path end.sense } → last.at.stance.commands ≡ (start_of now).stance.commands + 1 → EndsBy d after s last end (kept_by d.paths path (walk_of d s (d.cylinders * 15)))
+  pub following_none : (after : PlainState) (last : ChainState) (end : CommandEnd) → IsAtLook s.stage
+      → (d.cylinders * 15) ≤ k → end ≡ end_with now (checked now equipment_sense)
+      → last ≡ behind now (checked now equipment_sense)
+      → after ≡ record d { paths = with_sense d.paths path end.sense }
+      → last.at.stance.commands ≡ (start_of now).stance.commands + 1
+      → EndsBy d after s last end (kept_by d.paths path (walk_of d s (d.cylinders * 15)))
   following_none after last end at past end_is last_is after_is counted =
       let none : (d.cylinders * 15) - k ≡ 0 = omega (arith, past) in
-      let w : walk_of d now ((d.cylinders * 15) - k) ≡ untouched (checked now equipment_sense) = ap (λ (n : ℕ). walk_of d now n) none ∙ nothing_left d now f.looking.stage in
+      let w : walk_of d now ((d.cylinders * 15) - k) ≡ untouched (checked now equipment_sense) =
+      ap (λ (n : ℕ). walk_of d now n) none ∙ nothing_left d now f.looking.stage in
       ends_all after last end at (record {
         end_is = end_is ∙ ap (λ (x : Walked). end_with now x.outcome) (sym w);
-        device_is = after_is ∙ ap (λ (e : CommandEnd). record d { paths = with_sense d.paths path e.sense }) end_is ∙ ap (λ (x : Walked). behind_effect d (kept_by d.paths path x)) (sym w);
+        device_is = after_is ∙ ap (λ (e : CommandEnd). record d { paths = with_sense d.paths path e.sense }) end_is
+            ∙ ap (λ (x : Walked). behind_effect d (kept_by d.paths path x)) (sym w);
         chain_is = last_is ∙ ap (λ (x : Walked). behind now x.outcome) (sym w);
         counted = counted;
       })

@@ -9,3 +9,4 @@ pub mod Kept
 pub mod Acts
 pub mod Suiting
 pub mod Wholes
+pub mod LastSense

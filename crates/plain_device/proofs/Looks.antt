@@ -1,5 +1,5 @@
 -- A command of the plain device that looks at a track.
-use Rattle.std.proofs.Common.{◌≡◌, ◌+◌, ◌*◌, ◌<◌, ℕ, suc, zero, List, Some, None, Option, refl, sym, ap, subst, ◌∙◌}
+use Rattle.std.proofs.Common.{◌≡◌, ◌+◌, ◌*◌, ◌<◌, ℕ, suc, List, Some, None, Option, refl, sym, ap, subst, ◌∙◌}
 use Rattle.std.specs.Prelude.{slice_set}
 use Rattle.ckd_types.specs.declared.channel.CommandEnd.{CommandEnd}
 use Rattle.ckd_types.specs.declared.record.Edit.{Edit}
@@ -13,19 +13,17 @@ use Rattle.ckd_chain.specs.declared.progress.Progress.TheVariants as progresses
 use Rattle.ckd_chain.specs.declared.progress.Settled.TheVariants.{Written}
 use Rattle.ckd_chain.specs.State.{ChainState}
 use Rattle.ckd_chain.specs.Steps.{word_of, start_of, standing, waiting, behind, end_with, Stepped, turned_by, turned_with, stepped, settled_by}
-use Rattle.ckd_rules.specs.declared.ending.Ending.{Ending}
 use Rattle.ckd_rules.specs.declared.order.LocalAct.{LocalAct}
 use Rattle.ckd_rules.specs.declared.order.Look.{Look}
 use Rattle.ckd_rules.specs.declared.stance.Stance.{Stance}
 use Rattle.ckd_rules.specs.declared.turned.Turned.{Turned}
-use Rattle.ckd_rules.specs.Ending.{Outcome}
 use Rattle.ckd_rules.specs.Look.{look_on}
 use Rattle.ckd_rules.specs.Looked.{Looked}
 use Rattle.ckd_rules.specs.Walk.{Walked, walked, walk}
 use Rattle.plain_defs.specs.Effect.{kept_by, behind_effect}
 use Rattle.plain_defs.specs.PlainState.{PlainState, with_sense}
 use Rattle.plain_device.specs.Between.{EndsBy}
-use Rattle.plain_device.specs.Looking.{IsAtLook, walk_of, IsSameWalk, GoesTo}
+use Rattle.plain_device.specs.Looking.{IsAtLook, walk_of, GoesTo}
 use Rattle.plain_device.proofs.Turns.{CameEnded, came_ended, CameOnward, came_onward, CameEditing, came_editing, never_local}
 use Rattle.track_image.specs.Image.{Image}
 
@@ -51,77 +49,123 @@ module _ (d : PlainState) (b : ChainState) (look : Look) where
   came : Looked
   came = look_on d.geometry (track_in d.volume b.at.stance.track) b.at.stance (word_of b) look
 
-  step_is : (i : Image) → i ≡ image_for d b → stepped (at_look b look) (Some i) ≡ turned_by (at_look b look) came.stance came.turned
+  step_is : (i : Image) → i ≡ image_for d b → stepped (at_look b look) (Some i)
+      ≡ turned_by (at_look b look) came.stance came.turned
   unfolding came
-  step_is i is = ap (λ (x : Image). turned_with (at_look b look) (look_on x.geometry x.track b.at.stance (word_of b) look)) is
+  step_is i is = ap (λ (x : Image). turned_with (at_look b look)
+      (look_on x.geometry x.track b.at.stance (word_of b) look)) is
 
-  walk_more : (n : ℕ) → walk_of d (at_look b look) (suc n) ≡ walked b.at.stance.track (walk n d.geometry (track_in d.volume) b.before.stance (word_of b) look) came.stance came.turned
+  walk_more : (n : ℕ) → walk_of d (at_look b look) (suc n)
+      ≡ walked b.at.stance.track (walk n d.geometry (track_in d.volume) b.before.stance (word_of b) look) came.stance
+      came.turned
   unfolding walk came
   walk_more n = refl
 
-  module _ (i : Image) (image_is : i ≡ image_for d b) (progress : Progress) (after : ChainState) (progress_is : progress ≡ (stepped (at_look b look) (Some i)).progress) (after_is : after ≡ (stepped (at_look b look) (Some i)).chain) where
+  module _ (i : Image) (image_is : i ≡ image_for d b) (progress : Progress) (after : ChainState)
+      (progress_is : progress ≡ (stepped (at_look b look) (Some i)).progress)
+      (after_is : after ≡ (stepped (at_look b look) (Some i)).chain) where
     turned_is : (p : Progress) → progress ≡ p → (turned_by (at_look b look) came.stance came.turned).progress ≡ p
     turned_is p is = ap (λ (x : Stepped). x.progress) (sym (step_is i image_is)) ∙ sym progress_is ∙ is
 
     then_is : after ≡ (turned_by (at_look b look) came.stance came.turned).chain
     then_is = after_is ∙ ap (λ (x : Stepped). x.chain) (step_is i image_is)
 
-    star_ended : (path : ℕ) (end : CommandEnd) (device : PlainState) → progress ≡ progresses.Ended end → device ≡ record d { paths = with_sense d.paths path end.sense }
-        → after.at.stance.commands ≡ (start_of (at_look b look)).stance.commands + 1 → (n : ℕ) → EndsBy d device (at_look b look) after end (kept_by d.paths path (walk_of d (at_look b look) (suc n)))
+    star_ended : (path : ℕ) (end : CommandEnd) (device : PlainState) → progress ≡ progresses.Ended end
+        → device ≡ record d { paths = with_sense d.paths path end.sense }
+        → after.at.stance.commands ≡ (start_of (at_look b look)).stance.commands + 1 → (n : ℕ)
+        → EndsBy d device (at_look b look) after end (kept_by d.paths path (walk_of d (at_look b look) (suc n)))
     star_ended path end device is device_is counted n =
-        let c : CameEnded (at_look b look) came.stance came.turned end = came_ended (at_look b look) came.stance came.turned end (turned_is (progresses.Ended end) is) in
-        let w = walk_more n ∙ ap (λ (t : Turned). walked b.at.stance.track (walk n d.geometry (track_in d.volume) b.before.stance (word_of b) look) came.stance t) c.turned in
+        let c : CameEnded (at_look b look) came.stance came.turned end =
+        came_ended (at_look b look) came.stance came.turned end (turned_is (progresses.Ended end) is) in
+        let w = walk_more n ∙ ap (λ (t : Turned). walked b.at.stance.track
+        (walk n d.geometry (track_in d.volume) b.before.stance (word_of b) look) came.stance t) c.turned in
         record {
           end_is = c.end_is ∙ ap (λ (x : Walked). end_with (at_look b look) x.outcome) (sym w);
-          device_is = device_is ∙ ap (λ (e : CommandEnd). record d { paths = with_sense d.paths path e.sense }) c.end_is ∙ ap (λ (x : Walked). behind_effect d (kept_by d.paths path x)) (sym w);
+          device_is = device_is ∙ ap (λ (e : CommandEnd). record d { paths = with_sense d.paths path e.sense }) c.end_is
+              ∙ ap (λ (x : Walked). behind_effect d (kept_by d.paths path x)) (sym w);
           chain_is = then_is ∙ c.chain ∙ ap (λ (x : Walked). behind (at_look b look) x.outcome) (sym w);
           counted = counted;
         }
 
-    star_onward : (track : ℕ) (device : PlainState) → progress ≡ progresses.Need track → device ≡ d → track < d.cylinders * 15 → GoesTo d device (at_look b look) after track
+    star_onward : (track : ℕ) (device : PlainState) → progress ≡ progresses.Need track → device ≡ d
+        → track < d.cylinders * 15 → GoesTo d device (at_look b look) after track
     star_onward track device is device_is inside =
-        let c : CameOnward (at_look b look) came.stance came.turned track = came_onward (at_look b look) came.stance came.turned track (turned_is (progresses.Need track) is) in
+        let c : CameOnward (at_look b look) came.stance came.turned track =
+        came_onward (at_look b look) came.stance came.turned track (turned_is (progresses.Need track) is) in
         let gone : after ≡ standing (at_look b look) came.stance = then_is ∙ c.chain in record {
           device_is = device_is;
-          chain_is = gone ∙ ap (λ (z : Stance). standing (at_look b look) z) (ap (λ (s : ChainState). s.at.stance) (sym gone));
+          chain_is = gone ∙ ap (λ (z : Stance). standing (at_look b look) z)
+              (ap (λ (s : ChainState). s.at.stance) (sym gone));
           rest = λ n.
-              let w = walk_more n ∙ ap (λ (t : Turned). walked b.at.stance.track (walk n d.geometry (track_in d.volume) b.before.stance (word_of b) look) came.stance t) c.turned in record {
-                outcome = ap (λ (x : Walked). x.outcome) w ∙ ap (λ (s : ChainState). (walk_of d s n).outcome) (sym gone);
+              let w = walk_more n ∙ ap (λ (t : Turned). walked b.at.stance.track
+              (walk n d.geometry (track_in d.volume) b.before.stance (word_of b) look) came.stance t) c.turned in
+              record {
+                outcome = ap (λ (x : Walked). x.outcome) w
+                    ∙ ap (λ (s : ChainState). (walk_of d s n).outcome) (sym gone);
                 edit = ap (λ (x : Walked). x.edit) w ∙ ap (λ (s : ChainState). (walk_of d s n).edit) (sym gone);
               };
           track_is = c.track_is ∙ ap (λ (s : ChainState). s.at.stance.track) (sym gone);
           on_device = inside;
         }
 
-    star_editing : (path track : ℕ) (edit : Edit) (volume : List Track) (end : CommandEnd) (last : ChainState) (device : PlainState) → progress ≡ progresses.Write track edit
-        → volume ≡ slice_set d.volume track (apply_edit edit (track_in d.volume track)) → end ≡ end_with after (settled_by after Written) → last ≡ behind after (settled_by after Written)
-        → device ≡ record d { volume = volume; paths = with_sense d.paths path end.sense } → last.at.stance.commands ≡ (start_of after).stance.commands + 1
-        → (n : ℕ) → EndsBy d device (at_look b look) last end (kept_by d.paths path (walk_of d (at_look b look) (suc n)))
+    star_editing : (path track : ℕ) (edit : Edit) (volume : List Track) (end : CommandEnd) (last : ChainState)
+        (device : PlainState) → progress ≡ progresses.Write track edit
+        → volume ≡ slice_set d.volume track (apply_edit edit (track_in d.volume track))
+        → end ≡ end_with after (settled_by after Written) → last ≡ behind after (settled_by after Written)
+        → device ≡ record d { volume = volume; paths = with_sense d.paths path end.sense }
+        → last.at.stance.commands ≡ (start_of after).stance.commands + 1
+        → (n : ℕ) → EndsBy d device (at_look b look) last end
+        (kept_by d.paths path (walk_of d (at_look b look) (suc n)))
     star_editing path track edit volume end last device is volume_is end_is last_is device_is counted n =
-        let c : CameEditing (at_look b look) came.stance came.turned track edit = came_editing (at_look b look) came.stance came.turned track edit (turned_is (progresses.Write track edit) is) in
+        let c : CameEditing (at_look b look) came.stance came.turned track edit =
+        came_editing (at_look b look) came.stance came.turned track edit
+        (turned_is (progresses.Write track edit) is) in
         let waits : after ≡ waiting (at_look b look) came.stance c.ending = then_is ∙ c.chain in
-        let w = walk_more n ∙ ap (λ (t : Turned). walked b.at.stance.track (walk n d.geometry (track_in d.volume) b.before.stance (word_of b) look) came.stance t) c.turned in
-        let ends : end ≡ end_with (at_look b look) (record { stance = came.stance; ending = c.ending }) = end_is ∙ ap (λ (s : ChainState). end_with s (settled_by s Written)) waits in record {
+        let w = walk_more n ∙ ap (λ (t : Turned). walked b.at.stance.track
+        (walk n d.geometry (track_in d.volume) b.before.stance (word_of b) look) came.stance t) c.turned in
+        let ends : end ≡ end_with (at_look b look) (record { stance = came.stance; ending = c.ending }) =
+        end_is ∙ ap (λ (s : ChainState). end_with s (settled_by s Written)) waits in record {
           end_is = ends ∙ ap (λ (x : Walked). end_with (at_look b look) x.outcome) (sym w);
           device_is =
               device_is
               ∙ ap (λ (v : List Track). record d { volume = v; paths = with_sense d.paths path end.sense }) volume_is
-              ∙ ap (λ (u : ℕ). record d { volume = slice_set d.volume u (apply_edit edit (track_in d.volume u)); paths = with_sense d.paths path end.sense }) c.track_is
-              ∙ ap (λ (e : CommandEnd). record d { volume = slice_set d.volume b.at.stance.track (apply_edit edit (track_in d.volume b.at.stance.track)); paths = with_sense d.paths path e.sense }) ends
+              ∙ ap (λ (u : ℕ). record d {
+                volume = slice_set d.volume u (apply_edit edit (track_in d.volume u));
+                paths =
+                    with_sense d.paths path end.sense;
+              }) c.track_is
+              ∙ ap (λ (e : CommandEnd). record d {
+                volume =
+                    slice_set d.volume b.at.stance.track (apply_edit edit (track_in d.volume b.at.stance.track));
+                paths =
+                    with_sense d.paths path e.sense;
+              }) ends
               ∙ ap (λ (x : Walked). behind_effect d (kept_by d.paths path x)) (sym w);
-          chain_is = last_is ∙ ap (λ (s : ChainState). behind s (settled_by s Written)) waits ∙ ap (λ (x : Walked). behind (at_look b look) x.outcome) (sym w);
+          chain_is = last_is ∙ ap (λ (s : ChainState). behind s (settled_by s Written)) waits
+              ∙ ap (λ (x : Walked). behind (at_look b look) x.outcome) (sym w);
           counted = counted ∙ ap (λ (s : ChainState). (start_of s).stance.commands + 1) waits;
         }
 
-    star_editing_at : (track : ℕ) (edit : Edit) → progress ≡ progresses.Write track edit → (track ≡ b.at.stance.track) × (after.at.next ≡ b.at.next) × (after.stage ≡ Some Over)
+    star_editing_at : (track : ℕ) (edit : Edit) → progress ≡ progresses.Write track edit
+        → (track ≡ b.at.stance.track) × (after.at.next ≡ b.at.next) × (after.stage ≡ Some Over)
     star_editing_at track edit is =
-        let c : CameEditing (at_look b look) came.stance came.turned track edit = came_editing (at_look b look) came.stance came.turned track edit (turned_is (progresses.Write track edit) is) in
-        let waits : after ≡ waiting (at_look b look) came.stance c.ending = then_is ∙ c.chain in (c.track_is, ap (λ (s : ChainState). s.at.next) waits, ap (λ (s : ChainState). s.stage) waits)
+        let c : CameEditing (at_look b look) came.stance came.turned track edit =
+        came_editing (at_look b look) came.stance came.turned track edit
+        (turned_is (progresses.Write track edit) is) in
+        let waits : after ≡ waiting (at_look b look) came.stance c.ending =
+        then_is ∙ c.chain in (
+          c.track_is,
+          ap (λ (s : ChainState). s.at.next) waits,
+          ap (λ (s : ChainState). s.stage)
+              waits,
+        )
 
     star_local : (act : LocalAct) → progress ≡ progresses.Local act → ⊥
     star_local act is = never_local (at_look b look) came.stance came.turned act (turned_is (progresses.Local act) is)
 
-module _ (d : PlainState) (s : ChainState) (at : IsAtLook s.stage) (i : Image) (image_is : i ≡ image_for d s) (progress : Progress) (after : ChainState) (progress_is : progress ≡ (stepped s (Some i)).progress) (after_is : after ≡ (stepped s (Some i)).chain) where
+module _ (d : PlainState) (s : ChainState) (at : IsAtLook s.stage) (i : Image) (image_is : i ≡ image_for d s)
+    (progress : Progress) (after : ChainState) (progress_is : progress ≡ (stepped s (Some i)).progress)
+    (after_is : after ≡ (stepped s (Some i)).chain) where
   looked : HasLook s
   looked = has_look s s.stage refl at
 
@@ -131,26 +175,40 @@ module _ (d : PlainState) (s : ChainState) (at : IsAtLook s.stage) (i : Image) (
   steps_after : after ≡ (stepped (at_look s looked.look) (Some i)).chain
   steps_after = after_is ∙ ap (λ (x : ChainState). (stepped x (Some i)).chain) looked.is
 
-  pub look_ended : (path : ℕ) (end : CommandEnd) (device : PlainState) → progress ≡ progresses.Ended end → device ≡ record d { paths = with_sense d.paths path end.sense }
-      → after.at.stance.commands ≡ (start_of s).stance.commands + 1 → (n : ℕ) → EndsBy d device s after end (kept_by d.paths path (walk_of d s (suc n)))
+  pub look_ended : (path : ℕ) (end : CommandEnd) (device : PlainState) → progress ≡ progresses.Ended end
+      → device ≡ record d { paths = with_sense d.paths path end.sense }
+      → after.at.stance.commands ≡ (start_of s).stance.commands + 1 → (n : ℕ)
+      → EndsBy d device s after end (kept_by d.paths path (walk_of d s (suc n)))
   look_ended path end device is device_is counted n =
-      subst (λ (x : ChainState). EndsBy d device x after end (kept_by d.paths path (walk_of d x (suc n)))) (sym looked.is)
-      (star_ended d s looked.look i image_is progress after steps_progress steps_after path end device is device_is (counted ∙ ap (λ (x : ChainState). (start_of x).stance.commands + 1) looked.is) n)
+      subst (λ (x : ChainState). EndsBy d device x after end (kept_by d.paths path (walk_of d x (suc n))))
+      (sym looked.is)
+      (star_ended d s looked.look i image_is progress after steps_progress steps_after path end device is device_is
+      (counted ∙ ap (λ (x : ChainState). (start_of x).stance.commands + 1) looked.is) n)
 
-  pub look_onward : (track : ℕ) (device : PlainState) → progress ≡ progresses.Need track → device ≡ d → track < d.cylinders * 15 → GoesTo d device s after track
+  pub look_onward : (track : ℕ) (device : PlainState) → progress ≡ progresses.Need track → device ≡ d
+      → track < d.cylinders * 15 → GoesTo d device s after track
   look_onward track device is device_is inside =
-      subst (λ (x : ChainState). GoesTo d device x after track) (sym looked.is) (star_onward d s looked.look i image_is progress after steps_progress steps_after track device is device_is inside)
+      subst (λ (x : ChainState). GoesTo d device x after track) (sym looked.is)
+      (star_onward d s looked.look i image_is progress after steps_progress steps_after track device is device_is
+      inside)
 
-  pub look_edited : (path track : ℕ) (edit : Edit) (volume : List Track) (end : CommandEnd) (last : ChainState) (device : PlainState) → progress ≡ progresses.Write track edit
-      → volume ≡ slice_set d.volume track (apply_edit edit (track_in d.volume track)) → end ≡ end_with after (settled_by after Written) → last ≡ behind after (settled_by after Written)
-      → device ≡ record d { volume = volume; paths = with_sense d.paths path end.sense } → last.at.stance.commands ≡ (start_of after).stance.commands + 1
+  pub look_edited : (path track : ℕ) (edit : Edit) (volume : List Track) (end : CommandEnd) (last : ChainState)
+      (device : PlainState) → progress ≡ progresses.Write track edit
+      → volume ≡ slice_set d.volume track (apply_edit edit (track_in d.volume track))
+      → end ≡ end_with after (settled_by after Written) → last ≡ behind after (settled_by after Written)
+      → device ≡ record d { volume = volume; paths = with_sense d.paths path end.sense }
+      → last.at.stance.commands ≡ (start_of after).stance.commands + 1
       → (n : ℕ) → EndsBy d device s last end (kept_by d.paths path (walk_of d s (suc n)))
   look_edited path track edit volume end last device is volume_is end_is last_is device_is counted n =
-      subst (λ (x : ChainState). EndsBy d device x last end (kept_by d.paths path (walk_of d x (suc n)))) (sym looked.is)
-      (star_editing d s looked.look i image_is progress after steps_progress steps_after path track edit volume end last device is volume_is end_is last_is device_is counted n)
+      subst (λ (x : ChainState). EndsBy d device x last end (kept_by d.paths path (walk_of d x (suc n))))
+      (sym looked.is)
+      (star_editing d s looked.look i image_is progress after steps_progress steps_after path track edit volume end last
+      device is volume_is end_is last_is device_is counted n)
 
-  pub look_edits_at : (track : ℕ) (edit : Edit) → progress ≡ progresses.Write track edit → (track ≡ s.at.stance.track) × (after.at.next ≡ s.at.next) × (after.stage ≡ Some Over)
-  look_edits_at track edit is = star_editing_at d s looked.look i image_is progress after steps_progress steps_after track edit is
+  pub look_edits_at : (track : ℕ) (edit : Edit) → progress ≡ progresses.Write track edit
+      → (track ≡ s.at.stance.track) × (after.at.next ≡ s.at.next) × (after.stage ≡ Some Over)
+  look_edits_at track edit is = star_editing_at d s looked.look i image_is progress after steps_progress steps_after
+      track edit is
 
   pub look_asks_nothing : (act : LocalAct) → progress ≡ progresses.Local act → ⊥
   look_asks_nothing act is = star_local d s looked.look i image_is progress after steps_progress steps_after act is

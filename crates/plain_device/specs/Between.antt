@@ -18,11 +18,12 @@ pub record IsBetween (device : PlainState) (chain : ChainState) : Type 0 where
   pub running : IsSome chain.at.next
 
 -- the command at hand ended: its end, and the device and the chain behind it, are those of an effect
-pub record EndsBy (device after : PlainState) (chain then_chain : ChainState) (end : CommandEnd) (e : Effect) : Type 0 where
-  pub end_is : end ≡ end_with chain e.outcome
-  pub device_is : after ≡ behind_effect device e
-  pub chain_is : then_chain ≡ behind chain e.outcome
-  pub counted : then_chain.at.stance.commands ≡ (start_of chain).stance.commands + 1
+pub record EndsBy (device after : PlainState) (chain then_chain : ChainState) (end : CommandEnd) (e : Effect) : Type 0
+  where
+    pub end_is : end ≡ end_with chain e.outcome
+    pub device_is : after ≡ behind_effect device e
+    pub chain_is : then_chain ≡ behind chain e.outcome
+    pub counted : then_chain.at.stance.commands ≡ (start_of chain).stance.commands + 1
 
 abbrev pub effect_of : PlainState → ℕ → ChainState → Effect
 effect_of device path chain = effect_on chain.fixed device path chain.at.stance (word_of chain)

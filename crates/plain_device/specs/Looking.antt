@@ -1,5 +1,5 @@
 -- A command that looks at the tracks of a device.
-use Rattle.std.specs.Prelude.{◌≡◌, ℕ, suc, ◌*◌, ◌+◌, ◌<◌, None, IsSome, ⊤, Option, Some}
+use Rattle.std.specs.Prelude.{◌≡◌, ℕ, suc, ◌*◌, ◌<◌, None, IsSome, ⊤, Option, Some}
 use Rattle.ckd_types.specs.Sense.{equipment_sense}
 use Rattle.ckd_types.specs.Volume.{track_in}
 use Rattle.ckd_chain.specs.declared.mark.Stage.{Stage}
@@ -25,7 +25,8 @@ pub record IsLooking (device : PlainState) (chain : ChainState) : Type 0 where
   pub running : IsSome chain.at.next
 
 abbrev pub walk_by : PlainState → ChainState → ℕ → Option Stage → Stance → Walked
-walk_by device chain n (Some (Looks look)) s = walk n device.geometry (track_in device.volume) (start_of chain).stance (word_of chain) look s
+walk_by device chain n (Some (Looks look)) s = walk n device.geometry (track_in device.volume) (start_of chain).stance
+    (word_of chain) look s
 walk_by device chain n _ s = untouched (checked chain equipment_sense)
 
 -- what it comes to, with at most n looks
@@ -35,7 +36,8 @@ walk_of device chain n = walk_by device chain n chain.stage chain.at.stance
 -- the effect of a command that has begun
 abbrev pub stage_effect : PlainState → ℕ → ChainState → Option Stage → Effect
 stage_effect device path chain (Some Over) = kept_by device.paths path (untouched (held_outcome chain chain.held))
-stage_effect device path chain (Some (Asks act)) = acted (fixed_with device chain.fixed.number) device.paths path (start_of chain).stance (word_of chain) act
+stage_effect device path chain (Some (Asks act)) = acted (fixed_with device chain.fixed.number) device.paths path
+    (start_of chain).stance (word_of chain) act
 stage_effect device path chain _ = kept_by device.paths path (walk_of device chain (device.cylinders * 15))
 
 -- it looks at no track
@@ -58,5 +60,6 @@ pub record GoesTo (device after : PlainState) (chain then_chain : ChainState) (t
   pub on_device : track < device.cylinders * 15
 
 abbrev pub IsWent : PlainState → ℕ → PlainState → ChainState → ChainState → Went → Type 0
-IsWent device path after chain then_chain (goes.Over end) = (n : ℕ) → EndsBy device after chain then_chain end (kept_by device.paths path (walk_of device chain (suc n)))
+IsWent device path after chain then_chain (goes.Over end) =
+    (n : ℕ) → EndsBy device after chain then_chain end (kept_by device.paths path (walk_of device chain (suc n)))
 IsWent device path after chain then_chain (goes.On track) = GoesTo device after chain then_chain track

@@ -8,7 +8,8 @@ use Rattle.plain_defs.specs.Program.{Part}
 use Rattle.plain_device.specs.Between.{fixed_with}
 
 -- a device and a chain on it are where the part of a program is, with its ends
-pub record IsAtPart (p : Part) (ccws : List Ccw) (device : PlainState) (chain : ChainState) (ends : List CommandEnd) : Type 0 where
+pub record IsAtPart (p : Part) (ccws : List Ccw) (device : PlainState) (chain : ChainState)
+    (ends : List CommandEnd) : Type 0 where
   pub device_is : device ≡ p.state
   pub fixed_is : chain.fixed ≡ p.fixed
   pub stance_is : chain.at.stance ≡ p.stance

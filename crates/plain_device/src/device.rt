@@ -14,9 +14,7 @@ use crate::loose::{LooseImage, copies, put_back, take_out};
 use crate::paths::Paths;
 use crate::volume::Images;
 use ckd_chain::{Chain, Progress, Settled};
-use ckd_types::{
-    Ccw, CommandEnd, FixedData, Geometry, HEADS, NoMemory, PathNo, Sense, TrackNo,
-};
+use ckd_types::{Ccw, CommandEnd, FixedData, Geometry, HEADS, NoMemory, PathNo, Sense, TrackNo};
 use plain_defs::{Act, Acted};
 use std::alloc::Global;
 use std::marker::Model;

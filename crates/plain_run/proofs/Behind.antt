@@ -14,7 +14,9 @@ some_of (Some i) is = refl
 some_of None is = absurd (cc)
 
 -- a chain that isn't over is between two commands
-pub between_after : (device after : PlainState) (path : ℕ) (chain then_chain : ChainState) (e : CommandEnd) → IsBetween device chain → Ends device path after chain then_chain e → is_none then_chain.at.next ≡ false → IsBetween after then_chain
+pub between_after : (device after : PlainState) (path : ℕ) (chain then_chain : ChainState) (e : CommandEnd)
+    → IsBetween device chain → Ends device path after chain then_chain e → is_none then_chain.at.next ≡ false
+    → IsBetween after then_chain
 between_after device after path chain then_chain e between ends more =
     let fixed : then_chain.fixed ≡ chain.fixed = ap (λ (s : ChainState). s.fixed) ends.chain_is in record {
       fixed =

@@ -35,7 +35,8 @@ abbrev pub open_of : RunningProgram → List CommandEnd → OpenEntry
 open_of r ends = record { path = 1; ordinal = r.ordinal; ends = ends; acts = [] }
 
 -- a program runs from there
-pub record IsAtCommand (empty : PlainState) (plans : Plans) (m : MachineState) (h : History) (r : RunningProgram) : Type 0 where
+pub record IsAtCommand (empty : PlainState) (plans : Plans) (m : MachineState) (h : History) (r : RunningProgram) : Type
+    0 where
   pub started : r.ordinal ≡ m.started
   pub others : m.started ≡ count_by (is_of_path 1) h.items + 1
   pub program : r.ccws ≡ program_of plans 1 r.ordinal
@@ -75,7 +76,8 @@ AreBuilt plans = All (λ (ccws : List Ccw). All IsBuilt ccws) (plan_of plans 1)
 
 -- what is plain stays plain
 abbrev pub Keeps : Plans → MachineState → MachineState → List RunEvent → List RunEvent → Type 0
-Keeps plans m n before now = (empty : PlainState) → AreBuilt plans → Follows empty plans m before → Follows empty plans n now
+Keeps plans m n before now = (empty : PlainState) → AreBuilt plans → Follows empty plans m before
+    → Follows empty plans n now
 
 -- whatever is planned
 abbrev pub KeepsAll : MachineState → MachineState → List RunEvent → List RunEvent → Type 0

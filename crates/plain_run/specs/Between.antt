@@ -4,7 +4,14 @@ use Rattle.plain_run.specs.declared.machine.Running.{Running}
 use Rattle.plain_run.specs.State.{RunningProgram}
 
 abbrev pub running_program : Running → RunningProgram
-running_program r = record { ordinal = r.ordinal; fixed = r.chain.fixed; ccws = r.chain.ccws; stance = r.chain.at.stance; next = r.chain.at.next }
+running_program r = record {
+  ordinal = r.ordinal;
+  fixed = r.chain.fixed;
+  ccws = r.chain.ccws;
+  stance =
+      r.chain.at.stance;
+  next = r.chain.at.next;
+}
 
 -- the running program was at a word, and its command was counted, one of at most 4,096
 pub record Counted (r : RunningProgram) (then_running : Option RunningProgram) : Type 0 where

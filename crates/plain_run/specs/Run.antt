@@ -28,7 +28,14 @@ begin_with m ccws = record {
   machine = record {
     device = record m.device { paths = begun m.device.paths 1 ccws };
     started = m.started + 1;
-    running = Some (record { ordinal = m.started + 1; fixed = fixed_of m.device; ccws = ccws; stance = first_stance; next = Some 0 });
+    running = Some (record {
+      ordinal = m.started + 1;
+      fixed = fixed_of m.device;
+      ccws = ccws;
+      stance =
+          first_stance;
+      next = Some 0;
+    });
   };
   events = Accepted (m.started + 1) ∷ [];
 }
@@ -89,7 +96,8 @@ line_done programs m _ = record { machine = m; events = [] }
 
 abbrev pub events_from : List (List Ccw) → MachineState → List EventLine → List RunEvent
 events_from programs m [] = []
-events_from programs m (line ∷ lines) = (line_done programs m line).events ++ events_from programs (line_done programs m line).machine lines
+events_from programs m (line ∷ lines) = (line_done programs m line).events
+    ++ events_from programs (line_done programs m line).machine lines
 
 -- the machine is as moved, and what happened stands behind what had
 pub record Did (machine : MachineState) (earlier now : List RunEvent) (moved : Moved) : Type 0 where

@@ -7,5 +7,6 @@ use Rattle.plain_run.proofs.run.run_lines.Given as goal
 
 abbrev pub invariant-loop-line : goal.invariant-loop-line
 invariant-loop-line l =
-    (l.happened ++ events_from (plan_of l.plans 1) l.machine (drop l.line-index l.schedule.items) ≡ events_from (plan_of l.plans 1) (first_machine l.fn.geometry l.fn.cylinders) l.schedule.items)
+    (l.happened ++ events_from (plan_of l.plans 1) l.machine (drop l.line-index l.schedule.items)
+    ≡ events_from (plan_of l.plans 1) (first_machine l.fn.geometry l.fn.cylinders) l.schedule.items)
     × Follows (empty_state l.fn.geometry l.fn.cylinders) l.plans l.machine l.happened

@@ -7,5 +7,10 @@ use Rattle.plain_device.proofs.device.PlainDevice.act.Goals as goal
 
 pub invariant_of-self : goal.invariant_of-self
 invariant_of-self c =
-    let holds = IsLooseOf c.self.inside.fixed.geometry (c.self.inside.fixed.cylinders * 15) in
-    (c.self.invariant.0, c.self.invariant.1, subst (All holds) (sym c.take_out.ensures.others) (All-filter (λ (l : LooseImage). not (l.track == c.in-Harden.t)) holds c.self.inside.loose.items c.self.invariant.2))
+    let holds = IsLooseOf c.self.inside.fixed.geometry (c.self.inside.fixed.cylinders * 15) in (
+      c.self.invariant.0,
+      c.self.invariant.1,
+      subst (All holds) (sym c.take_out.ensures.others)
+          (All-filter (λ (l : LooseImage). not (l.track == c.in-Harden.t)) holds c.self.inside.loose.items
+          c.self.invariant.2),
+    )

@@ -7,6 +7,8 @@ use Rattle.plain_device.proofs.device.PlainDevice.command.Goals as goal
 
 pub returns : goal.returns
 returns c = record {
-  ends = opened_ends c.args.self.now c.args.path c.go_on.new.self c.args.chain.now c.go_on.new.chain c.in_ok-end.end c.requires.between
-      (subst (λ (s : ChainState). EndsBy c.args.self.now c.go_on.new.self s c.go_on.new.chain c.in_ok-end.end (stage_effect c.args.self.now c.args.path s s.stage)) c.need-need.ensures.chain c.in_ok-end.ensures.ends);
+  ends = opened_ends c.args.self.now c.args.path c.go_on.new.self c.args.chain.now c.go_on.new.chain c.in_ok-end.end
+      c.requires.between
+      (subst (λ (s : ChainState). EndsBy c.args.self.now c.go_on.new.self s c.go_on.new.chain c.in_ok-end.end
+      (stage_effect c.args.self.now c.args.path s s.stage)) c.need-need.ensures.chain c.in_ok-end.ensures.ends);
 }
