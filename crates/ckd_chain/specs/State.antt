@@ -1,5 +1,5 @@
 -- A running channel program.
-use Rattle.std.specs.Prelude.{ℕ, List, Option}
+use Rattle.std.specs.Prelude.{List, Option}
 use Rattle.ckd_types.specs.declared.channel.Ccw.{Ccw}
 use Rattle.ckd_types.specs.Fixed.{Fixed}
 use Rattle.ckd_chain.specs.declared.mark.Mark.{Mark}

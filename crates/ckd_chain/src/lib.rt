@@ -2,6 +2,7 @@
 #![tactic(auto)]
 
 mod chain;
+mod law;
 mod look;
 mod mark;
 mod progress;
@@ -10,5 +11,6 @@ mod tests;
 
 pub use chain::Chain;
 pub use ckd_rules::LocalAct;
+pub use law::feeds_by_rules;
 pub use mark::{Mark, Stage};
 pub use progress::{Progress, Settled};

@@ -8,14 +8,15 @@ use Rattle.ckd_types.specs.declared.channel.Note.TheVariants.{Plain}
 use Rattle.ckd_types.specs.declared.geometry.Geometry.TheVariants.{D3390}
 use Rattle.ckd_types.specs.Commands.{command_of}
 use Rattle.ckd_types.specs.Sense.{equipment_sense}
-use Rattle.ckd_rules.specs.Walk.{walk}
+use Rattle.ckd_rules.specs.Walk.{TrackEdit, walk}
+use Rattle.ckd_types.specs.declared.record.Edit.TheVariants.{Update}
 use Rattle.plain_defs.specs.declared.journal.Act.TheVariants.{Loosen, Harden, CfwLost}
 use Rattle.plain_defs.specs.declared.journal.Acted.{Acted}
 use Rattle.plain_defs.specs.declared.journal.How.{How}
 use Rattle.plain_defs.specs.declared.journal.How.TheVariants.{Full, Cut, Checked}
 use Rattle.plain_defs.specs.declared.journal.Item.{Item}
 use Rattle.plain_defs.specs.declared.journal.Item.TheVariants as items
-use Rattle.plain_defs.specs.Journal.{Plans}
+use Rattle.plain_defs.specs.Journal.{Plans, acknowledged}
 use Rattle.plain_defs.specs.Legal.{IsLegal, IsLegalEntry, IsPoint, next_edit}
 use Rattle.plain_defs.proofs.LooseLemmas.{may_edit, part_loose}
 use Rattle.plain_defs.specs.PlainState.{PlainState, empty_state}
@@ -312,3 +313,15 @@ loosened_too_early : IsLegal (planned_updates 0xc2) device
     }) ∷ []) → ⊥
 unfolding planned_updates device updates part_of walk command_of
 loosened_too_early legal = let point = legal.0.0.acts.points 1 (omega arith) in none_is_some 0 point.acts_are.1
+
+-- the edit is acknowledged once its track is firm, and never where the data are lost first
+its_edit : TrackEdit
+its_edit = record { track = 0; edit = Update 0 [] (17 ∷ 34 ∷ 51 ∷ 68 ∷ 85 ∷ 102 ∷ 119 ∷ 136 ∷ []) }
+
+acknowledged_once_firm : acknowledged (planned_updates 0xc2) device (updated 0xc2 ∷ items.Act (Harden 0) ∷ items.Power ∷ []) ≡ its_edit ∷ []
+unfolding its_edit planned_updates updated device updates loosened part_of walk command_of
+acknowledged_once_firm = refl
+
+not_acknowledged_when_lost : acknowledged (planned_updates 0xc2) device (updated 0xc2 ∷ items.Act CfwLost ∷ items.Act (Harden 0) ∷ []) ≡ []
+unfolding planned_updates updated device updates loosened part_of walk command_of
+not_acknowledged_when_lost = refl
