@@ -32,8 +32,10 @@ module _ (tracks : ℕ → Track) (answer : LocalAct → Settled) where
     moved b z = record b { at = record b.at { stance = z } }
 
     -- what comes of a look, where it goes on as the walk does
-    look_by : (n : ℕ) (b : ChainState) (z : Stance) (t : Turned) → ((c : ChainState) → fed n tracks answer (at_look c) ≡ ended_walk (at_look c) (walk_of n c c.at.stance))
-        → fed_by answer (fed n tracks answer) (turned_by (at_look b) z t).chain (turned_by (at_look b) z t).progress ≡ ended_walk (at_look b) (walked b.at.stance.track (walk_of n b) z t)
+    look_by : (n : ℕ) (b : ChainState) (z : Stance) (t : Turned) →
+        ((c : ChainState) → fed n tracks answer (at_look c) ≡ ended_walk (at_look c) (walk_of n c c.at.stance))
+        → fed_by answer (fed n tracks answer) (turned_by (at_look b) z t).chain (turned_by (at_look b) z t).progress
+        ≡ ended_walk (at_look b) (walked b.at.stance.track (walk_of n b) z t)
     look_by n b z (turns.Ended e) rest = refl
     look_by n b z turns.Onward rest = rest (moved b z)
     look_by n b z (turns.Edits edit e) rest = refl
@@ -49,8 +51,12 @@ module _ (tracks : ℕ → Track) (answer : LocalAct → Settled) where
   unbegun b = record b { stage = None }
 
   opening_by : (n : ℕ) (b : ChainState) (z : Stance) (h : Opening)
-      → fed_by answer (fed n tracks answer) (stepped_by (begin_with (unbegun b) (record { stance = z; opening = h })) (fed_image b.fixed tracks (needed (begin_with (unbegun b) (record { stance = z; opening = h })) (stage_for h))) (stage_for h)).chain
-      (stepped_by (begin_with (unbegun b) (record { stance = z; opening = h })) (fed_image b.fixed tracks (needed (begin_with (unbegun b) (record { stance = z; opening = h })) (stage_for h))) (stage_for h)).progress
+      → fed_by answer (fed n tracks answer) (stepped_by (begin_with (unbegun b)
+      (record { stance = z; opening = h })) (fed_image b.fixed tracks
+      (needed (begin_with (unbegun b) (record { stance = z; opening = h })) (stage_for h))) (stage_for h)).chain
+      (stepped_by (begin_with (unbegun b) (record { stance = z; opening = h }))
+      (fed_image b.fixed tracks (needed (begin_with (unbegun b) (record { stance = z; opening = h }))
+      (stage_for h))) (stage_for h)).progress
       ≡ by_rules (suc n) tracks answer (unbegun b) z h
   unfolding fed walk
   opening_by n b z (openings.Over e) = refl

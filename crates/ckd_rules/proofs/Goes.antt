@@ -26,12 +26,14 @@ chained c o is =
 pub over_stops : (ccws : List Ccw) (i : ℕ) (o : Outcome) → is_over (ccw_at ccws i) o ≡ true → goes_to ccws i o ≡ None
 over_stops ccws i o is = ap (λ (b : Bool). if b then None else next_ccw ccws i (has_status_modifier o.ending.status)) is
 
-pub more_goes : (ccws : List Ccw) (i : ℕ) (o : Outcome) → is_over (ccw_at ccws i) o ≡ false → goes_to ccws i o ≡ Some (target ccws (i + (if has_status_modifier o.ending.status then 2 else 1)))
+pub more_goes : (ccws : List Ccw) (i : ℕ) (o : Outcome) → is_over (ccw_at ccws i) o ≡ false →
+    goes_to ccws i o ≡ Some (target ccws (i + (if has_status_modifier o.ending.status then 2 else 1)))
 more_goes ccws i o is =
     ap (λ (b : Bool). if b then None else next_ccw ccws i (has_status_modifier o.ending.status)) is
     ∙ ap (λ (b : Bool). if b then Some (target ccws (i + (if has_status_modifier o.ending.status then 2 else 1))) else None) (chained (ccw_at ccws i) o is)
 
-none_over : (ccws : List Ccw) (i : ℕ) (o : Outcome) (over : Bool) → is_over (ccw_at ccws i) o ≡ over → IfNone (goes_to ccws i o) (is_over (ccw_at ccws i) o ≡ true)
+none_over : (ccws : List Ccw) (i : ℕ) (o : Outcome) (over : Bool) → is_over (ccw_at ccws i) o ≡ over →
+    IfNone (goes_to ccws i o) (is_over (ccw_at ccws i) o ≡ true)
 none_over ccws i o true is = subst (λ (next : Option ℕ). IfNone next (is_over (ccw_at ccws i) o ≡ true)) (sym (over_stops ccws i o is)) is
 none_over ccws i o false is = subst (λ (next : Option ℕ). IfNone next (is_over (ccw_at ccws i) o ≡ true)) (sym (more_goes ccws i o is)) tt
 

@@ -23,7 +23,8 @@ in_cylinder tracks n whole on test = grind (arith, nat_tests)
 in_extent : (last n : ℕ) → nat_le last n ≡ false → n + 1 ≤ last
 in_extent last n test = grind (arith, nat_tests)
 
-pub next_on_device : (tracks : ℕ) (e : Option Extent) (n t : ℕ) → tracks % 15 ≡ 0 → n < tracks → IfSome e (λ x. x.last < tracks) → track_after e n ≡ Ok t → (t ≡ n + 1) × (t < tracks)
+pub next_on_device : (tracks : ℕ) (e : Option Extent) (n t : ℕ) → tracks % 15 ≡ 0 → n < tracks →
+    IfSome e (λ x. x.last < tracks) → track_after e n ≡ Ok t → (t ≡ n + 1) × (t < tracks)
 next_on_device tracks None n t whole on within is =
     let p : (nat_eq (n % 15) 14 ≡ false) × (n + 1 ≡ t) = goes _ _ _ _ is in
     let q : n + 1 < tracks = in_cylinder tracks n whole on p.0 in
@@ -62,13 +63,15 @@ goes_further tracks old new whole on g =
     }
 
 -- a turn on one track, on a device of whole cylinders
-pub turns_on : (g : Geometry) (tracks : ℕ) (records : List Record) (old new : Stance) (t : Turned) → tracks % 15 ≡ 0 → Stands tracks old → Turns g records old new t → TurnsOn g tracks records old new t
+pub turns_on : (g : Geometry) (tracks : ℕ) (records : List Record) (old new : Stance) (t : Turned) →
+    tracks % 15 ≡ 0 → Stands tracks old → Turns g records old new t → TurnsOn g tracks records old new t
 turns_on g tracks records old new (Ended e) whole on h = stays_on tracks old new on h
 turns_on g tracks records old new Onward whole on h = goes_further tracks old new whole on h
 turns_on g tracks records old new (Edits edit e) whole on h = (h.0, stays_on tracks old new on h.1, h.2)
 
 -- a look on one track
-pub looks_on : (g : Geometry) (tracks : ℕ) (records : List Record) (old new : Stance) (t : Turned) → tracks % 15 ≡ 0 → Stands tracks old → LooksOn old new t → TurnsOn g tracks records old new t
+pub looks_on : (g : Geometry) (tracks : ℕ) (records : List Record) (old new : Stance) (t : Turned) →
+    tracks % 15 ≡ 0 → Stands tracks old → LooksOn old new t → TurnsOn g tracks records old new t
 looks_on g tracks records old new (Ended e) whole on h = stays_on tracks old new on h
 looks_on g tracks records old new Onward whole on h = goes_further tracks old new whole on h
 looks_on g tracks records old new (Edits edit e) whole on h = absurd h

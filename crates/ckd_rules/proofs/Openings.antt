@@ -44,13 +44,24 @@ module _ (tracks : ℕ) (s : Stance) (c : Ccw) (on : Stands tracks s) where
   stays : Before tracks s s
   stays = record { stands = on; commands = refl; moved = refl }
 
-  moves : (look : Look) (r : Result ℕ Sense) → tracks % 15 ≡ 0 → IsLook tracks look → track_after s.extent s.track ≡ r → Opens tracks s (moved s c look r).stance (moved s c look r).opening
+  moves : (look : Look) (r : Result ℕ Sense) → tracks % 15 ≡ 0 → IsLook tracks look →
+      track_after s.extent s.track ≡ r → Opens tracks s (moved s c look r).stance (moved s c look r).opening
   moves look (Ok t) whole good is =
       let next : t < tracks = (next_on_device tracks s.extent s.track t whole on.track on.extent is).1 in
       (record { stands = record { track = next; extent = on.extent; left = on.left; passes = on.passes }; commands = refl; moved = refl }, good)
-  moves look (Err sense) whole good is = record { stands = record { track = on.track; extent = on.extent; left = on.left; passes = on.passes }; commands = refl }
+  moves look (Err sense) whole good is = record {
+    stands = record {
+      track = on.track;
+      extent = on.extent;
+      left =
+          on.left;
+      passes = on.passes;
+    };
+    commands = refl;
+  }
 
-  reads_on : (r : Read) (area : ReadArea) (place : Place) → tracks % 15 ≡ 0 → Opens tracks s (read_from s c r area place).stance (read_from s c r area place).opening
+  reads_on : (r : Read) (area : ReadArea) (place : Place) → tracks % 15 ≡ 0 →
+      Opens tracks s (read_from s c r area place).stance (read_from s c r area place).opening
   reads_on r reads.Home place whole = (stays, tt)
   reads_on r reads.Zero place whole = (stays, tt)
   reads_on r reads.Count place whole = (stays, tt)
@@ -78,29 +89,78 @@ module _ (tracks : ℕ) (s : Stance) (c : Ccw) (on : Stands tracks s) where
 
   locates : (d : Domain) (place : Option Place) → IsSought tracks d → Opens tracks s (locating s c d place).stance (locating s c d place).opening
   locates d (Some place) good =
-      record { stands = record { track = good.seek; extent = on.extent; left = counts d.operation d.count d good.count; passes = omega arith }; commands = refl }
-  locates d None good = (record { stands = record { track = good.seek; extent = on.extent; left = on.left; passes = on.passes }; commands = refl; moved = refl }, good)
+      record {
+        stands = record {
+          track = good.seek;
+          extent = on.extent;
+          left =
+              counts d.operation d.count d good.count;
+          passes = omega arith;
+        };
+        commands = refl;
+      }
+  locates d None good = (
+    record {
+      stands = record {
+        track = good.seek;
+        extent = on.extent;
+        left = on.left;
+        passes =
+            on.passes;
+      };
+      commands = refl;
+      moved = refl;
+    },
+    good,
+  )
 
   begins : (order : Order) → 0 < tracks → tracks % 15 ≡ 0 → IsOrder tracks order → Opens tracks s (begun s c order).stance (begun s c order).opening
   begins Nothing some whole good = record { stands = record { track = on.track; extent = on.extent; left = on.left; passes = omega arith }; commands = refl }
   begins (Seeks t) some whole good = record { stands = record { track = good; extent = on.extent; left = on.left; passes = omega arith }; commands = refl }
   begins Recalibrates some whole good = record { stands = record { track = some; extent = on.extent; left = on.left; passes = omega arith }; commands = refl }
   begins SetsSector some whole good = record { stands = record { track = on.track; extent = on.extent; left = on.left; passes = omega arith }; commands = refl }
-  begins (SetsMask mask) some whole good = record { stands = record { track = on.track; extent = on.extent; left = on.left; passes = omega arith }; commands = refl }
+  begins (SetsMask mask) some whole good = record {
+    stands = record {
+      track = on.track;
+      extent = on.extent;
+      left =
+          on.left;
+      passes = omega arith;
+    };
+    commands = refl;
+  }
   begins (Defines e) some whole good = record { stands = record { track = on.track; extent = good; left = on.left; passes = omega arith }; commands = refl }
   begins (Locates d) some whole good = locates d (unseen_place d.orientation) good
   begins (Looks look) some whole good = looks look whole good
   begins (Asks act) some whole good = stays
 
-pub opens : (tracks : ℕ) (s : Stance) (c : Ccw) (order : Order) (new : Stance) (how : Opening) → Stands tracks s → 0 < tracks → tracks % 15 ≡ 0 → IsOrder tracks order
+pub opens : (tracks : ℕ) (s : Stance) (c : Ccw) (order : Order) (new : Stance) (how : Opening) → Stands tracks s →
+    0 < tracks → tracks % 15 ≡ 0 → IsOrder tracks order
     → new ≡ (begun s c order).stance → how ≡ (begun s c order).opening → Opens tracks s new how
 opens tracks s c order new how on some whole good new_is how_is =
-    subst (λ (z : Stance). Opens tracks s z how) (sym new_is) (subst (λ (h : Opening). Opens tracks s (begun s c order).stance h) (sym how_is) (begins tracks s c on order some whole good))
+    subst (λ (z : Stance). Opens tracks s z how) (sym new_is) (subst
+    (λ (h : Opening). Opens tracks s (begun s c order).stance h) (sym how_is)
+    (begins tracks s c on order some whole good))
 
 -- a locate record that looked for its record is on the device
-pub located_on : (g : Geometry) (tracks : ℕ) (records : List Record) (old new : Stance) (c : Ccw) (d : Domain) (found : Option ℕ) (e : Ending) → Stands tracks old → IsSought tracks d
+pub located_on : (g : Geometry) (tracks : ℕ) (records : List Record) (old new : Stance) (c : Ccw) (d : Domain)
+    (found : Option ℕ) (e : Ending) → Stands tracks old → IsSought tracks d
     → new ≡ (located old c d found).stance → TurnsOn g tracks records old new (Ended e)
 located_on g tracks records old new c d (Some i) e on good is =
-    subst (λ (z : Stance). Behind tracks old z) (sym is) (record { stands = record { track = good.seek; extent = on.extent; left = counts d.operation d.count d good.count; passes = omega arith }; commands = refl })
+    subst (λ (z : Stance). Behind tracks old z) (sym is) (record {
+      stands =
+          record {
+            track = good.seek;
+            extent = on.extent;
+            left = counts d.operation d.count d good.count;
+            passes =
+                omega arith;
+          };
+      commands = refl;
+    })
 located_on g tracks records old new c d None e on good is =
-    subst (λ (z : Stance). Behind tracks old z) (sym is) (record { stands = record { track = on.track; extent = on.extent; left = on.left; passes = on.passes }; commands = refl })
+    subst (λ (z : Stance). Behind tracks old z) (sym is) (record {
+      stands =
+          record { track = on.track; extent = on.extent; left = on.left; passes = on.passes };
+      commands = refl;
+    })

@@ -27,7 +27,14 @@ use Rattle.ckd_rules.specs.Writes.{write_on}
 -- in a domain of an operation, at a place
 stands : Operation → Place → Stance
 stands operation place = record first_stance {
-  domain = Some (record { orientation = orientations.Count; operation = operation; count = 3; seek = 0; search = record { cchh = record { cc = 0; hh = 0 }; r = 0 } });
+  domain = Some (record {
+    orientation = orientations.Count;
+    operation = operation;
+    count = 3;
+    seek = 0;
+    search =
+        record { cchh = record { cc = 0; hh = 0 }; r = 0 };
+  });
   left = 3;
   place = place;
 }
@@ -63,9 +70,18 @@ left_after l = l.stance.left
 
 -- record 1 has eighty bytes
 one_record : Track
-one_record = record (empty_track 0) { records = records_after (empty_track 0) (write_on D3390 (empty_track 0) (stands operations.Format (Count 0)) (word 0x1d 0 88 ((0 ∷ 0 ∷ 0 ∷ 0 ∷ 1 ∷ 0 ∷ 0 ∷ 0x50 ∷ []) ++ replicate 80 0xff)) writes.CountKeyData) }
+one_record = record (empty_track 0) {
+  records = records_after (empty_track 0)
+      (write_on D3390 (empty_track 0) (stands operations.Format (Count 0))
+      (word 0x1d 0 88 ((0 ∷ 0 ∷ 0 ∷ 0 ∷ 1 ∷ 0 ∷ 0 ∷ 0x50 ∷ []) ++ replicate 80 0xff)) writes.CountKeyData);
+}
 
-record_one_is_formatted : one_record.records ≡ empty_zero 0 ∷ record { id = record { cchh = record { cc = 0; hh = 0 }; r = 1 }; key = []; body = replicate 80 0xff } ∷ []
+record_one_is_formatted : one_record.records ≡ empty_zero 0 ∷ record {
+  id =
+      record { cchh = record { cc = 0; hh = 0 }; r = 1 };
+  key = [];
+  body = replicate 80 0xff;
+} ∷ []
 unfolding one_record stands word records_after records_by
 record_one_is_formatted = refl
 
@@ -82,7 +98,8 @@ one_of_the_domain_is_taken = refl
 
 -- a record of n bytes of data behind record i
 formatted : Geometry → List Record → ℕ → ℕ → List ℕ → Looked
-formatted g records i count given = write_on g (record (empty_track 0) { records = records }) (stands operations.Format (Body i)) (word 0x1d 0 count given) writes.CountKeyData
+formatted g records i count given = write_on g (record (empty_track 0) { records = records })
+    (stands operations.Format (Body i)) (word 0x1d 0 count given) writes.CountKeyData
 
 largest_of_a_3390 : shown (formatted D3390 (empty_zero 0 ∷ []) 0 56672 (0 ∷ 0 ∷ 0 ∷ 0 ∷ 1 ∷ 0 ∷ 0xdd ∷ 0x58 ∷ [])) ≡ 0x0c ∷ 0 ∷ 0 ∷ []
 unfolding formatted shown shown_by ended second_byte stands word
@@ -112,6 +129,12 @@ a_thirteenth_does_not_fit : shown (formatted D3390 (filled 12) 12 4104 (0 ∷ 0 
 unfolding filled formatted shown shown_by ended second_byte stands word
 a_thirteenth_does_not_fit = refl
 
-an_end_of_file_is_formatted : records_after (empty_track 0) (formatted D3390 (empty_zero 0 ∷ []) 0 8 (0 ∷ 0 ∷ 0 ∷ 0 ∷ 1 ∷ 0 ∷ 0 ∷ 0 ∷ [])) ≡ empty_zero 0 ∷ record { id = record { cchh = record { cc = 0; hh = 0 }; r = 1 }; key = []; body = [] } ∷ []
+an_end_of_file_is_formatted : records_after (empty_track 0) (formatted D3390 (empty_zero 0 ∷ []) 0 8
+    (0 ∷ 0 ∷ 0 ∷ 0 ∷ 1 ∷ 0 ∷ 0 ∷ 0 ∷ [])) ≡ empty_zero 0 ∷ record {
+      id =
+          record { cchh = record { cc = 0; hh = 0 }; r = 1 };
+      key = [];
+      body = [];
+    } ∷ []
 unfolding formatted records_after records_by stands word
 an_end_of_file_is_formatted = refl

@@ -1,10 +1,42 @@
 -- A command is decoded once: into what it is to do, or into the sense of the first check that it fails.
-use Rattle.std.specs.Prelude.{ℕ, ◌==◌, ◌&&◌, not, is_some, nat_lt, nat_le, Bool, true, false, List, take, drop, slice_index, Option, None, Some, Result, Ok, Err, if◌then◌else◌}
+use Rattle.std.specs.Prelude.{
+  ℕ,
+  ◌==◌,
+  ◌&&◌,
+  not,
+  is_some,
+  nat_lt,
+  nat_le,
+  Bool,
+  true,
+  false,
+  List,
+  take,
+  drop,
+  slice_index,
+  Option,
+  None,
+  Some,
+  Result,
+  Ok,
+  Err,
+  if◌then◌else◌,
+}
 use Rattle.ckd_types.specs.declared.channel.Ccw.{Ccw}
 use Rattle.ckd_types.specs.declared.command.Command.{Command}
 use Rattle.ckd_types.specs.declared.command.Command.TheVariants as commands
 use Rattle.ckd_types.specs.declared.command.Control.{Control}
-use Rattle.ckd_types.specs.declared.command.Control.TheVariants.{NoOperation, Seek, SeekCylinder, SeekHead, Recalibrate, SetSector, SetFileMask, DefineExtent, LocateRecord}
+use Rattle.ckd_types.specs.declared.command.Control.TheVariants.{
+  NoOperation,
+  Seek,
+  SeekCylinder,
+  SeekHead,
+  Recalibrate,
+  SetSector,
+  SetFileMask,
+  DefineExtent,
+  LocateRecord,
+}
 use Rattle.ckd_types.specs.declared.command.DeviceCommand.{DeviceCommand}
 use Rattle.ckd_types.specs.declared.command.DeviceCommand.TheVariants as devices
 use Rattle.ckd_types.specs.declared.command.ReadArea.{ReadArea}

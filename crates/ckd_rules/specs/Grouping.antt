@@ -1,5 +1,25 @@
 -- Path groups and who holds a device: what set path group ID makes of the paths and of the reservation, and what sense path group ID tells.
-use Rattle.std.specs.Prelude.{ℕ, ◌+◌, ◌-◌, ◌==◌, ◌||◌, not, Bool, true, false, List, ◌∷◌, map, replicate, slice_index_or, slice_set, Option, None, Some, if◌then◌else◌}
+use Rattle.std.specs.Prelude.{
+  ℕ,
+  ◌+◌,
+  ◌-◌,
+  ◌==◌,
+  ◌||◌,
+  not,
+  Bool,
+  true,
+  false,
+  List,
+  ◌∷◌,
+  map,
+  replicate,
+  slice_index_or,
+  slice_set,
+  Option,
+  None,
+  Some,
+  if◌then◌else◌,
+}
 use Rattle.std.specs.Int.RustNames.{bit_and}
 use Rattle.std.specs.List.{list_any}
 use Rattle.std.specs.Str.{bytes_eq}

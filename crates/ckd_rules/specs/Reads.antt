@@ -89,7 +89,8 @@ read_stance n area s i passes = one_less (record s { place = read_place n area i
 -- record i was read, or the track from it on
 abbrev pub read_ended : Track → ReadArea → Stance → Ccw → ℕ → ℕ → Outcome
 read_ended t area s c i passes =
-    ended (read_stance (length t.records) area s i passes) c (length (read_bytes t area i)) (read_status area (record_at t.records i).body) (sent_of c (read_bytes t area i))
+    ended (read_stance (length t.records) area s i passes) c (length (read_bytes t area i))
+    (read_status area (record_at t.records i).body) (sent_of c (read_bytes t area i))
 
 abbrev pub read_sought : Track → ReadArea → Stance → Ccw → Sought → Looked
 read_sought t area s c (Here i passes) = ends (read_ended t area s c i passes)

@@ -7,7 +7,20 @@ use Rattle.ckd_rules.specs.declared.stance.After.TheVariants.{Other}
 
 -- a chain begins at track 0
 abbrev pub first_stance : Stance
-first_stance = record { extent = None; mask = 0; mask_set = false; domain = None; left = 0; track = 0; place = Index; passes = 0; after = Other; commands = 0; moved = 0 }
+first_stance = record {
+  extent = None;
+  mask = 0;
+  mask_set = false;
+  domain = None;
+  left = 0;
+  track = 0;
+  place =
+      Index;
+  passes = 0;
+  after = Other;
+  commands = 0;
+  moved = 0;
+}
 
 -- the domain ends with its last command
 abbrev pub domain_with : ℕ → Option Domain → Option Domain

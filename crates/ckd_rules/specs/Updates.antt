@@ -39,7 +39,8 @@ update_data in_domain s c i r =
 -- also the key of an end of file
 abbrev pub update_key_data : Bool → Stance → Ccw → ℕ → Record → Looked
 update_key_data in_domain s c i r =
-    edits (Update i (given_at 0 (length r.key) c) (given_at (length r.key) (length r.body) c)) (update_ended in_domain s c i r.body (length r.key + length r.body))
+    edits (Update i (given_at 0 (length r.key) c) (given_at (length r.key) (length r.body) c))
+    (update_ended in_domain s c i r.body (length r.key + length r.body))
 
 abbrev pub update_record : Bool → Bool → Stance → Ccw → ℕ → Record → Looked
 update_record with_key in_domain s c i r = if with_key then update_key_data in_domain s c i r else update_data in_domain s c i r
@@ -51,4 +52,6 @@ update_sought with_key in_domain records s c (Nowhere sense) = ends (refused s c
 
 abbrev pub update_on : Bool → Bool → Track → Stance → Ccw → Looked
 update_on with_key in_domain t s c =
-    update_sought with_key in_domain t.records s c (find_from in_domain s (if_there (length t.records) (next_area with_key (place_on (length t.records) s.place))) (if_there (length t.records) 1))
+    update_sought with_key in_domain t.records s c (find_from in_domain s
+    (if_there (length t.records) (next_area with_key (place_on (length t.records) s.place)))
+    (if_there (length t.records) 1))

@@ -40,4 +40,5 @@ walked t on s (Edits edit e) = record { outcome = record { stance = s; ending = 
 -- are, or else it would end with equipment check, as if it had done nothing from its start on
 unfoldable pub walk : ℕ → Geometry → (ℕ → Track) → Stance → Ccw → Look → Stance → Walked
 walk zero g tracks start c look s = untouched (refused start c equipment_sense)
-walk (suc n) g tracks start c look s = walked s.track (walk n g tracks start c look) (look_on g (tracks s.track) s c look).stance (look_on g (tracks s.track) s c look).turned
+walk (suc n) g tracks start c look s = walked s.track (walk n g tracks start c look)
+    (look_on g (tracks s.track) s c look).stance (look_on g (tracks s.track) s c look).turned

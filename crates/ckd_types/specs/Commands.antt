@@ -3,7 +3,17 @@ use Rattle.std.specs.Prelude.{ℕ, ◌==◌, ◌||◌, nat_le, Bool, true, false
 use Rattle.ckd_types.specs.declared.command.Command.{Command}
 use Rattle.ckd_types.specs.declared.command.Command.TheVariants.{Control, Search, Read, Write, Device}
 use Rattle.ckd_types.specs.declared.command.Comparison.TheVariants.{Equal, High, EqualOrHigh}
-use Rattle.ckd_types.specs.declared.command.Control.TheVariants.{NoOperation, Seek, SeekCylinder, SeekHead, Recalibrate, SetSector, SetFileMask, DefineExtent, LocateRecord}
+use Rattle.ckd_types.specs.declared.command.Control.TheVariants.{
+  NoOperation,
+  Seek,
+  SeekCylinder,
+  SeekHead,
+  Recalibrate,
+  SetSector,
+  SetFileMask,
+  DefineExtent,
+  LocateRecord,
+}
 use Rattle.ckd_types.specs.declared.command.DeviceCommand.TheVariants.{Sense, SenseId, Reserve, Release, UnconditionalReserve, SetPathGroup, SensePathGroup}
 use Rattle.ckd_types.specs.declared.command.ReadArea.{ReadArea}
 use Rattle.ckd_types.specs.declared.command.ReadArea.TheVariants as reads

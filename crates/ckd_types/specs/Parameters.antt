@@ -1,5 +1,34 @@
 -- What the parameter bytes of seeks, define extent and locate record mean.
-use Rattle.std.specs.Prelude.{ℕ, ◌+◌, ◌*◌, ◌-◌, ◌/◌, ◌==◌, ◌&&◌, ◌||◌, not, is_some, nat_lt, nat_le, Bool, true, false, List, ◌++◌, take, replicate, length, slice_index, Option, None, Some, Result, Ok, Err, if◌then◌else◌}
+use Rattle.std.specs.Prelude.{
+  ℕ,
+  ◌+◌,
+  ◌*◌,
+  ◌-◌,
+  ◌/◌,
+  ◌==◌,
+  ◌&&◌,
+  ◌||◌,
+  not,
+  is_some,
+  nat_lt,
+  nat_le,
+  Bool,
+  true,
+  false,
+  List,
+  ◌++◌,
+  take,
+  replicate,
+  length,
+  slice_index,
+  Option,
+  None,
+  Some,
+  Result,
+  Ok,
+  Err,
+  if◌then◌else◌,
+}
 use Rattle.std.specs.Int.RustNames.{bit_and}
 use Rattle.ckd_types.specs.declared.geometry.Cchh.{Cchh}
 use Rattle.ckd_types.specs.declared.channel.Ccw.{Ccw}

@@ -113,7 +113,9 @@ lines_ok i c h = (start_ok (path_of i) c.device (path_least i) (path_most i) h, 
 events_ok : (n i x : ℕ) → Each (EventOk three) (events_from i (choices n x))
 events_ok zero i x = tt
 events_ok (suc n) i x =
-    each_joined (EventOk three) (lines_of i (choice_behind x)) (events_from (i + 1) (choices n (choice_behind x).last)) (lines_ok i (choice_behind x) (device_declared x)) (events_ok n (i + 1) (choice_behind x).last)
+    each_joined (EventOk three) (lines_of i (choice_behind x)) (events_from (i + 1)
+    (choices n (choice_behind x).last)) (lines_ok i (choice_behind x) (device_declared x))
+    (events_ok n (i + 1) (choice_behind x).last)
 
 pub events_count : (n i x : ℕ) → length (events_from i (choices n x)) ≤ 3 * n
 events_count zero i x = omega arith
@@ -145,7 +147,13 @@ is_deck seed count h = record {
   frames = omega arith;
   slots = omega arith;
   some = omega arith;
-  devices = (line_ok [] 0 (omega arith) refl, (line_ok (device_line 0 ∷ []) 1 (omega arith) refl, (line_ok (device_line 0 ∷ device_line 1 ∷ []) 2 (omega arith) refl, tt)));
+  devices = (
+    line_ok [] 0 (omega arith) refl,
+    (
+      line_ok (device_line 0 ∷ []) 1 (omega arith) refl,
+      (line_ok (device_line 0 ∷ device_line 1 ∷ []) 2 (omega arith) refl, tt),
+    ),
+  );
   faults = tt;
   fault_count = omega arith;
   programs = programs_ok count 1 seed;

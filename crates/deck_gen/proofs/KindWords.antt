@@ -49,9 +49,12 @@ extent_facts mask attributes m a = record {
   flags = omega arith;
   count = omega arith;
   given =
-      joined_bytes (mask ∷ attributes ∷ 0x10 ∷ 0 ∷ []) (0 ∷ 0 ∷ 0 ∷ 0 ∷ 0 ∷ 0 ∷ 0 ∷ 0 ∷ 0 ∷ 1 ∷ 0 ∷ 0x0e ∷ []) (four_bytes mask attributes 0x10 0 m a (omega arith) (omega arith))
+      joined_bytes (mask ∷ attributes ∷ 0x10 ∷ 0 ∷ []) (0 ∷ 0 ∷ 0 ∷ 0 ∷ 0 ∷ 0 ∷ 0 ∷ 0 ∷ 0 ∷ 1 ∷ 0 ∷ 0x0e ∷ [])
+      (four_bytes mask attributes 0x10 0 m a (omega arith) (omega arith))
       (joined_bytes (0 ∷ 0 ∷ 0 ∷ 0 ∷ []) (0 ∷ 0 ∷ 0 ∷ 0 ∷ 0 ∷ 1 ∷ 0 ∷ 0x0e ∷ []) (four_bytes 0 0 0 0 (omega arith) (omega arith) (omega arith) (omega arith))
-      (joined_bytes (0 ∷ 0 ∷ 0 ∷ 0 ∷ []) (0 ∷ 1 ∷ 0 ∷ 0x0e ∷ []) (four_bytes 0 0 0 0 (omega arith) (omega arith) (omega arith) (omega arith)) (four_bytes 0 1 0 0x0e (omega arith) (omega arith) (omega arith) (omega arith))));
+      (joined_bytes (0 ∷ 0 ∷ 0 ∷ 0 ∷ []) (0 ∷ 1 ∷ 0 ∷ 0x0e ∷ [])
+      (four_bytes 0 0 0 0 (omega arith) (omega arith) (omega arith) (omega arith))
+      (four_bytes 0 1 0 0x0e (omega arith) (omega arith) (omega arith) (omega arith))));
 }
 
 locate_facts : (operation count t r : ℕ) → operation < 256 → count < 256 → r < 256 → CcwFacts (locate_word operation count t r)
@@ -60,7 +63,8 @@ locate_facts operation count t r o c s = record {
   flags = omega arith;
   count = omega arith;
   given =
-      joined_bytes (operation ∷ 0 ∷ 0 ∷ count ∷ []) (place_bytes t ++ place_bytes t ++ (r ∷ 0 ∷ 0 ∷ 0 ∷ [])) (four_bytes operation 0 0 count o (omega arith) (omega arith) c)
+      joined_bytes (operation ∷ 0 ∷ 0 ∷ count ∷ []) (place_bytes t ++ place_bytes t ++ (r ∷ 0 ∷ 0 ∷ 0 ∷ []))
+      (four_bytes operation 0 0 count o (omega arith) (omega arith) c)
       (joined_bytes (place_bytes t) (place_bytes t ++ (r ∷ 0 ∷ 0 ∷ 0 ∷ [])) (place_is t)
       (joined_bytes (place_bytes t) (r ∷ 0 ∷ 0 ∷ 0 ∷ []) (place_is t) (four_bytes r 0 0 0 s (omega arith) (omega arith) (omega arith))));
 }
@@ -86,15 +90,43 @@ words_facts Format t x = (
   extent_facts 0xc0 0xc0 (omega arith) (omega arith),
   (
     locate_facts 0x03 4 t 0 (omega arith) (omega arith) (omega arith),
-    (format_facts 0x40 t 1 x (omega arith) (omega arith), (format_facts 0x40 t 2 x (omega arith) (omega arith), (format_facts 0x40 t 3 x (omega arith) (omega arith), (format_facts 0x00 t 4 x (omega arith) (omega arith), tt)))),
+    (
+      format_facts 0x40 t 1 x (omega arith) (omega arith),
+      (
+        format_facts 0x40 t 2 x (omega arith) (omega arith),
+        (
+          format_facts 0x40 t 3 x (omega arith) (omega arith),
+          (
+            format_facts 0x00 t 4 x (omega arith)
+                (omega arith),
+            tt,
+          ),
+        ),
+      ),
+    ),
   ),
 )
-words_facts Update t x = (extent_facts 0x80 0xc0 (omega arith) (omega arith), (locate_facts 0x01 1 t 1 (omega arith) (omega arith) (omega arith), (update_facts x, tt)))
+words_facts Update t x = (
+  extent_facts 0x80 0xc0 (omega arith) (omega arith),
+  (locate_facts 0x01 1 t 1 (omega arith) (omega arith) (omega arith), (update_facts x, tt)),
+)
 words_facts Read t x = (
   extent_facts 0x40 0xc0 (omega arith) (omega arith),
-  (locate_facts 0x06 2 t 1 (omega arith) (omega arith) (omega arith), (read_facts 0x86 0x60 4096 (omega arith) (omega arith) (omega arith), (read_facts 0x86 0x20 4096 (omega arith) (omega arith) (omega arith), tt))),
+  (
+    locate_facts 0x06 2 t 1 (omega arith) (omega arith) (omega arith),
+    (
+      read_facts 0x86 0x60 4096 (omega arith) (omega arith) (omega arith),
+      (read_facts 0x86 0x20 4096 (omega arith) (omega arith) (omega arith), tt),
+    ),
+  ),
 )
 words_facts ReadTracks t x = (
   extent_facts 0x40 0xcc (omega arith) (omega arith),
-  (locate_facts 0x0c 2 t 0 (omega arith) (omega arith) (omega arith), (read_facts 0xde 0x60 65535 (omega arith) (omega arith) (omega arith), (read_facts 0xde 0x20 65535 (omega arith) (omega arith) (omega arith), tt))),
+  (
+    locate_facts 0x0c 2 t 0 (omega arith) (omega arith) (omega arith),
+    (
+      read_facts 0xde 0x60 65535 (omega arith) (omega arith) (omega arith),
+      (read_facts 0xde 0x20 65535 (omega arith) (omega arith) (omega arith), tt),
+    ),
+  ),
 )

@@ -34,7 +34,15 @@ pub record IsMade (seed count n x : ℕ) (deck : DeckLines) : Type 0 where
   pub program_count : length deck.programs ≡ n
   pub event_count : length deck.events ≤ 2 + 3 * n
 
-pub none_made : (seed count : ℕ) (deck : DeckLines) → deck ≡ record { frames = 64; slots = 16; devices = device_line 0 ∷ device_line 1 ∷ device_line 2 ∷ []; faults = []; programs = []; events = first_events }
+pub none_made : (seed count : ℕ) (deck : DeckLines) → deck ≡ record {
+  frames = 64;
+  slots = 16;
+  devices =
+      device_line 0 ∷ device_line 1 ∷ device_line 2 ∷ [];
+  faults = [];
+  programs = [];
+  events = first_events;
+}
     → IsMade seed count 0 seed deck
 none_made seed count deck e = rw e (record {
   within = omega arith;
@@ -56,7 +64,11 @@ pub few_lines : (i : ℕ) (c : Choice) → length (lines_of i c) ≤ 3
 few_lines i c = omega (arith, third_few c.device (i % 3 == 0))
 
 pub one_made : (seed count n x : ℕ) (deck : DeckLines) → n < count → IsMade seed count n x deck
-    → IsMade seed count (n + 1) (choice_behind x).last (record deck { programs = deck.programs ++ planned (n + 1) (choice_behind x) ∷ []; events = deck.events ++ lines_of (n + 1) (choice_behind x) })
+    → IsMade seed count (n + 1) (choice_behind x).last (record deck {
+      programs = deck.programs
+          ++ planned (n + 1) (choice_behind x) ∷ [];
+      events = deck.events ++ lines_of (n + 1) (choice_behind x);
+    })
 one_made seed count n x deck h made =
     let c = choice_behind x in
     let left = choices_left n count x h in

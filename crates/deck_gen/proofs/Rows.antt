@@ -54,10 +54,17 @@ reads_tracks = refl
 -- five programs, on devices 0, 2, 2, 0 and 2
 few : List Choice
 few =
-    record { device = 0; track = 3; kind = Format; last = 5 } ∷ record { device = 2; track = 4; kind = Update; last = 6 } ∷ record { device = 2; track = 29; kind = Read; last = 7 }
+    record { device = 0; track = 3; kind = Format; last = 5 } ∷ record {
+      device = 2;
+      track = 4;
+      kind =
+          Update;
+      last = 6;
+    } ∷ record { device = 2; track = 29; kind = Read; last = 7 }
     ∷ record { device = 0; track = 0; kind = ReadTracks; last = 8 } ∷ record { device = 2; track = 9; kind = Read; last = 9 } ∷ []
 
-events : (deck_of few).events ≡ Pair 0 1 ∷ Settle 0 ∷ Start 1 0 ∷ Run 0 ∷ Start 2 2 ∷ Run 2 ∷ Start 3 2 ∷ Run 2 ∷ Back 2 ∷ Start 4 0 ∷ Run 0 ∷ Start 1 2 ∷ Run 2 ∷ Settle 0 ∷ Settle 2 ∷ []
+events : (deck_of few).events ≡ Pair 0 1 ∷ Settle 0 ∷ Start 1 0 ∷ Run 0 ∷ Start 2 2 ∷ Run 2 ∷ Start 3 2 ∷ Run 2 ∷
+    Back 2 ∷ Start 4 0 ∷ Run 0 ∷ Start 1 2 ∷ Run 2 ∷ Settle 0 ∷ Settle 2 ∷ []
 unfolding few
 events = refl
 

@@ -8,7 +8,22 @@ use Rattle.hex.proofs.HexLemmas.{length-encode_with}
 use Rattle.ckd_types.specs.declared.channel.Ccw.{Ccw}
 use Rattle.deck_plan.specs.declared.event.EventLine.{EventLine}
 use Rattle.deck_plan.specs.declared.event.EventLine.TheVariants.{Back, Settle, Pair}
-use Rattle.deck_text.specs.Canonical.{head_text, device_text, program_text, word_text, line_end, bytes_text, ccw_text, end_text, planned_text, events_text, with_one, with_two, event_text, canonical}
+use Rattle.deck_text.specs.Canonical.{
+  head_text,
+  device_text,
+  program_text,
+  word_text,
+  line_end,
+  bytes_text,
+  ccw_text,
+  end_text,
+  planned_text,
+  events_text,
+  with_one,
+  with_two,
+  event_text,
+  canonical,
+}
 use Rattle.deck_text.proofs.DeckAgain.{Each}
 use Rattle.deck_gen.specs.declared.choice.Kind.{Kind}
 use Rattle.deck_gen.specs.declared.choice.Kind.TheVariants.{Format, Update, Read, ReadTracks}
@@ -42,7 +57,14 @@ word_size c h =
 
 ccw_size : (c : Ccw) → IsSmall c → length (ccw_text c) ≤ 49
 unfolding line_end
-ccw_size c h = omega (arith, length-append (word_text c) (bytes_text c.given ++ line_end), length-append (bytes_text c.given) line_end, word_size c h.count, bytes_size c.given h.given)
+ccw_size c h = omega (
+  arith,
+  length-append (word_text c) (bytes_text c.given ++ line_end),
+  length-append
+      (bytes_text c.given) line_end,
+  word_size c h.count,
+  bytes_size c.given h.given,
+)
 
 words_size : (ccws : List Ccw) → Each IsSmall ccws → length (flat_map ccw_text ccws) ≤ 49 * length ccws
 words_size [] h = omega arith
@@ -53,12 +75,49 @@ all_small Format t x = (
   record { count = omega arith; given = omega arith },
   (
     record { count = omega arith; given = omega arith },
-    (record { count = omega arith; given = omega arith }, (record { count = omega arith; given = omega arith }, (record { count = omega arith; given = omega arith }, (record { count = omega arith; given = omega arith }, tt)))),
+    (
+      record { count = omega arith; given = omega arith },
+      (
+        record { count = omega arith; given = omega arith },
+        (
+          record { count = omega arith; given = omega arith },
+          (
+            record {
+              count = omega arith;
+              given =
+                  omega arith;
+            },
+            tt,
+          ),
+        ),
+      ),
+    ),
   ),
 )
-all_small Update t x = (record { count = omega arith; given = omega arith }, (record { count = omega arith; given = omega arith }, (record { count = omega arith; given = omega arith }, tt)))
-all_small Read t x = (record { count = omega arith; given = omega arith }, (record { count = omega arith; given = omega arith }, (record { count = omega arith; given = omega arith }, (record { count = omega arith; given = omega arith }, tt))))
-all_small ReadTracks t x = (record { count = omega arith; given = omega arith }, (record { count = omega arith; given = omega arith }, (record { count = omega arith; given = omega arith }, (record { count = omega arith; given = omega arith }, tt))))
+all_small Update t x = (
+  record { count = omega arith; given = omega arith },
+  (record { count = omega arith; given = omega arith }, (record { count = omega arith; given = omega arith }, tt)),
+)
+all_small Read t x = (
+  record { count = omega arith; given = omega arith },
+  (
+    record { count = omega arith; given = omega arith },
+    (
+      record { count = omega arith; given = omega arith },
+      (record { count = omega arith; given = omega arith }, tt),
+    ),
+  ),
+)
+all_small ReadTracks t x = (
+  record { count = omega arith; given = omega arith },
+  (
+    record { count = omega arith; given = omega arith },
+    (
+      record { count = omega arith; given = omega arith },
+      (record { count = omega arith; given = omega arith }, tt),
+    ),
+  ),
+)
 
 few_words : (k : Kind) (t x : ℕ) → length (program_of k t x) ≤ 6
 few_words Format t x = omega arith
@@ -69,7 +128,16 @@ few_words ReadTracks t x = omega arith
 line_size : (text : List ℕ) (a b : ℕ) → a < 10 → b < 10 → length (with_two text a b) ≤ length text + 4
 unfolding with_two
 line_size text a b ha hb =
-    omega (arith, digit_size a ha, digit_size b hb, length-append text (decimal a ++ (codes " " ++ (decimal b ++ codes "\n"))), length-append (decimal a) (codes " " ++ (decimal b ++ codes "\n")), length-append (decimal b) (codes "\n"))
+    omega (
+      arith,
+      digit_size a ha,
+      digit_size b hb,
+      length-append text (decimal a
+          ++ (codes " " ++ (decimal b ++ codes "\n"))),
+      length-append (decimal a) (codes " "
+          ++ (decimal b ++ codes "\n")),
+      length-append (decimal b) (codes "\n"),
+    )
 
 short_size : (text : List ℕ) (a : ℕ) → a < 10 → length (with_one text a) ≤ length text + 2
 unfolding with_one
@@ -78,23 +146,54 @@ short_size text a ha = omega (arith, digit_size a ha, length-append text (decima
 opening_size : (path device : ℕ) → path < 10 → device < 10 → length (program_text path device) ≤ 12
 unfolding program_text
 opening_size path device hp hd =
-    omega (arith, digit_size path hp, digit_size device hd, length-append (decimal path) (codes " " ++ (decimal device ++ codes "\n")), length-append (decimal device) (codes "\n"))
+    omega (
+      arith,
+      digit_size path hp,
+      digit_size device hd,
+      length-append (decimal path) (codes " "
+          ++ (decimal device ++ codes "\n")),
+      length-append (decimal device) (codes "\n"),
+    )
 
 planned_size : (i : ℕ) (c : Choice) → c.device < 10 → length (planned_text (planned i c)) ≤ 320
 unfolding end_text
 planned_size i c h =
     let words = program_of c.kind c.track c.last in
-    omega (arith, path_most i, opening_size (path_of i) c.device (omega (arith, path_most i)) h, length-append (program_text (path_of i) c.device) (flat_map ccw_text words ++ end_text), length-append (flat_map ccw_text words) end_text, words_size words (all_small c.kind c.track c.last), few_words c.kind c.track c.last)
+    omega (
+      arith,
+      path_most i,
+      opening_size (path_of i) c.device (omega (arith, path_most i)) h,
+      length-append
+          (program_text (path_of i) c.device) (flat_map ccw_text words ++ end_text),
+      length-append
+          (flat_map ccw_text words) end_text,
+      words_size words (all_small c.kind c.track c.last),
+      few_words c.kind
+          c.track c.last,
+    )
 
 programs_size : (n i x : ℕ) → length (flat_map planned_text (programs_from i (choices n x))) ≤ 320 * n
 programs_size zero i x = omega arith
 programs_size (suc n) i x =
     let c = choice_behind x in
-    omega (arith, planned_size i c (omega (arith, (device_declared x).small)), programs_size n (i + 1) c.last, length-append (planned_text (planned i c)) (flat_map planned_text (programs_from (i + 1) (choices n c.last))))
+    omega (
+      arith,
+      planned_size i c (omega (arith, (device_declared x).small)),
+      programs_size n
+          (i + 1) c.last,
+      length-append (planned_text (planned i c))
+          (flat_map planned_text (programs_from (i + 1) (choices n c.last))),
+    )
 
 events_size_joined : (xs ys : List EventLine) → length (flat_map event_text (xs ++ ys)) ≡ length (flat_map event_text xs) + length (flat_map event_text ys)
 events_size_joined [] ys = omega arith
-events_size_joined (x ∷ xs) ys = omega (arith, length-append (event_text x) (flat_map event_text (xs ++ ys)), length-append (event_text x) (flat_map event_text xs), events_size_joined xs ys)
+events_size_joined (x ∷ xs) ys = omega (
+  arith,
+  length-append (event_text x)
+      (flat_map event_text (xs ++ ys)),
+  length-append (event_text x) (flat_map event_text xs),
+  events_size_joined xs ys,
+)
 
 third_size : (d : ℕ) (third : Bool) → d < 10 → length (flat_map event_text (if third then Back d ∷ [] else [])) ≤ 8
 unfolding event_text
@@ -106,35 +205,98 @@ unfolding event_text
 lines_size i c h =
     let d = c.device in
     let third = if i % 3 == 0 then Back d ∷ [] else [] in
-    omega (arith, path_most i, line_size (codes "START ") (path_of i) d (omega (arith, path_most i)) h, short_size (codes "RUN ") d h, third_size d (i % 3 == 0) h, length-append (with_two (codes "START ") (path_of i) d) (with_one (codes "RUN ") d ++ flat_map event_text third), length-append (with_one (codes "RUN ") d) (flat_map event_text third))
+    omega (
+      arith,
+      path_most i,
+      line_size (codes "START ") (path_of i) d (omega (arith, path_most i)) h,
+      short_size
+          (codes "RUN ") d h,
+      third_size d (i % 3 == 0) h,
+      length-append (with_two (codes "START ") (path_of i) d)
+          (with_one (codes "RUN ") d ++ flat_map event_text third),
+      length-append (with_one (codes "RUN ") d)
+          (flat_map event_text third),
+    )
 
 events_size : (n i x : ℕ) → length (flat_map event_text (events_from i (choices n x))) ≤ 30 * n
 events_size zero i x = omega arith
 events_size (suc n) i x =
     let c = choice_behind x in
-    omega (arith, events_size_joined (lines_of i c) (events_from (i + 1) (choices n c.last)), lines_size i c (omega (arith, (device_declared x).small)), events_size n (i + 1) c.last)
+    omega (
+      arith,
+      events_size_joined (lines_of i c) (events_from (i + 1) (choices n c.last)),
+      lines_size i c
+          (omega (arith, (device_declared x).small)),
+      events_size n (i + 1) c.last,
+    )
 
 first_size : length (flat_map event_text (Pair 0 1 ∷ Settle 0 ∷ [])) ≤ 40
 unfolding event_text
-first_size = omega (arith, line_size (codes "PAIR ") 0 1 (omega arith) (omega arith), short_size (codes "SETTLE ") 0 (omega arith), length-append (with_two (codes "PAIR ") 0 1) (with_one (codes "SETTLE ") 0 ++ []), length-append (with_one (codes "SETTLE ") 0) [])
+first_size = omega (
+  arith,
+  line_size (codes "PAIR ") 0 1 (omega arith) (omega arith),
+  short_size (codes "SETTLE ") 0
+      (omega arith),
+  length-append (with_two (codes "PAIR ") 0 1) (with_one (codes "SETTLE ") 0 ++ []),
+  length-append
+      (with_one (codes "SETTLE ") 0) [],
+)
 
 last_size : length (flat_map event_text (Settle 0 ∷ Settle 2 ∷ [])) ≤ 40
 unfolding event_text
-last_size = omega (arith, short_size (codes "SETTLE ") 0 (omega arith), short_size (codes "SETTLE ") 2 (omega arith), length-append (with_one (codes "SETTLE ") 0) (with_one (codes "SETTLE ") 2 ++ []), length-append (with_one (codes "SETTLE ") 2) [])
+last_size = omega (
+  arith,
+  short_size (codes "SETTLE ") 0 (omega arith),
+  short_size (codes "SETTLE ") 2
+      (omega arith),
+  length-append (with_one (codes "SETTLE ") 0) (with_one (codes "SETTLE ") 2 ++ []),
+  length-append
+      (with_one (codes "SETTLE ") 2) [],
+)
 
 head_size : length (head_text 64 16) ≤ 60
 unfolding head_text
 head_size =
-    omega (arith, length-decimal-le 2 64 (omega arith) (omega arith) (omega arith), length-decimal-le 2 16 (omega arith) (omega arith) (omega arith), length-append (decimal 64) (codes "\nSTORE " ++ (decimal 16 ++ codes "\n")), length-append (decimal 16) (codes "\n"))
+    omega (
+      arith,
+      length-decimal-le 2 64 (omega arith) (omega arith) (omega arith),
+      length-decimal-le 2 16
+          (omega arith) (omega arith) (omega arith),
+      length-append (decimal 64) (codes "\nSTORE "
+          ++ (decimal 16 ++ codes "\n")),
+      length-append (decimal 16) (codes "\n"),
+    )
 
 device_size : (d : ℕ) → d < 10 → length (device_text (device_line d)) ≤ 40
 unfolding device_text
 device_size d h =
-    omega (arith, digit_size d h, digit_size 2 (omega arith), length-decimal-le 4 3390 (omega arith) (omega arith) (omega arith), length-append (decimal d) (codes " " ++ (decimal 3390 ++ (codes " " ++ (decimal 2 ++ codes "\n")))), length-append (decimal 3390) (codes " " ++ (decimal 2 ++ codes "\n")), length-append (decimal 2) (codes "\n"))
+    omega (
+      arith,
+      digit_size d h,
+      digit_size 2 (omega arith),
+      length-decimal-le 4 3390 (omega arith) (omega arith)
+          (omega arith),
+      length-append (decimal d) (codes " " ++ (decimal 3390
+          ++ (codes " " ++ (decimal 2 ++ codes "\n")))),
+      length-append (decimal 3390) (codes " "
+          ++ (decimal 2 ++ codes "\n")),
+      length-append (decimal 2) (codes "\n"),
+    )
 
 devices_size : length (flat_map device_text three) ≤ 120
 devices_size =
-    omega (arith, device_size 0 (omega arith), device_size 1 (omega arith), device_size 2 (omega arith), length-append (device_text (device_line 0)) (device_text (device_line 1) ++ (device_text (device_line 2) ++ [])), length-append (device_text (device_line 1)) (device_text (device_line 2) ++ []), length-append (device_text (device_line 2)) [])
+    omega (
+      arith,
+      device_size 0 (omega arith),
+      device_size 1 (omega arith),
+      device_size 2
+          (omega arith),
+      length-append (device_text (device_line 0)) (device_text (device_line 1)
+          ++ (device_text (device_line 2) ++ [])),
+      length-append (device_text (device_line 1))
+          (device_text (device_line 2) ++ []),
+      length-append (device_text (device_line 2)) [],
+    )
 
 pub is_short : (seed count : ℕ) → count ≤ 512 → length (canonical (deck_of_seed seed count)) ≤ 16777216
 unfolding events_text
@@ -143,4 +305,22 @@ is_short seed count h =
     let middle = events_from 1 (choices count seed) in
     let last = Settle 0 ∷ Settle 2 ∷ [] in
     let events = flat_map event_text ((Pair 0 1 ∷ Settle 0 ∷ []) ++ middle ++ last) in
-    omega (arith, head_size, devices_size, first_size, last_size, programs_size count 1 seed, events_size count 1 seed, events_size_joined (Pair 0 1 ∷ Settle 0 ∷ []) (middle ++ last), events_size_joined middle last, length-append (head_text 64 16) (flat_map device_text three ++ (programs ++ (events_text ++ events))), length-append (flat_map device_text three) (programs ++ (events_text ++ events)), length-append programs (events_text ++ events), length-append events_text events)
+    omega (
+      arith,
+      head_size,
+      devices_size,
+      first_size,
+      last_size,
+      programs_size count 1 seed,
+      events_size count 1
+          seed,
+      events_size_joined (Pair 0 1 ∷ Settle 0 ∷ []) (middle
+          ++ last),
+      events_size_joined middle last,
+      length-append (head_text 64 16) (flat_map device_text three
+          ++ (programs ++ (events_text ++ events))),
+      length-append (flat_map device_text three) (programs
+          ++ (events_text ++ events)),
+      length-append programs (events_text ++ events),
+      length-append events_text events,
+    )

@@ -17,15 +17,20 @@ module _ {R I S A : Type 0} {z : R} {h : Holdings R} {q : S → A → Holdings R
   unfolding W.After
   after_try x y = record { holds = (x.holds, y.holds) }
 
-  pub after_ask : {call : Call} {k : AnswerTo call → Interaction R I S A} → MayAsk h.slots call → ((a : AnswerTo call) → MayAnswer h.slots call a → Surely z (k a) (with_slots h call a) q) → Surely z (Ask call k) h q
+  pub after_ask : {call : Call} {k : AnswerTo call → Interaction R I S A} → MayAsk h.slots call →
+      ((a : AnswerTo call) → MayAnswer h.slots call a → Surely z (k a) (with_slots h call a) q) →
+      Surely z (Ask call k) h q
   unfolding W.After
   after_ask o f = record { holds = (o, λ a m. (f a m).holds) }
 
-  pub after_read : {side : Side} {t : ℕ} {k : Option R → Interaction R I S A} → Surely z (k None) h q → Surely z (k (Some (get_or (holds_of h side) t z))) h q → Surely z (Read side t k) h q
+  pub after_read : {side : Side} {t : ℕ} {k : Option R → Interaction R I S A} → Surely z (k None) h q →
+      Surely z (k (Some (get_or (holds_of h side) t z))) h q → Surely z (Read side t k) h q
   unfolding W.After
   after_read x y = record { holds = (x.holds, y.holds) }
 
-  pub after_write : {side : Side} {t : ℕ} {r : R} {k : Bool → Interaction R I S A} → Surely z (k true) (with_held h side t r) q → ((x : R) → Surely z (k false) (with_held h side t x) q) → Surely z (Write side t r k) h q
+  pub after_write : {side : Side} {t : ℕ} {r : R} {k : Bool → Interaction R I S A} →
+      Surely z (k true) (with_held h side t r) q → ((x : R) → Surely z (k false) (with_held h side t x) q) →
+      Surely z (Write side t r k) h q
   unfolding W.After
   after_write x y = record { holds = (x.holds, λ v. (y v).holds) }
 
@@ -37,7 +42,9 @@ module _ {R I S A : Type 0} {z : R} {h : Holdings R} {q : S → A → Holdings R
   after_test true f g = f refl
   after_test false f g = g refl
 
-then_holds : {R I S T A B : Type 0} (z : R) (i : Interaction R I S A) (f : S → A → Interaction R I T B) (h : Holdings R) (q : T → B → Holdings R → Type 0) → After z i h (λ s a k. After z (f s a) k q) → After z (and_then i f) h q
+then_holds : {R I S T A B : Type 0} (z : R) (i : Interaction R I S A) (f : S → A →
+    Interaction R I T B) (h : Holdings R) (q : T → B → Holdings R → Type 0) →
+    After z i h (λ s a k. After z (f s a) k q) → After z (and_then i f) h q
 unfolding W.After
 then_holds z (Done s a) f h q x = x
 then_holds z (Try k) f h q x = (then_holds z (k true) f h q x.0, then_holds z (k false) f h q x.1)
@@ -46,7 +53,8 @@ then_holds z (Read side t k) f h q x = (then_holds z (k None) f h q x.0, then_ho
 then_holds z (Write side t r k) f h q x = (then_holds z (k true) f _ q x.0, λ y. then_holds z (k false) f _ q (x.1 y))
 then_holds z (Tell m k) f h q x = λ r. then_holds z (k r) f h q (x r)
 
-weaker : {R I S A : Type 0} (z : R) (i : Interaction R I S A) (h : Holdings R) (p q : S → A → Holdings R → Type 0) → ((s : S) (a : A) (k : Holdings R) → p s a k → q s a k) → After z i h p → After z i h q
+weaker : {R I S A : Type 0} (z : R) (i : Interaction R I S A) (h : Holdings R) (p q : S → A → Holdings R → Type 0) →
+    ((s : S) (a : A) (k : Holdings R) → p s a k → q s a k) → After z i h p → After z i h q
 unfolding W.After
 weaker z (Done s a) h p q w x = w s a h x
 weaker z (Try k) h p q w x = (weaker z (k true) h p q w x.0, weaker z (k false) h p q w x.1)
@@ -56,9 +64,15 @@ weaker z (Write side t r k) h p q w x = (weaker z (k true) _ p q w x.0, λ y. we
 weaker z (Tell m k) h p q w x = λ r. weaker z (k r) h p q w (x r)
 
 module _ {R I S A : Type 0} {z : R} {h : Holdings R} where
-  pub after_weaker : {i : Interaction R I S A} {p q : S → A → Holdings R → Type 0} → Surely z i h p → ((s : S) (a : A) (k : Holdings R) → p s a k → q s a k) → Surely z i h q
+  pub after_weaker : {i : Interaction R I S A} {p q : S → A → Holdings R → Type 0} → Surely z i h p →
+      ((s : S) (a : A) (k : Holdings R) → p s a k → q s a k) → Surely z i h q
   after_weaker {i} {p} {q} x w = record { holds = weaker z i h p q w x.holds }
 
   -- first one of which p holds, and from there on the rest
-  pub after_then : {T B : Type 0} {i : Interaction R I S A} {f : S → A → Interaction R I T B} {p : S → A → Holdings R → Type 0} {q : T → B → Holdings R → Type 0} → Surely z i h p → ((s : S) (a : A) (k : Holdings R) → p s a k → Surely z (f s a) k q) → Surely z (and_then i f) h q
-  after_then {i = i} {f = f} {p = p} {q = q} x w = record { holds = then_holds z i f h q (weaker z i h p (λ s a k. After z (f s a) k q) (λ s a k y. (w s a k y).holds) x.holds) }
+  pub after_then : {T B : Type 0} {i : Interaction R I S A} {f : S → A → Interaction R I T B} {p : S → A →
+      Holdings R → Type 0} {q : T → B → Holdings R → Type 0} → Surely z i h p →
+      ((s : S) (a : A) (k : Holdings R) → p s a k → Surely z (f s a) k q) → Surely z (and_then i f) h q
+  after_then {i = i} {f = f} {p = p} {q = q} x w = record {
+    holds =
+        then_holds z i f h q (weaker z i h p (λ s a k. After z (f s a) k q) (λ s a k y. (w s a k y).holds) x.holds);
+  }

@@ -19,15 +19,21 @@ pub record Other {R S A T B : Type 0} (q : S → A → T → B → Holdings R �
   pub is : q s a state answer h
 
 module _ {R O I S A T B : Type 0} {z : R} {g : O} {q : S → A → T → B → Holdings R → Type 0} where
-  pub on_test : (b : Bool) {x y : Interaction R I S A} {u v : Interaction O I T B} {h : Holdings R} → (b ≡ true → Both z g q x u h) → (b ≡ false → Both z g q y v h) → Both z g q (cond b x y) (cond b u v) h
+  pub on_test : (b : Bool) {x y : Interaction R I S A} {u v : Interaction O I T B} {h : Holdings R} →
+      (b ≡ true → Both z g q x u h) → (b ≡ false → Both z g q y v h) → Both z g q (cond b x y) (cond b u v) h
   on_test true f k = f refl
   on_test false f k = k refl
 
   -- two tests that come out alike
-  pub on_tests : (b c : Bool) {x y : Interaction R I S A} {u v : Interaction O I T B} {h : Holdings R} → c ≡ b → (b ≡ true → Both z g q x u h) → (b ≡ false → Both z g q y v h) → Both z g q (cond b x y) (cond c u v) h
+  pub on_tests : (b c : Bool) {x y : Interaction R I S A} {u v : Interaction O I T B} {h : Holdings R} → c ≡ b →
+      (b ≡ true → Both z g q x u h) → (b ≡ false → Both z g q y v h) → Both z g q (cond b x y) (cond c u v) h
   on_tests b c {x} {y} {u} {v} {h} e f k = subst (λ (d : Bool). Both z g q (cond b x y) (cond d u v) h) (sym e) (on_test b f k)
 
-  pub first_then : {C D E F : Type 0} {r : C → E → D → F → Holdings R → Type 0} {i : Interaction R I S A} {j : Interaction O I T B} (f : S → A → Interaction R I C E) (k : T → B → Interaction O I D F) {h : Holdings R} → Both z g q i j h → ((s : S) (a : A) (m : T) (b : B) (n : Holdings R) → q s a m b n → Both z g r (f s a) (k m b) n) → Both z g r (and_then i f) (and_then j k) h
+  pub first_then : {C D E F : Type 0} {r : C → E → D → F → Holdings R →
+      Type 0} {i : Interaction R I S A} {j : Interaction O I T B} (f : S → A → Interaction R I C E) (k : T → B →
+      Interaction O I D F) {h : Holdings R} → Both z g q i j h →
+      ((s : S) (a : A) (m : T) (b : B) (n : Holdings R) → q s a m b n → Both z g r (f s a) (k m b) n) →
+      Both z g r (and_then i f) (and_then j k) h
   first_then f k (both_done x) w = w _ _ _ _ _ x
   first_then f k (both_try x y) w = both_try (first_then f k x w) (first_then f k y w)
   first_then f k (both_ask e x) w = both_ask e (λ a m. first_then f k (x a m) w)

@@ -3,7 +3,25 @@ use Rattle.std.proofs.Common.{◌≡◌, ℕ, Bool, true, false, List, [], ◌�
 use Rattle.ckd_types.specs.declared.paths.Side.TheVariants.{A, B}
 use Rattle.device_outside.specs.declared.port.SlotGrant.TheVariants.{Given, Denied, Down}
 use Rattle.device_outside.specs.Lists.{is_in, with_number, less_one, less_all}
-use Rattle.device_outside.specs.Pool.{Pool, Call, NextNotice, Touch, WantFrame, SetModified, WantSlot, FreeSlot, TellWaiting, unnumbered, answer, after, new_pool, cache_failed, store_failed, store_repaired, power_lost}
+use Rattle.device_outside.specs.Pool.{
+  Pool,
+  Call,
+  NextNotice,
+  Touch,
+  WantFrame,
+  SetModified,
+  WantSlot,
+  FreeSlot,
+  TellWaiting,
+  unnumbered,
+  answer,
+  after,
+  new_pool,
+  cache_failed,
+  store_failed,
+  store_repaired,
+  power_lost,
+}
 use Rattle.device_outside.specs.Volume.{VolumeView, counted}
 use Rattle.device_outside.specs.Keeper.{Hearing}
 use Rattle.device_outside.specs.Interaction.{Interaction, Done, Try, Ask, Read}
@@ -142,7 +160,11 @@ anything hit = asked (record { by_pool = refl; denials = refl }) done
 silent : ℕ → VolumeView ℕ
 silent reads = record { contents = None; tracks = 15; delivered = None; reads = reads; writes = 0; faults = 0; plan = None; allowance = None }
 
-handed_over : (r : ℕ) → Ran {S = ℕ} (λ ok. ok ≡ true) deaf (Read A 7 (λ got. Done 4 got)) (record untold { a = Some (silent 0) }) 4 (Some r) (record untold { a = Some (record (silent 1) { delivered = Some r }) })
+handed_over : (r : ℕ) → Ran {S = ℕ} (λ ok. ok ≡ true) deaf (Read A 7 (λ got. Done 4 got))
+    (record untold { a = Some (silent 0) }) 4 (Some r) (record untold {
+      a =
+          Some (record (silent 1) { delivered = Some r });
+    })
 unfolding untold silent counted
 handed_over r = read refl (record { delivers = tt; planned = tt; spent = tt; after = refl }) done
 
@@ -162,8 +184,15 @@ is_itself k = grind arith
 
 number_and_count : Both 0 true none_left numbered by_count (record { a = []; b = []; slots = Some [] })
 unfolding numbered by_count none_left is_in less_all
-number_and_count = both_ask refl (λ s new. elim s as (λ s. Both {I = ℕ} 0 true none_left (elim s [ Given k ↦ Ask (FreeSlot k) (λ _. Done tt (Some k)) | Denied ↦ Done tt None | Down ↦ Done tt None ]) (elim (unnumbered WantSlot s) [ Given k ↦ Ask (FreeSlot 0) (λ _. Done tt true) | Denied ↦ Done tt false | Down ↦ Done tt false ]) (with_slots (record { a = []; b = []; slots = Some [] }) WantSlot s)) [
-  | Given k ↦ both_free (ap (λ (b : Bool). cond b true false) (is_itself k)) (both_done (refl, ap (λ (b : Bool). Some (cond b [] (k ∷ []))) (is_itself k)))
-  | Denied ↦ both_done (refl, refl)
-  | Down ↦ both_done (refl, refl)
-])
+number_and_count = both_ask refl (λ s new. elim s as (λ s. Both {I = ℕ} 0 true none_left
+    (elim s [ Given k ↦ Ask (FreeSlot k) (λ _. Done tt (Some k)) | Denied ↦ Done tt None | Down ↦ Done tt None ])
+    (elim (unnumbered WantSlot s) [
+      | Given k ↦ Ask (FreeSlot 0) (λ _. Done tt true)
+      | Denied ↦ Done tt false
+      | Down ↦
+          Done tt false
+    ]) (with_slots (record { a = []; b = []; slots = Some [] }) WantSlot s)) [
+      | Given k ↦ both_free (ap (λ (b : Bool). cond b true false) (is_itself k)) (both_done (refl, ap (λ (b : Bool). Some (cond b [] (k ∷ []))) (is_itself k)))
+      | Denied ↦ both_done (refl, refl)
+      | Down ↦ both_done (refl, refl)
+    ])

@@ -5,7 +5,26 @@ use Rattle.device_outside.specs.declared.port.SlotGrant.TheVariants.{Given, Deni
 use Rattle.device_outside.specs.Lists as L
 use Rattle.device_outside.specs.Lists.{is_in, with_number, less_one, less_all}
 use Rattle.device_outside.specs.Pool as P
-use Rattle.device_outside.specs.Pool.{Pool, Call, NextNotice, Touch, WantFrame, SetModified, SetClean, DropFrame, WantSlot, FreeSlot, TellWaiting, AnswerTo, IsAnswer, IsFree, answer, after, unnumbered, counted_slots}
+use Rattle.device_outside.specs.Pool.{
+  Pool,
+  Call,
+  NextNotice,
+  Touch,
+  WantFrame,
+  SetModified,
+  SetClean,
+  DropFrame,
+  WantSlot,
+  FreeSlot,
+  TellWaiting,
+  AnswerTo,
+  IsAnswer,
+  IsFree,
+  answer,
+  after,
+  unnumbered,
+  counted_slots,
+}
 use Rattle.device_outside.specs.Slots.{Owns, gives_back, slots_after, AreShared}
 
 -- a number that was taken out of a list isn't there any more
@@ -14,7 +33,8 @@ unfolding L.is_in L.less_all
 in_less j k [] e = e
 in_less j k (x ∷ xs) e = go (k == x) (j == x) refl e (in_less j k xs)
   where
-    go : (b c : Bool) → (j == x) ≡ c → is_in j (cond b (less_all k xs) (x ∷ less_all k xs)) ≡ true → (is_in j (less_all k xs) ≡ true → is_in j xs ≡ true) → cond c true (is_in j xs) ≡ true
+    go : (b c : Bool) → (j == x) ≡ c → is_in j (cond b (less_all k xs) (x ∷ less_all k xs)) ≡ true →
+        (is_in j (less_all k xs) ≡ true → is_in j xs ≡ true) → cond c true (is_in j xs) ≡ true
     go b true p e f = refl
     go true false p e f = f e
     go false false p e f = f (subst (λ (v : Bool). cond v true (is_in j (less_all k xs)) ≡ true) p e)
@@ -34,7 +54,8 @@ unfolding L.is_in L.less_one
 others_stay j k [] n e = e
 others_stay j k (x ∷ xs) n e = go (k == x) (j == x) refl refl e (others_stay j k xs n)
   where
-    go : (b c : Bool) → (k == x) ≡ b → (j == x) ≡ c → cond c true (is_in j xs) ≡ true → (is_in j xs ≡ true → is_in j (less_one k xs) ≡ true) → is_in j (cond b xs (x ∷ less_one k xs)) ≡ true
+    go : (b c : Bool) → (k == x) ≡ b → (j == x) ≡ c → cond c true (is_in j xs) ≡ true →
+        (is_in j xs ≡ true → is_in j (less_one k xs) ≡ true) → is_in j (cond b xs (x ∷ less_one k xs)) ≡ true
     go true true p r e f = let s : (j == k) ≡ true = grind arith in absurd cc
     go true false p r e f = e
     go false true p r e f = ap (λ (v : Bool). cond v true (is_in j (less_one k xs))) r
@@ -46,7 +67,8 @@ unfolding L.is_in L.less_one
 one_fewer k [] e = absurd cc
 one_fewer k (x ∷ xs) e = go (k == x) e (one_fewer k xs)
   where
-    go : (b : Bool) → cond b true (is_in k xs) ≡ true → (is_in k xs ≡ true → length xs ≡ suc (length (less_one k xs))) → suc (length xs) ≡ suc (length (cond b xs (x ∷ less_one k xs)))
+    go : (b : Bool) → cond b true (is_in k xs) ≡ true → (is_in k xs ≡ true →
+        length xs ≡ suc (length (less_one k xs))) → suc (length xs) ≡ suc (length (cond b xs (x ∷ less_one k xs)))
     go true e f = refl
     go false e f = ap suc (f e)
 
@@ -62,7 +84,8 @@ unfolding L.is_in L.with_number
 is_in_more j k [] = refl
 is_in_more j k (x ∷ xs) = go (nat_lt x k) (is_in_more j k xs)
   where
-    go : (b : Bool) → is_in j (with_number k xs) ≡ cond (j == k) true (is_in j xs) → is_in j (cond b (x ∷ with_number k xs) (k ∷ x ∷ xs)) ≡ cond (j == k) true (cond (j == x) true (is_in j xs))
+    go : (b : Bool) → is_in j (with_number k xs) ≡ cond (j == k) true (is_in j xs) →
+        is_in j (cond b (x ∷ with_number k xs) (k ∷ x ∷ xs)) ≡ cond (j == k) true (cond (j == x) true (is_in j xs))
     go true e = ap (λ (v : Bool). cond (j == x) true v) e ∙ swapped (j == x) (j == k) (is_in j xs)
     go false e = refl
 
@@ -104,22 +127,31 @@ given_shared used mine others k free s = record { own = own; foreign = foreign; 
       where
         go : (b c : Bool) → (j == k) ≡ b → is_in j others ≡ c → cond b true (is_in j mine) ≡ true → is_in j others ≡ false
         go b false p r x = r
-        go true true p r x = let same : j ≡ k = grind arith in let in_use : is_in k used ≡ true = subst (λ (v : ℕ). is_in v used ≡ true) same (s.foreign j r) in absurd cc
+        go true true p r x = let same : j ≡ k = grind arith in let in_use : is_in k used ≡ true =
+            subst (λ (v : ℕ). is_in v used ≡ true) same (s.foreign j r) in absurd cc
         go false true p r x = s.apart j x
 
 -- one that is given back is nobody's
 freed_shared : (used mine others : List ℕ) (k : ℕ) → is_in k mine ≡ true → AreShared used mine others → AreShared (less_one k used) (less_all k mine) others
-freed_shared used mine others k own s = record { own = λ j e. kept j e (j == k) refl; foreign = λ j e. foreign j e (j == k) refl; apart = λ j e. s.apart j (in_less j k mine e) }
+freed_shared used mine others k own s = record {
+  own = λ j e. kept j e (j == k) refl;
+  foreign =
+      λ j e. foreign j e (j == k) refl;
+  apart = λ j e. s.apart j (in_less j k mine e);
+}
   where
     kept : (j : ℕ) → is_in j (less_all k mine) ≡ true → (b : Bool) → (j == k) ≡ b → is_in j (less_one k used) ≡ true
-    kept j e true p = let same : j ≡ k = grind arith in let f : is_in k (less_all k mine) ≡ true = subst (λ (v : ℕ). is_in v (less_all k mine) ≡ true) same e in let n = not_in_less k mine in absurd cc
+    kept j e true p = let same : j ≡ k = grind arith in let f : is_in k (less_all k mine) ≡ true =
+        subst (λ (v : ℕ). is_in v (less_all k mine) ≡ true) same e in let n = not_in_less k mine in absurd cc
     kept j e false p = others_stay j k used p (s.own j (in_less j k mine e))
 
     foreign : (j : ℕ) → is_in j others ≡ true → (b : Bool) → (j == k) ≡ b → is_in j (less_one k used) ≡ true
-    foreign j e true p = let same : j ≡ k = grind arith in let f : is_in k others ≡ true = subst (λ (v : ℕ). is_in v others ≡ true) same e in let n = s.apart k own in absurd cc
+    foreign j e true p = let same : j ≡ k = grind arith in let f : is_in k others ≡ true =
+        subst (λ (v : ℕ). is_in v others ≡ true) same e in let n = s.apart k own in absurd cc
     foreign j e false p = others_stay j k used p (s.foreign j e)
 
-pub shared_after : (p : Pool) (c : Call) (a : AnswerTo c) (mine others : List ℕ) → Owns mine c → IsFree p.used c a → AreShared p.used mine others → AreShared (after p c a).used (slots_after mine c a) others
+pub shared_after : (p : Pool) (c : Call) (a : AnswerTo c) (mine others : List ℕ) → Owns mine c → IsFree p.used c a →
+    AreShared p.used mine others → AreShared (after p c a).used (slots_after mine c a) others
 unfolding P.after
 shared_after p (NextNotice d) a mine others o f s = s
 shared_after p (Touch d t) a mine others o f s = s
@@ -176,7 +208,8 @@ counted_after p (WantFrame d t) a o = refl
 counted_after p (SetModified d t) a o = refl
 counted_after p (SetClean d t) a o = refl
 counted_after p (DropFrame d t) a o = refl
-counted_after p WantSlot (Given k) o = ap (λ (v : List ℕ). record p { used = v }) (zeros_more (length p.used) ∙ ap (λ (n : ℕ). replicate n 0) (sym (one_more k p.used)))
+counted_after p WantSlot (Given k) o = ap (λ (v : List ℕ). record p { used = v })
+    (zeros_more (length p.used) ∙ ap (λ (n : ℕ). replicate n 0) (sym (one_more k p.used)))
 counted_after p WantSlot Denied o = refl
 counted_after p WantSlot Down o = refl
 counted_after p (FreeSlot k) a o = absurd cc

@@ -35,13 +35,23 @@ record_size r = omega (arith, length-append (count_area r ++ r.key) r.body, leng
 -- a unit is worth 34 bytes at most
 size_of_units : (g : Geometry) (r : Record) → length (record_bytes r) ≤ 34 * units g r
 size_of_units g r =
-    let h = either (length r.key == 0) (length r.key) (length r.body) (data_units g (length r.body)) (key_units g (length r.key)) (none (length r.key)) (data_bytes g (length r.body)) (key_bytes g (length r.key)) in
+    let h = either (length r.key == 0) (length r.key) (length r.body) (data_units g (length r.body))
+    (key_units g (length r.key)) (none (length r.key)) (data_bytes g (length r.body))
+    (key_bytes g (length r.key)) in
     omega (arith, h, record_size r)
 
 size_of_all : (g : Geometry) (rs : List Record) → length (flat_map record_bytes rs) ≤ 34 * sum_by (units g) rs
 size_of_all g [] = omega arith
 size_of_all g (r ∷ rs) =
-    omega (arith, size_of_all g rs, size_of_units g r, ap length (flat_map-cons record_bytes r rs), length-append (record_bytes r) (flat_map record_bytes rs), sum_by-cons (units g) r rs)
+    omega (
+      arith,
+      size_of_all g rs,
+      size_of_units g r,
+      ap length (flat_map-cons record_bytes r rs),
+      length-append
+          (record_bytes r) (flat_map record_bytes rs),
+      sum_by-cons (units g) r rs,
+    )
 
 most : (g : Geometry) → capacity g ≤ 1729
 most D3390 = omega arith
@@ -50,7 +60,18 @@ most D3380 = omega arith
 with_zero : (g : Geometry) (rs : List Record) → HasZero rs → cost_of g rs ≤ capacity g → length (flat_map record_bytes rs) ≤ 58802
 with_zero g [] zero room = absurd zero
 with_zero g (r ∷ rs) zero room =
-    omega (arith, size_of_all g rs, room, most g, record_size r, ap length zero.0, zero.1, ap length (flat_map-cons record_bytes r rs), length-append (record_bytes r) (flat_map record_bytes rs))
+    omega (
+      arith,
+      size_of_all g rs,
+      room,
+      most g,
+      record_size r,
+      ap length zero.0,
+      zero.1,
+      ap length
+          (flat_map-cons record_bytes r rs),
+      length-append (record_bytes r) (flat_map record_bytes rs),
+    )
 
 pub track_size : (g : Geometry) (t : Track) → Fits g t → length (track_bytes t) ≤ 65536
 track_size g t fits =

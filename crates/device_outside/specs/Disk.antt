@@ -22,7 +22,17 @@ abbrev pub empty_contents : ℕ → List (List ℕ)
 empty_contents n = map empty_bytes (range_with_len 0 n)
 
 abbrev pub new_disk : ℕ → List ℕ → List ℕ → Disk
-new_disk cylinders fail_reads fail_writes = record { tracks = empty_contents (cylinders * 15); delivered = None; reads = 0; writes = 0; faults = 0; plan = record { reads = fail_reads; writes = fail_writes }; spoiled = false }
+new_disk cylinders fail_reads fail_writes = record {
+  tracks = empty_contents (cylinders * 15);
+  delivered =
+      None;
+  reads = 0;
+  writes = 0;
+  faults = 0;
+  plan = record { reads = fail_reads; writes = fail_writes };
+  spoiled =
+      false;
+}
 
 -- its allowance: the listed calls that are still to come
 abbrev pub disk_view : Disk → VolumeView (List ℕ)
@@ -44,11 +54,21 @@ abbrev pub write_fails : Disk → Bool
 write_fails d = is_in (counted d.writes) d.plan.writes
 
 abbrev pub read_of_disk : Disk → ℕ → Disk
-read_of_disk d t = record d { delivered = (if read_fails d then d.delivered else Some (slice_index_or d.tracks t [])); reads = counted d.reads; faults = counted_if (read_fails d) d.faults }
+read_of_disk d t = record d {
+  delivered = (if read_fails d then d.delivered else Some
+      (slice_index_or d.tracks t []));
+  reads = counted d.reads;
+  faults = counted_if (read_fails d) d.faults;
+}
 
 -- a write that fails leaves no bytes
 abbrev pub written_disk : Disk → ℕ → List ℕ → Disk
-written_disk d t bytes = record d { tracks = slice_set d.tracks t (if write_fails d then [] else bytes); writes = counted d.writes; faults = counted_if (write_fails d) d.faults }
+written_disk d t bytes = record d {
+  tracks = slice_set d.tracks t (if write_fails d then [] else bytes);
+  writes =
+      counted d.writes;
+  faults = counted_if (write_fails d) d.faults;
+}
 
 abbrev pub spoiled_disk : Disk → ℕ → List ℕ → Disk
 spoiled_disk d t bytes = record d { tracks = slice_set d.tracks t bytes; spoiled = true }

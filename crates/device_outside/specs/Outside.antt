@@ -64,11 +64,20 @@ Had had (Firm d t i) r = Unit {0}
 -- The interaction was run between these two outsides, and left this state with this answer. What is known of memory is had.
 pub data Ran {R I K S A : Type 0} (had : Bool → Type 0) (hears : Hearing I K) : Interaction R I S A → Outside R K → S → A → Outside R K → Type 0 where
   done : {s : S} {a : A} {w : Outside R K} → Ran had hears (Done s a) w s a w
-  tried : {k : Bool → Interaction R I S A} {w z : Outside R K} {s : S} {o : A} → (ok : Bool) → had ok → Ran had hears (k ok) w s o z → Ran had hears (Try k) w s o z
-  asked : {call : Call} {a : AnswerTo call} {k : AnswerTo call → Interaction R I S A} {p : PortView} {w z : Outside R K} {s : S} {o : A} → Answered w.port call a p → Ran had hears (k a) (record w { port = p }) s o z → Ran had hears (Ask call k) w s o z
-  read : {side : Side} {t : ℕ} {k : Option R → Interaction R I S A} {got : Option R} {v u : VolumeView R} {w z : Outside R K} {s : S} {o : A} → view_of w side ≡ Some v → ReadOf v t got u → Ran had hears (k got) (with_view w side u) s o z → Ran had hears (Read side t k) w s o z
-  wrote : {side : Side} {t : ℕ} {r : R} {k : Bool → Interaction R I S A} {ok : Bool} {v u : VolumeView R} {w z : Outside R K} {s : S} {o : A} → view_of w side ≡ Some v → WriteOf v t r ok u → Ran had hears (k ok) (with_view w side u) s o z → Ran had hears (Write side t r k) w s o z
-  told : {m : Message I} {k : ReplyTo m → Interaction R I S A} {l : K} {w z : Outside R K} {s : S} {o : A} → (r : ReplyTo m) → hears w.keeper m r l → Had had m r → Ran had hears (k r) (record w { keeper = l }) s o z → Ran had hears (Tell m k) w s o z
+  tried : {k : Bool → Interaction R I S A} {w z : Outside R K} {s : S} {o : A} → (ok : Bool) → had ok →
+      Ran had hears (k ok) w s o z → Ran had hears (Try k) w s o z
+  asked : {call : Call} {a : AnswerTo call} {k : AnswerTo call →
+      Interaction R I S A} {p : PortView} {w z : Outside R K} {s : S} {o : A} → Answered w.port call a p →
+      Ran had hears (k a) (record w { port = p }) s o z → Ran had hears (Ask call k) w s o z
+  read : {side : Side} {t : ℕ} {k : Option R → Interaction R I S A} {got : Option R} {v u : VolumeView R}
+      {w z : Outside R K} {s : S} {o : A} → view_of w side ≡ Some v → ReadOf v t got u →
+      Ran had hears (k got) (with_view w side u) s o z → Ran had hears (Read side t k) w s o z
+  wrote : {side : Side} {t : ℕ} {r : R} {k : Bool → Interaction R I S A} {ok : Bool} {v u : VolumeView R}
+      {w z : Outside R K} {s : S} {o : A} → view_of w side ≡ Some v → WriteOf v t r ok u →
+      Ran had hears (k ok) (with_view w side u) s o z → Ran had hears (Write side t r k) w s o z
+  told : {m : Message I} {k : ReplyTo m → Interaction R I S A} {l : K} {w z : Outside R K} {s : S} {o : A} →
+      (r : ReplyTo m) → hears w.keeper m r l → Had had m r → Ran had hears (k r) (record w { keeper = l }) s o z →
+      Ran had hears (Tell m k) w s o z
 
 -- memory was had, where the answer doesn't say that it was lacking
 abbrev pub where_ok : {X E : Type 0} → Result X E → Bool → Type 0

@@ -1,5 +1,29 @@
 -- The pool of frames and slots that the devices share, and what each call of a device answers and makes of it.
-use Rattle.std.specs.Prelude.{◌≡◌, ℕ, ◌==◌, ◌&&◌, Bool, true, false, List, [], ◌∷◌, ◌++◌, length, Option, Some, None, if◌then◌else◌, nat_lt, slice_index_or, slice_set, is_some, sum, replicate, reverse}
+use Rattle.std.specs.Prelude.{
+  ◌≡◌,
+  ℕ,
+  ◌==◌,
+  ◌&&◌,
+  Bool,
+  true,
+  false,
+  List,
+  [],
+  ◌∷◌,
+  ◌++◌,
+  length,
+  Option,
+  Some,
+  None,
+  if◌then◌else◌,
+  nat_lt,
+  slice_index_or,
+  slice_set,
+  is_some,
+  sum,
+  replicate,
+  reverse,
+}
 use Rattle.std.specs.Option.{option_map_or}
 use Rattle.std.specs.Map.{lookup, lookup_entry, remove_entry, set_value}
 use Rattle.device_outside.specs.declared.port.SlotGrant.{SlotGrant}
@@ -154,7 +178,17 @@ counted_slots p = record p { used = replicate (length p.used) 0 }
 
 -- a new pool: no frame, no note, nothing in use
 abbrev pub new_pool : ℕ → ℕ → Pool
-new_pool frames slots = record { frames = []; room = frames; notes = replicate 16 []; waiting = replicate 16 0; slots = slots; used = []; cache_up = true; store_up = true }
+new_pool frames slots = record {
+  frames = [];
+  room = frames;
+  notes = replicate 16 [];
+  waiting =
+      replicate 16 0;
+  slots = slots;
+  used = [];
+  cache_up = true;
+  store_up = true;
+}
 
 -- losses and repairs: the cache is lost with its frames, and so are its notes
 abbrev pub cache_failed : Pool → Pool

@@ -1,5 +1,29 @@
 -- What a volume tells, and what a read and a write of it do. R is what stands for the bytes of a track.
-use Rattle.std.specs.Prelude.{◌≡◌, ◌<◌, ℕ, ◌+◌, ◌-◌, ◌^◌, min, Bool, true, false, List, Option, Some, None, Result, Ok, Err, is_some, not, slice_index_or, slice_set, length, if◌then◌else◌}
+use Rattle.std.specs.Prelude.{
+  ◌≡◌,
+  ◌<◌,
+  ℕ,
+  ◌+◌,
+  ◌-◌,
+  ◌^◌,
+  min,
+  Bool,
+  true,
+  false,
+  List,
+  Option,
+  Some,
+  None,
+  Result,
+  Ok,
+  Err,
+  is_some,
+  not,
+  slice_index_or,
+  slice_set,
+  length,
+  if◌then◌else◌,
+}
 use Rattle.ckd_outside.specs.Causes.{IsKept, IsLowered}
 use Rattle.device_outside.specs.Lists.{is_in}
 
@@ -55,7 +79,13 @@ pub record ReadOf {R : Type 0} (old : VolumeView R) (t : ℕ) (got : Option R) (
   pub delivers : Delivers old.contents t got
   pub planned : Planned old.plan (λ p. p.reads) (counted old.reads) (is_some got)
   pub spent : Spent (is_some got) old.allowance new.allowance
-  pub after : new ≡ record old { delivered = or_last got old.delivered; reads = counted old.reads; faults = counted_if (not (is_some got)) old.faults; allowance = new.allowance }
+  pub after : new ≡ record old {
+    delivered = or_last got old.delivered;
+    reads = counted old.reads;
+    faults =
+        counted_if (not (is_some got)) old.faults;
+    allowance = new.allowance;
+  }
 
 -- a write of r on track t, and whether it didn't fail
 pub record WriteOf {R : Type 0} (old : VolumeView R) (t : ℕ) (r : R) (ok : Bool) (new : VolumeView R) : Type 0 where

@@ -1,5 +1,35 @@
 -- Seats come and go.
-use Rattle.std.proofs.Common.{◌≡◌, ◌≢◌, ℕ, ◌+◌, ◌<◌, ◌≤◌, ◌==◌, ◌||◌, zero, suc, true, false, List, [], ◌∷◌, ◌++◌, ◌⊎◌, length, set, Option, Some, arith, refl, sym, ap, ◌∙◌, subst, inl, inr}
+use Rattle.std.proofs.Common.{
+  ◌≡◌,
+  ◌≢◌,
+  ℕ,
+  ◌+◌,
+  ◌<◌,
+  ◌≤◌,
+  ◌==◌,
+  ◌||◌,
+  zero,
+  suc,
+  true,
+  false,
+  List,
+  [],
+  ◌∷◌,
+  ◌++◌,
+  ◌⊎◌,
+  length,
+  set,
+  Option,
+  Some,
+  arith,
+  refl,
+  sym,
+  ap,
+  ◌∙◌,
+  subst,
+  inl,
+  inr,
+}
 use Rattle.std.proofs.lemmas.Bool.Decides.{nat_tests}
 use mathlib.Core.Option.{some, some-injective, some-ne-none}
 use lib.ListN.{get_elem?}
@@ -24,7 +54,9 @@ at_below (x ∷ xs) zero a e = omega arith
 at_below (x ∷ xs) (suc i) a e = let h = at_below xs i a e in omega arith
 
 -- what holds of each of a list and of one more
-with_end : {A : Type 0} (F : ℕ → A → Type 0) (l : List A) (w : A) → ((i : ℕ) (a : A) → get_elem? l i ≡ some a → F i a) → F (length l) w → (i : ℕ) (a : A) → get_elem? (l ++ w ∷ []) i ≡ some a → F i a
+with_end : {A : Type 0} (F : ℕ → A → Type 0) (l : List A) (w : A) →
+    ((i : ℕ) (a : A) → get_elem? l i ≡ some a → F i a) → F (length l) w → (i : ℕ) (a : A) →
+    get_elem? (l ++ w ∷ []) i ≡ some a → F i a
 with_end {A} F l w all last i a now = elim (at_end l w a i now) [
   | inl t ↦ all i a t
   | inr t ↦ let G : A → Type 0 = λ x. F i x in let H : ℕ → Type 0 = λ j. F j w in subst G t.1 (subst H (sym t.0) last)
@@ -69,7 +101,8 @@ has_next k n x us vs low before = (elim (n == k) as (λ b. (n == k) ≡ b → (b
 ]) refl
 
 module _ {H Q : Type 0} (fit : Q → H → Type 0) (counts : H → List ℕ) where
-  names_more : (m : Mode) (vs : List (View Q)) (n : ℕ) (id : ℕ) (v w x : View Q) → get_elem? vs id ≡ some v → w.number ≡ v.number → Names m vs n → Names m (set vs id w ++ x ∷ []) n
+  names_more : (m : Mode) (vs : List (View Q)) (n : ℕ) (id : ℕ) (v w x : View Q) → get_elem? vs id ≡ some v →
+      w.number ≡ v.number → Names m vs n → Names m (set vs id w ++ x ∷ []) n
   names_more free vs n id v w x at same t = t
   names_more (taken h) vs n id v w x at same t = let s = named_still vs id h n v w at same t in (s.0, at_longer (set vs id w) (x ∷ []) h s.0 s.1, s.2)
   names_more (out h) vs n id v w x at same t = let s = named_still vs id h n v w at same t in (s.0, at_longer (set vs id w) (x ∷ []) h s.0 s.1, s.2)
@@ -82,7 +115,8 @@ module _ {H Q : Type 0} (fit : Q → H → Type 0) (counts : H → List ℕ) whe
 
   module _ (p : Q) (made turn : ℕ) (ws : List ℕ) (hs : Homes H) (vs : List (View Q)) (m : Mode) (id : ℕ) (v : View Q) (at : get_elem? vs id ≡ some v) where
     -- split
-    other_counted : World fit counts p m made turn ws hs vs → v.live ≡ true → v.number ≡ 0 → (i : ℕ) (u : View Q) → i ≢ id → get_elem? vs i ≡ some u → Fits p (v.made + 1) m ws i u
+    other_counted : World fit counts p m made turn ws hs vs → v.live ≡ true → v.number ≡ 0 → (i : ℕ) (u : View Q) →
+        i ≢ id → get_elem? vs i ≡ some u → Fits p (v.made + 1) m ws i u
     other_counted w live zero_number i u other now =
         let f = w.fits i u now in
         let made_is = (w.fits id v at).first live zero_number in record {
@@ -153,7 +187,8 @@ module _ {H Q : Type 0} (fit : Q → H → Type 0) (counts : H → List ℕ) whe
               ]
         ]
 
-    pub splits_world : World fit counts p m made turn ws hs vs → v.live ≡ true → v.number ≡ 0 → v.made < 6 → World fit counts p m (v.made + 1) turn ws hs (set vs id (counted v) ++ newcomer v ∷ [])
+    pub splits_world : World fit counts p m made turn ws hs vs → v.live ≡ true → v.number ≡ 0 → v.made < 6 →
+        World fit counts p m (v.made + 1) turn ws hs (set vs id (counted v) ++ newcomer v ∷ [])
     splits_world w live zero_number room =
         let made_is = (w.fits id v at).first live zero_number in record {
           six = w.six;
@@ -161,7 +196,8 @@ module _ {H Q : Type 0} (fit : Q → H → Type 0) (counts : H → List ℕ) whe
           names = names_more m vs turn id v (counted v) (newcomer v) at refl w.names;
           slot = w.slot;
           fits = with_end (Fits p (v.made + 1) m ws) (set vs id (counted v)) (newcomer v)
-              (at_each (Fits p (v.made + 1) m ws) vs id (counted v) (own_counted w live zero_number) (λ i u other now. other_counted w live zero_number i u other now))
+              (at_each (Fits p (v.made + 1) m ws) vs id (counted v) (own_counted w live zero_number)
+              (λ i u other now. other_counted w live zero_number i u other now))
               (new_fits w live zero_number (length (set vs id (counted v))) (let e = length_set vs id (counted v) in omega arith));
           apart = new_apart w live zero_number;
           unmade = λ k past. w.unmade k (omega arith);
@@ -174,12 +210,16 @@ module _ {H Q : Type 0} (fit : Q → H → Type 0) (counts : H → List ℕ) whe
       (splits_world p k.made k.turn k.ws s.homes s.views k.mode id v at (world fit counts p s k) live zero_number room))
 
   -- the device is at home where a seat that owns every number rests
-  module _ (p : Q) (made turn : ℕ) (ws : List ℕ) (hs : Homes H) (vs : List (View Q)) (id : ℕ) (v : View Q) (at : get_elem? vs id ≡ some v) (live : v.live ≡ true) (zero_number : v.number ≡ 0) (rests : v.stage ≡ Away) (all : (k : ℕ) → k < v.made → has k (owned v) ≡ true) where
-    nobody : (h : ℕ) (m : Mode) (st : Stage) → (Away ≡ st → ⊥) → st ≡ stage_at m h → (x : View Q) → get_elem? vs h ≡ some x → World fit counts p m made turn ws hs vs → ⊥
+  module _ (p : Q) (made turn : ℕ) (ws : List ℕ) (hs : Homes H) (vs : List (View Q)) (id : ℕ) (v : View Q)
+      (at : get_elem? vs id ≡ some v) (live : v.live ≡ true) (zero_number : v.number ≡ 0) (rests : v.stage ≡ Away)
+      (all : (k : ℕ) → k < v.made → has k (owned v) ≡ true) where
+    nobody : (h : ℕ) (m : Mode) (st : Stage) → (Away ≡ st → ⊥) → st ≡ stage_at m h → (x : View Q) →
+        get_elem? vs h ≡ some x → World fit counts p m made turn ws hs vs → ⊥
     nobody h m st busy is x now w =
         let f = w.fits h x now in
         let x_busy : x.stage ≡ st = f.stage ∙ sym is in
-        let x_live : x.live ≡ true = (elim x.live as (λ b. x.live ≡ b → b ≡ true) [ true ↦ λ t. refl | false ↦ λ t. absurd (busy (sym (f.alive t) ∙ x_busy)) ]) refl in
+        let x_live : x.live ≡ true = (elim x.live as (λ b. x.live ≡ b →
+        b ≡ true) [ true ↦ λ t. refl | false ↦ λ t. absurd (busy (sym (f.alive t) ∙ x_busy)) ]) refl in
         let low = f.below x.number (own_has fit counts p made turn ws hs vs h x now x_live) in
         let made_is = (w.fits id v at).first live zero_number in
         let mine = all x.number (omega arith) in
@@ -198,7 +238,8 @@ module _ {H Q : Type 0} (fit : Q → H → Type 0) (counts : H → List ℕ) whe
     is_home (out h) w = absurd (nobody h (out h) Out (λ e. cc) (sym (own_stage h Out Away)) w.names.0 w.names.1 w)
 
   -- what is found at the end
-  pub closes : (p : Q) (id : ℕ) (v : View Q) (xs : List (Option H)) (words : List ℕ) → v.live ≡ true → v.number ≡ 0 → v.stage ≡ Away → ((k : ℕ) → k < v.made → has k (owned v) ≡ true)
+  pub closes : (p : Q) (id : ℕ) (v : View Q) (xs : List (Option H)) (words : List ℕ) → v.live ≡ true →
+      v.number ≡ 0 → v.stage ≡ Away → ((k : ℕ) → k < v.made → has k (owned v) ≡ true)
       → Final (Seen (Kept fit counts p) id v) words xs → (d : H) × (get_elem? xs 0 ≡ some (Some d)) × fit v.pledge d × Still (counts d) (owned v)
   closes p id v xs words live zero_number rests all final =
       let s = final.0 in
@@ -206,13 +247,16 @@ module _ {H Q : Type 0} (fit : Q → H → Type 0) (counts : H → List ℕ) whe
       let home = is_home p k.made k.turn k.ws s.homes s.views id v final.1.1 live zero_number rests all k.mode (world fit counts p s k) in
       (home.0, final.4 0 (Some home.0) (ap (λ (hs : Homes H). get_elem? hs 0) home.1), home.2, home.3)
 
-  module _ (nothing p : Q) (made turn : ℕ) (ws : List ℕ) (hs : Homes H) (vs : List (View Q)) (m : Mode) (id other : ℕ) (v u : View Q) (at : get_elem? vs id ≡ some v) (there : get_elem? vs other ≡ some u) (differ : other ≢ id)
+  module _ (nothing p : Q) (made turn : ℕ) (ws : List ℕ) (hs : Homes H) (vs : List (View Q)) (m : Mode)
+      (id other : ℕ) (v u : View Q) (at : get_elem? vs id ≡ some v) (there : get_elem? vs other ≡ some u)
+      (differ : other ≢ id)
       (live : v.live ≡ true) (also : u.live ≡ true) (rests : u.stage ≡ Away) (w : World fit counts p m made turn ws hs vs) where
     -- which number is whose
     own_parts : (k : ℕ) → has k (owned (both v u)) ≡ true → (has k (owned v) ≡ true) ⊎ (has k (owned u) ≡ true)
     own_parts k h =
         let h' : ((v.number == k) || has k (((u.number, u.word) ∷ u.joined) ++ v.joined)) ≡ true = rw live at h in
-        rw (live, also) ((elim (v.number == k) as (λ b. (b || has k (((u.number, u.word) ∷ u.joined) ++ v.joined)) ≡ true → ((b || has k v.joined) ≡ true) ⊎ (has k ((u.number, u.word) ∷ u.joined) ≡ true)) [
+        rw (live, also) ((elim (v.number == k) as (λ b. (b || has k (((u.number, u.word) ∷ u.joined) ++ v.joined))
+        ≡ true → ((b || has k v.joined) ≡ true) ⊎ (has k ((u.number, u.word) ∷ u.joined) ≡ true)) [
           | true ↦ λ f. inl refl
           | false ↦ λ f. elim (has_append k ((u.number, u.word) ∷ u.joined) v.joined f) [ inl t ↦ inr t | inr t ↦ inl t ]
         ]) h')
@@ -236,7 +280,11 @@ module _ {H Q : Type 0} (fit : Q → H → Type 0) (counts : H → List ℕ) whe
           fresh = f.fresh;
           alive = f.alive;
           below = λ k h. elim (own_parts k h) [ inl t ↦ f.below k t | inr t ↦ g.below k t ];
-          apart = (f.apart.0, without_append v.number ((u.number, u.word) ∷ u.joined) v.joined (without v.number ((u.number, u.word) ∷ u.joined) lacks') f.apart.1);
+          apart = (
+            f.apart.0,
+            without_append v.number ((u.number, u.word) ∷ u.joined) v.joined
+                (without v.number ((u.number, u.word) ∷ u.joined) lacks') f.apart.1,
+          );
           first = f.first;
         }
 
@@ -293,9 +341,11 @@ module _ {H Q : Type 0} (fit : Q → H → Type 0) (counts : H → List ℕ) whe
     names_joined : (m' : Mode) → m ≡ m' → Names m' vs turn → Names m' (set (set vs id (both v u)) other (spent nothing)) turn
     names_joined free is t = t
     names_joined (taken h) is t =
-        named_joined h (λ e. let clash : Away ≡ Turn = sym rests ∙ (w.fits other u there).stage ∙ ap (λ m. stage_at m other) is ∙ ap (λ j. stage_at (taken h) j) (sym e) ∙ own_stage h Turn Away in cc) t
+        named_joined h (λ e. let clash : Away ≡ Turn = sym rests ∙ (w.fits other u there).stage ∙ ap
+        (λ m. stage_at m other) is ∙ ap (λ j. stage_at (taken h) j) (sym e) ∙ own_stage h Turn Away in cc) t
     names_joined (out h) is t =
-        named_joined h (λ e. let clash : Away ≡ Out = sym rests ∙ (w.fits other u there).stage ∙ ap (λ m. stage_at m other) is ∙ ap (λ j. stage_at (out h) j) (sym e) ∙ own_stage h Out Away in cc) t
+        named_joined h (λ e. let clash : Away ≡ Out = sym rests ∙ (w.fits other u there).stage ∙ ap
+        (λ m. stage_at m other) is ∙ ap (λ j. stage_at (out h) j) (sym e) ∙ own_stage h Out Away in cc) t
 
     -- join
     pub joins_world : World fit counts p m made turn ws hs (set (set vs id (both v u)) other (spent nothing))
@@ -310,15 +360,22 @@ module _ {H Q : Type 0} (fit : Q → H → Type 0) (counts : H → List ℕ) whe
       unmade = w.unmade;
     }
 
-  pub joins_seat : (nothing p : Q) (id other : ℕ) (v u : View Q) → v.live ≡ true → u.live ≡ true → u.stage ≡ Away → Joins (Kept fit counts p) id v other u (both v u) (spent nothing)
+  pub joins_seat : (nothing p : Q) (id other : ℕ) (v u : View Q) → v.live ≡ true → u.live ≡ true → u.stage ≡ Away →
+      Joins (Kept fit counts p) id v other u (both v u) (spent nothing)
   joins_seat nothing p id other v u live also rests s k at differ now =
       let there : get_elem? s.views other ≡ some u = sym (set_else s.views id other (both v u) differ) ∙ now in
-      let P : List ℕ → Type 0 = λ ws. Kept fit counts p (record { words = ws; homes = s.homes; views = set (set s.views id (both v u)) other (spent nothing) }) in
+      let P : List ℕ → Type 0 = λ ws. Kept fit counts p (record {
+        words = ws;
+        homes = s.homes;
+        views =
+            set (set s.views id (both v u)) other (spent nothing);
+      }) in
       subst P (sym k.words) (kept fit counts p k.mode k.made k.turn k.ws s.homes (set (set s.views id (both v u)) other (spent nothing))
       (joins_world nothing p k.made k.turn k.ws s.homes s.views k.mode id other v u at there differ live also rests (world fit counts p s k)))
 
 -- seat 0 owns each number, where it has taken in each other one
-pub owns_all : {Q : Type 0} (v : View Q) (n : ℕ) → v.live ≡ true → v.number ≡ 0 → ((k : ℕ) → 0 < k → k < n → has k v.joined ≡ true) → (k : ℕ) → k < n → has k (owned v) ≡ true
+pub owns_all : {Q : Type 0} (v : View Q) (n : ℕ) → v.live ≡ true → v.number ≡ 0 →
+    ((k : ℕ) → 0 < k → k < n → has k v.joined ≡ true) → (k : ℕ) → k < n → has k (owned v) ≡ true
 owns_all v n live number others zero low = rw (live, number) refl
 owns_all v n live number others (suc k) low =
     let no : (0 == suc k) ≡ false = grind (arith, nat_tests) in

@@ -1,5 +1,31 @@
 -- Each step of a turn keeps the rule.
-use Rattle.std.proofs.Common.{◌≡◌, ◌≢◌, ℕ, ◌+◌, ◌<◌, ◌≤◌, ◌==◌, ◌||◌, true, false, List, [], ◌∷◌, length, set, slice_index, slice_set, Option, Some, arith, refl, sym, ap, ◌∙◌, subst}
+use Rattle.std.proofs.Common.{
+  ◌≡◌,
+  ◌≢◌,
+  ℕ,
+  ◌+◌,
+  ◌<◌,
+  ◌≤◌,
+  ◌==◌,
+  ◌||◌,
+  true,
+  false,
+  List,
+  [],
+  ◌∷◌,
+  length,
+  set,
+  slice_index,
+  slice_set,
+  Option,
+  Some,
+  arith,
+  refl,
+  sym,
+  ap,
+  ◌∙◌,
+  subst,
+}
 use Rattle.std.proofs.Math.Numerals.{add-one}
 use Rattle.std.proofs.lemmas.List.{set-get_or, same_lists, get_or_default}
 use Rattle.std.proofs.lemmas.Bool.Decides.{nat_tests}
@@ -16,7 +42,21 @@ use Rattle.device_turn.specs.Rule.{Mode, free, taken, out, Still, has, owned, Fi
 use Rattle.device_turn.specs.Steps.{Agrees, Takes, Notes, Looks, Fetches, Words, Returns, Ends}
 use Rattle.device_turn.specs.Answers.{IsComplete, MayLeave}
 use Rattle.device_turn.proofs.Views.{is_taken, is_out, own_stage}
-use Rattle.device_turn.proofs.Worlds.{Homes, World, state, kept, world, takes_world, notes_world, fetches_world, returns_world, ends_world, words_world, busy_seat, busy_other}
+use Rattle.device_turn.proofs.Worlds.{
+  Homes,
+  World,
+  state,
+  kept,
+  world,
+  takes_world,
+  notes_world,
+  fetches_world,
+  returns_world,
+  ends_world,
+  words_world,
+  busy_seat,
+  busy_other,
+}
 
 -- the word of a seat is the one that is known of it
 agrees : (ws : List ℕ) (k : ℕ) (es : List (ℕ × ℕ)) → Still ws es → Agrees k (slice_index ws k) es
@@ -39,32 +79,46 @@ module _ {H Q : Type 0} (fit : Q → H → Type 0) (counts : H → List ℕ) whe
       × tells (slice_index ws i) (w, carried_after me.1 a)
 
   -- a seat keeps its view
-  stays : (p : Q) (turn : ℕ) (ws : List ℕ) (hs : Homes H) (vs : List (View Q)) (id : ℕ) (v : View Q) → get_elem? vs id ≡ some v → Kept fit counts p (state turn ws hs vs) → Kept fit counts p (state turn ws hs (set vs id v))
+  stays : (p : Q) (turn : ℕ) (ws : List ℕ) (hs : Homes H) (vs : List (View Q)) (id : ℕ) (v : View Q) →
+      get_elem? vs id ≡ some v → Kept fit counts p (state turn ws hs vs) →
+      Kept fit counts p (state turn ws hs (set vs id v))
   stays p turn ws hs vs id v at k = let P : List (View Q) → Type 0 = λ x. Kept fit counts p (state turn ws hs x) in subst P (sym (set_again vs id v at)) k
 
-  finds : (p : Q) (st : Step (Option H)) (ws : List ℕ) (hs : Homes H) (vs : List (View Q)) (id : ℕ) (me : Me (Option H) (View Q)) (n new : ℕ) → n ≢ 0 → n ≢ me.0.number + 1 → n ≤ 6 → get_elem? vs id ≡ some me.0
+  finds : (p : Q) (st : Step (Option H)) (ws : List ℕ) (hs : Homes H) (vs : List (View Q)) (id : ℕ)
+      (me : Me (Option H) (View Q)) (n new : ℕ) → n ≢ 0 → n ≢ me.0.number + 1 → n ≤ 6 → get_elem? vs id ≡ some me.0
       → Kept fit counts p (state n ws hs vs) → Gives p (n ∷ ws) hs vs id me 0 (λ k. either (k == 0) new k) (Takes st me)
   finds p st ws hs vs id me n new some_seat other few at k =
       let no : (n == 0) ≡ false = grind (arith, nat_tests, some_seat) in
       rw no (me.0, keeps, tt, stays p n ws hs vs id me.0 at k, (refl, other, few))
 
-  takes_from : (p : Q) (st : Step (Option H)) (id : ℕ) (me : Me (Option H) (View Q)) (m : Mode) (made n : ℕ) (ws : List ℕ) (hs : Homes H) (vs : List (View Q)) → World fit counts p m made n ws hs vs → get_elem? vs id ≡ some me.0 → me.0.live ≡ true → me.0.stage ≡ Away
+  takes_from : (p : Q) (st : Step (Option H)) (id : ℕ) (me : Me (Option H) (View Q)) (m : Mode) (made n : ℕ)
+      (ws : List ℕ) (hs : Homes H) (vs : List (View Q)) → World fit counts p m made n ws hs vs →
+      get_elem? vs id ≡ some me.0 → me.0.live ≡ true → me.0.stage ≡ Away
       → Gives p (n ∷ ws) hs vs id me 0 (λ k. either (k == 0) (me.0.number + 1) k) (Takes st me)
   takes_from p st id me free made n ws hs vs w at live rests =
       let zero_word = w.names in
-      rw zero_word (staged Turn me.0, keeps, tt, kept fit counts p (taken id) made (me.0.number + 1) ws hs (set vs id (staged Turn me.0)) (takes_world fit counts p made n ws hs vs id me.0 at live rests w), refl)
+      rw zero_word (
+        staged Turn me.0,
+        keeps,
+        tt,
+        kept fit counts p (taken id) made (me.0.number + 1) ws hs
+            (set vs id (staged Turn me.0)) (takes_world fit counts p made n ws hs vs id me.0 at live rests w),
+        refl,
+      )
   takes_from p st id me (taken h) made n ws hs vs w at live rests =
       let is = sym (own_stage h Turn Away) in
       let busy = busy_seat fit counts p made n ws hs vs h w.names.0 w.names.1 (taken h) Turn (λ e. cc) is w in
       let other = busy_other fit counts p made n ws hs vs h w.names.0 w.names.1 (taken h) Turn (λ e. cc) is w id me.0 at live rests in
       let named = w.names.2 in
-      finds p st ws hs vs id me n (me.0.number + 1) (λ z. omega arith) (λ e. other (omega arith)) (omega (arith, named, busy.1, w.few)) at (kept fit counts p (taken h) made n ws hs vs w)
+      finds p st ws hs vs id me n (me.0.number + 1) (λ z. omega arith) (λ e. other (omega arith))
+      (omega (arith, named, busy.1, w.few)) at (kept fit counts p (taken h) made n ws hs vs w)
   takes_from p st id me (out h) made n ws hs vs w at live rests =
       let is = sym (own_stage h Out Away) in
       let busy = busy_seat fit counts p made n ws hs vs h w.names.0 w.names.1 (out h) Out (λ e. cc) is w in
       let other = busy_other fit counts p made n ws hs vs h w.names.0 w.names.1 (out h) Out (λ e. cc) is w id me.0 at live rests in
       let named = w.names.2 in
-      finds p st ws hs vs id me n (me.0.number + 1) (λ z. omega arith) (λ e. other (omega arith)) (omega (arith, named, busy.1, w.few)) at (kept fit counts p (out h) made n ws hs vs w)
+      finds p st ws hs vs id me n (me.0.number + 1) (λ z. omega arith) (λ e. other (omega arith))
+      (omega (arith, named, busy.1, w.few)) at (kept fit counts p (out h) made n ws hs vs w)
 
   -- take, and found taken
   pub takes_turn : (p : Q) (slots : ℕ) (st : Step (Option H)) (id : ℕ) (me : Me (Option H) (View Q)) → me.0.live ≡ true → me.0.stage ≡ Away
@@ -74,39 +128,47 @@ module _ {H Q : Type 0} (fit : Q → H → Type 0) (counts : H → List ℕ) whe
       subst P (sym k.words) (takes_from p st id me k.mode k.made k.turn k.ws s.homes s.views (world fit counts p s k) at live rests)
 
   -- the world at a holder
-  held : (p : Q) (s : State (Option H) (View Q)) (k : Kept fit counts p s) (id : ℕ) (v : View Q) → get_elem? s.views id ≡ some v → v.stage ≡ Turn → World fit counts p (taken id) k.made k.turn k.ws s.homes s.views
+  held : (p : Q) (s : State (Option H) (View Q)) (k : Kept fit counts p s) (id : ℕ) (v : View Q) →
+      get_elem? s.views id ≡ some v → v.stage ≡ Turn → World fit counts p (taken id) k.made k.turn k.ws s.homes s.views
   held p s k id v at mine =
       let P : Mode → Type 0 = λ m. World fit counts p m k.made k.turn k.ws s.homes s.views in
       subst P (is_taken k.mode id (sym mine ∙ (k.fits id v at).stage)) (world fit counts p s k)
 
-  held_out : (p : Q) (s : State (Option H) (View Q)) (k : Kept fit counts p s) (id : ℕ) (v : View Q) → get_elem? s.views id ≡ some v → v.stage ≡ Out → World fit counts p (out id) k.made k.turn k.ws s.homes s.views
+  held_out : (p : Q) (s : State (Option H) (View Q)) (k : Kept fit counts p s) (id : ℕ) (v : View Q) →
+      get_elem? s.views id ≡ some v → v.stage ≡ Out → World fit counts p (out id) k.made k.turn k.ws s.homes s.views
   held_out p s k id v at mine =
       let P : Mode → Type 0 = λ m. World fit counts p m k.made k.turn k.ws s.homes s.views in
       subst P (is_out k.mode id (sym mine ∙ (k.fits id v at).stage)) (world fit counts p s k)
 
   -- load, by the seat whose turn it is
-  pub notes_word : (p : Q) (slots : ℕ) (st : Step (Option H)) (id : ℕ) (me : Me (Option H) (View Q)) (j : ℕ) → st.word ≡ j + 1 → me.0.stage ≡ Turn → j ≢ me.0.number
+  pub notes_word : (p : Q) (slots : ℕ) (st : Step (Option H)) (id : ℕ) (me : Me (Option H) (View Q)) (j : ℕ) →
+      st.word ≡ j + 1 → me.0.stage ≡ Turn → j ≢ me.0.number
       → Allows (Kept fit counts p) slots id me (j + 1) (λ k. k) (Notes st me)
   notes_word p slots st id me j word mine other s k size at low =
       let n = slice_index k.ws j in
       let w = notes_world fit counts p k.made k.turn k.ws s.homes s.views id me.0 at j n mine other refl (held p s k id me.0 at mine) in
       let done : Kept fit counts p (state k.turn (set k.ws j n) s.homes (set s.views id (noted j n me.0))) =
-      (let P : List ℕ → Type 0 = λ ws. Kept fit counts p (state k.turn ws s.homes (set s.views id (noted j n me.0))) in subst P (sym (set-get_or k.ws j 0)) (kept fit counts p (taken id) k.made k.turn k.ws s.homes (set s.views id (noted j n me.0)) w)) in
+      (let P : List ℕ → Type 0 = λ ws. Kept fit counts p (state k.turn ws s.homes (set s.views id (noted j n me.0)))
+      in subst P (sym (set-get_or k.ws j 0)) (kept fit counts p (taken id) k.made k.turn k.ws s.homes
+      (set s.views id (noted j n me.0)) w)) in
       let tells : Notes st me n (noted j n me.0, me.1) = (λ i same. let e : j ≡ i = omega arith in ap (λ i. (noted i n me.0, me.1)) e) in
       let P : List ℕ → Type 0 = λ ws. Gives p ws s.homes s.views id me (j + 1) (λ k. k) (Notes st me) in
       let R : ℕ → Type 0 = λ i. Gives p (k.turn ∷ k.ws) s.homes s.views id me i (λ k. k) (Notes st me) in
       subst P (sym k.words) (subst R (sym (add-one j)) (noted j n me.0, keeps, tt, done, tells))
 
   -- load, by any seat
-  pub looks : (p : Q) (slots : ℕ) (st : Step (Option H)) (id : ℕ) (me : Me (Option H) (View Q)) (j : ℕ) → st.word ≡ j + 1 → Allows (Kept fit counts p) slots id me (j + 1) (λ k. k) (Looks st me)
+  pub looks : (p : Q) (slots : ℕ) (st : Step (Option H)) (id : ℕ) (me : Me (Option H) (View Q)) (j : ℕ) →
+      st.word ≡ j + 1 → Allows (Kept fit counts p) slots id me (j + 1) (λ k. k) (Looks st me)
   looks p slots st id me j is s k size at low =
       let n = slice_index k.ws j in
       let done : Kept fit counts p (state k.turn (set k.ws j n) s.homes (set s.views id me.0)) =
       (let P : List ℕ → Type 0 = λ ws. Kept fit counts p (state k.turn ws s.homes (set s.views id me.0)) in
-      subst P (sym (set-get_or k.ws j 0)) (stays p k.turn k.ws s.homes s.views id me.0 at (kept fit counts p k.mode k.made k.turn k.ws s.homes s.views (world fit counts p s k)))) in
+      subst P (sym (set-get_or k.ws j 0)) (stays p k.turn k.ws s.homes s.views id me.0 at
+      (kept fit counts p k.mode k.made k.turn k.ws s.homes s.views (world fit counts p s k)))) in
       let f = k.fits id me.0 at in
       let tells : (i : ℕ) → st.word ≡ i + 1 → Agrees i n me.0.loaded × Agrees i n (owned me.0) =
-      (λ i at_word. let e : j ≡ i = omega arith in subst (λ i. Agrees i n me.0.loaded × Agrees i n (owned me.0)) e (agrees k.ws j me.0.loaded f.loaded, agrees k.ws j (owned me.0) f.words)) in
+      (λ i at_word. let e : j ≡ i = omega arith in subst (λ i. Agrees i n me.0.loaded × Agrees i n (owned me.0)) e
+      (agrees k.ws j me.0.loaded f.loaded, agrees k.ws j (owned me.0) f.words)) in
       let P : List ℕ → Type 0 = λ ws. Gives p ws s.homes s.views id me (j + 1) (λ k. k) (Looks st me) in
       let R : ℕ → Type 0 = λ i. Gives p (k.turn ∷ k.ws) s.homes s.views id me i (λ k. k) (Looks st me) in
       subst P (sym k.words) (subst R (sym (add-one j)) (me.0, keeps, tt, done, (refl, tells)))
@@ -141,16 +203,25 @@ module _ {H Q : Type 0} (fit : Q → H → Type 0) (counts : H → List ℕ) whe
       )
 
   -- store
-  pub stores_word : (p : Q) (slots : ℕ) (st : Step (Option H)) (id : ℕ) (me : Me (Option H) (View Q)) (x : ℕ) → me.0.live ≡ true → me.0.number < 6 → me.0.stage ≡ Out
+  pub stores_word : (p : Q) (slots : ℕ) (st : Step (Option H)) (id : ℕ) (me : Me (Option H) (View Q)) (x : ℕ) →
+      me.0.live ≡ true → me.0.number < 6 → me.0.stage ≡ Out
       → Allows (Kept fit counts p) slots id me (me.0.number + 1) (λ k. x) (λ _. Words st me x)
   stores_word p slots st id me x live small mine s k size at low =
       let j = me.0.number in
       let w = words_world fit counts p k.made k.turn k.ws s.homes s.views id me.0 at x live small (held_out p s k id me.0 at mine) in
       let P : List ℕ → Type 0 = λ ws. Gives p ws s.homes s.views id me (j + 1) (λ k. x) (λ _. Words st me x) in
       let R : ℕ → Type 0 = λ i. Gives p (k.turn ∷ k.ws) s.homes s.views id me i (λ k. x) (λ _. Words st me x) in
-      subst P (sym k.words) (subst R (sym (add-one j)) (worded x me.0, keeps, tt, kept fit counts p (out id) k.made k.turn (set k.ws j x) s.homes (set s.views id (worded x me.0)) w, refl))
+      subst P (sym k.words) (subst R (sym (add-one j)) (
+        worded x me.0,
+        keeps,
+        tt,
+        kept fit counts p
+            (out id) k.made k.turn (set k.ws j x) s.homes (set s.views id (worded x me.0)) w,
+        refl,
+      ))
 
-  counts_are : (v : View Q) (xs ys : List ℕ) → length xs ≡ 6 → length ys ≡ 6 → IsComplete v → Still xs v.loaded → Still ys v.loaded → slice_index xs v.number ≡ slice_index ys v.number → xs ≡ ys
+  counts_are : (v : View Q) (xs ys : List ℕ) → length xs ≡ 6 → length ys ≡ 6 → IsComplete v → Still xs v.loaded →
+      Still ys v.loaded → slice_index xs v.number ≡ slice_index ys v.number → xs ≡ ys
   counts_are v xs ys la lb whole a b own =
       same_lists xs ys (la ∙ sym lb) (λ k d h.
       let each : slice_index xs k ≡ slice_index ys k = dite (ℕ_discrete k v.number)
@@ -159,13 +230,17 @@ module _ {H Q : Type 0} (fit : Q → H → Type 0) (counts : H → List ℕ) whe
       get_or_default xs k d 0 h ∙ each ∙ get_or_default ys k 0 d (omega arith))
 
   -- slot in
-  pub returns_device : (p : Q) (slots : ℕ) (st : Step (Option H)) (id : ℕ) (me : Me (Option H) (View Q)) (d : H) → me.0.live ≡ true → me.0.stage ≡ Out → me.1 ≡ (0, Some d) ∷ rest me.1 → length (counts d) ≡ 6 → IsComplete me.0 → MayLeave fit counts me.0 d → slice_index (counts d) me.0.number ≡ me.0.word
+  pub returns_device : (p : Q) (slots : ℕ) (st : Step (Option H)) (id : ℕ) (me : Me (Option H) (View Q)) (d : H) →
+      me.0.live ≡ true → me.0.stage ≡ Out → me.1 ≡ (0, Some d) ∷ rest me.1 → length (counts d) ≡ 6 →
+      IsComplete me.0 → MayLeave fit counts me.0 d → slice_index (counts d) me.0.number ≡ me.0.word
       → Allows (Kept fit counts p) slots id me 0 (λ k. k) (Returns st me)
   returns_device p slots st id me d live mine has_it six whole may own s k size at low =
       let w = held_out p s k id me.0 at mine in
       let f = w.fits id me.0 at in
-      let same_counts : counts d ≡ k.ws = counts_are me.0 (counts d) k.ws six w.six whole may.1 f.loaded (own ∙ sym (own_word p k.made (out id) k.ws id me.0 live f)) in
-      let returned = returns_world fit counts p k.made k.turn k.ws s.homes s.views id me.0 at d live (subst (λ q. fit q d) (f.pledged live) may.0) same_counts w in
+      let same_counts : counts d ≡ k.ws = counts_are me.0 (counts d) k.ws six w.six whole may.1 f.loaded
+      (own ∙ sym (own_word p k.made (out id) k.ws id me.0 live f)) in
+      let returned = returns_world fit counts p k.made k.turn k.ws s.homes s.views id me.0 at d live
+      (subst (λ q. fit q d) (f.pledged live) may.0) same_counts w in
       let P : List ℕ → Type 0 = λ ws. Gives p ws s.homes s.views id me 0 (λ k. k) (Returns st me) in
       let done : Kept fit counts p (state k.turn k.ws (homes_after s.homes me.1 gives) (set s.views id (staged Turn me.0))) =
       rw has_it (kept fit counts p (taken id) k.made k.turn k.ws (slice_set s.homes 0 (some (Some d))) (set s.views id (staged Turn me.0)) returned) in

@@ -1,5 +1,37 @@
 -- Views of the seats of a turn, one of which changes.
-use Rattle.std.proofs.Common.{◌≡◌, ◌≢◌, ℕ, ◌+◌, ◌<◌, ◌==◌, ◌||◌, zero, suc, true, false, List, [], ◌∷◌, length, set, slice_index, Option, Some, None, arith, refl, sym, ap, ◌∙◌, subst, inl, inr, get_or-set_other, get_or-set_same, if◌then◌else◌}
+use Rattle.std.proofs.Common.{
+  ◌≡◌,
+  ◌≢◌,
+  ℕ,
+  ◌+◌,
+  ◌<◌,
+  ◌==◌,
+  ◌||◌,
+  zero,
+  suc,
+  true,
+  false,
+  List,
+  [],
+  ◌∷◌,
+  length,
+  set,
+  slice_index,
+  Option,
+  Some,
+  None,
+  arith,
+  refl,
+  sym,
+  ap,
+  ◌∙◌,
+  subst,
+  inl,
+  inr,
+  get_or-set_other,
+  get_or-set_same,
+  if◌then◌else◌,
+}
 use Rattle.std.proofs.lemmas.Bool.Decides.{nat_tests}
 use mathlib.Core.Option.{some, some-injective, some-ne-none}
 use mathlib.Core.Logic.{dite}
@@ -72,7 +104,8 @@ module _ {Q : Type 0} where
 
   before : (vs : List (View Q)) (id : ℕ) (v w : View Q) → get_elem? vs id ≡ some v → Alike w v → (i : ℕ) (x : View Q) → get_elem? (set vs id w) i ≡ some x
       → (y : View Q) × (get_elem? vs i ≡ some y) × Alike x y
-  before vs id v w at alike = at_each (λ i x. (y : View Q) × (get_elem? vs i ≡ some y) × Alike x y) vs id w (v, at, alike) (λ i x other now. (x, now, λ k. refl))
+  before vs id v w at alike = at_each (λ i x. (y : View Q) × (get_elem? vs i ≡ some y) × Alike x y) vs id w
+      (v, at, alike) (λ i x other now. (x, now, λ k. refl))
 
   pub apart_set : (vs : List (View Q)) (id : ℕ) (v w : View Q) → get_elem? vs id ≡ some v → Alike w v → Apart vs → Apart (set vs id w)
   apart_set vs id v w at alike apart i j k x y hx hy ox oy =
@@ -86,14 +119,16 @@ module _ {Q : Type 0} where
       (w, set_there vs id u w at, t.2 ∙ ap (λ v. v.number + 1) e ∙ ap (λ k. k + 1) (sym same))
 
   -- the holder is named after another seat changed, or kept its number
-  pub named_still : (vs : List (View Q)) (id h n : ℕ) (u w : View Q) → get_elem? vs id ≡ some u → w.number ≡ u.number → IsNamed vs h n → IsNamed (set vs id w) h n
+  pub named_still : (vs : List (View Q)) (id h n : ℕ) (u w : View Q) → get_elem? vs id ≡ some u →
+      w.number ≡ u.number → IsNamed vs h n → IsNamed (set vs id w) h n
   named_still vs id h n u w at same t =
       dite (ℕ_discrete h id)
       (λ e. subst (λ j. IsNamed (set vs id w) j n) (sym e) (named vs id n u w at same (subst (λ j. IsNamed vs j n) e t)))
       (λ ne. (t.0, set_else vs id h w ne ∙ t.1, t.2))
 
   -- a seat with another mode
-  pub restage : (p : Q) (made : ℕ) (m m' : Mode) (ws : List ℕ) (i : ℕ) (v : View Q) → stage_at m' i ≡ stage_at m i → Fits p made m ws i v → Fits p made m' ws i v
+  pub restage : (p : Q) (made : ℕ) (m m' : Mode) (ws : List ℕ) (i : ℕ) (v : View Q) → stage_at m' i ≡ stage_at m i →
+      Fits p made m ws i v → Fits p made m' ws i v
   restage p made m m' ws i v same f = record {
     stage = f.stage ∙ sym same;
     pledged = f.pledged;
@@ -106,7 +141,8 @@ module _ {Q : Type 0} where
     first = f.first;
   }
 
-  pub restaged : (p : Q) (made : ℕ) (m m' : Mode) (ws : List ℕ) (i : ℕ) (v : View Q) (st : Stage) → v.live ≡ true → st ≡ stage_at m' i → (st ≡ Away → v.loaded ≡ []) → Fits p made m ws i v
+  pub restaged : (p : Q) (made : ℕ) (m m' : Mode) (ws : List ℕ) (i : ℕ) (v : View Q) (st : Stage) → v.live ≡ true →
+      st ≡ stage_at m' i → (st ≡ Away → v.loaded ≡ []) → Fits p made m ws i v
       → Fits p made m' ws i (staged st v)
   restaged p made m m' ws i v st live stage fresh f = record {
     stage = stage;
@@ -120,7 +156,8 @@ module _ {Q : Type 0} where
     first = f.first;
   }
 
-  pub away_fits : (p : Q) (made : ℕ) (m m' : Mode) (ws : List ℕ) (i : ℕ) (v : View Q) → Away ≡ stage_at m' i → Fits p made m ws i v → Fits p made m' ws i (away v)
+  pub away_fits : (p : Q) (made : ℕ) (m m' : Mode) (ws : List ℕ) (i : ℕ) (v : View Q) → Away ≡ stage_at m' i →
+      Fits p made m ws i v → Fits p made m' ws i (away v)
   away_fits p made m m' ws i v stage f = record {
     stage = stage;
     pledged = f.pledged;
@@ -133,7 +170,8 @@ module _ {Q : Type 0} where
     first = f.first;
   }
 
-  pub noted_fits : (p : Q) (made : ℕ) (m : Mode) (ws : List ℕ) (i k n : ℕ) (v : View Q) → Turn ≡ v.stage → k ≢ v.number → slice_index ws k ≡ n → Fits p made m ws i v → Fits p made m ws i (noted k n v)
+  pub noted_fits : (p : Q) (made : ℕ) (m : Mode) (ws : List ℕ) (i k n : ℕ) (v : View Q) → Turn ≡ v.stage →
+      k ≢ v.number → slice_index ws k ≡ n → Fits p made m ws i v → Fits p made m ws i (noted k n v)
   noted_fits p made m ws i k n v turn other is f = record {
     stage = f.stage;
     pledged = f.pledged;
@@ -147,11 +185,13 @@ module _ {Q : Type 0} where
   }
 
   -- the seat's own word becomes x
-  pub worded_words : (ws : List ℕ) (v : View Q) (x : ℕ) → v.number < length ws → v.live ≡ true → Without v.number v.joined → Still ws (owned v) → Still (set ws v.number x) (owned (worded x v))
+  pub worded_words : (ws : List ℕ) (v : View Q) (x : ℕ) → v.number < length ws → v.live ≡ true →
+      Without v.number v.joined → Still ws (owned v) → Still (set ws v.number x) (owned (worded x v))
   worded_words ws v x room live apart s =
       let here : slice_index (set ws v.number x) v.number ≡ x = rw get_or-set_same refl in
       let s' : (slice_index ws v.number ≡ v.word) × Still ws v.joined = rw live at s in
       rw live (here, still_set ws v.number x v.joined apart s'.1)
 
   pub worded_alike : (v : View Q) (x : ℕ) → Alike (worded x v) v
-  worded_alike v x k = elim v.live as (λ b. has k (if b then (v.number, x) ∷ v.joined else []) ≡ has k (if b then (v.number, v.word) ∷ v.joined else [])) [ true ↦ refl | false ↦ refl ]
+  worded_alike v x k = elim v.live as (λ b. has k (if b then (v.number, x) ∷ v.joined else [])
+      ≡ has k (if b then (v.number, v.word) ∷ v.joined else [])) [ true ↦ refl | false ↦ refl ]

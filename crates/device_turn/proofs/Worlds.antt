@@ -1,5 +1,31 @@
 -- The rule of a turn as its parts, and what each step makes of them.
-use Rattle.std.proofs.Common.{ap, subst, ◌≡◌, ◌≢◌, ℕ, ◌+◌, ◌<◌, ◌≤◌, ◌==◌, true, false, List, ◌∷◌, length, set, slice_index, slice_set, Option, Some, arith, refl, sym, ◌∙◌, get_or-set_other, length-set}
+use Rattle.std.proofs.Common.{
+  ap,
+  subst,
+  ◌≡◌,
+  ◌≢◌,
+  ℕ,
+  ◌+◌,
+  ◌<◌,
+  ◌≤◌,
+  ◌==◌,
+  true,
+  false,
+  List,
+  ◌∷◌,
+  length,
+  set,
+  slice_index,
+  slice_set,
+  Option,
+  Some,
+  arith,
+  refl,
+  sym,
+  ◌∙◌,
+  get_or-set_other,
+  length-set,
+}
 use Rattle.std.proofs.lemmas.Bool.Decides.{nat_tests}
 use mathlib.Core.Option.{some, none, some-injective}
 use lib.ListN.{get_elem?}
@@ -8,7 +34,23 @@ use Rattle.device_turn.specs.declared.view.Stage.{Stage}
 use Rattle.device_turn.specs.declared.view.Stage.TheVariants.{Away, Turn, Out}
 use Rattle.device_turn.specs.declared.view.View.{View}
 use Rattle.device_turn.specs.Rule.{Mode, free, taken, out, stage_at, Names, Slot, has, owned, Fits, Kept, staged, worded, noted, away}
-use Rattle.device_turn.proofs.Views.{Apart, apart_set, at_each, set_there, others_stage, own_stage, named, still_set, without, restage, restaged, away_fits, noted_fits, worded_words, worded_alike}
+use Rattle.device_turn.proofs.Views.{
+  Apart,
+  apart_set,
+  at_each,
+  set_there,
+  others_stage,
+  own_stage,
+  named,
+  still_set,
+  without,
+  restage,
+  restaged,
+  away_fits,
+  noted_fits,
+  worded_words,
+  worded_alike,
+}
 
 abbrev pub Homes : Type 0 → Type 0
 Homes H = List (mathlib.Core.Option.Option (Option H))
@@ -26,34 +68,53 @@ module _ {H Q : Type 0} (fit : Q → H → Type 0) (counts : H → List ℕ) whe
     pub apart : Apart vs
     pub unmade : (k : ℕ) → made ≤ k → slice_index ws k ≡ 0
 
-  pub kept : (p : Q) (m : Mode) (made turn : ℕ) (ws : List ℕ) (hs : Homes H) (vs : List (View Q)) → World p m made turn ws hs vs → Kept fit counts p (state turn ws hs vs)
-  kept p m made turn ws hs vs w = record { mode = m; made = made; turn = turn; ws = ws; words = refl; six = w.six; few = w.few; names = w.names; slot = w.slot; fits = w.fits; apart = w.apart; unmade = w.unmade }
+  pub kept : (p : Q) (m : Mode) (made turn : ℕ) (ws : List ℕ) (hs : Homes H) (vs : List (View Q)) →
+      World p m made turn ws hs vs → Kept fit counts p (state turn ws hs vs)
+  kept p m made turn ws hs vs w = record {
+    mode = m;
+    made = made;
+    turn = turn;
+    ws = ws;
+    words = refl;
+    six =
+        w.six;
+    few = w.few;
+    names = w.names;
+    slot = w.slot;
+    fits = w.fits;
+    apart = w.apart;
+    unmade = w.unmade;
+  }
 
   pub world : (p : Q) (s : State (Option H) (View Q)) (k : Kept fit counts p s) → World p k.mode k.made k.turn k.ws s.homes s.views
   world p s k = record { six = k.six; few = k.few; names = k.names; slot = k.slot; fits = k.fits; apart = k.apart; unmade = k.unmade }
 
   module _ (p : Q) (made turn : ℕ) (ws : List ℕ) (hs : Homes H) (vs : List (View Q)) (id : ℕ) (v : View Q) (at : get_elem? vs id ≡ some v) where
     -- take
-    pub takes_world : v.live ≡ true → v.stage ≡ Away → World p free made turn ws hs vs → World p (taken id) made (v.number + 1) ws hs (set vs id (staged Turn v))
+    pub takes_world : v.live ≡ true → v.stage ≡ Away → World p free made turn ws hs vs →
+        World p (taken id) made (v.number + 1) ws hs (set vs id (staged Turn v))
     takes_world live away_now w = record {
       six = w.six;
       few = w.few;
       names = (staged Turn v, set_there vs id v (staged Turn v) at, refl);
       slot = w.slot;
-      fits = at_each (Fits p made (taken id) ws) vs id (staged Turn v) (restaged p made free (taken id) ws id v Turn live (sym (own_stage id Turn Away)) (λ e. cc) (w.fits id v at))
+      fits = at_each (Fits p made (taken id) ws) vs id (staged Turn v)
+          (restaged p made free (taken id) ws id v Turn live (sym (own_stage id Turn Away)) (λ e. cc) (w.fits id v at))
           (λ i u other now. restage p made free (taken id) ws i u (others_stage id i Turn Away other) (w.fits i u now));
       apart = apart_set vs id v (staged Turn v) at (λ k. refl) w.apart;
       unmade = w.unmade;
     }
 
     -- load
-    pub notes_world : (k n : ℕ) → v.stage ≡ Turn → k ≢ v.number → slice_index ws k ≡ n → World p (taken id) made turn ws hs vs → World p (taken id) made turn ws hs (set vs id (noted k n v))
+    pub notes_world : (k n : ℕ) → v.stage ≡ Turn → k ≢ v.number → slice_index ws k ≡ n →
+        World p (taken id) made turn ws hs vs → World p (taken id) made turn ws hs (set vs id (noted k n v))
     notes_world k n mine other is w = record {
       six = w.six;
       few = w.few;
       names = named vs id turn v (noted k n v) at refl w.names;
       slot = w.slot;
-      fits = at_each (Fits p made (taken id) ws) vs id (noted k n v) (noted_fits p made (taken id) ws id k n v (sym mine) other is (w.fits id v at)) (λ i u o now. w.fits i u now);
+      fits = at_each (Fits p made (taken id) ws) vs id (noted k n v)
+          (noted_fits p made (taken id) ws id k n v (sym mine) other is (w.fits id v at)) (λ i u o now. w.fits i u now);
       apart = apart_set vs id v (noted k n v) at (λ j. refl) w.apart;
       unmade = w.unmade;
     }
@@ -65,21 +126,28 @@ module _ {H Q : Type 0} (fit : Q → H → Type 0) (counts : H → List ℕ) whe
       few = w.few;
       names = named vs id turn v (staged Out v) at refl w.names;
       slot = (let home = w.slot.1 in rw home refl);
-      fits = at_each (Fits p made (out id) ws) vs id (staged Out v) (restaged p made (taken id) (out id) ws id v Out live (sym (own_stage id Out Away)) (λ e. cc) (w.fits id v at))
-          (λ i u other now. restage p made (taken id) (out id) ws i u (others_stage id i Out Away other ∙ sym (others_stage id i Turn Away other)) (w.fits i u now));
+      fits = at_each (Fits p made (out id) ws) vs id (staged Out v)
+          (restaged p made (taken id) (out id) ws id v Out live (sym (own_stage id Out Away)) (λ e. cc)
+          (w.fits id v at))
+          (λ i u other now. restage p made (taken id) (out id) ws i u
+          (others_stage id i Out Away other ∙ sym (others_stage id i Turn Away other)) (w.fits i u now));
       apart = apart_set vs id v (staged Out v) at (λ k. refl) w.apart;
       unmade = w.unmade;
     }
 
     -- slot in
-    pub returns_world : (d : H) → v.live ≡ true → fit p d → counts d ≡ ws → World p (out id) made turn ws hs vs → World p (taken id) made turn ws (slice_set hs 0 (some (Some d))) (set vs id (staged Turn v))
+    pub returns_world : (d : H) → v.live ≡ true → fit p d → counts d ≡ ws → World p (out id) made turn ws hs vs →
+        World p (taken id) made turn ws (slice_set hs 0 (some (Some d))) (set vs id (staged Turn v))
     returns_world d live keeping same w = record {
       six = w.six;
       few = w.few;
       names = named vs id turn v (staged Turn v) at refl w.names;
       slot = (d, (let home = w.slot in rw home refl), keeping, same);
-      fits = at_each (Fits p made (taken id) ws) vs id (staged Turn v) (restaged p made (out id) (taken id) ws id v Turn live (sym (own_stage id Turn Away)) (λ e. cc) (w.fits id v at))
-          (λ i u other now. restage p made (out id) (taken id) ws i u (others_stage id i Turn Away other ∙ sym (others_stage id i Out Away other)) (w.fits i u now));
+      fits = at_each (Fits p made (taken id) ws) vs id (staged Turn v)
+          (restaged p made (out id) (taken id) ws id v Turn live (sym (own_stage id Turn Away)) (λ e. cc)
+          (w.fits id v at))
+          (λ i u other now. restage p made (out id) (taken id) ws i u
+          (others_stage id i Turn Away other ∙ sym (others_stage id i Out Away other)) (w.fits i u now));
       apart = apart_set vs id v (staged Turn v) at (λ k. refl) w.apart;
       unmade = w.unmade;
     }
@@ -109,7 +177,8 @@ module _ {H Q : Type 0} (fit : Q → H → Type 0) (counts : H → List ℕ) whe
     ]) refl
 
     -- store
-    other_words : (x : ℕ) → v.live ≡ true → World p (out id) made turn ws hs vs → (i : ℕ) (u : View Q) → i ≢ id → get_elem? vs i ≡ some u → Fits p made (out id) (set ws v.number x) i u
+    other_words : (x : ℕ) → v.live ≡ true → World p (out id) made turn ws hs vs → (i : ℕ) (u : View Q) → i ≢ id →
+        get_elem? vs i ≡ some u → Fits p made (out id) (set ws v.number x) i u
     other_words x live w i u other now =
         let f = w.fits i u now in
         let rests : u.stage ≡ Away = f.stage ∙ others_stage id i Out Away other in
@@ -140,13 +209,15 @@ module _ {H Q : Type 0} (fit : Q → H → Type 0) (counts : H → List ℕ) whe
           first = f.first;
         }
 
-    pub words_world : (x : ℕ) → v.live ≡ true → v.number < 6 → World p (out id) made turn ws hs vs → World p (out id) made turn (set ws v.number x) hs (set vs id (worded x v))
+    pub words_world : (x : ℕ) → v.live ≡ true → v.number < 6 → World p (out id) made turn ws hs vs →
+        World p (out id) made turn (set ws v.number x) hs (set vs id (worded x v))
     words_world x live small w = record {
       six = length-set ws v.number x ∙ w.six;
       few = w.few;
       names = named vs id turn v (worded x v) at refl w.names;
       slot = w.slot;
-      fits = at_each (Fits p made (out id) (set ws v.number x)) vs id (worded x v) (own_words x live w small) (λ i u other now. other_words x live w i u other now);
+      fits = at_each (Fits p made (out id) (set ws v.number x)) vs id (worded x v) (own_words x live w small)
+          (λ i u other now. other_words x live w i u other now);
       apart = apart_set vs id v (worded x v) at (worded_alike v x) w.apart;
       unmade = λ k past.
           let mine = (w.fits id v at).below v.number (own_has live) in
@@ -158,11 +229,13 @@ module _ {H Q : Type 0} (fit : Q → H → Type 0) (counts : H → List ℕ) whe
     busy_seat m st busy is w =
         let f = w.fits id v at in
         let v_busy : v.stage ≡ st = f.stage ∙ sym is in
-        let live : v.live ≡ true = (elim v.live as (λ b. v.live ≡ b → b ≡ true) [ true ↦ λ t. refl | false ↦ λ t. absurd (busy (sym (f.alive t) ∙ v_busy)) ]) refl in
+        let live : v.live ≡ true = (elim v.live as (λ b. v.live ≡ b →
+        b ≡ true) [ true ↦ λ t. refl | false ↦ λ t. absurd (busy (sym (f.alive t) ∙ v_busy)) ]) refl in
         (live, f.below v.number (own_has live))
 
     -- it isn't the number of a seat that hasn't the turn
-    pub busy_other : (m : Mode) (st : Stage) → (Away ≡ st → ⊥) → st ≡ stage_at m id → World p m made turn ws hs vs → (i : ℕ) (u : View Q) → get_elem? vs i ≡ some u → u.live ≡ true → u.stage ≡ Away → v.number ≢ u.number
+    pub busy_other : (m : Mode) (st : Stage) → (Away ≡ st → ⊥) → st ≡ stage_at m id → World p m made turn ws hs vs →
+        (i : ℕ) (u : View Q) → get_elem? vs i ≡ some u → u.live ≡ true → u.stage ≡ Away → v.number ≢ u.number
     busy_other m st busy is w i u now u_live rests same =
         let mine = own_has (busy_seat m st busy is w).0 in
         let yes : (u.number == u.number) ≡ true = grind (arith, nat_tests) in

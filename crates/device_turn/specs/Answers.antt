@@ -32,5 +32,6 @@ module _ {H Q : Type 0} where
     -- what stood in the slot is out with the seat, or another seat has the turn
     abbrev pub Entered : Me (Option H) (View Q) → Me (Option H) (View Q) → Enter H → Type 0
     Entered before after (Got h) =
-        (es : List (ℕ × ℕ)) × (after ≡ (with_loaded es (staged Out before.0), (0, None) ∷ [])) × IsComplete after.0 × Without after.0.number es × MayLeave after.0 h × (slice_index (counts h) before.0.number ≡ before.0.word)
+        (es : List (ℕ × ℕ)) × (after ≡ (with_loaded es (staged Out before.0), (0, None) ∷ [])) × IsComplete after.0
+        × Without after.0.number es × MayLeave after.0 h × (slice_index (counts h) before.0.number ≡ before.0.word)
     Entered before after (Taken k) = (after ≡ before) × (k ≢ before.0.number) × (k < 6)

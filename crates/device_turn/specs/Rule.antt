@@ -1,6 +1,28 @@
 -- The rule of a turn: what holds between any two steps of any seats.
 -- There are seven words, of which the first names the seat whose turn it is and each other one is a seat's, and one slot for the holder.
-use Rattle.std.specs.Prelude.{◌≡◌, ◌≢◌, ℕ, ◌+◌, ◌<◌, ◌≤◌, ◌==◌, ◌||◌, Bool, true, false, List, [], ◌∷◌, ◌++◌, length, slice_index, Option, Some, None, if◌then◌else◌}
+use Rattle.std.specs.Prelude.{
+  ◌≡◌,
+  ◌≢◌,
+  ℕ,
+  ◌+◌,
+  ◌<◌,
+  ◌≤◌,
+  ◌==◌,
+  ◌||◌,
+  Bool,
+  true,
+  false,
+  List,
+  [],
+  ◌∷◌,
+  ◌++◌,
+  length,
+  slice_index,
+  Option,
+  Some,
+  None,
+  if◌then◌else◌,
+}
 use mathlib.Core.Option.{some, none}
 use lib.ListN.{get_elem?}
 use Rattle.atomic_table.specs.Table.{State}
@@ -123,5 +145,6 @@ module _ {H Q : Type 0} (keeps : Q → H → Type 0) (counts : H → List ℕ) w
     pub names : Names mode s.views turn
     pub slot : Slot pledge mode ws s.homes
     pub fits : (i : ℕ) (v : View Q) → get_elem? s.views i ≡ some v → Fits pledge made mode ws i v
-    pub apart : (i j k : ℕ) (v u : View Q) → get_elem? s.views i ≡ some v → get_elem? s.views j ≡ some u → has k (owned v) ≡ true → has k (owned u) ≡ true → i ≡ j
+    pub apart : (i j k : ℕ) (v u : View Q) → get_elem? s.views i ≡ some v → get_elem? s.views j ≡ some u →
+        has k (owned v) ≡ true → has k (owned u) ≡ true → i ≡ j
     pub unmade : (k : ℕ) → made ≤ k → slice_index ws k ≡ 0

@@ -38,4 +38,5 @@ module _ {H Q : Type 0} where
   -- slot out: the holder keeps what was promised, and its counts are the words that the seat knows
   abbrev pub Fetches : (Q → H → Type 0) → (H → List ℕ) → Step (Option H) → Me (Option H) (View Q) → ℕ → Me (Option H) (View Q) → Type 0
   Fetches keeps counts s me n after =
-      (h : H) × (after ≡ (staged Out me.0, (0, Some h) ∷ me.1)) × keeps me.0.pledge h × Still (counts h) me.0.loaded × (slice_index (counts h) me.0.number ≡ me.0.word)
+      (h : H) × (after ≡ (staged Out me.0, (0, Some h) ∷ me.1)) × keeps me.0.pledge h × Still
+      (counts h) me.0.loaded × (slice_index (counts h) me.0.number ≡ me.0.word)

@@ -1,5 +1,29 @@
 -- Lengths of a recency list, and its least recent clean frame.
-use Rattle.std.proofs.Common.{◌≡◌, ℕ, ◌+◌, ◌≤◌, Bool, true, false, cond, List, [], ◌∷◌, ◌++◌, ◌-◌, length, reverse, Option, Some, None, is_some, arith, refl, ap, subst}
+use Rattle.std.proofs.Common.{
+  ◌≡◌,
+  ℕ,
+  ◌+◌,
+  ◌≤◌,
+  Bool,
+  true,
+  false,
+  cond,
+  List,
+  [],
+  ◌∷◌,
+  ◌++◌,
+  ◌-◌,
+  length,
+  reverse,
+  Option,
+  Some,
+  None,
+  is_some,
+  arith,
+  refl,
+  ap,
+  subst,
+}
 use Rattle.std.specs.Option.{option_map_or}
 use Rattle.std.specs.Map.{lookup, lookup_entry, remove_entry, set_value}
 use Rattle.std.proofs.lemmas.Map.{length-set_value}
@@ -86,7 +110,8 @@ other_frame es k old h g =
     let t = clean_fails (same k) (reverse es) old (none_reverse (same k) es h) g in rw (same_swapped old k) t
 
 -- a new frame goes in front, where there is room
-pub put_new : (c : LruCache (ℕ × ℕ) Bool) (k : ℕ × ℕ) → lookup (same k) c.entries ≡ None → length c.entries + 1 ≤ c.cap → put_entries same c k false ≡ (k, false) ∷ c.entries
+pub put_new : (c : LruCache (ℕ × ℕ) Bool) (k : ℕ × ℕ) → lookup (same k) c.entries ≡ None →
+    length c.entries + 1 ≤ c.cap → put_entries same c k false ≡ (k, false) ∷ c.entries
 put_new c k g room =
     rw (none_entry (same k) c.entries g) (ap (λ r. (k, false) ∷ r) (take_all (c.cap - 1) c.entries (omega arith)))
 

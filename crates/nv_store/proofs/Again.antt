@@ -1,5 +1,32 @@
 -- Applying a patch to what it gave gives the same.
-use Rattle.std.proofs.Common.{◌≡◌, ◌≢◌, ℕ, ◌+◌, ◌<◌, ◌≤◌, Bool, true, false, ◌==◌, inl, inr, cond, List, [], ◌∷◌, ◌++◌, length, get_or, take, refl, sym, ap, subst, ◌∙◌, arith}
+use Rattle.std.proofs.Common.{
+  ◌≡◌,
+  ◌≢◌,
+  ℕ,
+  ◌+◌,
+  ◌<◌,
+  ◌≤◌,
+  Bool,
+  true,
+  false,
+  ◌==◌,
+  inl,
+  inr,
+  cond,
+  List,
+  [],
+  ◌∷◌,
+  ◌++◌,
+  length,
+  get_or,
+  take,
+  refl,
+  sym,
+  ap,
+  subst,
+  ◌∙◌,
+  arith,
+}
 use Rattle.std.specs.Prelude.{nat_lt, Some, None}
 use Rattle.std.specs.List.{list_all}
 use Rattle.std.proofs.Math.ListN.{get_or-append}
@@ -14,7 +41,21 @@ use Rattle.nv_store.specs.declared.patch.Replacement.{Replacement}
 use Rattle.nv_store.specs.declared.patch.Kept.{Kept}
 use Rattle.nv_store.specs.declared.patch.Kept.TheVariants.{Whole, UpTo, Nothing}
 use Rattle.nv_store.specs.Fit.{is_fit}
-use Rattle.nv_store.specs.Patch.{PatchView, IsPatch, is_whole, is_kept, reaches, has_lengths, is_replaceable, revised, stay, patched, patched_image, applies, applied}
+use Rattle.nv_store.specs.Patch.{
+  PatchView,
+  IsPatch,
+  is_whole,
+  is_kept,
+  reaches,
+  has_lengths,
+  is_replaceable,
+  revised,
+  stay,
+  patched,
+  patched_image,
+  applies,
+  applied,
+}
 use Rattle.nv_store.proofs.Revisions.{place_there, key_there, body_there, lengths_kept, all_kept, length_revised, revised_nothing}
 
 abbrev pub put : Replacement → List Record → List Record

@@ -1,10 +1,51 @@
 -- A patch that is applied does what its edits do one after the other.
-use Rattle.std.proofs.Common.{◌≡◌, ℕ, ◌+◌, ◌-◌, ◌<◌, ◌≤◌, true, false, ◌==◌, not, ◌⊎◌, inl, inr, List, [], ◌∷◌, ◌++◌, length, get_or, take, filter, refl, sym, ap, subst, ◌∙◌, append_assoc, arith}
+use Rattle.std.proofs.Common.{
+  ◌≡◌,
+  ℕ,
+  ◌+◌,
+  ◌-◌,
+  ◌<◌,
+  ◌≤◌,
+  true,
+  false,
+  ◌==◌,
+  not,
+  ◌⊎◌,
+  inl,
+  inr,
+  List,
+  [],
+  ◌∷◌,
+  ◌++◌,
+  length,
+  get_or,
+  take,
+  filter,
+  refl,
+  sym,
+  ap,
+  subst,
+  ◌∙◌,
+  append_assoc,
+  arith,
+}
 use Rattle.std.specs.Prelude.{nat_le, Some}
 use Rattle.std.proofs.Math.ListN.{set, get_or-append}
 use Rattle.std.proofs.Math.Seq.{take-append-add}
 use Rattle.std.proofs.lemmas.Bool.{and_parts, ltb-true, lt-ltb, leb-true, leb-false, eqb-true, ne_eqb, cases_lt, cases_Bool}
-use Rattle.std.proofs.lemmas.List.{append-nil, take_all, take-take, take-append-le, length-append, length-take, length-set, get_or-append-add, set-append_left, set-append_right, set_past}
+use Rattle.std.proofs.lemmas.List.{
+  append-nil,
+  take_all,
+  take-take,
+  take-append-le,
+  length-append,
+  length-take,
+  length-set,
+  get_or-append-add,
+  set-append_left,
+  set-append_right,
+  set_past,
+}
 use Rattle.ckd_types.specs.declared.record.Record.{Record}
 use Rattle.ckd_types.specs.declared.record.Edit.{Edit}
 use Rattle.ckd_types.specs.declared.record.Edit.TheVariants.{Update, Format, Zero}

@@ -1,5 +1,32 @@
 -- One more edit of what a patch gave: the patch with that edit gives the image with it.
-use Rattle.std.proofs.Common.{◌≡◌, ℕ, ◌+◌, ◌<◌, Bool, true, false, cond, ◌==◌, not, inl, inr, List, [], ◌∷◌, ◌++◌, length, get_or, take, filter, refl, sym, ap, subst, ◌∙◌, arith}
+use Rattle.std.proofs.Common.{
+  ◌≡◌,
+  ℕ,
+  ◌+◌,
+  ◌<◌,
+  Bool,
+  true,
+  false,
+  cond,
+  ◌==◌,
+  not,
+  inl,
+  inr,
+  List,
+  [],
+  ◌∷◌,
+  ◌++◌,
+  length,
+  get_or,
+  take,
+  filter,
+  refl,
+  sym,
+  ap,
+  subst,
+  ◌∙◌,
+  arith,
+}
 use Rattle.std.specs.Prelude.{nat_le, Some, None}
 use Rattle.std.specs.List.{list_all}
 use Rattle.std.proofs.Math.ListN.{get_or-append}
@@ -17,7 +44,23 @@ use Rattle.nv_store.specs.declared.patch.Kept.{Kept}
 use Rattle.nv_store.specs.declared.patch.Kept.TheVariants.{Whole, UpTo, Nothing}
 use Rattle.nv_store.specs.Fit.{is_fit}
 use Rattle.nv_store.specs.Edits.{Meets}
-use Rattle.nv_store.specs.Patch.{PatchView, IsPatch, is_whole, is_kept, with_replacement, added, reaches, has_lengths, is_replaceable, revised, stay, patched, patched_image, applies, applied}
+use Rattle.nv_store.specs.Patch.{
+  PatchView,
+  IsPatch,
+  is_whole,
+  is_kept,
+  with_replacement,
+  added,
+  reaches,
+  has_lengths,
+  is_replaceable,
+  revised,
+  stay,
+  patched,
+  patched_image,
+  applies,
+  applied,
+}
 use Rattle.nv_store.proofs.Revisions.{place_there, key_there, body_there, lengths_kept, all_kept, length_revised, revised_take, revised_nothing}
 use Rattle.nv_store.proofs.Again.{put, lengths_from, nothing_behind, length_front, applied_is}
 use Rattle.nv_store.proofs.InOrder.{FollowsBy, parts, up_to, follows_added, follows_reached}

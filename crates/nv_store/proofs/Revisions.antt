@@ -1,5 +1,30 @@
 -- Replacements keep the lengths of the records of a track.
-use Rattle.std.proofs.Common.{◌≡◌, ◌≢◌, ℕ, ◌+◌, ◌<◌, ◌≤◌, Bool, true, ◌&&◌, inl, inr, List, [], ◌∷◌, length, get_or, take, drop, refl, sym, ap, subst, ◌∙◌, arith}
+use Rattle.std.proofs.Common.{
+  ◌≡◌,
+  ◌≢◌,
+  ℕ,
+  ◌+◌,
+  ◌<◌,
+  ◌≤◌,
+  Bool,
+  true,
+  ◌&&◌,
+  inl,
+  inr,
+  List,
+  [],
+  ◌∷◌,
+  length,
+  get_or,
+  take,
+  drop,
+  refl,
+  sym,
+  ap,
+  subst,
+  ◌∙◌,
+  arith,
+}
 use Rattle.std.specs.List.{list_all}
 use Rattle.std.proofs.Math.ListN.{set}
 use Rattle.std.proofs.Math.Seq.{take-set-lt}

@@ -1,5 +1,33 @@
 -- The commands that neither take nor free a device: of it they ask nothing but sense and sense ID.
-use Rattle.std.proofs.Common.{◌≡◌, ◌∙◌, ap, ℕ, zero, suc, [], ◌∷◌, ◌<◌, ◌≤◌, List, Option, Some, None, Bool, true, false, cond, Result, Ok, Err, length, refl, sym, subst, inl, inr}
+use Rattle.std.proofs.Common.{
+  ◌≡◌,
+  ◌∙◌,
+  ap,
+  ℕ,
+  zero,
+  suc,
+  [],
+  ◌∷◌,
+  ◌<◌,
+  ◌≤◌,
+  List,
+  Option,
+  Some,
+  None,
+  Bool,
+  true,
+  false,
+  cond,
+  Result,
+  Ok,
+  Err,
+  length,
+  refl,
+  sym,
+  subst,
+  inl,
+  inr,
+}
 use Rattle.std.specs.Prelude.{All, ⊤, ◌⊎◌, slice_index, not, nat_lt}
 use Rattle.std.proofs.lemmas.Bool.{cases_lt}
 use Rattle.std.proofs.lemmas.List.{get_or_past}
@@ -38,7 +66,23 @@ use Rattle.ckd_rules.specs.declared.order.Order.TheVariants.{Nothing, Seeks, Rec
 use Rattle.ckd_rules.specs.declared.stance.Place.{Place}
 use Rattle.ckd_rules.specs.declared.stance.Place.TheVariants.{Index, Home, Count, Key, Body}
 use Rattle.ckd_rules.specs.declared.stance.Stance.{Stance}
-use Rattle.ckd_rules.specs.Checks.{seeks, has_own_number, defines, locates, control_order, device_act, decoded, mask_fault, first_track, is_within, is_in_sequence, masked_order, permitted_order, order_by, order_of}
+use Rattle.ckd_rules.specs.Checks.{
+  seeks,
+  has_own_number,
+  defines,
+  locates,
+  control_order,
+  device_act,
+  decoded,
+  mask_fault,
+  first_track,
+  is_within,
+  is_in_sequence,
+  masked_order,
+  permitted_order,
+  order_by,
+  order_of,
+}
 use Rattle.ckd_rules.specs.Control.{unseen_place}
 use Rattle.ckd_rules.specs.Finding.{track_after}
 use Rattle.ckd_rules.specs.Opening.{moved, read_from, look_from, locating, begun, opened_by, opening_of}

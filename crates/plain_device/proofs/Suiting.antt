@@ -1,5 +1,37 @@
 -- The edit of a command suits the track that it looked at.
-use Rattle.std.proofs.Common.{◌≡◌, ◌<◌, ◌≤◌, ◌+◌, ◌-◌, ◌^◌, ℕ, List, Option, Some, None, Bool, true, false, cond, Result, Ok, Err, length, get_or, take, drop, replicate, refl, arith, sym, ap, subst, ◌∙◌, inl, inr}
+use Rattle.std.proofs.Common.{
+  ◌≡◌,
+  ◌<◌,
+  ◌≤◌,
+  ◌+◌,
+  ◌-◌,
+  ◌^◌,
+  ℕ,
+  List,
+  Option,
+  Some,
+  None,
+  Bool,
+  true,
+  false,
+  cond,
+  Result,
+  Ok,
+  Err,
+  length,
+  get_or,
+  take,
+  drop,
+  replicate,
+  refl,
+  arith,
+  sym,
+  ap,
+  subst,
+  ◌∙◌,
+  inl,
+  inr,
+}
 use Rattle.std.specs.Prelude.{◌⊎◌, ◌==◌, ⊤, All, nat_lt, nat_le, is_some, slice_index}
 use Rattle.std.proofs.lemmas.Bool.{cases_lt, and_parts, eqb-true, leb-true, ltb-true}
 use Rattle.std.proofs.lemmas.List.{length-append, length-take, length-replicate, get_or_past}

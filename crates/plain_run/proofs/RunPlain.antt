@@ -1,5 +1,35 @@
 -- After every event of a run the device is one that a plain device could be.
-use Rattle.std.proofs.Common.{◌≡◌, ◌<◌, ◌≤◌, ◌+◌, ◌-◌, ℕ, suc, List, [], ◌∷◌, ◌++◌, Option, Some, None, Bool, true, false, length, cond, refl, arith, sym, ap, subst, inl, inr, ◌∙◌, append_assoc, nat_lt}
+use Rattle.std.proofs.Common.{
+  ◌≡◌,
+  ◌<◌,
+  ◌≤◌,
+  ◌+◌,
+  ◌-◌,
+  ℕ,
+  suc,
+  List,
+  [],
+  ◌∷◌,
+  ◌++◌,
+  Option,
+  Some,
+  None,
+  Bool,
+  true,
+  false,
+  length,
+  cond,
+  refl,
+  arith,
+  sym,
+  ap,
+  subst,
+  inl,
+  inr,
+  ◌∙◌,
+  append_assoc,
+  nat_lt,
+}
 use Rattle.std.specs.List.{list_all}
 use Rattle.std.proofs.lemmas.List.Sums.{sum_by_push}
 use Rattle.std.specs.Prelude.{◌==◌, ◌||◌, ◌⊎◌, All, IfSome, IsSome, slice_index_or, if◌then◌else◌}

@@ -1,5 +1,33 @@
 -- The numbers in use, behind one more and one less.
-use Rattle.std.proofs.Common.{◌≡◌, ◌≢◌, ◌<◌, ℕ, zero, suc, ◌+◌, ◌==◌, nat_lt, Bool, true, false, cond, List, [], ◌∷◌, length, Option, Some, None, is_some, get_or, refl, sym, ap, ◌∙◌, arith}
+use Rattle.std.proofs.Common.{
+  ◌≡◌,
+  ◌≢◌,
+  ◌<◌,
+  ℕ,
+  zero,
+  suc,
+  ◌+◌,
+  ◌==◌,
+  nat_lt,
+  Bool,
+  true,
+  false,
+  cond,
+  List,
+  [],
+  ◌∷◌,
+  length,
+  Option,
+  Some,
+  None,
+  is_some,
+  get_or,
+  refl,
+  sym,
+  ap,
+  ◌∙◌,
+  arith,
+}
 use Rattle.std.specs.Prelude.{count_by}
 use Rattle.std.proofs.lemmas.Bool.Decides.{nat_tests}
 use Rattle.std.proofs.lemmas.List.Sums.{sum_by-cons}
@@ -62,10 +90,12 @@ module _ {T : Type 0} where
   same_numbers n (Some x ∷ xs) (None ∷ ys) e = let h = e zero in absurd cc
   same_numbers n (Some x ∷ xs) (Some y ∷ ys) e = ap (λ (l : List ℕ). n ∷ l) (same_numbers (n + 1) xs ys (λ j. e (suc j)))
 
-  same_tails : (xs ys : List (Option T)) → ((j : ℕ) → j ≢ zero → get_or ys j None ≡ get_or xs j None) → (j : ℕ) → get_or (tail ys) j None ≡ get_or (tail xs) j None
+  same_tails : (xs ys : List (Option T)) → ((j : ℕ) → j ≢ zero → get_or ys j None ≡ get_or xs j None) → (j : ℕ) →
+      get_or (tail ys) j None ≡ get_or (tail xs) j None
   same_tails xs ys e j = at_tail ys j ∙ e (suc j) (let h : suc j ≢ zero = omega arith in h) ∙ sym (at_tail xs j)
 
-  later_tails : (k : ℕ) (xs ys : List (Option T)) → ((j : ℕ) → j ≢ suc k → get_or ys j None ≡ get_or xs j None) → (j : ℕ) → j ≢ k → get_or (tail ys) j None ≡ get_or (tail xs) j None
+  later_tails : (k : ℕ) (xs ys : List (Option T)) → ((j : ℕ) → j ≢ suc k → get_or ys j None ≡ get_or xs j None) →
+      (j : ℕ) → j ≢ k → get_or (tail ys) j None ≡ get_or (tail xs) j None
   later_tails k xs ys e j n = at_tail ys j ∙ e (suc j) (let h : suc j ≢ suc k = omega (arith, n) in h) ∙ sym (at_tail xs j)
 
   -- a number below all others comes first, and isn't there
@@ -89,41 +119,51 @@ module _ {T : Type 0} where
   absent m b (None ∷ xs) h = absent m (b + 1) xs (omega (arith, h))
   absent m b (Some x ∷ xs) h = ap (λ (c : Bool). cond c true (is_in m (numbers_from (b + 1) xs))) (eq_other b m h) ∙ absent m (b + 1) xs (omega (arith, h))
 
-  put_first : (n m : ℕ) (x y : Option T) (xs ys : List (Option T)) (v : T) → m ≡ n → x ≡ None → y ≡ Some v → numbers_from (n + 1) ys ≡ numbers_from (n + 1) xs → step n y ys ≡ with_number m (step n x xs)
+  put_first : (n m : ℕ) (x y : Option T) (xs ys : List (Option T)) (v : T) → m ≡ n → x ≡ None → y ≡ Some v →
+      numbers_from (n + 1) ys ≡ numbers_from (n + 1) xs → step n y ys ≡ with_number m (step n x xs)
   unfolding step
   put_first n m None None xs ys v e p q h = absurd cc
   put_first n m None (Some y) xs ys v e p q h =
       ap (λ (l : List ℕ). n ∷ l) h ∙ ap (λ (i : ℕ). i ∷ numbers_from (n + 1) xs) (sym e) ∙ sym (comes_first m (n + 1) xs (omega (arith, e)))
   put_first n m (Some x) y xs ys v e p q h = absurd cc
 
-  put_later : (n m : ℕ) (x y : Option T) (xs ys : List (Option T)) → n < m → y ≡ x → numbers_from (n + 1) ys ≡ with_number m (numbers_from (n + 1) xs) → step n y ys ≡ with_number m (step n x xs)
+  put_later : (n m : ℕ) (x y : Option T) (xs ys : List (Option T)) → n < m → y ≡ x →
+      numbers_from (n + 1) ys ≡ with_number m (numbers_from (n + 1) xs) → step n y ys ≡ with_number m (step n x xs)
   unfolding step L.with_number
   put_later n m None None xs ys lt e h = h
   put_later n m None (Some y) xs ys lt e h = absurd cc
   put_later n m (Some x) None xs ys lt e h = absurd cc
   put_later n m (Some x) (Some y) xs ys lt e h =
-      ap (λ (l : List ℕ). n ∷ l) h ∙ sym (ap (λ (c : Bool). cond c (n ∷ with_number m (numbers_from (n + 1) xs)) (m ∷ n ∷ numbers_from (n + 1) xs)) (lt_true n m lt))
+      ap (λ (l : List ℕ). n ∷ l) h ∙ sym (ap (λ (c : Bool). cond c (n ∷ with_number m (numbers_from (n + 1) xs))
+      (m ∷ n ∷ numbers_from (n + 1) xs)) (lt_true n m lt))
 
   -- one more number is put in at its place
-  pub numbers_more : (k n m : ℕ) (xs ys : List (Option T)) (v : T) → m ≡ n + k → get_or xs k None ≡ None → get_or ys k None ≡ Some v → ((j : ℕ) → j ≢ k → get_or ys j None ≡ get_or xs j None) → numbers_from n ys ≡ with_number m (numbers_from n xs)
+  pub numbers_more : (k n m : ℕ) (xs ys : List (Option T)) (v : T) → m ≡ n + k → get_or xs k None ≡ None →
+      get_or ys k None ≡ Some v → ((j : ℕ) → j ≢ k → get_or ys j None ≡ get_or xs j None) →
+      numbers_from n ys ≡ with_number m (numbers_from n xs)
   numbers_more zero n m xs ys v e p q f =
       stepped n ys
-      ∙ put_first n m (head xs) (head ys) (tail xs) (tail ys) v (omega (arith, e)) (sym (at_head xs) ∙ p) (sym (at_head ys) ∙ q) (same_numbers (n + 1) (tail xs) (tail ys) (same_tails xs ys f))
+      ∙ put_first n m (head xs) (head ys) (tail xs) (tail ys) v (omega (arith, e)) (sym (at_head xs) ∙ p)
+      (sym (at_head ys) ∙ q) (same_numbers (n + 1) (tail xs) (tail ys) (same_tails xs ys f))
       ∙ ap (with_number m) (sym (stepped n xs))
   numbers_more (suc k) n m xs ys v e p q f =
       let h : m ≡ n + 1 + k = omega (arith, e) in
       stepped n ys
-      ∙ put_later n m (head xs) (head ys) (tail xs) (tail ys) (omega (arith, e)) (sym (at_head ys) ∙ f zero (let z : zero ≢ suc k = omega arith in z) ∙ at_head xs)
+      ∙ put_later n m (head xs) (head ys) (tail xs) (tail ys) (omega (arith, e))
+      (sym (at_head ys) ∙ f zero (let z : zero ≢ suc k = omega arith in z) ∙ at_head xs)
       (numbers_more k (n + 1) m (tail xs) (tail ys) v h (at_tail xs k ∙ p) (at_tail ys k ∙ q) (later_tails k xs ys f))
       ∙ ap (with_number m) (sym (stepped n xs))
 
-  less_first : (n m : ℕ) (x y : Option T) (xs ys : List (Option T)) → m ≡ n → y ≡ None → numbers_from (n + 1) ys ≡ numbers_from (n + 1) xs → step n y ys ≡ less_one m (step n x xs)
+  less_first : (n m : ℕ) (x y : Option T) (xs ys : List (Option T)) → m ≡ n → y ≡ None →
+      numbers_from (n + 1) ys ≡ numbers_from (n + 1) xs → step n y ys ≡ less_one m (step n x xs)
   unfolding step L.less_one
   less_first n m x (Some y) xs ys e q h = absurd cc
   less_first n m None None xs ys e q h = h ∙ sym (less_absent m (n + 1) xs (omega (arith, e)))
-  less_first n m (Some x) None xs ys e q h = h ∙ sym (ap (λ (c : Bool). cond c (numbers_from (n + 1) xs) (n ∷ less_one m (numbers_from (n + 1) xs))) (eq_true n m e))
+  less_first n m (Some x) None xs ys e q h = h ∙ sym (ap (λ (c : Bool). cond c (numbers_from (n + 1) xs)
+      (n ∷ less_one m (numbers_from (n + 1) xs))) (eq_true n m e))
 
-  less_later : (n m : ℕ) (x y : Option T) (xs ys : List (Option T)) → n < m → y ≡ x → numbers_from (n + 1) ys ≡ less_one m (numbers_from (n + 1) xs) → step n y ys ≡ less_one m (step n x xs)
+  less_later : (n m : ℕ) (x y : Option T) (xs ys : List (Option T)) → n < m → y ≡ x →
+      numbers_from (n + 1) ys ≡ less_one m (numbers_from (n + 1) xs) → step n y ys ≡ less_one m (step n x xs)
   unfolding step L.less_one
   less_later n m None None xs ys lt e h = h
   less_later n m None (Some y) xs ys lt e h = absurd cc
@@ -132,15 +172,18 @@ module _ {T : Type 0} where
       ap (λ (l : List ℕ). n ∷ l) h ∙ sym (ap (λ (c : Bool). cond c (numbers_from (n + 1) xs) (n ∷ less_one m (numbers_from (n + 1) xs))) (eq_false n m lt))
 
   -- one less is taken out, if it is there
-  pub numbers_less : (k n m : ℕ) (xs ys : List (Option T)) → m ≡ n + k → get_or ys k None ≡ None → ((j : ℕ) → j ≢ k → get_or ys j None ≡ get_or xs j None) → numbers_from n ys ≡ less_one m (numbers_from n xs)
+  pub numbers_less : (k n m : ℕ) (xs ys : List (Option T)) → m ≡ n + k → get_or ys k None ≡ None →
+      ((j : ℕ) → j ≢ k → get_or ys j None ≡ get_or xs j None) → numbers_from n ys ≡ less_one m (numbers_from n xs)
   numbers_less zero n m xs ys e q f =
       stepped n ys
-      ∙ less_first n m (head xs) (head ys) (tail xs) (tail ys) (omega (arith, e)) (sym (at_head ys) ∙ q) (same_numbers (n + 1) (tail xs) (tail ys) (same_tails xs ys f))
+      ∙ less_first n m (head xs) (head ys) (tail xs) (tail ys) (omega (arith, e)) (sym (at_head ys) ∙ q)
+      (same_numbers (n + 1) (tail xs) (tail ys) (same_tails xs ys f))
       ∙ ap (less_one m) (sym (stepped n xs))
   numbers_less (suc k) n m xs ys e q f =
       let h : m ≡ n + 1 + k = omega (arith, e) in
       stepped n ys
-      ∙ less_later n m (head xs) (head ys) (tail xs) (tail ys) (omega (arith, e)) (sym (at_head ys) ∙ f zero (let z : zero ≢ suc k = omega arith in z) ∙ at_head xs)
+      ∙ less_later n m (head xs) (head ys) (tail xs) (tail ys) (omega (arith, e))
+      (sym (at_head ys) ∙ f zero (let z : zero ≢ suc k = omega arith in z) ∙ at_head xs)
       (numbers_less k (n + 1) m (tail xs) (tail ys) h (at_tail ys k ∙ q) (later_tails k xs ys f))
       ∙ ap (less_one m) (sym (stepped n xs))
 

@@ -1,5 +1,39 @@
 -- The bytes that are read are the track's, and the track's bytes are read again, with nothing behind them.
-use Rattle.std.proofs.Common.{◌≡◌, ℕ, zero, suc, ◌+◌, ◌-◌, ◌≤◌, true, false, ltb, nat_eq, eqb, List, [], ◌∷◌, ◌++◌, length, take, drop, All, Some, None, Result, Ok, Err, sum_by, add-zero, refl, sym, ap, ◌∙◌, append_assoc, arith}
+use Rattle.std.proofs.Common.{
+  ◌≡◌,
+  ℕ,
+  zero,
+  suc,
+  ◌+◌,
+  ◌-◌,
+  ◌≤◌,
+  true,
+  false,
+  ltb,
+  nat_eq,
+  eqb,
+  List,
+  [],
+  ◌∷◌,
+  ◌++◌,
+  length,
+  take,
+  drop,
+  All,
+  Some,
+  None,
+  Result,
+  Ok,
+  Err,
+  sum_by,
+  add-zero,
+  refl,
+  sym,
+  ap,
+  ◌∙◌,
+  append_assoc,
+  arith,
+}
 use Rattle.std.specs.Prelude.{IfOk}
 use Rattle.std.specs.List.{starts_with, flat_map}
 use Rattle.std.proofs.lemmas.Bool.{le-ltb, ne_eqb}
@@ -18,7 +52,20 @@ use Rattle.track_image.specs.declared.fault.BytesFault.{BytesFault}
 use Rattle.track_image.specs.Image.{Image}
 use Rattle.track_image.specs.Packed.{unpacked, IsFound, IsPacked}
 use Rattle.track_image.specs.Reading.{◌>>=◌, Gives, zero_at, next_at, or_end, size_of, records_at, reading}
-use Rattle.track_image.proofs.Fields.{IsBytes, IsBytes-drop, bind_ok, then_ok, ok_is, length-record_bytes, zero_takes, next_takes, next_ends, next_again, zero_again, home_again}
+use Rattle.track_image.proofs.Fields.{
+  IsBytes,
+  IsBytes-drop,
+  bind_ok,
+  then_ok,
+  ok_is,
+  length-record_bytes,
+  zero_takes,
+  next_takes,
+  next_ends,
+  next_again,
+  zero_again,
+  home_again,
+}
 
 abbrev units : Geometry → Record → ℕ
 units g r = cost g (length r.key) (length r.body)

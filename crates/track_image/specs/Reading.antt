@@ -1,5 +1,31 @@
 -- Reading the bytes of a track from left to right. A fault is the offset of the first field that is wrong or cut.
-use Rattle.std.specs.Prelude.{◌≡◌, ◌≤◌, ℕ, zero, suc, ◌+◌, ◌==◌, ◌&&◌, nat_eq, nat_lt, nat_le, List, ◌∷◌, [], length, take, drop, slice_index, Option, Some, None, Result, Ok, Err, if◌then◌else◌}
+use Rattle.std.specs.Prelude.{
+  ◌≡◌,
+  ◌≤◌,
+  ℕ,
+  zero,
+  suc,
+  ◌+◌,
+  ◌==◌,
+  ◌&&◌,
+  nat_eq,
+  nat_lt,
+  nat_le,
+  List,
+  ◌∷◌,
+  [],
+  length,
+  take,
+  drop,
+  slice_index,
+  Option,
+  Some,
+  None,
+  Result,
+  Ok,
+  Err,
+  if◌then◌else◌,
+}
 use Rattle.std.specs.List.{starts_with}
 use Rattle.byteorder.specs.Endian.{big_number}
 use Rattle.ckd_types.specs.declared.geometry.Cchh.{Cchh}

@@ -1,5 +1,36 @@
 -- Words of bits and the marks that they are.
-use Rattle.std.proofs.Common.{◌≡◌, ℕ, zero, suc, ◌+◌, ◌-◌, ◌*◌, ◌/◌, ◌%◌, ◌^◌, ◌<◌, ◌≤◌, ◌==◌, ◌&&◌, nat_le, inl, inr, Bool, true, false, cond, List, length, get_or, refl, sym, ap, ◌∙◌, w64, arith}
+use Rattle.std.proofs.Common.{
+  ◌≡◌,
+  ℕ,
+  zero,
+  suc,
+  ◌+◌,
+  ◌-◌,
+  ◌*◌,
+  ◌/◌,
+  ◌%◌,
+  ◌^◌,
+  ◌<◌,
+  ◌≤◌,
+  ◌==◌,
+  ◌&&◌,
+  nat_le,
+  inl,
+  inr,
+  Bool,
+  true,
+  false,
+  cond,
+  List,
+  length,
+  get_or,
+  refl,
+  sym,
+  ap,
+  ◌∙◌,
+  w64,
+  arith,
+}
 use Rattle.std.specs.Prelude.{Some, None, replicate}
 use Rattle.std.specs.Int.{bit_at, trailing_zeros}
 use Rattle.std.specs.Int.Count.{ones}
@@ -38,10 +69,12 @@ same_marks xs ys same each = ext_get_or false xs ys same (λ t below. each t)
 
 pub no_marks : (words : List ℕ) → length words ≡ 15 → ((k : ℕ) → get_or words k 0 ≡ 0) → marks_of words ≡ replicate 960 false
 no_marks words whole empty =
-    same_marks _ _ (length_marks words ∙ sym (length-replicate 960 false)) (λ t. marked_is words t whole ∙ rw (empty (t / 64)) (no_bit (t % 64)) ∙ sym (empty_places 960 t false))
+    same_marks _ _ (length_marks words ∙ sym (length-replicate 960 false))
+    (λ t. marked_is words t whole ∙ rw (empty (t / 64)) (no_bit (t % 64)) ∙ sym (empty_places 960 t false))
 
 -- one bit of one word changed
-pub set_word : (words : List ℕ) (t q w : ℕ) (m : Bool) → t / 64 < length words → ((i : ℕ) → i < 64 → (bit_at w i == 1) ≡ cond (i == t % 64) m (bit_at (get_or words (t / 64) 0) i == 1))
+pub set_word : (words : List ℕ) (t q w : ℕ) (m : Bool) → t / 64 < length words →
+    ((i : ℕ) → i < 64 → (bit_at w i == 1) ≡ cond (i == t % 64) m (bit_at (get_or words (t / 64) 0) i == 1))
     → is_set (set words (t / 64) w) q ≡ cond (q == t) m (is_set words q)
 set_word words t q w m there bits = elim (cases_eq (q / 64) (t / 64)) [
   | inl same ↦ here same
@@ -54,9 +87,11 @@ set_word words t q w m there bits = elim (cases_eq (q / 64) (t / 64)) [
       | inr e ↦ rw (ne_eqb q t e, ne_eqb (q % 64) (t % 64) (λ f. e (omega arith))) refl
     ])
 
-pub marks_set : (words : List ℕ) (t w : ℕ) (m : Bool) → length words ≡ 15 → t < 960 → ((i : ℕ) → i < 64 → (bit_at w i == 1) ≡ cond (i == t % 64) m (bit_at (get_or words (t / 64) 0) i == 1))
+pub marks_set : (words : List ℕ) (t w : ℕ) (m : Bool) → length words ≡ 15 → t < 960 →
+    ((i : ℕ) → i < 64 → (bit_at w i == 1) ≡ cond (i == t % 64) m (bit_at (get_or words (t / 64) 0) i == 1))
     → marks_of (set words (t / 64) w) ≡ set (marks_of words) t m
-marks_set words t w m whole below bits = same_marks _ _ (length_marks (set words (t / 64) w) ∙ sym (length_marks words) ∙ sym (length-set (marks_of words) t m)) (λ q.
+marks_set words t w m whole below bits = same_marks _ _ (length_marks (set words (t / 64) w) ∙ sym
+    (length_marks words) ∙ sym (length-set (marks_of words) t m)) (λ q.
     marked_is (set words (t / 64) w) q (length-set words (t / 64) w ∙ whole)
     ∙ set_word words t q w m (omega arith) bits
     ∙ ap (λ (b : Bool). cond (q == t) m b) (sym (marked_is words q whole))
@@ -65,7 +100,8 @@ marks_set words t w m whole below bits = same_marks _ _ (length_marks (set words
 -- ---- two sets of marks
 
 -- one more word that is made of two others, bit by bit
-pub next_word : (g : Bool → Bool → Bool) (ws xs ys : List ℕ) (k w : ℕ) → k < length ws → ((i : ℕ) → i < 64 → (bit_at w i == 1) ≡ g (bit_at (get_or xs k 0) i == 1) (bit_at (get_or ys k 0) i == 1))
+pub next_word : (g : Bool → Bool → Bool) (ws xs ys : List ℕ) (k w : ℕ) → k < length ws →
+    ((i : ℕ) → i < 64 → (bit_at w i == 1) ≡ g (bit_at (get_or xs k 0) i == 1) (bit_at (get_or ys k 0) i == 1))
     → ((q : ℕ) → q < 64 * k → is_set ws q ≡ g (is_set xs q) (is_set ys q)) → (q : ℕ) → q < 64 * (k + 1) → is_set (set ws k w) q ≡ g (is_set xs q) (is_set ys q)
 next_word g ws xs ys k w there bits so_far q below = elim (cases_lt q (64 * k)) [
   | inl front ↦ rw (get_or-set_other ws k (q / 64) w 0 (omega arith)) (so_far q front)
@@ -76,7 +112,8 @@ next_word g ws xs ys k w there bits so_far q below = elim (cases_lt q (64 * k)) 
     here e = rw (e, get_or-set_same ws k w 0 there) (bits (q % 64) (omega arith))
 
 pub each_word : (g : Bool → Bool → Bool) (ws xs ys : List ℕ) → g false false ≡ false → length ws ≡ 15 → length xs ≡ 15 → length ys ≡ 15
-    → ((q : ℕ) → q < 960 → is_set ws q ≡ g (is_set xs q) (is_set ys q)) → (q : ℕ) → is_marked (marks_of ws) q ≡ g (is_marked (marks_of xs) q) (is_marked (marks_of ys) q)
+    → ((q : ℕ) → q < 960 → is_set ws q ≡ g (is_set xs q) (is_set ys q)) → (q : ℕ) →
+    is_marked (marks_of ws) q ≡ g (is_marked (marks_of xs) q) (is_marked (marks_of ys) q)
 each_word g ws xs ys none lw lx ly each q = rw (marked_is ws q lw, marked_is xs q lx, marked_is ys q ly) (elim (cases_lt q 960) [
   | inl below ↦ each q below
   | inr past ↦ rw (set_past_end ws q (omega arith), set_past_end xs q (omega arith), set_past_end ys q (omega arith)) (sym none)
@@ -109,7 +146,8 @@ in_word words k i below =
     let place : (64 * k + i) % 64 ≡ i = omega arith in
     rw (word, place) refl
 
-pub count_word : (words : List ℕ) (k : ℕ) → get_or words k 0 < 2 ^ 64 → count_below (64 * (k + 1)) (is_set words) ≡ count_below (64 * k) (is_set words) + ones (get_or words k 0)
+pub count_word : (words : List ℕ) (k : ℕ) → get_or words k 0 < 2 ^ 64 →
+    count_below (64 * (k + 1)) (is_set words) ≡ count_below (64 * k) (is_set words) + ones (get_or words k 0)
 count_word words k small =
     let sum : 64 * (k + 1) ≡ 64 * k + 64 = omega arith in
     let low : get_or words k 0 % 2 ^ 64 ≡ get_or words k 0 = omega arith in
@@ -123,7 +161,8 @@ count_word words k small =
 abbrev pub FromBits : List ℕ → ℕ → ℕ → ℕ → Type 0
 FromBits words from k w = (i : ℕ) → i < 64 → (bit_at w i == 1) ≡ (nat_le (from - 64 * k) i && (bit_at (get_or words k 0) i == 1))
 
-pub unset_in_word : (words : List ℕ) (from k w q : ℕ) → FromBits words from k w → from ≤ q → 64 * k ≤ q → q < 64 * (k + 1) → bit_at w (q - 64 * k) ≡ 0 → is_set words q ≡ false
+pub unset_in_word : (words : List ℕ) (from k w q : ℕ) → FromBits words from k w → from ≤ q → 64 * k ≤ q →
+    q < 64 * (k + 1) → bit_at w (q - 64 * k) ≡ 0 → is_set words q ≡ false
 unset_in_word words from k w q bits behind low high zero' =
     let place : 64 * k + (q - 64 * k) ≡ q = omega arith in
     let small : q - 64 * k < 64 = omega arith in
@@ -138,7 +177,8 @@ none_in_word words from k w bits none so_far q behind below = elim (cases_lt q (
   | inr last ↦ unset_in_word words from k w q bits behind last below (rw none (bit_at-zero (q - 64 * k)))
 ]
 
-pub least_in_word : (words : List ℕ) (from k w : ℕ) → length words ≡ 15 → k < 15 → FromBits words from k w → 0 < w → w < 2 ^ 64 → ((q : ℕ) → from ≤ q → q < 64 * k → is_set words q ≡ false)
+pub least_in_word : (words : List ℕ) (from k w : ℕ) → length words ≡ 15 → k < 15 → FromBits words from k w → 0 < w →
+    w < 2 ^ 64 → ((q : ℕ) → from ≤ q → q < 64 * k → is_set words q ≡ false)
     → IsLeastFrom from (marks_of words) (Some (64 * k + trailing_zeros w64 w))
 least_in_word words from k w whole inside bits some small so_far =
     let z = trailing_zeros w64 w in
@@ -154,7 +194,8 @@ least_in_word words from k w whole inside bits some small so_far =
       ],
     )
 
-pub none_in_words : (words : List ℕ) (from k : ℕ) → length words ≡ 15 → 15 ≤ k → ((q : ℕ) → from ≤ q → q < 64 * k → is_set words q ≡ false) → IsLeastFrom from (marks_of words) None
+pub none_in_words : (words : List ℕ) (from k : ℕ) → length words ≡ 15 → 15 ≤ k →
+    ((q : ℕ) → from ≤ q → q < 64 * k → is_set words q ≡ false) → IsLeastFrom from (marks_of words) None
 none_in_words words from k whole end so_far q behind = marked_is words q whole ∙ elim (cases_lt q (64 * k)) [
   | inl front ↦ so_far q behind front
   | inr past ↦ set_past_end words q (omega arith)
@@ -166,6 +207,8 @@ pub count_marks : (words : List ℕ) (n : ℕ) → length words ≡ 15 → count
 count_marks words n whole = count_same n _ _ (λ t below. sym (marked_is words t whole))
 
 -- a set bit of a word, by the number of those in front
-pub in_front : (words : List ℕ) (k p : ℕ) → p < 64 → get_or words k 0 < 2 ^ 64 → count_below (64 * k + p) (is_set words) ≡ count_below (64 * k) (is_set words) + ones (get_or words k 0 % 2 ^ p)
+pub in_front : (words : List ℕ) (k p : ℕ) → p < 64 → get_or words k 0 < 2 ^ 64 →
+    count_below (64 * k + p) (is_set words) ≡ count_below (64 * k) (is_set words) + ones (get_or words k 0 % 2 ^ p)
 in_front words k p inside small = count_add (64 * k) p (is_set words) ∙ ap (λ (n : ℕ). count_below (64 * k) (is_set words) + n) (
-    count_same p (λ i. is_set words (64 * k + i)) (λ i. bit_at (get_or words k 0) i == 1) (λ i below. in_word words k i (omega arith)) ∙ count_bits (get_or words k 0) p)
+    count_same p (λ i. is_set words (64 * k + i)) (λ i. bit_at (get_or words k 0) i == 1)
+    (λ i below. in_word words k i (omega arith)) ∙ count_bits (get_or words k 0) p)

@@ -68,7 +68,8 @@ one_further marks n unmarked = elim (cases_lt n (length marks)) [
   | inr past ↦ ap (marked_from n) (drop_all n marks past) ∙ sym (ap (marked_from (n + 1)) (drop_all (n + 1) marks (omega arith)))
 ]
 
-further : (marks : List Bool) (n k : ℕ) → ((q : ℕ) → n ≤ q → q < n + k → is_marked marks q ≡ false) → marked_from n (drop n marks) ≡ marked_from (n + k) (drop (n + k) marks)
+further : (marks : List Bool) (n k : ℕ) → ((q : ℕ) → n ≤ q → q < n + k → is_marked marks q ≡ false) →
+    marked_from n (drop n marks) ≡ marked_from (n + k) (drop (n + k) marks)
 further marks n zero none = let e : n + 0 ≡ n = omega arith in rw e refl
 further marks n (suc k) none =
     let e : n + suc k ≡ n + k + 1 = omega arith in
@@ -79,7 +80,8 @@ further marks n (suc k) none =
 within : (marks : List Bool) (t : ℕ) → is_marked marks t ≡ true → t < length marks
 within marks t is = elim (cases_lt t (length marks)) [ inl below ↦ below | inr past ↦ absurd (false≢true (sym (get_or_past marks t false past) ∙ is)) ]
 
-pub next_marked : (marks : List Bool) (from t : ℕ) → IsLeastFrom from marks (Some t) → marked_from from (drop from marks) ≡ t ∷ marked_from (t + 1) (drop (t + 1) marks)
+pub next_marked : (marks : List Bool) (from t : ℕ) → IsLeastFrom from marks (Some t) →
+    marked_from from (drop from marks) ≡ t ∷ marked_from (t + 1) (drop (t + 1) marks)
 next_marked marks from t is =
     let e : from + (t - from) ≡ t = omega (arith, is.0) in
     let skipped : marked_from from (drop from marks) ≡ marked_from t (drop t marks) =

@@ -1,10 +1,58 @@
 -- One bit of a word, and how many are set below a place.
-use Rattle.std.proofs.Common.{◌≡◌, ℕ, zero, suc, ◌+◌, ◌-◌, ◌*◌, ◌/◌, ◌%◌, ◌^◌, ◌<◌, ◌≤◌, min, max, ◌==◌, ◌&&◌, ◌||◌, not, nat_le, ◌⊎◌, inl, inr, Bool, true, false, cond, refl, sym, ap, ◌∙◌, bit_and, bit_or, w64, arith, add-one}
+use Rattle.std.proofs.Common.{
+  ◌≡◌,
+  ℕ,
+  zero,
+  suc,
+  ◌+◌,
+  ◌-◌,
+  ◌*◌,
+  ◌/◌,
+  ◌%◌,
+  ◌^◌,
+  ◌<◌,
+  ◌≤◌,
+  min,
+  max,
+  ◌==◌,
+  ◌&&◌,
+  ◌||◌,
+  not,
+  nat_le,
+  ◌⊎◌,
+  inl,
+  inr,
+  Bool,
+  true,
+  false,
+  cond,
+  refl,
+  sym,
+  ap,
+  ◌∙◌,
+  bit_and,
+  bit_or,
+  w64,
+  arith,
+  add-one,
+}
 use Rattle.std.specs.Int.{bit_at, bit_not}
 use Rattle.std.specs.Int.Count.{ones}
 use Rattle.std.proofs.lemmas.Bool.{cases_eq, cases_lt, eq-eqb, ne_eqb, le-leb, lt-leb}
 use Rattle.std.proofs.lemmas.Nat.{ones-le, ones_cat, mod-pow-add, shr-shr, pow_pos, one_shl, and_mask}
-use Rattle.std.proofs.lemmas.Nat.Bits.{bit_at-lt, bit_at_and, bit_at_or, bit_at_not, bit_at_set_same, bit_at_set_other, bit_at_clear_same, bit_at_clear_other, ones_shl, bit_at_mask_inside, bit_at_mask_below}
+use Rattle.std.proofs.lemmas.Nat.Bits.{
+  bit_at-lt,
+  bit_at_and,
+  bit_at_or,
+  bit_at_not,
+  bit_at_set_same,
+  bit_at_set_other,
+  bit_at_clear_same,
+  bit_at_clear_other,
+  ones_shl,
+  bit_at_mask_inside,
+  bit_at_mask_below,
+}
 use Rattle.track_table.specs.Tracks.{count_below}
 
 bit_cases : (x : ℕ) → x < 2 → (x ≡ 0) ⊎ (x ≡ 1)

@@ -1,5 +1,33 @@
 -- What one read after another tells.
-use Rattle.std.proofs.Common.{Bool, false, eqb, eq-eqb, ◌≡◌, inl, inr, ℕ, List, [], ◌∷◌, ◌++◌, length, take, Option, Some, None, Result, Ok, Err, IfOk, refl, sym, ap, subst, ◌∙◌, arith}
+use Rattle.std.proofs.Common.{
+  Bool,
+  false,
+  eqb,
+  eq-eqb,
+  ◌≡◌,
+  inl,
+  inr,
+  ℕ,
+  List,
+  [],
+  ◌∷◌,
+  ◌++◌,
+  length,
+  take,
+  Option,
+  Some,
+  None,
+  Result,
+  Ok,
+  Err,
+  IfOk,
+  refl,
+  sym,
+  ap,
+  subst,
+  ◌∙◌,
+  arith,
+}
 use Rattle.std.proofs.lemmas.Bool.{cases_lt, false≢true}
 use Rattle.std.proofs.lemmas.List.{append-nil, take_all, take_at}
 use Rattle.std.specs.Io.KnownBytes.{Consumes, IsAtEnd}

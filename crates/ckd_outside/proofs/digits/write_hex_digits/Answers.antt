@@ -5,7 +5,8 @@ use Rattle.ckd_outside.proofs.digits.write_hex_digits.Goals as goal
 
 pub bytes-preserved : goal.bytes-preserved
 bytes-preserved c =
-    encode_step upper_digits c.args.bytes.now c.bytes.out c.bytes.i _ _ (omega arith) (omega arith) c.digit_of.ensures c.digit_of-in-bytes.ensures c.bytes.invariant
+    encode_step upper_digits c.args.bytes.now c.bytes.out c.bytes.i _ _ (omega arith)
+    (omega arith) c.digit_of.ensures c.digit_of-in-bytes.ensures c.bytes.invariant
 
 pub returns : goal.returns
 returns c =

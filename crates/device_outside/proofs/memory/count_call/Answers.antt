@@ -7,4 +7,5 @@ pub returns-clause-kept : goal.returns-clause-kept
 returns-clause-kept c = to_come_kept c.args.calls.now c.one_more.result c.args.numbers.now c.one_more.ensures.later
 
 pub returns-clause-lowered : goal.returns-clause-lowered
-returns-clause-lowered c = λ listed. to_come_listed c.args.calls.now c.one_more.result c.args.numbers.now (c.one_more.ensures.more (c.is_listed.ensures.small listed)) (sym c.is_listed.ensures.listed ∙ listed)
+returns-clause-lowered c = λ listed. to_come_listed c.args.calls.now c.one_more.result c.args.numbers.now
+    (c.one_more.ensures.more (c.is_listed.ensures.small listed)) (sym c.is_listed.ensures.listed ∙ listed)

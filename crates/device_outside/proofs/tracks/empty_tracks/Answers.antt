@@ -5,4 +5,5 @@ use Rattle.device_outside.specs.Disk.{empty_bytes}
 use Rattle.device_outside.proofs.tracks.empty_tracks.Goals as goal
 
 pub loop-n-preserved : goal.loop-n-preserved
-loop-n-preserved c = let e = map-range_with_len_more empty_bytes 0 c.loop-n.n c.loop-n.n (omega arith) in (grind (arith, common_steps), grind (arith, common_steps))
+loop-n-preserved c = let e = map-range_with_len_more empty_bytes 0 c.loop-n.n c.loop-n.n (omega arith) in
+    (grind (arith, common_steps), grind (arith, common_steps))

@@ -8,5 +8,7 @@ returns-clause-after c k some low =
     let gone = c.args.gone in
     let joined = ap (λ m. m.0.joined) c.join.ensures.both in
     let is = gone.numbered in
-    let all = has_next k gone.seat.me.0.number gone.seat.me.0.word gone.seat.me.0.joined c.args.seat.now.seat.me.0.joined (subst (λ n. k < n + 1) (sym is) low) (λ less. c.requires.before k some (subst (λ n. k < n) is less)) in
+    let all = has_next k gone.seat.me.0.number gone.seat.me.0.word gone.seat.me.0.joined
+    c.args.seat.now.seat.me.0.joined (subst (λ n. k < n + 1) (sym is) low)
+    (λ less. c.requires.before k some (subst (λ n. k < n) is less)) in
     subst (λ (es : List (ℕ × ℕ)). has k es ≡ true) (sym joined) all

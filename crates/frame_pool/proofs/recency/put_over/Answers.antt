@@ -9,11 +9,17 @@ returns-in-Ok-clause-entries c =
     let old = c.args.old in
     let gone = ap (λ d. d.entries) c.pop.ensures.entries in
     gone ∙ ap (remove_entry (same old)) c.in_ok-put_in.ensures.entries
-    ∙ ap (λ (b : Bool). cond b es ((c.args.place, false) ∷ remove_entry (same old) es)) (other_frame es c.args.place old (unlisted _ c.requires.new) c.requires.victim)
+    ∙ ap (λ (b : Bool). cond b es ((c.args.place, false) ∷ remove_entry (same old) es))
+    (other_frame es c.args.place old (unlisted _ c.requires.new) c.requires.victim)
 
 pub returns-in-Ok-clause-len : goal.returns-in-Ok-clause-len
 returns-in-Ok-clause-len c =
     let es = c.args.frames.now.entries in
     let old = c.args.old in
     let gone = ap (λ d. d.entries) c.pop.ensures.entries in
-    rw (gone, c.in_ok-put_in.ensures.entries, other_frame es c.args.place old (unlisted _ c.requires.new) c.requires.victim) (omega (arith, length_dropped es old c.requires.victim))
+    rw (
+      gone,
+      c.in_ok-put_in.ensures.entries,
+      other_frame es c.args.place old
+          (unlisted _ c.requires.new) c.requires.victim,
+    ) (omega (arith, length_dropped es old c.requires.victim))

@@ -9,8 +9,11 @@ use Rattle.report_text.proofs.answer_words.put_writes.Goals as goal
 pub returns-in_err-put_count-clause-bytes : goal.returns-in_err-put_count-clause-bytes
 returns-in_err-put_count-clause-bytes g c =
     puts_stopped _ _ _ _ _ _ _ c.from_residual.ensures.1
-    (spaced_longer _ (g.K.Sink.held c.args.sink.now) _ _ [] _ (keyword_text words.Writes ∷ decimal c.args.writes ∷ []) (keyword_text words.Lost ∷ decimal c.args.lost ∷ []) c.in_err-put_count.ensures.bytes)
+    (spaced_longer _ (g.K.Sink.held c.args.sink.now) _ _ [] _ (keyword_text words.Writes ∷ decimal c.args.writes ∷
+    []) (keyword_text words.Lost ∷ decimal c.args.lost ∷ []) c.in_err-put_count.ensures.bytes)
 
 pub returns-clause-bytes : goal.returns-clause-bytes
 returns-clause-bytes g c =
-    spaced_then _ _ _ _ _ _ (keyword_text words.Writes ∷ decimal c.args.writes ∷ []) (keyword_text words.Lost ∷ decimal c.args.lost ∷ []) _ c.in_ok-put_count.ensures.bytes (rw c.from.ensures at c.put_count-2.ensures.bytes)
+    spaced_then _ _ _ _ _ _ (keyword_text words.Writes ∷ decimal c.args.writes ∷ [])
+    (keyword_text words.Lost ∷ decimal c.args.lost ∷ []) _ c.in_ok-put_count.ensures.bytes
+    (rw c.from.ensures at c.put_count-2.ensures.bytes)

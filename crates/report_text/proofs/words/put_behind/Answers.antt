@@ -7,7 +7,8 @@ use Rattle.report_text.proofs.words.put_behind.Goals as goal
 pub returns-in_err-put_numbers-clause-bytes : goal.returns-in_err-put_numbers-clause-bytes
 returns-in_err-put_numbers-clause-bytes g c =
     puts_stopped _ _ _ _ _ _ _ c.from_residual.ensures.1
-    (spaced_longer _ (g.K.Sink.held c.args.sink.now) _ _ [] _ (map decimal c.args.numbers.now) (g.W.Words.words c.args.words.now) c.in_err-put_numbers.ensures.bytes)
+    (spaced_longer _ (g.K.Sink.held c.args.sink.now) _ _ [] _ (map decimal c.args.numbers.now)
+    (g.W.Words.words c.args.words.now) c.in_err-put_numbers.ensures.bytes)
 
 pub returns-clause-bytes : goal.returns-clause-bytes
 returns-clause-bytes g c =

@@ -7,11 +7,13 @@ pub returns-in_err-write_image-clause-bytes : goal.returns-in_err-write_image-cl
 returns-in_err-write_image-clause-bytes g c =
     puts_stopped _ _ _ _ _ _ _ c.from_residual.ensures.1
     (put_stopped _ _ _ _ _ _ _ _ _ _ c.loop-image.invariant.0
-    (flat_step track_part c.args.images.now c.loop-image.image-index c.image-item.result c.loop-image-test.true c.image-item.is) c.in_err-write_image.ensures.bytes)
+    (flat_step track_part c.args.images.now c.loop-image.image-index c.image-item.result c.loop-image-test.true
+    c.image-item.is) c.in_err-write_image.ensures.bytes)
 
 pub loop-image-preserved : goal.loop-image-preserved
 loop-image-preserved g c = (
   put_more _ _ _ _ _ _ _ _ _ _ c.loop-image.invariant.0
-      (flat_step track_part c.args.images.now c.loop-image.image-index c.image-item.result c.loop-image-test.true c.image-item.is) c.in_ok-write_image.ensures.bytes,
+      (flat_step track_part c.args.images.now c.loop-image.image-index c.image-item.result c.loop-image-test.true
+      c.image-item.is) c.in_ok-write_image.ensures.bytes,
   omega (arith, c.loop-image.invariant.1, c.in_ok-write_image.ensures.cause.later),
 )

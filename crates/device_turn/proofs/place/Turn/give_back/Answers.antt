@@ -15,7 +15,8 @@ load-requires g c =
     let held = ap (λ m. m.1) me in (
       c.exchange-empty.ensures.0 ∙ c.requires.own,
       omega arith,
-      returns_device _ _ _ _ (step 1 0 0 0 none) _ _ c.args.holder (ap (λ m. m.0.live) me ∙ seat.live) (ap (λ m. m.0.stage) me ∙ c.requires.out.0) (rw held refl) (g.met.H.Holder.six_counts c.args.holder)
+      returns_device _ _ _ _ (step 1 0 0 0 none) _ _ c.args.holder (ap (λ m. m.0.live) me ∙ seat.live)
+          (ap (λ m. m.0.stage) me ∙ c.requires.out.0) (rw held refl) (g.met.H.Holder.six_counts c.args.holder)
           (subst (λ v. IsComplete v) same c.requires.keeps.0)
           (subst (λ v. MayLeave (KeptBy g.H.Holder.keeps) g.H.Holder.counts v c.args.holder) same c.requires.keeps.1)
           (subst (λ v. slice_index (g.H.Holder.counts c.args.holder) v.number ≡ v.word) same c.requires.keeps.2),

@@ -19,4 +19,10 @@ pub invariant_of-seat : goal.invariant_of-seat
 invariant_of-seat g c =
     let seat = c.args.seat.now in
     let e = c.load.ensures.2 c.args.other refl in
-    record { numbered = ap (λ m. m.0.number) e ∙ seat.numbered; small = seat.small; live = ap (λ m. m.0.live) e ∙ seat.live; counted = ap (λ m. m.0.made) e ∙ seat.counted }
+    record {
+      numbered = ap (λ m. m.0.number) e ∙ seat.numbered;
+      small = seat.small;
+      live =
+          ap (λ m. m.0.live) e ∙ seat.live;
+      counted = ap (λ m. m.0.made) e ∙ seat.counted;
+    }

@@ -17,16 +17,21 @@ pub returns-then-has_room : goal.returns-then-has_room
 returns-then-has_room c =
     let p = c.new-place.ensures in
     let up : c.args.self.now.pool.cache_up ≡ true = (let e = c.cache_up.ensures in let f = c.if-not-cache_up.false in grind arith) in
-    wants_room _ _ _ _ (rw p at (sym c.is_listed.ensures ∙ c.if-is_listed.false)) up (sym c.has_room.ensures ∙ c.if-has_room.true) (rw p at c.in_ok-put_in.ensures.done)
+    wants_room _ _ _ _ (rw p at (sym c.is_listed.ensures ∙ c.if-is_listed.false)) up
+    (sym c.has_room.ensures ∙ c.if-has_room.true) (rw p at c.in_ok-put_in.ensures.done)
 
 pub returns-in_default : goal.returns-in_default
 returns-in_default c =
     let p = c.new-place.ensures in
     let up : c.args.self.now.pool.cache_up ≡ true = (let e = c.cache_up.ensures in let f = c.if-not-cache_up.false in grind arith) in
-    wants_none _ _ _ _ (rw p at (sym c.is_listed.ensures ∙ c.if-is_listed.false)) up (sym c.has_room.ensures ∙ c.if-has_room.false) (sym c.victim.ensures ∙ c.in_default.is) c.deny-in_default.ensures
+    wants_none _ _ _ _ (rw p at (sym c.is_listed.ensures ∙ c.if-is_listed.false)) up
+    (sym c.has_room.ensures ∙ c.if-has_room.false) (sym c.victim.ensures ∙ c.in_default.is)
+    c.deny-in_default.ensures
 
 pub returns : goal.returns
 returns c =
     let p = c.new-place.ensures in
     let up : c.args.self.now.pool.cache_up ≡ true = (let e = c.cache_up.ensures in let f = c.if-not-cache_up.false in grind arith) in
-    wants_over _ _ _ _ c.in-Some.old (rw p at (sym c.is_listed.ensures ∙ c.if-is_listed.false)) up (sym c.has_room.ensures ∙ c.if-has_room.false) (sym c.victim.ensures ∙ c.in-Some.is) (rw p at c.in_ok-put_over.ensures.done)
+    wants_over _ _ _ _ c.in-Some.old (rw p at (sym c.is_listed.ensures ∙ c.if-is_listed.false)) up
+    (sym c.has_room.ensures ∙ c.if-has_room.false) (sym c.victim.ensures ∙ c.in-Some.is)
+    (rw p at c.in_ok-put_over.ensures.done)

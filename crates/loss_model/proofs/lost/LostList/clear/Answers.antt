@@ -4,7 +4,12 @@ use Rattle.track_table.proofs.Places.{empty_places}
 use Rattle.loss_model.proofs.lost.LostList.clear.Goals as goal
 
 pub invariant_of-self : goal.invariant_of-self
-invariant_of-self c = (c.self.invariant.0, ap length c.new-self-inside.ensures ∙ length-replicate 960 false, λ t behind. rw c.new-self-inside.ensures (empty_places 960 t false))
+invariant_of-self c = (
+  c.self.invariant.0,
+  ap length c.new-self-inside.ensures ∙ length-replicate 960 false,
+  λ t
+      behind. rw c.new-self-inside.ensures (empty_places 960 t false),
+)
 
 pub returns : goal.returns
 returns c =

@@ -10,4 +10,5 @@ pub returns : goal.returns
 returns c =
     let s = c.self.inside in
     let u = c.try_remove.ensures.updates in
-    rw (← c.self.view_is) (ap (seen s.most s.up) (numbers_less c.args.slot 0 c.args.slot s.used.slots c.try_remove.new.self.slots (omega arith) u.changed u.others))
+    rw (← c.self.view_is) (ap (seen s.most s.up) (numbers_less c.args.slot 0 c.args.slot s.used.slots
+    c.try_remove.new.self.slots (omega arith) u.changed u.others))

@@ -27,5 +27,6 @@ pub returns-clause-listed : goal.returns-clause-listed
 returns-clause-listed c =
     let end : 64 * c.loop-k.k ≡ 960 = omega arith in
     let marks = marks_of c.self.inside.words in
-    let all : length (marked_from 0 marks) ≡ count_below 960 (is_marked marks) = length_marked marks 0 ∙ ap (λ (n : ℕ). count_below n (is_marked marks)) (length_marks c.self.inside.words) in
+    let all : length (marked_from 0 marks) ≡ count_below 960 (is_marked marks) =
+    length_marked marks 0 ∙ ap (λ (n : ℕ). count_below n (is_marked marks)) (length_marks c.self.inside.words) in
     rw end at c.loop-k.invariant.counted ∙ rw (← c.self.view_is) (count_marks c.self.inside.words 960 (search rules) ∙ sym all)

@@ -4,13 +4,16 @@ use Rattle.track_table.proofs.bits.TrackBits.least_from.Goals as goal
 
 pub returns-then-word-ne0 : goal.returns-then-word-ne0
 returns-then-word-ne0 c =
-    let bits : FromBits c.self.inside.words c.args.from c.loop-k.k c.bits_from-word.result = rw (c.saturating_sub.ensures, c.from-from.ensures) at c.bits_from-word.ensures in
+    let bits : FromBits c.self.inside.words c.args.from c.loop-k.k c.bits_from-word.result =
+    rw (c.saturating_sub.ensures, c.from-from.ensures) at c.bits_from-word.ensures in
     rw (← c.self.view_is, c.track.ensures)
-    (least_in_word c.self.inside.words c.args.from c.loop-k.k c.bits_from-word.result (search rules) (omega arith) bits (search (rules, arith)) (search rules) c.loop-k.invariant)
+    (least_in_word c.self.inside.words c.args.from c.loop-k.k c.bits_from-word.result (search rules)
+    (omega arith) bits (search (rules, arith)) (search rules) c.loop-k.invariant)
 
 pub loop-k-preserved : goal.loop-k-preserved
 loop-k-preserved c =
-    let bits : FromBits c.self.inside.words c.args.from c.loop-k.k c.bits_from-word.result = rw (c.saturating_sub.ensures, c.from-from.ensures) at c.bits_from-word.ensures in
+    let bits : FromBits c.self.inside.words c.args.from c.loop-k.k c.bits_from-word.result =
+    rw (c.saturating_sub.ensures, c.from-from.ensures) at c.bits_from-word.ensures in
     none_in_word c.self.inside.words c.args.from c.loop-k.k c.bits_from-word.result bits (search rules) c.loop-k.invariant
 
 pub returns : goal.returns

@@ -9,10 +9,12 @@ loop-k-preserved c =
     let l = c.loop-k in
     record {
       whole = length-set l.words l.k _ ∙ l.invariant.whole;
-      each = next_word (λ b c. b || c) l.words c.self.inside.words c.other.inside.words l.k _ (omega (arith, l.invariant.whole)) (λ i below. or_bit _ _ i) l.invariant.each;
+      each = next_word (λ b c. b || c) l.words c.self.inside.words c.other.inside.words l.k _
+          (omega (arith, l.invariant.whole)) (λ i below. or_bit _ _ i) l.invariant.each;
     }
 
 pub returns : goal.returns
 returns c = λ t.
     rw (← c.self.view_is, ← c.other.view_is)
-    (each_word (λ b c. b || c) c.loop-k.words c.self.inside.words c.other.inside.words refl c.loop-k.invariant.whole (search rules) (search rules) (λ q below. c.loop-k.invariant.each q (omega arith)) t)
+    (each_word (λ b c. b || c) c.loop-k.words c.self.inside.words c.other.inside.words refl c.loop-k.invariant.whole
+    (search rules) (search rules) (λ q below. c.loop-k.invariant.each q (omega arith)) t)
