@@ -62,7 +62,8 @@ abbrev pub IsSomeLoose : List LooseTrack → Type 0
 IsSomeLoose [] = ⊥
 IsSomeLoose (l ∷ loose) = ⊤
 
--- a track becomes loose once, and only directly before a command that edits it; a loose one becomes firm; data of cache fast write are lost where there are some
+-- a track becomes loose once, and only directly before a command that edits it; a loose one becomes firm; data of
+-- cache fast write are lost where there are some
 abbrev pub AreActs : PlainState → Option ℕ → List Act → Type 0
 AreActs state edited [] = ⊤
 AreActs state edited (Loosen t ∷ []) = (is_loose state t ≡ false) × (edited ≡ Some t)

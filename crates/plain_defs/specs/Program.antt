@@ -15,7 +15,8 @@ use Rattle.plain_defs.specs.Effect.{Effect, effect_on, behind_effect}
 use Rattle.plain_defs.specs.Loose.{act_done}
 use Rattle.plain_defs.specs.PlainState.{PathsState, PlainState, fixed_of, with_sense}
 
--- behind some commands of a program: the device and what the program goes by of it, the stance, the word of the next command unless the chain is over, the ends, and what was told of edits
+-- behind some commands of a program: the device and what the program goes by of it, the stance, the word of the
+-- next command unless the chain is over, the ends, and what was told of edits
 pub record Part : Type 0 where
   pub fixed : Fixed
   pub state : PlainState
