@@ -30,7 +30,7 @@ use Rattle.std.proofs.Common.{
 use Rattle.std.specs.Prelude.{nat_lt, Some, None}
 use Rattle.std.specs.List.{list_all}
 use Rattle.std.proofs.Math.ListN.{get_or-append}
-use Rattle.std.proofs.lemmas.Bool.{and_parts, and_from, ltb-true, lt-ltb, eq-eqb, eqb-true, leb-true, cases_eq, cases_lt}
+use Rattle.std.proofs.lemmas.Bool.{and_parts, and_from, ltb-true, lt-ltb, eqb-true, leb-true, cases_eq, cases_lt}
 use Rattle.std.proofs.lemmas.List.{append-nil, take_at, length-append, length-take, get_or-set_same, get_or-set_other, get_or-take, set-set, set_comm, set_past}
 use Rattle.ckd_types.specs.declared.record.Record.{Record}
 use Rattle.ckd_types.specs.declared.record.Edit.TheVariants.{Update}
@@ -56,7 +56,7 @@ use Rattle.nv_store.specs.Patch.{
   applies,
   applied,
 }
-use Rattle.nv_store.proofs.Revisions.{place_there, key_there, body_there, lengths_kept, all_kept, length_revised, revised_nothing}
+use Rattle.nv_store.proofs.Revisions.{place_there, key_there, body_there, lengths_from, lengths_kept, all_kept, length_revised, revised_nothing}
 
 abbrev pub put : Replacement → List Record → List Record
 put r records = edited (Update r.index r.key r.body) records
@@ -116,10 +116,6 @@ revised_twice : (rs : List Replacement) (x : List Record) → revised rs (revise
 revised_twice rs x = revised_between rs [] x
 
 -- ---- lengths
-
-pub lengths_from : (x : List Record) (i k b : ℕ) → i < length x → length (get_or x i (empty_zero 0)).key ≡ k
-    → length (get_or x i (empty_zero 0)).body ≡ b → has_lengths x i k b ≡ true
-lengths_from x i k b place key body = and_from _ _ (lt-ltb _ _ place) (and_from _ _ (eq-eqb _ _ key) (eq-eqb _ _ body))
 
 pub front_lengths : (kept : Kept) (x : List Record) (i k b : ℕ) → is_kept kept i ≡ true → has_lengths x i k b ≡ true
     → has_lengths (stay kept x) i k b ≡ true

@@ -5,8 +5,8 @@ use Rattle.std.proofs.Common.{
   zero,
   suc,
   ◌+◌,
+  ◌-◌,
   ◌<◌,
-  ◌≤◌,
   ◌==◌,
   ◌↔◌,
   true,
@@ -22,37 +22,24 @@ use Rattle.std.proofs.Common.{
   refl,
   sym,
   ap,
+  subst,
   ◌∙◌,
   append_assoc,
   arith,
 }
 use Rattle.std.specs.Prelude.{All, nat_lt, sum_by}
 use Rattle.std.specs.List.{list_all}
-use Rattle.std.proofs.lemmas.Bool.{
-  and_parts,
-  and_from,
-  and_left,
-  and_right,
-  both_ways,
-  false_from_ne_true,
-  leb-true,
-  leb-false,
-  le-leb,
-  lt-leb,
-  lt-ltb,
-  ltb-true,
-  eq-eqb,
-  eqb-true,
-}
-use Rattle.std.proofs.lemmas.List.{length-take, length-append, take_all, at_drop_more}
+use Rattle.std.proofs.lemmas.Bool.{and_parts, and_from, both_ways, leb-true, le-leb, lt-ltb, ltb-true, eq-eqb, eqb-true}
+use Rattle.std.proofs.lemmas.List.{length-take, take_all, at_drop_more}
 use Rattle.std.proofs.lemmas.List.Folds.{list_all-append}
-use Rattle.std.proofs.lemmas.List.Sums.{sum_by-append}
+use Rattle.std.proofs.lemmas.List.Sums.{sum_by-append, sum_by-cons}
 use Rattle.ckd_types.specs.declared.geometry.Geometry.{Geometry}
 use Rattle.ckd_types.specs.declared.record.Record.{Record}
 use Rattle.ckd_types.specs.declared.record.Track.{Track}
-use Rattle.ckd_types.specs.Geometry.{cost, capacity}
+use Rattle.ckd_types.specs.Geometry.{cost}
 use Rattle.ckd_types.specs.Track.{IsCchh, IsRecord, HasZero, Fits, cost_of}
-use Rattle.track_image.specs.Image.{Image, is_room_behind}
+use Rattle.ckd_rules.specs.Facts.{IsFormat}
+use Rattle.track_image.specs.Image.{Image}
 use Rattle.nv_store.specs.Fit.{is_id, is_record, has_zero, is_fit}
 
 -- the units of some records, and of more behind them
@@ -60,37 +47,6 @@ cost-append : (g : Geometry) (xs ys : List Record) → 0 < length xs
     → cost_of g (xs ++ ys) ≡ cost_of g xs + sum_by (λ (r : Record). cost g (length r.key) (length r.body)) ys
 cost-append g [] ys some = absurd (omega arith)
 cost-append g (x ∷ xs) ys some = sum_by-append (λ (r : Record). cost g (length r.key) (length r.body)) xs ys
-
-too_long : (g : Geometry) (records : List Record) → capacity g < cost_of g records → is_fit g records ≡ false
-too_long g records long = and_right _ _ (and_right _ _ (lt-leb _ _ long))
-
-pub unfit_behind : (i : Image) (after : ℕ) (new : Record) → after < length i.track.records
-    → is_room_behind i after (length new.key) (length new.body) ≡ false
-    → is_fit i.geometry (take (after + 1) i.track.records ++ new ∷ []) ≡ false
-unfit_behind i after new place full =
-    let some : 0 < length (take (after + 1) i.track.records) = omega (arith, length-take (after + 1) i.track.records) in
-    let more = leb-false (cost_of i.geometry (take (after + 1) i.track.records) + cost i.geometry (length new.key)
-    (length new.body)) (capacity i.geometry) full in
-    too_long i.geometry (take (after + 1) i.track.records ++ new ∷ [])
-    (omega (arith, more, cost-append i.geometry (take (after + 1) i.track.records) (new ∷ []) some))
-
-pub no_record_unfit : (g : Geometry) (front : List Record) (new : Record) → is_record new ≡ false
-    → is_fit g (front ++ new ∷ []) ≡ false
-no_record_unfit g front new wrong =
-    let one : list_all is_record (new ∷ []) ≡ false = and_left _ _ wrong in
-    and_right _ _ (and_left _ _ (list_all-append is_record front (new ∷ []) ∙ and_right _ _ one))
-
--- what is behind makes nothing fit
-pub unfit_more : (g : Geometry) (xs ys : List Record) → 0 < length xs → is_fit g xs ≡ false
-    → is_fit g (xs ++ ys) ≡ false
-unfit_more g [] ys some unfit = absurd (omega arith)
-unfit_more g (x ∷ xs) ys some unfit = false_from_ne_true _ (λ fit.
-    let first = and_parts _ _ fit in
-    let rest = and_parts _ _ first.1 in
-    let records = and_parts (list_all is_record (x ∷ xs)) (list_all is_record ys)
-    (sym (list_all-append is_record (x ∷ xs) ys) ∙ rest.0) in
-    let room : cost_of g (x ∷ xs) ≤ capacity g = omega (arith, leb-true _ _ rest.1, cost-append g (x ∷ xs) ys some) in
-    both_ways _ unfit (and_from _ _ first.0 (and_from _ _ records.0 (le-leb _ _ room))))
 
 record_test : (r : Record) → IsRecord r → is_record r ≡ true
 record_test r is =
@@ -114,31 +70,6 @@ pub fit_test : (i : Image) → Fits i.geometry i.track → is_fit i.geometry i.t
 fit_test i fits = and_from _ _ (zero_test _ fits.zero)
     (and_from _ _ (records_test _ fits.records) (le-leb _ _ fits.cost))
 
--- where one more record doesn't fit, the rest doesn't
-pub unfit_rest : (g : Geometry) (now records whole : List Record) (i last : ℕ) (r : Record) → last + 1 ≡ length now
-    → i < length records → r ≡ get_or records i r → now ++ drop i records ≡ whole
-    → is_fit g (take (last + 1) now ++ r ∷ []) ≡ false → is_fit g whole ≡ false
-unfit_rest g now records whole i last r ends below is so_far unfit =
-    let all : take (last + 1) now ≡ now = take_all (last + 1) now (omega arith) in
-    let one : is_fit g (now ++ r ∷ []) ≡ false = rw all at unfit in
-    let some : 0 < length (now ++ r ∷ []) = omega (arith, length-append now (r ∷ [])) in
-    let item : drop i records ≡ r ∷ drop (i + 1) records =
-    at_drop_more (λ (ys : List Record). ys) records i r below
-    ∙ ap (λ (x : Record). x ∷ drop (i + 1) records) (sym is) in
-    let split : whole ≡ (now ++ r ∷ []) ++ drop (i + 1) records =
-    sym so_far ∙ ap (λ (ys : List Record). now ++ ys) item
-    ∙ sym (append_assoc now (r ∷ []) (drop (i + 1) records)) in
-    rw split (unfit_more g (now ++ r ∷ []) (drop (i + 1) records) some one)
-
--- where the first record doesn't fit behind others, all don't
-pub unfit_first : (g : Geometry) (front behind : List Record) (r : Record) → 0 < length behind → r ≡ get_or behind 0 r
-    → is_fit g (front ++ r ∷ []) ≡ false → is_fit g (front ++ behind) ≡ false
-unfit_first g front [] r some is unfit = absurd (omega arith)
-unfit_first g front (x ∷ behind) r some is unfit =
-    let one : is_fit g (front ++ x ∷ []) ≡ false = rw is at unfit in
-    let more : 0 < length (front ++ x ∷ []) = omega (arith, length-append front (x ∷ [])) in
-    rw (← append_assoc front (x ∷ []) behind) (unfit_more g (front ++ x ∷ []) behind more one)
-
 no_bytes : (bytes : List ℕ) → length bytes ≡ 0 → bytes ≡ []
 no_bytes [] e = refl
 no_bytes (b ∷ bytes) e = absurd (omega arith)
@@ -149,10 +80,9 @@ zero_from (r ∷ records) h =
     let tests = and_parts (length r.key == 0) (length r.body == 8) h in
     (no_bytes r.key (eqb-true _ _ tests.0), eqb-true _ _ tests.1)
 
-records_from : (records : List Record) → list_all is_record records ≡ true → All IsRecord records
-records_from [] all k d below = absurd (omega arith)
-records_from (r ∷ records) all zero d below =
-    let tests = and_parts (is_id r.id) _ (and_parts (is_record r) (list_all is_record records) all).0 in
+record_from : (r : Record) → is_record r ≡ true → IsRecord r
+record_from r test =
+    let tests = and_parts (is_id r.id) _ test in
     let id = and_parts (nat_lt r.id.cchh.cc 65536) _ tests.0 in
     let head = and_parts (nat_lt r.id.cchh.hh 65536) (nat_lt r.id.r 256) id.1 in
     let lengths = and_parts _ _ tests.1 in
@@ -162,6 +92,11 @@ records_from (r ∷ records) all zero d below =
       key = leb-true _ _ lengths.0;
       body = leb-true _ _ lengths.1;
     }
+
+records_from : (records : List Record) → list_all is_record records ≡ true → All IsRecord records
+records_from [] all k d below = absurd (omega arith)
+records_from (r ∷ records) all zero d below =
+    record_from r (and_parts (is_record r) (list_all is_record records) all).0
 records_from (r ∷ records) all (suc k) d below = records_from records
     (and_parts (is_record r) (list_all is_record records) all).1 k d (omega arith)
 
@@ -180,3 +115,51 @@ fit_says g t = (says, λ fits. (fits.home, fit_test (record { geometry = g; trac
           cost =
               leb-true _ _ rest.1;
         }
+
+-- where records fit, each of them is a format of what stands before it
+next_fits : (g : Geometry) (records behind : List Record) (last : ℕ) (r : Record) → last < length records
+    → is_fit g (take (last + 1) records ++ r ∷ behind) ≡ true → IsFormat g records last r
+next_fits g records behind last r place fit =
+    let front : List Record = take (last + 1) records in
+    let tests = and_parts (list_all is_record (front ++ r ∷ behind)) _ (and_parts (has_zero (front ++ r ∷ behind)) _ fit).1 in
+    let all = and_parts (list_all is_record front) (list_all is_record (r ∷ behind))
+    (sym (list_all-append is_record front (r ∷ behind)) ∙ tests.0) in
+    let some : 0 < length front = omega (arith, length-take (last + 1) records) in
+    let sum = sum_by-cons (λ (x : Record). cost g (length x.key) (length x.body)) r behind in
+    record {
+      place = place;
+      ranges = record_from r (and_parts (is_record r) (list_all is_record behind) all.1).0;
+      room = le-leb _ _ (omega (arith, leb-true _ _ tests.1, cost-append g front (r ∷ behind) some, sum));
+    }
+
+-- the next of records that fit behind those that were put
+pub rest_fits : (g : Geometry) (now records whole : List Record) (i last : ℕ) (r : Record) → last + 1 ≡ length now
+    → i < length records → r ≡ get_or records i r → now ++ drop i records ≡ whole → is_fit g whole ≡ true
+    → IsFormat g now last r
+rest_fits g now records whole i last r ends below is so_far fit =
+    let all : take (last + 1) now ≡ now = take_all (last + 1) now (omega arith) in
+    let item : drop i records ≡ r ∷ drop (i + 1) records =
+    at_drop_more (λ (ys : List Record). ys) records i r below
+    ∙ ap (λ (x : Record). x ∷ drop (i + 1) records) (sym is) in
+    let split : whole ≡ take (last + 1) now ++ r ∷ drop (i + 1) records =
+    sym so_far ∙ ap (λ (ys : List Record). now ++ ys) item
+    ∙ ap (λ (ys : List Record). ys ++ r ∷ drop (i + 1) records) (sym all) in
+    next_fits g now (drop (i + 1) records) last r (omega arith) (ap (is_fit g) (sym split) ∙ fit)
+
+-- the first record behind a cut
+pub first_fits : (g : Geometry) (records behind : List Record) (last : ℕ) (r : Record) → last < length records
+    → 0 < length behind → r ≡ get_or behind 0 r → is_fit g (take (last + 1) records ++ behind) ≡ true
+    → IsFormat g records last r
+first_fits g records [] last r place some is fit = absurd (omega arith)
+first_fits g records (x ∷ behind) last r place some is fit =
+    subst (IsFormat g records last) (sym is) (next_fits g records behind last x place fit)
+
+-- what is behind the first one still fits there
+pub others_fit : (g : Geometry) (front behind : List Record) (r : Record) → 0 < length behind
+    → r ≡ get_or behind 0 r → is_fit g (front ++ behind) ≡ true
+    → is_fit g ((front ++ r ∷ []) ++ take (length behind - 1) (drop 1 behind)) ≡ true
+others_fit g front [] r some is fit = absurd (omega arith)
+others_fit g front (x ∷ behind) r some is fit =
+    let rest : take (length (x ∷ behind) - 1) behind ≡ behind = take_all _ behind (omega arith) in
+    ap (is_fit g) (append_assoc front (r ∷ []) _ ∙ ap (λ (ys : List Record). front ++ r ∷ ys) rest
+    ∙ ap (λ (y : Record). front ++ y ∷ behind) is) ∙ fit

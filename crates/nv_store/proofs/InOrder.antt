@@ -326,7 +326,7 @@ follows_added (Zero new) kept rs behind x s is h = refl
 some_record : (ys : List Record) (new : Record) → false ≡ (length (ys ++ new ∷ []) == 0)
 some_record ys new = sym (ne_eqb (length (ys ++ new ∷ [])) 0 (λ e. omega (arith, length-append ys (new ∷ []))))
 
-added_is_patch : (e : Edit) (kept : Kept) (rs : List Replacement) (behind : List Record)
+pub added_is_patch : (e : Edit) (kept : Kept) (rs : List Replacement) (behind : List Record)
     → is_whole kept ≡ (length behind == 0) → IsPatch (added (parts rs kept behind) e)
 added_is_patch (Update i key body) Whole rs behind is = record { behind = is }
 added_is_patch (Update i key body) Nothing rs behind is =

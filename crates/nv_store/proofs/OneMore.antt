@@ -33,17 +33,21 @@ use Rattle.std.proofs.Math.ListN.{get_or-append}
 use Rattle.std.proofs.lemmas.Bool.{and_parts, and_from, ltb-true, lt-ltb, leb-true, cases_Bool}
 use Rattle.std.proofs.lemmas.List.{append-nil, length-take, get_or-take}
 use Rattle.std.proofs.lemmas.List.Folds.{list_all-append}
+use Rattle.ckd_types.specs.declared.geometry.Geometry.{Geometry}
 use Rattle.ckd_types.specs.declared.record.Record.{Record}
+use Rattle.ckd_types.specs.declared.record.Track.{Track}
 use Rattle.ckd_types.specs.declared.record.Edit.{Edit}
 use Rattle.ckd_types.specs.declared.record.Edit.TheVariants.{Update, Format, Zero}
-use Rattle.ckd_types.specs.Edit.{edited}
-use Rattle.ckd_types.specs.Track.{empty_zero}
+use Rattle.ckd_types.specs.Edit.{edited, apply_edit}
+use Rattle.ckd_types.specs.Track.{Fits, empty_zero}
+use Rattle.ckd_rules.specs.Facts.{IsUpdate, Suits}
+use Rattle.ckd_write.specs.Ranges.{HasRanges}
+use Rattle.ckd_write.proofs.Fitting.{edited_fits}
 use Rattle.track_image.specs.Image.{Image, edited_image}
 use Rattle.nv_store.specs.declared.patch.Replacement.{Replacement}
 use Rattle.nv_store.specs.declared.patch.Kept.{Kept}
 use Rattle.nv_store.specs.declared.patch.Kept.TheVariants.{Whole, UpTo, Nothing}
 use Rattle.nv_store.specs.Fit.{is_fit}
-use Rattle.nv_store.specs.Edits.{Meets}
 use Rattle.nv_store.specs.Patch.{
   PatchView,
   IsPatch,
@@ -61,8 +65,20 @@ use Rattle.nv_store.specs.Patch.{
   applies,
   applied,
 }
-use Rattle.nv_store.proofs.Revisions.{place_there, key_there, body_there, lengths_kept, all_kept, length_revised, revised_take, revised_nothing}
-use Rattle.nv_store.proofs.Again.{put, lengths_from, nothing_behind, length_front, applied_is}
+use Rattle.nv_store.proofs.Fits.{fit_says}
+use Rattle.nv_store.proofs.Revisions.{
+  place_there,
+  key_there,
+  body_there,
+  lengths_from,
+  update_says,
+  lengths_kept,
+  all_kept,
+  length_revised,
+  revised_take,
+  revised_nothing,
+}
+use Rattle.nv_store.proofs.Again.{put, nothing_behind, length_front, applied_is}
 use Rattle.nv_store.proofs.InOrder.{FollowsBy, parts, up_to, follows_added, follows_reached}
 
 take_lengths : (n : ℕ) (x : List Record) (i k b : ℕ) → has_lengths (take n x) i k b ≡ true → has_lengths x i k b ≡ true
@@ -143,12 +159,12 @@ narrowed kept a x (r ∷ rs) all =
     let one = and_parts (is_kept kept r.index) (has_lengths x r.index (length r.key) (length r.body)) both.0 in
     step_narrowed a x r rs one.1 (narrowed kept a x rs both.1)
 
-reached_added : (e : Edit) (kept : Kept) (rs : List Replacement) (behind x : List Record)
-    → is_whole kept ≡ (length behind == 0) → reaches kept x ≡ true → Meets e (revised rs (stay kept x) ++ behind)
+reached_added : (g : Geometry) (e : Edit) (kept : Kept) (rs : List Replacement) (behind x : List Record)
+    → is_whole kept ≡ (length behind == 0) → reaches kept x ≡ true → Suits g (revised rs (stay kept x) ++ behind) e
     → reaches (added (parts rs kept behind) e).kept x ≡ true
-reached_added (Update i key body) Whole rs behind x is reached meets = refl
-reached_added (Update i key body) Nothing rs behind x is reached meets = refl
-reached_added (Update i key body) (UpTo last) rs behind x is reached meets =
+reached_added g (Update i key body) Whole rs behind x is reached suits = refl
+reached_added g (Update i key body) Nothing rs behind x is reached suits = refl
+reached_added g (Update i key body) (UpTo last) rs behind x is reached suits =
     elim (cases_Bool (nat_le i last)) [ inl y ↦ here y | inr n ↦ there n ]
   where
     here : nat_le i last ≡ true → reaches (added (parts rs (UpTo last) behind) (Update i key body)).kept x ≡ true
@@ -156,12 +172,12 @@ reached_added (Update i key body) (UpTo last) rs behind x is reached meets =
 
     there : nat_le i last ≡ false → reaches (added (parts rs (UpTo last) behind) (Update i key body)).kept x ≡ true
     there n = rw n reached
-reached_added (Format a new) Whole rs behind x is reached meets =
+reached_added g (Format a new) Whole rs behind x is reached suits =
     let m : a < length (revised rs x) = subst (λ (y : List Record). a < length y)
-    (ap (λ (y : List Record). revised rs x ++ y) (nothing_behind behind is) ∙ append-nil (revised rs x)) meets in
+    (ap (λ (y : List Record). revised rs x ++ y) (nothing_behind behind is) ∙ append-nil (revised rs x)) suits.place in
     lt-ltb a (length x) (omega (arith, m, length_revised rs x))
-reached_added (Format a new) Nothing rs behind x is reached meets = refl
-reached_added (Format a new) (UpTo last) rs behind x is reached meets =
+reached_added g (Format a new) Nothing rs behind x is reached suits = refl
+reached_added g (Format a new) (UpTo last) rs behind x is reached suits =
     elim (cases_Bool (nat_le a last)) [ inl y ↦ here y | inr n ↦ there n ]
   where
     here : nat_le a last ≡ true → reaches (added (parts rs (UpTo last) behind) (Format a new)).kept x ≡ true
@@ -169,42 +185,42 @@ reached_added (Format a new) (UpTo last) rs behind x is reached meets =
 
     there : nat_le a last ≡ false → reaches (added (parts rs (UpTo last) behind) (Format a new)).kept x ≡ true
     there n = rw n reached
-reached_added (Zero new) kept rs behind x is reached meets = refl
+reached_added g (Zero new) kept rs behind x is reached suits = refl
 
 -- an update of a record that stays
 kept_update : (i : ℕ) (key body : List ℕ) (kept : Kept) (rs : List Replacement) (behind x : List Record)
     → is_kept kept i ≡ true → is_whole kept ≡ (length behind == 0) → reaches kept x ≡ true
-    → list_all (is_replaceable kept x) rs ≡ true → Meets (Update i key body) (revised rs (stay kept x) ++ behind)
+    → list_all (is_replaceable kept x) rs ≡ true → IsUpdate (revised rs (stay kept x) ++ behind) i key body
     → list_all (is_replaceable kept x) (with_replacement (record { index = i; key = key; body = body }) rs) ≡ true
-kept_update i key body kept rs behind x here is reached all meets =
+kept_update i key body kept rs behind x here is reached all suits =
     let r : Replacement = record { index = i; key = key; body = body } in
     list_all-append (is_replaceable kept x) (filter (λ (w : Replacement). not (w.index == r.index)) rs) (r ∷ [])
     ∙ and_from _ _ (filtered (is_replaceable kept x) (λ (w : Replacement). not (w.index == r.index)) rs all)
     (and_from _ _ (and_from _ _ here (found kept rs behind x i (length key) (length body) here is reached all
-    meets)) refl)
+    ((update_says (revised rs (stay kept x) ++ behind) i key body).1 suits))) refl)
 
-replaceable_added : (e : Edit) (kept : Kept) (rs : List Replacement) (behind x : List Record)
+replaceable_added : (g : Geometry) (e : Edit) (kept : Kept) (rs : List Replacement) (behind x : List Record)
     → is_whole kept ≡ (length behind == 0) → reaches kept x ≡ true → list_all (is_replaceable kept x) rs ≡ true
-    → Meets e (revised rs (stay kept x) ++ behind)
+    → Suits g (revised rs (stay kept x) ++ behind) e
     → list_all (is_replaceable (added (parts rs kept behind) e).kept x) (added (parts rs kept behind) e).replaced ≡ true
-replaceable_added (Update i key body) Whole rs behind x is reached all meets =
-    kept_update i key body Whole rs behind x refl is reached all meets
-replaceable_added (Update i key body) Nothing rs behind x is reached all meets = all
-replaceable_added (Update i key body) (UpTo last) rs behind x is reached all meets =
+replaceable_added g (Update i key body) Whole rs behind x is reached all suits =
+    kept_update i key body Whole rs behind x refl is reached all suits
+replaceable_added g (Update i key body) Nothing rs behind x is reached all suits = all
+replaceable_added g (Update i key body) (UpTo last) rs behind x is reached all suits =
     elim (cases_Bool (nat_le i last)) [ inl y ↦ here y | inr n ↦ there n ]
   where
     here : nat_le i last ≡ true → list_all (is_replaceable
         (added (parts rs (UpTo last) behind) (Update i key body)).kept x)
         (added (parts rs (UpTo last) behind) (Update i key body)).replaced ≡ true
-    here y = rw y (kept_update i key body (UpTo last) rs behind x y is reached all meets)
+    here y = rw y (kept_update i key body (UpTo last) rs behind x y is reached all suits)
 
     there : nat_le i last ≡ false → list_all (is_replaceable
         (added (parts rs (UpTo last) behind) (Update i key body)).kept x)
         (added (parts rs (UpTo last) behind) (Update i key body)).replaced ≡ true
     there n = rw n all
-replaceable_added (Format a new) Whole rs behind x is reached all meets = narrowed Whole a x rs all
-replaceable_added (Format a new) Nothing rs behind x is reached all meets = all
-replaceable_added (Format a new) (UpTo last) rs behind x is reached all meets =
+replaceable_added g (Format a new) Whole rs behind x is reached all suits = narrowed Whole a x rs all
+replaceable_added g (Format a new) Nothing rs behind x is reached all suits = all
+replaceable_added g (Format a new) (UpTo last) rs behind x is reached all suits =
     elim (cases_Bool (nat_le a last)) [ inl y ↦ here y | inr n ↦ there n ]
   where
     here : nat_le a last ≡ true → list_all (is_replaceable (added (parts rs (UpTo last) behind) (Format a new)).kept x)
@@ -214,7 +230,7 @@ replaceable_added (Format a new) (UpTo last) rs behind x is reached all meets =
     there : nat_le a last ≡ false → list_all (is_replaceable (added (parts rs (UpTo last) behind) (Format a new)).kept
         x) (added (parts rs (UpTo last) behind) (Format a new)).replaced ≡ true
     there n = rw n all
-replaceable_added (Zero new) kept rs behind x is reached all meets = refl
+replaceable_added g (Zero new) kept rs behind x is reached all suits = refl
 
 follows_of : (kept : Kept) (rs : List Replacement) (behind x : List Record) → reaches kept x ≡ true
     → FollowsBy kept rs behind x (revised rs (stay kept x) ++ behind)
@@ -222,25 +238,32 @@ follows_of Whole rs behind x reached = refl
 follows_of Nothing rs behind x reached = ap (λ (y : List Record). y ++ behind) (revised_nothing rs)
 follows_of (UpTo last) rs behind x reached = inl (ltb-true last (length x) reached, refl)
 
--- where the edited track fits, the patch with one more edit gives it
+-- the records of a track that fits still fit with an edit that suits them, wherever the track is
+still_fit : (g : Geometry) (records : List Record) (e : Edit) → is_fit g records ≡ true → Suits g records e
+    → HasRanges e → is_fit g (edited e records) ≡ true
+still_fit g records e fit suits ranges =
+    let t : Track = record { home = record { cc = 0; hh = 0 }; records = records } in
+    let fits : Fits g t = (fit_says g t).0 (record { cc = omega arith; hh = omega arith }, fit) in
+    ((fit_says g (apply_edit e t)).1 (edited_fits g t e fits suits ranges)).1
+
+-- an edit that suits what a patch gave: the patch with it gives the edited image
 pub one_more : (p : PatchView) (e : Edit) (i out : Image) → IsPatch p → applied p i ≡ Some out
-    → Meets e out.track.records → is_fit i.geometry (edited e out.track.records) ≡ true
-    → applied (added p e) i ≡ Some (edited_image e out)
-one_more p e i out is gave meets fits =
+    → Suits out.geometry out.track.records e → HasRanges e → applied (added p e) i ≡ Some (edited_image e out)
+one_more p e i out is gave suits ranges =
     let x = i.track.records in
     let was = applied_is p i out gave in
     let t = and_parts (reaches p.kept x) _ was.0 in
     let u = and_parts (list_all (is_replaceable p.kept x) p.replaced) _ t.1 in
-    let same : out.track.records ≡ patched p x = ap (λ (y : Image). y.track.records) (sym was.1) in
-    let m : Meets e (patched p x) = subst (Meets e) same meets in
-    let reach = reached_added e p.kept p.replaced p.behind x is.behind t.0 m in
-    let repl = replaceable_added e p.kept p.replaced p.behind x is.behind t.0 u.0 m in
+    let m : Suits i.geometry (patched p x) e = subst (λ (y : Image). Suits y.geometry y.track.records e)
+    (sym was.1) suits in
+    let reach = reached_added i.geometry e p.kept p.replaced p.behind x is.behind t.0 m in
+    let repl = replaceable_added i.geometry e p.kept p.replaced p.behind x is.behind t.0 u.0 m in
     let now : edited e (patched p x) ≡ patched (added p e) x =
     follows_reached (added p e).kept (added p e).replaced (added p e).behind x (edited e (patched p x)) reach
     (follows_added e p.kept p.replaced p.behind x (patched p x) is.behind
     (follows_of p.kept p.replaced p.behind x t.0)) in
     let fit : is_fit i.geometry (patched (added p e) x) ≡ true =
-    ap (is_fit i.geometry) (sym now ∙ ap (edited e) (sym same)) ∙ fits in
+    ap (is_fit i.geometry) (sym now) ∙ still_fit i.geometry (patched p x) e u.1 m ranges in
     let all : applies (added p e) i ≡ true = and_from _ _ reach (and_from _ _ repl fit) in
     ap (λ (b : Bool). cond b (Some (patched_image (added p e) i)) None) all
     ∙ ap Some (ap (λ (y : List Record). record i { track = record i.track { records = y } }) (sym now)

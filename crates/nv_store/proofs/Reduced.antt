@@ -1,17 +1,16 @@
 -- What an edit leaves of what is so of every patch.
-use Rattle.std.proofs.Common.{◌≡◌, ℕ, Bool, true, false, ◌==◌, not, inl, inr, List, [], ◌∷◌, ◌++◌, length, take, filter, refl, sym, ap, subst, ◌∙◌, arith}
+use Rattle.std.proofs.Common.{◌≡◌, ℕ, Bool, true, ◌==◌, not, inl, inr, List, [], ◌∷◌, ◌++◌, filter, refl, sym, ap, subst, ◌∙◌}
 use Rattle.std.specs.Prelude.{nat_le}
 use Rattle.std.specs.List.{list_all}
 use Rattle.std.proofs.lemmas.Bool.{and_parts, and_from, cases_Bool, cases_eq, ne_eqb}
-use Rattle.std.proofs.lemmas.List.{length-append, length-set}
 use Rattle.std.proofs.lemmas.List.Folds.{list_all-append}
 use Rattle.ckd_types.specs.declared.record.Record.{Record}
 use Rattle.ckd_types.specs.declared.record.Edit.{Edit}
 use Rattle.ckd_types.specs.declared.record.Edit.TheVariants.{Update, Format, Zero}
 use Rattle.nv_store.specs.declared.patch.Replacement.{Replacement}
 use Rattle.nv_store.specs.declared.patch.Kept.{Kept}
-use Rattle.nv_store.specs.declared.patch.Kept.TheVariants.{Whole, UpTo, Nothing}
-use Rattle.nv_store.specs.Patch.{PatchView, IsPatch, IsReduced, is_once, is_whole, is_kept, with_replacement, added}
+use Rattle.nv_store.specs.Patch.{PatchView, IsPatch, IsReduced, is_once, is_kept, with_replacement, added}
+use Rattle.nv_store.proofs.InOrder.{added_is_patch}
 use Rattle.nv_store.proofs.OneMore.{filtered}
 
 -- the replacements of other records
@@ -77,30 +76,12 @@ added_reduced p (Format after new) is = elim (cases_Bool (is_kept p.kept after))
 ]
 added_reduced p (Zero new) is = record { once = refl; stays = refl }
 
-some_left : (xs : List Record) (new : Record) → false ≡ (length (xs ++ new ∷ []) == 0)
-some_left xs new = sym (ne_eqb _ _ (λ none. omega (arith, none, length-append xs (new ∷ []))))
-
-not_whole : (kept : Kept) (index : ℕ) → is_kept kept index ≡ false → is_whole kept ≡ false
-not_whole Whole index behind = absurd cc
-not_whole (UpTo last) index behind = refl
-not_whole Nothing index behind = refl
-
-pub added_is : (p : PatchView) (e : Edit) → IsPatch p → IsPatch (added p e)
-added_is p (Update index key body) is = elim (cases_Bool (is_kept p.kept index)) [
-  | inl here ↦ rw here (record { behind = is.behind })
-  | inr behind ↦ rw behind (record { behind = is.behind ∙ ap (λ (n : ℕ). n == 0) (sym (length-set p.behind _ _)) })
-]
-added_is p (Format after new) is = elim (cases_Bool (is_kept p.kept after)) [
-  | inl here ↦ rw here (record { behind = refl })
-  | inr behind ↦ rw behind (record { behind = not_whole p.kept after behind ∙ some_left (take _ p.behind) new })
-]
-added_is p (Zero new) is = record { behind = refl }
-
 -- what is so of every patch is so behind an edit
 pub still_so : (p q r : PatchView) (e : Edit) → IsPatch p × IsReduced p → p ≡ q → r ≡ added q e
     → IsPatch r × IsReduced r
 still_so p q r e so same is = subst (λ (x : PatchView). IsPatch x × IsReduced x)
-    (ap (λ (x : PatchView). added x e) same ∙ sym is) (added_is p e so.0, added_reduced p e so.1)
+    (ap (λ (x : PatchView). added x e) same ∙ sym is)
+    (added_is_patch e p.kept p.replaced p.behind so.0.behind, added_reduced p e so.1)
 
 pub same_view : (rs ss : List Replacement) (kept : Kept) (xs ys : List Record) → rs ≡ ss → xs ≡ ys
     → ◌≡◌ {A = PatchView} (record { replaced = rs; kept = kept; behind = xs })

@@ -9,6 +9,7 @@ use Rattle.std.proofs.Common.{
   Bool,
   true,
   ◌&&◌,
+  ◌↔◌,
   inl,
   inr,
   List,
@@ -28,12 +29,13 @@ use Rattle.std.proofs.Common.{
 use Rattle.std.specs.List.{list_all}
 use Rattle.std.proofs.Math.ListN.{set}
 use Rattle.std.proofs.Math.Seq.{take-set-lt}
-use Rattle.std.proofs.lemmas.Bool.{and_parts, ltb-true, eqb-true, cases_eq, cases_lt}
+use Rattle.std.proofs.lemmas.Bool.{and_parts, and_from, ltb-true, lt-ltb, eq-eqb, eqb-true, cases_eq, cases_lt}
 use Rattle.std.proofs.lemmas.List.{length-set, length-take, get_or-set_same, get_or-set_other, get_or-take, take-set-le, set_past, at_drop_more}
 use Rattle.ckd_types.specs.declared.record.Record.{Record}
 use Rattle.ckd_types.specs.declared.record.Edit.TheVariants.{Update}
 use Rattle.ckd_types.specs.Edit.{edited}
 use Rattle.ckd_types.specs.Track.{empty_zero}
+use Rattle.ckd_rules.specs.Facts.{IsUpdate}
 use Rattle.nv_store.specs.declared.patch.Replacement.{Replacement}
 use Rattle.nv_store.specs.declared.patch.Kept.{Kept}
 use Rattle.nv_store.specs.declared.patch.Kept.TheVariants.{Whole, UpTo, Nothing}
@@ -49,6 +51,26 @@ key_there records i k b h = eqb-true _ _ (and_parts _ _ (and_parts _ _ h).1).0
 pub body_there : (records : List Record) (i k b : ℕ) → has_lengths records i k b ≡ true
     → length (get_or records i (empty_zero 0)).body ≡ b
 body_there records i k b h = eqb-true _ _ (and_parts _ _ (and_parts _ _ h).1).1
+
+pub lengths_from : (x : List Record) (i k b : ℕ) → i < length x → length (get_or x i (empty_zero 0)).key ≡ k
+    → length (get_or x i (empty_zero 0)).body ≡ b → has_lengths x i k b ≡ true
+lengths_from x i k b place key body = and_from _ _ (lt-ltb _ _ place) (and_from _ _ (eq-eqb _ _ key) (eq-eqb _ _ body))
+
+-- the test of a replacement says that it is an update of the records
+pub update_says : (records : List Record) (index : ℕ) (key body : List ℕ)
+    → (has_lengths records index (length key) (length body) ≡ true) ↔ IsUpdate records index key body
+update_says records index key body = (
+  says,
+  λ is. lengths_from records index (length key) (length body) is.place
+      (sym is.key_length) (sym is.body_length),
+)
+  where
+    says : has_lengths records index (length key) (length body) ≡ true → IsUpdate records index key body
+    says h = record {
+      place = place_there records index (length key) (length body) h;
+      key_length = sym (key_there records index (length key) (length body) h);
+      body_length = sym (body_there records index (length key) (length body) h);
+    }
 
 -- the record at a place with another key and other data
 abbrev changed : List Record → ℕ → List ℕ → List ℕ → Record

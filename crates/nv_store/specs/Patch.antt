@@ -19,7 +19,6 @@ use Rattle.std.specs.Prelude.{
   length,
   take,
   filter,
-  slice_index_or,
   Option,
   Some,
   None,
@@ -30,7 +29,7 @@ use Rattle.ckd_types.specs.declared.record.Record.{Record}
 use Rattle.ckd_types.specs.declared.record.Edit.{Edit}
 use Rattle.ckd_types.specs.declared.record.Edit.TheVariants.{Update, Format, Zero}
 use Rattle.ckd_types.specs.Edit.{edited}
-use Rattle.ckd_types.specs.Track.{empty_zero}
+use Rattle.ckd_rules.specs.Reads.{record_at}
 use Rattle.track_image.specs.Image.{Image}
 use Rattle.nv_store.specs.Fit.{is_fit}
 use Rattle.nv_store.specs.declared.patch.Replacement.{Replacement}
@@ -122,8 +121,7 @@ reaches Nothing records = true
 abbrev pub has_lengths : List Record → ℕ → ℕ → ℕ → Bool
 has_lengths records index key body =
     nat_lt index (length records)
-    && ((length (slice_index_or records index (empty_zero 0)).key == key) &&
-    (length (slice_index_or records index (empty_zero 0)).body == body))
+    && ((length (record_at records index).key == key) && (length (record_at records index).body == body))
 
 abbrev pub is_replaceable : Kept → List Record → Replacement → Bool
 is_replaceable kept records r = is_kept kept r.index && has_lengths records r.index (length r.key) (length r.body)

@@ -1,14 +1,16 @@
-ghost use Rattle.std.specs.Prelude.{◌≡◌, ◌<◌, ◌+◌, ◌++◌, ◌&&◌, ◌==◌, Err, Some, OnOk, IfOk, true, false, take, length};
+ghost use Rattle.std.specs.Prelude.{◌≡◌, ◌<◌, ◌+◌, ◌++◌, ◌&&◌, ◌==◌, OnOk, IfOk, true, take, length};
 ghost use Rattle.std.specs.List.{list_all};
 ghost use Rattle.ckd_types.specs.declared.record.Edit.TheVariants as edits;
+ghost use Rattle.ckd_rules.specs.Facts.{IsFormat};
 ghost use Rattle.track_image.specs.Image.{edited_image};
 ghost use Rattle.nv_store.specs.Fit.{is_fit};
 ghost use Rattle.nv_store.specs.Gives.{Gives};
-ghost use Rattle.nv_store.specs.Patch.{is_whole, reaches, has_lengths, is_replaceable, revised, stay, applies, applied};
+ghost use Rattle.nv_store.specs.Patch.{is_whole, reaches, has_lengths, is_replaceable, revised, stay, patched_image, applies, applied};
 
-use crate::fit::{fits, is_zero, put_copies, put_copy};
+use crate::fit::fits;
 use crate::{ApplyFault, Kept, Patch, Replacement};
-use ckd_types::Record;
+use ckd_types::{Edit, NoMemory, Record};
+use ckd_write::edit_image;
 use std::alloc::Global;
 use track_image::TrackImage;
 
@@ -61,45 +63,64 @@ fn revise(image: &mut TrackImage, kept: Kept, replaced: &[Replacement])
     }
 }
 
-/// Puts copies of records behind record `last`, instead of what stands there.
+/// Puts a copy of a record that fits behind record `after`, instead of what stands there.
+fn put_copy(
+    alloc: Global,
+    image: &mut TrackImage,
+    after: usize,
+    new: &Record,
+) -> Result<(), NoMemory>
+    requires { IsFormat image.old.geometry image.old.track.records after new.now }
+    ensures { OnOk result (image.new ≡ edited_image (edits.Format after new.now) image.old) }
+{
+    let added = new.copy(alloc)?;
+    edit_image(image, Edit::Format { after, added })
+}
+
+/// Puts copies of records that fit behind the last one.
+fn put_copies(alloc: Global, image: &mut TrackImage, records: &[Record]) -> Result<(), NoMemory>
+    requires { is_fit image.old.geometry (image.old.track.records ++ records.now) ≡ true }
+    ensures { OnOk result (image.new ≡ record image.old { track = record image.old.track { records = image.old.track.records ++ records.now } }) }
+{
+    for record in records {
+        let last = image.len() - 1;
+        put_copy(alloc, image, last, record)?;
+    }
+    Ok(())
+}
+
+/// Puts copies of records that fit behind record `last`, instead of what stands there.
 fn cut_behind(
     alloc: Global,
     image: &mut TrackImage,
     last: usize,
     behind: &[Record],
-) -> Result<(), ApplyFault>
+) -> Result<(), NoMemory>
     requires place { last < length image.old.track.records }
     requires some { 0 < length behind.now }
-    ensures cut { OnOk result (image.new ≡ record image.old { track = record image.old.track { records = take (last + 1) image.old.track.records ++ behind.now } }) }
-    ensures unfit { result ≡ Err ApplyFault.Unfit → is_fit image.old.geometry (take (last + 1) image.old.track.records ++ behind.now) ≡ false }
+    requires fit { is_fit image.old.geometry (take (last + 1) image.old.track.records ++ behind.now) ≡ true }
+    ensures { OnOk result (image.new ≡ record image.old { track = record image.old.track { records = take (last + 1) image.old.track.records ++ behind.now } }) }
 {
     put_copy(alloc, image, last, &behind[0])?;
     put_copies(alloc, image, &behind[1..])
 }
 
-/// Puts copies of records in place of all.
-fn put_all(alloc: Global, image: &mut TrackImage, records: &[Record]) -> Result<(), ApplyFault>
-    requires { 0 < length records.now }
-    ensures put { OnOk result (image.new ≡ record image.old { track = record image.old.track { records = records.now } }) }
-    ensures unfit { result ≡ Err ApplyFault.Unfit → is_fit image.old.geometry records.now ≡ false }
+/// Puts copies of records that fit in place of all.
+fn put_all(alloc: Global, image: &mut TrackImage, records: &[Record]) -> Result<(), NoMemory>
+    requires some { 0 < length records.now }
+    requires fit { is_fit image.old.geometry records.now ≡ true }
+    ensures { OnOk result (image.new ≡ record image.old { track = record image.old.track { records = records.now } }) }
 {
-    if !is_zero(&records[0]) {
-        return Err(ApplyFault::Unfit);
-    }
     image.set_zero(records[0].copy(alloc)?);
     put_copies(alloc, image, &records[1..])
 }
 
-fn cut(
-    alloc: Global,
-    image: &mut TrackImage,
-    kept: Kept,
-    behind: &[Record],
-) -> Result<(), ApplyFault>
+/// Puts copies of a patch's records behind those that stay, where all fit.
+fn cut(alloc: Global, image: &mut TrackImage, kept: Kept, behind: &[Record]) -> Result<(), NoMemory>
     requires reached { reaches kept image.old.track.records ≡ true }
     requires behind { is_whole kept ≡ (length behind.now == 0) }
-    ensures cut { OnOk result (image.new ≡ record image.old { track = record image.old.track { records = stay kept image.old.track.records ++ behind.now } }) }
-    ensures unfit { result ≡ Err ApplyFault.Unfit → is_fit image.old.geometry (stay kept image.old.track.records ++ behind.now) ≡ false }
+    requires fit { is_fit image.old.geometry (stay kept image.old.track.records ++ behind.now) ≡ true }
+    ensures { OnOk result (image.new ≡ record image.old { track = record image.old.track { records = stay kept image.old.track.records ++ behind.now } }) }
 {
     match kept {
         Kept::Whole => Ok(()),
@@ -129,14 +150,13 @@ fn patched(
     kept: Kept,
     replaced: &[Replacement],
     behind: &[Record],
-) -> Result<TrackImage, ApplyFault>
+) -> Result<TrackImage, NoMemory>
     requires behind { is_whole kept ≡ (length behind.now == 0) }
     requires applies { applies (record { replaced = replaced.now; kept = kept; behind = behind.now }) image ≡ true }
-    ensures { Gives result (applied (record { replaced = replaced.now; kept = kept; behind = behind.now }) image) }
+    ensures { IfOk result (λ made. made ≡ patched_image (record { replaced = replaced.now; kept = kept; behind = behind.now }) image) }
 {
     revise(&mut image, kept, replaced);
     cut(alloc, &mut image, kept, behind)?;
-    image.fits();
     Ok(image)
 }
 
@@ -151,7 +171,8 @@ impl Patch {
             return Err(ApplyFault::Unfit);
         }
         let image = image.copy(alloc)?;
-        patched(alloc, image, self.kept(), self.replaced(), self.behind())
+        let made = patched(alloc, image, self.kept(), self.replaced(), self.behind())?;
+        Ok(made)
     }
 
     /// The same image, made of the one that is handed in, without a copy of it.
@@ -162,6 +183,7 @@ impl Patch {
         if !applies(&image, self.kept(), self.replaced(), self.behind()) {
             return Err(ApplyFault::Unfit);
         }
-        patched(alloc, image, self.kept(), self.replaced(), self.behind())
+        let made = patched(alloc, image, self.kept(), self.replaced(), self.behind())?;
+        Ok(made)
     }
 }

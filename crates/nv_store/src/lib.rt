@@ -12,7 +12,7 @@ mod room;
 mod tests;
 
 pub use fault::ApplyFault;
-pub use laws::{edits_in_order, fit_is_tested, one_more, twice_is_once};
+pub use laws::{edits_in_order, fit_is_tested, one_more, twice_is_once, update_is_tested};
 pub use patch::{Kept, Patch, Replacement};
 pub use patches::{Patches, Stored};
 pub use room::EditRoom;

@@ -111,10 +111,12 @@ impl Patches {
         added
     }
 
-    /// Makes room for one more edit of a track's patch, or for a first one.
+    /// Makes room for one more edit of a track's patch, or for a first one. Takes no memory where there is
+    /// so much room.
     pub fn room(&self, t: TrackNo, room: &mut EditRoom) -> Result<(), NoMemory>
         ensures made { OnOk result (room_for (stored_at self.now t) ≤ room.new) }
         ensures least { room.old ≤ room.new }
+        ensures free { room_for (stored_at self.now t) ≤ room.old → IsOk result }
     {
         let edits = match self.table.get(t) {
             Some(stored) => stored.patch.room(),

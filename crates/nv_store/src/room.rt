@@ -1,4 +1,4 @@
-ghost use Rattle.std.specs.Prelude.{◌≡◌, ◌≤◌, ◌<◌, [], OnOk, length, vec_len, vec_capacity};
+ghost use Rattle.std.specs.Prelude.{◌≡◌, ◌≤◌, ◌<◌, [], IsOk, OnOk, length, vec_len, vec_capacity};
 ghost use Rattle.nv_store.specs.Room.{room_of};
 
 use crate::{Patch, Replacement};
@@ -51,10 +51,11 @@ impl EditRoom {
         }
     }
 
-    /// Makes room for so many edits.
+    /// Makes room for so many edits. Takes no memory where there is so much room.
     pub fn reserve(&mut self, edits: usize) -> Result<(), NoMemory>
         ensures made { OnOk result (edits ≤ self.new) }
         ensures least { self.old ≤ self.new }
+        ensures free { edits ≤ self.old → IsOk result }
     {
         self.replaced.reserve(edits)?;
         self.behind.reserve(edits)?;

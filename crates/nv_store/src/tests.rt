@@ -105,6 +105,18 @@ fn update_of_a_record_behind_a_cut(rt: HostRuntime) -> Result<(), Fail> {
 }
 
 #[test]
+fn a_patch_with_one_more_edit(rt: HostRuntime) -> Result<(), Fail> {
+    let alloc = rt.alloc();
+    let patch = patch_of(alloc, &[Step::Update(1, 1)])?;
+    let more = patch.with(alloc, edit(alloc, Step::Format(1, 2))?)?;
+    let image = track(alloc, 3)?;
+    let copied = apply(alloc, &patch.copy(alloc)?, &image)?.ok_or("unfit")?;
+    let edited = apply(alloc, &more, &image)?.ok_or("unfit")?;
+    assert_eq!(rt; (copied.len(), edited.len()), (4, 3));
+    Ok(())
+}
+
+#[test]
 fn patches_come_and_go(rt: HostRuntime) -> Result<(), Fail> {
     let alloc = rt.alloc();
     let mut patches = Patches::new(alloc);

@@ -65,13 +65,13 @@ use Rattle.ckd_rules.specs.Formats.{count_given, key_given, body_given, record_g
 use Rattle.ckd_rules.specs.Look.{look_on}
 use Rattle.ckd_rules.specs.Looked.{ends, edits}
 use Rattle.ckd_rules.specs.Ending.{refused}
-use Rattle.ckd_types.specs.declared.record.Edit.{Edit}
 use Rattle.ckd_types.specs.declared.record.Edit.TheVariants.{Update, Format, Zero}
 use Rattle.ckd_types.specs.Sense.{no_record_sense, track_format_sense}
 use Rattle.ckd_rules.specs.Reads.{record_at, read_sought, read_candidate}
 use Rattle.ckd_rules.specs.Searches.{search_sought, search_candidate}
 use Rattle.ckd_rules.specs.Updates.{update_ended, update_record, update_sought, update_on, next_area}
 use Rattle.ckd_rules.specs.Writes.{write_on}
+use Rattle.ckd_write.specs.Ranges.{HasRanges}
 use Rattle.plain_defs.specs.Whole.{GivesBytes}
 use Rattle.track_image.proofs.Sizes.{unit_room, within}
 
@@ -163,11 +163,6 @@ placed_inside n (Key i) some = kept_inside n i (Key i) some refl
 placed_inside n (Body i) some = kept_inside n i (Body i) some refl
 
 -- What a turn edits
-
--- a new record 0 has its ranges
-abbrev pub HasRanges : Edit → Type 0
-HasRanges (Zero added) = IsRecord added
-HasRanges _ = ⊤
 
 abbrev pub SuitsTurn : Geometry → List Record → Turned → Type 0
 SuitsTurn g records (Edits edit e) = Suits g records edit × HasRanges edit

@@ -1,9 +1,9 @@
-use Rattle.std.proofs.Common.{ap}
-use Rattle.std.specs.Prelude.{Err}
+use Rattle.std.proofs.Common.{List, ◌++◌, ap, ◌∙◌}
 use Rattle.std.proofs.lemmas.Bool.{and_parts}
-use Rattle.std.proofs.lemmas.Result.{err_from_is_err_and}
+use Rattle.ckd_types.specs.declared.record.Record.{Record}
 use Rattle.nv_store.specs.Patch.{PatchView, reaches}
-use Rattle.nv_store.proofs.Applied.{reaches_revised, cut_failed, made}
+use Rattle.nv_store.proofs.Applied.{reaches_revised, fits_revised}
+use Rattle.nv_store.proofs.Revisions.{revised_stay}
 use Rattle.nv_store.proofs.apply.patched.Goals as goal
 
 pub cut-requires-clause-reached : goal.cut-requires-clause-reached
@@ -11,16 +11,14 @@ cut-requires-clause-reached c =
     let tests = and_parts (reaches c.args.kept c.args.image.track.records) _ c.requires.applies in
     rw c.revise.ensures (reaches_revised c.args.kept c.args.replaced.now c.args.image.track.records tests.0)
 
-pub returns-in_err-cut : goal.returns-in_err-cut
-returns-in_err-cut c =
+pub cut-requires-clause-fit : goal.cut-requires-clause-fit
+cut-requires-clause-fit c =
     let patch : PatchView = record { replaced = c.args.replaced.now; kept = c.args.kept; behind = c.args.behind.now } in
-    let p = err_from_is_err_and c.from_residual.result c.from_residual.ensures.1 in
-    rw (p.1, p.2) (cut_failed patch c.args.image c.in_err-cut.field-0.0 c.requires.applies
-    (λ unfit. rw c.revise.ensures at (c.in_err-cut.ensures.unfit (ap Err unfit))))
+    rw c.revise.ensures (fits_revised patch c.args.image c.requires.applies)
 
 pub returns : goal.returns
 returns c =
-    let patch : PatchView = record { replaced = c.args.replaced.now; kept = c.args.kept; behind = c.args.behind.now } in
-    let tests = and_parts (reaches c.args.kept c.args.image.track.records) _ c.requires.applies in
-    let whole = rw c.revise.ensures at c.in_ok-cut.ensures.cut in
-    made patch c.args.image c.cut.new.image tests.0 (and_parts _ _ tests.1).0 c.fits.ensures whole
+    let whole = rw c.revise.ensures at c.in_ok-cut.ensures in
+    whole ∙ ap (λ (front : List Record). record c.args.image
+    { track = record c.args.image.track { records = front ++ c.args.behind.now } })
+    (revised_stay c.args.kept c.args.replaced.now c.args.image.track.records)
