@@ -3,7 +3,9 @@ ghost use Rattle.std.specs.Prelude.{option_map};
 ghost use Rattle.ckd_types.specs.Parameters.{is_provisional};
 ghost use Rattle.ckd_chain.specs.Facts.{IsChain, SuitsTrack, NeedsTrack, FurtherFrom, GoesFurther, CountsEnd, IsAsking, MayBeWritten, MaySettle};
 ghost use Rattle.ckd_chain.specs.Steps.{first_mark, begun_chain, index_of, word_of, standing, stage_of, opened, begin_with, opening_at, needed, need_of, start_of, behind, end_with, waiting, turned_with, looked_with, held_outcome, stepped_by, stepped, checked, written_by, settled_by, again_from, mode_by, inhibits_by, last_by};
-ghost use Rattle.ckd_rules.specs.Facts.{HasRoom, Stands, Behind, IsLook};
+ghost use Rattle.ckd_rules.specs.Facts.{HasRoom, Stands, IsLook, IsRunning};
+ghost use Rattle.ckd_rules.specs.Ends.{end_of, goes_to};
+ghost use Rattle.ckd_types.specs.Ccw.{ccw_at};
 ghost use Rattle.ckd_rules.specs.Acts.{answered, taken};
 ghost use Rattle.ckd_chain.specs.declared.mark.Stage.TheVariants.{Over, Looks};
 
@@ -63,6 +65,24 @@ fn index_of(next: Option<usize>) -> usize
     }
 }
 
+/// The command of the mark's word ends, with the mark's stance behind it. The mark then has the word that the chain goes on
+/// to.
+#[inline(always)]
+fn end_here(program: &Program, at: &mut Mark, ending: Ending) -> CommandEnd
+    requires word { IfSome at.old.next (λ i. i < 65536) }
+    ensures end { result ≡ end_of (index_of at.old.next) (ccw_at program.now (index_of at.old.next)) (record { stance = at.old.stance; ending = ending }) }
+    ensures next { at.new ≡ record at.old { next = goes_to program.now (index_of at.old.next) (record { stance = at.old.stance; ending = ending }) } }
+    ensures running { IfSome at.new.next (λ j. IsRunning j at.old.stance) }
+{
+    let nothing = no_ccw();
+    let index = index_of(at.next);
+    let ccw = word_at(program.ccws(), index, &nothing);
+    let next = goes_to(program.ccws(), index, ccw, &at.stance, &ending);
+    let end = end_of(index as u16, ccw, &at.stance, ending);
+    at.next = next;
+    end
+}
+
 impl Chain {
     /// A chain at the first word of a program, on a device.
     pub fn begin(program: Program, fixed: FixedData) -> Chain
@@ -100,13 +120,10 @@ impl Chain {
         requires ready { self.old.stage ≡ None }
         ensures { self.new ≡ opened self.old }
     {
+        self.before = self.at;
         let nothing = no_ccw();
         let ccw = word_at(self.program.ccws(), index_of(self.at.next), &nothing);
-        let before = self.at;
-        let mut stance = self.at.stance;
-        let opening = open(&self.fixed, &mut stance, ccw);
-        self.before = before;
-        self.at.stance = stance;
+        let opening = open(&self.fixed, &mut self.at.stance, ccw);
         match opening {
             Opening::Over(ending) => {
                 self.stage = Some(Stage::Over);
@@ -143,26 +160,6 @@ impl Chain {
         }
     }
 
-    /// The command at hand ended, with this stance behind it.
-    fn end(&mut self, stance: Stance, ending: Ending) -> CommandEnd
-        requires running { IsSome self.old.at.next }
-        requires begun { self.old.before ≡ start_of self.old }
-        requires behind { Behind (self.old.fixed.cylinders * 15) self.old.before.stance stance }
-        ensures end { result ≡ end_with self.old (record { stance = stance; ending = ending }) }
-        ensures chain { self.new ≡ behind self.old (record { stance = stance; ending = ending }) }
-        ensures counted { self.new.at.stance.commands ≡ (start_of self.old).stance.commands + 1 }
-    {
-        let nothing = no_ccw();
-        let index = index_of(self.at.next);
-        let ccw = word_at(self.program.ccws(), index, &nothing);
-        let next = goes_to(self.program.ccws(), index, ccw, &stance, &ending);
-        let end = end_of(index as u16, ccw, &stance, ending);
-        self.at = Mark { stance, next };
-        self.stage = None;
-        self.held = None;
-        end
-    }
-
     /// The command at hand ends as it is held to.
     fn finish(&mut self) -> CommandEnd
         requires running { IsSome self.old.at.next }
@@ -174,13 +171,7 @@ impl Chain {
         let Some(ending) = self.held.take() else {
             unreachable!()
         };
-        let nothing = no_ccw();
-        let index = index_of(self.at.next);
-        let ccw = word_at(self.program.ccws(), index, &nothing);
-        let stance = self.at.stance;
-        let next = goes_to(self.program.ccws(), index, ccw, &stance, &ending);
-        let end = end_of(index as u16, ccw, &stance, ending);
-        self.at.next = next;
+        let end = end_here(&self.program, &mut self.at, ending);
         self.stage = None;
         end
     }
@@ -200,16 +191,15 @@ impl Chain {
         let nothing = no_ccw();
         let ccw = word_at(self.program.ccws(), index_of(self.at.next), &nothing);
         let track = self.at.stance.track;
-        let mut stance = self.at.stance;
-        match look_on(alloc, &self.fixed, image, &mut stance, ccw, look)? {
-            Turned::Ended(ending) => Ok(Progress::Ended(self.end(stance, ending))),
-            Turned::Onward => {
-                let next = stance.track;
-                self.at.stance = stance;
-                Ok(Progress::Need(next))
+        match look_on(alloc, &self.fixed, image, &mut self.at.stance, ccw, look)? {
+            Turned::Ended(ending) => {
+                let end = end_here(&self.program, &mut self.at, ending);
+                self.stage = None;
+                self.held = None;
+                Ok(Progress::Ended(end))
             }
+            Turned::Onward => Ok(Progress::Need(self.at.stance.track)),
             Turned::Edits(edit, ending) => {
-                self.at.stance = stance;
                 self.stage = Some(Stage::Over);
                 self.held = Some(ending);
                 Ok(Progress::Write { track, edit })
@@ -283,9 +273,12 @@ impl Chain {
         self.keep_start();
         let nothing = no_ccw();
         let ccw = word_at(self.program.ccws(), index_of(self.at.next), &nothing);
-        let mut stance = self.before.stance;
-        let ending = refuse(&mut stance, ccw, sense);
-        self.end(stance, ending)
+        self.at.stance = self.before.stance;
+        let ending = refuse(&mut self.at.stance, ccw, sense);
+        let end = end_here(&self.program, &mut self.at, ending);
+        self.stage = None;
+        self.held = None;
+        end
     }
 
     /// The device took what the command gave it.
@@ -298,9 +291,12 @@ impl Chain {
     {
         let nothing = no_ccw();
         let ccw = word_at(self.program.ccws(), index_of(self.at.next), &nothing);
-        let mut stance = self.before.stance;
-        let ending = take(&mut stance, ccw);
-        self.end(stance, ending)
+        self.at.stance = self.before.stance;
+        let ending = take(&mut self.at.stance, ccw);
+        let end = end_here(&self.program, &mut self.at, ending);
+        self.stage = None;
+        self.held = None;
+        end
     }
 
     /// The device answered these bytes.
@@ -313,9 +309,12 @@ impl Chain {
     {
         let nothing = no_ccw();
         let ccw = word_at(self.program.ccws(), index_of(self.at.next), &nothing);
-        let mut stance = self.before.stance;
-        let ending = answer(&mut stance, ccw, bytes);
-        self.end(stance, ending)
+        self.at.stance = self.before.stance;
+        let ending = answer(&mut self.at.stance, ccw, bytes);
+        let end = end_here(&self.program, &mut self.at, ending);
+        self.stage = None;
+        self.held = None;
+        end
     }
 
     /// The edit of the command was made, or the device took what it was given.
