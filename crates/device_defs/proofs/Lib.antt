@@ -1,0 +1,2 @@
+pub mod Stand
+mod Rows

@@ -1,0 +1,181 @@
+-- A device of a run that is tried by hand: one event after another, and what each showed.
+use Rattle.std.proofs.Common.{ℕ, zero, suc, true, List, [], ◌∷◌, ◌++◌, Option, Some, None}
+use Rattle.std.specs.Prelude.{replicate}
+use Rattle.ckd_types.specs.declared.channel.Ccw.{Ccw}
+use Rattle.ckd_types.specs.declared.channel.CommandEnd.{CommandEnd}
+use Rattle.ckd_types.specs.declared.geometry.Geometry.TheVariants.{D3390}
+use Rattle.ckd_types.specs.declared.paths.Side.{Side}
+use Rattle.loss_model.specs.declared.Loss.TheVariants as losses
+use Rattle.device_outside.specs.Pool.{Pool, new_pool, cache_failed, store_failed, power_lost}
+use Rattle.device_outside.specs.Told.{Calls, Told, Outcome, hold}
+use Rattle.device_defs.specs.declared.answers.Did.{Did}
+use Rattle.device_defs.specs.declared.answers.SecondEnd.{SecondEnd}
+use Rattle.device_defs.specs.declared.answers.SecondEnd.TheVariants as seconds
+use Rattle.device_defs.specs.declared.answers.StartFault.{StartFault}
+use Rattle.device_defs.specs.declared.answers.Stepped.{Stepped}
+use Rattle.device_defs.specs.declared.answers.Stepped.TheVariants as steps
+use Rattle.device_defs.specs.Command.{command}
+use Rattle.device_defs.specs.Contents.{by_plain}
+use Rattle.device_defs.specs.Cutting.{reset, power}
+use Rattle.device_defs.specs.Events.{second, background, lose}
+use Rattle.device_defs.specs.Marks.{MarksDevice, new_device}
+use Rattle.device_defs.specs.Orders.{join, replace, hold as hold_b, resume}
+use Rattle.device_defs.specs.Start.{start_fault, start, next_ordinal}
+
+-- reads and writes are the last two numbers of each
+pub data Line : Type 0 where
+  Started : ℕ → Line
+  Refused : StartFault → Line
+  End : ℕ → ℕ → List ℕ → ℕ → ℕ → Line  -- the word, the status, the bytes sent
+  Half : ℕ → ℕ → ℕ → Line
+  Finished : ℕ → ℕ → ℕ → Line
+  Unwritten : ℕ → ℕ → ℕ → Line
+  Back : Did → ℕ → ℕ → Line
+  Lacking : Line
+
+pub record Stand : Type 0 where
+  pub device : MarksDevice
+  pub told : Told
+  pub lines : List Line
+
+abbrev pub new_calls : List ℕ → List ℕ → Calls
+new_calls reads writes = record { reads = 0; writes = 0; plan = record { reads = reads; writes = writes } }
+
+-- a 3390 of one cylinder, with these programs of path 1; the failing reads and writes of its volume
+abbrev pub stand : ℕ → ℕ → List ℕ → List ℕ → List (List Ccw) → Stand
+stand frames slots reads writes programs = record {
+  device = new_device 0 D3390 1 (programs ∷ [] ∷ [] ∷ [] ∷ []);
+  told = record { pool = new_pool frames slots; a = new_calls reads writes; b = new_calls [] []; reads = 0; writes = 0 };
+  lines = [];
+}
+
+abbrev pub shows : Stand → Line → Stand
+shows s line = record s { lines = s.lines ++ line ∷ [] }
+
+abbrev pub from_zero : Told → Told
+from_zero w = record w { reads = 0; writes = 0 }
+
+abbrev pub end_line : CommandEnd → ℕ → ℕ → Line
+end_line e reads writes = End e.index e.status.0 e.sent reads writes
+
+abbrev pub step_line : Option Stepped → Told → Line
+step_line (Some (steps.Ended e)) w = end_line e w.reads w.writes
+step_line (Some (steps.Half t)) w = Half t w.reads w.writes
+step_line None w = Lacking
+
+abbrev pub second_line : SecondEnd → Told → Line
+second_line (seconds.Ended e) w = end_line e w.reads w.writes
+second_line (seconds.Finished t) w = Finished t w.reads w.writes
+second_line (seconds.Unwritten t) w = Unwritten t w.reads w.writes
+
+abbrev pub back_line : Option Did → Told → Line
+back_line (Some d) w = Back d w.reads w.writes
+back_line None w = Lacking
+
+abbrev pub after_step : Stand → Outcome MarksDevice (Option Stepped) → Stand
+after_step s o = record { device = o.state; told = o.told; lines = s.lines ++ step_line o.answer o.told ∷ [] }
+
+abbrev pub after_second : Stand → Outcome MarksDevice SecondEnd → Stand
+after_second s o = record { device = o.state; told = o.told; lines = s.lines ++ second_line o.answer o.told ∷ [] }
+
+abbrev pub after_back : Stand → Outcome MarksDevice (Option Did) → Stand
+after_back s o = record { device = o.state; told = o.told; lines = s.lines ++ back_line o.answer o.told ∷ [] }
+
+-- an event without a line
+abbrev pub after_loss : Stand → Outcome MarksDevice (Unit {0}) → Stand
+after_loss s o = record s { device = o.state; told = o.told }
+
+abbrev pub starts_by : Stand → ℕ → Option StartFault → Stand
+starts_by s path (Some f) = shows s (Refused f)
+starts_by s path None = record (shows s (Started (next_ordinal s.device path))) { device = start s.device path }
+
+pub data Event : Type 0 where
+  Start : ℕ → Event
+  Step : Event
+  Second : Event
+  Work : Event
+  Reset : ℕ → Event
+  FailCache : Event
+  FailStore : Event
+  FailSide : Side → Event
+  Power : Event
+  Join : List ℕ → List ℕ → Event  -- a volume with these failing reads and writes
+  Replace : Side → Event
+  Suspend : Event
+  Resume : Event
+
+abbrev pub with_pool : Stand → Pool → Told
+with_pool s p = record (from_zero s.told) { pool = p }
+
+abbrev pub happens : Stand → Event → Stand
+happens s (Start path) = starts_by s path (start_fault s.device path)
+happens s Step = after_step s (hold true (command by_plain s.device) (from_zero s.told))
+happens s Second = after_second s (hold true (second by_plain s.device) (from_zero s.told))
+happens s Work = after_back s (hold true (background by_plain s.device) (from_zero s.told))
+happens s (Reset path) = after_loss s (hold true (reset by_plain s.device path) (from_zero s.told))
+happens s FailCache = after_loss s (hold true (lose by_plain s.device losses.Cache) (with_pool s (cache_failed s.told.pool)))
+happens s FailStore = after_loss s (hold true (lose by_plain s.device losses.Store) (with_pool s (store_failed s.told.pool)))
+happens s (FailSide side) = after_loss s (hold true (lose by_plain s.device (losses.Side side)) (from_zero s.told))
+happens s Power = after_loss s (hold true (power by_plain s.device) (with_pool s (power_lost s.told.pool)))
+happens s (Join reads writes) = record s { device = join s.device; told = record s.told { b = new_calls reads writes } }
+happens s (Replace side) = record s { device = replace s.device side }
+happens s Suspend = record s { device = hold_b s.device }
+happens s Resume = record s { device = resume s.device }
+
+unfoldable pub all_happen : Stand → List Event → Stand
+all_happen s [] = s
+all_happen s (e ∷ es) = all_happen (happens s e) es
+
+-- a program's start and so many of its commands
+unfoldable pub steps_of : ℕ → List Event
+steps_of zero = []
+steps_of (suc n) = Step ∷ steps_of n
+
+abbrev pub go : ℕ → List Event
+go n = Start 1 ∷ steps_of n
+
+unfoldable pub works : ℕ → List Event
+works zero = []
+works (suc n) = Work ∷ works n
+
+-- The programs of the rows
+
+-- define extent with mask and attributes, over the whole device
+abbrev pub extent : ℕ → ℕ → Ccw
+extent mask attributes = record {
+  command = 0x63;
+  flags = 0x40;
+  count = 16;
+  given = mask ∷ attributes ∷ 0x10 ∷ 0 ∷ 0 ∷ 0 ∷ 0 ∷ 0 ∷ 0 ∷ 0 ∷ 0 ∷ 0 ∷ 0 ∷ 0 ∷ 0 ∷ 0x0e ∷ [];
+}
+
+-- locate record, for so many commands of an operation on track t behind record r
+abbrev pub locate : ℕ → ℕ → ℕ → ℕ → Ccw
+locate operation n t r = record {
+  command = 0x47;
+  flags = 0x40;
+  count = 16;
+  given = operation ∷ 0 ∷ 0 ∷ n ∷ 0 ∷ 0 ∷ 0 ∷ t ∷ 0 ∷ 0 ∷ 0 ∷ t ∷ r ∷ 0 ∷ 0 ∷ 0 ∷ [];
+}
+
+-- record 0 of track t is read, with these attributes
+abbrev pub read_zero : ℕ → ℕ → List Ccw
+read_zero attributes t = extent 0x40 attributes ∷ locate 6 1 t 0 ∷ record { command = 0x06; flags = 0; count = 8; given = [] } ∷ []
+
+abbrev pub new_data : List ℕ
+new_data = 0x11 ∷ 0x22 ∷ 0x33 ∷ 0x44 ∷ 0x55 ∷ 0x66 ∷ 0x77 ∷ 0x88 ∷ []
+
+abbrev pub old_data : List ℕ
+old_data = replicate 8 0
+
+-- or written, with these flags of the last word and these bytes
+abbrev pub write_of : ℕ → ℕ → ℕ → List ℕ → List Ccw
+write_of attributes flags t bytes =
+    extent 0x80 attributes ∷ locate 1 1 t 0 ∷ record { command = 0x85; flags = flags; count = 8; given = bytes } ∷ []
+
+abbrev pub write_zero : ℕ → ℕ → List Ccw
+write_zero attributes t = write_of attributes 0 t new_data
+
+-- the usual ends of the three words of these programs
+abbrev pub quiet : ℕ → ℕ → Line
+quiet word reads = End word 0x0c [] reads 0
