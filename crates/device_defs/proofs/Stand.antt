@@ -6,6 +6,7 @@ use Rattle.ckd_types.specs.declared.channel.CommandEnd.{CommandEnd}
 use Rattle.ckd_types.specs.declared.geometry.Geometry.TheVariants.{D3390}
 use Rattle.ckd_types.specs.declared.paths.Side.{Side}
 use Rattle.loss_model.specs.declared.Loss.TheVariants as losses
+use Rattle.plain_defs.specs.Journal.{Plans}
 use Rattle.device_outside.specs.Pool.{Pool, new_pool, cache_failed, store_failed, power_lost}
 use Rattle.device_outside.specs.Told.{Calls, Told, Outcome, hold}
 use Rattle.device_defs.specs.declared.answers.Did.{Did}
@@ -41,13 +42,17 @@ pub record Stand : Type 0 where
 abbrev pub new_calls : List ℕ → List ℕ → Calls
 new_calls reads writes = record { reads = 0; writes = 0; plan = record { reads = reads; writes = writes } }
 
--- a 3390 of one cylinder, with these programs of path 1; the failing reads and writes of its volume
-abbrev pub stand : ℕ → ℕ → List ℕ → List ℕ → List (List Ccw) → Stand
-stand frames slots reads writes programs = record {
-  device = new_device 0 D3390 1 (programs ∷ [] ∷ [] ∷ [] ∷ []);
+-- a 3390 of one cylinder, with the programs of each path; the failing reads and writes of its volume
+abbrev pub stand_with : ℕ → ℕ → List ℕ → List ℕ → Plans → Stand
+stand_with frames slots reads writes plans = record {
+  device = new_device 0 D3390 1 plans;
   told = record { pool = new_pool frames slots; a = new_calls reads writes; b = new_calls [] []; reads = 0; writes = 0 };
   lines = [];
 }
+
+-- with programs of path 1 alone
+abbrev pub stand : ℕ → ℕ → List ℕ → List ℕ → List (List Ccw) → Stand
+stand frames slots reads writes programs = stand_with frames slots reads writes (programs ∷ [] ∷ [] ∷ [] ∷ [])
 
 abbrev pub shows : Stand → Line → Stand
 shows s line = record s { lines = s.lines ++ line ∷ [] }
@@ -103,6 +108,7 @@ pub data Event : Type 0 where
   Replace : Side → Event
   Suspend : Event
   Resume : Event
+  Note : List ℕ → Event  -- the pool has these notes for the device
 
 abbrev pub with_pool : Stand → Pool → Told
 with_pool s p = record (from_zero s.told) { pool = p }
@@ -121,6 +127,7 @@ happens s (Join reads writes) = record s { device = join s.device; told = record
 happens s (Replace side) = record s { device = replace s.device side }
 happens s Suspend = record s { device = hold_b s.device }
 happens s Resume = record s { device = resume s.device }
+happens s (Note tracks) = record s { told = record s.told { pool = record s.told.pool { notes = tracks ∷ replicate 15 [] } } }
 
 unfoldable pub all_happen : Stand → List Event → Stand
 all_happen s [] = s
@@ -131,8 +138,11 @@ unfoldable pub steps_of : ℕ → List Event
 steps_of zero = []
 steps_of (suc n) = Step ∷ steps_of n
 
+abbrev pub go_on : ℕ → ℕ → List Event
+go_on path n = Start path ∷ steps_of n
+
 abbrev pub go : ℕ → List Event
-go n = Start 1 ∷ steps_of n
+go n = go_on 1 n
 
 unfoldable pub works : ℕ → List Event
 works zero = []
@@ -179,3 +189,18 @@ write_zero attributes t = write_of attributes 0 t new_data
 -- the usual ends of the three words of these programs
 abbrev pub quiet : ℕ → ℕ → Line
 quiet word reads = End word 0x0c [] reads 0
+
+-- record 1 of eight zeros behind record 0 of track t, with these attributes
+abbrev pub format_one : ℕ → ℕ → List Ccw
+format_one attributes t =
+    extent 0xc0 attributes ∷ locate 3 1 t 0
+    ∷ record { command = 0x1d; flags = 0; count = 16; given = 0 ∷ 0 ∷ 0 ∷ t ∷ 1 ∷ 0 ∷ 0 ∷ 8 ∷ [] } ∷ []
+
+-- the first record behind the home address of track 0, which is found on track 1
+abbrev pub write_onward : ℕ → List Ccw
+write_onward attributes =
+    extent 0x80 attributes ∷ locate 0x41 1 0 0 ∷ record { command = 0x85; flags = 0; count = 8; given = new_data } ∷ []
+
+-- one word alone
+abbrev pub alone : ℕ → ℕ → List ℕ → List Ccw
+alone command count given = record { command = command; flags = 0; count = count; given = given } ∷ []
