@@ -1,15 +1,20 @@
 -- A device of a run that is tried by hand: one event after another, and what each showed.
-use Rattle.std.proofs.Common.{ℕ, zero, suc, true, List, [], ◌∷◌, ◌++◌, Option, Some, None}
-use Rattle.std.specs.Prelude.{replicate}
+use Rattle.std.proofs.Common.{Bool, ◌≡◌, map, ℕ, zero, suc, true, List, [], ◌∷◌, ◌++◌, Option, Some, None}
+use Rattle.std.specs.Prelude.{replicate, count_by}
 use Rattle.ckd_types.specs.declared.channel.Ccw.{Ccw}
 use Rattle.ckd_types.specs.declared.channel.CommandEnd.{CommandEnd}
 use Rattle.ckd_types.specs.declared.geometry.Geometry.TheVariants.{D3390}
 use Rattle.ckd_types.specs.declared.paths.Side.{Side}
 use Rattle.loss_model.specs.declared.Loss.TheVariants as losses
+use Rattle.plain_defs.specs.declared.journal.Acted.{Acted}
+use Rattle.plain_defs.specs.declared.journal.How.{How}
+use Rattle.plain_defs.specs.declared.journal.Item.{Item}
+use Rattle.plain_defs.specs.declared.journal.Item.TheVariants as items
 use Rattle.plain_defs.specs.Journal.{Plans}
-use Rattle.device_outside.specs.Pool.{Pool, new_pool, cache_failed, store_failed, power_lost}
+use Rattle.device_outside.specs.Pool.{Frame, Pool, new_pool, cache_failed, store_failed, power_lost, all_waiting}
 use Rattle.device_outside.specs.Told.{Calls, Told, Outcome, hold}
 use Rattle.device_defs.specs.declared.answers.Did.{Did}
+use Rattle.device_defs.specs.declared.answers.Did.TheVariants.{Copied}
 use Rattle.device_defs.specs.declared.answers.SecondEnd.{SecondEnd}
 use Rattle.device_defs.specs.declared.answers.SecondEnd.TheVariants as seconds
 use Rattle.device_defs.specs.declared.answers.StartFault.{StartFault}
@@ -204,3 +209,89 @@ write_onward attributes =
 -- one word alone
 abbrev pub alone : ℕ → ℕ → List ℕ → List Ccw
 alone command count given = record { command = command; flags = 0; count = count; given = given } ∷ []
+
+-- some events, and what they show
+pub record Run : Type 0 where
+  pub on : Stand
+  pub events : List Event
+  pub shows : List Line
+
+abbrev pub ran : Run → List Line
+ran r = (all_happen r.on r.events).lines
+
+abbrev pub shows_of : Run → List Line
+shows_of r = r.shows
+
+abbrev pub Show : List Run → Type 0
+Show runs = map ran runs ≡ map shows_of runs
+
+abbrev pub waiting_of : Stand → List Event → ℕ
+waiting_of s events = all_waiting (all_happen s events).told.pool
+
+abbrev pub acts_in : Item → List Acted
+acts_in (items.Program e) = e.acts
+acts_in (items.Act act) = record { after = 0; act = act } ∷ []
+acts_in _ = []
+
+abbrev pub all_acts : List Item → List Acted
+all_acts [] = []
+all_acts (x ∷ xs) = acts_in x ++ all_acts xs
+
+abbrev pub acts_of : Stand → List Event → List Acted
+acts_of s events = all_acts (all_happen s events).device.history.items
+
+-- what was shown before doesn't count
+abbrev pub silent : Stand → Stand
+silent s = record s { lines = [] }
+
+-- the same device as a level pair, where these writes of side A and of side B fail
+abbrev pub pair : List ℕ → List ℕ → List (List Ccw) → Stand
+pair a b programs = silent (all_happen (stand 4 2 [] a programs) (Join [] b ∷ works 15))
+
+-- or these reads of side A
+abbrev pub pair_with : List ℕ → List ℕ → List ℕ → List (List Ccw) → Stand
+pair_with reads a b programs = silent (all_happen (stand 4 2 reads a programs) (Join [] b ∷ works 15))
+
+abbrev pub count_of : List Bool → ℕ
+count_of marks = count_by (λ (x : Bool). x) marks
+
+-- lost tracks, the pool's frames, and how many tracks it was told to wait
+pub record Left : Type 0 where
+  pub lost : ℕ
+  pub frames : List Frame
+  pub waiting : ℕ
+
+abbrev pub left_by : Stand → Left
+left_by s = record { lost = count_of s.device.store.lost; frames = s.told.pool.frames; waiting = all_waiting s.told.pool }
+
+-- what a journal holds, without ends and acts
+pub data Shown : Type 0 where
+  Program : ℕ → How → Shown
+  ResetOf : ℕ → Shown
+  Other : Shown
+
+abbrev pub shown_item : Item → Shown
+shown_item (items.Program e) = Program e.path e.how
+shown_item (items.Reset path) = ResetOf path
+shown_item _ = Other
+
+abbrev pub items_of : Stand → List Event → List Shown
+items_of s events = map shown_item (all_happen s events).device.history.items
+
+abbrev pub group_name : List ℕ
+group_name = 1 ∷ 2 ∷ 3 ∷ 4 ∷ 5 ∷ 6 ∷ 7 ∷ 8 ∷ 9 ∷ 10 ∷ 11 ∷ []
+
+-- paths 1 and 2 join a group, and path 1 reserves and asks for the group; path 3 takes the device, and frees it
+abbrev pub group_plans : Plans
+group_plans =
+    (alone 0xaf 12 (0x80 ∷ group_name) ∷ alone 0xb4 32 [] ∷ alone 0x34 12 [] ∷ [])
+    ∷ (alone 0xaf 12 (0x80 ∷ group_name) ∷ alone 0x03 1 [] ∷ alone 0x03 1 [] ∷ [])
+    ∷ (alone 0x14 32 [] ∷ alone 0x94 32 [] ∷ []) ∷ (alone 0x03 1 [] ∷ []) ∷ []
+
+-- record 1 of track 1, past the store
+abbrev pub write_one : List Ccw
+write_one = extent 0x80 0xc1 ∷ locate 1 1 1 1 ∷ record { command = 0x85; flags = 0; count = 8; given = new_data } ∷ []
+
+unfoldable pub copies : ℕ → List Line
+copies zero = []
+copies (suc n) = copies n ++ Back (Copied n) 1 1 ∷ []

@@ -9,7 +9,7 @@ use Rattle.device_defs.specs.Contents.{Contents}
 use Rattle.device_defs.specs.Device.{Device, all_reset, quiet_event}
 use Rattle.device_defs.specs.Effects.{with_edit, gone_back}
 use Rattle.device_defs.specs.Losses.{over, without_frame, without_patch, settled}
-use Rattle.device_defs.specs.Events.{with_losses}
+use Rattle.device_defs.specs.Events.{with_loss}
 use Rattle.device_defs.specs.Second.{half_image_of}
 use Rattle.device_defs.specs.Store.{Origin, OfCommand, OfCut, OfBackground, HalfWrite, Store, tracks_of, has_loose}
 use Rattle.loss_model.specs.declared.Loss.TheVariants as losses
@@ -84,7 +84,7 @@ module _ {F P H R : Type 0} (c : Contents F P H R) where
 
   abbrev pub powered_off : Device F P H → Store F P H → Device F P H
   powered_off d s = record d {
-    store = powerless (with_losses s losses.Cache);
+    store = powerless (with_loss s losses.Cache);
     paths = fresh_paths;
     history = lost_power d.history (counts_one_by d.store.half);
     chain = None;

@@ -13,6 +13,7 @@ use Rattle.device_defs.specs.declared.answers.Came.TheVariants.{Ends, Checks, Ha
 use Rattle.device_defs.specs.declared.answers.Did.{Did}
 use Rattle.device_defs.specs.declared.answers.SecondEnd.{SecondEnd}
 use Rattle.device_defs.specs.declared.answers.SecondEnd.TheVariants.{Ended, Finished, Unwritten}
+use Rattle.device_defs.specs.declared.counts.Losses.{Losses}
 use Rattle.device_defs.specs.Background.{work}
 use Rattle.device_defs.specs.Contents.{Contents}
 use Rattle.device_defs.specs.Device.{Device, with_store, event}
@@ -21,11 +22,14 @@ use Rattle.device_defs.specs.Second.{second_part}
 use Rattle.device_defs.specs.Store.{Origin, OfCommand, OfCut, OfBackground, HalfWrite, Store, tracks_of}
 use Rattle.device_defs.specs.Turns.{Turn, settles, checks, turned}
 
+abbrev pub one_more : Losses → Loss → Losses
+one_more l losses.Cache = record l { cache = counted l.cache }
+one_more l losses.Store = record l { store = counted l.store }
+one_more l (losses.Side side) = record l { sides = counted l.sides }
+
 module _ {F P H : Type 0} where
-  abbrev pub with_losses : Store F P H → Loss → Store F P H
-  with_losses s losses.Cache = record s { counts = record s.counts { losses = record s.counts.losses { cache = counted s.counts.losses.cache } } }
-  with_losses s losses.Store = record s { counts = record s.counts { losses = record s.counts.losses { store = counted s.counts.losses.store } } }
-  with_losses s (losses.Side side) = record s { counts = record s.counts { losses = record s.counts.losses { sides = counted s.counts.losses.sides } } }
+  abbrev pub with_loss : Store F P H → Loss → Store F P H
+  with_loss s loss = record s { counts = record s.counts { losses = one_more s.counts.losses loss } }
 
 module _ {F P H R : Type 0} (c : Contents F P H R) where
   -- The second part
@@ -72,7 +76,7 @@ module _ {F P H R : Type 0} (c : Contents F P H R) where
   lost_by s (losses.Side side) = side_lost c s side None
 
   abbrev pub losing : Store F P H → Loss → Interaction R Image (Store F P H) (Unit {0})
-  losing s loss = all_firm_told c (tracks_of s) (lost_by (with_losses s loss) loss)
+  losing s loss = all_firm_told c (tracks_of s) (lost_by (with_loss s loss) loss)
 
   unfoldable pub lose : Device F P H → Loss → Interaction R Image (Device F P H) (Unit {0})
   lose d loss = event c d (λ z. and_then (losing z.store loss) (λ s _. Done (with_store z s) tt))
