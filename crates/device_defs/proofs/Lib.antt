@@ -1,0 +1,4 @@
+pub mod Stand
+pub mod Runs
+mod Rows
+mod Own

@@ -1,0 +1,449 @@
+-- Runs of one device with real programs, and what each shows.
+use Rattle.std.proofs.Common.{[], ◌∷◌, ◌++◌}
+use Rattle.std.specs.Prelude.{replicate}
+use Rattle.ckd_types.specs.declared.paths.Owner.TheVariants.{Group, Path}
+use Rattle.ckd_types.specs.declared.paths.Side.TheVariants.{A, B}
+use Rattle.device_defs.specs.declared.answers.Did.TheVariants.{Nothing, Recovered, Copied, Staged, Skipped, Destaged, Fault}
+use Rattle.device_defs.specs.declared.answers.Did.TheVariants as dids
+use Rattle.device_defs.specs.declared.answers.StartFault.TheVariants.{Busy, PlanDone, Shut, Reserved}
+use Rattle.device_defs.proofs.Stand.{
+  Back,
+  End,
+  FailCache,
+  FailSide,
+  FailStore,
+  Finished,
+  Half,
+  Join,
+  Note,
+  Power,
+  Refused,
+  Replace,
+  Reset,
+  Resume,
+  Run,
+  Second,
+  Start,
+  Started,
+  Step,
+  Suspend,
+  Work,
+  alone,
+  copies,
+  extent,
+  format_one,
+  go,
+  go_on,
+  group_name,
+  group_plans,
+  locate,
+  new_data,
+  old_data,
+  pair,
+  pair_with,
+  quiet,
+  read_zero,
+  stand,
+  stand_with,
+  steps_of,
+  works,
+  write_of,
+  write_one,
+  write_onward,
+  write_zero,
+}
+
+-- of one frame: a track is read once while it has the frame
+abbrev pub clean_frames_are_hits : Run
+clean_frames_are_hits = record {
+  on = stand 1 0 [] [] (read_zero 0xc0 0 ∷ read_zero 0xc0 0 ∷ read_zero 0xc0 1 ∷ read_zero 0xc0 0 ∷ []);
+  events = go 3 ++ go 3 ++ go 3 ++ go 3;
+  shows =
+      Started 1 ∷ quiet 0 0 ∷ quiet 1 1 ∷ End 2 0x0c old_data 0 0 ∷ []
+      ++ Started 2 ∷ quiet 0 0 ∷ quiet 1 0 ∷ End 2 0x0c old_data 0 0 ∷ []
+      ++ Started 3 ∷ quiet 0 0 ∷ quiet 1 1 ∷ End 2 0x0c old_data 0 0 ∷ []
+      ++ Started 4 ∷ quiet 0 0 ∷ quiet 1 1 ∷ End 2 0x0c old_data 0 0 ∷ [];
+}
+
+-- of one frame and one slot: a fast write leaves no room for another track
+abbrev pub fast_write_keeps_its_frame : Run
+fast_write_keeps_its_frame = record {
+  on = stand 1 1 [] [] (write_zero 0xc0 0 ∷ read_zero 0xc0 1 ∷ []);
+  events = go 3 ++ go 3;
+  shows =
+      Started 1 ∷ quiet 0 0 ∷ quiet 1 1 ∷ End 2 0x0c [] 0 0 ∷ []
+      ++ Started 2 ∷ quiet 0 0 ∷ quiet 1 1 ∷ End 2 0x0c old_data 1 0 ∷ [];
+}
+
+-- a fast write is read with its patch behind a loss of the cache, waits, and is recovered
+abbrev pub cache_loss_leaves_the_patch : Run
+cache_loss_leaves_the_patch = record {
+  on = stand 4 2 [] [] (write_zero 0xc0 0 ∷ read_zero 0xc0 0 ∷ []);
+  events = go 3 ++ FailCache ∷ [] ++ go 3 ++ Work ∷ Work ∷ [];
+  shows =
+      Started 1 ∷ quiet 0 0 ∷ quiet 1 1 ∷ End 2 0x0c [] 0 0 ∷ []
+      ++ Started 2 ∷ quiet 0 0 ∷ quiet 1 1 ∷ End 2 0x0c new_data 1 0 ∷ []
+      ++ Back (Recovered 0) 1 1 ∷ Back Nothing 0 0 ∷ [];
+}
+
+-- a loss of the store leaves the frame, which is recovered; then the cache may go
+abbrev pub store_loss_then_cache_loss : Run
+store_loss_then_cache_loss = record {
+  on = stand 4 2 [] [] (write_zero 0xc0 0 ∷ read_zero 0xc0 0 ∷ []);
+  events = go 3 ++ FailStore ∷ Work ∷ Work ∷ FailCache ∷ [] ++ go 3;
+  shows =
+      Started 1 ∷ quiet 0 0 ∷ quiet 1 1 ∷ End 2 0x0c [] 0 0 ∷ []
+      ++ Back (Recovered 0) 0 1 ∷ Back Nothing 0 0 ∷ []
+      ++ Started 2 ∷ quiet 0 0 ∷ quiet 1 1 ∷ End 2 0x0c new_data 1 0 ∷ [];
+}
+
+-- without that recovery the track is lost, and is not read
+abbrev pub both_losses_lose_the_track : Run
+both_losses_lose_the_track = record {
+  on = stand 4 2 [] [] (write_zero 0xc0 0 ∷ read_zero 0xc0 0 ∷ []);
+  events = go 3 ++ FailStore ∷ FailCache ∷ [] ++ go 2;
+  shows =
+      Started 1 ∷ quiet 0 0 ∷ quiet 1 1 ∷ End 2 0x0c [] 0 0 ∷ []
+      ++ Started 2 ∷ quiet 0 0 ∷ End 1 0x0e [] 0 0 ∷ [];
+}
+
+-- a destaging fails, and the next one doesn't
+abbrev pub destaging_fails_and_goes_again : Run
+destaging_fails_and_goes_again = record {
+  on = stand 4 2 [] (1 ∷ []) (write_zero 0xc0 0 ∷ read_zero 0xc0 0 ∷ []);
+  events = go 3 ++ Work ∷ [] ++ go 3 ++ Work ∷ Work ∷ [];
+  shows =
+      Started 1 ∷ quiet 0 0 ∷ quiet 1 1 ∷ End 2 0x0c [] 0 0 ∷ []
+      ++ Back (Fault A) 0 1 ∷ []
+      ++ Started 2 ∷ quiet 0 0 ∷ quiet 1 0 ∷ End 2 0x0c new_data 0 0 ∷ []
+      ++ Back (Destaged 0) 0 1 ∷ Back Nothing 0 0 ∷ [];
+}
+
+-- in sequential mode the two tracks behind a miss are staged
+abbrev pub sequential_reads_stage_ahead : Run
+sequential_reads_stage_ahead = record {
+  on = stand 4 2 [] [] (read_zero 0xcc 0 ∷ []);
+  events = go 3 ++ works 3;
+  shows =
+      Started 1 ∷ quiet 0 0 ∷ quiet 1 1 ∷ End 2 0x0c old_data 0 0 ∷ []
+      ++ Back (Staged 1) 1 0 ∷ Back (Staged 2) 1 0 ∷ Back Nothing 0 0 ∷ [];
+}
+
+-- in bypass mode each look is a read
+abbrev pub bypass_loads_nothing : Run
+bypass_loads_nothing = record {
+  on = stand 4 0 [] [] (read_zero 0xc4 0 ∷ []);
+  events = go 3;
+  shows =
+      Started 1 ∷ quiet 0 0 ∷ quiet 1 1 ∷ End 2 0x0c old_data 1 0 ∷ [];
+}
+
+-- with the one slot taken the next write goes to the volume
+abbrev pub no_slot_writes_through : Run
+no_slot_writes_through = record {
+  on = stand 4 1 [] [] (write_zero 0xc0 0 ∷ write_zero 0xc0 1 ∷ []);
+  events = go 3 ++ go 3;
+  shows =
+      Started 1 ∷ quiet 0 0 ∷ quiet 1 1 ∷ End 2 0x0c [] 0 0 ∷ []
+      ++ Started 2 ∷ quiet 0 0 ∷ quiet 1 1 ∷ End 2 0x0c [] 0 1 ∷ [];
+}
+
+-- a fast write is destaged
+abbrev pub fast_write_is_destaged : Run
+fast_write_is_destaged = record {
+  on = stand 4 2 [] [] (write_zero 0xc0 0 ∷ []);
+  events = go 3 ++ works 2;
+  shows =
+      Started 1 ∷ quiet 0 0 ∷ quiet 1 1 ∷ End 2 0x0c [] 0 0 ∷ []
+      ++ Back (Destaged 0) 0 1 ∷ Back Nothing 0 0 ∷ [];
+}
+
+-- data of cache fast write go with the cache; the next program has the old number
+abbrev pub provisional_write_is_lost_with_the_cache : Run
+provisional_write_is_lost_with_the_cache = record {
+  on = stand 4 2 [] [] (write_zero 0xc2 0 ∷ read_zero 0xc0 0 ∷ write_zero 0xc2 0 ∷ []);
+  events = go 3 ++ FailCache ∷ [] ++ go 3 ++ go 1;
+  shows =
+      Started 1 ∷ quiet 0 0 ∷ quiet 1 1 ∷ End 2 0x0c [] 0 0 ∷ []
+      ++ Started 2 ∷ quiet 0 0 ∷ quiet 1 1 ∷ End 2 0x0c old_data 1 0 ∷ []
+      ++ Started 3 ∷ End 0 0x0e [] 0 0 ∷ [];
+}
+
+-- once data of cache fast write are destaged they stay
+abbrev pub provisional_write_is_destaged : Run
+provisional_write_is_destaged = record {
+  on = stand 4 2 [] [] (write_zero 0xc2 0 ∷ read_zero 0xc0 0 ∷ []);
+  events = go 3 ++ Work ∷ FailCache ∷ [] ++ go 3;
+  shows =
+      Started 1 ∷ quiet 0 0 ∷ quiet 1 1 ∷ End 2 0x0c [] 0 0 ∷ []
+      ++ Back (Destaged 0) 0 1 ∷ []
+      ++ Started 2 ∷ quiet 0 0 ∷ quiet 1 1 ∷ End 2 0x0c new_data 1 0 ∷ [];
+}
+
+-- a command behind a loss of its own program's data ends with equipment check
+abbrev pub loss_in_its_own_program : Run
+loss_in_its_own_program = record {
+  on = stand 4 2 [] [] ((extent 0x80 0xc2 ∷ locate 1 1 0 0
+      ∷ record { command = 0x85; flags = 0x40; count = 8; given = new_data }
+      ∷ alone 0x03 1 []) ∷ []);
+  events = go 3 ++ FailCache ∷ Step ∷ [];
+  shows =
+      Started 1 ∷ quiet 0 0 ∷ quiet 1 1 ∷ End 2 0x0c [] 0 0 ∷ []
+      ++ End 3 0x0e [] 0 0 ∷ [];
+}
+
+-- a write of another kind on a loose track goes through
+abbrev pub other_write_hardens : Run
+other_write_hardens = record {
+  on = stand 4 2 [] [] (write_zero 0xc2 0 ∷ write_of 0xc0 0 0 (replicate 8 0x55) ∷ read_zero 0xc0 0 ∷ []);
+  events = go 3 ++ go 3 ++ FailCache ∷ [] ++ go 3;
+  shows =
+      Started 1 ∷ quiet 0 0 ∷ quiet 1 1 ∷ End 2 0x0c [] 0 0 ∷ []
+      ++ Started 2 ∷ quiet 0 0 ∷ quiet 1 0 ∷ End 2 0x0c [] 0 1 ∷ []
+      ++ Started 3 ∷ quiet 0 0 ∷ quiet 1 1 ∷ End 2 0x0c (replicate 8 0x55) 1 0 ∷ [];
+}
+
+-- a fast write outlives a power loss
+abbrev pub power_loss_leaves_the_patch : Run
+power_loss_leaves_the_patch = record {
+  on = stand 4 2 [] [] (write_zero 0xc0 0 ∷ read_zero 0xc0 0 ∷ []);
+  events = go 3 ++ Power ∷ [] ++ go 3;
+  shows =
+      Started 1 ∷ quiet 0 0 ∷ quiet 1 1 ∷ End 2 0x0c [] 0 0 ∷ []
+      ++ Started 2 ∷ quiet 0 0 ∷ quiet 1 1 ∷ End 2 0x0c new_data 0 0 ∷ [];
+}
+
+-- data of cache fast write don't outlive it
+abbrev pub power_loss_takes_loose_data : Run
+power_loss_takes_loose_data = record {
+  on = stand 4 2 [] [] (write_zero 0xc2 0 ∷ read_zero 0xc0 0 ∷ []);
+  events = go 3 ++ Power ∷ [] ++ go 3;
+  shows =
+      Started 1 ∷ quiet 0 0 ∷ quiet 1 1 ∷ End 2 0x0c [] 0 0 ∷ []
+      ++ Started 2 ∷ quiet 0 0 ∷ quiet 1 1 ∷ End 2 0x0c old_data 0 0 ∷ [];
+}
+
+-- a joined volume gets every track
+abbrev pub joined_volume_is_copied : Run
+joined_volume_is_copied = record {
+  on = stand 4 2 [] [] [];
+  events = Join [] [] ∷ works 16;
+  shows =
+      copies 15 ++ Back Nothing 0 0 ∷ [];
+}
+
+-- a write to both sides ends with the second one
+abbrev pub pair_is_written_in_two_events : Run
+pair_is_written_in_two_events = record {
+  on = pair [] [] (write_zero 0xc1 0 ∷ []);
+  events = go 3 ++ Second ∷ [];
+  shows =
+      Started 1 ∷ quiet 0 0 ∷ quiet 1 1 ∷ Half 0 0 1 ∷ []
+      ++ End 2 0x0c [] 0 1 ∷ [];
+}
+
+-- the side that took the first part is lost, and the other one has the new data
+abbrev pub side_lost_between_two_parts : Run
+side_lost_between_two_parts = record {
+  on = pair [] [] (write_zero 0xc1 0 ∷ read_zero 0xc4 0 ∷ read_zero 0xc4 0 ∷ []);
+  events = go 3 ++ FailSide A ∷ Second ∷ [] ++ go 3 ++ Replace A ∷ works 16 ++ FailSide B ∷ [] ++ go 3;
+  shows =
+      Started 1 ∷ quiet 0 0 ∷ quiet 1 1 ∷ Half 0 0 1 ∷ []
+      ++ End 2 0x0c [] 0 1 ∷ []
+      ++ Started 2 ∷ quiet 0 0 ∷ quiet 1 1 ∷ End 2 0x0c new_data 1 0 ∷ []
+      ++ copies 15 ++ Back Nothing 0 0 ∷ []
+      ++ Started 3 ∷ quiet 0 0 ∷ quiet 1 1 ∷ End 2 0x0c new_data 1 0 ∷ [];
+}
+
+-- a held side is not written, and is copied when it goes on
+abbrev pub held_side_is_copied_later : Run
+held_side_is_copied_later = record {
+  on = pair [] [] (write_zero 0xc1 0 ∷ []);
+  events = Suspend ∷ [] ++ go 3 ++ Resume ∷ works 2;
+  shows =
+      Started 1 ∷ quiet 0 0 ∷ quiet 1 1 ∷ End 2 0x0c [] 0 1 ∷ Back (Copied 0) 1 1 ∷ Back Nothing 0 0 ∷ [];
+}
+
+-- a reset cuts the program, and the second part goes on by itself
+abbrev pub reset_between_two_parts : Run
+reset_between_two_parts = record {
+  on = pair [] [] (write_zero 0xc1 0 ∷ read_zero 0xc4 0 ∷ []);
+  events = go 3 ++ Reset 1 ∷ Second ∷ [] ++ go 3;
+  shows =
+      Started 1 ∷ quiet 0 0 ∷ quiet 1 1 ∷ Half 0 0 1 ∷ []
+      ++ Finished 0 0 1 ∷ []
+      ++ Started 2 ∷ quiet 0 0 ∷ quiet 1 1 ∷ End 2 0x0c new_data 1 0 ∷ [];
+}
+
+-- a power loss cuts the program, and the other side is copied
+abbrev pub power_lost_between_two_parts : Run
+power_lost_between_two_parts = record {
+  on = pair [] [] (write_zero 0xc1 0 ∷ read_zero 0xc4 0 ∷ []);
+  events = go 3 ++ Power ∷ works 2 ++ FailSide A ∷ [] ++ go 3;
+  shows =
+      Started 1 ∷ quiet 0 0 ∷ quiet 1 1 ∷ Half 0 0 1 ∷ []
+      ++ Back (Copied 0) 1 1 ∷ Back Nothing 0 0 ∷ []
+      ++ Started 2 ∷ quiet 0 0 ∷ quiet 1 1 ∷ End 2 0x0c new_data 1 0 ∷ [];
+}
+
+-- a reset leaves a half write of the background
+abbrev pub reset_leaves_a_background_half_write : Run
+reset_leaves_a_background_half_write = record {
+  on = pair [] [] (write_zero 0xc0 0 ∷ []);
+  events = go 3 ++ Work ∷ Reset 1 ∷ Second ∷ Work ∷ [];
+  shows =
+      Started 1 ∷ quiet 0 0 ∷ quiet 1 1 ∷ End 2 0x0c [] 0 0 ∷ []
+      ++ Back (dids.Half 0) 0 1 ∷ Finished 0 0 1 ∷ Back Nothing 0 0 ∷ [];
+}
+
+-- both sides fail in one write: it is absent
+abbrev pub both_sides_fail : Run
+both_sides_fail = record {
+  on = pair (1 ∷ []) (16 ∷ []) (write_zero 0xc1 0 ∷ []);
+  events = go 3;
+  shows =
+      Started 1 ∷ quiet 0 0 ∷ quiet 1 1 ∷ End 2 0x0e [] 0 2 ∷ [];
+}
+
+-- a loose track is destaged while side A fails, and stays firm
+abbrev pub loose_track_is_destaged_to_the_other_side : Run
+loose_track_is_destaged_to_the_other_side = record {
+  on = pair (1 ∷ []) [] (write_zero 0xc2 0 ∷ read_zero 0xc0 0 ∷ []);
+  events = go 3 ++ Work ∷ FailCache ∷ [] ++ go 3;
+  shows =
+      Started 1 ∷ quiet 0 0 ∷ quiet 1 1 ∷ End 2 0x0c [] 0 0 ∷ []
+      ++ Back (Fault A) 0 2 ∷ []
+      ++ Started 2 ∷ quiet 0 0 ∷ quiet 1 1 ∷ End 2 0x0c new_data 1 0 ∷ [];
+}
+
+-- a loose track is firm and clean once side A has it
+abbrev pub loose_track_is_destaged_to_both_sides : Run
+loose_track_is_destaged_to_both_sides = record {
+  on = pair [] [] (write_zero 0xc2 0 ∷ []);
+  events = go 3 ++ Work ∷ [];
+  shows =
+      Started 1 ∷ quiet 0 0 ∷ quiet 1 1 ∷ End 2 0x0c [] 0 0 ∷ []
+      ++ Back (dids.Half 0) 0 1 ∷ [];
+}
+
+-- a queue may have a track twice
+abbrev pub a_track_is_queued_twice : Run
+a_track_is_queued_twice = record {
+  on = stand 8 0 [] [] (read_zero 0xcc 0 ∷ read_zero 0xcc 1 ∷ []);
+  events = go 3 ++ go 3 ++ works 5;
+  shows =
+      Started 1 ∷ quiet 0 0 ∷ quiet 1 1 ∷ End 2 0x0c old_data 0 0 ∷ []
+      ++ Started 2 ∷ quiet 0 0 ∷ quiet 1 1 ∷ End 2 0x0c old_data 0 0 ∷ []
+      ++ Back (Skipped 1) 0 0 ∷ Back (Staged 2) 1 0 ∷ Back (Skipped 2) 0 0 ∷ Back (Staged 3) 1 0 ∷ Back Nothing 0 0 ∷ [];
+}
+
+-- without an extent a read that finds no record looks twice in its event
+abbrev pub seek_and_read : Run
+seek_and_read = record {
+  on = stand 4 2 [] [] ((record { command = 0x07; flags = 0x40; count = 6; given = 0 ∷ 0 ∷ 0 ∷ 0 ∷ 0 ∷ 0x0d ∷ [] } ∷ alone 0x86 8 []) ∷ []);
+  events = go 2;
+  shows =
+      Started 1 ∷ quiet 0 0 ∷ End 1 0x0e [] 2 0 ∷ [];
+}
+
+-- one program runs at a time, and a path has no more than it was given
+abbrev pub another_path_waits_its_turn : Run
+another_path_waits_its_turn = record {
+  on = stand_with 4 2 [] [] ((read_zero 0xc0 0 ∷ []) ∷ (read_zero 0xc0 0 ∷ []) ∷ [] ∷ [] ∷ []);
+  events = Start 1 ∷ Start 2 ∷ steps_of 3 ++ Start 2 ∷ Start 1 ∷ steps_of 3 ++ Start 1 ∷ [];
+  shows =
+      Started 1 ∷ Refused (Busy 1) ∷ quiet 0 0 ∷ quiet 1 1 ∷ End 2 0x0c old_data 0 0 ∷ []
+      ++ Started 1 ∷ Refused (Busy 2) ∷ quiet 0 0 ∷ quiet 1 0 ∷ End 2 0x0c old_data 0 0 ∷ Refused PlanDone ∷ [];
+}
+
+-- a group holds the device: its paths are admitted, and no other, until one takes it by force; all is free behind its release
+abbrev pub group_holds_the_device : Run
+group_holds_the_device = record {
+  on = stand_with 4 2 [] [] group_plans;
+  events = go_on 1 1 ++ go_on 2 1 ++ go_on 1 1 ++ go_on 1 1 ++ go_on 2 1 ++ Start 4 ∷ go_on 3 1 ++ Start 2 ∷ go_on 3 1 ++ go_on 4 1;
+  shows =
+      Started 1 ∷ quiet 0 0 ∷ Started 1 ∷ quiet 0 0 ∷ Started 2 ∷ End 0 0x0c (replicate 32 0) 0 0 ∷ []
+      ++ Started 3 ∷ End 0 0x0c (0xf8 ∷ group_name) 0 0 ∷ Started 2 ∷ quiet 0 0 ∷ Refused (Reserved (Group (record { bytes = group_name }))) ∷ []
+      ++ Started 1 ∷ End 0 0x0c (replicate 32 0) 0 0 ∷ Refused (Reserved (Path 3)) ∷ []
+      ++ Started 2 ∷ End 0 0x0c (replicate 32 0) 0 0 ∷ Started 1 ∷ quiet 0 0 ∷ [];
+}
+
+-- where the holder has no program left, no path can go on
+abbrev pub no_path_can_go_on : Run
+no_path_can_go_on = record {
+  on = stand_with 4 2 [] [] ([] ∷ (alone 0x03 1 [] ∷ []) ∷ (alone 0x14 32 [] ∷ []) ∷ [] ∷ []);
+  events = go_on 3 1 ++ Start 2 ∷ [];
+  shows =
+      Started 1 ∷ End 0 0x0c (replicate 32 0) 0 0 ∷ Refused (Shut (Path 3)) ∷ [];
+}
+
+-- a power loss frees the device
+abbrev pub power_loss_frees_the_device : Run
+power_loss_frees_the_device = record {
+  on = stand_with 4 2 [] [] ((alone 0xb4 32 [] ∷ []) ∷ (alone 0x03 1 [] ∷ []) ∷ [] ∷ [] ∷ []);
+  events = go_on 1 1 ++ Start 2 ∷ Power ∷ go_on 2 1;
+  shows =
+      Started 1 ∷ End 0 0x0c (replicate 32 0) 0 0 ∷ Refused (Shut (Path 1)) ∷ Started 1 ∷ quiet 0 0 ∷ [];
+}
+
+-- a note of a track that the device hasn't, or whose frame is modified, changes nothing
+abbrev pub note_of_a_foreign_track : Run
+note_of_a_foreign_track = record {
+  on = stand 4 2 [] [] (write_zero 0xc0 0 ∷ read_zero 0xc0 0 ∷ []);
+  events = go 3 ++ Note (900 ∷ 0 ∷ []) ∷ go 3;
+  shows =
+      Started 1 ∷ quiet 0 0 ∷ quiet 1 1 ∷ End 2 0x0c [] 0 0 ∷ []
+      ++ Started 2 ∷ quiet 0 0 ∷ quiet 1 0 ∷ End 2 0x0c new_data 0 0 ∷ [];
+}
+
+-- a note that is older than the frame drops it, while the pool still lists it
+abbrev pub old_note_drops_a_new_frame : Run
+old_note_drops_a_new_frame = record {
+  on = stand 4 2 [] [] (read_zero 0xc0 0 ∷ read_zero 0xc0 0 ∷ []);
+  events = go 3 ++ Note (0 ∷ []) ∷ go 3;
+  shows =
+      Started 1 ∷ quiet 0 0 ∷ quiet 1 1 ∷ End 2 0x0c old_data 0 0 ∷ []
+      ++ Started 2 ∷ quiet 0 0 ∷ quiet 1 1 ∷ End 2 0x0c old_data 0 0 ∷ [];
+}
+
+-- while another track of the command is loose, both sides are written in one event
+abbrev pub no_half_write_beside_a_loose_track : Run
+no_half_write_beside_a_loose_track = record {
+  on = pair [] [] (format_one 0xc1 1 ∷ write_zero 0xc2 0 ∷ write_onward 0xc1 ∷ []);
+  events = go 3 ++ Second ∷ [] ++ go 3 ++ go 3;
+  shows =
+      Started 1 ∷ quiet 0 0 ∷ quiet 1 1 ∷ Half 1 0 1 ∷ End 2 0x0c [] 0 1 ∷ []
+      ++ Started 2 ∷ quiet 0 0 ∷ quiet 1 1 ∷ End 2 0x0c [] 0 0 ∷ []
+      ++ Started 3 ∷ quiet 0 0 ∷ quiet 1 0 ∷ End 2 0x0c [] 0 2 ∷ [];
+}
+
+-- a command whose read of side A fails reads side B and writes it
+abbrev pub failed_read_and_write_of_the_other_side : Run
+failed_read_and_write_of_the_other_side = record {
+  on = pair_with (17 ∷ []) [] [] (format_one 0xc1 1 ∷ write_one ∷ write_onward 0xc1 ∷ []);
+  events = go 3 ++ Second ∷ Suspend ∷ [] ++ go 3 ++ go 3;
+  shows =
+      Started 1 ∷ quiet 0 0 ∷ quiet 1 1 ∷ Half 1 0 1 ∷ End 2 0x0c [] 0 1 ∷ []
+      ++ Started 2 ∷ quiet 0 0 ∷ quiet 1 0 ∷ End 2 0x0c [] 0 1 ∷ []
+      ++ Started 3 ∷ quiet 0 0 ∷ quiet 1 0 ∷ End 2 0x0c [] 2 1 ∷ [];
+}
+
+-- a power loss leaves the patch of a track that was being destaged, which is recovered
+abbrev pub power_lost_in_a_background_half_write : Run
+power_lost_in_a_background_half_write = record {
+  on = pair [] [] (write_zero 0xc0 0 ∷ []);
+  events = go 3 ++ Work ∷ Power ∷ Work ∷ Second ∷ Work ∷ [];
+  shows =
+      Started 1 ∷ quiet 0 0 ∷ quiet 1 1 ∷ End 2 0x0c [] 0 0 ∷ []
+      ++ Back (dids.Half 0) 0 1 ∷ Back (dids.Half 0) 1 1 ∷ Finished 0 0 1 ∷ Back Nothing 0 0 ∷ [];
+}
+
+-- a power loss leaves what side A has of a write that was cut
+abbrev pub power_lost_in_a_cut_half_write : Run
+power_lost_in_a_cut_half_write = record {
+  on = pair [] [] (write_zero 0xc1 0 ∷ []);
+  events = go 3 ++ Reset 1 ∷ Power ∷ works 2;
+  shows =
+      Started 1 ∷ quiet 0 0 ∷ quiet 1 1 ∷ Half 0 0 1 ∷ []
+      ++ Back (Copied 0) 1 1 ∷ Back Nothing 0 0 ∷ [];
+}
