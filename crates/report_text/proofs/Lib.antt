@@ -1,1 +1,6 @@
 pub mod Spaced
+mod Found
+mod Cut
+mod NumberAgain
+mod AnswersAgain
+mod LinesAgain

@@ -1,13 +1,22 @@
-//! The lines of a report, of a history and of a summary: what each of them is, and how it is written.
+//! The lines of a report, of a history and of a summary: what each of them is, how it is written, and how it is
+//! read back.
 #![tactic(auto)]
 
 mod answer_words;
 mod answers;
 mod ends;
+mod fault;
 mod keyword;
+mod law;
 mod line;
+mod numbers;
 mod order;
+mod places;
+mod read;
+mod read_answers;
+mod read_lines;
 mod report_lines;
+mod spelled;
 mod summary;
 #[cfg(test)]
 mod tests;
@@ -17,9 +26,12 @@ pub use answers::{
     BackAnswer, DeviceTotals, HowOver, LooseAnswer, OrderAnswer, OrderFault, StartAnswer, SumOf,
 };
 pub use ends::put_end;
+pub use fault::{LineError, LineFault};
 pub use keyword::{Keyword, keyword_text};
+pub use law::reads_back;
 pub use line::{EndLine, ReportLine};
 pub use order::Order;
+pub use read::read_line;
 pub use report_lines::{LineSpelling, put_data};
 pub use summary::{Summary, write_summary};
 pub use words::Words;
