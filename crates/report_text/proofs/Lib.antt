@@ -4,3 +4,4 @@ mod Cut
 mod NumberAgain
 mod AnswersAgain
 mod LinesAgain
+mod KeptLines

@@ -8,3 +8,5 @@ pub mod Places
 pub mod Answers
 pub mod Reading
 pub mod Ranges
+pub mod Record
+pub mod Report

@@ -2,7 +2,9 @@ ghost use Rattle.std.specs.Prelude.{◌≡◌};
 
 use crate::*;
 use ckd_outside::{LineBuffer, MemSink, flush, put_all};
-use ckd_types::{DeviceNo, GroupId, Note, Owner, PathNo, Sense, Side, TrackNo, UnitStatus};
+use ckd_types::{
+    Bytes, CommandEnd, DeviceNo, GroupId, Note, Owner, PathNo, Sense, Side, TrackNo, UnitStatus,
+};
 use std::test::Fail;
 
 fn path() -> PathNo
@@ -170,6 +172,78 @@ fn a_sense_line_has_all_bytes(rt: HostRuntime) -> Result<(), Fail> {
     assert_eq!(rt; flush(&mut sink, &mut buffer), Ok(()));
     let wanted =
         "SENSE 0008000000000000000000000000000000000000000000000000000000000000\nDATA 0AF9\n";
+    assert_eq!(rt; sink.bytes(), wanted.as_bytes());
+    Ok(())
+}
+
+const REPORT: &str =
+    "START 2 10 DONE\nEND 2 10 1 0 0E 0 -\nDATA AB01\nSENSE 0008000000000000000000000000000000000000000000000000000000000000\nOVER 2 10 1 FULL\nIO 1 0\nIO 18446744073709551615 0\nDATA 7F\nDEVICE 10 READS 5 WRITES 6 LOST 2\nLOST 10 3\nLOST 10 17\nFRAME 10 17 MODIFIED\nFINISH\n";
+
+#[test]
+fn a_report_behind_its_run(rt: HostRuntime) -> Result<(), Fail> {
+    let mut sense = [0; 32];
+    sense[1] = 0x08;
+    let end = CommandEnd {
+        index: 0,
+        status: UnitStatus(0x0e),
+        residual: 0,
+        note: Note::Plain,
+        sent: Bytes::from_slice(rt.alloc(), &[0xab, 0x01])?,
+        sense: Some(Sense::new(sense)),
+        over: true,
+    };
+    let mut record = RunRecord::new(rt.alloc());
+    let start = ReportLine::Start(path(), device(), StartAnswer::Done);
+    assert_eq!(rt; record.push(start), Ok(()));
+    assert_eq!(rt; record.push_end(path(), device(), 1, &end), Ok(()));
+    for reads in [1, u64::MAX] {
+        assert_eq!(rt; record.push(ReportLine::Io { reads, writes: 0 }), Ok(()));
+    }
+    assert_eq!(rt; record.push_data(&[0x7f]), Ok(()));
+    let lost = [TrackNo::new(3).unwrap(), track()];
+    let devices = [DeviceEnd {
+        device: device(),
+        totals: DeviceTotals::Calls {
+            reads: 5,
+            writes: 6,
+            lost: 2,
+        },
+        lost: &lost,
+    }];
+    let frames = [FrameEnd {
+        device: device(),
+        track: track(),
+        modified: true,
+    }];
+    let mut sink = MemSink::new(rt.alloc(), 1000, 1000, &[])?;
+    assert_eq!(rt; write_report(&mut sink, &record, &devices, &frames), Ok(()));
+    assert_eq!(rt; sink.bytes(), REPORT.as_bytes());
+    Ok(())
+}
+
+#[test]
+fn a_history_of_a_device(rt: HostRuntime) -> Result<(), Fail> {
+    let mut record = RunRecord::new(rt.alloc());
+    assert_eq!(rt; record.push(ReportLine::Fresh(device())), Ok(()));
+    let left = [LeftPrograms {
+        path: path(),
+        device: device(),
+        programs: 8,
+    }];
+    let lost = [track()];
+    let end = DeviceEnd {
+        device: device(),
+        totals: DeviceTotals::Lost(1),
+        lost: &lost,
+    };
+    let devices = [DeviceHistory {
+        record: &record,
+        left: &left,
+        end,
+    }];
+    let mut sink = MemSink::new(rt.alloc(), 1000, 1000, &[])?;
+    assert_eq!(rt; write_history(&mut sink, &devices, 9), Ok(()));
+    let wanted = "FRESH 10\nLEFT 2 10 8\nDEVICE 10 LOST 1\nLOST 10 17\nUNUSED 9\nFINISH\n";
     assert_eq!(rt; sink.bytes(), wanted.as_bytes());
     Ok(())
 }
