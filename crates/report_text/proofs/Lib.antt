@@ -5,3 +5,4 @@ mod NumberAgain
 mod AnswersAgain
 mod LinesAgain
 mod KeptLines
+mod DataPieces

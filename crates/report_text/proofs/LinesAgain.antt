@@ -1,10 +1,11 @@
 -- The text of a line is read as that line.
-use Rattle.std.proofs.Common.{◌≡◌, ◌∷◌, [], refl, true, false, Bool, Some, Ok, ap, ◌∙◌, rules}
+use Rattle.std.proofs.Common.{◌≡◌, ◌∷◌, [], refl, true, false, Bool, Some, Result, Ok, ap, ◌∙◌, rules}
 use Rattle.std.specs.Prelude.{List, ℕ}
 use Rattle.std.specs.Str.{bytes_eq}
 use Rattle.report_text.specs.declared.answers.SumOf.{SumOf}
 use Rattle.report_text.specs.declared.answers.SumOf.TheVariants as sums
 use Rattle.report_text.specs.declared.answers.OrderAnswer.{OrderAnswer}
+use Rattle.report_text.specs.declared.fault.LineFault.{LineFault}
 use Rattle.report_text.specs.declared.line.ReportLine.{ReportLine}
 use Rattle.report_text.specs.declared.line.ReportLine.TheVariants as lines
 use Rattle.report_text.specs.declared.order.Order.{Order}
@@ -174,9 +175,15 @@ unfolding text_of cut_words
 cut_again line h =
     let s = solid line h in words_cut (keyword_text (key_of line)) (words_of line) s.first s.others
 
+one_line : (line other : ReportLine) (r : Result ReportLine LineFault) → r ≡ Ok line → r ≡ Ok other → line ≡ other
+one_line line other r e f = cc
+
 pub line_again : (line : ReportLine) → IsLine line → line_of (text_of line) ≡ Ok line
 unfolding line_of
 line_again line h =
     ap (λ (ws : List (List ℕ)). line_by ws >>= if_text (text_of line)) (cut_again line h)
     ∙ ap (λ r. r >>= if_text (text_of line)) (again line h)
     ∙ its_text line
+
+pub lines_apart : (line other : ReportLine) → IsLine line → IsLine other → text_of line ≡ text_of other → line ≡ other
+lines_apart line other h g same = one_line line other (line_of (text_of line)) (line_again line h) (ap line_of same ∙ line_again other g)

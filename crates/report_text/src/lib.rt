@@ -4,6 +4,7 @@
 
 mod answer_words;
 mod answers;
+mod data;
 mod ends;
 mod fault;
 mod history;
@@ -28,6 +29,7 @@ mod words;
 pub use answers::{
     BackAnswer, DeviceTotals, HowOver, LooseAnswer, OrderAnswer, OrderFault, StartAnswer, SumOf,
 };
+pub use data::{DATA_HEAD, are_digits_of, data_in_pieces};
 pub use ends::put_end;
 pub use fault::{LineError, LineFault};
 pub use history::{DeviceHistory, LeftPrograms, write_history};

@@ -247,3 +247,11 @@ fn a_history_of_a_device(rt: HostRuntime) -> Result<(), Fail> {
     assert_eq!(rt; sink.bytes(), wanted.as_bytes());
     Ok(())
 }
+
+#[test]
+fn digits_of_bytes(rt: HostRuntime) -> Result<(), Fail> {
+    assert_eq!(rt; are_digits_of(b"0AF9", &[0x0a, 0xf9]), true);
+    assert_eq!(rt; are_digits_of(b"0Af9", &[0x0a, 0xf9]), false);
+    assert_eq!(rt; are_digits_of(b"0AF", &[0x0a, 0xf9]), false);
+    Ok(())
+}
