@@ -35,7 +35,8 @@ use Rattle.device_defs.specs.Events.{second, background, lose}
 use Rattle.device_defs.specs.Image.{level_bytes, image}
 use Rattle.device_defs.specs.Losses.{over, settled, side_lost, cache_lost, store_lost, all_firm_told}
 use Rattle.device_defs.specs.Marks.{no_counts}
-use Rattle.device_defs.specs.Orders.{join, replace, hold as hold_b, resume}
+use Rattle.device_defs.specs.Orders.{join, split, replace, hold as hold_b, resume, restore, lend}
+use Rattle.device_defs.specs.Peek.{Peeked, peek}
 use Rattle.device_defs.specs.Owed.{waits, hear, all_told}
 use Rattle.device_defs.specs.Second.{second_part}
 use Rattle.device_defs.specs.Start.{start_fault, start, next_ordinal}
@@ -60,6 +61,10 @@ use Rattle.device_defs.proofs.Stand.{
   Replace,
   Suspend,
   Resume,
+  Split,
+  Lend,
+  Restore,
+  Look,
   Note,
   Run,
   shows_of,
@@ -68,6 +73,7 @@ use Rattle.device_defs.proofs.Stand.{
   step_line,
   second_line,
   back_line,
+  look_line,
   all_happen,
   steps_of,
   works,
@@ -98,6 +104,12 @@ use Rattle.device_defs.proofs.Runs.{
   failed_read_and_write_of_the_other_side,
   power_lost_in_a_background_half_write,
   power_lost_in_a_cut_half_write,
+  looks_past_the_channel,
+  look_fails,
+  look_at_a_half_write,
+  lent_and_restored,
+  split_pair_writes_once,
+  look_at_a_loose_track,
 }
 
 -- the pool and the calls that fail, and what each side holds
@@ -205,6 +217,9 @@ after_second s o = record { device = o.state; world = o.world; lines = s.lines +
 abbrev after_back : Own → Played OwnDevice (Option Did) → Own
 after_back s o = record { device = o.state; world = o.world; lines = s.lines ++ back_line o.answer o.world.told ∷ [] }
 
+abbrev after_look : Own → Played OwnDevice (Option Peeked) → Own
+after_look s o = record { device = o.state; world = o.world; lines = s.lines ++ look_line o.answer o.world.told ∷ [] }
+
 abbrev after_loss : Own → Played OwnDevice (Unit {0}) → Own
 after_loss s o = record s { device = o.state; world = o.world }
 
@@ -235,7 +250,12 @@ happens s (Join reads writes) =
 happens s (Replace side) = record s { device = replace s.device side; world = replaced s.world side }
 happens s Suspend = record s { device = hold_b s.device }
 happens s Resume = record s { device = resume s.device }
-happens s (Note tracks) = s
+happens s Split = record s { device = split s.device }
+happens s (Lend to) = after_loss s (play (lend contents s.device to) (quietly s.world))
+happens s Restore = record s { device = restore s.device; world = replaced s.world A }
+happens s (Look t) = after_look s (play (peek contents s.device t) (quietly s.world))
+happens s (Note tracks) =
+    record s { world = record s.world { told = record s.world.told { pool = record s.world.told.pool { notes = tracks ∷ replicate 15 [] } } } }
 
 unfoldable all_do : Own → List Event → Own
 all_do s [] = s
@@ -288,3 +308,13 @@ unfolding all_do play all_happen steps_of works copies hold answer after is_in w
     write_done through write second_part work look follow command second background lose start_fault start reset
     power
 own_pair_runs = refl
+
+-- looks past the channel, and orders
+own_look_runs : OwnShow (
+    looks_past_the_channel ∷ look_fails ∷ look_at_a_half_write ∷ lent_and_restored ∷ split_pair_writes_once ∷ look_at_a_loose_track ∷ [])
+unfolding all_do play all_happen steps_of works copies hold answer after is_in with_number less_one counted
+    least count_below command_of empty_bytes areas_at zero_at next_at records_at reading over settled side_lost
+    cache_lost store_lost all_firm_told waits hear all_told level_bytes image choose write_first write_second
+    write_done through write second_part work look follow command second background lose start_fault start reset
+    power lend peek
+own_look_runs = refl

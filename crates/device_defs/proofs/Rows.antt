@@ -15,6 +15,8 @@ use Rattle.device_defs.specs.Cutting.{reset, power}
 use Rattle.device_defs.specs.Events.{second, background, lose}
 use Rattle.device_defs.specs.Image.{level_bytes, image}
 use Rattle.device_defs.specs.Losses.{over, settled, side_lost, cache_lost, store_lost, all_firm_told}
+use Rattle.device_defs.specs.Orders.{lend}
+use Rattle.device_defs.specs.Peek.{peek}
 use Rattle.device_defs.specs.Owed.{waits, hear, all_told}
 use Rattle.device_defs.specs.Second.{second_part}
 use Rattle.device_defs.specs.Start.{start_fault, start}
@@ -89,6 +91,12 @@ use Rattle.device_defs.proofs.Runs.{
   failed_read_and_write_of_the_other_side,
   power_lost_in_a_background_half_write,
   power_lost_in_a_cut_half_write,
+  looks_past_the_channel,
+  look_fails,
+  look_at_a_half_write,
+  lent_and_restored,
+  split_pair_writes_once,
+  look_at_a_loose_track,
 }
 
 -- one volume
@@ -135,6 +143,15 @@ unfolding all_happen steps_of works hold answer after is_in with_number less_one
     choose write_first write_second write_done through write second_part work look follow command second background
     lose start_fault start reset power copies
 path_runs = refl
+
+-- looks past the channel, and orders
+look_runs : Show (
+    looks_past_the_channel ∷ look_fails ∷ look_at_a_half_write ∷ lent_and_restored ∷ split_pair_writes_once ∷ look_at_a_loose_track ∷ [])
+unfolding all_happen steps_of works hold answer after is_in with_number less_one counted least count_below
+    command_of over settled side_lost cache_lost store_lost all_firm_told waits hear all_told level_bytes image
+    choose write_first write_second write_done through write second_part work look follow command second background
+    lose start_fault start reset power copies lend peek
+look_runs = refl
 
 -- What some of them leave
 

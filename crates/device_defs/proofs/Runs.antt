@@ -5,7 +5,8 @@ use Rattle.ckd_types.specs.declared.paths.Owner.TheVariants.{Group, Path}
 use Rattle.ckd_types.specs.declared.paths.Side.TheVariants.{A, B}
 use Rattle.device_defs.specs.declared.answers.Did.TheVariants.{Nothing, Recovered, Copied, Staged, Skipped, Destaged, Fault}
 use Rattle.device_defs.specs.declared.answers.Did.TheVariants as dids
-use Rattle.device_defs.specs.declared.answers.StartFault.TheVariants.{Busy, PlanDone, Shut, Reserved}
+use Rattle.device_defs.specs.declared.answers.StartFault.TheVariants.{Secondary, Busy, PlanDone, Shut, Reserved}
+use Rattle.device_defs.specs.Peek.{Lost, Fault as LookFault}
 use Rattle.device_defs.proofs.Stand.{
   Back,
   End,
@@ -51,6 +52,12 @@ use Rattle.device_defs.proofs.Stand.{
   write_one,
   write_onward,
   write_zero,
+  Look,
+  Lend,
+  Restore,
+  Split,
+  Seen,
+  Unseen,
 }
 
 -- of one frame: a track is read once while it has the frame
@@ -446,4 +453,59 @@ power_lost_in_a_cut_half_write = record {
   shows =
       Started 1 ∷ quiet 0 0 ∷ quiet 1 1 ∷ Half 0 0 1 ∷ []
       ++ Back (Copied 0) 1 1 ∷ Back Nothing 0 0 ∷ [];
+}
+
+-- a look past the channel reads a track with its patch and loads nothing; a clean frame is read no more
+abbrev pub looks_past_the_channel : Run
+looks_past_the_channel = record {
+  on = stand 4 2 [] [] (write_zero 0xc0 0 ∷ []);
+  events = go 3 ++ FailCache ∷ Look 0 ∷ Look 0 ∷ Work ∷ FailSide A ∷ Look 0 ∷ Look 1 ∷ [];
+  shows =
+      Started 1 ∷ quiet 0 0 ∷ quiet 1 1 ∷ End 2 0x0c [] 0 0 ∷ Seen new_data 1 0 ∷ Seen new_data 1 0
+      ∷ Back (Recovered 0) 1 1 ∷ Unseen Lost 0 0 ∷ Unseen Lost 0 0 ∷ [];
+}
+
+-- where a read fails a look past the channel says on which side; a volume that is alone isn't failed by that
+abbrev pub look_fails : Run
+look_fails = record {
+  on = stand 4 2 (1 ∷ []) [] [];
+  events = Look 3 ∷ Look 3 ∷ [];
+  shows = Unseen (LookFault A) 1 0 ∷ Seen old_data 1 0 ∷ [];
+}
+
+-- a half write of the background has the track where side A, which took it, is lost
+abbrev pub look_at_a_half_write : Run
+look_at_a_half_write = record {
+  on = pair [] [] (write_zero 0xc0 0 ∷ []);
+  events = go 3 ++ Work ∷ FailCache ∷ FailSide A ∷ Look 0 ∷ Look 1 ∷ Second ∷ Look 0 ∷ [];
+  shows =
+      Started 1 ∷ quiet 0 0 ∷ quiet 1 1 ∷ End 2 0x0c [] 0 0 ∷ Back (dids.Half 0) 0 1 ∷ Seen new_data 0 0
+      ∷ Seen old_data 1 0 ∷ Finished 0 0 1 ∷ Seen new_data 1 0 ∷ [];
+}
+
+-- a device that is lent starts nothing, and has an empty volume when it comes back
+abbrev pub lent_and_restored : Run
+lent_and_restored = record {
+  on = stand 4 2 [] [] (write_zero 0xc0 0 ∷ read_zero 0xc0 0 ∷ []);
+  events = go 3 ++ Lend 3 ∷ Start 1 ∷ Restore ∷ go 3;
+  shows =
+      Started 1 ∷ quiet 0 0 ∷ quiet 1 1 ∷ End 2 0x0c [] 0 0 ∷ Refused (Secondary 3) ∷ Started 2 ∷ quiet 0 0 ∷ quiet 1 1
+      ∷ End 2 0x0c old_data 0 0 ∷ [];
+}
+
+-- once side B left, a write is one event again
+abbrev pub split_pair_writes_once : Run
+split_pair_writes_once = record {
+  on = pair [] [] (write_zero 0xc1 0 ∷ []);
+  events = Split ∷ go 3;
+  shows = Started 1 ∷ quiet 0 0 ∷ quiet 1 1 ∷ End 2 0x0c [] 0 1 ∷ [];
+}
+
+-- a look past the channel takes no notes; a track with data of cache fast write is what its frame has
+abbrev pub look_at_a_loose_track : Run
+look_at_a_loose_track = record {
+  on = stand 4 2 [] [] (write_zero 0xc2 0 ∷ []);
+  events = go 3 ++ Look 0 ∷ FailCache ∷ Look 0 ∷ [];
+  shows =
+      Started 1 ∷ quiet 0 0 ∷ quiet 1 1 ∷ End 2 0x0c [] 0 0 ∷ Seen new_data 0 0 ∷ Seen old_data 1 0 ∷ [];
 }

@@ -5,6 +5,7 @@ use Rattle.ckd_types.specs.declared.channel.Ccw.{Ccw}
 use Rattle.ckd_types.specs.declared.channel.CommandEnd.{CommandEnd}
 use Rattle.ckd_types.specs.declared.geometry.Geometry.TheVariants.{D3390}
 use Rattle.ckd_types.specs.declared.paths.Side.{Side}
+use Rattle.ckd_types.specs.declared.record.Record.{Record}
 use Rattle.loss_model.specs.declared.Loss.TheVariants as losses
 use Rattle.plain_defs.specs.declared.journal.Acted.{Acted}
 use Rattle.plain_defs.specs.declared.journal.How.{How}
@@ -25,7 +26,8 @@ use Rattle.device_defs.specs.Contents.{by_plain}
 use Rattle.device_defs.specs.Cutting.{reset, power}
 use Rattle.device_defs.specs.Events.{second, background, lose}
 use Rattle.device_defs.specs.Marks.{MarksDevice, new_device}
-use Rattle.device_defs.specs.Orders.{join, replace, hold as hold_b, resume}
+use Rattle.device_defs.specs.Orders.{join, split, replace, hold as hold_b, resume, restore, lend}
+use Rattle.device_defs.specs.Peek.{Peeked, Track, peek}
 use Rattle.device_defs.specs.Start.{start_fault, start, next_ordinal}
 
 -- reads and writes are the last two numbers of each
@@ -37,6 +39,8 @@ pub data Line : Type 0 where
   Finished : ℕ → ℕ → ℕ → Line
   Unwritten : ℕ → ℕ → ℕ → Line
   Back : Did → ℕ → ℕ → Line
+  Seen : List ℕ → ℕ → ℕ → Line  -- the data of record 0, at a look past the channel
+  Unseen : Peeked → ℕ → ℕ → Line
   Lacking : Line
 
 pub record Stand : Type 0 where
@@ -91,6 +95,18 @@ after_second s o = record { device = o.state; told = o.told; lines = s.lines ++ 
 abbrev pub after_back : Stand → Outcome MarksDevice (Option Did) → Stand
 after_back s o = record { device = o.state; told = o.told; lines = s.lines ++ back_line o.answer o.told ∷ [] }
 
+abbrev pub body_of : List Record → List ℕ
+body_of [] = []
+body_of (r ∷ records) = r.body
+
+abbrev pub look_line : Option Peeked → Told → Line
+look_line (Some (Track i)) w = Seen (body_of i.track.records) w.reads w.writes
+look_line (Some p) w = Unseen p w.reads w.writes
+look_line None w = Lacking
+
+abbrev pub after_look : Stand → Outcome MarksDevice (Option Peeked) → Stand
+after_look s o = record { device = o.state; told = o.told; lines = s.lines ++ look_line o.answer o.told ∷ [] }
+
 -- an event without a line
 abbrev pub after_loss : Stand → Outcome MarksDevice (Unit {0}) → Stand
 after_loss s o = record s { device = o.state; told = o.told }
@@ -113,6 +129,10 @@ pub data Event : Type 0 where
   Replace : Side → Event
   Suspend : Event
   Resume : Event
+  Split : Event  -- side B leaves
+  Lend : ℕ → Event
+  Restore : Event
+  Look : ℕ → Event
   Note : List ℕ → Event  -- the pool has these notes for the device
 
 abbrev pub with_pool : Stand → Pool → Told
@@ -132,6 +152,10 @@ happens s (Join reads writes) = record s { device = join s.device; told = record
 happens s (Replace side) = record s { device = replace s.device side }
 happens s Suspend = record s { device = hold_b s.device }
 happens s Resume = record s { device = resume s.device }
+happens s Split = record s { device = split s.device }
+happens s (Lend to) = after_loss s (hold true (lend by_plain s.device to) (from_zero s.told))
+happens s Restore = record s { device = restore s.device; told = record s.told { a = new_calls [] [] } }
+happens s (Look t) = after_look s (hold true (peek by_plain s.device t) (from_zero s.told))
 happens s (Note tracks) = record s { told = record s.told { pool = record s.told.pool { notes = tracks ∷ replicate 15 [] } } }
 
 unfoldable pub all_happen : Stand → List Event → Stand
