@@ -18,7 +18,19 @@ use Rattle.device_outside.specs.Disk.{empty_bytes, empty_contents}
 use Rattle.device_outside.specs.Interaction.{Interaction, Done, Try, Ask, Read, Write, Tell}
 use Rattle.device_outside.specs.Keeper.{reply}
 use Rattle.device_outside.specs.Lists.{is_in, with_number, less_one}
-use Rattle.device_outside.specs.Pool.{Pool, Call, WantSlot, AnswerTo, answer, after, cache_failed, store_failed, power_lost}
+use Rattle.device_outside.specs.Pool.{
+  Pool,
+  Call,
+  WantSlot,
+  AnswerTo,
+  answer,
+  after,
+  cache_failed,
+  store_failed,
+  cache_repaired,
+  store_repaired,
+  power_lost,
+}
 use Rattle.device_outside.specs.Told.{Told, calls_of, read_fails, write_fails, read_counted, write_counted, hold}
 use Rattle.device_outside.specs.Volume.{counted}
 use Rattle.device_defs.specs.declared.answers.Did.{Did}
@@ -56,6 +68,8 @@ use Rattle.device_defs.proofs.Stand.{
   FailCache,
   FailStore,
   FailSide,
+  RepairCache,
+  RepairStore,
   Power,
   Join,
   Replace,
@@ -74,6 +88,7 @@ use Rattle.device_defs.proofs.Stand.{
   second_line,
   back_line,
   look_line,
+  repair_line,
   all_happen,
   steps_of,
   works,
@@ -110,6 +125,18 @@ use Rattle.device_defs.proofs.Runs.{
   lent_and_restored,
   split_pair_writes_once,
   look_at_a_loose_track,
+  frame_of_a_failed_read_goes_last,
+  slot_of_a_failed_read_comes_late,
+  half_writes_frame_waits,
+  half_writes_patch_waits,
+  old_note_of_its_own_event,
+  held_side_still_has_the_track,
+  copies_from_a_held_side,
+  copy_hardens_nothing,
+  denied_frames_are_queued_too,
+  failed_miss_queues_nothing,
+  lent_device_keeps_its_loose_data,
+  no_side_is_up,
 }
 
 -- the pool and the calls that fail, and what each side holds
@@ -235,6 +262,10 @@ abbrev replaced : World → Side → World
 replaced w A = record w { a = empty_contents 15; told = record w.told { a = new_calls [] [] } }
 replaced w B = record w { b = empty_contents 15; told = record w.told { b = new_calls [] [] } }
 
+abbrev repaired_with : Own → Pool → Own
+repaired_with s p =
+    record s { world = record s.world { told = record s.world.told { pool = p } }; lines = s.lines ++ repair_line s.world.told.pool ∷ [] }
+
 abbrev happens : Own → Event → Own
 happens s (Start path) = starts_by s path (start_fault s.device path)
 happens s Step = after_step s (play (command contents s.device) (quietly s.world))
@@ -244,6 +275,8 @@ happens s (Reset path) = after_loss s (play (reset contents s.device path) (quie
 happens s FailCache = after_loss s (play (lose contents s.device losses.Cache) (with_pool s.world (cache_failed s.world.told.pool)))
 happens s FailStore = after_loss s (play (lose contents s.device losses.Store) (with_pool s.world (store_failed s.world.told.pool)))
 happens s (FailSide side) = after_loss s (play (lose contents s.device (losses.Side side)) (quietly s.world))
+happens s RepairCache = repaired_with s (cache_repaired s.world.told.pool)
+happens s RepairStore = repaired_with s (store_repaired s.world.told.pool)
 happens s Power = after_loss s (play (power contents s.device) (with_pool s.world (power_lost s.world.told.pool)))
 happens s (Join reads writes) =
     record s { device = join s.device; world = record s.world { told = record s.world.told { b = new_calls reads writes } } }
@@ -318,3 +351,16 @@ unfolding all_do play all_happen steps_of works copies hold answer after is_in w
     write_done through write second_part work look follow command second background lose start_fault start reset
     power lend peek
 own_look_runs = refl
+
+-- in which order things are told, and what is left where
+own_order_runs : OwnShow (
+    frame_of_a_failed_read_goes_last ∷ slot_of_a_failed_read_comes_late ∷ half_writes_frame_waits ∷
+    half_writes_patch_waits ∷ old_note_of_its_own_event ∷ held_side_still_has_the_track ∷ copies_from_a_held_side
+    ∷ copy_hardens_nothing ∷ denied_frames_are_queued_too ∷ failed_miss_queues_nothing ∷
+    lent_device_keeps_its_loose_data ∷ no_side_is_up ∷ [])
+unfolding all_do play all_happen steps_of works copies hold answer after is_in with_number less_one counted
+    least count_below command_of empty_bytes areas_at zero_at next_at records_at reading over settled side_lost
+    cache_lost store_lost all_firm_told waits hear all_told level_bytes image choose write_first write_second
+    write_done through write second_part work look follow command second background lose start_fault start reset
+    power lend peek
+own_order_runs = refl

@@ -97,6 +97,18 @@ use Rattle.device_defs.proofs.Runs.{
   lent_and_restored,
   split_pair_writes_once,
   look_at_a_loose_track,
+  frame_of_a_failed_read_goes_last,
+  slot_of_a_failed_read_comes_late,
+  half_writes_frame_waits,
+  half_writes_patch_waits,
+  old_note_of_its_own_event,
+  held_side_still_has_the_track,
+  copies_from_a_held_side,
+  copy_hardens_nothing,
+  denied_frames_are_queued_too,
+  failed_miss_queues_nothing,
+  lent_device_keeps_its_loose_data,
+  no_side_is_up,
 }
 
 -- one volume
@@ -152,6 +164,18 @@ unfolding all_happen steps_of works hold answer after is_in with_number less_one
     choose write_first write_second write_done through write second_part work look follow command second background
     lose start_fault start reset power copies lend peek
 look_runs = refl
+
+-- in which order things are told, and what is left where
+order_runs : Show (
+    frame_of_a_failed_read_goes_last ∷ slot_of_a_failed_read_comes_late ∷ half_writes_frame_waits ∷
+    half_writes_patch_waits ∷ old_note_of_its_own_event ∷ held_side_still_has_the_track ∷ copies_from_a_held_side
+    ∷ copy_hardens_nothing ∷ denied_frames_are_queued_too ∷ failed_miss_queues_nothing ∷
+    lent_device_keeps_its_loose_data ∷ no_side_is_up ∷ [])
+unfolding all_happen steps_of works hold answer after is_in with_number less_one counted least count_below
+    command_of over settled side_lost cache_lost store_lost all_firm_told waits hear all_told level_bytes image
+    choose write_first write_second write_done through write second_part work look follow command second background
+    lose start_fault start reset power copies lend peek
+order_runs = refl
 
 -- What some of them leave
 

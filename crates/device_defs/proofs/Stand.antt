@@ -1,5 +1,5 @@
 -- A device of a run that is tried by hand: one event after another, and what each showed.
-use Rattle.std.proofs.Common.{Bool, ◌≡◌, map, ℕ, zero, suc, true, List, [], ◌∷◌, ◌++◌, Option, Some, None}
+use Rattle.std.proofs.Common.{◌==◌, if◌then◌else◌, Bool, ◌≡◌, map, ℕ, zero, suc, true, List, [], ◌∷◌, ◌++◌, Option, Some, None}
 use Rattle.std.specs.Prelude.{replicate, count_by}
 use Rattle.ckd_types.specs.declared.channel.Ccw.{Ccw}
 use Rattle.ckd_types.specs.declared.channel.CommandEnd.{CommandEnd}
@@ -12,7 +12,7 @@ use Rattle.plain_defs.specs.declared.journal.How.{How}
 use Rattle.plain_defs.specs.declared.journal.Item.{Item}
 use Rattle.plain_defs.specs.declared.journal.Item.TheVariants as items
 use Rattle.plain_defs.specs.Journal.{Plans}
-use Rattle.device_outside.specs.Pool.{Frame, Pool, new_pool, cache_failed, store_failed, power_lost, all_waiting}
+use Rattle.device_outside.specs.Pool.{Frame, Pool, new_pool, cache_failed, store_failed, cache_repaired, store_repaired, power_lost, all_waiting}
 use Rattle.device_outside.specs.Told.{Calls, Told, Outcome, hold}
 use Rattle.device_defs.specs.declared.answers.Did.{Did}
 use Rattle.device_defs.specs.declared.answers.Did.TheVariants.{Copied}
@@ -41,6 +41,8 @@ pub data Line : Type 0 where
   Back : Did → ℕ → ℕ → Line
   Seen : List ℕ → ℕ → ℕ → Line  -- the data of record 0, at a look past the channel
   Unseen : Peeked → ℕ → ℕ → Line
+  Repaired : Line
+  Pending : ℕ → Line
   Lacking : Line
 
 pub record Stand : Type 0 where
@@ -124,6 +126,8 @@ pub data Event : Type 0 where
   FailCache : Event
   FailStore : Event
   FailSide : Side → Event
+  RepairCache : Event
+  RepairStore : Event
   Power : Event
   Join : List ℕ → List ℕ → Event  -- a volume with these failing reads and writes
   Replace : Side → Event
@@ -138,6 +142,12 @@ pub data Event : Type 0 where
 abbrev pub with_pool : Stand → Pool → Told
 with_pool s p = record (from_zero s.told) { pool = p }
 
+abbrev pub repair_line : Pool → Line
+repair_line p = if all_waiting p == 0 then Repaired else Pending (all_waiting p)
+
+abbrev pub repaired : Stand → Stand
+repaired s = shows s (repair_line s.told.pool)
+
 abbrev pub happens : Stand → Event → Stand
 happens s (Start path) = starts_by s path (start_fault s.device path)
 happens s Step = after_step s (hold true (command by_plain s.device) (from_zero s.told))
@@ -147,6 +157,8 @@ happens s (Reset path) = after_loss s (hold true (reset by_plain s.device path) 
 happens s FailCache = after_loss s (hold true (lose by_plain s.device losses.Cache) (with_pool s (cache_failed s.told.pool)))
 happens s FailStore = after_loss s (hold true (lose by_plain s.device losses.Store) (with_pool s (store_failed s.told.pool)))
 happens s (FailSide side) = after_loss s (hold true (lose by_plain s.device (losses.Side side)) (from_zero s.told))
+happens s RepairCache = record (repaired s) { told = record s.told { pool = cache_repaired s.told.pool } }
+happens s RepairStore = record (repaired s) { told = record s.told { pool = store_repaired s.told.pool } }
 happens s Power = after_loss s (hold true (power by_plain s.device) (with_pool s (power_lost s.told.pool)))
 happens s (Join reads writes) = record s { device = join s.device; told = record s.told { b = new_calls reads writes } }
 happens s (Replace side) = record s { device = replace s.device side }
@@ -186,6 +198,15 @@ extent mask attributes = record {
   flags = 0x40;
   count = 16;
   given = mask ∷ attributes ∷ 0x10 ∷ 0 ∷ 0 ∷ 0 ∷ 0 ∷ 0 ∷ 0 ∷ 0 ∷ 0 ∷ 0 ∷ 0 ∷ 0 ∷ 0 ∷ 0x0e ∷ [];
+}
+
+-- with this number of cache fast write data
+abbrev pub numbered_extent : ℕ → ℕ → ℕ → Ccw
+numbered_extent mask attributes number = record {
+  command = 0x63;
+  flags = 0x40;
+  count = 16;
+  given = mask ∷ attributes ∷ 0x10 ∷ 0 ∷ 0 ∷ number ∷ 0 ∷ 0 ∷ 0 ∷ 0 ∷ 0 ∷ 0 ∷ 0 ∷ 0 ∷ 0 ∷ 0x0e ∷ [];
 }
 
 -- locate record, for so many commands of an operation on track t behind record r
