@@ -1,4 +1,5 @@
 pub mod Stand
 pub mod Runs
 mod Rows
-mod Own
+pub mod Own
+mod OwnRows
