@@ -1,5 +1,6 @@
 pub mod Stand
 pub mod Runs
+pub mod SecondRuns
 mod Rows
 pub mod Own
 mod OwnRows

@@ -23,6 +23,20 @@ use Rattle.device_defs.specs.Second.{second_part}
 use Rattle.device_defs.specs.Start.{start_fault, start}
 use Rattle.device_defs.specs.Writing.{write_first, write_second, write_done, through, write}
 use Rattle.device_defs.proofs.Stand.{all_happen, steps_of, works, copies, new_data, old_data}
+use Rattle.device_defs.proofs.SecondRuns.{
+  second_part_is_absent,
+  absent_without_a_frame,
+  absent_behind_a_reset,
+  absent_behind_a_reset_without_a_frame,
+  absent_by_itself,
+  second_side_fails,
+  second_part_without_a_side,
+  bypass_drops_the_frame,
+  through_frees_the_slot,
+  failed_write_of_one_volume,
+  failed_write_without_a_frame,
+  loose_track_loses_its_side,
+}
 use Rattle.device_defs.proofs.Runs.{
   clean_frames_are_hits,
   fast_write_keeps_its_frame,
@@ -127,6 +141,19 @@ unfolding all_do play all_happen steps_of works copies hold answer after is_in w
     write_done through write second_part work look follow command second background lose start_fault start reset
     power lend peek
 own_order_runs = refl
+
+-- second parts, and what writes leave
+own_second_runs : OwnShow (
+    second_part_is_absent ∷ absent_without_a_frame ∷ absent_behind_a_reset ∷ absent_behind_a_reset_without_a_frame
+    ∷ absent_by_itself ∷ second_side_fails ∷ second_part_without_a_side ∷ bypass_drops_the_frame ∷
+    through_frees_the_slot ∷ failed_write_of_one_volume ∷ failed_write_without_a_frame ∷
+    loose_track_loses_its_side ∷ [])
+unfolding all_do play all_happen steps_of works copies hold answer after is_in with_number less_one counted
+    least count_below command_of empty_bytes areas_at zero_at next_at records_at reading over settled side_lost
+    cache_lost store_lost all_firm_told waits hear all_told level_bytes image choose write_first write_second
+    write_done through write second_part work look follow command second background lose start_fault start reset
+    power lend peek
+own_second_runs = refl
 
 -- What a keeper hears
 
