@@ -1,6 +1,7 @@
 pub mod Stand
 pub mod Runs
 pub mod SecondRuns
+pub mod MarkRuns
 mod Rows
 pub mod Own
 mod OwnRows

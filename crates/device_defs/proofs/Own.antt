@@ -39,12 +39,51 @@ use Rattle.device_defs.specs.Contents.{contents}
 use Rattle.device_defs.specs.Cutting.{reset, power}
 use Rattle.device_defs.specs.Device.{Device}
 use Rattle.device_defs.specs.Events.{second, background, lose}
-use Rattle.device_defs.specs.Marks.{no_counts}
+use Rattle.device_defs.specs.Marks.{no_counts, marks_of}
 use Rattle.device_defs.specs.Orders.{join, split, replace, hold as hold_b, resume, restore, lend}
 use Rattle.device_defs.specs.Peek.{Peeked, peek}
 use Rattle.device_defs.specs.Start.{start_fault, start, next_ordinal}
 use Rattle.device_defs.specs.Store.{Store, new_side, no_side, no_debt}
-use Rattle.device_defs.proofs.Stand.{Line, Started, Refused, Stand, Event, Start, Step, Second, Work, Reset, FailCache, FailStore, FailSide, RepairCache, RepairStore, Power, Join, Replace, Suspend, Resume, Split, Lend, Restore, Look, Note, Run, shows_of, from_zero, new_calls, step_line, second_line, back_line, look_line, body_of, repair_line, works}
+use Rattle.device_defs.proofs.Stand.{
+  Event,
+  FailCache,
+  FailSide,
+  FailStore,
+  Join,
+  Lend,
+  Line,
+  Look,
+  Marks,
+  Note,
+  Power,
+  Refused,
+  RepairCache,
+  RepairStore,
+  Replace,
+  Reset,
+  Restore,
+  Resume,
+  Run,
+  Second,
+  Split,
+  Stand,
+  Start,
+  Started,
+  Step,
+  Suspend,
+  Work,
+  back_line,
+  body_of,
+  from_zero,
+  look_line,
+  marks_line,
+  new_calls,
+  repair_line,
+  second_line,
+  shows_of,
+  step_line,
+  works,
+}
 
 -- what a keeper heard: a track, with the data of its record 0
 pub data Heard : Type 0 where
@@ -205,6 +244,8 @@ happens s Split = record s { device = split s.device }
 happens s (Lend to) = after_loss s (play (lend contents s.device to) (quietly s.world))
 happens s Restore = record s { device = restore s.device; world = replaced s.world A }
 happens s (Look t) = after_look s (play (peek contents s.device t) (quietly s.world))
+happens s Marks =
+    record s { lines = s.lines ++ marks_line (marks_of [] [] s.device.store) s.world.told.pool ∷ [] }
 happens s (Note tracks) =
     record s { world = record s.world { told = record s.world.told { pool = record s.world.told.pool { notes = tracks ∷ replicate 15 [] } } } }
 

@@ -22,7 +22,7 @@ use Rattle.device_defs.specs.Owed.{waits, hear, all_told}
 use Rattle.device_defs.specs.Second.{second_part}
 use Rattle.device_defs.specs.Start.{start_fault, start}
 use Rattle.device_defs.specs.Writing.{write_first, write_second, write_done, through, write}
-use Rattle.device_defs.proofs.Stand.{all_happen, steps_of, works, copies, new_data, old_data}
+use Rattle.device_defs.proofs.Stand.{all_happen, steps_of, works, copies, new_data, old_data, track_marks}
 use Rattle.device_defs.proofs.SecondRuns.{
   second_part_is_absent,
   absent_without_a_frame,
@@ -36,6 +36,18 @@ use Rattle.device_defs.proofs.SecondRuns.{
   failed_write_of_one_volume,
   failed_write_without_a_frame,
   loose_track_loses_its_side,
+}
+use Rattle.device_defs.proofs.MarkRuns.{
+  marks_of_a_fast_write,
+  marks_of_a_loose_track,
+  marks_of_a_half_write,
+  marks_of_a_side_that_is_lost,
+  marks_of_a_loose_half_write,
+  marks_of_a_held_side,
+  marks_of_a_loss_of_the_store,
+  marks_of_a_loss_of_the_store_in_a_half_write,
+  marks_of_a_sequential_miss,
+  marks_of_a_hardened_track,
 }
 use Rattle.device_defs.proofs.Runs.{
   clean_frames_are_hits,
@@ -154,6 +166,18 @@ unfolding all_do play all_happen steps_of works copies hold answer after is_in w
     write_done through write second_part work look follow command second background lose start_fault start reset
     power lend peek
 own_second_runs = refl
+
+-- marks
+own_mark_runs : OwnShow (
+    marks_of_a_fast_write ∷ marks_of_a_loose_track ∷ marks_of_a_half_write ∷ marks_of_a_side_that_is_lost ∷
+    marks_of_a_loose_half_write ∷ marks_of_a_held_side ∷ marks_of_a_loss_of_the_store ∷
+    marks_of_a_loss_of_the_store_in_a_half_write ∷ marks_of_a_sequential_miss ∷ marks_of_a_hardened_track ∷ [])
+unfolding all_do play all_happen steps_of works copies hold answer after is_in with_number less_one counted
+    least count_below command_of empty_bytes areas_at zero_at next_at records_at reading over settled side_lost
+    cache_lost store_lost all_firm_told waits hear all_told level_bytes image choose write_first write_second
+    write_done through write second_part work look follow command second background lose start_fault start reset
+    power track_marks
+own_mark_runs = refl
 
 -- What a keeper hears
 

@@ -51,6 +51,7 @@ use Rattle.device_defs.proofs.Stand.{
   write_one,
   write_onward,
   write_zero,
+  track_marks,
 }
 use Rattle.device_defs.proofs.SecondRuns.{
   second_part_is_absent,
@@ -65,6 +66,18 @@ use Rattle.device_defs.proofs.SecondRuns.{
   failed_write_of_one_volume,
   failed_write_without_a_frame,
   loose_track_loses_its_side,
+}
+use Rattle.device_defs.proofs.MarkRuns.{
+  marks_of_a_fast_write,
+  marks_of_a_loose_track,
+  marks_of_a_half_write,
+  marks_of_a_side_that_is_lost,
+  marks_of_a_loose_half_write,
+  marks_of_a_held_side,
+  marks_of_a_loss_of_the_store,
+  marks_of_a_loss_of_the_store_in_a_half_write,
+  marks_of_a_sequential_miss,
+  marks_of_a_hardened_track,
 }
 use Rattle.device_defs.proofs.Runs.{
   clean_frames_are_hits,
@@ -202,6 +215,17 @@ unfolding all_happen steps_of works hold answer after is_in with_number less_one
     choose write_first write_second write_done through write second_part work look follow command second background
     lose start_fault start reset power copies lend peek
 second_runs = refl
+
+-- marks
+mark_runs : Show (
+    marks_of_a_fast_write ∷ marks_of_a_loose_track ∷ marks_of_a_half_write ∷ marks_of_a_side_that_is_lost ∷
+    marks_of_a_loose_half_write ∷ marks_of_a_held_side ∷ marks_of_a_loss_of_the_store ∷
+    marks_of_a_loss_of_the_store_in_a_half_write ∷ marks_of_a_sequential_miss ∷ marks_of_a_hardened_track ∷ [])
+unfolding all_happen steps_of works hold answer after is_in with_number less_one counted least count_below
+    command_of over settled side_lost cache_lost store_lost all_firm_told waits hear all_told level_bytes image
+    choose write_first write_second write_done through write second_part work look follow command second background
+    lose start_fault start reset power copies track_marks
+mark_runs = refl
 
 -- What some of them leave
 

@@ -1,6 +1,6 @@
 -- A device of a run that is tried by hand: one event after another, and what each showed.
-use Rattle.std.proofs.Common.{◌==◌, if◌then◌else◌, Bool, ◌≡◌, map, ℕ, zero, suc, true, List, [], ◌∷◌, ◌++◌, Option, Some, None}
-use Rattle.std.specs.Prelude.{replicate, count_by}
+use Rattle.std.proofs.Common.{◌+◌, ◌==◌, if◌then◌else◌, Bool, ◌≡◌, map, ℕ, zero, suc, true, List, [], ◌∷◌, ◌++◌, Option, Some, None}
+use Rattle.std.specs.Prelude.{is_some, replicate, count_by}
 use Rattle.ckd_types.specs.declared.channel.Ccw.{Ccw}
 use Rattle.ckd_types.specs.declared.channel.CommandEnd.{CommandEnd}
 use Rattle.ckd_types.specs.declared.geometry.Geometry.TheVariants.{D3390}
@@ -25,10 +25,27 @@ use Rattle.device_defs.specs.Command.{command}
 use Rattle.device_defs.specs.Contents.{by_plain}
 use Rattle.device_defs.specs.Cutting.{reset, power}
 use Rattle.device_defs.specs.Events.{second, background, lose}
-use Rattle.device_defs.specs.Marks.{MarksDevice, new_device}
+use Rattle.device_defs.specs.Marks.{MarksStore, MarksDevice, new_device}
 use Rattle.device_defs.specs.Orders.{join, split, replace, hold as hold_b, resume, restore, lend}
 use Rattle.device_defs.specs.Peek.{Peeked, Track, peek}
+use Rattle.device_defs.specs.Store.{HalfWrite, stale_at, frame_at, patch_at, is_lost, is_loose}
 use Rattle.device_defs.specs.Start.{start_fault, start, next_ordinal}
+
+-- what is marked of a device, and of a track
+pub data Mark : Type 0 where
+  UpA : Mark
+  UpB : Mark
+  Held : Mark
+  HalfOpen : ℕ → Mark
+  Queued : ℕ → Mark
+  Waiting : ℕ → Mark  -- so many tracks wait, as the pool was told
+  Clean : Mark  -- its frame
+  Modified : Mark
+  Patched : Mark
+  LostTrack : Mark
+  LooseTrack : Mark
+  StaleA : Mark
+  StaleB : Mark
 
 -- reads and writes are the last two numbers of each
 pub data Line : Type 0 where
@@ -43,6 +60,7 @@ pub data Line : Type 0 where
   Unseen : Peeked → ℕ → ℕ → Line
   Repaired : Line
   Pending : ℕ → Line
+  Marked : List Mark → List (ℕ × List Mark) → Line  -- of the device, and of each track that has any
   Lacking : Line
 
 pub record Stand : Type 0 where
@@ -137,10 +155,44 @@ pub data Event : Type 0 where
   Lend : ℕ → Event
   Restore : Event
   Look : ℕ → Event
+  Marks : Event  -- they are looked at
   Note : List ℕ → Event  -- the pool has these notes for the device
 
 abbrev pub with_pool : Stand → Pool → Told
 with_pool s p = record (from_zero s.told) { pool = p }
+
+abbrev pub mark_if : Bool → Mark → List Mark
+mark_if b mark = if b then mark ∷ [] else []
+
+abbrev pub frame_marks : Option Bool → List Mark
+frame_marks None = []
+frame_marks (Some modified) = if modified then Modified ∷ [] else Clean ∷ []
+
+abbrev pub marks_at : MarksStore → ℕ → List Mark
+marks_at s t =
+    frame_marks (frame_at s t) ++ mark_if (is_some (patch_at s t)) Patched ++ mark_if (is_lost s t) LostTrack
+    ++ mark_if (is_loose s t) LooseTrack ++ mark_if (stale_at s.a t) StaleA ++ mark_if (stale_at s.b t) StaleB
+
+abbrev pub with_marks : ℕ → List Mark → List (ℕ × List Mark) → List (ℕ × List Mark)
+with_marks t [] others = others
+with_marks t (m ∷ ms) others = (t, m ∷ ms) ∷ others
+
+-- of the n tracks from t on
+unfoldable pub track_marks : ℕ → ℕ → MarksStore → List (ℕ × List Mark)
+track_marks zero t s = []
+track_marks (suc n) t s = with_marks t (marks_at s t) (track_marks n (t + 1) s)
+
+abbrev pub half_marks : Option (HalfWrite (Unit {0})) → List Mark
+half_marks None = []
+half_marks (Some h) = HalfOpen h.track ∷ []
+
+abbrev pub device_marks : MarksStore → Pool → List Mark
+device_marks s p =
+    mark_if s.a.up UpA ++ mark_if s.b.up UpB ++ mark_if s.held Held ++ half_marks s.half ++ map Queued s.queue
+    ++ Waiting (all_waiting p) ∷ []
+
+abbrev pub marks_line : MarksStore → Pool → Line
+marks_line s p = Marked (device_marks s p) (track_marks 15 0 s)
 
 abbrev pub repair_line : Pool → Line
 repair_line p = if all_waiting p == 0 then Repaired else Pending (all_waiting p)
@@ -168,6 +220,7 @@ happens s Split = record s { device = split s.device }
 happens s (Lend to) = after_loss s (hold true (lend by_plain s.device to) (from_zero s.told))
 happens s Restore = record s { device = restore s.device; told = record s.told { a = new_calls [] [] } }
 happens s (Look t) = after_look s (hold true (peek by_plain s.device t) (from_zero s.told))
+happens s Marks = shows s (marks_line s.device.store s.told.pool)
 happens s (Note tracks) = record s { told = record s.told { pool = record s.told.pool { notes = tracks ∷ replicate 15 [] } } }
 
 unfoldable pub all_happen : Stand → List Event → Stand
