@@ -10,7 +10,7 @@ pub mod Writing
 pub mod Second
 pub mod Background
 pub mod Device
-pub mod Turns
+pub mod Outcomes
 pub mod Command
 pub mod Events
 pub mod Start

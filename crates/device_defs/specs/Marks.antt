@@ -1,13 +1,18 @@
 -- The device of a run, over marks and plain volumes, and a new one.
-use Rattle.std.specs.Prelude.{ℕ, ◌*◌, Bool, false, [], None, replicate}
+use Rattle.std.specs.Prelude.{ℕ, ◌*◌, Bool, false, List, [], Option, Some, None, map, replicate}
 use Rattle.ckd_types.specs.declared.geometry.Geometry.{Geometry}
+use Rattle.ckd_types.specs.declared.record.Track.{Track}
 use Rattle.ckd_types.specs.Volume.{empty_volume}
+use Rattle.track_image.specs.Image.{Image}
+use Rattle.track_cache.specs.declared.frames.Frame.{Frame}
+use Rattle.nv_store.specs.declared.patches.Stored.{Stored}
 use Rattle.plain_defs.specs.History.{no_history}
 use Rattle.plain_defs.specs.Journal.{Plans}
 use Rattle.plain_defs.specs.PlainState.{fresh_paths}
 use Rattle.device_defs.specs.declared.counts.Counts.{Counts}
+use Rattle.device_defs.specs.declared.owed.Owed.{Owed}
 use Rattle.device_defs.specs.Device.{Device}
-use Rattle.device_defs.specs.Store.{Store, new_side, no_side, no_debt}
+use Rattle.device_defs.specs.Store.{HalfWrite, Store, new_side, no_side, no_debt}
 
 abbrev pub MarksStore : Type 0
 MarksStore = Store Bool (Unit {0}) (Unit {0})
@@ -50,4 +55,50 @@ new_device d g cylinders plans = record {
   plans = plans;
   history = no_history;
   chain = None;
+}
+
+-- What a run knows of a device that keeps contents: its marks, with this plain volume, and this one without data of cache fast write
+
+abbrev pub frame_mark : Option Frame → Option Bool
+frame_mark (Some f) = Some f.modified
+frame_mark None = None
+
+abbrev pub patch_mark : Option Stored → Option (Unit {0})
+patch_mark (Some p) = Some tt
+patch_mark None = None
+
+abbrev pub half_mark : Option (HalfWrite Image) → Option (HalfWrite (Unit {0}))
+half_mark (Some h) = Some (record { track = h.track; origin = h.origin; image = tt })
+half_mark None = None
+
+-- a slot has no number there
+abbrev pub slot_mark : Option ℕ → Option ℕ
+slot_mark (Some slot) = Some 0
+slot_mark None = None
+
+abbrev pub owed_mark : Owed → Owed
+owed_mark o = record o { freed = slot_mark o.freed }
+
+abbrev pub marks_of : List Track → List Track → Store Frame Stored Image → MarksStore
+marks_of plain firm s = record {
+  device = s.device;
+  geometry = s.geometry;
+  cylinders = s.cylinders;
+  number = s.number;
+  paired = s.paired;
+  lent = s.lent;
+  held = s.held;
+  a = s.a;
+  b = s.b;
+  frames = map frame_mark s.frames;
+  patches = map patch_mark s.patches;
+  lost = s.lost;
+  loose = s.loose;
+  queue = s.queue;
+  half = half_mark s.half;
+  plain = plain;
+  firm = firm;
+  acts = s.acts;
+  owed = map owed_mark s.owed;
+  counts = s.counts;
 }

@@ -1,5 +1,5 @@
 -- A write to the volumes: its first part, what follows once it is done, and the whole of a command's write.
-use Rattle.std.specs.Prelude.{ℕ, ◌&&◌, not, Bool, true, false, Option, Some, None, is_some, if◌then◌else◌, nat_le}
+use Rattle.std.specs.Prelude.{ℕ, ◌&&◌, ◌||◌, not, Bool, true, false, Option, Some, None, is_some, if◌then◌else◌, nat_le}
 use Rattle.ckd_types.specs.declared.paths.Side.{Side}
 use Rattle.ckd_types.specs.declared.paths.Side.TheVariants.{A, B}
 use Rattle.ckd_types.specs.declared.record.Edit.{Edit}
@@ -20,6 +20,7 @@ use Rattle.device_defs.specs.Contents.{Contents}
 use Rattle.device_defs.specs.Effects.{with_edit, hardened}
 use Rattle.device_defs.specs.Losses.{slot_in, stale_everywhere, settled, framed_image, call_failed}
 use Rattle.device_defs.specs.Memory.{tried}
+use Rattle.device_defs.specs.Owed.{is_clean}
 use Rattle.device_defs.specs.Store.{
   Origin,
   OfCommand,
@@ -177,12 +178,32 @@ module _ {F P H R : Type 0} (c : Contents F P H R) where
   write_by u first t i e s (Fast slot) = Tell (Firm s.device t i) (λ _. Done (fast_written c s t i e slot) Whole)
   write_by u first t i e s Through = through s t i e (is_bypass u.mode) (not (another_loose s first t))
 
-  abbrev pub write_told : Store F P H → Usage → ℕ → ℕ → Image → Edit → Bool → Interaction R Image (Store F P H) (Option Took)
-  write_told s u first t old e ok =
-      if ok then
-      and_then (choose c s u t) (λ z choice. and_then (write_by u first t (edited_image e old) e z choice) (λ y took. Done y (Some took)))
-      else Done s None
+  abbrev pub written : Store F P H → Usage → ℕ → ℕ → Image → Edit → Choice → Interaction R Image (Store F P H) (Option Took)
+  written s u first t old e choice =
+      and_then (write_by u first t (edited_image e old) e s choice) (λ z took. Done z (Some took))
 
-  -- of a command that looked at the tracks from `first` to t. The keeper is told the track before the edit
+  -- the edit goes to a frame, or to a volume
+  abbrev pub is_given : Store F P H → Choice → Bool
+  is_given s Through = s.a.up || takes_b s
+  is_given s _ = true
+
+  abbrev pub clean_again : Store F P H → ℕ → Interaction R Image (Store F P H) (Option Took)
+  clean_again s t = if is_clean c (frame_at s t) then Ask (SetClean s.device t) (λ _. Done s None) else Done s None
+
+  -- memory was lacking: a new slot is given back, and a frame that the pool was told as modified is clean as before
+  abbrev pub unchosen : Store F P H → ℕ → Choice → Interaction R Image (Store F P H) (Option Took)
+  unchosen s t (Fast (Some slot)) = Ask (FreeSlot slot) (λ _. clean_again s t)
+  unchosen s t (Fast None) = clean_again s t
+  unchosen s t Provisional = clean_again s t
+  unchosen s t Through = Done s None
+
+  -- the keeper is told the track before an edit that is given to something
+  abbrev pub write_chosen : Usage → ℕ → ℕ → Image → Edit → Store F P H → Choice → Interaction R Image (Store F P H) (Option Took)
+  write_chosen u first t old e s choice =
+      if is_given s choice then
+      Tell (BeforeEdit s.device t old) (λ ok. if ok then written s u first t old e choice else unchosen s t choice)
+      else written s u first t old e choice
+
+  -- of a command that looked at the tracks from `first` to t, the last one of which is this
   unfoldable pub write : Store F P H → Usage → ℕ → ℕ → Image → Edit → Interaction R Image (Store F P H) (Option Took)
-  write s u first t old e = tried s (Tell (BeforeEdit s.device t old) (write_told s u first t old e))
+  write s u first t old e = tried s (and_then (choose c s u t) (write_chosen u first t old e))
