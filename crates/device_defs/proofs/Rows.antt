@@ -51,8 +51,7 @@ use Rattle.device_defs.proofs.Stand.{
   write_one,
   write_onward,
   write_zero,
-  track_marks,
-}
+  track_marks, formats_from, quiet_ends}
 use Rattle.device_defs.proofs.SecondRuns.{
   second_part_is_absent,
   absent_without_a_frame,
@@ -80,6 +79,8 @@ use Rattle.device_defs.proofs.MarkRuns.{
   marks_of_a_hardened_track,
 }
 use Rattle.device_defs.proofs.Runs.{
+  twelve_fast_formats,
+  twelve_formats_go_through,
   clean_frames_are_hits,
   fast_write_keeps_its_frame,
   cache_loss_leaves_the_patch,
@@ -226,6 +227,14 @@ unfolding all_happen steps_of works hold answer after is_in with_number less_one
     choose write_first write_second write_done through write second_part work look follow command second background
     lose start_fault start reset power copies track_marks
 mark_runs = refl
+
+-- large records
+large_runs : Show (twelve_fast_formats ∷ twelve_formats_go_through ∷ [])
+unfolding all_happen steps_of works hold answer after is_in with_number less_one counted least count_below
+    command_of over settled side_lost cache_lost store_lost all_firm_told waits hear all_told level_bytes image
+    choose write_first write_second write_done through write second_part work look follow command second background
+    lose start_fault start reset power copies formats_from quiet_ends
+large_runs = refl
 
 -- What some of them leave
 

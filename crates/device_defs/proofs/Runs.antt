@@ -63,8 +63,7 @@ use Rattle.device_defs.proofs.Stand.{
   write_of,
   write_one,
   write_onward,
-  write_zero,
-}
+  write_zero, format_twelve, read_one, quiet_ends}
 
 -- of one frame: a track is read once while it has the frame
 abbrev pub clean_frames_are_hits : Run
@@ -641,4 +640,25 @@ no_side_is_up = record {
       Started 1 ∷ quiet 0 0 ∷ quiet 1 1 ∷ End 2 0x0c old_data 0 0 ∷ []
       ++ Started 2 ∷ quiet 0 0 ∷ quiet 1 0 ∷ End 2 0x0e [] 0 0 ∷ []
       ++ Started 3 ∷ quiet 0 0 ∷ quiet 1 0 ∷ End 2 0x0c old_data 0 0 ∷ [];
+}
+
+-- twelve records of 4,096 bytes are formatted in the cache and read from it
+abbrev pub twelve_fast_formats : Run
+twelve_fast_formats = record {
+  on = stand 4 2 [] [] (format_twelve ∷ read_one 4096 ∷ read_one 4000 ∷ []);
+  events = go 14 ++ go 3 ++ go 3;
+  shows =
+      Started 1 ∷ quiet 0 0 ∷ quiet 1 1 ∷ quiet_ends 2 12 0
+      ++ Started 2 ∷ quiet 0 0 ∷ quiet 1 0 ∷ End 2 0x0c (replicate 4096 0) 0 0 ∷ []
+      ++ Started 3 ∷ quiet 0 0 ∷ quiet 1 0 ∷ End 2 0x0c (replicate 4000 0) 0 0 ∷ [];
+}
+
+-- without a store each of them is a write
+abbrev pub twelve_formats_go_through : Run
+twelve_formats_go_through = record {
+  on = stand 4 0 [] [] (format_twelve ∷ read_one 4096 ∷ []);
+  events = go 14 ++ go 3;
+  shows =
+      Started 1 ∷ quiet 0 0 ∷ quiet 1 1 ∷ quiet_ends 2 12 1
+      ++ Started 2 ∷ quiet 0 0 ∷ quiet 1 0 ∷ End 2 0x0c (replicate 4096 0) 0 0 ∷ [];
 }
