@@ -22,7 +22,7 @@ use Rattle.device_defs.specs.Owed.{waits, hear, all_told}
 use Rattle.device_defs.specs.Second.{second_part}
 use Rattle.device_defs.specs.Start.{start_fault, start}
 use Rattle.device_defs.specs.Writing.{write_first, write_second, write_done, through, write}
-use Rattle.device_defs.proofs.Stand.{all_happen, steps_of, works, copies, new_data, old_data, track_marks}
+use Rattle.device_defs.proofs.Stand.{all_happen, steps_of, works, copies, new_data, old_data, track_marks, formats_from, quiet_ends}
 use Rattle.device_defs.proofs.SecondRuns.{
   second_part_is_absent,
   absent_without_a_frame,
@@ -50,6 +50,9 @@ use Rattle.device_defs.proofs.MarkRuns.{
   marks_of_a_hardened_track,
 }
 use Rattle.device_defs.proofs.Runs.{
+  twelve_fast_formats,
+  twelve_formats_go_through,
+  large_patch_is_read,
   clean_frames_are_hits,
   fast_write_keeps_its_frame,
   cache_loss_leaves_the_patch,
@@ -178,6 +181,15 @@ unfolding all_do play all_happen steps_of works copies hold answer after is_in w
     write_done through write second_part work look follow command second background lose start_fault start reset
     power track_marks
 own_mark_runs = refl
+
+-- large records, and back from the volume
+own_large_runs : OwnShow (twelve_fast_formats ∷ twelve_formats_go_through ∷ large_patch_is_read ∷ [])
+unfolding all_do play all_happen steps_of works copies hold answer after is_in with_number less_one counted
+    least count_below command_of empty_bytes areas_at zero_at next_at records_at reading over settled side_lost
+    cache_lost store_lost all_firm_told waits hear all_told level_bytes image choose write_first write_second
+    write_done through write second_part work look follow command second background lose start_fault start reset
+    power formats_from quiet_ends
+own_large_runs = refl
 
 -- What a keeper hears
 

@@ -51,7 +51,10 @@ use Rattle.device_defs.proofs.Stand.{
   write_one,
   write_onward,
   write_zero,
-  track_marks, formats_from, quiet_ends}
+  track_marks,
+  formats_from,
+  quiet_ends,
+}
 use Rattle.device_defs.proofs.SecondRuns.{
   second_part_is_absent,
   absent_without_a_frame,
@@ -81,6 +84,7 @@ use Rattle.device_defs.proofs.MarkRuns.{
 use Rattle.device_defs.proofs.Runs.{
   twelve_fast_formats,
   twelve_formats_go_through,
+  large_patch_is_read,
   clean_frames_are_hits,
   fast_write_keeps_its_frame,
   cache_loss_leaves_the_patch,
@@ -229,7 +233,7 @@ unfolding all_happen steps_of works hold answer after is_in with_number less_one
 mark_runs = refl
 
 -- large records
-large_runs : Show (twelve_fast_formats ∷ twelve_formats_go_through ∷ [])
+large_runs : Show (twelve_fast_formats ∷ twelve_formats_go_through ∷ large_patch_is_read ∷ [])
 unfolding all_happen steps_of works hold answer after is_in with_number less_one counted least count_below
     command_of over settled side_lost cache_lost store_lost all_firm_told waits hear all_told level_bytes image
     choose write_first write_second write_done through write second_part work look follow command second background

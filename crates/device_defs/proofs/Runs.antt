@@ -63,7 +63,11 @@ use Rattle.device_defs.proofs.Stand.{
   write_of,
   write_one,
   write_onward,
-  write_zero, format_twelve, read_one, quiet_ends}
+  write_zero,
+  format_twelve,
+  read_one,
+  quiet_ends,
+}
 
 -- of one frame: a track is read once while it has the frame
 abbrev pub clean_frames_are_hits : Run
@@ -661,4 +665,15 @@ twelve_formats_go_through = record {
   shows =
       Started 1 ∷ quiet 0 0 ∷ quiet 1 1 ∷ quiet_ends 2 12 1
       ++ Started 2 ∷ quiet 0 0 ∷ quiet 1 0 ∷ End 2 0x0c (replicate 4096 0) 0 0 ∷ [];
+}
+
+-- behind a loss of the cache they are read with their patch, and destaging them leaves them on the volume
+abbrev pub large_patch_is_read : Run
+large_patch_is_read = record {
+  on = stand 4 2 [] [] (format_twelve ∷ read_one 4096 ∷ read_one 4096 ∷ []);
+  events = go 14 ++ FailCache ∷ go 3 ++ Work ∷ go 3;
+  shows =
+      Started 1 ∷ quiet 0 0 ∷ quiet 1 1 ∷ quiet_ends 2 12 0
+      ++ Started 2 ∷ quiet 0 0 ∷ quiet 1 1 ∷ End 2 0x0c (replicate 4096 0) 1 0 ∷ Back (Recovered 0) 1 1 ∷ []
+      ++ Started 3 ∷ quiet 0 0 ∷ quiet 1 1 ∷ End 2 0x0c (replicate 4096 0) 1 0 ∷ [];
 }
