@@ -110,6 +110,8 @@ use Rattle.device_defs.proofs.Runs.{
   power_loss_frees_the_device,
   note_of_a_foreign_track,
   old_note_drops_a_new_frame,
+  past_the_extent,
+  another_group_is_kept_out,
 }
 use Rattle.device_defs.proofs.Own.{Before, IsFirm, play, all_do, OwnShow, heard_in}
 
@@ -211,7 +213,8 @@ own_other_runs : OwnShow (
     joined_volume_is_copied ∷ pair_is_written_in_two_events ∷ held_side_is_copied_later ∷
     reset_leaves_a_background_half_write ∷ both_sides_fail ∷ loose_track_is_destaged_to_both_sides ∷
     a_track_is_queued_twice ∷ seek_and_read ∷ another_path_waits_its_turn ∷ group_holds_the_device ∷
-    no_path_can_go_on ∷ power_loss_frees_the_device ∷ note_of_a_foreign_track ∷ old_note_drops_a_new_frame ∷ [])
+    no_path_can_go_on ∷ power_loss_frees_the_device ∷ note_of_a_foreign_track ∷ old_note_drops_a_new_frame ∷ past_the_extent ∷
+    another_group_is_kept_out ∷ [])
 unfolding all_do play all_happen steps_of works copies hold answer after is_in with_number less_one counted
     least count_below command_of empty_bytes areas_at zero_at next_at records_at reading over settled side_lost
     cache_lost store_lost all_firm_told waits hear all_told level_bytes image choose write_first write_second

@@ -142,6 +142,8 @@ use Rattle.device_defs.proofs.Runs.{
   failed_miss_queues_nothing,
   lent_device_keeps_its_loose_data,
   no_side_is_up,
+  past_the_extent,
+  another_group_is_kept_out,
 }
 
 -- one volume
@@ -182,7 +184,8 @@ path_runs : Show (
     seek_and_read ∷ another_path_waits_its_turn ∷ group_holds_the_device ∷ no_path_can_go_on ∷
     power_loss_frees_the_device ∷ note_of_a_foreign_track ∷ old_note_drops_a_new_frame ∷
     no_half_write_beside_a_loose_track ∷ failed_read_and_write_of_the_other_side ∷
-    power_lost_in_a_background_half_write ∷ power_lost_in_a_cut_half_write ∷ [])
+    power_lost_in_a_background_half_write ∷ power_lost_in_a_cut_half_write ∷ past_the_extent ∷
+    another_group_is_kept_out ∷ [])
 unfolding all_happen steps_of works hold answer after is_in with_number less_one counted least count_below
     command_of over settled side_lost cache_lost store_lost all_firm_told waits hear all_told level_bytes image
     choose write_first write_second write_done through write second_part work look follow command second background
