@@ -252,7 +252,8 @@ unfolding all_do play all_happen steps_of works copies hold answer after is_in w
 lost_data_are_not_heard = refl
 
 -- a write that goes through makes a loose track firm first
-loose_track_is_heard_twice : heard_in other_write_hardens ≡ Before 0 old_data ∷ Before 0 new_data ∷ IsFirm 0 new_data ∷ IsFirm 0 (replicate 8 0x55) ∷ []
+loose_track_is_heard_twice : heard_in other_write_hardens
+    ≡ Before 0 old_data ∷ Before 0 new_data ∷ IsFirm 0 new_data ∷ IsFirm 0 (replicate 8 0x55) ∷ []
 unfolding all_do play all_happen steps_of works copies hold answer after is_in with_number less_one counted
     least count_below command_of empty_bytes areas_at zero_at next_at records_at reading over settled side_lost
     cache_lost store_lost all_firm_told waits hear all_told level_bytes image choose write_first write_second
