@@ -1,5 +1,5 @@
 -- Runs by a device's own events, over the bytes of its volumes and the images of its frames.
-use Rattle.std.proofs.Common.{◌≡◌, ℕ, Bool, true, false, List, [], ◌∷◌, ◌++◌, Option, Some, None, map, if◌then◌else◌}
+use Rattle.std.proofs.Common.{◌+◌, ◌≡◌, ℕ, Bool, false, List, [], ◌∷◌, ◌++◌, Option, Some, None, map, if◌then◌else◌}
 use Rattle.std.specs.Prelude.{replicate, slice_index_or, slice_set, not}
 use Rattle.ckd_types.specs.declared.geometry.Geometry.TheVariants.{D3390}
 use Rattle.ckd_types.specs.declared.paths.Side.{Side}
@@ -14,7 +14,7 @@ use Rattle.track_table.specs.Tracks.{least}
 use Rattle.device_outside.specs.declared.port.SlotGrant.TheVariants.{Given}
 use Rattle.device_outside.specs.Disk.{empty_contents}
 use Rattle.device_outside.specs.Interaction.{Interaction, Done, Try, Ask, Read, Write, Tell}
-use Rattle.device_outside.specs.Keeper.{Message, BeforeEdit, Firm, reply}
+use Rattle.device_outside.specs.Keeper.{Message, BeforeEdit, Firm, ReplyTo}
 use Rattle.device_outside.specs.Lists.{is_in}
 use Rattle.device_outside.specs.Pool.{
   Pool,
@@ -94,12 +94,15 @@ abbrev pub heard_of : Message Image → Heard
 heard_of (BeforeEdit d t i) = Before t (body_of i.track.records)
 heard_of (Firm d t i) = IsFirm t (body_of i.track.records)
 
--- the pool and the calls that fail, what each side holds, and what the keeper heard
+-- the pool and the calls that fail, what each side holds, what the keeper heard, and where memory is lacking: how often it was asked for,
+-- and which of these times it isn't had
 pub record World : Type 0 where
   pub told : Told
   pub a : List (List ℕ)
   pub b : List (List ℕ)
   pub heard : List Heard
+  pub tries : ℕ
+  pub lacks : List ℕ
 
 abbrev pub held_by : World → Side → List (List ℕ)
 held_by w A = w.a
@@ -123,10 +126,25 @@ pub record Played (S A : Type 0) : Type 0 where
   pub answer : A
   pub world : World
 
+abbrev pub has_memory : World → Bool
+has_memory w = not (is_in (w.tries + 1) w.lacks)
+
+abbrev pub asked : World → World
+asked w = record w { tries = w.tries + 1 }
+
+-- a keeper may lack memory before an edit
+abbrev pub replied : World → (m : Message Image) → ReplyTo m
+replied w (BeforeEdit d t i) = has_memory w
+replied w (Firm d t i) = tt
+
+abbrev pub heard_by : World → Message Image → World
+heard_by w (BeforeEdit d t i) = record (asked w) { heard = w.heard ++ heard_of (BeforeEdit d t i) ∷ [] }
+heard_by w (Firm d t i) = record w { heard = w.heard ++ heard_of (Firm d t i) ∷ [] }
+
 -- a write that fails leaves no bytes
 unfoldable pub play : {S A : Type 0} → Interaction (List ℕ) Image S A → World → Played S A
 play (Done s a) w = record { state = s; answer = a; world = w }
-play (Try k) w = play (k true) w
+play (Try k) w = play (k (has_memory w)) (asked w)
 play (Ask call k) w =
     let a = numbered w.told.pool call (answer w.told.pool call) in
     play (k a) (record w { told = record w.told { pool = after w.told.pool call a } })
@@ -136,7 +154,7 @@ play (Read side t k) w =
 play (Write side t r k) w =
     let fails = write_fails (calls_of w.told side) in
     play (k (not fails)) (holding (record w { told = write_counted w.told side }) side (slice_set (held_by w side) t (if fails then [] else r)))
-play (Tell m k) w = play (k (reply m)) (record w { heard = w.heard ++ heard_of m ∷ [] })
+play (Tell m k) w = play (k (replied w m)) (heard_by w m)
 
 abbrev pub OwnDevice : Type 0
 OwnDevice = Device Frame Stored Image
@@ -185,6 +203,8 @@ own_of s = record {
     a = empty_contents 15;
     b = empty_contents 15;
     heard = [];
+    tries = 0;
+    lacks = [];
   };
   lines = [];
 }
@@ -269,3 +289,7 @@ heard_in r =
 
 abbrev pub OwnShow : List Run → Type 0
 OwnShow runs = map own_ran runs ≡ map shows_of runs
+
+-- some events of a new device where memory is lacking once: what they show
+abbrev pub lacking_at : ℕ → Stand → List Event → List Line
+lacking_at n s events = let o = own_of s in (all_do (record o { world = record o.world { lacks = n ∷ [] } }) events).lines

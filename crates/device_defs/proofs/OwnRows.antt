@@ -1,5 +1,5 @@
 -- By its own events a device shows the same as the step over marks; and what its keeper hears.
-use Rattle.std.proofs.Common.{◌≡◌, [], ◌∷◌, refl}
+use Rattle.std.proofs.Common.{◌≡◌, ℕ, List, [], ◌∷◌, ◌++◌, refl}
 use Rattle.std.specs.Prelude.{replicate}
 use Rattle.ckd_types.specs.Commands.{command_of}
 use Rattle.track_image.specs.Reading.{areas_at, zero_at, next_at, records_at, reading}
@@ -9,6 +9,7 @@ use Rattle.device_outside.specs.Lists.{is_in, with_number, less_one}
 use Rattle.device_outside.specs.Pool.{answer, after}
 use Rattle.device_outside.specs.Told.{hold}
 use Rattle.device_outside.specs.Volume.{counted}
+use Rattle.device_defs.specs.declared.answers.Did.TheVariants.{Destaged}
 use Rattle.device_defs.specs.Background.{work}
 use Rattle.device_defs.specs.Choosing.{choose}
 use Rattle.device_defs.specs.Command.{look, follow, command}
@@ -21,8 +22,29 @@ use Rattle.device_defs.specs.Peek.{peek}
 use Rattle.device_defs.specs.Owed.{waits, hear, all_told}
 use Rattle.device_defs.specs.Second.{second_part}
 use Rattle.device_defs.specs.Start.{start_fault, start}
-use Rattle.device_defs.specs.Writing.{write_first, write_second, write_done, through, write}
-use Rattle.device_defs.proofs.Stand.{all_happen, steps_of, works, copies, new_data, old_data, track_marks}
+use Rattle.device_defs.specs.Editing.{through, write}
+use Rattle.device_defs.specs.Writing.{write_first, write_second, write_done}
+use Rattle.device_defs.proofs.Stand.{
+  Back,
+  End,
+  Lacking,
+  Line,
+  Start,
+  Started,
+  Work,
+  all_happen,
+  copies,
+  formats_from,
+  new_data,
+  old_data,
+  quiet,
+  quiet_ends,
+  stand,
+  steps_of,
+  track_marks,
+  works,
+  write_zero,
+}
 use Rattle.device_defs.proofs.SecondRuns.{
   second_part_is_absent,
   absent_without_a_frame,
@@ -50,6 +72,9 @@ use Rattle.device_defs.proofs.MarkRuns.{
   marks_of_a_hardened_track,
 }
 use Rattle.device_defs.proofs.Runs.{
+  twelve_fast_formats,
+  twelve_formats_go_through,
+  large_patch_is_read,
   clean_frames_are_hits,
   fast_write_keeps_its_frame,
   cache_loss_leaves_the_patch,
@@ -92,8 +117,24 @@ use Rattle.device_defs.proofs.Runs.{
   failed_miss_queues_nothing,
   lent_device_keeps_its_loose_data,
   no_side_is_up,
+  joined_volume_is_copied,
+  pair_is_written_in_two_events,
+  held_side_is_copied_later,
+  reset_leaves_a_background_half_write,
+  both_sides_fail,
+  loose_track_is_destaged_to_both_sides,
+  a_track_is_queued_twice,
+  seek_and_read,
+  another_path_waits_its_turn,
+  group_holds_the_device,
+  no_path_can_go_on,
+  power_loss_frees_the_device,
+  note_of_a_foreign_track,
+  old_note_drops_a_new_frame,
+  past_the_extent,
+  another_group_is_kept_out,
 }
-use Rattle.device_defs.proofs.Own.{Before, IsFirm, play, all_do, OwnShow, heard_in}
+use Rattle.device_defs.proofs.Own.{Before, IsFirm, play, all_do, OwnShow, heard_in, lacking_at}
 
 -- one volume
 own_volume_runs : OwnShow (
@@ -179,6 +220,29 @@ unfolding all_do play all_happen steps_of works copies hold answer after is_in w
     power track_marks
 own_mark_runs = refl
 
+-- large records, and back from the volume
+own_large_runs : OwnShow (twelve_fast_formats ∷ twelve_formats_go_through ∷ large_patch_is_read ∷ [])
+unfolding all_do play all_happen steps_of works copies hold answer after is_in with_number less_one counted
+    least count_below command_of empty_bytes areas_at zero_at next_at records_at reading over settled side_lost
+    cache_lost store_lost all_firm_told waits hear all_told level_bytes image choose write_first write_second
+    write_done through write second_part work look follow command second background lose start_fault start reset
+    power formats_from quiet_ends
+own_large_runs = refl
+
+-- the other ones
+own_other_runs : OwnShow (
+    joined_volume_is_copied ∷ pair_is_written_in_two_events ∷ held_side_is_copied_later ∷
+    reset_leaves_a_background_half_write ∷ both_sides_fail ∷ loose_track_is_destaged_to_both_sides ∷
+    a_track_is_queued_twice ∷ seek_and_read ∷ another_path_waits_its_turn ∷ group_holds_the_device ∷
+    no_path_can_go_on ∷ power_loss_frees_the_device ∷ note_of_a_foreign_track ∷ old_note_drops_a_new_frame ∷ past_the_extent ∷
+    another_group_is_kept_out ∷ [])
+unfolding all_do play all_happen steps_of works copies hold answer after is_in with_number less_one counted
+    least count_below command_of empty_bytes areas_at zero_at next_at records_at reading over settled side_lost
+    cache_lost store_lost all_firm_told waits hear all_told level_bytes image choose write_first write_second
+    write_done through write second_part work look follow command second background lose start_fault start reset
+    power lend peek
+own_other_runs = refl
+
 -- What a keeper hears
 
 -- of a fast write the keeper hears the track before it, and the new one; destaging changes nothing
@@ -209,7 +273,8 @@ unfolding all_do play all_happen steps_of works copies hold answer after is_in w
 lost_data_are_not_heard = refl
 
 -- a write that goes through makes a loose track firm first
-loose_track_is_heard_twice : heard_in other_write_hardens ≡ Before 0 old_data ∷ Before 0 new_data ∷ IsFirm 0 new_data ∷ IsFirm 0 (replicate 8 0x55) ∷ []
+loose_track_is_heard_twice : heard_in other_write_hardens
+    ≡ Before 0 old_data ∷ Before 0 new_data ∷ IsFirm 0 new_data ∷ IsFirm 0 (replicate 8 0x55) ∷ []
 unfolding all_do play all_happen steps_of works copies hold answer after is_in with_number less_one counted
     least count_below command_of empty_bytes areas_at zero_at next_at records_at reading over settled side_lost
     cache_lost store_lost all_firm_told waits hear all_told level_bytes image choose write_first write_second
@@ -252,3 +317,72 @@ unfolding all_do play all_happen steps_of works copies hold answer after is_in w
     write_done through write second_part work look follow command second background lose start_fault start reset
     power lend peek
 power_loss_is_heard = refl
+
+-- Where memory is lacking once in a fast write's program, on a device of one frame and one slot: the command that lacked it is done
+-- again, and what it took is given back
+
+abbrev lacking : ℕ → List Line
+lacking n = lacking_at n (stand 1 1 [] [] (write_zero 0xc0 0 ∷ [])) (Start 1 ∷ steps_of 4 ++ Work ∷ [])
+
+-- before the first command
+first_command_is_done_again : lacking 1 ≡ Started 1 ∷ Lacking ∷ quiet 0 0 ∷ quiet 1 1 ∷ End 2 0x0c [] 0 0 ∷ Back (Destaged 0) 0 1 ∷ []
+unfolding all_do play all_happen steps_of works copies hold answer after is_in with_number less_one counted
+    least count_below command_of empty_bytes areas_at zero_at next_at records_at reading over settled side_lost
+    cache_lost store_lost all_firm_told waits hear all_told level_bytes image choose write_first write_second
+    write_done through write second_part work look follow command second background lose start_fault start reset
+    power lend peek
+first_command_is_done_again = refl
+
+-- for its end
+answer_is_made_again : lacking 2 ≡ Started 1 ∷ Lacking ∷ quiet 0 0 ∷ quiet 1 1 ∷ End 2 0x0c [] 0 0 ∷ Back (Destaged 0) 0 1 ∷ []
+unfolding all_do play all_happen steps_of works copies hold answer after is_in with_number less_one counted
+    least count_below command_of empty_bytes areas_at zero_at next_at records_at reading over settled side_lost
+    cache_lost store_lost all_firm_told waits hear all_told level_bytes image choose write_first write_second
+    write_done through write second_part work look follow command second background lose start_fault start reset
+    power lend peek
+answer_is_made_again = refl
+
+-- for the image of the track that was read
+track_is_read_again : lacking 4 ≡ Started 1 ∷ quiet 0 0 ∷ Lacking ∷ quiet 1 1 ∷ End 2 0x0c [] 0 0 ∷ Back (Destaged 0) 0 1 ∷ []
+unfolding all_do play all_happen steps_of works copies hold answer after is_in with_number less_one counted
+    least count_below command_of empty_bytes areas_at zero_at next_at records_at reading over settled side_lost
+    cache_lost store_lost all_firm_told waits hear all_told level_bytes image choose write_first write_second
+    write_done through write second_part work look follow command second background lose start_fault start reset
+    power lend peek
+track_is_read_again = refl
+
+-- for its frame
+frame_is_wanted_again : lacking 5 ≡ Started 1 ∷ quiet 0 0 ∷ Lacking ∷ quiet 1 1 ∷ End 2 0x0c [] 0 0 ∷ Back (Destaged 0) 0 1 ∷ []
+unfolding all_do play all_happen steps_of works copies hold answer after is_in with_number less_one counted
+    least count_below command_of empty_bytes areas_at zero_at next_at records_at reading over settled side_lost
+    cache_lost store_lost all_firm_told waits hear all_told level_bytes image choose write_first write_second
+    write_done through write second_part work look follow command second background lose start_fault start reset
+    power lend peek
+frame_is_wanted_again = refl
+
+-- for the step behind it: its frame stays
+loaded_track_is_a_hit_then : lacking 6 ≡ Started 1 ∷ quiet 0 0 ∷ Lacking ∷ quiet 1 0 ∷ End 2 0x0c [] 0 0 ∷ Back (Destaged 0) 0 1 ∷ []
+unfolding all_do play all_happen steps_of works copies hold answer after is_in with_number less_one counted
+    least count_below command_of empty_bytes areas_at zero_at next_at records_at reading over settled side_lost
+    cache_lost store_lost all_firm_told waits hear all_told level_bytes image choose write_first write_second
+    write_done through write second_part work look follow command second background lose start_fault start reset
+    power lend peek
+loaded_track_is_a_hit_then = refl
+
+-- for the edit
+edit_is_made_again : lacking 9 ≡ Started 1 ∷ quiet 0 0 ∷ quiet 1 1 ∷ Lacking ∷ End 2 0x0c [] 0 0 ∷ Back (Destaged 0) 0 1 ∷ []
+unfolding all_do play all_happen steps_of works copies hold answer after is_in with_number less_one counted
+    least count_below command_of empty_bytes areas_at zero_at next_at records_at reading over settled side_lost
+    cache_lost store_lost all_firm_told waits hear all_told level_bytes image choose write_first write_second
+    write_done through write second_part work look follow command second background lose start_fault start reset
+    power lend peek
+edit_is_made_again = refl
+
+-- by the keeper: the slot that the write had is given back
+slot_is_given_back : lacking 10 ≡ Started 1 ∷ quiet 0 0 ∷ quiet 1 1 ∷ Lacking ∷ End 2 0x0c [] 0 0 ∷ Back (Destaged 0) 0 1 ∷ []
+unfolding all_do play all_happen steps_of works copies hold answer after is_in with_number less_one counted
+    least count_below command_of empty_bytes areas_at zero_at next_at records_at reading over settled side_lost
+    cache_lost store_lost all_firm_told waits hear all_told level_bytes image choose write_first write_second
+    write_done through write second_part work look follow command second background lose start_fault start reset
+    power lend peek
+slot_is_given_back = refl

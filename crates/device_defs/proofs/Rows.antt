@@ -20,7 +20,8 @@ use Rattle.device_defs.specs.Peek.{peek}
 use Rattle.device_defs.specs.Owed.{waits, hear, all_told}
 use Rattle.device_defs.specs.Second.{second_part}
 use Rattle.device_defs.specs.Start.{start_fault, start}
-use Rattle.device_defs.specs.Writing.{write_first, write_second, write_done, through, write}
+use Rattle.device_defs.specs.Editing.{through, write}
+use Rattle.device_defs.specs.Writing.{write_first, write_second, write_done}
 use Rattle.device_defs.proofs.Stand.{
   FailCache,
   Program,
@@ -52,6 +53,8 @@ use Rattle.device_defs.proofs.Stand.{
   write_onward,
   write_zero,
   track_marks,
+  formats_from,
+  quiet_ends,
 }
 use Rattle.device_defs.proofs.SecondRuns.{
   second_part_is_absent,
@@ -80,6 +83,9 @@ use Rattle.device_defs.proofs.MarkRuns.{
   marks_of_a_hardened_track,
 }
 use Rattle.device_defs.proofs.Runs.{
+  twelve_fast_formats,
+  twelve_formats_go_through,
+  large_patch_is_read,
   clean_frames_are_hits,
   fast_write_keeps_its_frame,
   cache_loss_leaves_the_patch,
@@ -136,6 +142,8 @@ use Rattle.device_defs.proofs.Runs.{
   failed_miss_queues_nothing,
   lent_device_keeps_its_loose_data,
   no_side_is_up,
+  past_the_extent,
+  another_group_is_kept_out,
 }
 
 -- one volume
@@ -176,7 +184,8 @@ path_runs : Show (
     seek_and_read ∷ another_path_waits_its_turn ∷ group_holds_the_device ∷ no_path_can_go_on ∷
     power_loss_frees_the_device ∷ note_of_a_foreign_track ∷ old_note_drops_a_new_frame ∷
     no_half_write_beside_a_loose_track ∷ failed_read_and_write_of_the_other_side ∷
-    power_lost_in_a_background_half_write ∷ power_lost_in_a_cut_half_write ∷ [])
+    power_lost_in_a_background_half_write ∷ power_lost_in_a_cut_half_write ∷ past_the_extent ∷
+    another_group_is_kept_out ∷ [])
 unfolding all_happen steps_of works hold answer after is_in with_number less_one counted least count_below
     command_of over settled side_lost cache_lost store_lost all_firm_told waits hear all_told level_bytes image
     choose write_first write_second write_done through write second_part work look follow command second background
@@ -226,6 +235,14 @@ unfolding all_happen steps_of works hold answer after is_in with_number less_one
     choose write_first write_second write_done through write second_part work look follow command second background
     lose start_fault start reset power copies track_marks
 mark_runs = refl
+
+-- large records
+large_runs : Show (twelve_fast_formats ∷ twelve_formats_go_through ∷ large_patch_is_read ∷ [])
+unfolding all_happen steps_of works hold answer after is_in with_number less_one counted least count_below
+    command_of over settled side_lost cache_lost store_lost all_firm_told waits hear all_told level_bytes image
+    choose write_first write_second write_done through write second_part work look follow command second background
+    lose start_fault start reset power copies formats_from quiet_ends
+large_runs = refl
 
 -- What some of them leave
 

@@ -64,6 +64,9 @@ use Rattle.device_defs.proofs.Stand.{
   write_one,
   write_onward,
   write_zero,
+  format_twelve,
+  read_one,
+  quiet_ends,
 }
 
 -- of one frame: a track is read once while it has the frame
@@ -641,4 +644,57 @@ no_side_is_up = record {
       Started 1 ∷ quiet 0 0 ∷ quiet 1 1 ∷ End 2 0x0c old_data 0 0 ∷ []
       ++ Started 2 ∷ quiet 0 0 ∷ quiet 1 0 ∷ End 2 0x0e [] 0 0 ∷ []
       ++ Started 3 ∷ quiet 0 0 ∷ quiet 1 0 ∷ End 2 0x0c old_data 0 0 ∷ [];
+}
+
+-- twelve records of 4,096 bytes are formatted in the cache and read from it
+abbrev pub twelve_fast_formats : Run
+twelve_fast_formats = record {
+  on = stand 4 2 [] [] (format_twelve ∷ read_one 4096 ∷ read_one 4000 ∷ []);
+  events = go 14 ++ go 3 ++ go 3;
+  shows =
+      Started 1 ∷ quiet 0 0 ∷ quiet 1 1 ∷ quiet_ends 2 12 0
+      ++ Started 2 ∷ quiet 0 0 ∷ quiet 1 0 ∷ End 2 0x0c (replicate 4096 0) 0 0 ∷ []
+      ++ Started 3 ∷ quiet 0 0 ∷ quiet 1 0 ∷ End 2 0x0c (replicate 4000 0) 0 0 ∷ [];
+}
+
+-- without a store each of them is a write
+abbrev pub twelve_formats_go_through : Run
+twelve_formats_go_through = record {
+  on = stand 4 0 [] [] (format_twelve ∷ read_one 4096 ∷ []);
+  events = go 14 ++ go 3;
+  shows =
+      Started 1 ∷ quiet 0 0 ∷ quiet 1 1 ∷ quiet_ends 2 12 1
+      ++ Started 2 ∷ quiet 0 0 ∷ quiet 1 0 ∷ End 2 0x0c (replicate 4096 0) 0 0 ∷ [];
+}
+
+-- behind a loss of the cache they are read with their patch, and destaging them leaves them on the volume
+abbrev pub large_patch_is_read : Run
+large_patch_is_read = record {
+  on = stand 4 2 [] [] (format_twelve ∷ read_one 4096 ∷ read_one 4096 ∷ []);
+  events = go 14 ++ FailCache ∷ go 3 ++ Work ∷ go 3;
+  shows =
+      Started 1 ∷ quiet 0 0 ∷ quiet 1 1 ∷ quiet_ends 2 12 0
+      ++ Started 2 ∷ quiet 0 0 ∷ quiet 1 1 ∷ End 2 0x0c (replicate 4096 0) 1 0 ∷ Back (Recovered 0) 1 1 ∷ []
+      ++ Started 3 ∷ quiet 0 0 ∷ quiet 1 1 ∷ End 2 0x0c (replicate 4096 0) 1 0 ∷ [];
+}
+
+-- with an extent up to track 13 a read that finds no record there would go past it: file protected
+abbrev pub past_the_extent : Run
+past_the_extent = record {
+  on = stand 4 2 [] [] (((record (extent 0x40 0xc0) { given = 0x40 ∷ 0xc0 ∷ 0x10 ∷ 0 ∷ 0 ∷ 0 ∷ 0 ∷ 0 ∷ 0 ∷ 0 ∷ 0 ∷ 0 ∷ 0 ∷ 0 ∷ 0 ∷ 0x0d ∷ [] })
+      ∷ locate 0x46 1 13 0 ∷ alone 0x86 8 []) ∷ []);
+  events = go 3;
+  shows = Started 1 ∷ quiet 0 0 ∷ quiet 1 0 ∷ End 2 0x0e [] 1 0 ∷ [];
+}
+
+-- while a group holds the device, a path of another group isn't admitted, which the holder's own next program could free
+abbrev pub another_group_is_kept_out : Run
+another_group_is_kept_out = record {
+  on = stand_with 4 2 [] []
+      ((alone 0xaf 12 (0x80 ∷ group_name) ∷ alone 0xb4 32 [] ∷ alone 0x94 32 [] ∷ []) ∷ (alone 0xaf 12 (0x80 ∷ group_name) ∷ [])
+      ∷ (alone 0xaf 12 (0x80 ∷ 2 ∷ 2 ∷ 3 ∷ 4 ∷ 5 ∷ 6 ∷ 7 ∷ 8 ∷ 9 ∷ 10 ∷ 11 ∷ []) ∷ []) ∷ [] ∷ []);
+  events = go_on 1 1 ++ go_on 2 1 ++ go_on 1 1 ++ Start 3 ∷ go_on 1 1 ++ go_on 3 1;
+  shows =
+      Started 1 ∷ quiet 0 0 ∷ Started 1 ∷ quiet 0 0 ∷ Started 2 ∷ End 0 0x0c (replicate 32 0) 0 0
+      ∷ Refused (Reserved (Group (record { bytes = group_name }))) ∷ Started 3 ∷ End 0 0x0c (replicate 32 0) 0 0 ∷ Started 1 ∷ quiet 0 0 ∷ [];
 }

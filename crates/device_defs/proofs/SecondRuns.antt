@@ -4,7 +4,30 @@ use Rattle.ckd_types.specs.declared.paths.Side.TheVariants.{A, B}
 use Rattle.device_defs.specs.declared.answers.Did.TheVariants.{Nothing, Recovered, Destaged}
 use Rattle.device_defs.specs.declared.answers.Did.TheVariants as dids
 use Rattle.device_defs.specs.Peek.{Lost}
-use Rattle.device_defs.proofs.Stand.{Back, End, FailCache, FailSide, Half, Look, Reset, Run, Second, Seen, Started, Unseen, Unwritten, Work, go, new_data, old_data, pair, quiet, read_zero, stand, write_zero}
+use Rattle.device_defs.proofs.Stand.{
+  Back,
+  End,
+  FailCache,
+  FailSide,
+  Half,
+  Look,
+  Reset,
+  Run,
+  Second,
+  Seen,
+  Started,
+  Unseen,
+  Unwritten,
+  Work,
+  go,
+  new_data,
+  old_data,
+  pair,
+  quiet,
+  read_zero,
+  stand,
+  write_zero,
+}
 
 -- the side that took the first part is lost, and the other one fails: the command is checked, and its track is kept by its frame as it was
 abbrev pub second_part_is_absent : Run

@@ -393,3 +393,23 @@ write_one = extent 0x80 0xc1 ∷ locate 1 1 1 1 ∷ record { command = 0x85; fla
 unfoldable pub copies : ℕ → List Line
 copies zero = []
 copies (suc n) = copies n ++ Back (Copied n) 1 1 ∷ []
+
+-- n records of 4,096 zeros behind the first r - 1 records of track 0
+unfoldable pub formats_from : ℕ → ℕ → List Ccw
+formats_from r zero = []
+formats_from r (suc zero) =
+    record { command = 0x1d; flags = 0; count = 4104; given = 0 ∷ 0 ∷ 0 ∷ 0 ∷ r ∷ 0 ∷ 0x10 ∷ 0 ∷ [] } ∷ []
+formats_from r (suc (suc n)) =
+    record { command = 0x1d; flags = 0x40; count = 4104; given = 0 ∷ 0 ∷ 0 ∷ 0 ∷ r ∷ 0 ∷ 0x10 ∷ 0 ∷ [] } ∷ formats_from (r + 1) (suc n)
+
+abbrev pub format_twelve : List Ccw
+format_twelve = extent 0xc0 0xc0 ∷ locate 3 12 0 0 ∷ formats_from 1 12
+
+-- record 1 of track 0 is read with a count
+abbrev pub read_one : ℕ → List Ccw
+read_one count = extent 0x40 0xc0 ∷ locate 6 1 0 1 ∷ record { command = 0x86; flags = 0; count = count; given = [] } ∷ []
+
+-- commands from a word on that end well, send nothing, and make this write each
+unfoldable pub quiet_ends : ℕ → ℕ → ℕ → List Line
+quiet_ends word zero writes = []
+quiet_ends word (suc n) writes = End word 0x0c [] 0 writes ∷ quiet_ends (word + 1) n writes

@@ -7,6 +7,7 @@ pub mod Owed
 pub mod Image
 pub mod Choosing
 pub mod Writing
+pub mod Editing
 pub mod Second
 pub mod Background
 pub mod Device

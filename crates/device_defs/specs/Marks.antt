@@ -1,5 +1,5 @@
 -- The device of a run, over marks and plain volumes, and a new one.
-use Rattle.std.specs.Prelude.{ℕ, ◌*◌, Bool, false, List, [], Option, Some, None, map, replicate}
+use Rattle.std.specs.Prelude.{ℕ, ◌*◌, Bool, false, List, [], None, map, option_map, replicate}
 use Rattle.ckd_types.specs.declared.geometry.Geometry.{Geometry}
 use Rattle.ckd_types.specs.declared.record.Track.{Track}
 use Rattle.ckd_types.specs.Volume.{empty_volume}
@@ -59,25 +59,21 @@ new_device d g cylinders plans = record {
 
 -- What a run knows of a device that keeps contents: its marks, with this plain volume, and this one without data of cache fast write
 
-abbrev pub frame_mark : Option Frame → Option Bool
-frame_mark (Some f) = Some f.modified
-frame_mark None = None
+abbrev pub frame_mark : Frame → Bool
+frame_mark f = f.modified
 
-abbrev pub patch_mark : Option Stored → Option (Unit {0})
-patch_mark (Some p) = Some tt
-patch_mark None = None
+abbrev pub patch_mark : Stored → Unit {0}
+patch_mark p = tt
 
-abbrev pub half_mark : Option (HalfWrite Image) → Option (HalfWrite (Unit {0}))
-half_mark (Some h) = Some (record { track = h.track; origin = h.origin; image = tt })
-half_mark None = None
+abbrev pub half_mark : HalfWrite Image → HalfWrite (Unit {0})
+half_mark h = record { track = h.track; origin = h.origin; image = tt }
 
 -- a slot has no number there
-abbrev pub slot_mark : Option ℕ → Option ℕ
-slot_mark (Some slot) = Some 0
-slot_mark None = None
+abbrev pub slot_mark : ℕ → ℕ
+slot_mark slot = 0
 
 abbrev pub owed_mark : Owed → Owed
-owed_mark o = record o { freed = slot_mark o.freed }
+owed_mark o = record o { freed = option_map slot_mark o.freed }
 
 abbrev pub marks_of : List Track → List Track → Store Frame Stored Image → MarksStore
 marks_of plain firm s = record {
@@ -90,12 +86,12 @@ marks_of plain firm s = record {
   held = s.held;
   a = s.a;
   b = s.b;
-  frames = map frame_mark s.frames;
-  patches = map patch_mark s.patches;
+  frames = map (option_map frame_mark) s.frames;
+  patches = map (option_map patch_mark) s.patches;
   lost = s.lost;
   loose = s.loose;
   queue = s.queue;
-  half = half_mark s.half;
+  half = option_map half_mark s.half;
   plain = plain;
   firm = firm;
   acts = s.acts;
