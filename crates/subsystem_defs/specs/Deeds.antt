@@ -1,14 +1,11 @@
 -- What an event does, one text for the code and for a run: whom it asks, and what becomes of which device.
-use Rattle.std.specs.Prelude.{ℕ, ◌==◌, not, Bool, List, [], ◌∷◌, Option, Some, None, is_some, if◌then◌else◌}
-use Rattle.ckd_types.specs.declared.paths.Side.{Side}
+use Rattle.std.specs.Prelude.{ℕ, ◌==◌, not, Bool, false, List, [], ◌∷◌, Option, Some, None, is_some, if◌then◌else◌}
 use Rattle.track_image.specs.Image.{Image}
 use Rattle.loss_model.specs.declared.Loss.TheVariants as losses
 use Rattle.plain_defs.specs.History.{OpenEntry}
 use Rattle.device_outside.specs.Interaction.{Interaction, Done, and_then}
 use Rattle.device_outside.specs.Pool.{Pool, cache_failed, store_failed, power_lost, all_waiting, cache_repaired, store_repaired}
-use Rattle.device_defs.specs.declared.answers.Did.{Did}
 use Rattle.device_defs.specs.declared.answers.StartFault.{StartFault}
-use Rattle.device_defs.specs.declared.answers.Stepped.{Stepped}
 use Rattle.device_defs.specs.Command.{command}
 use Rattle.device_defs.specs.Contents.{Contents}
 use Rattle.device_defs.specs.Cutting.{reset, power}
@@ -33,24 +30,32 @@ pub data Deed (F P H R : Type 0) : Type 0 where
   Repairs : Pool → Deed F P H R
   Lends : Device F P H → Device F P H → Deed F P H R  -- to the first one the second one's volume
 
+abbrev pub end_of : {A : Type 0} → (A → EventEnd) → Option A → Option EventEnd
+end_of f (Some a) = Some (f a)
+end_of f None = None
+
+abbrev pub ends_done : Unit {0} → EventEnd
+ends_done u = ends.Done
+
+abbrev pub is_own : ℕ → Option OpenEntry → Bool
+is_own path (Some o) = o.path == path
+is_own path None = false
+
+module _ {F P H : Type 0} where
+  -- the device of this number; that there is one is the caller's condition
+  abbrev pub device_in : List (Device F P H) → ℕ → Option (Device F P H)
+  device_in [] n = None
+  device_in (d ∷ ds) n = if d.store.device == n then Some d else device_in ds n
+
 module _ {F P H R : Type 0} where
   -- an answer as an event's end
   abbrev pub ends_by : {A : Type 0} → (A → EventEnd) → Interaction R Image (Device F P H) A → Interaction R Image (Device F P H) (Option EventEnd)
   ends_by f i = and_then i (λ d a. Done d (Some (f a)))
 
-  abbrev pub end_of : {A : Type 0} → (A → EventEnd) → Option A → Option EventEnd
-  end_of f (Some a) = Some (f a)
-  end_of f None = None
-
   -- an answer that may be want of memory
   abbrev pub may_end_by : {A : Type 0} → (A → EventEnd) → Interaction R Image (Device F P H) (Option A) →
       Interaction R Image (Device F P H) (Option EventEnd)
   may_end_by f i = and_then i (λ d a. Done d (end_of f a))
-
-  -- the device of this number; that there is one is the caller's condition
-  abbrev pub device_in : List (Device F P H) → ℕ → Option (Device F P H)
-  device_in [] n = None
-  device_in (d ∷ ds) n = if d.store.device == n then Some d else device_in ds n
 
   abbrev pub on_device : Option (Device F P H) → (Device F P H → Deed F P H R) → Deed F P H R
   on_device (Some d) f = f d
@@ -64,18 +69,11 @@ module _ {F P H R : Type 0} where
   abbrev pub order_if_not : Bool → OrderFault → Deed F P H R → Deed F P H R
   order_if_not refused f deed = if refused then Ends (ends.Refused f) else deed
 
-  abbrev pub ends_done : Unit {0} → EventEnd
-  ends_done u = ends.Done
-
   -- Start
 
   abbrev pub start_by : Device F P H → ℕ → Option StartFault → Deed F P H R
   start_by d path (Some f) = Ends (ends.NotStarted f)
   start_by d path None = Becomes (start d path) (ends.Started (next_ordinal d path))
-
-  abbrev pub is_own : ℕ → Option OpenEntry → Bool
-  is_own path (Some o) = o.path == path
-  is_own path None = false
 
   abbrev pub starts : ℕ → Device F P H → Deed F P H R
   starts path d = if is_own path d.history.running then Ends ends.Running else start_by d path (start_fault d path)

@@ -1,1 +1,7 @@
 pub mod Refusals
+pub mod Deeds
+pub mod Subsystem
+pub mod Happening
+pub mod Lines
+pub mod Closing
+pub mod Decks
