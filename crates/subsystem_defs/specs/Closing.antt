@@ -10,7 +10,7 @@ use Rattle.device_outside.specs.Told.{Calls}
 use Rattle.device_defs.specs.Contents.{by_plain}
 use Rattle.device_defs.specs.Marks.{MarksStore}
 use Rattle.device_defs.specs.Owed.{is_modified}
-use Rattle.device_defs.specs.Store.{tracks_of, side_of, level_at, frame_at, patch_at, is_lost}
+use Rattle.device_defs.specs.Store.{tracks_of, side_of, level_at, frame_at, patch_at, is_lost, half_is}
 use Rattle.subsystem_defs.specs.Subsystem.{Mounted, Subsystem, number_of, calls_behind}
 
 -- What is told: of each device in rising order its calls, whatever volumes it had, and its lost tracks in rising order, or to whom it is lent
@@ -50,11 +50,11 @@ pub record HandedOut : Type 0 where
   pub calls : Calls
   pub tracks : List (Option (List ℕ))
 
--- the side's bytes are those of the plain volume: it is level there, nothing newer is kept, and nothing is being written
+-- the side's bytes are those of the plain volume: it is level there, nothing newer is kept, and it isn't being written
 abbrev pub is_plain_at : MarksStore → Side → ℕ → Bool
 is_plain_at s side t =
     level_at (side_of s side) t && not (is_lost s t) && not (is_some (patch_at s t)) && not (is_modified by_plain (frame_at s t))
-    && not (is_some s.half)
+    && not (half_is s.half t)
 
 abbrev pub known_bytes : MarksStore → Side → ℕ → Option (List ℕ)
 known_bytes s side t = if is_plain_at s side t then Some (track_bytes (track_in s.plain t)) else None

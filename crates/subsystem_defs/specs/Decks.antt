@@ -7,7 +7,7 @@ use Rattle.deck_text.specs.Plans.{plans_of}
 use Rattle.device_outside.specs.Pool.{new_pool}
 use Rattle.device_outside.specs.Volume.{Plan}
 use Rattle.subsystem_defs.specs.Closing.{Ending, HandedOut, ending, handed_out}
-use Rattle.subsystem_defs.specs.Lines.{Told, asked_by, run_lines, last_behind}
+use Rattle.subsystem_defs.specs.Lines.{Asked, Logged, asked_by, run_lines, last_behind}
 use Rattle.subsystem_defs.specs.Subsystem.{Mounted, Subsystem, newly_mounted}
 
 abbrev pub is_same : Bool → Bool → Bool
@@ -30,16 +30,20 @@ opened_device deck d = newly_mounted d.number d.geometry d.cylinders (plans_of d
 abbrev pub opened : DeckLines → Subsystem
 opened deck = record { pool = new_pool deck.frames deck.slots; mounted = map (opened_device deck) deck.devices }
 
--- the events with RUN and SETTLE written out, each with its end and its volume calls; the subsystem behind them; and its end
+-- the events with RUN and SETTLE written out, each with its end and its volume calls, and the subsystem behind them
 pub record DeckRun : Type 0 where
-  pub events : List Told
+  pub events : List Logged
   pub behind : Subsystem
 
-abbrev pub run_from : Subsystem → List Told → DeckRun
+abbrev pub run_from : Subsystem → List Logged → DeckRun
 run_from s ts = record { events = ts; behind = last_behind s ts }
 
-unfoldable pub run_of : DeckLines → DeckRun
-run_of deck = run_from (opened deck) (run_lines (map asked_by deck.events) (opened deck))
+-- of what is asked of a deck's subsystem
+unfoldable pub run_asked : DeckLines → List Asked → DeckRun
+run_asked deck asked = run_from (opened deck) (run_lines asked (opened deck))
+
+abbrev pub run_of : DeckLines → DeckRun
+run_of deck = run_asked deck (map asked_by deck.events)
 
 abbrev pub ending_of : DeckLines → Ending
 ending_of deck = ending (run_of deck).behind

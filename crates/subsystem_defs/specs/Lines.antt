@@ -39,16 +39,16 @@ asked_by (lines.Suspend a) = Once (events.Suspend a)
 asked_by (lines.Resume a) = Once (events.Resume a)
 
 -- an event of a run, and what asked for it
-pub record Told : Type 0 where
+pub record Logged : Type 0 where
   pub asked : Asked
   pub happened : Happened
 
-abbrev pub told : Asked → Happened → Told
-told asked h = record { asked = asked; happened = h }
+abbrev pub logged : Asked → Happened → Logged
+logged asked h = record { asked = asked; happened = h }
 
 -- the rest goes on behind it
-abbrev pub and_so_on : Asked → Happened → (Subsystem → List Told) → List Told
-and_so_on asked h rest = told asked h ∷ rest h.behind
+abbrev pub and_so_on : Asked → Happened → (Subsystem → List Logged) → List Logged
+and_so_on asked h rest = logged asked h ∷ rest h.behind
 
 -- A program to its end
 
@@ -60,17 +60,17 @@ is_busy None = false
 abbrev pub most_steps : ℕ
 most_steps = 8193
 
-abbrev pub step_told : Subsystem → ℕ → (Subsystem → List Told) → List Told
-step_told s d rest = and_so_on (Run d) (happens s (events.Step d)) rest
+abbrev pub step_logged : Subsystem → ℕ → (Subsystem → List Logged) → List Logged
+step_logged s d rest = and_so_on (Run d) (happens s (events.Step d)) rest
 
-unfoldable pub steps : ℕ → ℕ → Subsystem → List Told
+unfoldable pub steps : ℕ → ℕ → Subsystem → List Logged
 steps zero d s = []
-steps (suc n) d s = if is_busy (mounted_in s.mounted d) then step_told s d (steps n d) else []
+steps (suc n) d s = if is_busy (mounted_in s.mounted d) then step_logged s d (steps n d) else []
 
 -- with nothing to do it is one event, which is idle
-abbrev pub run_told : Subsystem → ℕ → List Told
-run_told s d =
-    if is_busy (mounted_in s.mounted d) then steps most_steps d s else told (Run d) (quietly s s ends.Idle) ∷ []
+abbrev pub run_logged : Subsystem → ℕ → List Logged
+run_logged s d =
+    if is_busy (mounted_in s.mounted d) then steps most_steps d s else logged (Run d) (quietly s s ends.Idle) ∷ []
 
 -- All of the work in the background
 
@@ -89,31 +89,31 @@ is_settled _ = false
 abbrev pub most_backs : ℕ
 most_backs = 2946
 
-abbrev pub back_told : Happened → ℕ → (Subsystem → List Told) → List Told
-back_told h d rest = told (Settle d) h ∷ (if is_settled h.end then [] else rest h.behind)
+abbrev pub back_logged : Happened → ℕ → (Subsystem → List Logged) → List Logged
+back_logged h d rest = logged (Settle d) h ∷ (if is_settled h.end then [] else rest h.behind)
 
-unfoldable pub backs : ℕ → ℕ → Subsystem → List Told
+unfoldable pub backs : ℕ → ℕ → Subsystem → List Logged
 backs zero d s = []
-backs (suc n) d s = back_told (happens s (events.Back d)) d (backs n d)
+backs (suc n) d s = back_logged (happens s (events.Back d)) d (backs n d)
 
 -- The whole
 
-unfoldable pub line_told : Subsystem → Asked → List Told
-line_told s (Once e) = told (Once e) (happens s e) ∷ []
-line_told s (Replace d side) = told (Replace d side) (replaced s d side unfailing) ∷ []
-line_told s (Unpair a) = told (Unpair a) (unpaired s a unfailing) ∷ []
-line_told s (Run d) = run_told s d
-line_told s (Settle d) = backs most_backs d s
+unfoldable pub line_logged : Subsystem → Asked → List Logged
+line_logged s (Once e) = logged (Once e) (happens s e) ∷ []
+line_logged s (Replace d side) = logged (Replace d side) (replaced s d side unfailing) ∷ []
+line_logged s (Unpair a) = logged (Unpair a) (unpaired s a unfailing) ∷ []
+line_logged s (Run d) = run_logged s d
+line_logged s (Settle d) = backs most_backs d s
 
 -- the subsystem behind some events
-abbrev pub last_behind : Subsystem → List Told → Subsystem
+abbrev pub last_behind : Subsystem → List Logged → Subsystem
 last_behind s [] = s
 last_behind s (t ∷ ts) = last_behind t.happened.behind ts
 
-abbrev pub run_on : List Told → Subsystem → (Subsystem → List Told) → List Told
+abbrev pub run_on : List Logged → Subsystem → (Subsystem → List Logged) → List Logged
 run_on ts s rest = ts ++ rest (last_behind s ts)
 
 -- the events of some lines
-unfoldable pub run_lines : List Asked → Subsystem → List Told
+unfoldable pub run_lines : List Asked → Subsystem → List Logged
 run_lines [] s = []
-run_lines (x ∷ xs) s = run_on (line_told s x) s (run_lines xs)
+run_lines (x ∷ xs) s = run_on (line_logged s x) s (run_lines xs)
