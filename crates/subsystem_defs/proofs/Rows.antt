@@ -1,5 +1,9 @@
 -- What is computed of these runs, from the definitions alone.
-use Rattle.std.proofs.Common.{[], ◌∷◌, refl}
+use Rattle.std.proofs.Common.{◌≡◌, map, true, false, [], ◌∷◌, refl}
+use Rattle.std.specs.Prelude.{replicate}
+use Rattle.ckd_types.specs.declared.paths.Side.TheVariants.{A, B}
+use Rattle.plain_defs.specs.declared.journal.How.TheVariants.{Full, Cut, Checked}
+use Rattle.device_defs.proofs.Stand.{Program, ResetOf, Other}
 use Rattle.ckd_types.specs.Commands.{command_of}
 use Rattle.track_table.specs.Tracks.{least, count_below}
 use Rattle.device_outside.specs.Lists.{is_in, with_number, less_one}
@@ -18,12 +22,14 @@ use Rattle.device_defs.specs.Owed.{waits, hear, all_told}
 use Rattle.device_defs.specs.Second.{second_part}
 use Rattle.device_defs.specs.Start.{start_fault, start}
 use Rattle.device_defs.specs.Writing.{write_first, write_second, write_done, through, write}
+use Rattle.subsystem_defs.specs.Beside.{Loosened, Hardened, WentBack}
+use Rattle.subsystem_defs.specs.Closing.{Counted, LentTo, handed_of}
 use Rattle.subsystem_defs.specs.Decks.{run_asked}
 use Rattle.subsystem_defs.specs.Deeds.{deed}
 use Rattle.subsystem_defs.specs.Happening.{sweep, happens, replaced, unpaired}
 use Rattle.subsystem_defs.specs.Lines.{steps, backs, line_logged, run_lines}
 use Rattle.subsystem_defs.specs.Refusals.{pair_fault, unpair_fault, suspend_fault, resume_fault, fail_fault, replace_fault}
-use Rattle.subsystem_defs.proofs.Stand.{Show, copies}
+use Rattle.subsystem_defs.proofs.Stand.{Show, copies, goes, ending_of, settled_goes, loose_by, items_by, volume, volumes_by}
 use Rattle.subsystem_defs.proofs.Runs.{
   first_read,
   one_frame,
@@ -130,3 +136,48 @@ unfolding command_of least count_below is_in with_number less_one answer after c
     write pair_fault unpair_fault suspend_fault resume_fault fail_fault replace_fault deed sweep happens replaced
     unpaired steps backs line_logged run_lines run_asked copies
 power_losses_show = refl
+
+-- more than two hundred events of a pair
+pub many_events : ending_of (settled_goes 25) ≡ record { events = 242; ending = record { devices = Counted 0 16 65 [] ∷ LentTo 1 0 ∷ []; frames = ((0, 0), false) ∷ [] } }
+unfolding command_of least count_below is_in with_number less_one answer after counted hold work choose look follow
+    command reset power second background lose level_bytes image over settled side_lost cache_lost store_lost
+    all_firm_told waits hear all_told lend second_part start_fault start write_first write_second write_done through
+    write pair_fault unpair_fault suspend_fault resume_fault fail_fault replace_fault deed sweep happens replaced
+    unpaired steps backs line_logged run_lines run_asked copies goes
+many_events = refl
+
+-- what was told of data of cache fast write
+pub loose_data_are_told : map loose_by (provisional_write_is_lost ∷ provisional_write_is_destaged ∷ other_write_goes_through
+    ∷ power_takes_loose_data ∷ [])
+    ≡ (Loosened 0 ∷ WentBack 1 1 ∷ []) ∷ (Loosened 0 ∷ Hardened 0 ∷ []) ∷ (Loosened 0 ∷ Hardened 0 ∷ [])
+    ∷ (Loosened 0 ∷ WentBack 1 1 ∷ []) ∷ []
+unfolding command_of least count_below is_in with_number less_one answer after counted hold work choose look follow
+    command reset power second background lose level_bytes image over settled side_lost cache_lost store_lost
+    all_firm_told waits hear all_told lend second_part start_fault start write_first write_second write_done through
+    write pair_fault unpair_fault suspend_fault resume_fault fail_fault replace_fault deed sweep happens replaced
+    unpaired steps backs line_logged run_lines run_asked copies
+loose_data_are_told = refl
+
+-- and what came to journals
+pub items_are_told : map items_by (track_is_lost ∷ program_is_cut ∷ power_cuts_a_write ∷ held_side_leaves ∷ [])
+    ≡ (Program 1 Full ∷ Program 1 Checked ∷ []) ∷ (Program 1 (Cut 1) ∷ ResetOf 1 ∷ [])
+    ∷ (Program 1 (Cut 3) ∷ Other ∷ Program 1 Full ∷ []) ∷ (Program 1 Full ∷ Other ∷ Program 1 Full ∷ []) ∷ []
+unfolding command_of least count_below is_in with_number less_one answer after counted hold work choose look follow
+    command reset power second background lose level_bytes image over settled side_lost cache_lost store_lost
+    all_firm_told waits hear all_told lend second_part start_fault start write_first write_second write_done through
+    write pair_fault unpair_fault suspend_fault resume_fault fail_fault replace_fault deed sweep happens replaced
+    unpaired steps backs line_logged run_lines run_asked copies
+items_are_told = refl
+
+-- what is handed out
+pub volumes_are_handed_out : map volumes_by (fast_write_is_destaged ∷ modified_frame_stays ∷ pair_outlives_a_side ∷ held_side_leaves ∷ [])
+    ≡ (volume 0 A 1 1 (replicate 15 true) ∷ [])
+    ∷ (volume 0 A 3 0 (false ∷ replicate 14 true) ∷ [])
+    ∷ (volume 0 A 2 15 (replicate 15 true) ∷ volume 0 B 17 16 (replicate 15 false) ∷ [])
+    ∷ (volume 0 A 16 1 (replicate 15 true) ∷ volume 1 A 1 0 (replicate 15 true) ∷ []) ∷ []
+unfolding command_of least count_below is_in with_number less_one answer after counted hold work choose look follow
+    command reset power second background lose level_bytes image over settled side_lost cache_lost store_lost
+    all_firm_told waits hear all_told lend second_part start_fault start write_first write_second write_done through
+    write pair_fault unpair_fault suspend_fault resume_fault fail_fault replace_fault deed sweep happens replaced
+    unpaired steps backs line_logged run_lines run_asked copies handed_of
+volumes_are_handed_out = refl

@@ -1,14 +1,17 @@
 -- Small decks, and what their runs show.
-use Rattle.std.proofs.Common.{◌≡◌, map, ℕ, zero, suc, List, [], ◌∷◌, ◌++◌}
+use Rattle.std.proofs.Common.{Bool, Option, Some, None, true, false, ◌≡◌, map, ℕ, zero, suc, List, [], ◌∷◌, ◌++◌}
 use Rattle.ckd_types.specs.declared.channel.Ccw.{Ccw}
 use Rattle.ckd_types.specs.declared.channel.CommandEnd.{CommandEnd}
 use Rattle.ckd_types.specs.declared.geometry.Geometry.TheVariants.{D3390}
+use Rattle.ckd_types.specs.declared.paths.Side.{Side}
 use Rattle.deck_plan.specs.declared.event.EventLine.{EventLine}
 use Rattle.deck_plan.specs.declared.event.EventLine.TheVariants as lines
+use Rattle.std.specs.Prelude.{length}
 use Rattle.deck_text.specs.declared.line.DeviceLine.{DeviceLine}
 use Rattle.deck_text.specs.declared.line.FaultLine.{FaultLine}
 use Rattle.deck_text.specs.declared.line.PlannedProgram.{PlannedProgram}
 use Rattle.deck_text.specs.DeckLines.{DeckLines}
+use Rattle.plain_defs.specs.declared.journal.Item.{Item}
 use Rattle.device_outside.specs.Pool.{Frame}
 use Rattle.device_defs.specs.declared.answers.Did.{Did}
 use Rattle.device_defs.specs.declared.answers.Did.TheVariants as dids
@@ -17,10 +20,13 @@ use Rattle.device_defs.specs.declared.answers.SecondEnd.TheVariants as seconds
 use Rattle.device_defs.specs.declared.answers.StartFault.{StartFault}
 use Rattle.device_defs.specs.declared.answers.Stepped.{Stepped}
 use Rattle.device_defs.specs.declared.answers.Stepped.TheVariants as stepped
+use Rattle.device_defs.proofs.Stand.{read_zero, write_zero}
+use Rattle.device_defs.proofs.Stand as dev
 use Rattle.subsystem_defs.specs.declared.end.EventEnd.{EventEnd}
 use Rattle.subsystem_defs.specs.declared.end.EventEnd.TheVariants as ends
 use Rattle.subsystem_defs.specs.declared.end.OrderFault.{OrderFault}
-use Rattle.subsystem_defs.specs.Closing.{DeviceEnd, Ending, ending}
+use Rattle.subsystem_defs.specs.Beside.{Beside, LooseTold, beside}
+use Rattle.subsystem_defs.specs.Closing.{DeviceEnd, Ending, HandedOut, ending, handed_out}
 use Rattle.subsystem_defs.specs.declared.event.Event.TheVariants as events
 use Rattle.subsystem_defs.specs.Decks.{DeckRun, run_asked}
 use Rattle.subsystem_defs.specs.Lines.{Asked, Once, Logged, asked_by}
@@ -181,3 +187,72 @@ wanted x = record { shows = x.shows; ending = record { devices = x.devices; fram
 
 abbrev pub Show : List Sample → Type 0
 Show samples = map report_by samples ≡ map wanted samples
+
+-- so many programs, one after another, which write and read the first track
+unfoldable pub goes : ℕ → List (List Ccw)
+goes zero = []
+goes (suc n) = write_zero 0xc1 0 ∷ read_zero 0xc0 0 ∷ goes n
+
+abbrev pub go_on : List (List Ccw) → List Asked
+go_on [] = []
+go_on (p ∷ ps) = go ++ go_on ps
+
+-- on a level pair
+abbrev pub settled_goes : ℕ → DeckRun
+settled_goes n = run_asked (two (goes n)) (line (lines.Pair 0 1) ++ settle ++ go_on (goes n))
+
+-- how many events there were, and the ending
+pub record Counts : Type 0 where
+  pub events : ℕ
+  pub ending : Ending
+
+abbrev pub ending_of : DeckRun → Counts
+ending_of r = record { events = length r.events; ending = ending r.behind }
+
+-- Beside the events' ends
+
+abbrev pub all_loose : List Beside → List LooseTold
+all_loose [] = []
+all_loose (b ∷ bs) = b.loose ++ all_loose bs
+
+abbrev pub all_items : List Beside → List Item
+all_items [] = []
+all_items (b ∷ bs) = b.items ++ all_items bs
+
+-- what was told of data of cache fast write
+abbrev pub loose_of : List Logged → List LooseTold
+loose_of [] = []
+loose_of (x ∷ xs) = all_loose (beside x.happened) ++ loose_of xs
+
+-- what came to the journals
+abbrev pub items_of : List Logged → List Item
+items_of [] = []
+items_of (x ∷ xs) = all_items (beside x.happened) ++ items_of xs
+
+abbrev pub loose_by : Sample → List LooseTold
+loose_by x = loose_of (run_asked x.deck x.asked).events
+
+abbrev pub items_by : Sample → List dev.Shown
+items_by x = map dev.shown_item (items_of (run_asked x.deck x.asked).events)
+
+-- What is handed out: device, side, calls, and of each track whether its bytes are known
+
+pub record Volume : Type 0 where
+  pub device : ℕ
+  pub side : Side
+  pub reads : ℕ
+  pub writes : ℕ
+  pub known : List Bool
+
+abbrev pub is_known : Option (List ℕ) → Bool
+is_known (Some bytes) = true
+is_known None = false
+
+abbrev pub volume_of : HandedOut → Volume
+volume_of h = record { device = h.device; side = h.side; reads = h.calls.reads; writes = h.calls.writes; known = map is_known h.tracks }
+
+abbrev pub volume : ℕ → Side → ℕ → ℕ → List Bool → Volume
+volume d side reads writes known = record { device = d; side = side; reads = reads; writes = writes; known = known }
+
+abbrev pub volumes_by : Sample → List Volume
+volumes_by x = map volume_of (handed_out (run_asked x.deck x.asked).behind)
