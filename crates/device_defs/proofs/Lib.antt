@@ -1,4 +1,7 @@
 pub mod Stand
 pub mod Runs
+pub mod SecondRuns
+pub mod MarkRuns
 mod Rows
-mod Own
+pub mod Own
+mod OwnRows

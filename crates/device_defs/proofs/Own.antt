@@ -1,7 +1,6 @@
--- The same runs by a device's own events, over the bytes of its volumes and the images of its frames: they show the same.
-use Rattle.std.proofs.Common.{◌≡◌, ℕ, Bool, true, false, List, [], ◌∷◌, ◌++◌, Option, Some, None, map, refl, if◌then◌else◌}
+-- Runs by a device's own events, over the bytes of its volumes and the images of its frames.
+use Rattle.std.proofs.Common.{◌+◌, ◌≡◌, ℕ, Bool, false, List, [], ◌∷◌, ◌++◌, Option, Some, None, map, if◌then◌else◌}
 use Rattle.std.specs.Prelude.{replicate, slice_index_or, slice_set, not}
-use Rattle.ckd_types.specs.Commands.{command_of}
 use Rattle.ckd_types.specs.declared.geometry.Geometry.TheVariants.{D3390}
 use Rattle.ckd_types.specs.declared.paths.Side.{Side}
 use Rattle.ckd_types.specs.declared.paths.Side.TheVariants.{A, B}
@@ -11,111 +10,110 @@ use Rattle.plain_defs.specs.PlainState.{fresh_paths}
 use Rattle.track_cache.specs.declared.frames.Frame.{Frame}
 use Rattle.nv_store.specs.declared.patches.Stored.{Stored}
 use Rattle.track_image.specs.Image.{Image}
-use Rattle.track_image.specs.Reading.{areas_at, zero_at, next_at, records_at, reading}
-use Rattle.track_table.specs.Tracks.{least, count_below}
+use Rattle.track_table.specs.Tracks.{least}
 use Rattle.device_outside.specs.declared.port.SlotGrant.TheVariants.{Given}
-use Rattle.device_outside.specs.Disk.{empty_bytes, empty_contents}
+use Rattle.device_outside.specs.Disk.{empty_contents}
 use Rattle.device_outside.specs.Interaction.{Interaction, Done, Try, Ask, Read, Write, Tell}
-use Rattle.device_outside.specs.Keeper.{reply}
-use Rattle.device_outside.specs.Lists.{is_in, with_number, less_one}
-use Rattle.device_outside.specs.Pool.{Pool, Call, WantSlot, AnswerTo, answer, after, cache_failed, store_failed, power_lost}
-use Rattle.device_outside.specs.Told.{Told, calls_of, read_fails, write_fails, read_counted, write_counted, hold}
-use Rattle.device_outside.specs.Volume.{counted}
+use Rattle.device_outside.specs.Keeper.{Message, BeforeEdit, Firm, ReplyTo}
+use Rattle.device_outside.specs.Lists.{is_in}
+use Rattle.device_outside.specs.Pool.{
+  Pool,
+  Call,
+  WantSlot,
+  AnswerTo,
+  answer,
+  after,
+  cache_failed,
+  store_failed,
+  cache_repaired,
+  store_repaired,
+  power_lost,
+}
+use Rattle.device_outside.specs.Told.{Told, calls_of, read_fails, write_fails, read_counted, write_counted}
 use Rattle.device_defs.specs.declared.answers.Did.{Did}
 use Rattle.device_defs.specs.declared.answers.SecondEnd.{SecondEnd}
 use Rattle.device_defs.specs.declared.answers.StartFault.{StartFault}
 use Rattle.device_defs.specs.declared.answers.Stepped.{Stepped}
-use Rattle.device_defs.specs.Background.{work}
-use Rattle.device_defs.specs.Choosing.{choose}
-use Rattle.device_defs.specs.Command.{look, follow, command}
+use Rattle.device_defs.specs.Command.{command}
 use Rattle.device_defs.specs.Contents.{contents}
 use Rattle.device_defs.specs.Cutting.{reset, power}
 use Rattle.device_defs.specs.Device.{Device}
 use Rattle.device_defs.specs.Events.{second, background, lose}
-use Rattle.device_defs.specs.Image.{level_bytes, image}
-use Rattle.device_defs.specs.Losses.{over, settled, side_lost, cache_lost, store_lost, all_firm_told}
-use Rattle.device_defs.specs.Marks.{no_counts}
-use Rattle.device_defs.specs.Orders.{join, replace, hold as hold_b, resume}
-use Rattle.device_defs.specs.Owed.{waits, hear, all_told}
-use Rattle.device_defs.specs.Second.{second_part}
+use Rattle.device_defs.specs.Marks.{no_counts, marks_of}
+use Rattle.device_defs.specs.Orders.{join, split, replace, hold as hold_b, resume, restore, lend}
+use Rattle.device_defs.specs.Peek.{Peeked, peek}
 use Rattle.device_defs.specs.Start.{start_fault, start, next_ordinal}
 use Rattle.device_defs.specs.Store.{Store, new_side, no_side, no_debt}
-use Rattle.device_defs.specs.Writing.{write_first, write_second, write_done, through, write}
 use Rattle.device_defs.proofs.Stand.{
-  Line,
-  Started,
-  Refused,
-  Stand,
   Event,
-  Start,
-  Step,
-  Second,
-  Work,
-  Reset,
   FailCache,
-  FailStore,
   FailSide,
-  Power,
+  FailStore,
   Join,
-  Replace,
-  Suspend,
-  Resume,
+  Lend,
+  Line,
+  Look,
+  Marks,
   Note,
+  Power,
+  Refused,
+  RepairCache,
+  RepairStore,
+  Replace,
+  Reset,
+  Restore,
+  Resume,
   Run,
-  shows_of,
-  from_zero,
-  new_calls,
-  step_line,
-  second_line,
+  Second,
+  Split,
+  Stand,
+  Start,
+  Started,
+  Step,
+  Suspend,
+  Work,
   back_line,
-  all_happen,
-  steps_of,
+  body_of,
+  from_zero,
+  look_line,
+  marks_line,
+  new_calls,
+  repair_line,
+  second_line,
+  shows_of,
+  step_line,
   works,
-  copies,
-}
-use Rattle.device_defs.proofs.Runs.{
-  clean_frames_are_hits,
-  fast_write_keeps_its_frame,
-  cache_loss_leaves_the_patch,
-  store_loss_then_cache_loss,
-  both_losses_lose_the_track,
-  destaging_fails_and_goes_again,
-  sequential_reads_stage_ahead,
-  bypass_loads_nothing,
-  no_slot_writes_through,
-  fast_write_is_destaged,
-  provisional_write_is_lost_with_the_cache,
-  provisional_write_is_destaged,
-  loss_in_its_own_program,
-  other_write_hardens,
-  power_loss_leaves_the_patch,
-  power_loss_takes_loose_data,
-  side_lost_between_two_parts,
-  reset_between_two_parts,
-  power_lost_between_two_parts,
-  loose_track_is_destaged_to_the_other_side,
-  no_half_write_beside_a_loose_track,
-  failed_read_and_write_of_the_other_side,
-  power_lost_in_a_background_half_write,
-  power_lost_in_a_cut_half_write,
 }
 
--- the pool and the calls that fail, and what each side holds
+-- what a keeper heard: a track, with the data of its record 0
+pub data Heard : Type 0 where
+  Before : ℕ → List ℕ → Heard
+  IsFirm : ℕ → List ℕ → Heard
+
+abbrev pub heard_of : Message Image → Heard
+heard_of (BeforeEdit d t i) = Before t (body_of i.track.records)
+heard_of (Firm d t i) = IsFirm t (body_of i.track.records)
+
+-- the pool and the calls that fail, what each side holds, what the keeper heard, and where memory is lacking: how often it was asked for,
+-- and which of these times it isn't had
 pub record World : Type 0 where
   pub told : Told
   pub a : List (List ℕ)
   pub b : List (List ℕ)
+  pub heard : List Heard
+  pub tries : ℕ
+  pub lacks : List ℕ
 
-abbrev held_by : World → Side → List (List ℕ)
+abbrev pub held_by : World → Side → List (List ℕ)
 held_by w A = w.a
 held_by w B = w.b
 
-abbrev holding : World → Side → List (List ℕ) → World
+abbrev pub holding : World → Side → List (List ℕ) → World
 holding w A v = record w { a = v }
 holding w B v = record w { b = v }
 
 -- a slot that is given has a number that isn't in use
-abbrev numbered : Pool → (c : Call) → AnswerTo c → AnswerTo c
+abbrev pub numbered : Pool → (c : Call) → AnswerTo c → AnswerTo c
 numbered p WantSlot (Given k) = Given (least_free (least 64 (λ n. not (is_in n p.used))))
   where
     least_free : Option ℕ → ℕ
@@ -128,10 +126,25 @@ pub record Played (S A : Type 0) : Type 0 where
   pub answer : A
   pub world : World
 
+abbrev pub has_memory : World → Bool
+has_memory w = not (is_in (w.tries + 1) w.lacks)
+
+abbrev pub asked : World → World
+asked w = record w { tries = w.tries + 1 }
+
+-- a keeper may lack memory before an edit
+abbrev pub replied : World → (m : Message Image) → ReplyTo m
+replied w (BeforeEdit d t i) = has_memory w
+replied w (Firm d t i) = tt
+
+abbrev pub heard_by : World → Message Image → World
+heard_by w (BeforeEdit d t i) = record (asked w) { heard = w.heard ++ heard_of (BeforeEdit d t i) ∷ [] }
+heard_by w (Firm d t i) = record w { heard = w.heard ++ heard_of (Firm d t i) ∷ [] }
+
 -- a write that fails leaves no bytes
-unfoldable play : {I S A : Type 0} → Interaction (List ℕ) I S A → World → Played S A
+unfoldable pub play : {S A : Type 0} → Interaction (List ℕ) Image S A → World → Played S A
 play (Done s a) w = record { state = s; answer = a; world = w }
-play (Try k) w = play (k true) w
+play (Try k) w = play (k (has_memory w)) (asked w)
 play (Ask call k) w =
     let a = numbered w.told.pool call (answer w.told.pool call) in
     play (k a) (record w { told = record w.told { pool = after w.told.pool call a } })
@@ -141,12 +154,12 @@ play (Read side t k) w =
 play (Write side t r k) w =
     let fails = write_fails (calls_of w.told side) in
     play (k (not fails)) (holding (record w { told = write_counted w.told side }) side (slice_set (held_by w side) t (if fails then [] else r)))
-play (Tell m k) w = play (k (reply m)) w
+play (Tell m k) w = play (k (replied w m)) (heard_by w m)
 
-abbrev OwnDevice : Type 0
+abbrev pub OwnDevice : Type 0
 OwnDevice = Device Frame Stored Image
 
-abbrev own_store : Store Frame Stored Image
+abbrev pub own_store : Store Frame Stored Image
 own_store = record {
   device = 0;
   geometry = D3390;
@@ -176,7 +189,7 @@ pub record Own : Type 0 where
   pub lines : List Line
 
 -- a new device, with what is planned for that of a stand
-abbrev own_of : Stand → Own
+abbrev pub own_of : Stand → Own
 own_of s = record {
   device = record { store = own_store; paths = fresh_paths; plans = s.device.plans; history = no_history; chain = None };
   world = record {
@@ -189,38 +202,48 @@ own_of s = record {
     };
     a = empty_contents 15;
     b = empty_contents 15;
+    heard = [];
+    tries = 0;
+    lacks = [];
   };
   lines = [];
 }
 
-abbrev quietly : World → World
+abbrev pub quietly : World → World
 quietly w = record w { told = from_zero w.told }
 
-abbrev after_step : Own → Played OwnDevice (Option Stepped) → Own
+abbrev pub after_step : Own → Played OwnDevice (Option Stepped) → Own
 after_step s o = record { device = o.state; world = o.world; lines = s.lines ++ step_line o.answer o.world.told ∷ [] }
 
-abbrev after_second : Own → Played OwnDevice SecondEnd → Own
+abbrev pub after_second : Own → Played OwnDevice SecondEnd → Own
 after_second s o = record { device = o.state; world = o.world; lines = s.lines ++ second_line o.answer o.world.told ∷ [] }
 
-abbrev after_back : Own → Played OwnDevice (Option Did) → Own
+abbrev pub after_back : Own → Played OwnDevice (Option Did) → Own
 after_back s o = record { device = o.state; world = o.world; lines = s.lines ++ back_line o.answer o.world.told ∷ [] }
 
-abbrev after_loss : Own → Played OwnDevice (Unit {0}) → Own
+abbrev pub after_look : Own → Played OwnDevice (Option Peeked) → Own
+after_look s o = record { device = o.state; world = o.world; lines = s.lines ++ look_line o.answer o.world.told ∷ [] }
+
+abbrev pub after_loss : Own → Played OwnDevice (Unit {0}) → Own
 after_loss s o = record s { device = o.state; world = o.world }
 
-abbrev with_pool : World → Pool → World
+abbrev pub with_pool : World → Pool → World
 with_pool w p = record w { told = record (from_zero w.told) { pool = p } }
 
-abbrev starts_by : Own → ℕ → Option StartFault → Own
+abbrev pub starts_by : Own → ℕ → Option StartFault → Own
 starts_by s path (Some f) = record s { lines = s.lines ++ Refused f ∷ [] }
 starts_by s path None = record s { device = start s.device path; lines = s.lines ++ Started (next_ordinal s.device path) ∷ [] }
 
 -- a replaced volume is empty, and has no failing calls
-abbrev replaced : World → Side → World
+abbrev pub replaced : World → Side → World
 replaced w A = record w { a = empty_contents 15; told = record w.told { a = new_calls [] [] } }
 replaced w B = record w { b = empty_contents 15; told = record w.told { b = new_calls [] [] } }
 
-abbrev happens : Own → Event → Own
+abbrev pub repaired_with : Own → Pool → Own
+repaired_with s p =
+    record s { world = record s.world { told = record s.world.told { pool = p } }; lines = s.lines ++ repair_line s.world.told.pool ∷ [] }
+
+abbrev pub happens : Own → Event → Own
 happens s (Start path) = starts_by s path (start_fault s.device path)
 happens s Step = after_step s (play (command contents s.device) (quietly s.world))
 happens s Second = after_second s (play (second contents s.device) (quietly s.world))
@@ -229,62 +252,44 @@ happens s (Reset path) = after_loss s (play (reset contents s.device path) (quie
 happens s FailCache = after_loss s (play (lose contents s.device losses.Cache) (with_pool s.world (cache_failed s.world.told.pool)))
 happens s FailStore = after_loss s (play (lose contents s.device losses.Store) (with_pool s.world (store_failed s.world.told.pool)))
 happens s (FailSide side) = after_loss s (play (lose contents s.device (losses.Side side)) (quietly s.world))
+happens s RepairCache = repaired_with s (cache_repaired s.world.told.pool)
+happens s RepairStore = repaired_with s (store_repaired s.world.told.pool)
 happens s Power = after_loss s (play (power contents s.device) (with_pool s.world (power_lost s.world.told.pool)))
 happens s (Join reads writes) =
     record s { device = join s.device; world = record s.world { told = record s.world.told { b = new_calls reads writes } } }
 happens s (Replace side) = record s { device = replace s.device side; world = replaced s.world side }
 happens s Suspend = record s { device = hold_b s.device }
 happens s Resume = record s { device = resume s.device }
-happens s (Note tracks) = s
+happens s Split = record s { device = split s.device }
+happens s (Lend to) = after_loss s (play (lend contents s.device to) (quietly s.world))
+happens s Restore = record s { device = restore s.device; world = replaced s.world A }
+happens s (Look t) = after_look s (play (peek contents s.device t) (quietly s.world))
+happens s Marks =
+    record s { lines = s.lines ++ marks_line (marks_of [] [] s.device.store) s.world.told.pool ∷ [] }
+happens s (Note tracks) =
+    record s { world = record s.world { told = record s.world.told { pool = record s.world.told.pool { notes = tracks ∷ replicate 15 [] } } } }
 
-unfoldable all_do : Own → List Event → Own
+unfoldable pub all_do : Own → List Event → Own
 all_do s [] = s
 all_do s (e ∷ es) = all_do (happens s e) es
 
 -- where the run is of a level pair, the new device becomes one first
-abbrev prepared : Own → Bool → List ℕ → List ℕ → Own
+abbrev pub prepared : Own → Bool → List ℕ → List ℕ → Own
 prepared s paired reads writes =
     if paired then record (all_do s (Join reads writes ∷ works 15)) { lines = [] } else s
 
-abbrev own_ran : Run → List Line
+abbrev pub own_ran : Run → List Line
 own_ran r =
     (all_do (prepared (own_of r.on) r.on.device.store.paired r.on.told.b.plan.reads r.on.told.b.plan.writes) r.events).lines
 
-abbrev OwnShow : List Run → Type 0
+-- what the keeper heard in a run
+abbrev pub heard_in : Run → List Heard
+heard_in r =
+    (all_do (prepared (own_of r.on) r.on.device.store.paired r.on.told.b.plan.reads r.on.told.b.plan.writes) r.events).world.heard
+
+abbrev pub OwnShow : List Run → Type 0
 OwnShow runs = map own_ran runs ≡ map shows_of runs
 
--- one volume
-own_volume_runs : OwnShow (
-    clean_frames_are_hits ∷ fast_write_keeps_its_frame ∷ cache_loss_leaves_the_patch ∷ store_loss_then_cache_loss
-    ∷ both_losses_lose_the_track ∷ destaging_fails_and_goes_again ∷ sequential_reads_stage_ahead ∷
-    bypass_loads_nothing ∷ no_slot_writes_through ∷ fast_write_is_destaged ∷ [])
-unfolding all_do play all_happen steps_of works copies hold answer after is_in with_number less_one counted
-    least count_below command_of empty_bytes areas_at zero_at next_at records_at reading over settled side_lost
-    cache_lost store_lost all_firm_told waits hear all_told level_bytes image choose write_first write_second
-    write_done through write second_part work look follow command second background lose start_fault start reset
-    power
-own_volume_runs = refl
-
--- data of cache fast write, and power
-own_loose_runs : OwnShow (
-    provisional_write_is_lost_with_the_cache ∷ provisional_write_is_destaged ∷ loss_in_its_own_program ∷
-    other_write_hardens ∷ power_loss_leaves_the_patch ∷ power_loss_takes_loose_data ∷ [])
-unfolding all_do play all_happen steps_of works copies hold answer after is_in with_number less_one counted
-    least count_below command_of empty_bytes areas_at zero_at next_at records_at reading over settled side_lost
-    cache_lost store_lost all_firm_told waits hear all_told level_bytes image choose write_first write_second
-    write_done through write second_part work look follow command second background lose start_fault start reset
-    power
-own_loose_runs = refl
-
--- pairs
-own_pair_runs : OwnShow (
-    side_lost_between_two_parts ∷ reset_between_two_parts ∷ power_lost_between_two_parts ∷
-    loose_track_is_destaged_to_the_other_side ∷ no_half_write_beside_a_loose_track ∷
-    failed_read_and_write_of_the_other_side ∷ power_lost_in_a_background_half_write ∷
-    power_lost_in_a_cut_half_write ∷ [])
-unfolding all_do play all_happen steps_of works copies hold answer after is_in with_number less_one counted
-    least count_below command_of empty_bytes areas_at zero_at next_at records_at reading over settled side_lost
-    cache_lost store_lost all_firm_told waits hear all_told level_bytes image choose write_first write_second
-    write_done through write second_part work look follow command second background lose start_fault start reset
-    power
-own_pair_runs = refl
+-- some events of a new device where memory is lacking once: what they show
+abbrev pub lacking_at : ℕ → Stand → List Event → List Line
+lacking_at n s events = let o = own_of s in (all_do (record o { world = record o.world { lacks = n ∷ [] } }) events).lines

@@ -15,10 +15,13 @@ use Rattle.device_defs.specs.Cutting.{reset, power}
 use Rattle.device_defs.specs.Events.{second, background, lose}
 use Rattle.device_defs.specs.Image.{level_bytes, image}
 use Rattle.device_defs.specs.Losses.{over, settled, side_lost, cache_lost, store_lost, all_firm_told}
+use Rattle.device_defs.specs.Orders.{lend}
+use Rattle.device_defs.specs.Peek.{peek}
 use Rattle.device_defs.specs.Owed.{waits, hear, all_told}
 use Rattle.device_defs.specs.Second.{second_part}
 use Rattle.device_defs.specs.Start.{start_fault, start}
-use Rattle.device_defs.specs.Writing.{write_first, write_second, write_done, through, write}
+use Rattle.device_defs.specs.Editing.{through, write}
+use Rattle.device_defs.specs.Writing.{write_first, write_second, write_done}
 use Rattle.device_defs.proofs.Stand.{
   FailCache,
   Program,
@@ -49,8 +52,40 @@ use Rattle.device_defs.proofs.Stand.{
   write_one,
   write_onward,
   write_zero,
+  track_marks,
+  formats_from,
+  quiet_ends,
+}
+use Rattle.device_defs.proofs.SecondRuns.{
+  second_part_is_absent,
+  absent_without_a_frame,
+  absent_behind_a_reset,
+  absent_behind_a_reset_without_a_frame,
+  absent_by_itself,
+  second_side_fails,
+  second_part_without_a_side,
+  bypass_drops_the_frame,
+  through_frees_the_slot,
+  failed_write_of_one_volume,
+  failed_write_without_a_frame,
+  loose_track_loses_its_side,
+}
+use Rattle.device_defs.proofs.MarkRuns.{
+  marks_of_a_fast_write,
+  marks_of_a_loose_track,
+  marks_of_a_half_write,
+  marks_of_a_side_that_is_lost,
+  marks_of_a_loose_half_write,
+  marks_of_a_held_side,
+  marks_of_a_loss_of_the_store,
+  marks_of_a_loss_of_the_store_in_a_half_write,
+  marks_of_a_sequential_miss,
+  marks_of_a_hardened_track,
 }
 use Rattle.device_defs.proofs.Runs.{
+  twelve_fast_formats,
+  twelve_formats_go_through,
+  large_patch_is_read,
   clean_frames_are_hits,
   fast_write_keeps_its_frame,
   cache_loss_leaves_the_patch,
@@ -89,6 +124,26 @@ use Rattle.device_defs.proofs.Runs.{
   failed_read_and_write_of_the_other_side,
   power_lost_in_a_background_half_write,
   power_lost_in_a_cut_half_write,
+  looks_past_the_channel,
+  look_fails,
+  look_at_a_half_write,
+  lent_and_restored,
+  split_pair_writes_once,
+  look_at_a_loose_track,
+  frame_of_a_failed_read_goes_last,
+  slot_of_a_failed_read_comes_late,
+  half_writes_frame_waits,
+  half_writes_patch_waits,
+  old_note_of_its_own_event,
+  held_side_still_has_the_track,
+  copies_from_a_held_side,
+  copy_hardens_nothing,
+  denied_frames_are_queued_too,
+  failed_miss_queues_nothing,
+  lent_device_keeps_its_loose_data,
+  no_side_is_up,
+  past_the_extent,
+  another_group_is_kept_out,
 }
 
 -- one volume
@@ -129,12 +184,65 @@ path_runs : Show (
     seek_and_read ∷ another_path_waits_its_turn ∷ group_holds_the_device ∷ no_path_can_go_on ∷
     power_loss_frees_the_device ∷ note_of_a_foreign_track ∷ old_note_drops_a_new_frame ∷
     no_half_write_beside_a_loose_track ∷ failed_read_and_write_of_the_other_side ∷
-    power_lost_in_a_background_half_write ∷ power_lost_in_a_cut_half_write ∷ [])
+    power_lost_in_a_background_half_write ∷ power_lost_in_a_cut_half_write ∷ past_the_extent ∷
+    another_group_is_kept_out ∷ [])
 unfolding all_happen steps_of works hold answer after is_in with_number less_one counted least count_below
     command_of over settled side_lost cache_lost store_lost all_firm_told waits hear all_told level_bytes image
     choose write_first write_second write_done through write second_part work look follow command second background
     lose start_fault start reset power copies
 path_runs = refl
+
+-- looks past the channel, and orders
+look_runs : Show (
+    looks_past_the_channel ∷ look_fails ∷ look_at_a_half_write ∷ lent_and_restored ∷ split_pair_writes_once ∷ look_at_a_loose_track ∷ [])
+unfolding all_happen steps_of works hold answer after is_in with_number less_one counted least count_below
+    command_of over settled side_lost cache_lost store_lost all_firm_told waits hear all_told level_bytes image
+    choose write_first write_second write_done through write second_part work look follow command second background
+    lose start_fault start reset power copies lend peek
+look_runs = refl
+
+-- in which order things are told, and what is left where
+order_runs : Show (
+    frame_of_a_failed_read_goes_last ∷ slot_of_a_failed_read_comes_late ∷ half_writes_frame_waits ∷
+    half_writes_patch_waits ∷ old_note_of_its_own_event ∷ held_side_still_has_the_track ∷ copies_from_a_held_side
+    ∷ copy_hardens_nothing ∷ denied_frames_are_queued_too ∷ failed_miss_queues_nothing ∷
+    lent_device_keeps_its_loose_data ∷ no_side_is_up ∷ [])
+unfolding all_happen steps_of works hold answer after is_in with_number less_one counted least count_below
+    command_of over settled side_lost cache_lost store_lost all_firm_told waits hear all_told level_bytes image
+    choose write_first write_second write_done through write second_part work look follow command second background
+    lose start_fault start reset power copies lend peek
+order_runs = refl
+
+-- second parts, and what writes leave
+second_runs : Show (
+    second_part_is_absent ∷ absent_without_a_frame ∷ absent_behind_a_reset ∷ absent_behind_a_reset_without_a_frame
+    ∷ absent_by_itself ∷ second_side_fails ∷ second_part_without_a_side ∷ bypass_drops_the_frame ∷
+    through_frees_the_slot ∷ failed_write_of_one_volume ∷ failed_write_without_a_frame ∷
+    loose_track_loses_its_side ∷ [])
+unfolding all_happen steps_of works hold answer after is_in with_number less_one counted least count_below
+    command_of over settled side_lost cache_lost store_lost all_firm_told waits hear all_told level_bytes image
+    choose write_first write_second write_done through write second_part work look follow command second background
+    lose start_fault start reset power copies lend peek
+second_runs = refl
+
+-- marks
+mark_runs : Show (
+    marks_of_a_fast_write ∷ marks_of_a_loose_track ∷ marks_of_a_half_write ∷ marks_of_a_side_that_is_lost ∷
+    marks_of_a_loose_half_write ∷ marks_of_a_held_side ∷ marks_of_a_loss_of_the_store ∷
+    marks_of_a_loss_of_the_store_in_a_half_write ∷ marks_of_a_sequential_miss ∷ marks_of_a_hardened_track ∷ [])
+unfolding all_happen steps_of works hold answer after is_in with_number less_one counted least count_below
+    command_of over settled side_lost cache_lost store_lost all_firm_told waits hear all_told level_bytes image
+    choose write_first write_second write_done through write second_part work look follow command second background
+    lose start_fault start reset power copies track_marks
+mark_runs = refl
+
+-- large records
+large_runs : Show (twelve_fast_formats ∷ twelve_formats_go_through ∷ large_patch_is_read ∷ [])
+unfolding all_happen steps_of works hold answer after is_in with_number less_one counted least count_below
+    command_of over settled side_lost cache_lost store_lost all_firm_told waits hear all_told level_bytes image
+    choose write_first write_second write_done through write second_part work look follow command second background
+    lose start_fault start reset power copies formats_from quiet_ends
+large_runs = refl
 
 -- What some of them leave
 

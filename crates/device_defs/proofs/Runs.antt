@@ -1,11 +1,13 @@
 -- Runs of one device with real programs, and what each shows.
 use Rattle.std.proofs.Common.{[], ◌∷◌, ◌++◌}
 use Rattle.std.specs.Prelude.{replicate}
+use Rattle.std.specs.Prelude.{drop}
 use Rattle.ckd_types.specs.declared.paths.Owner.TheVariants.{Group, Path}
 use Rattle.ckd_types.specs.declared.paths.Side.TheVariants.{A, B}
 use Rattle.device_defs.specs.declared.answers.Did.TheVariants.{Nothing, Recovered, Copied, Staged, Skipped, Destaged, Fault}
 use Rattle.device_defs.specs.declared.answers.Did.TheVariants as dids
-use Rattle.device_defs.specs.declared.answers.StartFault.TheVariants.{Busy, PlanDone, Shut, Reserved}
+use Rattle.device_defs.specs.declared.answers.StartFault.TheVariants.{Secondary, Busy, PlanDone, Shut, Reserved}
+use Rattle.device_defs.specs.Peek.{Lost, Fault as LookFault}
 use Rattle.device_defs.proofs.Stand.{
   Back,
   End,
@@ -15,18 +17,28 @@ use Rattle.device_defs.proofs.Stand.{
   Finished,
   Half,
   Join,
+  Lend,
+  Look,
   Note,
+  Pending,
   Power,
   Refused,
+  RepairCache,
+  RepairStore,
+  Repaired,
   Replace,
   Reset,
+  Restore,
   Resume,
   Run,
   Second,
+  Seen,
+  Split,
   Start,
   Started,
   Step,
   Suspend,
+  Unseen,
   Work,
   alone,
   copies,
@@ -38,6 +50,7 @@ use Rattle.device_defs.proofs.Stand.{
   group_plans,
   locate,
   new_data,
+  numbered_extent,
   old_data,
   pair,
   pair_with,
@@ -51,6 +64,9 @@ use Rattle.device_defs.proofs.Stand.{
   write_one,
   write_onward,
   write_zero,
+  format_twelve,
+  read_one,
+  quiet_ends,
 }
 
 -- of one frame: a track is read once while it has the frame
@@ -446,4 +462,239 @@ power_lost_in_a_cut_half_write = record {
   shows =
       Started 1 ∷ quiet 0 0 ∷ quiet 1 1 ∷ Half 0 0 1 ∷ []
       ++ Back (Copied 0) 1 1 ∷ Back Nothing 0 0 ∷ [];
+}
+
+-- a look past the channel reads a track with its patch and loads nothing; a clean frame is read no more
+abbrev pub looks_past_the_channel : Run
+looks_past_the_channel = record {
+  on = stand 4 2 [] [] (write_zero 0xc0 0 ∷ []);
+  events = go 3 ++ FailCache ∷ Look 0 ∷ Look 0 ∷ Work ∷ FailSide A ∷ Look 0 ∷ Look 1 ∷ [];
+  shows =
+      Started 1 ∷ quiet 0 0 ∷ quiet 1 1 ∷ End 2 0x0c [] 0 0 ∷ Seen new_data 1 0 ∷ Seen new_data 1 0
+      ∷ Back (Recovered 0) 1 1 ∷ Unseen Lost 0 0 ∷ Unseen Lost 0 0 ∷ [];
+}
+
+-- where a read fails a look past the channel says on which side; a volume that is alone isn't failed by that
+abbrev pub look_fails : Run
+look_fails = record {
+  on = stand 4 2 (1 ∷ []) [] [];
+  events = Look 3 ∷ Look 3 ∷ [];
+  shows = Unseen (LookFault A) 1 0 ∷ Seen old_data 1 0 ∷ [];
+}
+
+-- a half write of the background has the track where side A, which took it, is lost
+abbrev pub look_at_a_half_write : Run
+look_at_a_half_write = record {
+  on = pair [] [] (write_zero 0xc0 0 ∷ []);
+  events = go 3 ++ Work ∷ FailCache ∷ FailSide A ∷ Look 0 ∷ Look 1 ∷ Second ∷ Look 0 ∷ [];
+  shows =
+      Started 1 ∷ quiet 0 0 ∷ quiet 1 1 ∷ End 2 0x0c [] 0 0 ∷ Back (dids.Half 0) 0 1 ∷ Seen new_data 0 0
+      ∷ Seen old_data 1 0 ∷ Finished 0 0 1 ∷ Seen new_data 1 0 ∷ [];
+}
+
+-- a device that is lent starts nothing, and has an empty volume when it comes back
+abbrev pub lent_and_restored : Run
+lent_and_restored = record {
+  on = stand 4 2 [] [] (write_zero 0xc0 0 ∷ read_zero 0xc0 0 ∷ []);
+  events = go 3 ++ Lend 3 ∷ Start 1 ∷ Restore ∷ go 3;
+  shows =
+      Started 1 ∷ quiet 0 0 ∷ quiet 1 1 ∷ End 2 0x0c [] 0 0 ∷ Refused (Secondary 3) ∷ Started 2 ∷ quiet 0 0 ∷ quiet 1 1
+      ∷ End 2 0x0c old_data 0 0 ∷ [];
+}
+
+-- once side B left, a write is one event again
+abbrev pub split_pair_writes_once : Run
+split_pair_writes_once = record {
+  on = pair [] [] (write_zero 0xc1 0 ∷ []);
+  events = Split ∷ go 3;
+  shows = Started 1 ∷ quiet 0 0 ∷ quiet 1 1 ∷ End 2 0x0c [] 0 1 ∷ [];
+}
+
+-- a look past the channel takes no notes; a track with data of cache fast write is what its frame has
+abbrev pub look_at_a_loose_track : Run
+look_at_a_loose_track = record {
+  on = stand 4 2 [] [] (write_zero 0xc2 0 ∷ []);
+  events = go 3 ++ Look 0 ∷ FailCache ∷ Look 0 ∷ [];
+  shows =
+      Started 1 ∷ quiet 0 0 ∷ quiet 1 1 ∷ End 2 0x0c [] 0 0 ∷ Seen new_data 0 0 ∷ Seen old_data 1 0 ∷ [];
+}
+
+-- what a failed read owes is told behind the frame that the command asks for itself
+abbrev pub frame_of_a_failed_read_goes_last : Run
+frame_of_a_failed_read_goes_last = record {
+  on = stand 1 0 (3 ∷ []) [] (read_zero 0xc0 1 ∷ read_zero 0xc0 0 ∷ []);
+  events = Join [] [] ∷ go 3 ++ Work ∷ [] ++ go 3;
+  shows =
+      Started 1 ∷ quiet 0 0 ∷ quiet 1 1 ∷ End 2 0x0c old_data 0 0 ∷ []
+      ++ Back (Copied 0) 1 1 ∷ []
+      ++ Started 2 ∷ quiet 0 0 ∷ quiet 1 2 ∷ End 2 0x0c old_data 0 0 ∷ [];
+}
+
+-- the slot that a failed read gave up is free behind the command: with one slot the format goes through
+abbrev pub slot_of_a_failed_read_comes_late : Run
+slot_of_a_failed_read_comes_late = record {
+  on = stand 4 1 (3 ∷ []) [] (write_zero 0xc0 1 ∷ (extent 0xc0 0xc0 ∷ locate 0xc3 1 0 0
+      ∷ record { command = 0x1d; flags = 0; count = 16; given = 0 ∷ 0 ∷ 0 ∷ 0 ∷ 1 ∷ 0 ∷ 0 ∷ 8 ∷ new_data } ∷ []) ∷ []);
+  events = Join [] [] ∷ Work ∷ go 3 ++ Power ∷ go 3;
+  shows =
+      Back (Copied 0) 1 1 ∷ []
+      ++ Started 1 ∷ quiet 0 0 ∷ quiet 1 1 ∷ End 2 0x0c [] 0 0 ∷ []
+      ++ Started 2 ∷ quiet 0 0 ∷ quiet 1 0 ∷ End 2 0x0c [] 2 1 ∷ [];
+}
+
+-- the frame of an open half write waits where the side that took the bytes is lost
+abbrev pub half_writes_frame_waits : Run
+half_writes_frame_waits = record {
+  on = pair [] [] (write_zero 0xc0 0 ∷ []);
+  events = FailStore ∷ go 3 ++ RepairStore ∷ FailStore ∷ FailSide A ∷ RepairStore ∷ Second ∷ RepairStore ∷ [];
+  shows =
+      Started 1 ∷ quiet 0 0 ∷ quiet 1 1 ∷ Half 0 0 1 ∷ Repaired ∷ Pending 1 ∷ End 2 0x0c [] 0 1 ∷ Repaired ∷ [];
+}
+
+-- and its patch waits where its frame is lost
+abbrev pub half_writes_patch_waits : Run
+half_writes_patch_waits = record {
+  on = pair [] [] (write_zero 0xc0 0 ∷ write_zero 0xc1 0 ∷ []);
+  events = go 3 ++ go 3 ++ FailCache ∷ RepairCache ∷ Second ∷ RepairCache ∷ [];
+  shows =
+      Started 1 ∷ quiet 0 0 ∷ quiet 1 1 ∷ End 2 0x0c [] 0 0 ∷ []
+      ++ Started 2 ∷ quiet 0 0 ∷ quiet 1 0 ∷ Half 0 0 1 ∷ Pending 1 ∷ End 2 0x0c [] 0 1 ∷ Repaired ∷ [];
+}
+
+-- of one frame: a command that goes over two tracks leaves a note of the second that is older than its frame
+abbrev pub old_note_of_its_own_event : Run
+old_note_of_its_own_event = record {
+  on = stand 1 0 [] [] (format_one 0xc0 1 ∷ (extent 0x40 0xc0 ∷ alone 0x92 8 []) ∷ read_zero 0xc0 1 ∷ []);
+  events = go 3 ++ go 2 ++ go 3;
+  shows =
+      Started 1 ∷ quiet 0 0 ∷ quiet 1 1 ∷ End 2 0x0c [] 0 1 ∷ []
+      ++ Started 2 ∷ quiet 0 0 ∷ End 1 0x0c (0 ∷ 0 ∷ 0 ∷ 1 ∷ 1 ∷ 0 ∷ 0 ∷ 8 ∷ []) 2 0 ∷ []
+      ++ Started 3 ∷ quiet 0 0 ∷ quiet 1 1 ∷ End 2 0x0c old_data 0 0 ∷ [];
+}
+
+-- a write that fails on side A while side B is held is absent: side B has the track, and its frame stays clean
+abbrev pub held_side_still_has_the_track : Run
+held_side_still_has_the_track = record {
+  on = pair (1 ∷ []) [] (write_zero 0xc1 0 ∷ read_zero 0xc0 0 ∷ []);
+  events = Suspend ∷ go 3 ++ go 3;
+  shows =
+      Started 1 ∷ quiet 0 0 ∷ quiet 1 1 ∷ End 2 0x0e [] 0 1 ∷ []
+      ++ Started 2 ∷ quiet 0 0 ∷ quiet 1 0 ∷ End 2 0x0c old_data 0 0 ∷ [];
+}
+
+-- a copy may come from a held side
+abbrev pub copies_from_a_held_side : Run
+copies_from_a_held_side = record {
+  on = pair [] [] [];
+  events = FailSide A ∷ Replace A ∷ Work ∷ Suspend ∷ Work ∷ Work ∷ [];
+  shows =
+      copies 3;
+}
+
+-- a copy makes no loose track firm
+abbrev pub copy_hardens_nothing : Run
+copy_hardens_nothing = record {
+  on = stand 4 2 [] [] (write_zero 0xc2 2 ∷ []);
+  events = Join [] [] ∷ Work ∷ Work ∷ go 3 ++ works 14 ++ Second ∷ Work ∷ [];
+  shows =
+      copies 2 ++ Started 1 ∷ quiet 0 0 ∷ quiet 1 1 ∷ End 2 0x0c [] 0 0 ∷ [] ++ drop 2 (copies 15)
+      ++ Back (dids.Half 2) 0 1 ∷ Finished 2 0 1 ∷ Back Nothing 0 0 ∷ [];
+}
+
+-- in sequential mode tracks are queued also where no frame was given
+abbrev pub denied_frames_are_queued_too : Run
+denied_frames_are_queued_too = record {
+  on = stand 1 1 [] [] (write_zero 0xc0 9 ∷ read_zero 0xcc 0 ∷ read_zero 0xcc 1 ∷ []);
+  events = go 3 ++ go 3 ++ go 3 ++ works 10;
+  shows =
+      Started 1 ∷ quiet 0 0 ∷ quiet 1 1 ∷ End 2 0x0c [] 0 0 ∷ []
+      ++ Started 2 ∷ quiet 0 0 ∷ quiet 1 1 ∷ End 2 0x0c old_data 1 0 ∷ []
+      ++ Started 3 ∷ quiet 0 0 ∷ quiet 1 1 ∷ End 2 0x0c old_data 1 0 ∷ []
+      ++ Back (Skipped 1) 0 0 ∷ Back (Skipped 2) 0 0 ∷ Back (Skipped 1) 0 0 ∷ Back (Skipped 2) 0 0 ∷ Back (Skipped 2) 0 0
+      ∷ Back (Skipped 3) 0 0 ∷ Back (Skipped 2) 0 0 ∷ Back (Skipped 3) 0 0 ∷ Back (Destaged 9) 0 1 ∷ Back Nothing 0 0 ∷ [];
+}
+
+-- a miss whose read failed queues nothing
+abbrev pub failed_miss_queues_nothing : Run
+failed_miss_queues_nothing = record {
+  on = stand 4 2 (1 ∷ []) [] (read_zero 0xcc 0 ∷ []);
+  events = go 2 ++ Work ∷ [];
+  shows =
+      Started 1 ∷ quiet 0 0 ∷ End 1 0x0e [] 1 0 ∷ Back Nothing 0 0 ∷ [];
+}
+
+-- a device that is lent loses its data of cache fast write with the cache: their number is another then
+abbrev pub lent_device_keeps_its_loose_data : Run
+lent_device_keeps_its_loose_data = record {
+  on = stand 4 2 [] [] (write_zero 0xc2 0 ∷ write_zero 0xc2 0
+      ∷ (numbered_extent 0x80 0xc2 1 ∷ locate 1 1 0 0 ∷ alone 0x85 8 new_data) ∷ []);
+  events = go 3 ++ Lend 1 ∷ FailCache ∷ RepairCache ∷ Restore ∷ go 1 ++ go 3;
+  shows =
+      Started 1 ∷ quiet 0 0 ∷ quiet 1 1 ∷ End 2 0x0c [] 0 0 ∷ []
+      ++ Repaired ∷ Started 2 ∷ End 0 0x0e [] 0 0 ∷ []
+      ++ Started 3 ∷ quiet 0 0 ∷ quiet 1 1 ∷ End 2 0x0c [] 0 0 ∷ [];
+}
+
+-- a write that goes through while no side is up is given to nothing
+abbrev pub no_side_is_up : Run
+no_side_is_up = record {
+  on = stand 4 2 [] [] (read_zero 0xc0 0 ∷ write_zero 0xc1 0 ∷ read_zero 0xc0 0 ∷ []);
+  events = go 3 ++ FailSide A ∷ go 3 ++ go 3;
+  shows =
+      Started 1 ∷ quiet 0 0 ∷ quiet 1 1 ∷ End 2 0x0c old_data 0 0 ∷ []
+      ++ Started 2 ∷ quiet 0 0 ∷ quiet 1 0 ∷ End 2 0x0e [] 0 0 ∷ []
+      ++ Started 3 ∷ quiet 0 0 ∷ quiet 1 0 ∷ End 2 0x0c old_data 0 0 ∷ [];
+}
+
+-- twelve records of 4,096 bytes are formatted in the cache and read from it
+abbrev pub twelve_fast_formats : Run
+twelve_fast_formats = record {
+  on = stand 4 2 [] [] (format_twelve ∷ read_one 4096 ∷ read_one 4000 ∷ []);
+  events = go 14 ++ go 3 ++ go 3;
+  shows =
+      Started 1 ∷ quiet 0 0 ∷ quiet 1 1 ∷ quiet_ends 2 12 0
+      ++ Started 2 ∷ quiet 0 0 ∷ quiet 1 0 ∷ End 2 0x0c (replicate 4096 0) 0 0 ∷ []
+      ++ Started 3 ∷ quiet 0 0 ∷ quiet 1 0 ∷ End 2 0x0c (replicate 4000 0) 0 0 ∷ [];
+}
+
+-- without a store each of them is a write
+abbrev pub twelve_formats_go_through : Run
+twelve_formats_go_through = record {
+  on = stand 4 0 [] [] (format_twelve ∷ read_one 4096 ∷ []);
+  events = go 14 ++ go 3;
+  shows =
+      Started 1 ∷ quiet 0 0 ∷ quiet 1 1 ∷ quiet_ends 2 12 1
+      ++ Started 2 ∷ quiet 0 0 ∷ quiet 1 0 ∷ End 2 0x0c (replicate 4096 0) 0 0 ∷ [];
+}
+
+-- behind a loss of the cache they are read with their patch, and destaging them leaves them on the volume
+abbrev pub large_patch_is_read : Run
+large_patch_is_read = record {
+  on = stand 4 2 [] [] (format_twelve ∷ read_one 4096 ∷ read_one 4096 ∷ []);
+  events = go 14 ++ FailCache ∷ go 3 ++ Work ∷ go 3;
+  shows =
+      Started 1 ∷ quiet 0 0 ∷ quiet 1 1 ∷ quiet_ends 2 12 0
+      ++ Started 2 ∷ quiet 0 0 ∷ quiet 1 1 ∷ End 2 0x0c (replicate 4096 0) 1 0 ∷ Back (Recovered 0) 1 1 ∷ []
+      ++ Started 3 ∷ quiet 0 0 ∷ quiet 1 1 ∷ End 2 0x0c (replicate 4096 0) 1 0 ∷ [];
+}
+
+-- with an extent up to track 13 a read that finds no record there would go past it: file protected
+abbrev pub past_the_extent : Run
+past_the_extent = record {
+  on = stand 4 2 [] [] (((record (extent 0x40 0xc0) { given = 0x40 ∷ 0xc0 ∷ 0x10 ∷ 0 ∷ 0 ∷ 0 ∷ 0 ∷ 0 ∷ 0 ∷ 0 ∷ 0 ∷ 0 ∷ 0 ∷ 0 ∷ 0 ∷ 0x0d ∷ [] })
+      ∷ locate 0x46 1 13 0 ∷ alone 0x86 8 []) ∷ []);
+  events = go 3;
+  shows = Started 1 ∷ quiet 0 0 ∷ quiet 1 0 ∷ End 2 0x0e [] 1 0 ∷ [];
+}
+
+-- while a group holds the device, a path of another group isn't admitted, which the holder's own next program could free
+abbrev pub another_group_is_kept_out : Run
+another_group_is_kept_out = record {
+  on = stand_with 4 2 [] []
+      ((alone 0xaf 12 (0x80 ∷ group_name) ∷ alone 0xb4 32 [] ∷ alone 0x94 32 [] ∷ []) ∷ (alone 0xaf 12 (0x80 ∷ group_name) ∷ [])
+      ∷ (alone 0xaf 12 (0x80 ∷ 2 ∷ 2 ∷ 3 ∷ 4 ∷ 5 ∷ 6 ∷ 7 ∷ 8 ∷ 9 ∷ 10 ∷ 11 ∷ []) ∷ []) ∷ [] ∷ []);
+  events = go_on 1 1 ++ go_on 2 1 ++ go_on 1 1 ++ Start 3 ∷ go_on 1 1 ++ go_on 3 1;
+  shows =
+      Started 1 ∷ quiet 0 0 ∷ Started 1 ∷ quiet 0 0 ∷ Started 2 ∷ End 0 0x0c (replicate 32 0) 0 0
+      ∷ Refused (Reserved (Group (record { bytes = group_name }))) ∷ Started 3 ∷ End 0 0x0c (replicate 32 0) 0 0 ∷ Started 1 ∷ quiet 0 0 ∷ [];
 }

@@ -1,17 +1,18 @@
 -- A device of a run that is tried by hand: one event after another, and what each showed.
-use Rattle.std.proofs.Common.{Bool, ◌≡◌, map, ℕ, zero, suc, true, List, [], ◌∷◌, ◌++◌, Option, Some, None}
-use Rattle.std.specs.Prelude.{replicate, count_by}
+use Rattle.std.proofs.Common.{◌+◌, ◌==◌, if◌then◌else◌, Bool, ◌≡◌, map, ℕ, zero, suc, true, List, [], ◌∷◌, ◌++◌, Option, Some, None}
+use Rattle.std.specs.Prelude.{is_some, replicate, count_by}
 use Rattle.ckd_types.specs.declared.channel.Ccw.{Ccw}
 use Rattle.ckd_types.specs.declared.channel.CommandEnd.{CommandEnd}
 use Rattle.ckd_types.specs.declared.geometry.Geometry.TheVariants.{D3390}
 use Rattle.ckd_types.specs.declared.paths.Side.{Side}
+use Rattle.ckd_types.specs.declared.record.Record.{Record}
 use Rattle.loss_model.specs.declared.Loss.TheVariants as losses
 use Rattle.plain_defs.specs.declared.journal.Acted.{Acted}
 use Rattle.plain_defs.specs.declared.journal.How.{How}
 use Rattle.plain_defs.specs.declared.journal.Item.{Item}
 use Rattle.plain_defs.specs.declared.journal.Item.TheVariants as items
 use Rattle.plain_defs.specs.Journal.{Plans}
-use Rattle.device_outside.specs.Pool.{Frame, Pool, new_pool, cache_failed, store_failed, power_lost, all_waiting}
+use Rattle.device_outside.specs.Pool.{Frame, Pool, new_pool, cache_failed, store_failed, cache_repaired, store_repaired, power_lost, all_waiting}
 use Rattle.device_outside.specs.Told.{Calls, Told, Outcome, hold}
 use Rattle.device_defs.specs.declared.answers.Did.{Did}
 use Rattle.device_defs.specs.declared.answers.Did.TheVariants.{Copied}
@@ -24,9 +25,27 @@ use Rattle.device_defs.specs.Command.{command}
 use Rattle.device_defs.specs.Contents.{by_plain}
 use Rattle.device_defs.specs.Cutting.{reset, power}
 use Rattle.device_defs.specs.Events.{second, background, lose}
-use Rattle.device_defs.specs.Marks.{MarksDevice, new_device}
-use Rattle.device_defs.specs.Orders.{join, replace, hold as hold_b, resume}
+use Rattle.device_defs.specs.Marks.{MarksStore, MarksDevice, new_device}
+use Rattle.device_defs.specs.Orders.{join, split, replace, hold as hold_b, resume, restore, lend}
+use Rattle.device_defs.specs.Peek.{Peeked, Track, peek}
+use Rattle.device_defs.specs.Store.{HalfWrite, stale_at, frame_at, patch_at, is_lost, is_loose}
 use Rattle.device_defs.specs.Start.{start_fault, start, next_ordinal}
+
+-- what is marked of a device, and of a track
+pub data Mark : Type 0 where
+  UpA : Mark
+  UpB : Mark
+  Held : Mark
+  HalfOpen : ℕ → Mark
+  Queued : ℕ → Mark
+  Waiting : ℕ → Mark  -- so many tracks wait, as the pool was told
+  Clean : Mark  -- its frame
+  Modified : Mark
+  Patched : Mark
+  LostTrack : Mark
+  LooseTrack : Mark
+  StaleA : Mark
+  StaleB : Mark
 
 -- reads and writes are the last two numbers of each
 pub data Line : Type 0 where
@@ -37,6 +56,11 @@ pub data Line : Type 0 where
   Finished : ℕ → ℕ → ℕ → Line
   Unwritten : ℕ → ℕ → ℕ → Line
   Back : Did → ℕ → ℕ → Line
+  Seen : List ℕ → ℕ → ℕ → Line  -- the data of record 0, at a look past the channel
+  Unseen : Peeked → ℕ → ℕ → Line
+  Repaired : Line
+  Pending : ℕ → Line
+  Marked : List Mark → List (ℕ × List Mark) → Line  -- of the device, and of each track that has any
   Lacking : Line
 
 pub record Stand : Type 0 where
@@ -91,6 +115,18 @@ after_second s o = record { device = o.state; told = o.told; lines = s.lines ++ 
 abbrev pub after_back : Stand → Outcome MarksDevice (Option Did) → Stand
 after_back s o = record { device = o.state; told = o.told; lines = s.lines ++ back_line o.answer o.told ∷ [] }
 
+abbrev pub body_of : List Record → List ℕ
+body_of [] = []
+body_of (r ∷ records) = r.body
+
+abbrev pub look_line : Option Peeked → Told → Line
+look_line (Some (Track i)) w = Seen (body_of i.track.records) w.reads w.writes
+look_line (Some p) w = Unseen p w.reads w.writes
+look_line None w = Lacking
+
+abbrev pub after_look : Stand → Outcome MarksDevice (Option Peeked) → Stand
+after_look s o = record { device = o.state; told = o.told; lines = s.lines ++ look_line o.answer o.told ∷ [] }
+
 -- an event without a line
 abbrev pub after_loss : Stand → Outcome MarksDevice (Unit {0}) → Stand
 after_loss s o = record s { device = o.state; told = o.told }
@@ -108,15 +144,61 @@ pub data Event : Type 0 where
   FailCache : Event
   FailStore : Event
   FailSide : Side → Event
+  RepairCache : Event
+  RepairStore : Event
   Power : Event
   Join : List ℕ → List ℕ → Event  -- a volume with these failing reads and writes
   Replace : Side → Event
   Suspend : Event
   Resume : Event
+  Split : Event  -- side B leaves
+  Lend : ℕ → Event
+  Restore : Event
+  Look : ℕ → Event
+  Marks : Event  -- they are looked at
   Note : List ℕ → Event  -- the pool has these notes for the device
 
 abbrev pub with_pool : Stand → Pool → Told
 with_pool s p = record (from_zero s.told) { pool = p }
+
+abbrev pub mark_if : Bool → Mark → List Mark
+mark_if b mark = if b then mark ∷ [] else []
+
+abbrev pub frame_marks : Option Bool → List Mark
+frame_marks None = []
+frame_marks (Some modified) = if modified then Modified ∷ [] else Clean ∷ []
+
+abbrev pub marks_at : MarksStore → ℕ → List Mark
+marks_at s t =
+    frame_marks (frame_at s t) ++ mark_if (is_some (patch_at s t)) Patched ++ mark_if (is_lost s t) LostTrack
+    ++ mark_if (is_loose s t) LooseTrack ++ mark_if (stale_at s.a t) StaleA ++ mark_if (stale_at s.b t) StaleB
+
+abbrev pub with_marks : ℕ → List Mark → List (ℕ × List Mark) → List (ℕ × List Mark)
+with_marks t [] others = others
+with_marks t (m ∷ ms) others = (t, m ∷ ms) ∷ others
+
+-- of the n tracks from t on
+unfoldable pub track_marks : ℕ → ℕ → MarksStore → List (ℕ × List Mark)
+track_marks zero t s = []
+track_marks (suc n) t s = with_marks t (marks_at s t) (track_marks n (t + 1) s)
+
+abbrev pub half_marks : Option (HalfWrite (Unit {0})) → List Mark
+half_marks None = []
+half_marks (Some h) = HalfOpen h.track ∷ []
+
+abbrev pub device_marks : MarksStore → Pool → List Mark
+device_marks s p =
+    mark_if s.a.up UpA ++ mark_if s.b.up UpB ++ mark_if s.held Held ++ half_marks s.half ++ map Queued s.queue
+    ++ Waiting (all_waiting p) ∷ []
+
+abbrev pub marks_line : MarksStore → Pool → Line
+marks_line s p = Marked (device_marks s p) (track_marks 15 0 s)
+
+abbrev pub repair_line : Pool → Line
+repair_line p = if all_waiting p == 0 then Repaired else Pending (all_waiting p)
+
+abbrev pub repaired : Stand → Stand
+repaired s = shows s (repair_line s.told.pool)
 
 abbrev pub happens : Stand → Event → Stand
 happens s (Start path) = starts_by s path (start_fault s.device path)
@@ -127,11 +209,18 @@ happens s (Reset path) = after_loss s (hold true (reset by_plain s.device path) 
 happens s FailCache = after_loss s (hold true (lose by_plain s.device losses.Cache) (with_pool s (cache_failed s.told.pool)))
 happens s FailStore = after_loss s (hold true (lose by_plain s.device losses.Store) (with_pool s (store_failed s.told.pool)))
 happens s (FailSide side) = after_loss s (hold true (lose by_plain s.device (losses.Side side)) (from_zero s.told))
+happens s RepairCache = record (repaired s) { told = record s.told { pool = cache_repaired s.told.pool } }
+happens s RepairStore = record (repaired s) { told = record s.told { pool = store_repaired s.told.pool } }
 happens s Power = after_loss s (hold true (power by_plain s.device) (with_pool s (power_lost s.told.pool)))
 happens s (Join reads writes) = record s { device = join s.device; told = record s.told { b = new_calls reads writes } }
 happens s (Replace side) = record s { device = replace s.device side }
 happens s Suspend = record s { device = hold_b s.device }
 happens s Resume = record s { device = resume s.device }
+happens s Split = record s { device = split s.device }
+happens s (Lend to) = after_loss s (hold true (lend by_plain s.device to) (from_zero s.told))
+happens s Restore = record s { device = restore s.device; told = record s.told { a = new_calls [] [] } }
+happens s (Look t) = after_look s (hold true (peek by_plain s.device t) (from_zero s.told))
+happens s Marks = shows s (marks_line s.device.store s.told.pool)
 happens s (Note tracks) = record s { told = record s.told { pool = record s.told.pool { notes = tracks ∷ replicate 15 [] } } }
 
 unfoldable pub all_happen : Stand → List Event → Stand
@@ -162,6 +251,15 @@ extent mask attributes = record {
   flags = 0x40;
   count = 16;
   given = mask ∷ attributes ∷ 0x10 ∷ 0 ∷ 0 ∷ 0 ∷ 0 ∷ 0 ∷ 0 ∷ 0 ∷ 0 ∷ 0 ∷ 0 ∷ 0 ∷ 0 ∷ 0x0e ∷ [];
+}
+
+-- with this number of cache fast write data
+abbrev pub numbered_extent : ℕ → ℕ → ℕ → Ccw
+numbered_extent mask attributes number = record {
+  command = 0x63;
+  flags = 0x40;
+  count = 16;
+  given = mask ∷ attributes ∷ 0x10 ∷ 0 ∷ 0 ∷ number ∷ 0 ∷ 0 ∷ 0 ∷ 0 ∷ 0 ∷ 0 ∷ 0 ∷ 0 ∷ 0 ∷ 0x0e ∷ [];
 }
 
 -- locate record, for so many commands of an operation on track t behind record r
@@ -295,3 +393,23 @@ write_one = extent 0x80 0xc1 ∷ locate 1 1 1 1 ∷ record { command = 0x85; fla
 unfoldable pub copies : ℕ → List Line
 copies zero = []
 copies (suc n) = copies n ++ Back (Copied n) 1 1 ∷ []
+
+-- n records of 4,096 zeros behind the first r - 1 records of track 0
+unfoldable pub formats_from : ℕ → ℕ → List Ccw
+formats_from r zero = []
+formats_from r (suc zero) =
+    record { command = 0x1d; flags = 0; count = 4104; given = 0 ∷ 0 ∷ 0 ∷ 0 ∷ r ∷ 0 ∷ 0x10 ∷ 0 ∷ [] } ∷ []
+formats_from r (suc (suc n)) =
+    record { command = 0x1d; flags = 0x40; count = 4104; given = 0 ∷ 0 ∷ 0 ∷ 0 ∷ r ∷ 0 ∷ 0x10 ∷ 0 ∷ [] } ∷ formats_from (r + 1) (suc n)
+
+abbrev pub format_twelve : List Ccw
+format_twelve = extent 0xc0 0xc0 ∷ locate 3 12 0 0 ∷ formats_from 1 12
+
+-- record 1 of track 0 is read with a count
+abbrev pub read_one : ℕ → List Ccw
+read_one count = extent 0x40 0xc0 ∷ locate 6 1 0 1 ∷ record { command = 0x86; flags = 0; count = count; given = [] } ∷ []
+
+-- commands from a word on that end well, send nothing, and make this write each
+unfoldable pub quiet_ends : ℕ → ℕ → ℕ → List Line
+quiet_ends word zero writes = []
+quiet_ends word (suc n) writes = End word 0x0c [] 0 writes ∷ quiet_ends (word + 1) n writes

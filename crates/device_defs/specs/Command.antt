@@ -20,8 +20,8 @@ use Rattle.device_defs.specs.Device.{Device, with_store, event}
 use Rattle.device_defs.specs.Image.{Imaged, Has, NoBytes, BadTrack, image}
 use Rattle.device_defs.specs.Memory.{tried, and_had}
 use Rattle.device_defs.specs.Store.{Store, tracks_of, is_lost}
-use Rattle.device_defs.specs.Turns.{Turn, ends_with, settles, checks, wrote_turn, usage_of, told_step, turned, again}
-use Rattle.device_defs.specs.Writing.{write}
+use Rattle.device_defs.specs.Outcomes.{Turn, ends_with, settles, checks, wrote_turn, usage_of, told_step, turned, again}
+use Rattle.device_defs.specs.Editing.{write}
 
 -- behind a look at one track the command came out, or goes on to another track
 pub data Went : Type 0 where

@@ -20,7 +20,7 @@ use Rattle.device_defs.specs.Device.{Device, with_store, event}
 use Rattle.device_defs.specs.Losses.{side_lost, cache_lost, store_lost, all_firm_told}
 use Rattle.device_defs.specs.Second.{second_part}
 use Rattle.device_defs.specs.Store.{Origin, OfCommand, OfCut, OfBackground, HalfWrite, Store, tracks_of}
-use Rattle.device_defs.specs.Turns.{Turn, settles, checks, turned}
+use Rattle.device_defs.specs.Outcomes.{Turn, settles, checks, turned}
 
 abbrev pub one_more : Losses → Loss → Losses
 one_more l losses.Cache = record l { cache = counted l.cache }

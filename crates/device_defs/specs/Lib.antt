@@ -7,10 +7,11 @@ pub mod Owed
 pub mod Image
 pub mod Choosing
 pub mod Writing
+pub mod Editing
 pub mod Second
 pub mod Background
 pub mod Device
-pub mod Turns
+pub mod Outcomes
 pub mod Command
 pub mod Events
 pub mod Start

@@ -16,7 +16,8 @@ use Rattle.device_defs.specs.Store.{
   plain_at,
   with_frame,
 }
-use Rattle.device_defs.specs.Writing.{write_second, write_done, effect}
+use Rattle.device_defs.specs.Editing.{effect}
+use Rattle.device_defs.specs.Writing.{write_second, write_done}
 
 abbrev pub bypass_of : Origin → Bool
 bypass_of (OfCommand bypass e) = bypass

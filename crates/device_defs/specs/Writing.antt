@@ -1,38 +1,18 @@
--- A write to the volumes: its first part, what follows once it is done, and the whole of a command's write.
-use Rattle.std.specs.Prelude.{ℕ, ◌&&◌, not, Bool, true, false, Option, Some, None, is_some, if◌then◌else◌, nat_le}
+-- A write to the volumes: its first part, its second part, what follows once it is done, and a write that is half done.
+use Rattle.std.specs.Prelude.{ℕ, not, Bool, true, false, Option, Some, None, is_some, if◌then◌else◌}
 use Rattle.ckd_types.specs.declared.paths.Side.{Side}
 use Rattle.ckd_types.specs.declared.paths.Side.TheVariants.{A, B}
-use Rattle.ckd_types.specs.declared.record.Edit.{Edit}
-use Rattle.ckd_types.specs.Parameters.{is_bypass}
-use Rattle.track_image.specs.Image.{Image, edited_image}
-use Rattle.track_table.specs.Tracks.{least}
-use Rattle.device_outside.specs.Keeper.{BeforeEdit, Firm}
+use Rattle.track_image.specs.Image.{Image}
+use Rattle.device_outside.specs.Keeper.{Firm}
 use Rattle.device_outside.specs.Pool.{SetClean, DropFrame, FreeSlot}
 use Rattle.device_outside.specs.Volume.{counted, counted_if}
 use Rattle.device_outside.specs.Interaction.{Interaction, Done, Ask, Write, Tell, and_then}
-use Rattle.device_defs.specs.declared.answers.Choice.{Choice}
-use Rattle.device_defs.specs.declared.answers.Choice.TheVariants.{Provisional, Fast, Through}
 use Rattle.device_defs.specs.declared.answers.Took.{Took}
 use Rattle.device_defs.specs.declared.answers.Took.TheVariants.{Whole, Opened, Unwritten}
-use Rattle.device_defs.specs.declared.usage.Usage.{Usage}
-use Rattle.device_defs.specs.Choosing.{choose, fast_written, provisionally_written}
 use Rattle.device_defs.specs.Contents.{Contents}
-use Rattle.device_defs.specs.Effects.{with_edit, hardened}
+use Rattle.device_defs.specs.Effects.{hardened}
 use Rattle.device_defs.specs.Losses.{slot_in, stale_everywhere, settled, framed_image, call_failed}
-use Rattle.device_defs.specs.Memory.{tried}
-use Rattle.device_defs.specs.Store.{
-  Origin,
-  OfCommand,
-  Store,
-  has_level,
-  takes_b,
-  frame_at,
-  patch_at,
-  is_loose,
-  with_stale,
-  with_frame,
-  with_patch,
-}
+use Rattle.device_defs.specs.Store.{Origin, Store, takes_b, frame_at, patch_at, is_loose, with_stale, with_frame, with_patch}
 
 -- what came of a first part, and the first side that failed in it
 pub record Wrote : Type 0 where
@@ -52,10 +32,6 @@ module _ {F P H : Type 0} where
 
   abbrev pub taken_b : Store F P H → ℕ → Store F P H
   taken_b s t = with_stale s B t false
-
-  -- whether a track from `first` up to before t is loose: a command looks at tracks one behind the other
-  abbrev pub another_loose : Store F P H → ℕ → ℕ → Bool
-  another_loose s first t = is_some (least t (λ q. nat_le first q && is_loose s q))
 
 module _ {F P H R : Type 0} (c : Contents F P H R) where
   -- The first part
@@ -142,47 +118,3 @@ module _ {F P H R : Type 0} (c : Contents F P H R) where
       if was_loose then
       Ask (SetClean s.device t) (λ _. Done (half_opened (with_frame s t (cleaned (frame_at s t))) t i origin) tt)
       else Done (half_opened s t i origin) tt
-
-  -- A command's write, where i is the new image
-
-  -- the edit takes effect on a track that isn't loose, and the keeper is told
-  abbrev pub effect : {A : Type 0} → Store F P H → ℕ → Image → Edit → (Store F P H → Interaction R Image (Store F P H) A) →
-      Interaction R Image (Store F P H) A
-  effect s t i e k = Tell (Firm s.device t i) (λ _. k (with_edit s t e))
-
-  abbrev pub whole : Store F P H → ℕ → Image → Edit → Bool → Interaction R Image (Store F P H) Took
-  whole s t i e bypass = effect s t i e (λ z. and_then (write_done z t i bypass) (λ y _. Done y Whole))
-
-  -- the second part in the same event
-  abbrev pub at_once : Store F P H → ℕ → Image → Edit → Bool → Interaction R Image (Store F P H) Took
-  at_once s t i e bypass =
-      and_then (write_second s t (c.bytes i))
-      (λ z _. if has_level z t then whole z t i e bypass else Done (settled c z t) Unwritten)
-
-  abbrev pub through_by : ℕ → Image → Edit → Bool → Bool → Bool → Store F P H → Took → Interaction R Image (Store F P H) Took
-  through_by t i e bypass opens was_loose s Whole = whole s t i e bypass
-  through_by t i e bypass opens was_loose s Opened =
-      if opens then and_then (opened s t i (OfCommand bypass e) was_loose) (λ z _. Done z Opened)
-      else at_once s t i e bypass
-  through_by t i e bypass opens was_loose s Unwritten = Done s Unwritten
-
-  -- with two sides it takes two events, unless another track that the command looked at is loose
-  unfoldable pub through : Store F P H → ℕ → Image → Edit → Bool → Bool → Interaction R Image (Store F P H) Took
-  through s t i e bypass opens =
-      and_then (firm_first s t)
-      (λ z was_loose. and_then (write_first z t (c.bytes i)) (λ y w. through_by t i e bypass opens was_loose y w.took))
-
-  abbrev pub write_by : Usage → ℕ → ℕ → Image → Edit → Store F P H → Choice → Interaction R Image (Store F P H) Took
-  write_by u first t i e s Provisional = Done (provisionally_written c s t i e) Whole
-  write_by u first t i e s (Fast slot) = Tell (Firm s.device t i) (λ _. Done (fast_written c s t i e slot) Whole)
-  write_by u first t i e s Through = through s t i e (is_bypass u.mode) (not (another_loose s first t))
-
-  abbrev pub write_told : Store F P H → Usage → ℕ → ℕ → Image → Edit → Bool → Interaction R Image (Store F P H) (Option Took)
-  write_told s u first t old e ok =
-      if ok then
-      and_then (choose c s u t) (λ z choice. and_then (write_by u first t (edited_image e old) e z choice) (λ y took. Done y (Some took)))
-      else Done s None
-
-  -- of a command that looked at the tracks from `first` to t. The keeper is told the track before the edit
-  unfoldable pub write : Store F P H → Usage → ℕ → ℕ → Image → Edit → Interaction R Image (Store F P H) (Option Took)
-  write s u first t old e = tried s (Tell (BeforeEdit s.device t old) (write_told s u first t old e))

@@ -1,38 +1,8 @@
 -- After every event of a run the device is one that a plain device could be.
-use Rattle.std.proofs.Common.{
-  ◌≡◌,
-  ◌<◌,
-  ◌≤◌,
-  ◌+◌,
-  ◌-◌,
-  ℕ,
-  suc,
-  List,
-  [],
-  ◌∷◌,
-  ◌++◌,
-  Option,
-  Some,
-  None,
-  Bool,
-  true,
-  false,
-  length,
-  cond,
-  refl,
-  arith,
-  sym,
-  ap,
-  subst,
-  inl,
-  inr,
-  ◌∙◌,
-  append_assoc,
-  nat_lt,
-}
+use Rattle.std.proofs.Common.{◌≡◌, ◌<◌, ◌≤◌, ◌+◌, ◌-◌, ℕ, suc, List, [], ◌∷◌, ◌++◌, Option, Some, None, Bool, true, false, length, cond, refl, arith, sym, ap, subst, inl, inr, ◌∙◌, nat_lt}
 use Rattle.std.specs.List.{list_all}
 use Rattle.std.proofs.lemmas.List.Sums.{sum_by_push}
-use Rattle.std.specs.Prelude.{◌==◌, ◌||◌, ◌⊎◌, All, IfSome, IsSome, slice_index_or, if◌then◌else◌}
+use Rattle.std.specs.Prelude.{◌==◌, ◌||◌, ◌⊎◌, All, IsSome, slice_index_or, if◌then◌else◌}
 use Rattle.std.proofs.lemmas.Bool.{cases_lt, ltb-true}
 use Rattle.std.proofs.lemmas.List.{append-nil, length-append, get_or_past}
 use Rattle.std.proofs.lemmas.List.Elements.{All-nil, All-cons, All-append, All-get_or}
@@ -49,9 +19,9 @@ use Rattle.plain_defs.specs.declared.journal.How.TheVariants.{Full}
 use Rattle.plain_defs.specs.declared.journal.Item.{Item}
 use Rattle.plain_defs.specs.Built.{IsBuilt}
 use Rattle.plain_defs.specs.Effect.{Effect, effect_on, behind_effect}
-use Rattle.plain_defs.specs.History.{OpenEntry, History, no_history, started, ended, ended_in, with_end, closed, entry_of, resets_of, IsPlain}
+use Rattle.plain_defs.specs.History.{OpenEntry, History, no_history, ended, ended_in, closed, entry_of, resets_of, IsPlain}
 use Rattle.plain_defs.specs.Journal.{Plans, program_of, replay}
-use Rattle.plain_defs.specs.Legal.{is_of_path, MayStart}
+use Rattle.plain_defs.specs.Legal.{is_of_path}
 use Rattle.ckd_rules.specs.Stance.{first_stance}
 use Rattle.plain_defs.specs.PlainState.{PathsState, PlainState, fixed_of, owner_of, is_admitted, asks_for_group}
 use Rattle.plain_defs.specs.Program.{Part, stepped, stepped_at, part_of, first_part}

@@ -1,5 +1,5 @@
 -- What the device keeps after each event of a run, and that a plain device would have made it.
-use Rattle.std.specs.Prelude.{ℕ, List, [], ◌∷◌, All}
+use Rattle.std.specs.Prelude.{List, [], ◌∷◌, All}
 use Rattle.plain_defs.specs.History.{History, no_history, started, ended, IsPlain}
 use Rattle.plain_defs.specs.Journal.{Plans}
 use Rattle.plain_defs.specs.PlainState.{PlainState}

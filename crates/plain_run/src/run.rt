@@ -1,17 +1,18 @@
-ghost use Rattle.std.specs.Prelude.{◌≡◌, ◌++◌, ◌∷◌, ◌<◌, ◌≤◌, ◌+◌, [], All, IfOk, OnOk, IsSome, length};
+ghost use Rattle.std.specs.Prelude.{◌≡◌, ◌++◌, ◌∷◌, ◌<◌, ◌≤◌, ◌+◌, [], All, IfOk, OnOk, IfSome, IsSome, None, length};
 ghost use Rattle.plain_defs.specs.Built.{IsBuilt};
 ghost use Rattle.plain_defs.specs.PlainState.{empty_state};
 ghost use Rattle.deck_plan.specs.Plans.{plan_of};
 ghost use Rattle.plain_run.specs.Run.{first_machine, begin_with, start, step, finish, line_done, events_from, Did};
 ghost use Rattle.plain_run.specs.Belongs.{Keeps, KeepsAll};
-ghost use Rattle.plain_run.specs.Between.{Counts};
+ghost use Rattle.plain_run.specs.Between.{Counts, RanOne};
+ghost use Rattle.plain_device.specs.Between.{IsBetween};
 ghost use Rattle.plain_run.specs.Kept.{RunsPlainly};
 
 use crate::machine::{Machine, Running};
 use crate::{RunEvent, RunRecord};
 use ckd_ccw::Program;
 use ckd_chain::Chain;
-use ckd_types::{Geometry, NoMemory, PathNo};
+use ckd_types::{CommandEnd, Geometry, NoMemory, PathNo};
 use deck_plan::{EventLine, PathPlans, Schedule};
 use plain_device::PlainDevice;
 use std::alloc::Global;
@@ -86,20 +87,48 @@ fn start(
     Ok(())
 }
 
-/// The command at hand of the running program.
+/// No program runs.
+fn clear(running: &mut Option<Running>)
+    ensures { running.new ≡ None }
+{
+    *running = None;
+}
+
+/// The command at hand of a program that runs: the program's ordinal, whether it is over, and the end.
+fn command_of(
+    alloc: Global,
+    device: &mut PlainDevice,
+    running: &mut Option<Running>,
+) -> Result<(u16, bool, CommandEnd), NoMemory>
+    requires running { IsSome running.old }
+    requires between { IfSome running.old (λ r. IsBetween device.old r.chain) }
+    ensures some { IsSome running.new }
+    ensures room { IfSome running.old (λ r. r.chain.at.stance.commands < 4096) }
+    ensures ended { IfOk result (λ ran. RanOne device.old device.new running.old running.new ran.0 ran.1 ran.2) }
+{
+    let Some(running) = running else {
+        unreachable!()
+    };
+    running.chain.stands();
+    let end = device.command(alloc, path(), &mut running.chain)?;
+    Ok((running.ordinal, running.chain.over(), end))
+}
+
+/// The command at hand of the running program. After want of memory no program runs.
 fn command(alloc: Global, machine: &mut Machine, happened: &mut RunRecord) -> Result<(), NoMemory>
     requires running { IsSome machine.old.running }
     ensures did { OnOk result (Did machine.new happened.old happened.new (step machine.old machine.old.running)) }
     ensures counts { OnOk result (Counts machine.old.running machine.new.running) }
 {
-    let Some(mut running) = machine.running.take() else {
-        unreachable!()
+    let (ordinal, over, end) = match command_of(alloc, &mut machine.device, &mut machine.running) {
+        Ok(ran) => ran,
+        Err(e) => {
+            clear(&mut machine.running);
+            return Err(e);
+        }
     };
-    let ordinal = running.ordinal;
-    running.chain.stands();
-    let end = machine.device.command(alloc, path(), &mut running.chain)?;
-    if !running.chain.over() {
-        machine.running = Some(running);
+    if over {
+        clear(&mut machine.running);
     }
     happened.push(RunEvent::Ended { ordinal, end })
 }

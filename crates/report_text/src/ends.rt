@@ -86,7 +86,7 @@ fn put_behind_end<K: Sink>(
     put_behind_data(sink, buffer, place, end)
 }
 
-fn end_line(path: PathNo, device: DeviceNo, ordinal: u16, end: &CommandEnd) -> EndLine
+pub(crate) fn end_line(path: PathNo, device: DeviceNo, ordinal: u16, end: &CommandEnd) -> EndLine
     ensures { result ≡ end_line path device ordinal end.now }
 {
     EndLine {

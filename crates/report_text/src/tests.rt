@@ -2,7 +2,9 @@ ghost use Rattle.std.specs.Prelude.{◌≡◌};
 
 use crate::*;
 use ckd_outside::{LineBuffer, MemSink, flush, put_all};
-use ckd_types::{DeviceNo, GroupId, Note, Owner, PathNo, Sense, Side, TrackNo, UnitStatus};
+use ckd_types::{
+    Bytes, CommandEnd, DeviceNo, GroupId, Note, Owner, PathNo, Sense, Side, TrackNo, UnitStatus,
+};
 use std::test::Fail;
 
 fn path() -> PathNo
@@ -28,6 +30,44 @@ const EVENTS: &str =
 
 const TOTALS: &str =
     "FAIL VOLUME 10 A DONE\nPAIR 10 10 REFUSED NOTLEVEL 30\nPOWER DONE\nUNPAIR 10 PENDING 4\nDEVICE 10 READS 5 WRITES 6 LOST 1\nLOST 10 17\nDEVICE 10 LENT 10\nFRAME 10 17 MODIFIED\nFRAME 10 17 CLEAN\nFRESH 10\nLEFT 2 10 8\nUNUSED 9\nCHECKS 11\nFINISH\n";
+
+const WRONG: &str =
+    "start 2 10 DONE\nSTART 5 10 DONE\nSTART 02 10 DONE\nSTART 2\nSTART 2 10 NONE\nSENSE 0008\nEND 2 10 1 3 0e 512 -\nSTART 2 10 DONE \nIO 18446744073709551616 0\nDATA 0a\n";
+
+const FAULTS: [LineFault; 10] = [
+    LineFault::Keyword,
+    LineFault::Number,
+    LineFault::Number,
+    LineFault::Words,
+    LineFault::Word,
+    LineFault::Digits,
+    LineFault::Text,
+    LineFault::Text,
+    LineFault::Number,
+    LineFault::Text,
+];
+
+#[test]
+fn lines_that_are_read(rt: HostRuntime) -> Result<(), Fail> {
+    for line in EVENTS.lines() {
+        assert_eq!(rt; read_line(rt.alloc(), line.as_bytes()).err(), None);
+    }
+    for line in TOTALS.lines() {
+        assert_eq!(rt; read_line(rt.alloc(), line.as_bytes()).err(), None);
+    }
+    Ok(())
+}
+
+#[test]
+fn lines_with_a_fault(rt: HostRuntime) -> Result<(), Fail> {
+    let mut faults = FAULTS.iter();
+    for line in WRONG.lines() {
+        let wanted = faults.next().map(|fault| LineError::Fault(*fault));
+        assert_eq!(rt; read_line(rt.alloc(), line.as_bytes()).err(), wanted);
+    }
+    assert_eq!(rt; faults.next(), None);
+    Ok(())
+}
 
 #[test]
 fn lines_of_events(rt: HostRuntime) -> Result<(), Fail> {
@@ -133,5 +173,85 @@ fn a_sense_line_has_all_bytes(rt: HostRuntime) -> Result<(), Fail> {
     let wanted =
         "SENSE 0008000000000000000000000000000000000000000000000000000000000000\nDATA 0AF9\n";
     assert_eq!(rt; sink.bytes(), wanted.as_bytes());
+    Ok(())
+}
+
+const REPORT: &str =
+    "START 2 10 DONE\nEND 2 10 1 0 0E 0 -\nDATA AB01\nSENSE 0008000000000000000000000000000000000000000000000000000000000000\nOVER 2 10 1 FULL\nIO 1 0\nIO 18446744073709551615 0\nDATA 7F\nDEVICE 10 READS 5 WRITES 6 LOST 2\nLOST 10 3\nLOST 10 17\nFRAME 10 17 MODIFIED\nFINISH\n";
+
+#[test]
+fn a_report_behind_its_run(rt: HostRuntime) -> Result<(), Fail> {
+    let mut sense = [0; 32];
+    sense[1] = 0x08;
+    let end = CommandEnd {
+        index: 0,
+        status: UnitStatus(0x0e),
+        residual: 0,
+        note: Note::Plain,
+        sent: Bytes::from_slice(rt.alloc(), &[0xab, 0x01])?,
+        sense: Some(Sense::new(sense)),
+        over: true,
+    };
+    let mut record = RunRecord::new(rt.alloc());
+    let start = ReportLine::Start(path(), device(), StartAnswer::Done);
+    assert_eq!(rt; record.push(start), Ok(()));
+    assert_eq!(rt; record.push_end(path(), device(), 1, &end), Ok(()));
+    for reads in [1, u64::MAX] {
+        assert_eq!(rt; record.push(ReportLine::Io { reads, writes: 0 }), Ok(()));
+    }
+    assert_eq!(rt; record.push_data(&[0x7f]), Ok(()));
+    let lost = [TrackNo::new(3).unwrap(), track()];
+    let devices = [DeviceEnd {
+        device: device(),
+        totals: DeviceTotals::Calls {
+            reads: 5,
+            writes: 6,
+            lost: 2,
+        },
+        lost: &lost,
+    }];
+    let frames = [FrameEnd {
+        device: device(),
+        track: track(),
+        modified: true,
+    }];
+    let mut sink = MemSink::new(rt.alloc(), 1000, 1000, &[])?;
+    assert_eq!(rt; write_report(&mut sink, &record, &devices, &frames), Ok(()));
+    assert_eq!(rt; sink.bytes(), REPORT.as_bytes());
+    Ok(())
+}
+
+#[test]
+fn a_history_of_a_device(rt: HostRuntime) -> Result<(), Fail> {
+    let mut record = RunRecord::new(rt.alloc());
+    assert_eq!(rt; record.push(ReportLine::Fresh(device())), Ok(()));
+    let left = [LeftPrograms {
+        path: path(),
+        device: device(),
+        programs: 8,
+    }];
+    let lost = [track()];
+    let end = DeviceEnd {
+        device: device(),
+        totals: DeviceTotals::Lost(1),
+        lost: &lost,
+    };
+    let devices = [DeviceHistory {
+        record: &record,
+        left: &left,
+        end,
+    }];
+    let mut sink = MemSink::new(rt.alloc(), 1000, 1000, &[])?;
+    assert_eq!(rt; write_history(&mut sink, &devices, 9), Ok(()));
+    let wanted = "FRESH 10\nLEFT 2 10 8\nDEVICE 10 LOST 1\nLOST 10 17\nUNUSED 9\nFINISH\n";
+    assert_eq!(rt; sink.bytes(), wanted.as_bytes());
+    Ok(())
+}
+
+#[test]
+fn digits_of_bytes(rt: HostRuntime) -> Result<(), Fail> {
+    assert_eq!(rt; are_digits_of(b"0AF9", &[0x0a, 0xf9]), true);
+    assert_eq!(rt; are_digits_of(b"0Af9", &[0x0a, 0xf9]), false);
+    assert_eq!(rt; are_digits_of(b"0AF", &[0x0a, 0xf9]), false);
     Ok(())
 }

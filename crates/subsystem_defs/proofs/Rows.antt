@@ -21,7 +21,8 @@ use Rattle.device_defs.specs.Orders.{lend}
 use Rattle.device_defs.specs.Owed.{waits, hear, all_told}
 use Rattle.device_defs.specs.Second.{second_part}
 use Rattle.device_defs.specs.Start.{start_fault, start}
-use Rattle.device_defs.specs.Writing.{write_first, write_second, write_done, through, write}
+use Rattle.device_defs.specs.Editing.{through, write}
+use Rattle.device_defs.specs.Writing.{write_first, write_second, write_done}
 use Rattle.subsystem_defs.specs.Beside.{Loosened, Hardened, WentBack}
 use Rattle.subsystem_defs.specs.Closing.{Counted, LentTo, handed_of}
 use Rattle.subsystem_defs.specs.Decks.{run_asked}

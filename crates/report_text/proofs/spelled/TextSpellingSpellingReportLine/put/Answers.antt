@@ -1,0 +1,14 @@
+use Rattle.ckd_outside.proofs.Lines.{puts_stopped, puts_then, stops_longer}
+use Rattle.report_text.specs.Lines.{text_of}
+use Rattle.report_text.proofs.spelled.TextSpellingSpellingReportLine.put.Goals as goal
+
+pub returns-in_err-put-clause-bytes : goal.returns-in_err-put-clause-bytes
+unfolding text_of
+returns-in_err-put-clause-bytes g c =
+    puts_stopped _ _ _ _ _ _ _ c.from_residual.ensures.1
+    (stops_longer _ _ _ _ _ _ (rw (c.keyword_text.ensures, c.key_of.ensures) at c.in_err-put.ensures.bytes))
+
+pub returns-clause-bytes : goal.returns-clause-bytes
+unfolding text_of
+returns-clause-bytes g c =
+    puts_then _ _ _ _ _ _ _ _ _ (rw (c.keyword_text.ensures, c.key_of.ensures) at c.in_ok-put.ensures.bytes) c.put-2.ensures.bytes

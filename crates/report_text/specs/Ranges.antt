@@ -1,0 +1,141 @@
+-- Which numbers and bytes the lines of a run have.
+use Rattle.std.specs.Prelude.{◌≡◌, ◌≤◌, ◌<◌, ◌^◌, ℕ, List, length}
+use Rattle.hex.specs.Hex.{IsBytes}
+use Rattle.ckd_types.specs.declared.paths.Owner.{Owner}
+use Rattle.ckd_types.specs.declared.paths.Owner.TheVariants as owners
+use Rattle.report_text.specs.declared.answers.BackAnswer.{BackAnswer}
+use Rattle.report_text.specs.declared.answers.BackAnswer.TheVariants as back
+use Rattle.report_text.specs.declared.answers.DeviceTotals.{DeviceTotals}
+use Rattle.report_text.specs.declared.answers.DeviceTotals.TheVariants as totals
+use Rattle.report_text.specs.declared.answers.HowOver.{HowOver}
+use Rattle.report_text.specs.declared.answers.HowOver.TheVariants as how
+use Rattle.report_text.specs.declared.answers.LooseAnswer.{LooseAnswer}
+use Rattle.report_text.specs.declared.answers.LooseAnswer.TheVariants as loose
+use Rattle.report_text.specs.declared.answers.OrderAnswer.{OrderAnswer}
+use Rattle.report_text.specs.declared.answers.OrderAnswer.TheVariants as order_answers
+use Rattle.report_text.specs.declared.answers.OrderFault.{OrderFault}
+use Rattle.report_text.specs.declared.answers.OrderFault.TheVariants as faults
+use Rattle.report_text.specs.declared.answers.StartAnswer.{StartAnswer}
+use Rattle.report_text.specs.declared.answers.StartAnswer.TheVariants as start
+use Rattle.report_text.specs.declared.line.EndLine.{EndLine}
+use Rattle.report_text.specs.declared.line.ReportLine.{ReportLine}
+use Rattle.report_text.specs.declared.line.ReportLine.TheVariants as lines
+use Rattle.report_text.specs.declared.order.Order.{Order}
+use Rattle.report_text.specs.declared.order.Order.TheVariants as orders
+
+pub record IsPath (n : ℕ) : Type 0 where
+  pub least : 1 ≤ n
+  pub most : n ≤ 4
+
+abbrev pub IsDevice : ℕ → Type 0
+IsDevice n = n < 16
+
+abbrev pub IsTrack : ℕ → Type 0
+IsTrack n = n < 960
+
+-- numbers of 16, 32 and 64 bits
+abbrev pub IsShort : ℕ → Type 0
+IsShort n = n < 2 ^ 16
+
+abbrev pub IsCount : ℕ → Type 0
+IsCount n = n < 2 ^ 32
+
+abbrev pub IsLong : ℕ → Type 0
+IsLong n = n < 2 ^ 64
+
+-- so many bytes
+pub record AreBytes (n : ℕ) (xs : List ℕ) : Type 0 where
+  pub count : length xs ≡ n
+  pub each : IsBytes xs
+
+abbrev pub IsOwner : Owner → Type 0
+IsOwner (owners.Group id) = AreBytes 11 id.bytes
+IsOwner (owners.Path path) = IsPath path
+
+abbrev pub IsStart : StartAnswer → Type 0
+IsStart (start.Accepted n) = IsShort n
+IsStart (start.Busy path) = IsPath path
+IsStart start.Done = Unit {0}
+IsStart start.Running = Unit {0}
+IsStart (start.Secondary device) = IsDevice device
+IsStart (start.Reserved owner) = IsOwner owner
+IsStart (start.Shut owner) = IsOwner owner
+
+abbrev pub IsBack : BackAnswer → Type 0
+IsBack back.Nothing = Unit {0}
+IsBack (back.Recovered track) = IsTrack track
+IsBack (back.Copied track) = IsTrack track
+IsBack (back.Staged track) = IsTrack track
+IsBack (back.Skipped track) = IsTrack track
+IsBack (back.Destaged track) = IsTrack track
+IsBack (back.Half track) = IsTrack track
+IsBack (back.Finished track) = IsTrack track
+IsBack (back.Unwritten track) = IsTrack track
+IsBack (back.Fault side) = Unit {0}
+IsBack (back.BadBytes side) = Unit {0}
+
+abbrev pub IsLoose : LooseAnswer → Type 0
+IsLoose (loose.Harden track) = IsTrack track
+IsLoose (loose.Loosen track) = IsTrack track
+IsLoose (loose.Lost count id) = IsShort count × AreBytes 2 id
+
+abbrev pub IsOver : HowOver → Type 0
+IsOver how.Full = Unit {0}
+IsOver how.Checked = Unit {0}
+IsOver (how.Cut commands) = IsShort commands
+
+abbrev pub IsFault : OrderFault → Type 0
+IsFault (faults.Lent device) = IsDevice device
+IsFault (faults.Active path) = IsPath path
+IsFault (faults.NotLevel tracks) = IsCount tracks
+IsFault _ = Unit {0}
+
+abbrev pub IsAnswer : OrderAnswer → Type 0
+IsAnswer order_answers.Done = Unit {0}
+IsAnswer (order_answers.Pending tracks) = IsCount tracks
+IsAnswer (order_answers.Refused fault) = IsFault fault
+
+abbrev pub IsOrder : Order → Type 0
+IsOrder (orders.FailVolume device side) = IsDevice device
+IsOrder (orders.Replace device side) = IsDevice device
+IsOrder (orders.Pair first second) = IsDevice first × IsDevice second
+IsOrder (orders.Unpair device) = IsDevice device
+IsOrder (orders.Suspend device) = IsDevice device
+IsOrder (orders.Resume device) = IsDevice device
+IsOrder _ = Unit {0}
+
+abbrev pub IsTotals : DeviceTotals → Type 0
+IsTotals (totals.Calls reads writes lost) = IsLong reads × IsLong writes × IsShort lost
+IsTotals (totals.Lost lost) = IsShort lost
+IsTotals (totals.Lent device) = IsDevice device
+
+pub record IsEnd (e : EndLine) : Type 0 where
+  pub path : IsPath e.path
+  pub device : IsDevice e.device
+  pub ordinal : IsShort e.ordinal
+  pub index : IsShort e.index
+  pub status : e.status.0 < 256
+  pub residual : IsShort e.residual
+
+abbrev pub IsLine : ReportLine → Type 0
+IsLine (lines.Start path device answer) = IsPath path × IsDevice device × IsStart answer
+IsLine (lines.End end) = IsEnd end
+IsLine (lines.Data bytes) = IsBytes bytes
+IsLine (lines.Sense sense) = AreBytes 32 sense.bytes
+IsLine (lines.Half path device track) = IsPath path × IsDevice device × IsTrack track
+IsLine (lines.Back device answer) = IsDevice device × IsBack answer
+IsLine (lines.StepIdle device) = IsDevice device
+IsLine (lines.RunIdle device) = IsDevice device
+IsLine (lines.Loose device answer) = IsDevice device × IsLoose answer
+IsLine (lines.Io reads writes) = IsLong reads × IsLong writes
+IsLine (lines.Over path device ordinal how) = IsPath path × IsDevice device × IsShort ordinal × IsOver how
+IsLine (lines.Reset path device) = IsPath path × IsDevice device
+IsLine (lines.Order order answer) = IsOrder order × IsAnswer answer
+IsLine (lines.Device device totals) = IsDevice device × IsTotals totals
+IsLine (lines.Lost device track) = IsDevice device × IsTrack track
+IsLine (lines.Frame device track modified) = IsDevice device × IsTrack track
+IsLine (lines.Fresh device) = IsDevice device
+IsLine (lines.Left path device programs) = IsPath path × IsDevice device × IsShort programs
+IsLine (lines.Unused events) = IsCount events
+IsLine lines.Finish = Unit {0}
+IsLine (lines.Sum of n) = IsLong n

@@ -1,0 +1,12 @@
+ghost use Rattle.std.specs.Prelude.{◌≡◌, Ok};
+ghost use Rattle.report_text.specs.declared.line.ReportLine.{ReportLine};
+ghost use Rattle.report_text.specs.Lines.{text_of};
+ghost use Rattle.report_text.specs.Ranges.{IsLine};
+ghost use Rattle.report_text.specs.Reading.{line_of};
+
+/// Laws: the line that the text of a line is, is that line, where its numbers and bytes are in their ranges; and no two
+/// such lines have one text.
+pub fn reads_back()
+    ensures again { (line : ReportLine) → IsLine line → line_of (text_of line) ≡ Ok line }
+    ensures apart { (line other : ReportLine) → IsLine line → IsLine other → text_of line ≡ text_of other → line ≡ other }
+{}

@@ -1,0 +1,287 @@
+ghost use Rattle.std.specs.Prelude.{◌≡◌, ◌≤◌, ◌++◌, ◌∷◌, [], OnOk, length, take};
+ghost use Rattle.ckd_outside.specs.Causes.{HasCause};
+ghost use Rattle.ckd_outside.specs.Texts.{Puts};
+ghost use Rattle.report_text.specs.Ends.{data_lines, end_lines, lines_text, over_lines, sense_lines};
+ghost use Rattle.report_text.specs.Lines.{line_text};
+ghost use Rattle.report_text.specs.Record.{IsSpent, byte_count, kept_line, kept_lines, other_count, whole_line};
+ghost use Rattle.report_text.specs.declared.line.ReportLine.TheVariants as lines;
+
+use crate::ends::end_line;
+use crate::words::{HexWord, put_often};
+use crate::{EndLine, HowOver, LineSpelling, ReportLine, put_data};
+use ckd_outside::{Failed, LineBuffer, Sink, Spelling};
+use ckd_types::{Bytes, CommandEnd, DeviceNo, NoMemory, PathNo, Sense};
+use std::alloc::Global;
+use std::marker::Model;
+
+/// A line as a record keeps it: sixteen bytes, with those of a DATA or SENSE line elsewhere, and so every line without
+/// a form of its own.
+#[derive(Clone, Copy)]
+enum Kept {
+    End(EndLine),
+    Io(u32, u32),
+    Over(PathNo, DeviceNo, u16, HowOver),
+    Data(u32),
+    Sense,
+    Other,
+}
+
+/// The lines of a run's events so far, in little room. They are seen as a list.
+#[derive(Drop)]
+pub struct RunRecord {
+    kept: Vec<Kept>,
+    bytes: Vec<u8>,
+    others: Vec<ReportLine>,
+}
+
+impl Model for RunRecord {
+    ghost use Rattle.std.specs.Prelude.{List};
+    ghost use Rattle.report_text.specs.declared.line.ReportLine.{ReportLine};
+    ghost use Rattle.report_text.specs.Record.{IsSpent, kept_lines};
+
+    ghost Value = { List ReportLine };
+
+    ghost view = { λ r. kept_lines r.kept.items r.bytes.items r.others.items };
+
+    ghost invariant = { λ r. IsSpent r.kept.items r.bytes.items r.others.items };
+}
+
+impl RunRecord {
+    /// Nothing has happened. Takes no memory.
+    pub fn new(alloc: Global) -> RunRecord
+        ensures { result ≡ [] }
+    {
+        RunRecord {
+            kept: Vec::new(alloc),
+            bytes: Vec::new(alloc),
+            others: Vec::new(alloc),
+        }
+    }
+
+    /// A line whose short form says all.
+    fn push_short(&mut self, kept: Kept) -> Result<(), NoMemory>
+        requires no_bytes { byte_count kept ≡ 0 }
+        requires no_other { other_count kept ≡ 0 }
+        ensures { OnOk result (self.new ≡ self.old ++ kept_line kept [] [] ∷ []) }
+    {
+        self.kept.push(kept)?;
+        Ok(())
+    }
+
+    /// A line with all of these bytes.
+    fn push_bytes(&mut self, kept: Kept, bytes: &[u8]) -> Result<(), NoMemory>
+        requires all_bytes { byte_count kept ≡ length bytes.now }
+        requires no_other { other_count kept ≡ 0 }
+        ensures { OnOk result (self.new ≡ self.old ++ whole_line kept bytes.now ∷ []) }
+    {
+        self.kept.reserve(1)?;
+        self.bytes.extend_from_slice(bytes)?;
+        self.kept.push_reserved(kept);
+        Ok(())
+    }
+
+    fn push_other(&mut self, line: ReportLine) -> Result<(), NoMemory>
+        ensures { OnOk result (self.new ≡ self.old ++ line ∷ []) }
+    {
+        self.kept.reserve(1)?;
+        self.others.push(line)?;
+        self.kept.push_reserved(Kept::Other);
+        Ok(())
+    }
+
+    fn push_io(&mut self, reads: u64, writes: u64) -> Result<(), NoMemory>
+        ensures { OnOk result (self.new ≡ self.old ++ lines.Io reads writes ∷ []) }
+    {
+        if reads > u64::from(u32::MAX) || writes > u64::from(u32::MAX) {
+            return self.push_other(ReportLine::Io { reads, writes });
+        }
+        self.push_short(Kept::Io(reads as u32, writes as u32))
+    }
+
+    fn push_sense(&mut self, sense: &Sense) -> Result<(), NoMemory>
+        ensures { OnOk result (self.new ≡ self.old ++ lines.Sense sense.now ∷ []) }
+    {
+        self.push_bytes(Kept::Sense, &sense.bytes)
+    }
+
+    /// A DATA line of borrowed bytes; of 4 GiB or more for want of memory none. What a record is after want of
+    /// memory is not said.
+    pub fn push_data(&mut self, bytes: &[u8]) -> Result<(), NoMemory>
+        ensures { OnOk result (self.new ≡ self.old ++ lines.Data bytes.now ∷ []) }
+    {
+        match u32::try_from(bytes.len()) {
+            Ok(n) => self.push_bytes(Kept::Data(n), bytes),
+            Err(_) => Err(NoMemory),
+        }
+    }
+
+    /// One line more, behind the others. What a record is after want of memory is not said.
+    pub fn push(&mut self, line: ReportLine) -> Result<(), NoMemory>
+        ensures { OnOk result (self.new ≡ self.old ++ line ∷ []) }
+    {
+        match line {
+            ReportLine::End(end) => self.push_short(Kept::End(end)),
+            ReportLine::Io { reads, writes } => self.push_io(reads, writes),
+            ReportLine::Over(path, device, ordinal, how) => {
+                self.push_short(Kept::Over(path, device, ordinal, how))
+            }
+            ReportLine::Data(bytes) => self.push_data(bytes.as_slice()),
+            ReportLine::Sense(sense) => self.push_sense(&sense),
+            line => self.push_other(line),
+        }
+    }
+
+    /// Where bytes were sent.
+    fn push_sent(&mut self, sent: &Bytes) -> Result<(), NoMemory>
+        ensures { OnOk result (self.new ≡ self.old ++ data_lines sent.now) }
+    {
+        if sent.is_empty() {
+            return Ok(());
+        }
+        self.push_data(sent.as_slice())
+    }
+
+    /// Where the end has sense.
+    fn push_any_sense(&mut self, sense: &Option<Sense>) -> Result<(), NoMemory>
+        ensures { OnOk result (self.new ≡ self.old ++ sense_lines sense.now) }
+    {
+        match sense {
+            Some(sense) => self.push_sense(sense),
+            None => Ok(()),
+        }
+    }
+
+    /// Where the program is over.
+    fn push_over(&mut self, place: &EndLine, over: bool) -> Result<(), NoMemory>
+        ensures { OnOk result (self.new ≡ self.old ++ over_lines place.now.path place.now.device place.now.ordinal over) }
+    {
+        if !over {
+            return Ok(());
+        }
+        self.push_short(Kept::Over(place.path, place.device, place.ordinal, HowOver::Full))
+    }
+
+    /// The lines of a command's end: END, DATA and SENSE where there is any, and OVER where its program, the path's of
+    /// that ordinal on the device, is over. What a record is after want of memory is not said.
+    pub fn push_end(
+        &mut self,
+        path: PathNo,
+        device: DeviceNo,
+        ordinal: u16,
+        end: &CommandEnd,
+    ) -> Result<(), NoMemory>
+        ensures { OnOk result (self.new ≡ self.old ++ end_lines path device ordinal end.now) }
+    {
+        let line = end_line(path, device, ordinal, end);
+        self.push_short(Kept::End(line))?;
+        self.push_sent(&end.sent)?;
+        self.push_any_sense(&end.sense)?;
+        self.push_over(&line, end.over)?;
+        Ok(())
+    }
+}
+
+#[tactic(auto, unfolding(crate::specs::Lines::text_of))]
+fn put_end_text<K: Sink>(sink: &mut K, buffer: &mut LineBuffer, end: &EndLine) -> Result<(), Failed>
+    ensures bytes { Puts (K.held sink.old) buffer.old (K.held sink.new) buffer.new result (line_text (lines.End end.now)) }
+    ensures cause { HasCause (K.faults sink.old) (K.faults sink.new) result }
+{
+    put_often(sink, buffer, b"END", end)
+}
+
+/// The first 32 of some bytes.
+#[tactic(auto, unfolding(crate::specs::Lines::text_of))]
+fn put_sense_text<K: Sink>(
+    sink: &mut K,
+    buffer: &mut LineBuffer,
+    bytes: &[u8],
+) -> Result<(), Failed>
+    requires some { 32 ≤ length bytes.now }
+    ensures bytes { Puts (K.held sink.old) buffer.old (K.held sink.new) buffer.new result (line_text (lines.Sense (record { bytes = take 32 bytes.now }))) }
+    ensures cause { HasCause (K.faults sink.old) (K.faults sink.new) result }
+{
+    let (bytes, _) = bytes.split_at(32);
+    put_often(sink, buffer, b"SENSE", &HexWord(bytes))
+}
+
+fn put_kept<K: Sink>(
+    sink: &mut K,
+    buffer: &mut LineBuffer,
+    kept: &Kept,
+    bytes: &[u8],
+    others: &[ReportLine],
+) -> Result<(), Failed>
+    requires bytes { byte_count kept.now ≤ length bytes.now }
+    requires others { other_count kept.now ≤ length others.now }
+    ensures bytes { Puts (K.held sink.old) buffer.old (K.held sink.new) buffer.new result (line_text (kept_line kept.now bytes.now others.now)) }
+    ensures cause { HasCause (K.faults sink.old) (K.faults sink.new) result }
+{
+    match kept {
+        Kept::End(end) => put_end_text(sink, buffer, end),
+        Kept::Io(reads, writes) => {
+            let line = ReportLine::Io {
+                reads: u64::from(*reads),
+                writes: u64::from(*writes),
+            };
+            LineSpelling::put(sink, buffer, &line)
+        }
+        Kept::Over(path, device, ordinal, how) => {
+            LineSpelling::put(
+                sink,
+                buffer,
+                &ReportLine::Over(*path, *device, *ordinal, *how),
+            )
+        }
+        Kept::Data(n) => put_data(sink, buffer, &bytes[..*n as usize]),
+        Kept::Sense => put_sense_text(sink, buffer, bytes),
+        Kept::Other => LineSpelling::put(sink, buffer, &others[0]),
+    }
+}
+
+fn byte_count(kept: &Kept) -> usize
+    ensures { result ≡ byte_count kept.now }
+{
+    match kept {
+        Kept::Data(n) => *n as usize,
+        Kept::Sense => 32,
+        Kept::End(_) | Kept::Io(_, _) | Kept::Over(_, _, _, _) | Kept::Other => 0,
+    }
+}
+
+fn other_count(kept: &Kept) -> usize
+    ensures { result ≡ other_count kept.now }
+{
+    match kept {
+        Kept::Other => 1,
+        Kept::End(_) | Kept::Io(_, _) | Kept::Over(_, _, _, _) | Kept::Data(_) | Kept::Sense => 0,
+    }
+}
+
+fn put_all_kept<K: Sink>(
+    sink: &mut K,
+    buffer: &mut LineBuffer,
+    list: &[Kept],
+    bytes: &[u8],
+    others: &[ReportLine],
+) -> Result<(), Failed>
+    requires spent { IsSpent list.now bytes.now others.now }
+    ensures bytes { Puts (K.held sink.old) buffer.old (K.held sink.new) buffer.new result (lines_text (kept_lines list.now bytes.now others.now)) }
+    ensures cause { HasCause (K.faults sink.old) (K.faults sink.new) result }
+{
+    let mut bytes_left = bytes;
+    let mut others_left = others;
+    for kept in list {
+        put_kept(sink, buffer, kept, bytes_left, others_left)?;
+        bytes_left = bytes_left.split_at(byte_count(kept)).1;
+        others_left = others_left.split_at(other_count(kept)).1;
+    }
+    Ok(())
+}
+
+impl Spelling<RunRecord> for LineSpelling {
+    ghost text = { lines_text };
+
+    fn put<K: Sink>(sink: &mut K, buffer: &mut LineBuffer, it: &RunRecord) -> Result<(), Failed> {
+        put_all_kept(sink, buffer, &it.kept, &it.bytes, &it.others)
+    }
+}
