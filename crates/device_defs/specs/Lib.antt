@@ -19,3 +19,5 @@ pub mod Cutting
 pub mod Orders
 pub mod Peek
 pub mod Marks
+pub mod Sound
+pub mod Excused

@@ -1,0 +1,184 @@
+-- What is computed of these runs, from the definitions alone.
+use Rattle.std.proofs.Common.{◌≡◌, map, true, false, [], ◌∷◌, refl}
+use Rattle.std.specs.Prelude.{replicate}
+use Rattle.ckd_types.specs.declared.paths.Side.TheVariants.{A, B}
+use Rattle.plain_defs.specs.declared.journal.How.TheVariants.{Full, Cut, Checked}
+use Rattle.device_defs.proofs.Stand.{Program, ResetOf, Other}
+use Rattle.ckd_types.specs.Commands.{command_of}
+use Rattle.track_table.specs.Tracks.{least, count_below}
+use Rattle.device_outside.specs.Lists.{is_in, with_number, less_one}
+use Rattle.device_outside.specs.Pool.{answer, after}
+use Rattle.device_outside.specs.Volume.{counted}
+use Rattle.device_outside.specs.Told.{hold}
+use Rattle.device_defs.specs.Background.{work}
+use Rattle.device_defs.specs.Choosing.{choose}
+use Rattle.device_defs.specs.Command.{look, follow, command}
+use Rattle.device_defs.specs.Cutting.{reset, power}
+use Rattle.device_defs.specs.Events.{second, background, lose}
+use Rattle.device_defs.specs.Image.{level_bytes, image}
+use Rattle.device_defs.specs.Losses.{over, settled, side_lost, cache_lost, store_lost, all_firm_told}
+use Rattle.device_defs.specs.Orders.{lend}
+use Rattle.device_defs.specs.Owed.{waits, hear, all_told}
+use Rattle.device_defs.specs.Second.{second_part}
+use Rattle.device_defs.specs.Start.{start_fault, start}
+use Rattle.device_defs.specs.Editing.{through, write}
+use Rattle.device_defs.specs.Writing.{write_first, write_second, write_done}
+use Rattle.subsystem_defs.specs.Beside.{Loosened, Hardened, WentBack}
+use Rattle.subsystem_defs.specs.Closing.{Counted, LentTo, handed_of}
+use Rattle.subsystem_defs.specs.Decks.{run_asked}
+use Rattle.subsystem_defs.specs.Deeds.{deed}
+use Rattle.subsystem_defs.specs.Happening.{sweep, happens, replaced, unpaired}
+use Rattle.subsystem_defs.specs.Lines.{steps, backs, line_logged, run_lines}
+use Rattle.subsystem_defs.specs.Refusals.{pair_fault, unpair_fault, suspend_fault, resume_fault, fail_fault, replace_fault}
+use Rattle.subsystem_defs.proofs.Stand.{Show, copies, goes, ending_of, settled_goes, loose_by, items_by, volume, volumes_by}
+use Rattle.subsystem_defs.proofs.Runs.{
+  first_read,
+  one_frame,
+  modified_frame_stays,
+  one_slot,
+  fast_write_is_destaged,
+  cache_is_repaired,
+  store_is_lost_and_settled,
+  track_is_lost,
+  pair_is_written,
+  pair_outlives_a_side,
+  destaging_fails_once,
+  tracks_are_staged,
+  orders_are_refused,
+  held_side_goes_on,
+  held_side_leaves,
+  stale_side_a_stays_paired,
+  program_is_cut,
+  paths_wait,
+  provisional_write_is_lost,
+  provisional_write_is_destaged,
+  other_write_goes_through,
+  power_leaves_the_patch,
+  power_cuts_a_write,
+  power_frees_the_device,
+  power_takes_loose_data,
+}
+
+pub alone_shows : Show (
+    first_read
+    ∷ one_frame
+    ∷ modified_frame_stays
+    ∷ one_slot
+    ∷ fast_write_is_destaged
+    ∷ [])
+unfolding command_of least count_below is_in with_number less_one answer after counted hold work choose look follow
+    command reset power second background lose level_bytes image over settled side_lost cache_lost store_lost
+    all_firm_told waits hear all_told lend second_part start_fault start write_first write_second write_done through
+    write pair_fault unpair_fault suspend_fault resume_fault fail_fault replace_fault deed sweep happens replaced
+    unpaired steps backs line_logged run_lines run_asked copies
+alone_shows = refl
+
+pub losses_show : Show (
+    cache_is_repaired
+    ∷ store_is_lost_and_settled
+    ∷ track_is_lost
+    ∷ [])
+unfolding command_of least count_below is_in with_number less_one answer after counted hold work choose look follow
+    command reset power second background lose level_bytes image over settled side_lost cache_lost store_lost
+    all_firm_told waits hear all_told lend second_part start_fault start write_first write_second write_done through
+    write pair_fault unpair_fault suspend_fault resume_fault fail_fault replace_fault deed sweep happens replaced
+    unpaired steps backs line_logged run_lines run_asked copies
+losses_show = refl
+
+pub pairs_show : Show (
+    pair_is_written
+    ∷ pair_outlives_a_side
+    ∷ held_side_goes_on
+    ∷ held_side_leaves
+    ∷ stale_side_a_stays_paired
+    ∷ [])
+unfolding command_of least count_below is_in with_number less_one answer after counted hold work choose look follow
+    command reset power second background lose level_bytes image over settled side_lost cache_lost store_lost
+    all_firm_told waits hear all_told lend second_part start_fault start write_first write_second write_done through
+    write pair_fault unpair_fault suspend_fault resume_fault fail_fault replace_fault deed sweep happens replaced
+    unpaired steps backs line_logged run_lines run_asked copies
+pairs_show = refl
+
+pub others_show : Show (
+    destaging_fails_once
+    ∷ tracks_are_staged
+    ∷ orders_are_refused
+    ∷ program_is_cut
+    ∷ paths_wait
+    ∷ [])
+unfolding command_of least count_below is_in with_number less_one answer after counted hold work choose look follow
+    command reset power second background lose level_bytes image over settled side_lost cache_lost store_lost
+    all_firm_told waits hear all_told lend second_part start_fault start write_first write_second write_done through
+    write pair_fault unpair_fault suspend_fault resume_fault fail_fault replace_fault deed sweep happens replaced
+    unpaired steps backs line_logged run_lines run_asked copies
+others_show = refl
+
+pub provisional_writes_show : Show (
+    provisional_write_is_lost
+    ∷ provisional_write_is_destaged
+    ∷ other_write_goes_through
+    ∷ [])
+unfolding command_of least count_below is_in with_number less_one answer after counted hold work choose look follow
+    command reset power second background lose level_bytes image over settled side_lost cache_lost store_lost
+    all_firm_told waits hear all_told lend second_part start_fault start write_first write_second write_done through
+    write pair_fault unpair_fault suspend_fault resume_fault fail_fault replace_fault deed sweep happens replaced
+    unpaired steps backs line_logged run_lines run_asked copies
+provisional_writes_show = refl
+
+pub power_losses_show : Show (
+    power_leaves_the_patch
+    ∷ power_cuts_a_write
+    ∷ power_frees_the_device
+    ∷ power_takes_loose_data
+    ∷ [])
+unfolding command_of least count_below is_in with_number less_one answer after counted hold work choose look follow
+    command reset power second background lose level_bytes image over settled side_lost cache_lost store_lost
+    all_firm_told waits hear all_told lend second_part start_fault start write_first write_second write_done through
+    write pair_fault unpair_fault suspend_fault resume_fault fail_fault replace_fault deed sweep happens replaced
+    unpaired steps backs line_logged run_lines run_asked copies
+power_losses_show = refl
+
+-- more than two hundred events of a pair
+pub many_events : ending_of (settled_goes 25) ≡ record { events = 242; ending = record { devices = Counted 0 16 65 [] ∷ LentTo 1 0 ∷ []; frames = ((0, 0), false) ∷ [] } }
+unfolding command_of least count_below is_in with_number less_one answer after counted hold work choose look follow
+    command reset power second background lose level_bytes image over settled side_lost cache_lost store_lost
+    all_firm_told waits hear all_told lend second_part start_fault start write_first write_second write_done through
+    write pair_fault unpair_fault suspend_fault resume_fault fail_fault replace_fault deed sweep happens replaced
+    unpaired steps backs line_logged run_lines run_asked copies goes
+many_events = refl
+
+-- what was told of data of cache fast write
+pub loose_data_are_told : map loose_by (provisional_write_is_lost ∷ provisional_write_is_destaged ∷ other_write_goes_through
+    ∷ power_takes_loose_data ∷ [])
+    ≡ (Loosened 0 ∷ WentBack 1 1 ∷ []) ∷ (Loosened 0 ∷ Hardened 0 ∷ []) ∷ (Loosened 0 ∷ Hardened 0 ∷ [])
+    ∷ (Loosened 0 ∷ WentBack 1 1 ∷ []) ∷ []
+unfolding command_of least count_below is_in with_number less_one answer after counted hold work choose look follow
+    command reset power second background lose level_bytes image over settled side_lost cache_lost store_lost
+    all_firm_told waits hear all_told lend second_part start_fault start write_first write_second write_done through
+    write pair_fault unpair_fault suspend_fault resume_fault fail_fault replace_fault deed sweep happens replaced
+    unpaired steps backs line_logged run_lines run_asked copies
+loose_data_are_told = refl
+
+-- and what came to journals
+pub items_are_told : map items_by (track_is_lost ∷ program_is_cut ∷ power_cuts_a_write ∷ held_side_leaves ∷ [])
+    ≡ (Program 1 Full ∷ Program 1 Checked ∷ []) ∷ (Program 1 (Cut 1) ∷ ResetOf 1 ∷ [])
+    ∷ (Program 1 (Cut 3) ∷ Other ∷ Program 1 Full ∷ []) ∷ (Program 1 Full ∷ Other ∷ Program 1 Full ∷ []) ∷ []
+unfolding command_of least count_below is_in with_number less_one answer after counted hold work choose look follow
+    command reset power second background lose level_bytes image over settled side_lost cache_lost store_lost
+    all_firm_told waits hear all_told lend second_part start_fault start write_first write_second write_done through
+    write pair_fault unpair_fault suspend_fault resume_fault fail_fault replace_fault deed sweep happens replaced
+    unpaired steps backs line_logged run_lines run_asked copies
+items_are_told = refl
+
+-- what is handed out
+pub volumes_are_handed_out : map volumes_by (fast_write_is_destaged ∷ modified_frame_stays ∷ pair_outlives_a_side ∷ held_side_leaves ∷ [])
+    ≡ (volume 0 A 1 1 (replicate 15 true) ∷ [])
+    ∷ (volume 0 A 3 0 (false ∷ replicate 14 true) ∷ [])
+    ∷ (volume 0 A 2 15 (replicate 15 true) ∷ volume 0 B 17 16 (replicate 15 false) ∷ [])
+    ∷ (volume 0 A 16 1 (replicate 15 true) ∷ volume 1 A 1 0 (replicate 15 true) ∷ []) ∷ []
+unfolding command_of least count_below is_in with_number less_one answer after counted hold work choose look follow
+    command reset power second background lose level_bytes image over settled side_lost cache_lost store_lost
+    all_firm_told waits hear all_told lend second_part start_fault start write_first write_second write_done through
+    write pair_fault unpair_fault suspend_fault resume_fault fail_fault replace_fault deed sweep happens replaced
+    unpaired steps backs line_logged run_lines run_asked copies handed_of
+volumes_are_handed_out = refl

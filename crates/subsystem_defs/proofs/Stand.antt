@@ -1,0 +1,258 @@
+-- Small decks, and what their runs show.
+use Rattle.std.proofs.Common.{Bool, Option, Some, None, true, false, ◌≡◌, map, ℕ, zero, suc, List, [], ◌∷◌, ◌++◌}
+use Rattle.ckd_types.specs.declared.channel.Ccw.{Ccw}
+use Rattle.ckd_types.specs.declared.channel.CommandEnd.{CommandEnd}
+use Rattle.ckd_types.specs.declared.geometry.Geometry.TheVariants.{D3390}
+use Rattle.ckd_types.specs.declared.paths.Side.{Side}
+use Rattle.deck_plan.specs.declared.event.EventLine.{EventLine}
+use Rattle.deck_plan.specs.declared.event.EventLine.TheVariants as lines
+use Rattle.std.specs.Prelude.{length}
+use Rattle.deck_text.specs.declared.line.DeviceLine.{DeviceLine}
+use Rattle.deck_text.specs.declared.line.FaultLine.{FaultLine}
+use Rattle.deck_text.specs.declared.line.PlannedProgram.{PlannedProgram}
+use Rattle.deck_text.specs.DeckLines.{DeckLines}
+use Rattle.plain_defs.specs.declared.journal.Item.{Item}
+use Rattle.device_outside.specs.Pool.{Frame}
+use Rattle.device_defs.specs.declared.answers.Did.{Did}
+use Rattle.device_defs.specs.declared.answers.Did.TheVariants as dids
+use Rattle.device_defs.specs.declared.answers.SecondEnd.{SecondEnd}
+use Rattle.device_defs.specs.declared.answers.SecondEnd.TheVariants as seconds
+use Rattle.device_defs.specs.declared.answers.StartFault.{StartFault}
+use Rattle.device_defs.specs.declared.answers.Stepped.{Stepped}
+use Rattle.device_defs.specs.declared.answers.Stepped.TheVariants as stepped
+use Rattle.device_defs.proofs.Stand.{read_zero, write_zero}
+use Rattle.device_defs.proofs.Stand as dev
+use Rattle.subsystem_defs.specs.declared.end.EventEnd.{EventEnd}
+use Rattle.subsystem_defs.specs.declared.end.EventEnd.TheVariants as ends
+use Rattle.subsystem_defs.specs.declared.end.OrderFault.{OrderFault}
+use Rattle.subsystem_defs.specs.Beside.{Beside, LooseTold, beside}
+use Rattle.subsystem_defs.specs.Closing.{DeviceEnd, Ending, HandedOut, ending, handed_out}
+use Rattle.subsystem_defs.specs.declared.event.Event.TheVariants as events
+use Rattle.subsystem_defs.specs.Decks.{DeckRun, run_asked}
+use Rattle.subsystem_defs.specs.Lines.{Asked, Once, Logged, asked_by}
+
+-- What an event shows
+
+pub data Line : Type 0 where
+  Started : ℕ → Line
+  NotStarted : StartFault → Line
+  Running : Line
+  End : ℕ → ℕ → ℕ → List ℕ → Line  -- the word, the status, the residual count, the bytes sent
+  Half : ℕ → Line
+  Finished : ℕ → Line
+  Unwritten : ℕ → Line
+  Idle : Line
+  Back : Did → Line
+  Done : Line
+  Pending : ℕ → Line
+  Refused : OrderFault → Line
+
+-- with its reads and writes
+pub record Shown : Type 0 where
+  pub line : Line
+  pub reads : ℕ
+  pub writes : ℕ
+
+abbrev pub shown : Line → ℕ → ℕ → Shown
+shown line reads writes = record { line = line; reads = reads; writes = writes }
+
+abbrev pub end_line : CommandEnd → Line
+end_line e = End e.index e.status.0 e.residual e.sent
+
+abbrev pub step_line : Stepped → Line
+step_line (stepped.Ended e) = end_line e
+step_line (stepped.Half t) = Half t
+
+abbrev pub second_line : SecondEnd → Line
+second_line (seconds.Ended e) = end_line e
+second_line (seconds.Finished t) = Finished t
+second_line (seconds.Unwritten t) = Unwritten t
+
+abbrev pub line_of : EventEnd → Line
+line_of (ends.Started n) = Started n
+line_of (ends.NotStarted f) = NotStarted f
+line_of ends.Running = Running
+line_of (ends.Stepped s) = step_line s
+line_of (ends.Second s) = second_line s
+line_of ends.Idle = Idle
+line_of (ends.Back did) = Back did
+line_of ends.Done = Done
+line_of (ends.Pending n) = Pending n
+line_of (ends.Refused f) = Refused f
+
+abbrev pub shown_of : Logged → Shown
+shown_of t = shown (line_of t.happened.end) t.happened.reads t.happened.writes
+
+abbrev pub shows_of : DeckRun → List Shown
+shows_of r = map shown_of r.events
+
+-- Decks
+
+abbrev pub device : ℕ → DeviceLine
+device d = record { number = d; geometry = D3390; cylinders = 1 }
+
+abbrev pub program : ℕ → ℕ → List Ccw → PlannedProgram
+program path d ccws = record { path = path; device = d; program = ccws }
+
+-- a program of path 1 on device 0
+abbrev pub first : List Ccw → PlannedProgram
+first ccws = program 1 0 ccws
+
+-- devices, failing calls and programs
+abbrev pub deck_with : ℕ → ℕ → List DeviceLine → List FaultLine → List PlannedProgram → DeckLines
+deck_with frames slots devices faults programs = record {
+  frames = frames;
+  slots = slots;
+  devices = devices;
+  faults = faults;
+  programs = programs;
+  events = [];
+}
+
+-- one device, and programs of path 1
+abbrev pub deck : ℕ → ℕ → List (List Ccw) → DeckLines
+deck frames slots programs = deck_with frames slots (device 0 ∷ []) [] (map first programs)
+
+-- devices 0 and 1
+abbrev pub two : List (List Ccw) → DeckLines
+two programs = deck_with 4 2 (device 0 ∷ device 1 ∷ []) [] (map first programs)
+
+-- Events
+
+abbrev pub line : EventLine → List Asked
+line e = asked_by e ∷ []
+
+-- the next program of path 1 on device 0
+abbrev pub go : List Asked
+go = line (lines.Start 1 0) ++ line (lines.Run 0)
+
+abbrev pub settle : List Asked
+settle = line (lines.Settle 0)
+
+abbrev pub back : List Asked
+back = line (lines.Back 0)
+
+abbrev pub step : List Asked
+step = line (lines.Step 0)
+
+abbrev pub power : List Asked
+power = Once events.Power ∷ []
+
+-- an end of the usual kind
+abbrev pub fine : ℕ → ℕ → ℕ → Shown
+fine word reads writes = shown (End word 0x0c 0 []) reads writes
+
+abbrev pub gives : ℕ → List ℕ → ℕ → ℕ → Shown
+gives word bytes reads writes = shown (End word 0x0c 0 bytes) reads writes
+
+abbrev pub quiet : Line → Shown
+quiet line = shown line 0 0
+
+-- a program of three words, by the volume calls of its last two
+abbrev pub three : ℕ → ℕ → Shown → List Shown
+three n reads last = quiet (Started n) ∷ fine 0 0 0 ∷ fine 1 reads 0 ∷ last ∷ []
+
+unfoldable pub copies : ℕ → List Shown
+copies zero = []
+copies (suc n) = copies n ++ shown (Back (dids.Copied n)) 1 1 ∷ []
+
+-- every track is copied, and then there is nothing to do
+abbrev pub copied : List Shown
+copied = copies 15 ++ quiet (Back dids.Nothing) ∷ []
+
+abbrev pub done : List Shown
+done = quiet Done ∷ []
+
+-- A deck, what is asked of it, what its run shows, and what is told at the end
+
+pub record Sample : Type 0 where
+  pub deck : DeckLines
+  pub asked : List Asked
+  pub shows : List Shown
+  pub devices : List DeviceEnd
+  pub frames : List Frame
+
+pub record Report : Type 0 where
+  pub shows : List Shown
+  pub ending : Ending
+
+abbrev pub report_of : DeckRun → Report
+report_of r = record { shows = shows_of r; ending = ending r.behind }
+
+abbrev pub report_by : Sample → Report
+report_by x = report_of (run_asked x.deck x.asked)
+
+abbrev pub wanted : Sample → Report
+wanted x = record { shows = x.shows; ending = record { devices = x.devices; frames = x.frames } }
+
+abbrev pub Show : List Sample → Type 0
+Show samples = map report_by samples ≡ map wanted samples
+
+-- so many programs, one after another, which write and read the first track
+unfoldable pub goes : ℕ → List (List Ccw)
+goes zero = []
+goes (suc n) = write_zero 0xc1 0 ∷ read_zero 0xc0 0 ∷ goes n
+
+abbrev pub go_on : List (List Ccw) → List Asked
+go_on [] = []
+go_on (p ∷ ps) = go ++ go_on ps
+
+-- on a level pair
+abbrev pub settled_goes : ℕ → DeckRun
+settled_goes n = run_asked (two (goes n)) (line (lines.Pair 0 1) ++ settle ++ go_on (goes n))
+
+-- how many events there were, and the ending
+pub record Counts : Type 0 where
+  pub events : ℕ
+  pub ending : Ending
+
+abbrev pub ending_of : DeckRun → Counts
+ending_of r = record { events = length r.events; ending = ending r.behind }
+
+-- Beside the events' ends
+
+abbrev pub all_loose : List Beside → List LooseTold
+all_loose [] = []
+all_loose (b ∷ bs) = b.loose ++ all_loose bs
+
+abbrev pub all_items : List Beside → List Item
+all_items [] = []
+all_items (b ∷ bs) = b.items ++ all_items bs
+
+-- what was told of data of cache fast write
+abbrev pub loose_of : List Logged → List LooseTold
+loose_of [] = []
+loose_of (x ∷ xs) = all_loose (beside x.happened) ++ loose_of xs
+
+-- what came to the journals
+abbrev pub items_of : List Logged → List Item
+items_of [] = []
+items_of (x ∷ xs) = all_items (beside x.happened) ++ items_of xs
+
+abbrev pub loose_by : Sample → List LooseTold
+loose_by x = loose_of (run_asked x.deck x.asked).events
+
+abbrev pub items_by : Sample → List dev.Shown
+items_by x = map dev.shown_item (items_of (run_asked x.deck x.asked).events)
+
+-- What is handed out: device, side, calls, and of each track whether its bytes are known
+
+pub record Volume : Type 0 where
+  pub device : ℕ
+  pub side : Side
+  pub reads : ℕ
+  pub writes : ℕ
+  pub known : List Bool
+
+abbrev pub is_known : Option (List ℕ) → Bool
+is_known (Some bytes) = true
+is_known None = false
+
+abbrev pub volume_of : HandedOut → Volume
+volume_of h = record { device = h.device; side = h.side; reads = h.calls.reads; writes = h.calls.writes; known = map is_known h.tracks }
+
+abbrev pub volume : ℕ → Side → ℕ → ℕ → List Bool → Volume
+volume d side reads writes known = record { device = d; side = side; reads = reads; writes = writes; known = known }
+
+abbrev pub volumes_by : Sample → List Volume
+volumes_by x = map volume_of (handed_out (run_asked x.deck x.asked).behind)

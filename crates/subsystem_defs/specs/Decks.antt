@@ -1,0 +1,52 @@
+-- The run of a deck.
+use Rattle.std.specs.Prelude.{ℕ, ◌==◌, ◌&&◌, not, Bool, true, false, List, [], ◌∷◌, map, if◌then◌else◌}
+use Rattle.deck_text.specs.declared.line.DeviceLine.{DeviceLine}
+use Rattle.deck_text.specs.declared.line.FaultLine.{FaultLine}
+use Rattle.deck_text.specs.DeckLines.{DeckLines}
+use Rattle.deck_text.specs.Plans.{plans_of}
+use Rattle.device_outside.specs.Pool.{new_pool}
+use Rattle.device_outside.specs.Volume.{Plan}
+use Rattle.subsystem_defs.specs.Closing.{Ending, HandedOut, ending, handed_out}
+use Rattle.subsystem_defs.specs.Lines.{Asked, Logged, asked_by, run_lines, last_behind}
+use Rattle.subsystem_defs.specs.Subsystem.{Mounted, Subsystem, newly_mounted}
+
+abbrev pub is_same : Bool → Bool → Bool
+is_same a b = if a then b else not b
+
+-- the numbers of a device's FAULT lines of this kind
+abbrev pub failing_of : Bool → ℕ → List FaultLine → List ℕ
+failing_of write d [] = []
+failing_of write d (f ∷ fs) =
+    if (f.device == d) && is_same f.write write then f.call ∷ failing_of write d fs else failing_of write d fs
+
+-- the volume that is made for a device fails these calls, wherever it is
+abbrev pub plan_for : List FaultLine → ℕ → Plan
+plan_for faults d = record { reads = failing_of false d faults; writes = failing_of true d faults }
+
+abbrev pub opened_device : DeckLines → DeviceLine → Mounted
+opened_device deck d = newly_mounted d.number d.geometry d.cylinders (plans_of deck.programs d.number) (plan_for deck.faults d.number)
+
+-- the pool and the devices that a deck states, on empty volumes
+abbrev pub opened : DeckLines → Subsystem
+opened deck = record { pool = new_pool deck.frames deck.slots; mounted = map (opened_device deck) deck.devices }
+
+-- the events with RUN and SETTLE written out, each with its end and its volume calls, and the subsystem behind them
+pub record DeckRun : Type 0 where
+  pub events : List Logged
+  pub behind : Subsystem
+
+abbrev pub run_from : Subsystem → List Logged → DeckRun
+run_from s ts = record { events = ts; behind = last_behind s ts }
+
+-- of what is asked of a deck's subsystem
+unfoldable pub run_asked : DeckLines → List Asked → DeckRun
+run_asked deck asked = run_from (opened deck) (run_lines asked (opened deck))
+
+abbrev pub run_of : DeckLines → DeckRun
+run_of deck = run_asked deck (map asked_by deck.events)
+
+abbrev pub ending_of : DeckLines → Ending
+ending_of deck = ending (run_of deck).behind
+
+abbrev pub handed_out_of : DeckLines → List HandedOut
+handed_out_of deck = handed_out (run_of deck).behind
