@@ -5,3 +5,4 @@ pub mod MarkRuns
 mod Rows
 pub mod Own
 mod OwnRows
+mod SoundRows

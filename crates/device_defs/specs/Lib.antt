@@ -20,4 +20,7 @@ pub mod Orders
 pub mod Peek
 pub mod Marks
 pub mod Sound
+pub mod Between
+pub mod Transfers
+pub mod Keeps
 pub mod Excused
