@@ -1,0 +1,3 @@
+pub mod TrackMarks
+pub mod Changes
+pub mod Settled
