@@ -1,3 +1,5 @@
 pub mod TrackMarks
 pub mod Changes
 pub mod Settled
+pub mod Sweeps
+pub mod SideLost
