@@ -3,3 +3,5 @@ pub mod Changes
 pub mod Settled
 pub mod Sweeps
 pub mod SideLost
+pub mod CacheLost
+pub mod StoreLost

@@ -13,7 +13,7 @@ use Rattle.device_laws.proofs.TrackMarks.{TrackMarks, track_at}
 -- a device that isn't lent, and has no side B where it is alone
 pub record IsHere {H : Type 0} (r : Rest H) : Type 0 where
   pub free : is_some r.lent ≡ false
-  pub alone : r.paired ≡ false → r.b.up ≡ false
+  pub alone : r.paired ≡ false → r.up_b ≡ false
 
 pub is_free : {F P H : Type 0} (s : Store F P H) → IsHere (rest_of s) → is_some s.lent ≡ false
 unfolding C.rest_of
