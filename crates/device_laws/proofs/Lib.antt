@@ -5,3 +5,4 @@ pub mod Sweeps
 pub mod SideLost
 pub mod CacheLost
 pub mod StoreLost
+pub mod Soundness
