@@ -6,3 +6,5 @@ pub mod SideLost
 pub mod CacheLost
 pub mod StoreLost
 pub mod Soundness
+pub mod Always
+pub mod FailedCall

@@ -35,12 +35,12 @@ module _ {F P H R : Type 0} (c : Contents F P H R) (faithful : IsFaithful c) whe
   down_sizes s A sizes = record { are = sizes.are }
   down_sizes s B sizes = record { are = sizes.are }
 
-  down_here : (s : Store F P H) (side : Side) → IsHere (rest_of s) → IsHere (rest_of (down s side))
+  pub down_here : (s : Store F P H) (side : Side) → IsHere (rest_of s) → IsHere (rest_of (down s side))
   unfolding C.rest_of
   down_here s A h = record { free = h.free; alone = h.alone }
   down_here s B h = record { free = h.free; alone = λ e. refl }
 
-  down_tracks : (s : Store F P H) (side : Side) → tracks_of (down s side) ≡ tracks_of s
+  pub down_tracks : (s : Store F P H) (side : Side) → tracks_of (down s side) ≡ tracks_of s
   down_tracks s A = refl
   down_tracks s B = refl
 
