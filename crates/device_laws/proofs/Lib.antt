@@ -8,3 +8,4 @@ pub mod StoreLost
 pub mod Soundness
 pub mod Always
 pub mod FailedCall
+pub mod TrackImage

@@ -24,7 +24,7 @@ and_left : (x y : Bool) → (x && y) ≡ true → x ≡ true
 and_left true y e = refl
 and_left false y e = e
 
-and_not : (x y : Bool) → (x && not y) ≡ true → y ≡ false
+pub and_not : (x y : Bool) → (x && not y) ≡ true → y ≡ false
 and_not true false e = refl
 and_not true true e = absurd (cc)
 and_not false y e = absurd (cc)

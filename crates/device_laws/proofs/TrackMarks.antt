@@ -1,6 +1,7 @@
 -- The marks of one track, when they are good, and what settling makes of them.
 use Rattle.std.proofs.Common.{◌≡◌, ◌&&◌, ◌||◌, not, ℕ, Bool, true, false, Option, Some, None, refl}
 use Rattle.std.specs.Prelude.{is_some, if◌then◌else◌}
+use Rattle.track_image.specs.Image.{Image}
 use Rattle.device_defs.specs.Contents.{Contents, contents, by_plain}
 use Rattle.device_defs.specs.Sound.{has_sound_marks}
 use Rattle.device_defs.specs.Store.{Store, has_level, frame_at, patch_at, is_lost, is_loose, half_is}
@@ -132,9 +133,10 @@ module _ {F P H R : Type 0} (c : Contents F P H R) where
   -- a frame is modified as it was made or marked
   pub record IsFaithful : Type 0 where
     pub marked : (f : F) (m : Bool) → c.modified (c.marked f m) ≡ m
+    pub made : (i : Image) (m : Bool) → c.modified (c.frame i m) ≡ m
 
 pub device_is_faithful : IsFaithful contents
-device_is_faithful = record { marked = λ f m. refl }
+device_is_faithful = record { marked = λ f m. refl; made = λ i m. refl }
 
 pub marks_are_faithful : IsFaithful by_plain
-marks_are_faithful = record { marked = λ f m. refl }
+marks_are_faithful = record { marked = λ f m. refl; made = λ i m. refl }
