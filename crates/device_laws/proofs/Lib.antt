@@ -9,3 +9,4 @@ pub mod Soundness
 pub mod Always
 pub mod FailedCall
 pub mod TrackImage
+pub mod WholeImage
