@@ -10,3 +10,4 @@ pub mod Always
 pub mod FailedCall
 pub mod TrackImage
 pub mod WholeImage
+pub mod Notices
