@@ -27,7 +27,23 @@ use Rattle.device_defs.specs.Sound.{has_sound_marks}
 use Rattle.device_defs.specs.Start.{start_fault, start}
 use Rattle.device_defs.specs.Store.{with_frame, with_patch, with_stale, with_lost, with_loose}
 use Rattle.device_defs.specs.Writing.{write_first, write_second, write_done}
-use Rattle.device_defs.proofs.Stand.{Event, FailSide, Run, Stand, all_happen, copies, go, happens, pair, read_zero, stand, steps_of, track_marks, works, write_zero}
+use Rattle.device_defs.proofs.Stand.{
+  Event,
+  FailSide,
+  Run,
+  Stand,
+  all_happen,
+  copies,
+  go,
+  happens,
+  pair,
+  read_zero,
+  stand,
+  steps_of,
+  track_marks,
+  works,
+  write_zero,
+}
 use Rattle.device_defs.proofs.SecondRuns as Q
 use Rattle.device_defs.proofs.MarkRuns as M
 use Rattle.device_defs.proofs.Runs as R

@@ -1,5 +1,30 @@
 -- A failed call between two writes keeps good marks good, and makes no track loose.
-use Rattle.std.proofs.Common.{◌≡◌, ◌≢◌, ◌<◌, ◌≤◌, zero, suc, ℕ, Bool, true, false, Option, Some, None, is_some, length, refl, sym, ap, subst, ◌∙◌, arith, ◌⊎◌, inl, inr}
+use Rattle.std.proofs.Common.{
+  ◌≡◌,
+  ◌≢◌,
+  ◌<◌,
+  ◌≤◌,
+  zero,
+  suc,
+  ℕ,
+  Bool,
+  true,
+  false,
+  Option,
+  Some,
+  None,
+  is_some,
+  length,
+  refl,
+  sym,
+  ap,
+  subst,
+  ◌∙◌,
+  arith,
+  ◌⊎◌,
+  inl,
+  inr,
+}
 use Rattle.std.proofs.lemmas.Bool.{cases_eq}
 use Rattle.std.proofs.lemmas.List.{length-set}
 use Rattle.std.specs.Prelude.{if◌then◌else◌}
@@ -30,7 +55,9 @@ still_firm None p false true false = refl
 still_firm None p false false false = refl
 
 pub settled_firm : (x : TrackMarks) → x.loose ≡ false → (settled_marks x).loose ≡ false
-settled_firm x e = subst (λ (o : Bool). (settled_marks (marks x.frame x.patched x.lost o x.half x.level)).loose ≡ false) (sym e) (still_firm x.frame x.patched x.lost x.half x.level)
+settled_firm x e =
+    subst (λ (o : Bool). (settled_marks (marks x.frame x.patched x.lost o x.half x.level)).loose ≡ false) (sym e)
+    (still_firm x.frame x.patched x.lost x.half x.level)
 
 module _ {F P H R : Type 0} (c : Contents F P H R) where
   -- a device that isn't lent, all marks of which are good

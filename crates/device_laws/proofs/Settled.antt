@@ -9,7 +9,19 @@ use Rattle.device_defs.specs.Store.{Store, tracks_of, has_level, frame_at, patch
 use Rattle.device_laws.proofs.Changes as C
 use Rattle.device_laws.proofs.Changes.{Changed, unchanged, changed_twice, changed_frame, changed_patch, changed_lost, changed_owed, changed_hardened}
 use Rattle.device_laws.proofs.TrackMarks as M
-use Rattle.device_laws.proofs.TrackMarks.{TrackMarks, IsFaithful, framed, unframed, settled_frame, settled_marks, is_near, is_good, frame_mark, track_at, settling_makes_good}
+use Rattle.device_laws.proofs.TrackMarks.{
+  TrackMarks,
+  IsFaithful,
+  framed,
+  unframed,
+  settled_frame,
+  settled_marks,
+  is_near,
+  is_good,
+  frame_mark,
+  track_at,
+  settling_makes_good,
+}
 
 module _ {F P H R : Type 0} (c : Contents F P H R) (faithful : IsFaithful c) (s : Store F P H) (t : ℕ) (lt : t < tracks_of s) (sizes : HasSizes s) where
   abbrev x : TrackMarks
@@ -27,16 +39,26 @@ module _ {F P H R : Type 0} (c : Contents F P H R) (faithful : IsFaithful c) (s 
       let f = changed_lost c s t lt sizes in
       let g = changed_patch c (with_lost s t) t None lt f.sizes in
       let h : Changed c s _ t _ = changed_twice c f g in
-      changed_owed c t _ (record { sizes = h.sizes; rest = h.rest; elsewhere = h.elsewhere; here = h.here ∙ ap (λ (y : TrackMarks). record y { patched = false }) f.here })
+      let here = h.here ∙ ap (λ (y : TrackMarks). record y { patched = false }) f.here in
+      changed_owed c t _ (record { sizes = h.sizes; rest = h.rest; elsewhere = h.elsewhere; here = here })
 
   half_case : (b : Bool) → Changed c s (if b then s else lost_now c s t) t (unframed b x)
   half_case true = unchanged c s t sizes
   half_case false = no_patch (patch_at s t) refl
 
-  modified_case : (f : F) (b : Bool) → frame_at s t ≡ Some f → c.modified f ≡ b → Changed c s (if b then s else owes_modified (with_frame s t (Some (c.marked f true))) t) t (record x { frame = Some true })
+  modified_case : (f : F) (b : Bool) → frame_at s t ≡ Some f → c.modified f ≡ b →
+      Changed c s (if b then s else owes_modified (with_frame s t (Some (c.marked f true))) t) t (record x { frame = Some true })
   unfolding M.track_at C.rest_of
-  modified_case f true e m = let u = unchanged c s t sizes in record { sizes = u.sizes; rest = u.rest; elsewhere = u.elsewhere; here = ap (λ (o : Option Bool). record x { frame = o }) (ap (frame_mark c) e ∙ ap Some m) }
-  modified_case f false e m = changed_owed c t _ (let g = changed_frame c s t (Some (c.marked f true)) lt sizes in record { sizes = g.sizes; rest = g.rest; elsewhere = g.elsewhere; here = g.here ∙ ap (λ (b : Bool). record x { frame = Some b }) (faithful.marked f true) })
+  modified_case f true e m = let u = unchanged c s t sizes in record {
+    sizes = u.sizes;
+    rest = u.rest;
+    elsewhere = u.elsewhere;
+    here = ap (λ (o : Option Bool). record x { frame = o }) (ap (frame_mark c) e ∙ ap Some m);
+  }
+  modified_case f false e m =
+      let g = changed_frame c s t (Some (c.marked f true)) lt sizes in
+      let here = g.here ∙ ap (λ (b : Bool). record x { frame = Some b }) (faithful.marked f true) in
+      changed_owed c t _ (record { sizes = g.sizes; rest = g.rest; elsewhere = g.elsewhere; here = here })
 
   loose_case : (f : F) (b : Bool) → frame_at s t ≡ Some f → Changed c s (if b then hardened_by_loss s t else kept_by_frame c s t f) t (framed b x)
   loose_case f true e = changed_owed c t _ (changed_hardened c s t lt sizes)

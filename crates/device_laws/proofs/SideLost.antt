@@ -13,7 +13,17 @@ use Rattle.device_laws.proofs.Changes.{Changed, rest_of, unchanged}
 use Rattle.device_laws.proofs.Settled.{settled_changes_one_track}
 use Rattle.device_laws.proofs.Sweeps.{IsHere, Swept, swept, is_free}
 use Rattle.device_laws.proofs.TrackMarks as M
-use Rattle.device_laws.proofs.TrackMarks.{TrackMarks, IsFaithful, settled_marks, is_near, is_good, track_at, settling_makes_good, good_is_near, near_with_fewer_sides}
+use Rattle.device_laws.proofs.TrackMarks.{
+  TrackMarks,
+  IsFaithful,
+  settled_marks,
+  is_near,
+  is_good,
+  track_at,
+  settling_makes_good,
+  good_is_near,
+  near_with_fewer_sides,
+}
 
 -- a track that is being written is settled by its write
 abbrev pub settled_unless : Option ℕ → ℕ → TrackMarks → TrackMarks

@@ -42,7 +42,8 @@ module _ {F P H R : Type 0} (c : Contents F P H R) (faithful : IsFaithful c) whe
       let y = without_patch c z n in
       let same : tracks_of y ≡ tracks_of z = same_tracks z y f.rest in
       let g = changed_stale_everywhere c y n (is_alone y (subst IsHere (sym f.rest) here)) (omega arith) f.sizes in
-      let h = changed_twice c f (record { sizes = g.sizes; rest = g.rest; elsewhere = g.elsewhere; here = g.here ∙ ap (λ (x : TrackMarks). record x { level = false }) f.here }) in
+      let off = g.here ∙ ap (λ (x : TrackMarks). record x { level = false }) f.here in
+      let h = changed_twice c f (record { sizes = g.sizes; rest = g.rest; elsewhere = g.elsewhere; here = off }) in
       let w = stale_everywhere y n in
       let still : tracks_of w ≡ tracks_of z = same_tracks z w h.rest in
       let k = settled_changes_one_track c faithful w n (omega arith) h.sizes (is_free w (subst IsHere (sym h.rest) here)) in

@@ -10,7 +10,25 @@ use Rattle.device_outside.specs.Pool.{Touch, WantFrame}
 use Rattle.device_defs.specs.declared.usage.Usage.{Usage}
 use Rattle.device_defs.specs.Contents.{Contents}
 use Rattle.device_defs.specs.Image as I
-use Rattle.device_defs.specs.Image.{Got, Imaged, Has, loads, is_sequential, queued, ahead, granted, loaded, delivered, missed, miss, hit, clean_image, image_by, image, image_of}
+use Rattle.device_defs.specs.Image.{
+  Got,
+  Imaged,
+  Has,
+  loads,
+  is_sequential,
+  queued,
+  ahead,
+  granted,
+  loaded,
+  delivered,
+  missed,
+  miss,
+  hit,
+  clean_image,
+  image_by,
+  image,
+  image_of,
+}
 use Rattle.device_defs.specs.Memory.{tried}
 use Rattle.device_defs.specs.Store.{Store, tracks_of, has_level, frame_at, is_loose, with_frame}
 use Rattle.device_laws.proofs.Always.{Always, always_done, always_try, always_ask, always_then, always_weaker}
