@@ -89,10 +89,10 @@ module _ {F P H R : Type 0} (c : Contents F P H R) (faithful : IsFaithful c) whe
       changed_twice c f (record { sizes = g.sizes; rest = g.rest; elsewhere = g.elsewhere; here = g.here ∙ ap settled_marks f.here })
 
   -- before: data of cache fast write go, and the queue
-  abbrev begun : Store F P H → Store F P H
+  abbrev pub begun : Store F P H → Store F P H
   begun s = record (loose_lost s) { queue = [] }
 
-  abbrev begun_by : Bool → Store F P H → Store F P H
+  abbrev pub begun_by : Bool → Store F P H → Store F P H
   begun_by b s = record (if b then acted (gone_back s) CfwLost else s) { queue = [] }
 
   begun_sizes : (s : Store F P H) (b : Bool) → HasSizes s → HasSizes (begun_by b s)
@@ -105,12 +105,12 @@ module _ {F P H R : Type 0} (c : Contents F P H R) (faithful : IsFaithful c) whe
       }
   begun_sizes s false sizes = record { are = sizes.are }
 
-  begun_here : (s : Store F P H) (b : Bool) → IsHere (rest_of s) → IsHere (rest_of (begun_by b s))
+  pub begun_here : (s : Store F P H) (b : Bool) → IsHere (rest_of s) → IsHere (rest_of (begun_by b s))
   unfolding C.rest_of
   begun_here s true h = record { free = h.free; alone = h.alone }
   begun_here s false h = record { free = h.free; alone = h.alone }
 
-  begun_tracks : (s : Store F P H) (b : Bool) → tracks_of (begun_by b s) ≡ tracks_of s
+  pub begun_tracks : (s : Store F P H) (b : Bool) → tracks_of (begun_by b s) ≡ tracks_of s
   begun_tracks s true = refl
   begun_tracks s false = refl
 
@@ -120,16 +120,19 @@ module _ {F P H R : Type 0} (c : Contents F P H R) (faithful : IsFaithful c) whe
   begun_marks s true e q lt = ap (λ (o : Bool). record (track_at c s q) { loose = o }) (empty_places (tracks_of s) q false)
   begun_marks s false e q lt = ap (λ (o : Bool). record (track_at c s q) { loose = o }) (none_below (tracks_of s) (is_loose s) e q lt)
 
+  pub lost_cache_sweeps : (s : Store F P H) → HasSizes s → IsHere (rest_of s) →
+      Swept c unframed_settled (begun s) (cache_lost c s) (tracks_of s)
+  unfolding L.cache_lost
+  lost_cache_sweeps s sizes here =
+      let b = begun_tracks s (has_loose s) in
+      swept c unframed_settled (λ t z. settled c (without_frame z t) t) step (tracks_of s) (begun s) (omega arith)
+      (begun_sizes s (has_loose s) sizes) (begun_here s (has_loose s) here)
+
   -- what it makes of each track
   pub lost_cache_settles : (s : Store F P H) → HasSizes s → IsHere (rest_of s) → (q : ℕ) → q < tracks_of s →
       track_at c (cache_lost c s) q ≡ settled_marks (record (track_at c s q) { frame = None; loose = false })
-  unfolding L.cache_lost
   lost_cache_settles s sizes here q lt =
-      let b = begun_tracks s (has_loose s) in
-      let w : Swept c unframed_settled (begun s) (cache_lost c s) (tracks_of s) =
-          swept c unframed_settled (λ t z. settled c (without_frame z t) t) step (tracks_of s) (begun s) (omega arith)
-          (begun_sizes s (has_loose s) sizes) (begun_here s (has_loose s) here) in
-      w.changed q lt ∙ ap (unframed_settled q) (begun_marks s (has_loose s) refl q lt)
+      (lost_cache_sweeps s sizes here).changed q lt ∙ ap (unframed_settled q) (begun_marks s (has_loose s) refl q lt)
 
   pub lost_cache_keeps_good : (s : Store F P H) → HasSizes s → IsHere (rest_of s) → (q : ℕ) → q < tracks_of s →
       is_good (track_at c s q) ≡ true → is_good (track_at c (cache_lost c s) q) ≡ true

@@ -11,3 +11,4 @@ pub mod FailedCall
 pub mod TrackImage
 pub mod WholeImage
 pub mod Notices
+pub mod LossEvents

@@ -60,13 +60,14 @@ module _ {F P H R : Type 0} (c : Contents F P H R) (faithful : IsFaithful c) whe
   unfolding M.track_at
   step z n lt sizes here = by_patch z n (is_some (patch_at z n)) lt sizes here
 
+  pub lost_store_sweeps : (s : Store F P H) → HasSizes s → IsHere (rest_of s) → Swept c patch_gone s (store_lost c s) (tracks_of s)
+  unfolding L.store_lost
+  lost_store_sweeps s sizes here = swept c patch_gone (patch_lost c) step (tracks_of s) s (omega arith) sizes here
+
   -- what it makes of each track
   pub lost_store_settles : (s : Store F P H) → HasSizes s → IsHere (rest_of s) → (q : ℕ) → q < tracks_of s →
       track_at c (store_lost c s) q ≡ patch_gone q (track_at c s q)
-  unfolding L.store_lost
-  lost_store_settles s sizes here q lt =
-      let w : Swept c patch_gone s (store_lost c s) (tracks_of s) = swept c patch_gone (patch_lost c) step (tracks_of s) s (omega arith) sizes here in
-      w.changed q lt
+  lost_store_settles s sizes here q lt = (lost_store_sweeps s sizes here).changed q lt
 
   pub lost_store_keeps_good : (s : Store F P H) → HasSizes s → IsHere (rest_of s) → (q : ℕ) → q < tracks_of s →
       is_good (track_at c s q) ≡ true → is_good (track_at c (store_lost c s) q) ≡ true
