@@ -6,7 +6,12 @@ use Rattle.ckd_types.specs.declared.geometry.Geometry.TheVariants.{D3390}
 use Rattle.ckd_types.specs.declared.paths.Side.{Side}
 use Rattle.deck_plan.specs.declared.event.EventLine.{EventLine}
 use Rattle.deck_plan.specs.declared.event.EventLine.TheVariants as lines
-use Rattle.std.specs.Prelude.{length}
+use Rattle.std.specs.Prelude.{length, not, ◌&&◌, ◌||◌, is_some}
+use Rattle.track_table.specs.Tracks.{least}
+use Rattle.device_defs.specs.Contents.{by_plain}
+use Rattle.device_defs.specs.Marks.{MarksDevice, MarksStore}
+use Rattle.device_defs.specs.Sound.{has_sound_marks}
+use Rattle.device_defs.specs.Store.{tracks_of}
 use Rattle.deck_text.specs.declared.line.DeviceLine.{DeviceLine}
 use Rattle.deck_text.specs.declared.line.FaultLine.{FaultLine}
 use Rattle.deck_text.specs.declared.line.PlannedProgram.{PlannedProgram}
@@ -26,6 +31,9 @@ use Rattle.subsystem_defs.specs.declared.end.EventEnd.{EventEnd}
 use Rattle.subsystem_defs.specs.declared.end.EventEnd.TheVariants as ends
 use Rattle.subsystem_defs.specs.declared.end.OrderFault.{OrderFault}
 use Rattle.subsystem_defs.specs.Beside.{Beside, LooseTold, beside}
+use Rattle.subsystem_defs.specs.Calm.{is_calm}
+use Rattle.subsystem_defs.specs.Promised.{are_explained, miss_nothing}
+use Rattle.subsystem_defs.specs.Subsystem.{devices_of}
 use Rattle.subsystem_defs.specs.Closing.{DeviceEnd, Ending, HandedOut, ending, handed_out}
 use Rattle.subsystem_defs.specs.declared.event.Event.TheVariants as events
 use Rattle.subsystem_defs.specs.Decks.{DeckRun, run_asked}
@@ -256,3 +264,37 @@ volume d side reads writes known = record { device = d; side = side; reads = rea
 
 abbrev pub volumes_by : Sample → List Volume
 volumes_by x = map volume_of (handed_out (run_asked x.deck x.asked).behind)
+
+-- Whether marks are sound behind every event, checks are explained, and the run is calm and misses nothing
+
+abbrev pub has_sound_tracks : MarksStore → Bool
+has_sound_tracks s = is_some s.lent || not (is_some (least (tracks_of s) (λ t. not (has_sound_marks by_plain s t))))
+
+abbrev pub have_sound_tracks : List MarksDevice → Bool
+have_sound_tracks [] = true
+have_sound_tracks (d ∷ ds) = has_sound_tracks d.store && have_sound_tracks ds
+
+abbrev pub are_sound : List Logged → Bool
+are_sound [] = true
+are_sound (x ∷ xs) = have_sound_tracks (devices_of x.happened.behind) && are_sound xs
+
+pub record Judged : Type 0 where
+  pub sound : Bool
+  pub explained : Bool
+  pub calm : Bool
+  pub missed : Bool
+
+abbrev pub judged_run : DeckRun → Judged
+judged_run r = record {
+  sound = are_sound r.events;
+  explained = are_explained r.events;
+  calm = is_calm r.events;
+  missed = not (miss_nothing r.events);
+}
+
+abbrev pub judged : Sample → Judged
+judged x = judged_run (run_asked x.deck x.asked)
+
+-- sound and explained
+abbrev pub right : Bool → Bool → Judged
+right calm missed = record { sound = true; explained = true; calm = calm; missed = missed }

@@ -6,3 +6,5 @@ pub mod Beside
 pub mod Lines
 pub mod Closing
 pub mod Decks
+pub mod Calm
+pub mod Promised
