@@ -21,3 +21,4 @@ pub mod Peek
 pub mod Marks
 pub mod Sound
 pub mod Excused
+pub mod Pledge

@@ -9,7 +9,7 @@ use Rattle.plain_defs.specs.Journal.{replay, last_sense}
 use Rattle.plain_defs.specs.PlainState.{PlainState, empty_state}
 use Rattle.deck_text.specs.DeckLines.{DeckLines}
 use Rattle.device_defs.specs.Command.{has_loss}
-use Rattle.device_defs.specs.Excused.{LastCommand, last_command, has_lost, is_checked, is_equipment_check, count_lost}
+use Rattle.device_defs.specs.Excused.{LastCommand, last_command, has_lost, is_checked, is_equipment_check, is_data_check, count_lost}
 use Rattle.device_defs.specs.Marks.{MarksDevice}
 use Rattle.device_defs.specs.Store.{some_up}
 use Rattle.subsystem_defs.specs.Beside.{new_items}
@@ -67,10 +67,6 @@ are_explained (x ∷ xs) = explained_in x && are_explained xs
 
 -- While each failure comes after the last one was repaired: no check but behind a loss of the program's own data of cache fast write, and
 -- no lost track
-
-abbrev pub is_data_check : Option Sense → Bool
-is_data_check (Some sense) = slice_index_or sense.bytes 0 0 == 0x08
-is_data_check None = false
 
 abbrev pub is_served : ProgramEntry → Bool
 is_served e =
