@@ -8,3 +8,4 @@ pub mod Closing
 pub mod Decks
 pub mod Calm
 pub mod Promised
+pub mod Assembled
