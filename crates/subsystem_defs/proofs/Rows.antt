@@ -25,6 +25,7 @@ use Rattle.device_defs.specs.Second.{second_part}
 use Rattle.device_defs.specs.Start.{start_fault, start}
 use Rattle.device_defs.specs.Editing.{through, write}
 use Rattle.device_defs.specs.Writing.{write_first, write_second, write_done}
+use Rattle.subsystem_defs.specs.declared.event.Event.TheVariants as events
 use Rattle.subsystem_defs.specs.Beside.{Loosened, Hardened, WentBack}
 use Rattle.subsystem_defs.specs.Closing.{Counted, LentTo, handed_of}
 use Rattle.subsystem_defs.specs.Decks.{run_asked}
@@ -45,6 +46,8 @@ use Rattle.subsystem_defs.proofs.Stand.{
   volume,
   volumes_by,
   judged,
+  behind_each,
+  all_well,
   right,
 }
 use Rattle.subsystem_defs.proofs.Runs.{
@@ -220,3 +223,13 @@ unfolding command_of least count_below is_in with_number less_one answer after c
     write pair_fault unpair_fault suspend_fault resume_fault fail_fault replace_fault deed sweep happens replaced
     unpaired steps backs line_logged run_lines run_asked copies is_calm are_explained miss_nothing part_of walk
 other_runs = refl
+
+-- one loss, before any event of a write to a pair
+pub one_loss : map behind_each (events.FailCache ∷ events.FailStore ∷ events.FailVolume 0 A ∷ events.FailVolume 0 B ∷ [])
+    ≡ replicate 4 (replicate 6 all_well)
+unfolding command_of least count_below is_in with_number less_one answer after counted hold work choose look follow
+    command reset power second background lose level_bytes image over settled side_lost cache_lost store_lost
+    all_firm_told waits hear all_told lend second_part start_fault start write_first write_second write_done through
+    write pair_fault unpair_fault suspend_fault resume_fault fail_fault replace_fault deed sweep happens replaced
+    unpaired steps backs line_logged run_lines run_asked copies is_calm are_explained miss_nothing
+one_loss = refl

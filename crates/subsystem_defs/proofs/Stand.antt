@@ -25,7 +25,8 @@ use Rattle.device_defs.specs.declared.answers.SecondEnd.TheVariants as seconds
 use Rattle.device_defs.specs.declared.answers.StartFault.{StartFault}
 use Rattle.device_defs.specs.declared.answers.Stepped.{Stepped}
 use Rattle.device_defs.specs.declared.answers.Stepped.TheVariants as stepped
-use Rattle.device_defs.proofs.Stand.{read_zero, write_zero}
+use Rattle.std.specs.List.{range_with_len}
+use Rattle.device_defs.proofs.Stand.{read_zero, write_zero, new_data}
 use Rattle.device_defs.proofs.Stand as dev
 use Rattle.subsystem_defs.specs.declared.end.EventEnd.{EventEnd}
 use Rattle.subsystem_defs.specs.declared.end.EventEnd.TheVariants as ends
@@ -35,6 +36,7 @@ use Rattle.subsystem_defs.specs.Calm.{is_calm}
 use Rattle.subsystem_defs.specs.Promised.{are_explained, miss_nothing}
 use Rattle.subsystem_defs.specs.Subsystem.{devices_of}
 use Rattle.subsystem_defs.specs.Closing.{DeviceEnd, Ending, HandedOut, ending, handed_out}
+use Rattle.subsystem_defs.specs.declared.event.Event.{Event}
 use Rattle.subsystem_defs.specs.declared.event.Event.TheVariants as events
 use Rattle.subsystem_defs.specs.Decks.{DeckRun, run_asked}
 use Rattle.subsystem_defs.specs.Lines.{Asked, Once, Logged, asked_by}
@@ -298,3 +300,42 @@ judged x = judged_run (run_asked x.deck x.asked)
 -- sound and explained
 abbrev pub right : Bool → Bool → Judged
 right calm missed = record { sound = true; explained = true; calm = calm; missed = missed }
+
+-- A loss anywhere in a write to a pair, and what is read behind it
+
+abbrev pub put_before : {X : Type 0} → ℕ → X → List X → List X
+put_before zero x xs = x ∷ xs
+put_before (suc n) x [] = x ∷ []
+put_before (suc n) x (y ∷ ys) = y ∷ put_before n x ys
+
+abbrev pub write_steps : List Asked
+write_steps = line (lines.Start 1 0) ++ step ++ step ++ step ++ step
+
+abbrev pub with_loss : Event → ℕ → DeckRun
+with_loss loss n =
+    run_asked (two (write_zero 0xc1 0 ∷ read_zero 0xc4 0 ∷ []))
+    (line (lines.Pair 0 1) ++ settle ++ put_before n (Once loss) write_steps ++ go)
+
+abbrev pub sent_by : Line → List ℕ
+sent_by (End word status residual sent) = sent
+sent_by _ = []
+
+abbrev pub last_sent : List Shown → List ℕ
+last_sent [] = []
+last_sent (x ∷ []) = sent_by x.line
+last_sent (x ∷ y ∷ xs) = last_sent (y ∷ xs)
+
+pub record Behind : Type 0 where
+  pub read : List ℕ
+  pub judged : Judged
+
+abbrev pub behind_loss : Event → ℕ → Behind
+behind_loss loss n = let r = with_loss loss n in record { read = last_sent (shows_of r); judged = judged_run r }
+
+-- before each event, and behind the last one
+abbrev pub behind_each : Event → List Behind
+behind_each loss = map (behind_loss loss) (range_with_len 0 6)
+
+-- the new data are read, and nothing is missed
+abbrev pub all_well : Behind
+all_well = record { read = new_data; judged = right true false }
