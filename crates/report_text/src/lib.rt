@@ -6,6 +6,7 @@ mod answer_words;
 mod answers;
 mod data;
 mod ends;
+mod event;
 mod fault;
 mod history;
 mod keyword;
@@ -32,6 +33,7 @@ pub use answers::{
 };
 pub use data::{DATA_HEAD, are_digits_of, data_in_pieces};
 pub use ends::put_end;
+pub use event::{Happened, Loosed, ProgramOver, RunEvent};
 pub use fault::{LineError, LineFault};
 pub use history::{DeviceHistory, LeftPrograms, write_history};
 pub use keyword::{Keyword, keyword_text};
