@@ -195,7 +195,21 @@ fn a_report_behind_its_run(rt: HostRuntime) -> Result<(), Fail> {
     let mut record = RunRecord::new(rt.alloc());
     let start = ReportLine::Start(path(), device(), StartAnswer::Done);
     assert_eq!(rt; record.push(start), Ok(()));
-    assert_eq!(rt; record.push_end(path(), device(), 1, &end), Ok(()));
+    let happened = Happened::Ended(path(), device(), 1, end);
+    let none: [Loosed; 0] = [];
+    let event = RunEvent {
+        happened: &happened,
+        loosed: &none,
+        reads: 0,
+        writes: 0,
+        over: Some(ProgramOver {
+            path: path(),
+            device: device(),
+            ordinal: 1,
+            how: HowOver::Full,
+        }),
+    };
+    assert_eq!(rt; record.push_event(&event), Ok(()));
     for reads in [1, u64::MAX] {
         assert_eq!(rt; record.push(ReportLine::Io { reads, writes: 0 }), Ok(()));
     }
