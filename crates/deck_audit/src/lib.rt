@@ -1,0 +1,8 @@
+//! Whether a plain device could have made a report, and the first line that shows that it couldn't.
+#![tactic(auto)]
+
+mod status;
+mod texts;
+
+pub use status::{AuditStatus, AuditWhy, code_of};
+pub use texts::{write_no, write_no_report, write_usage, write_yes};
