@@ -23,18 +23,18 @@ use Rattle.deck_audit.specs.State.{AuditState, first_state}
 use Rattle.deck_audit.specs.Verdict.{judged, at_end, or_no}
 
 -- what some lines come to, counted from 1
-judged_from : ℕ → AuditState → List ReportLine → AuditStatus
+unfoldable pub judged_from : ℕ → AuditState → List ReportLine → AuditStatus
 judged_from n s [] = at_end n s.due
 judged_from n s (line ∷ later) = or_no n (judged s line) (λ t. judged_from (n + 1) t later)
 
-audit : DeckLines → List ReportLine → AuditStatus
+unfoldable pub audit : DeckLines → List ReportLine → AuditStatus
 audit deck report = judged_from 1 (first_state deck) report
 
-audit_all : DeckLines → List (List ReportLine) → List AuditStatus
+unfoldable pub audit_all : DeckLines → List (List ReportLine) → List AuditStatus
 audit_all deck reports = map (audit deck) reports
 
 -- one device of one cylinder, with programs of path 1
-deck_of : List (List Ccw) → List EventLine → DeckLines
+unfoldable pub deck_of : List (List Ccw) → List EventLine → DeckLines
 deck_of programs events = record {
   frames = 1;
   slots = 0;
@@ -44,7 +44,7 @@ deck_of programs events = record {
   events = events;
 }
 
-word : ℕ → ℕ → ℕ → List ℕ → Ccw
+unfoldable pub word : ℕ → ℕ → ℕ → List ℕ → Ccw
 word command flags count given = record { command = command; flags = flags; count = count; given = given }
 
 -- a no-operation
@@ -52,13 +52,13 @@ idle : List Ccw
 idle = word 3 0 1 [] ∷ []
 
 -- the data of record 0 of track 0
-read_zero : List Ccw
+unfoldable pub read_zero : List Ccw
 read_zero =
     word 0x63 0x40 16 (0x40 ∷ 0xc0 ∷ 0x10 ∷ 0 ∷ replicate 11 0 ++ 0x0e ∷ [])
     ∷ word 0x47 0x40 16 (6 ∷ 0 ∷ 0 ∷ 1 ∷ replicate 12 0)
     ∷ word 6 0 8 [] ∷ []
 
-ended : ℕ → ℕ → ℕ → ℕ → ReportLine
+unfoldable pub ended : ℕ → ℕ → ℕ → ℕ → ReportLine
 ended ordinal index status residual = lines.End (record {
   path = 1;
   device = 0;
@@ -69,25 +69,25 @@ ended ordinal index status residual = lines.End (record {
   note = Plain;
 })
 
-accepted : ℕ → ReportLine
+unfoldable pub accepted : ℕ → ReportLine
 accepted n = lines.Start 1 0 (start.Accepted n)
 
-over : ℕ → ReportLine
+unfoldable pub over : ℕ → ReportLine
 over n = lines.Over 1 0 n how.Full
 
-checked : ℕ → ReportLine
+unfoldable pub checked : ℕ → ReportLine
 checked n = lines.Over 1 0 n how.Checked
 
-cut : ℕ → ℕ → ReportLine
+unfoldable pub cut : ℕ → ℕ → ReportLine
 cut n commands = lines.Over 1 0 n (how.Cut commands)
 
-io : ℕ → ℕ → ReportLine
+unfoldable pub io : ℕ → ℕ → ReportLine
 io reads writes = lines.Io reads writes
 
-tail : List ReportLine
+unfoldable pub tail : List ReportLine
 tail = lines.Device 0 (totals.Calls 1 0 0) ∷ lines.Frame 0 0 false ∷ lines.Finish ∷ []
 
-run_once : List EventLine
+unfoldable pub run_once : List EventLine
 run_once = events.Start 1 0 ∷ events.Run 0 ∷ []
 
 -- The first run: a read of record 0. Its deck has twelve lines, and the line REPORT is the thirteenth
