@@ -1,8 +1,10 @@
 //! Whether a plain device could have made a report, and the first line that shows that it couldn't.
 #![tactic(auto)]
 
+mod same;
 mod status;
 mod texts;
 
+pub use same::{is_same_order, says};
 pub use status::{AuditStatus, AuditWhy, code_of};
 pub use texts::{write_no, write_no_report, write_usage, write_yes};
