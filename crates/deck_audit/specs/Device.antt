@@ -11,6 +11,10 @@ use Rattle.ckd_types.specs.Parameters.{is_provisional}
 use Rattle.ckd_rules.specs.Ending.{check}
 use Rattle.ckd_rules.specs.Ends.{end_of}
 use Rattle.ckd_rules.specs.Walk.{TrackEdit}
+use Rattle.deck_audit.specs.declared.state.HalfWrite.{HalfWrite}
+use Rattle.deck_audit.specs.declared.state.HalfWrite.TheVariants.{Closed, OfCommand, OfBackground}
+use Rattle.deck_audit.specs.declared.state.OpenProgram.{OpenProgram}
+use Rattle.deck_audit.specs.declared.state.Outline.{Outline}
 use Rattle.deck_text.specs.declared.line.DeviceLine.{DeviceLine}
 use Rattle.deck_text.specs.declared.line.PlannedProgram.{PlannedProgram}
 use Rattle.deck_text.specs.Plans.{plans_of}
@@ -23,13 +27,6 @@ use Rattle.plain_defs.specs.PlainState.{PlainState, empty_state, is_admitted}
 use Rattle.plain_defs.specs.Program.{Part}
 use Rattle.report_text.specs.declared.answers.StartAnswer.{StartAnswer}
 use Rattle.report_text.specs.declared.answers.StartAnswer.TheVariants as start
-
--- a write that one volume of a pair has and the other hasn't yet: none; a command's; or one of the background, to
--- which a command's belongs from its program's cut on
-pub data HalfWrite : Type 0 where
-  Closed : HalfWrite
-  OfCommand : HalfWrite
-  OfBackground : HalfWrite
 
 -- its number, what it was empty, the programs planned for it, what the lines made of its past, its half write, and to
 -- which device it is lent
@@ -50,6 +47,14 @@ new_device programs line = record {
   half = Closed;
   lent = None;
 }
+
+abbrev pub open_program : Option OpenEntry → Option OpenProgram
+open_program (Some o) = Some (record { path = o.path; ordinal = o.ordinal })
+open_program None = None
+
+-- as much of it as tells which lines may come
+abbrev pub outline_of : AuditedDevice → Outline
+outline_of a = record { number = a.number; running = open_program a.history.running; half = a.half; lent = a.lent }
 
 -- the plain device that it then is
 abbrev pub state_of : AuditedDevice → PlainState

@@ -20,14 +20,17 @@ use Rattle.report_text.specs.declared.answers.StartAnswer.TheVariants as start
 use Rattle.report_text.specs.declared.line.ReportLine.{ReportLine}
 use Rattle.report_text.specs.declared.line.ReportLine.TheVariants as lines
 use Rattle.report_text.specs.Ends.{end_line}
-use Rattle.deck_audit.specs.Device.{AuditedDevice, HalfWrite, state_of, words_of_open, start_answer, plain_end}
+use Rattle.deck_audit.specs.Device.{AuditedDevice, state_of, words_of_open, start_answer, plain_end}
 use Rattle.deck_audit.specs.Device.{check_end, is_next_legal, may_loosen, runs, device_in, with_device}
-use Rattle.deck_audit.specs.Device.HalfWrite.{Closed, OfCommand, OfBackground}
+use Rattle.deck_audit.specs.declared.state.HalfWrite.{HalfWrite}
+use Rattle.deck_audit.specs.declared.state.HalfWrite.TheVariants.{Closed, OfCommand, OfBackground}
 use Rattle.deck_audit.specs.Place.{holds, is_io, is_of_work}
 use Rattle.deck_audit.specs.Same.{says}
-use Rattle.deck_audit.specs.State.{AuditState, Did, Due, first_event, number_of, passed, settled, then_of, worker, behind_work}
-use Rattle.deck_audit.specs.State.Did.{Ended, CheckEnded, Halved, Worked}
-use Rattle.deck_audit.specs.State.Due.{Next, DataOf, SenseOf, Behind, OverOf, Losses, ResetOf, Totals, Frames, Nothing}
+use Rattle.deck_audit.specs.State.{AuditState, first_event, passed, settled, then_of, worker, worker_number, behind_work}
+use Rattle.deck_audit.specs.declared.state.Did.{Did}
+use Rattle.deck_audit.specs.declared.state.Did.TheVariants.{Ended, CheckEnded, Halved, Worked}
+use Rattle.deck_audit.specs.declared.state.Due.{Due}
+use Rattle.deck_audit.specs.declared.state.Due.TheVariants.{Next, DataOf, SenseOf, Behind, OverOf, Losses, ResetOf, Totals, Frames, Nothing}
 
 -- with one device as it is now
 abbrev pub changed : AuditState → AuditedDevice → AuditState
@@ -204,16 +207,16 @@ event_made s line (events.Settle d) = then_of (device_in s.devices d) (work_made
 event_made s line (events.Reset path d) = then_of (device_in s.devices d) (reset_made s line path)
 event_made s line event = order_made s line event
 
--- the counts, lost tracks and frames are read and not judged
-abbrev pub totals_made : AuditState → ReportLine → Option ℕ → List ℕ → AuditState
-totals_made s (lines.Lost d t) last left = record s { due = Totals last left }
-totals_made s lines.Finish last left = record s { due = Nothing }
-totals_made s line last (d ∷ left) = record s { due = Totals (Some d) left }
-totals_made s line last [] = record s { due = Frames }
+-- the counts, lost tracks and frames are read and not judged; k devices have had their totals
+abbrev pub totals_made : AuditState → ReportLine → ℕ → AuditState
+totals_made s (lines.Device d totals) k = record s { due = Totals (k + 1) }
+totals_made s (lines.Lost d t) k = s
+totals_made s lines.Finish k = record s { due = Nothing }
+totals_made s line k = record s { due = Frames }
 
 abbrev pub next_made : AuditState → ReportLine → List EventLine → Option AuditState
 next_made s line (event ∷ later) = event_made s line event
-next_made s line [] = Some (totals_made s line None (map number_of s.devices))
+next_made s line [] = Some (totals_made s line 0)
 
 abbrev pub due_made : AuditState → ReportLine → Due → Option AuditState
 due_made s line Next = next_made s line s.events
@@ -223,15 +226,15 @@ due_made s line (Behind more did) = None
 due_made s line (OverOf wanted) = then_of (worker s) (λ a. shown wanted line (behind_work s a Halved))
 due_made s line (Losses d) = then_of (first_event s.events) (order_made s line)
 due_made s line ResetOf = Some (passed s)
-due_made s line (Totals last left) = Some (totals_made s line last left)
-due_made s line Frames = Some (totals_made s line None [])
+due_made s line (Totals k) = Some (totals_made s line k)
+due_made s line Frames = Some (totals_made s line 0)
 due_made s line Nothing = None
 
 -- behind a piece of work: its command must have been legal, once no act of it can come any more
 abbrev pub behind_made : AuditState → ReportLine → Bool → Did → Option AuditState
 behind_made s line more did =
     let legal = holds (worker s) (is_legal did) in
-    if is_of_work more s line && not (is_io line) then then_of (worker s) (act_of_work s line did)
+    if is_of_work more (worker_number s) line && not (is_io line) then then_of (worker s) (act_of_work s line did)
     else if not legal then None
     else if is_io line then Some (settled s did)
     else due_made (settled s did) line (settled s did).due

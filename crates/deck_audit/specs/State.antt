@@ -1,6 +1,5 @@
 -- What the lines of a report that were read so far make of a deck: its devices, the events that are left, and what may come.
 use Rattle.std.specs.Prelude.{ℕ, Bool, true, false, List, [], ◌∷◌, drop, map, Option, Some, None, if◌then◌else◌}
-use Rattle.ckd_types.specs.declared.channel.CommandEnd.{CommandEnd}
 use Rattle.deck_plan.specs.declared.event.EventLine.{EventLine}
 use Rattle.deck_plan.specs.declared.event.EventLine.TheVariants as events
 use Rattle.deck_text.specs.DeckLines.{DeckLines}
@@ -9,31 +8,12 @@ use Rattle.report_text.specs.declared.answers.HowOver.{HowOver}
 use Rattle.report_text.specs.declared.answers.HowOver.TheVariants.{Full, Checked}
 use Rattle.report_text.specs.declared.line.ReportLine.{ReportLine}
 use Rattle.report_text.specs.declared.line.ReportLine.TheVariants as lines
-use Rattle.deck_audit.specs.Device.{AuditedDevice, new_device, is_idle, device_in, with_device}
-
--- what a piece of a device's work did: a command ended as on the plain device, or with equipment check or data check;
--- the first part of its write was made; or it was work of the background, behind which SETTLE may be at its end
-pub data Did : Type 0 where
-  Ended : CommandEnd → Did
-  CheckEnded : CommandEnd → Did
-  Halved : Did
-  Worked : Bool → Did
-
--- which lines come next: an event's first ones, or the next piece of work of a RUN or SETTLE; DATA or SENSE of a command;
--- what may stand behind a piece of work: CFW lines (unless the last one ends them), IO, and OVER; that OVER line; further
--- losses of FAIL CACHE, behind this device's; the line of the RESET that cut a program; the devices' totals, behind the
--- LOST lines of one of them; the frames; nothing
-pub data Due : Type 0 where
-  Next : Due
-  DataOf : CommandEnd → Due
-  SenseOf : CommandEnd → Due
-  Behind : Bool → Did → Due
-  OverOf : ReportLine → Due
-  Losses : ℕ → Due
-  ResetOf : Due
-  Totals : Option ℕ → List ℕ → Due
-  Frames : Due
-  Nothing : Due
+use Rattle.deck_audit.specs.declared.state.Outline.{Outline}
+use Rattle.deck_audit.specs.declared.state.Did.{Did}
+use Rattle.deck_audit.specs.declared.state.Did.TheVariants.{Ended, CheckEnded, Worked}
+use Rattle.deck_audit.specs.declared.state.Due.{Due}
+use Rattle.deck_audit.specs.declared.state.Due.TheVariants.{Next, OverOf}
+use Rattle.deck_audit.specs.Device.{AuditedDevice, new_device, outline_of, is_idle, device_in, with_device}
 
 -- the events begin with the one that has begun or is the next
 pub record AuditState : Type 0 where
@@ -44,8 +24,9 @@ pub record AuditState : Type 0 where
 abbrev pub first_state : DeckLines → AuditState
 first_state deck = record { devices = map (new_device deck.programs) deck.devices; events = deck.events; due = Next }
 
-abbrev pub number_of : AuditedDevice → ℕ
-number_of a = a.number
+-- the outlines of its devices
+abbrev pub outlines : AuditState → List Outline
+outlines s = map outline_of s.devices
 
 -- the device of an event that is work
 abbrev pub worker_of : EventLine → Option ℕ
@@ -64,8 +45,11 @@ then_of None go = None
 then_of (Some x) go = go x
 
 -- the device at whose work the report is
+abbrev pub worker_number : AuditState → Option ℕ
+worker_number s = then_of (first_event s.events) worker_of
+
 abbrev pub worker : AuditState → Option AuditedDevice
-worker s = then_of (first_event s.events) (λ event. then_of (worker_of event) (λ d. device_in s.devices d))
+worker s = then_of (worker_number s) (device_in s.devices)
 
 -- with the next event at hand
 abbrev pub passed : AuditState → AuditState

@@ -17,8 +17,9 @@ use Rattle.deck_audit.specs.declared.status.AuditWhy.{AuditWhy}
 use Rattle.deck_audit.specs.declared.status.AuditWhy.TheVariants.{Form, Place, History}
 use Rattle.deck_audit.specs.History.{made}
 use Rattle.deck_audit.specs.Place.{stands}
-use Rattle.deck_audit.specs.State.{AuditState, Due, first_state}
-use Rattle.deck_audit.specs.State.Due.{Nothing}
+use Rattle.deck_audit.specs.declared.state.Due.{Due}
+use Rattle.deck_audit.specs.declared.state.Due.TheVariants.{Nothing}
+use Rattle.deck_audit.specs.State.{AuditState, first_state}
 
 -- One line
 

@@ -2,9 +2,11 @@
 #![tactic(auto)]
 
 mod same;
+mod state;
 mod status;
 mod texts;
 
 pub use same::{is_same_order, says};
+pub use state::{Did, Due, HalfWrite, OpenProgram, Outline};
 pub use status::{AuditStatus, AuditWhy, code_of};
 pub use texts::{write_no, write_no_report, write_usage, write_yes};
