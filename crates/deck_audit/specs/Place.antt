@@ -1,5 +1,5 @@
 -- Which line may stand where: one that the deck's next event, or the event begun, may have there.
-use Rattle.std.specs.Prelude.{ℕ, ◌-◌, ◌==◌, ◌&&◌, ◌||◌, not, nat_lt, Bool, true, false, List, [], ◌∷◌, drop, slice_get, Option, Some, None, if◌then◌else◌}
+use Rattle.std.specs.Prelude.{ℕ, ◌-◌, ◌≤◌, ◌==◌, ◌&&◌, ◌||◌, not, nat_lt, Bool, true, false, List, [], ◌∷◌, drop, slice_get, Option, Some, None, if◌then◌else◌, ⊤}
 use Rattle.deck_plan.specs.declared.event.EventLine.{EventLine}
 use Rattle.deck_plan.specs.declared.event.EventLine.TheVariants as events
 use Rattle.report_text.specs.declared.answers.BackAnswer.{BackAnswer}
@@ -99,11 +99,15 @@ is_cut d o (lines.Over path device ordinal (how.Cut commands)) =
     (path == o.path) && (device == d) && (ordinal == o.ordinal)
 is_cut d o _ = false
 
+abbrev pub is_reset : ℕ → ℕ → ReportLine → Bool
+is_reset path d (lines.Reset p device) = (p == path) && (device == d)
+is_reset path d _ = false
+
 -- the reset of the running program's path has its OVER line first
 abbrev pub may_reset : ℕ → ℕ → Outline → ReportLine → Option OpenProgram → Bool
 may_reset path d a line (Some o) =
-    if o.path == path then is_cut d o line else says (lines.Reset path d) line
-may_reset path d a line None = says (lines.Reset path d) line
+    if o.path == path then is_cut d o line else is_reset path d line
+may_reset path d a line None = is_reset path d line
 
 abbrev pub is_start : ℕ → ℕ → ReportLine → Bool
 is_start path d (lines.Start p device answer) = (p == path) && (device == d)
@@ -177,7 +181,7 @@ in_totals s line k =
     (nat_lt 0 k && holds (slice_get s (k - 1)) (λ a. is_lost_of line a a.lent)) || in_totals_of s line (drop k s)
 
 abbrev pub in_reset : ReportLine → Option EventLine → Bool
-in_reset line (Some (events.Reset path d)) = says (lines.Reset path d) line
+in_reset line (Some (events.Reset path d)) = is_reset path d line
 in_reset line _ = false
 
 abbrev pub in_next : List Outline → ReportLine → List EventLine → Bool
@@ -196,6 +200,11 @@ in_due s left line ResetOf = in_reset line (first_event left)
 in_due s left line (Totals k) = in_totals s line k
 in_due s left line Frames = is_frame s line || is_finish line
 in_due s left line Nothing = false
+
+-- no more devices have had their totals than there are
+abbrev pub IsDueOf : ℕ → Due → Type 0
+IsDueOf devices (Totals k) = k ≤ devices
+IsDueOf devices due = ⊤
 
 -- a track of the device becomes loose or firm, unless the work's acts are at their end
 abbrev pub is_act_of : Bool → ℕ → ReportLine → Bool

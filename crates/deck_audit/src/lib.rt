@@ -1,11 +1,15 @@
 //! Whether a plain device could have made a report, and the first line that shows that it couldn't.
 #![tactic(auto)]
 
+mod outline;
+mod place;
 mod same;
 mod state;
 mod status;
 mod texts;
+mod work;
 
+pub use place::in_due;
 pub use same::{is_same_order, says};
 pub use state::{Did, Due, HalfWrite, OpenProgram, Outline};
 pub use status::{AuditStatus, AuditWhy, code_of};
