@@ -6,6 +6,8 @@ mod place;
 mod same;
 mod state;
 mod status;
+#[cfg(test)]
+mod tests;
 mod texts;
 mod work;
 
