@@ -1,17 +1,16 @@
 -- What happens while no program runs keeps a device's history plain: a reset, a new volume, an act of cache fast write.
-use Rattle.std.proofs.Common.{◌≡◌, ◌∷◌, ◌++◌, ℕ, List, [], Option, Some, None, Bool, true, false, cond, length, refl, sym, ap, subst, inl, inr}
-use Rattle.std.specs.Prelude.{◌⊎◌, ◌&&◌, nat_lt}
-use Rattle.std.proofs.lemmas.Bool.{cases_Bool, cond_both}
+use Rattle.std.proofs.Common.{◌≡◌, ◌∷◌, ◌++◌, ℕ, [], Option, None, true, false, sym, ap, subst}
+use Rattle.std.proofs.lemmas.Bool.{cond_both}
 use Rattle.plain_defs.specs.declared.journal.Act.{Act}
-use Rattle.plain_defs.specs.declared.journal.Act.TheVariants.{Harden, CfwLost}
 use Rattle.plain_defs.specs.declared.journal.Item.{Item}
 use Rattle.plain_defs.specs.declared.journal.Item.TheVariants as items
 use Rattle.plain_defs.specs.History.{History, OpenEntry, acted, acted_in, emptied, reset, reset_in, state_by, IsPlain}
 use Rattle.plain_defs.specs.Journal.{Plans, replay}
 use Rattle.plain_defs.specs.Legal.{IsLegalItem, IsSomeLoose, is_used}
 use Rattle.plain_defs.specs.Loose.{is_loose}
-use Rattle.plain_defs.specs.PlainState.{LooseTrack, PlainState}
+use Rattle.plain_defs.specs.PlainState.{PlainState}
 use Rattle.plain_defs.proofs.JournalLaws.{legal_more}
+use Rattle.deck_audit.specs.Device.{AuditedDevice, state_of}
 
 module _ (plans : Plans) (empty : PlainState) (h : History) (plain : IsPlain plans empty h) (stands : h.running ≡ None) where
   -- with a legal item more
@@ -38,3 +37,14 @@ module _ (plans : Plans) (empty : PlainState) (h : History) (plain : IsPlain pla
   acted_plain act legal =
       subst (λ (r : Option OpenEntry). IsPlain plans empty (acted_in h act r)) (sym stands)
       (with_none (items.Act act) (one_more (items.Act act) legal))
+
+state_when_idle : (a : AuditedDevice) → a.history.running ≡ None → state_of a ≡ replay a.plans a.empty a.history.items
+state_when_idle a stands = ap (λ (r : Option OpenEntry). state_by a.plans (replay a.plans a.empty a.history.items) r) stands
+
+pub loose_when_idle : (a : AuditedDevice) (t : ℕ) → a.history.running ≡ None → is_loose (state_of a) t ≡ true
+    → is_loose (replay a.plans a.empty a.history.items) t ≡ true
+loose_when_idle a t stands is = subst (λ (s : PlainState). is_loose s t ≡ true) (state_when_idle a stands) is
+
+pub some_when_idle : (a : AuditedDevice) → a.history.running ≡ None → IsSomeLoose (state_of a).loose
+    → IsSomeLoose (replay a.plans a.empty a.history.items).loose
+some_when_idle a stands some = subst (λ (s : PlainState). IsSomeLoose s.loose) (state_when_idle a stands) some

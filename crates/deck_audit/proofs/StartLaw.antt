@@ -1,10 +1,10 @@
 -- A START that is accepted keeps a device's history plain.
-use Rattle.std.proofs.Common.{◌≡◌, ◌≤◌, ◌+◌, ℕ, List, Option, Some, None, Bool, true, false, cond, not, length, refl, sym, ap, subst, ◌∙◌, inl, inr}
-use Rattle.std.specs.Prelude.{◌⊎◌, ◌&&◌}
+use Rattle.std.proofs.Common.{◌≡◌, ◌≤◌, ℕ, Option, Some, None, Bool, true, false, cond, not, length, refl, ap, subst, inl, inr}
+use Rattle.std.specs.Prelude.{◌⊎◌}
 use Rattle.std.specs.List.{list_any}
 use Rattle.std.proofs.lemmas.Bool.{cases_Bool, and_parts, leb-true}
 use Rattle.ckd_types.specs.declared.paths.Owner.{Owner}
-use Rattle.plain_defs.specs.History.{History, OpenEntry, started, state_by, IsPlain}
+use Rattle.plain_defs.specs.History.{OpenEntry, started, state_by, IsPlain}
 use Rattle.plain_defs.specs.Journal.{planned, program_of, replay}
 use Rattle.plain_defs.specs.Legal.{MayStart}
 use Rattle.plain_defs.specs.PlainState.{PlainState, is_admitted}
@@ -58,7 +58,7 @@ module _ (a : AuditedDevice) (path n : ℕ) (least : 1 ≤ path) (most : path �
         → IsPlain a.plans a.empty (started a.history path n)
     by_start left (inl starts) is =
         let answer : start.Accepted (next_ordinal a path) ≡ start.Accepted n =
-            subst (λ (b : Bool). cond b (start.Accepted (next_ordinal a path)) (held_answer a (state_of a).paths.owner) ≡ start.Accepted n) starts is in
+        subst (λ (b : Bool). cond b (start.Accepted (next_ordinal a path)) (held_answer a (state_of a).paths.owner) ≡ start.Accepted n) starts is in
         let ordinal : next_ordinal a path ≡ n = cc in
         started_plain a.plans a.empty a.history plain path n (may left starts ordinal)
     by_start left (inr none) is =
@@ -73,7 +73,7 @@ module _ (a : AuditedDevice) (path n : ℕ) (least : 1 ≤ path) (most : path �
         (held_answer a (state_of a).paths.owner)) ≡ start.Accepted n) left is)
     by_left (inr none) is =
         let done : start.Done ≡ start.Accepted n = subst (λ (b : Bool). cond (not b) start.Done
-            (cond (may_start a path) (start.Accepted (next_ordinal a path)) (held_answer a (state_of a).paths.owner)) ≡ start.Accepted n) none is in
+        (cond (may_start a path) (start.Accepted (next_ordinal a path)) (held_answer a (state_of a).paths.owner)) ≡ start.Accepted n) none is in
         absurd cc
 
   by_running : (running : Option OpenEntry) → a.history.running ≡ running → running_answer a path running ≡ start.Accepted n

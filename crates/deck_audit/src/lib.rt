@@ -1,6 +1,7 @@
 //! Whether a plain device could have made a report, and the first line that shows that it couldn't.
 #![tactic(auto)]
 
+mod law;
 mod outline;
 mod place;
 mod same;
@@ -11,6 +12,7 @@ mod tests;
 mod texts;
 mod work;
 
+pub use law::{accepted_start_is_plain, idle_is_plain, plain_end_is_plain};
 pub use place::in_due;
 pub use same::{is_same_order, says};
 pub use state::{Did, Due, HalfWrite, OpenProgram, Outline};
