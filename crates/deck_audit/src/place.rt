@@ -1,9 +1,9 @@
 ghost use Rattle.std.specs.Prelude.{◌≡◌, ◌≤◌, length};
-ghost use Rattle.deck_audit.specs.Place.{IsDueOf, holds, in_due, in_event, in_next, in_reset, in_totals, in_totals_of, is_data, is_finish, is_frame, is_harden, is_loss, is_loss_above, is_order, is_over, is_sense, may_back, may_step, outline_in};
-ghost use Rattle.deck_audit.specs.State.{first_event};
+ghost use Rattle.deck_audit.specs.Place.{IsDueOf, holds, in_due, in_event, in_next, in_reset, in_totals, in_totals_of, is_data, is_finish, is_frame, is_harden, is_io, is_loss, is_loss_above, is_of_work, is_order, is_over, is_sense, may_back, may_step, outline_in};
+ghost use Rattle.deck_audit.specs.State.{first_event, worker_of};
 
 use crate::outline::{is_declared, is_lost_of, is_totals_of, outline_in};
-use crate::work::{is_reset, is_start, may_back, may_reset, may_step};
+use crate::work::{is_act_of, is_reset, is_start, may_back, may_reset, may_step};
 use crate::{Due, Outline, is_same_order};
 use ckd_types::DeviceNo;
 use deck_plan::EventLine;
@@ -192,5 +192,34 @@ pub fn in_due(devices: &[Outline], events: &[EventLine], line: &ReportLine, due:
         Due::Totals(told) => in_totals(devices, line, *told),
         Due::Frames => is_frame(devices, line) || is_finish(line),
         Due::Nothing => false,
+    }
+}
+
+fn is_io(line: &ReportLine) -> bool
+    ensures { result ≡ is_io line.now }
+{
+    matches!(line, ReportLine::Io { .. })
+}
+
+/// Whether a line is still of a piece of work of this device: IO, or a CFW line where `more` may come.
+pub fn is_of_work(more: bool, worker: Option<DeviceNo>, line: &ReportLine) -> bool
+    ensures { result ≡ is_of_work more worker line.now }
+{
+    let is_act = match worker {
+        Some(d) => is_act_of(more, d, line),
+        None => false,
+    };
+    is_io(line) || is_act
+}
+
+/// The device whose work an event is.
+pub fn worker_of(event: &EventLine) -> Option<DeviceNo>
+    ensures { result ≡ worker_of event.now }
+{
+    match event {
+        EventLine::Step(d) | EventLine::Run(d) | EventLine::Back(d) | EventLine::Settle(d) => {
+            Some(*d)
+        }
+        _ => None,
     }
 }
