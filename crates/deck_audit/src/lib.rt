@@ -14,7 +14,7 @@ mod texts;
 mod work;
 
 pub use law::{accepted_start_is_plain, idle_is_plain, plain_end_is_plain};
-pub use lines::next_line;
+pub use lines::{next_line, report_from};
 pub use place::{in_due, is_of_work, worker_of};
 pub use same::{is_same_order, says};
 pub use state::{Did, Due, HalfWrite, OpenProgram, Outline};

@@ -181,3 +181,15 @@ fn lines_at_the_end(rt: HostRuntime) -> Result<(), Fail> {
     );
     Ok(())
 }
+
+#[test]
+fn where_a_report_begins(rt: HostRuntime) -> Result<(), Fail> {
+    assert_eq!(rt; report_from(b"DECK 1\nREPORT\nFINISH\n"), Some(1));
+    assert_eq!(rt; report_from(b"REPORT"), Some(0));
+    assert_eq!(rt; report_from(b"DECK 1\nREPORT \nREPORTS\nREPORT\r\n"), None);
+    assert_eq!(rt; report_from(b""), None);
+    let (line, left) = next_line(b"\nFINISH");
+    assert_eq!(rt; line.len(), 0);
+    assert_eq!(rt; left, b"FINISH".as_slice());
+    Ok(())
+}
