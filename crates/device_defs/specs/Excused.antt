@@ -70,6 +70,10 @@ abbrev pub is_equipment_check : Option Sense → Bool
 is_equipment_check (Some sense) = slice_index_or sense.bytes 0 0 == 0x10
 is_equipment_check None = false
 
+abbrev pub is_data_check : Option Sense → Bool
+is_data_check (Some sense) = slice_index_or sense.bytes 0 0 == 0x08
+is_data_check None = false
+
 abbrev pub is_checked : How → Bool
 is_checked Checked = true
 is_checked _ = false

@@ -22,5 +22,5 @@ pub mod Marks
 pub mod Sound
 pub mod Between
 pub mod Transfers
-pub mod Keeps
 pub mod Excused
+pub mod Pledge

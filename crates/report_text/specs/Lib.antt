@@ -10,3 +10,4 @@ pub mod Reading
 pub mod Ranges
 pub mod Record
 pub mod Report
+pub mod Events

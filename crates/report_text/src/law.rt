@@ -4,9 +4,19 @@ ghost use Rattle.report_text.specs.Lines.{text_of};
 ghost use Rattle.report_text.specs.Ranges.{IsLine};
 ghost use Rattle.report_text.specs.Reading.{line_of};
 
+use crate::{ReportLine, in_ranges};
+
 /// Laws: the line that the text of a line is, is that line, where its numbers and bytes are in their ranges; and no two
 /// such lines have one text.
 pub fn reads_back()
     ensures again { (line : ReportLine) → IsLine line → line_of (text_of line) ≡ Ok line }
     ensures apart { (line other : ReportLine) → IsLine line → IsLine other → text_of line ≡ text_of other → line ≡ other }
 {}
+
+/// The text of any line is read as that line: its types keep its numbers and bytes in their ranges.
+pub fn is_read_back(line: &ReportLine)
+    ensures { line_of (text_of line.now) ≡ Ok line.now }
+{
+    in_ranges(line);
+    reads_back();
+}

@@ -1,7 +1,7 @@
 ghost use Rattle.std.specs.Prelude.{◌≡◌, ◌≤◌, ◌++◌, ◌∷◌, [], OnOk, length, take};
 ghost use Rattle.ckd_outside.specs.Causes.{HasCause};
 ghost use Rattle.ckd_outside.specs.Texts.{Puts};
-ghost use Rattle.report_text.specs.Ends.{data_lines, end_lines, lines_text, over_lines, sense_lines};
+ghost use Rattle.report_text.specs.Ends.{data_lines, end_line, lines_text, sense_lines};
 ghost use Rattle.report_text.specs.Lines.{line_text};
 ghost use Rattle.report_text.specs.Record.{IsSpent, byte_count, kept_line, kept_lines, other_count, whole_line};
 ghost use Rattle.report_text.specs.declared.line.ReportLine.TheVariants as lines;
@@ -131,8 +131,20 @@ impl RunRecord {
         }
     }
 
+    pub(crate) fn push_end_line(
+        &mut self,
+        path: PathNo,
+        device: DeviceNo,
+        ordinal: u16,
+        end: &CommandEnd,
+    ) -> Result<(), NoMemory>
+        ensures { OnOk result (self.new ≡ self.old ++ lines.End (end_line path device ordinal end.now) ∷ []) }
+    {
+        self.push_short(Kept::End(end_line(path, device, ordinal, end)))
+    }
+
     /// Where bytes were sent.
-    fn push_sent(&mut self, sent: &Bytes) -> Result<(), NoMemory>
+    pub(crate) fn push_sent(&mut self, sent: &Bytes) -> Result<(), NoMemory>
         ensures { OnOk result (self.new ≡ self.old ++ data_lines sent.now) }
     {
         if sent.is_empty() {
@@ -142,42 +154,13 @@ impl RunRecord {
     }
 
     /// Where the end has sense.
-    fn push_any_sense(&mut self, sense: &Option<Sense>) -> Result<(), NoMemory>
+    pub(crate) fn push_any_sense(&mut self, sense: &Option<Sense>) -> Result<(), NoMemory>
         ensures { OnOk result (self.new ≡ self.old ++ sense_lines sense.now) }
     {
         match sense {
             Some(sense) => self.push_sense(sense),
             None => Ok(()),
         }
-    }
-
-    /// Where the program is over.
-    fn push_over(&mut self, place: &EndLine, over: bool) -> Result<(), NoMemory>
-        ensures { OnOk result (self.new ≡ self.old ++ over_lines place.now.path place.now.device place.now.ordinal over) }
-    {
-        if !over {
-            return Ok(());
-        }
-        self.push_short(Kept::Over(place.path, place.device, place.ordinal, HowOver::Full))
-    }
-
-    /// The lines of a command's end: END, DATA and SENSE where there is any, and OVER where its program, the path's of
-    /// that ordinal on the device, is over. What a record is after want of memory is not said.
-    pub fn push_end(
-        &mut self,
-        path: PathNo,
-        device: DeviceNo,
-        ordinal: u16,
-        end: &CommandEnd,
-    ) -> Result<(), NoMemory>
-        ensures { OnOk result (self.new ≡ self.old ++ end_lines path device ordinal end.now) }
-    {
-        let line = end_line(path, device, ordinal, end);
-        self.push_short(Kept::End(line))?;
-        self.push_sent(&end.sent)?;
-        self.push_any_sense(&end.sense)?;
-        self.push_over(&line, end.over)?;
-        Ok(())
     }
 }
 

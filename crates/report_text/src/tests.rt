@@ -195,7 +195,21 @@ fn a_report_behind_its_run(rt: HostRuntime) -> Result<(), Fail> {
     let mut record = RunRecord::new(rt.alloc());
     let start = ReportLine::Start(path(), device(), StartAnswer::Done);
     assert_eq!(rt; record.push(start), Ok(()));
-    assert_eq!(rt; record.push_end(path(), device(), 1, &end), Ok(()));
+    let happened = Happened::Ended(path(), device(), 1, end);
+    let none: [Loosed; 0] = [];
+    let event = RunEvent {
+        happened: &happened,
+        loosed: &none,
+        reads: 0,
+        writes: 0,
+        over: Some(ProgramOver {
+            path: path(),
+            device: device(),
+            ordinal: 1,
+            how: HowOver::Full,
+        }),
+    };
+    assert_eq!(rt; record.push_event(&event), Ok(()));
     for reads in [1, u64::MAX] {
         assert_eq!(rt; record.push(ReportLine::Io { reads, writes: 0 }), Ok(()));
     }
@@ -253,5 +267,43 @@ fn digits_of_bytes(rt: HostRuntime) -> Result<(), Fail> {
     assert_eq!(rt; are_digits_of(b"0AF9", &[0x0a, 0xf9]), true);
     assert_eq!(rt; are_digits_of(b"0Af9", &[0x0a, 0xf9]), false);
     assert_eq!(rt; are_digits_of(b"0AF", &[0x0a, 0xf9]), false);
+    Ok(())
+}
+
+#[test]
+fn lines_of_an_event_in_order(rt: HostRuntime) -> Result<(), Fail> {
+    let half = Happened::Half(path(), device(), track());
+    let loosed = [Loosed {
+        device: device(),
+        answer: LooseAnswer::Harden(track()),
+    }];
+    let written = RunEvent {
+        happened: &half,
+        loosed: &loosed,
+        reads: 0,
+        writes: 1,
+        over: None,
+    };
+    let reset = Happened::Reset(path(), device());
+    let none: [Loosed; 0] = [];
+    let cut = RunEvent {
+        happened: &reset,
+        loosed: &none,
+        reads: 0,
+        writes: 0,
+        over: Some(ProgramOver {
+            path: path(),
+            device: device(),
+            ordinal: 7,
+            how: HowOver::Cut(3),
+        }),
+    };
+    let mut record = RunRecord::new(rt.alloc());
+    assert_eq!(rt; record.push_event(&written), Ok(()));
+    assert_eq!(rt; record.push_event(&cut), Ok(()));
+    let mut sink = MemSink::new(rt.alloc(), 1000, 1000, &[])?;
+    assert_eq!(rt; write_report(&mut sink, &record, &[], &[]), Ok(()));
+    let wanted = "HALF 2 10 17\nCFW 10 HARDEN 17\nIO 0 1\nOVER 2 10 7 CUT 3\nRESET 2 10\nFINISH\n";
+    assert_eq!(rt; sink.bytes(), wanted.as_bytes());
     Ok(())
 }

@@ -5,6 +5,8 @@ use Rattle.ckd_types.specs.declared.paths.Side.TheVariants.{A, B}
 use Rattle.plain_defs.specs.declared.journal.How.TheVariants.{Full, Cut, Checked}
 use Rattle.device_defs.proofs.Stand.{Program, ResetOf, Other}
 use Rattle.ckd_types.specs.Commands.{command_of}
+use Rattle.ckd_rules.specs.Walk.{walk}
+use Rattle.plain_defs.specs.Program.{part_of}
 use Rattle.track_table.specs.Tracks.{least, count_below}
 use Rattle.device_outside.specs.Lists.{is_in, with_number, less_one}
 use Rattle.device_outside.specs.Pool.{answer, after}
@@ -23,14 +25,31 @@ use Rattle.device_defs.specs.Second.{second_part}
 use Rattle.device_defs.specs.Start.{start_fault, start}
 use Rattle.device_defs.specs.Editing.{through, write}
 use Rattle.device_defs.specs.Writing.{write_first, write_second, write_done}
+use Rattle.subsystem_defs.specs.declared.event.Event.TheVariants as events
 use Rattle.subsystem_defs.specs.Beside.{Loosened, Hardened, WentBack}
 use Rattle.subsystem_defs.specs.Closing.{Counted, LentTo, handed_of}
 use Rattle.subsystem_defs.specs.Decks.{run_asked}
 use Rattle.subsystem_defs.specs.Deeds.{deed}
 use Rattle.subsystem_defs.specs.Happening.{sweep, happens, replaced, unpaired}
 use Rattle.subsystem_defs.specs.Lines.{steps, backs, line_logged, run_lines}
+use Rattle.subsystem_defs.specs.Calm.{is_calm}
+use Rattle.subsystem_defs.specs.Promised.{are_explained, miss_nothing}
 use Rattle.subsystem_defs.specs.Refusals.{pair_fault, unpair_fault, suspend_fault, resume_fault, fail_fault, replace_fault}
-use Rattle.subsystem_defs.proofs.Stand.{Show, copies, goes, ending_of, settled_goes, loose_by, items_by, volume, volumes_by}
+use Rattle.subsystem_defs.proofs.Stand.{
+  Show,
+  copies,
+  goes,
+  ending_of,
+  settled_goes,
+  loose_by,
+  items_by,
+  volume,
+  volumes_by,
+  judged,
+  behind_each,
+  all_well,
+  right,
+}
 use Rattle.subsystem_defs.proofs.Runs.{
   first_read,
   one_frame,
@@ -139,7 +158,8 @@ unfolding command_of least count_below is_in with_number less_one answer after c
 power_losses_show = refl
 
 -- more than two hundred events of a pair
-pub many_events : ending_of (settled_goes 25) ≡ record { events = 242; ending = record { devices = Counted 0 16 65 [] ∷ LentTo 1 0 ∷ []; frames = ((0, 0), false) ∷ [] } }
+pub many_events : ending_of (settled_goes 25)
+    ≡ record { events = 242; ending = record { devices = Counted 0 16 65 [] ∷ LentTo 1 0 ∷ []; frames = ((0, 0), false) ∷ [] } }
 unfolding command_of least count_below is_in with_number less_one answer after counted hold work choose look follow
     command reset power second background lose level_bytes image over settled side_lost cache_lost store_lost
     all_firm_told waits hear all_told lend second_part start_fault start write_first write_second write_done through
@@ -182,3 +202,34 @@ unfolding command_of least count_below is_in with_number less_one answer after c
     write pair_fault unpair_fault suspend_fault resume_fault fail_fault replace_fault deed sweep happens replaced
     unpaired steps backs line_logged run_lines run_asked copies handed_of
 volumes_are_handed_out = refl
+
+-- calm runs miss nothing
+pub calm_runs : map judged (fast_write_is_destaged ∷ cache_is_repaired ∷ pair_is_written ∷ pair_outlives_a_side
+    ∷ held_side_goes_on ∷ provisional_write_is_lost ∷ power_leaves_the_patch ∷ power_cuts_a_write ∷ power_takes_loose_data ∷ [])
+    ≡ replicate 9 (right true false)
+unfolding command_of least count_below is_in with_number less_one answer after counted hold work choose look follow
+    command reset power second background lose level_bytes image over settled side_lost cache_lost store_lost
+    all_firm_told waits hear all_told lend second_part start_fault start write_first write_second write_done through
+    write pair_fault unpair_fault suspend_fault resume_fault fail_fault replace_fault deed sweep happens replaced
+    unpaired steps backs line_logged run_lines run_asked copies is_calm are_explained miss_nothing
+calm_runs = refl
+
+-- others may
+pub other_runs : map judged (store_is_lost_and_settled ∷ track_is_lost ∷ destaging_fails_once ∷ stale_side_a_stays_paired ∷ [])
+    ≡ right false false ∷ right false true ∷ right false false ∷ right true false ∷ []
+unfolding command_of least count_below is_in with_number less_one answer after counted hold work choose look follow
+    command reset power second background lose level_bytes image over settled side_lost cache_lost store_lost
+    all_firm_told waits hear all_told lend second_part start_fault start write_first write_second write_done through
+    write pair_fault unpair_fault suspend_fault resume_fault fail_fault replace_fault deed sweep happens replaced
+    unpaired steps backs line_logged run_lines run_asked copies is_calm are_explained miss_nothing part_of walk
+other_runs = refl
+
+-- one loss, before any event of a write to a pair
+pub one_loss : map behind_each (events.FailCache ∷ events.FailStore ∷ events.FailVolume 0 A ∷ events.FailVolume 0 B ∷ [])
+    ≡ replicate 4 (replicate 6 all_well)
+unfolding command_of least count_below is_in with_number less_one answer after counted hold work choose look follow
+    command reset power second background lose level_bytes image over settled side_lost cache_lost store_lost
+    all_firm_told waits hear all_told lend second_part start_fault start write_first write_second write_done through
+    write pair_fault unpair_fault suspend_fault resume_fault fail_fault replace_fault deed sweep happens replaced
+    unpaired steps backs line_logged run_lines run_asked copies is_calm are_explained miss_nothing
+one_loss = refl

@@ -6,7 +6,12 @@ use Rattle.ckd_types.specs.declared.geometry.Geometry.TheVariants.{D3390}
 use Rattle.ckd_types.specs.declared.paths.Side.{Side}
 use Rattle.deck_plan.specs.declared.event.EventLine.{EventLine}
 use Rattle.deck_plan.specs.declared.event.EventLine.TheVariants as lines
-use Rattle.std.specs.Prelude.{length}
+use Rattle.std.specs.Prelude.{length, not, ◌&&◌, ◌||◌, is_some}
+use Rattle.track_table.specs.Tracks.{least}
+use Rattle.device_defs.specs.Contents.{by_plain}
+use Rattle.device_defs.specs.Marks.{MarksDevice, MarksStore}
+use Rattle.device_defs.specs.Sound.{has_sound_marks}
+use Rattle.device_defs.specs.Store.{tracks_of}
 use Rattle.deck_text.specs.declared.line.DeviceLine.{DeviceLine}
 use Rattle.deck_text.specs.declared.line.FaultLine.{FaultLine}
 use Rattle.deck_text.specs.declared.line.PlannedProgram.{PlannedProgram}
@@ -20,13 +25,18 @@ use Rattle.device_defs.specs.declared.answers.SecondEnd.TheVariants as seconds
 use Rattle.device_defs.specs.declared.answers.StartFault.{StartFault}
 use Rattle.device_defs.specs.declared.answers.Stepped.{Stepped}
 use Rattle.device_defs.specs.declared.answers.Stepped.TheVariants as stepped
-use Rattle.device_defs.proofs.Stand.{read_zero, write_zero}
+use Rattle.std.specs.List.{range_with_len}
+use Rattle.device_defs.proofs.Stand.{read_zero, write_zero, new_data}
 use Rattle.device_defs.proofs.Stand as dev
 use Rattle.subsystem_defs.specs.declared.end.EventEnd.{EventEnd}
 use Rattle.subsystem_defs.specs.declared.end.EventEnd.TheVariants as ends
 use Rattle.subsystem_defs.specs.declared.end.OrderFault.{OrderFault}
 use Rattle.subsystem_defs.specs.Beside.{Beside, LooseTold, beside}
+use Rattle.subsystem_defs.specs.Calm.{is_calm}
+use Rattle.subsystem_defs.specs.Promised.{are_explained, miss_nothing}
+use Rattle.subsystem_defs.specs.Subsystem.{devices_of}
 use Rattle.subsystem_defs.specs.Closing.{DeviceEnd, Ending, HandedOut, ending, handed_out}
+use Rattle.subsystem_defs.specs.declared.event.Event.{Event}
 use Rattle.subsystem_defs.specs.declared.event.Event.TheVariants as events
 use Rattle.subsystem_defs.specs.Decks.{DeckRun, run_asked}
 use Rattle.subsystem_defs.specs.Lines.{Asked, Once, Logged, asked_by}
@@ -256,3 +266,76 @@ volume d side reads writes known = record { device = d; side = side; reads = rea
 
 abbrev pub volumes_by : Sample → List Volume
 volumes_by x = map volume_of (handed_out (run_asked x.deck x.asked).behind)
+
+-- Whether marks are sound behind every event, checks are explained, and the run is calm and misses nothing
+
+abbrev pub has_sound_tracks : MarksStore → Bool
+has_sound_tracks s = is_some s.lent || not (is_some (least (tracks_of s) (λ t. not (has_sound_marks by_plain s t))))
+
+abbrev pub have_sound_tracks : List MarksDevice → Bool
+have_sound_tracks [] = true
+have_sound_tracks (d ∷ ds) = has_sound_tracks d.store && have_sound_tracks ds
+
+abbrev pub are_sound : List Logged → Bool
+are_sound [] = true
+are_sound (x ∷ xs) = have_sound_tracks (devices_of x.happened.behind) && are_sound xs
+
+pub record Judged : Type 0 where
+  pub sound : Bool
+  pub explained : Bool
+  pub calm : Bool
+  pub missed : Bool
+
+abbrev pub judged_run : DeckRun → Judged
+judged_run r = record {
+  sound = are_sound r.events;
+  explained = are_explained r.events;
+  calm = is_calm r.events;
+  missed = not (miss_nothing r.events);
+}
+
+abbrev pub judged : Sample → Judged
+judged x = judged_run (run_asked x.deck x.asked)
+
+-- sound and explained
+abbrev pub right : Bool → Bool → Judged
+right calm missed = record { sound = true; explained = true; calm = calm; missed = missed }
+
+-- A loss anywhere in a write to a pair, and what is read behind it
+
+abbrev pub put_before : {X : Type 0} → ℕ → X → List X → List X
+put_before zero x xs = x ∷ xs
+put_before (suc n) x [] = x ∷ []
+put_before (suc n) x (y ∷ ys) = y ∷ put_before n x ys
+
+abbrev pub write_steps : List Asked
+write_steps = line (lines.Start 1 0) ++ step ++ step ++ step ++ step
+
+abbrev pub with_loss : Event → ℕ → DeckRun
+with_loss loss n =
+    run_asked (two (write_zero 0xc1 0 ∷ read_zero 0xc4 0 ∷ []))
+    (line (lines.Pair 0 1) ++ settle ++ put_before n (Once loss) write_steps ++ go)
+
+abbrev pub sent_by : Line → List ℕ
+sent_by (End word status residual sent) = sent
+sent_by _ = []
+
+abbrev pub last_sent : List Shown → List ℕ
+last_sent [] = []
+last_sent (x ∷ []) = sent_by x.line
+last_sent (x ∷ y ∷ xs) = last_sent (y ∷ xs)
+
+pub record Behind : Type 0 where
+  pub read : List ℕ
+  pub judged : Judged
+
+abbrev pub behind_loss : Event → ℕ → Behind
+behind_loss loss n = let r = with_loss loss n in record { read = last_sent (shows_of r); judged = judged_run r }
+
+-- before each event, and behind the last one
+abbrev pub behind_each : Event → List Behind
+behind_each loss = map (behind_loss loss) (range_with_len 0 6)
+
+-- the new data are read, and nothing is missed
+abbrev pub all_well : Behind
+all_well = record { read = new_data; judged = right true false }

@@ -6,3 +6,6 @@ pub mod Beside
 pub mod Lines
 pub mod Closing
 pub mod Decks
+pub mod Calm
+pub mod Promised
+pub mod Assembled

@@ -1,0 +1,195 @@
+ghost use Rattle.std.specs.Prelude.{◌≡◌};
+
+use crate::*;
+use ckd_outside::MemSink;
+use ckd_types::{DeviceNo, PathNo, TrackNo};
+use deck_plan::EventLine;
+use deck_text::{DeckWhy, Which};
+use report_text::{BackAnswer, DeviceTotals, HowOver, LooseAnswer, ReportLine, StartAnswer};
+use std::test::Fail;
+
+#[test]
+fn texts_of_what_was_found(rt: HostRuntime) -> Result<(), Fail> {
+    let mut sink = MemSink::new(rt.alloc(), 200, 100, &[])?;
+    assert_eq!(rt; write_yes(&mut sink), Ok(()));
+    assert_eq!(rt; write_no(&mut sink, 19, AuditWhy::History), Ok(()));
+    assert_eq!(rt; write_no(&mut sink, 23, AuditWhy::Place), Ok(()));
+    assert_eq!(rt; write_no(&mut sink, 4294967295, AuditWhy::Form), Ok(()));
+    assert_eq!(rt; write_no_report(&mut sink), Ok(()));
+    assert_eq!(rt; write_usage(&mut sink), Ok(()));
+    let wanted =
+        "audit yes\naudit line 19: history\naudit line 23: place\naudit line 4294967295: form\naudit: no report\nusage: audit\n";
+    assert_eq!(rt; sink.bytes(), wanted.as_bytes());
+    Ok(())
+}
+
+#[test]
+fn a_sink_that_fails(rt: HostRuntime) -> Result<(), Fail> {
+    let mut sink = MemSink::new(rt.alloc(), 200, 100, &[1])?;
+    assert_eq!(rt; write_yes(&mut sink).is_err(), true);
+    assert_eq!(rt; sink.bytes().len(), 0);
+    Ok(())
+}
+
+#[test]
+fn exit_statuses(rt: HostRuntime) -> Result<(), Fail> {
+    let why = AuditWhy::Form;
+    assert_eq!(rt; code_of(AuditStatus::Yes), 0);
+    assert_eq!(rt; code_of(AuditStatus::NoReport), 1);
+    let refused = AuditStatus::DeckRefused {
+        line: 1,
+        why: DeckWhy::Unfinished,
+    };
+    assert_eq!(rt; code_of(refused), 1);
+    assert_eq!(rt; code_of(AuditStatus::Limit(Which::Size)), 4);
+    assert_eq!(rt; code_of(AuditStatus::No { line: 7, why }), 7);
+    Ok(())
+}
+
+fn device() -> DeviceNo
+    ensures { result ≡ 3 }
+{
+    DeviceNo::new(3).unwrap()
+}
+
+fn path() -> PathNo
+    ensures { result ≡ 2 }
+{
+    PathNo::new(2).unwrap()
+}
+
+fn track() -> TrackNo
+    ensures { result ≡ 17 }
+{
+    TrackNo::new(17).unwrap()
+}
+
+#[test]
+fn lines_of_an_idle_device(rt: HostRuntime) -> Result<(), Fail> {
+    let d = device();
+    let outline = Outline {
+        number: d,
+        running: None,
+        half: HalfWrite::Closed,
+        lent: None,
+    };
+    let devices = [outline];
+    let due = Due::Next;
+    let step = [EventLine::Step(d)];
+    assert_eq!(rt;
+        in_due(&devices, &step, &ReportLine::StepIdle(d), &due),
+        true
+    );
+    assert_eq!(rt;
+        in_due(&devices, &step, &ReportLine::RunIdle(d), &due),
+        false
+    );
+    let back = [EventLine::Back(d)];
+    let nothing = ReportLine::Back(d, BackAnswer::Nothing);
+    assert_eq!(rt; in_due(&devices, &back, &nothing, &due), true);
+    assert_eq!(rt; in_due(&devices, &step, &nothing, &due), false);
+    let finished = ReportLine::Back(d, BackAnswer::Finished(track()));
+    assert_eq!(rt; in_due(&devices, &back, &finished, &due), false);
+    let start = [EventLine::Start(path(), d)];
+    let done = ReportLine::Start(path(), d, StartAnswer::Done);
+    assert_eq!(rt; in_due(&devices, &start, &done, &due), true);
+    Ok(())
+}
+
+#[test]
+fn lines_of_a_running_program(rt: HostRuntime) -> Result<(), Fail> {
+    let (p, d) = (path(), device());
+    let outline = Outline {
+        number: d,
+        running: Some(OpenProgram {
+            path: p,
+            ordinal: 4,
+        }),
+        half: HalfWrite::Closed,
+        lent: None,
+    };
+    let devices = [outline];
+    let due = Due::Next;
+    let step = [EventLine::Step(d)];
+    let half = ReportLine::Half(p, d, track());
+    assert_eq!(rt; in_due(&devices, &step, &half, &due), true);
+    assert_eq!(rt;
+        in_due(&devices, &step, &ReportLine::StepIdle(d), &due),
+        false
+    );
+    let reset = [EventLine::Reset(p, d)];
+    let cut = ReportLine::Over(p, d, 4, HowOver::Cut(1));
+    assert_eq!(rt; in_due(&devices, &reset, &cut, &due), true);
+    assert_eq!(rt; in_due(&devices, &step, &cut, &due), false);
+    assert_eq!(rt;
+        in_due(&devices, &reset, &ReportLine::Reset(p, d), &due),
+        false
+    );
+    assert_eq!(rt;
+        in_due(&devices, &reset, &ReportLine::Reset(p, d), &Due::ResetOf),
+        true
+    );
+    Ok(())
+}
+
+#[test]
+fn lines_at_the_end(rt: HostRuntime) -> Result<(), Fail> {
+    let d = device();
+    let outline = Outline {
+        number: d,
+        running: None,
+        half: HalfWrite::Closed,
+        lent: None,
+    };
+    let devices = [outline];
+    let calls = DeviceTotals::Calls {
+        reads: 1,
+        writes: 0,
+        lost: 1,
+    };
+    let totals = ReportLine::Device(d, calls);
+    let lost = ReportLine::Lost(d, track());
+    let loss = ReportLine::Loose(
+        d,
+        LooseAnswer::Lost {
+            count: 1,
+            id: [0, 1],
+        },
+    );
+    assert_eq!(rt; in_due(&devices, &[], &totals, &Due::Next), true);
+    assert_eq!(rt; in_due(&devices, &[], &lost, &Due::Next), false);
+    assert_eq!(rt; in_due(&devices, &[], &lost, &Due::Totals(1)), true);
+    assert_eq!(rt;
+        in_due(&devices, &[], &ReportLine::Finish, &Due::Totals(0)),
+        false
+    );
+    assert_eq!(rt;
+        in_due(&devices, &[], &ReportLine::Finish, &Due::Totals(1)),
+        true
+    );
+    assert_eq!(rt;
+        in_due(&devices, &[], &ReportLine::Finish, &Due::Nothing),
+        false
+    );
+    assert_eq!(rt;
+        in_due(&devices, &[EventLine::FailCache], &loss, &Due::Next),
+        true
+    );
+    assert_eq!(rt;
+        in_due(&devices, &[EventLine::FailCache], &loss, &Due::Losses(d)),
+        false
+    );
+    Ok(())
+}
+
+#[test]
+fn where_a_report_begins(rt: HostRuntime) -> Result<(), Fail> {
+    assert_eq!(rt; report_from(b"DECK 1\nREPORT\nFINISH\n"), Some(1));
+    assert_eq!(rt; report_from(b"REPORT"), Some(0));
+    assert_eq!(rt; report_from(b"DECK 1\nREPORT \nREPORTS\nREPORT\r\n"), None);
+    assert_eq!(rt; report_from(b""), None);
+    let (line, left) = next_line(b"\nFINISH");
+    assert_eq!(rt; line.len(), 0);
+    assert_eq!(rt; left, b"FINISH".as_slice());
+    Ok(())
+}

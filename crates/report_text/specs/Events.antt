@@ -1,0 +1,47 @@
+-- The lines of an event, in the order in which a report has them.
+use Rattle.std.specs.Prelude.{ℕ, ◌==◌, ◌&&◌, List, [], ◌∷◌, ◌++◌, Option, Some, None, if◌then◌else◌, map}
+use Rattle.ckd_types.specs.declared.channel.CommandEnd.{CommandEnd}
+use Rattle.report_text.specs.declared.event.Happened.{Happened}
+use Rattle.report_text.specs.declared.event.Happened.TheVariants as happened
+use Rattle.report_text.specs.declared.event.Loosed.{Loosed}
+use Rattle.report_text.specs.declared.event.ProgramOver.{ProgramOver}
+use Rattle.report_text.specs.declared.event.RunEvent.{RunEvent}
+use Rattle.report_text.specs.declared.line.ReportLine.{ReportLine}
+use Rattle.report_text.specs.declared.line.ReportLine.TheVariants as lines
+use Rattle.report_text.specs.Ends.{data_lines, end_line, sense_lines}
+
+-- a command's end, but for what is over with it
+abbrev pub ended_lines : ℕ → ℕ → ℕ → CommandEnd → List ReportLine
+ended_lines path device ordinal e = (lines.End (end_line path device ordinal e) ∷ []) ++ (data_lines e.sent ++ sense_lines e.sense)
+
+-- what is told first of what happened, and what last
+abbrev pub first_lines : Happened → List ReportLine
+first_lines (happened.Started path device answer) = lines.Start path device answer ∷ []
+first_lines (happened.Ended path device ordinal end) = ended_lines path device ordinal end
+first_lines (happened.Half path device track) = lines.Half path device track ∷ []
+first_lines (happened.Back device answer) = lines.Back device answer ∷ []
+first_lines (happened.StepIdle device) = lines.StepIdle device ∷ []
+first_lines (happened.RunIdle device) = lines.RunIdle device ∷ []
+first_lines (happened.Reset path device) = []
+first_lines (happened.Ordered order answer) = []
+
+abbrev pub last_lines : Happened → List ReportLine
+last_lines (happened.Reset path device) = lines.Reset path device ∷ []
+last_lines (happened.Ordered order answer) = lines.Order order answer ∷ []
+last_lines _ = []
+
+abbrev pub loosed_line : Loosed → ReportLine
+loosed_line l = lines.Loose l.device l.answer
+
+-- where there was a call
+abbrev pub io_lines : ℕ → ℕ → List ReportLine
+io_lines reads writes = if (reads == 0) && (writes == 0) then [] else lines.Io reads writes ∷ []
+
+abbrev pub program_over_lines : Option ProgramOver → List ReportLine
+program_over_lines None = []
+program_over_lines (Some o) = lines.Over o.path o.device o.ordinal o.how ∷ []
+
+abbrev pub event_lines : RunEvent → List ReportLine
+event_lines e =
+    first_lines e.happened.now
+    ++ (map loosed_line e.loosed.now ++ (io_lines e.reads e.writes ++ (program_over_lines e.over ++ last_lines e.happened.now)))

@@ -1,0 +1,146 @@
+ghost use Rattle.std.specs.Prelude.{◌≡◌, ◌++◌, OnOk, map};
+ghost use Rattle.report_text.specs.Events.{ended_lines, event_lines, first_lines, io_lines, last_lines, loosed_line, program_over_lines};
+
+use crate::{
+    BackAnswer, HowOver, LooseAnswer, Order, OrderAnswer, ReportLine, RunRecord, StartAnswer,
+};
+use ckd_types::{CommandEnd, DeviceNo, NoMemory, PathNo, TrackNo};
+
+/// What an event did, with its path and device; the end of a command has its program's ordinal.
+#[derive(Debug, Drop)]
+pub enum Happened {
+    Started(PathNo, DeviceNo, StartAnswer),
+    Ended(PathNo, DeviceNo, u16, CommandEnd),
+    /// The first part of a command's write.
+    Half(PathNo, DeviceNo, TrackNo),
+    Back(DeviceNo, BackAnswer),
+    StepIdle(DeviceNo),
+    RunIdle(DeviceNo),
+    Reset(PathNo, DeviceNo),
+    Ordered(Order, OrderAnswer),
+}
+
+/// What became of a device's tracks that were written by cache fast write.
+#[derive(Clone, Copy, Debug, PartialEq, Eq)]
+pub struct Loosed {
+    pub device: DeviceNo,
+    pub answer: LooseAnswer,
+}
+
+/// A path's program of that ordinal on the device is over.
+#[derive(Clone, Copy, Debug, PartialEq, Eq)]
+pub struct ProgramOver {
+    pub path: PathNo,
+    pub device: DeviceNo,
+    pub ordinal: u16,
+    pub how: HowOver,
+}
+
+/// An event: what it did, what became of loose tracks, its volume calls, and the program that is over with it. What
+/// a power loss does to each device is told before its order, as lines.
+#[derive(Clone, Copy)]
+pub struct RunEvent<'a> {
+    pub happened: &'a Happened,
+    pub loosed: &'a [Loosed],
+    pub reads: u64,
+    pub writes: u64,
+    pub over: Option<ProgramOver>,
+}
+
+impl RunRecord {
+    /// A command's end, but for what is over with it.
+    fn push_ended(
+        &mut self,
+        path: PathNo,
+        device: DeviceNo,
+        ordinal: u16,
+        end: &CommandEnd,
+    ) -> Result<(), NoMemory>
+        ensures { OnOk result (self.new ≡ self.old ++ ended_lines path device ordinal end.now) }
+    {
+        self.push_end_line(path, device, ordinal, end)?;
+        self.push_sent(&end.sent)?;
+        self.push_any_sense(&end.sense)?;
+        Ok(())
+    }
+
+    fn push_first(&mut self, happened: &Happened) -> Result<(), NoMemory>
+        ensures { OnOk result (self.new ≡ self.old ++ first_lines happened.now) }
+    {
+        match happened {
+            Happened::Started(path, device, answer) => {
+                self.push(ReportLine::Start(*path, *device, *answer))
+            }
+            Happened::Ended(path, device, ordinal, end) => {
+                self.push_ended(*path, *device, *ordinal, end)
+            }
+            Happened::Half(path, device, track) => {
+                self.push(ReportLine::Half(*path, *device, *track))
+            }
+            Happened::Back(device, answer) => self.push(ReportLine::Back(*device, *answer)),
+            Happened::StepIdle(device) => self.push(ReportLine::StepIdle(*device)),
+            Happened::RunIdle(device) => self.push(ReportLine::RunIdle(*device)),
+            Happened::Reset(_, _) | Happened::Ordered(_, _) => Ok(()),
+        }
+    }
+
+    fn push_last(&mut self, happened: &Happened) -> Result<(), NoMemory>
+        ensures { OnOk result (self.new ≡ self.old ++ last_lines happened.now) }
+    {
+        match happened {
+            Happened::Reset(path, device) => self.push(ReportLine::Reset(*path, *device)),
+            Happened::Ordered(order, answer) => self.push(ReportLine::Order(*order, *answer)),
+            Happened::Started(_, _, _)
+            | Happened::Ended(_, _, _, _)
+            | Happened::Half(_, _, _)
+            | Happened::Back(_, _)
+            | Happened::StepIdle(_)
+            | Happened::RunIdle(_) => Ok(()),
+        }
+    }
+
+    fn push_loosed(&mut self, loosed: &[Loosed]) -> Result<(), NoMemory>
+        ensures { OnOk result (self.new ≡ self.old ++ map loosed_line loosed.now) }
+    {
+        for one in loosed {
+            self.push(ReportLine::Loose(one.device, one.answer))?;
+        }
+        Ok(())
+    }
+
+    fn push_calls(&mut self, reads: u64, writes: u64) -> Result<(), NoMemory>
+        ensures { OnOk result (self.new ≡ self.old ++ io_lines reads writes) }
+    {
+        if reads == 0 && writes == 0 {
+            return Ok(());
+        }
+        self.push(ReportLine::Io { reads, writes })
+    }
+
+    fn push_program_over(&mut self, over: &Option<ProgramOver>) -> Result<(), NoMemory>
+        ensures { OnOk result (self.new ≡ self.old ++ program_over_lines over.now) }
+    {
+        match over {
+            Some(over) => self.push(ReportLine::Over(
+                over.path,
+                over.device,
+                over.ordinal,
+                over.how,
+            )),
+            None => Ok(()),
+        }
+    }
+
+    /// The lines of an event, in the order in which a report has them. What a record is after want of memory is not
+    /// said.
+    pub fn push_event(&mut self, event: &RunEvent) -> Result<(), NoMemory>
+        ensures { OnOk result (self.new ≡ self.old ++ event_lines event.now) }
+    {
+        self.push_first(event.happened)?;
+        self.push_loosed(event.loosed)?;
+        self.push_calls(event.reads, event.writes)?;
+        self.push_program_over(&event.over)?;
+        self.push_last(event.happened)?;
+        Ok(())
+    }
+}
