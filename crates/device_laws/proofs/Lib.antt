@@ -14,3 +14,4 @@ pub mod Notices
 pub mod LossEvents
 pub mod WaitingResets
 pub mod OpenProgram
+pub mod HistoryEnds
