@@ -15,3 +15,4 @@ pub mod LossEvents
 pub mod WaitingResets
 pub mod OpenProgram
 pub mod HistoryEnds
+pub mod HistoryCuts
