@@ -4,12 +4,13 @@ use Rattle.std.specs.Prelude.{◌||◌, IfSome, ⊤, if◌then◌else◌}
 use Rattle.std.proofs.lemmas.Bool.{cond_both, eq-eqb}
 use Rattle.std.proofs.lemmas.List.{append-nil}
 use Rattle.ckd_types.specs.declared.channel.Ccw.{Ccw}
+use Rattle.ckd_types.specs.Volume.{empty_volume}
 use Rattle.plain_defs.specs.declared.journal.How.TheVariants.{Cut}
 use Rattle.plain_defs.specs.declared.journal.Item.{Item}
 use Rattle.plain_defs.specs.declared.journal.Item.TheVariants as items
 use Rattle.plain_defs.specs.Effect.{behind_effect}
 use Rattle.plain_defs.specs.Entry.{ProgramEntry}
-use Rattle.plain_defs.specs.History.{OpenEntry, History, open_part, plain_of, state_by, entry_of, cut_by, reset, reset_in, put, lost_power, lost_power_in, resets_of, IsOpen, IsPlain}
+use Rattle.plain_defs.specs.History.{OpenEntry, History, open_part, plain_of, state_by, entry_of, cut_by, reset, reset_in, put, lost_power, lost_power_in, emptied, resets_of, IsOpen, IsPlain}
 use Rattle.plain_defs.specs.Journal.{Plans, program_of, replay, replay_item}
 use Rattle.plain_defs.specs.Legal.{MayEdit, next_edit, HasActs, IsLegalEntry, IsLegal, is_used, used_by, is_started}
 use Rattle.plain_defs.specs.Loose.{power_off}
@@ -83,7 +84,7 @@ module _ (plans : Plans) (empty : PlainState) (h : History) (plain : IsPlain pla
   open_by o running = subst (λ (r : Option OpenEntry). IfSome r (IsOpen plans s h.items)) running plain.at
 
   -- where nothing runs
-  idle_with : (x : Item) (running : h.running ≡ None) → IsLegal plans empty (h.items ++ x ∷ [])
+  pub idle_with : (x : Item) (running : h.running ≡ None) → IsLegal plans empty (h.items ++ x ∷ [])
       → IsPlain plans empty (record h { items = h.items ++ x ∷ [] })
   idle_with x running legal = record {
     legal = legal;
@@ -186,3 +187,46 @@ module _ (plans : Plans) (empty : PlainState) (h : History) (plain : IsPlain pla
       subst (λ (r : Option OpenEntry). IsPlain plans empty (reset_in h path more r)) (sym running)
       (cond_both (o.path == path) (cut_by h o more) (if is_used path false h.items then record h { waiting = put path h.waiting } else h)
       (λ (k : History). IsPlain plans empty k) (λ own. cut_plain o running more (may own) due) (λ other. by_other o path))
+
+  -- The plain device behind these where nothing runs
+
+  replay_one : (x : Item) → replay plans empty (h.items ++ x ∷ []) ≡ replay_item plans s x
+  replay_one x = replay-append plans empty h.items (x ∷ [])
+
+  pub idle_reset_state : h.running ≡ None → (path more : ℕ) → is_used path false h.items ≡ true
+      → plain_of plans empty (reset h path more) ≡ record s { paths = reset_path s.paths path }
+  idle_reset_state stands path more used =
+      ap (λ (r : Option OpenEntry). plain_of plans empty (reset_in h path more r)) stands
+      ∙ ap (λ (b : Bool). plain_of plans empty (cond b (record h { items = h.items ++ items.Reset path ∷ [] }) h)) used
+      ∙ ap (λ (r : Option OpenEntry). state_by plans (replay plans empty (h.items ++ items.Reset path ∷ [])) r) stands
+      ∙ replay_one (items.Reset path)
+
+  pub idle_power_state : h.running ≡ None → (more : ℕ) → is_started false h.items ≡ true
+      → plain_of plans empty (lost_power h more) ≡ power_off s
+  idle_power_state stands more started =
+      ap (λ (r : Option OpenEntry). plain_of plans empty (lost_power_in h more r)) stands
+      ∙ ap (λ (b : Bool). plain_of plans empty
+      (cond b (record { items = h.items ++ items.Power ∷ []; running = None; waiting = [] }) h)) started
+      ∙ replay_one items.Power
+
+  -- a reset that waits changes nothing yet
+  pub waiting_state : (o : OpenEntry) → h.running ≡ Some o → (path more : ℕ) → (o.path == path) ≡ false
+      → plain_of plans empty (reset h path more) ≡ plain_of plans empty h
+  waiting_state o running path more other =
+      ap (λ (r : Option OpenEntry). plain_of plans empty (reset_in h path more r)) running
+      ∙ ap (λ (b : Bool). plain_of plans empty
+      (cond b (cut_by h o more) (if is_used path false h.items then record h { waiting = put path h.waiting } else h))) other
+      ∙ by_used (is_used path false h.items) where
+    by_used : (b : Bool) → plain_of plans empty (cond b (record h { waiting = put path h.waiting }) h) ≡ plain_of plans empty h
+    by_used true = refl
+    by_used false = refl
+
+  -- a new volume, while nothing runs
+  pub emptied_plain : h.running ≡ None → IsPlain plans empty (emptied h)
+  emptied_plain stands = idle_with items.Fresh stands (legal_more plans empty [] h.items items.Fresh plain.legal tt)
+
+  pub emptied_state : h.running ≡ None
+      → plain_of plans empty (emptied h) ≡ record s { volume = empty_volume s.cylinders; loose = [] }
+  emptied_state stands =
+      ap (λ (r : Option OpenEntry). state_by plans (replay plans empty (h.items ++ items.Fresh ∷ [])) r) stands
+      ∙ replay_one items.Fresh

@@ -16,3 +16,4 @@ pub mod WaitingResets
 pub mod OpenProgram
 pub mod HistoryEnds
 pub mod HistoryCuts
+pub mod HistoryActs
