@@ -17,3 +17,4 @@ pub mod OpenProgram
 pub mod HistoryEnds
 pub mod HistoryCuts
 pub mod HistoryActs
+pub mod DueResets
