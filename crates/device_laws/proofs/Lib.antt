@@ -18,3 +18,4 @@ pub mod HistoryEnds
 pub mod HistoryCuts
 pub mod HistoryActs
 pub mod DueResets
+pub mod DeviceHistory

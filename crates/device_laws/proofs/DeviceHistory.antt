@@ -1,0 +1,97 @@
+-- A device meets what its history asks for: at a check of its command at hand, and at the start of a path's next program.
+use Rattle.std.proofs.Common.{◌≡◌, ◌≤◌, ◌<◌, ◌+◌, ◌-◌, ◌==◌, ℕ, zero, suc, List, Option, Some, None, Bool, true, false, not, length, cond, refl, arith, sym, ap, subst, ◌∙◌, inl, inr}
+use Rattle.std.specs.Prelude.{◌⊎◌, ◌&&◌, ◌||◌, IfSome, IsSome, count_by, if◌then◌else◌}
+use Rattle.std.specs.List.{list_all}
+use Rattle.std.proofs.lemmas.Bool.{cases_Bool, eqb-false}
+use Rattle.ckd_types.specs.declared.channel.Ccw.{Ccw}
+use Rattle.ckd_types.specs.declared.channel.CommandEnd.{CommandEnd}
+use Rattle.ckd_types.specs.declared.channel.Note.TheVariants.{Plain, Limit}
+use Rattle.ckd_types.specs.declared.paths.Owner.{Owner}
+use Rattle.ckd_types.specs.declared.sense.Sense.{Sense}
+use Rattle.ckd_types.specs.Ccw.{ccw_at}
+use Rattle.ckd_types.specs.Sense.{equipment_sense, data_check_sense}
+use Rattle.ckd_rules.specs.declared.stance.Stance.{Stance}
+use Rattle.ckd_rules.specs.Ending.{refused}
+use Rattle.ckd_rules.specs.Ends.{end_of, would_go_on, at_limit}
+use Rattle.ckd_chain.specs.declared.progress.Settled.{Settled}
+use Rattle.ckd_chain.specs.declared.progress.Settled.TheVariants.{Equipment, DataCheck}
+use Rattle.ckd_chain.specs.State.{ChainState}
+use Rattle.ckd_chain.specs.Steps.{index_of, end_with, settled_by, start_of, word_of}
+use Rattle.plain_defs.specs.History.{OpenEntry, History, open_part, is_path_of, state_by, started, IsOpen, IsPlain}
+use Rattle.plain_defs.specs.Journal.{Plans, planned, program_of, replay}
+use Rattle.plain_defs.specs.Legal.{MayStart, IsCheck, is_of_path}
+use Rattle.plain_defs.specs.PlainState.{PlainState, PathsState, is_admitted, owner_of, asks_for_group}
+use Rattle.plain_defs.proofs.HistoryLaws.{started_plain}
+use Rattle.device_defs.specs.declared.answers.StartFault.{StartFault}
+use Rattle.device_defs.specs.declared.answers.StartFault.TheVariants.{PlanDone}
+use Rattle.device_defs.specs.Device.{Device}
+use Rattle.device_defs.specs.Outcomes.{checks, turned}
+use Rattle.device_defs.specs.Start as S
+use Rattle.device_defs.specs.Start.{started_count, left, next_program, keeps_out, reserved_fault, idle_fault, running_fault, fault_by, start_fault, start}
+use Rattle.device_laws.proofs.HistoryEnds.{checked_plain}
+use Rattle.device_laws.proofs.WaitingResets.{AreDue}
+
+-- Equipment check and data check
+
+no_more : (a b c : Bool) → (a && false && b && c) ≡ false
+no_more true b c = refl
+no_more false b c = refl
+
+module _ (ccws : List Ccw) (i : ℕ) (z : Stance) (sense : Sense) where
+  abbrev check_end : CommandEnd
+  check_end = end_of i (ccw_at ccws i) (refused z (ccw_at ccws i) sense)
+
+  stops : would_go_on (ccw_at ccws i) (refused z (ccw_at ccws i) sense).ending ≡ false
+  stops = no_more _ true true
+
+  -- a command that is refused so ends with such a check
+  pub refused_is_check : (◌≡◌ {A = Option Sense} (Some sense) (Some equipment_sense)) ⊎ (◌≡◌ {A = Option Sense} (Some sense) (Some data_check_sense))
+      → IsCheck ccws check_end
+  refused_is_check is = record {
+    status = refl;
+    residual = refl;
+    sent = refl;
+    note = ap (λ (b : Bool). cond (b && at_limit (refused z (ccw_at ccws i) sense).stance) Limit Plain) stops;
+    sense = is;
+    over = ap (λ (b : Bool). not b || at_limit (refused z (ccw_at ccws i) sense).stance) stops;
+  }
+
+pub equipment_is_check : (chain : ChainState) → IsCheck chain.ccws (end_with chain (settled_by chain Equipment))
+equipment_is_check chain = refused_is_check chain.ccws (index_of chain.at.next) (start_of chain).stance equipment_sense (inl refl)
+
+pub data_check_is_check : (chain : ChainState) → IsCheck chain.ccws (end_with chain (settled_by chain DataCheck))
+data_check_is_check chain = refused_is_check chain.ccws (index_of chain.at.next) (start_of chain).stance data_check_sense (inr refl)
+
+-- the chain is where the running program goes on
+pub record IsAtHand (plans : Plans) (s : PlainState) (o : OpenEntry) (chain : ChainState) : Type 0 where
+  pub words : chain.ccws ≡ program_of plans o.path o.ordinal
+  pub next : chain.at.next ≡ (open_part plans s o).next
+
+index_is : (next : Option ℕ) → IsSome next → next ≡ Some (index_of next)
+index_is None some = absurd (no_some None refl some) where
+  no_some : (x : Option ℕ) → x ≡ None → IsSome x → ⊥
+  no_some None is some = cc
+  no_some (Some i) is some = cc
+index_is (Some i) some = refl
+
+module _ {F P H : Type 0} (empty : PlainState) (d : Device F P H) (plain : IsPlain d.plans empty d.history) where
+  module _ (due : AreDue d.history) (o : OpenEntry) (running : d.history.running ≡ Some o) (chain : ChainState)
+      (at_hand : IsAtHand d.plans (replay d.plans empty d.history.items) o chain) (path : ℕ) where
+    open_is : IsOpen d.plans (replay d.plans empty d.history.items) d.history.items o
+    open_is = subst (λ (r : Option OpenEntry). IfSome r (IsOpen d.plans (replay d.plans empty d.history.items) d.history.items))
+        running plain.at
+
+    next_is : (open_part d.plans (replay d.plans empty d.history.items) o).next ≡ Some (index_of chain.at.next)
+    next_is = sym at_hand.next ∙ index_is chain.at.next (subst (λ (n : Option ℕ). IsSome n) (sym at_hand.next) open_is.runs)
+
+    -- a device whose command at hand ends with equipment check has a plain history behind it
+    pub equipment_plain : IsPlain d.plans empty (turned d path (checks chain Equipment)).history
+    equipment_plain = checked_plain d.plans empty d.history plain.legal due o running open_is
+        (end_with chain (settled_by chain Equipment)) next_is
+        (subst (λ (l : List Ccw). IsCheck l (end_with chain (settled_by chain Equipment))) at_hand.words (equipment_is_check chain))
+
+    -- and with data check
+    pub data_check_plain : IsPlain d.plans empty (turned d path (checks chain DataCheck)).history
+    data_check_plain = checked_plain d.plans empty d.history plain.legal due o running open_is
+        (end_with chain (settled_by chain DataCheck)) next_is
+        (subst (λ (l : List Ccw). IsCheck l (end_with chain (settled_by chain DataCheck))) at_hand.words (data_check_is_check chain))
