@@ -95,3 +95,76 @@ module _ {F P H : Type 0} (empty : PlainState) (d : Device F P H) (plain : IsPla
     data_check_plain = checked_plain d.plans empty d.history plain.legal due o running open_is
         (end_with chain (settled_by chain DataCheck)) next_is
         (subst (λ (l : List Ccw). IsCheck l (end_with chain (settled_by chain DataCheck))) at_hand.words (data_check_is_check chain))
+
+-- A start
+
+not_false : (b : Bool) → not b ≡ false → b ≡ true
+not_false true is = refl
+not_false false is = absurd (cc)
+
+module _ {F P H : Type 0} (empty : PlainState) (d : Device F P H) (plain : IsPlain d.plans empty d.history) (path : ℕ)
+    (least : 1 ≤ path) (most : path ≤ 4) (paths_are : d.paths ≡ (replay d.plans empty d.history.items).paths) where
+  module _ (stands : d.history.running ≡ None) (some : (left d path == 0) ≡ false)
+      (admitted : is_admitted d.paths path (next_program d path) ≡ true) where
+    ordinal_is : started_count d.history path + 1 ≡ count_by (is_of_path path) d.history.items + 1
+    ordinal_is =
+        let none : started_count d.history path ≡ count_by (is_of_path path) d.history.items + 0 =
+            ap (λ (r : Option OpenEntry). count_by (is_of_path path) d.history.items + (if is_path_of r path then 1 else 0)) stands in
+        omega (arith, none)
+
+    in_plan : started_count d.history path + 1 ≤ length (planned d.plans path)
+    in_plan = from_left (eqb-false (left d path) 0 some) where
+      from_left : (length (planned d.plans path) - started_count d.history path ≡ 0 → ⊥)
+          → started_count d.history path + 1 ≤ length (planned d.plans path)
+      from_left apart = omega (arith, apart)
+
+    may : MayStart d.plans (replay d.plans empty d.history.items) d.history.items path (started_count d.history path + 1)
+    may = record {
+      least = least;
+      most = most;
+      in_plan = in_plan;
+      ordinal_is = ordinal_is;
+      admitted = subst (λ (x : PathsState). is_admitted x path (program_of d.plans path (started_count d.history path + 1)) ≡ true)
+          paths_are admitted;
+    }
+
+    begins : IsPlain d.plans empty (started d.history path (started_count d.history path + 1))
+    begins = started_plain d.plans empty d.history plain path (started_count d.history path + 1) may
+
+  -- nobody is kept out of a device that nobody holds
+  held_by_none : (owner : Option Owner) → d.paths.owner ≡ owner → keeps_out d path ≡ true → reserved_fault d owner ≡ None → ⊥
+  held_by_none (Some owner) here out is = cc
+  held_by_none None here out is =
+      let free : is_admitted d.paths path (next_program d path) ≡ true =
+          ap (λ (x : Option Owner). is_admitted (record d.paths { owner = x }) path (next_program d path)) here in
+      let kept : not true ≡ true = subst (λ (b : Bool). not b ≡ true) free out in cc
+
+  by_out : d.history.running ≡ None → (left d path == 0) ≡ false → (keeps_out d path ≡ true) ⊎ (keeps_out d path ≡ false)
+      → cond (keeps_out d path) (reserved_fault d d.paths.owner) None ≡ None
+      → IsPlain d.plans empty (started d.history path (started_count d.history path + 1))
+  by_out stands some (inl out) is = absurd (held_by_none d.paths.owner refl out
+      (subst (λ (b : Bool). cond b (reserved_fault d d.paths.owner) None ≡ None) out is))
+  by_out stands some (inr free) is = begins stands some (not_false (is_admitted d.paths path (next_program d path)) free)
+
+  by_left : d.history.running ≡ None → ((left d path == 0) ≡ true) ⊎ ((left d path == 0) ≡ false) → idle_fault d path ≡ None
+      → IsPlain d.plans empty (started d.history path (started_count d.history path + 1))
+  by_left stands (inl none) is =
+      let done : ◌≡◌ {A = Option StartFault} (Some PlanDone) None = subst (λ (b : Bool). cond b (Some PlanDone)
+      (cond (keeps_out d path) (reserved_fault d d.paths.owner) None) ≡ None) none is in absurd cc
+  by_left stands (inr some) is = by_out stands some (cases_Bool (keeps_out d path))
+      (subst (λ (b : Bool). cond b (Some PlanDone) (cond (keeps_out d path) (reserved_fault d d.paths.owner) None) ≡ None) some is)
+
+  by_running : (r : Option OpenEntry) → d.history.running ≡ r → running_fault d path r ≡ None
+      → IsPlain d.plans empty (started d.history path (started_count d.history path + 1))
+  by_running (Some o) here is = absurd cc
+  by_running None here is = by_left here (cases_Bool (left d path == 0)) is
+
+  by_loan : (lent : Option ℕ) → fault_by d path lent ≡ None
+      → IsPlain d.plans empty (started d.history path (started_count d.history path + 1))
+  by_loan (Some of) is = absurd cc
+  by_loan None is = by_running d.history.running refl is
+
+  -- the next program of a path starts where nothing is against it
+  pub start_plain : start_fault d path ≡ None → IsPlain d.plans empty (start d path).history
+  unfolding S.start_fault S.start
+  start_plain is = by_loan d.store.lent is

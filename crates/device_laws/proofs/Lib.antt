@@ -19,3 +19,4 @@ pub mod HistoryCuts
 pub mod HistoryActs
 pub mod DueResets
 pub mod DeviceHistory
+pub mod DeviceCuts
