@@ -20,3 +20,4 @@ pub mod HistoryActs
 pub mod DueResets
 pub mod DeviceHistory
 pub mod DeviceCuts
+pub mod DeviceEnds

@@ -1,0 +1,107 @@
+-- A device's history behind its command at hand.
+use Rattle.std.proofs.Common.{◌≡◌, ◌++◌, ◌∷◌, ℕ, List, [], Option, Some, None, Bool, true, false, refl, sym, ap, subst, ◌∙◌}
+use Rattle.std.specs.Prelude.{IfSome, if◌then◌else◌}
+use Rattle.std.proofs.lemmas.Bool.{cond_both}
+use Rattle.ckd_types.specs.declared.channel.CommandEnd.{CommandEnd}
+use Rattle.ckd_types.specs.Ccw.{ccw_at}
+use Rattle.ckd_types.specs.Parameters.{is_provisional}
+use Rattle.ckd_rules.specs.declared.stance.Stance.{Stance}
+use Rattle.ckd_rules.specs.Ends.{end_of}
+use Rattle.ckd_rules.specs.Walk.{TrackEdit}
+use Rattle.ckd_chain.specs.declared.progress.Settled.TheVariants.{Equipment, DataCheck}
+use Rattle.ckd_chain.specs.State.{ChainState}
+use Rattle.ckd_chain.specs.Steps.{end_with, settled_by}
+use Rattle.plain_defs.specs.declared.journal.Act.{Act}
+use Rattle.plain_defs.specs.declared.journal.Act.TheVariants.{Loosen}
+use Rattle.plain_defs.specs.History.{OpenEntry, History, open_part, plain_of, acted, ended, IsOpen, IsPlain}
+use Rattle.plain_defs.specs.Journal.{program_of, replay}
+use Rattle.plain_defs.specs.Legal.{AreActs, MayEdit, track_of, next_edit}
+use Rattle.plain_defs.specs.Loose.{is_loose}
+use Rattle.plain_defs.specs.PlainState.{PlainState}
+use Rattle.device_defs.specs.Device.{Device, all_acted, with_store}
+use Rattle.device_defs.specs.Outcomes.{ends_with, checks, turned, gone_on, program_over, sense_kept}
+use Rattle.device_defs.specs.Store.{HalfWrite, Store}
+use Rattle.device_defs.specs.Cutting.{counts_one_by, is_of_command}
+use Rattle.device_laws.proofs.DeviceCuts.{HasHistory, StandsPlainly, stands_by}
+use Rattle.device_laws.proofs.DeviceHistory.{IsAtHand, equipment_plain, data_check_plain}
+use Rattle.device_laws.proofs.DueResets.{ended_due, checked_due, acted_due, all_acted_due}
+use Rattle.device_laws.proofs.HistoryActs.{all_acted_plain, loosened_plain}
+use Rattle.device_laws.proofs.HistoryCuts.{MayTake}
+use Rattle.device_laws.proofs.HistoryEnds.{edited_next, effect_at, going_ends_plain}
+use Rattle.device_laws.proofs.OpenProgram.{going_of_open}
+
+all_acted-append : (h : History) (acts : List Act) (act : Act) → all_acted h (acts ++ act ∷ []) ≡ acted (all_acted h acts) act
+all_acted-append h [] act = refl
+all_acted-append h (x ∷ acts) act = all_acted-append (acted h x) acts act
+
+may_edit_firm : (p : PlainState) (z : Stance) (edit : Option TrackEdit)
+    → ((t : ℕ) → track_of edit ≡ Some t → is_loose p t ≡ false) → MayEdit p z edit
+may_edit_firm p z (Some e) firm = λ loose. absurd (let both : true ≡ false = sym loose ∙ firm e.track refl in cc)
+may_edit_firm p z None firm = tt
+
+module _ {F P H : Type 0} (empty : PlainState) where
+  -- an open half write of the command at hand may be cut where its track isn't loose
+  pub firm_may_be_cut : (d : Device F P H) (o : OpenEntry) (half : Option (HalfWrite H))
+      → ((t : ℕ) → edited_next d.plans (replay d.plans empty d.history.items) d.history.items o ≡ Some t
+      → is_loose (open_part d.plans (replay d.plans empty d.history.items) o).state t ≡ false)
+      → MayTake d.plans (replay d.plans empty d.history.items) o (counts_one_by half)
+  firm_may_be_cut d o None firm = tt
+  firm_may_be_cut d o (Some w) firm =
+      cond_both (is_of_command w.origin) 1 0 (λ (n : ℕ). MayTake d.plans (replay d.plans empty d.history.items) o n)
+      (λ own. may_edit_firm (open_part d.plans (replay d.plans empty d.history.items) o).state
+      (open_part d.plans (replay d.plans empty d.history.items) o).stance
+      (next_edit o.path (program_of d.plans o.path o.ordinal) (open_part d.plans (replay d.plans empty d.history.items) o)) firm)
+      (λ other. tt)
+
+  -- the acts of an event
+  pub acts_stand : (d : Device F P H) (s : Store F P H) → StandsPlainly empty d
+      → AreActs (plain_of d.plans empty d.history) None s.acts → StandsPlainly empty (with_store d s)
+  acts_stand d s stands are = record {
+    plain = all_acted_plain d.plans empty s.acts d.history stands.plain are;
+    due = all_acted_due s.acts d.history stands.due;
+  }
+
+  module _ (d : Device F P H) (path : ℕ) (chain : ChainState) where
+    ends_tell : (e : CommandEnd) → HasHistory d (ended d.history e) (turned d path (ends_with chain e))
+    ends_tell e =
+        let z = sense_kept d path e in
+        cond_both e.over (program_over z (ended z.history e)) (record z { chain = Some chain; history = ended z.history e })
+        (λ (y : Device F P H). HasHistory d (ended d.history e) y) (λ over. record { plans = refl; history = refl })
+        (λ more. record { plans = refl; history = refl })
+
+    module _ (stands : StandsPlainly empty d) (o : OpenEntry) (running : d.history.running ≡ Some o) where
+      -- the command at hand ends with equipment check
+      pub equipment_stands : IsAtHand d.plans (replay d.plans empty d.history.items) o chain
+          → StandsPlainly empty (turned d path (checks chain Equipment))
+      equipment_stands at_hand = record {
+        plain = equipment_plain empty d stands.plain stands.due o running chain at_hand path;
+        due = checked_due d.history stands.due (end_with chain (settled_by chain Equipment));
+      }
+
+      -- with data check
+      pub data_check_stands : IsAtHand d.plans (replay d.plans empty d.history.items) o chain
+          → StandsPlainly empty (turned d path (checks chain DataCheck))
+      data_check_stands at_hand = record {
+        plain = data_check_plain empty d stands.plain stands.due o running chain at_hand path;
+        due = checked_due d.history stands.due (end_with chain (settled_by chain DataCheck));
+      }
+
+      module _ (i : ℕ) (next : (open_part d.plans (replay d.plans empty d.history.items) o).next ≡ Some i) (e : CommandEnd)
+          (end_is : e ≡ end_of i (ccw_at (program_of d.plans o.path o.ordinal) i)
+          (effect_at d.plans (replay d.plans empty d.history.items) d.history.items o i).outcome) where
+        ends_plain : MayEdit (open_part d.plans (replay d.plans empty d.history.items) o).state
+            (open_part d.plans (replay d.plans empty d.history.items) o).stance
+            (effect_at d.plans (replay d.plans empty d.history.items) d.history.items o i).edit → IsPlain d.plans empty (ended d.history e)
+        ends_plain may = going_ends_plain d.plans empty d.history stands.plain.legal stands.due o running
+            (going_of_open d.plans (replay d.plans empty d.history.items) d.history.items o
+            (edited_next d.plans (replay d.plans empty d.history.items) d.history.items o)
+            (subst (λ (r : Option OpenEntry). IfSome r (IsOpen d.plans (replay d.plans empty d.history.items) d.history.items))
+            running stands.plain.at)) i next e end_is may
+
+        -- it ends as on the plain device
+        pub ends_stand : MayEdit (open_part d.plans (replay d.plans empty d.history.items) o).state
+            (open_part d.plans (replay d.plans empty d.history.items) o).stance
+            (effect_at d.plans (replay d.plans empty d.history.items) d.history.items o i).edit
+            → StandsPlainly empty (turned d path (ends_with chain e))
+        ends_stand may = stands_by empty d (ended d.history e) (turned d path (ends_with chain e)) (ends_tell e) (ends_plain may)
+            (ended_due d.history stands.due e)
