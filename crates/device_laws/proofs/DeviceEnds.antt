@@ -105,3 +105,30 @@ module _ {F P H : Type 0} (empty : PlainState) where
             → StandsPlainly empty (turned d path (ends_with chain e))
         ends_stand may = stands_by empty d (ended d.history e) (turned d path (ends_with chain e)) (ends_tell e) (ends_plain may)
             (ended_due d.history stands.due e)
+
+  -- A command of cache fast write whose track becomes loose, directly before its end
+
+  module _ (d : Device F P H) (path : ℕ) (chain : ChainState) (stands : StandsPlainly empty d) (s : Store F P H) (acts : List Act) (t : ℕ)
+      (acts_are : s.acts ≡ acts ++ Loosen t ∷ []) (are : AreActs (plain_of d.plans empty d.history) None acts) where
+    abbrev before : History
+    before = all_acted d.history acts
+
+    history_is : (with_store d s).history ≡ acted (all_acted d.history acts) (Loosen t)
+    history_is = ap (λ (l : List Act). all_acted d.history l) acts_are ∙ all_acted-append d.history acts (Loosen t)
+
+    module _ (o : OpenEntry) (running : before.running ≡ Some o)
+        (firm : is_loose (open_part d.plans (replay d.plans empty before.items) o).state t ≡ false)
+        (edits : edited_next d.plans (replay d.plans empty before.items) before.items o ≡ Some t)
+        (i : ℕ) (next : (open_part d.plans (replay d.plans empty before.items) o).next ≡ Some i) (e : CommandEnd)
+        (end_is : e ≡ end_of i (ccw_at (program_of d.plans o.path o.ordinal) i)
+        (effect_at d.plans (replay d.plans empty before.items) before.items o i).outcome)
+        (provisional : is_provisional (open_part d.plans (replay d.plans empty before.items) o).stance.extent ≡ true) where
+      loosened_before : IsPlain d.plans empty (ended (acted before (Loosen t)) e)
+      loosened_before = loosened_plain d.plans empty before (all_acted_plain d.plans empty acts d.history stands.plain are)
+          (all_acted_due acts d.history stands.due) o running t firm edits i next e end_is provisional
+
+      pub loosening_stands : StandsPlainly empty (turned (with_store d s) path (ends_with chain e))
+      loosening_stands = stands_by empty (with_store d s) (ended (with_store d s).history e) (turned (with_store d s) path (ends_with chain e))
+          (ends_tell (with_store d s) path chain e)
+          (subst (λ (k : History). IsPlain d.plans empty (ended k e)) (sym history_is) loosened_before)
+          (ended_due (with_store d s).history (all_acted_due s.acts d.history stands.due) e)

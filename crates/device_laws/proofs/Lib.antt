@@ -21,3 +21,4 @@ pub mod DueResets
 pub mod DeviceHistory
 pub mod DeviceCuts
 pub mod DeviceEnds
+pub mod ChainAtHand
