@@ -14,9 +14,9 @@ use Rattle.plain_defs.specs.declared.journal.Item.TheVariants as items
 use Rattle.plain_defs.specs.Effect.{effect_on, behind_effect}
 use Rattle.plain_defs.specs.History.{OpenEntry, History, open_part, plain_of, state_by, acted, acted_in, ended, IsOpen, IsPlain}
 use Rattle.plain_defs.specs.Journal.{Plans, program_of, replay}
-use Rattle.plain_defs.specs.Legal.{AreActs, MayEdit, edit_at, track_of, next_edit}
-use Rattle.plain_defs.specs.Loose.{is_loose, act_done}
-use Rattle.plain_defs.specs.PlainState.{PlainState}
+use Rattle.plain_defs.specs.Legal.{AreActs, IsSomeLoose, MayEdit, edit_at, track_of, next_edit}
+use Rattle.plain_defs.specs.Loose.{is_loose, is_loose_in, act_done}
+use Rattle.plain_defs.specs.PlainState.{LooseTrack, PlainState}
 use Rattle.plain_defs.specs.Program.{Part, acts_done, with_act}
 use Rattle.plain_defs.proofs.JournalLaws.{legal_more, replay-append}
 use Rattle.device_defs.specs.Device.{all_acted}
@@ -88,6 +88,20 @@ module _ (plans : Plans) (empty : PlainState) where
       all_acted_state acts (acted h act) (acted_plain h plain act (acts_first (plain_of plans empty h) act acts are))
       (subst (λ (s : PlainState). AreActs s None acts) (sym (acted_state h plain act)) (acts_rest (plain_of plans empty h) act acts are))
       ∙ ap (λ (s : PlainState). acts_done s acts) (acted_state h plain act)
+
+some_loose : (loose : List LooseTrack) (t : ℕ) → is_loose_in loose t ≡ true → IsSomeLoose loose
+some_loose [] t is = absurd (cc)
+some_loose (l ∷ loose) t is = tt
+
+module _ (plans : Plans) (empty : PlainState) (h : History) (plain : IsPlain plans empty h) (t : ℕ)
+    (loose : is_loose (plain_of plans empty h) t ≡ true) where
+  -- a loose track becomes firm
+  pub hardened_plain : IsPlain plans empty (acted h (Harden t))
+  hardened_plain = acted_plain plans empty h plain (Harden t) (loose, tt)
+
+  -- the data of cache fast write are lost, where a track is loose
+  pub loss_plain : IsPlain plans empty (acted h CfwLost)
+  loss_plain = acted_plain plans empty h plain CfwLost (some_loose (plain_of plans empty h).loose t loose, tt)
 
 -- A track that becomes loose
 

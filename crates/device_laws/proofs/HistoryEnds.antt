@@ -1,6 +1,6 @@
 -- The end of a running program's command keeps a device's history plain, whatever resets wait for it.
 use Rattle.std.proofs.Common.{◌≡◌, ◌≤◌, ◌<◌, ◌+◌, ◌-◌, ℕ, suc, List, [], ◌∷◌, ◌++◌, Option, Some, None, Bool, true, false, length, cond, refl, arith, sym, ap, subst, ◌∙◌, append_assoc, inl, inr}
-use Rattle.std.specs.Prelude.{◌⊎◌, IsSome}
+use Rattle.std.specs.Prelude.{◌⊎◌, IsSome, IfSome}
 use Rattle.std.proofs.lemmas.Bool.{cases_lt}
 use Rattle.std.proofs.lemmas.List.{length-append}
 use Rattle.ckd_types.specs.declared.channel.Ccw.{Ccw}
@@ -23,7 +23,7 @@ use Rattle.plain_defs.specs.Program.{Part, acts_at, stepped, stepped_at, ended_w
 use Rattle.plain_defs.proofs.JournalLaws.{legal_more, replay-append}
 use Rattle.plain_defs.proofs.PartLemmas.{acted_nothing, part_more}
 use Rattle.device_defs.specs.Device.{all_reset}
-use Rattle.device_laws.proofs.OpenProgram.{IsGoing, no_acts, order_on}
+use Rattle.device_laws.proofs.OpenProgram.{IsGoing, going_of_open, no_acts, order_on}
 use Rattle.device_laws.proofs.WaitingResets.{AreDue, resets_follow, used_behind_program, replay_resets}
 
 abbrev pub all_reset_in : PlainState → List ℕ → PlainState
@@ -241,3 +241,25 @@ module _ (plans : Plans) (empty : PlainState) (h : History) (legal : IsLegal pla
         ∙ ap (λ (b : Bool). plain_of plans empty (cond b (closed h (with_end o e) Full) (record h { running = Some (with_end o e) }))) over
         ∙ closed_state plans empty h (with_end o e) Full
         ∙ ap (λ (x : Part). all_reset_in x.state h.waiting) at_end
+
+-- The same of a history that is plain
+
+module _ (plans : Plans) (empty : PlainState) (h : History) (plain : IsPlain plans empty h) (due : AreDue h)
+    (o : OpenEntry) (running : h.running ≡ Some o) where
+  pub running_is_open : IsOpen plans (replay plans empty h.items) h.items o
+  running_is_open = subst (λ (r : Option OpenEntry). IfSome r (IsOpen plans (replay plans empty h.items) h.items)) running plain.at
+
+  -- a check of the next command
+  pub check_keeps_plain : (e : CommandEnd) → (open_part plans (replay plans empty h.items) o).next ≡ Some e.index
+      → IsCheck (program_of plans o.path o.ordinal) e → IsPlain plans empty (checked h e)
+  check_keeps_plain e next check = checked_plain plans empty h plain.legal due o running running_is_open e next check
+
+  -- an end as on the plain device
+  pub end_keeps_plain : (i : ℕ) → (open_part plans (replay plans empty h.items) o).next ≡ Some i → (e : CommandEnd)
+      → e ≡ end_of i (ccw_at (program_of plans o.path o.ordinal) i) (effect_at plans (replay plans empty h.items) h.items o i).outcome
+      → MayEdit (open_part plans (replay plans empty h.items) o).state (open_part plans (replay plans empty h.items) o).stance
+      (effect_at plans (replay plans empty h.items) h.items o i).edit
+      → IsPlain plans empty (ended h e)
+  end_keeps_plain i next e end_is may = going_ends_plain plans empty h plain.legal due o running
+      (going_of_open plans (replay plans empty h.items) h.items o (edited_next plans (replay plans empty h.items) h.items o)
+      running_is_open) i next e end_is may
