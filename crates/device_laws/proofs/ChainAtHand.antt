@@ -1,5 +1,5 @@
 -- The chain of a running program is where its history goes on: from its start on, behind each act and each end.
-use Rattle.std.proofs.Common.{◌≡◌, ◌++◌, ◌∷◌, ℕ, suc, List, [], Option, Some, None, length, refl, sym, ap, subst, ◌∙◌}
+use Rattle.std.proofs.Common.{◌≡◌, ℕ, List, [], Option, Some, None, refl, sym, ap, ◌∙◌}
 use Rattle.ckd_types.specs.declared.channel.Ccw.{Ccw}
 use Rattle.ckd_types.specs.declared.channel.CommandEnd.{CommandEnd}
 use Rattle.ckd_types.specs.Fixed.{Fixed}
@@ -10,7 +10,7 @@ use Rattle.ckd_chain.specs.State.{ChainState}
 use Rattle.ckd_chain.specs.Steps.{begun_chain, index_of, behind, opened, opened_by, again_from}
 use Rattle.plain_defs.specs.declared.journal.Act.{Act}
 use Rattle.plain_defs.specs.declared.journal.Item.{Item}
-use Rattle.plain_defs.specs.History.{OpenEntry, open_part, with_end, IsOpen}
+use Rattle.plain_defs.specs.History.{OpenEntry, with_end, IsOpen}
 use Rattle.plain_defs.specs.Journal.{Plans, program_of}
 use Rattle.plain_defs.specs.PlainState.{PlainState}
 use Rattle.plain_defs.specs.Program.{Part, part_of}

@@ -1,14 +1,13 @@
 -- A device's history behind a reset and behind a loss of power, whatever is answered.
-use Rattle.std.proofs.Common.{◌≡◌, ◌==◌, ℕ, List, [], ◌∷◌, ◌++◌, Option, Some, None, Bool, true, false, cond, refl, sym, ap, subst, ◌∙◌}
+use Rattle.std.proofs.Common.{◌≡◌, ◌==◌, ℕ, [], ◌∷◌, ◌++◌, Option, Some, None, Bool, false, cond, refl, sym, ap, subst, ◌∙◌}
 use Rattle.std.specs.Prelude.{◌||◌, ⊤, if◌then◌else◌}
 use Rattle.std.proofs.lemmas.Bool.{cond_both}
 use Rattle.plain_defs.specs.declared.journal.Item.TheVariants as items
-use Rattle.plain_defs.specs.History.{OpenEntry, History, is_path_of, has_used, cut_by, put, reset as history_reset, reset_in, lost_power, emptied, IsPlain}
+use Rattle.plain_defs.specs.History.{OpenEntry, History, is_path_of, has_used, cut_by, put, reset as history_reset, reset_in, lost_power, IsPlain}
 use Rattle.plain_defs.specs.Journal.{Plans, replay}
 use Rattle.plain_defs.specs.Legal.{is_used}
 use Rattle.plain_defs.specs.PlainState.{PlainState, reset_path}
-use Rattle.track_image.specs.Image.{Image}
-use Rattle.device_outside.specs.Interaction.{Interaction, Done, Try, Ask, Read, Write, Tell, and_then}
+use Rattle.device_outside.specs.Interaction.{Interaction, Done, Try, Ask, Read, Write, Tell}
 use Rattle.device_defs.specs.Contents.{Contents}
 use Rattle.device_defs.specs.Cutting as K
 use Rattle.device_defs.specs.Cutting.{counts_one_by, half_cut, reset_noted, path_cut, reset_by, powered_off}
@@ -66,8 +65,8 @@ other_same : (h : History) (o : OpenEntry) → h.running ≡ Some o → (path : 
 other_same h o running path other m n =
     ap (λ (r : Option OpenEntry). reset_in h path m r) running ∙ waits m ∙ sym (waits n)
     ∙ sym (ap (λ (r : Option OpenEntry). reset_in h path n r) running) where
-  waits : (k : ℕ) → reset_in h path k (Some o) ≡ (if is_used path false h.items then record h { waiting = put path h.waiting } else h)
-  waits k = ap (λ (b : Bool). cond b (cut_by h o k) (if is_used path false h.items then record h { waiting = put path h.waiting } else h)) other
+      waits : (k : ℕ) → reset_in h path k (Some o) ≡ (if is_used path false h.items then record h { waiting = put path h.waiting } else h)
+      waits k = ap (λ (b : Bool). cond b (cut_by h o k) (if is_used path false h.items then record h { waiting = put path h.waiting } else h)) other
 
 idle_same : (h : History) → h.running ≡ None → (path m n : ℕ) → history_reset h path m ≡ history_reset h path n
 idle_same h stands path m n =
@@ -75,10 +74,10 @@ idle_same h stands path m n =
 
 unused_same : (h : History) → h.running ≡ None → (path n : ℕ) → has_used h path ≡ false → h ≡ history_reset h path n
 unused_same h stands path n unused = sym (
-  ap (λ (r : Option OpenEntry). reset_in h path n r) stands
-  ∙ ap (λ (b : Bool). cond b (record h { items = h.items ++ items.Reset path ∷ [] }) h)
-  (sym (ap (λ (r : Option OpenEntry). is_path_of r path || is_used path false h.items) stands) ∙ unused)
-)
+    ap (λ (r : Option OpenEntry). reset_in h path n r) stands
+    ∙ ap (λ (b : Bool). cond b (record h { items = h.items ++ items.Reset path ∷ [] }) h)
+    (sym (ap (λ (r : Option OpenEntry). is_path_of r path || is_used path false h.items) stands) ∙ unused)
+    )
 
 module _ {F P H R : Type 0} (c : Contents F P H R) where
   module _ (d : Device F P H) (path : ℕ) where

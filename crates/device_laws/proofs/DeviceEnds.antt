@@ -1,6 +1,6 @@
 -- A device's history behind its command at hand.
-use Rattle.std.proofs.Common.{◌≡◌, ◌++◌, ◌∷◌, ℕ, List, [], Option, Some, None, Bool, true, false, refl, sym, ap, subst, ◌∙◌}
-use Rattle.std.specs.Prelude.{IfSome, if◌then◌else◌}
+use Rattle.std.proofs.Common.{◌≡◌, ◌++◌, ◌∷◌, ℕ, List, [], Option, Some, None, true, false, refl, sym, ap, subst, ◌∙◌}
+use Rattle.std.specs.Prelude.{IfSome}
 use Rattle.std.proofs.lemmas.Bool.{cond_both}
 use Rattle.ckd_types.specs.declared.channel.CommandEnd.{CommandEnd}
 use Rattle.ckd_types.specs.Ccw.{ccw_at}
@@ -19,12 +19,12 @@ use Rattle.plain_defs.specs.Legal.{AreActs, MayEdit, track_of, next_edit}
 use Rattle.plain_defs.specs.Loose.{is_loose}
 use Rattle.plain_defs.specs.PlainState.{PlainState}
 use Rattle.device_defs.specs.Device.{Device, all_acted, with_store}
-use Rattle.device_defs.specs.Outcomes.{ends_with, checks, turned, gone_on, program_over, sense_kept}
+use Rattle.device_defs.specs.Outcomes.{ends_with, checks, turned, program_over, sense_kept}
 use Rattle.device_defs.specs.Store.{HalfWrite, Store}
 use Rattle.device_defs.specs.Cutting.{counts_one_by, is_of_command}
 use Rattle.device_laws.proofs.DeviceCuts.{HasHistory, StandsPlainly, stands_by}
 use Rattle.device_laws.proofs.DeviceHistory.{IsAtHand, equipment_plain, data_check_plain}
-use Rattle.device_laws.proofs.DueResets.{ended_due, checked_due, acted_due, all_acted_due}
+use Rattle.device_laws.proofs.DueResets.{ended_due, checked_due, all_acted_due}
 use Rattle.device_laws.proofs.HistoryActs.{all_acted_plain, loosened_plain}
 use Rattle.device_laws.proofs.HistoryCuts.{MayTake}
 use Rattle.device_laws.proofs.HistoryEnds.{edited_next, effect_at, going_ends_plain}

@@ -1,7 +1,31 @@
 -- A device meets what its history asks for: at a check of its command at hand, and at the start of a path's next program.
-use Rattle.std.proofs.Common.{◌≡◌, ◌≤◌, ◌<◌, ◌+◌, ◌-◌, ◌==◌, ℕ, zero, suc, List, Option, Some, None, Bool, true, false, not, length, cond, refl, arith, sym, ap, subst, ◌∙◌, inl, inr}
+use Rattle.std.proofs.Common.{
+  ◌≡◌,
+  ◌≤◌,
+  ◌+◌,
+  ◌-◌,
+  ◌==◌,
+  ℕ,
+  List,
+  Option,
+  Some,
+  None,
+  Bool,
+  true,
+  false,
+  not,
+  length,
+  cond,
+  refl,
+  arith,
+  sym,
+  ap,
+  subst,
+  ◌∙◌,
+  inl,
+  inr,
+}
 use Rattle.std.specs.Prelude.{◌⊎◌, ◌&&◌, ◌||◌, IfSome, IsSome, count_by, if◌then◌else◌}
-use Rattle.std.specs.List.{list_all}
 use Rattle.std.proofs.lemmas.Bool.{cases_Bool, eqb-false}
 use Rattle.ckd_types.specs.declared.channel.Ccw.{Ccw}
 use Rattle.ckd_types.specs.declared.channel.CommandEnd.{CommandEnd}
@@ -13,14 +37,13 @@ use Rattle.ckd_types.specs.Sense.{equipment_sense, data_check_sense}
 use Rattle.ckd_rules.specs.declared.stance.Stance.{Stance}
 use Rattle.ckd_rules.specs.Ending.{refused}
 use Rattle.ckd_rules.specs.Ends.{end_of, would_go_on, at_limit}
-use Rattle.ckd_chain.specs.declared.progress.Settled.{Settled}
 use Rattle.ckd_chain.specs.declared.progress.Settled.TheVariants.{Equipment, DataCheck}
 use Rattle.ckd_chain.specs.State.{ChainState}
-use Rattle.ckd_chain.specs.Steps.{index_of, end_with, settled_by, start_of, word_of}
-use Rattle.plain_defs.specs.History.{OpenEntry, History, open_part, is_path_of, state_by, started, IsOpen, IsPlain}
+use Rattle.ckd_chain.specs.Steps.{index_of, end_with, settled_by, start_of}
+use Rattle.plain_defs.specs.History.{OpenEntry, open_part, is_path_of, started, IsOpen, IsPlain}
 use Rattle.plain_defs.specs.Journal.{Plans, planned, program_of, replay}
 use Rattle.plain_defs.specs.Legal.{MayStart, IsCheck, is_of_path}
-use Rattle.plain_defs.specs.PlainState.{PlainState, PathsState, is_admitted, owner_of, asks_for_group}
+use Rattle.plain_defs.specs.PlainState.{PlainState, PathsState, is_admitted}
 use Rattle.plain_defs.proofs.HistoryLaws.{started_plain}
 use Rattle.device_defs.specs.declared.answers.StartFault.{StartFault}
 use Rattle.device_defs.specs.declared.answers.StartFault.TheVariants.{PlanDone}
@@ -45,7 +68,8 @@ module _ (ccws : List Ccw) (i : ℕ) (z : Stance) (sense : Sense) where
   stops = no_more _ true true
 
   -- a command that is refused so ends with such a check
-  pub refused_is_check : (◌≡◌ {A = Option Sense} (Some sense) (Some equipment_sense)) ⊎ (◌≡◌ {A = Option Sense} (Some sense) (Some data_check_sense))
+  pub refused_is_check : (◌≡◌ {A = Option Sense} (Some sense) (Some equipment_sense))
+      ⊎ (◌≡◌ {A = Option Sense} (Some sense) (Some data_check_sense))
       → IsCheck ccws check_end
   refused_is_check is = record {
     status = refl;
@@ -109,7 +133,7 @@ module _ {F P H : Type 0} (empty : PlainState) (d : Device F P H) (plain : IsPla
     ordinal_is : started_count d.history path + 1 ≡ count_by (is_of_path path) d.history.items + 1
     ordinal_is =
         let none : started_count d.history path ≡ count_by (is_of_path path) d.history.items + 0 =
-            ap (λ (r : Option OpenEntry). count_by (is_of_path path) d.history.items + (if is_path_of r path then 1 else 0)) stands in
+        ap (λ (r : Option OpenEntry). count_by (is_of_path path) d.history.items + (if is_path_of r path then 1 else 0)) stands in
         omega (arith, none)
 
     in_plan : started_count d.history path + 1 ≤ length (planned d.plans path)
@@ -136,7 +160,7 @@ module _ {F P H : Type 0} (empty : PlainState) (d : Device F P H) (plain : IsPla
   held_by_none (Some owner) here out is = cc
   held_by_none None here out is =
       let free : is_admitted d.paths path (next_program d path) ≡ true =
-          ap (λ (x : Option Owner). is_admitted (record d.paths { owner = x }) path (next_program d path)) here in
+      ap (λ (x : Option Owner). is_admitted (record d.paths { owner = x }) path (next_program d path)) here in
       let kept : not true ≡ true = subst (λ (b : Bool). not b ≡ true) free out in cc
 
   by_out : d.history.running ≡ None → (left d path == 0) ≡ false → (keeps_out d path ≡ true) ⊎ (keeps_out d path ≡ false)

@@ -1,5 +1,5 @@
 -- The resets that wait stay due along every event of a device's history.
-use Rattle.std.proofs.Common.{◌≡◌, ◌≤◌, ◌<◌, ◌==◌, ℕ, suc, List, [], ◌∷◌, ◌++◌, Option, Some, None, Bool, true, false, cond, refl, arith, sym, ap, subst, ◌∙◌}
+use Rattle.std.proofs.Common.{◌≡◌, ◌≤◌, ◌==◌, ℕ, suc, List, [], ◌∷◌, ◌++◌, Option, Some, None, true, false, refl, arith, sym, subst}
 use Rattle.std.specs.Prelude.{nat_lt, if◌then◌else◌}
 use Rattle.std.proofs.lemmas.Bool.{cond_both, eqb-false, ltb-true, ltb-false}
 use Rattle.ckd_types.specs.declared.channel.CommandEnd.{CommandEnd}
@@ -46,8 +46,8 @@ put_rising path least (p ∷ paths) le rising =
       rising.0,
       put_rising path (suc p) paths (behind (eqb-false path p other) (ltb-false path p above)) rising.1,
     ))) where
-  behind : (path ≡ p → ⊥) → p ≤ path → suc p ≤ path
-  behind apart above = omega (arith, apart, above)
+      behind : (path ≡ p → ⊥) → p ≤ path → suc p ≤ path
+      behind apart above = omega (arith, apart, above)
 
 pub put_used : (items : List Item) (path : ℕ) (paths : List ℕ) → is_used path false items ≡ true → AreUsed items paths
     → AreUsed items (put path paths)

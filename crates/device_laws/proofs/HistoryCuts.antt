@@ -1,26 +1,77 @@
 -- Resets and a loss of power keep a device's history plain: they cut the running program, wait for its end, or follow at once.
-use Rattle.std.proofs.Common.{◌≡◌, ◌≤◌, ◌<◌, ◌+◌, ◌==◌, ℕ, zero, suc, List, [], ◌∷◌, ◌++◌, Option, Some, None, Bool, true, false, length, cond, refl, arith, sym, ap, subst, ◌∙◌}
+use Rattle.std.proofs.Common.{
+  ◌≡◌,
+  ◌≤◌,
+  ◌+◌,
+  ◌==◌,
+  ℕ,
+  zero,
+  suc,
+  List,
+  [],
+  ◌∷◌,
+  ◌++◌,
+  Option,
+  Some,
+  None,
+  Bool,
+  true,
+  false,
+  length,
+  cond,
+  refl,
+  arith,
+  sym,
+  ap,
+  subst,
+  ◌∙◌,
+}
 use Rattle.std.specs.Prelude.{◌||◌, IfSome, ⊤, if◌then◌else◌}
 use Rattle.std.proofs.lemmas.Bool.{cond_both, eq-eqb}
-use Rattle.std.proofs.lemmas.List.{append-nil}
-use Rattle.ckd_types.specs.declared.channel.Ccw.{Ccw}
 use Rattle.ckd_types.specs.Volume.{empty_volume}
 use Rattle.plain_defs.specs.declared.journal.How.TheVariants.{Cut}
 use Rattle.plain_defs.specs.declared.journal.Item.{Item}
 use Rattle.plain_defs.specs.declared.journal.Item.TheVariants as items
 use Rattle.plain_defs.specs.Effect.{behind_effect}
 use Rattle.plain_defs.specs.Entry.{ProgramEntry}
-use Rattle.plain_defs.specs.History.{OpenEntry, History, open_part, plain_of, state_by, entry_of, cut_by, reset, reset_in, put, lost_power, lost_power_in, emptied, resets_of, IsOpen, IsPlain}
+use Rattle.plain_defs.specs.History.{
+  OpenEntry,
+  History,
+  open_part,
+  plain_of,
+  state_by,
+  cut_by,
+  reset,
+  reset_in,
+  put,
+  lost_power,
+  lost_power_in,
+  emptied,
+  resets_of,
+  IsOpen,
+  IsPlain,
+}
 use Rattle.plain_defs.specs.Journal.{Plans, program_of, replay, replay_item}
-use Rattle.plain_defs.specs.Legal.{MayEdit, next_edit, HasActs, IsLegalEntry, IsLegal, is_used, used_by, is_started}
+use Rattle.plain_defs.specs.Legal.{MayEdit, next_edit, HasActs, IsLegalEntry, IsLegal, is_used, is_started}
 use Rattle.plain_defs.specs.Loose.{power_off}
 use Rattle.plain_defs.specs.PlainState.{PlainState, reset_path}
 use Rattle.plain_defs.specs.Program.{Part, part_of}
 use Rattle.plain_defs.proofs.JournalLaws.{legal_more, replay-append}
 use Rattle.device_defs.specs.Device.{all_reset}
-use Rattle.device_laws.proofs.HistoryEnds.{all_reset_in, edited_next, effect_at, acts_with_one, part_with_one}
+use Rattle.device_laws.proofs.HistoryEnds.{edited_next, effect_at, acts_with_one, part_with_one}
 use Rattle.device_laws.proofs.OpenProgram.{going_of_open}
-use Rattle.device_laws.proofs.WaitingResets.{AreDue, AreOthers, WaitFor, legal-append, used-append, started-append, used_behind_program, used_behind_reset, resets_are_legal, replay_resets}
+use Rattle.device_laws.proofs.WaitingResets.{
+  AreDue,
+  AreOthers,
+  WaitFor,
+  legal-append,
+  used-append,
+  started-append,
+  used_behind_program,
+  used_behind_reset,
+  resets_are_legal,
+  replay_resets,
+}
 
 -- A program that is cut
 
@@ -217,9 +268,9 @@ module _ (plans : Plans) (empty : PlainState) (h : History) (plain : IsPlain pla
       ∙ ap (λ (b : Bool). plain_of plans empty
       (cond b (cut_by h o more) (if is_used path false h.items then record h { waiting = put path h.waiting } else h))) other
       ∙ by_used (is_used path false h.items) where
-    by_used : (b : Bool) → plain_of plans empty (cond b (record h { waiting = put path h.waiting }) h) ≡ plain_of plans empty h
-    by_used true = refl
-    by_used false = refl
+        by_used : (b : Bool) → plain_of plans empty (cond b (record h { waiting = put path h.waiting }) h) ≡ plain_of plans empty h
+        by_used true = refl
+        by_used false = refl
 
   -- a new volume, while nothing runs
   pub emptied_plain : h.running ≡ None → IsPlain plans empty (emptied h)

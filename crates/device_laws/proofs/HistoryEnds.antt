@@ -1,5 +1,34 @@
 -- The end of a running program's command keeps a device's history plain, whatever resets wait for it.
-use Rattle.std.proofs.Common.{◌≡◌, ◌≤◌, ◌<◌, ◌+◌, ◌-◌, ℕ, suc, List, [], ◌∷◌, ◌++◌, Option, Some, None, Bool, true, false, length, cond, refl, arith, sym, ap, subst, ◌∙◌, append_assoc, inl, inr}
+use Rattle.std.proofs.Common.{
+  ◌≡◌,
+  ◌≤◌,
+  ◌<◌,
+  ◌+◌,
+  ◌-◌,
+  ℕ,
+  suc,
+  List,
+  [],
+  ◌∷◌,
+  ◌++◌,
+  Option,
+  Some,
+  None,
+  Bool,
+  true,
+  false,
+  length,
+  cond,
+  refl,
+  arith,
+  sym,
+  ap,
+  subst,
+  ◌∙◌,
+  append_assoc,
+  inl,
+  inr,
+}
 use Rattle.std.specs.Prelude.{◌⊎◌, IsSome, IfSome}
 use Rattle.std.proofs.lemmas.Bool.{cases_lt}
 use Rattle.std.proofs.lemmas.List.{length-append}
@@ -7,7 +36,7 @@ use Rattle.ckd_types.specs.declared.channel.Ccw.{Ccw}
 use Rattle.ckd_types.specs.declared.channel.CommandEnd.{CommandEnd}
 use Rattle.ckd_types.specs.declared.sense.Sense.{Sense}
 use Rattle.ckd_types.specs.Ccw.{ccw_at}
-use Rattle.ckd_rules.specs.Ends.{end_of, goes_to, is_over}
+use Rattle.ckd_rules.specs.Ends.{end_of, is_over}
 use Rattle.ckd_rules.specs.Walk.{TrackEdit}
 use Rattle.ckd_rules.proofs.Goes.{over_stops, more_goes}
 use Rattle.plain_defs.specs.declared.journal.Act.{Act}
@@ -15,11 +44,40 @@ use Rattle.plain_defs.specs.declared.journal.How.{How}
 use Rattle.plain_defs.specs.declared.journal.How.TheVariants.{Full, Checked}
 use Rattle.plain_defs.specs.declared.journal.Item.{Item}
 use Rattle.plain_defs.specs.Effect.{Effect, effect_on, behind_effect}
-use Rattle.plain_defs.specs.History.{OpenEntry, History, open_part, plain_of, state_by, entry_of, with_end, closed, ended, ended_in, checked, checked_in, resets_of, IsOpen, IsPlain}
+use Rattle.plain_defs.specs.History.{
+  OpenEntry,
+  History,
+  open_part,
+  plain_of,
+  entry_of,
+  with_end,
+  closed,
+  ended,
+  ended_in,
+  checked,
+  checked_in,
+  resets_of,
+  IsOpen,
+  IsPlain,
+}
 use Rattle.plain_defs.specs.Journal.{Plans, program_of, replay, replay_item, last_sense}
-use Rattle.plain_defs.specs.Legal.{AreInOrder, AreActs, MayEdit, edit_at, track_of, next_edit, bare_part, IsPoint, HasActs, IsCheck, EndsChecked, IsLegalItem, IsLegal}
+use Rattle.plain_defs.specs.Legal.{
+  AreInOrder,
+  AreActs,
+  MayEdit,
+  edit_at,
+  track_of,
+  next_edit,
+  bare_part,
+  IsPoint,
+  HasActs,
+  IsCheck,
+  EndsChecked,
+  IsLegalItem,
+  IsLegal,
+}
 use Rattle.plain_defs.specs.PlainState.{PlainState, with_sense}
-use Rattle.plain_defs.specs.Program.{Part, acts_at, stepped, stepped_at, ended_with, part_of}
+use Rattle.plain_defs.specs.Program.{Part, stepped, stepped_at, ended_with, part_of}
 use Rattle.plain_defs.proofs.JournalLaws.{legal_more, replay-append}
 use Rattle.plain_defs.proofs.PartLemmas.{acted_nothing, part_more}
 use Rattle.device_defs.specs.Device.{all_reset}
@@ -102,8 +160,8 @@ module _ (plans : Plans) (s : PlainState) (items : List Item) (o : OpenEntry) wh
         let ccws = program_of plans o.path o.ordinal in
         let many : length p.ends ≡ length o.ends = ap length (sym going.ends) in
         let longer : length (stepped o.path ccws p).ends ≡ suc (length p.ends) =
-            ap (λ (x : Option ℕ). length (stepped_at o.path ccws p x).ends) next
-            ∙ one_longer p.ends (end_of i (ccw_at ccws i) (effect_at i).outcome) in
+        ap (λ (x : Option ℕ). length (stepped_at o.path ccws p x).ends) next
+        ∙ one_longer p.ends (end_of i (ccw_at ccws i) (effect_at i).outcome) in
         part_more o.path ccws o.acts s (length o.ends)
         ∙ acted_nothing o.acts (stepped o.path ccws p)
         (no_acts 0 (length o.ends + 1) (length (stepped o.path ccws p).ends) o.acts going.order (omega (arith, many, longer)))

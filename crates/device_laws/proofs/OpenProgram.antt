@@ -1,16 +1,42 @@
 -- An act behind the ends that a running program has so far.
-use Rattle.std.proofs.Common.{◌≡◌, ◌≤◌, ◌<◌, ◌+◌, ◌==◌, ℕ, zero, suc, List, [], ◌∷◌, ◌++◌, Option, Some, None, Bool, true, false, length, cond, refl, arith, sym, ap, subst, ◌∙◌}
+use Rattle.std.proofs.Common.{
+  ◌≡◌,
+  ◌≤◌,
+  ◌<◌,
+  ◌+◌,
+  ◌==◌,
+  ℕ,
+  zero,
+  suc,
+  List,
+  [],
+  ◌∷◌,
+  ◌++◌,
+  Option,
+  Some,
+  None,
+  Bool,
+  true,
+  false,
+  length,
+  cond,
+  refl,
+  arith,
+  sym,
+  ap,
+  subst,
+  ◌∙◌,
+}
 use Rattle.std.specs.Prelude.{IsSome}
 use Rattle.std.proofs.lemmas.Bool.{ne_eqb, eq-eqb}
 use Rattle.ckd_types.specs.declared.channel.Ccw.{Ccw}
-use Rattle.ckd_types.specs.declared.channel.CommandEnd.{CommandEnd}
 use Rattle.plain_defs.specs.declared.journal.Act.{Act}
 use Rattle.plain_defs.specs.declared.journal.Act.TheVariants.{Loosen, Harden, CfwLost}
 use Rattle.plain_defs.specs.declared.journal.Acted.{Acted}
 use Rattle.plain_defs.specs.declared.journal.Item.{Item}
 use Rattle.plain_defs.specs.History.{OpenEntry, open_part, IsOpen}
 use Rattle.plain_defs.specs.Journal.{Plans, program_of}
-use Rattle.plain_defs.specs.Legal.{AreInOrder, AreActs, MayEdit, track_of, next_edit, bare_part, IsPoint, HasActs, MayStart}
+use Rattle.plain_defs.specs.Legal.{AreInOrder, AreActs, MayEdit, track_of, next_edit, bare_part, IsPoint, MayStart}
 use Rattle.plain_defs.specs.Loose.{act_done}
 use Rattle.plain_defs.specs.PlainState.{PlainState}
 use Rattle.plain_defs.specs.Program.{Part, first_part, acts_at, acts_done, with_act, with_acts, acted_at, acted, stepped, part_of}
@@ -108,7 +134,7 @@ module _ (path : ℕ) (ccws : List Ccw) where
     part_before acts a (suc k) lt =
         let q = stepped path ccws (part_of state path ccws acts k) in
         let many : length q.ends ≡ length (part_of state path ccws acts (suc k)).ends =
-            ap length (sym (acted_beside acts q).ends) in
+        ap length (sym (acted_beside acts q).ends) in
         let most = (part_counts path ccws acts state (suc k)).most in
         ap (λ (p : Part). acted (acts ++ a ∷ []) (stepped path ccws p)) (part_before acts a k (omega (arith, lt)))
         ∙ acted_same acts (acts ++ a ∷ []) q (acts_elsewhere acts a (length q.ends)
