@@ -1,5 +1,5 @@
 -- A device's history behind its command at hand.
-use Rattle.std.proofs.Common.{◌≡◌, ◌++◌, ◌∷◌, ℕ, List, [], Option, Some, None, true, false, refl, sym, ap, subst, ◌∙◌}
+use Rattle.std.proofs.Common.{◌≡◌, ◌≤◌, ◌++◌, ◌∷◌, ℕ, List, [], Option, Some, None, true, false, refl, sym, ap, subst, ◌∙◌}
 use Rattle.std.specs.Prelude.{IfSome}
 use Rattle.std.proofs.lemmas.Bool.{cond_both}
 use Rattle.ckd_types.specs.declared.channel.CommandEnd.{CommandEnd}
@@ -13,22 +13,25 @@ use Rattle.ckd_chain.specs.State.{ChainState}
 use Rattle.ckd_chain.specs.Steps.{end_with, settled_by}
 use Rattle.plain_defs.specs.declared.journal.Act.{Act}
 use Rattle.plain_defs.specs.declared.journal.Act.TheVariants.{Loosen}
-use Rattle.plain_defs.specs.History.{OpenEntry, History, open_part, plain_of, acted, ended, IsOpen, IsPlain}
+use Rattle.plain_defs.specs.History.{OpenEntry, History, no_history, open_part, plain_of, acted, ended, IsOpen, IsPlain}
 use Rattle.plain_defs.specs.Journal.{program_of, replay}
 use Rattle.plain_defs.specs.Legal.{AreActs, MayEdit, track_of, next_edit}
 use Rattle.plain_defs.specs.Loose.{is_loose}
 use Rattle.plain_defs.specs.PlainState.{PlainState}
 use Rattle.device_defs.specs.Device.{Device, all_acted, with_store}
 use Rattle.device_defs.specs.Outcomes.{ends_with, checks, turned, program_over, sense_kept}
+use Rattle.device_defs.specs.Start as S
+use Rattle.device_defs.specs.Start.{start, start_fault}
 use Rattle.device_defs.specs.Store.{HalfWrite, Store}
 use Rattle.device_defs.specs.Cutting.{counts_one_by, is_of_command}
 use Rattle.device_laws.proofs.DeviceCuts.{HasHistory, StandsPlainly, stands_by}
-use Rattle.device_laws.proofs.DeviceHistory.{IsAtHand, equipment_plain, data_check_plain}
+use Rattle.device_laws.proofs.DeviceHistory.{IsAtHand, equipment_plain, data_check_plain, start_plain, start_due}
 use Rattle.device_laws.proofs.DueResets.{ended_due, checked_due, all_acted_due}
 use Rattle.device_laws.proofs.HistoryActs.{all_acted_plain, loosened_plain}
 use Rattle.device_laws.proofs.HistoryCuts.{MayTake}
 use Rattle.device_laws.proofs.HistoryEnds.{edited_next, effect_at, going_ends_plain}
 use Rattle.device_laws.proofs.OpenProgram.{going_of_open}
+use Rattle.device_laws.proofs.WaitingResets.{nothing_is_due}
 
 all_acted-append : (h : History) (acts : List Act) (act : Act) → all_acted h (acts ++ act ∷ []) ≡ acted (all_acted h acts) act
 all_acted-append h [] act = refl
@@ -132,3 +135,16 @@ module _ {F P H : Type 0} (empty : PlainState) where
           (ends_tell (with_store d s) path chain e)
           (subst (λ (k : History). IsPlain d.plans empty (ended k e)) (sym history_is) loosened_before)
           (ended_due (with_store d s).history (all_acted_due s.acts d.history stands.due) e)
+
+  -- a new device
+  pub new_stands : (d : Device F P H) → d.history ≡ no_history → StandsPlainly empty d
+  new_stands d is = stands_by empty d no_history d (record { plans = refl; history = is }) (record { legal = tt; at = tt }) nothing_is_due
+
+  -- a path's next program starts
+  pub start_stands : (d : Device F P H) → StandsPlainly empty d → (path : ℕ) → 1 ≤ path → path ≤ 4
+      → d.paths ≡ (replay d.plans empty d.history.items).paths → start_fault d path ≡ None → StandsPlainly empty (start d path)
+  unfolding S.start
+  start_stands d stands path least most paths_are is = record {
+    plain = start_plain empty d stands.plain path least most paths_are is;
+    due = start_due d path stands.due is;
+  }

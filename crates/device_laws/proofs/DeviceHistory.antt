@@ -51,6 +51,7 @@ use Rattle.device_defs.specs.Device.{Device}
 use Rattle.device_defs.specs.Outcomes.{checks, turned}
 use Rattle.device_defs.specs.Start as S
 use Rattle.device_defs.specs.Start.{started_count, left, next_program, keeps_out, reserved_fault, idle_fault, running_fault, fault_by, start_fault, start}
+use Rattle.device_laws.proofs.DueResets.{started_due}
 use Rattle.device_laws.proofs.HistoryEnds.{checked_plain}
 use Rattle.device_laws.proofs.WaitingResets.{AreDue}
 
@@ -192,3 +193,25 @@ module _ {F P H : Type 0} (empty : PlainState) (d : Device F P H) (plain : IsPla
   pub start_plain : start_fault d path ≡ None → IsPlain d.plans empty (start d path).history
   unfolding S.start_fault S.start
   start_plain is = by_loan d.store.lent is
+
+-- A program starts only where none runs
+
+module _ {F P H : Type 0} (d : Device F P H) (path : ℕ) where
+  idle_by_running : (r : Option OpenEntry) → d.history.running ≡ r → running_fault d path r ≡ None → d.history.running ≡ None
+  idle_by_running (Some o) here is = absurd cc
+  idle_by_running None here is = here
+
+  idle_by_loan : (lent : Option ℕ) → fault_by d path lent ≡ None → d.history.running ≡ None
+  idle_by_loan (Some of) is = absurd cc
+  idle_by_loan None is = idle_by_running d.history.running refl is
+
+  pub starts_where_idle : start_fault d path ≡ None → d.history.running ≡ None
+  unfolding S.start_fault
+  starts_where_idle is = idle_by_loan d.store.lent is
+
+  started_waits : AreDue d.history → d.history.running ≡ None → AreDue (start d path).history
+  unfolding S.start
+  started_waits due stands = started_due d.history due stands path (started_count d.history path + 1)
+
+  pub start_due : AreDue d.history → start_fault d path ≡ None → AreDue (start d path).history
+  start_due due is = started_waits due (starts_where_idle is)
