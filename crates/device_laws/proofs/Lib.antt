@@ -22,3 +22,4 @@ pub mod DeviceHistory
 pub mod DeviceCuts
 pub mod DeviceEnds
 pub mod ChainAtHand
+pub mod DevicePaths
