@@ -29,7 +29,7 @@ behind_any (Read side t k) = λ got. behind_any (k got)
 behind_any (Write side t r k) = λ ok. behind_any (k ok)
 behind_any (Tell m k) = λ r. behind_any (k r)
 
-always_any : {R I S A : Type 0} (i : Interaction R I S A) → Always i (λ s a. ⊤)
+pub always_any : {R I S A : Type 0} (i : Interaction R I S A) → Always i (λ s a. ⊤)
 always_any i = record { holds = behind_any i }
 
 module _ {F P H : Type 0} where

@@ -106,7 +106,7 @@ module _ {F P H : Type 0} (empty : PlainState) (d : Device F P H) (plain : IsPla
     open_is = subst (λ (r : Option OpenEntry). IfSome r (IsOpen d.plans (replay d.plans empty d.history.items) d.history.items))
         running plain.at
 
-    next_is : (open_part d.plans (replay d.plans empty d.history.items) o).next ≡ Some (index_of chain.at.next)
+    pub next_is : (open_part d.plans (replay d.plans empty d.history.items) o).next ≡ Some (index_of chain.at.next)
     next_is = sym at_hand.next ∙ index_is chain.at.next (subst (λ (n : Option ℕ). IsSome n) (sym at_hand.next) open_is.runs)
 
     -- a device whose command at hand ends with equipment check has a plain history behind it

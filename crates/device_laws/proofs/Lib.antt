@@ -23,3 +23,4 @@ pub mod DeviceCuts
 pub mod DeviceEnds
 pub mod ChainAtHand
 pub mod DevicePaths
+pub mod PathsAlong
