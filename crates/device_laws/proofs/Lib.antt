@@ -24,3 +24,4 @@ pub mod DeviceEnds
 pub mod ChainAtHand
 pub mod DevicePaths
 pub mod PathsAlong
+pub mod SensesKept
