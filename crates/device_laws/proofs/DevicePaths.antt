@@ -1,25 +1,19 @@
 -- What a device keeps of its paths is what the plain device of its history keeps.
-use Rattle.std.proofs.Common.{◌≡◌, ◌==◌, ◌++◌, ◌∷◌, ℕ, List, [], Option, Some, None, Bool, true, false, not, refl, sym, ap, subst, ◌∙◌}
-use Rattle.std.specs.Prelude.{◌||◌, ◌&&◌}
-use Rattle.std.proofs.lemmas.Bool.{cond_both, true≢false}
-use Rattle.ckd_types.specs.declared.channel.CommandEnd.{CommandEnd}
-use Rattle.ckd_chain.specs.declared.progress.Settled.TheVariants.{Equipment}
-use Rattle.ckd_chain.specs.State.{ChainState}
-use Rattle.ckd_chain.specs.Steps.{end_with, settled_by}
+use Rattle.std.proofs.Common.{◌≡◌, ◌++◌, ◌∷◌, ℕ, List, [], None, Bool, true, false, refl, sym, ap, ◌∙◌}
+use Rattle.std.proofs.lemmas.Bool.{true≢false}
 use Rattle.plain_defs.specs.declared.journal.Act.{Act}
 use Rattle.plain_defs.specs.declared.journal.Act.TheVariants.{Loosen, Harden, CfwLost}
 use Rattle.plain_defs.specs.declared.journal.Item.{Item}
 use Rattle.plain_defs.specs.declared.journal.Item.TheVariants as items
-use Rattle.plain_defs.specs.History.{OpenEntry, History, open_part, plain_of, state_by, lost_power}
+use Rattle.plain_defs.specs.History.{plain_of}
 use Rattle.plain_defs.specs.Journal.{Plans, replay, replay_item}
-use Rattle.plain_defs.specs.Legal.{IsLegal, IsLegalFrom, is_used, used_by, is_started, started_by}
+use Rattle.plain_defs.specs.Legal.{IsLegal, IsLegalFrom, is_used, used_by, is_started}
 use Rattle.plain_defs.specs.Loose.{act_done}
-use Rattle.plain_defs.specs.PlainState.{PathsState, PlainState, fresh_paths, with_sense}
+use Rattle.plain_defs.specs.PlainState.{PlainState, fresh_paths}
 use Rattle.plain_defs.specs.Program.{acts_done}
-use Rattle.device_defs.specs.Device.{Device, with_store, all_reset}
-use Rattle.device_defs.specs.Outcomes.{checks, turned}
+use Rattle.device_defs.specs.Device.{Device, with_store}
 use Rattle.device_defs.specs.Store.{Store}
-use Rattle.plain_defs.specs.Legal.{AreActs, IsCheck}
+use Rattle.plain_defs.specs.Legal.{AreActs}
 use Rattle.device_laws.proofs.DeviceCuts.{StandsPlainly}
 use Rattle.device_laws.proofs.HistoryActs.{all_acted_state}
 use Rattle.device_laws.proofs.WaitingResets.{used-append}

@@ -1,5 +1,5 @@
 -- A device keeps of its paths what the plain device does: behind a start, a check, an end, a reset and a loss of power.
-use Rattle.std.proofs.Common.{◌≡◌, ◌==◌, ◌+◌, ◌++◌, ◌∷◌, ℕ, List, [], Option, Some, None, Bool, true, false, cond, refl, sym, ap, subst, ◌∙◌, inl, inr}
+use Rattle.std.proofs.Common.{◌≡◌, ◌==◌, ◌++◌, ◌∷◌, ℕ, List, [], Option, Some, None, Bool, true, false, cond, refl, sym, ap, subst, ◌∙◌, inl, inr}
 use Rattle.std.specs.Prelude.{◌⊎◌, ◌||◌, if◌then◌else◌}
 use Rattle.std.proofs.lemmas.Bool.{cases_Bool, cond_both, eqb-true}
 use Rattle.ckd_types.specs.declared.channel.Ccw.{Ccw}
@@ -10,8 +10,23 @@ use Rattle.ckd_chain.specs.declared.progress.Settled.TheVariants.{Equipment, Dat
 use Rattle.ckd_chain.specs.State.{ChainState}
 use Rattle.ckd_chain.specs.Steps.{end_with, settled_by}
 use Rattle.plain_defs.specs.declared.journal.Item.TheVariants as items
-use Rattle.plain_defs.specs.History.{OpenEntry, History, checked, ended as history_ended, open_part, plain_of, state_by, is_path_of, has_used, put, cut_by, reset as history_reset, reset_in, lost_power, lost_power_in}
-use Rattle.plain_defs.specs.Journal.{Plans, program_of, replay}
+use Rattle.plain_defs.specs.History.{
+  OpenEntry,
+  checked,
+  ended as history_ended,
+  open_part,
+  plain_of,
+  state_by,
+  is_path_of,
+  has_used,
+  put,
+  cut_by,
+  reset as history_reset,
+  reset_in,
+  lost_power,
+  lost_power_in,
+}
+use Rattle.plain_defs.specs.Journal.{program_of, replay}
 use Rattle.plain_defs.specs.Legal.{MayEdit, IsCheck, is_started, is_used}
 use Rattle.plain_defs.specs.PlainState.{PathsState, PlainState, fresh_paths, with_sense, reset_path}
 use Rattle.plain_defs.specs.Program.{Part, first_part, begun}
@@ -118,7 +133,8 @@ module _ {F P H R : Type 0} (c : Contents F P H R) (empty : PlainState) (d : Dev
         (idle_power_state d.plans empty d.history stands.plain none (counts_one_by d.store.half) began)
     by_start (inr not_yet) =
         ap (λ (r : Option OpenEntry). (plain_of d.plans empty (lost_power_in d.history (counts_one_by d.store.half) r)).paths) none
-        ∙ ap (λ (b : Bool). (plain_of d.plans empty (cond b (record { items = d.history.items ++ items.Power ∷ []; running = None; waiting = [] }) d.history)).paths) not_yet
+        ∙ ap (λ (b : Bool). (plain_of d.plans empty
+        (cond b (record { items = d.history.items ++ items.Power ∷ []; running = None; waiting = [] }) d.history)).paths) not_yet
         ∙ ap (λ (r : Option OpenEntry). (state_by d.plans (replay d.plans empty d.history.items) r).paths) none
         ∙ unstarted_is_fresh d.plans empty d.history.items fresh stands.plain.legal not_yet
 
@@ -151,10 +167,10 @@ module _ {F P H R : Type 0} (c : Contents F P H R) (empty : PlainState) (d : Dev
       ∙ ap (λ (x : PathsState). all_reset (reset_path x o.path) d.history.waiting) (running_paths empty d keeps o running)
       ∙ ap (λ (x : PathsState). all_reset x d.history.waiting) (sym (taken o running))
       ∙ sym (
-        ap (λ (r : Option OpenEntry). (plain_of d.plans empty (reset_in d.history path n r)).paths) running
-        ∙ ap (λ (b : Bool). (plain_of d.plans empty (cond b (cut_by d.history o n)
-        (if is_used path false d.history.items then record d.history { waiting = put path d.history.waiting } else d.history))).paths) own
-        ∙ ap (λ (x : PlainState). x.paths) (cut_state d.plans empty d.history stands.plain o running n (may o running))
+      ap (λ (r : Option OpenEntry). (plain_of d.plans empty (reset_in d.history path n r)).paths) running
+      ∙ ap (λ (b : Bool). (plain_of d.plans empty (cond b (cut_by d.history o n)
+      (if is_used path false d.history.items then record d.history { waiting = put path d.history.waiting } else d.history))).paths) own
+      ∙ ap (λ (x : PlainState). x.paths) (cut_state d.plans empty d.history stands.plain o running n (may o running))
       )
 
   reset_by_running : (r : Option OpenEntry) → d.history.running ≡ r → Always (reset_by c d path r) (λ y _. KeepsPaths empty y)

@@ -12,11 +12,10 @@ use Rattle.ckd_rules.specs.declared.opening.Opening.TheVariants.{Looks}
 use Rattle.ckd_rules.specs.declared.order.Look.{Look}
 use Rattle.ckd_rules.specs.declared.stance.Stance.{Stance}
 use Rattle.ckd_rules.specs.Opening.{opening_of}
-use Rattle.plain_defs.specs.Effect.{Effect, effect_by, command_effect}
+use Rattle.plain_defs.specs.Effect.{effect_by, command_effect}
 use Rattle.plain_defs.specs.History.{OpenEntry, open_part, IsOpen}
 use Rattle.plain_defs.specs.Journal.{Plans}
 use Rattle.plain_defs.specs.PlainState.{PathsState, PlainState, senses_with, with_sense, reset_path}
-use Rattle.plain_defs.specs.Program.{Part}
 use Rattle.plain_defs.specs.declared.journal.Item.{Item}
 use Rattle.device_defs.specs.Cutting.{counts_one_by, is_of_command}
 use Rattle.device_defs.specs.Store.{HalfWrite}
