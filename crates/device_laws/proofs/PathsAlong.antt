@@ -36,6 +36,7 @@ use Rattle.device_defs.specs.Contents.{Contents}
 use Rattle.device_defs.specs.Cutting as K
 use Rattle.device_defs.specs.Cutting.{counts_one_by, half_cut, reset_noted, path_cut, reset_by}
 use Rattle.device_defs.specs.Device.{Device, all_reset, event_begun}
+use Rattle.device_defs.specs.Orders.{restore}
 use Rattle.device_defs.specs.Outcomes.{ends_with, checks, turned, sense_kept, program_over}
 use Rattle.device_defs.specs.Owed.{waiting_count, ended}
 use Rattle.device_defs.specs.Start as S
@@ -44,7 +45,7 @@ use Rattle.device_laws.proofs.Always.{Always, always_done, always_then}
 use Rattle.device_laws.proofs.DeviceCuts.{StandsPlainly, always_any}
 use Rattle.device_laws.proofs.DeviceHistory.{IsAtHand, next_is, equipment_is_check, data_check_is_check}
 use Rattle.device_laws.proofs.DevicePaths.{KeepsPaths, unstarted_is_fresh}
-use Rattle.device_laws.proofs.HistoryCuts.{MayTake, taken_state, cut_state, waiting_state, idle_reset_state, power_cut_state, idle_power_state}
+use Rattle.device_laws.proofs.HistoryCuts.{MayTake, taken_state, cut_state, waiting_state, emptied_state, idle_reset_state, power_cut_state, idle_power_state}
 use Rattle.device_laws.proofs.HistoryEnds.{edited_next, effect_at, running_is_open, checked_state, ended_state_on, ended_state_over}
 use Rattle.device_laws.proofs.OpenProgram.{IsGoing, going_of_open, part_is_acted}
 
@@ -65,6 +66,10 @@ module _ {F P H : Type 0} (empty : PlainState) (d : Device F P H) (keeps : Keeps
       let s = replay d.plans empty d.history.items in
       ap (λ (x : PathsState). begun x path (next_program d path)) (idle_paths stands)
       ∙ sym (ap (λ (p : Part). p.state.paths) (part_is_acted path ccws s [] 0 ∙ acted_nothing [] (first_part s path ccws) refl))
+
+  -- behind an order that gives it an empty volume
+  pub restore_keeps : StandsPlainly empty d → d.history.running ≡ None → KeepsPaths empty (restore d)
+  restore_keeps stands none = idle_paths none ∙ sym (ap (λ (x : PlainState). x.paths) (emptied_state d.plans empty d.history stands.plain none))
 
   module _ (stands : StandsPlainly empty d) (o : OpenEntry) (running : d.history.running ≡ Some o) (chain : ChainState)
       (at_hand : IsAtHand d.plans (replay d.plans empty d.history.items) o chain) where
