@@ -85,7 +85,7 @@ module _ {F P H R : Type 0} (c : Contents F P H R) where
   dropped_by s t true e w =
       let lt = clean_below s t w e in
       changed_goes c s (with_frame s t None) t _ w (changed_frame c s t None lt w.sizes)
-      (clean_may_go (track_at c s t) (clean_mark s t (frame_at s t) refl e) (w.good t lt)) (λ f. f)
+      (clean_may_go (track_at c s t) (clean_mark s t (frame_at s t) refl e) (w.good t lt)) (w.kept t lt) (λ f. f)
   dropped_by s t false e w = stays c s w
 
   note_by : (n : ℕ) (s : Store F P H) (o : Option ℕ) → ((z : Store F P H) → IsWell c z → Always (hear c n z) (λ y _. Goes c z y)) → IsWell c s →

@@ -76,7 +76,7 @@ module _ {F P H R : Type 0} (c : Contents F P H R) where
   -- a device that isn't lent, between two events
   pub is_here : (s : Store F P H) → IsBetween s → is_some s.lent ≡ false → IsHere (rest_of s)
   unfolding C.rest_of
-  is_here s between free = record { free = free; alone = between.sides.alone }
+  is_here s between free = record { free = free; alone = between.sides.alone; within = between.half }
 
   module _ (faithful : IsFaithful c) (s : Store F P H) (between : IsBetween s) (free : is_some s.lent ≡ false)
       (sound : (q : ℕ) → q < tracks_of s → has_sound_marks c s q ≡ true) where

@@ -98,7 +98,7 @@ module _ {F P H R : Type 0} (c : Contents F P H R) (faithful : IsFaithful c) whe
       let is : c.modified (c.frame i m) ≡ x.patched = faithful.made i m ∙ sym patched in
       changed_goes c s (framed c s t i m) t (record x { frame = Some x.patched }) w
       (record { sizes = e.sizes; rest = e.rest; elsewhere = e.elsewhere; here = e.here ∙ ap (λ (f : Bool). record x { frame = Some f }) is })
-      (filled_good x firm level (w.good t lt)) (λ f. f)
+      (filled_good x firm level (w.good t lt)) (w.kept t lt) (λ f. f)
 
   abbrev filled_if : Store F P H → ℕ → Image → Bool → Interaction R Image (Store F P H) (Unit {0})
   filled_if s t i b =

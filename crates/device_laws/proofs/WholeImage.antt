@@ -115,11 +115,13 @@ module _ {F P H R : Type 0} (c : Contents F P H R) (faithful : IsFaithful c) whe
     goes = record {
       well = record {
         sizes = record { are = r.goes.well.sizes.are };
-        here = record { free = r.goes.well.here.free; alone = r.goes.well.here.alone };
+        here = record { free = r.goes.well.here.free; alone = r.goes.well.here.alone; within = r.goes.well.here.within };
         good = r.goes.well.good;
+        kept = r.goes.well.kept;
       };
       tracks = r.goes.tracks;
       firm = r.goes.firm;
+      half = r.goes.half;
     };
     below = r.below;
     firm = r.firm;
@@ -180,7 +182,8 @@ module _ {F P H R : Type 0} (c : Contents F P H R) (faithful : IsFaithful c) whe
   -- a clean frame that the pool doesn't list any more goes
   dropped_goes : (s : Store F P H) (t : ℕ) → t < tracks_of s → IsWell c s → (track_at c s t).frame ≡ Some false → Goes c s (with_frame s t None)
   dropped_goes s t lt w clean =
-      changed_goes c s (with_frame s t None) t _ w (changed_frame c s t None lt w.sizes) (clean_may_go (track_at c s t) clean (w.good t lt)) (λ e. e)
+      changed_goes c s (with_frame s t None) t _ w (changed_frame c s t None lt w.sizes) (clean_may_go (track_at c s t) clean (w.good t lt))
+      (w.kept t lt) (λ e. e)
 
   loose_mark : (s : Store F P H) (t : ℕ) → (track_at c s t).loose ≡ false → is_loose s t ≡ false
   unfolding M.track_at
