@@ -12,3 +12,5 @@ pub mod TrackImage
 pub mod WholeImage
 pub mod Notices
 pub mod LossEvents
+pub mod WriteMarks
+pub mod Others

@@ -71,7 +71,7 @@ module _ {F P H R : Type 0} (c : Contents F P H R) (faithful : IsFaithful c) whe
   or_right false y e = e
 
   -- a side that is down has nothing
-  down_near : (s : Store F P H) (side : Side) (q : ℕ) → is_near (track_at c s q) ≡ true → is_near (track_at c (down s side) q) ≡ true
+  pub down_near : (s : Store F P H) (side : Side) (q : ℕ) → is_near (track_at c s q) ≡ true → is_near (track_at c (down s side) q) ≡ true
   unfolding M.track_at
   down_near s A q near = near_with_fewer_sides (track_at c s q) (has_level (down s A) q) near (λ e. or_right _ _ e)
   down_near s B q near = near_with_fewer_sides (track_at c s q) (has_level (down s B) q) near (λ e. or_true _ e _)

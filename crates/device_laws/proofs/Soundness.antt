@@ -20,7 +20,7 @@ use Rattle.device_laws.proofs.TrackMarks.{TrackMarks, marks, IsFaithful, is_bare
 abbrev sound_marks : TrackMarks → Bool
 sound_marks x = if x.lost then is_bare x else if x.half then not x.loose else is_somewhere x
 
-and_left : (x y : Bool) → (x && y) ≡ true → x ≡ true
+pub and_left : (x y : Bool) → (x && y) ≡ true → x ≡ true
 and_left true y e = refl
 and_left false y e = e
 
