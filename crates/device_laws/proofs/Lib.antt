@@ -14,3 +14,5 @@ pub mod Notices
 pub mod LossEvents
 pub mod WriteMarks
 pub mod Others
+pub mod Writes
+pub mod Done
