@@ -83,7 +83,7 @@ module _ {F P H R : Type 0} (c : Contents F P H R) (faithful : IsFaithful c) whe
   other_place : (t q : ℕ) → q ≢ t → (t == q) ≡ false
   other_place t q ne = grind arith
 
-  none_is : (h : Option (HalfWrite H)) (q : ℕ) → h ≡ None → half_is h q ≡ false
+  pub none_is : (h : Option (HalfWrite H)) (q : ℕ) → h ≡ None → half_is h q ≡ false
   none_is None q e = refl
   none_is (Some h) q e = absurd (cc)
 

@@ -16,3 +16,5 @@ pub mod WriteMarks
 pub mod Others
 pub mod Writes
 pub mod Done
+pub mod Choices
+pub mod Through
