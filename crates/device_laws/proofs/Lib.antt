@@ -18,3 +18,5 @@ pub mod Writes
 pub mod Done
 pub mod Choices
 pub mod Through
+pub mod SecondPart
+pub mod Working
