@@ -79,7 +79,7 @@ without_frame_near f p false o true v e = refl
 without_frame_near f p false o false v e = refl
 
 module _ {F P H R : Type 0} (c : Contents F P H R) (faithful : IsFaithful c) where
-  step : (z : Store F P H) (n : ℕ) → n < tracks_of z → HasSizes z → IsHere (rest_of z) →
+  pub step : (z : Store F P H) (n : ℕ) → n < tracks_of z → HasSizes z → IsHere (rest_of z) →
       Changed c z (settled c (without_frame z n) n) n (unframed_settled n (track_at c z n))
   step z n lt sizes here =
       let f = changed_unframed c z n lt sizes in

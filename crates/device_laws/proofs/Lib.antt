@@ -20,3 +20,5 @@ pub mod Choices
 pub mod Through
 pub mod SecondPart
 pub mod Working
+pub mod WholeEvents
+pub mod Powers

@@ -89,7 +89,7 @@ module _ {F P H R : Type 0} (c : Contents F P H R) (faithful : IsFaithful c) whe
   loss_goes s losses.Store w = store_goes s w
   loss_goes s (losses.Side side) w = side_goes c faithful s side w
 
-  counted_same : (s : Store F P H) (loss : Loss) → IsWell c s → IsSame c s (with_loss s loss)
+  pub counted_same : (s : Store F P H) (loss : Loss) → IsWell c s → IsSame c s (with_loss s loss)
   unfolding M.track_at C.rest_of
   counted_same s loss w = record { sizes = record { are = w.sizes.are }; rest = refl; marks = λ q. refl }
 
@@ -101,7 +101,7 @@ module _ {F P H R : Type 0} (c : Contents F P H R) (faithful : IsFaithful c) whe
       always_weaker (told_same c (tracks_of s) (lost_by c (with_loss s loss) loss) lost.well.sizes)
       (λ z _ e. goes_on c s (lost_by c (with_loss s loss) loss) z gone (goes_same c (lost_by c (with_loss s loss) loss) z lost.well e))
 
-  begun_same : (d : Device F P H) → IsWell c d.store → IsSame c d.store (event_begun d).store
+  pub begun_same : (d : Device F P H) → IsWell c d.store → IsSame c d.store (event_begun d).store
   unfolding M.track_at C.rest_of
   begun_same d w = record { sizes = record { are = w.sizes.are }; rest = refl; marks = λ q. refl }
 
