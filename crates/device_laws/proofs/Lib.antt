@@ -22,3 +22,4 @@ pub mod SecondPart
 pub mod Working
 pub mod WholeEvents
 pub mod Powers
+pub mod Commands

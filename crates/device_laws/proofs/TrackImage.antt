@@ -100,16 +100,28 @@ module _ {F P H R : Type 0} (c : Contents F P H R) (faithful : IsFaithful c) whe
       (record { sizes = e.sizes; rest = e.rest; elsewhere = e.elsewhere; here = e.here ∙ ap (λ (f : Bool). record x { frame = Some f }) is })
       (filled_good x firm level (w.good t lt)) (w.kept t lt) (λ f. f)
 
+  -- behind the loading of a track, which is lost only where it was
+  pub record Filled (t : ℕ) (s z : Store F P H) : Type 0 where
+    pub goes : Goes c s z
+    pub lost : (track_at c z t).lost ≡ (track_at c s t).lost
+
+  framed_filled : (s : Store F P H) (t : ℕ) (i : Image) (m : Bool) → is_some (patch_at s t) ≡ m → t < tracks_of s → IsWell c s →
+      is_loose s t ≡ false → has_level s t ≡ true → Filled t s (framed c s t i m)
+  framed_filled s t i m patched lt w firm level = record {
+    goes = framed_goes s t i m patched lt w firm level;
+    lost = ap (λ (x : TrackMarks). x.lost) (changed_frame c s t (Some (c.frame i m)) lt w.sizes).here;
+  }
+
   abbrev filled_if : Store F P H → ℕ → Image → Bool → Interaction R Image (Store F P H) (Unit {0})
   filled_if s t i b =
       if b then Ask (SetModified s.device t) (λ _. Done (framed c s t i true) tt) else Done (framed c s t i false) tt
 
   by_patch : (s : Store F P H) (t : ℕ) (i : Image) (b : Bool) → is_some (patch_at s t) ≡ b → t < tracks_of s → IsWell c s →
       is_loose s t ≡ false → has_level s t ≡ true →
-      Always (filled_if s t i b) (λ z _. Goes c s z)
-  by_patch s t i true patched lt w firm level = always_ask (λ _. always_done (framed_goes s t i true patched lt w firm level))
-  by_patch s t i false patched lt w firm level = always_done (framed_goes s t i false patched lt w firm level)
+      Always (filled_if s t i b) (λ z _. Filled t s z)
+  by_patch s t i true patched lt w firm level = always_ask (λ _. always_done (framed_filled s t i true patched lt w firm level))
+  by_patch s t i false patched lt w firm level = always_done (framed_filled s t i false patched lt w firm level)
 
   pub filling_keeps_good : (s : Store F P H) (t : ℕ) (i : Image) → t < tracks_of s → IsWell c s → is_loose s t ≡ false → has_level s t ≡ true →
-      Always (filled c s t i) (λ z _. Goes c s z)
+      Always (filled c s t i) (λ z _. Filled t s z)
   filling_keeps_good s t i lt w firm level = by_patch s t i (is_some (patch_at s t)) refl lt w firm level

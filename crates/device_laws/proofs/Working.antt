@@ -349,7 +349,7 @@ module _ {F P H R : Type 0} (c : Contents F P H R) (faithful : IsFaithful c) whe
 
   filled_by : (s : Store F P H) (t : ℕ) (i : Image) → ((t < tracks_of s) ⊎ (tracks_of s ≤ t)) → IsWell c s →
       (t < tracks_of s → is_loose s t ≡ false) → has_level s t ≡ true → Always (filled c s t i) (λ y _. Goes c s y)
-  filled_by s t i (inl lt) w firm level = filling_keeps_good c faithful s t i lt w (firm lt) level
+  filled_by s t i (inl lt) w firm level = always_weaker (filling_keeps_good c faithful s t i lt w (firm lt) level) (λ y _ g. g.goes)
   filled_by s t i (inr le) w firm level = filled_if s t i (is_some (patch_at s t)) le w
 
   staged_by : (t : ℕ) (s z : Store F P H) (g : Got R) (i : Option Image) → (t < tracks_of s → is_loose s t ≡ false) → has_level z t ≡ true →
