@@ -23,3 +23,4 @@ pub mod Working
 pub mod WholeEvents
 pub mod Powers
 pub mod Commands
+pub mod OrderMarks
