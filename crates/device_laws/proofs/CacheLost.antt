@@ -16,8 +16,6 @@ use Rattle.std.proofs.Common.{
   ◌∷◌,
   is_some,
   length,
-  replicate,
-  get_or,
   refl,
   sym,
   ap,

@@ -1,13 +1,12 @@
 -- The choice of a write asks the pool and changes no mark. It fits the track; so a write to the frame keeps good marks good.
-use Rattle.std.proofs.Common.{◌≡◌, ◌≢◌, ◌<◌, ℕ, Bool, true, false, Option, Some, None, is_some, length, refl, sym, ap, subst, ◌∙◌, arith, ◌⊎◌, inl, inr}
+use Rattle.std.proofs.Common.{◌≡◌, ◌<◌, ℕ, Bool, true, false, Option, Some, None, is_some, refl, sym, ap, subst, ◌∙◌, ◌⊎◌, inl, inr}
 use Rattle.std.specs.Prelude.{if◌then◌else◌, ◌&&◌, not}
 use Rattle.ckd_types.specs.declared.record.Edit.{Edit}
-use Rattle.ckd_types.specs.Parameters.{is_bypass}
 use Rattle.track_image.specs.Image.{Image}
 use Rattle.device_outside.specs.declared.port.SlotGrant.{SlotGrant}
 use Rattle.device_outside.specs.declared.port.SlotGrant.TheVariants as grants
-use Rattle.device_outside.specs.Interaction.{Interaction, Done, Ask}
-use Rattle.device_outside.specs.Pool.{SetModified, WantSlot, FreeSlot}
+use Rattle.device_outside.specs.Interaction.{Done, Ask}
+use Rattle.device_outside.specs.Pool.{SetModified, FreeSlot}
 use Rattle.device_defs.specs.declared.answers.Choice.{Choice}
 use Rattle.device_defs.specs.declared.answers.Choice.TheVariants.{Provisional, Fast, Through}
 use Rattle.device_defs.specs.declared.usage.Usage.{Usage}
@@ -27,13 +26,13 @@ use Rattle.device_defs.specs.Choosing.{
 use Rattle.device_defs.specs.Contents.{Contents}
 use Rattle.device_defs.specs.Effects.{with_edit, with_loose_edit, loosened}
 use Rattle.device_defs.specs.Owed.{is_clean}
-use Rattle.device_defs.specs.Store.{Store, tracks_of, frame_at, patch_at, is_loose, half_is, with_frame, with_patch}
+use Rattle.device_defs.specs.Store.{Store, tracks_of, frame_at, patch_at, is_loose, with_frame}
 use Rattle.device_laws.proofs.Always.{Always, always_done, always_ask}
 use Rattle.device_laws.proofs.Changes as C
 use Rattle.device_laws.proofs.Changes.{Changed, rest_of, changed_twice, changed_frame, changed_patch, changed_loose}
 use Rattle.device_laws.proofs.Done.{Keeps, none_is}
 use Rattle.device_laws.proofs.FailedCall.{IsKept, IsWell, Goes, changed_goes}
-use Rattle.device_laws.proofs.Others.{Others, opens, others_changed, shut_well}
+use Rattle.device_laws.proofs.Others.{opens, others_changed, shut_well}
 use Rattle.device_laws.proofs.TrackMarks as M
 use Rattle.device_laws.proofs.TrackMarks.{TrackMarks, IsFaithful, is_good, frame_mark, track_at}
 use Rattle.device_laws.proofs.WriteMarks.{framed_is_there, fast_good, again_good, loosened_good}

@@ -1,5 +1,5 @@
 -- A command of the running program keeps good marks good, where each track that its chain comes to is one of the device's.
-use Rattle.std.proofs.Common.{◌≡◌, ◌<◌, zero, suc, ℕ, Bool, true, false, Option, Some, None, refl, sym, ap, subst, ◌∙◌, arith}
+use Rattle.std.proofs.Common.{◌≡◌, ◌<◌, zero, suc, ℕ, Bool, true, false, Option, Some, None, refl, sym, subst, ◌∙◌, arith}
 use Rattle.std.specs.Prelude.{if◌then◌else◌}
 use Rattle.ckd_chain.specs.declared.progress.Progress.{Progress}
 use Rattle.ckd_chain.specs.declared.progress.Progress.TheVariants as progresses
@@ -9,8 +9,7 @@ use Rattle.ckd_chain.specs.Steps.{need_of, stepped}
 use Rattle.plain_defs.specs.History.{OpenEntry}
 use Rattle.plain_device.specs.Acted.{settled_act, paths_behind}
 use Rattle.track_image.specs.Image.{Image}
-use Rattle.device_outside.specs.Interaction.{Interaction, Done, and_then}
-use Rattle.device_defs.specs.declared.answers.Stepped.{Stepped}
+use Rattle.device_outside.specs.Interaction.{Done}
 use Rattle.device_defs.specs.declared.answers.Took.{Took}
 use Rattle.device_defs.specs.declared.usage.Usage.{Usage}
 use Rattle.device_defs.specs.Command as N
@@ -38,14 +37,13 @@ use Rattle.device_defs.specs.Contents.{Contents}
 use Rattle.device_defs.specs.Device.{Device, with_store, event_begun, event}
 use Rattle.device_defs.specs.Image.{Imaged, Has, NoBytes, BadTrack, image}
 use Rattle.device_defs.specs.Memory.{had_by, and_had}
-use Rattle.device_defs.specs.Outcomes.{Turn, ends_with, settles, checks, usage_of, turned, again}
+use Rattle.device_defs.specs.Outcomes.{Turn, ends_with, settles, checks, usage_of, again}
 use Rattle.device_defs.specs.Store.{Store, tracks_of, is_lost}
 use Rattle.device_laws.proofs.Always.{Always, always_done, always_try, always_then, always_weaker}
 use Rattle.device_laws.proofs.Done.{Keeps, goes_keeps, keeps_on}
 use Rattle.device_laws.proofs.FailedCall.{IsWell, Goes, stays}
 use Rattle.device_laws.proofs.Through.{write_keeps_good}
-use Rattle.device_laws.proofs.TrackMarks as M
-use Rattle.device_laws.proofs.TrackMarks.{TrackMarks, IsFaithful, track_at}
+use Rattle.device_laws.proofs.TrackMarks.{IsFaithful, track_at}
 use Rattle.device_laws.proofs.WholeEvents.{turned_same, event_keeps}
 use Rattle.device_laws.proofs.WholeImage.{Looked, image_keeps_good}
 

@@ -1,21 +1,18 @@
 -- A write that is done leaves a clean frame or none, and no patch; a write that is half done leaves an open half write. Both keep good marks good.
 use Rattle.std.proofs.Common.{◌≡◌, ◌≢◌, ◌<◌, ◌==◌, ℕ, Bool, true, false, Option, Some, None, is_some, refl, sym, ap, subst, ◌∙◌, arith, ◌⊎◌, inl, inr}
 use Rattle.std.proofs.lemmas.Bool.{cases_eq}
-use Rattle.std.specs.Prelude.{if◌then◌else◌}
 use Rattle.track_image.specs.Image.{Image}
-use Rattle.device_outside.specs.Interaction.{Interaction, Done, Ask}
-use Rattle.device_outside.specs.Pool.{SetClean}
 use Rattle.device_defs.specs.Between.{HasSizes}
 use Rattle.device_defs.specs.Contents.{Contents}
 use Rattle.device_defs.specs.Losses.{slot_in}
-use Rattle.device_defs.specs.Store.{Origin, HalfWrite, Store, tracks_of, has_level, frame_at, patch_at, half_is, with_frame}
+use Rattle.device_defs.specs.Store.{Origin, HalfWrite, Store, tracks_of, frame_at, patch_at, half_is, with_frame}
 use Rattle.device_defs.specs.Writing as W
 use Rattle.device_defs.specs.Writing.{slot_freed, unpatched, done_by, write_done, half_opened, cleaned, opened}
 use Rattle.device_laws.proofs.Always.{Always, always_done, always_ask, always_weaker}
 use Rattle.device_laws.proofs.Changes as C
 use Rattle.device_laws.proofs.Changes.{Changed, rest_of, unchanged, changed_twice, changed_frame, changed_patch}
 use Rattle.device_laws.proofs.FailedCall.{IsKept, IsWell, Goes}
-use Rattle.device_laws.proofs.Others.{Others, others_changed, shut_goes, shut_well}
+use Rattle.device_laws.proofs.Others.{Others, others_changed, shut_goes}
 use Rattle.device_laws.proofs.Sweeps.{IsHere}
 use Rattle.device_laws.proofs.TrackMarks as M
 use Rattle.device_laws.proofs.TrackMarks.{TrackMarks, IsFaithful, is_good, frame_mark, track_at}

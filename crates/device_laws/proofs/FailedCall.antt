@@ -1,30 +1,5 @@
 -- A failed call between two writes keeps good marks good, and makes no track loose.
-use Rattle.std.proofs.Common.{
-  ◌≡◌,
-  ◌≢◌,
-  ◌<◌,
-  ◌≤◌,
-  zero,
-  suc,
-  ℕ,
-  Bool,
-  true,
-  false,
-  Option,
-  Some,
-  None,
-  is_some,
-  length,
-  refl,
-  sym,
-  ap,
-  subst,
-  ◌∙◌,
-  arith,
-  ◌⊎◌,
-  inl,
-  inr,
-}
+use Rattle.std.proofs.Common.{◌≡◌, ◌≢◌, ◌<◌, zero, suc, ℕ, Bool, true, false, Option, Some, None, refl, sym, ap, subst, ◌∙◌, arith, ◌⊎◌, inl, inr}
 use Rattle.std.proofs.lemmas.Bool.{cases_eq}
 use Rattle.std.proofs.lemmas.List.{length-set}
 use Rattle.std.specs.Prelude.{if◌then◌else◌}
@@ -37,12 +12,12 @@ use Rattle.device_defs.specs.Between.{HasSizes}
 use Rattle.device_defs.specs.Contents.{Contents}
 use Rattle.device_defs.specs.Losses as L
 use Rattle.device_defs.specs.Losses.{down, side_lost, framed_image, firm_told, all_firm_told, call_failed}
-use Rattle.device_defs.specs.Store.{Store, tracks_of, frame_at, is_loose, owed_at, with_owed}
+use Rattle.device_defs.specs.Store.{Store, tracks_of, frame_at, owed_at, with_owed}
 use Rattle.device_laws.proofs.Always.{Always, always_done, always_tell, always_then, always_weaker}
 use Rattle.device_laws.proofs.Changes as C
 use Rattle.device_laws.proofs.Changes.{Changed, rest_of}
-use Rattle.device_laws.proofs.SideLost.{settled_unless, down_here, down_tracks, lost_side_settles, lost_side_keeps_good}
-use Rattle.device_laws.proofs.Sweeps.{IsHere, Swept, same_tracks, same_half}
+use Rattle.device_laws.proofs.SideLost.{down_here, down_tracks, lost_side_settles, lost_side_keeps_good}
+use Rattle.device_laws.proofs.Sweeps.{IsHere, same_tracks, same_half}
 use Rattle.device_laws.proofs.TrackMarks as M
 use Rattle.device_laws.proofs.TrackMarks.{TrackMarks, marks, IsFaithful, settled_marks, is_good, track_at, good_is_near}
 

@@ -1,7 +1,6 @@
 -- The losses of the cache, of the store and of a side, as events, keep good marks good whatever is answered.
-use Rattle.std.proofs.Common.{◌≡◌, ◌<◌, ℕ, Bool, true, false, None, refl, sym, ap, subst, ◌∙◌, arith}
+use Rattle.std.proofs.Common.{◌≡◌, ◌<◌, Bool, true, false, None, refl, sym, ap, subst, ◌∙◌, arith}
 use Rattle.std.specs.Prelude.{if◌then◌else◌}
-use Rattle.ckd_types.specs.declared.paths.Side.{Side}
 use Rattle.loss_model.specs.declared.Loss.{Loss}
 use Rattle.loss_model.specs.declared.Loss.TheVariants as losses
 use Rattle.track_image.specs.Image.{Image}
@@ -17,9 +16,9 @@ use Rattle.device_laws.proofs.Always.{Always, always_done, always_then, always_w
 use Rattle.device_laws.proofs.CacheLost.{begun, begun_by, begun_here, begun_tracks, lost_cache_sweeps, lost_cache_settles, lost_cache_keeps_good}
 use Rattle.device_laws.proofs.Changes as C
 use Rattle.device_laws.proofs.Changes.{rest_of}
-use Rattle.device_laws.proofs.FailedCall.{IsKept, settled_kept, IsWell, IsSame, Goes, stays, goes_on, goes_same, side_goes, told_same, settled_firm}
+use Rattle.device_laws.proofs.FailedCall.{IsKept, settled_kept, IsWell, IsSame, Goes, goes_on, goes_same, side_goes, told_same, settled_firm}
 use Rattle.device_laws.proofs.Notices.{hearing_keeps_good, ending_changes_no_mark}
-use Rattle.device_laws.proofs.StoreLost.{patch_gone, unpatched_by, lost_store_sweeps, lost_store_keeps_good}
+use Rattle.device_laws.proofs.StoreLost.{unpatched_by, lost_store_sweeps, lost_store_keeps_good}
 use Rattle.device_laws.proofs.Sweeps.{IsHere, same_tracks, same_half}
 use Rattle.device_laws.proofs.TrackMarks as M
 use Rattle.device_laws.proofs.TrackMarks.{TrackMarks, IsFaithful, track_at}

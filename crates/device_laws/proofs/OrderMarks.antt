@@ -10,7 +10,6 @@ use Rattle.std.proofs.Common.{
   [],
   ◌∷◌,
   Option,
-  Some,
   None,
   is_some,
   length,
@@ -33,24 +32,12 @@ use Rattle.device_outside.specs.Interaction.{Interaction, Done}
 use Rattle.device_defs.specs.Between.{HasSizes, HasSides, IsAway}
 use Rattle.device_defs.specs.Contents.{Contents}
 use Rattle.device_defs.specs.Device.{Device, event_begun, quiet_event}
-use Rattle.device_defs.specs.Losses.{over, without_frame, without_patch}
+use Rattle.device_defs.specs.Losses.{over, without_frame}
 use Rattle.device_defs.specs.Orders as D
 use Rattle.device_defs.specs.Orders.{with_tracks, join, split, restore, replace, hold, resume, lent_to, given_up, lend}
 use Rattle.device_defs.specs.Owed.{waiting_count}
-use Rattle.device_defs.specs.Store.{
-  HalfWrite,
-  Store,
-  new_side,
-  tracks_of,
-  stale_at,
-  level_at,
-  has_level,
-  side_of,
-  frame_at,
-  patch_at,
-  half_is,
-}
-use Rattle.device_laws.proofs.Always.{Always, always_done, always_then, always_weaker}
+use Rattle.device_defs.specs.Store.{HalfWrite, Store, new_side, tracks_of, stale_at, level_at, has_level, side_of, half_is}
+use Rattle.device_laws.proofs.Always.{Always, always_done, always_then}
 use Rattle.device_laws.proofs.Changes as C
 use Rattle.device_laws.proofs.Changes.{Rest, Changed, rest_of, changed_twice, changed_unframed, changed_unpatched}
 use Rattle.device_laws.proofs.Done.{Keeps}

@@ -1,37 +1,11 @@
 -- While one track is written, all others stay good.
-use Rattle.std.proofs.Common.{
-  ◌≡◌,
-  ◌≢◌,
-  ◌<◌,
-  ◌==◌,
-  ℕ,
-  Bool,
-  true,
-  false,
-  Option,
-  Some,
-  None,
-  is_some,
-  length,
-  get_or,
-  set,
-  refl,
-  sym,
-  ap,
-  subst,
-  ◌∙◌,
-  arith,
-  ◌⊎◌,
-  inl,
-  inr,
-}
+use Rattle.std.proofs.Common.{◌≡◌, ◌≢◌, ◌<◌, ◌==◌, ℕ, Bool, true, false, Some, refl, sym, ap, subst, ◌∙◌, arith, ◌⊎◌, inl, inr}
 use Rattle.std.proofs.lemmas.Bool.{cases_eq}
-use Rattle.std.proofs.lemmas.List.{get_or-set_same, get_or-set_other, length-set}
-use Rattle.std.specs.Prelude.{if◌then◌else◌, ◌&&◌, ◌||◌, not}
+use Rattle.std.proofs.lemmas.List.{get_or-set_other, length-set}
+use Rattle.std.specs.Prelude.{if◌then◌else◌}
 use Rattle.ckd_types.specs.declared.paths.Side.{Side}
 use Rattle.ckd_types.specs.declared.paths.Side.TheVariants.{A, B}
-use Rattle.track_image.specs.Image.{Image}
-use Rattle.device_outside.specs.Interaction.{Interaction, Done}
+use Rattle.device_outside.specs.Interaction.{Done}
 use Rattle.device_defs.specs.Between.{HasSizes}
 use Rattle.device_defs.specs.Contents.{Contents}
 use Rattle.device_defs.specs.Losses.{down, side_lost, settled, all_firm_told, call_failed}
@@ -39,9 +13,9 @@ use Rattle.device_defs.specs.Store.{Store, tracks_of, has_level, with_stale}
 use Rattle.device_laws.proofs.Always.{Always, always_done, always_weaker}
 use Rattle.device_laws.proofs.Changes as C
 use Rattle.device_laws.proofs.Changes.{Rest, Changed, rest_of}
-use Rattle.device_laws.proofs.FailedCall.{IsKept, settled_kept, settled_firm, down_kept, IsWell, IsSame, Goes, stays, told_same}
+use Rattle.device_laws.proofs.FailedCall.{IsKept, settled_kept, settled_firm, down_kept, IsWell, IsSame, Goes, told_same}
 use Rattle.device_laws.proofs.Settled.{settled_changes_one_track}
-use Rattle.device_laws.proofs.SideLost.{settled_unless, down_near, down_here, down_tracks, lost_side_settles, lost_side_keeps_good}
+use Rattle.device_laws.proofs.SideLost.{down_near, down_here, down_tracks, lost_side_settles, lost_side_keeps_good}
 use Rattle.device_laws.proofs.Sweeps.{IsHere, same_tracks, same_half, is_free}
 use Rattle.device_laws.proofs.TrackMarks as M
 use Rattle.device_laws.proofs.TrackMarks.{

@@ -1,38 +1,11 @@
 -- The loss of power takes every frame, all data of cache fast write and an open half write, and keeps good marks good.
-use Rattle.std.proofs.Common.{
-  ◌≡◌,
-  ◌≢◌,
-  ◌<◌,
-  ℕ,
-  Bool,
-  true,
-  false,
-  List,
-  [],
-  ◌∷◌,
-  Option,
-  Some,
-  None,
-  is_some,
-  length,
-  replicate,
-  refl,
-  sym,
-  ap,
-  subst,
-  ◌∙◌,
-  arith,
-  ◌⊎◌,
-  inl,
-  inr,
-}
+use Rattle.std.proofs.Common.{◌≡◌, ◌≢◌, ◌<◌, ℕ, Bool, true, false, [], ◌∷◌, Option, Some, None, length, refl, sym, ap, subst, ◌∙◌, arith, ◌⊎◌, inl, inr}
 use Rattle.std.proofs.lemmas.Bool.{cases_eq}
 use Rattle.std.proofs.lemmas.List.{length-replicate}
 use Rattle.std.specs.Prelude.{if◌then◌else◌}
 use Rattle.loss_model.specs.declared.Loss.TheVariants as losses
-use Rattle.track_image.specs.Image.{Image}
 use Rattle.track_table.proofs.Places.{empty_places}
-use Rattle.device_outside.specs.Interaction.{Interaction, Done, and_then}
+use Rattle.device_outside.specs.Interaction.{Done, and_then}
 use Rattle.device_defs.specs.Between.{HasSizes}
 use Rattle.device_defs.specs.Contents.{Contents}
 use Rattle.device_defs.specs.Cutting as U
@@ -43,12 +16,12 @@ use Rattle.device_defs.specs.Events.{with_loss}
 use Rattle.device_defs.specs.Losses.{over, without_frame, without_patch, settled}
 use Rattle.device_defs.specs.Second.{closed}
 use Rattle.device_defs.specs.Store.{Origin, OfCommand, OfCut, OfBackground, HalfWrite, Store, tracks_of, has_loose, is_loose, half_is}
-use Rattle.device_laws.proofs.Always.{Always, always_done, always_then, always_weaker}
+use Rattle.device_laws.proofs.Always.{Always, always_done, always_then}
 use Rattle.device_laws.proofs.CacheLost.{none_below, unframed_settled, step}
 use Rattle.device_laws.proofs.Changes as C
 use Rattle.device_laws.proofs.Changes.{Changed, rest_of, changed_unpatched}
 use Rattle.device_laws.proofs.Done.{Keeps, goes_keeps, keeps_on}
-use Rattle.device_laws.proofs.FailedCall.{IsKept, settled_kept, IsWell, IsSame, Goes, goes_same}
+use Rattle.device_laws.proofs.FailedCall.{IsKept, settled_kept, IsWell, goes_same}
 use Rattle.device_laws.proofs.LossEvents.{begun_same, counted_same}
 use Rattle.device_laws.proofs.Sweeps.{IsHere, Swept, swept, half_within, same_tracks, same_half}
 use Rattle.device_laws.proofs.TrackMarks as M

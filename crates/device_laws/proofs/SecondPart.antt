@@ -1,8 +1,7 @@
 -- The second part of a write keeps good marks good, whose write it may be and whatever is answered.
-use Rattle.std.proofs.Common.{◌≡◌, ◌≢◌, ◌<◌, ◌==◌, ℕ, Bool, true, false, Option, Some, None, is_some, refl, sym, ap, subst, ◌∙◌, arith}
+use Rattle.std.proofs.Common.{◌≡◌, ◌≢◌, ◌<◌, ◌==◌, ℕ, Bool, true, false, Option, Some, None, refl, sym, ap, subst, ◌∙◌, arith}
 use Rattle.std.specs.Prelude.{if◌then◌else◌}
 use Rattle.track_image.specs.Image.{Image}
-use Rattle.device_outside.specs.Interaction.{Interaction, Done}
 use Rattle.device_defs.specs.Between.{HasSizes}
 use Rattle.device_defs.specs.Contents.{Contents}
 use Rattle.device_defs.specs.Effects.{with_edit}

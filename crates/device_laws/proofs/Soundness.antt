@@ -1,8 +1,8 @@
 -- Good marks are sound ones of which a lost track is on no side, and the losses keep a device's marks sound.
-use Rattle.std.proofs.Common.{◌≡◌, ◌≢◌, ◌<◌, ◌&&◌, ◌||◌, not, ℕ, Bool, true, false, Option, Some, None, is_some, refl, sym, ◌∙◌}
+use Rattle.std.proofs.Common.{◌≡◌, ◌<◌, ◌&&◌, ◌||◌, not, ℕ, Bool, true, false, Option, Some, None, is_some, refl, sym, ◌∙◌}
 use Rattle.std.specs.Prelude.{if◌then◌else◌}
 use Rattle.ckd_types.specs.declared.paths.Side.{Side}
-use Rattle.device_defs.specs.Between.{HasSizes, IsBetween}
+use Rattle.device_defs.specs.Between.{IsBetween}
 use Rattle.device_defs.specs.Contents.{Contents}
 use Rattle.device_defs.specs.Losses.{side_lost, cache_lost, store_lost}
 use Rattle.device_defs.specs.Owed.{is_modified, is_clean}

@@ -1,10 +1,10 @@
 -- A command's write keeps good marks good, wherever its edit goes and whatever is answered.
-use Rattle.std.proofs.Common.{◌≡◌, ◌<◌, ℕ, Bool, true, false, Option, Some, None, is_some, refl, sym, ap, subst, ◌∙◌, arith}
+use Rattle.std.proofs.Common.{◌≡◌, ◌<◌, ℕ, Bool, true, false, Option, Some, None, refl, sym, ap, subst, ◌∙◌, arith}
 use Rattle.std.specs.Prelude.{if◌then◌else◌, not}
 use Rattle.ckd_types.specs.declared.record.Edit.{Edit}
 use Rattle.ckd_types.specs.Parameters.{is_bypass}
 use Rattle.track_image.specs.Image.{Image, edited_image}
-use Rattle.device_outside.specs.Interaction.{Interaction, Done, Ask, Tell, and_then}
+use Rattle.device_outside.specs.Interaction.{Done, Ask, Tell, and_then}
 use Rattle.device_outside.specs.Keeper.{BeforeEdit}
 use Rattle.device_outside.specs.Pool.{SetClean}
 use Rattle.device_defs.specs.declared.answers.Choice.{Choice}
@@ -32,18 +32,17 @@ use Rattle.device_defs.specs.Editing.{
 use Rattle.device_defs.specs.Effects.{with_edit}
 use Rattle.device_defs.specs.Losses.{settled}
 use Rattle.device_defs.specs.Owed.{is_clean}
-use Rattle.device_defs.specs.Store.{Store, OfCommand, tracks_of, has_level, frame_at, is_loose}
+use Rattle.device_defs.specs.Store.{Store, OfCommand, tracks_of, has_level, frame_at}
 use Rattle.device_laws.proofs.Always.{Always, always_done, always_try, always_ask, always_tell, always_then, always_weaker}
-use Rattle.device_laws.proofs.Changes as C
-use Rattle.device_laws.proofs.Changes.{Changed, unchanged}
-use Rattle.device_laws.proofs.Choices.{Fits, Chosen, choice_fits, changed_edit, fast_keeps_good, provisional_keeps_good}
+use Rattle.device_laws.proofs.Changes.{unchanged}
+use Rattle.device_laws.proofs.Choices.{Fits, choice_fits, changed_edit, fast_keeps_good, provisional_keeps_good}
 use Rattle.device_laws.proofs.Done.{Keeps, goes_keeps, keeps_on, write_done_keeps_good, opened_keeps_good}
-use Rattle.device_laws.proofs.FailedCall.{IsKept, IsWell, IsSame, Goes, stays, goes_on}
+use Rattle.device_laws.proofs.FailedCall.{IsWell, Goes, stays, goes_on}
 use Rattle.device_laws.proofs.Others.{Others, Open, opens, others_changed, settled_goes}
 use Rattle.device_laws.proofs.TrackMarks as M
 use Rattle.device_laws.proofs.TrackMarks.{TrackMarks, IsFaithful, is_good, track_at}
 use Rattle.device_laws.proofs.WriteMarks.{level_is_there}
-use Rattle.device_laws.proofs.Writes.{Firmed, Written, is_taken, firm_first_keeps_good, write_first_keeps_good, write_second_keeps_others}
+use Rattle.device_laws.proofs.Writes.{is_taken, firm_first_keeps_good, write_first_keeps_good, write_second_keeps_others}
 
 module _ {F P H R : Type 0} (c : Contents F P H R) (faithful : IsFaithful c) where
   level_mark : (s : Store F P H) (t : ℕ) → has_level s t ≡ true → (track_at c s t).level ≡ true

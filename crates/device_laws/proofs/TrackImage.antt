@@ -1,20 +1,16 @@
 -- The image of a track, read or held, keeps good marks good whatever is answered, also where volumes don't tell what they hold.
-use Rattle.std.proofs.Common.{◌≡◌, ◌<◌, ◌||◌, ℕ, Bool, true, false, Option, Some, None, is_some, refl, sym, ap, subst, ◌∙◌, arith}
+use Rattle.std.proofs.Common.{◌≡◌, ◌<◌, ◌||◌, ℕ, Bool, true, false, Option, Some, None, is_some, refl, sym, ap, subst, ◌∙◌}
 use Rattle.std.specs.Prelude.{if◌then◌else◌}
-use Rattle.ckd_types.specs.declared.parameters.Mode.{Mode}
 use Rattle.ckd_types.specs.declared.paths.Side.{Side}
 use Rattle.ckd_types.specs.declared.paths.Side.TheVariants.{A, B}
-use Rattle.ckd_types.specs.Parameters.{is_bypass}
 use Rattle.track_image.specs.Image.{Image}
-use Rattle.device_outside.specs.Interaction.{Interaction, Done, Ask, and_then}
-use Rattle.device_outside.specs.Pool.{Touch, SetModified}
-use Rattle.device_defs.specs.declared.usage.Usage.{Usage}
+use Rattle.device_outside.specs.Interaction.{Interaction, Done, Ask}
+use Rattle.device_outside.specs.Pool.{SetModified}
 use Rattle.device_defs.specs.Contents.{Contents}
 use Rattle.device_defs.specs.Image as I
 use Rattle.device_defs.specs.Image.{Got, Imaged, Has, NoBytes, got, read_counted, read_side, second_read, read_b, first_read, level_bytes, filled, framed}
-use Rattle.device_defs.specs.Losses.{call_failed}
-use Rattle.device_defs.specs.Store.{Store, tracks_of, level_at, has_level, frame_at, patch_at, is_loose, with_frame}
-use Rattle.device_laws.proofs.Always.{Always, always_done, always_try, always_ask, always_read, always_then, always_weaker}
+use Rattle.device_defs.specs.Store.{Store, tracks_of, level_at, has_level, patch_at, is_loose}
+use Rattle.device_laws.proofs.Always.{Always, always_done, always_ask, always_read, always_then}
 use Rattle.device_laws.proofs.Changes as C
 use Rattle.device_laws.proofs.Changes.{Changed, rest_of, changed_frame}
 use Rattle.device_laws.proofs.FailedCall.{IsWell, IsSame, Goes, stays, goes_on, goes_same, changed_goes, failed_call_keeps_good}

@@ -1,5 +1,5 @@
 -- The events of a device keep good marks good: a second part, what it does by itself, and the reset of a path.
-use Rattle.std.proofs.Common.{◌≡◌, ◌<◌, ◌==◌, ℕ, Bool, true, false, Option, Some, None, refl, sym, ap, subst, ◌∙◌, arith}
+use Rattle.std.proofs.Common.{◌≡◌, ◌==◌, ℕ, Bool, true, false, Option, Some, None, refl, sym, ap, subst, ◌∙◌, arith}
 use Rattle.std.specs.Prelude.{if◌then◌else◌}
 use Rattle.ckd_chain.specs.State.{ChainState}
 use Rattle.ckd_types.specs.declared.record.Edit.{Edit}
@@ -19,7 +19,7 @@ use Rattle.device_defs.specs.Events as E
 use Rattle.device_defs.specs.Events.{second_turn, command_ended, second_ended, second_of, second, background}
 use Rattle.device_defs.specs.Outcomes.{sense_kept, program_over, turned_by, turned}
 use Rattle.device_defs.specs.Owed.{waiting_count}
-use Rattle.device_defs.specs.Store.{Origin, OfCommand, OfCut, OfBackground, HalfWrite, Store, tracks_of, half_is}
+use Rattle.device_defs.specs.Store.{Origin, OfCommand, OfCut, OfBackground, HalfWrite, Store, half_is}
 use Rattle.device_laws.proofs.Always.{Always, always_done, always_tell, always_then, always_weaker}
 use Rattle.device_laws.proofs.Changes as C
 use Rattle.device_laws.proofs.Changes.{rest_of}

@@ -1,7 +1,6 @@
 -- What a device does by itself keeps good marks good: it recovers, copies, stages or destages a track.
 use Rattle.std.proofs.Common.{
   ◌≡◌,
-  ◌≢◌,
   ◌<◌,
   ◌≤◌,
   zero,
@@ -18,8 +17,6 @@ use Rattle.std.proofs.Common.{
   None,
   is_some,
   length,
-  get_or,
-  set,
   refl,
   sym,
   ap,
@@ -31,7 +28,7 @@ use Rattle.std.proofs.Common.{
   inr,
 }
 use Rattle.std.proofs.lemmas.Bool.{cases_lt}
-use Rattle.std.proofs.lemmas.List.{get_or-set_same, set_past}
+use Rattle.std.proofs.lemmas.List.{set_past}
 use Rattle.std.specs.Prelude.{if◌then◌else◌, ◌&&◌, ◌||◌, not}
 use Rattle.ckd_types.specs.declared.paths.Side.{Side}
 use Rattle.ckd_types.specs.declared.paths.Side.TheVariants.{A, B}
@@ -41,7 +38,7 @@ use Rattle.track_table.specs.Tracks.{least, or_else}
 use Rattle.device_outside.specs.Interaction.{Interaction, Done, Ask, Try, and_then}
 use Rattle.device_outside.specs.Pool.{WantFrame, SetModified}
 use Rattle.device_defs.specs.declared.answers.Did.{Did}
-use Rattle.device_defs.specs.declared.answers.Did.TheVariants.{Nothing, Recovered, Copied, Staged, Skipped, Destaged}
+use Rattle.device_defs.specs.declared.answers.Did.TheVariants.{Recovered, Skipped, Destaged}
 use Rattle.device_defs.specs.declared.answers.Took.{Took}
 use Rattle.device_defs.specs.declared.answers.Took.TheVariants.{Whole, Opened, Unwritten}
 use Rattle.device_defs.specs.Background as K
@@ -73,8 +70,8 @@ use Rattle.device_defs.specs.Background.{
   other,
 }
 use Rattle.device_defs.specs.Contents.{Contents}
-use Rattle.device_defs.specs.Image.{Got, read_counted, level_bytes, image_of, framed, filled}
-use Rattle.device_defs.specs.Losses.{framed_image, call_failed}
+use Rattle.device_defs.specs.Image.{Got, read_counted, image_of, framed, filled}
+use Rattle.device_defs.specs.Losses.{framed_image}
 use Rattle.device_defs.specs.Owed as O
 use Rattle.device_defs.specs.Owed.{is_modified, waits, waits_by}
 use Rattle.device_defs.specs.Store.{
@@ -93,12 +90,12 @@ use Rattle.device_defs.specs.Store.{
   with_stale,
   with_frame,
 }
-use Rattle.device_defs.specs.Writing.{write_counted, firm_first, write_first}
+use Rattle.device_defs.specs.Writing.{write_counted}
 use Rattle.device_laws.proofs.Always.{Always, always_done, always_try, always_ask, always_read, always_write, always_then, always_weaker}
 use Rattle.device_laws.proofs.Changes as C
 use Rattle.device_laws.proofs.Changes.{Changed, rest_of}
 use Rattle.device_laws.proofs.Done.{Keeps, goes_keeps, keeps_on, write_done_keeps_good, opened_keeps_good}
-use Rattle.device_laws.proofs.FailedCall.{IsKept, IsWell, IsSame, Goes, stays, goes_on, goes_same, changed_goes, failed_call_keeps_good}
+use Rattle.device_laws.proofs.FailedCall.{IsWell, IsSame, Goes, stays, goes_on, goes_same, changed_goes, failed_call_keeps_good}
 use Rattle.device_laws.proofs.Others.{opens, changed_stale}
 use Rattle.device_laws.proofs.TrackImage.{Reads, level_bytes_keeps_good, filling_keeps_good}
 use Rattle.device_laws.proofs.TrackMarks as M

@@ -1,5 +1,5 @@
 -- What a write makes of the marks of its track, and when they are good.
-use Rattle.std.proofs.Common.{◌≡◌, ℕ, Bool, true, false, Option, Some, None, is_some, refl, sym, subst}
+use Rattle.std.proofs.Common.{◌≡◌, Bool, true, false, Option, Some, None, is_some, refl, sym, subst}
 use Rattle.device_laws.proofs.TrackMarks.{TrackMarks, marks, settled_marks, is_near, is_good}
 
 -- a track that isn't lost becomes level

@@ -1,27 +1,6 @@
 -- The parts of a write to the volumes keep good marks good, whatever is answered; a track that was taken is level then.
-use Rattle.std.proofs.Common.{
-  ◌≡◌,
-  ◌≢◌,
-  ◌<◌,
-  ℕ,
-  Bool,
-  true,
-  false,
-  Option,
-  Some,
-  None,
-  is_some,
-  length,
-  get_or,
-  set,
-  refl,
-  sym,
-  ap,
-  subst,
-  ◌∙◌,
-  arith,
-}
-use Rattle.std.proofs.lemmas.List.{get_or-set_same, length-set}
+use Rattle.std.proofs.Common.{◌≡◌, ◌<◌, ℕ, Bool, true, false, Option, Some, None, length, get_or, set, refl, sym, ap, subst, ◌∙◌, arith}
+use Rattle.std.proofs.lemmas.List.{get_or-set_same}
 use Rattle.std.specs.Prelude.{if◌then◌else◌, ◌&&◌, ◌||◌, not}
 use Rattle.ckd_types.specs.declared.paths.Side.{Side}
 use Rattle.ckd_types.specs.declared.paths.Side.TheVariants.{A, B}
@@ -55,22 +34,10 @@ use Rattle.device_defs.specs.Writing.{
 use Rattle.device_laws.proofs.Always.{Always, always_done, always_write, always_tell, always_then, always_weaker}
 use Rattle.device_laws.proofs.Changes as C
 use Rattle.device_laws.proofs.Changes.{Changed, rest_of, changed_twice, changed_hardened, changed_stale_everywhere}
-use Rattle.device_laws.proofs.FailedCall.{IsKept, IsWell, IsSame, Goes, stays, goes_on, goes_same, changed_goes}
-use Rattle.device_laws.proofs.Others.{
-  Others,
-  Open,
-  Failed,
-  opens,
-  open_same,
-  others_changed,
-  shut_goes,
-  changed_stale,
-  failed_write_keeps_others,
-  settled_goes,
-  stale_open,
-}
+use Rattle.device_laws.proofs.FailedCall.{IsKept, IsWell, IsSame, Goes, stays, changed_goes}
+use Rattle.device_laws.proofs.Others.{Open, opens, open_same, others_changed, shut_goes, changed_stale, failed_write_keeps_others, settled_goes, stale_open}
 use Rattle.device_laws.proofs.Soundness.{and_left}
-use Rattle.device_laws.proofs.Sweeps.{IsHere, is_alone, same_tracks}
+use Rattle.device_laws.proofs.Sweeps.{IsHere, is_alone}
 use Rattle.device_laws.proofs.TrackMarks as M
 use Rattle.device_laws.proofs.TrackMarks.{TrackMarks, IsFaithful, is_good, track_at, good_is_near}
 use Rattle.device_laws.proofs.WriteMarks.{taken_good, firm_good}
