@@ -24,3 +24,4 @@ pub mod WholeEvents
 pub mod Powers
 pub mod Commands
 pub mod OrderMarks
+pub mod SoundEvents
