@@ -1,6 +1,5 @@
 -- What holds behind an interaction whatever is answered, also by volumes that don't tell what they hold.
-use Rattle.std.proofs.Common.{ℕ, Bool, true, false, Option}
-use Rattle.std.specs.Prelude.{if◌then◌else◌}
+use Rattle.std.proofs.Common.{ℕ, Bool, Option}
 use Rattle.ckd_types.specs.declared.paths.Side.{Side}
 use Rattle.device_outside.specs.Interaction.{Interaction, Done, Try, Ask, Read, Write, Tell, and_then}
 use Rattle.device_outside.specs.Keeper.{Message, ReplyTo}

@@ -16,8 +16,6 @@ use Rattle.std.proofs.Common.{
   ◌∷◌,
   is_some,
   length,
-  replicate,
-  get_or,
   refl,
   sym,
   ap,
@@ -79,7 +77,7 @@ without_frame_near f p false o true v e = refl
 without_frame_near f p false o false v e = refl
 
 module _ {F P H R : Type 0} (c : Contents F P H R) (faithful : IsFaithful c) where
-  step : (z : Store F P H) (n : ℕ) → n < tracks_of z → HasSizes z → IsHere (rest_of z) →
+  pub step : (z : Store F P H) (n : ℕ) → n < tracks_of z → HasSizes z → IsHere (rest_of z) →
       Changed c z (settled c (without_frame z n) n) n (unframed_settled n (track_at c z n))
   step z n lt sizes here =
       let f = changed_unframed c z n lt sizes in
@@ -107,8 +105,8 @@ module _ {F P H R : Type 0} (c : Contents F P H R) (faithful : IsFaithful c) whe
 
   pub begun_here : (s : Store F P H) (b : Bool) → IsHere (rest_of s) → IsHere (rest_of (begun_by b s))
   unfolding C.rest_of
-  begun_here s true h = record { free = h.free; alone = h.alone }
-  begun_here s false h = record { free = h.free; alone = h.alone }
+  begun_here s true h = record { free = h.free; alone = h.alone; within = h.within }
+  begun_here s false h = record { free = h.free; alone = h.alone; within = h.within }
 
   pub begun_tracks : (s : Store F P H) (b : Bool) → tracks_of (begun_by b s) ≡ tracks_of s
   begun_tracks s true = refl

@@ -25,3 +25,16 @@ pub mod ChainAtHand
 pub mod DevicePaths
 pub mod PathsAlong
 pub mod SensesKept
+pub mod WriteMarks
+pub mod Others
+pub mod Writes
+pub mod Done
+pub mod Choices
+pub mod Through
+pub mod SecondPart
+pub mod Working
+pub mod WholeEvents
+pub mod Powers
+pub mod Commands
+pub mod OrderMarks
+pub mod SoundEvents

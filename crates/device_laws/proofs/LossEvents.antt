@@ -1,7 +1,6 @@
 -- The losses of the cache, of the store and of a side, as events, keep good marks good whatever is answered.
-use Rattle.std.proofs.Common.{◌≡◌, ◌<◌, ℕ, Bool, true, false, None, refl, sym, ap, subst, ◌∙◌, arith}
+use Rattle.std.proofs.Common.{◌≡◌, ◌<◌, Bool, true, false, None, refl, sym, ap, subst, ◌∙◌, arith}
 use Rattle.std.specs.Prelude.{if◌then◌else◌}
-use Rattle.ckd_types.specs.declared.paths.Side.{Side}
 use Rattle.loss_model.specs.declared.Loss.{Loss}
 use Rattle.loss_model.specs.declared.Loss.TheVariants as losses
 use Rattle.track_image.specs.Image.{Image}
@@ -14,13 +13,13 @@ use Rattle.device_defs.specs.Losses.{cache_lost, store_lost}
 use Rattle.device_defs.specs.Owed.{waiting_count}
 use Rattle.device_defs.specs.Store.{Store, tracks_of, has_loose}
 use Rattle.device_laws.proofs.Always.{Always, always_done, always_then, always_weaker}
-use Rattle.device_laws.proofs.CacheLost.{begun, begun_here, begun_tracks, lost_cache_sweeps, lost_cache_settles, lost_cache_keeps_good}
+use Rattle.device_laws.proofs.CacheLost.{begun, begun_by, begun_here, begun_tracks, lost_cache_sweeps, lost_cache_settles, lost_cache_keeps_good}
 use Rattle.device_laws.proofs.Changes as C
 use Rattle.device_laws.proofs.Changes.{rest_of}
-use Rattle.device_laws.proofs.FailedCall.{IsWell, IsSame, Goes, stays, goes_on, goes_same, side_goes, told_same, settled_firm}
+use Rattle.device_laws.proofs.FailedCall.{IsKept, settled_kept, IsWell, IsSame, Goes, goes_on, goes_same, side_goes, told_same, settled_firm}
 use Rattle.device_laws.proofs.Notices.{hearing_keeps_good, ending_changes_no_mark}
-use Rattle.device_laws.proofs.StoreLost.{patch_gone, unpatched_by, lost_store_sweeps, lost_store_keeps_good}
-use Rattle.device_laws.proofs.Sweeps.{IsHere, same_tracks}
+use Rattle.device_laws.proofs.StoreLost.{unpatched_by, lost_store_sweeps, lost_store_keeps_good}
+use Rattle.device_laws.proofs.Sweeps.{IsHere, same_tracks, same_half}
 use Rattle.device_laws.proofs.TrackMarks as M
 use Rattle.device_laws.proofs.TrackMarks.{TrackMarks, IsFaithful, track_at}
 
@@ -32,7 +31,19 @@ gone_firm : (x : TrackMarks) (p : Bool) → x.loose ≡ false → (if p then unp
 gone_firm x true e = gone_by x x.half e
 gone_firm x false e = e
 
+kept_by : (x : TrackMarks) (h : Bool) → IsKept x → IsKept (unpatched_by h x)
+kept_by x true k = k
+kept_by x false k = settled_kept (record x { patched = false; level = false }) k
+
+gone_kept : (x : TrackMarks) (p : Bool) → IsKept x → IsKept (if p then unpatched_by x.half x else x)
+gone_kept x true k = kept_by x x.half k
+gone_kept x false k = k
+
 module _ {F P H R : Type 0} (c : Contents F P H R) (faithful : IsFaithful c) where
+  begun_half : (s : Store F P H) (b : Bool) → (begun_by c faithful b s).half ≡ s.half
+  begun_half s true = refl
+  begun_half s false = refl
+
   cache_goes : (s : Store F P H) → IsWell c s → Goes c s (cache_lost c s)
   cache_goes s w =
       let e = lost_cache_sweeps c faithful s w.sizes w.here in
@@ -44,10 +55,14 @@ module _ {F P H R : Type 0} (c : Contents F P H R) (faithful : IsFaithful c) whe
           here = subst IsHere (sym e.rest) (begun_here c faithful s (has_loose s) w.here);
           good = λ q lt. let below : q < tracks_of s = omega arith in
               lost_cache_keeps_good c faithful s w.sizes w.here q below (w.good q below);
+          kept = λ q lt. let below : q < tracks_of s = omega arith in
+              subst IsKept (sym (lost_cache_settles c faithful s w.sizes w.here q below))
+              (settled_kept (record (track_at c s q) { frame = None; loose = false }) (w.kept q below));
         };
         tracks = same;
         firm = λ q lt f. ap (λ (x : TrackMarks). x.loose) (lost_cache_settles c faithful s w.sizes w.here q lt)
             ∙ settled_firm (record (track_at c s q) { frame = None; loose = false }) refl;
+        half = same_half (begun c faithful s) (cache_lost c s) e.rest ∙ begun_half s (has_loose s);
       }
 
   store_goes : (s : Store F P H) → IsWell c s → Goes c s (store_lost c s)
@@ -60,9 +75,12 @@ module _ {F P H R : Type 0} (c : Contents F P H R) (faithful : IsFaithful c) whe
           here = subst IsHere (sym e.rest) w.here;
           good = λ q lt. let below : q < tracks_of s = omega arith in
               lost_store_keeps_good c faithful s w.sizes w.here q below (w.good q below);
+          kept = λ q lt. let below : q < tracks_of s = omega arith in
+              subst IsKept (sym (e.changed q below)) (gone_kept (track_at c s q) (track_at c s q).patched (w.kept q below));
         };
         tracks = same;
         firm = λ q lt f. ap (λ (x : TrackMarks). x.loose) (e.changed q lt) ∙ gone_firm (track_at c s q) (track_at c s q).patched f;
+        half = same_half s (store_lost c s) e.rest;
       }
 
   pub loss_goes : (s : Store F P H) (loss : Loss) → IsWell c s → Goes c s (lost_by c s loss)
@@ -70,7 +88,7 @@ module _ {F P H R : Type 0} (c : Contents F P H R) (faithful : IsFaithful c) whe
   loss_goes s losses.Store w = store_goes s w
   loss_goes s (losses.Side side) w = side_goes c faithful s side w
 
-  counted_same : (s : Store F P H) (loss : Loss) → IsWell c s → IsSame c s (with_loss s loss)
+  pub counted_same : (s : Store F P H) (loss : Loss) → IsWell c s → IsSame c s (with_loss s loss)
   unfolding M.track_at C.rest_of
   counted_same s loss w = record { sizes = record { are = w.sizes.are }; rest = refl; marks = λ q. refl }
 
@@ -82,7 +100,7 @@ module _ {F P H R : Type 0} (c : Contents F P H R) (faithful : IsFaithful c) whe
       always_weaker (told_same c (tracks_of s) (lost_by c (with_loss s loss) loss) lost.well.sizes)
       (λ z _ e. goes_on c s (lost_by c (with_loss s loss) loss) z gone (goes_same c (lost_by c (with_loss s loss) loss) z lost.well e))
 
-  begun_same : (d : Device F P H) → IsWell c d.store → IsSame c d.store (event_begun d).store
+  pub begun_same : (d : Device F P H) → IsWell c d.store → IsSame c d.store (event_begun d).store
   unfolding M.track_at C.rest_of
   begun_same d w = record { sizes = record { are = w.sizes.are }; rest = refl; marks = λ q. refl }
 

@@ -1,36 +1,11 @@
 -- The notices at the front of an event and what is told at its end keep good marks good.
-use Rattle.std.proofs.Common.{
-  ◌≡◌,
-  ◌<◌,
-  ◌≤◌,
-  zero,
-  suc,
-  ℕ,
-  Bool,
-  true,
-  false,
-  Option,
-  Some,
-  None,
-  is_some,
-  length,
-  get_or,
-  refl,
-  sym,
-  ap,
-  subst,
-  ◌∙◌,
-  arith,
-  ◌⊎◌,
-  inl,
-  inr,
-}
+use Rattle.std.proofs.Common.{◌≡◌, ◌<◌, ◌≤◌, zero, suc, ℕ, Bool, true, false, Option, Some, None, length, refl, ap, ◌∙◌, arith, ◌⊎◌, inl, inr}
 use Rattle.std.proofs.lemmas.Bool.{cases_lt}
 use Rattle.std.proofs.lemmas.List.{length-set, get_or_past}
 use Rattle.std.specs.Prelude.{if◌then◌else◌, not, ◌&&◌, ◌==◌}
 use Rattle.track_image.specs.Image.{Image}
 use Rattle.device_outside.specs.Interaction.{Interaction, Done, Ask}
-use Rattle.device_outside.specs.Pool.{SetModified, DropFrame, FreeSlot, TellWaiting}
+use Rattle.device_outside.specs.Pool.{SetModified, DropFrame, TellWaiting}
 use Rattle.device_defs.specs.Between.{HasSizes}
 use Rattle.device_defs.specs.Contents.{Contents}
 use Rattle.device_defs.specs.Owed as O
@@ -55,7 +30,7 @@ use Rattle.device_defs.specs.Store.{Store, no_debt, tracks_of, frame_at, owed_at
 use Rattle.device_laws.proofs.Always.{Always, always_done, always_ask, always_then, always_weaker}
 use Rattle.device_laws.proofs.Changes as C
 use Rattle.device_laws.proofs.Changes.{rest_of, changed_frame}
-use Rattle.device_laws.proofs.FailedCall.{IsWell, IsSame, Goes, stays, goes_on, goes_same, changed_goes}
+use Rattle.device_laws.proofs.FailedCall.{IsWell, IsSame, Goes, stays, goes_on, changed_goes}
 use Rattle.device_laws.proofs.TrackMarks as M
 use Rattle.device_laws.proofs.TrackMarks.{IsFaithful, frame_mark, track_at}
 use Rattle.device_laws.proofs.WholeImage.{clean_may_go}
@@ -85,7 +60,7 @@ module _ {F P H R : Type 0} (c : Contents F P H R) where
   dropped_by s t true e w =
       let lt = clean_below s t w e in
       changed_goes c s (with_frame s t None) t _ w (changed_frame c s t None lt w.sizes)
-      (clean_may_go (track_at c s t) (clean_mark s t (frame_at s t) refl e) (w.good t lt)) (λ f. f)
+      (clean_may_go (track_at c s t) (clean_mark s t (frame_at s t) refl e) (w.good t lt)) (w.kept t lt) (λ f. f)
   dropped_by s t false e w = stays c s w
 
   note_by : (n : ℕ) (s : Store F P H) (o : Option ℕ) → ((z : Store F P H) → IsWell c z → Always (hear c n z) (λ y _. Goes c z y)) → IsWell c s →

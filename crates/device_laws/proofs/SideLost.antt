@@ -1,5 +1,5 @@
 -- The loss of a side settles each track but the one that is being written, and keeps good marks good.
-use Rattle.std.proofs.Common.{◌≡◌, ◌≢◌, ◌<◌, ◌≤◌, ◌==◌, ◌&&◌, ◌||◌, not, ℕ, Bool, true, false, Option, Some, None, is_some, refl, sym, ap, subst, ◌∙◌, arith}
+use Rattle.std.proofs.Common.{◌≡◌, ◌≢◌, ◌<◌, ◌==◌, ◌||◌, ℕ, Bool, true, false, Option, Some, None, refl, sym, ap, ◌∙◌, arith}
 use Rattle.std.specs.Prelude.{if◌then◌else◌}
 use Rattle.ckd_types.specs.declared.paths.Side.{Side}
 use Rattle.ckd_types.specs.declared.paths.Side.TheVariants.{A, B}
@@ -47,8 +47,8 @@ module _ {F P H R : Type 0} (c : Contents F P H R) (faithful : IsFaithful c) whe
 
   pub down_here : (s : Store F P H) (side : Side) → IsHere (rest_of s) → IsHere (rest_of (down s side))
   unfolding C.rest_of
-  down_here s A h = record { free = h.free; alone = h.alone }
-  down_here s B h = record { free = h.free; alone = λ e. refl }
+  down_here s A h = record { free = h.free; alone = h.alone; within = h.within }
+  down_here s B h = record { free = h.free; alone = λ e. refl; within = h.within }
 
   pub down_tracks : (s : Store F P H) (side : Side) → tracks_of (down s side) ≡ tracks_of s
   down_tracks s A = refl
@@ -71,7 +71,7 @@ module _ {F P H R : Type 0} (c : Contents F P H R) (faithful : IsFaithful c) whe
   or_right false y e = e
 
   -- a side that is down has nothing
-  down_near : (s : Store F P H) (side : Side) (q : ℕ) → is_near (track_at c s q) ≡ true → is_near (track_at c (down s side) q) ≡ true
+  pub down_near : (s : Store F P H) (side : Side) (q : ℕ) → is_near (track_at c s q) ≡ true → is_near (track_at c (down s side) q) ≡ true
   unfolding M.track_at
   down_near s A q near = near_with_fewer_sides (track_at c s q) (has_level (down s A) q) near (λ e. or_right _ _ e)
   down_near s B q near = near_with_fewer_sides (track_at c s q) (has_level (down s B) q) near (λ e. or_true _ e _)

@@ -1,8 +1,8 @@
 -- Good marks are sound ones of which a lost track is on no side, and the losses keep a device's marks sound.
-use Rattle.std.proofs.Common.{◌≡◌, ◌≢◌, ◌<◌, ◌&&◌, ◌||◌, not, ℕ, Bool, true, false, Option, Some, None, is_some, refl, sym, ◌∙◌}
+use Rattle.std.proofs.Common.{◌≡◌, ◌<◌, ◌&&◌, ◌||◌, not, ℕ, Bool, true, false, Option, Some, None, is_some, refl, sym, ◌∙◌}
 use Rattle.std.specs.Prelude.{if◌then◌else◌}
 use Rattle.ckd_types.specs.declared.paths.Side.{Side}
-use Rattle.device_defs.specs.Between.{HasSizes, IsBetween}
+use Rattle.device_defs.specs.Between.{IsBetween}
 use Rattle.device_defs.specs.Contents.{Contents}
 use Rattle.device_defs.specs.Losses.{side_lost, cache_lost, store_lost}
 use Rattle.device_defs.specs.Owed.{is_modified, is_clean}
@@ -20,7 +20,7 @@ use Rattle.device_laws.proofs.TrackMarks.{TrackMarks, marks, IsFaithful, is_bare
 abbrev sound_marks : TrackMarks → Bool
 sound_marks x = if x.lost then is_bare x else if x.half then not x.loose else is_somewhere x
 
-and_left : (x y : Bool) → (x && y) ≡ true → x ≡ true
+pub and_left : (x y : Bool) → (x && y) ≡ true → x ≡ true
 and_left true y e = refl
 and_left false y e = e
 
@@ -76,7 +76,7 @@ module _ {F P H R : Type 0} (c : Contents F P H R) where
   -- a device that isn't lent, between two events
   pub is_here : (s : Store F P H) → IsBetween s → is_some s.lent ≡ false → IsHere (rest_of s)
   unfolding C.rest_of
-  is_here s between free = record { free = free; alone = between.sides.alone }
+  is_here s between free = record { free = free; alone = between.sides.alone; within = between.half }
 
   module _ (faithful : IsFaithful c) (s : Store F P H) (between : IsBetween s) (free : is_some s.lent ≡ false)
       (sound : (q : ℕ) → q < tracks_of s → has_sound_marks c s q ≡ true) where

@@ -6,7 +6,6 @@ use Rattle.device_defs.specs.Contents.{Contents}
 use Rattle.device_defs.specs.Losses as L
 use Rattle.device_defs.specs.Losses.{without_patch, stale_everywhere, settled, patch_lost, store_lost}
 use Rattle.device_defs.specs.Store.{Store, tracks_of, patch_at, half_is}
-use Rattle.device_laws.proofs.Changes as C
 use Rattle.device_laws.proofs.Changes.{Changed, rest_of, unchanged, changed_twice, changed_unpatched, changed_stale_everywhere}
 use Rattle.device_laws.proofs.Settled.{settled_changes_one_track}
 use Rattle.device_laws.proofs.Sweeps.{IsHere, Swept, swept, is_free, is_alone, same_tracks}

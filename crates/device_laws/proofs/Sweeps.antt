@@ -1,19 +1,20 @@
 -- A change of each track in turn: what it makes of the marks of each.
-use Rattle.std.proofs.Common.{◌≡◌, ◌≢◌, ◌<◌, ◌≤◌, ◌+◌, zero, suc, ℕ, Bool, true, false, is_some, refl, sym, ap, subst, ◌∙◌, arith, ◌⊎◌, inl, inr}
+use Rattle.std.proofs.Common.{◌≡◌, ◌≢◌, ◌<◌, ◌≤◌, ◌*◌, zero, suc, ℕ, false, Some, is_some, refl, sym, ap, subst, ◌∙◌, arith, ◌⊎◌, inl, inr}
 use Rattle.std.proofs.lemmas.Bool.{cases_eq}
 use Rattle.device_defs.specs.Between.{HasSizes}
 use Rattle.device_defs.specs.Contents.{Contents}
 use Rattle.device_defs.specs.Losses as L
 use Rattle.device_defs.specs.Losses.{over}
-use Rattle.device_defs.specs.Store.{Store, tracks_of}
+use Rattle.device_defs.specs.Store.{HalfWrite, Store, tracks_of}
 use Rattle.device_laws.proofs.Changes as C
 use Rattle.device_laws.proofs.Changes.{Rest, rest_of, Changed}
 use Rattle.device_laws.proofs.TrackMarks.{TrackMarks, track_at}
 
--- a device that isn't lent, and has no side B where it is alone
+-- a device that isn't lent, has no side B where it is alone, and an open half write of one of its tracks
 pub record IsHere {H : Type 0} (r : Rest H) : Type 0 where
   pub free : is_some r.lent ≡ false
   pub alone : r.paired ≡ false → r.up_b ≡ false
+  pub within : (h : HalfWrite H) → r.half ≡ Some h → h.track < r.cylinders * 15
 
 pub is_free : {F P H : Type 0} (s : Store F P H) → IsHere (rest_of s) → is_some s.lent ≡ false
 unfolding C.rest_of
@@ -22,6 +23,14 @@ is_free s h = h.free
 pub is_alone : {F P H : Type 0} (s : Store F P H) → IsHere (rest_of s) → s.paired ≡ false → s.b.up ≡ false
 unfolding C.rest_of
 is_alone s h = h.alone
+
+pub same_half : {F P H : Type 0} (s z : Store F P H) → rest_of z ≡ rest_of s → z.half ≡ s.half
+unfolding C.rest_of
+same_half {F} {P} {H} s z e = ap (λ (r : Rest H). r.half) e
+
+pub half_within : {F P H : Type 0} (s : Store F P H) → IsHere (rest_of s) → (h : HalfWrite H) → s.half ≡ Some h → h.track < tracks_of s
+unfolding C.rest_of
+half_within s i h e = i.within h e
 
 pub same_tracks : {F P H : Type 0} (s z : Store F P H) → rest_of z ≡ rest_of s → tracks_of z ≡ tracks_of s
 unfolding C.rest_of

@@ -1,20 +1,16 @@
 -- The image of a track, read or held, keeps good marks good whatever is answered, also where volumes don't tell what they hold.
-use Rattle.std.proofs.Common.{◌≡◌, ◌<◌, ◌||◌, ℕ, Bool, true, false, Option, Some, None, is_some, refl, sym, ap, subst, ◌∙◌, arith}
+use Rattle.std.proofs.Common.{◌≡◌, ◌<◌, ◌||◌, ℕ, Bool, true, false, Option, Some, None, is_some, refl, sym, ap, subst, ◌∙◌}
 use Rattle.std.specs.Prelude.{if◌then◌else◌}
-use Rattle.ckd_types.specs.declared.parameters.Mode.{Mode}
 use Rattle.ckd_types.specs.declared.paths.Side.{Side}
 use Rattle.ckd_types.specs.declared.paths.Side.TheVariants.{A, B}
-use Rattle.ckd_types.specs.Parameters.{is_bypass}
 use Rattle.track_image.specs.Image.{Image}
-use Rattle.device_outside.specs.Interaction.{Interaction, Done, Ask, and_then}
-use Rattle.device_outside.specs.Pool.{Touch, SetModified}
-use Rattle.device_defs.specs.declared.usage.Usage.{Usage}
+use Rattle.device_outside.specs.Interaction.{Interaction, Done, Ask}
+use Rattle.device_outside.specs.Pool.{SetModified}
 use Rattle.device_defs.specs.Contents.{Contents}
 use Rattle.device_defs.specs.Image as I
 use Rattle.device_defs.specs.Image.{Got, Imaged, Has, NoBytes, got, read_counted, read_side, second_read, read_b, first_read, level_bytes, filled, framed}
-use Rattle.device_defs.specs.Losses.{call_failed}
-use Rattle.device_defs.specs.Store.{Store, tracks_of, level_at, has_level, frame_at, patch_at, is_loose, with_frame}
-use Rattle.device_laws.proofs.Always.{Always, always_done, always_try, always_ask, always_read, always_then, always_weaker}
+use Rattle.device_defs.specs.Store.{Store, tracks_of, level_at, has_level, patch_at, is_loose}
+use Rattle.device_laws.proofs.Always.{Always, always_done, always_ask, always_read, always_then}
 use Rattle.device_laws.proofs.Changes as C
 use Rattle.device_laws.proofs.Changes.{Changed, rest_of, changed_frame}
 use Rattle.device_laws.proofs.FailedCall.{IsWell, IsSame, Goes, stays, goes_on, goes_same, changed_goes, failed_call_keeps_good}
@@ -98,7 +94,19 @@ module _ {F P H R : Type 0} (c : Contents F P H R) (faithful : IsFaithful c) whe
       let is : c.modified (c.frame i m) ≡ x.patched = faithful.made i m ∙ sym patched in
       changed_goes c s (framed c s t i m) t (record x { frame = Some x.patched }) w
       (record { sizes = e.sizes; rest = e.rest; elsewhere = e.elsewhere; here = e.here ∙ ap (λ (f : Bool). record x { frame = Some f }) is })
-      (filled_good x firm level (w.good t lt)) (λ f. f)
+      (filled_good x firm level (w.good t lt)) (w.kept t lt) (λ f. f)
+
+  -- behind the loading of a track, which is lost only where it was
+  pub record Filled (t : ℕ) (s z : Store F P H) : Type 0 where
+    pub goes : Goes c s z
+    pub lost : (track_at c z t).lost ≡ (track_at c s t).lost
+
+  framed_filled : (s : Store F P H) (t : ℕ) (i : Image) (m : Bool) → is_some (patch_at s t) ≡ m → t < tracks_of s → IsWell c s →
+      is_loose s t ≡ false → has_level s t ≡ true → Filled t s (framed c s t i m)
+  framed_filled s t i m patched lt w firm level = record {
+    goes = framed_goes s t i m patched lt w firm level;
+    lost = ap (λ (x : TrackMarks). x.lost) (changed_frame c s t (Some (c.frame i m)) lt w.sizes).here;
+  }
 
   abbrev filled_if : Store F P H → ℕ → Image → Bool → Interaction R Image (Store F P H) (Unit {0})
   filled_if s t i b =
@@ -106,10 +114,10 @@ module _ {F P H R : Type 0} (c : Contents F P H R) (faithful : IsFaithful c) whe
 
   by_patch : (s : Store F P H) (t : ℕ) (i : Image) (b : Bool) → is_some (patch_at s t) ≡ b → t < tracks_of s → IsWell c s →
       is_loose s t ≡ false → has_level s t ≡ true →
-      Always (filled_if s t i b) (λ z _. Goes c s z)
-  by_patch s t i true patched lt w firm level = always_ask (λ _. always_done (framed_goes s t i true patched lt w firm level))
-  by_patch s t i false patched lt w firm level = always_done (framed_goes s t i false patched lt w firm level)
+      Always (filled_if s t i b) (λ z _. Filled t s z)
+  by_patch s t i true patched lt w firm level = always_ask (λ _. always_done (framed_filled s t i true patched lt w firm level))
+  by_patch s t i false patched lt w firm level = always_done (framed_filled s t i false patched lt w firm level)
 
   pub filling_keeps_good : (s : Store F P H) (t : ℕ) (i : Image) → t < tracks_of s → IsWell c s → is_loose s t ≡ false → has_level s t ≡ true →
-      Always (filled c s t i) (λ z _. Goes c s z)
+      Always (filled c s t i) (λ z _. Filled t s z)
   filling_keeps_good s t i lt w firm level = by_patch s t i (is_some (patch_at s t)) refl lt w firm level

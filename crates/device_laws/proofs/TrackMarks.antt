@@ -3,7 +3,6 @@ use Rattle.std.proofs.Common.{◌≡◌, ◌&&◌, ◌||◌, not, ℕ, Bool, tru
 use Rattle.std.specs.Prelude.{is_some, if◌then◌else◌}
 use Rattle.track_image.specs.Image.{Image}
 use Rattle.device_defs.specs.Contents.{Contents, contents, by_plain}
-use Rattle.device_defs.specs.Sound.{has_sound_marks}
 use Rattle.device_defs.specs.Store.{Store, has_level, frame_at, patch_at, is_lost, is_loose, half_is}
 
 pub record TrackMarks : Type 0 where

@@ -1,7 +1,6 @@
 -- The image that a command looks at, hit or missed, keeps good marks good whatever is answered.
 use Rattle.std.proofs.Common.{◌≡◌, ◌<◌, ◌+◌, ℕ, Bool, true, false, List, Option, Some, None, is_some, refl, sym, ap, subst, ◌∙◌, arith}
 use Rattle.std.specs.Prelude.{if◌then◌else◌, nat_le, nat_lt, length, [], ◌∷◌, ◌++◌}
-use Rattle.ckd_types.specs.declared.parameters.Mode.{Mode}
 use Rattle.ckd_types.specs.declared.paths.Side.{Side}
 use Rattle.ckd_types.specs.Parameters.{is_bypass}
 use Rattle.track_image.specs.Image.{Image}
@@ -14,6 +13,8 @@ use Rattle.device_defs.specs.Image.{
   Got,
   Imaged,
   Has,
+  NoBytes,
+  BadTrack,
   loads,
   is_sequential,
   queued,
@@ -38,6 +39,7 @@ use Rattle.device_laws.proofs.FailedCall.{IsWell, Goes, stays, goes_on, changed_
 use Rattle.device_laws.proofs.TrackImage.{Reads, level_bytes_keeps_good, filling_keeps_good}
 use Rattle.device_laws.proofs.TrackMarks as M
 use Rattle.device_laws.proofs.TrackMarks.{TrackMarks, marks, IsFaithful, is_good, frame_mark, track_at}
+use Rattle.device_laws.proofs.WriteMarks.{level_is_there, framed_is_there}
 
 -- a good track without a frame, or with a clean one, isn't loose
 none_firm : (p l o h v : Bool) → is_good (marks None p l o h v) ≡ true → o ≡ false
@@ -101,6 +103,12 @@ module _ {F P H : Type 0} where
   ahead_only : (u : Usage) (s : Store F P H) (t : ℕ) → ahead u s t ≡ record s { queue = (ahead u s t).queue }
   ahead_only u s t = ahead_by u s t (is_sequential u.mode)
 
+abbrev pub has_image : Option Imaged → Bool
+has_image None = false
+has_image (Some (Has i)) = true
+has_image (Some (NoBytes fault)) = false
+has_image (Some (BadTrack side)) = false
+
 module _ {F P H R : Type 0} (c : Contents F P H R) (faithful : IsFaithful c) where
   -- a level track that isn't loose, behind another store
   pub record Ready (t : ℕ) (s z : Store F P H) : Type 0 where
@@ -115,11 +123,13 @@ module _ {F P H R : Type 0} (c : Contents F P H R) (faithful : IsFaithful c) whe
     goes = record {
       well = record {
         sizes = record { are = r.goes.well.sizes.are };
-        here = record { free = r.goes.well.here.free; alone = r.goes.well.here.alone };
+        here = record { free = r.goes.well.here.free; alone = r.goes.well.here.alone; within = r.goes.well.here.within };
         good = r.goes.well.good;
+        kept = r.goes.well.kept;
       };
       tracks = r.goes.tracks;
       firm = r.goes.firm;
+      half = r.goes.half;
     };
     below = r.below;
     firm = r.firm;
@@ -129,33 +139,42 @@ module _ {F P H R : Type 0} (c : Contents F P H R) (faithful : IsFaithful c) whe
   ready_ahead : (u : Usage) (t : ℕ) (s z : Store F P H) → Ready t s z → Ready t s (ahead u z t)
   ready_ahead u t s z r = subst (λ (y : Store F P H). Ready t s y) (sym (ahead_only u z t)) (with_queue t s z (ahead u z t).queue r)
 
-  granted_by : (t : ℕ) (s z : Store F P H) (i : Image) (given : Bool) → Ready t s z → Always (granted c z t i given) (λ y _. Goes c s y)
+  -- behind the look at a track, which isn't lost where there is an image
+  pub record Looked (t : ℕ) (s z : Store F P H) (a : Option Imaged) : Type 0 where
+    pub goes : Goes c s z
+    pub there : has_image a ≡ true → (track_at c z t).lost ≡ false
+
+  ready_there : (t : ℕ) (s z : Store F P H) → Ready t s z → (track_at c z t).lost ≡ false
+  unfolding M.track_at
+  ready_there t s z r = level_is_there (track_at c z t) (r.goes.well.good t r.below) r.level
+
+  granted_by : (t : ℕ) (s z : Store F P H) (i : Image) (given : Bool) → Ready t s z → Always (granted c z t i given) (λ y a. Looked t s y a)
   granted_by t s z i true r =
       always_then (filling_keeps_good c faithful z t i r.below r.goes.well r.firm r.level)
-      (λ y _ g. always_done (goes_on c s z y r.goes g))
-  granted_by t s z i false r = always_done r.goes
+      (λ y _ g. always_done (record { goes = goes_on c s z y r.goes g.goes; there = λ e. g.lost ∙ ready_there t s z r }))
+  granted_by t s z i false r = always_done (record { goes = r.goes; there = λ e. ready_there t s z r })
 
   asked : (t : ℕ) (s z : Store F P H) (i : Image) (ok : Bool) → Ready t s z →
-      Always (if ok then Ask (WantFrame z.device t) (granted c z t i) else Done z None) (λ y _. Goes c s y)
+      Always (if ok then Ask (WantFrame z.device t) (granted c z t i) else Done z None) (λ y a. Looked t s y a)
   asked t s z i true r = always_ask (λ given. granted_by t s z i given r)
-  asked t s z i false r = always_done r.goes
+  asked t s z i false r = always_done (record { goes = r.goes; there = λ e. absurd (cc) })
 
   abbrev loaded_if : Store F P H → ℕ → Image → Bool → Interaction R Image (Store F P H) (Option Imaged)
   loaded_if z t i b = if b then tried z (Ask (WantFrame z.device t) (granted c z t i)) else Done z (Some (Has i))
 
-  loaded_by : (t : ℕ) (s z : Store F P H) (i : Image) (b : Bool) → Ready t s z → Always (loaded_if z t i b) (λ y _. Goes c s y)
+  loaded_by : (t : ℕ) (s z : Store F P H) (i : Image) (b : Bool) → Ready t s z → Always (loaded_if z t i b) (λ y a. Looked t s y a)
   loaded_by t s z i true r = always_try (λ ok. asked t s z i ok r)
-  loaded_by t s z i false r = always_done r.goes
+  loaded_by t s z i false r = always_done (record { goes = r.goes; there = λ e. ready_there t s z r })
 
   delivered_goes : (u : Usage) (t : ℕ) (side : Side) (s z : Store F P H) (i : Option Image) → Ready t s z →
-      Always (delivered c u t side z i) (λ y _. Goes c s y)
-  delivered_goes u t side s z None r = always_done r.goes
+      Always (delivered c u t side z i) (λ y a. Looked t s y a)
+  delivered_goes u t side s z None r = always_done (record { goes = r.goes; there = λ e. absurd (cc) })
   delivered_goes u t side s z (Some i) r = loaded_by t s (ahead u z t) i (loads u.mode) (ready_ahead u t s z r)
 
   had : (u : Usage) (t : ℕ) (side : Side) (s z : Store F P H) (i : Option Image) (ok : Bool) → Ready t s z →
-      Always (if ok then delivered c u t side z i else Done z None) (λ y _. Goes c s y)
+      Always (if ok then delivered c u t side z i else Done z None) (λ y a. Looked t s y a)
   had u t side s z i true r = delivered_goes u t side s z i r
-  had u t side s z i false r = always_done r.goes
+  had u t side s z i false r = always_done (record { goes = r.goes; there = λ e. absurd (cc) })
 
   ready : (t : ℕ) (s z : Store F P H) (g : Got R) (r : R) → t < tracks_of s → is_loose s t ≡ false → g.bytes ≡ Some r →
       Reads c faithful t s z g → Ready t s z
@@ -168,37 +187,39 @@ module _ {F P H R : Type 0} (c : Contents F P H R) (faithful : IsFaithful c) whe
   }
 
   missed_by : (u : Usage) (t : ℕ) (s z : Store F P H) (g : Got R) (bytes : Option R) → g.bytes ≡ bytes → t < tracks_of s → is_loose s t ≡ false →
-      Reads c faithful t s z g → Always (missed c u t z g bytes) (λ y _. Goes c s y)
-  missed_by u t s z g None e lt firm f = always_done f.goes
+      Reads c faithful t s z g → Always (missed c u t z g bytes) (λ y a. Looked t s y a)
+  missed_by u t s z g None e lt firm f = always_done (record { goes = f.goes; there = λ e. absurd (cc) })
   missed_by u t s z g (Some r) e lt firm f = always_try (λ ok. had u t g.side s z (image_of c z t r) ok (ready t s z g r lt firm e f))
 
   pub miss_keeps_good : (s : Store F P H) (u : Usage) (t : ℕ) → t < tracks_of s → IsWell c s → is_loose s t ≡ false →
-      Always (miss c s u t) (λ z _. Goes c s z)
+      Always (miss c s u t) (λ y a. Looked t s y a)
   miss_keeps_good s u t lt w firm =
       always_then (level_bytes_keeps_good c faithful s t w) (λ z g f. missed_by u t s z g g.bytes refl lt firm f)
 
   -- a clean frame that the pool doesn't list any more goes
   dropped_goes : (s : Store F P H) (t : ℕ) → t < tracks_of s → IsWell c s → (track_at c s t).frame ≡ Some false → Goes c s (with_frame s t None)
   dropped_goes s t lt w clean =
-      changed_goes c s (with_frame s t None) t _ w (changed_frame c s t None lt w.sizes) (clean_may_go (track_at c s t) clean (w.good t lt)) (λ e. e)
+      changed_goes c s (with_frame s t None) t _ w (changed_frame c s t None lt w.sizes) (clean_may_go (track_at c s t) clean (w.good t lt))
+      (w.kept t lt) (λ e. e)
 
   loose_mark : (s : Store F P H) (t : ℕ) → (track_at c s t).loose ≡ false → is_loose s t ≡ false
   unfolding M.track_at
   loose_mark s t e = e
 
   listed_by : (s : Store F P H) (u : Usage) (t : ℕ) (f : F) (listed : Bool) → t < tracks_of s → IsWell c s → (track_at c s t).frame ≡ Some false →
-      Always (if listed then hit c s t f else miss c (with_frame s t None) u t) (λ z _. Goes c s z)
-  listed_by s u t f true lt w clean = always_done (stays c s w)
+      Always (if listed then hit c s t f else miss c (with_frame s t None) u t) (λ y a. Looked t s y a)
+  listed_by s u t f true lt w clean =
+      always_done (record { goes = stays c s w; there = λ e. framed_is_there (track_at c s t) (w.good t lt) (ap is_some clean) })
   listed_by s u t f false lt w clean =
       let g = dropped_goes s t lt w clean in
       let firm = g.firm t lt (clean_is_firm (track_at c s t) clean (w.good t lt)) in
       let same = g.tracks in
       always_weaker (miss_keeps_good (with_frame s t None) u t (omega arith) g.well (loose_mark (with_frame s t None) t firm))
-      (λ z _ h. goes_on c s (with_frame s t None) z g h)
+      (λ z _ h. record { goes = goes_on c s (with_frame s t None) z g h.goes; there = h.there })
 
   bypass_by : (s : Store F P H) (u : Usage) (t : ℕ) (f : F) (b : Bool) → t < tracks_of s → IsWell c s → (track_at c s t).frame ≡ Some false →
       Always (if b then miss c s u t else Ask (Touch s.device t) (λ listed. if listed then hit c s t f else miss c (with_frame s t None) u t))
-      (λ z _. Goes c s z)
+      (λ y a. Looked t s y a)
   bypass_by s u t f true lt w clean = miss_keeps_good s u t lt w (loose_mark s t (clean_is_firm (track_at c s t) clean (w.good t lt)))
   bypass_by s u t f false lt w clean = always_ask (λ listed. listed_by s u t f listed lt w clean)
 
@@ -207,17 +228,18 @@ module _ {F P H R : Type 0} (c : Contents F P H R) (faithful : IsFaithful c) whe
   frame_is s t o e = ap (frame_mark c) e
 
   modified_by : (s : Store F P H) (u : Usage) (t : ℕ) (f : F) (b : Bool) → c.modified f ≡ b → frame_at s t ≡ Some f → t < tracks_of s → IsWell c s →
-      Always (if b then hit c s t f else clean_image c s u t f) (λ z _. Goes c s z)
-  modified_by s u t f true m e lt w = always_done (stays c s w)
+      Always (if b then hit c s t f else clean_image c s u t f) (λ y a. Looked t s y a)
+  modified_by s u t f true m e lt w =
+      always_done (record { goes = stays c s w; there = λ k. framed_is_there (track_at c s t) (w.good t lt) (ap is_some (frame_is s t (Some f) e)) })
   modified_by s u t f false m e lt w = bypass_by s u t f (is_bypass u.mode) lt w (frame_is s t (Some f) e ∙ ap Some m)
 
   by_frame : (s : Store F P H) (u : Usage) (t : ℕ) (o : Option F) → frame_at s t ≡ o → t < tracks_of s → IsWell c s →
-      Always (image_by c s u t o) (λ z _. Goes c s z)
+      Always (image_by c s u t o) (λ y a. Looked t s y a)
   by_frame s u t None e lt w =
       miss_keeps_good s u t lt w (loose_mark s t (unframed_is_firm (track_at c s t) (frame_is s t None e) (w.good t lt)))
   by_frame s u t (Some f) e lt w = modified_by s u t f (c.modified f) refl e lt w
 
   -- the image of a track
-  pub image_keeps_good : (s : Store F P H) (u : Usage) (t : ℕ) → t < tracks_of s → IsWell c s → Always (image c s u t) (λ z _. Goes c s z)
+  pub image_keeps_good : (s : Store F P H) (u : Usage) (t : ℕ) → t < tracks_of s → IsWell c s → Always (image c s u t) (λ y a. Looked t s y a)
   unfolding I.image
   image_keeps_good s u t lt w = by_frame s u t (frame_at s t) refl lt w
