@@ -161,8 +161,8 @@ module _ {F P H R : Type 0} (c : Contents F P H R) where
         let z = with_frame s t (Some (c.frame i true)) in
         let g = changed_patch c z t (patch_with c e slot (patch_at s t)) lt f.sizes in
         let here = g.here ∙ ap (λ (y : TrackMarks). record y { patched = is_some (patch_with c e slot (patch_at s t)) }) f.here
-            ∙ ap (λ (b : Bool). record x { frame = Some b; patched = is_some (patch_with c e slot (patch_at s t)) }) (faithful.made i true)
-            ∙ ap (λ (b : Bool). record x { frame = Some true; patched = b }) patched in
+        ∙ ap (λ (b : Bool). record x { frame = Some b; patched = is_some (patch_with c e slot (patch_at s t)) }) (faithful.made i true)
+        ∙ ap (λ (b : Bool). record x { frame = Some true; patched = b }) patched in
         let h = changed_twice c f (record { sizes = g.sizes; rest = g.rest; elsewhere = g.elsewhere; here = here }) in
         changed_goes c s (fast_written c s t i e slot) t _ w (changed_edit t e h)
         (fast_good x (framed_there framed) (loose_of false firm)) (w.kept t lt) (λ k. k)
@@ -199,7 +199,7 @@ module _ {F P H R : Type 0} (c : Contents F P H R) where
         let g = changed_loosened in
         let f = changed_frame c (loosened s t) t (Some (c.frame i true)) lt g.sizes in
         let here = f.here ∙ ap (λ (y : TrackMarks). record y { frame = Some (c.modified (c.frame i true)) }) g.here
-            ∙ ap (λ (b : Bool). record x { frame = Some b; loose = true }) (faithful.made i true) in
+        ∙ ap (λ (b : Bool). record x { frame = Some b; loose = true }) (faithful.made i true) in
         let h = changed_twice c g (record { sizes = f.sizes; rest = f.rest; elsewhere = f.elsewhere; here = here }) in
         changed_keeps _ _ (changed_loose_edit t e h) (loosened_good x (w.good t lt) (frame_of clean) (half_of none)) (w.kept t lt)
 

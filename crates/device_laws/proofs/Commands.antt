@@ -99,8 +99,8 @@ module _ {F P H R : Type 0} (c : Contents F P H R) (faithful : IsFaithful c) (n 
   by_image chain first t s z None is lt none f = always_done (record { keeps = goes_keeps c faithful s z f.goes; on = tt })
   by_image chain first t s z (Some (Has i)) is lt none f =
       always_try (λ ok. always_weaker
-        (went_if chain first t z i ok is (let same = f.goes.tracks in omega arith) f.goes.well (f.goes.half ∙ none) (f.there refl))
-        (λ y b g. on_from s z y b f.goes g))
+      (went_if chain first t z i ok is (let same = f.goes.tracks in omega arith) f.goes.well (f.goes.half ∙ none) (f.there refl))
+      (λ y b g. on_from s z y b f.goes g))
   by_image chain first t s z (Some (NoBytes fault)) is lt none f = always_done (record { keeps = goes_keeps c faithful s z f.goes; on = tt })
   by_image chain first t s z (Some (BadTrack side)) is lt none f = always_done (record { keeps = goes_keeps c faithful s z f.goes; on = tt })
 

@@ -38,10 +38,10 @@ module _ {F P H R : Type 0} (c : Contents F P H R) (faithful : IsFaithful c) whe
     unpatched_goes u f e below good =
         always_weaker (slot_by u t (patch_at u t) refl below e.sizes)
         (λ y _ g.
-          let here = g.here ∙ ap (λ (x : TrackMarks). record x { patched = false }) e.here in
-          let h = changed_twice c e (record { sizes = g.sizes; rest = g.rest; elsewhere = g.elsewhere; here = here }) in
-          shut_goes c t s y (others_changed c t s z y _ o h) (ap is_good here ∙ good) (subst IsKept (sym here) (λ h. there))
-          (λ k. ap (λ (x : TrackMarks). x.loose) here ∙ firm))
+        let here = g.here ∙ ap (λ (x : TrackMarks). record x { patched = false }) e.here in
+        let h = changed_twice c e (record { sizes = g.sizes; rest = g.rest; elsewhere = g.elsewhere; here = here }) in
+        shut_goes c t s y (others_changed c t s z y _ o h) (ap is_good here ∙ good) (subst IsKept (sym here) (λ h. there))
+        (λ k. ap (λ (x : TrackMarks). x.loose) here ∙ firm))
 
     by_bypass : (i : Image) (bypass : Bool) → (track_at c z t).level ≡ true → Always (done_by c z t i bypass true) (λ y _. Goes c s y)
     by_bypass i true level =

@@ -87,7 +87,7 @@ module _ {F P H R : Type 0} (c : Contents F P H R) where
   told_same (suc n) s sizes =
       always_then (told_same n s sizes)
       (λ z _ e. always_weaker (told_by z n (owed_at z n).firm e.sizes)
-        (λ y _ f. record { sizes = f.sizes; rest = f.rest ∙ e.rest; marks = λ q. f.marks q ∙ e.marks q }))
+      (λ y _ f. record { sizes = f.sizes; rest = f.rest ∙ e.rest; marks = λ q. f.marks q ∙ e.marks q }))
 
   -- behind a failed call
   pub record Goes (s z : Store F P H) : Type 0 where
@@ -134,7 +134,7 @@ module _ {F P H R : Type 0} (c : Contents F P H R) where
     side_goes s side w =
         let e = lost_side_settles c faithful s side None w.sizes w.here in
         let same : tracks_of (side_lost c s side None) ≡ tracks_of s =
-            same_tracks (down s side) (side_lost c s side None) e.rest ∙ down_tracks c faithful s side in
+        same_tracks (down s side) (side_lost c s side None) e.rest ∙ down_tracks c faithful s side in
         record {
           well = record {
             sizes = e.sizes;

@@ -48,7 +48,7 @@ module _ {F P H R : Type 0} (c : Contents F P H R) (faithful : IsFaithful c) whe
   cache_goes s w =
       let e = lost_cache_sweeps c faithful s w.sizes w.here in
       let same : tracks_of (cache_lost c s) ≡ tracks_of s =
-          same_tracks (begun c faithful s) (cache_lost c s) e.rest ∙ begun_tracks c faithful s (has_loose s) in
+      same_tracks (begun c faithful s) (cache_lost c s) e.rest ∙ begun_tracks c faithful s (has_loose s) in
       record {
         well = record {
           sizes = e.sizes;
@@ -112,10 +112,10 @@ module _ {F P H R : Type 0} (c : Contents F P H R) (faithful : IsFaithful c) whe
       let front = goes_same c d.store (event_begun d).store w (begun_same d w) in
       always_then {p = λ y _. Goes c d.store y.store}
       (always_then (hearing_keeps_good c 960 (event_begun d).store front.well)
-        (λ s _ f. always_weaker (does (record (event_begun d) { store = s }) f.well)
-          (λ y _ g. goes_on c d.store (event_begun d).store y.store front (goes_on c (event_begun d).store s y.store f g))))
+      (λ s _ f. always_weaker (does (record (event_begun d) { store = s }) f.well)
+      (λ y _ g. goes_on c d.store (event_begun d).store y.store front (goes_on c (event_begun d).store s y.store f g))))
       (λ y a g. always_then (ending_changes_no_mark c (waiting_count c d.store) y.store g.well.sizes)
-        (λ z _ e. always_done (goes_on c d.store y.store z g (goes_same c y.store z g.well e))))
+      (λ z _ e. always_done (goes_on c d.store y.store z g (goes_same c y.store z g.well e))))
 
   -- a loss as an event
   pub loss_keeps_good : (d : Device F P H) (loss : Loss) → IsWell c d.store → Always (lose c d loss) (λ y _. Goes c d.store y.store)

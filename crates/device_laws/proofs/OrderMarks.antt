@@ -138,7 +138,7 @@ module _ {F P H R : Type 0} (c : Contents F P H R) (faithful : IsFaithful c) whe
       same_marks s (split d).store (record { are = z.are })
       (record { free = w.here.free; alone = λ e. refl; within = w.here.within }) refl
       (λ q lt. ap (λ (v : Bool). record (track_at c s q) { level = v })
-        (split_level s q (level_at (split d).store.b q) up (level q lt))) w
+      (split_level s q (level_at (split d).store.b q) up (level q lt))) w
 
   pub hold_keeps_good : (d : Device F P H) → IsWell c d.store → Keeps c faithful d.store (hold d).store
   unfolding M.track_at C.rest_of
@@ -289,7 +289,7 @@ module _ {F P H R : Type 0} (c : Contents F P H R) (faithful : IsFaithful c) whe
   quiet_gone d body does =
       always_then does
       (λ y a f. always_then (ending_changes_no_mark c (waiting_count c d.store) y.store f.sizes)
-        (λ x _ h. always_done (gone_same y.store x f h)))
+      (λ x _ h. always_done (gone_same y.store x f h)))
 
   -- it is lent, alone and with no open half write
   pub lend_leaves_nothing : (d : Device F P H) (to : ℕ) → IsWell c d.store → d.store.paired ≡ false → d.store.half ≡ None →

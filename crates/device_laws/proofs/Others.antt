@@ -214,7 +214,7 @@ module _ {F P H R : Type 0} (c : Contents F P H R) where
         let rest = e.rest in
         let same : tracks_of z ≡ tracks_of s = i.tracks in
         let own : track_at c y t ≡ track_at c (down z side) t =
-            e.changed t (omega arith) ∙ unless_own (track_at c (down z side) t) (t == t) (grind arith) in
+        e.changed t (omega arith) ∙ unless_own (track_at c (down z side) t) (t == t) (grind arith) in
         let all : track_at c y t ≡ record (track_at c z t) { level = has_level (down z side) t } = own ∙ down_marks z side t in
         record {
           still = record {
@@ -229,7 +229,7 @@ module _ {F P H R : Type 0} (c : Contents F P H R) where
                   (unless_kept (track_at c (down z side) q) (q == t) (down_kept c z side q (i.kept q ne below)));
               firm = λ q ne below f. ap (λ (m : TrackMarks). m.loose) (e.changed q (omega arith))
                   ∙ unless_firm (track_at c (down z side) q) (q == t)
-                    (ap (λ (m : TrackMarks). m.loose) (down_marks z side q) ∙ i.firm q ne below f);
+                  (ap (λ (m : TrackMarks). m.loose) (down_marks z side q) ∙ i.firm q ne below f);
             };
             near = ap is_near own ∙ down_near c faithful z side t o.near;
             lost = ap (λ (m : TrackMarks). m.lost) all ∙ o.lost;

@@ -186,7 +186,7 @@ module _ {F P H R : Type 0} (c : Contents F P H R) (faithful : IsFaithful c) whe
           good = λ q lt. let below : q < tracks_of s = omega arith in
               ap is_good (e.changed q below)
               ∙ settling_makes_good (record (track_at c z q) { frame = None })
-                (bare_near (track_at c s q) (track_at c z q) (w.good q below) (i.marks q below) (none_half z q f.none));
+              (bare_near (track_at c s q) (track_at c z q) (w.good q below) (i.marks q below) (none_half z q f.none));
           kept = λ q lt. let below : q < tracks_of s = omega arith in
               subst IsKept (sym (e.changed q below))
               (settled_kept (record (track_at c z q) { frame = None }) (λ h. absurd (let g = none_half z q f.none in cc)));
@@ -209,4 +209,4 @@ module _ {F P H R : Type 0} (c : Contents F P H R) (faithful : IsFaithful c) whe
       (λ z. and_then (half_cut c z.store z.store.half) (λ s _. Done (powered_off c z s) tt))
       (always_then (cutting_keeps_good c faithful (event_begun d).store front.well)
       (λ s _ k. always_done (keeps_on c faithful d.store s (powerless c (with_loss s losses.Cache))
-        (keeps_on c faithful d.store (event_begun d).store s (goes_keeps c faithful d.store (event_begun d).store front) k) (off_keeps s k.well))))
+      (keeps_on c faithful d.store (event_begun d).store s (goes_keeps c faithful d.store (event_begun d).store front) k) (off_keeps s k.well))))

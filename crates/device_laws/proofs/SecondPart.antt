@@ -119,7 +119,7 @@ module _ {F P H R : Type 0} (c : Contents F P H R) (faithful : IsFaithful c) whe
       let u = with_edit z t e in
       always_tell
       (λ _. finished_goes t s u lt (others_changed c t s z u _ o f) (ap (λ (x : TrackMarks). x.lost) f.here ∙ there)
-        (ap (λ (x : TrackMarks). x.loose) f.here ∙ firm) i bypass (ap (λ (x : TrackMarks). x.level) f.here ∙ level))
+      (ap (λ (x : TrackMarks). x.loose) f.here ∙ firm) i bypass (ap (λ (x : TrackMarks). x.level) f.here ∙ level))
   done_by t s z i (OfCut bypass) lt o there firm level = finished_goes t s z lt o there firm i bypass level
   done_by t s z i OfBackground lt o there firm level = finished_goes t s z lt o there firm i false level
 
@@ -173,7 +173,7 @@ module _ {F P H R : Type 0} (c : Contents F P H R) (faithful : IsFaithful c) whe
       let i = half_image_of c s h in
       always_then (write_second_keeps_others c faithful t s lt there (c.bytes i) w)
       (λ z _ o. let here = closed_here z h (o.others.half ∙ e) in
-        always_weaker (by_level t s z i h.origin (has_level z t) refl (let same = o.others.tracks in omega arith) (closed_others s z h e o)
-          (ap (λ (x : TrackMarks). x.lost) here ∙ o.lost ∙ there) (ap (λ (x : TrackMarks). x.loose) here ∙ o.loose ∙ firm)
-          (ap (λ (x : TrackMarks). x.level) here ∙ level_mark z t (has_level z t) refl))
-        (λ y _ g. record { well = g.well; tracks = g.tracks }))
+      always_weaker (by_level t s z i h.origin (has_level z t) refl (let same = o.others.tracks in omega arith) (closed_others s z h e o)
+      (ap (λ (x : TrackMarks). x.lost) here ∙ o.lost ∙ there) (ap (λ (x : TrackMarks). x.loose) here ∙ o.loose ∙ firm)
+      (ap (λ (x : TrackMarks). x.level) here ∙ level_mark z t (has_level z t) refl))
+      (λ y _ g. record { well = g.well; tracks = g.tracks }))

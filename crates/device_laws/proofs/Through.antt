@@ -57,10 +57,10 @@ module _ {F P H R : Type 0} (c : Contents F P H R) (faithful : IsFaithful c) whe
       let u = with_edit z t e in
       always_tell
       (λ _. always_then
-        (write_done_keeps_good c faithful t s u lt (others_changed c t s z u _ o f)
-          (ap (λ (x : TrackMarks). x.lost) f.here ∙ there) (ap (λ (x : TrackMarks). x.loose) f.here ∙ firm) i bypass
-          (ap (λ (x : TrackMarks). x.level) f.here ∙ level_mark z t level))
-        (λ y _ g. always_done g))
+      (write_done_keeps_good c faithful t s u lt (others_changed c t s z u _ o f)
+      (ap (λ (x : TrackMarks). x.lost) f.here ∙ there) (ap (λ (x : TrackMarks). x.loose) f.here ∙ firm) i bypass
+      (ap (λ (x : TrackMarks). x.level) f.here ∙ level_mark z t level))
+      (λ y _ g. always_done g))
 
   -- the second part in the same event
   level_by : (t : ℕ) (s z : Store F P H) (i : Image) (e : Edit) (bypass b : Bool) → has_level z t ≡ b → t < tracks_of s → Open c t s z →
@@ -91,7 +91,7 @@ module _ {F P H R : Type 0} (c : Contents F P H R) (faithful : IsFaithful c) whe
       Always (through_by c t i e bypass opening was_loose s took) (λ y _. Keeps c faithful s y)
   by_took t s i e bypass opening was_loose Whole lt w none level firm =
       always_weaker (whole_goes t s s i e bypass lt (opens c s t lt w).others
-        (level_is_there (track_at c s t) (w.good t lt) (level_mark s t (level refl))) firm (level refl))
+      (level_is_there (track_at c s t) (w.good t lt) (level_mark s t (level refl))) firm (level refl))
       (λ y _ g. goes_keeps c faithful s y g)
   by_took t s i e bypass opening was_loose Opened lt w none level firm =
       by_opening t s i e bypass opening was_loose lt w none (level_is_there (track_at c s t) (w.good t lt) (level_mark s t (level refl))) firm
@@ -104,11 +104,11 @@ module _ {F P H R : Type 0} (c : Contents F P H R) (faithful : IsFaithful c) whe
   through_keeps_good t s i e bypass opening lt w none there =
       always_then (firm_first_keeps_good c faithful s t lt w)
       (λ z was_loose f. let below : t < tracks_of z = let same = f.goes.tracks in omega arith in
-        always_then (write_first_keeps_good c faithful t z below (f.lost ∙ there) (c.bytes i) f.goes.well)
-        (λ y v g. let all = goes_on c s z y f.goes g.goes in
-          always_weaker (by_took t y i e bypass opening was_loose v.took (let same = all.tracks in omega arith) g.goes.well (all.half ∙ none) g.level
-            (g.goes.firm t below f.loose))
-          (λ x _ h. keeps_on c faithful s y x (goes_keeps c faithful s y all) h)))
+      always_then (write_first_keeps_good c faithful t z below (f.lost ∙ there) (c.bytes i) f.goes.well)
+      (λ y v g. let all = goes_on c s z y f.goes g.goes in
+      always_weaker (by_took t y i e bypass opening was_loose v.took (let same = all.tracks in omega arith) g.goes.well (all.half ∙ none) g.level
+      (g.goes.firm t below f.loose))
+      (λ x _ h. keeps_on c faithful s y x (goes_keeps c faithful s y all) h)))
 
   -- The whole write, of a track that isn't lost
 
@@ -159,7 +159,7 @@ module _ {F P H R : Type 0} (c : Contents F P H R) (faithful : IsFaithful c) whe
     tried_by old e true =
         always_then (choice_fits c s u t)
         (λ z choice f. subst (λ (v : Store F P H). Always (write_chosen c u first t old e v choice) (λ y _. Keeps c faithful s y)) (sym f.same)
-          (chosen_keeps old e choice f.fit))
+        (chosen_keeps old e choice f.fit))
     tried_by old e false = always_done still
 
     pub write_keeps_good : (old : Image) (e : Edit) → Always (write c s u first t old e) (λ y _. Keeps c faithful s y)

@@ -57,7 +57,7 @@ module _ {F P H R : Type 0} (c : Contents F P H R) (faithful : IsFaithful c) whe
   quiet_event_keeps d body does =
       always_then does
       (λ y a g. always_then (ending_changes_no_mark c (waiting_count c d.store) y.store g.well.sizes)
-        (λ z _ e. always_done (keeps_on c faithful d.store y.store z g (goes_keeps c faithful y.store z (goes_same c y.store z g.well e)))))
+      (λ z _ e. always_done (keeps_on c faithful d.store y.store z g (goes_keeps c faithful y.store z (goes_same c y.store z g.well e)))))
 
   pub event_keeps : {A : Type 0} (d : Device F P H) (body : Device F P H → Interaction R Image (Device F P H) A) → IsWell c d.store →
       ((s : Store F P H) → Goes c d.store s → Always (body (record (event_begun d) { store = s })) (λ y _. Keeps c faithful s y.store)) →
@@ -66,10 +66,10 @@ module _ {F P H R : Type 0} (c : Contents F P H R) (faithful : IsFaithful c) whe
       let front = goes_same c d.store (event_begun d).store w (begun_same c faithful d w) in
       always_then {p = λ y _. Keeps c faithful d.store y.store}
       (always_then (hearing_keeps_good c 960 (event_begun d).store front.well)
-        (λ s _ f. let all = goes_on c d.store (event_begun d).store s front f in
-          always_weaker (does s all) (λ y _ g. keeps_on c faithful d.store s y.store (goes_keeps c faithful d.store s all) g)))
+      (λ s _ f. let all = goes_on c d.store (event_begun d).store s front f in
+      always_weaker (does s all) (λ y _ g. keeps_on c faithful d.store s y.store (goes_keeps c faithful d.store s all) g)))
       (λ y a g. always_then (ending_changes_no_mark c (waiting_count c d.store) y.store g.well.sizes)
-        (λ z _ e. always_done (keeps_on c faithful d.store y.store z g (goes_keeps c faithful y.store z (goes_same c y.store z g.well e)))))
+      (λ z _ e. always_done (keeps_on c faithful d.store y.store z g (goes_keeps c faithful y.store z (goes_same c y.store z g.well e)))))
 
   same_store : (s : Store F P H) (y z : Device F P H) → z.store ≡ y.store → Keeps c faithful s y.store → Keeps c faithful s z.store
   same_store s y z e k = subst (λ (x : Store F P H). Keeps c faithful s x) (sym e) k

@@ -183,7 +183,7 @@ module _ {F P H R : Type 0} (c : Contents F P H R) (faithful : IsFaithful c) whe
   saved_end t s i d fault failed was_loose Opened lt w none level firm =
       let v = level_mark s t (level refl) in
       always_then (opened_keeps_good c faithful t s s i OfBackground was_loose lt (opens c s t lt w).others none
-        (level_is_there (track_at c s t) (w.good t lt) v) firm)
+      (level_is_there (track_at c s t) (w.good t lt) v) firm)
       (λ y _ g. always_done g)
   saved_end t s i d fault failed was_loose Unwritten lt w none level firm = always_done (goes_keeps c faithful s s (stays c s w))
 
@@ -192,11 +192,11 @@ module _ {F P H R : Type 0} (c : Contents F P H R) (faithful : IsFaithful c) whe
   saving_keeps t s i d fault lt w none there =
       always_then (firm_first_keeps_good c faithful s t lt w)
       (λ z was_loose f. let below : t < tracks_of z = let same = f.goes.tracks in omega arith in
-        always_then (write_first_keeps_good c faithful t z below (f.lost ∙ there) (c.bytes i) f.goes.well)
-        (λ y v g. let all = goes_on c s z y f.goes g.goes in
-          always_weaker (saved_end t y i d fault v.fault was_loose v.took (let same = all.tracks in omega arith) g.goes.well (all.half ∙ none) g.level
-            (g.goes.firm t below f.loose))
-          (λ x _ h. keeps_on c faithful s y x (goes_keeps c faithful s y all) h)))
+      always_then (write_first_keeps_good c faithful t z below (f.lost ∙ there) (c.bytes i) f.goes.well)
+      (λ y v g. let all = goes_on c s z y f.goes g.goes in
+      always_weaker (saved_end t y i d fault v.fault was_loose v.took (let same = all.tracks in omega arith) g.goes.well (all.half ∙ none) g.level
+      (g.goes.firm t below f.loose))
+      (λ x _ h. keeps_on c faithful s y x (goes_keeps c faithful s y all) h)))
 
   saved_if : (t : ℕ) (s : Store F P H) (i : Image) (d : Did) (fault : Option Side) (ok : Bool) → t < tracks_of s → IsWell c s → s.half ≡ None →
       (track_at c s t).lost ≡ false →
@@ -227,7 +227,7 @@ module _ {F P H R : Type 0} (c : Contents F P H R) (faithful : IsFaithful c) whe
       let below : t < tracks_of z = let same = f.goes.tracks in omega arith in
       let there = level_is_there (track_at c z t) (f.goes.well.good t below) (level_mark z t (f.level (ap is_some e))) in
       always_try (λ ok. always_weaker (recovered_if t z g r ok below f.goes.well (f.goes.half ∙ none) there)
-        (λ y _ h. keeps_on c faithful s z y (goes_keeps c faithful s z f.goes) h))
+      (λ y _ h. keeps_on c faithful s z y (goes_keeps c faithful s z f.goes) h))
 
   recover_keeps : (t : ℕ) (s : Store F P H) (o : Option F) → t < tracks_of s → IsWell c s → s.half ≡ None → (track_at c s t).lost ≡ false →
       Always (recover c s t o) (λ y _. Keeps c faithful s y)
@@ -280,8 +280,8 @@ module _ {F P H R : Type 0} (c : Contents F P H R) (faithful : IsFaithful c) whe
   copy_got t side s (Some r) lt w from =
       always_write
       (λ ok. let z = write_counted s ok in
-        let g = goes_same c s z w (write_same s ok w) in
-        always_weaker (copied_by t side z ok lt g.well (still_from s ok side t from)) (λ y _ h. goes_on c s z y g h))
+      let g = goes_same c s z w (write_same s ok w) in
+      always_weaker (copied_by t side z ok lt g.well (still_from s ok side t from)) (λ y _ h. goes_on c s z y g h))
     where
       still_from : (s : Store F P H) (ok : Bool) (side : Side) (t : ℕ) → from_other s side t ≡ true → from_other (write_counted s ok) side t ≡ true
       still_from s ok A t e = e
@@ -292,8 +292,8 @@ module _ {F P H R : Type 0} (c : Contents F P H R) (faithful : IsFaithful c) whe
   copy_side t side s lt w from =
       always_read
       (λ bytes. let z = read_counted s (is_some bytes) in
-        let g = goes_same c s z w (read_same s (is_some bytes) w) in
-        always_weaker (copy_got t side z bytes lt g.well (still_from s (is_some bytes) side t from)) (λ y _ h. goes_on c s z y g h))
+      let g = goes_same c s z w (read_same s (is_some bytes) w) in
+      always_weaker (copy_got t side z bytes lt g.well (still_from s (is_some bytes) side t from)) (λ y _ h. goes_on c s z y g h))
     where
       still_from : (s : Store F P H) (ok : Bool) (side : Side) (t : ℕ) → from_other s side t ≡ true → from_other (read_counted s ok) side t ≡ true
       still_from s ok A t e = e
@@ -355,8 +355,8 @@ module _ {F P H R : Type 0} (c : Contents F P H R) (faithful : IsFaithful c) whe
   staged_by t s z g (Some i) firm level f =
       always_then
       (filled_by z t i (cases_lt t (tracks_of z)) f.well
-        (λ lt. let below : t < tracks_of s = let same = f.tracks in omega arith in
-          loose_back z t false (f.firm t below (loose_mark s t false (firm below)))) level)
+      (λ lt. let below : t < tracks_of s = let same = f.tracks in omega arith in
+      loose_back z t false (f.firm t below (loose_mark s t false (firm below)))) level)
       (λ y _ h. always_done (goes_on c s z y f h))
 
   staged_if : (t : ℕ) (s z : Store F P H) (g : Got R) (r : R) (ok : Bool) → (t < tracks_of s → is_loose s t ≡ false) → has_level z t ≡ true →

@@ -156,7 +156,7 @@ module _ {F P H R : Type 0} (c : Contents F P H R) (faithful : IsFaithful c) whe
       let f = changed_stale c z B t true e.sizes in
       let v = a_level_still s t up lt sizes in
       let here = f.here ∙ ap (λ (x : TrackMarks). record x { level = has_level (with_stale z B t true) t }) e.here
-          ∙ ap (λ (x : Bool). record (track_at c s t) { level = x }) v in
+      ∙ ap (λ (x : Bool). record (track_at c s t) { level = x }) v in
       (changed_twice c e (record { sizes = f.sizes; rest = f.rest; elsewhere = f.elsewhere; here = here }), v)
 
   b_changed : (s : Store F P H) (t : ℕ) → s.b.up ≡ true → t < tracks_of s → HasSizes s →
