@@ -1,6 +1,6 @@
 -- From one track of the device a command goes on to another one of the device alone.
 use Rattle.std.proofs.Common.{List, ◌≡◌, ◌<◌, ◌+◌, ◌*◌, ◌%◌, ℕ, Bool, true, false, Option, Some, None, Ok, Err, refl, sym, ap, subst, ◌∙◌, arith}
-use Rattle.std.specs.Prelude.{if◌then◌else◌, IfSome, Result, ◌==◌, ◌&&◌, not, is_some, nat_le, length}
+use Rattle.std.specs.Prelude.{if◌then◌else◌, IfSome, Result, ◌==◌, is_some, nat_le, length}
 use Rattle.ckd_types.specs.declared.channel.Ccw.{Ccw}
 use Rattle.ckd_types.specs.declared.command.ReadArea.{ReadArea}
 use Rattle.ckd_types.specs.declared.command.SearchArea.{SearchArea}
@@ -34,7 +34,15 @@ use Rattle.ckd_chain.specs.declared.progress.Progress.TheVariants as progresses
 use Rattle.ckd_chain.specs.State.{ChainState}
 use Rattle.ckd_chain.specs.Steps.{opened_by, opened, stage_by, stage_of, need_of, needed, standing, stepped_by, turned_by, word_of}
 use Rattle.track_image.specs.Image.{Image}
-use Rattle.device_laws.proofs.Commands.{Stays}
+use Rattle.device_defs.specs.Command.{command}
+use Rattle.device_defs.specs.Contents.{Contents}
+use Rattle.device_defs.specs.Device.{Device}
+use Rattle.device_defs.specs.Store.{tracks_of}
+use Rattle.device_laws.proofs.Always.{Always}
+use Rattle.device_laws.proofs.Commands.{Stays, command_keeps_good}
+use Rattle.device_laws.proofs.Done.{Keeps}
+use Rattle.device_laws.proofs.FailedCall.{IsWell}
+use Rattle.device_laws.proofs.TrackMarks.{IsFaithful}
 
 abbrev FurtherBy : ℕ → Stance → Stance → Turned → Type 0
 FurtherBy n s z (turns.Ended e) = Unit {0}
@@ -174,3 +182,14 @@ module _ (n : ℕ) (whole : n % 15 ≡ 0) where
     needs = λ chain t w e. w.needs t e;
     goes = λ chain i q w e. by_stage chain i (stage_of chain) q refl w e;
   }
+
+whole_cylinders : (k : ℕ) → (k * 15) % 15 ≡ 0
+whole_cylinders k = grind arith
+
+-- so a command of the running program keeps good marks good, while no half write is open
+pub running_command_keeps_good : {F P H R : Type 0} (c : Contents F P H R) (faithful : IsFaithful c) (d : Device F P H) →
+    ((chain : ChainState) → d.chain ≡ Some chain → IsWithin (tracks_of d.store) chain) → IsWell c d.store → d.store.half ≡ None →
+    Always (command c d) (λ y _. Keeps c faithful d.store y.store)
+running_command_keeps_good c faithful d within w none =
+    let n = tracks_of d.store in
+    command_keeps_good c faithful n (IsWithin n) (within_stays n (whole_cylinders d.store.cylinders)) d within refl w none
