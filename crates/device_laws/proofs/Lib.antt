@@ -38,3 +38,4 @@ pub mod Powers
 pub mod Commands
 pub mod OrderMarks
 pub mod SoundEvents
+pub mod ChainTracks
