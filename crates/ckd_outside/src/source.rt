@@ -52,7 +52,8 @@ impl From<Failed> for ReadError {
     }
 }
 
-const PIECE: usize = 4096;
+// As many bytes as one read asks for: a whole track.
+const PIECE: usize = 65_536;
 
 /// Reads to the end of the source, or until there are `most` bytes. An answer other than `Failed` says that no
 /// read failed. At a fault what was read is lost.

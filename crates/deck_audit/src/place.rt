@@ -90,6 +90,7 @@ fn in_event(devices: &[Outline], line: &ReportLine, event: &EventLine) -> bool
         EventLine::Unpair(a) => is_order(Order::Unpair(*a), line),
         EventLine::Suspend(a) => is_order(Order::Suspend(*a), line),
         EventLine::Resume(a) => is_order(Order::Resume(*a), line),
+        EventLine::Power => may_power(devices, line),
     }
 }
 

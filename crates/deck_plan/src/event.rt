@@ -30,6 +30,8 @@ pub enum EventLine {
     Unpair(DeviceNo),
     Suspend(DeviceNo),
     Resume(DeviceNo),
+    /// The power fails and comes back.
+    Power,
 }
 
 /// The events of a deck, in their order.

@@ -166,3 +166,4 @@ event_are devices (events.Pair first second) h =
 event_are devices (events.Unpair device) h = one_are events.Unpair devices (decimal device ∷ []) device (λ x e. cc) h
 event_are devices (events.Suspend device) h = one_are events.Suspend devices (decimal device ∷ []) device (λ x e. cc) h
 event_are devices (events.Resume device) h = one_are events.Resume devices (decimal device ∷ []) device (λ x e. cc) h
+event_are devices events.Power h = tt

@@ -458,6 +458,8 @@ named (events.FailVolume device B) =
       text =
           simp append_assoc;
     }
+named events.Power =
+    record { first = 80; others = codes "OWER"; letter = omega arith; word = record { some = omega arith; letters = refl }; key = refl; text = refl }
 named events.RepairCache =
     record { first = 82; others = codes "EPAIR"; letter = omega arith; word = record { some = omega arith; letters = refl }; key = refl; text = refl }
 named events.RepairStore =

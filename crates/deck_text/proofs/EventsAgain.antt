@@ -6,7 +6,7 @@ use Rattle.ckd_types.specs.declared.paths.Side.TheVariants.{A, B}
 use Rattle.deck_plan.specs.declared.event.EventLine.{EventLine}
 use Rattle.deck_plan.specs.declared.event.EventLine.TheVariants as events
 use Rattle.deck_text.specs.declared.keyword.EventWord.{EventWord}
-use Rattle.deck_text.specs.declared.keyword.EventWord.TheVariants.{Start, Step, Run, Back, Settle, Reset, Fail, Repair, Replace, Pair, Unpair, Suspend, Resume}
+use Rattle.deck_text.specs.declared.keyword.EventWord.TheVariants.{Start, Step, Run, Back, Settle, Reset, Fail, Repair, Replace, Pair, Unpair, Suspend, Resume, Power}
 use Rattle.deck_text.specs.declared.keyword.Part.{Part}
 use Rattle.deck_text.specs.declared.keyword.Part.TheVariants.{Cache, Store}
 use Rattle.deck_text.specs.declared.line.DeckWhy.TheVariants.{Words, Number}
@@ -14,7 +14,7 @@ use Rattle.deck_text.specs.declared.line.DeviceLine.{DeviceLine}
 use Rattle.deck_text.specs.declared.line.FaultLine.{FaultLine}
 use Rattle.deck_text.specs.Numbers.{number_in}
 use Rattle.deck_text.specs.Words.{one_word, two_words, three_words}
-use Rattle.deck_text.specs.Forms.{needed, and_then, device_of, is_write, side_of, fault_line, path_and_device}
+use Rattle.deck_text.specs.Forms.{needed, and_then, device_of, is_write, no_words, side_of, fault_line, path_and_device}
 use Rattle.deck_text.specs.Events.{device_words, pair_words, side_words, part_of, is_volume, part_words, failed_part, repaired_part, fail_by, event_line}
 use Rattle.deck_text.proofs.FormsAgain.{went, needed_is, if_ok, number_again, device_again, pair_again}
 
@@ -98,6 +98,7 @@ word_of (events.Pair first second) = Pair
 word_of (events.Unpair device) = Unpair
 word_of (events.Suspend device) = Suspend
 word_of (events.Resume device) = Resume
+word_of events.Power = Power
 
 unfoldable pub behind_of : EventLine → List (List ℕ)
 behind_of (events.Start path device) = decimal path ∷ decimal device ∷ []
@@ -116,6 +117,7 @@ behind_of (events.Pair first second) = decimal first ∷ decimal second ∷ []
 behind_of (events.Unpair device) = decimal device ∷ []
 behind_of (events.Suspend device) = decimal device ∷ []
 behind_of (events.Resume device) = decimal device ∷ []
+behind_of events.Power = []
 
 -- an event's line says the event again
 abbrev pub Again : List DeviceLine → EventLine → Type 0
@@ -197,3 +199,7 @@ event_again devices Pair words e h =
 event_again devices Unpair words e h = device_event events.Unpair devices words e (λ d g. ap (λ r. and_then r (λ x. Ok (events.Unpair x))) g) h
 event_again devices Suspend words e h = device_event events.Suspend devices words e (λ d g. ap (λ r. and_then r (λ x. Ok (events.Suspend x))) g) h
 event_again devices Resume words e h = device_event events.Resume devices words e (λ d g. ap (λ r. and_then r (λ x. Ok (events.Resume x))) g) h
+event_again devices Power words e h =
+    let a = went (no_words words) (λ _. Ok events.Power) e h in
+    let same : events.Power ≡ e = if_ok true events.Power e Number a.second in
+    rw (← same) refl

@@ -9,7 +9,7 @@ use Rattle.ckd_types.specs.declared.paths.Side.{Side}
 use Rattle.ckd_types.specs.declared.paths.Side.TheVariants.{A, B}
 use Rattle.deck_plan.specs.declared.event.EventLine.{EventLine}
 use Rattle.deck_plan.specs.declared.event.EventLine.TheVariants.{Start, Step, Run, Back, Settle, Reset, FailCache, FailStore, FailVolume, RepairCache}
-use Rattle.deck_plan.specs.declared.event.EventLine.TheVariants.{RepairStore, Replace, Pair, Unpair, Suspend, Resume}
+use Rattle.deck_plan.specs.declared.event.EventLine.TheVariants.{RepairStore, Replace, Pair, Unpair, Suspend, Resume, Power}
 use Rattle.deck_text.specs.declared.line.DeviceLine.{DeviceLine}
 use Rattle.deck_text.specs.declared.line.FaultLine.{FaultLine}
 use Rattle.deck_text.specs.declared.line.PlannedProgram.{PlannedProgram}
@@ -90,6 +90,7 @@ event_text (Pair first second) = with_two (codes "PAIR ") first second
 event_text (Unpair device) = with_one (codes "UNPAIR ") device
 event_text (Suspend device) = with_one (codes "SUSPEND ") device
 event_text (Resume device) = with_one (codes "RESUME ") device
+event_text Power = codes "POWER\n"
 
 abbrev pub from_events : DeckLines → List ℕ
 from_events d = events_text ++ flat_map event_text d.events

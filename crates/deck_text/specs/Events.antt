@@ -5,14 +5,14 @@ use Rattle.ckd_types.specs.declared.paths.Side.{Side}
 use Rattle.deck_plan.specs.declared.event.EventLine.{EventLine}
 use Rattle.deck_plan.specs.declared.event.EventLine.TheVariants as events
 use Rattle.deck_text.specs.declared.keyword.EventWord.{EventWord}
-use Rattle.deck_text.specs.declared.keyword.EventWord.TheVariants.{Start, Step, Run, Back, Settle, Reset, Fail, Repair, Replace, Pair, Unpair, Suspend, Resume}
+use Rattle.deck_text.specs.declared.keyword.EventWord.TheVariants.{Start, Step, Run, Back, Settle, Reset, Fail, Repair, Replace, Pair, Unpair, Suspend, Resume, Power}
 use Rattle.deck_text.specs.declared.keyword.Part.{Part}
 use Rattle.deck_text.specs.declared.keyword.Part.TheVariants.{Cache, Store}
 use Rattle.deck_text.specs.declared.line.DeckWhy.{DeckWhy}
 use Rattle.deck_text.specs.declared.line.DeckWhy.TheVariants.{Words}
 use Rattle.deck_text.specs.declared.line.DeviceLine.{DeviceLine}
 use Rattle.deck_text.specs.Words.{one_word, two_words, three_words}
-use Rattle.deck_text.specs.Forms.{needed, and_then, device_of, path_and_device, side_of}
+use Rattle.deck_text.specs.Forms.{needed, and_then, device_of, no_words, path_and_device, side_of}
 
 -- one device
 abbrev pub device_words : List DeviceLine → List (List ℕ) → Result ℕ DeckWhy
@@ -76,3 +76,4 @@ event_line devices Pair words = and_then (pair_words devices words) (λ at. Ok (
 event_line devices Unpair words = and_then (device_words devices words) (λ d. Ok (events.Unpair d))
 event_line devices Suspend words = and_then (device_words devices words) (λ d. Ok (events.Suspend d))
 event_line devices Resume words = and_then (device_words devices words) (λ d. Ok (events.Resume d))
+event_line devices Power words = and_then (no_words words) (λ _. Ok events.Power)

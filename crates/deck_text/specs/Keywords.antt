@@ -2,7 +2,7 @@
 use Rattle.std.specs.Prelude.{ℕ, List, codes, Option, Some, None, if◌then◌else◌}
 use Rattle.std.specs.Str.{bytes_eq}
 use Rattle.deck_text.specs.declared.keyword.EventWord.{EventWord}
-use Rattle.deck_text.specs.declared.keyword.EventWord.TheVariants.{Start, Step, Run, Back, Settle, Reset, Fail, Repair, Replace, Pair, Unpair, Suspend, Resume}
+use Rattle.deck_text.specs.declared.keyword.EventWord.TheVariants.{Start, Step, Run, Back, Settle, Reset, Fail, Repair, Replace, Pair, Unpair, Suspend, Resume, Power}
 use Rattle.deck_text.specs.declared.keyword.Keyword.{Keyword}
 use Rattle.deck_text.specs.declared.keyword.Keyword.TheVariants.{Deck, Cache, Store, Device, Fault, Program, Ccw, End, Events, Event}
 
@@ -36,6 +36,7 @@ event_word_of word =
     else if bytes_eq word (codes "UNPAIR") then Some Unpair
     else if bytes_eq word (codes "SUSPEND") then Some Suspend
     else if bytes_eq word (codes "RESUME") then Some Resume
+    else if bytes_eq word (codes "POWER") then Some Power
     else None
 
 abbrev pub orelse : Option Keyword → Option EventWord → Option Keyword

@@ -2,7 +2,7 @@ ghost use Rattle.std.specs.Prelude.{◌≡◌};
 ghost use Rattle.deck_text.specs.Words.{words_of};
 ghost use Rattle.deck_text.specs.Events.{device_words, pair_words, side_words, part_of, is_volume, part_words, fail_line, repair_line, replace_line, event_line, failed_part, repaired_part};
 
-use crate::forms::{device_of, path_and_device, side_of};
+use crate::forms::{device_of, no_words, path_and_device, side_of};
 use crate::keyword::{EventWord, Part, is_text};
 use crate::words::{one_word, three_words, two_words};
 use crate::{DeckWhy, DeviceLine};
@@ -142,5 +142,9 @@ pub fn event_line(
         EventWord::Unpair => Ok(EventLine::Unpair(device_words(devices, rest)?)),
         EventWord::Suspend => Ok(EventLine::Suspend(device_words(devices, rest)?)),
         EventWord::Resume => Ok(EventLine::Resume(device_words(devices, rest)?)),
+        EventWord::Power => {
+            no_words(rest)?;
+            Ok(EventLine::Power)
+        }
     }
 }

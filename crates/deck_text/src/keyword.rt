@@ -18,6 +18,7 @@ pub enum EventWord {
     Unpair,
     Suspend,
     Resume,
+    Power,
 }
 
 /// The first word of a line.
@@ -106,6 +107,8 @@ fn event_word_of(word: &[u8]) -> Option<EventWord>
         Some(EventWord::Suspend)
     } else if is_text(word, b"RESUME") {
         Some(EventWord::Resume)
+    } else if is_text(word, b"POWER") {
+        Some(EventWord::Power)
     } else {
         None
     }

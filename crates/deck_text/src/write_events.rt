@@ -108,5 +108,6 @@ pub fn write_event<K: Sink>(
         EventLine::Unpair(device) => write_one(sink, buffer, b"UNPAIR ", device),
         EventLine::Suspend(device) => write_one(sink, buffer, b"SUSPEND ", device),
         EventLine::Resume(device) => write_one(sink, buffer, b"RESUME ", device),
+        EventLine::Power => write_pieces(sink, buffer, &[Piece::Text(b"POWER\n")]),
     }
 }

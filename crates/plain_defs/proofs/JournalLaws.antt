@@ -24,7 +24,7 @@ told-append plans s (x ∷ xs) ys =
     ∙ sym (append_assoc (item_told plans s x) (journal_told plans behind xs)
     (journal_told plans (replay plans behind xs) ys))
 
-follows_more : (how : How) (path : ℕ) (xs ys : List Item) → FollowsCut how path xs → FollowsCut how path (xs ++ ys)
+pub follows_more : (how : How) (path : ℕ) (xs ys : List Item) → FollowsCut how path xs → FollowsCut how path (xs ++ ys)
 follows_more Full path xs ys h = tt
 follows_more Checked path xs ys h = tt
 follows_more (Cut effect) path [] ys h = absurd h
@@ -34,7 +34,7 @@ follows_more (Cut effect) path (Program e ∷ xs) ys h = absurd h
 follows_more (Cut effect) path (Fresh ∷ xs) ys h = absurd h
 follows_more (Cut effect) path (Act act ∷ xs) ys h = absurd h
 
-item_more : (plans : Plans) (s : PlainState) (earlier : List Item) (y : Item) (later more : List Item)
+pub item_more : (plans : Plans) (s : PlainState) (earlier : List Item) (y : Item) (later more : List Item)
     → IsLegalItem plans s earlier y later → IsLegalItem plans s earlier y (later ++ more)
 item_more plans s earlier (Program e) later more h = (h.0, follows_more e.how e.path later more h.1)
 item_more plans s earlier (Reset p) later more h = h

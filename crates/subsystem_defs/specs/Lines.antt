@@ -37,6 +37,7 @@ asked_by (lines.Pair a b) = Once (events.Pair a b)
 asked_by (lines.Unpair a) = Unpair a
 asked_by (lines.Suspend a) = Once (events.Suspend a)
 asked_by (lines.Resume a) = Once (events.Resume a)
+asked_by lines.Power = Once events.Power
 
 -- an event of a run, and what asked for it
 pub record Logged : Type 0 where

@@ -7,7 +7,7 @@ abbrev pub invariant-loop-buffer : goal.invariant-loop-buffer
 invariant-loop-buffer g l =
     Consumes (g.S.Source.left l.fn.source) (g.S.Source.left l.source) l.text.items
     × (vec_len l.text ≤ l.most)
-    × (length l.buffer ≡ 4096)
+    × (length l.buffer ≡ 65536)
     × (g.S.Faulty.faults l.source ≡ g.S.Faulty.faults l.fn.source)
     × IsKept (g.S.Faulty.allowance l.fn.source) (g.S.Faulty.allowance l.source)
 
