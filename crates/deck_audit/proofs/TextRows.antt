@@ -4,7 +4,7 @@ use Rattle.std.specs.Prelude.{codes, map, Ok, Err}
 use Rattle.deck_text.specs.declared.line.DeckFault.TheVariants.{Refused}
 use Rattle.deck_text.specs.declared.line.DeckWhy.TheVariants.{Unfinished}
 use Rattle.deck_text.specs.DeckLines.{no_lines}
-use Rattle.report_text.specs.declared.fault.LineFault.TheVariants.{Keyword}
+use Rattle.report_reading.specs.declared.fault.LineFault.TheVariants.{Keyword}
 use Rattle.deck_audit.specs.declared.status.AuditStatus.TheVariants.{No, NoReport, DeckRefused}
 use Rattle.deck_audit.specs.declared.status.AuditWhy.TheVariants.{Form, Place}
 use Rattle.deck_audit.specs.State.{first_state}

@@ -8,9 +8,9 @@ use Rattle.deck_text.specs.declared.line.Which.TheVariants.{Size}
 use Rattle.deck_text.specs.DeckLines.{DeckLines}
 use Rattle.deck_text.specs.Lines.{onto_first}
 use Rattle.deck_text.specs.Parse.{parsed}
-use Rattle.report_text.specs.declared.fault.LineFault.{LineFault}
+use Rattle.report_reading.specs.declared.fault.LineFault.{LineFault}
 use Rattle.report_text.specs.declared.line.ReportLine.{ReportLine}
-use Rattle.report_text.specs.Reading.{line_of}
+use Rattle.report_reading.specs.Reading.{line_of}
 use Rattle.deck_audit.specs.declared.status.AuditStatus.{AuditStatus}
 use Rattle.deck_audit.specs.declared.status.AuditStatus.TheVariants.{Yes, No, NoReport, DeckRefused, Limit, NoMemory}
 use Rattle.deck_audit.specs.declared.status.AuditWhy.{AuditWhy}

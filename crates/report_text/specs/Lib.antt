@@ -3,11 +3,6 @@ pub mod Words
 pub mod Lines
 pub mod Ends
 pub mod Summary
-pub mod Numbers
-pub mod Places
-pub mod Answers
-pub mod Reading
-pub mod Ranges
 pub mod Record
 pub mod Report
 pub mod Events

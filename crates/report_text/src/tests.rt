@@ -31,44 +31,6 @@ const EVENTS: &str =
 const TOTALS: &str =
     "FAIL VOLUME 10 A DONE\nPAIR 10 10 REFUSED NOTLEVEL 30\nPOWER DONE\nUNPAIR 10 PENDING 4\nDEVICE 10 READS 5 WRITES 6 LOST 1\nLOST 10 17\nDEVICE 10 LENT 10\nFRAME 10 17 MODIFIED\nFRAME 10 17 CLEAN\nFRESH 10\nLEFT 2 10 8\nUNUSED 9\nCHECKS 11\nFINISH\n";
 
-const WRONG: &str =
-    "start 2 10 DONE\nSTART 5 10 DONE\nSTART 02 10 DONE\nSTART 2\nSTART 2 10 NONE\nSENSE 0008\nEND 2 10 1 3 0e 512 -\nSTART 2 10 DONE \nIO 18446744073709551616 0\nDATA 0a\n";
-
-const FAULTS: [LineFault; 10] = [
-    LineFault::Keyword,
-    LineFault::Number,
-    LineFault::Number,
-    LineFault::Words,
-    LineFault::Word,
-    LineFault::Digits,
-    LineFault::Text,
-    LineFault::Text,
-    LineFault::Number,
-    LineFault::Text,
-];
-
-#[test]
-fn lines_that_are_read(rt: HostRuntime) -> Result<(), Fail> {
-    for line in EVENTS.lines() {
-        assert_eq!(rt; read_line(rt.alloc(), line.as_bytes()).err(), None);
-    }
-    for line in TOTALS.lines() {
-        assert_eq!(rt; read_line(rt.alloc(), line.as_bytes()).err(), None);
-    }
-    Ok(())
-}
-
-#[test]
-fn lines_with_a_fault(rt: HostRuntime) -> Result<(), Fail> {
-    let mut faults = FAULTS.iter();
-    for line in WRONG.lines() {
-        let wanted = faults.next().map(|fault| LineError::Fault(*fault));
-        assert_eq!(rt; read_line(rt.alloc(), line.as_bytes()).err(), wanted);
-    }
-    assert_eq!(rt; faults.next(), None);
-    Ok(())
-}
-
 #[test]
 fn lines_of_events(rt: HostRuntime) -> Result<(), Fail> {
     let (p, d, t) = (path(), device(), track());
@@ -259,14 +221,6 @@ fn a_history_of_a_device(rt: HostRuntime) -> Result<(), Fail> {
     assert_eq!(rt; write_history(&mut sink, &devices, 9), Ok(()));
     let wanted = "FRESH 10\nLEFT 2 10 8\nDEVICE 10 LOST 1\nLOST 10 17\nUNUSED 9\nFINISH\n";
     assert_eq!(rt; sink.bytes(), wanted.as_bytes());
-    Ok(())
-}
-
-#[test]
-fn digits_of_bytes(rt: HostRuntime) -> Result<(), Fail> {
-    assert_eq!(rt; are_digits_of(b"0AF9", &[0x0a, 0xf9]), true);
-    assert_eq!(rt; are_digits_of(b"0Af9", &[0x0a, 0xf9]), false);
-    assert_eq!(rt; are_digits_of(b"0AF", &[0x0a, 0xf9]), false);
     Ok(())
 }
 

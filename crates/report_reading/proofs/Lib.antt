@@ -1,0 +1,6 @@
+mod Found
+mod Cut
+mod NumberAgain
+mod AnswersAgain
+mod LinesAgain
+mod DataPieces

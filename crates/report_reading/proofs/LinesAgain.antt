@@ -1,0 +1,189 @@
+-- The text of a line is read as that line.
+use Rattle.std.proofs.Common.{◌≡◌, ◌∷◌, [], refl, true, false, Bool, Some, Result, Ok, ap, ◌∙◌, rules}
+use Rattle.std.specs.Prelude.{List, ℕ}
+use Rattle.std.specs.Str.{bytes_eq}
+use Rattle.report_text.specs.declared.answers.SumOf.{SumOf}
+use Rattle.report_text.specs.declared.answers.SumOf.TheVariants as sums
+use Rattle.report_text.specs.declared.answers.OrderAnswer.{OrderAnswer}
+use Rattle.report_reading.specs.declared.fault.LineFault.{LineFault}
+use Rattle.report_text.specs.declared.line.ReportLine.{ReportLine}
+use Rattle.report_text.specs.declared.line.ReportLine.TheVariants as lines
+use Rattle.report_text.specs.declared.order.Order.{Order}
+use Rattle.report_text.specs.declared.order.Order.TheVariants as orders
+use Rattle.report_text.specs.Keywords.{keyword_text}
+use Rattle.report_text.specs.Lines.{key_of, text_of, words_of}
+use Rattle.report_reading.specs.Places.{◌>>=◌, cut_words, is_key, mark_of}
+use Rattle.report_reading.specs.Ranges.{IsAnswer, IsLine, IsOrder, IsLong}
+use Rattle.report_reading.specs.Reading.{if_text, line_by, line_of}
+use Rattle.report_text.specs.Words.{mark_key}
+use Rattle.report_reading.proofs.AnswersAgain.{answer_read, answer_solid, back_read, back_solid, loose_read, loose_solid, note_read, note_solid}
+use Rattle.report_reading.proofs.AnswersAgain.{over_read, over_solid}
+use Rattle.report_reading.proofs.AnswersAgain.{side_read, side_solid, start_read, start_solid, totals_read, totals_solid}
+use Rattle.report_reading.proofs.Cut.{are_solid, hex_solid, is_solid, words_cut}
+use Rattle.report_reading.proofs.NumberAgain.{byte_read, bytes_read, count_read, count_solid, device_read, device_solid, long_read, long_solid}
+use Rattle.report_reading.proofs.NumberAgain.{path_read, path_solid, short_read}
+use Rattle.report_reading.proofs.NumberAgain.{short_solid, sized_read, track_read, track_solid}
+
+-- the words of a line say the line again
+abbrev Again : ReportLine → Type 0
+Again line = line_by (keyword_text (key_of line) ∷ words_of line) ≡ Ok line
+
+-- neither its keyword nor another word has a space
+record Solid (line : ReportLine) : Type 0 where
+  pub first : is_solid (keyword_text (key_of line)) ≡ true
+  pub others : are_solid (words_of line) ≡ true
+
+mark_read : (modified : Bool) → mark_of (keyword_text (mark_key modified)) ≡ Some modified
+unfolding is_key
+mark_read true = refl
+mark_read false = refl
+
+mark_solid : (modified : Bool) → is_solid (keyword_text (mark_key modified)) ≡ true
+mark_solid true = refl
+mark_solid false = refl
+
+order_again : (order : Order) (a : OrderAnswer) → IsOrder order → IsAnswer a → Again (lines.Order order a)
+unfolding is_key
+order_again orders.FailCache a h g = ap (λ r. r >>= (λ x. Ok (lines.Order orders.FailCache x))) (answer_read a g)
+order_again orders.FailStore a h g = ap (λ r. r >>= (λ x. Ok (lines.Order orders.FailStore x))) (answer_read a g)
+order_again (orders.FailVolume device side) a h g =
+    rw (device_read device h, side_read side) (ap (λ r. r >>= (λ x. Ok (lines.Order (orders.FailVolume device side) x))) (answer_read a g))
+order_again orders.RepairCache a h g = ap (λ r. r >>= (λ x. Ok (lines.Order orders.RepairCache x))) (answer_read a g)
+order_again orders.RepairStore a h g = ap (λ r. r >>= (λ x. Ok (lines.Order orders.RepairStore x))) (answer_read a g)
+order_again (orders.Replace device side) a h g =
+    rw (device_read device h, side_read side) (ap (λ r. r >>= (λ x. Ok (lines.Order (orders.Replace device side) x))) (answer_read a g))
+order_again (orders.Pair first second) a h g =
+    rw (device_read first h.0, device_read second h.1) (ap (λ r. r >>= (λ x. Ok (lines.Order (orders.Pair first second) x))) (answer_read a g))
+order_again (orders.Unpair device) a h g = rw (device_read device h) (ap (λ r. r >>= (λ x. Ok (lines.Order (orders.Unpair device) x))) (answer_read a g))
+order_again (orders.Suspend device) a h g = rw (device_read device h) (ap (λ r. r >>= (λ x. Ok (lines.Order (orders.Suspend device) x))) (answer_read a g))
+order_again (orders.Resume device) a h g = rw (device_read device h) (ap (λ r. r >>= (λ x. Ok (lines.Order (orders.Resume device) x))) (answer_read a g))
+order_again orders.Power a h g = ap (λ r. r >>= (λ x. Ok (lines.Order orders.Power x))) (answer_read a g)
+
+order_solid : (order : Order) (a : OrderAnswer) → IsOrder order → IsAnswer a → Solid (lines.Order order a)
+order_solid orders.FailCache a h g = record { first = refl; others = rw (answer_solid a g) refl }
+order_solid orders.FailStore a h g = record { first = refl; others = rw (answer_solid a g) refl }
+order_solid (orders.FailVolume device side) a h g = record { first = refl; others = rw (device_solid device h, side_solid side, answer_solid a g) refl }
+order_solid orders.RepairCache a h g = record { first = refl; others = rw (answer_solid a g) refl }
+order_solid orders.RepairStore a h g = record { first = refl; others = rw (answer_solid a g) refl }
+order_solid (orders.Replace device side) a h g = record { first = refl; others = rw (device_solid device h, side_solid side, answer_solid a g) refl }
+order_solid (orders.Pair first second) a h g = record { first = refl; others = rw (device_solid first h.0, device_solid second h.1, answer_solid a g) refl }
+order_solid (orders.Unpair device) a h g = record { first = refl; others = rw (device_solid device h, answer_solid a g) refl }
+order_solid (orders.Suspend device) a h g = record { first = refl; others = rw (device_solid device h, answer_solid a g) refl }
+order_solid (orders.Resume device) a h g = record { first = refl; others = rw (device_solid device h, answer_solid a g) refl }
+order_solid orders.Power a h g = record { first = refl; others = rw (answer_solid a g) refl }
+
+sum_again : (of : SumOf) (n : ℕ) → IsLong n → Again (lines.Sum of n)
+unfolding is_key
+sum_again sums.Programs n h = rw (long_read n h) refl
+sum_again sums.Commands n h = rw (long_read n h) refl
+sum_again sums.Checks n h = rw (long_read n h) refl
+sum_again sums.Reads n h = rw (long_read n h) refl
+sum_again sums.Writes n h = rw (long_read n h) refl
+sum_again sums.Lost n h = rw (long_read n h) refl
+
+sum_solid : (of : SumOf) (n : ℕ) → IsLong n → Solid (lines.Sum of n)
+sum_solid sums.Programs n h = record { first = refl; others = rw (long_solid n h) refl }
+sum_solid sums.Commands n h = record { first = refl; others = rw (long_solid n h) refl }
+sum_solid sums.Checks n h = record { first = refl; others = rw (long_solid n h) refl }
+sum_solid sums.Reads n h = record { first = refl; others = rw (long_solid n h) refl }
+sum_solid sums.Writes n h = record { first = refl; others = rw (long_solid n h) refl }
+sum_solid sums.Lost n h = record { first = refl; others = rw (long_solid n h) refl }
+
+again : (line : ReportLine) → IsLine line → Again line
+unfolding is_key
+again (lines.Start path device answer) h =
+    rw (path_read path h.0, device_read device h.1) (ap (λ r. r >>= (λ x. Ok (lines.Start path device x))) (start_read answer h.2))
+again (lines.End e) h =
+    rw (
+      path_read e.path h.path,
+      device_read e.device h.device,
+      short_read e.ordinal h.ordinal,
+      short_read e.index h.index,
+      byte_read e.status.0 h.status,
+      short_read e.residual h.residual,
+      note_read e.note,
+    ) refl
+again (lines.Data bytes) h = rw (bytes_read bytes h) refl
+again (lines.Sense sense) h = rw (sized_read 32 sense.bytes h) refl
+again (lines.Half path device track) h = rw (path_read path h.0, device_read device h.1, track_read track h.2) refl
+again (lines.Back device answer) h = rw (device_read device h.0) (ap (λ r. r >>= (λ x. Ok (lines.Back device x))) (back_read answer h.1))
+again (lines.StepIdle device) h = rw (device_read device h) refl
+again (lines.RunIdle device) h = rw (device_read device h) refl
+again (lines.Loose device answer) h = rw (device_read device h.0) (ap (λ r. r >>= (λ x. Ok (lines.Loose device x))) (loose_read answer h.1))
+again (lines.Io reads writes) h = rw (long_read reads h.0, long_read writes h.1) refl
+again (lines.Over path device ordinal how) h =
+    rw (
+      path_read path h.0,
+      device_read device h.1,
+      short_read ordinal h.2,
+    ) (ap (λ r. r >>= (λ x. Ok (lines.Over path device ordinal x))) (over_read how h.3))
+again (lines.Reset path device) h = rw (path_read path h.0, device_read device h.1) refl
+again (lines.Order order a) h = order_again order a h.0 h.1
+again (lines.Device device totals) h = rw (device_read device h.0) (ap (λ r. r >>= (λ x. Ok (lines.Device device x))) (totals_read totals h.1))
+again (lines.Lost device track) h = rw (device_read device h.0, track_read track h.1) refl
+again (lines.Frame device track modified) h = rw (device_read device h.0, track_read track h.1, mark_read modified) refl
+again (lines.Fresh device) h = rw (device_read device h) refl
+again (lines.Left path device programs) h = rw (path_read path h.0, device_read device h.1, short_read programs h.2) refl
+again (lines.Unused events) h = rw (count_read events h) refl
+again lines.Finish h = refl
+again (lines.Sum of n) h = sum_again of n h
+
+solid : (line : ReportLine) → IsLine line → Solid line
+solid (lines.Start path device answer) h = record { first = refl; others = rw (path_solid path h.0, device_solid device h.1, start_solid answer h.2) refl }
+solid (lines.End e) h =
+    record {
+      first = refl;
+      others = rw (
+        path_solid e.path h.path,
+        device_solid e.device h.device,
+        short_solid e.ordinal h.ordinal,
+        short_solid e.index h.index,
+        hex_solid (e.status.0 ∷ []),
+        short_solid e.residual h.residual,
+        note_solid e.note,
+      ) refl;
+    }
+solid (lines.Data bytes) h = record { first = refl; others = rw (hex_solid bytes) refl }
+solid (lines.Sense sense) h = record { first = refl; others = rw (hex_solid sense.bytes) refl }
+solid (lines.Half path device track) h = record { first = refl; others = rw (path_solid path h.0, device_solid device h.1, track_solid track h.2) refl }
+solid (lines.Back device answer) h = record { first = refl; others = rw (device_solid device h.0, back_solid answer h.1) refl }
+solid (lines.StepIdle device) h = record { first = refl; others = rw (device_solid device h) refl }
+solid (lines.RunIdle device) h = record { first = refl; others = rw (device_solid device h) refl }
+solid (lines.Loose device answer) h = record { first = refl; others = rw (device_solid device h.0, loose_solid answer h.1) refl }
+solid (lines.Io reads writes) h = record { first = refl; others = rw (long_solid reads h.0, long_solid writes h.1) refl }
+solid (lines.Over path device ordinal how) h =
+    record { first = refl; others = rw (path_solid path h.0, device_solid device h.1, short_solid ordinal h.2, over_solid how h.3) refl }
+solid (lines.Reset path device) h = record { first = refl; others = rw (path_solid path h.0, device_solid device h.1) refl }
+solid (lines.Order order a) h = order_solid order a h.0 h.1
+solid (lines.Device device totals) h = record { first = refl; others = rw (device_solid device h.0, totals_solid totals h.1) refl }
+solid (lines.Lost device track) h = record { first = refl; others = rw (device_solid device h.0, track_solid track h.1) refl }
+solid (lines.Frame device track modified) h = record { first = refl; others = rw (device_solid device h.0, track_solid track h.1, mark_solid modified) refl }
+solid (lines.Fresh device) h = record { first = refl; others = rw (device_solid device h) refl }
+solid (lines.Left path device programs) h = record { first = refl; others = rw (path_solid path h.0, device_solid device h.1, short_solid programs h.2) refl }
+solid (lines.Unused events) h = record { first = refl; others = rw (count_solid events h) refl }
+solid lines.Finish h = record { first = refl; others = refl }
+solid (lines.Sum of n) h = sum_solid of n h
+
+same : (bytes : List ℕ) → bytes_eq bytes bytes ≡ true
+same bytes = search rules
+
+its_text : (line : ReportLine) → if_text (text_of line) line ≡ Ok line
+its_text line = rw (same (text_of line)) refl
+
+cut_again : (line : ReportLine) → IsLine line → cut_words (text_of line) ≡ keyword_text (key_of line) ∷ words_of line
+unfolding text_of cut_words
+cut_again line h =
+    let s = solid line h in words_cut (keyword_text (key_of line)) (words_of line) s.first s.others
+
+one_line : (line other : ReportLine) (r : Result ReportLine LineFault) → r ≡ Ok line → r ≡ Ok other → line ≡ other
+one_line line other r e f = cc
+
+pub line_again : (line : ReportLine) → IsLine line → line_of (text_of line) ≡ Ok line
+unfolding line_of
+line_again line h =
+    ap (λ (ws : List (List ℕ)). line_by ws >>= if_text (text_of line)) (cut_again line h)
+    ∙ ap (λ r. r >>= if_text (text_of line)) (again line h)
+    ∙ its_text line
+
+pub lines_apart : (line other : ReportLine) → IsLine line → IsLine other → text_of line ≡ text_of other → line ≡ other
+lines_apart line other h g same = one_line line other (line_of (text_of line)) (line_again line h) (ap line_of same ∙ line_again other g)

@@ -1,0 +1,20 @@
+//! What a line of a report, of a history or of a summary is read as, and the law that what is written is read back.
+#![tactic(auto)]
+
+mod data;
+mod fault;
+mod law;
+mod numbers;
+mod places;
+mod ranges;
+mod read;
+mod read_answers;
+mod read_lines;
+#[cfg(test)]
+mod tests;
+
+pub use data::{DATA_HEAD, are_digits_of, data_in_pieces};
+pub use fault::{LineError, LineFault};
+pub use law::{is_read_back, reads_back};
+pub use ranges::in_ranges;
+pub use read::read_line;

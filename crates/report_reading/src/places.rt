@@ -1,0 +1,169 @@
+ghost use Rattle.std.specs.Prelude.{◌≡◌, ◌≤◌, Ok, Err, IfOk, MatchResult, slice_get};
+ghost use Rattle.std.specs.Option.{option_map};
+ghost use Rattle.report_reading.specs.Places.{bytes_at, byte_at, count_at, cut_words, device_at, is_key, key_at, long_at, mark_at, mark_of, note_at, note_of, number_at, path_at, short_at, side_at, side_of, sized_at, track_at, word_at};
+
+use crate::LineFault;
+use crate::numbers::number_in;
+use ckd_types::{DeviceNo, Note, PathNo, Side, TrackNo};
+use hex::FromHex;
+use report_text::{Keyword, keyword_text};
+
+fn nth_word(text: &[u8], i: usize) -> Option<&[u8]>
+    ensures { option_map (λ w. w.now) result ≡ slice_get (cut_words text.now) i }
+{
+    text.split(|b| *b == b' ').nth(i)
+}
+
+/// A word of a text, from 0 on, that is cut at each space.
+pub fn word_at(text: &[u8], i: usize) -> Result<&[u8], LineFault>
+    ensures { MatchResult result (λ w. word_at (cut_words text.now) i ≡ Ok w.now) (λ f. word_at (cut_words text.now) i ≡ Err f) }
+{
+    nth_word(text, i).ok_or(LineFault::Words)
+}
+
+/// Whether a word is this keyword, letter by letter.
+#[tactic(auto, unfolding(crate::specs::Places::is_key))]
+pub fn is_key(word: &[u8], key: Keyword) -> bool
+    ensures { result ≡ is_key word.now key }
+{
+    word == keyword_text(key)
+}
+
+fn number_at(least: u64, most: u64, text: &[u8], i: usize) -> Result<u64, LineFault>
+    ensures value { result ≡ number_at least most (cut_words text.now) i }
+    ensures range { IfOk result (λ n. n ≤ most) }
+{
+    let word = word_at(text, i)?;
+    number_in(least, most, word).ok_or(LineFault::Number)
+}
+
+pub fn path_at(text: &[u8], i: usize) -> Result<PathNo, LineFault>
+    ensures { result ≡ path_at (cut_words text.now) i }
+{
+    let n = number_at(1, 4, text, i)?;
+    PathNo::new(n as u8).ok_or(LineFault::Number)
+}
+
+pub fn device_at(text: &[u8], i: usize) -> Result<DeviceNo, LineFault>
+    ensures { result ≡ device_at (cut_words text.now) i }
+{
+    let n = number_at(0, 15, text, i)?;
+    DeviceNo::new(n as u8).ok_or(LineFault::Number)
+}
+
+pub fn track_at(text: &[u8], i: usize) -> Result<TrackNo, LineFault>
+    ensures { result ≡ track_at (cut_words text.now) i }
+{
+    let n = number_at(0, 959, text, i)?;
+    TrackNo::new(n as u16).ok_or(LineFault::Number)
+}
+
+pub fn short_at(text: &[u8], i: usize) -> Result<u16, LineFault>
+    ensures { result ≡ short_at (cut_words text.now) i }
+{
+    let n = number_at(0, 65535, text, i)?;
+    Ok(n as u16)
+}
+
+pub fn count_at(text: &[u8], i: usize) -> Result<u32, LineFault>
+    ensures { result ≡ count_at (cut_words text.now) i }
+{
+    let n = number_at(0, 4_294_967_295, text, i)?;
+    Ok(n as u32)
+}
+
+pub fn long_at(text: &[u8], i: usize) -> Result<u64, LineFault>
+    ensures { result ≡ long_at (cut_words text.now) i }
+{
+    number_at(0, 18_446_744_073_709_551_615, text, i)
+}
+
+/// So many bytes in digits of either case.
+pub fn sized_at<const N: usize>(text: &[u8], i: usize) -> Result<[u8; N], LineFault>
+    ensures { result ≡ sized_at N (cut_words text.now) i }
+{
+    let word = word_at(text, i)?;
+    match <[u8; N] as FromHex>::from_hex(word) {
+        Ok(bytes) => Ok(bytes),
+        Err(_) => Err(LineFault::Digits),
+    }
+}
+
+pub fn byte_at(text: &[u8], i: usize) -> Result<u8, LineFault>
+    ensures { result ≡ byte_at (cut_words text.now) i }
+{
+    let bytes = sized_at::<1>(text, i)?;
+    Ok(bytes[0])
+}
+
+fn side_of(word: &[u8]) -> Option<Side>
+    ensures { result ≡ side_of word.now }
+{
+    if is_key(word, Keyword::SideA) {
+        Some(Side::A)
+    } else if is_key(word, Keyword::SideB) {
+        Some(Side::B)
+    } else {
+        None
+    }
+}
+
+pub fn side_at(text: &[u8], i: usize) -> Result<Side, LineFault>
+    ensures { result ≡ side_at (cut_words text.now) i }
+{
+    let word = word_at(text, i)?;
+    side_of(word).ok_or(LineFault::Word)
+}
+
+fn note_of(word: &[u8]) -> Option<Note>
+    ensures { result ≡ note_of word.now }
+{
+    if is_key(word, Keyword::Plain) {
+        Some(Note::Plain)
+    } else if is_key(word, Keyword::Incorrect) {
+        Some(Note::IncorrectLength)
+    } else if is_key(word, Keyword::Limit) {
+        Some(Note::Limit)
+    } else {
+        None
+    }
+}
+
+pub fn note_at(text: &[u8], i: usize) -> Result<Note, LineFault>
+    ensures { result ≡ note_at (cut_words text.now) i }
+{
+    let word = word_at(text, i)?;
+    note_of(word).ok_or(LineFault::Word)
+}
+
+fn mark_of(word: &[u8]) -> Option<bool>
+    ensures { result ≡ mark_of word.now }
+{
+    if is_key(word, Keyword::Modified) {
+        Some(true)
+    } else if is_key(word, Keyword::Clean) {
+        Some(false)
+    } else {
+        None
+    }
+}
+
+/// Whether a frame is modified.
+pub fn mark_at(text: &[u8], i: usize) -> Result<bool, LineFault>
+    ensures { result ≡ mark_at (cut_words text.now) i }
+{
+    let word = word_at(text, i)?;
+    mark_of(word).ok_or(LineFault::Word)
+}
+
+/// Exactly this keyword.
+pub fn key_at(key: Keyword, text: &[u8], i: usize) -> Result<(), LineFault>
+    ensures { result ≡ key_at key (cut_words text.now) i }
+{
+    let word = word_at(text, i)?;
+    if is_key(word, key) {
+        Ok(())
+    } else {
+        Err(LineFault::Word)
+    }
+}

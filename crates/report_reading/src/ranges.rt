@@ -1,0 +1,286 @@
+ghost use Rattle.std.specs.Prelude.{◌≡◌, ◌<◌, ◌^◌};
+ghost use Rattle.hex.specs.Hex.{IsBytes};
+ghost use Rattle.report_reading.specs.Ranges.{AreBytes, IsAnswer, IsBack, IsDevice, IsEnd, IsFault, IsLine, IsLoose, IsOrder, IsOver, IsOwner, IsPath, IsStart, IsTotals, IsTrack};
+
+use ckd_types::{DeviceNo, GroupId, Owner, PathNo, Sense, TrackNo};
+use report_text::{
+    BackAnswer, DeviceTotals, EndLine, HowOver, LooseAnswer, Order, OrderAnswer, OrderFault,
+    ReportLine, StartAnswer,
+};
+
+fn path_range(path: &PathNo)
+    ensures { IsPath path.now }
+{
+    let _ = path.get();
+}
+
+fn device_range(device: &DeviceNo)
+    ensures { IsDevice device.now }
+{
+    let _ = device.get();
+}
+
+fn track_range(track: &TrackNo)
+    ensures { IsTrack track.now }
+{
+    let _ = track.get();
+}
+
+fn short_range(n: &u16)
+    ensures { n.now < 2 ^ 16 }
+{
+    let _n = *n;
+}
+
+fn count_range(n: &u32)
+    ensures { n.now < 2 ^ 32 }
+{
+    let _n = *n;
+}
+
+fn long_range(n: &u64)
+    ensures { n.now < 2 ^ 64 }
+{
+    let _n = *n;
+}
+
+fn byte_range(n: &u8)
+    ensures { n.now < 256 }
+{
+    let _n = *n;
+}
+
+fn bytes_range(bytes: &[u8])
+    ensures { IsBytes bytes.now }
+{
+    let _bytes = bytes;
+}
+
+fn sized_range<const N: usize>(bytes: &[u8; N])
+    ensures { AreBytes N bytes.now }
+{
+    bytes_range(bytes);
+}
+
+fn group_range(id: &GroupId)
+    ensures { AreBytes 11 id.now.bytes }
+{
+    sized_range::<11>(&id.bytes);
+}
+
+fn sense_range(sense: &Sense)
+    ensures { AreBytes 32 sense.now.bytes }
+{
+    sized_range::<32>(&sense.bytes);
+}
+
+fn owner_range(owner: &Owner)
+    ensures { IsOwner owner.now }
+{
+    match owner {
+        Owner::Group(id) => group_range(id),
+        Owner::Path(path) => path_range(path),
+    }
+}
+
+fn start_range(answer: &StartAnswer)
+    ensures { IsStart answer.now }
+{
+    match answer {
+        StartAnswer::Accepted(n) => short_range(n),
+        StartAnswer::Busy(path) => path_range(path),
+        StartAnswer::Done | StartAnswer::Running => (),
+        StartAnswer::Secondary(device) => device_range(device),
+        StartAnswer::Reserved(owner) => owner_range(owner),
+        StartAnswer::Shut(owner) => owner_range(owner),
+    }
+}
+
+fn back_range(answer: &BackAnswer)
+    ensures { IsBack answer.now }
+{
+    match answer {
+        BackAnswer::Nothing | BackAnswer::Fault(_) | BackAnswer::BadBytes(_) => (),
+        BackAnswer::Recovered(track) => track_range(track),
+        BackAnswer::Copied(track) => track_range(track),
+        BackAnswer::Staged(track) => track_range(track),
+        BackAnswer::Skipped(track) => track_range(track),
+        BackAnswer::Destaged(track) => track_range(track),
+        BackAnswer::Half(track) => track_range(track),
+        BackAnswer::Finished(track) => track_range(track),
+        BackAnswer::Unwritten(track) => track_range(track),
+    }
+}
+
+fn loose_range(answer: &LooseAnswer)
+    ensures { IsLoose answer.now }
+{
+    match answer {
+        LooseAnswer::Harden(track) => track_range(track),
+        LooseAnswer::Loosen(track) => track_range(track),
+        LooseAnswer::Lost { count, id } => {
+            short_range(count);
+            sized_range::<2>(id);
+        }
+    }
+}
+
+fn over_range(how: &HowOver)
+    ensures { IsOver how.now }
+{
+    match how {
+        HowOver::Full | HowOver::Checked => (),
+        HowOver::Cut(commands) => short_range(commands),
+    }
+}
+
+fn fault_range(fault: &OrderFault)
+    ensures { IsFault fault.now }
+{
+    match fault {
+        OrderFault::Lent(device) => device_range(device),
+        OrderFault::Active(path) => path_range(path),
+        OrderFault::NotLevel(tracks) => count_range(tracks),
+        OrderFault::Same
+        | OrderFault::Paired
+        | OrderFault::Unpaired
+        | OrderFault::Geometry
+        | OrderFault::NoSide
+        | OrderFault::Down
+        | OrderFault::Up
+        | OrderFault::Half
+        | OrderFault::Held
+        | OrderFault::NotHeld => (),
+    }
+}
+
+fn answer_range(answer: &OrderAnswer)
+    ensures { IsAnswer answer.now }
+{
+    match answer {
+        OrderAnswer::Done => (),
+        OrderAnswer::Pending(tracks) => count_range(tracks),
+        OrderAnswer::Refused(fault) => fault_range(fault),
+    }
+}
+
+fn order_range(order: &Order)
+    ensures { IsOrder order.now }
+{
+    match order {
+        Order::FailVolume(device, _) => device_range(device),
+        Order::Replace(device, _) => device_range(device),
+        Order::Pair(first, second) => {
+            device_range(first);
+            device_range(second);
+        }
+        Order::Unpair(device) => device_range(device),
+        Order::Suspend(device) => device_range(device),
+        Order::Resume(device) => device_range(device),
+        Order::FailCache
+        | Order::FailStore
+        | Order::RepairCache
+        | Order::RepairStore
+        | Order::Power => (),
+    }
+}
+
+fn totals_range(totals: &DeviceTotals)
+    ensures { IsTotals totals.now }
+{
+    match totals {
+        DeviceTotals::Calls {
+            reads,
+            writes,
+            lost,
+        } => {
+            long_range(reads);
+            long_range(writes);
+            short_range(lost);
+        }
+        DeviceTotals::Lost(lost) => short_range(lost),
+        DeviceTotals::Lent(device) => device_range(device),
+    }
+}
+
+fn end_range(end: &EndLine)
+    ensures { IsEnd end.now }
+{
+    path_range(&end.path);
+    device_range(&end.device);
+    short_range(&end.ordinal);
+    short_range(&end.index);
+    byte_range(&end.status.0);
+    short_range(&end.residual);
+}
+
+fn place_range(path: &PathNo, device: &DeviceNo)
+    ensures path { IsPath path.now }
+    ensures device { IsDevice device.now }
+{
+    path_range(path);
+    device_range(device);
+}
+
+/// The numbers and bytes of every line are in their ranges: so `reads_back` speaks of all lines.
+pub fn in_ranges(line: &ReportLine)
+    ensures { IsLine line.now }
+{
+    match line {
+        ReportLine::Start(path, device, answer) => {
+            place_range(path, device);
+            start_range(answer);
+        }
+        ReportLine::End(end) => end_range(end),
+        ReportLine::Data(bytes) => bytes_range(bytes.as_slice()),
+        ReportLine::Sense(sense) => sense_range(sense),
+        ReportLine::Half(path, device, track) => {
+            place_range(path, device);
+            track_range(track);
+        }
+        ReportLine::Back(device, answer) => {
+            device_range(device);
+            back_range(answer);
+        }
+        ReportLine::StepIdle(device) => device_range(device),
+        ReportLine::RunIdle(device) => device_range(device),
+        ReportLine::Loose(device, answer) => {
+            device_range(device);
+            loose_range(answer);
+        }
+        ReportLine::Io { reads, writes } => {
+            long_range(reads);
+            long_range(writes);
+        }
+        ReportLine::Over(path, device, ordinal, how) => {
+            place_range(path, device);
+            short_range(ordinal);
+            over_range(how);
+        }
+        ReportLine::Reset(path, device) => place_range(path, device),
+        ReportLine::Order(order, answer) => {
+            order_range(order);
+            answer_range(answer);
+        }
+        ReportLine::Device(device, totals) => {
+            device_range(device);
+            totals_range(totals);
+        }
+        ReportLine::Lost(device, track) => {
+            device_range(device);
+            track_range(track);
+        }
+        ReportLine::Frame(device, track, _) => {
+            device_range(device);
+            track_range(track);
+        }
+        ReportLine::Fresh(device) => device_range(device),
+        ReportLine::Left(path, device, programs) => {
+            place_range(path, device);
+            short_range(programs);
+        }
+        ReportLine::Unused(events) => count_range(events),
+        ReportLine::Finish => (),
+        ReportLine::Sum(_, n) => long_range(n),
+    }
+}

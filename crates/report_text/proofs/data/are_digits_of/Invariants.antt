@@ -1,8 +1,0 @@
-use Rattle.std.proofs.Common.{◌≡◌, drop}
-use Rattle.std.specs.Str.{bytes_eq}
-use Rattle.hex.specs.Hex.{encode_upper}
-use Rattle.report_text.proofs.data.are_digits_of.Given as goal
-
--- the rest of the digits and of the bytes decide
-abbrev pub invariant-loop-b : goal.invariant-loop-b
-invariant-loop-b l = bytes_eq l.digits (encode_upper l.bytes) ≡ bytes_eq l.rest (encode_upper (drop l.b-index l.bytes))

@@ -1,4 +1,0 @@
-use Rattle.report_text.proofs.law.is_read_back.Goals as goal
-
-pub returns : goal.returns
-returns c = c.reads_back.ensures.again _ c.in_ranges.ensures

@@ -1,5 +1,0 @@
-use Rattle.report_text.proofs.Found.{found_or}
-use Rattle.report_text.proofs.places.word_at.Goals as goal
-
-pub returns : goal.returns
-returns c = rw c.ok_or.ensures.value (found_or _ _ _ c.nth_word.ensures)
