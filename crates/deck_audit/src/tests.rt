@@ -72,6 +72,7 @@ fn lines_of_an_idle_device(rt: HostRuntime) -> Result<(), Fail> {
         running: None,
         half: HalfWrite::Closed,
         lent: None,
+        loose: false,
     };
     let devices = [outline];
     let due = Due::Next;
@@ -107,6 +108,7 @@ fn lines_of_a_running_program(rt: HostRuntime) -> Result<(), Fail> {
         }),
         half: HalfWrite::Closed,
         lent: None,
+        loose: false,
     };
     let devices = [outline];
     let due = Due::Next;
@@ -140,6 +142,7 @@ fn lines_at_the_end(rt: HostRuntime) -> Result<(), Fail> {
         running: None,
         half: HalfWrite::Closed,
         lent: None,
+        loose: false,
     };
     let devices = [outline];
     let calls = DeviceTotals::Calls {
