@@ -6,3 +6,6 @@ mod Rows
 pub mod Own
 mod OwnRows
 mod SoundRows
+mod Held
+mod ContentRows
+mod SideRows
