@@ -16,6 +16,7 @@ use Rattle.device_defs.specs.Contents.{contents, image_read}
 use Rattle.device_defs.specs.Sound.{
   DeviceStore,
   FrameBy,
+  FrameIs,
   IsHeldBy,
   IsKept,
   IsSoundAt,
@@ -198,6 +199,127 @@ sound_by o t loose plain firm are closed =
           (where_level (level_at s.b t) _ _ _ (ap (λ (f : Facts). f.b) are ∙ some))));
     }
 
+-- What is said of a track that is being written. A side that hasn't it level has what is written, and a frame that doesn't count is plain
+pub record HalfFacts : Type 0 where
+  pub marks : Bool
+  pub loose : Bool
+  pub plainly_loose : Bool
+  pub lost : Bool
+  pub plain : Image
+  pub frame : Image
+  pub image : Image
+  pub written : Image
+  pub bytes : List ℕ
+  pub a : List ℕ
+  pub b : List ℕ
+
+abbrev pub is_of_cut : Origin → Bool
+is_of_cut (OfCommand bypass e) = false
+is_of_cut (OfCut bypass) = true
+is_of_cut OfBackground = false
+
+abbrev pub image_in_half : Image → Option (HalfWrite Image) → Image
+image_in_half plain None = plain
+image_in_half plain (Some w) = w.image
+
+abbrev pub written_in_half : Image → Option (HalfWrite Image) → Image
+written_in_half plain None = plain
+written_in_half plain (Some w) = written_on plain w.origin
+
+abbrev pub frame_by_origin : DeviceStore → ℕ → Image → Origin → Image
+frame_by_origin s t plain origin = if is_of_cut origin then plain else framed plain (frame_at s t)
+
+abbrev pub frame_in_half : DeviceStore → ℕ → Image → Option (HalfWrite Image) → Image
+frame_in_half s t plain None = plain
+frame_in_half s t plain (Some w) = frame_by_origin s t plain w.origin
+
+abbrev pub bytes_on : DeviceStore → Holdings (List ℕ) → ℕ → List ℕ → Side → List ℕ
+bytes_on s h t bytes side = if level_at (side_of s side) t then slice_index_or (holds_of h side) t [] else bytes
+
+abbrev pub half_bytes : Own → ℕ → List ℕ
+half_bytes o t = contents.bytes (image_in_half (plain_image o.device t) o.device.store.half)
+
+abbrev pub half_facts_of : Own → ℕ → HalfFacts
+half_facts_of o t = record {
+  marks = has_sound_marks contents o.device.store t;
+  loose = is_loose o.device.store t;
+  plainly_loose = is_plainly_loose (plain_device o.device) t;
+  lost = is_lost o.device.store t;
+  plain = plain_image o.device t;
+  frame = frame_in_half o.device.store t (plain_image o.device t) o.device.store.half;
+  image = image_in_half (plain_image o.device t) o.device.store.half;
+  written = written_in_half (plain_image o.device t) o.device.store.half;
+  bytes = half_bytes o t;
+  a = bytes_on o.device.store (holdings o.world) t (half_bytes o t) A;
+  b = bytes_on o.device.store (holdings o.world) t (half_bytes o t) B;
+}
+
+-- those of a sound one: the plain track, and the one that is written, with its bytes
+abbrev pub sound_half : Image → Image → List ℕ → HalfFacts
+sound_half plain written bytes = record {
+  marks = true;
+  loose = false;
+  plainly_loose = false;
+  lost = false;
+  plain = plain;
+  frame = plain;
+  image = written;
+  written = written;
+  bytes = bytes;
+  a = bytes;
+  b = bytes;
+}
+
+abbrev either : Bool → Type 0 → Type 0 → Type 0
+either b X Y = elim b [ true ↦ X | false ↦ Y ]
+
+in_one : (b : Bool) (X Y : Type 0) → b ≡ true → X → either b X Y
+in_one true X Y e x = x
+in_one false X Y e x = absurd (true≢false (sym e))
+
+frame_is : (s : DeviceStore) (t : ℕ) (plain : Image) → framed plain (frame_at s t) ≡ plain → FrameIs s t plain
+frame_is s t plain same f at = sym (ap (framed plain) at) ∙ same
+
+frame_of_origin : (s : DeviceStore) (t : ℕ) (plain : Image) (origin : Origin) → frame_by_origin s t plain origin ≡ plain → FrameBy origin s t plain
+frame_of_origin s t plain (OfCommand bypass e) same = frame_is s t plain same
+frame_of_origin s t plain (OfCut bypass) same = tt
+frame_of_origin s t plain OfBackground same = frame_is s t plain same
+
+bytes_level : (b : Bool) (x y z : List ℕ) → (if b then x else y) ≡ z → b ≡ true → x ≡ z
+bytes_level true x y z e level = e
+bytes_level false x y z e level = absurd (true≢false (sym level))
+
+abbrev HasBytes : DeviceStore → Holdings (List ℕ) → List ℕ → ℕ → Type 0
+HasBytes s h bytes t = (side : Side) → level_at (side_of s side) t ≡ true → slice_index_or (holds_of h side) t [] ≡ bytes
+
+half_held : (s : DeviceStore) (h : Holdings (List ℕ)) (t : ℕ) (plain kept : Image) (x : Option (HalfWrite Image)) → half_is x t ≡ true →
+    image_in_half plain x ≡ written_in_half plain x → HasBytes s h (contents.bytes (image_in_half plain x)) t → frame_in_half s t plain x ≡ plain →
+    IsHeldBy s h t plain kept x
+half_held s h t plain kept None e image sides frame = absurd (cc)
+half_held s h t plain kept (Some w) e image sides frame =
+    let at : t ≡ w.track = grind arith in
+    in_one (w.track == t) _ _ e (record {
+      image = image;
+      sides = subst (HasBytes s h (contents.bytes w.image)) at sides;
+      frame = subst (λ q. FrameBy w.origin s q plain) at (frame_of_origin s t plain w.origin frame);
+    })
+
+pub half_sound_by : (o : Own) (t : ℕ) (plain written : Image) (bytes : List ℕ) → half_facts_of o t ≡ sound_half plain written bytes →
+    half_is o.device.store.half t ≡ true → SoundAt o t
+half_sound_by o t plain written bytes are is_open =
+    let s = o.device.store in
+    let own : bytes ≡ half_bytes o t = sym (ap (λ (f : HalfFacts). f.bytes) are) in
+    record {
+      marks = ap (λ (f : HalfFacts). f.marks) are;
+      loose = ap (λ (f : HalfFacts). f.loose) are ∙ sym (ap (λ (f : HalfFacts). f.plainly_loose) are);
+      held = not_lost (is_lost s t) _ (ap (λ (f : HalfFacts). f.lost) are) (half_held s (holdings o.world) t (plain_image o.device t) _ s.half is_open
+          (ap (λ (f : HalfFacts). f.image) are ∙ sym (ap (λ (f : HalfFacts). f.written) are))
+          (on_sides (λ side. level_at (side_of s side) t ≡ true → slice_index_or (holds_of (holdings o.world) side) t [] ≡ half_bytes o t)
+          (bytes_level (level_at s.a t) _ _ _ (ap (λ (f : HalfFacts). f.a) are ∙ own))
+          (bytes_level (level_at s.b t) _ _ _ (ap (λ (f : HalfFacts). f.b) are ∙ own)))
+          (ap (λ (f : HalfFacts). f.frame) are ∙ sym (ap (λ (f : HalfFacts). f.plain) are)));
+    }
+
 -- They aren't. Two images of track 0 differ where one has the new data, and the other one hasn't
 
 abbrev pub is_new : Image → Bool
@@ -232,9 +354,6 @@ against b holds fails = true≢false (sym holds ∙ fails)
 is_held : (b : Bool) (X : Type 0) → b ≡ false → unless b X → X
 is_held true X e x = absurd (true≢false e)
 is_held false X e x = x
-
-abbrev either : Bool → Type 0 → Type 0 → Type 0
-either b X Y = elim b [ true ↦ X | false ↦ Y ]
 
 one_of : (b : Bool) (X Y : Type 0) → b ≡ true → either b X Y → X
 one_of true X Y e x = x
@@ -299,11 +418,6 @@ side_agrees s h t side None = true
 side_agrees s h t side (Some w) =
     if level_at (side_of s side) t then is_alike (image_read D3390 0 (slice_index_or (holds_of h side) t [])) (image_read D3390 0 (contents.bytes w.image))
     else true
-
-abbrev pub is_of_cut : Origin → Bool
-is_of_cut (OfCommand bypass e) = false
-is_of_cut (OfCut bypass) = true
-is_of_cut OfBackground = false
 
 abbrev pub frame_agrees : DeviceStore → ℕ → Image → Option (HalfWrite Image) → Bool
 frame_agrees s t plain None = true

@@ -9,3 +9,4 @@ mod SoundRows
 mod Held
 mod ContentRows
 mod SideRows
+mod TransferRows

@@ -1,6 +1,6 @@
 -- Over the bytes of both sides a known pair is sound, also between the two parts of a write; and one of which a side, a frame or what is being
 -- written is wrong isn't.
-use Rattle.std.proofs.Common.{◌≡◌, ◌∙◌, true, false, true≢false, [], ◌∷◌, ◌++◌, None, refl, sym, ap}
+use Rattle.std.proofs.Common.{true, false, [], ◌∷◌, ◌++◌, None, refl}
 use Rattle.ckd_types.specs.Commands.{command_of}
 use Rattle.ckd_types.specs.declared.paths.Side.TheVariants.{A, B}
 use Rattle.ckd_rules.specs.Walk.{walk}
@@ -34,14 +34,12 @@ use Rattle.device_defs.proofs.Held.{
   bad_side,
   behind,
   frame_of,
-  framed,
+  half_sound_by,
   new_bytes,
   new_image,
   old_bytes,
   old_image,
-  on_sides,
   sound_by,
-  via,
   with_bytes,
   with_half_image,
   with_own,
@@ -117,15 +115,7 @@ unfolding all_do play all_happen steps_of works copies hold answer after is_in w
     cache_lost store_lost all_firm_told waits hear all_told level_bytes image choose write_first write_second
     write_done through write second_part work look follow command second background lose start_fault start reset
     power part_of walk
-half_write_of_a_command = record {
-  marks = refl;
-  loose = via _ _ false refl refl;
-  held = record {
-    image = via _ _ new_image refl refl;
-    sides = on_sides _ (λ level. via _ _ new_bytes refl refl) (λ level. absurd (true≢false (sym level)));
-    frame = λ f at. sym (ap (framed old_image) at) ∙ via _ _ old_image refl refl;
-  };
-}
+half_write_of_a_command = half_sound_by half_track 0 old_image new_image new_bytes refl refl
 
 -- side A has the old one
 first_part_that_never_came : SoundAt (with_bytes half_track A old_bytes) 0 → ⊥
@@ -174,31 +164,16 @@ unfolding all_do play all_happen steps_of works copies hold answer after is_in w
     cache_lost store_lost all_firm_told waits hear all_told level_bytes image choose write_first write_second
     write_done through write second_part work look follow command second background lose start_fault start reset
     power part_of walk
-half_write_of_a_cut_command = record {
-  marks = refl;
-  loose = via _ _ false refl refl;
-  held = record {
-    image = via _ _ new_image refl refl;
-    sides = on_sides _ (λ level. via _ _ new_bytes refl refl) (λ level. absurd (true≢false (sym level)));
-    frame = tt;
-  };
-}
+half_write_of_a_cut_command = half_sound_by cut_track 0 new_image new_image new_bytes refl refl
 
-any_frame_of_a_cut_command : SoundAt (with_own cut_track (with_frame cut_track.device.store 0 (frame_of new_image true))) 0
+-- even one of the old track
+any_frame_of_a_cut_command : SoundAt (with_own cut_track (with_frame cut_track.device.store 0 (frame_of old_image true))) 0
 unfolding all_do play all_happen steps_of works copies hold answer after is_in with_number less_one counted
     least count_below command_of empty_bytes areas_at zero_at next_at records_at reading over settled side_lost
     cache_lost store_lost all_firm_told waits hear all_told level_bytes image choose write_first write_second
     write_done through write second_part work look follow command second background lose start_fault start reset
     power part_of walk
-any_frame_of_a_cut_command = record {
-  marks = refl;
-  loose = via _ _ false refl refl;
-  held = record {
-    image = via _ _ new_image refl refl;
-    sides = on_sides _ (λ level. via _ _ new_bytes refl refl) (λ level. absurd (true≢false (sym level)));
-    frame = tt;
-  };
-}
+any_frame_of_a_cut_command = half_sound_by (with_own cut_track (with_frame cut_track.device.store 0 (frame_of old_image true))) 0 new_image new_image new_bytes refl refl
 
 -- what is kept of it is the old track
 cut_write_of_the_old_track : SoundAt (with_half_image cut_track old_image) 0 → ⊥
@@ -229,15 +204,7 @@ unfolding all_do play all_happen steps_of works copies hold answer after is_in w
     cache_lost store_lost all_firm_told waits hear all_told level_bytes image choose write_first write_second
     write_done through write second_part work look follow command second background lose start_fault start reset
     power part_of walk
-half_write_of_a_destaging = record {
-  marks = refl;
-  loose = via _ _ false refl refl;
-  held = record {
-    image = via _ _ new_image refl refl;
-    sides = on_sides _ (λ level. via _ _ new_bytes refl refl) (λ level. absurd (true≢false (sym level)));
-    frame = λ f at. sym (ap (framed new_image) at) ∙ via _ _ new_image refl refl;
-  };
-}
+half_write_of_a_destaging = half_sound_by destaged_track 0 new_image new_image new_bytes refl refl
 
 -- the frame is another
 other_frame_beside_a_destaging : SoundAt (with_own destaged_track (with_frame destaged_track.device.store 0 (frame_of old_image true))) 0 → ⊥
@@ -259,15 +226,7 @@ unfolding all_do play all_happen steps_of works copies hold answer after is_in w
     cache_lost store_lost all_firm_told waits hear all_told level_bytes image choose write_first write_second
     write_done through write second_part work look follow command second background lose start_fault start reset
     power part_of walk
-half_write_without_a_side = record {
-  marks = refl;
-  loose = via _ _ false refl refl;
-  held = record {
-    image = via _ _ new_image refl refl;
-    sides = on_sides _ (λ level. absurd (true≢false (sym level))) (λ level. absurd (true≢false (sym level)));
-    frame = λ f at. sym (ap (framed old_image) at) ∙ via _ _ old_image refl refl;
-  };
-}
+half_write_without_a_side = half_sound_by half_without_a_side 0 old_image new_image new_bytes refl refl
 
 -- Then the other side has it
 
