@@ -1,7 +1,7 @@
 -- Over the bytes of its volume a known device is sound, and one of which a frame, a patch, the side or a mark is wrong isn't.
-use Rattle.std.proofs.Common.{◌≡◌, true, false, [], ◌∷◌, ◌++◌, None, refl, replicate}
+use Rattle.std.proofs.Common.{true, false, [], ◌∷◌, ◌++◌, None, refl, replicate}
 use Rattle.ckd_types.specs.Commands.{command_of}
-use Rattle.ckd_types.specs.declared.paths.Side.TheVariants.{A, B}
+use Rattle.ckd_types.specs.declared.paths.Side.TheVariants.{A}
 use Rattle.ckd_rules.specs.Walk.{walk}
 use Rattle.plain_defs.specs.Program.{part_of}
 use Rattle.track_image.specs.Reading.{areas_at, zero_at, next_at, records_at, reading}

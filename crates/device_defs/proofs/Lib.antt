@@ -10,3 +10,5 @@ mod Held
 mod ContentRows
 mod SideRows
 mod TransferRows
+mod BetweenRows
+mod PledgeRows
