@@ -12,3 +12,4 @@ mod SideRows
 mod TransferRows
 mod BetweenRows
 mod PledgeRows
+mod PairRows
