@@ -1,10 +1,13 @@
 -- What is computed of these runs, from the definitions alone.
-use Rattle.std.proofs.Common.{◌≡◌, map, true, false, [], ◌∷◌, ◌++◌, refl}
+use Rattle.std.proofs.Common.{◌≡◌, map, true, false, List, [], ◌∷◌, ◌++◌, refl}
 use Rattle.std.specs.Prelude.{replicate}
 use Rattle.ckd_types.specs.declared.paths.Side.TheVariants.{A, B}
 use Rattle.ckd_types.specs.declared.channel.Note.TheVariants.{Plain, IncorrectLength}
 use Rattle.plain_defs.specs.declared.journal.How.TheVariants.{Full, Cut, Checked}
-use Rattle.device_defs.proofs.Stand.{Program, ResetOf, Other, formats_from}
+use Rattle.deck_plan.specs.declared.event.EventLine.TheVariants as lines
+use Rattle.deck_text.specs.DeckLines.{DeckLines}
+use Rattle.device_defs.proofs.Stand.{Program, ResetOf, Other, formats_from, write_zero}
+use Rattle.subsystem_defs.specs.Lines.{Asked}
 use Rattle.ckd_types.specs.Commands.{command_of}
 use Rattle.ckd_rules.specs.Walk.{walk}
 use Rattle.plain_defs.specs.Program.{part_of}
@@ -37,6 +40,14 @@ use Rattle.subsystem_defs.specs.Calm.{is_calm}
 use Rattle.subsystem_defs.specs.Promised.{are_explained, miss_nothing}
 use Rattle.subsystem_defs.specs.Refusals.{pair_fault, unpair_fault, suspend_fault, resume_fault, fail_fault, replace_fault}
 use Rattle.subsystem_defs.proofs.Stand.{
+  back,
+  deck,
+  go,
+  is_whole_behind,
+  line,
+  settle,
+  step,
+  two,
   Show,
   copies,
   goes,
@@ -312,3 +323,40 @@ unfolding command_of least count_below is_in with_number less_one answer after c
     write pair_fault unpair_fault suspend_fault resume_fault fail_fault replace_fault deed sweep happens replaced
     unpaired steps backs line_logged run_lines run_asked copies is_calm are_explained miss_nothing part_of walk
 check_without_a_cause = refl
+
+abbrev written : DeckLines
+written = deck 4 2 (write_zero 0xc0 0 ∷ [])
+
+abbrev two_sides : DeckLines
+two_sides = two (write_zero 0xc1 0 ∷ [])
+
+abbrev paired : List Asked
+paired = line (lines.Pair 0 1) ++ settle
+
+-- repaired or not: a new volume; a fast write; cache or store down; a track that waits for its recovery, and behind it; a volume that is lost
+pub whole_volumes :
+    is_whole_behind (deck 4 2 []) [] ∷ is_whole_behind written go ∷ is_whole_behind written (go ++ line lines.FailCache)
+    ∷ is_whole_behind (deck 4 2 []) (line lines.FailStore) ∷ is_whole_behind (deck 4 2 []) (line lines.FailStore ++ line lines.RepairStore)
+    ∷ is_whole_behind written (go ++ line lines.Power) ∷ is_whole_behind written (go ++ line lines.Power ++ back) ∷ is_whole_behind (deck 4 2 []) (line (lines.FailVolume 0 A)) ∷ []
+    ≡ true ∷ true ∷ false ∷ false ∷ true ∷ false ∷ true ∷ false ∷ []
+unfolding command_of least count_below is_in with_number less_one answer after counted hold work choose look follow
+    command reset power second background lose level_bytes image over settled side_lost cache_lost store_lost
+    all_firm_told waits hear all_told lend second_part start_fault start write_first write_second write_done through
+    write pair_fault unpair_fault suspend_fault resume_fault fail_fault replace_fault deed sweep happens replaced
+    unpaired steps backs line_logged run_lines run_asked copies is_calm are_explained miss_nothing
+whole_volumes = refl
+
+-- of a pair: while it is copied, and level; side B held, and going on; between the two parts of a write; a side lost, and replaced
+pub whole_pairs :
+    is_whole_behind two_sides (line (lines.Pair 0 1)) ∷ is_whole_behind two_sides paired ∷ is_whole_behind two_sides (paired ++ line (lines.Suspend 0))
+    ∷ is_whole_behind two_sides (paired ++ line (lines.Suspend 0) ++ line (lines.Resume 0))
+    ∷ is_whole_behind two_sides (paired ++ line (lines.Start 1 0) ++ step ++ step ++ step)
+    ∷ is_whole_behind two_sides (paired ++ line (lines.FailVolume 0 B)) ∷ is_whole_behind two_sides (paired ++ line (lines.FailVolume 0 B) ++ line (lines.Replace 0 B))
+    ∷ is_whole_behind two_sides (paired ++ line (lines.FailVolume 0 B) ++ line (lines.Replace 0 B) ++ settle) ∷ []
+    ≡ false ∷ true ∷ false ∷ true ∷ true ∷ false ∷ false ∷ true ∷ []
+unfolding command_of least count_below is_in with_number less_one answer after counted hold work choose look follow
+    command reset power second background lose level_bytes image over settled side_lost cache_lost store_lost
+    all_firm_told waits hear all_told lend second_part start_fault start write_first write_second write_done through
+    write pair_fault unpair_fault suspend_fault resume_fault fail_fault replace_fault deed sweep happens replaced
+    unpaired steps backs line_logged run_lines run_asked copies is_calm are_explained miss_nothing
+whole_pairs = refl

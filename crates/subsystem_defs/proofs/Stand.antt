@@ -34,7 +34,7 @@ use Rattle.subsystem_defs.specs.declared.end.EventEnd.{EventEnd}
 use Rattle.subsystem_defs.specs.declared.end.EventEnd.TheVariants as ends
 use Rattle.subsystem_defs.specs.declared.end.OrderFault.{OrderFault}
 use Rattle.subsystem_defs.specs.Beside.{Beside, LooseTold, beside}
-use Rattle.subsystem_defs.specs.Calm.{is_calm}
+use Rattle.subsystem_defs.specs.Calm.{is_calm, is_whole}
 use Rattle.subsystem_defs.specs.Promised.{are_explained, miss_nothing}
 use Rattle.subsystem_defs.specs.Subsystem.{Mounted, devices_of}
 use Rattle.subsystem_defs.specs.Closing.{DeviceEnd, Ending, HandedOut, ending, handed_out}
@@ -335,6 +335,10 @@ judged x = judged_run (run_asked x.deck x.asked)
 -- sound and explained
 abbrev pub right : Bool → Bool → Judged
 right calm missed = record { sound = true; explained = true; calm = calm; missed = missed }
+
+-- whether everything is repaired behind a run
+abbrev pub is_whole_behind : DeckLines → List Asked → Bool
+is_whole_behind deck asked = is_whole (run_asked deck asked).behind
 
 -- The same events, had a call failed before them
 
