@@ -166,14 +166,17 @@ unfolding all_do play all_happen steps_of works copies hold answer after is_in w
     power part_of walk
 half_write_of_a_cut_command = half_sound_by cut_track 0 new_image new_image new_bytes refl refl
 
+abbrev beside_an_old_frame : Own
+beside_an_old_frame = with_own cut_track (with_frame cut_track.device.store 0 (frame_of old_image true))
+
 -- even one of the old track
-any_frame_of_a_cut_command : SoundAt (with_own cut_track (with_frame cut_track.device.store 0 (frame_of old_image true))) 0
+any_frame_of_a_cut_command : SoundAt beside_an_old_frame 0
 unfolding all_do play all_happen steps_of works copies hold answer after is_in with_number less_one counted
     least count_below command_of empty_bytes areas_at zero_at next_at records_at reading over settled side_lost
     cache_lost store_lost all_firm_told waits hear all_told level_bytes image choose write_first write_second
     write_done through write second_part work look follow command second background lose start_fault start reset
     power part_of walk
-any_frame_of_a_cut_command = half_sound_by (with_own cut_track (with_frame cut_track.device.store 0 (frame_of old_image true))) 0 new_image new_image new_bytes refl refl
+any_frame_of_a_cut_command = half_sound_by beside_an_old_frame 0 new_image new_image new_bytes refl refl
 
 -- what is kept of it is the old track
 cut_write_of_the_old_track : SoundAt (with_half_image cut_track old_image) 0 → ⊥

@@ -337,7 +337,8 @@ paired = line (lines.Pair 0 1) ++ settle
 pub whole_volumes :
     is_whole_behind (deck 4 2 []) [] ∷ is_whole_behind written go ∷ is_whole_behind written (go ++ line lines.FailCache)
     ∷ is_whole_behind (deck 4 2 []) (line lines.FailStore) ∷ is_whole_behind (deck 4 2 []) (line lines.FailStore ++ line lines.RepairStore)
-    ∷ is_whole_behind written (go ++ line lines.Power) ∷ is_whole_behind written (go ++ line lines.Power ++ back) ∷ is_whole_behind (deck 4 2 []) (line (lines.FailVolume 0 A)) ∷ []
+    ∷ is_whole_behind written (go ++ line lines.Power) ∷ is_whole_behind written (go ++ line lines.Power ++ back)
+    ∷ is_whole_behind (deck 4 2 []) (line (lines.FailVolume 0 A)) ∷ []
     ≡ true ∷ true ∷ false ∷ false ∷ true ∷ false ∷ true ∷ false ∷ []
 unfolding command_of least count_below is_in with_number less_one answer after counted hold work choose look follow
     command reset power second background lose level_bytes image over settled side_lost cache_lost store_lost
@@ -351,7 +352,8 @@ pub whole_pairs :
     is_whole_behind two_sides (line (lines.Pair 0 1)) ∷ is_whole_behind two_sides paired ∷ is_whole_behind two_sides (paired ++ line (lines.Suspend 0))
     ∷ is_whole_behind two_sides (paired ++ line (lines.Suspend 0) ++ line (lines.Resume 0))
     ∷ is_whole_behind two_sides (paired ++ line (lines.Start 1 0) ++ step ++ step ++ step)
-    ∷ is_whole_behind two_sides (paired ++ line (lines.FailVolume 0 B)) ∷ is_whole_behind two_sides (paired ++ line (lines.FailVolume 0 B) ++ line (lines.Replace 0 B))
+    ∷ is_whole_behind two_sides (paired ++ line (lines.FailVolume 0 B))
+    ∷ is_whole_behind two_sides (paired ++ line (lines.FailVolume 0 B) ++ line (lines.Replace 0 B))
     ∷ is_whole_behind two_sides (paired ++ line (lines.FailVolume 0 B) ++ line (lines.Replace 0 B) ++ settle) ∷ []
     ≡ false ∷ true ∷ false ∷ true ∷ true ∷ false ∷ false ∷ true ∷ []
 unfolding command_of least count_below is_in with_number less_one answer after counted hold work choose look follow
