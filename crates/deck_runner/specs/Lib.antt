@@ -1,4 +1,3 @@
 pub mod Run
 pub mod Later
-pub mod Report
 pub mod Answers

@@ -4,7 +4,6 @@
 mod later;
 #[cfg(test)]
 mod program_tests;
-mod report;
 mod task;
 #[cfg(test)]
 mod tests;

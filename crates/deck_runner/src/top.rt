@@ -5,19 +5,20 @@ ghost use Rattle.ckd_outside.specs.Pieces.{piece_text};
 ghost use Rattle.ckd_outside.specs.Causes.{Rose, HasCause};
 ghost use Rattle.ckd_outside.specs.Texts.{Writes, AppendsFront};
 ghost use Rattle.deck_text.specs.DeckLines.{DeckLines};
+ghost use Rattle.plain_run.specs.Lines.{lines_of};
 ghost use Rattle.deck_runner.specs.Later.{first_later};
 ghost use Rattle.deck_runner.specs.Run.{first_device, run_of, DeckRunsPlainly};
 ghost use Rattle.deck_runner.specs.Answers.{code_of, task_by, task_of, usage_text, why_text, refused_text, which_text, limit_text, open_deck, deck_for, TellsDeck, TellsTask, TellsUsage, Tells};
 
 use crate::later::first_later;
-use crate::report::write_report;
 use crate::task::Task;
 use ckd_outside::{
     Failed, LineBuffer, Piece, ReadError, Sink, Source, flush, read_up_to, write_pieces,
 };
 use ckd_types::{DeviceNo, Geometry, NoMemory};
 use deck_text::{Deck, DeckFault, DeckWhy, DeviceLine, Which, read_deck, write_deck};
-use plain_run::{RunRecord, run_lines};
+use plain_run::run_lines;
+use report_text::{RunRecord, write_report};
 use std::alloc::Global;
 
 /// How the program ends.
@@ -200,11 +201,11 @@ fn first_device(deck: &Deck) -> DeviceLine
     deck.device_at(0)
 }
 
-/// What happens in a deck's run.
+/// The lines of what happens in a deck's run.
 fn run_deck(alloc: Global, deck: &Deck) -> Result<RunRecord, NoMemory>
     requires { first_later deck.now ≡ None }
-    ensures run { IfOk result (λ events. events ≡ run_of deck.now) }
-    ensures plain { IfOk result (λ events. DeckRunsPlainly deck.now) }
+    ensures run { IfOk result (λ made. made ≡ lines_of (run_of deck.now)) }
+    ensures plain { IfOk result (λ made. DeckRunsPlainly deck.now) }
 {
     let device = first_device(deck);
     let plans = deck.plans(DeviceNo::new(0).unwrap());
@@ -226,7 +227,7 @@ fn report<K: Sink>(alloc: Global, deck: &Deck, sink: &mut K) -> Status
     let Ok(events) = run_deck(alloc, deck) else {
         return Status::NoMemory;
     };
-    match write_report(sink, events.events()) {
+    match write_report(sink, &events, &[], &[]) {
         Ok(()) => Status::Reported,
         Err(_) => Status::WriteFault,
     }

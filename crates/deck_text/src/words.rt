@@ -1,6 +1,8 @@
 ghost use Rattle.std.specs.Prelude.{◌≡◌, ◌≢◌, ◌≤◌, ◌+◌, Some, None, MatchOption, length, slice_index};
 ghost use Rattle.deck_text.specs.Words.{words_of, word_and, one_word, two_words, three_words};
 
+use crate::lines::place_of;
+
 fn without_spaces(line: &[u8]) -> &[u8]
     ensures words { words_of result.now ≡ words_of line.now }
     ensures first { slice_index result.now 0 ≢ 32 }
@@ -20,12 +22,7 @@ fn cut_word(line: &[u8]) -> (&[u8], &[u8])
     ensures split { words_of line.now ≡ word_and result.0.now (words_of result.1.now) }
     ensures shorter { length result.0.now + length result.1.now ≤ length line.now }
 {
-    for (i, b) in line.iter().enumerate() {
-        if *b == b' ' {
-            return (&line[..i], &line[i..]);
-        }
-    }
-    (line, &[])
+    line.split_at(place_of(b' ', line))
 }
 
 /// The first word of a line, and what follows it. It is empty where there is none.

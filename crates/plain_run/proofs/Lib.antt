@@ -1,4 +1,5 @@
 pub mod Left
 pub mod Behind
 pub mod RunSteps
+mod Told
 pub mod RunPlain

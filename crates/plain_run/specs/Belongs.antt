@@ -1,5 +1,5 @@
 -- What a machine has to do with the history of its run.
-use Rattle.std.specs.Prelude.{◌≡◌, ◌+◌, List, [], ◌∷◌, All, count_by, length, Option, Some, None}
+use Rattle.std.specs.Prelude.{◌≡◌, ◌+◌, List, [], ◌∷◌, ◌++◌, All, count_by, length, Option, Some, None}
 use Rattle.ckd_types.specs.declared.channel.Ccw.{Ccw}
 use Rattle.ckd_types.specs.declared.channel.CommandEnd.{CommandEnd}
 use Rattle.plain_defs.specs.Built.{IsBuilt}
@@ -74,11 +74,11 @@ pub record Follows (empty : PlainState) (plans : Plans) (m : MachineState) (even
 abbrev pub AreBuilt : Plans → Type 0
 AreBuilt plans = All (λ (ccws : List Ccw). All IsBuilt ccws) (plan_of plans 1)
 
--- what is plain stays plain
-abbrev pub Keeps : Plans → MachineState → MachineState → List RunEvent → List RunEvent → Type 0
-Keeps plans m n before now = (empty : PlainState) → AreBuilt plans → Follows empty plans m before
-    → Follows empty plans n now
+-- what is plain stays plain with these events
+abbrev pub Keeps : Plans → MachineState → MachineState → List RunEvent → Type 0
+Keeps plans m n events = (empty : PlainState) → (before : List RunEvent) → AreBuilt plans → Follows empty plans m before
+    → Follows empty plans n (before ++ events)
 
 -- whatever is planned
-abbrev pub KeepsAll : MachineState → MachineState → List RunEvent → List RunEvent → Type 0
-KeepsAll m n before now = (plans : Plans) → Keeps plans m n before now
+abbrev pub KeepsAll : MachineState → MachineState → List RunEvent → Type 0
+KeepsAll m n events = (plans : Plans) → Keeps plans m n events

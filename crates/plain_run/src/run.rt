@@ -2,19 +2,21 @@ ghost use Rattle.std.specs.Prelude.{◌≡◌, ◌++◌, ◌∷◌, ◌<◌, ◌
 ghost use Rattle.plain_defs.specs.Built.{IsBuilt};
 ghost use Rattle.plain_defs.specs.PlainState.{empty_state};
 ghost use Rattle.deck_plan.specs.Plans.{plan_of};
-ghost use Rattle.plain_run.specs.Run.{first_machine, begin_with, start, step, finish, line_done, events_from, Did};
+ghost use Rattle.plain_run.specs.Run.{first_machine, begin_with, start, step, finish, line_done, events_from};
+ghost use Rattle.plain_run.specs.Lines.{lines_of, over_with, Told};
+ghost use Rattle.plain_run.specs.declared.event.RunEvent.TheVariants.{Ended};
 ghost use Rattle.plain_run.specs.Belongs.{Keeps, KeepsAll};
 ghost use Rattle.plain_run.specs.Between.{Counts, RanOne};
 ghost use Rattle.plain_device.specs.Between.{IsBetween};
 ghost use Rattle.plain_run.specs.Kept.{RunsPlainly};
 
 use crate::machine::{Machine, Running};
-use crate::{RunEvent, RunRecord};
 use ckd_ccw::Program;
 use ckd_chain::Chain;
-use ckd_types::{CommandEnd, Geometry, NoMemory, PathNo};
+use ckd_types::{CommandEnd, DeviceNo, Geometry, NoMemory, PathNo};
 use deck_plan::{EventLine, PathPlans, Schedule};
 use plain_device::PlainDevice;
+use report_text::{Happened, HowOver, ProgramOver, ReportLine, RunEvent, RunRecord, StartAnswer};
 use std::alloc::Global;
 
 /// The path of all programs so far.
@@ -22,6 +24,48 @@ fn path() -> PathNo
     ensures { result ≡ 1 }
 {
     PathNo::new(1).unwrap()
+}
+
+/// The only device so far.
+fn device() -> DeviceNo
+    ensures { result ≡ 0 }
+{
+    DeviceNo::new(0).unwrap()
+}
+
+fn started(answer: StartAnswer) -> ReportLine
+    ensures { result ≡ ReportLine.Start 1 0 answer }
+{
+    ReportLine::Start(path(), device(), answer)
+}
+
+/// A program that its last command ends.
+fn over_with(ordinal: u16, over: bool) -> Option<ProgramOver>
+    ensures { result ≡ over_with ordinal over }
+{
+    if !over {
+        return None;
+    }
+    Some(ProgramOver {
+        path: path(),
+        device: device(),
+        ordinal,
+        how: HowOver::Full,
+    })
+}
+
+fn push_ended(happened: &mut RunRecord, ordinal: u16, end: CommandEnd) -> Result<(), NoMemory>
+    ensures { OnOk result (happened.new ≡ happened.old ++ lines_of (Ended ordinal end ∷ [])) }
+{
+    let over = over_with(ordinal, end.over);
+    let ended = Happened::Ended(path(), device(), ordinal, end);
+    happened.push_event(&RunEvent {
+        happened: &ended,
+        loosed: &[],
+        reads: 0,
+        writes: 0,
+        over,
+    })
 }
 
 fn first_machine(alloc: Global, geometry: Geometry, cylinders: u8) -> Result<Machine, NoMemory>
@@ -44,14 +88,14 @@ fn begin_with(
     happened: &mut RunRecord,
 ) -> Result<(), NoMemory>
     requires room { machine.old.started < 65535 }
-    ensures did { OnOk result (Did machine.new happened.old happened.new (begin_with machine.old program.now)) }
+    ensures did { OnOk result (Told machine.new happened.old happened.new (begin_with machine.old program.now)) }
 {
     let chain = Chain::begin(program.copy(alloc)?, machine.device.fixed());
     machine.device.begin(path(), program.ccws());
     machine.started += 1;
     let ordinal = machine.started;
     machine.running = Some(Running { ordinal, chain });
-    happened.push(RunEvent::Accepted(ordinal))
+    happened.push(started(StartAnswer::Accepted(ordinal)))
 }
 
 /// The path's next program, unless one runs or there is none.
@@ -61,14 +105,14 @@ fn begin(
     plans: &PathPlans,
     happened: &mut RunRecord,
 ) -> Result<(), NoMemory>
-    ensures did { OnOk result (Did machine.new happened.old happened.new (start (plan_of plans.now 1) machine.old machine.old.running)) }
+    ensures did { OnOk result (Told machine.new happened.old happened.new (start (plan_of plans.now 1) machine.old machine.old.running)) }
 {
     if machine.running.is_some() {
-        return happened.push(RunEvent::AlreadyRunning);
+        return happened.push(started(StartAnswer::Running));
     }
     let at = usize::from(machine.started);
     if at >= plans.len(path()) {
-        return happened.push(RunEvent::PlanDone);
+        return happened.push(started(StartAnswer::Done));
     }
     begin_with(alloc, machine, plans.at(path(), at), happened)
 }
@@ -80,8 +124,8 @@ fn start(
     plans: &PathPlans,
     happened: &mut RunRecord,
 ) -> Result<(), NoMemory>
-    ensures did { OnOk result (Did machine.new happened.old happened.new (start (plan_of plans.now 1) machine.old machine.old.running)) }
-    ensures keeps { OnOk result (Keeps plans.now machine.old machine.new happened.old happened.new) }
+    ensures did { OnOk result (Told machine.new happened.old happened.new (start (plan_of plans.now 1) machine.old machine.old.running)) }
+    ensures keeps { OnOk result (Keeps plans.now machine.old machine.new (start (plan_of plans.now 1) machine.old machine.old.running).events) }
 {
     begin(alloc, machine, plans, happened)?;
     Ok(())
@@ -117,7 +161,7 @@ fn command_of(
 /// The command at hand of the running program. After want of memory no program runs.
 fn command(alloc: Global, machine: &mut Machine, happened: &mut RunRecord) -> Result<(), NoMemory>
     requires running { IsSome machine.old.running }
-    ensures did { OnOk result (Did machine.new happened.old happened.new (step machine.old machine.old.running)) }
+    ensures did { OnOk result (Told machine.new happened.old happened.new (step machine.old machine.old.running)) }
     ensures counts { OnOk result (Counts machine.old.running machine.new.running) }
 {
     let (ordinal, over, end) = match command_of(alloc, &mut machine.device, &mut machine.running) {
@@ -130,7 +174,7 @@ fn command(alloc: Global, machine: &mut Machine, happened: &mut RunRecord) -> Re
     if over {
         clear(&mut machine.running);
     }
-    happened.push(RunEvent::Ended { ordinal, end })
+    push_ended(happened, ordinal, end)
 }
 
 /// The command at hand: what is plain stays plain.
@@ -140,31 +184,31 @@ fn one_command(
     happened: &mut RunRecord,
 ) -> Result<(), NoMemory>
     requires running { IsSome machine.old.running }
-    ensures did { OnOk result (Did machine.new happened.old happened.new (step machine.old machine.old.running)) }
+    ensures did { OnOk result (Told machine.new happened.old happened.new (step machine.old machine.old.running)) }
     ensures counts { OnOk result (Counts machine.old.running machine.new.running) }
-    ensures keeps { OnOk result (KeepsAll machine.old machine.new happened.old happened.new) }
+    ensures keeps { OnOk result (KeepsAll machine.old machine.new (step machine.old machine.old.running).events) }
 {
     command(alloc, machine, happened)?;
     Ok(())
 }
 
 fn step(alloc: Global, machine: &mut Machine, happened: &mut RunRecord) -> Result<(), NoMemory>
-    ensures did { OnOk result (Did machine.new happened.old happened.new (step machine.old machine.old.running)) }
-    ensures keeps { OnOk result (KeepsAll machine.old machine.new happened.old happened.new) }
+    ensures did { OnOk result (Told machine.new happened.old happened.new (step machine.old machine.old.running)) }
+    ensures keeps { OnOk result (KeepsAll machine.old machine.new (step machine.old machine.old.running).events) }
 {
     if machine.running.is_none() {
-        happened.push(RunEvent::StepIdle)?;
+        happened.push(ReportLine::StepIdle(device()))?;
         return Ok(());
     }
     one_command(alloc, machine, happened)
 }
 
 fn finish(alloc: Global, machine: &mut Machine, happened: &mut RunRecord) -> Result<(), NoMemory>
-    ensures did { OnOk result (Did machine.new happened.old happened.new (finish machine.old machine.old.running)) }
-    ensures keeps { OnOk result (KeepsAll machine.old machine.new happened.old happened.new) }
+    ensures did { OnOk result (Told machine.new happened.old happened.new (finish machine.old machine.old.running)) }
+    ensures keeps { OnOk result (KeepsAll machine.old machine.new (finish machine.old machine.old.running).events) }
 {
     if machine.running.is_none() {
-        happened.push(RunEvent::RunIdle)?;
+        happened.push(ReportLine::RunIdle(device()))?;
         return Ok(());
     }
     while machine.running.is_some() {
@@ -180,8 +224,8 @@ fn line_done(
     line: EventLine,
     happened: &mut RunRecord,
 ) -> Result<(), NoMemory>
-    ensures did { OnOk result (Did machine.new happened.old happened.new (line_done (plan_of plans.now 1) machine.old line)) }
-    ensures keeps { OnOk result (Keeps plans.now machine.old machine.new happened.old happened.new) }
+    ensures did { OnOk result (Told machine.new happened.old happened.new (line_done (plan_of plans.now 1) machine.old line)) }
+    ensures keeps { OnOk result (Keeps plans.now machine.old machine.new (line_done (plan_of plans.now 1) machine.old line).events) }
 {
     match line {
         EventLine::Start(_, _) => start(alloc, machine, plans, happened),
@@ -191,7 +235,7 @@ fn line_done(
     }
 }
 
-/// Runs the event lines of a deck over an empty volume of this geometry and this many cylinders.
+/// Runs the event lines of a deck over an empty volume of this geometry and this many cylinders, and records their lines.
 pub fn run_lines(
     alloc: Global,
     geometry: Geometry,
@@ -202,8 +246,9 @@ pub fn run_lines(
     requires some { 1 ≤ cylinders }
     requires most { cylinders ≤ 64 }
     requires built { All (λ ccws. All IsBuilt ccws) (plan_of plans.now 1) }
-    ensures run { IfOk result (λ made. made ≡ events_from (plan_of plans.now 1) (first_machine geometry cylinders) schedule.now.items) }
-    ensures plain { IfOk result (λ made. RunsPlainly (empty_state geometry cylinders) plans.now made) }
+    ensures run { IfOk result (λ made. made ≡ lines_of (events_from (plan_of plans.now 1) (first_machine geometry cylinders) schedule.now.items)) }
+    ensures plain { IfOk result (λ made. RunsPlainly (empty_state geometry cylinders) plans.now
+        (events_from (plan_of plans.now 1) (first_machine geometry cylinders) schedule.now.items)) }
 {
     let mut machine = first_machine(alloc, geometry, cylinders)?;
     let mut happened = RunRecord::new(alloc);

@@ -1,9 +1,8 @@
 -- The lines of a command's end.
-use Rattle.std.specs.Prelude.{ℕ, List, [], ◌∷◌, ◌++◌, Bool, Option, Some, None, if◌then◌else◌}
+use Rattle.std.specs.Prelude.{ℕ, List, [], ◌∷◌, ◌++◌, Option, Some, None}
 use Rattle.std.specs.List.{flat_map}
 use Rattle.ckd_types.specs.declared.channel.CommandEnd.{CommandEnd}
 use Rattle.ckd_types.specs.declared.sense.Sense.{Sense}
-use Rattle.report_text.specs.declared.answers.HowOver.TheVariants.{Full}
 use Rattle.report_text.specs.declared.line.EndLine.{EndLine}
 use Rattle.report_text.specs.declared.line.ReportLine.{ReportLine}
 use Rattle.report_text.specs.declared.line.ReportLine.TheVariants as lines
@@ -33,11 +32,3 @@ data_lines (b ∷ bytes) = lines.Data (b ∷ bytes) ∷ []
 abbrev pub sense_lines : Option Sense → List ReportLine
 sense_lines (Some sense) = lines.Sense sense ∷ []
 sense_lines None = []
-
--- where the program is over with the end
-abbrev pub over_lines : ℕ → ℕ → ℕ → Bool → List ReportLine
-over_lines path device ordinal over = if over then lines.Over path device ordinal Full ∷ [] else []
-
-abbrev pub end_lines : ℕ → ℕ → ℕ → CommandEnd → List ReportLine
-end_lines path device ordinal e =
-    (lines.End (end_line path device ordinal e) ∷ []) ++ (data_lines e.sent ++ (sense_lines e.sense ++ over_lines path device ordinal e.over))

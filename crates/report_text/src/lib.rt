@@ -4,7 +4,6 @@
 
 mod answer_words;
 mod answers;
-mod ends;
 mod event;
 mod history;
 mod keyword;
@@ -22,7 +21,6 @@ mod words;
 pub use answers::{
     BackAnswer, DeviceTotals, HowOver, LooseAnswer, OrderAnswer, OrderFault, StartAnswer, SumOf,
 };
-pub use ends::put_end;
 pub use event::{Happened, Loosed, ProgramOver, RunEvent};
 pub use history::{DeviceHistory, LeftPrograms, write_history};
 pub use keyword::{Keyword, keyword_text};

@@ -6,7 +6,6 @@ ghost use Rattle.report_text.specs.Lines.{line_text};
 ghost use Rattle.report_text.specs.Record.{IsSpent, byte_count, kept_line, kept_lines, other_count, whole_line};
 ghost use Rattle.report_text.specs.declared.line.ReportLine.TheVariants as lines;
 
-use crate::ends::end_line;
 use crate::words::{HexWord, put_often};
 use crate::{EndLine, HowOver, LineSpelling, ReportLine, put_data};
 use ckd_outside::{Failed, LineBuffer, Sink, Spelling};
@@ -44,6 +43,20 @@ impl Model for RunRecord {
     ghost view = { λ r. kept_lines r.kept.items r.bytes.items r.others.items };
 
     ghost invariant = { λ r. IsSpent r.kept.items r.bytes.items r.others.items };
+}
+
+fn end_line(path: PathNo, device: DeviceNo, ordinal: u16, end: &CommandEnd) -> EndLine
+    ensures { result ≡ end_line path device ordinal end.now }
+{
+    EndLine {
+        path,
+        device,
+        ordinal,
+        index: end.index,
+        status: end.status,
+        residual: end.residual,
+        note: end.note,
+    }
 }
 
 impl RunRecord {
