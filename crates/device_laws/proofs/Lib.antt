@@ -39,3 +39,6 @@ pub mod Commands
 pub mod OrderMarks
 pub mod SoundEvents
 pub mod ChainTracks
+pub mod TwinWalks
+pub mod TrackContents
+pub mod ContentChanges
