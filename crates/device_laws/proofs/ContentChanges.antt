@@ -23,6 +23,7 @@ use Rattle.device_defs.specs.Store.{
   side_of,
   patch_at,
   is_loose,
+  half_is,
   owed_at,
   with_stale,
   with_frame,
@@ -109,7 +110,7 @@ module _ (s : DeviceStore) (h : Held) (t : ℕ) (lt : t < tracks_of s) (sizes : 
     here = let e : length s.loose ≡ tracks_of s = cc (sizes.are) in grind (arith, get_or-set_same);
   }
 
-  pub altered_owed : (o : Owed) → Altered s h (with_owed s t o) h t (record (contents_at s h t) { freed = o.freed })
+  pub altered_owed : (o : Owed) → Altered s h (with_owed s t o) h t (record (contents_at s h t) { freed = o.freed; debt = o.firm })
   unfolding T.contents_at base_of
   altered_owed o = record {
     sizes = record { are = simp length-set sizes.are };
@@ -260,17 +261,19 @@ unfolding T.contents_at
 patch_is s h q = refl
 
 -- what is known of a changed track, beside what it holds
-pub record Sits (v w : List Track) (t : ℕ) (x : TrackContents) : Type 0 where
+pub record Sits (v w : List Track) (half : Option (HalfWrite Image)) (t : ℕ) (x : TrackContents) : Type 0 where
   pub same : x.loose ≡ false → track_in w t ≡ track_in v t
   pub patch : (p : Stored) → x.patch ≡ Some p → IsPatch p.patch
+  pub apart : x.loose ≡ true → half_is half t ≡ false
 
 pub ground_altered : (v w : List Track) (s : DeviceStore) (h : Held) (z : DeviceStore) (k : Held) (t : ℕ) (x : TrackContents) →
-    IsGround v w s h → Altered s h z k t x → Sits v w t x → HasSlots z k.slots → IsGround v w z k
+    IsGround v w s h → Altered s h z k t x → Sits v w s.half t x → HasSlots z k.slots → IsGround v w z k
 ground_altered v w s h z k t x g e sits slots = record {
   sizes = e.sizes;
   plain = same_volume s h z k e.base v g.plain;
   firm = same_volume s h z k e.base w g.firm;
   same = λ q lt f. same_by q (let same = same_tracks s h z k e.base in omega arith) (loose_is z k q) f (cases_eq q t);
+  apart = λ q f. apart_by q (sym (loose_is z k q) ∙ f) (cases_eq q t);
   patches = λ q p f. patch_by q p (sym (patch_is z k q) ∙ f) (cases_eq q t);
   long = same_long s h z k e.base g.long;
   slots = slots;
@@ -284,6 +287,15 @@ ground_altered v w s h z k t x g e sits slots = record {
     same_by q lt is f (inr ne) =
         g.same q lt (loose_is s h q ∙ sym (ap (λ (y : TrackContents). y.loose) (e.elsewhere q ne)) ∙ sym is ∙ f)
 
+    apart_by : (q : ℕ) → (contents_at z k q).loose ≡ true → ((q ≡ t) ⊎ (q ≢ t)) → half_is z.half q ≡ false
+    apart_by q f (inl at) =
+        ap (λ (o : Option (HalfWrite Image)). half_is o q) (same_half s h z k e.base)
+        ∙ subst (λ (p : ℕ). half_is s.half p ≡ false) (sym at)
+        (sits.apart (sym (ap (λ (y : TrackContents). y.loose) e.here) ∙ subst (λ (p : ℕ). (contents_at z k p).loose ≡ true) at f))
+    apart_by q f (inr ne) =
+        ap (λ (o : Option (HalfWrite Image)). half_is o q) (same_half s h z k e.base)
+        ∙ g.apart q (loose_is s h q ∙ sym (ap (λ (y : TrackContents). y.loose) (e.elsewhere q ne)) ∙ f)
+
     patch_by : (q : ℕ) (p : Stored) → (contents_at z k q).patch ≡ Some p → ((q ≡ t) ⊎ (q ≢ t)) → IsPatch p.patch
     patch_by q p f (inl at) =
         sits.patch p (sym (ap (λ (y : TrackContents). y.patch) e.here) ∙ subst (λ (r : ℕ). (contents_at z k r).patch ≡ Some p) at f)
@@ -292,10 +304,11 @@ ground_altered v w s h z k t x g e sits slots = record {
 
 -- of a track as it was
 pub sits_still : (v w : List Track) (s : DeviceStore) (h : Held) (t : ℕ) (x : TrackContents) → t < tracks_of s → IsGround v w s h →
-    x.loose ≡ (contents_at s h t).loose → x.patch ≡ (contents_at s h t).patch → Sits v w t x
+    x.loose ≡ (contents_at s h t).loose → x.patch ≡ (contents_at s h t).patch → Sits v w s.half t x
 sits_still v w s h t x lt g loose patch = record {
   same = λ e. g.same t lt (loose_is s h t ∙ sym loose ∙ e);
   patch = λ p e. g.patches t p (patch_is s h t ∙ sym patch ∙ e);
+  apart = λ e. g.apart t (loose_is s h t ∙ sym loose ∙ e);
 }
 
 -- Right
@@ -315,7 +328,7 @@ pub sure_agrees : (v w : List Track) (s : DeviceStore) (h : Held) → Sure v w s
 sure_agrees v w s h a = record { ground = a.ground; held = λ q lt. right_is_held s h q (image_in s v q) (image_in s w q) (a.right q lt (λ e. absurd (cc))) }
 
 pub right_altered : (writing : Option ℕ) (v w : List Track) (s : DeviceStore) (h : Held) (z : DeviceStore) (k : Held) (t : ℕ) (x : TrackContents) →
-    RightBut writing v w s h → Altered s h z k t x → Sits v w t x → HasSlots z k.slots →
+    RightBut writing v w s h → Altered s h z k t x → Sits v w s.half t x → HasSlots z k.slots →
     (writing ≢ Some t → IsRight s.geometry t s.half x (image_in s v t) (image_in s w t)) → RightBut writing v w z k
 right_altered writing v w s h z k t x b e sits slots here = record {
   ground = ground_altered v w s h z k t x b.ground e sits slots;
@@ -340,6 +353,8 @@ unseen_right writing v w s h z k b e = record {
     firm = same_volume s h z k e.base w b.ground.firm;
     same = λ q lt f. b.ground.same q (let same = same_tracks s h z k e.base in omega arith)
         (loose_is s h q ∙ sym (ap (λ (y : TrackContents). y.loose) (e.same q)) ∙ sym (loose_is z k q) ∙ f);
+    apart = λ q f. ap (λ (o : Option (HalfWrite Image)). half_is o q) (same_half s h z k e.base)
+        ∙ b.ground.apart q (loose_is s h q ∙ sym (ap (λ (y : TrackContents). y.loose) (e.same q)) ∙ sym (loose_is z k q) ∙ f);
     patches = λ q p f. b.ground.patches q p (patch_is s h q ∙ sym (ap (λ (y : TrackContents). y.patch) (e.same q)) ∙ sym (patch_is z k q) ∙ f);
     long = same_long s h z k e.base b.ground.long;
     slots = unseen_slots s h z k (λ kept q. ap (slot_of kept) (e.same q)) e.slots b.ground.slots;

@@ -42,3 +42,6 @@ pub mod ChainTracks
 pub mod TwinWalks
 pub mod TrackContents
 pub mod ContentChanges
+pub mod TwinChanges
+pub mod PlainVolumes
+pub mod TwinSettled

@@ -36,6 +36,7 @@ pub record TrackContents : Type 0 where
   pub on_a : List ℕ  -- the bytes of side A
   pub on_b : List ℕ
   pub freed : Option ℕ  -- a slot that is still owed to the pool
+  pub debt : Bool  -- whether the keeper is still to be told that it became firm
 
 unfoldable pub contents_at : DeviceStore → Held → ℕ → TrackContents
 contents_at s h t = record {
@@ -48,6 +49,7 @@ contents_at s h t = record {
   on_a = get_or h.a t [];
   on_b = get_or h.b t [];
   freed = (owed_at s t).freed;
+  debt = (owed_at s t).firm;
 }
 
 -- By a test
@@ -285,3 +287,48 @@ module _ (s : DeviceStore) (h : Held) (t : ℕ) (plain firm : Image) where
   held_is_right r =
       lost_case (IsHeldBy s h t plain firm s.half) (HeldBy s.geometry t (contents_at s h t) plain firm s.half) (is_lost s t) (is_lost s t)
       (λ e. e) (from_held s.half) r
+
+-- Where no side has it, only its frame counts
+
+-- y is on no side, and has no more of a frame than x
+pub record Bare (x y : TrackContents) : Type 0 where
+  pub lost : x.lost ≡ true → y.lost ≡ true
+  pub frame : (i : Image) → FrameHas x.frame i → FrameHas y.frame i
+  pub a : y.a ≡ false
+  pub b : y.b ≡ false
+
+not_both : (b : Bool) → b ≡ false → b ≡ true → ⊥
+not_both true e f = absurd (cc)
+not_both false e f = absurd (cc)
+
+keeps_bare : (g : Geometry) (t : ℕ) (x y : TrackContents) (plain firm other : Image) → Bare x y → Keeps g t x plain firm → Keeps g t y plain other
+keeps_bare g t x y plain firm other bare k = record {
+  frame = bare.frame plain k.frame;
+  a = λ e. absurd (not_both y.a bare.a e);
+  b = λ e. absurd (not_both y.b bare.b e);
+}
+
+frame_bare : (origin : Origin) (x y : TrackContents) (i : Image) → Bare x y → FrameOf origin x.frame i → FrameOf origin y.frame i
+frame_bare (OfCommand bypass e) x y i bare k = bare.frame i k
+frame_bare (OfCut bypass) x y i bare k = tt
+frame_bare OfBackground x y i bare k = bare.frame i k
+
+writes_bare : (x y : TrackContents) (plain : Image) (w : HalfWrite Image) → Bare x y → Writes x plain w → Writes y plain w
+writes_bare x y plain w bare k = record {
+  image = k.image;
+  a = λ e. absurd (not_both y.a bare.a e);
+  b = λ e. absurd (not_both y.b bare.b e);
+  frame = frame_bare w.origin x y plain bare k.frame;
+}
+
+held_bare : (g : Geometry) (t : ℕ) (half : Option (HalfWrite Image)) (x y : TrackContents) (plain firm other : Image) → Bare x y →
+    HeldBy g t x plain firm half → HeldBy g t y plain other half
+held_bare g t None x y plain firm other bare k = keeps_bare g t x y plain firm other bare k
+held_bare g t (Some w) x y plain firm other bare k =
+    own_case (Writes x plain w) (Writes y plain w) (Keeps g t x plain firm) (Keeps g t y plain other) (w.track == t)
+    (writes_bare x y plain w bare) (keeps_bare g t x y plain firm other bare) k
+
+pub right_bare : (g : Geometry) (t : ℕ) (half : Option (HalfWrite Image)) (x y : TrackContents) (plain firm other : Image) → Bare x y →
+    IsRight g t half x plain firm → IsRight g t half y plain other
+right_bare g t half x y plain firm other bare r =
+    lost_case (HeldBy g t x plain firm half) (HeldBy g t y plain other half) x.lost y.lost bare.lost (held_bare g t half x y plain firm other bare) r

@@ -12,7 +12,7 @@ use Rattle.device_defs.specs.Between.{HasSizes}
 use Rattle.device_defs.specs.Contents.{contents}
 use Rattle.device_defs.specs.Losses.{slot_in}
 use Rattle.device_defs.specs.Sound.{DeviceStore, IsHeld}
-use Rattle.device_defs.specs.Store.{tracks_of, side_of, patch_at, is_loose, owed_at}
+use Rattle.device_defs.specs.Store.{tracks_of, side_of, patch_at, is_loose, half_is, owed_at}
 
 abbrev pub Held : Type 0
 Held = Holdings (List ℕ)
@@ -45,6 +45,7 @@ pub record IsGround (v w : List Track) (s : DeviceStore) (h : Held) : Type 0 whe
   pub plain : IsVolume s.geometry s.cylinders v
   pub firm : IsVolume s.geometry s.cylinders w
   pub same : (t : ℕ) → t < tracks_of s → is_loose s t ≡ false → track_in w t ≡ track_in v t
+  pub apart : (t : ℕ) → is_loose s t ≡ true → half_is s.half t ≡ false
   pub patches : (t : ℕ) (p : Stored) → patch_at s t ≡ Some p → IsPatch p.patch
   pub long : (side : Side) → (side_of s side).up ≡ true → length (holds_of h side) ≡ tracks_of s
   pub slots : HasSlots s h.slots
