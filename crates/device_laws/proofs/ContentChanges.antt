@@ -205,7 +205,7 @@ module _ (s : DeviceStore) (h : Held) (z : DeviceStore) (k : Held) (e : base_of 
   same_long f A up = same_long_a ∙ f A (sym same_up_a ∙ up) ∙ sym same_tracks
   same_long f B up = same_long_b ∙ f B (sym same_up_b ∙ up) ∙ sym same_tracks
 
-  same_volume : (v : List Track) → IsVolume s.geometry s.cylinders v → IsVolume z.geometry z.cylinders v
+  pub same_volume : (v : List Track) → IsVolume s.geometry s.cylinders v → IsVolume z.geometry z.cylinders v
   same_volume v x = subst (λ (g : Geometry). IsVolume g z.cylinders v) (sym same_geometry) (subst (λ (n : ℕ). IsVolume s.geometry n v) (sym same_cylinders) x)
 
   pub same_right : (v w : List Track) (q : ℕ) (x y : TrackContents) → y ≡ x → IsRight s.geometry q s.half x (image_in s v q) (image_in s w q) →
@@ -227,7 +227,7 @@ unfolding T.contents_at
 slot_is s h true q = refl
 slot_is s h false q = refl
 
-same_slots : (s z : DeviceStore) (o : Option (List ℕ)) → ((kept : Bool) (q : ℕ) → slot_at z kept q ≡ slot_at s kept q) → HasSlots s o → HasSlots z o
+pub same_slots : (s z : DeviceStore) (o : Option (List ℕ)) → ((kept : Bool) (q : ℕ) → slot_at z kept q ≡ slot_at s kept q) → HasSlots s o → HasSlots z o
 same_slots s z None e x = tt
 same_slots s z (Some mine) e x = record {
   own = λ kept t slot f. x.own kept t slot (sym (e kept t) ∙ f);

@@ -45,3 +45,4 @@ pub mod ContentChanges
 pub mod TwinChanges
 pub mod PlainVolumes
 pub mod TwinSettled
+pub mod TwinFailed

@@ -110,6 +110,10 @@ module _ {q : List Track → List Track → DeviceStore → Type 0} where
       (g : MarksStore → MarksStore) → Pair p s m → ((v w : List Track) → p v w s → Pair q (f s) (g (marks_of v w s))) → Pair q (f s) (g m)
   pair_on {s = s} f g x w = subst (λ (n : MarksStore). Pair q (f s) (g n)) x.marks (w x.plain x.firm x.is)
 
+  pub pair_weaker : {p : List Track → List Track → DeviceStore → Type 0} {s : DeviceStore} {m : MarksStore} → Pair p s m →
+      ((v w : List Track) → p v w s → q v w s) → Pair q s m
+  pair_weaker x f = record { plain = x.plain; firm = x.firm; marks = x.marks; is = f x.plain x.firm x.is }
+
   pub pair_if : {s z : DeviceStore} {m n : MarksStore} (b : Bool) → (b ≡ true → Pair q s m) → (b ≡ false → Pair q z n) →
       Pair q (if b then s else z) (if b then m else n)
   pair_if true f g = f refl
