@@ -46,3 +46,5 @@ pub mod TwinChanges
 pub mod PlainVolumes
 pub mod TwinSettled
 pub mod TwinFailed
+pub mod TwinAsks
+pub mod TwinImage
