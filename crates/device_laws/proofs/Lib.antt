@@ -48,3 +48,4 @@ pub mod TwinSettled
 pub mod TwinFailed
 pub mod TwinAsks
 pub mod TwinImage
+pub mod TwinLooks

@@ -130,7 +130,7 @@ unfolding M.track_at
 loose_mark s t = refl
 
 -- a level track isn't lost
-not_lost : (s : DeviceStore) (t : ℕ) → t < tracks_of s → IsWell contents s → has_level s t ≡ true → is_lost s t ≡ false
+pub not_lost : (s : DeviceStore) (t : ℕ) → t < tracks_of s → IsWell contents s → has_level s t ≡ true → is_lost s t ≡ false
 not_lost s t lt w level = by_case (is_lost s t) refl
   where
     by_case : (b : Bool) → is_lost s t ≡ b → b ≡ false
