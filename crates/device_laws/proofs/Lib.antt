@@ -49,3 +49,4 @@ pub mod TwinFailed
 pub mod TwinAsks
 pub mod TwinImage
 pub mod TwinLooks
+pub mod TwinWrites

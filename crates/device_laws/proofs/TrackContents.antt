@@ -297,7 +297,7 @@ pub record Bare (x y : TrackContents) : Type 0 where
   pub a : y.a ≡ false
   pub b : y.b ≡ false
 
-not_both : (b : Bool) → b ≡ false → b ≡ true → ⊥
+pub not_both : (b : Bool) → b ≡ false → b ≡ true → ⊥
 not_both true e f = absurd (cc)
 not_both false e f = absurd (cc)
 

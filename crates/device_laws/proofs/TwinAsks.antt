@@ -23,7 +23,8 @@ use Rattle.device_laws.proofs.ContentChanges.{base_of, same_geometry, same_cylin
 use Rattle.device_laws.proofs.FailedCall.{IsWell}
 use Rattle.device_laws.proofs.TrackContents as T
 use Rattle.device_laws.proofs.TrackContents.{TrackContents, contents_at, IsRight, HeldBy, Keeps, held_of, right_by, keeps_other, other_keeps}
-use Rattle.device_laws.proofs.TwinFailed.{AllTold, fell}
+use Rattle.device_laws.proofs.TwinFailed.{fell}
+use Rattle.device_laws.proofs.TwinSettled.{AllTold}
 
 modified_by : (d t : ℕ) (a : Bool) (o : Option (List ℕ)) → held_after o (SetModified d t) a ≡ o
 modified_by d t a None = refl

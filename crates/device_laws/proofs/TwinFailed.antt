@@ -39,7 +39,7 @@ use Rattle.device_laws.proofs.ContentChanges.{
 use Rattle.device_laws.proofs.TrackContents as T
 use Rattle.device_laws.proofs.TrackContents.{TrackContents, contents_at, IsRight, HeldBy, Keeps, Fewer, right_fewer, held_of, keeps_other}
 use Rattle.device_laws.proofs.TwinChanges.{down_twin, frame_twin, owed_twin, with_owed_twin}
-use Rattle.device_laws.proofs.TwinSettled.{Owes, Debts, debts_altered, Settles, settled_pair}
+use Rattle.device_laws.proofs.TwinSettled.{Owes, Debts, debts_altered, AllTold, Settles, settled_pair}
 use Rattle.device_laws.proofs.TwinWalks.{Pair, pair_is, pair_on, pair_over, pair_weaker, twin_done, twin_ends, twin_then, twin_weaker}
 
 -- A side that is down
@@ -92,10 +92,6 @@ down_right writing v w s h B b = record {
 down_tracks : (s : DeviceStore) (side : Side) → tracks_of (down s side) ≡ tracks_of s
 down_tracks s A = refl
 down_tracks s B = refl
-
--- nothing is left that the keeper is to be told
-abbrev pub AllTold : DeviceStore → Held → Type 0
-AllTold s h = (q : ℕ) → (contents_at s h q).debt ≡ false
 
 down_debt : (s : DeviceStore) (h : Held) (side : Side) (q : ℕ) → (contents_at (down s side) h q).debt ≡ (contents_at s h q).debt
 unfolding T.contents_at

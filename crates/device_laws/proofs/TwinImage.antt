@@ -90,7 +90,8 @@ use Rattle.device_laws.proofs.TwinAsks.{
   right_keeps,
 }
 use Rattle.device_laws.proofs.TwinChanges.{frame_twin, patch_twin, has_patch_twin, with_frame_twin}
-use Rattle.device_laws.proofs.TwinFailed.{AllTold, fell, Failed, failed_twin}
+use Rattle.device_laws.proofs.TwinFailed.{fell, Failed, failed_twin}
+use Rattle.device_laws.proofs.TwinSettled.{AllTold}
 use Rattle.device_laws.proofs.TwinWalks.{twin_done, twin_ends, twin_then, twin_always, twin_weaker}
 use Rattle.device_laws.proofs.WholeImage.{unframed_is_firm, clean_is_firm}
 

@@ -99,6 +99,22 @@ debts_altered writing s h z k t x d e here = record { owes = λ q f. go q f (cas
         moved q (contents_at s h q) (contents_at z k q) (e.elsewhere q ne)
         (d.owes q (sym (ap (λ (y : TrackContents). y.debt) (e.elsewhere q ne)) ∙ f))
 
+-- nothing is left that the keeper is to be told
+abbrev pub AllTold : DeviceStore → Held → Type 0
+AllTold s h = (q : ℕ) → (contents_at s h q).debt ≡ false
+
+pub told_altered : (s : DeviceStore) (h : Held) (z : DeviceStore) (k : Held) (t : ℕ) (x : TrackContents) → AllTold s h → Altered s h z k t x →
+    x.debt ≡ (contents_at s h t).debt → AllTold z k
+told_altered s h z k t x told e same q = go (cases_eq q t)
+  where
+    go : ((q ≡ t) ⊎ (q ≢ t)) → (contents_at z k q).debt ≡ false
+    go (inl at) =
+        subst (λ (p : ℕ). (contents_at z k p).debt ≡ false) (sym at) (ap (λ (y : TrackContents). y.debt) e.here ∙ same ∙ told t)
+    go (inr ne) = ap (λ (y : TrackContents). y.debt) (e.elsewhere q ne) ∙ told q
+
+pub told_debts : (writing : Option ℕ) (s : DeviceStore) (h : Held) → AllTold s h → Debts writing s h
+told_debts writing s h told = record { owes = λ q e. absurd (let f = told q in cc) }
+
 -- Slots that move from a patch to what is owed
 
 module _ (s z : DeviceStore) (t : ℕ) (gone : slot_at z true t ≡ None) (freed : slot_at z false t ≡ slot_at s true t)
@@ -431,3 +447,34 @@ module _ (writing : Option ℕ) (h : Held) (v w : List Track) (s : DeviceStore) 
       (λ there. pair_if (has_level s t) (λ _. pair_is stays)
       (λ off. subst (λ (o : Option Bool). Pair (Settles writing h v s) (by_frame contents s t (frame_at s t)) (by_frame by_plain (marks_of v w s) t o))
       (sym (frame_twin v w s t)) (frame_pair there off (frame_at s t) refl))))
+
+  -- of a track that isn't loose nothing is left to tell
+  module _ (told : AllTold s h) (firm : is_loose s t ≡ false) where
+    told_marked : (f : Frame) (e : frame_at s t ≡ Some f) (m : Bool) →
+        AllTold (if m then s else owes_modified (with_frame s t (Some (record { image = f.image; modified = true }))) t) h
+    told_marked f e true = told
+    told_marked f e false =
+        told_altered s h (owes_modified (with_frame s t (Some (record { image = f.image; modified = true }))) t) h t
+        (record x { frame = Some (record { image = f.image; modified = true }) }) told (modified_altered f e) refl
+
+    told_framed : (f : Frame) (e : frame_at s t ≡ Some f) (c : Bool) → is_loose s t ≡ c →
+        AllTold (if c then hardened_by_loss s t else kept_by_frame contents s t f) h
+    told_framed f e true loose = absurd (cc)
+    told_framed f e false loose = told_marked f e f.modified
+
+    told_unframed : (c : Bool) → AllTold (if c then s else lost_now contents s t) h
+    told_unframed true = told
+    told_unframed false = told_altered s h (lost_now contents s t) h t (unpatched (record x { lost = true })) told lost_altered refl
+
+    told_frame : (o : Option Frame) → frame_at s t ≡ o → AllTold (by_frame contents s t o) h
+    told_frame None e = told_unframed (half_is s.half t)
+    told_frame (Some f) e = told_framed f e (is_loose s t) refl
+
+    told_test : (c : Bool) (z : DeviceStore) → AllTold z h → AllTold (if c then s else z) h
+    told_test true z e = told
+    told_test false z e = e
+
+    pub settled_told : AllTold (settled contents s t) h
+    unfolding L.settled
+    settled_told =
+        told_test (is_some s.lent) _ (told_test (is_lost s t) _ (told_test (has_level s t) _ (told_frame (frame_at s t) refl)))
