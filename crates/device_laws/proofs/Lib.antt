@@ -50,3 +50,5 @@ pub mod TwinAsks
 pub mod TwinImage
 pub mod TwinLooks
 pub mod TwinWrites
+pub mod TwinSlots
+pub mod TwinDone
