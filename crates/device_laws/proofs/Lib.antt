@@ -52,3 +52,5 @@ pub mod TwinLooks
 pub mod TwinWrites
 pub mod TwinSlots
 pub mod TwinDone
+pub mod TwinOpened
+pub mod TwinThrough

@@ -370,7 +370,7 @@ module _ (u : List Track) (s : DeviceStore) (h : Held) (t : ℕ) (r : List ℕ) 
 
     module _ (off : half_is s.half t ≡ false) (own : Keeps s.geometry t x (image_in s u t) (image_in s u t)) where
       -- it is right once more, by what its sides have
-      right_mid : (v w : List Track) (z : DeviceStore) (k : Held) (y : DeviceStore) (c : TrackContents) → Mid v w z k → RightBut (Some t) v w y k → Stays s y →
+      pub right_mid : (v w : List Track) (z : DeviceStore) (k : Held) (y : DeviceStore) (c : TrackContents) → Mid v w z k → RightBut (Some t) v w y k → Stays s y →
           c ≡ contents_at y k t → c.loose ≡ false → Keeps s.geometry t c (image_in s u t) (image_in s u t) → Sure v w y k
       right_mid v w z k y c m but stays is loose keeps =
           shut t v w y k but
@@ -392,7 +392,7 @@ module _ (u : List Track) (s : DeviceStore) (h : Held) (t : ℕ) (r : List ℕ) 
               (subst (λ (l : Image). Keeps s.geometry t c l q) (sym f) (subst (λ (l : Image). Keeps s.geometry t c (image_in s u t) l) (sym i) keeps))
 
       -- no side took it: a track as before, but for side A
-      keeps_less : (c : TrackContents) → Sided x c → c.a ≡ false → BAsBefore c → Keeps s.geometry t c (image_in s u t) (image_in s u t)
+      pub keeps_less : (c : TrackContents) → Sided x c → c.a ≡ false → BAsBefore c → Keeps s.geometry t c (image_in s u t) (image_in s u t)
       keeps_less c sided gone b =
           keeps_fewer s.geometry t x c (image_in s u t) (image_in s u t)
           (record {
@@ -403,10 +403,10 @@ module _ (u : List Track) (s : DeviceStore) (h : Held) (t : ℕ) (r : List ℕ) 
             b = b.b;
           }) own
 
-      abbrev Undone : List Track → List Track → DeviceStore → Held → Type 0
+      abbrev pub Undone : List Track → List Track → DeviceStore → Held → Type 0
       Undone v w y k = (Ordered v w y k) × ((v ≡ u) × (Stays s y))
 
-      settled_end : (v w : List Track) (z : DeviceStore) (k : Held) → Sure v w z k → AllTold z k → v ≡ u → Stays s z → is_loose z t ≡ false →
+      pub settled_end : (v w : List Track) (z : DeviceStore) (k : Held) → Sure v w z k → AllTold z k → v ≡ u → Stays s z → is_loose z t ≡ false →
           Pair (λ v' w' y. Undone v' w' y k) (settled contents z t) (settled by_plain (marks_of v w z) t)
       settled_end v w z k sure told plain stays loose =
           pair_weaker
@@ -443,7 +443,7 @@ module _ (u : List Track) (s : DeviceStore) (h : Held) (t : ℕ) (r : List ℕ) 
               (and_not_true z.a.up) (record { b = b.b })))
               i.told i.plain i.stays (loose_mark (with_stale z A t true) k ∙ ap (λ (y : TrackContents). y.loose) e.here ∙ loose_now)
 
-      abbrev Firsts : List Track → List Track → DeviceStore → Wrote → Wrote → Held → Type 0
+      abbrev pub Firsts : List Track → List Track → DeviceStore → Wrote → Wrote → Held → Type 0
       Firsts v w z a b k = First v w z a b k
 
       unwritten_twin : (v w : List Track) (z : DeviceStore) (k : Held) (fault : Option Side) → Mid v w z k → (z.paired ≡ true → (contents_at z k t).a ≡ false) →
