@@ -54,3 +54,4 @@ pub mod TwinSlots
 pub mod TwinDone
 pub mod TwinOpened
 pub mod TwinThrough
+pub mod TwinChoices
