@@ -55,3 +55,4 @@ pub mod TwinDone
 pub mod TwinOpened
 pub mod TwinThrough
 pub mod TwinChoices
+pub mod TwinFast
