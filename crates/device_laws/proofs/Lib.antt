@@ -56,3 +56,4 @@ pub mod TwinOpened
 pub mod TwinThrough
 pub mod TwinChoices
 pub mod TwinFast
+pub mod TwinWrite

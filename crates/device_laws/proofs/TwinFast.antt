@@ -74,7 +74,7 @@ none_applied i fits =
     ∙ ap (λ (y : List Record). Some (record i { track = record i.track { records = y } })) (append-nil i.track.records)
 
 -- a patch is held, or there is a slot for a new one
-abbrev HasPlace : Option Stored → Option ℕ → Type 0
+abbrev pub HasPlace : Option Stored → Option ℕ → Type 0
 HasPlace (Some p) slot = Unit {0}
 HasPlace None (Some k) = Unit {0}
 HasPlace None None = ⊥

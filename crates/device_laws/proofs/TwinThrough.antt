@@ -217,7 +217,7 @@ module _ (u : List Track) (y : DeviceStore) (j : Held) (t : ℕ) (e : Edit) (lt 
       subst (λ (o : Took). Twins Ends (Done z Unwritten) (through_by by_plain t i e bypass opens was_loose (marks_of v w z) o) k) same
       (twin_done (record { order = undone refl; same = refl; plain = plain; geometry = stays.geometry; cylinders = stays.cylinders }))
 
-none_off : (o : Option (HalfWrite Image)) (t : ℕ) → o ≡ None → half_is o t ≡ false
+pub none_off : (o : Option (HalfWrite Image)) (t : ℕ) → o ≡ None → half_is o t ≡ false
 none_off None t e = refl
 none_off (Some h) t e = absurd (cc)
 
