@@ -58,9 +58,8 @@ fn push_ended(happened: &mut RunRecord, ordinal: u16, end: CommandEnd) -> Result
     ensures { OnOk result (happened.new ≡ happened.old ++ lines_of (Ended ordinal end ∷ [])) }
 {
     let over = over_with(ordinal, end.over);
-    let ended = Happened::Ended(path(), device(), ordinal, end);
-    happened.push_event(&RunEvent {
-        happened: &ended,
+    happened.push_event(RunEvent {
+        happened: Happened::Ended(path(), device(), ordinal, end),
         loosed: &[],
         reads: 0,
         writes: 0,

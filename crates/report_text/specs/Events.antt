@@ -25,10 +25,14 @@ first_lines (happened.RunIdle device) = lines.RunIdle device ∷ []
 first_lines (happened.Reset path device) = []
 first_lines (happened.Ordered order answer) = []
 
-abbrev pub last_lines : Happened → List ReportLine
-last_lines (happened.Reset path device) = lines.Reset path device ∷ []
-last_lines (happened.Ordered order answer) = lines.Order order answer ∷ []
-last_lines _ = []
+abbrev pub last_line : Happened → Option ReportLine
+last_line (happened.Reset path device) = Some (lines.Reset path device)
+last_line (happened.Ordered order answer) = Some (lines.Order order answer)
+last_line _ = None
+
+abbrev pub line_if : Option ReportLine → List ReportLine
+line_if None = []
+line_if (Some line) = line ∷ []
 
 abbrev pub loosed_line : Loosed → ReportLine
 loosed_line l = lines.Loose l.device l.answer
@@ -43,5 +47,5 @@ program_over_lines (Some o) = lines.Over o.path o.device o.ordinal o.how ∷ []
 
 abbrev pub event_lines : RunEvent → List ReportLine
 event_lines e =
-    first_lines e.happened.now
-    ++ (map loosed_line e.loosed.now ++ (io_lines e.reads e.writes ++ (program_over_lines e.over ++ last_lines e.happened.now)))
+    first_lines e.happened
+    ++ (map loosed_line e.loosed.now ++ (io_lines e.reads e.writes ++ (program_over_lines e.over ++ line_if (last_line e.happened))))

@@ -1,5 +1,5 @@
 ghost use Rattle.std.specs.Prelude.{◌≡◌, ◌++◌, OnOk, map};
-ghost use Rattle.report_text.specs.Events.{ended_lines, event_lines, first_lines, io_lines, last_lines, loosed_line, program_over_lines};
+ghost use Rattle.report_text.specs.Events.{ended_lines, event_lines, first_lines, io_lines, last_line, line_if, loosed_line, program_over_lines};
 
 use crate::{
     BackAnswer, HowOver, LooseAnswer, Order, OrderAnswer, ReportLine, RunRecord, StartAnswer,
@@ -38,13 +38,29 @@ pub struct ProgramOver {
 
 /// An event: what it did, what became of loose tracks, its volume calls, and the program that is over with it. What
 /// a power loss does to each device is told before its order, as lines.
-#[derive(Clone, Copy)]
+#[derive(Drop)]
 pub struct RunEvent<'a> {
-    pub happened: &'a Happened,
+    pub happened: Happened,
     pub loosed: &'a [Loosed],
     pub reads: u64,
     pub writes: u64,
     pub over: Option<ProgramOver>,
+}
+
+/// What is told last of what happened.
+fn last_line(happened: &Happened) -> Option<ReportLine>
+    ensures { result ≡ last_line happened.now }
+{
+    match happened {
+        Happened::Reset(path, device) => Some(ReportLine::Reset(*path, *device)),
+        Happened::Ordered(order, answer) => Some(ReportLine::Order(*order, *answer)),
+        Happened::Started(_, _, _)
+        | Happened::Ended(_, _, _, _)
+        | Happened::Half(_, _, _)
+        | Happened::Back(_, _)
+        | Happened::StepIdle(_)
+        | Happened::RunIdle(_) => None,
+    }
 }
 
 impl RunRecord {
@@ -54,48 +70,43 @@ impl RunRecord {
         path: PathNo,
         device: DeviceNo,
         ordinal: u16,
-        end: &CommandEnd,
+        end: CommandEnd,
     ) -> Result<(), NoMemory>
-        ensures { OnOk result (self.new ≡ self.old ++ ended_lines path device ordinal end.now) }
+        ensures { OnOk result (self.new ≡ self.old ++ ended_lines path device ordinal end) }
     {
-        self.push_end_line(path, device, ordinal, end)?;
-        self.push_sent(&end.sent)?;
-        self.push_any_sense(&end.sense)?;
+        let sense = end.sense;
+        self.push_end_line(path, device, ordinal, &end)?;
+        self.push_sent(end.sent)?;
+        self.push_any_sense(&sense)?;
         Ok(())
     }
 
-    fn push_first(&mut self, happened: &Happened) -> Result<(), NoMemory>
-        ensures { OnOk result (self.new ≡ self.old ++ first_lines happened.now) }
+    fn push_first(&mut self, happened: Happened) -> Result<(), NoMemory>
+        ensures { OnOk result (self.new ≡ self.old ++ first_lines happened) }
     {
         match happened {
             Happened::Started(path, device, answer) => {
-                self.push(ReportLine::Start(*path, *device, *answer))
+                self.push(ReportLine::Start(path, device, answer))
             }
             Happened::Ended(path, device, ordinal, end) => {
-                self.push_ended(*path, *device, *ordinal, end)
+                self.push_ended(path, device, ordinal, end)
             }
             Happened::Half(path, device, track) => {
-                self.push(ReportLine::Half(*path, *device, *track))
+                self.push(ReportLine::Half(path, device, track))
             }
-            Happened::Back(device, answer) => self.push(ReportLine::Back(*device, *answer)),
-            Happened::StepIdle(device) => self.push(ReportLine::StepIdle(*device)),
-            Happened::RunIdle(device) => self.push(ReportLine::RunIdle(*device)),
+            Happened::Back(device, answer) => self.push(ReportLine::Back(device, answer)),
+            Happened::StepIdle(device) => self.push(ReportLine::StepIdle(device)),
+            Happened::RunIdle(device) => self.push(ReportLine::RunIdle(device)),
             Happened::Reset(_, _) | Happened::Ordered(_, _) => Ok(()),
         }
     }
 
-    fn push_last(&mut self, happened: &Happened) -> Result<(), NoMemory>
-        ensures { OnOk result (self.new ≡ self.old ++ last_lines happened.now) }
+    fn push_last(&mut self, last: Option<ReportLine>) -> Result<(), NoMemory>
+        ensures { OnOk result (self.new ≡ self.old ++ line_if last) }
     {
-        match happened {
-            Happened::Reset(path, device) => self.push(ReportLine::Reset(*path, *device)),
-            Happened::Ordered(order, answer) => self.push(ReportLine::Order(*order, *answer)),
-            Happened::Started(_, _, _)
-            | Happened::Ended(_, _, _, _)
-            | Happened::Half(_, _, _)
-            | Happened::Back(_, _)
-            | Happened::StepIdle(_)
-            | Happened::RunIdle(_) => Ok(()),
+        match last {
+            Some(line) => self.push(line),
+            None => Ok(()),
         }
     }
 
@@ -133,14 +144,15 @@ impl RunRecord {
 
     /// The lines of an event, in the order in which a report has them. What a record is after want of memory is not
     /// said.
-    pub fn push_event(&mut self, event: &RunEvent) -> Result<(), NoMemory>
-        ensures { OnOk result (self.new ≡ self.old ++ event_lines event.now) }
+    pub fn push_event(&mut self, event: RunEvent) -> Result<(), NoMemory>
+        ensures { OnOk result (self.new ≡ self.old ++ event_lines event.entry) }
     {
+        let last = last_line(&event.happened);
         self.push_first(event.happened)?;
         self.push_loosed(event.loosed)?;
         self.push_calls(event.reads, event.writes)?;
         self.push_program_over(&event.over)?;
-        self.push_last(event.happened)?;
+        self.push_last(last)?;
         Ok(())
     }
 }

@@ -13,6 +13,9 @@ use ckd_types::{Bytes, CommandEnd, DeviceNo, NoMemory, PathNo, Sense};
 use std::alloc::Global;
 use std::marker::Model;
 
+/// From how many bytes on a DATA line keeps its own memory, and isn't copied.
+const MANY_BYTES: usize = 512;
+
 /// A line as a record keeps it: sixteen bytes, with those of a DATA or SENSE line elsewhere, and so every line without
 /// a form of its own.
 #[derive(Clone, Copy)]
@@ -128,6 +131,16 @@ impl RunRecord {
         }
     }
 
+    /// A DATA line: few bytes stand beside those of others, and many where they are.
+    fn push_owned(&mut self, bytes: Bytes) -> Result<(), NoMemory>
+        ensures { OnOk result (self.new ≡ self.old ++ lines.Data bytes ∷ []) }
+    {
+        if bytes.len() >= MANY_BYTES {
+            return self.push_other(ReportLine::Data(bytes));
+        }
+        self.push_data(bytes.as_slice())
+    }
+
     /// One line more, behind the others. What a record is after want of memory is not said.
     pub fn push(&mut self, line: ReportLine) -> Result<(), NoMemory>
         ensures { OnOk result (self.new ≡ self.old ++ line ∷ []) }
@@ -138,7 +151,7 @@ impl RunRecord {
             ReportLine::Over(path, device, ordinal, how) => {
                 self.push_short(Kept::Over(path, device, ordinal, how))
             }
-            ReportLine::Data(bytes) => self.push_data(bytes.as_slice()),
+            ReportLine::Data(bytes) => self.push_owned(bytes),
             ReportLine::Sense(sense) => self.push_sense(&sense),
             line => self.push_other(line),
         }
@@ -157,13 +170,13 @@ impl RunRecord {
     }
 
     /// Where bytes were sent.
-    pub(crate) fn push_sent(&mut self, sent: &Bytes) -> Result<(), NoMemory>
-        ensures { OnOk result (self.new ≡ self.old ++ data_lines sent.now) }
+    pub(crate) fn push_sent(&mut self, sent: Bytes) -> Result<(), NoMemory>
+        ensures { OnOk result (self.new ≡ self.old ++ data_lines sent) }
     {
         if sent.is_empty() {
             return Ok(());
         }
-        self.push_data(sent.as_slice())
+        self.push_owned(sent)
     }
 
     /// Where the end has sense.

@@ -160,7 +160,7 @@ fn a_report_behind_its_run(rt: HostRuntime) -> Result<(), Fail> {
     let happened = Happened::Ended(path(), device(), 1, end);
     let none: [Loosed; 0] = [];
     let event = RunEvent {
-        happened: &happened,
+        happened,
         loosed: &none,
         reads: 0,
         writes: 0,
@@ -171,7 +171,7 @@ fn a_report_behind_its_run(rt: HostRuntime) -> Result<(), Fail> {
             how: HowOver::Full,
         }),
     };
-    assert_eq!(rt; record.push_event(&event), Ok(()));
+    assert_eq!(rt; record.push_event(event), Ok(()));
     for reads in [1, u64::MAX] {
         assert_eq!(rt; record.push(ReportLine::Io { reads, writes: 0 }), Ok(()));
     }
@@ -232,7 +232,7 @@ fn lines_of_an_event_in_order(rt: HostRuntime) -> Result<(), Fail> {
         answer: LooseAnswer::Harden(track()),
     }];
     let written = RunEvent {
-        happened: &half,
+        happened: half,
         loosed: &loosed,
         reads: 0,
         writes: 1,
@@ -241,7 +241,7 @@ fn lines_of_an_event_in_order(rt: HostRuntime) -> Result<(), Fail> {
     let reset = Happened::Reset(path(), device());
     let none: [Loosed; 0] = [];
     let cut = RunEvent {
-        happened: &reset,
+        happened: reset,
         loosed: &none,
         reads: 0,
         writes: 0,
@@ -253,8 +253,8 @@ fn lines_of_an_event_in_order(rt: HostRuntime) -> Result<(), Fail> {
         }),
     };
     let mut record = RunRecord::new(rt.alloc());
-    assert_eq!(rt; record.push_event(&written), Ok(()));
-    assert_eq!(rt; record.push_event(&cut), Ok(()));
+    assert_eq!(rt; record.push_event(written), Ok(()));
+    assert_eq!(rt; record.push_event(cut), Ok(()));
     let mut sink = MemSink::new(rt.alloc(), 1000, 1000, &[])?;
     assert_eq!(rt; write_report(&mut sink, &record, &[], &[]), Ok(()));
     let wanted = "HALF 2 10 17\nCFW 10 HARDEN 17\nIO 0 1\nOVER 2 10 7 CUT 3\nRESET 2 10\nFINISH\n";

@@ -10,4 +10,5 @@ returns c =
       c.in_ok-push_calls.ensures,
       c.in_ok-push_loosed.ensures,
       c.in_ok-push_first.ensures,
+      c.last_line-last.ensures,
     ) (simp append_assoc refl)
