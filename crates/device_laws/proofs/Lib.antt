@@ -57,3 +57,4 @@ pub mod TwinThrough
 pub mod TwinChoices
 pub mod TwinFast
 pub mod TwinWrite
+pub mod TwinSecond
