@@ -58,3 +58,4 @@ pub mod TwinChoices
 pub mod TwinFast
 pub mod TwinWrite
 pub mod TwinSecond
+pub mod TwinLaws

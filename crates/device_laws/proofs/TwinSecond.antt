@@ -25,6 +25,7 @@ use Rattle.device_defs.specs.Sound.{DeviceStore, written_on}
 use Rattle.device_defs.specs.Store.{Origin, OfCommand, OfCut, OfBackground, HalfWrite, Store, tracks_of, level_at, has_level, frame_at, is_loose, half_is, with_frame}
 use Rattle.device_defs.specs.Writing.{write_second, write_done}
 use Rattle.device_laws.specs.Agrees.{Held, image_in, slot_at}
+use Rattle.device_laws.specs.PlainWrites.{SuitsTrack, plain_second, OriginSuits}
 use Rattle.device_laws.specs.Twin.{Twin, Twins}
 use Rattle.device_laws.proofs.ContentChanges as C
 use Rattle.device_laws.proofs.ContentChanges.{
@@ -65,22 +66,8 @@ use Rattle.device_laws.proofs.TwinAsks.{Stays, stays_same, stays_on, stays_by, s
 use Rattle.device_laws.proofs.TwinChanges.{frame_twin, with_frame_twin, without_patch_twin}
 use Rattle.device_laws.proofs.TwinDone.{Closing, put_right, edit_right, write_done_twin}
 use Rattle.device_laws.proofs.TwinSettled.{AllTold, told_altered, told_debts, settled_pair, settled_told, unpatched, altered_unpatched, unpatched_slots}
-use Rattle.device_laws.proofs.TwinThrough.{SuitsTrack}
 use Rattle.device_laws.proofs.TwinWalks.{Pair, pair_is, pair_on, pair_weaker, twin_done, twin_ends, twin_then}
 use Rattle.device_laws.proofs.TwinWrites.{Mid, Written, Sided, sided_same, second_twin}
-
--- the plain volume behind it
-abbrev pub plain_second : Origin → Bool → List Track → ℕ → List Track
-plain_second (OfCommand bypass e) true u t = set u t (apply_edit e (track_in u t))
-plain_second (OfCommand bypass e) false u t = u
-plain_second (OfCut bypass) done u t = u
-plain_second OfBackground done u t = u
-
--- a command's edit suits its track
-abbrev pub OriginSuits : Geometry → Track → Origin → Type 0
-OriginSuits g x (OfCommand bypass e) = SuitsTrack g x e
-OriginSuits g x (OfCut bypass) = Unit {0}
-OriginSuits g x OfBackground = Unit {0}
 
 pub record Seconds (u : List Track) (s : DeviceStore) (origin : Origin) (t : ℕ) (v w : List Track) (z : DeviceStore) (a b : Bool) (k : Held) : Type 0 where
   pub order : Ordered v w z k

@@ -1,2 +1,6 @@
 //! Laws of a device: what its events keep. It has no code; its lemmas are over plain variables, for the calls to cite.
 #![tactic(auto)]
+
+mod contents;
+
+pub use contents::{failed_call_leaves_order, image_is_plain, second_part_is_plain, write_is_plain};
