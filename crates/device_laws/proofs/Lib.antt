@@ -58,4 +58,5 @@ pub mod TwinChoices
 pub mod TwinFast
 pub mod TwinWrite
 pub mod TwinSecond
+pub mod TwinSaving
 pub mod TwinLaws
