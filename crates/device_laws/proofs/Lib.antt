@@ -59,4 +59,5 @@ pub mod TwinFast
 pub mod TwinWrite
 pub mod TwinSecond
 pub mod TwinSaving
+pub mod TwinCopies
 pub mod TwinLaws
