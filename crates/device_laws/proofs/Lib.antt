@@ -60,4 +60,5 @@ pub mod TwinWrite
 pub mod TwinSecond
 pub mod TwinSaving
 pub mod TwinCopies
+pub mod TwinWork
 pub mod TwinLaws
