@@ -61,4 +61,5 @@ pub mod TwinSecond
 pub mod TwinSaving
 pub mod TwinCopies
 pub mod TwinWork
+pub mod TwinLosses
 pub mod TwinLaws
