@@ -6,8 +6,10 @@ use Rattle.ckd_types.specs.declared.record.Track.{Track}
 use Rattle.ckd_types.specs.Volume.{track_in}
 use Rattle.track_image.specs.Image.{Image, edited_image}
 use Rattle.device_defs.specs.declared.usage.Usage.{Usage}
+use Rattle.device_defs.specs.Background.{work}
 use Rattle.device_defs.specs.Contents.{contents, by_plain}
 use Rattle.device_defs.specs.Editing.{write}
+use Rattle.device_defs.specs.Events.{losing}
 use Rattle.device_defs.specs.Image.{image}
 use Rattle.device_defs.specs.Losses.{call_failed}
 use Rattle.device_defs.specs.Marks.{marks_of, half_mark}
@@ -15,12 +17,14 @@ use Rattle.device_defs.specs.Second.{second_part}
 use Rattle.device_defs.specs.Sound.{DeviceStore}
 use Rattle.device_defs.specs.Store.{HalfWrite, tracks_of, is_lost, half_is}
 use Rattle.device_laws.specs.Agrees.{Held, image_in}
-use Rattle.device_laws.specs.InOrder.{IsInOrder, StaysInOrder, ImageIs, WriteIs, SecondIs}
+use Rattle.device_laws.specs.InOrder.{IsInOrder, StaysInOrder, ImageIs, WriteIs, SecondIs, QueueStands}
 use Rattle.device_laws.specs.PlainWrites.{SuitsTrack, OriginSuits}
 use Rattle.device_laws.specs.Twin.{Twins}
 use Rattle.device_laws.proofs.Changes as C
 use Rattle.device_laws.proofs.ContentChanges.{agrees_sure, sure_agrees}
 use Rattle.device_laws.proofs.FailedCall.{IsKept, IsWell, failed_call_keeps_good}
+use Rattle.loss_model.specs.declared.Loss.TheVariants as losses
+use Rattle.device_laws.proofs.LossEvents.{losing_goes}
 use Rattle.device_laws.proofs.SecondPart.{second_part_keeps_good}
 use Rattle.device_laws.proofs.Soundness.{good_is_sound, good_is_nowhere, sound_is_good}
 use Rattle.device_laws.proofs.Sweeps.{is_free, is_alone, half_within}
@@ -32,11 +36,14 @@ use Rattle.device_laws.proofs.TrackMarks.{track_at, device_is_faithful}
 use Rattle.device_laws.proofs.TwinAsks.{InOrder, Ordered}
 use Rattle.device_laws.proofs.TwinFailed.{failed_twin}
 use Rattle.device_laws.proofs.TwinLooks.{image_twin}
+use Rattle.device_laws.proofs.TwinLosses.{store_loss_twin, side_loss_twin}
 use Rattle.device_laws.proofs.TwinSecond.{second_part_twin}
 use Rattle.device_laws.proofs.TwinThrough.{none_off}
 use Rattle.device_laws.proofs.TwinWalks.{twin_always, twin_weaker}
 use Rattle.device_laws.proofs.TwinWrite.{write_twin}
+use Rattle.device_laws.proofs.TwinWork.{work_twin}
 use Rattle.device_laws.proofs.WholeImage.{image_keeps_good}
+use Rattle.device_laws.proofs.Working.{work_keeps_good}
 
 kept_by : (s : DeviceStore) (q : ℕ) (o : Option (HalfWrite Image)) → ((i : HalfWrite Image) → o ≡ Some i → is_lost s i.track ≡ false) →
     half_is o q ≡ true → is_lost s q ≡ false
@@ -128,3 +135,25 @@ second_part_is_plain v w s h i order is suits =
     twin_weaker
     (twin_always (second_part_twin v w s h i is lt (lost_there s h i.track ∙ order.there i is) o suits) (second_part_keeps_good contents device_is_faithful s i lt o.well is))
     (λ v' w' z a b k f. record { order = is_in_order v' w' z k f.0.order f.1.well; plain = f.0.plain; same = f.0.same })
+
+-- while no half write is open
+pub work_is_plain : (v w : List Track) (s : DeviceStore) (h : Held) → IsInOrder v w s h → s.half ≡ None → QueueStands s →
+    Twins (λ v' w' z a b k. StaysInOrder v v' w' z a b k) (work contents s) (work by_plain (marks_of v w s)) h
+work_is_plain v w s h i none stands =
+    let o = in_order v w s h i in
+    twin_weaker (twin_always (work_twin v w s h none o stands) (work_keeps_good contents device_is_faithful s o.well none))
+    (λ v' w' z a b k f. record { order = is_in_order v' w' z k f.0.order f.1.well; plain = f.0.plain; same = f.0.same })
+
+pub lost_store_leaves_order : (v w : List Track) (s : DeviceStore) (h : Held) → IsInOrder v w s h →
+    Twins (λ v' w' z a b k. StaysInOrder v v' w' z a b k) (losing contents s losses.Store) (losing by_plain (marks_of v w s) losses.Store) h
+lost_store_leaves_order v w s h i =
+    let o = in_order v w s h i in
+    twin_weaker (twin_always (store_loss_twin v w s h o) (losing_goes contents device_is_faithful s losses.Store o.well))
+    (λ v' w' z a b k f. record { order = is_in_order v' w' z k f.0.order f.1.well; plain = f.0.plain; same = refl })
+
+pub lost_side_leaves_order : (v w : List Track) (s : DeviceStore) (h : Held) (side : Side) → IsInOrder v w s h →
+    Twins (λ v' w' z a b k. StaysInOrder v v' w' z a b k) (losing contents s (losses.Side side)) (losing by_plain (marks_of v w s) (losses.Side side)) h
+lost_side_leaves_order v w s h side i =
+    let o = in_order v w s h i in
+    twin_weaker (twin_always (side_loss_twin v w s h side o) (losing_goes contents device_is_faithful s (losses.Side side) o.well))
+    (λ v' w' z a b k f. record { order = is_in_order v' w' z k f.0.order f.1.well; plain = f.0.plain; same = refl })

@@ -17,6 +17,7 @@ use Rattle.device_defs.specs.Owed.{is_modified, waits, waits_by}
 use Rattle.device_defs.specs.Sound.{DeviceStore}
 use Rattle.device_defs.specs.Store.{tracks_of, some_up, frame_at, patch_at, is_lost, is_loose}
 use Rattle.device_laws.specs.Agrees.{Held}
+use Rattle.device_laws.specs.InOrder.{QueueStands}
 use Rattle.device_laws.specs.Twin.{Twin, Twins}
 use Rattle.device_laws.proofs.FailedCall.{IsWell}
 use Rattle.device_laws.proofs.TrackMarks as M
@@ -96,10 +97,6 @@ destaged_framed s t false e f good = modified_some (frame_at s t) (and_first _ (
 mark_lost : (s : DeviceStore) (t : ℕ) → (track_at contents s t).lost ≡ is_lost s t
 unfolding M.track_at
 mark_lost s t = refl
-
--- the first queued track, where there is one, is one of the device
-abbrev pub QueueStands : DeviceStore → Type 0
-QueueStands s = (t : ℕ) (ts : List ℕ) → s.queue ≡ t ∷ ts → t < tracks_of s
 
 module _ (v w : List Track) (s : DeviceStore) (h : Held) (none : s.half ≡ None) (o : InOrder v w s h) where
   abbrev Ends : List Track → List Track → DeviceStore → Option Did → Option Did → Held → Type 0

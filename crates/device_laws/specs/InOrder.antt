@@ -1,5 +1,5 @@
 -- A device's store that is in order, where its volumes tell what they hold, and what the parts of its events leave.
-use Rattle.std.specs.Prelude.{◌≡◌, ◌≢◌, ◌<◌, ℕ, Bool, true, false, List, Option, Some, is_some}
+use Rattle.std.specs.Prelude.{◌≡◌, ◌≢◌, ◌<◌, ℕ, Bool, true, false, List, ◌∷◌, Option, Some, is_some}
 use Rattle.ckd_types.specs.declared.paths.Side.{Side}
 use Rattle.ckd_types.specs.declared.record.Edit.{Edit}
 use Rattle.ckd_types.specs.declared.record.Track.{Track}
@@ -46,3 +46,7 @@ pub record SecondIs (v : List Track) (t : ℕ) (origin : Origin) (v' w' : List T
   pub order : IsInOrder v' w' z k
   pub plain : v' ≡ plain_second origin a v t
   pub same : a ≡ b
+
+-- the first queued track, where there is one, is one of the device
+abbrev pub QueueStands : DeviceStore → Type 0
+QueueStands s = (t : ℕ) (ts : List ℕ) → s.queue ≡ t ∷ ts → t < tracks_of s
