@@ -57,3 +57,9 @@ pub mod TwinThrough
 pub mod TwinChoices
 pub mod TwinFast
 pub mod TwinWrite
+pub mod TwinSecond
+pub mod TwinSaving
+pub mod TwinCopies
+pub mod TwinWork
+pub mod TwinLosses
+pub mod TwinLaws

@@ -89,7 +89,7 @@ down_right writing v w s h B b = record {
     long A up = b.ground.long A up
     long B up = absurd (cc)
 
-down_tracks : (s : DeviceStore) (side : Side) → tracks_of (down s side) ≡ tracks_of s
+pub down_tracks : (s : DeviceStore) (side : Side) → tracks_of (down s side) ≡ tracks_of s
 down_tracks s A = refl
 down_tracks s B = refl
 
@@ -100,7 +100,7 @@ down_debt s h B q = refl
 
 -- The loss of a side
 
-settles_on : (writing : Option ℕ) (h : Held) (u v w v' w' : List Track) (s z y : DeviceStore) → Settles writing h u s v w z →
+pub settles_on : (writing : Option ℕ) (h : Held) (u v w v' w' : List Track) (s z y : DeviceStore) → Settles writing h u s v w z →
     Settles writing h v z v' w' y → Settles writing h u s v' w' y
 settles_on writing h u v w v' w' s z y f g = record {
   but = g.but;

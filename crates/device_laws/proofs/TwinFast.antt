@@ -30,6 +30,7 @@ use Rattle.device_defs.specs.Marks.{MarksStore, marks_of, frame_mark, patch_mark
 use Rattle.device_defs.specs.Sound.{DeviceStore}
 use Rattle.device_defs.specs.Store.{tracks_of, frame_at, patch_at, is_lost, is_loose, half_is, with_frame, with_patch, with_loose}
 use Rattle.device_laws.specs.Agrees.{Held, image_in, slot_at, HasSlots}
+use Rattle.device_laws.specs.PlainWrites.{SuitsTrack}
 use Rattle.device_laws.proofs.ContentChanges as C
 use Rattle.device_laws.proofs.ContentChanges.{
   base_of,
@@ -60,7 +61,6 @@ use Rattle.device_laws.proofs.TwinChoices.{NewBy}
 use Rattle.device_laws.proofs.TwinDone.{put_right, edit_right}
 use Rattle.device_laws.proofs.TwinSettled.{AllTold, told_altered}
 use Rattle.device_laws.proofs.TwinSlots.{IsNew, new_slots}
-use Rattle.device_laws.proofs.TwinThrough.{SuitsTrack}
 use Rattle.device_defs.specs.declared.answers.Choice.TheVariants.{Fast}
 
 some_is : {X : Type 0} (x y : X) → Some x ≡ Some y → x ≡ y

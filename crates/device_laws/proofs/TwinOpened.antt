@@ -70,7 +70,7 @@ use Rattle.device_laws.proofs.TwinWalks.{Pair, pair_is, twin_done, twin_ends}
 
 -- The track of a loose frame becomes firm
 
-loose_good : (f : Option Bool) (p l h v : Bool) → is_good (marks f p l true h v) ≡ true → (is_some f ≡ true) × (l ≡ false)
+pub loose_good : (f : Option Bool) (p l h v : Bool) → is_good (marks f p l true h v) ≡ true → (is_some f ≡ true) × (l ≡ false)
 loose_good (Some true) false false false true e = (refl, refl)
 loose_good (Some true) false false false false e = absurd (cc)
 loose_good (Some true) true false false v e = absurd (cc)

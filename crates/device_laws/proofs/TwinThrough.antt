@@ -8,7 +8,6 @@ use Rattle.ckd_types.specs.Edit.{apply_edit}
 use Rattle.ckd_types.specs.Track.{track_bytes}
 use Rattle.ckd_types.specs.Volume.{track_in}
 use Rattle.ckd_rules.specs.Facts.{Suits}
-use Rattle.ckd_write.specs.Ranges.{HasRanges}
 use Rattle.ckd_write.proofs.Fitting.{edited_fits}
 use Rattle.track_image.specs.Image.{Image, edited_image}
 use Rattle.track_cache.specs.declared.frames.Frame.{Frame}
@@ -27,6 +26,7 @@ use Rattle.device_defs.specs.Sound.{DeviceStore, written_on}
 use Rattle.device_defs.specs.Store.{OfCommand, HalfWrite, Store, tracks_of, level_at, has_level, is_lost, is_loose, half_is}
 use Rattle.device_defs.specs.Writing.{Wrote, write_first, write_second, write_done, opened}
 use Rattle.device_laws.specs.Agrees.{Held, image_in}
+use Rattle.device_laws.specs.PlainWrites.{SuitsTrack, plain_after}
 use Rattle.device_laws.specs.Twin.{Twin, Twins}
 use Rattle.device_laws.proofs.ContentChanges.{RightBut, Sure, opens_write}
 use Rattle.device_laws.proofs.FailedCall.{IsWell, Goes}
@@ -44,17 +44,6 @@ use Rattle.device_laws.proofs.TwinWalks.{Pair, twin_done, twin_ends, twin_then, 
 use Rattle.device_laws.proofs.TwinWrites.{Mid, Written, First, Sided, first_twin, second_twin, right_mid, keeps_less, settled_end}
 use Rattle.device_laws.proofs.Writes as W
 use Rattle.device_laws.proofs.Writes.{is_taken, firm_first_keeps_good, write_first_keeps_good}
-
--- an edit that suits a track
-pub record SuitsTrack (g : Geometry) (x : Track) (e : Edit) : Type 0 where
-  pub suits : Suits g x.records e
-  pub ranges : HasRanges e
-
--- the plain volume behind a write
-abbrev pub plain_after : Took → List Track → ℕ → Edit → List Track
-plain_after Whole u t e = set u t (apply_edit e (track_in u t))
-plain_after Opened u t e = u
-plain_after Unwritten u t e = u
 
 pub record WroteTwin (u : List Track) (s : DeviceStore) (t : ℕ) (e : Edit) (v w : List Track) (z : DeviceStore) (a b : Took) (k : Held) : Type 0 where
   pub order : Ordered v w z k

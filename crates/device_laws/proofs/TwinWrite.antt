@@ -29,6 +29,7 @@ use Rattle.device_defs.specs.Owed.{is_clean}
 use Rattle.device_defs.specs.Sound.{DeviceStore}
 use Rattle.device_defs.specs.Store.{HalfWrite, tracks_of, takes_b, frame_at, patch_at, is_lost, is_loose, half_is}
 use Rattle.device_laws.specs.Agrees.{Held, image_in}
+use Rattle.device_laws.specs.PlainWrites.{SuitsTrack, plain_had}
 use Rattle.device_laws.specs.Twin.{Twin, Twins}
 use Rattle.device_laws.proofs.Choices.{Fits, Chosen, choice_fits}
 use Rattle.device_laws.proofs.FailedCall.{IsWell}
@@ -37,13 +38,8 @@ use Rattle.device_laws.proofs.TwinAsks.{ask_clean, InOrder, Ordered}
 use Rattle.device_laws.proofs.TwinChoices.{Chooses, NewBy, choice_mark, choice_twin, clean_same, slots_order}
 use Rattle.device_laws.proofs.TwinFast.{HasPlace, fast_order, fast_twin_is, provisional_order, provisional_twin_is}
 use Rattle.device_laws.proofs.TwinSlots.{may_free_new, unused_slots}
-use Rattle.device_laws.proofs.TwinThrough.{SuitsTrack, WroteTwin, plain_after, none_off, through_twin}
+use Rattle.device_laws.proofs.TwinThrough.{WroteTwin, none_off, through_twin}
 use Rattle.device_laws.proofs.TwinWalks.{twin_done, twin_ends, twin_then, twin_always, twin_weaker}
-
--- want of memory leaves the plain volume
-abbrev pub plain_had : Option Took → List Track → ℕ → Edit → List Track
-plain_had (Some took) v t e = plain_after took v t e
-plain_had None v t e = v
 
 pub record HadTwin (u : List Track) (s : DeviceStore) (t : ℕ) (e : Edit) (v w : List Track) (z : DeviceStore) (a b : Option Took) (k : Held) : Type 0 where
   pub order : Ordered v w z k

@@ -1,2 +1,4 @@
 pub mod Agrees
 pub mod Twin
+pub mod PlainWrites
+pub mod InOrder
