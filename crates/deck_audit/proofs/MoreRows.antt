@@ -16,6 +16,7 @@ use Rattle.plain_defs.specs.Program.{part_of}
 use Rattle.report_text.specs.declared.answers.BackAnswer.TheVariants as back
 use Rattle.report_text.specs.declared.answers.DeviceTotals.TheVariants as totals
 use Rattle.report_text.specs.declared.answers.HowOver.TheVariants.{Full}
+use Rattle.report_text.specs.declared.answers.HowOver.TheVariants as how
 use Rattle.report_text.specs.declared.answers.LooseAnswer.TheVariants as loose
 use Rattle.report_text.specs.declared.answers.OrderAnswer.TheVariants as order_answers
 use Rattle.report_text.specs.declared.answers.StartAnswer.{StartAnswer}
@@ -225,3 +226,54 @@ held : audit_all (held_deck []) (map held_answer (start.Shut (owners.Path 2) ∷
 unfolding held_deck held_answer ended_on audit audit_all judged_from deck_of word read_zero ended accepted over checked cut io tail run_once
     part_of command_of walk
 held = refl
+
+-- Loss of power: data of cache fast write go with it, and the line says so; a program that runs is cut; no path holds the device
+
+power_of_loose : audit_all (deck_of (update 0xc2 ∷ read_zero ∷ []) (run_once ++ events.Power ∷ run_once))
+    ((updates 1 ++ loosen 0 ∷ over 1 ∷ lost 1 1 ∷ done orders.Power ∷ reads 2 (replicate 8 0) ++ tail)
+    ∷ (updates 1 ++ over 1 ∷ done orders.Power ∷ reads 2 new_data ++ tail)
+    ∷ (updates 1 ++ loosen 0 ∷ over 1 ∷ done orders.Power ∷ reads 2 (replicate 8 0) ++ tail)
+    ∷ (updates 1 ++ loosen 0 ∷ over 1 ∷ lost 1 2 ∷ done orders.Power ∷ reads 2 (replicate 8 0) ++ tail)
+    ∷ (updates 1 ++ loosen 0 ∷ over 1 ∷ lost 1 1 ∷ lost 1 1 ∷ done orders.Power ∷ reads 2 (replicate 8 0) ++ tail)
+    ∷ (updates 1 ++ loosen 0 ∷ over 1 ∷ lost 1 1 ∷ done orders.Power ∷ reads 2 new_data ++ tail)
+    ∷ (updates 1 ++ loosen 0 ∷ over 1 ∷ lost 1 1 ∷ done orders.FailCache ∷ reads 2 (replicate 8 0) ++ tail)
+    ∷ (updates 1 ++ over 1 ∷ lost 1 1 ∷ done orders.Power ∷ reads 2 new_data ++ tail) ∷ [])
+    ≡ Yes ∷ Yes ∷ No 7 Place ∷ No 7 History ∷ No 8 Place ∷ No 13 History ∷ No 8 Place ∷ No 6 History ∷ []
+unfolding update updates reads new_data loosen harden lost done audit audit_all judged_from deck_of word read_zero ended accepted over
+    checked cut io tail run_once part_of command_of walk
+power_of_loose = refl
+
+-- a command whose write is half done counts, and its second part isn't owed any more
+power_cuts : audit_all (pair_devices
+    (events.Pair 0 1 ∷ events.Start 1 0 ∷ events.Step 0 ∷ events.Step 0 ∷ events.Step 0 ∷ events.Power ∷ run_once)
+    (update 0xc1 ∷ read_zero ∷ []))
+    (map (λ (x : List ReportLine × List ℕ). done (orders.Pair 0 1) ∷ accepted 1 ∷ ended 1 0 0x0c 0 ∷ ended 1 1 0x0c 0 ∷ half
+    ∷ x.0 ++ done orders.Power ∷ reads 2 x.1 ++ pair_tail)
+    ((cut 1 3 ∷ [], new_data) ∷ (cut 1 2 ∷ [], replicate 8 0) ∷ (cut 1 3 ∷ [], replicate 8 0) ∷ (cut 1 1 ∷ [], new_data)
+    ∷ ([], new_data) ∷ (cut 1 3 ∷ cut 1 3 ∷ [], new_data) ∷ (cut 1 3 ∷ lines.Reset 1 0 ∷ [], new_data) ∷ []))
+    ≡ Yes ∷ Yes ∷ No 12 History ∷ No 6 History ∷ No 6 Place ∷ No 7 Place ∷ No 7 Place ∷ []
+unfolding pair_devices half pair_tail update updates reads new_data loosen harden lost done audit audit_all judged_from deck_of word
+    read_zero ended accepted over checked cut io tail run_once part_of command_of walk
+power_cuts = refl
+
+-- of two devices with data of cache fast write the lower one is told first
+power_of_two : audit_all (record (pair_devices
+    (events.Start 1 0 ∷ events.Run 0 ∷ events.Start 2 1 ∷ events.Step 1 ∷ events.Power ∷ []) [])
+    { programs = record { path = 1; device = 0; program = update 0xc2 } ∷ record { path = 2; device = 1; program = asks } ∷ [] })
+    (map (λ (told : List ReportLine). updates 1 ++ loosen 0 ∷ over 1 ∷ lines.Start 2 1 (start.Accepted 1)
+    ∷ lines.End (record { path = 2; device = 1; ordinal = 1; index = 0; status = record { 0 = 0x0c }; residual = 0; note = Plain })
+    ∷ lines.Data (replicate 12 0) ∷ told
+    ++ done orders.Power ∷ lines.Device 0 (totals.Calls 0 0 0) ∷ lines.Device 1 (totals.Calls 0 0 0) ∷ lines.Finish ∷ [])
+    ((lost 1 1 ∷ lines.Over 2 1 1 (how.Cut 1) ∷ []) ∷ (lines.Over 2 1 1 (how.Cut 1) ∷ lost 1 1 ∷ []) ∷ (lost 1 1 ∷ []) ∷ []))
+    ≡ Yes ∷ No 10 Place ∷ No 11 Place ∷ []
+unfolding asks pair_devices update updates reads new_data loosen harden lost done audit audit_all judged_from deck_of word read_zero ended
+    accepted over checked cut io tail run_once part_of command_of walk
+power_of_two = refl
+
+power_frees : audit_all (record (held_deck []) { events = events.Start 2 0 ∷ events.Run 0 ∷ events.Power ∷ events.Start 1 0 ∷ [] })
+    (map (λ (answer : StartAnswer). lines.Start 2 0 (start.Accepted 1) ∷ ended_on 2 1 0 ∷ lines.Data (replicate 32 0) ∷ lines.Over 2 0 1 Full
+    ∷ done orders.Power ∷ lines.Start 1 0 answer ∷ tail) (start.Accepted 1 ∷ start.Shut (owners.Path 2) ∷ []))
+    ≡ Yes ∷ No 6 History ∷ []
+unfolding held_deck held_answer ended_on done audit audit_all judged_from deck_of word read_zero ended accepted over checked cut io tail
+    run_once part_of command_of walk
+power_frees = refl

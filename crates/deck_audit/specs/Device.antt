@@ -1,5 +1,5 @@
 -- A device of the deck, as the lines of a report that were read so far make it.
-use Rattle.std.specs.Prelude.{ℕ, ◌+◌, ◌==◌, ◌&&◌, ◌||◌, not, nat_le, Bool, true, false, List, [], ◌∷◌, length, count_by, Option, Some, None, if◌then◌else◌}
+use Rattle.std.specs.Prelude.{ℕ, ◌+◌, ◌==◌, ◌&&◌, ◌||◌, not, nat_le, nat_lt, Bool, true, false, List, [], ◌∷◌, length, count_by, Option, Some, None, if◌then◌else◌}
 use Rattle.std.specs.List.{list_any}
 use Rattle.ckd_types.specs.declared.channel.Ccw.{Ccw}
 use Rattle.ckd_types.specs.declared.channel.CommandEnd.{CommandEnd}
@@ -52,13 +52,22 @@ abbrev pub open_program : Option OpenEntry → Option OpenProgram
 open_program (Some o) = Some (record { path = o.path; ordinal = o.ordinal })
 open_program None = None
 
--- as much of it as tells which lines may come
-abbrev pub outline_of : AuditedDevice → Outline
-outline_of a = record { number = a.number; running = open_program a.history.running; half = a.half; lent = a.lent }
-
 -- the plain device that it then is
 abbrev pub state_of : AuditedDevice → PlainState
 state_of a = plain_of a.plans a.empty a.history
+
+abbrev pub has_loose : AuditedDevice → Bool
+has_loose a = nat_lt 0 (length (state_of a).loose)
+
+-- as much of it as tells which lines may come
+abbrev pub outline_of : AuditedDevice → Outline
+outline_of a = record {
+  number = a.number;
+  running = open_program a.history.running;
+  half = a.half;
+  lent = a.lent;
+  loose = has_loose a;
+}
 
 -- the program that runs, and how far it is
 abbrev pub part_of_open : AuditedDevice → OpenEntry → Part

@@ -1,5 +1,5 @@
 -- What a line, where it may stand, makes of the audited state; nothing where it shows what no plain device answers.
-use Rattle.std.specs.Prelude.{ℕ, ◌+◌, ◌/◌, ◌%◌, ◌==◌, ◌&&◌, not, nat_lt, Bool, true, false, List, [], ◌∷◌, length, map, Option, Some, None, if◌then◌else◌}
+use Rattle.std.specs.Prelude.{ℕ, ◌+◌, ◌/◌, ◌%◌, ◌==◌, ◌&&◌, not, Bool, true, false, List, [], ◌∷◌, ◌++◌, length, map, Option, Some, None, if◌then◌else◌}
 use Rattle.std.specs.List.{list_any}
 use Rattle.ckd_types.specs.declared.channel.CommandEnd.{CommandEnd}
 use Rattle.ckd_types.specs.declared.sense.Sense.{Sense}
@@ -7,8 +7,9 @@ use Rattle.ckd_types.specs.Sense.{equipment_sense, data_check_sense}
 use Rattle.deck_plan.specs.declared.event.EventLine.{EventLine}
 use Rattle.deck_plan.specs.declared.event.EventLine.TheVariants as events
 use Rattle.plain_defs.specs.declared.journal.Act.{Act}
+use Rattle.plain_defs.specs.declared.journal.How.TheVariants.{Cut}
 use Rattle.plain_defs.specs.declared.journal.Act.TheVariants.{Loosen, Harden, CfwLost}
-use Rattle.plain_defs.specs.History.{OpenEntry, started, reset, acted, emptied}
+use Rattle.plain_defs.specs.History.{History, OpenEntry, started, reset, acted, emptied, lost_power, entry_of}
 use Rattle.plain_defs.specs.Loose.{is_loose, next_number}
 use Rattle.report_text.specs.declared.answers.BackAnswer.{BackAnswer}
 use Rattle.report_text.specs.declared.answers.BackAnswer.TheVariants as back
@@ -20,7 +21,7 @@ use Rattle.report_text.specs.declared.answers.StartAnswer.TheVariants as start
 use Rattle.report_text.specs.declared.line.ReportLine.{ReportLine}
 use Rattle.report_text.specs.declared.line.ReportLine.TheVariants as lines
 use Rattle.report_text.specs.Ends.{end_line}
-use Rattle.deck_audit.specs.Device.{AuditedDevice, state_of, words_of_open, start_answer, plain_end}
+use Rattle.deck_audit.specs.Device.{AuditedDevice, state_of, words_of_open, start_answer, plain_end, has_loose}
 use Rattle.deck_audit.specs.Device.{check_end, is_next_legal, may_loosen, runs, device_in, with_device}
 use Rattle.deck_audit.specs.declared.state.HalfWrite.{HalfWrite}
 use Rattle.deck_audit.specs.declared.state.HalfWrite.TheVariants.{Closed, OfCommand, OfBackground}
@@ -30,7 +31,7 @@ use Rattle.deck_audit.specs.State.{AuditState, first_event, passed, settled, the
 use Rattle.deck_audit.specs.declared.state.Did.{Did}
 use Rattle.deck_audit.specs.declared.state.Did.TheVariants.{Ended, CheckEnded, Halved, Worked}
 use Rattle.deck_audit.specs.declared.state.Due.{Due}
-use Rattle.deck_audit.specs.declared.state.Due.TheVariants.{Next, DataOf, SenseOf, Behind, OverOf, Losses, ResetOf, Totals, Frames, Nothing}
+use Rattle.deck_audit.specs.declared.state.Due.TheVariants.{Next, DataOf, SenseOf, Behind, OverOf, Losses, ResetOf, Powers, Totals, Frames, Nothing}
 
 -- with one device as it is now
 abbrev pub changed : AuditState → AuditedDevice → AuditState
@@ -117,7 +118,7 @@ loss_line a =
 
 abbrev pub loss_made : AuditState → ReportLine → AuditedDevice → Option AuditState
 loss_made s line a =
-    if nat_lt 0 (length (state_of a).loose) && says (loss_line a) line
+    if has_loose a && says (loss_line a) line
     then Some (act_made s a CfwLost (Losses a.number)) else None
 
 -- a command of the program may edit its track: it isn't loose, or the edit is of such data
@@ -196,6 +197,41 @@ order_made s (lines.Loose d (loose.Lost count id)) event =
     then_of (device_in s.devices d) (loss_made s (lines.Loose d (loose.Lost count id)))
 order_made s line event = Some (passed s)
 
+-- POWER
+
+-- the program is over as one that was cut
+abbrev pub cut_open : History → OpenEntry → ℕ → History
+cut_open h o more = record { items = h.items ++ entry_of o (Cut (length o.ends + more)) ∷ []; running = None; waiting = [] }
+
+-- how many devices stand before the one of a number
+abbrev pub place_of : List AuditedDevice → ℕ → ℕ
+place_of [] d = 0
+place_of (a ∷ devices) d = if a.number == d then 0 else place_of devices d + 1
+
+-- its running program is over; the item of the loss of power follows with the event's own line
+abbrev pub cut_by_power : AuditedDevice → OpenEntry → ℕ → AuditedDevice
+cut_by_power a o more = record a { history = cut_open a.history o more }
+
+abbrev pub power_cut : AuditState → AuditedDevice → ℕ → OpenEntry → Option AuditState
+power_cut s a k o =
+    let t = λ (more : ℕ). record (changed s (cut_by_power a o more)) { due = Powers (place_of s.devices a.number) } in
+    if k == length o.ends then Some (t 0)
+    else if (k == length o.ends + 1) && is_next_legal a a.history.running then Some (t 1)
+    else None
+
+abbrev pub power_loss : AuditState → ReportLine → AuditedDevice → Option AuditState
+power_loss s line a =
+    if has_loose a && says (loss_line a) line then Some (record s { due = Powers (place_of s.devices a.number + 1) }) else None
+
+-- its loose tracks go back, its paths are as at first, and no half write is open
+abbrev pub without_power : AuditedDevice → AuditedDevice
+without_power a = record a { history = lost_power a.history 0; half = Closed }
+
+abbrev pub power_made : AuditState → ReportLine → Option AuditState
+power_made s (lines.Over p d n (how.Cut k)) = then_of (device_in s.devices d) (λ a. then_of a.history.running (power_cut s a k))
+power_made s (lines.Loose d answer) = then_of (device_in s.devices d) (power_loss s (lines.Loose d answer))
+power_made s line = Some (passed (record s { devices = map without_power s.devices }))
+
 -- Every line
 
 abbrev pub event_made : AuditState → ReportLine → EventLine → Option AuditState
@@ -205,6 +241,7 @@ event_made s line (events.Run d) = then_of (device_in s.devices d) (work_made s 
 event_made s line (events.Back d) = then_of (device_in s.devices d) (work_made s line)
 event_made s line (events.Settle d) = then_of (device_in s.devices d) (work_made s line)
 event_made s line (events.Reset path d) = then_of (device_in s.devices d) (reset_made s line path)
+event_made s line events.Power = power_made s line
 event_made s line event = order_made s line event
 
 -- the counts, lost tracks and frames are read and not judged; k devices have had their totals
@@ -226,6 +263,7 @@ due_made s line (Behind more did) = None
 due_made s line (OverOf wanted) = then_of (worker s) (λ a. shown wanted line (behind_work s a Halved))
 due_made s line (Losses d) = then_of (first_event s.events) (order_made s line)
 due_made s line ResetOf = Some (passed s)
+due_made s line (Powers k) = power_made s line
 due_made s line (Totals k) = Some (totals_made s line k)
 due_made s line Frames = Some (totals_made s line 0)
 due_made s line Nothing = None

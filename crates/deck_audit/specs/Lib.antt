@@ -5,3 +5,6 @@ pub mod State
 pub mod Place
 pub mod History
 pub mod Verdict
+pub mod Replayed
+pub mod Replay
+pub mod Follows

@@ -8,6 +8,7 @@ use Rattle.report_text.specs.declared.answers.BackAnswer.TheVariants as back
 use Rattle.report_text.specs.declared.answers.DeviceTotals.TheVariants as totals
 use Rattle.report_text.specs.declared.answers.HowOver.TheVariants as how
 use Rattle.report_text.specs.declared.answers.LooseAnswer.TheVariants as loose
+use Rattle.report_text.specs.declared.answers.OrderAnswer.TheVariants as order_answers
 use Rattle.report_text.specs.declared.line.ReportLine.{ReportLine}
 use Rattle.report_text.specs.declared.line.ReportLine.TheVariants as lines
 use Rattle.report_text.specs.declared.order.Order.{Order}
@@ -19,7 +20,7 @@ use Rattle.deck_audit.specs.declared.state.HalfWrite.TheVariants.{Closed, OfComm
 use Rattle.deck_audit.specs.Same.{is_same_order, says}
 use Rattle.deck_audit.specs.State.{AuditState, first_event, outlines, worker_number, settled}
 use Rattle.deck_audit.specs.declared.state.Due.{Due}
-use Rattle.deck_audit.specs.declared.state.Due.TheVariants.{Next, DataOf, SenseOf, Behind, OverOf, Losses, ResetOf, Totals, Frames, Nothing}
+use Rattle.deck_audit.specs.declared.state.Due.TheVariants.{Next, DataOf, SenseOf, Behind, OverOf, Losses, ResetOf, Powers, Totals, Frames, Nothing}
 
 abbrev pub holds : {T : Type 0} → Option T → (T → Bool) → Bool
 holds None is = false
@@ -114,6 +115,25 @@ abbrev pub is_start : ℕ → ℕ → ReportLine → Bool
 is_start path d (lines.Start p device answer) = (p == path) && (device == d)
 is_start path d _ = false
 
+-- A loss of power, told device by device: the OVER line of a program that was cut, then the loss of its loose tracks
+
+abbrev pub is_loss_of : ℕ → ReportLine → Bool
+is_loss_of d (lines.Loose device (loose.Lost count id)) = device == d
+is_loss_of d _ = false
+
+abbrev pub is_power_done : ReportLine → Bool
+is_power_done (lines.Order order order_answers.Done) = is_same_order orders.Power order
+is_power_done _ = false
+
+-- a device without either is passed over
+abbrev pub in_power_of : Outline → ReportLine → Bool → Option OpenProgram → Bool
+in_power_of a line below (Some o) = is_cut a.number o line
+in_power_of a line below None = is_loss_of a.number line || (not a.loose && below)
+
+abbrev pub in_power : ReportLine → List Outline → Bool
+in_power line [] = is_power_done line
+in_power line (a ∷ left) = in_power_of a line (in_power line left) a.running
+
 -- an event's first line, or the next one of RUN and SETTLE
 abbrev pub in_event : List Outline → ReportLine → EventLine → Bool
 in_event s line (events.Start path d) = is_start path d line
@@ -132,6 +152,7 @@ in_event s line (events.Pair a b) = is_order (orders.Pair a b) line
 in_event s line (events.Unpair a) = is_order (orders.Unpair a) line
 in_event s line (events.Suspend a) = is_order (orders.Suspend a) line
 in_event s line (events.Resume a) = is_order (orders.Resume a) line
+in_event s line events.Power = in_power line s
 
 -- What stands behind a first line, and at the end of a report
 
@@ -198,12 +219,14 @@ in_due s left line (Behind more did) = false
 in_due s left line (OverOf wanted) = is_over wanted line
 in_due s left line (Losses d) = is_loss_above d s line || is_order orders.FailCache line
 in_due s left line ResetOf = in_reset line (first_event left)
+in_due s left line (Powers k) = in_power line (drop k s)
 in_due s left line (Totals k) = in_totals s line k
 in_due s left line Frames = is_frame s line || is_finish line
 in_due s left line Nothing = false
 
--- no more devices have had their totals than there are
+-- no more devices have had their totals, or what a loss of power did to them, than there are
 abbrev pub IsDueOf : ℕ → Due → Type 0
+IsDueOf devices (Powers k) = k ≤ devices
 IsDueOf devices (Totals k) = k ≤ devices
 IsDueOf devices due = ⊤
 

@@ -1,13 +1,13 @@
 ghost use Rattle.std.specs.Prelude.{◌≡◌, ◌≤◌, length};
-ghost use Rattle.deck_audit.specs.Place.{IsDueOf, holds, in_due, in_event, in_next, in_reset, in_totals, in_totals_of, is_data, is_finish, is_frame, is_harden, is_io, is_loss, is_loss_above, is_of_work, is_order, is_over, is_sense, may_back, may_step, outline_in};
+ghost use Rattle.deck_audit.specs.Place.{IsDueOf, holds, in_due, in_event, in_next, in_power, in_reset, in_totals, in_totals_of, is_data, is_finish, is_frame, is_harden, is_io, is_loss, is_loss_above, is_loss_of, is_of_work, is_order, is_over, is_power_done, is_sense, may_back, may_step, outline_in};
 ghost use Rattle.deck_audit.specs.State.{first_event, worker_of};
 
 use crate::outline::{is_declared, is_lost_of, is_totals_of, outline_in};
-use crate::work::{is_act_of, is_reset, is_start, may_back, may_reset, may_step};
+use crate::work::{is_act_of, is_cut, is_reset, is_start, may_back, may_reset, may_step};
 use crate::{Due, Outline, is_same_order};
 use ckd_types::DeviceNo;
 use deck_plan::EventLine;
-use report_text::{HowOver, LooseAnswer, Order, ReportLine};
+use report_text::{HowOver, LooseAnswer, Order, OrderAnswer, ReportLine};
 
 fn is_order(order: Order, line: &ReportLine) -> bool
     ensures { result ≡ is_order order line.now }
@@ -65,6 +65,40 @@ fn back_place(devices: &[Outline], d: DeviceNo, line: &ReportLine) -> bool
     }
 }
 
+/// All loose tracks of the device go back.
+fn is_loss_of(d: DeviceNo, line: &ReportLine) -> bool
+    ensures { result ≡ is_loss_of d line.now }
+{
+    match line {
+        ReportLine::Loose(device, LooseAnswer::Lost { .. }) => device.get() == d.get(),
+        _ => false,
+    }
+}
+
+fn is_power_done(line: &ReportLine) -> bool
+    ensures { result ≡ is_power_done line.now }
+{
+    match line {
+        ReportLine::Order(order, OrderAnswer::Done) => is_same_order(&Order::Power, order),
+        _ => false,
+    }
+}
+
+/// What a loss of power did to these devices, and its own line.
+fn in_power(devices: &[Outline], line: &ReportLine) -> bool
+    ensures { result ≡ in_power line.now devices.now }
+{
+    for a in devices {
+        if let Some(o) = &a.running {
+            return is_cut(a.number, o, line);
+        }
+        if a.loose || is_loss_of(a.number, line) {
+            return is_loss_of(a.number, line);
+        }
+    }
+    is_power_done(line)
+}
+
 /// An event's first line, or that of the next piece of work of a RUN or SETTLE.
 fn in_event(devices: &[Outline], line: &ReportLine, event: &EventLine) -> bool
     ensures { result ≡ in_event devices.now line.now event.now }
@@ -90,7 +124,7 @@ fn in_event(devices: &[Outline], line: &ReportLine, event: &EventLine) -> bool
         EventLine::Unpair(a) => is_order(Order::Unpair(*a), line),
         EventLine::Suspend(a) => is_order(Order::Suspend(*a), line),
         EventLine::Resume(a) => is_order(Order::Resume(*a), line),
-        EventLine::Power => may_power(devices, line),
+        EventLine::Power => in_power(devices, line),
     }
 }
 
@@ -190,6 +224,7 @@ pub fn in_due(devices: &[Outline], events: &[EventLine], line: &ReportLine, due:
         Due::OverOf(wanted) => is_over(wanted, line),
         Due::Losses(d) => { is_loss_above(*d, devices, line) || is_order(Order::FailCache, line) }
         Due::ResetOf => in_reset(line, events),
+        Due::Powers(told) => in_power(devices.split_at(*told).1, line),
         Due::Totals(told) => in_totals(devices, line, *told),
         Due::Frames => is_frame(devices, line) || is_finish(line),
         Due::Nothing => false,

@@ -25,6 +25,8 @@ pub struct Outline {
     pub half: HalfWrite,
     /// The device that has its volume.
     pub lent: Option<DeviceNo>,
+    /// It has data of cache fast write.
+    pub loose: bool,
 }
 
 /// What a piece of a device's work did.
@@ -57,6 +59,8 @@ pub enum Due {
     Losses(DeviceNo),
     /// The line of the RESET that cut a program.
     ResetOf,
+    /// What a loss of power did to the devices behind so many, and its own line.
+    Powers(usize),
     /// The totals of the devices behind so many, LOST lines of the last of these, and the frames.
     Totals(usize),
     Frames,

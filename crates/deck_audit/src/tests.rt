@@ -1,10 +1,11 @@
 ghost use Rattle.std.specs.Prelude.{◌≡◌};
 
 use crate::*;
+use ckd_ccw::Program;
 use ckd_outside::MemSink;
-use ckd_types::{DeviceNo, PathNo, TrackNo};
-use deck_plan::EventLine;
-use deck_text::{DeckWhy, Which};
+use ckd_types::{Bytes, Ccw, DeviceNo, Geometry, PathNo, TrackNo};
+use deck_plan::{EventLine, PathPlans};
+use deck_text::{DeckWhy, DeviceLine, Which};
 use report_text::{BackAnswer, DeviceTotals, HowOver, LooseAnswer, ReportLine, StartAnswer};
 use std::test::Fail;
 
@@ -72,6 +73,7 @@ fn lines_of_an_idle_device(rt: HostRuntime) -> Result<(), Fail> {
         running: None,
         half: HalfWrite::Closed,
         lent: None,
+        loose: false,
     };
     let devices = [outline];
     let due = Due::Next;
@@ -107,6 +109,7 @@ fn lines_of_a_running_program(rt: HostRuntime) -> Result<(), Fail> {
         }),
         half: HalfWrite::Closed,
         lent: None,
+        loose: false,
     };
     let devices = [outline];
     let due = Due::Next;
@@ -140,6 +143,7 @@ fn lines_at_the_end(rt: HostRuntime) -> Result<(), Fail> {
         running: None,
         half: HalfWrite::Closed,
         lent: None,
+        loose: false,
     };
     let devices = [outline];
     let calls = DeviceTotals::Calls {
@@ -191,5 +195,45 @@ fn where_a_report_begins(rt: HostRuntime) -> Result<(), Fail> {
     let (line, left) = next_line(b"\nFINISH");
     assert_eq!(rt; line.len(), 0);
     assert_eq!(rt; left, b"FINISH".as_slice());
+    Ok(())
+}
+
+/// A program of one no-operation is started, ends, and is over; no other one is left.
+#[test]
+fn a_program_is_replayed(rt: HostRuntime) -> Result<(), Fail> {
+    let alloc = rt.alloc();
+    let mut ccws = Vec::new(alloc);
+    ccws.push(Ccw {
+        command: 0x03,
+        flags: 0,
+        count: 1,
+        given: Bytes::from_slice(alloc, &[])?,
+    })?;
+    let program = Program::new(ccws).ok().ok_or("a word is bad")?;
+    let mut plans = PathPlans::new(alloc);
+    plans.push(path(), program)?;
+    let line = DeviceLine {
+        number: device(),
+        geometry: Geometry::D3390,
+        cylinders: 1,
+    };
+    let mut replayed = ReplayedDevice::new(alloc, line)?;
+    assert_eq!(rt;
+        replayed.start_answer(&plans, path()),
+        StartAnswer::Accepted(1)
+    );
+    if replayed.has_left(&plans, path()) {
+        replayed.start(alloc, &plans, path())?;
+    }
+    assert_eq!(rt; replayed.start_answer(&plans, path()), StartAnswer::Running);
+    let end = replayed.end_next(alloc)?.ok_or("no end")?;
+    assert_eq!(rt;
+        (end.index, end.status.0, end.residual, end.over),
+        (0, 0x0c, 1, true)
+    );
+    assert_eq!(rt; replayed.is_legal(), true);
+    replayed.settle()?;
+    replayed.close();
+    assert_eq!(rt; replayed.start_answer(&plans, path()), StartAnswer::Done);
     Ok(())
 }

@@ -93,7 +93,7 @@ pub fn may_back(a: &Outline, line: &ReportLine) -> bool
     }
 }
 
-fn is_cut(d: DeviceNo, o: &OpenProgram, line: &ReportLine) -> bool
+pub fn is_cut(d: DeviceNo, o: &OpenProgram, line: &ReportLine) -> bool
     ensures { result ≡ is_cut d o.now line.now }
 {
     match line {

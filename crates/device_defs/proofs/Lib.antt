@@ -6,3 +6,10 @@ mod Rows
 pub mod Own
 mod OwnRows
 mod SoundRows
+mod Held
+mod ContentRows
+mod SideRows
+mod TransferRows
+mod BetweenRows
+mod PledgeRows
+mod PairRows

@@ -25,7 +25,7 @@ use Rattle.device_defs.specs.Peek.{peek}
 use Rattle.device_defs.specs.Second.{second_part}
 use Rattle.device_defs.specs.Sound.{has_sound_marks}
 use Rattle.device_defs.specs.Start.{start_fault, start}
-use Rattle.device_defs.specs.Store.{with_frame, with_patch, with_stale, with_lost, with_loose}
+use Rattle.device_defs.specs.Store.{with_frame, with_patch, with_stale, with_loose}
 use Rattle.device_defs.specs.Writing.{write_first, write_second, write_done}
 use Rattle.device_defs.proofs.Stand.{
   Event,

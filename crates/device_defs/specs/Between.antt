@@ -1,5 +1,5 @@
 -- What a device has on its marks between two of its events, beside what is said of each track.
-use Rattle.std.specs.Prelude.{◌≡◌, ◌<◌, ◌≤◌, ℕ, true, false, List, [], ◌∷◌, length, replicate, Option, None, Some, is_some}
+use Rattle.std.specs.Prelude.{◌≡◌, ◌<◌, ◌≤◌, ℕ, true, false, List, [], ◌∷◌, length, replicate, None, Some, is_some}
 use Rattle.device_defs.specs.Store.{HalfWrite, Store, tracks_of, has_level, is_lost, no_debt}
 
 module _ {F P H : Type 0} where

@@ -21,6 +21,7 @@ pub mod Peek
 pub mod Marks
 pub mod Sound
 pub mod Between
+pub mod Pairs
 pub mod Transfers
 pub mod Excused
 pub mod Pledge

@@ -56,6 +56,10 @@ module _ {F P H : Type 0} where
   abbrev pub side_writes : Store F P H → Range
   side_writes s = one_or_both s.a.up (takes_b s)
 
+  -- all of these sides, whichever fail
+  abbrev pub all_writes : Store F P H → Range
+  all_writes s = record { least = both s.a.up (takes_b s); most = both s.a.up (takes_b s) }
+
   -- by what a device has as the part begins
   abbrev pub reads_of : Store F P H → Part → Range
   reads_of s Hit = none
@@ -77,7 +81,7 @@ module _ {F P H : Type 0} where
   writes_of s InCache = none
   writes_of s FirstPart = side_writes s
   writes_of s SecondPart = record { least = both (takes_b s) false; most = both (takes_b s) false }
-  writes_of s BothParts = side_writes s
+  writes_of s BothParts = all_writes s
   writes_of s FramedTrack = record { least = 0; most = both s.a.up (takes_b s) }
   writes_of s (UnframedTrack t) = record { least = 0; most = both s.a.up (takes_b s) }
   writes_of s Copy = record { least = 0; most = 1 }

@@ -92,7 +92,7 @@ module _ {F P H R : Type 0} (c : Contents F P H R) (faithful : IsFaithful c) whe
   unfolding M.track_at C.rest_of
   counted_same s loss w = record { sizes = record { are = w.sizes.are }; rest = refl; marks = λ q. refl }
 
-  losing_goes : (s : Store F P H) (loss : Loss) → IsWell c s → Always (losing c s loss) (λ z _. Goes c s z)
+  pub losing_goes : (s : Store F P H) (loss : Loss) → IsWell c s → Always (losing c s loss) (λ z _. Goes c s z)
   losing_goes s loss w =
       let counted = goes_same c s (with_loss s loss) w (counted_same s loss w) in
       let lost = loss_goes (with_loss s loss) loss counted.well in

@@ -197,7 +197,7 @@ module _ {F P H R : Type 0} (c : Contents F P H R) (faithful : IsFaithful c) whe
       always_then (level_bytes_keeps_good c faithful s t w) (λ z g f. missed_by u t s z g g.bytes refl lt firm f)
 
   -- a clean frame that the pool doesn't list any more goes
-  dropped_goes : (s : Store F P H) (t : ℕ) → t < tracks_of s → IsWell c s → (track_at c s t).frame ≡ Some false → Goes c s (with_frame s t None)
+  pub dropped_goes : (s : Store F P H) (t : ℕ) → t < tracks_of s → IsWell c s → (track_at c s t).frame ≡ Some false → Goes c s (with_frame s t None)
   dropped_goes s t lt w clean =
       changed_goes c s (with_frame s t None) t _ w (changed_frame c s t None lt w.sizes) (clean_may_go (track_at c s t) clean (w.good t lt))
       (w.kept t lt) (λ e. e)

@@ -314,7 +314,7 @@ module _ {F P H R : Type 0} (c : Contents F P H R) (faithful : IsFaithful c) whe
 
   -- Staging
 
-  queue_goes : (s : Store F P H) (l : List ℕ) → IsWell c s → Goes c s (record s { queue = l })
+  pub queue_goes : (s : Store F P H) (l : List ℕ) → IsWell c s → Goes c s (record s { queue = l })
   unfolding M.track_at C.rest_of
   queue_goes s l w = record {
     well = record {
@@ -392,7 +392,7 @@ module _ {F P H R : Type 0} (c : Contents F P H R) (faithful : IsFaithful c) whe
 
   -- The order
 
-  destaged_there : (t : ℕ) (s : Store F P H) (b : Bool) → is_loose s t ≡ b → (b || (is_modified c (frame_at s t) && is_some (patch_at s t))) ≡ true →
+  pub destaged_there : (t : ℕ) (s : Store F P H) (b : Bool) → is_loose s t ≡ b → (b || (is_modified c (frame_at s t) && is_some (patch_at s t))) ≡ true →
       t < tracks_of s → IsWell c s → (track_at c s t).lost ≡ false
   destaged_there t s true e f lt w = loose_is_there (track_at c s t) (w.good t lt) (loose_mark s t true e)
   destaged_there t s false e f lt w =
@@ -421,7 +421,7 @@ module _ {F P H R : Type 0} (c : Contents F P H R) (faithful : IsFaithful c) whe
   copy_or s None found w none = stage_or s s.queue w none
   copy_or s (Some t) found w none = always_weaker (copy_keeps_good t s (found t refl) w) (λ y _ g. goes_keeps c faithful s y g)
 
-  waits_there : (s : Store F P H) (t : ℕ) → waits c s t ≡ true → is_lost s t ≡ false
+  pub waits_there : (s : Store F P H) (t : ℕ) → waits c s t ≡ true → is_lost s t ≡ false
   unfolding O.waits
   waits_there s t e = not_true (is_lost s t) (and_left (not (is_lost s t)) _ e)
 

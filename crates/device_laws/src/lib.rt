@@ -1,2 +1,9 @@
 //! Laws of a device: what its events keep. It has no code; its lemmas are over plain variables, for the calls to cite.
 #![tactic(auto)]
+
+mod contents;
+
+pub use contents::{
+    failed_call_leaves_order, image_is_plain, lost_side_leaves_order, lost_store_leaves_order, second_part_is_plain, work_is_plain,
+    write_is_plain,
+};

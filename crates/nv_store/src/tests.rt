@@ -87,20 +87,35 @@ fn apply(alloc: Global, patch: &Patch, image: &TrackImage) -> Result<Option<Trac
     }
 }
 
+/// How many records a patched track has, and the number, key and data of its record `i`, each by its first byte.
+fn shown(image: &TrackImage, i: usize) -> (usize, u8, Option<u8>, Option<u8>) {
+    if i < image.len() {
+        let record = image.record_at(i);
+        let (key, body) = (record.key().first(), record.body().first());
+        return (image.len(), record.id().r, key.copied(), body.copied());
+    }
+    (image.len(), 0, None, None)
+}
+
+/// A track of record 0 and some more, as a patch of these edits makes it, at its record 2.
+fn shown_behind(
+    alloc: Global,
+    steps: &[Step],
+    more: usize,
+) -> Result<Option<(usize, u8, Option<u8>, Option<u8>)>, Fail> {
+    let patch = patch_of(alloc, steps)?;
+    let patched = apply(alloc, &patch, &track(alloc, more)?)?;
+    Ok(patched.map(|image| shown(&image, 2)))
+}
+
+const CUT: [Step; 3] = [Step::Update(2, 1), Step::Format(1, 2), Step::Update(2, 3)];
+
 #[test]
 fn update_of_a_record_behind_a_cut(rt: HostRuntime) -> Result<(), Fail> {
-    let alloc = rt.alloc();
-    let steps = [Step::Update(2, 1), Step::Format(1, 2), Step::Update(2, 3)];
-    let patch = patch_of(alloc, &steps)?;
-    let patched = apply(alloc, &patch, &track(alloc, 3)?)?.ok_or("unfit")?;
-    assert_eq!(rt; patched.len(), 3);
-    let new = patched.record_at(2);
-    assert_eq!(rt;
-        (new.id().r, new.key(), new.body()),
-        (2, &[3u8][..], &[3u8, 3][..])
-    );
-    let alone = apply(alloc, &patch, &track(alloc, 0)?)?;
-    assert!(rt; alone.is_none());
+    let patched = shown_behind(rt.alloc(), &CUT, 3)?;
+    assert_eq!(rt; patched, Some((3, 2, Some(3), Some(3))));
+    let alone = shown_behind(rt.alloc(), &CUT, 0)?;
+    assert_eq!(rt; alone, None);
     Ok(())
 }
 
@@ -116,50 +131,54 @@ fn a_patch_with_one_more_edit(rt: HostRuntime) -> Result<(), Fail> {
     Ok(())
 }
 
-#[test]
-fn patches_come_and_go(rt: HostRuntime) -> Result<(), Fail> {
-    let alloc = rt.alloc();
+/// Patches with one of a track, in slot 7.
+fn one_patch(alloc: Global, t: TrackNo) -> Result<Patches, Fail> {
     let mut patches = Patches::new(alloc);
     patches.reserve(1)?;
-    let t = TrackNo::new(14).ok_or("track")?;
     if !patches.has(t) {
         patches.put(t, Patch::new(alloc), 7)?;
     }
-    assert_eq!(rt;
-        (
-            patches.has(t),
-            patches.slot_of(t),
-            patches.patched_tracks().count()
-        ),
-        (true, Some(7), 1)
-    );
     if patches.has(t) {
         patches.add(t, edit(alloc, Step::Zero(1))?)?;
     }
-    let patched = apply(alloc, patches.get(t).ok_or("patch")?, &track(alloc, 2)?)?;
-    assert_eq!(rt; patched.ok_or("unfit")?.len(), 1);
+    Ok(patches)
+}
+
+/// How many records a track of three has, patched so.
+fn patched_len(alloc: Global, patches: &Patches, t: TrackNo) -> Result<Option<usize>, Fail> {
+    let patch = patches.get(t).ok_or("patch")?;
+    let patched = patch.apply_in_place(alloc, track(alloc, 2)?);
+    Ok(patched.ok().map(|image| image.len()))
+}
+
+#[test]
+fn patches_come_and_go(rt: HostRuntime) -> Result<(), Fail> {
+    let t = TrackNo::new(14).ok_or("track")?;
+    let mut patches = one_patch(rt.alloc(), t)?;
+    assert_eq!(rt;
+        (patches.slot_of(t), patches.patched_tracks().count()),
+        (Some(7), 1)
+    );
+    assert_eq!(rt; patched_len(rt.alloc(), &patches, t)?, Some(1));
     assert_eq!(rt; (patches.take(t), patches.has(t)), (Some(7), false));
+    Ok(())
+}
+
+/// Puts one more edit into room made ahead.
+fn add_in_room(alloc: Global, patches: &mut Patches, t: TrackNo, step: Step) -> Result<(), Fail> {
+    let mut room = EditRoom::new(alloc);
+    patches.room(t, &mut room)?;
+    if patches.has(t) {
+        patches.add_within(t, edit(alloc, step)?, &mut room);
+    }
     Ok(())
 }
 
 #[test]
 fn edits_in_room(rt: HostRuntime) -> Result<(), Fail> {
-    let alloc = rt.alloc();
-    let mut room = EditRoom::new(alloc);
-    let mut patch = Patch::new(alloc);
-    room.reserve(patch.room())?;
-    patch.add_within(edit(alloc, Step::Zero(1))?, &mut room);
-    let patched = patch.apply_in_place(alloc, track(alloc, 2)?);
-    assert_eq!(rt; patched.is_ok(), true);
-    let mut patches = Patches::new(alloc);
     let t = TrackNo::new(3).ok_or("track")?;
-    if !patches.has(t) {
-        patches.put(t, patch, 0)?;
-    }
-    patches.room(t, &mut room)?;
-    if patches.has(t) {
-        patches.add_within(t, edit(alloc, Step::Format(0, 2))?, &mut room);
-    }
-    assert_eq!(rt; patches.has(t), true);
+    let mut patches = one_patch(rt.alloc(), t)?;
+    add_in_room(rt.alloc(), &mut patches, t, Step::Format(0, 2))?;
+    assert_eq!(rt; patched_len(rt.alloc(), &patches, t)?, Some(2));
     Ok(())
 }

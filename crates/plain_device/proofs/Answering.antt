@@ -13,13 +13,13 @@ use Rattle.ckd_rules.specs.declared.grouping.GroupFault.{GroupFault}
 use Rattle.ckd_rules.specs.declared.order.LocalAct.{LocalAct}
 use Rattle.ckd_rules.specs.declared.order.LocalAct.TheVariants as acts
 use Rattle.ckd_rules.specs.Ending.{Outcome}
-use Rattle.ckd_rules.specs.Walk.{TrackEdit}
 use Rattle.ckd_types.specs.Fixed.{Fixed}
 use Rattle.plain_defs.specs.Acts.{act_fault}
-use Rattle.plain_defs.specs.Effect.{Effect, acted_by, acted, edited_volume}
+use Rattle.plain_defs.specs.Effect.{Effect, acted_by, acted}
 use Rattle.plain_defs.specs.PlainState.{PathsState, PlainState, with_sense}
 use Rattle.plain_device.specs.Acted.{settled_with, settled_act, paths_with, paths_behind}
-use Rattle.plain_device.specs.Between.{EndsBy, fixed_with}
+use Rattle.plain_device.specs.declared.done.Done.{Done}
+use Rattle.plain_device.specs.Between.{ComesTo, edit_of, fixed_with}
 use Rattle.plain_device.specs.Looking.{IsAtAnswer, stage_effect}
 
 abbrev pub at_act : ChainState → LocalAct → ChainState
@@ -97,20 +97,24 @@ module _ (f : Fixed) (paths : PathsState) (path : ℕ) (b : ChainState) where
   may_by (acts.SetGroup function id) None is = refl
   may_by acts.SenseGroup None is = refl
 
+-- a command that ended so, with what is then kept of the paths
+abbrev pub done_by : CommandEnd → PathsState → Done
+done_by e paths = record { end = e; edit = None; paths = paths }
+
 module _ (d : PlainState) (path : ℕ) where
   -- what the device's paths make of an act of a chain on it
   abbrev act_effect : ChainState → LocalAct → Effect
   act_effect s act = acted (fixed_with d s.fixed.number) d.paths path (start_of s).stance (word_of s) act
 
   star_answered : (b : ChainState) (act : LocalAct) (last : ChainState) (how : Settled) (middle : PathsState)
-      (after : PlainState) (e : CommandEnd) → how ≡ settled_act d.geometry d.paths path act
+      (done : Done) (e : CommandEnd) → how ≡ settled_act d.geometry d.paths path act
       → middle ≡ paths_behind d.paths path act
       → e ≡ end_with (at_act b act) (settled_by (at_act b act) how)
       → last ≡ behind (at_act b act) (settled_by (at_act b act) how)
-      → after ≡ record d { paths = with_sense middle path e.sense }
+      → done ≡ record { end = e; edit = None; paths = with_sense middle path e.sense }
       → last.at.stance.commands ≡ b.before.stance.commands + 1
-      → EndsBy d after (at_act b act) last e (act_effect (at_act b act) act)
-  star_answered b act last how middle after e how_is middle_is end_is last_is after_is counted =
+      → ComesTo (at_act b act) last done (act_effect (at_act b act) act)
+  star_answered b act last how middle done e how_is middle_is end_is last_is done_is counted =
       let f = fixed_with d b.fixed.number in
       let fault = act_fault d.paths path act in
       let made = acted f d.paths path b.before.stance (word_of b) act in
@@ -118,14 +122,13 @@ module _ (d : PlainState) (path : ℕ) where
       ap (λ (x : Settled). settled_by (at_act b act) x) how_is ∙ outcome_by f d.paths path b act fault in
       let ends : e ≡ end_with (at_act b act) made.outcome =
       end_is ∙ ap (λ (o : Outcome). end_with (at_act b act) o) out in record {
-        end_is = ends;
-        device_is =
-            after_is
-            ∙ ap (λ (x : PathsState). record d { paths = with_sense x path e.sense }) middle_is
-            ∙ ap (λ (x : CommandEnd). record d { paths = with_sense (paths_behind d.paths path act) path x.sense }) ends
-            ∙ ap (λ (x : PathsState). record d { paths = x }) (paths_by f d.paths path b act fault)
-            ∙ ap (λ (x : Option TrackEdit). record d { volume = edited_volume d.volume x; paths = made.paths })
-            (sym (edit_by f d.paths path b act fault));
+        end_is = ap (λ (x : Done). x.end) done_is ∙ ends;
+        edit_is = ap (λ (x : Done). edit_of x.edit) done_is ∙ sym (edit_by f d.paths path b act fault);
+        paths_is =
+            ap (λ (x : Done). x.paths) done_is
+            ∙ ap (λ (x : PathsState). with_sense x path e.sense) middle_is
+            ∙ ap (λ (x : CommandEnd). with_sense (paths_behind d.paths path act) path x.sense) ends
+            ∙ paths_by f d.paths path b act fault;
         chain_is = last_is ∙ ap (λ (o : Outcome). behind (at_act b act) o) out;
         counted = counted;
       }
@@ -138,17 +141,17 @@ module _ (d : PlainState) (path : ℕ) where
       (may_by (fixed_with d 0) d.paths path s act (act_fault d.paths path act) refl))
 
   pub answered_ends : (s then_chain : ChainState) (act : LocalAct) → AsksFor s act then_chain
-      → (last : ChainState) (how : Settled) (middle : PathsState) (after : PlainState) (e : CommandEnd)
+      → (last : ChainState) (how : Settled) (middle : PathsState) (done : Done) (e : CommandEnd)
       → how ≡ settled_act d.geometry d.paths path act
       → middle ≡ paths_behind d.paths path act → e ≡ end_with then_chain (settled_by then_chain how)
       → last ≡ behind then_chain (settled_by then_chain how)
-      → after ≡ record d { paths = with_sense middle path e.sense }
+      → done ≡ record { end = e; edit = None; paths = with_sense middle path e.sense }
       → last.at.stance.commands ≡ (start_of then_chain).stance.commands + 1
-      → EndsBy d after s last e (stage_effect d path s s.stage)
-  answered_ends s then_chain act asks last how middle after e how_is middle_is end_is last_is after_is counted =
+      → ComesTo s last done (stage_effect d path s s.stage)
+  answered_ends s then_chain act asks last how middle done e how_is middle_is end_is last_is done_is counted =
       let here : then_chain ≡ at_act s act = asks.chain ∙ asks.is in
-      subst (λ (x : ChainState). EndsBy d after x last e (stage_effect d path x x.stage)) (sym asks.is)
-      (star_answered s act last how middle after e how_is middle_is
+      subst (λ (x : ChainState). ComesTo x last done (stage_effect d path x x.stage)) (sym asks.is)
+      (star_answered s act last how middle done e how_is middle_is
       (end_is ∙ ap (λ (x : ChainState). end_with x (settled_by x how)) here)
-      (last_is ∙ ap (λ (x : ChainState). behind x (settled_by x how)) here) after_is
+      (last_is ∙ ap (λ (x : ChainState). behind x (settled_by x how)) here) done_is
       (counted ∙ ap (λ (x : ChainState). (start_of x).stance.commands + 1) here))

@@ -1,5 +1,5 @@
 -- A command of the plain device that goes from track to track.
-use Rattle.std.proofs.Common.{◌≡◌, ◌+◌, ◌-◌, ◌*◌, ◌<◌, ◌≤◌, ℕ, suc, Option, refl, sym, ap, subst, ◌∙◌, arith}
+use Rattle.std.proofs.Common.{◌≡◌, ◌+◌, ◌-◌, ◌*◌, ◌<◌, ◌≤◌, ℕ, suc, refl, sym, ap, subst, ◌∙◌, arith}
 use Rattle.std.specs.Prelude.{IsSome}
 use Rattle.ckd_types.specs.declared.channel.CommandEnd.{CommandEnd}
 use Rattle.ckd_types.specs.Sense.{equipment_sense}
@@ -8,12 +8,13 @@ use Rattle.ckd_chain.specs.State.{ChainState}
 use Rattle.ckd_chain.specs.Steps.{start_of, standing, behind, end_with, checked}
 use Rattle.ckd_rules.specs.declared.stance.Stance.{Stance}
 use Rattle.ckd_rules.specs.Ending.{Outcome}
-use Rattle.ckd_rules.specs.Walk.{TrackEdit, Walked, untouched, walk}
-use Rattle.plain_defs.specs.Effect.{edited_volume, kept_by, behind_effect}
+use Rattle.ckd_rules.specs.Walk.{Walked, untouched, walk}
+use Rattle.plain_defs.specs.Effect.{kept_by}
 use Rattle.plain_defs.specs.PlainState.{PlainState, with_sense}
-use Rattle.plain_device.specs.Between.{EndsBy, fixed_with}
+use Rattle.plain_device.specs.declared.done.Done.{Done}
+use Rattle.plain_device.specs.Between.{ComesTo, edit_of, fixed_with}
 use Rattle.plain_device.specs.Looking.{IsLooking, IsAtLook, walk_of, IsSameWalk, GoesTo}
-use Rattle.plain_device.proofs.Looks.{HasLook, has_look}
+use Rattle.plain_device.proofs.Looks.{HasLook, has_look, without_edit}
 
 -- what is left of the command comes to what all of it comes to
 pub record IsFollowing (d : PlainState) (s now : ChainState) (track k : ℕ) : Type 0 where
@@ -58,26 +59,16 @@ nothing_left d s at =
 
 module _ (d : PlainState) (s now : ChainState) (track k : ℕ) (f : IsFollowing d s now track k) (path : ℕ) where
   -- how what is left ends is how all of it ends
-  ends_all : (after : PlainState) (then_chain : ChainState) (end : CommandEnd) → IsAtLook s.stage
-      → EndsBy d after now then_chain end (kept_by d.paths path (walk_of d now ((d.cylinders * 15) - k)))
-      → EndsBy d after s then_chain end (kept_by d.paths path (walk_of d s (d.cylinders * 15)))
-  ends_all after then_chain end at e = record {
+  ends_all : (then_chain : ChainState) (done : Done) → IsAtLook s.stage
+      → ComesTo now then_chain done (kept_by d.paths path (walk_of d now ((d.cylinders * 15) - k)))
+      → ComesTo s then_chain done (kept_by d.paths path (walk_of d s (d.cylinders * 15)))
+  ends_all then_chain done at e = record {
     end_is =
         e.end_is
         ∙ ap (λ (x : ChainState). end_with x (walk_of d now ((d.cylinders * 15) - k)).outcome) f.stands
         ∙ ap (λ (o : Outcome). end_with s o) (sym f.rest.outcome);
-    device_is =
-        e.device_is
-        ∙ ap (λ (x : Option TrackEdit). record d {
-          volume = edited_volume d.volume x;
-          paths =
-              with_sense d.paths path (walk_of d now ((d.cylinders * 15) - k)).outcome.ending.sense;
-        }) (sym f.rest.edit)
-        ∙ ap (λ (o : Outcome). record d {
-          volume = edited_volume d.volume (walk_of d s (d.cylinders * 15)).edit;
-          paths =
-              with_sense d.paths path o.ending.sense;
-        }) (sym f.rest.outcome);
+    edit_is = e.edit_is ∙ sym f.rest.edit;
+    paths_is = e.paths_is ∙ ap (λ (o : Outcome). with_sense d.paths path o.ending.sense) (sym f.rest.outcome);
     chain_is =
         e.chain_is
         ∙ ap (λ (x : ChainState). behind x (walk_of d now ((d.cylinders * 15) - k)).outcome) f.stands
@@ -90,17 +81,17 @@ module _ (d : PlainState) (s now : ChainState) (track k : ℕ) (f : IsFollowing 
   left : k < (d.cylinders * 15) → (d.cylinders * 15) - k ≡ suc ((d.cylinders * 15) - (k + 1))
   left more = omega (arith, more)
 
-  pub following_over : (after : PlainState) (then_chain : ChainState) (end : CommandEnd) → IsAtLook s.stage
+  pub following_over : (then_chain : ChainState) (done : Done) → IsAtLook s.stage
       → k < (d.cylinders * 15)
-      → ((n : ℕ) → EndsBy d after now then_chain end (kept_by d.paths path (walk_of d now (suc n))))
-      → EndsBy d after s then_chain end (kept_by d.paths path (walk_of d s (d.cylinders * 15)))
-  following_over after then_chain end at more e =
-      ends_all after then_chain end at (subst (λ (n : ℕ). EndsBy d after now then_chain end
+      → ((n : ℕ) → ComesTo now then_chain done (kept_by d.paths path (walk_of d now (suc n))))
+      → ComesTo s then_chain done (kept_by d.paths path (walk_of d s (d.cylinders * 15)))
+  following_over then_chain done at more e =
+      ends_all then_chain done at (subst (λ (n : ℕ). ComesTo now then_chain done
       (kept_by d.paths path (walk_of d now n))) (sym (left more)) (e ((d.cylinders * 15) - (k + 1))))
 
-  pub following_on : (after : PlainState) (then_chain : ChainState) (t : ℕ) → k < (d.cylinders * 15)
-      → GoesTo d after now then_chain t → IsFollowing d s then_chain t (k + 1)
-  following_on after then_chain t more g =
+  pub following_on : (then_chain : ChainState) (t : ℕ) → k < (d.cylinders * 15)
+      → GoesTo d now then_chain t → IsFollowing d s then_chain t (k + 1)
+  following_on then_chain t more g =
       let rest = g.rest ((d.cylinders * 15) - (k + 1)) in record {
         looking = record {
           fixed = subst (λ (n : ℕ). then_chain.fixed ≡ fixed_with d n)
@@ -119,20 +110,21 @@ module _ (d : PlainState) (s now : ChainState) (track k : ℕ) (f : IsFollowing 
       }
 
   -- no track is left to look at
-  pub following_none : (after : PlainState) (last : ChainState) (end : CommandEnd) → IsAtLook s.stage
+  pub following_none : (last : ChainState) (end : CommandEnd) (done : Done) → IsAtLook s.stage
       → (d.cylinders * 15) ≤ k → end ≡ end_with now (checked now equipment_sense)
       → last ≡ behind now (checked now equipment_sense)
-      → after ≡ record d { paths = with_sense d.paths path end.sense }
+      → done ≡ without_edit d path end
       → last.at.stance.commands ≡ (start_of now).stance.commands + 1
-      → EndsBy d after s last end (kept_by d.paths path (walk_of d s (d.cylinders * 15)))
-  following_none after last end at past end_is last_is after_is counted =
+      → ComesTo s last done (kept_by d.paths path (walk_of d s (d.cylinders * 15)))
+  following_none last end done at past end_is last_is done_is counted =
       let none : (d.cylinders * 15) - k ≡ 0 = omega (arith, past) in
       let w : walk_of d now ((d.cylinders * 15) - k) ≡ untouched (checked now equipment_sense) =
       ap (λ (n : ℕ). walk_of d now n) none ∙ nothing_left d now f.looking.stage in
-      ends_all after last end at (record {
-        end_is = end_is ∙ ap (λ (x : Walked). end_with now x.outcome) (sym w);
-        device_is = after_is ∙ ap (λ (e : CommandEnd). record d { paths = with_sense d.paths path e.sense }) end_is
-            ∙ ap (λ (x : Walked). behind_effect d (kept_by d.paths path x)) (sym w);
+      ends_all last done at (record {
+        end_is = ap (λ (x : Done). x.end) done_is ∙ end_is ∙ ap (λ (x : Walked). end_with now x.outcome) (sym w);
+        edit_is = ap (λ (x : Done). edit_of x.edit) done_is ∙ ap (λ (x : Walked). x.edit) (sym w);
+        paths_is = ap (λ (x : Done). x.paths) done_is ∙ ap (λ (e : CommandEnd). with_sense d.paths path e.sense) end_is
+            ∙ ap (λ (x : Walked). (kept_by d.paths path x).paths) (sym w);
         chain_is = last_is ∙ ap (λ (x : Walked). behind now x.outcome) (sym w);
         counted = counted;
       })

@@ -10,7 +10,7 @@ use Rattle.ckd_rules.specs.declared.stance.Stance.{Stance}
 use Rattle.ckd_rules.specs.Walk.{Walked, untouched, walk}
 use Rattle.plain_defs.specs.Effect.{Effect, kept_by, acted}
 use Rattle.plain_defs.specs.PlainState.{PlainState}
-use Rattle.plain_device.specs.Between.{EndsBy, fixed_with}
+use Rattle.plain_device.specs.Between.{ComesTo, IsEditOn, fixed_with}
 use Rattle.plain_device.specs.declared.device.Went.{Went}
 use Rattle.plain_device.specs.declared.device.Went.TheVariants as goes
 
@@ -52,14 +52,18 @@ pub record IsSameWalk (v w : Walked) : Type 0 where
   pub edit : v.edit ≡ w.edit
 
 -- the command goes on to another track
-pub record GoesTo (device after : PlainState) (chain then_chain : ChainState) (track : ℕ) : Type 0 where
-  pub device_is : after ≡ device
+pub record GoesTo (device : PlainState) (chain then_chain : ChainState) (track : ℕ) : Type 0 where
   pub chain_is : then_chain ≡ standing chain then_chain.at.stance
   pub rest : (n : ℕ) → IsSameWalk (walk_of device chain (suc n)) (walk_of device then_chain n)
   pub track_is : track ≡ then_chain.at.stance.track
   pub on_device : track < device.cylinders * 15
 
-abbrev pub IsWent : PlainState → ℕ → PlainState → ChainState → ChainState → Went → Type 0
-IsWent device path after chain then_chain (goes.Over end) =
-    (n : ℕ) → EndsBy device after chain then_chain end (kept_by device.paths path (walk_of device chain (suc n)))
-IsWent device path after chain then_chain (goes.On track) = GoesTo device after chain then_chain track
+abbrev pub IsWent : PlainState → ℕ → ChainState → ChainState → Went → Type 0
+IsWent device path chain then_chain (goes.Over done) =
+    (n : ℕ) → ComesTo chain then_chain done (kept_by device.paths path (walk_of device chain (suc n)))
+IsWent device path chain then_chain (goes.On track) = GoesTo device chain then_chain track
+
+-- its edit may be made
+abbrev pub FitsWent : PlainState → Went → Type 0
+FitsWent device (goes.Over done) = IsEditOn device done.edit
+FitsWent device (goes.On track) = ⊤

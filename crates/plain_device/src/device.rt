@@ -1,18 +1,18 @@
-ghost use Rattle.std.specs.Prelude.{◌≡◌, All, ◌<◌, ◌≤◌, ◌*◌, ◌+◌, [], IfOk, IfSome, IsSome, OnOk, OnErr};
+ghost use Rattle.std.specs.Prelude.{◌≡◌, All, ◌<◌, ◌≤◌, ◌*◌, ◌+◌, [], IfOk, IfSome, IsSome, None, OnOk, OnErr, length};
 ghost use Rattle.ckd_types.specs.Volume.{empty_volume};
 ghost use Rattle.ckd_chain.specs.Steps.{need_of};
-ghost use Rattle.plain_defs.specs.declared.journal.Act.TheVariants.{Loosen};
+ghost use Rattle.plain_defs.specs.declared.journal.Act.TheVariants.{Harden, Loosen};
 ghost use Rattle.plain_defs.specs.Effect.{kept_by};
-ghost use Rattle.plain_defs.specs.Loose.{act_done, cfw_lost, power_off};
+ghost use Rattle.plain_defs.specs.Loose.{act_done, cfw_lost, is_loose, power_off};
 ghost use Rattle.plain_defs.specs.PlainState.{fixed_of, empty_state, reset_path, is_admitted, with_sense};
 ghost use Rattle.plain_defs.specs.Program.{begun, acts_at, acts_done};
-ghost use Rattle.plain_device.specs.Between.{IsBetween, EndsBy, Ends, fixed_with};
-ghost use Rattle.plain_device.specs.Looking.{IsLooking, IsAtAnswer, IsWent, stage_effect, walk_of};
+ghost use Rattle.plain_device.specs.Between.{IsBetween, ComesTo, IsEditOn, Ends, behind_edit, edit_of, effect_of, fixed_with};
+ghost use Rattle.plain_device.specs.Looking.{FitsWent, IsLooking, IsAtAnswer, IsWent, stage_effect, walk_of};
 ghost use Rattle.plain_device.specs.Volume.{IsActOn};
 
-use crate::loose::{LooseImage, copies, put_back, take_out};
-use crate::paths::Paths;
+use crate::loose::{LooseImage, copies, is_among, put_back, take_out};
 use crate::volume::Images;
+use crate::{Done, Paths, Written};
 use ckd_chain::{Chain, Progress, Settled};
 use ckd_types::{Ccw, CommandEnd, FixedData, Geometry, HEADS, NoMemory, PathNo, Sense, TrackNo};
 use plain_defs::{Act, Acted};
@@ -44,7 +44,7 @@ impl Model for PlainDevice {
 /// A look at one track: the command is over, or goes on to another one.
 #[derive(Debug, Drop)]
 pub enum Went {
-    Over(CommandEnd),
+    Over(Done),
     On(TrackNo),
 }
 
@@ -117,8 +117,22 @@ impl PlainDevice {
         self.paths.reset(path);
     }
 
+    /// Whether a track is loose.
+    pub fn is_loose(&self, t: TrackNo) -> bool
+        ensures { result ≡ is_loose self.now t }
+    {
+        is_among(&self.loose, t)
+    }
+
+    /// How many tracks are loose.
+    pub fn loose_count(&self) -> usize
+        ensures { result ≡ length self.now.loose }
+    {
+        self.loose.len()
+    }
+
     /// A track becomes loose: the device keeps what it is now.
-    fn loosen(&mut self, alloc: Global, t: TrackNo) -> Result<(), NoMemory>
+    pub fn loosen(&mut self, alloc: Global, t: TrackNo) -> Result<(), NoMemory>
         requires { t < self.old.cylinders * 15 }
         ensures done { OnOk result (self.new ≡ act_done self.old (Loosen t)) }
         ensures same { OnErr result (self.new ≡ self.old) }
@@ -129,8 +143,15 @@ impl PlainDevice {
         Ok(())
     }
 
+    /// A loose track is firm again, as it is now.
+    pub fn harden(&mut self, t: TrackNo)
+        ensures { self.new ≡ act_done self.old (Harden t) }
+    {
+        take_out(&mut self.loose, t);
+    }
+
     /// All loose tracks go back to what they were, and the number is raised.
-    fn lose_loose(&mut self, alloc: Global)
+    pub fn lose_loose(&mut self, alloc: Global)
         ensures { self.new ≡ cfw_lost self.old }
     {
         let loose = replace(&mut self.loose, Vec::new(alloc));
@@ -148,7 +169,7 @@ impl PlainDevice {
         match act {
             Act::Loosen(t) => self.loosen(alloc, t),
             Act::Harden(t) => {
-                take_out(&mut self.loose, t);
+                self.harden(t);
                 Ok(())
             }
             Act::CfwLost => {
@@ -192,30 +213,41 @@ impl PlainDevice {
         Ok(())
     }
 
+    /// A command that ended so, and edits nothing.
+    fn unwritten(&self, path: PathNo, end: CommandEnd) -> Done
+        ensures { result ≡ record { end = end; edit = None; paths = with_sense self.now.paths path end.sense } }
+    {
+        let mut paths = self.paths;
+        paths.keep_sense(path, end.sense);
+        Done {
+            end,
+            edit: None,
+            paths,
+        }
+    }
+
     /// A look at the track that the command at hand is on.
     fn look(
-        &mut self,
+        &self,
         alloc: Global,
         path: PathNo,
         chain: &mut Chain,
         track: TrackNo,
     ) -> Result<Went, NoMemory>
-        requires looking { IsLooking self.old chain.old }
+        requires looking { IsLooking self.now chain.old }
         requires track { track ≡ chain.old.at.stance.track }
-        requires on_device { track < self.old.cylinders * 15 }
-        ensures went { IfOk result (IsWent self.old path self.new chain.old chain.new) }
+        requires on_device { track < self.now.cylinders * 15 }
+        ensures went { IfOk result (IsWent self.now path chain.old chain.new) }
+        ensures fits { IfOk result (FitsWent self.now) }
     {
         match chain.step(alloc, Some(self.volume.image(track)))? {
-            Progress::Ended(end) => {
-                self.paths.keep_sense(path, end.sense);
-                Ok(Went::Over(end))
-            }
+            Progress::Ended(end) => Ok(Went::Over(self.unwritten(path, end))),
             Progress::Need(next) => Ok(Went::On(next)),
             Progress::Write { track, edit } => {
-                self.volume.edit(track, edit)?;
                 let end = chain.settle(Settled::Written);
-                self.paths.keep_sense(path, end.sense);
-                Ok(Went::Over(end))
+                let mut done = self.unwritten(path, end);
+                done.edit = Some(Written { track, edit });
+                Ok(Went::Over(done))
             }
             Progress::Local(_) => unreachable!(),
         }
@@ -223,51 +255,49 @@ impl PlainDevice {
 
     /// A command that looks at tracks, from this one on. It looks at no more tracks than there are.
     fn follow(
-        &mut self,
+        &self,
         alloc: Global,
         path: PathNo,
         chain: &mut Chain,
         first: TrackNo,
-    ) -> Result<CommandEnd, NoMemory>
-        requires looking { IsLooking self.old chain.old }
+    ) -> Result<Done, NoMemory>
+        requires looking { IsLooking self.now chain.old }
         requires track { first ≡ chain.old.at.stance.track }
-        requires on_device { first < self.old.cylinders * 15 }
-        ensures ends { IfOk result (λ end. EndsBy self.old self.new chain.old chain.new end (kept_by self.old.paths path (walk_of self.old chain.old (self.old.cylinders * 15)))) }
+        requires on_device { first < self.now.cylinders * 15 }
+        ensures ends { IfOk result (λ done. ComesTo chain.old chain.new done (kept_by self.now.paths path (walk_of self.now chain.old (self.now.cylinders * 15)))) }
+        ensures fits { IfOk result (λ done. IsEditOn self.now done.edit) }
     {
         let mut track = first;
         let tracks = u16::from(self.fixed.cylinders()) * HEADS;
         for _turn in 0..tracks {
             match self.look(alloc, path, chain, track)? {
-                Went::Over(end) => return Ok(end),
+                Went::Over(done) => return Ok(done),
                 Went::On(next) => track = next,
             }
         }
         let end = chain.settle(Settled::Equipment);
-        self.paths.keep_sense(path, end.sense);
-        Ok(end)
+        Ok(self.unwritten(path, end))
     }
 
     /// A command that looks at no track.
-    fn answer(
-        &mut self,
-        alloc: Global,
-        path: PathNo,
-        chain: &mut Chain,
-    ) -> Result<CommandEnd, NoMemory>
+    fn answer(&self, alloc: Global, path: PathNo, chain: &mut Chain) -> Result<Done, NoMemory>
         requires running { IsSome chain.old.at.next }
         requires answers { IsAtAnswer chain.old.stage }
-        ensures ends { IfOk result (λ end. EndsBy self.old self.new chain.old chain.new end (stage_effect self.old path chain.old chain.old.stage)) }
+        ensures ends { IfOk result (λ done. ComesTo chain.old chain.new done (stage_effect self.now path chain.old chain.old.stage)) }
+        ensures fits { IfOk result (λ done. done.edit ≡ None) }
     {
         match chain.step(alloc, None)? {
-            Progress::Ended(end) => {
-                self.paths.keep_sense(path, end.sense);
-                Ok(end)
-            }
+            Progress::Ended(end) => Ok(self.unwritten(path, end)),
             Progress::Local(act) => {
-                let how = self.paths.act(alloc, self.fixed.geometry(), path, act)?;
+                let mut paths = self.paths;
+                let how = paths.act(alloc, self.fixed.geometry(), path, act)?;
                 let end = chain.settle(how);
-                self.paths.keep_sense(path, end.sense);
-                Ok(end)
+                paths.keep_sense(path, end.sense);
+                Ok(Done {
+                    end,
+                    edit: None,
+                    paths,
+                })
             }
             Progress::Need(_) | Progress::Write { .. } => unreachable!(),
         }
@@ -275,23 +305,49 @@ impl PlainDevice {
 
     /// The command at hand, which has begun.
     fn go_on(
-        &mut self,
+        &self,
         alloc: Global,
         path: PathNo,
         chain: &mut Chain,
         need: Option<TrackNo>,
-    ) -> Result<CommandEnd, NoMemory>
-        requires fixed { chain.old.fixed ≡ fixed_with self.old chain.old.fixed.number }
+    ) -> Result<Done, NoMemory>
+        requires fixed { chain.old.fixed ≡ fixed_with self.now chain.old.fixed.number }
         requires running { IsSome chain.old.at.next }
         requires begun { IsSome chain.old.stage }
         requires need { need ≡ need_of chain.old }
-        requires on_device { IfSome need (λ t. t < self.old.cylinders * 15) }
-        ensures ends { IfOk result (λ end. EndsBy self.old self.new chain.old chain.new end (stage_effect self.old path chain.old chain.old.stage)) }
+        requires on_device { IfSome need (λ t. t < self.now.cylinders * 15) }
+        ensures ends { IfOk result (λ done. ComesTo chain.old chain.new done (stage_effect self.now path chain.old chain.old.stage)) }
+        ensures fits { IfOk result (λ done. IsEditOn self.now done.edit) }
     {
         match need {
             Some(track) => self.follow(alloc, path, chain, track),
             None => self.answer(alloc, path, chain),
         }
+    }
+
+    /// The command at hand of a chain, to its end. The device stays as it is, until the command is settled. After want
+    /// of memory the chain is of no use.
+    pub fn attempt(&self, alloc: Global, path: PathNo, chain: &mut Chain) -> Result<Done, NoMemory>
+        requires between { IsBetween self.now chain.old }
+        ensures done { IfOk result (λ done. ComesTo chain.old chain.new done (effect_of self.now path chain.old)) }
+        ensures fits { IfOk result (λ done. IsEditOn self.now done.edit) }
+    {
+        let need = chain.need();
+        let done = self.go_on(alloc, path, chain, need)?;
+        Ok(done)
+    }
+
+    /// Makes of the device what a command came to. Takes memory only for a record behind the last one of a track.
+    pub fn settle(&mut self, edit: Option<Written>, paths: Paths) -> Result<(), NoMemory>
+        requires fits { IsEditOn self.old edit }
+        ensures device { OnOk result (self.new ≡ behind_edit self.old (edit_of edit) paths) }
+        ensures same { OnErr result (self.new ≡ self.old) }
+    {
+        if let Some(written) = edit {
+            self.volume.edit(written.track, written.edit)?;
+        }
+        self.paths = paths;
+        Ok(())
     }
 
     /// The command at hand of a chain, to its end. After want of memory device and chain are of no use.
@@ -304,8 +360,8 @@ impl PlainDevice {
         requires between { IsBetween self.old chain.old }
         ensures ends { IfOk result (Ends self.old path self.new chain.old chain.new) }
     {
-        let need = chain.need();
-        let end = self.go_on(alloc, path, chain, need)?;
+        let Done { end, edit, paths } = self.attempt(alloc, path, chain)?;
+        self.settle(edit, paths)?;
         Ok(end)
     }
 }

@@ -2,6 +2,7 @@
 #![tactic(auto)]
 
 mod device;
+mod done;
 mod law;
 mod loose;
 mod paths;
@@ -11,6 +12,7 @@ mod tests;
 mod volume;
 
 pub use device::PlainDevice;
+pub use done::{Done, Written};
 pub use law::{is_whole_at_first, is_whole_behind_a_command, is_whole_behind_an_event};
 pub use loose::LooseImage;
 pub use paths::Paths;

@@ -1,6 +1,6 @@
 ghost use Rattle.std.specs.Prelude.{◌≡◌, ◌==◌, ◌<◌, not, All, IfOk, length};
 ghost use Rattle.std.specs.List.{filter};
-ghost use Rattle.plain_defs.specs.Loose.{without, restored};
+ghost use Rattle.plain_defs.specs.Loose.{is_loose_in, without, restored};
 ghost use Rattle.plain_device.specs.Volume.{loose_of};
 
 use crate::volume::Images;
@@ -26,6 +26,18 @@ fn keep_others(loose: &mut Vec<LooseImage>, t: u16)
     ensures { loose.new.items ≡ filter (λ l. not (l.track == t)) loose.old.items }
 {
     loose.retain(|l| is_other(l, t));
+}
+
+/// Whether a track is one of them.
+pub fn is_among(loose: &[LooseImage], t: TrackNo) -> bool
+    ensures { result ≡ is_loose_in (loose_of loose.now) t }
+{
+    for l in loose {
+        if l.track.get() == t.get() {
+            return true;
+        }
+    }
+    false
 }
 
 /// A track isn't loose any more.

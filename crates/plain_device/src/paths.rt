@@ -83,6 +83,13 @@ impl Paths {
         }
     }
 
+    /// Who holds the device.
+    pub fn owner(&self) -> Option<Owner>
+        ensures { result ≡ self.now.owner }
+    {
+        self.reserve.owner()
+    }
+
     /// Keeps the sense of a path, where a command's end has one.
     pub fn keep_sense(&mut self, path: PathNo, sense: Option<Sense>)
         ensures { self.new ≡ with_sense self.old path sense }

@@ -1,9 +1,13 @@
 -- What is computed of these runs, from the definitions alone.
-use Rattle.std.proofs.Common.{◌≡◌, map, true, false, [], ◌∷◌, refl}
+use Rattle.std.proofs.Common.{◌≡◌, map, true, false, List, [], ◌∷◌, ◌++◌, refl}
 use Rattle.std.specs.Prelude.{replicate}
 use Rattle.ckd_types.specs.declared.paths.Side.TheVariants.{A, B}
+use Rattle.ckd_types.specs.declared.channel.Note.TheVariants.{Plain, IncorrectLength}
 use Rattle.plain_defs.specs.declared.journal.How.TheVariants.{Full, Cut, Checked}
-use Rattle.device_defs.proofs.Stand.{Program, ResetOf, Other}
+use Rattle.deck_plan.specs.declared.event.EventLine.TheVariants as lines
+use Rattle.deck_text.specs.DeckLines.{DeckLines}
+use Rattle.device_defs.proofs.Stand.{Program, ResetOf, Other, formats_from, write_zero}
+use Rattle.subsystem_defs.specs.Lines.{Asked}
 use Rattle.ckd_types.specs.Commands.{command_of}
 use Rattle.ckd_rules.specs.Walk.{walk}
 use Rattle.plain_defs.specs.Program.{part_of}
@@ -36,16 +40,29 @@ use Rattle.subsystem_defs.specs.Calm.{is_calm}
 use Rattle.subsystem_defs.specs.Promised.{are_explained, miss_nothing}
 use Rattle.subsystem_defs.specs.Refusals.{pair_fault, unpair_fault, suspend_fault, resume_fault, fail_fault, replace_fault}
 use Rattle.subsystem_defs.proofs.Stand.{
+  back,
+  deck,
+  go,
+  is_whole_behind,
+  line,
+  settle,
+  step,
+  two,
   Show,
   copies,
   goes,
   ending_of,
+  events_of,
   settled_goes,
   loose_by,
   items_by,
   volume,
   volumes_by,
+  without_cause,
+  fines,
   judged,
+  notes_by,
+  senses_by,
   behind_each,
   all_well,
   right,
@@ -76,6 +93,13 @@ use Rattle.subsystem_defs.proofs.Runs.{
   power_cuts_a_write,
   power_frees_the_device,
   power_takes_loose_data,
+  twelve_formats,
+  formats_go_through,
+  bypass_loads_nothing,
+  loss_in_its_own_program,
+  end_of_the_cylinder,
+  losses_without_repair,
+  read_fails,
 }
 
 pub alone_shows : Show (
@@ -233,3 +257,108 @@ unfolding command_of least count_below is_in with_number less_one answer after c
     write pair_fault unpair_fault suspend_fault resume_fault fail_fault replace_fault deed sweep happens replaced
     unpaired steps backs line_logged run_lines run_asked copies is_calm are_explained miss_nothing
 one_loss = refl
+
+-- formats and reads of them; a bypass; and what ends with unit check
+pub formats_show : Show (twelve_formats ∷ formats_go_through ∷ bypass_loads_nothing ∷ [])
+unfolding command_of least count_below is_in with_number less_one answer after counted hold work choose look follow
+    command reset power second background lose level_bytes image over settled side_lost cache_lost store_lost
+    all_firm_told waits hear all_told lend second_part start_fault start write_first write_second write_done through
+    write pair_fault unpair_fault suspend_fault resume_fault fail_fault replace_fault deed sweep happens replaced
+    unpaired steps backs line_logged run_lines run_asked copies formats_from fines
+formats_show = refl
+
+pub checks_show : Show (read_fails ∷ loss_in_its_own_program ∷ end_of_the_cylinder ∷ losses_without_repair ∷ [])
+unfolding command_of least count_below is_in with_number less_one answer after counted hold work choose look follow
+    command reset power second background lose level_bytes image over settled side_lost cache_lost store_lost
+    all_firm_told waits hear all_told lend second_part start_fault start write_first write_second write_done through
+    write pair_fault unpair_fault suspend_fault resume_fault fail_fault replace_fault deed sweep happens replaced
+    unpaired steps backs line_logged run_lines run_asked copies
+checks_show = refl
+
+-- a length that is another is noted, unless that is suppressed
+pub lengths_are_noted : notes_by twelve_formats
+    ≡ replicate 19 Plain ++ IncorrectLength ∷ replicate 5 Plain ++ IncorrectLength ∷ []
+unfolding command_of least count_below is_in with_number less_one answer after counted hold work choose look follow
+    command reset power second background lose level_bytes image over settled side_lost cache_lost store_lost
+    all_firm_told waits hear all_told lend second_part start_fault start write_first write_second write_done through
+    write pair_fault unpair_fault suspend_fault resume_fault fail_fault replace_fault deed sweep happens replaced
+    unpaired steps backs line_logged run_lines run_asked copies formats_from fines
+lengths_are_noted = refl
+
+-- the senses: equipment check, another number of cache fast write data, the end of the cylinder, file protected
+pub senses_are_told : map senses_by (track_is_lost ∷ provisional_write_is_lost ∷ loss_in_its_own_program ∷ end_of_the_cylinder ∷ [])
+    ≡ ((0x10 ∷ 0x80 ∷ 0 ∷ []) ∷ []) ∷ ((0x80 ∷ 0 ∷ 4 ∷ []) ∷ []) ∷ ((0x10 ∷ 0x80 ∷ 0 ∷ []) ∷ [])
+    ∷ ((0 ∷ 0x20 ∷ 0 ∷ []) ∷ (0 ∷ 0x04 ∷ 0 ∷ []) ∷ []) ∷ []
+unfolding command_of least count_below is_in with_number less_one answer after counted hold work choose look follow
+    command reset power second background lose level_bytes image over settled side_lost cache_lost store_lost
+    all_firm_told waits hear all_told lend second_part start_fault start write_first write_second write_done through
+    write pair_fault unpair_fault suspend_fault resume_fault fail_fault replace_fault deed sweep happens replaced
+    unpaired steps backs line_logged run_lines run_asked copies
+senses_are_told = refl
+
+pub checks_are_in_the_journal : map items_by (loss_in_its_own_program ∷ end_of_the_cylinder ∷ [])
+    ≡ (Program 1 Checked ∷ []) ∷ (Program 1 Full ∷ Program 1 Full ∷ []) ∷ []
+unfolding command_of least count_below is_in with_number less_one answer after counted hold work choose look follow
+    command reset power second background lose level_bytes image over settled side_lost cache_lost store_lost
+    all_firm_told waits hear all_told lend second_part start_fault start write_first write_second write_done through
+    write pair_fault unpair_fault suspend_fault resume_fault fail_fault replace_fault deed sweep happens replaced
+    unpaired steps backs line_logged run_lines run_asked copies
+checks_are_in_the_journal = refl
+
+-- a check behind a loss of the program's own data is explained, and counts as nothing missed; two losses without a repair aren't calm
+pub other_judgements : map judged (loss_in_its_own_program ∷ end_of_the_cylinder ∷ losses_without_repair ∷ [])
+    ≡ right true false ∷ right true false ∷ right false false ∷ []
+unfolding command_of least count_below is_in with_number less_one answer after counted hold work choose look follow
+    command reset power second background lose level_bytes image over settled side_lost cache_lost store_lost
+    all_firm_told waits hear all_told lend second_part start_fault start write_first write_second write_done through
+    write pair_fault unpair_fault suspend_fault resume_fault fail_fault replace_fault deed sweep happens replaced
+    unpaired steps backs line_logged run_lines run_asked copies is_calm are_explained miss_nothing part_of walk
+other_judgements = refl
+
+-- a check behind a failed call is explained; were no call to fail in its event, it wouldn't be
+pub check_without_a_cause : are_explained (events_of read_fails) ∷ are_explained (map without_cause (events_of read_fails)) ∷ [] ≡ true ∷ false ∷ []
+unfolding command_of least count_below is_in with_number less_one answer after counted hold work choose look follow
+    command reset power second background lose level_bytes image over settled side_lost cache_lost store_lost
+    all_firm_told waits hear all_told lend second_part start_fault start write_first write_second write_done through
+    write pair_fault unpair_fault suspend_fault resume_fault fail_fault replace_fault deed sweep happens replaced
+    unpaired steps backs line_logged run_lines run_asked copies is_calm are_explained miss_nothing part_of walk
+check_without_a_cause = refl
+
+abbrev written : DeckLines
+written = deck 4 2 (write_zero 0xc0 0 ∷ [])
+
+abbrev two_sides : DeckLines
+two_sides = two (write_zero 0xc1 0 ∷ [])
+
+abbrev paired : List Asked
+paired = line (lines.Pair 0 1) ++ settle
+
+-- repaired or not: a new volume; a fast write; cache or store down; a track that waits for its recovery, and behind it; a volume that is lost
+pub whole_volumes :
+    is_whole_behind (deck 4 2 []) [] ∷ is_whole_behind written go ∷ is_whole_behind written (go ++ line lines.FailCache)
+    ∷ is_whole_behind (deck 4 2 []) (line lines.FailStore) ∷ is_whole_behind (deck 4 2 []) (line lines.FailStore ++ line lines.RepairStore)
+    ∷ is_whole_behind written (go ++ line lines.Power) ∷ is_whole_behind written (go ++ line lines.Power ++ back)
+    ∷ is_whole_behind (deck 4 2 []) (line (lines.FailVolume 0 A)) ∷ []
+    ≡ true ∷ true ∷ false ∷ false ∷ true ∷ false ∷ true ∷ false ∷ []
+unfolding command_of least count_below is_in with_number less_one answer after counted hold work choose look follow
+    command reset power second background lose level_bytes image over settled side_lost cache_lost store_lost
+    all_firm_told waits hear all_told lend second_part start_fault start write_first write_second write_done through
+    write pair_fault unpair_fault suspend_fault resume_fault fail_fault replace_fault deed sweep happens replaced
+    unpaired steps backs line_logged run_lines run_asked copies is_calm are_explained miss_nothing
+whole_volumes = refl
+
+-- of a pair: while it is copied, and level; side B held, and going on; between the two parts of a write; a side lost, and replaced
+pub whole_pairs :
+    is_whole_behind two_sides (line (lines.Pair 0 1)) ∷ is_whole_behind two_sides paired ∷ is_whole_behind two_sides (paired ++ line (lines.Suspend 0))
+    ∷ is_whole_behind two_sides (paired ++ line (lines.Suspend 0) ++ line (lines.Resume 0))
+    ∷ is_whole_behind two_sides (paired ++ line (lines.Start 1 0) ++ step ++ step ++ step)
+    ∷ is_whole_behind two_sides (paired ++ line (lines.FailVolume 0 B))
+    ∷ is_whole_behind two_sides (paired ++ line (lines.FailVolume 0 B) ++ line (lines.Replace 0 B))
+    ∷ is_whole_behind two_sides (paired ++ line (lines.FailVolume 0 B) ++ line (lines.Replace 0 B) ++ settle) ∷ []
+    ≡ false ∷ true ∷ false ∷ true ∷ true ∷ false ∷ false ∷ true ∷ []
+unfolding command_of least count_below is_in with_number less_one answer after counted hold work choose look follow
+    command reset power second background lose level_bytes image over settled side_lost cache_lost store_lost
+    all_firm_told waits hear all_told lend second_part start_fault start write_first write_second write_done through
+    write pair_fault unpair_fault suspend_fault resume_fault fail_fault replace_fault deed sweep happens replaced
+    unpaired steps backs line_logged run_lines run_asked copies is_calm are_explained miss_nothing
+whole_pairs = refl

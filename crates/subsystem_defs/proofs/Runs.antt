@@ -1,5 +1,5 @@
 -- Whole small decks, and what their runs show.
-use Rattle.std.proofs.Common.{true, false, [], ◌∷◌, ◌++◌}
+use Rattle.std.proofs.Common.{true, false, ℕ, List, [], ◌∷◌, ◌++◌}
 use Rattle.std.specs.Prelude.{replicate}
 use Rattle.ckd_types.specs.declared.geometry.Geometry.TheVariants.{D3380}
 use Rattle.ckd_types.specs.declared.paths.Owner.TheVariants as owners
@@ -7,7 +7,8 @@ use Rattle.ckd_types.specs.declared.paths.Side.TheVariants.{A, B}
 use Rattle.deck_plan.specs.declared.event.EventLine.TheVariants as lines
 use Rattle.device_defs.specs.declared.answers.Did.TheVariants as dids
 use Rattle.device_defs.specs.declared.answers.StartFault.TheVariants as starts
-use Rattle.device_defs.proofs.Stand.{read_zero, write_zero, write_of, alone, new_data, old_data}
+use Rattle.ckd_types.specs.declared.channel.Ccw.{Ccw}
+use Rattle.device_defs.proofs.Stand.{alone, extent, format_twelve, locate, new_data, old_data, read_one, read_zero, write_of, write_zero}
 use Rattle.subsystem_defs.specs.declared.end.OrderFault.TheVariants as faults
 use Rattle.subsystem_defs.specs.Closing.{Counted, LentTo}
 use Rattle.subsystem_defs.proofs.Stand.{
@@ -29,6 +30,7 @@ use Rattle.subsystem_defs.proofs.Stand.{
   device,
   done,
   fine,
+  fines,
   first,
   gives,
   go,
@@ -339,4 +341,86 @@ power_takes_loose_data = record {
   shows = three 1 1 (fine 2 0 0) ++ done ++ three 2 1 (gives 2 old_data 0 0);
   devices = Counted 0 2 0 [] ∷ [];
   frames = ((0, 0), false) ∷ [];
+}
+
+-- a read of record 1 that doesn't tell another length
+abbrev read_on : ℕ → List Ccw
+read_on count = extent 0x40 0xc0 ∷ locate 6 1 0 1 ∷ record { command = 0x86; flags = 0x20; count = count; given = [] } ∷ []
+
+-- twelve records are formatted in the cache; a read of one of them for more bytes than it has, and for fewer
+abbrev pub twelve_formats : Sample
+twelve_formats = record {
+  deck = deck 4 2 (format_twelve ∷ read_one 4096 ∷ read_one 4097 ∷ read_on 4097 ∷ read_one 4000 ∷ []);
+  asked = go ++ go ++ go ++ go ++ go;
+  shows =
+      quiet (Started 1) ∷ fine 0 0 0 ∷ fine 1 1 0 ∷ fines 2 12 0
+      ++ three 2 0 (gives 2 (replicate 4096 0) 0 0)
+      ++ three 3 0 (quiet (End 2 0x0c 1 (replicate 4096 0)))
+      ++ three 4 0 (quiet (End 2 0x0c 1 (replicate 4096 0)))
+      ++ three 5 0 (gives 2 (replicate 4000 0) 0 0);
+  devices = Counted 0 1 0 [] ∷ [];
+  frames = ((0, 0), true) ∷ [];
+}
+
+-- without a store each is a write of the volume
+abbrev pub formats_go_through : Sample
+formats_go_through = record {
+  deck = deck 4 0 (format_twelve ∷ read_one 4096 ∷ []);
+  asked = go ++ go;
+  shows = quiet (Started 1) ∷ fine 0 0 0 ∷ fine 1 1 0 ∷ fines 2 12 1 ++ three 2 0 (gives 2 (replicate 4096 0) 0 0);
+  devices = Counted 0 1 12 [] ∷ [];
+  frames = ((0, 0), false) ∷ [];
+}
+
+-- in bypass mode nothing is loaded
+abbrev pub bypass_loads_nothing : Sample
+bypass_loads_nothing = record {
+  deck = deck 4 0 (read_zero 0xc4 0 ∷ []);
+  asked = go;
+  shows = three 1 1 (gives 2 old_data 1 0);
+  devices = Counted 0 2 0 [] ∷ [];
+  frames = [];
+}
+
+-- data of cache fast write are lost while their program runs: its next command is checked
+abbrev pub loss_in_its_own_program : Sample
+loss_in_its_own_program = record {
+  deck = deck 4 2 ((extent 0x80 0xc2 ∷ locate 1 1 0 0 ∷ record { command = 0x85; flags = 0x40; count = 8; given = new_data } ∷ alone 0x03 1 []) ∷ []);
+  asked = line (lines.Start 1 0) ++ step ++ step ++ step ++ line lines.FailCache ++ step;
+  shows = three 1 1 (fine 2 0 0) ++ done ++ quiet (End 3 0x0e 1 []) ∷ [];
+  devices = Counted 0 1 0 [] ∷ [];
+  frames = [];
+}
+
+-- a read that finds no record on the last two tracks of a cylinder, and one that would leave its extent
+abbrev pub end_of_the_cylinder : Sample
+end_of_the_cylinder = record {
+  deck = deck 4 2 ((record { command = 0x07; flags = 0x40; count = 6; given = 0 ∷ 0 ∷ 0 ∷ 0 ∷ 0 ∷ 0x0d ∷ [] } ∷ alone 0x86 8 [])
+      ∷ (record (extent 0x40 0xc0) { given = 0x40 ∷ 0xc0 ∷ 0x10 ∷ 0 ∷ 0 ∷ 0 ∷ 0 ∷ 0 ∷ 0 ∷ 0 ∷ 0 ∷ 0 ∷ 0 ∷ 0 ∷ 0 ∷ 0x0d ∷ [] }
+      ∷ locate 0x46 1 13 0 ∷ alone 0x86 8 []) ∷ []);
+  asked = go ++ go;
+  shows =
+      quiet (Started 1) ∷ fine 0 0 0 ∷ shown (End 1 0x0e 8 []) 2 0 ∷ quiet (Started 2) ∷ fine 0 0 0 ∷ fine 1 0 0 ∷ quiet (End 2 0x0e 8 []) ∷ [];
+  devices = Counted 0 2 0 [] ∷ [];
+  frames = ((0, 13), false) ∷ ((0, 14), false) ∷ [];
+}
+
+-- two losses, the second one before the first was repaired: the run isn't calm, and misses nothing
+abbrev pub losses_without_repair : Sample
+losses_without_repair = record {
+  deck = deck 4 2 (read_zero 0xc0 0 ∷ read_zero 0xc0 0 ∷ []);
+  asked = go ++ line lines.FailCache ++ line lines.FailStore ++ go;
+  shows = three 1 1 (gives 2 old_data 0 0) ++ done ++ done ++ three 2 1 (gives 2 old_data 1 0);
+  devices = Counted 0 3 0 [] ∷ [];
+  frames = [];
+}
+
+-- the first read of the volume fails
+abbrev pub read_fails : Sample
+read_fails = record {
+  deck = deck_with 4 2 (device 0 ∷ []) (record { device = 0; write = false; call = 1 } ∷ []) (first (read_zero 0xc0 0) ∷ []);
+  asked = go;
+  shows = quiet (Started 1) ∷ fine 0 0 0 ∷ shown (End 1 0x0e 16 []) 1 0 ∷ [];
+  devices = Counted 0 1 0 [] ∷ [];
+  frames = [];
 }

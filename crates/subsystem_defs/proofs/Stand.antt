@@ -1,12 +1,14 @@
 -- Small decks, and what their runs show.
-use Rattle.std.proofs.Common.{Bool, Option, Some, None, true, false, ◌≡◌, map, ℕ, zero, suc, List, [], ◌∷◌, ◌++◌}
+use Rattle.std.proofs.Common.{◌+◌, Bool, Option, Some, None, true, false, ◌≡◌, map, ℕ, zero, suc, List, [], ◌∷◌, ◌++◌}
 use Rattle.ckd_types.specs.declared.channel.Ccw.{Ccw}
 use Rattle.ckd_types.specs.declared.channel.CommandEnd.{CommandEnd}
+use Rattle.ckd_types.specs.declared.channel.Note.{Note}
+use Rattle.ckd_types.specs.declared.sense.Sense.{Sense}
 use Rattle.ckd_types.specs.declared.geometry.Geometry.TheVariants.{D3390}
 use Rattle.ckd_types.specs.declared.paths.Side.{Side}
 use Rattle.deck_plan.specs.declared.event.EventLine.{EventLine}
 use Rattle.deck_plan.specs.declared.event.EventLine.TheVariants as lines
-use Rattle.std.specs.Prelude.{length, not, ◌&&◌, ◌||◌, is_some}
+use Rattle.std.specs.Prelude.{length, not, ◌&&◌, ◌||◌, is_some, slice_index_or}
 use Rattle.track_table.specs.Tracks.{least}
 use Rattle.device_defs.specs.Contents.{by_plain}
 use Rattle.device_defs.specs.Marks.{MarksDevice, MarksStore}
@@ -32,12 +34,11 @@ use Rattle.subsystem_defs.specs.declared.end.EventEnd.{EventEnd}
 use Rattle.subsystem_defs.specs.declared.end.EventEnd.TheVariants as ends
 use Rattle.subsystem_defs.specs.declared.end.OrderFault.{OrderFault}
 use Rattle.subsystem_defs.specs.Beside.{Beside, LooseTold, beside}
-use Rattle.subsystem_defs.specs.Calm.{is_calm}
+use Rattle.subsystem_defs.specs.Calm.{is_calm, is_whole}
 use Rattle.subsystem_defs.specs.Promised.{are_explained, miss_nothing}
-use Rattle.subsystem_defs.specs.Subsystem.{devices_of}
+use Rattle.subsystem_defs.specs.Subsystem.{Mounted, devices_of}
 use Rattle.subsystem_defs.specs.Closing.{DeviceEnd, Ending, HandedOut, ending, handed_out}
 use Rattle.subsystem_defs.specs.declared.event.Event.{Event}
-use Rattle.subsystem_defs.specs.declared.event.Event.TheVariants as events
 use Rattle.subsystem_defs.specs.Decks.{DeckRun, run_asked}
 use Rattle.subsystem_defs.specs.Lines.{Asked, Once, Logged, asked_by}
 
@@ -146,7 +147,7 @@ abbrev pub step : List Asked
 step = line (lines.Step 0)
 
 abbrev pub power : List Asked
-power = Once events.Power ∷ []
+power = line lines.Power
 
 -- an end of the usual kind
 abbrev pub fine : ℕ → ℕ → ℕ → Shown
@@ -161,6 +162,11 @@ quiet line = shown line 0 0
 -- a program of three words, by the volume calls of its last two
 abbrev pub three : ℕ → ℕ → Shown → List Shown
 three n reads last = quiet (Started n) ∷ fine 0 0 0 ∷ fine 1 reads 0 ∷ last ∷ []
+
+-- so many ends of the usual kind, from a word on, with so many writes each
+unfoldable pub fines : ℕ → ℕ → ℕ → List Shown
+fines word zero writes = []
+fines word (suc n) writes = fine word 0 writes ∷ fines (word + 1) n writes
 
 unfoldable pub copies : ℕ → List Shown
 copies zero = []
@@ -245,6 +251,35 @@ loose_by x = loose_of (run_asked x.deck x.asked).events
 abbrev pub items_by : Sample → List dev.Shown
 items_by x = map dev.shown_item (items_of (run_asked x.deck x.asked).events)
 
+-- the commands that ended: their notes, and of each sense the first two bytes and the eighth
+
+abbrev pub ends_in : EventEnd → List CommandEnd
+ends_in (ends.Stepped (stepped.Ended e)) = e ∷ []
+ends_in (ends.Second (seconds.Ended e)) = e ∷ []
+ends_in _ = []
+
+abbrev pub ends_of : List Logged → List CommandEnd
+ends_of [] = []
+ends_of (x ∷ xs) = ends_in x.happened.end ++ ends_of xs
+
+abbrev pub notes_of : List CommandEnd → List Note
+notes_of [] = []
+notes_of (e ∷ es) = e.note ∷ notes_of es
+
+abbrev pub sense_in : Option Sense → List (List ℕ)
+sense_in (Some sense) = (slice_index_or sense.bytes 0 0 ∷ slice_index_or sense.bytes 1 0 ∷ slice_index_or sense.bytes 7 0 ∷ []) ∷ []
+sense_in None = []
+
+abbrev pub senses_of : List CommandEnd → List (List ℕ)
+senses_of [] = []
+senses_of (e ∷ es) = sense_in e.sense ++ senses_of es
+
+abbrev pub notes_by : Sample → List Note
+notes_by x = notes_of (ends_of (run_asked x.deck x.asked).events)
+
+abbrev pub senses_by : Sample → List (List ℕ)
+senses_by x = senses_of (ends_of (run_asked x.deck x.asked).events)
+
 -- What is handed out: device, side, calls, and of each track whether its bytes are known
 
 pub record Volume : Type 0 where
@@ -300,6 +335,23 @@ judged x = judged_run (run_asked x.deck x.asked)
 -- sound and explained
 abbrev pub right : Bool → Bool → Judged
 right calm missed = record { sound = true; explained = true; calm = calm; missed = missed }
+
+-- whether everything is repaired behind a run
+abbrev pub is_whole_behind : DeckLines → List Asked → Bool
+is_whole_behind deck asked = is_whole (run_asked deck asked).behind
+
+-- The same events, had a call failed before them
+
+abbrev pub events_of : Sample → List Logged
+events_of x = (run_asked x.deck x.asked).events
+
+abbrev pub with_a_fault : Mounted → Mounted
+with_a_fault m = record m { device = record m.device { store = record m.device.store { counts = record m.device.store.counts { failed = 1 } } } }
+
+abbrev pub without_cause : Logged → Logged
+without_cause x = record x {
+  happened = record x.happened { before = record x.happened.before { mounted = map with_a_fault x.happened.before.mounted } };
+}
 
 -- A loss anywhere in a write to a pair, and what is read behind it
 

@@ -1,9 +1,10 @@
-use Rattle.std.proofs.Common.{◌≡◌, ◌<◌, ◌≤◌, ◌*◌, ap, subst, ◌∙◌, arith}
+use Rattle.std.proofs.Common.{◌≡◌, ◌<◌, ◌≤◌, ◌*◌, sym, ap, subst, arith}
 use Rattle.plain_defs.specs.PlainState.{PlainState}
 use Rattle.plain_device.specs.declared.device.Went.{Went}
-use Rattle.plain_device.specs.Looking.{IsWent}
+use Rattle.plain_device.specs.declared.done.Done.{Done}
+use Rattle.plain_device.specs.Between.{IsEditOn}
+use Rattle.plain_device.specs.Looking.{IsWent, FitsWent}
 use Rattle.plain_device.proofs.Following.{following_over, following_none}
-use Rattle.plain_device.proofs.Kept.{kept_is}
 use Rattle.plain_device.proofs.device.PlainDevice.follow.Goals as goal
 
 pub returns-in-Over : goal.returns-in-Over
@@ -14,12 +15,10 @@ returns-in-Over c =
     omega (arith, c.loop-turn-test.true, c.from-tracks.ensures, c.cylinders.ensures.value, many) in
     record {
       ends = following_over c.args.self.now c.args.chain.now c.loop-turn.chain c.loop-turn.track c.loop-turn._turn
-          c.loop-turn.invariant.0 c.args.path c.look.new.self c.look.new.chain c.in-Over.end c.requires.looking.stage
-          more
-          (subst (λ (w : Went). IsWent c.args.self.now c.args.path c.look.new.self c.loop-turn.chain c.look.new.chain w)
-          c.in-Over.is
-          (subst (λ (d : PlainState). IsWent d c.args.path c.look.new.self c.loop-turn.chain c.look.new.chain
-          c.in_ok-end.field-0) c.loop-turn.invariant.1 c.in_ok-end.ensures.went));
+          c.loop-turn.invariant c.args.path c.look.new.chain c.in-Over.done c.requires.looking.stage more
+          (subst (λ (w : Went). IsWent c.args.self.now c.args.path c.loop-turn.chain c.look.new.chain w) c.in-Over.is
+          c.in_ok-done.ensures.went);
+      fits = subst (λ (w : Went). FitsWent c.args.self.now w) c.in-Over.is c.in_ok-done.ensures.fits;
     }
 
 pub returns : goal.returns
@@ -30,9 +29,10 @@ returns c =
     omega (arith, c.loop-turn-test.false, c.from-tracks.ensures, c.cylinders.ensures.value, many) in
     record {
       ends = following_none c.args.self.now c.args.chain.now c.loop-turn.chain c.loop-turn.track c.loop-turn._turn
-          c.loop-turn.invariant.0 c.args.path _ c.settle-end.new.self c.settle-end.result c.requires.looking.stage past
+          c.loop-turn.invariant c.args.path c.settle-end.new.self c.settle-end.result c.unwritten.result
+          c.requires.looking.stage past
           c.settle-end.ensures.end
-          c.settle-end.ensures.chain (kept_is _ c.args.self.now c.keep_sense.new.self c.args.path
-          c.settle-end.result.sense (c.self-2.view_is ∙ c.loop-turn.invariant.1) c.keep_sense.ensures)
+          c.settle-end.ensures.chain c.unwritten.ensures
           c.settle-end.ensures.counted;
+      fits = subst (λ (x : Done). IsEditOn c.args.self.now x.edit) (sym c.unwritten.ensures) tt;
     }

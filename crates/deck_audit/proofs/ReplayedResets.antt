@@ -1,0 +1,242 @@
+-- A device that is replayed, at resets, at a loss of power, and with a new volume.
+use Rattle.std.proofs.Common.{◌≡◌, ◌+◌, ◌∷◌, ◌++◌, [], ℕ, suc, List, Option, Some, None, Bool, true, false, length, cond, refl, arith, sym, ap, subst, ◌∙◌, append_assoc}
+use Rattle.std.proofs.lemmas.Bool.{eq-eqb}
+use Rattle.ckd_types.specs.declared.channel.CommandEnd.{CommandEnd}
+use Rattle.plain_defs.specs.declared.journal.How.TheVariants.{Cut}
+use Rattle.plain_defs.specs.declared.journal.Item.{Item}
+use Rattle.plain_defs.specs.declared.journal.Item.TheVariants as items
+use Rattle.plain_defs.specs.History.{History, OpenEntry, cut_by, emptied, entry_of, lost_power_in, put, reset, reset_in, resets_of, state_by}
+use Rattle.plain_defs.specs.Journal.{replay, replay_item}
+use Rattle.plain_defs.specs.Legal.{is_started, is_used}
+use Rattle.plain_defs.specs.PlainState.{PlainState, reset_path}
+use Rattle.plain_defs.specs.Program.{Part, part_of}
+use Rattle.plain_defs.proofs.JournalLaws.{replay-append}
+use Rattle.plain_device.specs.Between.{behind_edit}
+use Rattle.deck_audit.specs.declared.replayed.Running.{Running}
+use Rattle.deck_audit.specs.declared.state.HalfWrite.TheVariants.{Closed}
+use Rattle.deck_audit.specs.Device.{AuditedDevice, part_of_open, plain_end, words_of_open}
+use Rattle.deck_audit.specs.Follows.{Follows, FollowsProgram, RunsAs, WaitsAs}
+use Rattle.deck_audit.specs.History.{cut_by_power, without_power}
+use Rattle.deck_audit.specs.Replay as replayed
+use Rattle.deck_audit.specs.Replayed.{PendingState, ReplayedState}
+use Rattle.deck_audit.proofs.ReplayedActs.{device_behind, idle_program, part_next}
+use Rattle.deck_audit.proofs.ReplayedCloses.{closed_follows}
+use Rattle.deck_audit.proofs.ReplayedEnds.{ends_as, runs_as}
+
+-- the part that a cut program has, and what it makes of the device
+module _ (a : AuditedDevice) (o : OpenEntry) (more : ℕ) (p : Part)
+    (part_is : part_of (replay a.plans a.empty a.history.items) o.path (words_of_open a o) o.acts (length o.ends + more) ≡ p) where
+  cut_item : replay_item a.plans (replay a.plans a.empty a.history.items) (entry_of o (Cut (length o.ends + more))) ≡ p.state
+  cut_item = ap (λ (x : Part). x.state) part_is
+
+  -- the program's own reset cuts it
+  module _ (r : ReplayedState) (resets : WaitsAs r.waits a.history.waiting) (number_is : r.number ≡ a.number)
+      (half_is : r.half ≡ a.half) (lent_is : r.lent ≡ a.lent) (device_is : r.device ≡ p.state) where
+    device_cut : record r.device { paths = reset_path r.device.paths o.path }
+        ≡ replay a.plans a.empty (a.history.items ++ entry_of o (Cut (length o.ends + more)) ∷ items.Reset o.path ∷ [])
+    device_cut =
+        ap (λ (d : PlainState). record d { paths = reset_path d.paths o.path }) (device_is ∙ sym cut_item)
+        ∙ sym (replay-append a.plans a.empty a.history.items (entry_of o (Cut (length o.ends + more)) ∷ items.Reset o.path ∷ []))
+
+    cut_here : Follows (replayed.closed (replayed.reset_on r o.path)) (record a { history = cut_by a.history o more })
+    cut_here =
+        subst (λ (l : List Item). Follows (replayed.closed (replayed.reset_on r o.path))
+        (record a { history = record { items = l; running = None; waiting = [] } }))
+        (append_assoc a.history.items (entry_of o (Cut (length o.ends + more)) ∷ items.Reset o.path ∷ []) (resets_of a.history.waiting))
+        (closed_follows (replayed.reset_on r o.path) a
+        (a.history.items ++ entry_of o (Cut (length o.ends + more)) ∷ items.Reset o.path ∷ []) a.history.waiting resets number_is half_is
+        lent_is device_cut)
+
+    pub reset_cuts : (q : Running) → r.running ≡ Some q → q.path ≡ o.path → a.history.running ≡ Some o
+        → Follows (replayed.reset r o.path) (record a { history = reset a.history o.path more })
+    reset_cuts q runs path_is entry =
+        subst (λ (s : ReplayedState). Follows s (record a { history = reset a.history o.path more }))
+        (sym (ap (λ (x : Option Running). replayed.reset_by r o.path x) runs
+        ∙ ap (λ (b : Bool). cond b (replayed.closed (replayed.reset_on r o.path)) (replayed.wait_used r o.path))
+        (eq-eqb q.path o.path path_is)))
+        (subst (λ (h : History). Follows (replayed.closed (replayed.reset_on r o.path)) (record a { history = h }))
+        (sym (ap (λ (x : Option OpenEntry). reset_in a.history o.path more x) entry
+        ∙ ap (λ (b : Bool). cond b (cut_by a.history o more) (cond (is_used o.path false a.history.items)
+        (record a.history { waiting = put o.path a.history.waiting }) a.history)) (eq-eqb o.path o.path refl)))
+        cut_here)
+
+    -- or a loss of power does
+    pub power_cuts : Follows (replayed.cut r) (cut_by_power a o more)
+    power_cuts = record {
+      number_is = number_is;
+      device_is = device_is ∙ sym cut_item
+          ∙ sym (replay-append a.plans a.empty a.history.items (entry_of o (Cut (length o.ends + more)) ∷ []));
+      half_is = half_is;
+      lent_is = lent_is;
+      program = tt;
+    }
+
+-- behind the commands that ended
+module _ (r : ReplayedState) (a : AuditedDevice) (o : OpenEntry) (q : Running) (f : Follows r a)
+    (runs : r.running ≡ Some q) (waits_not : r.pending ≡ None) (entry : a.history.running ≡ Some o)
+    (resets : WaitsAs r.waits a.history.waiting) where
+  runs_here : RunsAs a o r.device q q.chain
+  runs_here = runs_as r a o q f runs waits_not entry
+
+  part_here : part_of (replay a.plans a.empty a.history.items) o.path (words_of_open a o) o.acts (length o.ends + 0) ≡ part_of_open a o
+  part_here =
+      let same : length o.ends + 0 ≡ length o.ends = omega arith in
+      ap (λ (k : ℕ). part_of (replay a.plans a.empty a.history.items) o.path (words_of_open a o) o.acts k) same
+
+  pub cut_follows : Follows (replayed.reset r o.path) (record a { history = reset a.history o.path 0 })
+  cut_follows = reset_cuts a o 0 (part_of_open a o) part_here r resets f.number_is f.half_is f.lent_is runs_here.at.device_is q runs
+      runs_here.path_is entry
+
+  pub cut_by_power_follows : Follows (replayed.cut r) (cut_by_power a o 0)
+  cut_by_power_follows = power_cuts a o 0 (part_of_open a o) part_here r resets f.number_is f.half_is f.lent_is runs_here.at.device_is
+
+-- or with one command more, whose effect it then has
+module _ (r : ReplayedState) (a : AuditedDevice) (o : OpenEntry) (q : Running) (w : PendingState) (f : Follows r a)
+    (runs : r.running ≡ Some q) (waits : r.pending ≡ Some w) (entry : a.history.running ≡ Some o)
+    (e : CommandEnd) (plain : plain_end a o ≡ Some e) (resets : WaitsAs r.waits a.history.waiting) where
+  part_more : part_of (replay a.plans a.empty a.history.items) o.path (words_of_open a o) o.acts (length o.ends + 1)
+      ≡ part_of (replay a.plans a.empty a.history.items) o.path (words_of_open a o) o.acts (suc (length o.ends))
+  part_more =
+      let same : length o.ends + 1 ≡ suc (length o.ends) = omega arith in
+      ap (λ (k : ℕ). part_of (replay a.plans a.empty a.history.items) o.path (words_of_open a o) o.acts k) same
+
+  abbrev has_it : ReplayedState
+  has_it = record r { device = behind_edit r.device w.edit w.paths; pending = None }
+
+  device_more : behind_edit r.device w.edit w.paths
+      ≡ (part_of (replay a.plans a.empty a.history.items) o.path (words_of_open a o) o.acts (suc (length o.ends))).state
+  device_more = device_behind r a o q w f runs waits entry e plain
+      ∙ ap (λ (x : Part). x.state) (sym (part_next r a o q w f runs waits entry e plain))
+
+  settled_is : replayed.settled r ≡ record r { device = behind_edit r.device w.edit w.paths; pending = None }
+  settled_is = ap (λ (x : Option PendingState). replayed.settled_by r x) waits
+
+  pub cut_more_follows : Follows (replayed.reset (replayed.settled r) o.path) (record a { history = reset a.history o.path 1 })
+  cut_more_follows =
+      subst (λ (s : ReplayedState). Follows (replayed.reset s o.path) (record a { history = reset a.history o.path 1 })) (sym settled_is)
+      (reset_cuts a o 1 (part_of (replay a.plans a.empty a.history.items) o.path (words_of_open a o) o.acts (suc (length o.ends)))
+      part_more (record r { device = behind_edit r.device w.edit w.paths; pending = None }) resets f.number_is f.half_is f.lent_is
+      device_more q runs (ends_as r a o q w f runs waits entry).runs.path_is entry)
+
+  pub cut_more_by_power_follows : Follows (replayed.cut (replayed.settled r)) (cut_by_power a o 1)
+  cut_more_by_power_follows =
+      subst (λ (s : ReplayedState). Follows (replayed.cut s) (cut_by_power a o 1)) (sym settled_is)
+      (power_cuts a o 1 (part_of (replay a.plans a.empty a.history.items) o.path (words_of_open a o) o.acts (suc (length o.ends)))
+      part_more (record r { device = behind_edit r.device w.edit w.paths; pending = None }) resets f.number_is f.half_is f.lent_is
+      device_more)
+
+-- While no program runs
+
+module _ (r : ReplayedState) (a : AuditedDevice) (f : Follows r a) (idle : a.history.running ≡ None) where
+  idle_is : FollowsProgram a r.device r.running r.pending None
+  idle_is = subst (λ (x : Option OpenEntry). FollowsProgram a r.device r.running r.pending x) idle f.program
+
+  device_idle : r.device ≡ replay a.plans a.empty a.history.items
+  device_idle = f.device_is ∙ ap (λ (x : Option OpenEntry). state_by a.plans (replay a.plans a.empty a.history.items) x) idle
+
+  runs_not : (running : Option Running) (pending : Option PendingState) → FollowsProgram a r.device running pending None → running ≡ None
+  runs_not None pending p = refl
+  runs_not (Some q) None p = absurd p
+  runs_not (Some q) (Some w) p = absurd p
+
+  -- with one item more
+  item_more : (x : Item) (s : ReplayedState) → s.number ≡ a.number → s.half ≡ a.half → s.lent ≡ a.lent → s.running ≡ r.running
+      → s.device ≡ replay_item a.plans r.device x
+      → Follows s (record a { history = record a.history { items = a.history.items ++ x ∷ []; running = None } })
+  item_more x s number_is half_is lent_is same device_is = record {
+    number_is = number_is;
+    device_is = device_is ∙ ap (λ (d : PlainState). replay_item a.plans d x) device_idle
+        ∙ sym (replay-append a.plans a.empty a.history.items (x ∷ []));
+    half_is = half_is;
+    lent_is = lent_is;
+    program = program_more (s.running) (s.pending) (same ∙ runs_not r.running r.pending idle_is);
+  } where
+    program_more : (running : Option Running) (pending : Option PendingState) → running ≡ None
+        → FollowsProgram (record a { history = record a.history { items = a.history.items ++ x ∷ []; running = None } }) s.device running pending None
+    program_more None pending none = tt
+    program_more (Some q) pending none = absurd (cc)
+
+  with_none : (s : ReplayedState) (l : List Item) → Follows s (record a { history = record a.history { items = l; running = None } })
+      → Follows s (record a { history = record a.history { items = l } })
+  with_none s l is = subst (λ (x : Option OpenEntry). Follows s (record a { history = record a.history { items = l; running = x } })) (sym idle) is
+
+  by_use : (path more : ℕ) (b : Bool) → Follows (cond b (replayed.reset_on r path) r)
+      (record a { history = cond b (record a.history { items = a.history.items ++ items.Reset path ∷ [] }) a.history })
+  by_use path more true = with_none (replayed.reset_on r path) (a.history.items ++ items.Reset path ∷ [])
+      (item_more (items.Reset path) (replayed.reset_on r path) f.number_is f.half_is f.lent_is refl refl)
+  by_use path more false = f
+
+  -- a reset of a path that used something
+  pub reset_follows : (path more : ℕ) → replayed.is_used_on r path ≡ is_used path false a.history.items
+      → Follows (replayed.reset r path) (record a { history = reset a.history path more })
+  reset_follows path more used =
+      subst (λ (s : ReplayedState). Follows s (record a { history = reset a.history path more }))
+      (sym (ap (λ (x : Option Running). replayed.reset_by r path x) (runs_not r.running r.pending idle_is)))
+      (subst (λ (h : History). Follows (replayed.reset_used r path) (record a { history = h }))
+      (sym (ap (λ (x : Option OpenEntry). reset_in a.history path more x) idle))
+      (subst (λ (b : Bool). Follows (cond b (replayed.reset_on r path) r) (record a {
+        history =
+            cond (is_used path false a.history.items) (record a.history { items = a.history.items ++ items.Reset path ∷ [] }) a.history;
+      }))
+      (sym used) (by_use path more (is_used path false a.history.items))))
+
+  -- a new volume
+  pub fresh_follows : Follows (replayed.given_back r) (record a { history = emptied a.history; lent = None })
+  fresh_follows =
+      let more = item_more items.Fresh (record (replayed.given_back r) { lent = r.lent }) f.number_is f.half_is f.lent_is refl refl in
+      subst (λ (x : Option OpenEntry). Follows (replayed.given_back r) (record a
+      { history = record a.history { items = a.history.items ++ items.Fresh ∷ []; running = x }; lent = None })) (sym idle)
+      (record {
+        number_is = more.number_is;
+        device_is = more.device_is;
+        half_is = more.half_is;
+        lent_is = refl;
+        program = idle_program (record a { history = record a.history { items = a.history.items ++ items.Fresh ∷ []; running = None } })
+            (record a { history = record a.history { items = a.history.items ++ items.Fresh ∷ []; running = None }; lent = None })
+            (replayed.given_back r).device (replayed.given_back r).device r.running None more.program;
+      })
+
+  by_power : (b : Bool) → Follows (cond b (replayed.dark r) (record r { half = Closed }))
+      (record a { history = cond b (record { items = a.history.items ++ items.Power ∷ []; running = None; waiting = [] }) a.history; half = Closed })
+  by_power true =
+      let more = item_more items.Power (record (replayed.dark r) { half = r.half }) f.number_is f.half_is f.lent_is refl refl in
+      record {
+        number_is = more.number_is;
+        device_is = more.device_is;
+        half_is = refl;
+        lent_is = more.lent_is;
+        program = idle_program (record a { history = record a.history { items = a.history.items ++ items.Power ∷ []; running = None } })
+            (record a { history = record { items = a.history.items ++ items.Power ∷ []; running = None; waiting = [] }; half = Closed })
+            (replayed.dark r).device (replayed.dark r).device r.running None more.program;
+      }
+  by_power false =
+      subst (λ (x : Option OpenEntry). Follows (record r { half = Closed }) (record a { history = record a.history { running = x }; half = Closed }))
+      (sym idle)
+      (record {
+        number_is = f.number_is;
+        device_is = device_idle;
+        half_is = refl;
+        lent_is = f.lent_is;
+        program = idle_program a (record a { history = record a.history { running = None }; half = Closed }) r.device r.device
+            r.running r.pending idle_is;
+      })
+
+  -- a loss of power, which before the first start changes nothing
+  pub power_follows : r.powered ≡ is_started false a.history.items → Follows (replayed.without_power r) (without_power a)
+  power_follows powered =
+      subst (λ (h : History). Follows (replayed.without_power r) (record a { history = h; half = Closed }))
+      (sym (ap (λ (x : Option OpenEntry). lost_power_in (record a.history { running = x }) 0 x) idle))
+      (subst (λ (b : Bool). Follows (cond b (replayed.dark r) (record r { half = Closed }))
+      (record a {
+        history = cond (is_started false a.history.items)
+            (record { items = a.history.items ++ items.Power ∷ []; running = None; waiting = [] }) (record a.history { running = None });
+        half = Closed;
+      }))
+      (sym powered)
+      (subst (λ (x : Option OpenEntry). Follows (cond (is_started false a.history.items) (replayed.dark r) (record r { half = Closed }))
+      (record a {
+        history = cond (is_started false a.history.items)
+            (record { items = a.history.items ++ items.Power ∷ []; running = None; waiting = [] }) (record a.history { running = x });
+        half = Closed;
+      }))
+      idle (by_power (is_started false a.history.items))))

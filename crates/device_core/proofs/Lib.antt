@@ -1,0 +1,5 @@
+pub mod Stepping
+pub mod Rests
+pub mod Endings
+pub mod Begun
+pub mod Whole

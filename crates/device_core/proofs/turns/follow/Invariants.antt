@@ -1,0 +1,18 @@
+use Rattle.std.proofs.Common.{◌≡◌, ◌-◌, ◌*◌, ◌<◌}
+use Rattle.device_defs.specs.Command.{follow}
+use Rattle.device_defs.specs.Contents.{contents}
+use Rattle.device_store.specs.State.{state_of, outside, surely, Takes, Rest}
+use Rattle.device_core.specs.Turns.{IsAt, IsSameHand, maybe}
+use Rattle.device_core.proofs.turns.follow.Given as goal
+
+abbrev pub invariant-loop-turn : goal.invariant-loop-turn
+invariant-loop-turn g l = record {
+  number : l.store.number ≡ l.fn.store.number;
+  cylinders : l.store.cylinders ≡ l.fn.store.cylinders;
+  takes : Takes g.K.Keep.takes l.keep l.store.number (l.store.cylinders * 15);
+  at : IsAt l.fn.store.cylinders l.chain;
+  hand : IsSameHand l.fn.chain l.chain;
+  inside : l.t < l.fn.store.cylinders * 15;
+  rest : Rest surely g.K.Keep.hears (follow contents (l.fn.store.cylinders * 15 - l._turn) l.fn.first l.chain l.t (state_of l.store)) (outside (g.P.Port.view l.port) l.store l.keep) (follow contents (l.fn.store.cylinders * 15) l.fn.first l.fn.chain l.fn.first (state_of l.fn.store)) (outside (g.P.Port.view l.fn.port) l.fn.store l.fn.keep);
+  lacks : Rest maybe g.K.Keep.hears (follow contents (l.fn.store.cylinders * 15 - l._turn) l.fn.first l.chain l.t (state_of l.store)) (outside (g.P.Port.view l.port) l.store l.keep) (follow contents (l.fn.store.cylinders * 15) l.fn.first l.fn.chain l.fn.first (state_of l.fn.store)) (outside (g.P.Port.view l.fn.port) l.fn.store l.fn.keep);
+}

@@ -1,0 +1,51 @@
+use Rattle.std.proofs.Common.{refl, ap, sym, subst, Some}
+use Rattle.device_outside.specs.Outside.{done}
+use Rattle.device_outside.proofs.Runs.{ended, joined}
+use Rattle.device_defs.specs.Command.{Over, looked}
+use Rattle.device_defs.specs.Contents.{contents}
+use Rattle.device_defs.specs.Memory.{had_by}
+use Rattle.device_store.proofs.Moves.{weaker}
+use Rattle.device_core.specs.Turns.{Left}
+use Rattle.device_core.proofs.turns.look.Goals as goal
+use Rattle.device_defs.specs.Command.{look}
+
+pub returns-then-has-clause-run : goal.returns-then-has-clause-run
+unfolding look
+returns-then-has-clause-run g c = rw (← c.has.ensures, c.if-has.true) (ended refl (ap (λ x. Some (Over x)) (sym c.check.ensures.turn)))
+
+pub returns-in-Err-clause-run : goal.returns-in-Err-clause-run
+unfolding look
+returns-in-Err-clause-run g c =
+    rw (← c.has.ensures, c.if-has.false) (joined (had_by (looked contents c.args.chain.now c.args.first c.args.t))
+    (rw c.usage_of-usage.ensures at c.in-Err.ensures.run) done)
+
+pub returns-in-NoBytes-clause-run : goal.returns-in-NoBytes-clause-run
+unfolding look
+returns-in-NoBytes-clause-run g c =
+    rw (← c.has.ensures, c.if-has.false) (joined (had_by (looked contents c.args.chain.now c.args.first c.args.t))
+    (rw (c.in-NoBytes.is, c.usage_of-usage.ensures) at c.in-Ok.ensures.run)
+    (ended refl (ap (λ x. Some (Over x)) (sym c.check-in-NoBytes.ensures.turn))))
+
+pub returns-in-BadTrack-clause-run : goal.returns-in-BadTrack-clause-run
+unfolding look
+returns-in-BadTrack-clause-run g c =
+    rw (← c.has.ensures, c.if-has.false) (joined (had_by (looked contents c.args.chain.now c.args.first c.args.t))
+    (rw (c.in-BadTrack.is, c.usage_of-usage.ensures) at c.in-Ok.ensures.run)
+    (ended refl (ap (λ x. Some (Over x)) (sym c.check_data.ensures.turn))))
+
+pub returns-in-Has-clause-run : goal.returns-in-Has-clause-run
+unfolding look
+returns-in-Has-clause-run g c =
+    rw (← c.has.ensures, c.if-has.false) (joined (had_by (looked contents c.args.chain.now c.args.first c.args.t))
+    (weaker c.on_image.result (rw (c.in-Has.is, c.usage_of-usage.ensures) at c.in-Ok.ensures.run)) c.on_image.ensures.run)
+
+pub returns-then-has-clause-goes : goal.returns-then-has-clause-goes
+returns-then-has-clause-goes g c = subst (λ n. Left n c.check.new.chain c.check.result) c.requires.at.cylinders_are c.check.ensures.left
+
+pub returns-in-NoBytes-clause-goes : goal.returns-in-NoBytes-clause-goes
+returns-in-NoBytes-clause-goes g c =
+    subst (λ n. Left n c.check-in-NoBytes.new.chain c.check-in-NoBytes.result) c.requires.at.cylinders_are c.check-in-NoBytes.ensures.left
+
+pub returns-in-BadTrack-clause-goes : goal.returns-in-BadTrack-clause-goes
+returns-in-BadTrack-clause-goes g c =
+    subst (λ n. Left n c.check_data.new.chain c.check_data.result) c.requires.at.cylinders_are c.check_data.ensures.left

@@ -1,0 +1,10 @@
+use Rattle.std.proofs.Common.{ap}
+use Rattle.ckd_chain.specs.State.{ChainState}
+use Rattle.device_core.proofs.Stepping.{ready_behind}
+use Rattle.device_core.proofs.turns.wrote.Goals as goal
+
+pub returns-in-Whole-clause-left : goal.returns-in-Whole-clause-left
+returns-in-Whole-clause-left c = record {
+  cylinders_are = ap (λ (x : ChainState). x.fixed.cylinders) c.settle.ensures.chain;
+  goes = ready_behind c.args.chain.now c.settle.new.self _ c.settle.result c.settle.ensures.end c.settle.ensures.chain;
+}

@@ -1,0 +1,91 @@
+-- What a device is in the definitions, and how its answers are seen.
+use Rattle.std.specs.Prelude.{◌≡◌, ℕ, ◌-◌, List, [], length, slice_get, Option, None, Some, Result, Ok, Err, option_map}
+use Rattle.ckd_types.specs.declared.channel.CommandEnd.{CommandEnd}
+use Rattle.ckd_chain.specs.State.{ChainState}
+use Rattle.plain_defs.specs.declared.journal.Item.{Item}
+use Rattle.plain_defs.specs.declared.journal.Item.TheVariants.{Program}
+use Rattle.plain_defs.specs.History.{OpenEntry, History}
+use Rattle.plain_defs.specs.Journal.{Plans}
+use Rattle.plain_defs.specs.PlainState.{PathsState}
+use Rattle.track_image.specs.Image.{Image}
+use Rattle.track_cache.specs.declared.frames.Frame.{Frame}
+use Rattle.nv_store.specs.declared.patches.Stored.{Stored}
+use Rattle.device_outside.specs.declared.volume.Volume.{Ghosts}
+use Rattle.device_defs.specs.declared.answers.Stepped as defs
+use Rattle.ckd_chain.specs.declared.progress.Progress.{Progress}
+use Rattle.ckd_types.specs.declared.geometry.Geometry.{Geometry}
+use Rattle.device_defs.specs.declared.answers.Came.{Came}
+use Rattle.device_defs.specs.Command.{answered_by}
+use Rattle.device_defs.specs.Contents.{contents}
+use Rattle.device_defs.specs.Outcomes.{turned, told_step}
+use Rattle.device_outside.specs.Interaction.{Done}
+use Rattle.device_core.specs.Turns.{turn_with}
+use Rattle.device_defs.specs.declared.answers.Stepped.TheVariants as answers
+use Rattle.device_defs.specs.Device as definitions
+use Rattle.device_defs.specs.Store.{Store}
+use Rattle.device_store.specs.State.{state_of}
+use Rattle.device_core.specs.declared.device.Device.{Device}
+use Rattle.device_core.specs.declared.past.Past.{Past}
+use Rattle.device_core.specs.declared.past.Running.{Running}
+use Rattle.device_core.specs.declared.past.Stepped.{Stepped}
+use Rattle.device_core.specs.declared.past.Stepped.TheVariants as steps
+
+-- no act of cache fast write comes to it yet
+abbrev pub open_of : Running → OpenEntry
+open_of r = record { path = r.path; ordinal = r.ordinal; ends = r.ends.items; acts = [] }
+
+abbrev pub chain_of : Running → ChainState
+chain_of r = r.chain
+
+abbrev pub history_of : Past → History
+history_of p = record { items = p.items.items; running = option_map open_of p.running; waiting = p.waiting.items }
+
+abbrev pub device_by : Store Frame Stored Image → PathsState → Plans → Past → definitions.Device Frame Stored Image
+device_by s paths plans p = record { store = s; paths = paths; plans = plans; history = history_of p; chain = option_map chain_of p.running }
+
+abbrev pub device_of : {V : Type 0} {G : Ghosts V} → Device V G → definitions.Device Frame Stored Image
+device_of d = device_by (state_of d.store) d.paths d.plans d.past
+
+-- The end of the command that ended last: of the program that runs, or of the one that ended last
+
+abbrev pub last_of : List CommandEnd → Option CommandEnd
+last_of ends = slice_get ends (length ends - 1)
+
+abbrev pub last_of_item : Option Item → Option CommandEnd
+last_of_item (Some (Program e)) = last_of e.ends
+last_of_item _ = None
+
+abbrev pub last_by : Past → Option Running → Option CommandEnd
+last_by p (Some r) = last_of r.ends.items
+last_by p None = last_of_item (slice_get p.items.items p.last)
+
+abbrev pub last_end_of : Past → Option CommandEnd
+last_end_of p = last_by p p.running
+
+-- an answer, whose end stands in the journal
+abbrev pub step_seen : Past → Stepped → Option defs.Stepped
+step_seen p steps.Ended = option_map answers.Ended (last_end_of p)
+step_seen p (steps.Half t) = Some (answers.Half t)
+
+abbrev pub step_had : {E : Type 0} → Past → Result Stepped E → Option defs.Stepped
+step_had p (Ok s) = step_seen p s
+step_had p (Err e) = None
+
+-- The device behind a command of a path that came out, or for which memory was lacking
+
+abbrev pub DefinedDevice : Type 0
+DefinedDevice = definitions.Device Frame Stored Image
+
+abbrev pub came_to : {E : Type 0} → DefinedDevice → ℕ → ChainState → Result Came E → DefinedDevice
+came_to d path chain (Ok came) = turned d path (turn_with chain came)
+came_to d path chain (Err e) = record d { chain = Some chain }
+
+abbrev pub told : {E : Type 0} → Result Came E → Option defs.Stepped
+told (Ok came) = Some (told_step came)
+told (Err e) = None
+
+-- what a step without a track came to, with what the device made of its paths
+pub record Answers (g : Geometry) (old new : PathsState) (path : ℕ) (chain : ChainState) (progress : Progress) (behind : ChainState) (came : Came) : Type 0
+  where
+    pub is : (d : DefinedDevice) → d.store.geometry ≡ g → d.paths ≡ old →
+        answered_by contents d path chain progress ≡ Done (turned (record d { paths = new }) path (turn_with behind came)) (Some (told_step came))

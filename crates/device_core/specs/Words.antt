@@ -1,0 +1,14 @@
+-- A chain between two commands of a program that runs.
+use Rattle.std.specs.Prelude.{◌≡◌, ℕ, IsSome}
+use Rattle.ckd_chain.specs.State.{ChainState}
+use Rattle.ckd_chain.specs.Steps.{opened}
+
+-- it is at a word, and so it is where it goes back to for want of memory
+pub record IsReady (chain : ChainState) : Type 0 where
+  pub running : IsSome chain.at.next
+  pub back : IsSome (opened chain).before.next
+
+-- on a device of so many cylinders
+pub record IsAtWord (cylinders : ℕ) (chain : ChainState) : Type 0 where
+  pub ready : IsReady chain
+  pub cylinders_are : chain.fixed.cylinders ≡ cylinders

@@ -1,0 +1,19 @@
+ghost use Rattle.std.specs.Prelude.{◌≡◌, IfSome};
+ghost use Rattle.std.proofs.Props.{props};
+ghost use Rattle.device_core.specs.Words.{IsAtWord};
+
+use crate::past::Past;
+use deck_plan::PathPlans;
+use device_outside::Volume;
+use device_store::DeviceStore;
+use plain_device::Paths;
+
+/// A device: its tracks, what is kept of its paths, the programs that are planned for them, and what happened to it.
+#[derive(Drop)]
+pub struct Device<V: Volume> {
+    pub store: DeviceStore<V>,
+    pub paths: Paths,
+    pub plans: PathPlans,
+    pub past: Past,
+    pub ghost at_word: { IfSome past.running (λ r. IsAtWord store.cylinders r.chain) } by { Prim.hlevel props },
+}

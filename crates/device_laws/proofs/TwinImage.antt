@@ -1,0 +1,296 @@
+-- The image of a track is the plain one, and a device and its twin on marks ask the same for it.
+use Rattle.std.proofs.Common.{◌≡◌, ◌≢◌, ◌<◌, ◌+◌, ◌||◌, ℕ, Bool, true, false, List, [], Option, Some, None, is_some, get_or, refl, sym, ap, subst, ◌∙◌, arith, ◌⊎◌, inl, inr}
+use Rattle.std.proofs.lemmas.Bool.{cases_eq}
+use Rattle.std.specs.Prelude.{option_map, if◌then◌else◌}
+use Rattle.ckd_types.specs.declared.parameters.Mode.{Mode}
+use Rattle.ckd_types.specs.declared.paths.Side.{Side}
+use Rattle.ckd_types.specs.declared.paths.Side.TheVariants.{A, B}
+use Rattle.ckd_types.specs.declared.record.Track.{Track}
+use Rattle.ckd_types.specs.Parameters.{is_bypass}
+use Rattle.ckd_types.specs.Volume.{track_in}
+use Rattle.track_image.specs.Image.{Image}
+use Rattle.track_cache.specs.declared.frames.Frame.{Frame}
+use Rattle.device_outside.specs.Both.{Both, both_try, both_read}
+use Rattle.device_outside.specs.Interaction.{Interaction, Done}
+use Rattle.device_outside.proofs.BothRules.{on_test, on_tests}
+use Rattle.device_defs.specs.declared.usage.Usage.{Usage}
+use Rattle.device_defs.specs.Contents.{contents, by_plain, patched_by, image_read}
+use Rattle.device_defs.specs.Image as I
+use Rattle.device_defs.specs.Image.{
+  Got,
+  got,
+  Imaged,
+  Has,
+  NoBytes,
+  BadTrack,
+  first_fault,
+  loads,
+  read_counted,
+  read_side,
+  second_read,
+  read_b,
+  first_read,
+  level_bytes,
+  image_of,
+  framed,
+  filled,
+  granted,
+  loaded,
+  ahead,
+  delivered,
+  missed,
+  miss,
+  hit,
+  clean_image,
+  image_by,
+  image,
+}
+use Rattle.device_defs.specs.Marks.{MarksStore, marks_of, frame_mark, patch_mark}
+use Rattle.device_defs.specs.Sound.{DeviceStore}
+use Rattle.device_defs.specs.Store.{tracks_of, level_at, has_level, frame_at, patch_at, is_lost, is_loose, half_is, with_frame}
+use Rattle.nv_store.specs.declared.patches.Stored.{Stored}
+use Rattle.device_laws.specs.Agrees.{Held, image_in}
+use Rattle.device_laws.specs.Twin.{Twin, Twins}
+use Rattle.device_laws.proofs.Changes as D
+use Rattle.device_laws.proofs.ContentChanges as C
+use Rattle.device_laws.proofs.ContentChanges.{
+  base_of,
+  Altered,
+  altered_frame,
+  slot_of,
+  by_track,
+  unseen_slots,
+  sits_still,
+  Unseen,
+  unseen_right,
+  right_altered,
+  Sure,
+}
+use Rattle.device_laws.proofs.FailedCall.{IsWell, Goes, goes_on, failed_call_keeps_good}
+use Rattle.device_laws.proofs.SoundEvents.{well_is_nowhere}
+use Rattle.device_laws.proofs.TrackContents as T
+use Rattle.device_laws.proofs.TrackContents.{TrackContents, contents_at, FrameHas, Keeps}
+use Rattle.device_laws.proofs.TrackImage.{Reads, level_bytes_keeps_good}
+use Rattle.device_laws.proofs.TrackMarks as M
+use Rattle.device_laws.proofs.TrackMarks.{track_at, device_is_faithful}
+use Rattle.device_laws.proofs.TwinAsks.{
+  ask_modified,
+  ask_touch,
+  ask_frame,
+  Stays,
+  stays_same,
+  stays_on,
+  stays_by,
+  stays_fell,
+  stays_image,
+  stays_off,
+  InOrder,
+  Ordered,
+  keeps_at,
+  right_keeps,
+}
+use Rattle.device_laws.proofs.TwinChanges.{frame_twin, patch_twin, has_patch_twin, with_frame_twin}
+use Rattle.device_laws.proofs.TwinFailed.{fell, Failed, failed_twin}
+use Rattle.device_laws.proofs.TwinSettled.{AllTold}
+use Rattle.device_laws.proofs.TwinWalks.{twin_done, twin_ends, twin_then, twin_always, twin_weaker}
+use Rattle.device_laws.proofs.WholeImage.{unframed_is_firm, clean_is_firm}
+
+-- Reads
+
+counted_order : (v w : List Track) (s : DeviceStore) (h : Held) (ok : Bool) → InOrder v w s h → InOrder v w (read_counted s ok) h
+unfolding T.contents_at C.base_of M.track_at D.rest_of
+counted_order v w s h ok i = record {
+  sure = unseen_right None v w s h (read_counted s ok) h i.sure
+      (record { sizes = record { are = i.well.sizes.are }; base = refl; same = λ q. refl; slots = refl });
+  told = i.told;
+  well = record {
+    sizes = record { are = i.well.sizes.are };
+    here = record { free = i.well.here.free; alone = i.well.here.alone; within = i.well.here.within };
+    good = i.well.good;
+    kept = i.well.kept;
+  };
+}
+
+-- what was delivered is the track without data of cache fast write
+abbrev pub Delivers : List Track → DeviceStore → ℕ → Option (List ℕ) → Option Bool → Type 0
+Delivers w z t None None = Unit {0}
+Delivers w z t (Some r) (Some b) = (b ≡ true) × (patched_by (patch_at z t) (image_read z.geometry t r) ≡ Some (image_in z w t))
+Delivers w z t None (Some b) = ⊥
+Delivers w z t (Some r) None = ⊥
+
+pub record GotTwin (u : List Track) (s : DeviceStore) (t : ℕ) (v w : List Track) (z : DeviceStore) (g : Got (List ℕ)) (m : Got Bool) (k : Held) : Type 0 where
+  pub order : Ordered v w z k
+  pub plain : v ≡ u
+  pub stays : Stays s z
+  pub bytes : Delivers w z t g.bytes m.bytes
+  pub side : g.side ≡ m.side
+  pub fault : g.fault ≡ m.fault
+
+loose_mark : (s : DeviceStore) (t : ℕ) → (track_at contents s t).loose ≡ is_loose s t
+unfolding M.track_at
+loose_mark s t = refl
+
+-- a level track isn't lost
+pub not_lost : (s : DeviceStore) (t : ℕ) → t < tracks_of s → IsWell contents s → has_level s t ≡ true → is_lost s t ≡ false
+not_lost s t lt w level = by_case (is_lost s t) refl
+  where
+    by_case : (b : Bool) → is_lost s t ≡ b → b ≡ false
+    by_case true e = absurd (let f = well_is_nowhere contents s t w lt e in cc)
+    by_case false e = refl
+
+or_left : (x y : Bool) → x ≡ true → (x || y) ≡ true
+or_left true y e = refl
+or_left false y e = absurd (cc)
+
+or_right : (x y : Bool) → y ≡ true → (x || y) ≡ true
+or_right true y e = refl
+or_right false y e = e
+
+side_a : (v w : List Track) (s : DeviceStore) (h : Held) (t : ℕ) → InOrder v w s h → t < tracks_of s → half_is s.half t ≡ false → level_at s.a t ≡ true →
+    patched_by (patch_at s t) (image_read s.geometry t (get_or h.a t [])) ≡ Some (image_in s w t)
+unfolding T.contents_at
+side_a v w s h t i lt off level = (keeps_at v w s h t i.sure lt (not_lost s t lt i.well (or_left (level_at s.a t) (level_at s.b t) level)) off).a level
+
+side_b : (v w : List Track) (s : DeviceStore) (h : Held) (t : ℕ) → InOrder v w s h → t < tracks_of s → half_is s.half t ≡ false → level_at s.b t ≡ true →
+    patched_by (patch_at s t) (image_read s.geometry t (get_or h.b t [])) ≡ Some (image_in s w t)
+unfolding T.contents_at
+side_b v w s h t i lt off level = (keeps_at v w s h t i.sure lt (not_lost s t lt i.well (or_right (level_at s.a t) (level_at s.b t) level)) off).b level
+
+failed_stays : (h : Held) (u : List Track) (s : DeviceStore) (side : Side) (v w : List Track) (z : DeviceStore) (k : Held) →
+    Failed None h u (fell s.paired s side) v w z k → Stays s z
+failed_stays h u s side v w z k f =
+    stays_on s (fell s.paired s side) z (stays_fell s.paired s side) (stays_by (fell s.paired s side) h z k f.base)
+
+module _ (u : List Track) (y : DeviceStore) (t : ℕ) where
+  abbrev Gives : List Track → List Track → DeviceStore → Got (List ℕ) → Got Bool → Held → Type 0
+  Gives v w z g m k = GotTwin u y t v w z g m k
+
+  b_failed : (v w : List Track) (s : DeviceStore) (h : Held) (fault : Option Side) → InOrder v w s h → v ≡ u → Stays y s →
+      Twins Gives (second_read contents fault s None) (second_read by_plain fault (marks_of v w s) None) h
+  b_failed v w s h fault i plain stays =
+      twin_then (λ z _. Done z (got B None (Some (first_fault fault B)))) (λ z _. Done z (got B None (Some (first_fault fault B))))
+      (failed_twin None h v w s B i.sure i.told)
+      (λ v' w' z _ _ k f. twin_done (record {
+        order = record { sure = f.but; told = f.told };
+        plain = f.plain ∙ plain;
+        stays = stays_on y s z stays (failed_stays h v s B v' w' z k f);
+        bytes = tt;
+        side = refl;
+        fault = refl;
+      }))
+
+  b_read : (v w : List Track) (s : DeviceStore) (h : Held) (fault : Option Side) → InOrder v w s h → t < tracks_of s → half_is s.half t ≡ false → v ≡ u →
+      Stays y s → Twins Gives (read_b contents s t fault) (read_b by_plain (marks_of v w s) t fault) h
+  b_read v w s h fault i lt off plain stays =
+      on_test (level_at s.b t)
+      (λ on. both_read (b_failed v w (read_counted s false) h fault (counted_order v w s h false i) plain (still stays false))
+      (twin_done (record {
+        order = let o = counted_order v w s h true i in record { sure = o.sure; told = o.told };
+        plain = plain;
+        stays = still stays true;
+        bytes = (refl, side_b v w s h t i lt off on);
+        side = refl;
+        fault = refl;
+      })))
+      (λ no. twin_done (record {
+        order = record { sure = i.sure; told = i.told };
+        plain = plain;
+        stays = stays;
+        bytes = tt;
+        side = refl;
+        fault = refl;
+      }))
+    where
+      still : Stays y s → (ok : Bool) → Stays y (read_counted s ok)
+      still e ok = record { geometry = e.geometry; cylinders = e.cylinders; half = e.half }
+
+  a_failed : (v w : List Track) (s : DeviceStore) (h : Held) → InOrder v w s h → t < tracks_of s → half_is s.half t ≡ false → v ≡ u → Stays y s →
+      Twins Gives (first_read contents t s None) (first_read by_plain t (marks_of v w s) None) h
+  a_failed v w s h i lt off plain stays =
+      twin_then (λ z _. read_b contents z t (Some A)) (λ z _. read_b by_plain z t (Some A))
+      (twin_always (failed_twin None h v w s A i.sure i.told) (failed_call_keeps_good contents device_is_faithful s A i.well))
+      (λ v' w' z _ _ k f. let st = failed_stays h v s A v' w' z k f.0 in
+      b_read v' w' z k (Some A) (record { sure = f.0.but; told = f.0.told; well = f.1.well })
+      (let same = f.1.tracks in omega arith) (stays_off s z t st off) (f.0.plain ∙ plain) (stays_on y s z stays st))
+
+pub bytes_twin : (v w : List Track) (s : DeviceStore) (h : Held) (t : ℕ) → InOrder v w s h → t < tracks_of s → half_is s.half t ≡ false →
+    Twins (λ v' w' z g m k. GotTwin v s t v' w' z g m k) (level_bytes contents s t) (level_bytes by_plain (marks_of v w s) t) h
+unfolding I.level_bytes
+bytes_twin v w s h t i lt off =
+    on_test (level_at s.a t)
+    (λ on. both_read
+    (a_failed v s t v w (read_counted s false) h (counted_order v w s h false i) lt off refl (record { geometry = refl; cylinders = refl; half = refl }))
+    (twin_done (record {
+      order = let o = counted_order v w s h true i in record { sure = o.sure; told = o.told };
+      plain = refl;
+      stays = record { geometry = refl; cylinders = refl; half = refl };
+      bytes = (refl, side_a v w s h t i lt off on);
+      side = refl;
+      fault = refl;
+    })))
+    (λ no. b_read v s t v w s h None i lt off refl (stays_same s))
+
+-- Loading
+
+pub record Looks (u : List Track) (s : DeviceStore) (t : ℕ) (v w : List Track) (z : DeviceStore) (a b : Option Imaged) (k : Held) : Type 0 where
+  pub order : Ordered v w z k
+  pub plain : v ≡ u
+  pub stays : Stays s z
+  pub same : a ≡ b
+  pub image : (i : Image) → a ≡ Some (Has i) → i ≡ image_in s u t
+  pub bad : (side : Side) → a ≢ Some (BadTrack side)
+
+-- a frame with the plain track, of one that isn't lost
+framed_order : (v w : List Track) (s : DeviceStore) (h : Held) (t : ℕ) (i : Image) (m : Bool) → i ≡ image_in s v t → t < tracks_of s →
+    is_lost s t ≡ false → half_is s.half t ≡ false → Ordered v w s h → Ordered v w (framed contents s t i m) h
+framed_order v w s h t i m is lt there off o = record {
+  sure = right_altered None v w s h z h t y o.sure e (sits_still v w s h t y lt o.sure.ground refl refl)
+      (unseen_slots s h z h (λ kept q. by_track s h z h t y kept e (slots_by kept) q) refl o.sure.ground.slots)
+      (λ ne. right_keeps s.geometry t s.half y (image_in s v t) (image_in s w t) off
+      (record { frame = λ f is'. framed_is f is'; a = kept.a; b = kept.b }));
+  told = λ q. told_by q (cases_eq q t);
+}
+  where
+    f : Frame
+    f = record { image = i; modified = m }
+
+    z : DeviceStore
+    z = with_frame s t (Some (record { image = i; modified = m }))
+
+    y : TrackContents
+    y = record (contents_at s h t) { frame = Some (record { image = i; modified = m }) }
+
+    e : Altered s h (with_frame s t (Some (record { image = i; modified = m }))) h t (record (contents_at s h t) { frame = Some (record { image = i; modified = m }) })
+    e = altered_frame s h t lt o.sure.ground.sizes (Some (record { image = i; modified = m }))
+
+    kept : Keeps s.geometry t (contents_at s h t) (image_in s v t) (image_in s w t)
+    kept = keeps_at v w s h t o.sure lt there off
+
+    framed_is : (f : Frame) → Some (record { image = i; modified = m }) ≡ Some f → f.image ≡ image_in s v t
+    framed_is f e = ap (λ (x : Image). x) (let same : f.image ≡ i = cc in same) ∙ is
+
+    slots_by : (kept : Bool) → slot_of kept (record (contents_at s h t) { frame = Some (record { image = i; modified = m }) }) ≡ slot_of kept (contents_at s h t)
+    slots_by true = refl
+    slots_by false = refl
+
+    told_by : (q : ℕ) → ((q ≡ t) ⊎ (q ≢ t)) → (contents_at (with_frame s t (Some (record { image = i; modified = m }))) h q).debt ≡ false
+    told_by q (inl at) =
+        subst (λ (p : ℕ). (contents_at (with_frame s t (Some (record { image = i; modified = m }))) h p).debt ≡ false) (sym at)
+        (ap (λ (c : TrackContents). c.debt) e.here ∙ o.told t)
+    told_by q (inr ne) = ap (λ (c : TrackContents). c.debt) (e.elsewhere q ne) ∙ o.told q
+
+-- behind a filling
+pub record Fills (u : List Track) (s : DeviceStore) (v w : List Track) (z : DeviceStore) (k : Held) : Type 0 where
+  pub order : Ordered v w z k
+  pub plain : v ≡ u
+  pub stays : Stays s z
+
+pub filled_twin : (v w : List Track) (s : DeviceStore) (h : Held) (t : ℕ) (i : Image) → i ≡ image_in s v t → t < tracks_of s →
+    is_lost s t ≡ false → half_is s.half t ≡ false → Ordered v w s h →
+    Twins (λ v' w' z _ _ k. Fills v s v' w' z k) (filled contents s t i) (filled by_plain (marks_of v w s) t i) h
+filled_twin v w s h t i is lt there off o =
+    on_tests (is_some (patch_at s t)) (is_some (patch_at (marks_of v w s) t)) (has_patch_twin v w s t)
+    (λ _. ask_modified s.device t (λ _. twin_ends (with_frame_twin v w s t (Some (record { image = i; modified = true })))
+      (record { order = framed_order v w s h t i true is lt there off o; plain = refl; stays = record { geometry = refl; cylinders = refl; half = refl } })))
+    (λ _. twin_ends (with_frame_twin v w s t (Some (record { image = i; modified = false })))
+      (record { order = framed_order v w s h t i false is lt there off o; plain = refl; stays = record { geometry = refl; cylinders = refl; half = refl } }))

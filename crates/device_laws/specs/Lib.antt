@@ -1,0 +1,4 @@
+pub mod Agrees
+pub mod Twin
+pub mod PlainWrites
+pub mod InOrder

@@ -1,0 +1,60 @@
+//! Laws of a device that tells what it holds. Each says that a part of an event leaves it in order, whatever is answered, and
+//! that the same part over marks asks the same calls and leads to the same marks, with the plain volume as it is then.
+
+ghost use Rattle.std.specs.Prelude.{◌≡◌, ◌<◌, ℕ, false, List, None, Some};
+ghost use Rattle.ckd_types.specs.declared.paths.Side.{Side};
+ghost use Rattle.ckd_types.specs.declared.record.Edit.{Edit};
+ghost use Rattle.ckd_types.specs.declared.record.Track.{Track};
+ghost use Rattle.ckd_types.specs.Volume.{track_in};
+ghost use Rattle.track_image.specs.Image.{Image};
+ghost use Rattle.device_defs.specs.declared.usage.Usage.{Usage};
+ghost use Rattle.loss_model.specs.declared.Loss.TheVariants as losses;
+ghost use Rattle.device_defs.specs.Background.{work};
+ghost use Rattle.device_defs.specs.Contents.{contents, by_plain};
+ghost use Rattle.device_defs.specs.Editing.{write};
+ghost use Rattle.device_defs.specs.Events.{losing};
+ghost use Rattle.device_defs.specs.Image.{image};
+ghost use Rattle.device_defs.specs.Losses.{call_failed};
+ghost use Rattle.device_defs.specs.Marks.{marks_of, half_mark};
+ghost use Rattle.device_defs.specs.Second.{second_part};
+ghost use Rattle.device_defs.specs.Sound.{DeviceStore};
+ghost use Rattle.device_defs.specs.Store.{HalfWrite, tracks_of, is_lost, half_is};
+ghost use Rattle.device_laws.specs.Agrees.{Held, image_in};
+ghost use Rattle.device_laws.specs.InOrder.{IsInOrder, StaysInOrder, ImageIs, WriteIs, SecondIs, QueueStands};
+ghost use Rattle.device_laws.specs.PlainWrites.{SuitsTrack, OriginSuits};
+ghost use Rattle.device_laws.specs.Twin.{Twins};
+
+/// A failed call, but for a write's, whose track its write settles.
+pub fn failed_call_leaves_order()
+    ensures { (v w : List Track) (s : DeviceStore) (h : Held) (side : Side) → IsInOrder v w s h → Twins (λ v2 w2 z a b k. StaysInOrder v v2 w2 z a b k) (call_failed contents s side None) (call_failed by_plain (marks_of v w s) side None) h }
+{}
+
+/// The image that a command looks at, hit or missed, is the plain track; no bytes are bad.
+pub fn image_is_plain()
+    ensures { (v w : List Track) (s : DeviceStore) (h : Held) (u : Usage) (t : ℕ) → IsInOrder v w s h → t < tracks_of s → is_lost s t ≡ false → half_is s.half t ≡ false → Twins (λ v2 w2 z a b k. ImageIs v s t v2 w2 z a b k) (image contents s u t) (image by_plain (marks_of v w s) u t) h }
+{}
+
+/// A command's write, fast, provisional or through to the volumes: the plain volume has its edit where it is done.
+pub fn write_is_plain()
+    ensures { (v w : List Track) (s : DeviceStore) (h : Held) (u : Usage) (first t : ℕ) (e : Edit) → IsInOrder v w s h → t < tracks_of s → is_lost s t ≡ false → s.half ≡ None → SuitsTrack s.geometry (track_in v t) e → Twins (λ v2 w2 z a b k. WriteIs v t e v2 w2 z a b k) (write contents s u first t (image_in s v t) e) (write by_plain (marks_of v w s) u first t (image_in s v t) e) h }
+{}
+
+/// The second part of an open half write: a command's edit takes effect where it is done.
+pub fn second_part_is_plain()
+    ensures { (v w : List Track) (s : DeviceStore) (h : Held) (i : HalfWrite Image) → IsInOrder v w s h → s.half ≡ Some i → OriginSuits s.geometry (track_in v i.track) i.origin → Twins (λ v2 w2 z a b k. SecondIs v i.track i.origin v2 w2 z a b k) (second_part contents s i) (second_part by_plain (marks_of v w s) (half_mark i)) h }
+{}
+
+/// What a device does by itself while no half write is open: it recovers, copies, stages or destages a track.
+pub fn work_is_plain()
+    ensures { (v w : List Track) (s : DeviceStore) (h : Held) → IsInOrder v w s h → s.half ≡ None → QueueStands s → Twins (λ v2 w2 z a b k. StaysInOrder v v2 w2 z a b k) (work contents s) (work by_plain (marks_of v w s)) h }
+{}
+
+/// The loss of the store.
+pub fn lost_store_leaves_order()
+    ensures { (v w : List Track) (s : DeviceStore) (h : Held) → IsInOrder v w s h → Twins (λ v2 w2 z a b k. StaysInOrder v v2 w2 z a b k) (losing contents s losses.Store) (losing by_plain (marks_of v w s) losses.Store) h }
+{}
+
+/// The loss of a side.
+pub fn lost_side_leaves_order()
+    ensures { (v w : List Track) (s : DeviceStore) (h : Held) (side : Side) → IsInOrder v w s h → Twins (λ v2 w2 z a b k. StaysInOrder v v2 w2 z a b k) (losing contents s (losses.Side side)) (losing by_plain (marks_of v w s) (losses.Side side)) h }
+{}

@@ -1,0 +1,17 @@
+use Rattle.device_outside.specs.Outside.{done}
+use Rattle.device_outside.proofs.Runs.{joined}
+use Rattle.device_defs.specs.Contents.{contents}
+use Rattle.device_store.proofs.Moves.{weaker}
+use Rattle.device_store.proofs.store.DeviceStore.image.Goals as goal
+use Rattle.device_defs.specs.Image.{image, missed}
+
+pub returns-then-got-clause-run : goal.returns-then-got-clause-run
+unfolding image
+returns-then-got-clause-run g c =
+    joined (λ z got. missed contents c.args.usage.now c.args.t z got got.bytes) (weaker c.deliver.result (c.level_bytes-got.ensures.run _ _))
+    (rw c.if-got.true (c.deliver.ensures.run _))
+
+pub returns-clause-run : goal.returns-clause-run
+unfolding image
+returns-clause-run g c =
+    joined (λ z got. missed contents c.args.usage.now c.args.t z got got.bytes) (c.level_bytes-got.ensures.run _ _) (rw c.if-got.false done)
