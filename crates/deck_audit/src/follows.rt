@@ -1,12 +1,13 @@
 //! A device that is replayed follows the history that the lines make of it.
 
-ghost use Rattle.std.specs.Prelude.{◌≡◌, ◌≤◌, false, true, ℕ, None, Some};
+ghost use Rattle.std.specs.Prelude.{◌≡◌, ◌≤◌, ◌==◌, false, true, ℕ, None, Some};
 ghost use Rattle.ckd_types.specs.declared.channel.CommandEnd.{CommandEnd};
 ghost use Rattle.ckd_types.specs.declared.sense.Sense.{Sense};
 ghost use Rattle.plain_defs.specs.declared.journal.Act.{Act};
 ghost use Rattle.plain_defs.specs.declared.journal.Act.TheVariants.{Harden, Loosen};
 ghost use Rattle.plain_defs.specs.History.{OpenEntry, acted, checked, emptied, ended, reset};
 ghost use Rattle.deck_audit.specs.declared.replayed.Running.{Running};
+ghost use Rattle.deck_audit.specs.declared.state.HalfWrite.{HalfWrite};
 ghost use Rattle.deck_audit.specs.Device.{AuditedDevice, is_next_legal, may_loosen, plain_end, start_answer};
 ghost use Rattle.deck_audit.specs.Follows.{CountsAs, Follows, WaitsAs};
 ghost use Rattle.plain_defs.specs.Legal.{is_started, is_used};
@@ -58,6 +59,14 @@ pub fn reset_follows()
     ensures cut { (r : ReplayedState) (a : AuditedDevice) (o : OpenEntry) (q : Running) → Follows r a → r.running ≡ Some q → r.pending ≡ None → a.history.running ≡ Some o → WaitsAs r.waits a.history.waiting → Follows (replay.reset r o.path) (record a { history = reset a.history o.path 0 }) }
     ensures more { (r : ReplayedState) (a : AuditedDevice) (o : OpenEntry) (q : Running) (w : PendingState) → Follows r a → r.running ≡ Some q → r.pending ≡ Some w → a.history.running ≡ Some o → (e : CommandEnd) → plain_end a o ≡ Some e → WaitsAs r.waits a.history.waiting → Follows (replay.reset (replay.settled r) o.path) (record a { history = reset a.history o.path 1 }) }
     ensures idle { (r : ReplayedState) (a : AuditedDevice) → Follows r a → a.history.running ≡ None → (path more : ℕ) → replay.is_used_on r path ≡ is_used path false a.history.items → Follows (replay.reset r path) (record a { history = reset a.history path more }) }
+{}
+
+/// A half write changes nothing of the device, nor does a loan, nor the reset of another path than the one whose program
+/// runs.
+pub fn half_follows()
+    ensures half { (r : ReplayedState) (a : AuditedDevice) → Follows r a → (half : HalfWrite) → Follows (record r { half = half }) (record a { half = half }) }
+    ensures loan { (r : ReplayedState) (a : AuditedDevice) → Follows r a → (of : ℕ) → Follows (replay.lent_to r of) (record a { lent = Some of }) }
+    ensures waiting { (r : ReplayedState) (a : AuditedDevice) (o : OpenEntry) → Follows r a → a.history.running ≡ Some o → (path more : ℕ) → (o.path == path) ≡ false → replay.is_used_on r path ≡ is_used path false a.history.items → Follows (replay.wait_used r path) (record a { history = reset a.history path more }) }
 {}
 
 /// A loss of power cuts the running program, behind the commands that ended or one more, and then takes what it takes.
