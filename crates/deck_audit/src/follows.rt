@@ -11,7 +11,11 @@ ghost use Rattle.deck_audit.specs.declared.state.HalfWrite.{HalfWrite};
 ghost use Rattle.deck_audit.specs.Device.{AuditedDevice, is_next_legal, may_loosen, plain_end, start_answer};
 ghost use Rattle.deck_audit.specs.Follows.{CountsAs, Follows, WaitsAs};
 ghost use Rattle.plain_defs.specs.Legal.{is_started, is_used};
-ghost use Rattle.deck_audit.specs.History.{cut_by_power, without_power};
+ghost use Rattle.report_text.specs.declared.line.ReportLine.{ReportLine};
+ghost use Rattle.deck_audit.specs.History.{cut_by_power, end_made_by, sense_made, without_power};
+ghost use Rattle.deck_audit.specs.Judging as judging;
+ghost use Rattle.deck_audit.specs.Judging.{due_in};
+ghost use Rattle.deck_audit.specs.State.{AuditState};
 ghost use Rattle.deck_audit.specs.Replay as replay;
 ghost use Rattle.deck_audit.specs.Replayed.{PendingState, ReplayedState};
 
@@ -79,4 +83,10 @@ pub fn power_follows()
 /// A volume that was lent comes back empty.
 pub fn loan_follows()
     ensures { (r : ReplayedState) (a : AuditedDevice) → Follows r a → a.history.running ≡ None → Follows (replay.given_back r) (record a { history = emptied a.history; lent = None }) }
+{}
+
+/// An END line and a SENSE line are judged as the history judges them.
+pub fn ends_are_judged()
+    ensures end { (s : AuditState) (r : ReplayedState) (a : AuditedDevice) (o : OpenEntry) (q : Running) → q.path ≡ o.path → q.ordinal ≡ o.ordinal → r.number ≡ a.number → r.running ≡ Some q → (line : ReportLine) (e : CommandEnd) → judging.end_due a.plans r line e ≡ due_in (end_made_by s line a o (Some e)) }
+    ensures sense { (s : AuditState) (r : ReplayedState) (a : AuditedDevice) (o : OpenEntry) (q : Running) → q.path ≡ o.path → q.ordinal ≡ o.ordinal → r.number ≡ a.number → r.running ≡ Some q → (line : ReportLine) (e : CommandEnd) → a.history.running ≡ Some o → judging.sense_due a.plans r line e ≡ due_in (sense_made s line e a) }
 {}
