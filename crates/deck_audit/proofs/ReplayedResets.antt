@@ -13,6 +13,8 @@ use Rattle.plain_defs.specs.Program.{Part, part_of}
 use Rattle.plain_defs.proofs.JournalLaws.{replay-append}
 use Rattle.plain_device.specs.Between.{behind_edit}
 use Rattle.deck_audit.specs.declared.replayed.Running.{Running}
+use Rattle.std.specs.Prelude.{◌==◌, ◌-◌, slice_set}
+use Rattle.deck_audit.specs.declared.state.HalfWrite.{HalfWrite}
 use Rattle.deck_audit.specs.declared.state.HalfWrite.TheVariants.{Closed}
 use Rattle.deck_audit.specs.Device.{AuditedDevice, part_of_open, plain_end, words_of_open}
 use Rattle.deck_audit.specs.Follows.{Follows, FollowsProgram, RunsAs, WaitsAs}
@@ -240,3 +242,77 @@ module _ (r : ReplayedState) (a : AuditedDevice) (f : Follows r a) (idle : a.his
         half = Closed;
       }))
       idle (by_power (is_started false a.history.items))))
+
+-- What changes nothing of the device: a reset that waits, a half write, a loan
+
+beside : (a : AuditedDevice) (waiting : List ℕ) (half : HalfWrite) (lent : Option ℕ) (d : PlainState) (running : Option Running)
+    (pending : Option PendingState) (o : Option OpenEntry) → FollowsProgram a d running pending o
+    → FollowsProgram (record a { history = record a.history { waiting = waiting }; half = half; lent = lent }) d running pending o
+beside a waiting half lent d None pending None f = tt
+beside a waiting half lent d None pending (Some o) f = absurd f
+beside a waiting half lent d (Some q) None None f = absurd f
+beside a waiting half lent d (Some q) (Some w) None f = absurd f
+beside a waiting half lent d (Some q) None (Some o) f = record {
+  path_is = f.path_is;
+  ordinal_is = f.ordinal_is;
+  at = f.at;
+  order = f.order;
+  word = f.word;
+  at_word = f.at_word;
+}
+beside a waiting half lent d (Some q) (Some w) (Some o) f = record {
+  before = f.before;
+  runs = record {
+    path_is = f.runs.path_is;
+    ordinal_is = f.runs.ordinal_is;
+    at = f.runs.at;
+    order = f.runs.order;
+    word = f.runs.word;
+    at_word = f.runs.at_word;
+  };
+  chain_is = f.chain_is;
+  pending_is = f.pending_is;
+}
+
+module _ (r : ReplayedState) (a : AuditedDevice) (f : Follows r a) where
+  pub half_is_followed : (half : HalfWrite) → Follows (record r { half = half }) (record a { half = half })
+  half_is_followed half = record {
+    number_is = f.number_is;
+    device_is = f.device_is;
+    half_is = refl;
+    lent_is = f.lent_is;
+    program = beside a a.history.waiting half a.lent r.device r.running r.pending a.history.running f.program;
+  }
+
+  pub loan_is_followed : (of : ℕ) → Follows (replayed.lent_to r of) (record a { lent = Some of })
+  loan_is_followed of = record {
+    number_is = f.number_is;
+    device_is = f.device_is;
+    half_is = f.half_is;
+    lent_is = refl;
+    program = beside a a.history.waiting a.half (Some of) r.device r.running r.pending a.history.running f.program;
+  }
+
+  wait_by : (b : Bool) (p : ℕ) → Follows (cond b (record r { waits = slice_set r.waits (p - 1) true }) r)
+      (record a { history = cond b (record a.history { waiting = put p a.history.waiting }) a.history })
+  wait_by true p = record {
+    number_is = f.number_is;
+    device_is = f.device_is;
+    half_is = f.half_is;
+    lent_is = f.lent_is;
+    program = beside a (put p a.history.waiting) a.half a.lent r.device r.running r.pending a.history.running f.program;
+  }
+  wait_by false p = f
+
+  -- the reset of another path waits while a program runs
+  pub wait_follows : (o : OpenEntry) (p more : ℕ) → a.history.running ≡ Some o → (o.path == p) ≡ false
+      → replayed.is_used_on r p ≡ is_used p false a.history.items
+      → Follows (replayed.wait_used r p) (record a { history = reset a.history p more })
+  wait_follows o p more entry unlike used =
+      subst (λ (h : History). Follows (replayed.wait_used r p) (record a { history = h }))
+      (sym (ap (λ (x : Option OpenEntry). reset_in a.history p more x) entry
+      ∙ ap (λ (b : Bool). cond b (cut_by a.history o more) (cond (is_used p false a.history.items)
+      (record a.history { waiting = put p a.history.waiting }) a.history)) unlike))
+      (subst (λ (b : Bool). Follows (cond b (record r { waits = slice_set r.waits (p - 1) true }) r)
+      (record a { history = cond (is_used p false a.history.items) (record a.history { waiting = put p a.history.waiting }) a.history }))
+      (sym used) (wait_by (is_used p false a.history.items) p))

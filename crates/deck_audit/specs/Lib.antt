@@ -8,3 +8,4 @@ pub mod Verdict
 pub mod Replayed
 pub mod Replay
 pub mod Follows
+pub mod Judging

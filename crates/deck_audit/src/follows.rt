@@ -1,16 +1,21 @@
 //! A device that is replayed follows the history that the lines make of it.
 
-ghost use Rattle.std.specs.Prelude.{◌≡◌, ◌≤◌, false, true, ℕ, None, Some};
+ghost use Rattle.std.specs.Prelude.{◌≡◌, ◌≤◌, ◌==◌, false, true, ℕ, None, Some};
 ghost use Rattle.ckd_types.specs.declared.channel.CommandEnd.{CommandEnd};
 ghost use Rattle.ckd_types.specs.declared.sense.Sense.{Sense};
 ghost use Rattle.plain_defs.specs.declared.journal.Act.{Act};
 ghost use Rattle.plain_defs.specs.declared.journal.Act.TheVariants.{Harden, Loosen};
 ghost use Rattle.plain_defs.specs.History.{OpenEntry, acted, checked, emptied, ended, reset};
 ghost use Rattle.deck_audit.specs.declared.replayed.Running.{Running};
+ghost use Rattle.deck_audit.specs.declared.state.HalfWrite.{HalfWrite};
 ghost use Rattle.deck_audit.specs.Device.{AuditedDevice, is_next_legal, may_loosen, plain_end, start_answer};
 ghost use Rattle.deck_audit.specs.Follows.{CountsAs, Follows, WaitsAs};
 ghost use Rattle.plain_defs.specs.Legal.{is_started, is_used};
-ghost use Rattle.deck_audit.specs.History.{cut_by_power, without_power};
+ghost use Rattle.report_text.specs.declared.line.ReportLine.{ReportLine};
+ghost use Rattle.deck_audit.specs.History.{cut_by_power, end_made_by, sense_made, without_power};
+ghost use Rattle.deck_audit.specs.Judging as judging;
+ghost use Rattle.deck_audit.specs.Judging.{due_in};
+ghost use Rattle.deck_audit.specs.State.{AuditState};
 ghost use Rattle.deck_audit.specs.Replay as replay;
 ghost use Rattle.deck_audit.specs.Replayed.{PendingState, ReplayedState};
 
@@ -60,6 +65,14 @@ pub fn reset_follows()
     ensures idle { (r : ReplayedState) (a : AuditedDevice) → Follows r a → a.history.running ≡ None → (path more : ℕ) → replay.is_used_on r path ≡ is_used path false a.history.items → Follows (replay.reset r path) (record a { history = reset a.history path more }) }
 {}
 
+/// A half write changes nothing of the device, nor does a loan, nor the reset of another path than the one whose program
+/// runs.
+pub fn half_follows()
+    ensures half { (r : ReplayedState) (a : AuditedDevice) → Follows r a → (half : HalfWrite) → Follows (record r { half = half }) (record a { half = half }) }
+    ensures loan { (r : ReplayedState) (a : AuditedDevice) → Follows r a → (of : ℕ) → Follows (replay.lent_to r of) (record a { lent = Some of }) }
+    ensures waiting { (r : ReplayedState) (a : AuditedDevice) (o : OpenEntry) → Follows r a → a.history.running ≡ Some o → (path more : ℕ) → (o.path == path) ≡ false → replay.is_used_on r path ≡ is_used path false a.history.items → Follows (replay.wait_used r path) (record a { history = reset a.history path more }) }
+{}
+
 /// A loss of power cuts the running program, behind the commands that ended or one more, and then takes what it takes.
 pub fn power_follows()
     ensures cut { (r : ReplayedState) (a : AuditedDevice) (o : OpenEntry) (q : Running) → Follows r a → r.running ≡ Some q → r.pending ≡ None → a.history.running ≡ Some o → WaitsAs r.waits a.history.waiting → Follows (replay.cut r) (cut_by_power a o 0) }
@@ -70,4 +83,10 @@ pub fn power_follows()
 /// A volume that was lent comes back empty.
 pub fn loan_follows()
     ensures { (r : ReplayedState) (a : AuditedDevice) → Follows r a → a.history.running ≡ None → Follows (replay.given_back r) (record a { history = emptied a.history; lent = None }) }
+{}
+
+/// An END line and a SENSE line are judged as the history judges them.
+pub fn ends_are_judged()
+    ensures end { (s : AuditState) (r : ReplayedState) (a : AuditedDevice) (o : OpenEntry) (q : Running) → q.path ≡ o.path → q.ordinal ≡ o.ordinal → r.number ≡ a.number → r.running ≡ Some q → (line : ReportLine) (e : CommandEnd) → judging.end_due a.plans r line e ≡ due_in (end_made_by s line a o (Some e)) }
+    ensures sense { (s : AuditState) (r : ReplayedState) (a : AuditedDevice) (o : OpenEntry) (q : Running) → q.path ≡ o.path → q.ordinal ≡ o.ordinal → r.number ≡ a.number → r.running ≡ Some q → (line : ReportLine) (e : CommandEnd) → a.history.running ≡ Some o → judging.sense_due a.plans r line e ≡ due_in (sense_made s line e a) }
 {}

@@ -2,6 +2,8 @@
 #![tactic(auto)]
 
 mod follows;
+mod judging;
+mod keeps;
 mod law;
 mod lines;
 mod outline;
@@ -18,9 +20,11 @@ mod texts;
 mod work;
 
 pub use follows::{
-    act_follows, edit_follows, end_follows, loan_follows, over_follows, power_follows,
-    reset_follows, settle_follows, start_follows,
+    act_follows, edit_follows, end_follows, ends_are_judged, half_follows, loan_follows,
+    over_follows, power_follows, reset_follows, settle_follows, start_follows,
 };
+pub use judging::data_due;
+pub use keeps::{ended_is_kept, paths_are_kept, reset_is_kept, started_is_kept};
 pub use law::{accepted_start_is_plain, idle_is_plain, plain_end_is_plain};
 pub use lines::{next_line, report_from};
 pub use place::{in_due, is_of_work, worker_of};
