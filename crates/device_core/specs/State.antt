@@ -2,6 +2,7 @@
 use Rattle.std.specs.Prelude.{◌≡◌, ℕ, ◌-◌, List, [], length, slice_get, Option, None, Some, Result, Ok, Err, option_map}
 use Rattle.ckd_types.specs.declared.channel.CommandEnd.{CommandEnd}
 use Rattle.ckd_chain.specs.State.{ChainState}
+use Rattle.ckd_chain.specs.Steps.{need_of}
 use Rattle.plain_defs.specs.declared.journal.Item.{Item}
 use Rattle.plain_defs.specs.declared.journal.Item.TheVariants.{Program}
 use Rattle.plain_defs.specs.History.{OpenEntry, History}
@@ -15,10 +16,10 @@ use Rattle.device_defs.specs.declared.answers.Stepped as defs
 use Rattle.ckd_chain.specs.declared.progress.Progress.{Progress}
 use Rattle.ckd_types.specs.declared.geometry.Geometry.{Geometry}
 use Rattle.device_defs.specs.declared.answers.Came.{Came}
-use Rattle.device_defs.specs.Command.{answered_by}
+use Rattle.device_defs.specs.Command.{answered_by, command_at}
 use Rattle.device_defs.specs.Contents.{contents}
 use Rattle.device_defs.specs.Outcomes.{turned, told_step}
-use Rattle.device_outside.specs.Interaction.{Done}
+use Rattle.device_outside.specs.Interaction.{Interaction, Done}
 use Rattle.device_core.specs.Turns.{turn_with}
 use Rattle.device_defs.specs.declared.answers.Stepped.TheVariants as answers
 use Rattle.device_defs.specs.Device as definitions
@@ -89,3 +90,13 @@ pub record Answers (g : Geometry) (old new : PathsState) (path : ℕ) (chain : C
   where
     pub is : (d : DefinedDevice) → d.store.geometry ≡ g → d.paths ≡ old →
         answered_by contents d path chain progress ≡ Done (turned (record d { paths = new }) path (turn_with behind came)) (Some (told_step came))
+
+-- The command at hand of a program that runs, and the device behind it
+
+abbrev pub commanded : DefinedDevice → Option Running → Interaction (List ℕ) Image DefinedDevice (Option defs.Stepped)
+commanded d (Some r) = command_at contents d r.path r.chain (need_of r.chain)
+commanded d None = Done d None
+
+abbrev pub came_from : {E : Type 0} → DefinedDevice → Option Running → Result Came E → DefinedDevice
+came_from d (Some r) result = came_to d r.path r.chain result
+came_from d None result = d

@@ -5,6 +5,7 @@ mod command;
 mod device;
 mod ending;
 mod past;
+mod run;
 mod step;
 mod turns;
 
