@@ -1,6 +1,6 @@
 -- A command of a program that runs, and the event that it is.
 use Rattle.std.proofs.Common.{◌≡◌, ◌∙◌, ℕ, Bool, true, false, List, Option, None, Some, refl, sym, ap, subst}
-use Rattle.std.specs.Prelude.{IsSome, option_map, Result, Ok, Err}
+use Rattle.std.specs.Prelude.{IsSome, option_map, Ok, Err}
 use Rattle.ckd_types.specs.declared.channel.CommandEnd.{CommandEnd}
 use Rattle.ckd_types.specs.declared.memory.NoMemory.{NoMemory}
 use Rattle.ckd_chain.specs.State.{ChainState}

@@ -5,9 +5,9 @@ use Rattle.ckd_chain.specs.State.{ChainState}
 use Rattle.ckd_chain.specs.Steps.{need_of}
 use Rattle.plain_defs.specs.declared.journal.Item.{Item}
 use Rattle.plain_defs.specs.declared.journal.Item.TheVariants.{Program}
-use Rattle.plain_defs.specs.History.{OpenEntry, History}
+use Rattle.plain_defs.specs.History.{OpenEntry, History, no_history}
 use Rattle.plain_defs.specs.Journal.{Plans}
-use Rattle.plain_defs.specs.PlainState.{PathsState}
+use Rattle.plain_defs.specs.PlainState.{PathsState, fresh_paths}
 use Rattle.track_image.specs.Image.{Image}
 use Rattle.track_cache.specs.declared.frames.Frame.{Frame}
 use Rattle.nv_store.specs.declared.patches.Stored.{Stored}
@@ -24,7 +24,7 @@ use Rattle.device_core.specs.Turns.{turn_with}
 use Rattle.device_defs.specs.declared.answers.Stepped.TheVariants as answers
 use Rattle.device_defs.specs.Device as definitions
 use Rattle.device_defs.specs.Store.{Store}
-use Rattle.device_store.specs.State.{state_of}
+use Rattle.device_store.specs.State.{state_of, opened_store}
 use Rattle.device_core.specs.declared.device.Device.{Device}
 use Rattle.device_core.specs.declared.past.Past.{Past}
 use Rattle.device_core.specs.declared.past.Running.{Running}
@@ -100,3 +100,13 @@ commanded d None = Done d None
 abbrev pub came_from : {E : Type 0} → DefinedDevice → Option Running → Result Came E → DefinedDevice
 came_from d (Some r) result = came_to d r.path r.chain result
 came_from d None result = d
+
+-- a device on which nothing happened
+abbrev pub opened_device : ℕ → Geometry → ℕ → Plans → DefinedDevice
+opened_device d g cylinders plans = record {
+  store = opened_store d g cylinders;
+  paths = fresh_paths;
+  plans = plans;
+  history = no_history;
+  chain = None;
+}

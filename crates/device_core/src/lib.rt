@@ -4,8 +4,10 @@
 mod command;
 mod device;
 mod ending;
+mod open;
 mod past;
 mod run;
+mod seen;
 mod step;
 mod turns;
 

@@ -56,7 +56,13 @@ impl<V: Volume> Device<V> {
         ensures takes { Takes K.takes keep.new self.new.store.number (self.new.store.cylinders * 15) }
         ensures run { Ran (where_ok result) K.hears (command_by contents (device_of self.old) (device_of self.old).history.running (device_of self.old).chain) (outside (P.view port.old) self.old.store keep.old) (device_of self.new) (step_had self.new.past result) (outside (P.view port.new) self.new.store keep.new) }
     {
-        match on_past(&mut self.store, &mut self.paths, &mut self.past.running, port, keep) {
+        match on_past(
+            &mut self.store,
+            &mut self.paths,
+            &mut self.past.running,
+            port,
+            keep,
+        ) {
             Err(NoMemory) => Err(NoMemory),
             Ok(came) => Ok(self.past.turned(self.store.alloc, came, &mut self.paths)),
         }

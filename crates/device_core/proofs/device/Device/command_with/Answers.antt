@@ -1,4 +1,4 @@
-use Rattle.std.proofs.Common.{◌≡◌, true, false, refl, sym}
+use Rattle.std.proofs.Common.{true, false, refl, sym}
 use Rattle.device_outside.proofs.Runs.{ended, tries}
 use Rattle.device_defs.specs.Command.{command, command_by}
 use Rattle.device_defs.specs.Contents.{contents}
@@ -23,5 +23,5 @@ returns-clause-run g c =
     (same_device (state_of c.args.self.now.store) c.args.self.now.paths c.args.self.now.plans c.make_room.new.past c.args.self.now.past
     c.in-Ok.ensures.open c.in-Ok.ensures.chain c.in-Ok.ensures.items c.in-Ok.ensures.rest.0) refl
     (event_ran c.args.self.now.store c.command_ready.new.self.store
-        (device_by (state_of c.args.self.now.store) c.args.self.now.paths c.args.self.now.plans c.make_room.new.past) (device_of c.command_ready.new.self)
-        (λ y. command_by contents y y.history.running y.chain) (weaker c.command_ready.result (c.hear.ensures.run _)) c.command_ready.ensures.run))
+    (device_by (state_of c.args.self.now.store) c.args.self.now.paths c.args.self.now.plans c.make_room.new.past) (device_of c.command_ready.new.self)
+    (λ y. command_by contents y y.history.running y.chain) (weaker c.command_ready.result (c.hear.ensures.run _)) c.command_ready.ensures.run))
