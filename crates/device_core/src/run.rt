@@ -1,6 +1,8 @@
 ghost use Rattle.std.specs.Prelude.{◌≡◌, ◌<◌, ◌*◌, IfSome, IsSome, OnOk, length, option_map};
 ghost use Rattle.device_defs.specs.Command.{command, command_by};
 ghost use Rattle.device_defs.specs.Contents.{contents};
+ghost use Rattle.device_outside.specs.declared.keep.NoKeep.{NoKeep};
+ghost use Rattle.device_outside.specs.Keeper.{reply};
 ghost use Rattle.device_outside.specs.Outside.{Ran, where_ok};
 ghost use Rattle.device_store.specs.State.{outside, Takes};
 ghost use Rattle.device_core.specs.State.{open_of, chain_of, device_of, step_had};
@@ -86,5 +88,14 @@ impl<V: Volume> Device<V> {
         }
         self.store.hear::<P, K>(port);
         self.command_ready(port, keep)
+    }
+
+    /// The same, with a keeper that keeps nothing.
+    pub fn command<P: Port>(&mut self, port: &mut P) -> Result<Stepped, NoMemory>
+        requires { IsSome self.old.past.running }
+        ensures run { (k : NoKeep) → Ran (where_ok result) (λ _ m r _. r ≡ reply m) (command contents (device_of self.old)) (outside (P.view port.old) self.old.store k) (device_of self.new) (step_had self.new.past result) (outside (P.view port.new) self.new.store k) }
+    {
+        let mut keep = NoKeep;
+        self.command_with(port, &mut keep)
     }
 }

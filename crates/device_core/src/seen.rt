@@ -1,7 +1,7 @@
-ghost use Rattle.std.specs.Prelude.{◌≡◌, None, Some, option_map};
+ghost use Rattle.std.specs.Prelude.{◌≡◌, None, Some, option_map, is_some};
 ghost use Rattle.std.specs.Option.{option_copied};
 ghost use Rattle.plain_defs.specs.History.{OpenEntry};
-ghost use Rattle.device_core.specs.State.{open_of, last_of, last_end_of};
+ghost use Rattle.device_core.specs.State.{open_of, last_of, last_end_of, device_of};
 
 use crate::Device;
 use ckd_types::{CommandEnd, DeviceNo, Geometry, PathNo};
@@ -58,6 +58,20 @@ impl<V: Volume> Device<V> {
             Some(running) => Some(running.path),
             None => None,
         }
+    }
+
+    /// Whether a write in two parts is open. None ever is yet.
+    pub fn half_open(&self) -> bool
+        ensures { result ≡ is_some (device_of self.now).store.half }
+    {
+        false
+    }
+
+    /// The device that its volume is lent to. It never is yet.
+    pub fn lent_to(&self) -> Option<DeviceNo>
+        ensures { result ≡ (device_of self.now).store.lent }
+    {
+        None
     }
 
     /// What happened to the device, but for the program that runs.
