@@ -1,11 +1,12 @@
 -- What a device is in the definitions, and how its answers are seen.
-use Rattle.std.specs.Prelude.{◌≡◌, ℕ, ◌-◌, List, [], length, slice_get, Option, None, Some, Result, Ok, Err, option_map}
+use Rattle.std.specs.Prelude.{◌≡◌, ℕ, ◌-◌, List, [], length, slice_get, Option, None, Some, Result, Ok, Err, option_map, ◌+◌, ◌*◌, ◌^◌, min, count_by, if◌then◌else◌}
 use Rattle.ckd_types.specs.declared.channel.CommandEnd.{CommandEnd}
 use Rattle.ckd_chain.specs.State.{ChainState}
 use Rattle.ckd_chain.specs.Steps.{need_of}
 use Rattle.plain_defs.specs.declared.journal.Item.{Item}
 use Rattle.plain_defs.specs.declared.journal.Item.TheVariants.{Program}
-use Rattle.plain_defs.specs.History.{OpenEntry, History, no_history}
+use Rattle.plain_defs.specs.History.{OpenEntry, History, is_path_of, no_history}
+use Rattle.plain_defs.specs.Legal.{is_of_path}
 use Rattle.plain_defs.specs.Journal.{Plans}
 use Rattle.plain_defs.specs.PlainState.{PathsState, fresh_paths}
 use Rattle.track_image.specs.Image.{Image}
@@ -110,3 +111,7 @@ opened_device d g cylinders plans = record {
   history = no_history;
   chain = None;
 }
+
+-- the programs of a path that ended, twice, and one more while one runs. It stops at the greatest of 64 bits
+abbrev pub count_of : History → ℕ → ℕ
+count_of h path = min (min (count_by (is_of_path path) h.items * 2) (2 ^ 64 - 1) + (if is_path_of h.running path then 1 else 0)) (2 ^ 64 - 1)

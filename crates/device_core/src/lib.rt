@@ -2,6 +2,7 @@
 #![tactic(auto)]
 
 mod command;
+mod counts;
 mod device;
 mod ending;
 mod open;
