@@ -3,3 +3,4 @@ pub mod Rests
 pub mod Endings
 pub mod Begun
 pub mod Whole
+pub mod Commands

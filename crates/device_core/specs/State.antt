@@ -1,12 +1,14 @@
 -- What a device is in the definitions, and how its answers are seen.
-use Rattle.std.specs.Prelude.{◌≡◌, ℕ, ◌-◌, List, [], length, slice_get, Option, None, Some, Result, Ok, Err, option_map}
+use Rattle.std.specs.Prelude.{◌≡◌, ℕ, ◌-◌, List, [], length, slice_get, Option, None, Some, Result, Ok, Err, option_map, ◌+◌, ◌*◌, ◌^◌, min, count_by, if◌then◌else◌}
 use Rattle.ckd_types.specs.declared.channel.CommandEnd.{CommandEnd}
 use Rattle.ckd_chain.specs.State.{ChainState}
+use Rattle.ckd_chain.specs.Steps.{need_of}
 use Rattle.plain_defs.specs.declared.journal.Item.{Item}
 use Rattle.plain_defs.specs.declared.journal.Item.TheVariants.{Program}
-use Rattle.plain_defs.specs.History.{OpenEntry, History}
+use Rattle.plain_defs.specs.History.{OpenEntry, History, is_path_of, no_history}
+use Rattle.plain_defs.specs.Legal.{is_of_path}
 use Rattle.plain_defs.specs.Journal.{Plans}
-use Rattle.plain_defs.specs.PlainState.{PathsState}
+use Rattle.plain_defs.specs.PlainState.{PathsState, fresh_paths}
 use Rattle.track_image.specs.Image.{Image}
 use Rattle.track_cache.specs.declared.frames.Frame.{Frame}
 use Rattle.nv_store.specs.declared.patches.Stored.{Stored}
@@ -15,15 +17,15 @@ use Rattle.device_defs.specs.declared.answers.Stepped as defs
 use Rattle.ckd_chain.specs.declared.progress.Progress.{Progress}
 use Rattle.ckd_types.specs.declared.geometry.Geometry.{Geometry}
 use Rattle.device_defs.specs.declared.answers.Came.{Came}
-use Rattle.device_defs.specs.Command.{answered_by}
+use Rattle.device_defs.specs.Command.{answered_by, command_at}
 use Rattle.device_defs.specs.Contents.{contents}
 use Rattle.device_defs.specs.Outcomes.{turned, told_step}
-use Rattle.device_outside.specs.Interaction.{Done}
+use Rattle.device_outside.specs.Interaction.{Interaction, Done}
 use Rattle.device_core.specs.Turns.{turn_with}
 use Rattle.device_defs.specs.declared.answers.Stepped.TheVariants as answers
 use Rattle.device_defs.specs.Device as definitions
 use Rattle.device_defs.specs.Store.{Store}
-use Rattle.device_store.specs.State.{state_of}
+use Rattle.device_store.specs.State.{state_of, opened_store}
 use Rattle.device_core.specs.declared.device.Device.{Device}
 use Rattle.device_core.specs.declared.past.Past.{Past}
 use Rattle.device_core.specs.declared.past.Running.{Running}
@@ -89,3 +91,27 @@ pub record Answers (g : Geometry) (old new : PathsState) (path : ℕ) (chain : C
   where
     pub is : (d : DefinedDevice) → d.store.geometry ≡ g → d.paths ≡ old →
         answered_by contents d path chain progress ≡ Done (turned (record d { paths = new }) path (turn_with behind came)) (Some (told_step came))
+
+-- The command at hand of a program that runs, and the device behind it
+
+abbrev pub commanded : DefinedDevice → Option Running → Interaction (List ℕ) Image DefinedDevice (Option defs.Stepped)
+commanded d (Some r) = command_at contents d r.path r.chain (need_of r.chain)
+commanded d None = Done d None
+
+abbrev pub came_from : {E : Type 0} → DefinedDevice → Option Running → Result Came E → DefinedDevice
+came_from d (Some r) result = came_to d r.path r.chain result
+came_from d None result = d
+
+-- a device on which nothing happened
+abbrev pub opened_device : ℕ → Geometry → ℕ → Plans → DefinedDevice
+opened_device d g cylinders plans = record {
+  store = opened_store d g cylinders;
+  paths = fresh_paths;
+  plans = plans;
+  history = no_history;
+  chain = None;
+}
+
+-- the programs of a path that ended, twice, and one more while one runs. It stops at the greatest of 64 bits
+abbrev pub count_of : History → ℕ → ℕ
+count_of h path = min (min (count_by (is_of_path path) h.items * 2) (2 ^ 64 - 1) + (if is_path_of h.running path then 1 else 0)) (2 ^ 64 - 1)

@@ -2,9 +2,13 @@
 #![tactic(auto)]
 
 mod command;
+mod counts;
 mod device;
 mod ending;
+mod open;
 mod past;
+mod run;
+mod seen;
 mod step;
 mod turns;
 

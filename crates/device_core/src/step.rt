@@ -1,4 +1,4 @@
-ghost use Rattle.std.specs.Prelude.{◌≡◌, ◌<◌, ◌*◌, IfOk, IfSome, IsSome, None, OnErr, OnOk, Some, length, option_map};
+ghost use Rattle.std.specs.Prelude.{◌≡◌, ◌<◌, ◌*◌, IfOk, IfSome, IsSome, OnErr, option_map};
 ghost use Rattle.ckd_chain.specs.State.{ChainState};
 ghost use Rattle.plain_defs.specs.History.{OpenEntry};
 ghost use Rattle.device_defs.specs.Command.{command, command_at};
@@ -6,7 +6,7 @@ ghost use Rattle.ckd_chain.specs.Steps.{need_of};
 ghost use Rattle.device_defs.specs.Contents.{contents};
 ghost use Rattle.device_outside.specs.Outside.{Ran, where_ok};
 ghost use Rattle.device_store.specs.State.{state_of, outside, Takes};
-ghost use Rattle.device_core.specs.State.{DefinedDevice, open_of, chain_of, history_of, device_of, came_to, told, step_had};
+ghost use Rattle.device_core.specs.State.{DefinedDevice, open_of, came_to, told, commanded, came_from};
 ghost use Rattle.device_core.specs.Turns.{Left};
 ghost use Rattle.device_core.specs.Words.{IsAtWord};
 
@@ -40,5 +40,32 @@ fn on_running<V: Volume, P: Port, K: Keep<TrackImage>>(
     match running.chain.need() {
         Some(t) => on_tracks(store, running, t, port, keep),
         None => on_paths(store.alloc, store.geometry, paths, running),
+    }
+}
+
+/// The same of a program that runs.
+pub(crate) fn on_past<V: Volume, P: Port, K: Keep<TrackImage>>(
+    store: &mut DeviceStore<V>,
+    paths: &mut Paths,
+    running: &mut Option<Running>,
+    port: &mut P,
+    keep: &mut K,
+) -> Result<Came, NoMemory>
+    requires running { IsSome running.old }
+    requires word { IfSome running.old (λ r. IsAtWord store.old.cylinders r.chain) }
+    requires room { IfSome running.old (λ r. 0 < r.ends.spare) }
+    requires takes { Takes K.takes keep.old store.old.number (store.old.cylinders * 15) }
+    ensures fixed { (store.new.number ≡ store.old.number) × (store.new.cylinders ≡ store.old.cylinders) }
+    ensures takes { Takes K.takes keep.new store.new.number (store.new.cylinders * 15) }
+    ensures running { IsSome running.new }
+    ensures room { IfSome running.new (λ r. 0 < r.ends.spare) }
+    ensures open { option_map open_of running.new ≡ option_map open_of running.old }
+    ensures left { IfOk result (λ came. IfSome running.new (λ r. Left store.old.cylinders r.chain came)) }
+    ensures word { OnErr result (IfSome running.new (λ r. IsAtWord store.old.cylinders r.chain)) }
+    ensures run { (d : DefinedDevice) → d.store ≡ state_of store.old → d.paths ≡ paths.old → Ran (where_ok result) K.hears (commanded d running.old) (outside (P.view port.old) store.old keep.old) (came_from (record d { store = state_of store.new; paths = paths.new }) running.new result) (told result) (outside (P.view port.new) store.new keep.new) }
+{
+    match running {
+        Some(running) => on_running(store, paths, running, port, keep),
+        None => unreachable!(),
     }
 }

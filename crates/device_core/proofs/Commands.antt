@@ -1,0 +1,96 @@
+-- A command of a program that runs, and the event that it is.
+use Rattle.std.proofs.Common.{◌≡◌, ◌∙◌, ℕ, Bool, true, false, List, Option, None, Some, refl, sym, ap, subst}
+use Rattle.std.specs.Prelude.{IsSome, option_map, Ok, Err}
+use Rattle.ckd_types.specs.declared.channel.CommandEnd.{CommandEnd}
+use Rattle.ckd_types.specs.declared.memory.NoMemory.{NoMemory}
+use Rattle.ckd_chain.specs.State.{ChainState}
+use Rattle.plain_defs.specs.History.{OpenEntry, History}
+use Rattle.plain_defs.specs.Journal.{Plans}
+use Rattle.plain_defs.specs.PlainState.{PathsState, with_sense}
+use Rattle.track_image.specs.Image.{Image}
+use Rattle.track_cache.specs.declared.frames.Frame.{Frame}
+use Rattle.nv_store.specs.declared.patches.Stored.{Stored}
+use Rattle.device_outside.specs.Interaction.{Interaction, Done, and_then}
+use Rattle.device_outside.specs.Keeper.{Hearing}
+use Rattle.device_outside.specs.Outside.{Outside, Ran, done}
+use Rattle.device_outside.specs.declared.volume.Volume.{Ghosts}
+use Rattle.device_outside.proofs.Runs.{joined}
+use Rattle.device_defs.specs.declared.answers.Came.{Came}
+use Rattle.device_defs.specs.declared.answers.Came.TheVariants.{Ends, Checks, HalfOpen}
+use Rattle.device_defs.specs.Command.{command_by}
+use Rattle.device_defs.specs.Contents.{contents}
+use Rattle.device_defs.specs.Device.{event, event_ended}
+use Rattle.device_defs.specs.Outcomes.{turned, gone_on}
+use Rattle.device_defs.specs.Owed.{hear}
+use Rattle.device_defs.specs.Store.{Store}
+use Rattle.device_store.specs.declared.store.DeviceStore.{DeviceStore}
+use Rattle.device_store.specs.State.{state_of}
+use Rattle.device_store.proofs.Bare.{ended_at_once}
+use Rattle.device_store.proofs.Moves.{from_equal}
+use Rattle.device_core.specs.declared.past.Running.{Running}
+use Rattle.device_core.specs.declared.past.Past.{Past}
+use Rattle.device_core.specs.State.{DefinedDevice, open_of, chain_of, device_by, commanded, came_from}
+use Rattle.device_core.specs.Turns.{turn_with}
+
+by_over : (d : DefinedDevice) (x : Option ChainState) (chain : ChainState) (e : CommandEnd) (over : Bool) →
+    gone_on (record d { chain = x }) chain (record e { over = over }) ≡ gone_on d chain (record e { over = over })
+by_over d x chain e true = refl
+by_over d x chain e false = refl
+
+-- what came of a command doesn't ask the chain before it
+pub turned_anew : (d : DefinedDevice) (x : Option ChainState) (path : ℕ) (chain : ChainState) (came : Came) →
+    turned (record d { chain = x }) path (turn_with chain came) ≡ turned d path (turn_with chain came)
+turned_anew d x path chain (Ends e) = by_over (record d { paths = with_sense d.paths path e.sense }) x chain e e.over
+turned_anew d x path chain (Checks e) = refl
+turned_anew d x path chain (HalfOpen t) = refl
+
+-- a program that runs has no act so far
+pub by_command : (d : DefinedDevice) (x : Option Running) → IsSome x →
+    command_by contents d (option_map open_of x) (option_map chain_of x) ≡ commanded d x
+by_command d None is = absurd cc
+by_command d (Some r) is = refl
+
+module _ (s : Store Frame Stored Image) (paths : PathsState) (plans : Plans) where
+  abbrev with_past : History → Option ChainState → DefinedDevice
+  with_past h chain = record { store = s; paths = paths; plans = plans; history = h; chain = chain }
+
+  -- room is no part of a device
+  pub same_device : (p q : Past) → option_map open_of p.running ≡ option_map open_of q.running →
+      option_map chain_of p.running ≡ option_map chain_of q.running → p.items.items ≡ q.items.items → p.waiting ≡ q.waiting →
+      device_by s paths plans p ≡ device_by s paths plans q
+  same_device p q running chain items waiting = rw (running, chain, items, waiting) refl
+
+  module _ (s0 : Store Frame Stored Image) (paths0 : PathsState) (p : Past) where
+    abbrev with_open : Option OpenEntry → History
+    with_open o = record { items = p.items.items; running = o; waiting = p.waiting.items }
+
+    pub lacked_to : (y : Option Running) (e : NoMemory) → IsSome y → option_map open_of y ≡ option_map open_of p.running →
+        came_from (record (device_by s0 paths0 plans p) { store = s; paths = paths }) y (Err e) ≡ device_by s paths plans (record p { running = y })
+    lacked_to None e is same = absurd cc
+    lacked_to (Some r) e is same = ap (λ (o : Option OpenEntry). with_past (with_open o) (Some r.chain)) (sym same)
+
+    pub ended_to : (y : Option Running) (came : Came) (d : DefinedDevice) → IsSome y → option_map open_of y ≡ option_map open_of p.running →
+        ((o : OpenEntry) (chain : ChainState) → option_map open_of y ≡ Some o → option_map chain_of y ≡ Some chain →
+        d ≡ turned (device_by s paths plans (record p { running = y })) o.path (turn_with chain came)) →
+        came_from {E = NoMemory} (record (device_by s0 paths0 plans p) { store = s; paths = paths }) y (Ok came) ≡ d
+    ended_to None came d is same turn = absurd cc
+    ended_to (Some r) came d is same turn =
+        ap (λ (o : Option OpenEntry). turned (with_past (with_open o) (option_map chain_of p.running)) r.path (turn_with r.chain came)) (sym same)
+        ∙ turned_anew (with_past (with_open (Some (open_of r))) (Some r.chain)) (option_map chain_of p.running) r.path r.chain came
+        ∙ sym (turn (open_of r) r.chain refl refl)
+
+-- the same run, with an equal answer
+pub to_answer : {R I K S A : Type 0} {had : Bool → Type 0} {hears : Hearing I K} {i : Interaction R I S A} {v w : Outside R K} {s : S} {a b : A} →
+    a ≡ b → Ran had hears i v s a w → Ran had hears i v s b w
+to_answer {had = had} {hears = hears} {i = i} {v = v} {w = w} {s = s} same ran = subst (λ x. Ran had hears i v s x w) same ran
+
+module _ {V K A : Type 0} {G : Ghosts V} {had : Bool → Type 0} {hears : Hearing Image K} where
+  -- an event that takes its notes, and then does its work, ends at once
+  pub event_ran : (x y : DeviceStore V G) (d e : DefinedDevice) (body : DefinedDevice → Interaction (List ℕ) Image DefinedDevice A) {a : A}
+      {u v w : Outside (List ℕ) K} → Ran had hears (hear contents 960 (state_of x)) u (state_of x) tt v →
+      Ran had hears (body (record d { store = state_of x })) v (record e { store = state_of y }) a w →
+      Ran had hears (event contents (record d { store = state_of x }) body) u (record e { store = state_of y }) a w
+  event_ran x y d e body {a} heard bodied =
+      joined (event_ended contents (record d { store = state_of x }))
+      (joined (λ s _. body (record d { store = s })) heard bodied)
+      (from_equal (λ i. and_then i (λ z _. Done (record e { store = z }) a)) (sym (ended_at_once contents (state_of x) (state_of y))) refl done)

@@ -1,0 +1,57 @@
+ghost use Rattle.std.specs.Prelude.{◌≡◌, ◌≤◌, ◌*◌, IfErr, IfOk};
+ghost use Rattle.plain_defs.specs.History.{no_history};
+ghost use Rattle.device_core.specs.State.{history_of, device_of, opened_device};
+
+use crate::Device;
+use crate::past::Past;
+use ckd_types::{DeviceNo, Geometry, NoMemory};
+use deck_plan::PathPlans;
+use device_outside::Volume;
+use device_store::DeviceStore;
+use plain_defs::Journal;
+use plain_device::Paths;
+use std::alloc::Global;
+
+impl Past {
+    /// Nothing happened. Takes no memory.
+    fn new(alloc: Global) -> Past
+        ensures { history_of result ≡ no_history }
+    {
+        Past {
+            items: Journal::new(alloc),
+            running: None,
+            waiting: Vec::new(alloc),
+            last: 0,
+        }
+    }
+}
+
+impl<V: Volume> Device<V> {
+    /// A device of 1 to 64 cylinders on a volume of empty tracks, with 15 tracks for each cylinder. What was handed in comes
+    /// back where memory is lacking.
+    pub fn open(
+        alloc: Global,
+        number: DeviceNo,
+        geometry: Geometry,
+        cylinders: u8,
+        volume: V,
+        plans: PathPlans,
+    ) -> Result<Device<V>, (NoMemory, V, PathPlans)>
+        requires some { 1 ≤ cylinders }
+        requires most { cylinders ≤ 64 }
+        requires volume { (V.view volume).tracks ≡ cylinders * 15 }
+        ensures device { IfOk result (λ d. device_of d ≡ opened_device number geometry cylinders plans) }
+        ensures volume { IfOk result (λ d. d.store.volume ≡ volume) }
+        ensures back { IfErr result (λ e. (e.1 ≡ volume) × (e.2 ≡ plans)) }
+    {
+        match DeviceStore::open(alloc, number, geometry, cylinders, volume) {
+            Err((NoMemory, volume)) => Err((NoMemory, volume, plans)),
+            Ok(store) => Ok(Device {
+                store,
+                paths: Paths::new(),
+                plans,
+                past: Past::new(alloc),
+            }),
+        }
+    }
+}

@@ -1,0 +1,118 @@
+ghost use Rattle.std.specs.Prelude.{◌≡◌, None, Some, option_map, is_some};
+ghost use Rattle.std.specs.Option.{option_copied};
+ghost use Rattle.plain_defs.specs.History.{OpenEntry};
+ghost use Rattle.device_core.specs.State.{open_of, last_of, last_end_of, device_of};
+
+use crate::Device;
+use ckd_types::{CommandEnd, DeviceNo, Geometry, PathNo};
+use device_defs::Losses;
+use device_outside::Volume;
+use loss_model::LostList;
+use plain_defs::{Item, Journal};
+
+/// The last end of a program.
+fn last_of(ends: &[CommandEnd]) -> Option<&CommandEnd>
+    ensures { option_copied result ≡ last_of ends.now }
+{
+    ends.last()
+}
+
+impl<V: Volume> Device<V> {
+    /// The end of the command that ended last: of the program that runs, or else of the one that ended last. Directly behind a
+    /// command that answered `Stepped::Ended` it is that command's.
+    pub fn last_end(&self) -> Option<&CommandEnd>
+        ensures { option_copied result ≡ last_end_of self.now.past }
+    {
+        if let Some(running) = &self.past.running {
+            return last_of(running.ends.as_slice());
+        }
+        match self.past.items.as_slice().get(self.past.last)? {
+            Item::Program(entry) => last_of(entry.ends.as_slice()),
+            _ => None,
+        }
+    }
+
+    pub fn number(&self) -> DeviceNo
+        ensures { result ≡ self.now.store.number }
+    {
+        self.store.number
+    }
+
+    pub fn geometry(&self) -> Geometry
+        ensures { result ≡ self.now.store.geometry }
+    {
+        self.store.geometry
+    }
+
+    pub fn cylinders(&self) -> u8
+        ensures { result ≡ self.now.store.cylinders }
+    {
+        self.store.cylinders
+    }
+
+    /// The path whose program runs.
+    pub fn active(&self) -> Option<PathNo>
+        ensures { result ≡ option_map (λ (o : OpenEntry). o.path) (option_map open_of self.now.past.running) }
+    {
+        match &self.past.running {
+            Some(running) => Some(running.path),
+            None => None,
+        }
+    }
+
+    /// Whether a write in two parts is open. None ever is yet.
+    pub fn half_open(&self) -> bool
+        ensures { result ≡ is_some (device_of self.now).store.half }
+    {
+        false
+    }
+
+    /// The device that its volume is lent to. It never is yet.
+    pub fn lent_to(&self) -> Option<DeviceNo>
+        ensures { result ≡ (device_of self.now).store.lent }
+    {
+        None
+    }
+
+    /// What happened to the device, but for the program that runs.
+    pub fn journal(&self) -> &Journal
+        ensures { result.now ≡ self.now.past.items }
+    {
+        &self.past.items
+    }
+
+    /// The tracks that are lost.
+    pub fn lost(&self) -> &LostList
+        ensures { result.now ≡ self.now.store.lost }
+    {
+        &self.store.lost
+    }
+
+    /// How often each kind of loss came to it.
+    pub fn losses(&self) -> Losses
+        ensures { result ≡ self.now.store.counts.losses }
+    {
+        self.store.counts.losses
+    }
+
+    /// How many reads of volumes it made.
+    pub fn reads(&self) -> u64
+        ensures { result ≡ self.now.store.counts.reads }
+    {
+        self.store.counts.reads
+    }
+
+    /// How many writes of volumes it made.
+    pub fn writes(&self) -> u64
+        ensures { result ≡ self.now.store.counts.writes }
+    {
+        self.store.counts.writes
+    }
+
+    /// Hands back the volumes of side A and of side B. Takes no memory.
+    pub fn into_volumes(self) -> (Option<V>, Option<V>)
+        ensures { result ≡ (Some self.store.volume, None) }
+    {
+        (Some(self.store.volume), None)
+    }
+}
