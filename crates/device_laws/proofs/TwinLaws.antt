@@ -1,10 +1,10 @@
 -- The laws of a device that tells what it holds: its parts leave it in order, and do on marks what they do on contents.
-use Rattle.std.proofs.Common.{◌≡◌, ◌≢◌, ◌<◌, ◌==◌, ℕ, Bool, true, false, List, Option, Some, None, is_some, refl, sym, ap, subst, ◌∙◌, arith}
+use Rattle.std.proofs.Common.{◌≡◌, ◌<◌, ◌==◌, ℕ, true, false, List, Option, Some, None, refl, ap, subst, ◌∙◌, arith}
 use Rattle.ckd_types.specs.declared.paths.Side.{Side}
 use Rattle.ckd_types.specs.declared.record.Edit.{Edit}
 use Rattle.ckd_types.specs.declared.record.Track.{Track}
 use Rattle.ckd_types.specs.Volume.{track_in}
-use Rattle.track_image.specs.Image.{Image, edited_image}
+use Rattle.track_image.specs.Image.{Image}
 use Rattle.device_defs.specs.declared.usage.Usage.{Usage}
 use Rattle.device_defs.specs.Background.{work}
 use Rattle.device_defs.specs.Contents.{contents, by_plain}
@@ -22,7 +22,7 @@ use Rattle.device_laws.specs.PlainWrites.{SuitsTrack, OriginSuits}
 use Rattle.device_laws.specs.Twin.{Twins}
 use Rattle.device_laws.proofs.Changes as C
 use Rattle.device_laws.proofs.ContentChanges.{agrees_sure, sure_agrees}
-use Rattle.device_laws.proofs.FailedCall.{IsKept, IsWell, failed_call_keeps_good}
+use Rattle.device_laws.proofs.FailedCall.{IsWell, failed_call_keeps_good}
 use Rattle.loss_model.specs.declared.Loss.TheVariants as losses
 use Rattle.device_laws.proofs.LossEvents.{losing_goes}
 use Rattle.device_laws.proofs.SecondPart.{second_part_keeps_good}
@@ -38,7 +38,6 @@ use Rattle.device_laws.proofs.TwinFailed.{failed_twin}
 use Rattle.device_laws.proofs.TwinLooks.{image_twin}
 use Rattle.device_laws.proofs.TwinLosses.{store_loss_twin, side_loss_twin}
 use Rattle.device_laws.proofs.TwinSecond.{second_part_twin}
-use Rattle.device_laws.proofs.TwinThrough.{none_off}
 use Rattle.device_laws.proofs.TwinWalks.{twin_always, twin_weaker}
 use Rattle.device_laws.proofs.TwinWrite.{write_twin}
 use Rattle.device_laws.proofs.TwinWork.{work_twin}
@@ -133,7 +132,8 @@ second_part_is_plain v w s h i order is suits =
     let o = in_order v w s h order in
     let lt = order.within i is in
     twin_weaker
-    (twin_always (second_part_twin v w s h i is lt (lost_there s h i.track ∙ order.there i is) o suits) (second_part_keeps_good contents device_is_faithful s i lt o.well is))
+    (twin_always (second_part_twin v w s h i is lt (lost_there s h i.track
+    ∙ order.there i is) o suits) (second_part_keeps_good contents device_is_faithful s i lt o.well is))
     (λ v' w' z a b k f. record { order = is_in_order v' w' z k f.0.order f.1.well; plain = f.0.plain; same = f.0.same })
 
 -- while no half write is open
