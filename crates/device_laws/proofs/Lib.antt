@@ -62,4 +62,5 @@ pub mod TwinSaving
 pub mod TwinCopies
 pub mod TwinWork
 pub mod TwinLosses
+pub mod TwinFollow
 pub mod TwinLaws
