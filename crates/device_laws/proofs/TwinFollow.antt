@@ -36,7 +36,7 @@ use Rattle.device_laws.specs.Agrees.{Held, image_in}
 use Rattle.device_laws.specs.Feeding.{Feeds, volume_with, IsAsFed, ComesAsFed}
 use Rattle.device_laws.specs.PlainWrites.{SuitsTrack, plain_had}
 use Rattle.device_laws.specs.Twin.{Twin, Twins}
-use Rattle.device_laws.proofs.Commands.{Stays, GoesOn, LookedAt, look_keeps_good}
+use Rattle.device_laws.proofs.Commands.{Stays, GoesOn, LookedAt, look_keeps_good, follow_keeps_good}
 use Rattle.device_laws.proofs.FailedCall.{IsWell, Goes}
 use Rattle.device_laws.proofs.TrackMarks as M
 use Rattle.device_laws.proofs.TrackMarks.{track_at, device_is_faithful}
@@ -49,7 +49,7 @@ use Rattle.device_laws.proofs.TwinWalks.{twin_done, twin_then, twin_always, twin
 use Rattle.device_laws.proofs.TwinWrite.{HadTwin, write_twin}
 use Rattle.device_laws.proofs.WholeImage.{has_image, image_keeps_good}
 
-module _ (g : Geometry) (looks : ChainState → ℕ → Type 0) (feeds : Feeds g looks) (u : List Track) where
+module _ (m : ℕ) (g : Geometry) (looks : ChainState → ℕ → Type 0) (feeds : Feeds m g looks) (u : List Track) where
   abbrev plain_image : ℕ → Image
   plain_image t = record { geometry = g; track = track_in u t }
 
@@ -207,3 +207,73 @@ module _ (g : Geometry) (looks : ChainState → ℕ → Type 0) (feeds : Feeds g
       where
         has_some : (a : Option Imaged) (i : Image) → a ≡ Some (Has i) → has_image a ≡ true
         has_some a i e = ap has_image e
+
+  -- From track to track
+
+  pub record FollowTwin (s : DeviceStore) (n : ℕ) (chain : ChainState) (v w : List Track) (z : DeviceStore) (a b : Option Turn) (k : Held) : Type 0 where
+    pub order : Ordered v w z k
+    pub same : a ≡ b
+    pub geometry : z.geometry ≡ s.geometry
+    pub came : ComesAsFed u n chain a v
+
+  abbrev Within : ChainState → Type 0
+  Within chain = (t : ℕ) × looks chain t
+
+  within : Stays m Within
+  within = record {
+    needs = λ chain q i e.
+        let there = feeds.needs chain i.0 i.1 in let same : i.0 ≡ q = cc in subst (λ (t : ℕ). t < m) same (feeds.inside chain i.0 i.1);
+    goes = λ chain i q x e. let next = feeds.goes chain x.0 i q x.1 e in ((q, next), feeds.inside (stepped chain (Some i)).chain q next);
+  }
+
+  abbrev Following : ℕ → ℕ → Type 0
+  Following n first =
+      (chain : ChainState) (t : ℕ) (s : DeviceStore) (w : List Track) (h : Held) → looks chain t → tracks_of s ≡ m → s.geometry ≡ g → s.half ≡ None →
+      InOrder u w s h →
+      Twins (λ v' w' z a b k. FollowTwin s n chain v' w' z a b k) (follow contents n first chain t s) (follow by_plain n first chain t (marks_of u w s)) h
+
+  went_further : (n first : ℕ) (chain : ChainState) (s : DeviceStore) (v w : List Track) (z : DeviceStore) (k : Held) (a : Option Went) → Following n first →
+      Ordered v w z k → z.geometry ≡ s.geometry → s.geometry ≡ g → WentAs chain a v → LookedAt contents device_is_faithful m Within within s z a → tracks_of s ≡ m →
+      Twins (λ v' w' y b c l. FollowTwin s (suc n) chain v' w' y b c l) (had_by (goes_on contents (follow contents n first)) z a)
+      (had_by (goes_on by_plain (follow by_plain n first)) (marks_of v w z) a) k
+  went_further n first chain s v w z k None later o geometry on went seen same =
+      twin_done (record { order = o; same = refl; geometry = geometry; came = went })
+  went_further n first chain s v w z k (Some (Over turn)) later o geometry on went seen same =
+      twin_done (record { order = o; same = refl; geometry = geometry; came = went n })
+  went_further n first chain s v w z k (Some (On next q)) later o geometry on went seen same =
+      let i : InOrder u w z k = subst (λ (x : List Track). InOrder x w z k) went.0 (record { sure = o.sure; told = o.told; well = seen.keeps.well }) in
+      subst (λ (x : List Track). Twins (λ v' w' y b c l. FollowTwin s (suc n) chain v' w' y b c l) (follow contents n first next q z)
+      (follow by_plain n first next q (marks_of x w z)) k) (sym went.0)
+      (twin_weaker (later next q z w k went.1.0 (seen.keeps.tracks ∙ same) (geometry ∙ on) seen.on.0 i)
+      (λ v' w' y b c l f. record { order = f.order; same = f.same; geometry = f.geometry ∙ geometry; came = as_fed n chain next b v' went.1.1 f.came }))
+    where
+      as_fed : (n : ℕ) (chain next : ChainState) (b : Option Turn) (v' : List Track) →
+          ((n : ℕ) (answer : LocalAct → Settled) → fed (suc n) (track_in u) answer chain ≡ fed n (track_in u) answer next) → ComesAsFed u n next b v' →
+          ComesAsFed u (suc n) chain b v'
+      as_fed n chain next None v' same came = came
+      as_fed n chain next (Some turn) v' same came = λ answer. subst (λ (x : Fed). IsAsFed u x turn.chain turn.came v') (sym (same n answer)) (came answer)
+
+  pub follow_twin : (n first : ℕ) → Following n first
+  unfolding N.follow
+  follow_twin zero first chain t s w h at same on none o =
+      twin_done (record { order = record { sure = o.sure; told = o.told }; same = refl; geometry = refl; came = λ answer. refl })
+  follow_twin (suc n) first chain t s w h at same on none o =
+      let lt : t < tracks_of s = let below = feeds.inside chain t at in omega arith in
+      twin_then (had_by (goes_on contents (follow contents n first))) (had_by (goes_on by_plain (follow by_plain n first)))
+      (twin_always (look_twin s chain first t at on lt none w h o)
+      (look_keeps_good contents device_is_faithful m Within within chain first t s (t, at) lt o.well none))
+      (λ v' w' z a b k f.
+      subst (λ (x : Option Went). Twins (λ v2 w2 y c d l. FollowTwin s (suc n) chain v2 w2 y c d l) (had_by (goes_on contents (follow contents n first)) z a)
+      (had_by (goes_on by_plain (follow by_plain n first)) (marks_of v' w' z) x) k) f.0.same
+      (went_further n first chain s v' w' z k a (follow_twin n first) f.0.order f.0.geometry on f.0.went f.1 same))
+
+  -- what is known of marks alone
+  pub follow_order : (n first : ℕ) (chain : ChainState) (t : ℕ) (s : DeviceStore) (w : List Track) (h : Held) → looks chain t → tracks_of s ≡ m → s.geometry ≡ g →
+      s.half ≡ None → InOrder u w s h →
+      Twins (λ v' w' z a b k. FollowTwin s n chain v' w' z a b k × IsWell contents z) (follow contents n first chain t s)
+      (follow by_plain n first chain t (marks_of u w s)) h
+  follow_order n first chain t s w h at same on none o =
+      twin_weaker
+      (twin_always (follow_twin n first chain t s w h at same on none o)
+      (follow_keeps_good contents device_is_faithful m Within within n first chain t s (t, at) same (feeds.inside chain t at) o.well none))
+      (λ v' w' z a b k f. (f.0, f.1.well))

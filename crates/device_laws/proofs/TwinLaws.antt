@@ -1,5 +1,7 @@
 -- The laws of a device that tells what it holds: its parts leave it in order, and do on marks what they do on contents.
 use Rattle.std.proofs.Common.{◌≡◌, ◌<◌, ◌==◌, ℕ, true, false, List, Option, Some, None, refl, ap, subst, ◌∙◌, arith}
+use Rattle.ckd_chain.specs.State.{ChainState}
+use Rattle.ckd_types.specs.declared.geometry.Geometry.{Geometry}
 use Rattle.ckd_types.specs.declared.paths.Side.{Side}
 use Rattle.ckd_types.specs.declared.record.Edit.{Edit}
 use Rattle.ckd_types.specs.declared.record.Track.{Track}
@@ -7,6 +9,7 @@ use Rattle.ckd_types.specs.Volume.{track_in}
 use Rattle.track_image.specs.Image.{Image}
 use Rattle.device_defs.specs.declared.usage.Usage.{Usage}
 use Rattle.device_defs.specs.Background.{work}
+use Rattle.device_defs.specs.Command.{follow}
 use Rattle.device_defs.specs.Contents.{contents, by_plain}
 use Rattle.device_defs.specs.Editing.{write}
 use Rattle.device_defs.specs.Events.{losing}
@@ -17,6 +20,7 @@ use Rattle.device_defs.specs.Second.{second_part}
 use Rattle.device_defs.specs.Sound.{DeviceStore}
 use Rattle.device_defs.specs.Store.{HalfWrite, tracks_of, is_lost, half_is}
 use Rattle.device_laws.specs.Agrees.{Held, image_in}
+use Rattle.device_laws.specs.Feeding.{Feeds, FollowIs}
 use Rattle.device_laws.specs.InOrder.{IsInOrder, StaysInOrder, ImageIs, WriteIs, SecondIs, QueueStands}
 use Rattle.device_laws.specs.PlainWrites.{SuitsTrack, OriginSuits}
 use Rattle.device_laws.specs.Twin.{Twins}
@@ -35,6 +39,7 @@ use Rattle.device_laws.proofs.TrackMarks as M
 use Rattle.device_laws.proofs.TrackMarks.{track_at, device_is_faithful}
 use Rattle.device_laws.proofs.TwinAsks.{InOrder, Ordered}
 use Rattle.device_laws.proofs.TwinFailed.{failed_twin}
+use Rattle.device_laws.proofs.TwinFollow.{follow_order}
 use Rattle.device_laws.proofs.TwinLooks.{image_twin}
 use Rattle.device_laws.proofs.TwinLosses.{store_loss_twin, side_loss_twin}
 use Rattle.device_laws.proofs.TwinSecond.{second_part_twin}
@@ -157,3 +162,11 @@ lost_side_leaves_order v w s h side i =
     let o = in_order v w s h i in
     twin_weaker (twin_always (side_loss_twin v w s h side o) (losing_goes contents device_is_faithful s (losses.Side side) o.well))
     (λ v' w' z a b k f. record { order = is_in_order v' w' z k f.0.order f.1.well; plain = f.0.plain; same = refl })
+
+-- a command goes from track to track, while no half write is open
+pub command_goes_as_fed : (tracks : ℕ) (g : Geometry) (looks : ChainState → ℕ → Type 0) (v w : List Track) (s : DeviceStore) (h : Held) (n first t : ℕ) (chain : ChainState) →
+    Feeds tracks g looks → looks chain t → tracks_of s ≡ tracks → s.geometry ≡ g → s.half ≡ None → IsInOrder v w s h →
+    Twins (λ v' w' z a b k. FollowIs v n chain v' w' z a b k) (follow contents n first chain t s) (follow by_plain n first chain t (marks_of v w s)) h
+command_goes_as_fed tracks g looks v w s h n first t chain feeds at same on none i =
+    twin_weaker (follow_order tracks g looks feeds v n first chain t s w h at same on none (in_order v w s h i))
+    (λ v' w' z a b k f. record { order = is_in_order v' w' z k f.0.order f.1; same = f.0.same; came = f.0.came })
