@@ -63,4 +63,5 @@ pub mod TwinCopies
 pub mod TwinWork
 pub mod TwinLosses
 pub mod TwinFollow
+pub mod TwinEvents
 pub mod TwinLaws
