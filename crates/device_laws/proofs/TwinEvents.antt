@@ -3,6 +3,7 @@ use Rattle.std.proofs.Common.{◌≡◌, ◌≢◌, ◌<◌, ◌==◌, ◌&&◌,
 use Rattle.std.proofs.lemmas.Bool.{cases_eq}
 use Rattle.std.specs.Prelude.{option_map, if◌then◌else◌}
 use Rattle.ckd_types.specs.declared.record.Track.{Track}
+use Rattle.ckd_types.specs.Volume.{track_in}
 use Rattle.track_table.specs.Tracks as T
 use Rattle.track_table.specs.Tracks.{count_below}
 use Rattle.track_image.specs.Image.{Image}
@@ -121,3 +122,127 @@ pub hear_twin : (n : ℕ) → Hearing n
 unfolding O.hear
 hear_twin zero v w s h o = twin_done (record { order = record { sure = o.sure; told = o.told }; plain = refl; stays = stays_same s })
 hear_twin (suc n) v w s h o = ask_notice s.device (λ note. by_note n v w s h note (hear_twin n) o)
+
+-- What is owed
+
+record Same (v w : List Track) (s : DeviceStore) (v' w' : List Track) (z : DeviceStore) (k : Held) : Type 0 where
+  pub plain : v' ≡ v
+  pub firm : w' ≡ w
+  pub store : z ≡ s
+  pub order : Ordered v w s k
+
+same_is : (v w : List Track) (s : DeviceStore) (k : Held) → Ordered v w s k → Same v w s v w s k
+same_is v w s k o = record { plain = refl; firm = refl; store = refl; order = o }
+
+modified_frame : (f : Option Frame) → is_modified by_plain (option_map frame_mark f) ≡ is_modified contents f
+modified_frame None = refl
+modified_frame (Some f) = refl
+
+base_slots : (s : DeviceStore) (h : Held) (z : DeviceStore) (o : Option (List ℕ)) → C.base_of z (record h { slots = o }) ≡ C.base_of z h
+unfolding C.base_of
+base_slots s h z o = refl
+
+module _ (v w : List Track) (s : DeviceStore) (t : ℕ) (lt : t < tracks_of s) where
+  modified_twin : (h : Held) → Ordered v w s h →
+      Twins (λ v' w' z _ _ k. Same v w s v' w' z k) (modified_told contents t s) (modified_told by_plain t (marks_of v w s)) h
+  modified_twin h o =
+      on_tests ((owed_at s t).modified && is_modified contents (frame_at s t))
+      ((owed_at (marks_of v w s) t).modified && is_modified by_plain (frame_at (marks_of v w s) t))
+      (ap (λ (x : Owed). x.modified && is_modified by_plain (frame_at (marks_of v w s) t)) (owed_twin v w s t)
+      ∙ ap (λ (b : Bool). (owed_at s t).modified && b) (ap (is_modified by_plain) (frame_twin v w s t) ∙ modified_frame (frame_at s t)))
+      (λ _. ask_modified s.device t (λ _. twin_done (same_is v w s h o)))
+      (λ _. twin_done (same_is v w s h o))
+
+  drop_twin : (h : Held) → Ordered v w s h →
+      Twins (λ v' w' z _ _ k. Same v w s v' w' z k) (dropped_told contents t s) (dropped_told by_plain t (marks_of v w s)) h
+  drop_twin h o =
+      on_tests (owed_at s t).dropped (owed_at (marks_of v w s) t).dropped (ap (λ (x : Owed). x.dropped) (owed_twin v w s t))
+      (λ _. ask_drop s.device t (twin_done (same_is v w s h o)))
+      (λ _. twin_done (same_is v w s h o))
+
+  module _ (h : Held) (o : Ordered v w s h) where
+    abbrev x : TrackContents
+    x = contents_at s h t
+
+    abbrev paid : DeviceStore
+    paid = with_owed s t no_debt
+
+    abbrev y : TrackContents
+    y = record x { freed = None; debt = false }
+
+    paid_altered : Altered s h paid h t (record x { freed = None; debt = false })
+    paid_altered = altered_owed s h t lt o.sure.ground.sizes no_debt
+
+    after_slots : (k : Held) → Altered s h paid k t (record x { freed = None; debt = false }) → HasSlots paid k.slots → Ordered v w paid k
+    after_slots k e slots = record {
+      sure = right_altered None v w s h paid k t (record x { freed = None; debt = false }) o.sure e
+          (sits_still v w s h t (record x { freed = None; debt = false }) lt o.sure.ground refl refl) slots
+          (λ ne. right_fewer s.geometry t s.half x (record x { freed = None; debt = false })
+          (record { geometry = s.geometry; track = track_in v t })
+          (record { geometry = s.geometry; track = track_in w t })
+          (record { lost = λ l. l; frame = λ i f. f; patch = refl; a = λ l. (l, refl); b = λ l. (l, refl) }) (o.sure.right t lt ne));
+      told = told_altered s h paid k t (record x { freed = None; debt = false }) o.told e (sym (o.told t));
+    }
+
+    freed_is : (owed_at s t).freed ≡ x.freed
+    unfolding K.contents_at
+    freed_is = refl
+
+    other_slots : (kept : Bool) (q : ℕ) → slot_of kept (record x { freed = None; debt = false }) ≡ slot_of kept x → (r : ℕ) →
+        slot_of kept (contents_at paid h r) ≡ slot_of kept (contents_at s h r)
+    other_slots kept q same r = by_track s h paid h t (record x { freed = None; debt = false }) kept paid_altered same r
+
+    nothing_freed : (owed_at s t).freed ≡ None → Ordered v w paid h
+    nothing_freed none =
+        after_slots h paid_altered
+        (unseen_slots s h paid h (λ kept q. other_slots kept q (slots_by kept) q) refl o.sure.ground.slots)
+      where
+        slots_by : (kept : Bool) → slot_of kept (record x { freed = None; debt = false }) ≡ slot_of kept x
+        slots_by true = refl
+        slots_by false = sym none ∙ freed_is
+
+    module _ (slot : ℕ) (owed : (owed_at s t).freed ≡ Some slot) where
+      slot_gone : slot_at paid false t ≡ None
+      slot_gone = slot_is paid h false t ∙ ap (slot_of false) paid_altered.here
+
+      slots_still : (kept : Bool) (q n : ℕ) → slot_at paid kept q ≡ Some n → slot_at s kept q ≡ Some n
+      slots_still kept q n e = by_place kept (cases_eq q t) e
+        where
+          by_place : (kept : Bool) → ((q ≡ t) ⊎ (q ≢ t)) → slot_at paid kept q ≡ Some n → slot_at s kept q ≡ Some n
+          by_place true at e = e
+          by_place false (inl at) e =
+              absurd (let f : slot_at paid false t ≡ Some n = subst (λ (r : ℕ). slot_at paid false r ≡ Some n) at e in let g = slot_gone in cc)
+          by_place false (inr ne) e =
+              slot_is s h false q ∙ sym (ap (slot_of false) (paid_altered.elsewhere q ne)) ∙ sym (slot_is paid h false q) ∙ e
+
+      same_at : (z : DeviceStore) (q : ℕ) → contents_at z (record h { slots = held_after h.slots (FreeSlot slot) (tt {0}) }) q ≡ contents_at z h q
+      unfolding K.contents_at
+      same_at z q = refl
+
+      freed_order : Ordered v w paid (record h { slots = held_after h.slots (FreeSlot slot) (tt {0}) })
+      freed_order =
+          after_slots (record h { slots = held_after h.slots (FreeSlot slot) (tt {0}) }) freed_altered
+          (freed_slots s paid false t slot owed slots_still slot_gone h.slots o.sure.ground.slots)
+        where
+          freed_altered : Altered s h paid (record h { slots = held_after h.slots (FreeSlot slot) (tt {0}) }) t (record x { freed = None; debt = false })
+          freed_altered = record {
+            sizes = paid_altered.sizes;
+            base = base_slots s h paid (held_after h.slots (FreeSlot slot) (tt {0})) ∙ paid_altered.base;
+            elsewhere = λ q ne. same_at paid q ∙ paid_altered.elsewhere q ne;
+            here = same_at paid t ∙ paid_altered.here;
+          }
+
+    freed_by : (f : Option ℕ) → (owed_at s t).freed ≡ f →
+        Twins (λ v' w' z _ _ k. (v' ≡ v) × ((w' ≡ w) × ((z ≡ s) × (Ordered v w paid k)))) (freed_told contents s f)
+        (freed_told by_plain (marks_of v w s) (option_map slot_mark f)) h
+    freed_by None e = twin_done (refl, (refl, (refl, nothing_freed e)))
+    freed_by (Some slot) e =
+        both_free (may_free s paid false t slot e (slots_still slot e) (slot_gone slot e) h.slots o.sure.ground.slots)
+        (twin_done (refl, (refl, (refl, freed_order slot e))))
+
+    freed_twin : Twins (λ v' w' z _ _ k. (v' ≡ v) × ((w' ≡ w) × ((z ≡ s) × (Ordered v w paid k)))) (freed_told contents s (owed_at s t).freed)
+        (freed_told by_plain (marks_of v w s) (owed_at (marks_of v w s) t).freed) h
+    freed_twin =
+        subst (λ (f : Option ℕ). Twins (λ v' w' z _ _ k. (v' ≡ v) × ((w' ≡ w) × ((z ≡ s) × (Ordered v w paid k))))
+        (freed_told contents s (owed_at s t).freed) (freed_told by_plain (marks_of v w s) f) h)
+        (sym (ap (λ (x : Owed). x.freed) (owed_twin v w s t))) (freed_by (owed_at s t).freed refl)
