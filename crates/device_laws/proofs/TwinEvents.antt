@@ -1,5 +1,5 @@
 -- The front and the end of an event leave all right, with their twins on marks: the notices, what is owed, and how many tracks wait.
-use Rattle.std.proofs.Common.{◌≡◌, ◌≢◌, ◌<◌, ◌==◌, ◌&&◌, ◌||◌, ◌+◌, zero, suc, ℕ, Bool, true, false, List, Option, Some, None, is_some, refl, sym, ap, subst, ◌∙◌, arith, ◌⊎◌, inl, inr}
+use Rattle.std.proofs.Common.{◌≡◌, ◌≢◌, ◌<◌, ◌≤◌, ◌==◌, ◌&&◌, ◌||◌, ◌+◌, zero, suc, ℕ, Bool, true, false, List, Option, Some, None, is_some, refl, sym, ap, subst, ◌∙◌, arith, ◌⊎◌, inl, inr}
 use Rattle.std.proofs.lemmas.Bool.{cases_eq}
 use Rattle.std.specs.Prelude.{option_map, if◌then◌else◌}
 use Rattle.ckd_types.specs.declared.record.Track.{Track}
@@ -9,8 +9,8 @@ use Rattle.track_table.specs.Tracks.{count_below}
 use Rattle.track_image.specs.Image.{Image}
 use Rattle.track_cache.specs.declared.frames.Frame.{Frame}
 use Rattle.device_outside.specs.Both.{Both, both_free}
-use Rattle.device_outside.specs.Interaction.{Interaction, Done}
-use Rattle.device_outside.specs.Pool.{FreeSlot}
+use Rattle.device_outside.specs.Interaction.{Interaction, Done, Ask, and_then}
+use Rattle.device_outside.specs.Pool.{FreeSlot, TellWaiting}
 use Rattle.device_outside.specs.Slots.{held_after}
 use Rattle.device_outside.proofs.BothRules.{on_test, on_tests}
 use Rattle.device_defs.specs.declared.owed.Owed.{Owed}
@@ -72,7 +72,7 @@ use Rattle.device_laws.proofs.TwinChoices.{clean_same}
 use Rattle.device_laws.proofs.TwinLooks.{unframed_order}
 use Rattle.device_laws.proofs.TwinSettled.{AllTold, told_altered}
 use Rattle.device_laws.proofs.TwinSlots.{may_free, freed_slots}
-use Rattle.device_laws.proofs.TwinWalks.{Pair, pair_is, twin_done, twin_ends, twin_then, twin_always, twin_weaker}
+use Rattle.device_laws.proofs.TwinWalks.{some_map, Pair, pair_is, twin_done, twin_ends, twin_then, twin_always, twin_weaker}
 use Rattle.device_laws.proofs.TwinWork.{waits_same}
 use Rattle.device_laws.proofs.WholeImage.{dropped_goes}
 
@@ -246,3 +246,94 @@ module _ (v w : List Track) (s : DeviceStore) (t : ℕ) (lt : t < tracks_of s) w
         subst (λ (f : Option ℕ). Twins (λ v' w' z _ _ k. (v' ≡ v) × ((w' ≡ w) × ((z ≡ s) × (Ordered v w paid k))))
         (freed_told contents s (owed_at s t).freed) (freed_told by_plain (marks_of v w s) f) h)
         (sym (ap (λ (x : Owed). x.freed) (owed_twin v w s t))) (freed_by (owed_at s t).freed refl)
+
+-- The end of an event
+
+at_same : (P : List Track → List Track → DeviceStore → Type 0) (v w : List Track) (s : DeviceStore) (v' w' : List Track) (z : DeviceStore) →
+    v' ≡ v → w' ≡ w → z ≡ s → P v w s → P v' w' z
+at_same P v w s v' w' z e f g x =
+    subst (λ (a : List Track). P a w' z) (sym e) (subst (λ (a : List Track). P v a z) (sym f) (subst (λ (a : DeviceStore). P v w a) (sym g) x))
+
+module _ (v w : List Track) (s : DeviceStore) (t : ℕ) (lt : t < tracks_of s) where
+  abbrev Ends : List Track → List Track → DeviceStore → Unit {0} → Unit {0} → Held → Type 0
+  Ends v' w' z _ _ k = Hears v s v' w' z k
+
+  last_twin : (h : Held) → Ordered v w s h →
+      Twins Ends (and_then (freed_told contents s (owed_at s t).freed) (λ x _. Done (with_owed x t no_debt) (tt {0})))
+      (and_then (freed_told by_plain (marks_of v w s) (owed_at (marks_of v w s) t).freed) (λ x _. Done (with_owed x t no_debt) (tt {0}))) h
+  last_twin h o =
+      twin_then (λ x _. Done (with_owed x t no_debt) (tt {0})) (λ x _. Done (with_owed x t no_debt) (tt {0})) (freed_twin v w s t lt h o)
+      (λ v' w' z _ _ k f.
+      at_same (λ a b c. Twins Ends (Done (with_owed c t no_debt) (tt {0})) (Done (with_owed (marks_of a b c) t no_debt) (tt {0})) k) v w s v' w' z f.0 f.1.0 f.1.1.0
+      (twin_ends (with_owed_twin v w s t no_debt)
+      (record { order = f.1.1.1; plain = refl; stays = record { geometry = refl; cylinders = refl; half = refl } })))
+
+  debt_twin : (h : Held) → Ordered v w s h → Twins Ends (settles_debt contents t s) (settles_debt by_plain t (marks_of v w s)) h
+  debt_twin h o =
+      twin_then
+      (λ z _. and_then (dropped_told contents t z) (λ y _. and_then (freed_told contents y (owed_at y t).freed) (λ x _. Done (with_owed x t no_debt) (tt {0}))))
+      (λ z _. and_then (dropped_told by_plain t z) (λ y _. and_then (freed_told by_plain y (owed_at y t).freed) (λ x _. Done (with_owed x t no_debt) (tt {0}))))
+      (modified_twin v w s t lt h o)
+      (λ v' w' z _ _ k f.
+      at_same
+      (λ a b c. Twins Ends
+      (and_then (dropped_told contents t c) (λ y _. and_then (freed_told contents y (owed_at y t).freed) (λ x _. Done (with_owed x t no_debt) (tt {0}))))
+      (and_then (dropped_told by_plain t (marks_of a b c)) (λ y _. and_then (freed_told by_plain y (owed_at y t).freed) (λ x _. Done (with_owed x t no_debt) (tt {0})))) k)
+      v w s v' w' z f.plain f.firm f.store
+      (twin_then (λ y _. and_then (freed_told contents y (owed_at y t).freed) (λ x _. Done (with_owed x t no_debt) (tt {0})))
+      (λ y _. and_then (freed_told by_plain y (owed_at y t).freed) (λ x _. Done (with_owed x t no_debt) (tt {0})))
+      (drop_twin v w s t lt k f.order)
+      (λ v2 w2 y _ _ l g.
+      at_same
+      (λ a b c. Twins Ends (and_then (freed_told contents c (owed_at c t).freed) (λ x _. Done (with_owed x t no_debt) (tt {0})))
+      (and_then (freed_told by_plain (marks_of a b c) (owed_at (marks_of a b c) t).freed) (λ x _. Done (with_owed x t no_debt) (tt {0}))) l)
+      v w s v2 w2 y g.plain g.firm g.store (last_twin l g.order))))
+
+  owed_same : is_owed by_plain (owed_at (marks_of v w s) t) ≡ is_owed contents (owed_at s t)
+  owed_same =
+      ap (λ (x : Owed). x.modified || x.dropped || is_some x.freed) (owed_twin v w s t)
+      ∙ ap (λ (b : Bool). (owed_at s t).modified || (owed_at s t).dropped || b) (some_map slot_mark (owed_at s t).freed)
+
+  track_twin : (h : Held) → Ordered v w s h → Twins Ends (track_told contents t s) (track_told by_plain t (marks_of v w s)) h
+  track_twin h o =
+      on_tests (is_owed contents (owed_at s t)) (is_owed by_plain (owed_at (marks_of v w s) t)) owed_same
+      (λ _. debt_twin h o)
+      (λ _. twin_done (record { order = o; plain = refl; stays = stays_same s }))
+
+told_twins : (n : ℕ) (v w : List Track) (s : DeviceStore) (h : Held) → n ≤ tracks_of s → Ordered v w s h →
+    Twins (λ v' w' z _ _ k. Hears v s v' w' z k) (all_told contents n s) (all_told by_plain n (marks_of v w s)) h
+unfolding O.all_told
+told_twins zero v w s h le o = twin_done (record { order = o; plain = refl; stays = stays_same s })
+told_twins (suc n) v w s h le o =
+    twin_then (λ z _. track_told contents n z) (λ z _. track_told by_plain n z) (told_twins n v w s h (omega arith) o)
+    (λ v' w' z _ _ k f.
+    twin_weaker (track_twin v' w' z n (let same = f.stays.cylinders in omega arith) k f.order)
+    (λ v2 w2 y _ _ l g. record { order = g.order; plain = g.plain ∙ f.plain; stays = stays_on s z y f.stays g.stays }))
+
+count_same : (n : ℕ) (p r : ℕ → Bool) → ((q : ℕ) → p q ≡ r q) → count_below n p ≡ count_below n r
+unfolding T.count_below
+count_same zero p r e = refl
+count_same (suc n) p r e =
+    ap (λ (c : ℕ). c + (if p n then 1 else 0)) (count_same n p r e) ∙ ap (λ (b : Bool). count_below n r + (if b then 1 else 0)) (e n)
+
+pub count_twin : (v w : List Track) (s : DeviceStore) → waiting_count by_plain (marks_of v w s) ≡ waiting_count contents s
+count_twin v w s = count_same (tracks_of s) (waits by_plain (marks_of v w s)) (waits contents s) (λ q. waits_same v w s q)
+
+abbrev told_if : ℕ → ℕ → MarksStore → Interaction Bool Image MarksStore (Unit {0})
+told_if before count m = if count == before then Done m tt else Ask (TellWaiting m.device count) (λ _. Done m tt)
+
+waiting_twin : (before : ℕ) (v w : List Track) (s : DeviceStore) (h : Held) → Ordered v w s h →
+    Twins (λ v' w' z _ _ k. Hears v s v' w' z k) (waiting_told contents before s) (waiting_told by_plain before (marks_of v w s)) h
+waiting_twin before v w s h o =
+    subst (λ (c : ℕ). Twins (λ v' w' z _ _ k. Hears v s v' w' z k) (waiting_told contents before s) (told_if before c (marks_of v w s)) h) (sym (count_twin v w s))
+    (on_test (waiting_count contents s == before)
+    (λ _. twin_done (record { order = o; plain = refl; stays = stays_same s }))
+    (λ _. ask_waiting s.device (waiting_count contents s) (twin_done (record { order = o; plain = refl; stays = stays_same s }))))
+
+pub ended_twin : (before : ℕ) (v w : List Track) (s : DeviceStore) (h : Held) → Ordered v w s h →
+    Twins (λ v' w' z _ _ k. Hears v s v' w' z k) (ended contents before s) (ended by_plain before (marks_of v w s)) h
+ended_twin before v w s h o =
+    twin_then (λ z _. waiting_told contents before z) (λ z _. waiting_told by_plain before z) (told_twins (tracks_of s) v w s h (omega arith) o)
+    (λ v' w' z _ _ k f.
+    twin_weaker (waiting_twin before v' w' z k f.order)
+    (λ v2 w2 y _ _ l g. record { order = g.order; plain = g.plain ∙ f.plain; stays = stays_on s z y f.stays g.stays }))
