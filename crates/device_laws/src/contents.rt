@@ -19,6 +19,7 @@ ghost use Rattle.device_defs.specs.Events.{losing};
 ghost use Rattle.device_defs.specs.Image.{image};
 ghost use Rattle.device_defs.specs.Losses.{call_failed};
 ghost use Rattle.device_defs.specs.Marks.{marks_of, half_mark};
+ghost use Rattle.device_defs.specs.Owed.{hear, ended};
 ghost use Rattle.device_defs.specs.Second.{second_part};
 ghost use Rattle.device_defs.specs.Sound.{DeviceStore};
 ghost use Rattle.device_defs.specs.Store.{HalfWrite, tracks_of, is_lost, half_is};
@@ -67,4 +68,14 @@ pub fn lost_side_leaves_order()
 /// edit; or with a check, and nothing was done; or it is half done.
 pub fn command_goes_as_fed()
     ensures { (tracks : ℕ) (g : Geometry) (looks : ChainState → ℕ → Bool) (v w : List Track) (s : DeviceStore) (h : Held) (n first t : ℕ) (chain : ChainState) → Feeds tracks g (λ c q. looks c q ≡ true) → looks chain t ≡ true → tracks_of s ≡ tracks → s.geometry ≡ g → s.half ≡ None → IsInOrder v w s h → Twins (λ v2 w2 z a b k. FollowIs v n chain v2 w2 z a b k) (follow contents n first chain t s) (follow by_plain n first chain t (marks_of v w s)) h }
+{}
+
+/// The notices that an event takes first.
+pub fn notices_leave_order()
+    ensures { (n : ℕ) (v w : List Track) (s : DeviceStore) (h : Held) → IsInOrder v w s h → Twins (λ v2 w2 z a b k. StaysInOrder v v2 w2 z a b k) (hear contents n s) (hear by_plain n (marks_of v w s)) h }
+{}
+
+/// What an event tells at its end: what it owes of each track, and how many tracks wait, where before it so many did.
+pub fn end_leaves_order()
+    ensures { (before : ℕ) (v w : List Track) (s : DeviceStore) (h : Held) → IsInOrder v w s h → Twins (λ v2 w2 z a b k. StaysInOrder v v2 w2 z a b k) (ended contents before s) (ended by_plain before (marks_of v w s)) h }
 {}
