@@ -1,5 +1,34 @@
 -- The front and the end of an event leave all right, with their twins on marks: the notices, what is owed, and how many tracks wait.
-use Rattle.std.proofs.Common.{◌≡◌, ◌≢◌, ◌<◌, ◌≤◌, ◌==◌, ◌&&◌, ◌||◌, ◌+◌, zero, suc, ℕ, Bool, true, false, List, Option, Some, None, is_some, refl, sym, ap, subst, ◌∙◌, arith, ◌⊎◌, inl, inr}
+use Rattle.std.proofs.Common.{
+  ◌≡◌,
+  ◌≢◌,
+  ◌<◌,
+  ◌≤◌,
+  ◌==◌,
+  ◌&&◌,
+  ◌||◌,
+  ◌+◌,
+  zero,
+  suc,
+  ℕ,
+  Bool,
+  true,
+  false,
+  List,
+  Option,
+  Some,
+  None,
+  is_some,
+  refl,
+  sym,
+  ap,
+  subst,
+  ◌∙◌,
+  arith,
+  ◌⊎◌,
+  inl,
+  inr,
+}
 use Rattle.std.proofs.lemmas.Bool.{cases_eq}
 use Rattle.std.specs.Prelude.{option_map, if◌then◌else◌}
 use Rattle.ckd_types.specs.declared.record.Track.{Track}
@@ -8,14 +37,14 @@ use Rattle.track_table.specs.Tracks as T
 use Rattle.track_table.specs.Tracks.{count_below}
 use Rattle.track_image.specs.Image.{Image}
 use Rattle.track_cache.specs.declared.frames.Frame.{Frame}
-use Rattle.device_outside.specs.Both.{Both, both_free}
+use Rattle.device_outside.specs.Both.{both_free}
 use Rattle.device_outside.specs.Interaction.{Interaction, Done, Ask, and_then}
 use Rattle.device_outside.specs.Pool.{FreeSlot, TellWaiting}
 use Rattle.device_outside.specs.Slots.{held_after}
 use Rattle.device_outside.proofs.BothRules.{on_test, on_tests}
 use Rattle.device_defs.specs.declared.owed.Owed.{Owed}
 use Rattle.device_defs.specs.Contents.{contents, by_plain}
-use Rattle.device_defs.specs.Marks.{MarksStore, marks_of, frame_mark, owed_mark, slot_mark}
+use Rattle.device_defs.specs.Marks.{MarksStore, marks_of, frame_mark, slot_mark}
 use Rattle.device_defs.specs.Owed as O
 use Rattle.device_defs.specs.Owed.{
   is_modified,
@@ -38,7 +67,7 @@ use Rattle.device_defs.specs.Owed.{
 use Rattle.device_defs.specs.Sound.{DeviceStore}
 use Rattle.device_defs.specs.Store.{tracks_of, frame_at, owed_at, with_frame, with_owed, no_debt}
 use Rattle.device_laws.specs.Agrees.{Held, slot_at, HasSlots}
-use Rattle.device_laws.specs.Twin.{Twin, Twins}
+use Rattle.device_laws.specs.Twin.{Twins}
 use Rattle.device_laws.proofs.ContentChanges as C
 use Rattle.device_laws.proofs.ContentChanges.{
   Altered,
@@ -52,29 +81,17 @@ use Rattle.device_laws.proofs.ContentChanges.{
   right_altered,
 }
 use Rattle.device_laws.proofs.FailedCall.{IsWell}
-use Rattle.device_laws.proofs.Notices.{clean_below, dropped_by, hearing_keeps_good}
+use Rattle.device_laws.proofs.Notices.{clean_below, dropped_by}
 use Rattle.device_laws.proofs.TrackContents as K
 use Rattle.device_laws.proofs.TrackContents.{TrackContents, contents_at, right_fewer}
-use Rattle.device_laws.proofs.TwinAsks.{
-  ask_notice,
-  ask_modified,
-  ask_drop,
-  ask_waiting,
-  Stays,
-  stays_same,
-  stays_on,
-  stays_by,
-  InOrder,
-  Ordered,
-}
+use Rattle.device_laws.proofs.TwinAsks.{ask_notice, ask_modified, ask_drop, ask_waiting, Stays, stays_same, stays_on, InOrder, Ordered}
 use Rattle.device_laws.proofs.TwinChanges.{frame_twin, owed_twin, with_frame_twin, with_owed_twin}
 use Rattle.device_laws.proofs.TwinChoices.{clean_same}
 use Rattle.device_laws.proofs.TwinLooks.{unframed_order}
-use Rattle.device_laws.proofs.TwinSettled.{AllTold, told_altered}
+use Rattle.device_laws.proofs.TwinSettled.{told_altered}
 use Rattle.device_laws.proofs.TwinSlots.{may_free, freed_slots}
-use Rattle.device_laws.proofs.TwinWalks.{some_map, Pair, pair_is, twin_done, twin_ends, twin_then, twin_always, twin_weaker}
+use Rattle.device_laws.proofs.TwinWalks.{some_map, twin_done, twin_ends, twin_then, twin_weaker}
 use Rattle.device_laws.proofs.TwinWork.{waits_same}
-use Rattle.device_laws.proofs.WholeImage.{dropped_goes}
 
 pub record Hears (u : List Track) (s : DeviceStore) (v w : List Track) (z : DeviceStore) (k : Held) : Type 0 where
   pub order : Ordered v w z k
@@ -85,9 +102,10 @@ pub record Hears (u : List Track) (s : DeviceStore) (v w : List Track) (z : Devi
 
 drops : (v w : List Track) (s : DeviceStore) (h : Held) (t : ℕ) → InOrder v w s h → (b : Bool) → is_clean contents (frame_at s t) ≡ b →
     (Ordered v w (if b then with_frame s t None else s) h) × (Stays s (if b then with_frame s t None else s))
-drops v w s h t o true e =
-    (unframed_order v w s h t (clean_below contents s t o.well e) (record { sure = o.sure; told = o.told }),
-    record { geometry = refl; cylinders = refl; half = refl })
+drops v w s h t o true e = (
+  unframed_order v w s h t (clean_below contents s t o.well e) (record { sure = o.sure; told = o.told }),
+  record { geometry = refl; cylinders = refl; half = refl },
+)
 drops v w s h t o false e = (record { sure = o.sure; told = o.told }, stays_same s)
 
 drops_twin : (v w : List Track) (s : DeviceStore) (t : ℕ) (b : Bool) →
@@ -264,21 +282,25 @@ module _ (v w : List Track) (s : DeviceStore) (t : ℕ) (lt : t < tracks_of s) w
   last_twin h o =
       twin_then (λ x _. Done (with_owed x t no_debt) (tt {0})) (λ x _. Done (with_owed x t no_debt) (tt {0})) (freed_twin v w s t lt h o)
       (λ v' w' z _ _ k f.
-      at_same (λ a b c. Twins Ends (Done (with_owed c t no_debt) (tt {0})) (Done (with_owed (marks_of a b c) t no_debt) (tt {0})) k) v w s v' w' z f.0 f.1.0 f.1.1.0
+      at_same (λ a b c. Twins Ends (Done (with_owed c t no_debt) (tt {0})) (Done (with_owed (marks_of a b c) t no_debt)
+      (tt {0})) k) v w s v' w' z f.0 f.1.0 f.1.1.0
       (twin_ends (with_owed_twin v w s t no_debt)
       (record { order = f.1.1.1; plain = refl; stays = record { geometry = refl; cylinders = refl; half = refl } })))
 
   debt_twin : (h : Held) → Ordered v w s h → Twins Ends (settles_debt contents t s) (settles_debt by_plain t (marks_of v w s)) h
   debt_twin h o =
       twin_then
-      (λ z _. and_then (dropped_told contents t z) (λ y _. and_then (freed_told contents y (owed_at y t).freed) (λ x _. Done (with_owed x t no_debt) (tt {0}))))
-      (λ z _. and_then (dropped_told by_plain t z) (λ y _. and_then (freed_told by_plain y (owed_at y t).freed) (λ x _. Done (with_owed x t no_debt) (tt {0}))))
+      (λ z _. and_then (dropped_told contents t z) (λ y _. and_then (freed_told contents y (owed_at y t).freed) (λ x _. Done (with_owed x t no_debt)
+      (tt {0}))))
+      (λ z _. and_then (dropped_told by_plain t z) (λ y _. and_then (freed_told by_plain y (owed_at y t).freed) (λ x _. Done (with_owed x t no_debt)
+      (tt {0}))))
       (modified_twin v w s t lt h o)
       (λ v' w' z _ _ k f.
       at_same
       (λ a b c. Twins Ends
       (and_then (dropped_told contents t c) (λ y _. and_then (freed_told contents y (owed_at y t).freed) (λ x _. Done (with_owed x t no_debt) (tt {0}))))
-      (and_then (dropped_told by_plain t (marks_of a b c)) (λ y _. and_then (freed_told by_plain y (owed_at y t).freed) (λ x _. Done (with_owed x t no_debt) (tt {0})))) k)
+      (and_then (dropped_told by_plain t (marks_of a b c)) (λ y _. and_then (freed_told by_plain y (owed_at y t).freed) (λ x _. Done
+      (with_owed x t no_debt) (tt {0})))) k)
       v w s v' w' z f.plain f.firm f.store
       (twin_then (λ y _. and_then (freed_told contents y (owed_at y t).freed) (λ x _. Done (with_owed x t no_debt) (tt {0})))
       (λ y _. and_then (freed_told by_plain y (owed_at y t).freed) (λ x _. Done (with_owed x t no_debt) (tt {0})))
@@ -325,7 +347,8 @@ told_if before count m = if count == before then Done m tt else Ask (TellWaiting
 waiting_twin : (before : ℕ) (v w : List Track) (s : DeviceStore) (h : Held) → Ordered v w s h →
     Twins (λ v' w' z _ _ k. Hears v s v' w' z k) (waiting_told contents before s) (waiting_told by_plain before (marks_of v w s)) h
 waiting_twin before v w s h o =
-    subst (λ (c : ℕ). Twins (λ v' w' z _ _ k. Hears v s v' w' z k) (waiting_told contents before s) (told_if before c (marks_of v w s)) h) (sym (count_twin v w s))
+    subst (λ (c : ℕ). Twins (λ v' w' z _ _ k. Hears v s v' w' z k) (waiting_told contents before s) (told_if before c (marks_of v w s)) h) (sym
+    (count_twin v w s))
     (on_test (waiting_count contents s == before)
     (λ _. twin_done (record { order = o; plain = refl; stays = stays_same s }))
     (λ _. ask_waiting s.device (waiting_count contents s) (twin_done (record { order = o; plain = refl; stays = stays_same s }))))

@@ -1,14 +1,11 @@
 -- A command goes from track to track of a device that is in order as the chain does that is fed with the plain tracks, with its twin on marks.
-use Rattle.std.proofs.Common.{◌≡◌, ◌<◌, zero, suc, ℕ, Bool, true, false, List, Option, Some, None, set, refl, sym, ap, subst, ◌∙◌, arith}
-use Rattle.std.specs.Prelude.{if◌then◌else◌}
+use Rattle.std.proofs.Common.{◌≡◌, ◌<◌, zero, suc, ℕ, true, false, List, Option, Some, None, refl, sym, ap, subst, ◌∙◌, arith}
 use Rattle.ckd_types.specs.declared.geometry.Geometry.{Geometry}
 use Rattle.ckd_types.specs.declared.record.Edit.{Edit}
 use Rattle.ckd_types.specs.declared.record.Track.{Track}
-use Rattle.ckd_types.specs.Edit.{apply_edit}
 use Rattle.ckd_types.specs.Track.{Fits}
 use Rattle.ckd_types.specs.Volume.{track_in}
 use Rattle.ckd_rules.specs.declared.order.LocalAct.{LocalAct}
-use Rattle.ckd_rules.specs.Walk.{TrackEdit}
 use Rattle.ckd_chain.specs.declared.progress.Progress.{Progress}
 use Rattle.ckd_chain.specs.declared.progress.Progress.TheVariants as progresses
 use Rattle.ckd_chain.specs.declared.progress.Settled.{Settled}
@@ -18,8 +15,8 @@ use Rattle.ckd_chain.specs.Fed.{Fed, ended_by, fed_image, fed_by, fed}
 use Rattle.ckd_chain.specs.State.{ChainState}
 use Rattle.ckd_chain.specs.Steps.{need_of, stepped, settled_by}
 use Rattle.track_image.specs.Image.{Image}
-use Rattle.device_outside.specs.Both.{Both, both_try}
-use Rattle.device_outside.specs.Interaction.{Interaction, Done}
+use Rattle.device_outside.specs.Both.{both_try}
+use Rattle.device_outside.specs.Interaction.{Done}
 use Rattle.device_outside.proofs.BothRules.{on_test}
 use Rattle.device_defs.specs.declared.answers.Took.{Took}
 use Rattle.device_defs.specs.declared.answers.Took.TheVariants.{Whole, Opened, Unwritten}
@@ -27,26 +24,24 @@ use Rattle.device_defs.specs.Command as N
 use Rattle.device_defs.specs.Command.{Went, Over, On, came_of_write, went_by, went_on, looked, look, goes_on, follow}
 use Rattle.device_defs.specs.Contents.{contents, by_plain}
 use Rattle.device_defs.specs.Image.{Imaged, Has, NoBytes, BadTrack, image}
-use Rattle.device_defs.specs.Marks.{MarksStore, marks_of}
+use Rattle.device_defs.specs.Marks.{marks_of}
 use Rattle.device_defs.specs.Memory.{had_by}
 use Rattle.device_defs.specs.Outcomes.{Turn, ends_with, checks, wrote_turn, usage_of}
 use Rattle.device_defs.specs.Sound.{DeviceStore}
-use Rattle.device_defs.specs.Store.{tracks_of, is_lost, half_is}
+use Rattle.device_defs.specs.Store.{tracks_of, is_lost}
 use Rattle.device_laws.specs.Agrees.{Held, image_in}
 use Rattle.device_laws.specs.Feeding.{Feeds, volume_with, IsAsFed, ComesAsFed}
 use Rattle.device_laws.specs.PlainWrites.{SuitsTrack, plain_had}
-use Rattle.device_laws.specs.Twin.{Twin, Twins}
-use Rattle.device_laws.proofs.Commands.{Stays, GoesOn, LookedAt, look_keeps_good, follow_keeps_good}
-use Rattle.device_laws.proofs.FailedCall.{IsWell, Goes}
+use Rattle.device_laws.specs.Twin.{Twins}
+use Rattle.device_laws.proofs.Commands.{Stays, LookedAt, look_keeps_good, follow_keeps_good}
+use Rattle.device_laws.proofs.FailedCall.{IsWell}
 use Rattle.device_laws.proofs.TrackMarks as M
 use Rattle.device_laws.proofs.TrackMarks.{track_at, device_is_faithful}
-use Rattle.device_laws.proofs.TwinAsks as A
 use Rattle.device_laws.proofs.TwinAsks.{InOrder, Ordered}
-use Rattle.device_laws.proofs.TwinImage.{Looks}
 use Rattle.device_laws.proofs.TwinLooks.{image_twin}
 use Rattle.device_laws.proofs.TwinThrough.{none_off}
 use Rattle.device_laws.proofs.TwinWalks.{twin_done, twin_then, twin_always, twin_weaker}
-use Rattle.device_laws.proofs.TwinWrite.{HadTwin, write_twin}
+use Rattle.device_laws.proofs.TwinWrite.{write_twin}
 use Rattle.device_laws.proofs.WholeImage.{has_image, image_keeps_good}
 
 module _ (m : ℕ) (g : Geometry) (looks : ChainState → ℕ → Type 0) (feeds : Feeds m g looks) (u : List Track) where
@@ -79,7 +74,8 @@ module _ (m : ℕ) (g : Geometry) (looks : ChainState → ℕ → Type 0) (feeds
 
   -- by what came of its write
   wrote_as : (chain next : ChainState) (t q : ℕ) (e : Edit) (v : List Track) (a : Took) → looks chain t → q ≡ t →
-      (stepped chain (Some (plain_image t))).chain ≡ next → (stepped chain (Some (plain_image t))).progress ≡ progresses.Write q e → v ≡ plain_had (Some a) u t e →
+      (stepped chain (Some (plain_image t))).chain ≡ next → (stepped chain (Some (plain_image t))).progress ≡ progresses.Write q e →
+      v ≡ plain_had (Some a) u t e →
       (n : ℕ) → ComesAsFed u (suc n) chain (Some (wrote_turn next t a)) v
   wrote_as chain next t q e v Whole at same is p plain n answer =
       let f : fed (suc n) (track_in u) answer chain ≡ ended_by next (settled_by next Written) (Some (record { track = t; edit = e })) =
@@ -102,17 +98,20 @@ module _ (m : ℕ) (g : Geometry) (looks : ChainState → ℕ → Type 0) (feeds
 
     image_same : (z : DeviceStore) (v : List Track) → z.geometry ≡ s.geometry → v ≡ u → image_in z v t ≡ plain_image t
     image_same z v geometry plain =
-        ap (λ (x : Geometry). record { geometry = x; track = track_in v t }) (geometry ∙ on) ∙ ap (λ (x : List Track). record { geometry = g; track = track_in x t }) plain
+        ap (λ (x : Geometry). record { geometry = x; track = track_in v t }) (geometry ∙ on)
+        ∙ ap (λ (x : List Track). record { geometry = g; track = track_in x t }) plain
 
     -- it checks, and nothing was done
     checked : (v w : List Track) (z : DeviceStore) (k : Held) (next : ChainState) (how : Settled) → Ordered v w z k → z.geometry ≡ s.geometry → v ≡ u →
         Twins Ends (Done z (Some (Over (checks next how)))) (Done (marks_of v w z) (Some (Over (checks next how)))) k
     checked v w z k next how o geometry plain = twin_done (record { order = o; same = refl; geometry = geometry; went = λ n answer. plain })
 
-    lacking : (v w : List Track) (z : DeviceStore) (k : Held) → Ordered v w z k → z.geometry ≡ s.geometry → v ≡ u → Twins Ends (Done z None) (Done (marks_of v w z) None) k
+    lacking : (v w : List Track) (z : DeviceStore) (k : Held) → Ordered v w z k → z.geometry ≡ s.geometry → v ≡ u →
+        Twins Ends (Done z None) (Done (marks_of v w z) None) k
     lacking v w z k o geometry plain = twin_done (record { order = o; same = refl; geometry = geometry; went = plain })
 
-    module _ (v w : List Track) (z : DeviceStore) (k : Held) (o : InOrder v w z k) (geometry : z.geometry ≡ s.geometry) (plain : v ≡ u) (below : t < tracks_of z)
+    module _ (v w : List Track) (z : DeviceStore) (k : Held) (o : InOrder v w z k) (geometry : z.geometry ≡ s.geometry) (plain : v ≡ u)
+        (below : t < tracks_of z)
         (there : is_lost z t ≡ false) (still : z.half ≡ None) where
       order : Ordered v w z k
       order = record { sure = o.sure; told = o.told }
@@ -124,10 +123,13 @@ module _ (m : ℕ) (g : Geometry) (looks : ChainState → ℕ → Type 0) (feeds
 
       suits_here : (e : Edit) → SuitsTrack g (track_in u t) e → SuitsTrack z.geometry (track_in v t) e
       suits_here e x =
-          subst (λ (l : Geometry). SuitsTrack l (track_in v t) e) (sym (geometry ∙ on)) (subst (λ (l : List Track). SuitsTrack g (track_in l t) e) (sym plain) x)
+          subst (λ (l : Geometry). SuitsTrack l (track_in v t) e) (sym (geometry
+          ∙ on)) (subst (λ (l : List Track). SuitsTrack g (track_in l t) e) (sym plain) x)
 
-      by_progress : (next : ChainState) (p : Progress) → (stepped chain (Some (plain_image t))).chain ≡ next → (stepped chain (Some (plain_image t))).progress ≡ p →
-          Twins Ends (went_by contents (usage_of chain) first t z (plain_image t) next p) (went_by by_plain (usage_of chain) first t (marks_of v w z) (plain_image t) next p) k
+      by_progress : (next : ChainState) (p : Progress) → (stepped chain (Some (plain_image t))).chain ≡ next →
+          (stepped chain (Some (plain_image t))).progress ≡ p →
+          Twins Ends (went_by contents (usage_of chain) first t z (plain_image t) next p) (went_by by_plain (usage_of chain) first t
+          (marks_of v w z) (plain_image t) next p) k
       by_progress next (progresses.Ended e) is p =
           twin_done (record { order = order; same = refl; geometry = geometry; went = λ n answer. ended n answer })
         where
@@ -143,10 +145,15 @@ module _ (m : ℕ) (g : Geometry) (looks : ChainState → ℕ → Type 0) (feeds
             order = order;
             same = refl;
             geometry = geometry;
-            went = (plain, (subst (λ (x : ChainState). looks x q) is (feeds.goes chain t (plain_image t) q at p),
+            went = (
+              plain,
+              (
+                subst (λ (x : ChainState). looks x q) is (feeds.goes chain t (plain_image t) q at p),
                 λ n answer. fed_step n answer chain t at
-                ∙ ap (λ (x : Progress). fed_by answer (fed n (track_in u) answer) (stepped chain (Some (plain_image t))).chain x) p
-                ∙ ap (fed n (track_in u) answer) is));
+                    ∙ ap (λ (x : Progress). fed_by answer (fed n (track_in u) answer) (stepped chain (Some (plain_image t))).chain x) p
+                    ∙ ap (fed n (track_in u) answer) is,
+              ),
+            );
           })
       by_progress next (progresses.Write q e) is p =
           let f = feeds.writes chain t (plain_image t) q e at refl fits_plain p in
@@ -163,19 +170,23 @@ module _ (m : ℕ) (g : Geometry) (looks : ChainState → ℕ → Type 0) (feeds
               subst (λ (x : Option Took). Twins Ends (Done y None) (had_by (came_of_write by_plain next t) (marks_of v' w' y) x) l) same
               (lacking v' w' y l i (geo ∙ geometry) had)
           wrote v' w' y l (Some took) b i same geo had at_t =
-              subst (λ (x : Option Took). Twins Ends (came_of_write contents next t y took) (had_by (came_of_write by_plain next t) (marks_of v' w' y) x) l) same
+              subst (λ (x : Option Took). Twins Ends (came_of_write contents next t y took) (had_by (came_of_write by_plain next t)
+              (marks_of v' w' y) x) l) same
               (twin_done (record { order = i; same = refl; geometry = geo ∙ geometry; went = wrote_as chain next t q e v' took at at_t is p had }))
       by_progress next (progresses.Local act) is p = checked v w z k next Equipment order geometry plain
 
       went_twin : Twins Ends (went_on contents chain first t z (plain_image t)) (went_on by_plain chain first t (marks_of v w z) (plain_image t)) k
       went_twin =
-          both_try (by_progress (stepped chain (Some (plain_image t))).chain (stepped chain (Some (plain_image t))).progress refl refl) (lacking v w z k order geometry plain)
+          both_try (by_progress (stepped chain (Some (plain_image t))).chain (stepped chain (Some (plain_image t))).progress refl refl)
+          (lacking v w z k order geometry plain)
 
-    looked_by : (v w : List Track) (z : DeviceStore) (k : Held) (a b : Option Imaged) → Ordered v w z k → IsWell contents z → a ≡ b → z.geometry ≡ s.geometry → v ≡ u →
+    looked_by : (v w : List Track) (z : DeviceStore) (k : Held) (a b : Option Imaged) → Ordered v w z k → IsWell contents z → a ≡ b →
+        z.geometry ≡ s.geometry → v ≡ u →
         t < tracks_of z → z.half ≡ None → ((i : Image) → a ≡ Some (Has i) → i ≡ plain_image t) → ((i : Image) → a ≡ Some (Has i) → is_lost z t ≡ false) →
         Twins Ends (had_by (looked contents chain first t) z a) (had_by (looked by_plain chain first t) (marks_of v w z) b) k
     looked_by v w z k a b o well same geometry plain below still image there =
-        subst (λ (x : Option Imaged). Twins Ends (had_by (looked contents chain first t) z a) (had_by (looked by_plain chain first t) (marks_of v w z) x) k) same
+        subst (λ (x : Option Imaged). Twins Ends (had_by (looked contents chain first t) z a) (had_by (looked by_plain chain first t)
+        (marks_of v w z) x) k) same
         (by_image a image there)
       where
         by_image : (a : Option Imaged) → ((i : Image) → a ≡ Some (Has i) → i ≡ plain_image t) → ((i : Image) → a ≡ Some (Has i) → is_lost z t ≡ false) →
@@ -233,7 +244,8 @@ module _ (m : ℕ) (g : Geometry) (looks : ChainState → ℕ → Type 0) (feeds
       Twins (λ v' w' z a b k. FollowTwin s n chain v' w' z a b k) (follow contents n first chain t s) (follow by_plain n first chain t (marks_of u w s)) h
 
   went_further : (n first : ℕ) (chain : ChainState) (s : DeviceStore) (v w : List Track) (z : DeviceStore) (k : Held) (a : Option Went) → Following n first →
-      Ordered v w z k → z.geometry ≡ s.geometry → s.geometry ≡ g → WentAs chain a v → LookedAt contents device_is_faithful m Within within s z a → tracks_of s ≡ m →
+      Ordered v w z k → z.geometry ≡ s.geometry → s.geometry ≡ g → WentAs chain a v → LookedAt contents device_is_faithful m Within within s z a →
+      tracks_of s ≡ m →
       Twins (λ v' w' y b c l. FollowTwin s (suc n) chain v' w' y b c l) (had_by (goes_on contents (follow contents n first)) z a)
       (had_by (goes_on by_plain (follow by_plain n first)) (marks_of v w z) a) k
   went_further n first chain s v w z k None later o geometry on went seen same =
@@ -268,7 +280,8 @@ module _ (m : ℕ) (g : Geometry) (looks : ChainState → ℕ → Type 0) (feeds
       (went_further n first chain s v' w' z k a (follow_twin n first) f.0.order f.0.geometry on f.0.went f.1 same))
 
   -- what is known of marks alone
-  pub follow_order : (n first : ℕ) (chain : ChainState) (t : ℕ) (s : DeviceStore) (w : List Track) (h : Held) → looks chain t → tracks_of s ≡ m → s.geometry ≡ g →
+  pub follow_order : (n first : ℕ) (chain : ChainState) (t : ℕ) (s : DeviceStore) (w : List Track) (h : Held) → looks chain t → tracks_of s ≡ m →
+      s.geometry ≡ g →
       s.half ≡ None → InOrder u w s h →
       Twins (λ v' w' z a b k. FollowTwin s n chain v' w' z a b k × IsWell contents z) (follow contents n first chain t s)
       (follow by_plain n first chain t (marks_of u w s)) h

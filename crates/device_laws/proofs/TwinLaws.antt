@@ -167,7 +167,8 @@ lost_side_leaves_order v w s h side i =
     (λ v' w' z a b k f. record { order = is_in_order v' w' z k f.0.order f.1.well; plain = f.0.plain; same = refl })
 
 -- a command goes from track to track, while no half write is open
-pub command_goes_as_fed : (tracks : ℕ) (g : Geometry) (looks : ChainState → ℕ → Bool) (v w : List Track) (s : DeviceStore) (h : Held) (n first t : ℕ) (chain : ChainState) →
+pub command_goes_as_fed : (tracks : ℕ) (g : Geometry) (looks : ChainState → ℕ →
+    Bool) (v w : List Track) (s : DeviceStore) (h : Held) (n first t : ℕ) (chain : ChainState) →
     Feeds tracks g (λ c q. looks c q ≡ true) → looks chain t ≡ true → tracks_of s ≡ tracks → s.geometry ≡ g → s.half ≡ None → IsInOrder v w s h →
     Twins (λ v' w' z a b k. FollowIs v n chain v' w' z a b k) (follow contents n first chain t s) (follow by_plain n first chain t (marks_of v w s)) h
 command_goes_as_fed tracks g looks v w s h n first t chain feeds at same on none i =

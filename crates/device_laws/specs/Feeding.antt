@@ -28,7 +28,8 @@ pub record Feeds (tracks : ℕ) (g : Geometry) (looks : ChainState → ℕ → T
   pub needs : (chain : ChainState) (t : ℕ) → looks chain t → need_of chain ≡ Some t
   pub inside : (chain : ChainState) (t : ℕ) → looks chain t → t < tracks
   pub fixed : (chain : ChainState) (t : ℕ) → looks chain t → chain.fixed.geometry ≡ g
-  pub goes : (chain : ChainState) (t : ℕ) (i : Image) (q : ℕ) → looks chain t → (stepped chain (Some i)).progress ≡ Need q → looks (stepped chain (Some i)).chain q
+  pub goes : (chain : ChainState) (t : ℕ) (i : Image) (q : ℕ) → looks chain t → (stepped chain (Some i)).progress ≡ Need q →
+      looks (stepped chain (Some i)).chain q
   pub writes : (chain : ChainState) (t : ℕ) (i : Image) (q : ℕ) (e : Edit) → looks chain t → i.geometry ≡ g → Fits g i.track →
       (stepped chain (Some i)).progress ≡ Write q e → (q ≡ t) × SuitsTrack g i.track e
 
