@@ -1,5 +1,30 @@
 -- What each change of a store does to the contents of each track: those of one track, and nothing elsewhere.
-use Rattle.std.proofs.Common.{◌≡◌, ◌≢◌, ◌<◌, ◌*◌, ◌==◌, ◌&&◌, not, ℕ, Bool, true, false, List, [], Option, Some, None, length, set, get_or, refl, sym, ap, subst, ◌∙◌, arith, ◌⊎◌, inl, inr}
+use Rattle.std.proofs.Common.{
+  ◌≡◌,
+  ◌≢◌,
+  ◌<◌,
+  ◌*◌,
+  ◌&&◌,
+  not,
+  ℕ,
+  Bool,
+  true,
+  false,
+  List,
+  Option,
+  Some,
+  None,
+  length,
+  refl,
+  sym,
+  ap,
+  subst,
+  ◌∙◌,
+  arith,
+  ◌⊎◌,
+  inl,
+  inr,
+}
 use Rattle.std.proofs.lemmas.Bool.{cases_eq}
 use Rattle.std.proofs.lemmas.List.{get_or-set_same, get_or-set_other, length-set}
 use Rattle.ckd_types.specs.declared.geometry.Geometry.{Geometry}
@@ -24,7 +49,6 @@ use Rattle.device_defs.specs.Store.{
   patch_at,
   is_loose,
   half_is,
-  owed_at,
   with_stale,
   with_frame,
   with_patch,
@@ -32,8 +56,7 @@ use Rattle.device_defs.specs.Store.{
   with_loose,
   with_owed,
 }
-use Rattle.device_laws.specs.Agrees as G
-use Rattle.device_laws.specs.Agrees.{Held, image_in, slot_at, AreSlots, HasSlots, IsGround, Agrees}
+use Rattle.device_laws.specs.Agrees.{Held, image_in, slot_at, HasSlots, IsGround, Agrees}
 use Rattle.device_laws.proofs.TrackContents as T
 use Rattle.device_laws.proofs.TrackContents.{TrackContents, contents_at, IsRight, right_is_held, held_is_right}
 
@@ -234,7 +257,8 @@ same_slots s z (Some mine) e x = record {
   apart = λ kept other t q slot f g. x.apart kept other t q slot (sym (e kept t) ∙ f) (sym (e other q) ∙ g);
 }
 
-pub unseen_slots : (s : DeviceStore) (h : Held) (z : DeviceStore) (k : Held) → ((kept : Bool) (q : ℕ) → slot_of kept (contents_at z k q) ≡ slot_of kept (contents_at s h q)) →
+pub unseen_slots : (s : DeviceStore) (h : Held) (z : DeviceStore) (k : Held) → ((kept : Bool) (q : ℕ) →
+    slot_of kept (contents_at z k q) ≡ slot_of kept (contents_at s h q)) →
     k.slots ≡ h.slots → HasSlots s h.slots → HasSlots z k.slots
 unseen_slots s h z k e same x =
     subst (HasSlots z) (sym same)
@@ -344,7 +368,8 @@ right_altered writing v w s h z k t x b e sits slots here = record {
         same_right s h z k e.base v w q (contents_at s h q) (contents_at z k q) (e.elsewhere q off) (b.right q lt ne)
 
 -- a change that is seen in no track
-pub unseen_right : (writing : Option ℕ) (v w : List Track) (s : DeviceStore) (h : Held) (z : DeviceStore) (k : Held) → RightBut writing v w s h → Unseen s h z k →
+pub unseen_right : (writing : Option ℕ) (v w : List Track) (s : DeviceStore) (h : Held) (z : DeviceStore) (k : Held) → RightBut writing v w s h →
+    Unseen s h z k →
     RightBut writing v w z k
 unseen_right writing v w s h z k b e = record {
   ground = record {

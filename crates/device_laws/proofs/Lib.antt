@@ -62,4 +62,6 @@ pub mod TwinSaving
 pub mod TwinCopies
 pub mod TwinWork
 pub mod TwinLosses
+pub mod TwinFollow
+pub mod TwinEvents
 pub mod TwinLaws

@@ -37,7 +37,7 @@ use Rattle.device_laws.proofs.WholeImage.{clean_may_go}
 
 module _ {F P H R : Type 0} (c : Contents F P H R) where
   -- a track that the device hasn't has no frame
-  clean_below : (s : Store F P H) (t : ℕ) → IsWell c s → is_clean c (frame_at s t) ≡ true → t < tracks_of s
+  pub clean_below : (s : Store F P H) (t : ℕ) → IsWell c s → is_clean c (frame_at s t) ≡ true → t < tracks_of s
   clean_below s t w e = by_place (cases_lt t (tracks_of s))
     where
       by_place : ((t < tracks_of s) ⊎ (tracks_of s ≤ t)) → t < tracks_of s
@@ -56,7 +56,7 @@ module _ {F P H R : Type 0} (c : Contents F P H R) where
       not_false true e = absurd (cc)
       not_false false e = refl
 
-  dropped_by : (s : Store F P H) (t : ℕ) (b : Bool) → is_clean c (frame_at s t) ≡ b → IsWell c s → Goes c s (if b then with_frame s t None else s)
+  pub dropped_by : (s : Store F P H) (t : ℕ) (b : Bool) → is_clean c (frame_at s t) ≡ b → IsWell c s → Goes c s (if b then with_frame s t None else s)
   dropped_by s t true e w =
       let lt = clean_below s t w e in
       changed_goes c s (with_frame s t None) t _ w (changed_frame c s t None lt w.sizes)

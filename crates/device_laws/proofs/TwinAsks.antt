@@ -1,25 +1,22 @@
 -- Calls of the port that give and take no slot, and a device that is in order.
-use Rattle.std.proofs.Common.{◌≡◌, ◌≢◌, ◌<◌, ℕ, Bool, true, false, List, [], Option, Some, None, refl, sym, ap, subst, ◌∙◌}
-use Rattle.std.specs.Prelude.{if◌then◌else◌}
+use Rattle.std.proofs.Common.{◌≡◌, ◌<◌, ℕ, Bool, true, false, List, [], Option, Some, None, refl, sym, ap, subst, ◌∙◌}
 use Rattle.ckd_types.specs.declared.geometry.Geometry.{Geometry}
 use Rattle.ckd_types.specs.declared.paths.Side.{Side}
 use Rattle.ckd_types.specs.declared.paths.Side.TheVariants.{A, B}
 use Rattle.ckd_types.specs.declared.record.Track.{Track}
 use Rattle.ckd_types.specs.Volume.{track_in}
 use Rattle.track_image.specs.Image.{Image}
-use Rattle.device_outside.specs.After.{with_slots}
 use Rattle.device_outside.specs.Both.{Both, both_ask}
 use Rattle.device_outside.specs.Interaction.{Interaction, Ask}
-use Rattle.device_outside.specs.Pool.{Call, NextNotice, Touch, WantFrame, SetModified, SetClean, DropFrame, TellWaiting, AnswerTo}
+use Rattle.device_outside.specs.Pool.{NextNotice, Touch, WantFrame, SetModified, SetClean, DropFrame, TellWaiting}
 use Rattle.device_outside.specs.Slots.{held_after}
 use Rattle.device_defs.specs.Contents.{contents}
-use Rattle.device_defs.specs.Losses.{down}
 use Rattle.device_defs.specs.Marks.{MarksStore}
 use Rattle.device_defs.specs.Sound.{DeviceStore}
 use Rattle.device_defs.specs.Store.{HalfWrite, tracks_of, is_lost, half_is}
 use Rattle.device_laws.specs.Agrees.{Held, image_in}
 use Rattle.device_laws.specs.Twin.{Claim, Twin, Twins}
-use Rattle.device_laws.proofs.ContentChanges.{base_of, same_geometry, same_cylinders, same_half, RightBut, Sure}
+use Rattle.device_laws.proofs.ContentChanges.{base_of, same_geometry, same_cylinders, same_half, Sure}
 use Rattle.device_laws.proofs.FailedCall.{IsWell}
 use Rattle.device_laws.proofs.TrackContents as T
 use Rattle.device_laws.proofs.TrackContents.{TrackContents, contents_at, IsRight, HeldBy, Keeps, held_of, right_by, keeps_other, other_keeps}
@@ -58,12 +55,14 @@ module _ {X Y : Type 0} {q : Claim X Y} {h : Held} where
   pub ask_modified : (d t : ℕ) {k : Bool → Interaction (List ℕ) Image DeviceStore X} {l : Bool → Interaction Bool Image MarksStore Y} →
       ((a : Bool) → Twins q (k a) (l a) h) → Twins q (Ask (SetModified d t) k) (Ask (SetModified d t) l) h
   ask_modified d t {k} {l} f =
-      both_ask refl (λ a m. subst (λ (n : Option (List ℕ)). Both [] true (Twin q) (k a) (l a) (record h { slots = n })) (sym (modified_by d t a h.slots)) (f a))
+      both_ask refl (λ a m. subst (λ (n : Option (List ℕ)). Both [] true (Twin q) (k a) (l a) (record h { slots = n })) (sym
+      (modified_by d t a h.slots)) (f a))
 
   pub ask_touch : (d t : ℕ) {k : Bool → Interaction (List ℕ) Image DeviceStore X} {l : Bool → Interaction Bool Image MarksStore Y} →
       ((a : Bool) → Twins q (k a) (l a) h) → Twins q (Ask (Touch d t) k) (Ask (Touch d t) l) h
   ask_touch d t {k} {l} f =
-      both_ask refl (λ a m. subst (λ (n : Option (List ℕ)). Both [] true (Twin q) (k a) (l a) (record h { slots = n })) (sym (touched_by d t a h.slots)) (f a))
+      both_ask refl (λ a m. subst (λ (n : Option (List ℕ)). Both [] true (Twin q) (k a) (l a) (record h { slots = n })) (sym
+      (touched_by d t a h.slots)) (f a))
 
   pub ask_frame : (d t : ℕ) {k : Bool → Interaction (List ℕ) Image DeviceStore X} {l : Bool → Interaction Bool Image MarksStore Y} →
       ((a : Bool) → Twins q (k a) (l a) h) → Twins q (Ask (WantFrame d t) k) (Ask (WantFrame d t) l) h

@@ -1,5 +1,5 @@
 -- Each change of a store is one of its twin on marks.
-use Rattle.std.proofs.Common.{◌≡◌, ℕ, Bool, true, false, List, Option, Some, None, is_some, set, refl, sym, ap, ◌∙◌}
+use Rattle.std.proofs.Common.{◌≡◌, ℕ, Bool, List, Option, Some, None, is_some, refl, sym, ap, ◌∙◌}
 use Rattle.std.specs.Prelude.{option_map}
 use Rattle.ckd_types.specs.declared.paths.Side.{Side}
 use Rattle.ckd_types.specs.declared.paths.Side.TheVariants.{A, B}
@@ -9,8 +9,8 @@ use Rattle.track_cache.specs.declared.frames.Frame.{Frame}
 use Rattle.nv_store.specs.declared.patches.Stored.{Stored}
 use Rattle.device_defs.specs.declared.owed.Owed.{Owed}
 use Rattle.device_defs.specs.Contents.{contents, by_plain}
-use Rattle.device_defs.specs.Losses.{down, slot_in, gives_up, without_patch, without_frame}
-use Rattle.device_defs.specs.Marks.{MarksStore, marks_of, frame_mark, patch_mark, half_mark, owed_mark, slot_mark}
+use Rattle.device_defs.specs.Losses.{down, slot_in, gives_up, without_patch}
+use Rattle.device_defs.specs.Marks.{MarksStore, marks_of, frame_mark, patch_mark, half_mark, owed_mark}
 use Rattle.device_defs.specs.Sound.{DeviceStore}
 use Rattle.device_defs.specs.Store.{HalfWrite, frame_at, patch_at, half_is, owed_at, with_frame, with_patch, with_owed, no_debt}
 use Rattle.device_laws.proofs.TwinWalks.{get_map, set_map, get_plain, set_plain, some_map}
@@ -52,7 +52,8 @@ module _ (v w : List Track) (s : DeviceStore) where
   down_twin B = refl
 
   -- a patch is given up with its slot
-  gives_up_by : (t : ℕ) (p : Option Stored) → marks_of v w (gives_up s t (slot_in contents p)) ≡ gives_up (marks_of v w s) t (slot_in by_plain (option_map patch_mark p))
+  gives_up_by : (t : ℕ) (p : Option Stored) → marks_of v w (gives_up s t (slot_in contents p)) ≡ gives_up (marks_of v w s) t (slot_in by_plain
+      (option_map patch_mark p))
   gives_up_by t None = refl
   gives_up_by t (Some p) =
       let o : Owed = record (owed_at s t) { freed = Some p.slot } in

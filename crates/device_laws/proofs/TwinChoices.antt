@@ -1,18 +1,17 @@
 -- Where a write goes: a device and its twin on marks choose alike.
-use Rattle.std.proofs.Common.{◌≡◌, ◌≢◌, ◌<◌, ◌&&◌, not, ℕ, Bool, true, false, List, [], Option, Some, None, is_some, length, refl, sym, ap, subst, ◌∙◌, arith, ◌⊎◌, inl, inr}
+use Rattle.std.proofs.Common.{◌≡◌, ◌&&◌, not, ℕ, Bool, true, false, List, Option, Some, None, is_some, length, refl, sym, ap, subst, ◌∙◌}
 use Rattle.std.specs.Prelude.{option_map, if◌then◌else◌}
 use Rattle.ckd_types.specs.Parameters.{is_bypass}
 use Rattle.ckd_types.specs.declared.record.Track.{Track}
-use Rattle.track_image.specs.Image.{Image}
 use Rattle.track_cache.specs.declared.frames.Frame.{Frame}
 use Rattle.device_outside.specs.declared.port.SlotGrant.{SlotGrant}
 use Rattle.device_outside.specs.declared.port.SlotGrant.TheVariants as grants
 use Rattle.ckd_types.specs.declared.paths.Side.{Side}
 use Rattle.ckd_types.specs.declared.paths.Side.TheVariants.{A, B}
 use Rattle.device_outside.specs.After.{holds_of}
-use Rattle.device_outside.specs.Both.{Both, both_ask, both_free}
-use Rattle.device_outside.specs.Interaction.{Interaction, Done, Ask}
-use Rattle.device_outside.specs.Pool.{WantSlot, FreeSlot, AnswerTo, unnumbered}
+use Rattle.device_outside.specs.Both.{both_ask, both_free}
+use Rattle.device_outside.specs.Interaction.{Done}
+use Rattle.device_outside.specs.Pool.{WantSlot, FreeSlot, unnumbered}
 use Rattle.device_outside.specs.Slots.{MayAnswer, held_after}
 use Rattle.device_outside.proofs.BothRules.{on_test, on_tests}
 use Rattle.device_defs.specs.declared.answers.Choice.{Choice}
@@ -21,12 +20,12 @@ use Rattle.device_defs.specs.declared.usage.Usage.{Usage}
 use Rattle.device_defs.specs.Choosing as G
 use Rattle.device_defs.specs.Choosing.{slot_by, fast_by, may_be_fast, fast_or_through, choose_loose, choose_firm, choose}
 use Rattle.device_defs.specs.Contents.{contents, by_plain}
-use Rattle.device_defs.specs.Marks.{MarksStore, marks_of, frame_mark, slot_mark}
+use Rattle.device_defs.specs.Marks.{marks_of, frame_mark, slot_mark}
 use Rattle.device_defs.specs.Owed.{is_clean}
 use Rattle.device_defs.specs.Sound.{DeviceStore}
 use Rattle.device_defs.specs.Store.{tracks_of, side_of, frame_at, patch_at, is_loose}
 use Rattle.device_laws.specs.Agrees.{Held, HasSlots}
-use Rattle.device_laws.specs.Twin.{Twin, Twins}
+use Rattle.device_laws.specs.Twin.{Twins}
 use Rattle.device_laws.proofs.ContentChanges as C
 use Rattle.device_laws.proofs.ContentChanges.{RightBut}
 use Rattle.device_laws.proofs.TrackContents as T
@@ -41,7 +40,8 @@ long_still s h o f A up = f A up
 long_still s h o f B up = f B up
 
 -- other slots of the device alone
-pub slots_order : (v w : List Track) (s : DeviceStore) (h : Held) (o : Option (List ℕ)) → Ordered v w s h → HasSlots s o → Ordered v w s (record h { slots = o })
+pub slots_order : (v w : List Track) (s : DeviceStore) (h : Held) (o : Option (List ℕ)) → Ordered v w s h → HasSlots s o →
+    Ordered v w s (record h { slots = o })
 unfolding T.contents_at C.base_of
 slots_order v w s h o i x = record {
   sure = record {

@@ -1,28 +1,49 @@
 -- Copying and staging leave all right, with their twins on marks.
-use Rattle.std.proofs.Common.{◌≡◌, ◌≢◌, ◌<◌, ◌==◌, ◌&&◌, ◌||◌, not, ℕ, Bool, true, false, List, [], Option, Some, None, is_some, get_or, length, refl, sym, ap, subst, ◌∙◌, arith, ◌⊎◌, inl, inr}
-use Rattle.std.proofs.lemmas.Bool.{cases_eq}
-use Rattle.std.specs.Prelude.{option_map, if◌then◌else◌}
+use Rattle.std.proofs.Common.{
+  ◌≡◌,
+  ◌<◌,
+  ◌&&◌,
+  ◌||◌,
+  not,
+  ℕ,
+  Bool,
+  true,
+  false,
+  List,
+  [],
+  Option,
+  Some,
+  None,
+  is_some,
+  get_or,
+  refl,
+  sym,
+  ap,
+  subst,
+  ◌∙◌,
+  arith,
+}
+use Rattle.std.specs.Prelude.{if◌then◌else◌}
 use Rattle.ckd_types.specs.declared.paths.Side.{Side}
 use Rattle.ckd_types.specs.declared.paths.Side.TheVariants.{A, B}
 use Rattle.ckd_types.specs.declared.record.Track.{Track}
-use Rattle.ckd_types.specs.Volume.{track_in}
 use Rattle.track_image.specs.Image.{Image}
 use Rattle.device_outside.specs.After.{with_held}
-use Rattle.device_outside.specs.Both.{Both, both_try, both_read, both_write}
-use Rattle.device_outside.specs.Interaction.{Interaction, Done, and_then}
+use Rattle.device_outside.specs.Both.{both_try, both_read, both_write}
+use Rattle.device_outside.specs.Interaction.{Done, and_then}
 use Rattle.device_outside.proofs.BothRules.{on_test, on_tests}
 use Rattle.device_defs.specs.declared.answers.Did.{Did}
-use Rattle.device_defs.specs.declared.answers.Did.TheVariants.{Nothing, Copied, Staged, Skipped, Fault, BadBytes}
-use Rattle.device_defs.specs.Background.{did, copies_to, copied, copy_read, copy_by, unfilled, staged_image, staged_bytes, granted, stage}
+use Rattle.device_defs.specs.declared.answers.Did.TheVariants.{Nothing, Staged, Skipped, Fault}
+use Rattle.device_defs.specs.Background.{did, copies_to, copy_by, unfilled, staged_image, staged_bytes, granted, stage}
 use Rattle.device_defs.specs.Contents.{contents, by_plain, patched_by, image_read}
-use Rattle.device_defs.specs.Image.{Got, read_counted, level_bytes, image_of, filled}
+use Rattle.device_defs.specs.Image.{Got, read_counted, image_of}
 use Rattle.device_defs.specs.Losses.{call_failed}
-use Rattle.device_defs.specs.Marks.{MarksStore, marks_of}
+use Rattle.device_defs.specs.Marks.{marks_of}
 use Rattle.device_defs.specs.Sound.{DeviceStore}
-use Rattle.device_defs.specs.Store.{HalfWrite, tracks_of, stale_at, level_at, has_level, takes_b, frame_at, is_lost, is_loose, half_is, with_stale}
+use Rattle.device_defs.specs.Store.{tracks_of, stale_at, level_at, takes_b, frame_at, is_lost, is_loose, half_is, with_stale}
 use Rattle.device_defs.specs.Writing.{write_counted}
 use Rattle.device_laws.specs.Agrees.{Held, image_in}
-use Rattle.device_laws.specs.Twin.{Twin, Twins}
+use Rattle.device_laws.specs.Twin.{Twins}
 use Rattle.device_laws.proofs.ContentChanges as C
 use Rattle.device_laws.proofs.ContentChanges.{
   base_of,
@@ -45,14 +66,27 @@ use Rattle.device_laws.proofs.TrackContents.{TrackContents, contents_at, Keeps, 
 use Rattle.device_laws.proofs.TrackImage.{level_bytes_keeps_good}
 use Rattle.device_laws.proofs.TrackMarks as M
 use Rattle.device_laws.proofs.TrackMarks.{track_at, device_is_faithful}
-use Rattle.device_laws.proofs.TwinAsks.{ask_drop, ask_frame, Stays, stays_same, stays_on, stays_by, stays_fell, stays_image, stays_off, InOrder, Ordered, keeps_at, right_keeps}
+use Rattle.device_laws.proofs.TwinAsks.{
+  ask_drop,
+  ask_frame,
+  Stays,
+  stays_same,
+  stays_on,
+  stays_by,
+  stays_fell,
+  stays_off,
+  InOrder,
+  Ordered,
+  keeps_at,
+  right_keeps,
+}
 use Rattle.device_laws.proofs.TwinChanges.{has_frame_twin}
-use Rattle.device_laws.proofs.TwinFailed.{fell, Failed, failed_twin}
-use Rattle.device_laws.proofs.TwinImage.{Delivers, GotTwin, Fills, bytes_twin, filled_twin, not_lost}
+use Rattle.device_laws.proofs.TwinFailed.{fell, failed_twin}
+use Rattle.device_laws.proofs.TwinImage.{Delivers, bytes_twin, filled_twin, not_lost}
 use Rattle.device_laws.proofs.TwinSaving.{Works}
-use Rattle.device_laws.proofs.TwinSettled.{AllTold, told_altered}
+use Rattle.device_laws.proofs.TwinSettled.{told_altered}
 use Rattle.device_laws.proofs.TwinThrough.{none_off}
-use Rattle.device_laws.proofs.TwinWalks.{twin_done, twin_ends, twin_then, twin_always, twin_weaker}
+use Rattle.device_laws.proofs.TwinWalks.{twin_done, twin_then, twin_always}
 use Rattle.device_laws.proofs.WholeImage.{unframed_is_firm}
 
 counted_read : (v w : List Track) (s : DeviceStore) (h : Held) (ok : Bool) → Ordered v w s h → Ordered v w (read_counted s ok) h
@@ -127,7 +161,8 @@ module _ (u : List Track) (y : DeviceStore) (t : ℕ) where
     bytes_b = refl
 
     -- the track as it is, but for what a side has
-    sided : (z : DeviceStore) (k : Held) (c : TrackContents) → Altered s h z k t c → c.loose ≡ x.loose → c.patch ≡ x.patch → c.freed ≡ x.freed → c.debt ≡ x.debt →
+    sided : (z : DeviceStore) (k : Held) (c : TrackContents) → Altered s h z k t c → c.loose ≡ x.loose → c.patch ≡ x.patch → c.freed ≡ x.freed →
+        c.debt ≡ x.debt →
         k.slots ≡ h.slots → Keeps s.geometry t c (image_in s v t) (image_in s w t) → Ordered v w z k
     sided z k c e loose patch freed debt slots keeps = record {
       sure = right_altered None v w s h z k t c o.sure e (sits_still v w s h t c lt o.sure.ground loose patch)
@@ -144,7 +179,8 @@ module _ (u : List Track) (y : DeviceStore) (t : ℕ) where
 
     a_garbage : (bytes : List ℕ) → level_at s.a t ≡ false → s.a.up ≡ true → Ordered v w s (with_held h A t bytes)
     a_garbage bytes stale up =
-        sided s (with_held h A t bytes) (record x { on_a = bytes }) (altered_on_a s h t lt o.sure.ground.sizes bytes (o.sure.ground.long A up)) refl refl refl refl refl
+        sided s (with_held h A t bytes) (record x { on_a = bytes }) (altered_on_a s h t lt o.sure.ground.sizes bytes
+        (o.sure.ground.long A up)) refl refl refl refl refl
         (record { frame = kept.frame; a = λ l. absurd (not_both x.a (level_a ∙ stale) l); b = kept.b })
 
     a_copied : level_at s.b t ≡ true → s.a.up ≡ true → Ordered v w (with_stale s A t false) (with_held h A t (get_or h.b t []))
@@ -156,8 +192,12 @@ module _ (u : List Track) (y : DeviceStore) (t : ℕ) where
         let z = with_stale s A t false in
         let c = record x { on_a = r; a = s.a.up && not false } in
         sided z n c
-        (altered_twice e (record { sizes = f.sizes; base = f.base; elsewhere = f.elsewhere;
-        here = f.here ∙ ap (λ (d : TrackContents). record d { a = s.a.up && not false }) e.here })) refl refl refl refl refl
+        (altered_twice e (record {
+          sizes = f.sizes;
+          base = f.base;
+          elsewhere = f.elsewhere;
+          here = f.here ∙ ap (λ (d : TrackContents). record d { a = s.a.up && not false }) e.here;
+        })) refl refl refl refl refl
         (record {
           frame = kept.frame;
           a = λ l. ap (λ (d : List ℕ). patched_by x.patch (image_read s.geometry t d)) (sym bytes_b)
@@ -169,7 +209,8 @@ module _ (u : List Track) (y : DeviceStore) (t : ℕ) where
 
     b_garbage : (bytes : List ℕ) → level_at s.b t ≡ false → s.b.up ≡ true → Ordered v w s (with_held h B t bytes)
     b_garbage bytes stale up =
-        sided s (with_held h B t bytes) (record x { on_b = bytes }) (altered_on_b s h t lt o.sure.ground.sizes bytes (o.sure.ground.long B up)) refl refl refl refl refl
+        sided s (with_held h B t bytes) (record x { on_b = bytes }) (altered_on_b s h t lt o.sure.ground.sizes bytes
+        (o.sure.ground.long B up)) refl refl refl refl refl
         (record { frame = kept.frame; a = kept.a; b = λ l. absurd (not_both x.b (level_b ∙ stale) l) })
 
     b_copied : level_at s.a t ≡ true → s.b.up ≡ true → Ordered v w (with_stale s B t false) (with_held h B t (get_or h.a t []))
@@ -181,8 +222,12 @@ module _ (u : List Track) (y : DeviceStore) (t : ℕ) where
         let z = with_stale s B t false in
         let c = record x { on_b = r; b = s.b.up && not false } in
         sided z n c
-        (altered_twice e (record { sizes = f.sizes; base = f.base; elsewhere = f.elsewhere;
-        here = f.here ∙ ap (λ (d : TrackContents). record d { b = s.b.up && not false }) e.here })) refl refl refl refl refl
+        (altered_twice e (record {
+          sizes = f.sizes;
+          base = f.base;
+          elsewhere = f.elsewhere;
+          here = f.here ∙ ap (λ (d : TrackContents). record d { b = s.b.up && not false }) e.here;
+        })) refl refl refl refl refl
         (record {
           frame = kept.frame;
           a = kept.a;
@@ -215,7 +260,8 @@ module _ (u : List Track) (y : DeviceStore) (t : ℕ) where
           cylinders = stays.cylinders;
         }))
         (λ bytes. fault_twin v w (write_counted (read_counted s true) false) (with_held h A t bytes) A
-        (a_garbage v w (write_counted (read_counted s true) false) h (both_counted false) lt there off plain (still_write false) bytes stale up) plain (still_write false)))
+        (a_garbage v w (write_counted (read_counted s true) false) h (both_counted false) lt there off plain
+        (still_write false) bytes stale up) plain (still_write false)))
 
     to_b : level_at s.b t ≡ false → s.b.up ≡ true → level_at s.a t ≡ true →
         Twins Ends (copy_by contents s t (Some B)) (copy_by by_plain (marks_of v w s) t (Some B)) h
@@ -230,11 +276,13 @@ module _ (u : List Track) (y : DeviceStore) (t : ℕ) where
           cylinders = stays.cylinders;
         }))
         (λ bytes. fault_twin v w (write_counted (read_counted s true) false) (with_held h B t bytes) B
-        (b_garbage v w (write_counted (read_counted s true) false) h (both_counted false) lt there off plain (still_write false) bytes stale up) plain (still_write false)))
+        (b_garbage v w (write_counted (read_counted s true) false) h (both_counted false) lt there off plain
+        (still_write false) bytes stale up) plain (still_write false)))
 
   -- Staging
 
-  ended : (v w : List Track) (s : DeviceStore) (h : Held) (d e : Option Did) → d ≡ e → Ordered v w s h → v ≡ u → Stays y s → Twins Ends (Done s d) (Done (marks_of v w s) e) h
+  ended : (v w : List Track) (s : DeviceStore) (h : Held) (d e : Option Did) → d ≡ e → Ordered v w s h → v ≡ u → Stays y s →
+      Twins Ends (Done s d) (Done (marks_of v w s) e) h
   ended v w s h d e same o plain stays =
       twin_done (record { order = o; same = same; plain = plain; geometry = stays.geometry; cylinders = stays.cylinders })
 
@@ -243,7 +291,8 @@ module _ (u : List Track) (y : DeviceStore) (t : ℕ) where
   unfilled_twin v w s h d e same o plain stays = ask_drop s.device t (ended v w s h d e same o plain stays)
 
   staged_by : (v w : List Track) (s : DeviceStore) (h : Held) (g : Got (List ℕ)) (m : Got Bool) (r : Option (List ℕ)) (b : Option Bool) → Delivers w s t r b →
-      g.fault ≡ m.fault → t < tracks_of s → (is_some r ≡ true → is_lost s t ≡ false) → is_loose s t ≡ false → half_is s.half t ≡ false → Ordered v w s h → v ≡ u →
+      g.fault ≡ m.fault → t < tracks_of s → (is_some r ≡ true → is_lost s t ≡ false) → is_loose s t ≡ false → half_is s.half t ≡ false →
+      Ordered v w s h → v ≡ u →
       Stays y s → Twins Ends (staged_bytes contents t s g r) (staged_bytes by_plain t (marks_of v w s) m b) h
   staged_by v w s h g m None None del fault lt there firm off o plain stays =
       unfilled_twin v w s h (Some (did g.fault Nothing)) (Some (did m.fault Nothing)) (ap (λ (x : Option Side). Some (did x Nothing)) fault) o plain stays
@@ -251,10 +300,12 @@ module _ (u : List Track) (y : DeviceStore) (t : ℕ) where
       let gave : image_of contents s t r ≡ Some (image_in s v t) =
       del.1 ∙ ap (λ (x : Track). Some (record { geometry = s.geometry; track = x })) (o.sure.ground.same t lt firm) in
       both_try
-      (subst (λ (x : Option Image). Twins Ends (staged_image contents t s g x) (staged_image by_plain t (marks_of v w s) m (Some (image_in s v t))) h) (sym gave)
+      (subst (λ (x : Option Image). Twins Ends (staged_image contents t s g x) (staged_image by_plain t (marks_of v w s) m (Some
+      (image_in s v t))) h) (sym gave)
       (twin_then (λ z _. Done z (Some (did g.fault (Staged t)))) (λ z _. Done z (Some (did m.fault (Staged t))))
       (filled_twin v w s h t (image_in s v t) refl lt (there refl) off o)
-      (λ v' w' z _ _ k f. ended v' w' z k (Some (did g.fault (Staged t))) (Some (did m.fault (Staged t))) (ap (λ (x : Option Side). Some (did x (Staged t))) fault)
+      (λ v' w' z _ _ k f. ended v' w' z k (Some (did g.fault (Staged t))) (Some (did m.fault (Staged t))) (ap (λ (x : Option Side). Some (did x
+      (Staged t))) fault)
       f.order (f.plain ∙ plain) (stays_on y s z stays f.stays))))
       (unfilled_twin v w s h None None refl o plain stays)
   staged_by v w s h g m (Some r) (Some false) del fault lt there firm off o plain stays = let e : false ≡ true = del.0 in absurd (cc)
@@ -265,7 +316,8 @@ module _ (u : List Track) (y : DeviceStore) (t : ℕ) where
   unfolding M.track_at
   track_loose s = refl
 
-  granted_twin : (v w : List Track) (s : DeviceStore) (h : Held) (given : Bool) → t < tracks_of s → is_loose s t ≡ false → half_is s.half t ≡ false → InOrder v w s h →
+  granted_twin : (v w : List Track) (s : DeviceStore) (h : Held) (given : Bool) → t < tracks_of s → is_loose s t ≡ false → half_is s.half t ≡ false →
+      InOrder v w s h →
       v ≡ u → Stays y s → Twins Ends (granted contents s t given) (granted by_plain (marks_of v w s) t given) h
   granted_twin v w s h given lt firm off o plain stays =
       on_test given
@@ -274,7 +326,8 @@ module _ (u : List Track) (y : DeviceStore) (t : ℕ) where
       (λ v' w' z g m k f.
       let below : t < tracks_of z = let same = f.1.goes.tracks in omega arith in
       staged_by v' w' z k g m g.bytes m.bytes f.0.bytes f.0.fault below (λ l. not_lost z t below f.1.goes.well (f.1.level l))
-      (sym (track_loose z) ∙ f.1.goes.firm t lt (track_loose s ∙ firm)) (stays_off s z t f.0.stays off) f.0.order (f.0.plain ∙ plain) (stays_on y s z stays f.0.stays)))
+      (sym (track_loose z) ∙ f.1.goes.firm t lt (track_loose s ∙ firm)) (stays_off s z t f.0.stays off) f.0.order (f.0.plain
+      ∙ plain) (stays_on y s z stays f.0.stays)))
       (λ _. ended v w s h (Some (Skipped t)) (Some (Skipped t)) refl (record { sure = o.sure; told = o.told }) plain stays)
 
 or_none : (x y : Bool) → (x || y) ≡ false → (x ≡ false) × (y ≡ false)
@@ -314,7 +367,8 @@ stale_off true stale e = rw e refl
 stale_off false stale e = refl
 
 pub copy_twin : (v w : List Track) (s : DeviceStore) (h : Held) (t : ℕ) → t < tracks_of s → s.half ≡ None → InOrder v w s h →
-    Twins (λ v' w' z a b k. Works v s v' w' z a b k) (copy_by contents s t (copies_to s t)) (copy_by by_plain (marks_of v w s) t (copies_to (marks_of v w s) t)) h
+    Twins (λ v' w' z a b k. Works v s v' w' z a b k) (copy_by contents s t (copies_to s t)) (copy_by by_plain (marks_of v w s) t (copies_to
+    (marks_of v w s) t)) h
 copy_twin v w s h t lt none o =
     by_tests (s.a.up && stale_at s.a t && level_at s.b t) (takes_b s && stale_at s.b t && level_at s.a t) refl refl
   where

@@ -1,23 +1,19 @@
 -- A write that is done: the edit takes effect, the frame is the new track or goes, and so does the patch. All is right then.
-use Rattle.std.proofs.Common.{◌≡◌, ◌≢◌, ◌<◌, ◌==◌, ◌&&◌, not, ℕ, Bool, true, false, List, [], Option, Some, None, is_some, set, length, refl, sym, ap, subst, ◌∙◌, arith, ◌⊎◌, inl, inr}
+use Rattle.std.proofs.Common.{◌≡◌, ◌≢◌, ◌<◌, ℕ, Bool, true, false, List, Option, Some, None, is_some, set, refl, sym, ap, subst, ◌∙◌, arith, ◌⊎◌, inl, inr}
 use Rattle.std.proofs.lemmas.Bool.{cases_eq}
-use Rattle.std.specs.Prelude.{option_map, if◌then◌else◌, Result, Ok}
+use Rattle.std.specs.Prelude.{option_map, Result, Ok}
 use Rattle.ckd_types.specs.declared.geometry.Geometry.{Geometry}
 use Rattle.ckd_types.specs.declared.record.Edit.{Edit}
 use Rattle.ckd_types.specs.declared.record.Track.{Track}
-use Rattle.ckd_types.specs.Edit.{apply_edit}
 use Rattle.ckd_types.specs.Geometry.{cchh_of}
 use Rattle.ckd_types.specs.Track.{Fits, track_bytes}
-use Rattle.ckd_types.specs.Volume.{IsVolume, track_in}
+use Rattle.ckd_types.specs.Volume.{track_in}
 use Rattle.ckd_types.specs.declared.geometry.Cchh.{Cchh}
-use Rattle.track_image.specs.Image.{Image}
 use Rattle.track_image.specs.Reading.{reading}
 use Rattle.track_image.proofs.Tracks.{reading_again}
 use Rattle.track_cache.specs.declared.frames.Frame.{Frame}
 use Rattle.nv_store.specs.declared.patches.Stored.{Stored}
-use Rattle.device_outside.specs.After.{with_slots}
-use Rattle.device_outside.specs.Both.{Both, both_free}
-use Rattle.device_outside.specs.Interaction.{Interaction, Done}
+use Rattle.device_outside.specs.Both.{both_free}
 use Rattle.device_outside.specs.Pool.{FreeSlot}
 use Rattle.device_outside.specs.Slots.{held_after}
 use Rattle.device_outside.proofs.BothRules.{on_test, on_tests}
@@ -26,11 +22,11 @@ use Rattle.device_defs.specs.Effects.{with_edit}
 use Rattle.device_defs.specs.Losses.{slot_in}
 use Rattle.device_defs.specs.Marks.{MarksStore, marks_of, frame_mark, patch_mark}
 use Rattle.device_defs.specs.Sound.{DeviceStore}
-use Rattle.device_defs.specs.Store.{HalfWrite, tracks_of, frame_at, patch_at, is_loose, half_is, with_frame, with_patch}
+use Rattle.device_defs.specs.Store.{tracks_of, frame_at, patch_at, is_loose, half_is, with_frame, with_patch}
 use Rattle.device_defs.specs.Writing as W
 use Rattle.device_defs.specs.Writing.{slot_freed, unpatched, done_by, write_done}
-use Rattle.device_laws.specs.Agrees.{Held, image_in, slot_at, HasSlots, IsGround}
-use Rattle.device_laws.specs.Twin.{Twin, Twins}
+use Rattle.device_laws.specs.Agrees.{Held, image_in, slot_at}
+use Rattle.device_laws.specs.Twin.{Twins}
 use Rattle.device_laws.proofs.ContentChanges as C
 use Rattle.device_laws.proofs.ContentChanges.{
   base_of,
@@ -53,14 +49,15 @@ use Rattle.device_laws.proofs.ContentChanges.{
 use Rattle.device_laws.proofs.PlainVolumes.{put_here, put_elsewhere, put_volume}
 use Rattle.device_laws.proofs.TrackContents as T
 use Rattle.device_laws.proofs.TrackContents.{TrackContents, contents_at, FrameHas, SideHas, Keeps, IsRight}
-use Rattle.device_laws.proofs.TwinAsks.{ask_clean, ask_drop, Stays, stays_same, stays_on, stays_by, stays_off, Ordered, right_keeps}
+use Rattle.device_laws.proofs.TwinAsks.{ask_clean, ask_drop, Stays, stays_same, Ordered, right_keeps}
 use Rattle.device_laws.proofs.TwinChanges.{patch_twin, has_frame_twin, with_frame_twin, with_patch_twin}
 use Rattle.device_laws.proofs.TwinSettled.{AllTold, told_altered}
 use Rattle.device_laws.proofs.TwinSlots.{may_free, freed_slots}
-use Rattle.device_laws.proofs.TwinWalks.{twin_done, twin_ends, twin_then, twin_weaker}
+use Rattle.device_laws.proofs.TwinWalks.{twin_done, twin_ends, twin_weaker}
 
 -- the bytes of a track that fits are that track
-pub read_back : (g : Geometry) (t : ℕ) (x : Track) → Fits g x → x.home ≡ cchh_of t → patched_by None (image_read g t (track_bytes x)) ≡ Some (record { geometry = g; track = x })
+pub read_back : (g : Geometry) (t : ℕ) (x : Track) → Fits g x → x.home ≡ cchh_of t →
+    patched_by None (image_read g t (track_bytes x)) ≡ Some (record { geometry = g; track = x })
 read_back g t x fits home =
     ap (λ (r : Result Track ℕ). patched_by None (image_with g r))
     (subst (λ (c : Cchh). reading g c (track_bytes x) ≡ Ok x) home (reading_again g x fits))
@@ -128,7 +125,8 @@ module _ (t : ℕ) (v w : List Track) (x : Track) where
   closed_sure z k c none frame =
       shut t v w z k c.but
       (subst (λ (l : Track). IsRight z.geometry t z.half (contents_at z k t) (record { geometry = z.geometry; track = l }) (image_in z w t)) (sym c.plain)
-      (subst (λ (l : Track). IsRight z.geometry t z.half (contents_at z k t) (record { geometry = z.geometry; track = x }) (record { geometry = z.geometry; track = l }))
+      (subst (λ (l : Track). IsRight z.geometry t z.half (contents_at z k t) (record { geometry = z.geometry; track = x })
+      (record { geometry = z.geometry; track = l }))
       (sym c.firm)
       (right_keeps z.geometry t z.half (contents_at z k t) (record { geometry = z.geometry; track = x }) (record { geometry = z.geometry; track = x }) c.off
       (record {
@@ -203,7 +201,8 @@ module _ (t : ℕ) (v w : List Track) (x : Track) where
     unfolding T.contents_at
     same_at y q = refl
 
-    gone_after : Altered z k (with_patch z t None) (record k { slots = held_after k.slots (FreeSlot p.slot) (tt {0}) }) t (record (contents_at z k t) { patch = None })
+    gone_after : Altered z k (with_patch z t None) (record k { slots = held_after k.slots (FreeSlot p.slot) (tt {0}) }) t (record
+        (contents_at z k t) { patch = None })
     unfolding C.base_of
     gone_after = record {
       sizes = gone.sizes;
@@ -244,7 +243,8 @@ module _ (t : ℕ) (v w : List Track) (x : Track) where
         (record {
           order = record {
             sure = closed_sure (with_patch z t None) n closing_patch (ap (λ (d : TrackContents). d.patch) e.here)
-                (subst (λ (o : Option Frame). FrameHas o (record { geometry = z.geometry; track = x })) (sym (ap (λ (d : TrackContents). d.frame) e.here)) frame);
+                (subst (λ (o : Option Frame). FrameHas o (record { geometry = z.geometry; track = x })) (sym (ap (λ
+                (d : TrackContents). d.frame) e.here)) frame);
             told = closing_patch.told;
           };
           plain = refl;
@@ -294,4 +294,12 @@ module _ (t : ℕ) (v w : List Track) (x : Track) where
           (twin_weaker
           (unpatched_twin (with_frame z t f) k (closing_frame z k f c)
           (subst (λ (o : Option Frame). FrameHas o (record { geometry = z.geometry; track = x })) (sym (frame_is z k f c)) has))
-          (λ v' w' y _ _ n e. record { order = e.order; plain = e.plain; stays = record { geometry = e.stays.geometry; cylinders = e.stays.cylinders; half = e.stays.half } }))
+          (λ v' w' y _ _ n e. record {
+            order = e.order;
+            plain = e.plain;
+            stays = record {
+              geometry = e.stays.geometry;
+              cylinders = e.stays.cylinders;
+              half = e.stays.half;
+            };
+          }))

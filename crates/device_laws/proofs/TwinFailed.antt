@@ -1,5 +1,32 @@
 -- A failed call leaves contents right, and does on marks what it does on contents.
-use Rattle.std.proofs.Common.{◌≡◌, ◌≢◌, ◌<◌, ◌≤◌, ◌==◌, zero, suc, ℕ, Bool, true, false, List, Option, Some, None, is_some, length, refl, sym, ap, subst, ◌∙◌, arith, ◌⊎◌, inl, inr}
+use Rattle.std.proofs.Common.{
+  ◌≡◌,
+  ◌≢◌,
+  ◌<◌,
+  ◌≤◌,
+  ◌==◌,
+  zero,
+  suc,
+  ℕ,
+  Bool,
+  true,
+  false,
+  List,
+  Option,
+  Some,
+  None,
+  is_some,
+  length,
+  refl,
+  sym,
+  ap,
+  subst,
+  ◌∙◌,
+  arith,
+  ◌⊎◌,
+  inl,
+  inr,
+}
 use Rattle.std.proofs.lemmas.Bool.{cases_eq}
 use Rattle.std.specs.Prelude.{option_map, if◌then◌else◌}
 use Rattle.ckd_types.specs.declared.paths.Side.{Side}
@@ -8,26 +35,24 @@ use Rattle.ckd_types.specs.declared.record.Track.{Track}
 use Rattle.track_image.specs.Image.{Image}
 use Rattle.track_cache.specs.declared.frames.Frame.{Frame}
 use Rattle.device_outside.specs.After.{holds_of}
-use Rattle.device_outside.specs.Both.{Both, both_tell}
-use Rattle.device_outside.specs.Interaction.{Interaction, Done, Tell}
-use Rattle.device_outside.specs.Keeper.{Message, Firm, ReplyTo}
-use Rattle.device_outside.proofs.BothRules.{on_test, on_tests}
+use Rattle.device_outside.specs.Both.{both_tell}
+use Rattle.device_outside.specs.Interaction.{Done, Tell}
+use Rattle.device_outside.specs.Keeper.{Firm}
+use Rattle.device_outside.proofs.BothRules.{on_tests}
 use Rattle.device_defs.specs.declared.owed.Owed.{Owed}
 use Rattle.device_defs.specs.Contents.{contents, by_plain}
 use Rattle.device_defs.specs.Losses as L
 use Rattle.device_defs.specs.Losses.{down, settled, settled_but, side_lost, framed_image, firm_told, all_firm_told, call_failed}
-use Rattle.device_defs.specs.Marks.{MarksStore, marks_of, frame_mark, owed_mark}
+use Rattle.device_defs.specs.Marks.{MarksStore, marks_of, frame_mark}
 use Rattle.device_defs.specs.Sound.{DeviceStore}
 use Rattle.device_defs.specs.Store.{tracks_of, side_of, frame_at, half_is, owed_at, with_owed}
-use Rattle.device_laws.specs.Agrees.{Held, image_in, slot_at, HasSlots}
-use Rattle.device_laws.specs.Twin.{Twin, Twins}
-use Rattle.device_laws.proofs.ContentChanges as C
+use Rattle.device_laws.specs.Agrees.{Held, image_in, slot_at}
+use Rattle.device_laws.specs.Twin.{Twins}
 use Rattle.device_laws.proofs.ContentChanges.{
   base_of,
   Altered,
   altered_owed,
   same_tracks,
-  same_half,
   slot_of,
   by_track,
   same_slots,
@@ -40,7 +65,7 @@ use Rattle.device_laws.proofs.TrackContents as T
 use Rattle.device_laws.proofs.TrackContents.{TrackContents, contents_at, IsRight, HeldBy, Keeps, Fewer, right_fewer, held_of, keeps_other}
 use Rattle.device_laws.proofs.TwinChanges.{down_twin, frame_twin, owed_twin, with_owed_twin}
 use Rattle.device_laws.proofs.TwinSettled.{Owes, Debts, debts_altered, AllTold, Settles, settled_pair}
-use Rattle.device_laws.proofs.TwinWalks.{Pair, pair_is, pair_on, pair_over, pair_weaker, twin_done, twin_ends, twin_then, twin_weaker}
+use Rattle.device_laws.proofs.TwinWalks.{Pair, pair_is, pair_over, pair_weaker, twin_done, twin_ends, twin_then, twin_weaker}
 
 -- A side that is down
 
@@ -50,7 +75,8 @@ down_slots s A false q = refl
 down_slots s B true q = refl
 down_slots s B false q = refl
 
-down_right : (writing : Option ℕ) (v w : List Track) (s : DeviceStore) (h : Held) (side : Side) → RightBut writing v w s h → RightBut writing v w (down s side) h
+down_right : (writing : Option ℕ) (v w : List Track) (s : DeviceStore) (h : Held) (side : Side) → RightBut writing v w s h →
+    RightBut writing v w (down s side) h
 unfolding T.contents_at
 down_right writing v w s h A b = record {
   ground = record {

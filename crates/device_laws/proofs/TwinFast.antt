@@ -1,5 +1,29 @@
 -- Fast and provisional writes leave all right: the frame is the edited track, and each level side has it with the patch, or what it goes back to.
-use Rattle.std.proofs.Common.{◌≡◌, ◌≢◌, ◌<◌, ◌==◌, ◌&&◌, not, ℕ, Bool, true, false, List, [], ◌++◌, Option, Some, None, is_some, set, map, length, refl, sym, ap, subst, ◌∙◌, arith, cond, ◌⊎◌, inl, inr}
+use Rattle.std.proofs.Common.{
+  ◌≡◌,
+  ◌≢◌,
+  ◌<◌,
+  ℕ,
+  Bool,
+  true,
+  false,
+  List,
+  Option,
+  Some,
+  None,
+  set,
+  length,
+  refl,
+  sym,
+  ap,
+  subst,
+  ◌∙◌,
+  arith,
+  cond,
+  ◌⊎◌,
+  inl,
+  inr,
+}
 use Rattle.std.proofs.lemmas.Bool.{cases_eq}
 use Rattle.std.proofs.lemmas.List.{append-nil}
 use Rattle.std.specs.Prelude.{option_map, if◌then◌else◌}
@@ -10,15 +34,13 @@ use Rattle.ckd_types.specs.declared.record.Track.{Track}
 use Rattle.ckd_types.specs.Edit.{apply_edit}
 use Rattle.ckd_types.specs.Geometry.{cchh_of}
 use Rattle.ckd_types.specs.Track.{Fits}
-use Rattle.ckd_types.specs.Volume.{IsVolume, track_in}
-use Rattle.ckd_rules.specs.Facts.{Suits}
-use Rattle.ckd_write.specs.Ranges.{HasRanges}
+use Rattle.ckd_types.specs.Volume.{track_in}
 use Rattle.ckd_write.proofs.Fitting.{edited_fits}
 use Rattle.track_image.specs.Image.{Image, edited_image}
 use Rattle.track_cache.specs.declared.frames.Frame.{Frame}
 use Rattle.nv_store.specs.declared.patches.Stored.{Stored}
 use Rattle.nv_store.specs.Fit.{is_fit}
-use Rattle.nv_store.specs.Patch.{PatchView, IsPatch, no_edits, added, applied, patched_image}
+use Rattle.nv_store.specs.Patch.{IsPatch, no_edits, added, applied, patched_image}
 use Rattle.nv_store.proofs.Fits.{fit_says}
 use Rattle.nv_store.proofs.InOrder.{added_is_patch}
 use Rattle.nv_store.proofs.OneMore.{one_more}
@@ -26,9 +48,9 @@ use Rattle.device_defs.specs.Choosing.{patch_with, fast_written, provisionally_w
 use Rattle.device_defs.specs.Contents.{contents, by_plain, patched_by, image_read}
 use Rattle.device_defs.specs.Effects.{with_edit, with_loose_edit, loosened}
 use Rattle.device_defs.specs.Losses.{slot_in}
-use Rattle.device_defs.specs.Marks.{MarksStore, marks_of, frame_mark, patch_mark, slot_mark}
+use Rattle.device_defs.specs.Marks.{MarksStore, marks_of, patch_mark, slot_mark}
 use Rattle.device_defs.specs.Sound.{DeviceStore}
-use Rattle.device_defs.specs.Store.{tracks_of, frame_at, patch_at, is_lost, is_loose, half_is, with_frame, with_patch, with_loose}
+use Rattle.device_defs.specs.Store.{tracks_of, patch_at, is_lost, is_loose, half_is, with_frame, with_patch}
 use Rattle.device_laws.specs.Agrees.{Held, image_in, slot_at, HasSlots}
 use Rattle.device_laws.specs.PlainWrites.{SuitsTrack}
 use Rattle.device_laws.proofs.ContentChanges as C
@@ -58,9 +80,9 @@ use Rattle.device_laws.proofs.TrackContents.{TrackContents, contents_at, FrameHa
 use Rattle.device_laws.proofs.TwinAsks.{Ordered, keeps_at, right_keeps}
 use Rattle.device_laws.proofs.TwinChanges.{patch_twin, with_frame_twin, with_patch_twin}
 use Rattle.device_laws.proofs.TwinChoices.{NewBy}
-use Rattle.device_laws.proofs.TwinDone.{put_right, edit_right}
-use Rattle.device_laws.proofs.TwinSettled.{AllTold, told_altered}
-use Rattle.device_laws.proofs.TwinSlots.{IsNew, new_slots}
+use Rattle.device_laws.proofs.TwinDone.{put_right}
+use Rattle.device_laws.proofs.TwinSettled.{told_altered}
+use Rattle.device_laws.proofs.TwinSlots.{new_slots}
 use Rattle.device_defs.specs.declared.answers.Choice.TheVariants.{Fast}
 
 some_is : {X : Type 0} (x y : X) → Some x ≡ Some y → x ≡ y
@@ -79,8 +101,10 @@ HasPlace (Some p) slot = Unit {0}
 HasPlace None (Some k) = Unit {0}
 HasPlace None None = ⊥
 
-one_edit_more : (p : Option Stored) (slot : Option ℕ) (e : Edit) (o : Option Image) (i : Image) → HasPlace p slot → ((q : Stored) → p ≡ Some q → IsPatch q.patch) →
-    Fits i.geometry i.track → SuitsTrack i.geometry i.track e → patched_by p o ≡ Some i → patched_by (patch_with contents e slot p) o ≡ Some (edited_image e i)
+one_edit_more : (p : Option Stored) (slot : Option ℕ) (e : Edit) (o : Option Image) (i : Image) → HasPlace p slot → ((q : Stored) → p ≡ Some q →
+    IsPatch q.patch) →
+    Fits i.geometry i.track → SuitsTrack i.geometry i.track e → patched_by p o ≡ Some i →
+    patched_by (patch_with contents e slot p) o ≡ Some (edited_image e i)
 one_edit_more p slot e None i place is fits suits gave = absurd (cc)
 one_edit_more None None e (Some j) i place is fits suits gave = absurd place
 one_edit_more None (Some k) e (Some j) i place is fits suits gave =
@@ -93,7 +117,8 @@ one_edit_more (Some q) (Some k) e (Some j) i place is fits suits gave = one_more
 patch_still : (p : Option Stored) (slot : Option ℕ) (e : Edit) → ((q : Stored) → p ≡ Some q → IsPatch q.patch) → (n : Stored) →
     patch_with contents e slot p ≡ Some n → IsPatch n.patch
 patch_still None None e is n f = absurd (cc)
-patch_still None (Some k) e is n f = subst (λ (s : Stored). IsPatch s.patch) (some_is _ n f) (added_is_patch e no_edits.kept no_edits.replaced no_edits.behind refl)
+patch_still None (Some k) e is n f = subst (λ (s : Stored). IsPatch s.patch) (some_is _ n f)
+    (added_is_patch e no_edits.kept no_edits.replaced no_edits.behind refl)
 patch_still (Some q) None e is n f =
     subst (λ (s : Stored). IsPatch s.patch) (some_is _ n f) (added_is_patch e q.patch.kept q.patch.replaced q.patch.behind (is q refl).behind)
 patch_still (Some q) (Some k) e is n f =
@@ -106,7 +131,8 @@ slot_with (Some p) e None = refl
 slot_with None e (Some k) = refl
 slot_with (Some p) e (Some k) = refl
 
-module _ (v w : List Track) (s : DeviceStore) (h : Held) (t : ℕ) (e : Edit) (lt : t < tracks_of s) (there : is_lost s t ≡ false) (off : half_is s.half t ≡ false)
+module _ (v w : List Track) (s : DeviceStore) (h : Held) (t : ℕ) (e : Edit) (lt : t < tracks_of s) (there : is_lost s t ≡ false)
+    (off : half_is s.half t ≡ false)
     (suits : SuitsTrack s.geometry (track_in v t) e) (o : Ordered v w s h) where
   abbrev x : TrackContents
   x = contents_at s h t
@@ -172,12 +198,14 @@ module _ (v w : List Track) (s : DeviceStore) (h : Held) (t : ℕ) (e : Edit) (l
         ∙ ap (λ (m : Option ℕ). slot_in contents (patch_with contents e m (patch_at s t))) is) freed_same others h.slots fresh o.sure.ground.slots
     slots_by None None q is place fresh = absurd place
     slots_by (Some p) None q is place fresh =
-        unseen_slots s h both h (λ kept r. by_track s h both h t (record x { frame = Some new; patch = patch }) kept both_altered (same_by kept) r) refl o.sure.ground.slots
+        unseen_slots s h both h (λ kept r. by_track s h both h t (record x { frame = Some new; patch = patch }) kept both_altered
+        (same_by kept) r) refl o.sure.ground.slots
       where
         same_by : (kept : Bool) → slot_of kept (record x { frame = Some new; patch = patch }) ≡ slot_of kept x
         same_by true =
             ap (λ (m : Option ℕ). slot_in contents (patch_with contents e m (patch_at s t))) is
-            ∙ ap (λ (m : Option Stored). slot_in contents (patch_with contents e None m)) q ∙ ap (slot_in contents) (sym q) ∙ ap (slot_in contents) (sym patch_is)
+            ∙ ap (λ (m : Option Stored). slot_in contents (patch_with contents e None m)) q ∙ ap (slot_in contents) (sym q)
+            ∙ ap (slot_in contents) (sym patch_is)
         same_by false = refl
 
     firm_same : image_in s w t ≡ image_in s v t
@@ -194,7 +222,8 @@ module _ (v w : List Track) (s : DeviceStore) (h : Held) (t : ℕ) (e : Edit) (l
         let b = put_right t v w s h n lt (opens_write t v w s h o.sure) home fits in
         right_altered (Some t) (set v t n) (set w t n) s h both h t (record x { frame = Some new; patch = patch }) b both_altered
         (record {
-          same = λ l. put_here w t n (let long = o.sure.ground.firm.tracks in omega arith) ∙ sym (put_here v t n (let long = o.sure.ground.plain.tracks in omega arith));
+          same = λ l. put_here w t n (let long = o.sure.ground.firm.tracks in omega arith)
+              ∙ sym (put_here v t n (let long = o.sure.ground.plain.tracks in omega arith));
           patch = patch_still (patch_at s t) slot e was_patch;
           apart = (sits_still v w s h t x lt o.sure.ground refl refl).apart;
         })
@@ -204,7 +233,8 @@ module _ (v w : List Track) (s : DeviceStore) (h : Held) (t : ℕ) (e : Edit) (l
     fast_sure =
         shut t (set v t n) (set w t n) both h fast_right
         (subst (λ (c : TrackContents). IsRight s.geometry t s.half c (image_in s (set v t n) t) (image_in s (set w t n) t)) (sym both_altered.here)
-        (subst (λ (l : Track). IsRight s.geometry t s.half (record x { frame = Some new; patch = patch }) (record { geometry = s.geometry; track = l }) (image_in s (set w t n) t))
+        (subst (λ (l : Track). IsRight s.geometry t s.half (record x { frame = Some new; patch = patch })
+        (record { geometry = s.geometry; track = l }) (image_in s (set w t n) t))
         (sym (put_here v t n (let long = o.sure.ground.plain.tracks in omega arith)))
         (subst (λ (l : Track). IsRight s.geometry t s.half (record x { frame = Some new; patch = patch }) i (record { geometry = s.geometry; track = l }))
         (sym (put_here w t n (let long = o.sure.ground.firm.tracks in omega arith)))
@@ -261,7 +291,8 @@ module _ (v w : List Track) (s : DeviceStore) (h : Held) (t : ℕ) (e : Edit) (l
       loose_now : (z : DeviceStore) → (contents_at z h t).loose ≡ true → (is_loose z t ≡ (contents_at z h t).loose) → is_loose z t ≡ false → ⊥
       loose_now z l is f = absurd (cc)
 
-      moved : (z : DeviceStore) → Altered s h z h t (record x { frame = Some new; loose = true }) → RightBut (Some t) v w z h → RightBut (Some t) (set v t n) w z h
+      moved : (z : DeviceStore) → Altered s h z h t (record x { frame = Some new; loose = true }) → RightBut (Some t) v w z h →
+          RightBut (Some t) (set v t n) w z h
       moved z f b = record {
         ground = record {
           sizes = b.ground.sizes;

@@ -1,19 +1,39 @@
 -- The image of a track is the plain one, and a device and its twin on marks ask the same for it.
-use Rattle.std.proofs.Common.{◌≡◌, ◌≢◌, ◌<◌, ◌+◌, ◌||◌, ℕ, Bool, true, false, List, [], Option, Some, None, is_some, get_or, refl, sym, ap, subst, ◌∙◌, arith, ◌⊎◌, inl, inr}
+use Rattle.std.proofs.Common.{
+  ◌≡◌,
+  ◌≢◌,
+  ◌<◌,
+  ◌||◌,
+  ℕ,
+  Bool,
+  true,
+  false,
+  List,
+  [],
+  Option,
+  Some,
+  None,
+  is_some,
+  get_or,
+  refl,
+  sym,
+  ap,
+  subst,
+  ◌∙◌,
+  arith,
+  ◌⊎◌,
+  inl,
+  inr,
+}
 use Rattle.std.proofs.lemmas.Bool.{cases_eq}
-use Rattle.std.specs.Prelude.{option_map, if◌then◌else◌}
-use Rattle.ckd_types.specs.declared.parameters.Mode.{Mode}
 use Rattle.ckd_types.specs.declared.paths.Side.{Side}
 use Rattle.ckd_types.specs.declared.paths.Side.TheVariants.{A, B}
 use Rattle.ckd_types.specs.declared.record.Track.{Track}
-use Rattle.ckd_types.specs.Parameters.{is_bypass}
-use Rattle.ckd_types.specs.Volume.{track_in}
 use Rattle.track_image.specs.Image.{Image}
 use Rattle.track_cache.specs.declared.frames.Frame.{Frame}
-use Rattle.device_outside.specs.Both.{Both, both_try, both_read}
-use Rattle.device_outside.specs.Interaction.{Interaction, Done}
+use Rattle.device_outside.specs.Both.{both_read}
+use Rattle.device_outside.specs.Interaction.{Done}
 use Rattle.device_outside.proofs.BothRules.{on_test, on_tests}
-use Rattle.device_defs.specs.declared.usage.Usage.{Usage}
 use Rattle.device_defs.specs.Contents.{contents, by_plain, patched_by, image_read}
 use Rattle.device_defs.specs.Image as I
 use Rattle.device_defs.specs.Image.{
@@ -45,12 +65,11 @@ use Rattle.device_defs.specs.Image.{
   image_by,
   image,
 }
-use Rattle.device_defs.specs.Marks.{MarksStore, marks_of, frame_mark, patch_mark}
+use Rattle.device_defs.specs.Marks.{marks_of}
 use Rattle.device_defs.specs.Sound.{DeviceStore}
-use Rattle.device_defs.specs.Store.{tracks_of, level_at, has_level, frame_at, patch_at, is_lost, is_loose, half_is, with_frame}
-use Rattle.nv_store.specs.declared.patches.Stored.{Stored}
+use Rattle.device_defs.specs.Store.{tracks_of, level_at, has_level, patch_at, is_lost, is_loose, half_is, with_frame}
 use Rattle.device_laws.specs.Agrees.{Held, image_in}
-use Rattle.device_laws.specs.Twin.{Twin, Twins}
+use Rattle.device_laws.specs.Twin.{Twins}
 use Rattle.device_laws.proofs.Changes as D
 use Rattle.device_laws.proofs.ContentChanges as C
 use Rattle.device_laws.proofs.ContentChanges.{
@@ -66,34 +85,16 @@ use Rattle.device_laws.proofs.ContentChanges.{
   right_altered,
   Sure,
 }
-use Rattle.device_laws.proofs.FailedCall.{IsWell, Goes, goes_on, failed_call_keeps_good}
+use Rattle.device_laws.proofs.FailedCall.{IsWell, failed_call_keeps_good}
 use Rattle.device_laws.proofs.SoundEvents.{well_is_nowhere}
 use Rattle.device_laws.proofs.TrackContents as T
 use Rattle.device_laws.proofs.TrackContents.{TrackContents, contents_at, FrameHas, Keeps}
-use Rattle.device_laws.proofs.TrackImage.{Reads, level_bytes_keeps_good}
 use Rattle.device_laws.proofs.TrackMarks as M
 use Rattle.device_laws.proofs.TrackMarks.{track_at, device_is_faithful}
-use Rattle.device_laws.proofs.TwinAsks.{
-  ask_modified,
-  ask_touch,
-  ask_frame,
-  Stays,
-  stays_same,
-  stays_on,
-  stays_by,
-  stays_fell,
-  stays_image,
-  stays_off,
-  InOrder,
-  Ordered,
-  keeps_at,
-  right_keeps,
-}
-use Rattle.device_laws.proofs.TwinChanges.{frame_twin, patch_twin, has_patch_twin, with_frame_twin}
+use Rattle.device_laws.proofs.TwinAsks.{ask_modified, Stays, stays_same, stays_on, stays_by, stays_fell, stays_off, InOrder, Ordered, keeps_at, right_keeps}
+use Rattle.device_laws.proofs.TwinChanges.{has_patch_twin, with_frame_twin}
 use Rattle.device_laws.proofs.TwinFailed.{fell, Failed, failed_twin}
-use Rattle.device_laws.proofs.TwinSettled.{AllTold}
-use Rattle.device_laws.proofs.TwinWalks.{twin_done, twin_ends, twin_then, twin_always, twin_weaker}
-use Rattle.device_laws.proofs.WholeImage.{unframed_is_firm, clean_is_firm}
+use Rattle.device_laws.proofs.TwinWalks.{twin_done, twin_ends, twin_then, twin_always}
 
 -- Reads
 
@@ -260,7 +261,10 @@ framed_order v w s h t i m is lt there off o = record {
     y : TrackContents
     y = record (contents_at s h t) { frame = Some (record { image = i; modified = m }) }
 
-    e : Altered s h (with_frame s t (Some (record { image = i; modified = m }))) h t (record (contents_at s h t) { frame = Some (record { image = i; modified = m }) })
+    e : Altered s h (with_frame s t (Some (record { image = i; modified = m }))) h t (record (contents_at s h t) {
+      frame = Some
+          (record { image = i; modified = m });
+    })
     e = altered_frame s h t lt o.sure.ground.sizes (Some (record { image = i; modified = m }))
 
     kept : Keeps s.geometry t (contents_at s h t) (image_in s v t) (image_in s w t)
@@ -269,7 +273,8 @@ framed_order v w s h t i m is lt there off o = record {
     framed_is : (f : Frame) → Some (record { image = i; modified = m }) ≡ Some f → f.image ≡ image_in s v t
     framed_is f e = ap (λ (x : Image). x) (let same : f.image ≡ i = cc in same) ∙ is
 
-    slots_by : (kept : Bool) → slot_of kept (record (contents_at s h t) { frame = Some (record { image = i; modified = m }) }) ≡ slot_of kept (contents_at s h t)
+    slots_by : (kept : Bool) → slot_of kept (record (contents_at s h t) { frame = Some (record { image = i; modified = m }) }) ≡ slot_of kept
+        (contents_at s h t)
     slots_by true = refl
     slots_by false = refl
 
@@ -291,6 +296,6 @@ pub filled_twin : (v w : List Track) (s : DeviceStore) (h : Held) (t : ℕ) (i :
 filled_twin v w s h t i is lt there off o =
     on_tests (is_some (patch_at s t)) (is_some (patch_at (marks_of v w s) t)) (has_patch_twin v w s t)
     (λ _. ask_modified s.device t (λ _. twin_ends (with_frame_twin v w s t (Some (record { image = i; modified = true })))
-      (record { order = framed_order v w s h t i true is lt there off o; plain = refl; stays = record { geometry = refl; cylinders = refl; half = refl } })))
+    (record { order = framed_order v w s h t i true is lt there off o; plain = refl; stays = record { geometry = refl; cylinders = refl; half = refl } })))
     (λ _. twin_ends (with_frame_twin v w s t (Some (record { image = i; modified = false })))
-      (record { order = framed_order v w s h t i false is lt there off o; plain = refl; stays = record { geometry = refl; cylinders = refl; half = refl } }))
+    (record { order = framed_order v w s h t i false is lt there off o; plain = refl; stays = record { geometry = refl; cylinders = refl; half = refl } }))

@@ -1,30 +1,36 @@
 -- The laws of a device that tells what it holds: its parts leave it in order, and do on marks what they do on contents.
-use Rattle.std.proofs.Common.{◌≡◌, ◌≢◌, ◌<◌, ◌==◌, ℕ, Bool, true, false, List, Option, Some, None, is_some, refl, sym, ap, subst, ◌∙◌, arith}
+use Rattle.std.proofs.Common.{◌≡◌, ◌<◌, ◌==◌, ℕ, Bool, true, false, List, Option, Some, None, refl, ap, subst, ◌∙◌, arith}
+use Rattle.ckd_chain.specs.State.{ChainState}
+use Rattle.ckd_types.specs.declared.geometry.Geometry.{Geometry}
 use Rattle.ckd_types.specs.declared.paths.Side.{Side}
 use Rattle.ckd_types.specs.declared.record.Edit.{Edit}
 use Rattle.ckd_types.specs.declared.record.Track.{Track}
 use Rattle.ckd_types.specs.Volume.{track_in}
-use Rattle.track_image.specs.Image.{Image, edited_image}
+use Rattle.track_image.specs.Image.{Image}
 use Rattle.device_defs.specs.declared.usage.Usage.{Usage}
 use Rattle.device_defs.specs.Background.{work}
+use Rattle.device_defs.specs.Command.{follow}
 use Rattle.device_defs.specs.Contents.{contents, by_plain}
 use Rattle.device_defs.specs.Editing.{write}
 use Rattle.device_defs.specs.Events.{losing}
 use Rattle.device_defs.specs.Image.{image}
 use Rattle.device_defs.specs.Losses.{call_failed}
 use Rattle.device_defs.specs.Marks.{marks_of, half_mark}
+use Rattle.device_defs.specs.Owed.{hear, ended}
 use Rattle.device_defs.specs.Second.{second_part}
 use Rattle.device_defs.specs.Sound.{DeviceStore}
 use Rattle.device_defs.specs.Store.{HalfWrite, tracks_of, is_lost, half_is}
 use Rattle.device_laws.specs.Agrees.{Held, image_in}
+use Rattle.device_laws.specs.Feeding.{Feeds, FollowIs}
 use Rattle.device_laws.specs.InOrder.{IsInOrder, StaysInOrder, ImageIs, WriteIs, SecondIs, QueueStands}
 use Rattle.device_laws.specs.PlainWrites.{SuitsTrack, OriginSuits}
 use Rattle.device_laws.specs.Twin.{Twins}
 use Rattle.device_laws.proofs.Changes as C
 use Rattle.device_laws.proofs.ContentChanges.{agrees_sure, sure_agrees}
-use Rattle.device_laws.proofs.FailedCall.{IsKept, IsWell, failed_call_keeps_good}
+use Rattle.device_laws.proofs.FailedCall.{IsWell, same_is_well, failed_call_keeps_good}
 use Rattle.loss_model.specs.declared.Loss.TheVariants as losses
 use Rattle.device_laws.proofs.LossEvents.{losing_goes}
+use Rattle.device_laws.proofs.Notices.{hearing_keeps_good, ending_changes_no_mark}
 use Rattle.device_laws.proofs.SecondPart.{second_part_keeps_good}
 use Rattle.device_laws.proofs.Soundness.{good_is_sound, good_is_nowhere, sound_is_good}
 use Rattle.device_laws.proofs.Sweeps.{is_free, is_alone, half_within}
@@ -34,11 +40,12 @@ use Rattle.device_laws.proofs.TrackContents.{contents_at}
 use Rattle.device_laws.proofs.TrackMarks as M
 use Rattle.device_laws.proofs.TrackMarks.{track_at, device_is_faithful}
 use Rattle.device_laws.proofs.TwinAsks.{InOrder, Ordered}
+use Rattle.device_laws.proofs.TwinEvents.{hear_twin, ended_twin}
 use Rattle.device_laws.proofs.TwinFailed.{failed_twin}
+use Rattle.device_laws.proofs.TwinFollow.{follow_order}
 use Rattle.device_laws.proofs.TwinLooks.{image_twin}
 use Rattle.device_laws.proofs.TwinLosses.{store_loss_twin, side_loss_twin}
 use Rattle.device_laws.proofs.TwinSecond.{second_part_twin}
-use Rattle.device_laws.proofs.TwinThrough.{none_off}
 use Rattle.device_laws.proofs.TwinWalks.{twin_always, twin_weaker}
 use Rattle.device_laws.proofs.TwinWrite.{write_twin}
 use Rattle.device_laws.proofs.TwinWork.{work_twin}
@@ -133,7 +140,8 @@ second_part_is_plain v w s h i order is suits =
     let o = in_order v w s h order in
     let lt = order.within i is in
     twin_weaker
-    (twin_always (second_part_twin v w s h i is lt (lost_there s h i.track ∙ order.there i is) o suits) (second_part_keeps_good contents device_is_faithful s i lt o.well is))
+    (twin_always (second_part_twin v w s h i is lt (lost_there s h i.track
+    ∙ order.there i is) o suits) (second_part_keeps_good contents device_is_faithful s i lt o.well is))
     (λ v' w' z a b k f. record { order = is_in_order v' w' z k f.0.order f.1.well; plain = f.0.plain; same = f.0.same })
 
 -- while no half write is open
@@ -157,3 +165,29 @@ lost_side_leaves_order v w s h side i =
     let o = in_order v w s h i in
     twin_weaker (twin_always (side_loss_twin v w s h side o) (losing_goes contents device_is_faithful s (losses.Side side) o.well))
     (λ v' w' z a b k f. record { order = is_in_order v' w' z k f.0.order f.1.well; plain = f.0.plain; same = refl })
+
+-- a command goes from track to track, while no half write is open
+pub command_goes_as_fed : (tracks : ℕ) (g : Geometry) (looks : ChainState → ℕ →
+    Bool) (v w : List Track) (s : DeviceStore) (h : Held) (n first t : ℕ) (chain : ChainState) →
+    Feeds tracks g (λ c q. looks c q ≡ true) → looks chain t ≡ true → tracks_of s ≡ tracks → s.geometry ≡ g → s.half ≡ None → IsInOrder v w s h →
+    Twins (λ v' w' z a b k. FollowIs v n chain v' w' z a b k) (follow contents n first chain t s) (follow by_plain n first chain t (marks_of v w s)) h
+command_goes_as_fed tracks g looks v w s h n first t chain feeds at same on none i =
+    twin_weaker (follow_order tracks g (λ c q. looks c q ≡ true) feeds v n first chain t s w h at same on none (in_order v w s h i))
+    (λ v' w' z a b k f. record { order = is_in_order v' w' z k f.0.order f.1; same = f.0.same; came = f.0.came })
+
+-- the notices that an event takes first
+pub notices_leave_order : (n : ℕ) (v w : List Track) (s : DeviceStore) (h : Held) → IsInOrder v w s h →
+    Twins (λ v' w' z a b k. StaysInOrder v v' w' z a b k) (hear contents n s) (hear by_plain n (marks_of v w s)) h
+notices_leave_order n v w s h i =
+    let o = in_order v w s h i in
+    twin_weaker (twin_always (hear_twin n v w s h o) (hearing_keeps_good contents n s o.well))
+    (λ v' w' z a b k f. record { order = is_in_order v' w' z k f.0.order f.1.well; plain = f.0.plain; same = refl })
+
+-- what it tells at its end
+pub end_leaves_order : (before : ℕ) (v w : List Track) (s : DeviceStore) (h : Held) → IsInOrder v w s h →
+    Twins (λ v' w' z a b k. StaysInOrder v v' w' z a b k) (ended contents before s) (ended by_plain before (marks_of v w s)) h
+end_leaves_order before v w s h i =
+    let o = in_order v w s h i in
+    twin_weaker
+    (twin_always (ended_twin before v w s h (record { sure = o.sure; told = o.told })) (ending_changes_no_mark contents before s o.well.sizes))
+    (λ v' w' z a b k f. record { order = is_in_order v' w' z k f.0.order (same_is_well contents s z o.well f.1); plain = f.0.plain; same = refl })

@@ -1,19 +1,42 @@
 -- The image that a command looks at, hit or missed, is the plain track, and the twin on marks has the same.
-use Rattle.std.proofs.Common.{◌≡◌, ◌≢◌, ◌<◌, ◌+◌, ◌||◌, ℕ, Bool, true, false, List, [], Option, Some, None, is_some, get_or, refl, sym, ap, subst, ◌∙◌, arith, ◌⊎◌, inl, inr}
+use Rattle.std.proofs.Common.{
+  ◌≡◌,
+  ◌≢◌,
+  ◌<◌,
+  ◌+◌,
+  ℕ,
+  Bool,
+  true,
+  false,
+  List,
+  [],
+  Option,
+  Some,
+  None,
+  is_some,
+  refl,
+  sym,
+  ap,
+  subst,
+  ◌∙◌,
+  arith,
+  ◌⊎◌,
+  inl,
+  inr,
+}
 use Rattle.std.proofs.lemmas.Bool.{cases_eq}
 use Rattle.std.specs.Prelude.{option_map, if◌then◌else◌, nat_le, nat_lt, length, ◌∷◌, ◌++◌}
 use Rattle.ckd_types.specs.declared.parameters.Mode.{Mode}
 use Rattle.ckd_types.specs.declared.paths.Side.{Side}
 use Rattle.ckd_types.specs.declared.record.Track.{Track}
 use Rattle.ckd_types.specs.Parameters.{is_bypass}
-use Rattle.ckd_types.specs.Volume.{track_in}
 use Rattle.track_image.specs.Image.{Image}
 use Rattle.track_cache.specs.declared.frames.Frame.{Frame}
-use Rattle.device_outside.specs.Both.{Both, both_try}
-use Rattle.device_outside.specs.Interaction.{Interaction, Done}
-use Rattle.device_outside.proofs.BothRules.{on_test, on_tests}
+use Rattle.device_outside.specs.Both.{both_try}
+use Rattle.device_outside.specs.Interaction.{Done}
+use Rattle.device_outside.proofs.BothRules.{on_test}
 use Rattle.device_defs.specs.declared.usage.Usage.{Usage}
-use Rattle.device_defs.specs.Contents.{contents, by_plain, patched_by, image_read}
+use Rattle.device_defs.specs.Contents.{contents, by_plain}
 use Rattle.device_defs.specs.Image as I
 use Rattle.device_defs.specs.Image.{
   Got,
@@ -38,21 +61,20 @@ use Rattle.device_defs.specs.Image.{
 }
 use Rattle.device_defs.specs.Marks.{MarksStore, marks_of, frame_mark}
 use Rattle.device_defs.specs.Sound.{DeviceStore}
-use Rattle.device_defs.specs.Store.{Store, tracks_of, has_level, frame_at, patch_at, is_lost, is_loose, half_is, with_frame}
+use Rattle.device_defs.specs.Store.{Store, tracks_of, frame_at, is_lost, is_loose, half_is, with_frame}
 use Rattle.device_laws.specs.Agrees.{Held, image_in}
-use Rattle.device_laws.specs.Twin.{Twin, Twins}
+use Rattle.device_laws.specs.Twin.{Twins}
 use Rattle.device_laws.proofs.ContentChanges as C
 use Rattle.device_laws.proofs.ContentChanges.{base_of, Altered, altered_frame, slot_of, by_track, unseen_slots, sits_still, unseen_right, right_altered}
-use Rattle.device_laws.proofs.FailedCall.{IsWell}
 use Rattle.device_laws.proofs.TrackContents as T
 use Rattle.device_laws.proofs.TrackContents.{TrackContents, contents_at, Keeps, right_fewer}
-use Rattle.device_laws.proofs.TrackImage.{Reads, level_bytes_keeps_good}
+use Rattle.device_laws.proofs.TrackImage.{level_bytes_keeps_good}
 use Rattle.device_laws.proofs.TrackMarks as M
 use Rattle.device_laws.proofs.TrackMarks.{track_at, device_is_faithful}
 use Rattle.device_laws.proofs.TwinAsks.{ask_touch, ask_frame, Stays, stays_same, stays_on, stays_image, stays_off, InOrder, Ordered, keeps_at}
 use Rattle.device_laws.proofs.TwinChanges.{frame_twin, with_frame_twin}
-use Rattle.device_laws.proofs.TwinImage.{Delivers, GotTwin, Looks, Fills, bytes_twin, filled_twin, not_lost}
-use Rattle.device_laws.proofs.TwinWalks.{twin_done, twin_ends, twin_then, twin_always, twin_weaker}
+use Rattle.device_laws.proofs.TwinImage.{Delivers, Looks, bytes_twin, filled_twin, not_lost}
+use Rattle.device_laws.proofs.TwinWalks.{twin_done, twin_then, twin_always}
 use Rattle.device_laws.proofs.WholeImage.{unframed_is_firm, clean_is_firm, dropped_goes}
 
 -- Staging ahead
@@ -220,11 +242,11 @@ module _ (u : List Track) (y : DeviceStore) (t : ℕ) where
       twin_then (λ z g. missed contents u' t z g g.bytes) (λ z g. missed by_plain u' t z g g.bytes)
       (twin_always (bytes_twin v w s h t o lt off) (level_bytes_keeps_good contents device_is_faithful s t o.well))
       (λ v' w' z g m k f.
-        let below : t < tracks_of z = let same = f.1.goes.tracks in omega arith in
-        missed_twin v' w' z k u' g m g.bytes m.bytes f.0.bytes f.0.side f.0.fault below
-        (λ e. not_lost z t below f.1.goes.well (f.1.level e))
-        (sym (track_loose z) ∙ f.1.goes.firm t lt (track_loose s ∙ firm)) (stays_off s z t f.0.stays off) f.0.order (f.0.plain ∙ plain)
-        (stays_on y s z stays f.0.stays))
+      let below : t < tracks_of z = let same = f.1.goes.tracks in omega arith in
+      missed_twin v' w' z k u' g m g.bytes m.bytes f.0.bytes f.0.side f.0.fault below
+      (λ e. not_lost z t below f.1.goes.well (f.1.level e))
+      (sym (track_loose z) ∙ f.1.goes.firm t lt (track_loose s ∙ firm)) (stays_off s z t f.0.stays off) f.0.order (f.0.plain ∙ plain)
+      (stays_on y s z stays f.0.stays))
 
   -- Hits
 

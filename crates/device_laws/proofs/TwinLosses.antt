@@ -1,5 +1,5 @@
 -- The losses of a side and of the store leave all right, with their twins on marks.
-use Rattle.std.proofs.Common.{◌≡◌, ◌≢◌, ◌<◌, ◌==◌, ◌&&◌, not, ℕ, Bool, true, false, List, Option, Some, None, is_some, refl, sym, ap, subst, ◌∙◌, arith}
+use Rattle.std.proofs.Common.{◌≡◌, ◌<◌, ◌&&◌, not, ℕ, Bool, true, false, List, Option, Some, None, is_some, refl, sym, ap, subst, ◌∙◌, arith}
 use Rattle.std.specs.Prelude.{if◌then◌else◌}
 use Rattle.ckd_types.specs.declared.paths.Side.{Side}
 use Rattle.ckd_types.specs.declared.paths.Side.TheVariants.{A, B}
@@ -17,7 +17,7 @@ use Rattle.device_defs.specs.Marks.{MarksStore, marks_of}
 use Rattle.device_defs.specs.Sound.{DeviceStore}
 use Rattle.device_defs.specs.Store.{HalfWrite, tracks_of, patch_at, half_is, with_stale}
 use Rattle.device_laws.specs.Agrees.{Held, image_in}
-use Rattle.device_laws.specs.Twin.{Twin, Twins}
+use Rattle.device_laws.specs.Twin.{Twins}
 use Rattle.device_laws.proofs.ContentChanges as C
 use Rattle.device_laws.proofs.ContentChanges.{
   Base,
@@ -35,7 +35,6 @@ use Rattle.device_laws.proofs.ContentChanges.{
   Sure,
   right_altered,
 }
-use Rattle.device_laws.proofs.FailedCall.{IsWell}
 use Rattle.device_laws.proofs.Sweeps.{is_alone}
 use Rattle.device_laws.proofs.TrackContents as T
 use Rattle.device_laws.proofs.TrackContents.{
@@ -54,20 +53,9 @@ use Rattle.device_laws.proofs.TrackContents.{
   not_both,
 }
 use Rattle.device_laws.proofs.TwinAsks.{InOrder, Ordered}
-use Rattle.device_laws.proofs.TwinChanges.{has_patch_twin, half_twin, down_twin, without_patch_twin}
-use Rattle.device_laws.proofs.TwinFailed.{Failed, told_twin, side_pair, settles_on, down_tracks}
-use Rattle.device_laws.proofs.TwinSettled.{
-  AllTold,
-  Debts,
-  Owes,
-  debts_altered,
-  told_debts,
-  Settles,
-  settled_pair,
-  unpatched,
-  altered_unpatched,
-  unpatched_slots,
-}
+use Rattle.device_laws.proofs.TwinChanges.{has_patch_twin, half_twin, without_patch_twin}
+use Rattle.device_laws.proofs.TwinFailed.{told_twin, side_pair, settles_on, down_tracks}
+use Rattle.device_laws.proofs.TwinSettled.{AllTold, Owes, debts_altered, told_debts, Settles, settled_pair, unpatched, altered_unpatched, unpatched_slots}
 use Rattle.device_laws.proofs.TwinWalks.{Pair, pair_is, pair_if, pair_over, pair_weaker, twin_weaker}
 
 -- The track of a half write has what is written, whatever its patch
@@ -165,7 +153,8 @@ module _ (h : Held) (u : List Track) (s : DeviceStore) (alone : s.paired ≡ fal
     unpatched_altered : Altered z h (without_patch contents z n) h n (unpatched c)
     unpatched_altered = altered_unpatched z h n lt x.but.ground.sizes
 
-    settles_of : (y : DeviceStore) (d : TrackContents) → Altered z h y h n d → d.loose ≡ c.loose → d.patch ≡ None → d.freed ≡ (unpatched c).freed → d.lost ≡ c.lost →
+    settles_of : (y : DeviceStore) (d : TrackContents) → Altered z h y h n d → d.loose ≡ c.loose → d.patch ≡ None → d.freed ≡ (unpatched c).freed →
+        d.lost ≡ c.lost →
         d.frame ≡ c.frame → d.debt ≡ c.debt →
         IsRight z.geometry n z.half d (image_in z v n) (image_in z w n) → Settles None h u s v w y
     settles_of y d e loose patch freed lost frame debt right =
@@ -235,7 +224,8 @@ module _ (h : Held) (u : List Track) (s : DeviceStore) (alone : s.paired ≡ fal
         (sym (has_patch_twin v w z n))
         (pair_if (is_some (patch_at z n)) (λ _. halved) (λ _. pair_is x))
 
-  store_pair : (w : List Track) → RightBut None u w s h → AllTold s h → Pair (Settles None h u s) (store_lost contents s) (store_lost by_plain (marks_of u w s))
+  store_pair : (w : List Track) → RightBut None u w s h → AllTold s h →
+      Pair (Settles None h u s) (store_lost contents s) (store_lost by_plain (marks_of u w s))
   unfolding L.store_lost
   store_pair w b told =
       pair_over (tracks_of s) (patch_lost contents) (patch_lost by_plain)
@@ -263,7 +253,8 @@ store_loss_twin v w s h o =
     let i = counted_loss v w s h losses.Store (record { sure = o.sure; told = o.told }) in
     let x = store_pair h v y (is_alone s o.well.here) w i.sure i.told in
     let z = store_lost contents y in
-    subst (λ (m : MarksStore). Twins (λ v' w' z _ _ k. Loses v v' w' z k) (L.all_firm_told contents (tracks_of s) z) (L.all_firm_told by_plain (tracks_of s) m) h) x.marks
+    subst (λ (m : MarksStore). Twins (λ v' w' z _ _ k. Loses v v' w' z k) (L.all_firm_told contents (tracks_of s) z) (L.all_firm_told by_plain
+    (tracks_of s) m) h) x.marks
     (twin_weaker (told_twin None h v x.plain x.firm z y (tracks_of s) (let same = same_tracks y h z h x.is.base in omega arith) x.is)
     (λ v' w' a _ _ k f. record { order = record { sure = f.but; told = f.told }; plain = f.plain }))
 
@@ -275,7 +266,8 @@ side_loss_twin v w s h side o =
     let x = side_pair None h v w y side i.sure i.told in
     let z = side_lost contents y side None in
     let d = L.down y side in
-    subst (λ (m : MarksStore). Twins (λ v' w' z _ _ k. Loses v v' w' z k) (L.all_firm_told contents (tracks_of s) z) (L.all_firm_told by_plain (tracks_of s) m) h) x.marks
+    subst (λ (m : MarksStore). Twins (λ v' w' z _ _ k. Loses v v' w' z k) (L.all_firm_told contents (tracks_of s) z) (L.all_firm_told by_plain
+    (tracks_of s) m) h) x.marks
     (twin_weaker (told_twin None h v x.plain x.firm z d (tracks_of s)
     (let same = same_tracks d h z h x.is.base in let still = down_tracks y side in omega arith) x.is)
     (λ v' w' a _ _ k f. record { order = record { sure = f.but; told = f.told }; plain = f.plain }))

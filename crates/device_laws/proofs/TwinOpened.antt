@@ -1,5 +1,31 @@
 -- Before the first write of a loose track it becomes firm; behind a first part a half write is opened. Both leave all right.
-use Rattle.std.proofs.Common.{◌≡◌, ◌≢◌, ◌<◌, ◌==◌, ◌&&◌, not, ℕ, Bool, true, false, List, [], Option, Some, None, is_some, set, length, refl, sym, ap, subst, ◌∙◌, arith, ◌⊎◌, inl, inr}
+use Rattle.std.proofs.Common.{
+  ◌≡◌,
+  ◌≢◌,
+  ◌<◌,
+  ◌==◌,
+  ◌&&◌,
+  not,
+  ℕ,
+  Bool,
+  true,
+  false,
+  List,
+  Option,
+  Some,
+  None,
+  is_some,
+  set,
+  refl,
+  sym,
+  ap,
+  subst,
+  ◌∙◌,
+  arith,
+  ◌⊎◌,
+  inl,
+  inr,
+}
 use Rattle.std.proofs.lemmas.Bool.{cases_eq}
 use Rattle.std.specs.Prelude.{option_map, if◌then◌else◌}
 use Rattle.ckd_types.specs.declared.paths.Side.TheVariants.{A, B}
@@ -8,8 +34,8 @@ use Rattle.ckd_types.specs.Track.{track_bytes}
 use Rattle.ckd_types.specs.Volume.{track_in}
 use Rattle.track_image.specs.Image.{Image}
 use Rattle.track_cache.specs.declared.frames.Frame.{Frame}
-use Rattle.device_outside.specs.Both.{Both, both_tell}
-use Rattle.device_outside.specs.Interaction.{Interaction, Done, Tell}
+use Rattle.device_outside.specs.Both.{both_tell}
+use Rattle.device_outside.specs.Interaction.{Done, Tell}
 use Rattle.device_outside.specs.Keeper.{Firm}
 use Rattle.device_outside.proofs.BothRules.{on_test}
 use Rattle.device_defs.specs.Contents.{contents, by_plain}
@@ -17,10 +43,23 @@ use Rattle.device_defs.specs.Effects.{hardened}
 use Rattle.device_defs.specs.Losses.{stale_everywhere, framed_image}
 use Rattle.device_defs.specs.Marks.{MarksStore, marks_of, frame_mark}
 use Rattle.device_defs.specs.Sound.{DeviceStore, written_on}
-use Rattle.device_defs.specs.Store.{Origin, OfCommand, OfCut, OfBackground, HalfWrite, tracks_of, frame_at, is_lost, is_loose, half_is, with_stale, with_frame}
+use Rattle.device_defs.specs.Store.{
+  Origin,
+  OfCommand,
+  OfCut,
+  OfBackground,
+  HalfWrite,
+  tracks_of,
+  frame_at,
+  is_lost,
+  is_loose,
+  half_is,
+  with_stale,
+  with_frame,
+}
 use Rattle.device_defs.specs.Writing.{firm_first, half_opened, cleaned, opened}
 use Rattle.device_laws.specs.Agrees.{Held, image_in, slot_at}
-use Rattle.device_laws.specs.Twin.{Twin, Twins}
+use Rattle.device_laws.specs.Twin.{Twins}
 use Rattle.device_laws.proofs.ContentChanges as C
 use Rattle.device_laws.proofs.ContentChanges.{
   base_of,
@@ -41,9 +80,7 @@ use Rattle.device_laws.proofs.ContentChanges.{
   shut,
   opens_write,
 }
-use Rattle.device_laws.proofs.FailedCall.{IsWell}
 use Rattle.device_laws.proofs.PlainVolumes.{put_here, put_elsewhere, put_volume}
-use Rattle.device_laws.proofs.Soundness.{and_left}
 use Rattle.device_laws.proofs.Sweeps.{is_alone}
 use Rattle.device_laws.proofs.TrackContents as T
 use Rattle.device_laws.proofs.TrackContents.{
@@ -66,7 +103,7 @@ use Rattle.device_laws.proofs.TrackMarks.{TrackMarks, marks, is_good, track_at}
 use Rattle.device_laws.proofs.TwinAsks.{ask_clean, Stays, stays_same, stays_off, InOrder, Ordered, keeps_at, right_keeps}
 use Rattle.device_laws.proofs.TwinChanges.{frame_twin, with_frame_twin}
 use Rattle.device_laws.proofs.TwinSettled.{AllTold, told_altered}
-use Rattle.device_laws.proofs.TwinWalks.{Pair, pair_is, twin_done, twin_ends}
+use Rattle.device_laws.proofs.TwinWalks.{Pair, twin_done, twin_ends}
 
 -- The track of a loose frame becomes firm
 
@@ -110,7 +147,8 @@ module _ (v w : List Track) (s : DeviceStore) (h : Held) (t : ℕ) (lt : t < tra
   unfolding M.track_at
   facts =
       let m = track_at contents s t in
-      loose_good m.frame m.patched m.lost m.half m.level (subst (λ (b : Bool). is_good (marks m.frame m.patched m.lost b m.half m.level) ≡ true) loose (o.well.good t lt))
+      loose_good m.frame m.patched m.lost m.half m.level (subst (λ (b : Bool). is_good
+      (marks m.frame m.patched m.lost b m.half m.level) ≡ true) loose (o.well.good t lt))
 
   kept : Keeps s.geometry t x (image_in s v t) (image_in s w t)
   kept = keeps_at v w s h t o.sure lt facts.1 off
@@ -166,7 +204,8 @@ module _ (v w : List Track) (s : DeviceStore) (h : Held) (t : ℕ) (lt : t < tra
   and_not_true true = refl
   and_not_true false = refl
 
-  firms : (z : DeviceStore) (c : TrackContents) → Altered s h z h t c → c.frame ≡ x.frame → c.patch ≡ x.patch → c.freed ≡ x.freed → c.debt ≡ x.debt → c.loose ≡ false →
+  firms : (z : DeviceStore) (c : TrackContents) → Altered s h z h t c → c.frame ≡ x.frame → c.patch ≡ x.patch → c.freed ≡ x.freed → c.debt ≡ x.debt →
+      c.loose ≡ false →
       c.a ≡ false → c.b ≡ false → Stays s z → is_loose z t ≡ false → Firms v s t v firm_now z true true h
   firms z c e frame patch freed debt firm a b stays loose_now =
       let here : track_in firm_now t ≡ track_in v t = put_here w t (track_in v t) (let same = o.sure.ground.firm.tracks in omega arith) in
@@ -219,14 +258,24 @@ module _ (v w : List Track) (s : DeviceStore) (h : Held) (t : ℕ) (lt : t < tra
         elsewhere = g.elsewhere;
         here = g.here ∙ ap (λ (d : TrackContents). record d { b = s.b.up && not true }) f.here;
       }) in
-      record { plain = v; firm = firm_now; marks = refl; is = firms z c e refl refl refl refl refl (and_not_true s.a.up) (and_not_true s.b.up)
-      (record { geometry = refl; cylinders = refl; half = refl }) (loose_gone z c e refl) }
+      record {
+        plain = v;
+        firm = firm_now;
+        marks = refl;
+        is = firms z c e refl refl refl refl refl (and_not_true s.a.up) (and_not_true s.b.up)
+            (record { geometry = refl; cylinders = refl; half = refl }) (loose_gone z c e refl);
+      }
   stale_pair false is =
       let e = off_a in
       let z = with_stale (hardened s t) A t true in
       let c = record x { loose = false; a = s.a.up && not true } in
-      record { plain = v; firm = firm_now; marks = refl; is = firms z c e refl refl refl refl refl (and_not_true s.a.up) (b_down is)
-      (record { geometry = refl; cylinders = refl; half = refl }) (loose_gone z c e refl) }
+      record {
+        plain = v;
+        firm = firm_now;
+        marks = refl;
+        is = firms z c e refl refl refl refl refl (and_not_true s.a.up) (b_down is)
+            (record { geometry = refl; cylinders = refl; half = refl }) (loose_gone z c e refl);
+      }
 
   loose_twin : Twins (λ v' w' z a b k. Firms v s t v' w' z a b k)
       (Tell (Firm s.device t (framed_image contents s t (frame_at s t))) (λ _. Done (stale_everywhere (hardened s t) t) true))
@@ -306,19 +355,24 @@ module _ (t : ℕ) (v w : List Track) (i : Image) (origin : Origin) where
     right = λ q lt ne. right_at q lt (cases_eq q t);
   }
     where
-      some_lost : (q : ℕ) → IsRight z.geometry q z.half (contents_at z k q) (image_in z v q) (image_in z w q) → q ≢ t → (l : Bool) → (contents_at z k q).lost ≡ l →
+      some_lost : (q : ℕ) → IsRight z.geometry q z.half (contents_at z k q) (image_in z v q) (image_in z w q) → q ≢ t → (l : Bool) →
+          (contents_at z k q).lost ≡ l →
           IsRight z.geometry q (Some (record { track = t; origin = origin; image = i })) (contents_at z k q) (image_in z v q) (image_in z w q)
-      some_lost q r off true e = T.right_lost z.geometry q (Some (record { track = t; origin = origin; image = i })) (contents_at z k q) (image_in z v q) (image_in z w q) e
+      some_lost q r off true e = T.right_lost z.geometry q (Some (record { track = t; origin = origin; image = i })) (contents_at z k q)
+          (image_in z v q) (image_in z w q) e
       some_lost q r off false e =
           right_by z.geometry q (Some (record { track = t; origin = origin; image = i })) (contents_at z k q) (image_in z v q) (image_in z w q)
-          (other_keeps z.geometry q (record { track = t; origin = origin; image = i }) (contents_at z k q) (image_in z v q) (image_in z w q) (other_half q off)
+          (other_keeps z.geometry q (record { track = t; origin = origin; image = i }) (contents_at z k q) (image_in z v q) (image_in z w q)
+          (other_half q off)
           (held_of z.geometry q None (contents_at z k q) (image_in z v q) (image_in z w q) e
           (subst (λ (n : Option (HalfWrite Image)). IsRight z.geometry q n (contents_at z k q) (image_in z v q) (image_in z w q)) o.none r)))
 
       right_at : (q : ℕ) → q < tracks_of z → ((q ≡ t) ⊎ (q ≢ t)) →
-          IsRight z.geometry q (Some (record { track = t; origin = origin; image = i })) (contents_at (half_opened contents z t i origin) k q) (image_in z v q) (image_in z w q)
+          IsRight z.geometry q (Some (record { track = t; origin = origin; image = i })) (contents_at (half_opened contents z t i origin) k q)
+          (image_in z v q) (image_in z w q)
       right_at q lt (inl at) =
-          subst (λ (p : ℕ). IsRight z.geometry p (Some (record { track = t; origin = origin; image = i })) (contents_at (half_opened contents z t i origin) k p)
+          subst (λ (p : ℕ). IsRight z.geometry p (Some (record { track = t; origin = origin; image = i })) (contents_at
+          (half_opened contents z t i origin) k p)
           (image_in z v p) (image_in z w p)) (sym at)
           (subst (λ (c : TrackContents). IsRight z.geometry t (Some (record { track = t; origin = origin; image = i })) c (image_in z v t) (image_in z w t))
           (sym (same_contents z k t))

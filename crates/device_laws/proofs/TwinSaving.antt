@@ -1,46 +1,44 @@
 -- A track that the background writes to the volumes leaves all right, with its twin on marks: recovery and destaging.
-use Rattle.std.proofs.Common.{◌≡◌, ◌≢◌, ◌<◌, ◌==◌, ℕ, Bool, true, false, List, [], Option, Some, None, is_some, length, refl, sym, ap, subst, ◌∙◌, arith}
-use Rattle.std.specs.Prelude.{option_map, if◌then◌else◌}
-use Rattle.ckd_types.specs.declared.geometry.Geometry.{Geometry}
+use Rattle.std.proofs.Common.{◌≡◌, ◌<◌, ℕ, Bool, true, false, List, Option, Some, None, is_some, refl, sym, ap, subst, ◌∙◌, arith}
+use Rattle.std.specs.Prelude.{option_map}
 use Rattle.ckd_types.specs.declared.paths.Side.{Side}
 use Rattle.ckd_types.specs.declared.record.Track.{Track}
 use Rattle.ckd_types.specs.Track.{track_bytes}
 use Rattle.ckd_types.specs.Volume.{track_in}
 use Rattle.track_image.specs.Image.{Image}
 use Rattle.track_cache.specs.declared.frames.Frame.{Frame}
-use Rattle.device_outside.specs.Both.{Both, both_try}
+use Rattle.device_outside.specs.Both.{both_try}
 use Rattle.device_outside.specs.Interaction.{Interaction, Done, and_then}
 use Rattle.device_defs.specs.declared.answers.Did.{Did}
-use Rattle.device_defs.specs.declared.answers.Did.TheVariants.{Nothing, Recovered, BadBytes, Half}
+use Rattle.device_defs.specs.declared.answers.Did.TheVariants.{Nothing, Recovered, Half}
 use Rattle.device_defs.specs.declared.answers.Took.{Took}
 use Rattle.device_defs.specs.declared.answers.Took.TheVariants.{Whole, Opened, Unwritten}
 use Rattle.device_defs.specs.Background.{did, saved_by, saving, saved, recovered_image, recovered_bytes, recover}
 use Rattle.device_defs.specs.Contents.{Contents, contents, by_plain}
-use Rattle.device_defs.specs.Image.{Got, level_bytes, image_of}
+use Rattle.device_defs.specs.Image.{Got, image_of}
 use Rattle.device_defs.specs.Losses.{framed_image}
-use Rattle.device_defs.specs.Marks.{MarksStore, marks_of, frame_mark}
+use Rattle.device_defs.specs.Marks.{marks_of, frame_mark}
 use Rattle.device_defs.specs.Sound.{DeviceStore}
-use Rattle.device_defs.specs.Store.{OfBackground, HalfWrite, Store, tracks_of, has_level, frame_at, is_lost, is_loose, half_is}
+use Rattle.device_defs.specs.Store.{OfBackground, Store, tracks_of, frame_at, is_lost, is_loose, half_is}
 use Rattle.device_defs.specs.Writing.{Wrote, write_first, write_done, opened}
 use Rattle.device_laws.specs.Agrees.{Held, image_in}
-use Rattle.device_laws.specs.Twin.{Twin, Twins}
-use Rattle.device_laws.proofs.FailedCall.{IsWell, Goes}
+use Rattle.device_laws.specs.Twin.{Twins}
 use Rattle.device_laws.proofs.Sweeps.{is_alone}
 use Rattle.device_laws.proofs.TrackContents as T
 use Rattle.device_laws.proofs.TrackContents.{TrackContents, contents_at, FrameHas, Keeps}
 use Rattle.device_laws.proofs.TrackImage.{level_bytes_keeps_good}
 use Rattle.device_laws.proofs.TrackMarks as M
 use Rattle.device_laws.proofs.TrackMarks.{track_at, device_is_faithful}
-use Rattle.device_laws.proofs.TwinAsks.{Stays, stays_same, stays_on, stays_image, stays_off, InOrder, Ordered, keeps_at}
+use Rattle.device_laws.proofs.TwinAsks.{Stays, stays_image, stays_off, InOrder, Ordered, keeps_at}
 use Rattle.device_laws.proofs.TwinChanges.{frame_twin}
 use Rattle.device_laws.proofs.TwinDone.{Closing, write_done_twin}
-use Rattle.device_laws.proofs.TwinImage.{Delivers, GotTwin, bytes_twin, not_lost}
+use Rattle.device_laws.proofs.TwinImage.{Delivers, bytes_twin, not_lost}
 use Rattle.device_laws.proofs.TwinOpened.{Opening, opened_twin, firm_twin}
 use Rattle.device_laws.proofs.TwinThrough.{none_off}
-use Rattle.device_laws.proofs.TwinWalks.{twin_done, twin_ends, twin_then, twin_always, twin_weaker}
-use Rattle.device_laws.proofs.TwinWrites.{Mid, Written, First, first_twin}
+use Rattle.device_laws.proofs.TwinWalks.{twin_done, twin_then, twin_always, twin_weaker}
+use Rattle.device_laws.proofs.TwinWrites.{Written, First, first_twin}
 use Rattle.device_laws.proofs.WholeImage.{unframed_is_firm}
-use Rattle.device_laws.proofs.Writes.{is_taken, firm_first_keeps_good, write_first_keeps_good}
+use Rattle.device_laws.proofs.Writes.{is_taken, firm_first_keeps_good}
 
 -- the plain volume stays
 pub record Works {A : Type 0} (u : List Track) (s : DeviceStore) (v w : List Track) (z : DeviceStore) (a b : A) (k : Held) : Type 0 where
@@ -150,9 +148,11 @@ mark_lost s t = refl
 abbrev saved_then : {F P H R : Type 0} (c : Contents F P H R) → ℕ → Did → Option Side → Image → Store F P H → Bool → Interaction R Image (Store F P H) Did
 saved_then c t d fault i z was_loose = and_then (write_first c z t (c.bytes i)) (λ y w. saved_by c t i d fault was_loose w.fault y w.took)
 
-pub saving_twin : (v w : List Track) (s : DeviceStore) (h : Held) (t : ℕ) (d : Did) (fault : Option Side) → t < tracks_of s → is_lost s t ≡ false → s.half ≡ None →
+pub saving_twin : (v w : List Track) (s : DeviceStore) (h : Held) (t : ℕ) (d : Did) (fault : Option Side) → t < tracks_of s → is_lost s t ≡ false →
+    s.half ≡ None →
     InOrder v w s h →
-    Twins (λ v' w' z a b k. Works v s v' w' z a b k) (saving contents s t (image_in s v t) d fault) (saving by_plain (marks_of v w s) t (image_in s v t) d fault) h
+    Twins (λ v' w' z a b k. Works v s v' w' z a b k) (saving contents s t (image_in s v t) d fault) (saving by_plain (marks_of v w s) t
+    (image_in s v t) d fault) h
 saving_twin v w s h t d fault lt there none o =
     let off = none_off s.half t none in
     twin_then (saved_then contents t d fault (image_in s v t)) (saved_then by_plain t d fault (image_in s v t))
@@ -174,7 +174,8 @@ saving_twin v w s h t d fault lt there none o =
     (subst (λ (p : Image). Twins (λ v' w' z a b k. Works v s v' w' z a b k) (saved_then contents t d fault p z a)
     (saved_then by_plain t d fault p (marks_of v' w' z) a) k) (sym image_is)
     (twin_weaker
-    (twin_then (λ x m. saved_by contents t (image_in z v' t) d fault a m.fault x m.took) (λ x m. saved_by by_plain t (image_in z v' t) d fault a m.fault x m.took)
+    (twin_then (λ x m. saved_by contents t (image_in z v' t) d fault a m.fault x m.took) (λ x m. saved_by by_plain t
+    (image_in z v' t) d fault a m.fault x m.took)
     (first_twin v' z k t (track_bytes (track_in v' t)) below y.firm alone off' own w' y.order)
     (λ v'' w'' x m n l g. by_wrote v' w' z k t d fault below y.firm (y.stays.half ∙ none) own v'' w'' x l a m n g))
     (λ v'' w'' x m n l g. record {
@@ -185,8 +186,10 @@ saving_twin v w s h t d fault lt there none o =
       cylinders = g.cylinders ∙ y.stays.cylinders;
     }))))
   where
-    by_wrote : (v' w' : List Track) (z : DeviceStore) (k : Held) (t : ℕ) (d : Did) (fault : Option Side) (below : t < tracks_of z) (firm : is_loose z t ≡ false)
-        (none : z.half ≡ None) (own : Keeps z.geometry t (contents_at z k t) (image_in z v' t) (image_in z v' t)) (v'' w'' : List Track) (x : DeviceStore) (l : Held)
+    by_wrote : (v' w' : List Track) (z : DeviceStore) (k : Held) (t : ℕ) (d : Did) (fault : Option Side) (below : t < tracks_of z)
+        (firm : is_loose z t ≡ false)
+        (none : z.half ≡ None) (own : Keeps z.geometry t (contents_at z k t) (image_in z v' t) (image_in z v' t)) (v'' w'' : List Track)
+        (x : DeviceStore) (l : Held)
         (a : Bool) (m n : Wrote) → First v' z k t (track_bytes (track_in v' t)) v'' w'' x m n l →
         Twins (λ v2 w2 q c e i. Works v' z v2 w2 q c e i) (saved_by contents t (image_in z v' t) d fault a m.fault x m.took)
         (saved_by by_plain t (image_in z v' t) d fault a n.fault (marks_of v'' w'' x) n.took) l
@@ -198,9 +201,11 @@ saving_twin v w s h t d fault lt there none o =
         (by_took v' z k t below firm none own d fault v'' w'' x l a m.took m.fault g.plain g.stays g.done g.undone))
 
 -- or memory is lacking
-pub saved_twin : (v w : List Track) (s : DeviceStore) (h : Held) (t : ℕ) (d : Did) (fault : Option Side) → t < tracks_of s → is_lost s t ≡ false → s.half ≡ None →
+pub saved_twin : (v w : List Track) (s : DeviceStore) (h : Held) (t : ℕ) (d : Did) (fault : Option Side) → t < tracks_of s → is_lost s t ≡ false →
+    s.half ≡ None →
     InOrder v w s h →
-    Twins (λ v' w' z a b k. Works v s v' w' z a b k) (saved contents s t (image_in s v t) d fault) (saved by_plain (marks_of v w s) t (image_in s v t) d fault) h
+    Twins (λ v' w' z a b k. Works v s v' w' z a b k) (saved contents s t (image_in s v t) d fault) (saved by_plain (marks_of v w s) t
+    (image_in s v t) d fault) h
 saved_twin v w s h t d fault lt there none o =
     both_try
     (twin_then (λ z e. Done z (Some e)) (λ z e. Done z (Some e)) (saving_twin v w s h t d fault lt there none o)
@@ -210,7 +215,8 @@ saved_twin v w s h t d fault lt there none o =
 -- Recovery
 
 -- what a frame has is the plain track
-frame_plain : (v w : List Track) (s : DeviceStore) (h : Held) (t : ℕ) (f : Frame) → Ordered v w s h → t < tracks_of s → is_lost s t ≡ false → half_is s.half t ≡ false →
+frame_plain : (v w : List Track) (s : DeviceStore) (h : Held) (t : ℕ) (f : Frame) → Ordered v w s h → t < tracks_of s → is_lost s t ≡ false →
+    half_is s.half t ≡ false →
     frame_at s t ≡ Some f → f.image ≡ image_in s v t
 unfolding T.contents_at
 frame_plain v w s h t f o lt there off e = (keeps_at v w s h t o.sure lt there off).frame f e
@@ -223,7 +229,8 @@ track_loose : (s : DeviceStore) (t : ℕ) → (track_at contents s t).loose ≡ 
 unfolding M.track_at
 track_loose s t = refl
 
-recovered_by : (u : List Track) (y : DeviceStore) (v w : List Track) (s : DeviceStore) (h : Held) (t : ℕ) (g : Got (List ℕ)) (m : Got Bool) (r : Option (List ℕ))
+recovered_by : (u : List Track) (y : DeviceStore) (v w : List Track) (s : DeviceStore) (h : Held) (t : ℕ) (g : Got (List ℕ)) (m : Got Bool)
+    (r : Option (List ℕ))
     (b : Option Bool) → Delivers w s t r b → g.side ≡ m.side → g.fault ≡ m.fault → t < tracks_of s → (is_some r ≡ true → is_lost s t ≡ false) →
     is_loose s t ≡ false → s.half ≡ None → InOrder v w s h → v ≡ u → Stays y s →
     Twins (λ v' w' z a b k. Works u y v' w' z a b k) (recovered_bytes contents t s g r) (recovered_bytes by_plain t (marks_of v w s) m b) h
@@ -251,7 +258,14 @@ recovered_by u y v w s h t g m (Some r) (Some true) del side fault lt there firm
       geometry = f.geometry ∙ stays.geometry;
       cylinders = f.cylinders ∙ stays.cylinders;
     }))))
-    (twin_done (record { order = record { sure = o.sure; told = o.told }; same = refl; plain = plain; geometry = stays.geometry; cylinders = stays.cylinders }))
+    (twin_done (record {
+      order = record { sure = o.sure; told = o.told };
+      same = refl;
+      plain = plain;
+      geometry = stays.geometry;
+      cylinders =
+          stays.cylinders;
+    }))
 recovered_by u y v w s h t g m (Some r) (Some false) del side fault lt there firm none o plain stays = let e : false ≡ true = del.0 in absurd (cc)
 recovered_by u y v w s h t g m None (Some b) del side fault lt there firm none o plain stays = absurd del
 recovered_by u y v w s h t g m (Some r) None del side fault lt there firm none o plain stays = absurd del
@@ -264,7 +278,8 @@ framed_twin v w s h t d f e lt there none o =
     subst (λ (i : Image). Twins (λ v' w' z a b k. Works v s v' w' z a b k) (saved contents s t i d None)
     (saved by_plain (marks_of v w s) t (image_in s v t) d None) h) (sym is) (saved_twin v w s h t d None lt there none o)
 
-recover_by : (v w : List Track) (s : DeviceStore) (h : Held) (t : ℕ) (f : Option Frame) → frame_at s t ≡ f → t < tracks_of s → is_lost s t ≡ false → s.half ≡ None →
+recover_by : (v w : List Track) (s : DeviceStore) (h : Held) (t : ℕ) (f : Option Frame) → frame_at s t ≡ f → t < tracks_of s → is_lost s t ≡ false →
+    s.half ≡ None →
     InOrder v w s h →
     Twins (λ v' w' z a b k. Works v s v' w' z a b k) (recover contents s t f) (recover by_plain (marks_of v w s) t (option_map frame_mark f)) h
 recover_by v w s h t (Some f) e lt there none o = framed_twin v w s h t (Recovered t) f e lt there none o
@@ -281,9 +296,11 @@ recover_by v w s h t None e lt there none o =
 
 -- of a track that isn't lost, while no half write is open
 pub recover_twin : (v w : List Track) (s : DeviceStore) (h : Held) (t : ℕ) → t < tracks_of s → is_lost s t ≡ false → s.half ≡ None → InOrder v w s h →
-    Twins (λ v' w' z a b k. Works v s v' w' z a b k) (recover contents s t (frame_at s t)) (recover by_plain (marks_of v w s) t (frame_at (marks_of v w s) t)) h
+    Twins (λ v' w' z a b k. Works v s v' w' z a b k) (recover contents s t (frame_at s t)) (recover by_plain (marks_of v w s) t (frame_at
+    (marks_of v w s) t)) h
 recover_twin v w s h t lt there none o =
-    subst (λ (f : Option Bool). Twins (λ v' w' z a b k. Works v s v' w' z a b k) (recover contents s t (frame_at s t)) (recover by_plain (marks_of v w s) t f) h)
+    subst (λ (f : Option Bool). Twins (λ v' w' z a b k. Works v s v' w' z a b k) (recover contents s t (frame_at s t)) (recover by_plain
+    (marks_of v w s) t f) h)
     (sym (frame_twin v w s t)) (recover_by v w s h t (frame_at s t) refl lt there none o)
 
 destage_by : (v w : List Track) (s : DeviceStore) (h : Held) (t : ℕ) (d : Did) (f : Option Frame) → frame_at s t ≡ f → is_some f ≡ true → t < tracks_of s →

@@ -1,7 +1,6 @@
 -- The second part of a write leaves all right, by whose write it is, and the plain volume has a command's edit where it is done; with its twin on marks.
-use Rattle.std.proofs.Common.{◌≡◌, ◌≢◌, ◌<◌, ◌==◌, ◌||◌, ℕ, Bool, true, false, List, [], Option, Some, None, is_some, set, length, refl, sym, ap, subst, ◌∙◌, arith, ◌⊎◌, inl, inr}
-use Rattle.std.proofs.lemmas.Bool.{cases_eq}
-use Rattle.std.specs.Prelude.{option_map, if◌then◌else◌}
+use Rattle.std.proofs.Common.{◌≡◌, ◌≢◌, ◌<◌, ◌==◌, ◌||◌, ℕ, Bool, true, false, List, Option, Some, None, set, refl, sym, ap, subst, ◌∙◌, arith}
+use Rattle.std.specs.Prelude.{option_map}
 use Rattle.ckd_types.specs.declared.geometry.Geometry.{Geometry}
 use Rattle.ckd_types.specs.declared.record.Edit.{Edit}
 use Rattle.ckd_types.specs.declared.record.Track.{Track}
@@ -12,7 +11,7 @@ use Rattle.ckd_rules.specs.Facts.{Suits}
 use Rattle.ckd_write.proofs.Fitting.{edited_fits}
 use Rattle.track_image.specs.Image.{Image, edited_image}
 use Rattle.track_cache.specs.declared.frames.Frame.{Frame}
-use Rattle.device_outside.specs.Both.{Both, both_tell}
+use Rattle.device_outside.specs.Both.{both_tell}
 use Rattle.device_outside.specs.Interaction.{Interaction, Done, and_then}
 use Rattle.device_outside.proofs.BothRules.{on_test}
 use Rattle.device_defs.specs.Contents.{Contents, contents, by_plain}
@@ -22,27 +21,26 @@ use Rattle.device_defs.specs.Marks.{MarksStore, marks_of, frame_mark, half_mark}
 use Rattle.device_defs.specs.Second as S
 use Rattle.device_defs.specs.Second.{plainly_written, closed, half_image_of, finished, second_done, cut_kept, left_by, second_absent, second_by, second_part}
 use Rattle.device_defs.specs.Sound.{DeviceStore, written_on}
-use Rattle.device_defs.specs.Store.{Origin, OfCommand, OfCut, OfBackground, HalfWrite, Store, tracks_of, level_at, has_level, frame_at, is_loose, half_is, with_frame}
-use Rattle.device_defs.specs.Writing.{write_second, write_done}
+use Rattle.device_defs.specs.Store.{
+  Origin,
+  OfCommand,
+  OfCut,
+  OfBackground,
+  HalfWrite,
+  Store,
+  tracks_of,
+  level_at,
+  has_level,
+  frame_at,
+  is_loose,
+  half_is,
+  with_frame,
+}
+use Rattle.device_defs.specs.Writing.{write_second}
 use Rattle.device_laws.specs.Agrees.{Held, image_in, slot_at}
 use Rattle.device_laws.specs.PlainWrites.{SuitsTrack, plain_second, OriginSuits}
-use Rattle.device_laws.specs.Twin.{Twin, Twins}
-use Rattle.device_laws.proofs.ContentChanges as C
-use Rattle.device_laws.proofs.ContentChanges.{
-  base_of,
-  Altered,
-  altered_twice,
-  altered_frame,
-  same_tracks,
-  same_slots,
-  slot_of,
-  sits_still,
-  RightBut,
-  Sure,
-  right_altered,
-  shut,
-  opens_write,
-}
+use Rattle.device_laws.specs.Twin.{Twins}
+use Rattle.device_laws.proofs.ContentChanges.{Altered, altered_twice, altered_frame, same_slots, sits_still, RightBut, Sure, right_altered, shut, opens_write}
 use Rattle.device_laws.proofs.PlainVolumes.{put_here}
 use Rattle.device_laws.proofs.Sweeps.{is_alone}
 use Rattle.device_laws.proofs.TrackContents as T
@@ -62,12 +60,12 @@ use Rattle.device_laws.proofs.TrackContents.{
   writes_own,
   not_both,
 }
-use Rattle.device_laws.proofs.TwinAsks.{Stays, stays_same, stays_on, stays_by, stays_image, InOrder, Ordered, right_keeps}
+use Rattle.device_laws.proofs.TwinAsks.{Stays, stays_same, stays_by, stays_image, InOrder, Ordered, right_keeps}
 use Rattle.device_laws.proofs.TwinChanges.{frame_twin, with_frame_twin, without_patch_twin}
 use Rattle.device_laws.proofs.TwinDone.{Closing, put_right, edit_right, write_done_twin}
 use Rattle.device_laws.proofs.TwinSettled.{AllTold, told_altered, told_debts, settled_pair, settled_told, unpatched, altered_unpatched, unpatched_slots}
-use Rattle.device_laws.proofs.TwinWalks.{Pair, pair_is, pair_on, pair_weaker, twin_done, twin_ends, twin_then}
-use Rattle.device_laws.proofs.TwinWrites.{Mid, Written, Sided, sided_same, second_twin}
+use Rattle.device_laws.proofs.TwinWalks.{Pair, pair_weaker, twin_done, twin_ends, twin_then}
+use Rattle.device_laws.proofs.TwinWrites.{Written, sided_same, second_twin}
 
 pub record Seconds (u : List Track) (s : DeviceStore) (origin : Origin) (t : ℕ) (v w : List Track) (z : DeviceStore) (a b : Bool) (k : Held) : Type 0 where
   pub order : Ordered v w z k
@@ -82,8 +80,10 @@ pub settled_ends : (v w : List Track) (z : DeviceStore) (k : Held) (t : ℕ) →
 settled_ends v w z k t lt sure told firm =
     pair_weaker
     (settled_pair None k v w z t lt sure (told_debts None z k told) (λ e. absurd (cc)))
-    (λ v' w' e. (record { sure = e.but; told = settled_told None k v w z t lt sure (told_debts None z k told) (λ e. absurd (cc)) told firm },
-    (e.plain, stays_by z k (settled contents z t) k e.base)))
+    (λ v' w' e. (
+      record { sure = e.but; told = settled_told None k v w z t lt sure (told_debts None z k told) (λ e. absurd (cc)) told firm },
+      (e.plain, stays_by z k (settled contents z t) k e.base),
+    ))
 
 or_false : (x y : Bool) → (x || y) ≡ false → (x ≡ false) × (y ≡ false)
 or_false true y e = absurd (cc)
@@ -220,8 +220,10 @@ module _ (u w0 : List Track) (s : DeviceStore) (h : Held) (hw : HalfWrite Image)
       firm = firm_is;
       home = d.mid.but.ground.plain.homes t below;
       fits = d.mid.but.ground.plain.fits t below;
-      a = λ l. ap (λ (c : TrackContents). c.on_a) (closed_contents z k t) ∙ d.a (sym (ap (λ (c : TrackContents). c.a) (closed_contents z k t)) ∙ l) ∙ bytes_is;
-      b = λ l. ap (λ (c : TrackContents). c.on_b) (closed_contents z k t) ∙ d.b (sym (ap (λ (c : TrackContents). c.b) (closed_contents z k t)) ∙ l) ∙ bytes_is;
+      a = λ l. ap (λ (c : TrackContents). c.on_a) (closed_contents z k t) ∙ d.a (sym (ap (λ (c : TrackContents). c.a) (closed_contents z k t)) ∙ l)
+          ∙ bytes_is;
+      b = λ l. ap (λ (c : TrackContents). c.on_b) (closed_contents z k t) ∙ d.b (sym (ap (λ (c : TrackContents). c.b) (closed_contents z k t)) ∙ l)
+          ∙ bytes_is;
     }
       where
         bytes_is : track_bytes hw.image.track ≡ track_bytes (track_in v t)
@@ -282,7 +284,8 @@ module _ (u w0 : List Track) (s : DeviceStore) (h : Held) (hw : HalfWrite Image)
           bytes_is = ap (λ (i : Image). track_bytes i.track) image_now
 
       edit_twin : plain_second hw.origin true u t ≡ set u t (apply_edit e (track_in u t)) →
-          Twins Ends (second_done contents (closed z) t hw.image (OfCommand bypass e)) (second_done by_plain (closed (marks_of v w z)) t hw.image (OfCommand bypass e)) k
+          Twins Ends (second_done contents (closed z) t hw.image (OfCommand bypass e)) (second_done by_plain (closed (marks_of v w z)) t hw.image
+          (OfCommand bypass e)) k
       edit_twin after =
           subst (λ (i : Image). Twins Ends (second_done contents (closed z) t i (OfCommand bypass e))
           (second_done by_plain (closed (marks_of v w z)) t i (OfCommand bypass e)) k) (sym image_now)
@@ -385,7 +388,8 @@ module _ (u w0 : List Track) (s : DeviceStore) (h : Held) (hw : HalfWrite Image)
           let c = unpatched (record (contents_at (closed z) k t) { frame = Some fresh }) in
           absent_ends (without_patch contents framed t) (without_patch by_plain (with_frame (closed (marks_of v w z)) t (Some f.modified)) t)
           (without_patch_twin v w framed t ∙ ap (λ (m : MarksStore). without_patch by_plain m t) (with_frame_twin v w (closed z) t (Some fresh)))
-          (absent_sure c (without_patch contents framed t) cut_altered.here cut_right (stays_by (closed z) k (without_patch contents framed t) k cut_altered.base)
+          (absent_sure c (without_patch contents framed t) cut_altered.here cut_right (stays_by (closed z) k
+          (without_patch contents framed t) k cut_altered.base)
           levels.0 levels.1 fresh_is)
           (told_altered (closed z) k (without_patch contents framed t) k t c (closed_told z k d.mid.told) cut_altered refl)
           (stays_by (closed z) k (without_patch contents framed t) k cut_altered.base) loose_cut after
@@ -399,7 +403,8 @@ module _ (u w0 : List Track) (s : DeviceStore) (h : Held) (hw : HalfWrite Image)
         no_frame f l = frameless z k t f e (d.mid.sided.frame ∙ l)
     cut_by (Some f) e image none after = cut_ends f image none after
 
-    absent_by : (origin : Origin) → hw.origin ≡ origin → hw.image ≡ written_on (image_in s u t) origin → FrameOf origin (contents_at s h t).frame (image_in s u t) →
+    absent_by : (origin : Origin) → hw.origin ≡ origin → hw.image ≡ written_on (image_in s u t) origin →
+        FrameOf origin (contents_at s h t).frame (image_in s u t) →
         has_level z t ≡ false →
         Twins Ends (second_absent contents (closed z) t hw.image origin) (second_absent by_plain (closed (marks_of v w z)) t hw.image origin) k
     absent_by (OfCommand bypass e) is image frame none = kept_ends none frame (ap (λ (x : Origin). plain_second x false u t) is)
@@ -414,7 +419,8 @@ module _ (u w0 : List Track) (s : DeviceStore) (h : Held) (hw : HalfWrite Image)
   unfolding S.second_part
   second_part_twin =
       let image : plainly_written (marks_of u w0 s) t hw.origin ≡ hw.image = plainly_is u w0 s t hw.origin ∙ sym writes.image in
-      subst (λ (i : Image). Twins Ends (second_part_by contents s t hw.origin (track_bytes hw.image.track) hw.image) (second_part_by by_plain (marks_of u w0 s) t hw.origin true i) h) (sym image)
+      subst (λ (i : Image). Twins Ends (second_part_by contents s t hw.origin (track_bytes hw.image.track) hw.image) (second_part_by by_plain
+      (marks_of u w0 s) t hw.origin true i) h) (sym image)
       (twin_then (λ z _. second_by contents t hw.image hw.origin z) (λ z _. second_by by_plain t hw.image hw.origin z)
       (second_twin u s h t r lt firm (is_alone s o.well.here) u w0 s h begins (is_alone s o.well.here))
       (λ v w z _ _ k d. on_test (has_level z t)

@@ -1,5 +1,30 @@
 -- Settling leaves contents right, and does on marks what it does on contents.
-use Rattle.std.proofs.Common.{◌≡◌, ◌≢◌, ◌<◌, ◌==◌, ◌||◌, ℕ, Bool, true, false, List, Option, Some, None, is_some, set, length, refl, sym, ap, subst, ◌∙◌, arith, ◌⊎◌, inl, inr}
+use Rattle.std.proofs.Common.{
+  ◌≡◌,
+  ◌≢◌,
+  ◌<◌,
+  ◌||◌,
+  ℕ,
+  Bool,
+  true,
+  false,
+  List,
+  Option,
+  Some,
+  None,
+  is_some,
+  set,
+  length,
+  refl,
+  sym,
+  ap,
+  subst,
+  ◌∙◌,
+  arith,
+  ◌⊎◌,
+  inl,
+  inr,
+}
 use Rattle.std.proofs.lemmas.Bool.{cases_eq}
 use Rattle.std.specs.Prelude.{option_map, if◌then◌else◌}
 use Rattle.ckd_types.specs.declared.record.Track.{Track}
@@ -7,7 +32,6 @@ use Rattle.ckd_types.specs.Volume.{track_in}
 use Rattle.track_image.specs.Image.{Image}
 use Rattle.track_cache.specs.declared.frames.Frame.{Frame}
 use Rattle.nv_store.specs.declared.patches.Stored.{Stored}
-use Rattle.nv_store.specs.Patch.{IsPatch}
 use Rattle.device_outside.specs.Lists.{is_in}
 use Rattle.device_defs.specs.declared.owed.Owed.{Owed}
 use Rattle.device_defs.specs.Between.{HasSizes}
@@ -31,10 +55,9 @@ use Rattle.device_defs.specs.Store.{
   with_frame,
   with_patch,
   with_lost,
-  with_loose,
   with_owed,
 }
-use Rattle.device_laws.specs.Agrees.{Held, image_in, slot_at, AreSlots, HasSlots, IsGround}
+use Rattle.device_laws.specs.Agrees.{Held, image_in, slot_at, AreSlots, HasSlots}
 use Rattle.device_laws.proofs.ContentChanges as C
 use Rattle.device_laws.proofs.ContentChanges.{
   Base,

@@ -3,7 +3,7 @@ use Rattle.std.proofs.Common.{◌≡◌, ◌≢◌, ◌==◌, ℕ, Bool, true, f
 use Rattle.std.proofs.lemmas.Bool.{cases_eq}
 use Rattle.device_outside.specs.Lists as L
 use Rattle.device_outside.specs.Lists.{is_in, less_all}
-use Rattle.device_outside.specs.Pool.{Call, FreeSlot, WantSlot}
+use Rattle.device_outside.specs.Pool.{FreeSlot, WantSlot}
 use Rattle.device_outside.specs.declared.port.SlotGrant.TheVariants.{Given}
 use Rattle.device_outside.specs.Slots.{MayAsk, MayAnswer, held_after}
 use Rattle.device_defs.specs.Sound.{DeviceStore}
@@ -70,9 +70,10 @@ IsNew s slot (Some mine) = (is_in slot mine ≡ true) × ((kept : Bool) (q : ℕ
 pub given_slots : (s : DeviceStore) (slot : ℕ) (o : Option (List ℕ)) → MayAnswer o WantSlot (Given slot) → HasSlots s o →
     HasSlots s (held_after o WantSlot (Given slot)) × IsNew s slot (held_after o WantSlot (Given slot))
 given_slots s slot None free x = (tt, tt)
-given_slots s slot (Some mine) free x =
-    (record { own = λ kept q k e. in_more k slot mine (x.own kept q k e); apart = x.apart },
-    (in_first slot mine, λ kept q e. absurd (let f = x.own kept q slot e in let g : is_in slot mine ≡ false = free in cc)))
+given_slots s slot (Some mine) free x = (
+  record { own = λ kept q k e. in_more k slot mine (x.own kept q k e); apart = x.apart },
+  (in_first slot mine, λ kept q e. absurd (let f = x.own kept q slot e in let g : is_in slot mine ≡ false = free in cc)),
+)
 
 pub may_free_new : (s : DeviceStore) (slot : ℕ) (o : Option (List ℕ)) → IsNew s slot o → MayAsk o (FreeSlot slot)
 may_free_new s slot None x = tt

@@ -1,5 +1,5 @@
 -- A write that goes through to the volumes: its edit is the plain one where it is done, and all is right, with its twin on marks.
-use Rattle.std.proofs.Common.{◌≡◌, ◌≢◌, ◌<◌, ◌==◌, ◌&&◌, ◌||◌, not, ℕ, Bool, true, false, List, [], Option, Some, None, is_some, set, length, refl, sym, ap, subst, ◌∙◌, arith, ◌⊎◌, inl, inr}
+use Rattle.std.proofs.Common.{◌≡◌, ◌<◌, ◌||◌, ℕ, Bool, true, false, List, Option, Some, None, set, refl, sym, ap, subst, ◌∙◌, arith}
 use Rattle.std.specs.Prelude.{if◌then◌else◌}
 use Rattle.ckd_types.specs.declared.geometry.Geometry.{Geometry}
 use Rattle.ckd_types.specs.declared.record.Edit.{Edit}
@@ -10,8 +10,7 @@ use Rattle.ckd_types.specs.Volume.{track_in}
 use Rattle.ckd_rules.specs.Facts.{Suits}
 use Rattle.ckd_write.proofs.Fitting.{edited_fits}
 use Rattle.track_image.specs.Image.{Image, edited_image}
-use Rattle.track_cache.specs.declared.frames.Frame.{Frame}
-use Rattle.device_outside.specs.Both.{Both, both_tell}
+use Rattle.device_outside.specs.Both.{both_tell}
 use Rattle.device_outside.specs.Interaction.{Interaction, Done, and_then}
 use Rattle.device_outside.proofs.BothRules.{on_test}
 use Rattle.device_defs.specs.declared.answers.Took.{Took}
@@ -21,28 +20,25 @@ use Rattle.device_defs.specs.Editing as E
 use Rattle.device_defs.specs.Editing.{whole, at_once, through_by, through}
 use Rattle.device_defs.specs.Effects.{with_edit}
 use Rattle.device_defs.specs.Losses.{settled}
-use Rattle.device_defs.specs.Marks.{MarksStore, marks_of}
-use Rattle.device_defs.specs.Sound.{DeviceStore, written_on}
+use Rattle.device_defs.specs.Marks.{marks_of}
+use Rattle.device_defs.specs.Sound.{DeviceStore}
 use Rattle.device_defs.specs.Store.{OfCommand, HalfWrite, Store, tracks_of, level_at, has_level, is_lost, is_loose, half_is}
-use Rattle.device_defs.specs.Writing.{Wrote, write_first, write_second, write_done, opened}
+use Rattle.device_defs.specs.Writing.{write_first}
 use Rattle.device_laws.specs.Agrees.{Held, image_in}
 use Rattle.device_laws.specs.PlainWrites.{SuitsTrack, plain_after}
-use Rattle.device_laws.specs.Twin.{Twin, Twins}
-use Rattle.device_laws.proofs.ContentChanges.{RightBut, Sure, opens_write}
-use Rattle.device_laws.proofs.FailedCall.{IsWell, Goes}
+use Rattle.device_laws.specs.Twin.{Twins}
 use Rattle.device_laws.proofs.PlainVolumes.{put_here}
 use Rattle.device_laws.proofs.Sweeps.{is_alone}
 use Rattle.device_laws.proofs.TrackContents as T
 use Rattle.device_laws.proofs.TrackContents.{TrackContents, contents_at, FrameHas, Keeps, not_both}
 use Rattle.device_laws.proofs.TrackMarks as M
 use Rattle.device_laws.proofs.TrackMarks.{track_at, device_is_faithful}
-use Rattle.device_laws.proofs.TwinAsks.{Stays, stays_same, stays_on, stays_image, stays_off, InOrder, Ordered, keeps_at}
-use Rattle.device_laws.proofs.TwinDone.{Closing, Shuts, put_right, edit_right, write_done_twin}
-use Rattle.device_laws.proofs.TwinOpened.{Opening, Opens, opened_twin, firm_twin}
+use Rattle.device_laws.proofs.TwinAsks.{Stays, stays_image, stays_off, InOrder, Ordered, keeps_at}
+use Rattle.device_laws.proofs.TwinDone.{Closing, put_right, edit_right, write_done_twin}
+use Rattle.device_laws.proofs.TwinOpened.{Opening, opened_twin, firm_twin}
 use Rattle.device_laws.proofs.TwinSettled.{AllTold}
-use Rattle.device_laws.proofs.TwinWalks.{Pair, twin_done, twin_ends, twin_then, twin_always, twin_weaker}
-use Rattle.device_laws.proofs.TwinWrites.{Mid, Written, First, Sided, first_twin, second_twin, right_mid, keeps_less, settled_end}
-use Rattle.device_laws.proofs.Writes as W
+use Rattle.device_laws.proofs.TwinWalks.{twin_done, twin_ends, twin_then, twin_always, twin_weaker}
+use Rattle.device_laws.proofs.TwinWrites.{Written, first_twin, second_twin, right_mid, keeps_less, settled_end}
 use Rattle.device_laws.proofs.Writes.{is_taken, firm_first_keeps_good, write_first_keeps_good}
 
 pub record WroteTwin (u : List Track) (s : DeviceStore) (t : ℕ) (e : Edit) (v w : List Track) (z : DeviceStore) (a b : Took) (k : Held) : Type 0 where
@@ -58,7 +54,8 @@ or_false false y e = (refl, e)
 
 -- t is being written with the image i of the edit, over the store y that the write began with
 module _ (u : List Track) (y : DeviceStore) (j : Held) (t : ℕ) (e : Edit) (lt : t < tracks_of y) (firm : is_loose y t ≡ false)
-    (alone : y.paired ≡ false → y.b.up ≡ false) (off : half_is y.half t ≡ false) (own : Keeps y.geometry t (contents_at y j t) (image_in y u t) (image_in y u t))
+    (alone : y.paired ≡ false → y.b.up ≡ false) (off : half_is y.half t ≡ false) (own : Keeps y.geometry t (contents_at y j t) (image_in y u t)
+    (image_in y u t))
     (suits : SuitsTrack y.geometry (track_in u t) e) where
   abbrev i : Image
   i = edited_image e (image_in y u t)
@@ -141,7 +138,10 @@ module _ (u : List Track) (y : DeviceStore) (j : Held) (t : ℕ) (e : Edit) (lt 
       let levels = levels_off z k none in
       let loose : (contents_at z k t).loose ≡ false = m.sided.loose ∙ sym (loose_is y j) ∙ firm in
       let sure = right_mid u y j t r lt firm alone off own v w z k z (contents_at z k t) m m.but m.stays refl loose
-      (keeps_less u y j t r lt firm alone off own (contents_at z k t) m.sided levels.0 (record { b = λ l. absurd (not_both (contents_at z k t).b levels.1 l) })) in
+      (keeps_less u y j t r lt firm alone off own (contents_at z k t) m.sided levels.0 (record {
+        b = λ l. absurd (not_both
+            (contents_at z k t).b levels.1 l);
+      })) in
       let f = settled_end u y j t r lt firm alone off own v w z k sure m.told m.plain m.stays (loose_is z k ∙ loose) in
       twin_ends f.marks (record { order = f.is.0; same = refl; plain = f.is.1.0; geometry = f.is.1.1.geometry; cylinders = f.is.1.1.cylinders })
 
@@ -157,7 +157,8 @@ module _ (u : List Track) (y : DeviceStore) (j : Held) (t : ℕ) (e : Edit) (lt 
       (λ none. absent_twin v' w' x l f none))
 
   -- a half write is opened
-  opening : (v w : List Track) (z : DeviceStore) (k : Held) (bypass : Bool) → Written u y j t r v w z k → z.half ≡ None → Opening t v w i (OfCommand bypass e) z k
+  opening : (v w : List Track) (z : DeviceStore) (k : Held) (bypass : Bool) → Written u y j t r v w z k → z.half ≡ None →
+      Opening t v w i (OfCommand bypass e) z k
   opening v w z k bypass d none =
       let m = d.mid in
       let image_is : image_in z v t ≡ image_in y u t = stays_image y z v t m.stays ∙ ap (λ (l : List Track). image_in y l t) m.plain in
@@ -200,7 +201,8 @@ module _ (u : List Track) (y : DeviceStore) (j : Held) (t : ℕ) (e : Edit) (lt 
       subst (λ (o : Took). Twins Ends (whole contents z t i e bypass) (through_by by_plain t i e bypass opens was_loose (marks_of v w z) o) k) same
       (whole_twin v w z k bypass (done refl) plain)
   by_took v w z k bypass opens was_loose Opened other same plain stays done undone none single =
-      subst (λ (o : Took). Twins Ends (through_by contents t i e bypass opens was_loose z Opened) (through_by by_plain t i e bypass opens was_loose (marks_of v w z) o) k) same
+      subst (λ (o : Took). Twins Ends (through_by contents t i e bypass opens was_loose z Opened) (through_by by_plain t i e bypass opens was_loose
+      (marks_of v w z) o) k) same
       (by_opening v w z k bypass opens was_loose (done refl) (stays.half ∙ none) single)
   by_took v w z k bypass opens was_loose Unwritten other same plain stays done undone none single =
       subst (λ (o : Took). Twins Ends (Done z Unwritten) (through_by by_plain t i e bypass opens was_loose (marks_of v w z) o) k) same
@@ -219,7 +221,8 @@ abbrev written_by : {F P H R : Type 0} (c : Contents F P H R) → ℕ → Edit �
 written_by c t e bypass opens p z was_loose = and_then (write_first c z t (c.bytes p)) (λ y w. through_by c t p e bypass opens was_loose y w.took)
 
 -- of a track that isn't lost, while no half write is open, where the edit suits it
-pub through_twin : (v w : List Track) (s : DeviceStore) (h : Held) (t : ℕ) (e : Edit) (bypass opens : Bool) → t < tracks_of s → is_lost s t ≡ false → s.half ≡ None →
+pub through_twin : (v w : List Track) (s : DeviceStore) (h : Held) (t : ℕ) (e : Edit) (bypass opens : Bool) → t < tracks_of s → is_lost s t ≡ false →
+    s.half ≡ None →
     SuitsTrack s.geometry (track_in v t) e → InOrder v w s h →
     Twins (λ v' w' z a b k. WroteTwin v s t e v' w' z a b k) (through contents s t (edited_image e (image_in s v t)) e bypass opens)
     (through by_plain (marks_of v w s) t (edited_image e (image_in s v t)) e bypass opens) h
@@ -245,14 +248,17 @@ through_twin v w s h t e bypass opens lt there none suits o =
     let alone = is_alone z well.here in
     let image_is : edited_image e (image_in s v t) ≡ edited_image e (image_in z v' t) =
     ap (edited_image e) (sym (stays_image s z v' t y.stays ∙ ap (λ (l : List Track). image_in s l t) y.plain)) in
-    subst (λ (q : Bool). Twins (λ v' w' z a b k. WroteTwin v s t e v' w' z a b k) (written_by contents t e bypass opens i z a) (written_by by_plain t e bypass opens i (marks_of v' w' z) q) k) y.same
-    (subst (λ (p : Image). Twins (λ v' w' z a b k. WroteTwin v s t e v' w' z a b k) (written_by contents t e bypass opens p z a) (written_by by_plain t e bypass opens p (marks_of v' w' z) a) k) (sym image_is)
+    subst (λ (q : Bool). Twins (λ v' w' z a b k. WroteTwin v s t e v' w' z a b k) (written_by contents t e bypass opens i z a)
+    (written_by by_plain t e bypass opens i (marks_of v' w' z) q) k) y.same
+    (subst (λ (p : Image). Twins (λ v' w' z a b k. WroteTwin v s t e v' w' z a b k) (written_by contents t e bypass opens p z a)
+    (written_by by_plain t e bypass opens p (marks_of v' w' z) a) k) (sym image_is)
     (twin_weaker
     (twin_then (λ x m. through_by contents t (edited_image e (image_in z v' t)) e bypass opens a x m.took)
     (λ x m. through_by by_plain t (edited_image e (image_in z v' t)) e bypass opens a x m.took)
     (twin_always
     (first_twin v' z k t (track_bytes (edited_image e (image_in z v' t)).track) below y.firm alone off' own w' y.order)
-    (write_first_keeps_good contents device_is_faithful t z below (f.1.lost ∙ mark_lost s t ∙ there) (track_bytes (edited_image e (image_in z v' t)).track) well))
+    (write_first_keeps_good contents device_is_faithful t z below (f.1.lost ∙ mark_lost s t
+    ∙ there) (track_bytes (edited_image e (image_in z v' t)).track) well))
     (λ v'' w'' x m n l g.
     by_took v' z k t e below y.firm alone off' own suits' v'' w'' x l bypass opens a m.took n.took g.0.took g.0.plain g.0.stays g.0.done g.0.undone
     (y.stays.half ∙ none) (is_alone x g.1.goes.well.here)))

@@ -1,5 +1,29 @@
 -- How a device's interaction and its twin on marks are walked together.
-use Rattle.std.proofs.Common.{◌≡◌, ◌<◌, ◌≤◌, ℕ, zero, suc, Bool, true, false, List, [], ◌∷◌, Option, Some, None, is_some, map, set, get_or, refl, sym, ap, subst, ◌∙◌, arith}
+use Rattle.std.proofs.Common.{
+  ◌≡◌,
+  ◌<◌,
+  ◌≤◌,
+  ℕ,
+  zero,
+  suc,
+  Bool,
+  true,
+  false,
+  List,
+  [],
+  ◌∷◌,
+  Option,
+  Some,
+  None,
+  is_some,
+  map,
+  set,
+  get_or,
+  refl,
+  ap,
+  subst,
+  arith,
+}
 use Rattle.std.specs.Prelude.{option_map, if◌then◌else◌}
 use Rattle.ckd_types.specs.declared.record.Track.{Track}
 use Rattle.track_image.specs.Image.{Image}
@@ -80,7 +104,8 @@ module _ {A B : Type 0} {q : Claim A B} {h : Held} where
       (f : DeviceStore → C → Interaction (List ℕ) Image DeviceStore A) (g : MarksStore → D → Interaction Bool Image MarksStore B) →
       Twins p i j h → ((v w : List Track) (s : DeviceStore) (c : C) (d : D) (k : Held) → p v w s c d k → Twins q (f s c) (g (marks_of v w s) d) k) →
       Twins q (and_then i f) (and_then j g) h
-  twin_then f g x w = first_then f g x (λ s c m d k e. subst (λ (n : MarksStore). Both [] true (Twin q) (f s c) (g n d) k) e.marks (w e.plain e.firm s c d k e.is))
+  twin_then f g x w = first_then f g x (λ s c m d k e. subst (λ (n : MarksStore). Both [] true (Twin q) (f s c) (g n d) k) e.marks
+      (w e.plain e.firm s c d k e.is))
 
   -- what holds of the device's alone, whatever is answered, holds beside it
   pub twin_always : {i : Interaction (List ℕ) Image DeviceStore A} {j : Interaction Bool Image MarksStore B} {p : DeviceStore → A → Type 0} →

@@ -1,5 +1,29 @@
 -- What a device does by itself leaves all right, and its twin on marks finds the same to do.
-use Rattle.std.proofs.Common.{◌≡◌, ◌<◌, ◌&&◌, ◌||◌, not, zero, suc, ℕ, Bool, true, false, List, [], ◌∷◌, Option, Some, None, is_some, refl, sym, ap, subst, ◌∙◌, arith}
+use Rattle.std.proofs.Common.{
+  ◌≡◌,
+  ◌<◌,
+  ◌&&◌,
+  ◌||◌,
+  not,
+  zero,
+  suc,
+  ℕ,
+  Bool,
+  true,
+  false,
+  List,
+  [],
+  ◌∷◌,
+  Option,
+  Some,
+  None,
+  is_some,
+  refl,
+  sym,
+  ap,
+  subst,
+  ◌∙◌,
+}
 use Rattle.std.specs.Prelude.{option_map, if◌then◌else◌}
 use Rattle.ckd_types.specs.declared.record.Track.{Track}
 use Rattle.track_table.specs.Tracks as T
@@ -18,11 +42,10 @@ use Rattle.device_defs.specs.Sound.{DeviceStore}
 use Rattle.device_defs.specs.Store.{tracks_of, some_up, frame_at, patch_at, is_lost, is_loose}
 use Rattle.device_laws.specs.Agrees.{Held}
 use Rattle.device_laws.specs.InOrder.{QueueStands}
-use Rattle.device_laws.specs.Twin.{Twin, Twins}
-use Rattle.device_laws.proofs.FailedCall.{IsWell}
+use Rattle.device_laws.specs.Twin.{Twins}
 use Rattle.device_laws.proofs.TrackMarks as M
 use Rattle.device_laws.proofs.TrackMarks.{marks, is_good, track_at, device_is_faithful}
-use Rattle.device_laws.proofs.TwinAsks.{InOrder, Ordered, stays_same}
+use Rattle.device_laws.proofs.TwinAsks.{InOrder, Ordered}
 use Rattle.device_laws.proofs.TwinChanges.{frame_twin, has_patch_twin}
 use Rattle.device_laws.proofs.TwinCopies.{copy_twin, stage_twin}
 use Rattle.device_laws.proofs.TwinLooks.{queue_order}
@@ -129,10 +152,16 @@ module _ (v w : List Track) (s : DeviceStore) (h : Held) (none : s.half ≡ None
   stage_or (t ∷ ts) stands =
       let z : DeviceStore = record s { queue = ts } in
       let i = queue_order v w s h ts order in
-      twin_weaker (stage_twin v w z h t (stands t ts refl) none (record { sure = i.sure; told = i.told; well = (queue_goes contents device_is_faithful s ts o.well).well }))
+      twin_weaker (stage_twin v w z h t (stands t ts refl) none (record {
+        sure = i.sure;
+        told = i.told;
+        well =
+            (queue_goes contents device_is_faithful s ts o.well).well;
+      }))
       (λ v' w' y a b k f. record { order = f.order; same = f.same; plain = f.plain; geometry = f.geometry; cylinders = f.cylinders })
 
-  copy_or : (t : Option ℕ) → ((q : ℕ) → t ≡ Some q → q < tracks_of s) → QueueStands s → Twins Ends (copy_first contents s t) (copy_first by_plain (marks_of v w s) t) h
+  copy_or : (t : Option ℕ) → ((q : ℕ) → t ≡ Some q → q < tracks_of s) → QueueStands s →
+      Twins Ends (copy_first contents s t) (copy_first by_plain (marks_of v w s) t) h
   copy_or None found stands = stage_or s.queue stands
   copy_or (Some t) found stands = copy_twin v w s h t (found t refl) none o
 

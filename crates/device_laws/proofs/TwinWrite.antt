@@ -1,45 +1,40 @@
 -- A command's write leaves all right wherever its edit goes, and the plain volume has the edit where it is done; with its twin on marks.
-use Rattle.std.proofs.Common.{◌≡◌, ◌≢◌, ◌<◌, ◌&&◌, ◌||◌, not, ℕ, Bool, true, false, List, [], Option, Some, None, is_some, refl, sym, ap, subst, ◌∙◌, arith, ◌⊎◌, inl, inr}
-use Rattle.std.specs.Prelude.{option_map, if◌then◌else◌}
+use Rattle.std.proofs.Common.{◌≡◌, ◌<◌, not, ℕ, Bool, true, false, List, Option, Some, None, is_some, refl, sym, ap, subst}
+use Rattle.std.specs.Prelude.{if◌then◌else◌}
 use Rattle.ckd_types.specs.declared.record.Edit.{Edit}
 use Rattle.ckd_types.specs.declared.record.Track.{Track}
 use Rattle.ckd_types.specs.Parameters.{is_bypass}
 use Rattle.ckd_types.specs.Volume.{track_in}
 use Rattle.track_image.specs.Image.{Image, edited_image}
 use Rattle.nv_store.specs.declared.patches.Stored.{Stored}
-use Rattle.device_outside.specs.Both.{Both, both_try, both_tell, both_free}
-use Rattle.device_outside.specs.Interaction.{Interaction, Done, Ask, Tell, and_then}
-use Rattle.device_outside.specs.Keeper.{BeforeEdit}
+use Rattle.device_outside.specs.Both.{both_try, both_tell, both_free}
+use Rattle.device_outside.specs.Interaction.{Done}
 use Rattle.device_outside.specs.Pool.{FreeSlot}
 use Rattle.device_outside.specs.Slots.{held_after}
 use Rattle.device_outside.proofs.BothRules.{on_test, on_tests}
 use Rattle.device_defs.specs.declared.answers.Choice.{Choice}
 use Rattle.device_defs.specs.declared.answers.Choice.TheVariants.{Provisional, Fast, Through}
 use Rattle.device_defs.specs.declared.answers.Took.{Took}
-use Rattle.device_defs.specs.declared.answers.Took.TheVariants.{Whole, Opened, Unwritten}
 use Rattle.device_defs.specs.declared.usage.Usage.{Usage}
-use Rattle.device_defs.specs.Choosing.{choose}
-use Rattle.device_defs.specs.Contents.{Contents, contents, by_plain}
+use Rattle.device_defs.specs.Contents.{contents, by_plain}
 use Rattle.device_defs.specs.Editing as E
 use Rattle.device_defs.specs.Editing.{another_loose, write_by, written, is_given, clean_again, unchosen, write_chosen, write}
 use Rattle.device_defs.specs.Effects.{loosened}
-use Rattle.device_defs.specs.Marks.{MarksStore, marks_of, slot_mark}
-use Rattle.device_defs.specs.Memory.{tried}
+use Rattle.device_defs.specs.Marks.{marks_of}
 use Rattle.device_defs.specs.Owed.{is_clean}
 use Rattle.device_defs.specs.Sound.{DeviceStore}
-use Rattle.device_defs.specs.Store.{HalfWrite, tracks_of, takes_b, frame_at, patch_at, is_lost, is_loose, half_is}
+use Rattle.device_defs.specs.Store.{tracks_of, frame_at, patch_at, is_lost, is_loose, half_is}
 use Rattle.device_laws.specs.Agrees.{Held, image_in}
 use Rattle.device_laws.specs.PlainWrites.{SuitsTrack, plain_had}
-use Rattle.device_laws.specs.Twin.{Twin, Twins}
-use Rattle.device_laws.proofs.Choices.{Fits, Chosen, choice_fits}
+use Rattle.device_laws.specs.Twin.{Twins}
+use Rattle.device_laws.proofs.Choices.{Fits, choice_fits}
 use Rattle.device_laws.proofs.FailedCall.{IsWell}
-use Rattle.device_laws.proofs.TrackMarks.{device_is_faithful}
-use Rattle.device_laws.proofs.TwinAsks.{ask_clean, InOrder, Ordered}
+use Rattle.device_laws.proofs.TwinAsks.{ask_clean, Ordered}
 use Rattle.device_laws.proofs.TwinChoices.{Chooses, NewBy, choice_mark, choice_twin, clean_same, slots_order}
 use Rattle.device_laws.proofs.TwinFast.{HasPlace, fast_order, fast_twin_is, provisional_order, provisional_twin_is}
 use Rattle.device_laws.proofs.TwinSlots.{may_free_new, unused_slots}
 use Rattle.device_laws.proofs.TwinThrough.{WroteTwin, none_off, through_twin}
-use Rattle.device_laws.proofs.TwinWalks.{twin_done, twin_ends, twin_then, twin_always, twin_weaker}
+use Rattle.device_laws.proofs.TwinWalks.{twin_done, twin_ends, twin_then, twin_always}
 
 pub record HadTwin (u : List Track) (s : DeviceStore) (t : ℕ) (e : Edit) (v w : List Track) (z : DeviceStore) (a b : Option Took) (k : Held) : Type 0 where
   pub order : Ordered v w z k
@@ -48,7 +43,8 @@ pub record HadTwin (u : List Track) (s : DeviceStore) (t : ℕ) (e : Edit) (v w 
   pub geometry : z.geometry ≡ s.geometry
   pub cylinders : z.cylinders ≡ s.cylinders
 
-module _ (v w : List Track) (s : DeviceStore) (t : ℕ) (e : Edit) (u : Usage) (first : ℕ) (lt : t < tracks_of s) (there : is_lost s t ≡ false) (none : s.half ≡ None)
+module _ (v w : List Track) (s : DeviceStore) (t : ℕ) (e : Edit) (u : Usage) (first : ℕ) (lt : t < tracks_of s) (there : is_lost s t ≡ false)
+    (none : s.half ≡ None)
     (suits : SuitsTrack s.geometry (track_in v t) e) (well : IsWell contents s) where
   abbrev old : Image
   old = image_in s v t
@@ -77,7 +73,14 @@ module _ (v w : List Track) (s : DeviceStore) (t : ℕ) (e : Edit) (u : Usage) (
       Twins Wrotes (write_by contents u first t i e s choice) (write_by by_plain u first t i e (marks_of v w s) (choice_mark choice)) k
   by_choice Provisional k o new fit =
       twin_ends (provisional_twin_is v w s k t e lt there off suits o)
-      (record { order = provisional_order v w s k t e lt there off suits o; same = refl; plain = refl; geometry = geometry_by (is_loose s t); cylinders = cylinders_by (is_loose s t) })
+      (record {
+        order = provisional_order v w s k t e lt there off suits o;
+        same = refl;
+        plain = refl;
+        geometry = geometry_by
+            (is_loose s t);
+        cylinders = cylinders_by (is_loose s t);
+      })
     where
       geometry_by : (b : Bool) → (if b then s else loosened s t).geometry ≡ s.geometry
       geometry_by true = refl
@@ -162,8 +165,12 @@ module _ (v w : List Track) (s : DeviceStore) (t : ℕ) (e : Edit) (u : Usage) (
       at_store : (v' w' : List Track) (z : DeviceStore) (a b : Choice) (k : Held) → Chooses v w s v' w' z a b k → Fits contents s t a →
           Twins Ends (write_chosen contents u first t old e z a) (write_chosen by_plain u first t old e (marks_of v' w' z) b) k
       at_store v' w' z a b k f fit =
-          subst (λ (l : DeviceStore). Twins Ends (write_chosen contents u first t old e l a) (write_chosen by_plain u first t old e (marks_of v' w' l) b) k) (sym f.store)
-          (subst (λ (l : List Track). Twins Ends (write_chosen contents u first t old e s a) (write_chosen by_plain u first t old e (marks_of l w' s) b) k) (sym f.plain)
-          (subst (λ (l : List Track). Twins Ends (write_chosen contents u first t old e s a) (write_chosen by_plain u first t old e (marks_of v l s) b) k) (sym f.firm)
-          (subst (λ (c : Choice). Twins Ends (write_chosen contents u first t old e s a) (write_chosen by_plain u first t old e (marks_of v w s) c) k) (sym f.same)
+          subst (λ (l : DeviceStore). Twins Ends (write_chosen contents u first t old e l a) (write_chosen by_plain u first t old e
+          (marks_of v' w' l) b) k) (sym f.store)
+          (subst (λ (l : List Track). Twins Ends (write_chosen contents u first t old e s a) (write_chosen by_plain u first t old e
+          (marks_of l w' s) b) k) (sym f.plain)
+          (subst (λ (l : List Track). Twins Ends (write_chosen contents u first t old e s a) (write_chosen by_plain u first t old e
+          (marks_of v l s) b) k) (sym f.firm)
+          (subst (λ (c : Choice). Twins Ends (write_chosen contents u first t old e s a) (write_chosen by_plain u first t old e
+          (marks_of v w s) c) k) (sym f.same)
           (chosen_twin a k f.order f.new fit))))

@@ -1,23 +1,21 @@
 -- The first part of a write: each side that is level then holds what was written, or none took it and all is right as before.
-use Rattle.std.proofs.Common.{◌≡◌, ◌≢◌, ◌<◌, ◌&&◌, not, ℕ, Bool, true, false, List, [], Option, Some, None, is_some, length, refl, sym, ap, subst, ◌∙◌, arith}
+use Rattle.std.proofs.Common.{◌≡◌, ◌<◌, ◌&&◌, not, ℕ, Bool, true, false, List, Option, Some, None, refl, sym, ap, subst, ◌∙◌, arith}
 use Rattle.std.specs.Prelude.{if◌then◌else◌}
 use Rattle.ckd_types.specs.declared.geometry.Geometry.{Geometry}
 use Rattle.ckd_types.specs.declared.paths.Side.{Side}
 use Rattle.ckd_types.specs.declared.paths.Side.TheVariants.{A, B}
 use Rattle.ckd_types.specs.declared.record.Track.{Track}
-use Rattle.ckd_types.specs.Volume.{track_in}
 use Rattle.track_image.specs.Image.{Image}
 use Rattle.device_outside.specs.After.{with_held}
-use Rattle.device_outside.specs.Both.{Both, both_write}
-use Rattle.device_outside.specs.Interaction.{Interaction, Done}
+use Rattle.device_outside.specs.Both.{both_write}
+use Rattle.device_outside.specs.Interaction.{Done}
 use Rattle.device_outside.proofs.BothRules.{on_test}
-use Rattle.device_defs.specs.declared.answers.Took.{Took}
 use Rattle.device_defs.specs.declared.answers.Took.TheVariants.{Whole, Opened, Unwritten}
 use Rattle.device_defs.specs.Contents.{contents, by_plain}
-use Rattle.device_defs.specs.Losses.{down, settled}
-use Rattle.device_defs.specs.Marks.{MarksStore, marks_of}
+use Rattle.device_defs.specs.Losses.{settled}
+use Rattle.device_defs.specs.Marks.{marks_of}
 use Rattle.device_defs.specs.Sound.{DeviceStore}
-use Rattle.device_defs.specs.Store.{HalfWrite, tracks_of, level_at, takes_b, is_lost, is_loose, half_is, with_stale}
+use Rattle.device_defs.specs.Store.{tracks_of, takes_b, is_loose, half_is, with_stale}
 use Rattle.device_defs.specs.Writing as W
 use Rattle.device_defs.specs.Writing.{
   Wrote,
@@ -35,7 +33,7 @@ use Rattle.device_defs.specs.Writing.{
   write_second,
 }
 use Rattle.device_laws.specs.Agrees.{Held, image_in}
-use Rattle.device_laws.specs.Twin.{Twin, Twins}
+use Rattle.device_laws.specs.Twin.{Twins}
 use Rattle.device_laws.proofs.ContentChanges as C
 use Rattle.device_laws.proofs.ContentChanges.{
   base_of,
@@ -61,15 +59,13 @@ use Rattle.device_laws.proofs.ContentChanges.{
   shut,
   opens_write,
 }
-use Rattle.device_laws.proofs.FailedCall.{IsWell}
 use Rattle.device_laws.proofs.Soundness.{and_left}
-use Rattle.device_laws.proofs.Sweeps.{is_alone}
 use Rattle.device_laws.proofs.TrackContents as T
 use Rattle.device_laws.proofs.TrackContents.{TrackContents, contents_at, Keeps, Fewer, keeps_fewer, IsRight, not_both}
-use Rattle.device_laws.proofs.TwinAsks.{Stays, stays_same, stays_on, stays_by, stays_fell, stays_image, stays_off, Ordered, keeps_at, right_keeps}
+use Rattle.device_laws.proofs.TwinAsks.{Stays, stays_same, stays_on, stays_by, stays_fell, stays_image, stays_off, Ordered, right_keeps}
 use Rattle.device_laws.proofs.TwinFailed.{fell, Failed, failed_twin}
-use Rattle.device_laws.proofs.TwinSettled.{AllTold, told_altered, told_debts, Settles, settled_pair, settled_told}
-use Rattle.device_laws.proofs.TwinWalks.{Pair, pair_is, pair_on, pair_if, pair_weaker, twin_done, twin_ends, twin_then, twin_weaker}
+use Rattle.device_laws.proofs.TwinSettled.{AllTold, told_altered, told_debts, settled_pair, settled_told}
+use Rattle.device_laws.proofs.TwinWalks.{Pair, pair_is, pair_weaker, twin_done, twin_ends, twin_then, twin_weaker}
 use Rattle.device_laws.proofs.Writes.{is_taken}
 
 -- of a track only what its sides have is other
@@ -207,7 +203,6 @@ module _ (u : List Track) (s : DeviceStore) (h : Held) (t : ℕ) (r : List ℕ) 
     unfolding T.contents_at
     counted_level z k ok = refl
 
-
     mid_failed : (v w : List Track) (z : DeviceStore) (k : Held) (side : Side) (v' w' : List Track) (y : DeviceStore) (n : Held) → Mid v w z k →
         Sided (contents_at z k t) (contents_at (fell z.paired z side) k t) → Failed (Some t) k v (fell z.paired z side) v' w' y n → Mid v' w' y n
     mid_failed v w z k side v' w' y n m sided f = record {
@@ -220,11 +215,12 @@ module _ (u : List Track) (s : DeviceStore) (h : Held) (t : ℕ) (r : List ℕ) 
     }
 
     sided_a : (z : DeviceStore) (k : Held) → Sided (contents_at z k t) (contents_at (fell z.paired z A) k t)
-    sided_a z k = subst (Sided (contents_at z k t)) (sym (fell_a z.paired z k t)) (record { frame = refl; patch = refl; lost = refl; loose = refl; freed = refl })
+    sided_a z k = subst (Sided (contents_at z k t)) (sym (fell_a z.paired z k t))
+        (record { frame = refl; patch = refl; lost = refl; loose = refl; freed = refl })
 
     sided_b : (z : DeviceStore) (k : Held) → Sided (contents_at z k t) (contents_at (fell z.paired z B) k t)
-    sided_b z k = subst (Sided (contents_at z k t)) (sym (fell_b z.paired z k t)) (record { frame = refl; patch = refl; lost = refl; loose = refl; freed = refl })
-
+    sided_b z k = subst (Sided (contents_at z k t)) (sym (fell_b z.paired z k t))
+        (record { frame = refl; patch = refl; lost = refl; loose = refl; freed = refl })
 
     on_b : (v w : List Track) (z : DeviceStore) (k : Held) (m : Mid v w z k) (bytes : List ℕ) → z.b.up ≡ true →
         Altered z k z (with_held k B t bytes) t (record (contents_at z k t) { on_b = bytes })
@@ -250,7 +246,6 @@ module _ (u : List Track) (s : DeviceStore) (h : Held) (t : ℕ) (r : List ℕ) 
               ∙ a (sym (ap (λ (d : TrackContents). d.a) g.here ∙ ap (λ (d : TrackContents). d.a) e.here) ∙ l);
           b = λ l. ap (λ (d : TrackContents). d.on_b) g.here ∙ ap (λ (d : TrackContents). d.on_b) e.here;
         }
-
 
     on_a : (w : List Track) (z : DeviceStore) (m : Mid u w z h) (bytes : List ℕ) → z.a.up ≡ true →
         Altered z h z (with_held h A t bytes) t (record (contents_at z h t) { on_a = bytes })
@@ -281,11 +276,13 @@ module _ (u : List Track) (s : DeviceStore) (h : Held) (t : ℕ) (r : List ℕ) 
         y : DeviceStore
         y = with_stale z A t false
 
-        g : Altered z (with_held h A t r) (with_stale z A t false) (with_held h A t r) t (record (contents_at z (with_held h A t r) t) { a = z.a.up && not false })
+        g : Altered z (with_held h A t r) (with_stale z A t false) (with_held h A t r) t (record (contents_at z
+            (with_held h A t r) t) { a = z.a.up && not false })
         g = altered_stale_a z (with_held h A t r) t (below z m.stays) i.but.ground.sizes false
 
         j : Mid u w (with_stale z A t false) (with_held h A t r)
-        j = mid_altered u w z (with_held h A t r) (with_stale z A t false) (with_held h A t r) (record (contents_at z (with_held h A t r) t) { a = z.a.up && not false }) i g
+        j = mid_altered u w z (with_held h A t r) (with_stale z A t false) (with_held h A t r) (record (contents_at z
+            (with_held h A t r) t) { a = z.a.up && not false }) i g
             (record { frame = refl; patch = refl; lost = refl; loose = refl; freed = refl }) refl refl
 
         bytes_is : (contents_at (with_stale z A t false) (with_held h A t r) t).on_a ≡ r
@@ -319,7 +316,6 @@ module _ (u : List Track) (s : DeviceStore) (h : Held) (t : ℕ) (r : List ℕ) 
         by_case : (p : Bool) → s.paired ≡ p → p ≡ true
         by_case true e = refl
         by_case false e = absurd (let f = alone e in cc)
-
 
     counted_is : (z : DeviceStore) (ok : Bool) → contents_at (write_counted z ok) h t ≡ contents_at z h t
     unfolding T.contents_at
@@ -370,7 +366,8 @@ module _ (u : List Track) (s : DeviceStore) (h : Held) (t : ℕ) (r : List ℕ) 
 
     module _ (off : half_is s.half t ≡ false) (own : Keeps s.geometry t x (image_in s u t) (image_in s u t)) where
       -- it is right once more, by what its sides have
-      pub right_mid : (v w : List Track) (z : DeviceStore) (k : Held) (y : DeviceStore) (c : TrackContents) → Mid v w z k → RightBut (Some t) v w y k → Stays s y →
+      pub right_mid : (v w : List Track) (z : DeviceStore) (k : Held) (y : DeviceStore) (c : TrackContents) → Mid v w z k →
+          RightBut (Some t) v w y k → Stays s y →
           c ≡ contents_at y k t → c.loose ≡ false → Keeps s.geometry t c (image_in s u t) (image_in s u t) → Sure v w y k
       right_mid v w z k y c m but stays is loose keeps =
           shut t v w y k but
@@ -411,8 +408,10 @@ module _ (u : List Track) (s : DeviceStore) (h : Held) (t : ℕ) (r : List ℕ) 
       settled_end v w z k sure told plain stays loose =
           pair_weaker
           (settled_pair None k v w z t (below z stays) sure (told_debts None z k told) (λ e. absurd (cc)))
-          (λ v' w' e. (record { sure = e.but; told = settled_told None k v w z t (below z stays) sure (told_debts None z k told) (λ e. absurd (cc)) told loose },
-          (e.plain ∙ plain, stays_on s z (settled contents z t) stays (stays_by z k (settled contents z t) k e.base))))
+          (λ v' w' e. (
+            record { sure = e.but; told = settled_told None k v w z t (below z stays) sure (told_debts None z k told) (λ e. absurd (cc)) told loose },
+            (e.plain ∙ plain, stays_on s z (settled contents z t) stays (stays_by z k (settled contents z t) k e.base)),
+          ))
 
       unwritten_end : (v w : List Track) (z : DeviceStore) (k : Held) → Mid v w z k → (z.paired ≡ true → (contents_at z k t).a ≡ false) →
           BAsBefore (contents_at z k t) → Pair (λ v' w' y. Undone v' w' y k) (unwritten contents z t) (unwritten by_plain (marks_of v w z) t)
@@ -428,7 +427,8 @@ module _ (u : List Track) (s : DeviceStore) (h : Held) (t : ℕ) (r : List ℕ) 
           loose_now = m.sided.loose ∙ firm_is
 
           by_paired : (p : Bool) → (p ≡ true → (contents_at z k t).a ≡ false) → Pair (λ v' w' y. Undone v' w' y k)
-              (settled contents (if p then z else with_stale z A t true) t) (settled by_plain (if p then marks_of v w z else with_stale (marks_of v w z) A t true) t)
+              (settled contents (if p then z else with_stale z A t true) t) (settled by_plain (if p then marks_of v w z else with_stale
+              (marks_of v w z) A t true) t)
           by_paired true gone =
               settled_end v w z k
               (right_mid v w z k z (contents_at z k t) m m.but m.stays refl loose_now (keeps_less (contents_at z k t) m.sided (gone refl) b))
@@ -446,7 +446,8 @@ module _ (u : List Track) (s : DeviceStore) (h : Held) (t : ℕ) (r : List ℕ) 
       abbrev pub Firsts : List Track → List Track → DeviceStore → Wrote → Wrote → Held → Type 0
       Firsts v w z a b k = First v w z a b k
 
-      unwritten_twin : (v w : List Track) (z : DeviceStore) (k : Held) (fault : Option Side) → Mid v w z k → (z.paired ≡ true → (contents_at z k t).a ≡ false) →
+      unwritten_twin : (v w : List Track) (z : DeviceStore) (k : Held) (fault : Option Side) → Mid v w z k → (z.paired ≡ true →
+          (contents_at z k t).a ≡ false) →
           BAsBefore (contents_at z k t) →
           Twins Firsts (Done (unwritten contents z t) (wrote Unwritten fault)) (Done (unwritten by_plain (marks_of v w z) t) (wrote Unwritten fault)) k
       unwritten_twin v w z k fault m gone b =
@@ -467,18 +468,23 @@ module _ (u : List Track) (s : DeviceStore) (h : Held) (t : ℕ) (r : List ℕ) 
           let n = with_held k B t bytes in
           let e = on_b v w z k m bytes up in
           let i = mid_on_b v w z k m bytes up in
-          twin_then (λ y _. Done (unwritten contents y t) (wrote Unwritten (Some first))) (λ y _. Done (unwritten by_plain y t) (wrote Unwritten (Some first)))
+          twin_then (λ y _. Done (unwritten contents y t) (wrote Unwritten (Some first))) (λ y _. Done (unwritten by_plain y t) (wrote Unwritten
+          (Some first)))
           (failed_twin (Some t) n v w z B i.but i.told)
           (λ v' w' y _ _ l f.
           let j = mid_failed v w z n B v' w' y l i (sided_b z n) f in
           let own_is = f.own t refl ∙ fell_b z.paired z n t in
           unwritten_twin v' w' y l (Some first) j
           (λ p. ap (λ (d : TrackContents). d.a) own_is ∙ ap (λ (d : TrackContents). d.a) e.here ∙ gone)
-          (record { b = λ q. absurd (not_both (contents_at y l t).b (ap (λ (d : TrackContents). d.b) own_is ∙ off_if z.paired (contents_at z n t).b (m.paired ∙ paired)) q) }))
+          (record {
+            b = λ q. absurd (not_both (contents_at y l t).b (ap (λ (d : TrackContents). d.b) own_is
+                ∙ off_if z.paired (contents_at z n t).b (m.paired ∙ paired)) q);
+          }))
 
       b_alone : (v w : List Track) (z : DeviceStore) (k : Held) (fault : Option Side) (first : Side) → Mid v w z k → z.b.up ≡ true → s.paired ≡ true →
           (contents_at z k t).a ≡ false →
-          Twins Firsts (write_side contents z B t r (alone_b contents t fault first)) (write_side by_plain (marks_of v w z) B t true (alone_b by_plain t fault first)) k
+          Twins Firsts (write_side contents z B t r (alone_b contents t fault first)) (write_side by_plain (marks_of v w z) B t true
+          (alone_b by_plain t fault first)) k
       b_alone v w z k fault first m up paired gone =
           let i = mid_counted v w z k true m in
           let d = b_took v w (write_counted z true) k i up (λ l. absurd (not_both (contents_at z k t).a gone (counted_a z k true ∙ l))) in
@@ -501,7 +507,8 @@ module _ (u : List Track) (s : DeviceStore) (h : Held) (t : ℕ) (r : List ℕ) 
           (λ v' w' y _ _ l f.
           let j = mid_failed u w z n A v' w' y l i (sided_a z n) f in
           let own_is = f.own t refl ∙ fell_a z.paired z n t in
-          let b_is : (contents_at y l t).b ≡ x.b = ap (λ (d : TrackContents). d.b) own_is ∙ ap (λ (d : TrackContents). d.b) e.here ∙ ap (λ (d : TrackContents). d.b) is in
+          let b_is : (contents_at y l t).b ≡ x.b = ap (λ (d : TrackContents). d.b) own_is ∙ ap (λ (d : TrackContents). d.b) e.here
+          ∙ ap (λ (d : TrackContents). d.b) is in
           let on_is : (contents_at y l t).on_b ≡ x.on_b = ap (λ (d : TrackContents). d.on_b) own_is ∙ ap (λ (d : TrackContents). d.on_b) e.here
           ∙ ap (λ (d : TrackContents). d.on_b) is in
           let gone : s.paired ≡ true → (contents_at y l t).a ≡ false =
@@ -509,7 +516,8 @@ module _ (u : List Track) (s : DeviceStore) (h : Held) (t : ℕ) (r : List ℕ) 
           on_test (takes_b z)
           (λ takes.
           let b_up : s.b.up ≡ true = sym same_b ∙ and_left z.b.up _ takes in
-          b_alone v' w' y l (Some A) A j (same_up_b (fell z.paired z A) n y l f.base ∙ fell_up_b z.paired z ∙ same_b ∙ b_up) (pair_there b_up) (gone (pair_there b_up)))
+          b_alone v' w' y l (Some A) A j (same_up_b (fell z.paired z A) n y l f.base ∙ fell_up_b z.paired z ∙ same_b
+          ∙ b_up) (pair_there b_up) (gone (pair_there b_up)))
           (λ none. unwritten_twin v' w' y l (Some A) j (λ p. gone (sym j.paired ∙ p)) (record { b = λ q. (sym b_is ∙ q, on_is) })))
 
       a_alone : (w : List Track) → Mid u w s h → s.a.up ≡ true →
@@ -518,7 +526,15 @@ module _ (u : List Track) (s : DeviceStore) (h : Held) (t : ℕ) (r : List ℕ) 
           let i = mid_counted u w s h true m in
           let d = a_took w (write_counted s true) i up in
           both_write
-          (twin_ends d.marks (record { took = refl; fault = refl; plain = d.is.mid.plain; stays = d.is.mid.stays; done = λ l. d.is; undone = λ l. absurd (untaken (takes_b s) l) }))
+          (twin_ends d.marks (record {
+            took = refl;
+            fault = refl;
+            plain = d.is.mid.plain;
+            stays = d.is.mid.stays;
+            done = λ l. d.is;
+            undone = λ l.
+                absurd (untaken (takes_b s) l);
+          }))
           (λ bytes. a_failed w (write_counted s false) (mid_counted u w s h false m) up refl (counted_is s false) bytes)
         where
           untaken : (b : Bool) → is_taken (if b then Opened else Whole) ≡ false → ⊥

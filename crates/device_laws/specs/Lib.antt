@@ -2,3 +2,4 @@ pub mod Agrees
 pub mod Twin
 pub mod PlainWrites
 pub mod InOrder
+pub mod Feeding

@@ -1,7 +1,9 @@
 //! Laws of a device that tells what it holds. Each says that a part of an event leaves it in order, whatever is answered, and
 //! that the same part over marks asks the same calls and leads to the same marks, with the plain volume as it is then.
 
-ghost use Rattle.std.specs.Prelude.{◌≡◌, ◌<◌, ℕ, false, List, None, Some};
+ghost use Rattle.std.specs.Prelude.{◌≡◌, ◌<◌, ℕ, Bool, true, false, List, None, Some};
+ghost use Rattle.ckd_chain.specs.State.{ChainState};
+ghost use Rattle.ckd_types.specs.declared.geometry.Geometry.{Geometry};
 ghost use Rattle.ckd_types.specs.declared.paths.Side.{Side};
 ghost use Rattle.ckd_types.specs.declared.record.Edit.{Edit};
 ghost use Rattle.ckd_types.specs.declared.record.Track.{Track};
@@ -10,16 +12,19 @@ ghost use Rattle.track_image.specs.Image.{Image};
 ghost use Rattle.device_defs.specs.declared.usage.Usage.{Usage};
 ghost use Rattle.loss_model.specs.declared.Loss.TheVariants as losses;
 ghost use Rattle.device_defs.specs.Background.{work};
+ghost use Rattle.device_defs.specs.Command.{follow};
 ghost use Rattle.device_defs.specs.Contents.{contents, by_plain};
 ghost use Rattle.device_defs.specs.Editing.{write};
 ghost use Rattle.device_defs.specs.Events.{losing};
 ghost use Rattle.device_defs.specs.Image.{image};
 ghost use Rattle.device_defs.specs.Losses.{call_failed};
 ghost use Rattle.device_defs.specs.Marks.{marks_of, half_mark};
+ghost use Rattle.device_defs.specs.Owed.{hear, ended};
 ghost use Rattle.device_defs.specs.Second.{second_part};
 ghost use Rattle.device_defs.specs.Sound.{DeviceStore};
 ghost use Rattle.device_defs.specs.Store.{HalfWrite, tracks_of, is_lost, half_is};
 ghost use Rattle.device_laws.specs.Agrees.{Held, image_in};
+ghost use Rattle.device_laws.specs.Feeding.{Feeds, FollowIs};
 ghost use Rattle.device_laws.specs.InOrder.{IsInOrder, StaysInOrder, ImageIs, WriteIs, SecondIs, QueueStands};
 ghost use Rattle.device_laws.specs.PlainWrites.{SuitsTrack, OriginSuits};
 ghost use Rattle.device_laws.specs.Twin.{Twins};
@@ -57,4 +62,20 @@ pub fn lost_store_leaves_order()
 /// The loss of a side.
 pub fn lost_side_leaves_order()
     ensures { (v w : List Track) (s : DeviceStore) (h : Held) (side : Side) → IsInOrder v w s h → Twins (λ v2 w2 z a b k. StaysInOrder v v2 w2 z a b k) (losing contents s (losses.Side side)) (losing by_plain (marks_of v w s) (losses.Side side)) h }
+{}
+
+/// A command goes from track to track as the chain does that is fed with the plain tracks: it ends so, and the plain volume has its
+/// edit; or with a check, and nothing was done; or it is half done.
+pub fn command_goes_as_fed()
+    ensures { (tracks : ℕ) (g : Geometry) (looks : ChainState → ℕ → Bool) (v w : List Track) (s : DeviceStore) (h : Held) (n first t : ℕ) (chain : ChainState) → Feeds tracks g (λ c q. looks c q ≡ true) → looks chain t ≡ true → tracks_of s ≡ tracks → s.geometry ≡ g → s.half ≡ None → IsInOrder v w s h → Twins (λ v2 w2 z a b k. FollowIs v n chain v2 w2 z a b k) (follow contents n first chain t s) (follow by_plain n first chain t (marks_of v w s)) h }
+{}
+
+/// The notices that an event takes first.
+pub fn notices_leave_order()
+    ensures { (n : ℕ) (v w : List Track) (s : DeviceStore) (h : Held) → IsInOrder v w s h → Twins (λ v2 w2 z a b k. StaysInOrder v v2 w2 z a b k) (hear contents n s) (hear by_plain n (marks_of v w s)) h }
+{}
+
+/// What an event tells at its end: what it owes of each track, and how many tracks wait, where before it so many did.
+pub fn end_leaves_order()
+    ensures { (before : ℕ) (v w : List Track) (s : DeviceStore) (h : Held) → IsInOrder v w s h → Twins (λ v2 w2 z a b k. StaysInOrder v v2 w2 z a b k) (ended contents before s) (ended by_plain before (marks_of v w s)) h }
 {}

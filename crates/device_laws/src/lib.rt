@@ -4,6 +4,7 @@
 mod contents;
 
 pub use contents::{
-    failed_call_leaves_order, image_is_plain, lost_side_leaves_order, lost_store_leaves_order, second_part_is_plain, work_is_plain,
-    write_is_plain,
+    command_goes_as_fed, end_leaves_order, failed_call_leaves_order, image_is_plain,
+    lost_side_leaves_order, lost_store_leaves_order, notices_leave_order, second_part_is_plain,
+    work_is_plain, write_is_plain,
 };
