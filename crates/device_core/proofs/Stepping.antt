@@ -1,6 +1,6 @@
 -- What a chain keeps while a command goes from track to track.
 use Rattle.std.proofs.Common.{◌≡◌, ℕ, ◌+◌, Bool, true, false, Option, Some, None, refl, sym, subst, ◌∙◌}
-use Rattle.std.specs.Prelude.{◌&&◌, ◌||◌, not, IsSome, IfOk, OnErr, Result, Ok, Err, if◌then◌else◌}
+use Rattle.std.specs.Prelude.{◌&&◌, ◌||◌, not, IsSome, if◌then◌else◌}
 use Rattle.ckd_types.specs.Ccw.{is_chained}
 use Rattle.ckd_types.specs.Program.{target}
 use Rattle.ckd_types.specs.Status.{has_unit_check, has_unit_exception, has_status_modifier}
@@ -84,11 +84,3 @@ module _ (n : ℕ) where
   pub goes_from : (s z w : ChainState) → IsSameHand s z → (step : Step) → GoesOn n z w step → GoesOn n s w step
   goes_from s z w same (steps.Over came) goes = goes
   goes_from s z w same (steps.On t) goes = (goes.0, record { again = goes.1.again ∙ same.again }, goes.2)
-
-pub if_ok : {X E : Type 0} {P Q : X → Type 0} (r : Result X E) → ((x : X) → P x → Q x) → IfOk r P → IfOk r Q
-if_ok (Ok x) f h = f x h
-if_ok (Err e) f h = h
-
-pub on_err : {X E P Q : Type 0} (r : Result X E) → (P → Q) → OnErr r P → OnErr r Q
-on_err (Ok x) f h = h
-on_err (Err e) f h = f h

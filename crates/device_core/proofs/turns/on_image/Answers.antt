@@ -1,3 +1,4 @@
+use Rattle.std.proofs.lemmas.Result.{IfOk-weaker, on_err_weaker}
 use Rattle.std.proofs.Common.{◌<◌, ◌*◌, ◌∙◌, refl, ap, sym, subst, true, false, Some}
 use Rattle.ckd_chain.specs.Steps.{again_from}
 use Rattle.ckd_chain.specs.Facts.{NeedsTrack}
@@ -8,7 +9,7 @@ use Rattle.device_defs.specs.Contents.{contents}
 use Rattle.device_store.specs.State.{state_of}
 use Rattle.device_store.proofs.Moves.{had_ok, from_equal}
 use Rattle.device_core.specs.Turns.{Left, Waits}
-use Rattle.device_core.proofs.Stepping.{begun_opened, waits_as, goes_from, if_ok, on_err}
+use Rattle.device_core.proofs.Stepping.{begun_opened, waits_as, goes_from}
 use Rattle.device_defs.specs.Command.{went_by}
 use Rattle.device_defs.specs.Outcomes.{usage_of}
 use Rattle.ckd_chain.specs.Steps.{stepped}
@@ -80,11 +81,11 @@ returns-in-Local-clause-goes g c =
 pub returns-in-Write-clause-goes : goal.returns-in-Write-clause-goes
 returns-in-Write-clause-goes g c =
     let w = waits_as c.args.store.now.cylinders c.args.chain.now c.step.new.self c.args.image.now c.in-Ok.progress c.requires.at c.in-Ok.ensures.progress c.in-Ok.ensures.chain in
-    if_ok c.write_edit.result (goes_from c.args.store.now.cylinders c.args.chain.now c.step.new.self c.write_edit.new.chain
+    IfOk-weaker c.write_edit.result _ _ (goes_from c.args.store.now.cylinders c.args.chain.now c.step.new.self c.write_edit.new.chain
     (subst (λ p. Waits c.args.store.now.cylinders c.args.chain.now c.step.new.self p) c.in-Write.is w).1) c.write_edit.ensures.goes
 
 pub returns-in-Write-clause-hand : goal.returns-in-Write-clause-hand
 returns-in-Write-clause-hand g c =
     let w = waits_as c.args.store.now.cylinders c.args.chain.now c.step.new.self c.args.image.now c.in-Ok.progress c.requires.at c.in-Ok.ensures.progress c.in-Ok.ensures.chain in
     let same = (subst (λ p. Waits c.args.store.now.cylinders c.args.chain.now c.step.new.self p) c.in-Write.is w).1 in
-    on_err c.write_edit.result (λ h. record { again = h.again ∙ same.again }) c.write_edit.ensures.hand
+    on_err_weaker c.write_edit.result (λ h. record { again = h.again ∙ same.again }) c.write_edit.ensures.hand
