@@ -28,43 +28,24 @@ use Rattle.std.proofs.Common.{
 use Rattle.std.specs.Prelude.{◌||◌, ◌&&◌, ⊤}
 use Rattle.std.proofs.lemmas.Bool.{ne_eqb}
 use Rattle.std.proofs.lemmas.List.{append-nil}
-use Rattle.plain_defs.specs.declared.journal.How.{How}
-use Rattle.plain_defs.specs.declared.journal.How.TheVariants.{Full, Cut, Checked}
 use Rattle.plain_defs.specs.declared.journal.Item.{Item}
-use Rattle.plain_defs.specs.declared.journal.Item.TheVariants.{Program, Reset, Fresh, Act, Power}
+use Rattle.plain_defs.specs.declared.journal.Item.TheVariants.{Program, Reset}
 use Rattle.plain_defs.specs.Entry.{ProgramEntry}
 use Rattle.plain_defs.specs.History.{History, OpenEntry, no_history, resets_of}
 use Rattle.plain_defs.specs.Journal.{Plans, replay, replay_item}
-use Rattle.plain_defs.specs.Legal.{FollowsCut, IsLegalItem, IsLegalFrom, IsLegal, is_used, used_by, is_started, started_by}
+use Rattle.plain_defs.specs.Legal.{IsLegalFrom, IsLegal, is_used, used_by, is_started, started_by}
 use Rattle.plain_defs.specs.PlainState.{PlainState}
+use Rattle.plain_defs.proofs.JournalLaws.{item_more}
 use Rattle.device_defs.specs.Device.{all_reset}
 
 -- Journals one behind the other
-
-follows_on : (how : How) (path : ℕ) (xs ys : List Item) → FollowsCut how path xs → FollowsCut how path (xs ++ ys)
-follows_on Full path xs ys h = tt
-follows_on Checked path xs ys h = tt
-follows_on (Cut effect) path [] ys h = absurd h
-follows_on (Cut effect) path (Reset p ∷ xs) ys h = h
-follows_on (Cut effect) path (Power ∷ xs) ys h = tt
-follows_on (Cut effect) path (Program e ∷ xs) ys h = absurd h
-follows_on (Cut effect) path (Fresh ∷ xs) ys h = absurd h
-follows_on (Cut effect) path (Act act ∷ xs) ys h = absurd h
-
-item_on : (plans : Plans) (s : PlainState) (earlier : List Item) (x : Item) (xs ys : List Item)
-    → IsLegalItem plans s earlier x xs → IsLegalItem plans s earlier x (xs ++ ys)
-item_on plans s earlier (Program e) xs ys h = (h.0, follows_on e.how e.path xs ys h.1)
-item_on plans s earlier (Reset p) xs ys h = h
-item_on plans s earlier Fresh xs ys h = tt
-item_on plans s earlier (Act act) xs ys h = h
-item_on plans s earlier Power xs ys h = h
 
 -- a legal journal goes on behind a legal one
 pub legal-append : (plans : Plans) (s : PlainState) (earlier xs ys : List Item) → IsLegalFrom plans s earlier xs
     → IsLegalFrom plans (replay plans s xs) (earlier ++ xs) ys → IsLegalFrom plans s earlier (xs ++ ys)
 legal-append plans s earlier [] ys h more = subst (λ (l : List Item). IsLegalFrom plans s l ys) (append-nil earlier) more
 legal-append plans s earlier (x ∷ xs) ys h more = (
-  item_on plans s earlier x xs ys h.0,
+  item_more plans s earlier x xs ys h.0,
   legal-append plans (replay_item plans s x) (earlier ++ x ∷ []) xs ys h.1
       (subst (λ (l : List Item). IsLegalFrom plans (replay plans (replay_item plans s x) xs) l ys)
       (sym (append_assoc earlier (x ∷ []) xs)) more),
