@@ -65,3 +65,5 @@ pub mod TwinLosses
 pub mod TwinFollow
 pub mod TwinEvents
 pub mod TwinLaws
+pub mod NewDevices
+pub mod OrdersStand
