@@ -32,7 +32,7 @@ use Rattle.ckd_chain.specs.declared.mark.Stage.{Stage}
 use Rattle.ckd_chain.specs.declared.mark.Stage.TheVariants as stages
 use Rattle.ckd_chain.specs.declared.progress.Progress.TheVariants as progresses
 use Rattle.ckd_chain.specs.State.{ChainState}
-use Rattle.ckd_chain.specs.Steps.{opened_by, opened, stage_by, stage_of, need_of, needed, standing, stepped_by, turned_by, word_of}
+use Rattle.ckd_chain.specs.Steps.{last_by, opened_by, opened, stage_by, stage_of, need_of, needed, standing, stepped_by, turned_by, word_of}
 use Rattle.track_image.specs.Image.{Image}
 use Rattle.device_laws.specs.Standing.{IsWithin}
 use Rattle.device_laws.proofs.Commands.{Stays}
@@ -149,6 +149,7 @@ module _ (n : ℕ) (whole : n % 15 ≡ 0) where
       let below = f.0 in (
         record {
           needs = λ t e. let there = need_at v look at in let here : z.track ≡ t = cc in omega arith;
+          used = last;
           extent = subst (λ (x : ChainState). IfSome x.at.stance.extent (λ e. e.last < n)) (sym (ap (opened_by v) at)) last;
         },
         omega arith,
@@ -166,11 +167,16 @@ module _ (n : ℕ) (whole : n % 15 ≡ 0) where
       let f = look_further n u.at.stance whole on w.extent i.geometry i.track (word_of u) look in
       by_turned u look l.stance l.turned q (begun_stage chain chain.stage refl ∙ ap (λ (x : Stage). Some x) at) w.extent f.on is
 
+  last_reaches : (o : Option Extent) → IfSome o (λ e. e.last < n) → IfSome (last_by o) (λ l. l < n)
+  last_reaches (Some e) lt = lt
+  last_reaches None lt = tt
+
   -- so each track that it comes to is one of the device's
   pub within_stays : Stays n (IsWithin n)
   within_stays = record {
     needs = λ chain t w e. w.needs t e;
     goes = λ chain i q w e. by_stage chain i (stage_of chain) q refl w e;
+    reaches = λ chain w. last_reaches chain.at.stance.extent w.used;
   }
 
 pub whole_cylinders : (k : ℕ) → (k * 15) % 15 ≡ 0

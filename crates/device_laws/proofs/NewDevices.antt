@@ -156,6 +156,7 @@ module _ (d : ℕ) (g : Geometry) (n : ℕ) where
       alone = λ e. refl;
       marks = λ t lt. sound t;
       nowhere = λ t lt lost. absurd (let f = not_lost t in cc);
+      queued = tt;
       within = λ i e. absurd (cc);
       there = λ i e. absurd (cc);
     }

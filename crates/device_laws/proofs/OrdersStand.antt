@@ -251,7 +251,7 @@ module _ (chain : ChainState) (is : IsChain chain) where
   pub chain_stands : IsWithin (chain.fixed.cylinders * 15) chain
   chain_stands =
       let on = stood chain.stage in
-      record { needs = λ t e. need_below (chain.fixed.cylinders * 15) (opened chain) (stage_of chain) t on.track e; extent = on.extent }
+      record { needs = λ t e. need_below (chain.fixed.cylinders * 15) (opened chain) (stage_of chain) t on.track e; used = is.stands.extent; extent = on.extent }
 
 -- so it is where it is begun
 pub chain_begins : (ccws : List Ccw) (f : Fixed) → 1 ≤ f.cylinders → f.cylinders ≤ 64 → length ccws ≤ 256 → IsChain (begun_chain ccws f)

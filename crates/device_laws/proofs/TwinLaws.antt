@@ -1,5 +1,6 @@
 -- The laws of a device that tells what it holds: its parts leave it in order, and do on marks what they do on contents.
 use Rattle.std.proofs.Common.{◌≡◌, ◌<◌, ◌==◌, ℕ, Bool, true, false, List, Option, Some, None, refl, ap, subst, ◌∙◌, arith}
+use Rattle.std.specs.Prelude.{IfSome}
 use Rattle.ckd_chain.specs.State.{ChainState}
 use Rattle.ckd_types.specs.declared.geometry.Geometry.{Geometry}
 use Rattle.ckd_types.specs.declared.paths.Side.{Side}
@@ -22,7 +23,7 @@ use Rattle.device_defs.specs.Sound.{DeviceStore}
 use Rattle.device_defs.specs.Store.{HalfWrite, tracks_of, is_lost, half_is}
 use Rattle.device_laws.specs.Agrees.{Held, image_in}
 use Rattle.device_laws.specs.Feeding.{Feeds, FollowIs}
-use Rattle.device_laws.specs.InOrder.{IsInOrder, StaysInOrder, ImageIs, WriteIs, SecondIs, QueueStands}
+use Rattle.device_laws.specs.InOrder.{IsInOrder, StaysInOrder, ImageIs, WriteIs, SecondIs}
 use Rattle.device_laws.specs.PlainWrites.{SuitsTrack, OriginSuits}
 use Rattle.device_laws.specs.Twin.{Twins}
 use Rattle.device_laws.proofs.Changes as C
@@ -33,7 +34,7 @@ use Rattle.device_laws.proofs.LossEvents.{losing_goes}
 use Rattle.device_laws.proofs.Notices.{hearing_keeps_good, ending_changes_no_mark}
 use Rattle.device_laws.proofs.SecondPart.{second_part_keeps_good}
 use Rattle.device_laws.proofs.Soundness.{good_is_sound, good_is_nowhere, sound_is_good}
-use Rattle.device_laws.proofs.Sweeps.{is_free, is_alone, half_within}
+use Rattle.device_laws.proofs.Sweeps.{is_free, is_alone, half_within, all_queued}
 use Rattle.device_laws.proofs.Through.{write_keeps_good}
 use Rattle.device_laws.proofs.TrackContents as T
 use Rattle.device_laws.proofs.TrackContents.{contents_at}
@@ -62,7 +63,7 @@ module _ (v w : List Track) (s : DeviceStore) (h : Held) where
   unfolding M.track_at C.rest_of
   well i = record {
     sizes = i.agrees.ground.sizes;
-    here = record { free = i.free; alone = i.alone; within = i.within };
+    here = record { free = i.free; alone = i.alone; within = i.within; queued = i.queued };
     good = λ q lt. sound_is_good contents s q (i.marks q lt) (i.nowhere q lt);
     kept = λ q lt e. kept_by s q s.half i.there e;
   }
@@ -88,6 +89,7 @@ module _ (v w : List Track) (s : DeviceStore) (h : Held) where
     marks = λ t lt. good_is_sound contents s t (w'.good t lt);
     nowhere = λ t lt lost. good_is_nowhere contents s t (w'.good t lt) lost;
     within = half_within s w'.here;
+    queued = all_queued s w'.here;
     there = λ i e. kept_is i e w';
   }
 
@@ -111,11 +113,12 @@ failed_call_leaves_order v w s h side i =
       same = refl;
     })
 
-pub image_is_plain : (v w : List Track) (s : DeviceStore) (h : Held) (u : Usage) (t : ℕ) → IsInOrder v w s h → t < tracks_of s → is_lost s t ≡ false →
+pub image_is_plain : (v w : List Track) (s : DeviceStore) (h : Held) (u : Usage) (t : ℕ) → IsInOrder v w s h →
+    IfSome u.last (λ l. l < tracks_of s) → t < tracks_of s → is_lost s t ≡ false →
     half_is s.half t ≡ false → Twins (λ v' w' z a b k. ImageIs v s t v' w' z a b k) (image contents s u t) (image by_plain (marks_of v w s) u t) h
-image_is_plain v w s h u t i lt there off =
+image_is_plain v w s h u t i reach lt there off =
     let o = in_order v w s h i in
-    twin_weaker (twin_always (image_twin v w s h u t lt there off o) (image_keeps_good contents device_is_faithful s u t lt o.well))
+    twin_weaker (twin_always (image_twin v w s h u t lt there off o) (image_keeps_good contents device_is_faithful s u t reach lt o.well))
     (λ v' w' z a b k f. record {
       left = record { order = is_in_order v' w' z k f.0.order f.1.goes.well; plain = f.0.plain; same = f.0.same };
       image = f.0.image;
@@ -145,11 +148,11 @@ second_part_is_plain v w s h i order is suits =
     (λ v' w' z a b k f. record { order = is_in_order v' w' z k f.0.order f.1.well; plain = f.0.plain; same = f.0.same })
 
 -- while no half write is open
-pub work_is_plain : (v w : List Track) (s : DeviceStore) (h : Held) → IsInOrder v w s h → s.half ≡ None → QueueStands s →
+pub work_is_plain : (v w : List Track) (s : DeviceStore) (h : Held) → IsInOrder v w s h → s.half ≡ None →
     Twins (λ v' w' z a b k. StaysInOrder v v' w' z a b k) (work contents s) (work by_plain (marks_of v w s)) h
-work_is_plain v w s h i none stands =
+work_is_plain v w s h i none =
     let o = in_order v w s h i in
-    twin_weaker (twin_always (work_twin v w s h none o stands) (work_keeps_good contents device_is_faithful s o.well none))
+    twin_weaker (twin_always (work_twin v w s h none o) (work_keeps_good contents device_is_faithful s o.well none))
     (λ v' w' z a b k f. record { order = is_in_order v' w' z k f.0.order f.1.well; plain = f.0.plain; same = f.0.same })
 
 pub lost_store_leaves_order : (v w : List Track) (s : DeviceStore) (h : Held) → IsInOrder v w s h →

@@ -1,7 +1,7 @@
 //! Laws of a device that tells what it holds. Each says that a part of an event leaves it in order, whatever is answered, and
 //! that the same part over marks asks the same calls and leads to the same marks, with the plain volume as it is then.
 
-ghost use Rattle.std.specs.Prelude.{◌≡◌, ◌<◌, ◌≤◌, ◌*◌, ℕ, Bool, true, false, List, length, None, Some, Ok};
+ghost use Rattle.std.specs.Prelude.{◌≡◌, ◌<◌, ◌≤◌, ◌*◌, ℕ, Bool, true, false, List, length, None, Some, IfSome, Ok};
 ghost use Rattle.ckd_chain.specs.declared.progress.Progress.TheVariants.{Need};
 ghost use Rattle.ckd_chain.specs.Facts.{IsChain};
 ghost use Rattle.ckd_chain.specs.State.{ChainState};
@@ -35,7 +35,7 @@ ghost use Rattle.device_defs.specs.Sound.{DeviceStore};
 ghost use Rattle.device_defs.specs.Store.{HalfWrite, tracks_of, is_lost, half_is};
 ghost use Rattle.device_laws.specs.Agrees.{Held, image_in};
 ghost use Rattle.device_laws.specs.Feeding.{Feeds, FollowIs};
-ghost use Rattle.device_laws.specs.InOrder.{IsInOrder, StaysInOrder, ImageIs, WriteIs, SecondIs, QueueStands};
+ghost use Rattle.device_laws.specs.InOrder.{IsInOrder, StaysInOrder, ImageIs, WriteIs, SecondIs};
 ghost use Rattle.device_laws.specs.NewDevice.{new_contents};
 ghost use Rattle.device_laws.specs.PlainWrites.{SuitsTrack, OriginSuits};
 ghost use Rattle.device_laws.specs.Standing.{IsWithin};
@@ -58,8 +58,8 @@ pub fn failed_call_leaves_order()
 
 /// The image that a command looks at, hit or missed, is the plain track; no bytes are bad.
 pub fn image_is_plain()
-    ensures { (v w : List Track) (s : DeviceStore) (h : Held) (u : Usage) (t : ℕ) → IsInOrder v w s h → t < tracks_of s → is_lost s t ≡ false →
-        half_is s.half t ≡ false →
+    ensures { (v w : List Track) (s : DeviceStore) (h : Held) (u : Usage) (t : ℕ) → IsInOrder v w s h →
+        IfSome u.last (λ l. l < tracks_of s) → t < tracks_of s → is_lost s t ≡ false → half_is s.half t ≡ false →
         Twins (λ v2 w2 z a b k. ImageIs v s t v2 w2 z a b k) (image contents s u t) (image by_plain (marks_of v w s) u t) h }
 {}
 
@@ -81,7 +81,7 @@ pub fn second_part_is_plain()
 
 /// What a device does by itself while no half write is open: it recovers, copies, stages or destages a track.
 pub fn work_is_plain()
-    ensures { (v w : List Track) (s : DeviceStore) (h : Held) → IsInOrder v w s h → s.half ≡ None → QueueStands s →
+    ensures { (v w : List Track) (s : DeviceStore) (h : Held) → IsInOrder v w s h → s.half ≡ None →
         Twins (λ v2 w2 z a b k. StaysInOrder v v2 w2 z a b k) (work contents s) (work by_plain (marks_of v w s)) h }
 {}
 
