@@ -93,7 +93,7 @@ module _ {F P H R : Type 0} (c : Contents F P H R) (faithful : IsFaithful c) whe
   abbrev pub begun_by : Bool → Store F P H → Store F P H
   begun_by b s = record (if b then acted (gone_back s) CfwLost else s) { queue = [] }
 
-  begun_sizes : (s : Store F P H) (b : Bool) → HasSizes s → HasSizes (begun_by b s)
+  pub begun_sizes : (s : Store F P H) (b : Bool) → HasSizes s → HasSizes (begun_by b s)
   begun_sizes s true sizes =
       let all : length s.loose ≡ tracks_of s = cc (sizes.are) in
       record {

@@ -62,6 +62,7 @@ pub mod TwinSaving
 pub mod TwinCopies
 pub mod TwinWork
 pub mod TwinLosses
+pub mod TwinCacheLost
 pub mod TwinFollow
 pub mod TwinEvents
 pub mod TwinLaws

@@ -23,7 +23,7 @@ use Rattle.device_defs.specs.Sound.{DeviceStore}
 use Rattle.device_defs.specs.Store.{HalfWrite, tracks_of, is_lost, half_is}
 use Rattle.device_laws.specs.Agrees.{Held, image_in}
 use Rattle.device_laws.specs.Feeding.{Feeds, FollowIs}
-use Rattle.device_laws.specs.InOrder.{IsInOrder, StaysInOrder, ImageIs, WriteIs, SecondIs}
+use Rattle.device_laws.specs.InOrder.{IsInOrder, StaysInOrder, ImageIs, WriteIs, SecondIs, plain_lost}
 use Rattle.device_laws.specs.PlainWrites.{SuitsTrack, OriginSuits}
 use Rattle.device_laws.specs.Twin.{Twins}
 use Rattle.device_laws.proofs.Changes as C
@@ -45,6 +45,7 @@ use Rattle.device_laws.proofs.TwinEvents.{hear_twin, ended_twin}
 use Rattle.device_laws.proofs.TwinFailed.{failed_twin}
 use Rattle.device_laws.proofs.TwinFollow.{follow_order}
 use Rattle.device_laws.proofs.TwinLooks.{image_twin}
+use Rattle.device_laws.proofs.TwinCacheLost.{cache_loss_twin}
 use Rattle.device_laws.proofs.TwinLosses.{store_loss_twin, side_loss_twin}
 use Rattle.device_laws.proofs.TwinSecond.{second_part_twin}
 use Rattle.device_laws.proofs.TwinWalks.{twin_always, twin_weaker}
@@ -160,6 +161,15 @@ pub lost_store_leaves_order : (v w : List Track) (s : DeviceStore) (h : Held) �
 lost_store_leaves_order v w s h i =
     let o = in_order v w s h i in
     twin_weaker (twin_always (store_loss_twin v w s h o) (losing_goes contents device_is_faithful s losses.Store o.well))
+    (λ v' w' z a b k f. record { order = is_in_order v' w' z k f.0.order f.1.well; plain = f.0.plain; same = refl })
+
+-- with data of cache fast write they go, and the plain volume is the firm one
+pub lost_cache_leaves_order : (v w : List Track) (s : DeviceStore) (h : Held) → IsInOrder v w s h →
+    Twins (λ v' w' z a b k. StaysInOrder (plain_lost s v w) v' w' z a b k) (losing contents s losses.Cache)
+    (losing by_plain (marks_of v w s) losses.Cache) h
+lost_cache_leaves_order v w s h i =
+    let o = in_order v w s h i in
+    twin_weaker (twin_always (cache_loss_twin v w s h o) (losing_goes contents device_is_faithful s losses.Cache o.well))
     (λ v' w' z a b k f. record { order = is_in_order v' w' z k f.0.order f.1.well; plain = f.0.plain; same = refl })
 
 pub lost_side_leaves_order : (v w : List Track) (s : DeviceStore) (h : Held) (side : Side) → IsInOrder v w s h →

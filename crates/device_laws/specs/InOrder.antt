@@ -1,5 +1,5 @@
 -- A device's store that is in order, where its volumes tell what they hold, and what the parts of its events leave.
-use Rattle.std.specs.Prelude.{◌≡◌, ◌≢◌, ◌<◌, ℕ, Bool, true, false, List, [], ◌∷◌, Option, Some, is_some}
+use Rattle.std.specs.Prelude.{◌≡◌, ◌≢◌, ◌<◌, ℕ, Bool, true, false, List, [], ◌∷◌, Option, Some, is_some, if◌then◌else◌}
 use Rattle.ckd_types.specs.declared.paths.Side.{Side}
 use Rattle.ckd_types.specs.declared.record.Edit.{Edit}
 use Rattle.ckd_types.specs.declared.record.Track.{Track}
@@ -8,7 +8,7 @@ use Rattle.device_defs.specs.declared.answers.Took.{Took}
 use Rattle.device_defs.specs.Contents.{contents}
 use Rattle.device_defs.specs.Image.{Imaged, Has, BadTrack}
 use Rattle.device_defs.specs.Sound.{DeviceStore, has_sound_marks}
-use Rattle.device_defs.specs.Store.{Origin, HalfWrite, tracks_of, has_level, is_lost, owed_at}
+use Rattle.device_defs.specs.Store.{Origin, HalfWrite, tracks_of, has_level, is_lost, has_loose, owed_at}
 use Rattle.device_laws.specs.Agrees.{Held, image_in, Agrees}
 use Rattle.device_laws.specs.PlainWrites.{plain_had, plain_second}
 
@@ -28,6 +28,10 @@ pub record IsInOrder (v w : List Track) (s : DeviceStore) (h : Held) : Type 0 wh
   pub nowhere : (t : ℕ) → t < tracks_of s → is_lost s t ≡ true → has_level s t ≡ false
   pub within : (i : HalfWrite Image) → s.half ≡ Some i → i.track < tracks_of s
   pub there : (i : HalfWrite Image) → s.half ≡ Some i → is_lost s i.track ≡ false
+
+-- the plain volume behind the loss of the cache: without data of cache fast write, where there are some
+abbrev pub plain_lost : DeviceStore → List Track → List Track → List Track
+plain_lost s v w = if has_loose s then w else v
 
 -- What is left. The first arguments are what a part began with
 

@@ -35,7 +35,7 @@ ghost use Rattle.device_defs.specs.Sound.{DeviceStore};
 ghost use Rattle.device_defs.specs.Store.{HalfWrite, tracks_of, is_lost, half_is};
 ghost use Rattle.device_laws.specs.Agrees.{Held, image_in};
 ghost use Rattle.device_laws.specs.Feeding.{Feeds, FollowIs};
-ghost use Rattle.device_laws.specs.InOrder.{IsInOrder, StaysInOrder, ImageIs, WriteIs, SecondIs};
+ghost use Rattle.device_laws.specs.InOrder.{IsInOrder, StaysInOrder, ImageIs, WriteIs, SecondIs, plain_lost};
 ghost use Rattle.device_laws.specs.NewDevice.{new_contents};
 ghost use Rattle.device_laws.specs.PlainWrites.{SuitsTrack, OriginSuits};
 ghost use Rattle.device_laws.specs.Standing.{IsWithin};
@@ -90,6 +90,13 @@ pub fn lost_store_leaves_order()
     ensures { (v w : List Track) (s : DeviceStore) (h : Held) → IsInOrder v w s h →
         Twins (λ v2 w2 z a b k. StaysInOrder v v2 w2 z a b k)
         (losing contents s losses.Store) (losing by_plain (marks_of v w s) losses.Store) h }
+{}
+
+/// The loss of the cache: data of cache fast write go, and where there were some the plain volume is the firm one.
+pub fn lost_cache_leaves_order()
+    ensures { (v w : List Track) (s : DeviceStore) (h : Held) → IsInOrder v w s h →
+        Twins (λ v2 w2 z a b k. StaysInOrder (plain_lost s v w) v2 w2 z a b k)
+        (losing contents s losses.Cache) (losing by_plain (marks_of v w s) losses.Cache) h }
 {}
 
 /// The loss of a side.
