@@ -63,6 +63,7 @@ pub mod TwinCopies
 pub mod TwinWork
 pub mod TwinLosses
 pub mod TwinCacheLost
+pub mod TwinCuts
 pub mod TwinFollow
 pub mod TwinEvents
 pub mod TwinLaws

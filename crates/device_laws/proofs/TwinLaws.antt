@@ -12,6 +12,7 @@ use Rattle.device_defs.specs.declared.usage.Usage.{Usage}
 use Rattle.device_defs.specs.Background.{work}
 use Rattle.device_defs.specs.Command.{follow}
 use Rattle.device_defs.specs.Contents.{contents, by_plain}
+use Rattle.device_defs.specs.Cutting.{half_cut}
 use Rattle.device_defs.specs.Editing.{write}
 use Rattle.device_defs.specs.Events.{losing}
 use Rattle.device_defs.specs.Image.{image}
@@ -23,11 +24,12 @@ use Rattle.device_defs.specs.Sound.{DeviceStore}
 use Rattle.device_defs.specs.Store.{HalfWrite, tracks_of, is_lost, half_is}
 use Rattle.device_laws.specs.Agrees.{Held, image_in}
 use Rattle.device_laws.specs.Feeding.{Feeds, FollowIs}
-use Rattle.device_laws.specs.InOrder.{IsInOrder, StaysInOrder, ImageIs, WriteIs, SecondIs, plain_lost}
+use Rattle.device_laws.specs.InOrder.{IsInOrder, StaysInOrder, ImageIs, WriteIs, SecondIs, plain_lost, plain_cut}
 use Rattle.device_laws.specs.PlainWrites.{SuitsTrack, OriginSuits}
 use Rattle.device_laws.specs.Twin.{Twins}
 use Rattle.device_laws.proofs.Changes as C
-use Rattle.device_laws.proofs.ContentChanges.{agrees_sure, sure_agrees}
+use Rattle.device_laws.proofs.ContentChanges as D
+use Rattle.device_laws.proofs.ContentChanges.{agrees_sure, sure_agrees, unseen_right}
 use Rattle.device_laws.proofs.FailedCall.{IsWell, same_is_well, failed_call_keeps_good}
 use Rattle.loss_model.specs.declared.Loss.TheVariants as losses
 use Rattle.device_laws.proofs.LossEvents.{losing_goes}
@@ -41,6 +43,7 @@ use Rattle.device_laws.proofs.TrackContents.{contents_at}
 use Rattle.device_laws.proofs.TrackMarks as M
 use Rattle.device_laws.proofs.TrackMarks.{track_at, device_is_faithful}
 use Rattle.device_laws.proofs.TwinAsks.{InOrder, Ordered}
+use Rattle.device_laws.proofs.TwinCuts.{cut_by}
 use Rattle.device_laws.proofs.TwinEvents.{hear_twin, ended_twin}
 use Rattle.device_laws.proofs.TwinFailed.{failed_twin}
 use Rattle.device_laws.proofs.TwinFollow.{follow_order}
@@ -51,6 +54,7 @@ use Rattle.device_laws.proofs.TwinSecond.{second_part_twin}
 use Rattle.device_laws.proofs.TwinWalks.{twin_always, twin_weaker}
 use Rattle.device_laws.proofs.TwinWrite.{write_twin}
 use Rattle.device_laws.proofs.TwinWork.{work_twin}
+use Rattle.device_laws.proofs.WholeEvents.{cutting_keeps_good}
 use Rattle.device_laws.proofs.WholeImage.{image_keeps_good}
 use Rattle.device_laws.proofs.Working.{work_keeps_good}
 
@@ -187,6 +191,42 @@ pub command_goes_as_fed : (tracks : ℕ) (g : Geometry) (looks : ChainState → 
 command_goes_as_fed tracks g looks v w s h n first t chain feeds at same on none i =
     twin_weaker (follow_order tracks g (λ c q. looks c q ≡ true) feeds v n first chain t s w h at same on none (in_order v w s h i))
     (λ v' w' z a b k f. record { order = is_in_order v' w' z k f.0.order f.1; same = f.0.same; came = f.0.came })
+
+-- side B is held, or not any more
+module _ (v w : List Track) (s : DeviceStore) (h : Held) (b : Bool) where
+  held_order : Ordered v w s h → Ordered v w (record s { held = b }) h
+  unfolding T.contents_at D.base_of
+  held_order o = record {
+    sure = unseen_right None v w s h (record s { held = b }) h o.sure
+        (record { sizes = record { are = o.sure.ground.sizes.are }; base = refl; same = λ q. refl; slots = refl });
+    told = o.told;
+  }
+
+  held_well : IsWell contents s → IsWell contents (record s { held = b })
+  unfolding M.track_at C.rest_of
+  held_well y = record {
+    sizes = record { are = y.sizes.are };
+    here = record { free = y.here.free; alone = y.here.alone; within = y.here.within; queued = y.here.queued };
+    good = y.good;
+    kept = y.kept;
+  }
+
+  pub held_side_leaves_order : IsInOrder v w s h → IsInOrder v w (record s { held = b }) h
+  held_side_leaves_order i =
+      let o = in_order v w s h i in
+      is_in_order v w (record s { held = b }) h (held_order (record { sure = o.sure; told = o.told })) (held_well o.well)
+
+-- what cuts a running program
+pub cut_leaves_order : (v w : List Track) (s : DeviceStore) (h : Held) → IsInOrder v w s h →
+    ((i : HalfWrite Image) → s.half ≡ Some i → OriginSuits s.geometry (track_in v i.track) i.origin) →
+    Twins (λ v' w' z a b k. StaysInOrder (plain_cut s.half v) v' w' z a b k) (half_cut contents s s.half)
+    (half_cut by_plain (marks_of v w s) (marks_of v w s).half) h
+cut_leaves_order v w s h i suits =
+    let o = in_order v w s h i in
+    twin_weaker
+    (twin_always (cut_by v w s h o s.half refl i.within (λ hw is. lost_there s h hw.track ∙ i.there hw is) suits)
+    (cutting_keeps_good contents device_is_faithful s o.well))
+    (λ v' w' z a b k f. record { order = is_in_order v' w' z k f.0.order f.1.well; plain = f.0.plain; same = refl })
 
 -- the notices that an event takes first
 pub notices_leave_order : (n : ℕ) (v w : List Track) (s : DeviceStore) (h : Held) → IsInOrder v w s h →

@@ -1,5 +1,5 @@
 -- A device's store that is in order, where its volumes tell what they hold, and what the parts of its events leave.
-use Rattle.std.specs.Prelude.{◌≡◌, ◌≢◌, ◌<◌, ℕ, Bool, true, false, List, [], ◌∷◌, Option, Some, is_some, if◌then◌else◌}
+use Rattle.std.specs.Prelude.{◌≡◌, ◌≢◌, ◌<◌, ℕ, Bool, true, false, List, [], ◌∷◌, Option, Some, None, is_some, if◌then◌else◌}
 use Rattle.ckd_types.specs.declared.paths.Side.{Side}
 use Rattle.ckd_types.specs.declared.record.Edit.{Edit}
 use Rattle.ckd_types.specs.declared.record.Track.{Track}
@@ -32,6 +32,11 @@ pub record IsInOrder (v w : List Track) (s : DeviceStore) (h : Held) : Type 0 wh
 -- the plain volume behind the loss of the cache: without data of cache fast write, where there are some
 abbrev pub plain_lost : DeviceStore → List Track → List Track → List Track
 plain_lost s v w = if has_loose s then w else v
+
+-- and behind a cut, where an open half write of a command counts as done
+abbrev pub plain_cut : Option (HalfWrite Image) → List Track → List Track
+plain_cut None v = v
+plain_cut (Some i) v = plain_second i.origin true v i.track
 
 -- What is left. The first arguments are what a part began with
 

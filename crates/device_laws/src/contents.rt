@@ -24,6 +24,7 @@ ghost use Rattle.loss_model.specs.declared.Loss.TheVariants as losses;
 ghost use Rattle.device_defs.specs.Background.{work};
 ghost use Rattle.device_defs.specs.Command.{follow};
 ghost use Rattle.device_defs.specs.Contents.{contents, by_plain};
+ghost use Rattle.device_defs.specs.Cutting.{half_cut};
 ghost use Rattle.device_defs.specs.Editing.{write};
 ghost use Rattle.device_defs.specs.Events.{losing};
 ghost use Rattle.device_defs.specs.Image.{image};
@@ -35,7 +36,7 @@ ghost use Rattle.device_defs.specs.Sound.{DeviceStore};
 ghost use Rattle.device_defs.specs.Store.{HalfWrite, tracks_of, is_lost, half_is};
 ghost use Rattle.device_laws.specs.Agrees.{Held, image_in};
 ghost use Rattle.device_laws.specs.Feeding.{Feeds, FollowIs};
-ghost use Rattle.device_laws.specs.InOrder.{IsInOrder, StaysInOrder, ImageIs, WriteIs, SecondIs, plain_lost};
+ghost use Rattle.device_laws.specs.InOrder.{IsInOrder, StaysInOrder, ImageIs, WriteIs, SecondIs, plain_lost, plain_cut};
 ghost use Rattle.device_laws.specs.NewDevice.{new_contents};
 ghost use Rattle.device_laws.specs.PlainWrites.{SuitsTrack, OriginSuits};
 ghost use Rattle.device_laws.specs.Standing.{IsWithin};
@@ -97,6 +98,19 @@ pub fn lost_cache_leaves_order()
     ensures { (v w : List Track) (s : DeviceStore) (h : Held) → IsInOrder v w s h →
         Twins (λ v2 w2 z a b k. StaysInOrder (plain_lost s v w) v2 w2 z a b k)
         (losing contents s losses.Cache) (losing by_plain (marks_of v w s) losses.Cache) h }
+{}
+
+/// What cuts a running program: an open half write of its command counts as done, and the plain volume has its edit.
+pub fn cut_leaves_order()
+    ensures { (v w : List Track) (s : DeviceStore) (h : Held) → IsInOrder v w s h →
+        ((i : HalfWrite Image) → s.half ≡ Some i → OriginSuits s.geometry (track_in v i.track) i.origin) →
+        Twins (λ v2 w2 z a b k. StaysInOrder (plain_cut s.half v) v2 w2 z a b k)
+        (half_cut contents s s.half) (half_cut by_plain (marks_of v w s) (marks_of v w s).half) h }
+{}
+
+/// The order to hold side B, and the one to resume it.
+pub fn held_side_leaves_order()
+    ensures { (v w : List Track) (s : DeviceStore) (h : Held) (held : Bool) → IsInOrder v w s h → IsInOrder v w (record s { held = held }) h }
 {}
 
 /// The loss of a side.
