@@ -110,7 +110,8 @@ module _ {F P H R : Type 0} (c : Contents F P H R) (faithful : IsFaithful c) (n 
       (λ y b. LookedAt s y b)
   look_if chain first t s true is same lt w none = always_done (record { keeps = still s w; on = tt })
   look_if chain first t s false is same lt w none =
-      always_then (image_keeps_good c faithful s (usage_of chain) t (subst (Reaches (usage_of chain)) (sym same) (within.reaches chain is)) lt w) (λ z a f. by_image chain first t s z a is lt none f)
+      always_then (image_keeps_good c faithful s (usage_of chain) t (subst (Reaches (usage_of chain)) (sym same) (within.reaches chain is)) lt w)
+      (λ z a f. by_image chain first t s z a is lt none f)
 
   pub look_keeps_good : (chain : ChainState) (first t : ℕ) (s : Store F P H) → Within chain → tracks_of s ≡ n → t < tracks_of s → IsWell c s → s.half ≡ None →
       Always (look c chain first t s) (λ y b. LookedAt s y b)

@@ -1,5 +1,31 @@
 -- What a command is to do is on its device; so a running chain is on it, also where a command begins.
-use Rattle.std.proofs.Common.{◌≡◌, ◌<◌, ◌≤◌, ◌+◌, ◌*◌, ◌/◌, ◌%◌, ◌&&◌, ◌||◌, ◌==◌, ℕ, Bool, true, false, List, length, Option, Some, None, Result, Ok, Err, refl, subst, arith}
+use Rattle.std.proofs.Common.{
+  ◌≡◌,
+  ◌<◌,
+  ◌≤◌,
+  ◌+◌,
+  ◌*◌,
+  ◌/◌,
+  ◌%◌,
+  ◌&&◌,
+  ◌||◌,
+  ◌==◌,
+  ℕ,
+  Bool,
+  true,
+  false,
+  List,
+  length,
+  Option,
+  Some,
+  None,
+  Result,
+  Ok,
+  Err,
+  refl,
+  subst,
+  arith,
+}
 use Rattle.std.specs.Prelude.{if◌then◌else◌, nat_lt, nat_le, not, slice_index}
 use Rattle.std.specs.Int.RustNames.{bit_and}
 use Rattle.std.proofs.lemmas.Bool.Decides.{nat_tests}
@@ -42,7 +68,19 @@ use Rattle.ckd_rules.specs.declared.opening.Opening.TheVariants as openings
 use Rattle.ckd_rules.specs.declared.order.Order.{Order}
 use Rattle.ckd_rules.specs.declared.order.Order.TheVariants.{Nothing, Seeks, Recalibrates, SetsSector, SetsMask, Defines, Locates}
 use Rattle.ckd_rules.specs.declared.stance.Stance.{Stance}
-use Rattle.ckd_rules.specs.Checks.{is_in_sequence, seeks, has_own_number, defines, locates, control_order, decoded, masked_order, permitted_order, order_by, order_of}
+use Rattle.ckd_rules.specs.Checks.{
+  is_in_sequence,
+  seeks,
+  has_own_number,
+  defines,
+  locates,
+  control_order,
+  decoded,
+  masked_order,
+  permitted_order,
+  order_by,
+  order_of,
+}
 use Rattle.ckd_rules.specs.Facts.{HasRoom, Stands, IsSought, IsOrder, Opens}
 use Rattle.ckd_rules.specs.Opening.{begun, opened_by}
 use Rattle.ckd_rules.specs.Stance.{first_stance}
@@ -180,8 +218,10 @@ module _ (f : Fixed) (s : Stance) (on : s.track < f.cylinders * 15) where
 
   control_on : (bytes : List ℕ) (c : Control) (o : Order) → control_order f s bytes c ≡ Some o → IsOrder n o
   control_on bytes controls.NoOperation o is = subst (IsOrder n) (some_is Nothing o is) tt
-  control_on bytes controls.Seek o is = seeks_on n (seek_to f.cylinders bytes) o (λ t e. sought_if f.cylinders (cchh_at bytes 2) (number_at bytes 0 == 0) t e) is
-  control_on bytes controls.SeekCylinder o is = seeks_on n (seek_to f.cylinders bytes) o (λ t e. sought_if f.cylinders (cchh_at bytes 2) (number_at bytes 0 == 0) t e) is
+  control_on bytes controls.Seek o is =
+      seeks_on n (seek_to f.cylinders bytes) o (λ t e. sought_if f.cylinders (cchh_at bytes 2) (number_at bytes 0 == 0) t e) is
+  control_on bytes controls.SeekCylinder o is =
+      seeks_on n (seek_to f.cylinders bytes) o (λ t e. sought_if f.cylinders (cchh_at bytes 2) (number_at bytes 0 == 0) t e) is
   control_on bytes controls.SeekHead o is =
       seeks_on n (head_to s.track bytes) o (λ t e. head_on f.cylinders s.track (number_at bytes 4) t _ _ on refl e) is
   control_on bytes controls.Recalibrate o is = subst (IsOrder n) (some_is Recalibrates o is) tt
@@ -251,7 +291,11 @@ module _ (chain : ChainState) (is : IsChain chain) where
   pub chain_stands : IsWithin (chain.fixed.cylinders * 15) chain
   chain_stands =
       let on = stood chain.stage in
-      record { needs = λ t e. need_below (chain.fixed.cylinders * 15) (opened chain) (stage_of chain) t on.track e; used = is.stands.extent; extent = on.extent }
+      record {
+        needs = λ t e. need_below (chain.fixed.cylinders * 15) (opened chain) (stage_of chain) t on.track e;
+        used = is.stands.extent;
+        extent = on.extent;
+      }
 
 -- so it is where it is begun
 pub chain_begins : (ccws : List Ccw) (f : Fixed) → 1 ≤ f.cylinders → f.cylinders ≤ 64 → length ccws ≤ 256 → IsChain (begun_chain ccws f)

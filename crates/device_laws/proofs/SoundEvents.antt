@@ -30,7 +30,8 @@ module _ {F P H R : Type 0} (c : Contents F P H R) where
   unfolding M.track_at
   kept_now s kept q e = by_half s q s.half kept e
 
-  pub between_is_well : (s : Store F P H) → IsBetween s → is_some s.lent ≡ false → AreBelow (tracks_of s) s.queue → ((q : ℕ) → q < tracks_of s → has_sound_marks c s q ≡ true) →
+  pub between_is_well : (s : Store F P H) → IsBetween s → is_some s.lent ≡ false → AreBelow (tracks_of s) s.queue →
+      ((q : ℕ) → q < tracks_of s → has_sound_marks c s q ≡ true) →
       ((h : HalfWrite H) → s.half ≡ Some h → is_lost s h.track ≡ false) → IsWell c s
   between_is_well s between free queued sound kept = record {
     sizes = between.sizes;

@@ -13,12 +13,10 @@ use Rattle.std.proofs.Common.{
   false,
   List,
   [],
-  ◌∷◌,
   Option,
   Some,
   None,
   is_some,
-  length,
   refl,
   sym,
   ap,
@@ -30,10 +28,9 @@ use Rattle.std.proofs.Common.{
   inr,
 }
 use Rattle.std.proofs.lemmas.Bool.{cases_eq}
-use Rattle.std.specs.Prelude.{if◌then◌else◌, option_map}
+use Rattle.std.specs.Prelude.{if◌then◌else◌}
 use Rattle.ckd_types.specs.declared.geometry.Geometry.{Geometry}
 use Rattle.ckd_types.specs.declared.record.Track.{Track}
-use Rattle.ckd_types.specs.Volume.{track_in}
 use Rattle.loss_model.specs.declared.Loss.TheVariants as losses
 use Rattle.track_image.specs.Image.{Image}
 use Rattle.track_cache.specs.declared.frames.Frame.{Frame}
@@ -42,11 +39,11 @@ use Rattle.plain_defs.specs.declared.journal.Act.TheVariants.{CfwLost}
 use Rattle.device_defs.specs.declared.owed.Owed.{Owed}
 use Rattle.device_defs.specs.Between.{HasSizes}
 use Rattle.device_defs.specs.Contents.{contents, by_plain}
-use Rattle.device_defs.specs.Effects.{acted, gone_back, loose_lost}
+use Rattle.device_defs.specs.Effects.{acted, gone_back}
 use Rattle.device_defs.specs.Events.{with_loss, losing}
 use Rattle.device_defs.specs.Losses as L
 use Rattle.device_defs.specs.Losses.{over, without_frame, settled, cache_lost}
-use Rattle.device_defs.specs.Marks.{MarksStore, marks_of, frame_mark, owed_mark}
+use Rattle.device_defs.specs.Marks.{MarksStore, marks_of, owed_mark}
 use Rattle.device_defs.specs.Sound.{DeviceStore, written_on}
 use Rattle.device_defs.specs.Store.{
   Origin,
@@ -67,7 +64,6 @@ use Rattle.device_defs.specs.Store.{
 use Rattle.device_laws.specs.Agrees.{Held, image_in, slot_at}
 use Rattle.device_laws.specs.InOrder.{plain_lost}
 use Rattle.device_laws.specs.Twin.{Twins}
-use Rattle.device_laws.proofs.CacheLost as O
 use Rattle.device_laws.proofs.CacheLost.{none_below, begun_sizes, begun_tracks}
 use Rattle.device_laws.proofs.ContentChanges as C
 use Rattle.device_laws.proofs.ContentChanges.{
@@ -108,12 +104,12 @@ use Rattle.device_laws.proofs.TrackContents.{
   own_writes,
 }
 use Rattle.device_laws.proofs.TrackMarks.{device_is_faithful}
-use Rattle.device_laws.proofs.TwinAsks.{InOrder, Ordered}
-use Rattle.device_laws.proofs.TwinChanges.{frame_twin, owed_twin, with_frame_twin, with_owed_twin, has_frame_twin}
+use Rattle.device_laws.proofs.TwinAsks.{InOrder}
+use Rattle.device_laws.proofs.TwinChanges.{owed_twin, with_frame_twin, with_owed_twin, has_frame_twin}
 use Rattle.device_laws.proofs.TwinFailed.{told_twin}
 use Rattle.device_laws.proofs.TwinLosses.{Loses, counted_loss}
 use Rattle.device_laws.proofs.TwinSettled.{AllTold, told_altered, told_off, told_debts, SettlesOff, Settles, settled_off, settled_told_off}
-use Rattle.device_laws.proofs.TwinWalks.{Pair, pair_is, pair_if, pair_on, pair_weaker, twin_weaker}
+use Rattle.device_laws.proofs.TwinWalks.{Pair, pair_is, pair_on, pair_weaker, twin_weaker}
 
 -- A track without its frame
 
@@ -413,7 +409,8 @@ cache_loss_twin v w s h o =
     let z = cache_lost contents y in
     let d = begun_with (has_loose y) y in
     let u = plain_lost s v w in
-    let le : tracks_of z ≤ tracks_of s = let k = same_tracks d h z h x.is.base in let m = begun_tracks contents device_is_faithful y (has_loose y) in omega arith in
+    let le : tracks_of z ≤ tracks_of s =
+    let k = same_tracks d h z h x.is.base in let m = begun_tracks contents device_is_faithful y (has_loose y) in omega arith in
     subst (λ (m : MarksStore). Twins (λ v' w' a _ _ k. Loses u v' w' a k) (L.all_firm_told contents (tracks_of s) z) (L.all_firm_told by_plain
     (tracks_of s) m) h) x.marks
     (twin_weaker (told_twin None h u x.plain x.firm z d (tracks_of s) le (settles_by h u x.plain x.firm d (tracks_of s) z le x.is))

@@ -34,12 +34,12 @@ use Rattle.ckd_types.specs.Volume.{track_in}
 use Rattle.ckd_write.proofs.Fitting.{edited_fits}
 use Rattle.track_image.specs.Image.{Image}
 use Rattle.device_outside.specs.Both.{both_tell}
-use Rattle.device_outside.specs.Interaction.{Interaction, Done, Tell}
+use Rattle.device_outside.specs.Interaction.{Done, Tell}
 use Rattle.device_outside.specs.Keeper.{Firm}
 use Rattle.device_defs.specs.Contents.{contents, by_plain}
 use Rattle.device_defs.specs.Cutting.{origin_cut, half_cut}
 use Rattle.device_defs.specs.Effects.{with_edit}
-use Rattle.device_defs.specs.Marks.{MarksStore, marks_of, half_mark}
+use Rattle.device_defs.specs.Marks.{marks_of, half_mark}
 use Rattle.device_defs.specs.Second.{plainly_written}
 use Rattle.device_defs.specs.Sound.{DeviceStore, written_on}
 use Rattle.device_defs.specs.Store.{Origin, OfCommand, OfCut, OfBackground, HalfWrite, tracks_of, half_is}
@@ -47,7 +47,6 @@ use Rattle.device_laws.specs.Agrees.{Held, image_in, slot_at}
 use Rattle.device_laws.specs.InOrder.{plain_cut}
 use Rattle.device_laws.specs.PlainWrites.{SuitsTrack, OriginSuits, plain_second}
 use Rattle.device_laws.specs.Twin.{Twins}
-use Rattle.device_laws.proofs.ContentChanges as C
 use Rattle.device_laws.proofs.ContentChanges.{same_slots, RightBut, opens_write}
 use Rattle.device_laws.proofs.PlainVolumes.{put_here}
 use Rattle.device_laws.proofs.TrackContents as T
@@ -65,7 +64,7 @@ use Rattle.device_laws.proofs.TrackContents.{
   writes_own,
   own_writes,
 }
-use Rattle.device_laws.proofs.TwinAsks.{InOrder, Ordered}
+use Rattle.device_laws.proofs.TwinAsks.{InOrder}
 use Rattle.device_laws.proofs.TwinDone.{put_right}
 use Rattle.device_laws.proofs.TwinLosses.{Loses}
 use Rattle.device_laws.proofs.TwinSecond.{plainly_is}

@@ -220,7 +220,8 @@ module _ {F P H R : Type 0} (c : Contents F P H R) (faithful : IsFaithful c) whe
     level = f.level (ap is_some e);
   }
 
-  missed_by : (u : Usage) (t : ℕ) (s z : Store F P H) (g : Got R) (bytes : Option R) → g.bytes ≡ bytes → Reaches u (tracks_of s) → t < tracks_of s → is_loose s t ≡ false →
+  missed_by : (u : Usage) (t : ℕ) (s z : Store F P H) (g : Got R) (bytes : Option R) → g.bytes ≡ bytes → Reaches u (tracks_of s) →
+      t < tracks_of s → is_loose s t ≡ false →
       Reads c faithful t s z g → Always (missed c u t z g bytes) (λ y a. Looked t s y a)
   missed_by u t s z g None e reach lt firm f = always_done (record { goes = f.goes; there = λ e. absurd (cc) })
   missed_by u t s z g (Some r) e reach lt firm f = always_try (λ ok. had u t g.side s z (image_of c z t r) ok reach (ready t s z g r lt firm e f))
@@ -240,7 +241,8 @@ module _ {F P H R : Type 0} (c : Contents F P H R) (faithful : IsFaithful c) whe
   unfolding M.track_at
   loose_mark s t e = e
 
-  listed_by : (s : Store F P H) (u : Usage) (t : ℕ) (f : F) (listed : Bool) → Reaches u (tracks_of s) → t < tracks_of s → IsWell c s → (track_at c s t).frame ≡ Some false →
+  listed_by : (s : Store F P H) (u : Usage) (t : ℕ) (f : F) (listed : Bool) → Reaches u (tracks_of s) → t < tracks_of s →
+      IsWell c s → (track_at c s t).frame ≡ Some false →
       Always (if listed then hit c s t f else miss c (with_frame s t None) u t) (λ y a. Looked t s y a)
   listed_by s u t f true reach lt w clean =
       always_done (record { goes = stays c s w; there = λ e. framed_is_there (track_at c s t) (w.good t lt) (ap is_some clean) })
@@ -248,10 +250,12 @@ module _ {F P H R : Type 0} (c : Contents F P H R) (faithful : IsFaithful c) whe
       let g = dropped_goes s t lt w clean in
       let firm = g.firm t lt (clean_is_firm (track_at c s t) clean (w.good t lt)) in
       let same = g.tracks in
-      always_weaker (miss_keeps_good (with_frame s t None) u t (subst (Reaches u) (sym g.tracks) reach) (omega arith) g.well (loose_mark (with_frame s t None) t firm))
+      always_weaker (miss_keeps_good (with_frame s t None) u t (subst (Reaches u) (sym g.tracks) reach) (omega arith) g.well
+      (loose_mark (with_frame s t None) t firm))
       (λ z _ h. record { goes = goes_on c s (with_frame s t None) z g h.goes; there = h.there })
 
-  bypass_by : (s : Store F P H) (u : Usage) (t : ℕ) (f : F) (b : Bool) → Reaches u (tracks_of s) → t < tracks_of s → IsWell c s → (track_at c s t).frame ≡ Some false →
+  bypass_by : (s : Store F P H) (u : Usage) (t : ℕ) (f : F) (b : Bool) → Reaches u (tracks_of s) → t < tracks_of s →
+      IsWell c s → (track_at c s t).frame ≡ Some false →
       Always (if b then miss c s u t else Ask (Touch s.device t) (λ listed. if listed then hit c s t f else miss c (with_frame s t None) u t))
       (λ y a. Looked t s y a)
   bypass_by s u t f true reach lt w clean = miss_keeps_good s u t reach lt w (loose_mark s t (clean_is_firm (track_at c s t) clean (w.good t lt)))
@@ -261,7 +265,8 @@ module _ {F P H R : Type 0} (c : Contents F P H R) (faithful : IsFaithful c) whe
   unfolding M.track_at
   frame_is s t o e = ap (frame_mark c) e
 
-  modified_by : (s : Store F P H) (u : Usage) (t : ℕ) (f : F) (b : Bool) → c.modified f ≡ b → frame_at s t ≡ Some f → Reaches u (tracks_of s) → t < tracks_of s → IsWell c s →
+  modified_by : (s : Store F P H) (u : Usage) (t : ℕ) (f : F) (b : Bool) → c.modified f ≡ b → frame_at s t ≡ Some f → Reaches u (tracks_of s) →
+      t < tracks_of s → IsWell c s →
       Always (if b then hit c s t f else clean_image c s u t f) (λ y a. Looked t s y a)
   modified_by s u t f true m e reach lt w =
       always_done (record { goes = stays c s w; there = λ k. framed_is_there (track_at c s t) (w.good t lt) (ap is_some (frame_is s t (Some f) e)) })
@@ -274,6 +279,7 @@ module _ {F P H R : Type 0} (c : Contents F P H R) (faithful : IsFaithful c) whe
   by_frame s u t (Some f) e reach lt w = modified_by s u t f (c.modified f) refl e reach lt w
 
   -- the image of a track
-  pub image_keeps_good : (s : Store F P H) (u : Usage) (t : ℕ) → Reaches u (tracks_of s) → t < tracks_of s → IsWell c s → Always (image c s u t) (λ y a. Looked t s y a)
+  pub image_keeps_good : (s : Store F P H) (u : Usage) (t : ℕ) → Reaches u (tracks_of s) → t < tracks_of s → IsWell c s →
+      Always (image c s u t) (λ y a. Looked t s y a)
   unfolding I.image
   image_keeps_good s u t reach lt w = by_frame s u t (frame_at s t) refl reach lt w
