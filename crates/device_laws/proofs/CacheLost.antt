@@ -93,7 +93,7 @@ module _ {F P H R : Type 0} (c : Contents F P H R) (faithful : IsFaithful c) whe
   abbrev pub begun_by : Bool → Store F P H → Store F P H
   begun_by b s = record (if b then acted (gone_back s) CfwLost else s) { queue = [] }
 
-  begun_sizes : (s : Store F P H) (b : Bool) → HasSizes s → HasSizes (begun_by b s)
+  pub begun_sizes : (s : Store F P H) (b : Bool) → HasSizes s → HasSizes (begun_by b s)
   begun_sizes s true sizes =
       let all : length s.loose ≡ tracks_of s = cc (sizes.are) in
       record {
@@ -105,8 +105,8 @@ module _ {F P H R : Type 0} (c : Contents F P H R) (faithful : IsFaithful c) whe
 
   pub begun_here : (s : Store F P H) (b : Bool) → IsHere (rest_of s) → IsHere (rest_of (begun_by b s))
   unfolding C.rest_of
-  begun_here s true h = record { free = h.free; alone = h.alone; within = h.within }
-  begun_here s false h = record { free = h.free; alone = h.alone; within = h.within }
+  begun_here s true h = record { free = h.free; alone = h.alone; within = h.within; queued = tt }
+  begun_here s false h = record { free = h.free; alone = h.alone; within = h.within; queued = tt }
 
   pub begun_tracks : (s : Store F P H) (b : Bool) → tracks_of (begun_by b s) ≡ tracks_of s
   begun_tracks s true = refl

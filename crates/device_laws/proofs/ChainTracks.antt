@@ -32,17 +32,10 @@ use Rattle.ckd_chain.specs.declared.mark.Stage.{Stage}
 use Rattle.ckd_chain.specs.declared.mark.Stage.TheVariants as stages
 use Rattle.ckd_chain.specs.declared.progress.Progress.TheVariants as progresses
 use Rattle.ckd_chain.specs.State.{ChainState}
-use Rattle.ckd_chain.specs.Steps.{opened_by, opened, stage_by, stage_of, need_of, needed, standing, stepped_by, turned_by, word_of}
+use Rattle.ckd_chain.specs.Steps.{last_by, opened_by, opened, stage_by, stage_of, need_of, needed, standing, stepped_by, turned_by, word_of}
 use Rattle.track_image.specs.Image.{Image}
-use Rattle.device_defs.specs.Command.{command}
-use Rattle.device_defs.specs.Contents.{Contents}
-use Rattle.device_defs.specs.Device.{Device}
-use Rattle.device_defs.specs.Store.{tracks_of}
-use Rattle.device_laws.proofs.Always.{Always}
-use Rattle.device_laws.proofs.Commands.{Stays, command_keeps_good}
-use Rattle.device_laws.proofs.Done.{Keeps}
-use Rattle.device_laws.proofs.FailedCall.{IsWell}
-use Rattle.device_laws.proofs.TrackMarks.{IsFaithful}
+use Rattle.device_laws.specs.Standing.{IsWithin}
+use Rattle.device_laws.proofs.Commands.{Stays}
 
 abbrev FurtherBy : ℕ → Stance → Stance → Turned → Type 0
 FurtherBy n s z (turns.Ended e) = Unit {0}
@@ -135,11 +128,6 @@ module _ (n : ℕ) (s : Stance) (whole : n % 15 ≡ 0) (on : s.track < n) (withi
   look_further g t c (looks.Reads r) = read_further t r.area c _ (found_on r.multitrack _ _)
   look_further g t c (looks.Writes w) = write_further g t c w
 
--- a chain that is on a track of the device where it looks at one, with an extent on the device
-pub record IsWithin (n : ℕ) (chain : ChainState) : Type 0 where
-  pub needs : (t : ℕ) → need_of chain ≡ Some t → t < n
-  pub extent : IfSome (opened chain).at.stance.extent (λ e. e.last < n)
-
 begun_stage : (chain : ChainState) (o : Option Stage) → chain.stage ≡ o → (opened_by chain o).stage ≡ Some (stage_by chain o)
 begun_stage chain None e = refl
 begun_stage chain (Some stage) e = e
@@ -161,6 +149,7 @@ module _ (n : ℕ) (whole : n % 15 ≡ 0) where
       let below = f.0 in (
         record {
           needs = λ t e. let there = need_at v look at in let here : z.track ≡ t = cc in omega arith;
+          used = last;
           extent = subst (λ (x : ChainState). IfSome x.at.stance.extent (λ e. e.last < n)) (sym (ap (opened_by v) at)) last;
         },
         omega arith,
@@ -178,20 +167,17 @@ module _ (n : ℕ) (whole : n % 15 ≡ 0) where
       let f = look_further n u.at.stance whole on w.extent i.geometry i.track (word_of u) look in
       by_turned u look l.stance l.turned q (begun_stage chain chain.stage refl ∙ ap (λ (x : Stage). Some x) at) w.extent f.on is
 
+  last_reaches : (o : Option Extent) → IfSome o (λ e. e.last < n) → IfSome (last_by o) (λ l. l < n)
+  last_reaches (Some e) lt = lt
+  last_reaches None lt = tt
+
   -- so each track that it comes to is one of the device's
   pub within_stays : Stays n (IsWithin n)
   within_stays = record {
     needs = λ chain t w e. w.needs t e;
     goes = λ chain i q w e. by_stage chain i (stage_of chain) q refl w e;
+    reaches = λ chain w. last_reaches chain.at.stance.extent w.used;
   }
 
-whole_cylinders : (k : ℕ) → (k * 15) % 15 ≡ 0
+pub whole_cylinders : (k : ℕ) → (k * 15) % 15 ≡ 0
 whole_cylinders k = grind arith
-
--- so a command of the running program keeps good marks good, while no half write is open
-pub running_command_keeps_good : {F P H R : Type 0} (c : Contents F P H R) (faithful : IsFaithful c) (d : Device F P H) →
-    ((chain : ChainState) → d.chain ≡ Some chain → IsWithin (tracks_of d.store) chain) → IsWell c d.store → d.store.half ≡ None →
-    Always (command c d) (λ y _. Keeps c faithful d.store y.store)
-running_command_keeps_good c faithful d within w none =
-    let n = tracks_of d.store in
-    command_keeps_good c faithful n (IsWithin n) (within_stays n (whole_cylinders d.store.cylinders)) d within refl w none

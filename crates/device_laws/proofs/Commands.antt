@@ -45,13 +45,14 @@ use Rattle.device_laws.proofs.FailedCall.{IsWell, Goes, stays}
 use Rattle.device_laws.proofs.Through.{write_keeps_good}
 use Rattle.device_laws.proofs.TrackMarks.{IsFaithful, track_at}
 use Rattle.device_laws.proofs.WholeEvents.{turned_same, event_keeps}
-use Rattle.device_laws.proofs.WholeImage.{Looked, image_keeps_good}
+use Rattle.device_laws.proofs.WholeImage.{Reaches, Looked, image_keeps_good}
 
 -- each track that such a chain comes to is one of the first n
 pub record Stays (n : ℕ) (Within : ChainState → Type 0) : Type 0 where
   pub needs : (chain : ChainState) (t : ℕ) → Within chain → need_of chain ≡ Some t → t < n
   pub goes : (chain : ChainState) (i : Image) (q : ℕ) → Within chain → (stepped chain (Some i)).progress ≡ progresses.Need q →
       Within (stepped chain (Some i)).chain × (q < n)
+  pub reaches : (chain : ChainState) → Within chain → Reaches (usage_of chain) n
 
 module _ {F P H R : Type 0} (c : Contents F P H R) (faithful : IsFaithful c) (n : ℕ) (Within : ChainState → Type 0) (within : Stays n Within) where
   abbrev pub GoesOn : Store F P H → Option Went → Type 0
@@ -104,17 +105,18 @@ module _ {F P H R : Type 0} (c : Contents F P H R) (faithful : IsFaithful c) (n 
   by_image chain first t s z (Some (NoBytes fault)) is lt none f = always_done (record { keeps = goes_keeps c faithful s z f.goes; on = tt })
   by_image chain first t s z (Some (BadTrack side)) is lt none f = always_done (record { keeps = goes_keeps c faithful s z f.goes; on = tt })
 
-  look_if : (chain : ChainState) (first t : ℕ) (s : Store F P H) (b : Bool) → Within chain → t < tracks_of s → IsWell c s → s.half ≡ None →
+  look_if : (chain : ChainState) (first t : ℕ) (s : Store F P H) (b : Bool) → Within chain → tracks_of s ≡ n → t < tracks_of s → IsWell c s → s.half ≡ None →
       Always (if b then Done s (Some (Over (checks chain Equipment))) else and_had (image c s (usage_of chain) t) (looked c chain first t))
       (λ y b. LookedAt s y b)
-  look_if chain first t s true is lt w none = always_done (record { keeps = still s w; on = tt })
-  look_if chain first t s false is lt w none =
-      always_then (image_keeps_good c faithful s (usage_of chain) t lt w) (λ z a f. by_image chain first t s z a is lt none f)
+  look_if chain first t s true is same lt w none = always_done (record { keeps = still s w; on = tt })
+  look_if chain first t s false is same lt w none =
+      always_then (image_keeps_good c faithful s (usage_of chain) t (subst (Reaches (usage_of chain)) (sym same) (within.reaches chain is)) lt w)
+      (λ z a f. by_image chain first t s z a is lt none f)
 
-  pub look_keeps_good : (chain : ChainState) (first t : ℕ) (s : Store F P H) → Within chain → t < tracks_of s → IsWell c s → s.half ≡ None →
+  pub look_keeps_good : (chain : ChainState) (first t : ℕ) (s : Store F P H) → Within chain → tracks_of s ≡ n → t < tracks_of s → IsWell c s → s.half ≡ None →
       Always (look c chain first t s) (λ y b. LookedAt s y b)
   unfolding N.look
-  look_keeps_good chain first t s is lt w none = look_if chain first t s (is_lost s t) is lt w none
+  look_keeps_good chain first t s is same lt w none = look_if chain first t s (is_lost s t) is same lt w none
 
   abbrev Following : ℕ → ℕ → Type 0
   Following k first =
@@ -133,7 +135,7 @@ module _ {F P H R : Type 0} (c : Contents F P H R) (faithful : IsFaithful c) (n 
   unfolding N.follow
   follow_keeps_good zero first chain t s is same lt w none = always_done (still s w)
   follow_keeps_good (suc k) first chain t s is same lt w none =
-      always_then (look_keeps_good chain first t s is (omega arith) w none) (λ z a f. by_went k first s z a (follow_keeps_good k first) same f)
+      always_then (look_keeps_good chain first t s is same (omega arith) w none) (λ z a f. by_went k first s z a (follow_keeps_good k first) same f)
 
   -- The whole command
 

@@ -337,10 +337,17 @@ sits_still v w s h t x lt g loose patch = record {
 
 -- Right
 
--- all tracks are right but the one that is being written
-pub record RightBut (writing : Option ℕ) (v w : List Track) (s : DeviceStore) (h : Held) : Type 0 where
+-- all tracks are right but those that are exempt
+pub record RightOff (exempt : ℕ → Type 0) (v w : List Track) (s : DeviceStore) (h : Held) : Type 0 where
   pub ground : IsGround v w s h
-  pub right : (q : ℕ) → q < tracks_of s → writing ≢ Some q → IsRight s.geometry q s.half (contents_at s h q) (image_in s v q) (image_in s w q)
+  pub right : (q : ℕ) → q < tracks_of s → (exempt q → ⊥) → IsRight s.geometry q s.half (contents_at s h q) (image_in s v q) (image_in s w q)
+
+-- the one that is being written
+abbrev pub Being : Option ℕ → ℕ → Type 0
+Being writing q = writing ≡ Some q
+
+abbrev pub RightBut : Option ℕ → List Track → List Track → DeviceStore → Held → Type 0
+RightBut writing = RightOff (Being writing)
 
 abbrev pub Sure : List Track → List Track → DeviceStore → Held → Type 0
 Sure = RightBut None
@@ -351,21 +358,26 @@ agrees_sure v w s h a = record { ground = a.ground; right = λ q lt ne. held_is_
 pub sure_agrees : (v w : List Track) (s : DeviceStore) (h : Held) → Sure v w s h → Agrees v w s h
 sure_agrees v w s h a = record { ground = a.ground; held = λ q lt. right_is_held s h q (image_in s v q) (image_in s w q) (a.right q lt (λ e. absurd (cc))) }
 
-pub right_altered : (writing : Option ℕ) (v w : List Track) (s : DeviceStore) (h : Held) (z : DeviceStore) (k : Held) (t : ℕ) (x : TrackContents) →
-    RightBut writing v w s h → Altered s h z k t x → Sits v w s.half t x → HasSlots z k.slots →
-    (writing ≢ Some t → IsRight s.geometry t s.half x (image_in s v t) (image_in s w t)) → RightBut writing v w z k
-right_altered writing v w s h z k t x b e sits slots here = record {
+pub off_altered : (exempt : ℕ → Type 0) (v w : List Track) (s : DeviceStore) (h : Held) (z : DeviceStore) (k : Held) (t : ℕ) (x : TrackContents) →
+    RightOff exempt v w s h → Altered s h z k t x → Sits v w s.half t x → HasSlots z k.slots →
+    ((exempt t → ⊥) → IsRight s.geometry t s.half x (image_in s v t) (image_in s w t)) → RightOff exempt v w z k
+off_altered exempt v w s h z k t x b e sits slots here = record {
   ground = ground_altered v w s h z k t x b.ground e sits slots;
   right = λ q lt ne. go q (let same = same_tracks s h z k e.base in omega arith) ne (cases_eq q t);
 }
   where
-    go : (q : ℕ) → q < tracks_of s → writing ≢ Some q → ((q ≡ t) ⊎ (q ≢ t)) →
+    go : (q : ℕ) → q < tracks_of s → (exempt q → ⊥) → ((q ≡ t) ⊎ (q ≢ t)) →
         IsRight z.geometry q z.half (contents_at z k q) (image_in z v q) (image_in z w q)
     go q lt ne (inl at) =
         subst (λ (p : ℕ). IsRight z.geometry p z.half (contents_at z k p) (image_in z v p) (image_in z w p)) (sym at)
-        (same_right s h z k e.base v w t x (contents_at z k t) e.here (here (λ f. ne (f ∙ ap Some (sym at)))))
+        (same_right s h z k e.base v w t x (contents_at z k t) e.here (here (λ f. ne (subst exempt (sym at) f))))
     go q lt ne (inr off) =
         same_right s h z k e.base v w q (contents_at s h q) (contents_at z k q) (e.elsewhere q off) (b.right q lt ne)
+
+pub right_altered : (writing : Option ℕ) (v w : List Track) (s : DeviceStore) (h : Held) (z : DeviceStore) (k : Held) (t : ℕ) (x : TrackContents) →
+    RightBut writing v w s h → Altered s h z k t x → Sits v w s.half t x → HasSlots z k.slots →
+    (writing ≢ Some t → IsRight s.geometry t s.half x (image_in s v t) (image_in s w t)) → RightBut writing v w z k
+right_altered writing = off_altered (Being writing)
 
 -- a change that is seen in no track
 pub unseen_right : (writing : Option ℕ) (v w : List Track) (s : DeviceStore) (h : Held) (z : DeviceStore) (k : Held) → RightBut writing v w s h →

@@ -90,7 +90,7 @@ module _ {F P H R : Type 0} (c : Contents F P H R) (faithful : IsFaithful c) whe
 
     now_here : t < tracks_of z → IsHere (rest_of z) → IsHere (rest_of now)
     unfolding C.rest_of
-    now_here lt h = record { free = h.free; alone = h.alone; within = λ k e. let is : k.track ≡ t = ap_track k e in omega arith }
+    now_here lt h = record { free = h.free; alone = h.alone; within = λ k e. let is : k.track ≡ t = ap_track k e in omega arith; queued = h.queued }
       where
         track_or : Option (HalfWrite H) → ℕ
         track_or None = 0

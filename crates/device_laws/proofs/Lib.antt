@@ -62,6 +62,10 @@ pub mod TwinSaving
 pub mod TwinCopies
 pub mod TwinWork
 pub mod TwinLosses
+pub mod TwinCacheLost
+pub mod TwinCuts
 pub mod TwinFollow
 pub mod TwinEvents
 pub mod TwinLaws
+pub mod NewDevices
+pub mod OrdersStand

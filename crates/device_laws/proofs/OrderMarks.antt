@@ -1,5 +1,6 @@
 -- The orders keep good marks good; a device that is lent keeps nothing, and is good again when it gets its empty volume.
 use Rattle.std.proofs.Common.{
+  ◌*◌,
   ◌≡◌,
   ◌<◌,
   ℕ,
@@ -37,6 +38,7 @@ use Rattle.device_defs.specs.Orders as D
 use Rattle.device_defs.specs.Orders.{with_tracks, join, split, restore, replace, hold, resume, lent_to, given_up, lend}
 use Rattle.device_defs.specs.Owed.{waiting_count}
 use Rattle.device_defs.specs.Store.{HalfWrite, Store, new_side, tracks_of, stale_at, level_at, has_level, side_of, half_is}
+use Rattle.device_laws.specs.InOrder.{AreBelow}
 use Rattle.device_laws.proofs.Always.{Always, always_done, always_then}
 use Rattle.device_laws.proofs.Changes as C
 use Rattle.device_laws.proofs.Changes.{Rest, Changed, rest_of, changed_twice, changed_unframed, changed_unpatched}
@@ -102,7 +104,7 @@ module _ {F P H R : Type 0} (c : Contents F P H R) (faithful : IsFaithful c) whe
       let s = d.store in
       let z = b_sizes s true w.sizes in
       same_marks s (join d).store (record { are = z.are })
-      (record { free = w.here.free; alone = λ e. absurd (cc); within = w.here.within }) refl
+      (record { free = w.here.free; alone = λ e. absurd (cc); within = w.here.within; queued = w.here.queued }) refl
       (λ q lt. ap (λ (v : Bool). record (track_at c s q) { level = v }) (b_level s q lt (is_alone s w.here single))) w
 
   -- a failed side is replaced
@@ -113,13 +115,13 @@ module _ {F P H R : Type 0} (c : Contents F P H R) (faithful : IsFaithful c) whe
       let s = d.store in
       let z = a_sizes s true w.sizes in
       same_marks s (replace d A).store (record { are = z.are })
-      (record { free = w.here.free; alone = w.here.alone; within = w.here.within }) refl
+      (record { free = w.here.free; alone = w.here.alone; within = w.here.within; queued = w.here.queued }) refl
       (λ q lt. ap (λ (v : Bool). record (track_at c s q) { level = v }) (a_level s q lt down)) w
   replace_keeps_good d B w down has =
       let s = d.store in
       let z = b_sizes s true w.sizes in
       same_marks s (replace d B).store (record { are = z.are })
-      (record { free = w.here.free; alone = λ e. absurd (let f = has refl in cc); within = w.here.within }) refl
+      (record { free = w.here.free; alone = λ e. absurd (let f = has refl in cc); within = w.here.within; queued = w.here.queued }) refl
       (λ q lt. ap (λ (v : Bool). record (track_at c s q) { level = v }) (b_level s q lt down)) w
 
   split_sizes : (s : Store F P H) → HasSizes s → HasSizes (record s { b = record { up = false; stale = replicate (tracks_of s) false } })
@@ -136,7 +138,7 @@ module _ {F P H R : Type 0} (c : Contents F P H R) (faithful : IsFaithful c) whe
       let s = d.store in
       let z = split_sizes s w.sizes in
       same_marks s (split d).store (record { are = z.are })
-      (record { free = w.here.free; alone = λ e. refl; within = w.here.within }) refl
+      (record { free = w.here.free; alone = λ e. refl; within = w.here.within; queued = w.here.queued }) refl
       (λ q lt. ap (λ (v : Bool). record (track_at c s q) { level = v })
       (split_level s q (level_at (split d).store.b q) up (level q lt))) w
 
@@ -144,13 +146,13 @@ module _ {F P H R : Type 0} (c : Contents F P H R) (faithful : IsFaithful c) whe
   unfolding M.track_at C.rest_of
   hold_keeps_good d w =
       same_marks d.store (hold d).store (record { are = w.sizes.are })
-      (record { free = w.here.free; alone = w.here.alone; within = w.here.within }) refl (λ q lt. refl) w
+      (record { free = w.here.free; alone = w.here.alone; within = w.here.within; queued = w.here.queued }) refl (λ q lt. refl) w
 
   pub resume_keeps_good : (d : Device F P H) → IsWell c d.store → Keeps c faithful d.store (resume d).store
   unfolding M.track_at C.rest_of
   resume_keeps_good d w =
       same_marks d.store (resume d).store (record { are = w.sizes.are })
-      (record { free = w.here.free; alone = w.here.alone; within = w.here.within }) refl (λ q lt. refl) w
+      (record { free = w.here.free; alone = w.here.alone; within = w.here.within; queued = w.here.queued }) refl (λ q lt. refl) w
 
   -- A device that is lent
 
@@ -160,6 +162,7 @@ module _ {F P H R : Type 0} (c : Contents F P H R) (faithful : IsFaithful c) whe
     pub single : s.paired ≡ false
     pub other : s.b.up ≡ false
     pub none : s.half ≡ None
+    pub queued : AreBelow (tracks_of s) s.queue
     pub frame : (q : ℕ) → q < tracks_of s → (track_at c s q).frame ≡ None
     pub patched : (q : ℕ) → q < tracks_of s → (track_at c s q).patched ≡ false
     pub lost : (q : ℕ) → q < tracks_of s → (track_at c s q).lost ≡ false
@@ -172,6 +175,7 @@ module _ {F P H R : Type 0} (c : Contents F P H R) (faithful : IsFaithful c) whe
     single = away.single;
     other = sides.alone away.single;
     none = away.half;
+    queued = subst (λ (l : List ℕ). AreBelow (tracks_of s) l) (sym away.queue) tt;
     frame = λ q lt. ap (λ (l : List (Option F)). frame_mark c (get_or l q None)) away.frames ∙ ap (frame_mark c) (empty_places (tracks_of s) q None);
     patched = λ q lt. ap (λ (l : List (Option P)). is_some (get_or l q None)) away.patches ∙ ap is_some (empty_places (tracks_of s) q None);
     lost = λ q lt. ap (λ (l : List Bool). get_or l q false) away.lost ∙ empty_places (tracks_of s) q false;
@@ -213,7 +217,7 @@ module _ {F P H R : Type 0} (c : Contents F P H R) (faithful : IsFaithful c) whe
       record {
         well = record {
           sizes = record { are = z.are };
-          here = record { free = refl; alone = λ e. g.other; within = λ h e. absurd (let f = g.none in cc) };
+          here = record { free = refl; alone = λ e. g.other; within = λ h e. absurd (let f = g.none in cc); queued = g.queued };
           good = λ q lt. restored_marks (track_at c s q) _ _ (g.frame q lt) (g.patched q lt) (g.lost q lt) (gone_half s q g.none)
               (empty_places (tracks_of s) q false) (given_level (tracks_of s) q (level_at s.b q));
           kept = λ q lt h. g.lost q lt;
@@ -256,6 +260,10 @@ module _ {F P H R : Type 0} (c : Contents F P H R) (faithful : IsFaithful c) whe
   unfolding C.rest_of
   paired_same s z e = ap (λ (r : Rest H). r.paired) e
 
+  same_queue : (s z : Store F P H) → rest_of z ≡ rest_of s → AreBelow (tracks_of s) s.queue → AreBelow (tracks_of z) z.queue
+  unfolding C.rest_of
+  same_queue s z e below = subst (λ (r : Rest H). AreBelow (r.cylinders * 15) r.queue) (sym e) below
+
   lent_gone : (s z : Store F P H) (to : ℕ) → Swept c bare s z (tracks_of s) → IsHere (rest_of s) → s.paired ≡ false → s.half ≡ None → IsGone (lent_to z to)
   unfolding M.track_at
   lent_gone s z to e here single none =
@@ -266,6 +274,7 @@ module _ {F P H R : Type 0} (c : Contents F P H R) (faithful : IsFaithful c) whe
         single = paired_same s z e.rest ∙ single;
         other = up_b_same s z e.rest ∙ is_alone s here single;
         none = same_half s z e.rest ∙ none;
+        queued = tt;
         frame = λ q lt. ap (λ (x : TrackMarks). x.frame) (e.changed q (omega arith));
         patched = λ q lt. ap (λ (x : TrackMarks). x.patched) (e.changed q (omega arith));
         lost = λ q lt. empty_places (tracks_of z) q false;
@@ -279,6 +288,7 @@ module _ {F P H R : Type 0} (c : Contents F P H R) (faithful : IsFaithful c) whe
         single = paired_same s z e.rest ∙ g.single;
         other = up_b_same s z e.rest ∙ g.other;
         none = same_half s z e.rest ∙ g.none;
+        queued = same_queue s z e.rest g.queued;
         frame = λ q lt. ap (λ (x : TrackMarks). x.frame) (e.marks q) ∙ g.frame q (omega arith);
         patched = λ q lt. ap (λ (x : TrackMarks). x.patched) (e.marks q) ∙ g.patched q (omega arith);
         lost = λ q lt. ap (λ (x : TrackMarks). x.lost) (e.marks q) ∙ g.lost q (omega arith);

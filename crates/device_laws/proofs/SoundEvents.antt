@@ -7,6 +7,7 @@ use Rattle.device_defs.specs.Sound.{has_sound_marks}
 use Rattle.device_defs.specs.Start as S
 use Rattle.device_defs.specs.Start.{start}
 use Rattle.device_defs.specs.Store.{HalfWrite, Store, tracks_of, has_level, is_lost, half_is}
+use Rattle.device_laws.specs.InOrder.{AreBelow}
 use Rattle.device_laws.proofs.Done.{Keeps}
 use Rattle.device_laws.proofs.FailedCall.{IsKept, IsWell}
 use Rattle.device_laws.proofs.Soundness.{good_is_sound, good_is_nowhere, sound_is_good, is_here}
@@ -29,11 +30,12 @@ module _ {F P H R : Type 0} (c : Contents F P H R) where
   unfolding M.track_at
   kept_now s kept q e = by_half s q s.half kept e
 
-  pub between_is_well : (s : Store F P H) → IsBetween s → is_some s.lent ≡ false → ((q : ℕ) → q < tracks_of s → has_sound_marks c s q ≡ true) →
+  pub between_is_well : (s : Store F P H) → IsBetween s → is_some s.lent ≡ false → AreBelow (tracks_of s) s.queue →
+      ((q : ℕ) → q < tracks_of s → has_sound_marks c s q ≡ true) →
       ((h : HalfWrite H) → s.half ≡ Some h → is_lost s h.track ≡ false) → IsWell c s
-  between_is_well s between free sound kept = record {
+  between_is_well s between free queued sound kept = record {
     sizes = between.sizes;
-    here = is_here c s between free;
+    here = is_here c s between free queued;
     good = λ q lt. sound_is_good c s q (sound q lt) (between.nowhere q);
     kept = λ q lt. kept_now s kept q;
   }

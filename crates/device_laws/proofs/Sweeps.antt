@@ -6,15 +6,17 @@ use Rattle.device_defs.specs.Contents.{Contents}
 use Rattle.device_defs.specs.Losses as L
 use Rattle.device_defs.specs.Losses.{over}
 use Rattle.device_defs.specs.Store.{HalfWrite, Store, tracks_of}
+use Rattle.device_laws.specs.InOrder.{AreBelow}
 use Rattle.device_laws.proofs.Changes as C
 use Rattle.device_laws.proofs.Changes.{Rest, rest_of, Changed}
 use Rattle.device_laws.proofs.TrackMarks.{TrackMarks, track_at}
 
--- a device that isn't lent, has no side B where it is alone, and an open half write of one of its tracks
+-- a device that isn't lent, has no side B where it is alone, and an open half write and a queue of tracks of its own
 pub record IsHere {H : Type 0} (r : Rest H) : Type 0 where
   pub free : is_some r.lent ≡ false
   pub alone : r.paired ≡ false → r.up_b ≡ false
   pub within : (h : HalfWrite H) → r.half ≡ Some h → h.track < r.cylinders * 15
+  pub queued : AreBelow (r.cylinders * 15) r.queue
 
 pub is_free : {F P H : Type 0} (s : Store F P H) → IsHere (rest_of s) → is_some s.lent ≡ false
 unfolding C.rest_of
@@ -31,6 +33,10 @@ same_half {F} {P} {H} s z e = ap (λ (r : Rest H). r.half) e
 pub half_within : {F P H : Type 0} (s : Store F P H) → IsHere (rest_of s) → (h : HalfWrite H) → s.half ≡ Some h → h.track < tracks_of s
 unfolding C.rest_of
 half_within s i h e = i.within h e
+
+pub all_queued : {F P H : Type 0} (s : Store F P H) → IsHere (rest_of s) → AreBelow (tracks_of s) s.queue
+unfolding C.rest_of
+all_queued s h = h.queued
 
 pub same_tracks : {F P H : Type 0} (s z : Store F P H) → rest_of z ≡ rest_of s → tracks_of z ≡ tracks_of s
 unfolding C.rest_of

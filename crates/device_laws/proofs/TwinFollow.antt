@@ -42,7 +42,7 @@ use Rattle.device_laws.proofs.TwinLooks.{image_twin}
 use Rattle.device_laws.proofs.TwinThrough.{none_off}
 use Rattle.device_laws.proofs.TwinWalks.{twin_done, twin_then, twin_always, twin_weaker}
 use Rattle.device_laws.proofs.TwinWrite.{write_twin}
-use Rattle.device_laws.proofs.WholeImage.{has_image, image_keeps_good}
+use Rattle.device_laws.proofs.WholeImage.{Reaches, has_image, image_keeps_good}
 
 module _ (m : ℕ) (g : Geometry) (looks : ChainState → ℕ → Type 0) (feeds : Feeds m g looks) (u : List Track) where
   abbrev plain_image : ℕ → Image
@@ -92,7 +92,8 @@ module _ (m : ℕ) (g : Geometry) (looks : ChainState → ℕ → Type 0) (feeds
       (plain, (ap (λ (x : Fed). x.end) f, ap (λ (x : Fed). x.chain) f))
   wrote_as chain next t q e v Unwritten at same is p plain n answer = plain
 
-  module _ (s : DeviceStore) (chain : ChainState) (first t : ℕ) (at : looks chain t) (on : s.geometry ≡ g) (lt : t < tracks_of s) (none : s.half ≡ None) where
+  module _ (s : DeviceStore) (chain : ChainState) (first t : ℕ) (at : looks chain t) (on : s.geometry ≡ g) (all : tracks_of s ≡ m) (lt : t < tracks_of s)
+      (none : s.half ≡ None) where
     abbrev Ends : List Track → List Track → DeviceStore → Option Went → Option Went → Held → Type 0
     Ends v w z a b k = WentTwin s chain v w z a b k
 
@@ -209,7 +210,8 @@ module _ (m : ℕ) (g : Geometry) (looks : ChainState → ℕ → Type 0) (feeds
         (λ _. checked u w s h chain Equipment (record { sure = o.sure; told = o.told }) refl refl)
         (λ there. twin_then (had_by (looked contents chain first t)) (had_by (looked by_plain chain first t))
         (twin_always (image_twin u w s h (usage_of chain) t lt there (none_off s.half t none) o)
-        (image_keeps_good contents device_is_faithful s (usage_of chain) t lt o.well))
+        (image_keeps_good contents device_is_faithful s (usage_of chain) t
+        (subst (Reaches (usage_of chain)) (sym all) (feeds.reaches chain t at)) lt o.well))
         (λ v' w' z a b k f.
         looked_by v' w' z k a b f.0.order f.1.goes.well f.0.same f.0.stays.geometry f.0.plain (let same = f.0.stays.cylinders in omega arith)
         (f.0.stays.half ∙ none)
@@ -235,6 +237,7 @@ module _ (m : ℕ) (g : Geometry) (looks : ChainState → ℕ → Type 0) (feeds
     needs = λ chain q i e.
         let there = feeds.needs chain i.0 i.1 in let same : i.0 ≡ q = cc in subst (λ (t : ℕ). t < m) same (feeds.inside chain i.0 i.1);
     goes = λ chain i q x e. let next = feeds.goes chain x.0 i q x.1 e in ((q, next), feeds.inside (stepped chain (Some i)).chain q next);
+    reaches = λ chain i. feeds.reaches chain i.0 i.1;
   }
 
   abbrev Following : ℕ → ℕ → Type 0
@@ -272,8 +275,8 @@ module _ (m : ℕ) (g : Geometry) (looks : ChainState → ℕ → Type 0) (feeds
   follow_twin (suc n) first chain t s w h at same on none o =
       let lt : t < tracks_of s = let below = feeds.inside chain t at in omega arith in
       twin_then (had_by (goes_on contents (follow contents n first))) (had_by (goes_on by_plain (follow by_plain n first)))
-      (twin_always (look_twin s chain first t at on lt none w h o)
-      (look_keeps_good contents device_is_faithful m Within within chain first t s (t, at) lt o.well none))
+      (twin_always (look_twin s chain first t at on same lt none w h o)
+      (look_keeps_good contents device_is_faithful m Within within chain first t s (t, at) same lt o.well none))
       (λ v' w' z a b k f.
       subst (λ (x : Option Went). Twins (λ v2 w2 y c d l. FollowTwin s (suc n) chain v2 w2 y c d l) (had_by (goes_on contents (follow contents n first)) z a)
       (had_by (goes_on by_plain (follow by_plain n first)) (marks_of v' w' z) x) k) f.0.same

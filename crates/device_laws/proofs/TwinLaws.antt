@@ -1,5 +1,6 @@
 -- The laws of a device that tells what it holds: its parts leave it in order, and do on marks what they do on contents.
 use Rattle.std.proofs.Common.{◌≡◌, ◌<◌, ◌==◌, ℕ, Bool, true, false, List, Option, Some, None, refl, ap, subst, ◌∙◌, arith}
+use Rattle.std.specs.Prelude.{IfSome}
 use Rattle.ckd_chain.specs.State.{ChainState}
 use Rattle.ckd_types.specs.declared.geometry.Geometry.{Geometry}
 use Rattle.ckd_types.specs.declared.paths.Side.{Side}
@@ -11,6 +12,7 @@ use Rattle.device_defs.specs.declared.usage.Usage.{Usage}
 use Rattle.device_defs.specs.Background.{work}
 use Rattle.device_defs.specs.Command.{follow}
 use Rattle.device_defs.specs.Contents.{contents, by_plain}
+use Rattle.device_defs.specs.Cutting.{half_cut}
 use Rattle.device_defs.specs.Editing.{write}
 use Rattle.device_defs.specs.Events.{losing}
 use Rattle.device_defs.specs.Image.{image}
@@ -22,33 +24,37 @@ use Rattle.device_defs.specs.Sound.{DeviceStore}
 use Rattle.device_defs.specs.Store.{HalfWrite, tracks_of, is_lost, half_is}
 use Rattle.device_laws.specs.Agrees.{Held, image_in}
 use Rattle.device_laws.specs.Feeding.{Feeds, FollowIs}
-use Rattle.device_laws.specs.InOrder.{IsInOrder, StaysInOrder, ImageIs, WriteIs, SecondIs, QueueStands}
+use Rattle.device_laws.specs.InOrder.{IsInOrder, StaysInOrder, ImageIs, WriteIs, SecondIs, plain_lost, plain_cut}
 use Rattle.device_laws.specs.PlainWrites.{SuitsTrack, OriginSuits}
 use Rattle.device_laws.specs.Twin.{Twins}
 use Rattle.device_laws.proofs.Changes as C
-use Rattle.device_laws.proofs.ContentChanges.{agrees_sure, sure_agrees}
+use Rattle.device_laws.proofs.ContentChanges as D
+use Rattle.device_laws.proofs.ContentChanges.{agrees_sure, sure_agrees, unseen_right}
 use Rattle.device_laws.proofs.FailedCall.{IsWell, same_is_well, failed_call_keeps_good}
 use Rattle.loss_model.specs.declared.Loss.TheVariants as losses
 use Rattle.device_laws.proofs.LossEvents.{losing_goes}
 use Rattle.device_laws.proofs.Notices.{hearing_keeps_good, ending_changes_no_mark}
 use Rattle.device_laws.proofs.SecondPart.{second_part_keeps_good}
 use Rattle.device_laws.proofs.Soundness.{good_is_sound, good_is_nowhere, sound_is_good}
-use Rattle.device_laws.proofs.Sweeps.{is_free, is_alone, half_within}
+use Rattle.device_laws.proofs.Sweeps.{is_free, is_alone, half_within, all_queued}
 use Rattle.device_laws.proofs.Through.{write_keeps_good}
 use Rattle.device_laws.proofs.TrackContents as T
 use Rattle.device_laws.proofs.TrackContents.{contents_at}
 use Rattle.device_laws.proofs.TrackMarks as M
 use Rattle.device_laws.proofs.TrackMarks.{track_at, device_is_faithful}
 use Rattle.device_laws.proofs.TwinAsks.{InOrder, Ordered}
+use Rattle.device_laws.proofs.TwinCuts.{cut_by}
 use Rattle.device_laws.proofs.TwinEvents.{hear_twin, ended_twin}
 use Rattle.device_laws.proofs.TwinFailed.{failed_twin}
 use Rattle.device_laws.proofs.TwinFollow.{follow_order}
 use Rattle.device_laws.proofs.TwinLooks.{image_twin}
+use Rattle.device_laws.proofs.TwinCacheLost.{cache_loss_twin}
 use Rattle.device_laws.proofs.TwinLosses.{store_loss_twin, side_loss_twin}
 use Rattle.device_laws.proofs.TwinSecond.{second_part_twin}
 use Rattle.device_laws.proofs.TwinWalks.{twin_always, twin_weaker}
 use Rattle.device_laws.proofs.TwinWrite.{write_twin}
 use Rattle.device_laws.proofs.TwinWork.{work_twin}
+use Rattle.device_laws.proofs.WholeEvents.{cutting_keeps_good}
 use Rattle.device_laws.proofs.WholeImage.{image_keeps_good}
 use Rattle.device_laws.proofs.Working.{work_keeps_good}
 
@@ -62,7 +68,7 @@ module _ (v w : List Track) (s : DeviceStore) (h : Held) where
   unfolding M.track_at C.rest_of
   well i = record {
     sizes = i.agrees.ground.sizes;
-    here = record { free = i.free; alone = i.alone; within = i.within };
+    here = record { free = i.free; alone = i.alone; within = i.within; queued = i.queued };
     good = λ q lt. sound_is_good contents s q (i.marks q lt) (i.nowhere q lt);
     kept = λ q lt e. kept_by s q s.half i.there e;
   }
@@ -88,6 +94,7 @@ module _ (v w : List Track) (s : DeviceStore) (h : Held) where
     marks = λ t lt. good_is_sound contents s t (w'.good t lt);
     nowhere = λ t lt lost. good_is_nowhere contents s t (w'.good t lt) lost;
     within = half_within s w'.here;
+    queued = all_queued s w'.here;
     there = λ i e. kept_is i e w';
   }
 
@@ -111,11 +118,12 @@ failed_call_leaves_order v w s h side i =
       same = refl;
     })
 
-pub image_is_plain : (v w : List Track) (s : DeviceStore) (h : Held) (u : Usage) (t : ℕ) → IsInOrder v w s h → t < tracks_of s → is_lost s t ≡ false →
+pub image_is_plain : (v w : List Track) (s : DeviceStore) (h : Held) (u : Usage) (t : ℕ) → IsInOrder v w s h →
+    IfSome u.last (λ l. l < tracks_of s) → t < tracks_of s → is_lost s t ≡ false →
     half_is s.half t ≡ false → Twins (λ v' w' z a b k. ImageIs v s t v' w' z a b k) (image contents s u t) (image by_plain (marks_of v w s) u t) h
-image_is_plain v w s h u t i lt there off =
+image_is_plain v w s h u t i reach lt there off =
     let o = in_order v w s h i in
-    twin_weaker (twin_always (image_twin v w s h u t lt there off o) (image_keeps_good contents device_is_faithful s u t lt o.well))
+    twin_weaker (twin_always (image_twin v w s h u t lt there off o) (image_keeps_good contents device_is_faithful s u t reach lt o.well))
     (λ v' w' z a b k f. record {
       left = record { order = is_in_order v' w' z k f.0.order f.1.goes.well; plain = f.0.plain; same = f.0.same };
       image = f.0.image;
@@ -145,11 +153,11 @@ second_part_is_plain v w s h i order is suits =
     (λ v' w' z a b k f. record { order = is_in_order v' w' z k f.0.order f.1.well; plain = f.0.plain; same = f.0.same })
 
 -- while no half write is open
-pub work_is_plain : (v w : List Track) (s : DeviceStore) (h : Held) → IsInOrder v w s h → s.half ≡ None → QueueStands s →
+pub work_is_plain : (v w : List Track) (s : DeviceStore) (h : Held) → IsInOrder v w s h → s.half ≡ None →
     Twins (λ v' w' z a b k. StaysInOrder v v' w' z a b k) (work contents s) (work by_plain (marks_of v w s)) h
-work_is_plain v w s h i none stands =
+work_is_plain v w s h i none =
     let o = in_order v w s h i in
-    twin_weaker (twin_always (work_twin v w s h none o stands) (work_keeps_good contents device_is_faithful s o.well none))
+    twin_weaker (twin_always (work_twin v w s h none o) (work_keeps_good contents device_is_faithful s o.well none))
     (λ v' w' z a b k f. record { order = is_in_order v' w' z k f.0.order f.1.well; plain = f.0.plain; same = f.0.same })
 
 pub lost_store_leaves_order : (v w : List Track) (s : DeviceStore) (h : Held) → IsInOrder v w s h →
@@ -157,6 +165,15 @@ pub lost_store_leaves_order : (v w : List Track) (s : DeviceStore) (h : Held) �
 lost_store_leaves_order v w s h i =
     let o = in_order v w s h i in
     twin_weaker (twin_always (store_loss_twin v w s h o) (losing_goes contents device_is_faithful s losses.Store o.well))
+    (λ v' w' z a b k f. record { order = is_in_order v' w' z k f.0.order f.1.well; plain = f.0.plain; same = refl })
+
+-- with data of cache fast write they go, and the plain volume is the firm one
+pub lost_cache_leaves_order : (v w : List Track) (s : DeviceStore) (h : Held) → IsInOrder v w s h →
+    Twins (λ v' w' z a b k. StaysInOrder (plain_lost s v w) v' w' z a b k) (losing contents s losses.Cache)
+    (losing by_plain (marks_of v w s) losses.Cache) h
+lost_cache_leaves_order v w s h i =
+    let o = in_order v w s h i in
+    twin_weaker (twin_always (cache_loss_twin v w s h o) (losing_goes contents device_is_faithful s losses.Cache o.well))
     (λ v' w' z a b k f. record { order = is_in_order v' w' z k f.0.order f.1.well; plain = f.0.plain; same = refl })
 
 pub lost_side_leaves_order : (v w : List Track) (s : DeviceStore) (h : Held) (side : Side) → IsInOrder v w s h →
@@ -174,6 +191,42 @@ pub command_goes_as_fed : (tracks : ℕ) (g : Geometry) (looks : ChainState → 
 command_goes_as_fed tracks g looks v w s h n first t chain feeds at same on none i =
     twin_weaker (follow_order tracks g (λ c q. looks c q ≡ true) feeds v n first chain t s w h at same on none (in_order v w s h i))
     (λ v' w' z a b k f. record { order = is_in_order v' w' z k f.0.order f.1; same = f.0.same; came = f.0.came })
+
+-- side B is held, or not any more
+module _ (v w : List Track) (s : DeviceStore) (h : Held) (b : Bool) where
+  held_order : Ordered v w s h → Ordered v w (record s { held = b }) h
+  unfolding T.contents_at D.base_of
+  held_order o = record {
+    sure = unseen_right None v w s h (record s { held = b }) h o.sure
+        (record { sizes = record { are = o.sure.ground.sizes.are }; base = refl; same = λ q. refl; slots = refl });
+    told = o.told;
+  }
+
+  held_well : IsWell contents s → IsWell contents (record s { held = b })
+  unfolding M.track_at C.rest_of
+  held_well y = record {
+    sizes = record { are = y.sizes.are };
+    here = record { free = y.here.free; alone = y.here.alone; within = y.here.within; queued = y.here.queued };
+    good = y.good;
+    kept = y.kept;
+  }
+
+  pub held_side_leaves_order : IsInOrder v w s h → IsInOrder v w (record s { held = b }) h
+  held_side_leaves_order i =
+      let o = in_order v w s h i in
+      is_in_order v w (record s { held = b }) h (held_order (record { sure = o.sure; told = o.told })) (held_well o.well)
+
+-- what cuts a running program
+pub cut_leaves_order : (v w : List Track) (s : DeviceStore) (h : Held) → IsInOrder v w s h →
+    ((i : HalfWrite Image) → s.half ≡ Some i → OriginSuits s.geometry (track_in v i.track) i.origin) →
+    Twins (λ v' w' z a b k. StaysInOrder (plain_cut s.half v) v' w' z a b k) (half_cut contents s s.half)
+    (half_cut by_plain (marks_of v w s) (marks_of v w s).half) h
+cut_leaves_order v w s h i suits =
+    let o = in_order v w s h i in
+    twin_weaker
+    (twin_always (cut_by v w s h o s.half refl i.within (λ hw is. lost_there s h hw.track ∙ i.there hw is) suits)
+    (cutting_keeps_good contents device_is_faithful s o.well))
+    (λ v' w' z a b k f. record { order = is_in_order v' w' z k f.0.order f.1.well; plain = f.0.plain; same = refl })
 
 -- the notices that an event takes first
 pub notices_leave_order : (n : ℕ) (v w : List Track) (s : DeviceStore) (h : Held) → IsInOrder v w s h →

@@ -234,7 +234,7 @@ module _ (h : Held) (u : List Track) (s : DeviceStore) (alone : s.paired ≡ fal
 
 -- As losses
 
-counted_loss : (v w : List Track) (s : DeviceStore) (h : Held) (loss : Loss) → Ordered v w s h → Ordered v w (with_loss s loss) h
+pub counted_loss : (v w : List Track) (s : DeviceStore) (h : Held) (loss : Loss) → Ordered v w s h → Ordered v w (with_loss s loss) h
 unfolding T.contents_at C.base_of
 counted_loss v w s h loss o = record {
   sure = unseen_right None v w s h (with_loss s loss) h o.sure

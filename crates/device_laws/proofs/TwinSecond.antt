@@ -89,7 +89,7 @@ or_false : (x y : Bool) → (x || y) ≡ false → (x ≡ false) × (y ≡ false
 or_false true y e = absurd (cc)
 or_false false y e = (refl, e)
 
-plainly_is : (v w : List Track) (s : DeviceStore) (t : ℕ) (origin : Origin) → plainly_written (marks_of v w s) t origin ≡ written_on (image_in s v t) origin
+pub plainly_is : (v w : List Track) (s : DeviceStore) (t : ℕ) (origin : Origin) → plainly_written (marks_of v w s) t origin ≡ written_on (image_in s v t) origin
 plainly_is v w s t (OfCommand bypass e) = refl
 plainly_is v w s t (OfCut bypass) = refl
 plainly_is v w s t OfBackground = refl

@@ -78,8 +78,10 @@ use Rattle.device_laws.proofs.ContentChanges.{
   unseen_slots,
   Sits,
   sits_still,
+  Being,
+  RightOff,
   RightBut,
-  right_altered,
+  off_altered,
 }
 use Rattle.device_laws.proofs.PlainVolumes.{put_here, put_elsewhere, put_volume}
 use Rattle.device_laws.proofs.TrackContents as T
@@ -90,22 +92,22 @@ use Rattle.device_laws.proofs.TwinWalks.{Pair, pair_is, pair_if}
 -- What the keeper is still to be told
 
 -- a track that became firm in a loss has a frame, and is not being written
-pub record Owes (writing : Option ℕ) (z : DeviceStore) (t : ℕ) (x : TrackContents) : Type 0 where
+pub record OwesOff (exempt : ℕ → Type 0) (z : DeviceStore) (t : ℕ) (x : TrackContents) : Type 0 where
   pub below : t < tracks_of z
   pub lost : x.lost ≡ false
   pub frame : is_some x.frame ≡ true
   pub half : half_is z.half t ≡ false
-  pub still : writing ≢ Some t
+  pub still : (exempt t → ⊥)
 
-pub record Debts (writing : Option ℕ) (z : DeviceStore) (h : Held) : Type 0 where
-  pub owes : (q : ℕ) → (contents_at z h q).debt ≡ true → Owes writing z q (contents_at z h q)
+pub record DebtsOff (exempt : ℕ → Type 0) (z : DeviceStore) (h : Held) : Type 0 where
+  pub owes : (q : ℕ) → (contents_at z h q).debt ≡ true → OwesOff exempt z q (contents_at z h q)
 
-pub debts_altered : (writing : Option ℕ) (s : DeviceStore) (h : Held) (z : DeviceStore) (k : Held) (t : ℕ) (x : TrackContents) → Debts writing s h →
-    Altered s h z k t x → (x.debt ≡ true → Owes writing s t x) → Debts writing z k
-debts_altered writing s h z k t x d e here = record { owes = λ q f. go q f (cases_eq q t) }
+pub debts_off : (exempt : ℕ → Type 0) (s : DeviceStore) (h : Held) (z : DeviceStore) (k : Held) (t : ℕ) (x : TrackContents) → DebtsOff exempt s h →
+    Altered s h z k t x → (x.debt ≡ true → OwesOff exempt s t x) → DebtsOff exempt z k
+debts_off exempt s h z k t x d e here = record { owes = λ q f. go q f (cases_eq q t) }
   where
-    moved : (q : ℕ) (y u : TrackContents) → u ≡ y → Owes writing s q y → Owes writing z q u
-    moved q y u is o = subst (Owes writing z q) (sym is) (record {
+    moved : (q : ℕ) (y u : TrackContents) → u ≡ y → OwesOff exempt s q y → OwesOff exempt z q u
+    moved q y u is o = subst (OwesOff exempt z q) (sym is) (record {
       below = let same = same_tracks s h z k e.base in let lt = o.below in omega arith;
       lost = o.lost;
       frame = o.frame;
@@ -113,9 +115,9 @@ debts_altered writing s h z k t x d e here = record { owes = λ q f. go q f (cas
       still = o.still;
     })
 
-    go : (q : ℕ) → (contents_at z k q).debt ≡ true → ((q ≡ t) ⊎ (q ≢ t)) → Owes writing z q (contents_at z k q)
+    go : (q : ℕ) → (contents_at z k q).debt ≡ true → ((q ≡ t) ⊎ (q ≢ t)) → OwesOff exempt z q (contents_at z k q)
     go q f (inl at) =
-        subst (λ (p : ℕ). Owes writing z p (contents_at z k p)) (sym at)
+        subst (λ (p : ℕ). OwesOff exempt z p (contents_at z k p)) (sym at)
         (moved t x (contents_at z k t) e.here
         (here (sym (ap (λ (y : TrackContents). y.debt) e.here) ∙ subst (λ (p : ℕ). (contents_at z k p).debt ≡ true) at f)))
     go q f (inr ne) =
@@ -135,8 +137,8 @@ told_altered s h z k t x told e same q = go (cases_eq q t)
         subst (λ (p : ℕ). (contents_at z k p).debt ≡ false) (sym at) (ap (λ (y : TrackContents). y.debt) e.here ∙ same ∙ told t)
     go (inr ne) = ap (λ (y : TrackContents). y.debt) (e.elsewhere q ne) ∙ told q
 
-pub told_debts : (writing : Option ℕ) (s : DeviceStore) (h : Held) → AllTold s h → Debts writing s h
-told_debts writing s h told = record { owes = λ q e. absurd (let f = told q in cc) }
+pub told_off : (exempt : ℕ → Type 0) (s : DeviceStore) (h : Held) → AllTold s h → DebtsOff exempt s h
+told_off exempt s h told = record { owes = λ q e. absurd (let f = told q in cc) }
 
 -- Slots that move from a patch to what is owed
 
@@ -230,37 +232,37 @@ module _ (s : DeviceStore) (h : Held) (z : DeviceStore) (k : Held) (t : ℕ) (y 
 -- Settling
 
 -- what it leaves
-pub record Settles (writing : Option ℕ) (h : Held) (u : List Track) (s : DeviceStore) (v w : List Track) (z : DeviceStore) : Type 0 where
-  pub but : RightBut writing v w z h
-  pub debts : Debts writing z h
+pub record SettlesOff (exempt : ℕ → Type 0) (h : Held) (u : List Track) (s : DeviceStore) (v w : List Track) (z : DeviceStore) : Type 0 where
+  pub but : RightOff exempt v w z h
+  pub debts : DebtsOff exempt z h
   pub base : base_of z h ≡ base_of s h
   pub plain : v ≡ u
-  pub own : (t : ℕ) → writing ≡ Some t → contents_at z h t ≡ contents_at s h t
+  pub own : (t : ℕ) → exempt t → contents_at z h t ≡ contents_at s h t
 
 or_false : (x y : Bool) → (x || y) ≡ false → (x ≡ false) × (y ≡ false)
 or_false true y e = absurd (cc)
 or_false false y e = (refl, e)
 
-module _ (writing : Option ℕ) (h : Held) (v w : List Track) (s : DeviceStore) (t : ℕ) (lt : t < tracks_of s) (b : RightBut writing v w s h)
-    (d : Debts writing s h) (other : writing ≢ Some t) where
+module _ (exempt : ℕ → Type 0) (h : Held) (v w : List Track) (s : DeviceStore) (t : ℕ) (lt : t < tracks_of s) (b : RightOff exempt v w s h)
+    (d : DebtsOff exempt s h) (other : (exempt t → ⊥)) where
   abbrev x : TrackContents
   x = contents_at s h t
 
-  stays : Settles writing h v s v w s
+  stays : SettlesOff exempt h v s v w s
   stays = record { but = b; debts = d; base = refl; plain = refl; own = λ q e. refl }
 
   -- a change of the track that keeps what is known of it
   changed : (z : DeviceStore) (y : TrackContents) → Altered s h z h t y → y.loose ≡ x.loose → y.patch ≡ x.patch → y.freed ≡ x.freed →
       (IsRight s.geometry t s.half x (image_in s v t) (image_in s w t) → IsRight s.geometry t s.half y (image_in s v t) (image_in s w t)) →
-      (y.debt ≡ true → Owes writing s t y) → Settles writing h v s v w z
+      (y.debt ≡ true → OwesOff exempt s t y) → SettlesOff exempt h v s v w z
   changed z y e loose patch freed right debt = record {
-    but = right_altered writing v w s h z h t y b e (sits_still v w s h t y lt b.ground loose patch)
+    but = off_altered exempt v w s h z h t y b e (sits_still v w s h t y lt b.ground loose patch)
         (unseen_slots s h z h (λ kept q. by_track s h z h t y kept e (slots_by kept) q) refl b.ground.slots)
         (λ ne. right (b.right t lt ne));
-    debts = debts_altered writing s h z h t y d e debt;
+    debts = debts_off exempt s h z h t y d e debt;
     base = e.base;
     plain = refl;
-    own = λ q f. e.elsewhere q (λ at. other (f ∙ ap Some at));
+    own = λ q f. e.elsewhere q (λ at. other (subst exempt at f));
   }
     where
       slots_by : (kept : Bool) → slot_of kept y ≡ slot_of kept x
@@ -298,7 +300,7 @@ module _ (writing : Option ℕ) (h : Held) (v w : List Track) (s : DeviceStore) 
         marked_is : (g : Frame) → Some marked ≡ Some g → g ≡ marked
         marked_is g e = cc
 
-    marked_settles : Settles writing h v s v w (owes_modified (with_frame s t (Some marked)) t)
+    marked_settles : SettlesOff exempt h v s v w (owes_modified (with_frame s t (Some marked)) t)
     marked_settles =
         changed (owes_modified (with_frame s t (Some marked)) t) y modified_altered refl refl refl
         (right_fewer s.geometry t s.half x y (image_in s v t) (image_in s w t)
@@ -313,7 +315,7 @@ module _ (writing : Option ℕ) (h : Held) (v w : List Track) (s : DeviceStore) 
         ∙ ap (λ (m : MarksStore). with_owed m t (owed_mark o)) (with_frame_twin v w s t (Some marked))
         ∙ ap (λ (u : Owed). with_owed (with_frame (marks_of v w s) t (Some true)) t (record u { modified = true })) (sym (owed_twin v w s t))
 
-    kept_pair : (m : Bool) → f.modified ≡ m → Pair (Settles writing h v s) (if m then s else owes_modified (with_frame s t (Some marked)) t)
+    kept_pair : (m : Bool) → f.modified ≡ m → Pair (SettlesOff exempt h v s) (if m then s else owes_modified (with_frame s t (Some marked)) t)
         (if m then marks_of v w s else owes_modified (with_frame (marks_of v w s) t (Some true)) t)
     kept_pair true is = pair_is stays
     kept_pair false is = record { plain = v; firm = w; marks = marked_twin; is = marked_settles }
@@ -334,7 +336,7 @@ module _ (writing : Option ℕ) (h : Held) (v w : List Track) (s : DeviceStore) 
       unfolding T.contents_at
       patch_there p l = l
 
-      put : RightBut writing v firm_now s h
+      put : RightOff exempt v firm_now s h
       put = record {
         ground = record {
           sizes = b.ground.sizes;
@@ -354,7 +356,7 @@ module _ (writing : Option ℕ) (h : Held) (v w : List Track) (s : DeviceStore) 
               subst (λ (p : ℕ). track_in firm_now p ≡ track_in v p) (sym at) (put_here w t (track_in v t) long)
           same_by q below e (inr ne) = put_elsewhere w t (track_in v t) q ne ∙ b.ground.same q below e
 
-          right_at : (q : ℕ) → q < tracks_of s → writing ≢ Some q → ((q ≡ t) ⊎ (q ≢ t)) →
+          right_at : (q : ℕ) → q < tracks_of s → (exempt q → ⊥) → ((q ≡ t) ⊎ (q ≢ t)) →
               IsRight s.geometry q s.half (contents_at s h q) (image_in s v q) (image_in s firm_now q)
           right_at q below ne (inl at) =
               subst (λ (p : ℕ). IsRight s.geometry p s.half (contents_at s h p) (image_in s v p) (image_in s firm_now p)) (sym at)
@@ -384,20 +386,20 @@ module _ (writing : Option ℕ) (h : Held) (v w : List Track) (s : DeviceStore) 
       unfolding T.contents_at
       lost_not = there
 
-      firm_settles : Settles writing h v s v firm_now (hardened_by_loss s t)
+      firm_settles : SettlesOff exempt h v s v firm_now (hardened_by_loss s t)
       firm_settles =
           let e' = firm_altered in
           let z = hardened_by_loss s t in record {
-            but = right_altered writing v firm_now s h z h t u put e'
+            but = off_altered exempt v firm_now s h z h t u put e'
                 (record { same = λ l. put_here w t (track_in v t) long; patch = λ p l. b.ground.patches t p (patch_there p l); apart = λ l. absurd (cc) })
                 (unseen_slots s h z h (λ kept q. by_track s h z h t u kept e' (slots_by kept) q) refl b.ground.slots)
                 (λ ne. right_fewer s.geometry t s.half x u (image_in s v t) (image_in s firm_now t)
                 (record { lost = λ l. l; frame = λ i k. k; patch = refl; a = λ l. (l, refl); b = λ l. (l, refl) }) (put.right t lt ne));
-            debts = debts_altered writing s h z h t u d e'
+            debts = debts_off exempt s h z h t u d e'
                 (λ l. record { below = lt; lost = lost_not; frame = ap is_some frame_there; half = b.ground.apart t loose; still = other });
             base = e'.base;
             plain = refl;
-            own = λ q l. e'.elsewhere q (λ at. other (l ∙ ap Some at));
+            own = λ q l. e'.elsewhere q (λ at. other (subst exempt at l));
           }
         where
           slots_by : (kept : Bool) → slot_of kept u ≡ slot_of kept x
@@ -412,7 +414,7 @@ module _ (writing : Option ℕ) (h : Held) (v w : List Track) (s : DeviceStore) 
           ∙ ap (λ (c : Owed). with_owed (hardened (marks_of v w s) t) t (record c { firm = true })) (sym (owed_twin v w s t))
 
     framed_choice : is_lost s t ≡ false → has_level s t ≡ false → (c : Bool) → is_loose s t ≡ c →
-        Pair (Settles writing h v s) (if c then hardened_by_loss s t else kept_by_frame contents s t f)
+        Pair (SettlesOff exempt h v s) (if c then hardened_by_loss s t else kept_by_frame contents s t f)
         (if c then hardened_by_loss (marks_of v w s) t else kept_by_frame by_plain (marks_of v w s) t f.modified)
     framed_choice there off true is = record { plain = v; firm = firm_now; marks = firm_twin there off is; is = firm_settles there off is }
     framed_choice there off false is = kept_pair f.modified refl
@@ -433,42 +435,42 @@ module _ (writing : Option ℕ) (h : Held) (v w : List Track) (s : DeviceStore) 
   not_some None e f = absurd (cc)
   not_some (Some y) e f = absurd (cc)
 
-  lost_settles : frame_at s t ≡ None → Settles writing h v s v w (lost_now contents s t)
+  lost_settles : frame_at s t ≡ None → SettlesOff exempt h v s v w (lost_now contents s t)
   lost_settles none =
       let y = unpatched (record x { lost = true }) in
       let z = lost_now contents s t in
       let g = lost_altered in
       let still = sits_still v w s h t x lt b.ground refl refl in
       record {
-        but = right_altered writing v w s h z h t y b g
+        but = off_altered exempt v w s h z h t y b g
             (record { same = still.same; patch = λ p e. absurd (cc); apart = still.apart })
             (unpatched_slots s h z h t y g refl refl refl b.ground.slots)
             (λ ne. right_lost s.geometry t s.half y (image_in s v t) (image_in s w t) refl);
-        debts = debts_altered writing s h z h t y d g (λ l. absurd (not_some x.frame (frame_none none) (d.owes t l).frame));
+        debts = debts_off exempt s h z h t y d g (λ l. absurd (not_some x.frame (frame_none none) (d.owes t l).frame));
         base = g.base;
         plain = refl;
-        own = λ q l. g.elsewhere q (λ at. other (l ∙ ap Some at));
+        own = λ q l. g.elsewhere q (λ at. other (subst exempt at l));
       }
 
-  unframed_pair : frame_at s t ≡ None → (c : Bool) → Pair (Settles writing h v s) (if c then s else lost_now contents s t)
+  unframed_pair : frame_at s t ≡ None → (c : Bool) → Pair (SettlesOff exempt h v s) (if c then s else lost_now contents s t)
       (if c then marks_of v w s else lost_now by_plain (marks_of v w s) t)
   unframed_pair none true = pair_is stays
   unframed_pair none false = record { plain = v; firm = w; marks = without_patch_twin v w (with_lost s t) t; is = lost_settles none }
 
   frame_pair : is_lost s t ≡ false → has_level s t ≡ false → (o : Option Frame) → frame_at s t ≡ o →
-      Pair (Settles writing h v s) (by_frame contents s t o) (by_frame by_plain (marks_of v w s) t (option_map frame_mark o))
+      Pair (SettlesOff exempt h v s) (by_frame contents s t o) (by_frame by_plain (marks_of v w s) t (option_map frame_mark o))
   frame_pair there off None e =
-      subst (λ (c : Bool). Pair (Settles writing h v s) (if half_is s.half t then s else lost_now contents s t)
+      subst (λ (c : Bool). Pair (SettlesOff exempt h v s) (if half_is s.half t then s else lost_now contents s t)
       (if c then marks_of v w s else lost_now by_plain (marks_of v w s) t)) (sym (half_twin v w s t)) (unframed_pair e (half_is s.half t))
   frame_pair there off (Some f) e = framed_choice f e there off (is_loose s t) refl
 
-  pub settled_pair : Pair (Settles writing h v s) (settled contents s t) (settled by_plain (marks_of v w s) t)
+  pub settled_off : Pair (SettlesOff exempt h v s) (settled contents s t) (settled by_plain (marks_of v w s) t)
   unfolding L.settled
-  settled_pair =
+  settled_off =
       pair_if (is_some s.lent) (λ _. pair_is stays)
       (λ _. pair_if (is_lost s t) (λ _. pair_is stays)
       (λ there. pair_if (has_level s t) (λ _. pair_is stays)
-      (λ off. subst (λ (o : Option Bool). Pair (Settles writing h v s) (by_frame contents s t (frame_at s t)) (by_frame by_plain (marks_of v w s) t o))
+      (λ off. subst (λ (o : Option Bool). Pair (SettlesOff exempt h v s) (by_frame contents s t (frame_at s t)) (by_frame by_plain (marks_of v w s) t o))
       (sym (frame_twin v w s t)) (frame_pair there off (frame_at s t) refl))))
 
   -- of a track that isn't loose nothing is left to tell
@@ -497,7 +499,33 @@ module _ (writing : Option ℕ) (h : Held) (v w : List Track) (s : DeviceStore) 
     told_test true z e = told
     told_test false z e = e
 
-    pub settled_told : AllTold (settled contents s t) h
+    pub settled_told_off : AllTold (settled contents s t) h
     unfolding L.settled
-    settled_told =
+    settled_told_off =
         told_test (is_some s.lent) _ (told_test (is_lost s t) _ (told_test (has_level s t) _ (told_frame (frame_at s t) refl)))
+
+-- Where the one is exempt that is being written
+
+abbrev pub Owes : Option ℕ → DeviceStore → ℕ → TrackContents → Type 0
+Owes writing = OwesOff (Being writing)
+
+abbrev pub Debts : Option ℕ → DeviceStore → Held → Type 0
+Debts writing = DebtsOff (Being writing)
+
+abbrev pub Settles : Option ℕ → Held → List Track → DeviceStore → List Track → List Track → DeviceStore → Type 0
+Settles writing = SettlesOff (Being writing)
+
+pub debts_altered : (writing : Option ℕ) (s : DeviceStore) (h : Held) (z : DeviceStore) (k : Held) (t : ℕ) (x : TrackContents) → Debts writing s h →
+    Altered s h z k t x → (x.debt ≡ true → Owes writing s t x) → Debts writing z k
+debts_altered writing = debts_off (Being writing)
+
+pub told_debts : (writing : Option ℕ) (s : DeviceStore) (h : Held) → AllTold s h → Debts writing s h
+told_debts writing = told_off (Being writing)
+
+pub settled_pair : (writing : Option ℕ) (h : Held) (v w : List Track) (s : DeviceStore) (t : ℕ) → t < tracks_of s → RightBut writing v w s h →
+    Debts writing s h → writing ≢ Some t → Pair (Settles writing h v s) (settled contents s t) (settled by_plain (marks_of v w s) t)
+settled_pair writing = settled_off (Being writing)
+
+pub settled_told : (writing : Option ℕ) (h : Held) (v w : List Track) (s : DeviceStore) (t : ℕ) → t < tracks_of s → RightBut writing v w s h →
+    Debts writing s h → writing ≢ Some t → AllTold s h → is_loose s t ≡ false → AllTold (settled contents s t) h
+settled_told writing = settled_told_off (Being writing)

@@ -41,8 +41,9 @@ use Rattle.device_defs.specs.Owed.{is_modified, waits, waits_by}
 use Rattle.device_defs.specs.Sound.{DeviceStore}
 use Rattle.device_defs.specs.Store.{tracks_of, some_up, frame_at, patch_at, is_lost, is_loose}
 use Rattle.device_laws.specs.Agrees.{Held}
-use Rattle.device_laws.specs.InOrder.{QueueStands}
+use Rattle.device_laws.specs.InOrder.{AreBelow}
 use Rattle.device_laws.specs.Twin.{Twins}
+use Rattle.device_laws.proofs.Sweeps.{all_queued}
 use Rattle.device_laws.proofs.TrackMarks as M
 use Rattle.device_laws.proofs.TrackMarks.{marks, is_good, track_at, device_is_faithful}
 use Rattle.device_laws.proofs.TwinAsks.{InOrder, Ordered}
@@ -146,36 +147,36 @@ module _ (v w : List Track) (s : DeviceStore) (h : Held) (none : s.half ≡ None
       (least_same (tracks_of s) (is_destaged contents s) (is_destaged by_plain (marks_of v w s)) (λ q. sym (destaged_same v w s q))))
       (destage_by (to_destage contents s) (λ q e. found_if (tracks_of s) (is_destaged contents s) (some_up s) q e))
 
-  stage_or : (l : List ℕ) → ((t : ℕ) (ts : List ℕ) → l ≡ t ∷ ts → t < tracks_of s) →
+  stage_or : (l : List ℕ) → AreBelow (tracks_of s) l →
       Twins Ends (stage_first contents s l) (stage_first by_plain (marks_of v w s) l) h
-  stage_or [] stands = destages
-  stage_or (t ∷ ts) stands =
+  stage_or [] below = destages
+  stage_or (t ∷ ts) below =
       let z : DeviceStore = record s { queue = ts } in
       let i = queue_order v w s h ts order in
-      twin_weaker (stage_twin v w z h t (stands t ts refl) none (record {
+      twin_weaker (stage_twin v w z h t below.0 none (record {
         sure = i.sure;
         told = i.told;
         well =
-            (queue_goes contents device_is_faithful s ts o.well).well;
+            (queue_goes contents device_is_faithful s ts below.1 o.well).well;
       }))
       (λ v' w' y a b k f. record { order = f.order; same = f.same; plain = f.plain; geometry = f.geometry; cylinders = f.cylinders })
 
-  copy_or : (t : Option ℕ) → ((q : ℕ) → t ≡ Some q → q < tracks_of s) → QueueStands s →
+  copy_or : (t : Option ℕ) → ((q : ℕ) → t ≡ Some q → q < tracks_of s) →
       Twins Ends (copy_first contents s t) (copy_first by_plain (marks_of v w s) t) h
-  copy_or None found stands = stage_or s.queue stands
-  copy_or (Some t) found stands = copy_twin v w s h t (found t refl) none o
+  copy_or None found = stage_or s.queue (all_queued s o.well.here)
+  copy_or (Some t) found = copy_twin v w s h t (found t refl) none o
 
-  recover_or : (t : Option ℕ) → ((q : ℕ) → t ≡ Some q → (q < tracks_of s) × (waits contents s q ≡ true)) → QueueStands s →
+  recover_or : (t : Option ℕ) → ((q : ℕ) → t ≡ Some q → (q < tracks_of s) × (waits contents s q ≡ true)) →
       Twins Ends (recover_first contents s t) (recover_first by_plain (marks_of v w s) t) h
-  recover_or None found stands = copy_or (to_copy s) (λ t e. (least_found (tracks_of s) (λ q. is_some (copies_to s q)) t e).0) stands
-  recover_or (Some t) found stands =
+  recover_or None found = copy_or (to_copy s) (λ t e. (least_found (tracks_of s) (λ q. is_some (copies_to s q)) t e).0)
+  recover_or (Some t) found =
       let f = found t refl in
       recover_twin v w s h t f.0 (waits_there contents device_is_faithful s t f.1) none o
 
-  pub work_twin : QueueStands s → Twins Ends (work contents s) (work by_plain (marks_of v w s)) h
+  pub work_twin : Twins Ends (work contents s) (work by_plain (marks_of v w s)) h
   unfolding K.work
-  work_twin stands =
+  work_twin =
       subst (λ (t : Option ℕ). Twins Ends (recover_first contents s (to_recover contents s)) (recover_first by_plain (marks_of v w s) t) h)
       (ap (λ (l : Option ℕ). if some_up s then l else None)
       (least_same (tracks_of s) (waits contents s) (waits by_plain (marks_of v w s)) (λ q. sym (waits_same v w s q))))
-      (recover_or (to_recover contents s) (λ q e. found_if (tracks_of s) (waits contents s) (some_up s) q e) stands)
+      (recover_or (to_recover contents s) (λ q e. found_if (tracks_of s) (waits contents s) (some_up s) q e))

@@ -124,6 +124,7 @@ module _ {F P H R : Type 0} (c : Contents F P H R) (faithful : IsFaithful c) whe
     free = here.free;
     alone = here.alone;
     within = λ k f. let same : h.track ≡ k.track = ap track_or f in let lt = half_within s here h is in omega arith;
+    queued = here.queued;
   }
     where
       track_or : Option (HalfWrite H) → ℕ

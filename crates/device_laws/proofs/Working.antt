@@ -91,12 +91,14 @@ use Rattle.device_defs.specs.Store.{
   with_frame,
 }
 use Rattle.device_defs.specs.Writing.{write_counted}
+use Rattle.device_laws.specs.InOrder.{AreBelow}
 use Rattle.device_laws.proofs.Always.{Always, always_done, always_try, always_ask, always_read, always_write, always_then, always_weaker}
 use Rattle.device_laws.proofs.Changes as C
 use Rattle.device_laws.proofs.Changes.{Changed, rest_of}
 use Rattle.device_laws.proofs.Done.{Keeps, goes_keeps, keeps_on, write_done_keeps_good, opened_keeps_good}
 use Rattle.device_laws.proofs.FailedCall.{IsWell, IsSame, Goes, stays, goes_on, goes_same, changed_goes, failed_call_keeps_good}
 use Rattle.device_laws.proofs.Others.{opens, changed_stale}
+use Rattle.device_laws.proofs.Sweeps.{all_queued}
 use Rattle.device_laws.proofs.TrackImage.{Reads, level_bytes_keeps_good, filling_keeps_good}
 use Rattle.device_laws.proofs.TrackMarks as M
 use Rattle.device_laws.proofs.TrackMarks.{TrackMarks, IsFaithful, is_good, frame_mark, track_at, good_is_near}
@@ -314,12 +316,12 @@ module _ {F P H R : Type 0} (c : Contents F P H R) (faithful : IsFaithful c) whe
 
   -- Staging
 
-  pub queue_goes : (s : Store F P H) (l : List ℕ) → IsWell c s → Goes c s (record s { queue = l })
+  pub queue_goes : (s : Store F P H) (l : List ℕ) → AreBelow (tracks_of s) l → IsWell c s → Goes c s (record s { queue = l })
   unfolding M.track_at C.rest_of
-  queue_goes s l w = record {
+  queue_goes s l below w = record {
     well = record {
       sizes = record { are = w.sizes.are };
-      here = record { free = w.here.free; alone = w.here.alone; within = w.here.within };
+      here = record { free = w.here.free; alone = w.here.alone; within = w.here.within; queued = below };
       good = w.good;
       kept = w.kept;
     };
@@ -409,16 +411,16 @@ module _ {F P H R : Type 0} (c : Contents F P H R) (faithful : IsFaithful c) whe
   found_if n p true t e = least_found n p t e
   found_if n p false t e = absurd (cc)
 
-  stage_or : (s : Store F P H) (l : List ℕ) → IsWell c s → s.half ≡ None → Always (stage_first c s l) (λ y _. Keeps c faithful s y)
-  stage_or s [] w none = destage_by s (to_destage c s) (λ t e. found_if (tracks_of s) (is_destaged c s) (some_up s) t e) w none
-  stage_or s (t ∷ ts) w none =
+  stage_or : (s : Store F P H) (l : List ℕ) → AreBelow (tracks_of s) l → IsWell c s → s.half ≡ None → Always (stage_first c s l) (λ y _. Keeps c faithful s y)
+  stage_or s [] below w none = destage_by s (to_destage c s) (λ t e. found_if (tracks_of s) (is_destaged c s) (some_up s) t e) w none
+  stage_or s (t ∷ ts) below w none =
       let z = record s { queue = ts } in
-      let g = queue_goes s ts w in
+      let g = queue_goes s ts below.1 w in
       always_weaker (stage_keeps_good t z g.well) (λ y _ h. goes_keeps c faithful s y (goes_on c s z y g h))
 
   copy_or : (s : Store F P H) (o : Option ℕ) → ((t : ℕ) → o ≡ Some t → t < tracks_of s) → IsWell c s → s.half ≡ None →
       Always (copy_first c s o) (λ y _. Keeps c faithful s y)
-  copy_or s None found w none = stage_or s s.queue w none
+  copy_or s None found w none = stage_or s s.queue (all_queued s w.here) w none
   copy_or s (Some t) found w none = always_weaker (copy_keeps_good t s (found t refl) w) (λ y _ g. goes_keeps c faithful s y g)
 
   pub waits_there : (s : Store F P H) (t : ℕ) → waits c s t ≡ true → is_lost s t ≡ false

@@ -1,5 +1,5 @@
 -- A command over a device that is in order: how it comes out is how the chain does that is fed with the plain tracks.
-use Rattle.std.specs.Prelude.{◌≡◌, ◌<◌, ℕ, List, Option, None, Some, slice_set}
+use Rattle.std.specs.Prelude.{◌≡◌, ◌<◌, ℕ, List, Option, None, Some, IfSome, slice_set}
 use Rattle.ckd_types.specs.declared.geometry.Geometry.{Geometry}
 use Rattle.ckd_types.specs.declared.record.Edit.{Edit}
 use Rattle.ckd_types.specs.declared.record.Track.{Track}
@@ -17,16 +17,17 @@ use Rattle.ckd_chain.specs.Steps.{need_of, stepped, behind, end_with, settled_by
 use Rattle.track_image.specs.Image.{Image}
 use Rattle.device_defs.specs.declared.answers.Came.{Came}
 use Rattle.device_defs.specs.declared.answers.Came.TheVariants.{Ends, Checks, HalfOpen}
-use Rattle.device_defs.specs.Outcomes.{Turn}
+use Rattle.device_defs.specs.Outcomes.{Turn, usage_of}
 use Rattle.device_defs.specs.Sound.{DeviceStore}
 use Rattle.device_laws.specs.Agrees.{Held}
 use Rattle.device_laws.specs.InOrder.{IsInOrder}
 use Rattle.device_laws.specs.PlainWrites.{SuitsTrack}
 
--- a chain that looks at track t, one of the first `tracks`, of programs on volumes of this geometry, and what a step of it leads to
+-- a chain that looks at track t, one of the first `tracks`, with an extent among these, of programs on volumes of this geometry, and what a step of it leads to
 pub record Feeds (tracks : ℕ) (g : Geometry) (looks : ChainState → ℕ → Type 0) : Type 0 where
   pub needs : (chain : ChainState) (t : ℕ) → looks chain t → need_of chain ≡ Some t
   pub inside : (chain : ChainState) (t : ℕ) → looks chain t → t < tracks
+  pub reaches : (chain : ChainState) (t : ℕ) → looks chain t → IfSome (usage_of chain).last (λ l. l < tracks)
   pub fixed : (chain : ChainState) (t : ℕ) → looks chain t → chain.fixed.geometry ≡ g
   pub goes : (chain : ChainState) (t : ℕ) (i : Image) (q : ℕ) → looks chain t → (stepped chain (Some i)).progress ≡ Need q →
       looks (stepped chain (Some i)).chain q

@@ -1,5 +1,5 @@
 -- A device's store that is in order, where its volumes tell what they hold, and what the parts of its events leave.
-use Rattle.std.specs.Prelude.{◌≡◌, ◌≢◌, ◌<◌, ℕ, Bool, true, false, List, ◌∷◌, Option, Some, is_some}
+use Rattle.std.specs.Prelude.{◌≡◌, ◌≢◌, ◌<◌, ℕ, Bool, true, false, List, [], ◌∷◌, Option, Some, None, is_some, if◌then◌else◌}
 use Rattle.ckd_types.specs.declared.paths.Side.{Side}
 use Rattle.ckd_types.specs.declared.record.Edit.{Edit}
 use Rattle.ckd_types.specs.declared.record.Track.{Track}
@@ -8,9 +8,14 @@ use Rattle.device_defs.specs.declared.answers.Took.{Took}
 use Rattle.device_defs.specs.Contents.{contents}
 use Rattle.device_defs.specs.Image.{Imaged, Has, BadTrack}
 use Rattle.device_defs.specs.Sound.{DeviceStore, has_sound_marks}
-use Rattle.device_defs.specs.Store.{Origin, HalfWrite, tracks_of, has_level, is_lost, owed_at}
+use Rattle.device_defs.specs.Store.{Origin, HalfWrite, tracks_of, has_level, is_lost, has_loose, owed_at}
 use Rattle.device_laws.specs.Agrees.{Held, image_in, Agrees}
 use Rattle.device_laws.specs.PlainWrites.{plain_had, plain_second}
+
+-- each of these is one of the first n
+abbrev pub AreBelow : ℕ → List ℕ → Type 0
+AreBelow n [] = Unit {0}
+AreBelow n (t ∷ ts) = (t < n) × AreBelow n ts
 
 -- it isn't lent, its marks are sound, it holds what it should, and the keeper was told all
 pub record IsInOrder (v w : List Track) (s : DeviceStore) (h : Held) : Type 0 where
@@ -19,9 +24,19 @@ pub record IsInOrder (v w : List Track) (s : DeviceStore) (h : Held) : Type 0 wh
   pub free : is_some s.lent ≡ false
   pub alone : s.paired ≡ false → s.b.up ≡ false
   pub marks : (t : ℕ) → t < tracks_of s → has_sound_marks contents s t ≡ true
+  pub queued : AreBelow (tracks_of s) s.queue
   pub nowhere : (t : ℕ) → t < tracks_of s → is_lost s t ≡ true → has_level s t ≡ false
   pub within : (i : HalfWrite Image) → s.half ≡ Some i → i.track < tracks_of s
   pub there : (i : HalfWrite Image) → s.half ≡ Some i → is_lost s i.track ≡ false
+
+-- the plain volume behind the loss of the cache: without data of cache fast write, where there are some
+abbrev pub plain_lost : DeviceStore → List Track → List Track → List Track
+plain_lost s v w = if has_loose s then w else v
+
+-- and behind a cut, where an open half write of a command counts as done
+abbrev pub plain_cut : Option (HalfWrite Image) → List Track → List Track
+plain_cut None v = v
+plain_cut (Some i) v = plain_second i.origin true v i.track
 
 -- What is left. The first arguments are what a part began with
 
@@ -46,7 +61,3 @@ pub record SecondIs (v : List Track) (t : ℕ) (origin : Origin) (v' w' : List T
   pub order : IsInOrder v' w' z k
   pub plain : v' ≡ plain_second origin a v t
   pub same : a ≡ b
-
--- the first queued track, where there is one, is one of the device
-abbrev pub QueueStands : DeviceStore → Type 0
-QueueStands s = (t : ℕ) (ts : List ℕ) → s.queue ≡ t ∷ ts → t < tracks_of s

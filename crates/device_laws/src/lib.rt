@@ -4,7 +4,8 @@
 mod contents;
 
 pub use contents::{
-    command_goes_as_fed, end_leaves_order, failed_call_leaves_order, image_is_plain,
-    lost_side_leaves_order, lost_store_leaves_order, notices_leave_order, second_part_is_plain,
-    work_is_plain, write_is_plain,
+    chain_is_on_device, command_goes_as_fed, cut_leaves_order, end_leaves_order,
+    failed_call_leaves_order, held_side_leaves_order, image_is_plain, lost_cache_leaves_order,
+    lost_side_leaves_order, lost_store_leaves_order, new_device_is_in_order, notices_leave_order,
+    order_is_on_device, second_part_is_plain, work_is_plain, write_is_plain,
 };

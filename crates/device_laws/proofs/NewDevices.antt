@@ -1,0 +1,187 @@
+-- A new device is in order.
+use Rattle.std.proofs.Common.{
+  ◌≡◌,
+  ◌<◌,
+  ◌≤◌,
+  ◌*◌,
+  ℕ,
+  zero,
+  suc,
+  Bool,
+  true,
+  false,
+  List,
+  [],
+  ◌∷◌,
+  length,
+  map,
+  Option,
+  Some,
+  None,
+  get_or,
+  refl,
+  sym,
+  ap,
+  ◌∙◌,
+  arith,
+}
+use Rattle.std.specs.Prelude.{replicate, option_map}
+use Rattle.std.proofs.lemmas.List.{length-replicate}
+use Rattle.std.proofs.lemmas.List.FromFn.{get_or-map-range_with_len, length-map-range_with_len}
+use Rattle.ckd_types.specs.declared.geometry.Geometry.{Geometry}
+use Rattle.ckd_types.specs.declared.paths.Side.{Side}
+use Rattle.ckd_types.specs.declared.paths.Side.TheVariants.{A, B}
+use Rattle.ckd_types.specs.declared.record.Track.{Track}
+use Rattle.ckd_types.specs.Track.{empty_track, track_bytes}
+use Rattle.ckd_types.specs.Volume.{empty_volume, track_in}
+use Rattle.track_image.specs.Image.{Image}
+use Rattle.track_image.specs.Reading.{reading}
+use Rattle.track_image.proofs.Tracks.{reading_again}
+use Rattle.track_cache.specs.declared.frames.Frame.{Frame}
+use Rattle.track_table.proofs.Places.{empty_places}
+use Rattle.nv_store.specs.declared.patches.Stored.{Stored}
+use Rattle.plain_device.proofs.Wholes.{volume_empty}
+use Rattle.device_outside.specs.Disk.{empty_contents, empty_bytes}
+use Rattle.device_outside.specs.After.{holds_of}
+use Rattle.device_defs.specs.declared.owed.Owed.{Owed}
+use Rattle.device_defs.specs.Between.{HasSizes}
+use Rattle.device_defs.specs.Contents.{contents, image_with, image_read, patched_by}
+use Rattle.device_defs.specs.Marks.{new_store, marks_of, frame_mark, patch_mark, owed_mark}
+use Rattle.device_defs.specs.Sound.{DeviceStore, IsHeld, has_sound_marks}
+use Rattle.device_defs.specs.Store.{tracks_of, side_of, level_at, frame_at, patch_at, is_lost, is_loose, owed_at, no_debt}
+use Rattle.device_laws.specs.Agrees.{Held, image_in, slot_at, HasSlots, IsGround}
+use Rattle.device_laws.specs.InOrder.{IsInOrder}
+use Rattle.device_laws.specs.NewDevice.{new_contents}
+use Rattle.device_laws.proofs.TrackContents as T
+use Rattle.device_laws.proofs.TrackContents.{TrackContents, contents_at, Keeps, IsRight, right_by}
+
+map_replicate : {X Y : Type 0} (f : X → Y) (n : ℕ) (x : X) → map f (replicate n x) ≡ replicate n (f x)
+map_replicate f zero x = refl
+map_replicate f (suc n) x = ap (λ l. f x ∷ l) (map_replicate f n x)
+
+unpatched : (o : Option Image) → patched_by None o ≡ o
+unpatched None = refl
+unpatched (Some i) = refl
+
+module _ (d : ℕ) (g : Geometry) (n : ℕ) where
+  abbrev s : DeviceStore
+  s = new_contents d g n
+
+  abbrev v : List Track
+  v = empty_volume n
+
+  -- over marks it is the new device of a run
+  pub new_marks : marks_of v v s ≡ new_store d g n
+  new_marks =
+      ap (λ (l : List (Option Bool)). record (new_store d g n) {
+        frames = l;
+        patches = map (option_map patch_mark) s.patches;
+        owed = map owed_mark s.owed;
+      }) (map_replicate (option_map frame_mark) (n * 15) None)
+      ∙ ap (λ (l : List (Option (Unit {0}))). record (new_store d g n) { patches = l; owed = map owed_mark s.owed })
+      (map_replicate (option_map patch_mark) (n * 15) None)
+      ∙ ap (λ (l : List Owed). record (new_store d g n) { owed = l }) (map_replicate owed_mark (n * 15) no_debt)
+
+  -- of each track there is nothing but what side A has
+  no_frame : (t : ℕ) → frame_at s t ≡ None
+  no_frame t = empty_places (n * 15) t None
+
+  no_patch : (t : ℕ) → patch_at s t ≡ None
+  no_patch t = empty_places (n * 15) t None
+
+  not_lost : (t : ℕ) → is_lost s t ≡ false
+  not_lost t = empty_places (n * 15) t false
+
+  not_loose : (t : ℕ) → is_loose s t ≡ false
+  not_loose t = empty_places (n * 15) t false
+
+  none_owed : (t : ℕ) → owed_at s t ≡ no_debt
+  none_owed t = empty_places (n * 15) t no_debt
+
+  new_sizes : HasSizes s
+  new_sizes = record {
+    are =
+        rw (
+          length-replicate (n * 15) false,
+          length-replicate {A = Option Frame} (n * 15) None,
+          length-replicate {A = Option Stored} (n * 15) None,
+          length-replicate (n * 15) no_debt,
+        ) refl;
+  }
+
+  level_a : (t : ℕ) → level_at s.a t ≡ true
+  level_a t = rw (empty_places (n * 15) t false) refl
+
+  sound : (t : ℕ) → has_sound_marks contents s t ≡ true
+  sound t = rw (not_lost t, no_frame t) refl
+
+  no_slot : (kept : Bool) (t slot : ℕ) → slot_at s kept t ≡ Some slot → ⊥
+  no_slot true t slot e = absurd (let f = no_patch t in cc)
+  no_slot false t slot e = absurd (let f = ap (λ (o : Owed). o.freed) (none_owed t) in cc)
+
+  new_slots : (o : Option (List ℕ)) → HasSlots s o
+  new_slots None = tt
+  new_slots (Some mine) = record {
+    own = λ kept t slot e. absurd (no_slot kept t slot e);
+    apart = λ kept other t q slot e f. absurd (no_slot kept t slot e);
+  }
+
+  module _ (h : Held) (most : n ≤ 64) (on : h.a ≡ empty_contents (n * 15)) where
+    long : (side : Side) → (side_of s side).up ≡ true → length (holds_of h side) ≡ tracks_of s
+    long A up = ap length on ∙ length-map-range_with_len empty_bytes 0 (n * 15)
+    long B up = absurd (cc)
+
+    ground : IsGround v v s h
+    ground = record {
+      sizes = new_sizes;
+      plain = volume_empty g n most;
+      firm = volume_empty g n most;
+      same = λ t lt e. refl;
+      apart = λ t e. refl;
+      patches = λ t p e. absurd (let f = no_patch t in cc);
+      long = long;
+      slots = new_slots h.slots;
+    }
+
+    module _ (t : ℕ) (lt : t < n * 15) where
+      track_is : track_in v t ≡ empty_track t
+      track_is = get_or-map-range_with_len empty_track 0 (n * 15) t t (empty_track t) lt (omega arith)
+
+      bytes_are : get_or h.a t [] ≡ track_bytes (track_in v t)
+      unfolding empty_bytes
+      bytes_are =
+          ap (λ (l : List (List ℕ)). get_or l t []) on
+          ∙ get_or-map-range_with_len empty_bytes 0 (n * 15) t t [] lt (omega arith)
+          ∙ ap track_bytes (sym track_is)
+
+      reads : image_read g t (get_or h.a t []) ≡ Some (image_in s v t)
+      reads =
+          let x = track_in v t in
+          let is = volume_empty g n most in
+          ap (image_read g t) bytes_are
+          ∙ ap (λ p. image_with g (reading g p (track_bytes x))) (sym (is.homes t lt))
+          ∙ ap (image_with g) (reading_again g x (is.fits t lt))
+
+      keeps : Keeps g t (contents_at s h t) (image_in s v t) (image_in s v t)
+      unfolding T.contents_at
+      keeps = record {
+        frame = λ f e. absurd (let none = no_frame t in cc);
+        a = λ e. rw (no_patch t) (unpatched (image_read g t (get_or h.a t [])) ∙ reads);
+        b = λ e. absurd (cc);
+      }
+
+      held : IsHeld s h t (image_in s v t) (image_in s v t)
+      held = T.right_is_held s h t (image_in s v t) (image_in s v t) (right_by g t None (contents_at s h t) (image_in s v t) (image_in s v t) keeps)
+
+    pub new_in_order : IsInOrder v v s h
+    new_in_order = record {
+      agrees = record { ground = ground; held = held };
+      told = λ t. ap (λ (o : Owed). o.firm) (none_owed t);
+      free = refl;
+      alone = λ e. refl;
+      marks = λ t lt. sound t;
+      nowhere = λ t lt lost. absurd (let f = not_lost t in cc);
+      queued = tt;
+      within = λ i e. absurd (cc);
+      there = λ i e. absurd (cc);
+    }
