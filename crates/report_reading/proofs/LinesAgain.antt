@@ -1,11 +1,13 @@
 -- The text of a line is read as that line.
-use Rattle.std.proofs.Common.{◌≡◌, ◌∷◌, [], refl, true, false, Bool, Some, Result, Ok, ap, ◌∙◌, rules}
-use Rattle.std.specs.Prelude.{List, ℕ}
+use Rattle.std.proofs.Common.{◌≡◌, ◌∷◌, [], refl, sym, true, false, Bool, Some, Result, Ok, Err, ap, ◌∙◌, rules}
+use Rattle.std.specs.Prelude.{List, ℕ, if◌then◌else◌}
 use Rattle.std.specs.Str.{bytes_eq}
 use Rattle.report_text.specs.declared.answers.SumOf.{SumOf}
 use Rattle.report_text.specs.declared.answers.SumOf.TheVariants as sums
 use Rattle.report_text.specs.declared.answers.OrderAnswer.{OrderAnswer}
+use Rattle.report_text.specs.declared.answers.OrderAnswer.TheVariants as order_answers
 use Rattle.report_reading.specs.declared.fault.LineFault.{LineFault}
+use Rattle.report_reading.specs.declared.fault.LineFault.TheVariants.{Word}
 use Rattle.report_text.specs.declared.line.ReportLine.{ReportLine}
 use Rattle.report_text.specs.declared.line.ReportLine.TheVariants as lines
 use Rattle.report_text.specs.declared.order.Order.{Order}
@@ -13,7 +15,7 @@ use Rattle.report_text.specs.declared.order.Order.TheVariants as orders
 use Rattle.report_text.specs.Keywords.{keyword_text}
 use Rattle.report_text.specs.Lines.{key_of, text_of, words_of}
 use Rattle.report_reading.specs.Places.{◌>>=◌, cut_words, is_key, mark_of}
-use Rattle.report_reading.specs.Ranges.{IsAnswer, IsLine, IsOrder, IsLong}
+use Rattle.report_reading.specs.Ranges.{IsAnswer, IsLine, IsOrder, IsLong, has_form}
 use Rattle.report_reading.specs.Reading.{if_text, line_by, line_of}
 use Rattle.report_text.specs.Words.{mark_key}
 use Rattle.report_reading.proofs.AnswersAgain.{answer_read, answer_solid, back_read, back_solid, loose_read, loose_solid, note_read, note_solid}
@@ -24,9 +26,15 @@ use Rattle.report_reading.proofs.NumberAgain.{byte_read, bytes_read, count_read,
 use Rattle.report_reading.proofs.NumberAgain.{path_read, path_solid, short_read}
 use Rattle.report_reading.proofs.NumberAgain.{short_solid, sized_read, track_read, track_solid}
 
--- the words of a line say the line again
+-- what the words of a line say
+abbrev said_if : Bool → ReportLine → Result ReportLine LineFault
+said_if formed line = if formed then Ok line else Err Word
+
+abbrev said : ReportLine → Result ReportLine LineFault
+said line = said_if (has_form line) line
+
 abbrev Again : ReportLine → Type 0
-Again line = line_by (keyword_text (key_of line) ∷ words_of line) ≡ Ok line
+Again line = line_by (keyword_text (key_of line) ∷ words_of line) ≡ said line
 
 -- neither its keyword nor another word has a space
 record Solid (line : ReportLine) : Type 0 where
@@ -57,7 +65,9 @@ order_again (orders.Pair first second) a h g =
 order_again (orders.Unpair device) a h g = rw (device_read device h) (ap (λ r. r >>= (λ x. Ok (lines.Order (orders.Unpair device) x))) (answer_read a g))
 order_again (orders.Suspend device) a h g = rw (device_read device h) (ap (λ r. r >>= (λ x. Ok (lines.Order (orders.Suspend device) x))) (answer_read a g))
 order_again (orders.Resume device) a h g = rw (device_read device h) (ap (λ r. r >>= (λ x. Ok (lines.Order (orders.Resume device) x))) (answer_read a g))
-order_again orders.Power a h g = ap (λ r. r >>= (λ x. Ok (lines.Order orders.Power x))) (answer_read a g)
+order_again orders.Power order_answers.Done h g = refl
+order_again orders.Power (order_answers.Pending tracks) h g = refl
+order_again orders.Power (order_answers.Refused fault) h g = refl
 
 order_solid : (order : Order) (a : OrderAnswer) → IsOrder order → IsAnswer a → Solid (lines.Order order a)
 order_solid orders.FailCache a h g = record { first = refl; others = rw (answer_solid a g) refl }
@@ -167,23 +177,27 @@ solid (lines.Sum of n) h = sum_solid of n h
 same : (bytes : List ℕ) → bytes_eq bytes bytes ≡ true
 same bytes = search rules
 
-its_text : (line : ReportLine) → if_text (text_of line) line ≡ Ok line
-its_text line = rw (same (text_of line)) refl
+its_text : (line : ReportLine) (formed : Bool) → said_if formed line >>= if_text (text_of line) ≡ said_if formed line
+its_text line true = rw (same (text_of line)) refl
+its_text line false = refl
 
 cut_again : (line : ReportLine) → IsLine line → cut_words (text_of line) ≡ keyword_text (key_of line) ∷ words_of line
 unfolding text_of cut_words
 cut_again line h =
     let s = solid line h in words_cut (keyword_text (key_of line)) (words_of line) s.first s.others
 
-one_line : (line other : ReportLine) (r : Result ReportLine LineFault) → r ≡ Ok line → r ≡ Ok other → line ≡ other
-one_line line other r e f = cc
-
-pub line_again : (line : ReportLine) → IsLine line → line_of (text_of line) ≡ Ok line
+pub line_again : (line : ReportLine) → IsLine line → line_of (text_of line) ≡ said line
 unfolding line_of
 line_again line h =
     ap (λ (ws : List (List ℕ)). line_by ws >>= if_text (text_of line)) (cut_again line h)
     ∙ ap (λ r. r >>= if_text (text_of line)) (again line h)
-    ∙ its_text line
+    ∙ its_text line (has_form line)
 
-pub lines_apart : (line other : ReportLine) → IsLine line → IsLine other → text_of line ≡ text_of other → line ≡ other
-lines_apart line other h g same = one_line line other (line_of (text_of line)) (line_again line h) (ap line_of same ∙ line_again other g)
+one_line : (line other : ReportLine) (formed : Bool) → Ok line ≡ said_if formed other → line ≡ other
+one_line line other true e = cc
+one_line line other false e = absurd (cc)
+
+pub lines_apart : (line other : ReportLine) → IsLine line → IsLine other → has_form line ≡ true → text_of line ≡ text_of other → line ≡ other
+lines_apart line other h g formed same =
+    one_line line other (has_form other)
+    (sym (ap (λ (b : Bool). said_if b line) formed) ∙ sym (line_again line h) ∙ ap line_of same ∙ line_again other g)

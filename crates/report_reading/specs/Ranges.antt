@@ -1,5 +1,5 @@
--- Which numbers and bytes the lines of a run have.
-use Rattle.std.specs.Prelude.{◌≡◌, ◌≤◌, ◌<◌, ◌^◌, ℕ, List, length}
+-- Which numbers and bytes the lines of a run have, and which answers its orders.
+use Rattle.std.specs.Prelude.{◌≡◌, ◌≤◌, ◌<◌, ◌^◌, ℕ, Bool, true, false, List, length}
 use Rattle.hex.specs.Hex.{IsBytes}
 use Rattle.ckd_types.specs.declared.paths.Owner.{Owner}
 use Rattle.ckd_types.specs.declared.paths.Owner.TheVariants as owners
@@ -139,3 +139,17 @@ IsLine (lines.Left path device programs) = IsPath path × IsDevice device × IsS
 IsLine (lines.Unused events) = IsCount events
 IsLine lines.Finish = Unit {0}
 IsLine (lines.Sum of n) = IsLong n
+
+-- Of all orders with an answer POWER alone is always done: no report says that it was refused or waits
+
+abbrev pub is_done : OrderAnswer → Bool
+is_done order_answers.Done = true
+is_done _ = false
+
+abbrev pub has_answer : Order → OrderAnswer → Bool
+has_answer orders.Power answer = is_done answer
+has_answer _ answer = true
+
+abbrev pub has_form : ReportLine → Bool
+has_form (lines.Order order answer) = has_answer order answer
+has_form _ = true

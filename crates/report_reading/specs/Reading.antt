@@ -1,6 +1,7 @@
 -- The line that a text is, or its first fault: its words are looked at from the left.
 use Rattle.std.specs.Prelude.{◌≡◌, ℕ, List, Result, Ok, Err, if◌then◌else◌}
 use Rattle.std.specs.Str.{bytes_eq}
+use Rattle.report_text.specs.declared.answers.OrderAnswer.TheVariants as order_answers
 use Rattle.report_text.specs.declared.answers.SumOf.{SumOf}
 use Rattle.report_text.specs.declared.answers.SumOf.TheVariants as sums
 use Rattle.report_reading.specs.declared.fault.LineError.{LineError}
@@ -111,8 +112,9 @@ suspend_line ws = device_at ws 1 >>= (λ device. answer_at ws 2 >>= (λ answer. 
 abbrev pub resume_line : List (List ℕ) → Result ReportLine LineFault
 resume_line ws = device_at ws 1 >>= (λ device. answer_at ws 2 >>= (λ answer. Ok (lines.Order (orders.Resume device) answer)))
 
+-- POWER is never refused, and waits for nothing
 abbrev pub power_line : List (List ℕ) → Result ReportLine LineFault
-power_line ws = answer_at ws 1 >>= (λ answer. Ok (lines.Order orders.Power answer))
+power_line ws = key_at words.Done ws 1 >>= (λ done. Ok (lines.Order orders.Power order_answers.Done))
 
 abbrev pub device_line : List (List ℕ) → Result ReportLine LineFault
 device_line ws = device_at ws 1 >>= (λ device. totals_at ws 2 >>= (λ totals. Ok (lines.Device device totals)))

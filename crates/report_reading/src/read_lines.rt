@@ -9,7 +9,7 @@ use crate::places::{
 };
 use crate::read_answers::{answer_at, back_at, loose_at, over_at, start_at, totals_at};
 use ckd_types::{Sense, UnitStatus};
-use report_text::{EndLine, Keyword, Order, ReportLine, SumOf};
+use report_text::{EndLine, Keyword, Order, OrderAnswer, ReportLine, SumOf};
 
 fn start_line(text: &[u8]) -> Result<ReportLine, LineFault>
     ensures { result ≡ start_line (cut_words text.now) }
@@ -192,8 +192,8 @@ fn resume_line(text: &[u8]) -> Result<ReportLine, LineFault>
 fn power_line(text: &[u8]) -> Result<ReportLine, LineFault>
     ensures { result ≡ power_line (cut_words text.now) }
 {
-    let answer = answer_at(text, 1)?;
-    Ok(ReportLine::Order(Order::Power, answer))
+    key_at(Keyword::Done, text, 1)?;
+    Ok(ReportLine::Order(Order::Power, OrderAnswer::Done))
 }
 
 fn device_line(text: &[u8]) -> Result<ReportLine, LineFault>

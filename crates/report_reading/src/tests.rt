@@ -8,15 +8,16 @@ const TOTALS: &str =
     "FAIL VOLUME 10 A DONE\nPAIR 10 10 REFUSED NOTLEVEL 30\nPOWER DONE\nUNPAIR 10 PENDING 4\nDEVICE 10 READS 5 WRITES 6 LOST 1\nLOST 10 17\nDEVICE 10 LENT 10\nFRAME 10 17 MODIFIED\nFRAME 10 17 CLEAN\nFRESH 10\nLEFT 2 10 8\nUNUSED 9\nCHECKS 11\nFINISH\n";
 
 const WRONG: &str =
-    "start 2 10 DONE\nSTART 5 10 DONE\nSTART 02 10 DONE\nSTART 2\nSTART 2 10 NONE\nSENSE 0008\nEND 2 10 1 3 0e 512 -\nSTART 2 10 DONE \nIO 18446744073709551616 0\nDATA 0a\n";
+    "start 2 10 DONE\nSTART 5 10 DONE\nSTART 02 10 DONE\nSTART 2\nSTART 2 10 NONE\nSENSE 0008\nPOWER REFUSED DOWN\nEND 2 10 1 3 0e 512 -\nSTART 2 10 DONE \nIO 18446744073709551616 0\nDATA 0a\n";
 
-const FAULTS: [LineFault; 10] = [
+const FAULTS: [LineFault; 11] = [
     LineFault::Keyword,
     LineFault::Number,
     LineFault::Number,
     LineFault::Words,
     LineFault::Word,
     LineFault::Digits,
+    LineFault::Word,
     LineFault::Text,
     LineFault::Text,
     LineFault::Number,

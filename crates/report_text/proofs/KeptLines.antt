@@ -1,7 +1,8 @@
 -- What is kept of lines, with one line more, and one line on.
-use Rattle.std.proofs.Common.{◌≡◌, ◌≤◌, ◌<◌, ◌+◌, ◌∷◌, [], ◌++◌, ℕ, List, length, drop, get_or, refl, sym, ap, ◌∙◌, arith}
+use Rattle.std.proofs.Common.{◌≡◌, ◌≤◌, ◌<◌, ◌+◌, ◌-◌, ◌∷◌, [], ◌++◌, ℕ, suc, nat_lt, ltb-true, ltb-false, Bool, true, false, List, length, take, drop, get_or, refl, sym, ap, ◌∙◌, arith}
 use Rattle.std.proofs.Common.{length-append, length-drop}
-use Rattle.std.proofs.lemmas.List.{append-nil, at_drop_more, drop-append-le, take-append-le, take_all}
+use Rattle.std.proofs.Common.{length-take-le, take-append-drop}
+use Rattle.std.proofs.lemmas.List.{append-nil, at_drop_more, drop-append-le, take-append-le, take_all, take_at}
 use Rattle.report_text.specs.declared.line.ReportLine.{ReportLine}
 use Rattle.report_text.specs.declared.line.ReportLine.TheVariants as lines
 use Rattle.report_text.specs.declared.record.Kept.{Kept}
@@ -102,3 +103,45 @@ module _ (ks : List Kept) (bs : List ℕ) (os : List ReportLine) (i : ℕ) (k : 
         bytes_are = sym (at_drop_more all_bytes ks i k inside ∙ ap (λ (y : Kept). all_bytes (y ∷ drop (i + 1) ks)) (sym is)) ∙ h.bytes_are;
         others_are = sym (at_drop_more all_others ks i k inside ∙ ap (λ (y : Kept). all_others (y ∷ drop (i + 1) ks)) (sym is)) ∙ h.others_are;
       }
+
+pub lines_length : (ks : List Kept) (bs : List ℕ) (os : List ReportLine) → length (kept_lines ks bs os) ≡ length ks
+lines_length [] bs os = refl
+lines_length (k ∷ ks) bs os = ap suc (lines_length ks (drop (byte_count k) bs) (drop (other_count k) os))
+
+-- without the last line
+module _ (ks : List Kept) (k : Kept) (bs : List ℕ) (os : List ReportLine) (h : IsSpent (ks ++ k ∷ []) bs os) where
+  pub last_bytes : byte_count k ≤ length bs
+  last_bytes = omega (arith, h.bytes_are, bytes_sum ks k)
+
+  pub last_others : other_count k ≤ length os
+  last_others = omega (arith, h.others_are, others_sum ks k)
+
+  pub fewer_spent : IsSpent ks (take (length bs - byte_count k) bs) (take (length os - other_count k) os)
+  fewer_spent =
+      record {
+        bytes_are = omega (arith, h.bytes_are, bytes_sum ks k, length-take-le (length bs - byte_count k) bs (omega arith));
+        others_are = omega (arith, h.others_are, others_sum ks k, length-take-le (length os - other_count k) os (omega arith));
+      }
+
+  pub fewer_lines : kept_lines ks (take (length bs - byte_count k) bs) (take (length os - other_count k) os)
+      ≡ take (length (kept_lines (ks ++ k ∷ []) bs os) - 1) (kept_lines (ks ++ k ∷ []) bs os)
+  fewer_lines =
+      let m = length bs - byte_count k in
+      let p = length os - other_count k in
+      let less : List ReportLine = kept_lines ks (take m bs) (take p os) in
+      let e : kept_lines (ks ++ k ∷ []) bs os ≡ less ++ kept_line k (drop m bs) (drop p os) ∷ [] =
+      rw (take-append-drop m bs, take-append-drop p os) at (kept_more ks k (take m bs) (drop m bs) (take p os) (drop p os) fewer_spent) in
+      let n : length less ≡ length (kept_lines (ks ++ k ∷ []) bs os) - 1 =
+      omega (arith, ap length e, length-append less (kept_line k (drop m bs) (drop p os) ∷ [])) in
+      sym (take_at less (kept_line k (drop m bs) (drop p os) ∷ []) (length (kept_lines (ks ++ k ∷ []) bs os) - 1) n)
+      ∙ ap (take (length (kept_lines (ks ++ k ∷ []) bs os) - 1)) (sym e)
+
+-- so many lines fewer
+cut_by : (xs : List ReportLine) (n : ℕ) (fewer : Bool) → nat_lt n (length xs) ≡ fewer → take (length xs - (length xs - n)) xs ≡ take n xs
+cut_by xs n true is = ap (λ (m : ℕ). take m xs) (omega (arith, ltb-true n (length xs) is))
+cut_by xs n false is =
+    let all = ltb-false n (length xs) is in
+    take_all (length xs - (length xs - n)) xs (omega (arith, all)) ∙ sym (take_all n xs all)
+
+pub cut_to : (xs : List ReportLine) (n : ℕ) → take (length xs - (length xs - n)) xs ≡ take n xs
+cut_to xs n = cut_by xs n (nat_lt n (length xs)) refl

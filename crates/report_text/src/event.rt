@@ -1,5 +1,6 @@
-ghost use Rattle.std.specs.Prelude.{◌≡◌, ◌++◌, OnOk, map};
+ghost use Rattle.std.specs.Prelude.{◌≡◌, ◌++◌, OnErr, OnOk, map};
 ghost use Rattle.report_text.specs.Events.{ended_lines, event_lines, first_lines, io_lines, last_line, line_if, loosed_line, program_over_lines};
+ghost use Rattle.report_text.specs.Record.{IsFront};
 
 use crate::{
     BackAnswer, HowOver, LooseAnswer, Order, OrderAnswer, ReportLine, RunRecord, StartAnswer,
@@ -72,7 +73,8 @@ impl RunRecord {
         ordinal: u16,
         end: CommandEnd,
     ) -> Result<(), NoMemory>
-        ensures { OnOk result (self.new ≡ self.old ++ ended_lines path device ordinal end) }
+        ensures did { OnOk result (self.new ≡ self.old ++ ended_lines path device ordinal end) }
+        ensures front { OnErr result (IsFront self.old self.new) }
     {
         let sense = end.sense;
         self.push_end_line(path, device, ordinal, &end)?;
@@ -82,7 +84,8 @@ impl RunRecord {
     }
 
     fn push_first(&mut self, happened: Happened) -> Result<(), NoMemory>
-        ensures { OnOk result (self.new ≡ self.old ++ first_lines happened) }
+        ensures did { OnOk result (self.new ≡ self.old ++ first_lines happened) }
+        ensures front { OnErr result (IsFront self.old self.new) }
     {
         match happened {
             Happened::Started(path, device, answer) => {
@@ -102,7 +105,8 @@ impl RunRecord {
     }
 
     fn push_last(&mut self, last: Option<ReportLine>) -> Result<(), NoMemory>
-        ensures { OnOk result (self.new ≡ self.old ++ line_if last) }
+        ensures did { OnOk result (self.new ≡ self.old ++ line_if last) }
+        ensures same { OnErr result (self.new ≡ self.old) }
     {
         match last {
             Some(line) => self.push(line),
@@ -111,7 +115,8 @@ impl RunRecord {
     }
 
     fn push_loosed(&mut self, loosed: &[Loosed]) -> Result<(), NoMemory>
-        ensures { OnOk result (self.new ≡ self.old ++ map loosed_line loosed.now) }
+        ensures did { OnOk result (self.new ≡ self.old ++ map loosed_line loosed.now) }
+        ensures front { OnErr result (IsFront self.old self.new) }
     {
         for one in loosed {
             self.push(ReportLine::Loose(one.device, one.answer))?;
@@ -120,7 +125,8 @@ impl RunRecord {
     }
 
     fn push_calls(&mut self, reads: u64, writes: u64) -> Result<(), NoMemory>
-        ensures { OnOk result (self.new ≡ self.old ++ io_lines reads writes) }
+        ensures did { OnOk result (self.new ≡ self.old ++ io_lines reads writes) }
+        ensures same { OnErr result (self.new ≡ self.old) }
     {
         if reads == 0 && writes == 0 {
             return Ok(());
@@ -129,7 +135,8 @@ impl RunRecord {
     }
 
     fn push_program_over(&mut self, over: &Option<ProgramOver>) -> Result<(), NoMemory>
-        ensures { OnOk result (self.new ≡ self.old ++ program_over_lines over.now) }
+        ensures did { OnOk result (self.new ≡ self.old ++ program_over_lines over.now) }
+        ensures same { OnErr result (self.new ≡ self.old) }
     {
         match over {
             Some(over) => self.push(ReportLine::Over(
@@ -142,10 +149,10 @@ impl RunRecord {
         }
     }
 
-    /// The lines of an event, in the order in which a report has them. What a record is after want of memory is not
-    /// said.
-    pub fn push_event(&mut self, event: RunEvent) -> Result<(), NoMemory>
-        ensures { OnOk result (self.new ≡ self.old ++ event_lines event.entry) }
+    /// The lines of an event, or for want of memory a front of them.
+    fn push_parts(&mut self, event: RunEvent) -> Result<(), NoMemory>
+        ensures did { OnOk result (self.new ≡ self.old ++ event_lines event.entry) }
+        ensures front { OnErr result (IsFront self.old self.new) }
     {
         let last = last_line(&event.happened);
         self.push_first(event.happened)?;
@@ -154,5 +161,20 @@ impl RunRecord {
         self.push_program_over(&event.over)?;
         self.push_last(last)?;
         Ok(())
+    }
+
+    /// The lines of an event, in the order in which a report has them; for want of memory none.
+    pub fn push_event(&mut self, event: RunEvent) -> Result<(), NoMemory>
+        ensures did { OnOk result (self.new ≡ self.old ++ event_lines event.entry) }
+        ensures same { OnErr result (self.new ≡ self.old) }
+    {
+        let count = self.len();
+        match self.push_parts(event) {
+            Ok(()) => Ok(()),
+            Err(e) => {
+                self.cut(count);
+                Err(e)
+            }
+        }
     }
 }

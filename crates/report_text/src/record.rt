@@ -1,4 +1,4 @@
-ghost use Rattle.std.specs.Prelude.{◌≡◌, ◌≤◌, ◌++◌, ◌∷◌, [], OnOk, length, take};
+ghost use Rattle.std.specs.Prelude.{◌≡◌, ◌≤◌, ◌-◌, ◌++◌, ◌∷◌, [], OnErr, OnOk, length, take};
 ghost use Rattle.ckd_outside.specs.Causes.{HasCause};
 ghost use Rattle.ckd_outside.specs.Texts.{Puts};
 ghost use Rattle.report_text.specs.Ends.{data_lines, end_line, lines_text, sense_lines};
@@ -15,6 +15,12 @@ use std::marker::Model;
 
 /// From how many bytes on a DATA line keeps its own memory, and isn't copied.
 const MANY_BYTES: usize = 512;
+
+/// The lines of most events: END, DATA, SENSE, IO, OVER, and one more.
+const MOST_LINES: usize = 6;
+
+/// The bytes of a SENSE line.
+const SENSE_BYTES: usize = 32;
 
 /// A line as a record keeps it: sixteen bytes, with those of a DATA or SENSE line elsewhere, and so every line without
 /// a form of its own.
@@ -74,11 +80,51 @@ impl RunRecord {
         }
     }
 
+    /// Room for the lines of most events: a command's end with few bytes and sense, its calls, its program's end, and one
+    /// that is kept whole.
+    pub fn make_room(&mut self) -> Result<(), NoMemory>
+        ensures { self.new ≡ self.old }
+    {
+        self.kept.reserve(MOST_LINES)?;
+        self.bytes.reserve(MANY_BYTES + SENSE_BYTES)?;
+        self.others.reserve(1)?;
+        Ok(())
+    }
+
+    /// How many lines there are.
+    pub(crate) fn len(&self) -> usize
+        ensures { result ≡ length self.now }
+    {
+        self.kept.len()
+    }
+
+    /// Without the last line, if there is one.
+    fn pop_line(&mut self)
+        ensures { self.new ≡ take (length self.old - 1) self.old }
+    {
+        let Some(kept) = self.kept.pop() else { return };
+        let bytes = self.bytes.len() - byte_count(&kept);
+        let others = self.others.len() - other_count(&kept);
+        self.bytes.truncate(bytes);
+        self.others.truncate(others);
+    }
+
+    /// The first lines, so many of them.
+    pub(crate) fn cut(&mut self, n: usize)
+        ensures { self.new ≡ take n self.old }
+    {
+        let more = self.len().saturating_sub(n);
+        for _ in 0..more {
+            self.pop_line();
+        }
+    }
+
     /// A line whose short form says all.
     fn push_short(&mut self, kept: Kept) -> Result<(), NoMemory>
         requires no_bytes { byte_count kept ≡ 0 }
         requires no_other { other_count kept ≡ 0 }
-        ensures { OnOk result (self.new ≡ self.old ++ kept_line kept [] [] ∷ []) }
+        ensures did { OnOk result (self.new ≡ self.old ++ kept_line kept [] [] ∷ []) }
+        ensures same { OnErr result (self.new ≡ self.old) }
     {
         self.kept.push(kept)?;
         Ok(())
@@ -88,7 +134,8 @@ impl RunRecord {
     fn push_bytes(&mut self, kept: Kept, bytes: &[u8]) -> Result<(), NoMemory>
         requires all_bytes { byte_count kept ≡ length bytes.now }
         requires no_other { other_count kept ≡ 0 }
-        ensures { OnOk result (self.new ≡ self.old ++ whole_line kept bytes.now ∷ []) }
+        ensures did { OnOk result (self.new ≡ self.old ++ whole_line kept bytes.now ∷ []) }
+        ensures same { OnErr result (self.new ≡ self.old) }
     {
         self.kept.reserve(1)?;
         self.bytes.extend_from_slice(bytes)?;
@@ -97,7 +144,8 @@ impl RunRecord {
     }
 
     fn push_other(&mut self, line: ReportLine) -> Result<(), NoMemory>
-        ensures { OnOk result (self.new ≡ self.old ++ line ∷ []) }
+        ensures did { OnOk result (self.new ≡ self.old ++ line ∷ []) }
+        ensures same { OnErr result (self.new ≡ self.old) }
     {
         self.kept.reserve(1)?;
         self.others.push(line)?;
@@ -106,7 +154,8 @@ impl RunRecord {
     }
 
     fn push_io(&mut self, reads: u64, writes: u64) -> Result<(), NoMemory>
-        ensures { OnOk result (self.new ≡ self.old ++ lines.Io reads writes ∷ []) }
+        ensures did { OnOk result (self.new ≡ self.old ++ lines.Io reads writes ∷ []) }
+        ensures same { OnErr result (self.new ≡ self.old) }
     {
         if reads > u64::from(u32::MAX) || writes > u64::from(u32::MAX) {
             return self.push_other(ReportLine::Io { reads, writes });
@@ -115,15 +164,16 @@ impl RunRecord {
     }
 
     fn push_sense(&mut self, sense: &Sense) -> Result<(), NoMemory>
-        ensures { OnOk result (self.new ≡ self.old ++ lines.Sense sense.now ∷ []) }
+        ensures did { OnOk result (self.new ≡ self.old ++ lines.Sense sense.now ∷ []) }
+        ensures same { OnErr result (self.new ≡ self.old) }
     {
         self.push_bytes(Kept::Sense, &sense.bytes)
     }
 
-    /// A DATA line of borrowed bytes; of 4 GiB or more for want of memory none. What a record is after want of
-    /// memory is not said.
+    /// A DATA line of borrowed bytes; of 4 GiB or more for want of memory none.
     pub fn push_data(&mut self, bytes: &[u8]) -> Result<(), NoMemory>
-        ensures { OnOk result (self.new ≡ self.old ++ lines.Data bytes.now ∷ []) }
+        ensures did { OnOk result (self.new ≡ self.old ++ lines.Data bytes.now ∷ []) }
+        ensures same { OnErr result (self.new ≡ self.old) }
     {
         match u32::try_from(bytes.len()) {
             Ok(n) => self.push_bytes(Kept::Data(n), bytes),
@@ -133,7 +183,8 @@ impl RunRecord {
 
     /// A DATA line: few bytes stand beside those of others, and many where they are.
     fn push_owned(&mut self, bytes: Bytes) -> Result<(), NoMemory>
-        ensures { OnOk result (self.new ≡ self.old ++ lines.Data bytes ∷ []) }
+        ensures did { OnOk result (self.new ≡ self.old ++ lines.Data bytes ∷ []) }
+        ensures same { OnErr result (self.new ≡ self.old) }
     {
         if bytes.len() >= MANY_BYTES {
             return self.push_other(ReportLine::Data(bytes));
@@ -141,9 +192,10 @@ impl RunRecord {
         self.push_data(bytes.as_slice())
     }
 
-    /// One line more, behind the others. What a record is after want of memory is not said.
+    /// One line more, behind the others; for want of memory none.
     pub fn push(&mut self, line: ReportLine) -> Result<(), NoMemory>
-        ensures { OnOk result (self.new ≡ self.old ++ line ∷ []) }
+        ensures did { OnOk result (self.new ≡ self.old ++ line ∷ []) }
+        ensures same { OnErr result (self.new ≡ self.old) }
     {
         match line {
             ReportLine::End(end) => self.push_short(Kept::End(end)),
@@ -164,14 +216,16 @@ impl RunRecord {
         ordinal: u16,
         end: &CommandEnd,
     ) -> Result<(), NoMemory>
-        ensures { OnOk result (self.new ≡ self.old ++ lines.End (end_line path device ordinal end.now) ∷ []) }
+        ensures did { OnOk result (self.new ≡ self.old ++ lines.End (end_line path device ordinal end.now) ∷ []) }
+        ensures same { OnErr result (self.new ≡ self.old) }
     {
         self.push_short(Kept::End(end_line(path, device, ordinal, end)))
     }
 
     /// Where bytes were sent.
     pub(crate) fn push_sent(&mut self, sent: Bytes) -> Result<(), NoMemory>
-        ensures { OnOk result (self.new ≡ self.old ++ data_lines sent) }
+        ensures did { OnOk result (self.new ≡ self.old ++ data_lines sent) }
+        ensures same { OnErr result (self.new ≡ self.old) }
     {
         if sent.is_empty() {
             return Ok(());
@@ -181,7 +235,8 @@ impl RunRecord {
 
     /// Where the end has sense.
     pub(crate) fn push_any_sense(&mut self, sense: &Option<Sense>) -> Result<(), NoMemory>
-        ensures { OnOk result (self.new ≡ self.old ++ sense_lines sense.now) }
+        ensures did { OnOk result (self.new ≡ self.old ++ sense_lines sense.now) }
+        ensures same { OnErr result (self.new ≡ self.old) }
     {
         match sense {
             Some(sense) => self.push_sense(sense),

@@ -5,4 +5,4 @@ pub returns-clause-again : goal.returns-clause-again
 returns-clause-again c line h = line_again line h
 
 pub returns-clause-apart : goal.returns-clause-apart
-returns-clause-apart c line other h g same = lines_apart line other h g same
+returns-clause-apart c line other h g formed same = lines_apart line other h g formed same

@@ -6,7 +6,7 @@ invariant_of-self-2 c =
     rw (c.push_reserved.ensures.items, c.in_ok-extend_from_slice.ensures.items, c.in_ok-reserve.ensures.items)
     (bytes_spent _ _ _ c.self.invariant c.args.kept c.args.bytes.now c.requires.all_bytes c.requires.no_other)
 
-pub returns : goal.returns
-returns c =
+pub returns-clause-did : goal.returns-clause-did
+returns-clause-did c =
     rw (c.push_reserved.ensures.items, c.in_ok-extend_from_slice.ensures.items, c.in_ok-reserve.ensures.items, ← c.self.view_is)
     (bytes_lines _ _ _ c.self.invariant c.args.kept c.args.bytes.now c.requires.all_bytes)
