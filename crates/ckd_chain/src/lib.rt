@@ -6,8 +6,6 @@ mod law;
 mod look;
 mod mark;
 mod progress;
-#[cfg(test)]
-mod tests;
 
 pub use chain::Chain;
 pub use ckd_rules::LocalAct;

@@ -4,7 +4,5 @@
 mod area;
 mod command;
 mod sending;
-#[cfg(test)]
-mod tests;
 
 pub use command::read;

@@ -4,7 +4,5 @@
 mod candidate;
 mod command;
 mod comparing;
-#[cfg(test)]
-mod tests;
 
 pub use command::search;

@@ -6,8 +6,6 @@ mod command;
 mod count;
 mod edit;
 mod format;
-#[cfg(test)]
-mod tests;
 mod update;
 
 pub use command::write;

@@ -2,8 +2,6 @@
 #![tactic(auto)]
 
 mod later;
-#[cfg(test)]
-mod program_tests;
 mod task;
 #[cfg(test)]
 mod tests;

@@ -14,8 +14,6 @@ mod place;
 mod planned;
 mod read;
 mod reading;
-#[cfg(test)]
-mod tests;
 mod words;
 mod write;
 mod write_events;

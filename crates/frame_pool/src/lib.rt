@@ -5,7 +5,5 @@ mod notes;
 mod place;
 mod pool;
 mod recency;
-#[cfg(test)]
-mod tests;
 
 pub use pool::{Pending, Pool};

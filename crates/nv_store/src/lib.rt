@@ -8,8 +8,6 @@ mod laws;
 mod patch;
 mod patches;
 mod room;
-#[cfg(test)]
-mod tests;
 
 pub use fault::ApplyFault;
 pub use laws::{edits_in_order, fit_is_tested, one_more, twice_is_once, update_is_tested};

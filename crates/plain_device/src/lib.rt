@@ -7,8 +7,6 @@ mod law;
 mod loose;
 mod paths;
 mod programs;
-#[cfg(test)]
-mod tests;
 mod volume;
 
 pub use device::PlainDevice;

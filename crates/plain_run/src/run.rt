@@ -79,7 +79,7 @@ fn first_machine(alloc: Global, geometry: Geometry, cylinders: u8) -> Result<Mac
     })
 }
 
-/// A program is copied when it begins.
+/// A program is copied when it begins. Room for its line is made before anything changes.
 fn begin_with(
     alloc: Global,
     machine: &mut Machine,
@@ -89,6 +89,7 @@ fn begin_with(
     requires room { machine.old.started < 65535 }
     ensures did { OnOk result (Told machine.new happened.old happened.new (begin_with machine.old program.now)) }
 {
+    happened.make_room()?;
     let chain = Chain::begin(program.copy(alloc)?, machine.device.fixed());
     machine.device.begin(path(), program.ccws());
     machine.started += 1;
@@ -157,12 +158,14 @@ fn command_of(
     Ok((running.ordinal, running.chain.over(), end))
 }
 
-/// The command at hand of the running program. After want of memory no program runs.
+/// The command at hand of the running program. Room for its lines is made before it is done; after want of memory in
+/// the command no program runs.
 fn command(alloc: Global, machine: &mut Machine, happened: &mut RunRecord) -> Result<(), NoMemory>
     requires running { IsSome machine.old.running }
     ensures did { OnOk result (Told machine.new happened.old happened.new (step machine.old machine.old.running)) }
     ensures counts { OnOk result (Counts machine.old.running machine.new.running) }
 {
+    happened.make_room()?;
     let (ordinal, over, end) = match command_of(alloc, &mut machine.device, &mut machine.running) {
         Ok(ran) => ran,
         Err(e) => {

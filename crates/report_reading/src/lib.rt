@@ -10,8 +10,6 @@ mod ranges;
 mod read;
 mod read_answers;
 mod read_lines;
-#[cfg(test)]
-mod tests;
 
 pub use data::{DATA_HEAD, are_digits_of, data_in_pieces};
 pub use fault::{LineError, LineFault};

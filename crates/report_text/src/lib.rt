@@ -14,8 +14,6 @@ mod report;
 mod report_lines;
 mod spelled;
 mod summary;
-#[cfg(test)]
-mod tests;
 mod words;
 
 pub use answers::{

@@ -16,6 +16,3 @@ pub use image::TrackImage;
 pub use laws::{no_prefix, reads_back, same_bytes};
 pub use room::RecordRoom;
 pub use view::RecordRef;
-
-#[cfg(test)]
-mod tests;

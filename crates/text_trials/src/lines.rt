@@ -1,0 +1,47 @@
+use report_reading::{LineError, LineFault, read_line};
+use std::test::Fail;
+
+const EVENTS: &str =
+    "START 2 10 ACCEPTED 65535\nSTART 2 10 SECONDARY 10\nSTART 2 10 RESERVED P 2\nSTART 2 10 SHUT G C9C2D4000000000000000A\nEND 2 10 65535 3 0E 512 LIMIT\nHALF 2 10 17\nBACK 10 NOTHING\nBACK 10 BADBYTES B\nRUN 10 IDLE\nCFW 10 LOST 3 00AF\nIO 18446744073709551615 0\nOVER 2 10 7 CUT 3\nRESET 2 10\n";
+
+const TOTALS: &str =
+    "FAIL VOLUME 10 A DONE\nPAIR 10 10 REFUSED NOTLEVEL 30\nPOWER DONE\nUNPAIR 10 PENDING 4\nDEVICE 10 READS 5 WRITES 6 LOST 1\nLOST 10 17\nDEVICE 10 LENT 10\nFRAME 10 17 MODIFIED\nFRAME 10 17 CLEAN\nFRESH 10\nLEFT 2 10 8\nUNUSED 9\nCHECKS 11\nFINISH\n";
+
+const WRONG: &str =
+    "start 2 10 DONE\nSTART 5 10 DONE\nSTART 02 10 DONE\nSTART 2\nSTART 2 10 NONE\nSENSE 0008\nPOWER REFUSED DOWN\nEND 2 10 1 3 0e 512 -\nSTART 2 10 DONE \nIO 18446744073709551616 0\nDATA 0a\n";
+
+const FAULTS: [LineFault; 11] = [
+    LineFault::Keyword,
+    LineFault::Number,
+    LineFault::Number,
+    LineFault::Words,
+    LineFault::Word,
+    LineFault::Digits,
+    LineFault::Word,
+    LineFault::Text,
+    LineFault::Text,
+    LineFault::Number,
+    LineFault::Text,
+];
+
+#[test]
+fn lines_that_are_read(rt: HostRuntime) -> Result<(), Fail> {
+    for line in EVENTS.lines() {
+        assert_eq!(rt; read_line(rt.alloc(), line.as_bytes()).err(), None);
+    }
+    for line in TOTALS.lines() {
+        assert_eq!(rt; read_line(rt.alloc(), line.as_bytes()).err(), None);
+    }
+    Ok(())
+}
+
+#[test]
+fn lines_with_a_fault(rt: HostRuntime) -> Result<(), Fail> {
+    let mut faults = FAULTS.iter();
+    for line in WRONG.lines() {
+        let wanted = faults.next().map(|fault| LineError::Fault(*fault));
+        assert_eq!(rt; read_line(rt.alloc(), line.as_bytes()).err(), wanted);
+    }
+    assert_eq!(rt; faults.next(), None);
+    Ok(())
+}
