@@ -5,8 +5,6 @@ mod choice;
 mod generated;
 mod law;
 mod programs;
-#[cfg(test)]
-mod tests;
 mod words;
 
 pub use generated::generate;

@@ -3,8 +3,6 @@
 #![tactic(auto)]
 
 #[cfg(test)]
-mod chains;
-#[cfg(test)]
 mod patches;
 #[cfg(test)]
 mod plain;

@@ -5,47 +5,13 @@ use ckd_types::{Bytes, Cchh, Edit, Geometry, NoMemory, RecId, Record, TrackNo};
 use ckd_write::{edit_within, make_room};
 use std::alloc::Global;
 use std::test::Fail;
-use track_image::{BytesFault, RecordRoom, TrackImage};
+use track_image::{RecordRoom, TrackImage};
 
 /// The bytes of the empty track at cylinder 1, head 2.
 const EMPTY: [u8; 29] = [
     0, 0, 1, 0, 2, 0, 1, 0, 2, 0, 0, 0, 8, 0, 0, 0, 0, 0, 0, 0, 0, 255, 255, 255, 255, 255, 255,
     255, 255,
 ];
-
-#[test]
-fn faults_are_at_their_fields(rt: HostRuntime) -> Result<(), Fail> {
-    let track = TrackNo::new(17).ok_or("track")?;
-    let zero_of_nine = [0, 0, 1, 0, 2, 0, 1, 0, 2, 0, 0, 0, 9];
-    let key_and_data = [
-        0, 0, 1, 0, 2, 0, 1, 0, 2, 0, 0, 0, 8, 0, 0, 0, 0, 0, 0, 0, 0, 0, 1, 0, 2, 1, 3, 0, 4, 7,
-        7, 7, 8,
-    ];
-    let too_large = [
-        0, 0, 1, 0, 2, 0, 1, 0, 2, 0, 0, 0, 8, 0, 0, 0, 0, 0, 0, 0, 0, 0, 1, 0, 2, 1, 0, 0xdd, 0x59,
-    ];
-    let more = [
-        0, 0, 1, 0, 2, 0, 1, 0, 2, 0, 0, 0, 8, 0, 0, 0, 0, 0, 0, 0, 0, 255, 255, 255, 255, 255,
-        255, 255, 255, 0,
-    ];
-    let rows: [(&[u8], usize); 8] = [
-        (&[], 0),
-        (&[0, 0, 2, 0, 2], 0),
-        (&EMPTY[..12], 5),
-        (&zero_of_nine, 5),
-        (&EMPTY[..20], 13),
-        (&more, 29),
-        (&key_and_data, 32),
-        (&too_large, 21),
-    ];
-    for (bytes, at) in rows {
-        match TrackImage::from_bytes(rt.alloc(), Geometry::D3390, track, bytes) {
-            Err(BytesFault::BadTrack { offset }) => assert_eq!(rt; offset, at),
-            _ => return Err(Fail::from("no bad track")),
-        }
-    }
-    Ok(())
-}
 
 #[test]
 fn eighty_records_take_few_requests_for_memory(rt: HostRuntime) -> Result<(), Fail> {

@@ -5,6 +5,8 @@
 #[cfg(test)]
 mod decks;
 #[cfg(test)]
+mod generated;
+#[cfg(test)]
 mod lines;
 #[cfg(test)]
 mod reports;

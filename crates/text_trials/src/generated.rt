@@ -1,6 +1,6 @@
-use crate::*;
 use ckd_outside::MemSink;
-use deck_text::{Deck, read_deck, write_deck};
+use deck_gen::generate;
+use deck_text::{Deck, write_deck};
 use std::alloc::Global;
 use std::test::Fail;
 
@@ -19,18 +19,5 @@ fn the_deck_of_a_seed(rt: HostRuntime) -> Result<(), Fail> {
     let deck = generate(rt.alloc(), 1, 5)?;
     let text = text_of(rt.alloc(), &deck)?;
     assert_eq!(rt; text.bytes(), FIVE);
-    Ok(())
-}
-
-#[test]
-fn generated_decks_are_read_as_themselves(rt: HostRuntime) -> Result<(), Fail> {
-    for (seed, programs) in [(0, 1), (1, 13), (18446744073709551615, 512)] {
-        let deck = generate(rt.alloc(), seed, programs)?;
-        let text = text_of(rt.alloc(), &deck)?;
-        let again = read_deck(rt.alloc(), text.bytes()).or(Err("a deck"))?;
-        assert_eq!(rt; again.program_count(), usize::from(programs));
-        let again = text_of(rt.alloc(), &again)?;
-        assert_eq!(rt; text.bytes(), again.bytes());
-    }
     Ok(())
 }
