@@ -16,6 +16,7 @@ mod read;
 mod reading;
 #[cfg(test)]
 mod tests;
+mod texts;
 mod words;
 mod write;
 mod write_events;
@@ -25,5 +26,7 @@ mod write_programs;
 pub use deck::Deck;
 pub use law::reads_back;
 pub use line::{DeckFault, DeckWhy, DeviceLine, FaultLine, PlannedProgram, Which};
+pub use lines::place_of;
 pub use read::read_deck;
+pub use texts::{write_limit, write_line, write_refused};
 pub use write::write_deck;
