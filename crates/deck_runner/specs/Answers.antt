@@ -1,17 +1,15 @@
 -- What the top call answers, and what it then has written.
-use Rattle.std.specs.Prelude.{◌≡◌, ◌⊎◌, ◌<◌, ◌≤◌, ℕ, List, [], ◌∷◌, ◌++◌, length, codes, decimal, Option, Some, None, Result, Ok, Err, if◌then◌else◌}
+use Rattle.std.specs.Prelude.{◌≡◌, ◌⊎◌, ◌<◌, ◌≤◌, ℕ, List, [], ◌∷◌, length, codes, Option, Some, None, Result, Ok, Err, if◌then◌else◌}
 use Rattle.std.specs.Str.{bytes_eq}
 use Rattle.std.specs.Io.KnownBytes.{Consumes, IsAtEnd, Appends}
 use Rattle.ckd_outside.specs.Texts.{AppendsFront}
 use Rattle.deck_text.specs.DeckLines.{DeckLines}
 use Rattle.deck_text.specs.declared.line.DeckFault.{DeckFault}
 use Rattle.deck_text.specs.declared.line.DeckFault.TheVariants as faults
-use Rattle.deck_text.specs.declared.line.DeckWhy.{DeckWhy}
 use Rattle.deck_text.specs.declared.line.DeckWhy.TheVariants as reasons
-use Rattle.deck_text.specs.declared.line.Which.{Which}
-use Rattle.deck_text.specs.declared.line.Which.TheVariants as limits
 use Rattle.deck_text.specs.Canonical.{canonical}
 use Rattle.deck_text.specs.Parse.{parsed}
+use Rattle.deck_text.specs.Texts.{limit_text, refused_text}
 use Rattle.deck_runner.specs.declared.task.Task.{Task}
 use Rattle.deck_runner.specs.declared.task.Task.TheVariants.{Run, Check}
 use Rattle.deck_runner.specs.declared.top.Status.{Status}
@@ -42,29 +40,6 @@ task_of (word ∷ other ∷ words) = None
 
 unfoldable pub usage_text : List ℕ
 usage_text = codes "usage: run, check, paths, generate SEED COUNT\n"
-
-abbrev pub why_text : DeckWhy → List ℕ
-why_text reasons.Byte = codes "byte"
-why_text reasons.Word = codes "word"
-why_text reasons.Order = codes "order"
-why_text reasons.Words = codes "words"
-why_text reasons.Number = codes "number"
-why_text reasons.Hex = codes "hex"
-why_text reasons.Program = codes "program"
-why_text reasons.Unfinished = codes "unfinished"
-why_text reasons.Later = codes "later"
-
-unfoldable pub refused_text : ℕ → DeckWhy → List ℕ
-refused_text line why = codes "deck line " ++ (decimal line ++ (codes ": " ++ (why_text why ++ codes "\n")))
-
-abbrev pub which_text : Which → List ℕ
-which_text limits.Size = codes "size"
-which_text limits.Programs = codes "programs"
-which_text limits.Events = codes "events"
-which_text limits.Faults = codes "faults"
-
-unfoldable pub limit_text : Which → List ℕ
-limit_text which = codes "limit: " ++ (which_text which ++ codes "\n")
 
 abbrev pub unless_later : DeckLines → Option ℕ → Result DeckLines DeckFault
 unless_later d (Some n) = Err (faults.Refused n reasons.Later)

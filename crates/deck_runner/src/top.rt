@@ -1,22 +1,21 @@
 ghost use Rattle.std.specs.Prelude.{◌≡◌, ◌≢◌, ◌⊎◌, ◌≤◌, IfOk, IfSome, Ok, Err, Some, None, [], map, List, ℕ};
 ghost use Rattle.std.specs.Io.KnownBytes.{Appends};
-ghost use Rattle.std.specs.List.{flat_map};
-ghost use Rattle.ckd_outside.specs.Pieces.{piece_text};
 ghost use Rattle.ckd_outside.specs.Causes.{Rose, HasCause};
 ghost use Rattle.ckd_outside.specs.Texts.{Writes, AppendsFront};
 ghost use Rattle.deck_text.specs.DeckLines.{DeckLines};
 ghost use Rattle.plain_run.specs.Lines.{lines_of};
 ghost use Rattle.deck_runner.specs.Later.{first_later};
 ghost use Rattle.deck_runner.specs.Run.{first_device, run_of, DeckRunsPlainly};
-ghost use Rattle.deck_runner.specs.Answers.{code_of, task_by, task_of, usage_text, why_text, refused_text, which_text, limit_text, open_deck, deck_for, TellsDeck, TellsTask, TellsUsage, Tells};
+ghost use Rattle.deck_runner.specs.Answers.{code_of, task_by, task_of, usage_text, open_deck, deck_for, TellsDeck, TellsTask, TellsUsage, Tells};
 
 use crate::later::first_later;
 use crate::task::Task;
-use ckd_outside::{
-    Failed, LineBuffer, Piece, ReadError, Sink, Source, flush, read_up_to, write_pieces,
-};
+use ckd_outside::{Failed, Piece, ReadError, Sink, Source, read_up_to};
 use ckd_types::{DeviceNo, Geometry, NoMemory};
-use deck_text::{Deck, DeckFault, DeckWhy, DeviceLine, Which, read_deck, write_deck};
+use deck_text::{
+    Deck, DeckFault, DeckWhy, DeviceLine, Which, read_deck, write_deck, write_limit, write_line,
+    write_refused,
+};
 use plain_run::run_lines;
 use report_text::{RunRecord, write_report};
 use std::alloc::Global;
@@ -91,77 +90,12 @@ pub fn words_of<'a>(arguments: Option<&'a [&'a str]>) -> &'a [&'a str]
     }
 }
 
-/// Writes a line by itself.
-fn write_line<K: Sink>(sink: &mut K, pieces: &[Piece]) -> Result<(), Failed>
-    ensures bytes { Writes (K.held sink.old) (K.held sink.new) result (flat_map piece_text pieces.now) }
-    ensures cause { HasCause (K.faults sink.old) (K.faults sink.new) result }
-{
-    let mut buffer = LineBuffer::new();
-    write_pieces(sink, &mut buffer, pieces)?;
-    flush(sink, &mut buffer)
-}
-
 #[tactic(auto, unfolding(crate::specs::Answers::usage_text))]
 fn write_usage<K: Sink>(sink: &mut K) -> Result<(), Failed>
     ensures bytes { Writes (K.held sink.old) (K.held sink.new) result usage_text }
     ensures cause { HasCause (K.faults sink.old) (K.faults sink.new) result }
 {
     let pieces = [Piece::Text(b"usage: run, check, paths, generate SEED COUNT\n")];
-    write_line(sink, &pieces)
-}
-
-fn why_text(why: DeckWhy) -> &'static [u8]
-    ensures { result.now ≡ why_text why }
-{
-    match why {
-        DeckWhy::Byte => b"byte",
-        DeckWhy::Word => b"word",
-        DeckWhy::Order => b"order",
-        DeckWhy::Words => b"words",
-        DeckWhy::Number => b"number",
-        DeckWhy::Hex => b"hex",
-        DeckWhy::Program => b"program",
-        DeckWhy::Unfinished => b"unfinished",
-        DeckWhy::Later => b"later",
-    }
-}
-
-#[tactic(auto, unfolding(crate::specs::Answers::refused_text))]
-fn write_refused<K: Sink>(sink: &mut K, line: u32, why: DeckWhy) -> Result<(), Failed>
-    ensures bytes { Writes (K.held sink.old) (K.held sink.new) result (refused_text line why) }
-    ensures cause { HasCause (K.faults sink.old) (K.faults sink.new) result }
-{
-    let pieces = [
-        Piece::Text(b"deck line "),
-        Piece::Number(u64::from(line)),
-        Piece::Text(b": "),
-        Piece::Text(why_text(why)),
-        Piece::Text(b"\n"),
-    ];
-    write_line(sink, &pieces)
-}
-
-fn which_text(which: Which) -> &'static [u8]
-    ensures { result.now ≡ which_text which }
-{
-    match which {
-        Which::Size => b"size",
-        Which::Programs => b"programs",
-        Which::Events => b"events",
-        Which::Faults => b"faults",
-    }
-}
-
-#[tactic(auto, unfolding(crate::specs::Answers::limit_text))]
-fn write_limit<K: Sink>(sink: &mut K, which: Which) -> Result<(), Failed>
-    ensures bytes { Writes (K.held sink.old) (K.held sink.new) result (limit_text which) }
-    ensures cause { HasCause (K.faults sink.old) (K.faults sink.new) result }
-{
-    let pieces = [
-        Piece::Text(b"limit: "),
-        Piece::Text(which_text(which)),
-        Piece::Text(b"\n"),
-    ];
     write_line(sink, &pieces)
 }
 

@@ -10,3 +10,4 @@ pub mod Reading
 pub mod Parse
 pub mod Answers
 pub mod Canonical
+pub mod Texts
