@@ -1,18 +1,12 @@
-//! Runs a deck of channel programs against a plain volume, and writes a report.
+//! The program: runs a deck of channel programs and writes a report, or checks a deck.
 #![tactic(auto)]
 
-mod later;
-mod task;
-#[cfg(test)]
-mod tests;
-mod top;
-
 use ckd_outside::{StdSink, StdSource};
+use deck_top::{Status, code_of, deck_top, words_of};
 use std::alloc::AllocError;
 use std::env::Args;
 use std::process::ExitCode;
 use std::{env, io};
-use top::{Status, code_of, deck_top, words_of};
 
 fn ended(status: Status) -> ExitCode {
     ExitCode::from(code_of(status))

@@ -4,8 +4,8 @@ use Rattle.plain_defs.specs.Built.{IsBuilt}
 use Rattle.deck_plan.specs.Plans.{Plans, plan_of}
 use Rattle.deck_text.specs.declared.line.DeviceLine.{DeviceLine}
 use Rattle.deck_text.specs.Plans.{plans_of}
-use Rattle.deck_runner.proofs.Built.{Fits, deck_built, deck_fits}
-use Rattle.deck_runner.proofs.top.run_deck.Goals as goal
+use Rattle.deck_top.proofs.Built.{Fits, deck_built, deck_fits}
+use Rattle.deck_top.proofs.top.run_deck.Goals as goal
 
 pub run_lines-requires : goal.run_lines-requires
 run_lines-requires c =

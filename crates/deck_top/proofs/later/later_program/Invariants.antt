@@ -1,6 +1,6 @@
 use Rattle.std.proofs.Common.{◌≡◌, ◌≤◌, ◌+◌, ◌*◌, drop, length}
-use Rattle.deck_runner.specs.Later.{later_program}
-use Rattle.deck_runner.proofs.later.later_program.Given as goal
+use Rattle.deck_top.specs.Later.{later_program}
+use Rattle.deck_top.proofs.later.later_program.Given as goal
 
 abbrev pub invariant-loop-i : goal.invariant-loop-i
 invariant-loop-i l =

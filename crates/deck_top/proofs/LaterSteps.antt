@@ -6,7 +6,7 @@ use Rattle.ckd_types.specs.Commands.{command_of}
 use Rattle.plain_defs.specs.Built.{is_built}
 use Rattle.deck_plan.specs.declared.event.EventLine.{EventLine}
 use Rattle.deck_text.specs.declared.line.PlannedProgram.{PlannedProgram}
-use Rattle.deck_runner.specs.Later.{bad_word, or_later, bad_program, lines_of, later_program, line_behind, is_open_event, later_event}
+use Rattle.deck_top.specs.Later.{bad_word, or_later, bad_program, lines_of, later_program, line_behind, is_open_event, later_event}
 
 module _ (es : List EventLine) (i n : ℕ) (e : EventLine) (inside : i < length es) (is : e ≡ get_or es i e) where
   at_event : later_event n (drop i es) ≡ cond (is_open_event e) (later_event (n + 1) (drop (i + 1) es)) (Some n)

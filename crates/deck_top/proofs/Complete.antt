@@ -10,10 +10,10 @@ use Rattle.deck_text.specs.declared.line.DeckFault.{DeckFault}
 use Rattle.deck_text.specs.declared.line.DeckFault.TheVariants as faults
 use Rattle.deck_text.specs.declared.line.Which.TheVariants.{Size}
 use Rattle.deck_text.specs.Parse.{parsed}
-use Rattle.deck_runner.specs.declared.task.Task.{Task}
-use Rattle.deck_runner.specs.declared.top.Status.{Status}
-use Rattle.deck_runner.specs.declared.top.Status.TheVariants.{Reported, DeckRefused, ReadFault, WriteFault, Limit, NoMemory, Usage}
-use Rattle.deck_runner.specs.Answers.{Reads, Tells, TellsTask, deck_for, open_deck, if_read}
+use Rattle.deck_top.specs.declared.task.Task.{Task}
+use Rattle.deck_top.specs.declared.top.Status.{Status}
+use Rattle.deck_top.specs.declared.top.Status.TheVariants.{Reported, DeckRefused, ReadFault, WriteFault, Limit, NoMemory, Usage}
+use Rattle.deck_top.specs.Answers.{Reads, Tells, TellsTask, deck_for, open_deck, if_read}
 
 parse_long : (text : List ℕ) → 16777217 ≤ length text → parsed text ≡ Err (faults.Limit Size)
 parse_long text long = grind (arith, nat_tests)

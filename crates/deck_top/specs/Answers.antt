@@ -10,12 +10,12 @@ use Rattle.deck_text.specs.declared.line.DeckWhy.TheVariants as reasons
 use Rattle.deck_text.specs.Canonical.{canonical}
 use Rattle.deck_text.specs.Parse.{parsed}
 use Rattle.deck_text.specs.Texts.{limit_text, refused_text}
-use Rattle.deck_runner.specs.declared.task.Task.{Task}
-use Rattle.deck_runner.specs.declared.task.Task.TheVariants.{Run, Check}
-use Rattle.deck_runner.specs.declared.top.Status.{Status}
-use Rattle.deck_runner.specs.declared.top.Status.TheVariants.{Reported, DeckRefused, ReadFault, WriteFault, Limit, NoMemory, Usage}
-use Rattle.deck_runner.specs.Later.{first_later}
-use Rattle.deck_runner.specs.Run.{run_of, DeckRunsPlainly}
+use Rattle.deck_top.specs.declared.task.Task.{Task}
+use Rattle.deck_top.specs.declared.task.Task.TheVariants.{Run, Check}
+use Rattle.deck_top.specs.declared.top.Status.{Status}
+use Rattle.deck_top.specs.declared.top.Status.TheVariants.{Reported, DeckRefused, ReadFault, WriteFault, Limit, NoMemory, Usage}
+use Rattle.deck_top.specs.Later.{first_later}
+use Rattle.deck_top.specs.Run.{run_of, DeckRunsPlainly}
 use Rattle.plain_run.specs.Lines.{lines_of}
 use Rattle.report_text.specs.Report.{report_text}
 

@@ -1,7 +1,7 @@
 ghost use Rattle.std.specs.Prelude.{◌≡◌, ◌<◌, ◌≤◌, ◌+◌, ◌*◌, IfSome, IfNone, length};
 ghost use Rattle.ckd_types.specs.Commands.{command_of};
 ghost use Rattle.plain_defs.specs.Built.{is_built};
-ghost use Rattle.deck_runner.specs.Later.{is_open_device, later_device, later_fault, bad_word, bad_program, lines_of, later_program, line_behind, is_open_event, later_event, first_later};
+ghost use Rattle.deck_top.specs.Later.{is_open_device, later_device, later_fault, bad_word, bad_program, lines_of, later_program, line_behind, is_open_event, later_event, first_later};
 
 use ckd_ccw::Program;
 use ckd_types::{Command, DeviceCommand, command_of};

@@ -4,9 +4,9 @@ ghost use Rattle.ckd_outside.specs.Causes.{Rose, HasCause};
 ghost use Rattle.ckd_outside.specs.Texts.{Writes, AppendsFront};
 ghost use Rattle.deck_text.specs.DeckLines.{DeckLines};
 ghost use Rattle.plain_run.specs.Lines.{lines_of};
-ghost use Rattle.deck_runner.specs.Later.{first_later};
-ghost use Rattle.deck_runner.specs.Run.{first_device, run_of, DeckRunsPlainly};
-ghost use Rattle.deck_runner.specs.Answers.{code_of, task_by, task_of, usage_text, open_deck, deck_for, TellsDeck, TellsTask, TellsUsage, Tells};
+ghost use Rattle.deck_top.specs.Later.{first_later};
+ghost use Rattle.deck_top.specs.Run.{first_device, run_of, DeckRunsPlainly};
+ghost use Rattle.deck_top.specs.Answers.{code_of, task_by, task_of, usage_text, open_deck, deck_for, TellsDeck, TellsTask, TellsUsage, Tells};
 
 use crate::later::first_later;
 use crate::task::Task;

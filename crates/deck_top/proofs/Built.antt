@@ -12,8 +12,8 @@ use Rattle.deck_text.specs.declared.line.DeviceLine.{DeviceLine}
 use Rattle.deck_text.specs.declared.line.PlannedProgram.{PlannedProgram}
 use Rattle.deck_text.specs.DeckLines.{DeckLines}
 use Rattle.deck_text.specs.Plans.{planned, planned_all, plans_of}
-use Rattle.deck_runner.specs.Later.{is_open_device, or_else, bad_word, bad_program, lines_of, or_later, later_program, later_device, later_fault, first_later}
-use Rattle.deck_runner.specs.Run.{first_device}
+use Rattle.deck_top.specs.Later.{is_open_device, or_else, bad_word, bad_program, lines_of, or_later, later_program, later_device, later_fault, first_later}
+use Rattle.deck_top.specs.Run.{first_device}
 
 abbrev pub AreBuilt : List Ccw → Type 0
 AreBuilt ccws = All IsBuilt ccws
