@@ -4,3 +4,4 @@ pub mod Endings
 pub mod Begun
 pub mod Whole
 pub mod Commands
+pub mod Parts
