@@ -1,3 +1,5 @@
 pub mod Words
+pub mod Kept
 pub mod Turns
 pub mod State
+pub mod Starting
