@@ -29,7 +29,8 @@ use Rattle.device_store.proofs.Bare.{ended_at_once}
 use Rattle.device_store.proofs.Moves.{from_equal}
 use Rattle.device_core.specs.declared.past.Running.{Running}
 use Rattle.device_core.specs.declared.past.Past.{Past}
-use Rattle.device_core.specs.State.{DefinedDevice, open_of, chain_of, device_by, commanded, came_from}
+use Rattle.device_core.specs.Kept.{open_of, chain_of, waiting_in}
+use Rattle.device_core.specs.State.{DefinedDevice, device_by, commanded, came_from}
 use Rattle.device_core.specs.Turns.{turn_with}
 
 by_over : (d : DefinedDevice) (x : Option ChainState) (chain : ChainState) (e : CommandEnd) (over : Bool) →
@@ -55,14 +56,13 @@ module _ (s : Store Frame Stored Image) (paths : PathsState) (plans : Plans) whe
   with_past h chain = record { store = s; paths = paths; plans = plans; history = h; chain = chain }
 
   -- room is no part of a device
-  pub same_device : (p q : Past) → option_map open_of p.running ≡ option_map open_of q.running →
-      option_map chain_of p.running ≡ option_map chain_of q.running → p.items.items ≡ q.items.items → p.waiting ≡ q.waiting →
-      device_by s paths plans p ≡ device_by s paths plans q
-  same_device p q running chain items waiting = rw (running, chain, items, waiting) refl
+  pub same_device : (p : Past) (y : Option Running) → option_map open_of y ≡ option_map open_of p.running →
+      option_map chain_of y ≡ option_map chain_of p.running → device_by s paths plans p ≡ device_by s paths plans (record p { running = y })
+  same_device p y running chain = rw (running, chain) refl
 
   module _ (s0 : Store Frame Stored Image) (paths0 : PathsState) (p : Past) where
     abbrev with_open : Option OpenEntry → History
-    with_open o = record { items = p.items.items; running = o; waiting = p.waiting.items }
+    with_open o = record { items = p.items.items; running = o; waiting = waiting_in p.kept }
 
     pub lacked_to : (y : Option Running) (e : NoMemory) → IsSome y → option_map open_of y ≡ option_map open_of p.running →
         came_from (record (device_by s0 paths0 plans p) { store = s; paths = paths }) y (Err e) ≡ device_by s paths plans (record p { running = y })

@@ -1,11 +1,11 @@
 -- What a device is in the definitions, and how its answers are seen.
-use Rattle.std.specs.Prelude.{◌≡◌, ℕ, ◌-◌, List, [], length, slice_get, Bool, true, Option, None, Some, Result, Ok, Err, option_map, ◌+◌, ◌*◌, ◌^◌, min, count_by, if◌then◌else◌}
+use Rattle.std.specs.Prelude.{◌≡◌, ℕ, ◌-◌, List, length, slice_get, Bool, true, Option, None, Some, Result, Ok, Err, option_map, ◌+◌, ◌*◌, ◌^◌, min, count_by, if◌then◌else◌}
 use Rattle.ckd_types.specs.declared.channel.CommandEnd.{CommandEnd}
 use Rattle.ckd_chain.specs.State.{ChainState}
 use Rattle.ckd_chain.specs.Steps.{need_of}
 use Rattle.plain_defs.specs.declared.journal.Item.{Item}
 use Rattle.plain_defs.specs.declared.journal.Item.TheVariants.{Program}
-use Rattle.plain_defs.specs.History.{OpenEntry, History, is_path_of, no_history}
+use Rattle.plain_defs.specs.History.{History, is_path_of, no_history}
 use Rattle.plain_defs.specs.Legal.{is_of_path}
 use Rattle.plain_defs.specs.Journal.{Plans}
 use Rattle.plain_defs.specs.PlainState.{PathsState, fresh_paths}
@@ -37,16 +37,7 @@ use Rattle.device_core.specs.declared.past.Stepped.{Stepped}
 use Rattle.device_core.specs.declared.past.Stepped.TheVariants as steps
 use Rattle.device_core.specs.declared.second.SecondStep.{SecondStep}
 use Rattle.device_core.specs.declared.second.SecondStep.TheVariants as parts
-
--- no act of cache fast write comes to it yet
-abbrev pub open_of : Running → OpenEntry
-open_of r = record { path = r.path; ordinal = r.ordinal; ends = r.ends.items; acts = [] }
-
-abbrev pub chain_of : Running → ChainState
-chain_of r = r.chain
-
-abbrev pub history_of : Past → History
-history_of p = record { items = p.items.items; running = option_map open_of p.running; waiting = p.waiting.items }
+pub use Rattle.device_core.specs.Kept.{open_of, chain_of, history_of}
 
 abbrev pub device_by : Store Frame Stored Image → PathsState → Plans → Past → definitions.Device Frame Stored Image
 device_by s paths plans p = record { store = s; paths = paths; plans = plans; history = history_of p; chain = option_map chain_of p.running }
