@@ -392,7 +392,8 @@ impl Chain {
 
     /// The last track of the extent.
     pub fn extent_last(&self) -> Option<TrackNo>
-        ensures { result ≡ last_by self.now.at.stance.extent }
+        ensures last { result ≡ last_by self.now.at.stance.extent }
+        ensures on_device { IfSome result (λ t. t < self.now.fixed.cylinders * 15) }
     {
         match self.at.stance.extent {
             Some(extent) => Some(extent.last),

@@ -19,7 +19,7 @@ use Rattle.device_defs.specs.declared.answers.Came.{Came}
 use Rattle.device_defs.specs.declared.answers.Came.TheVariants.{Ends, Checks, HalfOpen}
 use Rattle.device_defs.specs.Command.{command_by}
 use Rattle.device_defs.specs.Contents.{contents}
-use Rattle.device_defs.specs.Device.{event, event_ended}
+use Rattle.device_defs.specs.Device.{event, quiet_event, event_ended}
 use Rattle.device_defs.specs.Outcomes.{turned, gone_on}
 use Rattle.device_defs.specs.Owed.{hear}
 use Rattle.device_defs.specs.Store.{Store}
@@ -29,7 +29,8 @@ use Rattle.device_store.proofs.Bare.{ended_at_once}
 use Rattle.device_store.proofs.Moves.{from_equal}
 use Rattle.device_core.specs.declared.past.Running.{Running}
 use Rattle.device_core.specs.declared.past.Past.{Past}
-use Rattle.device_core.specs.State.{DefinedDevice, open_of, chain_of, device_by, commanded, came_from}
+use Rattle.device_core.specs.Kept.{open_of, chain_of, waiting_in}
+use Rattle.device_core.specs.State.{DefinedDevice, device_by, commanded, came_from}
 use Rattle.device_core.specs.Turns.{turn_with}
 
 by_over : (d : DefinedDevice) (x : Option ChainState) (chain : ChainState) (e : CommandEnd) (over : Bool) →
@@ -55,14 +56,13 @@ module _ (s : Store Frame Stored Image) (paths : PathsState) (plans : Plans) whe
   with_past h chain = record { store = s; paths = paths; plans = plans; history = h; chain = chain }
 
   -- room is no part of a device
-  pub same_device : (p q : Past) → option_map open_of p.running ≡ option_map open_of q.running →
-      option_map chain_of p.running ≡ option_map chain_of q.running → p.items.items ≡ q.items.items → p.waiting ≡ q.waiting →
-      device_by s paths plans p ≡ device_by s paths plans q
-  same_device p q running chain items waiting = rw (running, chain, items, waiting) refl
+  pub same_device : (p : Past) (y : Option Running) → option_map open_of y ≡ option_map open_of p.running →
+      option_map chain_of y ≡ option_map chain_of p.running → device_by s paths plans p ≡ device_by s paths plans (record p { running = y })
+  same_device p y running chain = rw (running, chain) refl
 
   module _ (s0 : Store Frame Stored Image) (paths0 : PathsState) (p : Past) where
     abbrev with_open : Option OpenEntry → History
-    with_open o = record { items = p.items.items; running = o; waiting = p.waiting.items }
+    with_open o = record { items = p.items.items; running = o; waiting = waiting_in p.kept }
 
     pub lacked_to : (y : Option Running) (e : NoMemory) → IsSome y → option_map open_of y ≡ option_map open_of p.running →
         came_from (record (device_by s0 paths0 plans p) { store = s; paths = paths }) y (Err e) ≡ device_by s paths plans (record p { running = y })
@@ -85,12 +85,19 @@ pub to_answer : {R I K S A : Type 0} {had : Bool → Type 0} {hears : Hearing I 
 to_answer {had = had} {hears = hears} {i = i} {v = v} {w = w} {s = s} same ran = subst (λ x. Ran had hears i v s x w) same ran
 
 module _ {V K A : Type 0} {G : Ghosts V} {had : Bool → Type 0} {hears : Hearing Image K} where
-  -- an event that takes its notes, and then does its work, ends at once
+  -- an event that takes no notes ends at once behind its work
+  pub quiet_ran : (x y : DeviceStore V G) (d e : DefinedDevice) (body : DefinedDevice → Interaction (List ℕ) Image DefinedDevice A) {a : A}
+      {u w : Outside (List ℕ) K} → Ran had hears (body (record d { store = state_of x })) u (record e { store = state_of y }) a w →
+      Ran had hears (quiet_event contents (record d { store = state_of x }) body) u (record e { store = state_of y }) a w
+  quiet_ran x y d e body {a} bodied =
+      joined (event_ended contents (record d { store = state_of x })) bodied
+      (from_equal (λ i. and_then i (λ z _. Done (record e { store = z }) a)) (sym (ended_at_once contents (state_of x) (state_of y))) refl done)
+
+  -- and one that takes its notes before its work
   pub event_ran : (x y : DeviceStore V G) (d e : DefinedDevice) (body : DefinedDevice → Interaction (List ℕ) Image DefinedDevice A) {a : A}
       {u v w : Outside (List ℕ) K} → Ran had hears (hear contents 960 (state_of x)) u (state_of x) tt v →
       Ran had hears (body (record d { store = state_of x })) v (record e { store = state_of y }) a w →
       Ran had hears (event contents (record d { store = state_of x }) body) u (record e { store = state_of y }) a w
-  event_ran x y d e body {a} heard bodied =
-      joined (event_ended contents (record d { store = state_of x }))
+  event_ran x y d e body heard bodied =
+      quiet_ran x y d e (λ z. and_then (hear contents 960 z.store) (λ s _. body (record z { store = s })))
       (joined (λ s _. body (record d { store = s })) heard bodied)
-      (from_equal (λ i. and_then i (λ z _. Done (record e { store = z }) a)) (sym (ended_at_once contents (state_of x) (state_of y))) refl done)

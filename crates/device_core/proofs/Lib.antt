@@ -1,6 +1,13 @@
 pub mod Stepping
 pub mod Rests
+pub mod Waiting
+pub mod Keeping
+pub mod Pasts
 pub mod Endings
 pub mod Begun
 pub mod Whole
 pub mod Commands
+pub mod Resetting
+pub mod Starts
+pub mod Parts
+pub mod Powers

@@ -1,3 +1,6 @@
 pub mod Words
+pub mod Kept
+pub mod Powered
 pub mod Turns
 pub mod State
+pub mod Starting

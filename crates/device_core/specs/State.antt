@@ -1,11 +1,11 @@
 -- What a device is in the definitions, and how its answers are seen.
-use Rattle.std.specs.Prelude.{◌≡◌, ℕ, ◌-◌, List, [], length, slice_get, Option, None, Some, Result, Ok, Err, option_map, ◌+◌, ◌*◌, ◌^◌, min, count_by, if◌then◌else◌}
+use Rattle.std.specs.Prelude.{◌≡◌, ℕ, ◌-◌, List, length, slice_get, Bool, true, Option, None, Some, Result, Ok, Err, option_map, ◌+◌, ◌*◌, ◌^◌, min, count_by, if◌then◌else◌}
 use Rattle.ckd_types.specs.declared.channel.CommandEnd.{CommandEnd}
 use Rattle.ckd_chain.specs.State.{ChainState}
 use Rattle.ckd_chain.specs.Steps.{need_of}
 use Rattle.plain_defs.specs.declared.journal.Item.{Item}
 use Rattle.plain_defs.specs.declared.journal.Item.TheVariants.{Program}
-use Rattle.plain_defs.specs.History.{OpenEntry, History, is_path_of, no_history}
+use Rattle.plain_defs.specs.History.{History, is_path_of, no_history}
 use Rattle.plain_defs.specs.Legal.{is_of_path}
 use Rattle.plain_defs.specs.Journal.{Plans}
 use Rattle.plain_defs.specs.PlainState.{PathsState, fresh_paths}
@@ -23,6 +23,10 @@ use Rattle.device_defs.specs.Outcomes.{turned, told_step}
 use Rattle.device_outside.specs.Interaction.{Interaction, Done}
 use Rattle.device_core.specs.Turns.{turn_with}
 use Rattle.device_defs.specs.declared.answers.Stepped.TheVariants as answers
+use Rattle.device_defs.specs.declared.answers.SecondEnd.{SecondEnd}
+use Rattle.device_defs.specs.declared.answers.SecondEnd.TheVariants as seconds
+use Rattle.ckd_types.specs.declared.paths.Side.{Side}
+use Rattle.ckd_types.specs.declared.paths.Side.TheVariants.{A, B}
 use Rattle.device_defs.specs.Device as definitions
 use Rattle.device_defs.specs.Store.{Store}
 use Rattle.device_store.specs.State.{state_of, opened_store}
@@ -31,16 +35,9 @@ use Rattle.device_core.specs.declared.past.Past.{Past}
 use Rattle.device_core.specs.declared.past.Running.{Running}
 use Rattle.device_core.specs.declared.past.Stepped.{Stepped}
 use Rattle.device_core.specs.declared.past.Stepped.TheVariants as steps
-
--- no act of cache fast write comes to it yet
-abbrev pub open_of : Running → OpenEntry
-open_of r = record { path = r.path; ordinal = r.ordinal; ends = r.ends.items; acts = [] }
-
-abbrev pub chain_of : Running → ChainState
-chain_of r = r.chain
-
-abbrev pub history_of : Past → History
-history_of p = record { items = p.items.items; running = option_map open_of p.running; waiting = p.waiting.items }
+use Rattle.device_core.specs.declared.second.SecondStep.{SecondStep}
+use Rattle.device_core.specs.declared.second.SecondStep.TheVariants as parts
+pub use Rattle.device_core.specs.Kept.{open_of, chain_of, history_of}
 
 abbrev pub device_by : Store Frame Stored Image → PathsState → Plans → Past → definitions.Device Frame Stored Image
 device_by s paths plans p = record { store = s; paths = paths; plans = plans; history = history_of p; chain = option_map chain_of p.running }
@@ -72,6 +69,17 @@ step_seen p (steps.Half t) = Some (answers.Half t)
 abbrev pub step_had : {E : Type 0} → Past → Result Stepped E → Option defs.Stepped
 step_had p (Ok s) = step_seen p s
 step_had p (Err e) = None
+
+-- the same of a second part
+abbrev pub second_seen : Past → SecondStep → Option SecondEnd
+second_seen p parts.Ended = option_map seconds.Ended (last_end_of p)
+second_seen p (parts.Finished t) = Some (seconds.Finished t)
+second_seen p (parts.Unwritten t) = Some (seconds.Unwritten t)
+
+-- a device has side A, and side B while it is paired
+abbrev pub is_there : {F P H : Type 0} → Store F P H → Side → Bool
+is_there s A = true
+is_there s B = s.paired
 
 -- The device behind a command of a path that came out, or for which memory was lacking
 

@@ -1,5 +1,7 @@
--- A chain between two commands of a program that runs.
-use Rattle.std.specs.Prelude.{◌≡◌, ℕ, IsSome}
+-- A chain between two commands of a program that runs, and the ends of its commands.
+use Rattle.std.specs.Prelude.{◌≡◌, ◌<◌, ℕ, IsSome, length}
+use Rattle.ckd_types.specs.declared.channel.CommandEnd.{CommandEnd}
+use Rattle.ckd_types.specs.Roomy.{Roomy}
 use Rattle.ckd_chain.specs.State.{ChainState}
 use Rattle.ckd_chain.specs.Steps.{opened}
 
@@ -12,3 +14,8 @@ pub record IsReady (chain : ChainState) : Type 0 where
 pub record IsAtWord (cylinders : ℕ) (chain : ChainState) : Type 0 where
   pub ready : IsReady chain
   pub cylinders_are : chain.fixed.cylinders ≡ cylinders
+
+-- there is room for one end more, which can still be counted
+pub record HasEndRoom (ends : Roomy CommandEnd) : Type 0 where
+  pub room : 0 < ends.spare
+  pub counted : length ends.items < 65535

@@ -1,40 +1,24 @@
-ghost use Rattle.std.specs.Prelude.{◌≡◌, count_by};
+ghost use Rattle.std.specs.Prelude.{◌≡◌, ◌≤◌, is_some};
 ghost use Rattle.device_defs.specs.Start.{left, started_count};
-ghost use Rattle.plain_defs.specs.History.{is_path_of};
-ghost use Rattle.plain_defs.specs.Legal.{is_of_path};
-ghost use Rattle.device_core.specs.State.{device_of, history_of, count_of};
+ghost use Rattle.plain_defs.specs.History.{has_used, is_path_of};
+ghost use Rattle.device_core.specs.Kept.{history_of, of_path, Keeps};
+ghost use Rattle.device_core.specs.State.{device_of, count_of};
 
 use crate::Device;
-use crate::past::Past;
+use crate::past::{KeptPath, Past};
 use ckd_types::PathNo;
 use device_outside::Volume;
-use plain_defs::Item;
-
-/// It is a program of the path.
-fn is_of_path(item: &Item, path: PathNo) -> bool
-    ensures { result ≡ is_of_path path item.now }
-{
-    match item {
-        Item::Program(entry) => entry.path == path,
-        _ => false,
-    }
-}
-
-/// How many programs of a path a journal has.
-fn programs_of(items: &[Item], path: PathNo) -> usize
-    ensures { result ≡ count_by (is_of_path path) items.now }
-{
-    let mut count = 0;
-    for item in items {
-        if is_of_path(item, path) {
-            count += 1;
-        }
-    }
-    count
-}
 
 impl Past {
-    fn runs_on(&self, path: PathNo) -> bool
+    /// A program runs.
+    pub(crate) fn is_running(&self) -> bool
+        ensures { result ≡ is_some self.now.running }
+    {
+        self.running.is_some()
+    }
+
+    /// The path's program runs.
+    pub(crate) fn runs_on(&self, path: PathNo) -> bool
         ensures { result ≡ is_path_of (history_of self.now).running path }
     {
         match &self.running {
@@ -43,11 +27,28 @@ impl Past {
         }
     }
 
-    fn started_count(&self, path: PathNo) -> usize
+    /// What is kept of a path.
+    pub(crate) fn of_path(&self, path: PathNo) -> &KeptPath
+        ensures value { result.now ≡ of_path self.now.kept path }
+        ensures path { (1 ≤ path) × (path ≤ 4) }
+    {
+        &self.kept[usize::from(path.get() - 1)]
+    }
+
+    /// How many programs of a path were started.
+    pub(crate) fn started_count(&self, path: PathNo) -> u16
+        requires { Keeps self.now }
         ensures { result ≡ started_count (history_of self.now) path }
     {
-        let ended = programs_of(self.items.as_slice(), path);
-        if self.runs_on(path) { ended + 1 } else { ended }
+        self.of_path(path).started
+    }
+
+    /// The path used something since its last reset.
+    pub(crate) fn has_used(&self, path: PathNo) -> bool
+        requires { Keeps self.now }
+        ensures { result ≡ has_used (history_of self.now) path }
+    {
+        self.of_path(path).used
     }
 }
 
@@ -56,17 +57,16 @@ impl<V: Volume> Device<V> {
     pub fn left(&self, path: PathNo) -> u16
         ensures { result ≡ left (device_of self.now) path }
     {
-        self.plans
-            .len(path)
-            .saturating_sub(self.past.started_count(path)) as u16
+        let started = usize::from(self.past.started_count(path));
+        self.plans.len(path).saturating_sub(started) as u16
     }
 
     /// Twice the programs of a path that ended, and one more while one runs. It stops at the greatest number.
     pub fn count(&self, path: PathNo) -> u64
         ensures { result ≡ count_of (history_of self.now.past) path }
     {
-        let ended = programs_of(self.past.items.as_slice(), path) as u64;
         let running = if self.past.runs_on(path) { 1 } else { 0 };
-        ended.saturating_mul(2).saturating_add(running)
+        let started = u64::from(self.past.started_count(path));
+        2 * started.saturating_sub(running) + running
     }
 }

@@ -1,5 +1,6 @@
 ghost use Rattle.std.specs.Prelude.{◌≡◌, IfSome};
 ghost use Rattle.std.proofs.Props.{props};
+ghost use Rattle.device_core.specs.Kept.{Keeps};
 ghost use Rattle.device_core.specs.Words.{IsAtWord};
 
 use crate::past::Past;
@@ -16,4 +17,5 @@ pub struct Device<V: Volume> {
     pub plans: PathPlans,
     pub past: Past,
     pub ghost at_word: { IfSome past.running (λ r. IsAtWord store.cylinders r.chain) } by { Prim.hlevel props },
+    pub ghost keeps: { Keeps past } by { Prim.hlevel props },
 }

@@ -1,26 +1,28 @@
 ghost use Rattle.std.specs.Prelude.{◌≡◌, ◌≤◌, ◌*◌, IfErr, IfOk};
 ghost use Rattle.plain_defs.specs.History.{no_history};
-ghost use Rattle.device_core.specs.State.{history_of, device_of, opened_device};
+ghost use Rattle.device_core.specs.Kept.{history_of, Keeps};
+ghost use Rattle.device_core.specs.State.{device_of, opened_device};
 
-use crate::Device;
-use crate::past::Past;
+use crate::past::{KeptPath, Past};
+use crate::{Device, Log};
 use ckd_types::{DeviceNo, Geometry, NoMemory};
 use deck_plan::PathPlans;
 use device_outside::Volume;
 use device_store::DeviceStore;
-use plain_defs::Journal;
 use plain_device::Paths;
 use std::alloc::Global;
 
 impl Past {
     /// Nothing happened. Takes no memory.
     fn new(alloc: Global) -> Past
-        ensures { history_of result ≡ no_history }
+        ensures history { history_of result ≡ no_history }
+        ensures keeps { Keeps result }
     {
         Past {
-            items: Journal::new(alloc),
+            items: Log::new(alloc),
             running: None,
-            waiting: Vec::new(alloc),
+            kept: [KeptPath::FRESH; 4],
+            powered: false,
             last: 0,
         }
     }

@@ -1,6 +1,6 @@
+use crate::Log;
 use ckd_chain::Chain;
 use ckd_types::{EndList, PathNo};
-use plain_defs::Journal;
 
 /// The program that runs.
 #[derive(Debug, Drop)]
@@ -11,13 +11,32 @@ pub struct Running {
     pub ends: EndList,
 }
 
-/// What happened to a device: its journal, the program that runs, the paths whose resets wait for its end, in rising order, and
-/// where in the journal the program is that ended last.
+/// What is kept of a path, so that no event walks the journal: how many of its programs were started, whether it ran one since its
+/// last reset or runs one, and whether a reset of it waits for the end of the program that runs.
+#[derive(Clone, Copy, Debug, PartialEq, Eq)]
+pub struct KeptPath {
+    pub started: u16,
+    pub used: bool,
+    pub waits: bool,
+}
+
+impl KeptPath {
+    /// A path of which nothing happened.
+    pub const FRESH: KeptPath = KeptPath {
+        started: 0,
+        used: false,
+        waits: false,
+    };
+}
+
+/// What happened to a device: its journal, the program that runs, what is kept of each path, whether a program was started since the
+/// power came, and where in the journal the program is that ended last.
 #[derive(Debug, Drop)]
 pub struct Past {
-    pub items: Journal,
+    pub items: Log,
     pub running: Option<Running>,
-    pub waiting: Vec<PathNo>,
+    pub kept: [KeptPath; 4],
+    pub powered: bool,
     pub last: usize,
 }
 

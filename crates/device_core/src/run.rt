@@ -1,14 +1,16 @@
-ghost use Rattle.std.specs.Prelude.{◌≡◌, ◌<◌, ◌*◌, IfSome, IsSome, OnOk, length, option_map};
+ghost use Rattle.std.specs.Prelude.{◌≡◌, ◌*◌, IfSome, IsSome, OnOk, option_map};
 ghost use Rattle.device_defs.specs.Command.{command, command_by};
 ghost use Rattle.device_defs.specs.Contents.{contents};
 ghost use Rattle.device_outside.specs.declared.keep.NoKeep.{NoKeep};
 ghost use Rattle.device_outside.specs.Keeper.{reply};
 ghost use Rattle.device_outside.specs.Outside.{Ran, where_ok};
 ghost use Rattle.device_store.specs.State.{outside, Takes};
-ghost use Rattle.device_core.specs.State.{open_of, chain_of, device_of, step_had};
+ghost use Rattle.device_core.specs.Kept.{open_of, chain_of};
+ghost use Rattle.device_core.specs.State.{device_of, step_had};
+ghost use Rattle.device_core.specs.Words.{HasEndRoom};
 
 use crate::Device;
-use crate::past::{Past, Running, Stepped};
+use crate::past::{Running, Stepped};
 use crate::step::on_past;
 use ckd_types::NoMemory;
 use device_outside::{Keep, NoKeep, Port, Volume};
@@ -18,30 +20,19 @@ use track_image::TrackImage;
 fn reserve_end(running: &mut Option<Running>) -> Result<(), NoMemory>
     requires running { IsSome running.old }
     ensures running { IsSome running.new }
-    ensures room { OnOk result (IfSome running.new (λ r. 0 < r.ends.spare)) }
+    ensures room { OnOk result (IfSome running.new (λ r. HasEndRoom r.ends)) }
     ensures open { option_map open_of running.new ≡ option_map open_of running.old }
     ensures chain { option_map chain_of running.new ≡ option_map chain_of running.old }
 {
     match running {
-        Some(running) => running.ends.reserve(1),
+        Some(running) => {
+            if running.ends.len() >= 65535 {
+                return Err(NoMemory);
+            }
+            running.ends.reserve(1)
+        }
         None => unreachable!(),
     }
-}
-
-/// Makes room for a command's end, and for its program's entry and the resets that wait.
-fn make_room(past: &mut Past) -> Result<(), NoMemory>
-    requires running { IsSome past.old.running }
-    ensures running { IsSome past.new.running }
-    ensures ends { OnOk result (IfSome past.new.running (λ r. 0 < r.ends.spare)) }
-    ensures room { OnOk result (length past.new.waiting.items < past.new.items.spare) }
-    ensures open { option_map open_of past.new.running ≡ option_map open_of past.old.running }
-    ensures chain { option_map chain_of past.new.running ≡ option_map chain_of past.old.running }
-    ensures items { past.new.items.items ≡ past.old.items.items }
-    ensures rest { (past.new.waiting ≡ past.old.waiting) × (past.new.last ≡ past.old.last) }
-{
-    reserve_end(&mut past.running)?;
-    past.items.reserve(past.waiting.len() + 1)?;
-    Ok(())
 }
 
 impl<V: Volume> Device<V> {
@@ -52,9 +43,9 @@ impl<V: Volume> Device<V> {
         keep: &mut K,
     ) -> Result<Stepped, NoMemory>
         requires running { IsSome self.old.past.running }
-        requires ends { IfSome self.old.past.running (λ r. 0 < r.ends.spare) }
-        requires room { length self.old.past.waiting.items < self.old.past.items.spare }
+        requires ends { IfSome self.old.past.running (λ r. HasEndRoom r.ends) }
         requires takes { Takes K.takes keep.old self.old.store.number (self.old.store.cylinders * 15) }
+        ensures fixed { (self.new.store.number ≡ self.old.store.number) × (self.new.store.cylinders ≡ self.old.store.cylinders) }
         ensures takes { Takes K.takes keep.new self.new.store.number (self.new.store.cylinders * 15) }
         ensures run { Ran (where_ok result) K.hears (command_by contents (device_of self.old) (device_of self.old).history.running (device_of self.old).chain) (outside (P.view port.old) self.old.store keep.old) (device_of self.new) (step_had self.new.past result) (outside (P.view port.new) self.new.store keep.new) }
     {
@@ -79,10 +70,11 @@ impl<V: Volume> Device<V> {
     ) -> Result<Stepped, NoMemory>
         requires running { IsSome self.old.past.running }
         requires takes { Takes K.takes keep.old self.old.store.number (self.old.store.cylinders * 15) }
+        ensures fixed { (self.new.store.number ≡ self.old.store.number) × (self.new.store.cylinders ≡ self.old.store.cylinders) }
         ensures takes { Takes K.takes keep.new self.new.store.number (self.new.store.cylinders * 15) }
         ensures run { Ran (where_ok result) K.hears (command contents (device_of self.old)) (outside (P.view port.old) self.old.store keep.old) (device_of self.new) (step_had self.new.past result) (outside (P.view port.new) self.new.store keep.new) }
     {
-        match make_room(&mut self.past) {
+        match reserve_end(&mut self.past.running) {
             Err(NoMemory) => return Err(NoMemory),
             Ok(()) => (),
         }
@@ -93,6 +85,7 @@ impl<V: Volume> Device<V> {
     /// The same, with a keeper that keeps nothing.
     pub fn command<P: Port>(&mut self, port: &mut P) -> Result<Stepped, NoMemory>
         requires { IsSome self.old.past.running }
+        ensures fixed { (self.new.store.number ≡ self.old.store.number) × (self.new.store.cylinders ≡ self.old.store.cylinders) }
         ensures run { (k : NoKeep) → Ran (where_ok result) (λ _ m r _. r ≡ reply m) (command contents (device_of self.old)) (outside (P.view port.old) self.old.store k) (device_of self.new) (step_had self.new.past result) (outside (P.view port.new) self.new.store k) }
     {
         let mut keep = NoKeep;

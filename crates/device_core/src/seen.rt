@@ -1,14 +1,15 @@
 ghost use Rattle.std.specs.Prelude.{◌≡◌, None, Some, option_map, is_some};
 ghost use Rattle.std.specs.Option.{option_copied};
 ghost use Rattle.plain_defs.specs.History.{OpenEntry};
-ghost use Rattle.device_core.specs.State.{open_of, last_of, last_end_of, device_of};
+ghost use Rattle.device_core.specs.Kept.{open_of};
+ghost use Rattle.device_core.specs.State.{last_of, last_end_of, device_of};
 
 use crate::Device;
 use ckd_types::{CommandEnd, DeviceNo, Geometry, PathNo};
 use device_defs::Losses;
 use device_outside::Volume;
 use loss_model::LostList;
-use plain_defs::{Item, Journal};
+use plain_defs::Item;
 
 /// The last end of a program.
 fn last_of(ends: &[CommandEnd]) -> Option<&CommandEnd>
@@ -75,10 +76,10 @@ impl<V: Volume> Device<V> {
     }
 
     /// What happened to the device, but for the program that runs.
-    pub fn journal(&self) -> &Journal
-        ensures { result.now ≡ self.now.past.items }
+    pub fn journal(&self) -> &[Item]
+        ensures { result.now ≡ self.now.past.items.items }
     {
-        &self.past.items
+        self.past.items.as_slice()
     }
 
     /// The tracks that are lost.

@@ -8,7 +8,7 @@ ghost use Rattle.device_outside.specs.Outside.{Ran, where_ok};
 ghost use Rattle.device_store.specs.State.{state_of, outside, Takes};
 ghost use Rattle.device_core.specs.State.{DefinedDevice, open_of, came_to, told, commanded, came_from};
 ghost use Rattle.device_core.specs.Turns.{Left};
-ghost use Rattle.device_core.specs.Words.{IsAtWord};
+ghost use Rattle.device_core.specs.Words.{HasEndRoom, IsAtWord};
 
 use crate::Device;
 use crate::command::{on_paths, on_tracks};
@@ -53,12 +53,12 @@ pub(crate) fn on_past<V: Volume, P: Port, K: Keep<TrackImage>>(
 ) -> Result<Came, NoMemory>
     requires running { IsSome running.old }
     requires word { IfSome running.old (λ r. IsAtWord store.old.cylinders r.chain) }
-    requires room { IfSome running.old (λ r. 0 < r.ends.spare) }
+    requires room { IfSome running.old (λ r. HasEndRoom r.ends) }
     requires takes { Takes K.takes keep.old store.old.number (store.old.cylinders * 15) }
     ensures fixed { (store.new.number ≡ store.old.number) × (store.new.cylinders ≡ store.old.cylinders) }
     ensures takes { Takes K.takes keep.new store.new.number (store.new.cylinders * 15) }
     ensures running { IsSome running.new }
-    ensures room { IfSome running.new (λ r. 0 < r.ends.spare) }
+    ensures room { IfSome running.new (λ r. HasEndRoom r.ends) }
     ensures open { option_map open_of running.new ≡ option_map open_of running.old }
     ensures left { IfOk result (λ came. IfSome running.new (λ r. Left store.old.cylinders r.chain came)) }
     ensures word { OnErr result (IfSome running.new (λ r. IsAtWord store.old.cylinders r.chain)) }

@@ -1,4 +1,4 @@
-ghost use Rattle.std.specs.Prelude.{◌≡◌, ◌<◌, ◌*◌, IfOk, OnErr, IsSome};
+ghost use Rattle.std.specs.Prelude.{◌≡◌, ◌<◌, ◌*◌, IfOk, IfSome, OnErr, IsSome};
 ghost use Rattle.ckd_chain.specs.declared.progress.Settled.TheVariants as settleds;
 ghost use Rattle.ckd_chain.specs.Facts.{MayBeWritten};
 ghost use Rattle.ckd_rules.specs.Facts.{Suits};
@@ -26,7 +26,8 @@ pub(crate) enum Step {
 }
 
 fn usage_of(chain: &Chain) -> Usage
-    ensures { result ≡ usage_of chain.now }
+    ensures usage { result ≡ usage_of chain.now }
+    ensures last { IfSome result.last (λ l. l < chain.now.fixed.cylinders * 15) }
 {
     Usage {
         mode: chain.mode(),

@@ -14,16 +14,16 @@ use Rattle.device_defs.specs.Owed as owed
 use Rattle.device_defs.specs.Owed.{waits, waiting_count, all_told, track_told, waiting_told, ended}
 use Rattle.device_defs.specs.Store.{Store, tracks_of}
 
-both_false : (b : Bool) → (b && false) ≡ false
+pub both_false : (b : Bool) → (b && false) ≡ false
 both_false true = refl
 both_false false = refl
 
-none_below : (n : ℕ) (f : ℕ → Bool) → ((t : ℕ) → f t ≡ false) → count_below n f ≡ 0
+pub none_below : (n : ℕ) (f : ℕ → Bool) → ((t : ℕ) → f t ≡ false) → count_below n f ≡ 0
 unfolding tracks.count_below
 none_below zero f none = refl
 none_below (suc n) f none = rw (none n) (let before = none_below n f none in omega (arith, before))
 
-unless : {X : Type 0} (b : Bool) (x y : X) → b ≡ false → (if b then x else y) ≡ y
+pub unless : {X : Type 0} (b : Bool) (x y : X) → b ≡ false → (if b then x else y) ≡ y
 unless true x y e = absurd cc
 unless false x y e = refl
 
@@ -37,7 +37,7 @@ module _ {F P H R : Type 0} (c : Contents F P H R) where
   unfolding choosing.choose
   chosen s u t = unless _ _ _ (both_false u.provisional) ∙ unless _ _ _ (both_false _)
 
-  none_waits : (s : Store F P H) (t : ℕ) → waits c (bare s) t ≡ false
+  pub none_waits : (s : Store F P H) (t : ℕ) → waits c (bare s) t ≡ false
   unfolding owed.waits
   none_waits s t = both_false _
 

@@ -19,6 +19,9 @@ use Rattle.device_store.specs.declared.write.Written.{Written}
 use Rattle.device_store.specs.declared.store.DeviceStore.{DeviceStore}
 use Rattle.device_store.specs.declared.store.Looked.{Looked}
 use Rattle.device_store.specs.declared.store.Looked.TheVariants as looks
+use Rattle.device_store.specs.declared.store.Peeked as answers
+use Rattle.device_store.specs.declared.store.Peeked.TheVariants as peeks
+use Rattle.device_defs.specs.Peek.{Peeked, Track, Lost, Fault, BadBytes}
 
 -- no track has a place for a frame or a patch, and there is no side B
 abbrev pub state_of : {V : Type 0} {G : Ghosts V} → DeviceStore V G → Store Frame Stored Image
@@ -95,6 +98,12 @@ abbrev pub imaged : Looked → Imaged
 imaged (looks.Has i) = Has i
 imaged (looks.NoBytes fault) = NoBytes fault
 imaged (looks.BadTrack side) = BadTrack side
+
+abbrev pub peeked_by : answers.Peeked → Peeked
+peeked_by (peeks.Track image) = Track image
+peeked_by peeks.Lost = Lost
+peeked_by (peeks.Fault side) = Fault side
+peeked_by (peeks.BadBytes side) = BadBytes side
 
 -- bytes that were given are in the buffer
 abbrev pub got_by : List ℕ → Given → Got (List ℕ)

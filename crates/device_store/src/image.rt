@@ -1,4 +1,4 @@
-ghost use Rattle.std.specs.Prelude.{◌≡◌, ◌<◌, ◌*◌, IfOk, None, Some};
+ghost use Rattle.std.specs.Prelude.{◌≡◌, ◌<◌, ◌*◌, IfOk, IfSome, None, Some};
 ghost use Rattle.device_outside.specs.Outside.{PortView, Ran, where_ok};
 ghost use Rattle.device_defs.specs.Contents.{contents};
 ghost use Rattle.device_defs.specs.Image.{loads, is_sequential, queued, ahead, image_of, level_bytes, loaded, missed, got, image};
@@ -41,7 +41,7 @@ fn is_sequential(mode: Mode) -> bool
 
 impl<V: Volume> DeviceStore<V> {
     /// Reads a track from the side where it is level.
-    fn level_bytes<K: Keep<TrackImage>>(&mut self, t: TrackNo) -> Given
+    pub(crate) fn level_bytes<K: Keep<TrackImage>>(&mut self, t: TrackNo) -> Given
         requires { t < self.old.cylinders * 15 }
         ensures fixed { (self.new.number ≡ self.old.number) × (self.new.cylinders ≡ self.old.cylinders) }
         ensures run { (p : PortView) (k : K) → Ran surely K.hears (level_bytes contents (state_of self.old) t) (outside p self.old k) (state_of self.new) (got_by self.new.buffer result) (outside p self.new k) }
@@ -74,7 +74,7 @@ impl<V: Volume> DeviceStore<V> {
     }
 
     /// The image that the bytes in the buffer make.
-    fn image_of(&self, t: TrackNo) -> Result<Option<TrackImage>, NoMemory>
+    pub(crate) fn image_of(&self, t: TrackNo) -> Result<Option<TrackImage>, NoMemory>
         ensures { IfOk result (λ i. i ≡ image_of contents (state_of self.now) t self.now.buffer) }
     {
         match TrackImage::from_bytes(self.alloc, self.geometry, t, self.buffer.bytes()) {
@@ -86,6 +86,7 @@ impl<V: Volume> DeviceStore<V> {
 
     /// Queues a track for staging where it is in the extent.
     fn queue_one(&mut self, last: Option<TrackNo>, t: u16)
+        requires { IfSome last (λ l. l < self.old.cylinders * 15) }
         ensures fixed { (self.new.number ≡ self.old.number) × (self.new.cylinders ≡ self.old.cylinders) }
         ensures volume { self.new.volume ≡ self.old.volume }
         ensures state { state_of self.new ≡ queued last (state_of self.old) t }
@@ -99,6 +100,7 @@ impl<V: Volume> DeviceStore<V> {
 
     /// In sequential mode the two tracks behind a missed one are to be staged.
     fn queue_ahead(&mut self, usage: &Usage, t: TrackNo)
+        requires { IfSome usage.now.last (λ l. l < self.old.cylinders * 15) }
         ensures fixed { (self.new.number ≡ self.old.number) × (self.new.cylinders ≡ self.old.cylinders) }
         ensures volume { self.new.volume ≡ self.old.volume }
         ensures state { state_of self.new ≡ ahead usage.now (state_of self.old) t }
@@ -138,6 +140,7 @@ impl<V: Volume> DeviceStore<V> {
         side: Side,
         port: &mut P,
     ) -> Result<Looked, NoMemory>
+        requires { IfSome usage.now.last (λ l. l < self.old.cylinders * 15) }
         ensures fixed { (self.new.number ≡ self.old.number) × (self.new.cylinders ≡ self.old.cylinders) }
         ensures run { (k : K) → Ran (where_ok result) K.hears (missed contents usage.now t (state_of self.old) (got side (Some self.old.buffer) None) (Some self.old.buffer)) (outside (P.view port.old) self.old k) (state_of self.new) (had imaged result) (outside (P.view port.new) self.new k) }
     {
@@ -160,6 +163,7 @@ impl<V: Volume> DeviceStore<V> {
         keep: &mut K,
     ) -> Result<Looked, NoMemory>
         requires track { t < self.old.cylinders * 15 }
+        requires last { IfSome usage.now.last (λ l. l < self.old.cylinders * 15) }
         requires takes { Takes K.takes keep.old self.old.number (self.old.cylinders * 15) }
         ensures fixed { (self.new.number ≡ self.old.number) × (self.new.cylinders ≡ self.old.cylinders) }
         ensures takes { Takes K.takes keep.new self.new.number (self.new.cylinders * 15) }

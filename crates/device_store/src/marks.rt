@@ -43,6 +43,14 @@ pub(crate) fn count_write(counts: &mut Counts, ok: bool)
     count_failed(counts, ok);
 }
 
+/// The track of a number that is one.
+pub(crate) fn track(n: u16) -> TrackNo
+    requires { n < 960 }
+    ensures { result ≡ n }
+{
+    TrackNo::new(n).unwrap()
+}
+
 /// Sets a track's mark.
 pub(crate) fn set_mark(marks: &mut Vec<bool>, t: TrackNo, marked: bool)
     ensures { marks.new.items ≡ slice_set marks.old.items t marked }
@@ -54,7 +62,7 @@ pub(crate) fn set_mark(marks: &mut Vec<bool>, t: TrackNo, marked: bool)
 }
 
 impl<V: Volume> DeviceStore<V> {
-    fn is_stale(&self, t: TrackNo) -> bool
+    pub(crate) fn is_stale(&self, t: TrackNo) -> bool
         ensures { result ≡ slice_index_or self.now.stale.items t false }
     {
         let t = usize::from(t.get());

@@ -1,4 +1,5 @@
-ghost use Rattle.std.specs.Prelude.{◌≡◌, ◌≤◌, ◌*◌, length, vec_len};
+ghost use Rattle.std.specs.Prelude.{◌≡◌, ◌≤◌, ◌*◌, length, true, vec_len};
+ghost use Rattle.device_store.specs.Queued.{are_below};
 
 use ckd_types::{DeviceNo, Geometry, Side};
 use device_defs::Counts;
@@ -29,6 +30,7 @@ pub struct DeviceStore<V: Volume> {
     pub ghost stale_of_each: { vec_len stale ≡ cylinders * 15 },
     pub ghost lost_of_each: { length lost ≡ cylinders * 15 },
     pub ghost volume_of_each: { (V.view volume).tracks ≡ cylinders * 15 },
+    pub ghost queue_of_device: { are_below (cylinders * 15) queue ≡ true },
 }
 
 /// The image of a track; or no side gave its bytes, and the first one that failed; or the bytes of this side are no track.
@@ -37,4 +39,14 @@ pub enum Looked {
     Has(TrackImage),
     NoBytes(Option<Side>),
     BadTrack(Side),
+}
+
+/// What one track is, past the channel: its image; or it is lost; or this side failed, the first one, and none gave bytes; or the
+/// bytes of this side are no track.
+#[derive(Debug, Drop)]
+pub enum Peeked {
+    Track(TrackImage),
+    Lost,
+    Fault(Side),
+    BadBytes(Side),
 }

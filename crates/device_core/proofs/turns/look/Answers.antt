@@ -17,27 +17,27 @@ pub returns-in-Err-clause-run : goal.returns-in-Err-clause-run
 unfolding look
 returns-in-Err-clause-run g c =
     rw (← c.has.ensures, c.if-has.false) (joined (had_by (looked contents c.args.chain.now c.args.first c.args.t))
-    (rw c.usage_of-usage.ensures at c.in-Err.ensures.run) done)
+    (rw c.usage_of-usage.ensures.usage at c.in-Err.ensures.run) done)
 
 pub returns-in-NoBytes-clause-run : goal.returns-in-NoBytes-clause-run
 unfolding look
 returns-in-NoBytes-clause-run g c =
     rw (← c.has.ensures, c.if-has.false) (joined (had_by (looked contents c.args.chain.now c.args.first c.args.t))
-    (rw (c.in-NoBytes.is, c.usage_of-usage.ensures) at c.in-Ok.ensures.run)
+    (rw (c.in-NoBytes.is, c.usage_of-usage.ensures.usage) at c.in-Ok.ensures.run)
     (ended refl (ap (λ x. Some (Over x)) (sym c.check-in-NoBytes.ensures.turn))))
 
 pub returns-in-BadTrack-clause-run : goal.returns-in-BadTrack-clause-run
 unfolding look
 returns-in-BadTrack-clause-run g c =
     rw (← c.has.ensures, c.if-has.false) (joined (had_by (looked contents c.args.chain.now c.args.first c.args.t))
-    (rw (c.in-BadTrack.is, c.usage_of-usage.ensures) at c.in-Ok.ensures.run)
+    (rw (c.in-BadTrack.is, c.usage_of-usage.ensures.usage) at c.in-Ok.ensures.run)
     (ended refl (ap (λ x. Some (Over x)) (sym c.check_data.ensures.turn))))
 
 pub returns-in-Has-clause-run : goal.returns-in-Has-clause-run
 unfolding look
 returns-in-Has-clause-run g c =
     rw (← c.has.ensures, c.if-has.false) (joined (had_by (looked contents c.args.chain.now c.args.first c.args.t))
-    (weaker c.on_image.result (rw (c.in-Has.is, c.usage_of-usage.ensures) at c.in-Ok.ensures.run)) c.on_image.ensures.run)
+    (weaker c.on_image.result (rw (c.in-Has.is, c.usage_of-usage.ensures.usage) at c.in-Ok.ensures.run)) c.on_image.ensures.run)
 
 pub returns-then-has-clause-goes : goal.returns-then-has-clause-goes
 returns-then-has-clause-goes g c = subst (λ n. Left n c.check.new.chain c.check.result) c.requires.at.cylinders_are c.check.ensures.left
@@ -49,3 +49,7 @@ returns-in-NoBytes-clause-goes g c =
 pub returns-in-BadTrack-clause-goes : goal.returns-in-BadTrack-clause-goes
 returns-in-BadTrack-clause-goes g c =
     subst (λ n. Left n c.check_data.new.chain c.check_data.result) c.requires.at.cylinders_are c.check_data.ensures.left
+
+pub image-requires-clause-last : goal.image-requires-clause-last
+image-requires-clause-last g c =
+    let inside = rw c.requires.at.cylinders_are at c.usage_of-usage.ensures.last in inside

@@ -1,7 +1,8 @@
 use Rattle.std.proofs.Common.{◌∙◌, refl, ap}
 use Rattle.std.specs.Prelude.{option_map}
 use Rattle.device_defs.specs.declared.answers.Stepped.TheVariants as answers
-use Rattle.device_core.proofs.Endings.{some_open, last_is, last_running, turned_over, turned_checked}
+use Rattle.device_core.proofs.Pasts.{some_open, keeps_ended}
+use Rattle.device_core.proofs.Endings.{last_is, last_running, turned_over, turned_checked}
 use Rattle.device_core.proofs.past.Past.turned.Goals as goal
 
 pub returns-then-over-clause-state : goal.returns-then-over-clause-state
@@ -31,3 +32,16 @@ returns-in-Checks-clause-answer c =
     let it = some_open c.args.self.now.running c.requires.running in
     rw c.in-Checks.is (ap (option_map answers.Ended)
     (c.close-in-Checks.ensures.last _ (c.add_end-in-Checks.ensures.open it.0 it.1) ∙ last_is it.0.ends c.in-Checks.end))
+
+pub close-requires-clause-keeps : goal.close-requires-clause-keeps
+close-requires-clause-keeps c =
+    keeps_ended c.args.self.now c.add_end.new.running c.in-Ends.end c.requires.keeps c.requires.running c.add_end.ensures.open c.add_end.ensures.ends
+
+pub close-requires-in-Checks-clause-keeps : goal.close-requires-in-Checks-clause-keeps
+close-requires-in-Checks-clause-keeps c =
+    keeps_ended c.args.self.now c.add_end-in-Checks.new.running c.in-Checks.end c.requires.keeps c.requires.running c.add_end-in-Checks.ensures.open
+    c.add_end-in-Checks.ensures.ends
+
+pub returns-else-over-clause-keeps : goal.returns-else-over-clause-keeps
+returns-else-over-clause-keeps c =
+    keeps_ended c.args.self.now c.add_end.new.running c.in-Ends.end c.requires.keeps c.requires.running c.add_end.ensures.open c.add_end.ensures.ends

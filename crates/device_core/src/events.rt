@@ -1,0 +1,68 @@
+ghost use Rattle.std.specs.Prelude.{◌≡◌, ◌<◌, ◌*◌, ℕ};
+ghost use Rattle.device_defs.specs.Contents.{contents};
+ghost use Rattle.device_defs.specs.Events.{background};
+ghost use Rattle.device_defs.specs.Peek.{peek};
+ghost use Rattle.device_outside.specs.declared.keep.NoKeep.{NoKeep};
+ghost use Rattle.device_outside.specs.Keeper.{reply};
+ghost use Rattle.device_outside.specs.Outside.{Ran, where_ok};
+ghost use Rattle.device_store.specs.State.{outside, Takes, had, peeked_by};
+ghost use Rattle.device_core.specs.State.{device_of};
+
+use crate::Device;
+use ckd_types::{NoMemory, TrackNo};
+use device_defs::Did;
+use device_outside::{Keep, NoKeep, Port, Volume};
+use device_store::Peeked;
+use track_image::TrackImage;
+
+impl<V: Volume> Device<V> {
+    /// What the device does by itself, behind its notes: it stages the oldest queued track. After want of memory that track isn't
+    /// queued any more. No keeper hears of it yet.
+    pub fn background_with<P: Port, K: Keep<TrackImage>>(
+        &mut self,
+        port: &mut P,
+        keep: &mut K,
+    ) -> Result<Did, NoMemory>
+        ensures fixed { (self.new.store.number ≡ self.old.store.number) × (self.new.store.cylinders ≡ self.old.store.cylinders) }
+        ensures takes { (d n : ℕ) → Takes K.takes keep.old d n → Takes K.takes keep.new d n }
+        ensures run { Ran (where_ok result) K.hears (background contents (device_of self.old)) (outside (P.view port.old) self.old.store keep.old) (device_of self.new) (had (λ did. did) result) (outside (P.view port.new) self.new.store keep.new) }
+    {
+        self.store.hear::<P, K>(port);
+        self.store.background::<P, K>(port)
+    }
+
+    /// The same, with a keeper that keeps nothing.
+    pub fn background<P: Port>(&mut self, port: &mut P) -> Result<Did, NoMemory>
+        ensures fixed { (self.new.store.number ≡ self.old.store.number) × (self.new.store.cylinders ≡ self.old.store.cylinders) }
+        ensures run { (k : NoKeep) → Ran (where_ok result) (λ _ m r _. r ≡ reply m) (background contents (device_of self.old)) (outside (P.view port.old) self.old.store k) (device_of self.new) (had (λ did. did) result) (outside (P.view port.new) self.new.store k) }
+    {
+        let mut keep = NoKeep;
+        self.background_with(port, &mut keep)
+    }
+
+    /// A look at one track of the device past the channel. It takes no notes.
+    pub fn peek_with<P: Port, K: Keep<TrackImage>>(
+        &mut self,
+        t: TrackNo,
+        port: &mut P,
+        keep: &mut K,
+    ) -> Result<Peeked, NoMemory>
+        requires track { t < self.old.store.cylinders * 15 }
+        requires takes { Takes K.takes keep.old self.old.store.number (self.old.store.cylinders * 15) }
+        ensures fixed { (self.new.store.number ≡ self.old.store.number) × (self.new.store.cylinders ≡ self.old.store.cylinders) }
+        ensures takes { Takes K.takes keep.new self.new.store.number (self.new.store.cylinders * 15) }
+        ensures run { Ran (where_ok result) K.hears (peek contents (device_of self.old) t) (outside (P.view port.old) self.old.store keep.old) (device_of self.new) (had peeked_by result) (outside (P.view port.new) self.new.store keep.new) }
+    {
+        self.store.peek(t, port, keep)
+    }
+
+    /// The same, with a keeper that keeps nothing.
+    pub fn peek<P: Port>(&mut self, t: TrackNo, port: &mut P) -> Result<Peeked, NoMemory>
+        requires { t < self.old.store.cylinders * 15 }
+        ensures fixed { (self.new.store.number ≡ self.old.store.number) × (self.new.store.cylinders ≡ self.old.store.cylinders) }
+        ensures run { (k : NoKeep) → Ran (where_ok result) (λ _ m r _. r ≡ reply m) (peek contents (device_of self.old) t) (outside (P.view port.old) self.old.store k) (device_of self.new) (had peeked_by result) (outside (P.view port.new) self.new.store k) }
+    {
+        let mut keep = NoKeep;
+        self.peek_with(t, port, &mut keep)
+    }
+}

@@ -1,0 +1,40 @@
+ghost use Rattle.std.specs.Prelude.{◌≡◌, ℕ};
+ghost use Rattle.device_defs.specs.Contents.{contents};
+ghost use Rattle.device_defs.specs.Events.{lose};
+ghost use Rattle.device_outside.specs.declared.keep.NoKeep.{NoKeep};
+ghost use Rattle.device_outside.specs.Keeper.{reply};
+ghost use Rattle.device_outside.specs.Outside.{Ran};
+ghost use Rattle.device_store.specs.State.{outside, surely, Takes};
+ghost use Rattle.device_core.specs.State.{device_of};
+
+use crate::Device;
+use device_outside::{Keep, NoKeep, Port, Volume};
+use loss_model::Loss;
+use track_image::TrackImage;
+
+impl<V: Volume> Device<V> {
+    /// A loss of the cache, of the nonvolatile store, or of a side, behind the notes of the device. No track becomes firm by it
+    /// yet, and so no keeper hears of it.
+    pub fn lose_with<P: Port, K: Keep<TrackImage>>(
+        &mut self,
+        loss: Loss,
+        port: &mut P,
+        keep: &mut K,
+    )
+        ensures fixed { (self.new.store.number ≡ self.old.store.number) × (self.new.store.cylinders ≡ self.old.store.cylinders) }
+        ensures takes { (d n : ℕ) → Takes K.takes keep.old d n → Takes K.takes keep.new d n }
+        ensures run { Ran surely K.hears (lose contents (device_of self.old) loss) (outside (P.view port.old) self.old.store keep.old) (device_of self.new) tt (outside (P.view port.new) self.new.store keep.new) }
+    {
+        self.store.hear::<P, K>(port);
+        self.store.lose(loss);
+    }
+
+    /// The same, with a keeper that keeps nothing.
+    pub fn lose<P: Port>(&mut self, loss: Loss, port: &mut P)
+        ensures fixed { (self.new.store.number ≡ self.old.store.number) × (self.new.store.cylinders ≡ self.old.store.cylinders) }
+        ensures run { (k : NoKeep) → Ran surely (λ _ m r _. r ≡ reply m) (lose contents (device_of self.old) loss) (outside (P.view port.old) self.old.store k) (device_of self.new) tt (outside (P.view port.new) self.new.store k) }
+    {
+        let mut keep = NoKeep;
+        self.lose_with(loss, port, &mut keep)
+    }
+}

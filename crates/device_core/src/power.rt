@@ -1,0 +1,89 @@
+ghost use Rattle.std.specs.Prelude.{◌≡◌, ◌<◌, ◌++◌, ◌∷◌, [], ℕ, None, false, map};
+ghost use Rattle.plain_defs.specs.declared.journal.Item.TheVariants.{Power};
+ghost use Rattle.plain_defs.specs.History.{lost_power};
+ghost use Rattle.device_defs.specs.Contents.{contents};
+ghost use Rattle.device_defs.specs.Cutting.{power};
+ghost use Rattle.device_outside.specs.declared.keep.NoKeep.{NoKeep};
+ghost use Rattle.device_outside.specs.Keeper.{reply};
+ghost use Rattle.device_outside.specs.Outside.{Ran};
+ghost use Rattle.device_store.specs.State.{outside, surely, Takes};
+ghost use Rattle.device_core.specs.Kept.{history_of, Keeps};
+ghost use Rattle.device_core.specs.Powered.{off_path};
+ghost use Rattle.device_core.specs.State.{device_of};
+
+use crate::Device;
+use crate::past::{KeptPath, Past};
+use device_outside::{Keep, NoKeep, Port, Volume};
+use plain_defs::Item;
+use plain_device::Paths;
+use std::alloc::Global;
+use track_image::TrackImage;
+
+/// No path used anything since, and no reset waits.
+fn put_off(kept: &mut [KeptPath; 4])
+    ensures { kept.new ≡ map off_path kept.old }
+{
+    for path in kept.iter_mut() {
+        *path = KeptPath {
+            started: path.started,
+            used: false,
+            waits: false,
+        };
+    }
+}
+
+impl Past {
+    /// The loss of power stands in the journal, in room that was made. No program runs.
+    fn note_power(&mut self)
+        requires room { 0 < self.old.items.spare }
+        ensures items { self.new.items.items ≡ self.old.items.items ++ Power ∷ [] }
+        ensures running { self.new.running ≡ self.old.running }
+        ensures kept { self.new.kept ≡ map off_path self.old.kept }
+        ensures powered { self.new.powered ≡ false }
+    {
+        self.items.push(Item::Power);
+        put_off(&mut self.kept);
+        self.powered = false;
+    }
+
+    /// The loss of power cuts the program that runs, and drops the resets that wait. It is none where no program was started since
+    /// the power came.
+    fn lose_power(&mut self, alloc: Global)
+        requires keeps { Keeps self.old }
+        ensures history { history_of self.new ≡ lost_power (history_of self.old) 0 }
+        ensures over { self.new.running ≡ None }
+        ensures keeps { Keeps self.new }
+    {
+        if self.is_running() {
+            self.note_cut(alloc);
+            self.note_power();
+            return;
+        }
+        if self.powered {
+            self.note_power();
+            return;
+        }
+    }
+}
+
+impl<V: Volume> Device<V> {
+    /// The loss of power. Takes no memory. The device takes no notes, has nothing to tell its port, and tells its keeper of nothing yet.
+    pub fn power_with<P: Port, K: Keep<TrackImage>>(&mut self, port: &mut P, keep: &mut K)
+        ensures fixed { (self.new.store.number ≡ self.old.store.number) × (self.new.store.cylinders ≡ self.old.store.cylinders) }
+        ensures takes { (d n : ℕ) → Takes K.takes keep.old d n → Takes K.takes keep.new d n }
+        ensures run { Ran surely K.hears (power contents (device_of self.old)) (outside (P.view port.old) self.old.store keep.old) (device_of self.new) tt (outside (P.view port.new) self.new.store keep.new) }
+    {
+        self.store.lose_power();
+        self.past.lose_power(self.store.alloc);
+        self.paths = Paths::new();
+    }
+
+    /// The same, with a keeper that keeps nothing.
+    pub fn power<P: Port>(&mut self, port: &mut P)
+        ensures fixed { (self.new.store.number ≡ self.old.store.number) × (self.new.store.cylinders ≡ self.old.store.cylinders) }
+        ensures run { (k : NoKeep) → Ran surely (λ _ m r _. r ≡ reply m) (power contents (device_of self.old)) (outside (P.view port.old) self.old.store k) (device_of self.new) tt (outside (P.view port.new) self.new.store k) }
+    {
+        let mut keep = NoKeep;
+        self.power_with(port, &mut keep)
+    }
+}

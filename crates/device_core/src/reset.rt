@@ -1,0 +1,143 @@
+ghost use Rattle.std.specs.Prelude.{◌≡◌, ◌+◌, ◌++◌, ◌∷◌, [], ℕ, None, Some, IsSome, length, option_map, false, true};
+ghost use Rattle.plain_defs.specs.declared.journal.How.TheVariants.{Cut};
+ghost use Rattle.plain_defs.specs.declared.journal.Item.TheVariants.{Reset};
+ghost use Rattle.plain_defs.specs.History.{OpenEntry, cut_by, entry_of, has_used, is_path_of, put};
+ghost use Rattle.plain_defs.specs.PlainState.{reset_path};
+ghost use Rattle.device_defs.specs.Contents.{contents};
+ghost use Rattle.device_defs.specs.Cutting.{reset};
+ghost use Rattle.device_defs.specs.Device.{all_reset};
+ghost use Rattle.device_outside.specs.declared.keep.NoKeep.{NoKeep};
+ghost use Rattle.device_outside.specs.Interaction.{Done};
+ghost use Rattle.device_outside.specs.Keeper.{reply};
+ghost use Rattle.device_outside.specs.Outside.{PortView, Ran};
+ghost use Rattle.device_store.specs.State.{outside, surely, Takes};
+ghost use Rattle.device_core.specs.Kept.{open_of, history_of, waiting_in, Keeps};
+ghost use Rattle.device_core.specs.State.{device_of};
+
+use crate::Device;
+use crate::kept::{set_unused, set_waiting};
+use crate::past::Past;
+use ckd_types::PathNo;
+use device_outside::{Keep, NoKeep, Volume};
+use plain_defs::{How, Item};
+use plain_device::Paths;
+use std::alloc::Global;
+use track_image::TrackImage;
+
+impl Past {
+    /// How many commands of the running program ended.
+    fn ended_count(&self) -> u16
+        requires keeps { Keeps self.now }
+        requires running { IsSome self.now.running }
+        ensures { (o : OpenEntry) → option_map open_of self.now.running ≡ Some o → result ≡ length o.ends }
+    {
+        match &self.running {
+            Some(running) => running.ends.len() as u16,
+            None => unreachable!(),
+        }
+    }
+
+    /// The running program is cut: its entry stands in the journal, in room that was made. As many commands as ended took effect.
+    pub(crate) fn note_cut(&mut self, alloc: Global)
+        requires keeps { Keeps self.old }
+        requires running { IsSome self.old.running }
+        ensures over { self.new.running ≡ None }
+        ensures items { (o : OpenEntry) → option_map open_of self.old.running ≡ Some o → self.new.items.items ≡ self.old.items.items ++ entry_of o (Cut (length o.ends)) ∷ [] }
+        ensures spare { self.new.items.spare + 1 ≡ self.old.items.spare }
+        ensures rest { (self.new.kept ≡ self.old.kept) × (self.new.powered ≡ self.old.powered) }
+    {
+        let effect = self.ended_count();
+        self.note_program(alloc, How::Cut { effect });
+    }
+
+    /// The reset of its path cuts the running program, and the resets that waited follow.
+    fn cut(&mut self, alloc: Global, path: PathNo, paths: &mut Paths)
+        requires keeps { Keeps self.old }
+        requires runs { is_path_of (history_of self.old).running path ≡ true }
+        ensures history { (o : OpenEntry) → option_map open_of self.old.running ≡ Some o → history_of self.new ≡ cut_by (history_of self.old) o 0 }
+        ensures over { self.new.running ≡ None }
+        ensures paths { paths.new ≡ all_reset (reset_path paths.old path) (waiting_in self.old.kept) }
+        ensures keeps { Keeps self.new }
+    {
+        self.note_cut(alloc);
+        self.items.push(Item::Reset(path));
+        paths.reset(path);
+        set_unused(&mut self.kept, path);
+        self.follow_resets(paths);
+    }
+
+    /// The reset of a path that used something stands in the journal, in room that was made. No program runs.
+    fn note_reset(&mut self, path: PathNo)
+        requires keeps { Keeps self.old }
+        requires idle { self.old.running ≡ None }
+        requires used { has_used (history_of self.old) path ≡ true }
+        ensures history { history_of self.new ≡ record (history_of self.old) { items = self.old.items.items ++ Reset path ∷ [] } }
+        ensures running { self.new.running ≡ None }
+        ensures keeps { Keeps self.new }
+    {
+        set_unused(&mut self.kept, path);
+        self.items.push(Item::Reset(path));
+    }
+
+    /// The reset of another path waits for the end of the running program.
+    fn note_waiting(&mut self, path: PathNo)
+        requires keeps { Keeps self.old }
+        requires running { IsSome self.old.running }
+        ensures history { history_of self.new ≡ record (history_of self.old) { waiting = put path (history_of self.old).waiting } }
+        ensures running { self.new.running ≡ self.old.running }
+        ensures keeps { Keeps self.new }
+    {
+        set_waiting(&mut self.kept, path);
+    }
+}
+
+impl<V: Volume> Device<V> {
+    /// The reset of a path that used something and runs no program. It waits while another path's runs.
+    fn reset_other(&mut self, path: PathNo)
+        requires other { is_path_of (history_of self.old.past).running path ≡ false }
+        requires used { has_used (history_of self.old.past) path ≡ true }
+        ensures done { reset contents (device_of self.old) path ≡ Done (device_of self.new) tt }
+        ensures store { self.new.store ≡ self.old.store }
+    {
+        if self.past.is_running() {
+            self.past.note_waiting(path);
+            return;
+        }
+        self.past.note_reset(path);
+        self.paths.reset(path);
+    }
+
+    /// What a reset of a path does. It asks nothing, and tells nothing: no write in two parts is ever open yet.
+    fn reset_path(&mut self, path: PathNo)
+        ensures done { reset contents (device_of self.old) path ≡ Done (device_of self.new) tt }
+        ensures store { self.new.store ≡ self.old.store }
+    {
+        if self.past.runs_on(path) {
+            self.past.cut(self.store.alloc, path, &mut self.paths);
+            return;
+        }
+        if self.past.has_used(path) {
+            self.reset_other(path);
+            return;
+        }
+    }
+
+    /// A path is reset: a program that it runs is cut, and where another path's runs, the reset waits for its end. Of a path that used
+    /// nothing since its last reset it is none. Takes no memory. The keeper is told of an edit that takes effect.
+    pub fn reset_with<K: Keep<TrackImage>>(&mut self, path: PathNo, keep: &mut K)
+        ensures run { (p : PortView) → Ran surely K.hears (reset contents (device_of self.old) path) (outside p self.old.store keep.old) (device_of self.new) tt (outside p self.new.store keep.new) }
+        ensures takes { (d n : ℕ) → Takes K.takes keep.old d n → Takes K.takes keep.new d n }
+        ensures store { self.new.store ≡ self.old.store }
+    {
+        let _ = keep;
+        self.reset_path(path);
+    }
+
+    /// The same, with a keeper that keeps nothing.
+    pub fn reset(&mut self, path: PathNo)
+        ensures run { (p : PortView) (k : NoKeep) → Ran surely (λ _ m r _. r ≡ reply m) (reset contents (device_of self.old) path) (outside p self.old.store k) (device_of self.new) tt (outside p self.new.store k) }
+        ensures store { self.new.store ≡ self.old.store }
+    {
+        self.reset_path(path);
+    }
+}

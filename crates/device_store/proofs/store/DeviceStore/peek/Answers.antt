@@ -1,0 +1,19 @@
+use Rattle.std.proofs.Common.{refl, ap, sym, Some}
+use Rattle.device_outside.specs.Interaction.{Done}
+use Rattle.device_outside.specs.Outside.{done}
+use Rattle.device_outside.proofs.Runs.{ended, joined}
+use Rattle.device_defs.specs.Memory.{had_by}
+use Rattle.device_defs.specs.Peek.{peeked}
+use Rattle.device_store.proofs.store.DeviceStore.peek.Goals as goal
+
+pub returns-then-has-clause-run : goal.returns-then-has-clause-run
+returns-then-has-clause-run g c = rw (← c.has.ensures, c.if-has.true) done
+
+pub returns-in-Err-clause-run : goal.returns-in-Err-clause-run
+returns-in-Err-clause-run g c =
+    rw (← c.has.ensures, c.if-has.false) (joined (had_by (λ z i. Done z (Some (peeked i)))) (rw c.peek_usage.ensures at c.in-Err.ensures.run) done)
+
+pub returns-in-Ok-clause-run : goal.returns-in-Ok-clause-run
+returns-in-Ok-clause-run g c =
+    rw (← c.has.ensures, c.if-has.false) (joined (had_by (λ z i. Done z (Some (peeked i)))) (rw c.peek_usage.ensures at c.in-Ok.ensures.run)
+    (ended refl (ap Some (sym c.peeked.ensures))))

@@ -1,0 +1,57 @@
+ghost use Rattle.std.specs.Prelude.{◌≡◌, ◌<◌, ◌*◌};
+ghost use Rattle.device_outside.specs.Outside.{Ran, where_ok};
+ghost use Rattle.device_defs.specs.Contents.{contents};
+ghost use Rattle.device_defs.specs.Peek.{peek_usage, peek_track, peeked};
+ghost use Rattle.device_store.specs.State.{state_of, outside, Takes, had, imaged, peeked_by};
+
+use crate::{DeviceStore, Looked, Peeked};
+use ckd_types::{Mode, NoMemory, Side, TrackNo};
+use device_defs::Usage;
+use device_outside::{Keep, Port, Volume};
+use track_image::TrackImage;
+
+fn peek_usage() -> Usage
+    ensures { result ≡ peek_usage }
+{
+    Usage {
+        mode: Mode::InhibitLoad,
+        inhibit: true,
+        last: None,
+        provisional: false,
+    }
+}
+
+fn peeked(looked: Looked) -> Peeked
+    ensures { peeked_by result ≡ peeked (imaged looked) }
+{
+    match looked {
+        Looked::Has(image) => Peeked::Track(image),
+        Looked::NoBytes(Some(side)) => Peeked::Fault(side),
+        Looked::NoBytes(None) => Peeked::Fault(Side::A),
+        Looked::BadTrack(side) => Peeked::BadBytes(side),
+    }
+}
+
+impl<V: Volume> DeviceStore<V> {
+    /// A look at one track past the channel. It is read as a command does in a mode that loads nothing.
+    pub fn peek<P: Port, K: Keep<TrackImage>>(
+        &mut self,
+        t: TrackNo,
+        port: &mut P,
+        keep: &mut K,
+    ) -> Result<Peeked, NoMemory>
+        requires track { t < self.old.cylinders * 15 }
+        requires takes { Takes K.takes keep.old self.old.number (self.old.cylinders * 15) }
+        ensures fixed { (self.new.number ≡ self.old.number) × (self.new.cylinders ≡ self.old.cylinders) }
+        ensures takes { Takes K.takes keep.new self.new.number (self.new.cylinders * 15) }
+        ensures run { Ran (where_ok result) K.hears (peek_track contents (state_of self.old) t) (outside (P.view port.old) self.old keep.old) (state_of self.new) (had peeked_by result) (outside (P.view port.new) self.new keep.new) }
+    {
+        if self.lost.has(t) {
+            return Ok(Peeked::Lost);
+        }
+        match self.image(&peek_usage(), t, port, keep) {
+            Err(NoMemory) => Err(NoMemory),
+            Ok(looked) => Ok(peeked(looked)),
+        }
+    }
+}
