@@ -69,3 +69,9 @@ pub mod TwinEvents
 pub mod TwinLaws
 pub mod NewDevices
 pub mod OrdersStand
+pub mod WholeTwins
+pub mod WholeCommand
+pub mod WholeParts
+pub mod Alike
+pub mod AlikeStore
+pub mod AlikeEvents
