@@ -75,3 +75,4 @@ pub mod WholeParts
 pub mod Alike
 pub mod AlikeStore
 pub mod AlikeEvents
+pub mod ChainFeeds

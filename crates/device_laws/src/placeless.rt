@@ -3,7 +3,6 @@
 
 ghost use Rattle.std.specs.Prelude.{◌≡◌, ℕ, Bool, true, List, Option, Some};
 ghost use Rattle.ckd_chain.specs.State.{ChainState};
-ghost use Rattle.ckd_chain.specs.Steps.{need_of};
 ghost use Rattle.ckd_types.specs.declared.geometry.Geometry.{Geometry};
 ghost use Rattle.ckd_types.specs.declared.record.Track.{Track};
 ghost use Rattle.device_outside.specs.Both.{TellsAll};
@@ -19,10 +18,10 @@ ghost use Rattle.device_defs.specs.Events.{second, background, lose};
 ghost use Rattle.device_defs.specs.Start.{start};
 ghost use Rattle.device_defs.specs.Store.{tracks_of};
 ghost use Rattle.device_laws.specs.Agrees.{Held};
-ghost use Rattle.device_laws.specs.Feeding.{Feeds};
 ghost use Rattle.device_laws.specs.InOrder.{IsInOrder};
 ghost use Rattle.device_laws.specs.NewDevice.{new_contents};
 ghost use Rattle.device_laws.specs.Places.{HasNothing, unplaced, TellsBarren, IsPlacelessStep};
+ghost use Rattle.device_laws.specs.Standing.{RunsOn};
 ghost use Rattle.device_laws.specs.Whole.{WholeDevice, marks_device, BehindCommand, BehindLoss};
 ghost use Rattle.loss_model.specs.declared.Loss.{Loss};
 
@@ -42,10 +41,9 @@ pub fn placeless_start()
 
 /// A command of the running program.
 pub fn placeless_command_is_step<K: Keep<TrackImage>>()
-    ensures { (looks : ChainState → ℕ →
-        Bool) (v w : List Track) (d : WholeDevice) (h : Held) (others : List ℕ) (t : Told) (u z : Outside (List ℕ) K) (e : WholeDevice) (a : Option Stepped) →
-        Feeds (tracks_of d.store) d.store.geometry (λ c q. looks c q ≡ true) → IsInOrder v w d.store h →
-        ((chain : ChainState) (q : ℕ) → d.chain ≡ Some chain → need_of chain ≡ Some q → looks chain q ≡ true) → HasNothing d.store → TellsBarren u.port.pool →
+    ensures { (v w : List Track) (d : WholeDevice) (h : Held) (others : List ℕ) (t : Told) (u z : Outside (List ℕ) K) (e : WholeDevice) (a : Option Stepped) →
+        IsInOrder v w d.store h →
+        ((chain : ChainState) → d.chain ≡ Some chain → RunsOn d.store.cylinders d.store.geometry chain) → HasNothing d.store → TellsBarren u.port.pool →
         Ran (λ ok. ok ≡ true) K.hears (command contents (unplaced d)) u e a z → TellsAll others u h t →
         IsPlacelessStep (BehindCommand v (tracks_of d.store) d.chain) others (command by_plain (marks_device v w d)) t e a z }
 {}

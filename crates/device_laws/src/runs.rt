@@ -3,7 +3,6 @@
 
 ghost use Rattle.std.specs.Prelude.{◌≡◌, ℕ, Bool, true, List, Option, None, Some};
 ghost use Rattle.ckd_chain.specs.State.{ChainState};
-ghost use Rattle.ckd_chain.specs.Steps.{need_of};
 ghost use Rattle.ckd_types.specs.declared.geometry.Geometry.{Geometry};
 ghost use Rattle.ckd_types.specs.declared.record.Track.{Track};
 ghost use Rattle.device_outside.specs.Both.{TellsAll};
@@ -19,8 +18,8 @@ ghost use Rattle.device_defs.specs.Events.{second, background, lose};
 ghost use Rattle.device_defs.specs.Start.{start_fault, start};
 ghost use Rattle.device_defs.specs.Store.{tracks_of};
 ghost use Rattle.device_laws.specs.Agrees.{Held};
-ghost use Rattle.device_laws.specs.Feeding.{Feeds};
 ghost use Rattle.device_laws.specs.InOrder.{IsInOrder};
+ghost use Rattle.device_laws.specs.Standing.{RunsOn};
 ghost use Rattle.device_laws.specs.Whole.{WholeDevice, marks_device, IsStep, HalfSuits, BehindCommand, BehindSecond, BehindLoss, BehindReset};
 ghost use Rattle.loss_model.specs.declared.Loss.{Loss};
 
@@ -36,10 +35,9 @@ pub fn start_is_step()
 
 /// A command of the running program, while no half write is open.
 pub fn command_is_step<K: Keep<TrackImage>>()
-    ensures { (looks : ChainState → ℕ →
-        Bool) (v w : List Track) (d : WholeDevice) (h : Held) (others : List ℕ) (t : Told) (u z : Outside (List ℕ) K) (e : WholeDevice) (a : Option Stepped) →
-        Feeds (tracks_of d.store) d.store.geometry (λ c q. looks c q ≡ true) → IsInOrder v w d.store h → d.store.half ≡ None →
-        ((chain : ChainState) (q : ℕ) → d.chain ≡ Some chain → need_of chain ≡ Some q → looks chain q ≡ true) →
+    ensures { (v w : List Track) (d : WholeDevice) (h : Held) (others : List ℕ) (t : Told) (u z : Outside (List ℕ) K) (e : WholeDevice) (a : Option Stepped) →
+        IsInOrder v w d.store h → d.store.half ≡ None →
+        ((chain : ChainState) → d.chain ≡ Some chain → RunsOn d.store.cylinders d.store.geometry chain) →
         Ran (λ ok. ok ≡ true) K.hears (command contents d) u e a z → TellsAll others u h t →
         IsStep (BehindCommand v (tracks_of d.store) d.chain) others (command by_plain (marks_device v w d)) t e a z }
 {}
