@@ -10,6 +10,8 @@ use Rattle.device_outside.specs.Interaction.{Interaction, Done, Try, Ask, Read, 
 use Rattle.device_outside.specs.Keeper.{Message, ReplyTo, Hearing}
 use Rattle.device_outside.specs.Outside.{ByPool, Outside, with_view, Ran, done, tried, asked, read, wrote, told}
 use Rattle.device_outside.specs.Volume.{VolumeView}
+use Rattle.device_outside.specs.Lists as N
+use Rattle.device_outside.specs.Lists.{less_one}
 use Rattle.device_outside.specs.Pool as P
 use Rattle.device_outside.specs.Pool.{
   Pool,
@@ -145,17 +147,26 @@ barren_frames p WantSlot a b = b.frames
 barren_frames p (FreeSlot k) a b = b.frames
 barren_frames p (TellWaiting d n) a b = b.frames
 
-barren_after : (p : Pool) (c : Call) (a : AnswerTo c) → IsBarren p → IsBarren (after p c a)
+none_used : (used : List ℕ) (g : SlotGrant) → IsNoSlot g → used ≡ [] → used_more used g ≡ []
+none_used used (Given k) off e = absurd off
+none_used used Denied off e = e
+none_used used Down off e = e
+
+none_less : (k : ℕ) (used : List ℕ) → used ≡ [] → less_one k used ≡ []
+unfolding N.less_one
+none_less k used e = ap (less_one k) e
+
+barren_after : (p : Pool) (c : Call) (a : AnswerTo c) → IsDenial c a → IsBarren p → IsBarren (after p c a)
 unfolding P.after
-barren_after p (NextNotice d) a b = record { frames = b.frames; room = b.room; slots = b.slots }
-barren_after p (Touch d t) a b = record { frames = barren_frames p (Touch d t) a b; room = b.room; slots = b.slots }
-barren_after p (WantFrame d t) a b = record { frames = barren_frames p (WantFrame d t) a b; room = b.room; slots = b.slots }
-barren_after p (SetModified d t) a b = record { frames = barren_frames p (SetModified d t) a b; room = b.room; slots = b.slots }
-barren_after p (SetClean d t) a b = record { frames = barren_frames p (SetClean d t) a b; room = b.room; slots = b.slots }
-barren_after p (DropFrame d t) a b = record { frames = barren_frames p (DropFrame d t) a b; room = b.room; slots = b.slots }
-barren_after p WantSlot a b = record { frames = b.frames; room = b.room; slots = b.slots }
-barren_after p (FreeSlot k) a b = record { frames = b.frames; room = b.room; slots = b.slots }
-barren_after p (TellWaiting d n) a b = record { frames = b.frames; room = b.room; slots = b.slots }
+barren_after p (NextNotice d) a off b = record { frames = b.frames; room = b.room; slots = b.slots; used = b.used }
+barren_after p (Touch d t) a off b = record { frames = barren_frames p (Touch d t) a b; room = b.room; slots = b.slots; used = b.used }
+barren_after p (WantFrame d t) a off b = record { frames = barren_frames p (WantFrame d t) a b; room = b.room; slots = b.slots; used = b.used }
+barren_after p (SetModified d t) a off b = record { frames = barren_frames p (SetModified d t) a b; room = b.room; slots = b.slots; used = b.used }
+barren_after p (SetClean d t) a off b = record { frames = barren_frames p (SetClean d t) a b; room = b.room; slots = b.slots; used = b.used }
+barren_after p (DropFrame d t) a off b = record { frames = barren_frames p (DropFrame d t) a b; room = b.room; slots = b.slots; used = b.used }
+barren_after p WantSlot a off b = record { frames = b.frames; room = b.room; slots = b.slots; used = none_used p.used a off b.used }
+barren_after p (FreeSlot k) a off b = record { frames = b.frames; room = b.room; slots = b.slots; used = none_less k p.used b.used }
+barren_after p (TellWaiting d n) a off b = record { frames = b.frames; room = b.room; slots = b.slots; used = b.used }
 
 record Refused (c : Call) (a : AnswerTo c) (new : Option Pool) : Type 0 where
   denial : IsDenial c a
@@ -165,7 +176,7 @@ denied : (old new : Option Pool) (c : Call) (a : AnswerTo c) → TellsBarren old
 denied None new c a b is = absurd b
 denied (Some p) new c a b is = record {
   denial = barren_answer p c a b is.0;
-  barren = subst TellsBarren (sym is.1) (barren_after p c a b);
+  barren = subst TellsBarren (sym is.1) (barren_after p c a (barren_answer p c a b is.0) b);
 }
 
 -- the other's run, with the same outside behind it

@@ -79,7 +79,7 @@ module _ {F P H R : Type 0} (c : Contents F P H R) where
 
   -- Whole events
 
-  quiet_alike : {A : Type 0} (d : Device F P H) (f g : Device F P H → Interaction R Image (Device F P H) A) → HasNothing d.store →
+  pub quiet_alike : {A : Type 0} (d : Device F P H) (f g : Device F P H → Interaction R Image (Device F P H) A) → HasNothing d.store →
       Whole (f (event_begun (unplaced d))) (g (event_begun d)) → Whole (quiet_event c (unplaced d) f) (quiet_event c d g)
   quiet_alike d f g e x =
       alike_then (event_ended c (unplaced d)) (event_ended c d) x

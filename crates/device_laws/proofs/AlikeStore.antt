@@ -237,7 +237,7 @@ module _ {F P H R : Type 0} (c : Contents F P H R) where
       ∙ ap (λ (p : Option P). not (is_lost s t) && is_some p) (e.patch t)
       ∙ and_false (not (is_lost s t))
 
-  bare_nothing : (s : Store F P H) → HasNothing s → HasNothing (without_places s)
+  pub bare_nothing : (s : Store F P H) → HasNothing s → HasNothing (without_places s)
   bare_nothing s e = record {
     frame = λ t. refl;
     patch = λ t. refl;

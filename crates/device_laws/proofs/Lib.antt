@@ -76,3 +76,4 @@ pub mod Alike
 pub mod AlikeStore
 pub mod AlikeEvents
 pub mod ChainFeeds
+pub mod PlacelessPower

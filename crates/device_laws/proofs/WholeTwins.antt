@@ -99,7 +99,7 @@ module _ (v w : List Track) (s : DeviceStore) (h : Held) where
     kept = y.kept;
   }
 
-  begun_order : IsInOrder v w s h → IsInOrder v w (begun s) h
+  pub begun_order : IsInOrder v w s h → IsInOrder v w (begun s) h
   begun_order i =
       let o = in_order v w s h i in
       is_in_order v w (begun s) h (begun_ordered (record { sure = o.sure; told = o.told })) (begun_well o.well)

@@ -62,6 +62,7 @@ pub record IsBarren (p : Pool) : Type 0 where
   pub frames : p.frames ≡ []
   pub room : p.room ≡ 0
   pub slots : p.slots ≡ 0
+  pub used : p.used ≡ []
 
 abbrev pub TellsBarren : Option Pool → Type 0
 TellsBarren None = ⊥

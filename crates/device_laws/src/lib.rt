@@ -13,7 +13,8 @@ pub use contents::{
 };
 pub use placeless::{
     new_device_has_nothing, placeless_background_is_step, placeless_command_is_step,
-    placeless_loss_is_step, placeless_reset_is_step, placeless_second_is_step, placeless_start,
+    placeless_loss_is_step, placeless_power_is_step, placeless_reset_is_step,
+    placeless_second_is_step, placeless_start,
 };
 pub use runs::{
     background_is_step, command_is_step, loss_is_step, reset_is_step, second_is_step, start_is_step,

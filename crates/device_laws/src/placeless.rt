@@ -13,7 +13,7 @@ ghost use Rattle.device_defs.specs.declared.answers.SecondEnd.{SecondEnd};
 ghost use Rattle.device_defs.specs.declared.answers.Stepped.{Stepped};
 ghost use Rattle.device_defs.specs.Command.{command};
 ghost use Rattle.device_defs.specs.Contents.{contents, by_plain};
-ghost use Rattle.device_defs.specs.Cutting.{reset};
+ghost use Rattle.device_defs.specs.Cutting.{reset, power};
 ghost use Rattle.device_defs.specs.Events.{second, background, lose};
 ghost use Rattle.device_defs.specs.Start.{start};
 ghost use Rattle.device_defs.specs.Store.{tracks_of};
@@ -78,4 +78,12 @@ pub fn placeless_reset_is_step<K: Keep<TrackImage>>()
         IsInOrder v w d.store h → HasNothing d.store → TellsBarren u.port.pool →
         Ran (λ ok. ok ≡ true) K.hears (reset contents (unplaced d) path) u e a z → TellsAll others u h t →
         IsPlacelessStep (λ v2. v2 ≡ v) others (reset by_plain (marks_device v w d) path) t e a z }
+{}
+
+/// The loss of power.
+pub fn placeless_power_is_step<K: Keep<TrackImage>>()
+    ensures { (v w : List Track) (d : WholeDevice) (h : Held) (others : List ℕ) (t : Told) (u z : Outside (List ℕ) K) (e : WholeDevice) (a : Unit {0}) →
+        IsInOrder v w d.store h → HasNothing d.store → TellsBarren u.port.pool →
+        Ran (λ ok. ok ≡ true) K.hears (power contents (unplaced d)) u e a z → TellsAll others u h t →
+        IsPlacelessStep (λ v2. v2 ≡ v) others (power by_plain (marks_device v w d)) t e a z }
 {}
