@@ -175,7 +175,7 @@ unfolding U.reset
 reset_whole v w d h path i suits = by_running v w d h path i suits d.history.running
 
 -- where no half write is open there is no second part, and a reset changes nothing of the plain volume
-leaves_weaker : {A : Type 0} {p q : List Track → Type 0} (i : Interaction (List ℕ) Image WholeDevice A) (j : Interaction Bool Image MarksDevice A)
+pub leaves_weaker : {A : Type 0} {p q : List Track → Type 0} (i : Interaction (List ℕ) Image WholeDevice A) (j : Interaction Bool Image MarksDevice A)
     (h : Held) → ((v : List Track) → p v → q v) → WholeTwins (Leaves p) i j h → WholeTwins (Leaves q) i j h
 leaves_weaker i j h f x =
     both_weaker i j h

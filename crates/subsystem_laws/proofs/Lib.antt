@@ -1,0 +1,4 @@
+pub mod Finding
+pub mod Talks
+pub mod Deeds
+pub mod Happens

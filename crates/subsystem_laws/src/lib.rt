@@ -1,0 +1,6 @@
+//! Laws of the subsystem: an event of its devices is what happens in a run. It has no code; its lemmas are over plain variables.
+#![tactic(auto)]
+
+mod runs;
+
+pub use runs::{event_is_what_happens, events_are_what_happens};
