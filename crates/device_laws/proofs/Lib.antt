@@ -77,3 +77,4 @@ pub mod AlikeStore
 pub mod AlikeEvents
 pub mod ChainFeeds
 pub mod PlacelessPower
+pub mod OrdersInOrder

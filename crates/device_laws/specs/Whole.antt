@@ -1,5 +1,7 @@
 -- A whole device beside the device of a run: what an event leaves of both.
 use Rattle.std.specs.Prelude.{◌≡◌, ◌⊎◌, ℕ, Bool, true, List, [], Option, None, Some}
+use Rattle.ckd_types.specs.declared.paths.Side.{Side}
+use Rattle.ckd_types.specs.declared.paths.Side.TheVariants as sides
 use Rattle.ckd_types.specs.declared.record.Track.{Track}
 use Rattle.ckd_chain.specs.declared.progress.Settled.{Settled}
 use Rattle.ckd_chain.specs.Fed.{fed}
@@ -85,6 +87,11 @@ BehindLoss u (losses.Side side) v = v ≡ u
 -- behind a reset: as it was, or with the edit of a half write that counts as done
 abbrev pub BehindReset : List Track → Option (HalfWrite Image) → List Track → Type 0
 BehindReset u half v = (v ≡ u) ⊎ (v ≡ plain_cut half u)
+
+-- what the sides hold once one of them has this volume
+abbrev pub holding : Held → Side → List (List ℕ) → Held
+holding h sides.A l = record h { a = l }
+holding h sides.B l = record h { b = l }
 
 -- One step of a run: from here it ends at what a run knows of this device, with this answer and what the outside then tells
 pub record IsStep {K A : Type 0} (p : List Track → Type 0) (others : List ℕ) (j : Interaction Bool Image MarksDevice A) (t : Told) (d : WholeDevice) (a : A)

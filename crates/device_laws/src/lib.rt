@@ -17,5 +17,6 @@ pub use placeless::{
     placeless_second_is_step, placeless_start,
 };
 pub use runs::{
-    background_is_step, command_is_step, loss_is_step, reset_is_step, second_is_step, start_is_step,
+    background_is_step, command_is_step, loss_is_step, orders_leave_order, reset_is_step,
+    second_is_step, start_is_step,
 };

@@ -1,9 +1,11 @@
 //! Laws of whole events. Each says that an event of a device that tells what it holds leaves it in order, and that where the
 //! outside tells all, its run is a step of the defined run, from what a run knows of the device to what it knows behind the event.
 
-ghost use Rattle.std.specs.Prelude.{◌≡◌, ℕ, Bool, true, List, Option, None, Some};
+ghost use Rattle.std.specs.Prelude.{◌≡◌, ◌<◌, ℕ, true, false, List, length, Option, None, Some};
 ghost use Rattle.ckd_chain.specs.State.{ChainState};
 ghost use Rattle.ckd_types.specs.declared.geometry.Geometry.{Geometry};
+ghost use Rattle.ckd_types.specs.declared.paths.Side.{Side};
+ghost use Rattle.ckd_types.specs.declared.paths.Side.TheVariants.{B};
 ghost use Rattle.ckd_types.specs.declared.record.Track.{Track};
 ghost use Rattle.device_outside.specs.Both.{TellsAll};
 ghost use Rattle.device_outside.specs.Outside.{Outside, Ran};
@@ -16,11 +18,12 @@ ghost use Rattle.device_defs.specs.Contents.{contents, by_plain};
 ghost use Rattle.device_defs.specs.Cutting.{reset};
 ghost use Rattle.device_defs.specs.Events.{second, background, lose};
 ghost use Rattle.device_defs.specs.Start.{start_fault, start};
-ghost use Rattle.device_defs.specs.Store.{tracks_of};
+ghost use Rattle.device_defs.specs.Orders.{join, split, replace};
+ghost use Rattle.device_defs.specs.Store.{tracks_of, side_of, stale_at};
 ghost use Rattle.device_laws.specs.Agrees.{Held};
 ghost use Rattle.device_laws.specs.InOrder.{IsInOrder};
 ghost use Rattle.device_laws.specs.Standing.{RunsOn};
-ghost use Rattle.device_laws.specs.Whole.{WholeDevice, marks_device, IsStep, HalfSuits, BehindCommand, BehindSecond, BehindLoss, BehindReset};
+ghost use Rattle.device_laws.specs.Whole.{WholeDevice, marks_device, holding, IsStep, HalfSuits, BehindCommand, BehindSecond, BehindLoss, BehindReset};
 ghost use Rattle.loss_model.specs.declared.Loss.{Loss};
 
 use device_outside::Keep;
@@ -72,4 +75,17 @@ pub fn reset_is_step<K: Keep<TrackImage>>()
         IsInOrder v w d.store h → HalfSuits v d.store →
         Ran (λ ok. ok ≡ true) K.hears (reset contents d path) u e a z → TellsAll others u h t →
         IsStep (BehindReset v d.store.half) others (reset by_plain (marks_device v w d) path) t e a z }
+{}
+
+/// Orders that give a side another volume, as many tracks long as the device, or take side B away.
+pub fn orders_leave_order()
+    ensures replaced { (v w : List Track) (d : WholeDevice) (h : Held) (side : Side) (l : List (List ℕ)) → IsInOrder v w d.store h →
+        (side_of d.store side).up ≡ false → (side ≡ B → d.store.paired ≡ true) → length l ≡ tracks_of d.store →
+        IsInOrder v w (replace d side).store (holding h side l) × (marks_device v w (replace d side) ≡ replace (marks_device v w d) side) }
+    ensures joined { (v w : List Track) (d : WholeDevice) (h : Held) (l : List (List ℕ)) → IsInOrder v w d.store h → d.store.paired ≡ false →
+        length l ≡ tracks_of d.store →
+        IsInOrder v w (join d).store (holding h B l) × (marks_device v w (join d) ≡ join (marks_device v w d)) }
+    ensures split { (v w : List Track) (d : WholeDevice) (h : Held) → IsInOrder v w d.store h → d.store.a.up ≡ true →
+        ((q : ℕ) → q < tracks_of d.store → stale_at d.store.a q ≡ false) →
+        IsInOrder v w (split d).store h × (marks_device v w (split d) ≡ split (marks_device v w d)) }
 {}
