@@ -2,3 +2,4 @@ pub mod Finding
 pub mod Talks
 pub mod Deeds
 pub mod Happens
+pub mod Orders

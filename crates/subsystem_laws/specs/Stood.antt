@@ -1,7 +1,11 @@
 -- Devices without places, each with what its volume tells, beside what a run has mounted for them.
 use Rattle.std.specs.Prelude.{◌≡◌, ℕ, ◌==◌, List, [], ◌∷◌, Option, Some, None, map, if◌then◌else◌}
+use Rattle.ckd_types.specs.declared.geometry.Geometry.{Geometry}
 use Rattle.ckd_types.specs.declared.record.Track.{Track}
 use Rattle.ckd_chain.specs.State.{ChainState}
+use Rattle.plain_defs.specs.History.{no_history}
+use Rattle.plain_defs.specs.Journal.{Plans}
+use Rattle.plain_defs.specs.PlainState.{fresh_paths}
 use Rattle.device_outside.specs.Both.{SideIs}
 use Rattle.device_outside.specs.Pool.{Pool}
 use Rattle.device_outside.specs.Slots.{AreShared}
@@ -9,6 +13,7 @@ use Rattle.device_outside.specs.Told.{Calls}
 use Rattle.device_outside.specs.Volume.{VolumeView}
 use Rattle.device_laws.specs.Agrees.{Held}
 use Rattle.device_laws.specs.InOrder.{IsInOrder}
+use Rattle.device_laws.specs.NewDevice.{new_contents}
 use Rattle.device_laws.specs.Places.{HasNothing, unplaced}
 use Rattle.device_laws.specs.Standing.{RunsOn}
 use Rattle.device_laws.specs.Whole.{WholeDevice, marks_device}
@@ -52,3 +57,13 @@ HasChain d = (chain : ChainState) → d.chain ≡ Some chain → RunsOn d.store.
 abbrev pub HaveChains : List Stood → Type 0
 HaveChains [] = Unit {0}
 HaveChains (x ∷ xs) = HasChain x.device × HaveChains xs
+
+-- a new device on one volume of empty tracks, with an empty place for each track
+abbrev pub opened : ℕ → Geometry → ℕ → Plans → WholeDevice
+opened d g cylinders plans = record {
+  store = new_contents d g cylinders;
+  paths = fresh_paths;
+  plans = plans;
+  history = no_history;
+  chain = None;
+}

@@ -3,4 +3,6 @@
 
 mod runs;
 
-pub use runs::{event_is_what_happens, events_are_what_happens};
+pub use runs::{
+    event_is_what_happens, events_are_what_happens, new_device_is_mounted, replaced_is_what_happens,
+};
