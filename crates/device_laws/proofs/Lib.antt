@@ -78,3 +78,4 @@ pub mod AlikeEvents
 pub mod ChainFeeds
 pub mod PlacelessPower
 pub mod OrdersInOrder
+pub mod QuietParts

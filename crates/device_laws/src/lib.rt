@@ -4,6 +4,7 @@
 mod contents;
 mod placeless;
 mod runs;
+mod transfers;
 
 pub use contents::{
     chain_is_on_device, command_goes_as_fed, cut_leaves_order, end_leaves_order,
@@ -20,3 +21,4 @@ pub use runs::{
     background_is_step, command_is_step, loss_is_step, orders_leave_order, reset_is_step,
     second_is_step, start_is_step,
 };
+pub use transfers::{cache_writes_move_nothing, losses_move_nothing, writes_move_sides};
