@@ -79,3 +79,4 @@ pub mod ChainFeeds
 pub mod PlacelessPower
 pub mod OrdersInOrder
 pub mod QuietParts
+pub mod ReadMoves

@@ -134,7 +134,7 @@ module _ {F P H R : Type 0} (c : Contents F P H R) where
   firm_quiet zero s = quiet_done
   firm_quiet (suc n) s = quiet_then (λ z _. firm_told c n z) (firm_quiet n s) (λ z _. quiet_if _ (quiet_tell (λ _. quiet_done)) quiet_done)
 
-  failed_quiet : (s : Store F P H) (side : Side) (writing : Option ℕ) → Talks (call_failed c s side writing)
+  pub failed_quiet : (s : Store F P H) (side : Side) (writing : Option ℕ) → Talks (call_failed c s side writing)
   failed_quiet s side writing = quiet_if s.paired (firm_quiet (tracks_of s) (side_lost c s side writing)) quiet_done
 
   pub losing_quiet : (s : Store F P H) (loss : Loss) → Talks (losing c s loss)

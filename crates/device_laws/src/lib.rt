@@ -21,4 +21,6 @@ pub use runs::{
     background_is_step, command_is_step, loss_is_step, orders_leave_order, reset_is_step,
     second_is_step, start_is_step,
 };
-pub use transfers::{cache_writes_move_nothing, losses_move_nothing, writes_move_sides};
+pub use transfers::{
+    cache_writes_move_nothing, image_reads_sides, losses_move_nothing, writes_move_sides,
+};

@@ -1,7 +1,8 @@
 //! Laws of transfers: how many reads and writes of volumes the parts of an event make, whatever is answered, over contents and over marks.
 
-ghost use Rattle.std.specs.Prelude.{ℕ, List, Option};
+ghost use Rattle.std.specs.Prelude.{◌≡◌, ℕ, true, List, Option, Some, None};
 ghost use Rattle.ckd_types.specs.declared.record.Edit.{Edit};
+ghost use Rattle.track_cache.specs.declared.frames.Frame.{Frame};
 ghost use Rattle.track_image.specs.Image.{Image};
 ghost use Rattle.loss_model.specs.declared.Loss.{Loss};
 ghost use Rattle.device_defs.specs.declared.answers.Choice.TheVariants.{Provisional, Fast};
@@ -10,12 +11,13 @@ ghost use Rattle.device_defs.specs.Contents.{contents, by_plain};
 ghost use Rattle.device_defs.specs.Cutting.{half_cut};
 ghost use Rattle.device_defs.specs.Editing.{write_by};
 ghost use Rattle.device_defs.specs.Events.{losing};
+ghost use Rattle.device_defs.specs.Image.{image};
 ghost use Rattle.device_defs.specs.Marks.{MarksStore};
 ghost use Rattle.device_defs.specs.Owed.{hear, ended};
 ghost use Rattle.device_defs.specs.Second.{second_part};
 ghost use Rattle.device_defs.specs.Sound.{DeviceStore};
-ghost use Rattle.device_defs.specs.Store.{HalfWrite};
-ghost use Rattle.device_defs.specs.Transfers.{FirstPart, SecondPart, InCache, Loss as LossPart, Makes};
+ghost use Rattle.device_defs.specs.Store.{HalfWrite, frame_at};
+ghost use Rattle.device_defs.specs.Transfers.{Hit, Miss, FirstPart, SecondPart, InCache, Loss as LossPart, Makes};
 ghost use Rattle.device_defs.specs.Writing.{write_first};
 
 /// A loss, an event's notices and what it tells at its end, and what cuts a running program move nothing.
@@ -38,4 +40,11 @@ pub fn writes_move_sides()
     ensures first { (s : DeviceStore) (t : ℕ) (r : List ℕ) → Makes s FirstPart (write_first contents s t r) }
     ensures second { (s : DeviceStore) (h : HalfWrite Image) → Makes s SecondPart (second_part contents s h) }
     ensures run { (s : MarksStore) (h : HalfWrite (Unit {0})) → Makes s SecondPart (second_part by_plain s h) }
+{}
+
+/// The image of a track: one with a modified frame is not read, one without a frame is, from its level sides.
+pub fn image_reads_sides()
+    ensures hit { (s : DeviceStore) (u : Usage) (t : ℕ) (f : Frame) → frame_at s t ≡ Some f → f.modified ≡ true → Makes s Hit (image contents s u t) }
+    ensures missed { (s : DeviceStore) (u : Usage) (t : ℕ) → frame_at s t ≡ None → Makes s (Miss t) (image contents s u t) }
+    ensures run { (s : MarksStore) (u : Usage) (t : ℕ) → frame_at s t ≡ None → Makes s (Miss t) (image by_plain s u t) }
 {}
