@@ -69,3 +69,14 @@ pub mod TwinEvents
 pub mod TwinLaws
 pub mod NewDevices
 pub mod OrdersStand
+pub mod WholeTwins
+pub mod WholeCommand
+pub mod WholeParts
+pub mod Alike
+pub mod AlikeStore
+pub mod AlikeEvents
+pub mod ChainFeeds
+pub mod PlacelessPower
+pub mod OrdersInOrder
+pub mod QuietParts
+pub mod ReadMoves

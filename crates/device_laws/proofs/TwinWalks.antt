@@ -81,7 +81,7 @@ both_behind i j h (both_read x y) c = both_read (both_behind _ _ h x (c None)) (
 both_behind i j h (both_write x y) c = both_write (both_behind _ _ _ x (c true)) (λ v. both_behind _ _ _ (y v) (c false))
 both_behind i j h (both_tell x) c = both_tell (λ r. both_behind _ _ h (x r) (c r))
 
-both_weaker : {R O I S A T B : Type 0} {z : R} {g : O} {p q : S → A → T → B → Holdings R → Type 0}
+pub both_weaker : {R O I S A T B : Type 0} {z : R} {g : O} {p q : S → A → T → B → Holdings R → Type 0}
     (i : Interaction R I S A) (j : Interaction O I T B) (h : Holdings R) →
     ((s : S) (a : A) (m : T) (b : B) (k : Holdings R) → p s a m b k → q s a m b k) → Both z g p i j h → Both z g q i j h
 both_weaker i j h f (both_done x) = both_done (f _ _ _ _ _ x)

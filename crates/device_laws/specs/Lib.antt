@@ -5,3 +5,5 @@ pub mod InOrder
 pub mod Feeding
 pub mod NewDevice
 pub mod Standing
+pub mod Whole
+pub mod Places

@@ -2,10 +2,25 @@
 #![tactic(auto)]
 
 mod contents;
+mod placeless;
+mod runs;
+mod transfers;
 
 pub use contents::{
     chain_is_on_device, command_goes_as_fed, cut_leaves_order, end_leaves_order,
     failed_call_leaves_order, held_side_leaves_order, image_is_plain, lost_cache_leaves_order,
     lost_side_leaves_order, lost_store_leaves_order, new_device_is_in_order, notices_leave_order,
     order_is_on_device, second_part_is_plain, work_is_plain, write_is_plain,
+};
+pub use placeless::{
+    new_device_has_nothing, placeless_background_is_step, placeless_command_is_step,
+    placeless_loss_is_step, placeless_power_is_step, placeless_reset_is_step,
+    placeless_second_is_step, placeless_start,
+};
+pub use runs::{
+    background_is_step, command_is_step, loss_is_step, orders_leave_order, reset_is_step,
+    second_is_step, start_is_step,
+};
+pub use transfers::{
+    cache_writes_move_nothing, image_reads_sides, losses_move_nothing, writes_move_sides,
 };

@@ -1,0 +1,5 @@
+pub mod Finding
+pub mod Talks
+pub mod Deeds
+pub mod Happens
+pub mod Orders
