@@ -1,0 +1,5 @@
+mod OneDevice
+mod ReportText
+pub mod Stand
+pub mod Reports
+mod Rows

@@ -1,0 +1,23 @@
+//! Laws of reports.
+
+ghost use Rattle.std.specs.Prelude.{◌≡◌, ℕ, List};
+ghost use Rattle.report_text.specs.declared.report.DeviceEnd.{DeviceEnd};
+ghost use Rattle.report_text.specs.declared.report.FrameEnd.{FrameEnd};
+ghost use Rattle.report_text.specs.Ends.{lines_text};
+ghost use Rattle.report_text.specs.Report.{report_text};
+ghost use Rattle.run_report.specs.Closing.{TellsEnding};
+ghost use Rattle.run_report.specs.OneDevice.{TellsAlone};
+ghost use Rattle.run_report.specs.Report.{lines_of_run, report_lines};
+ghost use Rattle.subsystem_defs.specs.Closing.{ending};
+ghost use Rattle.subsystem_defs.specs.Decks.{DeckRun};
+ghost use Rattle.subsystem_defs.specs.Subsystem.{Mounted, Subsystem};
+
+/// What is written of a run's events and of its end is the text of its lines.
+pub fn report_is_text()
+    ensures { (run : DeckRun) (devices : List DeviceEnd) (frames : List FrameEnd) → TellsEnding (ending run.behind) devices frames → report_text (lines_of_run run) devices frames ≡ lines_text (report_lines run) }
+{}
+
+/// An event of one device is told by that device alone.
+pub fn one_device_tells()
+    ensures { (s : Subsystem) (n : ℕ) (x : Mounted) → TellsAlone s n x }
+{}
