@@ -1,15 +1,23 @@
 //! Laws of reports.
 
 ghost use Rattle.std.specs.Prelude.{◌≡◌, ℕ, List};
+ghost use Rattle.track_image.specs.Image.{Image};
+ghost use Rattle.track_cache.specs.declared.frames.Frame.{Frame};
+ghost use Rattle.nv_store.specs.declared.patches.Stored.{Stored};
+ghost use Rattle.device_defs.specs.Device.{Device};
+ghost use Rattle.device_defs.specs.Marks.{MarksDevice};
 ghost use Rattle.report_text.specs.declared.report.DeviceEnd.{DeviceEnd};
 ghost use Rattle.report_text.specs.declared.report.FrameEnd.{FrameEnd};
 ghost use Rattle.report_text.specs.Ends.{lines_text};
 ghost use Rattle.report_text.specs.Report.{report_text};
 ghost use Rattle.run_report.specs.Closing.{TellsEnding};
-ghost use Rattle.run_report.specs.OneDevice.{TellsAlone};
+ghost use Rattle.run_report.specs.Events.{event_lines};
+ghost use Rattle.run_report.specs.OneDevice.{AreToldAs, TellsAlone};
 ghost use Rattle.run_report.specs.Report.{lines_of_run, report_lines};
+ghost use Rattle.subsystem_defs.specs.declared.end.EventEnd.{EventEnd};
 ghost use Rattle.subsystem_defs.specs.Closing.{ending};
 ghost use Rattle.subsystem_defs.specs.Decks.{DeckRun};
+ghost use Rattle.subsystem_defs.specs.Lines.{Asked};
 ghost use Rattle.subsystem_defs.specs.Subsystem.{Mounted, Subsystem};
 
 /// What is written of a run's events and of its end is the text of its lines.
@@ -20,4 +28,10 @@ pub fn report_is_text()
 /// An event of one device is told by that device alone.
 pub fn one_device_tells()
     ensures { (s : Subsystem) (n : ℕ) (x : Mounted) → TellsAlone s n x }
+{}
+
+/// Devices over contents, and those over marks of which the same is told, make the same lines.
+pub fn same_lines_are_told()
+    ensures { (asked : Asked) (end : EventEnd) (reads writes : ℕ) (before behind : List (Device Frame Stored Image)) (other then : List MarksDevice) → AreToldAs before other → AreToldAs behind then →
+        event_lines asked end reads writes before behind ≡ event_lines asked end reads writes other then }
 {}

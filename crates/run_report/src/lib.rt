@@ -4,10 +4,17 @@
 
 mod answers;
 mod law;
+mod record;
+#[cfg(test)]
+mod tests;
 mod told;
 mod work;
 
 pub use answers::{back_answer, how_over, order_answer, start_answer};
-pub use law::{one_device_tells, report_is_text};
+pub use law::{one_device_tells, report_is_text, same_lines_are_told};
+pub use record::{
+    Calls, Gained, over_of, record_event, record_order, record_power_of, record_reset,
+    record_start, record_work,
+};
 pub use told::RunningProgram;
 pub use work::work_told;

@@ -8,8 +8,8 @@ use device_defs::{SecondEnd, Stepped};
 use report_text::{BackAnswer, Happened};
 use subsystem_defs::EventEnd;
 
-fn end_told(device: DeviceNo, running: Option<RunningProgram>, end: CommandEnd) -> Happened
-    ensures { result ≡ end_told device running end }
+fn end_told(device: DeviceNo, running: &Option<RunningProgram>, end: CommandEnd) -> Happened
+    ensures { result ≡ end_told device running.now end }
 {
     match running {
         Some(r) => Happened::Ended(r.path, device, r.ordinal, end),
@@ -17,8 +17,8 @@ fn end_told(device: DeviceNo, running: Option<RunningProgram>, end: CommandEnd) 
     }
 }
 
-fn half_told(device: DeviceNo, running: Option<RunningProgram>, track: TrackNo) -> Happened
-    ensures { result ≡ half_told device running track }
+fn half_told(device: DeviceNo, running: &Option<RunningProgram>, track: TrackNo) -> Happened
+    ensures { result ≡ half_told device running.now track }
 {
     match running {
         Some(r) => Happened::Half(r.path, device, track),
@@ -26,8 +26,8 @@ fn half_told(device: DeviceNo, running: Option<RunningProgram>, track: TrackNo) 
     }
 }
 
-fn step_told(device: DeviceNo, running: Option<RunningProgram>, step: Stepped) -> Happened
-    ensures { result ≡ step_told device running step }
+fn step_told(device: DeviceNo, running: &Option<RunningProgram>, step: Stepped) -> Happened
+    ensures { result ≡ step_told device running.now step }
 {
     match step {
         Stepped::Ended(end) => end_told(device, running, end),
@@ -35,8 +35,8 @@ fn step_told(device: DeviceNo, running: Option<RunningProgram>, step: Stepped) -
     }
 }
 
-fn second_told(device: DeviceNo, running: Option<RunningProgram>, end: SecondEnd) -> Happened
-    ensures { result ≡ second_told device running end }
+fn second_told(device: DeviceNo, running: &Option<RunningProgram>, end: SecondEnd) -> Happened
+    ensures { result ≡ second_told device running.now end }
 {
     match end {
         SecondEnd::Ended(end) => end_told(device, running, end),
@@ -49,11 +49,11 @@ fn second_told(device: DeviceNo, running: Option<RunningProgram>, end: SecondEnd
 /// nothing to do.
 pub fn work_told(
     device: DeviceNo,
-    running: Option<RunningProgram>,
+    running: &Option<RunningProgram>,
     idle: Happened,
     end: EventEnd,
 ) -> Happened
-    ensures { result ≡ work_told device running idle end }
+    ensures { result ≡ work_told device running.now idle end }
 {
     match end {
         EventEnd::Stepped(step) => step_told(device, running, step),
