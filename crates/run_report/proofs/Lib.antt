@@ -1,5 +1,6 @@
 mod OneDevice
 mod ReportText
+mod Showing
 mod ToldAs
 pub mod Stand
 pub mod Reports

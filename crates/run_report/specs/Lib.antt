@@ -5,4 +5,5 @@ pub mod Closing
 pub mod Report
 pub mod OneDevice
 pub mod Shown
+pub mod Showing
 pub mod Summed

@@ -1,6 +1,6 @@
 //! Laws of reports.
 
-ghost use Rattle.std.specs.Prelude.{◌≡◌, ℕ, List};
+ghost use Rattle.std.specs.Prelude.{◌≡◌, ℕ, List, []};
 ghost use Rattle.track_image.specs.Image.{Image};
 ghost use Rattle.track_cache.specs.declared.frames.Frame.{Frame};
 ghost use Rattle.nv_store.specs.declared.patches.Stored.{Stored};
@@ -14,10 +14,12 @@ ghost use Rattle.run_report.specs.Closing.{TellsEnding};
 ghost use Rattle.run_report.specs.Events.{event_lines};
 ghost use Rattle.run_report.specs.OneDevice.{AreToldAs, TellsAlone};
 ghost use Rattle.run_report.specs.Report.{lines_of_run, report_lines};
+ghost use Rattle.run_report.specs.Showing.{AreShown, lines_in};
+ghost use Rattle.run_report.specs.Shown.{shown_of};
 ghost use Rattle.subsystem_defs.specs.declared.end.EventEnd.{EventEnd};
 ghost use Rattle.subsystem_defs.specs.Closing.{ending};
-ghost use Rattle.subsystem_defs.specs.Decks.{DeckRun};
-ghost use Rattle.subsystem_defs.specs.Lines.{Asked};
+ghost use Rattle.subsystem_defs.specs.Decks.{DeckRun, run_from};
+ghost use Rattle.subsystem_defs.specs.Lines.{Asked, Logged, last_behind};
 ghost use Rattle.subsystem_defs.specs.Subsystem.{Mounted, Subsystem};
 
 /// What is written of a run's events and of its end is the text of its lines.
@@ -34,4 +36,9 @@ pub fn one_device_tells()
 pub fn same_lines_are_told()
     ensures { (asked : Asked) (end : EventEnd) (reads writes : ℕ) (before behind : List (Device Frame Stored Image)) (other then : List MarksDevice) → AreToldAs before other → AreToldAs behind then →
         event_lines asked end reads writes before behind ≡ event_lines asked end reads writes other then }
+{}
+
+/// A report shows what a device's history has, where each of its events shows what came to it.
+pub fn events_show_a_history()
+    ensures { (d : ℕ) (s : Subsystem) (events : List Logged) → AreShown d s events → lines_in s d ≡ [] → shown_of d (report_lines (run_from s events)) ≡ lines_in (last_behind s events) d }
 {}
