@@ -55,15 +55,15 @@ pub struct Gained<'a, 'b> {
 
 /// Records an event of one device, by what it did, what came to the device, and its calls.
 pub fn record_event(
-    record: &mut RunRecord,
+    run: &mut RunRecord,
     device: DeviceNo,
     happened: Happened,
     gained: &Gained,
     calls: Calls,
 ) -> Result<(), NoMemory>
-    ensures { OnOk result (record.new ≡ record.old ++ lines_by device happened gained.now.acts.now calls.reads calls.writes gained.now.items.now) }
+    ensures { OnOk result (run.new ≡ run.old ++ lines_by device happened gained.now.acts.now calls.reads calls.writes gained.now.items.now) }
 {
-    record.push_event(RunEvent {
+    run.push_event(RunEvent {
         happened,
         loosed: gained.acts,
         reads: calls.reads,
@@ -74,19 +74,19 @@ pub fn record_event(
 
 /// Records a start. Nothing else comes with it.
 pub fn record_start(
-    record: &mut RunRecord,
+    run: &mut RunRecord,
     path: PathNo,
     device: DeviceNo,
     end: &EventEnd,
 ) -> Result<(), NoMemory>
-    ensures { OnOk result (record.new ≡ record.old ++ lines.Start path device (start_answer end.now) ∷ []) }
+    ensures { OnOk result (run.new ≡ run.old ++ lines.Start path device (start_answer end.now) ∷ []) }
 {
-    record.push(ReportLine::Start(path, device, start_answer(end)))
+    run.push(ReportLine::Start(path, device, start_answer(end)))
 }
 
 /// Records a step or work in the background; `idle` is told where there was nothing to do.
 pub fn record_work(
-    record: &mut RunRecord,
+    run: &mut RunRecord,
     device: DeviceNo,
     running: &Option<RunningProgram>,
     idle: Happened,
@@ -94,10 +94,10 @@ pub fn record_work(
     gained: &Gained,
     calls: Calls,
 ) -> Result<(), NoMemory>
-    ensures { OnOk result (record.new ≡ record.old ++ lines_by device (work_told device running.now idle end) gained.now.acts.now calls.reads calls.writes gained.now.items.now) }
+    ensures { OnOk result (run.new ≡ run.old ++ lines_by device (work_told device running.now idle end) gained.now.acts.now calls.reads calls.writes gained.now.items.now) }
 {
     record_event(
-        record,
+        run,
         device,
         work_told(device, running, idle, end),
         gained,
@@ -107,61 +107,55 @@ pub fn record_work(
 
 /// Records a reset, with the program that it cut.
 pub fn record_reset(
-    record: &mut RunRecord,
+    run: &mut RunRecord,
     path: PathNo,
     device: DeviceNo,
     items: &[Item],
 ) -> Result<(), NoMemory>
-    ensures { OnOk result (record.new ≡ record.old ++ lines_by device (did.Reset path device) [] 0 0 items.now) }
+    ensures { OnOk result (run.new ≡ run.old ++ lines_by device (did.Reset path device) [] 0 0 items.now) }
 {
     let gained = Gained { acts: &[], items };
     let calls = Calls {
         reads: 0,
         writes: 0,
     };
-    record_event(
-        record,
-        device,
-        Happened::Reset(path, device),
-        &gained,
-        calls,
-    )
+    record_event(run, device, Happened::Reset(path, device), &gained, calls)
 }
 
-fn record_over(record: &mut RunRecord, over: &Option<ProgramOver>) -> Result<(), NoMemory>
-    ensures { OnOk result (record.new ≡ record.old ++ program_over_lines over.now) }
+fn record_over(run: &mut RunRecord, over: &Option<ProgramOver>) -> Result<(), NoMemory>
+    ensures { OnOk result (run.new ≡ run.old ++ program_over_lines over.now) }
 {
     match over {
-        Some(over) => record.push(ReportLine::Over(over.path, over.device, over.ordinal, over.how)),
+        Some(over) => run.push(ReportLine::Over(over.path, over.device, over.ordinal, over.how)),
         None => Ok(()),
     }
 }
 
-fn record_acts(record: &mut RunRecord, acts: &[Loosed]) -> Result<(), NoMemory>
-    ensures { OnOk result (record.new ≡ record.old ++ map loosed_line acts.now) }
+fn record_acts(run: &mut RunRecord, acts: &[Loosed]) -> Result<(), NoMemory>
+    ensures { OnOk result (run.new ≡ run.old ++ map loosed_line acts.now) }
 {
     for act in acts {
-        record.push(ReportLine::Loose(act.device, act.answer))?;
+        run.push(ReportLine::Loose(act.device, act.answer))?;
     }
     Ok(())
 }
 
 /// Records what a loss of power did to one device.
 pub fn record_power_of(
-    record: &mut RunRecord,
+    run: &mut RunRecord,
     device: DeviceNo,
     gained: &Gained,
 ) -> Result<(), NoMemory>
-    ensures { OnOk result (record.new ≡ record.old ++ power_lines_by device gained.now.acts.now gained.now.items.now) }
+    ensures { OnOk result (run.new ≡ run.old ++ power_lines_by device gained.now.acts.now gained.now.items.now) }
 {
-    record_over(record, &over_of(device, gained.items))?;
-    record_acts(record, gained.acts)?;
+    record_over(run, &over_of(device, gained.items))?;
+    record_acts(run, gained.acts)?;
     Ok(())
 }
 
 /// Records an order, behind what it did to devices.
-pub fn record_order(record: &mut RunRecord, order: Order, end: &EventEnd) -> Result<(), NoMemory>
-    ensures { OnOk result (record.new ≡ record.old ++ lines.Order order (order_answer end.now) ∷ []) }
+pub fn record_order(run: &mut RunRecord, order: Order, end: &EventEnd) -> Result<(), NoMemory>
+    ensures { OnOk result (run.new ≡ run.old ++ lines.Order order (order_answer end.now) ∷ []) }
 {
-    record.push(ReportLine::Order(order, order_answer(end)))
+    run.push(ReportLine::Order(order, order_answer(end)))
 }

@@ -31,16 +31,16 @@ const LINES: &str =
     "START 2 10 BUSY 2\nHALF 2 10 17\nIO 0 1\nBACK 10 FINISHED 17\nCFW 10 HARDEN 17\nIO 1 1\nOVER 2 10 3 CUT 2\nRESET 2 10\nOVER 2 10 3 CUT 2\nCFW 10 HARDEN 17\nFAIL CACHE REFUSED DOWN\nFINISH\n";
 
 /// An event of each kind, with these acts, and items of a journal.
-fn record_all(record: &mut RunRecord, acts: &[Loosed], items: &[Item]) -> Result<(), NoMemory> {
+fn record_all(run: &mut RunRecord, acts: &[Loosed], items: &[Item]) -> Result<(), NoMemory> {
     let (p, d, t) = (path(), device(), track());
     let running = Some(RunningProgram {
         path: p,
         ordinal: 3,
     });
     let busy = EventEnd::NotStarted(StartFault::Busy { holder: p });
-    record_start(record, p, d, &busy)?;
+    record_start(run, p, d, &busy)?;
     record_work(
-        record,
+        run,
         d,
         &running,
         Happened::RunIdle(d),
@@ -55,7 +55,7 @@ fn record_all(record: &mut RunRecord, acts: &[Loosed], items: &[Item]) -> Result
         },
     )?;
     record_work(
-        record,
+        run,
         d,
         &running,
         Happened::RunIdle(d),
@@ -66,13 +66,9 @@ fn record_all(record: &mut RunRecord, acts: &[Loosed], items: &[Item]) -> Result
             writes: 1,
         },
     )?;
-    record_reset(record, p, d, items)?;
-    record_power_of(record, d, &Gained { acts, items })?;
-    record_order(
-        record,
-        Order::FailCache,
-        &EventEnd::Refused(OrderFault::Down),
-    )
+    record_reset(run, p, d, items)?;
+    record_power_of(run, d, &Gained { acts, items })?;
+    record_order(run, Order::FailCache, &EventEnd::Refused(OrderFault::Down))
 }
 
 #[test]
@@ -88,11 +84,11 @@ fn events_of_each_kind(rt: HostRuntime) -> Result<(), Fail> {
         device: device(),
         answer: LooseAnswer::Harden(track()),
     }];
-    let mut record = RunRecord::new(rt.alloc());
-    let recorded = record_all(&mut record, &firm, &cut);
+    let mut run = RunRecord::new(rt.alloc());
+    let recorded = record_all(&mut run, &firm, &cut);
     let mut sink = MemSink::new(rt.alloc(), 1000, 1000, &[])?;
     assert_eq!(rt; recorded, Ok(()));
-    assert_eq!(rt; write_report(&mut sink, &record, &[], &[]), Ok(()));
+    assert_eq!(rt; write_report(&mut sink, &run, &[], &[]), Ok(()));
     assert_eq!(rt; sink.bytes(), LINES.as_bytes());
     Ok(())
 }

@@ -5,4 +5,4 @@ use Rattle.run_report.proofs.record.record_acts.Given as goal
 
 -- the lines so far
 abbrev pub invariant-loop-act : goal.invariant-loop-act
-invariant-loop-act l = l.record ≡ l.initial.record ++ map loosed_line (take l.act-index l.acts)
+invariant-loop-act l = l.run ≡ l.initial.run ++ map loosed_line (take l.act-index l.acts)
