@@ -1,4 +1,5 @@
 mod OneDevice
+mod Quiet
 mod ReportText
 mod Showing
 mod ToldAs

@@ -13,7 +13,7 @@ use Rattle.run_report.specs.OneDevice.{TellsAlone, lines_at}
 use Rattle.subsystem_defs.specs.Beside.{acts_in, behind_first, has_power, new_items, power_told, told_act}
 use Rattle.subsystem_defs.specs.Subsystem.{Mounted, Subsystem, devices_of, mounted_in, number_of, put_in, with_mounted}
 
-none_behind : {X : Type 0} (xs : List X) → behind_first (length xs) xs ≡ []
+pub none_behind : {X : Type 0} (xs : List X) → behind_first (length xs) xs ≡ []
 none_behind [] = refl
 none_behind (x ∷ xs) = none_behind xs
 

@@ -28,6 +28,11 @@ module _ {F P H : Type 0} where
   device_lines h reads writes before behind =
       first_lines h ++ (loose_lines before behind ++ (io_lines reads writes ++ (over_lines before behind ++ line_if (last_line h))))
 
+  -- nothing beside what it did
+  pub record TellsNothing (before behind : Device F P H) : Type 0 where
+    pub loose : loose_lines before behind ≡ []
+    pub over : over_lines before behind ≡ []
+
 -- in a run: a device before, and another one in its place
 abbrev pub lines_at : Happened → ℕ → ℕ → Option Mounted → MarksDevice → List ReportLine
 lines_at h reads writes (Some m) behind = device_lines h reads writes m.device behind

@@ -1,18 +1,20 @@
 //! Laws of reports.
 
-ghost use Rattle.std.specs.Prelude.{◌≡◌, ℕ, List, []};
+ghost use Rattle.std.specs.Prelude.{◌≡◌, ℕ, List, [], None};
 ghost use Rattle.track_image.specs.Image.{Image};
 ghost use Rattle.track_cache.specs.declared.frames.Frame.{Frame};
 ghost use Rattle.nv_store.specs.declared.patches.Stored.{Stored};
 ghost use Rattle.device_defs.specs.Device.{Device};
 ghost use Rattle.device_defs.specs.Marks.{MarksDevice};
+ghost use Rattle.device_defs.specs.Orders.{restore};
+ghost use Rattle.device_defs.specs.Start.{start};
 ghost use Rattle.report_text.specs.declared.report.DeviceEnd.{DeviceEnd};
 ghost use Rattle.report_text.specs.declared.report.FrameEnd.{FrameEnd};
 ghost use Rattle.report_text.specs.Ends.{lines_text};
 ghost use Rattle.report_text.specs.Report.{report_text};
 ghost use Rattle.run_report.specs.Closing.{TellsEnding};
 ghost use Rattle.run_report.specs.Events.{event_lines};
-ghost use Rattle.run_report.specs.OneDevice.{AreToldAs, TellsAlone};
+ghost use Rattle.run_report.specs.OneDevice.{AreToldAs, TellsAlone, TellsNothing};
 ghost use Rattle.run_report.specs.Report.{lines_of_run, report_lines};
 ghost use Rattle.run_report.specs.Showing.{AreShown, lines_in};
 ghost use Rattle.run_report.specs.Shown.{shown_of};
@@ -41,4 +43,11 @@ pub fn same_lines_are_told()
 /// A report shows what a device's history has, where each of its events shows what came to it.
 pub fn events_show_a_history()
     ensures { (d : ℕ) (s : Subsystem) (events : List Logged) → AreShown d s events → lines_in s d ≡ [] → shown_of d (report_lines (run_from s events)) ≡ lines_in (last_behind s events) d }
+{}
+
+/// Starts, orders that leave a history as it is, and an empty volume tell nothing beside what the event did.
+pub fn quiet_events_tell_nothing()
+    ensures same { (before behind : MarksDevice) → behind.history ≡ before.history → TellsNothing before behind }
+    ensures starts { (d : MarksDevice) (path : ℕ) → d.history.running ≡ None → TellsNothing d (start d path) }
+    ensures restores { (d : MarksDevice) → TellsNothing d (restore d) }
 {}
