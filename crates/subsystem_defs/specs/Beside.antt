@@ -27,7 +27,9 @@ use Rattle.plain_defs.specs.declared.journal.Acted.{Acted}
 use Rattle.plain_defs.specs.declared.journal.Item.{Item}
 use Rattle.plain_defs.specs.declared.journal.Item.TheVariants as items
 use Rattle.plain_defs.specs.History.{OpenEntry, History}
-use Rattle.device_defs.specs.Marks.{MarksDevice, MarksStore}
+use Rattle.device_defs.specs.Device.{Device}
+use Rattle.device_defs.specs.Marks.{MarksDevice}
+use Rattle.device_defs.specs.Store.{Store}
 use Rattle.subsystem_defs.specs.Happening.{Happened}
 use Rattle.subsystem_defs.specs.Subsystem.{devices_of}
 
@@ -72,14 +74,6 @@ pub data LooseTold : Type 0 where
   Hardened : ℕ → LooseTold
   WentBack : ℕ → ℕ → LooseTold
 
-abbrev pub loose_count : MarksStore → ℕ
-loose_count s = count_by (λ (x : Bool). x) s.loose
-
-abbrev pub told_act : MarksStore → MarksStore → Act → LooseTold
-told_act before behind (Loosen t) = Loosened t
-told_act before behind (Harden t) = Hardened t
-told_act before behind CfwLost = WentBack (loose_count before) behind.number
-
 abbrev pub is_power : Item → Bool
 is_power items.Power = true
 is_power _ = false
@@ -88,14 +82,23 @@ abbrev pub has_power : List Item → Bool
 has_power [] = false
 has_power (x ∷ xs) = if is_power x then true else has_power xs
 
-abbrev pub power_told : MarksStore → MarksStore → Bool → List LooseTold
-power_told before behind lost =
-    if lost && not (loose_count before == 0) then WentBack (loose_count before) behind.number ∷ [] else []
+module _ {F P H : Type 0} where
+  abbrev pub loose_count : Store F P H → ℕ
+  loose_count s = count_by (λ (x : Bool). x) s.loose
 
-abbrev pub loose_told : MarksDevice → MarksDevice → List LooseTold
-loose_told before behind =
-    map (told_act before.store behind.store) (new_acts before.history behind.history)
-    ++ power_told before.store behind.store (has_power (new_items before.history behind.history))
+  abbrev pub told_act : Store F P H → Store F P H → Act → LooseTold
+  told_act before behind (Loosen t) = Loosened t
+  told_act before behind (Harden t) = Hardened t
+  told_act before behind CfwLost = WentBack (loose_count before) behind.number
+
+  abbrev pub power_told : Store F P H → Store F P H → Bool → List LooseTold
+  power_told before behind lost =
+      if lost && not (loose_count before == 0) then WentBack (loose_count before) behind.number ∷ [] else []
+
+  abbrev pub loose_told : Device F P H → Device F P H → List LooseTold
+  loose_told before behind =
+      map (told_act before.store behind.store) (new_acts before.history behind.history)
+      ++ power_told before.store behind.store (has_power (new_items before.history behind.history))
 
 -- of one device
 pub record Beside : Type 0 where

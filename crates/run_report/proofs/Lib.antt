@@ -1,0 +1,8 @@
+mod OneDevice
+mod Quiet
+mod ReportText
+mod Showing
+mod ToldAs
+pub mod Stand
+pub mod Reports
+mod Rows

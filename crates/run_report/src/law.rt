@@ -1,0 +1,53 @@
+//! Laws of reports.
+
+ghost use Rattle.std.specs.Prelude.{◌≡◌, ℕ, List, [], None};
+ghost use Rattle.track_image.specs.Image.{Image};
+ghost use Rattle.track_cache.specs.declared.frames.Frame.{Frame};
+ghost use Rattle.nv_store.specs.declared.patches.Stored.{Stored};
+ghost use Rattle.device_defs.specs.Device.{Device};
+ghost use Rattle.device_defs.specs.Marks.{MarksDevice};
+ghost use Rattle.device_defs.specs.Orders.{restore};
+ghost use Rattle.device_defs.specs.Start.{start};
+ghost use Rattle.report_text.specs.declared.report.DeviceEnd.{DeviceEnd};
+ghost use Rattle.report_text.specs.declared.report.FrameEnd.{FrameEnd};
+ghost use Rattle.report_text.specs.Ends.{lines_text};
+ghost use Rattle.report_text.specs.Report.{report_text};
+ghost use Rattle.run_report.specs.Closing.{TellsEnding};
+ghost use Rattle.run_report.specs.Events.{event_lines};
+ghost use Rattle.run_report.specs.OneDevice.{AreToldAs, TellsAlone, TellsNothing};
+ghost use Rattle.run_report.specs.Report.{lines_of_run, report_lines};
+ghost use Rattle.run_report.specs.Showing.{AreShown, lines_in};
+ghost use Rattle.run_report.specs.Shown.{shown_of};
+ghost use Rattle.subsystem_defs.specs.declared.end.EventEnd.{EventEnd};
+ghost use Rattle.subsystem_defs.specs.Closing.{ending};
+ghost use Rattle.subsystem_defs.specs.Decks.{DeckRun, run_from};
+ghost use Rattle.subsystem_defs.specs.Lines.{Asked, Logged, last_behind};
+ghost use Rattle.subsystem_defs.specs.Subsystem.{Mounted, Subsystem};
+
+/// What is written of a run's events and of its end is the text of its lines.
+pub fn report_is_text()
+    ensures { (run : DeckRun) (devices : List DeviceEnd) (frames : List FrameEnd) → TellsEnding (ending run.behind) devices frames → report_text (lines_of_run run) devices frames ≡ lines_text (report_lines run) }
+{}
+
+/// An event of one device is told by that device alone.
+pub fn one_device_tells()
+    ensures { (s : Subsystem) (n : ℕ) (x : Mounted) → TellsAlone s n x }
+{}
+
+/// Devices over contents, and those over marks of which the same is told, make the same lines.
+pub fn same_lines_are_told()
+    ensures { (asked : Asked) (end : EventEnd) (reads writes : ℕ) (before behind : List (Device Frame Stored Image)) (other then : List MarksDevice) → AreToldAs before other → AreToldAs behind then →
+        event_lines asked end reads writes before behind ≡ event_lines asked end reads writes other then }
+{}
+
+/// A report shows what a device's history has, where each of its events shows what came to it.
+pub fn events_show_a_history()
+    ensures { (d : ℕ) (s : Subsystem) (events : List Logged) → AreShown d s events → lines_in s d ≡ [] → shown_of d (report_lines (run_from s events)) ≡ lines_in (last_behind s events) d }
+{}
+
+/// Starts, orders that leave a history as it is, and an empty volume tell nothing beside what the event did.
+pub fn quiet_events_tell_nothing()
+    ensures same { (before behind : MarksDevice) → behind.history ≡ before.history → TellsNothing before behind }
+    ensures starts { (d : MarksDevice) (path : ℕ) → d.history.running ≡ None → TellsNothing d (start d path) }
+    ensures restores { (d : MarksDevice) → TellsNothing d (restore d) }
+{}

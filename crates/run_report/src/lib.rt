@@ -1,0 +1,23 @@
+//! What the report of a defined run is: the lines of its events and of its end. Its definitions, how an event's end is told in
+//! code, laws, and rows that are computed.
+#![tactic(auto)]
+
+mod answers;
+mod law;
+mod record;
+#[cfg(test)]
+mod tests;
+mod told;
+mod work;
+
+pub use answers::{back_answer, how_over, order_answer, start_answer};
+pub use law::{
+    events_show_a_history, one_device_tells, quiet_events_tell_nothing, report_is_text,
+    same_lines_are_told,
+};
+pub use record::{
+    Calls, Gained, over_of, record_event, record_order, record_power_of, record_reset,
+    record_start, record_work,
+};
+pub use told::RunningProgram;
+pub use work::work_told;
