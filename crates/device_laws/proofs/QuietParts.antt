@@ -155,7 +155,7 @@ module _ {F P H R : Type 0} (c : Contents F P H R) where
   slot_quiet s t None = quiet_done
   slot_quiet s t (Some slot) = quiet_ask (λ _. quiet_done)
 
-  done_quiet : (s : Store F P H) (t : ℕ) (i : Image) (bypass : Bool) → Talks (write_done c s t i bypass)
+  pub done_quiet : (s : Store F P H) (t : ℕ) (i : Image) (bypass : Bool) → Talks (write_done c s t i bypass)
   unfolding V.write_done
   done_quiet s t i bypass =
       quiet_if (is_some (frame_at s t))
