@@ -55,7 +55,8 @@ use Rattle.device_laws.proofs.Always.{Behind, Always, always_done, always_tell, 
 use Rattle.device_laws.proofs.QuietParts.{Quiet, quiet_done, quiet_try, quiet_ask, quiet_tell, quiet_then, quiet_if, quiet_moves, then_quiet, failed_quiet}
 
 -- What moves nothing, and then another that is known of what it left
-pub known_first : {R I S A T B : Type 0} (p : S → A → Type 0) (q : ℕ → ℕ → Type 0) (r w : ℕ) (i : Interaction R I S A) (f : S → A → Interaction R I T B) → Quiet i →
+pub known_first : {R I S A T B : Type 0} (p : S → A → Type 0) (q : ℕ → ℕ → Type 0) (r w : ℕ) (i : Interaction R I S A) (f : S → A → Interaction R I T B) →
+    Quiet i →
     Behind i p → ((s : S) (a : A) → p s a → Moves q r w (f s a)) → Moves q r w (and_then i f)
 unfolding M.Moves W.Behind
 known_first p q r w (Done s a) f quiet_done b g = g s a b
