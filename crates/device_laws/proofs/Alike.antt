@@ -131,7 +131,8 @@ barren_answer p (TellWaiting d n) a b is = tt
 
 none_left : (p : Pool) (d t : ℕ) → IsBarren p → P.frames_wanted p d t ≡ []
 none_left p d t b =
-    ap (λ (g : Bool). if P.is_listed p.frames d t then P.in_front p.frames d t else (if g then ((d, t), false) ∷ P.less_frame p.frames (P.evicted p) else p.frames))
+    ap (λ (g : Bool). if P.is_listed p.frames d t then P.in_front p.frames d t else (if g then ((d, t), false) ∷ P.less_frame p.frames
+    (P.evicted p) else p.frames))
     (ap (λ (fs : List P.Frame). P.grants (record p { frames = fs })) b.frames ∙ none_granted p.cache_up p.room b.room)
     ∙ ap (λ (fs : List P.Frame). if P.is_listed fs d t then P.in_front fs d t else fs) b.frames
 

@@ -89,7 +89,8 @@ module _ {F P H R : Type 0} (c : Contents F P H R) where
       (ended_alike c (waiting_count c d.store) y.store k) (λ z _ l. alike_done (record y { store = z }) a l)))
 
   event_alike : {A : Type 0} (d : Device F P H) (f g : Device F P H → Interaction R Image (Device F P H) A) → HasNothing d.store →
-      ((s : Store F P H) → HasNothing s → Whole (f (record (event_begun (unplaced d)) { store = without_places s })) (g (record (event_begun d) { store = s }))) →
+      ((s : Store F P H) → HasNothing s →
+      Whole (f (record (event_begun (unplaced d)) { store = without_places s })) (g (record (event_begun d) { store = s }))) →
       Whole (event c (unplaced d) f) (event c d g)
   event_alike d f g e x =
       quiet_alike d (λ z. and_then (hear c 960 z.store) (λ s _. f (record z { store = s })))
@@ -126,7 +127,8 @@ module _ {F P H R : Type 0} (c : Contents F P H R) where
       (λ z i k. looked_alike chain first t z i k))
 
   abbrev Following : ℕ → ℕ → Type 0
-  Following n first = (chain : ChainState) (t : ℕ) (s : Store F P H) → HasNothing s → Same (follow c n first chain t (without_places s)) (follow c n first chain t s)
+  Following n first = (chain : ChainState) (t : ℕ) (s : Store F P H) → HasNothing s →
+      Same (follow c n first chain t (without_places s)) (follow c n first chain t s)
 
   by_went : (n first : ℕ) (z : Store F P H) (went : Went) → Following n first → HasNothing z →
       Same (goes_on c (follow c n first) (without_places z) went) (goes_on c (follow c n first) z went)
@@ -208,7 +210,8 @@ module _ {F P H R : Type 0} (c : Contents F P H R) where
   pub background_alike : (d : Device F P H) → HasNothing d.store → Whole (background c (unplaced d)) (background c d)
   unfolding E.background
   background_alike d e =
-      event_alike d (λ z. and_then (work c z.store) (λ s did. Done (with_store z s) did)) (λ z. and_then (work c z.store) (λ s did. Done (with_store z s) did)) e
+      event_alike d (λ z. and_then (work c z.store) (λ s did. Done (with_store z s) did)) (λ z. and_then (work c z.store) (λ s did. Done
+      (with_store z s) did)) e
       (λ s k.
       let z : Device F P H = record (event_begun d) { store = s } in
       alike_then (λ y did. Done (with_store (unplaced z) y) did) (λ y did. Done (with_store z y) did) (work_alike c s k)

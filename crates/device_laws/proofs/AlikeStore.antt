@@ -1,5 +1,31 @@
 -- A store without places, and one of which nothing is kept there: reads, writes, losses and what is told go alike.
-use Rattle.std.proofs.Common.{◌≡◌, ◌+◌, ◌==◌, ◌&&◌, ◌||◌, ℕ, zero, suc, Bool, true, false, List, [], ◌∷◌, ◌++◌, Option, Some, None, is_some, length, refl, sym, ap, subst, ◌∙◌}
+use Rattle.std.proofs.Common.{
+  ◌≡◌,
+  ◌+◌,
+  ◌==◌,
+  ◌&&◌,
+  ◌||◌,
+  ℕ,
+  zero,
+  suc,
+  Bool,
+  true,
+  false,
+  List,
+  [],
+  ◌∷◌,
+  ◌++◌,
+  Option,
+  Some,
+  None,
+  is_some,
+  length,
+  refl,
+  sym,
+  ap,
+  subst,
+  ◌∙◌,
+}
 use Rattle.std.specs.Prelude.{if◌then◌else◌, nat_lt, nat_le, not}
 use Rattle.ckd_types.specs.declared.parameters.Mode.{Mode}
 use Rattle.ckd_types.specs.declared.paths.Side.{Side}
@@ -111,7 +137,26 @@ use Rattle.device_defs.specs.Owed.{
   waiting_told,
   ended,
 }
-use Rattle.device_defs.specs.Store.{Store, tracks_of, level_at, stale_at, has_level, takes_b, some_up, frame_at, patch_at, is_lost, is_loose, half_is, owed_at, plain_at, with_stale, with_frame, with_lost, with_owed}
+use Rattle.device_defs.specs.Store.{
+  Store,
+  tracks_of,
+  level_at,
+  stale_at,
+  has_level,
+  takes_b,
+  some_up,
+  frame_at,
+  patch_at,
+  is_lost,
+  is_loose,
+  half_is,
+  owed_at,
+  plain_at,
+  with_stale,
+  with_frame,
+  with_lost,
+  with_owed,
+}
 use Rattle.device_defs.specs.Writing as V
 use Rattle.device_defs.specs.Writing.{
   Wrote,
@@ -257,7 +302,8 @@ module _ {F P H R : Type 0} (c : Contents F P H R) where
   abbrev told_if : ℕ → ℕ → Store F P H → Interaction R Image (Store F P H) (Unit {0})
   told_if before count s = if count == before then Done s tt else Ask (TellWaiting s.device count) (λ _. Done s tt)
 
-  waiting_alike : (before : ℕ) (s : Store F P H) → HasNothing s → Alike without_places Still (waiting_told c before (without_places s)) (waiting_told c before s)
+  waiting_alike : (before : ℕ) (s : Store F P H) → HasNothing s →
+      Alike without_places Still (waiting_told c before (without_places s)) (waiting_told c before s)
   waiting_alike before s e =
       subst (λ (n : ℕ). Alike without_places Still (told_if before n (without_places s)) (waiting_told c before s)) (sym (count_alike s e))
       (on_if (waiting_count c s == before) (λ _. alike_done s tt e) (λ _. alike_ask (λ _ _. alike_done s tt e)))
@@ -389,7 +435,8 @@ module _ {F P H R : Type 0} (c : Contents F P H R) where
       Alike without_places Still (write_done c (without_places s) t i bypass) (write_done c s t i bypass)
   unfolding V.write_done
   done_alike s t i bypass e =
-      subst (λ (f : Option F). Alike {R = R} {I = Image} without_places Still (Done (without_places s) (tt {0})) (done_by c s t i bypass (is_some f))) (sym (e.frame t))
+      subst (λ (f : Option F). Alike {R = R} {I = Image} without_places Still (Done (without_places s) (tt {0})) (done_by c s t i bypass (is_some f))) (sym
+      (e.frame t))
       (subst (λ (p : Option P). Alike without_places Still (Done (without_places s) (tt {0})) (slot_freed c s t (slot_in c p))) (sym (e.patch t))
       (alike_done s tt e))
 
@@ -425,7 +472,8 @@ module _ {F P H R : Type 0} (c : Contents F P H R) where
   abbrev Chosen : Store F P H → Choice → Type 0
   Chosen s choice = HasNothing s × (choice ≡ Through)
 
-  fast_alike : (s : Store F P H) (u : Usage) (t : ℕ) → HasNothing s → Alike without_places Chosen (fast_or_through c (without_places s) u t) (fast_or_through c s u t)
+  fast_alike : (s : Store F P H) (u : Usage) (t : ℕ) → HasNothing s →
+      Alike without_places Chosen (fast_or_through c (without_places s) u t) (fast_or_through c s u t)
   fast_alike s u t e =
       subst (λ (f : Option F). Alike without_places Chosen (fast_or_through c (without_places s) u t)
       (if not (is_bypass u.mode) && not u.inhibit && is_some f then fast_by c s t (is_some (patch_at s t)) else Done s Through)) (sym (e.frame t))
@@ -508,7 +556,8 @@ module _ {F P H R : Type 0} (c : Contents F P H R) where
   none_copied : (s : Store F P H) → HasNothing s → to_copy s ≡ None
   none_copied s e = least_none (tracks_of s) (λ t. is_some (copies_to s t)) (λ t lt. not_copied s t e)
 
-  stage_first_alike : (s : Store F P H) (queue : List ℕ) → HasNothing s → Alike without_places Still (stage_first c (without_places s) queue) (stage_first c s queue)
+  stage_first_alike : (s : Store F P H) (queue : List ℕ) → HasNothing s →
+      Alike without_places Still (stage_first c (without_places s) queue) (stage_first c s queue)
   stage_first_alike s [] e =
       subst (λ (o : Option ℕ). Alike without_places Still (destage_first c (without_places s) o) (destage_first c s (to_destage c s)))
       (sym (none_destaged (without_places s) (bare_nothing s e)))
@@ -599,5 +648,6 @@ module _ {F P H R : Type 0} (c : Contents F P H R) where
   pub losing_alike : (s : Store F P H) (loss : Loss) → HasNothing s → Alike without_places Still (losing c (without_places s) loss) (losing c s loss)
   losing_alike s loss e =
       let b = loss_bare (with_loss s loss) loss e in
-      subst (λ (x : Store F P H). Alike without_places Still (all_firm_told c (tracks_of s) x) (all_firm_told c (tracks_of s) (lost_by c (with_loss s loss) loss)))
+      subst (λ (x : Store F P H). Alike without_places Still (all_firm_told c (tracks_of s) x) (all_firm_told c (tracks_of s) (lost_by c
+      (with_loss s loss) loss)))
       (sym b.is) (all_firm_alike (tracks_of s) (lost_by c (with_loss s loss) loss) b.nothing)

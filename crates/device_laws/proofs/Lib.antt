@@ -80,3 +80,4 @@ pub mod PlacelessPower
 pub mod OrdersInOrder
 pub mod QuietParts
 pub mod ReadMoves
+pub mod BackMoves

@@ -28,7 +28,8 @@ module _ (v w : List Track) (d : WholeDevice) (h : Held) where
   abbrev s : DeviceStore
   s = d.store
 
-  replaced_a : (l : List (List ℕ)) → length l ≡ tracks_of s → IsWell contents (replace d A).store → Ordered v w s h → Ordered v w (replace d A).store (record h { a = l })
+  replaced_a : (l : List (List ℕ)) → length l ≡ tracks_of s → IsWell contents (replace d A).store → Ordered v w s h →
+      Ordered v w (replace d A).store (record h { a = l })
   unfolding T.contents_at
   replaced_a l long well o =
       let g = o.sure.ground in
@@ -57,7 +58,8 @@ module _ (v w : List Track) (d : WholeDevice) (h : Held) where
         told = o.told;
       }
 
-  replaced_b : (l : List (List ℕ)) → length l ≡ tracks_of s → IsWell contents (replace d B).store → Ordered v w s h → Ordered v w (replace d B).store (record h { b = l })
+  replaced_b : (l : List (List ℕ)) → length l ≡ tracks_of s → IsWell contents (replace d B).store → Ordered v w s h →
+      Ordered v w (replace d B).store (record h { b = l })
   unfolding T.contents_at
   replaced_b l long well o =
       let g = o.sure.ground in

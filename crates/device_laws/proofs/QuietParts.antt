@@ -22,12 +22,40 @@ use Rattle.device_defs.specs.Owed as O
 use Rattle.device_defs.specs.Owed.{heard, hear, dropped_told, freed_told, modified_told, settles_debt, track_told, all_told, waiting_told, ended, dropped}
 use Rattle.device_defs.specs.Second as D
 use Rattle.device_defs.specs.Second.{half_image_of, closed, finished, second_done, second_absent, second_by, second_part}
-use Rattle.device_defs.specs.Store.{Origin, OfCommand, OfCut, OfBackground, HalfWrite, Store, tracks_of, takes_b, has_level, owed_at, frame_at, with_owed, no_debt}
+use Rattle.device_defs.specs.Store.{
+  Origin,
+  OfCommand,
+  OfCut,
+  OfBackground,
+  HalfWrite,
+  Store,
+  tracks_of,
+  takes_b,
+  has_level,
+  owed_at,
+  frame_at,
+  with_owed,
+  no_debt,
+}
 use Rattle.device_defs.specs.Transfers as M
 use Rattle.device_defs.specs.Transfers.{Moves, FirstPart, SecondPart, InCache, Loss as LossPart, both, one_or_both, Within, Makes}
 use Rattle.device_defs.specs.Writing as V
 use Rattle.device_defs.specs.declared.answers.Took.TheVariants.{Unwritten}
-use Rattle.device_defs.specs.Writing.{wrote, write_side, write_counted, alone_b, failed_a, first_a, write_first, tried_b, write_second, slot_freed, unpatched, done_by, write_done}
+use Rattle.device_defs.specs.Writing.{
+  wrote,
+  write_side,
+  write_counted,
+  alone_b,
+  failed_a,
+  first_a,
+  write_first,
+  tried_b,
+  write_second,
+  slot_freed,
+  unpatched,
+  done_by,
+  write_done,
+}
 
 -- It moves nothing
 pub data Quiet {R I S A : Type 0} : Interaction R I S A → Type 0 where
@@ -36,7 +64,8 @@ pub data Quiet {R I S A : Type 0} : Interaction R I S A → Type 0 where
   quiet_ask : {call : _} {k : AnswerTo call → Interaction R I S A} → ((a : AnswerTo call) → Quiet (k a)) → Quiet (Ask call k)
   quiet_tell : {m : _} {k : ReplyTo m → Interaction R I S A} → ((r : ReplyTo m) → Quiet (k r)) → Quiet (Tell m k)
 
-pub quiet_then : {R I S A T B : Type 0} {i : Interaction R I S A} (f : S → A → Interaction R I T B) → Quiet i → ((s : S) (a : A) → Quiet (f s a)) → Quiet (and_then i f)
+pub quiet_then : {R I S A T B : Type 0} {i : Interaction R I S A} (f : S → A → Interaction R I T B) → Quiet i → ((s : S) (a : A) → Quiet (f s a)) →
+    Quiet (and_then i f)
 quiet_then f (quiet_done {s} {a}) w = w s a
 quiet_then f (quiet_try x) w = quiet_try (λ ok. quiet_then f (x ok) w)
 quiet_then f (quiet_ask x) w = quiet_ask (λ a. quiet_then f (x a) w)
@@ -155,7 +184,7 @@ module _ {F P H R : Type 0} (c : Contents F P H R) where
   slot_quiet s t None = quiet_done
   slot_quiet s t (Some slot) = quiet_ask (λ _. quiet_done)
 
-  done_quiet : (s : Store F P H) (t : ℕ) (i : Image) (bypass : Bool) → Talks (write_done c s t i bypass)
+  pub done_quiet : (s : Store F P H) (t : ℕ) (i : Image) (bypass : Bool) → Talks (write_done c s t i bypass)
   unfolding V.write_done
   done_quiet s t i bypass =
       quiet_if (is_some (frame_at s t))
@@ -165,7 +194,8 @@ module _ {F P H R : Type 0} (c : Contents F P H R) where
   whole_quiet : (s : Store F P H) (t : ℕ) (i : Image) (bypass : Bool) → Talks (finished c s t i bypass)
   whole_quiet s t i bypass = quiet_then (λ z _. Done z true) (done_quiet s t i bypass) (λ z _. quiet_done)
 
-  pub cache_quiet : (u : Usage) (first t : ℕ) (i : Image) (e : Edit) (s : Store F P H) (choice : Choice) → IsInCache choice → Talks (write_by c u first t i e s choice)
+  pub cache_quiet : (u : Usage) (first t : ℕ) (i : Image) (e : Edit) (s : Store F P H) (choice : Choice) → IsInCache choice →
+      Talks (write_by c u first t i e s choice)
   cache_quiet u first t i e s Provisional is = quiet_done
   cache_quiet u first t i e s (Fast slot) is = quiet_tell (λ _. quiet_done)
   cache_quiet u first t i e s Through is = absurd is
@@ -192,7 +222,8 @@ module _ {F P H R : Type 0} (c : Contents F P H R) where
 
     failed_moves : (b : Bool) → s.a.up ≡ true → takes_b s ≡ b → (z : Store F P H) → Moves (Within s FirstPart) 0 1 (failed_a c t r b z)
     unfolding M.Moves
-    failed_moves true e f z = λ ok. quiet_moves (Within s FirstPart) 0 2 (alone_b c t (Some A) A (write_counted z ok) ok) (alone_quiet t (Some A) A (write_counted z ok) ok)
+    failed_moves true e f z = λ ok. quiet_moves (Within s FirstPart) 0 2 (alone_b c t (Some A) A (write_counted z ok) ok) (alone_quiet t (Some A) A
+        (write_counted z ok) ok)
         (within true true e f 2 (omega arith) (omega arith))
     failed_moves false e f z = within true false e f 1 (omega arith) (omega arith)
 
@@ -208,7 +239,8 @@ module _ {F P H R : Type 0} (c : Contents F P H R) where
         else if b then write_side c s B t r (alone_b c t None B) else Done (L.settled c s t) (wrote Unwritten None))
     unfolding M.Moves
     first_by true b e f = λ ok. first_a_moves e ok
-    first_by false true e f = λ ok. quiet_moves (Within s FirstPart) 0 1 (alone_b c t None B (write_counted s ok) ok) (alone_quiet t None B (write_counted s ok) ok)
+    first_by false true e f = λ ok. quiet_moves (Within s FirstPart) 0 1 (alone_b c t None B (write_counted s ok) ok) (alone_quiet t None B
+        (write_counted s ok) ok)
         (within false true e f 1 (omega arith) (omega arith))
     first_by false false e f = within false false e f 0 (omega arith) (omega arith)
 
@@ -247,7 +279,8 @@ module _ {F P H R : Type 0} (c : Contents F P H R) where
   second_moves s h =
       let i = half_image_of c s h in
       record {
-        moves = then_quiet (Within s SecondPart) 0 0 (write_second c s h.track (c.bytes i)) (λ z _. second_by c h.track i h.origin z) (write_second_moves s h.track (c.bytes i))
+        moves = then_quiet (Within s SecondPart) 0 0 (write_second c s h.track (c.bytes i)) (λ z _. second_by c h.track i h.origin z)
+            (write_second_moves s h.track (c.bytes i))
             (λ z _. quiet_if (has_level z h.track) (done_by_origin (closed z) h.track i h.origin) quiet_done);
       }
 

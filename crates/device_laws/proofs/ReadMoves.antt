@@ -55,7 +55,8 @@ use Rattle.device_laws.proofs.Always.{Behind, Always, always_done, always_tell, 
 use Rattle.device_laws.proofs.QuietParts.{Quiet, quiet_done, quiet_try, quiet_ask, quiet_tell, quiet_then, quiet_if, quiet_moves, then_quiet, failed_quiet}
 
 -- What moves nothing, and then another that is known of what it left
-known_first : {R I S A T B : Type 0} (p : S → A → Type 0) (q : ℕ → ℕ → Type 0) (r w : ℕ) (i : Interaction R I S A) (f : S → A → Interaction R I T B) → Quiet i →
+pub known_first : {R I S A T B : Type 0} (p : S → A → Type 0) (q : ℕ → ℕ → Type 0) (r w : ℕ) (i : Interaction R I S A) (f : S → A → Interaction R I T B) →
+    Quiet i →
     Behind i p → ((s : S) (a : A) → p s a → Moves q r w (f s a)) → Moves q r w (and_then i f)
 unfolding M.Moves W.Behind
 known_first p q r w (Done s a) f quiet_done b g = g s a b
@@ -168,11 +169,11 @@ module _ {F P H R : Type 0} (c : Contents F P H R) where
     by_a true e = λ bytes. first_moves e bytes
     by_a false e = only_b (level_at s.b t) e refl
 
-    level_moves : Moves q 0 0 (level_bytes c s t)
+    pub level_moves : Moves q 0 0 (level_bytes c s t)
     unfolding I.level_bytes
     level_moves = by_a (level_at s.a t) refl
 
-  filled_quiet : (s : Store F P H) (t : ℕ) (i : Image) → Quiet (filled c s t i)
+  pub filled_quiet : (s : Store F P H) (t : ℕ) (i : Image) → Quiet (filled c s t i)
   filled_quiet s t i = quiet_if (is_some (patch_at s t)) (quiet_ask (λ _. quiet_done)) quiet_done
 
   granted_quiet : (s : Store F P H) (t : ℕ) (i : Image) (given : Bool) → Quiet (granted c s t i given)

@@ -117,7 +117,8 @@ module _ (v w : List Track) (d : WholeDevice) (h : Held) (i : IsInOrder v w d.st
       store_then (λ s _. Done (with_store d s) (tt {0})) (λ s _. Done (with_store (marks_device v w d) s) (tt {0})) (lost_store_leaves_order v w d.store h i)
       (λ v2 w2 y a b l f. whole_done v2 w2 (with_store d y) (record { order = f.order; same = refl; is = f.plain }))
   by_loss (losses.Side side) =
-      store_then (λ s _. Done (with_store d s) (tt {0})) (λ s _. Done (with_store (marks_device v w d) s) (tt {0})) (lost_side_leaves_order v w d.store h side i)
+      store_then (λ s _. Done (with_store d s) (tt {0})) (λ s _. Done (with_store (marks_device v w d) s) (tt {0}))
+      (lost_side_leaves_order v w d.store h side i)
       (λ v2 w2 y a b l f. whole_done v2 w2 (with_store d y) (record { order = f.order; same = refl; is = f.plain }))
 
 pub loss_whole : (v w : List Track) (d : WholeDevice) (h : Held) (loss : Loss) → IsInOrder v w d.store h →

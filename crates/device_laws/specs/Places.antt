@@ -69,7 +69,8 @@ TellsBarren None = ⊥
 TellsBarren (Some p) = IsBarren p
 
 -- a step of a run, where the device behind it is e without its places
-pub record IsPlacelessStep {K A : Type 0} (p : List Track → Type 0) (others : List ℕ) (j : Interaction Bool Image MarksDevice A) (t : Told) (d : WholeDevice) (a : A)
+pub record IsPlacelessStep {K A : Type 0} (p : List Track →
+    Type 0) (others : List ℕ) (j : Interaction Bool Image MarksDevice A) (t : Told) (d : WholeDevice) (a : A)
     (u : Outside (List ℕ) K) : Type 0 where
   pub device : WholeDevice
   pub is : d ≡ unplaced device

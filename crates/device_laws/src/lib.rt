@@ -22,5 +22,6 @@ pub use runs::{
     second_is_step, start_is_step,
 };
 pub use transfers::{
-    cache_writes_move_nothing, image_reads_sides, losses_move_nothing, writes_move_sides,
+    cache_writes_move_nothing, image_reads_sides, losses_move_nothing, work_moves_sides,
+    writes_move_sides,
 };

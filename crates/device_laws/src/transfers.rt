@@ -1,11 +1,14 @@
 //! Laws of transfers: how many reads and writes of volumes the parts of an event make, whatever is answered, over contents and over marks.
 
 ghost use Rattle.std.specs.Prelude.{◌≡◌, ℕ, true, List, Option, Some, None};
+ghost use Rattle.ckd_types.specs.declared.paths.Side.{Side};
 ghost use Rattle.ckd_types.specs.declared.record.Edit.{Edit};
 ghost use Rattle.track_cache.specs.declared.frames.Frame.{Frame};
 ghost use Rattle.track_image.specs.Image.{Image};
 ghost use Rattle.loss_model.specs.declared.Loss.{Loss};
 ghost use Rattle.device_defs.specs.declared.answers.Choice.TheVariants.{Provisional, Fast};
+ghost use Rattle.device_defs.specs.declared.answers.Did.{Did};
+ghost use Rattle.device_defs.specs.Background.{copy_by, stage, saved};
 ghost use Rattle.device_defs.specs.declared.usage.Usage.{Usage};
 ghost use Rattle.device_defs.specs.Contents.{contents, by_plain};
 ghost use Rattle.device_defs.specs.Cutting.{half_cut};
@@ -17,7 +20,7 @@ ghost use Rattle.device_defs.specs.Owed.{hear, ended};
 ghost use Rattle.device_defs.specs.Second.{second_part};
 ghost use Rattle.device_defs.specs.Sound.{DeviceStore};
 ghost use Rattle.device_defs.specs.Store.{HalfWrite, frame_at};
-ghost use Rattle.device_defs.specs.Transfers.{Hit, Miss, FirstPart, SecondPart, InCache, Loss as LossPart, Makes};
+ghost use Rattle.device_defs.specs.Transfers.{Hit, Miss, FirstPart, SecondPart, InCache, FramedTrack, Copy, Staging, Loss as LossPart, Makes};
 ghost use Rattle.device_defs.specs.Writing.{write_first};
 
 /// A loss, an event's notices and what it tells at its end, and what cuts a running program move nothing.
@@ -47,4 +50,12 @@ pub fn image_reads_sides()
     ensures hit { (s : DeviceStore) (u : Usage) (t : ℕ) (f : Frame) → frame_at s t ≡ Some f → f.modified ≡ true → Makes s Hit (image contents s u t) }
     ensures missed { (s : DeviceStore) (u : Usage) (t : ℕ) → frame_at s t ≡ None → Makes s (Miss t) (image contents s u t) }
     ensures run { (s : MarksStore) (u : Usage) (t : ℕ) → frame_at s t ≡ None → Makes s (Miss t) (image by_plain s u t) }
+{}
+
+/// What a device does by itself: a copy reads one side and writes the other at most once, a track that is staged is read, and one with a
+/// frame is saved to the sides that take it.
+pub fn work_moves_sides()
+    ensures copied { (s : DeviceStore) (t : ℕ) (side : Side) → Makes s Copy (copy_by contents s t (Some side)) }
+    ensures staged { (s : DeviceStore) (t : ℕ) → Makes s (Staging t) (stage contents s t) }
+    ensures saved { (s : DeviceStore) (t : ℕ) (i : Image) (d : Did) (fault : Option Side) → Makes s FramedTrack (saved contents s t i d fault) }
 {}

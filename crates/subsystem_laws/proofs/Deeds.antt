@@ -195,7 +195,8 @@ module _ {K : Type 0} (hears : Hearing Image K) (p q : Pool) (xs ys : List Stood
       Leads (on_device (device_in (devices_at xs) n) f) (on_device (device_in (devices_of s) n) g)
   by_device n f g chains w =
       subst (λ (o : Option WholeDevice). Leads (on_device o f) (on_device (device_in (devices_of s) n) g)) (sym (device_stood xs n))
-      (subst (λ (o : Option MarksDevice). Leads (on_device (option_map (λ (x : Stood). x.device) (stood_in xs n)) f) (on_device o g)) (sym (device_mounted ms n))
+      (subst (λ (o : Option MarksDevice). Leads (on_device (option_map (λ (x : Stood). x.device) (stood_in xs n)) f) (on_device o g)) (sym
+      (device_mounted ms n))
       (by_found n f g (find p xs ms n all chains) w))
 
 -- Every device
@@ -206,7 +207,8 @@ pub record AreSwept (q : Pool) (ys : List Stood) (o : RunSwept) : Type 0 where
   pub mounted : AreMounted q ys o.mounted
 
 module _ {K : Type 0} (hears : Hearing Image K) (f : WholeDevice → OwnTalk (Unit {0})) (g : MarksDevice → Talk (Unit {0}))
-    (twins : (v w : List Track) (d : WholeDevice) (h : Held) → HasNothing d.store → IsInOrder v w d.store h → AreTwins h (f (unplaced d)) (g (marks_device v w d))) where
+    (twins : (v w : List Track) (d : WholeDevice) (h : Held) → HasNothing d.store → IsInOrder v w d.store h →
+    AreTwins h (f (unplaced d)) (g (marks_device v w d))) where
   swept_one : (q : Pool) (y : Stood) (ys : List Stood) (ms : List Mounted) (r : Pool) (o : Outcome MarksDevice (Unit {0})) → IsHeldSo r y tt o →
       AreSwept q ys (sweep g ms (counted_slots r)) → AreSwept q (y ∷ ys) (swept_on (sweep g ms) o)
   swept_one q y ys ms r o so rest =
@@ -221,7 +223,8 @@ module _ {K : Type 0} (hears : Hearing Image K) (f : WholeDevice → OwnTalk (Un
   swept_so p q [] (y ∷ ys) ms all b c = elim c [ ]
   swept_so p q (x ∷ xs) [] ms all b c = elim c [ ]
   swept_so p q (x ∷ xs) (y ∷ ys) [] all b c = elim all [ ]
-  swept_so p q (x ∷ xs) (y ∷ ys) (m ∷ ms) (one_more (is_mounted d v w h mine volume c k nothing order slots shared side) all) b (one_swept {behind = r} asked rest) =
+  swept_so p q (x ∷ xs) (y ∷ ys) (m ∷ ms) (one_more (is_mounted d v w h mine volume c k nothing order slots shared side) all) b
+      (one_swept {behind = r} asked rest) =
       let so = held_so hears p r d v w h mine volume c k nothing order slots shared side b (f (unplaced d)) (g (marks_device v w d)) tt y
       (twins v w d h nothing order) asked in
       swept_one q y ys ms r (held_with (counted_slots p) (record { device = marks_device v w d; a = c; b = k }) (g (marks_device v w d))) so

@@ -42,7 +42,8 @@ found_if p x m xs ms n false true e f g is chain more = absurd (cc)
 found_if p x m xs ms n false false e f g is chain (none_found s t) =
     none_found (ap (λ (b : Bool). if b then Some x else stood_in xs n) e ∙ s) (ap (λ (b : Bool). if b then Some m else mounted_in ms n) f ∙ t)
 found_if p x m xs ms n false false e f g is chain (both_found y k s t there runs number) =
-    both_found y k (ap (λ (b : Bool). if b then Some x else stood_in xs n) e ∙ s) (ap (λ (b : Bool). if b then Some m else mounted_in ms n) f ∙ t) there runs number
+    both_found y k (ap (λ (b : Bool). if b then Some x else stood_in xs n) e ∙ s) (ap (λ
+    (b : Bool). if b then Some m else mounted_in ms n) f ∙ t) there runs number
 
 pub find : (p : Pool) (xs : List Stood) (ms : List Mounted) (n : ℕ) → AreMounted p xs ms → HaveChains xs → Found p xs ms n
 find p [] [] n no_more chains = none_found refl refl

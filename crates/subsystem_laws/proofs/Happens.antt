@@ -162,7 +162,8 @@ module _ {K : Type 0} (hears : Hearing Image K) (p q : Pool) (xs ys : List Stood
         (if is_some o then seconds by_plain m
         else if is_some d.history.running then Asks m (may_end_by ends.Stepped (command by_plain m)) else Ends ends.Idle)) (sym none_open)
         (leads_if hears p q xs ys ms e all barren (is_some d.history.running)
-        (λ _. asks_so hears p q xs ys ms e all barren n x (may_end_by ends.Stepped (command contents (unplaced d))) (may_end_by ends.Stepped (command by_plain m))
+        (λ _. asks_so hears p q xs ys ms e all barren n x (may_end_by ends.Stepped (command contents (unplaced d))) (may_end_by ends.Stepped
+        (command by_plain m))
         (twins_then (end_of ends.Stepped) x.held (command contents (unplaced d)) (command by_plain m)
         (command_twins x.plain x.firm d x.held x.nothing x.order x.chains)))
         (λ _. ends_so hears p q xs ys ms e all barren ends.Idle)))
@@ -178,7 +179,8 @@ module _ {K : Type 0} (hears : Hearing Image K) (p q : Pool) (xs ys : List Stood
         (twins_then (end_of ends.Back) x.held (background contents (unplaced d)) (background by_plain m)
         (background_twins x.plain x.firm d x.held x.nothing x.order))))
 
-    resets_so : (path : ℕ) → Lead (Asks (unplaced d) (ends_by ends_done (reset contents (unplaced d) path))) (Asks m (ends_by ends_done (reset by_plain m path)))
+    resets_so : (path : ℕ) → Lead (Asks (unplaced d) (ends_by ends_done (reset contents (unplaced d) path))) (Asks m (ends_by ends_done
+        (reset by_plain m path)))
     resets_so path =
         asks_so hears p q xs ys ms e all barren n x (ends_by ends_done (reset contents (unplaced d) path)) (ends_by ends_done (reset by_plain m path))
         (twins_then (λ u. Some (ends_done u)) x.held (reset contents (unplaced d) path) (reset by_plain m path)
@@ -254,7 +256,8 @@ module _ {K : Type 0} (hears : Hearing Image K) (p q : Pool) (xs ys : List Stood
 
   -- The whole
 
-  leads_by : (event : Event) → HaveChains xs → Lead (deed contents p (devices_at xs) event) (deed by_plain (counted_slots p) (devices_of (subsystem_of p ms)) event)
+  leads_by : (event : Event) → HaveChains xs →
+      Lead (deed contents p (devices_at xs) event) (deed by_plain (counted_slots p) (devices_of (subsystem_of p ms)) event)
   unfolding D.deed
   leads_by (events.Start path n) chains = by_device hears p q xs ys ms e all barren n (starts path) (starts path) chains (λ x. starts_so n x path)
   leads_by (events.Step n) chains = by_device hears p q xs ys ms e all barren n (step contents) (step by_plain) chains (λ x. steps_so n x)

@@ -68,7 +68,8 @@ down_by d e = is_down d.store.lent d.store.a.up (where_so (is_some d.store.half)
 fault_both : (v w : List Track) (d : WholeDevice) → HasNothing d.store → replace_fault (marks_device v w d) A ≡ replace_fault (unplaced d) A
 unfolding R.replace_fault
 fault_both v w d e =
-    ap (λ (o : Option _). first_cause (lent_by d.store.lent ∷ where_so false NoSide ∷ where_so d.store.a.up Up ∷ where_so (is_some (option_map half_mark o)) Half ∷ []))
+    ap (λ (o : Option _). first_cause (lent_by d.store.lent ∷ where_so false NoSide ∷ where_so d.store.a.up Up ∷ where_so (is_some
+    (option_map half_mark o)) Half ∷ []))
     e.half
     ∙ ap (λ (o : Option _). first_cause (lent_by d.store.lent ∷ where_so false NoSide ∷ where_so d.store.a.up Up ∷ where_so (is_some o) Half ∷ [])) (sym e.half)
 

@@ -62,7 +62,8 @@ module _ (v w : List Track) (d : WholeDevice) (h : Held) (nothing : HasNothing d
       let n = d.store.cylinders in
       let g = d.store.geometry in
       twins_by h (command contents (unplaced d)) (command contents d) (command by_plain (marks_device v w d)) (command_alike contents d nothing)
-      (command_whole (n * 15) g (LooksAt n g) (chain_feeds n g) v w d h i refl refl nothing.half (λ chain q is needs. runs_looks n g chain q (chains chain is) needs))
+      (command_whole (n * 15) g (LooksAt n g) (chain_feeds n g) v w d h i refl refl nothing.half (λ chain q is needs. runs_looks n g chain q
+      (chains chain is) needs))
 
   pub background_twins : AreTwins h (background contents (unplaced d)) (background by_plain (marks_device v w d))
   background_twins =
