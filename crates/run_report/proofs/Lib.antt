@@ -1,4 +1,5 @@
 mod OneDevice
+mod ActsCome
 mod Quiet
 mod ReportText
 mod Showing

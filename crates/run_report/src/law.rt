@@ -1,10 +1,14 @@
 //! Laws of reports.
 
-ghost use Rattle.std.specs.Prelude.{◌≡◌, ℕ, List, [], None};
+ghost use Rattle.std.specs.Prelude.{◌≡◌, ℕ, List, [], ◌∷◌, None};
+ghost use Rattle.ckd_types.specs.declared.channel.CommandEnd.{CommandEnd};
+ghost use Rattle.plain_defs.specs.declared.journal.Act.{Act};
+ghost use Rattle.plain_defs.specs.declared.journal.How.{How};
+ghost use Rattle.plain_defs.specs.History.{History, OpenEntry, checked, closed, ended, entry_of, resets_of};
 ghost use Rattle.track_image.specs.Image.{Image};
 ghost use Rattle.track_cache.specs.declared.frames.Frame.{Frame};
 ghost use Rattle.nv_store.specs.declared.patches.Stored.{Stored};
-ghost use Rattle.device_defs.specs.Device.{Device};
+ghost use Rattle.device_defs.specs.Device.{Device, all_acted};
 ghost use Rattle.device_defs.specs.Marks.{MarksDevice};
 ghost use Rattle.device_defs.specs.Orders.{restore};
 ghost use Rattle.device_defs.specs.Start.{start};
@@ -19,6 +23,7 @@ ghost use Rattle.run_report.specs.Report.{lines_of_run, report_lines};
 ghost use Rattle.run_report.specs.Showing.{AreShown, lines_in};
 ghost use Rattle.run_report.specs.Shown.{shown_of};
 ghost use Rattle.subsystem_defs.specs.declared.end.EventEnd.{EventEnd};
+ghost use Rattle.subsystem_defs.specs.Beside.{new_acts, new_items};
 ghost use Rattle.subsystem_defs.specs.Closing.{ending};
 ghost use Rattle.subsystem_defs.specs.Decks.{DeckRun, run_from};
 ghost use Rattle.subsystem_defs.specs.Lines.{Asked, Logged, last_behind};
@@ -50,4 +55,12 @@ pub fn quiet_events_tell_nothing()
     ensures same { (before behind : MarksDevice) → behind.history ≡ before.history → TellsNothing before behind }
     ensures starts { (d : MarksDevice) (path : ℕ) → d.history.running ≡ None → TellsNothing d (start d path) }
     ensures restores { (d : MarksDevice) → TellsNothing d (restore d) }
+{}
+
+/// The acts that came to a history, also behind the end of a command; and the items that a program which is over leaves.
+pub fn acts_come_to_a_history()
+    ensures come { (h : History) (acts : List Act) → new_acts h (all_acted h acts) ≡ acts }
+    ensures ends { (h : History) (acts : List Act) (e : CommandEnd) → new_acts h (ended (all_acted h acts) e) ≡ acts }
+    ensures checks { (h : History) (acts : List Act) (e : CommandEnd) → new_acts h (checked (all_acted h acts) e) ≡ acts }
+    ensures over { (h : History) (o : OpenEntry) (how : How) → new_items h (closed h o how) ≡ entry_of o how ∷ resets_of h.waiting }
 {}
