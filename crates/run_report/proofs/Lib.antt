@@ -1,3 +1,4 @@
+mod HistoryShown
 mod OneDevice
 mod ActsCome
 mod Quiet
