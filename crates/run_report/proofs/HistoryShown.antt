@@ -1,14 +1,14 @@
 -- What comes to a history as a command ends is what the event's lines show.
-use Rattle.std.proofs.Common.{◌≡◌, ◌∷◌, [], ◌++◌, ◌∙◌, ℕ, List, Bool, true, false, Option, Some, None, refl, sym, ap, append_assoc, if◌then◌else◌}
+use Rattle.std.proofs.Common.{◌≡◌, ◌+◌, ◌∷◌, [], ◌++◌, ◌∙◌, ℕ, length, List, Bool, true, false, Option, Some, None, refl, sym, ap, append_assoc, if◌then◌else◌}
 use Rattle.std.proofs.lemmas.List.{append-nil, flat_map_more}
 use Rattle.std.specs.List.{flat_map}
 use Rattle.ckd_types.specs.declared.channel.CommandEnd.{CommandEnd}
 use Rattle.plain_defs.specs.declared.journal.Act.{Act}
 use Rattle.plain_defs.specs.declared.journal.How.{How}
-use Rattle.plain_defs.specs.declared.journal.How.TheVariants.{Full, Checked}
+use Rattle.plain_defs.specs.declared.journal.How.TheVariants.{Full, Cut, Checked}
 use Rattle.plain_defs.specs.declared.journal.Item.{Item}
 use Rattle.plain_defs.specs.declared.journal.Item.TheVariants as items
-use Rattle.plain_defs.specs.History.{History, OpenEntry, acted, acted_in, checked, checked_in, closed, ended, ended_in, entry_of, resets_of, started, with_end}
+use Rattle.plain_defs.specs.History.{History, OpenEntry, acted, acted_in, checked, checked_in, closed, cut_by, ended, ended_in, entry_of, lost_power, lost_power_in, resets_of, started, with_end}
 use Rattle.device_defs.specs.Device.{all_acted}
 use Rattle.report_text.specs.declared.answers.StartAnswer.TheVariants as start
 use Rattle.report_text.specs.declared.line.ReportLine.{ReportLine}
@@ -34,15 +34,20 @@ module _ (d : ℕ) where
     same_program : (r : Option OpenEntry) → h.running ≡ r → flat_map (item_lines d) h.items ++ running_lines d r ≡ history_lines d h
     same_program r is = ap (λ (x : Option OpenEntry). flat_map (item_lines d) h.items ++ running_lines d x) (sym is)
 
-    closed_shows : (o : OpenEntry) (how : How) → history_lines d (closed h o how)
+    -- a program that is over, and items behind it that show nothing
+    over_shows : (o : OpenEntry) (how : How) (ts : List Item) → flat_map (item_lines d) ts ≡ []
+        → flat_map (item_lines d) (h.items ++ entry_of o how ∷ ts) ++ []
         ≡ flat_map (item_lines d) h.items ++ (program_lines d o.path o.ordinal o.ends ++ over_lines_of d o how)
-    closed_shows o how =
-        append-nil (flat_map (item_lines d) (h.items ++ entry_of o how ∷ resets_of h.waiting))
-        ∙ flat_both (item_lines d) h.items (entry_of o how ∷ resets_of h.waiting)
-        ∙ ap (λ (l : List ReportLine). flat_map (item_lines d) h.items ++ ((program_lines d o.path o.ordinal o.ends ++ over_lines_of d o how) ++ l))
-        (no_lines h.waiting)
+    over_shows o how ts none =
+        append-nil (flat_map (item_lines d) (h.items ++ entry_of o how ∷ ts))
+        ∙ flat_both (item_lines d) h.items (entry_of o how ∷ ts)
+        ∙ ap (λ (l : List ReportLine). flat_map (item_lines d) h.items ++ ((program_lines d o.path o.ordinal o.ends ++ over_lines_of d o how) ++ l)) none
         ∙ ap (λ (l : List ReportLine). flat_map (item_lines d) h.items ++ l)
         (append-nil (program_lines d o.path o.ordinal o.ends ++ over_lines_of d o how))
+
+    closed_shows : (o : OpenEntry) (how : How) → history_lines d (closed h o how)
+        ≡ flat_map (item_lines d) h.items ++ (program_lines d o.path o.ordinal o.ends ++ over_lines_of d o how)
+    closed_shows o how = over_shows o how (resets_of h.waiting) (no_lines h.waiting)
 
     -- behind the lines of the program that runs
     behind : (o : OpenEntry) → h.running ≡ Some o → (xs : List ReportLine)
@@ -71,6 +76,20 @@ module _ (d : ℕ) where
     start_shows path ordinal is =
         ap (λ (l : List ReportLine). l ++ lines.Start path d (start.Accepted ordinal) ∷ [])
         (sym (append-nil (flat_map (item_lines d) h.items)) ∙ same_program None is)
+
+    -- it is cut by a reset, or by a loss of power
+    pub cut_shows : (o : OpenEntry) (more : ℕ) → h.running ≡ Some o
+        → history_lines d (cut_by h o more) ≡ history_lines d h ++ over_lines_of d o (Cut (length o.ends + more))
+    cut_shows o more is =
+        over_shows o (Cut (length o.ends + more)) (items.Reset o.path ∷ resets_of h.waiting) (no_lines h.waiting)
+        ∙ behind o is (over_lines_of d o (Cut (length o.ends + more)))
+
+    pub power_shows : (o : OpenEntry) (more : ℕ) → h.running ≡ Some o
+        → history_lines d (lost_power h more) ≡ history_lines d h ++ over_lines_of d o (Cut (length o.ends + more))
+    power_shows o more is =
+        ap (λ (r : Option OpenEntry). history_lines d (lost_power_in h more r)) is
+        ∙ over_shows o (Cut (length o.ends + more)) (items.Power ∷ []) refl
+        ∙ behind o is (over_lines_of d o (Cut (length o.ends + more)))
 
     by_over : (o : OpenEntry) (e : CommandEnd) → h.running ≡ Some o → (b : Bool)
         → history_lines d (if b then closed h (with_end o e) Full else record h { running = Some (with_end o e) })

@@ -1,11 +1,11 @@
 //! Laws of reports.
 
-ghost use Rattle.std.specs.Prelude.{◌≡◌, ℕ, List, [], ◌∷◌, ◌++◌, None, Some};
+ghost use Rattle.std.specs.Prelude.{◌≡◌, ℕ, List, [], ◌∷◌, ◌++◌, ◌+◌, length, None, Some};
 ghost use Rattle.ckd_types.specs.declared.channel.CommandEnd.{CommandEnd};
 ghost use Rattle.plain_defs.specs.declared.journal.Act.{Act};
 ghost use Rattle.plain_defs.specs.declared.journal.How.{How};
 ghost use Rattle.plain_defs.specs.declared.journal.How.TheVariants as hows;
-ghost use Rattle.plain_defs.specs.History.{History, OpenEntry, checked, closed, ended, entry_of, resets_of, started};
+ghost use Rattle.plain_defs.specs.History.{History, OpenEntry, checked, closed, cut_by, ended, entry_of, lost_power, resets_of, started};
 ghost use Rattle.track_image.specs.Image.{Image};
 ghost use Rattle.track_cache.specs.declared.frames.Frame.{Frame};
 ghost use Rattle.nv_store.specs.declared.patches.Stored.{Stored};
@@ -76,4 +76,6 @@ pub fn histories_show()
     ensures acts { (d : ℕ) (h : History) (acts : List Act) → history_lines d (all_acted h acts) ≡ history_lines d h }
     ensures ends { (d : ℕ) (h : History) (o : OpenEntry) (e : CommandEnd) → h.running ≡ Some o → history_lines d (ended h e) ≡ history_lines d h ++ (ended_lines o.path d o.ordinal e ++ over_if d o e.over) }
     ensures checks { (d : ℕ) (h : History) (o : OpenEntry) (e : CommandEnd) → h.running ≡ Some o → history_lines d (checked h e) ≡ history_lines d h ++ (ended_lines o.path d o.ordinal e ++ over_lines_of d o hows.Checked) }
+    ensures cuts { (d : ℕ) (h : History) (o : OpenEntry) (more : ℕ) → h.running ≡ Some o → history_lines d (cut_by h o more) ≡ history_lines d h ++ over_lines_of d o (hows.Cut (length o.ends + more)) }
+    ensures powers { (d : ℕ) (h : History) (o : OpenEntry) (more : ℕ) → h.running ≡ Some o → history_lines d (lost_power h more) ≡ history_lines d h ++ over_lines_of d o (hows.Cut (length o.ends + more)) }
 {}
