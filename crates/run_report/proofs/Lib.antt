@@ -1,4 +1,6 @@
+mod HistoryShown
 mod OneDevice
+mod ActsCome
 mod Quiet
 mod ReportText
 mod Showing

@@ -14,7 +14,7 @@ use Rattle.run_report.specs.OneDevice.{TellsNothing}
 use Rattle.run_report.proofs.OneDevice.{none_behind}
 use Rattle.subsystem_defs.specs.Beside.{acts_in, acts_of_item, acts_of_items, acts_running, behind_first, has_power, new_acts, new_items, power_told, told_act}
 
-behind_more : {X : Type 0} (xs ys : List X) → behind_first (length xs) (xs ++ ys) ≡ ys
+pub behind_more : {X : Type 0} (xs ys : List X) → behind_first (length xs) (xs ++ ys) ≡ ys
 behind_more [] ys = refl
 behind_more (x ∷ xs) ys = behind_more xs ys
 

@@ -1,7 +1,12 @@
 -- That a report shows what its devices' histories have, told event by event.
-use Rattle.std.specs.Prelude.{◌≡◌, ℕ, Bool, List, [], ◌∷◌, ◌++◌, Option, Some, None, ⊤}
+use Rattle.std.specs.Prelude.{◌≡◌, ℕ, Bool, List, [], ◌∷◌, ◌++◌, Option, Some, None, ⊤, if◌then◌else◌}
+use Rattle.plain_defs.specs.declared.journal.How.{How}
+use Rattle.plain_defs.specs.declared.journal.How.TheVariants.{Full}
+use Rattle.plain_defs.specs.History.{OpenEntry}
 use Rattle.device_defs.specs.Marks.{MarksDevice}
 use Rattle.report_text.specs.declared.line.ReportLine.{ReportLine}
+use Rattle.report_text.specs.Events.{program_over_lines}
+use Rattle.run_report.specs.Beside.{how_over}
 use Rattle.run_report.specs.Events.{lines_of}
 use Rattle.run_report.specs.Shown.{history_lines, shown_from}
 use Rattle.subsystem_defs.specs.Deeds.{device_in}
@@ -24,3 +29,11 @@ ShowsEvent d s x = (own : Bool) → lines_in x.happened.behind d ≡ lines_in s 
 abbrev pub AreShown : ℕ → Subsystem → List Logged → Type 0
 AreShown d s [] = ⊤
 AreShown d s (x ∷ xs) = ShowsEvent d s x × AreShown d x.happened.behind xs
+
+-- the OVER line of a program, where it is over
+
+abbrev pub over_lines_of : ℕ → OpenEntry → How → List ReportLine
+over_lines_of d o how = program_over_lines (Some (record { path = o.path; device = d; ordinal = o.ordinal; how = how_over how }))
+
+abbrev pub over_if : ℕ → OpenEntry → Bool → List ReportLine
+over_if d o over = if over then over_lines_of d o Full else []

@@ -12,8 +12,8 @@ mod work;
 
 pub use answers::{back_answer, how_over, order_answer, start_answer};
 pub use law::{
-    events_show_a_history, one_device_tells, quiet_events_tell_nothing, report_is_text,
-    same_lines_are_told,
+    acts_come_to_a_history, events_show_a_history, histories_show, one_device_tells,
+    quiet_events_tell_nothing, report_is_text, same_lines_are_told,
 };
 pub use record::{
     Calls, Gained, over_of, record_event, record_order, record_power_of, record_reset,
