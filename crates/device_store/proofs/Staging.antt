@@ -5,7 +5,8 @@ use Rattle.ckd_types.specs.declared.paths.Side.TheVariants.{A}
 use Rattle.device_outside.specs.Interaction.{Done}
 use Rattle.device_defs.specs.declared.answers.Did.TheVariants.{Nothing}
 use Rattle.device_defs.specs.Background as background
-use Rattle.device_defs.specs.Background.{to_recover, to_copy, copies_to, to_destage, is_destaged, work, stage, recover_first, copy_first, stage_first, destage_first}
+use Rattle.device_defs.specs.Background.{to_recover, to_copy, copies_to, to_destage, is_destaged, work}
+use Rattle.device_defs.specs.Background.{stage, recover_first, copy_first, stage_first, destage_first}
 use Rattle.device_defs.specs.Contents.{Contents}
 use Rattle.device_defs.specs.Owed.{waits}
 use Rattle.device_defs.specs.Store.{Store, tracks_of, some_up, stale_at}

@@ -16,7 +16,11 @@ pub returns-clause-run : goal.returns-clause-run
 unfolding power
 returns-clause-run g c =
     quiet_ran c.args.self.now.store c.lose_power.new.self (device_of c.args.self.now)
-    (record (device_of c.args.self.now) { paths = c.new-self.result; history = history_of c.lose_power-2.new.self; chain = option_map chain_of c.lose_power-2.new.self.running })
+    (record (device_of c.args.self.now) {
+      paths = c.new-self.result;
+      history = history_of c.lose_power-2.new.self;
+      chain = option_map chain_of c.lose_power-2.new.self.running;
+    })
     (λ z. and_then (half_cut contents z.store z.store.half) (λ s _. Done (powered_off contents z s) tt))
     (from_equal (λ i. i) refl
     (ap (λ x. outside_of (g.P.Port.view c.args.port.now) (g.V.Volume.view x) c.args.keep.now) c.lose_power.ensures.volume)

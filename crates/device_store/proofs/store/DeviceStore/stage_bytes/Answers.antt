@@ -8,7 +8,8 @@ returns-in-Err g c = record { run = λ k. tries false tt (asks c.drop_frame.ensu
 
 pub returns-in-Ok-None : goal.returns-in-Ok-None
 returns-in-Ok-None g c = record {
-  run = λ k. tries true refl (rw (← c.in-Ok-None.ensures, c.in-Ok-None.field-0-is) (asks c.drop_frame-in-Ok-None.ensures (ended refl (ap Some (sym c.did.ensures)))));
+  run = λ k. tries true refl (rw (← c.in-Ok-None.ensures, c.in-Ok-None.field-0-is)
+      (asks c.drop_frame-in-Ok-None.ensures (ended refl (ap Some (sym c.did.ensures)))));
 }
 
 pub returns : goal.returns
