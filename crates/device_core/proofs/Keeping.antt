@@ -1,5 +1,6 @@
 -- What is kept of a device's past, behind each event of it.
-use Rattle.std.proofs.Common.{◌≡◌, ◌∙◌, ◌+◌, ◌-◌, ◌<◌, ◌≤◌, ◌≢◌, ◌==◌, ◌⊎◌, inl, inr, ℕ, Bool, true, false, not, ◌&&◌, ◌||◌, List, [], ◌∷◌, ◌++◌, length, map, Option, Some, None, refl, sym, ap, subst, arith, length-append, length-set, lit≤}
+use Rattle.std.proofs.Common.{◌≡◌, ◌∙◌, ◌+◌, ◌-◌, ◌<◌, ◌≤◌, ◌≢◌, ◌==◌, ◌⊎◌, inl, inr, ℕ, Bool, true, false, not, ◌&&◌, ◌||◌, List, [], ◌∷◌, ◌++◌, length, map}
+use Rattle.std.proofs.Common.{Option, Some, None, refl, sym, ap, subst, arith, length-append, length-set, lit≤}
 use Rattle.std.specs.Prelude.{IfSome, count_by, is_some, slice_set, if◌then◌else◌}
 use Rattle.std.specs.List.{fold}
 use Rattle.std.proofs.lemmas.Bool.{eq-eqb, ne_eqb, eqb-true, eqb-false}
@@ -13,7 +14,8 @@ use Rattle.plain_defs.specs.History.{History, OpenEntry, closed, cut_by, entry_o
 use Rattle.plain_defs.specs.Legal.{is_of_path, is_started, is_used, started_by}
 use Rattle.device_defs.specs.Start.{started_count}
 use Rattle.device_core.specs.declared.past.KeptPath.{KeptPath}
-use Rattle.device_core.specs.Kept.{fresh_path, needed, of_path, one_more, over_path, unused, used_count, waiting, waiting_in, with_one_more, with_unused, with_waiting, KeepsPath, KeepsAll}
+use Rattle.device_core.specs.Kept.{fresh_path, needed, of_path, one_more, over_path, unused, used_count, waiting, waiting_in, with_one_more, with_unused}
+use Rattle.device_core.specs.Kept.{with_waiting, KeepsPath, KeepsAll}
 use Rattle.device_core.proofs.Waiting.{used_append, used_at, used_fewer, used_over, waiting_kept}
 
 -- Journals that end with other items
@@ -128,7 +130,8 @@ module _ (h : History) (kept : List KeptPath) (powered : Bool) (spare : ℕ) (k 
     powered_is = running_powered ∙ sym power;
     ends = tt;
     room = let over = used_over (with_unused kept o.path) 1 in
-        let same : length (waiting_in (with_unused kept o.path)) ≡ length (waiting_in kept) = ap length (waiting_kept kept 1 (o.path - 1) (unused kept o.path) (omega (arith, k.four, some, all)) refl) in
+        let same : length (waiting_in (with_unused kept o.path)) ≡ length (waiting_in kept) =
+        ap length (waiting_kept kept 1 (o.path - 1) (unused kept o.path) (omega (arith, k.four, some, all)) refl) in
         subst (λ (b : Bool). used_count (map over_path (with_unused kept o.path)) + (if b then 1 else 0) ≤ left) (sym running_powered)
         (omega (arith, over, four_own, same, room, running_room));
   } where
@@ -157,7 +160,8 @@ module _ (h : History) (kept : List KeptPath) (powered : Bool) (spare : ℕ) (k 
     of_own = of_over (with_unused kept o.path) o.path four_own some all ∙ ap over_path (of_set kept o.path (unused kept o.path) k.four some all)
 
     of_another : (i : ℕ) → 1 ≤ i → i ≤ 4 → o.path ≢ i → of_path (map over_path (with_unused kept o.path)) i ≡ over_path (of_path kept i)
-    of_another i least most differ = of_over (with_unused kept o.path) i four_own least most ∙ ap over_path (of_other kept o.path i (unused kept o.path) some least differ)
+    of_another i least most differ =
+        of_over (with_unused kept o.path) i four_own least most ∙ ap over_path (of_other kept o.path i (unused kept o.path) some least differ)
 
     path_at : (i : ℕ) → 1 ≤ i → i ≤ 4 → (o.path ≡ i) ⊎ (o.path ≢ i) → KeepsPath (cut_by h o more) i (of_path (map over_path (with_unused kept o.path)) i)
     path_at i least most (inl same) =
@@ -269,7 +273,8 @@ module _ (h : History) (kept : List KeptPath) (powered : Bool) (spare : ℕ) (k 
               ∙ ap (λ (b : Bool). b || is_used p false h.items) (sym (eq-eqb p p refl));
         })
     path_at i least most (inr differ) = record {
-      started_is = ap (λ (x : KeptPath). x.started) (of_other kept p i (one_more kept p) some least differ) ∙ idle_path i (of_path kept i) (k.paths i least most)
+      started_is = ap (λ (x : KeptPath). x.started) (of_other kept p i (one_more kept p) some least differ)
+          ∙ idle_path i (of_path kept i) (k.paths i least most)
           ∙ ap (λ (b : Bool). count_by (is_of_path i) h.items + (if b then 1 else 0)) (sym (ne_eqb p i differ));
       used_is = ap (λ (x : KeptPath). x.used) (of_other kept p i (one_more kept p) some least differ) ∙ idle_used i (of_path kept i) (k.paths i least most)
           ∙ ap (λ (b : Bool). b || is_used i false h.items) (sym (ne_eqb p i differ));

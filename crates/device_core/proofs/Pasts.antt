@@ -1,5 +1,6 @@
 -- A device's past, and what is kept of it, behind what happens to it.
-use Rattle.std.proofs.Common.{◌≡◌, ◌∙◌, ◌+◌, ◌-◌, ◌<◌, ◌≤◌, ℕ, List, [], ◌∷◌, ◌++◌, length, map, Bool, true, false, Option, Some, None, refl, sym, ap, subst, arith, append_assoc}
+use Rattle.std.proofs.Common.{◌≡◌, ◌∙◌, ◌+◌, ◌-◌, ◌<◌, ◌≤◌, ℕ, List, [], ◌∷◌, ◌++◌, length, map, Bool, true, false, Option, Some, None, refl, sym, ap, subst}
+use Rattle.std.proofs.Common.{arith, append_assoc}
 use Rattle.std.specs.Prelude.{IsSome, ◌==◌, option_map}
 use Rattle.std.proofs.lemmas.Bool.{eqb-true}
 use Rattle.ckd_types.specs.declared.channel.CommandEnd.{CommandEnd}
@@ -13,7 +14,8 @@ use Rattle.device_defs.specs.Start.{started_count}
 use Rattle.device_core.specs.declared.past.KeptPath.{KeptPath}
 use Rattle.device_core.specs.declared.past.Past.{Past}
 use Rattle.device_core.specs.declared.past.Running.{Running}
-use Rattle.device_core.specs.Kept.{open_of, history_of, needed, of_path, one_more, over_path, unused, waiting_in, with_one_more, with_unused, with_waiting, Keeps, KeepsAll}
+use Rattle.device_core.specs.Kept.{open_of, history_of, needed, of_path, one_more, over_path, unused, waiting_in, with_one_more, with_unused, with_waiting}
+use Rattle.device_core.specs.Kept.{Keeps, KeepsAll}
 use Rattle.device_core.proofs.Keeping.{closed_keeps, cut_keeps, end_keeps, ends_of_running, reset_keeps, room_of_running, start_keeps, wait_keeps}
 use Rattle.device_core.proofs.Waiting.{none_wait, put_waits, used_some, waiting_kept}
 

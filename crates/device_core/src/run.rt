@@ -16,6 +16,9 @@ use ckd_types::NoMemory;
 use device_outside::{Keep, NoKeep, Port, Volume};
 use track_image::TrackImage;
 
+/// The most ends of a program that can be counted. A chain is over long before, behind 4,096 commands.
+const MOST_ENDS: usize = 65535;
+
 /// Makes room for a command's end.
 fn reserve_end(running: &mut Option<Running>) -> Result<(), NoMemory>
     requires running { IsSome running.old }
@@ -26,7 +29,7 @@ fn reserve_end(running: &mut Option<Running>) -> Result<(), NoMemory>
 {
     match running {
         Some(running) => {
-            if running.ends.len() >= 65535 {
+            if running.ends.len() >= MOST_ENDS {
                 return Err(NoMemory);
             }
             running.ends.reserve(1)

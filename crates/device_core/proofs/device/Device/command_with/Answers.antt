@@ -12,8 +12,8 @@ use Rattle.device_core.proofs.device.Device.command_with.Goals as goal
 pub returns-in-Err-clause-run : goal.returns-in-Err-clause-run
 unfolding command
 returns-in-Err-clause-run g c =
-    tries false tt (ended (same_device (state_of c.args.self.now.store) c.args.self.now.paths c.args.self.now.plans c.args.self.now.past c.reserve_end.new.running
-    c.in-Err.ensures.open c.in-Err.ensures.chain) refl)
+    tries false tt (ended (same_device (state_of c.args.self.now.store) c.args.self.now.paths c.args.self.now.plans c.args.self.now.past
+    c.reserve_end.new.running c.in-Err.ensures.open c.in-Err.ensures.chain) refl)
 
 pub returns-clause-run : goal.returns-clause-run
 unfolding command

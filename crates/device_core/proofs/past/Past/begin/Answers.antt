@@ -10,18 +10,20 @@ entry path ordinal ends = record { path = path; ordinal = ordinal; ends = ends; 
 
 pub returns-clause-history : goal.returns-clause-history
 returns-clause-history c =
-    let counted = ap (λ (n : ℕ). n + 1) (c.requires.keeps.paths c.args.path c.count_one_more-ordinal.ensures.path.0 c.count_one_more-ordinal.ensures.path.1).started_is in
+    let kept = c.requires.keeps.paths c.args.path c.count_one_more-ordinal.ensures.path.0 c.count_one_more-ordinal.ensures.path.1 in
     let r : Running = record { path = c.args.path; ordinal = c.count_one_more-ordinal.result; chain = c.args.chain; ends = c.args.ends } in
     let begins = ap (λ (l : List CommandEnd). entry c.args.path c.count_one_more-ordinal.result l) c.requires.ends in
-    history_started c.args.self.now (record c.args.self.now { running = Some r; kept = c.count_one_more-ordinal.new.kept; powered = true }) c.args.path r c.requires.keeps c.requires.idle c.count_one_more-ordinal.ensures.path.0
-    c.count_one_more-ordinal.ensures.path.1 c.count_one_more-ordinal.result (c.count_one_more-ordinal.ensures.ordinal ∙ counted) begins refl refl
+    history_started c.args.self.now (record c.args.self.now { running = Some r; kept = c.count_one_more-ordinal.new.kept; powered = true })
+    c.args.path r c.requires.keeps c.requires.idle c.count_one_more-ordinal.ensures.path.0 c.count_one_more-ordinal.ensures.path.1
+    c.count_one_more-ordinal.result (c.count_one_more-ordinal.ensures.ordinal ∙ ap (λ (n : ℕ). n + 1) kept.started_is) begins refl refl
     c.count_one_more-ordinal.ensures.kept refl
 
 pub returns-clause-keeps : goal.returns-clause-keeps
 returns-clause-keeps c =
-    let counted = ap (λ (n : ℕ). n + 1) (c.requires.keeps.paths c.args.path c.count_one_more-ordinal.ensures.path.0 c.count_one_more-ordinal.ensures.path.1).started_is in
+    let kept = c.requires.keeps.paths c.args.path c.count_one_more-ordinal.ensures.path.0 c.count_one_more-ordinal.ensures.path.1 in
     let r : Running = record { path = c.args.path; ordinal = c.count_one_more-ordinal.result; chain = c.args.chain; ends = c.args.ends } in
     let begins = ap (λ (l : List CommandEnd). entry c.args.path c.count_one_more-ordinal.result l) c.requires.ends in
-    keeps_started c.args.self.now (record c.args.self.now { running = Some r; kept = c.count_one_more-ordinal.new.kept; powered = true }) c.args.path r c.requires.keeps c.requires.idle c.count_one_more-ordinal.ensures.path.0
-    c.count_one_more-ordinal.ensures.path.1 c.count_one_more-ordinal.result (c.count_one_more-ordinal.ensures.ordinal ∙ counted) begins refl refl
+    keeps_started c.args.self.now (record c.args.self.now { running = Some r; kept = c.count_one_more-ordinal.new.kept; powered = true })
+    c.args.path r c.requires.keeps c.requires.idle c.count_one_more-ordinal.ensures.path.0 c.count_one_more-ordinal.ensures.path.1
+    c.count_one_more-ordinal.result (c.count_one_more-ordinal.ensures.ordinal ∙ ap (λ (n : ℕ). n + 1) kept.started_is) begins refl refl
     c.count_one_more-ordinal.ensures.kept refl c.requires.room
