@@ -12,3 +12,4 @@ pub mod Judging
 pub mod Kept
 pub mod Keeping
 pub mod Task
+pub mod Auditor

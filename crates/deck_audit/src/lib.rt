@@ -1,6 +1,7 @@
 //! Whether a plain device could have made a report, and the first line that shows that it couldn't.
 #![tactic(auto)]
 
+mod auditor;
 mod follows;
 mod judged;
 mod judging;
@@ -23,6 +24,7 @@ mod tests;
 mod texts;
 mod work;
 
+pub use auditor::Auditor;
 pub use follows::{
     act_follows, edit_follows, end_follows, ends_are_judged, half_follows, loan_follows,
     over_follows, power_follows, reset_follows, settle_follows, start_follows,

@@ -4,7 +4,7 @@ ghost use Rattle.deck_audit.specs.declared.state.Did.TheVariants.{Halved};
 ghost use Rattle.deck_audit.specs.declared.state.Due.TheVariants.{Powers};
 ghost use Rattle.deck_audit.specs.Kept.{OnGood, settled_kept, tells_loss, then_if, wait_if};
 ghost use Rattle.deck_audit.specs.Same.{says};
-ghost use Rattle.deck_audit.specs.Task.{is_over_with, next_then, settle_then, task_kept, task_then};
+ghost use Rattle.deck_audit.specs.Task.{IsInRange, is_over_with, next_then, settle_then, task_kept, task_then};
 
 use crate::kept::{Kept, Then};
 use crate::{Did, Due, says};
@@ -58,6 +58,27 @@ fn is_over_with(event: Option<EventLine>, idle: bool, did: &Did) -> bool
     }
 }
 
+/// What the types of a line's path and count say.
+pub fn range_of(task: &Task)
+    ensures { IsInRange task.now }
+{
+    match task {
+        Task::Start(path) => {
+            let _number = path.get();
+        }
+        Task::Reset(path) => {
+            let _number = path.get();
+        }
+        Task::Cut(n) => {
+            let _number = *n;
+        }
+        Task::PowerCut(n) => {
+            let _number = *n;
+        }
+        _ => {}
+    }
+}
+
 fn wait_if(due: Option<Due>) -> Option<Then>
     ensures { result ≡ wait_if due }
 {
@@ -106,7 +127,7 @@ impl Kept {
 
     /// Its loose tracks go back at a loss of power, where it is the device of that place.
     fn power_loss(&self, at: usize, line: &ReportLine) -> Option<Then>
-        requires { at < 65536 }
+        requires { at < 18446744073709551615 }
         ensures { result ≡ then_if (tells_loss self.now.device line.now) (Wait (Powers (at + 1))) }
     {
         if !self.device.tells_loss(line) {
@@ -124,7 +145,7 @@ impl Kept {
         line: &ReportLine,
         task: Task,
     ) -> Result<Option<Then>, NoMemory>
-        requires { at < 65536 }
+        requires { at < 18446744073709551615 }
         ensures answer { IfOk result (λ next. next ≡ task_then plans.now self.old at line.now task) }
         ensures kept { OnGood result (self.new ≡ task_kept plans.now self.old line.now task) }
     {
