@@ -1,6 +1,6 @@
 -- What an auditor keeps where no device changes.
-use Rattle.std.proofs.Common.{◌≡◌, ◌≤◌, ◌+◌, ℕ, List, [], ◌∷◌, length, drop, Option, Some, None, Bool, true, false, cond, refl, sym, ap, subst, ◌∙◌}
-use Rattle.std.specs.Prelude.{◌==◌, ◌&&◌, map}
+use Rattle.std.proofs.Common.{◌≡◌, ℕ, List, [], ◌∷◌, length, drop, Some, None, Bool, true, false, cond, refl, sym, ap, subst, ◌∙◌}
+use Rattle.std.specs.Prelude.{◌==◌, map}
 use Rattle.ckd_types.specs.declared.channel.CommandEnd.{CommandEnd}
 use Rattle.deck_plan.specs.declared.event.EventLine.{EventLine}
 use Rattle.deck_text.specs.declared.line.PlannedProgram.{PlannedProgram}
@@ -12,8 +12,7 @@ use Rattle.deck_audit.specs.declared.kept.Kept.{Kept}
 use Rattle.deck_audit.specs.declared.kept.Then.TheVariants.{Passed, Wait}
 use Rattle.deck_audit.specs.declared.state.Did.TheVariants.{Ended}
 use Rattle.deck_audit.specs.declared.state.Due.{Due}
-use Rattle.deck_audit.specs.declared.state.Due.TheVariants.{Behind, DataOf, Next}
-use Rattle.deck_audit.specs.declared.state.Outline.{Outline}
+use Rattle.deck_audit.specs.declared.state.Due.TheVariants.{Behind, DataOf}
 use Rattle.deck_audit.specs.Device.{AuditedDevice, device_in, outline_of}
 use Rattle.deck_audit.specs.History.{due_made}
 use Rattle.deck_audit.specs.Judging.{data_due}

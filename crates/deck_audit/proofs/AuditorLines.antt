@@ -1,6 +1,6 @@
 -- A line that one device judges makes of an auditor what it makes of the audited state.
-use Rattle.std.proofs.Common.{◌≡◌, ◌<◌, ◌≤◌, ◌+◌, ℕ, zero, suc, List, [], ◌∷◌, length, drop, Option, Some, None, Bool, true, false, cond, refl, arith, sym, ap, subst, ◌∙◌, inl, inr}
-use Rattle.std.specs.Prelude.{◌==◌, ◌&&◌, ◌⊎◌, ⊤, nat_lt, slice_get, slice_set}
+use Rattle.std.proofs.Common.{◌≡◌, ◌≤◌, ◌+◌, ℕ, suc, List, [], ◌∷◌, length, drop, Option, Some, None, Bool, true, false, cond, refl, arith, sym, ap, subst, ◌∙◌, inl, inr}
+use Rattle.std.specs.Prelude.{◌&&◌, ◌⊎◌, ⊤, nat_lt, slice_get, slice_set}
 use Rattle.std.proofs.Common.{rules}
 use Rattle.std.proofs.Math.ListN.{drop_of_length-le}
 use Rattle.std.proofs.lemmas.List.{drop-drop}
@@ -14,16 +14,16 @@ use Rattle.deck_text.specs.Plans.{plans_of}
 use Rattle.report_text.specs.declared.answers.LooseAnswer.TheVariants as loose
 use Rattle.report_text.specs.declared.line.ReportLine.{ReportLine}
 use Rattle.report_text.specs.declared.line.ReportLine.TheVariants as lines
-use Rattle.deck_audit.specs.Auditor.{AllKept, AreKept, ArePowered, Fits, IsAt, IsAuditOf, IsFor, IsJudgedAt, Makes, NoneRuns, OneKept, gone_on, is_quiet, next_place, place_from}
+use Rattle.deck_audit.specs.Auditor.{AreKept, ArePowered, Fits, IsAt, IsAuditOf, IsFor, IsJudgedAt, Makes, NoneRuns, OneKept, gone_on, is_quiet, next_place, place_from}
 use Rattle.deck_audit.specs.declared.auditor.Auditor.{Auditor}
 use Rattle.deck_audit.specs.declared.kept.Kept.{Kept}
 use Rattle.deck_audit.specs.declared.kept.Then.{Then}
 use Rattle.deck_audit.specs.declared.kept.Then.TheVariants.{Passed, Wait}
 use Rattle.deck_audit.specs.declared.replayed.Running.{Running}
 use Rattle.deck_audit.specs.declared.state.Did.{Did}
-use Rattle.deck_audit.specs.declared.state.Did.TheVariants.{Ended, CheckEnded, Halved, Worked}
+use Rattle.deck_audit.specs.declared.state.Did.TheVariants.{Ended, CheckEnded, Halved}
 use Rattle.deck_audit.specs.declared.state.Due.{Due}
-use Rattle.deck_audit.specs.declared.state.Due.TheVariants.{Next, DataOf, SenseOf, Behind, OverOf, Losses, ResetOf, Powers, Totals, Frames, Nothing}
+use Rattle.deck_audit.specs.declared.state.Due.TheVariants.{Next, SenseOf, Behind, Losses, ResetOf, Powers}
 use Rattle.deck_audit.specs.declared.state.HalfWrite.TheVariants.{Closed}
 use Rattle.deck_audit.specs.Replay.{ended_next}
 use Rattle.deck_audit.specs.declared.task.Task.{Task}
@@ -32,14 +32,14 @@ use Rattle.deck_audit.specs.Device.{AuditedDevice, device_in, has_loose, with_de
 use Rattle.deck_audit.specs.History as history
 use Rattle.deck_audit.specs.History.{behind_end, changed, has_sense, place_of}
 use Rattle.deck_audit.specs.Judging.{check_of, end_due_by, sense_due_by, shows_end}
-use Rattle.deck_audit.specs.Keeping.{Goes, IsDue, IsQuiet, Judges, due_of, goes_on}
-use Rattle.deck_audit.specs.Kept.{act_then, cut_then_by, end_then_by, loosen_then, settled_kept, settled_over, then_if, wait_if, with_half, work_then}
+use Rattle.deck_audit.specs.Keeping.{Goes, IsDue, Judges, due_of, goes_on}
+use Rattle.deck_audit.specs.Kept.{act_then, cut_then_by, end_then_by, loosen_then, settled_over, then_if, wait_if, with_half, work_then}
 use Rattle.deck_audit.specs.Place.{IsDueOf}
 use Rattle.deck_audit.specs.Replayed.{ReplayedState}
 use Rattle.deck_audit.specs.Same.{says}
-use Rattle.deck_audit.specs.State.{AuditState, first_event, then_of, worker_number}
-use Rattle.deck_audit.specs.Task.{IsInRange, IsReady, is_over_with, next_then, settle_then_by, task_kept, task_made, task_then}
-use Rattle.deck_audit.proofs.Auditors.{At, Found, all_of_one, at, none_at, none_before, one_of_all, quiet_of, same_length}
+use Rattle.deck_audit.specs.State.{AuditState, then_of, worker_number}
+use Rattle.deck_audit.specs.Task.{IsReady, next_then, settle_then_by, task_kept, task_made, task_then}
+use Rattle.deck_audit.proofs.Auditors.{At, all_of_one, at, none_at, none_before, one_of_all, quiet_of, same_length}
 use Rattle.deck_audit.proofs.JudgedTasks.{task_judged}
 
 -- What is due behind a line of a device

@@ -1,6 +1,6 @@
 -- An auditor's devices, and what a line makes of one of them.
-use Rattle.std.proofs.Common.{◌≡◌, ◌<◌, ◌≤◌, ◌+◌, ℕ, zero, suc, List, [], ◌∷◌, length, drop, Option, Some, None, Bool, true, false, cond, refl, arith, sym, ap, subst, ◌∙◌, inl, inr, eq-eqb}
-use Rattle.std.specs.Prelude.{◌==◌, ◌⊎◌, Ok, slice_get, slice_index_or, slice_set}
+use Rattle.std.proofs.Common.{◌≡◌, ◌<◌, ◌≤◌, ◌+◌, ℕ, suc, List, [], ◌∷◌, length, Option, Some, None, Bool, true, false, cond, refl, arith, sym, ap, subst, ◌∙◌, eq-eqb}
+use Rattle.std.specs.Prelude.{◌==◌, Ok, slice_get, slice_index_or, slice_set}
 use Rattle.std.proofs.Common.{rules}
 use Rattle.std.proofs.lemmas.Bool.Decides.{nat_tests}
 use Rattle.std.proofs.lemmas.Option.{slice_get-get_or}
@@ -12,7 +12,6 @@ use Rattle.deck_text.specs.declared.line.PlannedProgram.{PlannedProgram}
 use Rattle.deck_text.specs.Plans.{plans_of}
 use Rattle.deck_audit.specs.Auditor.{AllKept, IsAt, IsJudgedAt, NoneRuns, OneKept, due_if, either, is_quiet, place_from}
 use Rattle.deck_audit.specs.declared.kept.Kept.{Kept}
-use Rattle.deck_audit.specs.declared.state.Did.TheVariants.{Ended, CheckEnded, Halved, Worked}
 use Rattle.deck_audit.specs.declared.state.Due.{Due}
 use Rattle.deck_audit.specs.declared.state.Due.TheVariants.{Next, DataOf, SenseOf, Behind, OverOf, Losses, ResetOf, Powers, Totals, Frames, Nothing}
 use Rattle.deck_audit.specs.Device.{AuditedDevice, device_in, with_device}

@@ -1,8 +1,7 @@
 -- Acts of cache fast write are judged by a device that is kept as by the history.
-use Rattle.std.proofs.Common.{◌≡◌, ◌∷◌, ◌++◌, [], ℕ, List, length, Option, Some, None, Bool, true, false, cond, refl, sym, ap, subst, ◌∙◌}
-use Rattle.std.specs.Prelude.{◌&&◌, nat_lt}
+use Rattle.std.proofs.Common.{◌≡◌, ℕ, Option, Some, None, true, false, refl, sym, ap, subst, ◌∙◌}
+use Rattle.std.specs.Prelude.{◌&&◌}
 use Rattle.ckd_types.specs.declared.channel.CommandEnd.{CommandEnd}
-use Rattle.ckd_types.specs.declared.sense.Sense.{Sense}
 use Rattle.ckd_chain.specs.State.{ChainState}
 use Rattle.ckd_chain.specs.Steps.{end_with}
 use Rattle.plain_defs.specs.declared.journal.Act.{Act}
@@ -32,7 +31,7 @@ use Rattle.deck_audit.specs.Replayed.{PendingState, ReplayedState}
 use Rattle.deck_audit.specs.Same.{says}
 use Rattle.deck_audit.specs.State.{AuditState}
 use Rattle.deck_audit.proofs.Judges.{by_program, judges_if}
-use Rattle.deck_audit.proofs.KeptMore.{act_keeps, keeps_same}
+use Rattle.deck_audit.proofs.KeptMore.{act_keeps}
 use Rattle.deck_audit.proofs.ReplayedActs.{acted_device, acted_ends, acted_idle, acted_runs, in_history, runs_later, with_act_of}
 use Rattle.deck_audit.proofs.ReplayedEnds.{end_is, ends_as, loosens_follows}
 

@@ -1,18 +1,14 @@
 -- The cut of a program, by a reset or by a loss of power, is judged by a device that is kept as by the history.
-use Rattle.std.proofs.Common.{◌≡◌, ◌<◌, ◌≤◌, ◌+◌, ℕ, List, length, Option, Some, None, Bool, true, false, cond, eqb, refl, arith, sym, ap, subst, ◌∙◌, eq-eqb}
-use Rattle.std.specs.Prelude.{◌==◌, ◌&&◌, nat_lt}
+use Rattle.std.proofs.Common.{◌≡◌, ◌<◌, ◌+◌, ℕ, length, Option, Some, None, Bool, true, false, cond, eqb, refl, arith, sym, ap, subst, ◌∙◌, eq-eqb}
+use Rattle.std.specs.Prelude.{◌==◌, ◌&&◌}
 use Rattle.std.proofs.lemmas.Bool.Decides.{nat_tests}
 use Rattle.ckd_types.specs.declared.channel.CommandEnd.{CommandEnd}
 use Rattle.ckd_chain.specs.Steps.{end_with}
 use Rattle.plain_device.specs.Between.{effect_of}
 use Rattle.plain_defs.specs.History.{History, OpenEntry, cut_by, put, reset, reset_in}
 use Rattle.plain_defs.specs.Legal.{is_used}
-use Rattle.report_text.specs.declared.answers.HowOver.TheVariants as how
-use Rattle.report_text.specs.declared.line.ReportLine.{ReportLine}
-use Rattle.report_text.specs.declared.line.ReportLine.TheVariants as lines
 use Rattle.deck_audit.specs.declared.kept.Kept.{Kept}
-use Rattle.deck_audit.specs.declared.kept.Then.{Then}
-use Rattle.deck_audit.specs.declared.kept.Then.TheVariants.{Passed, Wait}
+use Rattle.deck_audit.specs.declared.kept.Then.TheVariants.{Wait}
 use Rattle.deck_audit.specs.declared.replayed.Running.{Running}
 use Rattle.deck_audit.specs.declared.state.Due.{Due}
 use Rattle.deck_audit.specs.declared.state.Due.TheVariants.{Powers, ResetOf}
@@ -29,7 +25,7 @@ use Rattle.deck_audit.specs.State.{AuditState, then_of}
 use Rattle.deck_audit.proofs.Judges.{Idle, Runs, by_program}
 use Rattle.deck_audit.proofs.JudgedActs.{plain_before}
 use Rattle.deck_audit.proofs.JudgedEnds.{closed_pending}
-use Rattle.deck_audit.proofs.JudgedWork.{ended_kept, has_pending, next_here}
+use Rattle.deck_audit.proofs.JudgedWork.{ended_kept, has_pending}
 use Rattle.deck_audit.proofs.KeptMore.{cut_keeps, keeps_same, settled_keeps}
 use Rattle.deck_audit.proofs.KeptResets.{cut_reset_keeps}
 use Rattle.deck_audit.proofs.ReplayedEnds.{legal_follows, runs_as}

@@ -1,6 +1,6 @@
 -- A piece of work is taken as done by a device that is kept as by the history.
-use Rattle.std.proofs.Common.{◌≡◌, ◌<◌, ◌≤◌, ◌+◌, ◌∷◌, ◌++◌, [], ℕ, suc, List, length, Option, Some, None, Bool, true, false, cond, refl, arith, sym, ap, subst, ◌∙◌}
-use Rattle.std.specs.Prelude.{◌-◌, ◌&&◌, not, nat_lt, slice_index_or, slice_set}
+use Rattle.std.proofs.Common.{◌≡◌, ◌∷◌, ◌++◌, [], ℕ, suc, List, length, Option, Some, None, Bool, true, false, cond, refl, arith, sym, ap, subst, ◌∙◌}
+use Rattle.std.specs.Prelude.{◌-◌, ◌&&◌, not, slice_index_or, slice_set}
 use Rattle.std.proofs.lemmas.List.{length-append}
 use Rattle.std.proofs.lemmas.Bool.Decides.{nat_tests}
 use Rattle.ckd_types.specs.declared.channel.CommandEnd.{CommandEnd}
@@ -10,7 +10,6 @@ use Rattle.plain_defs.specs.History.{History, OpenEntry, checked, checked_in, cl
 use Rattle.plain_defs.specs.PlainState.{with_sense}
 use Rattle.report_text.specs.declared.answers.HowOver.{HowOver}
 use Rattle.report_text.specs.declared.answers.HowOver.TheVariants as how
-use Rattle.report_text.specs.declared.line.ReportLine.{ReportLine}
 use Rattle.report_text.specs.declared.line.ReportLine.TheVariants as lines
 use Rattle.deck_audit.specs.declared.kept.Kept.{Kept}
 use Rattle.deck_audit.specs.declared.replayed.Running.{Running}

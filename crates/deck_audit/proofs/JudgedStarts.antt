@@ -1,7 +1,7 @@
 -- A START is judged by a device that is kept as by the history.
 use Rattle.std.proofs.Common.{◌≡◌, ◌≤◌, ℕ, Option, Some, None, Bool, true, false, cond, not, refl, sym, ap, subst, ◌∙◌}
-use Rattle.std.specs.Prelude.{◌+◌, ◌&&◌}
-use Rattle.plain_defs.specs.History.{OpenEntry, started}
+use Rattle.std.specs.Prelude.{◌+◌}
+use Rattle.plain_defs.specs.History.{started}
 use Rattle.report_text.specs.declared.answers.StartAnswer.{StartAnswer}
 use Rattle.report_text.specs.declared.answers.StartAnswer.TheVariants as start
 use Rattle.report_text.specs.declared.line.ReportLine.{ReportLine}

@@ -1,5 +1,5 @@
 -- Whatever a line is to a device, the device that is kept judges it as the history does.
-use Rattle.std.proofs.Common.{◌≡◌, ◌≤◌, ◌<◌, ◌+◌, ◌-◌, ◌∷◌, ◌++◌, [], ℕ, List, Option, Some, None, Bool, true, false, cond, eqb, refl, sym, ap, subst, ◌∙◌}
+use Rattle.std.proofs.Common.{◌≡◌, ◌≤◌, ◌+◌, ◌-◌, ◌∷◌, ◌++◌, [], ℕ, List, Option, Some, None, Bool, true, false, cond, refl, sym, ap, subst, ◌∙◌}
 use Rattle.std.specs.Prelude.{◌==◌, ◌&&◌, ◌||◌, slice_set}
 use Rattle.ckd_types.specs.declared.channel.CommandEnd.{CommandEnd}
 use Rattle.ckd_types.specs.declared.sense.Sense.{Sense}
@@ -12,13 +12,12 @@ use Rattle.plain_defs.specs.Legal.{is_used}
 use Rattle.report_text.specs.declared.line.ReportLine.{ReportLine}
 use Rattle.report_text.specs.declared.line.ReportLine.TheVariants as lines
 use Rattle.deck_audit.specs.declared.kept.Kept.{Kept}
-use Rattle.deck_audit.specs.declared.kept.Then.{Then}
 use Rattle.deck_audit.specs.declared.kept.Then.TheVariants.{Passed, Wait}
 use Rattle.deck_audit.specs.declared.replayed.Running.{Running}
 use Rattle.deck_audit.specs.declared.state.Did.{Did}
 use Rattle.deck_audit.specs.declared.state.Did.TheVariants.{Ended, CheckEnded, Halved, Worked}
 use Rattle.deck_audit.specs.declared.state.Due.{Due}
-use Rattle.deck_audit.specs.declared.state.Due.TheVariants.{Behind, Next, OverOf, Powers}
+use Rattle.deck_audit.specs.declared.state.Due.TheVariants.{Behind, Next, Powers}
 use Rattle.deck_audit.specs.declared.task.Task.{Task}
 use Rattle.deck_audit.specs.declared.task.Task.TheVariants as tasks
 use Rattle.deck_audit.specs.Device as device
@@ -27,7 +26,7 @@ use Rattle.deck_audit.specs.Follows.{Follows, KeepsPaths}
 use Rattle.deck_audit.specs.History as history
 use Rattle.deck_audit.specs.History.{changed, check_made, has_sense, sense_made}
 use Rattle.deck_audit.specs.Judging.{due_in, sense_due}
-use Rattle.deck_audit.specs.Keeping.{EndsSo, Goes, HasPending, IsCounted, IsDue, IsKept, IsQuiet, Judges}
+use Rattle.deck_audit.specs.Keeping.{EndsSo, Goes, IsCounted, IsDue, IsKept, IsQuiet, Judges}
 use Rattle.deck_audit.specs.Kept.{is_idle, power_kept, power_then, settled_kept, settled_over, tells_loss, then_if, wait_if}
 use Rattle.deck_audit.specs.Replay as replay
 use Rattle.deck_audit.specs.Replayed.{ReplayedState}

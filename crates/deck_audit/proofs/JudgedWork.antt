@@ -1,7 +1,6 @@
 -- An END, a HALF and a BACK are judged by a device that is kept as by the history.
 use Rattle.std.proofs.Common.{◌≡◌, ℕ, List, [], ◌∷◌, Option, Some, None, Bool, true, false, cond, refl, sym, ap, subst, ◌∙◌}
 use Rattle.ckd_types.specs.declared.channel.CommandEnd.{CommandEnd}
-use Rattle.ckd_types.specs.declared.sense.Sense.{Sense}
 use Rattle.ckd_types.specs.Sense.{equipment_sense}
 use Rattle.ckd_chain.specs.Steps.{behind}
 use Rattle.plain_defs.specs.History.{OpenEntry}
@@ -13,19 +12,19 @@ use Rattle.deck_audit.specs.declared.kept.Kept.{Kept}
 use Rattle.deck_audit.specs.declared.kept.Then.{Then}
 use Rattle.deck_audit.specs.declared.kept.Then.TheVariants.{Passed, Wait}
 use Rattle.deck_audit.specs.declared.replayed.Running.{Running}
-use Rattle.deck_audit.specs.declared.state.Did.TheVariants.{Ended, Halved, Worked}
+use Rattle.deck_audit.specs.declared.state.Did.TheVariants.{Halved, Worked}
 use Rattle.deck_audit.specs.declared.state.Due.{Due}
-use Rattle.deck_audit.specs.declared.state.Due.TheVariants.{Behind, DataOf, SenseOf}
+use Rattle.deck_audit.specs.declared.state.Due.TheVariants.{Behind, SenseOf}
 use Rattle.deck_audit.specs.declared.state.HalfWrite.{HalfWrite}
 use Rattle.deck_audit.specs.declared.state.HalfWrite.TheVariants.{Closed, OfCommand}
 use Rattle.deck_audit.specs.Device.{AuditedDevice, check_end, plain_end, words_of_open}
-use Rattle.deck_audit.specs.Follows.{Follows, KeepsPaths, RunsAs}
+use Rattle.deck_audit.specs.Follows.{RunsAs}
 use Rattle.deck_audit.specs.History.{back_half as half_behind, behind_end, changed, end_made, end_made_by, is_last, shows_end, work_made}
 use Rattle.deck_audit.specs.Judging.{due_in, end_due}
-use Rattle.deck_audit.specs.Keeping.{EndsSo, Goes, HasPending, IsCounted, IsDue, IsKept, IsQuiet, Judges}
+use Rattle.deck_audit.specs.Keeping.{Goes, HasPending, IsDue, IsKept, IsQuiet, Judges}
 use Rattle.deck_audit.specs.Kept.{back_half, end_kept, end_then, end_then_by, wait_if, with_half, work_kept, work_then}
 use Rattle.deck_audit.specs.Replay as replay
-use Rattle.deck_audit.specs.Replayed.{PendingState, ReplayedState}
+use Rattle.deck_audit.specs.Replayed.{ReplayedState}
 use Rattle.deck_audit.specs.State.{AuditState, passed}
 use Rattle.deck_audit.proofs.Judges.{Idle, Runs, by_program}
 use Rattle.deck_audit.proofs.JudgingLaw.{end_judged}

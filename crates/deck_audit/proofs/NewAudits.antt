@@ -3,7 +3,6 @@ use Rattle.std.proofs.Common.{◌≡◌, ℕ, List, [], ◌∷◌, drop, false, 
 use Rattle.std.specs.Prelude.{map}
 use Rattle.deck_text.specs.declared.line.DeviceLine.{DeviceLine}
 use Rattle.deck_text.specs.declared.line.PlannedProgram.{PlannedProgram}
-use Rattle.deck_text.specs.DeckLines.{DeckLines}
 use Rattle.plain_defs.specs.History.{no_history}
 use Rattle.deck_audit.specs.Auditor.{AllKept, IsAt, IsAuditOf, new_kept}
 use Rattle.deck_audit.specs.declared.auditor.Auditor.{Auditor}

@@ -1,32 +1,28 @@
 -- An auditor is that of the lines of a report so far: it keeps each device of the deck as they make it, the events that are left, and
 -- what is due.
-use Rattle.std.specs.Prelude.{◌≡◌, ◌≤◌, ℕ, ◌+◌, ◌==◌, ◌&&◌, not, nat_lt, Bool, true, false, zero, suc, List, [], ◌∷◌, drop, length, slice_get, slice_set, Option, Some, None, Result, Ok, Err, if◌then◌else◌, ⊤}
-use Rattle.deck_plan.specs.declared.event.EventLine.{EventLine}
+use Rattle.std.specs.Prelude.{◌≡◌, ◌≤◌, ℕ, ◌+◌, ◌==◌, nat_lt, Bool, true, false, zero, suc, List, [], ◌∷◌, drop, length, slice_get, slice_set, Option, Some, None, Result, Ok, Err, if◌then◌else◌, ⊤}
 use Rattle.deck_text.specs.declared.line.DeviceLine.{DeviceLine}
 use Rattle.deck_text.specs.declared.line.PlannedProgram.{PlannedProgram}
-use Rattle.deck_text.specs.DeckLines.{DeckLines}
 use Rattle.deck_text.specs.Plans.{plans_of}
 use Rattle.report_text.specs.declared.line.ReportLine.{ReportLine}
 use Rattle.deck_audit.specs.declared.auditor.Auditor.{Auditor}
 use Rattle.deck_audit.specs.declared.kept.Kept.{Kept}
 use Rattle.deck_audit.specs.declared.kept.Then.{Then}
 use Rattle.deck_audit.specs.declared.kept.Then.TheVariants.{Passed, Wait}
-use Rattle.deck_audit.specs.declared.state.Did.{Did}
-use Rattle.deck_audit.specs.declared.state.Did.TheVariants.{Ended}
 use Rattle.deck_audit.specs.declared.state.Due.{Due}
-use Rattle.deck_audit.specs.declared.state.Due.TheVariants.{Next, DataOf, SenseOf, Behind, OverOf, Powers, Totals, Nothing}
+use Rattle.deck_audit.specs.declared.state.Due.TheVariants.{Next, DataOf, SenseOf, Behind, Powers, Nothing}
 use Rattle.deck_audit.specs.declared.status.AuditWhy.{AuditWhy}
 use Rattle.deck_audit.specs.declared.status.AuditWhy.TheVariants.{Place}
 use Rattle.deck_audit.specs.declared.task.Task.{Task}
 use Rattle.deck_audit.specs.declared.task.Task.TheVariants as tasks
-use Rattle.deck_audit.specs.Device.{AuditedDevice, device_in, own_runs, runs}
+use Rattle.deck_audit.specs.Device.{AuditedDevice, device_in, own_runs}
 use Rattle.deck_audit.specs.History.{due_made, place_of}
 use Rattle.deck_audit.specs.Keeping.{IsDue, IsKept}
-use Rattle.deck_audit.specs.Place.{IsDueOf, holds, in_state}
+use Rattle.deck_audit.specs.Place.{IsDueOf, in_state}
 use Rattle.deck_audit.specs.Replay.{new_replayed}
 use Rattle.deck_audit.specs.State.{AuditState, first_event, worker_number}
 use Rattle.deck_audit.specs.Task.{IsInRange, task_kept, task_then}
-use Rattle.deck_audit.specs.Verdict.{judged, or_history}
+use Rattle.deck_audit.specs.Verdict.{or_history}
 
 -- 1 to 64 cylinders
 abbrev pub IsSized : DeviceLine → Type 0

@@ -1,17 +1,16 @@
 -- What a line is to a device: what the device that an audit keeps answers and becomes, and what the history makes of it.
-use Rattle.std.specs.Prelude.{◌≡◌, ◌≤◌, ◌<◌, ℕ, ◌+◌, ◌==◌, ◌&&◌, Bool, true, false, Option, Some, None, if◌then◌else◌}
+use Rattle.std.specs.Prelude.{◌≡◌, ◌≤◌, ◌<◌, ℕ, ◌+◌, Bool, true, false, Option, Some, None, if◌then◌else◌}
 use Rattle.deck_plan.specs.declared.event.EventLine.{EventLine}
 use Rattle.deck_plan.specs.declared.event.EventLine.TheVariants as events
 use Rattle.deck_plan.specs.Plans.{Plans}
 use Rattle.plain_defs.specs.declared.journal.Act.TheVariants.{Harden}
-use Rattle.plain_defs.specs.History.{OpenEntry, reset}
+use Rattle.plain_defs.specs.History.{reset}
 use Rattle.report_text.specs.declared.line.ReportLine.{ReportLine}
 use Rattle.deck_audit.specs.declared.kept.Kept.{Kept}
 use Rattle.deck_audit.specs.declared.kept.Then.{Then}
 use Rattle.deck_audit.specs.declared.kept.Then.TheVariants.{Passed, Wait}
 use Rattle.deck_audit.specs.declared.state.Did.{Did}
 use Rattle.deck_audit.specs.declared.state.Did.TheVariants.{Halved, Worked}
-use Rattle.deck_audit.specs.declared.state.Due.{Due}
 use Rattle.deck_audit.specs.declared.state.Due.TheVariants.{Next, OverOf, Powers, ResetOf}
 use Rattle.deck_audit.specs.declared.task.Task.{Task}
 use Rattle.deck_audit.specs.declared.task.Task.TheVariants as tasks

@@ -1,4 +1,4 @@
-use Rattle.std.proofs.Common.{List, Option, Some, None, true, refl, sym, subst}
+use Rattle.std.proofs.Common.{List, Some, None, true, refl, sym, subst}
 use Rattle.std.proofs.Common.{rules}
 use Rattle.std.proofs.lemmas.List.{places, with_items_is}
 use Rattle.std.specs.Vec.{with_items}
