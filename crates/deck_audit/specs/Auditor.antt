@@ -10,7 +10,7 @@ use Rattle.deck_audit.specs.declared.kept.Kept.{Kept}
 use Rattle.deck_audit.specs.declared.kept.Then.{Then}
 use Rattle.deck_audit.specs.declared.kept.Then.TheVariants.{Passed, Wait}
 use Rattle.deck_audit.specs.declared.state.Due.{Due}
-use Rattle.deck_audit.specs.declared.state.Due.TheVariants.{Next, DataOf, SenseOf, Behind, Powers, Nothing}
+use Rattle.deck_audit.specs.declared.state.Due.TheVariants.{Next, DataOf, SenseOf, Behind, Powers, Totals, Nothing}
 use Rattle.deck_audit.specs.declared.status.AuditWhy.{AuditWhy}
 use Rattle.deck_audit.specs.declared.status.AuditWhy.TheVariants.{Place}
 use Rattle.deck_audit.specs.declared.task.Task.{Task}
@@ -19,7 +19,8 @@ use Rattle.deck_audit.specs.Device.{AuditedDevice, device_in, own_runs}
 use Rattle.deck_audit.specs.History.{due_made, place_of}
 use Rattle.deck_audit.specs.Keeping.{IsDue, IsKept}
 use Rattle.deck_audit.specs.Place.{IsDueOf, in_state}
-use Rattle.deck_audit.specs.Replay.{new_replayed}
+use Rattle.deck_audit.specs.Replay.{new_replayed, outline_of}
+use Rattle.deck_audit.specs.declared.state.Outline.{Outline}
 use Rattle.deck_audit.specs.State.{AuditState, first_event, worker_number}
 use Rattle.deck_audit.specs.Task.{IsInRange, task_kept, task_then}
 use Rattle.deck_audit.specs.Verdict.{or_history}
@@ -148,3 +149,12 @@ Fits s d task = is_quiet s.due ≡ true
 -- where no piece of work is at its end
 abbrev pub placed : AuditState → ReportLine → Result AuditState AuditWhy
 placed s line = if in_state s line then or_history (due_made s line s.due) else Err Place
+
+-- how many devices something was told of
+abbrev pub told_of : Due → ℕ
+told_of (Powers n) = n
+told_of (Totals n) = n
+told_of due = 0
+
+abbrev pub kept_outline : Kept → Outline
+kept_outline k = outline_of k.device

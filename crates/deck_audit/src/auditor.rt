@@ -3,15 +3,17 @@ ghost use Rattle.std.specs.List.{All};
 ghost use Rattle.deck_plan.specs.declared.event.EventLine.TheVariants.{Start};
 ghost use Rattle.deck_audit.specs.declared.state.Did.TheVariants.{Halved};
 ghost use Rattle.deck_audit.specs.declared.state.Due.TheVariants.{Behind, DataOf, Next, SenseOf};
-ghost use Rattle.deck_audit.specs.Auditor.{Fits, IsAuditOf, IsFor, IsJudgedAt, IsSized, Makes, gone_on, is_nothing, is_quiet, new_kept, place_from};
+ghost use Rattle.deck_audit.specs.declared.auditor.Auditor.{Auditor};
+ghost use Rattle.deck_audit.specs.Auditor.{Fits, IsAuditOf, IsFor, IsJudgedAt, IsSized, Makes, gone_on, is_nothing, is_quiet, kept_outline, new_kept, place_from, told_of};
+ghost use Rattle.deck_audit.specs.Place.{IsDueOf, in_due};
 ghost use Rattle.deck_audit.specs.Device.{device_in};
 ghost use Rattle.deck_audit.specs.History.{act_of_work, due_made, event_made, harden_made, lent_to, loss_made, sense_made, shown, work_made};
-ghost use Rattle.deck_audit.specs.State.{AuditState, behind_work, first_event, first_state, over_by, settled_by, then_of, worker_number, worker_of};
+ghost use Rattle.deck_audit.specs.State.{AuditState, behind_work, first_event, first_state, outlines, over_by, settled_by, then_of, worker_number, worker_of};
 ghost use Rattle.deck_audit.specs.Task.{task_made};
 
 use crate::kept::{Kept, Then};
 use crate::task::{Task, range_of};
-use crate::{Did, Due, Outline, ReplayedDevice, data_due, worker_of};
+use crate::{Did, Due, Outline, ReplayedDevice, data_due, in_due, worker_of};
 use ckd_types::{CommandEnd, DeviceNo, NoMemory, PathNo, TrackNo};
 use deck_plan::EventLine;
 use deck_text::Deck;
@@ -82,6 +84,28 @@ fn is_nothing(due: &Due) -> bool
     ensures { result ≡ is_nothing due.now }
 {
     matches!(due, Due::Nothing)
+}
+
+/// How many devices something was told of.
+fn told_of(due: &Due) -> usize
+    ensures { result ≡ told_of due.now }
+{
+    match due {
+        Due::Powers(told) => *told,
+        Due::Totals(told) => *told,
+        _ => 0,
+    }
+}
+
+/// Whether a line may stand where this is due, of no more devices than there are.
+#[tactic(auto, using(crate::proofs::OutlineLaw::due_of_told, crate::proofs::OutlineLaw::told_of_due))]
+fn may_stand(devices: &[Outline], events: &[EventLine], line: &ReportLine, due: &Due) -> bool
+    ensures { IsDueOf (length devices.now) due.now → result ≡ in_due devices.now events.now line.now due.now }
+{
+    if told_of(due) > devices.len() {
+        return false;
+    }
+    in_due(devices, events, line, due)
 }
 
 impl Auditor {
@@ -305,3 +329,8 @@ impl Auditor {
         Ok(good)
     }
 }
+
+/// What `in_due` reads of the devices that are kept is what the definition reads of the audited ones.
+pub fn outlines_are_same()
+    ensures { (z : Auditor) (s : AuditState) → IsFor z s → map kept_outline z.devices.items ≡ outlines s }
+{}

@@ -24,7 +24,7 @@ mod tests;
 mod texts;
 mod work;
 
-pub use auditor::Auditor;
+pub use auditor::{Auditor, outlines_are_same};
 pub use follows::{
     act_follows, edit_follows, end_follows, ends_are_judged, half_follows, loan_follows,
     over_follows, power_follows, reset_follows, settle_follows, start_follows,
