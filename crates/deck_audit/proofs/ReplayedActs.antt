@@ -44,7 +44,7 @@ module _ (a : AuditedDevice) (o : OpenEntry) (act : Act) where
       part_here o.path (words_of_open a o) (replay a.plans a.empty a.history.items) o.acts (length o.ends) i
       (ap length (sym at.ends_are)) (sym at.next_is ∙ is) act
 
-  runs_later : (device : PlainState) (q : Running) (chain : ChainState) → RunsAs a o device q chain
+  pub runs_later : (device : PlainState) (q : Running) (chain : ChainState) → RunsAs a o device q chain
       → RunsAs (acted_device a o act) (with_act_of o act) (act_done device act) q chain
   runs_later device q chain r = record {
     path_is = r.path_is;
@@ -66,7 +66,7 @@ module _ (a : AuditedDevice) (o : OpenEntry) (act : Act) where
 
 module _ (r : ReplayedState) (a : AuditedDevice) (o : OpenEntry) (q : Running) (act : Act) (f : Follows r a)
     (runs : r.running ≡ Some q) (entry : a.history.running ≡ Some o) where
-  in_history : acted a.history act ≡ record a.history { running = Some (with_act_of o act) }
+  pub in_history : acted a.history act ≡ record a.history { running = Some (with_act_of o act) }
   in_history = ap (λ (x : Option OpenEntry). acted_in a.history act x) entry
 
   follows_with : (device_is : act_done r.device act ≡ (part_of_open (acted_device a o act) (with_act_of o act)).state)

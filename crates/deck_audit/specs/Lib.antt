@@ -9,3 +9,7 @@ pub mod Replayed
 pub mod Replay
 pub mod Follows
 pub mod Judging
+pub mod Kept
+pub mod Keeping
+pub mod Task
+pub mod Auditor
