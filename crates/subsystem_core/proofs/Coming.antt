@@ -1,0 +1,283 @@
+-- From what a call of a device did to what the event came to.
+use Rattle.std.proofs.Common.{◌≡◌, ◌∙◌, ◌<◌, ℕ, Bool, true, false, List, ◌∷◌, Option, Some, None, arith, refl, sym, ap, subst}
+use Rattle.std.specs.Prelude.{Result, Ok, Err, IfOk, OnOk, OnErr, IsSome, is_some, option_map}
+use Rattle.std.specs.Prelude.{◌==◌}
+use Rattle.std.proofs.lemmas.Bool.Decides.{nat_tests}
+use Rattle.ckd_types.specs.declared.NoMemory.{NoMemory}
+use Rattle.ckd_types.specs.declared.paths.Side.{Side}
+use Rattle.ckd_types.specs.declared.paths.Side.TheVariants.{A, B}
+use Rattle.device_outside.specs.declared.volume.Volume.{Ghosts}
+use Rattle.device_outside.specs.Outside.{done, where_ok}
+use Rattle.device_outside.specs.Pool.{Pool}
+use Rattle.device_outside.proofs.Runs.{joined, ran_weaker}
+use Rattle.frame_pool.specs.Shared.{Shared}
+use Rattle.plain_defs.specs.History.{OpenEntry, is_path_of}
+use Rattle.device_defs.specs.declared.answers.Did.{Did}
+use Rattle.device_defs.specs.declared.answers.SecondEnd.{SecondEnd}
+use Rattle.device_defs.specs.declared.answers.Stepped as defs
+use Rattle.device_defs.specs.Contents.{contents}
+use Rattle.device_defs.specs.Orders.{replace}
+use Rattle.device_defs.specs.Start.{start, next_ordinal}
+use Rattle.device_defs.specs.Store.{side_of}
+use Rattle.device_store.specs.State.{had, surely}
+use Rattle.device_core.specs.declared.device.Device.{Device}
+use Rattle.device_core.specs.declared.start.NotStarted.{NotStarted}
+use Rattle.device_core.specs.declared.past.Running.{Running}
+use Rattle.device_core.specs.declared.past.Stepped.{Stepped}
+use Rattle.device_core.specs.declared.second.SecondStep.{SecondStep}
+use Rattle.device_core.specs.Kept.{open_of}
+use Rattle.device_core.specs.State.{DefinedDevice, device_of, second_seen, step_had}
+use Rattle.subsystem_defs.specs.declared.end.EventEnd as ends_of
+use Rattle.subsystem_defs.specs.declared.end.EventEnd.TheVariants as answers
+use Rattle.subsystem_defs.specs.declared.event.Event.{Event}
+use Rattle.subsystem_defs.specs.declared.end.OrderFault.{OrderFault}
+use Rattle.subsystem_defs.specs.declared.end.OrderFault.TheVariants.{Up}
+use Rattle.subsystem_defs.specs.Refusals.{first_cause, where_so, suspend_fault, resume_fault, replace_fault}
+use Rattle.subsystem_defs.specs.Deeds.{Ends, Becomes, Asks, Each, Repairs, ends_by, may_end_by, ends_done, end_of, is_own, deed}
+use Rattle.subsystem_core.specs.declared.end.EventEnd.{EventEnd}
+use Rattle.subsystem_core.specs.declared.end.EventEnd.TheVariants as ends
+use Rattle.subsystem_core.specs.declared.subsystem.Subsystem.{Subsystem}
+use Rattle.subsystem_core.specs.Comes.{OwnDeed, Talk, with_pool, AskedWith, Changes, Swept, IsNow, IsStill, StartsBy, IsSame, AskedBy, CameBy, Came}
+use Rattle.subsystem_core.specs.Devices.{devices_of, device_at}
+use Rattle.subsystem_core.specs.Ends.{end_had, Answers}
+use Rattle.subsystem_core.proofs.Found.{changed_into, number_found, some_same}
+
+-- A program that runs, as it is seen
+
+pub open_none : (r : Option Running) → option_map (λ (o : OpenEntry). o.path) (option_map open_of r) ≡ None → is_some (option_map open_of r) ≡ false
+open_none None is = refl
+open_none (Some r) is = absurd (cc)
+
+pub open_some : (r : Option Running) (p : ℕ) → option_map (λ (o : OpenEntry). o.path) (option_map open_of r) ≡ Some p → is_some (option_map open_of r) ≡ true
+open_some None p is = absurd (cc)
+open_some (Some r) p is = refl
+
+pub runs : (r : Option Running) (p : ℕ) → option_map (λ (o : OpenEntry). o.path) (option_map open_of r) ≡ Some p → IsSome r
+runs None p is = absurd (cc)
+runs (Some r) p is = refl
+
+-- Whether a track waits
+
+pub none_wait : (n : ℕ) → n ≡ 0 → (n == 0) ≡ true
+none_wait n is = rw is refl
+
+pub some_wait : (n m : ℕ) → m ≡ n → 0 < m → (n == 0) ≡ false
+some_wait n m is more = grind (arith, nat_tests)
+
+up_by : (b : Bool) (rest : List (Option OrderFault)) → first_cause (where_so b Up ∷ rest) ≡ None → b ≡ false
+up_by true rest is = absurd (cc)
+up_by false rest is = refl
+
+-- a path's own program runs
+pub own_runs : (path : ℕ) (o : Option OpenEntry) → is_own path o ≡ is_path_of o path
+own_runs path None = refl
+own_runs path (Some o) = refl
+
+module _ {V : Type 0} {G : Ghosts V} where
+  -- What a device ran, as the event's end
+
+  step_ends : (talk : Talk (Option defs.Stepped)) (pool new : Shared) (x y : Device V G) (s : Stepped) →
+      AskedWith (where_ok {E = NoMemory} (Ok s)) talk (step_had {E = NoMemory} y.past (Ok s)) pool x y new →
+      AskedWith surely (may_end_by answers.Stepped talk) (end_had y.past (Some (ends.Stepped s))) pool x y new
+  step_ends talk pool new x y s ran = λ k. joined _ (ran_weaker (λ ok h. h) (ran k)) done
+
+  step_lacks : (e : NoMemory) (talk : Talk (Option defs.Stepped)) (pool new : Shared) (x y : Device V G) →
+      AskedWith (where_ok {X = Stepped} (Err e)) talk (step_had y.past (Err e)) pool x y new →
+      AskedWith (λ ok. Unit {0}) (may_end_by answers.Stepped talk) None pool x y new
+  step_lacks e talk pool new x y ran = λ k. joined _ (ran_weaker (λ ok h. tt) (ran k)) done
+
+  back_ends : (talk : Talk (Option Did)) (pool new : Shared) (x y : Device V G) (did : Did) →
+      AskedWith (where_ok {E = NoMemory} (Ok did)) talk (Some did) pool x y new →
+      AskedWith surely (may_end_by answers.Back talk) (Some (answers.Back did)) pool x y new
+  back_ends talk pool new x y did ran = λ k. joined _ (ran_weaker (λ ok h. h) (ran k)) done
+
+  back_lacks : (e : NoMemory) (talk : Talk (Option Did)) (pool new : Shared) (x y : Device V G) →
+      AskedWith (where_ok {X = Did} (Err e)) talk None pool x y new →
+      AskedWith (λ ok. Unit {0}) (may_end_by answers.Back talk) None pool x y new
+  back_lacks e talk pool new x y ran = λ k. joined _ (ran_weaker (λ ok h. tt) (ran k)) done
+
+  done_ends : (talk : Talk (Unit {0})) (pool new : Shared) (x y : Device V G) → AskedWith surely talk tt pool x y new →
+      AskedWith surely (ends_by ends_done talk) (Some answers.Done) pool x y new
+  done_ends talk pool new x y ran = λ k. joined _ (ran k) done
+
+  second_by : (talk : Talk SecondEnd) (pool new : Shared) (x y : Device V G) (o : Option SecondEnd) → IsSome o →
+      ((e : SecondEnd) → o ≡ Some e → AskedWith surely talk e pool x y new) →
+      AskedWith surely (ends_by answers.Second talk) (end_of answers.Second o) pool x y new
+  second_by talk pool new x y None is ran = absurd (cc)
+  second_by talk pool new x y (Some e) is ran = λ k. joined _ (ran e refl k) done
+
+  -- Starts
+
+  pub starts_by : (path : ℕ) (r : Result ℕ NoMemory) (o : Result ℕ NotStarted) (x y : Device V G) (fault : NotStarted) →
+      IfOk r (λ n. o ≡ Ok n) → OnErr r (o ≡ Err fault) → IfOk o (λ n. n ≡ next_ordinal (device_of x) path) →
+      OnOk o (device_of y ≡ start (device_of x) path) → OnErr o (device_of y ≡ device_of x) → y.store ≡ x.store → StartsBy path r x y
+  starts_by path (Ok n) o x y fault is lacks ordinal started still store =
+      let number : n ≡ next_ordinal (device_of x) path = rw is at ordinal in
+      let now : device_of y ≡ start (device_of x) path = rw is at started in
+      (number, (now, ap (λ s. s.volume) store))
+  starts_by path (Err e) o x y fault is lacks ordinal started still store =
+      let now : device_of y ≡ device_of x = rw lacks at still in
+      (now, ap (λ s. s.volume) store)
+
+  pub same_number : (x : Device V G) (path : ℕ) → (start (device_of x) path).store.device ≡ x.store.number
+  unfolding start
+  same_number x path = refl
+
+  -- Events
+
+  module _ (old new : Subsystem V G) (e : Event) where
+    came_by : (a : Option EventEnd) (d : OwnDeed) → deed contents old.pool.pool (devices_of old.devices.items) e ≡ d → CameBy d old a new → Came e old a new
+    came_by a d is h = subst (λ x. CameBy x old a new) (sym is) h
+
+    -- a device was asked
+    pub asked_one : (n : ℕ) (x : Device V G) (a : Option EventEnd) (talk : Talk (Option ends_of.EventEnd)) (how : Device V G → Device V G → Type 0) →
+        device_at old.devices.items n ≡ Some x →
+        deed contents old.pool.pool (devices_of old.devices.items) e ≡ Asks (device_of x) talk →
+        ((y : Device V G) → how x y → AskedBy talk old a new x y) → Changes n how old.devices.items new.devices.items → Came e old a new
+    asked_one n x a talk how found is f ch =
+        let number = number_found old.devices.items n x found in
+        came_by a (Asks (device_of x) talk) is
+        (subst (λ m. Changes m (AskedBy talk old a new) old.devices.items new.devices.items) (sym number)
+        (changed_into how (AskedBy talk old a new) found f ch))
+
+    pub commanded : (n : ℕ) (x : Device V G) (how : DefinedDevice → Talk (Option defs.Stepped)) (s : Stepped) →
+        device_at old.devices.items n ≡ Some x →
+        deed contents old.pool.pool (devices_of old.devices.items) e ≡ Asks (device_of x) (may_end_by answers.Stepped (how (device_of x))) →
+        Changes n (λ a y. AskedWith (where_ok {E = NoMemory} (Ok s)) (how (device_of a)) (step_had {E = NoMemory} y.past (Ok s)) old.pool a y new.pool)
+        old.devices.items new.devices.items →
+        Came e old (Some (ends.Stepped s)) new
+    commanded n x how s found is ch =
+        asked_one n x (Some (ends.Stepped s)) (may_end_by answers.Stepped (how (device_of x)))
+        (λ a y. AskedWith (where_ok {E = NoMemory} (Ok s)) (how (device_of a)) (step_had {E = NoMemory} y.past (Ok s)) old.pool a y new.pool) found is
+        (λ y ran. step_ends (how (device_of x)) old.pool new.pool x y s ran) ch
+
+    pub command_lacked : (n : ℕ) (x : Device V G) (how : DefinedDevice → Talk (Option defs.Stepped)) (lack : NoMemory) →
+        device_at old.devices.items n ≡ Some x →
+        deed contents old.pool.pool (devices_of old.devices.items) e ≡ Asks (device_of x) (may_end_by answers.Stepped (how (device_of x))) →
+        Changes n (λ a y. AskedWith (where_ok {X = Stepped} (Err lack)) (how (device_of a)) (step_had y.past (Err lack)) old.pool a y new.pool)
+        old.devices.items new.devices.items →
+        Came e old None new
+    command_lacked n x how lack found is ch =
+        asked_one n x None (may_end_by answers.Stepped (how (device_of x)))
+        (λ a y. AskedWith (where_ok {X = Stepped} (Err lack)) (how (device_of a)) (step_had y.past (Err lack)) old.pool a y new.pool) found is
+        (λ y ran. step_lacks lack (how (device_of x)) old.pool new.pool x y ran) ch
+
+    pub worked : (n : ℕ) (x : Device V G) (how : DefinedDevice → Talk (Option Did)) (did : Did) →
+        device_at old.devices.items n ≡ Some x →
+        deed contents old.pool.pool (devices_of old.devices.items) e ≡ Asks (device_of x) (may_end_by answers.Back (how (device_of x))) →
+        Changes n (λ a y. AskedWith (where_ok {E = NoMemory} (Ok did)) (how (device_of a)) (Some did) old.pool a y new.pool)
+        old.devices.items new.devices.items →
+        Came e old (Some (ends.Back did)) new
+    worked n x how did found is ch =
+        asked_one n x (Some (ends.Back did)) (may_end_by answers.Back (how (device_of x)))
+        (λ a y. AskedWith (where_ok {E = NoMemory} (Ok did)) (how (device_of a)) (Some did) old.pool a y new.pool) found is
+        (λ y ran. back_ends (how (device_of x)) old.pool new.pool x y did ran) ch
+
+    pub work_lacked : (n : ℕ) (x : Device V G) (how : DefinedDevice → Talk (Option Did)) (lack : NoMemory) →
+        device_at old.devices.items n ≡ Some x →
+        deed contents old.pool.pool (devices_of old.devices.items) e ≡ Asks (device_of x) (may_end_by answers.Back (how (device_of x))) →
+        Changes n (λ a y. AskedWith (where_ok {X = Did} (Err lack)) (how (device_of a)) None old.pool a y new.pool)
+        old.devices.items new.devices.items →
+        Came e old None new
+    work_lacked n x how lack found is ch =
+        asked_one n x None (may_end_by answers.Back (how (device_of x)))
+        (λ a y. AskedWith (where_ok {X = Did} (Err lack)) (how (device_of a)) None old.pool a y new.pool) found is
+        (λ y ran. back_lacks lack (how (device_of x)) old.pool new.pool x y ran) ch
+
+    -- which lacks no memory, and tells nothing
+    pub was_done : (n : ℕ) (x : Device V G) (how : DefinedDevice → Talk (Unit {0})) → device_at old.devices.items n ≡ Some x →
+        deed contents old.pool.pool (devices_of old.devices.items) e ≡ Asks (device_of x) (ends_by ends_done (how (device_of x))) →
+        Changes n (λ a y. AskedWith surely (how (device_of a)) tt old.pool a y new.pool) old.devices.items new.devices.items →
+        Came e old (Some ends.Done) new
+    was_done n x how found is ch =
+        asked_one n x (Some ends.Done) (ends_by ends_done (how (device_of x)))
+        (λ a y. AskedWith surely (how (device_of a)) tt old.pool a y new.pool) found is
+        (λ y ran. done_ends (how (device_of x)) old.pool new.pool x y ran) ch
+
+    pub seconded : (n : ℕ) (x : Device V G) (how : DefinedDevice → Talk SecondEnd) (s : SecondStep) → device_at old.devices.items n ≡ Some x →
+        deed contents old.pool.pool (devices_of old.devices.items) e ≡ Asks (device_of x) (ends_by answers.Second (how (device_of x))) →
+        Changes n (λ a y. IsSome (second_seen y.past s) × ((z : SecondEnd) → second_seen y.past s ≡ Some z → AskedWith surely (how
+        (device_of a)) z old.pool a y new.pool))
+        old.devices.items new.devices.items →
+        Came e old (Some (ends.Second s)) new
+    seconded n x how s found is ch =
+        asked_one n x (Some (ends.Second s)) (ends_by answers.Second (how (device_of x)))
+        (λ a y. IsSome (second_seen y.past s) × ((z : SecondEnd) → second_seen y.past s ≡ Some z → AskedWith surely (how
+        (device_of a)) z old.pool a y new.pool))
+        found is (λ y ran. second_by (how (device_of x)) old.pool new.pool x y (second_seen y.past s) ran.0 ran.1) ch
+
+    -- a device became another
+    pub became : (n : ℕ) (x : Device V G) (d : DefinedDevice) (end : ends_of.EventEnd) (a : EventEnd) (how : Device V G → Device V G → Type 0) →
+        device_at old.devices.items n ≡ Some x → deed contents old.pool.pool
+        (devices_of old.devices.items) e ≡ Becomes d end → d.store.device ≡ x.store.number →
+        Answers (Some a) end → new.pool ≡ old.pool → ((y : Device V G) → how x y → IsNow d x y) →
+        Changes n how old.devices.items new.devices.items → Came e old (Some a) new
+    became n x d end a how found is number answers pool f ch =
+        came_by (Some a) (Becomes d end) is (
+          answers,
+          pool,
+          subst (λ m. Changes m (IsNow d) old.devices.items new.devices.items) (sym (number ∙ number_found old.devices.items n x found))
+              (changed_into how (IsNow d) found f ch),
+        )
+
+    pub has_started : (n : ℕ) (x : Device V G) (path ordinal : ℕ) → device_at old.devices.items n ≡ Some x →
+        deed contents old.pool.pool (devices_of old.devices.items) e ≡ Becomes (start (device_of x) path) (answers.Started (next_ordinal (device_of x) path)) →
+        new.pool ≡ old.pool → Changes n (StartsBy {E = NoMemory} path (Ok ordinal)) old.devices.items new.devices.items →
+        Came e old (Some (ends.Started ordinal)) new
+    has_started n x path ordinal found is pool ch =
+        let how = StartsBy {E = NoMemory} path (Ok ordinal) in
+        let same : ch.before ≡ x = some_same (sym ch.stood ∙ found) in
+        let number : ordinal ≡ next_ordinal (device_of x) path =
+        subst (λ (z : Device V G). ordinal ≡ next_ordinal (device_of z) path) same ch.is_so.0 in
+        became n x (start (device_of x) path) (answers.Started (next_ordinal (device_of x) path)) (ends.Started ordinal) how found is (same_number x path)
+        (λ p. ap (λ m. Some (answers.Started m)) number) pool (λ y so. so.1) ch
+
+    -- or it didn't, as memory was lacking
+    pub became_none : (n : ℕ) (x : Device V G) (d : DefinedDevice) (end : ends_of.EventEnd) →
+        device_at old.devices.items n ≡ Some x → deed contents old.pool.pool
+        (devices_of old.devices.items) e ≡ Becomes d end → d.store.device ≡ x.store.number →
+        new.pool ≡ old.pool → Changes n IsStill old.devices.items new.devices.items → Came e old None new
+    became_none n x d end found is number pool ch =
+        came_by None (Becomes d end) is
+        (pool, subst (λ m. Changes m IsStill old.devices.items new.devices.items) (sym (number ∙ number_found old.devices.items n x found)) ch)
+
+    -- all devices
+    pub all_swept : (p : Pool) (f : DefinedDevice → Talk (Unit {0})) (q : Shared) → deed contents old.pool.pool (devices_of old.devices.items) e ≡ Each p f →
+        q ≡ with_pool old.pool p → Swept f q old.devices.items new.devices.items new.pool → Came e old (Some ends.Done) new
+    all_swept p f q is same swept =
+        came_by (Some ends.Done) (Each p f) is
+        ((λ h. refl), subst (λ z. Swept f z old.devices.items new.devices.items new.pool) same swept)
+
+    pub repaired : (p : Pool) → deed contents old.pool.pool (devices_of old.devices.items) e ≡ Repairs p → new.pool ≡ with_pool old.pool p →
+        new.devices.items ≡ old.devices.items → Came e old (Some ends.Done) new
+    repaired p is pool devices = came_by (Some ends.Done) (Repairs p) is ((λ h. refl), pool, devices)
+
+    -- nothing changed
+    pub ended : (end : ends_of.EventEnd) (a : EventEnd) → deed contents old.pool.pool (devices_of old.devices.items) e ≡ Ends end →
+        Answers (Some a) end → IsSame old new → Came e old (Some a) new
+    ended end a is answers same = came_by (Some a) (Ends end) is (answers, same)
+
+  -- Orders
+
+  pub never_held : (x : Device V G) → suspend_fault (device_of x) ≡ None → ⊥
+  unfolding suspend_fault
+  never_held x is = cc
+
+  pub never_resumed : (x : Device V G) → resume_fault (device_of x) ≡ None → ⊥
+  unfolding resume_fault
+  never_resumed x is = cc
+
+  -- a side that may get another volume is there, and failed
+  pub is_side_a : (x : Device V G) (side : Side) → replace_fault (device_of x) side ≡ None → side ≡ A
+  unfolding replace_fault
+  is_side_a x A is = refl
+  is_side_a x B is = absurd (cc)
+
+  pub is_down : (x : Device V G) (side : Side) → replace_fault (device_of x) side ≡ None → (side_of (device_of x).store side).up ≡ false
+  unfolding replace_fault
+  is_down x A is = up_by x.store.up _ is
+  is_down x B is = absurd (cc)
+
+  pub same_replaced : (x y : Device V G) (side : Side) → device_of y ≡ replace (device_of x) side → y.store.number ≡ x.store.number
+  same_replaced x y A is = ap (λ (d : DefinedDevice). d.store.device) is
+  same_replaced x y B is = ap (λ (d : DefinedDevice). d.store.device) is

@@ -1,0 +1,30 @@
+use Rattle.std.proofs.Common.{◌≡◌, ◌<◌, ◌∙◌, refl, add-one, arith, get_or, length}
+use Rattle.device_defs.specs.Contents.{contents}
+use Rattle.device_defs.specs.Events.{lose}
+use Rattle.device_core.specs.State.{DefinedDevice}
+use Rattle.subsystem_core.specs.Comes.{Talk, over}
+use Rattle.subsystem_core.proofs.Found.{numbers_kept, read_again}
+use Rattle.subsystem_core.proofs.Sweeping.{swept_more, rest_more, swept_all}
+use Rattle.subsystem_core.proofs.each.lose_each.Goals as goal
+
+pub loop-i-init : goal.loop-i-init
+loop-i-init g c = record { numbers = refl; rest = refl; each = over }
+
+pub loop-i-preserved : goal.loop-i-preserved
+loop-i-preserved g c =
+    let ds = c.loop-i.devices in
+    let f : DefinedDevice → Talk (Unit {0}) = λ x. lose contents x c.args.loss in
+    let within : c.loop-i.i < length ds = omega arith in
+    let here : c.loop-i.i < length c.args.devices.now = omega arith in
+    let x = get_or ds c.loop-i.i c.index-devices-i.result in
+    let read : x ≡ get_or ds c.loop-i.i x = read_again ds c.loop-i.i c.index-devices-i.result within in
+    record {
+      numbers = numbers_kept ds c.loop-i.i x c.lose.new.self read c.lose.ensures.fixed.0 ∙ c.loop-i.invariant.numbers;
+      rest = rw add-one (rest_more f c.loop-i.i c.args.devices.now ds c.lose.new.self here within c.loop-i.invariant.rest);
+      each = rw add-one (swept_more f c.loop-i.i c.args.devices.now ds x c.lose.new.self within c.loop-i.invariant.rest read c.loop-i.invariant.each
+          c.lose.ensures.run);
+    }
+
+pub returns-clause-each : goal.returns-clause-each
+returns-clause-each g c =
+    swept_all (λ x. lose contents x c.args.loss) c.loop-i.i c.args.devices.now c.loop-i.devices c.loop-i-test.false (omega arith) c.loop-i.invariant.each

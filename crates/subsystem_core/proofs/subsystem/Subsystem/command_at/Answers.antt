@@ -1,0 +1,23 @@
+use Rattle.std.specs.Prelude.{IsSome}
+use Rattle.subsystem_core.proofs.Found.{changed, numbers_kept, held}
+use Rattle.subsystem_core.proofs.subsystem.Subsystem.command_at.Goals as goal
+
+pub command-requires : goal.command-requires
+command-requires g c =
+    held c.args.self.now.devices.items c.args.d c.place-at.result c.index_mut.result.now (λ x. IsSome x.past.running) c.args.self.now.rising
+    c.place-at.ensures.range c.place-at.ensures.found c.index_mut.ensures.value c.requires.running
+
+pub invariant_of-self : goal.invariant_of-self
+invariant_of-self g c =
+    let same = numbers_kept c.args.self.now.devices.items c.place-at.result c.index_mut.result.now c.command.new.self c.index_mut.ensures.value
+    c.command.ensures.fixed.0 in
+    record { rising = rw same c.args.self.now.rising; table = rw same c.args.self.now.table }
+
+pub returns-clause-numbers : goal.returns-clause-numbers
+returns-clause-numbers g c =
+    numbers_kept c.args.self.now.devices.items c.place-at.result c.index_mut.result.now c.command.new.self c.index_mut.ensures.value c.command.ensures.fixed.0
+
+pub returns-clause-asked : goal.returns-clause-asked
+returns-clause-asked g c =
+    changed c.args.self.now.devices.items c.args.d c.place-at.result c.index_mut.result.now c.command.new.self _ c.args.self.now.rising
+    c.place-at.ensures.range c.place-at.ensures.found c.index_mut.ensures.value (c.command.ensures.run)

@@ -1,0 +1,66 @@
+use Rattle.std.proofs.Common.{◌≡◌, true, false}
+use Rattle.subsystem_defs.specs.declared.event.Event.{Event}
+use Rattle.subsystem_core.specs.Comes.{Came}
+use Rattle.subsystem_core.specs.Devices.{numbers_of}
+use Rattle.subsystem_core.specs.Places.{may_come}
+use Rattle.subsystem_core.proofs.subsystem.Subsystem.event.Goals as goal
+
+pub start-requires : goal.start-requires
+start-requires g c = rw c.in-Start.is at c.requires
+
+pub step-requires : goal.step-requires
+step-requires g c = rw c.in-Step.is at c.requires
+
+pub back-requires : goal.back-requires
+back-requires g c = rw c.in-Back.is at c.requires
+
+pub reset-requires : goal.reset-requires
+reset-requires g c = rw c.in-Reset.is at c.requires
+
+pub fail_volume-requires : goal.fail_volume-requires
+fail_volume-requires g c = rw c.in-FailVolume.is at c.requires
+
+pub suspend-requires : goal.suspend-requires
+suspend-requires g c = rw c.in-Suspend.is at c.requires
+
+pub resume-requires : goal.resume-requires
+resume-requires g c = rw c.in-Resume.is at c.requires
+
+pub unreachable-requires : goal.unreachable-requires
+unreachable-requires g c = let h : false ≡ true = rw c.in-Pair.is at c.requires in cc
+
+pub returns-in-Start-clause-came : goal.returns-in-Start-clause-came
+returns-in-Start-clause-came g c = rw c.in-Start.is c.start.ensures.came
+
+pub returns-in-Step-clause-came : goal.returns-in-Step-clause-came
+returns-in-Step-clause-came g c = rw c.in-Step.is c.step.ensures.came
+
+pub returns-in-Back-clause-came : goal.returns-in-Back-clause-came
+returns-in-Back-clause-came g c = rw c.in-Back.is c.back.ensures.came
+
+pub returns-in-Reset-clause-came : goal.returns-in-Reset-clause-came
+returns-in-Reset-clause-came g c = rw c.in-Reset.is c.reset.ensures.came
+
+pub returns-in-FailVolume-clause-came : goal.returns-in-FailVolume-clause-came
+returns-in-FailVolume-clause-came g c = rw c.in-FailVolume.is c.fail_volume.ensures.came
+
+pub returns-in-Suspend-clause-came : goal.returns-in-Suspend-clause-came
+returns-in-Suspend-clause-came g c = rw c.in-Suspend.is c.suspend.ensures.came
+
+pub returns-in-Resume-clause-came : goal.returns-in-Resume-clause-came
+returns-in-Resume-clause-came g c = rw c.in-Resume.is c.resume.ensures.came
+
+pub returns-in-FailCache-clause-came : goal.returns-in-FailCache-clause-came
+returns-in-FailCache-clause-came g c = rw c.in-FailCache.is c.fail_cache.ensures.came
+
+pub returns-in-FailStore-clause-came : goal.returns-in-FailStore-clause-came
+returns-in-FailStore-clause-came g c = rw c.in-FailStore.is c.fail_store.ensures.came
+
+pub returns-in-RepairCache-clause-came : goal.returns-in-RepairCache-clause-came
+returns-in-RepairCache-clause-came g c = rw c.in-RepairCache.is c.repair_cache.ensures.came
+
+pub returns-in-RepairStore-clause-came : goal.returns-in-RepairStore-clause-came
+returns-in-RepairStore-clause-came g c = rw c.in-RepairStore.is c.repair_store.ensures.came
+
+pub returns-in-Power-clause-came : goal.returns-in-Power-clause-came
+returns-in-Power-clause-came g c = rw c.in-Power.is c.power.ensures.came

@@ -1,0 +1,44 @@
+use Rattle.std.proofs.Common.{◌≡◌, ◌∙◌, refl, sym, ap, subst, Some, None, true, false}
+use Rattle.device_defs.specs.Contents.{contents}
+use Rattle.device_core.specs.State.{device_of}
+use Rattle.subsystem_defs.specs.declared.end.EventEnd.TheVariants as answers
+use Rattle.subsystem_core.specs.declared.end.EventEnd.TheVariants as ends
+use Rattle.subsystem_defs.specs.declared.event.Event.TheVariants as events
+use Rattle.device_defs.specs.Events.{second}
+use Rattle.device_defs.specs.Command.{command}
+use Rattle.subsystem_core.specs.Devices.{devices_of, device_at}
+use Rattle.subsystem_core.proofs.Coming.{commanded, command_lacked, ended, open_none, open_some, runs, seconded}
+use Rattle.subsystem_core.proofs.Deeds as deeds
+use Rattle.subsystem_core.proofs.Found.{found_in}
+use Rattle.subsystem_core.proofs.subsystem.Subsystem.step.Goals as goal
+
+pub command_at-requires-clause-running : goal.command_at-requires-clause-running
+command_at-requires-clause-running g c =
+    rw c.device-device.ensures (runs c.device-device.result.now.past.running _ (sym c.active.ensures ∙ c.in-Some.is))
+
+pub returns-then-half_open-clause-came : goal.returns-then-half_open-clause-came
+returns-then-half_open-clause-came g c =
+    seconded c.args.self.now _ (events.Step c.args.d) c.args.d c.device-device.result.now (second contents) c.second_at.result c.device-device.ensures
+    (deeds.second_first contents _ _ _ _ (found_in c.args.self.now.devices.items c.args.d _ c.device-device.ensures)
+    (sym c.half_open.ensures ∙ c.if-half_open.true)) c.second_at.ensures.asked
+
+pub returns-in-None-clause-came : goal.returns-in-None-clause-came
+returns-in-None-clause-came g c =
+    ended c.args.self.now _ (events.Step c.args.d) answers.Idle ends.Idle
+    (deeds.idle contents _ _ _ _ (found_in c.args.self.now.devices.items c.args.d _ c.device-device.ensures)
+    (sym c.half_open.ensures ∙ c.if-half_open.false) (open_none c.device-device.result.now.past.running (sym c.active.ensures ∙ c.in-None.is)))
+    (λ p. refl) (refl, refl)
+
+pub returns-in-Err-clause-came : goal.returns-in-Err-clause-came
+returns-in-Err-clause-came g c =
+    command_lacked c.args.self.now _ (events.Step c.args.d) c.args.d c.device-device.result.now (command contents) _ c.device-device.ensures
+    (deeds.commanded contents _ _ _ _ (found_in c.args.self.now.devices.items c.args.d _ c.device-device.ensures)
+    (sym c.half_open.ensures ∙ c.if-half_open.false) (open_some c.device-device.result.now.past.running _
+    (sym c.active.ensures ∙ c.in-Some.is))) c.in-Err.ensures.asked
+
+pub returns-in-Ok-clause-came : goal.returns-in-Ok-clause-came
+returns-in-Ok-clause-came g c =
+    commanded c.args.self.now _ (events.Step c.args.d) c.args.d c.device-device.result.now (command contents) c.in-Ok.step c.device-device.ensures
+    (deeds.commanded contents _ _ _ _ (found_in c.args.self.now.devices.items c.args.d _ c.device-device.ensures)
+    (sym c.half_open.ensures ∙ c.if-half_open.false) (open_some c.device-device.result.now.past.running _
+    (sym c.active.ensures ∙ c.in-Some.is))) c.in-Ok.ensures.asked

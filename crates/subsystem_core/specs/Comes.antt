@@ -1,0 +1,116 @@
+-- What an event came to, between the subsystem before and behind it. An answer of None says that memory was lacking.
+use Rattle.std.specs.Prelude.{◌≡◌, ℕ, Bool, List, [], ◌∷◌, Option, Some, None, Result, Ok, Err}
+use Rattle.ckd_types.specs.declared.paths.Side.{Side}
+use Rattle.nv_store.specs.declared.patches.Stored.{Stored}
+use Rattle.track_cache.specs.declared.frames.Frame.{Frame}
+use Rattle.track_image.specs.Image.{Image}
+use Rattle.device_outside.specs.declared.keep.NoKeep.{NoKeep}
+use Rattle.device_outside.specs.declared.volume.Volume.{Ghosts}
+use Rattle.device_outside.specs.Interaction.{Interaction}
+use Rattle.device_outside.specs.Keeper.{reply}
+use Rattle.device_outside.specs.Outside.{PortView, Ran}
+use Rattle.device_outside.specs.Pool.{Pool}
+use Rattle.frame_pool.specs.Shared.{Shared, shared_view}
+use Rattle.device_defs.specs.Contents.{contents}
+use Rattle.device_defs.specs.Orders.{replace}
+use Rattle.device_defs.specs.Start.{start, next_ordinal}
+use Rattle.device_store.specs.State.{outside, surely}
+use Rattle.device_core.specs.declared.device.Device.{Device}
+use Rattle.device_core.specs.State.{DefinedDevice, device_of}
+use Rattle.subsystem_defs.specs.declared.end.EventEnd as defs
+use Rattle.subsystem_defs.specs.declared.end.EventEnd.TheVariants.{Done, Refused}
+use Rattle.subsystem_defs.specs.declared.end.OrderFault.{OrderFault}
+use Rattle.subsystem_defs.specs.declared.event.Event.{Event}
+use Rattle.subsystem_defs.specs.Deeds.{Deed, Ends, Becomes, Asks, Each, Repairs, Lends, deed}
+use Rattle.subsystem_defs.specs.Refusals.{replace_fault}
+use Rattle.subsystem_core.specs.declared.end.EventEnd.{EventEnd}
+use Rattle.subsystem_core.specs.declared.subsystem.Subsystem.{Subsystem}
+use Rattle.subsystem_core.specs.Devices.{devices_of, device_at, put_at}
+use Rattle.subsystem_core.specs.Ends.{end_had, where_some, Answers}
+
+abbrev pub OwnDeed : Type 0
+OwnDeed = Deed Frame Stored Image (List ℕ)
+
+abbrev pub Talk : Type 0 → Type 0
+Talk A = Interaction (List ℕ) Image DefinedDevice A
+
+abbrev pub with_pool : Shared → Pool → Shared
+with_pool s pool = record s { pool = pool }
+
+module _ {V : Type 0} {G : Ghosts V} where
+  -- Devices
+
+  -- a device ran this between what the pool tells, its volume tells and a keeper that keeps nothing
+  abbrev pub AskedWith : {A : Type 0} → (Bool → Type 0) → Talk A → A → Shared → Device V G → Device V G → Shared → Type 0
+  AskedWith had talk answer pool before behind new =
+      (k : NoKeep) → Ran had (λ _ m r _. r ≡ reply m) talk (outside (shared_view pool) before.store k) (device_of behind) answer (outside
+      (shared_view new) behind.store k)
+
+  -- one device is another now, which is so to it; all others, and their volumes, are as they were
+  pub record Changes (n : ℕ) (how : Device V G → Device V G → Type 0) (old new : List (Device V G)) : Type 0 where
+    pub before : Device V G
+    pub behind : Device V G
+    pub stood : device_at old n ≡ Some before
+    pub stands : new ≡ put_at old n behind
+    pub is_so : how before behind
+
+  -- it is this device now, on the same volume
+  abbrev pub IsNow : DefinedDevice → Device V G → Device V G → Type 0
+  IsNow d before behind = (device_of behind ≡ d) × (behind.store.volume ≡ before.store.volume)
+
+  abbrev pub IsStill : Device V G → Device V G → Type 0
+  IsStill before behind = IsNow (device_of before) before behind
+
+  -- the path's next program started, or memory was lacking
+  abbrev pub StartsBy : {E : Type 0} → ℕ → Result ℕ E → Device V G → Device V G → Type 0
+  StartsBy path (Ok n) before behind = (n ≡ next_ordinal (device_of before) path) × IsNow (start (device_of before) path) before behind
+  StartsBy path (Err e) before behind = IsStill before behind
+
+  -- each device in its turn ran this, and the pool went on from one to the next
+  pub data Swept (f : DefinedDevice → Talk (Unit {0})) : Shared → List (Device V G) → List (Device V G) → Shared → Type 0 where
+    over : {pool : Shared} → Swept f pool [] [] pool
+    next : {pool behind last : Shared} {x y : Device V G} {xs ys : List (Device V G)} → AskedWith surely (f (device_of x)) tt pool x y behind →
+        Swept f behind xs ys last → Swept f pool (x ∷ xs) (y ∷ ys) last
+
+  -- Events
+
+  abbrev pub IsSame : Subsystem V G → Subsystem V G → Type 0
+  IsSame old new = (new.pool ≡ old.pool) × (new.devices.items ≡ old.devices.items)
+
+  -- at want of memory the device is what it was
+  abbrev pub BecameBy : DefinedDevice → defs.EventEnd → Subsystem V G → Option EventEnd → Subsystem V G → Type 0
+  BecameBy d end old (Some a) new =
+      Answers (Some a) end × (new.pool ≡ old.pool) × Changes d.store.device (IsNow d) old.devices.items new.devices.items
+  BecameBy d end old None new = (new.pool ≡ old.pool) × Changes d.store.device IsStill old.devices.items new.devices.items
+
+  abbrev pub AskedBy : Talk (Option defs.EventEnd) → Subsystem V G → Option EventEnd → Subsystem V G → Device V G → Device V G → Type 0
+  AskedBy talk old a new before behind = AskedWith (where_some a) talk (end_had behind.past a) old.pool before behind new.pool
+
+  -- no order is met yet that lends a device to another
+  abbrev pub CameBy : OwnDeed → Subsystem V G → Option EventEnd → Subsystem V G → Type 0
+  CameBy (Ends end) old a new = Answers a end × IsSame old new
+  CameBy (Becomes d end) old a new = BecameBy d end old a new
+  CameBy (Asks d talk) old a new = Changes d.store.device (AskedBy talk old a new) old.devices.items new.devices.items
+  CameBy (Each pool f) old a new = Answers a Done × Swept f (with_pool old.pool pool) old.devices.items new.devices.items new.pool
+  CameBy (Repairs pool) old a new = Answers a Done × (new.pool ≡ with_pool old.pool pool) × (new.devices.items ≡ old.devices.items)
+  CameBy (Lends x y) old a new = ⊥
+
+  -- an event came, with this answer
+  abbrev pub Came : Event → Subsystem V G → Option EventEnd → Subsystem V G → Type 0
+  Came e old a new = CameBy (deed contents old.pool.pool (devices_of old.devices.items) e) old a new
+
+  -- The order for which a volume is handed in
+
+  abbrev pub IsReplaced : Side → V → Device V G → Device V G → Type 0
+  IsReplaced side volume before behind = (device_of behind ≡ replace (device_of before) side) × (behind.store.volume ≡ volume)
+
+  -- refused, it drops the volume
+  abbrev pub ReplacedBy : ℕ → Side → V → Option OrderFault → Subsystem V G → EventEnd → Subsystem V G → Type 0
+  ReplacedBy d side volume (Some fault) old end new = Answers (Some end) (Refused fault) × IsSame old new
+  ReplacedBy d side volume None old end new =
+      Answers (Some end) Done × (new.pool ≡ old.pool) × Changes d (IsReplaced side volume) old.devices.items new.devices.items
+
+  -- the device of this number is this one, and a side of it got a volume
+  abbrev pub Replaced : ℕ → Side → V → Option (Device V G) → Subsystem V G → EventEnd → Subsystem V G → Type 0
+  Replaced d side volume (Some x) old end new = ReplacedBy d side volume (replace_fault (device_of x) side) old end new
+  Replaced d side volume None old end new = ⊥

@@ -1,0 +1,5 @@
+pub mod Places
+pub mod Devices
+pub mod Ends
+pub mod Comes
+pub mod Runs

@@ -1,0 +1,18 @@
+//! A subsystem: a pool that is shared, and its devices. An order that makes or parts a pair doesn't run yet.
+#![tactic(auto)]
+
+mod asking;
+mod each;
+mod end;
+mod event;
+mod order;
+mod place;
+mod refusal;
+mod run;
+mod subsystem;
+
+pub use end::{EventEnd, EventEnds};
+pub use refusal::{
+    fail_fault, pair_fault, replace_fault, resume_fault, suspend_fault, unpair_fault,
+};
+pub use subsystem::Subsystem;

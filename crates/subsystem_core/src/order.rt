@@ -1,0 +1,41 @@
+ghost use Rattle.std.specs.Prelude.{◌≡◌, ◌*◌, IfOk, IfSome, IsOk, None, false, true};
+ghost use Rattle.device_outside.specs.Lists.{is_in};
+ghost use Rattle.device_core.specs.State.{device_of};
+ghost use Rattle.subsystem_defs.specs.Refusals.{replace_fault};
+ghost use Rattle.subsystem_core.specs.Comes.{Changes, IsReplaced, Replaced};
+ghost use Rattle.subsystem_core.specs.Devices.{device_at, numbers_of};
+
+use crate::refusal::replace_fault;
+use crate::{EventEnd, Subsystem};
+use ckd_types::{DeviceNo, NoMemory, Side};
+use device_outside::Volume;
+
+impl<V: Volume> Subsystem<V> {
+    /// A side gets another volume. The old one is dropped.
+    fn replace_at(&mut self, d: DeviceNo, side: Side, volume: V)
+        requires here { is_in d (numbers_of self.old.devices.items) ≡ true }
+        requires fine { IfSome (device_at self.old.devices.items d) (λ x. replace_fault (device_of x) side ≡ None) }
+        requires size { IfSome (device_at self.old.devices.items d) (λ x. (V.view volume).tracks ≡ x.store.cylinders * 15) }
+        ensures numbers { numbers_of self.new.devices.items ≡ numbers_of self.old.devices.items }
+        ensures pool { self.new.pool ≡ self.old.pool }
+        ensures replaced { Changes d (IsReplaced side volume) self.old.devices.items self.new.devices.items }
+    {
+        let at = self.place(d);
+        let _old = self.devices[at].replace(side, volume);
+    }
+
+    /// A new volume of empty tracks, 15 for each cylinder, in place of a failed side's. Takes no memory, so that it is always had.
+    pub fn replace(&mut self, d: DeviceNo, side: Side, volume: V) -> Result<EventEnd, (NoMemory, V)>
+        requires here { is_in d (numbers_of self.old.devices.items) ≡ true }
+        requires size { IfSome (device_at self.old.devices.items d) (λ x. (V.view volume).tracks ≡ x.store.cylinders * 15) }
+        ensures numbers { numbers_of self.new.devices.items ≡ numbers_of self.old.devices.items }
+        ensures had { IsOk result }
+        ensures replaced { IfOk result (λ end. Replaced d side volume (device_at self.old.devices.items d) self.old end self.new) }
+    {
+        if let Some(fault) = replace_fault(self.device(d), side) {
+            return Ok(EventEnd::Refused(fault));
+        }
+        self.replace_at(d, side, volume);
+        Ok(EventEnd::Done)
+    }
+}
