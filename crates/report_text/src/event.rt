@@ -1,4 +1,4 @@
-ghost use Rattle.std.specs.Prelude.{◌≡◌, ◌++◌, OnErr, OnOk, map};
+ghost use Rattle.std.specs.Prelude.{◌≡◌, ◌++◌, IsErr, OnErr, OnOk, map, take};
 ghost use Rattle.report_text.specs.Events.{ended_lines, event_lines, first_lines, io_lines, last_line, line_if, loosed_line, program_over_lines};
 ghost use Rattle.report_text.specs.Record.{IsFront};
 
@@ -149,18 +149,13 @@ impl RunRecord {
         }
     }
 
-    /// The lines of an event, or for want of memory a front of them.
-    fn push_parts(&mut self, event: RunEvent) -> Result<(), NoMemory>
-        ensures did { OnOk result (self.new ≡ self.old ++ event_lines event.entry) }
-        ensures front { OnErr result (IsFront self.old self.new) }
+    /// The first lines alone, and want of memory.
+    fn undone(&mut self, count: usize) -> Result<(), NoMemory>
+        ensures fails { IsErr result }
+        ensures cut { self.new ≡ take count self.old }
     {
-        let last = last_line(&event.happened);
-        self.push_first(event.happened)?;
-        self.push_loosed(event.loosed)?;
-        self.push_calls(event.reads, event.writes)?;
-        self.push_program_over(&event.over)?;
-        self.push_last(last)?;
-        Ok(())
+        self.cut(count);
+        Err(NoMemory)
     }
 
     /// The lines of an event, in the order in which a report has them; for want of memory none.
@@ -169,12 +164,22 @@ impl RunRecord {
         ensures same { OnErr result (self.new ≡ self.old) }
     {
         let count = self.len();
-        match self.push_parts(event) {
-            Ok(()) => Ok(()),
-            Err(e) => {
-                self.cut(count);
-                Err(e)
-            }
+        let last = last_line(&event.happened);
+        if self.push_first(event.happened).is_err() {
+            return self.undone(count);
         }
+        if self.push_loosed(event.loosed).is_err() {
+            return self.undone(count);
+        }
+        if self.push_calls(event.reads, event.writes).is_err() {
+            return self.undone(count);
+        }
+        if self.push_program_over(&event.over).is_err() {
+            return self.undone(count);
+        }
+        if self.push_last(last).is_err() {
+            return self.undone(count);
+        }
+        Ok(())
     }
 }
