@@ -15,6 +15,8 @@ mod run;
 mod seen;
 mod start;
 mod step;
+#[cfg(test)]
+mod tests;
 mod turns;
 
 pub use device::Device;
