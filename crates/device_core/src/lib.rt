@@ -20,6 +20,8 @@ mod second;
 mod seen;
 mod start;
 mod step;
+#[cfg(test)]
+mod tests;
 mod turns;
 
 pub use device::Device;
