@@ -19,8 +19,6 @@ mod same;
 mod state;
 mod status;
 mod task;
-#[cfg(test)]
-mod tests;
 mod texts;
 mod work;
 

@@ -9,4 +9,6 @@ mod generated;
 #[cfg(test)]
 mod lines;
 #[cfg(test)]
+mod replays;
+#[cfg(test)]
 mod reports;
