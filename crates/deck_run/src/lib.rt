@@ -1,0 +1,6 @@
+//! The run of a deck over a subsystem of devices in memory, and the lines of what happens in it.
+#![tactic(auto)]
+
+mod open;
+
+pub use open::{has_open_devices, open_deck};
