@@ -2,3 +2,5 @@ pub mod Lines
 pub mod Opened
 pub mod Surely
 pub mod Stays
+pub mod Found
+pub mod Events
