@@ -118,3 +118,10 @@ module _ {V : Type 0} {G : Ghosts V} where
 
   pub stand_all : (xs : List (Device V G)) (i : ℕ) → length xs ≤ i → ChainsStand (take i xs) → ChainsStand xs
   stand_all xs i past all = subst ChainsStand (take_all i xs past) all
+
+  own_append : (xs : List (Device V G)) (x : Device V G) → AreOwn xs → IsOwn (device_of x) → AreOwn (xs ++ x ∷ [])
+  own_append [] x all is = (is, tt)
+  own_append (y ∷ xs) x all is = (all.0, own_append xs x all.1 is)
+
+  pub own_more : (xs ys : List (Device V G)) (x : Device V G) → ys ≡ xs ++ x ∷ [] → AreOwn xs → IsOwn (device_of x) → AreOwn ys
+  own_more xs ys x are all is = subst AreOwn (sym are) (own_append xs x all is)

@@ -4,3 +4,4 @@ pub mod Surely
 pub mod Stays
 pub mod Found
 pub mod Events
+pub mod Going

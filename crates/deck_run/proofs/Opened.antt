@@ -1,6 +1,8 @@
 -- What is opened stands as a run has it.
 use Rattle.std.proofs.Common.{◌≡◌, ◌≤◌, ◌∙◌, ◌++◌, ◌∷◌, [], map, ℕ, true, false, List, refl, sym, ap, subst, arith}
 use Rattle.std.proofs.lemmas.Bool.Decides.{nat_tests}
+use Rattle.ckd_types.specs.declared.geometry.Geometry.{Geometry}
+use Rattle.deck_run.specs.Owning.{PlansGive, IsOwn}
 use Rattle.deck_text.specs.declared.line.DeviceLine.{DeviceLine}
 use Rattle.deck_text.specs.DeckLines.{DeckLines}
 use Rattle.deck_text.specs.Plans.{plans_of}
@@ -73,3 +75,6 @@ module _ {V : Type 0} {G : Ghosts V} where
       subst (λ (l : List Stood). AreMounted p l (map (opened_device deck) (ds ++ d ∷ []))) (sym (mapped_more stood_of xs x))
       (subst (λ (l : List defs.Mounted). AreMounted p (all_stood xs ++ stood_of x ∷ []) l) (sym (mapped_more (opened_device deck) ds d))
       (mounted_more p (all_stood xs) (map (opened_device deck) ds) (stood_of x) (opened_device deck d) are is))
+
+pub opened_own : (x : DefinedDevice) (n : ℕ) (g : Geometry) (cylinders : ℕ) (plans : Plans) → x ≡ opened_by n g cylinders plans → PlansGive plans → IsOwn x
+opened_own x n g cylinders plans is gives = subst IsOwn (sym is) (record { plans = gives; chain = tt })

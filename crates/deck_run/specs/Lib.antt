@@ -1,3 +1,4 @@
 pub mod Opening
 pub mod Owning
 pub mod Standing
+pub mod Going

@@ -2,6 +2,10 @@
 #![tactic(auto)]
 
 mod event;
+mod giving;
+mod line;
 mod open;
+mod run;
 
 pub use open::{has_open_devices, open_deck};
+pub use run::run_deck;

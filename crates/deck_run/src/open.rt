@@ -4,8 +4,11 @@ ghost use Rattle.subsystem_core.specs.Devices.{numbers_of};
 ghost use Rattle.subsystem_defs.specs.Decks.{failing_of, is_same, opened, opened_device};
 ghost use Rattle.subsystem_laws.specs.Stood.{AreMounted, IsMounted};
 ghost use Rattle.deck_run.specs.Opening.{are_open, is_behind, is_open_device, numbers_in, uncached};
+ghost use Rattle.device_core.specs.State.{device_of};
+ghost use Rattle.deck_run.specs.Owning.{AreOwn, IsOwn};
 ghost use Rattle.deck_run.specs.Standing.{StandsAs, all_stood, stood_of};
 
+use crate::giving::plans_give;
 use ckd_types::{DeviceNo, NoMemory};
 use deck_text::{Deck, DeviceLine};
 use device_core::Device;
@@ -71,11 +74,13 @@ fn open_device(alloc: Global, deck: &Deck, line: DeviceLine) -> Result<Device<Me
     requires { is_open_device line ≡ true }
     ensures number { IfOk result (λ made. made.store.number ≡ line.number) }
     ensures mounted { (p : pools.Pool) → IfOk result (λ made. IsMounted p (stood_of made) (opened_device deck.now line)) }
+    ensures own { IfOk result (λ made. IsOwn (device_of made)) }
 {
     let reads = failing_of(alloc, deck, false, line.number)?;
     let writes = failing_of(alloc, deck, true, line.number)?;
     let volume = MemVolume::new(alloc, line.cylinders, &reads, &writes)?;
     let plans = deck.plans(line.number).copy(alloc)?;
+    plans_give(&plans);
     match Device::open(
         alloc,
         line.number,
@@ -93,6 +98,7 @@ fn open_devices(alloc: Global, deck: &Deck) -> Result<Vec<Device<MemVolume>>, No
     requires { are_open deck.now.devices ≡ true }
     ensures numbers { IfOk result (λ made. numbers_of made.items ≡ numbers_in deck.now.devices) }
     ensures mounted { (p : pools.Pool) → IfOk result (λ made. AreMounted p (all_stood made.items) (map (opened_device deck.now) deck.now.devices)) }
+    ensures own { IfOk result (λ made. AreOwn made.items) }
 {
     let mut made = Vec::new(alloc);
     for i in 0..deck.device_count() {
@@ -105,7 +111,9 @@ fn open_devices(alloc: Global, deck: &Deck) -> Result<Vec<Device<MemVolume>>, No
 /// slots, whatever the deck's CACHE and STORE lines say: no track has a place for a frame or a patch yet.
 pub fn open_deck(alloc: Global, deck: &Deck) -> Result<Subsystem<MemVolume>, NoMemory>
     requires { are_open deck.now.devices ≡ true }
-    ensures { IfOk result (λ made. StandsAs made (opened (uncached deck.now))) }
+    ensures stands { IfOk result (λ made. StandsAs made (opened (uncached deck.now))) }
+    ensures numbers { IfOk result (λ made. numbers_of made.devices.items ≡ numbers_in deck.now.devices) }
+    ensures own { IfOk result (λ made. AreOwn made.devices.items) }
 {
     let devices = open_devices(alloc, deck)?;
     let pool = Pool::new(alloc, 0, 0)?;

@@ -11,8 +11,14 @@ pub new-requires-2 : goal.new-requires-2
 new-requires-2 c =
     subst (λ (l : List ℕ). are_rising l ≡ true) (sym c.in_ok-devices.ensures.numbers) (numbers_rise c.args.deck.now.devices None c.requires)
 
-pub returns : goal.returns
-returns c =
+pub returns-clause-stands : goal.returns-clause-stands
+returns-clause-stands c =
     opened_stands c.in_ok-made.made (opened (uncached c.args.deck.now))
     (ap (λ (s : Shared). s.pool) (c.in_ok-made.ensures.pool ∙ c.in_ok-pool.ensures)) refl
     (λ p. rw c.in_ok-made.ensures.devices (c.in_ok-devices.ensures.mounted p))
+
+pub returns-clause-numbers : goal.returns-clause-numbers
+returns-clause-numbers c = rw c.in_ok-made.ensures.devices c.in_ok-devices.ensures.numbers
+
+pub returns-clause-own : goal.returns-clause-own
+returns-clause-own c = rw c.in_ok-made.ensures.devices c.in_ok-devices.ensures.own
