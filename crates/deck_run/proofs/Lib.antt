@@ -5,3 +5,4 @@ pub mod Stays
 pub mod Found
 pub mod Events
 pub mod Going
+pub mod LaterSteps

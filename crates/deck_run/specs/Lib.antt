@@ -2,3 +2,4 @@ pub mod Opening
 pub mod Owning
 pub mod Standing
 pub mod Going
+pub mod Later

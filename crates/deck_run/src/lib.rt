@@ -3,9 +3,13 @@
 
 mod event;
 mod giving;
+mod later;
 mod line;
 mod open;
 mod run;
+#[cfg(test)]
+mod tests;
 
+pub use later::first_later;
 pub use open::{has_open_devices, open_deck};
 pub use run::run_deck;

@@ -17,13 +17,13 @@ use frame_pool::Pool;
 use std::alloc::Global;
 use subsystem_core::Subsystem;
 
-fn is_open_device(line: DeviceLine) -> bool
+pub(crate) fn is_open_device(line: DeviceLine) -> bool
     ensures { result ≡ is_open_device line }
 {
     1 <= line.cylinders && line.cylinders <= 64
 }
 
-fn is_behind(last: Option<u8>, number: u8) -> bool
+pub(crate) fn is_behind(last: Option<u8>, number: u8) -> bool
     ensures { result ≡ is_behind last number }
 {
     match last {

@@ -1,6 +1,7 @@
-ghost use Rattle.std.specs.Prelude.{◌≡◌, IfOk, true};
+ghost use Rattle.std.specs.Prelude.{◌≡◌, IfOk, None};
 ghost use Rattle.subsystem_defs.specs.Decks.{run_of};
-ghost use Rattle.deck_run.specs.Opening.{are_open, are_open_lines, numbers_in, uncached};
+ghost use Rattle.deck_run.specs.Later.{first_later};
+ghost use Rattle.deck_run.specs.Opening.{uncached};
 ghost use Rattle.deck_run.specs.Standing.{StandsAs};
 
 use crate::line::do_line;
@@ -11,10 +12,9 @@ use device_outside::MemVolume;
 use std::alloc::Global;
 use subsystem_core::Subsystem;
 
-/// The devices of a deck behind its event lines.
+/// The devices of a deck behind its event lines: what its defined run leaves, without frames and slots.
 pub fn run_deck(alloc: Global, deck: &Deck) -> Result<Subsystem<MemVolume>, NoMemory>
-    requires devices { are_open deck.now.devices ≡ true }
-    requires lines { are_open_lines (numbers_in deck.now.devices) deck.now.events ≡ true }
+    requires { first_later deck.now ≡ None }
     ensures { IfOk result (λ made. StandsAs made (run_of (uncached deck.now)).behind) }
 {
     let mut sub = open_deck(alloc, deck)?;

@@ -3,6 +3,7 @@ use Rattle.subsystem_defs.specs.Decks as decks
 use Rattle.subsystem_defs.specs.Decks.{run_of, opened}
 use Rattle.deck_run.specs.Opening.{numbers_in, uncached}
 use Rattle.deck_run.proofs.Going.{line_open_at, line_done, lines_over}
+use Rattle.deck_run.proofs.LaterSteps.{devices_open, lines_open}
 use Rattle.deck_run.proofs.run.run_deck.Goals as goal
 
 pub loop-line-init : goal.loop-line-init
@@ -19,7 +20,7 @@ do_line-requires-clause-here c =
     let same : c.as_slice-line-items.result.now ≡ es = c.as_slice-line-items.ensures ∙ c.schedule.ensures in
     rw c.loop-line.invariant.numbers
     (line_open_at (numbers_in c.args.deck.now.devices) es c.loop-line.line-index c.line-item.result (rw same at c.loop-line-test.true)
-    (rw same at c.line-item.is) c.requires.lines)
+    (rw same at c.line-item.is) (lines_open c.args.deck.now c.requires))
 
 pub loop-line-preserved : goal.loop-line-preserved
 loop-line-preserved c =
@@ -37,3 +38,6 @@ returns c =
     let same : c.as_slice-line-items.result.now ≡ c.args.deck.now.events = c.as_slice-line-items.ensures ∙ c.schedule.ensures in
     lines_over c.loop-line.sub c.args.deck.now.events c.loop-line.line-index (run_of (uncached c.args.deck.now)).behind
     (rw same at c.loop-line-test.false) c.loop-line.invariant.left
+
+pub open_deck-requires : goal.open_deck-requires
+open_deck-requires c = devices_open c.args.deck.now c.requires
