@@ -34,7 +34,26 @@ use Rattle.subsystem_defs.specs.declared.end.EventEnd.TheVariants as answers
 use Rattle.subsystem_defs.specs.declared.event.Event.{Event}
 use Rattle.subsystem_defs.specs.declared.event.Event.TheVariants as events
 use Rattle.subsystem_defs.specs.Deeds as deeds
-use Rattle.subsystem_defs.specs.Deeds.{Deed, Ends, Becomes, Asks, Each, Repairs, Lends, ends_by, may_end_by, ends_done, end_of, is_own, start_by, starts, step, on_device, device_in, deed}
+use Rattle.subsystem_defs.specs.Deeds.{
+  Deed,
+  Ends,
+  Becomes,
+  Asks,
+  Each,
+  Repairs,
+  Lends,
+  ends_by,
+  may_end_by,
+  ends_done,
+  end_of,
+  is_own,
+  start_by,
+  starts,
+  step,
+  on_device,
+  device_in,
+  deed,
+}
 use Rattle.subsystem_defs.specs.Happening.{happens}
 use Rattle.subsystem_defs.specs.Subsystem as runs
 use Rattle.subsystem_core.specs.declared.end.EventEnd.{EventEnd}
@@ -94,7 +113,8 @@ step_leaves d o chain running at single own =
     let stays : Stays contents d.store.geometry d.store.cylinders chain.ccws chain.fixed d.plans d =
     record { is = (refl, (refl, single)); plans_are = refl; chain = subst (HasOf chain.ccws chain.fixed) (sym at) (refl, refl) } in
     s_then
-    (command_stays contents d.store.geometry d.store.cylinders chain.ccws chain.fixed d.plans d (subst Answers (sym running) tt) (subst Answers (sym at) tt) stays)
+    (command_stays contents d.store.geometry d.store.cylinders chain.ccws chain.fixed d.plans d (subst Answers (sym running) tt)
+    (subst Answers (sym at) tt) stays)
     (λ y a l. s_done (own_of chain.ccws chain.fixed d y mine.0 mine.1 own.plans l.0, answers_end a l.1))
 
 reset_by : (d : DefinedDevice) (path : ℕ) (o : Option ChainState) → d.chain ≡ o → d.store.paired ≡ false → IsOwn d →

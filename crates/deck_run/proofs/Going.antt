@@ -1,5 +1,35 @@
 -- One step, and one line, of a run on.
-use Rattle.std.proofs.Common.{◌≡◌, ◌≤◌, ◌<◌, ◌∙◌, ◌+◌, ◌-◌, ◌++◌, add-one, arith, ℕ, zero, suc, Bool, true, false, List, [], ◌∷◌, Option, Some, None, length, drop, get_or, map, refl, sym, ap, subst}
+use Rattle.std.proofs.Common.{
+  ◌≡◌,
+  ◌≤◌,
+  ◌<◌,
+  ◌∙◌,
+  ◌+◌,
+  ◌-◌,
+  ◌++◌,
+  add-one,
+  arith,
+  ℕ,
+  zero,
+  suc,
+  Bool,
+  true,
+  false,
+  List,
+  [],
+  ◌∷◌,
+  Option,
+  Some,
+  None,
+  length,
+  drop,
+  get_or,
+  map,
+  refl,
+  sym,
+  ap,
+  subst,
+}
 use Rattle.std.specs.Prelude.{◌==◌, ◌||◌, if◌then◌else◌, is_some, option_map}
 use Rattle.std.proofs.lemmas.List.{drop_all}
 use Rattle.plain_defs.specs.History.{OpenEntry}
@@ -18,7 +48,21 @@ use Rattle.subsystem_defs.specs.declared.end.EventEnd.TheVariants as ends
 use Rattle.subsystem_defs.specs.declared.event.Event.TheVariants as events
 use Rattle.subsystem_defs.specs.Happening.{happens, quietly}
 use Rattle.subsystem_defs.specs.Lines as lines
-use Rattle.subsystem_defs.specs.Lines.{Asked, Run, Logged, logged, asked_by, is_busy, most_steps, step_logged, steps, run_logged, line_logged, last_behind, run_lines}
+use Rattle.subsystem_defs.specs.Lines.{
+  Asked,
+  Run,
+  Logged,
+  logged,
+  asked_by,
+  is_busy,
+  most_steps,
+  step_logged,
+  steps,
+  run_logged,
+  line_logged,
+  last_behind,
+  run_lines,
+}
 use Rattle.subsystem_defs.specs.Subsystem as runs
 use Rattle.subsystem_defs.specs.Subsystem.{Mounted, mounted_in, number_of}
 use Rattle.subsystem_laws.specs.Stood.{Stood, number_at, IsMounted, is_mounted, AreMounted, one_more}
@@ -121,7 +165,8 @@ module _ {V : Type 0} {G : Ghosts V} where
   pub steps_begin : (s : Subsystem V G) (d : ℕ) (run : runs.Subsystem) → StandsAs s run → StepsLeft s d 8193 (last_behind run (run_logged run d))
   steps_begin s d run stands = record { now = run; stands = stands; rest = begun_by most_steps d run (is_busy (mounted_in run.mounted d)) refl }
 
-  pub step_done : (s z : Subsystem V G) (d k : ℕ) (last : runs.Subsystem) → k < 8193 → ((run : runs.Subsystem) → StandsAs s run → true ≡ is_busy (mounted_in run.mounted d)) →
+  pub step_done : (s z : Subsystem V G) (d k : ℕ) (last : runs.Subsystem) → k < 8193 →
+      ((run : runs.Subsystem) → StandsAs s run → true ≡ is_busy (mounted_in run.mounted d)) →
       ((run : runs.Subsystem) → StandsAs s run → StandsAs z (happens run (events.Step d)).behind) → StepsLeft s d (8193 - k) last →
       StepsLeft z d (8193 - (k + 1)) last
   step_done s z d k last within busy goes left = record {
@@ -131,7 +176,8 @@ module _ {V : Type 0} {G : Ghosts V} where
         ∙ ap (λ (n : ℕ). last_behind left.now (steps n d left.now)) (sym (one_fewer k within)) ∙ left.rest;
   }
 
-  pub steps_over : (s : Subsystem V G) (d n : ℕ) (last : runs.Subsystem) → ((run : runs.Subsystem) → StandsAs s run → false ≡ is_busy (mounted_in run.mounted d)) →
+  pub steps_over : (s : Subsystem V G) (d n : ℕ) (last : runs.Subsystem) →
+      ((run : runs.Subsystem) → StandsAs s run → false ≡ is_busy (mounted_in run.mounted d)) →
       StepsLeft s d n last → StandsAs s last
   steps_over s d n last idle left =
       subst (StandsAs s) (sym (steps_idle n d left.now (sym (idle left.now left.stands))) ∙ left.rest) left.stands

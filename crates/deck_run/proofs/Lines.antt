@@ -1,5 +1,33 @@
 -- One line of a deck on.
-use Rattle.std.proofs.Common.{◌≡◌, ◌<◌, ◌≤◌, ◌+◌, ◌++◌, ◌∷◌, [], ℕ, List, Option, Some, Bool, true, false, length, drop, get_or, cond, map, refl, ap, subst, ◌∙◌, sym, arith, zero, suc}
+use Rattle.std.proofs.Common.{
+  ◌≡◌,
+  ◌<◌,
+  ◌≤◌,
+  ◌+◌,
+  ◌++◌,
+  ◌∷◌,
+  [],
+  ℕ,
+  List,
+  Option,
+  Some,
+  Bool,
+  true,
+  false,
+  length,
+  drop,
+  get_or,
+  cond,
+  map,
+  refl,
+  ap,
+  subst,
+  ◌∙◌,
+  sym,
+  arith,
+  zero,
+  suc,
+}
 use Rattle.std.specs.Prelude.{◌&&◌, ◌==◌, nat_lt}
 use Rattle.std.proofs.lemmas.List.{at_drop_more, at_drop_all}
 use Rattle.deck_text.specs.declared.line.DeviceLine.{DeviceLine}
@@ -12,7 +40,8 @@ use Rattle.subsystem_laws.specs.Stood.{Stood, AreMounted, IsMounted, no_more, on
 use Rattle.deck_run.specs.Opening.{is_open_device, is_behind, are_open_behind, numbers_in}
 
 module _ (ds : List DeviceLine) (i : ℕ) (last : Option ℕ) (d : DeviceLine) (inside : i < length ds) (is : d ≡ get_or ds i d) where
-  pub open_more : are_open_behind last (drop i ds) ≡ cond (is_behind last d.number && is_open_device d) (are_open_behind (Some d.number) (drop (i + 1) ds)) false
+  pub open_more : are_open_behind last (drop i ds)
+      ≡ cond (is_behind last d.number && is_open_device d) (are_open_behind (Some d.number) (drop (i + 1) ds)) false
   open_more =
       at_drop_more (are_open_behind last) ds i d inside
       ∙ ap (λ (x : DeviceLine). cond (is_behind last x.number && is_open_device x) (are_open_behind (Some x.number) (drop (i + 1) ds)) false) (sym is)

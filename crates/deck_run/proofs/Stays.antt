@@ -69,14 +69,74 @@ use Rattle.device_defs.specs.Device.{Device, event_ended, event_begun, with_stor
 use Rattle.device_defs.specs.Editing as editing
 use Rattle.device_defs.specs.Editing.{effect, whole, at_once, through_by, through, write_by, written, is_given, unchosen, write_chosen, write}
 use Rattle.device_defs.specs.Image as images
-use Rattle.device_defs.specs.Image.{is_sequential, read_counted, image_of, Imaged, Has, NoBytes, BadTrack, Got, ahead, queued, first_read, read_b, second_read, level_bytes, filled, granted, loaded, delivered, missed, miss, hit, clean_image, image_by, image}
+use Rattle.device_defs.specs.Image.{
+  is_sequential,
+  read_counted,
+  image_of,
+  Imaged,
+  Has,
+  NoBytes,
+  BadTrack,
+  Got,
+  ahead,
+  queued,
+  first_read,
+  read_b,
+  second_read,
+  level_bytes,
+  filled,
+  granted,
+  loaded,
+  delivered,
+  missed,
+  miss,
+  hit,
+  clean_image,
+  image_by,
+  image,
+}
 use Rattle.device_defs.specs.Losses as losses
 use Rattle.device_defs.specs.Losses.{settled, by_frame, gives_up, kept_by_frame, stale_everywhere, call_failed}
 use Rattle.device_defs.specs.Memory.{had_by}
 use Rattle.device_defs.specs.Outcomes.{Turn, ends_with, settles, checks, wrote_turn, usage_of, turned_by, gone_on}
 use Rattle.device_defs.specs.Owed as owed
-use Rattle.device_defs.specs.Owed.{is_owed, is_modified, is_clean, dropped, heard, hear, modified_told, dropped_told, freed_told, settles_debt, track_told, all_told, waiting_told, ended, waiting_count}
-use Rattle.device_defs.specs.Store.{Origin, OfCommand, OfCut, OfBackground, HalfWrite, Store, tracks_of, takes_b, frame_at, patch_at, is_lost, is_loose, has_level, level_at, half_is, owed_at, with_frame, with_stale}
+use Rattle.device_defs.specs.Owed.{
+  is_owed,
+  is_modified,
+  is_clean,
+  dropped,
+  heard,
+  hear,
+  modified_told,
+  dropped_told,
+  freed_told,
+  settles_debt,
+  track_told,
+  all_told,
+  waiting_told,
+  ended,
+  waiting_count,
+}
+use Rattle.device_defs.specs.Store.{
+  Origin,
+  OfCommand,
+  OfCut,
+  OfBackground,
+  HalfWrite,
+  Store,
+  tracks_of,
+  takes_b,
+  frame_at,
+  patch_at,
+  is_lost,
+  is_loose,
+  has_level,
+  level_at,
+  half_is,
+  owed_at,
+  with_frame,
+  with_stale,
+}
 use Rattle.device_defs.specs.Writing as writing
 use Rattle.device_defs.specs.Writing.{
   Wrote,
@@ -419,7 +479,8 @@ module _ {F P H R : Type 0} (c : Contents F P H R) (g : Geometry) (n : ℕ) wher
     looks_by : (chain : ChainState) (first t : ℕ) (s : Store F P H) (o : Option Imaged) → IsOf ccws fixed chain → Is s → Answers o →
         Goes (had_by (looked c chain first t) s o)
     looks_by chain first t s None of k h = absurd h
-    looks_by chain first t s (Some (Has i)) of k h = s_try (wents (usage_of chain) first t s i (stepped chain (Some i)).chain (stepped chain (Some i)).progress (stepped_of ccws fixed chain i of) k)
+    looks_by chain first t s (Some (Has i)) of k h =
+        s_try (wents (usage_of chain) first t s i (stepped chain (Some i)).chain (stepped chain (Some i)).progress (stepped_of ccws fixed chain i of) k)
     looks_by chain first t s (Some (NoBytes fault)) of k h = s_done (k, of)
     looks_by chain first t s (Some (BadTrack side)) of k h = s_done (k, of)
 
@@ -486,11 +547,13 @@ module _ {F P H R : Type 0} (c : Contents F P H R) (g : Geometry) (n : ℕ) wher
           Leaves (command_at c d path chain o)
       at_need d path chain (Some t) is same of =
           s_then (follows (tracks_of d.store) t chain t d.store of is) (λ s o l. tracks d path chain s o same l.0 l.1)
-      at_need d path chain None is same of = s_try (answers d path (stepped chain None).chain (stepped chain None).progress is same (stepped_alone ccws fixed chain of))
+      at_need d path chain None is same of =
+          s_try (answers d path (stepped chain None).chain (stepped chain None).progress is same (stepped_alone ccws fixed chain of))
 
       by_chain : (d : Device F P H) (o : OpenEntry) (chain : ChainState) → Is d.store → d.plans ≡ plans → IsOf ccws fixed chain →
           Leaves (command_by c d (Some o) (Some chain))
-      by_chain d o chain is same of = s_if (has_loss o.acts) (λ _. outs d o.path (checks chain Equipment) is same of) (λ _. at_need d o.path chain (need_of chain) is same of)
+      by_chain d o chain is same of =
+          s_if (has_loss o.acts) (λ _. outs d o.path (checks chain Equipment) is same of) (λ _. at_need d o.path chain (need_of chain) is same of)
 
       by_running : (d : Device F P H) (r : Option OpenEntry) (o : Option ChainState) → Answers r → Answers o → Is d.store → d.plans ≡ plans →
           HasOf ccws fixed o → Leaves (command_by c d r o)
@@ -505,7 +568,8 @@ module _ {F P H R : Type 0} (c : Contents F P H R) (g : Geometry) (n : ℕ) wher
       pub command_stays : (d : Device F P H) → Answers d.history.running → Answers d.chain → Stays d → Leaves (command c d)
       unfolding commands.command
       command_stays d runs has k =
-          s_try (s_then (s_then (hears 960 (event_begun d).store k.is) (λ s _ l. by_running (record (event_begun d) { store = s }) d.history.running d.chain runs has l k.plans_are k.chain))
+          s_try (s_then (s_then (hears 960 (event_begun d).store k.is)
+          (λ s _ l. by_running (record (event_begun d) { store = s }) d.history.running d.chain runs has l k.plans_are k.chain))
           (λ y a l. ended_by d y a l.0 l.1))
 
       -- a reset

@@ -13,10 +13,10 @@ fn a_deck_of_two_devices(rt: HostRuntime) -> Result<(), Fail> {
         Err(_) => return Err("deck".into()),
     };
     assert!(rt; has_open_devices(&deck));
-    if first_later(&deck).is_some() {
-        return Err("later".into());
-    }
-    let sub = run_deck(rt.alloc(), &deck)?;
+    let sub = match first_later(&deck) {
+        Some(_) => return Err("later".into()),
+        None => run_deck(rt.alloc(), &deck)?,
+    };
     let journals = [
         sub.devices().first().map(|d| d.journal().len()),
         sub.devices().last().map(|d| d.journal().len()),
