@@ -27,13 +27,13 @@ use Rattle.device_laws.proofs.WaitingResets.{AreDue, WaitFor}
 
 -- Acts that make no track loose
 
-acts_first : (s : PlainState) (act : Act) (acts : List Act) → AreActs s None (act ∷ acts) → AreActs s None (act ∷ [])
+pub acts_first : (s : PlainState) (act : Act) (acts : List Act) → AreActs s None (act ∷ acts) → AreActs s None (act ∷ [])
 acts_first s (Loosen t) [] are = are
 acts_first s (Loosen t) (x ∷ acts) are = absurd are
 acts_first s (Harden t) acts are = (are.0, tt)
 acts_first s CfwLost acts are = (are.0, tt)
 
-acts_rest : (s : PlainState) (act : Act) (acts : List Act) → AreActs s None (act ∷ acts) → AreActs (act_done s act) None acts
+pub acts_rest : (s : PlainState) (act : Act) (acts : List Act) → AreActs s None (act ∷ acts) → AreActs (act_done s act) None acts
 acts_rest s (Loosen t) [] are = tt
 acts_rest s (Loosen t) (x ∷ acts) are = absurd are
 acts_rest s (Harden t) acts are = are.1

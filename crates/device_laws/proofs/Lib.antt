@@ -85,3 +85,5 @@ pub mod OrdersInOrder
 pub mod QuietParts
 pub mod ReadMoves
 pub mod BackMoves
+pub mod PlainTurns
+pub mod PlainCommand
