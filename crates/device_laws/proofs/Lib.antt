@@ -87,3 +87,4 @@ pub mod ReadMoves
 pub mod BackMoves
 pub mod PlainTurns
 pub mod PlainCommand
+pub mod PlainEvents
