@@ -241,7 +241,6 @@ module _ (empty : PlainState) (d : MarksDevice) (f : Follows empty d) (o : OpenE
   abbrev p : PlainState
   p = plain_of d.plans empty d.history
 
-
   at : AtPart d.plans (replay d.plans empty d.history.items) o chain
   at = subst (λ (k : Option ChainState). RunsAt d.plans (replay d.plans empty d.history.items) (Some o) k) is
       (subst (λ (r : Option OpenEntry). RunsAt d.plans (replay d.plans empty d.history.items) r d.chain) running f.runs)

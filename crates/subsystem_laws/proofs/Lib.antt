@@ -3,3 +3,4 @@ pub mod Talks
 pub mod Deeds
 pub mod Happens
 pub mod Orders
+pub mod PlainRuns
