@@ -89,7 +89,7 @@ module _ (plans : Plans) (empty : PlainState) where
       (subst (λ (s : PlainState). AreActs s None acts) (sym (acted_state h plain act)) (acts_rest (plain_of plans empty h) act acts are))
       ∙ ap (λ (s : PlainState). acts_done s acts) (acted_state h plain act)
 
-some_loose : (loose : List LooseTrack) (t : ℕ) → is_loose_in loose t ≡ true → IsSomeLoose loose
+pub some_loose : (loose : List LooseTrack) (t : ℕ) → is_loose_in loose t ≡ true → IsSomeLoose loose
 some_loose [] t is = absurd (cc)
 some_loose (l ∷ loose) t is = tt
 

@@ -88,3 +88,4 @@ pub mod BackMoves
 pub mod PlainTurns
 pub mod PlainCommand
 pub mod PlainEvents
+pub mod PlainLosses

@@ -241,14 +241,14 @@ module _ (empty : PlainState) (d : MarksDevice) (f : Follows empty d) (o : OpenE
   abbrev p : PlainState
   p = plain_of d.plans empty d.history
 
-  at : AtPart d.plans (replay d.plans empty d.history.items) o chain
+  pub at : AtPart d.plans (replay d.plans empty d.history.items) o chain
   at = subst (λ (k : Option ChainState). RunsAt d.plans (replay d.plans empty d.history.items) (Some o) k) is
       (subst (λ (r : Option OpenEntry). RunsAt d.plans (replay d.plans empty d.history.items) r d.chain) running f.runs)
 
   on : (chain.fixed.geometry ≡ d.store.geometry) × (chain.fixed.cylinders ≡ d.store.cylinders)
   on = subst (ChainOf d.store.geometry d.store.cylinders) is f.chain
 
-  all_run : (path : ℕ) (acts : List Act) (h : History) → IsPlain d.plans empty h → AreDue h → AreActs (plain_of d.plans empty h) None acts →
+  pub all_run : (path : ℕ) (acts : List Act) (h : History) → IsPlain d.plans empty h → AreDue h → AreActs (plain_of d.plans empty h) None acts →
       StillRuns d.plans empty chain path h → StillRuns d.plans empty chain path (all_acted h acts)
   all_run path [] h plain due are r = r
   all_run path (act ∷ acts) h plain due are r =
@@ -257,7 +257,7 @@ module _ (empty : PlainState) (d : MarksDevice) (f : Follows empty d) (o : OpenE
       (subst (λ (x : PlainState). AreActs x None acts) (sym (acted_state d.plans empty h plain act)) (acts_rest (plain_of d.plans empty h) act acts are))
       (one_act_runs d.plans empty chain path h plain due r act)
 
-  runs_first : StillRuns d.plans empty chain o.path d.history
+  pub runs_first : StillRuns d.plans empty chain o.path d.history
   runs_first = record { entry = o; running = running; path_is = refl; at = at }
 
   -- a store of the same size

@@ -110,7 +110,7 @@ had_both {i = i} {p = p} {q = q} h g = record { holds = both_by i p q h.holds g.
 
 -- A new device
 
-none_loose : (n t : ℕ) → get_or (replicate n false) t false ≡ false
+pub none_loose : (n t : ℕ) → get_or (replicate n false) t false ≡ false
 none_loose n t = by_place (cases_lt t n) where
   by_place : (t < n) ⊎ (n ≤ t) → get_or (replicate n false) t false ≡ false
   by_place (inl lt) = get_or-replicate n t false false lt
@@ -131,6 +131,7 @@ new_follows d g n plans some = record {
     firm = λ t. refl;
     firms = refl;
     looses = length-replicate (n * 15) false ∙ sym (length-map-range_with_len empty_track 0 (n * 15));
+    tracks = length-map-range_with_len empty_track 0 (n * 15);
   };
   alone = record {
     paired = refl;

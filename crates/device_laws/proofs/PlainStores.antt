@@ -1,5 +1,5 @@
 -- What a run's device has of its plain volume, and what each change makes of it.
-use Rattle.std.proofs.Common.{◌≡◌, ◌≢◌, ◌<◌, ◌≤◌, ◌==◌, ℕ, not, Bool, true, false, List, [], ◌∷◌, ◌++◌, Option, None, length, cond, set, get_or, refl, sym, ap, subst, ◌∙◌, arith, inl, inr}
+use Rattle.std.proofs.Common.{◌≡◌, ◌*◌, ◌≢◌, ◌<◌, ◌≤◌, ◌==◌, ℕ, not, Bool, true, false, List, [], ◌∷◌, ◌++◌, Option, None, length, cond, set, get_or, refl, sym, ap, subst, ◌∙◌, arith, inl, inr}
 use Rattle.std.specs.Prelude.{◌⊎◌}
 use Rattle.std.proofs.lemmas.Bool.{cases_lt, eqb-true, eqb-false, eq-eqb, ne_eqb}
 use Rattle.std.proofs.lemmas.List.{get_or-set_same, get_or-set_other, get_or_past, length-set}
@@ -60,6 +60,7 @@ pub record IsOf (p : PlainState) (c : Core) : Type 0 where
   pub firm : (t : ℕ) → firm_in p.loose t (track_in p.volume t) ≡ track_in c.firm t
   pub firms : length c.firm ≡ length c.plain
   pub looses : length c.loose ≡ length c.plain
+  pub tracks : length c.plain ≡ c.cylinders * 15
 
 -- on one side that is no pair's, with no half write, and with a place for each track
 pub record IsAlone (c : Core) : Type 0 where
@@ -216,6 +217,7 @@ module _ (p : PlainState) (c : Core) (of : IsOf p c) (t : ℕ) where
     firm = λ q. firm_by q (same_or_other q t);
     firms = length-set c.firm t (track_in c.plain t) ∙ of.firms;
     looses = length-set c.loose t false ∙ of.looses;
+    tracks = of.tracks;
   } where
     loose_by : (q : ℕ) → (q ≡ t) ⊎ (q ≢ t) → is_loose_in (without t p.loose) q ≡ get_or (set c.loose t false) q false
     loose_by q (inl e) = subst (λ (k : ℕ). is_loose_in (without t p.loose) k ≡ get_or (set c.loose t false) k false) (sym e)
@@ -242,6 +244,7 @@ module _ (p : PlainState) (c : Core) (of : IsOf p c) (t : ℕ) where
     firm = λ q. firm_by q (is_loose_in p.loose q) refl ∙ of.firm q;
     firms = of.firms;
     looses = length-set c.loose t true ∙ of.looses;
+    tracks = of.tracks;
   } where
     loose_by : (q : ℕ) → (q ≡ t) ⊎ (q ≢ t) → cond (loose_at c q) true (t == q) ≡ get_or (set c.loose t true) q false
     loose_by q (inl e) = subst (λ (k : ℕ). cond (loose_at c k) true (t == k) ≡ get_or (set c.loose t true) k false) (sym e)
@@ -275,6 +278,7 @@ module _ (p : PlainState) (c : Core) (of : IsOf p c) (t : ℕ) where
         length-set c.firm t (apply_edit e (track_in c.plain t)) ∙ of.firms
         ∙ sym (length-set c.plain t (apply_edit e (track_in c.plain t)));
     looses = of.looses ∙ sym (length-set c.plain t (apply_edit e (track_in c.plain t)));
+    tracks = length-set c.plain t (apply_edit e (track_in c.plain t)) ∙ of.tracks;
   } where
     firm_by : (q : ℕ) → (q ≡ t) ⊎ (q ≢ t) → firm_in p.loose q (track_in (put_track p.volume t e) q) ≡ track_in (set c.firm t (apply_edit e (track_in c.plain t))) q
     firm_by q (inl same) = subst (λ (k : ℕ). firm_in p.loose k (track_in (put_track p.volume t e) k) ≡ track_in (set c.firm t (apply_edit e (track_in c.plain t))) k) (sym same)
@@ -294,6 +298,7 @@ module _ (p : PlainState) (c : Core) (of : IsOf p c) (t : ℕ) where
     firm = λ q. firm_by q (same_or_other q t);
     firms = of.firms ∙ sym (length-set c.plain t (apply_edit e (track_in c.plain t)));
     looses = of.looses ∙ sym (length-set c.plain t (apply_edit e (track_in c.plain t)));
+    tracks = length-set c.plain t (apply_edit e (track_in c.plain t)) ∙ of.tracks;
   } where
     firm_by : (q : ℕ) → (q ≡ t) ⊎ (q ≢ t) → firm_in p.loose q (track_in (put_track p.volume t e) q) ≡ track_in c.firm q
     firm_by q (inl same) = subst (λ (k : ℕ). firm_in p.loose k (track_in (put_track p.volume t e) k) ≡ track_in c.firm k) (sym same)
@@ -311,7 +316,7 @@ pub record Walks (p : PlainState) (u : List Track) (g : Geometry) (n : ℕ) (c :
   pub geometry : c.geometry ≡ g
   pub cylinders : c.cylinders ≡ n
 
-acts_done_more : (p : PlainState) (acts : List Act) (act : Act) → acts_done p (acts ++ act ∷ []) ≡ act_done (acts_done p acts) act
+pub acts_done_more : (p : PlainState) (acts : List Act) (act : Act) → acts_done p (acts ++ act ∷ []) ≡ act_done (acts_done p acts) act
 acts_done_more p [] act = refl
 acts_done_more p (x ∷ acts) act = acts_done_more (act_done p x) acts act
 

@@ -131,6 +131,7 @@ of_paths p c of paths = record {
   firm = of.firm;
   firms = of.firms;
   looses = of.looses;
+  tracks = of.tracks;
 }
 
 -- the acts of an event are none either
@@ -144,6 +145,7 @@ of_begun p c of = record {
   firm = of.firm;
   firms = of.firms;
   looses = of.looses;
+  tracks = of.tracks;
 }
 
 pub runs_none : (plans : Plans) (s : PlainState) (r : Option OpenEntry) → r ≡ None → RunsAt plans s r None

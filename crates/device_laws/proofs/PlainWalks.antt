@@ -114,21 +114,21 @@ use Rattle.device_laws.proofs.WholeImage.{ahead_only}
 
 -- What leaves the core
 
-framed_same : (s : MarksStore) (t : ℕ) (f : Option Bool) → core_of (with_frame s t f) ≡ core_of s
+pub framed_same : (s : MarksStore) (t : ℕ) (f : Option Bool) → core_of (with_frame s t f) ≡ core_of s
 framed_same s t f = ap (λ (n : ℕ). record (core_of s) { frames = n }) (length-set s.frames t f)
 
-stale_same : (s : MarksStore) (side : Side) (t : ℕ) (b : Bool) → core_of (with_stale s side t b) ≡ core_of s
+pub stale_same : (s : MarksStore) (side : Side) (t : ℕ) (b : Bool) → core_of (with_stale s side t b) ≡ core_of s
 stale_same s A t b = refl
 stale_same s B t b = refl
 
 ahead_same : (u : Usage) (s : MarksStore) (t : ℕ) → core_of (ahead u s t) ≡ core_of s
 ahead_same u s t = ap core_of (ahead_only u s t)
 
-patch_same : (s : MarksStore) (t : ℕ) (o : Option ℕ) → core_of (gives_up s t o) ≡ core_of s
+pub patch_same : (s : MarksStore) (t : ℕ) (o : Option ℕ) → core_of (gives_up s t o) ≡ core_of s
 patch_same s t None = refl
 patch_same s t (Some slot) = refl
 
-everywhere_same : (s : MarksStore) (t : ℕ) → core_of (stale_everywhere s t) ≡ core_of s
+pub everywhere_same : (s : MarksStore) (t : ℕ) → core_of (stale_everywhere s t) ≡ core_of s
 everywhere_same s t =
     cond_both s.paired (with_stale (with_stale s A t true) B t true) (with_stale s A t true) (λ (z : MarksStore). core_of z ≡ core_of s)
     (λ e. refl) (λ e. refl)
@@ -180,7 +180,7 @@ ended_same before s =
 -- The image of a track
 
 -- a call that fails on a volume that is alone leaves the device
-failed_same : (s : MarksStore) (side : Side) (t : Option ℕ) → s.paired ≡ false → Had (call_failed by_plain s side t) (λ y (_ : Unit {0}). y ≡ s)
+pub failed_same : (s : MarksStore) (side : Side) (t : Option ℕ) → s.paired ≡ false → Had (call_failed by_plain s side t) (λ y (_ : Unit {0}). y ≡ s)
 failed_same s side t alone =
     subst (λ (b : Bool). Had (if b then all_firm_told by_plain (tracks_of s) (side_lost by_plain s side t) else Done s tt)
     (λ y (_ : Unit {0}). y ≡ s)) (sym alone) (had_done refl)
