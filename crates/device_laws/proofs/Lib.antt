@@ -89,3 +89,4 @@ pub mod PlainTurns
 pub mod PlainCommand
 pub mod PlainEvents
 pub mod PlainLosses
+pub mod PlainPower

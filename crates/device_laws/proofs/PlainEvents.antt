@@ -187,10 +187,10 @@ module _ (empty : PlainState) (d : MarksDevice) (f : Follows empty d) where
 
   -- A reset
 
-  may : (o : OpenEntry) → d.history.running ≡ Some o → MayTake d.plans (replay d.plans empty d.history.items) o (counts_one_by d.store.half)
+  pub may : (o : OpenEntry) → d.history.running ≡ Some o → MayTake d.plans (replay d.plans empty d.history.items) o (counts_one_by d.store.half)
   may o running = subst (λ (h : Option (HalfWrite (Unit {0}))). MayTake d.plans s o (counts_one_by h)) (sym f.alone.whole) tt
 
-  none_taken : (o : OpenEntry) → d.history.running ≡ Some o → taken_state d.plans (replay d.plans empty d.history.items) o (counts_one_by d.store.half)
+  pub none_taken : (o : OpenEntry) → d.history.running ≡ Some o → taken_state d.plans (replay d.plans empty d.history.items) o (counts_one_by d.store.half)
       ≡ (open_part d.plans (replay d.plans empty d.history.items) o).state
   none_taken o running =
       ap (λ (h : Option (HalfWrite (Unit {0}))). taken_state d.plans s o (counts_one_by h)) f.alone.whole
@@ -203,7 +203,7 @@ module _ (empty : PlainState) (d : MarksDevice) (f : Follows empty d) where
     pub runs : RunsAt y.plans (replay y.plans empty y.history.items) y.history.running y.chain
     pub chain : ChainOf d.store.geometry d.store.cylinders y.chain
 
-  runs_idle : (plans : Plans) (x : PlainState) (r : Option OpenEntry) (k : Option ChainState) → r ≡ None → RunsAt plans x r k
+  pub runs_idle : (plans : Plans) (x : PlainState) (r : Option OpenEntry) (k : Option ChainState) → r ≡ None → RunsAt plans x r k
   runs_idle plans x (Some o) k is = absurd (cc)
   runs_idle plans x None k is = tt
 
@@ -263,7 +263,7 @@ module _ (empty : PlainState) (d : MarksDevice) (f : Follows empty d) where
           chain = f.chain;
         }
 
-    no_half : (z : Option (HalfWrite (Unit {0}))) → z ≡ None →
+    pub no_half : (z : Option (HalfWrite (Unit {0}))) → z ≡ None →
         Had (half_cut by_plain d.store z) (λ y (_ : Unit {0}). y ≡ d.store)
     no_half (Some h) is = absurd (cc)
     no_half None is = had_done refl
