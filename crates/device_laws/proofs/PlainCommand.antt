@@ -1,36 +1,7 @@
 -- A command of a run's device keeps its history a plain device's, whatever calls fail and whatever the pool answers.
 use Rattle.std.specs.Prelude.{IsSome}
 use Rattle.std.proofs.lemmas.List.{get_or-set_same, length-set}
-use Rattle.std.proofs.Common.{
-  set,
-  get_or,
-  ◌≡◌,
-  ◌<◌,
-  ◌≤◌,
-  ◌+◌,
-  ◌*◌,
-  zero,
-  suc,
-  ℕ,
-  Bool,
-  true,
-  false,
-  List,
-  [],
-  ◌∷◌,
-  ◌++◌,
-  length,
-  Option,
-  Some,
-  None,
-  cond,
-  refl,
-  sym,
-  ap,
-  subst,
-  ◌∙◌,
-  arith,
-}
+use Rattle.std.proofs.Common.{set, get_or, ◌≡◌, ◌<◌, ◌*◌, zero, suc, ℕ, Bool, true, false, List, [], ◌∷◌, length, Option, Some, None, refl, sym, ap, subst, ◌∙◌, arith}
 use Rattle.ckd_types.specs.declared.channel.Ccw.{Ccw}
 use Rattle.ckd_types.specs.declared.channel.CommandEnd.{CommandEnd}
 use Rattle.ckd_types.specs.declared.geometry.Geometry.{Geometry}
@@ -42,7 +13,6 @@ use Rattle.ckd_types.specs.Parameters.{is_provisional}
 use Rattle.ckd_types.specs.Volume.{track_in}
 use Rattle.ckd_chain.specs.declared.mark.Mark.{Mark}
 use Rattle.ckd_chain.specs.declared.mark.Stage.{Stage}
-use Rattle.ckd_chain.specs.declared.progress.Progress.TheVariants as progresses
 use Rattle.ckd_chain.specs.declared.progress.Settled.{Settled}
 use Rattle.ckd_chain.specs.declared.progress.Settled.TheVariants.{Equipment, DataCheck}
 use Rattle.ckd_chain.specs.Fed.{Fed, ended_by, fed, by_rules}
@@ -80,35 +50,35 @@ use Rattle.plain_defs.specs.declared.journal.Act.TheVariants.{Loosen}
 use Rattle.plain_defs.specs.Acts.{act_fault}
 use Rattle.plain_defs.specs.Effect.{Effect, acted_by, effect_by, command_effect, edited_volume, behind_effect}
 use Rattle.plain_defs.specs.History.{OpenEntry, History, open_part, plain_of, state_by, acted, acted_in, IsPlain}
-use Rattle.plain_defs.specs.Journal.{Plans, program_of, replay}
+use Rattle.plain_defs.specs.Journal.{program_of, replay}
 use Rattle.plain_defs.specs.Legal.{AreActs, MayEdit, IsLegal, edit_at, track_of}
 use Rattle.plain_defs.specs.Loose.{is_loose_in, act_done}
 use Rattle.plain_defs.specs.PlainState.{PathsState, PlainState, empty_state, with_sense}
 use Rattle.plain_defs.specs.Program.{Part, acts_done}
 use Rattle.plain_device.specs.Acted.{settled_with, settled_act, paths_with, paths_behind}
-use Rattle.device_outside.specs.Interaction.{Interaction, Done, Try, and_then}
+use Rattle.device_outside.specs.Interaction.{Interaction}
 use Rattle.track_image.specs.Image.{Image}
 use Rattle.device_defs.specs.declared.answers.Came.TheVariants.{Ends}
 use Rattle.device_defs.specs.declared.answers.Stepped.{Stepped}
 use Rattle.device_defs.specs.Command as N
 use Rattle.device_defs.specs.Command.{has_loss, came_out, on_tracks, answered_by, on_paths, command_at, command_by, command, follow}
 use Rattle.device_defs.specs.Contents.{by_plain}
-use Rattle.device_defs.specs.Device.{Device, all_acted, with_store, event_begun, event, event_ended}
+use Rattle.device_defs.specs.Device.{all_acted, with_store, event_begun, event}
 use Rattle.device_defs.specs.Marks.{MarksDevice, MarksStore}
 use Rattle.device_defs.specs.Outcomes.{Turn, ends_with, settles, checks, turned}
 use Rattle.device_defs.specs.Owed.{begun, waiting_count}
 use Rattle.device_defs.specs.Store.{tracks_of}
 use Rattle.device_laws.proofs.DeviceCuts.{StandsPlainly}
-use Rattle.device_laws.proofs.DeviceEnds.{all_acted-append, acts_stand}
+use Rattle.device_laws.proofs.DeviceEnds.{all_acted-append}
 use Rattle.device_laws.proofs.DeviceHistory.{index_is}
-use Rattle.device_laws.proofs.DevicePaths.{KeepsPaths, acts_keep_them, acts_keep_paths}
+use Rattle.device_laws.proofs.DevicePaths.{acts_keep_them, acts_keep_paths}
 use Rattle.device_laws.proofs.DueResets.{acted_due, all_acted_due}
-use Rattle.device_laws.proofs.Had.{Had, had_done, had_try, had_if, had_then, had_weaker}
+use Rattle.device_laws.proofs.Had.{Had, had_done, had_try, had_if, had_then}
 use Rattle.device_laws.proofs.HistoryActs.{acts_first, acts_rest, acted_plain, acted_state, all_acted_plain, all_acted_state}
 use Rattle.device_laws.proofs.HistoryEnds.{edited_next, effect_at, running_is_open}
 use Rattle.device_laws.proofs.OpenProgram.{IsGoing, with_one_act, going_of_open, going_with_act, part_with_act}
-use Rattle.device_laws.proofs.PlainLooks.{IsAtWord, Looking, from_itself, EditSo, TurnIs, ended_so, equipment, data_check, FollowSo, follow_so}
-use Rattle.device_laws.proofs.PlainStores.{Core, core_of, loose_at, IsOf, IsAlone, Walks, edited, of_edited, of_loosely_edited, of_loosened, loosely_edited_core, loosened_core, edited_core}
+use Rattle.device_laws.proofs.PlainLooks.{IsAtWord, from_itself, EditSo, TurnIs, ended_so, equipment, data_check, FollowSo, follow_so}
+use Rattle.device_laws.proofs.PlainStores.{Core, core_of, loose_at, IsOf, IsAlone, Walks, edited, of_edited, of_loosely_edited, of_loosened, loosely_edited_core, loosened_core}
 use Rattle.device_laws.proofs.PlainTurns.{AtPart, RunsAt, ChainOf, Follows, of_paths, of_begun, StillRuns, act_at, one_act_runs, end_follows, equipment_follows, data_check_follows}
 use Rattle.device_laws.proofs.PlainWalks.{IsEdited, firmly, loosely, loosened, hear_same, ended_same}
 use Rattle.device_laws.proofs.WaitingResets.{AreDue}

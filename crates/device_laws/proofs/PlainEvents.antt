@@ -1,42 +1,12 @@
 -- A new device of a run, a start and a reset keep its history a plain device's.
-use Rattle.std.proofs.Common.{
-  ◌≡◌,
-  ◌<◌,
-  ◌≤◌,
-  ◌*◌,
-  ◌==◌,
-  ℕ,
-  Bool,
-  true,
-  false,
-  List,
-  [],
-  ◌∷◌,
-  ◌++◌,
-  length,
-  Option,
-  Some,
-  None,
-  cond,
-  get_or,
-  refl,
-  sym,
-  ap,
-  subst,
-  ◌∙◌,
-  arith,
-  inl,
-  inr,
-}
+use Rattle.std.proofs.Common.{◌≡◌, ◌<◌, ◌≤◌, ◌*◌, ◌==◌, ℕ, Bool, true, false, [], ◌∷◌, ◌++◌, length, Option, Some, None, cond, get_or, refl, sym, ap, subst, ◌∙◌, arith, inl, inr}
 use Rattle.std.specs.Prelude.{◌⊎◌, ◌||◌, replicate, if◌then◌else◌}
 use Rattle.std.proofs.lemmas.Bool.{cases_lt, cond_both}
 use Rattle.std.proofs.lemmas.List.{get_or-replicate, get_or_past, length-replicate}
 use Rattle.std.proofs.lemmas.List.FromFn.{length-map-range_with_len}
 use Rattle.ckd_types.specs.declared.geometry.Geometry.{Geometry}
-use Rattle.ckd_types.specs.Fixed.{Fixed}
 use Rattle.ckd_types.specs.Track.{empty_track}
 use Rattle.ckd_chain.specs.State.{ChainState}
-use Rattle.ckd_chain.specs.Steps.{begun_chain}
 use Rattle.plain_defs.specs.declared.journal.Item.TheVariants as items
 use Rattle.plain_defs.specs.History.{
   OpenEntry,
@@ -51,36 +21,35 @@ use Rattle.plain_defs.specs.History.{
   reset as history_reset,
   reset_in,
 }
-use Rattle.plain_defs.specs.Journal.{Plans, program_of, replay}
+use Rattle.plain_defs.specs.Journal.{Plans, replay}
 use Rattle.plain_defs.specs.Legal.{is_used}
 use Rattle.plain_defs.specs.PlainState.{PlainState, empty_state, reset_path, fixed_of as plain_fixed}
 use Rattle.plain_defs.specs.Program.{Part, first_part, begun}
 use Rattle.plain_defs.proofs.PartLemmas.{acted_nothing}
-use Rattle.device_outside.specs.Interaction.{Interaction, Done, Try, Ask, Read, Write, Tell, and_then}
+use Rattle.device_outside.specs.Interaction.{Interaction, Done, Try, Ask, Read, Write, Tell}
 use Rattle.device_outside.specs.Keeper.{reply}
 use Rattle.device_defs.specs.Contents.{by_plain}
 use Rattle.device_defs.specs.Cutting as K
 use Rattle.device_defs.specs.Cutting.{counts_one_by, half_cut, reset_noted, path_cut, reset_by, reset}
-use Rattle.device_defs.specs.Device.{Device, all_reset}
+use Rattle.device_defs.specs.Device.{all_reset}
 use Rattle.device_defs.specs.Marks.{MarksDevice, MarksStore, new_device}
 use Rattle.device_defs.specs.Start as S
 use Rattle.device_defs.specs.Start.{start, start_fault, next_program, next_ordinal}
-use Rattle.device_defs.specs.Store.{HalfWrite, Store, fixed_of}
+use Rattle.device_defs.specs.Store.{HalfWrite, fixed_of}
 use Rattle.device_laws.proofs.Always as A
 use Rattle.device_laws.proofs.Always.{Behind, Always}
 use Rattle.device_laws.proofs.ChainAtHand.{start_at_hand}
-use Rattle.device_laws.proofs.DeviceCuts.{StandsPlainly, reset_stands}
+use Rattle.device_laws.proofs.DeviceCuts.{reset_stands}
 use Rattle.device_laws.proofs.DeviceEnds.{new_stands, start_stands}
 use Rattle.device_laws.proofs.DeviceHistory.{starts_where_idle}
-use Rattle.device_laws.proofs.DevicePaths.{KeepsPaths}
 use Rattle.device_laws.proofs.Had as H
 use Rattle.device_laws.proofs.Had.{BehindHad, Had, had_done, had_if, had_then, had_weaker}
 use Rattle.device_laws.proofs.HistoryCuts.{MayTake, taken_state, taken_none, cut_state, idle_reset_state, waiting_state}
 use Rattle.device_laws.proofs.HistoryEnds.{running_is_open}
 use Rattle.device_laws.proofs.OpenProgram.{part_is_acted}
 use Rattle.device_laws.proofs.PathsAlong.{idle_paths, start_keeps, reset_keeps_paths}
-use Rattle.device_laws.proofs.PlainStores.{Core, core_of, IsOf, IsAlone}
-use Rattle.device_laws.proofs.PlainTurns.{AtPart, RunsAt, ChainOf, Follows, of_paths}
+use Rattle.device_laws.proofs.PlainStores.{core_of, IsOf, IsAlone}
+use Rattle.device_laws.proofs.PlainTurns.{RunsAt, ChainOf, Follows, of_paths}
 
 -- What holds always holds where memory is had
 

@@ -1,38 +1,6 @@
 -- Losses and work in the background keep the history of a run's device a plain device's.
-use Rattle.std.proofs.Common.{
-  ◌≡◌,
-  ◌<◌,
-  ◌≤◌,
-  ◌*◌,
-  ◌==◌,
-  zero,
-  suc,
-  ℕ,
-  Bool,
-  true,
-  false,
-  List,
-  [],
-  ◌∷◌,
-  ◌++◌,
-  length,
-  Option,
-  Some,
-  None,
-  is_some,
-  cond,
-  set,
-  get_or,
-  refl,
-  sym,
-  ap,
-  subst,
-  ◌∙◌,
-  arith,
-  inl,
-  inr,
-}
-use Rattle.std.specs.Prelude.{◌⊎◌, ◌||◌, replicate, if◌then◌else◌}
+use Rattle.std.proofs.Common.{◌≡◌, ◌<◌, ◌*◌, ◌==◌, zero, suc, ℕ, Bool, true, false, List, [], ◌∷◌, ◌++◌, length, Option, Some, None, is_some, cond, set, get_or, refl, sym, ap, subst, ◌∙◌, arith}
+use Rattle.std.specs.Prelude.{◌||◌, replicate, if◌then◌else◌}
 use Rattle.std.proofs.lemmas.Bool.{cond_both, eqb-true, eqb-false}
 use Rattle.std.proofs.lemmas.List.{get_or-set_same, get_or-set_other, get_or_default, ext_get_or, length-set, length-replicate}
 use Rattle.ckd_types.specs.declared.geometry.Geometry.{Geometry}
@@ -45,16 +13,16 @@ use Rattle.ckd_chain.specs.State.{ChainState}
 use Rattle.loss_model.specs.declared.Loss.{Loss}
 use Rattle.loss_model.specs.declared.Loss.TheVariants as losses
 use Rattle.plain_defs.specs.declared.journal.Act.{Act}
-use Rattle.plain_defs.specs.declared.journal.Act.TheVariants.{Loosen, Harden, CfwLost}
+use Rattle.plain_defs.specs.declared.journal.Act.TheVariants.{CfwLost}
 use Rattle.plain_defs.specs.History.{OpenEntry, History, plain_of, acted, acted_in}
 use Rattle.plain_defs.specs.Journal.{Plans, replay}
 use Rattle.plain_defs.specs.Legal.{AreActs}
-use Rattle.plain_defs.specs.Loose.{is_loose_in, firm_in, restored, next_number, act_done, cfw_lost}
+use Rattle.plain_defs.specs.Loose.{firm_in, restored, next_number, cfw_lost}
 use Rattle.plain_defs.specs.PlainState.{LooseTrack, PlainState, empty_state}
 use Rattle.plain_defs.specs.Program.{acts_done}
 use Rattle.track_image.specs.Image.{Image}
 use Rattle.track_table.specs.Tracks.{least}
-use Rattle.device_outside.specs.Interaction.{Interaction, Done, and_then}
+use Rattle.device_outside.specs.Interaction.{Done, and_then}
 use Rattle.device_defs.specs.declared.answers.Did.{Did}
 use Rattle.device_defs.specs.declared.answers.Took.{Took}
 use Rattle.device_defs.specs.declared.answers.Took.TheVariants.{Whole, Opened, Unwritten}
@@ -85,11 +53,11 @@ use Rattle.device_defs.specs.Background.{
   other,
 }
 use Rattle.device_defs.specs.Contents.{by_plain}
-use Rattle.device_defs.specs.Device.{Device, all_acted, with_store, event_begun}
+use Rattle.device_defs.specs.Device.{all_acted, with_store}
 use Rattle.device_defs.specs.Effects.{gone_back, loose_lost}
 use Rattle.device_defs.specs.Events as V
 use Rattle.device_defs.specs.Events.{with_loss, lost_by, losing, lose, background}
-use Rattle.device_defs.specs.Image.{Got, level_bytes, image_of, filled}
+use Rattle.device_defs.specs.Image.{Got, filled}
 use Rattle.device_defs.specs.Losses as L
 use Rattle.device_defs.specs.Losses.{
   over,
@@ -111,18 +79,16 @@ use Rattle.device_defs.specs.Losses.{
 }
 use Rattle.device_defs.specs.Marks.{MarksDevice, MarksStore}
 use Rattle.device_defs.specs.Owed.{begun}
-use Rattle.device_defs.specs.Store.{tracks_of, has_loose, is_loose, is_lost, half_is, owed_at, frame_at, patch_at, plain_at, with_frame, with_stale}
-use Rattle.device_defs.specs.Writing.{firm_first, write_first, write_done}
-use Rattle.device_laws.proofs.DeviceCuts.{StandsPlainly}
+use Rattle.device_defs.specs.Store.{tracks_of, is_loose, is_lost, half_is, owed_at, frame_at, patch_at, plain_at, with_frame, with_stale}
 use Rattle.device_laws.proofs.DeviceEnds.{acts_stand}
-use Rattle.device_laws.proofs.DevicePaths.{KeepsPaths, acts_keep_them}
-use Rattle.device_laws.proofs.Had.{Had, had_done, had_try, had_ask, had_read, had_write, had_tell, had_if, had_then, had_weaker}
+use Rattle.device_laws.proofs.DevicePaths.{acts_keep_them}
+use Rattle.device_laws.proofs.Had.{Had, had_done, had_try, had_ask, had_read, had_write, had_tell, had_if, had_then}
 use Rattle.device_laws.proofs.HistoryActs.{some_loose, all_acted_state}
 use Rattle.device_laws.proofs.OpenProgram.{acts_more}
 use Rattle.device_laws.proofs.PlainCommand.{event_follows, all_run, runs_first}
 use Rattle.device_laws.proofs.PlainEvents.{none_loose}
-use Rattle.device_laws.proofs.PlainStores.{Core, core_of, loose_at, IsOf, IsAlone, Walks, walks_on, acts_done_more}
-use Rattle.device_laws.proofs.PlainTurns.{RunsAt, ChainOf, Follows, StillRuns, of_begun}
+use Rattle.device_laws.proofs.PlainStores.{Core, core_of, IsOf, IsAlone, Walks, walks_on, acts_done_more}
+use Rattle.device_laws.proofs.PlainTurns.{RunsAt, ChainOf, Follows, of_begun}
 use Rattle.device_laws.proofs.PlainWalks.{FirstTook, framed_same, patch_same, everywhere_same, stale_same, bytes_same, failed_same, settled_on, firm_first_on, first_on, done_same}
 use Rattle.device_laws.proofs.Working.{least_found}
 

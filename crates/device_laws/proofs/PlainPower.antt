@@ -1,34 +1,5 @@
 -- A loss of power keeps the history of a run's device a plain device's.
-use Rattle.std.proofs.Common.{
-  ◌≡◌,
-  ◌<◌,
-  ◌≤◌,
-  ◌*◌,
-  ◌==◌,
-  ◌++◌,
-  ℕ,
-  Bool,
-  true,
-  false,
-  List,
-  [],
-  ◌∷◌,
-  length,
-  Option,
-  Some,
-  None,
-  is_some,
-  cond,
-  get_or,
-  refl,
-  sym,
-  ap,
-  subst,
-  ◌∙◌,
-  arith,
-  inl,
-  inr,
-}
+use Rattle.std.proofs.Common.{◌≡◌, ◌<◌, ◌≤◌, ◌++◌, ℕ, Bool, true, false, List, [], ◌∷◌, Option, Some, None, is_some, cond, refl, sym, ap, subst, ◌∙◌, arith, inl, inr}
 use Rattle.std.specs.Prelude.{◌⊎◌, if◌then◌else◌}
 use Rattle.std.proofs.lemmas.Bool.{cases_Bool, cases_lt, cond_both, eq-eqb, true≢false}
 use Rattle.std.proofs.lemmas.List.{get_or_past}
@@ -42,30 +13,28 @@ use Rattle.plain_defs.specs.History.{OpenEntry, History, plain_of, state_by, los
 use Rattle.plain_defs.specs.Journal.{Plans, replay, replay_item}
 use Rattle.plain_defs.specs.Legal.{AreActs, IsSomeLoose, IsLegalFrom, is_started}
 use Rattle.plain_defs.specs.Loose.{is_loose_in, without, act_done, cfw_lost, lost_by_power, power_off}
-use Rattle.plain_defs.specs.PlainState.{LooseTrack, PlainState, PathsState, empty_state, fresh_paths}
+use Rattle.plain_defs.specs.PlainState.{LooseTrack, PlainState, empty_state, fresh_paths}
 use Rattle.plain_defs.specs.Program.{acts_done}
 use Rattle.track_table.specs.Tracks.{least}
-use Rattle.device_outside.specs.Interaction.{Done, and_then}
 use Rattle.device_defs.specs.Contents.{by_plain}
 use Rattle.device_defs.specs.Cutting as K
 use Rattle.device_defs.specs.Cutting.{counts_one_by, half_cut, half_lost, loose_gone, powerless, powered_off, power}
-use Rattle.device_defs.specs.Device.{Device, event_begun}
+use Rattle.device_defs.specs.Device.{event_begun}
 use Rattle.device_defs.specs.Effects.{gone_back}
 use Rattle.device_defs.specs.Events.{with_loss}
-use Rattle.device_defs.specs.Losses.{settled, without_frame, over}
+use Rattle.device_defs.specs.Losses.{settled, without_frame}
 use Rattle.device_defs.specs.Marks.{MarksDevice, MarksStore}
-use Rattle.device_defs.specs.Owed.{begun, waiting_count, ended}
-use Rattle.device_defs.specs.Store.{HalfWrite, tracks_of, is_loose, has_loose}
+use Rattle.device_defs.specs.Owed.{begun, waiting_count}
+use Rattle.device_defs.specs.Store.{HalfWrite, tracks_of, is_loose}
 use Rattle.device_laws.proofs.CacheLost.{none_below}
-use Rattle.device_laws.proofs.DeviceCuts.{StandsPlainly, power_stands}
-use Rattle.device_laws.proofs.DevicePaths.{KeepsPaths}
+use Rattle.device_laws.proofs.DeviceCuts.{power_stands}
 use Rattle.device_laws.proofs.Had.{Had, had_done, had_then, had_weaker}
 use Rattle.device_laws.proofs.HistoryCuts.{idle_power_state, power_cut_state}
 use Rattle.device_laws.proofs.PathsAlong.{power_keeps_paths}
-use Rattle.device_laws.proofs.PlainEvents.{had_always, had_both, may, none_taken, no_half, runs_idle}
-use Rattle.device_laws.proofs.PlainLosses.{gone_core, of_gone, alone_gone, Walked, Goes, over_goes, unframed_settles}
-use Rattle.device_laws.proofs.PlainStores.{Core, core_of, loose_at, IsOf, IsAlone, Walks}
-use Rattle.device_laws.proofs.PlainTurns.{RunsAt, ChainOf, Follows, of_paths, of_begun}
+use Rattle.device_laws.proofs.PlainEvents.{had_always, had_both, may, none_taken, runs_idle}
+use Rattle.device_laws.proofs.PlainLosses.{of_gone, alone_gone, Walked, Goes, over_goes, unframed_settles}
+use Rattle.device_laws.proofs.PlainStores.{Core, core_of, IsOf, IsAlone}
+use Rattle.device_laws.proofs.PlainTurns.{ChainOf, Follows, of_paths, of_begun}
 use Rattle.device_laws.proofs.PlainWalks.{ended_same}
 use Rattle.device_laws.proofs.Working.{least_found}
 

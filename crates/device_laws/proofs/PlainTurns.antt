@@ -1,80 +1,33 @@
 -- A run's device whose history is a plain device's, and that behind the end of its command at hand.
-use Rattle.std.proofs.Common.{
-  ◌≡◌,
-  ◌<◌,
-  ◌≤◌,
-  ◌+◌,
-  ◌*◌,
-  zero,
-  suc,
-  ℕ,
-  Bool,
-  true,
-  false,
-  List,
-  [],
-  ◌∷◌,
-  ◌++◌,
-  length,
-  Option,
-  Some,
-  None,
-  cond,
-  refl,
-  sym,
-  ap,
-  subst,
-  ◌∙◌,
-  arith,
-}
-use Rattle.std.specs.Prelude.{IfSome, IsSome}
+use Rattle.std.proofs.Common.{◌≡◌, ◌<◌, ℕ, Bool, true, false, List, [], Option, Some, None, cond, refl, sym, ap, subst, ◌∙◌}
+use Rattle.std.specs.Prelude.{IsSome}
 use Rattle.ckd_types.specs.declared.channel.Ccw.{Ccw}
 use Rattle.ckd_types.specs.declared.channel.CommandEnd.{CommandEnd}
 use Rattle.ckd_types.specs.declared.geometry.Geometry.{Geometry}
 use Rattle.ckd_types.specs.Ccw.{ccw_at}
-use Rattle.ckd_types.specs.Fixed.{Fixed}
-use Rattle.ckd_chain.specs.declared.progress.Settled.{Settled}
 use Rattle.ckd_chain.specs.declared.progress.Settled.TheVariants.{Equipment, DataCheck}
 use Rattle.ckd_chain.specs.State.{ChainState}
-use Rattle.ckd_chain.specs.Steps.{index_of, word_of, behind, end_with, settled_by}
-use Rattle.ckd_rules.specs.declared.stance.Stance.{Stance}
+use Rattle.ckd_chain.specs.Steps.{index_of, behind, end_with, settled_by}
 use Rattle.ckd_rules.specs.Ending.{Outcome}
 use Rattle.ckd_rules.specs.Ends.{end_of}
 use Rattle.plain_defs.specs.declared.journal.Act.{Act}
-use Rattle.plain_defs.specs.declared.journal.How.TheVariants.{Full, Checked}
+use Rattle.plain_defs.specs.declared.journal.How.TheVariants.{Full}
 use Rattle.plain_defs.specs.Effect.{Effect, behind_effect}
-use Rattle.plain_defs.specs.History.{
-  OpenEntry,
-  History,
-  open_part,
-  plain_of,
-  state_by,
-  acted,
-  acted_in,
-  with_end,
-  closed,
-  ended as history_ended,
-  ended_in,
-  checked,
-  checked_in,
-  IsOpen,
-  IsPlain,
-}
+use Rattle.plain_defs.specs.History.{OpenEntry, History, open_part, plain_of, state_by, acted, acted_in, with_end, closed, ended as history_ended, ended_in, checked, checked_in, IsPlain}
 use Rattle.plain_defs.specs.Journal.{Plans, program_of, replay}
-use Rattle.plain_defs.specs.Legal.{AreActs, MayEdit, IsCheck, IsLegal}
+use Rattle.plain_defs.specs.Legal.{MayEdit, IsCheck, IsLegal}
 use Rattle.plain_defs.specs.PlainState.{PathsState, PlainState, empty_state, with_sense}
 use Rattle.plain_defs.specs.Program.{Part, ended_with, part_of}
 use Rattle.device_defs.specs.declared.answers.Came.TheVariants.{Ends}
-use Rattle.device_defs.specs.Device.{Device, all_acted, all_reset}
-use Rattle.device_defs.specs.Marks.{MarksDevice, MarksStore}
-use Rattle.device_defs.specs.Outcomes.{Turn, checks, turned, sense_kept, program_over}
+use Rattle.device_defs.specs.Device.{all_reset}
+use Rattle.device_defs.specs.Marks.{MarksDevice}
+use Rattle.device_defs.specs.Outcomes.{checks, turned, sense_kept, program_over}
 use Rattle.device_laws.proofs.ChainAtHand.{act_at_hand, end_at_hand}
 use Rattle.device_laws.proofs.DeviceCuts.{StandsPlainly}
 use Rattle.device_laws.proofs.DeviceEnds.{equipment_stands, data_check_stands}
 use Rattle.device_laws.proofs.DeviceHistory.{IsAtHand, next_is, index_is, equipment_is_check, data_check_is_check}
 use Rattle.device_laws.proofs.DevicePaths.{KeepsPaths}
 use Rattle.device_laws.proofs.DueResets.{ended_due}
-use Rattle.device_laws.proofs.HistoryActs.{acts_first, acts_rest, acted_plain, acted_state}
 use Rattle.device_laws.proofs.HistoryEnds.{
   all_reset_in,
   edited_next,

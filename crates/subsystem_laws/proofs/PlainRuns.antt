@@ -1,6 +1,6 @@
 -- In the run of a deck each device's history is one of a plain device after every event.
 use Rattle.std.proofs.Common.{◌≡◌, ◌≤◌, ◌==◌, zero, suc, ℕ, Bool, true, false, List, [], ◌∷◌, ◌++◌, map, Option, Some, None, is_some, refl, subst, arith}
-use Rattle.std.specs.Prelude.{All, ⊤, IfSome, if◌then◌else◌}
+use Rattle.std.specs.Prelude.{not, All, ⊤, IfSome, if◌then◌else◌}
 use Rattle.std.proofs.lemmas.Bool.{cond_both}
 use Rattle.std.proofs.lemmas.List.Elements.{All-nil, All-cons, All-head, All-tail}
 use Rattle.deck_plan.specs.declared.event.EventLine.{EventLine}
@@ -8,27 +8,43 @@ use Rattle.deck_text.specs.declared.line.DeviceLine.{DeviceLine}
 use Rattle.deck_text.specs.DeckLines.{DeckLines}
 use Rattle.plain_defs.specs.History.{OpenEntry, IsPlain}
 use Rattle.plain_defs.specs.PlainState.{PlainState}
+use Rattle.ckd_types.specs.declared.paths.Side.{Side}
+use Rattle.ckd_types.specs.declared.paths.Side.TheVariants.{A, B}
+use Rattle.loss_model.specs.declared.Loss.{Loss}
+use Rattle.loss_model.specs.declared.Loss.TheVariants as losses
+use Rattle.device_outside.specs.Told.{Calls}
 use Rattle.device_outside.specs.Interaction.{Done, and_then}
-use Rattle.device_outside.specs.Pool.{Pool}
+use Rattle.device_outside.specs.Pool.{Pool, all_waiting, cache_repaired, store_repaired}
 use Rattle.device_defs.specs.declared.answers.StartFault.{StartFault}
 use Rattle.device_defs.specs.Command.{command}
 use Rattle.device_defs.specs.Contents.{by_plain}
-use Rattle.device_defs.specs.Cutting.{reset}
-use Rattle.device_defs.specs.Marks.{MarksDevice}
+use Rattle.device_defs.specs.Cutting.{reset, power}
+use Rattle.device_defs.specs.Events.{lose, background}
+use Rattle.device_defs.specs.Orders.{hold, resume, replace}
+use Rattle.device_defs.specs.Marks.{MarksDevice, MarksStore}
 use Rattle.device_defs.specs.Start.{start_fault}
 use Rattle.device_defs.specs.Store.{HalfWrite}
 use Rattle.device_laws.proofs.Had.{Had, had_done, had_then, had_weaker, held}
-use Rattle.device_laws.proofs.PlainCommand.{command_follows}
+use Rattle.device_laws.proofs.PlainCommand.{command_follows, follows_store}
 use Rattle.device_laws.proofs.PlainEvents.{new_follows, start_follows, reset_follows}
+use Rattle.device_laws.proofs.PlainLosses.{loss_follows, background_follows}
+use Rattle.device_laws.proofs.PlainPower.{power_follows}
+use Rattle.device_laws.proofs.PlainStores.{core_of}
 use Rattle.device_laws.proofs.PlainTurns.{Follows}
 use Rattle.subsystem_defs.specs.declared.end.EventEnd.{EventEnd}
 use Rattle.subsystem_defs.specs.declared.end.EventEnd.TheVariants as ends
+use Rattle.subsystem_defs.specs.declared.end.OrderFault.{OrderFault}
+use Rattle.subsystem_defs.specs.declared.end.OrderFault.TheVariants.{NoSide, Unpaired}
 use Rattle.subsystem_defs.specs.declared.event.Event.{Event}
 use Rattle.subsystem_defs.specs.declared.event.Event.TheVariants as events
 use Rattle.subsystem_defs.specs.Decks as D
 use Rattle.subsystem_defs.specs.Decks.{opened_device, opened, run_from, run_asked, run_of}
 use Rattle.subsystem_defs.specs.Deeds as E
 use Rattle.subsystem_defs.specs.Deeds.{
+  back,
+  order,
+  order_if_not,
+  repair,
   Deed,
   Ends,
   Becomes,
@@ -50,9 +66,13 @@ use Rattle.subsystem_defs.specs.Deeds.{
   end_of,
 }
 use Rattle.subsystem_defs.specs.Happening as H
-use Rattle.subsystem_defs.specs.Happening.{Happened, MarksDeed, Talk, held_with, told_to, mounted_behind, asks, becomes, happens_by, happens, quietly, sweep, swept}
+use Rattle.subsystem_defs.specs.Happening.{Happened, MarksDeed, Talk, held_with, told_to, mounted_behind, asks, becomes, happens_by, happens, quietly, sweep, swept, replaced_by, replaced_at, replaced, unpaired_by, unpaired_at, unpaired}
 use Rattle.subsystem_defs.specs.Lines as L
 use Rattle.subsystem_defs.specs.Lines.{
+  is_settled,
+  most_backs,
+  backs,
+  back_logged,
   Asked,
   Once,
   Replace,
@@ -74,7 +94,9 @@ use Rattle.subsystem_defs.specs.Lines.{
   run_lines,
 }
 use Rattle.subsystem_defs.specs.Promised.{HasPlainHistory, IsPlainBehind}
-use Rattle.subsystem_defs.specs.Subsystem.{Mounted, Subsystem, number_of, devices_of, mounted_in, put_in}
+use Rattle.subsystem_defs.specs.Subsystem.{Mounted, Subsystem, number_of, devices_of, mounted_in, put_in, with_calls, unfailing}
+use Rattle.subsystem_defs.specs.Refusals as R
+use Rattle.subsystem_defs.specs.Refusals.{first_cause, where_so, lent_by, suspend_fault, resume_fault, fail_fault, replace_fault, unpair_fault}
 use Rattle.subsystem_laws.specs.Served.{IsServedEvent, IsServed, IsServedDeck}
 
 -- a device that follows the plain device of its history
@@ -207,29 +229,107 @@ reset_plain d path p = record {
       (had_weaker (reset_follows p.empty d p.follows path) (λ y _ g. record { empty = p.empty; follows = g }));
 }
 
+background_plain : (d : MarksDevice) → Plainly d → PlainDeed (back by_plain d)
+background_plain d p =
+    deed_if (is_some d.store.half) (λ some. absurd (no_half d d.store.half p.follows.alone.whole some))
+    (λ _. record {
+      is = answers (background by_plain d) (end_of ends.Back)
+          (had_weaker (background_follows p.empty d p.follows) (λ y _ g. record { empty = p.empty; follows = g }));
+    })
+
+loss_plain : (d : MarksDevice) (loss : Loss) → Plainly d → Leaves (lose by_plain d loss)
+loss_plain d loss p = had_weaker (loss_follows p.empty d p.follows loss) (λ y _ g. record { empty = p.empty; follows = g })
+
+power_plain : (d : MarksDevice) → Plainly d → Leaves (power by_plain d)
+power_plain d p = had_weaker (power_follows p.empty d p.follows) (λ y _ g. record { empty = p.empty; follows = g })
+
+-- an order that changes nothing of what a plain device has
+stored : (d : MarksDevice) (z : MarksStore) → core_of z ≡ core_of d.store → Plainly d → Plainly (record d { store = z })
+stored d z e p = record { empty = p.empty; follows = follows_store p.empty d p.follows z e }
+
+ordered : (o : Option OrderFault) {x : MarksDeed} → (o ≡ None → PlainDeed x) → PlainDeed (order o x)
+ordered (Some fault) h = record { is = tt }
+ordered None h = h refl
+
+side_plain : (d : MarksDevice) (side : Side) → Plainly d → PlainDeed (order (fail_fault d side) (Asks d (ends_by ends_done (lose by_plain d (losses.Side side)))))
+side_plain d side p =
+    ordered (fail_fault d side) (λ _. record { is = answers (lose by_plain d (losses.Side side)) (λ a. Some (ends_done a)) (loss_plain d (losses.Side side) p) })
+
+repair_plain : (up : Bool) (pool repaired : Pool) → PlainDeed (repair {F = Bool} {P = Unit {0}} {H = Unit {0}} {R = Bool} up pool repaired)
+repair_plain up pool repaired =
+    deed_if up (λ _. record { is = tt }) (λ _. deed_if (all_waiting pool == 0) (λ _. record { is = tt }) (λ _. record { is = tt }))
+
 module _ (s : Subsystem) (p : ArePlain s.mounted) where
   deed_plain : (e : Event) → IsServedEvent e → PlainDeed (deed by_plain s.pool (devices_of s) e)
   unfolding E.deed
   deed_plain (events.Start path d) h =
       on_plain (device_in (devices_of s) d) (starts path) (device_plain s.mounted d p) (λ x q. starts_plain x path h.0 h.1 q)
   deed_plain (events.Step d) h = on_plain (device_in (devices_of s) d) (step by_plain) (device_plain s.mounted d p) step_plain
+  deed_plain (events.Back d) h = on_plain (device_in (devices_of s) d) (back by_plain) (device_plain s.mounted d p) background_plain
   deed_plain (events.Reset path d) h =
       on_plain (device_in (devices_of s) d) (λ x. Asks x (ends_by ends_done (reset by_plain x path))) (device_plain s.mounted d p) (λ x q. reset_plain x path q)
-  deed_plain (events.Back d) h = absurd h
-  deed_plain events.FailCache h = absurd h
-  deed_plain events.FailStore h = absurd h
-  deed_plain (events.FailVolume d side) h = absurd h
-  deed_plain events.RepairCache h = absurd h
-  deed_plain events.RepairStore h = absurd h
+  deed_plain events.FailCache h = deed_if (not s.pool.cache_up) (λ _. record { is = tt }) (λ _. record { is = λ d q. loss_plain d losses.Cache q })
+  deed_plain events.FailStore h = deed_if (not s.pool.store_up) (λ _. record { is = tt }) (λ _. record { is = λ d q. loss_plain d losses.Store q })
+  deed_plain (events.FailVolume d side) h =
+      on_plain (device_in (devices_of s) d) (λ x. order (fail_fault x side) (Asks x (ends_by ends_done (lose by_plain x (losses.Side side)))))
+      (device_plain s.mounted d p) (λ x q. side_plain x side q)
+  deed_plain events.RepairCache h = repair_plain s.pool.cache_up s.pool (cache_repaired s.pool)
+  deed_plain events.RepairStore h = repair_plain s.pool.store_up s.pool (store_repaired s.pool)
   deed_plain (events.Pair a b) h = absurd h
-  deed_plain (events.Suspend a) h = absurd h
-  deed_plain (events.Resume a) h = absurd h
-  deed_plain events.Power h = absurd h
+  deed_plain (events.Suspend a) h =
+      on_plain (device_in (devices_of s) a) (λ x. order (suspend_fault x) (Becomes (hold x) ends.Done)) (device_plain s.mounted a p)
+      (λ x q. ordered (suspend_fault x) (λ _. record { is = stored x (hold x).store refl q }))
+  deed_plain (events.Resume a) h =
+      on_plain (device_in (devices_of s) a) (λ x. order (resume_fault x) (Becomes (resume x) ends.Done)) (device_plain s.mounted a p)
+      (λ x q. ordered (resume_fault x) (λ _. record { is = stored x (resume x).store refl q }))
+  deed_plain events.Power h = record { is = power_plain }
 
   -- one event
   pub event_plain : (e : Event) → IsServedEvent e → ArePlain (happens s e).behind.mounted
   unfolding H.happens
   event_plain e h = happens_plain s (deed by_plain s.pool (devices_of s) e) p (deed_plain e h).is
+
+-- The two orders for which a volume is handed in
+
+unpaired_side : (b : Bool) (fs : List (Option OrderFault)) → b ≡ false → first_cause (where_so (not b) NoSide ∷ fs) ≡ None → ⊥
+unpaired_side true fs e is = cc
+unpaired_side false fs e is = cc
+
+no_side : (lent : Option ℕ) (b : Bool) (fs : List (Option OrderFault)) → b ≡ false → first_cause (lent_by lent ∷ where_so (not b) NoSide ∷ fs) ≡ None → ⊥
+no_side (Some to) b fs e is = cc
+no_side None b fs e is = unpaired_side b fs e is
+
+replaced_side : (d : MarksDevice) (side : Side) → Plainly d → replace_fault d side ≡ None → Plainly (replace d side)
+unfolding R.replace_fault
+replaced_side d A p is = stored d (replace d A).store refl p
+replaced_side d B p is = absurd (no_side d.store.lent d.store.paired _ p.follows.alone.paired is)
+
+replaced_plain : (s : Subsystem) (n : ℕ) (side : Side) (calls : Calls) → ArePlain s.mounted → (o : Option Mounted) → IfSome o IsPlainly →
+    ArePlain (replaced_at s n side calls o).behind.mounted
+replaced_plain s n side calls p None q = p
+replaced_plain s n side calls p (Some m) q = by_fault (replace_fault m.device side) refl where
+  with_side : (side : Side) (m : Mounted) → IsPlainly m → IsPlainly (with_calls m side calls)
+  with_side A m q = q
+  with_side B m q = q
+
+  by_fault : (o : Option OrderFault) → replace_fault m.device side ≡ o → ArePlain (replaced_by s n side calls m o).behind.mounted
+  by_fault (Some fault) is = p
+  by_fault None is =
+      put_plain s.mounted n (with_calls (record m { device = replace m.device side }) side calls) p
+      (with_side side (record m { device = replace m.device side }) (replaced_side m.device side q is))
+
+none_unpaired : (b : Bool) (fs : List (Option OrderFault)) → b ≡ false → first_cause (where_so (not b) Unpaired ∷ fs) ≡ None → ⊥
+none_unpaired true fs e is = cc
+none_unpaired false fs e is = cc
+
+unpaired_plain : (s : Subsystem) (n : ℕ) (calls : Calls) → ArePlain s.mounted → (o : Option Mounted) → IfSome o IsPlainly →
+    ArePlain (unpaired_at s n calls o).behind.mounted
+unfolding R.unpair_fault
+unpaired_plain s n calls p None q = p
+unpaired_plain s n calls p (Some m) q = by_fault (unpair_fault m.device) refl where
+  by_fault : (o : Option OrderFault) → unpair_fault m.device ≡ o → ArePlain (unpaired_by s n calls m o).behind.mounted
+  by_fault (Some fault) is = p
+  by_fault None is = absurd (none_unpaired m.device.store.paired _ q.follows.alone.paired is)
 
 -- Lines
 
@@ -264,13 +364,23 @@ run_plain d s p =
     cond_both (is_busy (mounted_in s.mounted d)) (steps most_steps d s) (logged (Run d) (quietly s s ends.Idle) ∷ []) (LogsPlain s)
     (λ _. steps_plain most_steps d s p) (λ _. (p, p))
 
+backs_plain : (n d : ℕ) (s : Subsystem) → ArePlain s.mounted → LogsPlain s (backs n d s)
+unfolding L.backs
+backs_plain zero d s p = p
+backs_plain (suc n) d s p =
+    let h = happens s (events.Back d) in
+    let behind = event_plain s p (events.Back d) tt in (
+      behind,
+      cond_both (is_settled h.end) [] (backs n d h.behind) (LogsPlain h.behind) (λ _. behind) (λ _. backs_plain n d h.behind behind),
+    )
+
 line_plain : (x : Asked) (s : Subsystem) → IsServed x → ArePlain s.mounted → LogsPlain s (line_logged s x)
-unfolding L.line_logged
+unfolding L.line_logged H.replaced H.unpaired
 line_plain (Once e) s h p = let behind = event_plain s p e h in (behind, behind)
-line_plain (Replace d side) s h p = absurd h
-line_plain (Unpair a) s h p = absurd h
+line_plain (Replace d side) s h p = let q = replaced_plain s d side unfailing p (mounted_in s.mounted d) (mounted_plain s.mounted d p) in (q, q)
+line_plain (Unpair a) s h p = let q = unpaired_plain s a unfailing p (mounted_in s.mounted a) (mounted_plain s.mounted a p) in (q, q)
 line_plain (Run d) s h p = run_plain d s p
-line_plain (Settle d) s h p = absurd h
+line_plain (Settle d) s h p = backs_plain most_backs d s p
 
 lines_plain : (lines : List EventLine) (s : Subsystem) → All (λ (line : EventLine). IsServed (asked_by line)) lines → ArePlain s.mounted →
     LogsPlain s (run_lines (map asked_by lines) s)

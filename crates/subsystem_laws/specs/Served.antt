@@ -5,20 +5,19 @@ use Rattle.deck_text.specs.declared.line.DeviceLine.{DeviceLine}
 use Rattle.deck_text.specs.DeckLines.{DeckLines}
 use Rattle.subsystem_defs.specs.declared.event.Event.{Event}
 use Rattle.subsystem_defs.specs.declared.event.Event.TheVariants as events
-use Rattle.subsystem_defs.specs.Lines.{Asked, Once, Run, asked_by}
+use Rattle.subsystem_defs.specs.Lines.{Asked, Once, asked_by}
 
+-- a path is one of four, and no devices are paired
 abbrev pub IsServedEvent : Event → Type 0
 IsServedEvent (events.Start path d) = (1 ≤ path) × (path ≤ 4)
-IsServedEvent (events.Step d) = ⊤
-IsServedEvent (events.Reset path d) = ⊤
-IsServedEvent _ = ⊥
+IsServedEvent (events.Pair a b) = ⊥
+IsServedEvent _ = ⊤
 
 abbrev pub IsServed : Asked → Type 0
 IsServed (Once e) = IsServedEvent e
-IsServed (Run d) = ⊤
-IsServed _ = ⊥
+IsServed _ = ⊤
 
--- each device has a cylinder, and a path is one of four, as in every deck that was read; so far its lines start, step, run and reset
+-- each device has a cylinder. In every deck that was read that is so, and so it is with the paths
 pub record IsServedDeck (deck : DeckLines) : Type 0 where
   pub devices : All (λ (d : DeviceLine). 1 ≤ d.cylinders) deck.devices
   pub events : All (λ (line : EventLine). IsServed (asked_by line)) deck.events
