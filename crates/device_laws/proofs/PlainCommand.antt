@@ -1,7 +1,32 @@
 -- A command of a run's device keeps its history a plain device's, whatever calls fail and whatever the pool answers.
 use Rattle.std.specs.Prelude.{IsSome}
 use Rattle.std.proofs.lemmas.List.{get_or-set_same, length-set}
-use Rattle.std.proofs.Common.{set, get_or, ◌≡◌, ◌<◌, ◌*◌, zero, suc, ℕ, Bool, true, false, List, [], ◌∷◌, length, Option, Some, None, refl, sym, ap, subst, ◌∙◌, arith}
+use Rattle.std.proofs.Common.{
+  set,
+  get_or,
+  ◌≡◌,
+  ◌<◌,
+  ◌*◌,
+  zero,
+  suc,
+  ℕ,
+  Bool,
+  true,
+  false,
+  List,
+  [],
+  ◌∷◌,
+  length,
+  Option,
+  Some,
+  None,
+  refl,
+  sym,
+  ap,
+  subst,
+  ◌∙◌,
+  arith,
+}
 use Rattle.ckd_types.specs.declared.channel.Ccw.{Ccw}
 use Rattle.ckd_types.specs.declared.channel.CommandEnd.{CommandEnd}
 use Rattle.ckd_types.specs.declared.geometry.Geometry.{Geometry}
@@ -78,8 +103,34 @@ use Rattle.device_laws.proofs.HistoryActs.{acts_first, acts_rest, acted_plain, a
 use Rattle.device_laws.proofs.HistoryEnds.{edited_next, effect_at, running_is_open}
 use Rattle.device_laws.proofs.OpenProgram.{IsGoing, with_one_act, going_of_open, going_with_act, part_with_act}
 use Rattle.device_laws.proofs.PlainLooks.{IsAtWord, from_itself, EditSo, TurnIs, ended_so, equipment, data_check, FollowSo, follow_so}
-use Rattle.device_laws.proofs.PlainStores.{Core, core_of, loose_at, IsOf, IsAlone, Walks, edited, of_edited, of_loosely_edited, of_loosened, loosely_edited_core, loosened_core}
-use Rattle.device_laws.proofs.PlainTurns.{AtPart, RunsAt, ChainOf, Follows, of_paths, of_begun, StillRuns, act_at, one_act_runs, end_follows, equipment_follows, data_check_follows}
+use Rattle.device_laws.proofs.PlainStores.{
+  Core,
+  core_of,
+  loose_at,
+  IsOf,
+  IsAlone,
+  Walks,
+  edited,
+  of_edited,
+  of_loosely_edited,
+  of_loosened,
+  loosely_edited_core,
+  loosened_core,
+}
+use Rattle.device_laws.proofs.PlainTurns.{
+  AtPart,
+  RunsAt,
+  ChainOf,
+  Follows,
+  of_paths,
+  of_begun,
+  StillRuns,
+  act_at,
+  one_act_runs,
+  end_follows,
+  equipment_follows,
+  data_check_follows,
+}
 use Rattle.device_laws.proofs.PlainWalks.{IsEdited, firmly, loosely, loosened, hear_same, ended_same}
 use Rattle.device_laws.proofs.WaitingResets.{AreDue}
 
@@ -174,9 +225,15 @@ module _ (chain : ChainState) (fresh : chain.stage ≡ None) (paths : PathsState
       ∙ ap (λ (c : ChainState). record { came = Ends (end_with chain p); chain = c }) (behind_same z x p)
 
   pub over_answer : (z : Stance) (e : _) → AnswerIs (by_opening z (openings.Over e))
-      (ends_with (behind (begun_at z (openings.Over e)) (record { stance = z; ending = e })) (end_with (begun_at z (openings.Over e)) (record { stance = z; ending = e })))
+      (ends_with (behind (begun_at z (openings.Over e)) (record { stance = z; ending = e })) (end_with (begun_at z (openings.Over e))
+      (record { stance = z; ending = e })))
       paths
-  over_answer z e = record { turn_is = ends_so z (openings.Over e) (record { stance = z; ending = e }) (record { stance = z; ending = e }) refl; kept = refl; none = refl }
+  over_answer z e = record {
+    turn_is = ends_so z (openings.Over e) (record { stance = z; ending = e }) (record { stance = z; ending = e }) refl;
+    kept =
+        refl;
+    none = refl;
+  }
 
   pub asked_answer : (z : Stance) (act : LocalAct) (g : Geometry) → chain.fixed.geometry ≡ g →
       AnswerIs (by_opening z (openings.Asks act)) (settles (begun_at z (openings.Asks act)) (settled_act g paths path act)) (paths_behind paths path act)
@@ -325,14 +382,16 @@ module _ (empty : PlainState) (d : MarksDevice) (f : Follows empty d) (o : OpenE
     check_stands : StandsPlainly empty (with_store d y)
     check_stands = record { plain = plain_on y.acts are; due = due_on y.acts are }
 
-    equipment_on : IsOf (acts_done p y.acts) (core_of y) → (last : ChainState) → IsAtWord chain last → Follows empty (turned (with_store d y) o.path (checks last Equipment))
+    equipment_on : IsOf (acts_done p y.acts) (core_of y) → (last : ChainState) → IsAtWord chain last → Follows empty (turned (with_store d y) o.path
+        (checks last Equipment))
     equipment_on of last word =
         let r = runs_on y.acts are in
         subst (λ (path : ℕ). Follows empty (turned (with_store d y) path (checks last Equipment))) r.path_is
         (equipment_follows empty (with_store d y) (base_of y z) (some_of y z) z.alone r.entry r.running chain check_stands
         (acts_keep_them empty d y f.stands are f.keeps) (subst (λ (x : PlainState). IsOf x (core_of y)) (sym (state_on y.acts are)) of) r.at.hand last word)
 
-    data_check_on : IsOf (acts_done p y.acts) (core_of y) → (last : ChainState) → IsAtWord chain last → Follows empty (turned (with_store d y) o.path (checks last DataCheck))
+    data_check_on : IsOf (acts_done p y.acts) (core_of y) → (last : ChainState) → IsAtWord chain last → Follows empty (turned (with_store d y) o.path
+        (checks last DataCheck))
     data_check_on of last word =
         let r = runs_on y.acts are in
         subst (λ (path : ℕ). Follows empty (turned (with_store d y) path (checks last DataCheck))) r.path_is
@@ -526,14 +585,17 @@ module _ (empty : PlainState) (d : MarksDevice) (f : Follows empty d) (o : OpenE
       let ends : e ≡ end_with chain the_effect.outcome = sym end_is ∙ ap (λ (x : Fed). x.end) fed_is in
       let goes : after ≡ behind chain the_effect.outcome = sym chain_is ∙ ap (λ (x : Fed). x.chain) fed_is in
       subst (λ (x : CommandEnd). Follows empty (turned (with_store d y) o.path (record { came = Ends x; chain = after }))) (sym ends)
-      (subst (λ (x : ChainState). Follows empty (turned (with_store d y) o.path (record { came = Ends (end_with chain the_effect.outcome); chain = x }))) (sym goes)
+      (subst (λ (x : ChainState). Follows empty (turned (with_store d y) o.path (record { came = Ends (end_with chain the_effect.outcome); chain = x })))
+      (sym goes)
       (edit_follows y d2 the_effect.edit same refl sense (subst (λ (x : Fed). EditIs x.edit d2) fed_is edit)))
   turn_follows y c k turn same fed_is sense (equipment last d2 word w) =
       equipment_on y (sized_by y d2 d2 same w w.alone refl refl) (acts_are y d2 d2 same refl w)
-      (subst (λ (s : PlainState). IsOf s (core_of y)) (sym (state_of y d2 d2 same refl)) (subst (λ (k : Core). IsOf (acts_done p d2.acts) k) (sym same) w.of)) last word
+      (subst (λ (s : PlainState). IsOf s (core_of y)) (sym (state_of y d2 d2 same refl)) (subst (λ (k : Core). IsOf (acts_done p d2.acts) k)
+      (sym same) w.of)) last word
   turn_follows y c k turn same fed_is sense (data_check last d2 word w) =
       data_check_on y (sized_by y d2 d2 same w w.alone refl refl) (acts_are y d2 d2 same refl w)
-      (subst (λ (s : PlainState). IsOf s (core_of y)) (sym (state_of y d2 d2 same refl)) (subst (λ (k : Core). IsOf (acts_done p d2.acts) k) (sym same) w.of)) last word
+      (subst (λ (s : PlainState). IsOf s (core_of y)) (sym (state_of y d2 d2 same refl)) (subst (λ (k : Core). IsOf (acts_done p d2.acts) k)
+      (sym same) w.of)) last word
 
   -- In an event that began
 
@@ -565,7 +627,8 @@ module _ (empty : PlainState) (d : MarksDevice) (f : Follows empty d) (o : OpenE
         ∙ fed_so chain at.fresh d.paths o.path d.store.plain (settled_act chain.fixed.geometry d.paths o.path) k.0 t k.1 needs
 
     by_turn : (t : ℕ) → need_of chain ≡ Some t → (y : MarksStore) (a : Option Turn) →
-        FollowSo (plain_of d.plans empty d.history) d.store.plain d.store.geometry d.store.cylinders (settled_act chain.fixed.geometry d.paths o.path) chain on.0
+        FollowSo (plain_of d.plans empty d.history) d.store.plain d.store.geometry d.store.cylinders (settled_act chain.fixed.geometry d.paths o.path)
+        chain on.0
         (tracks_of s) chain y a → Had (on_tracks by_plain (started_with s) o.path chain y a) (λ x (_ : Option Stepped). Follows empty x)
     by_turn t needs y None w = absurd w
     by_turn t needs y (Some turn) w =

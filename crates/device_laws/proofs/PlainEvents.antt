@@ -1,5 +1,32 @@
 -- A new device of a run, a start and a reset keep its history a plain device's.
-use Rattle.std.proofs.Common.{◌≡◌, ◌<◌, ◌≤◌, ◌*◌, ◌==◌, ℕ, Bool, true, false, [], ◌∷◌, ◌++◌, length, Option, Some, None, cond, get_or, refl, sym, ap, subst, ◌∙◌, arith, inl, inr}
+use Rattle.std.proofs.Common.{
+  ◌≡◌,
+  ◌<◌,
+  ◌≤◌,
+  ◌*◌,
+  ◌==◌,
+  ℕ,
+  Bool,
+  true,
+  false,
+  [],
+  ◌∷◌,
+  ◌++◌,
+  length,
+  Option,
+  Some,
+  None,
+  cond,
+  get_or,
+  refl,
+  sym,
+  ap,
+  subst,
+  ◌∙◌,
+  arith,
+  inl,
+  inr,
+}
 use Rattle.std.specs.Prelude.{◌⊎◌, ◌||◌, replicate, if◌then◌else◌}
 use Rattle.std.proofs.lemmas.Bool.{cases_lt, cond_both}
 use Rattle.std.proofs.lemmas.List.{get_or-replicate, get_or_past, length-replicate}
@@ -217,7 +244,10 @@ module _ (empty : PlainState) (d : MarksDevice) (f : Follows empty d) where
           chain = f.chain;
         }
 
-    idle_reset : d.history.running ≡ None → has_used d.history path ≡ true → IsReset (record (reset_noted by_plain d path 0) { paths = reset_path d.paths path })
+    idle_reset : d.history.running ≡ None → has_used d.history path ≡ true → IsReset (record (reset_noted by_plain d path 0) {
+      paths = reset_path d.paths
+          path;
+    })
     idle_reset none used =
         let used_items : is_used path false d.history.items ≡ true =
         sym (ap (λ (r : Option OpenEntry). is_path_of r path || is_used path false d.history.items) none) ∙ used in

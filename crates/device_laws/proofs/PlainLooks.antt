@@ -24,7 +24,25 @@ use Rattle.ckd_chain.specs.declared.progress.Settled.TheVariants.{Written, Equip
 use Rattle.ckd_chain.specs.Fed as F
 use Rattle.ckd_chain.specs.Fed.{Fed, ended_by, fed_image, fed_by, fed}
 use Rattle.ckd_chain.specs.State.{ChainState}
-use Rattle.ckd_chain.specs.Steps.{Stepped, opening_at, stage_for, opened_by, opened, stage_by, stage_of, needed, need_of, standing, turned_by, stepped_by, stepped, behind, end_with, settled_by, word_of}
+use Rattle.ckd_chain.specs.Steps.{
+  Stepped,
+  opening_at,
+  stage_for,
+  opened_by,
+  opened,
+  stage_by,
+  stage_of,
+  needed,
+  need_of,
+  standing,
+  turned_by,
+  stepped_by,
+  stepped,
+  behind,
+  end_with,
+  settled_by,
+  word_of,
+}
 use Rattle.ckd_rules.specs.declared.opening.Opening.{Opening}
 use Rattle.ckd_rules.specs.declared.opening.Opening.TheVariants as openings
 use Rattle.ckd_rules.specs.declared.order.LocalAct.{LocalAct}
@@ -275,7 +293,8 @@ module _ (p : PlainState) (u : List Track) (g : Geometry) (n : ℕ) (answer : Lo
     by_step s x (it_writes e next from) is w =
         had_then (write_walks p u g n (usage_of chain) first t e s (plain_image t) w) (λ z a f. wrote_so z e next a from is f)
 
-    checked_so : (s : MarksStore) → Walks p u g n (core_of s) → (how : Settled) → Had {R = Bool} {I = Image} (Done s (Some (Over (checks chain Equipment)))) (WentSo chain)
+    checked_so : (s : MarksStore) → Walks p u g n (core_of s) → (how : Settled) → Had {R = Bool} {I = Image} (Done s (Some (Over
+        (checks chain Equipment)))) (WentSo chain)
     checked_so s w how = had_done (λ k. equipment chain (core_of s) (at_word at.from) w)
 
     image_is : (s : MarksStore) (z : MarksStore) (a : Option Imaged) → Walks p u g n (core_of s) → Imaging s t z a →

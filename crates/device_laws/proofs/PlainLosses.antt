@@ -1,5 +1,34 @@
 -- Losses and work in the background keep the history of a run's device a plain device's.
-use Rattle.std.proofs.Common.{◌≡◌, ◌<◌, ◌*◌, ◌==◌, zero, suc, ℕ, Bool, true, false, List, [], ◌∷◌, ◌++◌, length, Option, Some, None, is_some, cond, set, get_or, refl, sym, ap, subst, ◌∙◌, arith}
+use Rattle.std.proofs.Common.{
+  ◌≡◌,
+  ◌<◌,
+  ◌*◌,
+  ◌==◌,
+  zero,
+  suc,
+  ℕ,
+  Bool,
+  true,
+  false,
+  List,
+  [],
+  ◌∷◌,
+  ◌++◌,
+  length,
+  Option,
+  Some,
+  None,
+  is_some,
+  cond,
+  set,
+  get_or,
+  refl,
+  sym,
+  ap,
+  subst,
+  ◌∙◌,
+  arith,
+}
 use Rattle.std.specs.Prelude.{◌||◌, replicate, if◌then◌else◌}
 use Rattle.std.proofs.lemmas.Bool.{cond_both, eqb-true, eqb-false}
 use Rattle.std.proofs.lemmas.List.{get_or-set_same, get_or-set_other, get_or_default, ext_get_or, length-set, length-replicate}
@@ -89,7 +118,19 @@ use Rattle.device_laws.proofs.PlainCommand.{event_follows, all_run, runs_first}
 use Rattle.device_laws.proofs.PlainEvents.{none_loose}
 use Rattle.device_laws.proofs.PlainStores.{Core, core_of, IsOf, IsAlone, Walks, walks_on, acts_done_more}
 use Rattle.device_laws.proofs.PlainTurns.{RunsAt, ChainOf, Follows, of_begun}
-use Rattle.device_laws.proofs.PlainWalks.{FirstTook, framed_same, patch_same, everywhere_same, stale_same, bytes_same, failed_same, settled_on, firm_first_on, first_on, done_same}
+use Rattle.device_laws.proofs.PlainWalks.{
+  FirstTook,
+  framed_same,
+  patch_same,
+  everywhere_same,
+  stale_same,
+  bytes_same,
+  failed_same,
+  settled_on,
+  firm_first_on,
+  first_on,
+  done_same,
+}
 use Rattle.device_laws.proofs.Working.{least_found}
 
 -- Where all data of cache fast write go
@@ -222,7 +263,8 @@ module _ (p : PlainState) (g : Geometry) (n : ℕ) where
       (λ _. cond_both (half_is z.half t) (without_patch by_plain z t) (settled by_plain (stale_everywhere (without_patch by_plain z t) t) t) Goes
       (λ _. unpatched t z w)
       (λ _. settles t (stale_everywhere (without_patch by_plain z t) t)
-      (goes_core (without_patch by_plain z t) (stale_everywhere (without_patch by_plain z t) t) (everywhere_same (without_patch by_plain z t) t) (unpatched t z w))))
+      (goes_core (without_patch by_plain z t) (stale_everywhere (without_patch by_plain z t) t) (everywhere_same (without_patch by_plain z t) t)
+      (unpatched t z w))))
       (λ _. w)
 
   down_goes : (s : MarksStore) (side : Side) → Goes s → Goes (down s side)
@@ -231,7 +273,8 @@ module _ (p : PlainState) (g : Geometry) (n : ℕ) where
 
   lost_goes : (s : MarksStore) (loss : Loss) → Goes s → Goes (lost_by by_plain s loss)
   unfolding L.cache_lost L.store_lost L.side_lost
-  lost_goes s losses.Cache w = over_goes (tracks_of s) (λ t z. settled by_plain (without_frame z t) t) unframed_settles (record (loose_lost s) { queue = [] }) (loose_goes s w)
+  lost_goes s losses.Cache w = over_goes (tracks_of s) (λ t z. settled by_plain (without_frame z t) t) unframed_settles (record
+      (loose_lost s) { queue = [] }) (loose_goes s w)
   lost_goes s losses.Store w = over_goes (tracks_of s) (patch_lost by_plain) patch_goes s w
   lost_goes s (losses.Side side) w = over_goes (tracks_of s) (settled_but by_plain None) settles (down s side) (down_goes s side w)
 
@@ -253,7 +296,8 @@ module _ (p : PlainState) (g : Geometry) (n : ℕ) where
     on_core : (s z : MarksStore) → core_of z ≡ core_of s → On s → On z
     on_core s z e w = walks_on p u g n e w
 
-    saved_on : (t : ℕ) (i : Image) (d : Did) (fault : Option Side) (was : Bool) (failed : Option Side) (s : MarksStore) (took : Took) → FirstTook p u g n t s took →
+    saved_on : (t : ℕ) (i : Image) (d : Did) (fault : Option Side) (was : Bool) (failed : Option Side) (s : MarksStore) (took : Took) →
+        FirstTook p u g n t s took →
         Had (saved_by by_plain t i d fault was failed s took) (λ z (_ : Did). On z)
     saved_on t i d fault was failed s Whole w = had_then (done_same p u g n s t i false) (λ z _ e. had_done (on_core s z e w.on))
     saved_on t i d fault was failed s Opened w = absurd w
@@ -274,7 +318,8 @@ module _ (p : PlainState) (g : Geometry) (n : ℕ) where
     recover_on s t (Some f) w = save_on s t _ _ None w
     recover_on s t None w = had_then (bytes_same s t w.alone.paired w.alone.off) (λ z k e. recovered_on t z k k.bytes (on_core s z e w))
 
-    failed_on : (s : MarksStore) (side : Side) (d : Option Did) → On s → Had (and_then (call_failed by_plain s side None) (λ z _. Done z d)) (λ z (_ : Option Did). On z)
+    failed_on : (s : MarksStore) (side : Side) (d : Option Did) → On s → Had (and_then (call_failed by_plain s side None) (λ z _. Done z d)) (λ z
+        (_ : Option Did). On z)
     failed_on s side d w = had_then (failed_same s side None w.alone.paired) (λ z _ e. had_done (subst On (sym e) w))
 
     copied_on : (t : ℕ) (side : Side) (s : MarksStore) (ok : Bool) → On s → Had (copied by_plain t side s ok) (λ z (_ : Option Did). On z)
@@ -386,7 +431,11 @@ module _ (empty : PlainState) (d : MarksDevice) (f : Follows empty d) where
   pub loss_follows : (loss : Loss) → Had (lose by_plain d loss) (λ y (_ : Unit {0}). Follows empty y)
   unfolding V.lose
   loss_follows loss = event_follows empty d (λ z. and_then (losing by_plain z.store loss) (λ s _. Done (with_store z s) tt)) (λ s e.
-      had_then (losing_goes (plain_of d.plans empty d.history) d.store.geometry d.store.cylinders s loss (record { plain = d.store.plain; walks = walks_first s e }))
+      had_then (losing_goes (plain_of d.plans empty d.history) d.store.geometry d.store.cylinders s loss (record {
+        plain = d.store.plain;
+        walks =
+            walks_first s e;
+      }))
       (λ z _ w. had_done (acts_follow z w)))
 
   -- what it does by itself

@@ -1,5 +1,35 @@
 -- What a run's device has of its plain volume, and what each change makes of it.
-use Rattle.std.proofs.Common.{◌≡◌, ◌*◌, ◌≢◌, ◌<◌, ◌≤◌, ◌==◌, ℕ, not, Bool, true, false, List, [], ◌∷◌, ◌++◌, Option, None, length, cond, set, get_or, refl, sym, ap, subst, ◌∙◌, arith, inl, inr}
+use Rattle.std.proofs.Common.{
+  ◌≡◌,
+  ◌*◌,
+  ◌≢◌,
+  ◌<◌,
+  ◌≤◌,
+  ◌==◌,
+  ℕ,
+  not,
+  Bool,
+  true,
+  false,
+  List,
+  [],
+  ◌∷◌,
+  ◌++◌,
+  Option,
+  None,
+  length,
+  cond,
+  set,
+  get_or,
+  refl,
+  sym,
+  ap,
+  subst,
+  ◌∙◌,
+  arith,
+  inl,
+  inr,
+}
 use Rattle.std.specs.Prelude.{◌⊎◌}
 use Rattle.std.proofs.lemmas.Bool.{cases_lt, eqb-true, eqb-false, eq-eqb, ne_eqb}
 use Rattle.std.proofs.lemmas.List.{get_or-set_same, get_or-set_other, get_or_past, length-set}
@@ -280,8 +310,10 @@ module _ (p : PlainState) (c : Core) (of : IsOf p c) (t : ℕ) where
     looses = of.looses ∙ sym (length-set c.plain t (apply_edit e (track_in c.plain t)));
     tracks = length-set c.plain t (apply_edit e (track_in c.plain t)) ∙ of.tracks;
   } where
-    firm_by : (q : ℕ) → (q ≡ t) ⊎ (q ≢ t) → firm_in p.loose q (track_in (put_track p.volume t e) q) ≡ track_in (set c.firm t (apply_edit e (track_in c.plain t))) q
-    firm_by q (inl same) = subst (λ (k : ℕ). firm_in p.loose k (track_in (put_track p.volume t e) k) ≡ track_in (set c.firm t (apply_edit e (track_in c.plain t))) k) (sym same)
+    firm_by : (q : ℕ) → (q ≡ t) ⊎ (q ≢ t) → firm_in p.loose q (track_in (put_track p.volume t e) q) ≡ track_in (set c.firm t (apply_edit e
+        (track_in c.plain t))) q
+    firm_by q (inl same) = subst (λ (k : ℕ). firm_in p.loose k (track_in (put_track p.volume t e) k) ≡ track_in (set c.firm t (apply_edit e
+        (track_in c.plain t))) k) (sym same)
         (not_loose p.loose t (track_in (put_track p.volume t e) t) (of.loose t ∙ is)
         ∙ ap (λ (v : List Track). track_in v t) (edited_volume e) ∙ put_both c.plain c.firm t (apply_edit e (track_in c.plain t)) _ (sym of.firms))
     firm_by q (inr ne) =

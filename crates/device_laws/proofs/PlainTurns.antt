@@ -13,7 +13,22 @@ use Rattle.ckd_rules.specs.Ends.{end_of}
 use Rattle.plain_defs.specs.declared.journal.Act.{Act}
 use Rattle.plain_defs.specs.declared.journal.How.TheVariants.{Full}
 use Rattle.plain_defs.specs.Effect.{Effect, behind_effect}
-use Rattle.plain_defs.specs.History.{OpenEntry, History, open_part, plain_of, state_by, acted, acted_in, with_end, closed, ended as history_ended, ended_in, checked, checked_in, IsPlain}
+use Rattle.plain_defs.specs.History.{
+  OpenEntry,
+  History,
+  open_part,
+  plain_of,
+  state_by,
+  acted,
+  acted_in,
+  with_end,
+  closed,
+  ended as history_ended,
+  ended_in,
+  checked,
+  checked_in,
+  IsPlain,
+}
 use Rattle.plain_defs.specs.Journal.{Plans, program_of, replay}
 use Rattle.plain_defs.specs.Legal.{MayEdit, IsCheck, IsLegal}
 use Rattle.plain_defs.specs.PlainState.{PathsState, PlainState, empty_state, with_sense}

@@ -1,5 +1,33 @@
 -- The parts of an event over a run's device, and what each leaves of its plain device's.
-use Rattle.std.proofs.Common.{◌≡◌, ◌<◌, ◌≤◌, ◌==◌, ◌&&◌, zero, suc, ℕ, not, Bool, true, false, List, Option, Some, None, is_some, length, get_or, refl, sym, ap, subst, ◌∙◌, arith, inl, inr}
+use Rattle.std.proofs.Common.{
+  ◌≡◌,
+  ◌<◌,
+  ◌≤◌,
+  ◌==◌,
+  ◌&&◌,
+  zero,
+  suc,
+  ℕ,
+  not,
+  Bool,
+  true,
+  false,
+  List,
+  Option,
+  Some,
+  None,
+  is_some,
+  length,
+  get_or,
+  refl,
+  sym,
+  ap,
+  subst,
+  ◌∙◌,
+  arith,
+  inl,
+  inr,
+}
 use Rattle.std.specs.Prelude.{◌⊎◌, ⊤, if◌then◌else◌}
 use Rattle.std.proofs.lemmas.Bool.{cond_both, cases_lt}
 use Rattle.std.proofs.lemmas.List.{length-set, get_or_past}
@@ -90,7 +118,22 @@ use Rattle.device_defs.specs.Owed.{
   waiting_count,
   ended,
 }
-use Rattle.device_defs.specs.Store.{tracks_of, has_level, level_at, frame_at, patch_at, is_lost, is_loose, half_is, owed_at, takes_b, plain_at, with_frame, with_lost, with_stale}
+use Rattle.device_defs.specs.Store.{
+  tracks_of,
+  has_level,
+  level_at,
+  frame_at,
+  patch_at,
+  is_lost,
+  is_loose,
+  half_is,
+  owed_at,
+  takes_b,
+  plain_at,
+  with_frame,
+  with_lost,
+  with_stale,
+}
 use Rattle.device_defs.specs.Writing as W
 use Rattle.device_defs.specs.Writing.{
   Wrote,
@@ -269,7 +312,8 @@ module _ (p : PlainState) (u : List Track) (g : Geometry) (n : ℕ) where
   kept_on s t f w = cond_both f s (owes_modified (with_frame s t (Some true)) t) On (λ _. w) (λ _. walks_on p u g n (framed_same s t (Some true)) w)
 
   frame_on : (s : MarksStore) (t : ℕ) (f : Option Bool) → On s → On (by_frame by_plain s t f)
-  frame_on s t (Some f) w = cond_both (is_loose s t) (hardened_by_loss s t) (kept_by_frame by_plain s t f) On (λ is. hardened_on s t w is) (λ _. kept_on s t f w)
+  frame_on s t (Some f) w = cond_both (is_loose s t) (hardened_by_loss s t) (kept_by_frame by_plain s t f) On (λ is. hardened_on s t w is)
+      (λ _. kept_on s t f w)
   frame_on s t None w =
       cond_both (half_is s.half t) s (lost_now by_plain s t) On (λ _. w)
       (λ _. walks_on p u g n (patch_same (with_lost s t) t (slot_in by_plain (patch_at s t))) w)
@@ -309,7 +353,8 @@ module _ (p : PlainState) (u : List Track) (g : Geometry) (n : ℕ) where
 
   taken_same : (s : MarksStore) (t : ℕ) → core_of (taken_a s t) ≡ core_of s
   taken_same s t =
-      cond_both s.b.up (with_stale (with_stale s A t false) B t true) (with_stale s A t false) (λ (z : MarksStore). core_of z ≡ core_of s) (λ _. refl) (λ _. refl)
+      cond_both s.b.up (with_stale (with_stale s A t false) B t true) (with_stale s A t false) (λ (z : MarksStore). core_of z ≡ core_of s) (λ _. refl)
+      (λ _. refl)
 
   first_ok : (s : MarksStore) (t : ℕ) (r : Bool) (ok : Bool) → Firm t s → Had (first_a by_plain t r s ok) (λ z w. FirstTook t z w.took)
   first_ok s t r true f = had_done (subst (λ (b : Bool). FirstTook t (taken_a s t) (if b && not s.held then Opened else Whole)) (sym f.on.alone.off)
@@ -343,7 +388,8 @@ module _ (p : PlainState) (u : List Track) (g : Geometry) (n : ℕ) where
       had_if (is_some (frame_at s t))
       (λ _. had_if bypass
       (λ _. had_ask (λ _. had_weaker (slot_same (with_frame s t None) t (slot_in by_plain (patch_at s t))) (λ y _ e. e ∙ framed_same s t None)))
-      (λ _. had_ask (λ _. had_weaker (slot_same (with_frame s t (Some false)) t (slot_in by_plain (patch_at s t))) (λ y _ e. e ∙ framed_same s t (Some false)))))
+      (λ _. had_ask (λ _. had_weaker (slot_same (with_frame s t (Some false)) t (slot_in by_plain (patch_at s t))) (λ y _ e. e ∙ framed_same s t
+      (Some false)))))
       (λ _. slot_same s t (slot_in by_plain (patch_at s t)))
 
   -- A command's write
@@ -393,7 +439,8 @@ module _ (p : PlainState) (u : List Track) (g : Geometry) (n : ℕ) where
     slot_fits s grants.Denied is = had_done (refl, tt)
     slot_fits s grants.Down is = had_done (refl, tt)
 
-    listed_fits : (s : MarksStore) (listed : Bool) → is_loose s t ≡ false → Had {R = Bool} {I = Image} (Done s (if listed then Fast None else Through)) (Chosen s)
+    listed_fits : (s : MarksStore) (listed : Bool) → is_loose s t ≡ false → Had {R = Bool} {I = Image} (Done s (if listed then Fast None else Through))
+        (Chosen s)
     listed_fits s true is = had_done (refl, is)
     listed_fits s false is = had_done (refl, tt)
 

@@ -66,7 +66,27 @@ use Rattle.subsystem_defs.specs.Deeds.{
   end_of,
 }
 use Rattle.subsystem_defs.specs.Happening as H
-use Rattle.subsystem_defs.specs.Happening.{Happened, MarksDeed, Talk, held_with, told_to, mounted_behind, asks, becomes, happens_by, happens, quietly, sweep, swept, replaced_by, replaced_at, replaced, unpaired_by, unpaired_at, unpaired}
+use Rattle.subsystem_defs.specs.Happening.{
+  Happened,
+  MarksDeed,
+  Talk,
+  held_with,
+  told_to,
+  mounted_behind,
+  asks,
+  becomes,
+  happens_by,
+  happens,
+  quietly,
+  sweep,
+  swept,
+  replaced_by,
+  replaced_at,
+  replaced,
+  unpaired_by,
+  unpaired_at,
+  unpaired,
+}
 use Rattle.subsystem_defs.specs.Lines as L
 use Rattle.subsystem_defs.specs.Lines.{
   is_settled,
@@ -251,9 +271,13 @@ ordered : (o : Option OrderFault) {x : MarksDeed} → (o ≡ None → PlainDeed 
 ordered (Some fault) h = record { is = tt }
 ordered None h = h refl
 
-side_plain : (d : MarksDevice) (side : Side) → Plainly d → PlainDeed (order (fail_fault d side) (Asks d (ends_by ends_done (lose by_plain d (losses.Side side)))))
+side_plain : (d : MarksDevice) (side : Side) → Plainly d → PlainDeed (order (fail_fault d side) (Asks d (ends_by ends_done (lose by_plain d
+    (losses.Side side)))))
 side_plain d side p =
-    ordered (fail_fault d side) (λ _. record { is = answers (lose by_plain d (losses.Side side)) (λ a. Some (ends_done a)) (loss_plain d (losses.Side side) p) })
+    ordered (fail_fault d side) (λ _. record {
+      is = answers (lose by_plain d (losses.Side side)) (λ a. Some (ends_done a)) (loss_plain d
+          (losses.Side side) p);
+    })
 
 repair_plain : (up : Bool) (pool repaired : Pool) → PlainDeed (repair {F = Bool} {P = Unit {0}} {H = Unit {0}} {R = Bool} up pool repaired)
 repair_plain up pool repaired =
