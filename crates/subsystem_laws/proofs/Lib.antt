@@ -4,3 +4,4 @@ pub mod Deeds
 pub mod Happens
 pub mod Orders
 pub mod PlainRuns
+pub mod ReadDecks

@@ -4,7 +4,7 @@
 mod plain;
 mod runs;
 
-pub use plain::run_is_plain;
+pub use plain::{read_run_is_plain, run_is_plain};
 pub use runs::{
     event_is_what_happens, events_are_what_happens, new_device_is_mounted, replaced_is_what_happens,
 };
