@@ -37,7 +37,7 @@ use Rattle.track_image.specs.Image.{Image}
 use Rattle.device_laws.specs.Standing.{IsWithin}
 use Rattle.device_laws.proofs.Commands.{Stays}
 
-abbrev FurtherBy : ℕ → Stance → Stance → Turned → Type 0
+abbrev pub FurtherBy : ℕ → Stance → Stance → Turned → Type 0
 FurtherBy n s z (turns.Ended e) = Unit {0}
 FurtherBy n s z turns.Onward = (z.track < n) × (z.extent ≡ s.extent)
 FurtherBy n s z (turns.Edits edit e) = Unit {0}
