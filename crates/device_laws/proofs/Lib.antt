@@ -90,3 +90,4 @@ pub mod PlainCommand
 pub mod PlainEvents
 pub mod PlainLosses
 pub mod PlainPower
+pub mod TouchedTracks

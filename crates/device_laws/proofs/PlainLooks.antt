@@ -146,18 +146,18 @@ extent_by s o (openings.Over e) look is keeps = absurd (cc)
 extent_by s o (openings.Looks other) look is keeps = keeps
 extent_by s o (openings.Asks act) look is keeps = absurd (cc)
 
-last_or : Option Extent → ℕ
+pub last_or : Option Extent → ℕ
 last_or (Some e) = e.last
 last_or None = 0
 
-reaches : (k : ℕ) (o : Option Extent) → IfSome o (λ e. e.last < (k + 1 + last_or o) * 15)
+pub reaches : (k : ℕ) (o : Option Extent) → IfSome o (λ e. e.last < (k + 1 + last_or o) * 15)
 unfolding last_or
 reaches k (Some e) = omega arith
 reaches k None = tt
 
 onward : (s z : Stance) (n : ℕ) (x : Turned) → FurtherBy n s z x → x ≡ turns.Onward → z.extent ≡ s.extent
 onward s z n (turns.Ended e) f is = absurd (cc)
-onward s z n turns.Onward f is = f.1
+onward s z n turns.Onward f is = f.1.0
 onward s z n (turns.Edits edit e) f is = absurd (cc)
 
 look_stays : (g : Geometry) (t : Track) (s : Stance) (c : Ccw) (look : Look) → (look_on g t s c look).turned ≡ turns.Onward →
