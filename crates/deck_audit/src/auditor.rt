@@ -1,10 +1,10 @@
-ghost use Rattle.std.specs.Prelude.{◌≡◌, ◌<◌, ◌≤◌, Bool, Some, true, IfOk, IfSome, drop, length, map};
+ghost use Rattle.std.specs.Prelude.{◌≡◌, ◌<◌, ◌≤◌, Bool, Some, true, IfOk, IfSome, OnOk, drop, length, map};
 ghost use Rattle.std.specs.List.{All};
 ghost use Rattle.deck_plan.specs.declared.event.EventLine.TheVariants.{Start};
 ghost use Rattle.deck_audit.specs.declared.state.Did.TheVariants.{Halved};
 ghost use Rattle.deck_audit.specs.declared.state.Due.TheVariants.{Behind, DataOf, Next, SenseOf};
 ghost use Rattle.deck_audit.specs.declared.auditor.Auditor.{Auditor};
-ghost use Rattle.deck_audit.specs.Auditor.{Fits, IsAuditOf, IsFor, IsJudgedAt, IsSized, Makes, gone_on, is_nothing, is_quiet, kept_outline, new_kept, place_from, told_of};
+ghost use Rattle.deck_audit.specs.Auditor.{Fits, IsAuditOf, IsFor, IsJudgedAt, IsSized, Makes, gone_on, is_nothing, is_quiet, kept_outline, new_kept, place_from, told_of, behind_of, cut_at, idle_fault, kept_legal, loose_at, totals_due};
 ghost use Rattle.deck_audit.specs.Place.{IsDueOf, in_due};
 ghost use Rattle.deck_audit.specs.Device.{device_in};
 ghost use Rattle.deck_audit.specs.History.{act_of_work, due_made, event_made, harden_made, lent_to, loss_made, sense_made, shown, work_made};
@@ -12,12 +12,14 @@ ghost use Rattle.deck_audit.specs.State.{AuditState, behind_work, first_event, f
 ghost use Rattle.deck_audit.specs.Task.{task_made};
 
 use crate::kept::{Kept, Then};
+use crate::place::is_io;
+use crate::status::AuditWhy;
 use crate::task::{Task, range_of};
-use crate::{Did, Due, Outline, ReplayedDevice, data_due, in_due, worker_of};
+use crate::{Did, Due, OpenProgram, Outline, ReplayedDevice, data_due, in_due, worker_of};
 use ckd_types::{CommandEnd, DeviceNo, NoMemory, PathNo, TrackNo};
 use deck_plan::EventLine;
 use deck_text::Deck;
-use report_text::ReportLine;
+use report_text::{HowOver, ReportLine};
 use std::alloc::Global;
 
 /// The devices of a deck as the lines of a report so far make them, the events that are left, and what is due. Its memory grows with the
@@ -80,6 +82,19 @@ fn kept_devices(alloc: Global, deck: &Deck) -> Result<Vec<Kept>, NoMemory>
     Ok(devices)
 }
 
+/// The outlines of the devices as they are now, in the room for them.
+fn outline_all(devices: &[Kept], outlines: &mut Vec<Outline>) -> Result<(), NoMemory>
+    ensures { OnOk result (outlines.new.items ≡ map kept_outline devices.now) }
+{
+    outlines.clear();
+    for kept in devices {
+        let outline = kept.device.outline();
+        let _program: Option<OpenProgram> = outline.running;
+        outlines.push(outline)?;
+    }
+    Ok(())
+}
+
 fn is_nothing(due: &Due) -> bool
     ensures { result ≡ is_nothing due.now }
 {
@@ -106,6 +121,75 @@ fn may_stand(devices: &[Outline], events: &[EventLine], line: &ReportLine, due: 
         return false;
     }
     in_due(devices, events, line, due)
+}
+
+/// The device and the commands of a program that was cut, where the line tells of one.
+fn cut_at(line: &ReportLine) -> Option<(DeviceNo, u16)>
+    ensures { result ≡ cut_at line.now }
+{
+    match line {
+        ReportLine::Over(_, d, _, HowOver::Cut(n)) => Some((*d, *n)),
+        _ => None,
+    }
+}
+
+/// The device of a line about its loose tracks.
+fn loose_at(line: &ReportLine) -> Option<DeviceNo>
+    ensures { result ≡ loose_at line.now }
+{
+    match line {
+        ReportLine::Loose(d, _) => Some(*d),
+        _ => None,
+    }
+}
+
+/// What is due behind a line of the totals of so many devices, where so many of them were told.
+fn totals_due(devices: usize, line: &ReportLine, told: usize) -> Due
+    ensures { result ≡ totals_due devices line.now told }
+{
+    match line {
+        ReportLine::Device(_, _) => {
+            if told < devices {
+                Due::Totals(told + 1)
+            } else {
+                Due::Totals(told)
+            }
+        }
+        ReportLine::Lost(_, _) => Due::Totals(told),
+        ReportLine::Finish => Due::Nothing,
+        _ => Due::Frames,
+    }
+}
+
+/// A piece of work that is at its end, or what else is due.
+fn behind_of(due: Due) -> Result<(bool, Did), Due>
+    ensures { result ≡ behind_of due }
+{
+    match due {
+        Due::Behind(more, did) => Ok((more, did)),
+        due => Err(due),
+    }
+}
+
+/// The fault of a line behind a piece of work that no device does.
+fn idle_fault(line: &ReportLine) -> AuditWhy
+    ensures { result ≡ idle_fault line.now }
+{
+    if is_io(line) {
+        AuditWhy::History
+    } else {
+        AuditWhy::Place
+    }
+}
+
+/// What the device did may be so.
+fn is_legal(kept: &Kept, did: &Did) -> bool
+    ensures { result ≡ kept_legal did.now kept.now }
+{
+    match did {
+        Did::Ended(_) => kept.device.is_legal(),
+        _ => true,
+    }
 }
 
 impl Auditor {
