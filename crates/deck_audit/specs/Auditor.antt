@@ -5,6 +5,10 @@ use Rattle.deck_text.specs.declared.line.DeviceLine.{DeviceLine}
 use Rattle.deck_text.specs.declared.line.PlannedProgram.{PlannedProgram}
 use Rattle.deck_text.specs.Plans.{plans_of}
 use Rattle.report_text.specs.declared.answers.HowOver.TheVariants as how
+use Rattle.report_text.specs.declared.answers.LooseAnswer.TheVariants as loose
+use Rattle.report_text.specs.declared.answers.OrderAnswer.TheVariants as order_answers
+use Rattle.deck_audit.specs.declared.auditor.OrderTold.{OrderTold}
+use Rattle.deck_audit.specs.declared.auditor.OrderTold.TheVariants as told
 use Rattle.report_text.specs.declared.line.ReportLine.{ReportLine}
 use Rattle.report_text.specs.declared.line.ReportLine.TheVariants as lines
 use Rattle.deck_audit.specs.declared.replayed.Running.{Running}
@@ -175,6 +179,13 @@ cut_at line = None
 abbrev pub loose_at : ReportLine → Option ℕ
 loose_at (lines.Loose d answer) = Some d
 loose_at line = None
+
+-- what a line of an order tells
+abbrev pub order_told : ReportLine → OrderTold
+order_told (lines.Order order order_answers.Done) = told.Done
+order_told (lines.Loose d (loose.Harden t)) = told.Firm d t
+order_told (lines.Loose d (loose.Lost count id)) = told.Lost d
+order_told line = told.Other
 
 -- The totals: what is due behind a line, of so many devices
 
