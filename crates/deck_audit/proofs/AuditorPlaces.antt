@@ -213,7 +213,7 @@ and_false : (x y : Bool) → y ≡ false → (x && y) ≡ false
 and_false true y unlike = unlike
 and_false false y unlike = refl
 
-totals_left : (s : List Outline) (d : ℕ) (t : DeviceTotals) (k : ℕ) → in_totals s (lines.Device d t) k ≡ true → k + 1 ≤ length s
+pub totals_left : (s : List Outline) (d : ℕ) (t : DeviceTotals) (k : ℕ) → in_totals s (lines.Device d t) k ≡ true → k + 1 ≤ length s
 totals_left s d t k is =
     let left = no_totals s d t (drop k s) (or_other (nat_lt 0 k && holds (slice_get s (k - 1)) (λ a. is_lost_of (lines.Device d t) a a.lent))
     (in_totals_of s (lines.Device d t) (drop k s)) is

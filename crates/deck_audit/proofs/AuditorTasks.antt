@@ -18,16 +18,16 @@ use Rattle.deck_audit.specs.declared.auditor.OrderTold.TheVariants as told
 use Rattle.deck_audit.specs.declared.kept.Kept.{Kept}
 use Rattle.deck_audit.specs.declared.kept.Then.TheVariants.{Passed, Wait}
 use Rattle.deck_audit.specs.declared.state.Due.{Due}
-use Rattle.deck_audit.specs.declared.state.Due.TheVariants.{Frames, Nothing, Totals}
+use Rattle.deck_audit.specs.declared.state.Due.TheVariants.{Frames, Nothing, ResetOf, Totals}
 use Rattle.deck_audit.specs.declared.state.Outline.{Outline}
 use Rattle.deck_audit.specs.Device.{AuditedDevice, device_in, outline_of}
-use Rattle.deck_audit.specs.History.{done_order, given_back, lent_to, order_made, power_made, runs_lent, totals_made, without_power}
-use Rattle.deck_audit.specs.Place.{IsDueOf, in_due, in_power, in_state}
+use Rattle.deck_audit.specs.History.{done_order, due_made, given_back, lent_to, order_made, power_made, runs_lent, totals_made, without_power}
+use Rattle.deck_audit.specs.Place.{IsDueOf, in_due, in_power, in_state, in_totals}
 use Rattle.deck_audit.specs.State.{AuditState, outlines, passed, then_of, worker_number}
 use Rattle.deck_audit.proofs.AllDevices.{all_back, all_dark, any_alike}
 use Rattle.deck_audit.proofs.AuditorDues.{all_here, passes_so, waits_so}
 use Rattle.deck_audit.proofs.AuditorLines.{behind_event}
-use Rattle.deck_audit.proofs.AuditorPlaces.{done_made, done_told}
+use Rattle.deck_audit.proofs.AuditorPlaces.{done_made, done_told, totals_left}
 use Rattle.deck_audit.proofs.OutlineLaw.{outlines_are}
 
 -- Where a line may stand
@@ -134,3 +134,20 @@ module _ (z : Auditor) (s : AuditState) (f : IsFor z s) (quiet : is_quiet s.due 
     all_changed y deck_is passed_is (map dark_kept z.devices.items) (map without_power s.devices) items_are
         (all_dark z.deck.programs z.devices.items s.devices (all_here z s f quiet) (done_told line no_loose no_cut k s.devices none may)),
   )
+
+-- What is due says what the line may be
+
+pub totals_fit : (s : AuditState) (line : ReportLine) (k : ℕ) → s.due ≡ Totals k → in_totals (outlines s) line k ≡ true → FitsTotals s line k
+totals_fit s (lines.Device d t) k is may =
+    let left = totals_left (outlines s) d t k may in
+    let long = length-map s.devices outline_of in omega (arith, left, long)
+totals_fit s (lines.Lost d t) k is may = is
+totals_fit s line k is may = tt
+
+pub reset_passed : (z : Auditor) (s : AuditState) → IsFor z s → (line : ReportLine) (due : Due) → due ≡ s.due → due ≡ ResetOf
+    → Makes true (gone_on z Passed) (due_made s line due)
+reset_passed z s f line due is reset = (
+  passed s,
+  ap (λ (d : Due). due_made s line d) reset,
+  passes_so z s f (ap is_quiet (sym is ∙ reset)),
+)

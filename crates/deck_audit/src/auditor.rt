@@ -2,10 +2,10 @@ ghost use Rattle.std.specs.Prelude.{◌≡◌, ◌<◌, ◌≤◌, Bool, Some, t
 ghost use Rattle.std.specs.List.{All};
 ghost use Rattle.deck_plan.specs.declared.event.EventLine.TheVariants.{Pair, Reset, Start, Unpair};
 ghost use Rattle.deck_audit.specs.declared.state.Did.TheVariants.{Halved};
-ghost use Rattle.deck_audit.specs.declared.state.Due.TheVariants.{Behind, DataOf, Next, OverOf, SenseOf};
+ghost use Rattle.deck_audit.specs.declared.state.Due.TheVariants.{Behind, DataOf, Losses, Next, OverOf, SenseOf};
 ghost use Rattle.deck_audit.specs.declared.auditor.Auditor.{Auditor};
-ghost use Rattle.deck_audit.specs.Auditor.{Fits, IsAuditOf, IsFor, IsJudgedAt, IsSized, Makes, gone_on, is_nothing, is_quiet, kept_outline, new_kept, place_from, told_of, behind_of, cut_at, idle_fault, kept_legal, loose_at, order_told, totals_due, FitsTotals, NoneRuns};
-ghost use Rattle.deck_audit.specs.Place.{IsDueOf, in_due, in_event, in_power, in_state};
+ghost use Rattle.deck_audit.specs.Auditor.{Fits, IsAuditOf, IsFor, IsJudged, IsJudgedAt, IsSized, Makes, gone_on, is_nothing, is_quiet, kept_outline, new_kept, place_from, placed, told_of, behind_of, cut_at, idle_fault, kept_legal, loose_at, order_told, totals_due, FitsTotals, NoneRuns};
+ghost use Rattle.deck_audit.specs.Place.{IsDueOf, in_due, in_event, in_next, in_power, in_state};
 ghost use Rattle.deck_audit.specs.Device.{device_in};
 ghost use Rattle.deck_audit.specs.History.{act_of_work, done_order, due_made, order_made, power_made, totals_made, event_made, harden_made, lent_to, loss_made, sense_made, shown, work_made};
 ghost use Rattle.deck_audit.specs.State.{AuditState, behind_work, first_event, first_state, outlines, over_by, settled_by, then_of, worker_number, worker_of};
@@ -617,6 +617,133 @@ impl Auditor {
         lose_power(alloc, &mut self.devices);
         self.go_on(Then::Passed);
         Ok(true)
+    }
+
+    /// The first line of an event.
+    fn event_line(
+        &mut self,
+        alloc: Global,
+        line: &ReportLine,
+        event: EventLine,
+    ) -> Result<bool, NoMemory>
+        ensures { IfOk result (λ good. (s : AuditState) → IsFor self.old s → is_quiet s.due ≡ true → first_event s.events ≡ Some event → in_event (outlines s) line.now event ≡ true → Makes good self.new (event_made s line.now event)) }
+    {
+        if let Some(d) = worker_of(&event) {
+            let good = self.work_line(alloc, d, line)?;
+            return Ok(good);
+        }
+        match event {
+            EventLine::Start(path, d) => {
+                let good = self.start_line(alloc, path, d, line)?;
+                Ok(good)
+            }
+            EventLine::Reset(path, d) => {
+                let good = self.reset_line(alloc, path, d, line)?;
+                Ok(good)
+            }
+            EventLine::Power => {
+                let good = self.power_line(alloc, line, 0)?;
+                Ok(good)
+            }
+            event => {
+                let good = self.order_line(alloc, line, event)?;
+                Ok(good)
+            }
+        }
+    }
+
+    /// The first line of the next event, or of the totals.
+    fn next_line(&mut self, alloc: Global, line: &ReportLine) -> Result<bool, NoMemory>
+        ensures { IfOk result (λ good. (s : AuditState) → IsFor self.old s → s.due ≡ Next → in_next (outlines s) line.now s.events ≡ true → Makes good self.new (due_made s line.now Next)) }
+    {
+        match self.event() {
+            Some(event) => {
+                let good = self.event_line(alloc, line, event)?;
+                Ok(good)
+            }
+            None => {
+                self.totals_line(line, 0);
+                Ok(true)
+            }
+        }
+    }
+
+    /// A line behind the losses of the cache's failure.
+    fn losses_line(
+        &mut self,
+        alloc: Global,
+        line: &ReportLine,
+        d: DeviceNo,
+    ) -> Result<bool, NoMemory>
+        ensures { IfOk result (λ good. (s : AuditState) → IsFor self.old s → is_quiet s.due ≡ true → Makes good self.new (due_made s line.now (Losses d))) }
+    {
+        let Some(event) = self.event() else {
+            return Ok(false);
+        };
+        let good = self.order_line(alloc, line, event)?;
+        Ok(good)
+    }
+
+    /// A line where this is due, which may stand there.
+    fn due_line(&mut self, alloc: Global, line: &ReportLine, due: Due) -> Result<bool, NoMemory>
+        ensures { IfOk result (λ good. (s : AuditState) → IsFor self.old s → due ≡ s.due → in_due (outlines s) s.events line.now due ≡ true → Makes good self.new (due_made s line.now due)) }
+    {
+        match due {
+            Due::Next => {
+                let good = self.next_line(alloc, line)?;
+                Ok(good)
+            }
+            Due::DataOf(e) => Ok(self.data_line(line, e)),
+            Due::SenseOf(e) => {
+                let good = self.sense_due(alloc, line, e)?;
+                Ok(good)
+            }
+            Due::OverOf(wanted) => {
+                let good = self.over_due(alloc, line, wanted)?;
+                Ok(good)
+            }
+            Due::Losses(d) => {
+                let good = self.losses_line(alloc, line, d)?;
+                Ok(good)
+            }
+            Due::ResetOf => {
+                self.go_on(Then::Passed);
+                Ok(true)
+            }
+            Due::Powers(told) => {
+                let good = self.power_line(alloc, line, told)?;
+                Ok(good)
+            }
+            Due::Totals(told) => {
+                self.totals_line(line, told);
+                Ok(true)
+            }
+            Due::Frames => {
+                self.totals_line(line, 0);
+                Ok(true)
+            }
+            Due::Behind(_, _) => Ok(false),
+            Due::Nothing => Ok(false),
+        }
+    }
+
+    /// A line where this is due, and no piece of work is at its end.
+    fn placed_line(
+        &mut self,
+        alloc: Global,
+        line: &ReportLine,
+        due: Due,
+    ) -> Result<Option<AuditWhy>, NoMemory>
+        ensures { IfOk result (λ why. (s : AuditState) → IsFor self.old s → due ≡ s.due → IsJudged why self.new (placed s line.now)) }
+    {
+        if !self.is_placed(line, &due)? {
+            return Ok(Some(AuditWhy::Place));
+        }
+        if self.due_line(alloc, line, due)? {
+            Ok(None)
+        } else {
+            Ok(Some(AuditWhy::History))
+        }
     }
 }
 
