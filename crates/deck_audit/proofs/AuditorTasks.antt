@@ -14,7 +14,7 @@ use Rattle.report_text.specs.declared.line.ReportLine.{ReportLine}
 use Rattle.report_text.specs.declared.line.ReportLine.TheVariants as lines
 use Rattle.deck_audit.specs.Auditor.{AllKept, FitsTotals, IsAuditOf, IsFor, Makes, NoneRuns, cut_at, dark_kept, gone_on, is_quiet, kept_outline, lent_runs, loose_at, order_told, taken_back, totals_due}
 use Rattle.deck_audit.specs.declared.auditor.Auditor.{Auditor}
-use Rattle.deck_audit.specs.declared.auditor.OrderTold.TheVariants as told
+use Rattle.deck_audit.specs.declared.told.OrderTold.TheVariants as told
 use Rattle.deck_audit.specs.declared.kept.Kept.{Kept}
 use Rattle.deck_audit.specs.declared.kept.Then.TheVariants.{Passed, Wait}
 use Rattle.deck_audit.specs.declared.state.Due.{Due}

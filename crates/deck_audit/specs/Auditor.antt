@@ -7,8 +7,8 @@ use Rattle.deck_text.specs.Plans.{plans_of}
 use Rattle.report_text.specs.declared.answers.HowOver.TheVariants as how
 use Rattle.report_text.specs.declared.answers.LooseAnswer.TheVariants as loose
 use Rattle.report_text.specs.declared.answers.OrderAnswer.TheVariants as order_answers
-use Rattle.deck_audit.specs.declared.auditor.OrderTold.{OrderTold}
-use Rattle.deck_audit.specs.declared.auditor.OrderTold.TheVariants as told
+use Rattle.deck_audit.specs.declared.told.OrderTold.{OrderTold}
+use Rattle.deck_audit.specs.declared.told.OrderTold.TheVariants as told
 use Rattle.report_text.specs.declared.line.ReportLine.{ReportLine}
 use Rattle.report_text.specs.declared.line.ReportLine.TheVariants as lines
 use Rattle.deck_audit.specs.declared.replayed.Running.{Running}

@@ -1,6 +1,6 @@
 use Rattle.ckd_types.specs.declared.memory.NoMemory.{NoMemory}
 use Rattle.deck_audit.proofs.Auditors.{judged_by}
-use Rattle.deck_audit.proofs.auditor.judge_at.Goals as goal
+use Rattle.deck_audit.proofs.devices.judge_at.Goals as goal
 
 pub returns : goal.returns
 returns c = judged_by NoMemory c.args.deck.now.programs c.args.devices.now c.args.at c.args.d c.args.line.now c.args.task
