@@ -36,7 +36,7 @@ use std::mem;
 pub struct Auditor {
     deck: Deck,
     devices: Vec<Kept>,
-    /// Room for what `in_due` reads of the devices.
+    /// What `in_due` reads of the devices.
     outlines: Vec<Outline>,
     /// How many events are over.
     passed: usize,
@@ -89,7 +89,8 @@ impl Auditor {
         ensures { IfOk result (λ auditor. IsAuditOf auditor (first_state deck)) }
     {
         let devices = kept_devices(alloc, &deck)?;
-        let outlines = Vec::with_capacity(alloc, devices.len())?;
+        let mut outlines = Vec::with_capacity(alloc, devices.len())?;
+        outline_all(&devices, &mut outlines)?;
         Ok(Auditor {
             deck,
             devices,
@@ -161,7 +162,16 @@ impl Auditor {
             Some(at) => at,
             None => return Ok(false),
         };
-        match judge_at(alloc, &self.deck, &mut self.devices, at, d, line, task)? {
+        match judge_at(
+            alloc,
+            &self.deck,
+            &mut self.devices,
+            &mut self.outlines,
+            at,
+            d,
+            line,
+            task,
+        )? {
             Some(next) => {
                 self.go_on(next);
                 Ok(true)
@@ -300,13 +310,11 @@ impl Auditor {
     }
 
     /// Whether the line may stand where this is due.
-    fn is_placed(&mut self, line: &ReportLine, due: &Due) -> Result<bool, NoMemory>
-        ensures placed { IfOk result (λ is. (s : AuditState) → IsFor self.old s → due.now ≡ s.due → is ≡ in_state s line.now) }
-        ensures kept { OnOk result ((s : AuditState) → IsFor self.old s → IsFor self.new s) }
+    fn is_placed(&self, line: &ReportLine, due: &Due) -> bool
+        ensures { (s : AuditState) → IsFor self.now s → due.now ≡ s.due → result ≡ in_state s line.now }
     {
-        outline_all(&self.devices, &mut self.outlines)?;
         let events = left_of(&self.deck, self.passed);
-        Ok(may_stand(&self.outlines, events, line, due))
+        may_stand(&self.outlines, events, line, due)
     }
 
     /// A line of the totals, where so many devices have had theirs.
@@ -376,6 +384,7 @@ impl Auditor {
             return Ok(false);
         }
         take_all_back(alloc, &mut self.devices, a)?;
+        outline_all(&self.devices, &mut self.outlines)?;
         self.go_on(Then::Passed);
         Ok(true)
     }
@@ -470,6 +479,7 @@ impl Auditor {
             return Ok(good);
         }
         lose_power(alloc, &mut self.devices);
+        outline_all(&self.devices, &mut self.outlines)?;
         self.go_on(Then::Passed);
         Ok(true)
     }
@@ -591,7 +601,7 @@ impl Auditor {
     ) -> Result<Option<AuditWhy>, NoMemory>
         ensures { IfOk result (λ why. (s : AuditState) → IsFor self.old s → due ≡ s.due → IsJudged why self.new (placed s line.now)) }
     {
-        if !self.is_placed(line, &due)? {
+        if !self.is_placed(line, &due) {
             return Ok(Some(AuditWhy::Place));
         }
         if self.due_line(alloc, line, due)? {
@@ -631,7 +641,7 @@ impl Auditor {
             let why = self.placed_line(alloc, line, due)?;
             return Ok(why);
         }
-        if self.is_placed(line, &due)? {
+        if self.is_placed(line, &due) {
             Ok(Some(AuditWhy::History))
         } else {
             Ok(Some(AuditWhy::Place))

@@ -1,5 +1,6 @@
-ghost use Rattle.std.specs.Prelude.{◌≡◌, ◌<◌, IfOk, IfSome, OnOk, length, map};
+ghost use Rattle.std.specs.Prelude.{Some, slice_get, slice_set, ◌≡◌, ◌<◌, IfOk, IfSome, OnOk, length, map};
 ghost use Rattle.std.specs.List.{All, list_any};
+ghost use Rattle.deck_audit.specs.declared.kept.Kept.{Kept};
 ghost use Rattle.deck_audit.specs.Auditor.{IsJudgedAt, IsSized, dark_kept, is_lent, kept_legal, kept_outline, lent_runs, new_kept, place_from, taken_back};
 
 use crate::kept::{Kept, Then};
@@ -23,24 +24,36 @@ pub fn place_of(devices: &[Kept], d: DeviceNo) -> Option<usize>
     None
 }
 
+fn set_outline(outlines: &mut [Outline], at: usize, outline: Outline)
+    ensures { outlines.new ≡ slice_set outlines.old at outline }
+{
+    if at < outlines.len() {
+        outlines[at] = outline;
+    }
+}
+
 /// The device of that place judges the line.
 pub fn judge_at(
     alloc: Global,
     deck: &Deck,
     devices: &mut [Kept],
+    outlines: &mut [Outline],
     at: usize,
     d: DeviceNo,
     line: &ReportLine,
     task: Task,
 ) -> Result<Option<Then>, NoMemory>
     requires { at < length devices.old }
-    ensures { IfOk result (λ next. IsJudgedAt deck.now.programs devices.old devices.new at d line.now task next) }
+    ensures outline { IfOk result (λ next. (k : Kept) → slice_get devices.new at ≡ Some k → outlines.new ≡ slice_set outlines.old at (kept_outline k)) }
+    ensures judged { IfOk result (λ next. IsJudgedAt deck.now.programs devices.old devices.new at d line.now task next) }
 {
     range_of(&task);
     let _count = devices.len();
     let plans = deck.plans(d);
     let kept = &mut devices[at];
     let next = kept.line(alloc, plans, at, line, task)?;
+    let outline = kept.device.outline();
+    set_outline(outlines, at, outline);
     Ok(next)
 }
 
