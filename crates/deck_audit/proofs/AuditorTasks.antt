@@ -65,7 +65,8 @@ module _ (z : Auditor) (s : AuditState) (f : IsFor z s) (quiet : is_quiet s.due 
   -- An event is over that changes all devices
 
   pub all_changed : (y : Auditor) → y.deck ≡ z.deck → y.passed ≡ z.passed → (ks : List Kept) (ds : List AuditedDevice)
-      → y.devices.items ≡ ks → AllKept z.deck.programs ks ds → y.outlines.items ≡ map kept_outline y.devices.items → IsAuditOf (gone_on y Passed) (passed (record s { devices = ds }))
+      → y.devices.items ≡ ks → AllKept z.deck.programs ks ds → y.outlines.items ≡ map kept_outline y.devices.items
+      → IsAuditOf (gone_on y Passed) (passed (record s { devices = ds }))
   all_changed y deck_is passed_is ks ds items_are all outlines_so = record {
     for = record {
       events_are = ap (λ (e : List EventLine). drop 1 e) (f.events_are
@@ -91,7 +92,8 @@ module _ (z : Auditor) (s : AuditState) (f : IsFor z s) (quiet : is_quiet s.due 
     unpair_none runs = ap (λ (x : Bool). cond x None (Some (passed (record s { devices = map (given_back n) s.devices })))) (lent_is ∙ runs)
 
     pub unpair_some : b ≡ false → (y : Auditor) → y.deck ≡ z.deck → y.passed ≡ z.passed
-        → y.devices.items ≡ map (taken_back n) z.devices.items → y.outlines.items ≡ map kept_outline y.devices.items → Makes true (gone_on y Passed) (done_order s (events.Unpair n))
+        → y.devices.items ≡ map (taken_back n) z.devices.items → y.outlines.items ≡ map kept_outline y.devices.items
+        → Makes true (gone_on y Passed) (done_order s (events.Unpair n))
     unpair_some idle y deck_is passed_is items_are outlines_so = (
       passed (record s { devices = map (given_back n) s.devices }),
       ap (λ (x : Bool). cond x None (Some (passed (record s { devices = map (given_back n) s.devices })))) (lent_is ∙ idle),
@@ -128,7 +130,8 @@ module _ (z : Auditor) (s : AuditState) (f : IsFor z s) (quiet : is_quiet s.due 
 
   pub power_done : (line : ReportLine) (k : ℕ) → loose_at line ≡ None → cut_at line ≡ None → NoneRuns k s.devices
       → in_power line (drop k (outlines s)) ≡ true → (y : Auditor) → y.deck ≡ z.deck → y.passed ≡ z.passed
-      → y.devices.items ≡ map dark_kept z.devices.items → y.outlines.items ≡ map kept_outline y.devices.items → Makes true (gone_on y Passed) (power_made s line)
+      → y.devices.items ≡ map dark_kept z.devices.items → y.outlines.items ≡ map kept_outline y.devices.items
+      → Makes true (gone_on y Passed) (power_made s line)
   power_done line k no_loose no_cut none may y deck_is passed_is items_are outlines_so = (
     passed (record s { devices = map without_power s.devices }),
     done_made line no_loose no_cut s,

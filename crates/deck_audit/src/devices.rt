@@ -32,7 +32,7 @@ fn set_outline(outlines: &mut [Outline], at: usize, outline: Outline)
     }
 }
 
-/// The device of that place judges the line.
+/// The device of that place judges the line, and its outline is renewed.
 pub fn judge_at(
     alloc: Global,
     deck: &Deck,
