@@ -1,10 +1,9 @@
 -- What is known of a text as it is read piece by piece.
-use Rattle.std.proofs.Common.{◌≡◌, ◌⊎◌, ◌↔◌, inl, inr, ◌<◌, ◌≤◌, ◌+◌, [], ◌++◌, ℕ, List, Bool, true, false, Option, Some, None, Result, Ok, Err, length, drop}
+use Rattle.std.proofs.Common.{◌≡◌, ◌⊎◌, inl, inr, ◌<◌, ◌≤◌, ◌+◌, [], ◌++◌, ℕ, List, Bool, true, false, Option, Some, None, Result, Ok, Err, length, drop}
 use Rattle.std.proofs.Common.{refl, sym, ap, subst, ◌∙◌, arith, append_assoc, length-append}
 use Rattle.std.proofs.KnownBytes.{Consumes-nil, Consumes-trans}
 use Rattle.std.specs.Io.KnownBytes.{Consumes, IsAtEnd, Appends}
 use Rattle.std.proofs.lemmas.Bool.{cases_lt, true≢false}
-use Rattle.std.proofs.lemmas.Bool.Decides.{nat_tests}
 use Rattle.std.proofs.lemmas.List.{append-nil}
 use Rattle.ckd_outside.specs.Texts.{AppendsFront}
 use Rattle.deck_text.specs.DeckLines.{DeckLines}
