@@ -1,1 +1,5 @@
+pub mod Auditor
+pub mod Lines
+pub mod Progress
+pub mod Answers
 pub mod FirstFault
