@@ -4,7 +4,8 @@ ghost use Rattle.deck_plan.specs.declared.event.EventLine.TheVariants.{Start};
 ghost use Rattle.deck_audit.specs.declared.state.Did.TheVariants.{Halved};
 ghost use Rattle.deck_audit.specs.declared.state.Due.TheVariants.{Behind, DataOf, Next, SenseOf};
 ghost use Rattle.deck_audit.specs.declared.auditor.Auditor.{Auditor};
-ghost use Rattle.deck_audit.specs.Auditor.{Fits, IsAuditOf, IsFor, IsJudgedAt, IsSized, Makes, gone_on, is_nothing, is_quiet, kept_outline, new_kept, place_from, told_of};
+ghost use Rattle.deck_audit.specs.Verdict.{judged};
+ghost use Rattle.deck_audit.specs.Auditor.{Fits, IsAuditOf, IsFor, IsJudged, IsJudgedAt, IsSized, Makes, gone_on, is_nothing, is_quiet, kept_outline, new_kept, place_from, told_of};
 ghost use Rattle.deck_audit.specs.Place.{IsDueOf, in_due};
 ghost use Rattle.deck_audit.specs.Device.{device_in};
 ghost use Rattle.deck_audit.specs.History.{act_of_work, due_made, event_made, harden_made, lent_to, loss_made, sense_made, shown, work_made};
@@ -13,7 +14,7 @@ ghost use Rattle.deck_audit.specs.Task.{task_made};
 
 use crate::kept::{Kept, Then};
 use crate::task::{Task, range_of};
-use crate::{Did, Due, Outline, ReplayedDevice, data_due, in_due, worker_of};
+use crate::{AuditWhy, Did, Due, Outline, ReplayedDevice, data_due, in_due, worker_of};
 use ckd_types::{CommandEnd, DeviceNo, NoMemory, PathNo, TrackNo};
 use deck_plan::EventLine;
 use deck_text::Deck;
@@ -130,6 +131,16 @@ impl Auditor {
         ensures { (s : AuditState) → IsAuditOf self.now s → result ≡ is_nothing s.due }
     {
         is_nothing(&self.due)
+    }
+
+    pub fn line(
+        &mut self,
+        alloc: Global,
+        line: &ReportLine,
+    ) -> Result<Option<AuditWhy>, NoMemory>
+        ensures { IfOk result (λ why. (s : AuditState) → IsAuditOf self.old s → IsJudged why self.new (judged s line.now)) }
+    {
+        Err(NoMemory)
     }
 
     fn go_on(&mut self, next: Then)

@@ -12,34 +12,31 @@ use Rattle.deck_text.specs.declared.line.DeckFault.{DeckFault}
 use Rattle.deck_text.specs.declared.line.DeckFault.TheVariants as deck_faults
 use Rattle.deck_text.specs.declared.line.Which.TheVariants.{Size}
 use Rattle.deck_audit.specs.declared.status.AuditStatus.{AuditStatus}
-use Rattle.deck_audit.specs.declared.status.AuditStatus.TheVariants.{No, DeckRefused, Limit}
+use Rattle.deck_audit.specs.declared.status.AuditStatus.TheVariants.{No, Limit}
 use Rattle.deck_audit.specs.declared.status.AuditWhy.{AuditWhy}
 use Rattle.deck_audit.specs.declared.state.Due.{Due}
 use Rattle.deck_audit.specs.declared.state.Due.TheVariants as dues
 use Rattle.deck_audit.specs.State.{AuditState, first_state}
 use Rattle.deck_audit.specs.Verdict.{at_end, cut_lines, deck_part, ended_line, judged_lines, or_no, report_from}
 use Rattle.deck_audit.proofs.LineLemmas.{whole_rest}
-use Rattle.report_audit.specs.Auditor.{AuditorState, IsAuditOf, is_nothing}
+use Rattle.deck_audit.specs.declared.auditor.Auditor.{Auditor}
+use Rattle.deck_audit.specs.Auditor.{IsAuditOf, is_nothing}
 use Rattle.report_audit.specs.Lines.{IsOneLine}
-use Rattle.report_audit.specs.Progress.{Progress, Comes, Comes_by, GoesOn, JudgedIn, Reporting, behind, behind_at, deck_behind, deck_end, is_over, is_reporting, over_by, report_end, some_auditor, status_of}
+use Rattle.report_audit.specs.Progress.{Progress, Comes, Comes_by, GoesOn, JudgedIn, Reporting, behind, behind_at, deck_behind, deck_end, fault_answer, is_over, is_reporting, over_by, report_end, some_auditor, status_of}
 use Rattle.report_audit.proofs.Cuts.{cut_ended, cut_last, found_behind, next}
 
 -- Before REPORT
 
 no_report_same : (k m : ℕ) (r : Result DeckLines DeckFault) (text rest : List ℕ) → deck_behind k r text None ≡ deck_behind m r rest None
 no_report_same k m (Ok deck) text rest = refl
-no_report_same k m (Err (deck_faults.Refused line why)) text rest = refl
-no_report_same k m (Err (deck_faults.Limit which)) text rest = refl
-no_report_same k m (Err deck_faults.NoMemory) text rest = refl
+no_report_same k m (Err fault) text rest = refl
 
 report_same : (k m i j : ℕ) (r : Result DeckLines DeckFault) (text rest : List ℕ) → k + (i + 2) ≡ m + (j + 2)
     → drop (i + 1) (cut_lines text) ≡ drop (j + 1) (cut_lines rest) → deck_behind k r text (Some i) ≡ deck_behind m r rest (Some j)
 report_same k m i j (Ok deck) text rest number lines =
     ap (λ (n : ℕ). judged_lines n (first_state deck) (drop (i + 1) (cut_lines text))) number
     ∙ ap (λ (l : List (List ℕ)). judged_lines (m + (j + 2)) (first_state deck) l) lines
-report_same k m i j (Err (deck_faults.Refused line why)) text rest number lines = refl
-report_same k m i j (Err (deck_faults.Limit which)) text rest number lines = refl
-report_same k m i j (Err deck_faults.NoMemory) text rest number lines = refl
+report_same k m i j (Err fault) text rest number lines = refl
 
 deck_longer : (deck line part : List ℕ) → deck ++ ((line ++ 10 ∷ []) ++ part) ≡ ((deck ++ line) ++ 10 ∷ []) ++ part
 deck_longer deck line part = simp (append_assoc) refl
@@ -112,7 +109,7 @@ behind_long k deck text long =
 -- Progress
 
 -- where the answer is known nothing changes it
-over_goes : (status : Option AuditStatus) (auditor : Option AuditorState) (p : Progress) (text rest : List ℕ) (answer : AuditStatus) → over_by status ≡ true
+over_goes : (status : Option AuditStatus) (auditor : Option Auditor) (p : Progress) (text rest : List ℕ) (answer : AuditStatus) → over_by status ≡ true
     → Comes_by status auditor p text answer → Comes_by status auditor p rest answer
 over_goes (Some known) auditor p text rest answer over comes = comes
 over_goes None auditor p text rest answer over comes = absurd (cc)
@@ -123,11 +120,11 @@ over_stays p text rest over answer comes = over_goes p.status p.auditor p text r
 -- before REPORT, what it comes to
 pub comes_behind : (p : Progress) (text : List ℕ) (answer : AuditStatus) → p.status ≡ None → p.auditor ≡ None → Comes p text answer → answer ≡ behind p.lines p.deck text
 comes_behind p text answer front deck comes =
-    subst (λ (a : Option AuditorState). Comes_by None a p text answer) deck (subst (λ (s : Option AuditStatus). Comes_by s p.auditor p text answer) front comes)
+    subst (λ (a : Option Auditor). Comes_by None a p text answer) deck (subst (λ (s : Option AuditStatus). Comes_by s p.auditor p text answer) front comes)
 
 pub behind_comes : (p : Progress) (text : List ℕ) (answer : AuditStatus) → p.status ≡ None → p.auditor ≡ None → answer ≡ behind p.lines p.deck text → Comes p text answer
 behind_comes p text answer front deck is =
-    subst (λ (s : Option AuditStatus). Comes_by s p.auditor p text answer) (sym front) (subst (λ (a : Option AuditorState). Comes_by None a p text answer) (sym deck) is)
+    subst (λ (s : Option AuditStatus). Comes_by s p.auditor p text answer) (sym front) (subst (λ (a : Option Auditor). Comes_by None a p text answer) (sym deck) is)
 
 -- a line of the deck is put behind the others
 pub deck_goes : (p : Progress) (line rest : List ℕ) → p.status ≡ None → p.auditor ≡ None → IsOneLine line → bytes_eq line (codes "REPORT") ≡ false
@@ -152,21 +149,19 @@ deck_too_long p q text rest front deck long over answer comes =
 -- REPORT: what follows is judged, or the deck's fault is told
 abbrev pub Opens : Progress → Progress → Result DeckLines DeckFault → Type 0
 Opens p q (Ok deck) =
-    (auditor : AuditorState) × (q.status ≡ None) × (q.auditor ≡ Some auditor) × (q.lines ≡ p.lines + 1) × IsAuditOf auditor (first_state deck)
-Opens p q (Err (deck_faults.Refused line why)) = q.status ≡ Some (DeckRefused line why)
-Opens p q (Err (deck_faults.Limit which)) = q.status ≡ Some (Limit which)
-Opens p q (Err deck_faults.NoMemory) = ⊥
+    (auditor : Auditor) × (q.status ≡ None) × (q.auditor ≡ Some auditor) × (q.lines ≡ p.lines + 1) × IsAuditOf auditor (first_state deck)
+Opens p q (Err fault) = q.status ≡ Some (fault_answer fault)
 
-reporting_comes : (q : Progress) (auditor : AuditorState) (text : List ℕ) (answer : AuditStatus) → q.status ≡ None → q.auditor ≡ Some auditor
+reporting_comes : (q : Progress) (auditor : Auditor) (text : List ℕ) (answer : AuditStatus) → q.status ≡ None → q.auditor ≡ Some auditor
     → Reporting q.lines auditor text answer → Comes q text answer
 reporting_comes q auditor text answer front is reporting =
     subst (λ (s : Option AuditStatus). Comes_by s q.auditor q text answer) (sym front)
-    (subst (λ (a : Option AuditorState). Comes_by None a q text answer) (sym is) reporting)
+    (subst (λ (a : Option Auditor). Comes_by None a q text answer) (sym is) reporting)
 
-comes_reporting : (q : Progress) (auditor : AuditorState) (text : List ℕ) (answer : AuditStatus) → q.status ≡ None → q.auditor ≡ Some auditor
+comes_reporting : (q : Progress) (auditor : Auditor) (text : List ℕ) (answer : AuditStatus) → q.status ≡ None → q.auditor ≡ Some auditor
     → Comes q text answer → Reporting q.lines auditor text answer
 comes_reporting q auditor text answer front is comes =
-    subst (λ (a : Option AuditorState). Comes_by None a q text answer) is (subst (λ (s : Option AuditStatus). Comes_by s q.auditor q text answer) front comes)
+    subst (λ (a : Option Auditor). Comes_by None a q text answer) is (subst (λ (s : Option AuditStatus). Comes_by s q.auditor q text answer) front comes)
 
 known_comes : (q : Progress) (text : List ℕ) (answer known : AuditStatus) → q.status ≡ Some known → answer ≡ known → Comes q text answer
 known_comes q text answer known is same = subst (λ (s : Option AuditStatus). Comes_by s q.auditor q text answer) (sym is) same
@@ -181,9 +176,7 @@ opens_by p q (Ok deck) text rest answer opens cut is =
       comes = is ∙ ap (λ (l : List (List ℕ)). judged_lines (p.lines + (0 + 2)) (first_state deck) l) cut
           ∙ ap (λ (n : ℕ). judged_lines n (first_state deck) (cut_lines rest)) (omega (arith, opens.3));
     })
-opens_by p q (Err (deck_faults.Refused line why)) text rest answer opens cut is = known_comes q rest answer (DeckRefused line why) opens is
-opens_by p q (Err (deck_faults.Limit which)) text rest answer opens cut is = known_comes q rest answer (Limit which) opens is
-opens_by p q (Err deck_faults.NoMemory) text rest answer opens cut is = absurd opens
+opens_by p q (Err fault) text rest answer opens cut is = known_comes q rest answer (fault_answer fault) opens is
 
 pub report_opens : (p q : Progress) (rest : List ℕ) → p.status ≡ None → p.auditor ≡ None → Opens p q (parsed p.deck)
     → GoesOn p (codes "REPORT" ++ 10 ∷ rest) q rest
@@ -196,9 +189,15 @@ report_alone_opens p q front deck opens answer comes =
     opens_by p q (parsed p.deck) (codes "REPORT") [] answer opens refl
     (comes_behind p (codes "REPORT") answer front deck comes ∙ behind_report_alone p.lines p.deck)
 
+-- the auditor of the deck that was read
+pub opens_deck : (p q : Progress) (text : List ℕ) (deck : DeckLines) (auditor : Auditor) → parsed text ≡ Ok deck → text ≡ p.deck → q.status ≡ None
+    → q.auditor ≡ Some auditor → q.lines ≡ p.lines + 1 → IsAuditOf auditor (first_state deck) → Opens p q (parsed p.deck)
+opens_deck p q text deck auditor parses same front is count held =
+    subst (λ (r : Result DeckLines DeckFault). Opens p q r) (sym parses ∙ ap (λ (l : List ℕ). parsed l) same) (auditor, front, is, count, held)
+
 -- Behind REPORT
 
-judged_goes : (p q : Progress) (auditor : AuditorState) (now : Option AuditorState) (why : Option AuditWhy) (line text rest : List ℕ) (answer : AuditStatus)
+judged_goes : (p q : Progress) (auditor : Auditor) (now : Option Auditor) (why : Option AuditWhy) (line text rest : List ℕ) (answer : AuditStatus)
     → q.auditor ≡ now → q.lines ≡ p.lines + 1 → q.status ≡ status_of q.lines why → cut_lines text ≡ line ∷ cut_lines rest
     → JudgedIn (Some auditor) now why line → Reporting p.lines auditor text answer → Comes q rest answer
 judged_goes p q auditor None why line text rest answer is count status cut judging reporting = absurd judging
@@ -218,7 +217,7 @@ judged_goes p q auditor (Some now) (Some why) line text rest answer is count sta
     ∙ ap (λ r. or_no (p.lines + 1) r (λ s. judged_lines (p.lines + 1 + 1) s (cut_lines rest))) (judging reporting.state reporting.held)
     ∙ ap (λ (n : ℕ). No n why) (sym count))
 
-line_goes : (p q : Progress) (was now : Option AuditorState) (why : Option AuditWhy) (line text rest : List ℕ) → some_auditor was ≡ true
+line_goes : (p q : Progress) (was now : Option Auditor) (why : Option AuditWhy) (line text rest : List ℕ) → some_auditor was ≡ true
     → p.status ≡ None → p.auditor ≡ was → q.auditor ≡ now → q.lines ≡ p.lines + 1 → q.status ≡ status_of q.lines why → cut_lines text ≡ line ∷ cut_lines rest
     → JudgedIn was now why line → GoesOn p text q rest
 line_goes p q None now why line text rest some front was_is is count status cut judging answer comes = absurd (cc)
@@ -253,7 +252,7 @@ ends_by n dues.Frames = refl
 pub known_end : (p : Progress) (known answer : AuditStatus) → p.status ≡ Some known → Comes p [] answer → answer ≡ known
 known_end p known answer is comes = subst (λ (s : Option AuditStatus). Comes_by s p.auditor p [] answer) is comes
 
-pub report_over : (p : Progress) (auditor : AuditorState) (finished : Bool) (answer : AuditStatus) → p.status ≡ None → p.auditor ≡ Some auditor
+pub report_over : (p : Progress) (auditor : Auditor) (finished : Bool) (answer : AuditStatus) → p.status ≡ None → p.auditor ≡ Some auditor
     → ((s : AuditState) → IsAuditOf auditor s → finished ≡ is_nothing s.due) → Comes p [] answer → answer ≡ report_end (p.lines + 1) finished
 report_over p auditor finished answer front is finishes comes =
     let r = comes_reporting p auditor [] answer front is comes in

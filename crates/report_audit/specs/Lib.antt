@@ -1,4 +1,3 @@
-pub mod Auditor
 pub mod Lines
 pub mod Progress
 pub mod Answers

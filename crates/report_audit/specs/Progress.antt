@@ -10,13 +10,14 @@ use Rattle.deck_audit.specs.declared.status.AuditWhy.{AuditWhy}
 use Rattle.deck_audit.specs.declared.status.AuditWhy.TheVariants.{Place}
 use Rattle.deck_audit.specs.State.{AuditState, first_state}
 use Rattle.deck_audit.specs.Verdict.{cut_lines, deck_part, judged_lines, judged_text, report_from}
-use Rattle.report_audit.specs.Auditor.{AuditorState, IsAuditOf, IsJudged}
+use Rattle.deck_audit.specs.declared.auditor.Auditor.{Auditor}
+use Rattle.deck_audit.specs.Auditor.{IsAuditOf, IsJudged}
 
 -- the deck's lines so far, each with its line feed; how many lines there were; behind REPORT the auditor; what it came to
 pub record Progress : Type 0 where
   pub deck : List ℕ
   pub lines : ℕ
-  pub auditor : Option AuditorState
+  pub auditor : Option Auditor
   pub status : Option AuditStatus
 
 abbrev pub begun : Progress
@@ -34,11 +35,15 @@ abbrev pub report_behind : ℕ → DeckLines → List ℕ → Option ℕ → Aud
 report_behind lines deck text (Some n) = judged_lines (lines + (n + 2)) (first_state deck) (drop (n + 1) (cut_lines text))
 report_behind lines deck text None = NoReport
 
+-- the answer to a deck that has a fault
+abbrev pub fault_answer : DeckFault → AuditStatus
+fault_answer (deck_faults.Refused line why) = DeckRefused line why
+fault_answer (deck_faults.Limit which) = Limit which
+fault_answer deck_faults.NoMemory = NoMemory
+
 abbrev pub deck_behind : ℕ → Result DeckLines DeckFault → List ℕ → Option ℕ → AuditStatus
 deck_behind lines (Ok deck) text at = report_behind lines deck text at
-deck_behind lines (Err (deck_faults.Refused line why)) text at = DeckRefused line why
-deck_behind lines (Err (deck_faults.Limit which)) text at = Limit which
-deck_behind lines (Err deck_faults.NoMemory) text at = NoMemory
+deck_behind lines (Err fault) text at = fault_answer fault
 
 -- behind so many lines of a deck stands a text, whose first line REPORT is at a place
 abbrev pub behind_at : ℕ → List ℕ → List ℕ → Option ℕ → AuditStatus
@@ -50,12 +55,12 @@ behind lines deck text = behind_at lines deck text (report_from 0 (cut_lines tex
 -- At any line
 
 -- behind REPORT
-pub record Reporting (lines : ℕ) (auditor : AuditorState) (text : List ℕ) (status : AuditStatus) : Type 0 where
+pub record Reporting (lines : ℕ) (auditor : Auditor) (text : List ℕ) (status : AuditStatus) : Type 0 where
   pub state : AuditState
   pub held : IsAuditOf auditor state
   pub comes : status ≡ judged_lines (lines + 1) state (cut_lines text)
 
-abbrev pub Comes_by : Option AuditStatus → Option AuditorState → Progress → List ℕ → AuditStatus → Type 0
+abbrev pub Comes_by : Option AuditStatus → Option Auditor → Progress → List ℕ → AuditStatus → Type 0
 Comes_by (Some answer) auditor p text status = status ≡ answer
 Comes_by None (Some auditor) p text status = Reporting p.lines auditor text status
 Comes_by None None p text status = status ≡ behind p.lines p.deck text
@@ -77,7 +82,7 @@ abbrev pub is_over : Progress → Bool
 is_over p = over_by p.status
 
 -- it is behind REPORT
-abbrev pub some_auditor : Option AuditorState → Bool
+abbrev pub some_auditor : Option Auditor → Bool
 some_auditor (Some auditor) = true
 some_auditor None = false
 
@@ -87,7 +92,7 @@ is_reporting p = some_auditor p.auditor
 -- Its steps
 
 -- a line was judged, where there is an auditor
-abbrev pub JudgedIn : Option AuditorState → Option AuditorState → Option AuditWhy → List ℕ → Type 0
+abbrev pub JudgedIn : Option Auditor → Option Auditor → Option AuditWhy → List ℕ → Type 0
 JudgedIn None after why text = after ≡ None
 JudgedIn (Some auditor) None why text = ⊥
 JudgedIn (Some auditor) (Some now) why text = (s : AuditState) → IsAuditOf auditor s → IsJudged why now (judged_text s text)

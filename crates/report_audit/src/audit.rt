@@ -2,12 +2,11 @@ ghost use Rattle.std.specs.Prelude.{◌≡◌, ◌<◌, ◌≤◌, ◌+◌, ◌+
 ghost use Rattle.deck_audit.specs.declared.status.AuditStatus.{AuditStatus as Answer};
 ghost use Rattle.report_audit.specs.Lines.{IsOneLine};
 ghost use Rattle.deck_text.specs.Parse.{parsed};
-ghost use Rattle.report_audit.specs.Progress.{Comes, GoesOn, JudgedIn, begun, deck_end, is_answer, is_over, is_reporting, may_be, report_end, status_of};
+ghost use Rattle.report_audit.specs.Progress.{Comes, GoesOn, JudgedIn, begun, deck_end, fault_answer, is_answer, is_over, is_reporting, may_be, report_end, status_of};
 
-use crate::auditor::Auditor;
 use crate::line::judge_text;
 use ckd_types::NoMemory;
-use deck_audit::{AuditStatus, AuditWhy};
+use deck_audit::{AuditStatus, AuditWhy, Auditor};
 use deck_text::{DeckFault, Which, read_deck};
 use std::alloc::Global;
 use std::marker::Model;
@@ -55,6 +54,18 @@ fn report_end(line: u32, finished: bool) -> AuditStatus
     }
 }
 
+/// The answer to a deck that has a fault.
+fn fault_answer(fault: DeckFault) -> Result<AuditStatus, NoMemory>
+    ensures value { IfOk result (λ answer. fault_answer fault ≡ answer) }
+    ensures answer { IfOk result (λ answer. is_answer answer ≡ true) }
+{
+    match fault {
+        DeckFault::Refused { line, why } => Ok(AuditStatus::DeckRefused { line, why }),
+        DeckFault::Limit(which) => Ok(AuditStatus::Limit(which)),
+        DeckFault::NoMemory => Err(NoMemory),
+    }
+}
+
 /// The answer to a deck alone.
 fn deck_end(alloc: Global, deck: &[u8]) -> Result<AuditStatus, NoMemory>
     ensures value { IfOk result (λ answer. deck_end (parsed deck.now) ≡ answer) }
@@ -62,9 +73,7 @@ fn deck_end(alloc: Global, deck: &[u8]) -> Result<AuditStatus, NoMemory>
 {
     match read_deck(alloc, deck) {
         Ok(_) => Ok(AuditStatus::NoReport),
-        Err(DeckFault::Refused { line, why }) => Ok(AuditStatus::DeckRefused { line, why }),
-        Err(DeckFault::Limit(which)) => Ok(AuditStatus::Limit(which)),
-        Err(DeckFault::NoMemory) => Err(NoMemory),
+        Err(fault) => fault_answer(fault),
     }
 }
 
@@ -123,17 +132,16 @@ impl Audit {
         ensures last { OnOk result (GoesOn self.old (codes "REPORT") self.new []) }
         ensures count { OnOk result (self.new.lines ≡ self.old.lines + 1) }
     {
-        match read_deck(alloc, &self.deck) {
-            Ok(deck) => {
-                self.auditor = Some(Auditor::new(alloc, deck)?);
-                self.deck = Vec::new(alloc);
+        let deck = match read_deck(alloc, &self.deck) {
+            Ok(deck) => deck,
+            Err(fault) => {
+                self.status = Some(fault_answer(fault)?);
+                self.lines += 1;
+                return Ok(());
             }
-            Err(DeckFault::Refused { line, why }) => {
-                self.status = Some(AuditStatus::DeckRefused { line, why });
-            }
-            Err(DeckFault::Limit(which)) => self.status = Some(AuditStatus::Limit(which)),
-            Err(DeckFault::NoMemory) => return Err(NoMemory),
-        }
+        };
+        self.auditor = Some(Auditor::new(alloc, deck)?);
+        self.deck = Vec::new(alloc);
         self.lines += 1;
         Ok(())
     }

@@ -2,7 +2,6 @@
 #![tactic(auto)]
 
 mod audit;
-mod auditor;
 mod law;
 mod line;
 mod pieces;

@@ -1,11 +1,10 @@
 ghost use Rattle.std.specs.Prelude.{◌≡◌, IfOk, ℕ};
 ghost use Rattle.deck_audit.specs.State.{AuditState};
 ghost use Rattle.deck_audit.specs.Verdict.{judged_text};
-ghost use Rattle.report_audit.specs.Auditor.{IsAuditOf, IsJudged};
+ghost use Rattle.deck_audit.specs.Auditor.{IsAuditOf, IsJudged};
 
-use crate::auditor::Auditor;
 use ckd_types::NoMemory;
-use deck_audit::AuditWhy;
+use deck_audit::{AuditWhy, Auditor};
 use report_reading::{LineError, read_line};
 use std::alloc::Global;
 
