@@ -1,24 +1,27 @@
-ghost use Rattle.std.specs.Prelude.{◌≡◌, ◌<◌, ◌≤◌, Bool, Some, true, IfOk, IfSome, drop, length, map};
+ghost use Rattle.std.specs.Prelude.{◌≡◌, ◌<◌, ◌≤◌, Bool, Some, true, IfOk, IfSome, OnOk, drop, length, map};
 ghost use Rattle.std.specs.List.{All};
-ghost use Rattle.deck_plan.specs.declared.event.EventLine.TheVariants.{Start};
+ghost use Rattle.deck_plan.specs.declared.event.EventLine.TheVariants.{Pair, Reset, Start, Unpair};
 ghost use Rattle.deck_audit.specs.declared.state.Did.TheVariants.{Halved};
-ghost use Rattle.deck_audit.specs.declared.state.Due.TheVariants.{Behind, DataOf, Next, SenseOf};
+ghost use Rattle.deck_audit.specs.declared.state.Due.TheVariants.{Behind, DataOf, Losses, Next, OverOf, SenseOf};
 ghost use Rattle.deck_audit.specs.declared.auditor.Auditor.{Auditor};
 ghost use Rattle.deck_audit.specs.Verdict.{judged};
-ghost use Rattle.deck_audit.specs.Auditor.{Fits, IsAuditOf, IsFor, IsJudged, IsJudgedAt, IsSized, Makes, gone_on, is_nothing, is_quiet, kept_outline, new_kept, place_from, told_of};
-ghost use Rattle.deck_audit.specs.Place.{IsDueOf, in_due};
+ghost use Rattle.deck_audit.specs.Auditor.{Fits, IsAuditOf, IsFor, IsJudged, IsJudgedAt, IsSized, Makes, gone_on, is_nothing, is_quiet, kept_outline, new_kept, place_from, placed, told_of, behind_of, cut_at, idle_fault, kept_legal, loose_at, order_told, totals_due, FitsTotals, NoneRuns};
+ghost use Rattle.deck_audit.specs.Place.{IsDueOf, in_due, in_event, in_next, in_power, in_state};
 ghost use Rattle.deck_audit.specs.Device.{device_in};
-ghost use Rattle.deck_audit.specs.History.{act_of_work, due_made, event_made, harden_made, lent_to, loss_made, sense_made, shown, work_made};
+ghost use Rattle.deck_audit.specs.History.{act_of_work, done_order, due_made, order_made, power_made, totals_made, event_made, harden_made, lent_to, loss_made, sense_made, shown, work_made};
 ghost use Rattle.deck_audit.specs.State.{AuditState, behind_work, first_event, first_state, outlines, over_by, settled_by, then_of, worker_number, worker_of};
 ghost use Rattle.deck_audit.specs.Task.{task_made};
 
+use crate::devices::{any_lent_runs, lose_power, take_all_back};
 use crate::kept::{Kept, Then};
+use crate::place::is_io;
+use crate::status::AuditWhy;
 use crate::task::{Task, range_of};
-use crate::{AuditWhy, Did, Due, Outline, ReplayedDevice, data_due, in_due, worker_of};
+use crate::{Did, Due, OpenProgram, Outline, ReplayedDevice, data_due, in_due, worker_of};
 use ckd_types::{CommandEnd, DeviceNo, NoMemory, PathNo, TrackNo};
 use deck_plan::EventLine;
 use deck_text::Deck;
-use report_text::ReportLine;
+use report_text::{HowOver, LooseAnswer, OrderAnswer, ReportLine};
 use std::alloc::Global;
 
 /// The devices of a deck as the lines of a report so far make them, the events that are left, and what is due. Its memory grows with the
@@ -81,6 +84,30 @@ fn kept_devices(alloc: Global, deck: &Deck) -> Result<Vec<Kept>, NoMemory>
     Ok(devices)
 }
 
+/// The outlines of the devices as they are now, in the room for them.
+fn outline_all(devices: &[Kept], outlines: &mut Vec<Outline>) -> Result<(), NoMemory>
+    ensures { OnOk result (outlines.new.items ≡ map kept_outline devices.now) }
+{
+    outlines.clear();
+    for kept in devices {
+        let outline = kept.device.outline();
+        let _program: Option<OpenProgram> = outline.running;
+        outlines.push(outline)?;
+    }
+    Ok(())
+}
+
+/// The events behind so many.
+fn left_of(deck: &Deck, passed: usize) -> &[EventLine]
+    ensures { result.now ≡ drop passed deck.now.events }
+{
+    let events = deck.schedule().as_slice();
+    if passed >= events.len() {
+        return &[];
+    }
+    events.split_at(passed).1
+}
+
 fn is_nothing(due: &Due) -> bool
     ensures { result ≡ is_nothing due.now }
 {
@@ -107,6 +134,98 @@ fn may_stand(devices: &[Outline], events: &[EventLine], line: &ReportLine, due: 
         return false;
     }
     in_due(devices, events, line, due)
+}
+
+/// The device and the commands of a program that was cut, where the line tells of one.
+fn cut_at(line: &ReportLine) -> Option<(DeviceNo, u16)>
+    ensures { result ≡ cut_at line.now }
+{
+    match line {
+        ReportLine::Over(_, d, _, HowOver::Cut(n)) => Some((*d, *n)),
+        _ => None,
+    }
+}
+
+/// What a line of an order tells.
+#[derive(Debug)]
+pub enum OrderTold {
+    /// The order is done.
+    Done,
+    /// A track became firm, since its volume failed.
+    Firm(DeviceNo, TrackNo),
+    /// The cache failed, and a device's loose tracks went back.
+    Lost(DeviceNo),
+    Other,
+}
+
+fn order_told(line: &ReportLine) -> OrderTold
+    ensures { result ≡ order_told line.now }
+{
+    match line {
+        ReportLine::Order(_, OrderAnswer::Done) => OrderTold::Done,
+        ReportLine::Loose(d, LooseAnswer::Harden(t)) => OrderTold::Firm(*d, *t),
+        ReportLine::Loose(d, LooseAnswer::Lost { .. }) => OrderTold::Lost(*d),
+        _ => OrderTold::Other,
+    }
+}
+
+/// The device of a line about its loose tracks.
+fn loose_at(line: &ReportLine) -> Option<DeviceNo>
+    ensures { result ≡ loose_at line.now }
+{
+    match line {
+        ReportLine::Loose(d, _) => Some(*d),
+        _ => None,
+    }
+}
+
+/// What is due behind a line of the totals of so many devices, where so many of them were told.
+fn totals_due(devices: usize, line: &ReportLine, told: usize) -> Due
+    ensures { result ≡ totals_due devices line.now told }
+{
+    match line {
+        ReportLine::Device(_, _) => {
+            if told < devices {
+                Due::Totals(told + 1)
+            } else {
+                Due::Totals(told)
+            }
+        }
+        ReportLine::Lost(_, _) => Due::Totals(told),
+        ReportLine::Finish => Due::Nothing,
+        _ => Due::Frames,
+    }
+}
+
+/// A piece of work that is at its end, or what else is due.
+fn behind_of(due: Due) -> Result<(bool, Did), Due>
+    ensures { result ≡ behind_of due }
+{
+    match due {
+        Due::Behind(more, did) => Ok((more, did)),
+        due => Err(due),
+    }
+}
+
+/// The fault of a line behind a piece of work that no device does.
+fn idle_fault(line: &ReportLine) -> AuditWhy
+    ensures { result ≡ idle_fault line.now }
+{
+    if is_io(line) {
+        AuditWhy::History
+    } else {
+        AuditWhy::Place
+    }
+}
+
+/// What the device did may be so.
+fn is_legal(kept: &Kept, did: &Did) -> bool
+    ensures { result ≡ kept_legal did.now kept.now }
+{
+    match did {
+        Did::Ended(_) => kept.device.is_legal(),
+        _ => true,
+    }
 }
 
 impl Auditor {
@@ -161,11 +280,7 @@ impl Auditor {
     fn left(&self) -> &[EventLine]
         ensures { result.now ≡ drop self.now.passed self.now.deck.events }
     {
-        let events = self.deck.schedule().as_slice();
-        if self.passed >= events.len() {
-            return &[];
-        }
-        events.split_at(self.passed).1
+        left_of(&self.deck, self.passed)
     }
 
     /// The event that has begun or is the next.
@@ -338,6 +453,308 @@ impl Auditor {
     {
         let good = self.device_line(alloc, d, line, Task::Lend(of))?;
         Ok(good)
+    }
+
+    /// Whether the line may stand where this is due.
+    fn is_placed(&mut self, line: &ReportLine, due: &Due) -> Result<bool, NoMemory>
+        ensures placed { IfOk result (λ is. (s : AuditState) → IsFor self.old s → due.now ≡ s.due → is ≡ in_state s line.now) }
+        ensures kept { OnOk result ((s : AuditState) → IsFor self.old s → IsFor self.new s) }
+    {
+        outline_all(&self.devices, &mut self.outlines)?;
+        let events = left_of(&self.deck, self.passed);
+        Ok(may_stand(&self.outlines, events, line, due))
+    }
+
+    /// A line of the totals, where so many devices have had theirs.
+    fn totals_line(&mut self, line: &ReportLine, told: usize)
+        ensures { (s : AuditState) → IsFor self.old s → is_quiet s.due ≡ true → FitsTotals s line.now told → IsAuditOf self.new (totals_made s line.now told) }
+    {
+        let devices: &[Kept] = &self.devices;
+        self.due = totals_due(devices.len(), line, told);
+    }
+
+    /// The sense of the command of the event's device.
+    fn sense_due(
+        &mut self,
+        alloc: Global,
+        line: &ReportLine,
+        e: CommandEnd,
+    ) -> Result<bool, NoMemory>
+        ensures { IfOk result (λ good. (s : AuditState) → IsFor self.old s → s.due ≡ SenseOf e → Makes good self.new (due_made s line.now (SenseOf e))) }
+    {
+        let Some(d) = self.worker() else {
+            return Ok(false);
+        };
+        let good = self.sense_line(alloc, d, line, e)?;
+        Ok(good)
+    }
+
+    /// The OVER line of the event's device.
+    fn over_due(
+        &mut self,
+        alloc: Global,
+        line: &ReportLine,
+        wanted: ReportLine,
+    ) -> Result<bool, NoMemory>
+        ensures { IfOk result (λ good. (s : AuditState) → IsFor self.old s → is_quiet s.due ≡ true → Makes good self.new (due_made s line.now (OverOf wanted))) }
+    {
+        let Some(d) = self.worker() else {
+            return Ok(false);
+        };
+        let event = self.event();
+        let good = self.over_line(alloc, d, line, event, wanted)?;
+        Ok(good)
+    }
+
+    /// A RESET, or the OVER line of the program that it cuts.
+    fn reset_line(
+        &mut self,
+        alloc: Global,
+        path: PathNo,
+        d: DeviceNo,
+        line: &ReportLine,
+    ) -> Result<bool, NoMemory>
+        ensures { IfOk result (λ good. (s : AuditState) → IsFor self.old s → is_quiet s.due ≡ true → in_event (outlines s) line.now (Reset path d) ≡ true → Makes good self.new (event_made s line.now (Reset path d))) }
+    {
+        if let Some((_, n)) = cut_at(line) {
+            let good = self.device_line(alloc, d, line, Task::Cut(n))?;
+            return Ok(good);
+        }
+        let good = self.device_line(alloc, d, line, Task::Reset(path))?;
+        Ok(good)
+    }
+
+    /// An order that ends a pair: its second volume comes back empty, unless it runs a program.
+    fn unpair_line(&mut self, alloc: Global, a: DeviceNo) -> Result<bool, NoMemory>
+        ensures { IfOk result (λ good. (s : AuditState) → IsFor self.old s → is_quiet s.due ≡ true → Makes good self.new (done_order s (Unpair a))) }
+    {
+        if any_lent_runs(&self.devices, a) {
+            return Ok(false);
+        }
+        take_all_back(alloc, &mut self.devices, a)?;
+        self.go_on(Then::Passed);
+        Ok(true)
+    }
+
+    /// An order that makes a pair.
+    fn pair_line(
+        &mut self,
+        alloc: Global,
+        line: &ReportLine,
+        a: DeviceNo,
+        b: DeviceNo,
+    ) -> Result<bool, NoMemory>
+        ensures { IfOk result (λ good. (s : AuditState) → IsFor self.old s → is_quiet s.due ≡ true → Makes good self.new (done_order s (Pair a b))) }
+    {
+        if a.get() == b.get() {
+            self.go_on(Then::Passed);
+            return Ok(true);
+        }
+        let good = self.lend_line(alloc, b, line, a)?;
+        Ok(good)
+    }
+
+    /// An order that is done.
+    fn done_line(
+        &mut self,
+        alloc: Global,
+        line: &ReportLine,
+        event: EventLine,
+    ) -> Result<bool, NoMemory>
+        ensures { IfOk result (λ good. (s : AuditState) → IsFor self.old s → is_quiet s.due ≡ true → Makes good self.new (done_order s event)) }
+    {
+        match event {
+            EventLine::Pair(a, b) => {
+                let good = self.pair_line(alloc, line, a, b)?;
+                Ok(good)
+            }
+            EventLine::Unpair(a) => {
+                let good = self.unpair_line(alloc, a)?;
+                Ok(good)
+            }
+            _ => {
+                self.go_on(Then::Passed);
+                Ok(true)
+            }
+        }
+    }
+
+    /// A line of an order.
+    fn order_line(
+        &mut self,
+        alloc: Global,
+        line: &ReportLine,
+        event: EventLine,
+    ) -> Result<bool, NoMemory>
+        ensures { IfOk result (λ good. (s : AuditState) → IsFor self.old s → is_quiet s.due ≡ true → Makes good self.new (order_made s line.now event)) }
+    {
+        match order_told(line) {
+            OrderTold::Done => {
+                let good = self.done_line(alloc, line, event)?;
+                Ok(good)
+            }
+            OrderTold::Firm(d, t) => {
+                let good = self.harden_line(alloc, d, line, t)?;
+                Ok(good)
+            }
+            OrderTold::Lost(d) => {
+                let good = self.loss_line(alloc, d, line)?;
+                Ok(good)
+            }
+            OrderTold::Other => {
+                self.go_on(Then::Passed);
+                Ok(true)
+            }
+        }
+    }
+
+    /// A line of a loss of power, where it was told of so many devices.
+    fn power_line(
+        &mut self,
+        alloc: Global,
+        line: &ReportLine,
+        told: usize,
+    ) -> Result<bool, NoMemory>
+        ensures { IfOk result (λ good. (s : AuditState) → IsFor self.old s → is_quiet s.due ≡ true → NoneRuns told s.devices → in_power line.now (drop told (outlines s)) ≡ true → Makes good self.new (power_made s line.now)) }
+    {
+        if let Some(d) = loose_at(line) {
+            let good = self.device_line(alloc, d, line, Task::PowerLoss)?;
+            return Ok(good);
+        }
+        if let Some((d, n)) = cut_at(line) {
+            let good = self.device_line(alloc, d, line, Task::PowerCut(n))?;
+            return Ok(good);
+        }
+        lose_power(alloc, &mut self.devices);
+        self.go_on(Then::Passed);
+        Ok(true)
+    }
+
+    /// The first line of an event.
+    fn event_line(
+        &mut self,
+        alloc: Global,
+        line: &ReportLine,
+        event: EventLine,
+    ) -> Result<bool, NoMemory>
+        ensures { IfOk result (λ good. (s : AuditState) → IsFor self.old s → is_quiet s.due ≡ true → first_event s.events ≡ Some event → in_event (outlines s) line.now event ≡ true → Makes good self.new (event_made s line.now event)) }
+    {
+        if let Some(d) = worker_of(&event) {
+            let good = self.work_line(alloc, d, line)?;
+            return Ok(good);
+        }
+        match event {
+            EventLine::Start(path, d) => {
+                let good = self.start_line(alloc, path, d, line)?;
+                Ok(good)
+            }
+            EventLine::Reset(path, d) => {
+                let good = self.reset_line(alloc, path, d, line)?;
+                Ok(good)
+            }
+            EventLine::Power => {
+                let good = self.power_line(alloc, line, 0)?;
+                Ok(good)
+            }
+            event => {
+                let good = self.order_line(alloc, line, event)?;
+                Ok(good)
+            }
+        }
+    }
+
+    /// The first line of the next event, or of the totals.
+    fn next_line(&mut self, alloc: Global, line: &ReportLine) -> Result<bool, NoMemory>
+        ensures { IfOk result (λ good. (s : AuditState) → IsFor self.old s → s.due ≡ Next → in_next (outlines s) line.now s.events ≡ true → Makes good self.new (due_made s line.now Next)) }
+    {
+        match self.event() {
+            Some(event) => {
+                let good = self.event_line(alloc, line, event)?;
+                Ok(good)
+            }
+            None => {
+                self.totals_line(line, 0);
+                Ok(true)
+            }
+        }
+    }
+
+    /// A line behind the losses of the cache's failure.
+    fn losses_line(
+        &mut self,
+        alloc: Global,
+        line: &ReportLine,
+        d: DeviceNo,
+    ) -> Result<bool, NoMemory>
+        ensures { IfOk result (λ good. (s : AuditState) → IsFor self.old s → is_quiet s.due ≡ true → Makes good self.new (due_made s line.now (Losses d))) }
+    {
+        let Some(event) = self.event() else {
+            return Ok(false);
+        };
+        let good = self.order_line(alloc, line, event)?;
+        Ok(good)
+    }
+
+    /// A line where this is due, which may stand there.
+    fn due_line(&mut self, alloc: Global, line: &ReportLine, due: Due) -> Result<bool, NoMemory>
+        ensures { IfOk result (λ good. (s : AuditState) → IsFor self.old s → due ≡ s.due → in_due (outlines s) s.events line.now due ≡ true → Makes good self.new (due_made s line.now due)) }
+    {
+        match due {
+            Due::Next => {
+                let good = self.next_line(alloc, line)?;
+                Ok(good)
+            }
+            Due::DataOf(e) => Ok(self.data_line(line, e)),
+            Due::SenseOf(e) => {
+                let good = self.sense_due(alloc, line, e)?;
+                Ok(good)
+            }
+            Due::OverOf(wanted) => {
+                let good = self.over_due(alloc, line, wanted)?;
+                Ok(good)
+            }
+            Due::Losses(d) => {
+                let good = self.losses_line(alloc, line, d)?;
+                Ok(good)
+            }
+            Due::ResetOf => {
+                self.go_on(Then::Passed);
+                Ok(true)
+            }
+            Due::Powers(told) => {
+                let good = self.power_line(alloc, line, told)?;
+                Ok(good)
+            }
+            Due::Totals(told) => {
+                self.totals_line(line, told);
+                Ok(true)
+            }
+            Due::Frames => {
+                self.totals_line(line, 0);
+                Ok(true)
+            }
+            Due::Behind(_, _) => Ok(false),
+            Due::Nothing => Ok(false),
+        }
+    }
+
+    /// A line where this is due, and no piece of work is at its end.
+    fn placed_line(
+        &mut self,
+        alloc: Global,
+        line: &ReportLine,
+        due: Due,
+    ) -> Result<Option<AuditWhy>, NoMemory>
+        ensures { IfOk result (λ why. (s : AuditState) → IsFor self.old s → due ≡ s.due → IsJudged why self.new (placed s line.now)) }
+    {
+        if !self.is_placed(line, &due)? {
+            return Ok(Some(AuditWhy::Place));
+        }
+        if self.due_line(alloc, line, due)? {
+            Ok(None)
+        } else {
+            Ok(Some(AuditWhy::History))
+        }
     }
 }
 

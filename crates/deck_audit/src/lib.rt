@@ -2,6 +2,7 @@
 #![tactic(auto)]
 
 mod auditor;
+mod devices;
 mod follows;
 mod judged;
 mod judging;
