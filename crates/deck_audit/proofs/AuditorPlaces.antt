@@ -3,8 +3,7 @@ use Rattle.std.proofs.Common.{◌≡◌, ◌≤◌, ◌+◌, ◌-◌, ℕ, zero,
 use Rattle.std.specs.Prelude.{◌==◌, ◌&&◌, ◌||◌, not, map, nat_lt, slice_get}
 use Rattle.std.proofs.Common.{rules}
 use Rattle.std.proofs.lemmas.Bool.Decides.{nat_tests}
-use Rattle.std.proofs.lemmas.List.{length-drop, length-map}
-use Rattle.deck_plan.specs.declared.event.EventLine.{EventLine}
+use Rattle.std.proofs.lemmas.List.{length-drop}
 use Rattle.deck_plan.specs.declared.event.EventLine.TheVariants as events
 use Rattle.plain_defs.specs.History.{OpenEntry, reset}
 use Rattle.report_text.specs.declared.answers.DeviceTotals.{DeviceTotals}
@@ -13,12 +12,12 @@ use Rattle.report_text.specs.declared.answers.LooseAnswer.{LooseAnswer}
 use Rattle.report_text.specs.declared.answers.LooseAnswer.TheVariants as loose
 use Rattle.report_text.specs.declared.line.ReportLine.{ReportLine}
 use Rattle.report_text.specs.declared.line.ReportLine.TheVariants as lines
-use Rattle.deck_audit.specs.Auditor.{FitsTotals, NoneRuns, cut_at, loose_at}
+use Rattle.deck_audit.specs.Auditor.{NoneRuns, cut_at, loose_at}
 use Rattle.deck_audit.specs.declared.state.OpenProgram.{OpenProgram}
 use Rattle.deck_audit.specs.declared.state.Outline.{Outline}
 use Rattle.deck_audit.specs.Device.{AuditedDevice, device_in, open_program, outline_of, own_runs}
 use Rattle.deck_audit.specs.History.{place_of, power_cut, power_loss, power_made, reset_made, changed, without_power}
-use Rattle.deck_audit.specs.Place.{holds, in_event, in_power, in_power_of, in_totals, in_totals_of, is_cut, is_frame, is_finish, is_lost_of, is_loss_of, is_totals_of, may_reset, outline_in}
+use Rattle.deck_audit.specs.Place.{holds, in_event, in_power, in_power_of, in_totals, in_totals_of, is_cut, is_lost_of, is_loss_of, may_reset}
 use Rattle.deck_audit.specs.State.{AuditState, outlines, passed, then_of}
 use Rattle.deck_audit.proofs.AuditorDues.{outline_is}
 

@@ -1,5 +1,5 @@
 -- What an auditor makes of lines that concern no device, or all.
-use Rattle.std.proofs.Common.{◌≡◌, ◌≤◌, ◌+◌, ℕ, List, [], ◌∷◌, length, drop, Option, Some, None, Bool, true, false, cond, refl, arith, sym, ap, subst, ◌∙◌}
+use Rattle.std.proofs.Common.{◌≡◌, ◌≤◌, ◌+◌, ℕ, List, length, drop, Some, None, Bool, true, false, cond, refl, arith, sym, ap, subst, ◌∙◌}
 use Rattle.std.specs.Prelude.{◌==◌, map, nat_lt}
 use Rattle.std.specs.List.{list_any}
 use Rattle.std.proofs.Common.{rules}
@@ -12,7 +12,7 @@ use Rattle.report_text.specs.declared.answers.LooseAnswer.TheVariants as loose
 use Rattle.report_text.specs.declared.answers.OrderAnswer.TheVariants as order_answers
 use Rattle.report_text.specs.declared.line.ReportLine.{ReportLine}
 use Rattle.report_text.specs.declared.line.ReportLine.TheVariants as lines
-use Rattle.deck_audit.specs.Auditor.{AllKept, FitsTotals, IsAuditOf, IsFor, Makes, NoneRuns, cut_at, dark_kept, gone_on, is_quiet, kept_outline, lent_runs, loose_at, next_place, order_told, taken_back, totals_due}
+use Rattle.deck_audit.specs.Auditor.{AllKept, FitsTotals, IsAuditOf, IsFor, Makes, NoneRuns, cut_at, dark_kept, gone_on, is_quiet, kept_outline, lent_runs, loose_at, order_told, taken_back, totals_due}
 use Rattle.deck_audit.specs.declared.auditor.Auditor.{Auditor}
 use Rattle.deck_audit.specs.declared.auditor.OrderTold.TheVariants as told
 use Rattle.deck_audit.specs.declared.kept.Kept.{Kept}
@@ -23,7 +23,7 @@ use Rattle.deck_audit.specs.declared.state.Outline.{Outline}
 use Rattle.deck_audit.specs.Device.{AuditedDevice, device_in, outline_of}
 use Rattle.deck_audit.specs.History.{done_order, due_made, given_back, lent_to, order_made, power_made, runs_lent, totals_made, without_power}
 use Rattle.deck_audit.specs.Place.{IsDueOf, in_due, in_power, in_state, in_totals}
-use Rattle.deck_audit.specs.State.{AuditState, outlines, passed, then_of, worker_number}
+use Rattle.deck_audit.specs.State.{AuditState, outlines, passed, then_of}
 use Rattle.deck_audit.proofs.AllDevices.{all_back, all_dark, any_alike}
 use Rattle.deck_audit.proofs.AuditorDues.{all_here, passes_so, waits_so}
 use Rattle.deck_audit.proofs.AuditorLines.{behind_event}

@@ -1,28 +1,30 @@
-ghost use Rattle.std.specs.Prelude.{◌≡◌, ◌<◌, ◌≤◌, Bool, Some, true, IfOk, IfSome, OnOk, drop, length, map};
+ghost use Rattle.std.specs.Prelude.{◌≡◌, ◌<◌, ◌≤◌, Bool, Some, false, true, IfOk, IfSome, OnOk, drop, length, map};
 ghost use Rattle.std.specs.List.{All};
 ghost use Rattle.deck_plan.specs.declared.event.EventLine.TheVariants.{Pair, Reset, Start, Unpair};
 ghost use Rattle.deck_audit.specs.declared.state.Did.TheVariants.{Halved};
 ghost use Rattle.deck_audit.specs.declared.state.Due.TheVariants.{Behind, DataOf, Losses, Next, OverOf, SenseOf};
 ghost use Rattle.deck_audit.specs.declared.auditor.Auditor.{Auditor};
-ghost use Rattle.deck_audit.specs.Verdict.{judged};
-ghost use Rattle.deck_audit.specs.Auditor.{Fits, IsAuditOf, IsFor, IsJudged, IsJudgedAt, IsSized, Makes, gone_on, is_nothing, is_quiet, kept_outline, new_kept, place_from, placed, told_of, behind_of, cut_at, idle_fault, kept_legal, loose_at, order_told, totals_due, FitsTotals, NoneRuns};
-ghost use Rattle.deck_audit.specs.Place.{IsDueOf, in_due, in_event, in_next, in_power, in_state};
-ghost use Rattle.deck_audit.specs.Device.{device_in};
-ghost use Rattle.deck_audit.specs.History.{act_of_work, done_order, due_made, order_made, power_made, totals_made, event_made, harden_made, lent_to, loss_made, sense_made, shown, work_made};
+ghost use Rattle.deck_audit.specs.Auditor.{Fits, IsAuditOf, IsFor, IsJudged, IsJudgedAt, IsSized, Makes, gone_on, is_nothing, is_quiet, judged_settled, kept_outline, new_kept, place_from, placed, told_of, behind_of, cut_at, idle_fault, kept_legal, loose_at, order_told, totals_due, FitsTotals, NoneRuns};
+ghost use Rattle.deck_audit.specs.Place.{IsDueOf, in_due, in_event, in_next, in_power, in_state, is_act_of};
+ghost use Rattle.deck_audit.specs.Device.{AuditedDevice, device_in};
+ghost use Rattle.deck_audit.specs.History.{act_of_work, done_order, due_made, order_made, power_made, totals_made, event_made, harden_made, is_legal, lent_to, loss_made, sense_made, shown, work_made};
 ghost use Rattle.deck_audit.specs.State.{AuditState, behind_work, first_event, first_state, outlines, over_by, settled_by, then_of, worker_number, worker_of};
 ghost use Rattle.deck_audit.specs.Task.{task_made};
+ghost use Rattle.deck_audit.specs.Verdict.{judged};
 
 use crate::devices::{any_lent_runs, lose_power, take_all_back};
 use crate::kept::{Kept, Then};
 use crate::place::is_io;
 use crate::status::AuditWhy;
 use crate::task::{Task, range_of};
+use crate::work::is_act_of;
 use crate::{Did, Due, OpenProgram, Outline, ReplayedDevice, data_due, in_due, worker_of};
 use ckd_types::{CommandEnd, DeviceNo, NoMemory, PathNo, TrackNo};
 use deck_plan::EventLine;
 use deck_text::Deck;
 use report_text::{HowOver, LooseAnswer, OrderAnswer, ReportLine};
 use std::alloc::Global;
+use std::mem;
 
 /// The devices of a deck as the lines of a report so far make them, the events that are left, and what is due. Its memory grows with the
 /// deck alone.
@@ -250,16 +252,6 @@ impl Auditor {
         ensures { (s : AuditState) → IsAuditOf self.now s → result ≡ is_nothing s.due }
     {
         is_nothing(&self.due)
-    }
-
-    pub fn line(
-        &mut self,
-        alloc: Global,
-        line: &ReportLine,
-    ) -> Result<Option<AuditWhy>, NoMemory>
-        ensures { IfOk result (λ why. (s : AuditState) → IsAuditOf self.old s → IsJudged why self.new (judged s line.now)) }
-    {
-        Err(NoMemory)
     }
 
     fn go_on(&mut self, next: Then)
@@ -754,6 +746,103 @@ impl Auditor {
             Ok(None)
         } else {
             Ok(Some(AuditWhy::History))
+        }
+    }
+
+    /// What the device did that is at the end of a piece of work may be so.
+    fn is_legal(&self, d: DeviceNo, did: &Did) -> bool
+        ensures { (s : AuditState) (more : Bool) → IsFor self.now s → s.due ≡ Behind more did.now → worker_number s ≡ Some d → (a : AuditedDevice) → device_in s.devices d ≡ Some a → result ≡ is_legal did.now a }
+    {
+        match place_of(&self.devices, d) {
+            Some(at) => is_legal(&self.devices[at], did),
+            None => false,
+        }
+    }
+
+    /// A line behind a piece of work that is taken as done.
+    fn settled_line(
+        &mut self,
+        alloc: Global,
+        line: &ReportLine,
+        legal: bool,
+    ) -> Result<Option<AuditWhy>, NoMemory>
+        ensures { IfOk result (λ why. (t : AuditState) → IsAuditOf self.old t → IsJudged why self.new (judged_settled t line.now legal)) }
+    {
+        if is_io(line) {
+            if legal {
+                return Ok(None);
+            }
+            return Ok(Some(AuditWhy::History));
+        }
+        let due = mem::replace(&mut self.due, Due::Nothing);
+        if legal {
+            let why = self.placed_line(alloc, line, due)?;
+            return Ok(why);
+        }
+        if self.is_placed(line, &due)? {
+            Ok(Some(AuditWhy::History))
+        } else {
+            Ok(Some(AuditWhy::Place))
+        }
+    }
+
+    /// A line behind a piece of work of the device that is none of its acts.
+    fn settle_and_judge(
+        &mut self,
+        alloc: Global,
+        d: DeviceNo,
+        line: &ReportLine,
+        did: Did,
+    ) -> Result<Option<AuditWhy>, NoMemory>
+        ensures { IfOk result (λ why. (s : AuditState) (more : Bool) → IsFor self.old s → s.due ≡ Behind more did → worker_number s ≡ Some d → is_act_of more d line.now ≡ false → IsJudged why self.new (judged s line.now)) }
+    {
+        let legal = self.is_legal(d, &did);
+        let event = self.event();
+        if !self.settle_line(alloc, d, line, event, did)? {
+            return Ok(Some(idle_fault(line)));
+        }
+        let why = self.settled_line(alloc, line, legal)?;
+        Ok(why)
+    }
+
+    /// A line behind a piece of work.
+    fn behind_line(
+        &mut self,
+        alloc: Global,
+        line: &ReportLine,
+        more: bool,
+        did: Did,
+    ) -> Result<Option<AuditWhy>, NoMemory>
+        ensures { IfOk result (λ why. (s : AuditState) → IsFor self.old s → s.due ≡ Behind more did → IsJudged why self.new (judged s line.now)) }
+    {
+        let Some(d) = self.worker() else {
+            return Ok(Some(idle_fault(line)));
+        };
+        if !is_act_of(more, d, line) {
+            let why = self.settle_and_judge(alloc, d, line, did)?;
+            return Ok(why);
+        }
+        if self.act_line(alloc, d, line, did)? {
+            Ok(None)
+        } else {
+            Ok(Some(AuditWhy::History))
+        }
+    }
+
+    /// Judges the report's next line: none, or the fault that it shows, behind which nothing is said of the auditor.
+    pub fn line(&mut self, alloc: Global, line: &ReportLine) -> Result<Option<AuditWhy>, NoMemory>
+        ensures { IfOk result (λ why. (s : AuditState) → IsAuditOf self.old s → IsJudged why self.new (judged s line.now)) }
+    {
+        let due = mem::replace(&mut self.due, Due::Nothing);
+        match behind_of(due) {
+            Ok((more, did)) => {
+                let why = self.behind_line(alloc, line, more, did)?;
+                Ok(why)
+            }
+            Err(due) => {
+                let why = self.placed_line(alloc, line, due)?;
+                Ok(why)
+            }
         }
     }
 }
