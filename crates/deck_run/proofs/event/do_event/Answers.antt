@@ -1,0 +1,23 @@
+use Rattle.std.proofs.Common.{◌≡◌, Some, subst}
+use Rattle.subsystem_core.specs.Ends.{end_seen}
+use Rattle.deck_run.specs.Owning.{ChainsStand}
+use Rattle.deck_run.proofs.Events.{own_behind, is_told, happens_so, all_ok, where_so}
+use Rattle.deck_run.proofs.event.do_event.Goals as goal
+
+pub told_end-requires : goal.told_end-requires
+told_end-requires g c =
+    is_told c.args.d c.args.sub.now c.event.new.self c.in-Ok.end c.requires.here c.requires.own c.in-Ok.ensures.numbers c.args.e c.requires.on
+    c.in-Ok.ensures.came c.device.result.now c.device.ensures
+
+pub returns-clause-own : goal.returns-clause-own
+returns-clause-own g c =
+    all_ok c.told_end.result _
+    (own_behind c.args.d c.args.sub.now c.event.new.self c.in-Ok.end c.requires.here c.requires.own c.in-Ok.ensures.numbers c.args.e c.requires.on
+    c.in-Ok.ensures.came)
+
+pub returns-clause-happened : goal.returns-clause-happened
+returns-clause-happened g c = λ run all.
+    where_so c.told_end.result (λ end. end_seen c.device.result.now.past c.in-Ok.end ≡ Some end) _
+    (λ end seen. happens_so c.args.d c.args.sub.now c.event.new.self c.in-Ok.end c.requires.here c.requires.own c.in-Ok.ensures.numbers c.args.e
+    c.requires.on c.in-Ok.ensures.came c.device.result.now end run c.device.ensures seen (subst ChainsStand c.devices.ensures c.chains_stand.ensures) all)
+    c.told_end.ensures

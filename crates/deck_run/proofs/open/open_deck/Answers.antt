@@ -1,0 +1,24 @@
+use Rattle.std.proofs.Common.{◌≡◌, ◌∙◌, refl, sym, ap, subst, true, List, ℕ, None}
+use Rattle.frame_pool.specs.Shared.{Shared}
+use Rattle.subsystem_core.specs.Places.{are_rising}
+use Rattle.subsystem_defs.specs.Decks.{opened}
+use Rattle.deck_run.specs.Opening.{uncached}
+use Rattle.deck_run.proofs.Lines.{numbers_rise}
+use Rattle.deck_run.proofs.Opened.{opened_stands}
+use Rattle.deck_run.proofs.open.open_deck.Goals as goal
+
+pub new-requires-2 : goal.new-requires-2
+new-requires-2 c =
+    subst (λ (l : List ℕ). are_rising l ≡ true) (sym c.in_ok-devices.ensures.numbers) (numbers_rise c.args.deck.now.devices None c.requires)
+
+pub returns-clause-stands : goal.returns-clause-stands
+returns-clause-stands c =
+    opened_stands c.in_ok-made.made (opened (uncached c.args.deck.now))
+    (ap (λ (s : Shared). s.pool) (c.in_ok-made.ensures.pool ∙ c.in_ok-pool.ensures)) refl
+    (λ p. rw c.in_ok-made.ensures.devices (c.in_ok-devices.ensures.mounted p))
+
+pub returns-clause-numbers : goal.returns-clause-numbers
+returns-clause-numbers c = rw c.in_ok-made.ensures.devices c.in_ok-devices.ensures.numbers
+
+pub returns-clause-own : goal.returns-clause-own
+returns-clause-own c = rw c.in_ok-made.ensures.devices c.in_ok-devices.ensures.own

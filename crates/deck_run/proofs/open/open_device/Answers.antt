@@ -1,0 +1,17 @@
+use Rattle.std.proofs.Common.{◌∙◌, ap}
+use Rattle.device_outside.specs.Disk.{disk_view}
+use Rattle.device_core.specs.State.{device_of}
+use Rattle.deck_run.proofs.Opened.{device_stands, opened_own}
+use Rattle.deck_run.proofs.open.open_device.Goals as goal
+
+pub returns-in-Ok-clause-mounted : goal.returns-in-Ok-clause-mounted
+returns-in-Ok-clause-mounted c = λ p.
+    device_stands p c.args.deck.now c.args.line (device_of c.in-Ok.made) (disk_view c.in-Ok.made.store.volume) c.in_ok-plans.plans
+    c.deref.result.now c.deref-2.result.now c.requires c.in-Ok.ensures.device (c.in_ok-plans.ensures ∙ c.plans.ensures)
+    (ap disk_view (c.in-Ok.ensures.volume ∙ c.in_ok-volume.ensures.volume)) (c.deref.ensures.value ∙ c.in_ok-reads.ensures)
+    (c.deref-2.ensures.value ∙ c.in_ok-writes.ensures)
+
+pub returns-in-Ok-clause-own : goal.returns-in-Ok-clause-own
+returns-in-Ok-clause-own c =
+    opened_own (device_of c.in-Ok.made) c.args.line.number c.args.line.geometry c.args.line.cylinders c.in_ok-plans.plans c.in-Ok.ensures.device
+    c.plans_give.ensures

@@ -1,0 +1,17 @@
+use Rattle.std.proofs.Common.{◌≡◌, length, map, take}
+use Rattle.device_outside.specs.Pool.{Pool}
+use Rattle.subsystem_core.specs.Devices.{numbers_of}
+use Rattle.subsystem_defs.specs.Decks.{opened_device}
+use Rattle.subsystem_laws.specs.Stood.{AreMounted}
+use Rattle.deck_run.specs.Opening.{numbers_in}
+use Rattle.deck_run.specs.Owning.{AreOwn}
+use Rattle.deck_run.specs.Standing.{all_stood}
+use Rattle.deck_run.proofs.open.open_devices.Given as goal
+
+abbrev pub invariant-loop-i : goal.invariant-loop-i
+invariant-loop-i l = record {
+  numbers : numbers_of l.made.items ≡ numbers_in (take l.i l.deck.devices);
+  mounted : (p : Pool) → AreMounted p (all_stood l.made.items) (map (opened_device l.deck) (take l.i l.deck.devices));
+  own : AreOwn l.made.items;
+  count : l.i-end ≡ length l.deck.devices;
+}

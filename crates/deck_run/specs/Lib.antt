@@ -1,0 +1,5 @@
+pub mod Opening
+pub mod Owning
+pub mod Standing
+pub mod Going
+pub mod Later

@@ -1,0 +1,41 @@
+-- Which devices of a deck can be opened, and what is opened.
+use Rattle.std.specs.Prelude.{ℕ, ◌&&◌, nat_le, nat_lt, Bool, true, false, List, [], ◌∷◌, Option, Some, None, map, if◌then◌else◌}
+use Rattle.deck_plan.specs.declared.event.EventLine.{EventLine}
+use Rattle.deck_plan.specs.declared.event.EventLine.TheVariants as lines
+use Rattle.device_outside.specs.Lists.{is_in}
+use Rattle.deck_text.specs.declared.line.DeviceLine.{DeviceLine}
+use Rattle.deck_text.specs.DeckLines.{DeckLines}
+
+abbrev pub is_open_device : DeviceLine → Bool
+is_open_device d = nat_le 1 d.cylinders && nat_le d.cylinders 64
+
+abbrev pub is_behind : Option ℕ → ℕ → Bool
+is_behind (Some last) n = nat_lt last n
+is_behind None n = true
+
+abbrev pub are_open_behind : Option ℕ → List DeviceLine → Bool
+are_open_behind last [] = true
+are_open_behind last (d ∷ ds) = if is_behind last d.number && is_open_device d then are_open_behind (Some d.number) ds else false
+
+-- numbers rise, and each has 1 to 64 cylinders
+abbrev pub are_open : List DeviceLine → Bool
+are_open ds = are_open_behind None ds
+
+abbrev pub numbers_in : List DeviceLine → List ℕ
+numbers_in ds = map (λ (d : DeviceLine). d.number) ds
+
+-- no track has a place for a frame or a patch yet, so the pool of a deck has neither
+abbrev pub uncached : DeckLines → DeckLines
+uncached deck = record deck { frames = 0; slots = 0 }
+
+-- START, STEP, RUN and RESET of a device that is there
+abbrev pub is_open_line : List ℕ → EventLine → Bool
+is_open_line ns (lines.Start path d) = is_in d ns
+is_open_line ns (lines.Step d) = is_in d ns
+is_open_line ns (lines.Run d) = is_in d ns
+is_open_line ns (lines.Reset path d) = is_in d ns
+is_open_line ns _ = false
+
+abbrev pub are_open_lines : List ℕ → List EventLine → Bool
+are_open_lines ns [] = true
+are_open_lines ns (e ∷ es) = if is_open_line ns e then are_open_lines ns es else false

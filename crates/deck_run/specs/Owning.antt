@@ -1,0 +1,44 @@
+-- What the chain of a running program has of its device, and which events run.
+use Rattle.std.specs.Prelude.{◌≡◌, ◌≤◌, ℕ, List, [], ◌∷◌, IfSome}
+use Rattle.ckd_types.specs.Ccw.{ccw_at}
+use Rattle.ckd_types.specs.declared.channel.Ccw.{Ccw}
+use Rattle.ckd_chain.specs.Facts.{IsChain}
+use Rattle.ckd_chain.specs.State.{ChainState}
+use Rattle.plain_defs.specs.Journal.{Plans, program_of}
+use Rattle.plain_defs.specs.Whole.{GivesBytes}
+use Rattle.device_outside.specs.declared.volume.Volume.{Ghosts}
+use Rattle.device_core.specs.declared.device.Device.{Device}
+use Rattle.device_core.specs.State.{device_of}
+use Rattle.device_laws.specs.Whole.{WholeDevice}
+use Rattle.subsystem_defs.specs.declared.event.Event.{Event}
+use Rattle.subsystem_defs.specs.declared.event.Event.TheVariants as events
+
+-- each of its words gives bytes
+abbrev pub GivesAll : List Ccw → Type 0
+GivesAll ccws = (i : ℕ) → GivesBytes (ccw_at ccws i)
+
+-- so do all programs of the four paths
+abbrev pub PlansGive : Plans → Type 0
+PlansGive plans = (path ordinal : ℕ) → 1 ≤ path → path ≤ 4 → GivesAll (program_of plans path ordinal)
+
+-- the chain that runs goes by the geometry of its device, and its words give bytes
+pub record IsOwn (d : WholeDevice) : Type 0 where
+  pub plans : PlansGive d.plans
+  pub chain : IfSome d.chain (λ (c : ChainState). (c.fixed.geometry ≡ d.store.geometry) × GivesAll c.ccws)
+
+module _ {V : Type 0} {G : Ghosts V} where
+  abbrev pub AreOwn : List (Device V G) → Type 0
+  AreOwn [] = Unit {0}
+  AreOwn (x ∷ xs) = IsOwn (device_of x) × AreOwn xs
+
+  -- the chain of each program that runs keeps to what chains keep to
+  abbrev pub ChainsStand : List (Device V G) → Type 0
+  ChainsStand [] = Unit {0}
+  ChainsStand (x ∷ xs) = IfSome x.past.running (λ r. IsChain r.chain) × ChainsStand xs
+
+-- the events of this device that run so far
+abbrev pub IsOpenOn : ℕ → Event → Type 0
+IsOpenOn n (events.Start path d) = (d ≡ n) × ((1 ≤ path) × (path ≤ 4))
+IsOpenOn n (events.Step d) = d ≡ n
+IsOpenOn n (events.Reset path d) = d ≡ n
+IsOpenOn n _ = ⊥

@@ -1,0 +1,15 @@
+//! The run of a deck over a subsystem of devices in memory, and the lines of what happens in it.
+#![tactic(auto)]
+
+mod event;
+mod giving;
+mod later;
+mod line;
+mod open;
+mod run;
+#[cfg(test)]
+mod tests;
+
+pub use later::first_later;
+pub use open::{has_open_devices, open_deck};
+pub use run::run_deck;

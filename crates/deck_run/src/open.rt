@@ -1,0 +1,122 @@
+ghost use Rattle.std.specs.Prelude.{◌≡◌, ◌≤◌, IfOk, length, map, true};
+ghost use Rattle.device_outside.specs.Pool as pools;
+ghost use Rattle.subsystem_core.specs.Devices.{numbers_of};
+ghost use Rattle.subsystem_defs.specs.Decks.{failing_of, is_same, opened, opened_device};
+ghost use Rattle.subsystem_laws.specs.Stood.{AreMounted, IsMounted};
+ghost use Rattle.deck_run.specs.Opening.{are_open, is_behind, is_open_device, numbers_in, uncached};
+ghost use Rattle.device_core.specs.State.{device_of};
+ghost use Rattle.deck_run.specs.Owning.{AreOwn, IsOwn};
+ghost use Rattle.deck_run.specs.Standing.{StandsAs, all_stood, stood_of};
+
+use crate::giving::plans_give;
+use ckd_types::{DeviceNo, NoMemory};
+use deck_text::{Deck, DeviceLine};
+use device_core::Device;
+use device_outside::MemVolume;
+use frame_pool::Pool;
+use std::alloc::Global;
+use subsystem_core::Subsystem;
+
+pub(crate) fn is_open_device(line: DeviceLine) -> bool
+    ensures { result ≡ is_open_device line }
+{
+    1 <= line.cylinders && line.cylinders <= 64
+}
+
+pub(crate) fn is_behind(last: Option<u8>, number: u8) -> bool
+    ensures { result ≡ is_behind last number }
+{
+    match last {
+        Some(last) => last < number,
+        None => true,
+    }
+}
+
+/// Whether the numbers of a deck's devices rise, and each has 1 to 64 cylinders.
+#[tactic(auto, using(crate::proofs::Lines::open_more, crate::proofs::Lines::open_none))]
+pub fn has_open_devices(deck: &Deck) -> bool
+    ensures { result ≡ are_open deck.now.devices }
+{
+    let mut last = None;
+    for i in 0..deck.device_count() {
+        let line = deck.device_at(i);
+        if !is_behind(last, line.number.get()) || !is_open_device(line) {
+            return false;
+        }
+        last = Some(line.number.get());
+    }
+    true
+}
+
+fn is_same(a: bool, b: bool) -> bool
+    ensures { result ≡ is_same a b }
+{
+    if a { b } else { !b }
+}
+
+/// The numbers of a device's FAULT lines of this kind.
+#[tactic(auto, using(crate::proofs::Lines::failing_more, crate::proofs::Lines::failing_none))]
+fn failing_of(alloc: Global, deck: &Deck, write: bool, d: DeviceNo) -> Result<Vec<u32>, NoMemory>
+    ensures { IfOk result (λ calls. calls.items ≡ failing_of write d deck.now.faults) }
+{
+    let mut calls = Vec::new(alloc);
+    for i in 0..deck.fault_count() {
+        let fault = deck.fault_at(i);
+        if fault.device == d && is_same(fault.write, write) {
+            calls.push(fault.call)?;
+        }
+    }
+    Ok(calls)
+}
+
+/// The device of a DEVICE line, on a volume of empty tracks.
+fn open_device(alloc: Global, deck: &Deck, line: DeviceLine) -> Result<Device<MemVolume>, NoMemory>
+    requires { is_open_device line ≡ true }
+    ensures number { IfOk result (λ made. made.store.number ≡ line.number) }
+    ensures mounted { (p : pools.Pool) → IfOk result (λ made. IsMounted p (stood_of made) (opened_device deck.now line)) }
+    ensures own { IfOk result (λ made. IsOwn (device_of made)) }
+{
+    let reads = failing_of(alloc, deck, false, line.number)?;
+    let writes = failing_of(alloc, deck, true, line.number)?;
+    let volume = MemVolume::new(alloc, line.cylinders, &reads, &writes)?;
+    let plans = deck.plans(line.number).copy(alloc)?;
+    plans_give(&plans);
+    match Device::open(
+        alloc,
+        line.number,
+        line.geometry,
+        line.cylinders,
+        volume,
+        plans,
+    ) {
+        Ok(made) => Ok(made),
+        Err((NoMemory, _, _)) => Err(NoMemory),
+    }
+}
+
+fn open_devices(alloc: Global, deck: &Deck) -> Result<Vec<Device<MemVolume>>, NoMemory>
+    requires { are_open deck.now.devices ≡ true }
+    ensures numbers { IfOk result (λ made. numbers_of made.items ≡ numbers_in deck.now.devices) }
+    ensures mounted { (p : pools.Pool) → IfOk result (λ made. AreMounted p (all_stood made.items) (map (opened_device deck.now) deck.now.devices)) }
+    ensures own { IfOk result (λ made. AreOwn made.items) }
+{
+    let mut made = Vec::new(alloc);
+    for i in 0..deck.device_count() {
+        made.push(open_device(alloc, deck, deck.device_at(i))?)?;
+    }
+    Ok(made)
+}
+
+/// The devices of a deck on volumes of empty tracks, each with the failing calls of its FAULT lines. The pool has no frames and no
+/// slots, whatever the deck's CACHE and STORE lines say: no track has a place for a frame or a patch yet.
+pub fn open_deck(alloc: Global, deck: &Deck) -> Result<Subsystem<MemVolume>, NoMemory>
+    requires { are_open deck.now.devices ≡ true }
+    ensures stands { IfOk result (λ made. StandsAs made (opened (uncached deck.now))) }
+    ensures numbers { IfOk result (λ made. numbers_of made.devices.items ≡ numbers_in deck.now.devices) }
+    ensures own { IfOk result (λ made. AreOwn made.devices.items) }
+{
+    let devices = open_devices(alloc, deck)?;
+    let pool = Pool::new(alloc, 0, 0)?;
+    let made = Subsystem::new(pool, devices)?;
+    Ok(made)
+}
