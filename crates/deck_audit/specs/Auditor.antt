@@ -1,25 +1,34 @@
 -- An auditor is that of the lines of a report so far: it keeps each device of the deck as they make it, the events that are left, and
 -- what is due.
-use Rattle.std.specs.Prelude.{◌≡◌, ◌≤◌, ℕ, ◌+◌, ◌==◌, nat_lt, Bool, true, false, zero, suc, List, [], ◌∷◌, drop, length, slice_get, slice_set, Option, Some, None, Result, Ok, Err, if◌then◌else◌, ⊤}
+use Rattle.std.specs.Prelude.{◌≡◌, ◌≤◌, ℕ, ◌+◌, ◌==◌, ◌&&◌, ◌||◌, not, nat_lt, Bool, true, false, zero, suc, List, [], ◌∷◌, drop, length, map, slice_get, slice_set, Option, Some, None, Result, Ok, Err, if◌then◌else◌, ⊤}
 use Rattle.deck_text.specs.declared.line.DeviceLine.{DeviceLine}
 use Rattle.deck_text.specs.declared.line.PlannedProgram.{PlannedProgram}
 use Rattle.deck_text.specs.Plans.{plans_of}
+use Rattle.report_text.specs.declared.answers.HowOver.TheVariants as how
+use Rattle.report_text.specs.declared.answers.LooseAnswer.TheVariants as loose
+use Rattle.report_text.specs.declared.answers.OrderAnswer.TheVariants as order_answers
+use Rattle.deck_audit.specs.declared.told.OrderTold.{OrderTold}
+use Rattle.deck_audit.specs.declared.told.OrderTold.TheVariants as told
 use Rattle.report_text.specs.declared.line.ReportLine.{ReportLine}
+use Rattle.report_text.specs.declared.line.ReportLine.TheVariants as lines
+use Rattle.deck_audit.specs.declared.replayed.Running.{Running}
+use Rattle.deck_audit.specs.declared.state.Did.{Did}
+use Rattle.deck_audit.specs.declared.state.Did.TheVariants.{Ended}
 use Rattle.deck_audit.specs.declared.auditor.Auditor.{Auditor}
 use Rattle.deck_audit.specs.declared.kept.Kept.{Kept}
 use Rattle.deck_audit.specs.declared.kept.Then.{Then}
 use Rattle.deck_audit.specs.declared.kept.Then.TheVariants.{Passed, Wait}
 use Rattle.deck_audit.specs.declared.state.Due.{Due}
-use Rattle.deck_audit.specs.declared.state.Due.TheVariants.{Next, DataOf, SenseOf, Behind, Powers, Totals, Nothing}
+use Rattle.deck_audit.specs.declared.state.Due.TheVariants.{Next, DataOf, SenseOf, Behind, Powers, Totals, Frames, Nothing}
 use Rattle.deck_audit.specs.declared.status.AuditWhy.{AuditWhy}
-use Rattle.deck_audit.specs.declared.status.AuditWhy.TheVariants.{Place}
+use Rattle.deck_audit.specs.declared.status.AuditWhy.TheVariants.{History, Place}
 use Rattle.deck_audit.specs.declared.task.Task.{Task}
 use Rattle.deck_audit.specs.declared.task.Task.TheVariants as tasks
 use Rattle.deck_audit.specs.Device.{AuditedDevice, device_in, own_runs}
-use Rattle.deck_audit.specs.History.{due_made, place_of}
+use Rattle.deck_audit.specs.History.{due_made, is_lent_to, place_of}
 use Rattle.deck_audit.specs.Keeping.{IsDue, IsKept}
-use Rattle.deck_audit.specs.Place.{IsDueOf, in_state}
-use Rattle.deck_audit.specs.Replay.{new_replayed, outline_of}
+use Rattle.deck_audit.specs.Place.{IsDueOf, in_state, is_io}
+use Rattle.deck_audit.specs.Replay.{given_back, is_legal, new_replayed, outline_of, without_power}
 use Rattle.deck_audit.specs.declared.state.Outline.{Outline}
 use Rattle.deck_audit.specs.State.{AuditState, first_event, worker_number}
 use Rattle.deck_audit.specs.Task.{IsInRange, task_kept, task_then}
@@ -88,12 +97,16 @@ abbrev pub ArePowered : Due → List AuditedDevice → Type 0
 ArePowered (Powers n) devices = NoneRuns n devices
 ArePowered due devices = ⊤
 
+abbrev pub kept_outline : Kept → Outline
+kept_outline k = outline_of k.device
+
 -- but for what is due
 pub record IsFor (z : Auditor) (s : AuditState) : Type 0 where
   pub events_are : s.events ≡ drop z.passed z.deck.events
   pub devices_are : AreKept z.deck.programs s.due (worker_number s) z.devices.items s.devices (is_quiet s.due)
   pub told : IsDueOf (length s.devices) s.due
   pub powered : ArePowered s.due s.devices
+  pub outlines_so : z.outlines.items ≡ map kept_outline z.devices.items
 
 pub record IsAuditOf (z : Auditor) (s : AuditState) : Type 0 where
   pub for : IsFor z s
@@ -156,5 +169,76 @@ told_of (Powers n) = n
 told_of (Totals n) = n
 told_of due = 0
 
-abbrev pub kept_outline : Kept → Outline
-kept_outline k = outline_of k.device
+-- What kind of line it is
+
+-- a program that was cut: its device, and so many commands
+abbrev pub cut_at : ReportLine → Option (ℕ × ℕ)
+cut_at (lines.Over path d ordinal (how.Cut n)) = Some (d, n)
+cut_at line = None
+
+-- loose tracks of a device
+abbrev pub loose_at : ReportLine → Option ℕ
+loose_at (lines.Loose d answer) = Some d
+loose_at line = None
+
+-- what a line of an order tells
+abbrev pub order_told : ReportLine → OrderTold
+order_told (lines.Order order order_answers.Done) = told.Done
+order_told (lines.Loose d (loose.Harden t)) = told.Firm d t
+order_told (lines.Loose d (loose.Lost count id)) = told.Lost d
+order_told line = told.Other
+
+-- The totals: what is due behind a line, of so many devices
+
+abbrev pub totals_due : ℕ → ReportLine → ℕ → Due
+totals_due devices (lines.Device d totals) k = Totals (next_place k devices)
+totals_due devices (lines.Lost d t) k = Totals k
+totals_due devices lines.Finish k = Nothing
+totals_due devices line k = Frames
+
+-- a line of the totals, where k devices have had theirs
+abbrev pub FitsTotals : AuditState → ReportLine → ℕ → Type 0
+FitsTotals s (lines.Device d totals) k = k + 1 ≤ length s.devices
+FitsTotals s (lines.Lost d t) k = s.due ≡ Totals k
+FitsTotals s line k = ⊤
+
+-- All devices
+
+abbrev pub has_program : Option Running → Bool
+has_program (Some o) = true
+has_program None = false
+
+-- its volume is another device's
+abbrev pub is_lent : ℕ → Kept → Bool
+is_lent a k = is_lent_to a k.device.lent
+
+abbrev pub lent_runs : ℕ → Kept → Bool
+lent_runs a k = is_lent a k && has_program k.device.running
+
+abbrev pub taken_back : ℕ → Kept → Kept
+taken_back a k = if is_lent a k then record k { device = given_back k.device } else k
+
+abbrev pub dark_kept : Kept → Kept
+dark_kept k = record k { device = without_power k.device }
+
+-- Behind a piece of work
+
+abbrev pub behind_of : Due → Result (Bool × Did) Due
+behind_of (Behind more did) = Ok (more, did)
+behind_of due = Err due
+
+-- no device does it
+abbrev pub idle_fault : ReportLine → AuditWhy
+idle_fault line = if is_io line then History else Place
+
+-- a command may edit its track
+abbrev pub kept_legal : Did → Kept → Bool
+kept_legal (Ended e) k = is_legal k.device
+kept_legal did k = true
+
+-- the work is taken as done, which makes state t
+abbrev pub judged_settled : AuditState → ReportLine → Bool → Result AuditState AuditWhy
+judged_settled t line legal =
+    if is_io line || in_state t line
+    then or_history (if not legal then None else if is_io line then Some t else due_made t line t.due)
+    else Err Place

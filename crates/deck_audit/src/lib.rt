@@ -2,6 +2,7 @@
 #![tactic(auto)]
 
 mod auditor;
+mod devices;
 mod follows;
 mod judged;
 mod judging;
@@ -20,6 +21,7 @@ mod state;
 mod status;
 mod task;
 mod texts;
+mod told;
 mod work;
 
 pub use auditor::{Auditor, outlines_are_same};

@@ -231,7 +231,7 @@ pub fn in_due(devices: &[Outline], events: &[EventLine], line: &ReportLine, due:
     }
 }
 
-fn is_io(line: &ReportLine) -> bool
+pub fn is_io(line: &ReportLine) -> bool
     ensures { result ≡ is_io line.now }
 {
     matches!(line, ReportLine::Io { .. })

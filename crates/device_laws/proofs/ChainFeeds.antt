@@ -32,7 +32,7 @@ some_records (r ∷ rest) h = omega arith
 some_is : {X : Type 0} (x y : X) → Some x ≡ Some y → x ≡ y
 some_is x y e = cc
 
-begun_stage : (chain : ChainState) (o : Option Stage) → chain.stage ≡ o → (opened_by chain o).stage ≡ Some (stage_by chain o)
+pub begun_stage : (chain : ChainState) (o : Option Stage) → chain.stage ≡ o → (opened_by chain o).stage ≡ Some (stage_by chain o)
 begun_stage chain None e = refl
 begun_stage chain (Some stage) e = e
 
@@ -44,7 +44,7 @@ same_fixed : (chain : ChainState) (o : Option Stage) → (opened_by chain o).fix
 same_fixed chain None = refl
 same_fixed chain (Some stage) = refl
 
-need_at : (v : ChainState) (look : Look) → v.stage ≡ Some (stages.Looks look) → need_of v ≡ Some v.at.stance.track
+pub need_at : (v : ChainState) (look : Look) → v.stage ≡ Some (stages.Looks look) → need_of v ≡ Some v.at.stance.track
 need_at v look e =
     ap (λ (x : ChainState). needed x (stage_of v)) (ap (opened_by v) e) ∙ ap (λ (x : Stage). needed v x) (ap (stage_by v) e)
 
@@ -100,7 +100,7 @@ edits_by chain i (stages.Looks look) q e gives fits is =
     edits_turned u i.geometry i.track l.stance l.turned q e
     (look_suits i.geometry u.at.stance (word_of u) gives i.track (some_records i.track.records fits.zero) look) is
 
-need_is : (u : ChainState) (stage : Stage) (t : ℕ) → needed u stage ≡ Some t → u.at.stance.track ≡ t
+pub need_is : (u : ChainState) (stage : Stage) (t : ℕ) → needed u stage ≡ Some t → u.at.stance.track ≡ t
 need_is u stages.Over t is = absurd (cc)
 need_is u (stages.Asks act) t is = absurd (cc)
 need_is u (stages.Looks look) t is = some_is u.at.stance.track t is

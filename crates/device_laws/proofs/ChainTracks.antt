@@ -37,19 +37,19 @@ use Rattle.track_image.specs.Image.{Image}
 use Rattle.device_laws.specs.Standing.{IsWithin}
 use Rattle.device_laws.proofs.Commands.{Stays}
 
-abbrev FurtherBy : ℕ → Stance → Stance → Turned → Type 0
+abbrev pub FurtherBy : ℕ → Stance → Stance → Turned → Type 0
 FurtherBy n s z (turns.Ended e) = Unit {0}
-FurtherBy n s z turns.Onward = (z.track < n) × (z.extent ≡ s.extent)
+FurtherBy n s z turns.Onward = (z.track < n) × ((z.extent ≡ s.extent) × (z.track ≡ s.track + 1))
 FurtherBy n s z (turns.Edits edit e) = Unit {0}
 
--- where it goes on, it is on one of n tracks, and the extent stays
+-- where it goes on, it is on the track behind, one of n tracks, and the extent stays
 pub record Further (n : ℕ) (s : Stance) (l : Looked) : Type 0 where
   pub on : FurtherBy n s l.stance l.turned
 
-abbrev SoughtOn : ℕ → Sought → Type 0
-SoughtOn n (sought.Here i passes) = Unit {0}
-SoughtOn n (sought.Onward t) = t < n
-SoughtOn n (sought.Nowhere sense) = Unit {0}
+abbrev SoughtFrom : ℕ → ℕ → Sought → Type 0
+SoughtFrom n from (sought.Here i passes) = Unit {0}
+SoughtFrom n from (sought.Onward t) = (t < n) × (t ≡ from + 1)
+SoughtFrom n from (sought.Nowhere sense) = Unit {0}
 
 either : (n : ℕ) (s : Stance) (b : Bool) (x y : Looked) → Further n s x → Further n s y → Further n s (if b then x else y)
 either n s true x y f g = f
@@ -60,34 +60,34 @@ masked true sense r t e = absurd (cc)
 masked false sense r t e = e
 
 module _ (n : ℕ) (s : Stance) (whole : n % 15 ≡ 0) (on : s.track < n) (within : IfSome s.extent (λ e. e.last < n)) where
-  moved : (r : Result ℕ Sense) → next_track s ≡ r → SoughtOn n (moves_on r)
-  moved (Ok t) e = (next_on_device n s.extent s.track t whole on within (masked _ _ (track_after s.extent s.track) t e)).1
+  moved : (r : Result ℕ Sense) → next_track s ≡ r → SoughtFrom n s.track (moves_on r)
+  moved (Ok t) e = let f = next_on_device n s.extent s.track t whole on within (masked _ _ (track_after s.extent s.track) t e) in (f.1, f.0)
   moved (Err sense) e = tt
 
-  again : (passes : ℕ) (o : Option ℕ) → SoughtOn n (from_index passes o)
+  again : (passes : ℕ) (o : Option ℕ) → SoughtFrom n s.track (from_index passes o)
   again passes (Some i) = tt
   again passes None = tt
 
-  by_passes : (b : Bool) (sense : Sense) (passes : ℕ) (o : Option ℕ) → SoughtOn n (if b then sought.Nowhere sense else from_index passes o)
+  by_passes : (b : Bool) (sense : Sense) (passes : ℕ) (o : Option ℕ) → SoughtFrom n s.track (if b then sought.Nowhere sense else from_index passes o)
   by_passes true sense passes o = tt
   by_passes false sense passes o = again passes o
 
-  missed_on : (multitrack : Bool) (o : Option ℕ) → SoughtOn n (missed multitrack s o)
+  missed_on : (multitrack : Bool) (o : Option ℕ) → SoughtFrom n s.track (missed multitrack s o)
   missed_on true o = moved (next_track s) refl
   missed_on false o = by_passes (nat_le 1 s.passes) _ (s.passes + 1) o
 
-  found_on : (multitrack : Bool) (o k : Option ℕ) → SoughtOn n (find_from multitrack s o k)
+  found_on : (multitrack : Bool) (o k : Option ℕ) → SoughtFrom n s.track (find_from multitrack s o k)
   found_on multitrack (Some i) k = tt
   found_on multitrack None k = missed_on multitrack k
 
-  read_further : (t : Track) (area : ReadArea) (c : Ccw) (x : Sought) → SoughtOn n x → Further n s (read_sought t area s c x)
+  read_further : (t : Track) (area : ReadArea) (c : Ccw) (x : Sought) → SoughtFrom n s.track x → Further n s (read_sought t area s c x)
   read_further t area c (sought.Here i passes) f = record { on = tt }
-  read_further t area c (sought.Onward u) f = record { on = (f, refl) }
+  read_further t area c (sought.Onward u) f = record { on = (f.0, (refl, f.1)) }
   read_further t area c (sought.Nowhere sense) f = record { on = tt }
 
-  search_further : (t : Track) (area : SearchArea) (c : Ccw) (x : Sought) → SoughtOn n x → Further n s (search_sought t area s c x)
+  search_further : (t : Track) (area : SearchArea) (c : Ccw) (x : Sought) → SoughtFrom n s.track x → Further n s (search_sought t area s c x)
   search_further t area c (sought.Here i passes) f = record { on = tt }
-  search_further t area c (sought.Onward u) f = record { on = (f, refl) }
+  search_further t area c (sought.Onward u) f = record { on = (f.0, (refl, f.1)) }
   search_further t area c (sought.Nowhere sense) f = record { on = tt }
 
   data_further : (in_domain : Bool) (c : Ccw) (i : ℕ) (r : Record) → Further n s (update_data in_domain s c i r)
@@ -97,10 +97,10 @@ module _ (n : ℕ) (s : Stance) (whole : n % 15 ≡ 0) (on : s.track < n) (withi
   record_further true in_domain c i r = record { on = tt }
   record_further false in_domain c i r = data_further in_domain c i r
 
-  updated_further : (with_key in_domain : Bool) (records : List Record) (c : Ccw) (x : Sought) → SoughtOn n x →
+  updated_further : (with_key in_domain : Bool) (records : List Record) (c : Ccw) (x : Sought) → SoughtFrom n s.track x →
       Further n s (update_sought with_key in_domain records s c x)
   updated_further with_key in_domain records c (sought.Here i passes) f = record_further with_key in_domain c i (record_at records i)
-  updated_further with_key in_domain records c (sought.Onward u) f = record { on = (f, refl) }
+  updated_further with_key in_domain records c (sought.Onward u) f = record { on = (f.0, (refl, f.1)) }
   updated_further with_key in_domain records c (sought.Nowhere sense) f = record { on = tt }
 
   update_further : (with_key in_domain : Bool) (t : Track) (c : Ccw) → Further n s (update_on with_key in_domain t s c)
@@ -145,7 +145,7 @@ module _ (n : ℕ) (whole : n % 15 ≡ 0) where
   by_turned u look z turns.Onward q at within f is =
       let v = standing u z in
       let same : z.track ≡ q = cc in
-      let last : IfSome z.extent (λ e. e.last < n) = subst (λ (x : Option Extent). IfSome x (λ e. e.last < n)) (sym f.1) within in
+      let last : IfSome z.extent (λ e. e.last < n) = subst (λ (x : Option Extent). IfSome x (λ e. e.last < n)) (sym f.1.0) within in
       let below = f.0 in (
         record {
           needs = λ t e. let there = need_at v look at in let here : z.track ≡ t = cc in omega arith;

@@ -33,7 +33,7 @@ use Rattle.device_laws.proofs.HistoryEnds.{edited_next, effect_at, going_ends_pl
 use Rattle.device_laws.proofs.OpenProgram.{going_of_open}
 use Rattle.device_laws.proofs.WaitingResets.{nothing_is_due}
 
-all_acted-append : (h : History) (acts : List Act) (act : Act) → all_acted h (acts ++ act ∷ []) ≡ acted (all_acted h acts) act
+pub all_acted-append : (h : History) (acts : List Act) (act : Act) → all_acted h (acts ++ act ∷ []) ≡ acted (all_acted h acts) act
 all_acted-append h [] act = refl
 all_acted-append h (x ∷ acts) act = all_acted-append (acted h x) acts act
 

@@ -92,7 +92,7 @@ pub record IsAtHand (plans : Plans) (s : PlainState) (o : OpenEntry) (chain : Ch
   pub words : chain.ccws ≡ program_of plans o.path o.ordinal
   pub next : chain.at.next ≡ (open_part plans s o).next
 
-index_is : (next : Option ℕ) → IsSome next → next ≡ Some (index_of next)
+pub index_is : (next : Option ℕ) → IsSome next → next ≡ Some (index_of next)
 index_is None some = absurd (no_some None refl some) where
   no_some : (x : Option ℕ) → x ≡ None → IsSome x → ⊥
   no_some None is some = cc

@@ -27,13 +27,13 @@ use Rattle.device_laws.proofs.WaitingResets.{AreDue, WaitFor}
 
 -- Acts that make no track loose
 
-acts_first : (s : PlainState) (act : Act) (acts : List Act) → AreActs s None (act ∷ acts) → AreActs s None (act ∷ [])
+pub acts_first : (s : PlainState) (act : Act) (acts : List Act) → AreActs s None (act ∷ acts) → AreActs s None (act ∷ [])
 acts_first s (Loosen t) [] are = are
 acts_first s (Loosen t) (x ∷ acts) are = absurd are
 acts_first s (Harden t) acts are = (are.0, tt)
 acts_first s CfwLost acts are = (are.0, tt)
 
-acts_rest : (s : PlainState) (act : Act) (acts : List Act) → AreActs s None (act ∷ acts) → AreActs (act_done s act) None acts
+pub acts_rest : (s : PlainState) (act : Act) (acts : List Act) → AreActs s None (act ∷ acts) → AreActs (act_done s act) None acts
 acts_rest s (Loosen t) [] are = tt
 acts_rest s (Loosen t) (x ∷ acts) are = absurd are
 acts_rest s (Harden t) acts are = are.1
@@ -89,7 +89,7 @@ module _ (plans : Plans) (empty : PlainState) where
       (subst (λ (s : PlainState). AreActs s None acts) (sym (acted_state h plain act)) (acts_rest (plain_of plans empty h) act acts are))
       ∙ ap (λ (s : PlainState). acts_done s acts) (acted_state h plain act)
 
-some_loose : (loose : List LooseTrack) (t : ℕ) → is_loose_in loose t ≡ true → IsSomeLoose loose
+pub some_loose : (loose : List LooseTrack) (t : ℕ) → is_loose_in loose t ≡ true → IsSomeLoose loose
 some_loose [] t is = absurd (cc)
 some_loose (l ∷ loose) t is = tt
 

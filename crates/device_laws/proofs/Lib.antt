@@ -7,6 +7,9 @@ pub mod CacheLost
 pub mod StoreLost
 pub mod Soundness
 pub mod Always
+pub mod Had
+pub mod PlainStores
+pub mod PlainWalks
 pub mod FailedCall
 pub mod TrackImage
 pub mod WholeImage
@@ -76,8 +79,15 @@ pub mod Alike
 pub mod AlikeStore
 pub mod AlikeEvents
 pub mod ChainFeeds
+pub mod PlainLooks
 pub mod PlacelessPower
 pub mod OrdersInOrder
 pub mod QuietParts
 pub mod ReadMoves
 pub mod BackMoves
+pub mod PlainTurns
+pub mod PlainCommand
+pub mod PlainEvents
+pub mod PlainLosses
+pub mod PlainPower
+pub mod TouchedTracks

@@ -103,7 +103,7 @@ module _ {F P H : Type 0} where
       ∙ ap (λ (y : Store F P H). record y { queue = (queued u.last (queued u.last s (t + 1)) (t + 2)).queue }) (queued_only u.last s (t + 1))
   ahead_by u s t false = refl
 
-  ahead_only : (u : Usage) (s : Store F P H) (t : ℕ) → ahead u s t ≡ record s { queue = (ahead u s t).queue }
+  pub ahead_only : (u : Usage) (s : Store F P H) (t : ℕ) → ahead u s t ≡ record s { queue = (ahead u s t).queue }
   ahead_only u s t = ahead_by u s t (is_sequential u.mode)
 
 -- a queue of tracks of the device stays one where the last track to stage is one

@@ -138,11 +138,11 @@ leads_no n s (text ∷ texts) m why (suc good) state within number leads fault =
 
 -- A text
 
-read_short : (text : List ℕ) → length text ≤ 268435456 → read_back text ≡ read_back_at text (report_from 0 (cut_lines text))
+pub read_short : (text : List ℕ) → length text ≤ 268435456 → read_back text ≡ read_back_at text (report_from 0 (cut_lines text))
 unfolding read_back
 read_short text short = grind (arith, nat_tests)
 
-read_long : (text : List ℕ) → 268435456 < length text → read_back text ≡ Limit Size
+pub read_long : (text : List ℕ) → 268435456 < length text → read_back text ≡ Limit Size
 unfolding read_back
 read_long text long = grind (arith, nat_tests)
 

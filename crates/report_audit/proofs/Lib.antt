@@ -1,1 +1,5 @@
+pub mod Cuts
+pub mod Steps
+pub mod DeckSizes
 pub mod FirstFaults
+pub mod Whole

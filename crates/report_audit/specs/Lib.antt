@@ -1,1 +1,4 @@
+pub mod Lines
+pub mod Progress
+pub mod Answers
 pub mod FirstFault

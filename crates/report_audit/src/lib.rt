@@ -1,6 +1,15 @@
-//! The audit of a report: what its answers say of a text of a deck and a report.
+//! The audit of a report: a deck, a line REPORT and a report are read as a text that is never held whole.
 #![tactic(auto)]
 
+mod audit;
 mod law;
+mod line;
+mod pieces;
+mod reading;
+mod top;
 
+pub use audit::Audit;
 pub use law::{no_tells_the_first_fault, yes_tells_of_no_fault};
+pub use pieces::PieceAudit;
+pub use reading::read_audit;
+pub use top::{audit_top, words_of};

@@ -1,2 +1,3 @@
 pub mod Stood
 pub mod Comes
+pub mod Served

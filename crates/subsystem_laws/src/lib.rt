@@ -1,8 +1,10 @@
 //! Laws of the subsystem: an event of its devices is what happens in a run. It has no code; its lemmas are over plain variables.
 #![tactic(auto)]
 
+mod plain;
 mod runs;
 
+pub use plain::{read_run_is_plain, run_is_plain};
 pub use runs::{
     event_is_what_happens, events_are_what_happens, new_device_is_mounted, replaced_is_what_happens,
 };

@@ -1,0 +1,95 @@
+-- Every deck that was read has devices of one cylinder at least, and starts programs of one of four paths.
+use Rattle.std.proofs.Common.{◌≡◌, ◌≤◌, ℕ, Bool, true, false, List, [], ◌∷◌, ◌++◌, Ok, refl, subst}
+use Rattle.std.specs.Prelude.{◌||◌, All, Result}
+use Rattle.std.proofs.lemmas.List.Elements.{All-nil, All-cons}
+use Rattle.deck_plan.specs.declared.event.EventLine.{EventLine}
+use Rattle.deck_plan.specs.declared.event.EventLine.TheVariants as lines
+use Rattle.deck_text.specs.declared.line.DeckWhy.{DeckWhy}
+use Rattle.deck_text.specs.declared.line.DeckWhy.TheVariants.{Words, Number}
+use Rattle.deck_text.specs.declared.line.DeviceLine.{DeviceLine}
+use Rattle.deck_text.specs.DeckLines.{DeckLines}
+use Rattle.deck_text.specs.Forms.{needed, and_then, device_line, rising, rises, path_and_device, path_of, device_of}
+use Rattle.deck_text.specs.Numbers.{number_in, geometry_of}
+use Rattle.deck_text.specs.Parse.{parsed}
+use Rattle.deck_text.specs.Words.{two_words, three_words}
+use Rattle.deck_text.proofs.DeckAgain.{Each, device_words, AllDevices, EventOk}
+use Rattle.deck_text.proofs.EventsAgain.{behind_of}
+use Rattle.deck_text.proofs.FormsAgain.{went, needed_is, if_ok, Ranged, number_range}
+use Rattle.deck_text.proofs.Reached.{parsed_good}
+use Rattle.subsystem_defs.specs.Lines.{asked_by}
+use Rattle.subsystem_laws.specs.Served.{IsServed, IsServedDeck, is_pair, has_pair}
+
+device_range : (before : List DeviceLine) (words : List (List ℕ)) (d : DeviceLine) → device_line before words ≡ Ok d → Ranged 1 64 d.cylinders
+device_range before words d h =
+    let a = went (needed Words (three_words words))
+    (λ w. and_then (needed Number (number_in 0 15 w.0))
+    (λ n. and_then (needed Number (geometry_of w.1))
+    (λ g. and_then (needed Number (number_in 1 64 w.2)) (λ c. rising before (record { number = n; geometry = g; cylinders = c }))))) d h in
+    let b = went (needed Number (number_in 0 15 a.value.0))
+    (λ n. and_then (needed Number (geometry_of a.value.1))
+    (λ g. and_then (needed Number (number_in 1 64 a.value.2)) (λ c. rising before (record { number = n; geometry = g; cylinders = c })))) d a.second in
+    let e = went (needed Number (geometry_of a.value.1))
+    (λ g. and_then (needed Number (number_in 1 64 a.value.2)) (λ c. rising before (record { number = b.value; geometry = g; cylinders = c }))) d b.second
+    in
+    let f = went (needed Number (number_in 1 64 a.value.2)) (λ c. rising before (record { number = b.value; geometry = e.value; cylinders = c })) d e.second in
+    let same = if_ok (rises before b.value) (record { number = b.value; geometry = e.value; cylinders = f.value }) d Number f.second in
+    subst (λ (x : DeviceLine). Ranged 1 64 x.cylinders) same
+    (number_range 1 64 a.value.2 f.value (needed_is Number (number_in 1 64 a.value.2) f.value f.first))
+
+devices_served : (before ds : List DeviceLine) → AllDevices before ds → All (λ (d : DeviceLine). 1 ≤ d.cylinders) ds
+devices_served before [] h = All-nil (λ (d : DeviceLine). 1 ≤ d.cylinders)
+devices_served before (d ∷ ds) h =
+    All-cons (λ (x : DeviceLine). 1 ≤ x.cylinders) d ds (device_range before (device_words d) d h.0.again).low (devices_served (before ++ d ∷ []) ds h.1)
+
+path_range : (devices : List DeviceLine) (words : List (List ℕ)) (at : ℕ × ℕ) → path_and_device devices words ≡ Ok at → Ranged 1 4 at.0
+path_range devices words at h =
+    let a = went (needed Words (two_words words)) (λ w. and_then (path_of w.0) (λ p. and_then (device_of devices w.1) (λ d. Ok (p, d)))) at h in
+    let b = went (path_of a.value.0) (λ p. and_then (device_of devices a.value.1) (λ d. Ok (p, d))) at a.second in
+    let c = went (device_of devices a.value.1) (λ d. Ok (b.value, d)) at b.second in
+    let same : (b.value, c.value) ≡ at = if_ok true (b.value, c.value) at Number c.second in
+    subst (λ (x : ℕ × ℕ). Ranged 1 4 x.0) same
+    (number_range 1 4 a.value.0 b.value (needed_is Number (number_in 1 4 a.value.0) b.value b.first))
+
+start_is : (p q a b : ℕ) → ◌≡◌ {A = Result EventLine DeckWhy} (Ok (lines.Start p a)) (Ok (lines.Start q b)) → p ≡ q
+start_is p q a b e = cc
+
+started_range : (devices : List DeviceLine) (words : List (List ℕ)) (path d : ℕ) →
+    and_then (path_and_device devices words) (λ at. Ok (lines.Start at.0 at.1)) ≡ Ok (lines.Start path d) → Ranged 1 4 path
+started_range devices words path d h =
+    let a = went (path_and_device devices words) (λ at. Ok (lines.Start at.0 at.1)) (lines.Start path d) h in
+    subst (λ (p : ℕ). Ranged 1 4 p) (start_is a.value.0 path a.value.1 d a.second) (path_range devices words a.value a.first)
+
+line_served : (devices : List DeviceLine) (line : EventLine) → EventOk devices line → is_pair line ≡ false → IsServed (asked_by line)
+line_served devices (lines.Start path d) ok single = let r = started_range devices (behind_of (lines.Start path d)) path d ok.again in (r.low, r.high)
+line_served devices (lines.Step d) ok single = tt
+line_served devices (lines.Run d) ok single = tt
+line_served devices (lines.Back d) ok single = tt
+line_served devices (lines.Settle d) ok single = tt
+line_served devices (lines.Reset path d) ok single = tt
+line_served devices lines.FailCache ok single = tt
+line_served devices lines.FailStore ok single = tt
+line_served devices (lines.FailVolume d side) ok single = tt
+line_served devices lines.RepairCache ok single = tt
+line_served devices lines.RepairStore ok single = tt
+line_served devices (lines.Replace d side) ok single = tt
+line_served devices (lines.Pair a b) ok single = absurd (cc)
+line_served devices (lines.Unpair a) ok single = tt
+line_served devices (lines.Suspend a) ok single = tt
+line_served devices (lines.Resume a) ok single = tt
+line_served devices lines.Power ok single = tt
+
+first_false : (a b : Bool) → (a || b) ≡ false → (a ≡ false) × (b ≡ false)
+first_false true b e = absurd (cc)
+first_false false b e = (refl, e)
+
+lines_served : (devices : List DeviceLine) (es : List EventLine) → Each (EventOk devices) es → has_pair es ≡ false →
+    All (λ (line : EventLine). IsServed (asked_by line)) es
+lines_served devices [] h single = All-nil (λ (line : EventLine). IsServed (asked_by line))
+lines_served devices (e ∷ es) h single =
+    let s = first_false (is_pair e) (has_pair es) single in
+    All-cons (λ (line : EventLine). IsServed (asked_by line)) e es (line_served devices e h.0 s.0) (lines_served devices es h.1 s.1)
+
+pub read_served : (text : List ℕ) (deck : DeckLines) → parsed text ≡ Ok deck → has_pair deck.events ≡ false → IsServedDeck deck
+read_served text deck read single =
+    let good = parsed_good text deck read in
+    record { devices = devices_served [] deck.devices good.devices; events = lines_served deck.devices deck.events good.events single }
