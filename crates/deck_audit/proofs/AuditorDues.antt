@@ -34,6 +34,7 @@ module _ (z : Auditor) (s : AuditState) (f : IsFor z s) (quiet : is_quiet s.due 
       devices_are = subst (λ (b : Bool). AreKept z.deck.programs due (worker_number s) z.devices.items s.devices b) (sym is) all_here;
       told = told;
       powered = powered;
+      outlines_so = f.outlines_so;
     };
     due_is = refl;
   }
@@ -45,6 +46,7 @@ module _ (z : Auditor) (s : AuditState) (f : IsFor z s) (quiet : is_quiet s.due 
       devices_are = all_here;
       told = tt;
       powered = tt;
+      outlines_so = f.outlines_so;
     };
     due_is = refl;
   }
@@ -102,6 +104,7 @@ module _ (z : Auditor) (s : AuditState) (e : CommandEnd) (f : IsFor z s) (due_is
       );
       told = tt;
       powered = tt;
+      outlines_so = f.outlines_so;
     };
     due_is = refl;
   }

@@ -1,9 +1,9 @@
 -- A line that one device judges makes of an auditor what it makes of the audited state.
-use Rattle.std.proofs.Common.{◌≡◌, ◌≤◌, ◌+◌, ℕ, suc, List, [], ◌∷◌, length, drop, Option, Some, None, Bool, true, false, cond, refl, arith, sym, ap, subst, ◌∙◌, inl, inr}
-use Rattle.std.specs.Prelude.{◌&&◌, ◌⊎◌, ⊤, nat_lt, slice_get, slice_set}
+use Rattle.std.proofs.Common.{◌≡◌, ◌≤◌, ◌+◌, ℕ, zero, suc, List, [], ◌∷◌, length, drop, Option, Some, None, Bool, true, false, cond, refl, arith, sym, ap, subst, ◌∙◌, inl, inr}
+use Rattle.std.specs.Prelude.{◌&&◌, ◌⊎◌, ⊤, map, nat_lt, slice_get, slice_set}
 use Rattle.std.proofs.Common.{rules}
 use Rattle.std.proofs.Math.ListN.{drop_of_length-le}
-use Rattle.std.proofs.lemmas.List.{drop-drop}
+use Rattle.std.proofs.lemmas.List.{drop-drop, map-set}
 use Rattle.std.proofs.lemmas.Bool.Decides.{nat_tests}
 use Rattle.ckd_types.specs.declared.channel.CommandEnd.{CommandEnd}
 use Rattle.ckd_types.specs.Sense.{equipment_sense, data_check_sense}
@@ -14,7 +14,7 @@ use Rattle.deck_text.specs.Plans.{plans_of}
 use Rattle.report_text.specs.declared.answers.LooseAnswer.TheVariants as loose
 use Rattle.report_text.specs.declared.line.ReportLine.{ReportLine}
 use Rattle.report_text.specs.declared.line.ReportLine.TheVariants as lines
-use Rattle.deck_audit.specs.Auditor.{AreKept, ArePowered, Fits, IsAt, IsAuditOf, IsFor, IsJudgedAt, Makes, NoneRuns, OneKept, gone_on, is_quiet, next_place, place_from}
+use Rattle.deck_audit.specs.Auditor.{AreKept, ArePowered, Fits, IsAt, IsAuditOf, IsFor, IsJudgedAt, Makes, NoneRuns, OneKept, gone_on, is_quiet, kept_outline, next_place, place_from}
 use Rattle.deck_audit.specs.declared.auditor.Auditor.{Auditor}
 use Rattle.deck_audit.specs.declared.kept.Kept.{Kept}
 use Rattle.deck_audit.specs.declared.kept.Then.{Then}
@@ -25,6 +25,7 @@ use Rattle.deck_audit.specs.declared.state.Did.TheVariants.{Ended, CheckEnded, H
 use Rattle.deck_audit.specs.declared.state.Due.{Due}
 use Rattle.deck_audit.specs.declared.state.Due.TheVariants.{Next, SenseOf, Behind, Losses, ResetOf, Powers}
 use Rattle.deck_audit.specs.declared.state.HalfWrite.TheVariants.{Closed}
+use Rattle.deck_audit.specs.declared.state.Outline.{Outline}
 use Rattle.deck_audit.specs.Replay.{ended_next}
 use Rattle.deck_audit.specs.declared.task.Task.{Task}
 use Rattle.deck_audit.specs.declared.task.Task.TheVariants as tasks
@@ -201,6 +202,11 @@ goes_devices : (s : AuditState) (b : AuditedDevice) (x : Then) → (goes_on s b 
 goes_devices s b Passed = refl
 goes_devices s b (Wait due) = refl
 
+set_read : (l : List Kept) (i : ℕ) (k b : Kept) → slice_get l i ≡ Some b → slice_get (slice_set l i k) i ≡ Some k
+set_read [] i k b is = absurd (cc)
+set_read (x ∷ l) zero k b is = refl
+set_read (x ∷ l) (suc i) k b is = set_read l i k b is
+
 module _ (z : Auditor) (s : AuditState) (d : ℕ) (task : Task) (f : IsFor z s) (fits : Fits s d task) where
   or_worker : (task : Task) → Fits s d task → (is_quiet s.due ≡ true) ⊎ (worker_number s ≡ Some d)
   or_worker (tasks.Start path) fits = inl fits
@@ -328,7 +334,8 @@ module _ (z : Auditor) (s : AuditState) (d : ℕ) (task : Task) (f : IsFor z s) 
           (let p = same_place in let q = same_length s.devices g.after in omega (arith, here.found.short, p, q))
           (none_before s.devices g.after d number_is) task fits lost)
 
-      module _ (y : Auditor) (deck_is : y.deck ≡ z.deck) (items_are : y.devices.items ≡ new) (passed_is : y.passed ≡ z.passed) where
+      module _ (y : Auditor) (deck_is : y.deck ≡ z.deck) (items_are : y.devices.items ≡ new) (passed_is : y.passed ≡ z.passed)
+          (outlines_so : y.outlines.items ≡ map kept_outline y.devices.items) where
         events_on : s.events ≡ drop y.passed y.deck.events
         events_on = f.events_are ∙ ap (λ (n : ℕ). drop n z.deck.events) (sym passed_is)
             ∙ ap (λ (e : List EventLine). drop y.passed e) (ap (λ (k : DeckLines). k.events) (sym deck_is))
@@ -351,6 +358,7 @@ module _ (z : Auditor) (s : AuditState) (d : ℕ) (task : Task) (f : IsFor z s) 
             devices_are = all_of_one y.deck.programs Next refl d y.devices.items (with_device s.devices g.after) (one_now Next so);
             told = tt;
             powered = tt;
+            outlines_so = outlines_so;
           };
           due_is = refl;
         }
@@ -360,12 +368,21 @@ module _ (z : Auditor) (s : AuditState) (d : ℕ) (task : Task) (f : IsFor z s) 
             devices_are = kept_by due so (is_quiet due) refl wait.quiet;
             told = wait.told;
             powered = wait.powered;
+            outlines_so = outlines_so;
           };
           due_is = refl;
         }
 
         pub goes : Makes true (gone_on y x) (then_of (device_in s.devices d) (task_made s line task))
         goes = (goes_on s g.after x, in_device ∙ g.made_is, audit_by x g.due behind)
+
+    pub new_outlines : (before after : List Outline) → before ≡ map kept_outline z.devices.items
+        → ((k : Kept) → slice_get new i ≡ Some k → after ≡ slice_set before i (kept_outline k)) → after ≡ map kept_outline new
+    new_outlines before after is set =
+        let read : slice_get new i ≡ Some j.after = ap (λ (l : List Kept). slice_get l i) j.new_is
+        ∙ set_read z.devices.items i j.after j.before j.before_is in
+        set j.after read ∙ ap (λ (l : List Outline). slice_set l i (kept_outline j.after)) is
+        ∙ sym (map-set kept_outline z.devices.items i j.after) ∙ ap (λ (l : List Kept). map kept_outline l) (sym j.new_is)
 
     pub fails : next ≡ None → then_of (device_in s.devices d) (task_made s line task) ≡ None
     fails is = in_device ∙ subst (λ (n : Option Then). Judges s here.found.a (task_made s line task here.found.a) n

@@ -14,7 +14,7 @@ use Rattle.report_text.specs.declared.line.ReportLine.{ReportLine}
 use Rattle.report_text.specs.declared.line.ReportLine.TheVariants as lines
 use Rattle.deck_audit.specs.Auditor.{AllKept, FitsTotals, IsAuditOf, IsFor, Makes, NoneRuns, cut_at, dark_kept, gone_on, is_quiet, kept_outline, lent_runs, loose_at, order_told, taken_back, totals_due}
 use Rattle.deck_audit.specs.declared.auditor.Auditor.{Auditor}
-use Rattle.deck_audit.specs.declared.auditor.OrderTold.TheVariants as told
+use Rattle.deck_audit.specs.declared.told.OrderTold.TheVariants as told
 use Rattle.deck_audit.specs.declared.kept.Kept.{Kept}
 use Rattle.deck_audit.specs.declared.kept.Then.TheVariants.{Passed, Wait}
 use Rattle.deck_audit.specs.declared.state.Due.{Due}
@@ -33,10 +33,10 @@ use Rattle.deck_audit.proofs.OutlineLaw.{outlines_are}
 -- Where a line may stand
 
 pub placed_is : (z : Auditor) (s : AuditState) (f : IsFor z s) (line : ReportLine) (due : Due) → due ≡ s.due
-    → (o : List Outline) → o ≡ map kept_outline z.devices.items → (e : List EventLine) → e ≡ drop z.passed z.deck.events
+    → (o : List Outline) → o ≡ z.outlines.items → (e : List EventLine) → e ≡ drop z.passed z.deck.events
     → (x : Bool) → (IsDueOf (length o) due → x ≡ in_due o e line due) → x ≡ in_state s line
 placed_is z s f line due due_is o o_is e e_is x is =
-    let same : o ≡ outlines s = o_is ∙ outlines_are z s f in
+    let same : o ≡ outlines s = o_is ∙ f.outlines_so ∙ outlines_are z s f in
     let long : length o ≡ length s.devices = ap (λ (l : List Outline). length l) same ∙ length-map s.devices outline_of in
     is (subst (λ (n : ℕ). IsDueOf n due) (sym long) (subst (λ (d : Due). IsDueOf (length s.devices) d) (sym due_is) f.told))
     ∙ ap (λ (l : List Outline). in_due l e line due) same
@@ -65,8 +65,9 @@ module _ (z : Auditor) (s : AuditState) (f : IsFor z s) (quiet : is_quiet s.due 
   -- An event is over that changes all devices
 
   pub all_changed : (y : Auditor) → y.deck ≡ z.deck → y.passed ≡ z.passed → (ks : List Kept) (ds : List AuditedDevice)
-      → y.devices.items ≡ ks → AllKept z.deck.programs ks ds → IsAuditOf (gone_on y Passed) (passed (record s { devices = ds }))
-  all_changed y deck_is passed_is ks ds items_are all = record {
+      → y.devices.items ≡ ks → AllKept z.deck.programs ks ds → y.outlines.items ≡ map kept_outline y.devices.items
+      → IsAuditOf (gone_on y Passed) (passed (record s { devices = ds }))
+  all_changed y deck_is passed_is ks ds items_are all outlines_so = record {
     for = record {
       events_are = ap (λ (e : List EventLine). drop 1 e) (f.events_are
           ∙ ap (λ (n : ℕ). drop n z.deck.events) (sym passed_is)
@@ -75,6 +76,7 @@ module _ (z : Auditor) (s : AuditState) (f : IsFor z s) (quiet : is_quiet s.due 
           (subst (λ (l : List Kept). AllKept z.deck.programs l ds) (sym items_are) all);
       told = tt;
       powered = tt;
+      outlines_so = outlines_so;
     };
     due_is = refl;
   }
@@ -90,12 +92,13 @@ module _ (z : Auditor) (s : AuditState) (f : IsFor z s) (quiet : is_quiet s.due 
     unpair_none runs = ap (λ (x : Bool). cond x None (Some (passed (record s { devices = map (given_back n) s.devices })))) (lent_is ∙ runs)
 
     pub unpair_some : b ≡ false → (y : Auditor) → y.deck ≡ z.deck → y.passed ≡ z.passed
-        → y.devices.items ≡ map (taken_back n) z.devices.items → Makes true (gone_on y Passed) (done_order s (events.Unpair n))
-    unpair_some idle y deck_is passed_is items_are = (
+        → y.devices.items ≡ map (taken_back n) z.devices.items → y.outlines.items ≡ map kept_outline y.devices.items
+        → Makes true (gone_on y Passed) (done_order s (events.Unpair n))
+    unpair_some idle y deck_is passed_is items_are outlines_so = (
       passed (record s { devices = map (given_back n) s.devices }),
       ap (λ (x : Bool). cond x None (Some (passed (record s { devices = map (given_back n) s.devices })))) (lent_is ∙ idle),
       all_changed y deck_is passed_is (map (taken_back n) z.devices.items) (map (given_back n) s.devices) items_are
-          (all_back z.deck.programs n z.devices.items s.devices (all_here z s f quiet) (lent_is ∙ idle)),
+          (all_back z.deck.programs n z.devices.items s.devices (all_here z s f quiet) (lent_is ∙ idle)) outlines_so,
     )
 
   -- Orders that change nothing
@@ -127,12 +130,13 @@ module _ (z : Auditor) (s : AuditState) (f : IsFor z s) (quiet : is_quiet s.due 
 
   pub power_done : (line : ReportLine) (k : ℕ) → loose_at line ≡ None → cut_at line ≡ None → NoneRuns k s.devices
       → in_power line (drop k (outlines s)) ≡ true → (y : Auditor) → y.deck ≡ z.deck → y.passed ≡ z.passed
-      → y.devices.items ≡ map dark_kept z.devices.items → Makes true (gone_on y Passed) (power_made s line)
-  power_done line k no_loose no_cut none may y deck_is passed_is items_are = (
+      → y.devices.items ≡ map dark_kept z.devices.items → y.outlines.items ≡ map kept_outline y.devices.items
+      → Makes true (gone_on y Passed) (power_made s line)
+  power_done line k no_loose no_cut none may y deck_is passed_is items_are outlines_so = (
     passed (record s { devices = map without_power s.devices }),
     done_made line no_loose no_cut s,
     all_changed y deck_is passed_is (map dark_kept z.devices.items) (map without_power s.devices) items_are
-        (all_dark z.deck.programs z.devices.items s.devices (all_here z s f quiet) (done_told line no_loose no_cut k s.devices none may)),
+        (all_dark z.deck.programs z.devices.items s.devices (all_here z s f quiet) (done_told line no_loose no_cut k s.devices none may)) outlines_so,
   )
 
 -- What is due says what the line may be

@@ -4,7 +4,7 @@ use Rattle.std.specs.Prelude.{map}
 use Rattle.deck_text.specs.declared.line.DeviceLine.{DeviceLine}
 use Rattle.deck_text.specs.declared.line.PlannedProgram.{PlannedProgram}
 use Rattle.plain_defs.specs.History.{no_history}
-use Rattle.deck_audit.specs.Auditor.{AllKept, IsAt, IsAuditOf, new_kept}
+use Rattle.deck_audit.specs.Auditor.{AllKept, IsAt, IsAuditOf, kept_outline, new_kept}
 use Rattle.deck_audit.specs.declared.auditor.Auditor.{Auditor}
 use Rattle.deck_audit.specs.declared.kept.Kept.{Kept}
 use Rattle.deck_audit.specs.declared.state.Due.TheVariants.{Next}
@@ -52,14 +52,16 @@ all_new : (programs : List PlannedProgram) (devices : List DeviceLine)
 all_new programs [] = tt
 all_new programs (line ∷ devices) = (new_at programs line, all_new programs devices)
 
-pub new_audit : (z : Auditor) → z.devices.items ≡ map new_kept z.deck.devices → z.passed ≡ 0 → z.due ≡ Next → IsAuditOf z (first_state z.deck)
-new_audit z devices_are passed_is due_is = record {
+pub new_audit : (z : Auditor) → z.devices.items ≡ map new_kept z.deck.devices → z.passed ≡ 0 → z.due ≡ Next
+    → z.outlines.items ≡ map kept_outline z.devices.items → IsAuditOf z (first_state z.deck)
+new_audit z devices_are passed_is due_is outlines_so = record {
   for = record {
     events_are = ap (λ (n : ℕ). drop n z.deck.events) (sym passed_is);
     devices_are = subst (λ (l : List Kept). AllKept z.deck.programs l (map (new_device z.deck.programs) z.deck.devices)) (sym devices_are)
         (all_new z.deck.programs z.deck.devices);
     told = tt;
     powered = tt;
+    outlines_so = outlines_so;
   };
   due_is = due_is;
 }

@@ -1,14 +1,14 @@
 -- An auditor is that of the lines of a report so far: it keeps each device of the deck as they make it, the events that are left, and
 -- what is due.
-use Rattle.std.specs.Prelude.{◌≡◌, ◌≤◌, ℕ, ◌+◌, ◌==◌, ◌&&◌, ◌||◌, not, nat_lt, Bool, true, false, zero, suc, List, [], ◌∷◌, drop, length, slice_get, slice_set, Option, Some, None, Result, Ok, Err, if◌then◌else◌, ⊤}
+use Rattle.std.specs.Prelude.{◌≡◌, ◌≤◌, ℕ, ◌+◌, ◌==◌, ◌&&◌, ◌||◌, not, nat_lt, Bool, true, false, zero, suc, List, [], ◌∷◌, drop, length, map, slice_get, slice_set, Option, Some, None, Result, Ok, Err, if◌then◌else◌, ⊤}
 use Rattle.deck_text.specs.declared.line.DeviceLine.{DeviceLine}
 use Rattle.deck_text.specs.declared.line.PlannedProgram.{PlannedProgram}
 use Rattle.deck_text.specs.Plans.{plans_of}
 use Rattle.report_text.specs.declared.answers.HowOver.TheVariants as how
 use Rattle.report_text.specs.declared.answers.LooseAnswer.TheVariants as loose
 use Rattle.report_text.specs.declared.answers.OrderAnswer.TheVariants as order_answers
-use Rattle.deck_audit.specs.declared.auditor.OrderTold.{OrderTold}
-use Rattle.deck_audit.specs.declared.auditor.OrderTold.TheVariants as told
+use Rattle.deck_audit.specs.declared.told.OrderTold.{OrderTold}
+use Rattle.deck_audit.specs.declared.told.OrderTold.TheVariants as told
 use Rattle.report_text.specs.declared.line.ReportLine.{ReportLine}
 use Rattle.report_text.specs.declared.line.ReportLine.TheVariants as lines
 use Rattle.deck_audit.specs.declared.replayed.Running.{Running}
@@ -97,12 +97,16 @@ abbrev pub ArePowered : Due → List AuditedDevice → Type 0
 ArePowered (Powers n) devices = NoneRuns n devices
 ArePowered due devices = ⊤
 
+abbrev pub kept_outline : Kept → Outline
+kept_outline k = outline_of k.device
+
 -- but for what is due
 pub record IsFor (z : Auditor) (s : AuditState) : Type 0 where
   pub events_are : s.events ≡ drop z.passed z.deck.events
   pub devices_are : AreKept z.deck.programs s.due (worker_number s) z.devices.items s.devices (is_quiet s.due)
   pub told : IsDueOf (length s.devices) s.due
   pub powered : ArePowered s.due s.devices
+  pub outlines_so : z.outlines.items ≡ map kept_outline z.devices.items
 
 pub record IsAuditOf (z : Auditor) (s : AuditState) : Type 0 where
   pub for : IsFor z s
@@ -164,9 +168,6 @@ abbrev pub told_of : Due → ℕ
 told_of (Powers n) = n
 told_of (Totals n) = n
 told_of due = 0
-
-abbrev pub kept_outline : Kept → Outline
-kept_outline k = outline_of k.device
 
 -- What kind of line it is
 

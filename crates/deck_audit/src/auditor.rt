@@ -1,28 +1,32 @@
-ghost use Rattle.std.specs.Prelude.{◌≡◌, ◌<◌, ◌≤◌, Bool, Some, false, true, IfOk, IfSome, OnOk, drop, length, map};
+ghost use Rattle.std.specs.Prelude.{◌≡◌, ◌≤◌, Bool, Some, false, true, IfOk, OnOk, drop, length, map};
 ghost use Rattle.std.specs.List.{All};
 ghost use Rattle.deck_plan.specs.declared.event.EventLine.TheVariants.{Pair, Reset, Start, Unpair};
 ghost use Rattle.deck_audit.specs.declared.state.Did.TheVariants.{Halved};
 ghost use Rattle.deck_audit.specs.declared.state.Due.TheVariants.{Behind, DataOf, Losses, Next, OverOf, SenseOf};
 ghost use Rattle.deck_audit.specs.declared.auditor.Auditor.{Auditor};
-ghost use Rattle.deck_audit.specs.Auditor.{Fits, IsAuditOf, IsFor, IsJudged, IsJudgedAt, IsSized, Makes, gone_on, is_nothing, is_quiet, judged_settled, kept_outline, new_kept, place_from, placed, told_of, behind_of, cut_at, idle_fault, kept_legal, loose_at, order_told, totals_due, FitsTotals, NoneRuns};
+ghost use Rattle.deck_audit.specs.Auditor.{Fits, FitsTotals, IsAuditOf, IsFor, IsJudged, IsSized, Makes, NoneRuns, gone_on, is_nothing, is_quiet, judged_settled, kept_outline, placed, told_of};
 ghost use Rattle.deck_audit.specs.Place.{IsDueOf, in_due, in_event, in_next, in_power, in_state, is_act_of};
 ghost use Rattle.deck_audit.specs.Device.{AuditedDevice, device_in};
-ghost use Rattle.deck_audit.specs.History.{act_of_work, done_order, due_made, order_made, power_made, totals_made, event_made, harden_made, is_legal, lent_to, loss_made, sense_made, shown, work_made};
+ghost use Rattle.deck_audit.specs.History.{act_of_work, done_order, due_made, event_made, harden_made, is_legal, lent_to, loss_made, order_made, power_made, sense_made, shown, totals_made, work_made};
 ghost use Rattle.deck_audit.specs.State.{AuditState, behind_work, first_event, first_state, outlines, over_by, settled_by, then_of, worker_number, worker_of};
 ghost use Rattle.deck_audit.specs.Task.{task_made};
 ghost use Rattle.deck_audit.specs.Verdict.{judged};
 
-use crate::devices::{any_lent_runs, lose_power, take_all_back};
+use crate::devices::{
+    any_lent_runs, is_legal, judge_at, kept_devices, lose_power, outline_all, place_of,
+    take_all_back,
+};
 use crate::kept::{Kept, Then};
 use crate::place::is_io;
 use crate::status::AuditWhy;
-use crate::task::{Task, range_of};
+use crate::task::Task;
+use crate::told::{OrderTold, behind_of, cut_at, idle_fault, loose_at, order_told, totals_due};
 use crate::work::is_act_of;
-use crate::{Did, Due, OpenProgram, Outline, ReplayedDevice, data_due, in_due, worker_of};
+use crate::{Did, Due, Outline, data_due, in_due, worker_of};
 use ckd_types::{CommandEnd, DeviceNo, NoMemory, PathNo, TrackNo};
 use deck_plan::EventLine;
 use deck_text::Deck;
-use report_text::{HowOver, LooseAnswer, OrderAnswer, ReportLine};
+use report_text::ReportLine;
 use std::alloc::Global;
 use std::mem;
 
@@ -32,71 +36,11 @@ use std::mem;
 pub struct Auditor {
     deck: Deck,
     devices: Vec<Kept>,
-    /// Room for what `in_due` reads of the devices.
+    /// What `in_due` reads of the devices.
     outlines: Vec<Outline>,
     /// How many events are over.
     passed: usize,
     due: Due,
-}
-
-/// The place of the first device of a number.
-fn place_of(devices: &[Kept], d: DeviceNo) -> Option<usize>
-    ensures place { result ≡ place_from 0 devices.now d }
-    ensures within { IfSome result (λ at. at < length devices.now) }
-{
-    for (i, kept) in devices.iter().enumerate() {
-        if kept.device.number().get() == d.get() {
-            return Some(i);
-        }
-    }
-    None
-}
-
-/// The device of that place judges the line.
-fn judge_at(
-    alloc: Global,
-    deck: &Deck,
-    devices: &mut [Kept],
-    at: usize,
-    d: DeviceNo,
-    line: &ReportLine,
-    task: Task,
-) -> Result<Option<Then>, NoMemory>
-    requires { at < length devices.old }
-    ensures { IfOk result (λ next. IsJudgedAt deck.now.programs devices.old devices.new at d line.now task next) }
-{
-    range_of(&task);
-    let _count = devices.len();
-    let plans = deck.plans(d);
-    let kept = &mut devices[at];
-    let next = kept.line(alloc, plans, at, line, task)?;
-    Ok(next)
-}
-
-/// The devices of a deck before its first event.
-fn kept_devices(alloc: Global, deck: &Deck) -> Result<Vec<Kept>, NoMemory>
-    requires { All IsSized deck.now.devices }
-    ensures { IfOk result (λ made. made.items ≡ map new_kept deck.now.devices) }
-{
-    let mut devices = Vec::with_capacity(alloc, deck.device_count())?;
-    for i in 0..deck.device_count() {
-        let device = ReplayedDevice::new(alloc, deck.device_at(i))?;
-        devices.push(Kept { device, ended: 0 })?;
-    }
-    Ok(devices)
-}
-
-/// The outlines of the devices as they are now, in the room for them.
-fn outline_all(devices: &[Kept], outlines: &mut Vec<Outline>) -> Result<(), NoMemory>
-    ensures { OnOk result (outlines.new.items ≡ map kept_outline devices.now) }
-{
-    outlines.clear();
-    for kept in devices {
-        let outline = kept.device.outline();
-        let _program: Option<OpenProgram> = outline.running;
-        outlines.push(outline)?;
-    }
-    Ok(())
 }
 
 /// The events behind so many.
@@ -138,98 +82,6 @@ fn may_stand(devices: &[Outline], events: &[EventLine], line: &ReportLine, due: 
     in_due(devices, events, line, due)
 }
 
-/// The device and the commands of a program that was cut, where the line tells of one.
-fn cut_at(line: &ReportLine) -> Option<(DeviceNo, u16)>
-    ensures { result ≡ cut_at line.now }
-{
-    match line {
-        ReportLine::Over(_, d, _, HowOver::Cut(n)) => Some((*d, *n)),
-        _ => None,
-    }
-}
-
-/// What a line of an order tells.
-#[derive(Debug)]
-pub enum OrderTold {
-    /// The order is done.
-    Done,
-    /// A track became firm, since its volume failed.
-    Firm(DeviceNo, TrackNo),
-    /// The cache failed, and a device's loose tracks went back.
-    Lost(DeviceNo),
-    Other,
-}
-
-fn order_told(line: &ReportLine) -> OrderTold
-    ensures { result ≡ order_told line.now }
-{
-    match line {
-        ReportLine::Order(_, OrderAnswer::Done) => OrderTold::Done,
-        ReportLine::Loose(d, LooseAnswer::Harden(t)) => OrderTold::Firm(*d, *t),
-        ReportLine::Loose(d, LooseAnswer::Lost { .. }) => OrderTold::Lost(*d),
-        _ => OrderTold::Other,
-    }
-}
-
-/// The device of a line about its loose tracks.
-fn loose_at(line: &ReportLine) -> Option<DeviceNo>
-    ensures { result ≡ loose_at line.now }
-{
-    match line {
-        ReportLine::Loose(d, _) => Some(*d),
-        _ => None,
-    }
-}
-
-/// What is due behind a line of the totals of so many devices, where so many of them were told.
-fn totals_due(devices: usize, line: &ReportLine, told: usize) -> Due
-    ensures { result ≡ totals_due devices line.now told }
-{
-    match line {
-        ReportLine::Device(_, _) => {
-            if told < devices {
-                Due::Totals(told + 1)
-            } else {
-                Due::Totals(told)
-            }
-        }
-        ReportLine::Lost(_, _) => Due::Totals(told),
-        ReportLine::Finish => Due::Nothing,
-        _ => Due::Frames,
-    }
-}
-
-/// A piece of work that is at its end, or what else is due.
-fn behind_of(due: Due) -> Result<(bool, Did), Due>
-    ensures { result ≡ behind_of due }
-{
-    match due {
-        Due::Behind(more, did) => Ok((more, did)),
-        due => Err(due),
-    }
-}
-
-/// The fault of a line behind a piece of work that no device does.
-fn idle_fault(line: &ReportLine) -> AuditWhy
-    ensures { result ≡ idle_fault line.now }
-{
-    if is_io(line) {
-        AuditWhy::History
-    } else {
-        AuditWhy::Place
-    }
-}
-
-/// What the device did may be so.
-fn is_legal(kept: &Kept, did: &Did) -> bool
-    ensures { result ≡ kept_legal did.now kept.now }
-{
-    match did {
-        Did::Ended(_) => kept.device.is_legal(),
-        _ => true,
-    }
-}
-
 impl Auditor {
     /// The auditor of a deck before the first line of its report.
     pub fn new(alloc: Global, deck: Deck) -> Result<Auditor, NoMemory>
@@ -237,7 +89,8 @@ impl Auditor {
         ensures { IfOk result (λ auditor. IsAuditOf auditor (first_state deck)) }
     {
         let devices = kept_devices(alloc, &deck)?;
-        let outlines = Vec::with_capacity(alloc, devices.len())?;
+        let mut outlines = Vec::with_capacity(alloc, devices.len())?;
+        outline_all(&devices, &mut outlines)?;
         Ok(Auditor {
             deck,
             devices,
@@ -309,7 +162,16 @@ impl Auditor {
             Some(at) => at,
             None => return Ok(false),
         };
-        match judge_at(alloc, &self.deck, &mut self.devices, at, d, line, task)? {
+        match judge_at(
+            alloc,
+            &self.deck,
+            &mut self.devices,
+            &mut self.outlines,
+            at,
+            d,
+            line,
+            task,
+        )? {
             Some(next) => {
                 self.go_on(next);
                 Ok(true)
@@ -448,13 +310,11 @@ impl Auditor {
     }
 
     /// Whether the line may stand where this is due.
-    fn is_placed(&mut self, line: &ReportLine, due: &Due) -> Result<bool, NoMemory>
-        ensures placed { IfOk result (λ is. (s : AuditState) → IsFor self.old s → due.now ≡ s.due → is ≡ in_state s line.now) }
-        ensures kept { OnOk result ((s : AuditState) → IsFor self.old s → IsFor self.new s) }
+    fn is_placed(&self, line: &ReportLine, due: &Due) -> bool
+        ensures { (s : AuditState) → IsFor self.now s → due.now ≡ s.due → result ≡ in_state s line.now }
     {
-        outline_all(&self.devices, &mut self.outlines)?;
         let events = left_of(&self.deck, self.passed);
-        Ok(may_stand(&self.outlines, events, line, due))
+        may_stand(&self.outlines, events, line, due)
     }
 
     /// A line of the totals, where so many devices have had theirs.
@@ -524,6 +384,7 @@ impl Auditor {
             return Ok(false);
         }
         take_all_back(alloc, &mut self.devices, a)?;
+        outline_all(&self.devices, &mut self.outlines)?;
         self.go_on(Then::Passed);
         Ok(true)
     }
@@ -618,6 +479,7 @@ impl Auditor {
             return Ok(good);
         }
         lose_power(alloc, &mut self.devices);
+        outline_all(&self.devices, &mut self.outlines)?;
         self.go_on(Then::Passed);
         Ok(true)
     }
@@ -739,7 +601,7 @@ impl Auditor {
     ) -> Result<Option<AuditWhy>, NoMemory>
         ensures { IfOk result (λ why. (s : AuditState) → IsFor self.old s → due ≡ s.due → IsJudged why self.new (placed s line.now)) }
     {
-        if !self.is_placed(line, &due)? {
+        if !self.is_placed(line, &due) {
             return Ok(Some(AuditWhy::Place));
         }
         if self.due_line(alloc, line, due)? {
@@ -779,7 +641,7 @@ impl Auditor {
             let why = self.placed_line(alloc, line, due)?;
             return Ok(why);
         }
-        if self.is_placed(line, &due)? {
+        if self.is_placed(line, &due) {
             Ok(Some(AuditWhy::History))
         } else {
             Ok(Some(AuditWhy::Place))

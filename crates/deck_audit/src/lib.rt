@@ -23,6 +23,7 @@ mod task;
 #[cfg(test)]
 mod tests;
 mod texts;
+mod told;
 mod work;
 
 pub use auditor::{Auditor, outlines_are_same};

@@ -1,12 +1,18 @@
-ghost use Rattle.std.specs.Prelude.{◌≡◌};
+ghost use Rattle.std.specs.Prelude.{◌≡◌, IfOk};
+ghost use Rattle.std.specs.List.{All};
+ghost use Rattle.deck_audit.specs.Auditor.{IsSized};
 
 use crate::*;
 use ckd_ccw::Program;
 use ckd_outside::MemSink;
-use ckd_types::{Bytes, Ccw, DeviceNo, Geometry, PathNo, TrackNo};
+use ckd_types::{Bytes, Ccw, DeviceNo, Geometry, Note, PathNo, TrackNo, UnitStatus};
 use deck_plan::{EventLine, PathPlans};
-use deck_text::{DeckWhy, DeviceLine, Which};
-use report_text::{BackAnswer, DeviceTotals, HowOver, LooseAnswer, ReportLine, StartAnswer};
+use deck_text::{Deck, DeckWhy, DeviceLine, PlannedProgram, Which};
+use report_text::{
+    BackAnswer, DeviceTotals, EndLine, HowOver, LooseAnswer, Order, OrderAnswer, ReportLine,
+    StartAnswer,
+};
+use std::alloc::Global;
 use std::test::Fail;
 
 #[test]
@@ -235,5 +241,85 @@ fn a_program_is_replayed(rt: HostRuntime) -> Result<(), Fail> {
     replayed.settle()?;
     replayed.close();
     assert_eq!(rt; replayed.start_answer(&plans, path()), StartAnswer::Done);
+    Ok(())
+}
+
+/// A deck of one device with a program of one no-operation: it is started and runs, and the power is lost.
+fn small_deck(alloc: Global) -> Result<Deck, Fail>
+    ensures { IfOk result (λ deck. All IsSized deck.devices) }
+{
+    let mut ccws = Vec::new(alloc);
+    ccws.push(Ccw {
+        command: 0x03,
+        flags: 0,
+        count: 1,
+        given: Bytes::from_slice(alloc, &[])?,
+    })?;
+    let program = Program::new(ccws).ok().ok_or("a word is bad")?;
+    let mut deck = Deck::new(alloc)?;
+    deck.push_device(DeviceLine {
+        number: device(),
+        geometry: Geometry::D3390,
+        cylinders: 1,
+    })?;
+    deck.push_program(
+        alloc,
+        PlannedProgram {
+            path: path(),
+            device: device(),
+            program,
+        },
+    )?;
+    deck.push_event(EventLine::Start(path(), device()))?;
+    deck.push_event(EventLine::Run(device()))?;
+    deck.push_event(EventLine::Power)?;
+    Ok(deck)
+}
+
+#[test]
+fn a_report_is_audited(rt: HostRuntime) -> Result<(), Fail> {
+    let alloc = rt.alloc();
+    let (p, d) = (path(), device());
+    let mut auditor = Auditor::new(alloc, small_deck(alloc)?)?;
+    let started = ReportLine::Start(p, d, StartAnswer::Accepted(1));
+    assert_eq!(rt; auditor.line(alloc, &started)?, None);
+    let end = ReportLine::End(EndLine {
+        path: p,
+        device: d,
+        ordinal: 1,
+        index: 0,
+        status: UnitStatus(0x0c),
+        residual: 1,
+        note: Note::Plain,
+    });
+    assert_eq!(rt; auditor.line(alloc, &end)?, None);
+    let over = ReportLine::Over(p, d, 1, HowOver::Full);
+    assert_eq!(rt; auditor.line(alloc, &over)?, None);
+    let dark = ReportLine::Order(Order::Power, OrderAnswer::Done);
+    assert_eq!(rt; auditor.line(alloc, &dark)?, None);
+    let calls = DeviceTotals::Calls {
+        reads: 0,
+        writes: 0,
+        lost: 0,
+    };
+    assert_eq!(rt; auditor.line(alloc, &ReportLine::Device(d, calls))?, None);
+    assert_eq!(rt; auditor.is_finished(), false);
+    assert_eq!(rt; auditor.line(alloc, &ReportLine::Finish)?, None);
+    assert_eq!(rt; auditor.is_finished(), true);
+    Ok(())
+}
+
+#[test]
+fn a_report_is_found_wrong(rt: HostRuntime) -> Result<(), Fail> {
+    let alloc = rt.alloc();
+    let (p, d) = (path(), device());
+    let mut auditor = Auditor::new(alloc, small_deck(alloc)?)?;
+    let busy = ReportLine::Start(p, d, StartAnswer::Done);
+    assert_eq!(rt; auditor.line(alloc, &busy)?, Some(AuditWhy::History));
+    let mut other = Auditor::new(alloc, small_deck(alloc)?)?;
+    assert_eq!(rt;
+        other.line(alloc, &ReportLine::RunIdle(d))?,
+        Some(AuditWhy::Place)
+    );
     Ok(())
 }

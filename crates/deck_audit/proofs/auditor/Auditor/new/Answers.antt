@@ -1,4 +1,6 @@
-use Rattle.std.proofs.Common.{refl}
+use Rattle.std.proofs.Common.{List, map, refl, ap, ◌∙◌}
+use Rattle.deck_audit.specs.Auditor.{kept_outline}
+use Rattle.deck_audit.specs.declared.kept.Kept.{Kept}
 use Rattle.deck_audit.specs.declared.state.Due.TheVariants.{Next}
 use Rattle.deck_audit.proofs.NewAudits.{new_audit}
 use Rattle.deck_audit.proofs.auditor.Auditor.new.Goals as goal
@@ -7,7 +9,8 @@ pub returns : goal.returns
 returns c = new_audit (record {
   deck = c.args.deck;
   devices = c.in_ok-devices.devices;
-  outlines = c.in_ok-outlines.outlines;
+  outlines = c.outline_all.new.outlines;
   passed = 0;
   due = Next;
 }) c.in_ok-devices.ensures refl refl
+    (c.in_ok-outline_all.ensures ∙ ap (λ (l : List Kept). map kept_outline l) c.deref.ensures.value)

@@ -2,7 +2,7 @@ use Rattle.std.proofs.Common.{List, Option, refl, sym, ap, subst, true, map, ◌
 use Rattle.std.proofs.Common.{rules}
 use Rattle.std.proofs.lemmas.List.{places, with_items_is}
 use Rattle.std.specs.Vec.{with_items}
-use Rattle.deck_audit.specs.Auditor.{Makes, dark_kept}
+use Rattle.deck_audit.specs.Auditor.{Makes, dark_kept, kept_outline}
 use Rattle.deck_audit.specs.declared.auditor.Auditor.{Auditor}
 use Rattle.deck_audit.specs.declared.kept.Kept.{Kept}
 use Rattle.deck_audit.specs.History.{power_made}
@@ -28,6 +28,10 @@ pub returns : goal.returns
 returns c = λ s f quiet none may. subst (λ (y : Auditor). Makes true y (power_made s c.args.line.now)) (sym c.go_on.ensures)
     (power_done c.args.self.now s f quiet c.args.line.now c.args.told (sym c.loose_at.ensures ∙ c.in_default.is)
     (sym c.cut_at.ensures ∙ c.in_default-cut_at.is) none may
-    (record c.args.self.now { devices = with_items c.args.self.now.devices c.lose_power.new.devices }) refl refl
+    (record c.args.self.now {
+      devices = with_items c.args.self.now.devices c.lose_power.new.devices;
+      outlines = c.outline_all.new.outlines;
+    }) refl refl
     (with_items_is c.args.self.now.devices c.lose_power.new.devices (search (rules, places))
-    ∙ c.lose_power.ensures ∙ ap (λ (l : List Kept). map dark_kept l) c.deref_mut.ensures.value))
+    ∙ c.lose_power.ensures ∙ ap (λ (l : List Kept). map dark_kept l) c.deref_mut.ensures.value)
+    (c.in_ok-outline_all.ensures ∙ ap (λ (l : List Kept). map kept_outline l) c.deref.ensures.value))

@@ -1,6 +1,6 @@
 use Rattle.std.proofs.Common.{◌≡◌, drop}
 use Rattle.deck_audit.specs.Auditor.{place_from}
-use Rattle.deck_audit.proofs.auditor.place_of.Given as goal
+use Rattle.deck_audit.proofs.devices.place_of.Given as goal
 
 -- the device isn't among those so far
 abbrev pub invariant-loop-i : goal.invariant-loop-i

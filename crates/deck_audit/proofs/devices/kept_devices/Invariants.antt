@@ -1,6 +1,6 @@
 use Rattle.std.proofs.Common.{◌≡◌, map, take}
 use Rattle.deck_audit.specs.Auditor.{new_kept}
-use Rattle.deck_audit.proofs.auditor.kept_devices.Given as goal
+use Rattle.deck_audit.proofs.devices.kept_devices.Given as goal
 
 -- those so far are kept
 abbrev pub invariant-loop-i : goal.invariant-loop-i

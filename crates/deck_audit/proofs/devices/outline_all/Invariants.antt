@@ -1,6 +1,6 @@
 use Rattle.std.proofs.Common.{◌≡◌, map, take}
 use Rattle.deck_audit.specs.Auditor.{kept_outline}
-use Rattle.deck_audit.proofs.auditor.outline_all.Given as goal
+use Rattle.deck_audit.proofs.devices.outline_all.Given as goal
 
 -- those so far are in the room
 abbrev pub invariant-loop-kept : goal.invariant-loop-kept
