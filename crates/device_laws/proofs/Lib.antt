@@ -91,3 +91,11 @@ pub mod PlainEvents
 pub mod PlainLosses
 pub mod PlainPower
 pub mod TouchedTracks
+pub mod Based
+pub mod BasedParts
+pub mod BasedEvents
+pub mod KeptHistories
+pub mod KeptEvents
+pub mod RanBased
+pub mod CleanParts
+pub mod KeepLaws
