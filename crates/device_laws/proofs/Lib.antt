@@ -99,3 +99,6 @@ pub mod KeptEvents
 pub mod RanBased
 pub mod CleanParts
 pub mod KeepLaws
+pub mod Lucky
+pub mod Unlost
+pub mod UnlostParts
