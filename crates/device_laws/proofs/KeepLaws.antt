@@ -71,7 +71,7 @@ use Rattle.device_laws.proofs.RanBased.{ran_within, quiet_waits, own_waiting}
 
 -- What always holds holds behind a run
 
-always_ran : {R K S X : Type 0} {had : Bool → Type 0} {hears : Hearing Image K} (i : Interaction R Image S X) (q : S → X → Type 0) {u z : Outside R K} {s : S}
+pub always_ran : {R K S X : Type 0} {had : Bool → Type 0} {hears : Hearing Image K} (i : Interaction R Image S X) (q : S → X → Type 0) {u z : Outside R K} {s : S}
     {a : X} → Behind i q → Ran had hears i u s a z → q s a
 unfolding A.Behind
 always_ran (Done s a) q h done = h

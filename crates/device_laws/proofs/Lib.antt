@@ -102,3 +102,6 @@ pub mod KeepLaws
 pub mod Lucky
 pub mod Unlost
 pub mod UnlostParts
+pub mod UnlostEvents
+pub mod Harmless
+pub mod LossLaws
