@@ -34,7 +34,7 @@ use Rattle.device_laws.specs.InOrder.{IsInOrder}
 use Rattle.device_laws.specs.NewDevice.{new_contents}
 use Rattle.device_laws.specs.Standing.{IsChainOf}
 use Rattle.device_laws.specs.Unharmed.{MarksAreGood, NothingLost, IsWholeOnA, IsUnharmed, HalfIsTried}
-use Rattle.device_laws.proofs.Based.{Base, base_of, Any, Based, based_any}
+use Rattle.device_laws.proofs.Based.{Base, kept, Any, Based, based_any}
 use Rattle.device_laws.proofs.BasedEvents.{
   base_in,
   with_one_loss,
@@ -150,7 +150,7 @@ module _ {F P H R K : Type 0} (c : Contents F P H R) {hears : Hearing Image K} w
 
   module _ (faithful : IsFaithful c) (d : Device F P H) (lt : d.store.counts.failed < top) (un : IsUnharmed d.store) {e : Device F P H}
       {u z : Outside R K} where
-    event_unharmed : {X : Type 0} {a : X} (i : Interaction R Image (Device F P H) X) → Based base_in Any (base_of d.store) i →
+    event_unharmed : {X : Type 0} {a : X} (i : Interaction R Image (Device F P H) X) → Based base_in Any (kept d.store) i →
         (IsWholeOnA d.store → DeviceGoes c d.store i) → Ran (λ ok. Unit {0}) hears i u e a z → IsUnharmed e.store
     event_unharmed i x goes r =
         unharmed_by d.store e.store (ran_same x r).losses (more_ran d i refl x lt r) (λ whole same. fine_ran d i refl x lt (goes whole) r same) un
@@ -176,7 +176,7 @@ module _ {F P H R K : Type 0} (c : Contents F P H R) {hears : Hearing Image K} w
 
     -- losses
 
-    cache_event : {a : Unit {0}} (i : Interaction R Image (Device F P H) (Unit {0})) → Based base_in Any (with_one_loss losses.Cache (base_of d.store)) i →
+    cache_event : {a : Unit {0}} (i : Interaction R Image (Device F P H) (Unit {0})) → Based base_in Any (with_one_loss losses.Cache (kept d.store)) i →
         (IsWholeOnA d.store → DeviceGoes c d.store i) → Ran (λ ok. Unit {0}) hears i u e a z → IsUnharmed e.store
     cache_event i x goes r n =
         let before = counts_same d.store e.store _ (ran_same x r).losses refl refl (more_ran d i refl x lt r) n in
