@@ -105,3 +105,4 @@ pub mod UnlostParts
 pub mod UnlostEvents
 pub mod Harmless
 pub mod LossLaws
+pub mod LooseLosses
