@@ -106,3 +106,4 @@ pub mod UnlostEvents
 pub mod Harmless
 pub mod LossLaws
 pub mod LooseLosses
+pub mod HeldBased
