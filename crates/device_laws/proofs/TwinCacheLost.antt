@@ -61,8 +61,9 @@ use Rattle.device_defs.specs.Store.{
   with_frame,
   with_owed,
 }
-use Rattle.device_laws.specs.Agrees.{Held, image_in, slot_at}
+use Rattle.device_laws.specs.Agrees.{Held, image_in, PatchOf, slot_at}
 use Rattle.device_laws.specs.InOrder.{plain_lost}
+use Rattle.device_laws.specs.PlainWrites.{OriginSuits}
 use Rattle.device_laws.specs.Twin.{Twins}
 use Rattle.device_laws.proofs.CacheLost.{none_below, begun_sizes, begun_tracks}
 use Rattle.device_laws.proofs.ContentChanges as C
@@ -122,7 +123,7 @@ bare_frame (OfCut bypass) i = tt
 bare_frame OfBackground i = λ f is. absurd (cc)
 
 bare_keeps : (g : Geometry) (t : ℕ) (x : TrackContents) (plain firm : Image) → Keeps g t x plain firm → Keeps g t (bare x) firm firm
-bare_keeps g t x plain firm k = record { frame = λ f e. absurd (cc); a = k.a; b = k.b }
+bare_keeps g t x plain firm k = record { frame = λ f e. absurd (cc); a = k.a; b = k.b; patch = (k.patch.1, k.patch.1) }
 
 bare_writes : (x : TrackContents) (plain firm : Image) (w : HalfWrite Image) → firm ≡ plain → Writes x plain w → Writes (bare x) firm w
 bare_writes x plain firm w same k = record {
@@ -130,6 +131,8 @@ bare_writes x plain firm w same k = record {
   a = k.a;
   b = k.b;
   frame = bare_frame w.origin firm;
+  patch = subst (λ (i : Image). PatchOf w.origin x.patch i) (sym same) k.patch;
+  suits = subst (λ (i : Image). OriginSuits i.geometry i.track w.origin) (sym same) k.suits;
 }
 
 -- it is right, and its plain track then is the firm one

@@ -23,7 +23,7 @@ ghost use Rattle.device_defs.specs.Store.{tracks_of, side_of, stale_at};
 ghost use Rattle.device_laws.specs.Agrees.{Held};
 ghost use Rattle.device_laws.specs.InOrder.{IsInOrder};
 ghost use Rattle.device_laws.specs.Standing.{RunsOn};
-ghost use Rattle.device_laws.specs.Whole.{WholeDevice, marks_device, holding, IsStep, HalfSuits, BehindCommand, BehindSecond, BehindLoss, BehindReset};
+ghost use Rattle.device_laws.specs.Whole.{WholeDevice, marks_device, holding, IsStep, BehindCommand, BehindSecond, BehindLoss, BehindReset};
 ghost use Rattle.loss_model.specs.declared.Loss.{Loss};
 
 use device_outside::Keep;
@@ -48,7 +48,7 @@ pub fn command_is_step<K: Keep<TrackImage>>()
 /// The second part of an open half write.
 pub fn second_is_step<K: Keep<TrackImage>>()
     ensures { (v w : List Track) (d : WholeDevice) (h : Held) (others : List ℕ) (t : Told) (u z : Outside (List ℕ) K) (e : WholeDevice) (a : SecondEnd) →
-        IsInOrder v w d.store h → HalfSuits v d.store →
+        IsInOrder v w d.store h →
         Ran (λ ok. ok ≡ true) K.hears (second contents d) u e a z → TellsAll others u h t →
         IsStep (BehindSecond v d.store.half) others (second by_plain (marks_device v w d)) t e a z }
 {}
@@ -72,7 +72,7 @@ pub fn loss_is_step<K: Keep<TrackImage>>()
 /// The reset of a path.
 pub fn reset_is_step<K: Keep<TrackImage>>()
     ensures { (v w : List Track) (d : WholeDevice) (h : Held) (others : List ℕ) (t : Told) (u z : Outside (List ℕ) K) (e : WholeDevice) (a : Unit {0}) (path : ℕ) →
-        IsInOrder v w d.store h → HalfSuits v d.store →
+        IsInOrder v w d.store h →
         Ran (λ ok. ok ≡ true) K.hears (reset contents d path) u e a z → TellsAll others u h t →
         IsStep (BehindReset v d.store.half) others (reset by_plain (marks_device v w d) path) t e a z }
 {}
