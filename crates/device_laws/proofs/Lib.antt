@@ -91,3 +91,4 @@ pub mod PlainEvents
 pub mod PlainLosses
 pub mod PlainPower
 pub mod TouchedTracks
+pub mod WholePower

@@ -194,7 +194,7 @@ module _ {F P H R : Type 0} (c : Contents F P H R) (faithful : IsFaithful c) whe
         tracks = same;
       }
 
-  off_keeps : (s : Store F P H) → IsWell c s → Keeps c faithful s (powerless c (with_loss s losses.Cache))
+  pub off_keeps : (s : Store F P H) → IsWell c s → Keeps c faithful s (powerless c (with_loss s losses.Cache))
   off_keeps s w =
       let z = with_loss s losses.Cache in
       let g = goes_same c s z w (counted_same c faithful s losses.Cache w) in

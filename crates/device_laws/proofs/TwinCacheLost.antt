@@ -195,17 +195,17 @@ module _ (v w : List Track) (s : DeviceStore) (t : ℕ) where
 
 -- Each track in turn
 
-abbrev From : ℕ → ℕ → Type 0
+abbrev pub From : ℕ → ℕ → Type 0
 From n q = n ≤ q
 
 -- the first n tracks are right, and the others will be without their frames; none is loose
-record Swept (h : Held) (u : List Track) (y : DeviceStore) (n : ℕ) (v w : List Track) (z : DeviceStore) : Type 0 where
-  off : RightOff (From n) v w z h
-  later : (q : ℕ) → q < tracks_of z → n ≤ q → IsRight z.geometry q z.half (bare (contents_at z h q)) (image_in z v q) (image_in z v q)
-  firm : (q : ℕ) → q < tracks_of z → n ≤ q → (contents_at z h q).loose ≡ false
-  told : AllTold z h
-  base : base_of z h ≡ base_of y h
-  plain : v ≡ u
+pub record Swept (h : Held) (u : List Track) (y : DeviceStore) (n : ℕ) (v w : List Track) (z : DeviceStore) : Type 0 where
+  pub off : RightOff (From n) v w z h
+  pub later : (q : ℕ) → q < tracks_of z → n ≤ q → IsRight z.geometry q z.half (bare (contents_at z h q)) (image_in z v q) (image_in z v q)
+  pub firm : (q : ℕ) → q < tracks_of z → n ≤ q → (contents_at z h q).loose ≡ false
+  pub told : AllTold z h
+  pub base : base_of z h ≡ base_of y h
+  pub plain : v ≡ u
 
 loose_is : (s : DeviceStore) (h : Held) (q : ℕ) → (contents_at s h q).loose ≡ is_loose s q
 unfolding T.contents_at
@@ -295,7 +295,7 @@ module _ (h : Held) (u : List Track) (y : DeviceStore) (n : ℕ) (v w : List Tra
       (settled_off (From (suc n)) h v w a n (let k = still in omega arith) one_off (told_off (From (suc n)) a h bared_told) (λ le. absurd (omega arith)))
       (λ v' w' f. swept_on v' w' f))
 
-swept_pair : (h : Held) (u w : List Track) (y : DeviceStore) → Swept h u y 0 u w y → (n : ℕ) → n ≤ tracks_of y →
+pub swept_pair : (h : Held) (u w : List Track) (y : DeviceStore) → Swept h u y 0 u w y → (n : ℕ) → n ≤ tracks_of y →
     Pair (Swept h u y n) (over n (λ t z. settled contents (without_frame z t) t) y)
     (over n (λ t z. settled by_plain (without_frame z t) t) (marks_of u w y))
 unfolding L.over
@@ -308,7 +308,7 @@ swept_pair h u w y x (suc n) le =
 
 -- The loss begins: data of cache fast write go
 
-abbrev begun_with : {F P H : Type 0} → Bool → Store F P H → Store F P H
+abbrev pub begun_with : {F P H : Type 0} → Bool → Store F P H → Store F P H
 begun_with b s = record (if b then acted (gone_back s) CfwLost else s) { queue = [] }
 
 module _ (v w : List Track) (s : DeviceStore) (h : Held) (sure : RightBut None v w s h) (told : AllTold s h) where
@@ -328,7 +328,7 @@ module _ (v w : List Track) (s : DeviceStore) (h : Held) (sure : RightBut None v
       bare_right s.geometry q s.half (contents_at s h q) (image_in s v q) (image_in s w q)
       (λ own. same_there q lt (half_firm q (is_loose s q) refl own)) (sure.right q lt (λ e. absurd (cc)))
 
-  begins : (any : Bool) → has_loose s ≡ any → Swept h (if any then w else v) (begun_with any s) 0 (if any then w else v) w (begun_with any s)
+  pub begins : (any : Bool) → has_loose s ≡ any → Swept h (if any then w else v) (begun_with any s) 0 (if any then w else v) w (begun_with any s)
   unfolding T.contents_at C.base_of
   begins true some = record {
     off = record {

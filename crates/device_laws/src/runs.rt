@@ -15,7 +15,7 @@ ghost use Rattle.device_defs.specs.declared.answers.SecondEnd.{SecondEnd};
 ghost use Rattle.device_defs.specs.declared.answers.Stepped.{Stepped};
 ghost use Rattle.device_defs.specs.Command.{command};
 ghost use Rattle.device_defs.specs.Contents.{contents, by_plain};
-ghost use Rattle.device_defs.specs.Cutting.{reset};
+ghost use Rattle.device_defs.specs.Cutting.{reset, power};
 ghost use Rattle.device_defs.specs.Events.{second, background, lose};
 ghost use Rattle.device_defs.specs.Start.{start_fault, start};
 ghost use Rattle.device_defs.specs.Orders.{join, split, replace};
@@ -75,6 +75,14 @@ pub fn reset_is_step<K: Keep<TrackImage>>()
         IsInOrder v w d.store h →
         Ran (λ ok. ok ≡ true) K.hears (reset contents d path) u e a z → TellsAll others u h t →
         IsStep (BehindReset v d.store.half) others (reset by_plain (marks_device v w d) path) t e a z }
+{}
+
+/// A loss of power.
+pub fn power_is_step<K: Keep<TrackImage>>()
+    ensures { (v w : List Track) (d : WholeDevice) (h : Held) (others : List ℕ) (t : Told) (u z : Outside (List ℕ) K) (e : WholeDevice) (a : Unit {0}) →
+        IsInOrder v w d.store h →
+        Ran (λ ok. ok ≡ true) K.hears (power contents d) u e a z → TellsAll others u h t →
+        IsStep (λ v2. Unit {0}) others (power by_plain (marks_device v w d)) t e a z }
 {}
 
 /// Orders that give a side another volume, as many tracks long as the device, or take side B away.
