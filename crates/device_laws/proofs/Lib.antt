@@ -86,9 +86,13 @@ pub mod QuietParts
 pub mod ReadMoves
 pub mod BackMoves
 pub mod PlainTurns
+pub mod PlainRules
 pub mod PlainCommand
 pub mod PlainEvents
 pub mod PlainLosses
+pub mod PlainCuts
 pub mod PlainPower
+pub mod PlainSeconds
+pub mod PlainOrders
 pub mod TouchedTracks
 pub mod WholePower
