@@ -96,3 +96,14 @@ pub mod PlainSeconds
 pub mod PlainOrders
 pub mod TouchedTracks
 pub mod WholePower
+pub mod Based
+pub mod BasedParts
+pub mod BasedEvents
+pub mod KeptHistories
+pub mod KeptEvents
+pub mod RanBased
+pub mod CleanParts
+pub mod KeepLaws
+pub mod Lucky
+pub mod Unlost
+pub mod UnlostParts

@@ -2,6 +2,7 @@
 #![tactic(auto)]
 
 mod contents;
+mod keeping;
 mod placeless;
 mod runs;
 mod transfers;
@@ -12,6 +13,7 @@ pub use contents::{
     lost_side_leaves_order, lost_store_leaves_order, new_device_is_in_order, notices_leave_order,
     order_is_on_device, second_part_is_plain, work_is_plain, write_is_plain,
 };
+pub use keeping::{pool_is_told_waiting, told_device_has_no_bad_bytes, turn_keeps_pledge};
 pub use placeless::{
     new_device_has_nothing, placeless_background_is_step, placeless_command_is_step,
     placeless_loss_is_step, placeless_power_is_step, placeless_reset_is_step,
