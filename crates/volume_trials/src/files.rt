@@ -4,7 +4,7 @@ use std::alloc::Global;
 use std::process::Abort;
 use std::test::Fail;
 use track_image::TrackImage;
-use volume_file::{FileVolume, load, save};
+use volume_file::{FileVolume, LoadFault, load, save};
 
 /// The file of an empty 3390 of one cylinder, built by hand.
 fn empty_file(alloc: Global) -> Result<Vec<u8>, Fail> {
@@ -32,6 +32,16 @@ fn expect_loaded(rt: &impl Abort, alloc: Global, volume: &FileVolume) -> Result<
     save(&loaded, &mut again).or(Err("sink"))?;
     assert_eq!(rt; again.bytes(), saved.bytes());
     Ok(())
+}
+
+fn numbers_of(fault: LoadFault) -> (u8, u16, u32) {
+    match fault {
+        LoadFault::BadHead { offset } => (1, 0, offset),
+        LoadFault::BadTrack { track, offset } => (2, track.get(), offset),
+        LoadFault::Trailing { offset } => (3, 0, offset),
+        LoadFault::ReadFault => (4, 0, 0),
+        LoadFault::NoMemory => (5, 0, 0),
+    }
 }
 
 #[test]
@@ -65,4 +75,27 @@ fn a_file_of_64_cylinders(rt: HostRuntime) -> Result<(), Fail> {
     assert_eq!(rt; last.get(), 959);
     volume.set(last, image);
     expect_loaded(&rt, alloc, &volume)
+}
+
+/// How long a file is, and what is told of it: a kind (1 a bad head, 2 a bad track, 3 trailing bytes), the track and the
+/// offset.
+#[test]
+fn a_cut_file_is_told_at_the_field_that_is_cut(rt: HostRuntime) -> Result<(), Fail> {
+    let alloc = rt.alloc();
+    let mut file = empty_file(alloc)?;
+    file.push(0)?;
+    for (len, kind, track, offset) in [
+        (7, 1, 0, 0),
+        (9, 1, 0, 9),
+        (15, 2, 0, 12),
+        (44, 2, 0, 37),
+        (100, 2, 2, 95),
+        (508, 3, 0, 507),
+    ] {
+        let text = file.get(..len).ok_or("short")?;
+        let mut source = MemSource::new(alloc, text, 1000, &[])?;
+        let fault = load(alloc, &mut source).err().map(numbers_of);
+        assert_eq!(rt; fault, Some((kind, track, offset)), "of {len} bytes");
+    }
+    Ok(())
 }
