@@ -3,7 +3,7 @@ use Rattle.std.proofs.lemmas.Bool.Decides.{nat_tests}
 use Rattle.std.proofs.lemmas.Iterator.Consumers.{nth_from_yields_List}
 use Rattle.std.proofs.lemmas.Iterator.Splits.{YieldsList-from_slice_split}
 use Rattle.report_reading.specs.Places.{cut_words}
-use Rattle.report_reading.proofs.places.nth_word.Goals as goal
+use Rattle.report_reading.proofs.line_words.nth_word.Goals as goal
 
 pub returns : goal.returns
 unfolding cut_words
