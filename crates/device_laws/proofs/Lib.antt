@@ -92,3 +92,4 @@ pub mod PlainLosses
 pub mod PlainPower
 pub mod TouchedTracks
 pub mod WholePower
+pub mod Lent

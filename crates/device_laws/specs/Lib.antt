@@ -7,3 +7,4 @@ pub mod NewDevice
 pub mod Standing
 pub mod Whole
 pub mod Places
+pub mod Lent
