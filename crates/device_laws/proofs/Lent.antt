@@ -390,7 +390,7 @@ module _ {A : Type 0} where
       (ended_lent before v w d.store h x.lent.store)
       (λ v' w' z _ _ k f. whole_done v' w' (record d { store = z }) (record { lent = record { store = f; idle = x.lent.idle }; same = x.same }))
 
-  quiet_lent : (v w : List Track) (d : WholeDevice) (h : Held) (f : WholeDevice → Interaction (List ℕ) Image WholeDevice A)
+  pub quiet_lent : (v w : List Track) (d : WholeDevice) (h : Held) (f : WholeDevice → Interaction (List ℕ) Image WholeDevice A)
       (g : MarksDevice → Interaction Bool Image MarksDevice A) → WholeTwins LeavesLent (f (event_begun d)) (g (event_begun (marks_device v w d))) h →
       WholeTwins LeavesLent (quiet_event contents d f) (quiet_event by_plain (marks_device v w d) g) h
   quiet_lent v w d h f g x =

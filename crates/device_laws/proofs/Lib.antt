@@ -93,3 +93,4 @@ pub mod PlainPower
 pub mod TouchedTracks
 pub mod WholePower
 pub mod Lent
+pub mod Lending
