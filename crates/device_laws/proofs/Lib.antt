@@ -107,3 +107,5 @@ pub mod KeepLaws
 pub mod Lucky
 pub mod Unlost
 pub mod UnlostParts
+pub mod Lent
+pub mod Lending

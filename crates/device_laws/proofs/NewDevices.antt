@@ -180,6 +180,7 @@ module _ (d : ℕ) (g : Geometry) (n : ℕ) where
       told = λ t. ap (λ (o : Owed). o.firm) (none_owed t);
       free = refl;
       alone = λ e. refl;
+      whole = λ e. refl;
       marks = λ t lt. sound t;
       nowhere = λ t lt lost. absurd (let f = not_lost t in cc);
       queued = tt;

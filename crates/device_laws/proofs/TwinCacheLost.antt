@@ -173,7 +173,7 @@ module _ (s : DeviceStore) (h : Held) (t : ℕ) (lt : t < tracks_of s) (sizes : 
         here = k.here ∙ ap (λ (c : TrackContents). record c { freed = (owed_at s t).freed; debt = (owed_at s t).firm }) g.here;
       })
 
-  bared : Altered s h (without_frame s t) h t (bare (contents_at s h t))
+  pub bared : Altered s h (without_frame s t) h t (bare (contents_at s h t))
   bared = bared_by (frame_at s t) refl
 
 module _ (v w : List Track) (s : DeviceStore) (t : ℕ) where
@@ -187,7 +187,7 @@ module _ (v w : List Track) (s : DeviceStore) (t : ℕ) where
       ∙ ap (λ (u : Owed). with_owed (with_frame (marks_of v w s) t None) t (record u { dropped = true })) (sym (owed_twin v w s t))
   bared_marks false = refl
 
-  bared_twin : marks_of v w (without_frame s t) ≡ without_frame (marks_of v w s) t
+  pub bared_twin : marks_of v w (without_frame s t) ≡ without_frame (marks_of v w s) t
   bared_twin =
       bared_marks (is_some (frame_at s t))
       ∙ ap (λ (b : Bool). if b then with_owed (with_frame (marks_of v w s) t None) t (record (owed_at (marks_of v w s) t) { dropped = true })

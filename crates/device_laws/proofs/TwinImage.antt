@@ -106,7 +106,7 @@ counted_order v w s h ok i = record {
   told = i.told;
   well = record {
     sizes = record { are = i.well.sizes.are };
-    here = record { free = i.well.here.free; alone = i.well.here.alone; within = i.well.here.within; queued = i.well.here.queued };
+    here = record { free = i.well.here.free; alone = i.well.here.alone; whole = i.well.here.whole; within = i.well.here.within; queued = i.well.here.queued };
     good = i.well.good;
     kept = i.well.kept;
   };

@@ -37,7 +37,7 @@ use Rattle.device_laws.proofs.LossEvents.{losing_goes}
 use Rattle.device_laws.proofs.Notices.{hearing_keeps_good, ending_changes_no_mark}
 use Rattle.device_laws.proofs.SecondPart.{second_part_keeps_good}
 use Rattle.device_laws.proofs.Soundness.{good_is_sound, good_is_nowhere, sound_is_good}
-use Rattle.device_laws.proofs.Sweeps.{is_free, is_alone, half_within, all_queued}
+use Rattle.device_laws.proofs.Sweeps.{is_free, is_alone, is_whole, half_within, all_queued}
 use Rattle.device_laws.proofs.Through.{write_keeps_good}
 use Rattle.device_laws.proofs.TrackContents as T
 use Rattle.device_laws.proofs.TrackContents.{contents_at, Writes, HeldBy, held_of, writes_own}
@@ -69,7 +69,7 @@ module _ (v w : List Track) (s : DeviceStore) (h : Held) where
   unfolding M.track_at C.rest_of
   well i = record {
     sizes = i.agrees.ground.sizes;
-    here = record { free = i.free; alone = i.alone; within = i.within; queued = i.queued };
+    here = record { free = i.free; alone = i.alone; whole = i.whole; within = i.within; queued = i.queued };
     good = λ q lt. sound_is_good contents s q (i.marks q lt) (i.nowhere q lt);
     kept = λ q lt e. kept_by s q s.half i.there e;
   }
@@ -119,6 +119,7 @@ module _ (v w : List Track) (s : DeviceStore) (h : Held) where
     told = o.told;
     free = is_free s w'.here;
     alone = is_alone s w'.here;
+    whole = is_whole s w'.here;
     marks = λ t lt. good_is_sound contents s t (w'.good t lt);
     nowhere = λ t lt lost. good_is_nowhere contents s t (w'.good t lt) lost;
     within = half_within s w'.here;
@@ -236,7 +237,7 @@ module _ (v w : List Track) (s : DeviceStore) (h : Held) (b : Bool) where
   unfolding M.track_at C.rest_of
   held_well y = record {
     sizes = record { are = y.sizes.are };
-    here = record { free = y.here.free; alone = y.here.alone; within = y.here.within; queued = y.here.queued };
+    here = record { free = y.here.free; alone = y.here.alone; whole = y.here.whole; within = y.here.within; queued = y.here.queued };
     good = y.good;
     kept = y.kept;
   }

@@ -94,7 +94,7 @@ patched_has (Some q) i f = f q refl
 
 -- Its acts and its queue aren't among what its tracks keep
 
-acts_swept : (h : Held) (u w : List Track) (y : DeviceStore) (acts : List Act) (queue : List ℕ) → Swept h u y 0 u w y →
+pub acts_swept : (h : Held) (u w : List Track) (y : DeviceStore) (acts : List Act) (queue : List ℕ) → Swept h u y 0 u w y →
     Swept h u (record y { acts = acts; queue = queue }) 0 u w (record y { acts = acts; queue = queue })
 unfolding T.contents_at C.base_of
 acts_swept h u w y acts queue x = record {

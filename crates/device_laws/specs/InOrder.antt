@@ -29,6 +29,7 @@ pub record IsInOrder (v w : List Track) (s : DeviceStore) (h : Held) : Type 0 wh
   pub told : (t : ℕ) → (owed_at s t).firm ≡ false
   pub free : is_some s.lent ≡ false
   pub alone : s.paired ≡ false → s.b.up ≡ false
+  pub whole : s.paired ≡ false → s.half ≡ None
   pub marks : (t : ℕ) → t < tracks_of s → has_sound_marks contents s t ≡ true
   pub queued : AreBelow (tracks_of s) s.queue
   pub nowhere : (t : ℕ) → t < tracks_of s → is_lost s t ≡ true → has_level s t ≡ false

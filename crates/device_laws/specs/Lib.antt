@@ -8,3 +8,4 @@ pub mod Standing
 pub mod Whole
 pub mod Places
 pub mod Handed
+pub mod Lent

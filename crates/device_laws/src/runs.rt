@@ -93,7 +93,7 @@ pub fn orders_leave_order()
     ensures joined { (v w : List Track) (d : WholeDevice) (h : Held) (l : List (List ℕ)) → IsInOrder v w d.store h → d.store.paired ≡ false →
         length l ≡ tracks_of d.store →
         IsInOrder v w (join d).store (holding h B l) × (marks_device v w (join d) ≡ join (marks_device v w d)) }
-    ensures split { (v w : List Track) (d : WholeDevice) (h : Held) → IsInOrder v w d.store h → d.store.a.up ≡ true →
+    ensures split { (v w : List Track) (d : WholeDevice) (h : Held) → IsInOrder v w d.store h → d.store.half ≡ None → d.store.a.up ≡ true →
         ((q : ℕ) → q < tracks_of d.store → stale_at d.store.a q ≡ false) →
         IsInOrder v w (split d).store h × (marks_device v w (split d) ≡ split (marks_device v w d)) }
 {}

@@ -12,7 +12,7 @@ use Rattle.device_outside.specs.Told.{Calls, Outcome}
 use Rattle.device_outside.specs.Volume.{VolumeView}
 use Rattle.device_defs.specs.Marks.{MarksDevice}
 use Rattle.device_laws.specs.Agrees.{Held}
-use Rattle.device_laws.specs.InOrder.{IsInOrder}
+use Rattle.device_laws.specs.Lent.{Stands}
 use Rattle.device_laws.specs.Whole.{WholeDevice, marks_device}
 use Rattle.subsystem_defs.specs.declared.end.EventEnd.{EventEnd}
 use Rattle.subsystem_defs.specs.declared.end.EventEnd.TheVariants as ends
@@ -56,7 +56,7 @@ pub record Seat (p : Pool) (xs : List Stood) (ms : List Mounted) (n : ℕ) : Typ
   pub on_b : Option (VolumeView (List ℕ))
   pub a : Calls
   pub b : Calls
-  pub order : IsInOrder plain firm device.store held
+  pub stands : Stands plain firm device held
   pub slots : held.slots ≡ Some mine
   pub shared : AreShared p.used mine others
   pub told_a : SideTold on_a held.a a
@@ -72,7 +72,7 @@ abbrev pub seat_of : (p : Pool) (xs : List Stood) (ms : List Mounted) (n : ℕ) 
     mounted_in ms n ≡ Some m → IsMounted mine x m → AreShared p.used mine others → HasChain x.device → x.device.store.device ≡ n →
     ((now own : List ℕ) (y : Stood) (k : Mounted) → IsMounted own y k → AreShared now own others → AreMountedBy now [] (put_at xs n y) (put_in ms n k)) →
     Seat p xs ms n
-seat_of p xs ms n x m mine others s t (is_mounted d v w h on_a on_b a b order slots told_a told_b) shared chains number put = record {
+seat_of p xs ms n x m mine others s t (is_mounted d v w h on_a on_b a b stands slots told_a told_b) shared chains number put = record {
   device = d;
   plain = v;
   firm = w;
@@ -83,7 +83,7 @@ seat_of p xs ms n x m mine others s t (is_mounted d v w h on_a on_b a b order sl
   on_b = on_b;
   a = a;
   b = b;
-  order = order;
+  stands = stands;
   slots = slots;
   shared = shared;
   told_a = told_a;
@@ -139,7 +139,7 @@ module _ {K : Type 0} (hears : Hearing Image K) (p q : Pool) (xs ys : List Stood
     asked_at talk other twins k is f =
         let same : f.before ≡ here = some_is f.before here (sym f.stood ∙ ap (stood_in xs) is ∙ x.stood) in
         let o = held_with (counted_slots p) there other in
-        let so = held_so hears p q x.device x.plain x.firm x.held x.mine x.others x.on_a x.on_b x.a x.b x.order x.slots x.shared x.told_a x.told_b talk other
+        let so = held_so hears p q x.device x.plain x.firm x.held x.mine x.others x.on_a x.on_b x.a x.b x.slots x.shared x.told_a x.told_b talk other
         (Some e) f.behind twins (subst (λ (u : Stood). Asked hears talk (Some e) p u f.behind q) same f.is_so) in
         subst (λ (m : Option Mounted). IsWhatCame (asks s k m other) e q ys) (sym (ap (mounted_in ms) is ∙ x.mounted))
         (record {
@@ -154,9 +154,9 @@ module _ {K : Type 0} (hears : Hearing Image K) (p q : Pool) (xs ys : List Stood
         Leads (Asks x.device talk) (Asks (marks_device x.plain x.firm x.device) other)
     asks_so talk other twins = record { leads = λ c. asked_at talk other twins x.device.store.device x.number c }
 
-    became_at : (d : WholeDevice) → IsInOrder x.plain x.firm d.store x.held → (k : ℕ) → k ≡ n → q ≡ p → Changes k (IsNow d) xs ys →
+    became_at : (d : WholeDevice) → Stands x.plain x.firm d x.held → (k : ℕ) → k ≡ n → q ≡ p → Changes k (IsNow d) xs ys →
         AreMounted q ys (becomes s k (mounted_in ms k) (marks_device x.plain x.firm d)).mounted
-    became_at d order k is pool f =
+    became_at d now k is pool f =
         let same : f.before ≡ here = some_is f.before here (sym f.stood ∙ ap (stood_in xs) is ∙ x.stood) in
         let z : Stood = record { device = d; a = x.on_a; b = x.on_b } in
         let m : Mounted = record { device = marks_device x.plain x.firm d; a = x.a; b = x.b } in
@@ -165,7 +165,7 @@ module _ {K : Type 0} (hears : Hearing Image K) (p q : Pool) (xs ys : List Stood
         ∙ ap (λ (u : Option (VolumeView (List ℕ))). record { device = f.behind.device; a = u; b = x.on_b }) (sym (f.is_so.a ∙ ap (λ (u : Stood). u.a) same))
         ∙ ap (λ (u : Option (VolumeView (List ℕ))). record { device = f.behind.device; a = f.behind.a; b = u }) (sym (f.is_so.b ∙ ap (λ (u : Stood). u.b) same)) in
         let is_so : IsMounted x.mine f.behind m =
-        subst (λ (u : Stood). IsMounted x.mine u m) stands (is_mounted d x.plain x.firm x.held x.on_a x.on_b x.a x.b order x.slots x.told_a x.told_b) in
+        subst (λ (u : Stood). IsMounted x.mine u m) stands (is_mounted d x.plain x.firm x.held x.on_a x.on_b x.a x.b now x.slots x.told_a x.told_b) in
         subst (λ (r : Pool). AreMounted r ys (becomes s k (mounted_in ms k) (marks_device x.plain x.firm d)).mounted) (sym pool)
         (subst (λ (o : Option Mounted). AreMounted p ys (becomes s k o (marks_device x.plain x.firm d)).mounted) (sym (ap (mounted_in ms) is ∙ x.mounted))
         (subst (λ (l : List Stood). AreMounted p l (put_in ms k m)) (sym f.stands)
@@ -175,13 +175,13 @@ module _ {K : Type 0} (hears : Hearing Image K) (p q : Pool) (xs ys : List Stood
     becomes_pool k (Some m) d = refl
     becomes_pool k None d = refl
 
-    pub becomes_so : (d : WholeDevice) (end : EventEnd) → IsInOrder x.plain x.firm d.store x.held → d.store.device ≡ n →
+    pub becomes_so : (d : WholeDevice) (end : EventEnd) → Stands x.plain x.firm d x.held → d.store.device ≡ n →
         Leads (Becomes d end) (Becomes (marks_device x.plain x.firm d) end)
-    becomes_so d end order is = record {
+    becomes_so d end now is = record {
       leads = λ c. record {
         ended = sym c.0;
         left = becomes_pool d.store.device (mounted_in ms d.store.device) (marks_device x.plain x.firm d) ∙ ap counted_slots (sym c.1);
-        mounted = became_at d order d.store.device is c.1 c.2;
+        mounted = became_at d now d.store.device is c.1 c.2;
       };
     }
 
@@ -216,7 +216,7 @@ pub record AreSwept (q : Pool) (taken : List ℕ) (ys : List Stood) (o : RunSwep
   pub mounted : AreMountedBy q.used taken ys o.mounted
 
 module _ {K : Type 0} (hears : Hearing Image K) (f : WholeDevice → OwnTalk (Unit {0})) (g : MarksDevice → Talk (Unit {0}))
-    (twins : (v w : List Track) (d : WholeDevice) (h : Held) → IsInOrder v w d.store h → AreTwins h (f d) (g (marks_device v w d))) where
+    (twins : (v w : List Track) (d : WholeDevice) (h : Held) → Stands v w d h → AreTwins h (f d) (g (marks_device v w d))) where
   swept_one : (q : Pool) (taken mine : List ℕ) (y : Stood) (ys : List Stood) (ms : List Mounted) (r : Pool) (o : Outcome MarksDevice (Unit {0})) →
       o.told.pool ≡ counted_slots r → IsMounted mine y (mounted_behind o) →
       ((k : ℕ) → is_in k mine ≡ true → is_in k taken ≡ false) →
@@ -237,7 +237,7 @@ module _ {K : Type 0} (hears : Hearing Image K) (f : WholeDevice → OwnTalk (Un
   swept_so p q taken (x ∷ xs) (y ∷ ys) (m ∷ ms) (one_more mine (is_mounted d v w h on_a on_b a b order slots told_a told_b) apart rest)
       (one_swept {behind = r} asked more) =
       let others = slots_of rest ++ taken in
-      let so = held_so hears p r d v w h mine others on_a on_b a b order slots (first_shared taken mine apart rest) told_a told_b (f d) (g (marks_device v w d)) tt y
+      let so = held_so hears p r d v w h mine others on_a on_b a b slots (first_shared taken mine apart rest) told_a told_b (f d) (g (marks_device v w d)) tt y
       (twins v w d h order) asked in
       swept_one q taken so.mine y ys ms r (held_with (counted_slots p) (record { device = marks_device v w d; a = a; b = b }) (g (marks_device v w d)))
       so.left so.mounted (still_apart taken mine apart rest r.used so.mine so.shared)

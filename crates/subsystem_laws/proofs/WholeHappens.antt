@@ -17,14 +17,18 @@ use Rattle.device_defs.specs.Marks.{MarksDevice, half_mark}
 use Rattle.device_defs.specs.Orders.{hold, resume}
 use Rattle.device_defs.specs.Start as S
 use Rattle.device_defs.specs.Start.{start_fault, start, next_ordinal}
-use Rattle.device_defs.specs.Store.{HalfWrite}
+use Rattle.device_defs.specs.Store.{HalfWrite, side_of}
+use Rattle.device_laws.specs.Agrees.{Held as Holds}
+use Rattle.device_laws.specs.InOrder.{IsInOrder}
+use Rattle.device_laws.specs.Lent.{IsLent, Stands, in_order, is_away}
 use Rattle.device_laws.specs.Whole.{WholeDevice, marks_device}
+use Rattle.device_laws.proofs.Lent.{IsShared}
 use Rattle.device_laws.proofs.TwinLaws.{held_side_leaves_order}
 use Rattle.device_laws.proofs.WholeParts.{start_same, start_order}
 use Rattle.subsystem_defs.specs.declared.end.EventEnd.{EventEnd}
 use Rattle.subsystem_defs.specs.declared.end.EventEnd.TheVariants as ends
 use Rattle.subsystem_defs.specs.declared.end.OrderFault.{OrderFault}
-use Rattle.subsystem_defs.specs.declared.end.OrderFault.TheVariants.{Unpaired, Down, Up, Half, Held}
+use Rattle.subsystem_defs.specs.declared.end.OrderFault.TheVariants.{Unpaired, NoSide, Down, Up, Half, Held, NotHeld}
 use Rattle.subsystem_defs.specs.declared.event.Event.{Event}
 use Rattle.subsystem_defs.specs.declared.event.Event.TheVariants as events
 use Rattle.subsystem_defs.specs.Deeds as D
@@ -59,7 +63,16 @@ use Rattle.subsystem_laws.specs.Comes.{OwnDeed, subsystem_of, behind_all, ends_o
 use Rattle.subsystem_laws.specs.WholeComes.{Comes, Runs, no_event, next_event, IsWhatCame, AreWhatCame}
 use Rattle.subsystem_laws.specs.WholeStood.{Stood, devices_at, AreMounted, HaveChains}
 use Rattle.subsystem_laws.proofs.WholeDeeds.{Seat, Leads, leads_if, ends_so, repairs_so, asks_so, becomes_so, by_device, each_so}
-use Rattle.subsystem_laws.proofs.WholeTalks.{twins_then, command_twins, second_twins, background_twins, loss_twins, reset_twins, power_twins}
+use Rattle.subsystem_laws.proofs.WholeTalks.{
+  twins_then,
+  command_twins,
+  second_twins,
+  background_twins,
+  loss_twins,
+  shared_loss_twins,
+  reset_twins,
+  power_twins,
+}
 
 -- Faults are known of both
 
@@ -70,6 +83,48 @@ some_marked (Some hw) = refl
 not_open : (o : Option (HalfWrite Image)) → is_some o ≡ false → o ≡ None
 not_open None e = refl
 not_open (Some hw) e = absurd (cc)
+
+not_none : {X : Type 0} (o : Option X) → o ≡ None → is_some o ≡ true → ⊥
+not_none o e f = cc
+
+-- one that can't be lent is in order
+unless_away : {v w : List Track} {d : WholeDevice} {h : Holds} → Stands v w d h → (IsLent v w d h → ⊥) → IsInOrder v w d.store h
+unless_away (in_order i) f = i
+unless_away (is_away i) f = absurd (f i)
+
+-- a device that is lent starts nothing, and its sides and its pair are refused
+
+module _ (d : WholeDevice) where
+  by_lent : (path : ℕ) (o : Option ℕ) → is_some o ≡ true → S.fault_by d path o ≡ None → ⊥
+  by_lent path (Some to) e f = absurd (cc)
+  by_lent path None e f = absurd (cc)
+
+  start_away : (path : ℕ) → is_some d.store.lent ≡ true → start_fault d path ≡ None → ⊥
+  unfolding S.start_fault
+  start_away path lent e = by_lent path d.store.lent lent e
+
+  cause_lent : (o : Option ℕ) (more : List (Option OrderFault)) → is_some o ≡ true → R.first_cause (R.lent_by o ∷ more) ≡ None → ⊥
+  cause_lent (Some to) more e f = absurd (cc)
+  cause_lent None more e f = absurd (cc)
+
+  fail_away : (side : Side) → is_some d.store.lent ≡ true → fail_fault d side ≡ None → ⊥
+  unfolding R.fail_fault
+  fail_away side lent e =
+      cause_lent d.store.lent (R.where_so (not (R.has_side d.store side)) NoSide ∷ R.where_so (not (side_of d.store side).up) Down ∷ []) lent e
+
+  cause_single : (b : Bool) (more : List (Option OrderFault)) → b ≡ false → R.first_cause (R.where_so (not b) Unpaired ∷ more) ≡ None → ⊥
+  cause_single true more e f = absurd (cc)
+  cause_single false more e f = absurd (cc)
+
+  suspend_away : d.store.paired ≡ false → suspend_fault d ≡ None → ⊥
+  unfolding R.suspend_fault
+  suspend_away single e =
+      cause_single d.store.paired (R.where_so (is_some d.store.half) Half ∷ R.where_so (not (d.store.a.up && d.store.b.up)) Down
+      ∷ R.where_so d.store.held Held ∷ []) single e
+
+  resume_away : d.store.paired ≡ false → resume_fault d ≡ None → ⊥
+  unfolding R.resume_fault
+  resume_away single e = cause_single d.store.paired (R.where_so (not d.store.held) NotHeld ∷ []) single e
 
 module _ (v w : List Track) (d : WholeDevice) where
   start_fault_both : (path : ℕ) → start_fault (marks_device v w d) path ≡ start_fault d path
@@ -131,57 +186,58 @@ module _ {K : Type 0} (hears : Hearing Image K) (p q : Pool) (xs ys : List Stood
     unfolding S.start
     same_place path = x.number
 
-    start_so : (path : ℕ) (o : Option StartFault) → Lead (start_by d path o) (start_by m path o)
-    start_so path (Some f) = ends_so hears p q xs ys ms e all (ends.NotStarted f)
-    start_so path None =
+    start_so : (path : ℕ) (o : Option StartFault) → (o ≡ None → IsInOrder x.plain x.firm d.store x.held) → Lead (start_by d path o) (start_by m path o)
+    start_so path (Some f) i = ends_so hears p q xs ys ms e all (ends.NotStarted f)
+    start_so path None i =
         subst (λ (y : MarksDevice). Lead (Becomes (start d path) (ends.Started (next_ordinal d path))) (Becomes y (ends.Started (next_ordinal d path))))
         (start_same x.plain x.firm d path)
-        (becomes_so hears p q xs ys ms e all n x (start d path) (ends.Started (next_ordinal d path)) (start_order x.plain x.firm d x.held path x.order)
+        (becomes_so hears p q xs ys ms e all n x (start d path) (ends.Started (next_ordinal d path)) (in_order (start_order x.plain x.firm d x.held path (i refl)))
         (same_place path))
 
     starts_so : (path : ℕ) → Lead (starts path d) (starts path m)
     starts_so path =
         leads_if hears p q xs ys ms e all (is_own path d.history.running) (λ _. ends_so hears p q xs ys ms e all ends.Running)
         (λ _. subst (λ (o : Option StartFault). Lead (start_by d path (start_fault d path)) (start_by m path o))
-        (sym (start_fault_both x.plain x.firm d path)) (start_so path (start_fault d path)))
+        (sym (start_fault_both x.plain x.firm d path)) (start_so path (start_fault d path) (λ e. unless_away x.stands (λ i. start_away d path i.store.lent e))))
 
-    seconds_so : Lead (seconds contents d) (seconds by_plain m)
-    seconds_so =
+    seconds_so : is_some d.store.half ≡ true → Lead (seconds contents d) (seconds by_plain m)
+    seconds_so some =
         asks_so hears p q xs ys ms e all n x (ends_by ends.Second (second contents d)) (ends_by ends.Second (second by_plain m))
-        (twins_then (λ a. Some (ends.Second a)) x.held (second contents d) (second by_plain m) (second_twins x.plain x.firm d x.held x.order))
+        (twins_then (λ a. Some (ends.Second a)) x.held (second contents d) (second by_plain m) (second_twins x.plain x.firm d x.held
+        (unless_away x.stands (λ i. not_none d.store.half i.store.half some))))
 
-    commands_so : is_some d.store.half ≡ false →
+    commands_so : is_some d.store.half ≡ false → is_some d.history.running ≡ true →
         Lead (Asks d (may_end_by ends.Stepped (command contents d))) (Asks m (may_end_by ends.Stepped (command by_plain m)))
-    commands_so none =
+    commands_so none runs =
         asks_so hears p q xs ys ms e all n x (may_end_by ends.Stepped (command contents d)) (may_end_by ends.Stepped (command by_plain m))
         (twins_then (end_of ends.Stepped) x.held (command contents d) (command by_plain m)
-        (command_twins x.plain x.firm d x.held x.order x.chains (not_open d.store.half none)))
+        (command_twins x.plain x.firm d x.held (unless_away x.stands (λ i. not_none d.history.running i.idle runs)) x.chains (not_open d.store.half none)))
 
     steps_so : Lead (step contents d) (step by_plain m)
     steps_so =
         subst (λ (b : Bool). Lead (step contents d)
         (if b then seconds by_plain m
         else if is_some d.history.running then Asks m (may_end_by ends.Stepped (command by_plain m)) else Ends ends.Idle)) (sym (some_marked d.store.half))
-        (leads_if hears p q xs ys ms e all (is_some d.store.half) (λ _. seconds_so)
-        (λ none. leads_if hears p q xs ys ms e all (is_some d.history.running) (λ _. commands_so none) (λ _. ends_so hears p q xs ys ms e all ends.Idle)))
+        (leads_if hears p q xs ys ms e all (is_some d.store.half) (λ some. seconds_so some)
+        (λ none. leads_if hears p q xs ys ms e all (is_some d.history.running) (λ runs. commands_so none runs) (λ _. ends_so hears p q xs ys ms e all ends.Idle)))
 
     works_so : is_some d.store.half ≡ false →
         Lead (Asks d (may_end_by ends.Back (background contents d))) (Asks m (may_end_by ends.Back (background by_plain m)))
     works_so none =
         asks_so hears p q xs ys ms e all n x (may_end_by ends.Back (background contents d)) (may_end_by ends.Back (background by_plain m))
         (twins_then (end_of ends.Back) x.held (background contents d) (background by_plain m)
-        (background_twins x.plain x.firm d x.held x.order (not_open d.store.half none)))
+        (background_twins x.plain x.firm d x.held x.stands (not_open d.store.half none)))
 
     backs_so : Lead (back contents d) (back by_plain m)
     backs_so =
         subst (λ (b : Bool). Lead (back contents d) (if b then seconds by_plain m else Asks m (may_end_by ends.Back (background by_plain m))))
         (sym (some_marked d.store.half))
-        (leads_if hears p q xs ys ms e all (is_some d.store.half) (λ _. seconds_so) (λ none. works_so none))
+        (leads_if hears p q xs ys ms e all (is_some d.store.half) (λ some. seconds_so some) (λ none. works_so none))
 
     resets_so : (path : ℕ) → Lead (Asks d (ends_by ends_done (reset contents d path))) (Asks m (ends_by ends_done (reset by_plain m path)))
     resets_so path =
         asks_so hears p q xs ys ms e all n x (ends_by ends_done (reset contents d path)) (ends_by ends_done (reset by_plain m path))
-        (twins_then (λ u. Some (ends_done u)) x.held (reset contents d path) (reset by_plain m path) (reset_twins x.plain x.firm d x.held x.order path))
+        (twins_then (λ u. Some (ends_done u)) x.held (reset contents d path) (reset by_plain m path) (reset_twins x.plain x.firm d x.held path x.stands))
 
     fails_so : (side : Side) → Lead
         (order (fail_fault d side) (Asks d (ends_by ends_done (lose contents d (losses.Side side)))))
@@ -191,24 +247,26 @@ module _ {K : Type 0} (hears : Hearing Image K) (p q : Pool) (xs ys : List Stood
         (order (fail_fault d side) (Asks d (ends_by ends_done (lose contents d (losses.Side side)))))
         (order o (Asks m (ends_by ends_done (lose by_plain m (losses.Side side)))))) (sym (fail_fault_both x.plain x.firm d side))
         (by_order (fail_fault d side)
-        (λ _. asks_so hears p q xs ys ms e all n x (ends_by ends_done (lose contents d (losses.Side side)))
+        (λ free. asks_so hears p q xs ys ms e all n x (ends_by ends_done (lose contents d (losses.Side side)))
         (ends_by ends_done (lose by_plain m (losses.Side side)))
         (twins_then (λ u. Some (ends_done u)) x.held (lose contents d (losses.Side side)) (lose by_plain m (losses.Side side))
-        (loss_twins x.plain x.firm d x.held x.order (losses.Side side)))))
+        (loss_twins x.plain x.firm d x.held (unless_away x.stands (λ i. fail_away d side i.store.lent free)) (losses.Side side)))))
 
     suspends_so : Lead (order (suspend_fault d) (Becomes (hold d) ends.Done)) (order (suspend_fault m) (Becomes (hold m) ends.Done))
     suspends_so =
         subst (λ (o : Option OrderFault). Lead (order (suspend_fault d) (Becomes (hold d) ends.Done)) (order o (Becomes (hold m) ends.Done)))
         (sym (suspend_fault_both x.plain x.firm d))
         (by_order (suspend_fault d)
-        (λ _. becomes_so hears p q xs ys ms e all n x (hold d) ends.Done (held_side_leaves_order x.plain x.firm d.store x.held true x.order) x.number))
+        (λ free. becomes_so hears p q xs ys ms e all n x (hold d) ends.Done
+        (in_order (held_side_leaves_order x.plain x.firm d.store x.held true (unless_away x.stands (λ i. suspend_away d i.store.single free)))) x.number))
 
     resumes_so : Lead (order (resume_fault d) (Becomes (resume d) ends.Done)) (order (resume_fault m) (Becomes (resume m) ends.Done))
     resumes_so =
         subst (λ (o : Option OrderFault). Lead (order (resume_fault d) (Becomes (resume d) ends.Done)) (order o (Becomes (resume m) ends.Done)))
         (sym (resume_fault_both x.plain x.firm d))
         (by_order (resume_fault d)
-        (λ _. becomes_so hears p q xs ys ms e all n x (resume d) ends.Done (held_side_leaves_order x.plain x.firm d.store x.held false x.order) x.number))
+        (λ free. becomes_so hears p q xs ys ms e all n x (resume d) ends.Done
+        (in_order (held_side_leaves_order x.plain x.firm d.store x.held false (unless_away x.stands (λ i. resume_away d i.store.single free)))) x.number))
 
   pairs_so : (a b : ℕ) (x : Seat p xs ms a) (y : Seat p xs ms b) → Lead (order (pair_fault x.device y.device) (Lends x.device y.device))
       (order (pair_fault (marks_device x.plain x.firm x.device) (marks_device y.plain y.firm y.device))
@@ -221,10 +279,10 @@ module _ {K : Type 0} (hears : Hearing Image K) (p q : Pool) (xs ys : List Stood
 
   -- Pools
 
-  each_lost : (r : Pool) → r.used ≡ p.used → (loss : _) → Lead (Each r (λ y. lose contents y loss)) (Each (counted_slots r) (λ y. lose by_plain y loss))
-  each_lost r same loss =
+  each_lost : (r : Pool) → r.used ≡ p.used → (loss : _) → IsShared loss → Lead (Each r (λ y. lose contents y loss)) (Each (counted_slots r) (λ y. lose by_plain y loss))
+  each_lost r same loss shared =
       record {
-        leads = each_so hears (λ y. lose contents y loss) (λ y. lose by_plain y loss) (λ v w d h order. loss_twins v w d h order loss) p r q xs ys ms e all same;
+        leads = each_so hears (λ y. lose contents y loss) (λ y. lose by_plain y loss) (λ v w d h i. shared_loss_twins v w d h loss shared i) p r q xs ys ms e all same;
       }
 
   repairs_to : (up : Bool) (r : Pool) → r.used ≡ p.used → Lead (repair up p r) (repair up (counted_slots p) (counted_slots r))
@@ -257,9 +315,9 @@ module _ {K : Type 0} (hears : Hearing Image K) (p q : Pool) (xs ys : List Stood
       by_device hears p q xs ys ms e all n (λ x. Asks x (ends_by ends_done (reset contents x path)))
       (λ x. Asks x (ends_by ends_done (reset by_plain x path))) chains (λ x. resets_so n x path)
   leads_by events.FailCache chains =
-      leads_if hears p q xs ys ms e all (not p.cache_up) (λ _. refused Down) (λ _. each_lost (cache_failed p) refl losses.Cache)
+      leads_if hears p q xs ys ms e all (not p.cache_up) (λ _. refused Down) (λ _. each_lost (cache_failed p) refl losses.Cache tt)
   leads_by events.FailStore chains =
-      leads_if hears p q xs ys ms e all (not p.store_up) (λ _. refused Down) (λ _. each_lost (store_failed p) refl losses.Store)
+      leads_if hears p q xs ys ms e all (not p.store_up) (λ _. refused Down) (λ _. each_lost (store_failed p) refl losses.Store tt)
   leads_by (events.FailVolume n side) chains =
       by_device hears p q xs ys ms e all n
       (λ x. order (fail_fault x side) (Asks x (ends_by ends_done (lose contents x (losses.Side side)))))
@@ -280,7 +338,7 @@ module _ {K : Type 0} (hears : Hearing Image K) (p q : Pool) (xs ys : List Stood
       (λ x. order (resume_fault x) (Becomes (resume x) ends.Done)) chains (λ x. resumes_so n x)
   leads_by events.Power chains =
       record {
-        leads = each_so hears (power contents) (power by_plain) (λ v w d h order. power_twins v w d h order) p (power_lost p) q xs ys ms e all refl;
+        leads = each_so hears (power contents) (power by_plain) (λ v w d h i. power_twins v w d h i) p (power_lost p) q xs ys ms e all refl;
       }
 
   pub event_so : (event : Event) → HaveChains xs → Comes hears event p xs e q ys → IsWhatCame (happens (subsystem_of p ms) event) e q ys

@@ -18,6 +18,7 @@ use Rattle.device_defs.specs.Orders.{replace}
 use Rattle.device_defs.specs.Store.{HalfWrite, tracks_of, side_of}
 use Rattle.device_laws.specs.Agrees.{Held}
 use Rattle.device_laws.specs.InOrder.{IsInOrder}
+use Rattle.device_laws.specs.Lent.{Stands, in_order, is_away}
 use Rattle.device_laws.specs.Whole.{WholeDevice, marks_device, holding}
 use Rattle.device_laws.proofs.NewDevices.{new_in_order, new_marks}
 use Rattle.device_laws.proofs.OrdersInOrder.{replace_order, replace_same}
@@ -49,7 +50,7 @@ new_mounted d g n plans plan volume most side =
     let v = empty_volume n in
     subst (λ (m : MarksStore). IsMounted [] (record { device = opened d g n plans; a = Some volume; b = None })
     (record { device = record (new_device d g n plans) { store = m }; a = new_calls plan; b = unfailing })) (new_marks d g n)
-    (is_mounted (opened d g n plans) v v h (Some volume) None (new_calls plan) unfailing (new_in_order d g n h most refl) refl side tt)
+    (is_mounted (opened d g n plans) v v h (Some volume) None (new_calls plan) unfailing (in_order (new_in_order d g n h most refl)) refl side tt)
 
 -- A failed volume is replaced
 
@@ -67,16 +68,20 @@ fault_both v w d B =
     (fault_some d.store.half)
 
 is_down : (lent : Option ℕ) (has up : Bool) (more : List (Option OrderFault)) →
-    first_cause (lent_by lent ∷ where_so (not has) NoSide ∷ where_so up Up ∷ more) ≡ None → (up ≡ false) × (has ≡ true)
+    first_cause (lent_by lent ∷ where_so (not has) NoSide ∷ where_so up Up ∷ more) ≡ None → (up ≡ false) × (has ≡ true) × (is_some lent ≡ false)
 is_down (Some to) has up more e = absurd (cc)
 is_down None true true more e = absurd (cc)
 is_down None false up more e = absurd (cc)
-is_down None true false more e = (refl, refl)
+is_down None true false more e = (refl, refl, refl)
 
-down_by : (d : WholeDevice) (side : Side) → replace_fault d side ≡ None → ((side_of d.store side).up ≡ false) × (R.has_side d.store side ≡ true)
+down_by : (d : WholeDevice) (side : Side) → replace_fault d side ≡ None → ((side_of d.store side).up ≡ false) × (R.has_side d.store side ≡ true) × (is_some d.store.lent ≡ false)
 unfolding R.replace_fault
 down_by d side e =
     is_down d.store.lent (R.has_side d.store side) (side_of d.store side).up (where_so (is_some d.store.half) Half ∷ []) e
+
+unless_lent : {v w : List Track} {d : WholeDevice} {h : Held} → Stands v w d h → is_some d.store.lent ≡ false → IsInOrder v w d.store h
+unless_lent (in_order i) free = i
+unless_lent (is_away i) free = absurd (let lent = i.store.lent in cc)
 
 paired_by : (d : WholeDevice) (side : Side) → R.has_side d.store side ≡ true → side ≡ B → d.store.paired ≡ true
 paired_by d A e is = absurd (cc)
@@ -90,10 +95,10 @@ module _ (p : Pool) (xs : List Stood) (ms : List Mounted) (n : ℕ) (side : Side
       (with_calls (record { device = marks_device x.plain x.firm d; a = x.a; b = x.b }) here calls)
   now_mounted x d order A is =
       let o = subst (λ (k : Side). IsInOrder x.plain x.firm d.store (holding x.held k l)) (sym is) order in
-      is_mounted d x.plain x.firm (holding x.held A l) (Some volume) x.on_b calls x.b o x.slots told x.told_b
+      is_mounted d x.plain x.firm (holding x.held A l) (Some volume) x.on_b calls x.b (in_order o) x.slots told x.told_b
   now_mounted x d order B is =
       let o = subst (λ (k : Side). IsInOrder x.plain x.firm d.store (holding x.held k l)) (sym is) order in
-      is_mounted d x.plain x.firm (holding x.held B l) x.on_a (Some volume) x.a calls o x.slots x.told_a told
+      is_mounted d x.plain x.firm (holding x.held B l) x.on_a (Some volume) x.a calls (in_order o) x.slots x.told_a told
 
   by_seat : (x : Seat p xs ms n) (y : Stood) → length l ≡ tracks_of x.device.store → replace_fault x.device side ≡ None →
       y ≡ with_volume (record { device = x.device; a = x.on_a; b = x.on_b }) side volume (replace x.device side) →
@@ -102,7 +107,7 @@ module _ (p : Pool) (xs : List Stood) (ms : List Mounted) (n : ℕ) (side : Side
       let s = subsystem_of p ms in
       let m : Mounted = record { device = marks_device x.plain x.firm x.device; a = x.a; b = x.b } in
       let facts = down_by x.device side free in
-      let order = replace_order x.plain x.firm x.device x.held side l x.order facts.0 (paired_by x.device side facts.1) long in
+      let order = replace_order x.plain x.firm x.device x.held side l (unless_lent x.stands facts.2) facts.0 (paired_by x.device side facts.1) long in
       let new = now_mounted x (replace x.device side) order side refl in
       subst (λ (o : Option Mounted). IsWhatCame (replaced_at s n side calls o) Done p (put_at xs n y)) (sym x.mounted)
       (subst (λ (f : Option OrderFault). IsWhatCame (replaced_by s n side calls m f) Done p (put_at xs n y))

@@ -9,7 +9,7 @@ use Rattle.device_outside.specs.Pool.{Pool}
 use Rattle.device_outside.specs.Told.{Calls}
 use Rattle.device_outside.specs.Volume.{VolumeView}
 use Rattle.device_laws.specs.Agrees.{Held}
-use Rattle.device_laws.specs.InOrder.{IsInOrder}
+use Rattle.device_laws.specs.Lent.{Stands}
 use Rattle.device_laws.specs.Whole.{WholeDevice, marks_device}
 use Rattle.subsystem_defs.specs.Subsystem.{Mounted}
 use Rattle.subsystem_laws.specs.Stood.{HasChain}
@@ -41,11 +41,11 @@ abbrev pub with_volume : Stood → Side → VolumeView (List ℕ) → WholeDevic
 with_volume x A volume d = record { device = d; a = Some volume; b = x.b }
 with_volume x B volume d = record { device = d; a = x.a; b = Some volume }
 
--- The device is in order and has these slots, and mounted is what a run knows of it. Each volume that is there tells what it holds, its
+-- The device is in order, or lent, and has these slots, and mounted is what a run knows of it. Each volume that is there tells what it holds, its
 -- calls, and which fail
 pub data IsMounted (mine : List ℕ) : Stood → Mounted → Type 0 where
   is_mounted : (d : WholeDevice) (plain firm : List Track) (h : Held) (on_a on_b : Option (VolumeView (List ℕ))) (a b : Calls) →
-      IsInOrder plain firm d.store h → h.slots ≡ Some mine → SideTold on_a h.a a → SideTold on_b h.b b →
+      Stands plain firm d h → h.slots ≡ Some mine → SideTold on_a h.a a → SideTold on_b h.b b →
       IsMounted mine (record { device = d; a = on_a; b = on_b }) (record { device = marks_device plain firm d; a = a; b = b })
 
 -- Each has slots of its own: none is among those that are taken, and all are in use
