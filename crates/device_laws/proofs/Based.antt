@@ -1,7 +1,8 @@
 -- What a device is, and what it counts, goes along with the calls that its interactions make: reads and writes are counted, and those that
 -- fail; nothing else of it is changed, and only the end of an event tells how many tracks wait.
-use Rattle.std.proofs.Common.{◌≡◌, ◌==◌, zero, suc, ℕ, Bool, true, false, [], Option, Some, None, is_some, refl, subst, ◌∙◌}
-use Rattle.std.specs.Prelude.{if◌then◌else◌, not}
+use Rattle.std.proofs.Common.{◌≡◌, ◌==◌, ◌+◌, zero, suc, ℕ, Bool, true, false, List, [], ◌∷◌, ◌++◌, Option, Some, None, is_some, refl, ap, subst, ◌∙◌, arith}
+use Rattle.std.specs.Prelude.{if◌then◌else◌, not, count_by}
+use Rattle.std.specs.List.{fold}
 use Rattle.ckd_types.specs.declared.geometry.Geometry.{Geometry}
 use Rattle.ckd_types.specs.declared.paths.Side.{Side}
 use Rattle.ckd_types.specs.declared.paths.Side.TheVariants.{A, B}
@@ -32,7 +33,9 @@ use Rattle.device_defs.specs.Losses.{
 use Rattle.device_defs.specs.Effects.{acted, gone_back, loose_lost}
 use Rattle.device_defs.specs.Memory.{tried, had_by, and_had}
 use Rattle.device_defs.specs.Store.{Store, tracks_of, has_level, has_loose, frame_at, patch_at, is_lost, is_loose, half_is, with_lost}
-use Rattle.plain_defs.specs.declared.journal.Act.TheVariants.{CfwLost}
+use Rattle.plain_defs.specs.declared.journal.Act.{Act}
+use Rattle.plain_defs.specs.declared.journal.Act.TheVariants.{Harden, CfwLost}
+use Rattle.device_defs.specs.Command.{is_loss}
 
 -- what it is, and what it counts
 pub record Base : Type 0 where
@@ -41,9 +44,17 @@ pub record Base : Type 0 where
   pub cylinders : ℕ
   pub lent : Option ℕ
   pub counts : Counts
+  pub gone : ℕ  -- how often data of cache fast write were lost in this event
 
 abbrev pub base_of : {F P H : Type 0} → Store F P H → Base
-base_of s = record { device = s.device; geometry = s.geometry; cylinders = s.cylinders; lent = s.lent; counts = s.counts }
+base_of s = record { device = s.device; geometry = s.geometry; cylinders = s.cylinders; lent = s.lent; counts = s.counts; gone = count_by is_loss s.acts }
+
+-- but for what happened in this event
+abbrev pub forget : Base → Base
+forget b = record b { gone = 0 }
+
+abbrev pub kept : {F P H : Type 0} → Store F P H → Base
+kept s = forget (base_of s)
 
 abbrev pub read_base : Base → Bool → Base
 read_base b ok = record b { counts = record b.counts { reads = counted b.counts.reads; failed = counted_if (not ok) b.counts.failed } }
@@ -91,6 +102,15 @@ based_any (based_read x) = based_read (λ got. based_any (x got))
 based_any (based_write x) = based_write (λ ok. based_any (x ok))
 based_any (based_tell x) = based_tell (λ r. based_any (x r))
 
+pub based_forget : {R S A : Type 0} {base : S → Base} {may : Call → Type 0} {b : Base} {i : Interaction R Image S A} → Based base may b i →
+    Based (λ s. forget (base s)) may (forget b) i
+based_forget (based_done e) = based_done (ap forget e)
+based_forget (based_try x) = based_try (λ ok. based_forget (x ok))
+based_forget (based_ask m x) = based_ask m (λ a. based_forget (x a))
+based_forget (based_read x) = based_read (λ got. based_forget (x got))
+based_forget (based_write x) = based_write (λ ok. based_forget (x ok))
+based_forget (based_tell x) = based_tell (λ r. based_forget (x r))
+
 pub based_if : {R S A : Type 0} {base : S → Base} {may : Call → Type 0} {b : Base} (x : Bool) {i j : Interaction R Image S A} → Based base may b i →
     Based base may b j → Based base may b (if x then i else j)
 based_if true f g = f
@@ -112,10 +132,21 @@ based_had {S = S} {A = X} {base = base} {may = may} f x w = based_then (had_by f
 
 -- Changes of a store that leave its base
 
+abbrev count_from : ℕ → List Act → ℕ
+count_from n acts = fold (λ k act. k + (if is_loss act then 1 else 0)) n acts
+
+one_act : (n : ℕ) (acts : List Act) (act : Act) → is_loss act ≡ false → count_from n (acts ++ act ∷ []) ≡ count_from n acts
+one_act n [] act e = ap (λ (b : Bool). n + (if b then 1 else 0)) e ∙ (let same : n + 0 ≡ n = omega arith in same)
+one_act n (x ∷ acts) act e = one_act (n + (if is_loss x then 1 else 0)) acts act e
+
 module _ {F P H : Type 0} where
   pub base_if : (x : Bool) (s z : Store F P H) {b : Base} → base_of s ≡ b → base_of z ≡ b → base_of (if x then s else z) ≡ b
   base_if true s z e f = e
   base_if false s z e f = f
+
+  -- an act that is no loss
+  pub acted_base : (s : Store F P H) (act : Act) → is_loss act ≡ false → base_of (acted s act) ≡ base_of s
+  acted_base s act e = ap (λ (n : ℕ). record (base_of s) { gone = n }) (one_act 0 s.acts act e)
 
   pub over_base : (n : ℕ) (f : ℕ → Store F P H → Store F P H) → ((t : ℕ) (s : Store F P H) → base_of (f t s) ≡ base_of s) → (s : Store F P H) →
       base_of (over n f s) ≡ base_of s
@@ -137,7 +168,7 @@ module _ {F P H : Type 0} where
   down_base s A = refl
   down_base s B = refl
 
-  loose_by : (s : Store F P H) (x : Bool) → base_of (record (if x then acted (gone_back s) CfwLost else s) { queue = [] }) ≡ base_of s
+  loose_by : (s : Store F P H) (x : Bool) → kept (record (if x then acted (gone_back s) CfwLost else s) { queue = [] }) ≡ kept s
   loose_by s true = refl
   loose_by s false = refl
 
@@ -146,7 +177,7 @@ module _ {F P H R : Type 0} (c : Contents F P H R) where
   unpatched_base s t = given_base s t (slot_in c (patch_at s t))
 
   frame_base : (s : Store F P H) (t : ℕ) (o : Option F) → base_of (by_frame c s t o) ≡ base_of s
-  frame_base s t (Some f) = base_if (is_loose s t) _ _ refl (base_if (c.modified f) _ _ refl refl)
+  frame_base s t (Some f) = base_if (is_loose s t) _ _ (acted_base s (Harden t) refl) (base_if (c.modified f) _ _ refl refl)
   frame_base s t None = base_if (half_is s.half t) _ _ refl (unpatched_base (with_lost s t) t)
 
   pub settled_base : (s : Store F P H) (t : ℕ) → base_of (settled c s t) ≡ base_of s
@@ -164,9 +195,9 @@ module _ {F P H R : Type 0} (c : Contents F P H R) where
   pub swept_base : (n : ℕ) (s : Store F P H) → base_of (over n (λ t z. settled c (without_frame z t) t) s) ≡ base_of s
   swept_base n s = over_base n (λ t z. settled c (without_frame z t) t) (λ t z. settled_base (without_frame z t) t ∙ unframed_base z t) s
 
-  pub cache_base : (s : Store F P H) → base_of (cache_lost c s) ≡ base_of s
+  pub cache_base : (s : Store F P H) → kept (cache_lost c s) ≡ kept s
   unfolding L.cache_lost
-  cache_base s = swept_base (tracks_of s) (record (loose_lost s) { queue = [] }) ∙ loose_by s (has_loose s)
+  cache_base s = ap forget (swept_base (tracks_of s) (record (loose_lost s) { queue = [] })) ∙ loose_by s (has_loose s)
 
   patch_base : (t : ℕ) (s : Store F P H) → base_of (patch_lost c t s) ≡ base_of s
   patch_base t s =

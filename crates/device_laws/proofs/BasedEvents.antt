@@ -55,6 +55,9 @@ use Rattle.device_defs.specs.Store.{Origin, OfCommand, OfCut, OfBackground, Half
 use Rattle.device_laws.proofs.Based.{
   Base,
   base_of,
+  forget,
+  kept,
+  based_forget,
   Hushed,
   Any,
   Based,
@@ -74,7 +77,7 @@ use Rattle.device_laws.proofs.BasedParts.{all_told_steady, losing_steady, cut_st
 use Rattle.device_laws.proofs.WholeEvents.{turned_same}
 
 abbrev pub base_in : {F P H : Type 0} → Device F P H → Base
-base_in d = base_of d.store
+base_in d = kept d.store
 
 abbrev pub with_one_loss : Loss → Base → Base
 with_one_loss loss b = record b { counts = record b.counts { losses = one_more b.counts.losses loss } }
@@ -122,13 +125,13 @@ module _ {F P H R : Type 0} (c : Contents F P H R) where
   -- Whole events
 
   abbrev Settled : {A : Type 0} → Device F P H → Interaction R Image (Device F P H) A → Type 0
-  Settled d i = Based base_in Hushed (base_of d.store) i
+  Settled d i = Based base_in Hushed (kept d.store) i
 
   out_steady : (d : Device F P H) (path : ℕ) (turn : Turn) → Settled d (came_out c d path turn)
-  out_steady d path turn = based_done (ap base_of (turned_same d path turn.chain turn.came))
+  out_steady d path turn = based_done (ap (λ (x : Store F P H). kept x) (turned_same d path turn.chain turn.came))
 
   on_steady : (d : Device F P H) (path : ℕ) (chain : ChainState) (s : Store F P H) (o : Option Turn) →
-      Based base_in Hushed (base_of s) (on_tracks c d path chain s o)
+      Based base_in Hushed (kept s) (on_tracks c d path chain s o)
   on_steady d path chain s (Some turn) = out_steady (with_store d s) path turn
   on_steady d path chain s None = based_done refl
 
@@ -141,7 +144,7 @@ module _ {F P H R : Type 0} (c : Contents F P H R) where
 
   at_steady : (d : Device F P H) (path : ℕ) (chain : ChainState) (o : Option ℕ) → Settled d (command_at c d path chain o)
   at_steady d path chain (Some t) =
-      based_then (on_tracks c d path chain) (follow_steady (tracks_of d.store) t chain t d.store) (λ s o. on_steady d path chain s o)
+      based_then (on_tracks c d path chain) (based_forget (follow_steady (tracks_of d.store) t chain t d.store)) (λ s o. on_steady d path chain s o)
   at_steady d path chain None =
       based_try (λ ok. based_if ok (answered_steady d path (stepped chain None).chain (stepped chain None).progress) (based_done refl))
 
@@ -153,7 +156,7 @@ module _ {F P H R : Type 0} (c : Contents F P H R) where
 
   command_ended_steady : (d : Device F P H) (t : ℕ) (o : Option OpenEntry) (k : Option ChainState) (done : Bool) → Settled d (command_ended c d t o k done)
   command_ended_steady d t (Some o) (Some chain) done =
-      based_done (ap base_of (turned_same d o.path (second_turn c chain done).chain (second_turn c chain done).came))
+      based_done (ap (λ (x : Store F P H). kept x) (turned_same d o.path (second_turn c chain done).chain (second_turn c chain done).came))
   command_ended_steady d t (Some o) None done = based_done refl
   command_ended_steady d t None k done = based_done refl
 
@@ -164,7 +167,7 @@ module _ {F P H R : Type 0} (c : Contents F P H R) where
 
   second_of_steady : (d : Device F P H) (o : Option (HalfWrite H)) → Settled d (second_of c d o)
   second_of_steady d (Some h) =
-      based_then (λ s done. second_ended c (with_store d s) h.track h.origin done) (second_steady c d.store h)
+      based_then (λ s done. second_ended c (with_store d s) h.track h.origin done) (based_forget (second_steady c d.store h))
       (λ s done. second_ended_steady (with_store d s) h.track h.origin done)
   second_of_steady d None = based_done refl
 
@@ -177,20 +180,20 @@ module _ {F P H R : Type 0} (c : Contents F P H R) where
   second_body d = second_of_steady d d.store.half
 
   pub work_body : (d : Device F P H) → Settled d (and_then (work c d.store) (λ s (did : Option Did). Done (with_store d s) did))
-  work_body d = based_then (λ s did. Done (with_store d s) did) (work_steady c d.store) (λ s did. based_done refl)
+  work_body d = based_then (λ s did. Done (with_store d s) did) (based_forget (work_steady c d.store)) (λ s did. based_done refl)
 
   pub lose_body : (loss : Loss) (d : Device F P H) →
-      Based base_in Hushed (base_of (with_loss d.store loss)) (and_then (losing c d.store loss) (λ s _. Done (with_store d s) (tt {0})))
+      Based base_in Hushed (kept (with_loss d.store loss)) (and_then (losing c d.store loss) (λ s _. Done (with_store d s) (tt {0})))
   lose_body loss d = based_then (λ s _. Done (with_store d s) (tt {0})) (losing_steady c d.store loss) (λ s _. based_done refl)
 
   -- An event's end, where it tells how many tracks wait
 
-  waiting_steady : (before : ℕ) (s : Store F P H) → Based base_of Any (base_of s) (waiting_told c before s)
+  waiting_steady : (before : ℕ) (s : Store F P H) → Based kept Any (kept s) (waiting_told c before s)
   waiting_steady before s = based_if (waiting_count c s == before) (based_done refl) (based_ask tt (λ _. based_done refl))
 
-  ended_steady : (before : ℕ) (s : Store F P H) → Based base_of Any (base_of s) (ended c before s)
+  ended_steady : (before : ℕ) (s : Store F P H) → Based kept Any (kept s) (ended c before s)
   ended_steady before s =
-      based_then (λ z _. waiting_told c before z) (based_any (all_told_steady c (tracks_of s) s)) (λ z _. waiting_steady before z)
+      based_then (λ z _. waiting_told c before z) (based_any (based_forget (all_told_steady c (tracks_of s) s))) (λ z _. waiting_steady before z)
 
   module _ {A : Type 0} where
     pub quiet_based : (d : Device F P H) (b : Base) (body : Device F P H → Interaction R Image (Device F P H) A) →
@@ -202,17 +205,17 @@ module _ {F P H R : Type 0} (c : Contents F P H R) where
   -- What stands behind the notices that an event takes first
 
   module _ {A : Type 0} (g : Store F P H → Unit {0} → Interaction R Image (Device F P H) A) (f : Base → Base)
-      (w : (z : Store F P H) (x : Unit {0}) → Based base_in Hushed (f (base_of z)) (g z x)) where
-    by_note : (n : ℕ) (s : Store F P H) (note : Option ℕ) → ((z : Store F P H) → Based base_in Hushed (f (base_of z)) (and_then (hear c n z) g)) →
-        Based base_in Hushed (f (base_of s)) (and_then (heard c (hear c n) s note) g)
+      (w : (z : Store F P H) (x : Unit {0}) → Based base_in Hushed (f (kept z)) (g z x)) where
+    by_note : (n : ℕ) (s : Store F P H) (note : Option ℕ) → ((z : Store F P H) → Based base_in Hushed (f (kept z)) (and_then (hear c n z) g)) →
+        Based base_in Hushed (f (kept s)) (and_then (heard c (hear c n) s note) g)
     by_note n s None more = w s tt
     by_note n s (Some t) more = by_clean (is_clean c (frame_at s t))
       where
-        by_clean : (b : Bool) → Based base_in Hushed (f (base_of s)) (and_then (hear c n (if b then with_frame s t None else s)) g)
+        by_clean : (b : Bool) → Based base_in Hushed (f (kept s)) (and_then (hear c n (if b then with_frame s t None else s)) g)
         by_clean true = more (with_frame s t None)
         by_clean false = more s
 
-    hear_then : (n : ℕ) (s : Store F P H) → Based base_in Hushed (f (base_of s)) (and_then (hear c n s) g)
+    hear_then : (n : ℕ) (s : Store F P H) → Based base_in Hushed (f (kept s)) (and_then (hear c n s) g)
     unfolding Y.hear
     hear_then zero s = w s tt
     hear_then (suc n) s = based_ask tt (λ note. by_note n s note (hear_then n))
@@ -222,16 +225,16 @@ module _ {F P H R : Type 0} (c : Contents F P H R) where
     fronted d body z = and_then (hear c 960 z.store) (λ s _. body (record z { store = s }))
 
     pub front_based : (d : Device F P H) (body : Device F P H → Interaction R Image (Device F P H) A) (f : Base → Base) →
-        ((y : Device F P H) → Based base_in Hushed (f (base_of y.store)) (body y)) → Based base_in Hushed (f (base_of d.store)) (fronted d body (event_begun d))
+        ((y : Device F P H) → Based base_in Hushed (f (kept y.store)) (body y)) → Based base_in Hushed (f (kept d.store)) (fronted d body (event_begun d))
     front_based d body f x =
         hear_then (λ s _. body (record (event_begun d) { store = s })) f (λ z _. x (record (event_begun d) { store = z })) 960 (event_begun d).store
 
     pub event_based : (d : Device F P H) (body : Device F P H → Interaction R Image (Device F P H) A) (f : Base → Base) →
-        ((y : Device F P H) → Based base_in Hushed (f (base_of y.store)) (body y)) → Based base_in Any (f (base_of d.store)) (event c d body)
-    event_based d body f x = quiet_based d (f (base_of d.store)) (fronted d body) (front_based d body f x)
+        ((y : Device F P H) → Based base_in Hushed (f (kept y.store)) (body y)) → Based base_in Any (f (kept d.store)) (event c d body)
+    event_based d body f x = quiet_based d (f (kept d.store)) (fronted d body) (front_based d body f x)
 
   pub peeked_body : (t : ℕ) (d : Device F P H) → Settled d (and_then (peek_track c d.store t) (λ s (found : Option Peeked). Done (with_store d s) found))
-  peeked_body t d = based_then (λ s found. Done (with_store d s) found) (tracked d.store) (λ s found. based_done refl)
+  peeked_body t d = based_then (λ s found. Done (with_store d s) found) (based_forget (tracked d.store)) (λ s found. based_done refl)
     where
       imaged : (s : Store F P H) → Steady s (peek_image c s t)
       imaged s = based_had (λ z i. Done z (Some (peeked i))) (image_steady c s peek_usage t) (λ z i. based_done refl)
@@ -245,28 +248,28 @@ module _ {F P H R : Type 0} (c : Contents F P H R) where
 
   -- The events
 
-  pub command_based : (d : Device F P H) → Based base_in Any (base_of d.store) (command c d)
+  pub command_based : (d : Device F P H) → Based base_in Any (kept d.store) (command c d)
   unfolding N.command
   command_based d =
       based_tried d _ refl (event_based d (λ z. command_by c z z.history.running z.chain) (λ (b : Base). b) (λ y. command_body y))
 
-  pub second_based : (d : Device F P H) → Based base_in Any (base_of d.store) (second c d)
+  pub second_based : (d : Device F P H) → Based base_in Any (kept d.store) (second c d)
   unfolding E.second
   second_based d = event_based d (λ z. second_of c z z.store.half) (λ (b : Base). b) (λ y. second_body y)
 
-  pub background_based : (d : Device F P H) → Based base_in Any (base_of d.store) (background c d)
+  pub background_based : (d : Device F P H) → Based base_in Any (kept d.store) (background c d)
   unfolding E.background
   background_based d = event_based d (λ z. and_then (work c z.store) (λ s did. Done (with_store z s) did)) (λ (b : Base). b) (λ y. work_body y)
 
-  pub lose_based : (d : Device F P H) (loss : Loss) → Based base_in Any (with_one_loss loss (base_of d.store)) (lose c d loss)
+  pub lose_based : (d : Device F P H) (loss : Loss) → Based base_in Any (with_one_loss loss (kept d.store)) (lose c d loss)
   unfolding E.lose
   lose_based d loss =
       event_based d (λ z. and_then (losing c z.store loss) (λ s _. Done (with_store z s) tt)) (with_one_loss loss) (λ y. lose_body loss y)
 
-  pub peek_based : (d : Device F P H) (t : ℕ) → Based base_in Any (base_of d.store) (peek c d t)
+  pub peek_based : (d : Device F P H) (t : ℕ) → Based base_in Any (kept d.store) (peek c d t)
   unfolding K.peek
   peek_based d t =
-      quiet_based d (base_of d.store) (λ z. and_then (peek_track c z.store t) (λ s found. Done (with_store z s) found)) (peeked_body t (event_begun d))
+      quiet_based d (kept d.store) (λ z. and_then (peek_track c z.store t) (λ s found. Done (with_store z s) found)) (peeked_body t (event_begun d))
 
   -- the reset of a path makes no call of the pool
 
@@ -276,7 +279,7 @@ module _ {F P H R : Type 0} (c : Contents F P H R) where
         store = s;
         chain = None;
         paths = all_reset (reset_path d.paths path) d.history.waiting;
-      }) (tt {0})) (cut_steady c d.store d.store.half) (λ s _. based_done refl)
+      }) (tt {0})) (based_forget (cut_steady c d.store d.store.half)) (λ s _. based_done refl)
 
   reset_by_body : (d : Device F P H) (path : ℕ) (o : Option OpenEntry) → Settled d (reset_by c d path o)
   reset_by_body d path (Some o) = based_if (o.path == path) (cut_path_body d path) (based_done refl)
@@ -288,43 +291,43 @@ module _ {F P H R : Type 0} (c : Contents F P H R) where
 
   -- Power
 
-  ended_half_base : (s : Store F P H) (h : HalfWrite H) (origin : Origin) → base_of (half_ended c s h origin) ≡ base_of s
-  ended_half_base s h (OfCommand bypass e) = unpatched_base c (record s { half = None }) h.track
-  ended_half_base s h (OfCut bypass) = unpatched_base c (record s { half = None }) h.track
+  ended_half_base : (s : Store F P H) (h : HalfWrite H) (origin : Origin) → kept (half_ended c s h origin) ≡ kept s
+  ended_half_base s h (OfCommand bypass e) = ap forget (unpatched_base c (record s { half = None }) h.track)
+  ended_half_base s h (OfCut bypass) = ap forget (unpatched_base c (record s { half = None }) h.track)
   ended_half_base s h OfBackground = refl
 
-  lost_half_base : (s : Store F P H) (o : Option (HalfWrite H)) → base_of (half_lost c s o) ≡ base_of s
+  lost_half_base : (s : Store F P H) (o : Option (HalfWrite H)) → kept (half_lost c s o) ≡ kept s
   lost_half_base s (Some h) = ended_half_base s h h.origin
   lost_half_base s None = refl
 
-  gone_base : (s : Store F P H) (b : Bool) → base_of (if b then gone_back s else s) ≡ base_of s
+  gone_base : (s : Store F P H) (b : Bool) → kept (if b then gone_back s else s) ≡ kept s
   gone_base s true = refl
   gone_base s false = refl
 
-  powerless_base : (s : Store F P H) → base_of (powerless c s) ≡ base_of s
+  powerless_base : (s : Store F P H) → kept (powerless c s) ≡ kept s
   powerless_base s =
-      swept_base c (tracks_of s) (record (half_lost c (loose_gone c s) s.half) { queue = [] })
+      ap forget (swept_base c (tracks_of s) (record (half_lost c (loose_gone c s) s.half) { queue = [] }))
       ∙ lost_half_base (loose_gone c s) s.half
       ∙ gone_base s (has_loose s)
 
   cut_then : (d : Device F P H) (s : Store F P H) (h : HalfWrite H) (origin : Origin) →
-      Based base_in Hushed (with_one_loss losses.Cache (base_of s)) (and_then (origin_cut c s h origin) (λ z _. Done (powered_off c d z) (tt {0})))
+      Based base_in Hushed (with_one_loss losses.Cache (kept s)) (and_then (origin_cut c s h origin) (λ z _. Done (powered_off c d z) (tt {0})))
   cut_then d s h (OfCommand bypass e) =
       based_tell (λ _. based_done (powerless_base (with_loss (record (with_edit s h.track e) { half = Some (record h { origin = OfCut bypass }) }) losses.Cache)))
   cut_then d s h (OfCut bypass) = based_done (powerless_base (with_loss s losses.Cache))
   cut_then d s h OfBackground = based_done (powerless_base (with_loss s losses.Cache))
 
   half_then : (d : Device F P H) (s : Store F P H) (o : Option (HalfWrite H)) →
-      Based base_in Hushed (with_one_loss losses.Cache (base_of s)) (and_then (half_cut c s o) (λ z _. Done (powered_off c d z) (tt {0})))
+      Based base_in Hushed (with_one_loss losses.Cache (kept s)) (and_then (half_cut c s o) (λ z _. Done (powered_off c d z) (tt {0})))
   half_then d s (Some h) = cut_then d s h h.origin
   half_then d s None = based_done (powerless_base (with_loss s losses.Cache))
 
-  pub power_body : (d : Device F P H) → Based base_in Hushed (with_one_loss losses.Cache (base_of d.store))
+  pub power_body : (d : Device F P H) → Based base_in Hushed (with_one_loss losses.Cache (kept d.store))
       (and_then (half_cut c (event_begun d).store (event_begun d).store.half) (λ s _. Done (powered_off c (event_begun d) s) (tt {0})))
   power_body d = half_then (event_begun d) (event_begun d).store d.store.half
 
-  pub power_based : (d : Device F P H) → Based base_in Any (with_one_loss losses.Cache (base_of d.store)) (power c d)
+  pub power_based : (d : Device F P H) → Based base_in Any (with_one_loss losses.Cache (kept d.store)) (power c d)
   unfolding U.power
   power_based d =
-      quiet_based d (with_one_loss losses.Cache (base_of d.store)) (λ z. and_then (half_cut c z.store z.store.half) (λ s _. Done (powered_off c z s) tt))
+      quiet_based d (with_one_loss losses.Cache (kept d.store)) (λ z. and_then (half_cut c z.store z.store.half) (λ s _. Done (powered_off c z s) tt))
       (power_body d)

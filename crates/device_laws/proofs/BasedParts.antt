@@ -1,5 +1,5 @@
 -- The parts of an event on its tracks change nothing of what a device is, and count their calls.
-use Rattle.std.proofs.Common.{◌≡◌, zero, suc, ℕ, Bool, true, false, List, [], ◌∷◌, Option, Some, None, is_some, refl, subst, ◌∙◌}
+use Rattle.std.proofs.Common.{◌≡◌, zero, suc, ℕ, Bool, true, false, List, [], ◌∷◌, Option, Some, None, is_some, refl, ap, subst, ◌∙◌}
 use Rattle.std.specs.Prelude.{if◌then◌else◌, ◌&&◌, ◌||◌, not, length, nat_le, nat_lt}
 use Rattle.ckd_types.specs.declared.parameters.Mode.{Mode}
 use Rattle.ckd_types.specs.declared.paths.Side.{Side}
@@ -8,6 +8,7 @@ use Rattle.ckd_types.specs.declared.record.Edit.{Edit}
 use Rattle.ckd_types.specs.Parameters.{is_bypass}
 use Rattle.loss_model.specs.declared.Loss.{Loss}
 use Rattle.loss_model.specs.declared.Loss.TheVariants as losses
+use Rattle.plain_defs.specs.declared.journal.Act.TheVariants.{Loosen, Harden}
 use Rattle.track_image.specs.Image.{Image, edited_image}
 use Rattle.device_outside.specs.declared.port.SlotGrant.{SlotGrant}
 use Rattle.device_outside.specs.declared.port.SlotGrant.TheVariants as grants
@@ -76,7 +77,7 @@ use Rattle.device_defs.specs.Editing.{
   write_chosen,
   write,
 }
-use Rattle.device_defs.specs.Effects.{loosened}
+use Rattle.device_defs.specs.Effects.{hardened, loosened}
 use Rattle.device_defs.specs.Events.{with_loss, lost_by, losing}
 use Rattle.device_defs.specs.Image as I
 use Rattle.device_defs.specs.Image.{
@@ -175,7 +176,7 @@ use Rattle.device_defs.specs.Writing.{
   write_done,
   opened,
 }
-use Rattle.device_laws.proofs.Based.{Base, base_of, Hushed, Based, based_done, based_try, based_ask, based_read, based_write, based_tell, based_then, based_if, based_tried, base_if, stale_base, unpatched_base, settled_base, side_base, cache_base, store_base}
+use Rattle.device_laws.proofs.Based.{Base, base_of, Hushed, Based, based_done, based_try, based_ask, based_read, based_write, based_tell, based_then, based_if, based_tried, base_if, stale_base, unpatched_base, settled_base, side_base, cache_base, store_base, forget, kept, acted_base, based_forget}
 
 module _ {F P H R : Type 0} (c : Contents F P H R) where
   abbrev pub Steady : {A : Type 0} → Store F P H → Interaction R Image (Store F P H) A → Type 0
@@ -239,14 +240,16 @@ module _ {F P H R : Type 0} (c : Contents F P H R) where
   failed_steady s side writing =
       based_if s.paired (firm_from (base_of s) (tracks_of s) (side_lost c s side writing) (side_base c s side writing)) (based_done refl)
 
-  lost_base : (s : Store F P H) (loss : Loss) → base_of (lost_by c s loss) ≡ base_of s
+  lost_base : (s : Store F P H) (loss : Loss) → kept (lost_by c s loss) ≡ kept s
   lost_base s losses.Cache = cache_base c s
-  lost_base s losses.Store = store_base c s
-  lost_base s (losses.Side side) = side_base c s side None
+  lost_base s losses.Store = ap forget (store_base c s)
+  lost_base s (losses.Side side) = ap forget (side_base c s side None)
 
-  pub losing_steady : (s : Store F P H) (loss : Loss) → Steady (with_loss s loss) (losing c s loss)
+  -- a loss may be one of data of cache fast write
+  pub losing_steady : (s : Store F P H) (loss : Loss) → Based kept Hushed (kept (with_loss s loss)) (losing c s loss)
   losing_steady s loss =
-      firm_from (base_of (with_loss s loss)) (tracks_of s) (lost_by c (with_loss s loss) loss) (lost_base (with_loss s loss) loss)
+      let z = lost_by c (with_loss s loss) loss in
+      subst (λ (x : Base). Based kept Hushed x (losing c s loss)) (lost_base (with_loss s loss) loss) (based_forget (firm_steady (tracks_of s) z))
 
   cut_by : (s : Store F P H) (h : HalfWrite H) (origin : Origin) → Steady s (origin_cut c s h origin)
   cut_by s h (OfCommand bypass e) = based_tell (λ _. based_done refl)
@@ -350,7 +353,7 @@ module _ {F P H R : Type 0} (c : Contents F P H R) where
   -- Writes of the volumes
 
   firm_first_steady : (s : Store F P H) (t : ℕ) → Steady s (firm_first c s t)
-  firm_first_steady s t = based_if (is_loose s t) (based_tell (λ _. based_done (stale_base _ t))) (based_done refl)
+  firm_first_steady s t = based_if (is_loose s t) (based_tell (λ _. based_done (stale_base (hardened s t) t ∙ acted_base s (Harden t) refl))) (based_done refl)
 
   pair_base : (s : Store F P H) (t : ℕ) → base_of (if s.paired then s else with_stale s A t true) ≡ base_of s
   pair_base s t = base_if s.paired _ _ refl refl
@@ -438,7 +441,7 @@ module _ {F P H R : Type 0} (c : Contents F P H R) where
     where
       by_loose : (b : Bool) → base_of (if b then s else loosened s t) ≡ base_of s
       by_loose true = refl
-      by_loose false = refl
+      by_loose false = acted_base s (Loosen t) refl
 
   write_by_steady : (u : Usage) (first t : ℕ) (i : Image) (e : Edit) (s : Store F P H) (choice : Choice) → Steady s (write_by c u first t i e s choice)
   write_by_steady u first t i e s Provisional = based_done (provisional_base s t i e)

@@ -37,7 +37,7 @@ use Rattle.device_laws.proofs.Always as A
 use Rattle.device_laws.proofs.Always.{Behind, Always}
 use Rattle.device_laws.proofs.Based.{
   Base,
-  base_of,
+  kept,
   Hushed,
   Any,
   Based,
@@ -71,7 +71,7 @@ use Rattle.device_laws.proofs.RanBased.{ran_within, quiet_waits, own_waiting}
 
 -- What always holds holds behind a run
 
-always_ran : {R K S X : Type 0} {had : Bool → Type 0} {hears : Hearing Image K} (i : Interaction R Image S X) (q : S → X → Type 0) {u z : Outside R K} {s : S}
+pub always_ran : {R K S X : Type 0} {had : Bool → Type 0} {hears : Hearing Image K} (i : Interaction R Image S X) (q : S → X → Type 0) {u z : Outside R K} {s : S}
     {a : X} → Behind i q → Ran had hears i u s a z → q s a
 unfolding A.Behind
 always_ran (Done s a) q h done = h
@@ -118,7 +118,7 @@ no_lent (Some n) is e = cc
 
 module _ {F P H R K : Type 0} (p : Pledge) (v : Handed) (d e : Device F P H) (u z : Outside R K) where
   pub kept_by : StaysInTurn p d v u → d.store.lent ≡ None → (b : Base) → b.device ≡ d.store.device → b.geometry ≡ d.store.geometry →
-      b.cylinders ≡ d.store.cylinders → b.lent ≡ d.store.lent → AreWithin b.counts.losses p.losses → IsSameBase b (base_of e.store) →
+      b.cylinders ≡ d.store.cylinders → b.lent ≡ d.store.lent → AreWithin b.counts.losses p.losses → IsSameBase b (kept e.store) →
       StaysWithin p.failures e.store.counts.failed (allowance_in z) → Continues d.plans d.history e →
       (p.told ≡ true → data_checks e.history ≡ data_checks d.history) → StaysInTurn p e (handed_then v z) z
   kept_by k free b device geometry cylinders lent within same failures goes checks =
@@ -168,22 +168,22 @@ module _ {F P H R K : Type 0} (c : Contents F P H R) (hears : Hearing Image K) (
 
   pub command_kept : (a : Option Stepped) → Ran (λ ok. Unit {0}) hears (command c d) u e a z → StaysInTurn p e (handed_then v z) z
   command_kept a r =
-      event_kept (base_of d.store) refl refl refl refl losses_before refl (command c d) (command_based c d)
+      event_kept (kept d.store) refl refl refl refl losses_before refl (command c d) (command_based c d)
       (command_goes c d.plans d.history d (itself d)) r
 
   pub second_kept : (a : SecondEnd) → Ran (λ ok. Unit {0}) hears (second c d) u e a z → StaysInTurn p e (handed_then v z) z
   second_kept a r =
-      event_kept (base_of d.store) refl refl refl refl losses_before refl (second c d) (second_based c d) (second_goes c d.plans d.history d (itself d)) r
+      event_kept (kept d.store) refl refl refl refl losses_before refl (second c d) (second_based c d) (second_goes c d.plans d.history d (itself d)) r
 
   pub background_kept : (a : Option Did) → Ran (λ ok. Unit {0}) hears (background c d) u e a z → StaysInTurn p e (handed_then v z) z
   background_kept a r =
-      event_kept (base_of d.store) refl refl refl refl losses_before refl (background c d) (background_based c d)
+      event_kept (kept d.store) refl refl refl refl losses_before refl (background c d) (background_based c d)
       (background_goes c d.plans d.history d (itself d)) r
 
   pub loss_kept : (loss : Loss) (a : Unit {0}) → AreWithin (one_more d.store.counts.losses loss) p.losses → Ran (λ ok. Unit {0}) hears (lose c d loss) u e a z →
       StaysInTurn p e (handed_then v z) z
   loss_kept loss a within r =
-      event_kept (with_one_loss loss (base_of d.store)) refl refl refl refl within refl (lose c d loss) (lose_based c d loss)
+      event_kept (with_one_loss loss (kept d.store)) refl refl refl refl within refl (lose c d loss) (lose_based c d loss)
       (lose_goes c d.plans d.history d loss (itself d)) r
 
 -- a start
@@ -230,9 +230,9 @@ IsTold c hears d e u z = waiting_in z ≡ with_waiting (waiting_in u) d.store.de
 module _ {F P H R K : Type 0} (c : Contents F P H R) (hears : Hearing Image K) (d e : Device F P H) (u z : Outside R K)
     (number : HasWaiting (waiting_in u) d.store.device (waiting_count c d.store)) where
   event_waits : {X : Type 0} {a : X} (body : Device F P H → Interaction R Image (Device F P H) X) (f : Base → Base) →
-      (f (base_of d.store)).device ≡ d.store.device → ((y : Device F P H) → Based base_in Hushed (f (base_of y.store)) (body y)) →
+      (f (kept d.store)).device ≡ d.store.device → ((y : Device F P H) → Based base_in Hushed (f (kept y.store)) (body y)) →
       Ran (λ ok. Unit {0}) hears (event c d body) u e a z → IsTold c hears d e u z
-  event_waits body f own x r = quiet_waits c d (f (base_of d.store)) (fronted c d body) own (front_based c d body f x) number r
+  event_waits body f own x r = quiet_waits c d (f (kept d.store)) (fronted c d body) own (front_based c d body f x) number r
 
   pub second_waits : (a : SecondEnd) → Ran (λ ok. Unit {0}) hears (second c d) u e a z → IsTold c hears d e u z
   unfolding E.second
@@ -248,12 +248,12 @@ module _ {F P H R K : Type 0} (c : Contents F P H R) (hears : Hearing Image K) (
 
   pub peek_waits : (t : ℕ) (a : Option Peeked) → Ran (λ ok. Unit {0}) hears (peek c d t) u e a z → IsTold c hears d e u z
   unfolding J.peek
-  peek_waits t a r = quiet_waits c d (base_of d.store) (λ x. and_then (peek_track c x.store t) (λ s found. Done (with_store x s) found)) refl (peeked_body c t (event_begun d)) number r
+  peek_waits t a r = quiet_waits c d (kept d.store) (λ x. and_then (peek_track c x.store t) (λ s found. Done (with_store x s) found)) refl (peeked_body c t (event_begun d)) number r
 
   pub power_waits : (a : Unit {0}) → Ran (λ ok. Unit {0}) hears (power c d) u e a z → IsTold c hears d e u z
   unfolding U.power
   power_waits a r =
-      quiet_waits c d (with_one_loss losses.Cache (base_of d.store)) (λ x. and_then (half_cut c x.store x.store.half) (λ s _. Done (powered_off c x s) tt)) refl (power_body c d) number r
+      quiet_waits c d (with_one_loss losses.Cache (kept d.store)) (λ x. and_then (half_cut c x.store x.store.half) (λ s _. Done (powered_off c x s) tt)) refl (power_body c d) number r
 
 module _ {F P H R K : Type 0} (c : Contents F P H R) (hears : Hearing Image K) (d : Device F P H) where
   command_if : {e : Device F P H} {u z : Outside R K} {a : Option Stepped} (ok : Bool) → HasWaiting (waiting_in u) d.store.device (waiting_count c d.store) →

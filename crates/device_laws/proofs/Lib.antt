@@ -109,3 +109,6 @@ pub mod Unlost
 pub mod UnlostParts
 pub mod Lent
 pub mod Lending
+pub mod UnlostEvents
+pub mod Harmless
+pub mod LossLaws

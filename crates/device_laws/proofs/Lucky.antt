@@ -1,5 +1,5 @@
 -- What holds behind an interaction in which no call of a volume fails, and so behind a run that counts no failed call.
-use Rattle.std.proofs.Common.{◌≡◌, ◌≤◌, ◌<◌, ◌+◌, ◌^◌, ◌-◌, ℕ, Bool, true, false, not, Option, Some, None, is_some, min, refl, sym, ap, subst, ◌∙◌, arith}
+use Rattle.std.proofs.Common.{◌≡◌, ◌≤◌, ◌<◌, ◌+◌, ◌^◌, ◌-◌, ℕ, Bool, true, false, not, Option, Some, None, is_some, min, refl, ap, arith}
 use Rattle.std.specs.Prelude.{if◌then◌else◌}
 use Rattle.ckd_types.specs.declared.paths.Side.{Side}
 use Rattle.track_image.specs.Image.{Image}
@@ -11,7 +11,7 @@ use Rattle.device_outside.specs.Volume.{counted}
 use Rattle.device_laws.proofs.Always as A
 use Rattle.device_laws.proofs.Always.{Behind, Always, always_weaker}
 use Rattle.device_laws.proofs.Based.{Base, Based, read_base, write_base, based_done, based_try, based_ask, based_read, based_write, based_tell}
-use Rattle.device_defs.specs.Memory.{tried, had_by, and_had}
+use Rattle.device_defs.specs.Memory.{tried}
 
 pub data Lucky {R I S A : Type 0} (q : S → A → Type 0) : Interaction R I S A → Type 0 where
   lucky_done : {s : S} {a : A} → q s a → Lucky q (Done s a)
@@ -141,3 +141,6 @@ module _ {R S X : Type 0} {base : S → Base} {may : Call → Type 0} where
   pub where_none_failed : (q : S → X → Type 0) {b : Base} {i : Interaction R Image S X} → Based base may b i → failed_in b < top → Lucky q i →
       Always i (λ s a. failed_in (base s) ≡ failed_in b → q s a)
   where_none_failed q x lt y = record { holds = none_failed q x lt y }
+
+  pub never_falls : {b : Base} {i : Interaction R Image S X} → Based base may b i → failed_in b ≤ top → Always i (λ s a. failed_in b ≤ failed_in (base s))
+  never_falls x le = record { holds = rises x le }

@@ -1,24 +1,15 @@
 -- Where no call fails, no part of an event loses a track; and while side A is up, no track becomes stale there.
-use Rattle.std.proofs.Common.{◌≡◌, ◌≢◌, ◌<◌, ◌≤◌, zero, suc, ℕ, Bool, true, false, not, List, [], ◌∷◌, Option, Some, None, is_some, length, set, get_or, refl, sym, ap, subst, ◌∙◌, arith, ◌⊎◌, inl, inr}
+use Rattle.std.proofs.Common.{◌≡◌, ◌≢◌, ◌<◌, ◌≤◌, ℕ, Bool, true, false, List, Option, Some, None, is_some, length, set, get_or, refl, sym, ap, subst, ◌∙◌, arith, ◌⊎◌, inl, inr}
 use Rattle.std.proofs.lemmas.Bool.{cases_eq, cases_lt}
 use Rattle.std.proofs.lemmas.List.{get_or-set_same, get_or-set_other, get_or_past, length-set}
-use Rattle.std.specs.Prelude.{if◌then◌else◌, ◌&&◌, ◌||◌, nat_le, nat_lt}
-use Rattle.ckd_types.specs.declared.parameters.Mode.{Mode}
+use Rattle.std.specs.Prelude.{if◌then◌else◌}
 use Rattle.ckd_types.specs.declared.paths.Side.{Side}
 use Rattle.ckd_types.specs.declared.paths.Side.TheVariants as sides
-use Rattle.ckd_types.specs.declared.record.Edit.{Edit}
-use Rattle.ckd_types.specs.Parameters.{is_bypass}
-use Rattle.track_image.specs.Image.{Image, edited_image}
-use Rattle.device_outside.specs.Interaction.{Interaction, Done, Ask, Tell, and_then}
-use Rattle.device_defs.specs.Between.{HasSizes}
 use Rattle.device_defs.specs.Contents.{Contents}
 use Rattle.device_defs.specs.Losses as L
 use Rattle.device_defs.specs.Losses.{slot_in, by_frame, kept_by_frame, hardened_by_loss, settled, stale_everywhere}
-use Rattle.device_defs.specs.Effects.{hardened}
-use Rattle.device_defs.specs.Owed.{is_clean}
-use Rattle.device_defs.specs.Store.{Store, tracks_of, stale_at, level_at, has_level, takes_b, frame_at, patch_at, is_lost, is_loose, half_is, with_frame, with_stale, with_patch}
-use Rattle.device_defs.specs.Writing.{taken_a, taken_b}
-use Rattle.device_laws.proofs.FailedCall.{IsWell}
+use Rattle.device_defs.specs.Store.{Store, has_level, frame_at, patch_at, is_lost, is_loose, half_is, with_stale}
+use Rattle.device_defs.specs.Writing.{taken_a}
 use Rattle.device_laws.proofs.TrackMarks as M
 use Rattle.device_laws.proofs.TrackMarks.{TrackMarks, marks, is_good, frame_mark, track_at}
 

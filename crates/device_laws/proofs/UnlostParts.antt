@@ -4,11 +4,8 @@ use Rattle.track_table.specs.Tracks.{least}
 use Rattle.std.specs.Prelude.{if◌then◌else◌, ◌&&◌, ◌||◌, not, length, nat_le, nat_lt}
 use Rattle.ckd_types.specs.declared.parameters.Mode.{Mode}
 use Rattle.ckd_types.specs.declared.paths.Side.{Side}
-use Rattle.ckd_types.specs.declared.paths.Side.TheVariants.{A, B}
 use Rattle.ckd_types.specs.declared.record.Edit.{Edit}
 use Rattle.ckd_types.specs.Parameters.{is_bypass}
-use Rattle.loss_model.specs.declared.Loss.{Loss}
-use Rattle.loss_model.specs.declared.Loss.TheVariants as losses
 use Rattle.track_image.specs.Image.{Image, edited_image}
 use Rattle.device_outside.specs.declared.port.SlotGrant.{SlotGrant}
 use Rattle.device_outside.specs.declared.port.SlotGrant.TheVariants as grants
@@ -61,7 +58,6 @@ use Rattle.device_defs.specs.Choosing.{
   provisionally_written,
 }
 use Rattle.device_defs.specs.Contents.{Contents}
-use Rattle.device_defs.specs.Cutting.{origin_cut, half_cut}
 use Rattle.device_defs.specs.Editing as E
 use Rattle.device_defs.specs.Editing.{
   another_loose,
@@ -79,7 +75,6 @@ use Rattle.device_defs.specs.Editing.{
   write,
 }
 use Rattle.device_defs.specs.Effects.{with_edit, hardened, loosened}
-use Rattle.device_defs.specs.Events.{with_loss, lost_by, losing}
 use Rattle.device_defs.specs.Image as I
 use Rattle.device_defs.specs.Image.{
   Got,
@@ -106,8 +101,7 @@ use Rattle.device_defs.specs.Image.{
   image_by,
   image,
 }
-use Rattle.device_defs.specs.Losses as L
-use Rattle.device_defs.specs.Losses.{slot_in, settled, stale_everywhere, framed_image, firm_told, all_firm_told, side_lost, call_failed, without_patch}
+use Rattle.device_defs.specs.Losses.{slot_in, settled, framed_image}
 use Rattle.device_defs.specs.Owed as O
 use Rattle.device_defs.specs.Owed.{
   is_owed,
@@ -136,29 +130,7 @@ use Rattle.device_defs.specs.Second.{
   second_by,
   second_part,
 }
-use Rattle.device_defs.specs.Store.{
-  Origin,
-  OfCommand,
-  OfCut,
-  OfBackground,
-  HalfWrite,
-  Store,
-  no_debt,
-  tracks_of,
-  stale_at,
-  level_at,
-  has_level,
-  some_up,
-  takes_b,
-  frame_at,
-  patch_at,
-  is_lost,
-  is_loose,
-  owed_at,
-  with_frame,
-  with_owed,
-  with_stale,
-}
+use Rattle.device_defs.specs.Store.{Origin, OfCommand, OfCut, OfBackground, HalfWrite, Store, no_debt, tracks_of, stale_at, level_at, has_level, some_up, takes_b, frame_at, patch_at, is_lost, is_loose, owed_at, with_frame, with_owed}
 use Rattle.device_defs.specs.Writing as V
 use Rattle.device_defs.specs.Writing.{
   Wrote,
@@ -185,14 +157,13 @@ use Rattle.device_laws.proofs.Always.{Always}
 use Rattle.device_laws.proofs.FailedCall.{IsWell}
 use Rattle.device_laws.proofs.TrackImage.{level_bytes_keeps_good}
 use Rattle.device_laws.proofs.TrackMarks.{IsFaithful}
-use Rattle.device_laws.proofs.Writes as Z
 use Rattle.device_laws.proofs.Writes.{is_taken, firm_first_keeps_good, write_first_keeps_good}
 use Rattle.device_laws.proofs.Choices.{choice_fits}
 use Rattle.device_laws.proofs.Working.{least_found, destaged_there, waits_there}
 use Rattle.device_laws.proofs.Lucky.{Lucky, lucky_done, lucky_try, lucky_ask, lucky_read, lucky_write, lucky_tell, lucky_then, lucky_weaker, lucky_if, lucky_tried, with_always}
 use Rattle.device_laws.proofs.TrackMarks as M
 use Rattle.device_laws.proofs.TrackMarks.{track_at}
-use Rattle.device_laws.proofs.Unlost.{Core, core_of, clear, Fine, Off, fine, fine_on, fine_off, off_on, off_down, taken_a_fine, everywhere_off, side_fine, settled_fine, fine_if}
+use Rattle.device_laws.proofs.Unlost.{Core, core_of, clear, Fine, Off, fine, fine_on, fine_off, off_down, taken_a_fine, everywhere_off, side_fine, settled_fine, fine_if}
 
 -- from a store on
 abbrev pub Goes : {F P H R A : Type 0} → Store F P H → Interaction R Image (Store F P H) A → Type 0
@@ -555,7 +526,7 @@ module _ {F P H R : Type 0} (c : Contents F P H R) where
     recovered_bytes_goes t s g None lt w there = lucky_done (fine (core_of s))
     recovered_bytes_goes t s g (Some r) lt w there = lucky_tried s _ (fine (core_of s)) (recovered_image_goes t s g (image_of c s t r) lt w there)
 
-    still_there : (s z : Store F P H) (t : ℕ) → Fine (core_of s) (core_of z) → is_lost s t ≡ false → is_lost z t ≡ false
+    pub still_there : (s z : Store F P H) (t : ℕ) → Fine (core_of s) (core_of z) → is_lost s t ≡ false → is_lost z t ≡ false
     still_there s z t f there = ap (λ (l : List Bool). get_or l t false) f.lost ∙ there
 
     recover_goes : (s : Store F P H) (t : ℕ) (o : Option F) → t < tracks_of s → IsWell c s → is_lost s t ≡ false → Goes s (recover c s t o)

@@ -9,3 +9,4 @@ pub mod Whole
 pub mod Places
 pub mod Handed
 pub mod Lent
+pub mod Unharmed

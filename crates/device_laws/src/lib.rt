@@ -3,6 +3,7 @@
 
 mod contents;
 mod keeping;
+mod losses;
 mod placeless;
 mod runs;
 mod transfers;
@@ -14,6 +15,9 @@ pub use contents::{
     order_is_on_device, second_part_is_plain, work_is_plain, write_is_plain,
 };
 pub use keeping::{pool_is_told_waiting, told_device_has_no_bad_bytes, turn_keeps_pledge};
+pub use losses::{
+    lost_list_grows_where_calls_fail, order_has_good_marks, unharmed_device_loses_no_track,
+};
 pub use placeless::{
     new_device_has_nothing, placeless_background_is_step, placeless_command_is_step,
     placeless_loss_is_step, placeless_power_is_step, placeless_reset_is_step,
