@@ -94,4 +94,5 @@ pub mod PlainCuts
 pub mod PlainPower
 pub mod PlainSeconds
 pub mod PlainOrders
+pub mod HistoryTold
 pub mod TouchedTracks
