@@ -94,6 +94,7 @@ pub mod PlainCuts
 pub mod PlainPower
 pub mod PlainSeconds
 pub mod PlainOrders
+pub mod HistoryTold
 pub mod TouchedTracks
 pub mod WholePower
 pub mod Based

@@ -138,7 +138,7 @@ one_more (suc k) lt = (k, refl)
 
 -- The command
 
-module _ (empty : PlainState) (d : MarksDevice) (f : Follows empty d) (o : OpenEntry) (running : d.history.running ≡ Some o) (chain : ChainState)
+module _ (num : ℕ) (empty : PlainState) (d : MarksDevice) (f : Follows num empty d) (o : OpenEntry) (running : d.history.running ≡ Some o) (chain : ChainState)
     (is : f.before ≡ Some chain) where
   abbrev p : PlainState
   p = plain_of d.plans empty d.history
@@ -167,6 +167,7 @@ module _ (empty : PlainState) (d : MarksDevice) (f : Follows empty d) (o : OpenE
     pub places : HasPlaces (core_of y)
     pub whole : y.half ≡ None
     pub home : y.lent ≡ None
+    pub number : y.device ≡ num
     pub geometry : y.geometry ≡ d.store.geometry
     pub cylinders : y.cylinders ≡ d.store.cylinders
 
@@ -209,7 +210,7 @@ module _ (empty : PlainState) (d : MarksDevice) (f : Follows empty d) (o : OpenE
           with_sense paths o.path (eff_of chain at.fresh d.paths o.path d.store.plain).outcome.ending.sense
           ≡ (eff_of chain at.fresh d.paths o.path d.store.plain).paths →
           IsEditOf part.state (eff_of chain at.fresh d.paths o.path d.store.plain).edit (core_of y) →
-          Follows empty (turned (record d { store = y; history = h; paths = paths }) o.path
+          Follows num empty (turned (record d { store = y; history = h; paths = paths }) o.path
           (record {
             came = Ends (end_with chain (eff_of chain at.fresh d.paths o.path d.store.plain).outcome);
             chain = behind chain (eff_of chain at.fresh d.paths o.path d.store.plain).outcome;
@@ -218,8 +219,8 @@ module _ (empty : PlainState) (d : MarksDevice) (f : Follows empty d) (o : OpenE
           let e = eff_of chain at.fresh d.paths o.path d.store.plain in
           let same = same_effect h entry path_is here volume kept in
           let x : MarksDevice = record d { store = y; history = h; paths = paths } in
-          subst (λ (path : ℕ). Follows empty (turned x path (record { came = Ends (end_with chain e.outcome); chain = behind chain e.outcome }))) path_is
-          (end_follows empty x (base_of y z) (some_of y z) z.places z.whole z.home entry runs chain legal due here going e.outcome
+          subst (λ (path : ℕ). Follows num empty (turned x path (record { came = Ends (end_with chain e.outcome); chain = behind chain e.outcome }))) path_is
+          (end_follows empty x (base_of y z) (some_of y z) z.places z.whole z.home num z.number entry runs chain legal due here going e.outcome
           (ap (λ (w : Effect). w.outcome) same)
           (subst (λ (w : Effect). MayEdit part.state part.stance w.edit) same may)
           (ap (λ (path : ℕ). with_sense paths path e.outcome.ending.sense) path_is ∙ sense ∙ ap (λ (w : Effect). w.paths) same)
@@ -264,25 +265,25 @@ module _ (empty : PlainState) (d : MarksDevice) (f : Follows empty d) (o : OpenE
     check_stands : StandsPlainly empty (with_store d y)
     check_stands = record { plain = plain_on y.acts are; due = due_on y.acts are }
 
-    pub equipment_on : IsOf (acts_done p y.acts) (core_of y) → (last : ChainState) → IsAtWord chain last → Follows empty (turned (with_store d y) o.path
+    pub equipment_on : IsOf (acts_done p y.acts) (core_of y) → (last : ChainState) → IsAtWord chain last → Follows num empty (turned (with_store d y) o.path
         (checks last Equipment))
     equipment_on of last word =
         let r = runs_on y.acts are in
-        subst (λ (path : ℕ). Follows empty (turned (with_store d y) path (checks last Equipment))) r.path_is
-        (equipment_follows empty (with_store d y) (base_of y z) (some_of y z) z.places z.whole z.home r.entry r.running chain check_stands
+        subst (λ (path : ℕ). Follows num empty (turned (with_store d y) path (checks last Equipment))) r.path_is
+        (equipment_follows empty (with_store d y) (base_of y z) (some_of y z) z.places z.whole z.home num z.number r.entry r.running chain check_stands
         (acts_keep_them empty d y f.stands are f.keeps) (subst (λ (x : PlainState). IsOf x (core_of y)) (sym (state_on y.acts are)) of) r.at.hand last word)
 
-    data_check_on : IsOf (acts_done p y.acts) (core_of y) → (last : ChainState) → IsAtWord chain last → Follows empty (turned (with_store d y) o.path
+    data_check_on : IsOf (acts_done p y.acts) (core_of y) → (last : ChainState) → IsAtWord chain last → Follows num empty (turned (with_store d y) o.path
         (checks last DataCheck))
     data_check_on of last word =
         let r = runs_on y.acts are in
-        subst (λ (path : ℕ). Follows empty (turned (with_store d y) path (checks last DataCheck))) r.path_is
-        (data_check_follows empty (with_store d y) (base_of y z) (some_of y z) z.places z.whole z.home r.entry r.running chain check_stands
+        subst (λ (path : ℕ). Follows num empty (turned (with_store d y) path (checks last DataCheck))) r.path_is
+        (data_check_follows empty (with_store d y) (base_of y z) (some_of y z) z.places z.whole z.home num z.number r.entry r.running chain check_stands
         (acts_keep_them empty d y f.stands are f.keeps) (subst (λ (x : PlainState). IsOf x (core_of y)) (sym (state_on y.acts are)) of) r.at.hand last word)
 
     whole_on : (paths : PathsState) → with_sense paths o.path the_effect.outcome.ending.sense ≡ the_effect.paths → (acts_done p y.acts).volume ≡ d.store.plain →
         MayEdit (acts_done p y.acts) chain.at.stance the_effect.edit → IsEditOf (acts_done p y.acts) the_effect.edit (core_of y) →
-        Follows empty (turned (record d { store = y; history = all_acted d.history y.acts; paths = paths }) o.path the_turn)
+        Follows num empty (turned (record d { store = y; history = all_acted d.history y.acts; paths = paths }) o.path the_turn)
     whole_on paths sense volume may of =
         let h = all_acted d.history y.acts in
         let s = replay d.plans empty h.items in
@@ -299,7 +300,7 @@ module _ (empty : PlainState) (d : MarksDevice) (f : Follows empty d) (o : OpenE
 
   -- Behind an act by which its track becomes loose, too
 
-  module _ (y : MarksStore) (z : Sized y) (c : Core) (w : Walks (plain_of d.plans empty d.history) d.store.plain d.store.geometry d.store.cylinders (None, d.store.lent) c)
+  module _ (y : MarksStore) (z : Sized y) (c : Core) (w : Walks (plain_of d.plans empty d.history) d.store.plain d.store.geometry d.store.cylinders (None, (d.store.lent, d.store.device)) c)
       (t : ℕ) (e : Edit) (firm : loose_at c t ≡ false) (inside : t < length c.loose) (provisional : is_provisional chain.at.stance.extent ≡ true)
       (core_is : core_of y ≡ loosely_edited_core (loosened_core c t) t e) (edit_is : the_effect.edit ≡ Some (record { track = t; edit = e })) where
     abbrev h1 : History
@@ -366,9 +367,9 @@ module _ (empty : PlainState) (d : MarksDevice) (f : Follows empty d) (o : OpenE
         (of_loosely_edited (act_done (acts_done p c.acts) (Loosen t)) (loosened_core c t)
         (of_loosened (acts_done p c.acts) c w.of t firm inside) t loose_now e))
 
-    loosening_on : with_sense d.paths o.path the_effect.outcome.ending.sense ≡ the_effect.paths → Follows empty (turned (with_store d y) o.path the_turn)
+    loosening_on : with_sense d.paths o.path the_effect.outcome.ending.sense ≡ the_effect.paths → Follows num empty (turned (with_store d y) o.path the_turn)
     loosening_on sense =
-        subst (λ (k : History). Follows empty (turned (record d { store = y; history = k }) o.path the_turn)) (sym history_is)
+        subst (λ (k : History). Follows num empty (turned (record d { store = y; history = k }) o.path the_turn)) (sym history_is)
         (ends_follow y z loose_history d.paths (plain_on c.acts w.are).legal due_later later refl r1.path_is here_later volume_later paths_later
         (subst (λ (x : Option ℕ). IsGoing d.plans s1 h1.items later x) (sym edited_is) going_later)
         (subst (λ (x : Option TrackEdit). MayEdit (open_part d.plans s1 later).state (open_part d.plans s1 later).stance x) (sym edit_is)
@@ -379,7 +380,7 @@ module _ (empty : PlainState) (d : MarksDevice) (f : Follows empty d) (o : OpenE
   -- Whatever it came to
 
   abbrev pub Walking : Core → Type 0
-  Walking c = Walks (plain_of d.plans empty d.history) d.store.plain d.store.geometry d.store.cylinders (None, d.store.lent) c
+  Walking c = Walks (plain_of d.plans empty d.history) d.store.plain d.store.geometry d.store.cylinders (None, (d.store.lent, d.store.device)) c
 
   lent_none : d.store.lent ≡ None
   lent_none = home_runs d.store.lent d.history.running f.home (subst (λ (r : Option OpenEntry). IsSome r) (sym running) refl)
@@ -391,7 +392,8 @@ module _ (empty : PlainState) (d : MarksDevice) (f : Follows empty d) (o : OpenE
       record {
         places = subst HasPlaces (sym e) places;
         whole = ap (λ (k : Open). k.0) opens;
-        home = ap (λ (k : Open). k.1) opens ∙ lent_none;
+        home = ap (λ (k : Open). k.1.0) opens ∙ lent_none;
+        number = ap (λ (k : Open). k.1.1) opens ∙ f.number;
         geometry = ap (λ (k : Core). k.geometry) e ∙ g ∙ w.geometry;
         cylinders = ap (λ (k : Core). k.cylinders) e ∙ n ∙ w.cylinders;
       }
@@ -405,8 +407,8 @@ module _ (empty : PlainState) (d : MarksDevice) (f : Follows empty d) (o : OpenE
 
   pub edited_follows : (y : MarksStore) (c : Core) (t : ℕ) (e : Edit) → core_of y ≡ c → the_effect.edit ≡ Some (record { track = t; edit = e }) →
       with_sense d.paths o.path the_effect.outcome.ending.sense ≡ the_effect.paths →
-      IsEdited (plain_of d.plans empty d.history) d.store.plain d.store.geometry d.store.cylinders (None, d.store.lent) (is_provisional chain.at.stance.extent) t e c →
-      Follows empty (turned (with_store d y) o.path the_turn)
+      IsEdited (plain_of d.plans empty d.history) d.store.plain d.store.geometry d.store.cylinders (None, (d.store.lent, d.store.device)) (is_provisional chain.at.stance.extent) t e c →
+      Follows num empty (turned (with_store d y) o.path the_turn)
   edited_follows y c t e same edit_is sense (firmly x d2 w firm how) =
       let are = acts_are y d2 x same (ap (λ (k : Core). k.acts) how) w in
       let state = state_of y d2 x same (ap (λ (k : Core). k.acts) how) in
@@ -435,7 +437,7 @@ module _ (empty : PlainState) (d : MarksDevice) (f : Follows empty d) (o : OpenE
 
   walked_follows : (y : MarksStore) (c : Core) → core_of y ≡ c → the_effect.edit ≡ None → (paths : PathsState) →
       with_sense paths o.path the_effect.outcome.ending.sense ≡ the_effect.paths → Walking c →
-      Follows empty (turned (record d { store = y; history = all_acted d.history y.acts; paths = paths }) o.path the_turn)
+      Follows num empty (turned (record d { store = y; history = all_acted d.history y.acts; paths = paths }) o.path the_turn)
   walked_follows y c same edit_is paths sense w =
       let are = acts_are y c c same refl w in
       let state = state_of y c c same refl in
@@ -446,15 +448,15 @@ module _ (empty : PlainState) (d : MarksDevice) (f : Follows empty d) (o : OpenE
 
   module _ (first : ℕ) where
     abbrev EditIs : Option TrackEdit → Core → Type 0
-    EditIs edit c = EditSo (plain_of d.plans empty d.history) d.store.plain d.store.geometry d.store.cylinders (None, d.store.lent)
+    EditIs edit c = EditSo (plain_of d.plans empty d.history) d.store.plain d.store.geometry d.store.cylinders (None, (d.store.lent, d.store.device))
         (settled_act chain.fixed.geometry d.paths o.path) chain on.0 first edit c
 
     abbrev HalfIs : ℕ → Edit → Core → Type 0
-    HalfIs t e c = HalfSo (plain_of d.plans empty d.history) d.store.plain d.store.geometry d.store.cylinders (None, d.store.lent) first t e c
+    HalfIs t e c = HalfSo (plain_of d.plans empty d.history) d.store.plain d.store.geometry d.store.cylinders (None, (d.store.lent, d.store.device)) first t e c
 
     edit_follows : (y : MarksStore) (c : Core) (edit : Option TrackEdit) → core_of y ≡ c → the_effect.edit ≡ edit →
         with_sense d.paths o.path the_effect.outcome.ending.sense ≡ the_effect.paths → EditIs edit c →
-        Follows empty (turned (with_store d y) o.path the_turn)
+        Follows num empty (turned (with_store d y) o.path the_turn)
     edit_follows y c None same edit_is sense w = walked_follows y c same edit_is d.paths sense w
     edit_follows y c (Some x) same edit_is sense w = edited_follows y c x.track x.edit same edit_is sense w
 
@@ -463,7 +465,7 @@ module _ (empty : PlainState) (d : MarksDevice) (f : Follows empty d) (o : OpenE
         IsAtWord chain next → ((v : List Track) → ((q : ℕ) → first ≤ q → q ≤ t → track_in v q ≡ track_in d.store.plain q) →
         fed (d.store.cylinders * 15) (track_in v) (settled_act chain.fixed.geometry d.paths o.path) chain
         ≡ ended_by next (settled_by next Written) (Some (record { track = t; edit = e }))) → HalfIs t e c →
-        Follows empty (record (with_store d y) { chain = Some next })
+        Follows num empty (record (with_store d y) { chain = Some next })
     half_follows y c t e next same needs below word does half =
         let x = half.before in
         let w = half.on in
@@ -474,6 +476,7 @@ module _ (empty : PlainState) (d : MarksDevice) (f : Follows empty d) (o : OpenE
         let g : y.geometry ≡ d.store.geometry = ap (λ (k : Core). k.geometry) core_is ∙ w.geometry in
         let n : y.cylinders ≡ d.store.cylinders = ap (λ (k : Core). k.cylinders) core_is ∙ w.cylinders in
         record {
+          number = ap (λ (k : Core). k.device) core_is ∙ ap (λ (k : Open). k.1.1) w.rest ∙ f.number;
           base = f.base ∙ ap (λ (k : Geometry). empty_state k d.store.cylinders) (sym g) ∙ ap (empty_state y.geometry) (sym n);
           some = subst (λ (k : ℕ). 0 < k) (sym n) f.some;
           stands = record { plain = plain_on y.acts are; due = due_on y.acts are };
@@ -502,22 +505,22 @@ module _ (empty : PlainState) (d : MarksDevice) (f : Follows empty d) (o : OpenE
                 ∙ does v (λ q above least. agrees q above least ∙ ap (λ (k : List Track). track_in k q) w.plain);
           });
           home = at_home y.lent (all_acted d.history y.acts).running
-              (ap (λ (k : Core). k.lent) core_is ∙ ap (λ (k : Open). k.1) w.rest ∙ lent_none);
+              (ap (λ (k : Core). k.lent) core_is ∙ ap (λ (k : Open). k.1.0) w.rest ∙ lent_none);
         }
 
     abbrev TurnSo : (List Track → Fed) → Turn → Core → Type 0
-    TurnSo k turn c = TurnIs (plain_of d.plans empty d.history) d.store.plain d.store.geometry d.store.cylinders (None, d.store.lent)
+    TurnSo k turn c = TurnIs (plain_of d.plans empty d.history) d.store.plain d.store.geometry d.store.cylinders (None, (d.store.lent, d.store.device))
         (settled_act chain.fixed.geometry d.paths o.path) chain on.0 first k first turn c
 
     turn_follows : (y : MarksStore) (c : Core) (k : List Track → Fed) (turn : Turn) → core_of y ≡ c → need_of chain ≡ Some first →
         k d.store.plain ≡ ended_by chain the_effect.outcome the_effect.edit →
         ((v : List Track) → k v ≡ fed (d.store.cylinders * 15) (track_in v) (settled_act chain.fixed.geometry d.paths o.path) chain) →
-        with_sense d.paths o.path the_effect.outcome.ending.sense ≡ the_effect.paths → TurnSo k turn c → Follows empty (turned (with_store d y) o.path turn)
+        with_sense d.paths o.path the_effect.outcome.ending.sense ≡ the_effect.paths → TurnSo k turn c → Follows num empty (turned (with_store d y) o.path turn)
     turn_follows y c k turn same needs fed_is as_fed sense (ended_so e after d2 end_is chain_is edit) =
         let ends : e ≡ end_with chain the_effect.outcome = sym end_is ∙ ap (λ (x : Fed). x.end) fed_is in
         let goes : after ≡ behind chain the_effect.outcome = sym chain_is ∙ ap (λ (x : Fed). x.chain) fed_is in
-        subst (λ (x : CommandEnd). Follows empty (turned (with_store d y) o.path (record { came = Ends x; chain = after }))) (sym ends)
-        (subst (λ (x : ChainState). Follows empty (turned (with_store d y) o.path (record { came = Ends (end_with chain the_effect.outcome); chain = x })))
+        subst (λ (x : CommandEnd). Follows num empty (turned (with_store d y) o.path (record { came = Ends x; chain = after }))) (sym ends)
+        (subst (λ (x : ChainState). Follows num empty (turned (with_store d y) o.path (record { came = Ends (end_with chain the_effect.outcome); chain = x })))
         (sym goes)
         (edit_follows y d2 the_effect.edit same refl sense (subst (λ (x : Fed). EditIs x.edit d2) fed_is edit)))
     turn_follows y c k turn same needs fed_is as_fed sense (half_open t e next d2 word below does half) =
@@ -542,7 +545,7 @@ module _ (empty : PlainState) (d : MarksDevice) (f : Follows empty d) (o : OpenE
       plain = refl;
       geometry = refl;
       cylinders = refl;
-      rest = ap (λ (h : Option (HalfWrite (Unit {0}))). (h, d.store.lent)) whole;
+      rest = ap (λ (h : Option (HalfWrite (Unit {0}))). (h, (d.store.lent, d.store.device))) whole;
     })
 
     abbrev started_with : MarksStore → MarksDevice
@@ -563,17 +566,17 @@ module _ (empty : PlainState) (d : MarksDevice) (f : Follows empty d) (o : OpenE
           ∙ fed_so chain at.fresh d.paths o.path d.store.plain (settled_act chain.fixed.geometry d.paths o.path) k.0 t k.1 needs
 
       by_turn : (t : ℕ) → need_of chain ≡ Some t → (y : MarksStore) (a : Option Turn) →
-          FollowSo (plain_of d.plans empty d.history) d.store.plain d.store.geometry d.store.cylinders (None, d.store.lent)
-          (settled_act chain.fixed.geometry d.paths o.path) chain on.0 t (tracks_of s) chain t y a → Had (on_tracks by_plain (started_with s) o.path chain y a) (λ x (_ : Option Stepped). Follows empty x)
+          FollowSo (plain_of d.plans empty d.history) d.store.plain d.store.geometry d.store.cylinders (None, (d.store.lent, d.store.device))
+          (settled_act chain.fixed.geometry d.paths o.path) chain on.0 t (tracks_of s) chain t y a → Had (on_tracks by_plain (started_with s) o.path chain y a) (λ x (_ : Option Stepped). Follows num empty x)
       by_turn t needs y None w = absurd w
       by_turn t needs y (Some turn) w =
           had_done (turn_follows t y (core_of y) (λ (v : List Track). fed (tracks_of s) (track_in v) (settled_act chain.fixed.geometry d.paths o.path) chain) turn
           refl needs (fed_is t needs)
           (λ v. ap (λ (c : Core). fed (c.cylinders * 15) (track_in v) (settled_act chain.fixed.geometry d.paths o.path) chain) e) (looking_keeps chain at.fresh d.paths o.path d.store.plain t needs) w)
 
-      tracked : (t : ℕ) → need_of chain ≡ Some t → Had (command_at by_plain (started_with s) o.path chain (Some t)) (λ x (_ : Option Stepped). Follows empty x)
+      tracked : (t : ℕ) → need_of chain ≡ Some t → Had (command_at by_plain (started_with s) o.path chain (Some t)) (λ x (_ : Option Stepped). Follows num empty x)
       tracked t needs =
-          had_then (follow_so (plain_of d.plans empty d.history) d.store.plain d.store.geometry d.store.cylinders (None, d.store.lent)
+          had_then (follow_so (plain_of d.plans empty d.history) d.store.plain d.store.geometry d.store.cylinders (None, (d.store.lent, d.store.device))
           (settled_act chain.fixed.geometry d.paths o.path) chain on.0 t (tracks_of s) chain t s (record {
             from = from_itself chain;
             needs = needs;
@@ -583,21 +586,21 @@ module _ (empty : PlainState) (d : MarksDevice) (f : Follows empty d) (o : OpenE
 
       -- it looks at no track
       answered_follows : (turn : Turn) (paths : PathsState) (made : Effect) → made ≡ the_effect →
-          AnswerIs chain at.fresh d.paths o.path d.store.plain made turn paths → Follows empty (turned (record (started_with s) { paths = paths }) o.path turn)
+          AnswerIs chain at.fresh d.paths o.path d.store.plain made turn paths → Follows num empty (turned (record (started_with s) { paths = paths }) o.path turn)
       answered_follows turn paths made same a =
-          subst (λ (x : Turn). Follows empty (turned (record (started_with s) { paths = paths }) o.path x))
+          subst (λ (x : Turn). Follows num empty (turned (record (started_with s) { paths = paths }) o.path x))
           (sym (a.turn_is ∙ ap (λ (x : Effect). record { came = Ends (end_with chain x.outcome); chain = behind chain x.outcome }) same))
-          (subst (λ (l : List Act). Follows empty (turned (record d { store = s; history = all_acted d.history l; paths = paths }) o.path the_turn)) no_acts
+          (subst (λ (l : List Act). Follows num empty (turned (record d { store = s; history = all_acted d.history l; paths = paths }) o.path the_turn)) no_acts
           (walked_follows s (core_of s) refl (ap (λ (x : Effect). x.edit) (sym same) ∙ a.none) paths
           (subst (λ (x : Effect). with_sense paths o.path x.outcome.ending.sense ≡ x.paths) same a.kept) (walking_first s e)))
 
       opened_answer : (x : Opened) → opening_at chain ≡ x → need_of chain ≡ None →
           Had (answered_by by_plain (started_with s) o.path (stepped_by (begin_with chain x) None (stage_for x.opening)).chain
-          (stepped_by (begin_with chain x) None (stage_for x.opening)).progress) (λ y (_ : Option Stepped). Follows empty y)
+          (stepped_by (begin_with chain x) None (stage_for x.opening)).progress) (λ y (_ : Option Stepped). Follows num empty y)
       opened_answer x same none = by_opening_of x.stance x.opening same where
         by_opening_of : (z : Stance) (k : Opening) → opening_at chain ≡ record { stance = z; opening = k } →
             Had (answered_by by_plain (started_with s) o.path (stepped_by (begin_with chain (record { stance = z; opening = k })) None (stage_for k)).chain
-            (stepped_by (begin_with chain (record { stance = z; opening = k })) None (stage_for k)).progress) (λ y (_ : Option Stepped). Follows empty y)
+            (stepped_by (begin_with chain (record { stance = z; opening = k })) None (stage_for k)).progress) (λ y (_ : Option Stepped). Follows num empty y)
         by_opening_of z (openings.Over ending) is =
             had_done (answered_follows _ d.paths _ (ap (λ (q : Opened). by_opening chain at.fresh d.paths o.path d.store.plain q.stance q.opening) (sym is))
             (over_answer chain at.fresh d.paths o.path d.store.plain z ending))
@@ -609,14 +612,14 @@ module _ (empty : PlainState) (d : MarksDevice) (f : Follows empty d) (o : OpenE
             absurd (let some : None ≡ Some _ = sym none ∙ needs_by chain at.fresh d.paths o.path d.store.plain
             ∙ ap (λ (q : Opened). needed (begin_with chain q) (stage_for q.opening)) is in cc)
 
-      untracked : need_of chain ≡ None → Had (command_at by_plain (started_with s) o.path chain None) (λ x (_ : Option Stepped). Follows empty x)
+      untracked : need_of chain ≡ None → Had (command_at by_plain (started_with s) o.path chain None) (λ x (_ : Option Stepped). Follows num empty x)
       untracked none =
           let same : stepped chain None ≡ stepped_by (begin_with chain (opening_at chain)) None (stage_for (opening_at chain).opening) =
           ap (λ (k : Option Stage). stepped_by (opened_by chain k) None (stage_by chain k)) at.fresh in
-          had_try (subst (λ (k : _). Had (answered_by by_plain (started_with s) o.path k.chain k.progress) (λ x (_ : Option Stepped). Follows empty x)) (sym same)
+          had_try (subst (λ (k : _). Had (answered_by by_plain (started_with s) o.path k.chain k.progress) (λ x (_ : Option Stepped). Follows num empty x)) (sym same)
           (opened_answer (opening_at chain) refl none))
 
-      by_need : (k : Option ℕ) → need_of chain ≡ k → Had (command_at by_plain (started_with s) o.path chain k) (λ x (_ : Option Stepped). Follows empty x)
+      by_need : (k : Option ℕ) → need_of chain ≡ k → Had (command_at by_plain (started_with s) o.path chain k) (λ x (_ : Option Stepped). Follows num empty x)
       by_need (Some t) needs = tracked t needs
       by_need None none = untracked none
 
@@ -624,27 +627,28 @@ module _ (empty : PlainState) (d : MarksDevice) (f : Follows empty d) (o : OpenE
       sized_first = let w = walking_first s e in sized_by s (core_of s) (core_of s) refl w w.places refl refl refl
 
       -- data of its own program were lost
-      lost_follows : Follows empty (turned (started_with s) o.path (checks chain Equipment))
+      lost_follows : Follows num empty (turned (started_with s) o.path (checks chain Equipment))
       lost_follows =
           let w = walking_first s e in
-          subst (λ (l : List Act). Follows empty (turned (record d { store = s; history = all_acted d.history l }) o.path (checks chain Equipment))) no_acts
+          subst (λ (l : List Act). Follows num empty (turned (record d { store = s; history = all_acted d.history l }) o.path (checks chain Equipment))) no_acts
           (equipment_on s sized_first w.are w.of chain (record { words = refl; next = refl }))
 
-      begun_follows : Had (command_by by_plain (started_with s) (Some o) (Some chain)) (λ x (_ : Option Stepped). Follows empty x)
+      begun_follows : Had (command_by by_plain (started_with s) (Some o) (Some chain)) (λ x (_ : Option Stepped). Follows num empty x)
       begun_follows = had_if (has_loss o.acts) (λ _. had_done lost_follows) (λ _. by_need (need_of chain) refl)
 
-      pub command_by_follows : Had (command_by by_plain (started_with s) d.history.running d.chain) (λ x (_ : Option Stepped). Follows empty x)
+      pub command_by_follows : Had (command_by by_plain (started_with s) d.history.running d.chain) (λ x (_ : Option Stepped). Follows num empty x)
       command_by_follows =
-          subst (λ (r : Option OpenEntry). Had (command_by by_plain (started_with s) r d.chain) (λ x (_ : Option Stepped). Follows empty x)) (sym running)
-          (subst (λ (k : Option ChainState). Had (command_by by_plain (started_with s) (Some o) k) (λ x (_ : Option Stepped). Follows empty x)) (sym now)
+          subst (λ (r : Option OpenEntry). Had (command_by by_plain (started_with s) r d.chain) (λ x (_ : Option Stepped). Follows num empty x)) (sym running)
+          (subst (λ (k : Option ChainState). Had (command_by by_plain (started_with s) (Some o) k) (λ x (_ : Option Stepped). Follows num empty x)) (sym now)
           begun_follows)
 
 -- The event
 
-module _ (empty : PlainState) where
+module _ (num : ℕ) (empty : PlainState) where
   -- a store of the same core
-  pub follows_store : (d : MarksDevice) → Follows empty d → (z : MarksStore) → core_of z ≡ core_of d.store → Follows empty (record d { store = z })
+  pub follows_store : (d : MarksDevice) → Follows num empty d → (z : MarksStore) → core_of z ≡ core_of d.store → Follows num empty (record d { store = z })
   follows_store d f z e = record {
+    number = ap (λ (c : Core). c.device) e ∙ f.number;
     base = subst (λ (c : Core). empty ≡ empty_state c.geometry c.cylinders) (sym e) f.base;
     some = subst (λ (c : Core). 0 < c.cylinders) (sym e) f.some;
     stands = record { plain = f.stands.plain; due = f.stands.due };
@@ -659,23 +663,23 @@ module _ (empty : PlainState) where
   }
 
   pub event_follows : {A : Type 0} (d : MarksDevice) (body : MarksDevice → Interaction Bool Image MarksDevice A) →
-      ((s : MarksStore) → core_of s ≡ core_of (begun d.store) → Had (body (record (event_begun d) { store = s })) (λ y (_ : A). Follows empty y)) →
-      Had (event by_plain d body) (λ y (_ : A). Follows empty y)
+      ((s : MarksStore) → core_of s ≡ core_of (begun d.store) → Had (body (record (event_begun d) { store = s })) (λ y (_ : A). Follows num empty y)) →
+      Had (event by_plain d body) (λ y (_ : A). Follows num empty y)
   event_follows d body h =
       had_then (had_then (hear_same 960 (begun d.store)) (λ s _ e. h s e))
       (λ y a g. had_then (ended_same (waiting_count by_plain d.store) y.store) (λ z _ e. had_done (follows_store y g z e)))
 
-  by_chain : (d : MarksDevice) (f : Follows empty d) (o : OpenEntry) → d.history.running ≡ Some o → d.store.half ≡ None →
-      (k : Option ChainState) → f.before ≡ k → Had (command by_plain d) (λ y (_ : Option Stepped). Follows empty y)
+  by_chain : (d : MarksDevice) (f : Follows num empty d) (o : OpenEntry) → d.history.running ≡ Some o → d.store.half ≡ None →
+      (k : Option ChainState) → f.before ≡ k → Had (command by_plain d) (λ y (_ : Option Stepped). Follows num empty y)
   unfolding N.command
   by_chain d f o running whole None is = absurd
       (subst (λ (k : Option ChainState). RunsAt d.plans (replay d.plans empty d.history.items) (Some o) k) is
       (subst (λ (r : Option OpenEntry). RunsAt d.plans (replay d.plans empty d.history.items) r f.before) running f.runs))
   by_chain d f o running whole (Some chain) is =
       let now = none_mid (core_of d.store) d.store.half d.history.running f.before d.chain whole f.mid ∙ is in
-      had_try (event_follows d (λ z. command_by by_plain z z.history.running z.chain) (λ s e. command_by_follows empty d f o running chain is now whole s e))
+      had_try (event_follows d (λ z. command_by by_plain z z.history.running z.chain) (λ s e. command_by_follows num empty d f o running chain is now whole s e))
 
   -- a command of the running program
-  pub command_follows : (d : MarksDevice) → Follows empty d → (o : OpenEntry) → d.history.running ≡ Some o → d.store.half ≡ None →
-      Had (command by_plain d) (λ y (_ : Option Stepped). Follows empty y)
+  pub command_follows : (d : MarksDevice) → Follows num empty d → (o : OpenEntry) → d.history.running ≡ Some o → d.store.half ≡ None →
+      Had (command by_plain d) (λ y (_ : Option Stepped). Follows num empty y)
   command_follows d f o running whole = by_chain d f o running whole f.before refl

@@ -61,7 +61,7 @@ sense_forgotten paths path (Some sense) =
 
 -- The half write of a command, whose edit is that of the plain device's command at hand
 
-module _ (empty : PlainState) (d : MarksDevice) (f : Follows empty d) (o : OpenEntry) (running : d.history.running ≡ Some o) (t : ℕ) (e : Edit)
+module _ (num : ℕ) (empty : PlainState) (d : MarksDevice) (f : Follows num empty d) (o : OpenEntry) (running : d.history.running ≡ Some o) (t : ℕ) (e : Edit)
     (mid : Halfway (core_of d.store) t e d.history.running f.before d.chain) where
   abbrev chain : ChainState
   chain = mid.origin
@@ -73,15 +73,15 @@ module _ (empty : PlainState) (d : MarksDevice) (f : Follows empty d) (o : OpenE
   part = open_part d.plans (replay d.plans empty d.history.items) o
 
   abbrev pub its_effect : Effect
-  its_effect = the_effect empty d f o running mid.origin mid.begins
+  its_effect = the_effect num empty d f o running mid.origin mid.begins
 
   pub begins_at : AtPart d.plans (replay d.plans empty d.history.items) o mid.origin
-  begins_at = at empty d f o running mid.origin mid.begins
+  begins_at = at num empty d f o running mid.origin mid.begins
 
   pub its_end : ended_by mid.origin its_effect.outcome its_effect.edit
       ≡ ended_by mid.chain (settled_by mid.chain Written) (Some (record { track = t; edit = e }))
   its_end =
-      let many = (on empty d f o running mid.origin mid.begins).1 in
+      let many = (on num empty d f o running mid.origin mid.begins).1 in
       let some = f.some in
       let k = one_more (mid.origin.fixed.cylinders * 15) (omega (arith, some, many)) in
       sym (ap (λ (i : ℕ). fed i (track_in d.store.plain) mid.answer mid.origin) (ap (λ (i : ℕ). i * 15) (sym many) ∙ sym k.1)
@@ -102,7 +102,7 @@ module _ (empty : PlainState) (d : MarksDevice) (f : Follows empty d) (o : OpenE
 
   same : its_effect ≡ effect_at d.plans (replay d.plans empty d.history.items) d.history.items o (index_of mid.origin.at.next)
   same =
-      same_effect empty d f o running mid.origin mid.begins d.history o refl begins_at (ap (λ (x : PlainState). x.volume) (sym state_is) ∙ f.of.volume)
+      same_effect num empty d f o running mid.origin mid.begins d.history o refl begins_at (ap (λ (x : PlainState). x.volume) (sym state_is) ∙ f.of.volume)
       (ap (λ (x : PlainState). x.paths) (sym state_is) ∙ sym f.keeps)
 
   next_at : part.next ≡ Some (index_of mid.origin.at.next)
@@ -144,7 +144,7 @@ module _ (empty : PlainState) (d : MarksDevice) (f : Follows empty d) (o : OpenE
 
 -- What a cut takes of it
 
-module _ (empty : PlainState) (d : MarksDevice) (f : Follows empty d) where
+module _ (num : ℕ) (empty : PlainState) (d : MarksDevice) (f : Follows num empty d) where
   abbrev state_at : PlainState
   state_at = replay d.plans empty d.history.items
 
@@ -171,6 +171,7 @@ module _ (empty : PlainState) (d : MarksDevice) (f : Follows empty d) where
     pub geometry : z.geometry ≡ y.geometry
     pub cylinders : z.cylinders ≡ y.cylinders
     pub lent : z.lent ≡ y.lent
+    pub device : z.device ≡ y.device
     pub acts : z.acts ≡ y.acts
     pub free : (c : Core) (r : Option OpenEntry) → IsMid c z.half r None None
 
@@ -204,6 +205,7 @@ module _ (empty : PlainState) (d : MarksDevice) (f : Follows empty d) where
       geometry = refl;
       cylinders = refl;
       lent = refl;
+      device = refl;
       acts = refl;
       free = free;
     }
@@ -220,15 +222,16 @@ module _ (empty : PlainState) (d : MarksDevice) (f : Follows empty d) where
         let go = running ∙ is in
         let p = taken_state d.plans state_at o 1 in
         subst (λ (k : Option OpenEntry). CutSo k 1 y z) (sym is) (record {
-          may = may_one empty d f o go h.track x mid;
-          forgotten = one_forgotten empty d f o go h.track x mid;
+          may = may_one num empty d f o go h.track x mid;
+          forgotten = one_forgotten num empty d f o go h.track x mid;
           of = subst (λ (c : Core). IsOf p (with_half c z.half)) (sym (edited_same h.track x))
               (of_half p (record (edited_core (core_of d.store) h.track x) { acts = y.acts })
-              (of_acts p (edited_core (core_of d.store) h.track x) (of_one empty d f o go h.track x mid) y.acts) z.half);
+              (of_acts p (edited_core (core_of d.store) h.track x) (of_one num empty d f o go h.track x mid) y.acts) z.half);
           places = subst HasPlaces (sym e) f.places;
           geometry = refl;
           cylinders = refl;
           lent = refl;
+          device = refl;
           acts = refl;
           free = λ c j. refl;
         })
@@ -268,7 +271,7 @@ module _ (empty : PlainState) (d : MarksDevice) (f : Follows empty d) where
       MayAll (Some h)
   may_origin h (OfCommand bypass x) is mid o running =
       subst (λ (k : Origin). MayBy (Some o) (if K.is_of_command k then 1 else 0) × ForgottenBy (Some o) (if K.is_of_command k then 1 else 0)) (sym is)
-      (may_one empty d f o running h.track x mid, one_forgotten empty d f o running h.track x mid)
+      (may_one num empty d f o running h.track x mid, one_forgotten num empty d f o running h.track x mid)
   may_origin h (OfCut bypass) is mid o running =
       subst (λ (k : Origin). MayBy (Some o) (if K.is_of_command k then 1 else 0) × ForgottenBy (Some o) (if K.is_of_command k then 1 else 0)) (sym is)
       (tt, none_forgotten (Some o) running)
@@ -299,6 +302,7 @@ module _ (empty : PlainState) (d : MarksDevice) (f : Follows empty d) where
     pub places : HasPlaces (core_of y.store)
     pub geometry : y.store.geometry ≡ d.store.geometry
     pub cylinders : y.store.cylinders ≡ d.store.cylinders
+    pub device : y.store.device ≡ d.store.device
     pub before : Option ChainState
     pub runs : RunsAt y.plans (replay y.plans empty y.history.items) y.history.running before
     pub chain : ChainOf d.store.geometry d.store.cylinders before
@@ -326,6 +330,7 @@ module _ (empty : PlainState) (d : MarksDevice) (f : Follows empty d) where
           places = cut.places;
           geometry = cut.geometry;
           cylinders = cut.cylinders;
+          device = cut.device;
           before = None;
           runs = runs_idle d.plans (replay d.plans empty (history_reset d.history path n).items) (history_reset d.history path n).running None stopped;
           chain = tt;
@@ -350,6 +355,7 @@ module _ (empty : PlainState) (d : MarksDevice) (f : Follows empty d) where
           places = f.places;
           geometry = refl;
           cylinders = refl;
+          device = refl;
           before = f.before;
           runs = subst (λ (h : History). RunsAt d.plans (replay d.plans empty h.items) h.running f.before) (sym is)
               (cond_both (is_used path false d.history.items) (record d.history { waiting = put path d.history.waiting }) d.history
@@ -376,6 +382,7 @@ module _ (empty : PlainState) (d : MarksDevice) (f : Follows empty d) where
           places = f.places;
           geometry = refl;
           cylinders = refl;
+          device = refl;
           before = f.before;
           runs = runs_idle d.plans (replay d.plans empty (history_reset d.history path 0).items) (history_reset d.history path 0).running f.before stopped;
           chain = f.chain;
@@ -395,6 +402,7 @@ module _ (empty : PlainState) (d : MarksDevice) (f : Follows empty d) where
           places = f.places;
           geometry = refl;
           cylinders = refl;
+          device = refl;
           before = f.before;
           runs = f.runs;
           chain = f.chain;
@@ -410,12 +418,13 @@ module _ (empty : PlainState) (d : MarksDevice) (f : Follows empty d) where
     chain_by g h m n None sized many its = tt
     chain_by g h m n (Some k) sized many its = (its.0 ∙ sym sized, its.1 ∙ sym many)
 
-    pub reset_follows : Had (reset by_plain d path) (λ y (_ : Unit {0}). Follows empty y)
+    pub reset_follows : Had (reset by_plain d path) (λ y (_ : Unit {0}). Follows num empty y)
     reset_follows =
         had_weaker
         (had_both resets (had_both (had_always (reset_stands by_plain empty d f.stands path may))
         (had_always (reset_keeps_paths by_plain empty d f.stands f.keeps path may forgotten))))
         (λ y _ g. record {
+          number = g.0.device ∙ f.number;
           base = f.base ∙ ap (λ (x : Geometry). empty_state x d.store.cylinders) (sym g.0.geometry) ∙ ap (empty_state y.store.geometry) (sym g.0.cylinders);
           some = subst (λ (m : ℕ). 0 < m) (sym g.0.cylinders) f.some;
           stands = g.1.0;

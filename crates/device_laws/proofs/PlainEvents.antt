@@ -66,8 +66,9 @@ none_loose n t = by_place (cases_lt t n) where
   by_place (inl lt) = get_or-replicate n t false false lt
   by_place (inr le) = let many : length (replicate n false) ≡ n = length-replicate n false in get_or_past (replicate n false) t false (omega (arith, le, many))
 
-pub new_follows : (d : ℕ) (g : Geometry) (n : ℕ) (plans : Plans) → 0 < n → Follows (empty_state g n) (new_device d g n plans)
+pub new_follows : (d : ℕ) (g : Geometry) (n : ℕ) (plans : Plans) → 0 < n → Follows d (empty_state g n) (new_device d g n plans)
 new_follows d g n plans some = record {
+  number = refl;
   base = refl;
   some = some;
   stands = new_stands (empty_state g n) (new_device d g n plans) refl;
@@ -106,7 +107,7 @@ starts_at_home : (d : MarksDevice) (path : ℕ) → start_fault d path ≡ None 
 unfolding S.start_fault
 starts_at_home d path is = home_by d path d.store.lent is
 
-module _ (empty : PlainState) (d : MarksDevice) (f : Follows empty d) where
+module _ (num : ℕ) (empty : PlainState) (d : MarksDevice) (f : Follows num empty d) where
   abbrev s : PlainState
   s = replay d.plans empty d.history.items
 
@@ -125,11 +126,12 @@ module _ (empty : PlainState) (d : MarksDevice) (f : Follows empty d) where
         ∙ ap (λ (n : ℕ). record { geometry = s.geometry; cylinders = s.cylinders; number = n }) (sym of.number)
 
     -- a path's next program
-    pub start_follows : start_fault d path ≡ None → Follows empty (start d path)
+    pub start_follows : start_fault d path ≡ None → Follows num empty (start d path)
     unfolding S.start
     start_follows is =
         let none = starts_where_idle d path is in
         record {
+          number = f.number;
           base = f.base;
           some = f.some;
           stands = start_stands empty d f.stands path least most (idle_paths empty d f.keeps none) is;

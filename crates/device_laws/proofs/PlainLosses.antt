@@ -260,7 +260,7 @@ module _ (p : PlainState) (g : Geometry) (n : ℕ) (first : Core) where
 
 -- Work in the background
 
-module _ (p : PlainState) (u : List Track) (g : Geometry) (n : ℕ) (lent : Option ℕ) where
+module _ (p : PlainState) (u : List Track) (g : Geometry) (n : ℕ) (lent : Option ℕ × ℕ) where
   abbrev On : MarksStore → Type 0
   On s = Walks p u g n (None, lent) (core_of s)
 
@@ -388,23 +388,24 @@ still_some : (acts : List Act) (h : History) → IsSome h.running → IsSome (al
 still_some [] h some = some
 still_some (act ∷ acts) h some = still_some acts (acted h act) (act_some h act h.running some)
 
-module _ (empty : PlainState) (d : MarksDevice) (f : Follows empty d) where
+module _ (num : ℕ) (empty : PlainState) (d : MarksDevice) (f : Follows num empty d) where
   runs_by : (acts : List Act) → AreActs (plain_of d.plans empty d.history) None acts → (r : Option OpenEntry) → d.history.running ≡ r →
       (k : Option ChainState) → f.before ≡ k → RunsAt d.plans (replay d.plans empty (all_acted d.history acts).items) (all_acted d.history acts).running k
   runs_by acts are (Some o) running None is = absurd
       (subst (λ (k : Option ChainState). RunsAt d.plans (replay d.plans empty d.history.items) (Some o) k) is
       (subst (λ (r : Option OpenEntry). RunsAt d.plans (replay d.plans empty d.history.items) r f.before) running f.runs))
   runs_by acts are (Some o) running (Some chain) is =
-      let r = all_run empty d f o running chain is o.path acts d.history f.stands.plain f.stands.due are (runs_first empty d f o running chain is) in
+      let r = all_run num empty d f o running chain is o.path acts d.history f.stands.plain f.stands.due are (runs_first num empty d f o running chain is) in
       subst (λ (x : Option OpenEntry). RunsAt d.plans (replay d.plans empty (all_acted d.history acts).items) x (Some chain)) (sym r.running) r.at
   runs_by acts are None none k is =
       idle d.plans (replay d.plans empty (all_acted d.history acts).items) (all_acted d.history acts).running k (still_none acts d.history none)
 
   -- behind the acts of an event
   pub acts_follow : (y : MarksStore) (u : List Track) →
-      Walks (plain_of d.plans empty d.history) u d.store.geometry d.store.cylinders (y.half, d.store.lent) (core_of y) →
-      IsMid (core_of y) y.half (all_acted d.history y.acts).running f.before d.chain → Follows empty (with_store d y)
+      Walks (plain_of d.plans empty d.history) u d.store.geometry d.store.cylinders (y.half, (d.store.lent, d.store.device)) (core_of y) →
+      IsMid (core_of y) y.half (all_acted d.history y.acts).running f.before d.chain → Follows num empty (with_store d y)
   acts_follow y u k mid = record {
+    number = ap (λ (x : Open). x.1.1) k.rest ∙ f.number;
     base = f.base ∙ ap (λ (g : Geometry). empty_state g d.store.cylinders) (sym k.geometry) ∙ ap (empty_state y.geometry) (sym k.cylinders);
     some = subst (λ (m : ℕ). 0 < m) (sym k.cylinders) f.some;
     stands = acts_stand empty d y f.stands k.are;
@@ -415,7 +416,7 @@ module _ (empty : PlainState) (d : MarksDevice) (f : Follows empty d) where
     runs = runs_by y.acts k.are d.history.running refl f.before refl;
     chain = chain_by y k.geometry k.cylinders f.before f.chain;
     mid = mid;
-    home = subst (λ (l : Option ℕ). IsAtHome l (all_acted d.history y.acts).running) (sym (ap (λ (x : Open). x.1) k.rest))
+    home = subst (λ (l : Option ℕ). IsAtHome l (all_acted d.history y.acts).running) (sym (ap (λ (x : Open). x.1.0) k.rest))
         (home_stays d.store.lent d.history.running (all_acted d.history y.acts).running (still_none y.acts d.history) f.home);
   } where
     chain_by : (y : MarksStore) → y.geometry ≡ d.store.geometry → y.cylinders ≡ d.store.cylinders → (c : Option ChainState) →
@@ -425,19 +426,19 @@ module _ (empty : PlainState) (d : MarksDevice) (f : Follows empty d) where
 
   -- with the same half write
   pub walked_follow : (y : MarksStore) → Walked (plain_of d.plans empty d.history) d.store.geometry d.store.cylinders (core_of d.store) (core_of y) →
-      Follows empty (with_store d y)
+      Follows num empty (with_store d y)
   walked_follow y w =
       let half : y.half ≡ d.store.half = ap (λ (x : Open). x.0) w.walks.rest in
       acts_follow y w.plain
-      (subst (λ (h : Option (HalfWrite (Unit {0}))). Walks (plain_of d.plans empty d.history) w.plain d.store.geometry d.store.cylinders (h, d.store.lent)
+      (subst (λ (h : Option (HalfWrite (Unit {0}))). Walks (plain_of d.plans empty d.history) w.plain d.store.geometry d.store.cylinders (h, (d.store.lent, d.store.device))
       (core_of y)) (sym half) w.walks)
       (subst (λ (h : Option (HalfWrite (Unit {0}))). IsMid (core_of y) h (all_acted d.history y.acts).running f.before d.chain) (sym half)
       (mid_stays (core_of d.store) (core_of y) d.store.half d.history.running (all_acted d.history y.acts).running f.before d.chain w.stays
       w.walks.cylinders (still_some y.acts d.history) f.mid))
 
   pub walks_first : (s : MarksStore) → core_of s ≡ core_of (begun d.store) →
-      Walks (plain_of d.plans empty d.history) d.store.plain d.store.geometry d.store.cylinders (d.store.half, d.store.lent) (core_of s)
-  walks_first s e = subst (Walks (plain_of d.plans empty d.history) d.store.plain d.store.geometry d.store.cylinders (d.store.half, d.store.lent)) (sym e)
+      Walks (plain_of d.plans empty d.history) d.store.plain d.store.geometry d.store.cylinders (d.store.half, (d.store.lent, d.store.device)) (core_of s)
+  walks_first s e = subst (Walks (plain_of d.plans empty d.history) d.store.plain d.store.geometry d.store.cylinders (d.store.half, (d.store.lent, d.store.device))) (sym e)
       (record {
         of = of_begun (plain_of d.plans empty d.history) (core_of d.store) f.of;
         are = tt;
@@ -449,9 +450,9 @@ module _ (empty : PlainState) (d : MarksDevice) (f : Follows empty d) where
       })
 
   -- a loss
-  pub loss_follows : (loss : Loss) → Had (lose by_plain d loss) (λ y (_ : Unit {0}). Follows empty y)
+  pub loss_follows : (loss : Loss) → Had (lose by_plain d loss) (λ y (_ : Unit {0}). Follows num empty y)
   unfolding V.lose
-  loss_follows loss = event_follows empty d (λ z. and_then (losing by_plain z.store loss) (λ s _. Done (with_store z s) tt)) (λ s e.
+  loss_follows loss = event_follows num empty d (λ z. and_then (losing by_plain z.store loss) (λ s _. Done (with_store z s) tt)) (λ s e.
       had_then (losing_goes (plain_of d.plans empty d.history) d.store.geometry d.store.cylinders (core_of d.store) s loss (record {
         plain = d.store.plain;
         walks = walks_first s e;
@@ -460,11 +461,11 @@ module _ (empty : PlainState) (d : MarksDevice) (f : Follows empty d) where
       (λ z _ w. had_done (walked_follow z w)))
 
   -- what it does by itself
-  pub background_follows : d.store.half ≡ None → Had (background by_plain d) (λ y (_ : Option Did). Follows empty y)
+  pub background_follows : d.store.half ≡ None → Had (background by_plain d) (λ y (_ : Option Did). Follows num empty y)
   unfolding V.background
-  background_follows whole = event_follows empty d (λ z. and_then (work by_plain z.store) (λ s did. Done (with_store z s) did)) (λ s e.
-      had_then (work_on (plain_of d.plans empty d.history) d.store.plain d.store.geometry d.store.cylinders d.store.lent s
+  background_follows whole = event_follows num empty d (λ z. and_then (work by_plain z.store) (λ s did. Done (with_store z s) did)) (λ s e.
+      had_then (work_on (plain_of d.plans empty d.history) d.store.plain d.store.geometry d.store.cylinders (d.store.lent, d.store.device) s
       (subst (λ (h : Option (HalfWrite (Unit {0}))). Walks (plain_of d.plans empty d.history) d.store.plain d.store.geometry d.store.cylinders
-      (h, d.store.lent) (core_of s)) whole (walks_first s e)))
+      (h, (d.store.lent, d.store.device)) (core_of s)) whole (walks_first s e)))
       (λ z did w. had_done (acts_follow z d.store.plain w.walks (w.free (core_of z) (all_acted d.history z.acts).running f.before d.chain
       (none_mid (core_of d.store) d.store.half d.history.running f.before d.chain whole f.mid)))))

@@ -58,9 +58,10 @@ given_same t z =
     ∙ cond_both (is_some (frame_at z t)) (record (with_frame z t None) { owed = set z.owed t (record (owed_at z t) { dropped = true }) }) z
     (λ (x : MarksStore). core_of x ≡ core_of z) (λ _. framed_same z t None) (λ _. refl)
 
-module _ (empty : PlainState) (d : MarksDevice) (f : Follows empty d) (none : d.history.running ≡ None) where
-  away_follows : (to : ℕ) (z : MarksStore) → core_of z ≡ away_core (core_of d.store) to → Follows empty (record d { store = z })
+module _ (num : ℕ) (empty : PlainState) (d : MarksDevice) (f : Follows num empty d) (none : d.history.running ≡ None) where
+  away_follows : (to : ℕ) (z : MarksStore) → core_of z ≡ away_core (core_of d.store) to → Follows num empty (record d { store = z })
   away_follows to z e = record {
+    number = ap (λ (c : Core). c.device) e ∙ f.number;
     base = subst (λ (c : Core). empty ≡ empty_state c.geometry c.cylinders) (sym e) f.base;
     some = subst (λ (c : Core). 0 < c.cylinders) (sym e) f.some;
     stands = record { plain = f.stands.plain; due = f.stands.due };
@@ -77,14 +78,14 @@ module _ (empty : PlainState) (d : MarksDevice) (f : Follows empty d) (none : d.
   }
 
   -- it runs nothing
-  pub lend_follows : (to : ℕ) → Had (lend by_plain d to) (λ y (_ : Unit {0}). Follows empty y)
+  pub lend_follows : (to : ℕ) → Had (lend by_plain d to) (λ y (_ : Unit {0}). Follows num empty y)
   unfolding O.lend
   lend_follows to =
       let s = over (tracks_of d.store) (given_up by_plain) (begun d.store) in
       let same = over_same (tracks_of d.store) (given_up by_plain) given_same (begun d.store) in
-      had_then {A = Unit {0}} {p = λ y _. Follows empty y}
+      had_then {A = Unit {0}} {p = λ y _. Follows num empty y}
       (had_done (away_follows to (lent_to s to) (ap (λ (c : Core). record c { lent = Some to }) same)))
-      (λ y a g. had_then (ended_same (waiting_count by_plain d.store) y.store) (λ z _ e. had_done (follows_store empty y g z e)))
+      (λ y a g. had_then (ended_same (waiting_count by_plain d.store) y.store) (λ z _ e. had_done (follows_store num empty y g z e)))
 
   -- An empty volume
 
@@ -117,8 +118,9 @@ module _ (empty : PlainState) (d : MarksDevice) (f : Follows empty d) (none : d.
       }
 
   -- it is an empty device's that runs nothing
-  pub restore_follows : Follows empty (restore d)
+  pub restore_follows : Follows num empty (restore d)
   restore_follows = record {
+    number = f.number;
     base = f.base;
     some = f.some;
     stands = restore_stands empty d f.stands none;

@@ -118,6 +118,7 @@ record IsGoneBack (p : PlainState) (s z : MarksStore) : Type 0 where
   geometry : z.geometry ≡ s.geometry
   cylinders : z.cylinders ≡ s.cylinders
   half : z.half ≡ s.half
+  device : z.device ≡ s.device
 
 -- an open half write ends
 ended_core : (z : MarksStore) (h : HalfWrite (Unit {0})) (origin : Origin) → core_of (half_ended by_plain z h origin) ≡ with_half (core_of z) None
@@ -150,6 +151,7 @@ module _ (p : PlainState) (s : MarksStore) (of : IsOf p (core_of s)) (places : H
     geometry = refl;
     cylinders = refl;
     half = refl;
+    device = refl;
   }
   gone_by (Some t) e = record {
     of = subst (λ (x : PlainState). IsOf x (core_of (gone_back s)))
@@ -159,6 +161,7 @@ module _ (p : PlainState) (s : MarksStore) (of : IsOf p (core_of s)) (places : H
     geometry = refl;
     cylinders = refl;
     half = refl;
+    device = refl;
   }
 
   abbrev whole_core : Core
@@ -199,20 +202,25 @@ module _ (p : PlainState) (s : MarksStore) (of : IsOf p (core_of s)) (places : H
   pub powerless_cylinders : (powerless by_plain s).cylinders ≡ s.cylinders
   powerless_cylinders = powerless_goes.walks.cylinders
 
+  pub powerless_device : (powerless by_plain s).device ≡ s.device
+  powerless_device =
+      let gone = gone_by (least (tracks_of s) (is_loose s)) refl in
+      ap (λ (x : Open). x.1.1) powerless_goes.walks.rest ∙ gone.device
+
   pub powerless_half : (powerless by_plain s).half ≡ None
   powerless_half = ap (λ (x : Open). x.0) powerless_goes.walks.rest
 
 -- The event
 
-module _ (empty : PlainState) (d : MarksDevice) (f : Follows empty d) where
+module _ (num : ℕ) (empty : PlainState) (d : MarksDevice) (f : Follows num empty d) where
   abbrev n : ℕ
   n = counts_one_by d.store.half
 
-  state_on : (c : Core) (r : Option OpenEntry) → d.history.running ≡ r → IsOf (lost_state (taken_by empty d f r n)) c →
+  state_on : (c : Core) (r : Option OpenEntry) → d.history.running ≡ r → IsOf (lost_state (taken_by num empty d f r n)) c →
       IsOf (plain_of d.plans empty (lost_power d.history n)) c
   state_on c (Some o) running of =
-      subst (λ (x : PlainState). IsOf x c) (sym (power_cut_state d.plans empty d.history f.stands.plain o running n (may empty d f o running)))
-      (of_paths (lost_state (taken_by empty d f (Some o) n)) c of fresh_paths)
+      subst (λ (x : PlainState). IsOf x c) (sym (power_cut_state d.plans empty d.history f.stands.plain o running n (may num empty d f o running)))
+      (of_paths (lost_state (taken_by num empty d f (Some o) n)) c of fresh_paths)
   state_on c None none of = by_start (cases_Bool (is_started false d.history.items)) where
     by_start : (is_started false d.history.items ≡ true) ⊎ (is_started false d.history.items ≡ false) → IsOf (plain_of d.plans empty (lost_power d.history n)) c
     by_start (inl began) =
@@ -243,13 +251,14 @@ module _ (empty : PlainState) (d : MarksDevice) (f : Follows empty d) where
     geometry : y.store.geometry ≡ d.store.geometry
     cylinders : y.store.cylinders ≡ d.store.cylinders
     half : y.store.half ≡ None
+    device : y.store.device ≡ d.store.device
     chain : y.chain ≡ None
     stopped : y.history.running ≡ None
 
-  off_device : (z : MarksStore) → CutSo empty d f d.history.running (counts_one_by d.store.half) (begun d.store) z →
+  off_device : (z : MarksStore) → CutSo num empty d f d.history.running (counts_one_by d.store.half) (begun d.store) z →
       IsOff (powered_off by_plain (event_begun d) z)
   off_device z cut =
-      let p = taken_by empty d f d.history.running n in
+      let p = taken_by num empty d f d.history.running n in
       let s = with_loss z losses.Cache in
       record {
         of = state_on (core_of (powerless by_plain s)) d.history.running refl (powerless_of p s cut.of cut.places cut.acts);
@@ -257,6 +266,7 @@ module _ (empty : PlainState) (d : MarksDevice) (f : Follows empty d) where
         geometry = powerless_geometry p s cut.of cut.places cut.acts ∙ cut.geometry;
         cylinders = powerless_cylinders p s cut.of cut.places cut.acts ∙ cut.cylinders;
         half = powerless_half p s cut.of cut.places cut.acts;
+        device = powerless_device p s cut.of cut.places cut.acts ∙ cut.device;
         chain = refl;
         stopped = stops d.history.running refl;
       }
@@ -268,6 +278,7 @@ module _ (empty : PlainState) (d : MarksDevice) (f : Follows empty d) where
     geometry = ap (λ (c : Core). c.geometry) e ∙ o.geometry;
     cylinders = ap (λ (c : Core). c.cylinders) e ∙ o.cylinders;
     half = ap (λ (c : Core). c.half) e ∙ o.half;
+    device = ap (λ (c : Core). c.device) e ∙ o.device;
     chain = o.chain;
     stopped = o.stopped;
   }
@@ -276,15 +287,16 @@ module _ (empty : PlainState) (d : MarksDevice) (f : Follows empty d) where
   unfolding K.power
   goes_off =
       had_then {p = λ y _. IsOff y}
-      (had_then (half_so empty d f (begun d.store) refl d.history.running refl d.store.half refl refl) (λ s _ cut. had_done (off_device s cut)))
+      (had_then (half_so num empty d f (begun d.store) refl d.history.running refl d.store.half refl refl) (λ s _ cut. had_done (off_device s cut)))
       (λ y a o. had_then (ended_same (waiting_count by_plain d.store) y.store) (λ z _ e. had_done (off_store y z e o)))
 
-  pub power_follows : Had (power by_plain d) (λ y (_ : Unit {0}). Follows empty y)
+  pub power_follows : Had (power by_plain d) (λ y (_ : Unit {0}). Follows num empty y)
   power_follows =
       had_weaker
-      (had_both goes_off (had_both (had_always (power_stands by_plain empty d f.stands (may empty d f)))
-      (had_always (power_keeps_paths by_plain empty d f.stands (ap (λ (x : PlainState). x.paths) f.base) (may empty d f)))))
+      (had_both goes_off (had_both (had_always (power_stands by_plain empty d f.stands (may num empty d f)))
+      (had_always (power_keeps_paths by_plain empty d f.stands (ap (λ (x : PlainState). x.paths) f.base) (may num empty d f)))))
       (λ y _ g. record {
+        number = g.0.device ∙ f.number;
         base = f.base ∙ ap (λ (x : Geometry). empty_state x d.store.cylinders) (sym g.0.geometry) ∙ ap (empty_state y.store.geometry) (sym g.0.cylinders);
         some = subst (λ (m : ℕ). 0 < m) (sym g.0.cylinders) f.some;
         stands = g.1.0;

@@ -45,7 +45,7 @@ use Rattle.device_laws.proofs.PlainWalks.{
 
 -- What the other part leaves: the edit of a command took effect, or none
 
-module _ (p : PlainState) (u : List Track) (g : Geometry) (n : ℕ) (lent : Option ℕ) where
+module _ (p : PlainState) (u : List Track) (g : Geometry) (n : ℕ) (lent : Option ℕ × ℕ) where
   abbrev pub On : MarksStore → Type 0
   On s = Walks p u g n (None, lent) (core_of s)
 
@@ -107,107 +107,107 @@ module _ (p : PlainState) (u : List Track) (g : Geometry) (n : ℕ) (lent : Opti
 
 -- The event
 
-module _ (empty : PlainState) (d : MarksDevice) (f : Follows empty d) where
+module _ (num : ℕ) (empty : PlainState) (d : MarksDevice) (f : Follows num empty d) where
   abbrev p : PlainState
   p = plain_of d.plans empty d.history
 
   abbrev AtEnd : MarksStore → Type 0
-  AtEnd y = Walks (plain_of d.plans empty d.history) d.store.plain d.store.geometry d.store.cylinders (None, d.store.lent) (core_of y)
+  AtEnd y = Walks (plain_of d.plans empty d.history) d.store.plain d.store.geometry d.store.cylinders (None, (d.store.lent, d.store.device)) (core_of y)
 
   half_gone : (y : MarksStore) → AtEnd y → y.half ≡ None
   half_gone y w = ap (λ (x : Open). x.0) w.rest
 
   -- of a write that is no command's
-  other_follows : (y : MarksStore) → AtEnd y → d.chain ≡ f.before → Follows empty (with_store d y)
+  other_follows : (y : MarksStore) → AtEnd y → d.chain ≡ f.before → Follows num empty (with_store d y)
   other_follows y w same =
-      acts_follow empty d f y d.store.plain
+      acts_follow num empty d f y d.store.plain
       (subst (λ (h : Option (HalfWrite (Unit {0}))). Walks (plain_of d.plans empty d.history) d.store.plain d.store.geometry d.store.cylinders
-      (h, d.store.lent) (core_of y)) (sym (half_gone y w)) w)
+      (h, (d.store.lent, d.store.device)) (core_of y)) (sym (half_gone y w)) w)
       (mid_none (core_of y) y.half (all_acted d.history y.acts).running f.before d.chain (half_gone y w) same)
 
   module _ (t : ℕ) (e : Edit) (mid : Halfway (core_of d.store) t e d.history.running f.before d.chain) (o : OpenEntry)
       (running : d.history.running ≡ Some o) where
     same_turn : (record {
-      came = Ends (end_with mid.origin (its_effect empty d f o running t e mid).outcome);
-      chain = behind mid.origin (its_effect empty d f o
+      came = Ends (end_with mid.origin (its_effect num empty d f o running t e mid).outcome);
+      chain = behind mid.origin (its_effect num empty d f o
           running t e mid).outcome;
     }) ≡ settles mid.chain Written
-    same_turn = ap (λ (x : Fed). record { came = Ends x.end; chain = x.chain }) (its_end empty d f o running t e mid)
+    same_turn = ap (λ (x : Fed). record { came = Ends x.end; chain = x.chain }) (its_end num empty d f o running t e mid)
 
-    done_follows : (y : MarksStore) → Edited (plain_of d.plans empty d.history) d.store.plain d.store.geometry d.store.cylinders d.store.lent t e y →
-        Follows empty (turned (with_store d y) o.path (settles mid.chain Written))
+    done_follows : (y : MarksStore) → Edited (plain_of d.plans empty d.history) d.store.plain d.store.geometry d.store.cylinders (d.store.lent, d.store.device) t e y →
+        Follows num empty (turned (with_store d y) o.path (settles mid.chain Written))
     done_follows y k =
-        subst (λ (x : Turn). Follows empty (turned (with_store d y) o.path x)) same_turn
-        (edited_follows empty d f o running mid.origin mid.begins y (core_of y) t e refl (its_edit empty d f o running t e mid)
-        (its_sense empty d f o running t e mid) (firmly k.before (core_of y) k.on k.firm k.is))
+        subst (λ (x : Turn). Follows num empty (turned (with_store d y) o.path x)) same_turn
+        (edited_follows num empty d f o running mid.origin mid.begins y (core_of y) t e refl (its_edit num empty d f o running t e mid)
+        (its_sense num empty d f o running t e mid) (firmly k.before (core_of y) k.on k.firm k.is))
 
-    failed_follows : (y : MarksStore) → AtEnd y → Follows empty (turned (with_store d y) o.path (checks mid.chain Equipment))
+    failed_follows : (y : MarksStore) → AtEnd y → Follows num empty (turned (with_store d y) o.path (checks mid.chain Equipment))
     failed_follows y w =
-        equipment_on empty d f o running mid.origin mid.begins y
-        (sized_by empty d f o running mid.origin mid.begins y (core_of y) (core_of y) refl w w.places refl refl refl) w.are w.of mid.chain mid.word
+        equipment_on num empty d f o running mid.origin mid.begins y
+        (sized_by num empty d f o running mid.origin mid.begins y (core_of y) (core_of y) refl w w.places refl refl refl) w.are w.of mid.chain mid.word
 
     turn_follows : (y : MarksStore) (done : Bool) →
-        SecondSo (plain_of d.plans empty d.history) d.store.plain d.store.geometry d.store.cylinders d.store.lent t (OfCommand false e) y done →
-        Follows empty (turned (with_store d y) o.path (second_turn by_plain mid.chain done))
+        SecondSo (plain_of d.plans empty d.history) d.store.plain d.store.geometry d.store.cylinders (d.store.lent, d.store.device) t (OfCommand false e) y done →
+        Follows num empty (turned (with_store d y) o.path (second_turn by_plain mid.chain done))
     turn_follows y true k = done_follows y k
     turn_follows y false w = failed_follows y w
 
     acts_legal : (y : MarksStore) (done : Bool) →
-        SecondSo (plain_of d.plans empty d.history) d.store.plain d.store.geometry d.store.cylinders d.store.lent t (OfCommand false e) y done →
+        SecondSo (plain_of d.plans empty d.history) d.store.plain d.store.geometry d.store.cylinders (d.store.lent, d.store.device) t (OfCommand false e) y done →
         AreActs (plain_of d.plans empty d.history) None y.acts
     acts_legal y true k = subst (λ (l : List Act). AreActs (plain_of d.plans empty d.history) None l) (sym (ap (λ (c : Core). c.acts) k.is)) k.on.are
     acts_legal y false w = w.are
 
     command_follows : (y : MarksStore) (done : Bool) →
-        SecondSo (plain_of d.plans empty d.history) d.store.plain d.store.geometry d.store.cylinders d.store.lent t (OfCommand false e) y done →
-        Had (command_ended by_plain (with_store d y) t (all_acted d.history y.acts).running d.chain done) (λ x (_ : SecondEnd). Follows empty x)
+        SecondSo (plain_of d.plans empty d.history) d.store.plain d.store.geometry d.store.cylinders (d.store.lent, d.store.device) t (OfCommand false e) y done →
+        Had (command_ended by_plain (with_store d y) t (all_acted d.history y.acts).running d.chain done) (λ x (_ : SecondEnd). Follows num empty x)
     command_follows y done k =
-        let r = runs_on empty d f o running mid.origin mid.begins y.acts (acts_legal y done k) in
-        subst (λ (x : Option OpenEntry). Had (command_ended by_plain (with_store d y) t x d.chain done) (λ x (_ : SecondEnd). Follows empty x)) (sym r.running)
-        (subst (λ (x : Option ChainState). Had (command_ended by_plain (with_store d y) t (Some r.entry) x done) (λ x (_ : SecondEnd). Follows empty x))
+        let r = runs_on num empty d f o running mid.origin mid.begins y.acts (acts_legal y done k) in
+        subst (λ (x : Option OpenEntry). Had (command_ended by_plain (with_store d y) t x d.chain done) (λ x (_ : SecondEnd). Follows num empty x)) (sym r.running)
+        (subst (λ (x : Option ChainState). Had (command_ended by_plain (with_store d y) t (Some r.entry) x done) (λ x (_ : SecondEnd). Follows num empty x))
         (sym mid.is)
-        (had_done (subst (λ (i : ℕ). Follows empty (turned (with_store d y) i (second_turn by_plain mid.chain done))) (sym r.path_is)
+        (had_done (subst (λ (i : ℕ). Follows num empty (turned (with_store d y) i (second_turn by_plain mid.chain done))) (sym r.path_is)
         (turn_follows y done k))))
 
   its_second : (t : ℕ) (e : Edit) (mid : Halfway (core_of d.store) t e d.history.running f.before d.chain) (r : Option OpenEntry) →
       d.history.running ≡ r → (y : MarksStore) (done : Bool) →
-      SecondSo (plain_of d.plans empty d.history) d.store.plain d.store.geometry d.store.cylinders d.store.lent t (OfCommand false e) y done →
-      Had (command_ended by_plain (with_store d y) t (all_acted d.history y.acts).running d.chain done) (λ x (_ : SecondEnd). Follows empty x)
+      SecondSo (plain_of d.plans empty d.history) d.store.plain d.store.geometry d.store.cylinders (d.store.lent, d.store.device) t (OfCommand false e) y done →
+      Had (command_ended by_plain (with_store d y) t (all_acted d.history y.acts).running d.chain done) (λ x (_ : SecondEnd). Follows num empty x)
   its_second t e mid None none y done k = absurd (some_none d.history.running mid.runs none)
   its_second t e mid (Some o) running y done k = command_follows t e mid o running y done k
 
   either_done : (t : ℕ) (bypass : Bool) (e : Edit) (y : MarksStore) (done : Bool) →
-      SecondSo (plain_of d.plans empty d.history) d.store.plain d.store.geometry d.store.cylinders d.store.lent t (OfCommand bypass e) y done →
-      SecondSo (plain_of d.plans empty d.history) d.store.plain d.store.geometry d.store.cylinders d.store.lent t (OfCommand false e) y done
+      SecondSo (plain_of d.plans empty d.history) d.store.plain d.store.geometry d.store.cylinders (d.store.lent, d.store.device) t (OfCommand bypass e) y done →
+      SecondSo (plain_of d.plans empty d.history) d.store.plain d.store.geometry d.store.cylinders (d.store.lent, d.store.device) t (OfCommand false e) y done
   either_done t bypass e y true k = k
   either_done t bypass e y false k = k
 
   ended_so : (t : ℕ) (origin : Origin) → IsMidOf (core_of d.store) t origin d.history.running f.before d.chain → (y : MarksStore) (done : Bool) →
-      SecondSo (plain_of d.plans empty d.history) d.store.plain d.store.geometry d.store.cylinders d.store.lent t origin y done →
-      Had (second_ended by_plain (with_store d y) t origin done) (λ x (_ : SecondEnd). Follows empty x)
+      SecondSo (plain_of d.plans empty d.history) d.store.plain d.store.geometry d.store.cylinders (d.store.lent, d.store.device) t origin y done →
+      Had (second_ended by_plain (with_store d y) t origin done) (λ x (_ : SecondEnd). Follows num empty x)
   ended_so t (OfCommand bypass e) mid y done k = its_second t e mid d.history.running refl y done (either_done t bypass e y done k)
   ended_so t (OfCut bypass) mid y done w = had_done (other_follows y w mid)
   ended_so t OfBackground mid y done w = had_done (other_follows y w mid)
 
   holds_first : (t : ℕ) (origin : Origin) → IsMidOf (core_of d.store) t origin d.history.running f.before d.chain → (s : MarksStore) →
       core_of s ≡ core_of (begun d.store) →
-      Holds (plain_of d.plans empty d.history) d.store.plain d.store.geometry d.store.cylinders d.store.lent origin (d.store.half, d.store.lent) t (core_of s)
+      Holds (plain_of d.plans empty d.history) d.store.plain d.store.geometry d.store.cylinders (d.store.lent, d.store.device) origin (d.store.half, (d.store.lent, d.store.device)) t (core_of s)
   holds_first t (OfCommand bypass e) mid s is = record {
-    on = walks_first empty d f s is;
+    on = walks_first num empty d f s is;
     firm = ap (λ (c : Core). loose_at c t) is ∙ (let below = mid.below in mid.firm t below (omega arith));
     others = λ q r. absurd r;
   }
-  holds_first t (OfCut bypass) mid s is = walks_first empty d f s is
-  holds_first t OfBackground mid s is = walks_first empty d f s is
+  holds_first t (OfCut bypass) mid s is = walks_first num empty d f s is
+  holds_first t OfBackground mid s is = walks_first num empty d f s is
 
   -- the other part of a write
-  pub second_follows : (h : HalfWrite (Unit {0})) → d.store.half ≡ Some h → Had (second by_plain d) (λ y (_ : SecondEnd). Follows empty y)
+  pub second_follows : (h : HalfWrite (Unit {0})) → d.store.half ≡ Some h → Had (second by_plain d) (λ y (_ : SecondEnd). Follows num empty y)
   unfolding V.second
   second_follows h there =
       let mid = subst (λ (x : Option (HalfWrite (Unit {0}))). IsMid (core_of d.store) x d.history.running f.before d.chain) there f.mid in
-      event_follows empty d (λ z. second_of by_plain z z.store.half)
-      (λ s e. subst (λ (x : Option (HalfWrite (Unit {0}))). Had (second_of by_plain (record (event_begun d) { store = s }) x) (λ y (_ : SecondEnd). Follows empty y))
+      event_follows num empty d (λ z. second_of by_plain z z.store.half)
+      (λ s e. subst (λ (x : Option (HalfWrite (Unit {0}))). Had (second_of by_plain (record (event_begun d) { store = s }) x) (λ y (_ : SecondEnd). Follows num empty y))
       (sym (ap (λ (c : Core). c.half) e ∙ there))
-      (had_then (part_so (plain_of d.plans empty d.history) d.store.plain d.store.geometry d.store.cylinders d.store.lent s h d.store.half
+      (had_then (part_so (plain_of d.plans empty d.history) d.store.plain d.store.geometry d.store.cylinders (d.store.lent, d.store.device) s h d.store.half
       (holds_first h.track h.origin mid s e))
       (λ y done k. ended_so h.track h.origin mid y done k)))

@@ -48,7 +48,7 @@ use Rattle.device_defs.specs.Marks.{MarksStore}
 use Rattle.device_defs.specs.Store.{HalfWrite}
 use Rattle.device_laws.proofs.OpenProgram.{acts_more}
 
--- what of a store is its plain device's, how many places it has, its open half write, and to whom it is lent
+-- what of a store is its plain device's, how many places it has, its open half write, to whom it is lent, and its number
 pub record Core : Type 0 where
   pub geometry : Geometry
   pub cylinders : ℕ
@@ -60,6 +60,7 @@ pub record Core : Type 0 where
   pub frames : ℕ
   pub half : Option (HalfWrite (Unit {0}))
   pub lent : Option ℕ
+  pub device : ℕ
 
 abbrev pub core_of : MarksStore → Core
 core_of s = record {
@@ -73,6 +74,7 @@ core_of s = record {
   frames = length s.frames;
   half = s.half;
   lent = s.lent;
+  device = s.device;
 }
 
 abbrev pub loose_at : Core → ℕ → Bool
@@ -94,12 +96,12 @@ pub record IsOf (p : PlainState) (c : Core) : Type 0 where
 abbrev pub HasPlaces : Core → Type 0
 HasPlaces c = c.frames ≡ length c.loose
 
--- the half write, and the device that it is lent to
+-- the half write, the device that it is lent to, and its number
 abbrev pub Open : Type 0
-Open = Option (HalfWrite (Unit {0})) × Option ℕ
+Open = Option (HalfWrite (Unit {0})) × (Option ℕ × ℕ)
 
 abbrev pub open_of : Core → Open
-open_of c = (c.half, c.lent)
+open_of c = (c.half, (c.lent, c.device))
 
 -- Loose tracks of the plain device
 

@@ -118,7 +118,8 @@ IsAtHome (Some to) r = r ≡ None
 IsAtHome None r = Unit {0}
 
 -- the history is a plain device's, whose volume and whose paths the device keeps, and whose program it runs
-pub record Follows (empty : PlainState) (d : MarksDevice) : Type 0 where
+pub record Follows (num : ℕ) (empty : PlainState) (d : MarksDevice) : Type 0 where
+  pub number : d.store.device ≡ num
   pub base : empty ≡ empty_state d.store.geometry d.store.cylinders
   pub some : 0 < d.store.cylinders
   pub stands : StandsPlainly empty d
@@ -289,7 +290,7 @@ module _ (empty : PlainState) (d : MarksDevice) where
   h = d.history
 
   module _ (base : empty ≡ empty_state d.store.geometry d.store.cylinders) (some : 0 < d.store.cylinders) (places : HasPlaces (core_of d.store))
-      (whole : d.store.half ≡ None) (home : d.store.lent ≡ None)
+      (whole : d.store.half ≡ None) (home : d.store.lent ≡ None) (num : ℕ) (number : d.store.device ≡ num)
       (o : OpenEntry) (running : d.history.running ≡ Some o) (chain : ChainState) where
     -- as on the plain device, with what its path keeps of it
     module _ (legal : IsLegal d.plans empty d.history.items) (due : AreDue d.history)
@@ -335,8 +336,9 @@ module _ (empty : PlainState) (d : MarksDevice) where
       state_on : e.over ≡ false → plain_of d.plans empty (history_ended d.history e) ≡ behind_effect (open_part d.plans s o).state eff
       state_on more = ended_state_on d.plans empty d.history legal due o running going i next e end_is may more
 
-      goes_over : e.over ≡ true → Follows empty (program_over (sense_kept d o.path e) (history_ended d.history e))
+      goes_over : e.over ≡ true → Follows num empty (program_over (sense_kept d o.path e) (history_ended d.history e))
       goes_over over = record {
+        number = number;
         base = base;
         some = some;
         stands = record { plain = ends_stand.plain; due = ends_stand.due };
@@ -372,8 +374,9 @@ module _ (empty : PlainState) (d : MarksDevice) where
           ap (λ (r : Option OpenEntry). ended_in d.history e r) running
           ∙ ap (λ (b : Bool). cond b (closed d.history (with_end o e) Full) (record d.history { running = Some (with_end o e) })) more
 
-      goes_on : e.over ≡ false → Follows empty (record (sense_kept d o.path e) { chain = Some (behind chain outcome); history = history_ended d.history e })
+      goes_on : e.over ≡ false → Follows num empty (record (sense_kept d o.path e) { chain = Some (behind chain outcome); history = history_ended d.history e })
       goes_on more = record {
+        number = number;
         base = base;
         some = some;
         stands = record { plain = ends_stand.plain; due = ends_stand.due };
@@ -387,12 +390,12 @@ module _ (empty : PlainState) (d : MarksDevice) where
         home = at_home d.store.lent (history_ended d.history e).running home;
       }
 
-      by_over : (over : Bool) → e.over ≡ over → Follows empty (cond over (program_over (sense_kept d o.path e) (history_ended d.history e))
+      by_over : (over : Bool) → e.over ≡ over → Follows num empty (cond over (program_over (sense_kept d o.path e) (history_ended d.history e))
           (record (sense_kept d o.path e) { chain = Some (behind chain outcome); history = history_ended d.history e }))
       by_over true over = goes_over over
       by_over false more = goes_on more
 
-      pub end_follows : Follows empty (turned d o.path (record { came = Ends (end_with chain outcome); chain = behind chain outcome }))
+      pub end_follows : Follows num empty (turned d o.path (record { came = Ends (end_with chain outcome); chain = behind chain outcome }))
       end_follows = by_over e.over refl
 
     -- with equipment check or data check
@@ -416,8 +419,9 @@ module _ (empty : PlainState) (d : MarksDevice) where
       over_runs c = runs_none d.plans (replay d.plans empty (checked d.history c).items) (checked d.history c).running
           (ap (λ (r : Option OpenEntry). (checked_in d.history c r).running) running)
 
-      pub equipment_follows : Follows empty (turned d o.path (checks at Equipment))
+      pub equipment_follows : Follows num empty (turned d o.path (checks at Equipment))
       equipment_follows = record {
+        number = number;
         base = base;
         some = some;
         stands = equipment_stands empty d o.path at stands o running here;
@@ -432,8 +436,9 @@ module _ (empty : PlainState) (d : MarksDevice) where
         home = at_home d.store.lent (checked d.history (end_with at (settled_by at Equipment))).running home;
       }
 
-      pub data_check_follows : Follows empty (turned d o.path (checks at DataCheck))
+      pub data_check_follows : Follows num empty (turned d o.path (checks at DataCheck))
       data_check_follows = record {
+        number = number;
         base = base;
         some = some;
         stands = data_check_stands empty d o.path at stands o running here;

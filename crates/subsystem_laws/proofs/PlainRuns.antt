@@ -56,8 +56,9 @@ use Rattle.subsystem_laws.specs.Served.{IsServedEvent, IsServed, IsServedDeck}
 
 -- a device that follows the plain device of its history
 pub record Plainly (d : MarksDevice) : Type 0 where
+  pub number : ℕ
   pub empty : PlainState
-  pub follows : Follows empty d
+  pub follows : Follows number empty d
 
 abbrev pub ArePlain : List Mounted → Type 0
 ArePlain [] = Unit {0}
@@ -117,10 +118,10 @@ record PlainDeed (ms : List Mounted) (x : MarksDeed) : Type 0 where
 
 -- an order that changes nothing of what a plain device has
 stored : (d : MarksDevice) (z : MarksStore) → core_of z ≡ core_of d.store → Plainly d → Plainly (record d { store = z })
-stored d z e p = record { empty = p.empty; follows = follows_store p.empty d p.follows z e }
+stored d z e p = record { number = p.number; empty = p.empty; follows = follows_store p.number p.empty d p.follows z e }
 
 lend_plain : (d : MarksDevice) (to : ℕ) → d.history.running ≡ None → Plainly d → Leaves (lend by_plain d to)
-lend_plain d to none p = had_weaker (lend_follows p.empty d p.follows none to) (λ y _ g. record { empty = p.empty; follows = g })
+lend_plain d to none p = had_weaker (lend_follows p.number p.empty d p.follows none to) (λ y _ g. record { number = p.number; empty = p.empty; follows = g })
 
 swept_plain : (f : MarksDevice → Talk (Unit {0})) → ((d : MarksDevice) → Plainly d → Leaves (f d)) → (ms : List Mounted) (pool : Pool) → ArePlain ms →
     ArePlain (sweep f ms pool).mounted
@@ -182,7 +183,7 @@ module _ (ms : List Mounted) where
   starts_by : (d : MarksDevice) (path : ℕ) (o : Option StartFault) → start_fault d path ≡ o → 1 ≤ path → path ≤ 4 → Plainly d →
       PlainDeed ms (start_by {R = Bool} d path o)
   starts_by d path (Some fault) is least most p = record { is = tt }
-  starts_by d path None is least most p = record { is = record { empty = p.empty; follows = start_follows p.empty d p.follows path least most is } }
+  starts_by d path None is least most p = record { is = record { number = p.number; empty = p.empty; follows = start_follows p.number p.empty d p.follows path least most is } }
 
   starts_plain : (d : MarksDevice) (path : ℕ) → 1 ≤ path → path ≤ 4 → Plainly d → PlainDeed ms (starts {R = Bool} path d)
   starts_plain d path least most p =
@@ -191,7 +192,7 @@ module _ (ms : List Mounted) where
   seconds_plain : (d : MarksDevice) (h : HalfWrite (Unit {0})) → d.store.half ≡ Some h → Plainly d → PlainDeed ms (seconds by_plain d)
   seconds_plain d h is p = record {
     is = answers (second by_plain d) (λ a. Some (ends.Second a))
-        (had_weaker (second_follows p.empty d p.follows h is) (λ y _ g. record { empty = p.empty; follows = g }));
+        (had_weaker (second_follows p.number p.empty d p.follows h is) (λ y _ g. record { number = p.number; empty = p.empty; follows = g }));
   }
 
   steps_by : (d : MarksDevice) (r : Option OpenEntry) → d.history.running ≡ r → d.store.half ≡ None → Plainly d →
@@ -199,7 +200,7 @@ module _ (ms : List Mounted) where
   steps_by d None none whole p = record { is = tt }
   steps_by d (Some o) running whole p = record {
     is = answers (command by_plain d) (end_of ends.Stepped)
-        (had_weaker (command_follows p.empty d p.follows o running whole) (λ y _ g. record { empty = p.empty; follows = g }));
+        (had_weaker (command_follows p.number p.empty d p.follows o running whole) (λ y _ g. record { number = p.number; empty = p.empty; follows = g }));
   }
 
   step_by : (d : MarksDevice) (h : Option (HalfWrite (Unit {0}))) → d.store.half ≡ h → Plainly d →
@@ -214,7 +215,7 @@ module _ (ms : List Mounted) where
   reset_plain : (d : MarksDevice) (path : ℕ) → Plainly d → PlainDeed ms (Asks d (ends_by ends_done (reset by_plain d path)))
   reset_plain d path p = record {
     is = answers (reset by_plain d path) (λ a. Some (ends_done a))
-        (had_weaker (reset_follows p.empty d p.follows path) (λ y _ g. record { empty = p.empty; follows = g }));
+        (had_weaker (reset_follows p.number p.empty d p.follows path) (λ y _ g. record { number = p.number; empty = p.empty; follows = g }));
   }
 
   back_by : (d : MarksDevice) (h : Option (HalfWrite (Unit {0}))) → d.store.half ≡ h → Plainly d →
@@ -222,17 +223,17 @@ module _ (ms : List Mounted) where
   back_by d (Some h) is p = seconds_plain d h is p
   back_by d None is p = record {
     is = answers (background by_plain d) (end_of ends.Back)
-        (had_weaker (background_follows p.empty d p.follows is) (λ y _ g. record { empty = p.empty; follows = g }));
+        (had_weaker (background_follows p.number p.empty d p.follows is) (λ y _ g. record { number = p.number; empty = p.empty; follows = g }));
   }
 
   background_plain : (d : MarksDevice) → Plainly d → PlainDeed ms (back by_plain d)
   background_plain d p = back_by d d.store.half refl p
 
   loss_plain : (d : MarksDevice) (loss : Loss) → Plainly d → Leaves (lose by_plain d loss)
-  loss_plain d loss p = had_weaker (loss_follows p.empty d p.follows loss) (λ y _ g. record { empty = p.empty; follows = g })
+  loss_plain d loss p = had_weaker (loss_follows p.number p.empty d p.follows loss) (λ y _ g. record { number = p.number; empty = p.empty; follows = g })
 
   power_plain : (d : MarksDevice) → Plainly d → Leaves (power by_plain d)
-  power_plain d p = had_weaker (power_follows p.empty d p.follows) (λ y _ g. record { empty = p.empty; follows = g })
+  power_plain d p = had_weaker (power_follows p.number p.empty d p.follows) (λ y _ g. record { number = p.number; empty = p.empty; follows = g })
 
   ordered : (o : Option OrderFault) {x : MarksDeed} → (o ≡ None → PlainDeed ms x) → PlainDeed ms (order o x)
   ordered (Some fault) h = record { is = tt }
@@ -363,7 +364,7 @@ home_lent (Some to) a r is home = home
 home_lent None a r is home = absurd (cc)
 
 restored : (d : MarksDevice) → d.history.running ≡ None → Plainly d → Plainly (restore d)
-restored d none p = record { empty = p.empty; follows = restore_follows p.empty d p.follows none }
+restored d none p = record { number = p.number; empty = p.empty; follows = restore_follows p.number p.empty d p.follows none }
 
 restored_plain : (ms : List Mounted) (a : ℕ) (calls : Calls) → ArePlain ms → ArePlain (restored_in ms a calls)
 restored_plain [] a calls p = p
@@ -449,7 +450,7 @@ opened_plain : (deck : DeckLines) (ds : List DeviceLine) → All (λ (d : Device
 opened_plain deck [] h = tt
 opened_plain deck (d ∷ ds) h =
     let some = All-head (λ (d : DeviceLine). 1 ≤ d.cylinders) d ds h in (
-      record { empty = _; follows = new_follows d.number d.geometry d.cylinders _ (omega (arith, some)) },
+      record { number = _; empty = _; follows = new_follows d.number d.geometry d.cylinders _ (omega (arith, some)) },
       opened_plain deck ds (All-tail (λ (d : DeviceLine). 1 ≤ d.cylinders) d ds h),
     )
 
