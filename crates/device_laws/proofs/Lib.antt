@@ -86,11 +86,17 @@ pub mod QuietParts
 pub mod ReadMoves
 pub mod BackMoves
 pub mod PlainTurns
+pub mod PlainRules
 pub mod PlainCommand
 pub mod PlainEvents
 pub mod PlainLosses
+pub mod PlainCuts
 pub mod PlainPower
+pub mod PlainSeconds
+pub mod PlainOrders
+pub mod HistoryTold
 pub mod TouchedTracks
+pub mod WholePower
 pub mod Based
 pub mod BasedParts
 pub mod BasedEvents
@@ -102,6 +108,8 @@ pub mod KeepLaws
 pub mod Lucky
 pub mod Unlost
 pub mod UnlostParts
+pub mod Lent
+pub mod Lending
 pub mod UnlostEvents
 pub mod Harmless
 pub mod LossLaws

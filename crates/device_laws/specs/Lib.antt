@@ -8,4 +8,5 @@ pub mod Standing
 pub mod Whole
 pub mod Places
 pub mod Handed
+pub mod Lent
 pub mod Unharmed

@@ -27,8 +27,8 @@ pub use placeless::{
     placeless_second_is_step, placeless_start,
 };
 pub use runs::{
-    background_is_step, command_is_step, loss_is_step, orders_leave_order, reset_is_step,
-    second_is_step, start_is_step,
+    background_is_step, command_is_step, loss_is_step, orders_leave_order, power_is_step,
+    reset_is_step, second_is_step, start_is_step,
 };
 pub use transfers::{
     cache_writes_move_nothing, image_reads_sides, losses_move_nothing, work_moves_sides,
