@@ -115,3 +115,4 @@ pub mod Harmless
 pub mod LossLaws
 pub mod LooseLosses
 pub mod HeldBased
+pub mod Unchecked
