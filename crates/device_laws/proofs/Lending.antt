@@ -1,34 +1,5 @@
 -- A device lends its volume: of its tracks it gives up what it keeps, and over marks does the same.
-use Rattle.std.proofs.Common.{
-  ◌≡◌,
-  ◌<◌,
-  ◌≤◌,
-  ◌*◌,
-  ℕ,
-  zero,
-  suc,
-  Bool,
-  true,
-  false,
-  List,
-  [],
-  ◌∷◌,
-  length,
-  Option,
-  Some,
-  None,
-  is_some,
-  get_or,
-  refl,
-  sym,
-  ap,
-  subst,
-  ◌∙◌,
-  arith,
-  ◌⊎◌,
-  inl,
-  inr,
-}
+use Rattle.std.proofs.Common.{◌≡◌, ◌<◌, ◌≤◌, ℕ, zero, suc, Bool, true, false, List, [], ◌∷◌, length, Option, Some, None, is_some, get_or, refl, ap, ◌∙◌, arith, ◌⊎◌, inl, inr}
 use Rattle.std.proofs.lemmas.Bool.{cases_lt}
 use Rattle.std.specs.Prelude.{◌&&◌, ◌==◌, if◌then◌else◌}
 use Rattle.ckd_types.specs.declared.paths.Side.{Side}
@@ -39,14 +10,13 @@ use Rattle.nv_store.specs.declared.patches.Stored.{Stored}
 use Rattle.track_image.specs.Image.{Image}
 use Rattle.track_table.proofs.Places.{empty_places}
 use Rattle.device_outside.specs.After.{holds_of}
-use Rattle.device_outside.specs.Interaction.{Interaction, Done, Ask, and_then}
+use Rattle.device_outside.specs.Interaction.{Interaction, Done, Ask}
 use Rattle.device_outside.specs.Pool.{TellWaiting}
-use Rattle.device_defs.specs.Between.{HasSizes}
 use Rattle.device_defs.specs.Contents.{Contents, contents, by_plain}
 use Rattle.device_defs.specs.Device.{Device, event_begun}
 use Rattle.device_defs.specs.Losses as L
 use Rattle.device_defs.specs.Losses.{over, without_frame, without_patch}
-use Rattle.device_defs.specs.Marks.{MarksStore, MarksDevice, marks_of}
+use Rattle.device_defs.specs.Marks.{MarksStore, marks_of}
 use Rattle.device_defs.specs.Owed as O
 use Rattle.device_defs.specs.Orders as Q
 use Rattle.device_defs.specs.Orders.{with_tracks, lent_to, given_up, lend}
@@ -57,7 +27,6 @@ use Rattle.device_laws.specs.InOrder.{IsInOrder}
 use Rattle.device_laws.specs.Lent.{IsLentStore, IsLent}
 use Rattle.device_laws.specs.Whole.{WholeDevice, marks_device, WholeTwins}
 use Rattle.device_laws.proofs.Always.{Always, always_done, always_ask, always_then, always_weaker}
-use Rattle.device_laws.proofs.ContentChanges as D
 use Rattle.device_laws.proofs.ContentChanges.{base_of, Altered, ground_altered, same_tracks, same_slots, sits_still, slot_of, by_track, unseen_slots}
 use Rattle.device_laws.proofs.FailedCall.{IsWell}
 use Rattle.device_laws.proofs.Lent.{LeavesLent, quiet_lent}

@@ -11,3 +11,4 @@ pub mod WholeTalks
 pub mod WholeDeeds
 pub mod WholeHappens
 pub mod WholeOrders
+pub mod WholeLends
