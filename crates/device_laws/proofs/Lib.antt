@@ -94,3 +94,4 @@ pub mod TouchedTracks
 pub mod WholePower
 pub mod Lent
 pub mod Lending
+pub mod Restoring

@@ -12,3 +12,4 @@ pub mod WholeDeeds
 pub mod WholeHappens
 pub mod WholeOrders
 pub mod WholeLends
+pub mod WholeUnpairs

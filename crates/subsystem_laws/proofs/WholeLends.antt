@@ -51,11 +51,11 @@ pub record MayPair (x y : WholeDevice) : Type 0 where
   pub alike : x.store.cylinders ≡ y.store.cylinders
   pub up : y.store.a.up ≡ true
 
-first_none : (o : Option OrderFault) (more : List (Option OrderFault)) → R.first_cause (o ∷ more) ≡ None → (o ≡ None) × (R.first_cause more ≡ None)
+pub first_none : (o : Option OrderFault) (more : List (Option OrderFault)) → R.first_cause (o ∷ more) ≡ None → (o ≡ None) × (R.first_cause more ≡ None)
 first_none None more e = (refl, e)
 first_none (Some f) more e = absurd (cc)
 
-where_none : (b : Bool) (f : OrderFault) → R.where_so b f ≡ None → b ≡ false
+pub where_none : (b : Bool) (f : OrderFault) → R.where_so b f ≡ None → b ≡ false
 where_none true f e = absurd (cc)
 where_none false f e = refl
 
@@ -67,7 +67,7 @@ active_none : (o : Option OpenEntry) → R.active_by o ≡ None → o ≡ None
 active_none None e = refl
 active_none (Some o) e = absurd (cc)
 
-is_not : (b : Bool) → not b ≡ false → b ≡ true
+pub is_not : (b : Bool) → not b ≡ false → b ≡ true
 is_not true e = refl
 is_not false e = absurd (cc)
 
