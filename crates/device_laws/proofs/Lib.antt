@@ -113,3 +113,4 @@ pub mod Lending
 pub mod UnlostEvents
 pub mod Harmless
 pub mod LossLaws
+pub mod Restoring
