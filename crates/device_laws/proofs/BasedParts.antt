@@ -227,7 +227,7 @@ module _ {F P H R : Type 0} (c : Contents F P H R) where
 
   -- Losses, failed calls and cuts
 
-  firm_steady : (n : ℕ) (s : Store F P H) → Steady s (all_firm_told c n s)
+  pub firm_steady : (n : ℕ) (s : Store F P H) → Steady s (all_firm_told c n s)
   unfolding L.all_firm_told
   firm_steady zero s = based_done refl
   firm_steady (suc n) s = based_then (λ z _. firm_told c n z) (firm_steady n s) (λ z _. based_if _ (based_tell (λ _. based_done refl)) (based_done refl))

@@ -114,3 +114,5 @@ pub mod UnlostEvents
 pub mod Harmless
 pub mod LossLaws
 pub mod Restoring
+pub mod LooseLosses
+pub mod HeldBased

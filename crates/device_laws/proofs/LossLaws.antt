@@ -1,4 +1,7 @@
 -- Where a lost list grows, of each event's run; and a device to which nothing happened but losses of the cache and of power loses no track.
+use Rattle.device_laws.proofs.LooseLosses.{most_lost, command_has, second_has, background_has, lose_has, reset_has, power_has}
+use Rattle.device_laws.proofs.Always.{Always}
+use Rattle.device_defs.specs.Excused.{loose_losses}
 use Rattle.std.proofs.Common.{◌≡◌, ◌≤◌, ◌<◌, ◌+◌, ℕ, Bool, true, false, List, Option, Some, None, get_or, min, refl, sym, ap, subst, ◌∙◌, arith, inr}
 use Rattle.std.specs.Prelude.{◌*◌, ◌&&◌, ◌||◌, not}
 use Rattle.ckd_chain.specs.State.{ChainState}
@@ -23,7 +26,7 @@ use Rattle.device_defs.specs.Command.{command}
 use Rattle.device_defs.specs.Contents.{Contents, contents}
 use Rattle.device_defs.specs.Cutting.{power, reset}
 use Rattle.device_defs.specs.Device.{Device}
-use Rattle.device_defs.specs.Events.{second, background, lose}
+use Rattle.device_defs.specs.Events.{second, background, lose, one_more}
 use Rattle.device_defs.specs.Orders.{join, split, replace, hold, resume}
 use Rattle.device_defs.specs.Sound.{DeviceStore}
 use Rattle.device_defs.specs.Start as S
@@ -33,7 +36,7 @@ use Rattle.device_laws.specs.Agrees.{Held}
 use Rattle.device_laws.specs.InOrder.{IsInOrder}
 use Rattle.device_laws.specs.NewDevice.{new_contents}
 use Rattle.device_laws.specs.Standing.{IsChainOf}
-use Rattle.device_laws.specs.Unharmed.{MarksAreGood, NothingLost, IsWholeOnA, IsUnharmed, HalfIsTried}
+use Rattle.device_laws.specs.Unharmed.{MarksAreGood, NothingLost, IsWholeOnA, IsUnharmed, HalfIsTried, all_losses, LossesAreCounted}
 use Rattle.device_laws.proofs.Based.{Base, kept, Any, Based, based_any}
 use Rattle.device_laws.proofs.BasedEvents.{
   base_in,
@@ -47,7 +50,7 @@ use Rattle.device_laws.proofs.BasedEvents.{
 }
 use Rattle.device_laws.proofs.Harmless.{cache_goes, power_goes, reset_goes}
 use Rattle.device_laws.proofs.KeepLaws.{always_ran, ran_same}
-use Rattle.device_laws.proofs.Lucky.{top, failed_in, never_falls, where_none_failed}
+use Rattle.device_laws.proofs.Lucky.{top, failed_in, never_falls, where_none_failed, counted_rises}
 use Rattle.device_laws.proofs.TrackMarks.{IsFaithful}
 use Rattle.device_laws.proofs.Unlost.{core_of, Fine}
 use Rattle.device_laws.proofs.UnlostEvents.{DeviceGoes, marks_well, command_goes, background_goes, second_event_goes}
@@ -235,3 +238,59 @@ started_unharmed d path un = un
 
 pub new_unharmed : (d : ℕ) (g : Geometry) (n : ℕ) → IsUnharmed (new_contents d g n)
 new_unharmed d g n none = record { up = refl; level = λ t. empty_places (n * 15) t false; kept = λ t. empty_places (n * 15) t false }
+
+-- Losses of data of cache fast write are counted
+
+module _ {F P H R K : Type 0} (c : Contents F P H R) {hears : Hearing Image K} (d : Device F P H) (before : LossesAreCounted d) {e : Device F P H}
+    {u z : Outside R K} where
+  event_counted : {X : Type 0} {a : X} (i : Interaction R Image (Device F P H) X) (b : Base) → d.store.counts.losses.cache ≤ b.counts.losses.cache →
+      Based base_in Any b i → Always i (λ y _. all_losses y.history ≡ all_losses d.history) → Ran (λ ok. Unit {0}) hears i u e a z → LossesAreCounted e
+  event_counted i b more x goes r =
+      let same : e.store.counts.losses.cache ≡ b.counts.losses.cache = ap (λ (l : Losses). l.cache) (ran_same x r).losses in
+      let all : all_losses e.history ≡ all_losses d.history =
+      always_ran i (λ y _. all_losses y.history ≡ all_losses d.history) goes.holds r in
+      omega (arith, same, all, before, more)
+
+  pub command_counted : {a : Option Stepped} → Ran (λ ok. Unit {0}) hears (command c d) u e a z → LossesAreCounted e
+  command_counted r =
+      event_counted (command c d) (kept d.store) (omega arith) (command_based c d) (command_has c (all_losses d.history) d refl) r
+
+  pub second_counted : {a : SecondEnd} → Ran (λ ok. Unit {0}) hears (second c d) u e a z → LossesAreCounted e
+  second_counted r = event_counted (second c d) (kept d.store) (omega arith) (second_based c d) (second_has c (all_losses d.history) d refl) r
+
+  pub background_counted : {a : Option Did} → Ran (λ ok. Unit {0}) hears (background c d) u e a z → LossesAreCounted e
+  background_counted r =
+      event_counted (background c d) (kept d.store) (omega arith) (background_based c d) (background_has c (all_losses d.history) d refl) r
+
+  pub reset_counted : (path : ℕ) {a : Unit {0}} → Ran (λ ok. Unit {0}) hears (reset c d path) u e a z → LossesAreCounted e
+  reset_counted path r =
+      event_counted (reset c d path) (kept d.store) (omega arith) (based_any (reset_body c d path)) (reset_has c (all_losses d.history) d path refl) r
+
+  pub power_counted : {a : Unit {0}} → d.store.counts.losses.cache < top → Ran (λ ok. Unit {0}) hears (power c d) u e a z → LossesAreCounted e
+  power_counted lt r =
+      let more = counted_rises d.store.counts.losses.cache lt in
+      event_counted (power c d) (with_one_loss losses.Cache (kept d.store)) (omega (arith, more)) (power_based c d) (power_has c (all_losses d.history) d refl) r
+
+  lost_counted : (loss : Loss) {a : Unit {0}} → all_losses d.history + most_lost c (all_losses d.history) loss ≤ (one_more d.store.counts.losses loss).cache →
+      Ran (λ ok. Unit {0}) hears (lose c d loss) u e a z → LossesAreCounted e
+  lost_counted loss more r =
+      let same : e.store.counts.losses.cache ≡ (one_more d.store.counts.losses loss).cache =
+      ap (λ (l : Losses). l.cache) (ran_same (lose_based c d loss) r).losses in
+      let all = always_ran (lose c d loss) (λ y _. all_losses y.history ≤ all_losses d.history + most_lost c (all_losses d.history) loss)
+      (lose_has c (all_losses d.history) d loss refl).holds r in
+      omega (arith, same, all, more)
+
+  pub loss_counted : (loss : Loss) {a : Unit {0}} → d.store.counts.losses.cache < top → Ran (λ ok. Unit {0}) hears (lose c d loss) u e a z →
+      LossesAreCounted e
+  loss_counted losses.Cache lt r =
+      lost_counted losses.Cache (let more = counted_rises d.store.counts.losses.cache lt in omega (arith, more, before)) r
+  loss_counted losses.Store lt r = lost_counted losses.Store (omega (arith, before)) r
+  loss_counted (losses.Side side) lt r = lost_counted (losses.Side side) (omega (arith, before)) r
+
+-- so those that the journal has
+pub counted_excuse : {F P H : Type 0} (d : Device F P H) → LossesAreCounted d → loose_losses d.history.items ≤ d.store.counts.losses.cache
+counted_excuse d all = omega (arith, all)
+
+pub started_counted : {F P H : Type 0} (d : Device F P H) (path : ℕ) → LossesAreCounted d → LossesAreCounted (start d path)
+unfolding S.start
+started_counted d path all = omega (arith, all)

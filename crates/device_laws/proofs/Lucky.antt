@@ -76,7 +76,7 @@ counted_top n = least_of (n + 1) top where
   least_of : (x y : ℕ) → min x y ≤ y
   least_of x y = omega arith
 
-counted_rises : (n : ℕ) → n < top → n < counted n
+pub counted_rises : (n : ℕ) → n < top → n < counted n
 unfolding V.counted
 counted_rises n lt = least_of (n + 1) top n lt (omega arith) where
   least_of : (x y n : ℕ) → n < y → n < x → n < min x y

@@ -87,7 +87,7 @@ ran_within p (based_tell x) (told q hears had r) k = ran_within p (x q) r k
 
 -- Tracks that wait
 
-after_waits : (p : Pool) (c : Call) (a : AnswerTo c) → Hushed c → (after p c a).waiting ≡ p.waiting
+pub after_waits : (p : Pool) (c : Call) (a : AnswerTo c) → Hushed c → (after p c a).waiting ≡ p.waiting
 unfolding P.after
 after_waits p (NextNotice d) a h = refl
 after_waits p (Touch d t) a h = refl
@@ -162,7 +162,7 @@ pub own_waiting : (w : Option (List ℕ)) (d n : ℕ) → HasWaiting w d n → w
 own_waiting None d n h = refl
 own_waiting (Some ws) d n h = ap Some (ap (set ws d) (sym h) ∙ set-get_or ws d 0)
 
-abbrev put_in : {F P H R X : Type 0} → Device F P H → X → Store F P H → Unit {0} → Interaction R Image (Device F P H) X
+abbrev pub put_in : {F P H R X : Type 0} → Device F P H → X → Store F P H → Unit {0} → Interaction R Image (Device F P H) X
 put_in y o z x = Done (record y { store = z }) o
 
 module _ {F P H R K : Type 0} (c : Contents F P H R) {had : Bool → Type 0} {hears : Hearing Image K} where

@@ -1,20 +1,22 @@
 //! Laws of what a device keeps: its pledge in a turn, what the pool is told of its waiting tracks, and that no bytes of its volumes
 //! are bad where they tell what they hold. They hold whatever is answered, and whether memory is had or not.
 
-ghost use Rattle.std.specs.Prelude.{◌≡◌, ◌≤◌, ℕ, true, List, Option, None, Some, count_by};
+ghost use Rattle.std.specs.Prelude.{◌≡◌, ◌≤◌, ℕ, true, List, Option, None, Some, count_by, slice_index_or, slice_set};
 ghost use Rattle.ckd_chain.specs.State.{ChainState};
 ghost use Rattle.ckd_types.specs.declared.paths.Side.{Side};
 ghost use Rattle.ckd_types.specs.declared.record.Track.{Track};
 ghost use Rattle.device_outside.specs.After.{Has};
 ghost use Rattle.device_outside.specs.Outside.{Outside, Ran};
+ghost use Rattle.device_outside.specs.Told.{Told, hold};
 ghost use Rattle.device_defs.specs.declared.answers.Did.{Did};
 ghost use Rattle.device_defs.specs.declared.answers.Did.TheVariants.{BadBytes};
 ghost use Rattle.device_defs.specs.declared.answers.SecondEnd.{SecondEnd};
 ghost use Rattle.device_defs.specs.declared.answers.Stepped.{Stepped};
 ghost use Rattle.device_defs.specs.Command.{command};
-ghost use Rattle.device_defs.specs.Contents.{contents};
+ghost use Rattle.device_defs.specs.Contents.{contents, by_plain};
 ghost use Rattle.device_defs.specs.Cutting.{power};
 ghost use Rattle.device_defs.specs.Events.{one_more, second, background, lose};
+ghost use Rattle.device_defs.specs.Marks.{MarksDevice};
 ghost use Rattle.device_defs.specs.Owed.{waiting_count};
 ghost use Rattle.device_defs.specs.Peek.{Peeked, peek};
 ghost use Rattle.device_defs.specs.Pledge.{Handed, Pledge, ends_with_data_check};
@@ -77,4 +79,24 @@ pub fn told_device_has_no_bad_bytes<K: Keep<TrackImage>>()
     ensures background { (v w : List Track) (d e : WholeDevice) (h : Held) (others : List ℕ) (u z : Outside (List ℕ) K) (a : Option Did) (side : Side) →
         IsInOrder v w d.store h → d.store.half ≡ None → Has others u h → Ran (λ ok. Unit {0}) K.hears (background contents d) u e a z →
         a ≡ Some (BadBytes side) → ⊥ }
+{}
+
+/// So it is in a run whose outside is told, over marks: there each event's run ends with the pool that has the number of its device's
+/// tracks that wait then.
+pub fn run_tells_waiting()
+    ensures command { (d : MarksDevice) (t : Told) → slice_index_or t.pool.waiting d.store.device 0 ≡ waiting_count by_plain d.store →
+        (hold true (command by_plain d) t).told.pool.waiting
+        ≡ slice_set t.pool.waiting d.store.device (waiting_count by_plain (hold true (command by_plain d) t).state.store) }
+    ensures second { (d : MarksDevice) (t : Told) → slice_index_or t.pool.waiting d.store.device 0 ≡ waiting_count by_plain d.store →
+        (hold true (second by_plain d) t).told.pool.waiting
+        ≡ slice_set t.pool.waiting d.store.device (waiting_count by_plain (hold true (second by_plain d) t).state.store) }
+    ensures background { (d : MarksDevice) (t : Told) → slice_index_or t.pool.waiting d.store.device 0 ≡ waiting_count by_plain d.store →
+        (hold true (background by_plain d) t).told.pool.waiting
+        ≡ slice_set t.pool.waiting d.store.device (waiting_count by_plain (hold true (background by_plain d) t).state.store) }
+    ensures lose { (d : MarksDevice) (loss : Loss) (t : Told) → slice_index_or t.pool.waiting d.store.device 0 ≡ waiting_count by_plain d.store →
+        (hold true (lose by_plain d loss) t).told.pool.waiting
+        ≡ slice_set t.pool.waiting d.store.device (waiting_count by_plain (hold true (lose by_plain d loss) t).state.store) }
+    ensures power { (d : MarksDevice) (t : Told) → slice_index_or t.pool.waiting d.store.device 0 ≡ waiting_count by_plain d.store →
+        (hold true (power by_plain d) t).told.pool.waiting
+        ≡ slice_set t.pool.waiting d.store.device (waiting_count by_plain (hold true (power by_plain d) t).state.store) }
 {}
