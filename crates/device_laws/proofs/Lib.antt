@@ -113,6 +113,7 @@ pub mod Lending
 pub mod UnlostEvents
 pub mod Harmless
 pub mod LossLaws
+pub mod Restoring
 pub mod LooseLosses
 pub mod HeldBased
 pub mod Unchecked

@@ -154,7 +154,7 @@ module _ (d : ℕ) (g : Geometry) (n : ℕ) where
           ∙ get_or-map-range_with_len empty_bytes 0 (n * 15) t t [] lt (omega arith)
           ∙ ap track_bytes (sym track_is)
 
-      reads : image_read g t (get_or h.a t []) ≡ Some (image_in s v t)
+      pub reads : image_read g t (get_or h.a t []) ≡ Some (image_in s v t)
       reads =
           let x = track_in v t in
           let is = volume_empty g n most in

@@ -11,3 +11,5 @@ pub mod WholeTalks
 pub mod WholeDeeds
 pub mod WholeHappens
 pub mod WholeOrders
+pub mod WholeLends
+pub mod WholeUnpairs

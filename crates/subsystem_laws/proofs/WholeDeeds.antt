@@ -37,7 +37,7 @@ use Rattle.subsystem_laws.specs.Stood.{HasChain}
 use Rattle.subsystem_laws.specs.WholeComes.{Changes, IsNow, Asked, Swept, all_swept, one_swept, CameBy, IsWhatCame}
 use Rattle.subsystem_laws.specs.WholeStood.{Stood, devices_at, stood_in, put_at, IsMounted, is_mounted, AreMountedBy, one_more, AreMounted, HaveChains}
 use Rattle.subsystem_laws.proofs.Finding.{device_mounted}
-use Rattle.subsystem_laws.proofs.WholeFinding.{Found, none_found, both_found, find, device_stood}
+use Rattle.subsystem_laws.proofs.WholeFinding.{Found, none_found, both_found, find, chain_at, device_stood}
 use Rattle.subsystem_laws.proofs.WholeSlots.{slots_of, first_shared, still_apart, rest_now}
 use Rattle.subsystem_laws.proofs.WholeTalks.{AreTwins, held_so}
 
@@ -185,19 +185,19 @@ module _ {K : Type 0} (hears : Hearing Image K) (p q : Pool) (xs ys : List Stood
       };
     }
 
-  by_found : (n : ℕ) (f : WholeDevice → OwnDeed) (g : MarksDevice → MarksDeed) → Found p.used [] xs ms n →
+  by_found : (n : ℕ) (f : WholeDevice → OwnDeed) (g : MarksDevice → MarksDeed) → Found p.used [] xs ms n → HaveChains xs →
       ((x : Seat p xs ms n) → Leads (f x.device) (g (marks_device x.plain x.firm x.device))) →
       Leads (on_device (option_map (λ (x : Stood). x.device) (stood_in xs n)) f) (on_device (option_map (λ (m : Mounted). m.device) (mounted_in ms n)) g)
-  by_found n f g (none_found t u) w =
+  by_found n f g (none_found t u) chains w =
       subst (λ (o : Option Stood). Leads (on_device (option_map (λ (x : Stood). x.device) o) f)
       (on_device (option_map (λ (m : Mounted). m.device) (mounted_in ms n)) g)) (sym t)
       (subst (λ (o : Option Mounted). Leads (Ends ends.Done) (on_device (option_map (λ (m : Mounted). m.device) o) g)) (sym u) (ends_so ends.Done))
-  by_found n f g (both_found x m mine others t u (is_mounted d v w' h on_a on_b a b order slots told_a told_b) shared chains number put) w =
+  by_found n f g (both_found x m mine others t u (is_mounted d v w' h on_a on_b a b order slots told_a told_b) shared number put) chains w =
       subst (λ (o : Option Stood). Leads (on_device (option_map (λ (x : Stood). x.device) o) f)
       (on_device (option_map (λ (m : Mounted). m.device) (mounted_in ms n)) g)) (sym t)
       (subst (λ (o : Option Mounted). Leads (f d) (on_device (option_map (λ (m : Mounted). m.device) o) g)) (sym u)
       (w (seat_of p xs ms n (record { device = d; a = on_a; b = on_b }) (record { device = marks_device v w' d; a = a; b = b }) mine others t u
-      (is_mounted d v w' h on_a on_b a b order slots told_a told_b) shared chains number put)))
+      (is_mounted d v w' h on_a on_b a b order slots told_a told_b) shared (chain_at xs n (record { device = d; a = on_a; b = on_b }) chains t) number put)))
 
   -- the event of one device
   pub by_device : (n : ℕ) (f : WholeDevice → OwnDeed) (g : MarksDevice → MarksDeed) → HaveChains xs →
@@ -207,7 +207,7 @@ module _ {K : Type 0} (hears : Hearing Image K) (p q : Pool) (xs ys : List Stood
       subst (λ (o : Option WholeDevice). Leads (on_device o f) (on_device (device_in (devices_of s) n) g)) (sym (device_stood xs n))
       (subst (λ (o : Option MarksDevice). Leads (on_device (option_map (λ (x : Stood). x.device) (stood_in xs n)) f) (on_device o g)) (sym
       (device_mounted ms n))
-      (by_found n f g (find p.used [] xs ms n all chains) w))
+      (by_found n f g (find p.used [] xs ms n all) chains w))
 
 -- Every device
 

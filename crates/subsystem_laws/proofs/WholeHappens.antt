@@ -55,14 +55,15 @@ use Rattle.subsystem_defs.specs.Deeds.{
   deed,
 }
 use Rattle.subsystem_defs.specs.Happening as H
-use Rattle.subsystem_defs.specs.Happening.{MarksDeed, happens}
+use Rattle.subsystem_defs.specs.Happening.{MarksDeed, lends, quietly, happens}
 use Rattle.subsystem_defs.specs.Refusals as R
 use Rattle.subsystem_defs.specs.Refusals.{pair_fault, suspend_fault, resume_fault, fail_fault}
-use Rattle.subsystem_defs.specs.Subsystem.{Mounted, Subsystem, devices_of}
+use Rattle.subsystem_defs.specs.Subsystem.{Mounted, Subsystem, devices_of, mounted_in}
 use Rattle.subsystem_laws.specs.Comes.{OwnDeed, subsystem_of, behind_all, ends_of_all}
 use Rattle.subsystem_laws.specs.WholeComes.{Comes, Runs, no_event, next_event, IsWhatCame, AreWhatCame}
 use Rattle.subsystem_laws.specs.WholeStood.{Stood, devices_at, AreMounted, HaveChains}
 use Rattle.subsystem_laws.proofs.WholeDeeds.{Seat, Leads, leads_if, ends_so, repairs_so, asks_so, becomes_so, by_device, each_so}
+use Rattle.subsystem_laws.proofs.WholeLends.{may_pair, lends_so}
 use Rattle.subsystem_laws.proofs.WholeTalks.{
   twins_then,
   command_twins,
@@ -275,7 +276,13 @@ module _ {K : Type 0} (hears : Hearing Image K) (p q : Pool) (xs ys : List Stood
       subst (λ (o : Option OrderFault). Lead (order (pair_fault x.device y.device) (Lends x.device y.device))
       (order o (Lends (marks_device x.plain x.firm x.device) (marks_device y.plain y.firm y.device))))
       (sym (pair_fault_both x.plain x.firm y.plain y.firm x.device y.device))
-      (by_order (pair_fault x.device y.device) (λ _. record { leads = λ c. absurd c }))
+      (by_order (pair_fault x.device y.device)
+      (λ free. record {
+        leads = λ c.
+            subst (λ (end : EventEnd). IsWhatCame (quietly (subsystem_of p ms) (lends (subsystem_of p ms) x.device.store.device y.device.store.device
+            (mounted_in ms y.device.store.device)) ends.Done) end q ys) (sym c.0)
+            (lends_so hears p q xs ys ms all a b x y (may_pair x.device y.device free) x.device.store.device y.device.store.device x.number y.number c.1);
+      }))
 
   -- Pools
 

@@ -35,7 +35,7 @@ use Rattle.subsystem_laws.specs.Stood.{opened}
 use Rattle.subsystem_laws.specs.WholeComes.{IsWhatCame}
 use Rattle.subsystem_laws.specs.WholeStood.{Stood, stood_in, put_at, with_volume, IsMounted, is_mounted, AreMounted, HaveChains}
 use Rattle.subsystem_laws.proofs.WholeDeeds.{Seat, seat_of}
-use Rattle.subsystem_laws.proofs.WholeFinding.{Found, none_found, both_found, find}
+use Rattle.subsystem_laws.proofs.WholeFinding.{Found, none_found, both_found, find, chain_at}
 
 some_is : {X : Type 0} (x y : X) → Some x ≡ Some y → x ≡ y
 some_is x y e = cc
@@ -123,12 +123,12 @@ module _ (p : Pool) (xs : List Stood) (ms : List Mounted) (n : ℕ) (side : Side
             side calls)) (sym is) new) x.shared);
       }))
 
-  by_found : (x y : Stood) → Found p.used [] xs ms n → stood_in xs n ≡ Some x → length l ≡ tracks_of x.device.store → replace_fault x.device side ≡ None →
+  by_found : (x y : Stood) → Found p.used [] xs ms n → HaveChains xs → stood_in xs n ≡ Some x → length l ≡ tracks_of x.device.store → replace_fault x.device side ≡ None →
       y ≡ with_volume x side volume (replace x.device side) →
       IsWhatCame (replaced_at (subsystem_of p ms) n side calls (mounted_in ms n)) Done p (put_at xs n y)
-  by_found x y (none_found s t) at long free is = absurd (cc)
-  by_found x y (both_found u m mine others s t there shared chain number put) at long free is =
-      let seat = seat_of p xs ms n u m mine others s t there shared chain number put in
+  by_found x y (none_found s t) chains at long free is = absurd (cc)
+  by_found x y (both_found u m mine others s t there shared number put) chains at long free is =
+      let seat = seat_of p xs ms n u m mine others s t there shared (chain_at xs n u chains s) number put in
       let e : record { device = seat.device; a = seat.on_a; b = seat.on_b } ≡ x =
       some_is (record { device = seat.device; a = seat.on_a; b = seat.on_b }) x (sym seat.stood ∙ at) in
       by_seat seat y (long ∙ ap (λ (k : Stood). tracks_of k.device.store) (sym e)) (ap (λ (k : Stood). replace_fault k.device side) e ∙ free)
@@ -141,4 +141,4 @@ pub replaced_so : (p : Pool) (xs : List Stood) (ms : List Mounted) (n : ℕ) (si
     IsWhatCame (replaced (subsystem_of p ms) n side calls) Done p (put_at xs n (with_volume x side volume (replace x.device side)))
 unfolding H.replaced
 replaced_so p xs ms n side calls l volume x all chains at free told long =
-    by_found p xs ms n side calls l volume told x (with_volume x side volume (replace x.device side)) (find p.used [] xs ms n all chains) at long free refl
+    by_found p xs ms n side calls l volume told x (with_volume x side volume (replace x.device side)) (find p.used [] xs ms n all) chains at long free refl

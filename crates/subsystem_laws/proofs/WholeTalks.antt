@@ -118,21 +118,21 @@ pub record IsHeldSo {A : Type 0} (pool : Pool) (others : List ℕ) (y : Stood) (
   pub mounted : IsMounted mine y (mounted_behind o)
   pub shared : AreShared pool.used mine others
 
-told_pool : (o : Option Pool) (p t : Pool) → o ≡ Some p → PoolTold o t → t ≡ counted_slots p
+pub told_pool : (o : Option Pool) (p t : Pool) → o ≡ Some p → PoolTold o t → t ≡ counted_slots p
 told_pool o p t e x = subst (λ (q : Option Pool). PoolTold q t) e x
 
-shared_by : (o : Option Pool) (p : Pool) (mine others : List ℕ) → o ≡ Some p → SlotsTold o (Some mine) others → AreShared p.used mine others
+pub shared_by : (o : Option Pool) (p : Pool) (mine others : List ℕ) → o ≡ Some p → SlotsTold o (Some mine) others → AreShared p.used mine others
 shared_by o p mine others e x = subst (λ (q : Option Pool). SlotsTold q (Some mine) others) e x
 
-abbrev stands : WholeDevice → Option (VolumeView (List ℕ)) → Option (VolumeView (List ℕ)) → Stood
+abbrev pub stands : WholeDevice → Option (VolumeView (List ℕ)) → Option (VolumeView (List ℕ)) → Stood
 stands d on_a on_b = record { device = d; a = on_a; b = on_b }
 
-abbrev mounts : List Track → List Track → WholeDevice → Calls → Calls → Mounted
+abbrev pub mounts : List Track → List Track → WholeDevice → Calls → Calls → Mounted
 mounts v w d a b = record { device = marks_device v w d; a = a; b = b }
 
 module _ {K : Type 0} (p : Pool) (d : WholeDevice) (v w : List Track) (h : Held) (mine others : List ℕ) (on_a on_b : Option (VolumeView (List ℕ)))
     (a b : Calls) (slots : h.slots ≡ Some mine) (shared : AreShared p.used mine others) (told_a : SideTold on_a h.a a) (told_b : SideTold on_b h.b b) where
-  tells : (port : PortView) (keeper : K) → port.pool ≡ Some p →
+  pub tells : (port : PortView) (keeper : K) → port.pool ≡ Some p →
       TellsAll others (outside_at port (stands d on_a on_b) keeper) h (told_to (counted_slots p) (mounts v w d a b))
   tells port keeper e = record {
     pool = subst (λ (o : Option Pool). PoolTold o (counted_slots p)) (sym e) refl;

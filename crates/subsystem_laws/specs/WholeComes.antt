@@ -1,10 +1,11 @@
 -- What an event comes to, where the pool is told and memory is had; and the run's events one after another.
-use Rattle.std.specs.Prelude.{◌≡◌, ℕ, true, List, [], ◌∷◌, Some}
+use Rattle.std.specs.Prelude.{◌≡◌, ℕ, true, List, [], ◌∷◌, Some, None}
 use Rattle.track_image.specs.Image.{Image}
 use Rattle.device_outside.specs.Keeper.{Hearing}
 use Rattle.device_outside.specs.Outside.{PortView, Outside, Ran}
 use Rattle.device_outside.specs.Pool.{Pool, counted_slots}
 use Rattle.device_defs.specs.Contents.{contents}
+use Rattle.device_defs.specs.Orders.{join, lend}
 use Rattle.device_laws.specs.Whole.{WholeDevice}
 use Rattle.subsystem_defs.specs.declared.end.EventEnd.{EventEnd}
 use Rattle.subsystem_defs.specs.declared.end.EventEnd.TheVariants.{Done}
@@ -49,14 +50,23 @@ module _ {K : Type 0} (hears : Hearing Image K) where
     one_swept : {pool behind last : Pool} {x y : Stood} {xs ys : List Stood} → Asked (f x.device) tt pool x y behind → Swept f behind xs ys last →
         Swept f pool (x ∷ xs) (y ∷ ys) last
 
-  -- no device is lent yet
+  -- the one of that number lends its volume, which becomes side B of the other
+  pub record Joins (to from : ℕ) (y : WholeDevice) (pool : Pool) (old : List Stood) (new_pool : Pool) (new : List Stood) : Type 0 where
+    pub before : Stood
+    pub behind : Stood
+    pub first : Stood
+    pub stood : stood_in old from ≡ Some before
+    pub asked : Asked (lend contents y to) tt pool before behind new_pool
+    pub other : stood_in (put_at old from (record behind { a = None })) to ≡ Some first
+    pub stands : new ≡ put_at (put_at old from (record behind { a = None })) to (record { device = join first.device; a = first.a; b = behind.a })
+
   abbrev pub CameBy : OwnDeed → Pool → List Stood → EventEnd → Pool → List Stood → Type 0
   CameBy (Ends end) pool old e new_pool new = (e ≡ end) × (new_pool ≡ pool) × (new ≡ old)
   CameBy (Becomes d end) pool old e new_pool new = (e ≡ end) × (new_pool ≡ pool) × Changes d.store.device (IsNow d) old new
   CameBy (Asks d talk) pool old e new_pool new = Changes d.store.device (λ x y. Asked talk (Some e) pool x y new_pool) old new
   CameBy (Each swept f) pool old e new_pool new = (e ≡ Done) × Swept f swept old new new_pool
   CameBy (Repairs repaired) pool old e new_pool new = (e ≡ Done) × (new_pool ≡ repaired) × (new ≡ old)
-  CameBy (Lends x y) pool old e new_pool new = ⊥
+  CameBy (Lends x y) pool old e new_pool new = (e ≡ Done) × Joins x.store.device y.store.device y pool old new_pool new
 
   -- an event came, and ended so
   abbrev pub Comes : Event → Pool → List Stood → EventEnd → Pool → List Stood → Type 0

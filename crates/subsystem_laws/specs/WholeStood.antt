@@ -8,9 +8,11 @@ use Rattle.device_outside.specs.Lists.{is_in}
 use Rattle.device_outside.specs.Pool.{Pool}
 use Rattle.device_outside.specs.Told.{Calls}
 use Rattle.device_outside.specs.Volume.{VolumeView}
+use Rattle.device_defs.specs.Orders.{restore}
 use Rattle.device_laws.specs.Agrees.{Held}
 use Rattle.device_laws.specs.Lent.{Stands}
 use Rattle.device_laws.specs.Whole.{WholeDevice, marks_device}
+use Rattle.subsystem_defs.specs.Happening.{is_lent_to}
 use Rattle.subsystem_defs.specs.Subsystem.{Mounted}
 use Rattle.subsystem_laws.specs.Stood.{HasChain}
 
@@ -40,6 +42,18 @@ put_at (x ∷ xs) n y = if number_at x == n then y ∷ xs else x ∷ put_at xs n
 abbrev pub with_volume : Stood → Side → VolumeView (List ℕ) → WholeDevice → Stood
 with_volume x A volume d = record { device = d; a = Some volume; b = x.b }
 with_volume x B volume d = record { device = d; a = x.a; b = Some volume }
+
+-- the one that is lent to the device of this number
+abbrev pub lent_in : List Stood → ℕ → Option Stood
+lent_in [] n = None
+lent_in (x ∷ xs) n = if is_lent_to x.device.store.lent n then Some x else lent_in xs n
+
+-- it gets this volume, and is empty
+abbrev pub restored_at : List Stood → ℕ → VolumeView (List ℕ) → List Stood
+restored_at [] n volume = []
+restored_at (x ∷ xs) n volume =
+    if is_lent_to x.device.store.lent n then record x { device = restore x.device; a = Some volume } ∷ xs
+    else x ∷ restored_at xs n volume
 
 -- The device is in order, or lent, and has these slots, and mounted is what a run knows of it. Each volume that is there tells what it holds, its
 -- calls, and which fail

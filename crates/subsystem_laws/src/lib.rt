@@ -11,5 +11,5 @@ pub use runs::{
 };
 pub use whole::{
     whole_device_is_mounted, whole_event_is_what_happens, whole_events_are_what_happens,
-    whole_replaced_is_what_happens,
+    whole_replaced_is_what_happens, whole_unpaired_is_what_happens,
 };

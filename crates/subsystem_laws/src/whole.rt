@@ -10,18 +10,18 @@ ghost use Rattle.device_outside.specs.Disk.{empty_contents};
 ghost use Rattle.device_outside.specs.Pool.{Pool};
 ghost use Rattle.device_outside.specs.Told.{Calls};
 ghost use Rattle.device_outside.specs.Volume.{Plan, VolumeView};
-ghost use Rattle.device_defs.specs.Orders.{replace};
+ghost use Rattle.device_defs.specs.Orders.{replace, split};
 ghost use Rattle.device_defs.specs.Store.{tracks_of};
 ghost use Rattle.subsystem_defs.specs.declared.end.EventEnd.{EventEnd};
 ghost use Rattle.subsystem_defs.specs.declared.end.EventEnd.TheVariants.{Done};
 ghost use Rattle.subsystem_defs.specs.declared.event.Event.{Event};
-ghost use Rattle.subsystem_defs.specs.Happening.{happens, replaced};
-ghost use Rattle.subsystem_defs.specs.Refusals.{replace_fault};
+ghost use Rattle.subsystem_defs.specs.Happening.{happens, replaced, unpaired};
+ghost use Rattle.subsystem_defs.specs.Refusals.{replace_fault, unpair_fault};
 ghost use Rattle.subsystem_defs.specs.Subsystem.{Mounted, new_calls, newly_mounted};
 ghost use Rattle.subsystem_laws.specs.Comes.{subsystem_of};
 ghost use Rattle.subsystem_laws.specs.Stood.{opened};
 ghost use Rattle.subsystem_laws.specs.WholeComes.{Comes, Runs, IsWhatCame, AreWhatCame};
-ghost use Rattle.subsystem_laws.specs.WholeStood.{Stood, stood_in, put_at, with_volume, IsMounted, AreMounted, HaveChains};
+ghost use Rattle.subsystem_laws.specs.WholeStood.{Stood, stood_in, put_at, with_volume, lent_in, restored_at, IsMounted, AreMounted, HaveChains};
 
 use device_outside::Keep;
 use track_image::TrackImage;
@@ -53,4 +53,14 @@ pub fn whole_replaced_is_what_happens()
         (x : Stood) → AreMounted p xs ms → HaveChains xs → stood_in xs n ≡ Some x → replace_fault x.device side ≡ None → SideIs volume l calls →
         length l ≡ tracks_of x.device.store →
         IsWhatCame (replaced (subsystem_of p ms) n side calls) Done p (put_at xs n (with_volume x side volume (replace x.device side))) }
+{}
+
+/// A pair is taken apart, where the order is not refused: side B leaves, and the device that was lent gets a volume of empty tracks.
+pub fn whole_unpaired_is_what_happens()
+    ensures { (p : Pool) (xs : List Stood) (ms : List Mounted) (n : ℕ) (calls : Calls) (volume : VolumeView (List ℕ)) (x : Stood) → AreMounted p xs ms →
+        stood_in xs n ≡ Some x → unpair_fault x.device ≡ None →
+        ((y : Stood) → lent_in (put_at xs n (record { device = split x.device; a = x.a; b = None })) n ≡ Some y →
+        (y.device.store.cylinders ≤ 64) × SideIs volume (empty_contents (tracks_of y.device.store)) calls) →
+        IsWhatCame (unpaired (subsystem_of p ms) n calls) Done p
+        (restored_at (put_at xs n (record { device = split x.device; a = x.a; b = None })) n volume) }
 {}
