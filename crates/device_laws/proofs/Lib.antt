@@ -117,3 +117,4 @@ pub mod Restoring
 pub mod LooseLosses
 pub mod HeldBased
 pub mod Unchecked
+pub mod UncheckedEvents
