@@ -118,3 +118,4 @@ pub mod LooseLosses
 pub mod HeldBased
 pub mod Unchecked
 pub mod UncheckedEvents
+pub mod LentLosses

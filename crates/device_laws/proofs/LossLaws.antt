@@ -2,9 +2,10 @@
 use Rattle.device_laws.proofs.UncheckedEvents.{equipment_checks, command_unchecked}
 use Rattle.device_laws.proofs.LooseLosses.{most_lost, command_has, second_has, background_has, lose_has, reset_has, power_has}
 use Rattle.device_laws.proofs.Always.{Always}
-use Rattle.device_defs.specs.Excused.{loose_losses}
-use Rattle.std.proofs.Common.{◌≡◌, ◌≤◌, ◌<◌, ◌+◌, ℕ, Bool, true, false, List, Option, Some, None, get_or, min, refl, sym, ap, subst, ◌∙◌, arith, inr}
-use Rattle.std.specs.Prelude.{◌*◌, ◌&&◌, ◌||◌, not}
+use Rattle.device_defs.specs.Excused.{loose_losses, count_lost}
+use Rattle.std.proofs.Common.{◌≡◌, ◌≤◌, ◌<◌, ◌+◌, ℕ, Bool, true, false, List, Option, Some, None, get_or, min, refl, sym, ap, subst, ◌∙◌, arith, inr, suc, [], ◌∷◌}
+use Rattle.std.specs.List.{fold}
+use Rattle.std.specs.Prelude.{◌*◌, ◌&&◌, ◌||◌, not, if◌then◌else◌}
 use Rattle.ckd_chain.specs.State.{ChainState}
 use Rattle.ckd_types.specs.declared.geometry.Geometry.{Geometry}
 use Rattle.ckd_types.specs.declared.paths.Side.{Side}
@@ -310,3 +311,16 @@ module _ {F P H R K : Type 0} (c : Contents F P H R) {hears : Hearing Image K} (
       always_ran (command c d) (λ y _. failed_in (base_in y) ≡ failed_in (kept d.store) → equipment_checks y.history ≡ n)
       (where_none_failed (λ y _. equipment_checks y.history ≡ n) (command_based c d) lt
       (command_unchecked c n faithful d chains (marks_well c d.store good) none calm un refl)).holds r same
+
+-- None of them is counted as lost
+
+none_counted : (n : ℕ) (l : List Bool) → ((t : ℕ) → get_or l t false ≡ false) → fold (λ (k : ℕ) (x : Bool). k + (if x then 1 else 0)) n l ≡ n
+none_counted n [] none = refl
+none_counted n (x ∷ xs) none =
+    let first : x ≡ false = none 0 in
+    let same : n + 0 ≡ n = omega arith in
+    ap (λ (b : Bool). fold (λ (k : ℕ) (y : Bool). k + (if y then 1 else 0)) (n + (if b then 1 else 0)) xs) first
+    ∙ none_counted (n + 0) xs (λ t. none (suc t)) ∙ same
+
+pub unharmed_counts : {F P H : Type 0} (s : Store F P H) → IsUnharmed s → NothingLost s → count_lost s.lost ≡ 0
+unharmed_counts s un nothing = none_counted 0 s.lost (un nothing).kept

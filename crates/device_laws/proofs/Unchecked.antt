@@ -1,19 +1,17 @@
 -- A command ends with no equipment check where no call fails, side A is up, no track is lost, and no data of its program were.
-use Rattle.std.proofs.Common.{◌≡◌, ◌<◌, ◌≤◌, ◌+◌, ◌*◌, zero, suc, ℕ, Bool, true, false, List, [], ◌∷◌, ◌++◌, Option, Some, None, is_some, get_or, refl, sym, ap, subst, ◌∙◌, arith}
-use Rattle.std.specs.Prelude.{if◌then◌else◌, ◌&&◌, ◌||◌, not, count_by}
+use Rattle.std.proofs.Common.{◌≡◌, ◌<◌, ◌≤◌, ◌+◌, zero, suc, ℕ, Bool, true, false, List, Option, Some, None, is_some, get_or, refl, sym, ap, subst, ◌∙◌, arith}
+use Rattle.std.specs.Prelude.{if◌then◌else◌, ◌||◌, not}
 use Rattle.ckd_chain.specs.declared.mark.Stage.{Stage}
 use Rattle.ckd_chain.specs.declared.mark.Stage.TheVariants as stages
 use Rattle.ckd_chain.specs.declared.progress.Progress.{Progress}
 use Rattle.ckd_chain.specs.declared.progress.Progress.TheVariants as progresses
-use Rattle.ckd_chain.specs.declared.progress.Settled.TheVariants.{DataCheck}
 use Rattle.ckd_chain.specs.State.{ChainState}
-use Rattle.ckd_chain.specs.Steps.{Stepped, opened as opened_chain, stage_of, needed, need_of, standing, turned_by as chain_turned, stepped_by, stepped, word_of}
+use Rattle.ckd_chain.specs.Steps.{opened as opened_chain, stage_of, needed, need_of, standing, turned_by as chain_turned, stepped_by, stepped, word_of}
 use Rattle.ckd_rules.specs.declared.order.Look.{Look}
 use Rattle.ckd_rules.specs.declared.stance.Stance.{Stance}
 use Rattle.ckd_rules.specs.declared.turned.Turned.{Turned}
 use Rattle.ckd_rules.specs.declared.turned.Turned.TheVariants as turns
 use Rattle.ckd_rules.specs.Look.{look_on}
-use Rattle.ckd_types.specs.declared.channel.CommandEnd.{CommandEnd}
 use Rattle.ckd_types.specs.declared.parameters.Mode.{Mode}
 use Rattle.ckd_types.specs.declared.paths.Side.{Side}
 use Rattle.ckd_types.specs.declared.record.Edit.{Edit}
@@ -27,7 +25,6 @@ use Rattle.device_defs.specs.declared.answers.Came.TheVariants.{Ends, Checks, Ha
 use Rattle.device_defs.specs.declared.answers.Took.{Took}
 use Rattle.device_defs.specs.declared.answers.Took.TheVariants.{Whole, Opened, Unwritten}
 use Rattle.device_defs.specs.declared.usage.Usage.{Usage}
-use Rattle.device_defs.specs.Choosing as G
 use Rattle.device_defs.specs.Choosing.{choose}
 use Rattle.device_defs.specs.Command as N
 use Rattle.device_defs.specs.Command.{Went, Over, On, came_of_write, went_by, looked, look, goes_on, follow}
@@ -37,9 +34,8 @@ use Rattle.device_defs.specs.Editing.{another_loose, whole, at_once, through_by,
 use Rattle.device_defs.specs.Excused.{is_equipment_check}
 use Rattle.device_defs.specs.Image as I
 use Rattle.device_defs.specs.Image.{Got, Imaged, Has, NoBytes, BadTrack, level_bytes, read_b, filled, loads, ahead, loaded, delivered, missed, miss, hit, clean_image, image_by, image, image_of}
-use Rattle.device_defs.specs.Losses.{settled, stale_everywhere}
-use Rattle.device_defs.specs.Effects.{hardened}
-use Rattle.device_defs.specs.Memory.{tried, had_by}
+use Rattle.device_defs.specs.Losses.{settled}
+use Rattle.device_defs.specs.Memory.{had_by}
 use Rattle.device_defs.specs.Owed.{is_clean}
 use Rattle.device_defs.specs.Outcomes.{Turn, usage_of, wrote_turn}
 use Rattle.device_defs.specs.Store.{OfCommand, Store, tracks_of, level_at, has_level, takes_b, frame_at, patch_at, is_lost, is_loose, half_is, with_frame}
@@ -49,13 +45,12 @@ use Rattle.device_laws.proofs.ChainFeeds.{begun_stage, need_at, need_is}
 use Rattle.device_laws.proofs.Choices.{choice_fits}
 use Rattle.device_laws.proofs.Commands.{Stays, LookedAt, look_keeps_good}
 use Rattle.device_laws.proofs.FailedCall.{IsWell}
-use Rattle.device_laws.proofs.Lucky.{Lucky, lucky_done, lucky_try, lucky_ask, lucky_read, lucky_write, lucky_tell, lucky_then, lucky_weaker, lucky_if, lucky_tried, with_always}
+use Rattle.device_laws.proofs.Lucky.{Lucky, lucky_done, lucky_try, lucky_ask, lucky_read, lucky_write, lucky_tell, lucky_then, lucky_if, lucky_tried, with_always}
 use Rattle.device_laws.proofs.TouchedTracks.{goes_to_next}
 use Rattle.device_laws.proofs.TrackMarks as M
 use Rattle.device_laws.proofs.TrackMarks.{TrackMarks, marks, is_true, is_good, IsFaithful, frame_mark, track_at}
-use Rattle.device_laws.proofs.Unlost.{Core, core_of, Fine, Off, everywhere_off}
 use Rattle.device_laws.proofs.UnlostEvents.{look_goes}
-use Rattle.device_laws.proofs.UnlostParts.{Goes, image_goes, second_lucky, firm_first_off}
+use Rattle.device_laws.proofs.UnlostParts.{image_goes, second_lucky, firm_first_off}
 use Rattle.device_laws.proofs.WholeImage.{Reaches, image_keeps_good}
 use Rattle.device_laws.proofs.Writes.{is_taken, firm_first_keeps_good, write_first_keeps_good}
 

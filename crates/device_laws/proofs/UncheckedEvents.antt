@@ -1,11 +1,10 @@
 -- So a command adds no entry that ended with equipment check to its journal.
-use Rattle.std.proofs.Common.{◌≡◌, ◌<◌, ◌≤◌, ◌+◌, ◌*◌, ℕ, Bool, true, false, List, [], ◌∷◌, ◌++◌, Option, Some, None, get_or, refl, sym, ap, subst, ◌∙◌, arith}
+use Rattle.std.proofs.Common.{◌≡◌, ◌*◌, ℕ, Bool, true, false, List, [], ◌∷◌, Option, Some, None, get_or, refl, sym, ap, subst, ◌∙◌, arith}
 use Rattle.std.specs.Prelude.{if◌then◌else◌, count_by}
 use Rattle.ckd_chain.specs.declared.mark.Stage.{Stage}
 use Rattle.ckd_chain.specs.declared.mark.Stage.TheVariants as stages
 use Rattle.ckd_chain.specs.declared.progress.Progress.{Progress}
 use Rattle.ckd_chain.specs.declared.progress.Progress.TheVariants as progresses
-use Rattle.ckd_chain.specs.declared.progress.Settled.TheVariants.{Equipment}
 use Rattle.ckd_chain.specs.State.{ChainState}
 use Rattle.ckd_chain.specs.Steps.{opened as opened_chain, stage_of, needed, need_of, stepped_by, stepped}
 use Rattle.ckd_types.specs.declared.channel.CommandEnd.{CommandEnd}
@@ -16,17 +15,17 @@ use Rattle.plain_defs.specs.declared.journal.Item.TheVariants as items
 use Rattle.plain_defs.specs.History.{OpenEntry, History, acted, acted_in, checked_in, closed, ended, ended_in, entry_of, resets_of, with_end}
 use Rattle.plain_device.specs.Acted.{settled_act, paths_behind}
 use Rattle.track_image.specs.Image.{Image}
-use Rattle.device_outside.specs.Interaction.{Interaction, Done, and_then}
+use Rattle.device_outside.specs.Interaction.{Interaction, Done}
 use Rattle.device_defs.specs.declared.answers.Came.{Came}
 use Rattle.device_defs.specs.declared.answers.Came.TheVariants.{Ends, Checks, HalfOpen}
 use Rattle.device_defs.specs.Command as N
 use Rattle.device_defs.specs.Command.{has_loss, follow, came_out, on_tracks, answered_by, command_at, command_by, command}
 use Rattle.device_defs.specs.Contents.{Contents}
-use Rattle.device_defs.specs.Device.{Device, all_acted, with_store, event_begun, event_ended, event}
+use Rattle.device_defs.specs.Device.{Device, all_acted, with_store, event_begun, event_ended}
 use Rattle.device_defs.specs.Excused.{is_equipment_check}
-use Rattle.device_defs.specs.Outcomes.{Turn, ends_with, settles, checks, sense_kept, program_over, turned_by}
-use Rattle.device_defs.specs.Owed.{hear, waiting_count, ended as event_end}
-use Rattle.device_defs.specs.Store.{Store, tracks_of, is_lost}
+use Rattle.device_defs.specs.Outcomes.{Turn, ends_with, settles, sense_kept, program_over, turned_by}
+use Rattle.device_defs.specs.Owed.{waiting_count, ended as event_end}
+use Rattle.device_defs.specs.Store.{Store, tracks_of}
 use Rattle.device_laws.specs.Standing.{IsWithin, IsChainOf}
 use Rattle.device_laws.specs.Unharmed.{ends_with_equipment_check, RunsUnharmed, IsCalm}
 use Rattle.device_laws.proofs.ChainTracks.{within_stays, whole_cylinders}

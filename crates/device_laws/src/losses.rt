@@ -15,7 +15,7 @@ ghost use Rattle.device_defs.specs.Command.{command};
 ghost use Rattle.device_defs.specs.Contents.{contents};
 ghost use Rattle.device_defs.specs.Cutting.{power, reset};
 ghost use Rattle.device_defs.specs.Events.{second, background, lose};
-ghost use Rattle.device_defs.specs.Excused.{loose_losses};
+ghost use Rattle.device_defs.specs.Excused.{count_lost, loose_losses};
 ghost use Rattle.device_defs.specs.Orders.{join, split, replace, hold, resume};
 ghost use Rattle.device_defs.specs.Sound.{DeviceStore};
 ghost use Rattle.device_defs.specs.Start.{start};
@@ -24,15 +24,7 @@ ghost use Rattle.device_laws.specs.Agrees.{Held};
 ghost use Rattle.device_laws.specs.InOrder.{IsInOrder};
 ghost use Rattle.device_laws.specs.NewDevice.{new_contents};
 ghost use Rattle.device_laws.specs.Standing.{IsChainOf};
-ghost use Rattle.device_laws.specs.Unharmed.{
-  MarksAreGood,
-  IsUnharmed,
-  HalfIsTried,
-  LossesAreCounted,
-  RunsUnharmed,
-  IsCalm,
-  ends_with_equipment_check,
-};
+ghost use Rattle.device_laws.specs.Unharmed.{MarksAreGood, IsUnharmed, HalfIsTried, LossesAreCounted, RunsUnharmed, IsCalm, ends_with_equipment_check, NothingLost};
 ghost use Rattle.device_laws.specs.Whole.{WholeDevice};
 ghost use Rattle.loss_model.specs.declared.Loss.{Loss};
 
@@ -60,6 +52,7 @@ pub fn lost_list_grows_where_calls_fail<K: Keep<TrackImage>>()
 /// Where no side was lost, no call failed and the store wasn't lost, side A is up and has each track, and none is lost: so it is of a
 /// new device, and behind each event and order.
 pub fn unharmed_device_loses_no_track<K: Keep<TrackImage>>()
+    ensures counts { (d : WholeDevice) → IsUnharmed d.store → NothingLost d.store → count_lost d.store.lost ≡ 0 }
     ensures made { (d : ℕ) (g : Geometry) (n : ℕ) → IsUnharmed (new_contents d g n) }
     ensures starts { (d : WholeDevice) (path : ℕ) → IsUnharmed d.store → IsUnharmed (start d path).store }
     ensures command { (d e : WholeDevice) (u z : Outside (List ℕ) K) (a : Option Stepped) → MarksAreGood contents d.store → d.store.half ≡ None →
