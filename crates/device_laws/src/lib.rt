@@ -2,6 +2,8 @@
 #![tactic(auto)]
 
 mod contents;
+mod keeping;
+mod losses;
 mod placeless;
 mod runs;
 mod transfers;
@@ -11,6 +13,13 @@ pub use contents::{
     failed_call_leaves_order, held_side_leaves_order, image_is_plain, lost_cache_leaves_order,
     lost_side_leaves_order, lost_store_leaves_order, new_device_is_in_order, notices_leave_order,
     order_is_on_device, second_part_is_plain, work_is_plain, write_is_plain,
+};
+pub use keeping::{
+    pool_is_told_waiting, run_tells_waiting, told_device_has_no_bad_bytes, turn_keeps_pledge,
+};
+pub use losses::{
+    loose_losses_are_counted, lost_list_grows_where_calls_fail, order_has_good_marks,
+    unharmed_device_loses_no_track,
 };
 pub use placeless::{
     new_device_has_nothing, placeless_background_is_step, placeless_command_is_step,
