@@ -61,6 +61,7 @@ order_marks v w s h i = record {
   sizes = i.agrees.ground.sizes;
   free = i.free;
   alone = i.alone;
+  whole = i.whole;
   marks = i.marks;
   queued = i.queued;
   nowhere = i.nowhere;

@@ -79,7 +79,7 @@ module _ {F P H R : Type 0} (c : Contents F P H R) where
 
   here_now : (s : Store F P H) → MarksAreGood c s → IsHere (rest_of s)
   unfolding C.rest_of
-  here_now s m = record { free = m.free; alone = m.alone; within = m.within; queued = m.queued }
+  here_now s m = record { free = m.free; alone = m.alone; whole = m.whole; within = m.within; queued = m.queued }
 
   pub marks_well : (s : Store F P H) → MarksAreGood c s → IsWell c s
   marks_well s m = record {

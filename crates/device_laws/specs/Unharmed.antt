@@ -14,6 +14,7 @@ pub record MarksAreGood {F P H R : Type 0} (c : Contents F P H R) (s : Store F P
   pub sizes : HasSizes s
   pub free : is_some s.lent ≡ false
   pub alone : s.paired ≡ false → s.b.up ≡ false
+  pub whole : s.paired ≡ false → s.half ≡ None
   pub marks : (t : ℕ) → t < tracks_of s → has_sound_marks c s t ≡ true
   pub queued : AreBelow (tracks_of s) s.queue
   pub nowhere : (t : ℕ) → t < tracks_of s → is_lost s t ≡ true → has_level s t ≡ false
