@@ -116,3 +116,5 @@ pub mod LossLaws
 pub mod Restoring
 pub mod LooseLosses
 pub mod HeldBased
+pub mod Unchecked
+pub mod UncheckedEvents

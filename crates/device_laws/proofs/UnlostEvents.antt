@@ -113,7 +113,7 @@ module _ {F P H R : Type 0} (c : Contents F P H R) where
     looked_goes chain first t s (Some (NoBytes fault)) lt w there = lucky_done (fine (core_of s))
     looked_goes chain first t s (Some (BadTrack side)) lt w there = lucky_done (fine (core_of s))
 
-    look_goes : (chain : ChainState) (first t : ℕ) (s : Store F P H) → Within chain → tracks_of s ≡ n → t < tracks_of s → IsWell c s →
+    pub look_goes : (chain : ChainState) (first t : ℕ) (s : Store F P H) → Within chain → tracks_of s ≡ n → t < tracks_of s → IsWell c s →
         Goes s (look c chain first t s)
     unfolding N.look
     look_goes chain first t s is same lt w =
