@@ -3,8 +3,6 @@
 
 mod later;
 mod task;
-#[cfg(test)]
-mod tests;
 mod top;
 
 pub use task::Task;

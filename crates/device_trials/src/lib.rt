@@ -5,8 +5,16 @@
 #[cfg(test)]
 mod patches;
 #[cfg(test)]
+mod paths;
+#[cfg(test)]
 mod plain;
 #[cfg(test)]
 mod pool;
 #[cfg(test)]
+mod tables;
+#[cfg(test)]
 mod tracks;
+#[cfg(test)]
+mod values;
+#[cfg(test)]
+mod volumes;

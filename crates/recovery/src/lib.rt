@@ -1,8 +1,6 @@
 //! Which tracks wait for the writing that a loss made necessary.
 #![tactic(auto)]
 
-#[cfg(test)]
-mod tests;
 mod waiting;
 
 pub use waiting::{next, pending, waits};

@@ -5,3 +5,11 @@ pub mod Happens
 pub mod Orders
 pub mod PlainRuns
 pub mod ReadDecks
+pub mod WholeSlots
+pub mod WholeFinding
+pub mod WholeTalks
+pub mod WholeDeeds
+pub mod WholeHappens
+pub mod WholeOrders
+pub mod WholeLends
+pub mod WholeUnpairs
