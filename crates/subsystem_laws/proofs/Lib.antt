@@ -5,6 +5,9 @@ pub mod Happens
 pub mod Orders
 pub mod PlainRuns
 pub mod ReadDecks
+pub mod Walks
+pub mod PastChecks
+pub mod DataChecks
 pub mod WholeSlots
 pub mod WholeFinding
 pub mod WholeTalks

@@ -1,10 +1,12 @@
 //! Laws of the subsystem: an event of its devices is what happens in a run. It has no code; its lemmas are over plain variables.
 #![tactic(auto)]
 
+mod causes;
 mod plain;
 mod runs;
 mod whole;
 
+pub use causes::run_has_no_data_check;
 pub use plain::{read_run_is_plain, run_is_plain};
 pub use runs::{
     event_is_what_happens, events_are_what_happens, new_device_is_mounted, replaced_is_what_happens,

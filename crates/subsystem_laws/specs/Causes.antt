@@ -1,0 +1,13 @@
+-- What causes a check of the run of a deck.
+use Rattle.std.specs.Prelude.{◌≡◌, All, count_by}
+use Rattle.device_defs.specs.Marks.{MarksDevice}
+use Rattle.device_defs.specs.Pledge.{ends_with_data_check}
+use Rattle.subsystem_defs.specs.Lines.{Logged}
+use Rattle.subsystem_defs.specs.Subsystem.{devices_of}
+
+-- no program of its journal ended with data check
+abbrev pub HasNoDataCheck : MarksDevice → Type 0
+HasNoDataCheck d = count_by ends_with_data_check d.history.items ≡ 0
+
+abbrev pub HaveNoDataCheck : Logged → Type 0
+HaveNoDataCheck x = All HasNoDataCheck (devices_of x.happened.behind)

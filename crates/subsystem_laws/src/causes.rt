@@ -1,0 +1,11 @@
+//! Laws of the run of a deck: what causes the checks of its commands.
+
+ghost use Rattle.std.specs.Prelude.{All};
+ghost use Rattle.deck_text.specs.DeckLines.{DeckLines};
+ghost use Rattle.subsystem_defs.specs.Decks.{run_of};
+ghost use Rattle.subsystem_laws.specs.Causes.{HaveNoDataCheck};
+
+/// No command ends with data check, whatever calls fail and whatever is lost.
+pub fn run_has_no_data_check()
+    ensures { (deck : DeckLines) → All HaveNoDataCheck (run_of deck).events }
+{}
