@@ -5,9 +5,14 @@ pub mod Happens
 pub mod Orders
 pub mod PlainRuns
 pub mod ReadDecks
+pub mod LendBase
 pub mod Walks
 pub mod PastChecks
 pub mod DataChecks
+pub mod StancePlaces
+pub mod ChainPlaces
+pub mod ChainRuns
+pub mod GoodMarks
 pub mod WholeSlots
 pub mod WholeFinding
 pub mod WholeTalks

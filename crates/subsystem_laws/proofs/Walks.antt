@@ -1,8 +1,8 @@
 -- What each event of a device keeps holds of all devices behind every event of a run.
-use Rattle.std.proofs.Common.{◌≡◌, ◌==◌, zero, suc, ℕ, Bool, true, false, List, [], ◌∷◌, ◌++◌, map, Option, Some, None, is_some, refl, sym, ap, subst, ◌∙◌}
+use Rattle.std.proofs.Common.{◌≡◌, ◌==◌, zero, suc, ℕ, Bool, true, false, List, [], ◌∷◌, ◌++◌, map, Option, Some, None, is_some, refl, sym, ap, subst, ◌∙◌, arith}
 use Rattle.std.specs.Prelude.{not, All, ⊤, IfSome, if◌then◌else◌}
-use Rattle.std.proofs.lemmas.Bool.{cond_both}
-use Rattle.std.proofs.lemmas.List.Elements.{All-nil, All-cons}
+use Rattle.std.proofs.lemmas.Bool.{cond_both, eqb-true}
+use Rattle.std.proofs.lemmas.List.Elements.{All-nil, All-cons, All-head, All-tail}
 use Rattle.plain_defs.specs.History.{OpenEntry}
 use Rattle.ckd_types.specs.declared.paths.Side.{Side}
 use Rattle.ckd_types.specs.declared.paths.Side.TheVariants.{A, B}
@@ -34,8 +34,12 @@ use Rattle.subsystem_defs.specs.Happening.{MarksDeed, Talk, held_with, told_to, 
 use Rattle.subsystem_defs.specs.Lines as L
 use Rattle.subsystem_defs.specs.Lines.{is_settled, most_backs, backs, Asked, Once, Replace, Unpair, Run, Settle, Logged, logged, is_busy, step_logged, steps, most_steps, run_logged, line_logged, last_behind, run_lines}
 use Rattle.subsystem_defs.specs.Subsystem.{Mounted, Subsystem, number_of, devices_of, mounted_in, put_in, with_calls, unfailing}
+use Rattle.subsystem_defs.specs.declared.end.OrderFault.TheVariants.{Same, Paired}
+use Rattle.subsystem_defs.specs.Refusals as R
 use Rattle.subsystem_defs.specs.Refusals.{pair_fault, suspend_fault, resume_fault, fail_fault, replace_fault, unpair_fault}
+use Rattle.subsystem_laws.proofs.LendBase.{lend_lends}
 use Rattle.subsystem_laws.proofs.PlainRuns.{number_found, same_found}
+use Rattle.subsystem_laws.proofs.WholeLends.{first_none, where_none}
 
 -- an answer changes nothing of the device behind it
 hold_answer : {S X Y : Type 0} (i : Interaction Bool Image S X) (f : X → Y) (t : Told) →
@@ -47,6 +51,48 @@ hold_answer (Ask call k) f t = hold_answer (k (answer t.pool call)) f (record t 
 hold_answer (Read side q k) f t = hold_answer (k (if read_fails (calls_of t side) then None else Some true)) f (read_counted t side)
 hold_answer (Write side q r k) f t = hold_answer (k (if write_fails (calls_of t side) then false else true)) f (write_counted t side)
 hold_answer (Tell m k) f t = hold_answer (k (reply m)) f t
+
+-- Numbers
+
+number_if : (b : Bool) (k m : Mounted) (n : ℕ) (o : Option Mounted) → (number_of k == n) ≡ b → (if b then Some k else o) ≡ Some m →
+    (o ≡ Some m → number_of m ≡ n) → number_of m ≡ n
+number_if true k m n o is at more = let same : k ≡ m = cc in subst (λ (x : Mounted). number_of x ≡ n) same (eqb-true (number_of k) n is)
+number_if false k m n o is at more = more at
+
+mounted_number : (ms : List Mounted) (n : ℕ) (m : Mounted) → mounted_in ms n ≡ Some m → number_of m ≡ n
+mounted_number [] n m at = absurd (cc)
+mounted_number (k ∷ ms) n m at = number_if (number_of k == n) k m n (mounted_in ms n) refl at (mounted_number ms n m)
+
+not_of : (k a b : ℕ) (y : Mounted) (o : Option Mounted) → k ≡ b → (b == a) ≡ false → (if k == a then Some y else o) ≡ o
+not_of k a b y o e other = ap (λ (x : ℕ). if x == a then Some y else o) e ∙ ap (λ (t : Bool). if t then Some y else o) other
+
+other_if : (t : Bool) (k y : Mounted) (ms : List Mounted) (a b : ℕ) → (number_of k == b) ≡ t → number_of y ≡ b → (b == a) ≡ false →
+    mounted_in (put_in ms b y) a ≡ mounted_in ms a → mounted_in (if t then y ∷ ms else k ∷ put_in ms b y) a ≡ mounted_in (k ∷ ms) a
+other_if true k y ms a b is number other more =
+    not_of (number_of y) a b y (mounted_in ms a) number other ∙ sym (not_of (number_of k) a b k (mounted_in ms a) (eqb-true (number_of k) b is) other)
+other_if false k y ms a b is number other more = ap (λ (o : Option Mounted). if number_of k == a then Some k else o) more
+
+-- another one's place
+put_other : (ms : List Mounted) (a b : ℕ) (y : Mounted) → number_of y ≡ b → (b == a) ≡ false → mounted_in (put_in ms b y) a ≡ mounted_in ms a
+put_other [] a b y number other = refl
+put_other (k ∷ ms) a b y number other = other_if (number_of k == b) k y ms a b refl number other (put_other ms a b y number other)
+
+turned_round : (a b : ℕ) → (a == b) ≡ false → (b == a) ≡ false
+turned_round a b e = by_test (b == a) refl where
+  by_test : (t : Bool) → (b == a) ≡ t → t ≡ false
+  by_test false f = refl
+  by_test true f =
+      absurd (let same : b ≡ a = eqb-true b a f in let back : (a == a) ≡ false = subst (λ (x : ℕ). (a == x) ≡ false) same e in grind arith)
+
+-- two devices that may become a pair
+may_pair : (x y : MarksDevice) → pair_fault x y ≡ None → ((y.store.device == x.store.device) ≡ false) × (x.store.paired ≡ false)
+unfolding R.pair_fault
+may_pair x y is =
+    let a = first_none (R.where_so (x.store.device == y.store.device) Same) _ is in
+    let b = first_none (R.lent_by x.store.lent) _ a.1 in
+    let c = first_none (R.lent_by y.store.lent) _ b.1 in
+    let e = first_none (R.where_so x.store.paired Paired) _ c.1 in
+    (turned_round x.store.device y.store.device (where_none (x.store.device == y.store.device) Same a.0), where_none x.store.paired Paired e.0)
 
 module _ (P : MarksDevice → Type 0) where
   -- so it is behind an interaction, where the outside is told
@@ -68,7 +114,7 @@ module _ (P : MarksDevice → Type 0) where
     pub resumed : (d : MarksDevice) → resume_fault d ≡ None → P d → P (resume d)
     pub replaced : (d : MarksDevice) (side : Side) → replace_fault d side ≡ None → P d → P (replace d side)
     pub lent : (x y : MarksDevice) → pair_fault x y ≡ None → P x → P y → LeavesSo (lend by_plain y x.store.device)
-    pub joins : (d : MarksDevice) → P d → P (join d)
+    pub joins : (d : MarksDevice) → d.store.paired ≡ false → P d → P (join d)
     pub splits : (d : MarksDevice) → unpair_fault d ≡ None → P d → P (split d)
     pub restored : (d : MarksDevice) (a : ℕ) → is_lent_to d.store.lent a ≡ true → P d → P (restore d)
 
@@ -109,13 +155,18 @@ module _ (P : MarksDevice → Type 0) where
 
   -- Deeds that keep it
 
+  record MayLend (ms : List Mounted) (a b : ℕ) : Type 0 where
+    lent : (m : Mounted) → mounted_in ms b ≡ Some m → LeavesSo (lend by_plain m.device a)
+    single : (m : Mounted) → mounted_in ms a ≡ Some m → m.device.store.paired ≡ false
+    other : (b == a) ≡ false
+
   abbrev KeepsDeed : List Mounted → MarksDeed → Type 0
   KeepsDeed ms (Ends end) = ⊤
   KeepsDeed ms (Becomes d end) = P d
   KeepsDeed ms (Asks d talk) = LeavesSo talk
   KeepsDeed ms (Each pool f) = (d : MarksDevice) → P d → LeavesSo (f d)
   KeepsDeed ms (Repairs pool) = ⊤
-  KeepsDeed ms (Lends a b) = (m : Mounted) → mounted_in ms b.store.device ≡ Some m → LeavesSo (lend by_plain m.device a.store.device)
+  KeepsDeed ms (Lends a b) = MayLend ms a.store.device b.store.device
 
   -- a record round it, so that the deed can be inferred
   record KeptDeed (ms : List Mounted) (x : MarksDeed) : Type 0 where
@@ -138,18 +189,22 @@ module _ (P : MarksDevice → Type 0) where
   becomes_so s n d new p (Some m) = put_so s.mounted n (record m { device = d }) p new
 
   module _ (k : IsKept) where
-    joined_so : (s : Subsystem) (n : ℕ) (volume : Calls) → AreSo s.mounted → (o : Option Mounted) → IfSome o IsSo → AreSo (joined s n volume o).mounted
-    joined_so s n volume p None q = p
-    joined_so s n volume p (Some m) q = put_so s.mounted n (record m { device = join m.device; b = volume }) p (k.joins m.device q)
+    joined_so : (s : Subsystem) (n : ℕ) (volume : Calls) → AreSo s.mounted → (o : Option Mounted) → IfSome o IsSo →
+        ((m : Mounted) → o ≡ Some m → m.device.store.paired ≡ false) → AreSo (joined s n volume o).mounted
+    joined_so s n volume p None q single = p
+    joined_so s n volume p (Some m) q single =
+        put_so s.mounted n (record m { device = join m.device; b = volume }) p (k.joins m.device (single m refl) q)
 
-    lends_so : (s : Subsystem) (a b : ℕ) → AreSo s.mounted → (o : Option Mounted) → mounted_in s.mounted b ≡ o →
-        ((m : Mounted) → mounted_in s.mounted b ≡ Some m → LeavesSo (lend by_plain m.device a)) → AreSo (lends s a b o).mounted
+    lends_so : (s : Subsystem) (a b : ℕ) → AreSo s.mounted → (o : Option Mounted) → mounted_in s.mounted b ≡ o → MayLend s.mounted a b →
+        AreSo (lends s a b o).mounted
     lends_so s a b p None is h = p
     lends_so s a b p (Some m) is h =
         let o = held_with s.pool m (lend by_plain m.device a) in
         let z = behind_outcome s b o in
-        let pz = put_so s.mounted b (mounted_behind o) p (h m is (told_to s.pool m)) in
+        let pz = put_so s.mounted b (mounted_behind o) p (h.lent m is (told_to s.pool m)) in
+        let number = (lend_lends m.device a (told_to s.pool m)).number ∙ mounted_number s.mounted b m is in
         joined_so z a o.told.a pz (mounted_in z.mounted a) (mounted_so z.mounted a pz)
+        (λ y at. h.single y (sym (put_other s.mounted a b (mounted_behind o) number h.other) ∙ at))
 
     happens_so : (s : Subsystem) (x : MarksDeed) → AreSo s.mounted → KeepsDeed s.mounted x → AreSo (happens_by s x).behind.mounted
     happens_so s (Ends end) p h = p
@@ -170,6 +225,11 @@ module _ (P : MarksDevice → Type 0) where
           KeptDeed ms (on_device o f)
       on_so None f p h = record { is = tt }
       on_so (Some d) f p h = h d p
+
+      on_found : (o : Option MarksDevice) (f : MarksDevice → MarksDeed) → IfSome o P → ((d : MarksDevice) → o ≡ Some d → P d → KeptDeed ms (f d)) →
+          KeptDeed ms (on_device o f)
+      on_found None f p h = record { is = tt }
+      on_found (Some d) f p h = h d refl p
 
       deed_if : (b : Bool) {x y : MarksDeed} → (b ≡ true → KeptDeed ms x) → (b ≡ false → KeptDeed ms y) → KeptDeed ms (if b then x else y)
       deed_if true f g = f refl
@@ -219,15 +279,22 @@ module _ (P : MarksDevice → Type 0) where
           deed_if up (λ _. record { is = tt }) (λ _. deed_if (all_waiting pool == 0) (λ _. record { is = tt }) (λ _. record { is = tt }))
 
     module _ (s : Subsystem) (p : AreSo s.mounted) where
-      pair_so : (x : MarksDevice) (b : ℕ) (o : Option MarksDevice) → device_in (devices_of s) b ≡ o → P x → IfSome o P →
+      pair_so : (x : MarksDevice) (a b : ℕ) (o : Option MarksDevice) → device_in (devices_of s) b ≡ o → device_in (devices_of s) a ≡ Some x → P x → IfSome o P →
           KeptDeed s.mounted (on_device o (λ y. order (pair_fault x y) (Lends x y)))
-      pair_so x b None at px py = record { is = tt }
-      pair_so x b (Some y) at px py =
+      pair_so x a b None at here px py = record { is = tt }
+      pair_so x a b (Some y) at here px py =
           ordered s.mounted (pair_fault x y) (λ fault. record {
-            is = λ m there.
-                subst (λ (d : MarksDevice). LeavesSo (lend by_plain d x.store.device))
-                (sym (same_found s.mounted b y m at (ap (mounted_in s.mounted) (sym (number_found s.mounted b y at)) ∙ there)))
-                (k.lent x y fault px py);
+            is = record {
+              lent = λ m there.
+                  subst (λ (d : MarksDevice). LeavesSo (lend by_plain d x.store.device))
+                  (sym (same_found s.mounted b y m at (ap (mounted_in s.mounted) (sym (number_found s.mounted b y at)) ∙ there)))
+                  (k.lent x y fault px py);
+              single = λ m there.
+                  ap (λ (d : MarksDevice). d.store.paired)
+                  (same_found s.mounted a x m here (ap (mounted_in s.mounted) (sym (number_found s.mounted a x here)) ∙ there))
+                  ∙ (may_pair x y fault).1;
+              other = (may_pair x y fault).0;
+            };
           })
 
       deed_so : (e : Event) → KeptDeed s.mounted (deed by_plain s.pool (devices_of s) e)
@@ -249,8 +316,8 @@ module _ (P : MarksDevice → Type 0) where
       deed_so events.RepairCache = repair_so s.mounted s.pool.cache_up s.pool (cache_repaired s.pool)
       deed_so events.RepairStore = repair_so s.mounted s.pool.store_up s.pool (store_repaired s.pool)
       deed_so (events.Pair a b) =
-          on_so s.mounted (device_in (devices_of s) a) (λ x. on_device (device_in (devices_of s) b) (λ y. order (pair_fault x y) (Lends x y)))
-          (device_so s.mounted a p) (λ x q. pair_so x b (device_in (devices_of s) b) refl q (device_so s.mounted b p))
+          on_found s.mounted (device_in (devices_of s) a) (λ x. on_device (device_in (devices_of s) b) (λ y. order (pair_fault x y) (Lends x y)))
+          (device_so s.mounted a p) (λ x here q. pair_so x a b (device_in (devices_of s) b) refl here q (device_so s.mounted b p))
       deed_so (events.Suspend a) =
           on_so s.mounted (device_in (devices_of s) a) (λ x. order (suspend_fault x) (Becomes (hold x) ends.Done)) (device_so s.mounted a p)
           (λ x q. ordered s.mounted (suspend_fault x) (λ fault. record { is = k.held x fault q }))
@@ -360,3 +427,16 @@ module _ (P : MarksDevice → Type 0) where
     -- so it is behind each event of all lines
     pub run_keeps : (lines : List Asked) (s : Subsystem) → AreSo s.mounted → All IsBehind (run_lines lines s)
     run_keeps lines s p = logs_all s (run_lines lines s) (lines_so lines s p)
+
+-- and so is what follows from it
+pub all_weaker : (P Q : MarksDevice → Type 0) → ((d : MarksDevice) → P d → Q d) → (ds : List MarksDevice) → All P ds → All Q ds
+all_weaker P Q f [] h = All-nil Q
+all_weaker P Q f (d ∷ ds) h = All-cons Q d ds (f d (All-head P d ds h)) (all_weaker P Q f ds (All-tail P d ds h))
+
+pub behind_weaker : (P Q : MarksDevice → Type 0) → ((d : MarksDevice) → P d → Q d) → (ts : List Logged) →
+    All (λ (x : Logged). All P (devices_of x.happened.behind)) ts → All (λ (x : Logged). All Q (devices_of x.happened.behind)) ts
+behind_weaker P Q f [] h = All-nil (λ (x : Logged). All Q (devices_of x.happened.behind))
+behind_weaker P Q f (t ∷ ts) h =
+    All-cons (λ (x : Logged). All Q (devices_of x.happened.behind)) t ts
+    (all_weaker P Q f (devices_of t.happened.behind) (All-head (λ (x : Logged). All P (devices_of x.happened.behind)) t ts h))
+    (behind_weaker P Q f ts (All-tail (λ (x : Logged). All P (devices_of x.happened.behind)) t ts h))

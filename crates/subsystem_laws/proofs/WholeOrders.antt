@@ -67,7 +67,7 @@ fault_both v w d B =
     ap (λ (b : Bool). first_cause (lent_by d.store.lent ∷ where_so (not (R.has_side d.store B)) NoSide ∷ where_so d.store.b.up Up ∷ where_so b Half ∷ []))
     (fault_some d.store.half)
 
-is_down : (lent : Option ℕ) (has up : Bool) (more : List (Option OrderFault)) →
+pub is_down : (lent : Option ℕ) (has up : Bool) (more : List (Option OrderFault)) →
     first_cause (lent_by lent ∷ where_so (not has) NoSide ∷ where_so up Up ∷ more) ≡ None → (up ≡ false) × (has ≡ true) × (is_some lent ≡ false)
 is_down (Some to) has up more e = absurd (cc)
 is_down None true true more e = absurd (cc)

@@ -47,14 +47,14 @@ pub record MayPart (d : WholeDevice) : Type 0 where
   pub up : d.store.a.up ≡ true
   pub level : (q : ℕ) → q < tracks_of d.store → stale_at d.store.a q ≡ false
 
-not_some : {X : Type 0} (o : Option X) → is_some o ≡ false → o ≡ None
+pub not_some : {X : Type 0} (o : Option X) → is_some o ≡ false → o ≡ None
 not_some None e = refl
 not_some (Some x) e = absurd (cc)
 
-count_none : (n : ℕ) → R.not_level_by n ≡ None → n ≡ 0
+pub count_none : (n : ℕ) → R.not_level_by n ≡ None → n ≡ 0
 count_none n e = eqb-true n 0 (is_not (n == 0) (where_none (not (n == 0)) _ e))
 
-none_counted : (n : ℕ) (p : ℕ → Bool) → count_below n p ≡ 0 → (q : ℕ) → q < n → p q ≡ false
+pub none_counted : (n : ℕ) (p : ℕ → Bool) → count_below n p ≡ 0 → (q : ℕ) → q < n → p q ≡ false
 unfolding T.count_below
 none_counted zero p e q lt = absurd (omega arith)
 none_counted (suc n) p e q lt = by_place (p n) refl e (cases_eq q n) (λ f below. none_counted n p f q below)

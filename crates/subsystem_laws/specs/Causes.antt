@@ -1,7 +1,9 @@
 -- What causes a check of the run of a deck.
-use Rattle.std.specs.Prelude.{◌≡◌, All, count_by}
+use Rattle.std.specs.Prelude.{◌≡◌, false, All, count_by}
+use Rattle.device_defs.specs.Contents.{by_plain}
 use Rattle.device_defs.specs.Marks.{MarksDevice}
-use Rattle.device_defs.specs.Pledge.{ends_with_data_check}
+use Rattle.device_defs.specs.Pledge.{ends_with_data_check, was_lent}
+use Rattle.device_laws.specs.Unharmed.{MarksAreGood}
 use Rattle.subsystem_defs.specs.Lines.{Logged}
 use Rattle.subsystem_defs.specs.Subsystem.{devices_of}
 
@@ -11,3 +13,10 @@ HasNoDataCheck d = count_by ends_with_data_check d.history.items ≡ 0
 
 abbrev pub HaveNoDataCheck : Logged → Type 0
 HaveNoDataCheck x = All HasNoDataCheck (devices_of x.happened.behind)
+
+-- its marks are good, unless it was lent
+abbrev pub HasGoodMarks : MarksDevice → Type 0
+HasGoodMarks d = was_lent d ≡ false → MarksAreGood by_plain d.store
+
+abbrev pub HaveGoodMarks : Logged → Type 0
+HaveGoodMarks x = All HasGoodMarks (devices_of x.happened.behind)

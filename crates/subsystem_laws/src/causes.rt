@@ -3,9 +3,15 @@
 ghost use Rattle.std.specs.Prelude.{All};
 ghost use Rattle.deck_text.specs.DeckLines.{DeckLines};
 ghost use Rattle.subsystem_defs.specs.Decks.{run_of};
-ghost use Rattle.subsystem_laws.specs.Causes.{HaveNoDataCheck};
+ghost use Rattle.subsystem_laws.specs.Causes.{HaveGoodMarks, HaveNoDataCheck};
+ghost use Rattle.subsystem_laws.specs.Served.{IsServedDeck};
 
 /// No command ends with data check, whatever calls fail and whatever is lost.
 pub fn run_has_no_data_check()
     ensures { (deck : DeckLines) → All HaveNoDataCheck (run_of deck).events }
+{}
+
+/// Behind every event each device that was never lent has good marks, whatever calls fail and whatever is lost.
+pub fn run_has_good_marks()
+    ensures { (deck : DeckLines) → IsServedDeck deck → All HaveGoodMarks (run_of deck).events }
 {}
