@@ -71,12 +71,12 @@ order_marks v w s h i = record {
   there = i.there;
 }
 
-has_a : (up stale b : Bool) → up ≡ true → stale ≡ false → ((up && not stale) || b) ≡ true
+pub has_a : (up stale b : Bool) → up ≡ true → stale ≡ false → ((up && not stale) || b) ≡ true
 has_a true true b e f = absurd (cc)
 has_a true false b e f = refl
 has_a false stale b e f = absurd (cc)
 
-some_counted : (n : ℕ) → counted n ≡ 0 → ⊥
+pub some_counted : (n : ℕ) → counted n ≡ 0 → ⊥
 unfolding V.counted
 some_counted n is = none_of (n + 1) top (omega arith) (omega arith) is where
   none_of : (x y : ℕ) → 1 ≤ x → 1 ≤ y → min x y ≡ 0 → ⊥
@@ -95,7 +95,7 @@ module _ {F P H : Type 0} where
     store = ap (λ (l : Losses). l.store) (sym same) ∙ n.store;
   }
 
-  whole_behind : (s z : Store F P H) → Fine (core_of s) (core_of z) → IsWholeOnA s → IsWholeOnA z
+  pub whole_behind : (s z : Store F P H) → Fine (core_of s) (core_of z) → IsWholeOnA s → IsWholeOnA z
   whole_behind s z f w = record {
     up = f.up ∙ w.up;
     level = λ t. f.level w.up t (w.level t);

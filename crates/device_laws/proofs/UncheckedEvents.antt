@@ -143,10 +143,10 @@ module _ {F P H R : Type 0} (c : Contents F P H R) (n : ℕ) where
       by_has d (Some o) None un is same w none calm f = lucky_done f
       by_has d None k un is same w none calm f = lucky_done f
 
-    pub command_unchecked : (d : Device F P H) → ((chain : ChainState) → d.chain ≡ Some chain → IsChainOf d.store.cylinders chain) → IsWell c d.store →
-        d.store.half ≡ None → IsCalm d.store → RunsUnharmed d.history.running → Has n d → Holds (command c d)
+    pub command_unchecked_within : (d : Device F P H) → ((chain : ChainState) → d.chain ≡ Some chain → IsWithin (d.store.cylinders * 15) chain) →
+        IsWell c d.store → d.store.half ≡ None → IsCalm d.store → RunsUnharmed d.history.running → Has n d → Holds (command c d)
     unfolding N.command
-    command_unchecked d of_device w none calm un f =
+    command_unchecked_within d of_device w none calm un f =
         let m = tracks_of d.store in
         let front = goes_same c d.store (event_begun d).store w (begun_same c faithful d w) in
         lucky_tried d _ f
@@ -156,7 +156,12 @@ module _ {F P H R : Type 0} (c : Contents F P H R) (n : ℕ) where
         (λ s _ g.
         let well = well_on c d.store (event_begun d).store s front g.0 in
         by_has m (IsWithin m) (within_stays m (whole_cylinders d.store.cylinders)) (record (event_begun d) { store = s }) d.history.running d.chain un
-        (λ chain is. let k = of_device chain is in subst (λ (x : ℕ). IsWithin (x * 15) chain) k.cylinders (chain_stands chain k.is))
-        well.tracks well.well (well.half ∙ none)
+        of_device well.tracks well.well (well.half ∙ none)
         (g.1.up ∙ calm.0, λ t. ap (λ (l : List Bool). get_or l t false) g.1.lost ∙ calm.1 t) f))
         (λ y a h. lucky_then (λ z _. Done (record y { store = z }) a) (lucky_any (event_end c (waiting_count c d.store) y.store)) (λ z _ _. lucky_done h)))
+
+    pub command_unchecked : (d : Device F P H) → ((chain : ChainState) → d.chain ≡ Some chain → IsChainOf d.store.cylinders chain) → IsWell c d.store →
+        d.store.half ≡ None → IsCalm d.store → RunsUnharmed d.history.running → Has n d → Holds (command c d)
+    command_unchecked d of_device w none calm un f =
+        command_unchecked_within d
+        (λ chain is. let k = of_device chain is in subst (λ (x : ℕ). IsWithin (x * 15) chain) k.cylinders (chain_stands chain k.is)) w none calm un f

@@ -211,16 +211,21 @@ module _ {F P H R : Type 0} (c : Contents F P H R) where
           (λ s _ g. lucky_weaker (does s (well_on c d.store (event_begun d).store s front g.0) g.1)
           (λ y a h. fine_on (core_of d.store) (core_of s) (core_of y.store) g.1 h)))
 
-    pub command_goes : (d : Device F P H) → ((chain : ChainState) → d.chain ≡ Some chain → IsChainOf d.store.cylinders chain) → IsWell c d.store →
+    pub command_goes_within : (d : Device F P H) → ((chain : ChainState) → d.chain ≡ Some chain → IsWithin (d.store.cylinders * 15) chain) → IsWell c d.store →
         d.store.half ≡ None → DeviceGoes d.store (command c d)
     unfolding N.command
-    command_goes d of_device w none =
+    command_goes_within d of_device w none =
         let n = tracks_of d.store in
         lucky_tried d _ (fine (core_of d.store))
         (event_goes d (λ z. command_by c z z.history.running z.chain) w
         (λ s g _. by_goes n (IsWithin n) (within_stays n (whole_cylinders d.store.cylinders)) (record (event_begun d) { store = s }) d.history.running d.chain
-        (λ chain is. let k = of_device chain is in subst (λ (m : ℕ). IsWithin (m * 15) chain) k.cylinders (chain_stands chain k.is))
-        g.tracks g.well (g.half ∙ none)))
+        of_device g.tracks g.well (g.half ∙ none)))
+
+    pub command_goes : (d : Device F P H) → ((chain : ChainState) → d.chain ≡ Some chain → IsChainOf d.store.cylinders chain) → IsWell c d.store →
+        d.store.half ≡ None → DeviceGoes d.store (command c d)
+    command_goes d of_device w none =
+        command_goes_within d
+        (λ chain is. let k = of_device chain is in subst (λ (m : ℕ). IsWithin (m * 15) chain) k.cylinders (chain_stands chain k.is)) w none
 
     pub background_goes : (d : Device F P H) → IsWell c d.store → DeviceGoes d.store (background c d)
     unfolding E.background

@@ -16,6 +16,7 @@ use Rattle.loss_model.specs.declared.Loss.TheVariants as losses
 use Rattle.plain_defs.specs.declared.journal.Item.{Item}
 use Rattle.plain_defs.specs.declared.journal.Item.TheVariants as items
 use Rattle.track_table.proofs.Places.{empty_places}
+use Rattle.plain_defs.specs.Journal.{Plans}
 use Rattle.device_outside.specs.Told as T
 use Rattle.device_outside.specs.Told.{Told}
 use Rattle.device_defs.specs.Between.{HasSizes}
@@ -23,7 +24,7 @@ use Rattle.device_defs.specs.Command.{command}
 use Rattle.device_defs.specs.Contents.{by_plain}
 use Rattle.device_defs.specs.Cutting.{reset, power}
 use Rattle.device_defs.specs.Events.{second, lose, background}
-use Rattle.device_defs.specs.Marks.{MarksDevice, MarksStore, new_store}
+use Rattle.device_defs.specs.Marks.{MarksDevice, MarksStore, new_store, new_device}
 use Rattle.device_defs.specs.Orders.{join, split, restore, hold, resume, replace, lend}
 use Rattle.device_defs.specs.Pledge.{is_fresh, fresh_count, was_lent}
 use Rattle.device_defs.specs.Start as S
@@ -68,7 +69,7 @@ pub record Good (d : MarksDevice) : Type 0 where
   pub chain : HasChainOn d.store.cylinders d.chain
   pub well : was_lent d ≡ false → IsWell by_plain d.store
 
-lent_same : (d y : MarksDevice) → y.store.lent ≡ d.store.lent → fresh_count y.history.items ≡ fresh_count d.history.items → was_lent y ≡ was_lent d
+pub lent_same : (d y : MarksDevice) → y.store.lent ≡ d.store.lent → fresh_count y.history.items ≡ fresh_count d.history.items → was_lent y ≡ was_lent d
 lent_same d y lent fresh =
     ap (λ (x : Option ℕ). is_some x || not (fresh_count y.history.items == 0)) lent
     ∙ ap (λ (n : ℕ). is_some d.store.lent || not (n == 0)) fresh
@@ -82,9 +83,18 @@ goes d y cylinders lent fresh chain well g = record {
   well = λ home. well (g.well (sym (lent_same d y lent fresh) ∙ home));
 }
 
+one_fresh : (n : ℕ) (xs : List Item) →
+    fold (λ (a : ℕ) (x : Item). a + (if is_fresh x then 1 else 0)) n (xs ++ items.Fresh ∷ [])
+    ≡ fold (λ (a : ℕ) (x : Item). a + (if is_fresh x then 1 else 0)) n xs + 1
+one_fresh n [] = refl
+one_fresh n (x ∷ xs) = one_fresh (n + (if is_fresh x then 1 else 0)) xs
+
+some_left : (n m : ℕ) → n ≡ m + 1 → not (n == 0) ≡ false → ⊥
+some_left n m e none = let zero_is : n ≡ 0 = eqb-true n 0 (is_not (n == 0) none) in omega (arith, e, zero_is)
+
 -- Events
 
-within : (d : MarksDevice) → Good d → (chain : ChainState) → d.chain ≡ Some chain → IsWithin (d.store.cylinders * 15) chain
+pub within : (d : MarksDevice) → Good d → (chain : ChainState) → d.chain ≡ Some chain → IsWithin (d.store.cylinders * 15) chain
 within d g chain is = on_is_within d.store.cylinders g.some chain (subst (λ (x : Option ChainState). HasChainOn d.store.cylinders x) is g.chain)
 
 module _ (d : MarksDevice) (g : Good d) where
@@ -212,21 +222,16 @@ module _ (d : MarksDevice) (g : Good d) where
             (replace_keeps_good by_plain marks_are_faithful d side (g.well (sym (was_same side) ∙ home)) facts.0 (paired_by side facts.1)).well;
       }
 
-  one_fresh : (n : ℕ) (xs : List Item) →
-      fold (λ (a : ℕ) (x : Item). a + (if is_fresh x then 1 else 0)) n (xs ++ items.Fresh ∷ [])
-      ≡ fold (λ (a : ℕ) (x : Item). a + (if is_fresh x then 1 else 0)) n xs + 1
-  one_fresh n [] = refl
-  one_fresh n (x ∷ xs) = one_fresh (n + (if is_fresh x then 1 else 0)) xs
-
-  some_left : (n m : ℕ) → n ≡ m + 1 → not (n == 0) ≡ false → ⊥
-  some_left n m e none = let zero_is : n ≡ 0 = eqb-true n 0 (is_not (n == 0) none) in omega (arith, e, zero_is)
-
   restore_good : Good (restore d)
   restore_good = record {
     some = g.some;
     chain = g.chain;
     well = λ home. absurd (some_left (fresh_count (d.history.items ++ items.Fresh ∷ [])) (fresh_count d.history.items) (one_fresh 0 d.history.items) home);
   }
+
+pub restored_was_lent : (d : MarksDevice) → was_lent (restore d) ≡ false → ⊥
+restored_was_lent d home =
+    some_left (fresh_count (d.history.items ++ items.Fresh ∷ [])) (fresh_count d.history.items) (one_fresh 0 d.history.items) home
 
 pub good_kept : IsKept Good
 good_kept = record {
@@ -284,7 +289,10 @@ module _ (number : ℕ) (on : Geometry) (n : ℕ) where
     kept = λ q lt e. absurd (cc);
   }
 
-opened_good : (deck : DeckLines) (ds : List DeviceLine) → All (λ (d : DeviceLine). 1 ≤ d.cylinders) ds → AreSo Good (map (opened_device deck) ds)
+pub new_good : (number : ℕ) (on : Geometry) (n : ℕ) (plans : Plans) → 1 ≤ n → Good (new_device number on n plans)
+new_good number on n plans some = record { some = omega (arith, some); chain = tt; well = λ home. new_well number on n }
+
+pub opened_good : (deck : DeckLines) (ds : List DeviceLine) → All (λ (d : DeviceLine). 1 ≤ d.cylinders) ds → AreSo Good (map (opened_device deck) ds)
 opened_good deck [] h = tt
 opened_good deck (d ∷ ds) h =
     let some = All-head (λ (d : DeviceLine). 1 ≤ d.cylinders) d ds h in (

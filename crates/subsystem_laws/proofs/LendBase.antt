@@ -6,6 +6,7 @@ use Rattle.device_outside.specs.Interaction.{Interaction, Done}
 use Rattle.device_outside.specs.Pool.{Call}
 use Rattle.device_outside.specs.Told as T
 use Rattle.device_outside.specs.Told.{Told}
+use Rattle.device_defs.specs.declared.counts.Counts.{Counts}
 use Rattle.device_defs.specs.Contents.{by_plain}
 use Rattle.device_defs.specs.Device.{event_begun}
 use Rattle.device_defs.specs.Losses as L
@@ -22,12 +23,12 @@ use Rattle.device_laws.proofs.Had.{held}
 use Rattle.device_laws.proofs.PlainEvents.{had_always}
 
 abbrev pub IsStill : Base → Base → Type 0
-IsStill b x = (x.device ≡ b.device) × (x.cylinders ≡ b.cylinders) × (x.lent ≡ b.lent)
+IsStill b x = (x.device ≡ b.device) × (x.cylinders ≡ b.cylinders) × (x.lent ≡ b.lent) × (x.counts.losses ≡ b.counts.losses)
 
 still_behind : {R S X : Type 0} {base : S → Base} {may : Call → Type 0} {b : Base} {i : Interaction R Image S X} → Based base may b i →
     Behind i (λ s a. IsStill b (base s))
 unfolding A.Behind
-still_behind (based_done e) = (ap (λ (x : Base). x.device) e, ap (λ (x : Base). x.cylinders) e, ap (λ (x : Base). x.lent) e)
+still_behind (based_done e) = (ap (λ (x : Base). x.device) e, ap (λ (x : Base). x.cylinders) e, ap (λ (x : Base). x.lent) e, ap (λ (x : Base). x.counts.losses) e)
 still_behind (based_try x) = λ ok. still_behind (x ok)
 still_behind (based_ask m x) = λ a. still_behind (x a)
 still_behind (based_read x) = λ got. still_behind (x got)
@@ -43,10 +44,10 @@ pub at : {A : Type 0} {talk : Interaction Bool Image MarksDevice A} {q : MarksDe
     q (T.hold true talk t).state (T.hold true talk t).answer
 at h t = held true (had_always h) t
 
-abbrev ids : MarksStore → ℕ × ℕ
-ids s = (s.device, s.cylinders)
+abbrev ids : MarksStore → ℕ × ℕ × Counts
+ids s = (s.device, s.cylinders, s.counts)
 
-ids_if : (b : Bool) (s z : MarksStore) {x : ℕ × ℕ} → ids s ≡ x → ids z ≡ x → ids (if b then s else z) ≡ x
+ids_if : (b : Bool) (s z : MarksStore) {x : ℕ × ℕ × Counts} → ids s ≡ x → ids z ≡ x → ids (if b then s else z) ≡ x
 ids_if true s z e f = e
 ids_if false s z e f = f
 
@@ -64,10 +65,10 @@ unfolding L.over
 over_ids zero s = refl
 over_ids (suc n) s = given_ids n (over n (given_up by_plain) s) ∙ over_ids n s
 
-abbrev lent_store : MarksDevice → ℕ → MarksStore
+abbrev pub lent_store : MarksDevice → ℕ → MarksStore
 lent_store d to = let z = event_begun d in lent_to (over (tracks_of z.store) (given_up by_plain) z.store) to
 
-lend_based : (d : MarksDevice) (to : ℕ) → Based base_in Any (kept (lent_store d to)) (lend by_plain d to)
+pub lend_based : (d : MarksDevice) (to : ℕ) → Based base_in Any (kept (lent_store d to)) (lend by_plain d to)
 unfolding O.lend
 lend_based d to =
     quiet_based by_plain d (kept (lent_store d to))
@@ -82,4 +83,7 @@ pub lend_lends : (d : MarksDevice) (to : ℕ) (t : Told) → Lent d to (T.hold t
 lend_lends d to t =
     let b = at (stays_still (lend_based d to)) t in
     let e = over_ids (tracks_of (event_begun d).store) (event_begun d).store in
-    record { number = b.0 ∙ ap (λ (x : ℕ × ℕ). x.0) e; cylinders = b.1 ∙ ap (λ (x : ℕ × ℕ). x.1) e; lent = b.2 }
+    record { number = b.0 ∙ ap (λ (x : ℕ × ℕ × Counts). x.0) e; cylinders = b.1 ∙ ap (λ (x : ℕ × ℕ × Counts). x.1) e; lent = b.2 }
+
+pub lent_counts : (d : MarksDevice) (to : ℕ) → (lent_store d to).counts ≡ d.store.counts
+lent_counts d to = ap (λ (x : ℕ × ℕ × Counts). x.2) (over_ids (tracks_of (event_begun d).store) (event_begun d).store)

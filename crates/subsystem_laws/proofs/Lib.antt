@@ -13,6 +13,7 @@ pub mod StancePlaces
 pub mod ChainPlaces
 pub mod ChainRuns
 pub mod GoodMarks
+pub mod TracksKept
 pub mod WholeSlots
 pub mod WholeFinding
 pub mod WholeTalks

@@ -1,9 +1,10 @@
 -- What causes a check of the run of a deck.
 use Rattle.std.specs.Prelude.{◌≡◌, false, All, count_by}
 use Rattle.device_defs.specs.Contents.{by_plain}
+use Rattle.device_defs.specs.Excused.{count_lost}
 use Rattle.device_defs.specs.Marks.{MarksDevice}
 use Rattle.device_defs.specs.Pledge.{ends_with_data_check, was_lent}
-use Rattle.device_laws.specs.Unharmed.{MarksAreGood}
+use Rattle.device_laws.specs.Unharmed.{MarksAreGood, NothingLost}
 use Rattle.subsystem_defs.specs.Lines.{Logged}
 use Rattle.subsystem_defs.specs.Subsystem.{devices_of}
 
@@ -20,3 +21,10 @@ HasGoodMarks d = was_lent d ≡ false → MarksAreGood by_plain d.store
 
 abbrev pub HaveGoodMarks : Logged → Type 0
 HaveGoodMarks x = All HasGoodMarks (devices_of x.happened.behind)
+
+-- none of its tracks is lost, unless it was lent, or one of its sides or the store was lost or a call failed
+abbrev pub KeepsTracks : MarksDevice → Type 0
+KeepsTracks d = was_lent d ≡ false → NothingLost d.store → count_lost d.store.lost ≡ 0
+
+abbrev pub KeepTracks : Logged → Type 0
+KeepTracks x = All KeepsTracks (devices_of x.happened.behind)

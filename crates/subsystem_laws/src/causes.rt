@@ -3,7 +3,7 @@
 ghost use Rattle.std.specs.Prelude.{All};
 ghost use Rattle.deck_text.specs.DeckLines.{DeckLines};
 ghost use Rattle.subsystem_defs.specs.Decks.{run_of};
-ghost use Rattle.subsystem_laws.specs.Causes.{HaveGoodMarks, HaveNoDataCheck};
+ghost use Rattle.subsystem_laws.specs.Causes.{HaveGoodMarks, HaveNoDataCheck, KeepTracks};
 ghost use Rattle.subsystem_laws.specs.Served.{IsServedDeck};
 
 /// No command ends with data check, whatever calls fail and whatever is lost.
@@ -14,4 +14,10 @@ pub fn run_has_no_data_check()
 /// Behind every event each device that was never lent has good marks, whatever calls fail and whatever is lost.
 pub fn run_has_good_marks()
     ensures { (deck : DeckLines) → IsServedDeck deck → All HaveGoodMarks (run_of deck).events }
+{}
+
+/// Behind every event no track is lost of a device that was never lent, while none of its sides and not the store was lost and no call
+/// failed.
+pub fn run_loses_no_track()
+    ensures { (deck : DeckLines) → IsServedDeck deck → All KeepTracks (run_of deck).events }
 {}
