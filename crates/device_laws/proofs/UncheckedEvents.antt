@@ -68,7 +68,7 @@ act_same : (h : History) (act : Act) (r : Option OpenEntry) → equipment_checks
 act_same h act (Some o) = refl
 act_same h act None = count_more ends_with_equipment_check h.items (items.Act act ∷ []) (refl, tt)
 
-acts_same : (h : History) (acts : List Act) → equipment_checks (all_acted h acts) ≡ equipment_checks h
+pub acts_same : (h : History) (acts : List Act) → equipment_checks (all_acted h acts) ≡ equipment_checks h
 acts_same h [] = refl
 acts_same h (act ∷ acts) = acts_same (acted h act) acts ∙ act_same h act h.running
 
@@ -97,7 +97,7 @@ module _ {F P H : Type 0} (n : ℕ) where
   over_has d k chain true e = e
   over_has d k chain false e = e
 
-  turned_has : (d : Device F P H) (path : ℕ) (chain : ChainState) (came : Came) → NoCheck came → Has d → Has (turned_by d path chain came)
+  pub turned_has : (d : Device F P H) (path : ℕ) (chain : ChainState) (came : Came) → NoCheck came → Has d → Has (turned_by d path chain came)
   turned_has d path chain (Ends e) none f =
       over_has (sense_kept d path e) (ended d.history e) chain e.over (ended_same d.history e d.history.running ∙ f)
   turned_has d path chain (Checks e) none f = checked_same d.history e d.history.running none ∙ f

@@ -14,6 +14,8 @@ pub mod ChainPlaces
 pub mod ChainRuns
 pub mod GoodMarks
 pub mod TracksKept
+pub mod SecondChecks
+pub mod NothingChecked
 pub mod WholeSlots
 pub mod WholeFinding
 pub mod WholeTalks

@@ -1,7 +1,8 @@
 -- In a run no track is lost of a device that was never lent, while none of its sides and not the store was lost and no call failed.
-use Rattle.std.proofs.Common.{◌≡◌, ◌<◌, ◌≤◌, ◌+◌, ℕ, Bool, true, false, List, [], ◌∷◌, map, Option, None, is_some, min, refl, sym, ap, subst, ◌∙◌, arith, inr}
+use Rattle.std.proofs.Common.{◌≡◌, ◌<◌, ◌≤◌, ◌+◌, ℕ, Bool, true, false, List, [], ◌∷◌, map, Option, None, is_some, min, refl, sym, ap, subst, ◌∙◌, arith, inr, Some}
 use Rattle.std.proofs.lemmas.List.Elements.{All-head, All-tail}
 use Rattle.std.specs.Prelude.{All, not, ◌||◌, ◌==◌, ◌*◌}
+use Rattle.ckd_types.specs.declared.geometry.Geometry.{Geometry}
 use Rattle.ckd_types.specs.declared.paths.Side.{Side}
 use Rattle.ckd_types.specs.declared.paths.Side.TheVariants as sides
 use Rattle.deck_text.specs.declared.line.DeviceLine.{DeviceLine}
@@ -22,7 +23,8 @@ use Rattle.device_defs.specs.Command.{command}
 use Rattle.device_defs.specs.Contents.{by_plain}
 use Rattle.device_defs.specs.Cutting.{reset, power}
 use Rattle.device_defs.specs.Events.{second, lose, background}
-use Rattle.device_defs.specs.Marks.{MarksDevice}
+use Rattle.device_defs.specs.Marks.{MarksDevice, new_device}
+use Rattle.plain_defs.specs.Journal.{Plans}
 use Rattle.device_defs.specs.Orders.{replace, lend}
 use Rattle.device_defs.specs.Pledge.{is_fresh, fresh_count, was_lent}
 use Rattle.device_defs.specs.Start as S
@@ -87,10 +89,10 @@ stays_most x le = record { holds = most_behind x le }
 
 -- Events
 
-none_less : (n m : ℕ) → n ≤ m → m ≡ 0 → n ≡ 0
+pub none_less : (n m : ℕ) → n ≤ m → m ≡ 0 → n ≡ 0
 none_less n m le is = omega (arith, le, is)
 
-below_top : (n : ℕ) → n ≡ 0 → n < top
+pub below_top : (n : ℕ) → n ≡ 0 → n < top
 below_top n is = omega (arith, is)
 
 module _ (d : MarksDevice) (f : Fair d) where
@@ -243,7 +245,12 @@ module _ (d : MarksDevice) (f : Fair d) where
         un = λ home. replaced_unharmed d (f.un (sym same.1 ∙ home)) side facts.0;
       }
 
-fair_kept : IsKept Fair
+pub lent_was : (y : MarksDevice) (to : ℕ) → y.store.lent ≡ Some to → was_lent y ≡ false → ⊥
+lent_was y to lent home =
+    let gone : was_lent y ≡ true = ap (λ (x : Option ℕ). is_some x || not (fresh_count y.history.items == 0)) lent in
+    let both : true ≡ false = sym gone ∙ home in cc
+
+pub fair_kept : IsKept Fair
 fair_kept = record {
   started = λ d path fault f. start_fair d f path (good_kept.started d path fault f.good);
   commanded = λ d o running whole f. command_fair d f (good_kept.commanded d o running whole f.good) whole;
@@ -267,18 +274,17 @@ fair_kept = record {
   };
 }
 
+pub new_fair : (number : ℕ) (on : Geometry) (n : ℕ) (plans : Plans) → 1 ≤ n → Fair (new_device number on n plans)
+new_fair number on n plans some = record {
+  good = new_good number on n plans some;
+  most = omega arith;
+  un = λ home none. record { up = refl; level = λ t. empty_places (n * 15) t false; kept = λ t. empty_places (n * 15) t false };
+}
+
 opened_fair : (deck : DeckLines) (ds : List DeviceLine) → All (λ (d : DeviceLine). 1 ≤ d.cylinders) ds → AreSo Fair (map (opened_device deck) ds)
 opened_fair deck [] h = tt
 opened_fair deck (d ∷ ds) h = (
-  record {
-    good = new_good d.number d.geometry d.cylinders _ (All-head (λ (d : DeviceLine). 1 ≤ d.cylinders) d ds h);
-    most = omega arith;
-    un = λ home none. record {
-      up = refl;
-      level = λ t. empty_places (d.cylinders * 15) t false;
-      kept = λ t. empty_places (d.cylinders * 15) t false;
-    };
-  },
+  new_fair d.number d.geometry d.cylinders _ (All-head (λ (d : DeviceLine). 1 ≤ d.cylinders) d ds h),
   opened_fair deck ds (All-tail (λ (d : DeviceLine). 1 ≤ d.cylinders) d ds h),
 )
 

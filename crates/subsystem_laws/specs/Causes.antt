@@ -4,7 +4,7 @@ use Rattle.device_defs.specs.Contents.{by_plain}
 use Rattle.device_defs.specs.Excused.{count_lost}
 use Rattle.device_defs.specs.Marks.{MarksDevice}
 use Rattle.device_defs.specs.Pledge.{ends_with_data_check, was_lent}
-use Rattle.device_laws.specs.Unharmed.{MarksAreGood, NothingLost}
+use Rattle.device_laws.specs.Unharmed.{MarksAreGood, NothingLost, ends_with_equipment_check}
 use Rattle.subsystem_defs.specs.Lines.{Logged}
 use Rattle.subsystem_defs.specs.Subsystem.{devices_of}
 
@@ -28,3 +28,11 @@ KeepsTracks d = was_lent d ≡ false → NothingLost d.store → count_lost d.st
 
 abbrev pub KeepTracks : Logged → Type 0
 KeepTracks x = All KeepsTracks (devices_of x.happened.behind)
+
+-- none of its programs ended with equipment check, unless it was lent, or something of it was lost or a call failed
+abbrev pub ChecksNothing : MarksDevice → Type 0
+ChecksNothing d =
+    was_lent d ≡ false → NothingLost d.store → d.store.counts.losses.cache ≡ 0 → count_by ends_with_equipment_check d.history.items ≡ 0
+
+abbrev pub CheckNothing : Logged → Type 0
+CheckNothing x = All ChecksNothing (devices_of x.happened.behind)

@@ -1,9 +1,10 @@
 //! Laws of the run of a deck: what causes the checks of its commands.
 
-ghost use Rattle.std.specs.Prelude.{All};
+ghost use Rattle.std.specs.Prelude.{◌≡◌, ℕ, List, Ok, All};
 ghost use Rattle.deck_text.specs.DeckLines.{DeckLines};
+ghost use Rattle.deck_text.specs.Parse.{parsed};
 ghost use Rattle.subsystem_defs.specs.Decks.{run_of};
-ghost use Rattle.subsystem_laws.specs.Causes.{HaveGoodMarks, HaveNoDataCheck, KeepTracks};
+ghost use Rattle.subsystem_laws.specs.Causes.{CheckNothing, HaveGoodMarks, HaveNoDataCheck, KeepTracks};
 ghost use Rattle.subsystem_laws.specs.Served.{IsServedDeck};
 
 /// No command ends with data check, whatever calls fail and whatever is lost.
@@ -20,4 +21,17 @@ pub fn run_has_good_marks()
 /// failed.
 pub fn run_loses_no_track()
     ensures { (deck : DeckLines) → IsServedDeck deck → All KeepTracks (run_of deck).events }
+{}
+
+/// No command ends with equipment check on a device that was never lent, while nothing of it was lost, cache and power among it, and no
+/// call failed.
+pub fn run_checks_nothing()
+    ensures { (deck : DeckLines) → IsServedDeck deck → All CheckNothing (run_of deck).events }
+{}
+
+/// So it is in the run of every deck that was read.
+pub fn read_run_checks_nothing()
+    ensures marks { (text : List ℕ) (deck : DeckLines) → parsed text ≡ Ok deck → All HaveGoodMarks (run_of deck).events }
+    ensures tracks { (text : List ℕ) (deck : DeckLines) → parsed text ≡ Ok deck → All KeepTracks (run_of deck).events }
+    ensures checks { (text : List ℕ) (deck : DeckLines) → parsed text ≡ Ok deck → All CheckNothing (run_of deck).events }
 {}

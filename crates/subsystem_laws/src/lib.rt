@@ -6,7 +6,10 @@ mod plain;
 mod runs;
 mod whole;
 
-pub use causes::{run_has_good_marks, run_has_no_data_check, run_loses_no_track};
+pub use causes::{
+    read_run_checks_nothing, run_checks_nothing, run_has_good_marks, run_has_no_data_check,
+    run_loses_no_track,
+};
 pub use plain::{read_run_is_plain, run_is_plain};
 pub use runs::{
     event_is_what_happens, events_are_what_happens, new_device_is_mounted, replaced_is_what_happens,
