@@ -11,7 +11,7 @@ use Rattle.device_outside.specs.Interaction.{Interaction}
 use Rattle.device_defs.specs.Image.{Imaged, Has, NoBytes, BadTrack, Got, got}
 use Rattle.device_defs.specs.declared.answers.Took.TheVariants.{Whole, Unwritten}
 use Rattle.device_defs.specs.Marks.{no_counts}
-use Rattle.device_defs.specs.Store.{Store, new_side, no_side}
+use Rattle.device_defs.specs.Store.{Store, new_side, no_side, no_debt}
 use Rattle.ckd_types.specs.declared.geometry.Geometry.{Geometry}
 use Rattle.device_defs.specs.Writing.{Wrote, wrote}
 use Rattle.device_store.specs.declared.image.Given.{Given}
@@ -23,7 +23,7 @@ use Rattle.device_store.specs.declared.store.Peeked as answers
 use Rattle.device_store.specs.declared.store.Peeked.TheVariants as peeks
 use Rattle.device_defs.specs.Peek.{Peeked, Track, Lost, Fault, BadBytes}
 
--- no track has a place for a frame or a patch, and there is no side B
+-- there is no side B
 abbrev pub state_of : {V : Type 0} {G : Ghosts V} → DeviceStore V G → Store Frame Stored Image
 state_of s = record {
   device = s.number;
@@ -35,16 +35,16 @@ state_of s = record {
   held = false;
   a = record { up = s.up; stale = s.stale.items };
   b = no_side (s.cylinders * 15);
-  frames = [];
-  patches = [];
+  frames = s.frames;
+  patches = s.patches;
   lost = s.lost;
-  loose = [];
+  loose = s.loose;
   queue = s.queue;
   half = None;
   plain = [];
   firm = [];
-  acts = [];
-  owed = [];
+  acts = s.acts.items;
+  owed = s.owed.items;
   counts = s.counts;
 }
 
@@ -63,16 +63,16 @@ opened_store d g cylinders = record {
   held = false;
   a = new_side (cylinders * 15) false;
   b = no_side (cylinders * 15);
-  frames = [];
-  patches = [];
+  frames = replicate (cylinders * 15) None;
+  patches = replicate (cylinders * 15) None;
   lost = replicate (cylinders * 15) false;
-  loose = [];
+  loose = replicate (cylinders * 15) false;
   queue = [];
   half = None;
   plain = [];
   firm = [];
   acts = [];
-  owed = [];
+  owed = replicate (cylinders * 15) no_debt;
   counts = no_counts;
 }
 

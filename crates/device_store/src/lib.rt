@@ -1,8 +1,9 @@
-//! The tracks of a device: its volume, and what is kept of each track. No track has a place for a frame or a patch yet.
+//! The tracks of a device: its volume, and what is kept of each track.
 #![tactic(auto)]
 
 mod background;
 mod image;
+mod loose;
 mod losses;
 mod marks;
 mod notes;
@@ -14,4 +15,5 @@ mod store;
 mod tests;
 mod write;
 
+pub use loose::LooseTracks;
 pub use store::{DeviceStore, Looked, Peeked};

@@ -1,16 +1,22 @@
 ghost use Rattle.std.specs.Prelude.{◌≡◌, ◌≤◌, ◌*◌, length, true, vec_len};
 ghost use Rattle.device_store.specs.Queued.{are_below};
 
+use crate::loose::LooseTracks;
 use ckd_types::{DeviceNo, Geometry, Side};
-use device_defs::Counts;
+use device_defs::{Counts, Owed};
 use device_outside::{TrackBuffer, Volume};
 use loss_model::LostList;
+use nv_store::{EditRoom, Patches};
+use plain_defs::Act;
 use stager::Queue;
 use std::alloc::Global;
-use track_image::TrackImage;
+use track_cache::Frames;
+use track_image::{RecordRoom, TrackImage};
 
-/// The tracks of a device, over one volume. `data_number` is the number of its cache fast write data; `up` says that the volume
-/// wasn't lost, `stale` of each track that the volume's bytes of it don't count.
+/// The tracks of a device, over one volume, with a place of each for a frame and a patch. `data_number` is the number of its cache
+/// fast write data; `up` says that the volume wasn't lost, `stale` of each track that the volume's bytes of it don't count; `acts` are
+/// those of the event that goes on, or of the last one, and `owed` of each track what the outside is still to be told. Room for an
+/// edit is made in `records` and `edits` before the first effect of a write.
 #[derive(Drop)]
 pub struct DeviceStore<V: Volume> {
     pub alloc: Global,
@@ -21,14 +27,25 @@ pub struct DeviceStore<V: Volume> {
     pub volume: V,
     pub up: bool,
     pub stale: Vec<bool>,
+    pub frames: Frames,
+    pub patches: Patches,
     pub lost: LostList,
+    pub loose: LooseTracks,
     pub queue: Queue,
+    pub acts: Vec<Act>,
+    pub owed: Vec<Owed>,
     pub counts: Counts,
     pub buffer: TrackBuffer,
+    pub records: RecordRoom,
+    pub edits: EditRoom,
     pub ghost some: { 1 ≤ cylinders },
     pub ghost most: { cylinders ≤ 64 },
     pub ghost stale_of_each: { vec_len stale ≡ cylinders * 15 },
+    pub ghost frame_of_each: { length frames ≡ cylinders * 15 },
+    pub ghost patch_of_each: { length patches ≡ cylinders * 15 },
     pub ghost lost_of_each: { length lost ≡ cylinders * 15 },
+    pub ghost loose_of_each: { length loose ≡ cylinders * 15 },
+    pub ghost owed_of_each: { vec_len owed ≡ cylinders * 15 },
     pub ghost volume_of_each: { (V.view volume).tracks ≡ cylinders * 15 },
     pub ghost queue_of_device: { are_below (cylinders * 15) queue ≡ true },
 }
