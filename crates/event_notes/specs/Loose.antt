@@ -1,5 +1,5 @@
 -- The loose tracks of a device, and the acts of the event at hand.
-use Rattle.std.specs.Prelude.{ℕ, Bool, List, length, slice_index_or}
+use Rattle.std.specs.Prelude.{ℕ, ◌+◌, Bool, false, List, length, slice_index_or}
 use Rattle.track_table.specs.Tracks.{count_below}
 use Rattle.plain_defs.specs.declared.journal.Act.{Act}
 

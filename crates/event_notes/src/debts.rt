@@ -1,12 +1,15 @@
-ghost use Rattle.std.specs.Prelude.{◌≡◌, ℕ, IfOk, replicate, slice_index_or, slice_set, true};
+ghost use Rattle.std.specs.Prelude.{◌≡◌, ℕ, IfOk, false, replicate, slice_set, true};
+ghost use Rattle.std.specs.List.{list_all};
 ghost use Rattle.device_defs.specs.Store.{no_debt};
+ghost use Rattle.event_notes.specs.Debts.{is_paid, owed_in};
 
 use ckd_types::{NoMemory, TrackNo};
 use device_defs::Owed;
 use std::alloc::Global;
 use std::marker::Model;
 
-/// What of each track of a device the outside wasn't told yet. Contracts see a place for each track.
+/// What of each track of a device the port wasn't told yet. Contracts see a place for each track. That a track became firm is told
+/// at once, and so is never owed.
 #[derive(Debug, Drop)]
 pub struct Debts {
     owed: Vec<Owed>,
@@ -15,15 +18,16 @@ pub struct Debts {
 }
 
 impl Model for Debts {
-    ghost use Rattle.std.specs.Prelude.{◌≡◌, ℕ, List, false, slice_index_or};
+    ghost use Rattle.std.specs.Prelude.{◌≡◌, ℕ, List, false};
     ghost use Rattle.device_defs.specs.declared.owed.Owed.{Owed};
     ghost use Rattle.device_defs.specs.Store.{no_debt};
+    ghost use Rattle.event_notes.specs.Debts.{owed_in};
 
     ghost Value = { List Owed };
 
     ghost view = { λ d. d.owed.items };
 
-    ghost invariant = { λ d. d.some ≡ false → (t : ℕ) → slice_index_or d.owed.items t no_debt ≡ no_debt };
+    ghost invariant = { λ d. (d.some ≡ false → (t : ℕ) → owed_in d.owed.items t ≡ no_debt) × ((t : ℕ) → (owed_in d.owed.items t).firm ≡ false) };
 }
 
 fn no_debt() -> Owed
@@ -35,6 +39,18 @@ fn no_debt() -> Owed
         freed: None,
         firm: false,
     }
+}
+
+fn is_paid(owed: &Owed) -> bool
+    ensures { result ≡ is_paid owed.now }
+{
+    !(owed.modified || owed.dropped || owed.freed.is_some() || owed.firm)
+}
+
+fn are_paid(owed: &[Owed]) -> bool
+    ensures { result ≡ list_all is_paid owed.now }
+{
+    owed.iter().all(|o| is_paid(o))
 }
 
 impl Debts {
@@ -50,7 +66,8 @@ impl Debts {
 
     /// What is owed of a track.
     pub fn at(&self, t: TrackNo) -> Owed
-        ensures { result ≡ slice_index_or self.now t no_debt }
+        ensures value { result ≡ owed_in self.now t }
+        ensures firm { result.firm ≡ false }
     {
         let t = usize::from(t.get());
         if t < self.owed.len() {
@@ -62,44 +79,34 @@ impl Debts {
 
     /// Something else is owed of a track.
     pub fn set(&mut self, t: TrackNo, owed: Owed)
+        requires { owed.firm ≡ false }
         ensures { self.new ≡ slice_set self.old t owed }
     {
         let t = usize::from(t.get());
-        self.some = true;
         if t < self.owed.len() {
+            self.some = true;
             self.owed[t] = owed;
         }
     }
 
+    /// No track became firm that the keeper wasn't told.
+    pub fn no_firm(&self)
+        ensures { (t : ℕ) → (owed_in self.now t).firm ≡ false }
+    {
+        let _ = &self.some;
+    }
+
     /// Whether it is known that nothing is owed of any track.
     pub fn are_paid(&self) -> bool
-        ensures { result ≡ true → (t : ℕ) → slice_index_or self.now t no_debt ≡ no_debt }
+        ensures { result ≡ true → (t : ℕ) → owed_in self.now t ≡ no_debt }
     {
         !self.some
     }
 
-    /// Nothing was owed of any track from here on, where that is so.
+    /// Sees whether anything is still owed.
     pub fn look_over(&mut self)
         ensures { self.new ≡ self.old }
     {
-        self.some = !all_paid(&self.owed);
+        self.some = !are_paid(&self.owed);
     }
-}
-
-fn is_paid(owed: Owed) -> bool
-    ensures { result ≡ true → owed ≡ no_debt }
-{
-    !owed.modified && !owed.dropped && owed.freed.is_none() && !owed.firm
-}
-
-/// Whether nothing is owed of any track.
-fn all_paid(owed: &[Owed]) -> bool
-    ensures { result ≡ true → (t : ℕ) → slice_index_or owed.now t no_debt ≡ no_debt }
-{
-    for o in owed {
-        if !is_paid(*o) {
-            return false;
-        }
-    }
-    true
 }
