@@ -38,13 +38,13 @@ state_of s = record {
   frames = s.frames;
   patches = s.patches;
   lost = s.lost;
-  loose = s.loose;
+  loose = s.loose.loose;
   queue = s.queue;
   half = None;
   plain = [];
   firm = [];
-  acts = s.acts.items;
-  owed = s.owed.items;
+  acts = s.loose.acts;
+  owed = s.owed;
   counts = s.counts;
 }
 

@@ -2,18 +2,22 @@
 #![tactic(auto)]
 
 mod background;
+mod destage;
 mod image;
-mod loose;
 mod losses;
 mod marks;
 mod notes;
 mod open;
+mod owed;
 mod peek;
+mod recover;
+mod settle;
 mod sides;
 mod store;
 #[cfg(test)]
 mod tests;
+mod choice;
 mod write;
+mod through;
 
-pub use loose::LooseTracks;
 pub use store::{DeviceStore, Looked, Peeked};
