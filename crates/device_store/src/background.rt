@@ -12,7 +12,7 @@ use device_outside::{Grant, Keep, Port, Volume};
 use track_image::TrackImage;
 
 /// Work in which a call failed is a fault.
-fn did(fault: Option<Side>, work: Did) -> Did
+pub(crate) fn did(fault: Option<Side>, work: Did) -> Did
     ensures { result ≡ did fault work }
 {
     match fault {
@@ -22,66 +22,6 @@ fn did(fault: Option<Side>, work: Did) -> Did
 }
 
 impl<V: Volume> DeviceStore<V> {
-    /// The bytes of a track to stage are in the buffer. A frame that isn't filled is given back; one that is has no place here.
-    fn stage_bytes<P: Port, K: Keep<TrackImage>>(
-        &self,
-        t: TrackNo,
-        given: Given,
-        port: &mut P,
-    ) -> Result<Did, NoMemory>
-        ensures run { (k : K) → Ran (where_ok result) K.hears (staged_bytes contents t (state_of self.now) (got_by self.now.buffer given) (Some self.now.buffer)) (outside (P.view port.old) self.now k) (state_of self.now) (had (λ did. did) result) (outside (P.view port.new) self.now k) }
-    {
-        match self.image_of(t) {
-            Err(NoMemory) => {
-                port.drop_frame(self.number, t);
-                Err(NoMemory)
-            }
-            Ok(None) => {
-                port.drop_frame(self.number, t);
-                Ok(did(given.fault, Did::BadBytes(given.side)))
-            }
-            Ok(Some(_)) => Ok(did(given.fault, Did::Staged(t))),
-        }
-    }
-
-    /// A track to stage got a frame, and is read.
-    fn stage_granted<P: Port, K: Keep<TrackImage>>(
-        &mut self,
-        t: TrackNo,
-        port: &mut P,
-    ) -> Result<Did, NoMemory>
-        requires { t < self.old.cylinders * 15 }
-        ensures fixed { (self.new.number ≡ self.old.number) × (self.new.cylinders ≡ self.old.cylinders) }
-        ensures run { (k : K) → Ran (where_ok result) K.hears (granted contents (state_of self.old) t true) (outside (P.view port.old) self.old k) (state_of self.new) (had (λ did. did) result) (outside (P.view port.new) self.new k) }
-    {
-        let got = self.level_bytes::<K>(t);
-        if got.given {
-            return self.stage_bytes::<P, K>(t, got, port);
-        }
-        port.drop_frame(self.number, t);
-        Ok(did(got.fault, Did::Nothing))
-    }
-
-    /// Stages a track, unless it is lost or gets no frame.
-    fn stage<P: Port, K: Keep<TrackImage>>(
-        &mut self,
-        t: TrackNo,
-        port: &mut P,
-    ) -> Result<Did, NoMemory>
-        requires { t < self.old.cylinders * 15 }
-        ensures fixed { (self.new.number ≡ self.old.number) × (self.new.cylinders ≡ self.old.cylinders) }
-        ensures run { (k : K) → Ran (where_ok result) K.hears (stage contents (state_of self.old) t) (outside (P.view port.old) self.old k) (state_of self.new) (had (λ did. did) result) (outside (P.view port.new) self.new k) }
-    {
-        if self.lost.has(t) {
-            return Ok(Did::Skipped(t));
-        }
-        match port.want_frame(self.number, t) {
-            Err(NoMemory) => Err(NoMemory),
-            Ok(Grant::Denied) => Ok(Did::Skipped(t)),
-            Ok(Grant::Given) => self.stage_granted::<P, K>(t, port),
-        }
-    }
-
     /// Takes the oldest queued track.
     fn next_queued(&mut self) -> Option<TrackNo>
         ensures fixed { (self.new.number ≡ self.old.number) × (self.new.cylinders ≡ self.old.cylinders) }

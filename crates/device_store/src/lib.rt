@@ -2,6 +2,7 @@
 #![tactic(auto)]
 
 mod background;
+mod frames;
 mod image;
 mod loose;
 mod losses;
@@ -10,6 +11,7 @@ mod notes;
 mod open;
 mod peek;
 mod sides;
+mod stage;
 mod store;
 #[cfg(test)]
 mod tests;
