@@ -5,3 +5,4 @@ pub mod Queues
 pub mod Counts
 pub mod Losing
 pub mod Staging
+pub mod Looks

@@ -2,8 +2,7 @@ ghost use Rattle.std.specs.Prelude.{◌≡◌, ◌&&◌, not, is_some};
 ghost use Rattle.ckd_types.specs.Parameters.{is_bypass};
 ghost use Rattle.device_defs.specs.Choosing.{choose, choose_firm, choose_loose, fast_by, fast_or_through, may_be_fast, slot_by};
 ghost use Rattle.device_defs.specs.Contents.{contents};
-ghost use Rattle.device_defs.specs.Owed.{is_clean};
-ghost use Rattle.device_defs.specs.Store.{frame_at, patch_at};
+ghost use Rattle.device_defs.specs.Store.{patch_at};
 ghost use Rattle.device_outside.specs.declared.port.SlotGrant.TheVariants as grants;
 ghost use Rattle.device_outside.specs.Interaction.{Ask};
 ghost use Rattle.device_outside.specs.Outside.{Ran};
@@ -110,12 +109,6 @@ impl<V: Volume> DeviceStore<V> {
             return Choice::Provisional;
         }
         Choice::Through
-    }
-
-    pub(crate) fn is_clean(&self, t: TrackNo) -> bool
-        ensures { result ≡ is_clean contents (frame_at (state_of self.now) t) }
-    {
-        self.frames.has(t) && !self.frames.modified(t)
     }
 
     fn choose_firm<P: Port, K: Keep<TrackImage>>(

@@ -2,7 +2,9 @@
 #![tactic(auto)]
 
 mod background;
+mod choice;
 mod destage;
+mod frames;
 mod image;
 mod losses;
 mod marks;
@@ -13,11 +15,11 @@ mod peek;
 mod recover;
 mod settle;
 mod sides;
+mod stage;
 mod store;
 #[cfg(test)]
 mod tests;
-mod choice;
-mod write;
 mod through;
+mod write;
 
 pub use store::{DeviceStore, Looked, Peeked};

@@ -51,18 +51,21 @@ pub struct DeviceStore<V: Volume> {
     pub ghost queue_of_device: { are_below (cylinders * 15) queue ≡ true },
 }
 
-/// The image of a track; or no side gave its bytes, and the first one that failed; or the bytes of this side are no track.
+/// The image of a track is in its frame, or is this one; or no side gave its bytes, and the first one that failed; or the bytes of
+/// this side are no track.
 #[derive(Debug, Drop)]
 pub enum Looked {
+    Frame,
     Has(TrackImage),
     NoBytes(Option<Side>),
     BadTrack(Side),
 }
 
-/// What one track is, past the channel: its image; or it is lost; or this side failed, the first one, and none gave bytes; or the
-/// bytes of this side are no track.
+/// What one track is, past the channel: its image is in its frame, or is this one; or it is lost; or this side failed, the first
+/// one, and none gave bytes; or the bytes of this side are no track.
 #[derive(Debug, Drop)]
 pub enum Peeked {
+    Frame,
     Track(TrackImage),
     Lost,
     Fault(Side),
