@@ -26,7 +26,7 @@ fn no_debt() -> Owed
 }
 
 fn is_owed(owed: &Owed) -> bool
-    ensures { result ≡ is_owed owed.now }
+    ensures { result ≡ is_owed contents owed.now }
 {
     owed.modified || owed.dropped || owed.freed.is_some()
 }
