@@ -6,3 +6,6 @@ pub mod Counts
 pub mod Losing
 pub mod Staging
 pub mod Looks
+pub mod Firmly
+pub mod Telling
+pub mod Writes
