@@ -1,10 +1,10 @@
-ghost use Rattle.std.specs.Prelude.{◌≡◌, ◌<◌, ◌*◌, None, false, is_some, true};
+ghost use Rattle.std.specs.Prelude.{◌≡◌, ◌<◌, ◌*◌, None, false, is_some, option_map, true};
 ghost use Rattle.device_outside.specs.Outside.{Ran};
 ghost use Rattle.device_defs.specs.Contents.{contents};
 ghost use Rattle.device_defs.specs.Image.{filled, framed};
 ghost use Rattle.device_defs.specs.Owed.{is_clean};
 ghost use Rattle.device_defs.specs.Store.{frame_at, with_frame};
-ghost use Rattle.device_store.specs.Looks.{frame_in};
+ghost use Rattle.device_store.specs.Looks.{frame_in, seen, IsSeen};
 ghost use Rattle.device_store.specs.State.{state_of, outside, surely};
 ghost use Rattle.track_cache.specs.Frames.{is_modified};
 
@@ -33,6 +33,17 @@ impl<V: Volume> DeviceStore<V> {
         match self.frames.get(t) {
             Some(image) => image,
             None => unreachable!(),
+        }
+    }
+
+    /// The image of a track that was looked at: one that was read, or else the one in its frame.
+    pub fn seen<'a>(&'a self, t: TrackNo, read: Option<&'a TrackImage>) -> &'a TrackImage
+        requires { IsSeen (state_of self.now) t (option_map (λ i. i.now) read.entry) }
+        ensures { result.now ≡ seen (state_of self.now) t (option_map (λ i. i.now) read.entry) }
+    {
+        match read {
+            Some(image) => image,
+            None => self.frame_image(t),
         }
     }
 

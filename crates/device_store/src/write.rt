@@ -1,4 +1,6 @@
-ghost use Rattle.std.specs.Prelude.{◌≡◌, ◌<◌, ◌*◌, Bool, ℕ, IfOk};
+ghost use Rattle.std.specs.Prelude.{◌≡◌, ◌<◌, ◌*◌, Bool, ℕ, IfOk, is_some, true};
+ghost use Rattle.device_defs.specs.Store.{frame_at};
+ghost use Rattle.device_store.specs.Looks.{frame_in};
 ghost use Rattle.ckd_rules.specs.Facts.{Suits};
 ghost use Rattle.ckd_types.specs.declared.record.Edit.{Edit};
 ghost use Rattle.ckd_types.specs.Track.{track_bytes};
@@ -139,5 +141,27 @@ impl<V: Volume> DeviceStore<V> {
             Err(NoMemory) => Err(NoMemory),
             Ok(image) => self.write_made(t, old, &image, keep),
         }
+    }
+
+    /// The same of a track whose image is in its frame.
+    pub fn write_framed<P: Port, K: Keep<TrackImage>>(
+        &mut self,
+        usage: &Usage,
+        first: TrackNo,
+        t: TrackNo,
+        edit: Edit,
+        port: &mut P,
+        keep: &mut K,
+    ) -> Result<Took, NoMemory>
+        requires track { t < self.old.cylinders * 15 }
+        requires there { is_some (frame_at (state_of self.old) t) ≡ true }
+        requires suits { Suits (frame_in (state_of self.old) t).geometry (frame_in (state_of self.old) t).track.records edit }
+        requires takes { Takes K.takes keep.old self.old.number (self.old.cylinders * 15) }
+        ensures fixed { (self.new.number ≡ self.old.number) × (self.new.cylinders ≡ self.old.cylinders) }
+        ensures takes { Takes K.takes keep.new self.new.number (self.new.cylinders * 15) }
+        ensures run { Ran (where_ok result) K.hears (write contents (state_of self.old) usage.now first t (frame_in (state_of self.old) t) edit) (outside (P.view port.old) self.old keep.old) (state_of self.new) (had (λ took. took) result) (outside (P.view port.new) self.new keep.new) }
+    {
+        let old = self.frame_image(t).copy(self.alloc)?;
+        self.write(usage, first, t, &old, edit, port, keep)
     }
 }
