@@ -84,8 +84,8 @@ fn write_seen<V: Volume, P: Port, K: Keep<TrackImage>>(
     keep: &mut K,
 ) -> Result<Took, NoMemory>
     requires track { t < store.old.cylinders * 15 }
-    requires there { IsSeen (state_of store.old) t (option_map (λ i. i.now) read.entry) }
-    requires suits { Suits (seen (state_of store.old) t (option_map (λ i. i.now) read.entry)).geometry (seen (state_of store.old) t (option_map (λ i. i.now) read.entry)).track.records edit }
+    requires there { IsSeen (state_of store.old) t (option_map (λ i. i.now) read) }
+    requires suits { Suits (seen (state_of store.old) t (option_map (λ i. i.now) read)).geometry (seen (state_of store.old) t (option_map (λ i. i.now) read)).track.records edit }
     requires takes { Takes K.takes keep.old store.old.number (store.old.cylinders * 15) }
     ensures fixed { (store.new.number ≡ store.old.number) × (store.new.cylinders ≡ store.old.cylinders) }
     ensures takes { Takes K.takes keep.new store.new.number (store.new.cylinders * 15) }
@@ -110,8 +110,8 @@ fn write_edit<V: Volume, P: Port, K: Keep<TrackImage>>(
     keep: &mut K,
 ) -> Result<Step, NoMemory>
     requires track { t < store.old.cylinders * 15 }
-    requires there { IsSeen (state_of store.old) t (option_map (λ i. i.now) read.entry) }
-    requires suits { Suits (seen (state_of store.old) t (option_map (λ i. i.now) read.entry)).geometry (seen (state_of store.old) t (option_map (λ i. i.now) read.entry)).track.records edit }
+    requires there { IsSeen (state_of store.old) t (option_map (λ i. i.now) read) }
+    requires suits { Suits (seen (state_of store.old) t (option_map (λ i. i.now) read)).geometry (seen (state_of store.old) t (option_map (λ i. i.now) read)).track.records edit }
     requires takes { Takes K.takes keep.old store.old.number (store.old.cylinders * 15) }
     requires at { IsAt store.old.cylinders chain.old }
     requires written { MayBeWritten chain.old.stage }
@@ -140,7 +140,7 @@ fn on_image<V: Volume, P: Port, K: Keep<TrackImage>>(
 ) -> Result<Step, NoMemory>
     requires track { t < store.old.cylinders * 15 }
     requires takes { Takes K.takes keep.old store.old.number (store.old.cylinders * 15) }
-    requires there { IsSeen (state_of store.old) t (option_map (λ i. i.now) read.entry) }
+    requires there { IsSeen (state_of store.old) t (option_map (λ i. i.now) read) }
     requires at { IsAt store.old.cylinders chain.old }
     requires usage { usage.now ≡ usage_of chain.old }
     ensures fixed { (store.new.number ≡ store.old.number) × (store.new.cylinders ≡ store.old.cylinders) }

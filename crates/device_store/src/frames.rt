@@ -38,7 +38,7 @@ impl<V: Volume> DeviceStore<V> {
 
     /// The image of a track that was looked at: one that was read, or else the one in its frame.
     pub fn seen<'a>(&'a self, t: TrackNo, read: Option<&'a TrackImage>) -> &'a TrackImage
-        requires { IsSeen (state_of self.now) t (option_map (λ i. i.now) read.entry) }
+        requires { IsSeen (state_of self.now) t (option_map (λ i. i.now) read) }
         ensures { result.now ≡ seen (state_of self.now) t (option_map (λ i. i.now) read.entry) }
     {
         match read {
