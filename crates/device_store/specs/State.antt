@@ -15,7 +15,7 @@ use Rattle.device_defs.specs.Store.{Store, new_side, no_side, no_debt}
 use Rattle.ckd_types.specs.declared.geometry.Geometry.{Geometry}
 use Rattle.device_defs.specs.Writing.{Wrote, wrote}
 use Rattle.device_store.specs.declared.image.Given.{Given}
-use Rattle.device_store.specs.declared.write.Written.{Written}
+use Rattle.device_store.specs.declared.through.Written.{Written}
 use Rattle.device_store.specs.declared.store.DeviceStore.{DeviceStore}
 
 -- there is no side B
@@ -33,13 +33,13 @@ state_of s = record {
   frames = s.frames;
   patches = s.patches;
   lost = s.lost;
-  loose = s.loose;
+  loose = s.loose.loose;
   queue = s.queue;
   half = None;
   plain = [];
   firm = [];
-  acts = s.acts.items;
-  owed = s.owed.items;
+  acts = s.loose.acts;
+  owed = s.owed;
   counts = s.counts;
 }
 

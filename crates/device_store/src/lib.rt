@@ -2,20 +2,24 @@
 #![tactic(auto)]
 
 mod background;
+mod choice;
+mod destage;
 mod frames;
 mod image;
-mod loose;
 mod losses;
 mod marks;
 mod notes;
 mod open;
+mod owed;
 mod peek;
+mod recover;
+mod settle;
 mod sides;
 mod stage;
 mod store;
 #[cfg(test)]
 mod tests;
+mod through;
 mod write;
 
-pub use loose::LooseTracks;
 pub use store::{DeviceStore, Looked, Peeked};

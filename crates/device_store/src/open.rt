@@ -4,10 +4,10 @@ ghost use Rattle.device_defs.specs.Store.{no_debt};
 ghost use Rattle.device_store.specs.State.{state_of, opened_store};
 
 use crate::DeviceStore;
-use crate::loose::LooseTracks;
 use ckd_types::{DeviceNo, Geometry, HEADS, NoMemory};
-use device_defs::{Counts, Losses, Owed};
+use device_defs::{Counts, Losses};
 use device_outside::{TrackBuffer, Volume};
+use event_notes::{Debts, LooseTracks};
 use loss_model::LostList;
 use nv_store::{EditRoom, Patches};
 use stager::Queue;
@@ -58,32 +58,13 @@ fn no_patches(alloc: Global, cylinders: u8) -> Result<Patches, NoMemory>
     Ok(patches)
 }
 
-/// Nothing that the outside wasn't told.
-pub(crate) fn no_debt() -> Owed
-    ensures { result ≡ no_debt }
-{
-    Owed {
-        modified: false,
-        dropped: false,
-        freed: None,
-        firm: false,
-    }
-}
-
-/// Nothing is owed of any track.
-fn no_debts(alloc: Global, tracks: usize) -> Result<Vec<Owed>, NoMemory>
-    ensures { IfOk result (λ made. made.items ≡ replicate tracks no_debt) }
-{
-    Ok(vec![in alloc; no_debt(); tracks]?)
-}
-
 /// What takes memory of a new device.
 #[derive(Drop)]
 struct Parts {
     stale: Vec<bool>,
     frames: Frames,
     patches: Patches,
-    owed: Vec<Owed>,
+    owed: Debts,
     buffer: TrackBuffer,
 }
 
@@ -93,14 +74,14 @@ impl Parts {
         ensures stale { IfOk result (λ parts. parts.stale.items ≡ replicate (cylinders * 15) false) }
         ensures frames { IfOk result (λ parts. parts.frames ≡ replicate (cylinders * 15) None) }
         ensures patches { IfOk result (λ parts. parts.patches ≡ replicate (cylinders * 15) None) }
-        ensures owed { IfOk result (λ parts. parts.owed.items ≡ replicate (cylinders * 15) no_debt) }
+        ensures owed { IfOk result (λ parts. parts.owed ≡ replicate (cylinders * 15) no_debt) }
     {
         let tracks = usize::from(cylinders) * usize::from(HEADS);
         Ok(Parts {
             stale: no_marks(alloc, tracks)?,
             frames: no_frames(alloc, cylinders)?,
             patches: no_patches(alloc, cylinders)?,
-            owed: no_debts(alloc, tracks)?,
+            owed: Debts::new(alloc, tracks)?,
             buffer: TrackBuffer::new(alloc)?,
         })
     }
@@ -138,9 +119,8 @@ impl<V: Volume> DeviceStore<V> {
             frames: parts.frames,
             patches: parts.patches,
             lost: LostList::new(cylinders),
-            loose: LooseTracks::new(cylinders),
+            loose: LooseTracks::new(alloc, cylinders),
             queue: Queue::new(),
-            acts: Vec::new(alloc),
             owed: parts.owed,
             counts: no_counts(),
             buffer: parts.buffer,

@@ -1,13 +1,14 @@
-ghost use Rattle.std.specs.Prelude.{◌≡◌, ◌≤◌, ◌*◌, length, true, vec_len};
+ghost use Rattle.std.specs.Prelude.{◌≡◌, ◌≤◌, ◌*◌, ℕ, length, true, vec_len};
+ghost use Rattle.track_cache.specs.Frames.{is_modified};
+ghost use Rattle.event_notes.specs.Loose.{is_loose_in};
 ghost use Rattle.device_store.specs.Queued.{are_below};
 
-use crate::loose::LooseTracks;
 use ckd_types::{DeviceNo, Geometry, Side};
-use device_defs::{Counts, Owed};
+use device_defs::Counts;
 use device_outside::{TrackBuffer, Volume};
+use event_notes::{Debts, LooseTracks};
 use loss_model::LostList;
 use nv_store::{EditRoom, Patches};
-use plain_defs::Act;
 use stager::Queue;
 use std::alloc::Global;
 use track_cache::Frames;
@@ -32,8 +33,7 @@ pub struct DeviceStore<V: Volume> {
     pub lost: LostList,
     pub loose: LooseTracks,
     pub queue: Queue,
-    pub acts: Vec<Act>,
-    pub owed: Vec<Owed>,
+    pub owed: Debts,
     pub counts: Counts,
     pub buffer: TrackBuffer,
     pub records: RecordRoom,
@@ -44,8 +44,9 @@ pub struct DeviceStore<V: Volume> {
     pub ghost frame_of_each: { length frames ≡ cylinders * 15 },
     pub ghost patch_of_each: { length patches ≡ cylinders * 15 },
     pub ghost lost_of_each: { length lost ≡ cylinders * 15 },
-    pub ghost loose_of_each: { length loose ≡ cylinders * 15 },
-    pub ghost owed_of_each: { vec_len owed ≡ cylinders * 15 },
+    pub ghost loose_of_each: { length loose.loose ≡ cylinders * 15 },
+    pub ghost owed_of_each: { length owed ≡ cylinders * 15 },
+    pub ghost loose_modified: { (t : ℕ) → is_loose_in loose.loose t ≡ true → is_modified frames t ≡ true },
     pub ghost volume_of_each: { (V.view volume).tracks ≡ cylinders * 15 },
     pub ghost queue_of_device: { are_below (cylinders * 15) queue ≡ true },
 }
