@@ -6,3 +6,5 @@ pub mod Counts
 pub mod Losing
 pub mod Staging
 pub mod Looks
+pub mod Telling
+pub mod Loosely

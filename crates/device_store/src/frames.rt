@@ -51,6 +51,7 @@ impl<V: Volume> DeviceStore<V> {
     pub(crate) fn forget(&mut self, t: TrackNo)
         requires { is_modified self.old.frames t ≡ false }
         ensures fixed { (self.new.number ≡ self.old.number) × (self.new.cylinders ≡ self.old.cylinders) }
+        ensures loose { self.new.loose ≡ self.old.loose }
         ensures volume { self.new.volume ≡ self.old.volume }
         ensures none { is_modified self.new.frames t ≡ false }
         ensures state { state_of self.new ≡ with_frame (state_of self.old) t None }
@@ -63,6 +64,7 @@ impl<V: Volume> DeviceStore<V> {
         requires track { t < self.old.cylinders * 15 }
         requires clean { is_modified self.old.frames t ≡ false }
         ensures fixed { (self.new.number ≡ self.old.number) × (self.new.cylinders ≡ self.old.cylinders) }
+        ensures loose { self.new.loose ≡ self.old.loose }
         ensures volume { self.new.volume ≡ self.old.volume }
         ensures there { is_some (frame_at (state_of self.new) t) ≡ true }
         ensures image { frame_in (state_of self.new) t ≡ image }
@@ -81,6 +83,7 @@ impl<V: Volume> DeviceStore<V> {
         requires track { t < self.old.cylinders * 15 }
         requires clean { is_modified self.old.frames t ≡ false }
         ensures fixed { (self.new.number ≡ self.old.number) × (self.new.cylinders ≡ self.old.cylinders) }
+        ensures loose { self.new.loose ≡ self.old.loose }
         ensures there { is_some (frame_at (state_of self.new) t) ≡ true }
         ensures image { frame_in (state_of self.new) t ≡ image }
         ensures run { (k : K) → Ran surely K.hears (filled contents (state_of self.old) t image) (outside (P.view port.old) self.old k) (state_of self.new) tt (outside (P.view port.new) self.new k) }

@@ -58,7 +58,7 @@ impl<V: Volume> DeviceStore<V> {
         ensures volume { self.new.volume ≡ self.old.volume }
         ensures weight { weight self.new.loose ≤ weight self.old.loose }
         ensures firm { (t : ℕ) → is_loose (state_of self.new) t ≡ false }
-        ensures state { state_of self.new ≡ loose_gone (state_of self.old) }
+        ensures state { state_of self.new ≡ loose_gone contents (state_of self.old) }
     {
         if self.loose.any() {
             self.loose.clear();
