@@ -1,5 +1,4 @@
-ghost use Rattle.std.specs.Prelude.{◌≡◌, ◌&&◌, not, is_some};
-ghost use Rattle.ckd_types.specs.Parameters.{is_bypass};
+ghost use Rattle.std.specs.Prelude.{◌≡◌, false, is_some};
 ghost use Rattle.device_defs.specs.Choosing.{choose, choose_firm, choose_loose, fast_by, fast_or_through, may_be_fast, slot_by};
 ghost use Rattle.device_defs.specs.Contents.{contents};
 ghost use Rattle.device_defs.specs.Store.{patch_at};
@@ -11,19 +10,11 @@ ghost use Rattle.device_store.specs.State.{state_of, outside, surely};
 ghost use Rattle.device_store.specs.Chosen.{Fits};
 
 use crate::DeviceStore;
-use ckd_types::{Mode, TrackNo};
+use crate::image::is_bypass;
+use ckd_types::TrackNo;
 use device_defs::{Choice, Usage};
 use device_outside::{Keep, Port, SlotGrant, Volume};
 use track_image::TrackImage;
-
-pub(crate) fn is_bypass(mode: Mode) -> bool
-    ensures { result ≡ is_bypass mode }
-{
-    match mode {
-        Mode::Bypass => true,
-        Mode::Normal | Mode::Sequential | Mode::InhibitLoad => false,
-    }
-}
 
 impl<V: Volume> DeviceStore<V> {
     /// The store gave a slot, which goes back where the pool doesn't list the frame any more.
@@ -61,13 +52,13 @@ impl<V: Volume> DeviceStore<V> {
         ensures fits { Fits false (is_some (patch_at (state_of self.now) t)) result }
         ensures run { (k : K) → Ran surely K.hears (fast_by contents (state_of self.now) t (is_some (patch_at (state_of self.now) t))) (outside (P.view port.old) self.now k) (state_of self.now) result (outside (P.view port.new) self.now k) }
     {
-        if !self.patches.has(t) {
-            return self.choose_slot::<P, K>(t, port);
+        if self.patches.has(t) {
+            if port.set_modified(self.number, t) {
+                return Choice::Fast(None);
+            }
+            return Choice::Through;
         }
-        if port.set_modified(self.number, t) {
-            return Choice::Fast(None);
-        }
-        Choice::Through
+        self.choose_slot::<P, K>(t, port)
     }
 
     fn may_be_fast(&self, usage: &Usage, t: TrackNo) -> bool
@@ -102,11 +93,11 @@ impl<V: Volume> DeviceStore<V> {
         ensures fits { Fits usage.now.provisional (is_some (patch_at (state_of self.now) t)) result }
         ensures run { (k : K) → Ran surely K.hears (choose_loose contents (state_of self.now) usage.now t) (outside (P.view port.old) self.now k) (state_of self.now) result (outside (P.view port.new) self.now k) }
     {
-        if !usage.provisional {
+        if usage.provisional {
+            if port.set_modified(self.number, t) {
+                return Choice::Provisional;
+            }
             return Choice::Through;
-        }
-        if port.set_modified(self.number, t) {
-            return Choice::Provisional;
         }
         Choice::Through
     }

@@ -3,11 +3,11 @@ ghost use Rattle.ckd_types.specs.Track.{track_bytes};
 ghost use Rattle.device_defs.specs.Background.{destage_first, did, is_destaged, saved_by, saving, to_destage};
 ghost use Rattle.device_defs.specs.Contents.{contents};
 ghost use Rattle.device_defs.specs.declared.answers.Did.TheVariants as dids;
-ghost use Rattle.device_defs.specs.Losses.{framed_image};
 ghost use Rattle.device_defs.specs.Store.{frame_at, is_loose};
 ghost use Rattle.device_outside.specs.Outside.{Ran, where_ok};
 ghost use Rattle.event_notes.specs.Loose.{weight};
 ghost use Rattle.track_table.specs.Bits.{is_marked};
+ghost use Rattle.device_store.specs.Looks.{frame_in};
 ghost use Rattle.device_store.specs.State.{state_of, outside, surely, Takes, had};
 
 use crate::DeviceStore;
@@ -54,7 +54,7 @@ impl<V: Volume> DeviceStore<V> {
         ensures fixed { (self.new.number ≡ self.old.number) × (self.new.cylinders ≡ self.old.cylinders) }
         ensures weight { weight self.new.loose ≡ weight self.old.loose }
         ensures takes { Takes K.takes keep.new self.new.number (self.new.cylinders * 15) }
-        ensures run { Ran surely K.hears (saving contents (state_of self.old) t (framed_image contents (state_of self.old) t (frame_at (state_of self.old) t)) done None) (outside (P.view port.old) self.old keep.old) (state_of self.new) result (outside (P.view port.new) self.new keep.new) }
+        ensures run { Ran surely K.hears (saving contents (state_of self.old) t (frame_in (state_of self.old) t) done None) (outside (P.view port.old) self.old keep.old) (state_of self.new) result (outside (P.view port.new) self.new keep.new) }
     {
         self.firm_first(t, keep);
         let written = self.write_frame::<K>(t);

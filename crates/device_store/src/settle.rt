@@ -21,6 +21,7 @@ impl<V: Volume> DeviceStore<V> {
         ensures fixed { (self.new.number ≡ self.old.number) × (self.new.cylinders ≡ self.old.cylinders) × (self.new.up ≡ self.old.up) }
         ensures volume { self.new.volume ≡ self.old.volume }
         ensures weight { weight self.new.loose ≡ weight self.old.loose }
+        ensures loose { self.new.loose ≡ self.old.loose }
         ensures state { state_of self.new ≡ owes_modified (state_of self.old) t }
     {
         let mut owed = self.owed.at(t);
@@ -164,10 +165,26 @@ impl<V: Volume> DeviceStore<V> {
         ensures takes { Takes K.takes keep.new self.new.number (self.new.cylinders * 15) }
         ensures run { (p : PortView) → Ran surely K.hears (firm_told contents t (settled contents (state_of self.old) t)) (outside p self.old keep.old) (state_of self.new) tt (outside p self.new keep.new) }
     {
-        if !self.loose.has(t) {
-            self.settle(t);
+        if self.loose.has(t) {
+            self.settle_loose(t, keep);
             return;
         }
+        self.settle(t);
+        self.owed.no_firm();
+    }
+
+    /// The same of a loose track.
+    fn settle_loose<K: Keep<TrackImage>>(&mut self, t: TrackNo, keep: &mut K)
+        requires track { t < self.old.cylinders * 15 }
+        requires loose { is_loose (state_of self.old) t ≡ true }
+        requires takes { Takes K.takes keep.old self.old.number (self.old.cylinders * 15) }
+        ensures fixed { (self.new.number ≡ self.old.number) × (self.new.cylinders ≡ self.old.cylinders) × (self.new.up ≡ self.old.up) }
+        ensures volume { self.new.volume ≡ self.old.volume }
+        ensures weight { weight self.new.loose ≡ weight self.old.loose }
+        ensures takes { Takes K.takes keep.new self.new.number (self.new.cylinders * 15) }
+        ensures run { (p : PortView) → Ran surely K.hears (firm_told contents t (settled contents (state_of self.old) t)) (outside p self.old keep.old) (state_of self.new) tt (outside p self.new keep.new) }
+    {
+        self.owed.no_firm();
         if self.lost.has(t) {
             return;
         }
@@ -188,10 +205,8 @@ impl<V: Volume> DeviceStore<V> {
         ensures takes { Takes K.takes keep.new self.new.number (self.new.cylinders * 15) }
         ensures run { (p : PortView) → Ran surely K.hears (firm_told contents t (by_frame contents (state_of self.old) t (frame_at (state_of self.old) t))) (outside p self.old keep.old) (state_of self.new) tt (outside p self.new keep.new) }
     {
-        match self.frames.get(t) {
-            Some(image) => keep.firm(self.number, t, image),
-            None => unreachable!(),
-        }
+        self.owed.no_firm();
+        keep.firm(self.number, t, self.frame_image(t));
         self.harden(t);
     }
 }

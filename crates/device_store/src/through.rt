@@ -1,14 +1,15 @@
-ghost use Rattle.std.specs.Prelude.{◌≡◌, ◌<◌, ◌*◌, Bool, List, ℕ, false, is_some, not, true};
+ghost use Rattle.std.specs.Prelude.{◌≡◌, ◌<◌, ◌*◌, Bool, List, ℕ, Some, false, is_some, not, true};
 ghost use Rattle.ckd_types.specs.declared.record.Edit.{Edit};
 ghost use Rattle.ckd_types.specs.Track.{track_bytes};
 ghost use Rattle.device_defs.specs.Contents.{contents};
 ghost use Rattle.device_defs.specs.Editing.{through};
-ghost use Rattle.device_defs.specs.Losses.{framed_image};
 ghost use Rattle.device_defs.specs.Store.{frame_at, is_loose};
-ghost use Rattle.device_defs.specs.Writing.{first_a, firm_first, unpatched, write_counted, write_done, write_first};
+ghost use Rattle.device_defs.specs.Writing.{done_by, first_a, firm_first, unpatched, write_counted, write_done, write_first};
 ghost use Rattle.device_outside.specs.Outside.{PortView, Ran};
 ghost use Rattle.device_outside.specs.Volume.{WriteOf, counted, counted_if};
 ghost use Rattle.event_notes.specs.Loose.{weight};
+ghost use Rattle.track_cache.specs.Frames.{has_frame, image_at};
+ghost use Rattle.device_store.specs.Looks.{frame_in};
 ghost use Rattle.device_store.specs.State.{state_of, outside, surely, Takes, wrote_by};
 
 use crate::DeviceStore;
@@ -17,7 +18,7 @@ use ckd_outside::Failed;
 use ckd_types::{Side, TrackNo};
 use device_defs::{Counts, Took};
 use device_outside::{Keep, Port, Volume};
-use track_cache::Frame;
+use track_cache::{Frame, Frames};
 use track_image::TrackImage;
 
 /// Whether a side took a track, and the first side that failed.
@@ -51,6 +52,17 @@ fn write_side<V: Volume>(
     }
 }
 
+/// The image in a track's frame.
+fn image_in(frames: &Frames, t: TrackNo) -> &TrackImage
+    requires { has_frame frames.now t ≡ true }
+    ensures { Some result.now ≡ image_at frames.now t }
+{
+    match frames.get(t) {
+        Some(image) => image,
+        None => unreachable!(),
+    }
+}
+
 impl<V: Volume> DeviceStore<V> {
     /// Before the first write of a loose track it becomes firm, and the volume doesn't hold it.
     pub(crate) fn firm_first<K: Keep<TrackImage>>(&mut self, t: TrackNo, keep: &mut K) -> bool
@@ -63,16 +75,13 @@ impl<V: Volume> DeviceStore<V> {
         ensures firm { is_loose (state_of self.new) t ≡ false }
         ensures run { (p : PortView) → Ran surely K.hears (firm_first contents (state_of self.old) t) (outside p self.old keep.old) (state_of self.new) result (outside p self.new keep.new) }
     {
-        if !self.loose.has(t) {
-            return false;
+        if self.loose.has(t) {
+            keep.firm(self.number, t, self.frame_image(t));
+            self.harden(t);
+            set_mark(&mut self.stale, t, true);
+            return true;
         }
-        match self.frames.get(t) {
-            Some(image) => keep.firm(self.number, t, image),
-            None => unreachable!(),
-        }
-        self.loose.harden(t);
-        set_mark(&mut self.stale, t, true);
-        true
+        false
     }
 
     /// No volume is up.
@@ -129,11 +138,11 @@ impl<V: Volume> DeviceStore<V> {
         ensures loose { self.new.loose ≡ self.old.loose }
         ensures run { (p : PortView) (k : K) → Ran surely K.hears (write_first contents (state_of self.old) t (track_bytes image.now.track)) (outside p self.old k) (state_of self.new) (wrote_by result) (outside p self.new k) }
     {
-        if !self.up {
-            return self.unheld::<K>(t);
+        if self.up {
+            let done = write_side(&mut self.volume, &mut self.counts, t, image);
+            return self.taken::<K>(t, done);
         }
-        let done = write_side(&mut self.volume, &mut self.counts, t, image);
-        self.taken::<K>(t, done)
+        self.unheld::<K>(t)
     }
 
     /// The same of the image in its frame.
@@ -144,16 +153,14 @@ impl<V: Volume> DeviceStore<V> {
         ensures fixed { (self.new.number ≡ self.old.number) × (self.new.cylinders ≡ self.old.cylinders) }
         ensures weight { weight self.new.loose ≡ weight self.old.loose }
         ensures loose { self.new.loose ≡ self.old.loose }
-        ensures run { (p : PortView) (k : K) → Ran surely K.hears (write_first contents (state_of self.old) t (track_bytes (framed_image contents (state_of self.old) t (frame_at (state_of self.old) t)).track)) (outside p self.old k) (state_of self.new) (wrote_by result) (outside p self.new k) }
+        ensures run { (p : PortView) (k : K) → Ran surely K.hears (write_first contents (state_of self.old) t (track_bytes (frame_in (state_of self.old) t).track)) (outside p self.old k) (state_of self.new) (wrote_by result) (outside p self.new k) }
     {
-        if !self.up {
-            return self.unheld::<K>(t);
+        if self.up {
+            let image = image_in(&self.frames, t);
+            let done = write_side(&mut self.volume, &mut self.counts, t, image);
+            return self.taken::<K>(t, done);
         }
-        let done = match self.frames.get(t) {
-            Some(image) => write_side(&mut self.volume, &mut self.counts, t, image),
-            None => unreachable!(),
-        };
-        self.taken::<K>(t, done)
+        self.unheld::<K>(t)
     }
 
     /// The patch goes with its slot.
@@ -172,6 +179,32 @@ impl<V: Volume> DeviceStore<V> {
         }
     }
 
+    /// The same of a track that has a frame.
+    fn framed_done<P: Port, K: Keep<TrackImage>>(
+        &mut self,
+        t: TrackNo,
+        image: TrackImage,
+        bypass: bool,
+        port: &mut P,
+    )
+        requires firm { is_loose (state_of self.old) t ≡ false }
+        ensures fixed { (self.new.number ≡ self.old.number) × (self.new.cylinders ≡ self.old.cylinders) }
+        ensures volume { self.new.volume ≡ self.old.volume }
+        ensures loose { self.new.loose ≡ self.old.loose }
+        ensures run { (k : K) → Ran surely K.hears (done_by contents (state_of self.old) t image bypass true) (outside (P.view port.old) self.old k) (state_of self.new) tt (outside (P.view port.new) self.new k) }
+    {
+        if bypass {
+            port.drop_frame(self.number, t);
+            self.frames.set(t, None);
+            self.free_patch::<P, K>(t, port);
+            return;
+        }
+        port.set_clean(self.number, t);
+        let modified = false;
+        self.frames.set(t, Some(Frame { image, modified }));
+        self.free_patch::<P, K>(t, port);
+    }
+
     /// A write is done: the frame becomes the new image and clean, or is dropped in bypass mode, and then the patch goes.
     pub(crate) fn write_done<P: Port, K: Keep<TrackImage>>(
         &mut self,
@@ -186,17 +219,9 @@ impl<V: Volume> DeviceStore<V> {
         ensures loose { self.new.loose ≡ self.old.loose }
         ensures run { (k : K) → Ran surely K.hears (write_done contents (state_of self.old) t image bypass) (outside (P.view port.old) self.old k) (state_of self.new) tt (outside (P.view port.new) self.new k) }
     {
-        if !self.frames.has(t) {
-            self.free_patch::<P, K>(t, port);
+        if self.frames.has(t) {
+            self.framed_done::<P, K>(t, image, bypass, port);
             return;
-        }
-        if bypass {
-            port.drop_frame(self.number, t);
-            self.frames.set(t, None);
-        } else {
-            port.set_clean(self.number, t);
-            let modified = false;
-            self.frames.set(t, Some(Frame { image, modified }));
         }
         self.free_patch::<P, K>(t, port);
     }
@@ -208,7 +233,7 @@ impl<V: Volume> DeviceStore<V> {
         ensures fixed { (self.new.number ≡ self.old.number) × (self.new.cylinders ≡ self.old.cylinders) }
         ensures volume { self.new.volume ≡ self.old.volume }
         ensures loose { self.new.loose ≡ self.old.loose }
-        ensures run { (k : K) → Ran surely K.hears (write_done contents (state_of self.old) t (framed_image contents (state_of self.old) t (frame_at (state_of self.old) t)) false) (outside (P.view port.old) self.old k) (state_of self.new) tt (outside (P.view port.new) self.new k) }
+        ensures run { (k : K) → Ran surely K.hears (write_done contents (state_of self.old) t (frame_in (state_of self.old) t) false) (outside (P.view port.old) self.old k) (state_of self.new) tt (outside (P.view port.new) self.new k) }
     {
         port.set_clean(self.number, t);
         self.frames.mark(t, false);

@@ -4,7 +4,6 @@ ghost use Rattle.ckd_types.specs.declared.record.Edit.{Edit};
 ghost use Rattle.device_defs.specs.Choosing.{fast_written, patch_with, provisionally_written};
 ghost use Rattle.device_defs.specs.Contents.{contents};
 ghost use Rattle.device_defs.specs.Editing.{clean_again, is_given, unchosen, write, write_by};
-ghost use Rattle.device_defs.specs.Losses.{framed_image};
 ghost use Rattle.device_defs.specs.Store.{frame_at, patch_at};
 ghost use Rattle.device_outside.specs.Keeper.{BeforeEdit, Heard};
 ghost use Rattle.device_outside.specs.Outside.{Ran, where_ok};
@@ -13,10 +12,11 @@ ghost use Rattle.nv_store.specs.Patches.{stored_at};
 ghost use Rattle.nv_store.specs.Room.{room_for};
 ghost use Rattle.track_image.specs.Image.{edited_image};
 ghost use Rattle.device_store.specs.Chosen.{Fits, FitsSlot};
+ghost use Rattle.device_store.specs.Looks.{frame_in};
 ghost use Rattle.device_store.specs.State.{state_of, outside, surely, Takes, had};
 
 use crate::DeviceStore;
-use crate::choice::is_bypass;
+use crate::image::is_bypass;
 use ckd_types::{Edit, NoMemory, TrackNo};
 use ckd_write::edit_image;
 use device_defs::{Choice, Took, Usage};
@@ -240,13 +240,10 @@ impl<V: Volume> DeviceStore<V> {
     /// A copy of the image in a track's frame, with an edit.
     fn edited_frame(&self, t: TrackNo, edit: &Edit) -> Result<TrackImage, NoMemory>
         requires framed { is_some (frame_at (state_of self.now) t) ≡ true }
-        requires suits { Suits (framed_image contents (state_of self.now) t (frame_at (state_of self.now) t)).geometry (framed_image contents (state_of self.now) t (frame_at (state_of self.now) t)).track.records edit.now }
-        ensures { IfOk result (λ made. made ≡ edited_image edit.now (framed_image contents (state_of self.now) t (frame_at (state_of self.now) t))) }
+        requires suits { Suits (frame_in (state_of self.now) t).geometry (frame_in (state_of self.now) t).track.records edit.now }
+        ensures { IfOk result (λ made. made ≡ edited_image edit.now (frame_in (state_of self.now) t)) }
     {
-        match self.frames.get(t) {
-            Some(image) => edited(self.alloc, image, edit),
-            None => unreachable!(),
-        }
+        edited(self.alloc, self.frame_image(t), edit)
     }
 
     /// The keeper is told the image in a track's frame before an edit of it.
@@ -254,12 +251,9 @@ impl<V: Volume> DeviceStore<V> {
         requires track { t < self.now.cylinders * 15 }
         requires framed { is_some (frame_at (state_of self.now) t) ≡ true }
         requires takes { Takes K.takes keep.old self.now.number (self.now.cylinders * 15) }
-        ensures { Heard K.hears K.takes keep.old (BeforeEdit self.now.number t (framed_image contents (state_of self.now) t (frame_at (state_of self.now) t))) (is_ok result) keep.new }
+        ensures { Heard K.hears K.takes keep.old (BeforeEdit self.now.number t (frame_in (state_of self.now) t)) (is_ok result) keep.new }
     {
-        match self.frames.get(t) {
-            Some(image) => keep.before_edit(self.number, t, image),
-            None => unreachable!(),
-        }
+        keep.before_edit(self.number, t, self.frame_image(t))
     }
 
     /// The same of a track whose image is in its frame.
@@ -274,12 +268,12 @@ impl<V: Volume> DeviceStore<V> {
     ) -> Result<Took, NoMemory>
         requires track { t < self.old.cylinders * 15 }
         requires framed { is_some (frame_at (state_of self.old) t) ≡ true }
-        requires suits { Suits (framed_image contents (state_of self.old) t (frame_at (state_of self.old) t)).geometry (framed_image contents (state_of self.old) t (frame_at (state_of self.old) t)).track.records edit }
+        requires suits { Suits (frame_in (state_of self.old) t).geometry (frame_in (state_of self.old) t).track.records edit }
         requires takes { Takes K.takes keep.old self.old.number (self.old.cylinders * 15) }
         ensures fixed { (self.new.number ≡ self.old.number) × (self.new.cylinders ≡ self.old.cylinders) }
         ensures takes { Takes K.takes keep.new self.new.number (self.new.cylinders * 15) }
         ensures weight { weight self.new.loose ≤ weight self.old.loose + 2 }
-        ensures run { Ran (where_ok result) K.hears (write contents (state_of self.old) usage.now first t (framed_image contents (state_of self.old) t (frame_at (state_of self.old) t)) edit) (outside (P.view port.old) self.old keep.old) (state_of self.new) (had (λ took. took) result) (outside (P.view port.new) self.new keep.new) }
+        ensures run { Ran (where_ok result) K.hears (write contents (state_of self.old) usage.now first t (frame_in (state_of self.old) t) edit) (outside (P.view port.old) self.old keep.old) (state_of self.new) (had (λ took. took) result) (outside (P.view port.new) self.new keep.new) }
     {
         let image = match self.edited_frame(t, &edit) {
             Err(NoMemory) => return Err(NoMemory),
