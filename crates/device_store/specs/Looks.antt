@@ -36,6 +36,15 @@ abbrev pub IsThere : StoreOf → ℕ → Looked → Type 0
 IsThere s t looks.Frame = is_some (frame_at s t) ≡ true
 IsThere s t _ = Unit {0}
 
+-- the image of a track that was looked at: one that was read, or the one in its frame
+abbrev pub seen : StoreOf → ℕ → Option Image → Image
+seen s t (Some i) = i
+seen s t None = frame_in s t
+
+abbrev pub IsSeen : StoreOf → ℕ → Option Image → Type 0
+IsSeen s t (Some i) = Unit {0}
+IsSeen s t None = is_some (frame_at s t) ≡ true
+
 abbrev pub peeked_by : StoreOf → ℕ → answers.Peeked → Peeked
 peeked_by s t peeks.Frame = Track (frame_in s t)
 peeked_by s t (peeks.Track image) = Track image

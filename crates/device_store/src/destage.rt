@@ -35,10 +35,10 @@ impl<V: Volume> DeviceStore<V> {
         ensures here { IfSome result (λ t. t < self.now.cylinders * 15) }
         ensures framed { IfSome result (λ t. is_some (frame_at (state_of self.now) t) ≡ true) }
     {
-        if !self.up {
-            return None;
+        if self.up {
+            return self.destaged().first();
         }
-        self.destaged().first()
+        None
     }
 
     /// The same of a track that isn't loose.

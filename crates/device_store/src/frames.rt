@@ -1,10 +1,10 @@
-ghost use Rattle.std.specs.Prelude.{◌≡◌, ◌<◌, ◌*◌, None, false, is_some, true};
+ghost use Rattle.std.specs.Prelude.{◌≡◌, ◌<◌, ◌*◌, None, false, is_some, option_map, true};
 ghost use Rattle.device_outside.specs.Outside.{Ran};
 ghost use Rattle.device_defs.specs.Contents.{contents};
 ghost use Rattle.device_defs.specs.Image.{filled, framed};
 ghost use Rattle.device_defs.specs.Owed.{is_clean};
 ghost use Rattle.device_defs.specs.Store.{frame_at, with_frame};
-ghost use Rattle.device_store.specs.Looks.{frame_in};
+ghost use Rattle.device_store.specs.Looks.{frame_in, seen, IsSeen};
 ghost use Rattle.device_store.specs.State.{state_of, outside, surely};
 ghost use Rattle.track_cache.specs.Frames.{is_modified};
 
@@ -36,10 +36,22 @@ impl<V: Volume> DeviceStore<V> {
         }
     }
 
+    /// The image of a track that was looked at: one that was read, or else the one in its frame.
+    pub fn seen<'a>(&'a self, t: TrackNo, read: Option<&'a TrackImage>) -> &'a TrackImage
+        requires { IsSeen (state_of self.now) t (option_map (λ i. i.now) read) }
+        ensures { result.now ≡ seen (state_of self.now) t (option_map (λ i. i.now) read.entry) }
+    {
+        match read {
+            Some(image) => image,
+            None => self.frame_image(t),
+        }
+    }
+
     /// A track has no frame any more.
     pub(crate) fn forget(&mut self, t: TrackNo)
         requires { is_modified self.old.frames t ≡ false }
         ensures fixed { (self.new.number ≡ self.old.number) × (self.new.cylinders ≡ self.old.cylinders) }
+        ensures loose { self.new.loose ≡ self.old.loose }
         ensures volume { self.new.volume ≡ self.old.volume }
         ensures none { is_modified self.new.frames t ≡ false }
         ensures state { state_of self.new ≡ with_frame (state_of self.old) t None }
@@ -52,6 +64,7 @@ impl<V: Volume> DeviceStore<V> {
         requires track { t < self.old.cylinders * 15 }
         requires clean { is_modified self.old.frames t ≡ false }
         ensures fixed { (self.new.number ≡ self.old.number) × (self.new.cylinders ≡ self.old.cylinders) }
+        ensures loose { self.new.loose ≡ self.old.loose }
         ensures volume { self.new.volume ≡ self.old.volume }
         ensures there { is_some (frame_at (state_of self.new) t) ≡ true }
         ensures image { frame_in (state_of self.new) t ≡ image }
@@ -70,6 +83,7 @@ impl<V: Volume> DeviceStore<V> {
         requires track { t < self.old.cylinders * 15 }
         requires clean { is_modified self.old.frames t ≡ false }
         ensures fixed { (self.new.number ≡ self.old.number) × (self.new.cylinders ≡ self.old.cylinders) }
+        ensures loose { self.new.loose ≡ self.old.loose }
         ensures there { is_some (frame_at (state_of self.new) t) ≡ true }
         ensures image { frame_in (state_of self.new) t ≡ image }
         ensures run { (k : K) → Ran surely K.hears (filled contents (state_of self.old) t image) (outside (P.view port.old) self.old k) (state_of self.new) tt (outside (P.view port.new) self.new k) }

@@ -78,6 +78,7 @@ impl<V: Volume> DeviceStore<V> {
     pub(crate) fn level_bytes<K: Keep<TrackImage>>(&mut self, t: TrackNo) -> Given
         requires { t < self.old.cylinders * 15 }
         ensures fixed { (self.new.number ≡ self.old.number) × (self.new.cylinders ≡ self.old.cylinders) }
+        ensures loose { self.new.loose ≡ self.old.loose }
         ensures frames { self.new.frames ≡ self.old.frames }
         ensures run { (p : PortView) (k : K) → Ran surely K.hears (level_bytes contents (state_of self.old) t) (outside p self.old k) (state_of self.new) (got_by self.new.buffer result) (outside p self.new k) }
     {
@@ -123,6 +124,7 @@ impl<V: Volume> DeviceStore<V> {
     fn queue_one(&mut self, last: Option<TrackNo>, t: u16)
         requires { IfSome last (λ l. l < self.old.cylinders * 15) }
         ensures fixed { (self.new.number ≡ self.old.number) × (self.new.cylinders ≡ self.old.cylinders) }
+        ensures loose { self.new.loose ≡ self.old.loose }
         ensures volume { self.new.volume ≡ self.old.volume }
         ensures frames { self.new.frames ≡ self.old.frames }
         ensures state { state_of self.new ≡ queued last (state_of self.old) t }
@@ -138,6 +140,7 @@ impl<V: Volume> DeviceStore<V> {
     fn queue_ahead(&mut self, usage: &Usage, t: TrackNo)
         requires { IfSome usage.now.last (λ l. l < self.old.cylinders * 15) }
         ensures fixed { (self.new.number ≡ self.old.number) × (self.new.cylinders ≡ self.old.cylinders) }
+        ensures loose { self.new.loose ≡ self.old.loose }
         ensures volume { self.new.volume ≡ self.old.volume }
         ensures frames { self.new.frames ≡ self.old.frames }
         ensures state { state_of self.new ≡ ahead usage.now (state_of self.old) t }
@@ -159,6 +162,7 @@ impl<V: Volume> DeviceStore<V> {
         requires track { t < self.old.cylinders * 15 }
         requires clean { is_modified self.old.frames t ≡ false }
         ensures fixed { (self.new.number ≡ self.old.number) × (self.new.cylinders ≡ self.old.cylinders) }
+        ensures loose { self.new.loose ≡ self.old.loose }
         ensures there { IfOk result (IsThere (state_of self.new) t) }
         ensures run { (k : K) → Ran (where_ok result) K.hears (loaded contents (state_of self.old) t image mode) (outside (P.view port.old) self.old k) (state_of self.new) (had (imaged (state_of self.new) t) result) (outside (P.view port.new) self.new k) }
     {
@@ -187,6 +191,7 @@ impl<V: Volume> DeviceStore<V> {
         requires last { IfSome usage.now.last (λ l. l < self.old.cylinders * 15) }
         requires clean { is_modified self.old.frames t ≡ false }
         ensures fixed { (self.new.number ≡ self.old.number) × (self.new.cylinders ≡ self.old.cylinders) }
+        ensures loose { self.new.loose ≡ self.old.loose }
         ensures there { IfOk result (IsThere (state_of self.new) t) }
         ensures run { (k : K) → Ran (where_ok result) K.hears (missed contents usage.now t (state_of self.old) (got side (Some self.old.buffer) None) (Some self.old.buffer)) (outside (P.view port.old) self.old k) (state_of self.new) (had (imaged (state_of self.new) t) result) (outside (P.view port.new) self.new k) }
     {
@@ -211,6 +216,7 @@ impl<V: Volume> DeviceStore<V> {
         requires last { IfSome usage.now.last (λ l. l < self.old.cylinders * 15) }
         requires clean { is_modified self.old.frames t ≡ false }
         ensures fixed { (self.new.number ≡ self.old.number) × (self.new.cylinders ≡ self.old.cylinders) }
+        ensures loose { self.new.loose ≡ self.old.loose }
         ensures there { IfOk result (IsThere (state_of self.new) t) }
         ensures run { (k : K) → Ran (where_ok result) K.hears (miss contents (state_of self.old) usage.now t) (outside (P.view port.old) self.old k) (state_of self.new) (had (imaged (state_of self.new) t) result) (outside (P.view port.new) self.new k) }
     {
@@ -233,6 +239,7 @@ impl<V: Volume> DeviceStore<V> {
         requires clean { is_modified self.old.frames t ≡ false }
         requires there { is_some (frame_at (state_of self.old) t) ≡ true }
         ensures fixed { (self.new.number ≡ self.old.number) × (self.new.cylinders ≡ self.old.cylinders) }
+        ensures loose { self.new.loose ≡ self.old.loose }
         ensures there { IfOk result (IsThere (state_of self.new) t) }
         ensures run { (k : K) → Ran (where_ok result) K.hears (clean_by (state_of self.old) usage.now t) (outside (P.view port.old) self.old k) (state_of self.new) (had (imaged (state_of self.new) t) result) (outside (P.view port.new) self.new k) }
     {
@@ -258,6 +265,7 @@ impl<V: Volume> DeviceStore<V> {
         requires last { IfSome usage.now.last (λ l. l < self.old.cylinders * 15) }
         requires takes { Takes K.takes keep.old self.old.number (self.old.cylinders * 15) }
         ensures fixed { (self.new.number ≡ self.old.number) × (self.new.cylinders ≡ self.old.cylinders) }
+        ensures loose { self.new.loose ≡ self.old.loose }
         ensures takes { Takes K.takes keep.new self.new.number (self.new.cylinders * 15) }
         ensures there { IfOk result (IsThere (state_of self.new) t) }
         ensures run { Ran (where_ok result) K.hears (image contents (state_of self.old) usage.now t) (outside (P.view port.old) self.old keep.old) (state_of self.new) (had (imaged (state_of self.new) t) result) (outside (P.view port.new) self.new keep.new) }

@@ -158,6 +158,7 @@ impl<V: Volume> DeviceStore<V> {
         ensures run { (p : PortView) → Ran surely K.hears (firm_told contents t (patch_lost contents t (state_of self.old))) (outside p self.old keep.old) (state_of self.new) tt (outside p self.new keep.new) }
     {
         if !self.patches.has(t) {
+            self.owed.no_firm();
             return;
         }
         self.give_up_patch(t);

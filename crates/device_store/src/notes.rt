@@ -16,6 +16,7 @@ impl<V: Volume> DeviceStore<V> {
     /// A note of a track that has a clean frame drops it.
     fn drop_noted(&mut self, t: TrackNo)
         ensures fixed { (self.new.number ≡ self.old.number) × (self.new.cylinders ≡ self.old.cylinders) }
+        ensures loose { self.new.loose ≡ self.old.loose }
         ensures volume { self.new.volume ≡ self.old.volume }
         ensures state { state_of self.new ≡ dropped contents (state_of self.old) t }
     {
@@ -28,6 +29,7 @@ impl<V: Volume> DeviceStore<V> {
     /// Takes the notes of the device, at most 960, and drops the clean frames that they name.
     pub fn hear<P: Port, K: Keep<TrackImage>>(&mut self, port: &mut P)
         ensures fixed { (self.new.number ≡ self.old.number) × (self.new.cylinders ≡ self.old.cylinders) }
+        ensures loose { self.new.loose ≡ self.old.loose }
         ensures run { (k : K) → Ran surely K.hears (hear contents 960 (state_of self.old)) (outside (P.view port.old) self.old k) (state_of self.new) tt (outside (P.view port.new) self.new k) }
     {
         for _turn in 0..NOTES {

@@ -63,7 +63,10 @@ impl<V: Volume> DeviceStore<V> {
     fn tell_modified<P: Port, K: Keep<TrackImage>>(&self, t: TrackNo, port: &mut P)
         ensures run { (k : K) → Ran surely K.hears (modified_told contents t (state_of self.now)) (outside (P.view port.old) self.now k) (state_of self.now) tt (outside (P.view port.new) self.now k) }
     {
-        if self.owed.at(t).modified && self.frames.modified(t) {
+        if !self.owed.at(t).modified {
+            return;
+        }
+        if self.frames.modified(t) {
             port.set_modified(self.number, t);
         }
     }

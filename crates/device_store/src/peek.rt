@@ -46,6 +46,7 @@ impl<V: Volume> DeviceStore<V> {
         requires track { t < self.old.cylinders * 15 }
         requires takes { Takes K.takes keep.old self.old.number (self.old.cylinders * 15) }
         ensures fixed { (self.new.number ≡ self.old.number) × (self.new.cylinders ≡ self.old.cylinders) }
+        ensures loose { self.new.loose ≡ self.old.loose }
         ensures takes { Takes K.takes keep.new self.new.number (self.new.cylinders * 15) }
         ensures there { IfOk result (IsPeeked (state_of self.new) t) }
         ensures run { Ran (where_ok result) K.hears (peek_track contents (state_of self.old) t) (outside (P.view port.old) self.old keep.old) (state_of self.new) (had (peeked_by (state_of self.new) t) result) (outside (P.view port.new) self.new keep.new) }

@@ -24,6 +24,7 @@ impl<V: Volume> DeviceStore<V> {
         requires track { t < self.old.cylinders * 15 }
         requires clean { is_modified self.old.frames t ≡ false }
         ensures fixed { (self.new.number ≡ self.old.number) × (self.new.cylinders ≡ self.old.cylinders) }
+        ensures loose { self.new.loose ≡ self.old.loose }
         ensures run { (k : K) → Ran (where_ok result) K.hears (staged_bytes contents t (state_of self.old) (got_by self.old.buffer given) (Some self.old.buffer)) (outside (P.view port.old) self.old k) (state_of self.new) (had (λ did. did) result) (outside (P.view port.new) self.new k) }
     {
         match self.image_of(t) {
@@ -51,6 +52,7 @@ impl<V: Volume> DeviceStore<V> {
         requires track { t < self.old.cylinders * 15 }
         requires clean { is_modified self.old.frames t ≡ false }
         ensures fixed { (self.new.number ≡ self.old.number) × (self.new.cylinders ≡ self.old.cylinders) }
+        ensures loose { self.new.loose ≡ self.old.loose }
         ensures run { (k : K) → Ran (where_ok result) K.hears (granted contents (state_of self.old) t true) (outside (P.view port.old) self.old k) (state_of self.new) (had (λ did. did) result) (outside (P.view port.new) self.new k) }
     {
         let got = self.level_bytes::<K>(t);
@@ -69,6 +71,7 @@ impl<V: Volume> DeviceStore<V> {
     ) -> Result<Did, NoMemory>
         requires { t < self.old.cylinders * 15 }
         ensures fixed { (self.new.number ≡ self.old.number) × (self.new.cylinders ≡ self.old.cylinders) }
+        ensures loose { self.new.loose ≡ self.old.loose }
         ensures run { (k : K) → Ran (where_ok result) K.hears (stage contents (state_of self.old) t) (outside (P.view port.old) self.old k) (state_of self.new) (had (λ did. did) result) (outside (P.view port.new) self.new k) }
     {
         if self.frames.has(t) {

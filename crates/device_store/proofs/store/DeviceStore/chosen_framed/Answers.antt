@@ -16,5 +16,5 @@ returns-then-is_given-clause-run g c =
 
 pub returns-clause-run : goal.returns-clause-run
 returns-clause-run g c =
-    joined (write_chosen contents c.args.usage.now c.args.first c.args.t (frame_in (state_of c.args.self.now) c.args.t) c.args.edit) (weaker _ (c.choose-choice.ensures.run _))
-    (rw (← c.is_given.ensures, c.if-is_given.false) (joined (λ z took. Done z (Some took)) (weaker _ (rw c.requires.image at c.write_by.ensures.run)) done))
+    joined (write_chosen contents c.args.usage.now c.args.first c.args.t (frame_in (state_of c.args.self.now) c.args.t) c.args.edit) (c.choose-choice.ensures.run _)
+    (rw (← c.is_given.ensures, c.if-is_given.false) (joined (λ z took. Done z (Some took)) (rw c.requires.image at c.write_by.ensures.run) done))

@@ -2,7 +2,6 @@ use Rattle.std.proofs.Common.{refl, true, false, Some}
 use Rattle.device_outside.specs.Interaction.{Done}
 use Rattle.device_outside.specs.Outside.{done}
 use Rattle.device_outside.proofs.Runs.{tries, joined}
-use Rattle.device_store.proofs.Moves.{weaker}
 use Rattle.device_store.proofs.store.DeviceStore.recover_bytes.Goals as goal
 
 pub returns-in-Err-clause-run : goal.returns-in-Err-clause-run
@@ -14,4 +13,4 @@ returns-in-Ok-None-clause-run g c = tries true refl (rw (← c.in-Ok-None.ensure
 pub returns-in-Ok-Some-clause-run : goal.returns-in-Ok-Some-clause-run
 returns-in-Ok-Some-clause-run g c =
     tries true refl (rw (← c.in-Ok-Some.ensures, c.in-Ok-Some.field-0-is) (tries true refl
-    (joined (λ z e. Done z (Some e)) (weaker _ c.save_read.ensures.run) done)))
+    (joined (λ z e. Done z (Some e)) c.save_read.ensures.run done)))

@@ -24,4 +24,4 @@ pub returns-clause-run : goal.returns-clause-run
 returns-clause-run g c =
     let s = state_of c.args.self.now in
     λ k was. joined (λ x w. saved_by contents c.args.t (frame_in s c.args.t) c.args.done None was w.fault x w.took) (c.write_frame-written.ensures.run _ k)
-    (rw (c.if-written.false, c.did.ensures) done)
+    (rw (c.if-written.false, c.did-2.ensures) done)
