@@ -18,9 +18,9 @@ pub returns-in-Err-make_room-clause-run : goal.returns-in-Err-make_room-clause-r
 unfolding write
 returns-in-Err-make_room-clause-run g c = rw c.make_room.ensures.volume (tries false tt (ended (sym c.make_room.ensures.state) refl))
 
-pub returns-in-Ok-clause-run : goal.returns-in-Ok-clause-run
+pub returns-in-Ok-make_room-clause-run : goal.returns-in-Ok-clause-run
 unfolding write
-returns-in-Ok-clause-run g c =
+returns-in-Ok-make_room-clause-run g c =
     tries true (had_ok c.chosen_framed.result) (from_equal
     (λ z. and_then (choose contents z c.args.usage.now c.args.t) (write_chosen contents c.args.usage.now c.args.first c.args.t (frame_in z c.args.t) c.args.edit))
     c.make_room.ensures.state (ap (λ v. outside_of (g.P.Port.view c.args.port.now) (g.V.Volume.view v) c.args.keep.now) c.make_room.ensures.volume)
