@@ -8,3 +8,4 @@ pub mod Telling
 pub mod Loosely
 pub mod Sweeps
 pub mod Loosed
+pub mod Firming
