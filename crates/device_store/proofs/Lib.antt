@@ -9,3 +9,5 @@ pub mod Loosely
 pub mod Sweeps
 pub mod Loosed
 pub mod Firming
+pub mod Firmly
+pub mod Writes

@@ -1,11 +1,13 @@
-ghost use Rattle.std.specs.Prelude.{◌≡◌, false, is_some};
+ghost use Rattle.std.specs.Prelude.{◌≡◌, ◌&&◌, false, if◌then◌else◌, is_some, true};
 ghost use Rattle.device_defs.specs.Choosing.{choose, choose_firm, choose_loose, fast_by, fast_or_through, may_be_fast, slot_by};
 ghost use Rattle.device_defs.specs.Contents.{contents};
-ghost use Rattle.device_defs.specs.Store.{patch_at};
+ghost use Rattle.device_defs.specs.declared.answers.Choice.TheVariants.{Provisional};
+ghost use Rattle.device_defs.specs.Owed.{is_clean};
+ghost use Rattle.device_defs.specs.Store.{frame_at, patch_at};
 ghost use Rattle.device_outside.specs.declared.port.SlotGrant.TheVariants as grants;
-ghost use Rattle.device_outside.specs.Interaction.{Ask};
+ghost use Rattle.device_outside.specs.Interaction.{Ask, Done};
 ghost use Rattle.device_outside.specs.Outside.{Ran};
-ghost use Rattle.device_outside.specs.Pool.{WantSlot};
+ghost use Rattle.device_outside.specs.Pool.{SetModified, WantSlot};
 ghost use Rattle.device_store.specs.State.{state_of, outside, surely};
 ghost use Rattle.device_store.specs.Chosen.{Fits};
 
@@ -102,6 +104,29 @@ impl<V: Volume> DeviceStore<V> {
         Choice::Through
     }
 
+    fn may_be_provisional(&self, usage: &Usage, t: TrackNo) -> bool
+        ensures { result ≡ (usage.now.provisional && is_clean contents (frame_at (state_of self.now) t)) }
+    {
+        usage.provisional && self.is_clean(t)
+    }
+
+    /// A clean frame that the pool still lists is written provisionally.
+    fn choose_clean<P: Port, K: Keep<TrackImage>>(
+        &self,
+        usage: &Usage,
+        t: TrackNo,
+        port: &mut P,
+    ) -> Choice
+        requires { usage.now.provisional ≡ true }
+        ensures fits { Fits usage.now.provisional (is_some (patch_at (state_of self.now) t)) result }
+        ensures run { (k : K) → Ran surely K.hears (Ask (SetModified self.now.number t) (λ listed. if listed then Done (state_of self.now) Provisional else fast_or_through contents (state_of self.now) usage.now t)) (outside (P.view port.old) self.now k) (state_of self.now) result (outside (P.view port.new) self.now k) }
+    {
+        if port.set_modified(self.number, t) {
+            return Choice::Provisional;
+        }
+        self.fast_or_through::<P, K>(usage, t, port)
+    }
+
     fn choose_firm<P: Port, K: Keep<TrackImage>>(
         &self,
         usage: &Usage,
@@ -111,11 +136,8 @@ impl<V: Volume> DeviceStore<V> {
         ensures fits { Fits usage.now.provisional (is_some (patch_at (state_of self.now) t)) result }
         ensures run { (k : K) → Ran surely K.hears (choose_firm contents (state_of self.now) usage.now t) (outside (P.view port.old) self.now k) (state_of self.now) result (outside (P.view port.new) self.now k) }
     {
-        let provisional = usage.provisional && self.is_clean(t);
-        if provisional {
-            if port.set_modified(self.number, t) {
-                return Choice::Provisional;
-            }
+        if self.may_be_provisional(usage, t) {
+            return self.choose_clean::<P, K>(usage, t, port);
         }
         self.fast_or_through::<P, K>(usage, t, port)
     }

@@ -20,10 +20,10 @@ impl<V: Volume> DeviceStore<V> {
         ensures least { result ≡ to_recover contents (state_of self.now) }
         ensures here { IfSome result (λ t. t < self.now.cylinders * 15) }
     {
-        if !self.up {
-            return None;
+        if self.up {
+            return self.waiting().first();
         }
-        self.waiting().first()
+        None
     }
 
     /// Writes an image that was read to the volume. What is done then is `done`, with the side that failed before.

@@ -92,6 +92,7 @@ impl<V: Volume> DeviceStore<V> {
         ensures fixed { (self.new.number ≡ self.old.number) × (self.new.cylinders ≡ self.old.cylinders) }
         ensures weight { weight self.new.loose ≡ weight self.old.loose }
         ensures loose { self.new.loose ≡ self.old.loose }
+        ensures refused { result.done ≡ false }
         ensures run { (p : PortView) (k : K) (bytes : List ℕ) → Ran surely K.hears (write_first contents (state_of self.old) t bytes) (outside p self.old k) (state_of self.new) (wrote_by result) (outside p self.new k) }
     {
         self.settle(t);
@@ -109,6 +110,7 @@ impl<V: Volume> DeviceStore<V> {
         ensures volume { self.new.volume ≡ self.old.volume }
         ensures weight { weight self.new.loose ≡ weight self.old.loose }
         ensures loose { self.new.loose ≡ self.old.loose }
+        ensures kept { result.done ≡ true → self.new.frames ≡ self.old.frames }
         ensures run { (p : PortView) (k : K) (bytes : List ℕ) → Ran surely K.hears (first_a contents t bytes (state_of self.old) done) (outside p self.old k) (state_of self.new) (wrote_by result) (outside p self.new k) }
     {
         if done {
@@ -153,6 +155,7 @@ impl<V: Volume> DeviceStore<V> {
         ensures fixed { (self.new.number ≡ self.old.number) × (self.new.cylinders ≡ self.old.cylinders) }
         ensures weight { weight self.new.loose ≡ weight self.old.loose }
         ensures loose { self.new.loose ≡ self.old.loose }
+        ensures kept { result.done ≡ true → self.new.frames ≡ self.old.frames }
         ensures run { (p : PortView) (k : K) → Ran surely K.hears (write_first contents (state_of self.old) t (track_bytes (frame_in (state_of self.old) t).track)) (outside p self.old k) (state_of self.new) (wrote_by result) (outside p self.new k) }
     {
         if self.up {

@@ -1,17 +1,19 @@
 ghost use Rattle.std.specs.Prelude.{◌≡◌, ◌<◌, ◌*◌, ◌+◌, ◌≤◌, IfOk, None, OnOk, is_ok, is_some, slice_set, true};
 ghost use Rattle.ckd_rules.specs.Facts.{Suits};
 ghost use Rattle.ckd_types.specs.declared.record.Edit.{Edit};
-ghost use Rattle.device_defs.specs.Choosing.{fast_written, patch_with, provisionally_written};
+ghost use Rattle.device_defs.specs.declared.answers.Choice.TheVariants.{Fast};
+ghost use Rattle.device_defs.specs.Choosing.{choose, fast_written, patch_with, provisionally_written};
 ghost use Rattle.device_defs.specs.Contents.{contents};
-ghost use Rattle.device_defs.specs.Editing.{clean_again, is_given, unchosen, write, write_by};
+ghost use Rattle.device_defs.specs.Editing.{clean_again, is_given, unchosen, write, write_by, write_chosen};
 ghost use Rattle.device_defs.specs.Store.{frame_at, patch_at};
+ghost use Rattle.device_outside.specs.Interaction.{and_then};
 ghost use Rattle.device_outside.specs.Keeper.{BeforeEdit, Heard};
 ghost use Rattle.device_outside.specs.Outside.{Ran, where_ok};
 ghost use Rattle.event_notes.specs.Loose.{loose_count, weight};
 ghost use Rattle.nv_store.specs.Patches.{stored_at};
 ghost use Rattle.nv_store.specs.Room.{room_for};
 ghost use Rattle.track_image.specs.Image.{edited_image};
-ghost use Rattle.device_store.specs.Chosen.{Fits, FitsSlot};
+ghost use Rattle.device_store.specs.Chosen.{Fits, FitsSlot, told_before};
 ghost use Rattle.device_store.specs.Looks.{frame_in};
 ghost use Rattle.device_store.specs.State.{state_of, outside, surely, Takes, had};
 
@@ -180,6 +182,18 @@ impl<V: Volume> DeviceStore<V> {
         }
     }
 
+    fn give_back<P: Port, K: Keep<TrackImage>>(&self, t: TrackNo, slot: Option<usize>, port: &mut P)
+        ensures run { (k : K) → Ran surely K.hears (unchosen contents (state_of self.now) t (Fast slot)) (outside (P.view port.old) self.now k) (state_of self.now) None (outside (P.view port.new) self.now k) }
+    {
+        match slot {
+            Some(slot) => {
+                port.free_slot(slot);
+                self.clean_again::<P, K>(t, port);
+            }
+            None => self.clean_again::<P, K>(t, port),
+        }
+    }
+
     /// Memory was lacking: a new slot is given back, and a frame that the pool was told as modified is clean as before.
     fn unchosen<P: Port, K: Keep<TrackImage>>(&self, t: TrackNo, choice: Choice, port: &mut P)
         ensures run { (k : K) → Ran surely K.hears (unchosen contents (state_of self.now) t choice) (outside (P.view port.old) self.now k) (state_of self.now) None (outside (P.view port.new) self.now k) }
@@ -187,13 +201,70 @@ impl<V: Volume> DeviceStore<V> {
         match choice {
             Choice::Through => (),
             Choice::Provisional => self.clean_again::<P, K>(t, port),
-            Choice::Fast(slot) => {
-                if let Some(slot) = slot {
-                    port.free_slot(slot);
-                }
-                self.clean_again::<P, K>(t, port);
-            }
+            Choice::Fast(slot) => self.give_back::<P, K>(t, slot, port),
         }
+    }
+
+    /// The keeper is told the track before an edit that is given to something.
+    fn given_read<P: Port, K: Keep<TrackImage>>(
+        &mut self,
+        usage: &Usage,
+        first: TrackNo,
+        t: TrackNo,
+        old: &TrackImage,
+        image: TrackImage,
+        edit: Edit,
+        choice: Choice,
+        port: &mut P,
+        keep: &mut K,
+    ) -> Result<Took, NoMemory>
+        requires track { t < self.old.cylinders * 15 }
+        requires image { image ≡ edited_image edit old.now }
+        requires fits { Fits usage.now.provisional (is_some (patch_at (state_of self.old) t)) choice }
+        requires patch { room_for (stored_at self.old.patches t) ≤ self.old.edits }
+        requires loose { usage.now.provisional ≡ true → loose_count self.old.loose.loose + 2 ≤ self.old.loose.spare }
+        requires takes { Takes K.takes keep.old self.old.number (self.old.cylinders * 15) }
+        ensures fixed { (self.new.number ≡ self.old.number) × (self.new.cylinders ≡ self.old.cylinders) }
+        ensures takes { Takes K.takes keep.new self.new.number (self.new.cylinders * 15) }
+        ensures weight { weight self.new.loose ≤ weight self.old.loose + 2 }
+        ensures run { Ran (where_ok result) K.hears (told_before (state_of self.old) usage.now first t old.now edit choice) (outside (P.view port.old) self.old keep.old) (state_of self.new) (had (λ took. took) result) (outside (P.view port.new) self.new keep.new) }
+    {
+        match keep.before_edit(self.number, t, old) {
+            Err(NoMemory) => {
+                self.unchosen::<P, K>(t, choice, port);
+                Err(NoMemory)
+            }
+            Ok(()) => Ok(self.write_by(usage, first, t, image, edit, choice, port, keep)),
+        }
+    }
+
+    /// The write goes where it is chosen to go, in room that was made.
+    fn chosen_read<P: Port, K: Keep<TrackImage>>(
+        &mut self,
+        usage: &Usage,
+        first: TrackNo,
+        t: TrackNo,
+        old: &TrackImage,
+        image: TrackImage,
+        edit: Edit,
+        port: &mut P,
+        keep: &mut K,
+    ) -> Result<Took, NoMemory>
+        requires track { t < self.old.cylinders * 15 }
+        requires image { image ≡ edited_image edit old.now }
+        requires patch { room_for (stored_at self.old.patches t) ≤ self.old.edits }
+        requires loose { usage.now.provisional ≡ true → loose_count self.old.loose.loose + 2 ≤ self.old.loose.spare }
+        requires takes { Takes K.takes keep.old self.old.number (self.old.cylinders * 15) }
+        ensures fixed { (self.new.number ≡ self.old.number) × (self.new.cylinders ≡ self.old.cylinders) }
+        ensures takes { Takes K.takes keep.new self.new.number (self.new.cylinders * 15) }
+        ensures weight { weight self.new.loose ≤ weight self.old.loose + 2 }
+        ensures run { Ran (where_ok result) K.hears (and_then (choose contents (state_of self.old) usage.now t) (write_chosen contents usage.now first t old.now edit)) (outside (P.view port.old) self.old keep.old) (state_of self.new) (had (λ took. took) result) (outside (P.view port.new) self.new keep.new) }
+    {
+        let choice = self.choose::<P, K>(usage, t, port);
+        if self.is_given(choice) {
+            return self.given_read(usage, first, t, old, image, edit, choice, port, keep);
+        }
+        Ok(self.write_by(usage, first, t, image, edit, choice, port, keep))
     }
 
     /// A command's write of a track that it read, behind others from `first` on. Memory is had before the first effect: what lacks
@@ -221,20 +292,9 @@ impl<V: Volume> DeviceStore<V> {
             Ok(image) => image,
         };
         match self.make_room(usage, t) {
-            Err(NoMemory) => return Err(NoMemory),
-            Ok(()) => (),
+            Err(NoMemory) => Err(NoMemory),
+            Ok(()) => self.chosen_read(usage, first, t, old, image, edit, port, keep),
         }
-        let choice = self.choose::<P, K>(usage, t, port);
-        if self.is_given(choice) {
-            match keep.before_edit(self.number, t, old) {
-                Err(NoMemory) => {
-                    self.unchosen::<P, K>(t, choice, port);
-                    return Err(NoMemory);
-                }
-                Ok(()) => (),
-            }
-        }
-        Ok(self.write_by(usage, first, t, image, edit, choice, port, keep))
     }
 
     /// A copy of the image in a track's frame, with an edit.
@@ -256,6 +316,68 @@ impl<V: Volume> DeviceStore<V> {
         keep.before_edit(self.number, t, self.frame_image(t))
     }
 
+    /// The keeper is told the track before an edit that is given to something.
+    fn given_framed<P: Port, K: Keep<TrackImage>>(
+        &mut self,
+        usage: &Usage,
+        first: TrackNo,
+        t: TrackNo,
+        image: TrackImage,
+        edit: Edit,
+        choice: Choice,
+        port: &mut P,
+        keep: &mut K,
+    ) -> Result<Took, NoMemory>
+        requires track { t < self.old.cylinders * 15 }
+        requires framed { is_some (frame_at (state_of self.old) t) ≡ true }
+        requires image { image ≡ edited_image edit (frame_in (state_of self.old) t) }
+        requires fits { Fits usage.now.provisional (is_some (patch_at (state_of self.old) t)) choice }
+        requires patch { room_for (stored_at self.old.patches t) ≤ self.old.edits }
+        requires loose { usage.now.provisional ≡ true → loose_count self.old.loose.loose + 2 ≤ self.old.loose.spare }
+        requires takes { Takes K.takes keep.old self.old.number (self.old.cylinders * 15) }
+        ensures fixed { (self.new.number ≡ self.old.number) × (self.new.cylinders ≡ self.old.cylinders) }
+        ensures takes { Takes K.takes keep.new self.new.number (self.new.cylinders * 15) }
+        ensures weight { weight self.new.loose ≤ weight self.old.loose + 2 }
+        ensures run { Ran (where_ok result) K.hears (told_before (state_of self.old) usage.now first t (frame_in (state_of self.old) t) edit choice) (outside (P.view port.old) self.old keep.old) (state_of self.new) (had (λ took. took) result) (outside (P.view port.new) self.new keep.new) }
+    {
+        match self.tell_frame(t, keep) {
+            Err(NoMemory) => {
+                self.unchosen::<P, K>(t, choice, port);
+                Err(NoMemory)
+            }
+            Ok(()) => Ok(self.write_by(usage, first, t, image, edit, choice, port, keep)),
+        }
+    }
+
+    /// The write goes where it is chosen to go, in room that was made.
+    fn chosen_framed<P: Port, K: Keep<TrackImage>>(
+        &mut self,
+        usage: &Usage,
+        first: TrackNo,
+        t: TrackNo,
+        image: TrackImage,
+        edit: Edit,
+        port: &mut P,
+        keep: &mut K,
+    ) -> Result<Took, NoMemory>
+        requires track { t < self.old.cylinders * 15 }
+        requires framed { is_some (frame_at (state_of self.old) t) ≡ true }
+        requires image { image ≡ edited_image edit (frame_in (state_of self.old) t) }
+        requires patch { room_for (stored_at self.old.patches t) ≤ self.old.edits }
+        requires loose { usage.now.provisional ≡ true → loose_count self.old.loose.loose + 2 ≤ self.old.loose.spare }
+        requires takes { Takes K.takes keep.old self.old.number (self.old.cylinders * 15) }
+        ensures fixed { (self.new.number ≡ self.old.number) × (self.new.cylinders ≡ self.old.cylinders) }
+        ensures takes { Takes K.takes keep.new self.new.number (self.new.cylinders * 15) }
+        ensures weight { weight self.new.loose ≤ weight self.old.loose + 2 }
+        ensures run { Ran (where_ok result) K.hears (and_then (choose contents (state_of self.old) usage.now t) (write_chosen contents usage.now first t (frame_in (state_of self.old) t) edit)) (outside (P.view port.old) self.old keep.old) (state_of self.new) (had (λ took. took) result) (outside (P.view port.new) self.new keep.new) }
+    {
+        let choice = self.choose::<P, K>(usage, t, port);
+        if self.is_given(choice) {
+            return self.given_framed(usage, first, t, image, edit, choice, port, keep);
+        }
+        Ok(self.write_by(usage, first, t, image, edit, choice, port, keep))
+    }
+
     /// The same of a track whose image is in its frame.
     pub fn write_framed<P: Port, K: Keep<TrackImage>>(
         &mut self,
@@ -267,7 +389,7 @@ impl<V: Volume> DeviceStore<V> {
         keep: &mut K,
     ) -> Result<Took, NoMemory>
         requires track { t < self.old.cylinders * 15 }
-        requires framed { is_some (frame_at (state_of self.old) t) ≡ true }
+        requires there { is_some (frame_at (state_of self.old) t) ≡ true }
         requires suits { Suits (frame_in (state_of self.old) t).geometry (frame_in (state_of self.old) t).track.records edit }
         requires takes { Takes K.takes keep.old self.old.number (self.old.cylinders * 15) }
         ensures fixed { (self.new.number ≡ self.old.number) × (self.new.cylinders ≡ self.old.cylinders) }
@@ -280,19 +402,8 @@ impl<V: Volume> DeviceStore<V> {
             Ok(image) => image,
         };
         match self.make_room(usage, t) {
-            Err(NoMemory) => return Err(NoMemory),
-            Ok(()) => (),
+            Err(NoMemory) => Err(NoMemory),
+            Ok(()) => self.chosen_framed(usage, first, t, image, edit, port, keep),
         }
-        let choice = self.choose::<P, K>(usage, t, port);
-        if self.is_given(choice) {
-            match self.tell_frame(t, keep) {
-                Err(NoMemory) => {
-                    self.unchosen::<P, K>(t, choice, port);
-                    return Err(NoMemory);
-                }
-                Ok(()) => (),
-            }
-        }
-        Ok(self.write_by(usage, first, t, image, edit, choice, port, keep))
     }
 }
