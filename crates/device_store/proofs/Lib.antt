@@ -8,5 +8,6 @@ pub mod Telling
 pub mod Loosely
 pub mod Sweeps
 pub mod Loosed
+pub mod Firming
 pub mod Firmly
 pub mod Writes

@@ -36,11 +36,11 @@ anew {R} {I} {S} {T} {U} {A} {B} {C} (Write side t r k) f g =
 anew {R} {I} {S} {T} {U} {A} {B} {C} (Tell m k) f g = ap (λ (j : ReplyTo m → Interaction R I U C). Tell m j) (fun_ext (λ a. anew (k a) f g))
 
 -- Behind a change of a store, y became x, another track t is owed the same, has the same image, and with o owed of it the change is the same
-record At {F P H R : Type 0} (c : Contents F P H R) (t : ℕ) (o : Owed) (y x z : Store F P H) : Type 0 where
-  device : x.device ≡ y.device
-  owed : owed_at x t ≡ owed_at y t
-  image : framed_image c x t (frame_at x t) ≡ framed_image c y t (frame_at y t)
-  comm : z ≡ with_owed x t o
+pub record At {F P H R : Type 0} (c : Contents F P H R) (t : ℕ) (o : Owed) (y x z : Store F P H) : Type 0 where
+  pub device : x.device ≡ y.device
+  pub owed : owed_at x t ≡ owed_at y t
+  pub image : framed_image c x t (frame_at x t) ≡ framed_image c y t (frame_at y t)
+  pub comm : z ≡ with_owed x t o
 
 module _ (t q : ℕ) (o : Owed) (ne : t ≢ q) (l : List Owed) where
   owed_comm : (r : Owed → Owed) →
@@ -114,7 +114,7 @@ module _ {F P H R : Type 0} (c : Contents F P H R) (t q : ℕ) (o : Owed) (ne : 
       (at_then stale (at_settled (stale_everywhere (without_patch c y q) q)) (ap (λ (x : Store F P H). settled c x q) stale.comm))) (at_same y)
 
 module _ {F P H R : Type 0} (c : Contents F P H R) where
-  abbrev Keeps : ℕ → (Store F P H → Store F P H) → Type 0
+  abbrev pub Keeps : ℕ → (Store F P H → Store F P H) → Type 0
   Keeps t f = (y : Store F P H) (o : Owed) → At c t o y (f y) (f (with_owed y t o))
 
   abbrev told_by : ℕ → Bool → ℕ → Image → Store F P H → Store F P H → Interaction R Image (Store F P H) (Unit {0})
@@ -166,7 +166,7 @@ module _ {F P H R : Type 0} (c : Contents F P H R) where
       ∙ anew (all_firm_told c n (over n f s)) (λ x _. Done (f n x) tt) (λ z _. firm_told c n z)
 
   pub sweep_none : (f : ℕ → Store F P H → Store F P H) (s : Store F P H) → all_firm_told c 0 (over 0 f s) ≡ Done s tt
-  unfolding losses.all_firm_told, losses.over
+  unfolding losses.all_firm_told losses.over
   sweep_none f s = refl
 
   -- nobody is told where no track became firm

@@ -12,7 +12,7 @@ loop-t-init g c = record {
   cylinders = refl;
   volume = refl;
   weight = refl;
-  firm = c.requires;
+  firm = c.requires.firm;
   state = sym (over_none (λ t z. settled contents (without_frame z t) t) (state_of c.args.self.now));
 }
 

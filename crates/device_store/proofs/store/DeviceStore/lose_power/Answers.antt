@@ -1,9 +1,11 @@
-use Rattle.std.proofs.Common.{◌≡◌, ◌∙◌, ◌*◌, [], ap}
+use Rattle.std.proofs.Common.{◌≡◌, ◌∙◌, ◌*◌, ℕ, List, [], ap}
 use Rattle.device_defs.specs.Contents.{contents}
 use Rattle.device_defs.specs.Cutting.{loose_gone, powerless}
+use Rattle.device_defs.specs.declared.counts.Losses.{Losses}
 use Rattle.device_defs.specs.Events.{with_loss}
 use Rattle.device_defs.specs.Losses.{over, settled, without_frame}
 use Rattle.loss_model.specs.declared.Loss.TheVariants.{Cache}
+use Rattle.device_store.specs.Looks.{StoreOf}
 use Rattle.device_store.specs.State.{state_of}
 use Rattle.device_store.proofs.store.DeviceStore.lose_power.Goals as goal
 
@@ -11,10 +13,10 @@ pub returns-clause-state : goal.returns-clause-state
 returns-clause-state g c =
     let old = state_of c.args.self.now in
     let s = state_of c.clear_loose.new.self in
-    let lost = ap (λ l. record old { counts = record old.counts { losses = l } }) c.count_loss.ensures in
+    let lost = ap (λ (l : Losses). record old { counts = record old.counts { losses = l } }) c.count_loss.ensures in
     let same : record s { queue = c.clear.new.self } ≡ record (loose_gone contents (with_loss old Cache)) { queue = [] } =
-        ap (λ q. record s { queue = q }) c.clear.ensures
-        ∙ ap (λ z. record z { queue = [] }) (c.clear_loose.ensures.state ∙ ap (λ z. loose_gone contents z) lost)
+        ap (λ (q : List ℕ). record s { queue = q }) c.clear.ensures
+        ∙ ap (λ (z : StoreOf). record z { queue = [] }) (c.clear_loose.ensures.state ∙ ap (λ z. loose_gone contents z) lost)
     in
     c.lose_frames.ensures.state
     ∙ ap (λ n. over (n * 15) (λ t z. settled contents (without_frame z t) t) (record s { queue = c.clear.new.self })) c.clear_loose.ensures.fixed.1

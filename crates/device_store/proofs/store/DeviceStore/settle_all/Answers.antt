@@ -14,7 +14,7 @@ loop-t-init g c = record {
   cylinders = refl;
   volume = refl;
   weight = refl;
-  takes = c.requires;
+  takes = c.requires.takes;
   ran = λ p. from_equal (λ i. i) (sym (sweep_none contents (λ t z. settled contents z t) (state_of c.args.self.now))) refl done;
 }
 
@@ -27,6 +27,6 @@ loop-t-preserved g c = record {
   takes = c.settle_told.ensures.takes;
   ran = λ p. from_equal (λ i. i)
       (sym (sweep_more contents (λ t z. settled contents z t) (λ q t ne y o. at_settled contents t q o ne y) c.loop-t.t (state_of c.args.self.now))) refl
-      (joined (λ x _. firm_told contents c.loop-t.t (((λ t z. settled contents z t)) c.loop-t.t x)) (c.loop-t.invariant.ran p)
-      (from_equal (λ n. firm_told contents n (((λ t z. settled contents z t)) n (state_of c.loop-t.self))) c.track.ensures refl (c.settle_told.ensures.run p)));
+      (joined (λ x _. firm_told contents c.loop-t.t (settled contents x c.loop-t.t)) (c.loop-t.invariant.ran p)
+      (from_equal (λ n. firm_told contents n (settled contents (state_of c.loop-t.self) n)) c.track.ensures refl (c.settle_told.ensures.run p)));
 }
