@@ -18,7 +18,7 @@ pub returns-in-Err-make_room-clause-run : goal.returns-in-Err-make_room-clause-r
 unfolding write
 returns-in-Err-make_room-clause-run g c = rw c.make_room.ensures.volume (tries false tt (ended (sym c.make_room.ensures.state) refl))
 
-pub returns-in-Ok-make_room-clause-run : goal.returns-in-Ok-clause-run
+pub returns-in-Ok-make_room-clause-run : goal.returns-in-Ok-make_room-clause-run
 unfolding write
 returns-in-Ok-make_room-clause-run g c =
     tries true (had_ok c.chosen_framed.result) (from_equal
