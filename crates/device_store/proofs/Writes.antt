@@ -121,8 +121,8 @@ pub record IsOne (n : ℕ) (p : ℕ → Bool) (t : ℕ) : Type 0 where
   pub passes : p t ≡ true
 
 one_by : (n : ℕ) (p : ℕ → Bool) (before : Option ℕ) (b : Bool) → p n ≡ b → IfSome before (IsOne n p) → IfSome (or_else before (if b then Some n else None)) (IsOne (suc n) p)
-one_by n p (Some t) b is one = record { here = let lt = one.here in omega (arith, lt); passes = one.passes; }
-one_by n p None true is one = record { here = omega arith; passes = is; }
+one_by n p (Some t) b is one = record { here = let lt = one.here in omega (arith, lt); passes = one.passes }
+one_by n p None true is one = record { here = omega arith; passes = is }
 one_by n p None false is one = tt
 
 pub least_one : (n : ℕ) (p : ℕ → Bool) → IfSome (least n p) (IsOne n p)

@@ -42,7 +42,12 @@ impl<V: Volume> DeviceStore<V> {
     }
 
     /// The same of a track that isn't loose.
-    fn save_firm<P: Port, K: Keep<TrackImage>>(&mut self, t: TrackNo, done: Did, port: &mut P) -> Did
+    fn save_firm<P: Port, K: Keep<TrackImage>>(
+        &mut self,
+        t: TrackNo,
+        done: Did,
+        port: &mut P,
+    ) -> Did
         requires track { t < self.old.cylinders * 15 }
         requires framed { is_some (frame_at (state_of self.old) t) ≡ true }
         requires firm { is_loose (state_of self.old) t ≡ false }

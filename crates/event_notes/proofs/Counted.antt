@@ -29,11 +29,11 @@ count_one_more (suc n) f g t each lt none = elim (cases_eq n t) [
       let here : g n ≡ true = each n ∙ rw (eq-eqb n t same) refl in
       let was : f n ≡ false = ap f same ∙ none in
       rw (here, was, count_front n f g t true each (omega (arith, same))) (omega arith)
-  )
+      )
   | inr differs ↦ (
       let other : g n ≡ f n = each n ∙ rw (ne_eqb n t differs) refl in
       rw (other, count_one_more n f g t each (omega (arith, lt, differs)) none) (omega arith)
-  )
+      )
 ]
 
 pub count_one_less : (n : ℕ) (f g : ℕ → Bool) (t : ℕ) → ((q : ℕ) → g q ≡ (if q == t then false else f q)) → t < n → f t ≡ true →
@@ -45,12 +45,12 @@ count_one_less (suc n) f g t each lt some = elim (cases_eq n t) [
       let here : g n ≡ false = each n ∙ rw (eq-eqb n t same) refl in
       let was : f n ≡ true = ap f same ∙ some in
       rw (here, was, count_front n f g t false each (omega (arith, same))) (omega arith)
-  )
+      )
   | inr differs ↦ (
       let other : g n ≡ f n = each n ∙ rw (ne_eqb n t differs) refl in
       let before : count_below n g + 1 ≡ count_below n f = count_one_less n f g t each (omega (arith, lt, differs)) some in
       rw other (omega (arith, before))
-  )
+      )
 ]
 
 pub count_none : (n : ℕ) (f : ℕ → Bool) → ((t : ℕ) → f t ≡ false) → count_below n f ≡ 0

@@ -1,4 +1,3 @@
-
 use Rattle.device_store.proofs.store.DeviceStore.choose_firm.Goals as goal
 
 pub returns-then-may_be_provisional-clause-run : goal.returns-then-may_be_provisional-clause-run

@@ -11,7 +11,7 @@ unfolding cache_lost
 returns-clause-state g c =
     let s = state_of c.lose_loose.new.self in
     let same : record s { queue = c.clear.new.self } ≡ record (loose_lost (state_of c.args.self.now)) { queue = [] } =
-        ap (λ (q : List ℕ). record s { queue = q }) c.clear.ensures ∙ ap (λ (z : StoreOf). record z { queue = [] }) c.lose_loose.ensures.state
+    ap (λ (q : List ℕ). record s { queue = q }) c.clear.ensures ∙ ap (λ (z : StoreOf). record z { queue = [] }) c.lose_loose.ensures.state
     in
     c.lose_frames.ensures.state
     ∙ ap (λ n. over (n * 15) (λ t z. settled contents (without_frame z t) t) (record s { queue = c.clear.new.self })) c.lose_loose.ensures.fixed.1

@@ -11,13 +11,13 @@ use Rattle.device_store.proofs.store.DeviceStore.lose_loose.Goals as goal
 pub returns-then-any-clause-state : goal.returns-then-any-clause-state
 returns-then-any-clause-state g c =
     let has : has_loose (state_of c.args.self.now) ≡ true =
-        subst (λ n. is_some (least n (is_loose (state_of c.args.self.now))) ≡ true) c.args.self.now.loose_of_each (sym c.any.ensures ∙ c.if-any.true) in
+    subst (λ n. is_some (least n (is_loose (state_of c.args.self.now))) ≡ true) c.args.self.now.loose_of_each (sym c.any.ensures ∙ c.if-any.true) in
     rw (some_lost (state_of c.args.self.now) has, c.lose.ensures.loose, c.lose.ensures.acts, c.next_number-self.ensures, c.args.self.now.loose_of_each) refl
 
 pub returns-else-any-clause-state : goal.returns-else-any-clause-state
 returns-else-any-clause-state g c =
     let has : has_loose (state_of c.args.self.now) ≡ false =
-        subst (λ n. is_some (least n (is_loose (state_of c.args.self.now))) ≡ false) c.args.self.now.loose_of_each (sym c.any.ensures ∙ c.if-any.false) in
+    subst (λ n. is_some (least n (is_loose (state_of c.args.self.now))) ≡ false) c.args.self.now.loose_of_each (sym c.any.ensures ∙ c.if-any.false) in
     rw (none_lost (state_of c.args.self.now) has) refl
 
 pub returns-then-any-clause-firm : goal.returns-then-any-clause-firm

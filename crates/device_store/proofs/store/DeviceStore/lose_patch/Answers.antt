@@ -13,7 +13,7 @@ pub returns-clause-run : goal.returns-clause-run
 returns-clause-run g c =
     λ p. let s = state_of c.give_up_patch.new.self in
     let same : record s { a = record s.a { stale = c.set_mark.new.marks.items } } ≡ stale_everywhere (without_patch contents (state_of c.args.self.now) c.args.t) c.args.t =
-        ap (λ (l : List Bool). record s { a = record s.a { stale = l } }) c.set_mark.ensures ∙ ap (λ z. stale_everywhere z c.args.t) c.give_up_patch.ensures.state
+    ap (λ (l : List Bool). record s { a = record s.a { stale = l } }) c.set_mark.ensures ∙ ap (λ z. stale_everywhere z c.args.t) c.give_up_patch.ensures.state
     in
     rw (← c.has.ensures, c.if-not-has.false) (from_equal (λ z. firm_told contents c.args.t (settled contents z c.args.t)) same
     (ap (λ x. outside_of p (g.V.Volume.view x) c.args.keep.now) c.give_up_patch.ensures.volume) (c.settle_told.ensures.run p))

@@ -15,8 +15,8 @@ returns-clause-state g c =
     let s = state_of c.clear_loose.new.self in
     let lost = ap (λ (l : Losses). record old { counts = record old.counts { losses = l } }) c.count_loss.ensures in
     let same : record s { queue = c.clear.new.self } ≡ record (loose_gone contents (with_loss old Cache)) { queue = [] } =
-        ap (λ (q : List ℕ). record s { queue = q }) c.clear.ensures
-        ∙ ap (λ (z : StoreOf). record z { queue = [] }) (c.clear_loose.ensures.state ∙ ap (λ z. loose_gone contents z) lost)
+    ap (λ (q : List ℕ). record s { queue = q }) c.clear.ensures
+    ∙ ap (λ (z : StoreOf). record z { queue = [] }) (c.clear_loose.ensures.state ∙ ap (λ z. loose_gone contents z) lost)
     in
     c.lose_frames.ensures.state
     ∙ ap (λ n. over (n * 15) (λ t z. settled contents (without_frame z t) t) (record s { queue = c.clear.new.self })) c.clear_loose.ensures.fixed.1

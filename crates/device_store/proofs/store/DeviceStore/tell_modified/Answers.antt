@@ -14,11 +14,11 @@ returns-then-not-at g c = record { run = λ k. rw (← c.at.ensures.value, not_t
 pub returns-then-modified : goal.returns-then-modified
 returns-then-modified g c =
     let is : is_modified contents (frame_at (state_of c.args.self.now) c.args.t) ≡ true =
-        sym (modified_is (frame_at (state_of c.args.self.now) c.args.t)) ∙ sym c.modified.ensures ∙ c.if-modified.true in
+    sym (modified_is (frame_at (state_of c.args.self.now) c.args.t)) ∙ sym c.modified.ensures ∙ c.if-modified.true in
     record { run = λ k. rw (← c.at.ensures.value, not_false_true _ c.if-not-at.false, is) (asks c.set_modified.ensures done) }
 
 pub returns-else-modified : goal.returns-else-modified
 returns-else-modified g c =
     let is : is_modified contents (frame_at (state_of c.args.self.now) c.args.t) ≡ false =
-        sym (modified_is (frame_at (state_of c.args.self.now) c.args.t)) ∙ sym c.modified.ensures ∙ c.if-modified.false in
+    sym (modified_is (frame_at (state_of c.args.self.now) c.args.t)) ∙ sym c.modified.ensures ∙ c.if-modified.false in
     record { run = λ k. rw (← c.at.ensures.value, not_false_true _ c.if-not-at.false, is) done }

@@ -16,8 +16,7 @@ none marks e = count_none 960 (is_marked marks) (λ t. rw e (empty_places 960 t 
 pub invariant_of-self : goal.invariant_of-self
 invariant_of-self c =
     let i = c.self.invariant in
-    let no_more = none c.new-self-inside.result c.new-self-inside.ensures in
-    (
+    let no_more = none c.new-self-inside.result c.new-self-inside.ensures in (
       i.0,
       ap length c.new-self-inside.ensures ∙ length-replicate 960 false,
       λ t behind. rw c.new-self-inside.ensures (empty_places 960 t false),

@@ -27,8 +27,7 @@ invariant_of-self c =
     let marks = c.self.inside.marks in
     let there : c.args.t < n = omega (arith, c.requires.track, ap (λ v. length v.loose) (sym c.self.view_is), length-take n marks) in
     let is : is_marked marks c.args.t ≡ true = front_mark marks n c.args.t i.2 ∙ ap (λ v. is_loose_in v.loose c.args.t) c.self.view_is ∙ c.requires.loose in
-    let less = count_one_less 960 (is_marked marks) (is_marked c.set.new.self) c.args.t c.set.ensures.each (omega (arith, there, i.0)) is in
-    (
+    let less = count_one_less 960 (is_marked marks) (is_marked c.set.new.self) c.args.t c.set.ensures.each (omega (arith, there, i.0)) is in (
       i.0,
       ap length c.set.ensures.marks ∙ length-set marks c.args.t false ∙ i.1,
       none_behind marks c.set.new.self n c.args.t false there i.2 c.set.ensures.each,

@@ -18,7 +18,7 @@ push_reserved-requires c =
     let i = c.self.invariant in
     let is = least_is c.self.inside.marks c.self.inside.tracks i.0 i.1 i.2 in
     let some : is_some (least 960 (is_marked c.self.inside.marks)) ≡ true =
-        ap is_some (sym is) ∙ ap (λ v. is_some (least (length v.loose) (is_loose_in v.loose))) c.self.view_is ∙ c.requires in
+    ap is_some (sym is) ∙ ap (λ v. is_some (least (length v.loose) (is_loose_in v.loose))) c.self.view_is ∙ c.requires in
     let one = some_counted 960 (is_marked c.self.inside.marks) some in
     omega (arith, one, i.3)
 
@@ -27,10 +27,9 @@ invariant_of-self c =
     let i = c.self.invariant in
     let is = least_is c.self.inside.marks c.self.inside.tracks i.0 i.1 i.2 in
     let some : is_some (least 960 (is_marked c.self.inside.marks)) ≡ true =
-        ap is_some (sym is) ∙ ap (λ v. is_some (least (length v.loose) (is_loose_in v.loose))) c.self.view_is ∙ c.requires in
+    ap is_some (sym is) ∙ ap (λ v. is_some (least (length v.loose) (is_loose_in v.loose))) c.self.view_is ∙ c.requires in
     let one = some_counted 960 (is_marked c.self.inside.marks) some in
-    let no_more = none c.new-self-inside.result c.new-self-inside.ensures in
-    (
+    let no_more = none c.new-self-inside.result c.new-self-inside.ensures in (
       i.0,
       ap length c.new-self-inside.ensures ∙ length-replicate 960 false,
       λ t behind. rw c.new-self-inside.ensures (empty_places 960 t false),
@@ -49,7 +48,7 @@ returns-clause-weight c =
     let i = c.self.invariant in
     let is = least_is c.self.inside.marks c.self.inside.tracks i.0 i.1 i.2 in
     let some : is_some (least 960 (is_marked c.self.inside.marks)) ≡ true =
-        ap is_some (sym is) ∙ ap (λ v. is_some (least (length v.loose) (is_loose_in v.loose))) c.self.view_is ∙ c.requires in
+    ap is_some (sym is) ∙ ap (λ v. is_some (least (length v.loose) (is_loose_in v.loose))) c.self.view_is ∙ c.requires in
     let one = some_counted 960 (is_marked c.self.inside.marks) some in
     let no_more = none c.new-self-inside.result c.new-self-inside.ensures in
     let was = count_is c.self.inside.marks c.self.inside.tracks i.2 c.args.self.now.loose (ap (λ v. v.loose) c.self.view_is) in

@@ -10,8 +10,7 @@ use Rattle.event_notes.proofs.loose.LooseTracks.new.Goals as goal
 pub invariant_of-result : goal.invariant_of-result
 invariant_of-result c =
     let tracks : c.from.result * c.from-2.result ≡ c.args.cylinders * 15 = rw (c.from.ensures, c.from-2.ensures) refl in
-    let none : count_below 960 (is_marked c.new.result) ≡ 0 = count_none 960 (is_marked c.new.result) (λ t. rw c.new.ensures (empty_places 960 t false)) in
-    (
+    let none : count_below 960 (is_marked c.new.result) ≡ 0 = count_none 960 (is_marked c.new.result) (λ t. rw c.new.ensures (empty_places 960 t false)) in (
       omega (arith, tracks, c.requires),
       ap length c.new.ensures ∙ length-replicate 960 false,
       λ t behind. rw c.new.ensures (empty_places 960 t false),
