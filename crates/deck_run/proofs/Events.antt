@@ -19,6 +19,7 @@ use Rattle.device_outside.specs.Pool.{counted_slots}
 use Rattle.device_outside.specs.Pool as pools
 use Rattle.device_defs.specs.declared.answers.StartFault.{StartFault}
 use Rattle.device_defs.specs.declared.answers.Stepped as defs
+use Rattle.device_defs.specs.declared.counts.Counts.{Counts}
 use Rattle.device_defs.specs.Command.{command}
 use Rattle.device_defs.specs.Contents.{contents}
 use Rattle.device_defs.specs.Cutting.{reset}
@@ -68,8 +69,13 @@ use Rattle.subsystem_laws.specs.Comes.{subsystem_of, IsWhatCame}
 use Rattle.subsystem_laws.proofs.Happens.{event_so}
 use Rattle.deck_run.specs.Owning.{GivesAll, PlansGive, IsOwn, AreOwn, ChainsStand, IsOpenOn}
 use Rattle.deck_run.specs.Standing.{StandsAs, stood_of, all_stood}
-use Rattle.deck_run.proofs.Found.{devices_stood, stood_found, put_stood, again, own_put, own_at, chains_are}
-use Rattle.deck_run.proofs.Stays.{Answers, HasOf, Stays, command_stays, reset_stays}
+use Rattle.deck_run.specs.Counting.{more_calls}
+use Rattle.deck_run.specs.Recording.{IsTold}
+use Rattle.deck_run.proofs.Found.{devices_stood, stood_found, put_same, put_stood, again, own_put, own_at, chains_are}
+use Rattle.deck_run.proofs.RunCounts.{event_counted}
+use Rattle.deck_run.proofs.Telling.{AreKnown, all_known, known_at, one_tells, running_known}
+use Rattle.deck_run.proofs.Actless.{started_none}
+use Rattle.deck_run.proofs.Stays.{Answers, HasOf, IsBare, Stays, command_stays, reset_stays}
 use Rattle.deck_run.proofs.Surely.{Surely, s_done, s_then, ran_so}
 
 some_same : {X : Type 0} {x y : X} → Some x ≡ Some y → x ≡ y
@@ -96,6 +102,7 @@ own_of : (ccws : List Ccw) (fixed : Fixed) (d y : DefinedDevice) → fixed.geome
 own_of ccws fixed d y on gives plans stays = record {
   plans = subst PlansGive (sym stays.plans_are) plans;
   chain = own_chain ccws fixed y.store.geometry y.chain (on ∙ sym stays.is.0) gives stays.chain;
+  acts = stays.acts;
 }
 
 abbrev Leaves : Talk (Option ends.EventEnd) → Type 0
@@ -106,36 +113,50 @@ answers_end None h = h
 answers_end (Some s) h = tt
 
 step_leaves : (d : DefinedDevice) (o : OpenEntry) (chain : ChainState) → d.history.running ≡ Some o → d.chain ≡ Some chain → d.store.paired ≡ false →
-    IsOwn d → Leaves (may_end_by answers.Stepped (command contents d))
-step_leaves d o chain running at single own =
+    IsBare d.store → IsOwn d → Leaves (may_end_by answers.Stepped (command contents d))
+step_leaves d o chain running at single bare own =
     let mine : (chain.fixed.geometry ≡ d.store.geometry) × GivesAll chain.ccws =
     subst (λ (x : Option ChainState). IfSome x (λ (c : ChainState). (c.fixed.geometry ≡ d.store.geometry) × GivesAll c.ccws)) at own.chain in
     let stays : Stays contents d.store.geometry d.store.cylinders chain.ccws chain.fixed d.plans d =
-    record { is = (refl, (refl, single)); plans_are = refl; chain = subst (HasOf chain.ccws chain.fixed) (sym at) (refl, refl) } in
+    record {
+      is = (refl, (refl, (single, bare)));
+      plans_are = refl;
+      chain = subst (HasOf chain.ccws chain.fixed) (sym at) (refl, refl);
+      acts = own.acts;
+    } in
     s_then
     (command_stays contents d.store.geometry d.store.cylinders chain.ccws chain.fixed d.plans d (subst Answers (sym running) tt)
     (subst Answers (sym at) tt) stays)
     (λ y a l. s_done (own_of chain.ccws chain.fixed d y mine.0 mine.1 own.plans l.0, answers_end a l.1))
 
-reset_by : (d : DefinedDevice) (path : ℕ) (o : Option ChainState) → d.chain ≡ o → d.store.paired ≡ false → IsOwn d →
+reset_by : (d : DefinedDevice) (path : ℕ) (o : Option ChainState) → d.chain ≡ o → d.store.paired ≡ false → IsBare d.store → IsOwn d →
     Leaves (ends_by ends_done (reset contents d path))
-reset_by d path None at single own =
+reset_by d path None at single bare own =
     let fixed : Fixed = record { geometry = d.store.geometry; cylinders = d.store.cylinders; number = 0 } in
     s_then
     (reset_stays contents d.store.geometry d.store.cylinders [] fixed d.plans d path
-    (record { is = (refl, (refl, single)); plans_are = refl; chain = subst (HasOf [] fixed) (sym at) tt }))
+    (record { is = (refl, (refl, (single, bare))); plans_are = refl; chain = subst (HasOf [] fixed) (sym at) tt; acts = own.acts }))
     (λ y a l. s_done (own_of [] fixed d y refl (λ i k m h. absurd (omega (arith, h))) own.plans l, tt))
-reset_by d path (Some chain) at single own =
+reset_by d path (Some chain) at single bare own =
     let mine : (chain.fixed.geometry ≡ d.store.geometry) × GivesAll chain.ccws =
     subst (λ (x : Option ChainState). IfSome x (λ (c : ChainState). (c.fixed.geometry ≡ d.store.geometry) × GivesAll c.ccws)) at own.chain in
     s_then
     (reset_stays contents d.store.geometry d.store.cylinders chain.ccws chain.fixed d.plans d path
-    (record { is = (refl, (refl, single)); plans_are = refl; chain = subst (HasOf chain.ccws chain.fixed) (sym at) (refl, refl) }))
+    (record {
+      is = (refl, (refl, (single, bare)));
+      plans_are = refl;
+      chain = subst (HasOf chain.ccws chain.fixed) (sym at) (refl, refl);
+      acts = own.acts;
+    }))
     (λ y a l. s_done (own_of chain.ccws chain.fixed d y mine.0 mine.1 own.plans l, tt))
 
 start_own : (d : DefinedDevice) (path : ℕ) → 1 ≤ path → path ≤ 4 → IsOwn d → IsOwn (start d path)
 unfolding starting.start
-start_own d path least most own = record { plans = own.plans; chain = (refl, own.plans path (started_count d.history path + 1) least most) }
+start_own d path least most own = record {
+  plans = own.plans;
+  chain = (refl, own.plans path (started_count d.history path + 1) least most);
+  acts = started_none d.history path (started_count d.history path + 1) own.acts;
+}
 
 start_number : (d : DefinedDevice) (path : ℕ) → (start d path).store.device ≡ d.store.device
 unfolding starting.start
@@ -186,7 +207,11 @@ module _ {V : Type 0} {G : Ghosts V} where
       (λ _. tt)
   good_step n x (Some r) at is own =
       cond_both (is_some (device_of x).history.running) (Asks (device_of x) (may_end_by answers.Stepped (command contents (device_of x)))) (Ends answers.Idle)
-      (Good n) (λ _. (is, step_leaves (device_of x) (open_of r) (chain_of r) (ap (option_map open_of) at) (ap (option_map chain_of) at) refl own)) (λ _. tt)
+      (Good n) (λ _. (
+        is,
+        step_leaves (device_of x) (open_of r) (chain_of r) (ap (option_map open_of) at) (ap (option_map chain_of) at) refl
+            (refl, (refl, refl)) own,
+      )) (λ _. tt)
 
   good : (n : ℕ) (x : Device V G) (xs : List (Device V G)) (pool : pools.Pool) (e : Event) → device_at xs n ≡ Some x → IsOwn (device_of x) → IsOpenOn n e →
       Good n (deed contents pool (devices_of xs) e)
@@ -202,7 +227,7 @@ module _ {V : Type 0} {G : Ghosts V} where
   good n x xs pool (events.Reset path d) at own on =
       let here = found_in xs d x (ap (device_at xs) on ∙ at) in
       subst (λ (o : Option DefinedDevice). Good n (on_device o (λ y. Asks y (ends_by ends_done (reset contents y path))))) (sym here)
-      (number_found xs n x at, reset_by (device_of x) path (device_of x).chain refl refl own)
+      (number_found xs n x at, reset_by (device_of x) path (device_of x).chain refl refl (refl, (refl, refl)) own)
   good n x xs pool events.Power at own on = absurd on
   good n x xs pool (events.Back d) at own on = absurd on
   good n x xs pool events.FailCache at own on = absurd on
@@ -219,6 +244,7 @@ module _ {V : Type 0} {G : Ghosts V} where
   pub record Told (d : OwnDeed) (n : ℕ) (old new : Subsystem V G) (a : EventEnd) : Type 0 where
     pub behind : Device V G
     pub stands : device_at new.devices.items n ≡ Some behind
+    pub put : new.devices.items ≡ put_at old.devices.items n behind
     pub end : ends.EventEnd
     pub seen : end_seen behind.past a ≡ Some end
     pub comes : laws.CameBy hears d old.pool.pool (all_stood old.devices.items) end new.pool.pool (all_stood new.devices.items)
@@ -235,6 +261,7 @@ module _ {V : Type 0} {G : Ghosts V} where
     told (Ends end) good came = record {
       behind = x;
       stands = ap (λ (l : List (Device V G)). device_at l n) came.1.1 ∙ at;
+      put = came.1.1 ∙ sym (put_same old.devices.items n x at);
       end = end;
       seen = came.0 x.past;
       comes = (refl, ap (λ s. s.pool) came.1.0, ap all_stood came.1.1);
@@ -246,6 +273,7 @@ module _ {V : Type 0} {G : Ghosts V} where
         record {
           behind = ch.behind;
           stands = put_there ch.behind ch.stands;
+          put = ch.stands;
           end = end;
           seen = came.0 ch.behind.past;
           comes = (
@@ -272,6 +300,7 @@ module _ {V : Type 0} {G : Ghosts V} where
         record {
           behind = ch.behind;
           stands = put_there ch.behind ch.stands;
+          put = ch.stands;
           end = e.end;
           seen = e.is;
           comes = subst (λ (m : ℕ). laws.Changes m (λ u v. laws.Asked hears talk (Some e.end) old.pool.pool u v new.pool.pool) (all_stood old.devices.items)
@@ -351,6 +380,30 @@ module _ {V : Type 0} {G : Ghosts V} where
         let h = event_happens e n old new a run so own stand all in
         (h.0 ∙ some_same (sym (end_is y at) ∙ seen), h.1)
 
+    -- what the event tells
+    pub told_so : (run : runs.Subsystem) → ChainsStand old.devices.items → StandsAs old run → IsTold old new e n run
+    told_so run stand all x y at now =
+        let h = event_happens e n old new a run so own stand all in
+        let ks = (happens run e).behind.mounted in
+        let before = all_known (all_stood old.devices.items) run.mounted all.mounted in
+        let behind = all_known (all_stood new.devices.items) ks h.1.mounted in
+        let put : new.devices.items ≡ put_at old.devices.items n y =
+        so.put ∙ ap (λ (z : Device V G). put_at old.devices.items n z) (some_same (sym so.stands ∙ now)) in
+        let was = known_at old.devices.items run.mounted n x before at in
+        let is = known_at new.devices.items ks n y behind now in
+        let counted = event_counted run n was.mounted was.there was.is.shut was.is.single e on in
+        let mine : is.mounted ≡ counted.mounted = some_same (sym is.there ∙ counted.there) in
+        record {
+          running = running_known old.devices.items run.mounted n x before at;
+          lines = λ happened.
+              one_tells n x y old.devices.items run.mounted ks happened (happens run e).reads (happens run e).writes before own at
+              (subst (λ (l : List (Device V G)). AreKnown (all_stood l) ks) put behind) (subst AreOwn put so.own);
+          reads = ap (λ (k : Counts). k.reads) (sym is.is.counts) ∙ ap (λ (m : runs.Mounted). m.device.store.counts.reads) mine ∙ counted.reads
+              ∙ ap (λ (k : Counts). more_calls (happens run e).reads k.reads) was.is.counts;
+          writes = ap (λ (k : Counts). k.writes) (sym is.is.counts) ∙ ap (λ (m : runs.Mounted). m.device.store.counts.writes) mine ∙ counted.writes
+              ∙ ap (λ (k : Counts). more_calls (happens run e).writes k.writes) was.is.counts;
+        }
+
 may_by : (ns : List ℕ) (n m : ℕ) → m ≡ n → is_in n ns ≡ true → is_in m ns ≡ true
 may_by ns n m is here = ap (λ (k : ℕ). is_in k ns) is ∙ here
 
@@ -376,3 +429,7 @@ all_ok (Err e) p h = tt
 pub where_so : {X E : Type 0} (r : Result X E) (p q : X → Type 0) → ((x : X) → p x → q x) → IfOk r p → IfOk r q
 where_so (Ok x) p q f h = f x h
 where_so (Err e) p q f h = tt
+
+pub ok_so : {X E : Type 0} (r : Result X E) (p q : Type 0) → (p → q) → OnOk r p → OnOk r q
+ok_so (Ok x) p q f h = f h
+ok_so (Err e) p q f h = tt

@@ -86,6 +86,16 @@ module _ {V : Type 0} {G : Ghosts V} where
       put_by (x.store.number == n) (y ∷ xs) (x ∷ put_at xs n y)
       ∙ ap (λ (l : List Stood). if x.store.number == n then stood_of y ∷ all_stood xs else stood_of x ∷ l) (put_stood xs n y)
 
+  same_by : (d : Device V G) (ds : List (Device V G)) (n : ℕ) (x : Device V G) (b : Bool) → (device_at ds n ≡ Some x → put_at ds n x ≡ ds) →
+      (if b then Some d else device_at ds n) ≡ Some x → (if b then x ∷ ds else d ∷ put_at ds n x) ≡ d ∷ ds
+  same_by d ds n x true rest is = ap (λ (y : Device V G). y ∷ ds) (sym (some_same is))
+  same_by d ds n x false rest is = ap (λ (l : List (Device V G)). d ∷ l) (rest is)
+
+  -- in its own place
+  pub put_same : (xs : List (Device V G)) (n : ℕ) (x : Device V G) → device_at xs n ≡ Some x → put_at xs n x ≡ xs
+  put_same [] n x is = refl
+  put_same (d ∷ ds) n x is = same_by d ds n x (d.store.number == n) (put_same ds n x) is
+
   -- the device that was put there is found there
   again_by : (d : Device V G) (ds : List (Device V G)) (n : ℕ) (x y : Device V G) (b : Bool) → (d.store.number == n) ≡ b →
       (device_at ds n ≡ Some x → numbers_of (put_at ds n y) ≡ numbers_of ds → device_at (put_at ds n y) n ≡ Some y) →

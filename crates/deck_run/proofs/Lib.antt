@@ -1,8 +1,17 @@
 pub mod Lines
 pub mod Opened
 pub mod Surely
+pub mod Actless
+pub mod Between
 pub mod Stays
+pub mod Makes
+pub mod Counts
+pub mod RunCounts
+pub mod Telling
 pub mod Found
 pub mod Events
+pub mod Passed
+pub mod Recorded
 pub mod Going
+pub mod Closing
 pub mod LaterSteps

@@ -77,4 +77,4 @@ module _ {V : Type 0} {G : Ghosts V} where
       (mounted_more p (all_stood xs) (map (opened_device deck) ds) (stood_of x) (opened_device deck d) are is))
 
 pub opened_own : (x : DefinedDevice) (n : ℕ) (g : Geometry) (cylinders : ℕ) (plans : Plans) → x ≡ opened_by n g cylinders plans → PlansGive plans → IsOwn x
-opened_own x n g cylinders plans is gives = subst IsOwn (sym is) (record { plans = gives; chain = tt })
+opened_own x n g cylinders plans is gives = subst IsOwn (sym is) (record { plans = gives; chain = tt; acts = (refl, refl) })

@@ -1,7 +1,7 @@
 -- A command leaves a device its geometry, its cylinders and its plans, and the chain of the program that runs its words and what it goes by;
--- and it answers where memory is had. So does a reset. The device has one side.
-use Rattle.std.proofs.Common.{◌≡◌, ◌&&◌, ◌+◌, ℕ, zero, suc, Bool, true, false, List, Option, Some, None, is_some}
-use Rattle.std.specs.Prelude.{if◌then◌else◌, nat_le, nat_lt, ◌==◌, length}
+-- and it answers where memory is had. So does a reset. The device has one side, and no place for a frame; so no act comes to its history.
+use Rattle.std.proofs.Common.{◌≡◌, ◌∙◌, ◌&&◌, ◌+◌, ◌++◌, [], ◌∷◌, ℕ, zero, suc, Bool, true, false, List, Option, Some, None, is_some, refl, sym, ap, subst}
+use Rattle.std.specs.Prelude.{if◌then◌else◌, nat_le, nat_lt, ◌==◌, length, slice_index_or, slice_set}
 use Rattle.std.proofs.lemmas.Bool.{cond_both}
 use Rattle.ckd_types.specs.declared.channel.Ccw.{Ccw}
 use Rattle.ckd_types.specs.declared.channel.CommandEnd.{CommandEnd}
@@ -23,13 +23,12 @@ use Rattle.ckd_rules.specs.declared.turned.Turned.{Turned}
 use Rattle.ckd_rules.specs.declared.turned.Turned.TheVariants as turns
 use Rattle.ckd_rules.specs.Look.{look_on}
 use Rattle.ckd_rules.specs.Looked.{Looked}
-use Rattle.plain_defs.specs.History.{OpenEntry, has_used}
+use Rattle.plain_defs.specs.declared.journal.Act.{Act}
+use Rattle.plain_defs.specs.History.{History, OpenEntry, has_used}
 use Rattle.plain_defs.specs.Journal.{Plans}
 use Rattle.ckd_types.specs.Parameters.{is_bypass}
 use Rattle.track_image.specs.Image.{Image, edited_image}
 use Rattle.device_outside.specs.Interaction.{Interaction}
-use Rattle.device_outside.specs.declared.port.SlotGrant.{SlotGrant}
-use Rattle.device_outside.specs.declared.port.SlotGrant.TheVariants as grants
 use Rattle.device_defs.specs.declared.answers.Came.{Came}
 use Rattle.device_defs.specs.declared.answers.Came.TheVariants.{Ends, Checks, HalfOpen}
 use Rattle.device_defs.specs.declared.answers.Took.{Took}
@@ -38,7 +37,7 @@ use Rattle.device_defs.specs.declared.usage.Usage.{Usage}
 use Rattle.device_defs.specs.declared.answers.Choice.{Choice}
 use Rattle.device_defs.specs.declared.answers.Choice.TheVariants as choices
 use Rattle.device_defs.specs.Choosing as choosing
-use Rattle.device_defs.specs.Choosing.{choose, slot_by, fast_by, fast_or_through, choose_loose, choose_firm, may_be_fast, provisionally_written}
+use Rattle.device_defs.specs.Choosing.{choose, fast_or_through, choose_firm, may_be_fast}
 use Rattle.device_defs.specs.Command as commands
 use Rattle.device_defs.specs.Command.{
   Went,
@@ -63,9 +62,9 @@ use Rattle.device_defs.specs.Command.{
 use Rattle.device_defs.specs.Contents.{Contents}
 use Rattle.device_defs.specs.Cutting as cutting
 use Rattle.device_defs.specs.Cutting.{origin_cut, half_cut, reset_by, path_cut, reset}
-use Rattle.device_defs.specs.Effects.{with_edit, loosened, hardened}
+use Rattle.device_defs.specs.Effects.{with_edit, hardened}
 use Rattle.plain_device.specs.Acted.{settled_act, paths_behind}
-use Rattle.device_defs.specs.Device.{Device, event_ended, event_begun, with_store}
+use Rattle.device_defs.specs.Device.{Device, all_acted, event_ended, event_begun, with_store}
 use Rattle.device_defs.specs.Editing as editing
 use Rattle.device_defs.specs.Editing.{effect, whole, at_once, through_by, through, write_by, written, is_given, unchosen, write_chosen, write}
 use Rattle.device_defs.specs.Image as images
@@ -96,9 +95,9 @@ use Rattle.device_defs.specs.Image.{
   image,
 }
 use Rattle.device_defs.specs.Losses as losses
-use Rattle.device_defs.specs.Losses.{settled, by_frame, gives_up, kept_by_frame, stale_everywhere, call_failed}
+use Rattle.device_defs.specs.Losses.{settled, by_frame, gives_up, stale_everywhere, call_failed}
 use Rattle.device_defs.specs.Memory.{had_by}
-use Rattle.device_defs.specs.Outcomes.{Turn, ends_with, settles, checks, wrote_turn, usage_of, turned_by, gone_on}
+use Rattle.device_defs.specs.Outcomes.{Turn, ends_with, settles, checks, wrote_turn, usage_of, turned_by}
 use Rattle.device_defs.specs.Owed as owed
 use Rattle.device_defs.specs.Owed.{
   is_owed,
@@ -156,10 +155,16 @@ use Rattle.device_defs.specs.Writing.{
   write_done,
   opened as half_open,
 }
+use Rattle.deck_run.specs.Owning.{NoActs}
+use Rattle.deck_run.proofs.Actless.{checked_none, ended_none, reset_none}
 use Rattle.deck_run.proofs.Surely.{Surely, s_done, s_try, s_ask, s_read, s_write, s_firm, s_before, s_if, s_then}
 
 clash : (b : Bool) → b ≡ true → b ≡ false → ⊥
 clash b x y = absurd (cc)
+
+and_right : (a b : Bool) → (a && b) ≡ true → b ≡ true
+and_right true b is = is
+and_right false b is = absurd (cc)
 
 -- Chains
 
@@ -218,11 +223,35 @@ abbrev pub Answers : {X : Type 0} → Option X → Type 0
 Answers None = ⊥
 Answers (Some x) = Unit {0}
 
+abbrev GoesThrough : Choice → Type 0
+GoesThrough choices.Through = Unit {0}
+GoesThrough _ = ⊥
+
 -- Stores
+
+module _ {F P H : Type 0} where
+  -- no track has a place for a frame, or for what is loose, and no act came
+  abbrev pub IsBare : Store F P H → Type 0
+  IsBare s = (s.frames ≡ []) × ((s.loose ≡ []) × (s.acts ≡ []))
 
 module _ {F P H R : Type 0} (c : Contents F P H R) (g : Geometry) (n : ℕ) where
   abbrev pub Is : Store F P H → Type 0
-  Is s = (s.geometry ≡ g) × ((s.cylinders ≡ n) × (s.paired ≡ false))
+  Is s = (s.geometry ≡ g) × ((s.cylinders ≡ n) × ((s.paired ≡ false) × IsBare s))
+
+  framed : (s : Store F P H) (t : ℕ) (f : Option F) → Is s → Is (with_frame s t f)
+  framed s t f k = (k.0, (k.1.0, (k.1.1.0, (ap (λ (l : List (Option F)). slice_set l t f) k.1.1.1.0, k.1.1.1.1))))
+
+  no_frame : (s : Store F P H) (t : ℕ) → Is s → frame_at s t ≡ None
+  no_frame s t k = ap (λ (l : List (Option F)). slice_index_or l t None) k.1.1.1.0
+
+  never_loose : (s : Store F P H) (t : ℕ) → Is s → is_loose s t ≡ false
+  never_loose s t k = ap (λ (l : List Bool). slice_index_or l t false) k.1.1.1.1.0
+
+  never_clean : (s : Store F P H) (t : ℕ) → Is s → is_clean c (frame_at s t) ≡ false
+  never_clean s t k = ap (λ (o : Option F). is_clean c o) (no_frame s t k)
+
+  never_framed : (s : Store F P H) (t : ℕ) → Is s → is_some (frame_at s t) ≡ false
+  never_framed s t k = ap (λ (o : Option F). is_some o) (no_frame s t k)
 
   abbrev Keeps : {X : Type 0} → Interaction R Image (Store F P H) X → Type 0
   Keeps i = Surely i (λ s a. Is s)
@@ -237,24 +266,25 @@ module _ {F P H R : Type 0} (c : Contents F P H R) (g : Geometry) (n : ℕ) wher
   gives_is s t None k = k
   gives_is s t (Some slot) k = k
 
-  framed_is : (s : Store F P H) (t : ℕ) (o : Option F) → Is s → Is (by_frame c s t o)
-  framed_is s t (Some f) k =
-      either (is_loose s t) _ _ k (either (c.modified f) s _ k k)
-  framed_is s t None k = either (half_is s.half t) s _ k (gives_is _ t (losses.slot_in c (patch_at s t)) k)
+  unframed_is : (s : Store F P H) (t : ℕ) → Is s → Is (by_frame c s t None)
+  unframed_is s t k = either (half_is s.half t) s _ k (gives_is _ t (losses.slot_in c (patch_at s t)) k)
+
+  framed_is : (s : Store F P H) (t : ℕ) → Is s → Is (by_frame c s t (frame_at s t))
+  framed_is s t k = subst (λ (o : Option F). Is (by_frame c s t o)) (sym (no_frame s t k)) (unframed_is s t k)
 
   settled_is : (s : Store F P H) (t : ℕ) → Is s → Is (settled c s t)
   unfolding losses.settled
   settled_is s t k =
-      either (is_some s.lent) s _ k (either (is_lost s t) s _ k (either (has_level s t) s _ k (framed_is s t (frame_at s t) k)))
+      either (is_some s.lent) s _ k (either (is_lost s t) s _ k (either (has_level s t) s _ k (framed_is s t k)))
 
   failed : (s : Store F P H) (side : Side) (o : Option ℕ) → Is s → Keeps (call_failed c s side o)
-  failed s side o k = s_if s.paired (λ e. absurd (clash s.paired e k.1.1)) (λ e. s_done k)
+  failed s side o k = s_if s.paired (λ e. absurd (clash s.paired e k.1.1.0)) (λ e. s_done k)
 
   -- Notices, and what the port is told
 
   mutual_heard : (m : ℕ) (s : Store F P H) (o : Option ℕ) → ((z : Store F P H) → Is z → Keeps (hear c m z)) → Is s → Keeps (heard c (hear c m) s o)
   mutual_heard m s None f k = s_done k
-  mutual_heard m s (Some t) f k = f _ (either (owed.is_clean c (frame_at s t)) _ s k k)
+  mutual_heard m s (Some t) f k = f _ (either (owed.is_clean c (frame_at s t)) _ s (framed s t None k) k)
 
   hears : (m : ℕ) (s : Store F P H) → Is s → Keeps (hear c m s)
   unfolding owed.hear
@@ -314,7 +344,8 @@ module _ {F P H R : Type 0} (c : Contents F P H R) (g : Geometry) (n : ℕ) wher
   ahead_is u s t k = either (is_sequential u.mode) _ s (queued_is u.last (queued u.last s (t + 1)) (t + 2) (queued_is u.last s (t + 1) k)) k
 
   fills : (s : Store F P H) (t : ℕ) (i : Image) → Is s → Keeps (filled c s t i)
-  fills s t i k = s_if (is_some (patch_at s t)) (λ _. s_ask (λ _. s_done k)) (λ _. s_done k)
+  fills s t i k =
+      s_if (is_some (patch_at s t)) (λ _. s_ask (λ _. s_done (framed s t (Some (c.frame i true)) k))) (λ _. s_done (framed s t (Some (c.frame i false)) k))
 
   granted_had : (s : Store F P H) (t : ℕ) (i : Image) (given : Bool) → Is s → Had (granted c s t i given)
   granted_had s t i given k = s_if given (λ _. s_then (fills s t i k) (λ z _ l. s_done (l, tt))) (λ _. s_done (k, tt))
@@ -336,7 +367,7 @@ module _ {F P H R : Type 0} (c : Contents F P H R) (g : Geometry) (n : ℕ) wher
   clean_had : (s : Store F P H) (u : Usage) (t : ℕ) (f : F) → Is s → Had (clean_image c s u t f)
   clean_had s u t f k =
       s_if (is_bypass u.mode) (λ _. misses s u t k)
-      (λ _. s_ask (λ listed. s_if listed (λ _. s_done (k, tt)) (λ _. misses (with_frame s t None) u t k)))
+      (λ _. s_ask (λ listed. s_if listed (λ _. s_done (k, tt)) (λ _. misses (with_frame s t None) u t (framed s t None k))))
 
   image_had : (s : Store F P H) (u : Usage) (t : ℕ) (o : Option F) → Is s → Had (image_by c s u t o)
   image_had s u t None k = misses s u t k
@@ -349,34 +380,26 @@ module _ {F P H R : Type 0} (c : Contents F P H R) (g : Geometry) (n : ℕ) wher
 
   -- Writes
 
-  slots : (s : Store F P H) (t : ℕ) (o : SlotGrant) → Is s → Keeps (slot_by c s t o)
-  slots s t (grants.Given slot) k = s_ask (λ listed. s_if listed (λ _. s_done k) (λ _. s_ask (λ _. s_done k)))
-  slots s t grants.Denied k = s_done k
-  slots s t grants.Down k = s_done k
+  abbrev Chooses : Interaction R Image (Store F P H) Choice → Type 0
+  Chooses i = Surely i (λ s choice. Is s × GoesThrough choice)
 
-  fasts : (s : Store F P H) (t : ℕ) (patched : Bool) → Is s → Keeps (fast_by c s t patched)
-  fasts s t patched k = s_if patched (λ _. s_ask (λ _. s_done k)) (λ _. s_ask (λ a. slots s t a k))
+  fast : (s : Store F P H) (u : Usage) (t : ℕ) → Is s → Chooses (fast_or_through c s u t)
+  fast s u t k = s_if (may_be_fast c s u t) (λ e. absurd (clash _ (and_right _ _ e) (never_framed s t k))) (λ _. s_done (k, tt))
 
-  fast : (s : Store F P H) (u : Usage) (t : ℕ) → Is s → Keeps (fast_or_through c s u t)
-  fast s u t k = s_if (may_be_fast c s u t) (λ _. fasts s t (is_some (patch_at s t)) k) (λ _. s_done k)
-
-  loose_chosen : (s : Store F P H) (u : Usage) (t : ℕ) → Is s → Keeps (choose_loose c s u t)
-  loose_chosen s u t k = s_if u.provisional (λ _. s_ask (λ _. s_done k)) (λ _. s_done k)
-
-  firm_chosen : (s : Store F P H) (u : Usage) (t : ℕ) → Is s → Keeps (choose_firm c s u t)
+  firm_chosen : (s : Store F P H) (u : Usage) (t : ℕ) → Is s → Chooses (choose_firm c s u t)
   firm_chosen s u t k =
-      s_if (u.provisional && is_clean c (frame_at s t)) (λ _. s_ask (λ listed. s_if listed (λ _. s_done k) (λ _. fast s u t k))) (λ _. fast s u t k)
+      s_if (u.provisional && is_clean c (frame_at s t)) (λ e. absurd (clash _ (and_right _ _ e) (never_clean s t k))) (λ _. fast s u t k)
 
-  chosen : (s : Store F P H) (u : Usage) (t : ℕ) → Is s → Keeps (choose c s u t)
+  chosen : (s : Store F P H) (u : Usage) (t : ℕ) → Is s → Chooses (choose c s u t)
   unfolding choosing.choose
   chosen s u t k =
-      s_if (is_loose s t) (λ _. loose_chosen s u t k) (λ _. firm_chosen s u t k)
+      s_if (is_loose s t) (λ e. absurd (clash _ e (never_loose s t k))) (λ _. firm_chosen s u t k)
 
   everywhere : (s : Store F P H) (t : ℕ) → Is s → Is (stale_everywhere s t)
   everywhere s t k = either s.paired _ _ k k
 
   first_firm : (s : Store F P H) (t : ℕ) → Is s → Keeps (firm_first c s t)
-  first_firm s t k = s_if (is_loose s t) (λ _. s_firm (s_done (everywhere (hardened s t) t k))) (λ _. s_done k)
+  first_firm s t k = s_if (is_loose s t) (λ e. absurd (clash _ e (never_loose s t k))) (λ _. s_done k)
 
   undone : (s : Store F P H) (t : ℕ) → Is s → Is (unwritten c s t)
   undone s t k = settled_is (if s.paired then s else with_stale s A t true) t (either s.paired s (with_stale s A t true) k k)
@@ -415,7 +438,7 @@ module _ {F P H R : Type 0} (c : Contents F P H R) (g : Geometry) (n : ℕ) wher
   unfolding writing.write_done
   dones s t i bypass k =
       s_if (is_some (frame_at s t))
-      (λ _. s_if bypass (λ _. s_ask (λ _. unpatches (with_frame s t None) t k)) (λ _. s_ask (λ _. unpatches (with_frame s t (Some (c.frame i false))) t k)))
+      (λ e. absurd (clash _ e (never_framed s t k)))
       (λ _. unpatches s t k)
 
   wholes : (s : Store F P H) (t : ℕ) (i : Image) (e : Edit) (bypass : Bool) → Is s → Keeps (whole c s t i e bypass)
@@ -426,7 +449,7 @@ module _ {F P H R : Type 0} (c : Contents F P H R) (g : Geometry) (n : ℕ) wher
       s_then (seconds s t (c.bytes i) k) (λ z _ l. s_if (has_level z t) (λ _. wholes z t i e bypass l) (λ _. s_done (settled_is z t l)))
 
   half_opens : (s : Store F P H) (t : ℕ) (i : Image) (origin : Origin) (was : Bool) → Is s → Keeps (half_open c s t i origin was)
-  half_opens s t i origin was k = s_if was (λ _. s_ask (λ _. s_done k)) (λ _. s_done k)
+  half_opens s t i origin was k = s_if was (λ _. s_ask (λ _. s_done (framed s t (writing.cleaned c (frame_at s t)) k))) (λ _. s_done k)
 
   throughs_by : (t : ℕ) (i : Image) (e : Edit) (bypass opens was : Bool) (s : Store F P H) (took : Took) → Is s →
       Keeps (through_by c t i e bypass opens was s took)
@@ -442,21 +465,24 @@ module _ {F P H R : Type 0} (c : Contents F P H R) (g : Geometry) (n : ℕ) wher
       s_then (first_firm s t k)
       (λ z was l. s_then (firsts z t (c.bytes i) l) (λ y w m. throughs_by t i e bypass opens was y w.took m))
 
-  writes_by : (u : Usage) (first t : ℕ) (i : Image) (e : Edit) (s : Store F P H) (choice : Choice) → Is s → Keeps (write_by c u first t i e s choice)
-  writes_by u first t i e s choices.Provisional k = s_done (either (is_loose s t) s (loosened s t) k k)
-  writes_by u first t i e s (choices.Fast slot) k = s_firm (s_done k)
-  writes_by u first t i e s choices.Through k = throughs s t i e _ _ k
+  writes_by : (u : Usage) (first t : ℕ) (i : Image) (e : Edit) (s : Store F P H) (choice : Choice) → Is s → GoesThrough choice →
+      Keeps (write_by c u first t i e s choice)
+  writes_by u first t i e s choices.Provisional k h = absurd h
+  writes_by u first t i e s (choices.Fast slot) k h = absurd h
+  writes_by u first t i e s choices.Through k h = throughs s t i e _ _ k
 
-  writtens : (u : Usage) (first t : ℕ) (i : Image) (e : Edit) (s : Store F P H) (choice : Choice) → Is s → Had (written c s u first t i e choice)
-  writtens u first t i e s choice k = s_then (writes_by u first t (edited_image e i) e s choice k) (λ z _ l. s_done (l, tt))
+  writtens : (u : Usage) (first t : ℕ) (i : Image) (e : Edit) (s : Store F P H) (choice : Choice) → Is s → GoesThrough choice →
+      Had (written c s u first t i e choice)
+  writtens u first t i e s choice k h = s_then (writes_by u first t (edited_image e i) e s choice k h) (λ z _ l. s_done (l, tt))
 
-  chosen_had : (u : Usage) (first t : ℕ) (i : Image) (e : Edit) (s : Store F P H) (choice : Choice) → Is s → Had (write_chosen c u first t i e s choice)
-  chosen_had u first t i e s choice k =
-      s_if (is_given c s choice) (λ _. s_before (writtens u first t i e s choice k)) (λ _. writtens u first t i e s choice k)
+  chosen_had : (u : Usage) (first t : ℕ) (i : Image) (e : Edit) (s : Store F P H) (choice : Choice) → Is s → GoesThrough choice →
+      Had (write_chosen c u first t i e s choice)
+  chosen_had u first t i e s choice k h =
+      s_if (is_given c s choice) (λ _. s_before (writtens u first t i e s choice k h)) (λ _. writtens u first t i e s choice k h)
 
   writes : (s : Store F P H) (u : Usage) (first t : ℕ) (i : Image) (e : Edit) → Is s → Had (write c s u first t i e)
   unfolding editing.write
-  writes s u first t i e k = s_try (s_then (chosen s u t k) (λ z choice l. chosen_had u first t i e z choice l))
+  writes s u first t i e k = s_try (s_then (chosen s u t k) (λ z choice l. chosen_had u first t i e z choice l.0 l.1))
 
   -- From track to track
 
@@ -511,65 +537,67 @@ module _ {F P H R : Type 0} (c : Contents F P H R) (g : Geometry) (n : ℕ) wher
         pub is : Is d.store
         pub plans_are : d.plans ≡ plans
         pub chain : HasOf ccws fixed d.chain
+        pub acts : NoActs d.history
 
       abbrev Leaves : {X : Type 0} → Interaction R Image (Device F P H) (Option X) → Type 0
       Leaves i = Surely i (λ d a. Stays d × Answers a)
 
-      gone : (d : Device F P H) (chain : ChainState) (e : CommandEnd) → Stays d → IsOf ccws fixed chain → Stays (gone_on d chain e)
-      gone d chain e k of =
-          cond_both e.over _ _ Stays (λ _. record { is = k.is; plans_are = k.plans_are; chain = tt })
-          (λ _. record { is = k.is; plans_are = k.plans_are; chain = of })
-
-      turns_by : (d : Device F P H) (path : ℕ) (chain : ChainState) (came : Came) → Is d.store → d.plans ≡ plans → IsOf ccws fixed chain →
+      turns_by : (d : Device F P H) (path : ℕ) (chain : ChainState) (came : Came) → Is d.store → d.plans ≡ plans → IsOf ccws fixed chain → NoActs d.history →
           Stays (turned_by d path chain came)
-      turns_by d path chain (Ends e) is same of =
-          cond_both e.over _ _ Stays (λ _. record { is = is; plans_are = same; chain = tt }) (λ _. record { is = is; plans_are = same; chain = of })
-      turns_by d path chain (Checks e) is same of = record { is = is; plans_are = same; chain = tt }
-      turns_by d path chain (HalfOpen t) is same of = record { is = is; plans_are = same; chain = of }
+      turns_by d path chain (Ends e) is same of none =
+          cond_both e.over _ _ Stays (λ _. record { is = is; plans_are = same; chain = tt; acts = ended_none d.history e none })
+          (λ _. record { is = is; plans_are = same; chain = of; acts = ended_none d.history e none })
+      turns_by d path chain (Checks e) is same of none = record { is = is; plans_are = same; chain = tt; acts = checked_none d.history e none }
+      turns_by d path chain (HalfOpen t) is same of none = record { is = is; plans_are = same; chain = of; acts = none }
 
-      outs : (d : Device F P H) (path : ℕ) (turn : Turn) → Is d.store → d.plans ≡ plans → IsOf ccws fixed turn.chain → Leaves (came_out c d path turn)
-      outs d path turn is same of = s_done (turns_by d path turn.chain turn.came is same of, tt)
+      outs : (d : Device F P H) (path : ℕ) (turn : Turn) → Is d.store → d.plans ≡ plans → IsOf ccws fixed turn.chain → NoActs d.history →
+          Leaves (came_out c d path turn)
+      outs d path turn is same of none = s_done (turns_by d path turn.chain turn.came is same of none, tt)
+
+      none_acted : (h : History) (acts : List Act) → acts ≡ [] → NoActs h → NoActs (all_acted h acts)
+      none_acted h acts is none = subst (λ (l : List Act). NoActs (all_acted h l)) (sym is) none
 
       tracks : (d : Device F P H) (path : ℕ) (chain : ChainState) (s : Store F P H) (o : Option Turn) → d.plans ≡ plans → Is s → TurnOf ccws fixed o →
-          Leaves (on_tracks c d path chain s o)
-      tracks d path chain s None same is of = absurd of
-      tracks d path chain s (Some turn) same is of = outs (with_store d s) path turn is same of
+          NoActs d.history → Leaves (on_tracks c d path chain s o)
+      tracks d path chain s None same is of none = absurd of
+      tracks d path chain s (Some turn) same is of none = outs (with_store d s) path turn is same of (none_acted d.history s.acts is.1.1.1.1.1 none)
 
-      answers : (d : Device F P H) (path : ℕ) (chain : ChainState) (p : Progress) → Is d.store → d.plans ≡ plans → IsOf ccws fixed chain →
+      answers : (d : Device F P H) (path : ℕ) (chain : ChainState) (p : Progress) → Is d.store → d.plans ≡ plans → IsOf ccws fixed chain → NoActs d.history →
           Leaves (answered_by c d path chain p)
-      answers d path chain (progresses.Ended e) is same of = outs d path (ends_with chain e) is same of
-      answers d path chain (progresses.Local act) is same of =
-          outs (record d { paths = paths_behind d.paths path act }) path (settles chain (settled_act d.store.geometry d.paths path act)) is same of
-      answers d path chain (progresses.Need q) is same of = outs d path (checks chain Equipment) is same of
-      answers d path chain (progresses.Write q e) is same of = outs d path (checks chain Equipment) is same of
+      answers d path chain (progresses.Ended e) is same of none = outs d path (ends_with chain e) is same of none
+      answers d path chain (progresses.Local act) is same of none =
+          outs (record d { paths = paths_behind d.paths path act }) path (settles chain (settled_act d.store.geometry d.paths path act)) is same of none
+      answers d path chain (progresses.Need q) is same of none = outs d path (checks chain Equipment) is same of none
+      answers d path chain (progresses.Write q e) is same of none = outs d path (checks chain Equipment) is same of none
 
-      at_need : (d : Device F P H) (path : ℕ) (chain : ChainState) (o : Option ℕ) → Is d.store → d.plans ≡ plans → IsOf ccws fixed chain →
+      at_need : (d : Device F P H) (path : ℕ) (chain : ChainState) (o : Option ℕ) → Is d.store → d.plans ≡ plans → IsOf ccws fixed chain → NoActs d.history →
           Leaves (command_at c d path chain o)
-      at_need d path chain (Some t) is same of =
-          s_then (follows (tracks_of d.store) t chain t d.store of is) (λ s o l. tracks d path chain s o same l.0 l.1)
-      at_need d path chain None is same of =
-          s_try (answers d path (stepped chain None).chain (stepped chain None).progress is same (stepped_alone ccws fixed chain of))
+      at_need d path chain (Some t) is same of none =
+          s_then (follows (tracks_of d.store) t chain t d.store of is) (λ s o l. tracks d path chain s o same l.0 l.1 none)
+      at_need d path chain None is same of none =
+          s_try (answers d path (stepped chain None).chain (stepped chain None).progress is same (stepped_alone ccws fixed chain of) none)
 
-      by_chain : (d : Device F P H) (o : OpenEntry) (chain : ChainState) → Is d.store → d.plans ≡ plans → IsOf ccws fixed chain →
+      by_chain : (d : Device F P H) (o : OpenEntry) (chain : ChainState) → Is d.store → d.plans ≡ plans → IsOf ccws fixed chain → NoActs d.history →
           Leaves (command_by c d (Some o) (Some chain))
-      by_chain d o chain is same of =
-          s_if (has_loss o.acts) (λ _. outs d o.path (checks chain Equipment) is same of) (λ _. at_need d o.path chain (need_of chain) is same of)
+      by_chain d o chain is same of none =
+          s_if (has_loss o.acts) (λ _. outs d o.path (checks chain Equipment) is same of none)
+          (λ _. at_need d o.path chain (need_of chain) is same of none)
 
       by_running : (d : Device F P H) (r : Option OpenEntry) (o : Option ChainState) → Answers r → Answers o → Is d.store → d.plans ≡ plans →
-          HasOf ccws fixed o → Leaves (command_by c d r o)
-      by_running d None o runs has is same of = absurd runs
-      by_running d (Some r) None runs has is same of = absurd has
-      by_running d (Some r) (Some chain) runs has is same of = by_chain d r chain is same of
+          HasOf ccws fixed o → NoActs d.history → Leaves (command_by c d r o)
+      by_running d None o runs has is same of none = absurd runs
+      by_running d (Some r) None runs has is same of none = absurd has
+      by_running d (Some r) (Some chain) runs has is same of none = by_chain d r chain is same of none
 
       ended_by : {X : Type 0} (old d : Device F P H) (a : Option X) → Stays d → Answers a → Leaves (event_ended c old d a)
-      ended_by old d a k h = s_then (ends _ d.store k.is) (λ z _ l. s_done (record { is = l; plans_are = k.plans_are; chain = k.chain }, h))
+      ended_by old d a k h = s_then (ends _ d.store k.is) (λ z _ l. s_done (record { is = l; plans_are = k.plans_are; chain = k.chain; acts = k.acts }, h))
 
       -- a command of the program that runs
       pub command_stays : (d : Device F P H) → Answers d.history.running → Answers d.chain → Stays d → Leaves (command c d)
       unfolding commands.command
       command_stays d runs has k =
-          s_try (s_then (s_then (hears 960 (event_begun d).store k.is)
-          (λ s _ l. by_running (record (event_begun d) { store = s }) d.history.running d.chain runs has l k.plans_are k.chain))
+          s_try (s_then (s_then (hears 960 (event_begun d).store (k.is.0, (k.is.1.0, (k.is.1.1.0, (k.is.1.1.1.0, (k.is.1.1.1.1.0, refl))))))
+          (λ s _ l. by_running (record (event_begun d) { store = s }) d.history.running d.chain runs has l k.plans_are k.chain k.acts))
           (λ y a l. ended_by d y a l.0 l.1))
 
       -- a reset
@@ -583,10 +611,13 @@ module _ {F P H R : Type 0} (c : Contents F P H R) (g : Geometry) (n : ℕ) wher
 
       resets_by : (d : Device F P H) (path : ℕ) (r : Option OpenEntry) → Stays d → Surely (reset_by c d path r) (λ y _. Stays y)
       resets_by d path (Some o) k =
-          s_if (o.path == path) (λ _. s_then (halves d.store d.store.half k.is) (λ s _ l. s_done (record { is = l; plans_are = k.plans_are; chain = tt })))
-          (λ _. s_done (record { is = k.is; plans_are = k.plans_are; chain = k.chain }))
+          s_if (o.path == path)
+          (λ _. s_then (halves d.store d.store.half k.is)
+          (λ s _ l. s_done (record { is = l; plans_are = k.plans_are; chain = tt; acts = reset_none d.history path _ k.acts })))
+          (λ _. s_done (record { is = k.is; plans_are = k.plans_are; chain = k.chain; acts = reset_none d.history path 0 k.acts }))
       resets_by d path None k =
-          s_if (has_used d.history path) (λ _. s_done (record { is = k.is; plans_are = k.plans_are; chain = k.chain })) (λ _. s_done k)
+          s_if (has_used d.history path)
+          (λ _. s_done (record { is = k.is; plans_are = k.plans_are; chain = k.chain; acts = reset_none d.history path 0 k.acts })) (λ _. s_done k)
 
       pub reset_stays : (d : Device F P H) (path : ℕ) → Stays d → Surely (reset c d path) (λ y _. Stays y)
       unfolding cutting.reset

@@ -1,5 +1,9 @@
 pub mod Opening
 pub mod Owning
 pub mod Standing
+pub mod Counting
+pub mod Recording
+pub mod Passing
+pub mod Ending
 pub mod Going
 pub mod Later
