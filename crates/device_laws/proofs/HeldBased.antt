@@ -1,5 +1,5 @@
 -- In a run whose outside is told, too, the pool has been told behind each event how many tracks wait.
-use Rattle.std.proofs.Common.{◌≡◌, ◌==◌, ℕ, Bool, true, false, List, Option, Some, None, is_some, set, get_or, refl, sym, ap, subst, ◌∙◌}
+use Rattle.std.proofs.Common.{◌≡◌, ◌==◌, ℕ, Bool, true, false, List, Option, Some, None, set, get_or, refl, sym, ap, subst, ◌∙◌}
 use Rattle.std.proofs.lemmas.Bool.{eqb-true}
 use Rattle.std.proofs.lemmas.List.{set-get_or}
 use Rattle.std.specs.Prelude.{if◌then◌else◌}
@@ -26,7 +26,7 @@ use Rattle.device_defs.specs.Events as E
 use Rattle.device_defs.specs.Events.{losing, second_of, second, background, lose}
 use Rattle.device_defs.specs.Owed.{all_told, waiting_count, waiting_told, ended}
 use Rattle.device_defs.specs.Store.{Store, tracks_of}
-use Rattle.device_laws.proofs.Based.{Base, base_of, kept, Hushed, Based, based_done, based_try, based_ask, based_read, based_write, based_tell}
+use Rattle.device_laws.proofs.Based.{Base, kept, Hushed, Based, based_done, based_try, based_ask, based_read, based_write, based_tell}
 use Rattle.device_laws.proofs.BasedEvents.{
   base_in,
   with_one_loss,

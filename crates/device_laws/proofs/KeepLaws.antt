@@ -1,5 +1,8 @@
 -- What a turn keeps, what the pool is told, and that no bytes are bad, of each event's run.
-use Rattle.std.proofs.Common.{◌≡◌, ◌≤◌, ◌==◌, ◌||◌, ℕ, Bool, true, false, not, List, [], Option, Some, None, is_some, refl, sym, ap, subst, ◌∙◌}
+use Rattle.plain_defs.specs.History.{History}
+use Rattle.device_defs.specs.Store.{has_loose}
+use Rattle.device_laws.proofs.LentLosses.{lent_loses}
+use Rattle.std.proofs.Common.{◌≡◌, ◌≤◌, ◌==◌, ◌||◌, ℕ, Bool, true, false, not, List, [], Option, Some, None, is_some, refl, sym, ap, subst, ◌∙◌, length}
 use Rattle.std.specs.Prelude.{if◌then◌else◌}
 use Rattle.loss_model.specs.declared.Loss.{Loss}
 use Rattle.loss_model.specs.declared.Loss.TheVariants as losses
@@ -117,11 +120,11 @@ no_lent None is e = cc
 no_lent (Some n) is e = cc
 
 module _ {F P H R K : Type 0} (p : Pledge) (v : Handed) (d e : Device F P H) (u z : Outside R K) where
-  pub kept_by : StaysInTurn p d v u → d.store.lent ≡ None → (b : Base) → b.device ≡ d.store.device → b.geometry ≡ d.store.geometry →
+  pub kept_by : StaysInTurn p d v u → (is_some p.lent ≡ true → length e.history.items ≡ p.fresh) → (b : Base) → b.device ≡ d.store.device → b.geometry ≡ d.store.geometry →
       b.cylinders ≡ d.store.cylinders → b.lent ≡ d.store.lent → AreWithin b.counts.losses p.losses → IsSameBase b (kept e.store) →
       StaysWithin p.failures e.store.counts.failed (allowance_in z) → Continues d.plans d.history e →
       (p.told ≡ true → data_checks e.history ≡ data_checks d.history) → StaysInTurn p e (handed_then v z) z
-  kept_by k free b device geometry cylinders lent within same failures goes checks =
+  kept_by k still b device geometry cylinders lent within same failures goes checks =
       let lent_is : e.store.lent ≡ d.store.lent = same.lent ∙ lent in
       record {
         keeps = record {
@@ -134,7 +137,7 @@ module _ {F P H R K : Type 0} (p : Pledge) (v : Handed) (d e : Device F P H) (u 
               ∙ ap (λ (n : ℕ). is_some d.store.lent || not (n == 0)) goes.history.fresh
               ∙ k.keeps.was_lent;
           journal = goes.history.kept k.none p.fresh k.keeps.journal;
-          still = λ is. absurd (no_lent p.lent (sym k.keeps.lent ∙ free) is);
+          still = still;
           cache = subst (λ (l : Losses). l.cache ≤ p.losses.cache) (sym same.losses) within.0;
           store = subst (λ (l : Losses). l.store ≤ p.losses.store) (sym same.losses) within.1;
           sides = subst (λ (l : Losses). l.sides ≤ p.losses.sides) (sym same.losses) within.2;
@@ -159,7 +162,7 @@ module _ {F P H R K : Type 0} (c : Contents F P H R) (hears : Hearing Image K) (
       b.lent ≡ d.store.lent → AreWithin b.counts.losses p.losses → b.counts.failed ≡ d.store.counts.failed → (i : Interaction R Image (Device F P H) X) →
       Based base_in Any b i → Always i (λ y _. Continues d.plans d.history y) → Ran (λ ok. Unit {0}) hears i u e a z → StaysInTurn p e (handed_then v z) z
   event_kept b device geometry cylinders lent within failed i x goes r =
-      kept_by p v d e u z k free b device geometry cylinders lent within (ran_same x r)
+      kept_by p v d e u z k (λ is. absurd (no_lent p.lent (sym k.keeps.lent ∙ free) is)) b device geometry cylinders lent within (ran_same x r)
       (ran_within p.failures x r (subst (λ (n : ℕ). StaysWithin p.failures n (allowance_in u)) (sym failed) within_before))
       (always_ran i (λ y _. Continues d.plans d.history y) goes.holds r) checks
 
@@ -185,6 +188,18 @@ module _ {F P H R K : Type 0} (c : Contents F P H R) (hears : Hearing Image K) (
   loss_kept loss a within r =
       event_kept (with_one_loss loss (kept d.store)) refl refl refl refl within refl (lose c d loss) (lose_based c d loss)
       (lose_goes c d.plans d.history d loss (itself d)) r
+
+-- a loss of a device that is lent and has no data of cache fast write
+pub lent_kept : {F P H R K : Type 0} (c : Contents F P H R) {hears : Hearing Image K} (p : Pledge) (v : Handed) (d e : Device F P H) (u z : Outside R K)
+    (loss : Loss) (a : Unit {0}) → StaysInTurn p d v u → is_some d.store.lent ≡ true → has_loose d.store ≡ false →
+    AreWithin (one_more d.store.counts.losses loss) p.losses → Ran (λ ok. Unit {0}) hears (lose c d loss) u e a z → StaysInTurn p e (handed_then v z) z
+lent_kept c p v d e u z loss a k lent firm within r =
+    let same : e.history ≡ d.history = always_ran (lose c d loss) (λ y _. y.history ≡ d.history) (lent_loses c d loss lent firm).holds r in
+    kept_by p v d e u z k (λ is. ap (λ (h : History). length h.items) same ∙ k.keeps.still is) (with_one_loss loss (kept d.store)) refl refl refl refl within
+    (ran_same (lose_based c d loss) r)
+    (ran_within p.failures (lose_based c d loss) r (subst (StaysWithin p.failures d.store.counts.failed) k.allowance k.keeps.failures))
+    (always_ran (lose c d loss) (λ y _. Continues d.plans d.history y) (lose_goes c d.plans d.history d loss (itself d)).holds r)
+    (λ told. ap data_checks same)
 
 -- a start
 pub start_kept : {F P H R K : Type 0} (p : Pledge) (v : Handed) (d : Device F P H) (u : Outside R K) (path : ℕ) → StaysInTurn p d v u →

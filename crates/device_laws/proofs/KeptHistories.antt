@@ -19,7 +19,7 @@ use Rattle.device_defs.specs.Pledge.{is_fresh, fresh_count, is_uncut, is_kept_it
 abbrev count_from : (Item → Bool) → ℕ → List Item → ℕ
 count_from p n xs = fold (λ a x. a + (if p x then 1 else 0)) n xs
 
-abbrev AreNot : (Item → Bool) → List Item → Type 0
+abbrev pub AreNot : (Item → Bool) → List Item → Type 0
 AreNot p [] = Unit {0}
 AreNot p (x ∷ xs) = (p x ≡ false) × AreNot p xs
 
@@ -33,7 +33,7 @@ none_counted p n (y ∷ ys) h =
     let same : n + 0 ≡ n = omega arith in
     ap (λ (b : Bool). count_from p (n + (if b then 1 else 0)) ys) h.0 ∙ none_counted p (n + 0) ys h.1 ∙ same
 
-count_more : (p : Item → Bool) (xs ys : List Item) → AreNot p ys → count_by p (xs ++ ys) ≡ count_by p xs
+pub count_more : (p : Item → Bool) (xs ys : List Item) → AreNot p ys → count_by p (xs ++ ys) ≡ count_by p xs
 count_more p xs ys h = count_append p 0 xs ys ∙ none_counted p (count_from p 0 xs) ys h
 
 no_fresh_resets : (paths : List ℕ) → AreNot is_fresh (resets_of paths)
@@ -125,7 +125,7 @@ acts_extend h (act ∷ acts) =
 abbrev pub data_checks : History → ℕ
 data_checks h = count_by ends_with_data_check h.items
 
-last_is : (ends : List CommandEnd) (e : CommandEnd) → last_sense (ends ++ e ∷ []) ≡ e.sense
+pub last_is : (ends : List CommandEnd) (e : CommandEnd) → last_sense (ends ++ e ∷ []) ≡ e.sense
 last_is [] e = refl
 last_is (x ∷ []) e = refl
 last_is (x ∷ y ∷ ends) e = last_is (y ∷ ends) e

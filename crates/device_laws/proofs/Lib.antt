@@ -116,3 +116,6 @@ pub mod LossLaws
 pub mod Restoring
 pub mod LooseLosses
 pub mod HeldBased
+pub mod Unchecked
+pub mod UncheckedEvents
+pub mod LentLosses

@@ -1,5 +1,5 @@
 -- Data of cache fast write are lost as often as the cache was, at most.
-use Rattle.std.proofs.Common.{◌≡◌, ◌≤◌, ◌<◌, ◌+◌, ◌==◌, zero, suc, ℕ, Bool, true, false, List, [], ◌∷◌, ◌++◌, Option, Some, None, length, min, refl, sym, ap, subst, ◌∙◌, arith}
+use Rattle.std.proofs.Common.{◌≡◌, ◌≤◌, ◌+◌, ◌==◌, ℕ, Bool, true, false, List, [], ◌∷◌, ◌++◌, Option, Some, None, length, refl, sym, ap, ◌∙◌, arith}
 use Rattle.std.specs.Prelude.{if◌then◌else◌, count_by}
 use Rattle.std.specs.List.{fold}
 use Rattle.ckd_chain.specs.declared.progress.Progress.{Progress}
@@ -36,13 +36,10 @@ use Rattle.plain_defs.specs.History.{
   with_end,
 }
 use Rattle.plain_defs.specs.Legal.{is_used, is_started}
-use Rattle.plain_defs.specs.PlainState.{reset_path}
 use Rattle.plain_device.specs.Acted.{settled_act, paths_behind}
 use Rattle.track_image.specs.Image.{Image}
 use Rattle.device_outside.specs.Interaction.{Interaction, Done, and_then}
 use Rattle.device_outside.specs.Pool.{Call}
-use Rattle.device_outside.specs.Volume as V
-use Rattle.device_outside.specs.Volume.{counted}
 use Rattle.device_defs.specs.declared.answers.Came.{Came}
 use Rattle.device_defs.specs.declared.answers.Came.TheVariants.{Ends, Checks, HalfOpen}
 use Rattle.device_defs.specs.declared.answers.Did.{Did}
@@ -52,23 +49,20 @@ use Rattle.device_defs.specs.Command.{is_loss, has_loss, follow, came_out, on_tr
 use Rattle.device_defs.specs.Contents.{Contents}
 use Rattle.device_defs.specs.Cutting as U
 use Rattle.device_defs.specs.Cutting.{half_cut, counts_one_by, path_cut, reset_by, reset, powered_off, power}
-use Rattle.device_defs.specs.Device.{Device, all_acted, with_store, event_begun, event_ended, quiet_event, event}
+use Rattle.device_defs.specs.Device.{Device, all_acted, with_store, event_begun, event}
 use Rattle.device_defs.specs.Effects.{acted as store_acted, gone_back, loose_lost}
 use Rattle.device_defs.specs.Events as E
 use Rattle.device_defs.specs.Events.{with_loss, lost_by, losing, second_turn, command_ended, second_ended, second_of, second, background, lose}
-use Rattle.device_defs.specs.Excused.{losses_in, losses_of, loose_losses}
+use Rattle.device_defs.specs.Excused.{losses_of, loose_losses}
 use Rattle.device_defs.specs.Losses as L
 use Rattle.device_defs.specs.Losses.{over, without_frame, settled, cache_lost, all_firm_told}
 use Rattle.device_defs.specs.Outcomes.{Turn, ends_with, settles, checks, sense_kept, program_over, turned_by}
-use Rattle.device_defs.specs.Owed.{hear, waiting_count, ended as event_end}
-use Rattle.device_defs.specs.Second.{second_part}
-use Rattle.device_defs.specs.Start as S
-use Rattle.device_defs.specs.Start.{start}
+use Rattle.device_defs.specs.Owed.{waiting_count, ended as event_end}
 use Rattle.device_defs.specs.Store.{Origin, OfCommand, OfCut, OfBackground, HalfWrite, Store, tracks_of, has_loose}
 use Rattle.device_laws.specs.Unharmed.{running_losses, all_losses}
 use Rattle.device_laws.proofs.Always as A
 use Rattle.device_laws.proofs.Always.{Behind, Always, always_done, always_try, always_then}
-use Rattle.device_laws.proofs.Based.{Base, base_of, Based, based_done, based_try, based_ask, based_read, based_write, based_tell, swept_base, store_base, side_base}
+use Rattle.device_laws.proofs.Based.{Base, Based, based_done, based_try, based_ask, based_read, based_write, based_tell, swept_base, store_base, side_base}
 use Rattle.device_laws.proofs.BasedEvents.{follow_steady}
 use Rattle.device_laws.proofs.BasedParts.{hear_steady, firm_steady, second_steady, work_steady}
 use Rattle.device_laws.proofs.KeptEvents.{always_any, always_if}

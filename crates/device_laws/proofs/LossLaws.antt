@@ -1,9 +1,11 @@
 -- Where a lost list grows, of each event's run; and a device to which nothing happened but losses of the cache and of power loses no track.
+use Rattle.device_laws.proofs.UncheckedEvents.{equipment_checks, command_unchecked}
 use Rattle.device_laws.proofs.LooseLosses.{most_lost, command_has, second_has, background_has, lose_has, reset_has, power_has}
 use Rattle.device_laws.proofs.Always.{Always}
-use Rattle.device_defs.specs.Excused.{loose_losses}
-use Rattle.std.proofs.Common.{◌≡◌, ◌≤◌, ◌<◌, ◌+◌, ℕ, Bool, true, false, List, Option, Some, None, get_or, min, refl, sym, ap, subst, ◌∙◌, arith, inr}
-use Rattle.std.specs.Prelude.{◌*◌, ◌&&◌, ◌||◌, not}
+use Rattle.device_defs.specs.Excused.{loose_losses, count_lost}
+use Rattle.std.proofs.Common.{◌≡◌, ◌≤◌, ◌<◌, ◌+◌, ℕ, Bool, true, false, List, Option, Some, None, get_or, min, refl, sym, ap, subst, ◌∙◌, arith, inr, suc, [], ◌∷◌}
+use Rattle.std.specs.List.{fold}
+use Rattle.std.specs.Prelude.{◌*◌, ◌&&◌, ◌||◌, not, if◌then◌else◌}
 use Rattle.ckd_chain.specs.State.{ChainState}
 use Rattle.ckd_types.specs.declared.geometry.Geometry.{Geometry}
 use Rattle.ckd_types.specs.declared.paths.Side.{Side}
@@ -36,7 +38,7 @@ use Rattle.device_laws.specs.Agrees.{Held}
 use Rattle.device_laws.specs.InOrder.{IsInOrder}
 use Rattle.device_laws.specs.NewDevice.{new_contents}
 use Rattle.device_laws.specs.Standing.{IsChainOf}
-use Rattle.device_laws.specs.Unharmed.{MarksAreGood, NothingLost, IsWholeOnA, IsUnharmed, HalfIsTried, all_losses, LossesAreCounted}
+use Rattle.device_laws.specs.Unharmed.{MarksAreGood, NothingLost, IsWholeOnA, IsUnharmed, HalfIsTried, all_losses, LossesAreCounted, RunsUnharmed, IsCalm}
 use Rattle.device_laws.proofs.Based.{Base, kept, Any, Based, based_any}
 use Rattle.device_laws.proofs.BasedEvents.{
   base_in,
@@ -61,6 +63,7 @@ order_marks v w s h i = record {
   sizes = i.agrees.ground.sizes;
   free = i.free;
   alone = i.alone;
+  whole = i.whole;
   marks = i.marks;
   queued = i.queued;
   nowhere = i.nowhere;
@@ -294,3 +297,30 @@ counted_excuse d all = omega (arith, all)
 pub started_counted : {F P H : Type 0} (d : Device F P H) (path : ℕ) → LossesAreCounted d → LossesAreCounted (start d path)
 unfolding S.start
 started_counted d path all = omega (arith, all)
+
+-- Checks
+
+module _ {F P H R K : Type 0} (c : Contents F P H R) {hears : Hearing Image K} (faithful : IsFaithful c) (d : Device F P H) {e : Device F P H}
+    {u z : Outside R K} where
+  pub command_checks_nothing : {a : Option Stepped} → MarksAreGood c d.store → d.store.half ≡ None →
+      ((chain : ChainState) → d.chain ≡ Some chain → IsChainOf d.store.cylinders chain) → IsCalm d.store → RunsUnharmed d.history.running →
+      d.store.counts.failed < top → Ran (λ ok. Unit {0}) hears (command c d) u e a z → e.store.counts.failed ≡ d.store.counts.failed →
+      equipment_checks e.history ≡ equipment_checks d.history
+  command_checks_nothing good none chains calm un lt r same =
+      let n = equipment_checks d.history in
+      always_ran (command c d) (λ y _. failed_in (base_in y) ≡ failed_in (kept d.store) → equipment_checks y.history ≡ n)
+      (where_none_failed (λ y _. equipment_checks y.history ≡ n) (command_based c d) lt
+      (command_unchecked c n faithful d chains (marks_well c d.store good) none calm un refl)).holds r same
+
+-- None of them is counted as lost
+
+none_counted : (n : ℕ) (l : List Bool) → ((t : ℕ) → get_or l t false ≡ false) → fold (λ (k : ℕ) (x : Bool). k + (if x then 1 else 0)) n l ≡ n
+none_counted n [] none = refl
+none_counted n (x ∷ xs) none =
+    let first : x ≡ false = none 0 in
+    let same : n + 0 ≡ n = omega arith in
+    ap (λ (b : Bool). fold (λ (k : ℕ) (y : Bool). k + (if y then 1 else 0)) (n + (if b then 1 else 0)) xs) first
+    ∙ none_counted (n + 0) xs (λ t. none (suc t)) ∙ same
+
+pub unharmed_counts : {F P H : Type 0} (s : Store F P H) → IsUnharmed s → NothingLost s → count_lost s.lost ≡ 0
+unharmed_counts s un nothing = none_counted 0 s.lost (un nothing).kept

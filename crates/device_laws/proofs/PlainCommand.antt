@@ -44,7 +44,6 @@ use Rattle.ckd_chain.specs.State.{ChainState}
 use Rattle.ckd_chain.specs.Steps.{begin_with, opening_at, stage_for, opened_by, stage_by, needed, need_of, index_of, word_of, behind, end_with, stepped, stepped_by, settled_by}
 use Rattle.ckd_rules.specs.declared.opening.Opening.{Opening}
 use Rattle.ckd_rules.specs.declared.opening.Opening.TheVariants as openings
-use Rattle.ckd_rules.specs.declared.order.LocalAct.TheVariants as acts
 use Rattle.ckd_rules.specs.declared.stance.Stance.{Stance}
 use Rattle.ckd_rules.specs.Opening.{Opened}
 use Rattle.ckd_rules.specs.Walk.{TrackEdit}

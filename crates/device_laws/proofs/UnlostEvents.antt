@@ -79,7 +79,7 @@ module _ {F P H R : Type 0} (c : Contents F P H R) where
 
   here_now : (s : Store F P H) → MarksAreGood c s → IsHere (rest_of s)
   unfolding C.rest_of
-  here_now s m = record { free = m.free; alone = m.alone; within = m.within; queued = m.queued }
+  here_now s m = record { free = m.free; alone = m.alone; whole = m.whole; within = m.within; queued = m.queued }
 
   pub marks_well : (s : Store F P H) → MarksAreGood c s → IsWell c s
   marks_well s m = record {
@@ -113,7 +113,7 @@ module _ {F P H R : Type 0} (c : Contents F P H R) where
     looked_goes chain first t s (Some (NoBytes fault)) lt w there = lucky_done (fine (core_of s))
     looked_goes chain first t s (Some (BadTrack side)) lt w there = lucky_done (fine (core_of s))
 
-    look_goes : (chain : ChainState) (first t : ℕ) (s : Store F P H) → Within chain → tracks_of s ≡ n → t < tracks_of s → IsWell c s →
+    pub look_goes : (chain : ChainState) (first t : ℕ) (s : Store F P H) → Within chain → tracks_of s ≡ n → t < tracks_of s → IsWell c s →
         Goes s (look c chain first t s)
     unfolding N.look
     look_goes chain first t s is same lt w =

@@ -344,7 +344,7 @@ module _ {F P H R : Type 0} (c : Contents F P H R) where
     abbrev Firm : ℕ → Store F P H → Interaction R Image (Store F P H) Bool → Type 0
     Firm t s i = Lucky (λ z _. Off t (core_of s) (core_of z)) i
 
-    firm_first_off : (s : Store F P H) (t : ℕ) → Firm t s (firm_first c s t)
+    pub firm_first_off : (s : Store F P H) (t : ℕ) → Firm t s (firm_first c s t)
     firm_first_off s t =
         lucky_if (is_loose s t)
         (λ _. lucky_tell (λ _. lucky_done (everywhere_off (hardened s t) t)))
@@ -383,7 +383,7 @@ module _ {F P H R : Type 0} (c : Contents F P H R) where
         still false true x y none f = ap not none
         still false false x y none f = f
 
-    second_lucky : (s : Store F P H) (t : ℕ) (r : R) → has_level s t ≡ true →
+    pub second_lucky : (s : Store F P H) (t : ℕ) (r : R) → has_level s t ≡ true →
         Lucky (λ z (a : Unit {0}). Fine (core_of s) (core_of z) × (has_level z t ≡ true)) (write_second c s t r)
     unfolding V.write_second
     second_lucky s t r level =

@@ -26,7 +26,7 @@ use Rattle.device_defs.specs.Sound.{DeviceStore, written_on}
 use Rattle.device_defs.specs.Store.{Origin, OfCommand, OfCut, OfBackground, HalfWrite, tracks_of, has_loose}
 use Rattle.device_laws.specs.Agrees.{Held, image_in, slot_at, PatchHas, PatchOf, IsGround}
 use Rattle.device_laws.specs.InOrder.{IsInOrder}
-use Rattle.device_laws.specs.Whole.{WholeDevice, marks_device, WholeTwins, Leaves}
+use Rattle.device_laws.specs.Whole.{WholeDevice, marks_device, WholeTwins, Leaves, BehindPower}
 use Rattle.device_laws.proofs.Always.{Always, always_done, always_tell}
 use Rattle.device_laws.proofs.ContentChanges as C
 use Rattle.device_laws.proofs.ContentChanges.{Altered, ground_altered, same_tracks, same_right, same_slots, sits_still, RightBut}
@@ -66,17 +66,17 @@ some_is : {X : Type 0} (x y : X) → Some x ≡ Some y → x ≡ y
 some_is x y e = cc
 
 cut_by : (s : DeviceStore) (hw : HalfWrite Image) (origin : Origin) → s.half ≡ Some hw → hw.origin ≡ origin →
-    Always (origin_cut contents s hw origin) (λ z _. IsCut z.half)
+    Always (origin_cut contents s hw origin) (λ z _. IsCut z.half × (has_loose z ≡ has_loose s))
 cut_by s hw (OfCommand bypass e) is own =
     always_tell (λ _. always_done
-    (λ i f. subst (λ (j : HalfWrite Image). is_of_command j.origin ≡ false) (some_is (record hw { origin = OfCut bypass }) i f) refl))
+    (λ i f. subst (λ (j : HalfWrite Image). is_of_command j.origin ≡ false) (some_is (record hw { origin = OfCut bypass }) i f) refl, refl))
 cut_by s hw (OfCut bypass) is own =
-    always_done (λ i f. subst (λ (j : HalfWrite Image). is_of_command j.origin ≡ false) (some_is hw i (sym is ∙ f)) (ap is_of_command own))
+    always_done (λ i f. subst (λ (j : HalfWrite Image). is_of_command j.origin ≡ false) (some_is hw i (sym is ∙ f)) (ap is_of_command own), refl)
 cut_by s hw OfBackground is own =
-    always_done (λ i f. subst (λ (j : HalfWrite Image). is_of_command j.origin ≡ false) (some_is hw i (sym is ∙ f)) (ap is_of_command own))
+    always_done (λ i f. subst (λ (j : HalfWrite Image). is_of_command j.origin ≡ false) (some_is hw i (sym is ∙ f)) (ap is_of_command own), refl)
 
-cut_is : (s : DeviceStore) (o : Option (HalfWrite Image)) → s.half ≡ o → Always (half_cut contents s o) (λ z _. IsCut z.half)
-cut_is s None e = always_done (λ i f. absurd (cc))
+cut_is : (s : DeviceStore) (o : Option (HalfWrite Image)) → s.half ≡ o → Always (half_cut contents s o) (λ z _. IsCut z.half × (has_loose z ≡ has_loose s))
+cut_is s None e = always_done (λ i f. absurd (cc), refl)
 cut_is s (Some hw) e = cut_by s hw hw.origin e refl
 
 plain_written : (i : Image) (origin : Origin) → is_of_command origin ≡ false → written_on i origin ≡ i
@@ -368,29 +368,30 @@ module _ (v w : List Track) (s : DeviceStore) (h : Held) (sure : RightBut None v
       ap (λ (m : MarksStore). record m { queue = [] })
       (half_marks u w (gone any) s.half ∙ ap (λ (m : MarksStore). half_lost by_plain m (option_map half_mark s.half)) (gone_marks any))
 
-  powerless_pair : IsWell contents (powerless contents s) → Pair (λ v' w' z. IsInOrder v' w' z h) (powerless contents s) (powerless by_plain (marks_of v w s))
+  powerless_pair : IsWell contents (powerless contents s) → Pair (λ v' w' z. IsInOrder v' w' z h × (v' ≡ u)) (powerless contents s) (powerless by_plain (marks_of v w s))
   powerless_pair well =
       let n = tracks_of s in
-      subst (λ (m : MarksStore). Pair (λ v' w' z. IsInOrder v' w' z h) (over n (λ t z. settled contents (without_frame z t) t) y)
+      subst (λ (m : MarksStore). Pair (λ v' w' z. IsInOrder v' w' z h × (v' ≡ u)) (over n (λ t z. settled contents (without_frame z t) t) y)
       (over n (λ t z. settled by_plain (without_frame z t) t) m)) begun_marks
       (pair_weaker (swept_pair h u w y begun.swept n (let same = begun.tracks in omega arith))
       (λ v' w' x.
-      let z = over n (λ t z. settled contents (without_frame z t) t) y in
-      is_in_order v' w' z h
-      (record {
-        sure = record {
-          ground = x.off.ground;
-          right = λ q lt ne. x.off.right q lt
-              (λ most. absurd (let same = same_tracks y h z h x.base in let more = begun.tracks in omega arith));
-        };
-        told = x.told;
-      }) well))
+      let z = over n (λ t z. settled contents (without_frame z t) t) y in (
+        is_in_order v' w' z h
+            (record {
+              sure = record {
+                ground = x.off.ground;
+                right = λ q lt ne. x.off.right q lt
+                    (λ most. absurd (let same = same_tracks y h z h x.base in let more = begun.tracks in omega arith));
+              };
+              told = x.told;
+            }) well,
+        x.plain,
+      )))
 
 -- As an event
 
--- whatever it is of the plain volume
 pub power_whole : (v w : List Track) (d : WholeDevice) (h : Held) → IsInOrder v w d.store h →
-    WholeTwins (Leaves (λ v2. Unit {0})) (power contents d) (power by_plain (marks_device v w d)) h
+    WholeTwins (Leaves (BehindPower v d.store)) (power contents d) (power by_plain (marks_device v w d)) h
 unfolding U.power
 power_whole v w d h i =
     let z : WholeDevice = event_begun d in
@@ -403,9 +404,13 @@ power_whole v w d h i =
     let l = with_loss s losses.Cache in
     let o = in_order v' w' s k f.0.order in
     let ordered = counted_loss v' w' s k losses.Cache (record { sure = o.sure; told = o.told }) in
-    let x = powerless_pair v' w' l k ordered.sure ordered.told f.1 f.0.order.within (off_keeps contents device_is_faithful s o.well).well in
+    let x = powerless_pair v' w' l k ordered.sure ordered.told f.1.0 f.0.order.within (off_keeps contents device_is_faithful s o.well).well in
     let off = λ (m : MarksStore) (n : ℕ). record (marks_device v' w' z) { store = m; paths = fresh_paths; history = lost_power z.history n; chain = None } in
     whole_ends x.plain x.firm (powered_off contents z s)
     (ap (λ (m : MarksStore). off m (counts_one_by z.store.half)) x.marks
     ∙ ap (λ (n : ℕ). off (powerless by_plain (with_loss (marks_of v' w' s) losses.Cache)) n) (sym (counts_same z.store.half)))
-    (record { order = x.is; same = refl; is = tt })))
+    (record {
+      order = x.is.0;
+      same = refl;
+      is = λ none. x.is.1 ∙ ap (λ (b : Bool). if b then w' else v') (f.1.1 ∙ none) ∙ f.0.plain;
+    })))

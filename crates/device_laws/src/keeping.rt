@@ -1,7 +1,7 @@
 //! Laws of what a device keeps: its pledge in a turn, what the pool is told of its waiting tracks, and that no bytes of its volumes
 //! are bad where they tell what they hold. They hold whatever is answered, and whether memory is had or not.
 
-ghost use Rattle.std.specs.Prelude.{◌≡◌, ◌≤◌, ℕ, true, List, Option, None, Some, count_by, slice_index_or, slice_set};
+ghost use Rattle.std.specs.Prelude.{◌≡◌, ◌≤◌, ℕ, true, List, Option, None, Some, count_by, slice_index_or, slice_set, is_some, false};
 ghost use Rattle.ckd_chain.specs.State.{ChainState};
 ghost use Rattle.ckd_types.specs.declared.paths.Side.{Side};
 ghost use Rattle.ckd_types.specs.declared.record.Track.{Track};
@@ -21,6 +21,7 @@ ghost use Rattle.device_defs.specs.Owed.{waiting_count};
 ghost use Rattle.device_defs.specs.Peek.{Peeked, peek};
 ghost use Rattle.device_defs.specs.Pledge.{Handed, Pledge, ends_with_data_check};
 ghost use Rattle.device_defs.specs.Start.{start};
+ghost use Rattle.device_defs.specs.Store.{has_loose};
 ghost use Rattle.device_laws.specs.Agrees.{Held};
 ghost use Rattle.device_laws.specs.Handed.{StaysInTurn, handed_then, waiting_in, HasWaiting, with_waiting};
 ghost use Rattle.device_laws.specs.InOrder.{IsInOrder};
@@ -44,6 +45,11 @@ pub fn turn_keeps_pledge<K: Keep<TrackImage>>()
     ensures background { (p : Pledge) (v : Handed) (d e : WholeDevice) (u z : Outside (List ℕ) K) (a : Option Did) → StaysInTurn p d v u → d.store.lent ≡ None →
         Ran (λ ok. Unit {0}) K.hears (background contents d) u e a z → StaysInTurn p e (handed_then v z) z }
     ensures lose { (p : Pledge) (v : Handed) (d e : WholeDevice) (u z : Outside (List ℕ) K) (a : Unit {0}) (loss : Loss) → StaysInTurn p d v u → d.store.lent ≡ None →
+        (one_more d.store.counts.losses loss).cache ≤ p.losses.cache → (one_more d.store.counts.losses loss).store ≤ p.losses.store →
+        (one_more d.store.counts.losses loss).sides ≤ p.losses.sides → Ran (λ ok. Unit {0}) K.hears (lose contents d loss) u e a z →
+        StaysInTurn p e (handed_then v z) z }
+    ensures lent { (p : Pledge) (v : Handed) (d e : WholeDevice) (u z : Outside (List ℕ) K) (a : Unit {0}) (loss : Loss) → StaysInTurn p d v u →
+        is_some d.store.lent ≡ true → has_loose d.store ≡ false →
         (one_more d.store.counts.losses loss).cache ≤ p.losses.cache → (one_more d.store.counts.losses loss).store ≤ p.losses.store →
         (one_more d.store.counts.losses loss).sides ≤ p.losses.sides → Ran (λ ok. Unit {0}) K.hears (lose contents d loss) u e a z →
         StaysInTurn p e (handed_then v z) z }

@@ -18,8 +18,8 @@ pub use keeping::{
     pool_is_told_waiting, run_tells_waiting, told_device_has_no_bad_bytes, turn_keeps_pledge,
 };
 pub use losses::{
-    loose_losses_are_counted, lost_list_grows_where_calls_fail, order_has_good_marks,
-    unharmed_device_loses_no_track,
+    calm_command_checks_nothing, loose_losses_are_counted, lost_list_grows_where_calls_fail,
+    order_has_good_marks, unharmed_device_loses_no_track,
 };
 pub use placeless::{
     new_device_has_nothing, placeless_background_is_step, placeless_command_is_step,

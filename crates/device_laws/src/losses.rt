@@ -2,7 +2,7 @@
 //! which nothing happened but losses of the cache and of power no track is ever lost. They hold whatever is answered, and whether
 //! memory is had or not.
 
-ghost use Rattle.std.specs.Prelude.{◌≡◌, ◌<◌, ◌≤◌, ◌^◌, ◌-◌, ℕ, false, List, Option, None, Some};
+ghost use Rattle.std.specs.Prelude.{count_by, ◌≡◌, ◌<◌, ◌≤◌, ◌^◌, ◌-◌, ℕ, false, List, Option, None, Some};
 ghost use Rattle.ckd_chain.specs.State.{ChainState};
 ghost use Rattle.ckd_types.specs.declared.geometry.Geometry.{Geometry};
 ghost use Rattle.ckd_types.specs.declared.paths.Side.{Side};
@@ -15,7 +15,7 @@ ghost use Rattle.device_defs.specs.Command.{command};
 ghost use Rattle.device_defs.specs.Contents.{contents};
 ghost use Rattle.device_defs.specs.Cutting.{power, reset};
 ghost use Rattle.device_defs.specs.Events.{second, background, lose};
-ghost use Rattle.device_defs.specs.Excused.{loose_losses};
+ghost use Rattle.device_defs.specs.Excused.{count_lost, loose_losses};
 ghost use Rattle.device_defs.specs.Orders.{join, split, replace, hold, resume};
 ghost use Rattle.device_defs.specs.Sound.{DeviceStore};
 ghost use Rattle.device_defs.specs.Start.{start};
@@ -24,7 +24,7 @@ ghost use Rattle.device_laws.specs.Agrees.{Held};
 ghost use Rattle.device_laws.specs.InOrder.{IsInOrder};
 ghost use Rattle.device_laws.specs.NewDevice.{new_contents};
 ghost use Rattle.device_laws.specs.Standing.{IsChainOf};
-ghost use Rattle.device_laws.specs.Unharmed.{MarksAreGood, IsUnharmed, HalfIsTried, LossesAreCounted};
+ghost use Rattle.device_laws.specs.Unharmed.{MarksAreGood, IsUnharmed, HalfIsTried, LossesAreCounted, RunsUnharmed, IsCalm, ends_with_equipment_check, NothingLost};
 ghost use Rattle.device_laws.specs.Whole.{WholeDevice};
 ghost use Rattle.loss_model.specs.declared.Loss.{Loss};
 
@@ -52,6 +52,7 @@ pub fn lost_list_grows_where_calls_fail<K: Keep<TrackImage>>()
 /// Where no side was lost, no call failed and the store wasn't lost, side A is up and has each track, and none is lost: so it is of a
 /// new device, and behind each event and order.
 pub fn unharmed_device_loses_no_track<K: Keep<TrackImage>>()
+    ensures counts { (d : WholeDevice) → IsUnharmed d.store → NothingLost d.store → count_lost d.store.lost ≡ 0 }
     ensures made { (d : ℕ) (g : Geometry) (n : ℕ) → IsUnharmed (new_contents d g n) }
     ensures starts { (d : WholeDevice) (path : ℕ) → IsUnharmed d.store → IsUnharmed (start d path).store }
     ensures command { (d e : WholeDevice) (u z : Outside (List ℕ) K) (a : Option Stepped) → MarksAreGood contents d.store → d.store.half ≡ None →
@@ -89,4 +90,14 @@ pub fn loose_losses_are_counted<K: Keep<TrackImage>>()
         Ran (λ ok. Unit {0}) K.hears (reset contents d path) u e a z → LossesAreCounted e }
     ensures power { (d e : WholeDevice) (u z : Outside (List ℕ) K) (a : Unit {0}) → LossesAreCounted d → d.store.counts.losses.cache < 2 ^ 64 - 1 →
         Ran (λ ok. Unit {0}) K.hears (power contents d) u e a z → LossesAreCounted e }
+{}
+
+/// A command adds no entry to the journal that ended with equipment check, where no more calls failed, side A is up, no track is lost,
+/// and of its own program no data of cache fast write were.
+pub fn calm_command_checks_nothing<K: Keep<TrackImage>>()
+    ensures { (d e : WholeDevice) (u z : Outside (List ℕ) K) (a : Option Stepped) → MarksAreGood contents d.store → d.store.half ≡ None →
+        ((chain : ChainState) → d.chain ≡ Some chain → IsChainOf d.store.cylinders chain) → IsCalm d.store → RunsUnharmed d.history.running →
+        d.store.counts.failed < 2 ^ 64 - 1 → Ran (λ ok. Unit {0}) K.hears (command contents d) u e a z →
+        e.store.counts.failed ≡ d.store.counts.failed →
+        count_by ends_with_equipment_check e.history.items ≡ count_by ends_with_equipment_check d.history.items }
 {}

@@ -23,7 +23,7 @@ ghost use Rattle.device_defs.specs.Store.{tracks_of, side_of, stale_at};
 ghost use Rattle.device_laws.specs.Agrees.{Held};
 ghost use Rattle.device_laws.specs.InOrder.{IsInOrder};
 ghost use Rattle.device_laws.specs.Standing.{RunsOn};
-ghost use Rattle.device_laws.specs.Whole.{WholeDevice, marks_device, holding, IsStep, BehindCommand, BehindSecond, BehindLoss, BehindReset};
+ghost use Rattle.device_laws.specs.Whole.{WholeDevice, marks_device, holding, IsStep, BehindCommand, BehindSecond, BehindLoss, BehindReset, BehindPower};
 ghost use Rattle.loss_model.specs.declared.Loss.{Loss};
 
 use device_outside::Keep;
@@ -82,7 +82,7 @@ pub fn power_is_step<K: Keep<TrackImage>>()
     ensures { (v w : List Track) (d : WholeDevice) (h : Held) (others : List ℕ) (t : Told) (u z : Outside (List ℕ) K) (e : WholeDevice) (a : Unit {0}) →
         IsInOrder v w d.store h →
         Ran (λ ok. ok ≡ true) K.hears (power contents d) u e a z → TellsAll others u h t →
-        IsStep (λ v2. Unit {0}) others (power by_plain (marks_device v w d)) t e a z }
+        IsStep (BehindPower v d.store) others (power by_plain (marks_device v w d)) t e a z }
 {}
 
 /// Orders that give a side another volume, as many tracks long as the device, or take side B away.

@@ -77,19 +77,19 @@ found_if : (b : Bool) (d : MarksDevice) (o : Option MarksDevice) → Plainly d �
 found_if true d o p rest = p
 found_if false d o p rest = rest
 
-device_plain : (ms : List Mounted) (n : ℕ) → ArePlain ms → IfSome (device_in (map (λ (m : Mounted). m.device) ms) n) Plainly
+pub device_plain : (ms : List Mounted) (n : ℕ) → ArePlain ms → IfSome (device_in (map (λ (m : Mounted). m.device) ms) n) Plainly
 device_plain [] n p = tt
 device_plain (m ∷ ms) n p =
     found_if (number_of m == n) m.device (device_in (map (λ (x : Mounted). x.device) ms) n) p.0 (device_plain ms n p.1)
 
-abbrev IsPlainly : Mounted → Type 0
+abbrev pub IsPlainly : Mounted → Type 0
 IsPlainly m = Plainly m.device
 
 mounted_if : (b : Bool) (m : Mounted) (o : Option Mounted) → IsPlainly m → IfSome o IsPlainly → IfSome (if b then Some m else o) IsPlainly
 mounted_if true m o p rest = p
 mounted_if false m o p rest = rest
 
-mounted_plain : (ms : List Mounted) (n : ℕ) → ArePlain ms → IfSome (mounted_in ms n) IsPlainly
+pub mounted_plain : (ms : List Mounted) (n : ℕ) → ArePlain ms → IfSome (mounted_in ms n) IsPlainly
 mounted_plain [] n p = tt
 mounted_plain (m ∷ ms) n p = mounted_if (number_of m == n) m (mounted_in ms n) p.0 (mounted_plain ms n p.1)
 
@@ -267,7 +267,7 @@ last_none a b c d e f g fs is =
     (first_none g fs (first_none f (g ∷ fs) (first_none e (f ∷ g ∷ fs) (first_none d (e ∷ f ∷ g ∷ fs) (first_none c (d ∷ e ∷ f ∷ g ∷ fs)
     (first_none b (c ∷ d ∷ e ∷ f ∷ g ∷ fs) (first_none a (b ∷ c ∷ d ∷ e ∷ f ∷ g ∷ fs) is).1).1).1).1).1).1).0
 
-lent_is_idle : (x y : MarksDevice) → pair_fault x y ≡ None → y.history.running ≡ None
+pub lent_is_idle : (x y : MarksDevice) → pair_fault x y ≡ None → y.history.running ≡ None
 unfolding R.pair_fault
 lent_is_idle x y is =
     none_active y.history.running
@@ -280,7 +280,7 @@ number_if : (b : Bool) (d y : MarksDevice) (n : ℕ) (o : Option MarksDevice) �
 number_if true d y n o is at more = let same : d ≡ y = cc in subst (λ (x : MarksDevice). x.store.device ≡ n) same (eqb-true d.store.device n is)
 number_if false d y n o is at more = more at
 
-number_found : (ms : List Mounted) (n : ℕ) (y : MarksDevice) → device_in (map (λ (m : Mounted). m.device) ms) n ≡ Some y → y.store.device ≡ n
+pub number_found : (ms : List Mounted) (n : ℕ) (y : MarksDevice) → device_in (map (λ (m : Mounted). m.device) ms) n ≡ Some y → y.store.device ≡ n
 number_found [] n y at = absurd (cc)
 number_found (m ∷ ms) n y at =
     number_if (number_of m == n) m.device y n (device_in (map (λ (x : Mounted). x.device) ms) n) refl at (number_found ms n y)
@@ -291,7 +291,7 @@ same_if : (b : Bool) (k : Mounted) (ms : List Mounted) (n : ℕ) (y : MarksDevic
 same_if true k ms n y m is at there more = let a : k.device ≡ y = cc in let b : k ≡ m = cc in subst (λ (x : Mounted). x.device ≡ y) b a
 same_if false k ms n y m is at there more = more at there
 
-same_found : (ms : List Mounted) (n : ℕ) (y : MarksDevice) (m : Mounted) → device_in (map (λ (x : Mounted). x.device) ms) n ≡ Some y →
+pub same_found : (ms : List Mounted) (n : ℕ) (y : MarksDevice) (m : Mounted) → device_in (map (λ (x : Mounted). x.device) ms) n ≡ Some y →
     mounted_in ms n ≡ Some m → m.device ≡ y
 same_found [] n y m at there = absurd (cc)
 same_found (k ∷ ms) n y m at there = same_if (number_of k == n) k ms n y m refl at there (same_found ms n y m)
@@ -345,7 +345,7 @@ replaced_side : (d : MarksDevice) (side : Side) → Plainly d → Plainly (repla
 replaced_side d A p = stored d (replace d A).store refl p
 replaced_side d B p = stored d (replace d B).store refl p
 
-replaced_plain : (s : Subsystem) (n : ℕ) (side : Side) (calls : Calls) → ArePlain s.mounted → (o : Option Mounted) → IfSome o IsPlainly →
+pub replaced_plain : (s : Subsystem) (n : ℕ) (side : Side) (calls : Calls) → ArePlain s.mounted → (o : Option Mounted) → IfSome o IsPlainly →
     ArePlain (replaced_at s n side calls o).behind.mounted
 replaced_plain s n side calls p None q = p
 replaced_plain s n side calls p (Some m) q = by_fault (replace_fault m.device side) refl where
@@ -373,7 +373,7 @@ restored_plain (m ∷ ms) a calls p =
     (λ is. (restored m.device (home_lent m.device.store.lent a m.device.history.running is p.0.follows.home) p.0, p.1))
     (λ _. (p.0, restored_plain ms a calls p.1))
 
-unpaired_plain : (s : Subsystem) (n : ℕ) (calls : Calls) → ArePlain s.mounted → (o : Option Mounted) → IfSome o IsPlainly →
+pub unpaired_plain : (s : Subsystem) (n : ℕ) (calls : Calls) → ArePlain s.mounted → (o : Option Mounted) → IfSome o IsPlainly →
     ArePlain (unpaired_at s n calls o).behind.mounted
 unpaired_plain s n calls p None q = p
 unpaired_plain s n calls p (Some m) q = by_fault (unpair_fault m.device) where
@@ -386,11 +386,11 @@ unpaired_plain s n calls p (Some m) q = by_fault (unpair_fault m.device) where
 -- Lines
 
 -- behind each event, and behind all of them
-abbrev LogsPlain : Subsystem → List Logged → Type 0
+abbrev pub LogsPlain : Subsystem → List Logged → Type 0
 LogsPlain s [] = ArePlain s.mounted
 LogsPlain s (t ∷ ts) = ArePlain t.happened.behind.mounted × LogsPlain t.happened.behind ts
 
-logs_end : (s : Subsystem) (ts : List Logged) → LogsPlain s ts → ArePlain (last_behind s ts).mounted
+pub logs_end : (s : Subsystem) (ts : List Logged) → LogsPlain s ts → ArePlain (last_behind s ts).mounted
 logs_end s [] p = p
 logs_end s (t ∷ ts) p = logs_end t.happened.behind ts p.1
 
@@ -426,7 +426,7 @@ backs_plain (suc n) d s p =
       cond_both (is_settled h.end) [] (backs n d h.behind) (LogsPlain h.behind) (λ _. behind) (λ _. backs_plain n d h.behind behind),
     )
 
-line_plain : (x : Asked) (s : Subsystem) → IsServed x → ArePlain s.mounted → LogsPlain s (line_logged s x)
+pub line_plain : (x : Asked) (s : Subsystem) → IsServed x → ArePlain s.mounted → LogsPlain s (line_logged s x)
 unfolding L.line_logged H.replaced H.unpaired
 line_plain (Once e) s h p = let behind = event_plain s p e h in (behind, behind)
 line_plain (Replace d side) s h p = let q = replaced_plain s d side unfailing p (mounted_in s.mounted d) (mounted_plain s.mounted d p) in (q, q)
@@ -446,7 +446,7 @@ lines_plain (line ∷ lines) s h p =
 
 -- Decks
 
-opened_plain : (deck : DeckLines) (ds : List DeviceLine) → All (λ (d : DeviceLine). 1 ≤ d.cylinders) ds → ArePlain (map (opened_device deck) ds)
+pub opened_plain : (deck : DeckLines) (ds : List DeviceLine) → All (λ (d : DeviceLine). 1 ≤ d.cylinders) ds → ArePlain (map (opened_device deck) ds)
 opened_plain deck [] h = tt
 opened_plain deck (d ∷ ds) h =
     let some = All-head (λ (d : DeviceLine). 1 ≤ d.cylinders) d ds h in (

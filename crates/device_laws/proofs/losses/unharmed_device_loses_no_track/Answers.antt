@@ -1,5 +1,6 @@
 use Rattle.device_defs.specs.Contents.{contents}
 use Rattle.device_laws.proofs.LossLaws.{
+  unharmed_counts,
   new_unharmed,
   started_unharmed,
   command_unharmed,
@@ -17,6 +18,7 @@ use Rattle.device_laws.proofs.losses.unharmed_device_loses_no_track.Goals as goa
 
 pub returns : goal.returns
 returns g c = record {
+  counts = λ d un nothing. unharmed_counts d.store un nothing;
   made = λ d on n. new_unharmed d on n;
   starts = λ d path un. started_unharmed d path un;
   command = λ d e u z a good none chains lt un r. command_unharmed contents device_is_faithful d lt un good none chains r;
