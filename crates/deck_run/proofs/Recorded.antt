@@ -4,6 +4,7 @@ use Rattle.std.proofs.lemmas.List.{append-nil}
 use Rattle.plain_defs.specs.declared.journal.Item.{Item}
 use Rattle.device_outside.specs.declared.volume.Volume.{Ghosts}
 use Rattle.device_core.specs.declared.device.Device.{Device}
+use Rattle.report_text.specs.declared.event.Loosed.{Loosed}
 use Rattle.report_text.specs.declared.answers.StartAnswer.{StartAnswer}
 use Rattle.report_text.specs.declared.event.Happened as report
 use Rattle.report_text.specs.declared.event.Happened.TheVariants as did
@@ -84,19 +85,20 @@ reset_tells s path d told more is =
 
 module _ {V : Type 0} {G : Ghosts V} (s : Subsystem V G) (run : runs.Subsystem) (e : Event) (d : ℕ) (p : Passed) (has : HasPassed s run e d p)
     (y : Device V G) (at : device_at s.devices.items d ≡ Some y) (items : List Item) (came : items ≡ behind_first p.items y.past.items.items)
-    (told more : List ReportLine) where
-  recorded : (h : report.Happened) → more ≡ told ++ lines_by d h [] p.calls.reads p.calls.writes items → more ≡ told ++ lines_when run e h
+    (acts : List Loosed) (noted : acts ≡ p.acts.items) (told more : List ReportLine) where
+  recorded : (h : report.Happened) → more ≡ told ++ lines_by d h acts p.calls.reads p.calls.writes items → more ≡ told ++ lines_when run e h
   recorded h is =
-      is ∙ ap (λ (l : List Item). told ++ lines_by d h [] p.calls.reads p.calls.writes l) came
+      is ∙ ap (λ (l : List Item). told ++ lines_by d h acts p.calls.reads p.calls.writes l) came
+      ∙ ap (λ (l : List Loosed). told ++ lines_by d h l p.calls.reads p.calls.writes (behind_first p.items y.past.items.items)) noted
       ∙ ap (λ (l : List ReportLine). told ++ l) (sym (has.lines y at h))
 
   -- room was made before it
-  roomy : (h : report.Happened) (room : List ReportLine) → room ≡ told → more ≡ room ++ lines_by d h [] p.calls.reads p.calls.writes items →
-      more ≡ told ++ lines_by d h [] p.calls.reads p.calls.writes items
-  roomy h room same is = is ∙ ap (λ (l : List ReportLine). l ++ lines_by d h [] p.calls.reads p.calls.writes items) same
+  roomy : (h : report.Happened) (room : List ReportLine) → room ≡ told → more ≡ room ++ lines_by d h acts p.calls.reads p.calls.writes items →
+      more ≡ told ++ lines_by d h acts p.calls.reads p.calls.writes items
+  roomy h room same is = is ∙ ap (λ (l : List ReportLine). l ++ lines_by d h acts p.calls.reads p.calls.writes items) same
 
   pub work_recorded : (idle h : report.Happened) (room : List ReportLine) → room ≡ told → h ≡ work_told d p.running idle p.end →
-      more ≡ room ++ lines_by d h [] p.calls.reads p.calls.writes items →
+      more ≡ room ++ lines_by d h acts p.calls.reads p.calls.writes items →
       more ≡ told ++ lines_when run e (work_told d (running_in (devices_of run) d) idle (happens run e).end)
   work_recorded idle h room same did_so is =
       recorded h (roomy h room same is)
@@ -105,7 +107,7 @@ module _ {V : Type 0} {G : Ghosts V} (s : Subsystem V G) (run : runs.Subsystem) 
       ∙ ap (λ (x : EventEnd). told ++ lines_when run e (work_told d (running_in (devices_of run) d) idle x)) (sym has.ended)
 
   pub start_recorded : (path : ℕ) (a : StartAnswer) (room : List ReportLine) → room ≡ told → a ≡ start_answer p.end →
-      more ≡ room ++ lines_by d (did.Started path d a) [] p.calls.reads p.calls.writes items →
+      more ≡ room ++ lines_by d (did.Started path d a) acts p.calls.reads p.calls.writes items →
       more ≡ told ++ lines_when run e (did.Started path d (start_answer (happens run e).end))
   start_recorded path a room same answered is =
       recorded (did.Started path d a) (roomy (did.Started path d a) room same is)
@@ -113,5 +115,5 @@ module _ {V : Type 0} {G : Ghosts V} (s : Subsystem V G) (run : runs.Subsystem) 
       ∙ ap (λ (x : EventEnd). told ++ lines_when run e (did.Started path d (start_answer x))) (sym has.ended)
 
   pub reset_recorded : (path : ℕ) (room : List ReportLine) → room ≡ told →
-      more ≡ room ++ lines_by d (did.Reset path d) [] p.calls.reads p.calls.writes items → more ≡ told ++ lines_when run e (did.Reset path d)
+      more ≡ room ++ lines_by d (did.Reset path d) acts p.calls.reads p.calls.writes items → more ≡ told ++ lines_when run e (did.Reset path d)
   reset_recorded path room same is = recorded (did.Reset path d) (roomy (did.Reset path d) room same is)

@@ -1,4 +1,4 @@
-ghost use Rattle.std.specs.Prelude.{◌≡◌, ◌++◌, [], OnOk, true};
+ghost use Rattle.std.specs.Prelude.{◌≡◌, ◌++◌, OnOk, true};
 ghost use Rattle.device_outside.specs.Lists.{is_in};
 ghost use Rattle.report_text.specs.declared.event.Happened.TheVariants as did;
 ghost use Rattle.run_report.specs.Answers.{start_answer};
@@ -19,7 +19,7 @@ use ckd_types::{DeviceNo, NoMemory, PathNo};
 use deck_plan::EventLine;
 use device_outside::Volume;
 use plain_defs::Item;
-use report_text::{Happened, ReportLine, RunRecord};
+use report_text::{Happened, Loosed, ReportLine, RunRecord};
 use run_report::{Calls, Gained, record_event, start_answer, work_told};
 use std::alloc::Global;
 use subsystem_core::Subsystem;
@@ -28,17 +28,18 @@ use subsystem_defs::Event;
 /// As many events as the rest of a program takes at most.
 const MOST_STEPS: u32 = 8193;
 
-/// The lines of an event of one device, to which no act of cache fast write comes.
+/// The lines of an event of one device.
 fn record_passed(
     report: &mut RunRecord,
     d: DeviceNo,
     happened: Happened,
+    acts: &[Loosed],
     items: &[Item],
     calls: Calls,
 ) -> Result<(), NoMemory>
-    ensures { OnOk result (report.new ≡ report.old ++ lines_by d happened [] calls.reads calls.writes items.now) }
+    ensures { OnOk result (report.new ≡ report.old ++ lines_by d happened acts.now calls.reads calls.writes items.now) }
 {
-    let gained = Gained { acts: &[], items };
+    let gained = Gained { acts, items };
     record_event(report, d, happened, &gained, calls)
 }
 
@@ -62,7 +63,7 @@ fn step<V: Volume>(
     let items = behind_first(sub.device(d).journal(), passed.items);
     let end = passed.end;
     let happened = work_told(d, &passed.running, idle, end);
-    record_passed(report, d, happened, items, passed.calls)?;
+    record_passed(report, d, happened, &passed.acts, items, passed.calls)?;
     Ok(())
 }
 
@@ -85,7 +86,7 @@ fn start<V: Volume>(
     let passed = pass(alloc, sub, d, Event::Start(path, d))?;
     let items = behind_first(sub.device(d).journal(), passed.items);
     let started = Happened::Started(path, d, start_answer(&passed.end));
-    record_passed(report, d, started, items, passed.calls)?;
+    record_passed(report, d, started, &passed.acts, items, passed.calls)?;
     Ok(())
 }
 
@@ -106,7 +107,8 @@ fn reset<V: Volume>(
     report.make_room()?;
     let passed = pass(alloc, sub, d, Event::Reset(path, d))?;
     let items = behind_first(sub.device(d).journal(), passed.items);
-    record_passed(report, d, Happened::Reset(path, d), items, passed.calls)?;
+    let happened = Happened::Reset(path, d);
+    record_passed(report, d, happened, &passed.acts, items, passed.calls)?;
     Ok(())
 }
 

@@ -1,11 +1,11 @@
--- A deck that was read and has no line that isn't run yet runs plainly, also without frames and slots.
+-- A deck that was read and has no line that isn't run yet runs plainly.
 use Rattle.std.proofs.Common.{◌≡◌, ℕ, Bool, true, false, List, [], ◌∷◌, Option, None, refl}
 use Rattle.std.specs.Prelude.{All, ◌||◌, if◌then◌else◌}
 use Rattle.deck_plan.specs.declared.event.EventLine.{EventLine}
 use Rattle.deck_plan.specs.declared.event.EventLine.TheVariants as lines
 use Rattle.deck_text.specs.DeckLines.{DeckLines}
 use Rattle.deck_run.specs.Later.{first_later}
-use Rattle.deck_run.specs.Opening.{are_open_lines, is_open_line, numbers_in, uncached}
+use Rattle.deck_run.specs.Opening.{are_open_lines, is_open_line, numbers_in}
 use Rattle.deck_run.proofs.LaterSteps.{lines_open}
 use Rattle.subsystem_defs.specs.Decks.{run_of}
 use Rattle.subsystem_defs.specs.Promised.{IsPlainBehind}
@@ -50,11 +50,10 @@ no_pairs ns (e ∷ es) is =
     neither (is_pair e) (has_pair es) (no_pair ns e (first_open (is_open_line ns e) (are_open_lines ns es) is))
     (no_pairs ns es (rest_open (is_open_line ns e) (are_open_lines ns es) is))
 
-pub deck_served : (d : DeckLines) → WasRead d → first_later d ≡ None → IsServedDeck (uncached d)
+pub deck_served : (d : DeckLines) → WasRead d → first_later d ≡ None → IsServedDeck d
 deck_served d was_read none =
-    let s = read_served was_read.0 d was_read.1 (no_pairs (numbers_in d.devices) d.events (lines_open d none)) in
-    record { devices = s.devices; events = s.events }
+    read_served was_read.0 d was_read.1 (no_pairs (numbers_in d.devices) d.events (lines_open d none))
 
 pub deck_plain : (d : DeckLines) → ((deck : DeckLines) → IsServedDeck deck → All IsPlainBehind (run_of deck).events) → WasRead d → first_later d ≡ None →
     DeckRunsPlainly d
-deck_plain d law was_read none = law (uncached d) (deck_served d was_read none)
+deck_plain d law was_read none = law d (deck_served d was_read none)
