@@ -26,7 +26,7 @@ impl<V: Volume> Device<V> {
         ensures run { Ran surely K.hears (lose contents (device_of self.old) loss) (outside (P.view port.old) self.old.store keep.old) (device_of self.new) tt (outside (P.view port.new) self.new.store keep.new) }
     {
         self.store.hear::<P, K>(port);
-        self.store.lose(loss);
+        self.store.lose(loss, keep);
     }
 
     /// The same, with a keeper that keeps nothing.
