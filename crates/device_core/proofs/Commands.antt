@@ -13,20 +13,15 @@ use Rattle.nv_store.specs.declared.patches.Stored.{Stored}
 use Rattle.device_outside.specs.Interaction.{Interaction, Done, and_then}
 use Rattle.device_outside.specs.Keeper.{Hearing}
 use Rattle.device_outside.specs.Outside.{Outside, Ran, done}
-use Rattle.device_outside.specs.declared.volume.Volume.{Ghosts}
 use Rattle.device_outside.proofs.Runs.{joined}
 use Rattle.device_defs.specs.declared.answers.Came.{Came}
 use Rattle.device_defs.specs.declared.answers.Came.TheVariants.{Ends, Checks, HalfOpen}
 use Rattle.device_defs.specs.Command.{command_by}
 use Rattle.device_defs.specs.Contents.{contents}
-use Rattle.device_defs.specs.Device.{event, quiet_event, event_ended}
+use Rattle.device_defs.specs.Device.{event, quiet_event, event_begun, event_ended}
 use Rattle.device_defs.specs.Outcomes.{turned, gone_on}
-use Rattle.device_defs.specs.Owed.{hear}
+use Rattle.device_defs.specs.Owed.{begun, ended, hear, waiting_count}
 use Rattle.device_defs.specs.Store.{Store}
-use Rattle.device_store.specs.declared.store.DeviceStore.{DeviceStore}
-use Rattle.device_store.specs.State.{state_of}
-use Rattle.device_store.proofs.Bare.{ended_at_once}
-use Rattle.device_store.proofs.Moves.{from_equal}
 use Rattle.device_core.specs.declared.past.Running.{Running}
 use Rattle.device_core.specs.declared.past.Past.{Past}
 use Rattle.device_core.specs.Kept.{open_of, chain_of, waiting_in}
@@ -84,20 +79,20 @@ pub to_answer : {R I K S A : Type 0} {had : Bool → Type 0} {hears : Hearing I 
     a ≡ b → Ran had hears i v s a w → Ran had hears i v s b w
 to_answer {had = had} {hears = hears} {i = i} {v = v} {w = w} {s = s} same ran = subst (λ x. Ran had hears i v s x w) same ran
 
-module _ {V K A : Type 0} {G : Ghosts V} {had : Bool → Type 0} {hears : Hearing Image K} where
-  -- an event that takes no notes ends at once behind its work
-  pub quiet_ran : (x y : DeviceStore V G) (d e : DefinedDevice) (body : DefinedDevice → Interaction (List ℕ) Image DefinedDevice A) {a : A}
-      {u w : Outside (List ℕ) K} → Ran had hears (body (record d { store = state_of x })) u (record e { store = state_of y }) a w →
-      Ran had hears (quiet_event contents (record d { store = state_of x }) body) u (record e { store = state_of y }) a w
-  quiet_ran x y d e body {a} bodied =
-      joined (event_ended contents (record d { store = state_of x })) bodied
-      (from_equal (λ i. and_then i (λ z _. Done (record e { store = z }) a)) (sym (ended_at_once contents (state_of x) (state_of y))) refl done)
+module _ {K A : Type 0} {had : Bool → Type 0} {hears : Hearing Image K} where
+  -- an event that takes no notes: it begins, does its work, and ends
+  pub quiet_ran : (d e : DefinedDevice) (z : Store Frame Stored Image) (body : DefinedDevice → Interaction (List ℕ) Image DefinedDevice A) {a : A}
+      {u v w : Outside (List ℕ) K} → Ran had hears (body (event_begun d)) u e a v →
+      Ran had hears (ended contents (waiting_count contents d.store) e.store) v z tt w →
+      Ran had hears (quiet_event contents d body) u (record e { store = z }) a w
+  quiet_ran d e z body {a} bodied over = joined (event_ended contents d) bodied (joined (λ s _. Done (record e { store = s }) a) over done)
 
   -- and one that takes its notes before its work
-  pub event_ran : (x y : DeviceStore V G) (d e : DefinedDevice) (body : DefinedDevice → Interaction (List ℕ) Image DefinedDevice A) {a : A}
-      {u v w : Outside (List ℕ) K} → Ran had hears (hear contents 960 (state_of x)) u (state_of x) tt v →
-      Ran had hears (body (record d { store = state_of x })) v (record e { store = state_of y }) a w →
-      Ran had hears (event contents (record d { store = state_of x }) body) u (record e { store = state_of y }) a w
-  event_ran x y d e body heard bodied =
-      quiet_ran x y d e (λ z. and_then (hear contents 960 z.store) (λ s _. body (record z { store = s })))
-      (joined (λ s _. body (record d { store = s })) heard bodied)
+  pub event_ran : (d e : DefinedDevice) (s z : Store Frame Stored Image) (body : DefinedDevice → Interaction (List ℕ) Image DefinedDevice A) {a : A}
+      {u v w x : Outside (List ℕ) K} → Ran had hears (hear contents 960 (begun d.store)) u s tt v →
+      Ran had hears (body (record (event_begun d) { store = s })) v e a w →
+      Ran had hears (ended contents (waiting_count contents d.store) e.store) w z tt x →
+      Ran had hears (event contents d body) u (record e { store = z }) a x
+  event_ran d e s z body heard bodied over =
+      quiet_ran d e z (λ y. and_then (hear contents 960 y.store) (λ q _. body (record y { store = q })))
+      (joined (λ q _. body (record (event_begun d) { store = q })) heard bodied) over
