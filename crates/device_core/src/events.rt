@@ -56,7 +56,11 @@ impl<V: Volume> Device<V> {
         ensures there { IfOk result (IsPeeked (state_of self.new.store) t) }
         ensures run { Ran (where_ok result) K.hears (peek contents (device_of self.old) t) (outside (P.view port.old) self.old.store keep.old) (device_of self.new) (had (peeked_by (state_of self.new.store) t) result) (outside (P.view port.new) self.new.store keep.new) }
     {
-        self.store.peek(t, port, keep)
+        let before = self.store.waiting_count();
+        self.store.begin_event();
+        let peeked = self.store.peek(t, port, keep);
+        self.store.end_event::<P, K>(before, port);
+        peeked
     }
 
     /// The same, with a keeper that keeps nothing.
