@@ -13,8 +13,8 @@ use loss_model::Loss;
 use track_image::TrackImage;
 
 impl<V: Volume> Device<V> {
-    /// A loss of the cache, of the nonvolatile store, or of a side, behind the notes of the device. No track becomes firm by it
-    /// yet, and so no keeper hears of it.
+    /// A loss of the cache, of the nonvolatile store, or of a side, behind the notes of the device. The keeper is told of
+    /// the tracks that it made firm.
     pub fn lose_with<P: Port, K: Keep<TrackImage>>(
         &mut self,
         loss: Loss,
@@ -25,8 +25,12 @@ impl<V: Volume> Device<V> {
         ensures takes { (d n : ℕ) → Takes K.takes keep.old d n → Takes K.takes keep.new d n }
         ensures run { Ran surely K.hears (lose contents (device_of self.old) loss) (outside (P.view port.old) self.old.store keep.old) (device_of self.new) tt (outside (P.view port.new) self.new.store keep.new) }
     {
+        let before = self.store.waiting_count();
+        self.store.begin_event();
         self.store.hear::<P, K>(port);
-        self.store.lose(loss);
+        self.store.lose(loss, keep);
+        self.past.note_acts(self.store.loose.acts());
+        self.store.end_event::<P, K>(before, port);
     }
 
     /// The same, with a keeper that keeps nothing.
