@@ -24,12 +24,13 @@ impl<V: Volume> Device<V> {
         port: &mut P,
         keep: &mut K,
     ) -> Result<Did, NoMemory>
+        requires takes { Takes K.takes keep.old self.old.store.number (self.old.store.cylinders * 15) }
         ensures fixed { (self.new.store.number ≡ self.old.store.number) × (self.new.store.cylinders ≡ self.old.store.cylinders) }
-        ensures takes { (d n : ℕ) → Takes K.takes keep.old d n → Takes K.takes keep.new d n }
+        ensures takes { Takes K.takes keep.new self.new.store.number (self.new.store.cylinders * 15) }
         ensures run { Ran (where_ok result) K.hears (background contents (device_of self.old)) (outside (P.view port.old) self.old.store keep.old) (device_of self.new) (had (λ did. did) result) (outside (P.view port.new) self.new.store keep.new) }
     {
         self.store.hear::<P, K>(port);
-        self.store.background::<P, K>(port)
+        self.store.background(port, keep)
     }
 
     /// The same, with a keeper that keeps nothing.

@@ -1,4 +1,4 @@
-ghost use Rattle.std.specs.Prelude.{◌≡◌, ℕ};
+ghost use Rattle.std.specs.Prelude.{◌≡◌, ◌*◌};
 ghost use Rattle.device_defs.specs.Contents.{contents};
 ghost use Rattle.device_defs.specs.Events.{lose};
 ghost use Rattle.device_outside.specs.declared.keep.NoKeep.{NoKeep};
@@ -21,8 +21,9 @@ impl<V: Volume> Device<V> {
         port: &mut P,
         keep: &mut K,
     )
+        requires { Takes K.takes keep.old self.old.store.number (self.old.store.cylinders * 15) }
         ensures fixed { (self.new.store.number ≡ self.old.store.number) × (self.new.store.cylinders ≡ self.old.store.cylinders) }
-        ensures takes { (d n : ℕ) → Takes K.takes keep.old d n → Takes K.takes keep.new d n }
+        ensures takes { Takes K.takes keep.new self.new.store.number (self.new.store.cylinders * 15) }
         ensures run { Ran surely K.hears (lose contents (device_of self.old) loss) (outside (P.view port.old) self.old.store keep.old) (device_of self.new) tt (outside (P.view port.new) self.new.store keep.new) }
     {
         let before = self.store.waiting_count();
