@@ -11,3 +11,4 @@ pub mod Resetting
 pub mod Starts
 pub mod Parts
 pub mod Powers
+pub mod Acting

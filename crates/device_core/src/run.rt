@@ -60,7 +60,7 @@ impl<V: Volume> Device<V> {
             keep,
         ) {
             Err(NoMemory) => Err(NoMemory),
-            Ok(came) => Ok(self.past.turned(self.store.alloc, came, &mut self.paths)),
+            Ok(came) => Ok(self.past.turned(came, &mut self.paths)),
         }
     }
 
