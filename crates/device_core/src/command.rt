@@ -39,6 +39,7 @@ pub(crate) fn on_tracks<V: Volume, P: Port, K: Keep<TrackImage>>(
     ensures fixed { (store.new.number ≡ store.old.number) × (store.new.cylinders ≡ store.old.cylinders) }
     ensures takes { Takes K.takes keep.new store.new.number (store.new.cylinders * 15) }
     ensures open { (open_of running.new ≡ open_of running.old) × (running.new.ends ≡ running.old.ends) }
+    ensures acts { (running.new.acts ≡ running.old.acts) × (running.new.room ≡ running.old.room) }
     ensures left { IfOk result (Left store.old.cylinders running.new.chain) }
     ensures again { OnErr result (running.new.chain ≡ again_from running.old.chain) }
     ensures weight { weight store.new.loose ≤ weight store.old.loose + 2 }
@@ -64,6 +65,7 @@ fn answer(
     requires running { IsSome running.old.chain.at.next }
     requires asks { running.old.chain.stage ≡ Some (Asks act) }
     ensures open { (open_of running.new ≡ open_of running.old) × (running.new.ends ≡ running.old.ends) }
+    ensures acts { (running.new.acts ≡ running.old.acts) × (running.new.room ≡ running.old.room) }
     ensures left { IfOk result (Left running.old.chain.fixed.cylinders running.new.chain) }
     ensures again { OnErr result ((running.new.chain ≡ again_from running.old.chain) × (paths.new ≡ paths.old)) }
     ensures answers { IfOk result (Answers geometry paths.old paths.new running.old.path running.old.chain (Local act) running.new.chain) }
@@ -91,6 +93,7 @@ pub(crate) fn on_paths(
     requires running { IsSome running.old.chain.at.next }
     requires answers { IsAtAnswer running.old.chain.stage }
     ensures open { (open_of running.new ≡ open_of running.old) × (running.new.ends ≡ running.old.ends) }
+    ensures acts { (running.new.acts ≡ running.old.acts) × (running.new.room ≡ running.old.room) }
     ensures left { IfOk result (Left running.old.chain.fixed.cylinders running.new.chain) }
     ensures again { OnErr result ((running.new.chain ≡ again_from running.old.chain) × (paths.new ≡ paths.old)) }
     ensures answers { IfOk result (Answers geometry paths.old paths.new running.old.path (stepped running.old.chain None).chain (stepped running.old.chain None).progress running.new.chain) }

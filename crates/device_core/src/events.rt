@@ -17,8 +17,8 @@ use device_store::Peeked;
 use track_image::TrackImage;
 
 impl<V: Volume> Device<V> {
-    /// What the device does by itself, behind its notes: it stages the oldest queued track. After want of memory that track isn't
-    /// queued any more. No keeper hears of it yet.
+    /// What the device does by itself, behind its notes: it recovers a track, stages the oldest queued one or destages one. After
+    /// want of memory that track isn't queued any more. The keeper is told of a track that it makes firm.
     pub fn background_with<P: Port, K: Keep<TrackImage>>(
         &mut self,
         port: &mut P,
@@ -29,8 +29,12 @@ impl<V: Volume> Device<V> {
         ensures takes { Takes K.takes keep.new self.new.store.number (self.new.store.cylinders * 15) }
         ensures run { Ran (where_ok result) K.hears (background contents (device_of self.old)) (outside (P.view port.old) self.old.store keep.old) (device_of self.new) (had (λ did. did) result) (outside (P.view port.new) self.new.store keep.new) }
     {
+        let before = self.store.waiting_count();
+        self.store.begin_event();
         self.store.hear::<P, K>(port);
-        self.store.background(port, keep)
+        let did = self.store.background(port, keep);
+        self.close_event::<P, K>(before, port);
+        did
     }
 
     /// The same, with a keeper that keeps nothing.
