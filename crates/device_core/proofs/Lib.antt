@@ -12,3 +12,4 @@ pub mod Starts
 pub mod Parts
 pub mod Powers
 pub mod Acting
+pub mod Eventful

@@ -30,8 +30,7 @@ impl<V: Volume> Device<V> {
         self.store.begin_event();
         self.store.hear::<P, K>(port);
         self.store.lose(loss, keep);
-        self.past.note_acts(self.store.loose.acts());
-        self.store.end_event::<P, K>(before, port);
+        self.close_event::<P, K>(before, port);
     }
 
     /// The same, with a keeper that keeps nothing.

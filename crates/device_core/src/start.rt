@@ -24,7 +24,7 @@ pub enum NotStarted {
 }
 
 /// What may come before the next start: the entry of the program, the reset of its path, those of four that wait, a loss of power.
-const ITEMS_BEFORE_NEXT: usize = 7;
+pub(crate) const ITEMS_BEFORE_NEXT: usize = 7;
 
 fn all_four(first: bool, second: bool, third: bool, fourth: bool) -> bool
     ensures { result ≡ (first && (second && (third && (fourth && true)))) }
