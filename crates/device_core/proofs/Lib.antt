@@ -13,3 +13,4 @@ pub mod Parts
 pub mod Powers
 pub mod Acting
 pub mod Eventful
+pub mod Losing

@@ -12,7 +12,8 @@ use Rattle.device_store.specs.Looks.{StoreOf, peeked_by, IsPeeked}
 use Rattle.device_store.specs.State.{state_of, outside_of, had}
 use Rattle.device_store.proofs.Moves.{from_equal, weaker}
 use Rattle.device_core.specs.State.{device_of}
-use Rattle.device_core.proofs.Commands.{quiet_ran, to_answer}
+use Rattle.device_core.proofs.Commands.{to_answer}
+use Rattle.device_core.proofs.Eventful.{quiet_run}
 use Rattle.device_core.proofs.Whole.{to_equal}
 use Rattle.device_core.proofs.device.Device.peek_with.Goals as goal
 
@@ -25,11 +26,12 @@ returns-clause-run g c =
     let none : s.acts ≡ [] = ap (λ l. l.acts) c.peek-peeked.ensures.loose ∙ ap (λ (q : StoreOf). q.acts) c.begin_event.ensures.state in
     to_answer (ap (λ (q : StoreOf). had (peeked_by q c.args.t) c.peek-peeked.result) (sym c.end_event.ensures.rest))
     (to_equal (ap (λ (acts : List Act). record d { store = z; history = all_acted d.history acts }) none)
-    (quiet_ran d (with_store (event_begun d) s) z (λ y. and_then (peek_track contents y.store c.args.t) (λ q found. Done (with_store y q) found))
+    (quiet_run d (λ y. and_then (peek_track contents y.store c.args.t) (λ q found. Done (with_store y q) found)) (with_store (event_begun d) s)
+    (record (with_store (event_begun d) s) { store = z })
     (joined (λ q found. Done (with_store (event_begun d) q) found)
     (from_equal (λ q. peek_track contents q c.args.t) c.begin_event.ensures.state
     (ap (λ x. outside_of (g.P.Port.view c.args.port.now) (g.V.Volume.view x) c.args.keep.now) c.begin_event.ensures.volume) c.peek-peeked.ensures.run) done)
-    (from_equal (λ n. owed.ended contents n s) c.waiting_count-before.ensures refl (weaker c.peek-peeked.result (c.end_event.ensures.run _)))))
+    (from_equal (λ n. owed.ended contents n s) c.waiting_count-before.ensures refl (weaker c.peek-peeked.result (c.end_event.ensures.run _))) refl))
 
 pub returns-clause-there : goal.returns-clause-there
 returns-clause-there g c =
