@@ -104,8 +104,8 @@ module _ (s : Store Frame Stored Image) (paths : PathsState) (plans : Plans) whe
             let it = open_acted (with_open (Some (open_of r))) s.acts (open_of r) refl in
             ap (λ (h : History). turned (with_past h (option_map chain_of p.running)) r.path (turn_with r.chain came)) acted_as
             ∙ turned_anew (with_past (history_of q) (option_map chain_of q.running)) (option_map chain_of p.running) r.path r.chain came
-            ∙ ap (λ (n : ℕ). turned (device_by s paths plans q) n (turn_with r.chain came)) (sym it.1.1)
-            ∙ sym (turn it.0 r.chain (open_is ∙ it.1.0) same)
+            ∙ ap (λ (n : ℕ). turned (device_by s paths plans q) n (turn_with r.chain came)) (sym it.2)
+            ∙ sym (turn it.0 r.chain (open_is ∙ it.1) same)
 
 -- the same run, with an equal answer
 pub to_answer : {R I K S A : Type 0} {had : Bool → Type 0} {hears : Hearing I K} {i : Interaction R I S A} {v w : Outside R K} {s : S} {a b : A} →

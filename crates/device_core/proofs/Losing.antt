@@ -24,12 +24,13 @@ use Rattle.device_core.specs.declared.past.Running.{Running}
 use Rattle.device_core.specs.State.{DefinedDevice, commanded_by, came_to, told}
 use Rattle.device_core.specs.Turns.{turn_with}
 
+by_loss_of : (b x y : Bool) → x ≡ y → (b || x) ≡ (if b then true else y)
+by_loss_of true x y same = refl
+by_loss_of false x y same = same
+
 any_loss : (acts : List Acted) → list_any (λ a. is_loss a.act) acts ≡ has_loss acts
 any_loss [] = refl
-any_loss (a ∷ acts) = by_case (is_loss a.act) where
-  by_case : (b : Bool) → (b || list_any (λ a. is_loss a.act) acts) ≡ (if b then true else has_loss acts)
-  by_case true = refl
-  by_case false = any_loss acts
+any_loss (a ∷ acts) = by_loss_of (is_loss a.act) _ _ (any_loss acts)
 
 pub has_lost : (acts : List Acted) (x : Bool) {b : Bool} → x ≡ list_any (λ a. is_loss a.act) acts → x ≡ b → has_loss acts ≡ b
 has_lost acts x any is = sym (any_loss acts) ∙ sym any ∙ is
@@ -41,7 +42,7 @@ by_loss d r is = rw is refl
 pub lost_ran : {K : Type 0} {hears : Hearing Image K} {w : Outside (List ℕ) K} (d : DefinedDevice) (r : Running) (s : StoreOf) (paths : PathsState)
     (chain : ChainState) (came : Came) → d.store ≡ s → d.paths ≡ paths → s.acts ≡ [] → has_loss r.acts.items ≡ true →
     turn_with chain came ≡ checks r.chain Equipment →
-    Ran (where_ok (Ok {E = NoMemory} came)) hears (commanded_by d r) w (came_to {E = NoMemory} (record (with_store d s) { paths = paths }) r.path chain (Ok came)) (told {E = NoMemory} (Ok came)) w
+    Ran (where_ok {E = NoMemory} (Ok came)) hears (commanded_by d r) w (came_to {E = NoMemory} (record (with_store d s) { paths = paths }) r.path chain (Ok came)) (told {E = NoMemory} (Ok came)) w
 lost_ran d r s paths chain came store same fresh lost turn =
     rw lost (ended
     (ap (λ (t : Turn). turned d r.path t) (sym turn)
