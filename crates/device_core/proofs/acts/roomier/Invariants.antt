@@ -3,6 +3,6 @@ use Rattle.device_core.proofs.acts.roomier.Given as goal
 
 abbrev pub invariant-loop-act : goal.invariant-loop-act
 invariant-loop-act l = record {
-  items : l.made.items ≡ take l.act-index l.fn.acts.now.items;
-  room : length l.fn.acts.now.items + l.fn.n ≤ l.made.spare + l.act-index;
+  items : l.made.items ≡ take l.act-index l.fn.acts.items;
+  room : length l.fn.acts.items + l.fn.n ≤ l.made.spare + l.act-index;
 }
