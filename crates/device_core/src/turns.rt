@@ -1,4 +1,4 @@
-ghost use Rattle.std.specs.Prelude.{◌≡◌, ◌<◌, ◌*◌, IfOk, IfSome, OnErr, IsSome, option_map};
+ghost use Rattle.std.specs.Prelude.{◌≡◌, ◌<◌, ◌≤◌, ◌+◌, ◌*◌, IfOk, IfSome, OnErr, IsSome, option_map};
 ghost use Rattle.ckd_chain.specs.declared.progress.Settled.TheVariants as settleds;
 ghost use Rattle.ckd_chain.specs.Facts.{MayBeWritten};
 ghost use Rattle.ckd_rules.specs.Facts.{Suits};
@@ -10,7 +10,8 @@ ghost use Rattle.device_defs.specs.Outcomes.{usage_of, wrote_turn, checks};
 ghost use Rattle.device_outside.specs.Outside.{Ran, where_ok};
 ghost use Rattle.device_store.specs.Looks.{seen, IsSeen};
 ghost use Rattle.device_store.specs.State.{state_of, outside, Takes, had};
-ghost use Rattle.device_core.specs.Turns.{turn_with, went_with, IsAt, Left, IsSameHand, GoesOn};
+ghost use Rattle.device_core.specs.Turns.{turn_with, went_with, IsAt, Left, IsSameHand, GoesOn, KeepsLoose};
+ghost use Rattle.event_notes.specs.Loose.{weight};
 
 use ckd_chain::{Chain, Progress, Settled};
 use ckd_types::{Edit, HEADS, NoMemory, TrackNo};
@@ -89,6 +90,7 @@ fn write_seen<V: Volume, P: Port, K: Keep<TrackImage>>(
     requires takes { Takes K.takes keep.old store.old.number (store.old.cylinders * 15) }
     ensures fixed { (store.new.number ≡ store.old.number) × (store.new.cylinders ≡ store.old.cylinders) }
     ensures takes { Takes K.takes keep.new store.new.number (store.new.cylinders * 15) }
+    ensures weight { weight store.new.loose ≤ weight store.old.loose + 2 }
     ensures run { Ran (where_ok result) K.hears (write contents (state_of store.old) usage.now first t (seen (state_of store.old) t (option_map (λ i. i.now) read.entry)) edit) (outside (P.view port.old) store.old keep.old) (state_of store.new) (had (λ took. took) result) (outside (P.view port.new) store.new keep.new) }
 {
     match read {
@@ -119,6 +121,8 @@ fn write_edit<V: Volume, P: Port, K: Keep<TrackImage>>(
     ensures takes { Takes K.takes keep.new store.new.number (store.new.cylinders * 15) }
     ensures goes { IfOk result (GoesOn store.old.cylinders chain.old chain.new) }
     ensures hand { OnErr result (IsSameHand chain.old chain.new) }
+    ensures weight { weight store.new.loose ≤ weight store.old.loose + 2 }
+    ensures on { IfOk result (KeepsLoose store.old.loose store.new.loose) }
     ensures run { Ran (where_ok result) K.hears (and_had (write contents (state_of store.old) usage.now first t (seen (state_of store.old) t (option_map (λ i. i.now) read.entry)) edit) (came_of_write contents chain.old t)) (outside (P.view port.old) store.old keep.old) (state_of store.new) (had (went_with chain.new) result) (outside (P.view port.new) store.new keep.new) }
 {
     match write_seen(store, usage, first, t, read, edit, port, keep) {
@@ -147,6 +151,8 @@ fn on_image<V: Volume, P: Port, K: Keep<TrackImage>>(
     ensures takes { Takes K.takes keep.new store.new.number (store.new.cylinders * 15) }
     ensures goes { IfOk result (GoesOn store.old.cylinders chain.old chain.new) }
     ensures hand { OnErr result (IsSameHand chain.old chain.new) }
+    ensures weight { weight store.new.loose ≤ weight store.old.loose + 2 }
+    ensures on { IfOk result (KeepsLoose store.old.loose store.new.loose) }
     ensures run { Ran (where_ok result) K.hears (went_on contents chain.old first t (state_of store.old) (seen (state_of store.old) t (option_map (λ i. i.now) read.entry))) (outside (P.view port.old) store.old keep.old) (state_of store.new) (had (went_with chain.new) result) (outside (P.view port.new) store.new keep.new) }
 {
     let image = store.seen(t, read);
@@ -180,6 +186,8 @@ fn look<V: Volume, P: Port, K: Keep<TrackImage>>(
     ensures takes { Takes K.takes keep.new store.new.number (store.new.cylinders * 15) }
     ensures goes { IfOk result (GoesOn store.old.cylinders chain.old chain.new) }
     ensures hand { OnErr result (IsSameHand chain.old chain.new) }
+    ensures weight { weight store.new.loose ≤ weight store.old.loose + 2 }
+    ensures on { IfOk result (KeepsLoose store.old.loose store.new.loose) }
     ensures run { Ran (where_ok result) K.hears (look contents chain.old first t (state_of store.old)) (outside (P.view port.old) store.old keep.old) (state_of store.new) (had (went_with chain.new) result) (outside (P.view port.new) store.new keep.new) }
 {
     if store.lost.has(t) {
@@ -213,6 +221,7 @@ pub fn follow<V: Volume, P: Port, K: Keep<TrackImage>>(
     ensures takes { Takes K.takes keep.new store.new.number (store.new.cylinders * 15) }
     ensures left { IfOk result (Left store.old.cylinders chain.new) }
     ensures hand { OnErr result (IsSameHand chain.old chain.new) }
+    ensures weight { weight store.new.loose ≤ weight store.old.loose + 2 }
     ensures run { Ran (where_ok result) K.hears (follow contents (store.old.cylinders * 15) first chain.old first (state_of store.old)) (outside (P.view port.old) store.old keep.old) (state_of store.new) (had (turn_with chain.new) result) (outside (P.view port.new) store.new keep.new) }
 {
     let tracks = usize::from(store.cylinders) * usize::from(HEADS);

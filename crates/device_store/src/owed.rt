@@ -93,6 +93,7 @@ impl<V: Volume> DeviceStore<V> {
         ensures fixed { (self.new.number ≡ self.old.number) × (self.new.cylinders ≡ self.old.cylinders) }
         ensures volume { self.new.volume ≡ self.old.volume }
         ensures loose { self.new.loose ≡ self.old.loose }
+        ensures rest { state_of self.new ≡ record (state_of self.old) { owed = self.new.owed } }
         ensures run { (k : K) → Ran surely K.hears (settles_debt contents t (state_of self.old)) (outside (P.view port.old) self.old k) (state_of self.new) tt (outside (P.view port.new) self.new k) }
     {
         self.tell_modified::<P, K>(t, port);
@@ -105,6 +106,7 @@ impl<V: Volume> DeviceStore<V> {
         ensures fixed { (self.new.number ≡ self.old.number) × (self.new.cylinders ≡ self.old.cylinders) }
         ensures volume { self.new.volume ≡ self.old.volume }
         ensures loose { self.new.loose ≡ self.old.loose }
+        ensures rest { state_of self.new ≡ record (state_of self.old) { owed = self.new.owed } }
         ensures run { (k : K) → Ran surely K.hears (track_told contents t (state_of self.old)) (outside (P.view port.old) self.old k) (state_of self.new) tt (outside (P.view port.new) self.new k) }
     {
         if is_owed(&self.owed.at(t)) {
@@ -117,6 +119,7 @@ impl<V: Volume> DeviceStore<V> {
         ensures fixed { (self.new.number ≡ self.old.number) × (self.new.cylinders ≡ self.old.cylinders) }
         ensures volume { self.new.volume ≡ self.old.volume }
         ensures loose { self.new.loose ≡ self.old.loose }
+        ensures rest { state_of self.new ≡ record (state_of self.old) { owed = self.new.owed } }
         ensures run { (k : K) → Ran surely K.hears (all_told contents (self.old.cylinders * 15) (state_of self.old)) (outside (P.view port.old) self.old k) (state_of self.new) tt (outside (P.view port.new) self.new k) }
     {
         let tracks = u16::from(self.cylinders) * HEADS;
@@ -130,6 +133,7 @@ impl<V: Volume> DeviceStore<V> {
         ensures fixed { (self.new.number ≡ self.old.number) × (self.new.cylinders ≡ self.old.cylinders) }
         ensures volume { self.new.volume ≡ self.old.volume }
         ensures loose { self.new.loose ≡ self.old.loose }
+        ensures rest { state_of self.new ≡ record (state_of self.old) { owed = self.new.owed } }
         ensures run { (k : K) → Ran surely K.hears (all_told contents (self.old.cylinders * 15) (state_of self.old)) (outside (P.view port.old) self.old k) (state_of self.new) tt (outside (P.view port.new) self.new k) }
     {
         if self.owed.are_paid() {
@@ -155,6 +159,7 @@ impl<V: Volume> DeviceStore<V> {
         ensures fixed { (self.new.number ≡ self.old.number) × (self.new.cylinders ≡ self.old.cylinders) }
         ensures volume { self.new.volume ≡ self.old.volume }
         ensures loose { self.new.loose ≡ self.old.loose }
+        ensures rest { state_of self.new ≡ record (state_of self.old) { owed = self.new.owed } }
         ensures run { (k : K) → Ran surely K.hears (ended contents before (state_of self.old)) (outside (P.view port.old) self.old k) (state_of self.new) tt (outside (P.view port.new) self.new k) }
     {
         self.tell_all::<P, K>(port);

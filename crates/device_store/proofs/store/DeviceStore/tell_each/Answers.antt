@@ -3,6 +3,7 @@ use Rattle.device_outside.specs.Outside.{done}
 use Rattle.device_outside.proofs.Runs.{joined}
 use Rattle.device_defs.specs.Contents.{contents}
 use Rattle.device_defs.specs.Owed.{all_told, track_told}
+use Rattle.device_store.specs.Looks.{StoreOf}
 use Rattle.device_store.specs.State.{state_of}
 use Rattle.device_store.proofs.Moves.{from_equal}
 use Rattle.device_store.proofs.Telling.{told_more, told_none}
@@ -14,6 +15,7 @@ loop-t-init g c = record {
   cylinders = refl;
   volume = refl;
   loose = refl;
+  rest = refl;
   ran = λ k. from_equal (λ i. i) (sym (told_none contents (state_of c.args.self.now))) refl done;
 }
 
@@ -23,6 +25,7 @@ loop-t-preserved g c = record {
   cylinders = c.tell_track.ensures.fixed.1 ∙ c.loop-t.invariant.cylinders;
   volume = c.tell_track.ensures.volume ∙ c.loop-t.invariant.volume;
   loose = c.tell_track.ensures.loose ∙ c.loop-t.invariant.loose;
+  rest = c.tell_track.ensures.rest ∙ ap (λ (z : StoreOf). record z { owed = c.tell_track.new.self.owed }) c.loop-t.invariant.rest;
   ran = λ k. from_equal (λ i. i) (sym (told_more contents c.loop-t.t _ (state_of c.args.self.now) refl)) refl
       (joined (λ z _. track_told contents c.loop-t.t z) (c.loop-t.invariant.ran k)
       (from_equal (λ n. track_told contents n (state_of c.loop-t.self)) c.track.ensures refl (c.tell_track.ensures.run k)));

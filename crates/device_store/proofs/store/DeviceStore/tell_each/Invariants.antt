@@ -11,6 +11,7 @@ invariant-loop-t g l = record {
   cylinders : l.self.cylinders ≡ l.fn.self.cylinders;
   volume : l.self.volume ≡ l.fn.self.volume;
   loose : l.self.loose ≡ l.fn.self.loose;
+  rest : state_of l.self ≡ record (state_of l.fn.self) { owed = l.self.owed };
   ran : (k : g.row.K.Denot) → Ran surely g.K.Keep.hears (all_told contents l.t (state_of l.fn.self)) (outside (g.P.Port.view l.fn.port) l.fn.self k)
       (state_of l.self) tt (outside (g.P.Port.view l.port) l.self k);
 }
