@@ -1,6 +1,6 @@
 //! What is told of the acts of cache fast write that came with an event.
 
-ghost use Rattle.std.specs.Prelude.{◌≡◌, IfOk};
+ghost use Rattle.std.specs.Prelude.{◌≡◌, ◌≤◌, IfOk};
 ghost use Rattle.device_core.specs.State.{device_of};
 ghost use Rattle.run_report.specs.Beside.{id_of};
 ghost use Rattle.subsystem_defs.specs.Beside.{has_power, is_power, loose_count};
@@ -14,11 +14,18 @@ use report_text::{LooseAnswer, Loosed};
 use std::alloc::Global;
 use subsystem_defs::EventEnd;
 
+fn count_of<V: Volume>(device: &Device<V>) -> usize
+    ensures value { result ≡ loose_count (device_of device.now).store }
+    ensures most { result ≤ 960 }
+{
+    device.store.loose.count()
+}
+
 /// How many tracks are loose.
 pub(crate) fn loose_of<V: Volume>(device: &Device<V>) -> u16
     ensures { result ≡ loose_count (device_of device.now).store }
 {
-    device.store.loose.count() as u16
+    count_of(device) as u16
 }
 
 fn data_of<V: Volume>(device: &Device<V>) -> u16
