@@ -21,7 +21,9 @@ use Rattle.device_defs.specs.declared.answers.StartFault.{StartFault}
 use Rattle.device_defs.specs.declared.answers.Stepped as defs
 use Rattle.device_defs.specs.declared.counts.Counts.{Counts}
 use Rattle.device_defs.specs.Command.{command}
+use Rattle.device_defs.specs.declared.answers.Did.{Did}
 use Rattle.device_defs.specs.Contents.{contents}
+use Rattle.device_defs.specs.Events.{background}
 use Rattle.device_defs.specs.Cutting.{reset}
 use Rattle.device_defs.specs.Start as starting
 use Rattle.device_defs.specs.Start.{start_fault, start, started_count}
@@ -51,6 +53,7 @@ use Rattle.subsystem_defs.specs.Deeds.{
   start_by,
   starts,
   step,
+  back,
   on_device,
   device_in,
   deed,
@@ -78,7 +81,7 @@ use Rattle.deck_run.proofs.Telling.{AreKnown, all_known, known_at, one_tells, ru
 use Rattle.subsystem_defs.specs.Beside.{new_acts}
 use Rattle.deck_run.specs.Loosening.{acts_by}
 use Rattle.deck_run.proofs.Acting.{brought_none, new_are, none_new, started_new}
-use Rattle.deck_run.proofs.Stays.{Answers, HasOf, Is, IsNoted, Stays, command_stays, reset_stays}
+use Rattle.deck_run.proofs.Stays.{Answers, HasOf, Is, IsNoted, Stays, background_stays, command_stays, reset_stays}
 use Rattle.deck_run.proofs.Surely.{Surely, s_done, s_then, ran_so}
 
 some_same : {X : Type 0} {x y : X} → Some x ≡ Some y → x ≡ y
@@ -132,6 +135,32 @@ step_leaves d o chain running at single own =
     (λ y a l. s_done (
       own_of chain.ccws chain.fixed d y mine.0 mine.1 own.plans l.0.is l.0.plans_are l.0.chain,
       step_brings d y a (new_are d.history y.history y.store.acts l.0.acts) l.1,
+    ))
+
+back_brings : (d y : DefinedDevice) (o : Option Did) → new_acts d.history y.history ≡ y.store.acts → Answers o → Brings d y (end_of answers.Back o)
+back_brings d y None came h = h
+back_brings d y (Some did) came h = came
+
+back_by : (d : DefinedDevice) (o : Option ChainState) → d.chain ≡ o → d.store.paired ≡ false → IsOwn d →
+    Leaves d (may_end_by answers.Back (background contents d))
+back_by d None at single own =
+    let fixed : Fixed = record { geometry = d.store.geometry; cylinders = d.store.cylinders; number = 0 } in
+    s_then
+    (background_stays contents d.store.geometry d.store.cylinders [] fixed d.plans d.history d (refl, (refl, single)) refl
+    (subst (HasOf [] fixed) (sym at) tt) refl)
+    (λ y a l. s_done (
+      own_of [] fixed d y refl (λ i k m h. absurd (omega (arith, h))) own.plans l.0.is l.0.plans_are l.0.chain,
+      back_brings d y a (new_are d.history y.history y.store.acts l.0.acts) l.1,
+    ))
+back_by d (Some chain) at single own =
+    let mine : (chain.fixed.geometry ≡ d.store.geometry) × GivesAll chain.ccws =
+    subst (λ (x : Option ChainState). IfSome x (λ (c : ChainState). (c.fixed.geometry ≡ d.store.geometry) × GivesAll c.ccws)) at own.chain in
+    s_then
+    (background_stays contents d.store.geometry d.store.cylinders chain.ccws chain.fixed d.plans d.history d (refl, (refl, single)) refl
+    (subst (HasOf chain.ccws chain.fixed) (sym at) (refl, refl)) refl)
+    (λ y a l. s_done (
+      own_of chain.ccws chain.fixed d y mine.0 mine.1 own.plans l.0.is l.0.plans_are l.0.chain,
+      back_brings d y a (new_are d.history y.history y.store.acts l.0.acts) l.1,
     ))
 
 reset_by : (d : DefinedDevice) (path : ℕ) (o : Option ChainState) → d.chain ≡ o → d.store.paired ≡ false → IsOwn d →
@@ -243,12 +272,15 @@ module _ {V : Type 0} {G : Ghosts V} where
       let here = found_in xs d x (ap (device_at xs) on ∙ at) in
       subst (λ (o : Option DefinedDevice). Good n (device_of x) (on_device o (step contents))) (sym here)
       (good_step n x x.past.running refl (number_found xs n x at) own)
+  good n x xs pool (events.Back d) at own on =
+      let here = found_in xs d x (ap (device_at xs) on ∙ at) in
+      subst (λ (o : Option DefinedDevice). Good n (device_of x) (on_device o (back contents))) (sym here)
+      (number_found xs n x at, back_by (device_of x) (device_of x).chain refl refl own)
   good n x xs pool (events.Reset path d) at own on =
       let here = found_in xs d x (ap (device_at xs) on ∙ at) in
       subst (λ (o : Option DefinedDevice). Good n (device_of x) (on_device o (λ y. Asks y (ends_by ends_done (reset contents y path))))) (sym here)
       (number_found xs n x at, reset_by (device_of x) path (device_of x).chain refl refl own)
   good n x xs pool events.Power at own on = absurd on
-  good n x xs pool (events.Back d) at own on = absurd on
   good n x xs pool events.FailCache at own on = absurd on
   good n x xs pool events.FailStore at own on = absurd on
   good n x xs pool (events.FailVolume d side) at own on = absurd on
@@ -438,9 +470,9 @@ may_by ns n m is here = ap (λ (k : ℕ). is_in k ns) is ∙ here
 pub open_may_come : (ns : List ℕ) (n : ℕ) (e : Event) → IsOpenOn n e → is_in n ns ≡ true → may_come ns e ≡ true
 open_may_come ns n (events.Start path d) on here = may_by ns n d on.0 here
 open_may_come ns n (events.Step d) on here = may_by ns n d on here
+open_may_come ns n (events.Back d) on here = may_by ns n d on here
 open_may_come ns n (events.Reset path d) on here = may_by ns n d on here
 open_may_come ns n events.Power on here = absurd on
-open_may_come ns n (events.Back d) on here = absurd on
 open_may_come ns n events.FailCache on here = absurd on
 open_may_come ns n events.FailStore on here = absurd on
 open_may_come ns n (events.FailVolume d side) on here = absurd on

@@ -5,6 +5,7 @@ use Rattle.plain_defs.specs.declared.journal.Item.{Item}
 use Rattle.device_outside.specs.declared.volume.Volume.{Ghosts}
 use Rattle.device_core.specs.declared.device.Device.{Device}
 use Rattle.report_text.specs.declared.event.Loosed.{Loosed}
+use Rattle.report_text.specs.declared.answers.BackAnswer.TheVariants as backs
 use Rattle.report_text.specs.declared.answers.StartAnswer.{StartAnswer}
 use Rattle.report_text.specs.declared.event.Happened as report
 use Rattle.report_text.specs.declared.event.Happened.TheVariants as did
@@ -66,6 +67,14 @@ one_step_tells s d told more is =
     is ∙ ap (λ (l : List ReportLine). told ++ l)
     (sym (append-nil _ ∙ work_lines_by s (events.Step d)
     (λ (z : runs.Subsystem). work_told d (running_in (devices_of z) d) (did.StepIdle d) (happens s (events.Step d)).end)))
+
+pub back_tells : (s : runs.Subsystem) (d : ℕ) (told more : List ReportLine) → more ≡ told ++ lines_when s (events.Back d)
+    (work_told d (running_in (devices_of s) d) (did.Back d backs.Nothing) (happens s (events.Back d)).end) →
+    more ≡ told ++ all_lines (logged (Once (events.Back d)) (happens s (events.Back d)) ∷ [])
+back_tells s d told more is =
+    is ∙ ap (λ (l : List ReportLine). told ++ l)
+    (sym (append-nil _ ∙ work_lines_by s (events.Back d)
+    (λ (z : runs.Subsystem). work_told d (running_in (devices_of z) d) (did.Back d backs.Nothing) (happens s (events.Back d)).end)))
 
 pub start_tells : (s : runs.Subsystem) (path d : ℕ) (told more : List ReportLine) → more ≡ told ++ lines_when s (events.Start path d)
     (did.Started path d (start_answer (happens s (events.Start path d)).end)) →

@@ -2,7 +2,7 @@
 -- and it answers where memory is had. The acts that come to its history are those that its store has noted. So it is with a reset, which
 -- brings none. The device has one side.
 use Rattle.std.proofs.Common.{◌≡◌, ◌∙◌, ◌&&◌, ◌+◌, ◌++◌, [], ◌∷◌, ℕ, zero, suc, Bool, true, false, List, Option, Some, None, is_some, refl, sym, ap, subst}
-use Rattle.std.specs.Prelude.{if◌then◌else◌, nat_le, nat_lt, ◌==◌, length, slice_index_or, slice_set}
+use Rattle.std.specs.Prelude.{if◌then◌else◌, ◌||◌, nat_le, nat_lt, ◌==◌, length, slice_index_or, slice_set}
 use Rattle.std.proofs.lemmas.Bool.{cond_both}
 use Rattle.ckd_types.specs.declared.channel.Ccw.{Ccw}
 use Rattle.ckd_types.specs.declared.channel.CommandEnd.{CommandEnd}
@@ -29,7 +29,7 @@ use Rattle.plain_defs.specs.History.{History, OpenEntry, has_used}
 use Rattle.plain_defs.specs.Journal.{Plans}
 use Rattle.ckd_types.specs.Parameters.{is_bypass}
 use Rattle.track_image.specs.Image.{Image, edited_image}
-use Rattle.device_outside.specs.Interaction.{Interaction}
+use Rattle.device_outside.specs.Interaction.{Interaction, Done, and_then}
 use Rattle.device_outside.specs.declared.port.SlotGrant.{SlotGrant}
 use Rattle.device_outside.specs.declared.port.SlotGrant.TheVariants as grants
 use Rattle.device_defs.specs.declared.answers.Came.{Came}
@@ -39,6 +39,32 @@ use Rattle.device_defs.specs.declared.answers.Took.TheVariants.{Whole, Opened, U
 use Rattle.device_defs.specs.declared.usage.Usage.{Usage}
 use Rattle.device_defs.specs.declared.answers.Choice.{Choice}
 use Rattle.device_defs.specs.declared.answers.Choice.TheVariants as choices
+use Rattle.device_defs.specs.declared.answers.Did.{Did}
+use Rattle.device_defs.specs.declared.answers.Did.TheVariants.{Recovered, Destaged}
+use Rattle.device_defs.specs.Background as works
+use Rattle.device_defs.specs.Background.{
+  saved_by,
+  saving,
+  saved,
+  recovered_image,
+  recovered_bytes,
+  recover,
+  copied,
+  copy_read,
+  copies_to,
+  copy_by,
+  staged_image,
+  staged_bytes,
+  stage,
+  to_destage,
+  destage_first,
+  stage_first,
+  to_copy,
+  copy_first,
+  to_recover,
+  recover_first,
+  work,
+}
 use Rattle.device_defs.specs.Choosing as choosing
 use Rattle.device_defs.specs.Choosing.{choose, slot_by, fast_by, fast_or_through, choose_loose, choose_firm, may_be_fast}
 use Rattle.device_defs.specs.Command as commands
@@ -70,6 +96,8 @@ use Rattle.plain_device.specs.Acted.{settled_act, paths_behind}
 use Rattle.device_defs.specs.Device.{Device, all_acted, event_ended, event_begun, with_store}
 use Rattle.device_defs.specs.Editing as editing
 use Rattle.device_defs.specs.Editing.{effect, whole, at_once, through_by, through, write_by, written, is_given, unchosen, write_chosen, write}
+use Rattle.device_defs.specs.Events as happened
+use Rattle.device_defs.specs.Events.{background}
 use Rattle.device_defs.specs.Image as images
 use Rattle.device_defs.specs.Image.{
   is_sequential,
@@ -471,6 +499,81 @@ module _ {F P H R : Type 0} (c : Contents F P H R) (g : Geometry) (n : ℕ) wher
   unfolding editing.write
   writes s u first t i e k = s_try (s_then (chosen s u t k) (λ z choice l. chosen_had u first t i e z choice l))
 
+  -- Work in the background
+
+  saveds_by : (t : ℕ) (i : Image) (d : Did) (fault : Option Side) (was : Bool) (failed : Option Side) (s : Store F P H) (took : Took) → Is s →
+      Keeps (saved_by c t i d fault was failed s took)
+  saveds_by t i d fault was failed s Whole k = s_then (dones s t i false k) (λ z _ l. s_done l)
+  saveds_by t i d fault was failed s Opened k = s_then (half_opens s t i OfBackground was k) (λ z _ l. s_done l)
+  saveds_by t i d fault was failed s Unwritten k = s_done k
+
+  savings : (s : Store F P H) (t : ℕ) (i : Image) (d : Did) (fault : Option Side) → Is s → Keeps (saving c s t i d fault)
+  savings s t i d fault k =
+      s_then (first_firm s t k)
+      (λ z was l. s_then (firsts z t (c.bytes i) l) (λ y w m. saveds_by t i d fault was w.fault y w.took m))
+
+  saves : (s : Store F P H) (t : ℕ) (i : Image) (d : Did) (fault : Option Side) → Is s → Had (saved c s t i d fault)
+  saves s t i d fault k = s_try (s_then (savings s t i d fault k) (λ z e l. s_done (l, tt)))
+
+  recovers_image : (t : ℕ) (s : Store F P H) (got : Got R) (o : Option Image) → Is s → Had (recovered_image c t s got o)
+  recovers_image t s got None k = s_done (k, tt)
+  recovers_image t s got (Some i) k = saves s t i (Recovered t) got.fault k
+
+  recovers_bytes : (t : ℕ) (s : Store F P H) (got : Got R) (o : Option R) → Is s → Had (recovered_bytes c t s got o)
+  recovers_bytes t s got None k = s_done (k, tt)
+  recovers_bytes t s got (Some r) k = s_try (recovers_image t s got (image_of c s t r) k)
+
+  recovers : (s : Store F P H) (t : ℕ) (o : Option F) → Is s → Had (recover c s t o)
+  recovers s t (Some f) k = saves s t (losses.framed_image c s t (Some f)) (Recovered t) None k
+  recovers s t None k = s_then (got_level s t k) (λ z got l. recovers_bytes t z got got.bytes l)
+
+  copies : (t : ℕ) (side : Side) (s : Store F P H) (ok : Bool) → Is s → Had (copied c t side s ok)
+  copies t A s ok k = s_if ok (λ _. s_done (k, tt)) (λ _. s_then (failed s A None k) (λ z _ l. s_done (l, tt)))
+  copies t B s ok k = s_if ok (λ _. s_done (k, tt)) (λ _. s_then (failed s B None k) (λ z _ l. s_done (l, tt)))
+
+  copies_read : (t : ℕ) (side : Side) (s : Store F P H) (o : Option R) → Is s → Had (copy_read c t side s o)
+  copies_read t side s None k = s_then (failed s (works.other side) None k) (λ z _ l. s_done (l, tt))
+  copies_read t side s (Some r) k = s_write (λ ok. copies t side (write_counted s ok) ok k)
+
+  copies_by : (s : Store F P H) (t : ℕ) (o : Option Side) → Is s → Had (copy_by c s t o)
+  copies_by s t None k = s_done (k, tt)
+  copies_by s t (Some side) k = s_read (λ r. copies_read t side (read_counted s (is_some r)) r k)
+
+  stages_image : (t : ℕ) (s : Store F P H) (got : Got R) (o : Option Image) → Is s → Had (staged_image c t s got o)
+  stages_image t s got None k = s_ask (λ _. s_done (k, tt))
+  stages_image t s got (Some i) k = s_then (fills s t i k) (λ z _ l. s_done (l, tt))
+
+  stages_bytes : (t : ℕ) (s : Store F P H) (got : Got R) (o : Option R) → Is s → Had (staged_bytes c t s got o)
+  stages_bytes t s got None k = s_ask (λ _. s_done (k, tt))
+  stages_bytes t s got (Some r) k = s_try (stages_image t s got (image_of c s t r) k)
+
+  stages_given : (s : Store F P H) (t : ℕ) (given : Bool) → Is s → Had (works.granted c s t given)
+  stages_given s t given k = s_if given (λ _. s_then (got_level s t k) (λ z got l. stages_bytes t z got got.bytes l)) (λ _. s_done (k, tt))
+
+  one_staged : (s : Store F P H) (t : ℕ) → Is s → Had (stage c s t)
+  one_staged s t k =
+      s_if (is_some (frame_at s t) || is_lost s t) (λ _. s_done (k, tt)) (λ _. s_try (s_ask (λ given. stages_given s t given k)))
+
+  destages_first : (s : Store F P H) (o : Option ℕ) → Is s → Had (destage_first c s o)
+  destages_first s None k = s_done (k, tt)
+  destages_first s (Some t) k = saves s t (losses.framed_image c s t (frame_at s t)) (Destaged t) None k
+
+  stages_first : (s : Store F P H) (ts : List ℕ) → Is s → Had (stage_first c s ts)
+  stages_first s [] k = destages_first s (to_destage c s) k
+  stages_first s (t ∷ ts) k = one_staged (record s { queue = ts }) t k
+
+  copies_first : (s : Store F P H) (o : Option ℕ) → Is s → Had (copy_first c s o)
+  copies_first s None k = stages_first s s.queue k
+  copies_first s (Some t) k = copies_by s t (copies_to s t) k
+
+  recovers_first : (s : Store F P H) (o : Option ℕ) → Is s → Had (recover_first c s o)
+  recovers_first s None k = copies_first s (to_copy s) k
+  recovers_first s (Some t) k = recovers s t (frame_at s t) k
+
+  does_work : (s : Store F P H) → Is s → Had (work c s)
+  unfolding works.work
+  does_work s k = recovers_first s (to_recover c s) k
+
   -- From track to track
 
   module _ (ccws : List Ccw) (fixed : Fixed) where
@@ -605,6 +708,20 @@ module _ {F P H R : Type 0} (c : Contents F P H R) (g : Geometry) (n : ℕ) wher
           s_try (s_then (s_then (hears [] 960 (event_begun d).store (is, refl))
           (λ s _ l. by_running (record (event_begun d) { store = s }) d.history.running d.chain runs has l.0 same of (at, l.1)))
           (λ y a l. ended_by d y a l.0 l.1))
+
+      -- work in the background
+      worked_on : (d : Device F P H) → Is d.store → d.plans ≡ plans → HasOf ccws fixed d.chain → d.history ≡ before →
+          Leaves (and_then (work c d.store) (λ z a. Done (with_store d z) a))
+      worked_on d is same of at = s_then (does_work d.store is) (λ z a m. left_so z a m.0 m.1) where
+        left_so : (z : Store F P H) (a : Option Did) → Is z → Answers a → Leaves (Done (with_store d z) a)
+        left_so z a k h = s_done (record { is = k; plans_are = same; chain = of; acts = all_brought before d.history z.acts at }, h)
+
+      pub background_stays : (d : Device F P H) → Is d.store → d.plans ≡ plans → HasOf ccws fixed d.chain → d.history ≡ before → Leaves (background c d)
+      unfolding happened.background
+      background_stays d is same of at =
+          s_then (s_then (hears [] 960 (event_begun d).store (is, refl))
+          (λ s _ l. worked_on (record (event_begun d) { store = s }) l.0 same of at))
+          (λ y a l. ended_by d y a l.0 l.1)
 
       -- a reset
       halves : (s : Store F P H) (o : Option (HalfWrite H)) → Is s → Keeps (half_cut c s o)
