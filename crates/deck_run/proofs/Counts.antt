@@ -1,6 +1,6 @@
 -- A command and a reset count in their device each read and each write that they make, and leave it its number. The device has one side.
-use Rattle.std.proofs.Common.{◌≡◌, ◌&&◌, ◌+◌, ℕ, zero, suc, Bool, true, false, Option, Some, None, is_some, ap}
-use Rattle.std.specs.Prelude.{if◌then◌else◌, nat_le, nat_lt, ◌==◌, length}
+use Rattle.std.proofs.Common.{◌≡◌, ◌&&◌, ◌+◌, ℕ, zero, suc, List, [], ◌∷◌, Bool, true, false, Option, Some, None, is_some, ap}
+use Rattle.std.specs.Prelude.{if◌then◌else◌, ◌||◌, nat_le, nat_lt, ◌==◌, length}
 use Rattle.std.proofs.lemmas.Bool.{cond_both}
 use Rattle.ckd_types.specs.declared.parameters.Mode.{Mode}
 use Rattle.ckd_types.specs.declared.paths.Side.{Side}
@@ -25,6 +25,32 @@ use Rattle.device_defs.specs.declared.answers.Took.TheVariants.{Whole, Opened, U
 use Rattle.device_defs.specs.declared.usage.Usage.{Usage}
 use Rattle.device_defs.specs.declared.answers.Choice.{Choice}
 use Rattle.device_defs.specs.declared.answers.Choice.TheVariants as choices
+use Rattle.device_defs.specs.declared.answers.Did.{Did}
+use Rattle.device_defs.specs.declared.answers.Did.TheVariants.{Recovered, Destaged}
+use Rattle.device_defs.specs.Background as works
+use Rattle.device_defs.specs.Background.{
+  saved_by,
+  saving,
+  saved,
+  recovered_image,
+  recovered_bytes,
+  recover,
+  copied,
+  copy_read,
+  copies_to,
+  copy_by,
+  staged_image,
+  staged_bytes,
+  stage,
+  to_destage,
+  destage_first,
+  stage_first,
+  to_copy,
+  copy_first,
+  to_recover,
+  recover_first,
+  work,
+}
 use Rattle.device_defs.specs.Choosing as choosing
 use Rattle.device_defs.specs.Choosing.{choose, slot_by, fast_by, fast_or_through, choose_loose, choose_firm, may_be_fast}
 use Rattle.device_defs.specs.Command as commands
@@ -56,6 +82,8 @@ use Rattle.plain_device.specs.Acted.{settled_act, paths_behind}
 use Rattle.device_defs.specs.Device.{Device, event_ended, event_begun, with_store}
 use Rattle.device_defs.specs.Editing as editing
 use Rattle.device_defs.specs.Editing.{effect, whole, at_once, through_by, through, write_by, written, is_given, unchosen, write_chosen, write}
+use Rattle.device_defs.specs.Events as happened
+use Rattle.device_defs.specs.Events.{background}
 use Rattle.device_defs.specs.Image as images
 use Rattle.device_defs.specs.Image.{
   is_sequential,
@@ -394,6 +422,81 @@ module _ {F P H R : Type 0} (c : Contents F P H R) (n : ℕ) where
   unfolding editing.write
   writes s u first t i e k = m_try (m_then (chosen s u t k) (λ z choice _ _ l. chosen_had u first t i e z choice l))
 
+  -- Work in the background
+
+  saveds_by : {rs ws : ℕ} (t : ℕ) (i : Image) (d : Did) (fault : Option Side) (was : Bool) (failed : Option Side) (s : Store F P H) (took : Took) → Is rs ws s →
+      Keeps rs ws (saved_by c t i d fault was failed s took)
+  saveds_by t i d fault was failed s Whole k = m_then (dones s t i false k) (λ z _ _ _ l. m_done l)
+  saveds_by t i d fault was failed s Opened k = m_then (half_opens s t i OfBackground was k) (λ z _ _ _ l. m_done l)
+  saveds_by t i d fault was failed s Unwritten k = m_done k
+
+  savings : {rs ws : ℕ} (s : Store F P H) (t : ℕ) (i : Image) (d : Did) (fault : Option Side) → Is rs ws s → Keeps rs ws (saving c s t i d fault)
+  savings s t i d fault k =
+      m_then (first_firm s t k)
+      (λ z was _ _ l. m_then (firsts z t (c.bytes i) l) (λ y w _ _ m. saveds_by t i d fault was w.fault y w.took m))
+
+  saves : {rs ws : ℕ} (s : Store F P H) (t : ℕ) (i : Image) (d : Did) (fault : Option Side) → Is rs ws s → Keeps rs ws (saved c s t i d fault)
+  saves s t i d fault k = m_try (m_then (savings s t i d fault k) (λ z e _ _ l. m_done l))
+
+  recovers_image : {rs ws : ℕ} (t : ℕ) (s : Store F P H) (got : Got R) (o : Option Image) → Is rs ws s → Keeps rs ws (recovered_image c t s got o)
+  recovers_image t s got None k = m_done k
+  recovers_image t s got (Some i) k = saves s t i (Recovered t) got.fault k
+
+  recovers_bytes : {rs ws : ℕ} (t : ℕ) (s : Store F P H) (got : Got R) (o : Option R) → Is rs ws s → Keeps rs ws (recovered_bytes c t s got o)
+  recovers_bytes t s got None k = m_done k
+  recovers_bytes t s got (Some r) k = m_try (recovers_image t s got (image_of c s t r) k)
+
+  recovers : {rs ws : ℕ} (s : Store F P H) (t : ℕ) (o : Option F) → Is rs ws s → Keeps rs ws (recover c s t o)
+  recovers s t (Some f) k = saves s t (losses.framed_image c s t (Some f)) (Recovered t) None k
+  recovers s t None k = m_then (got_level s t k) (λ z got _ _ l. recovers_bytes t z got got.bytes l)
+
+  copies : {rs ws : ℕ} (t : ℕ) (side : Side) (s : Store F P H) (ok : Bool) → Is rs ws s → Keeps rs ws (copied c t side s ok)
+  copies t A s ok k = m_if ok (λ _. m_done k) (λ _. m_then (failed s A None k) (λ z _ _ _ l. m_done l))
+  copies t B s ok k = m_if ok (λ _. m_done k) (λ _. m_then (failed s B None k) (λ z _ _ _ l. m_done l))
+
+  copies_read : {rs ws : ℕ} (t : ℕ) (side : Side) (s : Store F P H) (o : Option R) → Is rs ws s → Keeps rs ws (copy_read c t side s o)
+  copies_read t side s None k = m_then (failed s (works.other side) None k) (λ z _ _ _ l. m_done l)
+  copies_read t side s (Some r) k = m_write (λ ok. copies t side (write_counted s ok) ok (once_written s ok k))
+
+  copies_by : {rs ws : ℕ} (s : Store F P H) (t : ℕ) (o : Option Side) → Is rs ws s → Keeps rs ws (copy_by c s t o)
+  copies_by s t None k = m_done k
+  copies_by s t (Some side) k = m_read (λ r. copies_read t side (read_counted s (is_some r)) r (once_read s (is_some r) k))
+
+  stages_image : {rs ws : ℕ} (t : ℕ) (s : Store F P H) (got : Got R) (o : Option Image) → Is rs ws s → Keeps rs ws (staged_image c t s got o)
+  stages_image t s got None k = m_ask (λ _. m_done k)
+  stages_image t s got (Some i) k = m_then (fills s t i k) (λ z _ _ _ l. m_done l)
+
+  stages_bytes : {rs ws : ℕ} (t : ℕ) (s : Store F P H) (got : Got R) (o : Option R) → Is rs ws s → Keeps rs ws (staged_bytes c t s got o)
+  stages_bytes t s got None k = m_ask (λ _. m_done k)
+  stages_bytes t s got (Some r) k = m_try (stages_image t s got (image_of c s t r) k)
+
+  stages_given : {rs ws : ℕ} (s : Store F P H) (t : ℕ) (given : Bool) → Is rs ws s → Keeps rs ws (works.granted c s t given)
+  stages_given s t given k = m_if given (λ _. m_then (got_level s t k) (λ z got _ _ l. stages_bytes t z got got.bytes l)) (λ _. m_done k)
+
+  one_staged : {rs ws : ℕ} (s : Store F P H) (t : ℕ) → Is rs ws s → Keeps rs ws (stage c s t)
+  one_staged s t k =
+      m_if (is_some (frame_at s t) || is_lost s t) (λ _. m_done k) (λ _. m_try (m_ask (λ given. stages_given s t given k)))
+
+  destages_first : {rs ws : ℕ} (s : Store F P H) (o : Option ℕ) → Is rs ws s → Keeps rs ws (destage_first c s o)
+  destages_first s None k = m_done k
+  destages_first s (Some t) k = saves s t (losses.framed_image c s t (frame_at s t)) (Destaged t) None k
+
+  stages_first : {rs ws : ℕ} (s : Store F P H) (ts : List ℕ) → Is rs ws s → Keeps rs ws (stage_first c s ts)
+  stages_first s [] k = destages_first s (to_destage c s) k
+  stages_first s (t ∷ ts) k = one_staged (record s { queue = ts }) t k
+
+  copies_first : {rs ws : ℕ} (s : Store F P H) (o : Option ℕ) → Is rs ws s → Keeps rs ws (copy_first c s o)
+  copies_first s None k = stages_first s s.queue k
+  copies_first s (Some t) k = copies_by s t (copies_to s t) k
+
+  recovers_first : {rs ws : ℕ} (s : Store F P H) (o : Option ℕ) → Is rs ws s → Keeps rs ws (recover_first c s o)
+  recovers_first s None k = copies_first s (to_copy s) k
+  recovers_first s (Some t) k = recovers s t (frame_at s t) k
+
+  does_work : {rs ws : ℕ} (s : Store F P H) → Is rs ws s → Keeps rs ws (work c s)
+  unfolding works.work
+  does_work s k = recovers_first s (to_recover c s) k
+
   -- From track to track
 
   went_write : {rs ws : ℕ} (chain : ChainState) (t : ℕ) (s : Store F P H) (o : Option Took) → Is rs ws s →
@@ -481,6 +584,12 @@ module _ {F P H R : Type 0} (c : Contents F P H R) (n : ℕ) where
       m_try (m_then (m_then (hears 960 (event_begun d).store k)
       (λ s _ _ _ l. by_running (record (event_begun d) { store = s }) d.history.running d.chain l))
       (λ y a _ _ l. ended_by d y a l))
+
+  pub background_counts : {rs ws : ℕ} (d : Device F P H) → Is rs ws d.store → Leaves rs ws (background c d)
+  unfolding happened.background
+  background_counts d k =
+      m_then (m_then (hears 960 (event_begun d).store k) (λ s _ _ _ l. m_then (does_work s l) (λ z a _ _ m. m_done (record { store = m }))))
+      (λ y a _ _ l. ended_by d y a l)
 
   halves_by : {rs ws : ℕ} (s : Store F P H) (h : HalfWrite H) (o : Origin) → Is rs ws s → Keeps rs ws (origin_cut c s h o)
   halves_by s h (OfCommand bypass e) k = m_firm (m_done k)

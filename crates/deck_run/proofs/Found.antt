@@ -36,8 +36,8 @@ use Rattle.device_core.specs.State.{device_of}
 use Rattle.device_core.specs.Words.{IsAtWord}
 use Rattle.device_laws.specs.Standing.{RunsOn}
 use Rattle.subsystem_core.specs.Devices.{numbers_of, devices_of, device_at, put_at}
-use Rattle.subsystem_laws.specs.Stood as laws
-use Rattle.subsystem_laws.specs.Stood.{Stood, devices_at, stood_in, number_at, HasChain, HaveChains}
+use Rattle.subsystem_laws.specs.WholeStood as laws
+use Rattle.subsystem_laws.specs.WholeStood.{Stood, devices_at, stood_in, HaveChains}
 use Rattle.ckd_types.specs.declared.geometry.Geometry.{Geometry}
 use Rattle.deck_run.specs.Owning.{GivesAll, IsOwn, AreOwn, ChainsStand}
 use Rattle.deck_run.specs.Standing.{stood_of, all_stood}

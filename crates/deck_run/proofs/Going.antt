@@ -37,7 +37,6 @@ use Rattle.std.proofs.lemmas.List.{append-nil, drop_all}
 use Rattle.plain_defs.specs.History.{OpenEntry}
 use Rattle.deck_plan.specs.declared.event.EventLine.{EventLine}
 use Rattle.device_outside.specs.declared.volume.Volume.{Ghosts}
-use Rattle.device_outside.specs.Pool.{Pool}
 use Rattle.device_defs.specs.Marks.{half_mark}
 use Rattle.device_core.specs.declared.device.Device.{Device}
 use Rattle.device_core.specs.declared.past.Running.{Running}
@@ -71,9 +70,8 @@ use Rattle.subsystem_defs.specs.Lines.{
 }
 use Rattle.subsystem_defs.specs.Subsystem as runs
 use Rattle.subsystem_defs.specs.Subsystem.{Mounted, devices_of, mounted_in, number_of}
-use Rattle.subsystem_laws.specs.Stood.{Stood, number_at, IsMounted, is_mounted, AreMounted, one_more}
+use Rattle.subsystem_laws.specs.WholeStood.{Stood, number_at, IsMounted, is_mounted, AreMountedBy, one_more}
 use Rattle.deck_run.specs.Going.{StepsLeft, LinesLeft}
-use Rattle.deck_run.specs.Owning.{AreOwn}
 use Rattle.deck_run.specs.Recording.{all_lines, lines_when}
 use Rattle.deck_run.proofs.Recorded.{step_lines}
 use Rattle.deck_run.proofs.Telling.{all_known, none_tells}
@@ -85,38 +83,38 @@ some_same e = cc
 
 -- Whether a program runs
 
-one_busy : {p : Pool} {s : Stood} {m : Mounted} → IsMounted p s m → is_busy (Some m) ≡ is_some s.device.history.running
-one_busy (is_mounted d v w h mine volume a b nothing order slots shared side) =
-    ap (λ (o : Option _). is_some (option_map half_mark o) || is_some d.history.running) nothing.half
+one_busy : {mine : List ℕ} {s : Stood} {m : Mounted} → IsMounted mine s m → s.device.store.half ≡ None → is_busy (Some m) ≡ is_some s.device.history.running
+one_busy (is_mounted d v w h on_a on_b a b stands slots side_a side_b) none =
+    ap (λ (o : Option _). is_some (option_map half_mark o) || is_some d.history.running) none
 
-same_number : {p : Pool} {s : Stood} {m : Mounted} → IsMounted p s m → number_of m ≡ number_at s
-same_number (is_mounted d v w h mine volume a b nothing order slots shared side) = refl
+same_number : {mine : List ℕ} {s : Stood} {m : Mounted} → IsMounted mine s m → number_of m ≡ number_at s
+same_number (is_mounted d v w h on_a on_b a b stands slots side_a side_b) = refl
 
 path_some : (r : Option Running) → is_some (option_map (λ (o : OpenEntry). o.path) (option_map open_of r)) ≡ is_some (option_map open_of r)
 path_some None = refl
 path_some (Some r) = refl
 
 module _ {V : Type 0} {G : Ghosts V} where
-  busy_test : (p : Pool) (y x : Device V G) (m : Mounted) (o : Option (Device V G)) (q : Option Mounted) (b : Bool) → IsMounted p (stood_of y) m →
+  busy_test : (mine : List ℕ) (y x : Device V G) (m : Mounted) (o : Option (Device V G)) (q : Option Mounted) (b : Bool) → IsMounted mine (stood_of y) m →
       (o ≡ Some x → is_busy q ≡ is_some (device_of x).history.running) → (if b then Some y else o) ≡ Some x →
       is_busy (if b then Some m else q) ≡ is_some (device_of x).history.running
-  busy_test p y x m o q true is rest at =
-      subst (λ (z : Device V G). is_busy (Some m) ≡ is_some (device_of z).history.running) (some_same at) (one_busy is)
-  busy_test p y x m o q false is rest at = rest at
+  busy_test mine y x m o q true is rest at =
+      subst (λ (z : Device V G). is_busy (Some m) ≡ is_some (device_of z).history.running) (some_same at) (one_busy is refl)
+  busy_test mine y x m o q false is rest at = rest at
 
-  busy_at : (p : Pool) (xs : List (Device V G)) (ms : List Mounted) (n : ℕ) (x : Device V G) → AreMounted p (all_stood xs) ms → device_at xs n ≡ Some x →
-      is_busy (mounted_in ms n) ≡ is_some (device_of x).history.running
-  busy_at p [] ms n x all at = absurd (cc)
-  busy_at p (y ∷ xs) [] n x all at = elim all [ ]
-  busy_at p (y ∷ xs) (m ∷ ms) n x (one_more is all) at =
+  busy_at : (used taken : List ℕ) (xs : List (Device V G)) (ms : List Mounted) (n : ℕ) (x : Device V G) → AreMountedBy used taken (all_stood xs) ms →
+      device_at xs n ≡ Some x → is_busy (mounted_in ms n) ≡ is_some (device_of x).history.running
+  busy_at used taken [] ms n x all at = absurd (cc)
+  busy_at used taken (y ∷ xs) [] n x all at = elim all [ ]
+  busy_at used taken (y ∷ xs) (m ∷ ms) n x (one_more mine is apart all) at =
       ap (λ (k : ℕ). is_busy (if k == n then Some m else mounted_in ms n)) (same_number is)
-      ∙ busy_test p y x m (device_at xs n) (mounted_in ms n) (y.store.number == n) is (busy_at p xs ms n x all) at
+      ∙ busy_test mine y x m (device_at xs n) (mounted_in ms n) (y.store.number == n) is (busy_at used (mine ++ taken) xs ms n x all) at
 
   pub busy_is : (s : Subsystem V G) (run : runs.Subsystem) (n : ℕ) (x : Device V G) (o : Option ℕ) (b : Bool) → StandsAs s run →
       device_at s.devices.items n ≡ Some x → o ≡ option_map (λ (e : OpenEntry). e.path) (option_map open_of x.past.running) → b ≡ is_some o →
       b ≡ is_busy (mounted_in run.mounted n)
   busy_is s run n x o b stands at is test =
-      test ∙ ap is_some is ∙ path_some x.past.running ∙ sym (busy_at s.pool.pool s.devices.items run.mounted n x stands.mounted at)
+      test ∙ ap is_some is ∙ path_some x.past.running ∙ sym (busy_at s.pool.pool.used [] s.devices.items run.mounted n x stands.mounted at)
 
 -- Steps
 
@@ -258,11 +256,11 @@ module _ {V : Type 0} {G : Ghosts V} where
   idle_stands s run d idle stands = subst (λ (ts : List Logged). StandsAs s (last_behind run ts)) (sym (run_idle run d (sym idle))) stands
 
   pub idle_tells : (s : Subsystem V G) (run : runs.Subsystem) (d : ℕ) (told more : List ReportLine) → false ≡ is_busy (mounted_in run.mounted d) →
-      StandsAs s run → AreOwn s.devices.items → more ≡ told ++ told_lines.RunIdle d ∷ [] → more ≡ told ++ all_lines (run_logged run d)
-  idle_tells s run d told more idle stands own is =
+      StandsAs s run → more ≡ told ++ told_lines.RunIdle d ∷ [] → more ≡ told ++ all_lines (run_logged run d)
+  idle_tells s run d told more idle stands is =
       is
       ∙ ap (λ (l : List ReportLine). told ++ (l ++ []))
-      (sym (none_tells s.devices.items run.mounted (did.RunIdle d) (all_known (all_stood s.devices.items) run.mounted stands.mounted) own))
+      (sym (none_tells s.devices.items run.mounted (did.RunIdle d) (all_known (all_stood s.devices.items) run.mounted stands.mounted)))
       ∙ ap (λ (ts : List Logged). told ++ all_lines ts) (sym (run_idle run d (sym idle)))
 
   -- Event lines

@@ -1,7 +1,7 @@
 pub mod Lines
 pub mod Opened
 pub mod Surely
-pub mod Actless
+pub mod Acting
 pub mod Between
 pub mod Stays
 pub mod Makes
@@ -14,4 +14,5 @@ pub mod Passed
 pub mod Recorded
 pub mod Going
 pub mod Closing
+pub mod Loosened
 pub mod LaterSteps

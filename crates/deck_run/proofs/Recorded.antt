@@ -4,6 +4,8 @@ use Rattle.std.proofs.lemmas.List.{append-nil}
 use Rattle.plain_defs.specs.declared.journal.Item.{Item}
 use Rattle.device_outside.specs.declared.volume.Volume.{Ghosts}
 use Rattle.device_core.specs.declared.device.Device.{Device}
+use Rattle.report_text.specs.declared.event.Loosed.{Loosed}
+use Rattle.report_text.specs.declared.answers.BackAnswer.TheVariants as backs
 use Rattle.report_text.specs.declared.answers.StartAnswer.{StartAnswer}
 use Rattle.report_text.specs.declared.event.Happened as report
 use Rattle.report_text.specs.declared.event.Happened.TheVariants as did
@@ -66,6 +68,14 @@ one_step_tells s d told more is =
     (sym (append-nil _ ∙ work_lines_by s (events.Step d)
     (λ (z : runs.Subsystem). work_told d (running_in (devices_of z) d) (did.StepIdle d) (happens s (events.Step d)).end)))
 
+pub back_tells : (s : runs.Subsystem) (d : ℕ) (told more : List ReportLine) → more ≡ told ++ lines_when s (events.Back d)
+    (work_told d (running_in (devices_of s) d) (did.Back d backs.Nothing) (happens s (events.Back d)).end) →
+    more ≡ told ++ all_lines (logged (Once (events.Back d)) (happens s (events.Back d)) ∷ [])
+back_tells s d told more is =
+    is ∙ ap (λ (l : List ReportLine). told ++ l)
+    (sym (append-nil _ ∙ work_lines_by s (events.Back d)
+    (λ (z : runs.Subsystem). work_told d (running_in (devices_of z) d) (did.Back d backs.Nothing) (happens s (events.Back d)).end)))
+
 pub start_tells : (s : runs.Subsystem) (path d : ℕ) (told more : List ReportLine) → more ≡ told ++ lines_when s (events.Start path d)
     (did.Started path d (start_answer (happens s (events.Start path d)).end)) →
     more ≡ told ++ all_lines (logged (Once (events.Start path d)) (happens s (events.Start path d)) ∷ [])
@@ -84,19 +94,20 @@ reset_tells s path d told more is =
 
 module _ {V : Type 0} {G : Ghosts V} (s : Subsystem V G) (run : runs.Subsystem) (e : Event) (d : ℕ) (p : Passed) (has : HasPassed s run e d p)
     (y : Device V G) (at : device_at s.devices.items d ≡ Some y) (items : List Item) (came : items ≡ behind_first p.items y.past.items.items)
-    (told more : List ReportLine) where
-  recorded : (h : report.Happened) → more ≡ told ++ lines_by d h [] p.calls.reads p.calls.writes items → more ≡ told ++ lines_when run e h
+    (acts : List Loosed) (noted : acts ≡ p.acts.items) (told more : List ReportLine) where
+  recorded : (h : report.Happened) → more ≡ told ++ lines_by d h acts p.calls.reads p.calls.writes items → more ≡ told ++ lines_when run e h
   recorded h is =
-      is ∙ ap (λ (l : List Item). told ++ lines_by d h [] p.calls.reads p.calls.writes l) came
+      is ∙ ap (λ (l : List Item). told ++ lines_by d h acts p.calls.reads p.calls.writes l) came
+      ∙ ap (λ (l : List Loosed). told ++ lines_by d h l p.calls.reads p.calls.writes (behind_first p.items y.past.items.items)) noted
       ∙ ap (λ (l : List ReportLine). told ++ l) (sym (has.lines y at h))
 
   -- room was made before it
-  roomy : (h : report.Happened) (room : List ReportLine) → room ≡ told → more ≡ room ++ lines_by d h [] p.calls.reads p.calls.writes items →
-      more ≡ told ++ lines_by d h [] p.calls.reads p.calls.writes items
-  roomy h room same is = is ∙ ap (λ (l : List ReportLine). l ++ lines_by d h [] p.calls.reads p.calls.writes items) same
+  roomy : (h : report.Happened) (room : List ReportLine) → room ≡ told → more ≡ room ++ lines_by d h acts p.calls.reads p.calls.writes items →
+      more ≡ told ++ lines_by d h acts p.calls.reads p.calls.writes items
+  roomy h room same is = is ∙ ap (λ (l : List ReportLine). l ++ lines_by d h acts p.calls.reads p.calls.writes items) same
 
   pub work_recorded : (idle h : report.Happened) (room : List ReportLine) → room ≡ told → h ≡ work_told d p.running idle p.end →
-      more ≡ room ++ lines_by d h [] p.calls.reads p.calls.writes items →
+      more ≡ room ++ lines_by d h acts p.calls.reads p.calls.writes items →
       more ≡ told ++ lines_when run e (work_told d (running_in (devices_of run) d) idle (happens run e).end)
   work_recorded idle h room same did_so is =
       recorded h (roomy h room same is)
@@ -105,7 +116,7 @@ module _ {V : Type 0} {G : Ghosts V} (s : Subsystem V G) (run : runs.Subsystem) 
       ∙ ap (λ (x : EventEnd). told ++ lines_when run e (work_told d (running_in (devices_of run) d) idle x)) (sym has.ended)
 
   pub start_recorded : (path : ℕ) (a : StartAnswer) (room : List ReportLine) → room ≡ told → a ≡ start_answer p.end →
-      more ≡ room ++ lines_by d (did.Started path d a) [] p.calls.reads p.calls.writes items →
+      more ≡ room ++ lines_by d (did.Started path d a) acts p.calls.reads p.calls.writes items →
       more ≡ told ++ lines_when run e (did.Started path d (start_answer (happens run e).end))
   start_recorded path a room same answered is =
       recorded (did.Started path d a) (roomy (did.Started path d a) room same is)
@@ -113,5 +124,5 @@ module _ {V : Type 0} {G : Ghosts V} (s : Subsystem V G) (run : runs.Subsystem) 
       ∙ ap (λ (x : EventEnd). told ++ lines_when run e (did.Started path d (start_answer x))) (sym has.ended)
 
   pub reset_recorded : (path : ℕ) (room : List ReportLine) → room ≡ told →
-      more ≡ room ++ lines_by d (did.Reset path d) [] p.calls.reads p.calls.writes items → more ≡ told ++ lines_when run e (did.Reset path d)
+      more ≡ room ++ lines_by d (did.Reset path d) acts p.calls.reads p.calls.writes items → more ≡ told ++ lines_when run e (did.Reset path d)
   reset_recorded path room same is = recorded (did.Reset path d) (roomy (did.Reset path d) room same is)

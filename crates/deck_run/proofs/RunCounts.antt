@@ -9,6 +9,7 @@ use Rattle.device_defs.specs.declared.answers.StartFault.{StartFault}
 use Rattle.device_defs.specs.Command.{command}
 use Rattle.device_defs.specs.Contents.{by_plain}
 use Rattle.device_defs.specs.Cutting.{reset}
+use Rattle.device_defs.specs.Events.{background}
 use Rattle.device_defs.specs.Marks.{MarksDevice}
 use Rattle.device_defs.specs.Start as S
 use Rattle.device_defs.specs.Start.{start, start_fault, next_ordinal}
@@ -18,14 +19,14 @@ use Rattle.subsystem_defs.specs.declared.end.EventEnd.TheVariants as ends
 use Rattle.subsystem_defs.specs.declared.event.Event.{Event}
 use Rattle.subsystem_defs.specs.declared.event.Event.TheVariants as events
 use Rattle.subsystem_defs.specs.Deeds as D
-use Rattle.subsystem_defs.specs.Deeds.{Ends, Becomes, Asks, deed, device_in, ends_by, ends_done, end_of, is_own, may_end_by, on_device, seconds, start_by, starts, step}
+use Rattle.subsystem_defs.specs.Deeds.{Ends, Becomes, Asks, back, deed, device_in, ends_by, ends_done, end_of, is_own, may_end_by, on_device, seconds, start_by, starts, step}
 use Rattle.subsystem_defs.specs.Happening as H
 use Rattle.subsystem_defs.specs.Happening.{Happened, MarksDeed, Talk, asks, becomes, happens, happens_by, mounted_behind, quietly, told_to}
 use Rattle.subsystem_defs.specs.Subsystem.{Mounted, Subsystem, devices_of, mounted_in, number_of, put_in}
 use Rattle.subsystem_laws.proofs.Finding.{device_mounted}
 use Rattle.deck_run.specs.Counting.{more_calls}
 use Rattle.deck_run.specs.Owning.{IsOpenOn}
-use Rattle.deck_run.proofs.Counts.{Is, IsOn, command_counts, reset_counts}
+use Rattle.deck_run.proofs.Counts.{Is, IsOn, background_counts, command_counts, reset_counts}
 use Rattle.deck_run.proofs.Makes.{Makes, m_done, m_then, held_so}
 
 some_same : {X : Type 0} {x y : X} → Some x ≡ Some y → x ≡ y
@@ -143,6 +144,13 @@ module _ (s : Subsystem) (n : ℕ) (m : Mounted) (at : mounted_in s.mounted n �
         (m_then (command_counts by_plain n m.device (refl, (refl, (mine, single)))) (λ y a r w l. m_done l)))
         (λ _. ends_counted ends.Idle))
 
+    back_counted : Claim (back by_plain m.device)
+    back_counted =
+        cond_both (is_some m.device.store.half) (seconds by_plain m.device) (Asks m.device (may_end_by ends.Back (background by_plain m.device))) Claim
+        (λ e. absurd (let shut : is_some m.device.store.half ≡ false = ap (λ (o : Option (HalfWrite (Unit {0}))). is_some o) none in cc))
+        (λ _. asks_counted m.device (may_end_by ends.Back (background by_plain m.device)) mine
+        (m_then (background_counts by_plain n m.device (refl, (refl, (mine, single)))) (λ y a r w l. m_done l)))
+
     reset_counted : (path : ℕ) → Claim (Asks m.device (ends_by ends_done (reset by_plain m.device path)))
     reset_counted path =
         asks_counted m.device (ends_by ends_done (reset by_plain m.device path)) mine
@@ -157,11 +165,11 @@ module _ (s : Subsystem) (n : ℕ) (m : Mounted) (at : mounted_in s.mounted n �
     event_counted (events.Start path d) on =
         subst (λ (o : Option MarksDevice). Claim (on_device o (starts path))) (sym (found d on.0)) (starts_counted path)
     event_counted (events.Step d) on = subst (λ (o : Option MarksDevice). Claim (on_device o (step by_plain))) (sym (found d on)) step_counted
+    event_counted (events.Back d) on = subst (λ (o : Option MarksDevice). Claim (on_device o (back by_plain))) (sym (found d on)) back_counted
     event_counted (events.Reset path d) on =
         subst (λ (o : Option MarksDevice). Claim (on_device o (λ x. Asks x (ends_by ends_done (reset by_plain x path))))) (sym (found d on))
         (reset_counted path)
     event_counted events.Power on = absurd on
-    event_counted (events.Back d) on = absurd on
     event_counted events.FailCache on = absurd on
     event_counted events.FailStore on = absurd on
     event_counted (events.FailVolume d side) on = absurd on

@@ -2,6 +2,7 @@ pub mod Opening
 pub mod Owning
 pub mod Standing
 pub mod Counting
+pub mod Loosening
 pub mod Recording
 pub mod Passing
 pub mod Ending

@@ -4,14 +4,12 @@ use Rattle.ckd_types.specs.Ccw.{ccw_at}
 use Rattle.ckd_types.specs.declared.channel.Ccw.{Ccw}
 use Rattle.ckd_chain.specs.Facts.{IsChain}
 use Rattle.ckd_chain.specs.State.{ChainState}
-use Rattle.plain_defs.specs.History.{History}
 use Rattle.plain_defs.specs.Journal.{Plans, program_of}
 use Rattle.plain_defs.specs.Whole.{GivesBytes}
 use Rattle.device_outside.specs.declared.volume.Volume.{Ghosts}
 use Rattle.device_core.specs.declared.device.Device.{Device}
 use Rattle.device_core.specs.State.{device_of}
 use Rattle.device_laws.specs.Whole.{WholeDevice}
-use Rattle.subsystem_defs.specs.Beside.{acts_of_items, acts_running}
 use Rattle.subsystem_defs.specs.declared.event.Event.{Event}
 use Rattle.subsystem_defs.specs.declared.event.Event.TheVariants as events
 
@@ -23,15 +21,10 @@ GivesAll ccws = (i : ℕ) → GivesBytes (ccw_at ccws i)
 abbrev pub PlansGive : Plans → Type 0
 PlansGive plans = (path ordinal : ℕ) → 1 ≤ path → path ≤ 4 → GivesAll (program_of plans path ordinal)
 
--- no act of cache fast write ever came to it
-abbrev pub NoActs : History → Type 0
-NoActs h = (acts_of_items h.items ≡ []) × (acts_running h.running ≡ [])
-
--- the chain that runs goes by the geometry of its device, and its words give bytes; and no act came
+-- the chain that runs goes by the geometry of its device, and its words give bytes
 pub record IsOwn (d : WholeDevice) : Type 0 where
   pub plans : PlansGive d.plans
   pub chain : IfSome d.chain (λ (c : ChainState). (c.fixed.geometry ≡ d.store.geometry) × GivesAll c.ccws)
-  pub acts : NoActs d.history
 
 module _ {V : Type 0} {G : Ghosts V} where
   abbrev pub AreOwn : List (Device V G) → Type 0
@@ -47,5 +40,6 @@ module _ {V : Type 0} {G : Ghosts V} where
 abbrev pub IsOpenOn : ℕ → Event → Type 0
 IsOpenOn n (events.Start path d) = (d ≡ n) × ((1 ≤ path) × (path ≤ 4))
 IsOpenOn n (events.Step d) = d ≡ n
+IsOpenOn n (events.Back d) = d ≡ n
 IsOpenOn n (events.Reset path d) = d ≡ n
 IsOpenOn n _ = ⊥

@@ -3,13 +3,14 @@
 ghost use Rattle.std.specs.Prelude.{◌≡◌, ◌<◌, ◌++◌, IfOk, OnOk, length, map};
 ghost use Rattle.std.specs.List.{flat_map};
 ghost use Rattle.report_text.specs.declared.line.ReportLine.TheVariants as lines;
-ghost use Rattle.run_report.specs.Closing.{device_lines};
+ghost use Rattle.run_report.specs.Closing.{device_lines, frame_line};
 ghost use Rattle.subsystem_defs.specs.Closing.{Counted};
 ghost use Rattle.deck_run.specs.Ending.{end_lines_of, lost_at, lost_in};
 
 use ckd_types::{DeviceNo, NoMemory, TrackNo};
 use device_core::Device;
 use device_outside::Volume;
+use frame_pool::Pool;
 use report_text::{DeviceTotals, ReportLine, RunRecord};
 use std::alloc::Global;
 
@@ -93,4 +94,18 @@ pub(crate) fn record_devices<V: Volume>(
         record_device(alloc, report, device)?;
     }
     Ok(())
+}
+
+/// The frames of the pool, the most recent first. None has more than can be counted.
+pub(crate) fn record_frames(report: &mut RunRecord, pool: &Pool) -> Result<(), NoMemory>
+    ensures { OnOk result (report.new ≡ report.old ++ map frame_line pool.now.pool.frames) }
+{
+    for i in 0..usize::MAX {
+        let (device, track, modified) = match pool.entry(i) {
+            Some(entry) => entry,
+            None => return Ok(()),
+        };
+        report.push(ReportLine::Frame(device, track, modified))?;
+    }
+    Err(NoMemory)
 }

@@ -6,6 +6,7 @@ mod event;
 mod giving;
 mod later;
 mod line;
+mod loosed;
 mod open;
 mod pass;
 mod run;

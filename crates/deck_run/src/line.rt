@@ -1,5 +1,6 @@
-ghost use Rattle.std.specs.Prelude.{◌≡◌, ◌++◌, [], OnOk, true};
+ghost use Rattle.std.specs.Prelude.{◌≡◌, ◌++◌, OnOk, true};
 ghost use Rattle.device_outside.specs.Lists.{is_in};
+ghost use Rattle.report_text.specs.declared.answers.BackAnswer.TheVariants as backs;
 ghost use Rattle.report_text.specs.declared.event.Happened.TheVariants as did;
 ghost use Rattle.run_report.specs.Answers.{start_answer};
 ghost use Rattle.run_report.specs.Events.{running_in, work_told};
@@ -19,7 +20,7 @@ use ckd_types::{DeviceNo, NoMemory, PathNo};
 use deck_plan::EventLine;
 use device_outside::Volume;
 use plain_defs::Item;
-use report_text::{Happened, ReportLine, RunRecord};
+use report_text::{BackAnswer, Happened, Loosed, ReportLine, RunRecord};
 use run_report::{Calls, Gained, record_event, start_answer, work_told};
 use std::alloc::Global;
 use subsystem_core::Subsystem;
@@ -28,17 +29,18 @@ use subsystem_defs::Event;
 /// As many events as the rest of a program takes at most.
 const MOST_STEPS: u32 = 8193;
 
-/// The lines of an event of one device, to which no act of cache fast write comes.
+/// The lines of an event of one device.
 fn record_passed(
     report: &mut RunRecord,
     d: DeviceNo,
     happened: Happened,
+    acts: &[Loosed],
     items: &[Item],
     calls: Calls,
 ) -> Result<(), NoMemory>
-    ensures { OnOk result (report.new ≡ report.old ++ lines_by d happened [] calls.reads calls.writes items.now) }
+    ensures { OnOk result (report.new ≡ report.old ++ lines_by d happened acts.now calls.reads calls.writes items.now) }
 {
-    let gained = Gained { acts: &[], items };
+    let gained = Gained { acts, items };
     record_event(report, d, happened, &gained, calls)
 }
 
@@ -62,7 +64,31 @@ fn step<V: Volume>(
     let items = behind_first(sub.device(d).journal(), passed.items);
     let end = passed.end;
     let happened = work_told(d, &passed.running, idle, end);
-    record_passed(report, d, happened, items, passed.calls)?;
+    record_passed(report, d, happened, &passed.acts, items, passed.calls)?;
+    Ok(())
+}
+
+/// One piece of work in the background.
+fn back<V: Volume>(
+    alloc: Global,
+    sub: &mut Subsystem<V>,
+    report: &mut RunRecord,
+    d: DeviceNo,
+) -> Result<(), NoMemory>
+    requires here { is_in d (numbers_of sub.old.devices.items) ≡ true }
+    requires own { AreOwn sub.old.devices.items }
+    ensures numbers { numbers_of sub.new.devices.items ≡ numbers_of sub.old.devices.items }
+    ensures own { OnOk result (AreOwn sub.new.devices.items) }
+    ensures stands { (run : runs.Subsystem) → StandsAs sub.old run → OnOk result (StandsAs sub.new (happens run (Event.Back d)).behind) }
+    ensures lines { (run : runs.Subsystem) → StandsAs sub.old run → OnOk result (report.new ≡ report.old ++ lines_when run (Event.Back d) (work_told d (running_in (devices_of run) d) (did.Back d backs.Nothing) (happens run (Event.Back d)).end)) }
+{
+    report.make_room()?;
+    let passed = pass(alloc, sub, d, Event::Back(d))?;
+    let items = behind_first(sub.device(d).journal(), passed.items);
+    let end = passed.end;
+    let idle = Happened::Back(d, BackAnswer::Nothing);
+    let happened = work_told(d, &passed.running, idle, end);
+    record_passed(report, d, happened, &passed.acts, items, passed.calls)?;
     Ok(())
 }
 
@@ -85,7 +111,7 @@ fn start<V: Volume>(
     let passed = pass(alloc, sub, d, Event::Start(path, d))?;
     let items = behind_first(sub.device(d).journal(), passed.items);
     let started = Happened::Started(path, d, start_answer(&passed.end));
-    record_passed(report, d, started, items, passed.calls)?;
+    record_passed(report, d, started, &passed.acts, items, passed.calls)?;
     Ok(())
 }
 
@@ -106,7 +132,8 @@ fn reset<V: Volume>(
     report.make_room()?;
     let passed = pass(alloc, sub, d, Event::Reset(path, d))?;
     let items = behind_first(sub.device(d).journal(), passed.items);
-    record_passed(report, d, Happened::Reset(path, d), items, passed.calls)?;
+    let happened = Happened::Reset(path, d);
+    record_passed(report, d, happened, &passed.acts, items, passed.calls)?;
     Ok(())
 }
 
@@ -167,7 +194,7 @@ fn finish<V: Volume>(
     Ok(())
 }
 
-/// One event line. START, STEP, RUN and RESET run so far.
+/// One event line. START, STEP, RUN, BACK and RESET run so far.
 pub(crate) fn do_line<V: Volume>(
     alloc: Global,
     sub: &mut Subsystem<V>,
@@ -185,6 +212,7 @@ pub(crate) fn do_line<V: Volume>(
         EventLine::Start(path, d) => start(alloc, sub, report, path, d),
         EventLine::Step(d) => step(alloc, sub, report, d, Happened::StepIdle(d)),
         EventLine::Run(d) => finish(alloc, sub, report, d),
+        EventLine::Back(d) => back(alloc, sub, report, d),
         EventLine::Reset(path, d) => reset(alloc, sub, report, path, d),
         _ => unreachable!(),
     }

@@ -12,22 +12,25 @@ ghost use Rattle.deck_run.specs.Recording.{running_of};
 ghost use Rattle.deck_run.specs.Standing.{StandsAs};
 
 use crate::event::do_event;
+use crate::loosed::{all_loosed, loose_of};
 use ckd_types::{DeviceNo, NoMemory};
 use device_core::Device;
 use device_outside::Volume;
 use plain_defs::Item;
+use report_text::Loosed;
 use run_report::{Calls, RunningProgram};
 use std::alloc::Global;
 use subsystem_core::Subsystem;
 use subsystem_defs::{Event, EventEnd};
 
 /// What passed at an event of a device: its end, the program that ran there before it, how many items the journal had then, and the
-/// volume calls of the event.
+/// what came of data of cache fast write, and the volume calls of the event.
 #[derive(Drop)]
 pub(crate) struct Passed {
     pub end: EventEnd,
     pub running: Option<RunningProgram>,
     pub items: usize,
+    pub acts: Vec<Loosed>,
     pub calls: Calls,
 }
 
@@ -101,13 +104,18 @@ pub(crate) fn pass<V: Volume>(
     let device = sub.device(d);
     let running = running_of(device);
     let items = device.journal().len();
+    let loose = loose_of(device);
     let before = calls_of(device);
     let end = do_event(alloc, sub, d, e)?;
-    let calls = calls_between(before, calls_of(sub.device(d)))?;
+    let behind = sub.device(d);
+    let calls = calls_between(before, calls_of(behind))?;
+    let came = behind_first(behind.journal(), items);
+    let acts = all_loosed(alloc, d, loose, behind, &end, came)?;
     Ok(Passed {
         end,
         running,
         items,
+        acts,
         calls,
     })
 }

@@ -16,7 +16,6 @@ use Rattle.deck_top.specs.declared.top.Status.{Status}
 use Rattle.deck_top.specs.declared.top.Status.TheVariants.{Reported, DeckRefused, ReadFault, WriteFault, Limit, NoMemory, Usage}
 use Rattle.deck_top.specs.Run.{DeckRunsPlainly}
 use Rattle.deck_run.specs.Later.{first_later}
-use Rattle.deck_run.specs.Opening.{uncached}
 use Rattle.run_report.specs.Report.{report_of}
 
 -- the exit status of the program
@@ -58,9 +57,9 @@ if_read (Err fault) go = Err fault
 abbrev pub deck_for : Task → List ℕ → Result DeckLines DeckFault
 deck_for task text = if_read (parsed text) (open_deck task)
 
--- what a task writes for a deck: the report of its run, as if it had neither frames nor slots, or its canonical text
+-- what a task writes for a deck: the report of its run, or its canonical text
 abbrev pub output_of : Task → DeckLines → List ℕ
-output_of Run d = report_of (uncached d)
+output_of Run d = report_of d
 output_of Check d = canonical d
 
 -- what is written

@@ -2,7 +2,6 @@
 use Rattle.std.specs.Prelude.{◌≡◌, ℕ, List, Ok, All}
 use Rattle.deck_text.specs.DeckLines.{DeckLines}
 use Rattle.deck_text.specs.Parse.{parsed}
-use Rattle.deck_run.specs.Opening.{uncached}
 use Rattle.subsystem_defs.specs.Decks.{run_of}
 use Rattle.subsystem_defs.specs.Promised.{IsPlainBehind}
 
@@ -12,4 +11,4 @@ WasRead d = (text : List ℕ) × (parsed text ≡ Ok d)
 
 -- behind every event each device's history is one that a plain device could have
 abbrev pub DeckRunsPlainly : DeckLines → Type 0
-DeckRunsPlainly d = All IsPlainBehind (run_of (uncached d)).events
+DeckRunsPlainly d = All IsPlainBehind (run_of d).events

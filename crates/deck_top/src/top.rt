@@ -6,7 +6,6 @@ ghost use Rattle.deck_text.specs.DeckLines.{DeckLines};
 ghost use Rattle.report_text.specs.Report.{report_text};
 ghost use Rattle.run_report.specs.Report.{report_of};
 ghost use Rattle.deck_run.specs.Later.{first_later};
-ghost use Rattle.deck_run.specs.Opening.{uncached};
 ghost use Rattle.deck_top.specs.Run.{DeckRunsPlainly, WasRead};
 ghost use Rattle.deck_top.specs.Answers.{code_of, task_by, task_of, usage_text, open_deck, deck_for, TellsDeck, TellsTask, TellsUsage, Tells};
 
@@ -126,7 +125,7 @@ fn limit<K: Sink>(sink: &mut K, which: Which) -> Status
 fn run_deck(alloc: Global, deck: &Deck) -> Result<RunRecord, NoMemory>
     requires served { first_later deck.now ≡ None }
     requires read { WasRead deck.now }
-    ensures text { IfOk result (λ told. report_text told [] [] ≡ report_of (uncached deck.now)) }
+    ensures text { IfOk result (λ told. report_text told [] [] ≡ report_of deck.now) }
     ensures plain { IfOk result (λ told. DeckRunsPlainly deck.now) }
 {
     run_is_plain();

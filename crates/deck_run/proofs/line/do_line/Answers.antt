@@ -1,6 +1,6 @@
 use Rattle.subsystem_defs.specs.Lines as lines
 use Rattle.deck_run.proofs.Events.{ok_so}
-use Rattle.deck_run.proofs.Recorded.{one_step_tells, reset_tells, start_tells}
+use Rattle.deck_run.proofs.Recorded.{back_tells, one_step_tells, reset_tells, start_tells}
 use Rattle.deck_run.proofs.line.do_line.Goals as goal
 
 pub returns-in-Start-clause-stands : goal.returns-in-Start-clause-stands
@@ -29,6 +29,15 @@ returns-in-Run-clause-stands g c = λ run all. rw c.in-Run.is (c.finish.ensures.
 pub returns-in-Run-clause-lines : goal.returns-in-Run-clause-lines
 unfolding lines.line_logged
 returns-in-Run-clause-lines g c = λ run all. rw c.in-Run.is (c.finish.ensures.lines run all)
+
+pub returns-in-Back-clause-stands : goal.returns-in-Back-clause-stands
+unfolding lines.line_logged
+returns-in-Back-clause-stands g c = λ run all. rw c.in-Back.is (c.back.ensures.stands run all)
+
+pub returns-in-Back-clause-lines : goal.returns-in-Back-clause-lines
+unfolding lines.line_logged
+returns-in-Back-clause-lines g c = λ run all.
+    rw c.in-Back.is (ok_so c.back.result _ _ (λ h. back_tells run c.in-Back.d c.args.report.now c.back.new.report h) (c.back.ensures.lines run all))
 
 pub returns-in-Reset-clause-stands : goal.returns-in-Reset-clause-stands
 unfolding lines.line_logged

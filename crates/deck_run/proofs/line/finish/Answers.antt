@@ -8,7 +8,7 @@ returns-then-not-is_busy-clause-stands g c = λ run all.
 
 pub returns-then-not-is_busy-clause-lines : goal.returns-then-not-is_busy-clause-lines
 returns-then-not-is_busy-clause-lines g c = λ run all.
-    idle_tells c.args.sub.now run c.args.d c.args.report.now c.push.new.self (sym c.if-not-is_busy.true ∙ c.is_busy.ensures run all) all c.requires.own
+    idle_tells c.args.sub.now run c.args.d c.args.report.now c.push.new.self (sym c.if-not-is_busy.true ∙ c.is_busy.ensures run all) all
     c.in_ok-push.ensures.did
 
 pub returns-clause-stands : goal.returns-clause-stands
