@@ -1,7 +1,6 @@
-//! What the program does: the top call over a source and a sink, which `main` makes, and what isn't run yet.
+//! What the program does: the top call over a source and a sink, which `main` makes.
 #![tactic(auto)]
 
-mod later;
 mod task;
 mod top;
 

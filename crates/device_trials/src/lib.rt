@@ -5,8 +5,6 @@
 #[cfg(test)]
 mod patches;
 #[cfg(test)]
-mod paths;
-#[cfg(test)]
 mod plain;
 #[cfg(test)]
 mod pool;
