@@ -16,6 +16,7 @@ pub mod GoodMarks
 pub mod TracksKept
 pub mod SecondChecks
 pub mod NothingChecked
+pub mod NothingMissed
 pub mod WholeSlots
 pub mod WholeFinding
 pub mod WholeTalks

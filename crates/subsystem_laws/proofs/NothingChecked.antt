@@ -44,12 +44,12 @@ use Rattle.subsystem_laws.proofs.SecondChecks.{second_unchecked, background_unch
 use Rattle.subsystem_laws.proofs.TracksKept.{Fair, fair_kept, none_less, below_top, lent_was, new_fair}
 use Rattle.subsystem_laws.proofs.Walks.{IsKept, AreSo, LeavesSo, run_keeps, behind_weaker}
 
-abbrev IsQuiet : MarksDevice → Type 0
+abbrev pub IsQuiet : MarksDevice → Type 0
 IsQuiet d = was_lent d ≡ false → NothingLost d.store → d.store.counts.losses.cache ≡ 0 → (equipment_checks d.history ≡ 0) × (all_losses d.history ≡ 0)
 
-record Quiet (d : MarksDevice) : Type 0 where
-  fair : Fair d
-  none : IsQuiet d
+pub record Quiet (d : MarksDevice) : Type 0 where
+  pub fair : Fair d
+  pub none : IsQuiet d
 
 none_running : (x y : ℕ) → x + y ≡ 0 → y ≡ 0
 none_running x y e = omega (arith, e)
@@ -188,7 +188,7 @@ module _ (d : MarksDevice) (q : Quiet d) where
   lend_quiet : (to : ℕ) → LeavesSo Fair (lend by_plain d to) → LeavesSo Quiet (lend by_plain d to)
   lend_quiet to fair = λ t. record { fair = fair t; none = λ home n c. absurd (lent_was (T.hold true (lend by_plain d to) t).state to (lend_lends d to t).lent home) }
 
-quiet_kept : IsKept Quiet
+pub quiet_kept : IsKept Quiet
 quiet_kept = record {
   started = λ d path fault q. start_quiet d q path (fair_kept.started d path fault q.fair);
   commanded = λ d o running whole q. command_quiet d q (fair_kept.commanded d o running whole q.fair) whole;
@@ -208,7 +208,7 @@ quiet_kept = record {
   restored = λ d a is q. record { fair = fair_kept.restored d a is q.fair; none = λ home n c. absurd (restored_was_lent d home) };
 }
 
-opened_quiet : (deck : DeckLines) (ds : List DeviceLine) → All (λ (d : DeviceLine). 1 ≤ d.cylinders) ds → AreSo Quiet (map (opened_device deck) ds)
+pub opened_quiet : (deck : DeckLines) (ds : List DeviceLine) → All (λ (d : DeviceLine). 1 ≤ d.cylinders) ds → AreSo Quiet (map (opened_device deck) ds)
 opened_quiet deck [] h = tt
 opened_quiet deck (d ∷ ds) h = (
   record { fair = new_fair d.number d.geometry d.cylinders _ (All-head (λ (d : DeviceLine). 1 ≤ d.cylinders) d ds h); none = λ home n c. (refl, refl) },

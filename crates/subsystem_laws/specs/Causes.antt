@@ -1,11 +1,12 @@
 -- What causes a check of the run of a deck.
-use Rattle.std.specs.Prelude.{◌≡◌, false, All, count_by}
+use Rattle.std.specs.Prelude.{◌≡◌, true, false, All, count_by}
 use Rattle.device_defs.specs.Contents.{by_plain}
 use Rattle.device_defs.specs.Excused.{count_lost}
 use Rattle.device_defs.specs.Marks.{MarksDevice}
 use Rattle.device_defs.specs.Pledge.{ends_with_data_check, was_lent}
 use Rattle.device_laws.specs.Unharmed.{MarksAreGood, NothingLost, ends_with_equipment_check}
 use Rattle.subsystem_defs.specs.Lines.{Logged}
+use Rattle.subsystem_defs.specs.Promised.{misses_nothing}
 use Rattle.subsystem_defs.specs.Subsystem.{devices_of}
 
 -- no program of its journal ended with data check
@@ -36,3 +37,10 @@ ChecksNothing d =
 
 abbrev pub CheckNothing : Logged → Type 0
 CheckNothing x = All ChecksNothing (devices_of x.happened.behind)
+
+-- so what is promised of a calm run holds of it
+abbrev pub MissesNothing : MarksDevice → Type 0
+MissesNothing d = was_lent d ≡ false → NothingLost d.store → d.store.counts.losses.cache ≡ 0 → misses_nothing d ≡ true
+
+abbrev pub MissNothing : Logged → Type 0
+MissNothing x = All MissesNothing (devices_of x.happened.behind)

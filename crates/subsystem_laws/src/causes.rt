@@ -4,7 +4,7 @@ ghost use Rattle.std.specs.Prelude.{◌≡◌, ℕ, List, Ok, All};
 ghost use Rattle.deck_text.specs.DeckLines.{DeckLines};
 ghost use Rattle.deck_text.specs.Parse.{parsed};
 ghost use Rattle.subsystem_defs.specs.Decks.{run_of};
-ghost use Rattle.subsystem_laws.specs.Causes.{CheckNothing, HaveGoodMarks, HaveNoDataCheck, KeepTracks};
+ghost use Rattle.subsystem_laws.specs.Causes.{CheckNothing, HaveGoodMarks, HaveNoDataCheck, KeepTracks, MissNothing};
 ghost use Rattle.subsystem_laws.specs.Served.{IsServedDeck};
 
 /// No command ends with data check, whatever calls fail and whatever is lost.
@@ -27,6 +27,11 @@ pub fn run_loses_no_track()
 /// call failed.
 pub fn run_checks_nothing()
     ensures { (deck : DeckLines) → IsServedDeck deck → All CheckNothing (run_of deck).events }
+{}
+
+/// So what is promised of a calm run holds of such a device: every program was served, and no track is lost.
+pub fn run_misses_nothing()
+    ensures { (deck : DeckLines) → IsServedDeck deck → All MissNothing (run_of deck).events }
 {}
 
 /// So it is in the run of every deck that was read.
