@@ -181,10 +181,10 @@ one_fewer : (k : ℕ) → k < 8193 → 8193 - k ≡ suc (8193 - (k + 1))
 one_fewer k within = omega arith
 
 -- the lines of one event more, and then of the others
-further : (told more here rest all : List ReportLine) → more ≡ told ++ here → told ++ (here ++ rest) ≡ all → more ++ rest ≡ all
+pub further : (told more here rest all : List ReportLine) → more ≡ told ++ here → told ++ (here ++ rest) ≡ all → more ++ rest ≡ all
 further told more here rest all is whole = ap (λ (l : List ReportLine). l ++ rest) is ∙ append_assoc told here rest ∙ whole
 
-no_further : (told all : List ReportLine) (ts : List Logged) → ts ≡ [] → told ++ all_lines ts ≡ all → told ≡ all
+pub no_further : (told all : List ReportLine) (ts : List Logged) → ts ≡ [] → told ++ all_lines ts ≡ all → told ≡ all
 no_further told all ts none whole = sym (append-nil told) ∙ ap (λ (l : List Logged). told ++ all_lines l) (sym none) ∙ whole
 
 module _ {V : Type 0} {G : Ghosts V} where

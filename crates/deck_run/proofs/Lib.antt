@@ -13,6 +13,7 @@ pub mod Events
 pub mod Passed
 pub mod Recorded
 pub mod Going
+pub mod Settling
 pub mod Closing
 pub mod Loosened
 pub mod LaterSteps

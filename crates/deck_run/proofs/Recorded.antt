@@ -23,7 +23,7 @@ use Rattle.subsystem_defs.specs.Beside.{behind_first}
 use Rattle.subsystem_defs.specs.Deeds.{Ends, Becomes, Asks, Each, Repairs, Lends}
 use Rattle.subsystem_defs.specs.Happening as H
 use Rattle.subsystem_defs.specs.Happening.{MarksDeed, Talk, asks, happens, happens_by}
-use Rattle.subsystem_defs.specs.Lines.{Once, Run, logged}
+use Rattle.subsystem_defs.specs.Lines.{Once, Run, Settle, logged}
 use Rattle.subsystem_defs.specs.Subsystem as runs
 use Rattle.subsystem_defs.specs.Subsystem.{Mounted, devices_of, mounted_in}
 use Rattle.deck_run.specs.declared.pass.Passed.{Passed}
@@ -57,6 +57,12 @@ pub step_lines : (s : runs.Subsystem) (d : ℕ) → lines_of (logged (Run d) (ha
     ≡ lines_when s (events.Step d) (work_told d (running_in (devices_of s) d) (did.RunIdle d) (happens s (events.Step d)).end)
 step_lines s d =
     work_lines_by s (events.Step d) (λ (z : runs.Subsystem). work_told d (running_in (devices_of z) d) (did.RunIdle d) (happens s (events.Step d)).end)
+
+pub back_lines : (s : runs.Subsystem) (d : ℕ) → lines_of (logged (Settle d) (happens s (events.Back d)))
+    ≡ lines_when s (events.Back d) (work_told d (running_in (devices_of s) d) (did.Back d backs.Nothing) (happens s (events.Back d)).end)
+back_lines s d =
+    work_lines_by s (events.Back d)
+    (λ (z : runs.Subsystem). work_told d (running_in (devices_of z) d) (did.Back d backs.Nothing) (happens s (events.Back d)).end)
 
 -- one event alone
 

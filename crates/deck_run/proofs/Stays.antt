@@ -693,12 +693,15 @@ module _ {F P H R : Type 0} (c : Contents F P H R) (g : Geometry) (n : ℕ) wher
 
       ended_by : {X : Type 0} (old d : Device F P H) (a : Option X) → IsNoted d → Answers a → Leaves (event_ended c old d a)
       ended_by old d a k h =
-          s_then (ends d.store.acts _ d.store (k.is, refl)) (λ z _ l. s_done (record {
-            is = l.0;
-            plans_are = k.plans_are;
-            chain = k.chain;
-            acts = subst (λ (acts : List Act). Brought before d.history acts) (sym l.1) k.acts;
-          }, h))
+          s_then (ends d.store.acts _ d.store (k.is, refl)) (λ z _ l. s_done (
+            record {
+              is = l.0;
+              plans_are = k.plans_are;
+              chain = k.chain;
+              acts = subst (λ (acts : List Act). Brought before d.history acts) (sym l.1) k.acts;
+            },
+            h,
+          ))
 
       -- a command of the program that runs
       pub command_stays : (d : Device F P H) → Answers d.history.running → Answers d.chain → Is d.store → d.plans ≡ plans → HasOf ccws fixed d.chain →

@@ -1,13 +1,13 @@
-ghost use Rattle.std.specs.Prelude.{◌≡◌, ◌++◌, OnOk, true};
+ghost use Rattle.std.specs.Prelude.{◌≡◌, ◌++◌, IfOk, OnOk, true};
 ghost use Rattle.device_outside.specs.Lists.{is_in};
-ghost use Rattle.report_text.specs.declared.answers.BackAnswer.TheVariants as backs;
+ghost use Rattle.report_text.specs.declared.answers.BackAnswer.TheVariants as none;
 ghost use Rattle.report_text.specs.declared.event.Happened.TheVariants as did;
 ghost use Rattle.run_report.specs.Answers.{start_answer};
 ghost use Rattle.run_report.specs.Events.{running_in, work_told};
 ghost use Rattle.run_report.specs.OneDevice.{lines_by};
 ghost use Rattle.subsystem_core.specs.Devices.{numbers_of};
 ghost use Rattle.subsystem_defs.specs.Happening.{happens};
-ghost use Rattle.subsystem_defs.specs.Lines.{asked_by, is_busy, last_behind, line_logged, run_logged, steps};
+ghost use Rattle.subsystem_defs.specs.Lines.{asked_by, backs, is_busy, is_settled, last_behind, line_logged, run_logged, steps, stops};
 ghost use Rattle.subsystem_defs.specs.Subsystem as runs;
 ghost use Rattle.subsystem_defs.specs.Subsystem.{devices_of};
 ghost use Rattle.deck_run.specs.Opening.{is_open_line};
@@ -18,16 +18,20 @@ ghost use Rattle.deck_run.specs.Standing.{StandsAs};
 use crate::pass::{behind_first, pass};
 use ckd_types::{DeviceNo, NoMemory, PathNo};
 use deck_plan::EventLine;
+use device_defs::Did;
 use device_outside::Volume;
 use plain_defs::Item;
 use report_text::{BackAnswer, Happened, Loosed, ReportLine, RunRecord};
 use run_report::{Calls, Gained, record_event, start_answer, work_told};
 use std::alloc::Global;
 use subsystem_core::Subsystem;
-use subsystem_defs::Event;
+use subsystem_defs::{Event, EventEnd};
 
 /// As many events as the rest of a program takes at most.
 const MOST_STEPS: u32 = 8193;
+
+/// As many pieces of work in the background as there are at most.
+const MOST_BACKS: u32 = 2946;
 
 /// The lines of an event of one device.
 fn record_passed(
@@ -68,7 +72,50 @@ fn step<V: Volume>(
     Ok(())
 }
 
-/// One piece of work in the background.
+fn stops(did: Did) -> bool
+    ensures { result ≡ stops did }
+{
+    match did {
+        Did::Nothing | Did::Fault(_) | Did::BadBytes(_) => true,
+        _ => false,
+    }
+}
+
+fn is_settled(end: &EventEnd) -> bool
+    ensures { result ≡ is_settled end.now }
+{
+    match end {
+        EventEnd::Back(did) => stops(*did),
+        _ => false,
+    }
+}
+
+/// One piece of work in the background, and whether nothing more is done by itself.
+fn work<V: Volume>(
+    alloc: Global,
+    sub: &mut Subsystem<V>,
+    report: &mut RunRecord,
+    d: DeviceNo,
+) -> Result<bool, NoMemory>
+    requires here { is_in d (numbers_of sub.old.devices.items) ≡ true }
+    requires own { AreOwn sub.old.devices.items }
+    ensures numbers { numbers_of sub.new.devices.items ≡ numbers_of sub.old.devices.items }
+    ensures own { OnOk result (AreOwn sub.new.devices.items) }
+    ensures stands { (run : runs.Subsystem) → StandsAs sub.old run → OnOk result (StandsAs sub.new (happens run (Event.Back d)).behind) }
+    ensures lines { (run : runs.Subsystem) → StandsAs sub.old run → OnOk result (report.new ≡ report.old ++ lines_when run (Event.Back d) (work_told d (running_in (devices_of run) d) (did.Back d none.Nothing) (happens run (Event.Back d)).end)) }
+    ensures settled { (run : runs.Subsystem) → StandsAs sub.old run → IfOk result (λ settled. settled ≡ is_settled (happens run (Event.Back d)).end) }
+{
+    report.make_room()?;
+    let passed = pass(alloc, sub, d, Event::Back(d))?;
+    let items = behind_first(sub.device(d).journal(), passed.items);
+    let end = passed.end;
+    let settled = is_settled(&end);
+    let idle = Happened::Back(d, BackAnswer::Nothing);
+    let happened = work_told(d, &passed.running, idle, end);
+    record_passed(report, d, happened, &passed.acts, items, passed.calls)?;
+    Ok(settled)
+}
+
 fn back<V: Volume>(
     alloc: Global,
     sub: &mut Subsystem<V>,
@@ -80,15 +127,35 @@ fn back<V: Volume>(
     ensures numbers { numbers_of sub.new.devices.items ≡ numbers_of sub.old.devices.items }
     ensures own { OnOk result (AreOwn sub.new.devices.items) }
     ensures stands { (run : runs.Subsystem) → StandsAs sub.old run → OnOk result (StandsAs sub.new (happens run (Event.Back d)).behind) }
-    ensures lines { (run : runs.Subsystem) → StandsAs sub.old run → OnOk result (report.new ≡ report.old ++ lines_when run (Event.Back d) (work_told d (running_in (devices_of run) d) (did.Back d backs.Nothing) (happens run (Event.Back d)).end)) }
+    ensures lines { (run : runs.Subsystem) → StandsAs sub.old run → OnOk result (report.new ≡ report.old ++ lines_when run (Event.Back d) (work_told d (running_in (devices_of run) d) (did.Back d none.Nothing) (happens run (Event.Back d)).end)) }
 {
-    report.make_room()?;
-    let passed = pass(alloc, sub, d, Event::Back(d))?;
-    let items = behind_first(sub.device(d).journal(), passed.items);
-    let end = passed.end;
-    let idle = Happened::Back(d, BackAnswer::Nothing);
-    let happened = work_told(d, &passed.running, idle, end);
-    record_passed(report, d, happened, &passed.acts, items, passed.calls)?;
+    let _settled = work(alloc, sub, report, d)?;
+    Ok(())
+}
+
+/// All of the work in the background.
+fn settle<V: Volume>(
+    alloc: Global,
+    sub: &mut Subsystem<V>,
+    report: &mut RunRecord,
+    d: DeviceNo,
+) -> Result<(), NoMemory>
+    requires here { is_in d (numbers_of sub.old.devices.items) ≡ true }
+    requires own { AreOwn sub.old.devices.items }
+    ensures numbers { numbers_of sub.new.devices.items ≡ numbers_of sub.old.devices.items }
+    ensures own { OnOk result (AreOwn sub.new.devices.items) }
+    ensures stands { (run : runs.Subsystem) → StandsAs sub.old run → OnOk result (StandsAs sub.new (last_behind run (backs 2946 d run))) }
+    ensures lines { (run : runs.Subsystem) → StandsAs sub.old run → OnOk result (report.new ≡ report.old ++ all_lines (backs 2946 d run)) }
+{
+    for _turn in 0..MOST_BACKS {
+        let settled = match work(alloc, sub, report, d) {
+            Err(NoMemory) => return Err(NoMemory),
+            Ok(settled) => settled,
+        };
+        if settled {
+            return Ok(());
+        }
+    }
     Ok(())
 }
 
@@ -194,7 +261,7 @@ fn finish<V: Volume>(
     Ok(())
 }
 
-/// One event line. START, STEP, RUN, BACK and RESET run so far.
+/// One event line. START, STEP, RUN, BACK, SETTLE and RESET run so far.
 pub(crate) fn do_line<V: Volume>(
     alloc: Global,
     sub: &mut Subsystem<V>,
@@ -213,6 +280,7 @@ pub(crate) fn do_line<V: Volume>(
         EventLine::Step(d) => step(alloc, sub, report, d, Happened::StepIdle(d)),
         EventLine::Run(d) => finish(alloc, sub, report, d),
         EventLine::Back(d) => back(alloc, sub, report, d),
+        EventLine::Settle(d) => settle(alloc, sub, report, d),
         EventLine::Reset(path, d) => reset(alloc, sub, report, path, d),
         _ => unreachable!(),
     }

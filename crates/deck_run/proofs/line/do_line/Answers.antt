@@ -39,6 +39,14 @@ unfolding lines.line_logged
 returns-in-Back-clause-lines g c = λ run all.
     rw c.in-Back.is (ok_so c.back.result _ _ (λ h. back_tells run c.in-Back.d c.args.report.now c.back.new.report h) (c.back.ensures.lines run all))
 
+pub returns-in-Settle-clause-stands : goal.returns-in-Settle-clause-stands
+unfolding lines.line_logged
+returns-in-Settle-clause-stands g c = λ run all. rw c.in-Settle.is (c.settle.ensures.stands run all)
+
+pub returns-in-Settle-clause-lines : goal.returns-in-Settle-clause-lines
+unfolding lines.line_logged
+returns-in-Settle-clause-lines g c = λ run all. rw c.in-Settle.is (c.settle.ensures.lines run all)
+
 pub returns-in-Reset-clause-stands : goal.returns-in-Reset-clause-stands
 unfolding lines.line_logged
 returns-in-Reset-clause-stands g c = λ run all. rw c.in-Reset.is (c.reset.ensures.stands run all)
