@@ -131,7 +131,10 @@ impl<V: Volume> Device<V> {
         ensures takes { Takes K.takes keep.new self.new.store.number (self.new.store.cylinders * 15) }
         ensures run { Ran (where_ok result) K.hears (command contents (device_of self.old)) (outside (P.view port.old) self.old.store keep.old) (device_of self.new) (step_had self.new.past result) (outside (P.view port.new) self.new.store keep.new) }
     {
-        match self.past.reserve(self.store.alloc, self.store.loose.count() + 2) {
+        match self
+            .past
+            .reserve(self.store.alloc, self.store.loose.count() + 2)
+        {
             Err(NoMemory) => return Err(NoMemory),
             Ok(()) => (),
         }
