@@ -1,6 +1,6 @@
 use Rattle.subsystem_defs.specs.Lines as lines
 use Rattle.deck_run.proofs.Events.{ok_so}
-use Rattle.deck_run.proofs.Recorded.{back_tells, one_step_tells, reset_tells, start_tells}
+use Rattle.deck_run.proofs.Recorded.{back_tells, fail_tells, one_step_tells, reset_tells, start_tells}
 use Rattle.deck_run.proofs.line.do_line.Goals as goal
 
 pub returns-in-Start-clause-stands : goal.returns-in-Start-clause-stands
@@ -56,3 +56,14 @@ unfolding lines.line_logged
 returns-in-Reset-clause-lines g c = λ run all.
     rw c.in-Reset.is
     (ok_so c.reset.result _ _ (λ h. reset_tells run c.in-Reset.path c.in-Reset.d c.args.report.now c.reset.new.report h) (c.reset.ensures.lines run all))
+
+pub returns-in-FailVolume-clause-stands : goal.returns-in-FailVolume-clause-stands
+unfolding lines.line_logged
+returns-in-FailVolume-clause-stands g c = λ run all. rw c.in-FailVolume.is (c.fail_volume.ensures.stands run all)
+
+pub returns-in-FailVolume-clause-lines : goal.returns-in-FailVolume-clause-lines
+unfolding lines.line_logged
+returns-in-FailVolume-clause-lines g c = λ run all.
+    rw c.in-FailVolume.is
+    (ok_so c.fail_volume.result _ _ (λ h. fail_tells run c.in-FailVolume.d c.in-FailVolume.side c.args.report.now c.fail_volume.new.report h)
+    (c.fail_volume.ensures.lines run all))
