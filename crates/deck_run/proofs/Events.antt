@@ -10,7 +10,7 @@ use Rattle.ckd_types.specs.declared.paths.Side.{Side}
 use Rattle.loss_model.specs.declared.Loss.{Loss}
 use Rattle.loss_model.specs.declared.Loss.TheVariants as losses
 use Rattle.ckd_chain.specs.State.{ChainState}
-use Rattle.plain_defs.specs.History.{OpenEntry}
+use Rattle.plain_defs.specs.History.{History, OpenEntry}
 use Rattle.track_image.specs.Image.{Image}
 use Rattle.device_outside.specs.declared.keep.NoKeep.{NoKeep}
 use Rattle.device_outside.specs.declared.volume.Volume.{Ghosts}
@@ -88,7 +88,9 @@ use Rattle.subsystem_defs.specs.Beside.{new_acts}
 use Rattle.deck_run.specs.Loosening.{acts_by}
 use Rattle.deck_run.proofs.Acting.{brought_none, new_are, none_new, started_new}
 use Rattle.deck_run.proofs.Stays.{Answers, HasOf, Is, IsNoted, Stays, background_stays, command_stays, lose_stays, reset_stays}
-use Rattle.deck_run.proofs.Surely.{Surely, s_done, s_then, ran_so}
+use Rattle.deck_run.proofs.Surely.{Surely, s_done, s_then, surely_so, ran_so}
+use Rattle.device_defs.specs.Device.{all_acted}
+use Rattle.run_report.proofs.ActsCome.{acts_come}
 
 some_same : {X : Type 0} {x y : X} → Some x ≡ Some y → x ≡ y
 some_same e = cc
@@ -204,27 +206,25 @@ reset_by n d path (Some chain) at single own =
 
 -- a loss
 
-lose_by : (e : Event) (d : DefinedDevice) (loss : Loss) (o : Option ChainState) → ((y : DefinedDevice) → acts_by e answers.Done y ≡ y.store.acts) →
-    d.chain ≡ o → d.store.paired ≡ false → IsOwn d → Leaves e d (ends_by ends_done (lose contents d loss))
-lose_by e d loss None noted at single own =
+pub lose_owns : (d : DefinedDevice) (loss : Loss) (o : Option ChainState) → d.chain ≡ o → d.store.paired ≡ false → IsOwn d →
+    Surely (lose contents d loss) (λ y _. IsOwn y × (y.history ≡ all_acted d.history y.store.acts))
+lose_owns d loss None at single own =
     let fixed : Fixed = record { geometry = d.store.geometry; cylinders = d.store.cylinders; number = 0 } in
-    s_then
+    surely_so (λ y a l. (own_of [] fixed d y refl (λ i k m h. absurd (omega (arith, h))) own.plans l.0.is l.0.plans_are l.0.chain, l.1))
     (lose_stays contents d.store.geometry d.store.cylinders [] fixed d.plans d.history d loss (refl, (refl, single)) refl
     (subst (HasOf [] fixed) (sym at) tt) refl)
-    (λ y a l. s_done (
-      own_of [] fixed d y refl (λ i k m h. absurd (omega (arith, h))) own.plans l.is l.plans_are l.chain,
-      new_are d.history y.history y.store.acts l.acts ∙ sym (noted y),
-    ))
-lose_by e d loss (Some chain) noted at single own =
+lose_owns d loss (Some chain) at single own =
     let mine : (chain.fixed.geometry ≡ d.store.geometry) × GivesAll chain.ccws =
     subst (λ (x : Option ChainState). IfSome x (λ (c : ChainState). (c.fixed.geometry ≡ d.store.geometry) × GivesAll c.ccws)) at own.chain in
-    s_then
+    surely_so (λ y a l. (own_of chain.ccws chain.fixed d y mine.0 mine.1 own.plans l.0.is l.0.plans_are l.0.chain, l.1))
     (lose_stays contents d.store.geometry d.store.cylinders chain.ccws chain.fixed d.plans d.history d loss (refl, (refl, single)) refl
     (subst (HasOf chain.ccws chain.fixed) (sym at) (refl, refl)) refl)
-    (λ y a l. s_done (
-      own_of chain.ccws chain.fixed d y mine.0 mine.1 own.plans l.is l.plans_are l.chain,
-      new_are d.history y.history y.store.acts l.acts ∙ sym (noted y),
-    ))
+
+lose_by : (e : Event) (d : DefinedDevice) (loss : Loss) → ((y : DefinedDevice) → acts_by e answers.Done y ≡ y.store.acts) →
+    d.store.paired ≡ false → IsOwn d → Leaves e d (ends_by ends_done (lose contents d loss))
+lose_by e d loss noted single own =
+    s_then (lose_owns d loss d.chain refl single own)
+    (λ y a l. s_done (l.0, ap (λ (h : History). new_acts d.history h) l.1 ∙ acts_come d.history y.store.acts ∙ sym (noted y)))
 
 start_own : (d : DefinedDevice) (path : ℕ) → 1 ≤ path → path ≤ 4 → IsOwn d → IsOwn (start d path)
 unfolding starting.start
@@ -275,7 +275,7 @@ good_starts e n d path is least most own =
     cond_both (is_own path d.history.running) (Ends answers.Running) (start_by d path (start_fault d path)) (Good e n d) (λ _. λ y. refl)
     (λ _. good_start e n d path (start_fault d path) is least most own)
 
-abbrev hears : NoKeep → (m : Message Image) → ReplyTo m → NoKeep → Type 0
+abbrev pub hears : NoKeep → (m : Message Image) → ReplyTo m → NoKeep → Type 0
 hears k m r l = r ≡ reply m
 
 module _ {V : Type 0} {G : Ghosts V} where
@@ -297,7 +297,7 @@ module _ {V : Type 0} {G : Ghosts V} where
       (order o (Asks (device_of x) (ends_by ends_done (lose contents (device_of x) (losses.Side side)))))
   good_fail n d side x (Some f) is own = λ y. refl
   good_fail n d side x None is own =
-      (is, lose_by (events.FailVolume d side) (device_of x) (losses.Side side) (device_of x).chain (λ y. refl) refl refl own)
+      (is, lose_by (events.FailVolume d side) (device_of x) (losses.Side side) (λ y. refl) refl own)
 
   good : (n : ℕ) (x : Device V G) (xs : List (Device V G)) (pool : pools.Pool) (e : Event) → device_at xs n ≡ Some x → IsOwn (device_of x) → IsOpenOn n e →
       Good e n (device_of x) (deed contents pool (devices_of xs) e)

@@ -108,6 +108,38 @@ fail_tells s d side told more is =
     (sym (append-nil _ ∙ work_lines_by s (events.FailVolume d side)
     (λ (z : runs.Subsystem). did.Ordered (orders.FailVolume d side) (order_answer (happens s (events.FailVolume d side)).end))))
 
+pub fail_cache_tells : (s : runs.Subsystem) (told more : List ReportLine) → more ≡ told ++ lines_when s events.FailCache
+    (did.Ordered orders.FailCache (order_answer (happens s events.FailCache).end)) →
+    more ≡ told ++ all_lines (logged (Once events.FailCache) (happens s events.FailCache) ∷ [])
+fail_cache_tells s told more is =
+    is ∙ ap (λ (l : List ReportLine). told ++ l)
+    (sym (append-nil _ ∙ work_lines_by s events.FailCache
+    (λ (z : runs.Subsystem). did.Ordered orders.FailCache (order_answer (happens s events.FailCache).end))))
+
+pub fail_store_tells : (s : runs.Subsystem) (told more : List ReportLine) → more ≡ told ++ lines_when s events.FailStore
+    (did.Ordered orders.FailStore (order_answer (happens s events.FailStore).end)) →
+    more ≡ told ++ all_lines (logged (Once events.FailStore) (happens s events.FailStore) ∷ [])
+fail_store_tells s told more is =
+    is ∙ ap (λ (l : List ReportLine). told ++ l)
+    (sym (append-nil _ ∙ work_lines_by s events.FailStore
+    (λ (z : runs.Subsystem). did.Ordered orders.FailStore (order_answer (happens s events.FailStore).end))))
+
+pub repair_cache_tells : (s : runs.Subsystem) (told more : List ReportLine) → more ≡ told ++ lines_when s events.RepairCache
+    (did.Ordered orders.RepairCache (order_answer (happens s events.RepairCache).end)) →
+    more ≡ told ++ all_lines (logged (Once events.RepairCache) (happens s events.RepairCache) ∷ [])
+repair_cache_tells s told more is =
+    is ∙ ap (λ (l : List ReportLine). told ++ l)
+    (sym (append-nil _ ∙ work_lines_by s events.RepairCache
+    (λ (z : runs.Subsystem). did.Ordered orders.RepairCache (order_answer (happens s events.RepairCache).end))))
+
+pub repair_store_tells : (s : runs.Subsystem) (told more : List ReportLine) → more ≡ told ++ lines_when s events.RepairStore
+    (did.Ordered orders.RepairStore (order_answer (happens s events.RepairStore).end)) →
+    more ≡ told ++ all_lines (logged (Once events.RepairStore) (happens s events.RepairStore) ∷ [])
+repair_store_tells s told more is =
+    is ∙ ap (λ (l : List ReportLine). told ++ l)
+    (sym (append-nil _ ∙ work_lines_by s events.RepairStore
+    (λ (z : runs.Subsystem). did.Ordered orders.RepairStore (order_answer (happens s events.RepairStore).end))))
+
 -- What was recorded
 
 module _ {V : Type 0} {G : Ghosts V} (s : Subsystem V G) (run : runs.Subsystem) (e : Event) (d : ℕ) (p : Passed) (has : HasPassed s run e d p)

@@ -805,26 +805,31 @@ module _ {F P H R : Type 0} (c : Contents F P H R) (g : Geometry) (n : ℕ) wher
           (λ s _ l. worked_on (record (event_begun d) { store = s }) l.0 same of at))
           (λ y a l. ended_by d y a l.0 l.1)
 
-      -- a loss
+      -- a loss, which brings nothing but these acts
+      abbrev pub HasNoted : Device F P H → Type 0
+      HasNoted y = IsNoted y × (y.history ≡ all_acted before y.store.acts)
+
       loses_on : (d : Device F P H) (loss : Loss) → Is d.store → d.plans ≡ plans → HasOf ccws fixed d.chain → d.history ≡ before →
-          Surely (and_then (losing c d.store loss) (λ s _. Done (with_store d s) (tt {0}))) (λ y _. IsNoted y)
+          Surely (and_then (losing c d.store loss) (λ s _. Done (with_store d s) (tt {0}))) (λ y _. HasNoted y)
       loses_on d loss is same of at =
           s_then (loses d.store loss is)
-          (λ z _ m. s_done (record { is = m; plans_are = same; chain = of; acts = all_brought before d.history z.acts at }))
+          (λ z _ m. s_done
+          (record { is = m; plans_are = same; chain = of; acts = all_brought before d.history z.acts at }, ap (λ (h : History). all_acted h z.acts) at))
 
-      ended_so : {X : Type 0} (old d : Device F P H) (a : X) → IsNoted d → Surely (event_ended c old d a) (λ y _. IsNoted y)
+      ended_so : {X : Type 0} (old d : Device F P H) (a : X) → HasNoted d → Surely (event_ended c old d a) (λ y _. HasNoted y)
       ended_so old d a k =
-          s_then (ends d.store.acts _ d.store (k.is, refl)) (λ z _ l. s_done (
-          record {
-            is = l.0;
-            plans_are = k.plans_are;
-            chain = k.chain;
-            acts = subst (λ (acts : List Act). Brought before d.history acts) (sym l.1) k.acts;
-          }
+          s_then (ends d.store.acts _ d.store (k.0.is, refl)) (λ z _ l. s_done (
+            record {
+              is = l.0;
+              plans_are = k.0.plans_are;
+              chain = k.0.chain;
+              acts = subst (λ (acts : List Act). Brought before d.history acts) (sym l.1) k.0.acts;
+            },
+            k.1 ∙ ap (λ (acts : List Act). all_acted before acts) (sym l.1),
           ))
 
       pub lose_stays : (d : Device F P H) (loss : Loss) → Is d.store → d.plans ≡ plans → HasOf ccws fixed d.chain → d.history ≡ before →
-          Surely (lose c d loss) (λ y _. IsNoted y)
+          Surely (lose c d loss) (λ y _. HasNoted y)
       unfolding happened.lose
       lose_stays d loss is same of at =
           s_then (s_then (hears [] 960 (event_begun d).store (is, refl))

@@ -11,21 +11,23 @@ use Rattle.subsystem_defs.specs.declared.end.EventEnd.TheVariants as ends
 use Rattle.subsystem_defs.specs.declared.event.Event.{Event}
 use Rattle.subsystem_defs.specs.declared.event.Event.TheVariants as events
 
--- a reset notes no act
-abbrev pub is_reset : Event → Bool
-is_reset (events.Reset path d) = true
-is_reset _ = false
+-- a reset notes no act, and neither does a repair
+abbrev pub is_quiet : Event → Bool
+is_quiet (events.Reset path d) = true
+is_quiet events.RepairCache = true
+is_quiet events.RepairStore = true
+is_quiet _ = false
 
 abbrev pub acts_when : Bool → EventEnd → DefinedDevice → List Act
-acts_when resets (ends.Stepped s) d = d.store.acts
-acts_when resets (ends.Second s) d = d.store.acts
-acts_when resets (ends.Back did) d = d.store.acts
-acts_when resets ends.Done d = if resets then [] else d.store.acts
-acts_when resets _ d = []
+acts_when quiet (ends.Stepped s) d = d.store.acts
+acts_when quiet (ends.Second s) d = d.store.acts
+acts_when quiet (ends.Back did) d = d.store.acts
+acts_when quiet ends.Done d = if quiet then [] else d.store.acts
+acts_when quiet _ d = []
 
 -- the acts that came with an event which ended so: those that were noted in a step, in the background, or in a loss
 abbrev pub acts_by : Event → EventEnd → DefinedDevice → List Act
-acts_by e end d = acts_when (is_reset e) end d
+acts_by e end d = acts_when (is_quiet e) end d
 
 -- where so many tracks were loose before, and this is the number of the data behind
 abbrev pub loosed_by : ℕ → ℕ → ℕ → Act → Loosed

@@ -16,6 +16,7 @@ ghost use Rattle.deck_run.specs.Owning.{AreOwn};
 ghost use Rattle.deck_run.specs.Recording.{all_lines, lines_when};
 ghost use Rattle.deck_run.specs.Standing.{StandsAs};
 
+use crate::all::order_all;
 use crate::pass::{behind_first, pass};
 use ckd_types::{DeviceNo, NoMemory, PathNo, Side};
 use deck_plan::EventLine;
@@ -286,7 +287,7 @@ fn finish<V: Volume>(
     Ok(())
 }
 
-/// One event line. START, STEP, RUN, BACK, SETTLE, RESET and FAIL VOLUME run so far.
+/// One event line. START, STEP, RUN, BACK, SETTLE, RESET, FAIL and REPAIR run so far.
 pub(crate) fn do_line<V: Volume>(
     alloc: Global,
     sub: &mut Subsystem<V>,
@@ -308,6 +309,22 @@ pub(crate) fn do_line<V: Volume>(
         EventLine::Settle(d) => settle(alloc, sub, report, d),
         EventLine::Reset(path, d) => reset(alloc, sub, report, path, d),
         EventLine::FailVolume(d, side) => fail_volume(alloc, sub, report, d, side),
+        EventLine::FailCache => order_all(alloc, sub, report, Event::FailCache, Order::FailCache),
+        EventLine::FailStore => order_all(alloc, sub, report, Event::FailStore, Order::FailStore),
+        EventLine::RepairCache => order_all(
+            alloc,
+            sub,
+            report,
+            Event::RepairCache,
+            Order::RepairCache,
+        ),
+        EventLine::RepairStore => order_all(
+            alloc,
+            sub,
+            report,
+            Event::RepairStore,
+            Order::RepairStore,
+        ),
         _ => unreachable!(),
     }
 }

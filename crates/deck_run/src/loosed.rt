@@ -4,7 +4,7 @@ ghost use Rattle.std.specs.Prelude.{◌≡◌, ◌≤◌, [], IfOk, if◌then◌
 ghost use Rattle.device_core.specs.State.{device_of};
 ghost use Rattle.run_report.specs.Beside.{id_of};
 ghost use Rattle.subsystem_defs.specs.Beside.{has_power, is_power, loose_count};
-ghost use Rattle.deck_run.specs.Loosening.{acts_when, all_loosed, is_reset, loosed_by, power_by};
+ghost use Rattle.deck_run.specs.Loosening.{acts_when, all_loosed, is_quiet, loosed_by, power_by};
 
 use ckd_types::{DeviceNo, NoMemory};
 use device_core::Device;
@@ -40,31 +40,31 @@ fn noted<V: Volume>(device: &Device<V>) -> &[Act]
     device.store.loose.acts()
 }
 
-pub(crate) fn is_reset(e: &Event) -> bool
-    ensures { result ≡ is_reset e.now }
+pub(crate) fn is_quiet(e: &Event) -> bool
+    ensures { result ≡ is_quiet e.now }
 {
     match e {
-        Event::Reset(_, _) => true,
+        Event::Reset(_, _) | Event::RepairCache | Event::RepairStore => true,
         _ => false,
     }
 }
 
-fn done_acts<V: Volume>(resets: bool, device: &Device<V>) -> &[Act]
-    ensures { result.now ≡ (if resets then [] else (device_of device.now).store.acts) }
+fn done_acts<V: Volume>(quiet: bool, device: &Device<V>) -> &[Act]
+    ensures { result.now ≡ (if quiet then [] else (device_of device.now).store.acts) }
 {
-    if resets {
+    if quiet {
         return &[];
     }
     noted(device)
 }
 
 /// The acts that came with an event which ended so.
-fn acts_when<'a, V: Volume>(resets: bool, end: &EventEnd, device: &'a Device<V>) -> &'a [Act]
-    ensures { result.now ≡ acts_when resets end.now (device_of device.now) }
+fn acts_when<'a, V: Volume>(quiet: bool, end: &EventEnd, device: &'a Device<V>) -> &'a [Act]
+    ensures { result.now ≡ acts_when quiet end.now (device_of device.now) }
 {
     match end {
         EventEnd::Stepped(_) | EventEnd::Second(_) | EventEnd::Back(_) => noted(device),
-        EventEnd::Done => done_acts(resets, device),
+        EventEnd::Done => done_acts(quiet, device),
         _ => &[],
     }
 }
@@ -117,15 +117,15 @@ pub(crate) fn all_loosed<V: Volume>(
     d: DeviceNo,
     count: u16,
     device: &Device<V>,
-    resets: bool,
+    quiet: bool,
     end: &EventEnd,
     items: &[Item],
 ) -> Result<Vec<Loosed>, NoMemory>
-    ensures { IfOk result (λ told. told.items ≡ all_loosed d count (device_of device.now).store.number (acts_when resets end.now (device_of device.now)) (has_power items.now)) }
+    ensures { IfOk result (λ told. told.items ≡ all_loosed d count (device_of device.now).store.number (acts_when quiet end.now (device_of device.now)) (has_power items.now)) }
 {
     let number = data_of(device);
     let mut told = Vec::new(alloc);
-    for act in acts_when(resets, end, device) {
+    for act in acts_when(quiet, end, device) {
         told.push(loosed_by(d, count, number, *act))?;
     }
     if has_power(items) && count != 0 {

@@ -19,7 +19,7 @@ returns-clause-passed g c = λ run all.
     c.loose_of-loose.result c.device-device.ensures c.device-behind.ensures (c.in_ok-end.ensures.told run all) (c.in_ok-end.ensures.happened run all).1
     (c.in_ok-end.ensures.happened run all).0 c.running_of-running.ensures (ap (λ l. length l) c.journal-items.ensures)
     (c.in_ok-acts.ensures ∙ ap (λ b. all_loosed c.args.d c.loose_of-loose.result (device_of c.device-behind.result.now).store.number
-    (acts_when b c.in_ok-end.end (device_of c.device-behind.result.now)) (has_power c.behind_first-came.result.now)) c.is_reset-resets.ensures
+    (acts_when b c.in_ok-end.end (device_of c.device-behind.result.now)) (has_power c.behind_first-came.result.now)) c.is_quiet-quiet.ensures
     ∙ ap (λ l. all_loosed c.args.d c.loose_of-loose.result (device_of c.device-behind.result.now).store.number
     (acts_by c.args.e c.in_ok-end.end (device_of c.device-behind.result.now)) (has_power l))
     (c.behind_first-came.ensures ∙ ap (behind_first (length c.journal-items.result.now)) c.journal.ensures)) c.loose_of-loose.ensures
