@@ -11,6 +11,8 @@ use Rattle.ckd_chain.specs.declared.progress.Progress.TheVariants as progresses
 use Rattle.ckd_chain.specs.declared.progress.Settled.TheVariants.{Equipment}
 use Rattle.ckd_chain.specs.State.{ChainState}
 use Rattle.ckd_chain.specs.Steps.{need_of, stepped}
+use Rattle.loss_model.specs.declared.Loss.{Loss}
+use Rattle.loss_model.specs.declared.Loss.TheVariants as kinds
 use Rattle.plain_defs.specs.History.{OpenEntry, has_used}
 use Rattle.ckd_types.specs.Parameters.{is_bypass}
 use Rattle.track_image.specs.Image.{Image, edited_image}
@@ -77,13 +79,13 @@ use Rattle.device_defs.specs.Command.{
 use Rattle.device_defs.specs.Contents.{Contents}
 use Rattle.device_defs.specs.Cutting as cutting
 use Rattle.device_defs.specs.Cutting.{origin_cut, half_cut, reset_by, path_cut, reset}
-use Rattle.device_defs.specs.Effects.{with_edit, loosened, hardened}
+use Rattle.device_defs.specs.Effects.{with_edit, loosened, hardened, loose_lost}
 use Rattle.plain_device.specs.Acted.{settled_act, paths_behind}
 use Rattle.device_defs.specs.Device.{Device, event_ended, event_begun, with_store}
 use Rattle.device_defs.specs.Editing as editing
 use Rattle.device_defs.specs.Editing.{effect, whole, at_once, through_by, through, write_by, written, is_given, unchosen, write_chosen, write}
 use Rattle.device_defs.specs.Events as happened
-use Rattle.device_defs.specs.Events.{background}
+use Rattle.device_defs.specs.Events.{background, lose, losing, lost_by, with_loss}
 use Rattle.device_defs.specs.Image as images
 use Rattle.device_defs.specs.Image.{
   is_sequential,
@@ -112,7 +114,25 @@ use Rattle.device_defs.specs.Image.{
   image,
 }
 use Rattle.device_defs.specs.Losses as losses
-use Rattle.device_defs.specs.Losses.{settled, by_frame, gives_up, kept_by_frame, stale_everywhere, call_failed}
+use Rattle.device_defs.specs.Losses.{
+  settled,
+  settled_but,
+  by_frame,
+  gives_up,
+  kept_by_frame,
+  stale_everywhere,
+  call_failed,
+  over,
+  down,
+  side_lost,
+  without_frame,
+  without_patch,
+  cache_lost,
+  patch_lost,
+  store_lost,
+  firm_told,
+  all_firm_told,
+}
 use Rattle.device_defs.specs.Memory.{had_by}
 use Rattle.device_defs.specs.Outcomes.{Turn, ends_with, settles, checks, wrote_turn, usage_of, turned_by}
 use Rattle.device_defs.specs.Owed as owed
@@ -146,6 +166,7 @@ use Rattle.device_defs.specs.Store.{
   patch_at,
   is_lost,
   is_loose,
+  has_loose,
   has_level,
   level_at,
   half_is,
@@ -209,6 +230,66 @@ module _ {F P H R : Type 0} (c : Contents F P H R) (n : ℕ) where
 
   failed : {rs ws : ℕ} (s : Store F P H) (side : Side) (o : Option ℕ) → Is rs ws s → Keeps rs ws (call_failed c s side o)
   failed s side o k = m_if s.paired (λ e. absurd (clash s.paired e k.1.1.1)) (λ e. m_done k)
+
+  -- Losses
+
+  over_is : {rs ws : ℕ} (m : ℕ) (f : ℕ → Store F P H → Store F P H) → ((t : ℕ) (z : Store F P H) → Is rs ws z → Is rs ws (f t z)) →
+      (s : Store F P H) → Is rs ws s → Is rs ws (over m f s)
+  unfolding losses.over
+  over_is zero f keeps s k = k
+  over_is (suc m) f keeps s k = keeps m (over m f s) (over_is m f keeps s k)
+
+  down_is : {rs ws : ℕ} (s : Store F P H) (side : Side) → Is rs ws s → Is rs ws (down s side)
+  down_is s A k = k
+  down_is s B k = k
+
+  side_is : {rs ws : ℕ} (s : Store F P H) (side : Side) → Is rs ws s → Is rs ws (side_lost c s side None)
+  unfolding losses.side_lost
+  side_is s side k = over_is (tracks_of s) (settled_but c None) (λ t z l. settled_is z t l) (down s side) (down_is s side k)
+
+  bare_is : {rs ws : ℕ} (s : Store F P H) (t : ℕ) → Is rs ws s → Is rs ws (without_frame s t)
+  bare_is s t k = either (is_some (frame_at s t)) _ s k k
+
+  gone_is : {rs ws : ℕ} (s : Store F P H) → Is rs ws s → Is rs ws (loose_lost s)
+  gone_is s k = either (has_loose s) _ s k k
+
+  cache_is : {rs ws : ℕ} (s : Store F P H) → Is rs ws s → Is rs ws (cache_lost c s)
+  unfolding losses.cache_lost
+  cache_is s k =
+      over_is (tracks_of s) (λ t z. settled c (without_frame z t) t) (λ t z l. settled_is (without_frame z t) t (bare_is z t l))
+      (record (loose_lost s) { queue = [] }) (gone_is s k)
+
+  unpatched_is : {rs ws : ℕ} (s : Store F P H) (t : ℕ) → Is rs ws s → Is rs ws (without_patch c s t)
+  unpatched_is s t k = gives_is s t (losses.slot_in c (patch_at s t)) k
+
+  stale_is : {rs ws : ℕ} (s : Store F P H) (t : ℕ) → Is rs ws s → Is rs ws (stale_everywhere s t)
+  stale_is s t k = either s.paired _ _ k k
+
+  patch_is : {rs ws : ℕ} (t : ℕ) (s : Store F P H) → Is rs ws s → Is rs ws (patch_lost c t s)
+  patch_is t s k =
+      either (is_some (patch_at s t)) _ s
+      (either (half_is s.half t) _ _ (unpatched_is s t k)
+      (settled_is (stale_everywhere (without_patch c s t) t) t (stale_is (without_patch c s t) t (unpatched_is s t k)))) k
+
+  patches_is : {rs ws : ℕ} (s : Store F P H) → Is rs ws s → Is rs ws (store_lost c s)
+  unfolding losses.store_lost
+  patches_is s k = over_is (tracks_of s) (patch_lost c) (λ t z l. patch_is t z l) s k
+
+  lost_is : {rs ws : ℕ} (s : Store F P H) (loss : Loss) → Is rs ws s → Is rs ws (lost_by c s loss)
+  lost_is s kinds.Cache k = cache_is s k
+  lost_is s kinds.Store k = patches_is s k
+  lost_is s (kinds.Side side) k = side_is s side k
+
+  firms : {rs ws : ℕ} (t : ℕ) (s : Store F P H) → Is rs ws s → Keeps rs ws (firm_told c t s)
+  firms t s k = m_if (owed_at s t).firm (λ _. m_firm (m_done k)) (λ _. m_done k)
+
+  all_firms : {rs ws : ℕ} (m : ℕ) (s : Store F P H) → Is rs ws s → Keeps rs ws (all_firm_told c m s)
+  unfolding losses.all_firm_told
+  all_firms zero s k = m_done k
+  all_firms (suc m) s k = m_then (all_firms m s k) (λ z _ _ _ l. firms m z l)
+
+  loses : {rs ws : ℕ} (s : Store F P H) (loss : Loss) → Is rs ws s → Keeps rs ws (losing c s loss)
+  loses s loss k = all_firms (tracks_of s) (lost_by c (with_loss s loss) loss) (lost_is (with_loss s loss) loss k)
 
   -- Notices, and what the port is told
 
@@ -589,6 +670,12 @@ module _ {F P H R : Type 0} (c : Contents F P H R) (n : ℕ) where
   unfolding happened.background
   background_counts d k =
       m_then (m_then (hears 960 (event_begun d).store k) (λ s _ _ _ l. m_then (does_work s l) (λ z a _ _ m. m_done (record { store = m }))))
+      (λ y a _ _ l. ended_by d y a l)
+
+  pub lose_counts : {rs ws : ℕ} (d : Device F P H) (loss : Loss) → Is rs ws d.store → Leaves rs ws (lose c d loss)
+  unfolding happened.lose
+  lose_counts d loss k =
+      m_then (m_then (hears 960 (event_begun d).store k) (λ s _ _ _ l. m_then (loses s loss l) (λ z a _ _ m. m_done (record { store = m }))))
       (λ y a _ _ l. ended_by d y a l)
 
   halves_by : {rs ws : ℕ} (s : Store F P H) (h : HalfWrite H) (o : Origin) → Is rs ws s → Keeps rs ws (origin_cut c s h o)

@@ -6,8 +6,11 @@ use Rattle.std.proofs.lemmas.Bool.Decides.{nat_tests}
 use Rattle.ckd_types.specs.declared.channel.Ccw.{Ccw}
 use Rattle.ckd_types.specs.Fixed.{Fixed}
 use Rattle.ckd_types.specs.declared.geometry.Geometry.{Geometry}
+use Rattle.ckd_types.specs.declared.paths.Side.{Side}
+use Rattle.loss_model.specs.declared.Loss.{Loss}
+use Rattle.loss_model.specs.declared.Loss.TheVariants as losses
 use Rattle.ckd_chain.specs.State.{ChainState}
-use Rattle.plain_defs.specs.History.{OpenEntry}
+use Rattle.plain_defs.specs.History.{History, OpenEntry}
 use Rattle.track_image.specs.Image.{Image}
 use Rattle.device_outside.specs.declared.keep.NoKeep.{NoKeep}
 use Rattle.device_outside.specs.declared.volume.Volume.{Ghosts}
@@ -23,7 +26,7 @@ use Rattle.device_defs.specs.declared.counts.Counts.{Counts}
 use Rattle.device_defs.specs.Command.{command}
 use Rattle.device_defs.specs.declared.answers.Did.{Did}
 use Rattle.device_defs.specs.Contents.{contents}
-use Rattle.device_defs.specs.Events.{background}
+use Rattle.device_defs.specs.Events.{background, lose}
 use Rattle.device_defs.specs.Cutting.{reset}
 use Rattle.device_defs.specs.Start as starting
 use Rattle.device_defs.specs.Start.{start_fault, start, started_count}
@@ -34,6 +37,7 @@ use Rattle.device_core.specs.State.{DefinedDevice, device_of}
 use Rattle.frame_pool.specs.Shared.{shared_view}
 use Rattle.subsystem_defs.specs.declared.end.EventEnd as ends
 use Rattle.subsystem_defs.specs.declared.end.EventEnd.TheVariants as answers
+use Rattle.subsystem_defs.specs.declared.end.OrderFault.{OrderFault}
 use Rattle.subsystem_defs.specs.declared.event.Event.{Event}
 use Rattle.subsystem_defs.specs.declared.event.Event.TheVariants as events
 use Rattle.subsystem_defs.specs.Deeds as deeds
@@ -55,10 +59,12 @@ use Rattle.subsystem_defs.specs.Deeds.{
   step,
   back,
   on_device,
+  order,
   device_in,
   deed,
 }
 use Rattle.subsystem_defs.specs.Happening.{happens}
+use Rattle.subsystem_defs.specs.Refusals.{fail_fault}
 use Rattle.subsystem_defs.specs.Subsystem as runs
 use Rattle.subsystem_core.specs.declared.end.EventEnd.{EventEnd}
 use Rattle.subsystem_core.specs.declared.subsystem.Subsystem.{Subsystem}
@@ -81,8 +87,10 @@ use Rattle.deck_run.proofs.Telling.{AreKnown, all_known, known_at, one_tells, ru
 use Rattle.subsystem_defs.specs.Beside.{new_acts}
 use Rattle.deck_run.specs.Loosening.{acts_by}
 use Rattle.deck_run.proofs.Acting.{brought_none, new_are, none_new, started_new}
-use Rattle.deck_run.proofs.Stays.{Answers, HasOf, Is, IsNoted, Stays, background_stays, command_stays, reset_stays}
-use Rattle.deck_run.proofs.Surely.{Surely, s_done, s_then, ran_so}
+use Rattle.deck_run.proofs.Stays.{Answers, HasOf, Is, IsNoted, Stays, background_stays, command_stays, lose_stays, reset_stays}
+use Rattle.deck_run.proofs.Surely.{Surely, s_done, s_then, surely_so, ran_so}
+use Rattle.device_defs.specs.Device.{all_acted}
+use Rattle.run_report.proofs.ActsCome.{acts_come}
 
 some_same : {X : Type 0} {x y : X} → Some x ≡ Some y → x ≡ y
 some_same e = cc
@@ -103,30 +111,30 @@ own_of ccws fixed d y on gives plans is same has = record {
 }
 
 -- what is said of an end: it is told, and these acts came to the device
-abbrev Brings : DefinedDevice → DefinedDevice → Option ends.EventEnd → Type 0
-Brings d y None = ⊥
-Brings d y (Some end) = new_acts d.history y.history ≡ acts_by end y
+abbrev Brings : Event → DefinedDevice → DefinedDevice → Option ends.EventEnd → Type 0
+Brings e d y None = ⊥
+Brings e d y (Some end) = new_acts d.history y.history ≡ acts_by e end y
 
-abbrev Leaves : DefinedDevice → Talk (Option ends.EventEnd) → Type 0
-Leaves d talk = Surely talk (λ y o. IsOwn y × Brings d y o)
+abbrev Leaves : Event → DefinedDevice → Talk (Option ends.EventEnd) → Type 0
+Leaves e d talk = Surely talk (λ y o. IsOwn y × Brings e d y o)
 
-pub record Ending (d y : DefinedDevice) (o : Option ends.EventEnd) : Type 0 where
+pub record Ending (e : Event) (d y : DefinedDevice) (o : Option ends.EventEnd) : Type 0 where
   pub end : ends.EventEnd
   pub is : o ≡ Some end
-  pub brings : new_acts d.history y.history ≡ acts_by end y
+  pub brings : new_acts d.history y.history ≡ acts_by e end y
 
-ending : (d y : DefinedDevice) (o : Option ends.EventEnd) → Brings d y o → Ending d y o
-ending d y None h = absurd h
-ending d y (Some end) h = record { end = end; is = refl; brings = h }
+ending : (e : Event) (d y : DefinedDevice) (o : Option ends.EventEnd) → Brings e d y o → Ending e d y o
+ending e d y None h = absurd h
+ending e d y (Some end) h = record { end = end; is = refl; brings = h }
 
-step_brings : (d y : DefinedDevice) (o : Option defs.Stepped) → new_acts d.history y.history ≡ y.store.acts → Answers o →
-    Brings d y (end_of answers.Stepped o)
-step_brings d y None came h = h
-step_brings d y (Some s) came h = came
+step_brings : (e : Event) (d y : DefinedDevice) (o : Option defs.Stepped) → new_acts d.history y.history ≡ y.store.acts → Answers o →
+    Brings e d y (end_of answers.Stepped o)
+step_brings e d y None came h = h
+step_brings e d y (Some s) came h = came
 
-step_leaves : (d : DefinedDevice) (o : OpenEntry) (chain : ChainState) → d.history.running ≡ Some o → d.chain ≡ Some chain → d.store.paired ≡ false →
-    IsOwn d → Leaves d (may_end_by answers.Stepped (command contents d))
-step_leaves d o chain running at single own =
+step_leaves : (e : Event) (d : DefinedDevice) (o : OpenEntry) (chain : ChainState) → d.history.running ≡ Some o → d.chain ≡ Some chain → d.store.paired ≡ false →
+    IsOwn d → Leaves e d (may_end_by answers.Stepped (command contents d))
+step_leaves e d o chain running at single own =
     let mine : (chain.fixed.geometry ≡ d.store.geometry) × GivesAll chain.ccws =
     subst (λ (x : Option ChainState). IfSome x (λ (c : ChainState). (c.fixed.geometry ≡ d.store.geometry) × GivesAll c.ccws)) at own.chain in
     s_then
@@ -134,25 +142,26 @@ step_leaves d o chain running at single own =
     (subst Answers (sym at) tt) (refl, (refl, single)) refl (subst (HasOf chain.ccws chain.fixed) (sym at) (refl, refl)) refl)
     (λ y a l. s_done (
       own_of chain.ccws chain.fixed d y mine.0 mine.1 own.plans l.0.is l.0.plans_are l.0.chain,
-      step_brings d y a (new_are d.history y.history y.store.acts l.0.acts) l.1,
+      step_brings e d y a (new_are d.history y.history y.store.acts l.0.acts) l.1,
     ))
 
-back_brings : (d y : DefinedDevice) (o : Option Did) → new_acts d.history y.history ≡ y.store.acts → Answers o → Brings d y (end_of answers.Back o)
-back_brings d y None came h = h
-back_brings d y (Some did) came h = came
+back_brings : (e : Event) (d y : DefinedDevice) (o : Option Did) → new_acts d.history y.history ≡ y.store.acts → Answers o →
+    Brings e d y (end_of answers.Back o)
+back_brings e d y None came h = h
+back_brings e d y (Some did) came h = came
 
-back_by : (d : DefinedDevice) (o : Option ChainState) → d.chain ≡ o → d.store.paired ≡ false → IsOwn d →
-    Leaves d (may_end_by answers.Back (background contents d))
-back_by d None at single own =
+back_by : (e : Event) (d : DefinedDevice) (o : Option ChainState) → d.chain ≡ o → d.store.paired ≡ false → IsOwn d →
+    Leaves e d (may_end_by answers.Back (background contents d))
+back_by e d None at single own =
     let fixed : Fixed = record { geometry = d.store.geometry; cylinders = d.store.cylinders; number = 0 } in
     s_then
     (background_stays contents d.store.geometry d.store.cylinders [] fixed d.plans d.history d (refl, (refl, single)) refl
     (subst (HasOf [] fixed) (sym at) tt) refl)
     (λ y a l. s_done (
       own_of [] fixed d y refl (λ i k m h. absurd (omega (arith, h))) own.plans l.0.is l.0.plans_are l.0.chain,
-      back_brings d y a (new_are d.history y.history y.store.acts l.0.acts) l.1,
+      back_brings e d y a (new_are d.history y.history y.store.acts l.0.acts) l.1,
     ))
-back_by d (Some chain) at single own =
+back_by e d (Some chain) at single own =
     let mine : (chain.fixed.geometry ≡ d.store.geometry) × GivesAll chain.ccws =
     subst (λ (x : Option ChainState). IfSome x (λ (c : ChainState). (c.fixed.geometry ≡ d.store.geometry) × GivesAll c.ccws)) at own.chain in
     s_then
@@ -160,12 +169,12 @@ back_by d (Some chain) at single own =
     (subst (HasOf chain.ccws chain.fixed) (sym at) (refl, refl)) refl)
     (λ y a l. s_done (
       own_of chain.ccws chain.fixed d y mine.0 mine.1 own.plans l.0.is l.0.plans_are l.0.chain,
-      back_brings d y a (new_are d.history y.history y.store.acts l.0.acts) l.1,
+      back_brings e d y a (new_are d.history y.history y.store.acts l.0.acts) l.1,
     ))
 
-reset_by : (d : DefinedDevice) (path : ℕ) (o : Option ChainState) → d.chain ≡ o → d.store.paired ≡ false → IsOwn d →
-    Leaves d (ends_by ends_done (reset contents d path))
-reset_by d path None at single own =
+reset_by : (n : ℕ) (d : DefinedDevice) (path : ℕ) (o : Option ChainState) → d.chain ≡ o → d.store.paired ≡ false → IsOwn d →
+    Leaves (events.Reset path n) d (ends_by ends_done (reset contents d path))
+reset_by n d path None at single own =
     let fixed : Fixed = record { geometry = d.store.geometry; cylinders = d.store.cylinders; number = 0 } in
     s_then
     (reset_stays contents d.store.geometry d.store.cylinders [] fixed d.plans d.history d path
@@ -179,7 +188,7 @@ reset_by d path None at single own =
       own_of [] fixed d y refl (λ i k m h. absurd (omega (arith, h))) own.plans l.is l.plans_are l.chain,
       new_are d.history y.history [] l.acts,
     ))
-reset_by d path (Some chain) at single own =
+reset_by n d path (Some chain) at single own =
     let mine : (chain.fixed.geometry ≡ d.store.geometry) × GivesAll chain.ccws =
     subst (λ (x : Option ChainState). IfSome x (λ (c : ChainState). (c.fixed.geometry ≡ d.store.geometry) × GivesAll c.ccws)) at own.chain in
     s_then
@@ -194,6 +203,28 @@ reset_by d path (Some chain) at single own =
       own_of chain.ccws chain.fixed d y mine.0 mine.1 own.plans l.is l.plans_are l.chain,
       new_are d.history y.history [] l.acts,
     ))
+
+-- a loss
+
+pub lose_owns : (d : DefinedDevice) (loss : Loss) (o : Option ChainState) → d.chain ≡ o → d.store.paired ≡ false → IsOwn d →
+    Surely (lose contents d loss) (λ y _. IsOwn y × (y.history ≡ all_acted d.history y.store.acts))
+lose_owns d loss None at single own =
+    let fixed : Fixed = record { geometry = d.store.geometry; cylinders = d.store.cylinders; number = 0 } in
+    surely_so (λ y a l. (own_of [] fixed d y refl (λ i k m h. absurd (omega (arith, h))) own.plans l.0.is l.0.plans_are l.0.chain, l.1))
+    (lose_stays contents d.store.geometry d.store.cylinders [] fixed d.plans d.history d loss (refl, (refl, single)) refl
+    (subst (HasOf [] fixed) (sym at) tt) refl)
+lose_owns d loss (Some chain) at single own =
+    let mine : (chain.fixed.geometry ≡ d.store.geometry) × GivesAll chain.ccws =
+    subst (λ (x : Option ChainState). IfSome x (λ (c : ChainState). (c.fixed.geometry ≡ d.store.geometry) × GivesAll c.ccws)) at own.chain in
+    surely_so (λ y a l. (own_of chain.ccws chain.fixed d y mine.0 mine.1 own.plans l.0.is l.0.plans_are l.0.chain, l.1))
+    (lose_stays contents d.store.geometry d.store.cylinders chain.ccws chain.fixed d.plans d.history d loss (refl, (refl, single)) refl
+    (subst (HasOf chain.ccws chain.fixed) (sym at) (refl, refl)) refl)
+
+lose_by : (e : Event) (d : DefinedDevice) (loss : Loss) → ((y : DefinedDevice) → acts_by e answers.Done y ≡ y.store.acts) →
+    d.store.paired ≡ false → IsOwn d → Leaves e d (ends_by ends_done (lose contents d loss))
+lose_by e d loss noted single own =
+    s_then (lose_owns d loss d.chain refl single own)
+    (λ y a l. s_done (l.0, ap (λ (h : History). new_acts d.history h) l.1 ∙ acts_come d.history y.store.acts ∙ sym (noted y)))
 
 start_own : (d : DefinedDevice) (path : ℕ) → 1 ≤ path → path ≤ 4 → IsOwn d → IsOwn (start d path)
 unfolding starting.start
@@ -228,62 +259,73 @@ pub record HasOne {V : Type 0} {G : Ghosts V} (xs : List (Device V G)) (n : ℕ)
 
 -- Deeds that leave each device its own
 
-abbrev Good : ℕ → DefinedDevice → OwnDeed → Type 0
-Good n x (Ends end) = (y : DefinedDevice) → acts_by end y ≡ []
-Good n x (Becomes d end) = (d.store.device ≡ n) × (IsOwn d × (new_acts x.history d.history ≡ acts_by end d))
-Good n x (Asks d talk) = (d.store.device ≡ n) × Leaves x talk
-Good n x _ = ⊥
+abbrev Good : Event → ℕ → DefinedDevice → OwnDeed → Type 0
+Good e n x (Ends end) = (y : DefinedDevice) → acts_by e end y ≡ []
+Good e n x (Becomes d end) = (d.store.device ≡ n) × (IsOwn d × (new_acts x.history d.history ≡ acts_by e end d))
+Good e n x (Asks d talk) = (d.store.device ≡ n) × Leaves e x talk
+Good e n x _ = ⊥
 
-good_start : (n : ℕ) (d : DefinedDevice) (path : ℕ) (o : Option StartFault) → d.store.device ≡ n → 1 ≤ path → path ≤ 4 → IsOwn d →
-    Good n d (start_by d path o)
-good_start n d path (Some f) is least most own = λ y. refl
-good_start n d path None is least most own = (start_number d path ∙ is, (start_own d path least most own, start_new d path))
+good_start : (e : Event) (n : ℕ) (d : DefinedDevice) (path : ℕ) (o : Option StartFault) → d.store.device ≡ n → 1 ≤ path → path ≤ 4 → IsOwn d →
+    Good e n d (start_by d path o)
+good_start e n d path (Some f) is least most own = λ y. refl
+good_start e n d path None is least most own = (start_number d path ∙ is, (start_own d path least most own, start_new d path))
 
-good_starts : (n : ℕ) (d : DefinedDevice) (path : ℕ) → d.store.device ≡ n → 1 ≤ path → path ≤ 4 → IsOwn d → Good n d (starts path d)
-good_starts n d path is least most own =
-    cond_both (is_own path d.history.running) (Ends answers.Running) (start_by d path (start_fault d path)) (Good n d) (λ _. λ y. refl)
-    (λ _. good_start n d path (start_fault d path) is least most own)
+good_starts : (e : Event) (n : ℕ) (d : DefinedDevice) (path : ℕ) → d.store.device ≡ n → 1 ≤ path → path ≤ 4 → IsOwn d → Good e n d (starts path d)
+good_starts e n d path is least most own =
+    cond_both (is_own path d.history.running) (Ends answers.Running) (start_by d path (start_fault d path)) (Good e n d) (λ _. λ y. refl)
+    (λ _. good_start e n d path (start_fault d path) is least most own)
 
-abbrev hears : NoKeep → (m : Message Image) → ReplyTo m → NoKeep → Type 0
+abbrev pub hears : NoKeep → (m : Message Image) → ReplyTo m → NoKeep → Type 0
 hears k m r l = r ≡ reply m
 
 module _ {V : Type 0} {G : Ghosts V} where
-  good_step : (n : ℕ) (x : Device V G) (r : Option Running) → x.past.running ≡ r → x.store.number ≡ n → IsOwn (device_of x) →
-      Good n (device_of x) (step contents (device_of x))
-  good_step n x None at is own =
+  good_step : (e : Event) (n : ℕ) (x : Device V G) (r : Option Running) → x.past.running ≡ r → x.store.number ≡ n → IsOwn (device_of x) →
+      Good e n (device_of x) (step contents (device_of x))
+  good_step e n x None at is own =
       cond_both (is_some (device_of x).history.running) (Asks (device_of x) (may_end_by answers.Stepped (command contents (device_of x)))) (Ends answers.Idle)
-      (Good n (device_of x)) (λ e. absurd (let none : is_some (device_of x).history.running ≡ false = ap (λ (o : Option Running). is_some (option_map open_of o)) at in cc))
+      (Good e n (device_of x)) (λ e. absurd (let none : is_some (device_of x).history.running ≡ false = ap (λ (o : Option Running). is_some (option_map open_of o)) at in cc))
       (λ _. λ y. refl)
-  good_step n x (Some r) at is own =
+  good_step e n x (Some r) at is own =
       cond_both (is_some (device_of x).history.running) (Asks (device_of x) (may_end_by answers.Stepped (command contents (device_of x)))) (Ends answers.Idle)
-      (Good n (device_of x)) (λ _. (
+      (Good e n (device_of x)) (λ _. (
         is,
-        step_leaves (device_of x) (open_of r) (chain_of r) (ap (option_map open_of) at) (ap (option_map chain_of) at) refl own,
+        step_leaves e (device_of x) (open_of r) (chain_of r) (ap (option_map open_of) at) (ap (option_map chain_of) at) refl own,
       )) (λ _. λ y. refl)
 
+  good_fail : (n d : ℕ) (side : Side) (x : Device V G) (o : Option OrderFault) → x.store.number ≡ n → IsOwn (device_of x) →
+      Good (events.FailVolume d side) n (device_of x)
+      (order o (Asks (device_of x) (ends_by ends_done (lose contents (device_of x) (losses.Side side)))))
+  good_fail n d side x (Some f) is own = λ y. refl
+  good_fail n d side x None is own =
+      (is, lose_by (events.FailVolume d side) (device_of x) (losses.Side side) (λ y. refl) refl own)
+
   good : (n : ℕ) (x : Device V G) (xs : List (Device V G)) (pool : pools.Pool) (e : Event) → device_at xs n ≡ Some x → IsOwn (device_of x) → IsOpenOn n e →
-      Good n (device_of x) (deed contents pool (devices_of xs) e)
+      Good e n (device_of x) (deed contents pool (devices_of xs) e)
   unfolding deeds.deed
   good n x xs pool (events.Start path d) at own on =
       let here = found_in xs d x (ap (device_at xs) on.0 ∙ at) in
-      subst (λ (o : Option DefinedDevice). Good n (device_of x) (on_device o (starts path))) (sym here)
-      (good_starts n (device_of x) path (number_found xs n x at) on.1.0 on.1.1 own)
+      subst (λ (o : Option DefinedDevice). Good (events.Start path d) n (device_of x) (on_device o (starts path))) (sym here)
+      (good_starts (events.Start path d) n (device_of x) path (number_found xs n x at) on.1.0 on.1.1 own)
   good n x xs pool (events.Step d) at own on =
       let here = found_in xs d x (ap (device_at xs) on ∙ at) in
-      subst (λ (o : Option DefinedDevice). Good n (device_of x) (on_device o (step contents))) (sym here)
-      (good_step n x x.past.running refl (number_found xs n x at) own)
+      subst (λ (o : Option DefinedDevice). Good (events.Step d) n (device_of x) (on_device o (step contents))) (sym here)
+      (good_step (events.Step d) n x x.past.running refl (number_found xs n x at) own)
   good n x xs pool (events.Back d) at own on =
       let here = found_in xs d x (ap (device_at xs) on ∙ at) in
-      subst (λ (o : Option DefinedDevice). Good n (device_of x) (on_device o (back contents))) (sym here)
-      (number_found xs n x at, back_by (device_of x) (device_of x).chain refl refl own)
+      subst (λ (o : Option DefinedDevice). Good (events.Back d) n (device_of x) (on_device o (back contents))) (sym here)
+      (number_found xs n x at, back_by (events.Back d) (device_of x) (device_of x).chain refl refl own)
   good n x xs pool (events.Reset path d) at own on =
       let here = found_in xs d x (ap (device_at xs) on ∙ at) in
-      subst (λ (o : Option DefinedDevice). Good n (device_of x) (on_device o (λ y. Asks y (ends_by ends_done (reset contents y path))))) (sym here)
-      (number_found xs n x at, reset_by (device_of x) path (device_of x).chain refl refl own)
+      subst (λ (o : Option DefinedDevice). Good (events.Reset path d) n (device_of x) (on_device o (λ y. Asks y (ends_by ends_done (reset contents y path))))) (sym here)
+      (number_found xs n x at, reset_by d (device_of x) path (device_of x).chain refl refl own)
   good n x xs pool events.Power at own on = absurd on
   good n x xs pool events.FailCache at own on = absurd on
   good n x xs pool events.FailStore at own on = absurd on
-  good n x xs pool (events.FailVolume d side) at own on = absurd on
+  good n x xs pool (events.FailVolume d side) at own on =
+      let here = found_in xs d x (ap (device_at xs) on ∙ at) in
+      subst (λ (o : Option DefinedDevice). Good (events.FailVolume d side) n (device_of x) (on_device o
+      (λ y. order (fail_fault y side) (Asks y (ends_by ends_done (lose contents y (losses.Side side))))))) (sym here)
+      (good_fail n d side x (fail_fault (device_of x) side) (number_found xs n x at) own)
   good n x xs pool events.RepairCache at own on = absurd on
   good n x xs pool events.RepairStore at own on = absurd on
   good n x xs pool (events.Pair a b) at own on = absurd on
@@ -292,7 +334,7 @@ module _ {V : Type 0} {G : Ghosts V} where
 
   -- What came
 
-  pub record Told (d : OwnDeed) (n : ℕ) (x : Device V G) (old new : Subsystem V G) (a : EventEnd) : Type 0 where
+  pub record Told (e : Event) (d : OwnDeed) (n : ℕ) (x : Device V G) (old new : Subsystem V G) (a : EventEnd) : Type 0 where
     pub behind : Device V G
     pub stands : device_at new.devices.items n ≡ Some behind
     pub put : new.devices.items ≡ put_at old.devices.items n behind
@@ -300,7 +342,7 @@ module _ {V : Type 0} {G : Ghosts V} where
     pub seen : end_seen behind.past a ≡ Some end
     pub comes : laws.CameBy hears d old.pool.pool (all_stood old.devices.items) end new.pool.pool (all_stood new.devices.items)
     pub own : AreOwn new.devices.items
-    pub acts : new_acts (device_of x).history (device_of behind).history ≡ acts_by end (device_of behind)
+    pub acts : new_acts (device_of x).history (device_of behind).history ≡ acts_by e end (device_of behind)
 
   module _ (n : ℕ) (x : Device V G) (old new : Subsystem V G) (a : EventEnd) (at : device_at old.devices.items n ≡ Some x)
       (own : AreOwn old.devices.items) (numbers : numbers_of new.devices.items ≡ numbers_of old.devices.items) where
@@ -309,8 +351,8 @@ module _ {V : Type 0} {G : Ghosts V} where
         subst (λ (l : List (Device V G)). device_at l n ≡ Some y) (sym is)
         (again old.devices.items n x y at (subst (λ (l : List (Device V G)). numbers_of l ≡ numbers_of old.devices.items) is numbers))
 
-    told : (d : OwnDeed) → Good n (device_of x) d → CameBy d old (Some a) new → Told d n x old new a
-    told (Ends end) good came = record {
+    told : (e : Event) (d : OwnDeed) → Good e n (device_of x) d → CameBy d old (Some a) new → Told e d n x old new a
+    told e (Ends end) good came = record {
       behind = x;
       stands = ap (λ (l : List (Device V G)). device_at l n) came.1.1 ∙ at;
       put = came.1.1 ∙ sym (put_same old.devices.items n x at);
@@ -320,7 +362,7 @@ module _ {V : Type 0} {G : Ghosts V} where
       own = subst AreOwn (sym came.1.1) own;
       acts = none_new (device_of x).history (device_of x).history refl ∙ sym (good (device_of x));
     }
-    told (Becomes d end) good came =
+    told e (Becomes d end) good came =
         let ch = subst (λ (m : ℕ). Rattle.subsystem_core.specs.Comes.Changes m (Rattle.subsystem_core.specs.Comes.IsNow d) old.devices.items new.devices.items)
         good.0 came.2 in
         record {
@@ -343,22 +385,22 @@ module _ {V : Type 0} {G : Ghosts V} where
                 }),
           );
           own = subst AreOwn (sym ch.stands) (own_put old.devices.items n ch.behind own (subst IsOwn (sym ch.is_so.0) good.1.0));
-          acts = ap (λ (y : DefinedDevice). new_acts (device_of x).history y.history) ch.is_so.0 ∙ good.1.1 ∙ ap (acts_by end) (sym ch.is_so.0);
+          acts = ap (λ (y : DefinedDevice). new_acts (device_of x).history y.history) ch.is_so.0 ∙ good.1.1 ∙ ap (acts_by e end) (sym ch.is_so.0);
         }
-    told (Asks d talk) good came =
+    told e (Asks d talk) good came =
         let ch = subst (λ (m : ℕ). Rattle.subsystem_core.specs.Comes.Changes m (Rattle.subsystem_core.specs.Comes.AskedBy talk old (Some a) new)
         old.devices.items new.devices.items) good.0 came in
         let k : NoKeep = record {} in
-        let left : IsOwn (device_of ch.behind) × Brings (device_of x) (device_of ch.behind) (end_seen ch.behind.past a) =
-        ran_so (λ y o. IsOwn y × Brings (device_of x) y o) (ch.is_so k) good.1 in
-        let e = ending (device_of x) (device_of ch.behind) (end_seen ch.behind.past a) left.1 in
+        let left : IsOwn (device_of ch.behind) × Brings e (device_of x) (device_of ch.behind) (end_seen ch.behind.past a) =
+        ran_so (λ y o. IsOwn y × Brings e (device_of x) y o) (ch.is_so k) good.1 in
+        let f = ending e (device_of x) (device_of ch.behind) (end_seen ch.behind.past a) left.1 in
         record {
           behind = ch.behind;
           stands = put_there ch.behind ch.stands;
           put = ch.stands;
-          end = e.end;
-          seen = e.is;
-          comes = subst (λ (m : ℕ). laws.Changes m (λ u v. laws.Asked hears talk (Some e.end) old.pool.pool u v new.pool.pool) (all_stood old.devices.items)
+          end = f.end;
+          seen = f.is;
+          comes = subst (λ (m : ℕ). laws.Changes m (λ u v. laws.Asked hears talk (Some f.end) old.pool.pool u v new.pool.pool) (all_stood old.devices.items)
               (all_stood new.devices.items)) (sym good.0)
               (record {
                 before = stood_of ch.before;
@@ -374,22 +416,22 @@ module _ {V : Type 0} {G : Ghosts V} where
                   pool_behind = refl;
                   ran = subst (λ (o : Option ends.EventEnd). Ran (λ ok. ok ≡ true) hears talk
                       (laws.outside_at (shared_view old.pool) (stood_of ch.before) k) (device_of ch.behind) o
-                      (laws.outside_at (shared_view new.pool) (stood_of ch.behind) k)) e.is (ch.is_so k);
+                      (laws.outside_at (shared_view new.pool) (stood_of ch.behind) k)) f.is (ch.is_so k);
                 };
               });
           own = subst AreOwn (sym ch.stands) (own_put old.devices.items n ch.behind own left.0);
-          acts = e.brings;
+          acts = f.brings;
         }
-    told (Each pool f) good came = absurd good
-    told (Repairs pool) good came = absurd good
-    told (Lends u v) good came = absurd good
+    told e (Each pool f) good came = absurd good
+    told e (Repairs pool) good came = absurd good
+    told e (Lends u v) good came = absurd good
 
-    pub event_told : (e : Event) → IsOpenOn n e → Came e old (Some a) new → Told (deed contents old.pool.pool (devices_of old.devices.items) e) n x old new a
-    event_told e on came = told _ (good n x old.devices.items old.pool.pool e at (own_at old.devices.items n x own at) on) came
+    pub event_told : (e : Event) → IsOpenOn n e → Came e old (Some a) new → Told e (deed contents old.pool.pool (devices_of old.devices.items) e) n x old new a
+    event_told e on came = told e _ (good n x old.devices.items old.pool.pool e at (own_at old.devices.items n x own at) on) came
 
   -- and what happens there
   pub event_happens : (e : Event) (n : ℕ) (x : Device V G) (old new : Subsystem V G) (a : EventEnd) (run : runs.Subsystem) →
-      (t : Told (deed contents old.pool.pool (devices_of old.devices.items) e) n x old new a) → AreOwn old.devices.items → ChainsStand old.devices.items →
+      (t : Told e (deed contents old.pool.pool (devices_of old.devices.items) e) n x old new a) → AreOwn old.devices.items → ChainsStand old.devices.items →
       StandsAs old run → ((happens run e).end ≡ t.end) × StandsAs new (happens run e).behind
   event_happens e n x old new a run t own stand all =
       let comes : laws.Comes hears e old.pool.pool (all_stood old.devices.items) t.end new.pool.pool (all_stood new.devices.items) =
@@ -418,7 +460,7 @@ module _ {V : Type 0} {G : Ghosts V} where
 
   module _ (n : ℕ) (old new : Subsystem V G) (a : EventEnd) (here : is_in n (numbers_of old.devices.items) ≡ true) (own : AreOwn old.devices.items)
       (numbers : numbers_of new.devices.items ≡ numbers_of old.devices.items) (e : Event) (on : IsOpenOn n e) (came : Came e old (Some a) new) where
-    abbrev so : Told (deed contents old.pool.pool (devices_of old.devices.items) e) n (has_one old.devices.items n here).device old new a
+    abbrev so : Told e (deed contents old.pool.pool (devices_of old.devices.items) e) n (has_one old.devices.items n here).device old new a
     so = event_told n (has_one old.devices.items n here).device old new a (has_one old.devices.items n here).found own numbers e on came
 
     pub own_behind : AreOwn new.devices.items
@@ -456,8 +498,8 @@ module _ {V : Type 0} {G : Ghosts V} where
               (subst (λ (l : List (Device V G)). AreKnown (all_stood l) ks) put behind);
           acts = ap (λ (z : Device V G). new_acts (device_of z).history (device_of y).history) (some_same (sym at ∙ (has_one old.devices.items n here).found))
               ∙ ap (λ (z : Device V G). new_acts (device_of (has_one old.devices.items n here).device).history (device_of z).history) (some_same (sym now ∙ so.stands))
-              ∙ so.acts ∙ ap (λ (z : Device V G). acts_by so.end (device_of z)) (some_same (sym so.stands ∙ now))
-              ∙ ap (λ (end : ends.EventEnd). acts_by end (device_of y)) (sym h.0);
+              ∙ so.acts ∙ ap (λ (z : Device V G). acts_by e so.end (device_of z)) (some_same (sym so.stands ∙ now))
+              ∙ ap (λ (end : ends.EventEnd). acts_by e end (device_of y)) (sym h.0);
           reads = ap (λ (k : Counts). k.reads) (sym is.is.counts) ∙ ap (λ (m : runs.Mounted). m.device.store.counts.reads) mine ∙ counted.reads
               ∙ ap (λ (k : Counts). more_calls (happens run e).reads k.reads) was.is.counts;
           writes = ap (λ (k : Counts). k.writes) (sym is.is.counts) ∙ ap (λ (m : runs.Mounted). m.device.store.counts.writes) mine ∙ counted.writes
@@ -475,7 +517,7 @@ open_may_come ns n (events.Reset path d) on here = may_by ns n d on here
 open_may_come ns n events.Power on here = absurd on
 open_may_come ns n events.FailCache on here = absurd on
 open_may_come ns n events.FailStore on here = absurd on
-open_may_come ns n (events.FailVolume d side) on here = absurd on
+open_may_come ns n (events.FailVolume d side) on here = may_by ns n d on here
 open_may_come ns n events.RepairCache on here = absurd on
 open_may_come ns n events.RepairStore on here = absurd on
 open_may_come ns n (events.Pair a b) on here = absurd on

@@ -10,6 +10,7 @@ pub mod RunCounts
 pub mod Telling
 pub mod Found
 pub mod Events
+pub mod Sweeping
 pub mod Passed
 pub mod Recorded
 pub mod Going

@@ -30,7 +30,7 @@ module _ {V : Type 0} {G : Ghosts V} where
   pub passed_so : (old new : Subsystem V G) (e : Event) (d : ℕ) (run : runs.Subsystem) (x y : Device V G) (p : Passed) (loose : ℕ) →
       device_at old.devices.items d ≡ Some x → device_at new.devices.items d ≡ Some y → IsTold old new e d run →
       StandsAs new (happens run e).behind → (happens run e).end ≡ p.end → p.running ≡ running_of x → p.items ≡ length x.past.items.items →
-      p.acts.items ≡ all_loosed d loose (device_of y).store.number (acts_by p.end (device_of y)) (has_power (behind_first p.items y.past.items.items)) →
+      p.acts.items ≡ all_loosed d loose (device_of y).store.number (acts_by e p.end (device_of y)) (has_power (behind_first p.items y.past.items.items)) →
       loose ≡ loose_count (device_of x).store →
       ((k : ℕ) → y.store.counts.reads ≡ more_calls k x.store.counts.reads → p.calls.reads ≡ k) →
       ((k : ℕ) → y.store.counts.writes ≡ more_calls k x.store.counts.writes → p.calls.writes ≡ k) →
@@ -46,10 +46,10 @@ module _ {V : Type 0} {G : Ghosts V} where
             let came = behind_first (length x.past.items.items) z.past.items.items in
             let number = (device_of z).store.number in
             let noted : p.acts.items ≡ loosed_between d x z =
-            subst (λ (v : Device V G). p.acts.items ≡ all_loosed d loose (device_of v).store.number (acts_by p.end (device_of v))
+            subst (λ (v : Device V G). p.acts.items ≡ all_loosed d loose (device_of v).store.number (acts_by e p.end (device_of v))
             (has_power (behind_first p.items v.past.items.items))) (same z there) acts
-            ∙ ap (λ (n : ℕ). all_loosed d n number (acts_by p.end (device_of z)) (has_power (behind_first p.items z.past.items.items))) counted
-            ∙ ap (λ (end : EventEnd). all_loosed d (loose_count (device_of x).store) number (acts_by end (device_of z))
+            ∙ ap (λ (n : ℕ). all_loosed d n number (acts_by e p.end (device_of z)) (has_power (behind_first p.items z.past.items.items))) counted
+            ∙ ap (λ (end : EventEnd). all_loosed d (loose_count (device_of x).store) number (acts_by e end (device_of z))
             (has_power (behind_first p.items z.past.items.items))) (sym ended)
             ∙ ap (λ (l : List Act). all_loosed d (loose_count (device_of x).store) number l (has_power (behind_first p.items z.past.items.items)))
             (sym (told x z at there).acts)

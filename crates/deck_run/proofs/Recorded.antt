@@ -1,17 +1,21 @@
 -- The lines of an event of a run, by what it did; and what was recorded of it.
 use Rattle.std.proofs.Common.{◌≡◌, ◌∙◌, ◌++◌, ℕ, List, [], ◌∷◌, Option, Some, None, refl, sym, ap, subst}
 use Rattle.std.proofs.lemmas.List.{append-nil}
+use Rattle.ckd_types.specs.declared.paths.Side.{Side}
 use Rattle.plain_defs.specs.declared.journal.Item.{Item}
 use Rattle.device_outside.specs.declared.volume.Volume.{Ghosts}
 use Rattle.device_core.specs.declared.device.Device.{Device}
 use Rattle.report_text.specs.declared.event.Loosed.{Loosed}
 use Rattle.report_text.specs.declared.answers.BackAnswer.TheVariants as backs
+use Rattle.report_text.specs.declared.answers.OrderAnswer.{OrderAnswer}
 use Rattle.report_text.specs.declared.answers.StartAnswer.{StartAnswer}
 use Rattle.report_text.specs.declared.event.Happened as report
 use Rattle.report_text.specs.declared.event.Happened.TheVariants as did
 use Rattle.report_text.specs.declared.line.ReportLine.{ReportLine}
+use Rattle.report_text.specs.declared.order.Order.{Order}
+use Rattle.report_text.specs.declared.order.Order.TheVariants as orders
 use Rattle.run_report.specs.declared.told.RunningProgram.{RunningProgram}
-use Rattle.run_report.specs.Answers.{start_answer}
+use Rattle.run_report.specs.Answers.{order_answer, start_answer}
 use Rattle.run_report.specs.Events.{lines_of, running_in, work_lines, work_told}
 use Rattle.run_report.specs.OneDevice.{lines_by}
 use Rattle.subsystem_core.specs.declared.subsystem.Subsystem.{Subsystem}
@@ -96,6 +100,46 @@ reset_tells s path d told more is =
     is ∙ ap (λ (l : List ReportLine). told ++ l)
     (sym (append-nil _ ∙ work_lines_by s (events.Reset path d) (λ (z : runs.Subsystem). did.Reset path d)))
 
+pub fail_tells : (s : runs.Subsystem) (d : ℕ) (side : Side) (told more : List ReportLine) → more ≡ told ++ lines_when s (events.FailVolume d side)
+    (did.Ordered (orders.FailVolume d side) (order_answer (happens s (events.FailVolume d side)).end)) →
+    more ≡ told ++ all_lines (logged (Once (events.FailVolume d side)) (happens s (events.FailVolume d side)) ∷ [])
+fail_tells s d side told more is =
+    is ∙ ap (λ (l : List ReportLine). told ++ l)
+    (sym (append-nil _ ∙ work_lines_by s (events.FailVolume d side)
+    (λ (z : runs.Subsystem). did.Ordered (orders.FailVolume d side) (order_answer (happens s (events.FailVolume d side)).end))))
+
+pub fail_cache_tells : (s : runs.Subsystem) (told more : List ReportLine) → more ≡ told ++ lines_when s events.FailCache
+    (did.Ordered orders.FailCache (order_answer (happens s events.FailCache).end)) →
+    more ≡ told ++ all_lines (logged (Once events.FailCache) (happens s events.FailCache) ∷ [])
+fail_cache_tells s told more is =
+    is ∙ ap (λ (l : List ReportLine). told ++ l)
+    (sym (append-nil _ ∙ work_lines_by s events.FailCache
+    (λ (z : runs.Subsystem). did.Ordered orders.FailCache (order_answer (happens s events.FailCache).end))))
+
+pub fail_store_tells : (s : runs.Subsystem) (told more : List ReportLine) → more ≡ told ++ lines_when s events.FailStore
+    (did.Ordered orders.FailStore (order_answer (happens s events.FailStore).end)) →
+    more ≡ told ++ all_lines (logged (Once events.FailStore) (happens s events.FailStore) ∷ [])
+fail_store_tells s told more is =
+    is ∙ ap (λ (l : List ReportLine). told ++ l)
+    (sym (append-nil _ ∙ work_lines_by s events.FailStore
+    (λ (z : runs.Subsystem). did.Ordered orders.FailStore (order_answer (happens s events.FailStore).end))))
+
+pub repair_cache_tells : (s : runs.Subsystem) (told more : List ReportLine) → more ≡ told ++ lines_when s events.RepairCache
+    (did.Ordered orders.RepairCache (order_answer (happens s events.RepairCache).end)) →
+    more ≡ told ++ all_lines (logged (Once events.RepairCache) (happens s events.RepairCache) ∷ [])
+repair_cache_tells s told more is =
+    is ∙ ap (λ (l : List ReportLine). told ++ l)
+    (sym (append-nil _ ∙ work_lines_by s events.RepairCache
+    (λ (z : runs.Subsystem). did.Ordered orders.RepairCache (order_answer (happens s events.RepairCache).end))))
+
+pub repair_store_tells : (s : runs.Subsystem) (told more : List ReportLine) → more ≡ told ++ lines_when s events.RepairStore
+    (did.Ordered orders.RepairStore (order_answer (happens s events.RepairStore).end)) →
+    more ≡ told ++ all_lines (logged (Once events.RepairStore) (happens s events.RepairStore) ∷ [])
+repair_store_tells s told more is =
+    is ∙ ap (λ (l : List ReportLine). told ++ l)
+    (sym (append-nil _ ∙ work_lines_by s events.RepairStore
+    (λ (z : runs.Subsystem). did.Ordered orders.RepairStore (order_answer (happens s events.RepairStore).end))))
+
 -- What was recorded
 
 module _ {V : Type 0} {G : Ghosts V} (s : Subsystem V G) (run : runs.Subsystem) (e : Event) (d : ℕ) (p : Passed) (has : HasPassed s run e d p)
@@ -128,6 +172,14 @@ module _ {V : Type 0} {G : Ghosts V} (s : Subsystem V G) (run : runs.Subsystem) 
       recorded (did.Started path d a) (roomy (did.Started path d a) room same is)
       ∙ ap (λ (x : StartAnswer). told ++ lines_when run e (did.Started path d x)) answered
       ∙ ap (λ (x : EventEnd). told ++ lines_when run e (did.Started path d (start_answer x))) (sym has.ended)
+
+  pub order_recorded : (order : Order) (a : OrderAnswer) (room : List ReportLine) → room ≡ told → a ≡ order_answer p.end →
+      more ≡ room ++ lines_by d (did.Ordered order a) acts p.calls.reads p.calls.writes items →
+      more ≡ told ++ lines_when run e (did.Ordered order (order_answer (happens run e).end))
+  order_recorded order a room same answered is =
+      recorded (did.Ordered order a) (roomy (did.Ordered order a) room same is)
+      ∙ ap (λ (x : OrderAnswer). told ++ lines_when run e (did.Ordered order x)) answered
+      ∙ ap (λ (x : EventEnd). told ++ lines_when run e (did.Ordered order (order_answer x))) (sym has.ended)
 
   pub reset_recorded : (path : ℕ) (room : List ReportLine) → room ≡ told →
       more ≡ room ++ lines_by d (did.Reset path d) acts p.calls.reads p.calls.writes items → more ≡ told ++ lines_when run e (did.Reset path d)

@@ -3,30 +3,34 @@ use Rattle.std.proofs.Common.{◌≡◌, ◌∙◌, arith, ℕ, Bool, true, fals
 use Rattle.std.specs.Prelude.{◌==◌, if◌then◌else◌, option_map}
 use Rattle.std.proofs.lemmas.Bool.{cond_both, eqb-true}
 use Rattle.std.proofs.lemmas.Bool.Decides.{nat_tests}
+use Rattle.ckd_types.specs.declared.paths.Side.{Side}
+use Rattle.loss_model.specs.declared.Loss.TheVariants as losses
 use Rattle.track_image.specs.Image.{Image}
 use Rattle.device_outside.specs.Told.{hold}
 use Rattle.device_defs.specs.declared.answers.StartFault.{StartFault}
 use Rattle.device_defs.specs.Command.{command}
 use Rattle.device_defs.specs.Contents.{by_plain}
 use Rattle.device_defs.specs.Cutting.{reset}
-use Rattle.device_defs.specs.Events.{background}
+use Rattle.device_defs.specs.Events.{background, lose}
 use Rattle.device_defs.specs.Marks.{MarksDevice}
 use Rattle.device_defs.specs.Start as S
 use Rattle.device_defs.specs.Start.{start, start_fault, next_ordinal}
 use Rattle.device_defs.specs.Store.{HalfWrite}
 use Rattle.subsystem_defs.specs.declared.end.EventEnd.{EventEnd}
 use Rattle.subsystem_defs.specs.declared.end.EventEnd.TheVariants as ends
+use Rattle.subsystem_defs.specs.declared.end.OrderFault.{OrderFault}
 use Rattle.subsystem_defs.specs.declared.event.Event.{Event}
 use Rattle.subsystem_defs.specs.declared.event.Event.TheVariants as events
 use Rattle.subsystem_defs.specs.Deeds as D
-use Rattle.subsystem_defs.specs.Deeds.{Ends, Becomes, Asks, back, deed, device_in, ends_by, ends_done, end_of, is_own, may_end_by, on_device, seconds, start_by, starts, step}
+use Rattle.subsystem_defs.specs.Deeds.{Ends, Becomes, Asks, back, deed, device_in, ends_by, ends_done, end_of, is_own, may_end_by, on_device, order, seconds, start_by, starts, step}
 use Rattle.subsystem_defs.specs.Happening as H
 use Rattle.subsystem_defs.specs.Happening.{Happened, MarksDeed, Talk, asks, becomes, happens, happens_by, mounted_behind, quietly, told_to}
+use Rattle.subsystem_defs.specs.Refusals.{fail_fault}
 use Rattle.subsystem_defs.specs.Subsystem.{Mounted, Subsystem, devices_of, mounted_in, number_of, put_in}
 use Rattle.subsystem_laws.proofs.Finding.{device_mounted}
 use Rattle.deck_run.specs.Counting.{more_calls}
 use Rattle.deck_run.specs.Owning.{IsOpenOn}
-use Rattle.deck_run.proofs.Counts.{Is, IsOn, background_counts, command_counts, reset_counts}
+use Rattle.deck_run.proofs.Counts.{Is, IsOn, background_counts, command_counts, lose_counts, reset_counts}
 use Rattle.deck_run.proofs.Makes.{Makes, m_done, m_then, held_so}
 
 some_same : {X : Type 0} {x y : X} → Some x ≡ Some y → x ≡ y
@@ -156,6 +160,13 @@ module _ (s : Subsystem) (n : ℕ) (m : Mounted) (at : mounted_in s.mounted n �
         asks_counted m.device (ends_by ends_done (reset by_plain m.device path)) mine
         (m_then (reset_counts by_plain n m.device path (refl, (refl, (mine, single)))) (λ y a r w l. m_done l))
 
+    fail_by : (side : Side) (o : Option OrderFault) →
+        Claim (order o (Asks m.device (ends_by ends_done (lose by_plain m.device (losses.Side side)))))
+    fail_by side (Some f) = ends_counted (ends.Refused f)
+    fail_by side None =
+        asks_counted m.device (ends_by ends_done (lose by_plain m.device (losses.Side side))) mine
+        (m_then (lose_counts by_plain n m.device (losses.Side side) (refl, (refl, (mine, single)))) (λ y a r w l. m_done l))
+
     found : (d : ℕ) → d ≡ n → device_in (devices_of s) d ≡ Some m.device
     found d is =
         ap (λ (k : ℕ). device_in (devices_of s) k) is ∙ device_mounted s.mounted n ∙ ap (λ (o : Option Mounted). option_map (λ (x : Mounted). x.device) o) at
@@ -172,7 +183,10 @@ module _ (s : Subsystem) (n : ℕ) (m : Mounted) (at : mounted_in s.mounted n �
     event_counted events.Power on = absurd on
     event_counted events.FailCache on = absurd on
     event_counted events.FailStore on = absurd on
-    event_counted (events.FailVolume d side) on = absurd on
+    event_counted (events.FailVolume d side) on =
+        subst (λ (o : Option MarksDevice). Claim (on_device o
+        (λ x. order (fail_fault x side) (Asks x (ends_by ends_done (lose by_plain x (losses.Side side))))))) (sym (found d on))
+        (fail_by side (fail_fault m.device side))
     event_counted events.RepairCache on = absurd on
     event_counted events.RepairStore on = absurd on
     event_counted (events.Pair a b) on = absurd on

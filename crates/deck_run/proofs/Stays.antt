@@ -24,6 +24,8 @@ use Rattle.ckd_rules.specs.declared.turned.Turned.{Turned}
 use Rattle.ckd_rules.specs.declared.turned.Turned.TheVariants as turns
 use Rattle.ckd_rules.specs.Look.{look_on}
 use Rattle.ckd_rules.specs.Looked.{Looked}
+use Rattle.loss_model.specs.declared.Loss.{Loss}
+use Rattle.loss_model.specs.declared.Loss.TheVariants as kinds
 use Rattle.plain_defs.specs.declared.journal.Act.{Act}
 use Rattle.plain_defs.specs.History.{History, OpenEntry, has_used}
 use Rattle.plain_defs.specs.Journal.{Plans}
@@ -91,13 +93,13 @@ use Rattle.device_defs.specs.Command.{
 use Rattle.device_defs.specs.Contents.{Contents}
 use Rattle.device_defs.specs.Cutting as cutting
 use Rattle.device_defs.specs.Cutting.{origin_cut, half_cut, reset_by, path_cut, reset}
-use Rattle.device_defs.specs.Effects.{with_edit, loosened, hardened}
+use Rattle.device_defs.specs.Effects.{with_edit, loosened, hardened, loose_lost}
 use Rattle.plain_device.specs.Acted.{settled_act, paths_behind}
 use Rattle.device_defs.specs.Device.{Device, all_acted, event_ended, event_begun, with_store}
 use Rattle.device_defs.specs.Editing as editing
 use Rattle.device_defs.specs.Editing.{effect, whole, at_once, through_by, through, write_by, written, is_given, unchosen, write_chosen, write}
 use Rattle.device_defs.specs.Events as happened
-use Rattle.device_defs.specs.Events.{background}
+use Rattle.device_defs.specs.Events.{background, lose, losing, lost_by, with_loss}
 use Rattle.device_defs.specs.Image as images
 use Rattle.device_defs.specs.Image.{
   is_sequential,
@@ -126,7 +128,24 @@ use Rattle.device_defs.specs.Image.{
   image,
 }
 use Rattle.device_defs.specs.Losses as losses
-use Rattle.device_defs.specs.Losses.{settled, by_frame, gives_up, stale_everywhere, call_failed}
+use Rattle.device_defs.specs.Losses.{
+  settled,
+  settled_but,
+  by_frame,
+  gives_up,
+  stale_everywhere,
+  call_failed,
+  over,
+  down,
+  side_lost,
+  without_frame,
+  without_patch,
+  cache_lost,
+  patch_lost,
+  store_lost,
+  firm_told,
+  all_firm_told,
+}
 use Rattle.device_defs.specs.Memory.{had_by}
 use Rattle.device_defs.specs.Outcomes.{Turn, ends_with, settles, checks, wrote_turn, usage_of, turned_by}
 use Rattle.device_defs.specs.Owed as owed
@@ -160,6 +179,7 @@ use Rattle.device_defs.specs.Store.{
   patch_at,
   is_lost,
   is_loose,
+  has_loose,
   has_level,
   level_at,
   half_is,
@@ -279,6 +299,65 @@ module _ {F P H R : Type 0} (c : Contents F P H R) (g : Geometry) (n : ℕ) wher
 
   failed : (s : Store F P H) (side : Side) (o : Option ℕ) → Is s → Keeps (call_failed c s side o)
   failed s side o k = s_if s.paired (λ e. absurd (clash s.paired e k.1.1)) (λ e. s_done k)
+
+  -- Losses
+
+  over_is : (m : ℕ) (f : ℕ → Store F P H → Store F P H) → ((t : ℕ) (z : Store F P H) → Is z → Is (f t z)) → (s : Store F P H) → Is s → Is (over m f s)
+  unfolding losses.over
+  over_is zero f keeps s k = k
+  over_is (suc m) f keeps s k = keeps m (over m f s) (over_is m f keeps s k)
+
+  down_is : (s : Store F P H) (side : Side) → Is s → Is (down s side)
+  down_is s A k = k
+  down_is s B k = k
+
+  side_is : (s : Store F P H) (side : Side) → Is s → Is (side_lost c s side None)
+  unfolding losses.side_lost
+  side_is s side k = over_is (tracks_of s) (settled_but c None) (λ t z l. settled_is z t l) (down s side) (down_is s side k)
+
+  bare_is : (s : Store F P H) (t : ℕ) → Is s → Is (without_frame s t)
+  bare_is s t k = either (is_some (frame_at s t)) _ s k k
+
+  gone_is : (s : Store F P H) → Is s → Is (loose_lost s)
+  gone_is s k = either (has_loose s) _ s k k
+
+  cache_is : (s : Store F P H) → Is s → Is (cache_lost c s)
+  unfolding losses.cache_lost
+  cache_is s k =
+      over_is (tracks_of s) (λ t z. settled c (without_frame z t) t) (λ t z l. settled_is (without_frame z t) t (bare_is z t l))
+      (record (loose_lost s) { queue = [] }) (gone_is s k)
+
+  unpatched_is : (s : Store F P H) (t : ℕ) → Is s → Is (without_patch c s t)
+  unpatched_is s t k = gives_is s t (losses.slot_in c (patch_at s t)) k
+
+  stale_is : (s : Store F P H) (t : ℕ) → Is s → Is (stale_everywhere s t)
+  stale_is s t k = either s.paired _ _ k k
+
+  patch_is : (t : ℕ) (s : Store F P H) → Is s → Is (patch_lost c t s)
+  patch_is t s k =
+      either (is_some (patch_at s t)) _ s
+      (either (half_is s.half t) _ _ (unpatched_is s t k)
+      (settled_is (stale_everywhere (without_patch c s t) t) t (stale_is (without_patch c s t) t (unpatched_is s t k)))) k
+
+  patches_is : (s : Store F P H) → Is s → Is (store_lost c s)
+  unfolding losses.store_lost
+  patches_is s k = over_is (tracks_of s) (patch_lost c) patch_is s k
+
+  lost_is : (s : Store F P H) (loss : Loss) → Is s → Is (lost_by c s loss)
+  lost_is s kinds.Cache k = cache_is s k
+  lost_is s kinds.Store k = patches_is s k
+  lost_is s (kinds.Side side) k = side_is s side k
+
+  firms : (t : ℕ) (s : Store F P H) → Is s → Keeps (firm_told c t s)
+  firms t s k = s_if (owed_at s t).firm (λ _. s_firm (s_done k)) (λ _. s_done k)
+
+  all_firms : (m : ℕ) (s : Store F P H) → Is s → Keeps (all_firm_told c m s)
+  unfolding losses.all_firm_told
+  all_firms zero s k = s_done k
+  all_firms (suc m) s k = s_then (all_firms m s k) (λ z _ l. firms m z l)
+
+  loses : (s : Store F P H) (loss : Loss) → Is s → Keeps (losing c s loss)
+  loses s loss k = all_firms (tracks_of s) (lost_by c (with_loss s loss) loss) (lost_is (with_loss s loss) loss k)
 
   -- Notices, and what the port is told: no act is noted
 
@@ -725,6 +804,37 @@ module _ {F P H R : Type 0} (c : Contents F P H R) (g : Geometry) (n : ℕ) wher
           s_then (s_then (hears [] 960 (event_begun d).store (is, refl))
           (λ s _ l. worked_on (record (event_begun d) { store = s }) l.0 same of at))
           (λ y a l. ended_by d y a l.0 l.1)
+
+      -- a loss, which brings nothing but these acts
+      abbrev pub HasNoted : Device F P H → Type 0
+      HasNoted y = IsNoted y × (y.history ≡ all_acted before y.store.acts)
+
+      loses_on : (d : Device F P H) (loss : Loss) → Is d.store → d.plans ≡ plans → HasOf ccws fixed d.chain → d.history ≡ before →
+          Surely (and_then (losing c d.store loss) (λ s _. Done (with_store d s) (tt {0}))) (λ y _. HasNoted y)
+      loses_on d loss is same of at =
+          s_then (loses d.store loss is)
+          (λ z _ m. s_done
+          (record { is = m; plans_are = same; chain = of; acts = all_brought before d.history z.acts at }, ap (λ (h : History). all_acted h z.acts) at))
+
+      ended_so : {X : Type 0} (old d : Device F P H) (a : X) → HasNoted d → Surely (event_ended c old d a) (λ y _. HasNoted y)
+      ended_so old d a k =
+          s_then (ends d.store.acts _ d.store (k.0.is, refl)) (λ z _ l. s_done (
+            record {
+              is = l.0;
+              plans_are = k.0.plans_are;
+              chain = k.0.chain;
+              acts = subst (λ (acts : List Act). Brought before d.history acts) (sym l.1) k.0.acts;
+            },
+            k.1 ∙ ap (λ (acts : List Act). all_acted before acts) (sym l.1),
+          ))
+
+      pub lose_stays : (d : Device F P H) (loss : Loss) → Is d.store → d.plans ≡ plans → HasOf ccws fixed d.chain → d.history ≡ before →
+          Surely (lose c d loss) (λ y _. HasNoted y)
+      unfolding happened.lose
+      lose_stays d loss is same of at =
+          s_then (s_then (hears [] 960 (event_begun d).store (is, refl))
+          (λ s _ l. loses_on (record (event_begun d) { store = s }) loss l.0 same of at))
+          (λ y a l. ended_so d y a l)
 
       -- a reset
       halves : (s : Store F P H) (o : Option (HalfWrite H)) → Is s → Keeps (half_cut c s o)

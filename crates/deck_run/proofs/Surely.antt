@@ -71,6 +71,19 @@ pub s_then : {R I S T A B : Type 0} {i : Interaction R I S A} {f : S → A → I
     Surely i p → ((s : S) (a : A) → p s a → Surely (f s a) q) → Surely (and_then i f) q
 s_then {i = i} {f = f} {p = p} {q = q} h g = record { holds = behind_then i f p q h.holds (λ s a e. (g s a e).holds) }
 
+behind_so : {R I S A : Type 0} (i : Interaction R I S A) (p q : S → A → Type 0) → ((s : S) (a : A) → p s a → q s a) → Behind i p → Behind i q
+unfolding Behind
+behind_so (Done s a) p q f h = f s a h
+behind_so (Try k) p q f h = behind_so (k true) p q f h
+behind_so (Ask call k) p q f h = λ a. behind_so (k a) p q f (h a)
+behind_so (Read side t k) p q f h = λ got. behind_so (k got) p q f (h got)
+behind_so (Write side t r k) p q f h = λ ok. behind_so (k ok) p q f (h ok)
+behind_so (Tell m k) p q f h = λ r x. behind_so (k r) p q f (h r x)
+
+-- what follows from it holds too
+pub surely_so : {R I S A : Type 0} {i : Interaction R I S A} {p q : S → A → Type 0} → ((s : S) (a : A) → p s a → q s a) → Surely i p → Surely i q
+surely_so {i = i} {p = p} {q = q} f h = record { holds = behind_so i p q f h.holds }
+
 module _ {R I K S A : Type 0} {hears : Hearing I K} (q : S → A → Type 0) where
   behind_ran : {i : Interaction R I S A} {w z : Outside R K} {s : S} {a : A} → Ran is_had hears i w s a z → Behind i q → q s a
   unfolding Behind

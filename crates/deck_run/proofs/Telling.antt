@@ -157,7 +157,7 @@ module _ {V : Type 0} {G : Ghosts V} where
       (none_new m.device.history k.device.history same)
       ∙ ap (λ (l : List Item). map loosed_line (map (loosed d) (power_told m.device.store k.device.store (has_power l)))) items
 
-  all_loose_none : (xs : List (Device V G)) (ms ks : List Mounted) → AreKnown (all_stood xs) ms → AreKnown (all_stood xs) ks →
+  pub all_loose_none : (xs : List (Device V G)) (ms ks : List Mounted) → AreKnown (all_stood xs) ms → AreKnown (all_stood xs) ks →
       of_each loose_lines (map device ms) (map device ks) ≡ []
   all_loose_none [] [] ks all now = refl
   all_loose_none [] (m ∷ ms) ks all now = absurd all
@@ -173,7 +173,7 @@ module _ {V : Type 0} {G : Ghosts V} where
       ap (λ (h : History). program_over_lines (over_of m.device.store.device (new_items m.device.history h))) (now.history ∙ sym is.history)
       ∙ ap (λ (l : List Item). program_over_lines (over_of m.device.store.device l)) (none_behind m.device.history.items)
 
-  all_over_none : (xs : List (Device V G)) (ms ks : List Mounted) → AreKnown (all_stood xs) ms → AreKnown (all_stood xs) ks →
+  pub all_over_none : (xs : List (Device V G)) (ms ks : List Mounted) → AreKnown (all_stood xs) ms → AreKnown (all_stood xs) ks →
       of_each over_lines (map device ms) (map device ks) ≡ []
   all_over_none [] [] ks all now = refl
   all_over_none [] (m ∷ ms) ks all now = absurd all
@@ -217,7 +217,7 @@ module _ {V : Type 0} {G : Ghosts V} where
   one_over n x y (d ∷ ds) (m ∷ ms) ks all at now =
       one_over_by n d x y ds m ms ks (d.store.number == n) refl (λ there js here. one_over n x y ds ms js all.1 there here) all.0 all.1 at now
 
-  loose_by : (n : ℕ) (x y : Device V G) (m k : Mounted) → x.store.number ≡ n → IsKnown (stood_of x) m → IsKnown (stood_of y) k →
+  pub loose_by : (n : ℕ) (x y : Device V G) (m k : Mounted) → x.store.number ≡ n → IsKnown (stood_of x) m → IsKnown (stood_of y) k →
       loose_lines m.device k.device ≡ map loosed_line (loosed_between n x y)
   loose_by n x y m k here is now =
       let items = new_items m.device.history k.device.history in

@@ -4,6 +4,7 @@ pub mod Standing
 pub mod Counting
 pub mod Loosening
 pub mod Recording
+pub mod Sweeping
 pub mod Passing
 pub mod Ending
 pub mod Going

@@ -24,7 +24,7 @@ are_open ds = are_open_behind None ds
 abbrev pub numbers_in : List DeviceLine → List ℕ
 numbers_in ds = map (λ (d : DeviceLine). d.number) ds
 
--- START, STEP, RUN, BACK, SETTLE and RESET of a device that is there
+-- START, STEP, RUN, BACK, SETTLE, RESET and FAIL VOLUME of a device that is there, and FAIL and REPAIR of the cache and the store
 abbrev pub is_open_line : List ℕ → EventLine → Bool
 is_open_line ns (lines.Start path d) = is_in d ns
 is_open_line ns (lines.Step d) = is_in d ns
@@ -32,6 +32,11 @@ is_open_line ns (lines.Run d) = is_in d ns
 is_open_line ns (lines.Back d) = is_in d ns
 is_open_line ns (lines.Settle d) = is_in d ns
 is_open_line ns (lines.Reset path d) = is_in d ns
+is_open_line ns (lines.FailVolume d side) = is_in d ns
+is_open_line ns lines.FailCache = true
+is_open_line ns lines.FailStore = true
+is_open_line ns lines.RepairCache = true
+is_open_line ns lines.RepairStore = true
 is_open_line ns _ = false
 
 abbrev pub are_open_lines : List ℕ → List EventLine → Bool

@@ -42,4 +42,5 @@ IsOpenOn n (events.Start path d) = (d ≡ n) × ((1 ≤ path) × (path ≤ 4))
 IsOpenOn n (events.Step d) = d ≡ n
 IsOpenOn n (events.Back d) = d ≡ n
 IsOpenOn n (events.Reset path d) = d ≡ n
+IsOpenOn n (events.FailVolume d side) = d ≡ n
 IsOpenOn n _ = ⊥

@@ -45,7 +45,7 @@ module _ {V : Type 0} {G : Ghosts V} where
     pub running : running_in (devices_of run) n ≡ running_of x
     pub lines : (h : Happened) → lines_when run e h
         ≡ lines_by n h (loosed_between n x y) (happens run e).reads (happens run e).writes (new_items (history_of x.past) (history_of y.past))
-    pub acts : new_acts (history_of x.past) (history_of y.past) ≡ acts_by (happens run e).end (device_of y)
+    pub acts : new_acts (history_of x.past) (history_of y.past) ≡ acts_by e (happens run e).end (device_of y)
     pub reads : y.store.counts.reads ≡ more_calls (happens run e).reads x.store.counts.reads
     pub writes : y.store.counts.writes ≡ more_calls (happens run e).writes x.store.counts.writes
 

@@ -29,7 +29,7 @@ fn chain_stands<V: Volume>(device: &Device<V>)
     }
 }
 
-fn chains_stand<V: Volume>(devices: &[Device<V>])
+pub(crate) fn chains_stand<V: Volume>(devices: &[Device<V>])
     ensures { ChainsStand devices.now }
 {
     for device in devices {

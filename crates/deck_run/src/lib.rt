@@ -1,6 +1,7 @@
 //! The run of a deck over a subsystem of devices in memory, and the lines of what happens in it.
 #![tactic(auto)]
 
+mod all;
 mod close;
 mod event;
 mod giving;

@@ -2,7 +2,8 @@ ghost use Rattle.std.specs.Prelude.{◌≡◌, ◌++◌, IfOk, OnOk, true};
 ghost use Rattle.device_outside.specs.Lists.{is_in};
 ghost use Rattle.report_text.specs.declared.answers.BackAnswer.TheVariants as none;
 ghost use Rattle.report_text.specs.declared.event.Happened.TheVariants as did;
-ghost use Rattle.run_report.specs.Answers.{start_answer};
+ghost use Rattle.report_text.specs.declared.order.Order.TheVariants as orders;
+ghost use Rattle.run_report.specs.Answers.{order_answer, start_answer};
 ghost use Rattle.run_report.specs.Events.{running_in, work_told};
 ghost use Rattle.run_report.specs.OneDevice.{lines_by};
 ghost use Rattle.subsystem_core.specs.Devices.{numbers_of};
@@ -15,14 +16,15 @@ ghost use Rattle.deck_run.specs.Owning.{AreOwn};
 ghost use Rattle.deck_run.specs.Recording.{all_lines, lines_when};
 ghost use Rattle.deck_run.specs.Standing.{StandsAs};
 
+use crate::all::order_all;
 use crate::pass::{behind_first, pass};
-use ckd_types::{DeviceNo, NoMemory, PathNo};
+use ckd_types::{DeviceNo, NoMemory, PathNo, Side};
 use deck_plan::EventLine;
 use device_defs::Did;
 use device_outside::Volume;
 use plain_defs::Item;
-use report_text::{BackAnswer, Happened, Loosed, ReportLine, RunRecord};
-use run_report::{Calls, Gained, record_event, start_answer, work_told};
+use report_text::{BackAnswer, Happened, Loosed, Order, ReportLine, RunRecord};
+use run_report::{Calls, Gained, order_answer, record_event, start_answer, work_told};
 use std::alloc::Global;
 use subsystem_core::Subsystem;
 use subsystem_defs::{Event, EventEnd};
@@ -204,6 +206,30 @@ fn reset<V: Volume>(
     Ok(())
 }
 
+/// The loss of a side.
+fn fail_volume<V: Volume>(
+    alloc: Global,
+    sub: &mut Subsystem<V>,
+    report: &mut RunRecord,
+    d: DeviceNo,
+    side: Side,
+) -> Result<(), NoMemory>
+    requires here { is_in d (numbers_of sub.old.devices.items) ≡ true }
+    requires own { AreOwn sub.old.devices.items }
+    ensures numbers { numbers_of sub.new.devices.items ≡ numbers_of sub.old.devices.items }
+    ensures own { OnOk result (AreOwn sub.new.devices.items) }
+    ensures stands { (run : runs.Subsystem) → StandsAs sub.old run → OnOk result (StandsAs sub.new (happens run (Event.FailVolume d side)).behind) }
+    ensures lines { (run : runs.Subsystem) → StandsAs sub.old run → OnOk result (report.new ≡ report.old ++ lines_when run (Event.FailVolume d side) (did.Ordered (orders.FailVolume d side) (order_answer (happens run (Event.FailVolume d side)).end))) }
+{
+    report.make_room()?;
+    let passed = pass(alloc, sub, d, Event::FailVolume(d, side))?;
+    let items = behind_first(sub.device(d).journal(), passed.items);
+    let order = Order::FailVolume(d, side);
+    let happened = Happened::Ordered(order, order_answer(&passed.end));
+    record_passed(report, d, happened, &passed.acts, items, passed.calls)?;
+    Ok(())
+}
+
 /// Whether a program runs on a device, or a half write is open.
 fn is_busy<V: Volume>(sub: &Subsystem<V>, d: DeviceNo) -> bool
     requires { is_in d (numbers_of sub.now.devices.items) ≡ true }
@@ -261,7 +287,7 @@ fn finish<V: Volume>(
     Ok(())
 }
 
-/// One event line. START, STEP, RUN, BACK, SETTLE and RESET run so far.
+/// One event line. START, STEP, RUN, BACK, SETTLE, RESET, FAIL and REPAIR run so far.
 pub(crate) fn do_line<V: Volume>(
     alloc: Global,
     sub: &mut Subsystem<V>,
@@ -282,6 +308,23 @@ pub(crate) fn do_line<V: Volume>(
         EventLine::Back(d) => back(alloc, sub, report, d),
         EventLine::Settle(d) => settle(alloc, sub, report, d),
         EventLine::Reset(path, d) => reset(alloc, sub, report, path, d),
+        EventLine::FailVolume(d, side) => fail_volume(alloc, sub, report, d, side),
+        EventLine::FailCache => order_all(alloc, sub, report, Event::FailCache, Order::FailCache),
+        EventLine::FailStore => order_all(alloc, sub, report, Event::FailStore, Order::FailStore),
+        EventLine::RepairCache => order_all(
+            alloc,
+            sub,
+            report,
+            Event::RepairCache,
+            Order::RepairCache,
+        ),
+        EventLine::RepairStore => order_all(
+            alloc,
+            sub,
+            report,
+            Event::RepairStore,
+            Order::RepairStore,
+        ),
         _ => unreachable!(),
     }
 }

@@ -1,10 +1,10 @@
 //! What is told of the acts of cache fast write that came with an event.
 
-ghost use Rattle.std.specs.Prelude.{◌≡◌, ◌≤◌, IfOk};
+ghost use Rattle.std.specs.Prelude.{◌≡◌, ◌≤◌, [], IfOk, if◌then◌else◌};
 ghost use Rattle.device_core.specs.State.{device_of};
 ghost use Rattle.run_report.specs.Beside.{id_of};
 ghost use Rattle.subsystem_defs.specs.Beside.{has_power, is_power, loose_count};
-ghost use Rattle.deck_run.specs.Loosening.{acts_by, all_loosed, loosed_by, power_by};
+ghost use Rattle.deck_run.specs.Loosening.{acts_when, all_loosed, is_quiet, loosed_by, power_by};
 
 use ckd_types::{DeviceNo, NoMemory};
 use device_core::Device;
@@ -12,7 +12,7 @@ use device_outside::Volume;
 use plain_defs::{Act, Item};
 use report_text::{LooseAnswer, Loosed};
 use std::alloc::Global;
-use subsystem_defs::EventEnd;
+use subsystem_defs::{Event, EventEnd};
 
 fn count_of<V: Volume>(device: &Device<V>) -> usize
     ensures value { result ≡ loose_count (device_of device.now).store }
@@ -40,12 +40,31 @@ fn noted<V: Volume>(device: &Device<V>) -> &[Act]
     device.store.loose.acts()
 }
 
+pub(crate) fn is_quiet(e: &Event) -> bool
+    ensures { result ≡ is_quiet e.now }
+{
+    match e {
+        Event::Reset(_, _) | Event::RepairCache | Event::RepairStore => true,
+        _ => false,
+    }
+}
+
+fn done_acts<V: Volume>(quiet: bool, device: &Device<V>) -> &[Act]
+    ensures { result.now ≡ (if quiet then [] else (device_of device.now).store.acts) }
+{
+    if quiet {
+        return &[];
+    }
+    noted(device)
+}
+
 /// The acts that came with an event which ended so.
-fn acts_by<'a, V: Volume>(end: &EventEnd, device: &'a Device<V>) -> &'a [Act]
-    ensures { result.now ≡ acts_by end.now (device_of device.now) }
+fn acts_when<'a, V: Volume>(quiet: bool, end: &EventEnd, device: &'a Device<V>) -> &'a [Act]
+    ensures { result.now ≡ acts_when quiet end.now (device_of device.now) }
 {
     match end {
         EventEnd::Stepped(_) | EventEnd::Second(_) | EventEnd::Back(_) => noted(device),
+        EventEnd::Done => done_acts(quiet, device),
         _ => &[],
     }
 }
@@ -98,14 +117,15 @@ pub(crate) fn all_loosed<V: Volume>(
     d: DeviceNo,
     count: u16,
     device: &Device<V>,
+    quiet: bool,
     end: &EventEnd,
     items: &[Item],
 ) -> Result<Vec<Loosed>, NoMemory>
-    ensures { IfOk result (λ told. told.items ≡ all_loosed d count (device_of device.now).store.number (acts_by end.now (device_of device.now)) (has_power items.now)) }
+    ensures { IfOk result (λ told. told.items ≡ all_loosed d count (device_of device.now).store.number (acts_when quiet end.now (device_of device.now)) (has_power items.now)) }
 {
     let number = data_of(device);
     let mut told = Vec::new(alloc);
-    for act in acts_by(end, device) {
+    for act in acts_when(quiet, end, device) {
         told.push(loosed_by(d, count, number, *act))?;
     }
     if has_power(items) && count != 0 {

@@ -12,7 +12,7 @@ ghost use Rattle.deck_run.specs.Recording.{running_of};
 ghost use Rattle.deck_run.specs.Standing.{StandsAs};
 
 use crate::event::do_event;
-use crate::loosed::{all_loosed, loose_of};
+use crate::loosed::{all_loosed, is_quiet, loose_of};
 use ckd_types::{DeviceNo, NoMemory};
 use device_core::Device;
 use device_outside::Volume;
@@ -106,11 +106,12 @@ pub(crate) fn pass<V: Volume>(
     let items = device.journal().len();
     let loose = loose_of(device);
     let before = calls_of(device);
+    let quiet = is_quiet(&e);
     let end = do_event(alloc, sub, d, e)?;
     let behind = sub.device(d);
     let calls = calls_between(before, calls_of(behind))?;
     let came = behind_first(behind.journal(), items);
-    let acts = all_loosed(alloc, d, loose, behind, &end, came)?;
+    let acts = all_loosed(alloc, d, loose, behind, quiet, &end, came)?;
     Ok(Passed {
         end,
         running,

@@ -1,6 +1,16 @@
 use Rattle.subsystem_defs.specs.Lines as lines
 use Rattle.deck_run.proofs.Events.{ok_so}
-use Rattle.deck_run.proofs.Recorded.{back_tells, one_step_tells, reset_tells, start_tells}
+use Rattle.deck_run.proofs.Recorded.{
+  back_tells,
+  fail_cache_tells,
+  fail_store_tells,
+  fail_tells,
+  one_step_tells,
+  repair_cache_tells,
+  repair_store_tells,
+  reset_tells,
+  start_tells,
+}
 use Rattle.deck_run.proofs.line.do_line.Goals as goal
 
 pub returns-in-Start-clause-stands : goal.returns-in-Start-clause-stands
@@ -56,3 +66,54 @@ unfolding lines.line_logged
 returns-in-Reset-clause-lines g c = λ run all.
     rw c.in-Reset.is
     (ok_so c.reset.result _ _ (λ h. reset_tells run c.in-Reset.path c.in-Reset.d c.args.report.now c.reset.new.report h) (c.reset.ensures.lines run all))
+
+pub returns-in-FailVolume-clause-stands : goal.returns-in-FailVolume-clause-stands
+unfolding lines.line_logged
+returns-in-FailVolume-clause-stands g c = λ run all. rw c.in-FailVolume.is (c.fail_volume.ensures.stands run all)
+
+pub returns-in-FailVolume-clause-lines : goal.returns-in-FailVolume-clause-lines
+unfolding lines.line_logged
+returns-in-FailVolume-clause-lines g c = λ run all.
+    rw c.in-FailVolume.is
+    (ok_so c.fail_volume.result _ _ (λ h. fail_tells run c.in-FailVolume.d c.in-FailVolume.side c.args.report.now c.fail_volume.new.report h)
+    (c.fail_volume.ensures.lines run all))
+
+pub returns-in-FailCache-clause-stands : goal.returns-in-FailCache-clause-stands
+unfolding lines.line_logged
+returns-in-FailCache-clause-stands g c = λ run all. rw c.in-FailCache.is (c.order_all.ensures.stands run all)
+
+pub returns-in-FailCache-clause-lines : goal.returns-in-FailCache-clause-lines
+unfolding lines.line_logged
+returns-in-FailCache-clause-lines g c = λ run all.
+    rw c.in-FailCache.is
+    (ok_so c.order_all.result _ _ (λ h. fail_cache_tells run c.args.report.now c.order_all.new.report h) (c.order_all.ensures.lines run all))
+
+pub returns-in-FailStore-clause-stands : goal.returns-in-FailStore-clause-stands
+unfolding lines.line_logged
+returns-in-FailStore-clause-stands g c = λ run all. rw c.in-FailStore.is (c.order_all-in-FailStore.ensures.stands run all)
+
+pub returns-in-FailStore-clause-lines : goal.returns-in-FailStore-clause-lines
+unfolding lines.line_logged
+returns-in-FailStore-clause-lines g c = λ run all.
+    rw c.in-FailStore.is
+    (ok_so c.order_all-in-FailStore.result _ _ (λ h. fail_store_tells run c.args.report.now c.order_all-in-FailStore.new.report h) (c.order_all-in-FailStore.ensures.lines run all))
+
+pub returns-in-RepairCache-clause-stands : goal.returns-in-RepairCache-clause-stands
+unfolding lines.line_logged
+returns-in-RepairCache-clause-stands g c = λ run all. rw c.in-RepairCache.is (c.order_all-in-RepairCache.ensures.stands run all)
+
+pub returns-in-RepairCache-clause-lines : goal.returns-in-RepairCache-clause-lines
+unfolding lines.line_logged
+returns-in-RepairCache-clause-lines g c = λ run all.
+    rw c.in-RepairCache.is
+    (ok_so c.order_all-in-RepairCache.result _ _ (λ h. repair_cache_tells run c.args.report.now c.order_all-in-RepairCache.new.report h) (c.order_all-in-RepairCache.ensures.lines run all))
+
+pub returns-in-RepairStore-clause-stands : goal.returns-in-RepairStore-clause-stands
+unfolding lines.line_logged
+returns-in-RepairStore-clause-stands g c = λ run all. rw c.in-RepairStore.is (c.order_all-in-RepairStore.ensures.stands run all)
+
+pub returns-in-RepairStore-clause-lines : goal.returns-in-RepairStore-clause-lines
+unfolding lines.line_logged
+returns-in-RepairStore-clause-lines g c = λ run all.
+    rw c.in-RepairStore.is
+    (ok_so c.order_all-in-RepairStore.result _ _ (λ h. repair_store_tells run c.args.report.now c.order_all-in-RepairStore.new.report h) (c.order_all-in-RepairStore.ensures.lines run all))
