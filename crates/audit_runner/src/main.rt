@@ -6,9 +6,9 @@ mod progress;
 mod tests;
 
 use ckd_outside::{StdSink, StdSource};
-use deck_audit::{AuditStatus, code_of};
 use progress::Shown;
 use report_audit::{audit_top, words_of};
+use report_auditor::{AuditStatus, code_of};
 use std::alloc::AllocError;
 use std::env::Args;
 use std::io::IsTerminal;

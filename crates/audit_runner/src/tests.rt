@@ -1,6 +1,6 @@
 use ckd_outside::{MemSink, MemSource};
-use deck_audit::{AuditStatus, AuditWhy};
 use report_audit::audit_top;
+use report_auditor::{AuditStatus, AuditWhy};
 use std::alloc::Global;
 use std::process::Abort;
 use std::test::Fail;

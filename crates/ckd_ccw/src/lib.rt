@@ -3,8 +3,6 @@
 
 mod checks;
 mod program;
-#[cfg(test)]
-mod tests;
 
 pub use ckd_types::Why;
 pub use program::{Program, ProgramFault};

@@ -12,8 +12,6 @@ mod source;
 mod spelling;
 mod streams;
 mod sure;
-#[cfg(test)]
-mod tests;
 
 pub use faults::{Failed, Faulty};
 pub use line::{LineBuffer, flush, make_room, put_text};

@@ -4,8 +4,6 @@
 mod bits;
 mod decode;
 mod encode;
-#[cfg(test)]
-mod tests;
 
 pub use decode::{decode_domain, decode_extent, decode_seek, decode_seek_head};
 pub use encode::{encode_domain, encode_extent};

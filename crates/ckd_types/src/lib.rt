@@ -14,8 +14,6 @@ mod paths;
 mod record;
 mod sense;
 mod status;
-#[cfg(test)]
-mod tests;
 
 pub use bytes::Bytes;
 pub use channel::{Ccw, CommandEnd, EndList, Note, Why};

@@ -8,16 +8,16 @@ use Rattle.report_text.specs.declared.line.ReportLine.{ReportLine}
 use Rattle.report_text.specs.declared.line.ReportLine.TheVariants as lines
 use Rattle.report_text.specs.Ends.{end_line}
 use Rattle.deck_audit.specs.declared.replayed.Running.{Running}
-use Rattle.deck_audit.specs.declared.state.Did.TheVariants.{Ended, CheckEnded}
-use Rattle.deck_audit.specs.declared.state.Due.{Due}
-use Rattle.deck_audit.specs.declared.state.Due.TheVariants.{Behind, SenseOf}
-use Rattle.deck_audit.specs.declared.state.HalfWrite.TheVariants.{Closed}
+use Rattle.report_places.specs.declared.state.Did.TheVariants.{Ended, CheckEnded}
+use Rattle.report_places.specs.declared.state.Due.{Due}
+use Rattle.report_places.specs.declared.state.Due.TheVariants.{Behind, SenseOf}
+use Rattle.report_places.specs.declared.state.HalfWrite.TheVariants.{Closed}
 use Rattle.deck_audit.specs.Device.{AuditedDevice, check_end, words_of_open}
 use Rattle.deck_audit.specs.History.{behind_end, changed, check_made, end_made_by, has_sense, sense_made}
 use Rattle.deck_audit.specs.Judging as judging
 use Rattle.deck_audit.specs.Judging.{due_in}
 use Rattle.deck_audit.specs.Replayed.{ReplayedState}
-use Rattle.deck_audit.specs.Same.{says}
+use Rattle.report_places.specs.Same.{says}
 use Rattle.deck_audit.specs.State.{AuditState, then_of}
 
 either_due : (b c : Bool) (x y : AuditState) → due_in (cond b (Some x) (cond c (Some y) None))

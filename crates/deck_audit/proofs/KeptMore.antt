@@ -8,7 +8,7 @@ use Rattle.plain_defs.specs.declared.journal.Item.{Item}
 use Rattle.plain_defs.specs.declared.journal.Item.TheVariants as items
 use Rattle.plain_defs.specs.History.{History, OpenEntry, acted, acted_in, checked, checked_in, closed, emptied, ended, ended_in, is_path_of, lost_power, lost_power_in, with_end}
 use Rattle.plain_defs.specs.Legal.{is_of_path, is_started, is_used, started_by, used_by}
-use Rattle.deck_audit.specs.declared.state.HalfWrite.TheVariants.{Closed}
+use Rattle.report_places.specs.declared.state.HalfWrite.TheVariants.{Closed}
 use Rattle.deck_audit.specs.Device.{runs}
 use Rattle.deck_audit.specs.Follows.{KeepsPath, KeepsPaths, WaitsAs, own_count}
 use Rattle.deck_audit.specs.History.{cut_open}

@@ -1,10 +1,7 @@
-pub mod Answers
 pub mod Device
-pub mod Same
 pub mod State
-pub mod Place
+pub mod Stands
 pub mod History
-pub mod Verdict
 pub mod Replayed
 pub mod Replay
 pub mod Follows
@@ -12,4 +9,3 @@ pub mod Judging
 pub mod Kept
 pub mod Keeping
 pub mod Task
-pub mod Auditor

@@ -8,11 +8,12 @@ use Rattle.report_text.specs.declared.answers.HowOver.{HowOver}
 use Rattle.report_text.specs.declared.answers.HowOver.TheVariants.{Full, Checked}
 use Rattle.report_text.specs.declared.line.ReportLine.{ReportLine}
 use Rattle.report_text.specs.declared.line.ReportLine.TheVariants as lines
-use Rattle.deck_audit.specs.declared.state.Outline.{Outline}
-use Rattle.deck_audit.specs.declared.state.Did.{Did}
-use Rattle.deck_audit.specs.declared.state.Did.TheVariants.{Ended, CheckEnded, Worked}
-use Rattle.deck_audit.specs.declared.state.Due.{Due}
-use Rattle.deck_audit.specs.declared.state.Due.TheVariants.{Next, OverOf}
+use Rattle.report_places.specs.declared.state.Outline.{Outline}
+use Rattle.report_places.specs.declared.state.Did.{Did}
+use Rattle.report_places.specs.declared.state.Did.TheVariants.{Ended, CheckEnded, Worked}
+use Rattle.report_places.specs.declared.state.Due.{Due}
+use Rattle.report_places.specs.declared.state.Due.TheVariants.{Next, OverOf}
+use Rattle.report_places.specs.Place.{first_event, worker_of}
 use Rattle.deck_audit.specs.Device.{AuditedDevice, new_device, outline_of, is_idle, device_in, with_device}
 
 -- the events begin with the one that has begun or is the next
@@ -27,18 +28,6 @@ first_state deck = record { devices = map (new_device deck.programs) deck.device
 -- the outlines of its devices
 abbrev pub outlines : AuditState → List Outline
 outlines s = map outline_of s.devices
-
--- the device of an event that is work
-abbrev pub worker_of : EventLine → Option ℕ
-worker_of (events.Step d) = Some d
-worker_of (events.Run d) = Some d
-worker_of (events.Back d) = Some d
-worker_of (events.Settle d) = Some d
-worker_of _ = None
-
-abbrev pub first_event : List EventLine → Option EventLine
-first_event [] = None
-first_event (event ∷ events) = Some event
 
 abbrev pub then_of : {S T : Type 0} → Option S → (S → Option T) → Option T
 then_of None go = None

@@ -1,30 +1,18 @@
-//! Whether a plain device could have made a report, and the first line that shows that it couldn't.
+//! A device of a deck, as the lines of a report make it: what each line is to it, and that a plain device could have answered so.
 #![tactic(auto)]
 
-mod auditor;
-mod devices;
 mod follows;
 mod judged;
 mod judging;
 mod keeps;
 mod kept;
 mod law;
-mod lines;
-mod outline;
-mod place;
 mod replay;
 mod replay_resets;
 mod replay_tells;
 mod replayed;
-mod same;
-mod state;
-mod status;
 mod task;
-mod texts;
-mod told;
-mod work;
 
-pub use auditor::{Auditor, outlines_are_same};
 pub use follows::{
     act_follows, edit_follows, end_follows, ends_are_judged, half_follows, loan_follows,
     over_follows, power_follows, reset_follows, settle_follows, start_follows,
@@ -37,11 +25,5 @@ pub use judging::data_due;
 pub use keeps::{ended_is_kept, paths_are_kept, reset_is_kept, started_is_kept};
 pub use kept::{Kept, Then};
 pub use law::{accepted_start_is_plain, idle_is_plain, plain_end_is_plain};
-pub use lines::{next_line, report_from};
-pub use place::{in_due, is_of_work, worker_of};
 pub use replayed::{Pending, ReplayedDevice, Running};
-pub use same::{is_same_order, says};
-pub use state::{Did, Due, HalfWrite, OpenProgram, Outline};
-pub use status::{AuditStatus, AuditWhy, code_of};
-pub use task::Task;
-pub use texts::{write_no, write_no_report, write_usage, write_yes};
+pub use task::{Task, range_of};

@@ -3,12 +3,12 @@ ghost use Rattle.plain_defs.specs.declared.journal.Act.TheVariants.{Harden, Loos
 ghost use Rattle.deck_audit.specs.Replay.{acted, any_may_start, ended_next, free_answer, given_back, has_left, held_answer, is_legal, lent_answer, lost, may_loosen, may_start, new_replayed, next_end, outline_of, own_runs, program_of, running_answer, settled, start_answer, started_next, started_on};
 
 use crate::replayed::{Pending, ReplayedDevice, Running};
-use crate::{HalfWrite, OpenProgram, Outline};
 use ckd_chain::Chain;
 use ckd_types::{CommandEnd, NoMemory, PathNo, TrackNo};
 use deck_plan::PathPlans;
 use deck_text::DeviceLine;
 use plain_device::{Done, PlainDevice};
+use report_places::{HalfWrite, OpenProgram, Outline};
 use report_text::StartAnswer;
 use std::alloc::Global;
 

@@ -3,8 +3,6 @@
 
 mod event;
 mod plan;
-#[cfg(test)]
-mod tests;
 
 pub use event::{EventLine, Schedule, copy_schedule};
 pub use plan::PathPlans;

@@ -36,8 +36,8 @@ use Rattle.device_core.specs.State.{device_of}
 use Rattle.device_core.specs.Words.{IsAtWord}
 use Rattle.device_laws.specs.Standing.{RunsOn}
 use Rattle.subsystem_core.specs.Devices.{numbers_of, devices_of, device_at, put_at}
-use Rattle.subsystem_laws.specs.Stood as laws
-use Rattle.subsystem_laws.specs.Stood.{Stood, devices_at, stood_in, number_at, HasChain, HaveChains}
+use Rattle.subsystem_laws.specs.WholeStood as laws
+use Rattle.subsystem_laws.specs.WholeStood.{Stood, devices_at, stood_in, HaveChains}
 use Rattle.ckd_types.specs.declared.geometry.Geometry.{Geometry}
 use Rattle.deck_run.specs.Owning.{GivesAll, IsOwn, AreOwn, ChainsStand}
 use Rattle.deck_run.specs.Standing.{stood_of, all_stood}
@@ -85,6 +85,16 @@ module _ {V : Type 0} {G : Ghosts V} where
   put_stood (x ∷ xs) n y =
       put_by (x.store.number == n) (y ∷ xs) (x ∷ put_at xs n y)
       ∙ ap (λ (l : List Stood). if x.store.number == n then stood_of y ∷ all_stood xs else stood_of x ∷ l) (put_stood xs n y)
+
+  same_by : (d : Device V G) (ds : List (Device V G)) (n : ℕ) (x : Device V G) (b : Bool) → (device_at ds n ≡ Some x → put_at ds n x ≡ ds) →
+      (if b then Some d else device_at ds n) ≡ Some x → (if b then x ∷ ds else d ∷ put_at ds n x) ≡ d ∷ ds
+  same_by d ds n x true rest is = ap (λ (y : Device V G). y ∷ ds) (sym (some_same is))
+  same_by d ds n x false rest is = ap (λ (l : List (Device V G)). d ∷ l) (rest is)
+
+  -- in its own place
+  pub put_same : (xs : List (Device V G)) (n : ℕ) (x : Device V G) → device_at xs n ≡ Some x → put_at xs n x ≡ xs
+  put_same [] n x is = refl
+  put_same (d ∷ ds) n x is = same_by d ds n x (d.store.number == n) (put_same ds n x) is
 
   -- the device that was put there is found there
   again_by : (d : Device V G) (ds : List (Device V G)) (n : ℕ) (x y : Device V G) (b : Bool) → (d.store.number == n) ≡ b →

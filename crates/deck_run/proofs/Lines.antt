@@ -32,11 +32,8 @@ use Rattle.std.specs.Prelude.{◌&&◌, ◌==◌, nat_lt}
 use Rattle.std.proofs.lemmas.List.{at_drop_more, at_drop_all}
 use Rattle.deck_text.specs.declared.line.DeviceLine.{DeviceLine}
 use Rattle.deck_text.specs.declared.line.FaultLine.{FaultLine}
-use Rattle.device_outside.specs.Pool.{Pool}
 use Rattle.subsystem_core.specs.Places.{are_rising, is_before}
 use Rattle.subsystem_defs.specs.Decks.{failing_of, is_same}
-use Rattle.subsystem_defs.specs.Subsystem.{Mounted}
-use Rattle.subsystem_laws.specs.Stood.{Stood, AreMounted, IsMounted, no_more, one_more}
 use Rattle.deck_run.specs.Opening.{is_open_device, is_behind, are_open_behind, numbers_in}
 
 module _ (ds : List DeviceLine) (i : ℕ) (last : Option ℕ) (d : DeviceLine) (inside : i < length ds) (is : d ≡ get_or ds i d) where
@@ -98,11 +95,6 @@ numbers_rise (d ∷ ds) last all =
     both _ _ (rising_behind d.number ds (then_so _ _ all)) (numbers_rise ds (Some d.number) (then_so _ _ all))
 
 -- One device more
-
-pub mounted_more : (p : Pool) (xs : List Stood) (ms : List Mounted) (x : Stood) (m : Mounted) → AreMounted p xs ms → IsMounted p x m →
-    AreMounted p (xs ++ x ∷ []) (ms ++ m ∷ [])
-mounted_more p xs ms x m no_more is = one_more is no_more
-mounted_more p xs ms x m (one_more h all) is = one_more h (mounted_more p _ _ x m all is)
 
 pub mapped_more : {A B : Type 0} (f : A → B) (xs : List A) (x : A) → map f (xs ++ x ∷ []) ≡ map f xs ++ f x ∷ []
 mapped_more f [] x = refl

@@ -1,5 +1,5 @@
 -- What is opened stands as a run has it.
-use Rattle.std.proofs.Common.{◌≡◌, ◌≤◌, ◌∙◌, ◌++◌, ◌∷◌, [], map, ℕ, true, false, List, refl, sym, ap, subst, arith}
+use Rattle.std.proofs.Common.{◌≡◌, ◌≤◌, ◌∙◌, ◌++◌, ◌∷◌, [], map, ℕ, true, false, List, Some, None, refl, sym, ap, subst, arith}
 use Rattle.std.proofs.lemmas.Bool.Decides.{nat_tests}
 use Rattle.ckd_types.specs.declared.geometry.Geometry.{Geometry}
 use Rattle.deck_run.specs.Owning.{PlansGive, IsOwn}
@@ -9,56 +9,62 @@ use Rattle.deck_text.specs.Plans.{plans_of}
 use Rattle.plain_defs.specs.Journal.{Plans}
 use Rattle.device_outside.specs.declared.volume.Volume.{Ghosts}
 use Rattle.device_outside.specs.Disk.{disk_view, new_disk}
+use Rattle.device_outside.specs.Lists as lists
+use Rattle.device_outside.specs.Lists.{is_in}
 use Rattle.device_outside.specs.Pool.{Pool, new_pool, counted_slots}
 use Rattle.device_outside.specs.Volume.{VolumeView}
 use Rattle.device_core.specs.State.{DefinedDevice, opened_device as opened_by}
-use Rattle.device_laws.specs.Places.{IsBarren, unplaced}
 use Rattle.device_core.specs.declared.device.Device.{Device}
 use Rattle.subsystem_core.specs.Devices.{number_of, numbers_of}
 use Rattle.subsystem_core.specs.declared.subsystem.Subsystem.{Subsystem}
 use Rattle.subsystem_defs.specs.Decks.{failing_of, opened_device}
 use Rattle.subsystem_defs.specs.Subsystem as defs
-use Rattle.subsystem_laws.specs.Stood.{Stood, IsMounted, AreMounted, opened}
-use Rattle.subsystem_laws.proofs.Orders.{new_mounted}
+use Rattle.subsystem_laws.specs.Stood.{opened}
+use Rattle.subsystem_laws.specs.WholeStood.{Stood, IsMounted, AreMounted, no_more}
+use Rattle.subsystem_laws.proofs.WholeOrders.{new_mounted}
+use Rattle.subsystem_laws.proofs.WholeSlots.{one_mounted}
 use Rattle.deck_run.specs.Opening.{is_open_device, numbers_in}
 use Rattle.deck_run.specs.Standing.{StandsAs, all_stood, stood_of}
-use Rattle.deck_run.proofs.Lines.{mapped_more, mounted_more}
+use Rattle.deck_run.proofs.Lines.{mapped_more}
 
 pub at_most : (d : DeviceLine) → is_open_device d ≡ true → d.cylinders ≤ 64
 at_most d is = grind (arith, nat_tests)
 
-pub device_stands : (p : Pool) (deck : DeckLines) (d : DeviceLine) (x : DefinedDevice) (volume : VolumeView (List ℕ)) (plans : Plans) (reads writes : List ℕ) →
+pub device_stands : (deck : DeckLines) (d : DeviceLine) (x : DefinedDevice) (volume : VolumeView (List ℕ)) (plans : Plans) (reads writes : List ℕ) →
     is_open_device d ≡ true → x ≡ opened_by d.number d.geometry d.cylinders plans → plans ≡ plans_of deck.programs d.number →
     volume ≡ disk_view (new_disk d.cylinders reads writes) → reads ≡ failing_of false d.number deck.faults → writes ≡ failing_of true d.number deck.faults →
-    IsMounted p (record { device = x; volume = volume }) (opened_device deck d)
-device_stands p deck d x volume plans reads writes right_line is plans_are volume_is reads_are writes_are =
+    IsMounted [] (record { device = x; a = Some volume; b = None }) (opened_device deck d)
+device_stands deck d x volume plans reads writes right_line is plans_are volume_is reads_are writes_are =
     let m = opened_device deck d in
     let right = failing_of false d.number deck.faults in
     let wrong = failing_of true d.number deck.faults in
     let planned = plans_of deck.programs d.number in
     let told : VolumeView (List ℕ) = disk_view (new_disk d.cylinders right wrong) in
-    let device : x ≡ unplaced (opened d.number d.geometry d.cylinders planned) =
+    let device : x ≡ opened d.number d.geometry d.cylinders planned =
     is ∙ ap (λ (l : Plans). opened_by d.number d.geometry d.cylinders l) plans_are in
     let view : volume ≡ told =
     volume_is ∙ ap (λ (l : List ℕ). disk_view (new_disk d.cylinders l writes)) reads_are
     ∙ ap (λ (l : List ℕ). disk_view (new_disk d.cylinders right l)) writes_are in
-    subst (λ (y : DefinedDevice). IsMounted p (record { device = y; volume = volume }) m) (sym device)
-    (subst (λ (v : VolumeView (List ℕ)). IsMounted p (record { device = unplaced (opened d.number d.geometry d.cylinders planned); volume = v }) m) (sym view)
-    (new_mounted p d.number d.geometry d.cylinders planned (record { reads = right; writes = wrong }) told (at_most d right_line)
+    subst (λ (y : DefinedDevice). IsMounted [] (record { device = y; a = Some volume; b = None }) m) (sym device)
+    (subst (λ (v : VolumeView (List ℕ)). IsMounted [] (record { device = opened d.number d.geometry d.cylinders planned; a = Some v; b = None }) m) (sym view)
+    (new_mounted d.number d.geometry d.cylinders planned (record { reads = right; writes = wrong }) told (at_most d right_line)
     (record { contents = refl; reads = refl; writes = refl; plan = refl })))
 
-none_barren : IsBarren (new_pool 0 0)
-none_barren = record { frames = refl; room = refl; slots = refl; used = refl }
+new_counted : (frames slots : ℕ) → new_pool frames slots ≡ counted_slots (new_pool frames slots)
+new_counted frames slots = refl
 
-none_counted : new_pool 0 0 ≡ counted_slots (new_pool 0 0)
-none_counted = refl
+none_in : (k : ℕ) → is_in k [] ≡ true → ⊥
+unfolding lists.is_in
+none_in k is = absurd (cc)
+
+pub none_mounted : (p : Pool) → AreMounted p [] []
+none_mounted p = no_more (λ k is. absurd (none_in k is))
 
 module _ {V : Type 0} {G : Ghosts V} where
-  pub opened_stands : (s : Subsystem V G) (run : defs.Subsystem) → s.pool.pool ≡ new_pool 0 0 → run.pool ≡ new_pool 0 0 →
-      ((p : Pool) → AreMounted p (all_stood s.devices.items) run.mounted) → StandsAs s run
-  opened_stands s run pool other mounted = record {
-    barren = subst IsBarren (sym pool) none_barren;
-    pool = other ∙ none_counted ∙ ap counted_slots (sym pool);
+  pub opened_stands : (s : Subsystem V G) (run : defs.Subsystem) (frames slots : ℕ) → s.pool.pool ≡ new_pool frames slots →
+      run.pool ≡ new_pool frames slots → ((p : Pool) → AreMounted p (all_stood s.devices.items) run.mounted) → StandsAs s run
+  opened_stands s run frames slots pool other mounted = record {
+    pool = other ∙ new_counted frames slots ∙ ap counted_slots (sym pool);
     mounted = mounted s.pool.pool;
   }
 
@@ -69,12 +75,12 @@ module _ {V : Type 0} {G : Ghosts V} where
       ∙ sym (mapped_more (λ (e : DeviceLine). e.number) ds d)
 
   pub stands_more : (p : Pool) (deck : DeckLines) (xs : List (Device V G)) (x : Device V G) (ds : List DeviceLine) (d : DeviceLine) →
-      AreMounted p (all_stood xs) (map (opened_device deck) ds) → IsMounted p (stood_of x) (opened_device deck d) →
+      AreMounted p (all_stood xs) (map (opened_device deck) ds) → IsMounted [] (stood_of x) (opened_device deck d) →
       AreMounted p (all_stood (xs ++ x ∷ [])) (map (opened_device deck) (ds ++ d ∷ []))
   stands_more p deck xs x ds d are is =
       subst (λ (l : List Stood). AreMounted p l (map (opened_device deck) (ds ++ d ∷ []))) (sym (mapped_more stood_of xs x))
       (subst (λ (l : List defs.Mounted). AreMounted p (all_stood xs ++ stood_of x ∷ []) l) (sym (mapped_more (opened_device deck) ds d))
-      (mounted_more p (all_stood xs) (map (opened_device deck) ds) (stood_of x) (opened_device deck d) are is))
+      (one_mounted are is))
 
 pub opened_own : (x : DefinedDevice) (n : ℕ) (g : Geometry) (cylinders : ℕ) (plans : Plans) → x ≡ opened_by n g cylinders plans → PlansGive plans → IsOwn x
 opened_own x n g cylinders plans is gives = subst IsOwn (sym is) (record { plans = gives; chain = tt })

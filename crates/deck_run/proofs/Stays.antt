@@ -1,7 +1,8 @@
 -- A command leaves a device its geometry, its cylinders and its plans, and the chain of the program that runs its words and what it goes by;
--- and it answers where memory is had. So does a reset. The device has one side.
-use Rattle.std.proofs.Common.{◌≡◌, ◌&&◌, ◌+◌, ℕ, zero, suc, Bool, true, false, List, Option, Some, None, is_some}
-use Rattle.std.specs.Prelude.{if◌then◌else◌, nat_le, nat_lt, ◌==◌, length}
+-- and it answers where memory is had. The acts that come to its history are those that its store has noted. So it is with a reset, which
+-- brings none. The device has one side.
+use Rattle.std.proofs.Common.{◌≡◌, ◌∙◌, ◌&&◌, ◌+◌, ◌++◌, [], ◌∷◌, ℕ, zero, suc, Bool, true, false, List, Option, Some, None, is_some, refl, sym, ap, subst}
+use Rattle.std.specs.Prelude.{if◌then◌else◌, ◌||◌, nat_le, nat_lt, ◌==◌, length, slice_index_or, slice_set}
 use Rattle.std.proofs.lemmas.Bool.{cond_both}
 use Rattle.ckd_types.specs.declared.channel.Ccw.{Ccw}
 use Rattle.ckd_types.specs.declared.channel.CommandEnd.{CommandEnd}
@@ -23,11 +24,12 @@ use Rattle.ckd_rules.specs.declared.turned.Turned.{Turned}
 use Rattle.ckd_rules.specs.declared.turned.Turned.TheVariants as turns
 use Rattle.ckd_rules.specs.Look.{look_on}
 use Rattle.ckd_rules.specs.Looked.{Looked}
-use Rattle.plain_defs.specs.History.{OpenEntry, has_used}
+use Rattle.plain_defs.specs.declared.journal.Act.{Act}
+use Rattle.plain_defs.specs.History.{History, OpenEntry, has_used}
 use Rattle.plain_defs.specs.Journal.{Plans}
 use Rattle.ckd_types.specs.Parameters.{is_bypass}
 use Rattle.track_image.specs.Image.{Image, edited_image}
-use Rattle.device_outside.specs.Interaction.{Interaction}
+use Rattle.device_outside.specs.Interaction.{Interaction, Done, and_then}
 use Rattle.device_outside.specs.declared.port.SlotGrant.{SlotGrant}
 use Rattle.device_outside.specs.declared.port.SlotGrant.TheVariants as grants
 use Rattle.device_defs.specs.declared.answers.Came.{Came}
@@ -37,8 +39,34 @@ use Rattle.device_defs.specs.declared.answers.Took.TheVariants.{Whole, Opened, U
 use Rattle.device_defs.specs.declared.usage.Usage.{Usage}
 use Rattle.device_defs.specs.declared.answers.Choice.{Choice}
 use Rattle.device_defs.specs.declared.answers.Choice.TheVariants as choices
+use Rattle.device_defs.specs.declared.answers.Did.{Did}
+use Rattle.device_defs.specs.declared.answers.Did.TheVariants.{Recovered, Destaged}
+use Rattle.device_defs.specs.Background as works
+use Rattle.device_defs.specs.Background.{
+  saved_by,
+  saving,
+  saved,
+  recovered_image,
+  recovered_bytes,
+  recover,
+  copied,
+  copy_read,
+  copies_to,
+  copy_by,
+  staged_image,
+  staged_bytes,
+  stage,
+  to_destage,
+  destage_first,
+  stage_first,
+  to_copy,
+  copy_first,
+  to_recover,
+  recover_first,
+  work,
+}
 use Rattle.device_defs.specs.Choosing as choosing
-use Rattle.device_defs.specs.Choosing.{choose, slot_by, fast_by, fast_or_through, choose_loose, choose_firm, may_be_fast, provisionally_written}
+use Rattle.device_defs.specs.Choosing.{choose, slot_by, fast_by, fast_or_through, choose_loose, choose_firm, may_be_fast}
 use Rattle.device_defs.specs.Command as commands
 use Rattle.device_defs.specs.Command.{
   Went,
@@ -65,9 +93,11 @@ use Rattle.device_defs.specs.Cutting as cutting
 use Rattle.device_defs.specs.Cutting.{origin_cut, half_cut, reset_by, path_cut, reset}
 use Rattle.device_defs.specs.Effects.{with_edit, loosened, hardened}
 use Rattle.plain_device.specs.Acted.{settled_act, paths_behind}
-use Rattle.device_defs.specs.Device.{Device, event_ended, event_begun, with_store}
+use Rattle.device_defs.specs.Device.{Device, all_acted, event_ended, event_begun, with_store}
 use Rattle.device_defs.specs.Editing as editing
 use Rattle.device_defs.specs.Editing.{effect, whole, at_once, through_by, through, write_by, written, is_given, unchosen, write_chosen, write}
+use Rattle.device_defs.specs.Events as happened
+use Rattle.device_defs.specs.Events.{background}
 use Rattle.device_defs.specs.Image as images
 use Rattle.device_defs.specs.Image.{
   is_sequential,
@@ -96,9 +126,9 @@ use Rattle.device_defs.specs.Image.{
   image,
 }
 use Rattle.device_defs.specs.Losses as losses
-use Rattle.device_defs.specs.Losses.{settled, by_frame, gives_up, kept_by_frame, stale_everywhere, call_failed}
+use Rattle.device_defs.specs.Losses.{settled, by_frame, gives_up, stale_everywhere, call_failed}
 use Rattle.device_defs.specs.Memory.{had_by}
-use Rattle.device_defs.specs.Outcomes.{Turn, ends_with, settles, checks, wrote_turn, usage_of, turned_by, gone_on}
+use Rattle.device_defs.specs.Outcomes.{Turn, ends_with, settles, checks, wrote_turn, usage_of, turned_by}
 use Rattle.device_defs.specs.Owed as owed
 use Rattle.device_defs.specs.Owed.{
   is_owed,
@@ -156,6 +186,7 @@ use Rattle.device_defs.specs.Writing.{
   write_done,
   opened as half_open,
 }
+use Rattle.deck_run.proofs.Acting.{Brought, brought_none, all_brought, ended_brought, checked_brought, reset_brought}
 use Rattle.deck_run.proofs.Surely.{Surely, s_done, s_try, s_ask, s_read, s_write, s_firm, s_before, s_if, s_then}
 
 clash : (b : Bool) → b ≡ true → b ≡ false → ⊥
@@ -238,8 +269,7 @@ module _ {F P H R : Type 0} (c : Contents F P H R) (g : Geometry) (n : ℕ) wher
   gives_is s t (Some slot) k = k
 
   framed_is : (s : Store F P H) (t : ℕ) (o : Option F) → Is s → Is (by_frame c s t o)
-  framed_is s t (Some f) k =
-      either (is_loose s t) _ _ k (either (c.modified f) s _ k k)
+  framed_is s t (Some f) k = either (is_loose s t) _ _ k (either (c.modified f) s _ k k)
   framed_is s t None k = either (half_is s.half t) s _ k (gives_is _ t (losses.slot_in c (patch_at s t)) k)
 
   settled_is : (s : Store F P H) (t : ℕ) → Is s → Is (settled c s t)
@@ -250,44 +280,54 @@ module _ {F P H R : Type 0} (c : Contents F P H R) (g : Geometry) (n : ℕ) wher
   failed : (s : Store F P H) (side : Side) (o : Option ℕ) → Is s → Keeps (call_failed c s side o)
   failed s side o k = s_if s.paired (λ e. absurd (clash s.paired e k.1.1)) (λ e. s_done k)
 
-  -- Notices, and what the port is told
+  -- Notices, and what the port is told: no act is noted
 
-  mutual_heard : (m : ℕ) (s : Store F P H) (o : Option ℕ) → ((z : Store F P H) → Is z → Keeps (hear c m z)) → Is s → Keeps (heard c (hear c m) s o)
-  mutual_heard m s None f k = s_done k
-  mutual_heard m s (Some t) f k = f _ (either (owed.is_clean c (frame_at s t)) _ s k k)
+  module _ (acts : List Act) where
+    abbrev IsWith : Store F P H → Type 0
+    IsWith s = Is s × (s.acts ≡ acts)
 
-  hears : (m : ℕ) (s : Store F P H) → Is s → Keeps (hear c m s)
-  unfolding owed.hear
-  hears zero s k = s_done k
-  hears (suc m) s k = s_ask (λ a. mutual_heard m s a (hears m) k)
+    abbrev KeepsWith : {X : Type 0} → Interaction R Image (Store F P H) X → Type 0
+    KeepsWith i = Surely i (λ s a. IsWith s)
 
-  freed : (s : Store F P H) (o : Option ℕ) → Is s → Keeps (freed_told c s o)
-  freed s None k = s_done k
-  freed s (Some slot) k = s_ask (λ _. s_done k)
+    either_with : (b : Bool) (s z : Store F P H) → IsWith s → IsWith z → IsWith (if b then s else z)
+    either_with b s z k l = cond_both b s z IsWith (λ e. k) (λ e. l)
 
-  modifieds : (t : ℕ) (s : Store F P H) → Is s → Keeps (modified_told c t s)
-  modifieds t s k = s_if ((owed_at s t).modified && is_modified c (frame_at s t)) (λ _. s_ask (λ _. s_done k)) (λ _. s_done k)
+    mutual_heard : (m : ℕ) (s : Store F P H) (o : Option ℕ) → ((z : Store F P H) → IsWith z → KeepsWith (hear c m z)) → IsWith s → KeepsWith (heard c (hear c m) s o)
+    mutual_heard m s None f k = s_done k
+    mutual_heard m s (Some t) f k = f _ (either_with (owed.is_clean c (frame_at s t)) _ s k k)
 
-  droppeds : (t : ℕ) (s : Store F P H) → Is s → Keeps (dropped_told c t s)
-  droppeds t s k = s_if (owed_at s t).dropped (λ _. s_ask (λ _. s_done k)) (λ _. s_done k)
+    hears : (m : ℕ) (s : Store F P H) → IsWith s → KeepsWith (hear c m s)
+    unfolding owed.hear
+    hears zero s k = s_done k
+    hears (suc m) s k = s_ask (λ a. mutual_heard m s a (hears m) k)
 
-  debt : (t : ℕ) (s : Store F P H) → Is s → Keeps (settles_debt c t s)
-  debt t s k =
-      s_then (modifieds t s k) (λ z _ l. s_then (droppeds t z l) (λ y _ m. s_then (freed y (owed_at y t).freed m) (λ x _ o. s_done o)))
+    freed : (s : Store F P H) (o : Option ℕ) → IsWith s → KeepsWith (freed_told c s o)
+    freed s None k = s_done k
+    freed s (Some slot) k = s_ask (λ _. s_done k)
 
-  told_track : (t : ℕ) (s : Store F P H) → Is s → Keeps (track_told c t s)
-  told_track t s k = s_if (is_owed c (owed_at s t)) (λ _. debt t s k) (λ _. s_done k)
+    modifieds : (t : ℕ) (s : Store F P H) → IsWith s → KeepsWith (modified_told c t s)
+    modifieds t s k = s_if ((owed_at s t).modified && is_modified c (frame_at s t)) (λ _. s_ask (λ _. s_done k)) (λ _. s_done k)
 
-  told_all : (m : ℕ) (s : Store F P H) → Is s → Keeps (all_told c m s)
-  unfolding owed.all_told
-  told_all zero s k = s_done k
-  told_all (suc m) s k = s_then (told_all m s k) (λ z _ l. told_track m z l)
+    droppeds : (t : ℕ) (s : Store F P H) → IsWith s → KeepsWith (dropped_told c t s)
+    droppeds t s k = s_if (owed_at s t).dropped (λ _. s_ask (λ _. s_done k)) (λ _. s_done k)
 
-  waits_told : (before : ℕ) (s : Store F P H) → Is s → Keeps (waiting_told c before s)
-  waits_told before s k = s_if (waiting_count c s == before) (λ _. s_done k) (λ _. s_ask (λ _. s_done k))
+    debt : (t : ℕ) (s : Store F P H) → IsWith s → KeepsWith (settles_debt c t s)
+    debt t s k =
+        s_then (modifieds t s k) (λ z _ l. s_then (droppeds t z l) (λ y _ m. s_then (freed y (owed_at y t).freed m) (λ x _ o. s_done o)))
 
-  ends : (before : ℕ) (s : Store F P H) → Is s → Keeps (ended c before s)
-  ends before s k = s_then (told_all (tracks_of s) s k) (λ z _ l. waits_told before z l)
+    told_track : (t : ℕ) (s : Store F P H) → IsWith s → KeepsWith (track_told c t s)
+    told_track t s k = s_if (is_owed c (owed_at s t)) (λ _. debt t s k) (λ _. s_done k)
+
+    told_all : (m : ℕ) (s : Store F P H) → IsWith s → KeepsWith (all_told c m s)
+    unfolding owed.all_told
+    told_all zero s k = s_done k
+    told_all (suc m) s k = s_then (told_all m s k) (λ z _ l. told_track m z l)
+
+    waits_told : (before : ℕ) (s : Store F P H) → IsWith s → KeepsWith (waiting_told c before s)
+    waits_told before s k = s_if (waiting_count c s == before) (λ _. s_done k) (λ _. s_ask (λ _. s_done k))
+
+    ends : (before : ℕ) (s : Store F P H) → IsWith s → KeepsWith (ended c before s)
+    ends before s k = s_then (told_all (tracks_of s) s k) (λ z _ l. waits_told before z l)
 
   -- Images
 
@@ -314,7 +354,8 @@ module _ {F P H R : Type 0} (c : Contents F P H R) (g : Geometry) (n : ℕ) wher
   ahead_is u s t k = either (is_sequential u.mode) _ s (queued_is u.last (queued u.last s (t + 1)) (t + 2) (queued_is u.last s (t + 1) k)) k
 
   fills : (s : Store F P H) (t : ℕ) (i : Image) → Is s → Keeps (filled c s t i)
-  fills s t i k = s_if (is_some (patch_at s t)) (λ _. s_ask (λ _. s_done k)) (λ _. s_done k)
+  fills s t i k =
+      s_if (is_some (patch_at s t)) (λ _. s_ask (λ _. s_done k)) (λ _. s_done k)
 
   granted_had : (s : Store F P H) (t : ℕ) (i : Image) (given : Bool) → Is s → Had (granted c s t i given)
   granted_had s t i given k = s_if given (λ _. s_then (fills s t i k) (λ z _ l. s_done (l, tt))) (λ _. s_done (k, tt))
@@ -458,6 +499,81 @@ module _ {F P H R : Type 0} (c : Contents F P H R) (g : Geometry) (n : ℕ) wher
   unfolding editing.write
   writes s u first t i e k = s_try (s_then (chosen s u t k) (λ z choice l. chosen_had u first t i e z choice l))
 
+  -- Work in the background
+
+  saveds_by : (t : ℕ) (i : Image) (d : Did) (fault : Option Side) (was : Bool) (failed : Option Side) (s : Store F P H) (took : Took) → Is s →
+      Keeps (saved_by c t i d fault was failed s took)
+  saveds_by t i d fault was failed s Whole k = s_then (dones s t i false k) (λ z _ l. s_done l)
+  saveds_by t i d fault was failed s Opened k = s_then (half_opens s t i OfBackground was k) (λ z _ l. s_done l)
+  saveds_by t i d fault was failed s Unwritten k = s_done k
+
+  savings : (s : Store F P H) (t : ℕ) (i : Image) (d : Did) (fault : Option Side) → Is s → Keeps (saving c s t i d fault)
+  savings s t i d fault k =
+      s_then (first_firm s t k)
+      (λ z was l. s_then (firsts z t (c.bytes i) l) (λ y w m. saveds_by t i d fault was w.fault y w.took m))
+
+  saves : (s : Store F P H) (t : ℕ) (i : Image) (d : Did) (fault : Option Side) → Is s → Had (saved c s t i d fault)
+  saves s t i d fault k = s_try (s_then (savings s t i d fault k) (λ z e l. s_done (l, tt)))
+
+  recovers_image : (t : ℕ) (s : Store F P H) (got : Got R) (o : Option Image) → Is s → Had (recovered_image c t s got o)
+  recovers_image t s got None k = s_done (k, tt)
+  recovers_image t s got (Some i) k = saves s t i (Recovered t) got.fault k
+
+  recovers_bytes : (t : ℕ) (s : Store F P H) (got : Got R) (o : Option R) → Is s → Had (recovered_bytes c t s got o)
+  recovers_bytes t s got None k = s_done (k, tt)
+  recovers_bytes t s got (Some r) k = s_try (recovers_image t s got (image_of c s t r) k)
+
+  recovers : (s : Store F P H) (t : ℕ) (o : Option F) → Is s → Had (recover c s t o)
+  recovers s t (Some f) k = saves s t (losses.framed_image c s t (Some f)) (Recovered t) None k
+  recovers s t None k = s_then (got_level s t k) (λ z got l. recovers_bytes t z got got.bytes l)
+
+  copies : (t : ℕ) (side : Side) (s : Store F P H) (ok : Bool) → Is s → Had (copied c t side s ok)
+  copies t A s ok k = s_if ok (λ _. s_done (k, tt)) (λ _. s_then (failed s A None k) (λ z _ l. s_done (l, tt)))
+  copies t B s ok k = s_if ok (λ _. s_done (k, tt)) (λ _. s_then (failed s B None k) (λ z _ l. s_done (l, tt)))
+
+  copies_read : (t : ℕ) (side : Side) (s : Store F P H) (o : Option R) → Is s → Had (copy_read c t side s o)
+  copies_read t side s None k = s_then (failed s (works.other side) None k) (λ z _ l. s_done (l, tt))
+  copies_read t side s (Some r) k = s_write (λ ok. copies t side (write_counted s ok) ok k)
+
+  copies_by : (s : Store F P H) (t : ℕ) (o : Option Side) → Is s → Had (copy_by c s t o)
+  copies_by s t None k = s_done (k, tt)
+  copies_by s t (Some side) k = s_read (λ r. copies_read t side (read_counted s (is_some r)) r k)
+
+  stages_image : (t : ℕ) (s : Store F P H) (got : Got R) (o : Option Image) → Is s → Had (staged_image c t s got o)
+  stages_image t s got None k = s_ask (λ _. s_done (k, tt))
+  stages_image t s got (Some i) k = s_then (fills s t i k) (λ z _ l. s_done (l, tt))
+
+  stages_bytes : (t : ℕ) (s : Store F P H) (got : Got R) (o : Option R) → Is s → Had (staged_bytes c t s got o)
+  stages_bytes t s got None k = s_ask (λ _. s_done (k, tt))
+  stages_bytes t s got (Some r) k = s_try (stages_image t s got (image_of c s t r) k)
+
+  stages_given : (s : Store F P H) (t : ℕ) (given : Bool) → Is s → Had (works.granted c s t given)
+  stages_given s t given k = s_if given (λ _. s_then (got_level s t k) (λ z got l. stages_bytes t z got got.bytes l)) (λ _. s_done (k, tt))
+
+  one_staged : (s : Store F P H) (t : ℕ) → Is s → Had (stage c s t)
+  one_staged s t k =
+      s_if (is_some (frame_at s t) || is_lost s t) (λ _. s_done (k, tt)) (λ _. s_try (s_ask (λ given. stages_given s t given k)))
+
+  destages_first : (s : Store F P H) (o : Option ℕ) → Is s → Had (destage_first c s o)
+  destages_first s None k = s_done (k, tt)
+  destages_first s (Some t) k = saves s t (losses.framed_image c s t (frame_at s t)) (Destaged t) None k
+
+  stages_first : (s : Store F P H) (ts : List ℕ) → Is s → Had (stage_first c s ts)
+  stages_first s [] k = destages_first s (to_destage c s) k
+  stages_first s (t ∷ ts) k = one_staged (record s { queue = ts }) t k
+
+  copies_first : (s : Store F P H) (o : Option ℕ) → Is s → Had (copy_first c s o)
+  copies_first s None k = stages_first s s.queue k
+  copies_first s (Some t) k = copies_by s t (copies_to s t) k
+
+  recovers_first : (s : Store F P H) (o : Option ℕ) → Is s → Had (recover_first c s o)
+  recovers_first s None k = copies_first s (to_copy s) k
+  recovers_first s (Some t) k = recovers s t (frame_at s t) k
+
+  does_work : (s : Store F P H) → Is s → Had (work c s)
+  unfolding works.work
+  does_work s k = recovers_first s (to_recover c s) k
+
   -- From track to track
 
   module _ (ccws : List Ccw) (fixed : Fixed) where
@@ -506,71 +622,109 @@ module _ {F P H R : Type 0} (c : Contents F P H R) (g : Geometry) (n : ℕ) wher
 
     -- Devices
 
-    module _ (plans : Plans) where
-      pub record Stays (d : Device F P H) : Type 0 where
+    module _ (plans : Plans) (before : History) where
+      -- and these acts came to its history
+      pub record Stays (noted : List Act) (d : Device F P H) : Type 0 where
         pub is : Is d.store
         pub plans_are : d.plans ≡ plans
         pub chain : HasOf ccws fixed d.chain
+        pub acts : Brought before d.history noted
+
+      abbrev pub IsNoted : Device F P H → Type 0
+      IsNoted d = Stays d.store.acts d
 
       abbrev Leaves : {X : Type 0} → Interaction R Image (Device F P H) (Option X) → Type 0
-      Leaves i = Surely i (λ d a. Stays d × Answers a)
+      Leaves i = Surely i (λ d a. IsNoted d × Answers a)
 
-      gone : (d : Device F P H) (chain : ChainState) (e : CommandEnd) → Stays d → IsOf ccws fixed chain → Stays (gone_on d chain e)
-      gone d chain e k of =
-          cond_both e.over _ _ Stays (λ _. record { is = k.is; plans_are = k.plans_are; chain = tt })
-          (λ _. record { is = k.is; plans_are = k.plans_are; chain = of })
+      -- nothing came yet
+      abbrev Begins : Device F P H → Type 0
+      Begins d = (d.history ≡ before) × (d.store.acts ≡ [])
 
       turns_by : (d : Device F P H) (path : ℕ) (chain : ChainState) (came : Came) → Is d.store → d.plans ≡ plans → IsOf ccws fixed chain →
-          Stays (turned_by d path chain came)
-      turns_by d path chain (Ends e) is same of =
-          cond_both e.over _ _ Stays (λ _. record { is = is; plans_are = same; chain = tt }) (λ _. record { is = is; plans_are = same; chain = of })
-      turns_by d path chain (Checks e) is same of = record { is = is; plans_are = same; chain = tt }
-      turns_by d path chain (HalfOpen t) is same of = record { is = is; plans_are = same; chain = of }
+          Brought before d.history d.store.acts → IsNoted (turned_by d path chain came)
+      turns_by d path chain (Ends e) is same of came =
+          cond_both e.over _ _ IsNoted
+          (λ _. record { is = is; plans_are = same; chain = tt; acts = ended_brought before d.history d.store.acts e came })
+          (λ _. record { is = is; plans_are = same; chain = of; acts = ended_brought before d.history d.store.acts e came })
+      turns_by d path chain (Checks e) is same of came =
+          record { is = is; plans_are = same; chain = tt; acts = checked_brought before d.history d.store.acts e came }
+      turns_by d path chain (HalfOpen t) is same of came = record { is = is; plans_are = same; chain = of; acts = came }
 
-      outs : (d : Device F P H) (path : ℕ) (turn : Turn) → Is d.store → d.plans ≡ plans → IsOf ccws fixed turn.chain → Leaves (came_out c d path turn)
-      outs d path turn is same of = s_done (turns_by d path turn.chain turn.came is same of, tt)
+      outs : (d : Device F P H) (path : ℕ) (turn : Turn) → Is d.store → d.plans ≡ plans → IsOf ccws fixed turn.chain →
+          Brought before d.history d.store.acts → Leaves (came_out c d path turn)
+      outs d path turn is same of came = s_done (turns_by d path turn.chain turn.came is same of came, tt)
+
+      first_out : (d : Device F P H) (path : ℕ) (turn : Turn) → Is d.store → d.plans ≡ plans → IsOf ccws fixed turn.chain → Begins d →
+          Leaves (came_out c d path turn)
+      first_out d path turn is same of begins = outs d path turn is same of (brought_none before d.history d.store.acts begins.0 begins.1)
 
       tracks : (d : Device F P H) (path : ℕ) (chain : ChainState) (s : Store F P H) (o : Option Turn) → d.plans ≡ plans → Is s → TurnOf ccws fixed o →
-          Leaves (on_tracks c d path chain s o)
-      tracks d path chain s None same is of = absurd of
-      tracks d path chain s (Some turn) same is of = outs (with_store d s) path turn is same of
+          Begins d → Leaves (on_tracks c d path chain s o)
+      tracks d path chain s None same is of begins = absurd of
+      tracks d path chain s (Some turn) same is of begins =
+          outs (with_store d s) path turn is same of (all_brought before d.history s.acts begins.0)
 
-      answers : (d : Device F P H) (path : ℕ) (chain : ChainState) (p : Progress) → Is d.store → d.plans ≡ plans → IsOf ccws fixed chain →
+      answers : (d : Device F P H) (path : ℕ) (chain : ChainState) (p : Progress) → Is d.store → d.plans ≡ plans → IsOf ccws fixed chain → Begins d →
           Leaves (answered_by c d path chain p)
-      answers d path chain (progresses.Ended e) is same of = outs d path (ends_with chain e) is same of
-      answers d path chain (progresses.Local act) is same of =
-          outs (record d { paths = paths_behind d.paths path act }) path (settles chain (settled_act d.store.geometry d.paths path act)) is same of
-      answers d path chain (progresses.Need q) is same of = outs d path (checks chain Equipment) is same of
-      answers d path chain (progresses.Write q e) is same of = outs d path (checks chain Equipment) is same of
+      answers d path chain (progresses.Ended e) is same of begins = first_out d path (ends_with chain e) is same of begins
+      answers d path chain (progresses.Local act) is same of begins =
+          first_out (record d { paths = paths_behind d.paths path act }) path (settles chain (settled_act d.store.geometry d.paths path act)) is same of begins
+      answers d path chain (progresses.Need q) is same of begins = first_out d path (checks chain Equipment) is same of begins
+      answers d path chain (progresses.Write q e) is same of begins = first_out d path (checks chain Equipment) is same of begins
 
-      at_need : (d : Device F P H) (path : ℕ) (chain : ChainState) (o : Option ℕ) → Is d.store → d.plans ≡ plans → IsOf ccws fixed chain →
+      at_need : (d : Device F P H) (path : ℕ) (chain : ChainState) (o : Option ℕ) → Is d.store → d.plans ≡ plans → IsOf ccws fixed chain → Begins d →
           Leaves (command_at c d path chain o)
-      at_need d path chain (Some t) is same of =
-          s_then (follows (tracks_of d.store) t chain t d.store of is) (λ s o l. tracks d path chain s o same l.0 l.1)
-      at_need d path chain None is same of =
-          s_try (answers d path (stepped chain None).chain (stepped chain None).progress is same (stepped_alone ccws fixed chain of))
+      at_need d path chain (Some t) is same of begins =
+          s_then (follows (tracks_of d.store) t chain t d.store of is) (λ s o l. tracks d path chain s o same l.0 l.1 begins)
+      at_need d path chain None is same of begins =
+          s_try (answers d path (stepped chain None).chain (stepped chain None).progress is same (stepped_alone ccws fixed chain of) begins)
 
-      by_chain : (d : Device F P H) (o : OpenEntry) (chain : ChainState) → Is d.store → d.plans ≡ plans → IsOf ccws fixed chain →
+      by_chain : (d : Device F P H) (o : OpenEntry) (chain : ChainState) → Is d.store → d.plans ≡ plans → IsOf ccws fixed chain → Begins d →
           Leaves (command_by c d (Some o) (Some chain))
-      by_chain d o chain is same of =
-          s_if (has_loss o.acts) (λ _. outs d o.path (checks chain Equipment) is same of) (λ _. at_need d o.path chain (need_of chain) is same of)
+      by_chain d o chain is same of begins =
+          s_if (has_loss o.acts) (λ _. first_out d o.path (checks chain Equipment) is same of begins)
+          (λ _. at_need d o.path chain (need_of chain) is same of begins)
 
       by_running : (d : Device F P H) (r : Option OpenEntry) (o : Option ChainState) → Answers r → Answers o → Is d.store → d.plans ≡ plans →
-          HasOf ccws fixed o → Leaves (command_by c d r o)
-      by_running d None o runs has is same of = absurd runs
-      by_running d (Some r) None runs has is same of = absurd has
-      by_running d (Some r) (Some chain) runs has is same of = by_chain d r chain is same of
+          HasOf ccws fixed o → Begins d → Leaves (command_by c d r o)
+      by_running d None o runs has is same of begins = absurd runs
+      by_running d (Some r) None runs has is same of begins = absurd has
+      by_running d (Some r) (Some chain) runs has is same of begins = by_chain d r chain is same of begins
 
-      ended_by : {X : Type 0} (old d : Device F P H) (a : Option X) → Stays d → Answers a → Leaves (event_ended c old d a)
-      ended_by old d a k h = s_then (ends _ d.store k.is) (λ z _ l. s_done (record { is = l; plans_are = k.plans_are; chain = k.chain }, h))
+      ended_by : {X : Type 0} (old d : Device F P H) (a : Option X) → IsNoted d → Answers a → Leaves (event_ended c old d a)
+      ended_by old d a k h =
+          s_then (ends d.store.acts _ d.store (k.is, refl)) (λ z _ l. s_done (
+            record {
+              is = l.0;
+              plans_are = k.plans_are;
+              chain = k.chain;
+              acts = subst (λ (acts : List Act). Brought before d.history acts) (sym l.1) k.acts;
+            },
+            h,
+          ))
 
       -- a command of the program that runs
-      pub command_stays : (d : Device F P H) → Answers d.history.running → Answers d.chain → Stays d → Leaves (command c d)
+      pub command_stays : (d : Device F P H) → Answers d.history.running → Answers d.chain → Is d.store → d.plans ≡ plans → HasOf ccws fixed d.chain →
+          d.history ≡ before → Leaves (command c d)
       unfolding commands.command
-      command_stays d runs has k =
-          s_try (s_then (s_then (hears 960 (event_begun d).store k.is)
-          (λ s _ l. by_running (record (event_begun d) { store = s }) d.history.running d.chain runs has l k.plans_are k.chain))
+      command_stays d runs has is same of at =
+          s_try (s_then (s_then (hears [] 960 (event_begun d).store (is, refl))
+          (λ s _ l. by_running (record (event_begun d) { store = s }) d.history.running d.chain runs has l.0 same of (at, l.1)))
           (λ y a l. ended_by d y a l.0 l.1))
+
+      -- work in the background
+      worked_on : (d : Device F P H) → Is d.store → d.plans ≡ plans → HasOf ccws fixed d.chain → d.history ≡ before →
+          Leaves (and_then (work c d.store) (λ z a. Done (with_store d z) a))
+      worked_on d is same of at = s_then (does_work d.store is) (λ z a m. left_so z a m.0 m.1) where
+        left_so : (z : Store F P H) (a : Option Did) → Is z → Answers a → Leaves (Done (with_store d z) a)
+        left_so z a k h = s_done (record { is = k; plans_are = same; chain = of; acts = all_brought before d.history z.acts at }, h)
+
+      pub background_stays : (d : Device F P H) → Is d.store → d.plans ≡ plans → HasOf ccws fixed d.chain → d.history ≡ before → Leaves (background c d)
+      unfolding happened.background
+      background_stays d is same of at =
+          s_then (s_then (hears [] 960 (event_begun d).store (is, refl))
+          (λ s _ l. worked_on (record (event_begun d) { store = s }) l.0 same of at))
+          (λ y a l. ended_by d y a l.0 l.1)
 
       -- a reset
       halves : (s : Store F P H) (o : Option (HalfWrite H)) → Is s → Keeps (half_cut c s o)
@@ -581,13 +735,17 @@ module _ {F P H R : Type 0} (c : Contents F P H R) (g : Geometry) (n : ℕ) wher
         origins (OfCut bypass) = s_done k
         origins OfBackground = s_done k
 
-      resets_by : (d : Device F P H) (path : ℕ) (r : Option OpenEntry) → Stays d → Surely (reset_by c d path r) (λ y _. Stays y)
+      resets_by : (d : Device F P H) (path : ℕ) (r : Option OpenEntry) → Stays [] d → Surely (reset_by c d path r) (λ y _. Stays [] y)
       resets_by d path (Some o) k =
-          s_if (o.path == path) (λ _. s_then (halves d.store d.store.half k.is) (λ s _ l. s_done (record { is = l; plans_are = k.plans_are; chain = tt })))
-          (λ _. s_done (record { is = k.is; plans_are = k.plans_are; chain = k.chain }))
+          s_if (o.path == path)
+          (λ _. s_then (halves d.store d.store.half k.is)
+          (λ s _ l. s_done (record { is = l; plans_are = k.plans_are; chain = tt; acts = reset_brought before d.history path _ k.acts })))
+          (λ _. s_done (record { is = k.is; plans_are = k.plans_are; chain = k.chain; acts = reset_brought before d.history path 0 k.acts }))
       resets_by d path None k =
-          s_if (has_used d.history path) (λ _. s_done (record { is = k.is; plans_are = k.plans_are; chain = k.chain })) (λ _. s_done k)
+          s_if (has_used d.history path)
+          (λ _. s_done (record { is = k.is; plans_are = k.plans_are; chain = k.chain; acts = reset_brought before d.history path 0 k.acts }))
+          (λ _. s_done k)
 
-      pub reset_stays : (d : Device F P H) (path : ℕ) → Stays d → Surely (reset c d path) (λ y _. Stays y)
+      pub reset_stays : (d : Device F P H) (path : ℕ) → Stays [] d → Surely (reset c d path) (λ y _. Stays [] y)
       unfolding cutting.reset
       reset_stays d path k = resets_by d path d.history.running k

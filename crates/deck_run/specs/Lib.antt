@@ -1,5 +1,10 @@
 pub mod Opening
 pub mod Owning
 pub mod Standing
+pub mod Counting
+pub mod Loosening
+pub mod Recording
+pub mod Passing
+pub mod Ending
 pub mod Going
 pub mod Later

@@ -24,15 +24,13 @@ are_open ds = are_open_behind None ds
 abbrev pub numbers_in : List DeviceLine → List ℕ
 numbers_in ds = map (λ (d : DeviceLine). d.number) ds
 
--- no track has a place for a frame or a patch yet, so the pool of a deck has neither
-abbrev pub uncached : DeckLines → DeckLines
-uncached deck = record deck { frames = 0; slots = 0 }
-
--- START, STEP, RUN and RESET of a device that is there
+-- START, STEP, RUN, BACK, SETTLE and RESET of a device that is there
 abbrev pub is_open_line : List ℕ → EventLine → Bool
 is_open_line ns (lines.Start path d) = is_in d ns
 is_open_line ns (lines.Step d) = is_in d ns
 is_open_line ns (lines.Run d) = is_in d ns
+is_open_line ns (lines.Back d) = is_in d ns
+is_open_line ns (lines.Settle d) = is_in d ns
 is_open_line ns (lines.Reset path d) = is_in d ns
 is_open_line ns _ = false
 

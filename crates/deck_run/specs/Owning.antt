@@ -40,5 +40,6 @@ module _ {V : Type 0} {G : Ghosts V} where
 abbrev pub IsOpenOn : ℕ → Event → Type 0
 IsOpenOn n (events.Start path d) = (d ≡ n) × ((1 ≤ path) × (path ≤ 4))
 IsOpenOn n (events.Step d) = d ≡ n
+IsOpenOn n (events.Back d) = d ≡ n
 IsOpenOn n (events.Reset path d) = d ≡ n
 IsOpenOn n _ = ⊥

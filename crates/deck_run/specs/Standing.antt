@@ -1,24 +1,22 @@
 -- A subsystem of the code beside that of a run.
-use Rattle.std.specs.Prelude.{◌≡◌, List, map}
+use Rattle.std.specs.Prelude.{◌≡◌, List, Some, None, map}
 use Rattle.device_outside.specs.declared.volume.Volume.{Ghosts}
 use Rattle.device_outside.specs.Pool.{counted_slots}
 use Rattle.device_core.specs.declared.device.Device.{Device}
 use Rattle.device_core.specs.State.{device_of}
-use Rattle.device_laws.specs.Places.{IsBarren}
 use Rattle.subsystem_core.specs.declared.subsystem.Subsystem.{Subsystem}
 use Rattle.subsystem_defs.specs.Subsystem as defs
-use Rattle.subsystem_laws.specs.Stood.{Stood, AreMounted}
+use Rattle.subsystem_laws.specs.WholeStood.{Stood, AreMounted}
 
 module _ {V : Type 0} {G : Ghosts V} where
-  -- a device, with what its volume tells
+  -- a device, with what its one volume tells
   abbrev pub stood_of : Device V G → Stood
-  stood_of x = record { device = device_of x; volume = G.view x.store.volume }
+  stood_of x = record { device = device_of x; a = Some (G.view x.store.volume); b = None }
 
   abbrev pub all_stood : List (Device V G) → List Stood
   all_stood ds = map stood_of ds
 
-  -- its pool gives no frame and no slot, and each device stands as the run has it
+  -- its pool is that of the run but for the numbers of its slots, and each device stands as the run has it
   pub record StandsAs (s : Subsystem V G) (run : defs.Subsystem) : Type 0 where
-    pub barren : IsBarren s.pool.pool
     pub pool : run.pool ≡ counted_slots s.pool.pool
     pub mounted : AreMounted s.pool.pool (all_stood s.devices.items) run.mounted

@@ -8,6 +8,7 @@ ghost use Rattle.subsystem_core.specs.Places.{may_come};
 ghost use Rattle.subsystem_defs.specs.Happening.{happens};
 ghost use Rattle.subsystem_defs.specs.Subsystem as runs;
 ghost use Rattle.deck_run.specs.Owning.{AreOwn, ChainsStand, IsOpenOn};
+ghost use Rattle.deck_run.specs.Recording.{IsTold};
 ghost use Rattle.deck_run.specs.Standing.{StandsAs};
 
 use ckd_types::{CommandEnd, DeviceNo, NoMemory};
@@ -103,6 +104,7 @@ pub(crate) fn do_event<V: Volume>(
     requires own { AreOwn sub.old.devices.items }
     ensures numbers { numbers_of sub.new.devices.items ≡ numbers_of sub.old.devices.items }
     ensures own { OnOk result (AreOwn sub.new.devices.items) }
+    ensures told { (run : runs.Subsystem) → StandsAs sub.old run → OnOk result (IsTold sub.old sub.new e d run) }
     ensures happened { (run : runs.Subsystem) → StandsAs sub.old run → IfOk result (λ end. ((happens run e).end ≡ end) × StandsAs sub.new (happens run e).behind) }
 {
     chains_stand(sub.devices());

@@ -73,7 +73,8 @@ fn is_open_line(deck: &Deck, line: EventLine) -> bool
 {
     match line {
         EventLine::Start(_, d) | EventLine::Reset(_, d) => is_there(deck, d),
-        EventLine::Step(d) | EventLine::Run(d) => is_there(deck, d),
+        EventLine::Settle(d) => is_there(deck, d),
+        EventLine::Step(d) | EventLine::Run(d) | EventLine::Back(d) => is_there(deck, d),
         _ => false,
     }
 }

@@ -1,15 +1,18 @@
 //! The run of a deck over a subsystem of devices in memory, and the lines of what happens in it.
 #![tactic(auto)]
 
+mod close;
 mod event;
 mod giving;
 mod later;
 mod line;
+mod loosed;
 mod open;
+mod pass;
 mod run;
 #[cfg(test)]
 mod tests;
 
 pub use later::first_later;
 pub use open::{has_open_devices, open_deck};
-pub use run::run_deck;
+pub use run::{FinishedRun, run_deck};

@@ -1,45 +1,168 @@
-ghost use Rattle.std.specs.Prelude.{◌≡◌, OnOk, true};
+ghost use Rattle.std.specs.Prelude.{◌≡◌, ◌++◌, IfOk, OnOk, true};
 ghost use Rattle.device_outside.specs.Lists.{is_in};
+ghost use Rattle.report_text.specs.declared.answers.BackAnswer.TheVariants as none;
+ghost use Rattle.report_text.specs.declared.event.Happened.TheVariants as did;
+ghost use Rattle.run_report.specs.Answers.{start_answer};
+ghost use Rattle.run_report.specs.Events.{running_in, work_told};
+ghost use Rattle.run_report.specs.OneDevice.{lines_by};
 ghost use Rattle.subsystem_core.specs.Devices.{numbers_of};
 ghost use Rattle.subsystem_defs.specs.Happening.{happens};
-ghost use Rattle.subsystem_defs.specs.Lines.{asked_by, is_busy, last_behind, line_logged, run_logged};
+ghost use Rattle.subsystem_defs.specs.Lines.{asked_by, backs, is_busy, is_settled, last_behind, line_logged, run_logged, steps, stops};
 ghost use Rattle.subsystem_defs.specs.Subsystem as runs;
+ghost use Rattle.subsystem_defs.specs.Subsystem.{devices_of};
 ghost use Rattle.deck_run.specs.Opening.{is_open_line};
-ghost use Rattle.deck_run.specs.Owning.{AreOwn, IsOpenOn};
+ghost use Rattle.deck_run.specs.Owning.{AreOwn};
+ghost use Rattle.deck_run.specs.Recording.{all_lines, lines_when};
 ghost use Rattle.deck_run.specs.Standing.{StandsAs};
 
-use crate::event::do_event;
+use crate::pass::{behind_first, pass};
 use ckd_types::{DeviceNo, NoMemory, PathNo};
 use deck_plan::EventLine;
+use device_defs::Did;
 use device_outside::Volume;
+use plain_defs::Item;
+use report_text::{BackAnswer, Happened, Loosed, ReportLine, RunRecord};
+use run_report::{Calls, Gained, record_event, start_answer, work_told};
 use std::alloc::Global;
 use subsystem_core::Subsystem;
-use subsystem_defs::Event;
+use subsystem_defs::{Event, EventEnd};
 
 /// As many events as the rest of a program takes at most.
 const MOST_STEPS: u32 = 8193;
 
-/// One event.
-fn once<V: Volume>(
+/// As many pieces of work in the background as there are at most.
+const MOST_BACKS: u32 = 2946;
+
+/// The lines of an event of one device.
+fn record_passed(
+    report: &mut RunRecord,
+    d: DeviceNo,
+    happened: Happened,
+    acts: &[Loosed],
+    items: &[Item],
+    calls: Calls,
+) -> Result<(), NoMemory>
+    ensures { OnOk result (report.new ≡ report.old ++ lines_by d happened acts.now calls.reads calls.writes items.now) }
+{
+    let gained = Gained { acts, items };
+    record_event(report, d, happened, &gained, calls)
+}
+
+/// One step. Room for its lines is made before it is done, as before every event.
+fn step<V: Volume>(
     alloc: Global,
     sub: &mut Subsystem<V>,
+    report: &mut RunRecord,
     d: DeviceNo,
-    e: Event,
+    idle: Happened,
 ) -> Result<(), NoMemory>
     requires here { is_in d (numbers_of sub.old.devices.items) ≡ true }
-    requires on { IsOpenOn d e }
     requires own { AreOwn sub.old.devices.items }
     ensures numbers { numbers_of sub.new.devices.items ≡ numbers_of sub.old.devices.items }
     ensures own { OnOk result (AreOwn sub.new.devices.items) }
-    ensures stands { (run : runs.Subsystem) → StandsAs sub.old run → OnOk result (StandsAs sub.new (happens run e).behind) }
+    ensures stands { (run : runs.Subsystem) → StandsAs sub.old run → OnOk result (StandsAs sub.new (happens run (Event.Step d)).behind) }
+    ensures lines { (run : runs.Subsystem) → StandsAs sub.old run → OnOk result (report.new ≡ report.old ++ lines_when run (Event.Step d) (work_told d (running_in (devices_of run) d) idle (happens run (Event.Step d)).end)) }
 {
-    let _end = do_event(alloc, sub, d, e)?;
+    report.make_room()?;
+    let passed = pass(alloc, sub, d, Event::Step(d))?;
+    let items = behind_first(sub.device(d).journal(), passed.items);
+    let end = passed.end;
+    let happened = work_told(d, &passed.running, idle, end);
+    record_passed(report, d, happened, &passed.acts, items, passed.calls)?;
+    Ok(())
+}
+
+fn stops(did: Did) -> bool
+    ensures { result ≡ stops did }
+{
+    match did {
+        Did::Nothing | Did::Fault(_) | Did::BadBytes(_) => true,
+        _ => false,
+    }
+}
+
+fn is_settled(end: &EventEnd) -> bool
+    ensures { result ≡ is_settled end.now }
+{
+    match end {
+        EventEnd::Back(did) => stops(*did),
+        _ => false,
+    }
+}
+
+/// One piece of work in the background, and whether nothing more is done by itself.
+fn work<V: Volume>(
+    alloc: Global,
+    sub: &mut Subsystem<V>,
+    report: &mut RunRecord,
+    d: DeviceNo,
+) -> Result<bool, NoMemory>
+    requires here { is_in d (numbers_of sub.old.devices.items) ≡ true }
+    requires own { AreOwn sub.old.devices.items }
+    ensures numbers { numbers_of sub.new.devices.items ≡ numbers_of sub.old.devices.items }
+    ensures own { OnOk result (AreOwn sub.new.devices.items) }
+    ensures stands { (run : runs.Subsystem) → StandsAs sub.old run → OnOk result (StandsAs sub.new (happens run (Event.Back d)).behind) }
+    ensures lines { (run : runs.Subsystem) → StandsAs sub.old run → OnOk result (report.new ≡ report.old ++ lines_when run (Event.Back d) (work_told d (running_in (devices_of run) d) (did.Back d none.Nothing) (happens run (Event.Back d)).end)) }
+    ensures settled { (run : runs.Subsystem) → StandsAs sub.old run → IfOk result (λ settled. settled ≡ is_settled (happens run (Event.Back d)).end) }
+{
+    report.make_room()?;
+    let passed = pass(alloc, sub, d, Event::Back(d))?;
+    let items = behind_first(sub.device(d).journal(), passed.items);
+    let end = passed.end;
+    let settled = is_settled(&end);
+    let idle = Happened::Back(d, BackAnswer::Nothing);
+    let happened = work_told(d, &passed.running, idle, end);
+    record_passed(report, d, happened, &passed.acts, items, passed.calls)?;
+    Ok(settled)
+}
+
+fn back<V: Volume>(
+    alloc: Global,
+    sub: &mut Subsystem<V>,
+    report: &mut RunRecord,
+    d: DeviceNo,
+) -> Result<(), NoMemory>
+    requires here { is_in d (numbers_of sub.old.devices.items) ≡ true }
+    requires own { AreOwn sub.old.devices.items }
+    ensures numbers { numbers_of sub.new.devices.items ≡ numbers_of sub.old.devices.items }
+    ensures own { OnOk result (AreOwn sub.new.devices.items) }
+    ensures stands { (run : runs.Subsystem) → StandsAs sub.old run → OnOk result (StandsAs sub.new (happens run (Event.Back d)).behind) }
+    ensures lines { (run : runs.Subsystem) → StandsAs sub.old run → OnOk result (report.new ≡ report.old ++ lines_when run (Event.Back d) (work_told d (running_in (devices_of run) d) (did.Back d none.Nothing) (happens run (Event.Back d)).end)) }
+{
+    let _settled = work(alloc, sub, report, d)?;
+    Ok(())
+}
+
+/// All of the work in the background.
+fn settle<V: Volume>(
+    alloc: Global,
+    sub: &mut Subsystem<V>,
+    report: &mut RunRecord,
+    d: DeviceNo,
+) -> Result<(), NoMemory>
+    requires here { is_in d (numbers_of sub.old.devices.items) ≡ true }
+    requires own { AreOwn sub.old.devices.items }
+    ensures numbers { numbers_of sub.new.devices.items ≡ numbers_of sub.old.devices.items }
+    ensures own { OnOk result (AreOwn sub.new.devices.items) }
+    ensures stands { (run : runs.Subsystem) → StandsAs sub.old run → OnOk result (StandsAs sub.new (last_behind run (backs 2946 d run))) }
+    ensures lines { (run : runs.Subsystem) → StandsAs sub.old run → OnOk result (report.new ≡ report.old ++ all_lines (backs 2946 d run)) }
+{
+    for _turn in 0..MOST_BACKS {
+        let settled = match work(alloc, sub, report, d) {
+            Err(NoMemory) => return Err(NoMemory),
+            Ok(settled) => settled,
+        };
+        if settled {
+            return Ok(());
+        }
+    }
     Ok(())
 }
 
 fn start<V: Volume>(
     alloc: Global,
     sub: &mut Subsystem<V>,
+    report: &mut RunRecord,
     path: PathNo,
     d: DeviceNo,
 ) -> Result<(), NoMemory>
@@ -48,9 +171,37 @@ fn start<V: Volume>(
     ensures numbers { numbers_of sub.new.devices.items ≡ numbers_of sub.old.devices.items }
     ensures own { OnOk result (AreOwn sub.new.devices.items) }
     ensures stands { (run : runs.Subsystem) → StandsAs sub.old run → OnOk result (StandsAs sub.new (happens run (Event.Start path d)).behind) }
+    ensures lines { (run : runs.Subsystem) → StandsAs sub.old run → OnOk result (report.new ≡ report.old ++ lines_when run (Event.Start path d) (did.Started path d (start_answer (happens run (Event.Start path d)).end))) }
 {
     let _n = path.get();
-    once(alloc, sub, d, Event::Start(path, d))
+    report.make_room()?;
+    let passed = pass(alloc, sub, d, Event::Start(path, d))?;
+    let items = behind_first(sub.device(d).journal(), passed.items);
+    let started = Happened::Started(path, d, start_answer(&passed.end));
+    record_passed(report, d, started, &passed.acts, items, passed.calls)?;
+    Ok(())
+}
+
+fn reset<V: Volume>(
+    alloc: Global,
+    sub: &mut Subsystem<V>,
+    report: &mut RunRecord,
+    path: PathNo,
+    d: DeviceNo,
+) -> Result<(), NoMemory>
+    requires here { is_in d (numbers_of sub.old.devices.items) ≡ true }
+    requires own { AreOwn sub.old.devices.items }
+    ensures numbers { numbers_of sub.new.devices.items ≡ numbers_of sub.old.devices.items }
+    ensures own { OnOk result (AreOwn sub.new.devices.items) }
+    ensures stands { (run : runs.Subsystem) → StandsAs sub.old run → OnOk result (StandsAs sub.new (happens run (Event.Reset path d)).behind) }
+    ensures lines { (run : runs.Subsystem) → StandsAs sub.old run → OnOk result (report.new ≡ report.old ++ lines_when run (Event.Reset path d) (did.Reset path d)) }
+{
+    report.make_room()?;
+    let passed = pass(alloc, sub, d, Event::Reset(path, d))?;
+    let items = behind_first(sub.device(d).journal(), passed.items);
+    let happened = Happened::Reset(path, d);
+    record_passed(report, d, happened, &passed.acts, items, passed.calls)?;
+    Ok(())
 }
 
 /// Whether a program runs on a device, or a half write is open.
@@ -62,19 +213,25 @@ fn is_busy<V: Volume>(sub: &Subsystem<V>, d: DeviceNo) -> bool
     device.half_open() || device.active().is_some()
 }
 
-/// The rest of the program that runs on a device.
-fn finish<V: Volume>(alloc: Global, sub: &mut Subsystem<V>, d: DeviceNo) -> Result<(), NoMemory>
+/// Steps while a program runs on a device.
+fn steps<V: Volume>(
+    alloc: Global,
+    sub: &mut Subsystem<V>,
+    report: &mut RunRecord,
+    d: DeviceNo,
+) -> Result<(), NoMemory>
     requires here { is_in d (numbers_of sub.old.devices.items) ≡ true }
     requires own { AreOwn sub.old.devices.items }
     ensures numbers { numbers_of sub.new.devices.items ≡ numbers_of sub.old.devices.items }
     ensures own { OnOk result (AreOwn sub.new.devices.items) }
-    ensures stands { (run : runs.Subsystem) → StandsAs sub.old run → OnOk result (StandsAs sub.new (last_behind run (run_logged run d))) }
+    ensures stands { (run : runs.Subsystem) → StandsAs sub.old run → OnOk result (StandsAs sub.new (last_behind run (steps 8193 d run))) }
+    ensures lines { (run : runs.Subsystem) → StandsAs sub.old run → OnOk result (report.new ≡ report.old ++ all_lines (steps 8193 d run)) }
 {
     for _turn in 0..MOST_STEPS {
         if !is_busy(sub, d) {
             return Ok(());
         }
-        match once(alloc, sub, d, Event::Step(d)) {
+        match step(alloc, sub, report, d, Happened::RunIdle(d)) {
             Err(NoMemory) => return Err(NoMemory),
             Ok(()) => (),
         }
@@ -82,10 +239,33 @@ fn finish<V: Volume>(alloc: Global, sub: &mut Subsystem<V>, d: DeviceNo) -> Resu
     Ok(())
 }
 
-/// One event line. START, STEP, RUN and RESET run so far.
+/// The rest of the program that runs on a device.
+fn finish<V: Volume>(
+    alloc: Global,
+    sub: &mut Subsystem<V>,
+    report: &mut RunRecord,
+    d: DeviceNo,
+) -> Result<(), NoMemory>
+    requires here { is_in d (numbers_of sub.old.devices.items) ≡ true }
+    requires own { AreOwn sub.old.devices.items }
+    ensures numbers { numbers_of sub.new.devices.items ≡ numbers_of sub.old.devices.items }
+    ensures own { OnOk result (AreOwn sub.new.devices.items) }
+    ensures stands { (run : runs.Subsystem) → StandsAs sub.old run → OnOk result (StandsAs sub.new (last_behind run (run_logged run d))) }
+    ensures lines { (run : runs.Subsystem) → StandsAs sub.old run → OnOk result (report.new ≡ report.old ++ all_lines (run_logged run d)) }
+{
+    if !is_busy(sub, d) {
+        report.push(ReportLine::RunIdle(d))?;
+        return Ok(());
+    }
+    steps(alloc, sub, report, d)?;
+    Ok(())
+}
+
+/// One event line. START, STEP, RUN, BACK, SETTLE and RESET run so far.
 pub(crate) fn do_line<V: Volume>(
     alloc: Global,
     sub: &mut Subsystem<V>,
+    report: &mut RunRecord,
     line: EventLine,
 ) -> Result<(), NoMemory>
     requires here { is_open_line (numbers_of sub.old.devices.items) line ≡ true }
@@ -93,12 +273,15 @@ pub(crate) fn do_line<V: Volume>(
     ensures numbers { numbers_of sub.new.devices.items ≡ numbers_of sub.old.devices.items }
     ensures own { OnOk result (AreOwn sub.new.devices.items) }
     ensures stands { (run : runs.Subsystem) → StandsAs sub.old run → OnOk result (StandsAs sub.new (last_behind run (line_logged run (asked_by line)))) }
+    ensures lines { (run : runs.Subsystem) → StandsAs sub.old run → OnOk result (report.new ≡ report.old ++ all_lines (line_logged run (asked_by line))) }
 {
     match line {
-        EventLine::Start(path, d) => start(alloc, sub, path, d),
-        EventLine::Step(d) => once(alloc, sub, d, Event::Step(d)),
-        EventLine::Run(d) => finish(alloc, sub, d),
-        EventLine::Reset(path, d) => once(alloc, sub, d, Event::Reset(path, d)),
+        EventLine::Start(path, d) => start(alloc, sub, report, path, d),
+        EventLine::Step(d) => step(alloc, sub, report, d, Happened::StepIdle(d)),
+        EventLine::Run(d) => finish(alloc, sub, report, d),
+        EventLine::Back(d) => back(alloc, sub, report, d),
+        EventLine::Settle(d) => settle(alloc, sub, report, d),
+        EventLine::Reset(path, d) => reset(alloc, sub, report, path, d),
         _ => unreachable!(),
     }
 }

@@ -1,9 +1,9 @@
-ghost use Rattle.std.specs.Prelude.{◌≡◌, ◌≤◌, IfOk, length, map, true};
+ghost use Rattle.std.specs.Prelude.{◌≡◌, ◌≤◌, [], IfOk, length, map, true};
 ghost use Rattle.device_outside.specs.Pool as pools;
 ghost use Rattle.subsystem_core.specs.Devices.{numbers_of};
 ghost use Rattle.subsystem_defs.specs.Decks.{failing_of, is_same, opened, opened_device};
-ghost use Rattle.subsystem_laws.specs.Stood.{AreMounted, IsMounted};
-ghost use Rattle.deck_run.specs.Opening.{are_open, is_behind, is_open_device, numbers_in, uncached};
+ghost use Rattle.subsystem_laws.specs.WholeStood.{AreMounted, IsMounted};
+ghost use Rattle.deck_run.specs.Opening.{are_open, is_behind, is_open_device, numbers_in};
 ghost use Rattle.device_core.specs.State.{device_of};
 ghost use Rattle.deck_run.specs.Owning.{AreOwn, IsOwn};
 ghost use Rattle.deck_run.specs.Standing.{StandsAs, all_stood, stood_of};
@@ -73,7 +73,7 @@ fn failing_of(alloc: Global, deck: &Deck, write: bool, d: DeviceNo) -> Result<Ve
 fn open_device(alloc: Global, deck: &Deck, line: DeviceLine) -> Result<Device<MemVolume>, NoMemory>
     requires { is_open_device line ≡ true }
     ensures number { IfOk result (λ made. made.store.number ≡ line.number) }
-    ensures mounted { (p : pools.Pool) → IfOk result (λ made. IsMounted p (stood_of made) (opened_device deck.now line)) }
+    ensures mounted { IfOk result (λ made. IsMounted [] (stood_of made) (opened_device deck.now line)) }
     ensures own { IfOk result (λ made. IsOwn (device_of made)) }
 {
     let reads = failing_of(alloc, deck, false, line.number)?;
@@ -107,16 +107,15 @@ fn open_devices(alloc: Global, deck: &Deck) -> Result<Vec<Device<MemVolume>>, No
     Ok(made)
 }
 
-/// The devices of a deck on volumes of empty tracks, each with the failing calls of its FAULT lines. The pool has no frames and no
-/// slots, whatever the deck's CACHE and STORE lines say: no track has a place for a frame or a patch yet.
+/// The devices of a deck on volumes of empty tracks, each with the failing calls of its FAULT lines, and the pool of its CACHE and STORE lines.
 pub fn open_deck(alloc: Global, deck: &Deck) -> Result<Subsystem<MemVolume>, NoMemory>
     requires { are_open deck.now.devices ≡ true }
-    ensures stands { IfOk result (λ made. StandsAs made (opened (uncached deck.now))) }
+    ensures stands { IfOk result (λ made. StandsAs made (opened deck.now)) }
     ensures numbers { IfOk result (λ made. numbers_of made.devices.items ≡ numbers_in deck.now.devices) }
     ensures own { IfOk result (λ made. AreOwn made.devices.items) }
 {
     let devices = open_devices(alloc, deck)?;
-    let pool = Pool::new(alloc, 0, 0)?;
+    let pool = Pool::new(alloc, deck.frames(), deck.slots())?;
     let made = Subsystem::new(pool, devices)?;
     Ok(made)
 }

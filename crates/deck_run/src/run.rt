@@ -1,28 +1,55 @@
-ghost use Rattle.std.specs.Prelude.{◌≡◌, IfOk, None};
+ghost use Rattle.std.specs.Prelude.{◌≡◌, ◌++◌, ◌∷◌, [], IfOk, None};
+ghost use Rattle.report_text.specs.declared.line.ReportLine.TheVariants as lines;
+ghost use Rattle.run_report.specs.Report.{lines_of_run, report_lines};
 ghost use Rattle.subsystem_defs.specs.Decks.{run_of};
 ghost use Rattle.deck_run.specs.Later.{first_later};
-ghost use Rattle.deck_run.specs.Opening.{uncached};
 ghost use Rattle.deck_run.specs.Standing.{StandsAs};
 
+use crate::close::{record_devices, record_frames};
 use crate::line::do_line;
 use crate::open::open_deck;
 use ckd_types::NoMemory;
 use deck_text::Deck;
 use device_outside::MemVolume;
+use report_text::RunRecord;
 use std::alloc::Global;
 use subsystem_core::Subsystem;
 
-/// The devices of a deck behind its event lines: what its defined run leaves, without frames and slots.
-pub fn run_deck(alloc: Global, deck: &Deck) -> Result<Subsystem<MemVolume>, NoMemory>
+/// A deck that ran: its devices behind its event lines, and what was recorded.
+#[derive(Drop)]
+pub struct FinishedRun {
+    pub sub: Subsystem<MemVolume>,
+    pub report: RunRecord,
+}
+
+/// The event lines of a deck over its devices.
+fn run_events(alloc: Global, deck: &Deck) -> Result<FinishedRun, NoMemory>
     requires { first_later deck.now ≡ None }
-    ensures { IfOk result (λ made. StandsAs made (run_of (uncached deck.now)).behind) }
+    ensures stands { IfOk result (λ ran. StandsAs ran.sub (run_of deck.now).behind) }
+    ensures lines { IfOk result (λ ran. ran.report ≡ lines_of_run (run_of deck.now)) }
 {
     let mut sub = open_deck(alloc, deck)?;
+    let mut report = RunRecord::new(alloc);
     for line in deck.schedule().as_slice() {
-        match do_line(alloc, &mut sub, *line) {
+        match do_line(alloc, &mut sub, &mut report, *line) {
             Err(NoMemory) => return Err(NoMemory),
             Ok(()) => (),
         }
     }
-    Ok(sub)
+    Ok(FinishedRun { sub, report })
+}
+
+/// Runs a deck. Its devices are those that the defined run leaves, and what was recorded are the
+/// lines of its report, but for the last one.
+pub fn run_deck(alloc: Global, deck: &Deck) -> Result<FinishedRun, NoMemory>
+    requires { first_later deck.now ≡ None }
+    ensures stands { IfOk result (λ ran. StandsAs ran.sub (run_of deck.now).behind) }
+    ensures lines { IfOk result (λ ran. ran.report ++ lines.Finish ∷ [] ≡ report_lines (run_of deck.now)) }
+{
+    let ran = run_events(alloc, deck)?;
+    let sub = ran.sub;
+    let mut report = ran.report;
+    record_devices(alloc, &mut report, sub.devices())?;
+    record_frames(&mut report, sub.pool())?;
+    Ok(FinishedRun { sub, report })
 }

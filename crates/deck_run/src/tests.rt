@@ -13,13 +13,13 @@ fn a_deck_of_two_devices(rt: HostRuntime) -> Result<(), Fail> {
         Err(_) => return Err("deck".into()),
     };
     assert!(rt; has_open_devices(&deck));
-    let sub = match first_later(&deck) {
+    let ran = match first_later(&deck) {
         Some(_) => return Err("later".into()),
         None => run_deck(rt.alloc(), &deck)?,
     };
     let journals = [
-        sub.devices().first().map(|d| d.journal().len()),
-        sub.devices().last().map(|d| d.journal().len()),
+        ran.sub.devices().first().map(|d| d.journal().len()),
+        ran.sub.devices().last().map(|d| d.journal().len()),
     ];
     assert_eq!(rt; journals[0], Some(1));
     assert_eq!(rt; journals[1], Some(2));

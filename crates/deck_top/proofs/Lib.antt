@@ -1,3 +1,3 @@
-pub mod LaterSteps
-pub mod Built
 pub mod Complete
+pub mod Plain
+pub mod Written

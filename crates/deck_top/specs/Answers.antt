@@ -14,10 +14,9 @@ use Rattle.deck_top.specs.declared.task.Task.{Task}
 use Rattle.deck_top.specs.declared.task.Task.TheVariants.{Run, Check}
 use Rattle.deck_top.specs.declared.top.Status.{Status}
 use Rattle.deck_top.specs.declared.top.Status.TheVariants.{Reported, DeckRefused, ReadFault, WriteFault, Limit, NoMemory, Usage}
-use Rattle.deck_top.specs.Later.{first_later}
-use Rattle.deck_top.specs.Run.{run_of, DeckRunsPlainly}
-use Rattle.plain_run.specs.Lines.{lines_of}
-use Rattle.report_text.specs.Report.{report_text}
+use Rattle.deck_top.specs.Run.{DeckRunsPlainly}
+use Rattle.deck_run.specs.Later.{first_later}
+use Rattle.run_report.specs.Report.{report_of}
 
 -- the exit status of the program
 abbrev pub code_of : Status → ℕ
@@ -60,7 +59,7 @@ deck_for task text = if_read (parsed text) (open_deck task)
 
 -- what a task writes for a deck: the report of its run, or its canonical text
 abbrev pub output_of : Task → DeckLines → List ℕ
-output_of Run d = report_text (lines_of (run_of d)) [] []
+output_of Run d = report_of d
 output_of Check d = canonical d
 
 -- what is written

@@ -1,32 +1,14 @@
--- The run of a deck.
-use Rattle.std.specs.Prelude.{List, [], ◌∷◌}
-use Rattle.ckd_types.specs.declared.geometry.Geometry.TheVariants.{D3390}
-use Rattle.plain_defs.specs.PlainState.{empty_state}
-use Rattle.deck_plan.specs.Plans.{Plans, plan_of}
-use Rattle.plain_run.specs.declared.event.RunEvent.{RunEvent}
-use Rattle.plain_run.specs.Run.{events_from, first_machine}
-use Rattle.plain_run.specs.Kept.{RunsPlainly}
-use Rattle.deck_text.specs.declared.line.DeviceLine.{DeviceLine}
+-- What is known of the run of a deck that was read.
+use Rattle.std.specs.Prelude.{◌≡◌, ℕ, List, Ok, All}
 use Rattle.deck_text.specs.DeckLines.{DeckLines}
-use Rattle.deck_text.specs.Plans.{plans_of}
+use Rattle.deck_text.specs.Parse.{parsed}
+use Rattle.subsystem_defs.specs.Decks.{run_of}
+use Rattle.subsystem_defs.specs.Promised.{IsPlainBehind}
 
--- the first device that is declared, or a 3390 of one cylinder where none is
-abbrev pub first_device : List DeviceLine → DeviceLine
-first_device [] = record { number = 0; geometry = D3390; cylinders = 1 }
-first_device (d ∷ ds) = d
+-- some text is this deck
+abbrev pub WasRead : DeckLines → Type 0
+WasRead d = (text : List ℕ) × (parsed text ≡ Ok d)
 
--- the plans of device 0, the only one so far
-abbrev pub deck_plans : DeckLines → Plans
-deck_plans d = plans_of d.programs 0
-
--- what happens
-abbrev pub run_of : DeckLines → List RunEvent
-run_of d =
-    let device = first_device d.devices in
-    events_from (plan_of (deck_plans d) 1) (first_machine device.geometry device.cylinders) d.events
-
--- and after every event the device is one that a plain device could be
+-- behind every event each device's history is one that a plain device could have
 abbrev pub DeckRunsPlainly : DeckLines → Type 0
-DeckRunsPlainly d =
-    let device = first_device d.devices in
-    RunsPlainly (empty_state device.geometry device.cylinders) (deck_plans d) (run_of d)
+DeckRunsPlainly d = All IsPlainBehind (run_of d).events

@@ -1,10 +1,7 @@
-//! What the program does: the top call over a source and a sink, which `main` makes, and what isn't run yet.
+//! What the program does: the top call over a source and a sink, which `main` makes.
 #![tactic(auto)]
 
-mod later;
 mod task;
-#[cfg(test)]
-mod tests;
 mod top;
 
 pub use task::Task;

@@ -3,22 +3,22 @@ ghost use Rattle.std.specs.Io.KnownBytes.{Appends};
 ghost use Rattle.ckd_outside.specs.Causes.{Rose, HasCause};
 ghost use Rattle.ckd_outside.specs.Texts.{Writes, AppendsFront};
 ghost use Rattle.deck_text.specs.DeckLines.{DeckLines};
-ghost use Rattle.plain_run.specs.Lines.{lines_of};
-ghost use Rattle.deck_top.specs.Later.{first_later};
-ghost use Rattle.deck_top.specs.Run.{first_device, run_of, DeckRunsPlainly};
+ghost use Rattle.report_text.specs.Report.{report_text};
+ghost use Rattle.run_report.specs.Report.{report_of};
+ghost use Rattle.deck_run.specs.Later.{first_later};
+ghost use Rattle.deck_top.specs.Run.{DeckRunsPlainly, WasRead};
 ghost use Rattle.deck_top.specs.Answers.{code_of, task_by, task_of, usage_text, open_deck, deck_for, TellsDeck, TellsTask, TellsUsage, Tells};
 
-use crate::later::first_later;
 use crate::task::Task;
 use ckd_outside::{Failed, Piece, ReadError, Sink, Source, read_up_to};
-use ckd_types::{DeviceNo, Geometry, NoMemory};
+use ckd_types::NoMemory;
+use deck_run::first_later;
 use deck_text::{
-    Deck, DeckFault, DeckWhy, DeviceLine, Which, read_deck, write_deck, write_limit, write_line,
-    write_refused,
+    Deck, DeckFault, DeckWhy, Which, read_deck, write_deck, write_limit, write_line, write_refused,
 };
-use plain_run::run_lines;
 use report_text::{RunRecord, write_report};
 use std::alloc::Global;
+use subsystem_laws::run_is_plain;
 
 /// How the program ends.
 #[derive(Clone, Copy, Debug, PartialEq, Eq)]
@@ -121,53 +121,36 @@ fn limit<K: Sink>(sink: &mut K, which: Which) -> Status
     }
 }
 
-/// The first device that is declared, or a 3390 of one cylinder where none is.
-fn first_device(deck: &Deck) -> DeviceLine
-    ensures { result ≡ first_device deck.now.devices }
-{
-    if deck.device_count() == 0 {
-        return DeviceLine {
-            number: DeviceNo::new(0).unwrap(),
-            geometry: Geometry::D3390,
-            cylinders: 1,
-        };
-    }
-    deck.device_at(0)
-}
-
-/// The lines of what happens in a deck's run.
+/// The lines of a deck's report, but for the last one; and that the run is plain.
 fn run_deck(alloc: Global, deck: &Deck) -> Result<RunRecord, NoMemory>
-    requires { first_later deck.now ≡ None }
-    ensures run { IfOk result (λ made. made ≡ lines_of (run_of deck.now)) }
-    ensures plain { IfOk result (λ made. DeckRunsPlainly deck.now) }
+    requires served { first_later deck.now ≡ None }
+    requires read { WasRead deck.now }
+    ensures text { IfOk result (λ told. report_text told [] [] ≡ report_of deck.now) }
+    ensures plain { IfOk result (λ told. DeckRunsPlainly deck.now) }
 {
-    let device = first_device(deck);
-    let plans = deck.plans(DeviceNo::new(0).unwrap());
-    run_lines(
-        alloc,
-        device.geometry,
-        device.cylinders,
-        plans,
-        deck.schedule(),
-    )
+    run_is_plain();
+    let ran = deck_run::run_deck(alloc, deck)?;
+    Ok(ran.report)
 }
 
 fn report<K: Sink>(alloc: Global, deck: &Deck, sink: &mut K) -> Status
-    requires { first_later deck.now ≡ None }
+    requires served { first_later deck.now ≡ None }
+    requires read { WasRead deck.now }
     ensures told { TellsDeck result Task.Run (Ok deck.now) (K.held sink.old) (K.held sink.new) }
     ensures later { K.faults sink.old ≤ K.faults sink.new }
     ensures write { result ≡ Status.WriteFault → Rose (K.faults sink.old) (K.faults sink.new) }
 {
-    let Ok(events) = run_deck(alloc, deck) else {
+    let Ok(told) = run_deck(alloc, deck) else {
         return Status::NoMemory;
     };
-    match write_report(sink, &events, &[], &[]) {
+    match write_report(sink, &told, &[], &[]) {
         Ok(()) => Status::Reported,
         Err(_) => Status::WriteFault,
     }
 }
 
 fn run<K: Sink>(alloc: Global, deck: &Deck, sink: &mut K) -> Status
+    requires { WasRead deck.now }
     ensures told { TellsDeck result Task.Run (open_deck Task.Run deck.now) (K.held sink.old) (K.held sink.new) }
     ensures later { K.faults sink.old ≤ K.faults sink.new }
     ensures write { result ≡ Status.WriteFault → Rose (K.faults sink.old) (K.faults sink.new) }
@@ -190,6 +173,7 @@ fn check<K: Sink>(deck: &Deck, sink: &mut K) -> Status
 }
 
 fn serve_deck<K: Sink>(alloc: Global, task: Task, deck: &Deck, sink: &mut K) -> Status
+    requires { WasRead deck.now }
     ensures told { TellsDeck result task (open_deck task deck.now) (K.held sink.old) (K.held sink.new) }
     ensures later { K.faults sink.old ≤ K.faults sink.new }
     ensures write { result ≡ Status.WriteFault → Rose (K.faults sink.old) (K.faults sink.new) }

@@ -6,6 +6,8 @@ use Rattle.std.specs.List.{fold}
 use Rattle.std.proofs.lemmas.Bool.{eq-eqb, ne_eqb, eqb-true, eqb-false}
 use Rattle.std.proofs.lemmas.List.{get_or-set_same, get_or-set_other, get_or-map, length-map}
 use Rattle.ckd_types.specs.declared.channel.CommandEnd.{CommandEnd}
+use Rattle.plain_defs.specs.declared.journal.Act.{Act}
+use Rattle.plain_defs.specs.declared.journal.Acted.{Acted}
 use Rattle.plain_defs.specs.declared.journal.How.{How}
 use Rattle.plain_defs.specs.declared.journal.How.TheVariants.{Cut}
 use Rattle.plain_defs.specs.declared.journal.Item.{Item}
@@ -85,6 +87,17 @@ module _ (h : History) (kept : List KeptPath) (powered : Bool) (spare : ℕ) (k 
         record { started_is = running_path i (of_path kept i) kp; used_is = running_used i (of_path kept i) kp };
     powered_is = running_powered;
     ends = let more = length-append o.ends (e ∷ []) in omega (arith, more, lt);
+    room = running_room;
+  }
+
+  -- an act came to it
+  pub act_keeps : (acts : List Acted) → KeepsAll (record h { running = Some (record o { acts = acts }) }) kept powered spare
+  act_keeps acts = record {
+    four = k.four;
+    paths = λ i least most. let kp = k.paths i least most in
+        record { started_is = running_path i (of_path kept i) kp; used_is = running_used i (of_path kept i) kp };
+    powered_is = running_powered;
+    ends = ends_of_running;
     room = running_room;
   }
 
@@ -279,3 +292,18 @@ module _ (h : History) (kept : List KeptPath) (powered : Bool) (spare : ℕ) (k 
       used_is = ap (λ (x : KeptPath). x.used) (of_other kept p i (one_more kept p) some least differ) ∙ idle_used i (of_path kept i) (k.paths i least most)
           ∙ ap (λ (b : Bool). b || is_used i false h.items) (sym (ne_eqb p i differ));
     }
+
+-- an act, while no program runs
+pub idle_act_keeps : (h : History) (kept : List KeptPath) (powered : Bool) (spare : ℕ) → KeepsAll h kept powered spare → h.running ≡ None → (act : Act) →
+    KeepsAll (record h { items = h.items ++ items.Act act ∷ [] }) kept powered spare
+idle_act_keeps h kept powered spare k idle act = record {
+  four = k.four;
+  paths = λ i least most. let kp = k.paths i least most in record {
+    started_is = kp.started_is ∙ ap (λ (n : ℕ). n + (if is_path_of h.running i then 1 else 0))
+        (sym (count_append (is_of_path i) 0 h.items (items.Act act ∷ []) ∙ (let none : (n : ℕ) → n + 0 ≡ n = λ n. omega arith in none (count_by (is_of_path i) h.items))));
+    used_is = kp.used_is ∙ ap (λ (b : Bool). is_path_of h.running i || b) (sym (used_append i false h.items (items.Act act ∷ [])));
+  };
+  powered_is = k.powered_is ∙ ap (λ (b : Bool). is_some h.running || b) (sym (started_append false h.items (items.Act act ∷ [])));
+  ends = k.ends;
+  room = k.room;
+}

@@ -11,3 +11,6 @@ pub mod Resetting
 pub mod Starts
 pub mod Parts
 pub mod Powers
+pub mod Acting
+pub mod Eventful
+pub mod Losing

@@ -4,7 +4,7 @@ use Rattle.std.proofs.Common.{arith, append_assoc}
 use Rattle.std.specs.Prelude.{IsSome, ◌==◌, option_map}
 use Rattle.std.proofs.lemmas.Bool.{eqb-true}
 use Rattle.ckd_types.specs.declared.channel.CommandEnd.{CommandEnd}
-use Rattle.ckd_types.specs.Roomy.{Roomy}
+use Rattle.device_core.specs.Log.{LogView}
 use Rattle.plain_defs.specs.declared.journal.How.{How}
 use Rattle.plain_defs.specs.declared.journal.How.TheVariants.{Cut}
 use Rattle.plain_defs.specs.declared.journal.Item.{Item}
@@ -115,7 +115,7 @@ waits_noted p path k least most =
 pub history_waits : (p z : Past) (path : ℕ) → Keeps p → 1 ≤ path → path ≤ 4 → z.items ≡ p.items → z.running ≡ p.running →
     z.kept ≡ with_waiting p.kept path → history_of z ≡ record (history_of p) { waiting = put path (waiting_in p.kept) }
 history_waits p z path k least most items_z running_z kept_z =
-    ap (λ (l : Roomy Item). made l.items (option_map open_of z.running) (waiting_in z.kept)) items_z
+    ap (λ (l : LogView). made l.items (option_map open_of z.running) (waiting_in z.kept)) items_z
     ∙ ap (λ (r : Option Running). made p.items.items (option_map open_of r) (waiting_in z.kept)) running_z
     ∙ ap (λ (w : List ℕ). made p.items.items (option_map open_of p.running) w) (ap waiting_in kept_z ∙ waits_noted p path k least most)
 
@@ -126,7 +126,7 @@ keeps_waiting p z path k is least most items_z running_z kept_z powered_z =
     keeps_as z (record (history_of p) { waiting = put path (waiting_in p.kept) }) (with_waiting p.kept path) p.powered
     (history_waits p z path k least most items_z running_z kept_z) kept_z powered_z
     (subst (λ (n : ℕ). KeepsAll (record (history_of p) { waiting = put path (waiting_in p.kept) }) (with_waiting p.kept path) p.powered n)
-    (ap (λ (l : Roomy Item). l.spare) (sym items_z))
+    (ap (λ (l : LogView). l.spare) (sym items_z))
     (wait_keeps (history_of p) p.kept p.powered p.items.spare k it.0 it.1 path least most))
 
 pub history_unused : (p z : Past) (path : ℕ) → Keeps p → 1 ≤ path → path ≤ 4 →
@@ -196,7 +196,7 @@ module _ (p q : Past) (path : ℕ) (r : Running) (k : Keeps p) (idle : option_ma
     (items_q : q.items ≡ p.items) (kept_q : q.kept ≡ with_one_more p.kept path) (powered_q : q.powered ≡ true) where
   pub history_started : history_of q ≡ started (history_of p) path (started_count (history_of p) path + 1)
   history_started =
-      ap (λ (l : Roomy Item). made l.items (option_map open_of q.running) (waiting_in q.kept)) items_q
+      ap (λ (l : LogView). made l.items (option_map open_of q.running) (waiting_in q.kept)) items_q
       ∙ ap (λ (x : Option Running). made p.items.items (option_map open_of x) (waiting_in q.kept)) running_q
       ∙ ap (λ (o : OpenEntry). made p.items.items (Some o) (waiting_in q.kept)) begins
       ∙ ap (λ (m : ℕ). made p.items.items (Some (record { path = path; ordinal = m; ends = []; acts = [] })) (waiting_in q.kept)) n_is
@@ -207,5 +207,5 @@ module _ (p q : Past) (path : ℕ) (r : Running) (k : Keeps p) (idle : option_ma
   keeps_started room =
       keeps_as q (started (history_of p) path (started_count (history_of p) path + 1)) (with_one_more p.kept path) true history_started kept_q powered_q
       (subst (λ (m : ℕ). KeepsAll (started (history_of p) path (started_count (history_of p) path + 1)) (with_one_more p.kept path) true m)
-      (ap (λ (l : Roomy Item). l.spare) (sym items_q))
+      (ap (λ (l : LogView). l.spare) (sym items_q))
       (start_keeps (history_of p) p.kept p.powered p.items.spare k idle path (started_count (history_of p) path + 1) p.items.spare least most room))

@@ -8,9 +8,8 @@ use Rattle.device_core.specs.declared.past.KeptPath.{KeptPath}
 use Rattle.device_core.specs.declared.past.Past.{Past}
 use Rattle.device_core.specs.declared.past.Running.{Running}
 
--- no act of cache fast write comes to it yet
 abbrev pub open_of : Running → OpenEntry
-open_of r = record { path = r.path; ordinal = r.ordinal; ends = r.ends.items; acts = [] }
+open_of r = record { path = r.path; ordinal = r.ordinal; ends = r.ends.items; acts = r.acts.items }
 
 abbrev pub chain_of : Running → ChainState
 chain_of r = r.chain
@@ -85,3 +84,10 @@ pub record KeepsAll (h : History) (kept : List KeptPath) (powered : Bool) (spare
 
 abbrev pub Keeps : Past → Type 0
 Keeps p = KeepsAll (history_of p) p.kept p.powered p.items.spare
+
+abbrev pub HasRoomFor : ℕ → Running → Type 0
+HasRoomFor n r = (n ≤ r.room) × (r.room ≤ r.acts.spare)
+
+-- there is room for so many acts, while the program runs and behind it
+abbrev pub ActRoom : ℕ → Past → Type 0
+ActRoom n p = (n ≤ p.items.aside) × IfSome p.running (HasRoomFor n)

@@ -1,5 +1,6 @@
 pub mod Words
 pub mod Kept
+pub mod Log
 pub mod Powered
 pub mod Turns
 pub mod State

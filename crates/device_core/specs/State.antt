@@ -17,9 +17,10 @@ use Rattle.device_defs.specs.declared.answers.Stepped as defs
 use Rattle.ckd_chain.specs.declared.progress.Progress.{Progress}
 use Rattle.ckd_types.specs.declared.geometry.Geometry.{Geometry}
 use Rattle.device_defs.specs.declared.answers.Came.{Came}
-use Rattle.device_defs.specs.Command.{answered_by, command_at}
+use Rattle.device_defs.specs.Command.{answered_by, came_out, command_at, has_loss}
 use Rattle.device_defs.specs.Contents.{contents}
-use Rattle.device_defs.specs.Outcomes.{turned, told_step}
+use Rattle.device_defs.specs.Outcomes.{checks, turned, told_step}
+use Rattle.ckd_chain.specs.declared.progress.Settled.TheVariants.{Equipment}
 use Rattle.device_outside.specs.Interaction.{Interaction, Done}
 use Rattle.device_core.specs.Turns.{turn_with}
 use Rattle.device_defs.specs.declared.answers.Stepped.TheVariants as answers
@@ -102,8 +103,13 @@ pub record Answers (g : Geometry) (old new : PathsState) (path : ℕ) (chain : C
 
 -- The command at hand of a program that runs, and the device behind it
 
+abbrev pub commanded_by : DefinedDevice → Running → Interaction (List ℕ) Image DefinedDevice (Option defs.Stepped)
+commanded_by d r =
+    if has_loss r.acts.items then came_out contents d r.path (checks r.chain Equipment)
+    else command_at contents d r.path r.chain (need_of r.chain)
+
 abbrev pub commanded : DefinedDevice → Option Running → Interaction (List ℕ) Image DefinedDevice (Option defs.Stepped)
-commanded d (Some r) = command_at contents d r.path r.chain (need_of r.chain)
+commanded d (Some r) = commanded_by d r
 commanded d None = Done d None
 
 abbrev pub came_from : {E : Type 0} → DefinedDevice → Option Running → Result Came E → DefinedDevice

@@ -9,6 +9,7 @@ use Rattle.device_defs.specs.declared.answers.Came.{Came}
 use Rattle.device_defs.specs.declared.answers.Came.TheVariants.{Ends, Checks, HalfOpen}
 use Rattle.device_defs.specs.Command.{Went, Over, On}
 use Rattle.device_defs.specs.Outcomes.{Turn}
+use Rattle.event_notes.specs.Loose.{LooseView}
 use Rattle.device_core.specs.Words.{IsReady}
 use Rattle.device_core.specs.declared.turns.Step.{Step}
 use Rattle.device_core.specs.declared.turns.Step.TheVariants as steps
@@ -55,3 +56,8 @@ Waits cylinders old new (progresses.Ended e) = Left cylinders new (Ends e)
 Waits cylinders old new (progresses.Need t) = IsAt cylinders new × IsSameHand old new
 Waits cylinders old new (progresses.Write t e) = IsAt cylinders new × IsSameHand old new × MayBeWritten new.stage
 Waits cylinders old new (progresses.Local act) = IsAt cylinders new
+
+-- a command that goes on to another track left the loose tracks and the acts as they were
+abbrev pub KeepsLoose : LooseView → LooseView → Step → Type 0
+KeepsLoose old new (steps.Over came) = Unit {0}
+KeepsLoose old new (steps.On t) = new ≡ old

@@ -1,11 +1,13 @@
-ghost use Rattle.std.specs.Prelude.{◌≡◌, ◌<◌, ◌*◌, ℕ, IfOk, IsSome, None, OnErr, Some};
+ghost use Rattle.std.specs.Prelude.{◌≡◌, ◌<◌, ◌≤◌, ◌+◌, ◌*◌, ℕ, IfOk, IsSome, None, OnErr, Some};
 ghost use Rattle.ckd_chain.specs.State.{ChainState};
 ghost use Rattle.ckd_chain.specs.Steps.{again_from, need_of, opened, stepped};
 ghost use Rattle.ckd_chain.specs.declared.mark.Stage.TheVariants.{Asks};
 ghost use Rattle.ckd_chain.specs.declared.progress.Progress.TheVariants.{Local};
 ghost use Rattle.device_defs.specs.Command.{follow, on_tracks};
 ghost use Rattle.device_defs.specs.Contents.{contents};
+ghost use Rattle.device_defs.specs.Device.{with_store};
 ghost use Rattle.device_outside.specs.Interaction.{and_then};
+ghost use Rattle.event_notes.specs.Loose.{weight};
 ghost use Rattle.device_outside.specs.Outside.{Ran, where_ok};
 ghost use Rattle.device_store.specs.State.{state_of, outside, Takes};
 ghost use Rattle.plain_device.specs.Looking.{IsAtAnswer};
@@ -37,9 +39,11 @@ pub(crate) fn on_tracks<V: Volume, P: Port, K: Keep<TrackImage>>(
     ensures fixed { (store.new.number ≡ store.old.number) × (store.new.cylinders ≡ store.old.cylinders) }
     ensures takes { Takes K.takes keep.new store.new.number (store.new.cylinders * 15) }
     ensures open { (open_of running.new ≡ open_of running.old) × (running.new.ends ≡ running.old.ends) }
+    ensures acts { (running.new.acts ≡ running.old.acts) × (running.new.room ≡ running.old.room) }
     ensures left { IfOk result (Left store.old.cylinders running.new.chain) }
     ensures again { OnErr result (running.new.chain ≡ again_from running.old.chain) }
-    ensures run { (d : DefinedDevice) (path : ℕ) (z : ChainState) → running.old.chain ≡ opened z → need_of z ≡ Some t → Ran (where_ok result) K.hears (and_then (follow contents (store.old.cylinders * 15) t z t (state_of store.old)) (on_tracks contents d path z)) (outside (P.view port.old) store.old keep.old) (came_to (record d { store = state_of store.new }) path running.new.chain result) (told result) (outside (P.view port.new) store.new keep.new) }
+    ensures weight { weight store.new.loose ≤ weight store.old.loose + 2 }
+    ensures run { (d : DefinedDevice) (path : ℕ) (z : ChainState) → running.old.chain ≡ opened z → need_of z ≡ Some t → Ran (where_ok result) K.hears (and_then (follow contents (store.old.cylinders * 15) t z t (state_of store.old)) (on_tracks contents d path z)) (outside (P.view port.old) store.old keep.old) (came_to (with_store d (state_of store.new)) path running.new.chain result) (told result) (outside (P.view port.new) store.new keep.new) }
 {
     match follow(store, &mut running.chain, t, port, keep) {
         Ok(came) => Ok(came),
@@ -61,6 +65,7 @@ fn answer(
     requires running { IsSome running.old.chain.at.next }
     requires asks { running.old.chain.stage ≡ Some (Asks act) }
     ensures open { (open_of running.new ≡ open_of running.old) × (running.new.ends ≡ running.old.ends) }
+    ensures acts { (running.new.acts ≡ running.old.acts) × (running.new.room ≡ running.old.room) }
     ensures left { IfOk result (Left running.old.chain.fixed.cylinders running.new.chain) }
     ensures again { OnErr result ((running.new.chain ≡ again_from running.old.chain) × (paths.new ≡ paths.old)) }
     ensures answers { IfOk result (Answers geometry paths.old paths.new running.old.path running.old.chain (Local act) running.new.chain) }
@@ -88,6 +93,7 @@ pub(crate) fn on_paths(
     requires running { IsSome running.old.chain.at.next }
     requires answers { IsAtAnswer running.old.chain.stage }
     ensures open { (open_of running.new ≡ open_of running.old) × (running.new.ends ≡ running.old.ends) }
+    ensures acts { (running.new.acts ≡ running.old.acts) × (running.new.room ≡ running.old.room) }
     ensures left { IfOk result (Left running.old.chain.fixed.cylinders running.new.chain) }
     ensures again { OnErr result ((running.new.chain ≡ again_from running.old.chain) × (paths.new ≡ paths.old)) }
     ensures answers { IfOk result (Answers geometry paths.old paths.new running.old.path (stepped running.old.chain None).chain (stepped running.old.chain None).progress running.new.chain) }

@@ -1,6 +1,7 @@
 ghost use Rattle.std.specs.Prelude.{◌≡◌, IfSome};
 ghost use Rattle.std.proofs.Props.{props};
-ghost use Rattle.device_core.specs.Kept.{Keeps};
+ghost use Rattle.event_notes.specs.Loose.{loose_count};
+ghost use Rattle.device_core.specs.Kept.{ActRoom, Keeps};
 ghost use Rattle.device_core.specs.Words.{IsAtWord};
 
 use crate::past::Past;
@@ -18,4 +19,5 @@ pub struct Device<V: Volume> {
     pub past: Past,
     pub ghost at_word: { IfSome past.running (λ r. IsAtWord store.cylinders r.chain) } by { Prim.hlevel props },
     pub ghost keeps: { Keeps past } by { Prim.hlevel props },
+    pub ghost act_room: { ActRoom (loose_count store.loose.loose) past } by { Prim.hlevel props },
 }

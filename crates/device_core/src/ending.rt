@@ -9,7 +9,7 @@ ghost use Rattle.device_defs.specs.Store.{Store};
 ghost use Rattle.nv_store.specs.declared.patches.Stored.{Stored};
 ghost use Rattle.track_cache.specs.declared.frames.Frame.{Frame};
 ghost use Rattle.track_image.specs.Image.{Image};
-ghost use Rattle.device_core.specs.Kept.{open_of, chain_of, history_of, waiting_in, Keeps};
+ghost use Rattle.device_core.specs.Kept.{open_of, chain_of, history_of, waiting_in, ActRoom, HasRoomFor, Keeps};
 ghost use Rattle.device_core.specs.State.{device_by, last_of, last_end_of, step_seen};
 ghost use Rattle.device_core.specs.Turns.{turn_with, Left};
 ghost use Rattle.device_core.specs.Words.{HasEndRoom, IsAtWord};
@@ -17,9 +17,8 @@ ghost use Rattle.device_core.specs.Words.{HasEndRoom, IsAtWord};
 use crate::past::{Past, Running, Stepped};
 use ckd_types::CommandEnd;
 use device_defs::Came;
-use plain_defs::{ActList, Entry, How, Item};
+use plain_defs::{Entry, How, Item};
 use plain_device::Paths;
-use std::alloc::Global;
 
 /// A command of the running program ended, in room that was made. Its path keeps its sense.
 fn add_end(running: &mut Option<Running>, end: CommandEnd, paths: &mut Paths)
@@ -29,6 +28,7 @@ fn add_end(running: &mut Option<Running>, end: CommandEnd, paths: &mut Paths)
     ensures paths { (o : OpenEntry) → option_map open_of running.old ≡ Some o → paths.new ≡ with_sense paths.old o.path end.sense }
     ensures chain { option_map chain_of running.new ≡ option_map chain_of running.old }
     ensures running { IsSome running.new }
+    ensures room { (n : ℕ) → IfSome running.old (HasRoomFor n) → IfSome running.new (HasRoomFor n) }
     ensures ends { (o : OpenEntry) → option_map open_of running.old ≡ Some o → length o.ends < 65535 }
 {
     match running {
@@ -42,12 +42,13 @@ fn add_end(running: &mut Option<Running>, end: CommandEnd, paths: &mut Paths)
 
 impl Past {
     /// The running program is over: its entry stands in the journal, in room that was made.
-    pub(crate) fn note_program(&mut self, alloc: Global, how: How)
+    pub(crate) fn note_program(&mut self, how: How)
         requires running { IsSome self.old.running }
         requires room { 0 < self.old.items.spare }
         ensures over { self.new.running ≡ None }
         ensures items { (o : OpenEntry) → option_map open_of self.old.running ≡ Some o → self.new.items.items ≡ self.old.items.items ++ entry_of o how ∷ [] }
         ensures spare { self.new.items.spare + 1 ≡ self.old.items.spare }
+        ensures aside { self.new.items.aside ≡ self.old.items.aside }
         ensures last { self.new.last ≡ length self.old.items.items }
         ensures rest { (self.new.kept ≡ self.old.kept) × (self.new.powered ≡ self.old.powered) }
     {
@@ -60,26 +61,27 @@ impl Past {
             ordinal: running.ordinal,
             how,
             ends: running.ends,
-            acts: ActList::new(alloc),
+            acts: running.acts,
         }));
     }
 
     /// The running program is over: its entry and the resets that waited stand in the journal.
-    fn close(&mut self, alloc: Global, how: How, paths: &mut Paths)
+    fn close(&mut self, how: How, paths: &mut Paths)
         requires running { IsSome self.old.running }
         requires keeps { Keeps self.old }
         ensures over { self.new.running ≡ None }
         ensures history { (o : OpenEntry) → option_map open_of self.old.running ≡ Some o → history_of self.new ≡ closed (history_of self.old) o how }
         ensures paths { paths.new ≡ all_reset paths.old (waiting_in self.old.kept) }
         ensures last { (o : OpenEntry) → option_map open_of self.old.running ≡ Some o → last_end_of self.new ≡ last_of o.ends }
+        ensures aside { self.new.items.aside ≡ self.old.items.aside }
         ensures keeps { Keeps self.new }
     {
-        self.note_program(alloc, how);
+        self.note_program(how);
         self.follow_resets(paths);
     }
 
     /// The command at hand came out, in room that was made.
-    pub(crate) fn turned(&mut self, alloc: Global, came: Came, paths: &mut Paths) -> Stepped
+    pub(crate) fn turned(&mut self, came: Came, paths: &mut Paths) -> Stepped
         requires running { IsSome self.old.running }
         requires ends { IfSome self.old.running (λ r. HasEndRoom r.ends) }
         requires keeps { Keeps self.old }
@@ -87,20 +89,21 @@ impl Past {
         ensures answer { step_seen self.new result ≡ Some (told_step came) }
         ensures word { (n : ℕ) → IfSome self.old.running (λ r. Left n r.chain came) → IfSome self.new.running (λ r. IsAtWord n r.chain) }
         ensures keeps { Keeps self.new }
+        ensures room { (n : ℕ) → ActRoom n self.old → ActRoom n self.new }
     {
         match came {
             Came::Ends(end) => {
                 let over = end.over;
                 add_end(&mut self.running, end, paths);
                 if over {
-                    self.close(alloc, How::Full, paths);
+                    self.close(How::Full, paths);
                     return Stepped::Ended;
                 }
                 Stepped::Ended
             }
             Came::Checks(end) => {
                 add_end(&mut self.running, end, paths);
-                self.close(alloc, How::Checked, paths);
+                self.close(How::Checked, paths);
                 Stepped::Ended
             }
             Came::HalfOpen(t) => Stepped::Half(t),

@@ -1,11 +1,12 @@
-ghost use Rattle.std.specs.Prelude.{◌≡◌, ◌<◌, ◌*◌, ℕ};
+ghost use Rattle.std.specs.Prelude.{◌≡◌, ◌<◌, ◌*◌, ℕ, IfOk};
 ghost use Rattle.device_defs.specs.Contents.{contents};
 ghost use Rattle.device_defs.specs.Events.{background};
 ghost use Rattle.device_defs.specs.Peek.{peek};
 ghost use Rattle.device_outside.specs.declared.keep.NoKeep.{NoKeep};
 ghost use Rattle.device_outside.specs.Keeper.{reply};
 ghost use Rattle.device_outside.specs.Outside.{Ran, where_ok};
-ghost use Rattle.device_store.specs.State.{outside, Takes, had, peeked_by};
+ghost use Rattle.device_store.specs.Looks.{peeked_by, IsPeeked};
+ghost use Rattle.device_store.specs.State.{state_of, outside, Takes, had};
 ghost use Rattle.device_core.specs.State.{device_of};
 
 use crate::Device;
@@ -16,19 +17,24 @@ use device_store::Peeked;
 use track_image::TrackImage;
 
 impl<V: Volume> Device<V> {
-    /// What the device does by itself, behind its notes: it stages the oldest queued track. After want of memory that track isn't
-    /// queued any more. No keeper hears of it yet.
+    /// What the device does by itself, behind its notes: it recovers a track, stages the oldest queued one or destages one. After
+    /// want of memory that track isn't queued any more. The keeper is told of a track that it makes firm.
     pub fn background_with<P: Port, K: Keep<TrackImage>>(
         &mut self,
         port: &mut P,
         keep: &mut K,
     ) -> Result<Did, NoMemory>
+        requires takes { Takes K.takes keep.old self.old.store.number (self.old.store.cylinders * 15) }
         ensures fixed { (self.new.store.number ≡ self.old.store.number) × (self.new.store.cylinders ≡ self.old.store.cylinders) }
-        ensures takes { (d n : ℕ) → Takes K.takes keep.old d n → Takes K.takes keep.new d n }
+        ensures takes { Takes K.takes keep.new self.new.store.number (self.new.store.cylinders * 15) }
         ensures run { Ran (where_ok result) K.hears (background contents (device_of self.old)) (outside (P.view port.old) self.old.store keep.old) (device_of self.new) (had (λ did. did) result) (outside (P.view port.new) self.new.store keep.new) }
     {
+        let before = self.store.waiting_count();
+        self.store.begin_event();
         self.store.hear::<P, K>(port);
-        self.store.background::<P, K>(port)
+        let did = self.store.background(port, keep);
+        self.close_event::<P, K>(before, port);
+        did
     }
 
     /// The same, with a keeper that keeps nothing.
@@ -51,16 +57,22 @@ impl<V: Volume> Device<V> {
         requires takes { Takes K.takes keep.old self.old.store.number (self.old.store.cylinders * 15) }
         ensures fixed { (self.new.store.number ≡ self.old.store.number) × (self.new.store.cylinders ≡ self.old.store.cylinders) }
         ensures takes { Takes K.takes keep.new self.new.store.number (self.new.store.cylinders * 15) }
-        ensures run { Ran (where_ok result) K.hears (peek contents (device_of self.old) t) (outside (P.view port.old) self.old.store keep.old) (device_of self.new) (had peeked_by result) (outside (P.view port.new) self.new.store keep.new) }
+        ensures there { IfOk result (IsPeeked (state_of self.new.store) t) }
+        ensures run { Ran (where_ok result) K.hears (peek contents (device_of self.old) t) (outside (P.view port.old) self.old.store keep.old) (device_of self.new) (had (peeked_by (state_of self.new.store) t) result) (outside (P.view port.new) self.new.store keep.new) }
     {
-        self.store.peek(t, port, keep)
+        let before = self.store.waiting_count();
+        self.store.begin_event();
+        let peeked = self.store.peek(t, port, keep);
+        self.store.end_event::<P, K>(before, port);
+        peeked
     }
 
     /// The same, with a keeper that keeps nothing.
     pub fn peek<P: Port>(&mut self, t: TrackNo, port: &mut P) -> Result<Peeked, NoMemory>
         requires { t < self.old.store.cylinders * 15 }
         ensures fixed { (self.new.store.number ≡ self.old.store.number) × (self.new.store.cylinders ≡ self.old.store.cylinders) }
-        ensures run { (k : NoKeep) → Ran (where_ok result) (λ _ m r _. r ≡ reply m) (peek contents (device_of self.old) t) (outside (P.view port.old) self.old.store k) (device_of self.new) (had peeked_by result) (outside (P.view port.new) self.new.store k) }
+        ensures there { IfOk result (IsPeeked (state_of self.new.store) t) }
+        ensures run { (k : NoKeep) → Ran (where_ok result) (λ _ m r _. r ≡ reply m) (peek contents (device_of self.old) t) (outside (P.view port.old) self.old.store k) (device_of self.new) (had (peeked_by (state_of self.new.store) t) result) (outside (P.view port.new) self.new.store k) }
     {
         let mut keep = NoKeep;
         self.peek_with(t, port, &mut keep)

@@ -1,6 +1,7 @@
 //! One device: its tracks, its paths, its programs, what happened to it, and the program that runs.
 #![tactic(auto)]
 
+mod acts;
 mod command;
 mod counts;
 mod device;

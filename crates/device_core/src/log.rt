@@ -1,34 +1,39 @@
-ghost use Rattle.std.specs.Prelude.{◌≡◌, ◌<◌, ◌≤◌, ◌+◌, ◌++◌, ◌∷◌, [], OnOk, length};
+ghost use Rattle.std.specs.Prelude.{◌≡◌, ◌<◌, ◌≤◌, ◌+◌, ◌++◌, ◌∷◌, [], OnErr, OnOk, length};
 
 use ckd_types::NoMemory;
 use plain_defs::Item;
 use std::alloc::Global;
 use std::marker::Model;
 
-/// A device's journal: all that happened to it, in its kept order. Contracts see its items and how many more it takes without
-/// memory.
+/// A device's journal: all that happened to it, in its kept order. Contracts see its items, how many more it takes without memory,
+/// and how many acts beside these: room for acts is set aside.
 #[derive(Debug, Drop)]
 pub struct Log {
     items: Vec<Item>,
+    /// Room that is set aside for acts.
+    aside: usize,
 }
 
 impl Model for Log {
-    ghost use Rattle.std.specs.Prelude.{◌-◌, vec_capacity, vec_len};
-    ghost use Rattle.ckd_types.specs.Roomy.{Roomy};
-    ghost use Rattle.plain_defs.specs.declared.journal.Item.{Item};
+    ghost use Rattle.std.specs.Prelude.{◌-◌, ◌+◌, ◌≤◌, vec_capacity, vec_len};
+    ghost use Rattle.device_core.specs.Log.{LogView};
 
-    ghost Value = { Roomy Item };
+    ghost Value = { LogView };
 
-    ghost view = { λ g. record { items = g.items.items; spare = vec_capacity g.items - vec_len g.items } };
+    ghost view = { λ g. record { items = g.items.items; spare = vec_capacity g.items - vec_len g.items - g.aside; aside = g.aside } };
+
+    ghost invariant = { λ g. (vec_len g.items + g.aside ≤ vec_capacity g.items) × (g.aside ≤ 65535) };
 }
 
 impl Log {
     /// Nothing happened. Takes no memory.
     pub fn new(alloc: Global) -> Log
-        ensures { result.items ≡ [] }
+        ensures items { result.items ≡ [] }
+        ensures aside { result.aside ≡ 0 }
     {
         Log {
             items: Vec::new(alloc),
+            aside: 0,
         }
     }
 
@@ -46,13 +51,18 @@ impl Log {
         &self.items
     }
 
-    /// Makes room for `n` more items. Room that is there stays, also at want of memory.
-    pub fn reserve(&mut self, n: usize) -> Result<(), NoMemory>
+    /// Makes room for `n` more items, and for so many acts. Room that is there stays, also at want of memory.
+    pub fn reserve(&mut self, n: usize, acts: usize) -> Result<(), NoMemory>
+        requires { (n ≤ 65535) × (acts ≤ 65535) }
         ensures room { OnOk result (n ≤ self.new.spare) }
-        ensures same { self.new.items ≡ self.old.items }
-        ensures more { self.old.spare ≤ self.new.spare }
+        ensures acts { OnOk result (acts ≤ self.new.aside) }
+        ensures items { self.new.items ≡ self.old.items }
+        ensures aside { self.old.aside ≤ self.new.aside }
+        ensures same { OnErr result (self.old.spare ≤ self.new.spare) }
     {
-        self.items.reserve(n)?;
+        let aside = self.aside.max(acts);
+        self.items.reserve(n + aside)?;
+        self.aside = aside;
         Ok(())
     }
 
@@ -61,7 +71,19 @@ impl Log {
         requires { 0 < self.old.spare }
         ensures items { self.new.items ≡ self.old.items ++ item ∷ [] }
         ensures spare { self.new.spare + 1 ≡ self.old.spare }
+        ensures aside { self.new.aside ≡ self.old.aside }
     {
         self.items.push_reserved(item);
+    }
+
+    /// Adds an act in the room that was set aside. Takes no memory.
+    pub fn push_act(&mut self, item: Item)
+        requires { 0 < self.old.aside }
+        ensures items { self.new.items ≡ self.old.items ++ item ∷ [] }
+        ensures spare { self.new.spare ≡ self.old.spare }
+        ensures aside { self.new.aside + 1 ≡ self.old.aside }
+    {
+        self.items.push_reserved(item);
+        self.aside -= 1;
     }
 }

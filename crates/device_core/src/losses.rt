@@ -1,4 +1,4 @@
-ghost use Rattle.std.specs.Prelude.{◌≡◌, ℕ};
+ghost use Rattle.std.specs.Prelude.{◌≡◌, ◌*◌};
 ghost use Rattle.device_defs.specs.Contents.{contents};
 ghost use Rattle.device_defs.specs.Events.{lose};
 ghost use Rattle.device_outside.specs.declared.keep.NoKeep.{NoKeep};
@@ -13,20 +13,24 @@ use loss_model::Loss;
 use track_image::TrackImage;
 
 impl<V: Volume> Device<V> {
-    /// A loss of the cache, of the nonvolatile store, or of a side, behind the notes of the device. No track becomes firm by it
-    /// yet, and so no keeper hears of it.
+    /// A loss of the cache, of the nonvolatile store, or of a side, behind the notes of the device. The keeper is told of
+    /// the tracks that it made firm.
     pub fn lose_with<P: Port, K: Keep<TrackImage>>(
         &mut self,
         loss: Loss,
         port: &mut P,
         keep: &mut K,
     )
+        requires { Takes K.takes keep.old self.old.store.number (self.old.store.cylinders * 15) }
         ensures fixed { (self.new.store.number ≡ self.old.store.number) × (self.new.store.cylinders ≡ self.old.store.cylinders) }
-        ensures takes { (d n : ℕ) → Takes K.takes keep.old d n → Takes K.takes keep.new d n }
+        ensures takes { Takes K.takes keep.new self.new.store.number (self.new.store.cylinders * 15) }
         ensures run { Ran surely K.hears (lose contents (device_of self.old) loss) (outside (P.view port.old) self.old.store keep.old) (device_of self.new) tt (outside (P.view port.new) self.new.store keep.new) }
     {
+        let before = self.store.waiting_count();
+        self.store.begin_event();
         self.store.hear::<P, K>(port);
-        self.store.lose(loss);
+        self.store.lose(loss, keep);
+        self.close_event::<P, K>(before, port);
     }
 
     /// The same, with a keeper that keeps nothing.

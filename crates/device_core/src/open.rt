@@ -1,4 +1,4 @@
-ghost use Rattle.std.specs.Prelude.{◌≡◌, ◌≤◌, ◌*◌, IfErr, IfOk};
+ghost use Rattle.std.specs.Prelude.{◌≡◌, ◌≤◌, ◌*◌, IfErr, IfOk, None};
 ghost use Rattle.plain_defs.specs.History.{no_history};
 ghost use Rattle.device_core.specs.Kept.{history_of, Keeps};
 ghost use Rattle.device_core.specs.State.{device_of, opened_device};
@@ -16,6 +16,7 @@ impl Past {
     /// Nothing happened. Takes no memory.
     fn new(alloc: Global) -> Past
         ensures history { history_of result ≡ no_history }
+        ensures over { result.running ≡ None }
         ensures keeps { Keeps result }
     {
         Past {

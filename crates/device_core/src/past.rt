@@ -1,14 +1,17 @@
 use crate::Log;
 use ckd_chain::Chain;
 use ckd_types::{EndList, PathNo};
+use plain_defs::ActList;
 
-/// The program that runs.
+/// The program that runs. So many acts more as `room` says have room among its acts.
 #[derive(Debug, Drop)]
 pub struct Running {
     pub path: PathNo,
     pub ordinal: u16,
     pub chain: Chain,
     pub ends: EndList,
+    pub acts: ActList,
+    pub room: usize,
 }
 
 /// What is kept of a path, so that no event walks the journal: how many of its programs were started, whether it ran one since its

@@ -16,7 +16,6 @@ use crate::past::{KeptPath, Past};
 use device_outside::{Keep, NoKeep, Port, Volume};
 use plain_defs::Item;
 use plain_device::Paths;
-use std::alloc::Global;
 use track_image::TrackImage;
 
 /// No path used anything since, and no reset waits.
@@ -40,6 +39,7 @@ impl Past {
         ensures running { self.new.running ≡ self.old.running }
         ensures kept { self.new.kept ≡ map off_path self.old.kept }
         ensures powered { self.new.powered ≡ false }
+        ensures aside { self.new.items.aside ≡ self.old.items.aside }
     {
         self.items.push(Item::Power);
         put_off(&mut self.kept);
@@ -48,14 +48,15 @@ impl Past {
 
     /// The loss of power cuts the program that runs, and drops the resets that wait. It is none where no program was started since
     /// the power came.
-    fn lose_power(&mut self, alloc: Global)
+    fn lose_power(&mut self)
         requires keeps { Keeps self.old }
         ensures history { history_of self.new ≡ lost_power (history_of self.old) 0 }
         ensures over { self.new.running ≡ None }
         ensures keeps { Keeps self.new }
+        ensures aside { self.new.items.aside ≡ self.old.items.aside }
     {
         if self.is_running() {
-            self.note_cut(alloc);
+            self.note_cut();
             self.note_power();
             return;
         }
@@ -67,15 +68,18 @@ impl Past {
 }
 
 impl<V: Volume> Device<V> {
-    /// The loss of power. Takes no memory. The device takes no notes, has nothing to tell its port, and tells its keeper of nothing yet.
+    /// The loss of power. Takes no memory. The device takes no notes, and tells its keeper of nothing yet.
     pub fn power_with<P: Port, K: Keep<TrackImage>>(&mut self, port: &mut P, keep: &mut K)
         ensures fixed { (self.new.store.number ≡ self.old.store.number) × (self.new.store.cylinders ≡ self.old.store.cylinders) }
         ensures takes { (d n : ℕ) → Takes K.takes keep.old d n → Takes K.takes keep.new d n }
         ensures run { Ran surely K.hears (power contents (device_of self.old)) (outside (P.view port.old) self.old.store keep.old) (device_of self.new) tt (outside (P.view port.new) self.new.store keep.new) }
     {
+        let before = self.store.waiting_count();
+        self.store.begin_event();
         self.store.lose_power();
-        self.past.lose_power(self.store.alloc);
+        self.past.lose_power();
         self.paths = Paths::new();
+        self.store.end_event::<P, K>(before, port);
     }
 
     /// The same, with a keeper that keeps nothing.

@@ -21,7 +21,6 @@ use ckd_types::PathNo;
 use device_outside::{Keep, NoKeep, Volume};
 use plain_defs::{How, Item};
 use plain_device::Paths;
-use std::alloc::Global;
 use track_image::TrackImage;
 
 impl Past {
@@ -38,28 +37,30 @@ impl Past {
     }
 
     /// The running program is cut: its entry stands in the journal, in room that was made. As many commands as ended took effect.
-    pub(crate) fn note_cut(&mut self, alloc: Global)
+    pub(crate) fn note_cut(&mut self)
         requires keeps { Keeps self.old }
         requires running { IsSome self.old.running }
         ensures over { self.new.running ≡ None }
         ensures items { (o : OpenEntry) → option_map open_of self.old.running ≡ Some o → self.new.items.items ≡ self.old.items.items ++ entry_of o (Cut (length o.ends)) ∷ [] }
         ensures spare { self.new.items.spare + 1 ≡ self.old.items.spare }
+        ensures aside { self.new.items.aside ≡ self.old.items.aside }
         ensures rest { (self.new.kept ≡ self.old.kept) × (self.new.powered ≡ self.old.powered) }
     {
         let effect = self.ended_count();
-        self.note_program(alloc, How::Cut { effect });
+        self.note_program(How::Cut { effect });
     }
 
     /// The reset of its path cuts the running program, and the resets that waited follow.
-    fn cut(&mut self, alloc: Global, path: PathNo, paths: &mut Paths)
+    fn cut(&mut self, path: PathNo, paths: &mut Paths)
         requires keeps { Keeps self.old }
         requires runs { is_path_of (history_of self.old).running path ≡ true }
         ensures history { (o : OpenEntry) → option_map open_of self.old.running ≡ Some o → history_of self.new ≡ cut_by (history_of self.old) o 0 }
         ensures over { self.new.running ≡ None }
         ensures paths { paths.new ≡ all_reset (reset_path paths.old path) (waiting_in self.old.kept) }
         ensures keeps { Keeps self.new }
+        ensures aside { self.new.items.aside ≡ self.old.items.aside }
     {
-        self.note_cut(alloc);
+        self.note_cut();
         self.items.push(Item::Reset(path));
         paths.reset(path);
         set_unused(&mut self.kept, path);
@@ -74,6 +75,7 @@ impl Past {
         ensures history { history_of self.new ≡ record (history_of self.old) { items = self.old.items.items ++ Reset path ∷ [] } }
         ensures running { self.new.running ≡ None }
         ensures keeps { Keeps self.new }
+        ensures aside { self.new.items.aside ≡ self.old.items.aside }
     {
         set_unused(&mut self.kept, path);
         self.items.push(Item::Reset(path));
@@ -86,6 +88,7 @@ impl Past {
         ensures history { history_of self.new ≡ record (history_of self.old) { waiting = put path (history_of self.old).waiting } }
         ensures running { self.new.running ≡ self.old.running }
         ensures keeps { Keeps self.new }
+        ensures aside { self.new.items.aside ≡ self.old.items.aside }
     {
         set_waiting(&mut self.kept, path);
     }
@@ -113,7 +116,7 @@ impl<V: Volume> Device<V> {
         ensures store { self.new.store ≡ self.old.store }
     {
         if self.past.runs_on(path) {
-            self.past.cut(self.store.alloc, path, &mut self.paths);
+            self.past.cut(path, &mut self.paths);
             return;
         }
         if self.past.has_used(path) {

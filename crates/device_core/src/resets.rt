@@ -40,6 +40,7 @@ fn note_where(items: &mut Log, path: PathNo, waits: bool)
     requires { 0 < items.old.spare }
     ensures items { items.new.items ≡ items.old.items ++ resets_of (waiting_one waits path) }
     ensures spare { items.new.spare + length (waiting_one waits path) ≡ items.old.spare }
+    ensures aside { items.new.aside ≡ items.old.aside }
 {
     if waits {
         items.push(Item::Reset(path));
@@ -51,6 +52,7 @@ fn note_resets(items: &mut Log, kept: &[KeptPath; 4])
     requires { 4 ≤ items.old.spare }
     ensures items { items.new.items ≡ items.old.items ++ resets_of (waiting_in kept.now) }
     ensures spare { items.new.spare + length (waiting_in kept.now) ≡ items.old.spare }
+    ensures aside { items.new.aside ≡ items.old.aside }
 {
     for (at, path) in kept.iter().enumerate() {
         note_where(items, path_at(at), path.waits);
@@ -76,6 +78,7 @@ impl Past {
         requires { 4 ≤ self.old.items.spare }
         ensures items { self.new.items.items ≡ self.old.items.items ++ resets_of (waiting_in self.old.kept) }
         ensures spare { self.new.items.spare + length (waiting_in self.old.kept) ≡ self.old.items.spare }
+        ensures aside { self.new.items.aside ≡ self.old.items.aside }
         ensures kept { self.new.kept ≡ map over_path self.old.kept }
         ensures paths { paths.new ≡ all_reset paths.old (waiting_in self.old.kept) }
         ensures running { self.new.running ≡ self.old.running }

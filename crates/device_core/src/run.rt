@@ -1,19 +1,22 @@
-ghost use Rattle.std.specs.Prelude.{◌≡◌, ◌*◌, IfSome, IsSome, OnOk, option_map};
+ghost use Rattle.std.specs.Prelude.{◌≡◌, ◌≤◌, ◌+◌, ◌*◌, ℕ, [], IfSome, IsSome, OnOk, option_map};
 ghost use Rattle.device_defs.specs.Command.{command, command_by};
 ghost use Rattle.device_defs.specs.Contents.{contents};
+ghost use Rattle.device_defs.specs.Device.{event};
+ghost use Rattle.event_notes.specs.Loose.{loose_count, weight};
 ghost use Rattle.device_outside.specs.declared.keep.NoKeep.{NoKeep};
 ghost use Rattle.device_outside.specs.Keeper.{reply};
 ghost use Rattle.device_outside.specs.Outside.{Ran, where_ok};
 ghost use Rattle.device_store.specs.State.{outside, Takes};
-ghost use Rattle.device_core.specs.Kept.{open_of, chain_of};
+ghost use Rattle.device_core.specs.Kept.{open_of, chain_of, history_of, ActRoom, HasRoomFor, Keeps};
 ghost use Rattle.device_core.specs.State.{device_of, step_had};
 ghost use Rattle.device_core.specs.Words.{HasEndRoom};
 
 use crate::Device;
-use crate::past::{Running, Stepped};
+use crate::past::{Past, Running, Stepped};
 use crate::step::on_past;
 use ckd_types::NoMemory;
 use device_outside::{Keep, NoKeep, Port, Volume};
+use std::alloc::Global;
 use track_image::TrackImage;
 
 /// The most ends of a program that can be counted. A chain is over long before, behind 4,096 commands.
@@ -26,6 +29,7 @@ fn reserve_end(running: &mut Option<Running>) -> Result<(), NoMemory>
     ensures room { OnOk result (IfSome running.new (λ r. HasEndRoom r.ends)) }
     ensures open { option_map open_of running.new ≡ option_map open_of running.old }
     ensures chain { option_map chain_of running.new ≡ option_map chain_of running.old }
+    ensures acts { (n : ℕ) → IfSome running.old (HasRoomFor n) → IfSome running.new (HasRoomFor n) }
 {
     match running {
         Some(running) => {
@@ -38,8 +42,28 @@ fn reserve_end(running: &mut Option<Running>) -> Result<(), NoMemory>
     }
 }
 
+impl Past {
+    /// Makes room for a command's end, and for so many acts. Room that is there stays.
+    fn reserve(&mut self, alloc: Global, acts: usize) -> Result<(), NoMemory>
+        requires few { acts ≤ 65535 }
+        requires running { IsSome self.old.running }
+        requires keeps { Keeps self.old }
+        requires room { ActRoom 0 self.old }
+        ensures history { history_of self.new ≡ history_of self.old }
+        ensures chain { option_map chain_of self.new.running ≡ option_map chain_of self.old.running }
+        ensures running { IsSome self.new.running }
+        ensures keeps { Keeps self.new }
+        ensures ends { OnOk result (IfSome self.new.running (λ r. HasEndRoom r.ends)) }
+        ensures made { OnOk result (ActRoom acts self.new) }
+        ensures room { (n : ℕ) → ActRoom n self.old → ActRoom n self.new }
+    {
+        self.reserve_acts(alloc, acts)?;
+        reserve_end(&mut self.running)
+    }
+}
+
 impl<V: Volume> Device<V> {
-    /// The command at hand of the running program, in room that was made.
+    /// The command at hand of the running program, in room that was made, with the acts that it brought.
     fn command_ready<P: Port, K: Keep<TrackImage>>(
         &mut self,
         port: &mut P,
@@ -47,6 +71,8 @@ impl<V: Volume> Device<V> {
     ) -> Result<Stepped, NoMemory>
         requires running { IsSome self.old.past.running }
         requires ends { IfSome self.old.past.running (λ r. HasEndRoom r.ends) }
+        requires fresh { self.old.store.loose.acts ≡ [] }
+        requires room { ActRoom (weight self.old.store.loose + 2) self.old.past }
         requires takes { Takes K.takes keep.old self.old.store.number (self.old.store.cylinders * 15) }
         ensures fixed { (self.new.store.number ≡ self.old.store.number) × (self.new.store.cylinders ≡ self.old.store.cylinders) }
         ensures takes { Takes K.takes keep.new self.new.store.number (self.new.store.cylinders * 15) }
@@ -59,9 +85,37 @@ impl<V: Volume> Device<V> {
             port,
             keep,
         ) {
-            Err(NoMemory) => Err(NoMemory),
-            Ok(came) => Ok(self.past.turned(self.store.alloc, came, &mut self.paths)),
+            Err(NoMemory) => {
+                self.past.note_acts(self.store.loose.acts());
+                Err(NoMemory)
+            }
+            Ok(came) => {
+                self.past.note_acts(self.store.loose.acts());
+                Ok(self.past.turned(came, &mut self.paths))
+            }
         }
+    }
+
+    /// The same as an event.
+    fn command_event<P: Port, K: Keep<TrackImage>>(
+        &mut self,
+        port: &mut P,
+        keep: &mut K,
+    ) -> Result<Stepped, NoMemory>
+        requires running { IsSome self.old.past.running }
+        requires ends { IfSome self.old.past.running (λ r. HasEndRoom r.ends) }
+        requires room { ActRoom (loose_count self.old.store.loose.loose + 2) self.old.past }
+        requires takes { Takes K.takes keep.old self.old.store.number (self.old.store.cylinders * 15) }
+        ensures fixed { (self.new.store.number ≡ self.old.store.number) × (self.new.store.cylinders ≡ self.old.store.cylinders) }
+        ensures takes { Takes K.takes keep.new self.new.store.number (self.new.store.cylinders * 15) }
+        ensures run { Ran (where_ok result) K.hears (event contents (device_of self.old) (λ z. command_by contents z z.history.running z.chain)) (outside (P.view port.old) self.old.store keep.old) (device_of self.new) (step_had self.new.past result) (outside (P.view port.new) self.new.store keep.new) }
+    {
+        let before = self.store.waiting_count();
+        self.store.begin_event();
+        self.store.hear::<P, K>(port);
+        let stepped = self.command_ready(port, keep);
+        self.store.end_event::<P, K>(before, port);
+        stepped
     }
 
     /// The command at hand of the running program. Its end stands in the journal (`last_end`): nothing of it is copied. Room is
@@ -77,12 +131,14 @@ impl<V: Volume> Device<V> {
         ensures takes { Takes K.takes keep.new self.new.store.number (self.new.store.cylinders * 15) }
         ensures run { Ran (where_ok result) K.hears (command contents (device_of self.old)) (outside (P.view port.old) self.old.store keep.old) (device_of self.new) (step_had self.new.past result) (outside (P.view port.new) self.new.store keep.new) }
     {
-        match reserve_end(&mut self.past.running) {
+        match self
+            .past
+            .reserve(self.store.alloc, self.store.loose.count() + 2)
+        {
             Err(NoMemory) => return Err(NoMemory),
             Ok(()) => (),
         }
-        self.store.hear::<P, K>(port);
-        self.command_ready(port, keep)
+        self.command_event(port, keep)
     }
 
     /// The same, with a keeper that keeps nothing.

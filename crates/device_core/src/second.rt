@@ -40,7 +40,10 @@ impl<V: Volume> Device<V> {
         ensures seen { IsSome (second_seen self.new.past result) }
         ensures run { (e : SecondEnd) → second_seen self.new.past result ≡ Some e → Ran surely K.hears (second contents (device_of self.old)) (outside (P.view port.old) self.old.store keep.old) (device_of self.new) e (outside (P.view port.new) self.new.store keep.new) }
     {
+        let before = self.store.waiting_count();
+        self.store.begin_event();
         self.store.hear::<P, K>(port);
+        self.store.end_event::<P, K>(before, port);
         SecondStep::Unwritten(first_track())
     }
 

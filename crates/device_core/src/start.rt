@@ -1,7 +1,7 @@
 ghost use Rattle.std.specs.Prelude.{◌≡◌, ◌&&◌, ◌+◌, ◌<◌, ◌≤◌, ◌==◌, [], IfOk, OnOk, OnErr, None, Some, true, false, option_map};
 ghost use Rattle.plain_defs.specs.History.{is_path_of, started};
 ghost use Rattle.device_defs.specs.Start.{has_none_or_is_out, idle_fault, is_finished, is_shut, keeps_out, left, next_ordinal, next_program, reserved_fault, running_fault, start, start_fault, started_count};
-ghost use Rattle.device_core.specs.Kept.{open_of, chain_of, history_of, of_path, Keeps};
+ghost use Rattle.device_core.specs.Kept.{open_of, chain_of, history_of, of_path, ActRoom, Keeps};
 ghost use Rattle.device_core.specs.State.{device_of};
 ghost use Rattle.device_core.specs.Starting.{fault_told};
 
@@ -14,6 +14,7 @@ use ckd_chain::Chain;
 use ckd_types::{EndList, FixedData, NoMemory, PathNo};
 use device_defs::StartFault;
 use device_outside::Volume;
+use plain_defs::ActList;
 
 /// Why a program wasn't started: a rule keeps it out, or memory was lacking.
 #[derive(Clone, Copy, Debug)]
@@ -23,7 +24,7 @@ pub enum NotStarted {
 }
 
 /// What may come before the next start: the entry of the program, the reset of its path, those of four that wait, a loss of power.
-const ITEMS_BEFORE_NEXT: usize = 7;
+pub(crate) const ITEMS_BEFORE_NEXT: usize = 7;
 
 fn all_four(first: bool, second: bool, third: bool, fourth: bool) -> bool
     ensures { result ≡ (first && (second && (third && (fourth && true)))) }
@@ -32,30 +33,42 @@ fn all_four(first: bool, second: bool, third: bool, fourth: bool) -> bool
 }
 
 impl Past {
-    /// Makes room in the journal for all that may come before the next start.
-    fn reserve_items(&mut self) -> Result<(), NoMemory>
+    /// Makes room in the journal for all that may come before the next start, and for so many acts.
+    fn reserve_items(&mut self, acts: usize) -> Result<(), NoMemory>
+        requires acts { acts ≤ 65535 }
         requires keeps { Keeps self.old }
         ensures room { OnOk result (7 ≤ self.new.items.spare) }
         ensures keeps { Keeps self.new }
         ensures items { self.new.items.items ≡ self.old.items.items }
         ensures rest { (self.new.running ≡ self.old.running) × (self.new.kept ≡ self.old.kept) }
         ensures history { history_of self.new ≡ history_of self.old }
+        ensures acts { OnOk result (acts ≤ self.new.items.aside) }
+        ensures aside { self.old.items.aside ≤ self.new.items.aside }
     {
-        self.items.reserve(ITEMS_BEFORE_NEXT)?;
+        self.items.reserve(ITEMS_BEFORE_NEXT, acts)?;
         Ok(())
     }
 
     /// A program of a path begins, in room that was made. Answers its ordinal.
-    fn begin(&mut self, path: PathNo, chain: Chain, ends: EndList) -> u16
+    fn begin(
+        &mut self,
+        path: PathNo,
+        chain: Chain,
+        ends: EndList,
+        acts: ActList,
+        room: usize,
+    ) -> u16
         requires keeps { Keeps self.old }
         requires idle { option_map open_of self.old.running ≡ None }
         requires room { 7 ≤ self.old.items.spare }
         requires few { started_count (history_of self.old) path < 65535 }
         requires ends { ends.items ≡ [] }
+        requires acts { (acts.items ≡ []) × (room ≤ acts.spare) }
         ensures ordinal { result ≡ started_count (history_of self.old) path + 1 }
         ensures history { history_of self.new ≡ started (history_of self.old) path (started_count (history_of self.old) path + 1) }
         ensures chain { option_map chain_of self.new.running ≡ Some chain }
         ensures keeps { Keeps self.new }
+        ensures room { ActRoom room self.old → ActRoom room self.new }
     {
         let ordinal = count_one_more(&mut self.kept, path);
         self.powered = true;
@@ -64,6 +77,8 @@ impl Past {
             ordinal,
             chain,
             ends,
+            acts,
+            room,
         });
         ordinal
     }
@@ -171,14 +186,18 @@ impl<V: Volume> Device<V> {
         let program = self.next_program(path).copy(alloc)?;
         let mut ends = EndList::new(alloc);
         ends.reserve(1)?;
-        self.past.reserve_items()?;
+        let room = self.store.loose.count();
+        let mut acts = ActList::new(alloc);
+        acts.reserve(room)?;
+        self.past.reserve_items(room)?;
         let fixed = FixedData::new(
             self.store.geometry,
             self.store.cylinders,
             self.store.data_number,
         );
         self.paths.begin(path, program.ccws());
-        Ok(self.past.begin(path, Chain::begin(program, fixed), ends))
+        let chain = Chain::begin(program, fixed);
+        Ok(self.past.begin(path, chain, ends, acts, room))
     }
 
     /// Starts the path's next planned program, and answers its ordinal. The program is copied into its chain, and room is made for

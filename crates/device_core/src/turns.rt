@@ -1,4 +1,4 @@
-ghost use Rattle.std.specs.Prelude.{◌≡◌, ◌<◌, ◌*◌, IfOk, IfSome, OnErr, IsSome};
+ghost use Rattle.std.specs.Prelude.{◌≡◌, ◌<◌, ◌≤◌, ◌+◌, ◌*◌, IfOk, IfSome, OnErr, IsSome, option_map};
 ghost use Rattle.ckd_chain.specs.declared.progress.Settled.TheVariants as settleds;
 ghost use Rattle.ckd_chain.specs.Facts.{MayBeWritten};
 ghost use Rattle.ckd_rules.specs.Facts.{Suits};
@@ -8,8 +8,10 @@ ghost use Rattle.device_defs.specs.Editing.{write};
 ghost use Rattle.device_defs.specs.Memory.{and_had};
 ghost use Rattle.device_defs.specs.Outcomes.{usage_of, wrote_turn, checks};
 ghost use Rattle.device_outside.specs.Outside.{Ran, where_ok};
+ghost use Rattle.device_store.specs.Looks.{seen, IsSeen};
 ghost use Rattle.device_store.specs.State.{state_of, outside, Takes, had};
-ghost use Rattle.device_core.specs.Turns.{turn_with, went_with, IsAt, Left, IsSameHand, GoesOn};
+ghost use Rattle.device_core.specs.Turns.{turn_with, went_with, IsAt, Left, IsSameHand, GoesOn, KeepsLoose};
+ghost use Rattle.event_notes.specs.Loose.{weight};
 
 use ckd_chain::{Chain, Progress, Settled};
 use ckd_types::{Edit, HEADS, NoMemory, TrackNo};
@@ -71,6 +73,32 @@ fn wrote(chain: &mut Chain, t: TrackNo, took: Took) -> Came
     }
 }
 
+/// Writes a track of which an image was read, or whose image is in its frame.
+fn write_seen<V: Volume, P: Port, K: Keep<TrackImage>>(
+    store: &mut DeviceStore<V>,
+    usage: &Usage,
+    first: TrackNo,
+    t: TrackNo,
+    read: Option<&TrackImage>,
+    edit: Edit,
+    port: &mut P,
+    keep: &mut K,
+) -> Result<Took, NoMemory>
+    requires track { t < store.old.cylinders * 15 }
+    requires there { IsSeen (state_of store.old) t (option_map (λ i. i.now) read) }
+    requires suits { Suits (seen (state_of store.old) t (option_map (λ i. i.now) read)).geometry (seen (state_of store.old) t (option_map (λ i. i.now) read)).track.records edit }
+    requires takes { Takes K.takes keep.old store.old.number (store.old.cylinders * 15) }
+    ensures fixed { (store.new.number ≡ store.old.number) × (store.new.cylinders ≡ store.old.cylinders) }
+    ensures takes { Takes K.takes keep.new store.new.number (store.new.cylinders * 15) }
+    ensures weight { weight store.new.loose ≤ weight store.old.loose + 2 }
+    ensures run { Ran (where_ok result) K.hears (write contents (state_of store.old) usage.now first t (seen (state_of store.old) t (option_map (λ i. i.now) read.entry)) edit) (outside (P.view port.old) store.old keep.old) (state_of store.new) (had (λ took. took) result) (outside (P.view port.new) store.new keep.new) }
+{
+    match read {
+        Some(image) => store.write(usage, first, t, image, edit, port, keep),
+        None => store.write_framed(usage, first, t, edit, port, keep),
+    }
+}
+
 /// Writes a track, and ends the command by what came of it.
 fn write_edit<V: Volume, P: Port, K: Keep<TrackImage>>(
     store: &mut DeviceStore<V>,
@@ -78,13 +106,14 @@ fn write_edit<V: Volume, P: Port, K: Keep<TrackImage>>(
     chain: &mut Chain,
     first: TrackNo,
     t: TrackNo,
-    image: &TrackImage,
+    read: Option<&TrackImage>,
     edit: Edit,
     port: &mut P,
     keep: &mut K,
 ) -> Result<Step, NoMemory>
     requires track { t < store.old.cylinders * 15 }
-    requires suits { Suits image.now.geometry image.now.track.records edit }
+    requires there { IsSeen (state_of store.old) t (option_map (λ i. i.now) read) }
+    requires suits { Suits (seen (state_of store.old) t (option_map (λ i. i.now) read)).geometry (seen (state_of store.old) t (option_map (λ i. i.now) read)).track.records edit }
     requires takes { Takes K.takes keep.old store.old.number (store.old.cylinders * 15) }
     requires at { IsAt store.old.cylinders chain.old }
     requires written { MayBeWritten chain.old.stage }
@@ -92,35 +121,41 @@ fn write_edit<V: Volume, P: Port, K: Keep<TrackImage>>(
     ensures takes { Takes K.takes keep.new store.new.number (store.new.cylinders * 15) }
     ensures goes { IfOk result (GoesOn store.old.cylinders chain.old chain.new) }
     ensures hand { OnErr result (IsSameHand chain.old chain.new) }
-    ensures run { Ran (where_ok result) K.hears (and_had (write contents (state_of store.old) usage.now first t image.now edit) (came_of_write contents chain.old t)) (outside (P.view port.old) store.old keep.old) (state_of store.new) (had (went_with chain.new) result) (outside (P.view port.new) store.new keep.new) }
+    ensures weight { weight store.new.loose ≤ weight store.old.loose + 2 }
+    ensures on { IfOk result (KeepsLoose store.old.loose store.new.loose) }
+    ensures run { Ran (where_ok result) K.hears (and_had (write contents (state_of store.old) usage.now first t (seen (state_of store.old) t (option_map (λ i. i.now) read.entry)) edit) (came_of_write contents chain.old t)) (outside (P.view port.old) store.old keep.old) (state_of store.new) (had (went_with chain.new) result) (outside (P.view port.new) store.new keep.new) }
 {
-    match store.write(usage, first, t, image, edit, port, keep) {
+    match write_seen(store, usage, first, t, read, edit, port, keep) {
         Err(NoMemory) => Err(NoMemory),
         Ok(took) => Ok(Step::Over(wrote(chain, t, took))),
     }
 }
 
-/// What the command at hand does with the image of a track.
+/// What the command at hand does with the image of a track, one that was read or the one in its frame.
 fn on_image<V: Volume, P: Port, K: Keep<TrackImage>>(
     store: &mut DeviceStore<V>,
     usage: &Usage,
     chain: &mut Chain,
     first: TrackNo,
     t: TrackNo,
-    image: &TrackImage,
+    read: Option<&TrackImage>,
     port: &mut P,
     keep: &mut K,
 ) -> Result<Step, NoMemory>
     requires track { t < store.old.cylinders * 15 }
     requires takes { Takes K.takes keep.old store.old.number (store.old.cylinders * 15) }
+    requires there { IsSeen (state_of store.old) t (option_map (λ i. i.now) read) }
     requires at { IsAt store.old.cylinders chain.old }
     requires usage { usage.now ≡ usage_of chain.old }
     ensures fixed { (store.new.number ≡ store.old.number) × (store.new.cylinders ≡ store.old.cylinders) }
     ensures takes { Takes K.takes keep.new store.new.number (store.new.cylinders * 15) }
     ensures goes { IfOk result (GoesOn store.old.cylinders chain.old chain.new) }
     ensures hand { OnErr result (IsSameHand chain.old chain.new) }
-    ensures run { Ran (where_ok result) K.hears (went_on contents chain.old first t (state_of store.old) image.now) (outside (P.view port.old) store.old keep.old) (state_of store.new) (had (went_with chain.new) result) (outside (P.view port.new) store.new keep.new) }
+    ensures weight { weight store.new.loose ≤ weight store.old.loose + 2 }
+    ensures on { IfOk result (KeepsLoose store.old.loose store.new.loose) }
+    ensures run { Ran (where_ok result) K.hears (went_on contents chain.old first t (state_of store.old) (seen (state_of store.old) t (option_map (λ i. i.now) read.entry))) (outside (P.view port.old) store.old keep.old) (state_of store.new) (had (went_with chain.new) result) (outside (P.view port.new) store.new keep.new) }
 {
+    let image = store.seen(t, read);
     let progress = match chain.step(store.alloc, Some(image)) {
         Err(NoMemory) => return Err(NoMemory),
         Ok(progress) => progress,
@@ -130,7 +165,7 @@ fn on_image<V: Volume, P: Port, K: Keep<TrackImage>>(
         Progress::Need(next) => Ok(Step::On(next)),
         Progress::Local(_) => Ok(Step::Over(check(chain))),
         Progress::Write { edit, .. } => {
-            write_edit(store, usage, chain, first, t, image, edit, port, keep)
+            write_edit(store, usage, chain, first, t, read, edit, port, keep)
         }
     }
 }
@@ -151,6 +186,8 @@ fn look<V: Volume, P: Port, K: Keep<TrackImage>>(
     ensures takes { Takes K.takes keep.new store.new.number (store.new.cylinders * 15) }
     ensures goes { IfOk result (GoesOn store.old.cylinders chain.old chain.new) }
     ensures hand { OnErr result (IsSameHand chain.old chain.new) }
+    ensures weight { weight store.new.loose ≤ weight store.old.loose + 2 }
+    ensures on { IfOk result (KeepsLoose store.old.loose store.new.loose) }
     ensures run { Ran (where_ok result) K.hears (look contents chain.old first t (state_of store.old)) (outside (P.view port.old) store.old keep.old) (state_of store.new) (had (went_with chain.new) result) (outside (P.view port.new) store.new keep.new) }
 {
     if store.lost.has(t) {
@@ -164,7 +201,8 @@ fn look<V: Volume, P: Port, K: Keep<TrackImage>>(
     match looked {
         Looked::NoBytes(_) => Ok(Step::Over(check(chain))),
         Looked::BadTrack(_) => Ok(Step::Over(check_data(chain))),
-        Looked::Has(image) => on_image(store, &usage, chain, first, t, &image, port, keep),
+        Looked::Frame => on_image(store, &usage, chain, first, t, None, port, keep),
+        Looked::Has(image) => on_image(store, &usage, chain, first, t, Some(&image), port, keep),
     }
 }
 
@@ -183,6 +221,7 @@ pub fn follow<V: Volume, P: Port, K: Keep<TrackImage>>(
     ensures takes { Takes K.takes keep.new store.new.number (store.new.cylinders * 15) }
     ensures left { IfOk result (Left store.old.cylinders chain.new) }
     ensures hand { OnErr result (IsSameHand chain.old chain.new) }
+    ensures weight { weight store.new.loose ≤ weight store.old.loose + 2 }
     ensures run { Ran (where_ok result) K.hears (follow contents (store.old.cylinders * 15) first chain.old first (state_of store.old)) (outside (P.view port.old) store.old keep.old) (state_of store.new) (had (turn_with chain.new) result) (outside (P.view port.new) store.new keep.new) }
 {
     let tracks = usize::from(store.cylinders) * usize::from(HEADS);

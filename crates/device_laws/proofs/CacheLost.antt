@@ -105,8 +105,8 @@ module _ {F P H R : Type 0} (c : Contents F P H R) (faithful : IsFaithful c) whe
 
   pub begun_here : (s : Store F P H) (b : Bool) → IsHere (rest_of s) → IsHere (rest_of (begun_by b s))
   unfolding C.rest_of
-  begun_here s true h = record { free = h.free; alone = h.alone; within = h.within; queued = tt }
-  begun_here s false h = record { free = h.free; alone = h.alone; within = h.within; queued = tt }
+  begun_here s true h = record { free = h.free; alone = h.alone; whole = h.whole; within = h.within; queued = tt }
+  begun_here s false h = record { free = h.free; alone = h.alone; whole = h.whole; within = h.within; queued = tt }
 
   pub begun_tracks : (s : Store F P H) (b : Bool) → tracks_of (begun_by b s) ≡ tracks_of s
   begun_tracks s true = refl

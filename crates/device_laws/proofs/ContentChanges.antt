@@ -47,6 +47,7 @@ use Rattle.device_defs.specs.Store.{
   tracks_of,
   side_of,
   patch_at,
+  is_lost,
   is_loose,
   half_is,
   with_stale,
@@ -56,9 +57,10 @@ use Rattle.device_defs.specs.Store.{
   with_loose,
   with_owed,
 }
-use Rattle.device_laws.specs.Agrees.{Held, image_in, slot_at, HasSlots, IsGround, Agrees}
+use Rattle.device_laws.specs.Agrees.{Held, image_in, PatchFits, slot_at, HasSlots, IsGround, Agrees}
+use Rattle.device_laws.specs.InOrder.{IsOpen}
 use Rattle.device_laws.proofs.TrackContents as T
-use Rattle.device_laws.proofs.TrackContents.{TrackContents, contents_at, IsRight, right_is_held, held_is_right}
+use Rattle.device_laws.proofs.TrackContents.{TrackContents, contents_at, IsRight, Opened, right_is_held, held_is_right}
 
 -- what no change of one track touches
 pub record Base : Type 0 where
@@ -352,8 +354,17 @@ RightBut writing = RightOff (Being writing)
 abbrev pub Sure : List Track → List Track → DeviceStore → Held → Type 0
 Sure = RightBut None
 
-pub agrees_sure : (v w : List Track) (s : DeviceStore) (h : Held) → Agrees v w s h → Sure v w s h
-agrees_sure v w s h a = record { ground = a.ground; right = λ q lt ne. held_is_right s h q (image_in s v q) (image_in s w q) (a.held q lt) }
+opened_at : (v : List Track) (s : DeviceStore) (q : ℕ) (i : HalfWrite Image) → IsOpen v s i → i.track ≡ q → Opened s q (image_in s v q) i
+opened_at v s q i o at =
+    subst (λ (t : ℕ). Opened s t (image_in s v t) i) at (record { patch = o.patch; suits = o.suits })
+
+pub agrees_sure : (v w : List Track) (s : DeviceStore) (h : Held) → Agrees v w s h →
+    ((q : ℕ) → q < tracks_of s → is_lost s q ≡ false → half_is s.half q ≡ false → PatchFits (patch_at s q) (image_in s v q) (image_in s w q)) →
+    ((i : HalfWrite Image) → s.half ≡ Some i → IsOpen v s i) → Sure v w s h
+agrees_sure v w s h a patched opened = record {
+  ground = a.ground;
+  right = λ q lt ne. held_is_right s h q (image_in s v q) (image_in s w q) (patched q lt) (λ i e at. opened_at v s q i (opened i e) at) (a.held q lt);
+}
 
 pub sure_agrees : (v w : List Track) (s : DeviceStore) (h : Held) → Sure v w s h → Agrees v w s h
 sure_agrees v w s h a = record { ground = a.ground; held = λ q lt. right_is_held s h q (image_in s v q) (image_in s w q) (a.right q lt (λ e. absurd (cc))) }

@@ -88,9 +88,15 @@ module _ {F P H R : Type 0} (c : Contents F P H R) (faithful : IsFaithful c) whe
     abbrev now : Store F P H
     now = half_opened c z t i origin
 
-    now_here : t < tracks_of z → IsHere (rest_of z) → IsHere (rest_of now)
+    now_here : t < tracks_of z → z.b.up ≡ true → IsHere (rest_of z) → IsHere (rest_of now)
     unfolding C.rest_of
-    now_here lt h = record { free = h.free; alone = h.alone; within = λ k e. let is : k.track ≡ t = ap_track k e in omega arith; queued = h.queued }
+    now_here lt up h = record {
+      free = h.free;
+      alone = h.alone;
+      whole = λ e. absurd (let off = h.alone e in cc);
+      within = λ k e. let is : k.track ≡ t = ap_track k e in omega arith;
+      queued = h.queued;
+    }
       where
         track_or : Option (HalfWrite H) → ℕ
         track_or None = 0
@@ -115,10 +121,10 @@ module _ {F P H R : Type 0} (c : Contents F P H R) (faithful : IsFaithful c) whe
     by_place o none there firm q lt (inr ne) =
         (ap is_good (marks_elsewhere none q ne) ∙ o.good q ne lt, subst IsKept (sym (marks_elsewhere none q ne)) (o.kept q ne lt))
 
-    half_well : t < tracks_of z → Others c t s z → z.half ≡ None → (track_at c z t).lost ≡ false → (track_at c z t).loose ≡ false → IsWell c now
-    half_well lt o none there firm = record {
+    half_well : t < tracks_of z → z.b.up ≡ true → Others c t s z → z.half ≡ None → (track_at c z t).lost ≡ false → (track_at c z t).loose ≡ false → IsWell c now
+    half_well lt up o none there firm = record {
       sizes = record { are = o.sizes.are };
-      here = now_here lt o.here;
+      here = now_here lt up o.here;
       good = λ q below. (by_place o none there firm q (let same = o.tracks in omega arith) (cases_eq q t)).0;
       kept = λ q below. (by_place o none there firm q (let same = o.tracks in omega arith) (cases_eq q t)).1;
     }
@@ -135,15 +141,15 @@ module _ {F P H R : Type 0} (c : Contents F P H R) (faithful : IsFaithful c) whe
   keeps_on s z y f g = record { well = g.well; tracks = g.tracks ∙ f.tracks }
 
   pub opened_keeps_good : (t : ℕ) (s z : Store F P H) (i : Image) (origin : Origin) (was_loose : Bool) → t < tracks_of z → Others c t s z →
-      z.half ≡ None → (track_at c z t).lost ≡ false → (track_at c z t).loose ≡ false →
+      z.half ≡ None → (track_at c z t).lost ≡ false → (track_at c z t).loose ≡ false → z.b.up ≡ true →
       Always (opened c z t i origin was_loose) (λ y _. Keeps s y)
-  opened_keeps_good t s z i origin true lt o none there firm =
+  opened_keeps_good t s z i origin true lt o none there firm up =
       let u = with_frame z t (cleaned c (frame_at z t)) in
       let e = changed_frame c z t (cleaned c (frame_at z t)) lt o.sizes in
       always_ask (λ _. always_done (record {
-        well = half_well t s u i origin lt (others_changed c t s z u _ o e) none
+        well = half_well t s u i origin lt up (others_changed c t s z u _ o e) none
             (ap (λ (x : TrackMarks). x.lost) e.here ∙ there) (ap (λ (x : TrackMarks). x.loose) e.here ∙ firm);
         tracks = o.tracks;
       }))
-  opened_keeps_good t s z i origin false lt o none there firm =
-      always_done (record { well = half_well t s z i origin lt o none there firm; tracks = o.tracks })
+  opened_keeps_good t s z i origin false lt o none there firm up =
+      always_done (record { well = half_well t s z i origin lt up o none there firm; tracks = o.tracks })

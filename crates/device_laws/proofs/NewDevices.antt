@@ -154,7 +154,7 @@ module _ (d : ℕ) (g : Geometry) (n : ℕ) where
           ∙ get_or-map-range_with_len empty_bytes 0 (n * 15) t t [] lt (omega arith)
           ∙ ap track_bytes (sym track_is)
 
-      reads : image_read g t (get_or h.a t []) ≡ Some (image_in s v t)
+      pub reads : image_read g t (get_or h.a t []) ≡ Some (image_in s v t)
       reads =
           let x = track_in v t in
           let is = volume_empty g n most in
@@ -168,6 +168,7 @@ module _ (d : ℕ) (g : Geometry) (n : ℕ) where
         frame = λ f e. absurd (let none = no_frame t in cc);
         a = λ e. rw (no_patch t) (unpatched (image_read g t (get_or h.a t [])) ∙ reads);
         b = λ e. absurd (cc);
+        patch = T.none_fits (patch_at s t) (image_in s v t) (image_in s v t) (no_patch t);
       }
 
       held : IsHeld s h t (image_in s v t) (image_in s v t)
@@ -179,9 +180,12 @@ module _ (d : ℕ) (g : Geometry) (n : ℕ) where
       told = λ t. ap (λ (o : Owed). o.firm) (none_owed t);
       free = refl;
       alone = λ e. refl;
+      whole = λ e. refl;
       marks = λ t lt. sound t;
       nowhere = λ t lt lost. absurd (let f = not_lost t in cc);
       queued = tt;
       within = λ i e. absurd (cc);
       there = λ i e. absurd (cc);
+      patched = λ t lt there off. T.none_fits (patch_at s t) (image_in s v t) (image_in s v t) (no_patch t);
+      opened = λ i e. absurd (cc);
     }

@@ -104,7 +104,7 @@ module _ {F P H R : Type 0} (c : Contents F P H R) (faithful : IsFaithful c) whe
       let s = d.store in
       let z = b_sizes s true w.sizes in
       same_marks s (join d).store (record { are = z.are })
-      (record { free = w.here.free; alone = λ e. absurd (cc); within = w.here.within; queued = w.here.queued }) refl
+      (record { free = w.here.free; alone = λ e. absurd (cc); whole = λ e. absurd (cc); within = w.here.within; queued = w.here.queued }) refl
       (λ q lt. ap (λ (v : Bool). record (track_at c s q) { level = v }) (b_level s q lt (is_alone s w.here single))) w
 
   -- a failed side is replaced
@@ -115,13 +115,13 @@ module _ {F P H R : Type 0} (c : Contents F P H R) (faithful : IsFaithful c) whe
       let s = d.store in
       let z = a_sizes s true w.sizes in
       same_marks s (replace d A).store (record { are = z.are })
-      (record { free = w.here.free; alone = w.here.alone; within = w.here.within; queued = w.here.queued }) refl
+      (record { free = w.here.free; alone = w.here.alone; whole = w.here.whole; within = w.here.within; queued = w.here.queued }) refl
       (λ q lt. ap (λ (v : Bool). record (track_at c s q) { level = v }) (a_level s q lt down)) w
   replace_keeps_good d B w down has =
       let s = d.store in
       let z = b_sizes s true w.sizes in
       same_marks s (replace d B).store (record { are = z.are })
-      (record { free = w.here.free; alone = λ e. absurd (let f = has refl in cc); within = w.here.within; queued = w.here.queued }) refl
+      (record { free = w.here.free; alone = λ e. absurd (let f = has refl in cc); whole = w.here.whole; within = w.here.within; queued = w.here.queued }) refl
       (λ q lt. ap (λ (v : Bool). record (track_at c s q) { level = v }) (b_level s q lt down)) w
 
   split_sizes : (s : Store F P H) → HasSizes s → HasSizes (record s { b = record { up = false; stale = replicate (tracks_of s) false } })
@@ -131,14 +131,14 @@ module _ {F P H R : Type 0} (c : Contents F P H R) (faithful : IsFaithful c) whe
   split_level s q y up level = let e : level_at s.a q ≡ true = rw (up, level) refl in rw e refl
 
   -- side B leaves, where every track is level on side A
-  pub split_keeps_good : (d : Device F P H) → IsWell c d.store → d.store.a.up ≡ true →
+  pub split_keeps_good : (d : Device F P H) → IsWell c d.store → d.store.half ≡ None → d.store.a.up ≡ true →
       ((q : ℕ) → q < tracks_of d.store → stale_at d.store.a q ≡ false) → Keeps c faithful d.store (split d).store
   unfolding M.track_at C.rest_of
-  split_keeps_good d w up level =
+  split_keeps_good d w none up level =
       let s = d.store in
       let z = split_sizes s w.sizes in
       same_marks s (split d).store (record { are = z.are })
-      (record { free = w.here.free; alone = λ e. refl; within = w.here.within; queued = w.here.queued }) refl
+      (record { free = w.here.free; alone = λ e. refl; whole = λ e. none; within = w.here.within; queued = w.here.queued }) refl
       (λ q lt. ap (λ (v : Bool). record (track_at c s q) { level = v })
       (split_level s q (level_at (split d).store.b q) up (level q lt))) w
 
@@ -146,13 +146,13 @@ module _ {F P H R : Type 0} (c : Contents F P H R) (faithful : IsFaithful c) whe
   unfolding M.track_at C.rest_of
   hold_keeps_good d w =
       same_marks d.store (hold d).store (record { are = w.sizes.are })
-      (record { free = w.here.free; alone = w.here.alone; within = w.here.within; queued = w.here.queued }) refl (λ q lt. refl) w
+      (record { free = w.here.free; alone = w.here.alone; whole = w.here.whole; within = w.here.within; queued = w.here.queued }) refl (λ q lt. refl) w
 
   pub resume_keeps_good : (d : Device F P H) → IsWell c d.store → Keeps c faithful d.store (resume d).store
   unfolding M.track_at C.rest_of
   resume_keeps_good d w =
       same_marks d.store (resume d).store (record { are = w.sizes.are })
-      (record { free = w.here.free; alone = w.here.alone; within = w.here.within; queued = w.here.queued }) refl (λ q lt. refl) w
+      (record { free = w.here.free; alone = w.here.alone; whole = w.here.whole; within = w.here.within; queued = w.here.queued }) refl (λ q lt. refl) w
 
   -- A device that is lent
 
@@ -217,7 +217,7 @@ module _ {F P H R : Type 0} (c : Contents F P H R) (faithful : IsFaithful c) whe
       record {
         well = record {
           sizes = record { are = z.are };
-          here = record { free = refl; alone = λ e. g.other; within = λ h e. absurd (let f = g.none in cc); queued = g.queued };
+          here = record { free = refl; alone = λ e. g.other; whole = λ e. g.none; within = λ h e. absurd (let f = g.none in cc); queued = g.queued };
           good = λ q lt. restored_marks (track_at c s q) _ _ (g.frame q lt) (g.patched q lt) (g.lost q lt) (gone_half s q g.none)
               (empty_places (tracks_of s) q false) (given_level (tracks_of s) q (level_at s.b q));
           kept = λ q lt h. g.lost q lt;
@@ -279,6 +279,11 @@ module _ {F P H R : Type 0} (c : Contents F P H R) (faithful : IsFaithful c) whe
         patched = λ q lt. ap (λ (x : TrackMarks). x.patched) (e.changed q (omega arith));
         lost = λ q lt. empty_places (tracks_of z) q false;
       }
+
+  -- what is lent then
+  pub lent_now_gone : (s : Store F P H) (to : ℕ) → IsWell c s → s.paired ≡ false → s.half ≡ None → IsGone (lent_to (over (tracks_of s) (given_up c) s) to)
+  lent_now_gone s to w single none =
+      lent_gone s (over (tracks_of s) (given_up c) s) to (swept c bare (given_up c) given_step (tracks_of s) s (omega arith) w.sizes w.here) w.here single none
 
   gone_same : (s z : Store F P H) → IsGone s → IsSame c s z → IsGone z
   gone_same s z g e =

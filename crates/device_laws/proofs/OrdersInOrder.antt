@@ -1,5 +1,5 @@
 -- Orders that give a side another volume, or take one away, leave a device in order.
-use Rattle.std.proofs.Common.{◌≡◌, ◌<◌, ℕ, true, false, not, List, length, refl, sym, ap, ◌∙◌}
+use Rattle.std.proofs.Common.{None, ◌≡◌, ◌<◌, ℕ, true, false, not, List, length, refl, sym, ap, ◌∙◌}
 use Rattle.std.proofs.lemmas.List.{get_or-replicate}
 use Rattle.ckd_types.specs.declared.paths.Side.{Side}
 use Rattle.ckd_types.specs.declared.paths.Side.TheVariants.{A, B}
@@ -165,9 +165,9 @@ module _ (v w : List Track) (d : WholeDevice) (h : Held) where
       is_in_order v w (join d).store (holding h B l) (joined l long f.well (ordered i)) f.well
 
   -- side B leaves, where each track is level on side A
-  pub split_order : IsInOrder v w s h → s.a.up ≡ true → ((q : ℕ) → q < tracks_of s → stale_at s.a q ≡ false) → IsInOrder v w (split d).store h
-  split_order i up level =
-      let f = split_keeps_good contents device_is_faithful d (in_order v w s h i).well up level in
+  pub split_order : IsInOrder v w s h → s.half ≡ None → s.a.up ≡ true → ((q : ℕ) → q < tracks_of s → stale_at s.a q ≡ false) → IsInOrder v w (split d).store h
+  split_order i none up level =
+      let f = split_keeps_good contents device_is_faithful d (in_order v w s h i).well none up level in
       is_in_order v w (split d).store h (split_off f.well (ordered i)) f.well
 
   -- over marks they do the same

@@ -150,7 +150,7 @@ module _ (v w : List Track) (s : DeviceStore) (h : Held) where
   unfolding M.track_at C.rest_of
   off_well y = record {
     sizes = record { are = y.sizes.are };
-    here = record { free = y.here.free; alone = y.here.alone; within = y.here.within; queued = tt };
+    here = record { free = y.here.free; alone = y.here.alone; whole = y.here.whole; within = y.here.within; queued = tt };
     good = y.good;
     kept = y.kept;
   }

@@ -6,6 +6,7 @@ use Rattle.std.proofs.Common.{
   get_or,
   ◌≡◌,
   ◌<◌,
+  ◌≤◌,
   ◌*◌,
   zero,
   suc,
@@ -36,63 +37,38 @@ use Rattle.ckd_types.specs.Ccw.{ccw_at}
 use Rattle.ckd_types.specs.Fixed.{Fixed}
 use Rattle.ckd_types.specs.Parameters.{is_provisional}
 use Rattle.ckd_types.specs.Volume.{track_in}
-use Rattle.ckd_chain.specs.declared.mark.Mark.{Mark}
 use Rattle.ckd_chain.specs.declared.mark.Stage.{Stage}
-use Rattle.ckd_chain.specs.declared.progress.Settled.{Settled}
-use Rattle.ckd_chain.specs.declared.progress.Settled.TheVariants.{Equipment, DataCheck}
-use Rattle.ckd_chain.specs.Fed.{Fed, ended_by, fed, by_rules}
+use Rattle.ckd_chain.specs.declared.progress.Settled.TheVariants.{Written, Equipment, DataCheck}
+use Rattle.ckd_chain.specs.Fed.{Fed, ended_by, fed}
 use Rattle.ckd_chain.specs.State.{ChainState}
-use Rattle.ckd_chain.specs.Steps.{
-  begin_with,
-  opening_at,
-  stage_for,
-  opened_by,
-  stage_by,
-  needed,
-  need_of,
-  index_of,
-  word_of,
-  mark_by,
-  behind,
-  end_with,
-  stepped,
-  stepped_by,
-  settled_by,
-}
-use Rattle.ckd_chain.proofs.Feeding.{chain_fed}
-use Rattle.ckd_rules.specs.declared.grouping.GroupFault.{GroupFault}
+use Rattle.ckd_chain.specs.Steps.{begin_with, opening_at, stage_for, opened_by, stage_by, needed, need_of, index_of, word_of, behind, end_with, stepped, stepped_by, settled_by}
 use Rattle.ckd_rules.specs.declared.opening.Opening.{Opening}
 use Rattle.ckd_rules.specs.declared.opening.Opening.TheVariants as openings
-use Rattle.ckd_rules.specs.declared.order.LocalAct.{LocalAct}
-use Rattle.ckd_rules.specs.declared.order.LocalAct.TheVariants as acts
 use Rattle.ckd_rules.specs.declared.stance.Stance.{Stance}
-use Rattle.ckd_rules.specs.Ending.{Outcome}
-use Rattle.ckd_rules.specs.Ends.{goes_to}
 use Rattle.ckd_rules.specs.Opening.{Opened}
-use Rattle.ckd_rules.specs.Walk.{TrackEdit, walk}
+use Rattle.ckd_rules.specs.Walk.{TrackEdit}
 use Rattle.plain_defs.specs.declared.journal.Act.{Act}
 use Rattle.plain_defs.specs.declared.journal.Act.TheVariants.{Loosen}
-use Rattle.plain_defs.specs.Acts.{act_fault}
-use Rattle.plain_defs.specs.Effect.{Effect, acted_by, effect_by, command_effect, edited_volume, behind_effect}
+use Rattle.plain_defs.specs.Effect.{Effect, command_effect, edited_volume, behind_effect}
 use Rattle.plain_defs.specs.History.{OpenEntry, History, open_part, plain_of, state_by, acted, acted_in, IsPlain}
 use Rattle.plain_defs.specs.Journal.{program_of, replay}
 use Rattle.plain_defs.specs.Legal.{AreActs, MayEdit, IsLegal, edit_at, track_of}
 use Rattle.plain_defs.specs.Loose.{is_loose_in, act_done}
 use Rattle.plain_defs.specs.PlainState.{PathsState, PlainState, empty_state, with_sense}
 use Rattle.plain_defs.specs.Program.{Part, acts_done}
-use Rattle.plain_device.specs.Acted.{settled_with, settled_act, paths_with, paths_behind}
+use Rattle.plain_device.specs.Acted.{settled_act, paths_behind}
 use Rattle.device_outside.specs.Interaction.{Interaction}
 use Rattle.track_image.specs.Image.{Image}
 use Rattle.device_defs.specs.declared.answers.Came.TheVariants.{Ends}
 use Rattle.device_defs.specs.declared.answers.Stepped.{Stepped}
 use Rattle.device_defs.specs.Command as N
-use Rattle.device_defs.specs.Command.{has_loss, came_out, on_tracks, answered_by, on_paths, command_at, command_by, command, follow}
+use Rattle.device_defs.specs.Command.{has_loss, on_tracks, answered_by, command_at, command_by, command}
 use Rattle.device_defs.specs.Contents.{by_plain}
 use Rattle.device_defs.specs.Device.{all_acted, with_store, event_begun, event}
 use Rattle.device_defs.specs.Marks.{MarksDevice, MarksStore}
-use Rattle.device_defs.specs.Outcomes.{Turn, ends_with, settles, checks, turned}
+use Rattle.device_defs.specs.Outcomes.{Turn, checks, turned}
 use Rattle.device_defs.specs.Owed.{begun, waiting_count}
-use Rattle.device_defs.specs.Store.{tracks_of}
+use Rattle.device_defs.specs.Store.{OfCommand, HalfWrite, tracks_of}
 use Rattle.device_laws.proofs.DeviceCuts.{StandsPlainly}
 use Rattle.device_laws.proofs.DeviceEnds.{all_acted-append}
 use Rattle.device_laws.proofs.DeviceHistory.{index_is}
@@ -102,14 +78,19 @@ use Rattle.device_laws.proofs.Had.{Had, had_done, had_try, had_if, had_then}
 use Rattle.device_laws.proofs.HistoryActs.{acts_first, acts_rest, acted_plain, acted_state, all_acted_plain, all_acted_state}
 use Rattle.device_laws.proofs.HistoryEnds.{edited_next, effect_at, running_is_open}
 use Rattle.device_laws.proofs.OpenProgram.{IsGoing, with_one_act, going_of_open, going_with_act, part_with_act}
-use Rattle.device_laws.proofs.PlainLooks.{IsAtWord, from_itself, EditSo, TurnIs, ended_so, equipment, data_check, FollowSo, follow_so}
+use Rattle.device_laws.proofs.PlainLooks.{IsAtWord, from_itself, EditSo, TurnIs, ended_so, equipment, data_check, half_open, FollowSo, follow_so}
+use Rattle.device_laws.proofs.PlainRules.{eff_of, AnswerIs, needs_by, fed_so, looking_keeps, over_answer, asked_answer, by_opening}
 use Rattle.device_laws.proofs.PlainStores.{
   Core,
   core_of,
   loose_at,
+  Open,
+  open_of,
   IsOf,
-  IsAlone,
+  HasPlaces,
   Walks,
+  with_half,
+  of_half,
   edited,
   of_edited,
   of_loosely_edited,
@@ -121,7 +102,12 @@ use Rattle.device_laws.proofs.PlainTurns.{
   AtPart,
   RunsAt,
   ChainOf,
+  IsMid,
+  IsAtHome,
   Follows,
+  none_mid,
+  at_home,
+  home_runs,
   of_paths,
   of_begun,
   StillRuns,
@@ -131,148 +117,36 @@ use Rattle.device_laws.proofs.PlainTurns.{
   equipment_follows,
   data_check_follows,
 }
-use Rattle.device_laws.proofs.PlainWalks.{IsEdited, firmly, loosely, loosened, hear_same, ended_same}
+use Rattle.device_laws.proofs.PlainWalks.{HalfSo, opened_half, IsEdited, firmly, loosely, loosened, hear_same, ended_same}
 use Rattle.device_laws.proofs.WaitingResets.{AreDue}
-
--- What the rules say of a command that looks at tracks, and of one that asks its device
-
-module _ (chain : ChainState) (fresh : chain.stage ≡ None) (paths : PathsState) (path : ℕ) (u : List Track) where
-  abbrev pub eff_of : Effect
-  eff_of = command_effect chain.fixed paths (track_in u) path chain.at.stance (word_of chain)
-
-  abbrev by_opening : Stance → Opening → Effect
-  by_opening z x = effect_by chain.fixed paths (track_in u) path chain.at.stance (word_of chain) z x
-
-  rules_by : (answer : LocalAct → Settled) (k t : ℕ) (v : ChainState) → suc k ≡ chain.fixed.cylinders * 15 → (z : Stance) (x : Opening) →
-      needed v (stage_for x) ≡ Some t →
-      by_rules (suc k) (track_in u) answer chain z x ≡ ended_by chain (by_opening z x).outcome (by_opening z x).edit
-  rules_by answer k t v m z (openings.Over e) is = refl
-  rules_by answer k t v m z (openings.Looks look) is =
-      ap (λ (n : ℕ). let w = walk n chain.fixed.geometry (track_in u) chain.at.stance (word_of chain) look z in ended_by chain w.outcome w.edit) m
-  rules_by answer k t v m z (openings.Asks act) is = absurd (cc)
-
-  kept_sense : (t : ℕ) (v : ChainState) (z : Stance) (x : Opening) → needed v (stage_for x) ≡ Some t →
-      with_sense paths path (by_opening z x).outcome.ending.sense ≡ (by_opening z x).paths
-  kept_sense t v z (openings.Over e) is = refl
-  kept_sense t v z (openings.Looks look) is = refl
-  kept_sense t v z (openings.Asks act) is = absurd (cc)
-
-  pub needs_by : need_of chain ≡ needed (begin_with chain (opening_at chain)) (stage_for (opening_at chain).opening)
-  needs_by = ap (λ (o : Option Stage). needed (opened_by chain o) (stage_by chain o)) fresh
-
-  needs_so : (t : ℕ) → need_of chain ≡ Some t → needed (begin_with chain (opening_at chain)) (stage_for (opening_at chain).opening) ≡ Some t
-  needs_so t is = sym (ap (λ (o : Option Stage). needed (opened_by chain o) (stage_by chain o)) fresh) ∙ is
-
-  pub fed_so : (answer : LocalAct → Settled) (k t : ℕ) → suc k ≡ chain.fixed.cylinders * 15 → need_of chain ≡ Some t →
-      fed (suc k) (track_in u) answer chain ≡ ended_by chain eff_of.outcome eff_of.edit
-  fed_so answer k t m is = chain_fed (track_in u) answer k chain fresh
-      ∙ rules_by answer k t (begin_with chain (opening_at chain)) m (opening_at chain).stance (opening_at chain).opening (needs_so t is)
-
-  pub looking_keeps : (t : ℕ) → need_of chain ≡ Some t → with_sense paths path eff_of.outcome.ending.sense ≡ eff_of.paths
-  looking_keeps t is = kept_sense t (begin_with chain (opening_at chain)) (opening_at chain).stance (opening_at chain).opening (needs_so t is)
-
-  -- what it asks
-
-  abbrev begun_at : Stance → Opening → ChainState
-  begun_at z x = begin_with chain (record { stance = z; opening = x })
-
-  asked_outcome : (z : Stance) (act : LocalAct) (fault : Option GroupFault) →
-      settled_by (begun_at z (openings.Asks act)) (settled_with chain.fixed.geometry paths path act fault)
-      ≡ (acted_by chain.fixed paths path chain.at.stance (word_of chain) act fault).outcome
-  asked_outcome z act (Some fault) = refl
-  asked_outcome z acts.Sense None = refl
-  asked_outcome z acts.SenseId None = refl
-  asked_outcome z acts.Reserve None = refl
-  asked_outcome z acts.Release None = refl
-  asked_outcome z acts.Steal None = refl
-  asked_outcome z (acts.SetGroup function id) None = refl
-  asked_outcome z acts.SenseGroup None = refl
-
-  asked_paths : (act : LocalAct) (fault : Option GroupFault) →
-      with_sense (paths_with paths path act fault) path (acted_by chain.fixed paths path chain.at.stance (word_of chain) act fault).outcome.ending.sense
-      ≡ (acted_by chain.fixed paths path chain.at.stance (word_of chain) act fault).paths
-  asked_paths act (Some fault) = refl
-  asked_paths acts.Sense None = refl
-  asked_paths acts.SenseId None = refl
-  asked_paths acts.Reserve None = refl
-  asked_paths acts.Release None = refl
-  asked_paths acts.Steal None = refl
-  asked_paths (acts.SetGroup function id) None = refl
-  asked_paths acts.SenseGroup None = refl
-
-  asked_edit : (act : LocalAct) (fault : Option GroupFault) → (acted_by chain.fixed paths path chain.at.stance (word_of chain) act fault).edit ≡ None
-  asked_edit act (Some fault) = refl
-  asked_edit act None = refl
-
-  behind_same : (z : Stance) (x : Opening) (o : Outcome) → behind (begun_at z x) o ≡ behind chain o
-  behind_same z x o = ap (λ (m : Mark). record chain {
-    at = record { stance = o.stance; next = goes_to chain.ccws (index_of chain.at.next) o };
-    before = m;
-    stage = None;
-    held = None;
-  }) (sym (ap (mark_by chain) fresh))
-
-  -- the turn of a command that looks at no track, with the paths behind it, is that of its effect
-  pub record AnswerIs (e : Effect) (turn : Turn) (after : PathsState) : Type 0 where
-    pub turn_is : turn ≡ record { came = Ends (end_with chain e.outcome); chain = behind chain e.outcome }
-    pub kept : with_sense after path e.outcome.ending.sense ≡ e.paths
-    pub none : e.edit ≡ None
-
-  ends_so : (z : Stance) (x : Opening) (o p : Outcome) → o ≡ p →
-      ends_with (behind (begun_at z x) o) (end_with (begun_at z x) o) ≡ record { came = Ends (end_with chain p); chain = behind chain p }
-  ends_so z x o p is =
-      ap (λ (y : Outcome). ends_with (behind (begun_at z x) y) (end_with (begun_at z x) y)) is
-      ∙ ap (λ (c : ChainState). record { came = Ends (end_with chain p); chain = c }) (behind_same z x p)
-
-  pub over_answer : (z : Stance) (e : _) → AnswerIs (by_opening z (openings.Over e))
-      (ends_with (behind (begun_at z (openings.Over e)) (record { stance = z; ending = e })) (end_with (begun_at z (openings.Over e))
-      (record { stance = z; ending = e })))
-      paths
-  over_answer z e = record {
-    turn_is = ends_so z (openings.Over e) (record { stance = z; ending = e }) (record { stance = z; ending = e }) refl;
-    kept =
-        refl;
-    none = refl;
-  }
-
-  pub asked_answer : (z : Stance) (act : LocalAct) (g : Geometry) → chain.fixed.geometry ≡ g →
-      AnswerIs (by_opening z (openings.Asks act)) (settles (begun_at z (openings.Asks act)) (settled_act g paths path act)) (paths_behind paths path act)
-  asked_answer z act g same = record {
-    turn_is = ends_so z (openings.Asks act) (settled_by (begun_at z (openings.Asks act)) (settled_act g paths path act))
-        (by_opening z (openings.Asks act)).outcome
-        (ap (λ (y : Geometry). settled_by (begun_at z (openings.Asks act)) (settled_act y paths path act)) (sym same)
-        ∙ asked_outcome z act (act_fault paths path act));
-    kept = asked_paths act (act_fault paths path act);
-    none = asked_edit act (act_fault paths path act);
-  }
 
 -- An edit on a plain device
 
-abbrev IsEditOf : PlainState → Option TrackEdit → Core → Type 0
+abbrev pub IsEditOf : PlainState → Option TrackEdit → Core → Type 0
 IsEditOf p None c = IsOf p c
 IsEditOf p (Some x) c = IsOf (edited p x.track x.edit) c
 
-of_edit : (p : PlainState) (edit : Option TrackEdit) (paths : PathsState) (c : Core) → IsEditOf p edit c →
+pub of_edit : (p : PlainState) (edit : Option TrackEdit) (paths : PathsState) (c : Core) → IsEditOf p edit c →
     IsOf (record p { volume = edited_volume p.volume edit; paths = paths }) c
 of_edit p None paths c of = of_paths p c of paths
 of_edit p (Some x) paths c of = of_paths (edited p x.track x.edit) c of paths
 
-one_more : (m : ℕ) → 0 < m → (k : ℕ) × (suc k ≡ m)
+pub one_more : (m : ℕ) → 0 < m → (k : ℕ) × (suc k ≡ m)
 one_more zero lt = absurd (omega (arith, lt))
 one_more (suc k) lt = (k, refl)
 
 -- The command
 
-module _ (empty : PlainState) (d : MarksDevice) (f : Follows empty d) (o : OpenEntry) (running : d.history.running ≡ Some o) (chain : ChainState)
-    (is : d.chain ≡ Some chain) where
+module _ (num : ℕ) (empty : PlainState) (d : MarksDevice) (f : Follows num empty d) (o : OpenEntry) (running : d.history.running ≡ Some o) (chain : ChainState)
+    (is : f.before ≡ Some chain) where
   abbrev p : PlainState
   p = plain_of d.plans empty d.history
 
   pub at : AtPart d.plans (replay d.plans empty d.history.items) o chain
   at = subst (λ (k : Option ChainState). RunsAt d.plans (replay d.plans empty d.history.items) (Some o) k) is
-      (subst (λ (r : Option OpenEntry). RunsAt d.plans (replay d.plans empty d.history.items) r d.chain) running f.runs)
+      (subst (λ (r : Option OpenEntry). RunsAt d.plans (replay d.plans empty d.history.items) r f.before) running f.runs)
 
-  on : (chain.fixed.geometry ≡ d.store.geometry) × (chain.fixed.cylinders ≡ d.store.cylinders)
+  pub on : (chain.fixed.geometry ≡ d.store.geometry) × (chain.fixed.cylinders ≡ d.store.cylinders)
   on = subst (ChainOf d.store.geometry d.store.cylinders) is f.chain
 
   pub all_run : (path : ℕ) (acts : List Act) (h : History) → IsPlain d.plans empty h → AreDue h → AreActs (plain_of d.plans empty h) None acts →
@@ -289,7 +163,10 @@ module _ (empty : PlainState) (d : MarksDevice) (f : Follows empty d) (o : OpenE
 
   -- a store of the same size
   pub record Sized (y : MarksStore) : Type 0 where
-    pub alone : IsAlone (core_of y)
+    pub places : HasPlaces (core_of y)
+    pub whole : y.half ≡ None
+    pub home : y.lent ≡ None
+    pub number : y.device ≡ num
     pub geometry : y.geometry ≡ d.store.geometry
     pub cylinders : y.cylinders ≡ d.store.cylinders
 
@@ -302,6 +179,20 @@ module _ (empty : PlainState) (d : MarksDevice) (f : Follows empty d) (o : OpenE
   on_of : (y : MarksStore) → Sized y → ChainOf y.geometry y.cylinders (Some chain)
   on_of y z = (on.0 ∙ sym z.geometry, on.1 ∙ sym z.cylinders)
 
+  pub same_effect : (h : History) (entry : OpenEntry) → entry.path ≡ o.path → (here : AtPart d.plans (replay d.plans empty h.items) entry chain) →
+      (open_part d.plans (replay d.plans empty h.items) entry).state.volume ≡ d.store.plain →
+      (open_part d.plans (replay d.plans empty h.items) entry).state.paths ≡ d.paths →
+      eff_of chain at.fresh d.paths o.path d.store.plain ≡ effect_at d.plans (replay d.plans empty h.items) h.items entry (index_of chain.at.next)
+  same_effect h entry path_is here volume kept =
+      let part = open_part d.plans (replay d.plans empty h.items) entry in
+      ap (λ (x : Fixed). command_effect x d.paths (track_in d.store.plain) o.path chain.at.stance (word_of chain)) here.fixed
+      ∙ ap (λ (x : PathsState). command_effect part.fixed x (track_in d.store.plain) o.path chain.at.stance (word_of chain)) (sym kept)
+      ∙ ap (λ (x : List Track). command_effect part.fixed part.state.paths (track_in x) o.path chain.at.stance (word_of chain)) (sym volume)
+      ∙ ap (λ (x : ℕ). command_effect part.fixed part.state.paths (track_in part.state.volume) x chain.at.stance (word_of chain)) (sym path_is)
+      ∙ ap (λ (x : Stance). command_effect part.fixed part.state.paths (track_in part.state.volume) entry.path x (word_of chain)) here.stance
+      ∙ ap (λ (x : List Ccw). command_effect part.fixed part.state.paths (track_in part.state.volume) entry.path part.stance
+      (ccw_at x (index_of chain.at.next))) here.hand.words
+
   -- it ends as on the plain device of a history that has acts since
   module _ (y : MarksStore) (z : Sized y) (h : History) (paths : PathsState) (legal : IsLegal d.plans empty h.items) (due : AreDue h)
       (entry : OpenEntry) (runs : h.running ≡ Some entry) (path_is : entry.path ≡ o.path)
@@ -313,35 +204,26 @@ module _ (empty : PlainState) (d : MarksDevice) (f : Follows empty d) (o : OpenE
     effect = effect_at d.plans (replay d.plans empty h.items) h.items entry (index_of chain.at.next)
 
     module _ (volume : part.state.volume ≡ d.store.plain) (kept : part.state.paths ≡ d.paths) where
-      same_effect : eff_of chain at.fresh d.paths o.path d.store.plain ≡ effect
-      same_effect =
-          ap (λ (x : Fixed). command_effect x d.paths (track_in d.store.plain) o.path chain.at.stance (word_of chain)) here.fixed
-          ∙ ap (λ (x : PathsState). command_effect part.fixed x (track_in d.store.plain) o.path chain.at.stance (word_of chain)) (sym kept)
-          ∙ ap (λ (x : List Track). command_effect part.fixed part.state.paths (track_in x) o.path chain.at.stance (word_of chain)) (sym volume)
-          ∙ ap (λ (x : ℕ). command_effect part.fixed part.state.paths (track_in part.state.volume) x chain.at.stance (word_of chain)) (sym path_is)
-          ∙ ap (λ (x : Stance). command_effect part.fixed part.state.paths (track_in part.state.volume) entry.path x (word_of chain)) here.stance
-          ∙ ap (λ (x : List Ccw). command_effect part.fixed part.state.paths (track_in part.state.volume) entry.path part.stance
-          (ccw_at x (index_of chain.at.next))) here.hand.words
-
       ends_follow : IsGoing d.plans (replay d.plans empty h.items) h.items entry (edited_next d.plans (replay d.plans empty h.items) h.items entry) →
           MayEdit part.state part.stance (eff_of chain at.fresh d.paths o.path d.store.plain).edit →
           with_sense paths o.path (eff_of chain at.fresh d.paths o.path d.store.plain).outcome.ending.sense
           ≡ (eff_of chain at.fresh d.paths o.path d.store.plain).paths →
           IsEditOf part.state (eff_of chain at.fresh d.paths o.path d.store.plain).edit (core_of y) →
-          Follows empty (turned (record d { store = y; history = h; paths = paths }) o.path
+          Follows num empty (turned (record d { store = y; history = h; paths = paths }) o.path
           (record {
             came = Ends (end_with chain (eff_of chain at.fresh d.paths o.path d.store.plain).outcome);
             chain = behind chain (eff_of chain at.fresh d.paths o.path d.store.plain).outcome;
           }))
       ends_follow going may sense of =
           let e = eff_of chain at.fresh d.paths o.path d.store.plain in
+          let same = same_effect h entry path_is here volume kept in
           let x : MarksDevice = record d { store = y; history = h; paths = paths } in
-          subst (λ (path : ℕ). Follows empty (turned x path (record { came = Ends (end_with chain e.outcome); chain = behind chain e.outcome }))) path_is
-          (end_follows empty x (base_of y z) (some_of y z) z.alone entry runs chain legal due here going e.outcome
-          (ap (λ (w : Effect). w.outcome) same_effect)
-          (subst (λ (w : Effect). MayEdit part.state part.stance w.edit) same_effect may)
-          (ap (λ (path : ℕ). with_sense paths path e.outcome.ending.sense) path_is ∙ sense ∙ ap (λ (w : Effect). w.paths) same_effect)
-          (subst (λ (w : Effect). IsOf (behind_effect part.state w) (core_of y)) same_effect (of_edit part.state e.edit e.paths (core_of y) of))
+          subst (λ (path : ℕ). Follows num empty (turned x path (record { came = Ends (end_with chain e.outcome); chain = behind chain e.outcome }))) path_is
+          (end_follows empty x (base_of y z) (some_of y z) z.places z.whole z.home num z.number entry runs chain legal due here going e.outcome
+          (ap (λ (w : Effect). w.outcome) same)
+          (subst (λ (w : Effect). MayEdit part.state part.stance w.edit) same may)
+          (ap (λ (path : ℕ). with_sense paths path e.outcome.ending.sense) path_is ∙ sense ∙ ap (λ (w : Effect). w.paths) same)
+          (subst (λ (w : Effect). IsOf (behind_effect part.state w) (core_of y)) same (of_edit part.state e.edit e.paths (core_of y) of))
           (on_of y z))
 
   -- Behind acts by which no track becomes loose
@@ -359,7 +241,7 @@ module _ (empty : PlainState) (d : MarksDevice) (f : Follows empty d) (o : OpenE
     state_on : plain_of d.plans empty (all_acted d.history acts) ≡ acts_done p acts
     state_on = all_acted_state d.plans empty acts d.history f.stands.plain are
 
-    runs_on : StillRuns d.plans empty chain o.path (all_acted d.history acts)
+    pub runs_on : StillRuns d.plans empty chain o.path (all_acted d.history acts)
     runs_on = all_run o.path acts d.history f.stands.plain f.stands.due are runs_first
 
     part_on : (open_part d.plans (replay d.plans empty (all_acted d.history acts).items) runs_on.entry).state ≡ acts_done p acts
@@ -372,35 +254,35 @@ module _ (empty : PlainState) (d : MarksDevice) (f : Follows empty d) (o : OpenE
     going_none = going_of_open d.plans (replay d.plans empty (all_acted d.history acts).items) (all_acted d.history acts).items runs_on.entry None
         (running_is_open d.plans empty (all_acted d.history acts) plain_on due_on runs_on.entry runs_on.running)
 
-  abbrev the_effect : Effect
+  abbrev pub the_effect : Effect
   the_effect = eff_of chain at.fresh d.paths o.path d.store.plain
 
-  abbrev the_turn : Turn
+  abbrev pub the_turn : Turn
   the_turn = record { came = Ends (end_with chain the_effect.outcome); chain = behind chain the_effect.outcome }
 
   module _ (y : MarksStore) (z : Sized y) (are : AreActs (plain_of d.plans empty d.history) None y.acts) where
     check_stands : StandsPlainly empty (with_store d y)
     check_stands = record { plain = plain_on y.acts are; due = due_on y.acts are }
 
-    equipment_on : IsOf (acts_done p y.acts) (core_of y) → (last : ChainState) → IsAtWord chain last → Follows empty (turned (with_store d y) o.path
+    pub equipment_on : IsOf (acts_done p y.acts) (core_of y) → (last : ChainState) → IsAtWord chain last → Follows num empty (turned (with_store d y) o.path
         (checks last Equipment))
     equipment_on of last word =
         let r = runs_on y.acts are in
-        subst (λ (path : ℕ). Follows empty (turned (with_store d y) path (checks last Equipment))) r.path_is
-        (equipment_follows empty (with_store d y) (base_of y z) (some_of y z) z.alone r.entry r.running chain check_stands
+        subst (λ (path : ℕ). Follows num empty (turned (with_store d y) path (checks last Equipment))) r.path_is
+        (equipment_follows empty (with_store d y) (base_of y z) (some_of y z) z.places z.whole z.home num z.number r.entry r.running chain check_stands
         (acts_keep_them empty d y f.stands are f.keeps) (subst (λ (x : PlainState). IsOf x (core_of y)) (sym (state_on y.acts are)) of) r.at.hand last word)
 
-    data_check_on : IsOf (acts_done p y.acts) (core_of y) → (last : ChainState) → IsAtWord chain last → Follows empty (turned (with_store d y) o.path
+    data_check_on : IsOf (acts_done p y.acts) (core_of y) → (last : ChainState) → IsAtWord chain last → Follows num empty (turned (with_store d y) o.path
         (checks last DataCheck))
     data_check_on of last word =
         let r = runs_on y.acts are in
-        subst (λ (path : ℕ). Follows empty (turned (with_store d y) path (checks last DataCheck))) r.path_is
-        (data_check_follows empty (with_store d y) (base_of y z) (some_of y z) z.alone r.entry r.running chain check_stands
+        subst (λ (path : ℕ). Follows num empty (turned (with_store d y) path (checks last DataCheck))) r.path_is
+        (data_check_follows empty (with_store d y) (base_of y z) (some_of y z) z.places z.whole z.home num z.number r.entry r.running chain check_stands
         (acts_keep_them empty d y f.stands are f.keeps) (subst (λ (x : PlainState). IsOf x (core_of y)) (sym (state_on y.acts are)) of) r.at.hand last word)
 
     whole_on : (paths : PathsState) → with_sense paths o.path the_effect.outcome.ending.sense ≡ the_effect.paths → (acts_done p y.acts).volume ≡ d.store.plain →
         MayEdit (acts_done p y.acts) chain.at.stance the_effect.edit → IsEditOf (acts_done p y.acts) the_effect.edit (core_of y) →
-        Follows empty (turned (record d { store = y; history = all_acted d.history y.acts; paths = paths }) o.path the_turn)
+        Follows num empty (turned (record d { store = y; history = all_acted d.history y.acts; paths = paths }) o.path the_turn)
     whole_on paths sense volume may of =
         let h = all_acted d.history y.acts in
         let s = replay d.plans empty h.items in
@@ -417,7 +299,7 @@ module _ (empty : PlainState) (d : MarksDevice) (f : Follows empty d) (o : OpenE
 
   -- Behind an act by which its track becomes loose, too
 
-  module _ (y : MarksStore) (z : Sized y) (c : Core) (w : Walks (plain_of d.plans empty d.history) d.store.plain d.store.geometry d.store.cylinders c)
+  module _ (y : MarksStore) (z : Sized y) (c : Core) (w : Walks (plain_of d.plans empty d.history) d.store.plain d.store.geometry d.store.cylinders (None, (d.store.lent, d.store.device)) c)
       (t : ℕ) (e : Edit) (firm : loose_at c t ≡ false) (inside : t < length c.loose) (provisional : is_provisional chain.at.stance.extent ≡ true)
       (core_is : core_of y ≡ loosely_edited_core (loosened_core c t) t e) (edit_is : the_effect.edit ≡ Some (record { track = t; edit = e })) where
     abbrev h1 : History
@@ -471,7 +353,7 @@ module _ (empty : PlainState) (d : MarksDevice) (f : Follows empty d) (o : OpenE
     edited_is =
         ap (λ (n : Option ℕ). track_of (edit_at later.path (program_of d.plans later.path later.ordinal) (open_part d.plans s1 later) n)) next_later
         ∙ ap (λ (x : Effect). track_of x.edit)
-        (sym (same_effect y z loose_history d.paths (plain_on c.acts w.are).legal due_later later refl r1.path_is here_later volume_later paths_later))
+        (sym (same_effect loose_history later r1.path_is here_later volume_later paths_later))
         ∙ ap track_of edit_is
 
     loose_now : get_or (set c.loose t true) t false ≡ true
@@ -484,9 +366,9 @@ module _ (empty : PlainState) (d : MarksDevice) (f : Follows empty d) (o : OpenE
         (of_loosely_edited (act_done (acts_done p c.acts) (Loosen t)) (loosened_core c t)
         (of_loosened (acts_done p c.acts) c w.of t firm inside) t loose_now e))
 
-    loosening_on : with_sense d.paths o.path the_effect.outcome.ending.sense ≡ the_effect.paths → Follows empty (turned (with_store d y) o.path the_turn)
+    loosening_on : with_sense d.paths o.path the_effect.outcome.ending.sense ≡ the_effect.paths → Follows num empty (turned (with_store d y) o.path the_turn)
     loosening_on sense =
-        subst (λ (k : History). Follows empty (turned (record d { store = y; history = k }) o.path the_turn)) (sym history_is)
+        subst (λ (k : History). Follows num empty (turned (record d { store = y; history = k }) o.path the_turn)) (sym history_is)
         (ends_follow y z loose_history d.paths (plain_on c.acts w.are).legal due_later later refl r1.path_is here_later volume_later paths_later
         (subst (λ (x : Option ℕ). IsGoing d.plans s1 h1.items later x) (sym edited_is) going_later)
         (subst (λ (x : Option TrackEdit). MayEdit (open_part d.plans s1 later).state (open_part d.plans s1 later).stance x) (sym edit_is)
@@ -496,36 +378,41 @@ module _ (empty : PlainState) (d : MarksDevice) (f : Follows empty d) (o : OpenE
 
   -- Whatever it came to
 
-  abbrev Walking : Core → Type 0
-  Walking c = Walks (plain_of d.plans empty d.history) d.store.plain d.store.geometry d.store.cylinders c
+  abbrev pub Walking : Core → Type 0
+  Walking c = Walks (plain_of d.plans empty d.history) d.store.plain d.store.geometry d.store.cylinders (None, (d.store.lent, d.store.device)) c
 
-  sized_by : (y : MarksStore) (c x : Core) → core_of y ≡ c → Walking x → IsAlone c → c.geometry ≡ x.geometry → c.cylinders ≡ x.cylinders → Sized y
-  sized_by y c x e w alone g n = record {
-    alone = subst IsAlone (sym e) alone;
-    geometry = ap (λ (k : Core). k.geometry) e ∙ g ∙ w.geometry;
-    cylinders = ap (λ (k : Core). k.cylinders) e ∙ n ∙ w.cylinders;
-  }
+  lent_none : d.store.lent ≡ None
+  lent_none = home_runs d.store.lent d.history.running f.home (subst (λ (r : Option OpenEntry). IsSome r) (sym running) refl)
+
+  pub sized_by : (y : MarksStore) (c x : Core) → core_of y ≡ c → Walking x → HasPlaces c → c.geometry ≡ x.geometry → c.cylinders ≡ x.cylinders →
+      open_of c ≡ open_of x → Sized y
+  sized_by y c x e w places g n more =
+      let opens = ap open_of e ∙ more ∙ w.rest in
+      record {
+        places = subst HasPlaces (sym e) places;
+        whole = ap (λ (k : Open). k.0) opens;
+        home = ap (λ (k : Open). k.1.0) opens ∙ lent_none;
+        number = ap (λ (k : Open). k.1.1) opens ∙ f.number;
+        geometry = ap (λ (k : Core). k.geometry) e ∙ g ∙ w.geometry;
+        cylinders = ap (λ (k : Core). k.cylinders) e ∙ n ∙ w.cylinders;
+      }
 
   -- of a track that was firm or loose
-  acts_are : (y : MarksStore) (c x : Core) → core_of y ≡ c → c.acts ≡ x.acts → Walking x → AreActs p None y.acts
+  pub acts_are : (y : MarksStore) (c x : Core) → core_of y ≡ c → c.acts ≡ x.acts → Walking x → AreActs p None y.acts
   acts_are y c x e same w = subst (λ (l : List Act). AreActs p None l) (sym (ap (λ (k : Core). k.acts) e ∙ same)) w.are
 
-  state_of : (y : MarksStore) (c x : Core) → core_of y ≡ c → c.acts ≡ x.acts → acts_done p y.acts ≡ acts_done p x.acts
+  pub state_of : (y : MarksStore) (c x : Core) → core_of y ≡ c → c.acts ≡ x.acts → acts_done p y.acts ≡ acts_done p x.acts
   state_of y c x e same = ap (acts_done p) (ap (λ (k : Core). k.acts) e ∙ same)
 
-  edited_follows : (y : MarksStore) (c : Core) (t : ℕ) (e : Edit) → core_of y ≡ c → the_effect.edit ≡ Some (record { track = t; edit = e }) →
+  pub edited_follows : (y : MarksStore) (c : Core) (t : ℕ) (e : Edit) → core_of y ≡ c → the_effect.edit ≡ Some (record { track = t; edit = e }) →
       with_sense d.paths o.path the_effect.outcome.ending.sense ≡ the_effect.paths →
-      IsEdited (plain_of d.plans empty d.history) d.store.plain d.store.geometry d.store.cylinders (is_provisional chain.at.stance.extent) t e c →
-      Follows empty (turned (with_store d y) o.path the_turn)
+      IsEdited (plain_of d.plans empty d.history) d.store.plain d.store.geometry d.store.cylinders (None, (d.store.lent, d.store.device)) (is_provisional chain.at.stance.extent) t e c →
+      Follows num empty (turned (with_store d y) o.path the_turn)
   edited_follows y c t e same edit_is sense (firmly x d2 w firm how) =
       let are = acts_are y d2 x same (ap (λ (k : Core). k.acts) how) w in
       let state = state_of y d2 x same (ap (λ (k : Core). k.acts) how) in
-      let z = sized_by y d2 x same w (subst IsAlone (sym how) (record {
-        paired = w.alone.paired;
-        off = w.alone.off;
-        whole = w.alone.whole;
-        frames = w.alone.frames;
-      })) (ap (λ (k : Core). k.geometry) how) (ap (λ (k : Core). k.cylinders) how) in
+      let z = sized_by y d2 x same w (subst HasPlaces (sym how) w.places) (ap (λ (k : Core). k.geometry) how) (ap (λ (k : Core). k.cylinders) how)
+      (ap open_of how) in
       whole_on y z are d.paths sense (ap (λ (s : PlainState). s.volume) state ∙ w.of.volume ∙ w.plain)
       (subst (λ (k : Option TrackEdit). MayEdit (acts_done p y.acts) chain.at.stance k) (sym edit_is)
       (λ loose. absurd (let both : true ≡ false = sym loose ∙ ap (λ (s : PlainState). is_loose_in s.loose t) state ∙ w.of.loose t ∙ firm in cc)))
@@ -535,203 +422,263 @@ module _ (empty : PlainState) (d : MarksDevice) (f : Follows empty d) (o : OpenE
   edited_follows y c t e same edit_is sense (loosely x d2 w loose provisional how) =
       let are = acts_are y d2 x same (ap (λ (k : Core). k.acts) how) w in
       let state = state_of y d2 x same (ap (λ (k : Core). k.acts) how) in
-      let z = sized_by y d2 x same w (subst IsAlone (sym how) (record {
-        paired = w.alone.paired;
-        off = w.alone.off;
-        whole = w.alone.whole;
-        frames = w.alone.frames;
-      })) (ap (λ (k : Core). k.geometry) how) (ap (λ (k : Core). k.cylinders) how) in
+      let z = sized_by y d2 x same w (subst HasPlaces (sym how) w.places) (ap (λ (k : Core). k.geometry) how) (ap (λ (k : Core). k.cylinders) how)
+      (ap open_of how) in
       whole_on y z are d.paths sense (ap (λ (s : PlainState). s.volume) state ∙ w.of.volume ∙ w.plain)
       (subst (λ (k : Option TrackEdit). MayEdit (acts_done p y.acts) chain.at.stance k) (sym edit_is) (λ is_loose. provisional))
       (subst (λ (k : Option TrackEdit). IsEditOf (acts_done p y.acts) k (core_of y)) (sym edit_is)
       (subst (λ (s : PlainState). IsOf (edited s t e) (core_of y)) (sym state)
       (subst (λ (k : Core). IsOf (edited (acts_done p x.acts) t e) k) (sym (same ∙ how)) (of_loosely_edited (acts_done p x.acts) x w.of t loose e))))
   edited_follows y c t e same edit_is sense (loosened x d2 w firm inside provisional how) =
-      let z = sized_by y d2 x same w (subst IsAlone (sym how) (record {
-        paired = w.alone.paired;
-        off = w.alone.off;
-        whole = w.alone.whole;
-        frames = w.alone.frames ∙ sym (length-set x.loose t true);
-      })) (ap (λ (k : Core). k.geometry) how) (ap (λ (k : Core). k.cylinders) how) in
+      let z = sized_by y d2 x same w (subst HasPlaces (sym how) (w.places ∙ sym (length-set x.loose t true))) (ap (λ (k : Core). k.geometry) how)
+      (ap (λ (k : Core). k.cylinders) how) (ap open_of how) in
       loosening_on y z x w t e firm inside provisional (same ∙ how) edit_is sense
 
   walked_follows : (y : MarksStore) (c : Core) → core_of y ≡ c → the_effect.edit ≡ None → (paths : PathsState) →
       with_sense paths o.path the_effect.outcome.ending.sense ≡ the_effect.paths → Walking c →
-      Follows empty (turned (record d { store = y; history = all_acted d.history y.acts; paths = paths }) o.path the_turn)
+      Follows num empty (turned (record d { store = y; history = all_acted d.history y.acts; paths = paths }) o.path the_turn)
   walked_follows y c same edit_is paths sense w =
       let are = acts_are y c c same refl w in
       let state = state_of y c c same refl in
-      whole_on y (sized_by y c c same w w.alone refl refl) are paths sense (ap (λ (s : PlainState). s.volume) state ∙ w.of.volume ∙ w.plain)
+      whole_on y (sized_by y c c same w w.places refl refl refl) are paths sense (ap (λ (s : PlainState). s.volume) state ∙ w.of.volume ∙ w.plain)
       (subst (λ (k : Option TrackEdit). MayEdit (acts_done p y.acts) chain.at.stance k) (sym edit_is) tt)
       (subst (λ (k : Option TrackEdit). IsEditOf (acts_done p y.acts) k (core_of y)) (sym edit_is)
       (subst (λ (s : PlainState). IsOf s (core_of y)) (sym state) (subst (λ (k : Core). IsOf (acts_done p c.acts) k) (sym same) w.of)))
 
-  abbrev EditIs : Option TrackEdit → Core → Type 0
-  EditIs edit c = EditSo (plain_of d.plans empty d.history) d.store.plain d.store.geometry d.store.cylinders (settled_act chain.fixed.geometry d.paths o.path)
-      chain on.0 edit c
+  module _ (first : ℕ) where
+    abbrev EditIs : Option TrackEdit → Core → Type 0
+    EditIs edit c = EditSo (plain_of d.plans empty d.history) d.store.plain d.store.geometry d.store.cylinders (None, (d.store.lent, d.store.device))
+        (settled_act chain.fixed.geometry d.paths o.path) chain on.0 first edit c
 
-  edit_follows : (y : MarksStore) (c : Core) (edit : Option TrackEdit) → core_of y ≡ c → the_effect.edit ≡ edit →
-      with_sense d.paths o.path the_effect.outcome.ending.sense ≡ the_effect.paths → EditIs edit c → Follows empty (turned (with_store d y) o.path the_turn)
-  edit_follows y c None same edit_is sense w = walked_follows y c same edit_is d.paths sense w
-  edit_follows y c (Some x) same edit_is sense w = edited_follows y c x.track x.edit same edit_is sense w
+    abbrev HalfIs : ℕ → Edit → Core → Type 0
+    HalfIs t e c = HalfSo (plain_of d.plans empty d.history) d.store.plain d.store.geometry d.store.cylinders (None, (d.store.lent, d.store.device)) first t e c
 
-  abbrev TurnSo : Fed → Turn → Core → Type 0
-  TurnSo k turn c = TurnIs (plain_of d.plans empty d.history) d.store.plain d.store.geometry d.store.cylinders (settled_act chain.fixed.geometry d.paths o.path)
-      chain on.0 k turn c
+    edit_follows : (y : MarksStore) (c : Core) (edit : Option TrackEdit) → core_of y ≡ c → the_effect.edit ≡ edit →
+        with_sense d.paths o.path the_effect.outcome.ending.sense ≡ the_effect.paths → EditIs edit c →
+        Follows num empty (turned (with_store d y) o.path the_turn)
+    edit_follows y c None same edit_is sense w = walked_follows y c same edit_is d.paths sense w
+    edit_follows y c (Some x) same edit_is sense w = edited_follows y c x.track x.edit same edit_is sense w
 
-  turn_follows : (y : MarksStore) (c : Core) (k : Fed) (turn : Turn) → core_of y ≡ c → k ≡ ended_by chain the_effect.outcome the_effect.edit →
-      with_sense d.paths o.path the_effect.outcome.ending.sense ≡ the_effect.paths → TurnSo k turn c → Follows empty (turned (with_store d y) o.path turn)
-  turn_follows y c k turn same fed_is sense (ended_so e after d2 end_is chain_is edit) =
-      let ends : e ≡ end_with chain the_effect.outcome = sym end_is ∙ ap (λ (x : Fed). x.end) fed_is in
-      let goes : after ≡ behind chain the_effect.outcome = sym chain_is ∙ ap (λ (x : Fed). x.chain) fed_is in
-      subst (λ (x : CommandEnd). Follows empty (turned (with_store d y) o.path (record { came = Ends x; chain = after }))) (sym ends)
-      (subst (λ (x : ChainState). Follows empty (turned (with_store d y) o.path (record { came = Ends (end_with chain the_effect.outcome); chain = x })))
-      (sym goes)
-      (edit_follows y d2 the_effect.edit same refl sense (subst (λ (x : Fed). EditIs x.edit d2) fed_is edit)))
-  turn_follows y c k turn same fed_is sense (equipment last d2 word w) =
-      equipment_on y (sized_by y d2 d2 same w w.alone refl refl) (acts_are y d2 d2 same refl w)
-      (subst (λ (s : PlainState). IsOf s (core_of y)) (sym (state_of y d2 d2 same refl)) (subst (λ (k : Core). IsOf (acts_done p d2.acts) k)
-      (sym same) w.of)) last word
-  turn_follows y c k turn same fed_is sense (data_check last d2 word w) =
-      data_check_on y (sized_by y d2 d2 same w w.alone refl refl) (acts_are y d2 d2 same refl w)
-      (subst (λ (s : PlainState). IsOf s (core_of y)) (sym (state_of y d2 d2 same refl)) (subst (λ (k : Core). IsOf (acts_done p d2.acts) k)
-      (sym same) w.of)) last word
+    -- the first part of its write is done
+    half_follows : (y : MarksStore) (c : Core) (t : ℕ) (e : Edit) (next : ChainState) → core_of y ≡ c → need_of chain ≡ Some first → first ≤ t →
+        IsAtWord chain next → ((v : List Track) → ((q : ℕ) → first ≤ q → q ≤ t → track_in v q ≡ track_in d.store.plain q) →
+        fed (d.store.cylinders * 15) (track_in v) (settled_act chain.fixed.geometry d.paths o.path) chain
+        ≡ ended_by next (settled_by next Written) (Some (record { track = t; edit = e }))) → HalfIs t e c →
+        Follows num empty (record (with_store d y) { chain = Some next })
+    half_follows y c t e next same needs below word does half =
+        let x = half.before in
+        let w = half.on in
+        let h = opened_half t (OfCommand half.bypass e) in
+        let core_is : core_of y ≡ with_half x h = same ∙ half.is in
+        let are = acts_are y (with_half x h) x core_is refl w in
+        let r = runs_on y.acts are in
+        let g : y.geometry ≡ d.store.geometry = ap (λ (k : Core). k.geometry) core_is ∙ w.geometry in
+        let n : y.cylinders ≡ d.store.cylinders = ap (λ (k : Core). k.cylinders) core_is ∙ w.cylinders in
+        record {
+          number = ap (λ (k : Core). k.device) core_is ∙ ap (λ (k : Open). k.1.1) w.rest ∙ f.number;
+          base = f.base ∙ ap (λ (k : Geometry). empty_state k d.store.cylinders) (sym g) ∙ ap (empty_state y.geometry) (sym n);
+          some = subst (λ (k : ℕ). 0 < k) (sym n) f.some;
+          stands = record { plain = plain_on y.acts are; due = due_on y.acts are };
+          keeps = acts_keep_them empty d y f.stands are f.keeps;
+          of = subst (λ (s : PlainState). IsOf s (core_of y)) (sym (state_on y.acts are ∙ state_of y (with_half x h) x core_is refl))
+              (subst (λ (k : Core). IsOf (acts_done p x.acts) k) (sym core_is) (of_half (acts_done p x.acts) x w.of h));
+          places = subst HasPlaces (sym core_is) w.places;
+          before = Some chain;
+          runs = subst (λ (k : Option OpenEntry). RunsAt d.plans (replay d.plans empty (all_acted d.history y.acts).items) k (Some chain)) (sym r.running) r.at;
+          chain = (on.0 ∙ sym g, on.1 ∙ sym n);
+          mid = subst (λ (k : Core). IsMid k k.half (all_acted d.history y.acts).running (Some chain) (Some next)) (sym core_is) (record {
+            runs = subst (λ (k : Option OpenEntry). IsSome k) (sym r.running) refl;
+            origin = chain;
+            begins = refl;
+            chain = next;
+            is = refl;
+            word = word;
+            need = first;
+            needs = needs;
+            first = first;
+            below = below;
+            firm = half.firm;
+            answer = settled_act chain.fixed.geometry d.paths o.path;
+            does = λ v agrees.
+                ap (λ (i : ℕ). fed (i * 15) (track_in v) (settled_act chain.fixed.geometry d.paths o.path) chain) w.cylinders
+                ∙ does v (λ q above least. agrees q above least ∙ ap (λ (k : List Track). track_in k q) w.plain);
+          });
+          home = at_home y.lent (all_acted d.history y.acts).running
+              (ap (λ (k : Core). k.lent) core_is ∙ ap (λ (k : Open). k.1.0) w.rest ∙ lent_none);
+        }
+
+    abbrev TurnSo : (List Track → Fed) → Turn → Core → Type 0
+    TurnSo k turn c = TurnIs (plain_of d.plans empty d.history) d.store.plain d.store.geometry d.store.cylinders (None, (d.store.lent, d.store.device))
+        (settled_act chain.fixed.geometry d.paths o.path) chain on.0 first k first turn c
+
+    turn_follows : (y : MarksStore) (c : Core) (k : List Track → Fed) (turn : Turn) → core_of y ≡ c → need_of chain ≡ Some first →
+        k d.store.plain ≡ ended_by chain the_effect.outcome the_effect.edit →
+        ((v : List Track) → k v ≡ fed (d.store.cylinders * 15) (track_in v) (settled_act chain.fixed.geometry d.paths o.path) chain) →
+        with_sense d.paths o.path the_effect.outcome.ending.sense ≡ the_effect.paths → TurnSo k turn c → Follows num empty (turned (with_store d y) o.path turn)
+    turn_follows y c k turn same needs fed_is as_fed sense (ended_so e after d2 end_is chain_is edit) =
+        let ends : e ≡ end_with chain the_effect.outcome = sym end_is ∙ ap (λ (x : Fed). x.end) fed_is in
+        let goes : after ≡ behind chain the_effect.outcome = sym chain_is ∙ ap (λ (x : Fed). x.chain) fed_is in
+        subst (λ (x : CommandEnd). Follows num empty (turned (with_store d y) o.path (record { came = Ends x; chain = after }))) (sym ends)
+        (subst (λ (x : ChainState). Follows num empty (turned (with_store d y) o.path (record { came = Ends (end_with chain the_effect.outcome); chain = x })))
+        (sym goes)
+        (edit_follows y d2 the_effect.edit same refl sense (subst (λ (x : Fed). EditIs x.edit d2) fed_is edit)))
+    turn_follows y c k turn same needs fed_is as_fed sense (half_open t e next d2 word below does half) =
+        half_follows y d2 t e next same needs below word (λ v agrees. sym (as_fed v) ∙ does v agrees) half
+    turn_follows y c k turn same needs fed_is as_fed sense (equipment last d2 word w) =
+        equipment_on y (sized_by y d2 d2 same w w.places refl refl refl) (acts_are y d2 d2 same refl w)
+        (subst (λ (s : PlainState). IsOf s (core_of y)) (sym (state_of y d2 d2 same refl)) (subst (λ (k : Core). IsOf (acts_done p d2.acts) k)
+        (sym same) w.of)) last word
+    turn_follows y c k turn same needs fed_is as_fed sense (data_check last d2 word w) =
+        data_check_on y (sized_by y d2 d2 same w w.places refl refl refl) (acts_are y d2 d2 same refl w)
+        (subst (λ (s : PlainState). IsOf s (core_of y)) (sym (state_of y d2 d2 same refl)) (subst (λ (k : Core). IsOf (acts_done p d2.acts) k)
+        (sym same) w.of)) last word
 
   -- In an event that began
 
-  walking_first : (s : MarksStore) → core_of s ≡ core_of (begun d.store) → Walking (core_of s)
-  walking_first s e = subst Walking (sym e) (record {
-    of = of_begun p (core_of d.store) f.of;
-    are = tt;
-    alone = record { paired = f.alone.paired; off = f.alone.off; whole = f.alone.whole; frames = f.alone.frames };
-    plain = refl;
-    geometry = refl;
-    cylinders = refl;
-  })
+  module _ (now : d.chain ≡ Some chain) (whole : d.store.half ≡ None) where
+    walking_first : (s : MarksStore) → core_of s ≡ core_of (begun d.store) → Walking (core_of s)
+    walking_first s e = subst Walking (sym e) (record {
+      of = of_begun p (core_of d.store) f.of;
+      are = tt;
+      places = f.places;
+      plain = refl;
+      geometry = refl;
+      cylinders = refl;
+      rest = ap (λ (h : Option (HalfWrite (Unit {0}))). (h, (d.store.lent, d.store.device))) whole;
+    })
 
-  abbrev started_with : MarksStore → MarksDevice
-  started_with s = record (event_begun d) { store = s }
+    abbrev started_with : MarksStore → MarksDevice
+    started_with s = record (event_begun d) { store = s }
 
-  module _ (s : MarksStore) (e : core_of s ≡ core_of (begun d.store)) where
-    no_acts : s.acts ≡ []
-    no_acts = ap (λ (c : Core). c.acts) e
+    module _ (s : MarksStore) (e : core_of s ≡ core_of (begun d.store)) where
+      no_acts : s.acts ≡ []
+      no_acts = ap (λ (c : Core). c.acts) e
 
-    fed_is : (t : ℕ) → need_of chain ≡ Some t →
-        fed (tracks_of s) (track_in d.store.plain) (settled_act chain.fixed.geometry d.paths o.path) chain ≡ ended_by chain the_effect.outcome the_effect.edit
-    fed_is t needs =
-        let many : tracks_of s ≡ chain.fixed.cylinders * 15 = ap (λ (c : Core). c.cylinders * 15) e ∙ ap (λ (n : ℕ). n * 15) (sym on.1) in
-        let some = f.some in
-        let cylinders = on.1 in
-        let k = one_more (chain.fixed.cylinders * 15) (omega (arith, some, cylinders)) in
-        ap (λ (n : ℕ). fed n (track_in d.store.plain) (settled_act chain.fixed.geometry d.paths o.path) chain) (many ∙ sym k.1)
-        ∙ fed_so chain at.fresh d.paths o.path d.store.plain (settled_act chain.fixed.geometry d.paths o.path) k.0 t k.1 needs
+      fed_is : (t : ℕ) → need_of chain ≡ Some t →
+          fed (tracks_of s) (track_in d.store.plain) (settled_act chain.fixed.geometry d.paths o.path) chain ≡ ended_by chain the_effect.outcome the_effect.edit
+      fed_is t needs =
+          let many : tracks_of s ≡ chain.fixed.cylinders * 15 = ap (λ (c : Core). c.cylinders * 15) e ∙ ap (λ (n : ℕ). n * 15) (sym on.1) in
+          let some = f.some in
+          let cylinders = on.1 in
+          let k = one_more (chain.fixed.cylinders * 15) (omega (arith, some, cylinders)) in
+          ap (λ (n : ℕ). fed n (track_in d.store.plain) (settled_act chain.fixed.geometry d.paths o.path) chain) (many ∙ sym k.1)
+          ∙ fed_so chain at.fresh d.paths o.path d.store.plain (settled_act chain.fixed.geometry d.paths o.path) k.0 t k.1 needs
 
-    by_turn : (t : ℕ) → need_of chain ≡ Some t → (y : MarksStore) (a : Option Turn) →
-        FollowSo (plain_of d.plans empty d.history) d.store.plain d.store.geometry d.store.cylinders (settled_act chain.fixed.geometry d.paths o.path)
-        chain on.0
-        (tracks_of s) chain y a → Had (on_tracks by_plain (started_with s) o.path chain y a) (λ x (_ : Option Stepped). Follows empty x)
-    by_turn t needs y None w = absurd w
-    by_turn t needs y (Some turn) w =
-        had_done (turn_follows y (core_of y) (fed (tracks_of s) (track_in d.store.plain) (settled_act chain.fixed.geometry d.paths o.path) chain) turn refl
-        (fed_is t needs) (looking_keeps chain at.fresh d.paths o.path d.store.plain t needs) w)
+      by_turn : (t : ℕ) → need_of chain ≡ Some t → (y : MarksStore) (a : Option Turn) →
+          FollowSo (plain_of d.plans empty d.history) d.store.plain d.store.geometry d.store.cylinders (None, (d.store.lent, d.store.device))
+          (settled_act chain.fixed.geometry d.paths o.path) chain on.0 t (tracks_of s) chain t y a → Had (on_tracks by_plain (started_with s) o.path chain y a) (λ x (_ : Option Stepped). Follows num empty x)
+      by_turn t needs y None w = absurd w
+      by_turn t needs y (Some turn) w =
+          had_done (turn_follows t y (core_of y) (λ (v : List Track). fed (tracks_of s) (track_in v) (settled_act chain.fixed.geometry d.paths o.path) chain) turn
+          refl needs (fed_is t needs)
+          (λ v. ap (λ (c : Core). fed (c.cylinders * 15) (track_in v) (settled_act chain.fixed.geometry d.paths o.path) chain) e) (looking_keeps chain at.fresh d.paths o.path d.store.plain t needs) w)
 
-    tracked : (t : ℕ) → need_of chain ≡ Some t → Had (command_at by_plain (started_with s) o.path chain (Some t)) (λ x (_ : Option Stepped). Follows empty x)
-    tracked t needs =
-        had_then (follow_so (plain_of d.plans empty d.history) d.store.plain d.store.geometry d.store.cylinders
-        (settled_act chain.fixed.geometry d.paths o.path) chain on.0 (tracks_of s) t chain t s (record { from = from_itself chain; needs = needs })
-        (walking_first s e)) (λ y a w. by_turn t needs y a w)
+      tracked : (t : ℕ) → need_of chain ≡ Some t → Had (command_at by_plain (started_with s) o.path chain (Some t)) (λ x (_ : Option Stepped). Follows num empty x)
+      tracked t needs =
+          had_then (follow_so (plain_of d.plans empty d.history) d.store.plain d.store.geometry d.store.cylinders (None, (d.store.lent, d.store.device))
+          (settled_act chain.fixed.geometry d.paths o.path) chain on.0 t (tracks_of s) chain t s (record {
+            from = from_itself chain;
+            needs = needs;
+            above = omega arith;
+          })
+          (walking_first s e)) (λ y a w. by_turn t needs y a w)
 
-    -- it looks at no track
-    answered_follows : (turn : Turn) (paths : PathsState) (made : Effect) → made ≡ the_effect →
-        AnswerIs chain at.fresh d.paths o.path d.store.plain made turn paths → Follows empty (turned (record (started_with s) { paths = paths }) o.path turn)
-    answered_follows turn paths made same a =
-        subst (λ (x : Turn). Follows empty (turned (record (started_with s) { paths = paths }) o.path x))
-        (sym (a.turn_is ∙ ap (λ (x : Effect). record { came = Ends (end_with chain x.outcome); chain = behind chain x.outcome }) same))
-        (subst (λ (l : List Act). Follows empty (turned (record d { store = s; history = all_acted d.history l; paths = paths }) o.path the_turn)) no_acts
-        (walked_follows s (core_of s) refl (ap (λ (x : Effect). x.edit) (sym same) ∙ a.none) paths
-        (subst (λ (x : Effect). with_sense paths o.path x.outcome.ending.sense ≡ x.paths) same a.kept) (walking_first s e)))
+      -- it looks at no track
+      answered_follows : (turn : Turn) (paths : PathsState) (made : Effect) → made ≡ the_effect →
+          AnswerIs chain at.fresh d.paths o.path d.store.plain made turn paths → Follows num empty (turned (record (started_with s) { paths = paths }) o.path turn)
+      answered_follows turn paths made same a =
+          subst (λ (x : Turn). Follows num empty (turned (record (started_with s) { paths = paths }) o.path x))
+          (sym (a.turn_is ∙ ap (λ (x : Effect). record { came = Ends (end_with chain x.outcome); chain = behind chain x.outcome }) same))
+          (subst (λ (l : List Act). Follows num empty (turned (record d { store = s; history = all_acted d.history l; paths = paths }) o.path the_turn)) no_acts
+          (walked_follows s (core_of s) refl (ap (λ (x : Effect). x.edit) (sym same) ∙ a.none) paths
+          (subst (λ (x : Effect). with_sense paths o.path x.outcome.ending.sense ≡ x.paths) same a.kept) (walking_first s e)))
 
-    opened_answer : (x : Opened) → opening_at chain ≡ x → need_of chain ≡ None →
-        Had (answered_by by_plain (started_with s) o.path (stepped_by (begin_with chain x) None (stage_for x.opening)).chain
-        (stepped_by (begin_with chain x) None (stage_for x.opening)).progress) (λ y (_ : Option Stepped). Follows empty y)
-    opened_answer x same none = by_opening_of x.stance x.opening same where
-      by_opening_of : (z : Stance) (k : Opening) → opening_at chain ≡ record { stance = z; opening = k } →
-          Had (answered_by by_plain (started_with s) o.path (stepped_by (begin_with chain (record { stance = z; opening = k })) None (stage_for k)).chain
-          (stepped_by (begin_with chain (record { stance = z; opening = k })) None (stage_for k)).progress) (λ y (_ : Option Stepped). Follows empty y)
-      by_opening_of z (openings.Over ending) is =
-          had_done (answered_follows _ d.paths _ (ap (λ (q : Opened). by_opening chain at.fresh d.paths o.path d.store.plain q.stance q.opening) (sym is))
-          (over_answer chain at.fresh d.paths o.path d.store.plain z ending))
-      by_opening_of z (openings.Asks act) is =
-          had_done (answered_follows _ (paths_behind d.paths o.path act) _
-          (ap (λ (q : Opened). by_opening chain at.fresh d.paths o.path d.store.plain q.stance q.opening) (sym is))
-          (asked_answer chain at.fresh d.paths o.path d.store.plain z act s.geometry (on.0 ∙ sym (ap (λ (c : Core). c.geometry) e))))
-      by_opening_of z (openings.Looks look) is =
-          absurd (let some : None ≡ Some _ = sym none ∙ needs_by chain at.fresh d.paths o.path d.store.plain
-          ∙ ap (λ (q : Opened). needed (begin_with chain q) (stage_for q.opening)) is in cc)
+      opened_answer : (x : Opened) → opening_at chain ≡ x → need_of chain ≡ None →
+          Had (answered_by by_plain (started_with s) o.path (stepped_by (begin_with chain x) None (stage_for x.opening)).chain
+          (stepped_by (begin_with chain x) None (stage_for x.opening)).progress) (λ y (_ : Option Stepped). Follows num empty y)
+      opened_answer x same none = by_opening_of x.stance x.opening same where
+        by_opening_of : (z : Stance) (k : Opening) → opening_at chain ≡ record { stance = z; opening = k } →
+            Had (answered_by by_plain (started_with s) o.path (stepped_by (begin_with chain (record { stance = z; opening = k })) None (stage_for k)).chain
+            (stepped_by (begin_with chain (record { stance = z; opening = k })) None (stage_for k)).progress) (λ y (_ : Option Stepped). Follows num empty y)
+        by_opening_of z (openings.Over ending) is =
+            had_done (answered_follows _ d.paths _ (ap (λ (q : Opened). by_opening chain at.fresh d.paths o.path d.store.plain q.stance q.opening) (sym is))
+            (over_answer chain at.fresh d.paths o.path d.store.plain z ending))
+        by_opening_of z (openings.Asks act) is =
+            had_done (answered_follows _ (paths_behind d.paths o.path act) _
+            (ap (λ (q : Opened). by_opening chain at.fresh d.paths o.path d.store.plain q.stance q.opening) (sym is))
+            (asked_answer chain at.fresh d.paths o.path d.store.plain z act s.geometry (on.0 ∙ sym (ap (λ (c : Core). c.geometry) e))))
+        by_opening_of z (openings.Looks look) is =
+            absurd (let some : None ≡ Some _ = sym none ∙ needs_by chain at.fresh d.paths o.path d.store.plain
+            ∙ ap (λ (q : Opened). needed (begin_with chain q) (stage_for q.opening)) is in cc)
 
-    untracked : need_of chain ≡ None → Had (command_at by_plain (started_with s) o.path chain None) (λ x (_ : Option Stepped). Follows empty x)
-    untracked none =
-        let same : stepped chain None ≡ stepped_by (begin_with chain (opening_at chain)) None (stage_for (opening_at chain).opening) =
-        ap (λ (k : Option Stage). stepped_by (opened_by chain k) None (stage_by chain k)) at.fresh in
-        had_try (subst (λ (k : _). Had (answered_by by_plain (started_with s) o.path k.chain k.progress) (λ x (_ : Option Stepped). Follows empty x)) (sym same)
-        (opened_answer (opening_at chain) refl none))
+      untracked : need_of chain ≡ None → Had (command_at by_plain (started_with s) o.path chain None) (λ x (_ : Option Stepped). Follows num empty x)
+      untracked none =
+          let same : stepped chain None ≡ stepped_by (begin_with chain (opening_at chain)) None (stage_for (opening_at chain).opening) =
+          ap (λ (k : Option Stage). stepped_by (opened_by chain k) None (stage_by chain k)) at.fresh in
+          had_try (subst (λ (k : _). Had (answered_by by_plain (started_with s) o.path k.chain k.progress) (λ x (_ : Option Stepped). Follows num empty x)) (sym same)
+          (opened_answer (opening_at chain) refl none))
 
-    by_need : (k : Option ℕ) → need_of chain ≡ k → Had (command_at by_plain (started_with s) o.path chain k) (λ x (_ : Option Stepped). Follows empty x)
-    by_need (Some t) needs = tracked t needs
-    by_need None none = untracked none
+      by_need : (k : Option ℕ) → need_of chain ≡ k → Had (command_at by_plain (started_with s) o.path chain k) (λ x (_ : Option Stepped). Follows num empty x)
+      by_need (Some t) needs = tracked t needs
+      by_need None none = untracked none
 
-    sized_first : Sized s
-    sized_first = let w = walking_first s e in record { alone = w.alone; geometry = w.geometry; cylinders = w.cylinders }
+      sized_first : Sized s
+      sized_first = let w = walking_first s e in sized_by s (core_of s) (core_of s) refl w w.places refl refl refl
 
-    -- data of its own program were lost
-    lost_follows : Follows empty (turned (started_with s) o.path (checks chain Equipment))
-    lost_follows =
-        let w = walking_first s e in
-        subst (λ (l : List Act). Follows empty (turned (record d { store = s; history = all_acted d.history l }) o.path (checks chain Equipment))) no_acts
-        (equipment_on s sized_first w.are w.of chain (record { words = refl; next = refl }))
+      -- data of its own program were lost
+      lost_follows : Follows num empty (turned (started_with s) o.path (checks chain Equipment))
+      lost_follows =
+          let w = walking_first s e in
+          subst (λ (l : List Act). Follows num empty (turned (record d { store = s; history = all_acted d.history l }) o.path (checks chain Equipment))) no_acts
+          (equipment_on s sized_first w.are w.of chain (record { words = refl; next = refl }))
 
-    begun_follows : Had (command_by by_plain (started_with s) (Some o) (Some chain)) (λ x (_ : Option Stepped). Follows empty x)
-    begun_follows = had_if (has_loss o.acts) (λ _. had_done lost_follows) (λ _. by_need (need_of chain) refl)
+      begun_follows : Had (command_by by_plain (started_with s) (Some o) (Some chain)) (λ x (_ : Option Stepped). Follows num empty x)
+      begun_follows = had_if (has_loss o.acts) (λ _. had_done lost_follows) (λ _. by_need (need_of chain) refl)
 
-    pub command_by_follows : Had (command_by by_plain (started_with s) d.history.running d.chain) (λ x (_ : Option Stepped). Follows empty x)
-    command_by_follows =
-        subst (λ (r : Option OpenEntry). Had (command_by by_plain (started_with s) r d.chain) (λ x (_ : Option Stepped). Follows empty x)) (sym running)
-        (subst (λ (k : Option ChainState). Had (command_by by_plain (started_with s) (Some o) k) (λ x (_ : Option Stepped). Follows empty x)) (sym is)
-        begun_follows)
+      pub command_by_follows : Had (command_by by_plain (started_with s) d.history.running d.chain) (λ x (_ : Option Stepped). Follows num empty x)
+      command_by_follows =
+          subst (λ (r : Option OpenEntry). Had (command_by by_plain (started_with s) r d.chain) (λ x (_ : Option Stepped). Follows num empty x)) (sym running)
+          (subst (λ (k : Option ChainState). Had (command_by by_plain (started_with s) (Some o) k) (λ x (_ : Option Stepped). Follows num empty x)) (sym now)
+          begun_follows)
 
 -- The event
 
-module _ (empty : PlainState) where
+module _ (num : ℕ) (empty : PlainState) where
   -- a store of the same core
-  pub follows_store : (d : MarksDevice) → Follows empty d → (z : MarksStore) → core_of z ≡ core_of d.store → Follows empty (record d { store = z })
+  pub follows_store : (d : MarksDevice) → Follows num empty d → (z : MarksStore) → core_of z ≡ core_of d.store → Follows num empty (record d { store = z })
   follows_store d f z e = record {
+    number = ap (λ (c : Core). c.device) e ∙ f.number;
     base = subst (λ (c : Core). empty ≡ empty_state c.geometry c.cylinders) (sym e) f.base;
     some = subst (λ (c : Core). 0 < c.cylinders) (sym e) f.some;
     stands = record { plain = f.stands.plain; due = f.stands.due };
     keeps = f.keeps;
     of = subst (λ (c : Core). IsOf (plain_of d.plans empty d.history) c) (sym e) f.of;
-    alone = subst IsAlone (sym e) f.alone;
+    places = subst HasPlaces (sym e) f.places;
+    before = f.before;
     runs = f.runs;
-    chain = subst (λ (c : Core). ChainOf c.geometry c.cylinders d.chain) (sym e) f.chain;
+    chain = subst (λ (c : Core). ChainOf c.geometry c.cylinders f.before) (sym e) f.chain;
+    mid = subst (λ (c : Core). IsMid c c.half d.history.running f.before d.chain) (sym e) f.mid;
+    home = subst (λ (c : Core). IsAtHome c.lent d.history.running) (sym e) f.home;
   }
 
   pub event_follows : {A : Type 0} (d : MarksDevice) (body : MarksDevice → Interaction Bool Image MarksDevice A) →
-      ((s : MarksStore) → core_of s ≡ core_of (begun d.store) → Had (body (record (event_begun d) { store = s })) (λ y (_ : A). Follows empty y)) →
-      Had (event by_plain d body) (λ y (_ : A). Follows empty y)
+      ((s : MarksStore) → core_of s ≡ core_of (begun d.store) → Had (body (record (event_begun d) { store = s })) (λ y (_ : A). Follows num empty y)) →
+      Had (event by_plain d body) (λ y (_ : A). Follows num empty y)
   event_follows d body h =
       had_then (had_then (hear_same 960 (begun d.store)) (λ s _ e. h s e))
       (λ y a g. had_then (ended_same (waiting_count by_plain d.store) y.store) (λ z _ e. had_done (follows_store y g z e)))
 
-  by_chain : (d : MarksDevice) → Follows empty d → (o : OpenEntry) → d.history.running ≡ Some o → (k : Option ChainState) → d.chain ≡ k →
-      Had (command by_plain d) (λ y (_ : Option Stepped). Follows empty y)
+  by_chain : (d : MarksDevice) (f : Follows num empty d) (o : OpenEntry) → d.history.running ≡ Some o → d.store.half ≡ None →
+      (k : Option ChainState) → f.before ≡ k → Had (command by_plain d) (λ y (_ : Option Stepped). Follows num empty y)
   unfolding N.command
-  by_chain d f o running None is = absurd
+  by_chain d f o running whole None is = absurd
       (subst (λ (k : Option ChainState). RunsAt d.plans (replay d.plans empty d.history.items) (Some o) k) is
-      (subst (λ (r : Option OpenEntry). RunsAt d.plans (replay d.plans empty d.history.items) r d.chain) running f.runs))
-  by_chain d f o running (Some chain) is =
-      had_try (event_follows d (λ z. command_by by_plain z z.history.running z.chain) (λ s e. command_by_follows empty d f o running chain is s e))
+      (subst (λ (r : Option OpenEntry). RunsAt d.plans (replay d.plans empty d.history.items) r f.before) running f.runs))
+  by_chain d f o running whole (Some chain) is =
+      let now = none_mid (core_of d.store) d.store.half d.history.running f.before d.chain whole f.mid ∙ is in
+      had_try (event_follows d (λ z. command_by by_plain z z.history.running z.chain) (λ s e. command_by_follows num empty d f o running chain is now whole s e))
 
   -- a command of the running program
-  pub command_follows : (d : MarksDevice) → Follows empty d → (o : OpenEntry) → d.history.running ≡ Some o →
-      Had (command by_plain d) (λ y (_ : Option Stepped). Follows empty y)
-  command_follows d f o running = by_chain d f o running d.chain refl
+  pub command_follows : (d : MarksDevice) → Follows num empty d → (o : OpenEntry) → d.history.running ≡ Some o → d.store.half ≡ None →
+      Had (command by_plain d) (λ y (_ : Option Stepped). Follows num empty y)
+  command_follows d f o running whole = by_chain d f o running whole f.before refl

@@ -1,82 +1,35 @@
--- A new device of a run, a start and a reset keep its history a plain device's.
-use Rattle.std.proofs.Common.{
-  ◌≡◌,
-  ◌<◌,
-  ◌≤◌,
-  ◌*◌,
-  ◌==◌,
-  ℕ,
-  Bool,
-  true,
-  false,
-  [],
-  ◌∷◌,
-  ◌++◌,
-  length,
-  Option,
-  Some,
-  None,
-  cond,
-  get_or,
-  refl,
-  sym,
-  ap,
-  subst,
-  ◌∙◌,
-  arith,
-  inl,
-  inr,
-}
-use Rattle.std.specs.Prelude.{◌⊎◌, ◌||◌, replicate, if◌then◌else◌}
-use Rattle.std.proofs.lemmas.Bool.{cases_lt, cond_both}
+-- A new device of a run and a start keep its history a plain device's.
+use Rattle.std.proofs.Common.{◌≡◌, ◌<◌, ◌≤◌, ◌*◌, ℕ, true, false, [], length, Option, Some, None, get_or, refl, sym, ap, subst, ◌∙◌, arith, inl, inr}
+use Rattle.std.specs.Prelude.{◌⊎◌, replicate}
+use Rattle.std.proofs.lemmas.Bool.{cases_lt}
 use Rattle.std.proofs.lemmas.List.{get_or-replicate, get_or_past, length-replicate}
 use Rattle.std.proofs.lemmas.List.FromFn.{length-map-range_with_len}
 use Rattle.ckd_types.specs.declared.geometry.Geometry.{Geometry}
 use Rattle.ckd_types.specs.Track.{empty_track}
 use Rattle.ckd_chain.specs.State.{ChainState}
-use Rattle.plain_defs.specs.declared.journal.Item.TheVariants as items
-use Rattle.plain_defs.specs.History.{
-  OpenEntry,
-  History,
-  open_part,
-  plain_of,
-  state_by,
-  is_path_of,
-  has_used,
-  put,
-  cut_by,
-  reset as history_reset,
-  reset_in,
-}
+use Rattle.ckd_chain.specs.Steps.{begun_chain}
+use Rattle.plain_defs.specs.History.{OpenEntry, open_part, state_by}
 use Rattle.plain_defs.specs.Journal.{Plans, replay}
-use Rattle.plain_defs.specs.Legal.{is_used}
-use Rattle.plain_defs.specs.PlainState.{PlainState, empty_state, reset_path, fixed_of as plain_fixed}
+use Rattle.plain_defs.specs.PlainState.{PlainState, empty_state, fixed_of as plain_fixed}
 use Rattle.plain_defs.specs.Program.{Part, first_part, begun}
 use Rattle.plain_defs.proofs.PartLemmas.{acted_nothing}
 use Rattle.device_outside.specs.Interaction.{Interaction, Done, Try, Ask, Read, Write, Tell}
 use Rattle.device_outside.specs.Keeper.{reply}
-use Rattle.device_defs.specs.Contents.{by_plain}
-use Rattle.device_defs.specs.Cutting as K
-use Rattle.device_defs.specs.Cutting.{counts_one_by, half_cut, reset_noted, path_cut, reset_by, reset}
-use Rattle.device_defs.specs.Device.{all_reset}
-use Rattle.device_defs.specs.Marks.{MarksDevice, MarksStore, new_device}
+use Rattle.device_defs.specs.Marks.{MarksDevice, new_device}
 use Rattle.device_defs.specs.Start as S
-use Rattle.device_defs.specs.Start.{start, start_fault, next_program, next_ordinal}
-use Rattle.device_defs.specs.Store.{HalfWrite, fixed_of}
+use Rattle.device_defs.specs.Start.{start, start_fault, fault_by, next_program, next_ordinal}
+use Rattle.device_defs.specs.Store.{fixed_of}
 use Rattle.device_laws.proofs.Always as A
 use Rattle.device_laws.proofs.Always.{Behind, Always}
 use Rattle.device_laws.proofs.ChainAtHand.{start_at_hand}
-use Rattle.device_laws.proofs.DeviceCuts.{reset_stands}
 use Rattle.device_laws.proofs.DeviceEnds.{new_stands, start_stands}
 use Rattle.device_laws.proofs.DeviceHistory.{starts_where_idle}
 use Rattle.device_laws.proofs.Had as H
-use Rattle.device_laws.proofs.Had.{BehindHad, Had, had_done, had_if, had_then, had_weaker}
-use Rattle.device_laws.proofs.HistoryCuts.{MayTake, taken_state, taken_none, cut_state, idle_reset_state, waiting_state}
-use Rattle.device_laws.proofs.HistoryEnds.{running_is_open}
+use Rattle.device_laws.proofs.Had.{BehindHad, Had}
 use Rattle.device_laws.proofs.OpenProgram.{part_is_acted}
-use Rattle.device_laws.proofs.PathsAlong.{idle_paths, start_keeps, reset_keeps_paths}
-use Rattle.device_laws.proofs.PlainStores.{core_of, IsOf, IsAlone}
-use Rattle.device_laws.proofs.PlainTurns.{RunsAt, ChainOf, Follows, of_paths}
+use Rattle.device_laws.proofs.PathsAlong.{idle_paths, start_keeps}
+use Rattle.device_laws.proofs.PlainStores.{core_of, IsOf}
+use Rattle.device_laws.proofs.PlainTurns.{RunsAt, Follows, of_paths, mid_other, at_home}
 
 -- What holds always holds where memory is had
 
@@ -112,8 +65,9 @@ none_loose n t = by_place (cases_lt t n) where
   by_place (inl lt) = get_or-replicate n t false false lt
   by_place (inr le) = let many : length (replicate n false) ≡ n = length-replicate n false in get_or_past (replicate n false) t false (omega (arith, le, many))
 
-pub new_follows : (d : ℕ) (g : Geometry) (n : ℕ) (plans : Plans) → 0 < n → Follows (empty_state g n) (new_device d g n plans)
+pub new_follows : (d : ℕ) (g : Geometry) (n : ℕ) (plans : Plans) → 0 < n → Follows d (empty_state g n) (new_device d g n plans)
 new_follows d g n plans some = record {
+  number = refl;
   base = refl;
   some = some;
   stands = new_stands (empty_state g n) (new_device d g n plans) refl;
@@ -129,19 +83,30 @@ new_follows d g n plans some = record {
     looses = length-replicate (n * 15) false ∙ sym (length-map-range_with_len empty_track 0 (n * 15));
     tracks = length-map-range_with_len empty_track 0 (n * 15);
   };
-  alone = record {
-    paired = refl;
-    off = refl;
-    whole = refl;
-    frames = length-replicate (n * 15) None ∙ sym (length-replicate (n * 15) false);
-  };
+  places = length-replicate (n * 15) None ∙ sym (length-replicate (n * 15) false);
+  before = None;
   runs = tt;
   chain = tt;
+  mid = refl;
+  home = tt;
 }
+
+pub runs_idle : (plans : Plans) (x : PlainState) (r : Option OpenEntry) (k : Option ChainState) → r ≡ None → RunsAt plans x r k
+runs_idle plans x (Some o) k is = absurd (cc)
+runs_idle plans x None k is = tt
 
 -- A start
 
-module _ (empty : PlainState) (d : MarksDevice) (f : Follows empty d) where
+home_by : (d : MarksDevice) (path : ℕ) (lent : Option ℕ) → fault_by d path lent ≡ None → lent ≡ None
+home_by d path (Some of) is = absurd (cc)
+home_by d path None is = refl
+
+-- a device that is lent starts none
+starts_at_home : (d : MarksDevice) (path : ℕ) → start_fault d path ≡ None → d.store.lent ≡ None
+unfolding S.start_fault
+starts_at_home d path is = home_by d path d.store.lent is
+
+module _ (num : ℕ) (empty : PlainState) (d : MarksDevice) (f : Follows num empty d) where
   abbrev s : PlainState
   s = replay d.plans empty d.history.items
 
@@ -160,18 +125,20 @@ module _ (empty : PlainState) (d : MarksDevice) (f : Follows empty d) where
         ∙ ap (λ (n : ℕ). record { geometry = s.geometry; cylinders = s.cylinders; number = n }) (sym of.number)
 
     -- a path's next program
-    pub start_follows : start_fault d path ≡ None → Follows empty (start d path)
+    pub start_follows : start_fault d path ≡ None → Follows num empty (start d path)
     unfolding S.start
     start_follows is =
         let none = starts_where_idle d path is in
         record {
+          number = f.number;
           base = f.base;
           some = f.some;
           stands = start_stands empty d f.stands path least most (idle_paths empty d f.keeps none) is;
           keeps = start_keeps empty d f.keeps path none;
           of = subst (λ (x : PlainState). IsOf x (core_of d.store)) (sym (ap (λ (p : Part). p.state) first_is))
               (of_paths s (core_of d.store) (idle_of none) (begun s.paths path (next_program d path)));
-          alone = f.alone;
+          places = f.places;
+          before = Some (begun_chain (next_program d path) (fixed_of d.store));
           runs = record {
             hand = start_at_hand d.plans s path (next_ordinal d path) (fixed_of d.store);
             stance = sym (ap (λ (p : Part). p.stance) first_is);
@@ -179,121 +146,7 @@ module _ (empty : PlainState) (d : MarksDevice) (f : Follows empty d) where
             fresh = refl;
           };
           chain = (refl, refl);
+          mid = mid_other (core_of d.store) (core_of d.store) d.store.half d.history.running (start d path).history.running f.before d.chain
+              (Some (begun_chain (next_program d path) (fixed_of d.store))) (Some (begun_chain (next_program d path) (fixed_of d.store))) none f.mid refl;
+          home = at_home d.store.lent (start d path).history.running (starts_at_home d path is);
         }
-
-  -- A reset
-
-  pub may : (o : OpenEntry) → d.history.running ≡ Some o → MayTake d.plans (replay d.plans empty d.history.items) o (counts_one_by d.store.half)
-  may o running = subst (λ (h : Option (HalfWrite (Unit {0}))). MayTake d.plans s o (counts_one_by h)) (sym f.alone.whole) tt
-
-  pub none_taken : (o : OpenEntry) → d.history.running ≡ Some o → taken_state d.plans (replay d.plans empty d.history.items) o (counts_one_by d.store.half)
-      ≡ (open_part d.plans (replay d.plans empty d.history.items) o).state
-  none_taken o running =
-      ap (λ (h : Option (HalfWrite (Unit {0}))). taken_state d.plans s o (counts_one_by h)) f.alone.whole
-      ∙ taken_none d.plans s d.history.items o (running_is_open d.plans empty d.history f.stands.plain f.stands.due o running)
-
-  -- of what isn't of the history's legality or of the paths
-  pub record IsReset (y : MarksDevice) : Type 0 where
-    pub store : y.store ≡ d.store
-    pub of : IsOf (plain_of y.plans empty y.history) (core_of d.store)
-    pub runs : RunsAt y.plans (replay y.plans empty y.history.items) y.history.running y.chain
-    pub chain : ChainOf d.store.geometry d.store.cylinders y.chain
-
-  pub runs_idle : (plans : Plans) (x : PlainState) (r : Option OpenEntry) (k : Option ChainState) → r ≡ None → RunsAt plans x r k
-  runs_idle plans x (Some o) k is = absurd (cc)
-  runs_idle plans x None k is = tt
-
-  module _ (path : ℕ) where
-    abbrev cut_device : MarksStore → ℕ → MarksDevice
-    cut_device z more = record (reset_noted by_plain d path more) { store = z; chain = None; paths = all_reset (reset_path d.paths path) d.history.waiting }
-
-    own_reset : (o : OpenEntry) → d.history.running ≡ Some o → (o.path == path) ≡ true → IsReset (cut_device d.store (counts_one_by d.store.half))
-    own_reset o running own =
-        let n = counts_one_by d.store.half in
-        let is : history_reset d.history path n ≡ cut_by d.history o n =
-        ap (λ (r : Option OpenEntry). reset_in d.history path n r) running
-        ∙ ap (λ (b : Bool). cond b (cut_by d.history o n)
-        (if is_used path false d.history.items then record d.history { waiting = put path d.history.waiting } else d.history)) own in
-        let taken = taken_state d.plans s o n in
-        record {
-          store = refl;
-          of = subst (λ (x : PlainState). IsOf x (core_of d.store))
-              (sym (ap (λ (h : History). plain_of d.plans empty h) is ∙ cut_state d.plans empty d.history f.stands.plain o running n (may o running)))
-              (of_paths taken (core_of d.store)
-              (subst (λ (x : PlainState). IsOf x (core_of d.store))
-              (ap (λ (r : Option OpenEntry). state_by d.plans s r) running ∙ sym (none_taken o running)) f.of)
-              (all_reset (reset_path taken.paths o.path) d.history.waiting));
-          runs = runs_idle d.plans (replay d.plans empty (history_reset d.history path n).items) (history_reset d.history path n).running None
-              (ap (λ (h : History). h.running) is);
-          chain = tt;
-        }
-
-    other_reset : (o : OpenEntry) → d.history.running ≡ Some o → (o.path == path) ≡ false → IsReset (reset_noted by_plain d path 0)
-    other_reset o running other =
-        let is : history_reset d.history path 0
-        ≡ (if is_used path false d.history.items then record d.history { waiting = put path d.history.waiting } else d.history) =
-        ap (λ (r : Option OpenEntry). reset_in d.history path 0 r) running
-        ∙ ap (λ (b : Bool). cond b (cut_by d.history o 0)
-        (if is_used path false d.history.items then record d.history { waiting = put path d.history.waiting } else d.history)) other in
-        record {
-          store = refl;
-          of = subst (λ (x : PlainState). IsOf x (core_of d.store)) (sym (waiting_state d.plans empty d.history f.stands.plain o running path 0 other)) f.of;
-          runs = subst (λ (h : History). RunsAt d.plans (replay d.plans empty h.items) h.running d.chain) (sym is)
-              (cond_both (is_used path false d.history.items) (record d.history { waiting = put path d.history.waiting }) d.history
-              (λ (h : History). RunsAt d.plans (replay d.plans empty h.items) h.running d.chain) (λ _. f.runs) (λ _. f.runs));
-          chain = f.chain;
-        }
-
-    idle_reset : d.history.running ≡ None → has_used d.history path ≡ true → IsReset (record (reset_noted by_plain d path 0) {
-      paths = reset_path d.paths
-          path;
-    })
-    idle_reset none used =
-        let used_items : is_used path false d.history.items ≡ true =
-        sym (ap (λ (r : Option OpenEntry). is_path_of r path || is_used path false d.history.items) none) ∙ used in
-        record {
-          store = refl;
-          of = subst (λ (x : PlainState). IsOf x (core_of d.store)) (sym (idle_reset_state d.plans empty d.history f.stands.plain none path 0 used_items))
-              (of_paths s (core_of d.store) (idle_of none) (reset_path s.paths path));
-          runs = runs_idle d.plans (replay d.plans empty (history_reset d.history path 0).items) (history_reset d.history path 0).running d.chain
-              (ap (λ (r : Option OpenEntry). (reset_in d.history path 0 r).running) none
-              ∙ cond_both (is_used path false d.history.items) (record d.history { items = d.history.items ++ items.Reset path ∷ [] }) d.history
-              (λ (h : History). h.running ≡ None) (λ _. none) (λ _. none));
-          chain = f.chain;
-        }
-
-    pub no_half : (z : Option (HalfWrite (Unit {0}))) → z ≡ None →
-        Had (half_cut by_plain d.store z) (λ y (_ : Unit {0}). y ≡ d.store)
-    no_half (Some h) is = absurd (cc)
-    no_half None is = had_done refl
-
-    by_running : (r : Option OpenEntry) → d.history.running ≡ r → Had (reset_by by_plain d path r) (λ y (_ : Unit {0}). IsReset y)
-    by_running (Some o) running =
-        had_if (o.path == path)
-        (λ own. had_then (no_half d.store.half f.alone.whole)
-        (λ z _ e. had_done (subst (λ (x : MarksStore). IsReset (cut_device x (counts_one_by d.store.half))) (sym e) (own_reset o running own))))
-        (λ other. had_done (other_reset o running other))
-    by_running None none =
-        had_if (has_used d.history path) (λ used. had_done (idle_reset none used))
-        (λ _. had_done (record { store = refl; of = f.of; runs = f.runs; chain = f.chain }))
-
-    resets : Had (reset by_plain d path) (λ y (_ : Unit {0}). IsReset y)
-    unfolding K.reset
-    resets = by_running d.history.running refl
-
-    pub reset_follows : Had (reset by_plain d path) (λ y (_ : Unit {0}). Follows empty y)
-    reset_follows =
-        had_weaker
-        (had_both resets (had_both (had_always (reset_stands by_plain empty d f.stands path may))
-        (had_always (reset_keeps_paths by_plain empty d f.stands f.keeps path may
-        (λ o running. ap (λ (x : PlainState). reset_path x.paths o.path) (none_taken o running))))))
-        (λ y _ g. record {
-          base = subst (λ (x : MarksStore). empty ≡ empty_state x.geometry x.cylinders) (sym g.0.store) f.base;
-          some = subst (λ (x : MarksStore). 0 < x.cylinders) (sym g.0.store) f.some;
-          stands = g.1.0;
-          keeps = g.1.1;
-          of = subst (λ (x : MarksStore). IsOf (plain_of y.plans empty y.history) (core_of x)) (sym g.0.store) g.0.of;
-          alone = subst (λ (x : MarksStore). IsAlone (core_of x)) (sym g.0.store) f.alone;
-          runs = g.0.runs;
-          chain = subst (λ (x : MarksStore). ChainOf x.geometry x.cylinders y.chain) (sym g.0.store) g.0.chain;
-        })

@@ -1,40 +1,10 @@
 -- Losses and work in the background keep the history of a run's device a plain device's.
-use Rattle.std.proofs.Common.{
-  ◌≡◌,
-  ◌<◌,
-  ◌*◌,
-  ◌==◌,
-  zero,
-  suc,
-  ℕ,
-  Bool,
-  true,
-  false,
-  List,
-  [],
-  ◌∷◌,
-  ◌++◌,
-  length,
-  Option,
-  Some,
-  None,
-  is_some,
-  cond,
-  set,
-  get_or,
-  refl,
-  sym,
-  ap,
-  subst,
-  ◌∙◌,
-  arith,
-}
-use Rattle.std.specs.Prelude.{◌||◌, replicate, if◌then◌else◌}
+use Rattle.std.proofs.Common.{◌≡◌, ◌<◌, ◌*◌, ◌==◌, ℕ, Bool, true, false, List, [], ◌∷◌, ◌++◌, length, Option, Some, None, is_some, cond, set, get_or, refl, sym, ap, subst, ◌∙◌, arith}
+use Rattle.std.specs.Prelude.{◌||◌, replicate, IsSome, if◌then◌else◌}
 use Rattle.std.proofs.lemmas.Bool.{cond_both, eqb-true, eqb-false}
 use Rattle.std.proofs.lemmas.List.{get_or-set_same, get_or-set_other, get_or_default, ext_get_or, length-set, length-replicate}
 use Rattle.ckd_types.specs.declared.geometry.Geometry.{Geometry}
 use Rattle.ckd_types.specs.declared.paths.Side.{Side}
-use Rattle.ckd_types.specs.declared.paths.Side.TheVariants.{A, B}
 use Rattle.ckd_types.specs.declared.record.Track.{Track}
 use Rattle.ckd_types.specs.Track.{empty_track}
 use Rattle.ckd_types.specs.Volume.{track_in}
@@ -56,31 +26,7 @@ use Rattle.device_defs.specs.declared.answers.Did.{Did}
 use Rattle.device_defs.specs.declared.answers.Took.{Took}
 use Rattle.device_defs.specs.declared.answers.Took.TheVariants.{Whole, Opened, Unwritten}
 use Rattle.device_defs.specs.Background as B
-use Rattle.device_defs.specs.Background.{
-  saved_by,
-  saving,
-  saved,
-  recovered_image,
-  recovered_bytes,
-  recover,
-  copied,
-  copy_read,
-  copy_by,
-  copies_to,
-  unfilled,
-  staged_image,
-  staged_bytes,
-  stage,
-  destage_first,
-  to_destage,
-  stage_first,
-  copy_first,
-  to_copy,
-  recover_first,
-  to_recover,
-  work,
-  other,
-}
+use Rattle.device_defs.specs.Background.{saved_by, saved, recovered_bytes, recover, copied, copy_read, copy_by, copies_to, staged_bytes, stage, destage_first, to_destage, stage_first, copy_first, to_copy, recover_first, to_recover, work, other}
 use Rattle.device_defs.specs.Contents.{by_plain}
 use Rattle.device_defs.specs.Device.{all_acted, with_store}
 use Rattle.device_defs.specs.Effects.{gone_back, loose_lost}
@@ -88,48 +34,66 @@ use Rattle.device_defs.specs.Events as V
 use Rattle.device_defs.specs.Events.{with_loss, lost_by, losing, lose, background}
 use Rattle.device_defs.specs.Image.{Got, filled}
 use Rattle.device_defs.specs.Losses as L
-use Rattle.device_defs.specs.Losses.{
-  over,
-  settled,
-  settled_but,
-  side_lost,
-  down,
-  cache_lost,
-  store_lost,
-  patch_lost,
-  without_frame,
-  without_patch,
-  slot_in,
-  stale_everywhere,
-  firm_told,
-  all_firm_told,
-  call_failed,
-  framed_image,
-}
+use Rattle.device_defs.specs.Losses.{over, settled, patch_lost, without_frame, without_patch, slot_in, stale_everywhere, call_failed}
 use Rattle.device_defs.specs.Marks.{MarksDevice, MarksStore}
 use Rattle.device_defs.specs.Owed.{begun}
-use Rattle.device_defs.specs.Store.{tracks_of, is_loose, is_lost, half_is, owed_at, frame_at, patch_at, plain_at, with_frame, with_stale}
+use Rattle.device_defs.specs.Store.{OfBackground, HalfWrite, tracks_of, is_loose, is_lost, half_is, owed_at, frame_at, patch_at, plain_at, with_frame, with_stale}
 use Rattle.device_laws.proofs.DeviceEnds.{acts_stand}
 use Rattle.device_laws.proofs.DevicePaths.{acts_keep_them}
-use Rattle.device_laws.proofs.Had.{Had, had_done, had_try, had_ask, had_read, had_write, had_tell, had_if, had_then}
+use Rattle.device_laws.proofs.Had.{Had, had_done, had_try, had_ask, had_read, had_write, had_if, had_then}
 use Rattle.device_laws.proofs.HistoryActs.{some_loose, all_acted_state}
 use Rattle.device_laws.proofs.OpenProgram.{acts_more}
 use Rattle.device_laws.proofs.PlainCommand.{event_follows, all_run, runs_first}
 use Rattle.device_laws.proofs.PlainEvents.{none_loose}
-use Rattle.device_laws.proofs.PlainStores.{Core, core_of, IsOf, IsAlone, Walks, walks_on, acts_done_more}
-use Rattle.device_laws.proofs.PlainTurns.{RunsAt, ChainOf, Follows, of_begun}
+use Rattle.device_laws.proofs.PlainStores.{
+  Core,
+  Open,
+  core_of,
+  open_of,
+  loose_at,
+  hardened_core,
+  with_half,
+  IsOf,
+  HasPlaces,
+  Stays,
+  stays_hardened,
+  Walks,
+  walks_on,
+  walks_half,
+  walks_hardened,
+  acts_done_more,
+  not_loose,
+}
+use Rattle.device_laws.proofs.PlainTurns.{
+  RunsAt,
+  ChainOf,
+  IsMid,
+  IsAtHome,
+  Follows,
+  of_begun,
+  some_none,
+  mid_none,
+  none_mid,
+  mid_stays,
+  home_stays,
+}
 use Rattle.device_laws.proofs.PlainWalks.{
   FirstTook,
   framed_same,
   patch_same,
   everywhere_same,
   stale_same,
-  bytes_same,
-  failed_same,
-  settled_on,
+  settled_holds,
+  over_holds,
+  side_holds,
+  told_holds,
+  failed_on,
+  bytes_on,
   firm_first_on,
   first_on,
   done_same,
+  opened_half,
+  opened_core,
 }
 use Rattle.device_laws.proofs.Working.{least_found}
 
@@ -180,7 +144,7 @@ module _ (p : PlainState) (c : Core) (of : IsOf p c) where
   }
 
 -- the acts of an event are none of these
-of_acts : (p : PlainState) (c : Core) → IsOf p c → (acts : List Act) → IsOf p (record c { acts = acts })
+pub of_acts : (p : PlainState) (c : Core) → IsOf p c → (acts : List Act) → IsOf p (record c { acts = acts })
 of_acts p c of acts = record {
   geometry = of.geometry;
   cylinders = of.cylinders;
@@ -193,25 +157,38 @@ of_acts p c of acts = record {
   tracks = of.tracks;
 }
 
--- with some plain volume
-pub record Walked (p : PlainState) (g : Geometry) (n : ℕ) (c : Core) : Type 0 where
-  pub plain : List Track
-  pub walks : Walks p plain g n c
+pub places_gone : (p : PlainState) (c : Core) → IsOf p c → HasPlaces c → HasPlaces (gone_core c)
+places_gone p c of places = places ∙ of.looses ∙ of.tracks ∙ sym (length-replicate (c.cylinders * 15) false)
 
-pub alone_gone : (p : PlainState) (c : Core) → IsOf p c → IsAlone c → IsAlone (gone_core c)
-alone_gone p c of alone = record {
-  paired = alone.paired;
-  off = alone.off;
-  whole = alone.whole;
-  frames = alone.frames ∙ of.looses ∙ of.tracks ∙ sym (length-replicate (c.cylinders * 15) false);
+-- what was firm stays as it is
+stays_gone : (p : PlainState) (c d : Core) → IsOf p d → Stays c d → Stays c (gone_core d)
+stays_gone p c d of s = record {
+  loose = λ q e. none_loose (d.cylinders * 15) q;
+  plain = λ q e.
+      sym (of.firm q) ∙ not_loose p.loose q (track_in p.volume q) (of.loose q ∙ s.loose q e)
+      ∙ ap (λ (v : List Track). track_in v q) of.volume ∙ s.plain q e;
 }
 
-module _ (p : PlainState) (g : Geometry) (n : ℕ) where
+-- with some plain volume, on which what was firm is as it was
+pub record Walked (p : PlainState) (g : Geometry) (n : ℕ) (first c : Core) : Type 0 where
+  pub plain : List Track
+  pub walks : Walks p plain g n (open_of first) c
+  pub stays : Stays first c
+
+pub walked_hardened : (p : PlainState) (g : Geometry) (n : ℕ) (first c : Core) (t : ℕ) → Walked p g n first c → loose_at c t ≡ true →
+    Walked p g n first (hardened_core c t)
+walked_hardened p g n first c t w is = record {
+  plain = w.plain;
+  walks = walks_hardened p w.plain g n (open_of first) c t w.walks is;
+  stays = stays_hardened first c t w.stays;
+}
+
+module _ (p : PlainState) (g : Geometry) (n : ℕ) (first : Core) where
   abbrev pub Goes : MarksStore → Type 0
-  Goes s = Walked p g n (core_of s)
+  Goes s = Walked p g n first (core_of s)
 
   goes_core : (s z : MarksStore) → core_of z ≡ core_of s → Goes s → Goes z
-  goes_core s z e w = record { plain = w.plain; walks = walks_on p w.plain g n e w.walks }
+  goes_core s z e w = subst (Walked p g n first) (sym e) w
 
   lost_by_loose : (s : MarksStore) (o : Option ℕ) → least (tracks_of s) (is_loose s) ≡ o → Goes s →
       Goes (if is_some o then record (gone_back s) { acts = s.acts ++ CfwLost ∷ [] } else s)
@@ -221,29 +198,30 @@ module _ (p : PlainState) (g : Geometry) (n : ℕ) where
       let k = w.walks in
       let found = least_found (tracks_of s) (is_loose s) t e in
       let q = acts_done p s.acts in
+      let stays = stays_gone q first c k.of w.stays in
       record {
         plain = s.firm;
         walks = record {
           of = subst (λ (x : PlainState). IsOf x (record (gone_core c) { acts = s.acts ++ CfwLost ∷ [] })) (sym (acts_done_more p s.acts CfwLost))
               (of_acts (cfw_lost q) (gone_core c) (of_gone q c k.of) (s.acts ++ CfwLost ∷ []));
           are = acts_more p None s.acts CfwLost k.are (some_loose q.loose t (k.of.loose t ∙ found.1), tt);
-          alone = let a = alone_gone q c k.of k.alone in record { paired = a.paired; off = a.off; whole = a.whole; frames = a.frames };
+          places = places_gone q c k.of k.places;
           plain = refl;
           geometry = k.geometry;
           cylinders = k.cylinders;
+          rest = k.rest;
         };
+        stays = record { loose = stays.loose; plain = stays.plain };
       }
 
   loose_goes : (s : MarksStore) → Goes s → Goes (loose_lost s)
   loose_goes s w = lost_by_loose s (least (tracks_of s) (is_loose s)) refl w
 
   pub over_goes : (k : ℕ) (f : ℕ → MarksStore → MarksStore) → ((t : ℕ) (z : MarksStore) → Goes z → Goes (f t z)) → (s : MarksStore) → Goes s → Goes (over k f s)
-  unfolding L.over
-  over_goes zero f h s w = w
-  over_goes (suc k) f h s w = h k (over k f s) (over_goes k f h s w)
+  over_goes k f h s w = over_holds (Walked p g n first) (walked_hardened p g n first) k f h s w
 
   settles : (t : ℕ) (z : MarksStore) → Goes z → Goes (settled by_plain z t)
-  settles t z w = record { plain = w.plain; walks = settled_on p w.plain g n z t w.walks }
+  settles t z w = settled_holds (Walked p g n first) (walked_hardened p g n first) z t w
 
   unframed : (t : ℕ) (z : MarksStore) → Goes z → Goes (without_frame z t)
   unframed t z w =
@@ -267,108 +245,125 @@ module _ (p : PlainState) (g : Geometry) (n : ℕ) where
       (unpatched t z w))))
       (λ _. w)
 
-  down_goes : (s : MarksStore) (side : Side) → Goes s → Goes (down s side)
-  down_goes s A w = w
-  down_goes s B w = goes_core s (down s B) (ap (λ (b : Bool). record (core_of s) { up_b = b }) (sym w.walks.alone.off)) w
-
   lost_goes : (s : MarksStore) (loss : Loss) → Goes s → Goes (lost_by by_plain s loss)
-  unfolding L.cache_lost L.store_lost L.side_lost
+  unfolding L.cache_lost L.store_lost
   lost_goes s losses.Cache w = over_goes (tracks_of s) (λ t z. settled by_plain (without_frame z t) t) unframed_settles (record
       (loose_lost s) { queue = [] }) (loose_goes s w)
   lost_goes s losses.Store w = over_goes (tracks_of s) (patch_lost by_plain) patch_goes s w
-  lost_goes s (losses.Side side) w = over_goes (tracks_of s) (settled_but by_plain None) settles (down s side) (down_goes s side w)
-
-  told_goes : (k : ℕ) (s : MarksStore) → Goes s → Had (all_firm_told by_plain k s) (λ z (_ : Unit {0}). Goes z)
-  unfolding L.all_firm_told
-  told_goes zero s w = had_done w
-  told_goes (suc k) s w =
-      had_then (told_goes k s w) (λ z _ v. had_if (owed_at z k).firm (λ _. had_tell (had_done v)) (λ _. had_done v))
+  lost_goes s (losses.Side side) w = side_holds (Walked p g n first) (walked_hardened p g n first) s side None w
 
   pub losing_goes : (s : MarksStore) (loss : Loss) → Goes s → Had (losing by_plain s loss) (λ z (_ : Unit {0}). Goes z)
-  losing_goes s loss w = told_goes (tracks_of s) (lost_by by_plain (with_loss s loss) loss) (lost_goes (with_loss s loss) loss w)
+  losing_goes s loss w =
+      told_holds (Walked p g n first) (walked_hardened p g n first) (tracks_of s) (lost_by by_plain (with_loss s loss) loss)
+      (lost_goes (with_loss s loss) loss w)
 
-  -- Work in the background
+-- Work in the background
 
-  module _ (u : List Track) where
-    abbrev On : MarksStore → Type 0
-    On s = Walks p u g n (core_of s)
+module _ (p : PlainState) (u : List Track) (g : Geometry) (n : ℕ) (lent : Option ℕ × ℕ) where
+  abbrev On : MarksStore → Type 0
+  On s = Walks p u g n (None, lent) (core_of s)
 
-    on_core : (s z : MarksStore) → core_of z ≡ core_of s → On s → On z
-    on_core s z e w = walks_on p u g n e w
+  on_core : (s z : MarksStore) → core_of z ≡ core_of s → On s → On z
+  on_core s z e w = walks_on p u g n (None, lent) e w
 
-    saved_on : (t : ℕ) (i : Image) (d : Did) (fault : Option Side) (was : Bool) (failed : Option Side) (s : MarksStore) (took : Took) →
-        FirstTook p u g n t s took →
-        Had (saved_by by_plain t i d fault was failed s took) (λ z (_ : Did). On z)
-    saved_on t i d fault was failed s Whole w = had_then (done_same p u g n s t i false) (λ z _ e. had_done (on_core s z e w.on))
-    saved_on t i d fault was failed s Opened w = absurd w
-    saved_on t i d fault was failed s Unwritten w = had_done w
+  -- no half write is open, or one of the background
+  pub record Worked (z : MarksStore) : Type 0 where
+    pub walks : Walks p u g n (z.half, lent) (core_of z)
+    pub free : (c : Core) (r : Option OpenEntry) (b k : Option ChainState) → k ≡ b → IsMid c z.half r b k
 
-    save_on : (s : MarksStore) (t : ℕ) (i : Image) (d : Did) (fault : Option Side) → On s → Had (saved by_plain s t i d fault) (λ z (_ : Option Did). On z)
-    save_on s t i d fault w =
-        had_try (had_then {p = λ z _. On z}
-        (had_then (firm_first_on p u g n s t w) (λ z was f. had_then (first_on p u g n z t true f) (λ y k h. saved_on t i d fault was k.fault y k.took h)))
-        (λ z e h. had_done h))
+  worked : (z : MarksStore) → On z → Worked z
+  worked z w =
+      let is : z.half ≡ None = ap (λ (k : Open). k.0) w.rest in
+      record {
+        walks = subst (λ (h : Option (HalfWrite (Unit {0}))). Walks p u g n (h, lent) (core_of z)) (sym is) w;
+        free = λ c r b k same. mid_none c z.half r b k is same;
+      }
 
-    recovered_on : (t : ℕ) (s : MarksStore) (k : Got Bool) (b : Option Bool) → On s → Had (recovered_bytes by_plain t s k b) (λ z (_ : Option Did). On z)
-    recovered_on t s k None w = had_done w
-    recovered_on t s k (Some true) w = had_try (save_on s t _ _ k.fault w)
-    recovered_on t s k (Some false) w = had_try (had_done w)
+  half_worked : (s z : MarksStore) (t : ℕ) → core_of z ≡ with_half (core_of s) (opened_half t OfBackground) → On s → Worked z
+  half_worked s z t same w =
+      let h = opened_half t OfBackground in
+      let is : z.half ≡ opened_half t OfBackground = ap (λ (c : Core). c.half) same in
+      record {
+        walks = subst (λ (x : Option (HalfWrite (Unit {0}))). Walks p u g n (x, lent) (core_of z)) (sym is)
+            (subst (Walks p u g n (h, lent)) (sym same) (walks_half p u g n (None, lent) (core_of s) w h));
+        free = λ c r b k e. subst (λ (x : Option (HalfWrite (Unit {0}))). IsMid c x r b k) (sym is) e;
+      }
 
-    recover_on : (s : MarksStore) (t : ℕ) (f : Option Bool) → On s → Had (recover by_plain s t f) (λ z (_ : Option Did). On z)
-    recover_on s t (Some f) w = save_on s t _ _ None w
-    recover_on s t None w = had_then (bytes_same s t w.alone.paired w.alone.off) (λ z k e. recovered_on t z k k.bytes (on_core s z e w))
+  saved_on : (t : ℕ) (i : Image) (d : Did) (fault : Option Side) (was : Bool) (failed : Option Side) (s : MarksStore) (took : Took) →
+      FirstTook p u g n (None, lent) (λ q. ⊥) t s took →
+      Had (saved_by by_plain t i d fault was failed s took) (λ z (_ : Did). Worked z)
+  saved_on t i d fault was failed s Whole w = had_then (done_same s t i false) (λ z _ e. had_done (worked z (on_core s z e w.on)))
+  saved_on t i d fault was failed s Opened w = had_then (opened_core s t i OfBackground was) (λ z _ e. had_done (half_worked s z t e w.on))
+  saved_on t i d fault was failed s Unwritten w = had_done (worked s w)
 
-    failed_on : (s : MarksStore) (side : Side) (d : Option Did) → On s → Had (and_then (call_failed by_plain s side None) (λ z _. Done z d)) (λ z
-        (_ : Option Did). On z)
-    failed_on s side d w = had_then (failed_same s side None w.alone.paired) (λ z _ e. had_done (subst On (sym e) w))
+  save_on : (s : MarksStore) (t : ℕ) (i : Image) (d : Did) (fault : Option Side) → On s → Had (saved by_plain s t i d fault) (λ z (_ : Option Did). Worked z)
+  save_on s t i d fault w =
+      had_try (had_then {p = λ z _. Worked z}
+      (had_then (firm_first_on p u g n (None, lent) (λ q. ⊥) t s w (λ q r. absurd r))
+      (λ z was f. had_then (first_on p u g n (None, lent) (λ q. ⊥) t z true f) (λ y k h. saved_on t i d fault was k.fault y k.took h)))
+      (λ z e h. had_done h))
 
-    copied_on : (t : ℕ) (side : Side) (s : MarksStore) (ok : Bool) → On s → Had (copied by_plain t side s ok) (λ z (_ : Option Did). On z)
-    copied_on t side s ok w =
-        had_if ok (λ _. had_done (on_core s (with_stale s side t false) (stale_same s side t false) w)) (λ _. failed_on s side _ w)
+  recovered_on : (t : ℕ) (s : MarksStore) (k : Got Bool) (b : Option Bool) → On s → Had (recovered_bytes by_plain t s k b) (λ z (_ : Option Did). Worked z)
+  recovered_on t s k None w = had_done (worked s w)
+  recovered_on t s k (Some true) w = had_try (save_on s t _ _ k.fault w)
+  recovered_on t s k (Some false) w = had_try (had_done (worked s w))
 
-    copy_on : (t : ℕ) (side : Side) (s : MarksStore) (r : Option Bool) → On s → Had (copy_read by_plain t side s r) (λ z (_ : Option Did). On z)
-    copy_on t side s None w = failed_on s (other side) _ w
-    copy_on t side s (Some r) w = had_write (λ ok. copied_on t side _ ok w)
+  recover_on : (s : MarksStore) (t : ℕ) (f : Option Bool) → On s → Had (recover by_plain s t f) (λ z (_ : Option Did). Worked z)
+  recover_on s t (Some f) w = save_on s t _ _ None w
+  recover_on s t None w = had_then (bytes_on p u g n (None, lent) s t w) (λ z k v. recovered_on t z k k.bytes v)
 
-    copies_on : (s : MarksStore) (t : ℕ) (o : Option Side) → On s → Had (copy_by by_plain s t o) (λ z (_ : Option Did). On z)
-    copies_on s t None w = had_done w
-    copies_on s t (Some side) w = had_read (λ got. copy_on t side _ got w)
+  stopped_on : (s : MarksStore) (side : Side) (d : Option Did) → On s → Had (and_then (call_failed by_plain s side None) (λ z _. Done z d)) (λ z
+      (_ : Option Did). Worked z)
+  stopped_on s side d w = had_then (failed_on p u g n (None, lent) s side None w) (λ z _ v. had_done (worked z v))
 
-    filled_on : (s : MarksStore) (t : ℕ) (i : Image) → On s → Had (filled by_plain s t i) (λ z (_ : Unit {0}). On z)
-    filled_on s t i w =
-        had_if (is_some (patch_at s t)) (λ _. had_ask (λ _. had_done (on_core s (with_frame s t (Some true)) (framed_same s t (Some true)) w)))
-        (λ _. had_done (on_core s (with_frame s t (Some false)) (framed_same s t (Some false)) w))
+  copied_on : (t : ℕ) (side : Side) (s : MarksStore) (ok : Bool) → On s → Had (copied by_plain t side s ok) (λ z (_ : Option Did). Worked z)
+  copied_on t side s ok w =
+      had_if ok (λ _. had_done (worked (with_stale s side t false) (on_core s (with_stale s side t false) (stale_same s side t false) w)))
+      (λ _. stopped_on s side _ w)
 
-    staged_on : (t : ℕ) (s : MarksStore) (k : Got Bool) (b : Option Bool) → On s → Had (staged_bytes by_plain t s k b) (λ z (_ : Option Did). On z)
-    staged_on t s k None w = had_ask (λ _. had_done w)
-    staged_on t s k (Some true) w = had_try (had_then (filled_on s t (plain_at s t) w) (λ z _ v. had_done v))
-    staged_on t s k (Some false) w = had_try (had_ask (λ _. had_done w))
+  copy_on : (t : ℕ) (side : Side) (s : MarksStore) (r : Option Bool) → On s → Had (copy_read by_plain t side s r) (λ z (_ : Option Did). Worked z)
+  copy_on t side s None w = stopped_on s (other side) _ w
+  copy_on t side s (Some r) w = had_write (λ ok. copied_on t side _ ok w)
 
-    stage_on : (s : MarksStore) (t : ℕ) → On s → Had (stage by_plain s t) (λ z (_ : Option Did). On z)
-    stage_on s t w =
-        had_if (is_some (frame_at s t) || is_lost s t) (λ _. had_done w)
-        (λ _. had_try (had_ask (λ given. had_if given
-        (λ _. had_then (bytes_same s t w.alone.paired w.alone.off) (λ z k e. staged_on t z k k.bytes (on_core s z e w))) (λ _. had_done w))))
+  copies_on : (s : MarksStore) (t : ℕ) (o : Option Side) → On s → Had (copy_by by_plain s t o) (λ z (_ : Option Did). Worked z)
+  copies_on s t None w = had_done (worked s w)
+  copies_on s t (Some side) w = had_read (λ got. copy_on t side _ got w)
 
-    destage_on : (s : MarksStore) (o : Option ℕ) → On s → Had (destage_first by_plain s o) (λ z (_ : Option Did). On z)
-    destage_on s None w = had_done w
-    destage_on s (Some t) w = save_on s t _ _ None w
+  filled_on : (s : MarksStore) (t : ℕ) (i : Image) → On s → Had (filled by_plain s t i) (λ z (_ : Unit {0}). On z)
+  filled_on s t i w =
+      had_if (is_some (patch_at s t)) (λ _. had_ask (λ _. had_done (on_core s (with_frame s t (Some true)) (framed_same s t (Some true)) w)))
+      (λ _. had_done (on_core s (with_frame s t (Some false)) (framed_same s t (Some false)) w))
 
-    stages_on : (s : MarksStore) (q : List ℕ) → On s → Had (stage_first by_plain s q) (λ z (_ : Option Did). On z)
-    stages_on s [] w = destage_on s (to_destage by_plain s) w
-    stages_on s (t ∷ ts) w = stage_on (record s { queue = ts }) t w
+  staged_on : (t : ℕ) (s : MarksStore) (k : Got Bool) (b : Option Bool) → On s → Had (staged_bytes by_plain t s k b) (λ z (_ : Option Did). Worked z)
+  staged_on t s k None w = had_ask (λ _. had_done (worked s w))
+  staged_on t s k (Some true) w = had_try (had_then (filled_on s t (plain_at s t) w) (λ z _ v. had_done (worked z v)))
+  staged_on t s k (Some false) w = had_try (had_ask (λ _. had_done (worked s w)))
 
-    copy_first_on : (s : MarksStore) (o : Option ℕ) → On s → Had (copy_first by_plain s o) (λ z (_ : Option Did). On z)
-    copy_first_on s None w = stages_on s s.queue w
-    copy_first_on s (Some t) w = copies_on s t (copies_to s t) w
+  stage_on : (s : MarksStore) (t : ℕ) → On s → Had (stage by_plain s t) (λ z (_ : Option Did). Worked z)
+  stage_on s t w =
+      had_if (is_some (frame_at s t) || is_lost s t) (λ _. had_done (worked s w))
+      (λ _. had_try (had_ask (λ given. had_if given
+      (λ _. had_then (bytes_on p u g n (None, lent) s t w) (λ z k v. staged_on t z k k.bytes v)) (λ _. had_done (worked s w)))))
 
-    recover_first_on : (s : MarksStore) (o : Option ℕ) → On s → Had (recover_first by_plain s o) (λ z (_ : Option Did). On z)
-    recover_first_on s None w = copy_first_on s (to_copy s) w
-    recover_first_on s (Some t) w = recover_on s t (frame_at s t) w
+  destage_on : (s : MarksStore) (o : Option ℕ) → On s → Had (destage_first by_plain s o) (λ z (_ : Option Did). Worked z)
+  destage_on s None w = had_done (worked s w)
+  destage_on s (Some t) w = save_on s t _ _ None w
 
-    pub work_on : (s : MarksStore) → On s → Had (work by_plain s) (λ z (_ : Option Did). On z)
-    unfolding B.work
-    work_on s w = recover_first_on s (to_recover by_plain s) w
+  stages_on : (s : MarksStore) (q : List ℕ) → On s → Had (stage_first by_plain s q) (λ z (_ : Option Did). Worked z)
+  stages_on s [] w = destage_on s (to_destage by_plain s) w
+  stages_on s (t ∷ ts) w = stage_on (record s { queue = ts }) t w
+
+  copy_first_on : (s : MarksStore) (o : Option ℕ) → On s → Had (copy_first by_plain s o) (λ z (_ : Option Did). Worked z)
+  copy_first_on s None w = stages_on s s.queue w
+  copy_first_on s (Some t) w = copies_on s t (copies_to s t) w
+
+  recover_first_on : (s : MarksStore) (o : Option ℕ) → On s → Had (recover_first by_plain s o) (λ z (_ : Option Did). Worked z)
+  recover_first_on s None w = copy_first_on s (to_copy s) w
+  recover_first_on s (Some t) w = recover_on s t (frame_at s t) w
+
+  pub work_on : (s : MarksStore) → On s → Had (work by_plain s) (λ z (_ : Option Did). Worked z)
+  unfolding B.work
+  work_on s w = recover_first_on s (to_recover by_plain s) w
 
 -- Whole events
 
@@ -384,63 +379,92 @@ idle : (plans : Plans) (x : PlainState) (r : Option OpenEntry) (k : Option Chain
 idle plans x (Some o) k e = absurd (cc)
 idle plans x None k e = tt
 
-module _ (empty : PlainState) (d : MarksDevice) (f : Follows empty d) where
+act_some : (h : History) (act : Act) (r : Option OpenEntry) → IsSome r → IsSome (acted_in h act r).running
+act_some h act (Some o) some = refl
+act_some h act None some = absurd (some_none None some refl)
+
+still_some : (acts : List Act) (h : History) → IsSome h.running → IsSome (all_acted h acts).running
+still_some [] h some = some
+still_some (act ∷ acts) h some = still_some acts (acted h act) (act_some h act h.running some)
+
+module _ (num : ℕ) (empty : PlainState) (d : MarksDevice) (f : Follows num empty d) where
   runs_by : (acts : List Act) → AreActs (plain_of d.plans empty d.history) None acts → (r : Option OpenEntry) → d.history.running ≡ r →
-      (k : Option ChainState) → d.chain ≡ k → RunsAt d.plans (replay d.plans empty (all_acted d.history acts).items) (all_acted d.history acts).running k
+      (k : Option ChainState) → f.before ≡ k → RunsAt d.plans (replay d.plans empty (all_acted d.history acts).items) (all_acted d.history acts).running k
   runs_by acts are (Some o) running None is = absurd
       (subst (λ (k : Option ChainState). RunsAt d.plans (replay d.plans empty d.history.items) (Some o) k) is
-      (subst (λ (r : Option OpenEntry). RunsAt d.plans (replay d.plans empty d.history.items) r d.chain) running f.runs))
+      (subst (λ (r : Option OpenEntry). RunsAt d.plans (replay d.plans empty d.history.items) r f.before) running f.runs))
   runs_by acts are (Some o) running (Some chain) is =
-      let r = all_run empty d f o running chain is o.path acts d.history f.stands.plain f.stands.due are (runs_first empty d f o running chain is) in
+      let r = all_run num empty d f o running chain is o.path acts d.history f.stands.plain f.stands.due are (runs_first num empty d f o running chain is) in
       subst (λ (x : Option OpenEntry). RunsAt d.plans (replay d.plans empty (all_acted d.history acts).items) x (Some chain)) (sym r.running) r.at
   runs_by acts are None none k is =
       idle d.plans (replay d.plans empty (all_acted d.history acts).items) (all_acted d.history acts).running k (still_none acts d.history none)
 
   -- behind the acts of an event
-  pub acts_follow : (y : MarksStore) → Walked (plain_of d.plans empty d.history) d.store.geometry d.store.cylinders (core_of y) → Follows empty (with_store d y)
-  acts_follow y w =
-      let k = w.walks in
-      record {
-        base = f.base ∙ ap (λ (g : Geometry). empty_state g d.store.cylinders) (sym k.geometry) ∙ ap (empty_state y.geometry) (sym k.cylinders);
-        some = subst (λ (m : ℕ). 0 < m) (sym k.cylinders) f.some;
-        stands = acts_stand empty d y f.stands k.are;
-        keeps = acts_keep_them empty d y f.stands k.are f.keeps;
-        of = subst (λ (x : PlainState). IsOf x (core_of y)) (sym (all_acted_state d.plans empty y.acts d.history f.stands.plain k.are)) k.of;
-        alone = k.alone;
-        runs = runs_by y.acts k.are d.history.running refl d.chain refl;
-        chain = chain_by y k.geometry k.cylinders d.chain f.chain;
-      }
-    where
-      chain_by : (y : MarksStore) → y.geometry ≡ d.store.geometry → y.cylinders ≡ d.store.cylinders → (c : Option ChainState) →
-          ChainOf d.store.geometry d.store.cylinders c → ChainOf y.geometry y.cylinders c
-      chain_by y g n None on = tt
-      chain_by y g n (Some chain) on = (on.0 ∙ sym g, on.1 ∙ sym n)
+  pub acts_follow : (y : MarksStore) (u : List Track) →
+      Walks (plain_of d.plans empty d.history) u d.store.geometry d.store.cylinders (y.half, (d.store.lent, d.store.device)) (core_of y) →
+      IsMid (core_of y) y.half (all_acted d.history y.acts).running f.before d.chain → Follows num empty (with_store d y)
+  acts_follow y u k mid = record {
+    number = ap (λ (x : Open). x.1.1) k.rest ∙ f.number;
+    base = f.base ∙ ap (λ (g : Geometry). empty_state g d.store.cylinders) (sym k.geometry) ∙ ap (empty_state y.geometry) (sym k.cylinders);
+    some = subst (λ (m : ℕ). 0 < m) (sym k.cylinders) f.some;
+    stands = acts_stand empty d y f.stands k.are;
+    keeps = acts_keep_them empty d y f.stands k.are f.keeps;
+    of = subst (λ (x : PlainState). IsOf x (core_of y)) (sym (all_acted_state d.plans empty y.acts d.history f.stands.plain k.are)) k.of;
+    places = k.places;
+    before = f.before;
+    runs = runs_by y.acts k.are d.history.running refl f.before refl;
+    chain = chain_by y k.geometry k.cylinders f.before f.chain;
+    mid = mid;
+    home = subst (λ (l : Option ℕ). IsAtHome l (all_acted d.history y.acts).running) (sym (ap (λ (x : Open). x.1.0) k.rest))
+        (home_stays d.store.lent d.history.running (all_acted d.history y.acts).running (still_none y.acts d.history) f.home);
+  } where
+    chain_by : (y : MarksStore) → y.geometry ≡ d.store.geometry → y.cylinders ≡ d.store.cylinders → (c : Option ChainState) →
+        ChainOf d.store.geometry d.store.cylinders c → ChainOf y.geometry y.cylinders c
+    chain_by y g n None on = tt
+    chain_by y g n (Some chain) on = (on.0 ∙ sym g, on.1 ∙ sym n)
 
-  walks_first : (s : MarksStore) → core_of s ≡ core_of (begun d.store) →
-      Walks (plain_of d.plans empty d.history) d.store.plain d.store.geometry d.store.cylinders (core_of s)
-  walks_first s e = subst (Walks (plain_of d.plans empty d.history) d.store.plain d.store.geometry d.store.cylinders) (sym e) (record {
-    of = of_begun (plain_of d.plans empty d.history) (core_of d.store) f.of;
-    are = tt;
-    alone = record { paired = f.alone.paired; off = f.alone.off; whole = f.alone.whole; frames = f.alone.frames };
-    plain = refl;
-    geometry = refl;
-    cylinders = refl;
-  })
+  -- with the same half write
+  pub walked_follow : (y : MarksStore) → Walked (plain_of d.plans empty d.history) d.store.geometry d.store.cylinders (core_of d.store) (core_of y) →
+      Follows num empty (with_store d y)
+  walked_follow y w =
+      let half : y.half ≡ d.store.half = ap (λ (x : Open). x.0) w.walks.rest in
+      acts_follow y w.plain
+      (subst (λ (h : Option (HalfWrite (Unit {0}))). Walks (plain_of d.plans empty d.history) w.plain d.store.geometry d.store.cylinders (h, (d.store.lent, d.store.device))
+      (core_of y)) (sym half) w.walks)
+      (subst (λ (h : Option (HalfWrite (Unit {0}))). IsMid (core_of y) h (all_acted d.history y.acts).running f.before d.chain) (sym half)
+      (mid_stays (core_of d.store) (core_of y) d.store.half d.history.running (all_acted d.history y.acts).running f.before d.chain w.stays
+      w.walks.cylinders (still_some y.acts d.history) f.mid))
+
+  pub walks_first : (s : MarksStore) → core_of s ≡ core_of (begun d.store) →
+      Walks (plain_of d.plans empty d.history) d.store.plain d.store.geometry d.store.cylinders (d.store.half, (d.store.lent, d.store.device)) (core_of s)
+  walks_first s e = subst (Walks (plain_of d.plans empty d.history) d.store.plain d.store.geometry d.store.cylinders (d.store.half, (d.store.lent, d.store.device))) (sym e)
+      (record {
+        of = of_begun (plain_of d.plans empty d.history) (core_of d.store) f.of;
+        are = tt;
+        places = f.places;
+        plain = refl;
+        geometry = refl;
+        cylinders = refl;
+        rest = refl;
+      })
 
   -- a loss
-  pub loss_follows : (loss : Loss) → Had (lose by_plain d loss) (λ y (_ : Unit {0}). Follows empty y)
+  pub loss_follows : (loss : Loss) → Had (lose by_plain d loss) (λ y (_ : Unit {0}). Follows num empty y)
   unfolding V.lose
-  loss_follows loss = event_follows empty d (λ z. and_then (losing by_plain z.store loss) (λ s _. Done (with_store z s) tt)) (λ s e.
-      had_then (losing_goes (plain_of d.plans empty d.history) d.store.geometry d.store.cylinders s loss (record {
+  loss_follows loss = event_follows num empty d (λ z. and_then (losing by_plain z.store loss) (λ s _. Done (with_store z s) tt)) (λ s e.
+      had_then (losing_goes (plain_of d.plans empty d.history) d.store.geometry d.store.cylinders (core_of d.store) s loss (record {
         plain = d.store.plain;
-        walks =
-            walks_first s e;
+        walks = walks_first s e;
+        stays = subst (Stays (core_of d.store)) (sym e) (record { loose = λ q firm. firm; plain = λ q firm. refl });
       }))
-      (λ z _ w. had_done (acts_follow z w)))
+      (λ z _ w. had_done (walked_follow z w)))
 
   -- what it does by itself
-  pub background_follows : Had (background by_plain d) (λ y (_ : Option Did). Follows empty y)
+  pub background_follows : d.store.half ≡ None → Had (background by_plain d) (λ y (_ : Option Did). Follows num empty y)
   unfolding V.background
-  background_follows = event_follows empty d (λ z. and_then (work by_plain z.store) (λ s did. Done (with_store z s) did)) (λ s e.
-      had_then (work_on (plain_of d.plans empty d.history) d.store.geometry d.store.cylinders d.store.plain s (walks_first s e))
-      (λ z did w. had_done (acts_follow z (record { plain = d.store.plain; walks = w }))))
+  background_follows whole = event_follows num empty d (λ z. and_then (work by_plain z.store) (λ s did. Done (with_store z s) did)) (λ s e.
+      had_then (work_on (plain_of d.plans empty d.history) d.store.plain d.store.geometry d.store.cylinders (d.store.lent, d.store.device) s
+      (subst (λ (h : Option (HalfWrite (Unit {0}))). Walks (plain_of d.plans empty d.history) d.store.plain d.store.geometry d.store.cylinders
+      (h, (d.store.lent, d.store.device)) (core_of s)) whole (walks_first s e)))
+      (λ z did w. had_done (acts_follow z d.store.plain w.walks (w.free (core_of z) (all_acted d.history z.acts).running f.before d.chain
+      (none_mid (core_of d.store) d.store.half d.history.running f.before d.chain whole f.mid)))))

@@ -48,7 +48,7 @@ use Rattle.device_defs.specs.Marks.{MarksStore}
 use Rattle.device_defs.specs.Store.{HalfWrite}
 use Rattle.device_laws.proofs.OpenProgram.{acts_more}
 
--- what of a store is its plain device's, and whether it has one side and writes whole
+-- what of a store is its plain device's, how many places it has, its open half write, to whom it is lent, and its number
 pub record Core : Type 0 where
   pub geometry : Geometry
   pub cylinders : ℕ
@@ -58,9 +58,9 @@ pub record Core : Type 0 where
   pub loose : List Bool
   pub acts : List Act
   pub frames : ℕ
-  pub paired : Bool
-  pub up_b : Bool
   pub half : Option (HalfWrite (Unit {0}))
+  pub lent : Option ℕ
+  pub device : ℕ
 
 abbrev pub core_of : MarksStore → Core
 core_of s = record {
@@ -72,9 +72,9 @@ core_of s = record {
   loose = s.loose;
   acts = s.acts;
   frames = length s.frames;
-  paired = s.paired;
-  up_b = s.b.up;
   half = s.half;
+  lent = s.lent;
+  device = s.device;
 }
 
 abbrev pub loose_at : Core → ℕ → Bool
@@ -92,12 +92,16 @@ pub record IsOf (p : PlainState) (c : Core) : Type 0 where
   pub looses : length c.loose ≡ length c.plain
   pub tracks : length c.plain ≡ c.cylinders * 15
 
--- on one side that is no pair's, with no half write, and with a place for each track
-pub record IsAlone (c : Core) : Type 0 where
-  pub paired : c.paired ≡ false
-  pub off : c.up_b ≡ false
-  pub whole : c.half ≡ None
-  pub frames : c.frames ≡ length c.loose
+-- a place for each track
+abbrev pub HasPlaces : Core → Type 0
+HasPlaces c = c.frames ≡ length c.loose
+
+-- the half write, the device that it is lent to, and its number
+abbrev pub Open : Type 0
+Open = Option (HalfWrite (Unit {0})) × (Option ℕ × ℕ)
+
+abbrev pub open_of : Core → Open
+open_of c = (c.half, (c.lent, c.device))
 
 -- Loose tracks of the plain device
 
@@ -138,7 +142,7 @@ not_by : (b : Bool) (x f y : Track) (r : Bool) → cond b true r ≡ false → (
 not_by true x f y r e rest = absurd (cc)
 not_by false x f y r e rest = rest e
 
-not_loose : (l : List LooseTrack) (t : ℕ) (y : Track) → is_loose_in l t ≡ false → firm_in l t y ≡ y
+pub not_loose : (l : List LooseTrack) (t : ℕ) (y : Track) → is_loose_in l t ≡ false → firm_in l t y ≡ y
 not_loose [] t y e = refl
 not_loose (x ∷ l) t y e = not_by (x.track == t) x.firm (firm_in l t y) y (is_loose_in l t) e (not_loose l t y)
 
@@ -198,6 +202,13 @@ put_false l t = by_place (cases_lt t (length l)) where
   by_place : (t < length l) ⊎ (length l ≤ t) → get_or (set l t false) t false ≡ false
   by_place (inl lt) = get_or-set_same l t false false lt
   by_place (inr le) = let a = length-set l t false in get_or_past (set l t false) t false (omega (arith, a, le))
+
+-- another one stays so
+pub put_keeps : (l : List Bool) (t q : ℕ) → get_or l q false ≡ false → get_or (set l t false) q false ≡ false
+put_keeps l t q e = by_same (same_or_other q t) where
+  by_same : (q ≡ t) ⊎ (q ≢ t) → get_or (set l t false) q false ≡ false
+  by_same (inl is) = subst (λ (k : ℕ). get_or (set l t false) k false ≡ false) (sym is) (put_false l t)
+  by_same (inr ne) = get_or-set_other l t q false false ne ∙ e
 
 true_inside : (l : List Bool) (t : ℕ) → get_or l t false ≡ true → t < length l
 true_inside l t e = by_place (cases_lt t (length l)) where
@@ -340,35 +351,73 @@ module _ (p : PlainState) (c : Core) (of : IsOf p c) (t : ℕ) where
 -- Along an event
 
 -- the acts so far are legal, and the store is that of the plain device with them
-pub record Walks (p : PlainState) (u : List Track) (g : Geometry) (n : ℕ) (c : Core) : Type 0 where
+pub record Walks (p : PlainState) (u : List Track) (g : Geometry) (n : ℕ) (m : Open) (c : Core) : Type 0 where
   pub of : IsOf (acts_done p c.acts) c
   pub are : AreActs p None c.acts
-  pub alone : IsAlone c
+  pub places : HasPlaces c
   pub plain : c.plain ≡ u
   pub geometry : c.geometry ≡ g
   pub cylinders : c.cylinders ≡ n
+  pub rest : open_of c ≡ m
 
 pub acts_done_more : (p : PlainState) (acts : List Act) (act : Act) → acts_done p (acts ++ act ∷ []) ≡ act_done (acts_done p acts) act
 acts_done_more p [] act = refl
 acts_done_more p (x ∷ acts) act = acts_done_more (act_done p x) acts act
 
-module _ (p : PlainState) (u : List Track) (g : Geometry) (n : ℕ) where
+module _ (p : PlainState) (u : List Track) (g : Geometry) (n : ℕ) (m : Open) where
   -- a store of the same core
-  pub walks_on : {c d : Core} → d ≡ c → Walks p u g n c → Walks p u g n d
-  walks_on e w = subst (Walks p u g n) (sym e) w
+  pub walks_on : {c d : Core} → d ≡ c → Walks p u g n m c → Walks p u g n m d
+  walks_on e w = subst (Walks p u g n m) (sym e) w
 
-  pub walks_hardened : (c : Core) (t : ℕ) → Walks p u g n c → loose_at c t ≡ true → Walks p u g n (hardened_core c t)
+  pub walks_hardened : (c : Core) (t : ℕ) → Walks p u g n m c → loose_at c t ≡ true → Walks p u g n m (hardened_core c t)
   walks_hardened c t w is = record {
     of = subst (λ (s : PlainState). IsOf s (hardened_core c t)) (sym (acts_done_more p c.acts (Harden t)))
         (of_hardened (acts_done p c.acts) c w.of t is);
     are = acts_more p None c.acts (Harden t) w.are (w.of.loose t ∙ is, tt);
-    alone = record {
-      paired = w.alone.paired;
-      off = w.alone.off;
-      whole = w.alone.whole;
-      frames = w.alone.frames ∙ sym (length-set c.loose t false);
-    };
+    places = w.places ∙ sym (length-set c.loose t false);
     plain = w.plain;
     geometry = w.geometry;
     cylinders = w.cylinders;
+    rest = w.rest;
   }
+
+-- another half write, or none
+abbrev pub with_half : Core → Option (HalfWrite (Unit {0})) → Core
+with_half c h = record c { half = h }
+
+pub of_half : (p : PlainState) (c : Core) → IsOf p c → (h : Option (HalfWrite (Unit {0}))) → IsOf p (with_half c h)
+of_half p c of h = record {
+  geometry = of.geometry;
+  cylinders = of.cylinders;
+  number = of.number;
+  volume = of.volume;
+  loose = of.loose;
+  firm = of.firm;
+  firms = of.firms;
+  looses = of.looses;
+  tracks = of.tracks;
+}
+
+pub walks_half : (p : PlainState) (u : List Track) (g : Geometry) (n : ℕ) (m : Open) (c : Core) → Walks p u g n m c →
+    (h : Option (HalfWrite (Unit {0}))) → Walks p u g n (h, m.1) (with_half c h)
+walks_half p u g n m c w h = record {
+  of = of_half (acts_done p c.acts) c w.of h;
+  are = w.are;
+  places = w.places;
+  plain = w.plain;
+  geometry = w.geometry;
+  cylinders = w.cylinders;
+  rest = ap (λ (x : Open). (h, x.1)) w.rest;
+}
+
+-- What was firm stays so, and as it is
+
+pub record Stays (c d : Core) : Type 0 where
+  pub loose : (q : ℕ) → loose_at c q ≡ false → loose_at d q ≡ false
+  pub plain : (q : ℕ) → loose_at c q ≡ false → track_in d.plain q ≡ track_in c.plain q
+
+pub stays_itself : (c : Core) → Stays c c
+stays_itself c = record { loose = λ q e. e; plain = λ q e. refl }
+
+pub stays_hardened : (c d : Core) (t : ℕ) → Stays c d → Stays c (hardened_core d t)
+stays_hardened c d t s = record { loose = λ q e. put_keeps d.loose t q (s.loose q e); plain = s.plain }

@@ -1,13 +1,19 @@
 -- A run's device whose history is a plain device's, and that behind the end of its command at hand.
-use Rattle.std.proofs.Common.{◌≡◌, ◌<◌, ℕ, Bool, true, false, List, [], Option, Some, None, cond, refl, sym, ap, subst, ◌∙◌}
+use Rattle.std.proofs.Common.{◌≡◌, ◌<◌, ◌≤◌, ◌*◌, ℕ, Bool, true, false, List, [], Option, Some, None, cond, refl, sym, ap, subst, ◌∙◌}
 use Rattle.std.specs.Prelude.{IsSome}
 use Rattle.ckd_types.specs.declared.channel.Ccw.{Ccw}
 use Rattle.ckd_types.specs.declared.channel.CommandEnd.{CommandEnd}
 use Rattle.ckd_types.specs.declared.geometry.Geometry.{Geometry}
+use Rattle.ckd_types.specs.declared.record.Edit.{Edit}
+use Rattle.ckd_types.specs.declared.record.Track.{Track}
 use Rattle.ckd_types.specs.Ccw.{ccw_at}
-use Rattle.ckd_chain.specs.declared.progress.Settled.TheVariants.{Equipment, DataCheck}
+use Rattle.ckd_types.specs.Volume.{track_in}
+use Rattle.ckd_chain.specs.declared.progress.Settled.{Settled}
+use Rattle.ckd_chain.specs.declared.progress.Settled.TheVariants.{Written, Equipment, DataCheck}
+use Rattle.ckd_chain.specs.Fed.{ended_by, fed}
 use Rattle.ckd_chain.specs.State.{ChainState}
-use Rattle.ckd_chain.specs.Steps.{index_of, behind, end_with, settled_by}
+use Rattle.ckd_chain.specs.Steps.{index_of, need_of, behind, end_with, settled_by}
+use Rattle.ckd_rules.specs.declared.order.LocalAct.{LocalAct}
 use Rattle.ckd_rules.specs.Ending.{Outcome}
 use Rattle.ckd_rules.specs.Ends.{end_of}
 use Rattle.plain_defs.specs.declared.journal.Act.{Act}
@@ -36,6 +42,7 @@ use Rattle.plain_defs.specs.Program.{Part, ended_with, part_of}
 use Rattle.device_defs.specs.declared.answers.Came.TheVariants.{Ends}
 use Rattle.device_defs.specs.Device.{all_reset}
 use Rattle.device_defs.specs.Marks.{MarksDevice}
+use Rattle.device_defs.specs.Store.{Origin, OfCommand, OfCut, OfBackground, HalfWrite}
 use Rattle.device_defs.specs.Outcomes.{checks, turned, sense_kept, program_over}
 use Rattle.device_laws.proofs.ChainAtHand.{act_at_hand, end_at_hand}
 use Rattle.device_laws.proofs.DeviceCuts.{StandsPlainly}
@@ -58,7 +65,7 @@ use Rattle.device_laws.proofs.HistoryEnds.{
 use Rattle.device_laws.proofs.OpenProgram.{IsGoing, with_one_act, going_of_open, part_with_act}
 use Rattle.device_laws.proofs.PathsAlong.{equipment_keeps, data_check_keeps}
 use Rattle.device_laws.proofs.PlainLooks.{IsAtWord}
-use Rattle.device_laws.proofs.PlainStores.{Core, core_of, IsOf, IsAlone}
+use Rattle.device_laws.proofs.PlainStores.{Core, core_of, loose_at, IsOf, HasPlaces, Stays}
 use Rattle.device_laws.proofs.WaitingResets.{AreDue}
 
 -- the chain is where the running program goes on, and none of its commands has begun
@@ -77,16 +84,131 @@ abbrev pub ChainOf : Geometry → ℕ → Option ChainState → Type 0
 ChainOf g n (Some chain) = (chain.fixed.geometry ≡ g) × (chain.fixed.cylinders ≡ n)
 ChainOf g n None = Unit {0}
 
--- the history is a plain device's, whose volume and whose paths the device keeps, and whose program it runs. It has one side, and no half write
-pub record Follows (empty : PlainState) (d : MarksDevice) : Type 0 where
+-- Between the two parts of a command's write: the chain is behind it, and the program still before it, as it has no effect yet. It will end so on
+-- every volume that has the same on the tracks that it looked at, and these are firm
+pub record Halfway (c : Core) (t : ℕ) (e : Edit) (r : Option OpenEntry) (before now : Option ChainState) : Type 0 where
+  pub runs : IsSome r
+  pub origin : ChainState
+  pub begins : before ≡ Some origin
+  pub chain : ChainState
+  pub is : now ≡ Some chain
+  pub word : IsAtWord origin chain
+  pub need : ℕ
+  pub needs : need_of origin ≡ Some need
+  pub first : ℕ
+  pub below : first ≤ t
+  pub firm : (q : ℕ) → first ≤ q → q ≤ t → loose_at c q ≡ false
+  pub answer : LocalAct → Settled
+  pub does : (v : List Track) → ((q : ℕ) → first ≤ q → q ≤ t → track_in v q ≡ track_in c.plain q) →
+      fed (c.cylinders * 15) (track_in v) answer origin ≡ ended_by chain (settled_by chain Written) (Some (record { track = t; edit = e }))
+
+abbrev pub IsMidOf : Core → ℕ → Origin → Option OpenEntry → Option ChainState → Option ChainState → Type 0
+IsMidOf c t (OfCommand bypass e) r before now = Halfway c t e r before now
+IsMidOf c t (OfCut bypass) r before now = now ≡ before
+IsMidOf c t OfBackground r before now = now ≡ before
+
+-- the chain, and the one before the command whose half write is open
+abbrev pub IsMid : Core → Option (HalfWrite (Unit {0})) → Option OpenEntry → Option ChainState → Option ChainState → Type 0
+IsMid c (Some h) r before now = IsMidOf c h.track h.origin r before now
+IsMid c None r before now = now ≡ before
+
+-- a device that is lent runs nothing
+abbrev pub IsAtHome : Option ℕ → Option OpenEntry → Type 0
+IsAtHome (Some to) r = r ≡ None
+IsAtHome None r = Unit {0}
+
+-- the history is a plain device's, whose volume and whose paths the device keeps, and whose program it runs
+pub record Follows (num : ℕ) (empty : PlainState) (d : MarksDevice) : Type 0 where
+  pub number : d.store.device ≡ num
   pub base : empty ≡ empty_state d.store.geometry d.store.cylinders
   pub some : 0 < d.store.cylinders
   pub stands : StandsPlainly empty d
   pub keeps : KeepsPaths empty d
   pub of : IsOf (plain_of d.plans empty d.history) (core_of d.store)
-  pub alone : IsAlone (core_of d.store)
-  pub runs : RunsAt d.plans (replay d.plans empty d.history.items) d.history.running d.chain
-  pub chain : ChainOf d.store.geometry d.store.cylinders d.chain
+  pub places : HasPlaces (core_of d.store)
+  pub before : Option ChainState
+  pub runs : RunsAt d.plans (replay d.plans empty d.history.items) d.history.running before
+  pub chain : ChainOf d.store.geometry d.store.cylinders before
+  pub mid : IsMid (core_of d.store) d.store.half d.history.running before d.chain
+  pub home : IsAtHome d.store.lent d.history.running
+
+pub mid_none : (c : Core) (h : Option (HalfWrite (Unit {0}))) (r : Option OpenEntry) (b k : Option ChainState) → h ≡ None → k ≡ b → IsMid c h r b k
+mid_none c (Some h) r b k is same = absurd (cc)
+mid_none c None r b k is same = same
+
+pub none_mid : (c : Core) (h : Option (HalfWrite (Unit {0}))) (r : Option OpenEntry) (b k : Option ChainState) → h ≡ None → IsMid c h r b k → k ≡ b
+none_mid c (Some h) r b k is mid = absurd (cc)
+none_mid c None r b k is mid = mid
+
+pub some_none : (r : Option OpenEntry) → IsSome r → r ≡ None → ⊥
+some_none (Some o) is none = cc
+some_none None is none = cc
+
+mid_idle_of : (c : Core) (t : ℕ) (origin : Origin) (r : Option OpenEntry) (b k : Option ChainState) → r ≡ None → IsMidOf c t origin r b k → k ≡ b
+mid_idle_of c t (OfCommand bypass e) r b k none mid = absurd (some_none r mid.runs none)
+mid_idle_of c t (OfCut bypass) r b k none mid = mid
+mid_idle_of c t OfBackground r b k none mid = mid
+
+-- where nothing runs
+pub mid_idle : (c : Core) (h : Option (HalfWrite (Unit {0}))) (r : Option OpenEntry) (b k : Option ChainState) → r ≡ None → IsMid c h r b k → k ≡ b
+mid_idle c (Some h) r b k none mid = mid_idle_of c h.track h.origin r b k none mid
+mid_idle c None r b k none mid = mid
+
+mid_other_of : (c e : Core) (t : ℕ) (origin : Origin) (r x : Option OpenEntry) (b k y z : Option ChainState) → r ≡ None → IsMidOf c t origin r b k →
+    z ≡ y → IsMidOf e t origin x y z
+mid_other_of c e t (OfCommand bypass edit) r x b k y z none mid same = absurd (some_none r mid.runs none)
+mid_other_of c e t (OfCut bypass) r x b k y z none mid same = same
+mid_other_of c e t OfBackground r x b k y z none mid same = same
+
+-- any chain is behind nothing then
+pub mid_other : (c e : Core) (h : Option (HalfWrite (Unit {0}))) (r x : Option OpenEntry) (b k y z : Option ChainState) → r ≡ None → IsMid c h r b k →
+    z ≡ y → IsMid e h x y z
+mid_other c e (Some h) r x b k y z none mid same = mid_other_of c e h.track h.origin r x b k y z none mid same
+mid_other c e None r x b k y z none mid same = same
+
+mid_stays_of : (c e : Core) (t : ℕ) (origin : Origin) (r x : Option OpenEntry) (b k : Option ChainState) → Stays c e → e.cylinders ≡ c.cylinders →
+    (IsSome r → IsSome x) → IsMidOf c t origin r b k → IsMidOf e t origin x b k
+mid_stays_of c e t (OfCommand bypass edit) r x b k stays n runs mid = record {
+  runs = runs mid.runs;
+  origin = mid.origin;
+  begins = mid.begins;
+  chain = mid.chain;
+  is = mid.is;
+  word = mid.word;
+  need = mid.need;
+  needs = mid.needs;
+  first = mid.first;
+  below = mid.below;
+  firm = λ q above below. stays.loose q (mid.firm q above below);
+  answer = mid.answer;
+  does = λ v agrees.
+      ap (λ (i : ℕ). fed (i * 15) (track_in v) mid.answer mid.origin) n
+      ∙ mid.does v (λ q above below. agrees q above below ∙ stays.plain q (mid.firm q above below));
+}
+mid_stays_of c e t (OfCut bypass) r x b k stays n runs mid = mid
+mid_stays_of c e t OfBackground r x b k stays n runs mid = mid
+
+-- where firm tracks stay as they are, and a program that runs runs on
+pub mid_stays : (c e : Core) (h : Option (HalfWrite (Unit {0}))) (r x : Option OpenEntry) (b k : Option ChainState) → Stays c e →
+    e.cylinders ≡ c.cylinders → (IsSome r → IsSome x) → IsMid c h r b k → IsMid e h x b k
+mid_stays c e (Some h) r x b k stays n runs mid = mid_stays_of c e h.track h.origin r x b k stays n runs mid
+mid_stays c e None r x b k stays n runs mid = mid
+
+pub at_home : (l : Option ℕ) (r : Option OpenEntry) → l ≡ None → IsAtHome l r
+at_home (Some to) r is = absurd (cc)
+at_home None r is = tt
+
+pub home_runs : (l : Option ℕ) (r : Option OpenEntry) → IsAtHome l r → IsSome r → l ≡ None
+home_runs (Some to) r home some = absurd (some_none r some home)
+home_runs None r home some = refl
+
+pub home_idle : (l : Option ℕ) (r : Option OpenEntry) → r ≡ None → IsAtHome l r
+home_idle (Some to) r none = none
+home_idle None r none = tt
+
+pub home_stays : (l : Option ℕ) (r x : Option OpenEntry) → (r ≡ None → x ≡ None) → IsAtHome l r → IsAtHome l x
+home_stays (Some to) r x idle home = idle home
+home_stays None r x idle home = tt
 
 -- what is kept of the paths is no part of a store
 pub of_paths : (p : PlainState) (c : Core) → IsOf p c → (paths : PathsState) → IsOf (record p { paths = paths }) c
@@ -167,7 +289,8 @@ module _ (empty : PlainState) (d : MarksDevice) where
   abbrev h : History
   h = d.history
 
-  module _ (base : empty ≡ empty_state d.store.geometry d.store.cylinders) (some : 0 < d.store.cylinders) (alone : IsAlone (core_of d.store))
+  module _ (base : empty ≡ empty_state d.store.geometry d.store.cylinders) (some : 0 < d.store.cylinders) (places : HasPlaces (core_of d.store))
+      (whole : d.store.half ≡ None) (home : d.store.lent ≡ None) (num : ℕ) (number : d.store.device ≡ num)
       (o : OpenEntry) (running : d.history.running ≡ Some o) (chain : ChainState) where
     -- as on the plain device, with what its path keeps of it
     module _ (legal : IsLegal d.plans empty d.history.items) (due : AreDue d.history)
@@ -213,19 +336,23 @@ module _ (empty : PlainState) (d : MarksDevice) where
       state_on : e.over ≡ false → plain_of d.plans empty (history_ended d.history e) ≡ behind_effect (open_part d.plans s o).state eff
       state_on more = ended_state_on d.plans empty d.history legal due o running going i next e end_is may more
 
-      goes_over : e.over ≡ true → Follows empty (program_over (sense_kept d o.path e) (history_ended d.history e))
+      goes_over : e.over ≡ true → Follows num empty (program_over (sense_kept d o.path e) (history_ended d.history e))
       goes_over over = record {
+        number = number;
         base = base;
         some = some;
         stands = record { plain = ends_stand.plain; due = ends_stand.due };
         keeps = ap (λ (x : PathsState). all_reset x d.history.waiting) paths_are ∙ sym (ap (λ (x : PlainState). x.paths) (state_over over));
         of = subst (λ (x : PlainState). IsOf x (core_of d.store)) (sym (state_over over))
             (of_paths (behind_effect (open_part d.plans s o).state eff) (core_of d.store) of (all_reset eff.paths d.history.waiting));
-        alone = alone;
+        places = places;
+        before = None;
         runs = runs_none d.plans (replay d.plans empty (history_ended d.history e).items) (history_ended d.history e).running
             (ap (λ (r : Option OpenEntry). (ended_in d.history e r).running) running
             ∙ ap (λ (b : Bool). (cond b (closed d.history (with_end o e) Full) (record d.history { running = Some (with_end o e) })).running) over);
         chain = tt;
+        mid = mid_none (core_of d.store) d.store.half (history_ended d.history e).running None None whole refl;
+        home = at_home d.store.lent (history_ended d.history e).running home;
       }
 
       part_is : open_part d.plans s (with_end o e)
@@ -247,24 +374,28 @@ module _ (empty : PlainState) (d : MarksDevice) where
           ap (λ (r : Option OpenEntry). ended_in d.history e r) running
           ∙ ap (λ (b : Bool). cond b (closed d.history (with_end o e) Full) (record d.history { running = Some (with_end o e) })) more
 
-      goes_on : e.over ≡ false → Follows empty (record (sense_kept d o.path e) { chain = Some (behind chain outcome); history = history_ended d.history e })
+      goes_on : e.over ≡ false → Follows num empty (record (sense_kept d o.path e) { chain = Some (behind chain outcome); history = history_ended d.history e })
       goes_on more = record {
+        number = number;
         base = base;
         some = some;
         stands = record { plain = ends_stand.plain; due = ends_stand.due };
         keeps = paths_are ∙ sym (ap (λ (x : PlainState). x.paths) (state_on more));
         of = subst (λ (x : PlainState). IsOf x (core_of d.store)) (sym (state_on more)) of;
-        alone = alone;
+        places = places;
+        before = Some (behind chain outcome);
         runs = subst (λ (k : History). RunsAt d.plans (replay d.plans empty k.items) k.running (Some (behind chain outcome))) (sym (history_on more)) at_end;
         chain = on;
+        mid = mid_none (core_of d.store) d.store.half (history_ended d.history e).running (Some (behind chain outcome)) (Some (behind chain outcome)) whole refl;
+        home = at_home d.store.lent (history_ended d.history e).running home;
       }
 
-      by_over : (over : Bool) → e.over ≡ over → Follows empty (cond over (program_over (sense_kept d o.path e) (history_ended d.history e))
+      by_over : (over : Bool) → e.over ≡ over → Follows num empty (cond over (program_over (sense_kept d o.path e) (history_ended d.history e))
           (record (sense_kept d o.path e) { chain = Some (behind chain outcome); history = history_ended d.history e }))
       by_over true over = goes_over over
       by_over false more = goes_on more
 
-      pub end_follows : Follows empty (turned d o.path (record { came = Ends (end_with chain outcome); chain = behind chain outcome }))
+      pub end_follows : Follows num empty (turned d o.path (record { came = Ends (end_with chain outcome); chain = behind chain outcome }))
       end_follows = by_over e.over refl
 
     -- with equipment check or data check
@@ -288,28 +419,36 @@ module _ (empty : PlainState) (d : MarksDevice) where
       over_runs c = runs_none d.plans (replay d.plans empty (checked d.history c).items) (checked d.history c).running
           (ap (λ (r : Option OpenEntry). (checked_in d.history c r).running) running)
 
-      pub equipment_follows : Follows empty (turned d o.path (checks at Equipment))
+      pub equipment_follows : Follows num empty (turned d o.path (checks at Equipment))
       equipment_follows = record {
+        number = number;
         base = base;
         some = some;
         stands = equipment_stands empty d o.path at stands o running here;
         keeps = equipment_keeps empty d keeps stands o running at here;
         of = check_state (end_with at (settled_by at Equipment)) (next_is empty d stands.plain stands.due o running at here o.path)
             (subst (λ (l : List Ccw). IsCheck l (end_with at (settled_by at Equipment))) here.words (equipment_is_check at));
-        alone = alone;
+        places = places;
+        before = None;
         runs = over_runs (end_with at (settled_by at Equipment));
         chain = tt;
+        mid = mid_none (core_of d.store) d.store.half (checked d.history (end_with at (settled_by at Equipment))).running None None whole refl;
+        home = at_home d.store.lent (checked d.history (end_with at (settled_by at Equipment))).running home;
       }
 
-      pub data_check_follows : Follows empty (turned d o.path (checks at DataCheck))
+      pub data_check_follows : Follows num empty (turned d o.path (checks at DataCheck))
       data_check_follows = record {
+        number = number;
         base = base;
         some = some;
         stands = data_check_stands empty d o.path at stands o running here;
         keeps = data_check_keeps empty d keeps stands o running at here;
         of = check_state (end_with at (settled_by at DataCheck)) (next_is empty d stands.plain stands.due o running at here o.path)
             (subst (λ (l : List Ccw). IsCheck l (end_with at (settled_by at DataCheck))) here.words (data_check_is_check at));
-        alone = alone;
+        places = places;
+        before = None;
         runs = over_runs (end_with at (settled_by at DataCheck));
         chain = tt;
+        mid = mid_none (core_of d.store) d.store.half (checked d.history (end_with at (settled_by at DataCheck))).running None None whole refl;
+        home = at_home d.store.lent (checked d.history (end_with at (settled_by at DataCheck))).running home;
       }

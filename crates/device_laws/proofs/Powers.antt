@@ -63,7 +63,7 @@ module _ {F P H R : Type 0} (c : Contents F P H R) (faithful : IsFaithful c) whe
               ap (λ (k : ℕ). length s.a.stale ∷ length s.b.stale ∷ length s.frames ∷ length s.patches ∷ length s.lost ∷ k ∷ length s.owed ∷ [])
               (length-replicate (tracks_of s) false ∙ sym all) ∙ w.sizes.are;
         };
-        here = record { free = w.here.free; alone = w.here.alone; within = w.here.within; queued = w.here.queued };
+        here = record { free = w.here.free; alone = w.here.alone; whole = w.here.whole; within = w.here.within; queued = w.here.queued };
         tracks = refl;
         marks = λ q lt. record { patched = λ f. f; lost = refl; loose = empty_places (tracks_of s) q false; level = refl };
       }
@@ -82,7 +82,7 @@ module _ {F P H R : Type 0} (c : Contents F P H R) (faithful : IsFaithful c) whe
   unfolding M.track_at C.rest_of
   closed_cleared s z f = record {
     sizes = record { are = f.sizes.are };
-    here = record { free = f.here.free; alone = f.here.alone; within = λ k e. absurd (cc); queued = f.here.queued };
+    here = record { free = f.here.free; alone = f.here.alone; whole = λ e. refl; within = λ k e. absurd (cc); queued = f.here.queued };
     tracks = f.tracks;
     marks = λ q lt. let m = f.marks q lt in record { patched = m.patched; lost = m.lost; loose = m.loose; level = m.level };
   }
@@ -138,7 +138,7 @@ module _ {F P H R : Type 0} (c : Contents F P H R) (faithful : IsFaithful c) whe
   unqueued s z f = record {
     cleared = record {
       sizes = record { are = f.cleared.sizes.are };
-      here = record { free = f.cleared.here.free; alone = f.cleared.here.alone; within = f.cleared.here.within; queued = tt };
+      here = record { free = f.cleared.here.free; alone = f.cleared.here.alone; whole = f.cleared.here.whole; within = f.cleared.here.within; queued = tt };
       tracks = f.cleared.tracks;
       marks = f.cleared.marks;
     };
@@ -194,7 +194,7 @@ module _ {F P H R : Type 0} (c : Contents F P H R) (faithful : IsFaithful c) whe
         tracks = same;
       }
 
-  off_keeps : (s : Store F P H) → IsWell c s → Keeps c faithful s (powerless c (with_loss s losses.Cache))
+  pub off_keeps : (s : Store F P H) → IsWell c s → Keeps c faithful s (powerless c (with_loss s losses.Cache))
   off_keeps s w =
       let z = with_loss s losses.Cache in
       let g = goes_same c s z w (counted_same c faithful s losses.Cache w) in

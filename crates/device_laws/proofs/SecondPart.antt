@@ -71,7 +71,7 @@ module _ {F P H R : Type 0} (c : Contents F P H R) (faithful : IsFaithful c) whe
 
   closed_is_here : (y : Store F P H) → IsHere (rest_of y) → IsHere (rest_of (closed y))
   unfolding C.rest_of
-  closed_is_here y h = record { free = h.free; alone = h.alone; within = λ k e. absurd (cc); queued = h.queued }
+  closed_is_here y h = record { free = h.free; alone = h.alone; whole = λ e. refl; within = λ k e. absurd (cc); queued = h.queued }
 
   own_half : (s : Store F P H) (h : HalfWrite H) → s.half ≡ Some h → (track_at c s h.track).half ≡ true
   unfolding M.track_at

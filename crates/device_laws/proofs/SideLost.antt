@@ -47,8 +47,8 @@ module _ {F P H R : Type 0} (c : Contents F P H R) (faithful : IsFaithful c) whe
 
   pub down_here : (s : Store F P H) (side : Side) → IsHere (rest_of s) → IsHere (rest_of (down s side))
   unfolding C.rest_of
-  down_here s A h = record { free = h.free; alone = h.alone; within = h.within; queued = h.queued }
-  down_here s B h = record { free = h.free; alone = λ e. refl; within = h.within; queued = h.queued }
+  down_here s A h = record { free = h.free; alone = h.alone; whole = h.whole; within = h.within; queued = h.queued }
+  down_here s B h = record { free = h.free; alone = λ e. refl; whole = h.whole; within = h.within; queued = h.queued }
 
   pub down_tracks : (s : Store F P H) (side : Side) → tracks_of (down s side) ≡ tracks_of s
   down_tracks s A = refl

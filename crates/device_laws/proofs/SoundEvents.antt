@@ -30,12 +30,12 @@ module _ {F P H R : Type 0} (c : Contents F P H R) where
   unfolding M.track_at
   kept_now s kept q e = by_half s q s.half kept e
 
-  pub between_is_well : (s : Store F P H) → IsBetween s → is_some s.lent ≡ false → AreBelow (tracks_of s) s.queue →
+  pub between_is_well : (s : Store F P H) → IsBetween s → is_some s.lent ≡ false → (s.paired ≡ false → s.half ≡ None) → AreBelow (tracks_of s) s.queue →
       ((q : ℕ) → q < tracks_of s → has_sound_marks c s q ≡ true) →
       ((h : HalfWrite H) → s.half ≡ Some h → is_lost s h.track ≡ false) → IsWell c s
-  between_is_well s between free queued sound kept = record {
+  between_is_well s between free whole queued sound kept = record {
     sizes = between.sizes;
-    here = is_here c s between free queued;
+    here = is_here c s between free whole queued;
     good = λ q lt. sound_is_good c s q (sound q lt) (between.nowhere q);
     kept = λ q lt. kept_now s kept q;
   }

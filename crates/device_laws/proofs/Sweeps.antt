@@ -1,5 +1,5 @@
 -- A change of each track in turn: what it makes of the marks of each.
-use Rattle.std.proofs.Common.{◌≡◌, ◌≢◌, ◌<◌, ◌≤◌, ◌*◌, zero, suc, ℕ, false, Some, is_some, refl, sym, ap, subst, ◌∙◌, arith, ◌⊎◌, inl, inr}
+use Rattle.std.proofs.Common.{None, ◌≡◌, ◌≢◌, ◌<◌, ◌≤◌, ◌*◌, zero, suc, ℕ, false, Some, is_some, refl, sym, ap, subst, ◌∙◌, arith, ◌⊎◌, inl, inr}
 use Rattle.std.proofs.lemmas.Bool.{cases_eq}
 use Rattle.device_defs.specs.Between.{HasSizes}
 use Rattle.device_defs.specs.Contents.{Contents}
@@ -15,8 +15,13 @@ use Rattle.device_laws.proofs.TrackMarks.{TrackMarks, track_at}
 pub record IsHere {H : Type 0} (r : Rest H) : Type 0 where
   pub free : is_some r.lent ≡ false
   pub alone : r.paired ≡ false → r.up_b ≡ false
+  pub whole : r.paired ≡ false → r.half ≡ None
   pub within : (h : HalfWrite H) → r.half ≡ Some h → h.track < r.cylinders * 15
   pub queued : AreBelow (r.cylinders * 15) r.queue
+
+pub is_whole : {F P H : Type 0} (s : Store F P H) → IsHere (rest_of s) → s.paired ≡ false → s.half ≡ None
+unfolding C.rest_of
+is_whole s h e = h.whole e
 
 pub is_free : {F P H : Type 0} (s : Store F P H) → IsHere (rest_of s) → is_some s.lent ≡ false
 unfolding C.rest_of

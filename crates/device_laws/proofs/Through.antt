@@ -79,23 +79,23 @@ module _ {F P H R : Type 0} (c : Contents F P H R) (faithful : IsFaithful c) whe
   -- by what came of the first part, of a track that was made firm first
   by_opening : (t : ℕ) (s : Store F P H) (i : Image) (e : Edit) (bypass opening was_loose : Bool) → t < tracks_of s → IsWell c s → s.half ≡ None →
       (track_at c s t).lost ≡ false → (track_at c s t).loose ≡ false →
-      Always (through_by c t i e bypass opening was_loose s Opened) (λ y _. Keeps c faithful s y)
-  by_opening t s i e bypass true was_loose lt w none there firm =
-      always_then (opened_keeps_good c faithful t s s i (OfCommand bypass e) was_loose lt (opens c s t lt w).others none there firm)
+      s.b.up ≡ true → Always (through_by c t i e bypass opening was_loose s Opened) (λ y _. Keeps c faithful s y)
+  by_opening t s i e bypass true was_loose lt w none there firm up =
+      always_then (opened_keeps_good c faithful t s s i (OfCommand bypass e) was_loose lt (opens c s t lt w).others none there firm up)
       (λ y _ g. always_done g)
-  by_opening t s i e bypass false was_loose lt w none there firm =
+  by_opening t s i e bypass false was_loose lt w none there firm up =
       always_weaker (at_once_goes t s i e bypass lt w there firm) (λ y _ g. goes_keeps c faithful s y g)
 
   by_took : (t : ℕ) (s : Store F P H) (i : Image) (e : Edit) (bypass opening was_loose : Bool) (took : Took) → t < tracks_of s → IsWell c s →
-      s.half ≡ None → (is_taken took ≡ true → has_level s t ≡ true) → (track_at c s t).loose ≡ false →
+      s.half ≡ None → (is_taken took ≡ true → has_level s t ≡ true) → (took ≡ Opened → s.b.up ≡ true) → (track_at c s t).loose ≡ false →
       Always (through_by c t i e bypass opening was_loose s took) (λ y _. Keeps c faithful s y)
-  by_took t s i e bypass opening was_loose Whole lt w none level firm =
+  by_took t s i e bypass opening was_loose Whole lt w none level up firm =
       always_weaker (whole_goes t s s i e bypass lt (opens c s t lt w).others
       (level_is_there (track_at c s t) (w.good t lt) (level_mark s t (level refl))) firm (level refl))
       (λ y _ g. goes_keeps c faithful s y g)
-  by_took t s i e bypass opening was_loose Opened lt w none level firm =
-      by_opening t s i e bypass opening was_loose lt w none (level_is_there (track_at c s t) (w.good t lt) (level_mark s t (level refl))) firm
-  by_took t s i e bypass opening was_loose Unwritten lt w none level firm = always_done (goes_keeps c faithful s s (stays c s w))
+  by_took t s i e bypass opening was_loose Opened lt w none level up firm =
+      by_opening t s i e bypass opening was_loose lt w none (level_is_there (track_at c s t) (w.good t lt) (level_mark s t (level refl))) firm (up refl)
+  by_took t s i e bypass opening was_loose Unwritten lt w none level up firm = always_done (goes_keeps c faithful s s (stays c s w))
 
   -- through to the volumes, while no half write is open
   pub through_keeps_good : (t : ℕ) (s : Store F P H) (i : Image) (e : Edit) (bypass opening : Bool) → t < tracks_of s → IsWell c s →
@@ -106,7 +106,7 @@ module _ {F P H R : Type 0} (c : Contents F P H R) (faithful : IsFaithful c) whe
       (λ z was_loose f. let below : t < tracks_of z = let same = f.goes.tracks in omega arith in
       always_then (write_first_keeps_good c faithful t z below (f.lost ∙ there) (c.bytes i) f.goes.well)
       (λ y v g. let all = goes_on c s z y f.goes g.goes in
-      always_weaker (by_took t y i e bypass opening was_loose v.took (let same = all.tracks in omega arith) g.goes.well (all.half ∙ none) g.level
+      always_weaker (by_took t y i e bypass opening was_loose v.took (let same = all.tracks in omega arith) g.goes.well (all.half ∙ none) g.level g.opens
       (g.goes.firm t below f.loose))
       (λ x _ h. keeps_on c faithful s y x (goes_keeps c faithful s y all) h)))
 

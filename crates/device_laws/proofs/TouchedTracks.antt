@@ -56,7 +56,7 @@ module _ (g : Geometry) (start : Stance) (c : Ccw) (look : Look) where
   next_track_is s z n turns.Onward f is = f.1.1
   next_track_is s z n (turns.Edits edit e) f is = absurd (cc)
 
-  goes_to_next : (t : Track) (s : Stance) → (look_on g t s c look).turned ≡ turns.Onward → (look_on g t s c look).stance.track ≡ s.track + 1
+  pub goes_to_next : (t : Track) (s : Stance) → (look_on g t s c look).turned ≡ turns.Onward → (look_on g t s c look).stance.track ≡ s.track + 1
   goes_to_next t s is =
       let k = s.track + 1 + last_or s.extent in
       next_track_is s (look_on g t s c look).stance (k * 15) (look_on g t s c look).turned

@@ -1,5 +1,5 @@
 -- What a store and its sides hold of one track, and when that is right.
-use Rattle.std.proofs.Common.{◌≡◌, ℕ, ◌==◌, Bool, true, false, List, [], Option, None, Some, get_or, refl, sym, ap, subst, ◌∙◌, arith}
+use Rattle.std.proofs.Common.{◌≡◌, ℕ, ◌==◌, Bool, true, false, List, [], Option, None, Some, get_or, refl, sym, ap, subst, ◌∙◌, arith, ◌⊎◌, inl, inr}
 use Rattle.ckd_types.specs.declared.geometry.Geometry.{Geometry}
 use Rattle.ckd_types.specs.declared.paths.Side.{Side}
 use Rattle.ckd_types.specs.declared.paths.Side.TheVariants.{A, B}
@@ -22,9 +22,11 @@ use Rattle.device_defs.specs.Store.{
   patch_at,
   is_lost,
   is_loose,
+  half_is,
   owed_at,
 }
-use Rattle.device_laws.specs.Agrees.{Held}
+use Rattle.device_laws.specs.Agrees.{Held, PatchHas, PatchFits, PatchOf}
+use Rattle.device_laws.specs.PlainWrites.{OriginSuits}
 
 pub record TrackContents : Type 0 where
   pub frame : Option Frame
@@ -68,6 +70,7 @@ pub record Keeps (g : Geometry) (t : ℕ) (x : TrackContents) (plain firm : Imag
   pub frame : FrameHas x.frame plain
   pub a : SideHas g t x.patch x.a x.on_a firm
   pub b : SideHas g t x.patch x.b x.on_b firm
+  pub patch : PatchFits x.patch plain firm
 
 abbrev pub FrameOf : Origin → Option Frame → Image → Type 0
 FrameOf (OfCommand bypass e) o i = FrameHas o i
@@ -79,6 +82,8 @@ pub record Writes (x : TrackContents) (plain : Image) (w : HalfWrite Image) : Ty
   pub a : x.a ≡ true → x.on_a ≡ track_bytes w.image.track
   pub b : x.b ≡ true → x.on_b ≡ track_bytes w.image.track
   pub frame : FrameOf w.origin x.frame plain
+  pub patch : PatchOf w.origin x.patch plain
+  pub suits : OriginSuits plain.geometry plain.track w.origin
 
 abbrev pub HeldBy : Geometry → ℕ → TrackContents → Image → Image → Option (HalfWrite Image) → Type 0
 HeldBy g t x plain firm None = Keeps g t x plain firm
@@ -183,6 +188,7 @@ keeps_fewer g t x y plain firm less k = record {
   frame = less.frame plain k.frame;
   a = λ e. let u = less.a e in side_fewer g t x.patch y.patch x.on_a y.on_a firm less.patch u.1 (k.a u.0);
   b = λ e. let u = less.b e in side_fewer g t x.patch y.patch x.on_b y.on_b firm less.patch u.1 (k.b u.0);
+  patch = subst (λ (o : Option Stored). PatchFits o plain firm) (sym less.patch) k.patch;
 }
 
 writes_fewer : (x y : TrackContents) (plain : Image) (w : HalfWrite Image) → Fewer x y → Writes x plain w → Writes y plain w
@@ -191,6 +197,8 @@ writes_fewer x y plain w less k = record {
   a = λ e. let u = less.a e in u.1 ∙ k.a u.0;
   b = λ e. let u = less.b e in u.1 ∙ k.b u.0;
   frame = frame_fewer w.origin x y plain less k.frame;
+  patch = subst (λ (o : Option Stored). PatchOf w.origin o plain) (sym less.patch) k.patch;
+  suits = k.suits;
 }
 
 held_fewer : (g : Geometry) (t : ℕ) (half : Option (HalfWrite Image)) (x y : TrackContents) (plain firm : Image) → Fewer x y →
@@ -205,7 +213,12 @@ pub right_fewer : (g : Geometry) (t : ℕ) (half : Option (HalfWrite Image)) (x 
 right_fewer g t half x y plain firm less r =
     lost_case (HeldBy g t x plain firm half) (HeldBy g t y plain firm half) x.lost y.lost less.lost (held_fewer g t half x y plain firm less) r
 
--- It is what soundness says
+-- It is what soundness says, and what is known of its patch
+
+-- of a track that a half write is open on
+pub record Opened (s : DeviceStore) (t : ℕ) (plain : Image) (w : HalfWrite Image) : Type 0 where
+  pub patch : PatchOf w.origin (patch_at s t) plain
+  pub suits : OriginSuits plain.geometry plain.track w.origin
 
 module _ (s : DeviceStore) (h : Held) (t : ℕ) (plain firm : Image) where
   sides_of : Keeps s.geometry t (contents_at s h t) plain firm → (side : Side) → level_at (side_of s side) t ≡ true →
@@ -218,9 +231,9 @@ module _ (s : DeviceStore) (h : Held) (t : ℕ) (plain firm : Image) where
   unfolding contents_at
   kept k = record { frame = k.frame; sides = sides_of k }
 
-  keeps : IsKept s h t plain firm → Keeps s.geometry t (contents_at s h t) plain firm
+  keeps : PatchFits (patch_at s t) plain firm → IsKept s h t plain firm → Keeps s.geometry t (contents_at s h t) plain firm
   unfolding contents_at
-  keeps k = record { frame = k.frame; a = k.sides A; b = k.sides B }
+  keeps f k = record { frame = k.frame; a = k.sides A; b = k.sides B; patch = f }
 
   module _ (w : HalfWrite Image) (own : w.track ≡ t) where
     frame_is : (origin : Origin) → FrameOf origin (frame_at s t) plain → FrameBy origin s w.track plain
@@ -245,13 +258,15 @@ module _ (s : DeviceStore) (h : Held) (t : ℕ) (plain firm : Image) where
     unfolding contents_at
     written k = record { image = k.image; sides = sides_written k; frame = frame_is w.origin k.frame }
 
-    writes : IsWritten s h plain w → Writes (contents_at s h t) plain w
+    writes : Opened s t plain w → IsWritten s h plain w → Writes (contents_at s h t) plain w
     unfolding contents_at
-    writes k = record {
+    writes o k = record {
       image = k.image;
       a = subst (λ (q : ℕ). level_at s.a q ≡ true → get_or h.a q [] ≡ track_bytes w.image.track) own (k.sides A);
       b = subst (λ (q : ℕ). level_at s.b q ≡ true → get_or h.b q [] ≡ track_bytes w.image.track) own (k.sides B);
       frame = is_frame w.origin k.frame;
+      patch = o.patch;
+      suits = o.suits;
     }
 
   own_track : (w : HalfWrite Image) → (w.track == t) ≡ true → w.track ≡ t
@@ -263,18 +278,21 @@ module _ (s : DeviceStore) (h : Held) (t : ℕ) (plain firm : Image) where
   to_case w true e k = written w (own_track w e) k
   to_case w false e k = kept k
 
-  from_case : (w : HalfWrite Image) (b : Bool) → (w.track == t) ≡ b → By b (IsWritten s h plain w) (IsKept s h t plain firm) →
+  from_case : (w : HalfWrite Image) (b : Bool) → (w.track == t) ≡ b → ((w.track == t) ≡ false → PatchFits (patch_at s t) plain firm) →
+      (w.track ≡ t → Opened s t plain w) → By b (IsWritten s h plain w) (IsKept s h t plain firm) →
       By b (Writes (contents_at s h t) plain w) (Keeps s.geometry t (contents_at s h t) plain firm)
-  from_case w true e k = writes w (own_track w e) k
-  from_case w false e k = keeps k
+  from_case w true e f o k = writes w (own_track w e) (o (own_track w e)) k
+  from_case w false e f o k = keeps (f e) k
 
   to_held : (half : Option (HalfWrite Image)) → HeldBy s.geometry t (contents_at s h t) plain firm half → IsHeldBy s h t plain firm half
   to_held None k = kept k
   to_held (Some w) k = to_case w (w.track == t) refl k
 
-  from_held : (half : Option (HalfWrite Image)) → IsHeldBy s h t plain firm half → HeldBy s.geometry t (contents_at s h t) plain firm half
-  from_held None k = keeps k
-  from_held (Some w) k = from_case w (w.track == t) refl k
+  from_held : (half : Option (HalfWrite Image)) → (half_is half t ≡ false → PatchFits (patch_at s t) plain firm) →
+      ((w : HalfWrite Image) → half ≡ Some w → w.track ≡ t → Opened s t plain w) → IsHeldBy s h t plain firm half →
+      HeldBy s.geometry t (contents_at s h t) plain firm half
+  from_held None f o k = keeps (f refl) k
+  from_held (Some w) f o k = from_case w (w.track == t) refl f (o w refl) k
 
   pub right_is_held : IsRight s.geometry t s.half (contents_at s h t) plain firm → IsHeld s h t plain firm
   unfolding contents_at
@@ -282,11 +300,16 @@ module _ (s : DeviceStore) (h : Held) (t : ℕ) (plain firm : Image) where
       lost_case (HeldBy s.geometry t (contents_at s h t) plain firm s.half) (IsHeldBy s h t plain firm s.half) (is_lost s t) (is_lost s t)
       (λ e. e) (to_held s.half) r
 
-  pub held_is_right : IsHeld s h t plain firm → IsRight s.geometry t s.half (contents_at s h t) plain firm
+  pub held_is_right : (is_lost s t ≡ false → half_is s.half t ≡ false → PatchFits (patch_at s t) plain firm) →
+      ((w : HalfWrite Image) → s.half ≡ Some w → w.track ≡ t → Opened s t plain w) → IsHeld s h t plain firm →
+      IsRight s.geometry t s.half (contents_at s h t) plain firm
   unfolding contents_at
-  held_is_right r =
-      lost_case (IsHeldBy s h t plain firm s.half) (HeldBy s.geometry t (contents_at s h t) plain firm s.half) (is_lost s t) (is_lost s t)
-      (λ e. e) (from_held s.half) r
+  held_is_right f o r = by_lost (is_lost s t) refl r
+    where
+      by_lost : (l : Bool) → is_lost s t ≡ l → By l (Unit {0}) (IsHeldBy s h t plain firm s.half) →
+          By l (Unit {0}) (HeldBy s.geometry t (contents_at s h t) plain firm s.half)
+      by_lost true e r = tt
+      by_lost false e r = from_held s.half (f e) o r
 
 -- Where no side has it, only its frame counts
 
@@ -301,11 +324,44 @@ pub not_both : (b : Bool) → b ≡ false → b ≡ true → ⊥
 not_both true e f = absurd (cc)
 not_both false e f = absurd (cc)
 
-keeps_bare : (g : Geometry) (t : ℕ) (x y : TrackContents) (plain firm other : Image) → Bare x y → Keeps g t x plain firm → Keeps g t y plain other
-keeps_bare g t x y plain firm other bare k = record {
+-- it has no patch, or it has its patch still, where the firm track is the plain one now
+abbrev pub Repatched : TrackContents → TrackContents → Image → Image → Type 0
+Repatched x y plain other = (y.patch ≡ None) ⊎ ((y.patch ≡ x.patch) × (other ≡ plain))
+
+none_has : (o : Option Stored) (i : Image) → o ≡ None → PatchHas o i
+none_has o i e p f = absurd (cc)
+
+pub none_fits : (o : Option Stored) (i j : Image) → o ≡ None → PatchFits o i j
+none_fits o i j e = (none_has o i e, none_has o j e)
+
+pub none_of : (origin : Origin) (o : Option Stored) (i : Image) → o ≡ None → PatchOf origin o i
+none_of (OfCommand bypass e) o i f = none_has o i f
+none_of (OfCut bypass) o i f = tt
+none_of OfBackground o i f = none_has o i f
+
+pub patch_of : (origin : Origin) (o : Option Stored) (i : Image) → PatchHas o i → PatchOf origin o i
+patch_of (OfCommand bypass e) o i f = f
+patch_of (OfCut bypass) o i f = tt
+patch_of OfBackground o i f = f
+
+fits_again : (x y : TrackContents) (plain firm other : Image) → Repatched x y plain other → PatchFits x.patch plain firm → PatchFits y.patch plain other
+fits_again x y plain firm other (inl e) f = none_fits y.patch plain other e
+fits_again x y plain firm other (inr e) f =
+    subst (λ (o : Option Stored). PatchFits o plain other) (sym e.0)
+    (subst (λ (i : Image). PatchFits x.patch plain i) (sym e.1) (f.0, f.0))
+
+of_again : (origin : Origin) (x y : TrackContents) (plain other : Image) → Repatched x y plain other → PatchOf origin x.patch plain →
+    PatchOf origin y.patch plain
+of_again origin x y plain other (inl e) f = none_of origin y.patch plain e
+of_again origin x y plain other (inr e) f = subst (λ (o : Option Stored). PatchOf origin o plain) (sym e.0) f
+
+keeps_bare : (g : Geometry) (t : ℕ) (x y : TrackContents) (plain firm other : Image) → Bare x y → Repatched x y plain other → Keeps g t x plain firm →
+    Keeps g t y plain other
+keeps_bare g t x y plain firm other bare again k = record {
   frame = bare.frame plain k.frame;
   a = λ e. absurd (not_both y.a bare.a e);
   b = λ e. absurd (not_both y.b bare.b e);
+  patch = fits_again x y plain firm other again k.patch;
 }
 
 frame_bare : (origin : Origin) (x y : TrackContents) (i : Image) → Bare x y → FrameOf origin x.frame i → FrameOf origin y.frame i
@@ -313,22 +369,24 @@ frame_bare (OfCommand bypass e) x y i bare k = bare.frame i k
 frame_bare (OfCut bypass) x y i bare k = tt
 frame_bare OfBackground x y i bare k = bare.frame i k
 
-writes_bare : (x y : TrackContents) (plain : Image) (w : HalfWrite Image) → Bare x y → Writes x plain w → Writes y plain w
-writes_bare x y plain w bare k = record {
+writes_bare : (x y : TrackContents) (plain other : Image) (w : HalfWrite Image) → Bare x y → Repatched x y plain other → Writes x plain w → Writes y plain w
+writes_bare x y plain other w bare again k = record {
   image = k.image;
   a = λ e. absurd (not_both y.a bare.a e);
   b = λ e. absurd (not_both y.b bare.b e);
   frame = frame_bare w.origin x y plain bare k.frame;
+  patch = of_again w.origin x y plain other again k.patch;
+  suits = k.suits;
 }
 
 held_bare : (g : Geometry) (t : ℕ) (half : Option (HalfWrite Image)) (x y : TrackContents) (plain firm other : Image) → Bare x y →
-    HeldBy g t x plain firm half → HeldBy g t y plain other half
-held_bare g t None x y plain firm other bare k = keeps_bare g t x y plain firm other bare k
-held_bare g t (Some w) x y plain firm other bare k =
+    Repatched x y plain other → HeldBy g t x plain firm half → HeldBy g t y plain other half
+held_bare g t None x y plain firm other bare again k = keeps_bare g t x y plain firm other bare again k
+held_bare g t (Some w) x y plain firm other bare again k =
     own_case (Writes x plain w) (Writes y plain w) (Keeps g t x plain firm) (Keeps g t y plain other) (w.track == t)
-    (writes_bare x y plain w bare) (keeps_bare g t x y plain firm other bare) k
+    (writes_bare x y plain other w bare again) (keeps_bare g t x y plain firm other bare again) k
 
 pub right_bare : (g : Geometry) (t : ℕ) (half : Option (HalfWrite Image)) (x y : TrackContents) (plain firm other : Image) → Bare x y →
-    IsRight g t half x plain firm → IsRight g t half y plain other
-right_bare g t half x y plain firm other bare r =
-    lost_case (HeldBy g t x plain firm half) (HeldBy g t y plain other half) x.lost y.lost bare.lost (held_bare g t half x y plain firm other bare) r
+    Repatched x y plain other → IsRight g t half x plain firm → IsRight g t half y plain other
+right_bare g t half x y plain firm other bare again r =
+    lost_case (HeldBy g t x plain firm half) (HeldBy g t y plain other half) x.lost y.lost bare.lost (held_bare g t half x y plain firm other bare again) r

@@ -61,8 +61,9 @@ use Rattle.device_defs.specs.Store.{
   with_frame,
   with_owed,
 }
-use Rattle.device_laws.specs.Agrees.{Held, image_in, slot_at}
+use Rattle.device_laws.specs.Agrees.{Held, image_in, PatchOf, slot_at}
 use Rattle.device_laws.specs.InOrder.{plain_lost}
+use Rattle.device_laws.specs.PlainWrites.{OriginSuits}
 use Rattle.device_laws.specs.Twin.{Twins}
 use Rattle.device_laws.proofs.CacheLost.{none_below, begun_sizes, begun_tracks}
 use Rattle.device_laws.proofs.ContentChanges as C
@@ -122,7 +123,7 @@ bare_frame (OfCut bypass) i = tt
 bare_frame OfBackground i = λ f is. absurd (cc)
 
 bare_keeps : (g : Geometry) (t : ℕ) (x : TrackContents) (plain firm : Image) → Keeps g t x plain firm → Keeps g t (bare x) firm firm
-bare_keeps g t x plain firm k = record { frame = λ f e. absurd (cc); a = k.a; b = k.b }
+bare_keeps g t x plain firm k = record { frame = λ f e. absurd (cc); a = k.a; b = k.b; patch = (k.patch.1, k.patch.1) }
 
 bare_writes : (x : TrackContents) (plain firm : Image) (w : HalfWrite Image) → firm ≡ plain → Writes x plain w → Writes (bare x) firm w
 bare_writes x plain firm w same k = record {
@@ -130,6 +131,8 @@ bare_writes x plain firm w same k = record {
   a = k.a;
   b = k.b;
   frame = bare_frame w.origin firm;
+  patch = subst (λ (i : Image). PatchOf w.origin x.patch i) (sym same) k.patch;
+  suits = subst (λ (i : Image). OriginSuits i.geometry i.track w.origin) (sym same) k.suits;
 }
 
 -- it is right, and its plain track then is the firm one
@@ -170,7 +173,7 @@ module _ (s : DeviceStore) (h : Held) (t : ℕ) (lt : t < tracks_of s) (sizes : 
         here = k.here ∙ ap (λ (c : TrackContents). record c { freed = (owed_at s t).freed; debt = (owed_at s t).firm }) g.here;
       })
 
-  bared : Altered s h (without_frame s t) h t (bare (contents_at s h t))
+  pub bared : Altered s h (without_frame s t) h t (bare (contents_at s h t))
   bared = bared_by (frame_at s t) refl
 
 module _ (v w : List Track) (s : DeviceStore) (t : ℕ) where
@@ -184,7 +187,7 @@ module _ (v w : List Track) (s : DeviceStore) (t : ℕ) where
       ∙ ap (λ (u : Owed). with_owed (with_frame (marks_of v w s) t None) t (record u { dropped = true })) (sym (owed_twin v w s t))
   bared_marks false = refl
 
-  bared_twin : marks_of v w (without_frame s t) ≡ without_frame (marks_of v w s) t
+  pub bared_twin : marks_of v w (without_frame s t) ≡ without_frame (marks_of v w s) t
   bared_twin =
       bared_marks (is_some (frame_at s t))
       ∙ ap (λ (b : Bool). if b then with_owed (with_frame (marks_of v w s) t None) t (record (owed_at (marks_of v w s) t) { dropped = true })
@@ -192,17 +195,17 @@ module _ (v w : List Track) (s : DeviceStore) (t : ℕ) where
 
 -- Each track in turn
 
-abbrev From : ℕ → ℕ → Type 0
+abbrev pub From : ℕ → ℕ → Type 0
 From n q = n ≤ q
 
 -- the first n tracks are right, and the others will be without their frames; none is loose
-record Swept (h : Held) (u : List Track) (y : DeviceStore) (n : ℕ) (v w : List Track) (z : DeviceStore) : Type 0 where
-  off : RightOff (From n) v w z h
-  later : (q : ℕ) → q < tracks_of z → n ≤ q → IsRight z.geometry q z.half (bare (contents_at z h q)) (image_in z v q) (image_in z v q)
-  firm : (q : ℕ) → q < tracks_of z → n ≤ q → (contents_at z h q).loose ≡ false
-  told : AllTold z h
-  base : base_of z h ≡ base_of y h
-  plain : v ≡ u
+pub record Swept (h : Held) (u : List Track) (y : DeviceStore) (n : ℕ) (v w : List Track) (z : DeviceStore) : Type 0 where
+  pub off : RightOff (From n) v w z h
+  pub later : (q : ℕ) → q < tracks_of z → n ≤ q → IsRight z.geometry q z.half (bare (contents_at z h q)) (image_in z v q) (image_in z v q)
+  pub firm : (q : ℕ) → q < tracks_of z → n ≤ q → (contents_at z h q).loose ≡ false
+  pub told : AllTold z h
+  pub base : base_of z h ≡ base_of y h
+  pub plain : v ≡ u
 
 loose_is : (s : DeviceStore) (h : Held) (q : ℕ) → (contents_at s h q).loose ≡ is_loose s q
 unfolding T.contents_at
@@ -292,7 +295,7 @@ module _ (h : Held) (u : List Track) (y : DeviceStore) (n : ℕ) (v w : List Tra
       (settled_off (From (suc n)) h v w a n (let k = still in omega arith) one_off (told_off (From (suc n)) a h bared_told) (λ le. absurd (omega arith)))
       (λ v' w' f. swept_on v' w' f))
 
-swept_pair : (h : Held) (u w : List Track) (y : DeviceStore) → Swept h u y 0 u w y → (n : ℕ) → n ≤ tracks_of y →
+pub swept_pair : (h : Held) (u w : List Track) (y : DeviceStore) → Swept h u y 0 u w y → (n : ℕ) → n ≤ tracks_of y →
     Pair (Swept h u y n) (over n (λ t z. settled contents (without_frame z t) t) y)
     (over n (λ t z. settled by_plain (without_frame z t) t) (marks_of u w y))
 unfolding L.over
@@ -305,7 +308,7 @@ swept_pair h u w y x (suc n) le =
 
 -- The loss begins: data of cache fast write go
 
-abbrev begun_with : {F P H : Type 0} → Bool → Store F P H → Store F P H
+abbrev pub begun_with : {F P H : Type 0} → Bool → Store F P H → Store F P H
 begun_with b s = record (if b then acted (gone_back s) CfwLost else s) { queue = [] }
 
 module _ (v w : List Track) (s : DeviceStore) (h : Held) (sure : RightBut None v w s h) (told : AllTold s h) where
@@ -325,7 +328,7 @@ module _ (v w : List Track) (s : DeviceStore) (h : Held) (sure : RightBut None v
       bare_right s.geometry q s.half (contents_at s h q) (image_in s v q) (image_in s w q)
       (λ own. same_there q lt (half_firm q (is_loose s q) refl own)) (sure.right q lt (λ e. absurd (cc)))
 
-  begins : (any : Bool) → has_loose s ≡ any → Swept h (if any then w else v) (begun_with any s) 0 (if any then w else v) w (begun_with any s)
+  pub begins : (any : Bool) → has_loose s ≡ any → Swept h (if any then w else v) (begun_with any s) 0 (if any then w else v) w (begun_with any s)
   unfolding T.contents_at C.base_of
   begins true some = record {
     off = record {

@@ -181,7 +181,7 @@ module _ (u : List Track) (y : DeviceStore) (t : ℕ) where
     a_garbage bytes stale up =
         sided s (with_held h A t bytes) (record x { on_a = bytes }) (altered_on_a s h t lt o.sure.ground.sizes bytes
         (o.sure.ground.long A up)) refl refl refl refl refl
-        (record { frame = kept.frame; a = λ l. absurd (not_both x.a (level_a ∙ stale) l); b = kept.b })
+        (record { frame = kept.frame; a = λ l. absurd (not_both x.a (level_a ∙ stale) l); b = kept.b; patch = kept.patch })
 
     a_copied : level_at s.b t ≡ true → s.a.up ≡ true → Ordered v w (with_stale s A t false) (with_held h A t (get_or h.b t []))
     a_copied level up =
@@ -203,6 +203,7 @@ module _ (u : List Track) (y : DeviceStore) (t : ℕ) where
           a = λ l. ap (λ (d : List ℕ). patched_by x.patch (image_read s.geometry t d)) (sym bytes_b)
               ∙ kept.b (level_b ∙ level);
           b = kept.b;
+          patch = kept.patch;
         })
 
     -- to side B
@@ -211,7 +212,7 @@ module _ (u : List Track) (y : DeviceStore) (t : ℕ) where
     b_garbage bytes stale up =
         sided s (with_held h B t bytes) (record x { on_b = bytes }) (altered_on_b s h t lt o.sure.ground.sizes bytes
         (o.sure.ground.long B up)) refl refl refl refl refl
-        (record { frame = kept.frame; a = kept.a; b = λ l. absurd (not_both x.b (level_b ∙ stale) l) })
+        (record { frame = kept.frame; a = kept.a; b = λ l. absurd (not_both x.b (level_b ∙ stale) l); patch = kept.patch })
 
     b_copied : level_at s.a t ≡ true → s.b.up ≡ true → Ordered v w (with_stale s B t false) (with_held h B t (get_or h.a t []))
     b_copied level up =
@@ -233,6 +234,7 @@ module _ (u : List Track) (y : DeviceStore) (t : ℕ) where
           a = kept.a;
           b = λ l. ap (λ (d : List ℕ). patched_by x.patch (image_read s.geometry t d)) (sym bytes_a)
               ∙ kept.a (level_a ∙ level);
+          patch = kept.patch;
         })
 
   -- from side B to side A, and from A to B

@@ -139,7 +139,7 @@ module _ (v w : List Track) (s : DeviceStore) (h : Held) (o : InOrder v w s h) w
       own_right =
           right_by s.geometry t (Some cut) c (image_in s (set v t x) t) (image_in s (set w t x) t)
           (own_writes s.geometry t cut c (image_in s (set v t x) t) (image_in s (set w t x) t) (same_place t)
-          (record { image = image_now; a = writes.a; b = writes.b; frame = tt }))
+          (record { image = image_now; a = writes.a; b = writes.b; frame = tt; patch = tt; suits = tt }))
 
       by_place : (q : ℕ) → q < tracks_of s → ((q ≡ t) ⊎ (q ≢ t)) →
           IsRight s.geometry q (Some cut) (contents_at s h q) (image_in s (set v t x) q) (image_in s (set w t x) q)

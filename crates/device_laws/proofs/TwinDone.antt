@@ -48,7 +48,7 @@ use Rattle.device_laws.proofs.ContentChanges.{
 }
 use Rattle.device_laws.proofs.PlainVolumes.{put_here, put_elsewhere, put_volume}
 use Rattle.device_laws.proofs.TrackContents as T
-use Rattle.device_laws.proofs.TrackContents.{TrackContents, contents_at, FrameHas, SideHas, Keeps, IsRight}
+use Rattle.device_laws.proofs.TrackContents.{TrackContents, contents_at, FrameHas, SideHas, Keeps, IsRight, none_fits}
 use Rattle.device_laws.proofs.TwinAsks.{ask_clean, ask_drop, Stays, stays_same, Ordered, right_keeps}
 use Rattle.device_laws.proofs.TwinChanges.{patch_twin, has_frame_twin, with_frame_twin, with_patch_twin}
 use Rattle.device_laws.proofs.TwinSettled.{AllTold, told_altered}
@@ -133,6 +133,7 @@ module _ (t : ℕ) (v w : List Track) (x : Track) where
         frame = frame;
         a = λ e. side_read z (contents_at z k t).patch (contents_at z k t).on_a c.fits c.home none (c.a e);
         b = λ e. side_read z (contents_at z k t).patch (contents_at z k t).on_b c.fits c.home none (c.b e);
+        patch = none_fits (contents_at z k t).patch (record { geometry = z.geometry; track = x }) (record { geometry = z.geometry; track = x }) none;
       }))))
 
   pub record Shuts (s : DeviceStore) (v' w' : List Track) (z : DeviceStore) (k : Held) : Type 0 where

@@ -41,6 +41,7 @@ use Rattle.track_cache.specs.declared.frames.Frame.{Frame}
 use Rattle.nv_store.specs.declared.patches.Stored.{Stored}
 use Rattle.nv_store.specs.Fit.{is_fit}
 use Rattle.nv_store.specs.Patch.{IsPatch, no_edits, added, applied, patched_image}
+use Rattle.nv_store.proofs.Again.{applied_again}
 use Rattle.nv_store.proofs.Fits.{fit_says}
 use Rattle.nv_store.proofs.InOrder.{added_is_patch}
 use Rattle.nv_store.proofs.OneMore.{one_more}
@@ -51,7 +52,7 @@ use Rattle.device_defs.specs.Losses.{slot_in}
 use Rattle.device_defs.specs.Marks.{MarksStore, marks_of, patch_mark, slot_mark}
 use Rattle.device_defs.specs.Sound.{DeviceStore}
 use Rattle.device_defs.specs.Store.{tracks_of, patch_at, is_lost, is_loose, half_is, with_frame, with_patch}
-use Rattle.device_laws.specs.Agrees.{Held, image_in, slot_at, HasSlots}
+use Rattle.device_laws.specs.Agrees.{Held, image_in, PatchHas, PatchFits, slot_at, HasSlots}
 use Rattle.device_laws.specs.PlainWrites.{SuitsTrack}
 use Rattle.device_laws.proofs.ContentChanges as C
 use Rattle.device_laws.proofs.ContentChanges.{
@@ -76,7 +77,7 @@ use Rattle.device_laws.proofs.ContentChanges.{
 }
 use Rattle.device_laws.proofs.PlainVolumes.{put_here, put_elsewhere, put_volume}
 use Rattle.device_laws.proofs.TrackContents as T
-use Rattle.device_laws.proofs.TrackContents.{TrackContents, contents_at, FrameHas, Keeps, IsRight}
+use Rattle.device_laws.proofs.TrackContents.{TrackContents, contents_at, FrameHas, Keeps, IsRight, none_fits}
 use Rattle.device_laws.proofs.TwinAsks.{Ordered, keeps_at, right_keeps}
 use Rattle.device_laws.proofs.TwinChanges.{patch_twin, with_frame_twin, with_patch_twin}
 use Rattle.device_laws.proofs.TwinChoices.{NewBy}
@@ -113,6 +114,13 @@ one_edit_more None (Some k) e (Some j) i place is fits suits gave =
     ∙ one_more no_edits e i i (record { behind = refl }) (none_applied i ((fit_says i.geometry i.track).1 fits).1) suits.suits suits.ranges
 one_edit_more (Some q) None e (Some j) i place is fits suits gave = one_more q.patch e j i (is q refl) gave suits.suits suits.ranges
 one_edit_more (Some q) (Some k) e (Some j) i place is fits suits gave = one_more q.patch e j i (is q refl) gave suits.suits suits.ranges
+
+patched_has : (p : Option Stored) (i : Image) → PatchHas p i → patched_by p (Some i) ≡ Some i
+patched_has None i f = refl
+patched_has (Some q) i f = f q refl
+
+gives_some : (p : Option Stored) (q : Stored) (o : Option Image) (i : Image) → p ≡ Some q → patched_by p o ≡ Some i → patched_by (Some q) o ≡ Some i
+gives_some p q o i e f = ap (λ (r : Option Stored). patched_by r o) (sym e) ∙ f
 
 patch_still : (p : Option Stored) (slot : Option ℕ) (e : Edit) → ((q : Stored) → p ≡ Some q → IsPatch q.patch) → (n : Stored) →
     patch_with contents e slot p ≡ Some n → IsPatch n.patch
@@ -217,6 +225,14 @@ module _ (v w : List Track) (s : DeviceStore) (h : Held) (t : ℕ) (e : Edit) (l
         one_edit_more (patch_at s t) slot e (image_read s.geometry t bytes) (image_in s v t) place was_patch (o.sure.ground.plain.fits t lt) suits
         (ap (λ (m : Option Stored). patched_by m (image_read s.geometry t bytes)) (sym patch_is) ∙ was on ∙ ap Some firm_same)
 
+    -- the patch changes nothing of the edited track
+    fits_new : PatchHas patch i
+    fits_new p is =
+        let old = image_in s v t in
+        let was : PatchHas (patch_at s t) old = subst (λ (o : Option Stored). PatchHas o old) patch_is kept.patch.0 in
+        let gave = one_edit_more (patch_at s t) slot e (Some old) old place was_patch (o.sure.ground.plain.fits t lt) suits (patched_has (patch_at s t) old was) in
+        applied_again p.patch old i (patch_still (patch_at s t) slot e was_patch p is) (gives_some patch p (Some old) i is gave)
+
     fast_right : RightBut (Some t) (set v t n) (set w t n) both h
     fast_right =
         let b = put_right t v w s h n lt (opens_write t v w s h o.sure) home fits in
@@ -239,7 +255,7 @@ module _ (v w : List Track) (s : DeviceStore) (h : Held) (t : ℕ) (e : Edit) (l
         (subst (λ (l : Track). IsRight s.geometry t s.half (record x { frame = Some new; patch = patch }) i (record { geometry = s.geometry; track = l }))
         (sym (put_here w t n (let long = o.sure.ground.firm.tracks in omega arith)))
         (right_keeps s.geometry t s.half (record x { frame = Some new; patch = patch }) i i off
-        (record { frame = frame_new; a = gives x.a x.on_a kept.a; b = gives x.b x.on_b kept.b })))))
+        (record { frame = frame_new; a = gives x.a x.on_a kept.a; b = gives x.b x.on_b kept.b; patch = (fits_new, fits_new) })))))
 
     pub fast_order : Ordered (set v t n) (set w t n) (fast_written contents s t i e slot) h
     unfolding T.contents_at C.base_of
@@ -266,8 +282,12 @@ module _ (v w : List Track) (s : DeviceStore) (h : Held) (t : ℕ) (e : Edit) (l
   unfolding T.contents_at
   loose_is z = refl
 
-  loose_put : (z : DeviceStore) → Altered s h z h t (record x { frame = Some new; loose = true }) → Ordered (set v t n) w z h
-  loose_put z f =
+  bare_fits : patch_at s t ≡ None → PatchFits x.patch i (image_in s w t)
+  unfolding T.contents_at
+  bare_fits bare = none_fits (patch_at s t) i (image_in s w t) bare
+
+  loose_put : (z : DeviceStore) → patch_at s t ≡ None → Altered s h z h t (record x { frame = Some new; loose = true }) → Ordered (set v t n) w z h
+  loose_put z bare f =
       let b = opens_write t v w s h o.sure in
       let c = record x { frame = Some new; loose = true } in
       let long : t < length v = let same = o.sure.ground.plain.tracks in omega arith in
@@ -280,7 +300,7 @@ module _ (v w : List Track) (s : DeviceStore) (h : Held) (t : ℕ) (e : Edit) (l
             (subst (λ (d : TrackContents). IsRight z.geometry t z.half d (image_in z (set v t n) t) (image_in z w t)) (sym f.here)
             (C.same_right s h z h f.base (set v t n) w t c c refl
             (subst (λ (l : Track). IsRight s.geometry t s.half c (record { geometry = s.geometry; track = l }) (image_in s w t)) (sym (put_here v t n long))
-            (right_keeps s.geometry t s.half c i (image_in s w t) off (record { frame = frame_new; a = kept.a; b = kept.b })))));
+            (right_keeps s.geometry t s.half c i (image_in s w t) off (record { frame = frame_new; a = kept.a; b = kept.b; patch = bare_fits bare })))));
         told = told_altered s h z h t c o.told f refl;
       }
     where
@@ -347,12 +367,13 @@ module _ (v w : List Track) (s : DeviceStore) (h : Held) (t : ℕ) (e : Edit) (l
     told = i.told;
   }
 
-  by_loose : (b : Bool) → is_loose s t ≡ b → Ordered (set v t n) w (with_loose_edit (with_frame (if b then s else loosened s t) t (Some new)) t e) h
-  by_loose true loose = loose_edit (with_frame s t (Some new)) (loose_put (with_frame s t (Some new)) (again_altered loose))
-  by_loose false loose = loose_edit (with_frame (loosened s t) t (Some new)) (loose_put (with_frame (loosened s t) t (Some new)) first_altered)
+  by_loose : (b : Bool) → is_loose s t ≡ b → patch_at s t ≡ None → Ordered (set v t n) w (with_loose_edit (with_frame (if b then s else loosened s t) t (Some new)) t e) h
+  by_loose true loose bare = loose_edit (with_frame s t (Some new)) (loose_put (with_frame s t (Some new)) bare (again_altered loose))
+  by_loose false loose bare = loose_edit (with_frame (loosened s t) t (Some new)) (loose_put (with_frame (loosened s t) t (Some new)) bare first_altered)
 
-  pub provisional_order : Ordered (set v t n) w (provisionally_written contents s t i e) h
-  provisional_order = by_loose (is_loose s t) refl
+  -- of a track without a patch
+  pub provisional_order : patch_at s t ≡ None → Ordered (set v t n) w (provisionally_written contents s t i e) h
+  provisional_order bare = by_loose (is_loose s t) refl bare
 
   provisional_by : (b : Bool) → marks_of (set v t n) w (with_loose_edit (with_frame (if b then s else loosened s t) t (Some new)) t e)
       ≡ with_loose_edit (with_frame (if b then marks_of v w s else loosened (marks_of v w s) t) t (Some true)) t e

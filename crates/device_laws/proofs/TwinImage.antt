@@ -106,7 +106,7 @@ counted_order v w s h ok i = record {
   told = i.told;
   well = record {
     sizes = record { are = i.well.sizes.are };
-    here = record { free = i.well.here.free; alone = i.well.here.alone; within = i.well.here.within; queued = i.well.here.queued };
+    here = record { free = i.well.here.free; alone = i.well.here.alone; whole = i.well.here.whole; within = i.well.here.within; queued = i.well.here.queued };
     good = i.well.good;
     kept = i.well.kept;
   };
@@ -248,7 +248,7 @@ framed_order v w s h t i m is lt there off o = record {
   sure = right_altered None v w s h z h t y o.sure e (sits_still v w s h t y lt o.sure.ground refl refl)
       (unseen_slots s h z h (λ kept q. by_track s h z h t y kept e (slots_by kept) q) refl o.sure.ground.slots)
       (λ ne. right_keeps s.geometry t s.half y (image_in s v t) (image_in s w t) off
-      (record { frame = λ f is'. framed_is f is'; a = kept.a; b = kept.b }));
+      (record { frame = λ f is'. framed_is f is'; a = kept.a; b = kept.b; patch = kept.patch }));
   told = λ q. told_by q (cases_eq q t);
 }
   where

@@ -1,5 +1,5 @@
 -- The laws of a device that tells what it holds: its parts leave it in order, and do on marks what they do on contents.
-use Rattle.std.proofs.Common.{◌≡◌, ◌<◌, ◌==◌, ℕ, Bool, true, false, List, Option, Some, None, refl, ap, subst, ◌∙◌, arith}
+use Rattle.std.proofs.Common.{◌≡◌, ◌<◌, ◌==◌, ℕ, Bool, true, false, List, Option, Some, None, refl, sym, ap, subst, ◌∙◌, arith}
 use Rattle.std.specs.Prelude.{IfSome}
 use Rattle.ckd_chain.specs.State.{ChainState}
 use Rattle.ckd_types.specs.declared.geometry.Geometry.{Geometry}
@@ -8,6 +8,7 @@ use Rattle.ckd_types.specs.declared.record.Edit.{Edit}
 use Rattle.ckd_types.specs.declared.record.Track.{Track}
 use Rattle.ckd_types.specs.Volume.{track_in}
 use Rattle.track_image.specs.Image.{Image}
+use Rattle.nv_store.specs.declared.patches.Stored.{Stored}
 use Rattle.device_defs.specs.declared.usage.Usage.{Usage}
 use Rattle.device_defs.specs.Background.{work}
 use Rattle.device_defs.specs.Command.{follow}
@@ -21,28 +22,28 @@ use Rattle.device_defs.specs.Marks.{marks_of, half_mark}
 use Rattle.device_defs.specs.Owed.{hear, ended}
 use Rattle.device_defs.specs.Second.{second_part}
 use Rattle.device_defs.specs.Sound.{DeviceStore}
-use Rattle.device_defs.specs.Store.{HalfWrite, tracks_of, is_lost, half_is}
-use Rattle.device_laws.specs.Agrees.{Held, image_in}
+use Rattle.device_defs.specs.Store.{HalfWrite, tracks_of, patch_at, is_lost, half_is}
+use Rattle.device_laws.specs.Agrees.{Held, image_in, PatchFits, PatchOf}
 use Rattle.device_laws.specs.Feeding.{Feeds, FollowIs}
-use Rattle.device_laws.specs.InOrder.{IsInOrder, StaysInOrder, ImageIs, WriteIs, SecondIs, plain_lost, plain_cut}
+use Rattle.device_laws.specs.InOrder.{IsOpen, IsInOrder, StaysInOrder, ImageIs, WriteIs, SecondIs, plain_lost, plain_cut}
 use Rattle.device_laws.specs.PlainWrites.{SuitsTrack, OriginSuits}
 use Rattle.device_laws.specs.Twin.{Twins}
 use Rattle.device_laws.proofs.Changes as C
 use Rattle.device_laws.proofs.ContentChanges as D
-use Rattle.device_laws.proofs.ContentChanges.{agrees_sure, sure_agrees, unseen_right}
+use Rattle.device_laws.proofs.ContentChanges.{Sure, agrees_sure, sure_agrees, unseen_right}
 use Rattle.device_laws.proofs.FailedCall.{IsWell, same_is_well, failed_call_keeps_good}
 use Rattle.loss_model.specs.declared.Loss.TheVariants as losses
 use Rattle.device_laws.proofs.LossEvents.{losing_goes}
 use Rattle.device_laws.proofs.Notices.{hearing_keeps_good, ending_changes_no_mark}
 use Rattle.device_laws.proofs.SecondPart.{second_part_keeps_good}
 use Rattle.device_laws.proofs.Soundness.{good_is_sound, good_is_nowhere, sound_is_good}
-use Rattle.device_laws.proofs.Sweeps.{is_free, is_alone, half_within, all_queued}
+use Rattle.device_laws.proofs.Sweeps.{is_free, is_alone, is_whole, half_within, all_queued}
 use Rattle.device_laws.proofs.Through.{write_keeps_good}
 use Rattle.device_laws.proofs.TrackContents as T
-use Rattle.device_laws.proofs.TrackContents.{contents_at}
+use Rattle.device_laws.proofs.TrackContents.{contents_at, Writes, HeldBy, held_of, writes_own}
 use Rattle.device_laws.proofs.TrackMarks as M
 use Rattle.device_laws.proofs.TrackMarks.{track_at, device_is_faithful}
-use Rattle.device_laws.proofs.TwinAsks.{InOrder, Ordered}
+use Rattle.device_laws.proofs.TwinAsks.{InOrder, Ordered, keeps_at}
 use Rattle.device_laws.proofs.TwinCuts.{cut_by}
 use Rattle.device_laws.proofs.TwinEvents.{hear_twin, ended_twin}
 use Rattle.device_laws.proofs.TwinFailed.{failed_twin}
@@ -68,14 +69,14 @@ module _ (v w : List Track) (s : DeviceStore) (h : Held) where
   unfolding M.track_at C.rest_of
   well i = record {
     sizes = i.agrees.ground.sizes;
-    here = record { free = i.free; alone = i.alone; within = i.within; queued = i.queued };
+    here = record { free = i.free; alone = i.alone; whole = i.whole; within = i.within; queued = i.queued };
     good = λ q lt. sound_is_good contents s q (i.marks q lt) (i.nowhere q lt);
     kept = λ q lt e. kept_by s q s.half i.there e;
   }
 
   pub in_order : IsInOrder v w s h → InOrder v w s h
   unfolding T.contents_at
-  in_order i = record { sure = agrees_sure v w s h i.agrees; told = i.told; well = well i }
+  in_order i = record { sure = agrees_sure v w s h i.agrees i.patched i.opened; told = i.told; well = well i }
 
   kept_is : (i : HalfWrite Image) → s.half ≡ Some i → IsWell contents s → is_lost s i.track ≡ false
   unfolding M.track_at
@@ -84,6 +85,33 @@ module _ (v w : List Track) (s : DeviceStore) (h : Held) where
       ap (λ (o : Option (HalfWrite Image)). half_is o i.track) e ∙ (let same : (i.track == i.track) ≡ true = grind arith in same) in
       w.kept i.track (half_within s w.here i e) own
 
+  patched_there : (q : ℕ) → patch_at s q ≡ (contents_at s h q).patch
+  unfolding T.contents_at
+  patched_there q = refl
+
+  lost_there_is : (q : ℕ) → (contents_at s h q).lost ≡ is_lost s q
+  unfolding T.contents_at
+  lost_there_is q = refl
+
+  patched_at : Sure v w s h → (q : ℕ) → q < tracks_of s → is_lost s q ≡ false → half_is s.half q ≡ false →
+      PatchFits (patch_at s q) (image_in s v q) (image_in s w q)
+  patched_at sure q lt there off =
+      subst (λ (p : Option Stored). PatchFits p (image_in s v q) (image_in s w q)) (sym (patched_there q)) (keeps_at v w s h q sure lt there off).patch
+
+  opened_there : Sure v w s h → IsWell contents s → (i : HalfWrite Image) → s.half ≡ Some i → IsOpen v s i
+  opened_there sure w' i e =
+      let t = i.track in
+      let own : (i.track == i.track) ≡ true = grind arith in
+      let right = sure.right t (half_within s w'.here i e) (λ f. absurd (cc)) in
+      let k : Writes (contents_at s h t) (image_in s v t) i =
+      writes_own s.geometry t i (contents_at s h t) (image_in s v t) (image_in s w t) own
+      (subst (λ (half : Option (HalfWrite Image)). HeldBy s.geometry t (contents_at s h t) (image_in s v t) (image_in s w t) half) e
+      (held_of s.geometry t s.half (contents_at s h t) (image_in s v t) (image_in s w t) (lost_there_is t ∙ kept_is i e w') right)) in
+      record {
+        suits = k.suits;
+        patch = subst (λ (p : Option Stored). PatchOf i.origin p (image_in s v t)) (sym (patched_there t)) k.patch;
+      }
+
   pub is_in_order : Ordered v w s h → IsWell contents s → IsInOrder v w s h
   unfolding T.contents_at
   is_in_order o w' = record {
@@ -91,11 +119,14 @@ module _ (v w : List Track) (s : DeviceStore) (h : Held) where
     told = o.told;
     free = is_free s w'.here;
     alone = is_alone s w'.here;
+    whole = is_whole s w'.here;
     marks = λ t lt. good_is_sound contents s t (w'.good t lt);
     nowhere = λ t lt lost. good_is_nowhere contents s t (w'.good t lt) lost;
     within = half_within s w'.here;
     queued = all_queued s w'.here;
     there = λ i e. kept_is i e w';
+    patched = patched_at o.sure;
+    opened = opened_there o.sure w';
   }
 
 lost_is : (s : DeviceStore) (t : ℕ) → (track_at contents s t).lost ≡ is_lost s t
@@ -206,7 +237,7 @@ module _ (v w : List Track) (s : DeviceStore) (h : Held) (b : Bool) where
   unfolding M.track_at C.rest_of
   held_well y = record {
     sizes = record { are = y.sizes.are };
-    here = record { free = y.here.free; alone = y.here.alone; within = y.here.within; queued = y.here.queued };
+    here = record { free = y.here.free; alone = y.here.alone; whole = y.here.whole; within = y.here.within; queued = y.here.queued };
     good = y.good;
     kept = y.kept;
   }

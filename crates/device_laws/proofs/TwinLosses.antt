@@ -1,5 +1,5 @@
 -- The losses of a side and of the store leave all right, with their twins on marks.
-use Rattle.std.proofs.Common.{◌≡◌, ◌<◌, ◌&&◌, not, ℕ, Bool, true, false, List, Option, Some, None, is_some, refl, sym, ap, subst, ◌∙◌, arith}
+use Rattle.std.proofs.Common.{◌≡◌, ◌<◌, ◌&&◌, not, ℕ, Bool, true, false, List, Option, Some, None, is_some, refl, sym, ap, subst, ◌∙◌, arith, inl}
 use Rattle.std.specs.Prelude.{if◌then◌else◌}
 use Rattle.ckd_types.specs.declared.paths.Side.{Side}
 use Rattle.ckd_types.specs.declared.paths.Side.TheVariants.{A, B}
@@ -47,6 +47,7 @@ use Rattle.device_laws.proofs.TrackContents.{
   right_by,
   right_lost,
   right_bare,
+  none_of,
   held_of,
   writes_own,
   own_writes,
@@ -61,7 +62,14 @@ use Rattle.device_laws.proofs.TwinWalks.{Pair, pair_is, pair_if, pair_over, pair
 -- The track of a half write has what is written, whatever its patch
 
 own_writes_still : (x : TrackContents) (plain : Image) (w : HalfWrite Image) → Writes x plain w → Writes (unpatched x) plain w
-own_writes_still x plain w k = record { image = k.image; a = k.a; b = k.b; frame = k.frame }
+own_writes_still x plain w k = record {
+  image = k.image;
+  a = k.a;
+  b = k.b;
+  frame = k.frame;
+  patch = none_of w.origin None plain refl;
+  suits = k.suits;
+}
 
 right_own : (g : Geometry) (t : ℕ) (half : Option (HalfWrite Image)) (x : TrackContents) (plain firm : Image) → half_is half t ≡ true →
     IsRight g t half x plain firm → IsRight g t half (unpatched x) plain firm
@@ -187,7 +195,7 @@ module _ (h : Held) (u : List Track) (s : DeviceStore) (alone : s.paired ≡ fal
         }) in
         settles_of (stale_everywhere y n) d e refl refl refl refl refl refl
         (right_bare z.geometry n z.half c d (image_in z v n) (image_in z w n) (image_in z w n)
-        (record { lost = λ l. l; frame = λ i k. k; a = g.no_a; b = g.no_b }) (x.but.right n lt (λ e. absurd (cc))))
+        (record { lost = λ l. l; frame = λ i k. k; a = g.no_a; b = g.no_b }) (inl refl) (x.but.right n lt (λ e. absurd (cc))))
 
     off_pair : Pair (Settles None h u s) (settled contents (stale_everywhere (without_patch contents z n) n) n)
         (settled by_plain (stale_everywhere (without_patch by_plain (marks_of v w z) n) n) n)

@@ -29,9 +29,11 @@ use Rattle.std.proofs.Common.{
 use Rattle.std.proofs.lemmas.Bool.{cases_eq}
 use Rattle.std.specs.Prelude.{option_map, if◌then◌else◌}
 use Rattle.ckd_types.specs.declared.paths.Side.TheVariants.{A, B}
+use Rattle.ckd_types.specs.declared.geometry.Geometry.{Geometry}
 use Rattle.ckd_types.specs.declared.record.Track.{Track}
 use Rattle.ckd_types.specs.Track.{track_bytes}
 use Rattle.ckd_types.specs.Volume.{track_in}
+use Rattle.nv_store.specs.declared.patches.Stored.{Stored}
 use Rattle.track_image.specs.Image.{Image}
 use Rattle.track_cache.specs.declared.frames.Frame.{Frame}
 use Rattle.device_outside.specs.Both.{both_tell}
@@ -58,7 +60,8 @@ use Rattle.device_defs.specs.Store.{
   with_frame,
 }
 use Rattle.device_defs.specs.Writing.{firm_first, half_opened, cleaned, opened}
-use Rattle.device_laws.specs.Agrees.{Held, image_in, slot_at}
+use Rattle.device_laws.specs.Agrees.{Held, image_in, PatchHas, PatchFits, slot_at}
+use Rattle.device_laws.specs.PlainWrites.{OriginSuits}
 use Rattle.device_laws.specs.Twin.{Twins}
 use Rattle.device_laws.proofs.ContentChanges as C
 use Rattle.device_laws.proofs.ContentChanges.{
@@ -97,6 +100,7 @@ use Rattle.device_laws.proofs.TrackContents.{
   own_writes,
   other_keeps,
   not_both,
+  patch_of,
 }
 use Rattle.device_laws.proofs.TrackMarks as M
 use Rattle.device_laws.proofs.TrackMarks.{TrackMarks, marks, is_good, track_at}
@@ -222,6 +226,7 @@ module _ (v w : List Track) (s : DeviceStore) (h : Held) (t : ℕ) (lt : t < tra
                 frame = λ f l. kept.frame f (sym frame ∙ l) ∙ sym (ap (λ (g : _). record { geometry = g; track = track_in v t }) stays.geometry);
                 a = λ l. absurd (not_both c.a a l);
                 b = λ l. absurd (not_both c.b b l);
+                patch = firm_fits z c patch stays;
               })));
           told = told_altered s h z h t c o.told e debt;
         };
@@ -234,6 +239,14 @@ module _ (v w : List Track) (s : DeviceStore) (h : Held) (t : ℕ) (lt : t < tra
       slots_by : (kept : Bool) → slot_of kept c ≡ slot_of kept x
       slots_by true = ap (λ (p : Option _). slot_of true (record x { patch = p })) patch
       slots_by false = freed
+
+      firm_fits : (z : DeviceStore) (c : TrackContents) → c.patch ≡ x.patch → Stays s z → PatchFits c.patch (image_in z v t) (image_in z firm_now t)
+      firm_fits z c patch stays =
+          let here : track_in firm_now t ≡ track_in v t = put_here w t (track_in v t) (let same = o.sure.ground.firm.tracks in omega arith) in
+          subst (λ (p : Option Stored). PatchFits p (image_in z v t) (image_in z firm_now t)) (sym patch)
+          (subst (λ (g : Geometry). PatchFits x.patch (record { geometry = g; track = track_in v t }) (record { geometry = g; track = track_in firm_now t }))
+          (sym stays.geometry)
+          (subst (λ (l : Track). PatchFits x.patch (image_in s v t) (record { geometry = s.geometry; track = l })) (sym here) (kept.patch.0, kept.patch.0)))
 
   loose_gone : (z : DeviceStore) (c : TrackContents) → Altered s h z h t c → c.loose ≡ false → is_loose z t ≡ false
   unfolding T.contents_at
@@ -316,6 +329,8 @@ module _ (t : ℕ) (v w : List Track) (i : Image) (origin : Origin) where
     pub a : (contents_at z k t).a ≡ true → (contents_at z k t).on_a ≡ track_bytes i.track
     pub b : (contents_at z k t).b ≡ true → (contents_at z k t).on_b ≡ track_bytes i.track
     pub frame : FrameHas (contents_at z k t).frame (image_in z v t)
+    pub patch : PatchHas (contents_at z k t).patch (image_in z v t)
+    pub suits : OriginSuits z.geometry (track_in v t) origin
 
   pub record Opens (v' w' : List Track) (z : DeviceStore) (s : DeviceStore) (k : Held) : Type 0 where
     pub order : Ordered v' w' z k
@@ -378,7 +393,14 @@ module _ (t : ℕ) (v w : List Track) (i : Image) (origin : Origin) where
           (sym (same_contents z k t))
           (right_by z.geometry t (Some (record { track = t; origin = origin; image = i })) (contents_at z k t) (image_in z v t) (image_in z w t)
           (own_writes z.geometry t (record { track = t; origin = origin; image = i }) (contents_at z k t) (image_in z v t) (image_in z w t) own_half
-          (record { image = o.image; a = o.a; b = o.b; frame = frame_of origin (contents_at z k t).frame (image_in z v t) o.frame }))))
+          (record {
+            image = o.image;
+            a = o.a;
+            b = o.b;
+            frame = frame_of origin (contents_at z k t).frame (image_in z v t) o.frame;
+            patch = patch_of origin (contents_at z k t).patch (image_in z v t) o.patch;
+            suits = o.suits;
+          }))))
       right_at q lt (inr ne) =
           subst (λ (c : TrackContents). IsRight z.geometry q (Some (record { track = t; origin = origin; image = i })) c (image_in z v q) (image_in z w q))
           (sym (same_contents z k q))
@@ -421,6 +443,8 @@ module _ (t : ℕ) (v w : List Track) (i : Image) (origin : Origin) where
         b = λ l. ap (λ (d : TrackContents). d.on_b) e.here ∙ o.b (sym (ap (λ (d : TrackContents). d.b) e.here) ∙ l);
         frame = subst (λ (g : Option Frame). FrameHas g (image_in z v t)) (sym (ap (λ (d : TrackContents). d.frame) e.here))
             (cleaned_has (frame_at z t) (image_in z v t) (subst (λ (g : Option Frame). FrameHas g (image_in z v t)) (frame_at_is z k) o.frame));
+        patch = subst (λ (p : Option Stored). PatchHas p (image_in z v t)) (sym (ap (λ (d : TrackContents). d.patch) e.here)) o.patch;
+        suits = o.suits;
       }
     where
       slots_by : (kept : Bool) → slot_of kept (record (contents_at z k t) { frame = cleaned contents (frame_at z t) }) ≡ slot_of kept (contents_at z k t)

@@ -5,6 +5,7 @@ use Rattle.ckd_types.specs.declared.paths.Side.{Side}
 use Rattle.ckd_types.specs.declared.record.Track.{Track}
 use Rattle.ckd_types.specs.Track.{track_bytes}
 use Rattle.ckd_types.specs.Volume.{track_in}
+use Rattle.nv_store.specs.declared.patches.Stored.{Stored}
 use Rattle.track_image.specs.Image.{Image}
 use Rattle.track_cache.specs.declared.frames.Frame.{Frame}
 use Rattle.device_outside.specs.Both.{both_try}
@@ -21,7 +22,7 @@ use Rattle.device_defs.specs.Marks.{marks_of, frame_mark}
 use Rattle.device_defs.specs.Sound.{DeviceStore}
 use Rattle.device_defs.specs.Store.{OfBackground, Store, tracks_of, frame_at, is_lost, is_loose, half_is}
 use Rattle.device_defs.specs.Writing.{Wrote, write_first, write_done, opened}
-use Rattle.device_laws.specs.Agrees.{Held, image_in}
+use Rattle.device_laws.specs.Agrees.{Held, image_in, PatchHas}
 use Rattle.device_laws.specs.Twin.{Twins}
 use Rattle.device_laws.proofs.Sweeps.{is_alone}
 use Rattle.device_laws.proofs.TrackContents as T
@@ -117,6 +118,10 @@ module _ (u : List Track) (y : DeviceStore) (j : Held) (t : ℕ) (lt : t < track
       a = x.a;
       b = x.b;
       frame = λ f l. own.frame f (sym x.mid.sided.frame ∙ l) ∙ sym image_is;
+      patch =
+          subst (λ (p : Option Stored). PatchHas p (image_in z v t)) (sym x.mid.sided.patch)
+          (subst (λ (n : Image). PatchHas (contents_at y j t).patch n) (sym image_is) own.patch.0);
+      suits = tt;
     }
 
     half_end : (was_loose : Bool) → Twins Ends (and_then (opened contents z t i OfBackground was_loose) (λ q _. Done q (did fault (Half t))))

@@ -1,6 +1,6 @@
 -- The second part of a write leaves all right, by whose write it is, and the plain volume has a command's edit where it is done; with its twin on marks.
 use Rattle.std.proofs.Common.{◌≡◌, ◌≢◌, ◌<◌, ◌==◌, ◌||◌, ℕ, Bool, true, false, List, Option, Some, None, set, refl, sym, ap, subst, ◌∙◌, arith}
-use Rattle.std.specs.Prelude.{option_map}
+use Rattle.std.specs.Prelude.{option_map, is_some, if◌then◌else◌}
 use Rattle.ckd_types.specs.declared.geometry.Geometry.{Geometry}
 use Rattle.ckd_types.specs.declared.record.Edit.{Edit}
 use Rattle.ckd_types.specs.declared.record.Track.{Track}
@@ -11,12 +11,14 @@ use Rattle.ckd_rules.specs.Facts.{Suits}
 use Rattle.ckd_write.proofs.Fitting.{edited_fits}
 use Rattle.track_image.specs.Image.{Image, edited_image}
 use Rattle.track_cache.specs.declared.frames.Frame.{Frame}
+use Rattle.nv_store.specs.declared.patches.Stored.{Stored}
 use Rattle.device_outside.specs.Both.{both_tell}
 use Rattle.device_outside.specs.Interaction.{Interaction, Done, and_then}
 use Rattle.device_outside.proofs.BothRules.{on_test}
 use Rattle.device_defs.specs.Contents.{Contents, contents, by_plain}
 use Rattle.device_defs.specs.Effects.{with_edit}
-use Rattle.device_defs.specs.Losses.{settled, without_patch}
+use Rattle.device_defs.specs.Losses as L
+use Rattle.device_defs.specs.Losses.{settled, by_frame, lost_now, without_patch}
 use Rattle.device_defs.specs.Marks.{MarksStore, marks_of, frame_mark, half_mark}
 use Rattle.device_defs.specs.Second as S
 use Rattle.device_defs.specs.Second.{plainly_written, closed, half_image_of, finished, second_done, cut_kept, left_by, second_absent, second_by, second_part}
@@ -32,17 +34,21 @@ use Rattle.device_defs.specs.Store.{
   level_at,
   has_level,
   frame_at,
+  is_lost,
   is_loose,
   half_is,
   with_frame,
+  with_lost,
 }
 use Rattle.device_defs.specs.Writing.{write_second}
-use Rattle.device_laws.specs.Agrees.{Held, image_in, slot_at}
+use Rattle.device_laws.specs.Agrees.{Held, image_in, PatchHas, PatchFits, PatchOf, slot_at}
 use Rattle.device_laws.specs.PlainWrites.{SuitsTrack, plain_second, OriginSuits}
 use Rattle.device_laws.specs.Twin.{Twins}
-use Rattle.device_laws.proofs.ContentChanges.{Altered, altered_twice, altered_frame, same_slots, sits_still, RightBut, Sure, right_altered, shut, opens_write}
+use Rattle.device_laws.proofs.ContentChanges.{Altered, altered_twice, altered_frame, altered_lost, same_slots, sits_still, RightBut, Sure, right_altered, shut, opens_write}
 use Rattle.device_laws.proofs.PlainVolumes.{put_here}
-use Rattle.device_laws.proofs.Sweeps.{is_alone}
+use Rattle.device_laws.proofs.Sweeps.{is_free, is_alone}
+use Rattle.device_laws.proofs.TrackMarks as M
+use Rattle.device_laws.proofs.TrackMarks.{track_at, device_is_faithful}
 use Rattle.device_laws.proofs.TrackContents as T
 use Rattle.device_laws.proofs.TrackContents.{
   TrackContents,
@@ -64,8 +70,9 @@ use Rattle.device_laws.proofs.TwinAsks.{Stays, stays_same, stays_by, stays_image
 use Rattle.device_laws.proofs.TwinChanges.{frame_twin, with_frame_twin, without_patch_twin}
 use Rattle.device_laws.proofs.TwinDone.{Closing, put_right, edit_right, write_done_twin}
 use Rattle.device_laws.proofs.TwinSettled.{AllTold, told_altered, told_debts, settled_pair, settled_told, unpatched, altered_unpatched, unpatched_slots}
-use Rattle.device_laws.proofs.TwinWalks.{Pair, pair_weaker, twin_done, twin_ends, twin_then}
+use Rattle.device_laws.proofs.TwinWalks.{Pair, pair_weaker, twin_done, twin_ends, twin_then, twin_always}
 use Rattle.device_laws.proofs.TwinWrites.{Written, sided_same, second_twin}
+use Rattle.device_laws.proofs.Writes.{write_second_keeps_others}
 
 pub record Seconds (u : List Track) (s : DeviceStore) (origin : Origin) (t : ℕ) (v w : List Track) (z : DeviceStore) (a b : Bool) (k : Held) : Type 0 where
   pub order : Ordered v w z k
@@ -135,9 +142,21 @@ closed_told : (z : DeviceStore) (k : Held) → AllTold z k → AllTold (closed z
 unfolding T.contents_at
 closed_told z k told = told
 
-frameless : (z : DeviceStore) (k : Held) (t : ℕ) (f : Frame) → frame_at z t ≡ None → (contents_at z k t).frame ≡ Some f → ⊥
-unfolding T.contents_at
-frameless z k t f e l = absurd (cc)
+-- a track that is level on no side and has no frame is lost
+settles_by : {X : Type 0} (lent lost level half : Bool) (s x : X) → lent ≡ false → lost ≡ false → level ≡ false → half ≡ false →
+    (if lent then s else if lost then s else if level then s else if half then s else x) ≡ x
+settles_by false false false false s x a b c d = refl
+settles_by true lost level half s x a b c d = absurd (cc)
+settles_by false true level half s x a b c d = absurd (cc)
+settles_by false false true half s x a b c d = absurd (cc)
+settles_by false false false true s x a b c d = absurd (cc)
+
+settles_lost : {F P H R : Type 0} (c : Contents F P H R) (s : Store F P H) (t : ℕ) → is_some s.lent ≡ false → is_lost s t ≡ false → has_level s t ≡ false →
+    frame_at s t ≡ None → half_is s.half t ≡ false → settled c s t ≡ lost_now c s t
+unfolding L.settled
+settles_lost {F = F} c s t free there off none half =
+    ap (λ (o : Option F). if is_some s.lent then s else if is_lost s t then s else if has_level s t then s else by_frame c s t o) none
+    ∙ settles_by (is_some s.lent) (is_lost s t) (has_level s t) (half_is s.half t) s (lost_now c s t) free there off half
 
 -- the second part of such an image
 abbrev second_part_by : {F P H R : Type 0} (c : Contents F P H R) → Store F P H → ℕ → Origin → R → Image → Interaction R Image (Store F P H) Bool
@@ -313,8 +332,8 @@ module _ (u w0 : List Track) (s : DeviceStore) (h : Held) (hw : HalfWrite Image)
     levels_off e = or_false (level_at z.a t) (level_at z.b t) e
 
     absent_sure : (c : TrackContents) (y : DeviceStore) → contents_at y k t ≡ c → RightBut (Some t) v w y k → Stays (closed z) y → c.a ≡ false → c.b ≡ false →
-        FrameHas c.frame (image_in z v t) → Sure v w y k
-    absent_sure c y is b stays a no_b frame =
+        FrameHas c.frame (image_in z v t) → PatchHas c.patch (image_in z v t) → Sure v w y k
+    absent_sure c y is b stays a no_b frame patch =
         shut t v w y k b
         (subst (λ (d : TrackContents). IsRight y.geometry t y.half d (image_in y v t) (image_in y w t)) (sym is)
         (right_keeps y.geometry t y.half c (image_in y v t) (image_in y w t) (ap (λ (m : Option (HalfWrite Image)). half_is m t) stays.half)
@@ -322,6 +341,10 @@ module _ (u w0 : List Track) (s : DeviceStore) (h : Held) (hw : HalfWrite Image)
           frame = λ f l. frame f l ∙ sym (ap (λ (g : Geometry). record { geometry = g; track = track_in v t }) stays.geometry);
           a = λ l. absurd (not_both c.a a l);
           b = λ l. absurd (not_both c.b no_b l);
+          patch =
+              subst (λ (g : Geometry). PatchFits c.patch (record { geometry = g; track = track_in v t }) (record { geometry = g; track = track_in w t }))
+              (sym stays.geometry)
+              (subst (λ (l : Track). PatchFits c.patch (image_in z v t) (record { geometry = z.geometry; track = l })) (sym firm_is) (patch, patch));
         })))
 
     absent_ends : (y : DeviceStore) (m : MarksStore) → marks_of v w y ≡ m → Sure v w y k → AllTold y k → Stays (closed z) y → is_loose y t ≡ false →
@@ -341,13 +364,19 @@ module _ (u w0 : List Track) (s : DeviceStore) (h : Held) (hw : HalfWrite Image)
     frame_was : (f : Frame) → (contents_at (closed z) k t).frame ≡ Some f → (contents_at s h t).frame ≡ Some f
     frame_was f e = sym d.mid.sided.frame ∙ sym (ap (λ (c : TrackContents). c.frame) (closed_contents z k t)) ∙ e
 
-    kept_ends : has_level z t ≡ false → FrameHas (contents_at s h t).frame (image_in s u t) → plain_second hw.origin false u t ≡ u →
+    patch_was : (contents_at (closed z) k t).patch ≡ (contents_at s h t).patch
+    patch_was = ap (λ (c : TrackContents). c.patch) (closed_contents z k t) ∙ d.mid.sided.patch
+
+    kept_ends : has_level z t ≡ false → FrameHas (contents_at s h t).frame (image_in s u t) → PatchHas (contents_at s h t).patch (image_in s u t) →
+        plain_second hw.origin false u t ≡ u →
         Twins Ends (Done (settled contents (closed z) t) false) (Done (settled by_plain (closed (marks_of v w z)) t) false) k
-    kept_ends none frame after =
+    kept_ends none frame patch after =
         let levels = levels_off none in
         absent_ends (closed z) (closed (marks_of v w z)) refl
         (absent_sure (contents_at (closed z) k t) (closed z) refl but (stays_same (closed z)) levels.0 levels.1
-        (λ f e. frame f (frame_was f e) ∙ sym plain_is))
+        (λ f e. frame f (frame_was f e) ∙ sym plain_is)
+        (subst (λ (o : Option Stored). PatchHas o (image_in z v t)) (sym patch_was)
+        (subst (λ (i : Image). PatchHas (contents_at s h t).patch i) (sym plain_is) patch)))
         (closed_told z k d.mid.told) (stays_same (closed z)) firm_now after
 
     -- the frame of a command that was cut has the new track then, and its patch goes
@@ -390,29 +419,73 @@ module _ (u w0 : List Track) (s : DeviceStore) (h : Held) (hw : HalfWrite Image)
           (without_patch_twin v w framed t ∙ ap (λ (m : MarksStore). without_patch by_plain m t) (with_frame_twin v w (closed z) t (Some fresh)))
           (absent_sure c (without_patch contents framed t) cut_altered.here cut_right (stays_by (closed z) k
           (without_patch contents framed t) k cut_altered.base)
-          levels.0 levels.1 fresh_is)
+          levels.0 levels.1 fresh_is (λ p e. absurd (cc)))
           (told_altered (closed z) k (without_patch contents framed t) k t c (closed_told z k d.mid.told) cut_altered refl)
           (stays_by (closed z) k (without_patch contents framed t) k cut_altered.base) loose_cut after
 
-    cut_by : (o' : Option Frame) → frame_at z t ≡ o' → hw.image ≡ image_in s u t → has_level z t ≡ false → plain_second hw.origin false u t ≡ u →
+    -- nothing is left of it
+    gone_altered : Altered (closed z) k (lost_now contents (closed z) t) k t (unpatched (record (contents_at (closed z) k t) { lost = true }))
+    gone_altered =
+        let g = altered_lost (closed z) k t below but.ground.sizes in
+        let e = altered_unpatched (with_lost (closed z) t) k t below g.sizes in
+        altered_twice g (record { sizes = e.sizes; base = e.base; elsewhere = e.elsewhere; here = e.here ∙ ap unpatched g.here })
+
+    gone_order : Ordered v w (lost_now contents (closed z) t) k
+    gone_order =
+        let c = unpatched (record (contents_at (closed z) k t) { lost = true }) in
+        let y = lost_now contents (closed z) t in
+        let still = sits_still v w (closed z) k t (contents_at (closed z) k t) below but.ground refl refl in
+        let b = right_altered (Some t) v w (closed z) k y k t c but gone_altered
+        (record { same = still.same; patch = λ p e. absurd (cc); apart = λ e. refl })
+        (unpatched_slots (closed z) k y k t c gone_altered refl refl refl but.ground.slots) (λ ne. absurd (ne refl)) in
+        record {
+          sure = shut t v w y k b
+              (subst (λ (x : TrackContents). IsRight y.geometry t y.half x (image_in y v t) (image_in y w t)) (sym gone_altered.here)
+              (right_lost y.geometry t y.half c (image_in y v t) (image_in y w t) refl));
+          told = told_altered (closed z) k y k t c (closed_told z k d.mid.told) gone_altered refl;
+        }
+
+    lost_mark : is_lost z t ≡ false
+    unfolding T.contents_at
+    lost_mark = d.mid.sided.lost ∙ there
+
+    gone_ends : is_some z.lent ≡ false → frame_at z t ≡ None → has_level z t ≡ false → plain_second hw.origin false u t ≡ u →
+        Twins Ends (Done (settled contents (closed z) t) false) (Done (settled by_plain (closed (marks_of v w z)) t) false) k
+    gone_ends free e none after =
+        let stays = stays_by (closed z) k (lost_now contents (closed z) t) k gone_altered.base in
+        subst (λ (x : DeviceStore). Twins Ends (Done x false) (Done (settled by_plain (closed (marks_of v w z)) t) false) k)
+        (sym (settles_lost contents (closed z) t free lost_mark none e refl))
+        (subst (λ (x : MarksStore). Twins Ends (Done (lost_now contents (closed z) t) false) (Done x false) k)
+        (sym (settles_lost by_plain (closed (marks_of v w z)) t free lost_mark none (frame_twin v w z t ∙ ap (option_map frame_mark) e) refl))
+        (twin_ends (without_patch_twin v w (with_lost (closed z) t) t) (record {
+          order = gone_order;
+          same = refl;
+          plain = d.mid.plain ∙ sym after;
+          geometry = stays.geometry ∙ d.mid.stays.geometry;
+          cylinders = stays.cylinders ∙ d.mid.stays.cylinders;
+        })))
+
+    cut_by : is_some z.lent ≡ false → (o' : Option Frame) → frame_at z t ≡ o' → hw.image ≡ image_in s u t → has_level z t ≡ false →
+        plain_second hw.origin false u t ≡ u →
         Twins Ends (Done (settled contents (cut_kept contents (closed z) t hw.image o') t) false)
         (Done (settled by_plain (cut_kept by_plain (closed (marks_of v w z)) t hw.image (option_map frame_mark o')) t) false) k
-    cut_by None e image none after = kept_ends none (λ f l. absurd (no_frame f l)) after
-      where
-        no_frame : (f : Frame) → (contents_at s h t).frame ≡ Some f → ⊥
-        no_frame f l = frameless z k t f e (d.mid.sided.frame ∙ l)
-    cut_by (Some f) e image none after = cut_ends f image none after
+    cut_by free None e image none after = gone_ends free e none after
+    cut_by free (Some f) e image none after = cut_ends f image none after
 
-    absent_by : (origin : Origin) → hw.origin ≡ origin → hw.image ≡ written_on (image_in s u t) origin →
-        FrameOf origin (contents_at s h t).frame (image_in s u t) →
+    absent_by : is_some z.lent ≡ false → (origin : Origin) → hw.origin ≡ origin → hw.image ≡ written_on (image_in s u t) origin →
+        FrameOf origin (contents_at s h t).frame (image_in s u t) → PatchOf origin (contents_at s h t).patch (image_in s u t) →
         has_level z t ≡ false →
         Twins Ends (second_absent contents (closed z) t hw.image origin) (second_absent by_plain (closed (marks_of v w z)) t hw.image origin) k
-    absent_by (OfCommand bypass e) is image frame none = kept_ends none frame (ap (λ (x : Origin). plain_second x false u t) is)
-    absent_by (OfCut bypass) is image frame none =
+    absent_by free (OfCommand bypass e) is image frame patch none = kept_ends none frame patch (ap (λ (x : Origin). plain_second x false u t) is)
+    absent_by free (OfCut bypass) is image frame patch none =
         subst (λ (g : Option Bool). Twins Ends (Done (settled contents (cut_kept contents (closed z) t hw.image (frame_at z t)) t) false)
         (Done (settled by_plain (cut_kept by_plain (closed (marks_of v w z)) t hw.image g) t) false) k) (sym (frame_twin v w z t))
-        (cut_by (frame_at z t) refl image none (ap (λ (x : Origin). plain_second x false u t) is))
-    absent_by OfBackground is image frame none = kept_ends none frame (ap (λ (x : Origin). plain_second x false u t) is)
+        (cut_by free (frame_at z t) refl image none (ap (λ (x : Origin). plain_second x false u t) is))
+    absent_by free OfBackground is image frame patch none = kept_ends none frame patch (ap (λ (x : Origin). plain_second x false u t) is)
+
+  there_mark : (track_at contents s t).lost ≡ false
+  unfolding M.track_at T.contents_at
+  there_mark = there
 
   -- while this half write is open
   pub second_part_twin : Twins Ends (second_part contents s hw) (second_part by_plain (marks_of u w0 s) (half_mark hw)) h
@@ -422,7 +495,8 @@ module _ (u w0 : List Track) (s : DeviceStore) (h : Held) (hw : HalfWrite Image)
       subst (λ (i : Image). Twins Ends (second_part_by contents s t hw.origin (track_bytes hw.image.track) hw.image) (second_part_by by_plain
       (marks_of u w0 s) t hw.origin true i) h) (sym image)
       (twin_then (λ z _. second_by contents t hw.image hw.origin z) (λ z _. second_by by_plain t hw.image hw.origin z)
-      (second_twin u s h t r lt firm (is_alone s o.well.here) u w0 s h begins (is_alone s o.well.here))
+      (twin_always (second_twin u s h t r lt firm (is_alone s o.well.here) u w0 s h begins (is_alone s o.well.here))
+      (write_second_keeps_others contents device_is_faithful t s lt there_mark r o.well))
       (λ v w z _ _ k d. on_test (has_level z t)
-      (λ _. done_by v w z k d hw.origin refl writes.image suits)
-      (λ none. absent_by v w z k d hw.origin refl writes.image writes.frame none)))
+      (λ _. done_by v w z k d.0 hw.origin refl writes.image suits)
+      (λ none. absent_by v w z k d.0 (is_free z d.1.others.here) hw.origin refl writes.image writes.frame writes.patch none)))

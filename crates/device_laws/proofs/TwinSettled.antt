@@ -332,6 +332,9 @@ module _ (exempt : ℕ → Type 0) (h : Held) (v w : List Track) (s : DeviceStor
       unfolding T.contents_at
       levels none = or_false (level_at s.a t) (level_at s.b t) none
 
+      firm_image : image_in s firm_now t ≡ image_in s v t
+      firm_image = ap (λ (l : Track). record { geometry = s.geometry; track = l }) (put_here w t (track_in v t) long)
+
       patch_there : (p : Stored) → x.patch ≡ Some p → patch_at s t ≡ Some p
       unfolding T.contents_at
       patch_there p l = l
@@ -361,7 +364,7 @@ module _ (exempt : ℕ → Type 0) (h : Held) (v w : List Track) (s : DeviceStor
           right_at q below ne (inl at) =
               subst (λ (p : ℕ). IsRight s.geometry p s.half (contents_at s h p) (image_in s v p) (image_in s firm_now p)) (sym at)
               (right_bare s.geometry t s.half x x (image_in s v t) (image_in s w t) (image_in s firm_now t)
-              (record { lost = λ l. l; frame = λ i k. k; a = (levels off).0; b = (levels off).1 }) (b.right t lt other))
+              (record { lost = λ l. l; frame = λ i k. k; a = (levels off).0; b = (levels off).1 }) (inr (refl, firm_image)) (b.right t lt other))
           right_at q below ne (inr away) =
               subst (λ (p : Track). IsRight s.geometry q s.half (contents_at s h q) (image_in s v q) (record { geometry = s.geometry; track = p }))
               (sym (put_elsewhere w t (track_in v t) q away)) (b.right q below ne)

@@ -9,6 +9,7 @@ use Rattle.ckd_types.specs.Track.{track_bytes}
 use Rattle.ckd_types.specs.Volume.{track_in}
 use Rattle.ckd_rules.specs.Facts.{Suits}
 use Rattle.ckd_write.proofs.Fitting.{edited_fits}
+use Rattle.nv_store.specs.declared.patches.Stored.{Stored}
 use Rattle.track_image.specs.Image.{Image, edited_image}
 use Rattle.device_outside.specs.Both.{both_tell}
 use Rattle.device_outside.specs.Interaction.{Interaction, Done, and_then}
@@ -24,7 +25,7 @@ use Rattle.device_defs.specs.Marks.{marks_of}
 use Rattle.device_defs.specs.Sound.{DeviceStore}
 use Rattle.device_defs.specs.Store.{OfCommand, HalfWrite, Store, tracks_of, level_at, has_level, is_lost, is_loose, half_is}
 use Rattle.device_defs.specs.Writing.{write_first}
-use Rattle.device_laws.specs.Agrees.{Held, image_in}
+use Rattle.device_laws.specs.Agrees.{Held, image_in, PatchHas}
 use Rattle.device_laws.specs.PlainWrites.{SuitsTrack, plain_after}
 use Rattle.device_laws.specs.Twin.{Twins}
 use Rattle.device_laws.proofs.PlainVolumes.{put_here}
@@ -172,6 +173,10 @@ module _ (u : List Track) (y : DeviceStore) (j : Held) (t : ℕ) (e : Edit) (lt 
         a = d.a;
         b = d.b;
         frame = λ f l. own.frame f (sym m.sided.frame ∙ l) ∙ sym image_is;
+        patch =
+            subst (λ (p : Option Stored). PatchHas p (image_in z v t)) (sym m.sided.patch)
+            (subst (λ (n : Image). PatchHas (contents_at y j t).patch n) (sym image_is) own.patch.0);
+        suits = subst (λ (n : Image). SuitsTrack n.geometry n.track e) (sym image_is) suits;
       }
 
   opened_half : (v w : List Track) (z : DeviceStore) (k : Held) (bypass was_loose : Bool) → Written u y j t r v w z k → z.half ≡ None →

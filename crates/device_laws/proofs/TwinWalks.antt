@@ -19,15 +19,20 @@ use Rattle.std.proofs.Common.{
   map,
   set,
   get_or,
+  length,
   refl,
   ap,
   subst,
+  ◌∙◌,
   arith,
 }
+use Rattle.std.proofs.lemmas.List.{length-set}
 use Rattle.std.specs.Prelude.{option_map, if◌then◌else◌}
+use Rattle.ckd_types.specs.declared.paths.Side.{Side}
+use Rattle.ckd_types.specs.declared.paths.Side.TheVariants.{A, B}
 use Rattle.ckd_types.specs.declared.record.Track.{Track}
 use Rattle.track_image.specs.Image.{Image}
-use Rattle.device_outside.specs.After.{Holdings}
+use Rattle.device_outside.specs.After.{Holdings, with_held}
 use Rattle.device_outside.specs.Both.{Both, both_done, both_try, both_ask, both_free, both_read, both_write, both_tell}
 use Rattle.device_outside.specs.Interaction.{Interaction, Done, and_then}
 use Rattle.device_outside.proofs.BothRules.{first_then}
@@ -69,7 +74,7 @@ some_map f (Some x) = refl
 
 -- Two interactions
 
-both_behind : {R O I S A T B : Type 0} {z : R} {g : O} {q : S → A → T → B → Holdings R → Type 0} {p : S → A → Type 0}
+pub both_behind : {R O I S A T B : Type 0} {z : R} {g : O} {q : S → A → T → B → Holdings R → Type 0} {p : S → A → Type 0}
     (i : Interaction R I S A) (j : Interaction O I T B) (h : Holdings R) → Both z g q i j h → Behind i p →
     Both z g (λ s a m b k. q s a m b k × p s a) i j h
 unfolding A.Behind
@@ -80,6 +85,24 @@ both_behind i j h (both_free o x) c = both_free o (both_behind _ _ _ x (c tt))
 both_behind i j h (both_read x y) c = both_read (both_behind _ _ h x (c None)) (both_behind _ _ h y (c (Some _)))
 both_behind i j h (both_write x y) c = both_write (both_behind _ _ _ x (c true)) (λ v. both_behind _ _ _ (y v) (c false))
 both_behind i j h (both_tell x) c = both_tell (λ r. both_behind _ _ h (x r) (c r))
+
+-- volumes stay as long as they are
+held_long : {R : Type 0} (h : Holdings R) (side : Side) (t : ℕ) (r : R) → (length (with_held h side t r).a ≡ length h.a) × (length (with_held h side t r).b ≡ length h.b)
+held_long h A t r = (length-set h.a t r, refl)
+held_long h B t r = (refl, length-set h.b t r)
+
+pub both_long : {R O I S A T B : Type 0} {z : R} {g : O} {q : S → A → T → B → Holdings R → Type 0} (n m : ℕ)
+    (i : Interaction R I S A) (j : Interaction O I T B) (h : Holdings R) → length h.a ≡ n → length h.b ≡ m → Both z g q i j h →
+    Both z g (λ s a t b k. q s a t b k × ((length k.a ≡ n) × (length k.b ≡ m))) i j h
+both_long n m i j h a b (both_done x) = both_done (x, (a, b))
+both_long n m i j h a b (both_try x y) = both_try (both_long n m _ _ h a b x) (both_long n m _ _ h a b y)
+both_long n m i j h a b (both_ask e x) = both_ask e (λ c may. both_long n m _ _ _ a b (x c may))
+both_long n m i j h a b (both_free o x) = both_free o (both_long n m _ _ _ a b x)
+both_long n m i j h a b (both_read x y) = both_read (both_long n m _ _ h a b x) (both_long n m _ _ h a b y)
+both_long n m i j h a b (both_write {side} {t} {r} x y) =
+    let l = held_long h side t in
+    both_write (both_long n m _ _ _ ((l r).0 ∙ a) ((l r).1 ∙ b) x) (λ v. both_long n m _ _ _ ((l v).0 ∙ a) ((l v).1 ∙ b) (y v))
+both_long n m i j h a b (both_tell x) = both_tell (λ r. both_long n m _ _ h a b (x r))
 
 pub both_weaker : {R O I S A T B : Type 0} {z : R} {g : O} {p q : S → A → T → B → Holdings R → Type 0}
     (i : Interaction R I S A) (j : Interaction O I T B) (h : Holdings R) →

@@ -1,11 +1,12 @@
 -- A command's write leaves all right wherever its edit goes, and the plain volume has the edit where it is done; with its twin on marks.
-use Rattle.std.proofs.Common.{◌≡◌, ◌<◌, not, ℕ, Bool, true, false, List, Option, Some, None, is_some, refl, sym, ap, subst}
+use Rattle.std.proofs.Common.{◌≡◌, ◌<◌, not, ℕ, Bool, true, false, List, Option, Some, None, is_some, refl, sym, ap, subst, ◌⊎◌, inl, inr}
 use Rattle.std.specs.Prelude.{if◌then◌else◌}
 use Rattle.ckd_types.specs.declared.record.Edit.{Edit}
 use Rattle.ckd_types.specs.declared.record.Track.{Track}
 use Rattle.ckd_types.specs.Parameters.{is_bypass}
 use Rattle.ckd_types.specs.Volume.{track_in}
 use Rattle.track_image.specs.Image.{Image, edited_image}
+use Rattle.track_cache.specs.declared.frames.Frame.{Frame}
 use Rattle.nv_store.specs.declared.patches.Stored.{Stored}
 use Rattle.device_outside.specs.Both.{both_try, both_tell, both_free}
 use Rattle.device_outside.specs.Interaction.{Done}
@@ -29,12 +30,41 @@ use Rattle.device_laws.specs.PlainWrites.{SuitsTrack, plain_had}
 use Rattle.device_laws.specs.Twin.{Twins}
 use Rattle.device_laws.proofs.Choices.{Fits, choice_fits}
 use Rattle.device_laws.proofs.FailedCall.{IsWell}
+use Rattle.device_laws.proofs.TrackMarks as M
+use Rattle.device_laws.proofs.TrackMarks.{marks, is_good, track_at}
 use Rattle.device_laws.proofs.TwinAsks.{ask_clean, Ordered}
 use Rattle.device_laws.proofs.TwinChoices.{Chooses, NewBy, choice_mark, choice_twin, clean_same, slots_order}
 use Rattle.device_laws.proofs.TwinFast.{HasPlace, fast_order, fast_twin_is, provisional_order, provisional_twin_is}
 use Rattle.device_laws.proofs.TwinSlots.{may_free_new, unused_slots}
 use Rattle.device_laws.proofs.TwinThrough.{WroteTwin, none_off, through_twin}
 use Rattle.device_laws.proofs.TwinWalks.{twin_done, twin_ends, twin_then, twin_always}
+
+no_patch : (f : Option Bool) (p o v : Bool) → is_good (marks f p false o false v) ≡ true → ((o ≡ true) ⊎ (f ≡ Some false)) → p ≡ false
+no_patch f false o v e c = refl
+no_patch None true true true e c = absurd (cc)
+no_patch None true true false e c = absurd (cc)
+no_patch None true false v e (inl c) = absurd (cc)
+no_patch None true false v e (inr c) = absurd (cc)
+no_patch (Some true) true true true e c = absurd (cc)
+no_patch (Some true) true true false e c = absurd (cc)
+no_patch (Some true) true false v e (inl c) = absurd (cc)
+no_patch (Some true) true false v e (inr c) = absurd (cc)
+no_patch (Some false) true true true e c = absurd (cc)
+no_patch (Some false) true true false e c = absurd (cc)
+no_patch (Some false) true false true e c = absurd (cc)
+no_patch (Some false) true false false e c = absurd (cc)
+
+none_there : {X : Type 0} (o : Option X) → is_some o ≡ false → o ≡ None
+none_there None e = refl
+none_there (Some x) e = absurd (cc)
+
+clean_mark : (f : Option Frame) → is_clean contents f ≡ true → M.frame_mark contents f ≡ Some false
+clean_mark None e = absurd (cc)
+clean_mark (Some f) e = ap Some (not_true f.modified e)
+  where
+    not_true : (b : Bool) → not b ≡ true → b ≡ false
+    not_true true e = absurd (cc)
+    not_true false e = refl
 
 pub record HadTwin (u : List Track) (s : DeviceStore) (t : ℕ) (e : Edit) (v w : List Track) (z : DeviceStore) (a b : Option Took) (k : Held) : Type 0 where
   pub order : Ordered v w z k
@@ -55,6 +85,21 @@ module _ (v w : List Track) (s : DeviceStore) (t : ℕ) (e : Edit) (u : Usage) (
   off : half_is s.half t ≡ false
   off = none_off s.half t none
 
+  clean_there : Fits contents s t Provisional → ((track_at contents s t).loose ≡ true) ⊎ ((track_at contents s t).frame ≡ Some false)
+  unfolding M.track_at
+  clean_there (inl loose) = inl loose
+  clean_there (inr clean) = inr (clean_mark (frame_at s t) clean)
+
+  -- a track that is loose, or has a clean frame, has no patch
+  unpatched : Fits contents s t Provisional → patch_at s t ≡ None
+  unfolding M.track_at
+  unpatched fit =
+      let x = track_at contents s t in
+      none_there (patch_at s t) (no_patch x.frame x.patched x.loose x.level
+      (subst (λ (b : Bool). is_good (marks x.frame x.patched b x.loose false x.level) ≡ true) there
+      (subst (λ (b : Bool). is_good (marks x.frame x.patched x.lost x.loose b x.level) ≡ true) off (well.good t lt)))
+      (clean_there fit))
+
   abbrev Wrotes : List Track → List Track → DeviceStore → Took → Took → Held → Type 0
   Wrotes v' w' z a b k = WroteTwin v s t e v' w' z a b k
 
@@ -74,7 +119,7 @@ module _ (v w : List Track) (s : DeviceStore) (t : ℕ) (e : Edit) (u : Usage) (
   by_choice Provisional k o new fit =
       twin_ends (provisional_twin_is v w s k t e lt there off suits o)
       (record {
-        order = provisional_order v w s k t e lt there off suits o;
+        order = provisional_order v w s k t e lt there off suits o (unpatched fit);
         same = refl;
         plain = refl;
         geometry = geometry_by

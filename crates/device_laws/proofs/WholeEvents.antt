@@ -123,6 +123,7 @@ module _ {F P H R : Type 0} (c : Contents F P H R) (faithful : IsFaithful c) whe
   cut_here s h e origin is here = record {
     free = here.free;
     alone = here.alone;
+    whole = λ e'. absurd (let n = here.whole e' in cc);
     within = λ k f. let same : h.track ≡ k.track = ap track_or f in let lt = half_within s here h is in omega arith;
     queued = here.queued;
   }

@@ -94,7 +94,7 @@ module _ (v w : List Track) (s : DeviceStore) (h : Held) where
   unfolding M.track_at C.rest_of
   begun_well y = record {
     sizes = record { are = y.sizes.are };
-    here = record { free = y.here.free; alone = y.here.alone; within = y.here.within; queued = y.here.queued };
+    here = record { free = y.here.free; alone = y.here.alone; whole = y.here.whole; within = y.here.within; queued = y.here.queued };
     good = y.good;
     kept = y.kept;
   }

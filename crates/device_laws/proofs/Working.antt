@@ -176,18 +176,18 @@ module _ {F P H R : Type 0} (c : Contents F P H R) (faithful : IsFaithful c) whe
   -- A track is written to the volumes
 
   saved_end : (t : ℕ) (s : Store F P H) (i : Image) (d : Did) (fault failed : Option Side) (was_loose : Bool) (took : Took) → t < tracks_of s →
-      IsWell c s → s.half ≡ None → (is_taken took ≡ true → has_level s t ≡ true) → (track_at c s t).loose ≡ false →
+      IsWell c s → s.half ≡ None → (is_taken took ≡ true → has_level s t ≡ true) → (took ≡ Opened → s.b.up ≡ true) → (track_at c s t).loose ≡ false →
       Always (saved_by c t i d fault was_loose failed s took) (λ y _. Keeps c faithful s y)
-  saved_end t s i d fault failed was_loose Whole lt w none level firm =
+  saved_end t s i d fault failed was_loose Whole lt w none level up firm =
       let v = level_mark s t (level refl) in
       always_then (write_done_keeps_good c faithful t s s lt (opens c s t lt w).others (level_is_there (track_at c s t) (w.good t lt) v) firm i false v)
       (λ y _ g. always_done (goes_keeps c faithful s y g))
-  saved_end t s i d fault failed was_loose Opened lt w none level firm =
+  saved_end t s i d fault failed was_loose Opened lt w none level up firm =
       let v = level_mark s t (level refl) in
       always_then (opened_keeps_good c faithful t s s i OfBackground was_loose lt (opens c s t lt w).others none
-      (level_is_there (track_at c s t) (w.good t lt) v) firm)
+      (level_is_there (track_at c s t) (w.good t lt) v) firm (up refl))
       (λ y _ g. always_done g)
-  saved_end t s i d fault failed was_loose Unwritten lt w none level firm = always_done (goes_keeps c faithful s s (stays c s w))
+  saved_end t s i d fault failed was_loose Unwritten lt w none level up firm = always_done (goes_keeps c faithful s s (stays c s w))
 
   saving_keeps : (t : ℕ) (s : Store F P H) (i : Image) (d : Did) (fault : Option Side) → t < tracks_of s → IsWell c s → s.half ≡ None →
       (track_at c s t).lost ≡ false → Always (saving c s t i d fault) (λ y _. Keeps c faithful s y)
@@ -196,7 +196,7 @@ module _ {F P H R : Type 0} (c : Contents F P H R) (faithful : IsFaithful c) whe
       (λ z was_loose f. let below : t < tracks_of z = let same = f.goes.tracks in omega arith in
       always_then (write_first_keeps_good c faithful t z below (f.lost ∙ there) (c.bytes i) f.goes.well)
       (λ y v g. let all = goes_on c s z y f.goes g.goes in
-      always_weaker (saved_end t y i d fault v.fault was_loose v.took (let same = all.tracks in omega arith) g.goes.well (all.half ∙ none) g.level
+      always_weaker (saved_end t y i d fault v.fault was_loose v.took (let same = all.tracks in omega arith) g.goes.well (all.half ∙ none) g.level g.opens
       (g.goes.firm t below f.loose))
       (λ x _ h. keeps_on c faithful s y x (goes_keeps c faithful s y all) h)))
 
@@ -321,7 +321,7 @@ module _ {F P H R : Type 0} (c : Contents F P H R) (faithful : IsFaithful c) whe
   queue_goes s l below w = record {
     well = record {
       sizes = record { are = w.sizes.are };
-      here = record { free = w.here.free; alone = w.here.alone; within = w.here.within; queued = below };
+      here = record { free = w.here.free; alone = w.here.alone; whole = w.here.whole; within = w.here.within; queued = below };
       good = w.good;
       kept = w.kept;
     };

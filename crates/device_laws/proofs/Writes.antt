@@ -115,6 +115,7 @@ module _ {F P H R : Type 0} (c : Contents F P H R) (faithful : IsFaithful c) whe
   pub record Written (t : ℕ) (s z : Store F P H) (took : Took) : Type 0 where
     pub goes : Goes c s z
     pub level : is_taken took ≡ true → has_level z t ≡ true
+    pub opens : took ≡ Opened → z.b.up ≡ true
 
   counted_same : (s : Store F P H) (ok : Bool) → HasSizes s → IsSame c s (write_counted s ok)
   unfolding M.track_at C.rest_of
@@ -206,10 +207,10 @@ module _ {F P H R : Type 0} (c : Contents F P H R) (faithful : IsFaithful c) whe
 
     alone_by : (fault : Option Side) (first : Side) (z : Store F P H) (ok : Bool) → Open c t s z → z.b.up ≡ true →
         Always (alone_b c t fault first z ok) (λ y w. Written t s y w.took)
-    alone_by fault first z true o up = let f = b_took z o up in always_done (record { goes = f.goes; level = λ e. f.level })
+    alone_by fault first z true o up = let f = b_took z o up in always_done (record { goes = f.goes; level = λ e. f.level; opens = λ e. absurd (cc) })
     alone_by fault first z false o up =
         always_then (failed_write_keeps_others c faithful t s z B lt o)
-        (λ y _ f. always_done (record { goes = unwritten_goes y f.still; level = λ e. absurd (cc) }))
+        (λ y _ f. always_done (record { goes = unwritten_goes y f.still; level = λ e. absurd (cc); opens = λ e. absurd (cc) }))
 
     alone : (r : R) (fault : Option Side) (first : Side) (z : Store F P H) → Open c t s z → z.b.up ≡ true →
         Always (write_side c z B t r (alone_b c t fault first)) (λ y w. Written t s y w.took)
@@ -218,10 +219,18 @@ module _ {F P H R : Type 0} (c : Contents F P H R) (faithful : IsFaithful c) whe
     a_failed : (r : R) (takes : Bool) (z : Store F P H) → Open c t s z → (takes ≡ true → z.b.up ≡ true) →
         Always (failed_a c t r takes z) (λ y w. Written t s y w.took)
     a_failed r true z o up = alone r (Some A) A z o (up refl)
-    a_failed r false z o up = always_done (record { goes = unwritten_goes z o; level = λ e. absurd (cc) })
+    a_failed r false z o up = always_done (record { goes = unwritten_goes z o; level = λ e. absurd (cc); opens = λ e. absurd (cc) })
+
+    b_still : (z : Store F P H) (b : Bool) → (if b then with_stale (with_stale z A t false) B t true else with_stale z A t false).b.up ≡ z.b.up
+    b_still z true = refl
+    b_still z false = refl
+
+    opens_by : (z : Store F P H) (b : Bool) → takes_b z ≡ b → (if b then Opened else Whole) ≡ Opened → (taken_a z t).b.up ≡ true
+    opens_by z true e f = b_still z z.b.up ∙ and_left z.b.up _ e
+    opens_by z false e f = absurd (cc)
 
     a_by : (r : R) (z : Store F P H) (ok : Bool) → Open c t s z → z.a.up ≡ true → Always (first_a c t r z ok) (λ y w. Written t s y w.took)
-    a_by r z true o up = let f = a_took z o up in always_done (record { goes = f.goes; level = λ e. f.level })
+    a_by r z true o up = let f = a_took z o up in always_done (record { goes = f.goes; level = λ e. f.level; opens = opens_by z (takes_b z) refl })
     a_by r z false o up =
         always_then (failed_write_keeps_others c faithful t s z A lt o)
         (λ y _ f. a_failed r (takes_b z) y f.still (λ e. f.up refl ∙ and_left z.b.up _ e))
@@ -230,7 +239,7 @@ module _ {F P H R : Type 0} (c : Contents F P H R) (faithful : IsFaithful c) whe
         Always (if b then write_side c s B t r (alone_b c t None B) else Done (settled c s t) (wrote Unwritten None)) (λ y w. Written t s y w.took)
     b_first r true takes w = alone r None B s (opens c s t lt w) (and_left s.b.up _ takes)
     b_first r false takes w =
-        always_done (record { goes = settled_goes c faithful t s s lt (opens c s t lt w) (λ h. there); level = λ e. absurd (cc) })
+        always_done (record { goes = settled_goes c faithful t s s lt (opens c s t lt w) (λ h. there); level = λ e. absurd (cc); opens = λ e. absurd (cc) })
 
     a_first : (r : R) (b : Bool) → s.a.up ≡ b → IsWell c s →
         Always (if b then write_side c s A t r (first_a c t r)

@@ -5,20 +5,36 @@ use Rattle.ckd_types.specs.declared.record.Track.{Track}
 use Rattle.ckd_types.specs.Volume.{IsVolume, track_in}
 use Rattle.track_image.specs.Image.{Image}
 use Rattle.nv_store.specs.declared.patches.Stored.{Stored}
-use Rattle.nv_store.specs.Patch.{IsPatch}
+use Rattle.nv_store.specs.Patch.{IsPatch, applied}
 use Rattle.device_outside.specs.After.{Holdings, holds_of}
 use Rattle.device_outside.specs.Lists.{is_in}
 use Rattle.device_defs.specs.Between.{HasSizes}
 use Rattle.device_defs.specs.Contents.{contents}
 use Rattle.device_defs.specs.Losses.{slot_in}
 use Rattle.device_defs.specs.Sound.{DeviceStore, IsHeld}
-use Rattle.device_defs.specs.Store.{tracks_of, side_of, patch_at, is_loose, half_is, owed_at}
+use Rattle.device_defs.specs.Store.{Origin, OfCommand, OfCut, OfBackground, tracks_of, side_of, patch_at, is_loose, half_is, owed_at}
 
 abbrev pub Held : Type 0
 Held = Holdings (List ℕ)
 
 abbrev pub image_in : DeviceStore → List Track → ℕ → Image
 image_in s v t = record { geometry = s.geometry; track = track_in v t }
+
+-- Patches
+
+-- a patch changes nothing of this image
+abbrev pub PatchHas : Option Stored → Image → Type 0
+PatchHas o i = (p : Stored) → o ≡ Some p → applied p.patch i ≡ Some i
+
+-- of a track as it is plainly, and as it is without data of cache fast write
+abbrev pub PatchFits : Option Stored → Image → Image → Type 0
+PatchFits o plain firm = PatchHas o plain × PatchHas o firm
+
+-- of the track of an open half write. Once its command is cut, the patch counts for nothing
+abbrev pub PatchOf : Origin → Option Stored → Image → Type 0
+PatchOf (OfCommand bypass e) o i = PatchHas o i
+PatchOf (OfCut bypass) o i = Unit {0}
+PatchOf OfBackground o i = PatchHas o i
 
 -- Slots
 

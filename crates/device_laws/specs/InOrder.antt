@@ -3,19 +3,25 @@ use Rattle.std.specs.Prelude.{◌≡◌, ◌≢◌, ◌<◌, ℕ, Bool, true, fa
 use Rattle.ckd_types.specs.declared.paths.Side.{Side}
 use Rattle.ckd_types.specs.declared.record.Edit.{Edit}
 use Rattle.ckd_types.specs.declared.record.Track.{Track}
+use Rattle.ckd_types.specs.Volume.{track_in}
 use Rattle.track_image.specs.Image.{Image}
 use Rattle.device_defs.specs.declared.answers.Took.{Took}
 use Rattle.device_defs.specs.Contents.{contents}
 use Rattle.device_defs.specs.Image.{Imaged, Has, BadTrack}
 use Rattle.device_defs.specs.Sound.{DeviceStore, has_sound_marks}
-use Rattle.device_defs.specs.Store.{Origin, HalfWrite, tracks_of, has_level, is_lost, has_loose, owed_at}
-use Rattle.device_laws.specs.Agrees.{Held, image_in, Agrees}
-use Rattle.device_laws.specs.PlainWrites.{plain_had, plain_second}
+use Rattle.device_defs.specs.Store.{Origin, HalfWrite, tracks_of, has_level, patch_at, is_lost, has_loose, half_is, owed_at}
+use Rattle.device_laws.specs.Agrees.{Held, image_in, PatchFits, PatchOf, Agrees}
+use Rattle.device_laws.specs.PlainWrites.{OriginSuits, plain_had, plain_second}
 
 -- each of these is one of the first n
 abbrev pub AreBelow : ℕ → List ℕ → Type 0
 AreBelow n [] = Unit {0}
 AreBelow n (t ∷ ts) = (t < n) × AreBelow n ts
+
+-- of an open half write: a command's edit suits its track, and what the patch of that is good for
+pub record IsOpen (v : List Track) (s : DeviceStore) (i : HalfWrite Image) : Type 0 where
+  pub suits : OriginSuits s.geometry (track_in v i.track) i.origin
+  pub patch : PatchOf i.origin (patch_at s i.track) (image_in s v i.track)
 
 -- it isn't lent, its marks are sound, it holds what it should, and the keeper was told all
 pub record IsInOrder (v w : List Track) (s : DeviceStore) (h : Held) : Type 0 where
@@ -23,11 +29,14 @@ pub record IsInOrder (v w : List Track) (s : DeviceStore) (h : Held) : Type 0 wh
   pub told : (t : ℕ) → (owed_at s t).firm ≡ false
   pub free : is_some s.lent ≡ false
   pub alone : s.paired ≡ false → s.b.up ≡ false
+  pub whole : s.paired ≡ false → s.half ≡ None
   pub marks : (t : ℕ) → t < tracks_of s → has_sound_marks contents s t ≡ true
   pub queued : AreBelow (tracks_of s) s.queue
   pub nowhere : (t : ℕ) → t < tracks_of s → is_lost s t ≡ true → has_level s t ≡ false
   pub within : (i : HalfWrite Image) → s.half ≡ Some i → i.track < tracks_of s
   pub there : (i : HalfWrite Image) → s.half ≡ Some i → is_lost s i.track ≡ false
+  pub patched : (t : ℕ) → t < tracks_of s → is_lost s t ≡ false → half_is s.half t ≡ false → PatchFits (patch_at s t) (image_in s v t) (image_in s w t)
+  pub opened : (i : HalfWrite Image) → s.half ≡ Some i → IsOpen v s i
 
 -- the plain volume behind the loss of the cache: without data of cache fast write, where there are some
 abbrev pub plain_lost : DeviceStore → List Track → List Track → List Track

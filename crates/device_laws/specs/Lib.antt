@@ -7,3 +7,6 @@ pub mod NewDevice
 pub mod Standing
 pub mod Whole
 pub mod Places
+pub mod Handed
+pub mod Lent
+pub mod Unharmed

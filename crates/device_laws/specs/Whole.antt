@@ -1,5 +1,5 @@
 -- A whole device beside the device of a run: what an event leaves of both.
-use Rattle.std.specs.Prelude.{◌≡◌, ◌⊎◌, ℕ, Bool, true, List, [], Option, None, Some}
+use Rattle.std.specs.Prelude.{◌≡◌, ◌⊎◌, ℕ, Bool, true, false, List, [], Option, None, Some}
 use Rattle.ckd_types.specs.declared.paths.Side.{Side}
 use Rattle.ckd_types.specs.declared.paths.Side.TheVariants as sides
 use Rattle.ckd_types.specs.declared.record.Track.{Track}
@@ -18,7 +18,7 @@ use Rattle.device_outside.specs.Told.{Told, hold}
 use Rattle.device_defs.specs.Device.{Device}
 use Rattle.device_defs.specs.Marks.{MarksDevice, marks_of}
 use Rattle.device_defs.specs.Sound.{DeviceStore}
-use Rattle.device_defs.specs.Store.{HalfWrite}
+use Rattle.device_defs.specs.Store.{HalfWrite, has_loose}
 use Rattle.loss_model.specs.declared.Loss.{Loss}
 use Rattle.loss_model.specs.declared.Loss.TheVariants as losses
 use Rattle.device_laws.specs.Agrees.{Held}
@@ -87,6 +87,10 @@ BehindLoss u (losses.Side side) v = v ≡ u
 -- behind a reset: as it was, or with the edit of a half write that counts as done
 abbrev pub BehindReset : List Track → Option (HalfWrite Image) → List Track → Type 0
 BehindReset u half v = (v ≡ u) ⊎ (v ≡ plain_cut half u)
+
+-- behind a loss of power, where there are no data of cache fast write: as behind what cuts the program
+abbrev pub BehindPower : List Track → DeviceStore → List Track → Type 0
+BehindPower u s v = has_loose s ≡ false → v ≡ plain_cut s.half u
 
 -- what the sides hold once one of them has this volume
 abbrev pub holding : Held → Side → List (List ℕ) → Held

@@ -2,6 +2,8 @@
 #![tactic(auto)]
 
 mod contents;
+mod keeping;
+mod losses;
 mod placeless;
 mod runs;
 mod transfers;
@@ -12,14 +14,21 @@ pub use contents::{
     lost_side_leaves_order, lost_store_leaves_order, new_device_is_in_order, notices_leave_order,
     order_is_on_device, second_part_is_plain, work_is_plain, write_is_plain,
 };
+pub use keeping::{
+    pool_is_told_waiting, run_tells_waiting, told_device_has_no_bad_bytes, turn_keeps_pledge,
+};
+pub use losses::{
+    calm_command_checks_nothing, loose_losses_are_counted, lost_list_grows_where_calls_fail,
+    order_has_good_marks, unharmed_device_loses_no_track,
+};
 pub use placeless::{
     new_device_has_nothing, placeless_background_is_step, placeless_command_is_step,
     placeless_loss_is_step, placeless_power_is_step, placeless_reset_is_step,
     placeless_second_is_step, placeless_start,
 };
 pub use runs::{
-    background_is_step, command_is_step, loss_is_step, orders_leave_order, reset_is_step,
-    second_is_step, start_is_step,
+    background_is_step, command_is_step, loss_is_step, orders_leave_order, power_is_step,
+    reset_is_step, second_is_step, start_is_step,
 };
 pub use transfers::{
     cache_writes_move_nothing, image_reads_sides, losses_move_nothing, work_moves_sides,

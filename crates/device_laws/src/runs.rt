@@ -15,7 +15,7 @@ ghost use Rattle.device_defs.specs.declared.answers.SecondEnd.{SecondEnd};
 ghost use Rattle.device_defs.specs.declared.answers.Stepped.{Stepped};
 ghost use Rattle.device_defs.specs.Command.{command};
 ghost use Rattle.device_defs.specs.Contents.{contents, by_plain};
-ghost use Rattle.device_defs.specs.Cutting.{reset};
+ghost use Rattle.device_defs.specs.Cutting.{reset, power};
 ghost use Rattle.device_defs.specs.Events.{second, background, lose};
 ghost use Rattle.device_defs.specs.Start.{start_fault, start};
 ghost use Rattle.device_defs.specs.Orders.{join, split, replace};
@@ -23,7 +23,7 @@ ghost use Rattle.device_defs.specs.Store.{tracks_of, side_of, stale_at};
 ghost use Rattle.device_laws.specs.Agrees.{Held};
 ghost use Rattle.device_laws.specs.InOrder.{IsInOrder};
 ghost use Rattle.device_laws.specs.Standing.{RunsOn};
-ghost use Rattle.device_laws.specs.Whole.{WholeDevice, marks_device, holding, IsStep, HalfSuits, BehindCommand, BehindSecond, BehindLoss, BehindReset};
+ghost use Rattle.device_laws.specs.Whole.{WholeDevice, marks_device, holding, IsStep, BehindCommand, BehindSecond, BehindLoss, BehindReset, BehindPower};
 ghost use Rattle.loss_model.specs.declared.Loss.{Loss};
 
 use device_outside::Keep;
@@ -48,7 +48,7 @@ pub fn command_is_step<K: Keep<TrackImage>>()
 /// The second part of an open half write.
 pub fn second_is_step<K: Keep<TrackImage>>()
     ensures { (v w : List Track) (d : WholeDevice) (h : Held) (others : List ℕ) (t : Told) (u z : Outside (List ℕ) K) (e : WholeDevice) (a : SecondEnd) →
-        IsInOrder v w d.store h → HalfSuits v d.store →
+        IsInOrder v w d.store h →
         Ran (λ ok. ok ≡ true) K.hears (second contents d) u e a z → TellsAll others u h t →
         IsStep (BehindSecond v d.store.half) others (second by_plain (marks_device v w d)) t e a z }
 {}
@@ -72,9 +72,17 @@ pub fn loss_is_step<K: Keep<TrackImage>>()
 /// The reset of a path.
 pub fn reset_is_step<K: Keep<TrackImage>>()
     ensures { (v w : List Track) (d : WholeDevice) (h : Held) (others : List ℕ) (t : Told) (u z : Outside (List ℕ) K) (e : WholeDevice) (a : Unit {0}) (path : ℕ) →
-        IsInOrder v w d.store h → HalfSuits v d.store →
+        IsInOrder v w d.store h →
         Ran (λ ok. ok ≡ true) K.hears (reset contents d path) u e a z → TellsAll others u h t →
         IsStep (BehindReset v d.store.half) others (reset by_plain (marks_device v w d) path) t e a z }
+{}
+
+/// A loss of power.
+pub fn power_is_step<K: Keep<TrackImage>>()
+    ensures { (v w : List Track) (d : WholeDevice) (h : Held) (others : List ℕ) (t : Told) (u z : Outside (List ℕ) K) (e : WholeDevice) (a : Unit {0}) →
+        IsInOrder v w d.store h →
+        Ran (λ ok. ok ≡ true) K.hears (power contents d) u e a z → TellsAll others u h t →
+        IsStep (BehindPower v d.store) others (power by_plain (marks_device v w d)) t e a z }
 {}
 
 /// Orders that give a side another volume, as many tracks long as the device, or take side B away.
@@ -85,7 +93,7 @@ pub fn orders_leave_order()
     ensures joined { (v w : List Track) (d : WholeDevice) (h : Held) (l : List (List ℕ)) → IsInOrder v w d.store h → d.store.paired ≡ false →
         length l ≡ tracks_of d.store →
         IsInOrder v w (join d).store (holding h B l) × (marks_device v w (join d) ≡ join (marks_device v w d)) }
-    ensures split { (v w : List Track) (d : WholeDevice) (h : Held) → IsInOrder v w d.store h → d.store.a.up ≡ true →
+    ensures split { (v w : List Track) (d : WholeDevice) (h : Held) → IsInOrder v w d.store h → d.store.half ≡ None → d.store.a.up ≡ true →
         ((q : ℕ) → q < tracks_of d.store → stale_at d.store.a q ≡ false) →
         IsInOrder v w (split d).store h × (marks_device v w (split d) ≡ split (marks_device v w d)) }
 {}

@@ -8,8 +8,6 @@ mod gate;
 mod keep;
 mod memory;
 mod port;
-#[cfg(test)]
-mod tests;
 mod tracks;
 mod volume;
 

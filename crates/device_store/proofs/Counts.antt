@@ -3,7 +3,11 @@ use Rattle.std.proofs.Common.{◌≡◌, ◌+◌, ◌≤◌, ℕ, zero, suc, Boo
 use Rattle.std.specs.Prelude.{if◌then◌else◌, slice_index_or}
 use Rattle.track_table.specs.Tracks as tracks
 use Rattle.track_table.specs.Tracks.{count_below}
-use Rattle.device_store.proofs.Bare.{none_below}
+
+none_below : (n : ℕ) (f : ℕ → Bool) → ((t : ℕ) → f t ≡ false) → count_below n f ≡ 0
+unfolding tracks.count_below
+none_below zero f none = refl
+none_below (suc n) f none = rw (none n) (let before = none_below n f none in omega (arith, before))
 
 pub count_none : (f : ℕ → Bool) → 0 ≡ count_below 0 f
 unfolding tracks.count_below

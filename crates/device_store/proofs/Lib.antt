@@ -1,7 +1,13 @@
-pub mod Bare
 pub mod Moves
 pub mod Hearings
 pub mod Queues
 pub mod Counts
 pub mod Losing
-pub mod Staging
+pub mod Looks
+pub mod Telling
+pub mod Loosely
+pub mod Sweeps
+pub mod Loosed
+pub mod Firming
+pub mod Firmly
+pub mod Writes

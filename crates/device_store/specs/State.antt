@@ -8,22 +8,17 @@ use Rattle.device_outside.specs.Keeper.{Hearing}
 use Rattle.device_outside.specs.Outside.{PortView, Outside, Ran}
 use Rattle.device_outside.specs.Volume.{VolumeView}
 use Rattle.device_outside.specs.Interaction.{Interaction}
-use Rattle.device_defs.specs.Image.{Imaged, Has, NoBytes, BadTrack, Got, got}
+use Rattle.device_defs.specs.Image.{Got, got}
 use Rattle.device_defs.specs.declared.answers.Took.TheVariants.{Whole, Unwritten}
 use Rattle.device_defs.specs.Marks.{no_counts}
-use Rattle.device_defs.specs.Store.{Store, new_side, no_side}
+use Rattle.device_defs.specs.Store.{Store, new_side, no_side, no_debt}
 use Rattle.ckd_types.specs.declared.geometry.Geometry.{Geometry}
 use Rattle.device_defs.specs.Writing.{Wrote, wrote}
 use Rattle.device_store.specs.declared.image.Given.{Given}
-use Rattle.device_store.specs.declared.write.Written.{Written}
+use Rattle.device_store.specs.declared.through.Written.{Written}
 use Rattle.device_store.specs.declared.store.DeviceStore.{DeviceStore}
-use Rattle.device_store.specs.declared.store.Looked.{Looked}
-use Rattle.device_store.specs.declared.store.Looked.TheVariants as looks
-use Rattle.device_store.specs.declared.store.Peeked as answers
-use Rattle.device_store.specs.declared.store.Peeked.TheVariants as peeks
-use Rattle.device_defs.specs.Peek.{Peeked, Track, Lost, Fault, BadBytes}
 
--- no track has a place for a frame or a patch, and there is no side B
+-- there is no side B
 abbrev pub state_of : {V : Type 0} {G : Ghosts V} → DeviceStore V G → Store Frame Stored Image
 state_of s = record {
   device = s.number;
@@ -35,16 +30,16 @@ state_of s = record {
   held = false;
   a = record { up = s.up; stale = s.stale.items };
   b = no_side (s.cylinders * 15);
-  frames = [];
-  patches = [];
+  frames = s.frames;
+  patches = s.patches;
   lost = s.lost;
-  loose = [];
+  loose = s.loose.loose;
   queue = s.queue;
   half = None;
   plain = [];
   firm = [];
-  acts = [];
-  owed = [];
+  acts = s.loose.acts;
+  owed = s.owed;
   counts = s.counts;
 }
 
@@ -63,16 +58,16 @@ opened_store d g cylinders = record {
   held = false;
   a = new_side (cylinders * 15) false;
   b = no_side (cylinders * 15);
-  frames = [];
-  patches = [];
+  frames = replicate (cylinders * 15) None;
+  patches = replicate (cylinders * 15) None;
   lost = replicate (cylinders * 15) false;
-  loose = [];
+  loose = replicate (cylinders * 15) false;
   queue = [];
   half = None;
   plain = [];
   firm = [];
   acts = [];
-  owed = [];
+  owed = replicate (cylinders * 15) no_debt;
   counts = no_counts;
 }
 
@@ -93,17 +88,6 @@ had view (Ok x) = Some (view x)
 had view (Err e) = None
 
 -- Views of answers
-
-abbrev pub imaged : Looked → Imaged
-imaged (looks.Has i) = Has i
-imaged (looks.NoBytes fault) = NoBytes fault
-imaged (looks.BadTrack side) = BadTrack side
-
-abbrev pub peeked_by : answers.Peeked → Peeked
-peeked_by (peeks.Track image) = Track image
-peeked_by peeks.Lost = Lost
-peeked_by (peeks.Fault side) = Fault side
-peeked_by (peeks.BadBytes side) = BadBytes side
 
 -- bytes that were given are in the buffer
 abbrev pub got_by : List ℕ → Given → Got (List ℕ)

@@ -1,18 +1,18 @@
-ghost use Rattle.std.specs.Prelude.{◌≡◌, ◌<◌, ◌*◌, IfSome, Some, drop, slice_get, true};
+ghost use Rattle.std.specs.Prelude.{◌≡◌, ◌<◌, ◌≤◌, ◌*◌, IfSome, drop, slice_get};
 ghost use Rattle.device_outside.specs.Outside.{Ran, where_ok};
-ghost use Rattle.device_defs.specs.Background.{did, granted, stage, staged_bytes, work};
+ghost use Rattle.device_defs.specs.Background.{did, stage_first, work};
 ghost use Rattle.device_defs.specs.Contents.{contents};
-ghost use Rattle.device_store.specs.State.{state_of, outside, had, got_by};
+ghost use Rattle.event_notes.specs.Loose.{weight};
+ghost use Rattle.device_store.specs.State.{state_of, outside, Takes, had};
 
 use crate::DeviceStore;
-use crate::image::Given;
 use ckd_types::{NoMemory, Side, TrackNo};
 use device_defs::Did;
-use device_outside::{Grant, Keep, Port, Volume};
+use device_outside::{Keep, Port, Volume};
 use track_image::TrackImage;
 
 /// Work in which a call failed is a fault.
-fn did(fault: Option<Side>, work: Did) -> Did
+pub(crate) fn did(fault: Option<Side>, work: Did) -> Did
     ensures { result ≡ did fault work }
 {
     match fault {
@@ -22,70 +22,11 @@ fn did(fault: Option<Side>, work: Did) -> Did
 }
 
 impl<V: Volume> DeviceStore<V> {
-    /// The bytes of a track to stage are in the buffer. A frame that isn't filled is given back; one that is has no place here.
-    fn stage_bytes<P: Port, K: Keep<TrackImage>>(
-        &self,
-        t: TrackNo,
-        given: Given,
-        port: &mut P,
-    ) -> Result<Did, NoMemory>
-        ensures run { (k : K) → Ran (where_ok result) K.hears (staged_bytes contents t (state_of self.now) (got_by self.now.buffer given) (Some self.now.buffer)) (outside (P.view port.old) self.now k) (state_of self.now) (had (λ did. did) result) (outside (P.view port.new) self.now k) }
-    {
-        match self.image_of(t) {
-            Err(NoMemory) => {
-                port.drop_frame(self.number, t);
-                Err(NoMemory)
-            }
-            Ok(None) => {
-                port.drop_frame(self.number, t);
-                Ok(did(given.fault, Did::BadBytes(given.side)))
-            }
-            Ok(Some(_)) => Ok(did(given.fault, Did::Staged(t))),
-        }
-    }
-
-    /// A track to stage got a frame, and is read.
-    fn stage_granted<P: Port, K: Keep<TrackImage>>(
-        &mut self,
-        t: TrackNo,
-        port: &mut P,
-    ) -> Result<Did, NoMemory>
-        requires { t < self.old.cylinders * 15 }
-        ensures fixed { (self.new.number ≡ self.old.number) × (self.new.cylinders ≡ self.old.cylinders) }
-        ensures run { (k : K) → Ran (where_ok result) K.hears (granted contents (state_of self.old) t true) (outside (P.view port.old) self.old k) (state_of self.new) (had (λ did. did) result) (outside (P.view port.new) self.new k) }
-    {
-        let got = self.level_bytes::<K>(t);
-        if got.given {
-            return self.stage_bytes::<P, K>(t, got, port);
-        }
-        port.drop_frame(self.number, t);
-        Ok(did(got.fault, Did::Nothing))
-    }
-
-    /// Stages a track, unless it is lost or gets no frame.
-    fn stage<P: Port, K: Keep<TrackImage>>(
-        &mut self,
-        t: TrackNo,
-        port: &mut P,
-    ) -> Result<Did, NoMemory>
-        requires { t < self.old.cylinders * 15 }
-        ensures fixed { (self.new.number ≡ self.old.number) × (self.new.cylinders ≡ self.old.cylinders) }
-        ensures run { (k : K) → Ran (where_ok result) K.hears (stage contents (state_of self.old) t) (outside (P.view port.old) self.old k) (state_of self.new) (had (λ did. did) result) (outside (P.view port.new) self.new k) }
-    {
-        if self.lost.has(t) {
-            return Ok(Did::Skipped(t));
-        }
-        match port.want_frame(self.number, t) {
-            Err(NoMemory) => Err(NoMemory),
-            Ok(Grant::Denied) => Ok(Did::Skipped(t)),
-            Ok(Grant::Given) => self.stage_granted::<P, K>(t, port),
-        }
-    }
-
     /// Takes the oldest queued track.
     fn next_queued(&mut self) -> Option<TrackNo>
         ensures fixed { (self.new.number ≡ self.old.number) × (self.new.cylinders ≡ self.old.cylinders) }
         ensures volume { self.new.volume ≡ self.old.volume }
+        ensures loose { self.new.loose ≡ self.old.loose }
         ensures here { IfSome result (λ t. t < self.old.cylinders * 15) }
         ensures oldest { result ≡ slice_get self.old.queue 0 }
         ensures state { state_of self.new ≡ record (state_of self.old) { queue = drop 1 self.old.queue } }
@@ -93,18 +34,43 @@ impl<V: Volume> DeviceStore<V> {
         self.queue.next()
     }
 
-    /// What it does by itself: no track waits, none is copied, and none is destaged, so that it stages the oldest queued track.
-    /// After want of memory that track isn't queued any more.
+    /// Stages the oldest queued track, or else destages one. After want of memory that track isn't queued any more.
+    fn stage_or_destage<P: Port, K: Keep<TrackImage>>(
+        &mut self,
+        port: &mut P,
+        keep: &mut K,
+    ) -> Result<Did, NoMemory>
+        requires takes { Takes K.takes keep.old self.old.number (self.old.cylinders * 15) }
+        ensures fixed { (self.new.number ≡ self.old.number) × (self.new.cylinders ≡ self.old.cylinders) }
+        ensures weight { weight self.new.loose ≡ weight self.old.loose }
+        ensures takes { Takes K.takes keep.new self.new.number (self.new.cylinders * 15) }
+        ensures run { Ran (where_ok result) K.hears (stage_first contents (state_of self.old) self.old.queue) (outside (P.view port.old) self.old keep.old) (state_of self.new) (had (λ did. did) result) (outside (P.view port.new) self.new keep.new) }
+    {
+        match self.next_queued() {
+            Some(t) => self.stage::<P, K>(t, port),
+            None => match self.to_destage() {
+                Some(t) => Ok(self.save_frame(t, Did::Destaged(t), port, keep)),
+                None => Ok(Did::Nothing),
+            },
+        }
+    }
+
+    /// What it does by itself: it recovers a track, stages one or destages one, the first of these that there is to do. None is
+    /// copied, as there is one volume.
     pub fn background<P: Port, K: Keep<TrackImage>>(
         &mut self,
         port: &mut P,
+        keep: &mut K,
     ) -> Result<Did, NoMemory>
+        requires takes { Takes K.takes keep.old self.old.number (self.old.cylinders * 15) }
         ensures fixed { (self.new.number ≡ self.old.number) × (self.new.cylinders ≡ self.old.cylinders) }
-        ensures run { (k : K) → Ran (where_ok result) K.hears (work contents (state_of self.old)) (outside (P.view port.old) self.old k) (state_of self.new) (had (λ did. did) result) (outside (P.view port.new) self.new k) }
+        ensures weight { weight self.new.loose ≡ weight self.old.loose }
+        ensures takes { Takes K.takes keep.new self.new.number (self.new.cylinders * 15) }
+        ensures run { Ran (where_ok result) K.hears (work contents (state_of self.old)) (outside (P.view port.old) self.old keep.old) (state_of self.new) (had (λ did. did) result) (outside (P.view port.new) self.new keep.new) }
     {
-        match self.next_queued() {
-            None => Ok(Did::Nothing),
-            Some(t) => self.stage::<P, K>(t, port),
+        match self.to_recover() {
+            Some(t) => self.recover(t, port, keep),
+            None => self.stage_or_destage(port, keep),
         }
     }
 }

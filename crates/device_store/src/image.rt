@@ -1,9 +1,13 @@
-ghost use Rattle.std.specs.Prelude.{◌≡◌, ◌<◌, ◌*◌, IfOk, IfSome, None, Some};
+ghost use Rattle.std.specs.Option.{option_copied};
+ghost use Rattle.std.specs.Prelude.{◌≡◌, ◌<◌, ◌*◌, IfOk, IfSome, None, Some, false, is_some, true};
 ghost use Rattle.device_outside.specs.Outside.{PortView, Ran, where_ok};
 ghost use Rattle.device_defs.specs.Contents.{contents};
-ghost use Rattle.device_defs.specs.Image.{loads, is_sequential, queued, ahead, image_of, level_bytes, loaded, missed, got, image};
-ghost use Rattle.device_store.specs.State.{state_of, outside, surely, Takes, had, imaged, got_by};
-ghost use Rattle.device_store.specs.declared.store.Looked.TheVariants as looks;
+ghost use Rattle.ckd_types.specs.Parameters.{is_bypass};
+ghost use Rattle.device_defs.specs.Image.{loads, is_sequential, queued, ahead, image_of, level_bytes, loaded, miss, missed, got, image};
+ghost use Rattle.device_defs.specs.Store.{frame_at};
+ghost use Rattle.device_store.specs.Looks.{imaged, IsThere, applied_by, clean_by};
+ghost use Rattle.device_store.specs.State.{state_of, outside, surely, Takes, had, got_by};
+ghost use Rattle.track_cache.specs.Frames.{is_modified};
 
 use crate::marks::count_read;
 use crate::{DeviceStore, Looked};
@@ -11,6 +15,8 @@ use ckd_outside::Failed;
 use ckd_types::{Mode, NoMemory, Side, TrackNo};
 use device_defs::Usage;
 use device_outside::{Grant, Keep, Port, Volume};
+use nv_store::{ApplyFault, Patch};
+use std::alloc::Global;
 use track_image::{BytesFault, TrackImage};
 
 /// What the level sides gave: whether bytes, which are then in the buffer, the side that was read last, and the first that failed.
@@ -39,11 +45,41 @@ fn is_sequential(mode: Mode) -> bool
     }
 }
 
+pub(crate) fn is_bypass(mode: Mode) -> bool
+    ensures { result ≡ is_bypass mode }
+{
+    match mode {
+        Mode::Bypass => true,
+        Mode::Normal | Mode::Sequential | Mode::InhibitLoad => false,
+    }
+}
+
+/// An image with the patch that is held, made in place. There is none where the patch is unfit for it.
+fn patched(
+    alloc: Global,
+    patch: Option<&Patch>,
+    image: TrackImage,
+) -> Result<Option<TrackImage>, NoMemory>
+    ensures { IfOk result (λ i. i ≡ applied_by (option_copied patch.entry) image) }
+{
+    let patch = match patch {
+        None => return Ok(Some(image)),
+        Some(patch) => patch,
+    };
+    match patch.apply_in_place(alloc, image) {
+        Ok(image) => Ok(Some(image)),
+        Err(ApplyFault::Unfit) => Ok(None),
+        Err(ApplyFault::NoMemory) => Err(NoMemory),
+    }
+}
+
 impl<V: Volume> DeviceStore<V> {
     /// Reads a track from the side where it is level.
     pub(crate) fn level_bytes<K: Keep<TrackImage>>(&mut self, t: TrackNo) -> Given
         requires { t < self.old.cylinders * 15 }
         ensures fixed { (self.new.number ≡ self.old.number) × (self.new.cylinders ≡ self.old.cylinders) }
+        ensures loose { self.new.loose ≡ self.old.loose }
+        ensures frames { self.new.frames ≡ self.old.frames }
         ensures run { (p : PortView) (k : K) → Ran surely K.hears (level_bytes contents (state_of self.old) t) (outside p self.old k) (state_of self.new) (got_by self.new.buffer result) (outside p self.new k) }
     {
         if !self.is_level(t) {
@@ -80,7 +116,7 @@ impl<V: Volume> DeviceStore<V> {
         match TrackImage::from_bytes(self.alloc, self.geometry, t, self.buffer.bytes()) {
             Err(BytesFault::NoMemory) => Err(NoMemory),
             Err(BytesFault::BadTrack { .. }) => Ok(None),
-            Ok(image) => Ok(Some(image)),
+            Ok(image) => patched(self.alloc, self.patches.get(t), image),
         }
     }
 
@@ -88,7 +124,9 @@ impl<V: Volume> DeviceStore<V> {
     fn queue_one(&mut self, last: Option<TrackNo>, t: u16)
         requires { IfSome last (λ l. l < self.old.cylinders * 15) }
         ensures fixed { (self.new.number ≡ self.old.number) × (self.new.cylinders ≡ self.old.cylinders) }
+        ensures loose { self.new.loose ≡ self.old.loose }
         ensures volume { self.new.volume ≡ self.old.volume }
+        ensures frames { self.new.frames ≡ self.old.frames }
         ensures state { state_of self.new ≡ queued last (state_of self.old) t }
     {
         if let Some(last) = last {
@@ -102,7 +140,9 @@ impl<V: Volume> DeviceStore<V> {
     fn queue_ahead(&mut self, usage: &Usage, t: TrackNo)
         requires { IfSome usage.now.last (λ l. l < self.old.cylinders * 15) }
         ensures fixed { (self.new.number ≡ self.old.number) × (self.new.cylinders ≡ self.old.cylinders) }
+        ensures loose { self.new.loose ≡ self.old.loose }
         ensures volume { self.new.volume ≡ self.old.volume }
+        ensures frames { self.new.frames ≡ self.old.frames }
         ensures state { state_of self.new ≡ ahead usage.now (state_of self.old) t }
     {
         if is_sequential(usage.mode) {
@@ -111,16 +151,20 @@ impl<V: Volume> DeviceStore<V> {
         }
     }
 
-    /// A missed track asks for a frame where the mode loads it. None has a place here.
+    /// A missed track gets a frame where the mode loads it.
     fn load<P: Port, K: Keep<TrackImage>>(
-        &self,
+        &mut self,
         t: TrackNo,
         image: TrackImage,
         mode: Mode,
         port: &mut P,
     ) -> Result<Looked, NoMemory>
-        ensures answers { IfOk result (λ looked. looked ≡ looks.Has image) }
-        ensures run { (k : K) → Ran (where_ok result) K.hears (loaded contents (state_of self.now) t image mode) (outside (P.view port.old) self.now k) (state_of self.now) (had imaged result) (outside (P.view port.new) self.now k) }
+        requires track { t < self.old.cylinders * 15 }
+        requires clean { is_modified self.old.frames t ≡ false }
+        ensures fixed { (self.new.number ≡ self.old.number) × (self.new.cylinders ≡ self.old.cylinders) }
+        ensures loose { self.new.loose ≡ self.old.loose }
+        ensures there { IfOk result (IsThere (state_of self.new) t) }
+        ensures run { (k : K) → Ran (where_ok result) K.hears (loaded contents (state_of self.old) t image mode) (outside (P.view port.old) self.old k) (state_of self.new) (had (imaged (state_of self.new) t) result) (outside (P.view port.new) self.new k) }
     {
         if !loads(mode) {
             return Ok(Looked::Has(image));
@@ -128,11 +172,14 @@ impl<V: Volume> DeviceStore<V> {
         match port.want_frame(self.number, t) {
             Err(NoMemory) => Err(NoMemory),
             Ok(Grant::Denied) => Ok(Looked::Has(image)),
-            Ok(Grant::Given) => Ok(Looked::Has(image)),
+            Ok(Grant::Given) => {
+                self.fill::<P, K>(t, image, port);
+                Ok(Looked::Frame)
+            }
         }
     }
 
-    /// The bytes of a side are in the buffer.
+    /// The bytes of a missed track are in the buffer.
     fn deliver<P: Port, K: Keep<TrackImage>>(
         &mut self,
         usage: &Usage,
@@ -140,9 +187,13 @@ impl<V: Volume> DeviceStore<V> {
         side: Side,
         port: &mut P,
     ) -> Result<Looked, NoMemory>
-        requires { IfSome usage.now.last (λ l. l < self.old.cylinders * 15) }
+        requires track { t < self.old.cylinders * 15 }
+        requires last { IfSome usage.now.last (λ l. l < self.old.cylinders * 15) }
+        requires clean { is_modified self.old.frames t ≡ false }
         ensures fixed { (self.new.number ≡ self.old.number) × (self.new.cylinders ≡ self.old.cylinders) }
-        ensures run { (k : K) → Ran (where_ok result) K.hears (missed contents usage.now t (state_of self.old) (got side (Some self.old.buffer) None) (Some self.old.buffer)) (outside (P.view port.old) self.old k) (state_of self.new) (had imaged result) (outside (P.view port.new) self.new k) }
+        ensures loose { self.new.loose ≡ self.old.loose }
+        ensures there { IfOk result (IsThere (state_of self.new) t) }
+        ensures run { (k : K) → Ran (where_ok result) K.hears (missed contents usage.now t (state_of self.old) (got side (Some self.old.buffer) None) (Some self.old.buffer)) (outside (P.view port.old) self.old k) (state_of self.new) (had (imaged (state_of self.new) t) result) (outside (P.view port.new) self.new k) }
     {
         match self.image_of(t) {
             Err(NoMemory) => Err(NoMemory),
@@ -154,7 +205,55 @@ impl<V: Volume> DeviceStore<V> {
         }
     }
 
-    /// The image of a track that a command looks at.
+    /// A track that has no frame that counts is read.
+    fn miss<P: Port, K: Keep<TrackImage>>(
+        &mut self,
+        usage: &Usage,
+        t: TrackNo,
+        port: &mut P,
+    ) -> Result<Looked, NoMemory>
+        requires track { t < self.old.cylinders * 15 }
+        requires last { IfSome usage.now.last (λ l. l < self.old.cylinders * 15) }
+        requires clean { is_modified self.old.frames t ≡ false }
+        ensures fixed { (self.new.number ≡ self.old.number) × (self.new.cylinders ≡ self.old.cylinders) }
+        ensures loose { self.new.loose ≡ self.old.loose }
+        ensures there { IfOk result (IsThere (state_of self.new) t) }
+        ensures run { (k : K) → Ran (where_ok result) K.hears (miss contents (state_of self.old) usage.now t) (outside (P.view port.old) self.old k) (state_of self.new) (had (imaged (state_of self.new) t) result) (outside (P.view port.new) self.new k) }
+    {
+        let got = self.level_bytes::<K>(t);
+        if got.given {
+            return self.deliver::<P, K>(usage, t, got.side, port);
+        }
+        Ok(Looked::NoBytes(got.fault))
+    }
+
+    /// A clean frame counts where the mode isn't bypass and the pool still lists it.
+    fn clean_image<P: Port, K: Keep<TrackImage>>(
+        &mut self,
+        usage: &Usage,
+        t: TrackNo,
+        port: &mut P,
+    ) -> Result<Looked, NoMemory>
+        requires track { t < self.old.cylinders * 15 }
+        requires last { IfSome usage.now.last (λ l. l < self.old.cylinders * 15) }
+        requires clean { is_modified self.old.frames t ≡ false }
+        requires there { is_some (frame_at (state_of self.old) t) ≡ true }
+        ensures fixed { (self.new.number ≡ self.old.number) × (self.new.cylinders ≡ self.old.cylinders) }
+        ensures loose { self.new.loose ≡ self.old.loose }
+        ensures there { IfOk result (IsThere (state_of self.new) t) }
+        ensures run { (k : K) → Ran (where_ok result) K.hears (clean_by (state_of self.old) usage.now t) (outside (P.view port.old) self.old k) (state_of self.new) (had (imaged (state_of self.new) t) result) (outside (P.view port.new) self.new k) }
+    {
+        if is_bypass(usage.mode) {
+            return self.miss::<P, K>(usage, t, port);
+        }
+        if port.touch(self.number, t) {
+            return Ok(Looked::Frame);
+        }
+        self.forget(t);
+        self.miss::<P, K>(usage, t, port)
+    }
+
+    /// The image of a track that a command looks at. A hit copies nothing: `frame_image` lends what is in the frame.
     pub fn image<P: Port, K: Keep<TrackImage>>(
         &mut self,
         usage: &Usage,
@@ -166,13 +265,17 @@ impl<V: Volume> DeviceStore<V> {
         requires last { IfSome usage.now.last (λ l. l < self.old.cylinders * 15) }
         requires takes { Takes K.takes keep.old self.old.number (self.old.cylinders * 15) }
         ensures fixed { (self.new.number ≡ self.old.number) × (self.new.cylinders ≡ self.old.cylinders) }
+        ensures loose { self.new.loose ≡ self.old.loose }
         ensures takes { Takes K.takes keep.new self.new.number (self.new.cylinders * 15) }
-        ensures run { Ran (where_ok result) K.hears (image contents (state_of self.old) usage.now t) (outside (P.view port.old) self.old keep.old) (state_of self.new) (had imaged result) (outside (P.view port.new) self.new keep.new) }
+        ensures there { IfOk result (IsThere (state_of self.new) t) }
+        ensures run { Ran (where_ok result) K.hears (image contents (state_of self.old) usage.now t) (outside (P.view port.old) self.old keep.old) (state_of self.new) (had (imaged (state_of self.new) t) result) (outside (P.view port.new) self.new keep.new) }
     {
-        let got = self.level_bytes::<K>(t);
-        if got.given {
-            return self.deliver::<P, K>(usage, t, got.side, port);
+        if self.frames.modified(t) {
+            return Ok(Looked::Frame);
         }
-        Ok(Looked::NoBytes(got.fault))
+        if self.frames.has(t) {
+            return self.clean_image::<P, K>(usage, t, port);
+        }
+        self.miss::<P, K>(usage, t, port)
     }
 }

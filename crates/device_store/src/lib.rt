@@ -1,17 +1,25 @@
-//! The tracks of a device: its volume, and what is kept of each track. No track has a place for a frame or a patch yet.
+//! The tracks of a device: its volume, and what is kept of each track.
 #![tactic(auto)]
 
 mod background;
+mod choice;
+mod destage;
+mod frames;
 mod image;
 mod losses;
 mod marks;
 mod notes;
 mod open;
+mod owed;
 mod peek;
+mod recover;
+mod settle;
 mod sides;
+mod stage;
 mod store;
 #[cfg(test)]
 mod tests;
+mod through;
 mod write;
 
 pub use store::{DeviceStore, Looked, Peeked};

@@ -1,9 +1,6 @@
-ghost use Rattle.std.specs.Prelude.{◌≡◌, ◌<◌, ◌*◌, not, false, slice_index_or, slice_set};
+ghost use Rattle.std.specs.Prelude.{◌≡◌, ◌<◌, not, false, slice_index_or, slice_set};
 ghost use Rattle.device_outside.specs.Volume.{counted, counted_if};
-ghost use Rattle.device_defs.specs.Contents.{contents};
-ghost use Rattle.device_defs.specs.Losses.{settled};
 ghost use Rattle.device_defs.specs.Store.{level_at};
-ghost use Rattle.device_defs.specs.Writing.{unwritten};
 ghost use Rattle.device_store.specs.State.{state_of};
 
 use crate::DeviceStore;
@@ -74,32 +71,5 @@ impl<V: Volume> DeviceStore<V> {
         ensures { result ≡ level_at (state_of self.now).a t }
     {
         self.up && !self.is_stale(t)
-    }
-
-    /// A track that is level on no side is lost.
-    pub(crate) fn settle(&mut self, t: TrackNo)
-        requires { t < self.old.cylinders * 15 }
-        ensures fixed { (self.new.number ≡ self.old.number) × (self.new.cylinders ≡ self.old.cylinders) × (self.new.up ≡ self.old.up) }
-        ensures volume { self.new.volume ≡ self.old.volume }
-        ensures state { state_of self.new ≡ settled contents (state_of self.old) t }
-    {
-        if self.lost.has(t) {
-            return;
-        }
-        if self.is_level(t) {
-            return;
-        }
-        self.lost.add(t);
-    }
-
-    /// The volume didn't take a track, which is stale then.
-    pub(crate) fn refuse(&mut self, t: TrackNo)
-        requires { t < self.old.cylinders * 15 }
-        ensures fixed { (self.new.number ≡ self.old.number) × (self.new.cylinders ≡ self.old.cylinders) × (self.new.up ≡ self.old.up) }
-        ensures volume { self.new.volume ≡ self.old.volume }
-        ensures state { state_of self.new ≡ unwritten contents (state_of self.old) t }
-    {
-        set_mark(&mut self.stale, t, true);
-        self.settle(t);
     }
 }

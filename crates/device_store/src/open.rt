@@ -1,14 +1,19 @@
-ghost use Rattle.std.specs.Prelude.{◌≡◌, ◌≤◌, ◌*◌, IfErr, IfOk, false, replicate};
+ghost use Rattle.std.specs.Prelude.{◌≡◌, ◌≤◌, ◌*◌, IfErr, IfOk, None, false, replicate};
 ghost use Rattle.device_defs.specs.Marks.{no_counts};
+ghost use Rattle.device_defs.specs.Store.{no_debt};
 ghost use Rattle.device_store.specs.State.{state_of, opened_store};
 
 use crate::DeviceStore;
 use ckd_types::{DeviceNo, Geometry, HEADS, NoMemory};
 use device_defs::{Counts, Losses};
 use device_outside::{TrackBuffer, Volume};
+use event_notes::{Debts, LooseTracks};
 use loss_model::LostList;
+use nv_store::{EditRoom, Patches};
 use stager::Queue;
 use std::alloc::Global;
+use track_cache::Frames;
+use track_image::RecordRoom;
 
 fn no_counts() -> Counts
     ensures { result ≡ no_counts }
@@ -33,6 +38,55 @@ fn no_marks(alloc: Global, tracks: usize) -> Result<Vec<bool>, NoMemory>
     Ok(vec![in alloc; false; tracks]?)
 }
 
+/// A place for a frame of each track.
+fn no_frames(alloc: Global, cylinders: u8) -> Result<Frames, NoMemory>
+    requires { cylinders ≤ 64 }
+    ensures { IfOk result (λ made. made ≡ replicate (cylinders * 15) None) }
+{
+    let mut frames = Frames::new(alloc);
+    frames.reserve(cylinders)?;
+    Ok(frames)
+}
+
+/// A place for a patch of each track.
+fn no_patches(alloc: Global, cylinders: u8) -> Result<Patches, NoMemory>
+    requires { cylinders ≤ 64 }
+    ensures { IfOk result (λ made. made ≡ replicate (cylinders * 15) None) }
+{
+    let mut patches = Patches::new(alloc);
+    patches.reserve(cylinders)?;
+    Ok(patches)
+}
+
+/// What takes memory of a new device.
+#[derive(Drop)]
+struct Parts {
+    stale: Vec<bool>,
+    frames: Frames,
+    patches: Patches,
+    owed: Debts,
+    buffer: TrackBuffer,
+}
+
+impl Parts {
+    fn new(alloc: Global, cylinders: u8) -> Result<Parts, NoMemory>
+        requires { cylinders ≤ 64 }
+        ensures stale { IfOk result (λ parts. parts.stale.items ≡ replicate (cylinders * 15) false) }
+        ensures frames { IfOk result (λ parts. parts.frames ≡ replicate (cylinders * 15) None) }
+        ensures patches { IfOk result (λ parts. parts.patches ≡ replicate (cylinders * 15) None) }
+        ensures owed { IfOk result (λ parts. parts.owed ≡ replicate (cylinders * 15) no_debt) }
+    {
+        let tracks = usize::from(cylinders) * usize::from(HEADS);
+        Ok(Parts {
+            stale: no_marks(alloc, tracks)?,
+            frames: no_frames(alloc, cylinders)?,
+            patches: no_patches(alloc, cylinders)?,
+            owed: Debts::new(alloc, tracks)?,
+            buffer: TrackBuffer::new(alloc)?,
+        })
+    }
+}
+
 impl<V: Volume> DeviceStore<V> {
     /// The tracks of a new device, over a volume of empty tracks. The volume comes back where memory is lacking.
     pub fn open(
@@ -49,13 +103,8 @@ impl<V: Volume> DeviceStore<V> {
         ensures volume { IfOk result (λ s. s.volume ≡ volume) }
         ensures back { IfErr result (λ e. e.1 ≡ volume) }
     {
-        let tracks = usize::from(cylinders) * usize::from(HEADS);
-        let stale = match no_marks(alloc, tracks) {
-            Ok(stale) => stale,
-            Err(NoMemory) => return Err((NoMemory, volume)),
-        };
-        let buffer = match TrackBuffer::new(alloc) {
-            Ok(buffer) => buffer,
+        let parts = match Parts::new(alloc, cylinders) {
+            Ok(parts) => parts,
             Err(NoMemory) => return Err((NoMemory, volume)),
         };
         Ok(DeviceStore {
@@ -66,11 +115,17 @@ impl<V: Volume> DeviceStore<V> {
             data_number: 0,
             volume,
             up: true,
-            stale,
+            stale: parts.stale,
+            frames: parts.frames,
+            patches: parts.patches,
             lost: LostList::new(cylinders),
+            loose: LooseTracks::new(alloc, cylinders),
             queue: Queue::new(),
+            owed: parts.owed,
             counts: no_counts(),
-            buffer,
+            buffer: parts.buffer,
+            records: RecordRoom::new(alloc),
+            edits: EditRoom::new(alloc),
         })
     }
 }

@@ -1,8 +1,9 @@
-ghost use Rattle.std.specs.Prelude.{◌≡◌, ◌<◌, ◌*◌};
+ghost use Rattle.std.specs.Prelude.{◌≡◌, ℕ, ◌<◌, ◌*◌, IfOk};
 ghost use Rattle.device_outside.specs.Outside.{Ran, where_ok};
 ghost use Rattle.device_defs.specs.Contents.{contents};
 ghost use Rattle.device_defs.specs.Peek.{peek_usage, peek_track, peeked};
-ghost use Rattle.device_store.specs.State.{state_of, outside, Takes, had, imaged, peeked_by};
+ghost use Rattle.device_store.specs.Looks.{StoreOf, imaged, peeked_by, IsPeeked, IsThere};
+ghost use Rattle.device_store.specs.State.{state_of, outside, Takes, had};
 
 use crate::{DeviceStore, Looked, Peeked};
 use ckd_types::{Mode, NoMemory, Side, TrackNo};
@@ -22,9 +23,11 @@ fn peek_usage() -> Usage
 }
 
 fn peeked(looked: Looked) -> Peeked
-    ensures { peeked_by result ≡ peeked (imaged looked) }
+    ensures is { (s : StoreOf) (t : ℕ) → peeked_by s t result ≡ peeked (imaged s t looked) }
+    ensures there { (s : StoreOf) (t : ℕ) → IsThere s t looked → IsPeeked s t result }
 {
     match looked {
+        Looked::Frame => Peeked::Frame,
         Looked::Has(image) => Peeked::Track(image),
         Looked::NoBytes(Some(side)) => Peeked::Fault(side),
         Looked::NoBytes(None) => Peeked::Fault(Side::A),
@@ -43,8 +46,10 @@ impl<V: Volume> DeviceStore<V> {
         requires track { t < self.old.cylinders * 15 }
         requires takes { Takes K.takes keep.old self.old.number (self.old.cylinders * 15) }
         ensures fixed { (self.new.number ≡ self.old.number) × (self.new.cylinders ≡ self.old.cylinders) }
+        ensures loose { self.new.loose ≡ self.old.loose }
         ensures takes { Takes K.takes keep.new self.new.number (self.new.cylinders * 15) }
-        ensures run { Ran (where_ok result) K.hears (peek_track contents (state_of self.old) t) (outside (P.view port.old) self.old keep.old) (state_of self.new) (had peeked_by result) (outside (P.view port.new) self.new keep.new) }
+        ensures there { IfOk result (IsPeeked (state_of self.new) t) }
+        ensures run { Ran (where_ok result) K.hears (peek_track contents (state_of self.old) t) (outside (P.view port.old) self.old keep.old) (state_of self.new) (had (peeked_by (state_of self.new) t) result) (outside (P.view port.new) self.new keep.new) }
     {
         if self.lost.has(t) {
             return Ok(Peeked::Lost);

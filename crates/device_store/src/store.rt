@@ -1,16 +1,23 @@
-ghost use Rattle.std.specs.Prelude.{◌≡◌, ◌≤◌, ◌*◌, length, true, vec_len};
+ghost use Rattle.std.specs.Prelude.{◌≡◌, ◌≤◌, ◌*◌, ℕ, length, true, vec_len};
+ghost use Rattle.track_cache.specs.Frames.{is_modified};
+ghost use Rattle.event_notes.specs.Loose.{is_loose_in};
 ghost use Rattle.device_store.specs.Queued.{are_below};
 
 use ckd_types::{DeviceNo, Geometry, Side};
 use device_defs::Counts;
 use device_outside::{TrackBuffer, Volume};
+use event_notes::{Debts, LooseTracks};
 use loss_model::LostList;
+use nv_store::{EditRoom, Patches};
 use stager::Queue;
 use std::alloc::Global;
-use track_image::TrackImage;
+use track_cache::Frames;
+use track_image::{RecordRoom, TrackImage};
 
-/// The tracks of a device, over one volume. `data_number` is the number of its cache fast write data; `up` says that the volume
-/// wasn't lost, `stale` of each track that the volume's bytes of it don't count.
+/// The tracks of a device, over one volume, with a place of each for a frame and a patch. `data_number` is the number of its cache
+/// fast write data; `up` says that the volume wasn't lost, `stale` of each track that the volume's bytes of it don't count; `acts` are
+/// those of the event that goes on, or of the last one, and `owed` of each track what the outside is still to be told. Room for an
+/// edit is made in `records` and `edits` before the first effect of a write.
 #[derive(Drop)]
 pub struct DeviceStore<V: Volume> {
     pub alloc: Global,
@@ -21,30 +28,44 @@ pub struct DeviceStore<V: Volume> {
     pub volume: V,
     pub up: bool,
     pub stale: Vec<bool>,
+    pub frames: Frames,
+    pub patches: Patches,
     pub lost: LostList,
+    pub loose: LooseTracks,
     pub queue: Queue,
+    pub owed: Debts,
     pub counts: Counts,
     pub buffer: TrackBuffer,
+    pub records: RecordRoom,
+    pub edits: EditRoom,
     pub ghost some: { 1 ≤ cylinders },
     pub ghost most: { cylinders ≤ 64 },
     pub ghost stale_of_each: { vec_len stale ≡ cylinders * 15 },
+    pub ghost frame_of_each: { length frames ≡ cylinders * 15 },
+    pub ghost patch_of_each: { length patches ≡ cylinders * 15 },
     pub ghost lost_of_each: { length lost ≡ cylinders * 15 },
+    pub ghost loose_of_each: { length loose.loose ≡ cylinders * 15 },
+    pub ghost owed_of_each: { length owed ≡ cylinders * 15 },
+    pub ghost loose_modified: { (t : ℕ) → is_loose_in loose.loose t ≡ true → is_modified frames t ≡ true },
     pub ghost volume_of_each: { (V.view volume).tracks ≡ cylinders * 15 },
     pub ghost queue_of_device: { are_below (cylinders * 15) queue ≡ true },
 }
 
-/// The image of a track; or no side gave its bytes, and the first one that failed; or the bytes of this side are no track.
+/// The image of a track is in its frame, or is this one; or no side gave its bytes, and the first one that failed; or the bytes of
+/// this side are no track.
 #[derive(Debug, Drop)]
 pub enum Looked {
+    Frame,
     Has(TrackImage),
     NoBytes(Option<Side>),
     BadTrack(Side),
 }
 
-/// What one track is, past the channel: its image; or it is lost; or this side failed, the first one, and none gave bytes; or the
-/// bytes of this side are no track.
+/// What one track is, past the channel: its image is in its frame, or is this one; or it is lost; or this side failed, the first
+/// one, and none gave bytes; or the bytes of this side are no track.
 #[derive(Debug, Drop)]
 pub enum Peeked {
+    Frame,
     Track(TrackImage),
     Lost,
     Fault(Side),

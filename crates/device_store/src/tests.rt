@@ -25,16 +25,13 @@ fn a_queued_track_is_staged(rt: HostRuntime) -> Result<(), Fail> {
     let fourth = TrackNo::new(4).ok_or("track")?;
     store.image(&usage, third, &mut port, &mut NoKeep)?;
     assert_eq!(rt;
-        store.background::<NoFrames, NoKeep>(&mut port)?,
+        store.background(&mut port, &mut NoKeep)?,
         Did::Skipped(fourth)
     );
-    assert_eq!(rt;
-        store.background::<NoFrames, NoKeep>(&mut port)?,
-        Did::Nothing
-    );
+    assert_eq!(rt; store.background(&mut port, &mut NoKeep)?, Did::Nothing);
     let peeked = store.peek(third, &mut port, &mut NoKeep)?;
     assert_eq!(rt; matches!(peeked, Peeked::Track(_)), true);
-    store.lose(Loss::Side(Side::A));
+    store.lose(Loss::Side(Side::A), &mut NoKeep);
     let peeked = store.peek(third, &mut port, &mut NoKeep)?;
     assert_eq!(rt; matches!(peeked, Peeked::Lost), true);
     Ok(())

@@ -1,123 +1,274 @@
-ghost use Rattle.std.specs.Prelude.{◌≡◌, ◌<◌, ◌*◌, Bool, ℕ, IfOk};
+ghost use Rattle.std.specs.Prelude.{◌≡◌, ◌<◌, ◌*◌, ◌+◌, ◌≤◌, IfOk, None, OnOk, is_ok, is_some, slice_set, true};
 ghost use Rattle.ckd_rules.specs.Facts.{Suits};
 ghost use Rattle.ckd_types.specs.declared.record.Edit.{Edit};
-ghost use Rattle.ckd_types.specs.Track.{track_bytes};
-ghost use Rattle.device_defs.specs.declared.usage.Usage.{Usage};
-ghost use Rattle.device_defs.specs.Choosing.{choose};
+ghost use Rattle.device_defs.specs.declared.answers.Choice.TheVariants.{Fast};
+ghost use Rattle.device_defs.specs.Choosing.{choose, fast_written, patch_with, provisionally_written};
 ghost use Rattle.device_defs.specs.Contents.{contents};
-ghost use Rattle.device_defs.specs.Editing.{through, write_chosen, write};
-ghost use Rattle.device_defs.specs.Writing.{write_first};
+ghost use Rattle.device_defs.specs.Editing.{clean_again, is_given, unchosen, write, write_by, write_chosen};
+ghost use Rattle.device_defs.specs.Store.{frame_at, patch_at};
 ghost use Rattle.device_outside.specs.Interaction.{and_then};
-ghost use Rattle.device_outside.specs.Outside.{PortView, Ran, where_ok};
-ghost use Rattle.device_store.specs.State.{state_of, outside, surely, Takes, had, wrote_by};
+ghost use Rattle.device_outside.specs.Keeper.{BeforeEdit, Heard};
+ghost use Rattle.device_outside.specs.Outside.{Ran, where_ok};
+ghost use Rattle.event_notes.specs.Loose.{loose_count, weight};
+ghost use Rattle.nv_store.specs.Patches.{stored_at};
+ghost use Rattle.nv_store.specs.Room.{room_for};
 ghost use Rattle.track_image.specs.Image.{edited_image};
+ghost use Rattle.device_store.specs.Chosen.{Fits, FitsSlot, told_before};
+ghost use Rattle.device_store.specs.Looks.{frame_in};
+ghost use Rattle.device_store.specs.State.{state_of, outside, surely, Takes, had};
 
 use crate::DeviceStore;
-use crate::marks::{count_write, set_mark};
-use ckd_outside::Failed;
-use ckd_types::{Edit, NoMemory, Side, TrackNo};
+use crate::image::is_bypass;
+use ckd_types::{Edit, NoMemory, TrackNo};
 use ckd_write::edit_image;
-use device_defs::{Took, Usage};
+use device_defs::{Choice, Took, Usage};
 use device_outside::{Keep, Port, Volume};
+use nv_store::{Patch, Stored};
 use std::alloc::Global;
+use track_cache::Frame;
 use track_image::TrackImage;
 
-/// Whether a side took a track, and the first side that failed.
-#[derive(Clone, Copy, Debug)]
-pub(crate) struct Written {
-    pub(crate) done: bool,
-    pub(crate) fault: Option<Side>,
+/// The same edit in memory of its own.
+fn copy_edit(alloc: Global, edit: &Edit) -> Result<Edit, NoMemory>
+    ensures { IfOk result (λ made. made ≡ edit.now) }
+{
+    match edit {
+        Edit::Update { index, key, body } => Ok(Edit::Update {
+            index: *index,
+            key: key.copy(alloc)?,
+            body: body.copy(alloc)?,
+        }),
+        Edit::Format { after, added } => Ok(Edit::Format {
+            after: *after,
+            added: added.copy(alloc)?,
+        }),
+        Edit::Zero { added } => Ok(Edit::Zero {
+            added: added.copy(alloc)?,
+        }),
+    }
 }
 
 /// A copy of an image, with an edit.
-fn edited(alloc: Global, image: &TrackImage, edit: Edit) -> Result<TrackImage, NoMemory>
-    requires { Suits image.now.geometry image.now.track.records edit }
-    ensures { IfOk result (λ made. made ≡ edited_image edit image.now) }
+fn edited(alloc: Global, image: &TrackImage, edit: &Edit) -> Result<TrackImage, NoMemory>
+    requires { Suits image.now.geometry image.now.track.records edit.now }
+    ensures { IfOk result (λ made. made ≡ edited_image edit.now image.now) }
 {
+    let edit = copy_edit(alloc, edit)?;
     let mut made = image.copy(alloc)?;
     edit_image(&mut made, edit)?;
     Ok(made)
 }
 
 impl<V: Volume> DeviceStore<V> {
-    /// The volume is given a track, where it is up.
-    pub(crate) fn write_first<K: Keep<TrackImage>>(
-        &mut self,
-        t: TrackNo,
-        image: &TrackImage,
-    ) -> Written
-        requires { t < self.old.cylinders * 15 }
+    /// Makes room for an edit of a track's patch, and for the track to become loose where it may.
+    fn make_room(&mut self, usage: &Usage, t: TrackNo) -> Result<(), NoMemory>
         ensures fixed { (self.new.number ≡ self.old.number) × (self.new.cylinders ≡ self.old.cylinders) }
-        ensures run { (p : PortView) (k : K) → Ran surely K.hears (write_first contents (state_of self.old) t (track_bytes image.now.track)) (outside p self.old k) (state_of self.new) (wrote_by result) (outside p self.new k) }
+        ensures volume { self.new.volume ≡ self.old.volume }
+        ensures weight { weight self.new.loose ≡ weight self.old.loose }
+        ensures state { state_of self.new ≡ state_of self.old }
+        ensures patch { OnOk result (room_for (stored_at self.new.patches t) ≤ self.new.edits) }
+        ensures loose { OnOk result (usage.now.provisional ≡ true → loose_count self.new.loose.loose + 2 ≤ self.new.loose.spare) }
     {
-        if !self.up {
-            self.settle(t);
-            return Written {
-                done: false,
-                fault: None,
-            };
+        self.patches.room(t, &mut self.edits)?;
+        if usage.provisional {
+            self.loose.reserve()?;
         }
-        match self.volume.write_track(t, image.bytes()) {
-            Ok(()) => {
-                count_write(&mut self.counts, true);
-                set_mark(&mut self.stale, t, false);
-                Written {
-                    done: true,
-                    fault: None,
-                }
-            }
-            Err(Failed) => {
-                count_write(&mut self.counts, false);
-                self.refuse(t);
-                Written {
-                    done: false,
-                    fault: Some(Side::A),
-                }
+        Ok(())
+    }
+
+    /// Adds an edit to a track's patch, or to a new one in a slot.
+    fn keep_edit(&mut self, t: TrackNo, edit: Edit, slot: Option<usize>)
+        requires fits { FitsSlot (is_some (patch_at (state_of self.old) t)) slot }
+        requires room { room_for (stored_at self.old.patches t) ≤ self.old.edits }
+        ensures fixed { (self.new.number ≡ self.old.number) × (self.new.cylinders ≡ self.old.cylinders) }
+        ensures volume { self.new.volume ≡ self.old.volume }
+        ensures loose { self.new.loose ≡ self.old.loose }
+        ensures frames { self.new.frames ≡ self.old.frames }
+        ensures state { state_of self.new ≡ record (state_of self.old) { patches = slice_set self.old.patches t (patch_with contents edit slot (patch_at (state_of self.old) t)) } }
+    {
+        match slot {
+            None => self.patches.add_within(t, edit, &mut self.edits),
+            Some(slot) => {
+                let mut patch = Patch::new(self.alloc);
+                patch.add_within(edit, &mut self.edits);
+                self.patches.set(t, Some(Stored { patch, slot }));
             }
         }
     }
 
-    /// A write to the volume, which the keeper hears of where it is done.
-    fn through<K: Keep<TrackImage>>(&mut self, t: TrackNo, image: &TrackImage, keep: &mut K) -> Took
+    /// A fast write: to the frame and the patch.
+    fn write_fast(&mut self, t: TrackNo, image: TrackImage, edit: Edit, slot: Option<usize>)
+        requires fits { FitsSlot (is_some (patch_at (state_of self.old) t)) slot }
+        requires room { room_for (stored_at self.old.patches t) ≤ self.old.edits }
+        ensures fixed { (self.new.number ≡ self.old.number) × (self.new.cylinders ≡ self.old.cylinders) }
+        ensures volume { self.new.volume ≡ self.old.volume }
+        ensures loose { self.new.loose ≡ self.old.loose }
+        ensures state { state_of self.new ≡ fast_written contents (state_of self.old) t image edit slot }
+    {
+        self.keep_edit(t, edit, slot);
+        let modified = true;
+        self.frames.set(t, Some(Frame { image, modified }));
+    }
+
+    /// A write of data of cache fast write: to the frame alone. A track that isn't loose becomes that.
+    fn write_provisional(&mut self, t: TrackNo, image: TrackImage)
         requires track { t < self.old.cylinders * 15 }
+        requires room { loose_count self.old.loose.loose + 2 ≤ self.old.loose.spare }
+        ensures fixed { (self.new.number ≡ self.old.number) × (self.new.cylinders ≡ self.old.cylinders) }
+        ensures volume { self.new.volume ≡ self.old.volume }
+        ensures weight { weight self.new.loose ≤ weight self.old.loose + 2 }
+        ensures state { (e : Edit) → state_of self.new ≡ provisionally_written contents (state_of self.old) t image e }
+    {
+        if !self.loose.has(t) {
+            self.loose.loosen(t);
+        }
+        let modified = true;
+        self.frames.set(t, Some(Frame { image, modified }));
+    }
+
+    /// A write with its new image, to where it was chosen to go.
+    fn write_by<P: Port, K: Keep<TrackImage>>(
+        &mut self,
+        usage: &Usage,
+        first: TrackNo,
+        t: TrackNo,
+        image: TrackImage,
+        edit: Edit,
+        choice: Choice,
+        port: &mut P,
+        keep: &mut K,
+    ) -> Took
+        requires track { t < self.old.cylinders * 15 }
+        requires fits { Fits usage.now.provisional (is_some (patch_at (state_of self.old) t)) choice }
+        requires patch { room_for (stored_at self.old.patches t) ≤ self.old.edits }
+        requires loose { usage.now.provisional ≡ true → loose_count self.old.loose.loose + 2 ≤ self.old.loose.spare }
         requires takes { Takes K.takes keep.old self.old.number (self.old.cylinders * 15) }
         ensures fixed { (self.new.number ≡ self.old.number) × (self.new.cylinders ≡ self.old.cylinders) }
         ensures takes { Takes K.takes keep.new self.new.number (self.new.cylinders * 15) }
-        ensures run { (e : Edit) (bypass opens : Bool) (p : PortView) → Ran surely K.hears (through contents (state_of self.old) t image.now e bypass opens) (outside p self.old keep.old) (state_of self.new) result (outside p self.new keep.new) }
+        ensures weight { weight self.new.loose ≤ weight self.old.loose + 2 }
+        ensures run { Ran surely K.hears (write_by contents usage.now first t image edit (state_of self.old) choice) (outside (P.view port.old) self.old keep.old) (state_of self.new) result (outside (P.view port.new) self.new keep.new) }
     {
-        let written = self.write_first::<K>(t, image);
-        if written.done {
-            keep.firm(self.number, t, image);
-            return Took::Whole;
+        let _ = first;
+        match choice {
+            Choice::Provisional => {
+                self.write_provisional(t, image);
+                Took::Whole
+            }
+            Choice::Fast(slot) => {
+                keep.firm(self.number, t, &image);
+                self.write_fast(t, image, edit, slot);
+                Took::Whole
+            }
+            Choice::Through => self.through(t, image, is_bypass(usage.mode), port, keep),
         }
-        Took::Unwritten
     }
 
-    /// A write of which the new image is made.
-    fn write_made<K: Keep<TrackImage>>(
+    /// The edit goes to a frame, or to a volume.
+    fn is_given(&self, choice: Choice) -> bool
+        ensures { result ≡ is_given contents (state_of self.now) choice }
+    {
+        match choice {
+            Choice::Through => self.up,
+            Choice::Provisional => true,
+            Choice::Fast(_) => true,
+        }
+    }
+
+    fn clean_again<P: Port, K: Keep<TrackImage>>(&self, t: TrackNo, port: &mut P)
+        ensures run { (k : K) → Ran surely K.hears (clean_again contents (state_of self.now) t) (outside (P.view port.old) self.now k) (state_of self.now) None (outside (P.view port.new) self.now k) }
+    {
+        if self.is_clean(t) {
+            port.set_clean(self.number, t);
+        }
+    }
+
+    fn give_back<P: Port, K: Keep<TrackImage>>(&self, t: TrackNo, slot: Option<usize>, port: &mut P)
+        ensures run { (k : K) → Ran surely K.hears (unchosen contents (state_of self.now) t (Fast slot)) (outside (P.view port.old) self.now k) (state_of self.now) None (outside (P.view port.new) self.now k) }
+    {
+        match slot {
+            Some(slot) => {
+                port.free_slot(slot);
+                self.clean_again::<P, K>(t, port);
+            }
+            None => self.clean_again::<P, K>(t, port),
+        }
+    }
+
+    /// Memory was lacking: a new slot is given back, and a frame that the pool was told as modified is clean as before.
+    fn unchosen<P: Port, K: Keep<TrackImage>>(&self, t: TrackNo, choice: Choice, port: &mut P)
+        ensures run { (k : K) → Ran surely K.hears (unchosen contents (state_of self.now) t choice) (outside (P.view port.old) self.now k) (state_of self.now) None (outside (P.view port.new) self.now k) }
+    {
+        match choice {
+            Choice::Through => (),
+            Choice::Provisional => self.clean_again::<P, K>(t, port),
+            Choice::Fast(slot) => self.give_back::<P, K>(t, slot, port),
+        }
+    }
+
+    /// The keeper is told the track before an edit that is given to something.
+    fn given_read<P: Port, K: Keep<TrackImage>>(
         &mut self,
+        usage: &Usage,
+        first: TrackNo,
         t: TrackNo,
         old: &TrackImage,
-        image: &TrackImage,
+        image: TrackImage,
+        edit: Edit,
+        choice: Choice,
+        port: &mut P,
         keep: &mut K,
     ) -> Result<Took, NoMemory>
         requires track { t < self.old.cylinders * 15 }
+        requires image { image ≡ edited_image edit old.now }
+        requires fits { Fits usage.now.provisional (is_some (patch_at (state_of self.old) t)) choice }
+        requires patch { room_for (stored_at self.old.patches t) ≤ self.old.edits }
+        requires loose { usage.now.provisional ≡ true → loose_count self.old.loose.loose + 2 ≤ self.old.loose.spare }
         requires takes { Takes K.takes keep.old self.old.number (self.old.cylinders * 15) }
         ensures fixed { (self.new.number ≡ self.old.number) × (self.new.cylinders ≡ self.old.cylinders) }
         ensures takes { Takes K.takes keep.new self.new.number (self.new.cylinders * 15) }
-        ensures run { (u : Usage) (first : ℕ) (e : Edit) (p : PortView) → image.now ≡ edited_image e old.now → Ran (where_ok result) K.hears (and_then (choose contents (state_of self.old) u t) (write_chosen contents u first t old.now e)) (outside p self.old keep.old) (state_of self.new) (had (λ took. took) result) (outside p self.new keep.new) }
+        ensures weight { weight self.new.loose ≤ weight self.old.loose + 2 }
+        ensures run { Ran (where_ok result) K.hears (told_before (state_of self.old) usage.now first t old.now edit choice) (outside (P.view port.old) self.old keep.old) (state_of self.new) (had (λ took. took) result) (outside (P.view port.new) self.new keep.new) }
     {
-        if !self.up {
-            return Ok(self.through(t, image, keep));
-        }
         match keep.before_edit(self.number, t, old) {
-            Err(NoMemory) => Err(NoMemory),
-            Ok(()) => Ok(self.through(t, image, keep)),
+            Err(NoMemory) => {
+                self.unchosen::<P, K>(t, choice, port);
+                Err(NoMemory)
+            }
+            Ok(()) => Ok(self.write_by(usage, first, t, image, edit, choice, port, keep)),
         }
     }
 
-    /// A command's write of a track that it looked at, behind others from `first` on. Memory is had before the first effect:
-    /// what lacks it later is the keeper, before the edit.
+    /// The write goes where it is chosen to go, in room that was made.
+    fn chosen_read<P: Port, K: Keep<TrackImage>>(
+        &mut self,
+        usage: &Usage,
+        first: TrackNo,
+        t: TrackNo,
+        old: &TrackImage,
+        image: TrackImage,
+        edit: Edit,
+        port: &mut P,
+        keep: &mut K,
+    ) -> Result<Took, NoMemory>
+        requires track { t < self.old.cylinders * 15 }
+        requires image { image ≡ edited_image edit old.now }
+        requires patch { room_for (stored_at self.old.patches t) ≤ self.old.edits }
+        requires loose { usage.now.provisional ≡ true → loose_count self.old.loose.loose + 2 ≤ self.old.loose.spare }
+        requires takes { Takes K.takes keep.old self.old.number (self.old.cylinders * 15) }
+        ensures fixed { (self.new.number ≡ self.old.number) × (self.new.cylinders ≡ self.old.cylinders) }
+        ensures takes { Takes K.takes keep.new self.new.number (self.new.cylinders * 15) }
+        ensures weight { weight self.new.loose ≤ weight self.old.loose + 2 }
+        ensures run { Ran (where_ok result) K.hears (and_then (choose contents (state_of self.old) usage.now t) (write_chosen contents usage.now first t old.now edit)) (outside (P.view port.old) self.old keep.old) (state_of self.new) (had (λ took. took) result) (outside (P.view port.new) self.new keep.new) }
+    {
+        let choice = self.choose::<P, K>(usage, t, port);
+        if self.is_given(choice) {
+            return self.given_read(usage, first, t, old, image, edit, choice, port, keep);
+        }
+        Ok(self.write_by(usage, first, t, image, edit, choice, port, keep))
+    }
+
+    /// A command's write of a track that it read, behind others from `first` on. Memory is had before the first effect: what lacks
+    /// it later is the keeper, before the edit.
     pub fn write<P: Port, K: Keep<TrackImage>>(
         &mut self,
         usage: &Usage,
@@ -133,11 +284,126 @@ impl<V: Volume> DeviceStore<V> {
         requires takes { Takes K.takes keep.old self.old.number (self.old.cylinders * 15) }
         ensures fixed { (self.new.number ≡ self.old.number) × (self.new.cylinders ≡ self.old.cylinders) }
         ensures takes { Takes K.takes keep.new self.new.number (self.new.cylinders * 15) }
+        ensures weight { weight self.new.loose ≤ weight self.old.loose + 2 }
         ensures run { Ran (where_ok result) K.hears (write contents (state_of self.old) usage.now first t old.now edit) (outside (P.view port.old) self.old keep.old) (state_of self.new) (had (λ took. took) result) (outside (P.view port.new) self.new keep.new) }
     {
-        match edited(self.alloc, old, edit) {
+        let image = match edited(self.alloc, old, &edit) {
+            Err(NoMemory) => return Err(NoMemory),
+            Ok(image) => image,
+        };
+        match self.make_room(usage, t) {
             Err(NoMemory) => Err(NoMemory),
-            Ok(image) => self.write_made(t, old, &image, keep),
+            Ok(()) => self.chosen_read(usage, first, t, old, image, edit, port, keep),
+        }
+    }
+
+    /// A copy of the image in a track's frame, with an edit.
+    fn edited_frame(&self, t: TrackNo, edit: &Edit) -> Result<TrackImage, NoMemory>
+        requires framed { is_some (frame_at (state_of self.now) t) ≡ true }
+        requires suits { Suits (frame_in (state_of self.now) t).geometry (frame_in (state_of self.now) t).track.records edit.now }
+        ensures { IfOk result (λ made. made ≡ edited_image edit.now (frame_in (state_of self.now) t)) }
+    {
+        edited(self.alloc, self.frame_image(t), edit)
+    }
+
+    /// The keeper is told the image in a track's frame before an edit of it.
+    fn tell_frame<K: Keep<TrackImage>>(&self, t: TrackNo, keep: &mut K) -> Result<(), NoMemory>
+        requires track { t < self.now.cylinders * 15 }
+        requires framed { is_some (frame_at (state_of self.now) t) ≡ true }
+        requires takes { Takes K.takes keep.old self.now.number (self.now.cylinders * 15) }
+        ensures { Heard K.hears K.takes keep.old (BeforeEdit self.now.number t (frame_in (state_of self.now) t)) (is_ok result) keep.new }
+    {
+        keep.before_edit(self.number, t, self.frame_image(t))
+    }
+
+    /// The keeper is told the track before an edit that is given to something.
+    fn given_framed<P: Port, K: Keep<TrackImage>>(
+        &mut self,
+        usage: &Usage,
+        first: TrackNo,
+        t: TrackNo,
+        image: TrackImage,
+        edit: Edit,
+        choice: Choice,
+        port: &mut P,
+        keep: &mut K,
+    ) -> Result<Took, NoMemory>
+        requires track { t < self.old.cylinders * 15 }
+        requires framed { is_some (frame_at (state_of self.old) t) ≡ true }
+        requires image { image ≡ edited_image edit (frame_in (state_of self.old) t) }
+        requires fits { Fits usage.now.provisional (is_some (patch_at (state_of self.old) t)) choice }
+        requires patch { room_for (stored_at self.old.patches t) ≤ self.old.edits }
+        requires loose { usage.now.provisional ≡ true → loose_count self.old.loose.loose + 2 ≤ self.old.loose.spare }
+        requires takes { Takes K.takes keep.old self.old.number (self.old.cylinders * 15) }
+        ensures fixed { (self.new.number ≡ self.old.number) × (self.new.cylinders ≡ self.old.cylinders) }
+        ensures takes { Takes K.takes keep.new self.new.number (self.new.cylinders * 15) }
+        ensures weight { weight self.new.loose ≤ weight self.old.loose + 2 }
+        ensures run { Ran (where_ok result) K.hears (told_before (state_of self.old) usage.now first t (frame_in (state_of self.old) t) edit choice) (outside (P.view port.old) self.old keep.old) (state_of self.new) (had (λ took. took) result) (outside (P.view port.new) self.new keep.new) }
+    {
+        match self.tell_frame(t, keep) {
+            Err(NoMemory) => {
+                self.unchosen::<P, K>(t, choice, port);
+                Err(NoMemory)
+            }
+            Ok(()) => Ok(self.write_by(usage, first, t, image, edit, choice, port, keep)),
+        }
+    }
+
+    /// The write goes where it is chosen to go, in room that was made.
+    fn chosen_framed<P: Port, K: Keep<TrackImage>>(
+        &mut self,
+        usage: &Usage,
+        first: TrackNo,
+        t: TrackNo,
+        image: TrackImage,
+        edit: Edit,
+        port: &mut P,
+        keep: &mut K,
+    ) -> Result<Took, NoMemory>
+        requires track { t < self.old.cylinders * 15 }
+        requires framed { is_some (frame_at (state_of self.old) t) ≡ true }
+        requires image { image ≡ edited_image edit (frame_in (state_of self.old) t) }
+        requires patch { room_for (stored_at self.old.patches t) ≤ self.old.edits }
+        requires loose { usage.now.provisional ≡ true → loose_count self.old.loose.loose + 2 ≤ self.old.loose.spare }
+        requires takes { Takes K.takes keep.old self.old.number (self.old.cylinders * 15) }
+        ensures fixed { (self.new.number ≡ self.old.number) × (self.new.cylinders ≡ self.old.cylinders) }
+        ensures takes { Takes K.takes keep.new self.new.number (self.new.cylinders * 15) }
+        ensures weight { weight self.new.loose ≤ weight self.old.loose + 2 }
+        ensures run { Ran (where_ok result) K.hears (and_then (choose contents (state_of self.old) usage.now t) (write_chosen contents usage.now first t (frame_in (state_of self.old) t) edit)) (outside (P.view port.old) self.old keep.old) (state_of self.new) (had (λ took. took) result) (outside (P.view port.new) self.new keep.new) }
+    {
+        let choice = self.choose::<P, K>(usage, t, port);
+        if self.is_given(choice) {
+            return self.given_framed(usage, first, t, image, edit, choice, port, keep);
+        }
+        Ok(self.write_by(usage, first, t, image, edit, choice, port, keep))
+    }
+
+    /// The same of a track whose image is in its frame.
+    pub fn write_framed<P: Port, K: Keep<TrackImage>>(
+        &mut self,
+        usage: &Usage,
+        first: TrackNo,
+        t: TrackNo,
+        edit: Edit,
+        port: &mut P,
+        keep: &mut K,
+    ) -> Result<Took, NoMemory>
+        requires track { t < self.old.cylinders * 15 }
+        requires there { is_some (frame_at (state_of self.old) t) ≡ true }
+        requires suits { Suits (frame_in (state_of self.old) t).geometry (frame_in (state_of self.old) t).track.records edit }
+        requires takes { Takes K.takes keep.old self.old.number (self.old.cylinders * 15) }
+        ensures fixed { (self.new.number ≡ self.old.number) × (self.new.cylinders ≡ self.old.cylinders) }
+        ensures takes { Takes K.takes keep.new self.new.number (self.new.cylinders * 15) }
+        ensures weight { weight self.new.loose ≤ weight self.old.loose + 2 }
+        ensures run { Ran (where_ok result) K.hears (write contents (state_of self.old) usage.now first t (frame_in (state_of self.old) t) edit) (outside (P.view port.old) self.old keep.old) (state_of self.new) (had (λ took. took) result) (outside (P.view port.new) self.new keep.new) }
+    {
+        let image = match self.edited_frame(t, &edit) {
+            Err(NoMemory) => return Err(NoMemory),
+            Ok(image) => image,
+        };
+        match self.make_room(usage, t) {
+            Err(NoMemory) => Err(NoMemory),
+            Ok(()) => self.chosen_framed(usage, first, t, image, edit, port, keep),
         }
     }
 }

@@ -9,4 +9,10 @@ mod plain;
 #[cfg(test)]
 mod pool;
 #[cfg(test)]
+mod tables;
+#[cfg(test)]
 mod tracks;
+#[cfg(test)]
+mod values;
+#[cfg(test)]
+mod volumes;

@@ -2,8 +2,6 @@
 #![tactic(auto)]
 
 mod lost;
-#[cfg(test)]
-mod tests;
 
 use ckd_types::Side;
 pub use lost::LostList;

@@ -2,8 +2,6 @@
 #![tactic(auto)]
 
 mod groups;
-#[cfg(test)]
-mod tests;
 
 pub use ckd_rules::GroupFault;
 pub use groups::Groups;

@@ -11,11 +11,11 @@ use Rattle.deck_text.specs.Parse.{parsed}
 use Rattle.deck_text.specs.declared.line.DeckFault.{DeckFault}
 use Rattle.deck_text.specs.declared.line.DeckFault.TheVariants as deck_faults
 use Rattle.deck_text.specs.declared.line.Which.TheVariants.{Size}
-use Rattle.deck_audit.specs.declared.status.AuditStatus.{AuditStatus}
-use Rattle.deck_audit.specs.declared.status.AuditStatus.TheVariants.{Yes, No, NoReport, DeckRefused, ReadFault, WriteFault, Limit, NoMemory, Usage}
-use Rattle.deck_audit.specs.declared.status.AuditWhy.{AuditWhy}
+use Rattle.report_auditor.specs.declared.status.AuditStatus.{AuditStatus}
+use Rattle.report_auditor.specs.declared.status.AuditStatus.TheVariants.{Yes, No, NoReport, DeckRefused, ReadFault, WriteFault, Limit, NoMemory, Usage}
+use Rattle.report_auditor.specs.declared.status.AuditWhy.{AuditWhy}
 use Rattle.deck_audit.specs.State.{first_state}
-use Rattle.deck_audit.specs.Verdict.{cut_lines, deck_judged, deck_part, judged_lines, read_back, read_back_at, report_from}
+use Rattle.report_auditor.specs.Verdict.{cut_lines, deck_judged, deck_part, judged_lines, read_back, read_back_at, report_from}
 use Rattle.report_audit.specs.FirstFault.{IsBad, IsGood}
 use Rattle.report_audit.proofs.FirstFaults.{no_bad, read_long, read_short, yes_good}
 use Rattle.report_audit.specs.Answers.{IsReadBack, Reads, Tells, TellsAudit, status_text}

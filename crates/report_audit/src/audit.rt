@@ -1,13 +1,14 @@
 ghost use Rattle.std.specs.Prelude.{◌≡◌, ◌<◌, ◌≤◌, ◌+◌, ◌++◌, ◌∷◌, [], ℕ, List, IfOk, OnOk, length, codes, Some, None, Bool, true, false};
-ghost use Rattle.deck_audit.specs.declared.status.AuditStatus.{AuditStatus as Answer};
+ghost use Rattle.report_auditor.specs.declared.status.AuditStatus.{AuditStatus as Answer};
 ghost use Rattle.report_audit.specs.Lines.{IsOneLine};
 ghost use Rattle.deck_text.specs.Parse.{parsed};
 ghost use Rattle.report_audit.specs.Progress.{Comes, GoesOn, JudgedIn, begun, deck_end, fault_answer, is_answer, is_over, is_reporting, may_be, report_end, status_of};
 
 use crate::line::judge_text;
 use ckd_types::NoMemory;
-use deck_audit::{AuditStatus, AuditWhy, Auditor};
 use deck_text::{DeckFault, Which, read_deck};
+use report_auditor::{AuditStatus, AuditWhy, Auditor};
+use report_text::Respelling;
 use std::alloc::Global;
 use std::marker::Model;
 
@@ -17,13 +18,14 @@ const MOST_DECK: usize = 16_777_216;
 /// What a line of the report shows, where there is an auditor.
 fn judge_in(
     alloc: Global,
+    respelling: &mut Respelling,
     auditor: &mut Option<Auditor>,
     text: &[u8],
 ) -> Result<Option<AuditWhy>, NoMemory>
     ensures { IfOk result (λ why. JudgedIn auditor.old auditor.new why text.now) }
 {
     match auditor {
-        Some(auditor) => judge_text(alloc, auditor, text),
+        Some(auditor) => judge_text(alloc, respelling, auditor, text),
         None => Ok(None),
     }
 }
@@ -85,6 +87,7 @@ pub struct Audit {
     lines: u32,
     auditor: Option<Auditor>,
     status: Option<AuditStatus>,
+    respelling: Respelling,
 }
 
 impl Model for Audit {
@@ -110,6 +113,7 @@ impl Audit {
             lines: 0,
             auditor: None,
             status: None,
+            respelling: Respelling::new(alloc),
         }
     }
 
@@ -205,7 +209,7 @@ impl Audit {
         ensures last { OnOk result (0 < length line.now → GoesOn self.old line.now self.new []) }
         ensures count { OnOk result (self.new.lines ≤ self.old.lines + 1) }
     {
-        let found = judge_in(alloc, &mut self.auditor, line)?;
+        let found = judge_in(alloc, &mut self.respelling, &mut self.auditor, line)?;
         self.lines += 1;
         self.status = status_of(self.lines, found);
         Ok(())

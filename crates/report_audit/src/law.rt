@@ -1,7 +1,7 @@
 ghost use Rattle.std.specs.Prelude.{◌≡◌, ◌↔◌, ℕ, List};
-ghost use Rattle.deck_audit.specs.Verdict.{read_back};
-ghost use Rattle.deck_audit.specs.declared.status.AuditStatus.TheVariants.{Yes, No};
-ghost use Rattle.deck_audit.specs.declared.status.AuditWhy.{AuditWhy as Why};
+ghost use Rattle.report_auditor.specs.Verdict.{read_back};
+ghost use Rattle.report_auditor.specs.declared.status.AuditStatus.TheVariants.{Yes, No};
+ghost use Rattle.report_auditor.specs.declared.status.AuditWhy.{AuditWhy as Why};
 ghost use Rattle.report_audit.specs.FirstFault.{IsBad, IsGood};
 
 /// A text reads back as yes exactly where it is a deck and a report of which no line has a fault and the last is FINISH.

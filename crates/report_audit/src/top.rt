@@ -2,16 +2,16 @@ ghost use Rattle.std.specs.Prelude.{◌≡◌, ◌≢◌, ◌⊎◌, ◌≤◌, 
 ghost use Rattle.std.specs.Io.KnownBytes.{Appends};
 ghost use Rattle.ckd_outside.specs.Causes.{Rose, HasCause};
 ghost use Rattle.ckd_outside.specs.Texts.{Writes, AppendsFront};
-ghost use Rattle.deck_audit.specs.Answers.{usage_text};
-ghost use Rattle.deck_audit.specs.Verdict.{read_back};
-ghost use Rattle.deck_audit.specs.declared.status.AuditWhy.{AuditWhy as Why};
+ghost use Rattle.report_auditor.specs.Answers.{usage_text};
+ghost use Rattle.report_auditor.specs.Verdict.{read_back};
+ghost use Rattle.report_auditor.specs.declared.status.AuditWhy.{AuditWhy as Why};
 ghost use Rattle.report_audit.specs.FirstFault.{IsBad, IsGood};
 ghost use Rattle.report_audit.specs.Answers.{IsReadBack, Tells, TellsAudit, TellsUsage, is_audit, status_text};
 
 use crate::reading::read_audit;
 use ckd_outside::{Failed, ReadError, Sink, Source};
-use deck_audit::{AuditStatus, write_no, write_no_report, write_usage, write_yes};
 use deck_text::{write_limit, write_refused};
+use report_auditor::{AuditStatus, write_no, write_no_report, write_usage, write_yes};
 use std::alloc::Global;
 
 #[tactic(auto, unfolding(crate::specs::Answers::is_audit))]

@@ -4,3 +4,4 @@ mod NumberAgain
 mod AnswersAgain
 mod LinesAgain
 mod DataPieces
+mod CutWords

@@ -1,13 +1,13 @@
 -- The text of a line is read as that line.
 use Rattle.std.proofs.Common.{◌≡◌, ◌∷◌, [], refl, sym, true, false, Bool, Some, Result, Ok, Err, ap, ◌∙◌, rules}
-use Rattle.std.specs.Prelude.{List, ℕ, if◌then◌else◌}
+use Rattle.std.specs.Prelude.{List, ℕ, ◌==◌, ◌&&◌, not, if◌then◌else◌}
 use Rattle.std.specs.Str.{bytes_eq}
 use Rattle.report_text.specs.declared.answers.SumOf.{SumOf}
 use Rattle.report_text.specs.declared.answers.SumOf.TheVariants as sums
 use Rattle.report_text.specs.declared.answers.OrderAnswer.{OrderAnswer}
 use Rattle.report_text.specs.declared.answers.OrderAnswer.TheVariants as order_answers
 use Rattle.report_reading.specs.declared.fault.LineFault.{LineFault}
-use Rattle.report_reading.specs.declared.fault.LineFault.TheVariants.{Word}
+use Rattle.report_reading.specs.declared.fault.LineFault.TheVariants.{Number}
 use Rattle.report_text.specs.declared.line.ReportLine.{ReportLine}
 use Rattle.report_text.specs.declared.line.ReportLine.TheVariants as lines
 use Rattle.report_text.specs.declared.order.Order.{Order}
@@ -15,7 +15,7 @@ use Rattle.report_text.specs.declared.order.Order.TheVariants as orders
 use Rattle.report_text.specs.Keywords.{keyword_text}
 use Rattle.report_text.specs.Lines.{key_of, text_of, words_of}
 use Rattle.report_reading.specs.Places.{◌>>=◌, cut_words, is_key, mark_of}
-use Rattle.report_reading.specs.Ranges.{IsAnswer, IsLine, IsOrder, IsLong, has_form}
+use Rattle.report_reading.specs.Ranges.{IsAnswer, IsLine, IsOrder, IsLong, form_fault, has_form}
 use Rattle.report_reading.specs.Reading.{if_text, line_by, line_of}
 use Rattle.report_text.specs.Words.{mark_key}
 use Rattle.report_reading.proofs.AnswersAgain.{answer_read, answer_solid, back_read, back_solid, loose_read, loose_solid, note_read, note_solid}
@@ -27,11 +27,15 @@ use Rattle.report_reading.proofs.NumberAgain.{path_read, path_solid, short_read}
 use Rattle.report_reading.proofs.NumberAgain.{short_solid, sized_read, track_read, track_solid}
 
 -- what the words of a line say
-abbrev said_if : Bool → ReportLine → Result ReportLine LineFault
-said_if formed line = if formed then Ok line else Err Word
+abbrev said_if : Bool → LineFault → ReportLine → Result ReportLine LineFault
+said_if formed fault line = if formed then Ok line else Err fault
 
 abbrev said : ReportLine → Result ReportLine LineFault
-said line = said_if (has_form line) line
+said line = said_if (has_form line) (form_fault line) line
+
+unless_none : (none : Bool) (fault : LineFault) (line : ReportLine) → (if none then Err fault else Ok line) ≡ said_if (not none) fault line
+unless_none true fault line = refl
+unless_none false fault line = refl
 
 abbrev Again : ReportLine → Type 0
 Again line = line_by (keyword_text (key_of line) ∷ words_of line) ≡ said line
@@ -120,7 +124,8 @@ again (lines.Back device answer) h = rw (device_read device h.0) (ap (λ r. r >>
 again (lines.StepIdle device) h = rw (device_read device h) refl
 again (lines.RunIdle device) h = rw (device_read device h) refl
 again (lines.Loose device answer) h = rw (device_read device h.0) (ap (λ r. r >>= (λ x. Ok (lines.Loose device x))) (loose_read answer h.1))
-again (lines.Io reads writes) h = rw (long_read reads h.0, long_read writes h.1) refl
+again (lines.Io reads writes) h =
+    rw (long_read reads h.0, long_read writes h.1) (unless_none ((reads == 0) && (writes == 0)) Number (lines.Io reads writes))
 again (lines.Over path device ordinal how) h =
     rw (
       path_read path h.0,
@@ -177,9 +182,9 @@ solid (lines.Sum of n) h = sum_solid of n h
 same : (bytes : List ℕ) → bytes_eq bytes bytes ≡ true
 same bytes = search rules
 
-its_text : (line : ReportLine) (formed : Bool) → said_if formed line >>= if_text (text_of line) ≡ said_if formed line
-its_text line true = rw (same (text_of line)) refl
-its_text line false = refl
+its_text : (line : ReportLine) (formed : Bool) (fault : LineFault) → said_if formed fault line >>= if_text (text_of line) ≡ said_if formed fault line
+its_text line true fault = rw (same (text_of line)) refl
+its_text line false fault = refl
 
 cut_again : (line : ReportLine) → IsLine line → cut_words (text_of line) ≡ keyword_text (key_of line) ∷ words_of line
 unfolding text_of cut_words
@@ -191,13 +196,13 @@ unfolding line_of
 line_again line h =
     ap (λ (ws : List (List ℕ)). line_by ws >>= if_text (text_of line)) (cut_again line h)
     ∙ ap (λ r. r >>= if_text (text_of line)) (again line h)
-    ∙ its_text line (has_form line)
+    ∙ its_text line (has_form line) (form_fault line)
 
-one_line : (line other : ReportLine) (formed : Bool) → Ok line ≡ said_if formed other → line ≡ other
-one_line line other true e = cc
-one_line line other false e = absurd (cc)
+one_line : (line other : ReportLine) (formed : Bool) (fault : LineFault) → Ok line ≡ said_if formed fault other → line ≡ other
+one_line line other true fault e = cc
+one_line line other false fault e = absurd (cc)
 
 pub lines_apart : (line other : ReportLine) → IsLine line → IsLine other → has_form line ≡ true → text_of line ≡ text_of other → line ≡ other
 lines_apart line other h g formed same =
-    one_line line other (has_form other)
-    (sym (ap (λ (b : Bool). said_if b line) formed) ∙ sym (line_again line h) ∙ ap line_of same ∙ line_again other g)
+    one_line line other (has_form other) (form_fault other)
+    (sym (ap (λ (b : Bool). said_if b (form_fault line) line) formed) ∙ sym (line_again line h) ∙ ap line_of same ∙ line_again other g)

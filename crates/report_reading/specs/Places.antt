@@ -1,5 +1,5 @@
 -- What stands at a place of a line: its words are cut at each space, and counted from 0.
-use Rattle.std.specs.Prelude.{ℕ, ◌==◌, Bool, true, false, List, Option, Some, None, Result, Ok, Err, slice_get, slice_index, if◌then◌else◌}
+use Rattle.std.specs.Prelude.{ℕ, ◌==◌, Bool, true, false, List, [], Option, Some, None, Result, Ok, Err, slice_get, slice_index, if◌then◌else◌}
 use Rattle.std.specs.List.{slice_split}
 use Rattle.std.specs.Str.{bytes_eq}
 use Rattle.hex.specs.Hex.{decode_of, decode_sized}
@@ -27,6 +27,11 @@ needed fault (Some x) = Ok x
 
 unfoldable pub cut_words : List ℕ → List (List ℕ)
 cut_words text = slice_split (λ b. b == 32) text
+
+-- the words behind a space, if there is one
+abbrev pub words_left : Option (List ℕ) → List (List ℕ)
+words_left None = []
+words_left (Some text) = cut_words text
 
 abbrev pub word_at : List (List ℕ) → ℕ → Result (List ℕ) LineFault
 word_at ws i = needed Words (slice_get ws i)

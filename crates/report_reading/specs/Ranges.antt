@@ -1,5 +1,5 @@
 -- Which numbers and bytes the lines of a run have, and which answers its orders.
-use Rattle.std.specs.Prelude.{◌≡◌, ◌≤◌, ◌<◌, ◌^◌, ℕ, Bool, true, false, List, length}
+use Rattle.std.specs.Prelude.{◌≡◌, ◌≤◌, ◌<◌, ◌^◌, ◌==◌, ◌&&◌, not, ℕ, Bool, true, false, List, length}
 use Rattle.hex.specs.Hex.{IsBytes}
 use Rattle.ckd_types.specs.declared.paths.Owner.{Owner}
 use Rattle.ckd_types.specs.declared.paths.Owner.TheVariants as owners
@@ -22,6 +22,8 @@ use Rattle.report_text.specs.declared.line.ReportLine.{ReportLine}
 use Rattle.report_text.specs.declared.line.ReportLine.TheVariants as lines
 use Rattle.report_text.specs.declared.order.Order.{Order}
 use Rattle.report_text.specs.declared.order.Order.TheVariants as orders
+use Rattle.report_reading.specs.declared.fault.LineFault.{LineFault}
+use Rattle.report_reading.specs.declared.fault.LineFault.TheVariants.{Number, Word}
 
 pub record IsPath (n : ℕ) : Type 0 where
   pub least : 1 ≤ n
@@ -140,7 +142,8 @@ IsLine (lines.Unused events) = IsCount events
 IsLine lines.Finish = Unit {0}
 IsLine (lines.Sum of n) = IsLong n
 
--- Of all orders with an answer POWER alone is always done: no report says that it was refused or waits
+-- Of all orders with an answer POWER alone is always done: no report says that it was refused or waits. An event without
+-- volume calls has no IO line
 
 abbrev pub is_done : OrderAnswer → Bool
 is_done order_answers.Done = true
@@ -151,5 +154,11 @@ has_answer orders.Power answer = is_done answer
 has_answer _ answer = true
 
 abbrev pub has_form : ReportLine → Bool
+has_form (lines.Io reads writes) = not ((reads == 0) && (writes == 0))
 has_form (lines.Order order answer) = has_answer order answer
 has_form _ = true
+
+-- the fault of a line without form
+abbrev pub form_fault : ReportLine → LineFault
+form_fault (lines.Io reads writes) = Number
+form_fault _ = Word

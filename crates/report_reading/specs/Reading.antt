@@ -1,5 +1,5 @@
 -- The line that a text is, or its first fault: its words are looked at from the left.
-use Rattle.std.specs.Prelude.{◌≡◌, ℕ, List, Result, Ok, Err, if◌then◌else◌}
+use Rattle.std.specs.Prelude.{◌≡◌, ◌==◌, ◌&&◌, ℕ, List, Result, Ok, Err, if◌then◌else◌}
 use Rattle.std.specs.Str.{bytes_eq}
 use Rattle.report_text.specs.declared.answers.OrderAnswer.TheVariants as order_answers
 use Rattle.report_text.specs.declared.answers.SumOf.{SumOf}
@@ -60,8 +60,12 @@ run_line ws = device_at ws 1 >>= (λ device. key_at words.Idle ws 2 >>= (λ idle
 abbrev pub loose_line : List (List ℕ) → Result ReportLine LineFault
 loose_line ws = device_at ws 1 >>= (λ device. loose_at ws 2 >>= (λ answer. Ok (lines.Loose device answer)))
 
+-- not both are 0
 abbrev pub io_line : List (List ℕ) → Result ReportLine LineFault
-io_line ws = long_at ws 1 >>= (λ reads. long_at ws 2 >>= (λ writes. Ok (lines.Io reads writes)))
+io_line ws =
+    long_at ws 1 >>= (λ reads.
+    long_at ws 2 >>= (λ writes.
+    if (reads == 0) && (writes == 0) then Err faults.Number else Ok (lines.Io reads writes)))
 
 abbrev pub over_line : List (List ℕ) → Result ReportLine LineFault
 over_line ws =

@@ -4,6 +4,7 @@
 mod data;
 mod fault;
 mod law;
+mod line_words;
 mod numbers;
 mod places;
 mod ranges;

@@ -1,24 +1,18 @@
-ghost use Rattle.std.specs.Prelude.{◌≡◌, ◌≤◌, Ok, Err, IfOk, MatchResult, slice_get};
-ghost use Rattle.std.specs.Option.{option_map};
-ghost use Rattle.report_reading.specs.Places.{bytes_at, byte_at, count_at, cut_words, device_at, is_key, key_at, long_at, mark_at, mark_of, note_at, note_of, number_at, path_at, short_at, side_at, side_of, sized_at, track_at, word_at};
+ghost use Rattle.std.specs.Prelude.{◌≡◌, ◌≤◌, Ok, Err, IfOk, MatchResult};
+ghost use Rattle.report_reading.specs.Places.{bytes_at, byte_at, count_at, device_at, is_key, key_at, long_at, mark_at, mark_of, note_at, note_of, number_at, path_at, short_at, side_at, side_of, sized_at, track_at, word_at};
 
 use crate::LineFault;
+use crate::line_words::LineWords;
 use crate::numbers::number_in;
 use ckd_types::{DeviceNo, Note, PathNo, Side, TrackNo};
 use hex::FromHex;
 use report_text::{Keyword, keyword_text};
 
-fn nth_word(text: &[u8], i: usize) -> Option<&[u8]>
-    ensures { option_map (λ w. w.now) result ≡ slice_get (cut_words text.now) i }
+/// A word of a line, from 0 on.
+pub fn word_at<'a>(words: &LineWords<'a>, i: usize) -> Result<&'a [u8], LineFault>
+    ensures { MatchResult result (λ w. word_at words.now i ≡ Ok w.now) (λ f. word_at words.now i ≡ Err f) }
 {
-    text.split(|b| *b == b' ').nth(i)
-}
-
-/// A word of a text, from 0 on, that is cut at each space.
-pub fn word_at(text: &[u8], i: usize) -> Result<&[u8], LineFault>
-    ensures { MatchResult result (λ w. word_at (cut_words text.now) i ≡ Ok w.now) (λ f. word_at (cut_words text.now) i ≡ Err f) }
-{
-    nth_word(text, i).ok_or(LineFault::Words)
+    words.get(i).ok_or(LineFault::Words)
 }
 
 /// Whether a word is this keyword, letter by letter.
@@ -29,70 +23,70 @@ pub fn is_key(word: &[u8], key: Keyword) -> bool
     word == keyword_text(key)
 }
 
-fn number_at(least: u64, most: u64, text: &[u8], i: usize) -> Result<u64, LineFault>
-    ensures value { result ≡ number_at least most (cut_words text.now) i }
+fn number_at(least: u64, most: u64, words: &LineWords, i: usize) -> Result<u64, LineFault>
+    ensures value { result ≡ number_at least most words.now i }
     ensures range { IfOk result (λ n. n ≤ most) }
 {
-    let word = word_at(text, i)?;
+    let word = word_at(words, i)?;
     number_in(least, most, word).ok_or(LineFault::Number)
 }
 
-pub fn path_at(text: &[u8], i: usize) -> Result<PathNo, LineFault>
-    ensures { result ≡ path_at (cut_words text.now) i }
+pub fn path_at(words: &LineWords, i: usize) -> Result<PathNo, LineFault>
+    ensures { result ≡ path_at words.now i }
 {
-    let n = number_at(1, 4, text, i)?;
+    let n = number_at(1, 4, words, i)?;
     PathNo::new(n as u8).ok_or(LineFault::Number)
 }
 
-pub fn device_at(text: &[u8], i: usize) -> Result<DeviceNo, LineFault>
-    ensures { result ≡ device_at (cut_words text.now) i }
+pub fn device_at(words: &LineWords, i: usize) -> Result<DeviceNo, LineFault>
+    ensures { result ≡ device_at words.now i }
 {
-    let n = number_at(0, 15, text, i)?;
+    let n = number_at(0, 15, words, i)?;
     DeviceNo::new(n as u8).ok_or(LineFault::Number)
 }
 
-pub fn track_at(text: &[u8], i: usize) -> Result<TrackNo, LineFault>
-    ensures { result ≡ track_at (cut_words text.now) i }
+pub fn track_at(words: &LineWords, i: usize) -> Result<TrackNo, LineFault>
+    ensures { result ≡ track_at words.now i }
 {
-    let n = number_at(0, 959, text, i)?;
+    let n = number_at(0, 959, words, i)?;
     TrackNo::new(n as u16).ok_or(LineFault::Number)
 }
 
-pub fn short_at(text: &[u8], i: usize) -> Result<u16, LineFault>
-    ensures { result ≡ short_at (cut_words text.now) i }
+pub fn short_at(words: &LineWords, i: usize) -> Result<u16, LineFault>
+    ensures { result ≡ short_at words.now i }
 {
-    let n = number_at(0, 65535, text, i)?;
+    let n = number_at(0, 65535, words, i)?;
     Ok(n as u16)
 }
 
-pub fn count_at(text: &[u8], i: usize) -> Result<u32, LineFault>
-    ensures { result ≡ count_at (cut_words text.now) i }
+pub fn count_at(words: &LineWords, i: usize) -> Result<u32, LineFault>
+    ensures { result ≡ count_at words.now i }
 {
-    let n = number_at(0, 4_294_967_295, text, i)?;
+    let n = number_at(0, 4_294_967_295, words, i)?;
     Ok(n as u32)
 }
 
-pub fn long_at(text: &[u8], i: usize) -> Result<u64, LineFault>
-    ensures { result ≡ long_at (cut_words text.now) i }
+pub fn long_at(words: &LineWords, i: usize) -> Result<u64, LineFault>
+    ensures { result ≡ long_at words.now i }
 {
-    number_at(0, 18_446_744_073_709_551_615, text, i)
+    number_at(0, 18_446_744_073_709_551_615, words, i)
 }
 
 /// So many bytes in digits of either case.
-pub fn sized_at<const N: usize>(text: &[u8], i: usize) -> Result<[u8; N], LineFault>
-    ensures { result ≡ sized_at N (cut_words text.now) i }
+pub fn sized_at<const N: usize>(words: &LineWords, i: usize) -> Result<[u8; N], LineFault>
+    ensures { result ≡ sized_at N words.now i }
 {
-    let word = word_at(text, i)?;
+    let word = word_at(words, i)?;
     match <[u8; N] as FromHex>::from_hex(word) {
         Ok(bytes) => Ok(bytes),
         Err(_) => Err(LineFault::Digits),
     }
 }
 
-pub fn byte_at(text: &[u8], i: usize) -> Result<u8, LineFault>
-    ensures { result ≡ byte_at (cut_words text.now) i }
+pub fn byte_at(words: &LineWords, i: usize) -> Result<u8, LineFault>
+    ensures { result ≡ byte_at words.now i }
 {
-    let bytes = sized_at::<1>(text, i)?;
+    let bytes = sized_at::<1>(words, i)?;
     Ok(bytes[0])
 }
 
@@ -108,10 +102,10 @@ fn side_of(word: &[u8]) -> Option<Side>
     }
 }
 
-pub fn side_at(text: &[u8], i: usize) -> Result<Side, LineFault>
-    ensures { result ≡ side_at (cut_words text.now) i }
+pub fn side_at(words: &LineWords, i: usize) -> Result<Side, LineFault>
+    ensures { result ≡ side_at words.now i }
 {
-    let word = word_at(text, i)?;
+    let word = word_at(words, i)?;
     side_of(word).ok_or(LineFault::Word)
 }
 
@@ -129,10 +123,10 @@ fn note_of(word: &[u8]) -> Option<Note>
     }
 }
 
-pub fn note_at(text: &[u8], i: usize) -> Result<Note, LineFault>
-    ensures { result ≡ note_at (cut_words text.now) i }
+pub fn note_at(words: &LineWords, i: usize) -> Result<Note, LineFault>
+    ensures { result ≡ note_at words.now i }
 {
-    let word = word_at(text, i)?;
+    let word = word_at(words, i)?;
     note_of(word).ok_or(LineFault::Word)
 }
 
@@ -149,18 +143,18 @@ fn mark_of(word: &[u8]) -> Option<bool>
 }
 
 /// Whether a frame is modified.
-pub fn mark_at(text: &[u8], i: usize) -> Result<bool, LineFault>
-    ensures { result ≡ mark_at (cut_words text.now) i }
+pub fn mark_at(words: &LineWords, i: usize) -> Result<bool, LineFault>
+    ensures { result ≡ mark_at words.now i }
 {
-    let word = word_at(text, i)?;
+    let word = word_at(words, i)?;
     mark_of(word).ok_or(LineFault::Word)
 }
 
 /// Exactly this keyword.
-pub fn key_at(key: Keyword, text: &[u8], i: usize) -> Result<(), LineFault>
-    ensures { result ≡ key_at key (cut_words text.now) i }
+pub fn key_at(key: Keyword, words: &LineWords, i: usize) -> Result<(), LineFault>
+    ensures { result ≡ key_at key words.now i }
 {
-    let word = word_at(text, i)?;
+    let word = word_at(words, i)?;
     if is_key(word, key) {
         Ok(())
     } else {

@@ -1,21 +1,21 @@
 ghost use Rattle.std.specs.Prelude.{◌≡◌, Ok, IfOk};
 ghost use Rattle.report_text.specs.Lines.{text_of};
-ghost use Rattle.report_reading.specs.Places.{cut_words};
 ghost use Rattle.report_reading.specs.Reading.{Reads, data_line, line_by, line_of};
 
+use crate::line_words::LineWords;
 use crate::places::{is_key, word_at};
 use crate::read_lines::event_line;
 use crate::{LineError, LineFault};
 use ckd_types::Bytes;
 use hex::FromHexError;
-use report_text::{Keyword, ReportLine, is_text_of};
+use report_text::{Keyword, ReportLine, Respelling};
 use std::alloc::Global;
 
 /// The bytes of one word of digits.
-fn data_line(alloc: Global, text: &[u8]) -> Result<ReportLine, LineError>
-    ensures { Reads result (data_line (cut_words text.now)) }
+fn data_line(alloc: Global, words: &LineWords) -> Result<ReportLine, LineError>
+    ensures { Reads result (data_line words.now) }
 {
-    let word = word_at(text, 1)?;
+    let word = word_at(words, 1)?;
     match hex::decode(alloc, word) {
         Ok(bytes) => Ok(ReportLine::Data(Bytes::from_vec(bytes))),
         Err(FromHexError::OutOfMemory) => Err(LineError::NoMemory),
@@ -23,27 +23,32 @@ fn data_line(alloc: Global, text: &[u8]) -> Result<ReportLine, LineError>
     }
 }
 
-/// What the words of a text say.
-fn line_by(alloc: Global, text: &[u8]) -> Result<ReportLine, LineError>
-    ensures { Reads result (line_by (cut_words text.now)) }
+/// What the words of a line say.
+fn line_by(alloc: Global, words: &LineWords) -> Result<ReportLine, LineError>
+    ensures { Reads result (line_by words.now) }
 {
-    let word = word_at(text, 0)?;
+    let word = word_at(words, 0)?;
     if is_key(word, Keyword::Data) {
-        return data_line(alloc, text);
+        return data_line(alloc, words);
     }
-    let line = event_line(word, text)?;
+    let line = event_line(word, words)?;
     Ok(line)
 }
 
 /// The line of a report, a history or a summary that a text without a line feed is, or its first fault. It takes
-/// memory for the bytes of a DATA line, and for the text, since a line is spelled again and compared.
+/// memory for the bytes of a DATA line, and where a line is longer than all before, since it is spelled again and
+/// compared.
 #[tactic(auto, unfolding(crate::specs::Reading::line_of))]
-pub fn read_line(alloc: Global, text: &[u8]) -> Result<ReportLine, LineError>
+pub fn read_line(
+    alloc: Global,
+    respelling: &mut Respelling,
+    text: &[u8],
+) -> Result<ReportLine, LineError>
     ensures read { Reads result (line_of text.now) }
     ensures exact { IfOk result (λ line. text_of line ≡ text.now) }
 {
-    let line = line_by(alloc, text)?;
-    if is_text_of(alloc, &line, text)? {
+    let line = line_by(alloc, &LineWords::of(text))?;
+    if respelling.is_text_of(&line, text)? {
         Ok(line)
     } else {
         Err(LineError::Fault(LineFault::Text))

@@ -1,8 +1,8 @@
 ghost use Rattle.std.specs.Prelude.{◌≡◌, ◌<◌};
 ghost use Rattle.report_reading.specs.Answers.{answer_at, back_at, calls_at, fault_at, loose_at, loosed_at, over_at, owner_at, start_at, totals_at};
-ghost use Rattle.report_reading.specs.Places.{cut_words};
 
 use crate::LineFault;
+use crate::line_words::LineWords;
 use crate::places::{
     count_at, device_at, is_key, key_at, long_at, path_at, short_at, side_at, sized_at, track_at,
     word_at,
@@ -12,133 +12,133 @@ use report_text::{
     BackAnswer, DeviceTotals, HowOver, Keyword, LooseAnswer, OrderAnswer, OrderFault, StartAnswer,
 };
 
-fn owner_at(text: &[u8], i: usize) -> Result<Owner, LineFault>
+fn owner_at(words: &LineWords, i: usize) -> Result<Owner, LineFault>
     requires near { i < 100 }
-    ensures { result ≡ owner_at (cut_words text.now) i }
+    ensures { result ≡ owner_at words.now i }
 {
-    let word = word_at(text, i)?;
+    let word = word_at(words, i)?;
     if is_key(word, Keyword::Group) {
-        let bytes = sized_at::<11>(text, i + 1)?;
+        let bytes = sized_at::<11>(words, i + 1)?;
         Ok(Owner::Group(GroupId { bytes }))
     } else if is_key(word, Keyword::Path) {
-        Ok(Owner::Path(path_at(text, i + 1)?))
+        Ok(Owner::Path(path_at(words, i + 1)?))
     } else {
         Err(LineFault::Word)
     }
 }
 
-pub fn start_at(text: &[u8], i: usize) -> Result<StartAnswer, LineFault>
+pub fn start_at(words: &LineWords, i: usize) -> Result<StartAnswer, LineFault>
     requires near { i < 90 }
-    ensures { result ≡ start_at (cut_words text.now) i }
+    ensures { result ≡ start_at words.now i }
 {
-    let word = word_at(text, i)?;
+    let word = word_at(words, i)?;
     if is_key(word, Keyword::Accepted) {
-        Ok(StartAnswer::Accepted(short_at(text, i + 1)?))
+        Ok(StartAnswer::Accepted(short_at(words, i + 1)?))
     } else if is_key(word, Keyword::Busy) {
-        Ok(StartAnswer::Busy(path_at(text, i + 1)?))
+        Ok(StartAnswer::Busy(path_at(words, i + 1)?))
     } else if is_key(word, Keyword::Done) {
         Ok(StartAnswer::Done)
     } else if is_key(word, Keyword::Running) {
         Ok(StartAnswer::Running)
     } else if is_key(word, Keyword::Secondary) {
-        Ok(StartAnswer::Secondary(device_at(text, i + 1)?))
+        Ok(StartAnswer::Secondary(device_at(words, i + 1)?))
     } else if is_key(word, Keyword::Reserved) {
-        Ok(StartAnswer::Reserved(owner_at(text, i + 1)?))
+        Ok(StartAnswer::Reserved(owner_at(words, i + 1)?))
     } else if is_key(word, Keyword::Shut) {
-        Ok(StartAnswer::Shut(owner_at(text, i + 1)?))
+        Ok(StartAnswer::Shut(owner_at(words, i + 1)?))
     } else {
         Err(LineFault::Word)
     }
 }
 
-pub fn back_at(text: &[u8], i: usize) -> Result<BackAnswer, LineFault>
+pub fn back_at(words: &LineWords, i: usize) -> Result<BackAnswer, LineFault>
     requires near { i < 100 }
-    ensures { result ≡ back_at (cut_words text.now) i }
+    ensures { result ≡ back_at words.now i }
 {
-    let word = word_at(text, i)?;
+    let word = word_at(words, i)?;
     if is_key(word, Keyword::Nothing) {
         Ok(BackAnswer::Nothing)
     } else if is_key(word, Keyword::Recovered) {
-        Ok(BackAnswer::Recovered(track_at(text, i + 1)?))
+        Ok(BackAnswer::Recovered(track_at(words, i + 1)?))
     } else if is_key(word, Keyword::Copied) {
-        Ok(BackAnswer::Copied(track_at(text, i + 1)?))
+        Ok(BackAnswer::Copied(track_at(words, i + 1)?))
     } else if is_key(word, Keyword::Staged) {
-        Ok(BackAnswer::Staged(track_at(text, i + 1)?))
+        Ok(BackAnswer::Staged(track_at(words, i + 1)?))
     } else if is_key(word, Keyword::Skipped) {
-        Ok(BackAnswer::Skipped(track_at(text, i + 1)?))
+        Ok(BackAnswer::Skipped(track_at(words, i + 1)?))
     } else if is_key(word, Keyword::Destaged) {
-        Ok(BackAnswer::Destaged(track_at(text, i + 1)?))
+        Ok(BackAnswer::Destaged(track_at(words, i + 1)?))
     } else if is_key(word, Keyword::Half) {
-        Ok(BackAnswer::Half(track_at(text, i + 1)?))
+        Ok(BackAnswer::Half(track_at(words, i + 1)?))
     } else if is_key(word, Keyword::Finished) {
-        Ok(BackAnswer::Finished(track_at(text, i + 1)?))
+        Ok(BackAnswer::Finished(track_at(words, i + 1)?))
     } else if is_key(word, Keyword::Unwritten) {
-        Ok(BackAnswer::Unwritten(track_at(text, i + 1)?))
+        Ok(BackAnswer::Unwritten(track_at(words, i + 1)?))
     } else if is_key(word, Keyword::Fault) {
-        Ok(BackAnswer::Fault(side_at(text, i + 1)?))
+        Ok(BackAnswer::Fault(side_at(words, i + 1)?))
     } else if is_key(word, Keyword::BadBytes) {
-        Ok(BackAnswer::BadBytes(side_at(text, i + 1)?))
+        Ok(BackAnswer::BadBytes(side_at(words, i + 1)?))
     } else {
         Err(LineFault::Word)
     }
 }
 
-fn loosed_at(text: &[u8], i: usize) -> Result<LooseAnswer, LineFault>
+fn loosed_at(words: &LineWords, i: usize) -> Result<LooseAnswer, LineFault>
     requires near { i < 100 }
-    ensures { result ≡ loosed_at (cut_words text.now) i }
+    ensures { result ≡ loosed_at words.now i }
 {
-    let count = short_at(text, i)?;
-    let id = sized_at::<2>(text, i + 1)?;
+    let count = short_at(words, i)?;
+    let id = sized_at::<2>(words, i + 1)?;
     Ok(LooseAnswer::Lost { count, id })
 }
 
-pub fn loose_at(text: &[u8], i: usize) -> Result<LooseAnswer, LineFault>
+pub fn loose_at(words: &LineWords, i: usize) -> Result<LooseAnswer, LineFault>
     requires near { i < 90 }
-    ensures { result ≡ loose_at (cut_words text.now) i }
+    ensures { result ≡ loose_at words.now i }
 {
-    let word = word_at(text, i)?;
+    let word = word_at(words, i)?;
     if is_key(word, Keyword::Harden) {
-        Ok(LooseAnswer::Harden(track_at(text, i + 1)?))
+        Ok(LooseAnswer::Harden(track_at(words, i + 1)?))
     } else if is_key(word, Keyword::Loosen) {
-        Ok(LooseAnswer::Loosen(track_at(text, i + 1)?))
+        Ok(LooseAnswer::Loosen(track_at(words, i + 1)?))
     } else if is_key(word, Keyword::Lost) {
-        loosed_at(text, i + 1)
+        loosed_at(words, i + 1)
     } else {
         Err(LineFault::Word)
     }
 }
 
-pub fn over_at(text: &[u8], i: usize) -> Result<HowOver, LineFault>
+pub fn over_at(words: &LineWords, i: usize) -> Result<HowOver, LineFault>
     requires near { i < 100 }
-    ensures { result ≡ over_at (cut_words text.now) i }
+    ensures { result ≡ over_at words.now i }
 {
-    let word = word_at(text, i)?;
+    let word = word_at(words, i)?;
     if is_key(word, Keyword::Full) {
         Ok(HowOver::Full)
     } else if is_key(word, Keyword::Checked) {
         Ok(HowOver::Checked)
     } else if is_key(word, Keyword::Cut) {
-        Ok(HowOver::Cut(short_at(text, i + 1)?))
+        Ok(HowOver::Cut(short_at(words, i + 1)?))
     } else {
         Err(LineFault::Word)
     }
 }
 
-fn fault_at(text: &[u8], i: usize) -> Result<OrderFault, LineFault>
+fn fault_at(words: &LineWords, i: usize) -> Result<OrderFault, LineFault>
     requires near { i < 100 }
-    ensures { result ≡ fault_at (cut_words text.now) i }
+    ensures { result ≡ fault_at words.now i }
 {
-    let word = word_at(text, i)?;
+    let word = word_at(words, i)?;
     if is_key(word, Keyword::Same) {
         Ok(OrderFault::Same)
     } else if is_key(word, Keyword::Lent) {
-        Ok(OrderFault::Lent(device_at(text, i + 1)?))
+        Ok(OrderFault::Lent(device_at(words, i + 1)?))
     } else if is_key(word, Keyword::Paired) {
         Ok(OrderFault::Paired)
     } else if is_key(word, Keyword::Unpaired) {
         Ok(OrderFault::Unpaired)
     } else if is_key(word, Keyword::Active) {
-        Ok(OrderFault::Active(path_at(text, i + 1)?))
+        Ok(OrderFault::Active(path_at(words, i + 1)?))
     } else if is_key(word, Keyword::Geometry) {
         Ok(OrderFault::Geometry)
     } else if is_key(word, Keyword::NoSide) {
@@ -148,7 +148,7 @@ fn fault_at(text: &[u8], i: usize) -> Result<OrderFault, LineFault>
     } else if is_key(word, Keyword::Up) {
         Ok(OrderFault::Up)
     } else if is_key(word, Keyword::NotLevel) {
-        Ok(OrderFault::NotLevel(count_at(text, i + 1)?))
+        Ok(OrderFault::NotLevel(count_at(words, i + 1)?))
     } else if is_key(word, Keyword::Half) {
         Ok(OrderFault::Half)
     } else if is_key(word, Keyword::Held) {
@@ -160,32 +160,32 @@ fn fault_at(text: &[u8], i: usize) -> Result<OrderFault, LineFault>
     }
 }
 
-pub fn answer_at(text: &[u8], i: usize) -> Result<OrderAnswer, LineFault>
+pub fn answer_at(words: &LineWords, i: usize) -> Result<OrderAnswer, LineFault>
     requires near { i < 90 }
-    ensures { result ≡ answer_at (cut_words text.now) i }
+    ensures { result ≡ answer_at words.now i }
 {
-    let word = word_at(text, i)?;
+    let word = word_at(words, i)?;
     if is_key(word, Keyword::Done) {
         Ok(OrderAnswer::Done)
     } else if is_key(word, Keyword::Pending) {
-        Ok(OrderAnswer::Pending(count_at(text, i + 1)?))
+        Ok(OrderAnswer::Pending(count_at(words, i + 1)?))
     } else if is_key(word, Keyword::Refused) {
-        Ok(OrderAnswer::Refused(fault_at(text, i + 1)?))
+        Ok(OrderAnswer::Refused(fault_at(words, i + 1)?))
     } else {
         Err(LineFault::Word)
     }
 }
 
 /// What stands behind READS.
-fn calls_at(text: &[u8], i: usize) -> Result<DeviceTotals, LineFault>
+fn calls_at(words: &LineWords, i: usize) -> Result<DeviceTotals, LineFault>
     requires near { i < 100 }
-    ensures { result ≡ calls_at (cut_words text.now) i }
+    ensures { result ≡ calls_at words.now i }
 {
-    let reads = long_at(text, i)?;
-    key_at(Keyword::Writes, text, i + 1)?;
-    let writes = long_at(text, i + 2)?;
-    key_at(Keyword::Lost, text, i + 3)?;
-    let lost = short_at(text, i + 4)?;
+    let reads = long_at(words, i)?;
+    key_at(Keyword::Writes, words, i + 1)?;
+    let writes = long_at(words, i + 2)?;
+    key_at(Keyword::Lost, words, i + 3)?;
+    let lost = short_at(words, i + 4)?;
     Ok(DeviceTotals::Calls {
         reads,
         writes,
@@ -193,17 +193,17 @@ fn calls_at(text: &[u8], i: usize) -> Result<DeviceTotals, LineFault>
     })
 }
 
-pub fn totals_at(text: &[u8], i: usize) -> Result<DeviceTotals, LineFault>
+pub fn totals_at(words: &LineWords, i: usize) -> Result<DeviceTotals, LineFault>
     requires near { i < 90 }
-    ensures { result ≡ totals_at (cut_words text.now) i }
+    ensures { result ≡ totals_at words.now i }
 {
-    let word = word_at(text, i)?;
+    let word = word_at(words, i)?;
     if is_key(word, Keyword::Reads) {
-        calls_at(text, i + 1)
+        calls_at(words, i + 1)
     } else if is_key(word, Keyword::Lost) {
-        Ok(DeviceTotals::Lost(short_at(text, i + 1)?))
+        Ok(DeviceTotals::Lost(short_at(words, i + 1)?))
     } else if is_key(word, Keyword::Lent) {
-        Ok(DeviceTotals::Lent(device_at(text, i + 1)?))
+        Ok(DeviceTotals::Lent(device_at(words, i + 1)?))
     } else {
         Err(LineFault::Word)
     }

@@ -27,6 +27,6 @@ pub use order::Order;
 pub use record::RunRecord;
 pub use report::{DeviceEnd, FrameEnd, write_report};
 pub use report_lines::{LineSpelling, put_data};
-pub use spelled::is_text_of;
+pub use spelled::Respelling;
 pub use summary::{Summary, write_summary};
 pub use words::Words;

@@ -2,7 +2,5 @@
 #![tactic(auto)]
 
 mod reserve;
-#[cfg(test)]
-mod tests;
 
 pub use reserve::{Held, Reserve};

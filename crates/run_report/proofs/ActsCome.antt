@@ -13,12 +13,12 @@ use Rattle.device_defs.specs.Device.{all_acted}
 use Rattle.run_report.proofs.Quiet.{behind_more}
 use Rattle.subsystem_defs.specs.Beside.{acts_in, acts_of_entry, acts_of_item, acts_of_items, acts_running, behind_first, new_acts, new_items}
 
-acts_both : (xs ys : List Item) → acts_of_items (xs ++ ys) ≡ acts_of_items xs ++ acts_of_items ys
+pub acts_both : (xs ys : List Item) → acts_of_items (xs ++ ys) ≡ acts_of_items xs ++ acts_of_items ys
 acts_both [] ys = refl
 acts_both (x ∷ xs) ys =
     ap (λ (l : List Act). acts_of_item x ++ l) (acts_both xs ys) ∙ sym (append_assoc (acts_of_item x) (acts_of_items xs) (acts_of_items ys))
 
-no_act : (paths : List ℕ) → acts_of_items (resets_of paths) ≡ []
+pub no_act : (paths : List ℕ) → acts_of_items (resets_of paths) ≡ []
 no_act [] = refl
 no_act (p ∷ paths) = no_act paths
 
@@ -27,14 +27,14 @@ one_act [] x = refl
 one_act (a ∷ acts) x = ap (λ (l : List Act). a.act ∷ l) (one_act acts x)
 
 module _ (h : History) where
-  closed_acts : (o : OpenEntry) (how : How) → acts_in (closed h o how) ≡ acts_of_items h.items ++ acts_of_entry o.acts
+  pub closed_acts : (o : OpenEntry) (how : How) → acts_in (closed h o how) ≡ acts_of_items h.items ++ acts_of_entry o.acts
   closed_acts o how =
       append-nil (acts_of_items (h.items ++ entry_of o how ∷ resets_of h.waiting))
       ∙ acts_both h.items (entry_of o how ∷ resets_of h.waiting)
       ∙ ap (λ (l : List Act). acts_of_items h.items ++ (acts_of_entry o.acts ++ l)) (no_act h.waiting)
       ∙ ap (λ (l : List Act). acts_of_items h.items ++ l) (append-nil (acts_of_entry o.acts))
 
-  same_program : (r : Option OpenEntry) → h.running ≡ r → acts_of_items h.items ++ acts_running r ≡ acts_in h
+  pub same_program : (r : Option OpenEntry) → h.running ≡ r → acts_of_items h.items ++ acts_running r ≡ acts_in h
   same_program r is = ap (λ (x : Option OpenEntry). acts_of_items h.items ++ acts_running x) (sym is)
 
   ended_by : (e : CommandEnd) (o : OpenEntry) → h.running ≡ Some o → (b : Bool)
@@ -46,14 +46,14 @@ module _ (h : History) where
   ended_from e (Some o) is = ended_by e o is e.over
   ended_from e None is = refl
 
-  ended_acts : (e : CommandEnd) → acts_in (ended h e) ≡ acts_in h
+  pub ended_acts : (e : CommandEnd) → acts_in (ended h e) ≡ acts_in h
   ended_acts e = ended_from e h.running refl
 
   checked_from : (e : CommandEnd) (r : Option OpenEntry) → h.running ≡ r → acts_in (checked_in h e r) ≡ acts_in h
   checked_from e (Some o) is = closed_acts (with_end o e) Checked ∙ same_program (Some o) is
   checked_from e None is = refl
 
-  checked_acts : (e : CommandEnd) → acts_in (checked h e) ≡ acts_in h
+  pub checked_acts : (e : CommandEnd) → acts_in (checked h e) ≡ acts_in h
   checked_acts e = checked_from e h.running refl
 
   acted_from : (act : Act) (r : Option OpenEntry) → h.running ≡ r → acts_in (acted_in h act r) ≡ acts_in h ++ act ∷ []
@@ -67,13 +67,13 @@ module _ (h : History) where
       ∙ acts_both h.items (items.Act act ∷ [])
       ∙ ap (λ (l : List Act). l ++ act ∷ []) (sym (append-nil (acts_of_items h.items)) ∙ same_program None is)
 
-all_acts : (acts : List Act) (h : History) → acts_in (all_acted h acts) ≡ acts_in h ++ acts
+pub all_acts : (acts : List Act) (h : History) → acts_in (all_acted h acts) ≡ acts_in h ++ acts
 all_acts [] h = sym (append-nil (acts_in h))
 all_acts (act ∷ acts) h =
     all_acts acts (acted h act) ∙ ap (λ (l : List Act). l ++ acts) (acted_from h act h.running refl)
     ∙ append_assoc (acts_in h) (act ∷ []) acts
 
-came : (h k : History) (acts : List Act) → acts_in k ≡ acts_in h ++ acts → new_acts h k ≡ acts
+pub came : (h k : History) (acts : List Act) → acts_in k ≡ acts_in h ++ acts → new_acts h k ≡ acts
 came h k acts is = ap (λ (l : List Act). behind_first (length (acts_in h)) l) is ∙ behind_more (acts_in h) acts
 
 pub acts_come : (h : History) (acts : List Act) → new_acts h (all_acted h acts) ≡ acts

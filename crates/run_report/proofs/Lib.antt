@@ -1,9 +1,9 @@
-mod HistoryShown
-mod OneDevice
-mod ActsCome
-mod Quiet
+pub mod HistoryShown
+pub mod OneDevice
+pub mod ActsCome
+pub mod Quiet
 mod ReportText
-mod Showing
+pub mod Showing
 mod ToldAs
 pub mod Stand
 pub mod Reports

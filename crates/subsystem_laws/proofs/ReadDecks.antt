@@ -1,6 +1,6 @@
 -- Every deck that was read has devices of one cylinder at least, and starts programs of one of four paths.
-use Rattle.std.proofs.Common.{◌≡◌, ◌≤◌, ℕ, Bool, true, false, List, [], ◌∷◌, ◌++◌, Ok, refl, subst}
-use Rattle.std.specs.Prelude.{◌||◌, All, Result}
+use Rattle.std.proofs.Common.{◌≡◌, ◌≤◌, ℕ, true, List, [], ◌∷◌, ◌++◌, Ok, subst}
+use Rattle.std.specs.Prelude.{All, Result}
 use Rattle.std.proofs.lemmas.List.Elements.{All-nil, All-cons}
 use Rattle.deck_plan.specs.declared.event.EventLine.{EventLine}
 use Rattle.deck_plan.specs.declared.event.EventLine.TheVariants as lines
@@ -17,7 +17,7 @@ use Rattle.deck_text.proofs.EventsAgain.{behind_of}
 use Rattle.deck_text.proofs.FormsAgain.{went, needed_is, if_ok, Ranged, number_range}
 use Rattle.deck_text.proofs.Reached.{parsed_good}
 use Rattle.subsystem_defs.specs.Lines.{asked_by}
-use Rattle.subsystem_laws.specs.Served.{IsServed, IsServedDeck, is_pair, has_pair}
+use Rattle.subsystem_laws.specs.Served.{IsServed, IsServedDeck}
 
 device_range : (before : List DeviceLine) (words : List (List ℕ)) (d : DeviceLine) → device_line before words ≡ Ok d → Ranged 1 64 d.cylinders
 device_range before words d h =
@@ -59,37 +59,31 @@ started_range devices words path d h =
     let a = went (path_and_device devices words) (λ at. Ok (lines.Start at.0 at.1)) (lines.Start path d) h in
     subst (λ (p : ℕ). Ranged 1 4 p) (start_is a.value.0 path a.value.1 d a.second) (path_range devices words a.value a.first)
 
-line_served : (devices : List DeviceLine) (line : EventLine) → EventOk devices line → is_pair line ≡ false → IsServed (asked_by line)
-line_served devices (lines.Start path d) ok single = let r = started_range devices (behind_of (lines.Start path d)) path d ok.again in (r.low, r.high)
-line_served devices (lines.Step d) ok single = tt
-line_served devices (lines.Run d) ok single = tt
-line_served devices (lines.Back d) ok single = tt
-line_served devices (lines.Settle d) ok single = tt
-line_served devices (lines.Reset path d) ok single = tt
-line_served devices lines.FailCache ok single = tt
-line_served devices lines.FailStore ok single = tt
-line_served devices (lines.FailVolume d side) ok single = tt
-line_served devices lines.RepairCache ok single = tt
-line_served devices lines.RepairStore ok single = tt
-line_served devices (lines.Replace d side) ok single = tt
-line_served devices (lines.Pair a b) ok single = absurd (cc)
-line_served devices (lines.Unpair a) ok single = tt
-line_served devices (lines.Suspend a) ok single = tt
-line_served devices (lines.Resume a) ok single = tt
-line_served devices lines.Power ok single = tt
+line_served : (devices : List DeviceLine) (line : EventLine) → EventOk devices line → IsServed (asked_by line)
+line_served devices (lines.Start path d) ok = let r = started_range devices (behind_of (lines.Start path d)) path d ok.again in (r.low, r.high)
+line_served devices (lines.Step d) ok = tt
+line_served devices (lines.Run d) ok = tt
+line_served devices (lines.Back d) ok = tt
+line_served devices (lines.Settle d) ok = tt
+line_served devices (lines.Reset path d) ok = tt
+line_served devices lines.FailCache ok = tt
+line_served devices lines.FailStore ok = tt
+line_served devices (lines.FailVolume d side) ok = tt
+line_served devices lines.RepairCache ok = tt
+line_served devices lines.RepairStore ok = tt
+line_served devices (lines.Replace d side) ok = tt
+line_served devices (lines.Pair a b) ok = tt
+line_served devices (lines.Unpair a) ok = tt
+line_served devices (lines.Suspend a) ok = tt
+line_served devices (lines.Resume a) ok = tt
+line_served devices lines.Power ok = tt
 
-first_false : (a b : Bool) → (a || b) ≡ false → (a ≡ false) × (b ≡ false)
-first_false true b e = absurd (cc)
-first_false false b e = (refl, e)
+lines_served : (devices : List DeviceLine) (es : List EventLine) → Each (EventOk devices) es → All (λ (line : EventLine). IsServed (asked_by line)) es
+lines_served devices [] h = All-nil (λ (line : EventLine). IsServed (asked_by line))
+lines_served devices (e ∷ es) h =
+    All-cons (λ (line : EventLine). IsServed (asked_by line)) e es (line_served devices e h.0) (lines_served devices es h.1)
 
-lines_served : (devices : List DeviceLine) (es : List EventLine) → Each (EventOk devices) es → has_pair es ≡ false →
-    All (λ (line : EventLine). IsServed (asked_by line)) es
-lines_served devices [] h single = All-nil (λ (line : EventLine). IsServed (asked_by line))
-lines_served devices (e ∷ es) h single =
-    let s = first_false (is_pair e) (has_pair es) single in
-    All-cons (λ (line : EventLine). IsServed (asked_by line)) e es (line_served devices e h.0 s.0) (lines_served devices es h.1 s.1)
-
-pub read_served : (text : List ℕ) (deck : DeckLines) → parsed text ≡ Ok deck → has_pair deck.events ≡ false → IsServedDeck deck
-read_served text deck read single =
+pub read_served : (text : List ℕ) (deck : DeckLines) → parsed text ≡ Ok deck → IsServedDeck deck
+read_served text deck read =
     let good = parsed_good text deck read in
-    record { devices = devices_served [] deck.devices good.devices; events = lines_served deck.devices deck.events good.events single }
+    record { devices = devices_served [] deck.devices good.devices; events = lines_served deck.devices deck.events good.events }

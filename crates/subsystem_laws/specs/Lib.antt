@@ -1,3 +1,6 @@
 pub mod Stood
 pub mod Comes
 pub mod Served
+pub mod Causes
+pub mod WholeStood
+pub mod WholeComes

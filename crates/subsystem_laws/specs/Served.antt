@@ -1,17 +1,15 @@
 -- The decks of which it is proved that in their run each device's history is one of a plain device after every event.
-use Rattle.std.specs.Prelude.{◌≤◌, ◌||◌, Bool, true, false, List, [], ◌∷◌, All, ⊤}
+use Rattle.std.specs.Prelude.{◌≤◌, All, ⊤}
 use Rattle.deck_plan.specs.declared.event.EventLine.{EventLine}
-use Rattle.deck_plan.specs.declared.event.EventLine.TheVariants as lines
 use Rattle.deck_text.specs.declared.line.DeviceLine.{DeviceLine}
 use Rattle.deck_text.specs.DeckLines.{DeckLines}
 use Rattle.subsystem_defs.specs.declared.event.Event.{Event}
 use Rattle.subsystem_defs.specs.declared.event.Event.TheVariants as events
 use Rattle.subsystem_defs.specs.Lines.{Asked, Once, asked_by}
 
--- a path is one of four, and no devices are paired
+-- a path is one of four
 abbrev pub IsServedEvent : Event → Type 0
 IsServedEvent (events.Start path d) = (1 ≤ path) × (path ≤ 4)
-IsServedEvent (events.Pair a b) = ⊥
 IsServedEvent _ = ⊤
 
 abbrev pub IsServed : Asked → Type 0
@@ -22,12 +20,3 @@ IsServed _ = ⊤
 pub record IsServedDeck (deck : DeckLines) : Type 0 where
   pub devices : All (λ (d : DeviceLine). 1 ≤ d.cylinders) deck.devices
   pub events : All (λ (line : EventLine). IsServed (asked_by line)) deck.events
-
-abbrev pub is_pair : EventLine → Bool
-is_pair (lines.Pair a b) = true
-is_pair _ = false
-
--- two devices are to be paired
-abbrev pub has_pair : List EventLine → Bool
-has_pair [] = false
-has_pair (e ∷ es) = is_pair e || has_pair es

@@ -1,10 +1,20 @@
 //! Laws of the subsystem: an event of its devices is what happens in a run. It has no code; its lemmas are over plain variables.
 #![tactic(auto)]
 
+mod causes;
 mod plain;
 mod runs;
+mod whole;
 
+pub use causes::{
+    read_run_checks_nothing, run_checks_nothing, run_has_good_marks, run_has_no_data_check,
+    run_loses_no_track, run_misses_nothing,
+};
 pub use plain::{read_run_is_plain, run_is_plain};
 pub use runs::{
     event_is_what_happens, events_are_what_happens, new_device_is_mounted, replaced_is_what_happens,
+};
+pub use whole::{
+    whole_device_is_mounted, whole_event_is_what_happens, whole_events_are_what_happens,
+    whole_replaced_is_what_happens, whole_unpaired_is_what_happens,
 };

@@ -9,6 +9,10 @@ mod generated;
 #[cfg(test)]
 mod lines;
 #[cfg(test)]
+mod outside;
+#[cfg(test)]
+mod plans;
+#[cfg(test)]
 mod replays;
 #[cfg(test)]
 mod reports;

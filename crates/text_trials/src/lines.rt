@@ -1,4 +1,5 @@
 use report_reading::{LineError, LineFault, read_line};
+use report_text::Respelling;
 use std::test::Fail;
 
 const EVENTS: &str =
@@ -8,9 +9,9 @@ const TOTALS: &str =
     "FAIL VOLUME 10 A DONE\nPAIR 10 10 REFUSED NOTLEVEL 30\nPOWER DONE\nUNPAIR 10 PENDING 4\nDEVICE 10 READS 5 WRITES 6 LOST 1\nLOST 10 17\nDEVICE 10 LENT 10\nFRAME 10 17 MODIFIED\nFRAME 10 17 CLEAN\nFRESH 10\nLEFT 2 10 8\nUNUSED 9\nCHECKS 11\nFINISH\n";
 
 const WRONG: &str =
-    "start 2 10 DONE\nSTART 5 10 DONE\nSTART 02 10 DONE\nSTART 2\nSTART 2 10 NONE\nSENSE 0008\nPOWER REFUSED DOWN\nEND 2 10 1 3 0e 512 -\nSTART 2 10 DONE \nIO 18446744073709551616 0\nDATA 0a\n";
+    "start 2 10 DONE\nSTART 5 10 DONE\nSTART 02 10 DONE\nSTART 2\nSTART 2 10 NONE\nSENSE 0008\nPOWER REFUSED DOWN\nEND 2 10 1 3 0e 512 -\nSTART 2 10 DONE \nIO 18446744073709551616 0\nIO 0 0\nDATA 0a\n";
 
-const FAULTS: [LineFault; 11] = [
+const FAULTS: [LineFault; 12] = [
     LineFault::Keyword,
     LineFault::Number,
     LineFault::Number,
@@ -21,26 +22,38 @@ const FAULTS: [LineFault; 11] = [
     LineFault::Text,
     LineFault::Text,
     LineFault::Number,
+    LineFault::Number,
     LineFault::Text,
 ];
 
 #[test]
 fn lines_that_are_read(rt: HostRuntime) -> Result<(), Fail> {
+    let mut respelling = Respelling::new(rt.alloc());
     for line in EVENTS.lines() {
-        assert_eq!(rt; read_line(rt.alloc(), line.as_bytes()).err(), None);
+        assert_eq!(rt;
+            read_line(rt.alloc(), &mut respelling, line.as_bytes()).err(),
+            None
+        );
     }
     for line in TOTALS.lines() {
-        assert_eq!(rt; read_line(rt.alloc(), line.as_bytes()).err(), None);
+        assert_eq!(rt;
+            read_line(rt.alloc(), &mut respelling, line.as_bytes()).err(),
+            None
+        );
     }
     Ok(())
 }
 
 #[test]
 fn lines_with_a_fault(rt: HostRuntime) -> Result<(), Fail> {
+    let mut respelling = Respelling::new(rt.alloc());
     let mut faults = FAULTS.iter();
     for line in WRONG.lines() {
         let wanted = faults.next().map(|fault| LineError::Fault(*fault));
-        assert_eq!(rt; read_line(rt.alloc(), line.as_bytes()).err(), wanted);
+        assert_eq!(rt;
+            read_line(rt.alloc(), &mut respelling, line.as_bytes()).err(),
+            wanted
+        );
     }
     assert_eq!(rt; faults.next(), None);
     Ok(())

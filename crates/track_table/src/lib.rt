@@ -3,8 +3,6 @@
 
 mod bits;
 mod table;
-#[cfg(test)]
-mod tests;
 
 pub use bits::{Marked, TrackBits};
 pub use table::TrackTable;

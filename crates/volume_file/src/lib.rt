@@ -7,8 +7,6 @@ mod head;
 mod laws;
 mod loading;
 mod reader;
-#[cfg(test)]
-mod tests;
 mod track;
 mod volume;
 mod writing;

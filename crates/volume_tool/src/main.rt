@@ -3,8 +3,6 @@
 
 mod listing;
 mod task;
-#[cfg(test)]
-mod tests;
 mod top;
 
 use ckd_outside::{StdSink, StdSource};

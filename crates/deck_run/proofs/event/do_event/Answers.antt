@@ -1,7 +1,7 @@
 use Rattle.std.proofs.Common.{◌≡◌, Some, subst}
 use Rattle.subsystem_core.specs.Ends.{end_seen}
 use Rattle.deck_run.specs.Owning.{ChainsStand}
-use Rattle.deck_run.proofs.Events.{own_behind, is_told, happens_so, all_ok, where_so}
+use Rattle.deck_run.proofs.Events.{own_behind, is_told, told_so, happens_so, all_ok, where_so}
 use Rattle.deck_run.proofs.event.do_event.Goals as goal
 
 pub told_end-requires : goal.told_end-requires
@@ -21,3 +21,9 @@ returns-clause-happened g c = λ run all.
     (λ end seen. happens_so c.args.d c.args.sub.now c.event.new.self c.in-Ok.end c.requires.here c.requires.own c.in-Ok.ensures.numbers c.args.e
     c.requires.on c.in-Ok.ensures.came c.device.result.now end run c.device.ensures seen (subst ChainsStand c.devices.ensures c.chains_stand.ensures) all)
     c.told_end.ensures
+
+pub returns-clause-told : goal.returns-clause-told
+returns-clause-told g c = λ run all.
+    all_ok c.told_end.result _
+    (told_so c.args.d c.args.sub.now c.event.new.self c.in-Ok.end c.requires.here c.requires.own c.in-Ok.ensures.numbers c.args.e c.requires.on
+    c.in-Ok.ensures.came run (subst ChainsStand c.devices.ensures c.chains_stand.ensures) all)

@@ -1,8 +1,8 @@
 use Rattle.std.proofs.Common.{◌≡◌, ◌∙◌, refl, sym, ap, subst, true, List, ℕ, None}
+use Rattle.device_outside.specs.Pool.{new_pool}
 use Rattle.frame_pool.specs.Shared.{Shared}
 use Rattle.subsystem_core.specs.Places.{are_rising}
 use Rattle.subsystem_defs.specs.Decks.{opened}
-use Rattle.deck_run.specs.Opening.{uncached}
 use Rattle.deck_run.proofs.Lines.{numbers_rise}
 use Rattle.deck_run.proofs.Opened.{opened_stands}
 use Rattle.deck_run.proofs.open.open_deck.Goals as goal
@@ -13,8 +13,9 @@ new-requires-2 c =
 
 pub returns-clause-stands : goal.returns-clause-stands
 returns-clause-stands c =
-    opened_stands c.in_ok-made.made (opened (uncached c.args.deck.now))
-    (ap (λ (s : Shared). s.pool) (c.in_ok-made.ensures.pool ∙ c.in_ok-pool.ensures)) refl
+    opened_stands c.in_ok-made.made (opened c.args.deck.now) c.args.deck.now.frames c.args.deck.now.slots
+    (ap (λ (s : Shared). s.pool) (c.in_ok-made.ensures.pool ∙ c.in_ok-pool.ensures)
+    ∙ ap (λ (n : ℕ). new_pool n c.slots.result) c.frames.ensures ∙ ap (new_pool c.args.deck.now.frames) c.slots.ensures) refl
     (λ p. rw c.in_ok-made.ensures.devices (c.in_ok-devices.ensures.mounted p))
 
 pub returns-clause-numbers : goal.returns-clause-numbers

@@ -5,8 +5,8 @@ use Rattle.deck_run.proofs.Opened.{device_stands, opened_own}
 use Rattle.deck_run.proofs.open.open_device.Goals as goal
 
 pub returns-in-Ok-clause-mounted : goal.returns-in-Ok-clause-mounted
-returns-in-Ok-clause-mounted c = λ p.
-    device_stands p c.args.deck.now c.args.line (device_of c.in-Ok.made) (disk_view c.in-Ok.made.store.volume) c.in_ok-plans.plans
+returns-in-Ok-clause-mounted c =
+    device_stands c.args.deck.now c.args.line (device_of c.in-Ok.made) (disk_view c.in-Ok.made.store.volume) c.in_ok-plans.plans
     c.deref.result.now c.deref-2.result.now c.requires c.in-Ok.ensures.device (c.in_ok-plans.ensures ∙ c.plans.ensures)
     (ap disk_view (c.in-Ok.ensures.volume ∙ c.in_ok-volume.ensures.volume)) (c.deref.ensures.value ∙ c.in_ok-reads.ensures)
     (c.deref-2.ensures.value ∙ c.in_ok-writes.ensures)

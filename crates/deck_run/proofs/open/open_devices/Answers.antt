@@ -1,15 +1,14 @@
 use Rattle.std.proofs.Common.{refl, take, None}
 use Rattle.std.proofs.lemmas.List.{take_more}
-use Rattle.subsystem_laws.specs.Stood.{no_more}
 use Rattle.deck_run.proofs.Lines.{open_at}
 use Rattle.deck_run.proofs.Found.{own_more}
-use Rattle.deck_run.proofs.Opened.{numbers_more, stands_more}
+use Rattle.deck_run.proofs.Opened.{none_mounted, numbers_more, stands_more}
 use Rattle.deck_run.proofs.open.open_devices.Goals as goal
 
 pub loop-i-init : goal.loop-i-init
 loop-i-init c = record {
   numbers = rw c.new-made.ensures.items refl;
-  mounted = λ p. rw c.new-made.ensures.items no_more;
+  mounted = λ p. rw c.new-made.ensures.items (none_mounted p);
   own = rw c.new-made.ensures.items tt;
   count = c.device_count-i-end.ensures;
 }
@@ -28,7 +27,7 @@ loop-i-preserved c =
           (numbers_more c.loop-i.made.items c.in_ok-open_device.field-0 (take c.loop-i.i ds) d c.loop-i.invariant.numbers c.in_ok-open_device.ensures.number);
       mounted = λ p. rw (taken, c.in_ok-push.ensures.items, ← c.device_at.ensures)
           (stands_more p c.args.deck.now c.loop-i.made.items c.in_ok-open_device.field-0 (take c.loop-i.i ds) d (c.loop-i.invariant.mounted p)
-          (c.in_ok-open_device.ensures.mounted p));
+          c.in_ok-open_device.ensures.mounted);
       own = own_more c.loop-i.made.items c.push.new.self.items c.in_ok-open_device.field-0 c.in_ok-push.ensures.items c.loop-i.invariant.own
           c.in_ok-open_device.ensures.own;
       count = c.loop-i.invariant.count;

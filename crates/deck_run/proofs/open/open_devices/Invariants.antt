@@ -2,7 +2,7 @@ use Rattle.std.proofs.Common.{◌≡◌, length, map, take}
 use Rattle.device_outside.specs.Pool.{Pool}
 use Rattle.subsystem_core.specs.Devices.{numbers_of}
 use Rattle.subsystem_defs.specs.Decks.{opened_device}
-use Rattle.subsystem_laws.specs.Stood.{AreMounted}
+use Rattle.subsystem_laws.specs.WholeStood.{AreMounted}
 use Rattle.deck_run.specs.Opening.{numbers_in}
 use Rattle.deck_run.specs.Owning.{AreOwn}
 use Rattle.deck_run.specs.Standing.{all_stood}

@@ -1,21 +1,11 @@
-use Rattle.std.proofs.Common.{◌≡◌, ℕ, sym, subst, ap, ◌∙◌}
-use Rattle.std.specs.Prelude.{All}
-use Rattle.plain_defs.specs.Built.{IsBuilt}
-use Rattle.deck_plan.specs.Plans.{Plans, plan_of}
-use Rattle.deck_text.specs.declared.line.DeviceLine.{DeviceLine}
-use Rattle.deck_text.specs.Plans.{plans_of}
-use Rattle.deck_top.proofs.Built.{Fits, deck_built, deck_fits}
+use Rattle.run_report.specs.Report.{report_lines}
+use Rattle.subsystem_defs.specs.Decks.{run_of}
+use Rattle.deck_top.proofs.Plain.{deck_plain}
+use Rattle.deck_top.proofs.Written.{whole_text}
 use Rattle.deck_top.proofs.top.run_deck.Goals as goal
 
-pub run_lines-requires : goal.run_lines-requires
-run_lines-requires c =
-    let number : c.unwrap.result ≡ 0 = rw c.unwrap.ensures at c.new.ensures.value in
-    let plans : c.plans-plans.result.now ≡ plans_of c.args.deck.now.programs 0 =
-    c.plans-plans.ensures ∙ ap (λ (d : ℕ). plans_of c.args.deck.now.programs d) number in
-    let fits : Fits c.first_device-device.result =
-    subst (λ (d : DeviceLine). Fits d) (sym c.first_device-device.ensures) (deck_fits c.args.deck.now c.requires) in
-    record {
-      some = fits.0;
-      most = fits.1;
-      built = subst (λ (p : Plans). All (λ ccws. All IsBuilt ccws) (plan_of p 1)) (sym plans) (deck_built c.args.deck.now c.requires);
-    }
+pub returns-clause-text : goal.returns-clause-text
+returns-clause-text c = whole_text c.in_ok-ran.ran.report (report_lines (run_of c.args.deck.now)) c.in_ok-ran.ensures.lines
+
+pub returns-clause-plain : goal.returns-clause-plain
+returns-clause-plain c = deck_plain c.args.deck.now c.run_is_plain.ensures c.requires.read

@@ -8,4 +8,5 @@ invariant-loop-at l = record {
   rest : l.items.items ++ resets_of (waiting_from (l.at + 1) (drop l.at l.kept)) ≡ l.fn.items.items ++ resets_of (waiting_in l.kept);
   spare : l.items.spare + length (waiting_in l.kept) ≡ l.fn.items.spare + length (waiting_from (l.at + 1) (drop l.at l.kept));
   room : 4 ≤ l.items.spare + l.at;
+  aside : l.items.aside ≡ l.fn.items.aside;
 }

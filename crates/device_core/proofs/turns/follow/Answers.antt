@@ -2,7 +2,7 @@ use Rattle.std.proofs.Common.{◌∙◌, refl, subst}
 use Rattle.device_outside.proofs.Runs.{ran_weaker}
 use Rattle.device_defs.specs.Contents.{contents}
 use Rattle.device_store.specs.State.{state_of}
-use Rattle.device_core.specs.Turns.{Left, GoesOn}
+use Rattle.device_core.specs.Turns.{Left, GoesOn, KeepsLoose}
 use Rattle.device_core.proofs.turns.follow.Goals as goal
 use Rattle.std.proofs.Common.{◌*◌}
 use Rattle.device_core.proofs.Rests.{rest_first, rest_on, rest_over, rest_lacked, rest_none}
@@ -17,6 +17,7 @@ pub loop-turn-init : goal.loop-turn-init
 loop-turn-init g c = record {
   number = refl;
   cylinders = refl;
+  loose = refl;
   takes = c.requires.takes;
   at = c.requires.at;
   hand = record { again = refl };
@@ -29,10 +30,12 @@ pub loop-turn-preserved : goal.loop-turn-preserved
 loop-turn-preserved g c =
     let goes = subst (λ n. GoesOn n c.loop-turn.chain c.look.new.chain c.in-Ok.step) c.loop-turn.invariant.cylinders c.in-Ok.ensures.goes in
     let on = subst (λ x. GoesOn c.args.store.now.cylinders c.loop-turn.chain c.look.new.chain x) c.in-On.is goes in
+    let same = subst (λ x. KeepsLoose c.loop-turn.store.loose c.look.new.store.loose x) c.in-On.is c.in-Ok.ensures.on in
     let ran = rw c.in-On.is at c.in-Ok.ensures.run in
     record {
       number = c.in-Ok.ensures.fixed.0 ∙ c.loop-turn.invariant.number;
       cylinders = c.in-Ok.ensures.fixed.1 ∙ c.loop-turn.invariant.cylinders;
+      loose = same ∙ c.loop-turn.invariant.loose;
       takes = c.in-Ok.ensures.takes;
       at = on.0;
       hand = record { again = on.1.again ∙ c.loop-turn.invariant.hand.again };

@@ -9,6 +9,7 @@ abbrev pub invariant-loop-turn : goal.invariant-loop-turn
 invariant-loop-turn g l = record {
   number : l.store.number ≡ l.fn.store.number;
   cylinders : l.store.cylinders ≡ l.fn.store.cylinders;
+  loose : l.store.loose ≡ l.fn.store.loose;
   takes : Takes g.K.Keep.takes l.keep l.store.number (l.store.cylinders * 15);
   at : IsAt l.fn.store.cylinders l.chain;
   hand : IsSameHand l.fn.chain l.chain;

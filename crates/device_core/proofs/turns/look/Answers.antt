@@ -5,6 +5,8 @@ use Rattle.device_defs.specs.Command.{Over, looked}
 use Rattle.device_defs.specs.Contents.{contents}
 use Rattle.device_defs.specs.Memory.{had_by}
 use Rattle.device_store.proofs.Moves.{weaker}
+use Rattle.device_store.specs.Looks.{IsThere}
+use Rattle.device_store.specs.State.{state_of}
 use Rattle.device_core.specs.Turns.{Left}
 use Rattle.device_core.proofs.turns.look.Goals as goal
 use Rattle.device_defs.specs.Command.{look}
@@ -37,7 +39,16 @@ pub returns-in-Has-clause-run : goal.returns-in-Has-clause-run
 unfolding look
 returns-in-Has-clause-run g c =
     rw (← c.has.ensures, c.if-has.false) (joined (had_by (looked contents c.args.chain.now c.args.first c.args.t))
-    (weaker c.on_image.result (rw (c.in-Has.is, c.usage_of-usage.ensures.usage) at c.in-Ok.ensures.run)) c.on_image.ensures.run)
+    (weaker c.on_image-in-Has.result (rw (c.in-Has.is, c.usage_of-usage.ensures.usage) at c.in-Ok.ensures.run)) c.on_image-in-Has.ensures.run)
+
+pub returns-in-Frame-clause-run : goal.returns-in-Frame-clause-run
+unfolding look
+returns-in-Frame-clause-run g c =
+    rw (← c.has.ensures, c.if-has.false) (joined (had_by (looked contents c.args.chain.now c.args.first c.args.t))
+    (weaker c.on_image.result (rw (c.in-Frame.is, c.usage_of-usage.ensures.usage) at c.in-Ok.ensures.run)) c.on_image.ensures.run)
+
+pub on_image-requires-clause-there : goal.on_image-requires-clause-there
+on_image-requires-clause-there g c = subst (λ x. IsThere (state_of c.image.new.self) c.args.t x) c.in-Frame.is c.in-Ok.ensures.there
 
 pub returns-then-has-clause-goes : goal.returns-then-has-clause-goes
 returns-then-has-clause-goes g c = subst (λ n. Left n c.check.new.chain c.check.result) c.requires.at.cylinders_are c.check.ensures.left

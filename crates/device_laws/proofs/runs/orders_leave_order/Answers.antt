@@ -5,5 +5,5 @@ pub returns : goal.returns
 returns c = record {
   replaced = λ v w d h side l i down has long. (replace_order v w d h side l i down has long, replace_same v w d h side);
   joined = λ v w d h l i single long. (join_order v w d h l i single long, join_same v w d h);
-  split = λ v w d h i up level. (split_order v w d h i up level, split_same v w d h);
+  split = λ v w d h i none up level. (split_order v w d h i none up level, split_same v w d h);
 }

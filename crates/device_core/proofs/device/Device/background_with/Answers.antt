@@ -1,18 +1,36 @@
+use Rattle.std.proofs.Common.{◌≡◌, ◌≤◌, ◌+◌, ◌∙◌, refl, sym, ap, subst, length, arith}
 use Rattle.device_outside.specs.Interaction.{Done, and_then}
 use Rattle.device_outside.specs.Outside.{done}
 use Rattle.device_outside.proofs.Runs.{joined}
 use Rattle.device_defs.specs.Background.{work}
 use Rattle.device_defs.specs.Contents.{contents}
-use Rattle.device_defs.specs.Device.{with_store}
+use Rattle.device_defs.specs.Device.{with_store, event_begun}
 use Rattle.device_defs.specs.Events.{background}
-use Rattle.device_store.proofs.Moves.{weaker}
+use Rattle.device_defs.specs.Owed.{hear, ended}
+use Rattle.event_notes.specs.Loose.{loose_count, weight}
+use Rattle.device_store.specs.State.{state_of, outside_of}
+use Rattle.device_store.proofs.Moves.{from_equal, weaker}
 use Rattle.device_core.specs.State.{device_of}
-use Rattle.device_core.proofs.Commands.{event_ran}
+use Rattle.device_core.proofs.Eventful.{event_run, begun_weight, fits_room}
 use Rattle.device_core.proofs.device.Device.background_with.Goals as goal
+
+pub close_event-requires : goal.close_event-requires
+close_event-requires g c =
+    let l = c.args.self.now.store.loose in
+    let first = begun_weight l c.begin_event.new.self.loose c.begin_event.ensures.loose (ap (λ s. s.acts) c.begin_event.ensures.state) in
+    let le : weight c.background-did.new.self.loose ≤ loose_count l.loose = omega (arith, c.background-did.ensures.weight, ap weight c.hear.ensures.loose, first) in
+    record { room = fits_room l c.background-did.new.self.loose c.args.self.now.past c.args.self.now.act_room le }
 
 pub returns-clause-run : goal.returns-clause-run
 unfolding background
 returns-clause-run g c =
-    event_ran c.args.self.now.store c.background.new.self (device_of c.args.self.now) (device_of c.args.self.now)
-    (λ z. and_then (work contents z.store) (λ s did. Done (with_store z s) did)) (weaker c.background.result (c.hear.ensures.run _))
-    (joined (λ s did. Done (with_store (device_of c.args.self.now) s) did) (c.background.ensures.run _) done)
+    let d = device_of c.args.self.now in
+    let r = c.background-did.result in
+    let z = record (event_begun d) { store = state_of c.hear.new.self } in
+    event_run d (λ e. and_then (work contents e.store) (λ s did. Done (with_store e s) did))
+    (with_store z (state_of c.background-did.new.self)) (device_of c.close_event.new.self)
+    (weaker r (from_equal (hear contents 960) c.begin_event.ensures.state
+    (ap (λ v. outside_of (g.P.Port.view c.args.port.now) (g.V.Volume.view v) c.args.keep.now) c.begin_event.ensures.volume) (c.hear.ensures.run c.args.keep.now)))
+    (joined (λ s did. Done (with_store z s) did) c.background-did.ensures.run done)
+    (weaker r (from_equal (λ n. ended contents n (state_of c.background-did.new.self)) c.waiting_count-before.ensures refl (c.close_event.ensures.run _)))
+    c.close_event.ensures.device

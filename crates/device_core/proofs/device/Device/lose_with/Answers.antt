@@ -1,19 +1,34 @@
-use Rattle.std.proofs.Common.{ap, sym}
+use Rattle.std.proofs.Common.{◌≡◌, ◌≤◌, ◌+◌, ◌∙◌, refl, sym, ap, subst, length, arith}
 use Rattle.device_outside.specs.Interaction.{Done, and_then}
 use Rattle.device_outside.specs.Outside.{done}
+use Rattle.device_outside.proofs.Runs.{joined}
 use Rattle.device_defs.specs.Contents.{contents}
-use Rattle.device_defs.specs.Device.{with_store}
+use Rattle.device_defs.specs.Device.{with_store, event_begun}
 use Rattle.device_defs.specs.Events.{lose, losing}
-use Rattle.device_store.specs.State.{outside_of}
+use Rattle.device_defs.specs.Owed.{hear, ended}
+use Rattle.event_notes.specs.Loose.{loose_count, weight}
+use Rattle.device_store.specs.State.{state_of, outside_of}
 use Rattle.device_store.proofs.Moves.{from_equal}
 use Rattle.device_core.specs.State.{device_of}
-use Rattle.device_core.proofs.Commands.{event_ran}
+use Rattle.device_core.proofs.Eventful.{event_run, begun_weight, fits_room}
 use Rattle.device_core.proofs.device.Device.lose_with.Goals as goal
+
+pub close_event-requires : goal.close_event-requires
+close_event-requires g c =
+    let l = c.args.self.now.store.loose in
+    let first = begun_weight l c.begin_event.new.self.loose c.begin_event.ensures.loose (ap (λ s. s.acts) c.begin_event.ensures.state) in
+    let le : weight c.lose.new.self.loose ≤ loose_count l.loose = omega (arith, c.lose.ensures.weight, ap weight c.hear.ensures.loose, first) in
+    record { room = fits_room l c.lose.new.self.loose c.args.self.now.past c.args.self.now.act_room le }
 
 pub returns-clause-run : goal.returns-clause-run
 unfolding lose
 returns-clause-run g c =
-    event_ran c.args.self.now.store c.lose.new.self (device_of c.args.self.now) (device_of c.args.self.now)
-    (λ z. and_then (losing contents z.store c.args.loss) (λ s _. Done (with_store z s) tt)) (c.hear.ensures.run _)
-    (from_equal (λ i. and_then i (λ s _. Done (with_store (device_of c.args.self.now) s) tt)) (sym c.lose.ensures.losing)
-    (ap (λ x. outside_of (g.P.Port.view c.hear.new.port) (g.V.Volume.view x) c.args.keep.now) c.lose.ensures.volume) done)
+    let d = device_of c.args.self.now in
+    let z = record (event_begun d) { store = state_of c.hear.new.self } in
+    event_run d (λ e. and_then (losing contents e.store c.args.loss) (λ s _. Done (with_store e s) tt))
+    (with_store z (state_of c.lose.new.self)) (device_of c.close_event.new.self)
+    (from_equal (hear contents 960) c.begin_event.ensures.state
+    (ap (λ v. outside_of (g.P.Port.view c.args.port.now) (g.V.Volume.view v) c.args.keep.now) c.begin_event.ensures.volume) (c.hear.ensures.run c.args.keep.now))
+    (joined (λ s _. Done (with_store z s) tt) (c.lose.ensures.run _) done)
+    (from_equal (λ n. ended contents n (state_of c.lose.new.self)) c.waiting_count-before.ensures refl (c.close_event.ensures.run _))
+    c.close_event.ensures.device

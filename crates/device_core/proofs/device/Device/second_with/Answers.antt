@@ -1,14 +1,24 @@
-use Rattle.std.proofs.Common.{refl}
+use Rattle.std.proofs.Common.{refl, ap}
 use Rattle.device_outside.proofs.Runs.{ended}
 use Rattle.device_core.proofs.Parts.{no_part}
 use Rattle.device_defs.specs.Contents.{contents}
+use Rattle.device_defs.specs.Device.{event_begun}
 use Rattle.device_defs.specs.Events.{second, second_of}
+use Rattle.device_defs.specs.Owed as owed
+use Rattle.device_defs.specs.Owed.{hear}
+use Rattle.device_store.specs.State.{state_of, outside_of}
+use Rattle.device_store.proofs.Moves.{from_equal}
 use Rattle.device_core.specs.State.{device_of}
-use Rattle.device_core.proofs.Commands.{event_ran}
+use Rattle.device_core.proofs.Eventful.{event_run}
 use Rattle.device_core.proofs.device.Device.second_with.Goals as goal
 
 pub returns-clause-run : goal.returns-clause-run
 unfolding second
 returns-clause-run g c =
-    λ e is. event_ran c.args.self.now.store c.args.self.now.store (device_of c.args.self.now) (device_of c.args.self.now)
-    (λ z. second_of contents z z.store.half) (c.hear.ensures.run _) (ended refl (no_part c.first_track.result e is c.first_track.ensures))
+    let d = device_of c.args.self.now in
+    let z = record (event_begun d) { store = state_of c.hear.new.self } in
+    λ e is. event_run d (λ x. second_of contents x x.store.half) z (record z { store = state_of c.end_event.new.self })
+    (from_equal (hear contents 960) c.begin_event.ensures.state
+    (ap (λ v. outside_of (g.P.Port.view c.args.port.now) (g.V.Volume.view v) c.args.keep.now) c.begin_event.ensures.volume) (c.hear.ensures.run c.args.keep.now))
+    (ended refl (no_part c.first_track.result e is c.first_track.ensures))
+    (from_equal (λ n. owed.ended contents n (state_of c.hear.new.self)) c.waiting_count-before.ensures refl (c.end_event.ensures.run _)) refl

@@ -1,21 +1,24 @@
+use Rattle.std.proofs.Common.{◌∙◌, refl, ap}
 use Rattle.device_defs.specs.Contents.{contents}
-use Rattle.device_store.specs.State.{state_of}
+use Rattle.device_store.specs.State.{state_of, outside_of}
 use Rattle.device_store.proofs.Hearings.{hear_on, hear_over, hear_end}
 use Rattle.device_store.proofs.store.DeviceStore.hear.Goals as goal
 
 pub loop-turn-init : goal.loop-turn-init
-loop-turn-init g c = λ k. record { ends = λ s a z ran. ran }
+loop-turn-init g c = record { number = refl; cylinders = refl; loose = refl; rest = λ k. record { ends = λ s a z ran. ran } }
 
 pub loop-turn-preserved : goal.loop-turn-preserved
-loop-turn-preserved g c =
-    λ k. hear_on contents 960 c.loop-turn._turn c.in-Some.field-0 (state_of c.args.self.now) c.loop-turn-test.true (c.loop-turn.invariant k) c.in-Some.ensures
-
-pub returns-in-None : goal.returns-in-None
-returns-in-None g c = record {
-  run = λ k. hear_over contents 960 c.loop-turn._turn (state_of c.args.self.now) c.loop-turn-test.true (c.loop-turn.invariant k) c.in-None.ensures;
+loop-turn-preserved g c = record {
+  number = c.drop_noted.ensures.fixed.0 ∙ c.loop-turn.invariant.number;
+  cylinders = c.drop_noted.ensures.fixed.1 ∙ c.loop-turn.invariant.cylinders;
+  loose = c.drop_noted.ensures.loose ∙ c.loop-turn.invariant.loose;
+  rest = λ k. hear_on contents 960 c.loop-turn._turn c.in-Some.t (state_of c.loop-turn.self) c.loop-turn-test.true (c.loop-turn.invariant.rest k)
+      c.in-Some.ensures c.drop_noted.ensures.state (ap (λ x. outside_of (g.P.Port.view c.next_notice.new.self) (g.V.Volume.view x) k) c.drop_noted.ensures.volume);
 }
 
-pub returns : goal.returns
-returns g c = record {
-  run = λ k. hear_end contents 960 c.loop-turn._turn (state_of c.args.self.now) c.loop-turn-test.false (c.loop-turn.invariant k);
-}
+pub returns-in-None-clause-run : goal.returns-in-None-clause-run
+returns-in-None-clause-run g c =
+    λ k. hear_over contents 960 c.loop-turn._turn (state_of c.loop-turn.self) c.loop-turn-test.true (c.loop-turn.invariant.rest k) c.in-None.ensures
+
+pub returns-clause-run : goal.returns-clause-run
+returns-clause-run g c = λ k. hear_end contents 960 c.loop-turn._turn (state_of c.loop-turn.self) c.loop-turn-test.false (c.loop-turn.invariant.rest k)

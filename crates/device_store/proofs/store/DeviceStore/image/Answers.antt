@@ -1,17 +1,24 @@
+use Rattle.std.proofs.Common.{refl, sym, ◌∙◌}
 use Rattle.device_outside.specs.Outside.{done}
-use Rattle.device_outside.proofs.Runs.{joined}
-use Rattle.device_defs.specs.Contents.{contents}
-use Rattle.device_store.proofs.Moves.{weaker}
+use Rattle.device_defs.specs.Image.{image}
+use Rattle.device_store.specs.State.{state_of}
+use Rattle.device_store.proofs.Looks.{image_modified, image_clean, image_none}
+use Rattle.device_store.proofs.Moves.{from_equal}
 use Rattle.device_store.proofs.store.DeviceStore.image.Goals as goal
-use Rattle.device_defs.specs.Image.{image, missed}
 
-pub returns-then-got-clause-run : goal.returns-then-got-clause-run
+pub returns-then-modified-clause-run : goal.returns-then-modified-clause-run
 unfolding image
-returns-then-got-clause-run g c =
-    joined (λ z got. missed contents c.args.usage.now c.args.t z got got.bytes) (weaker c.deliver.result (c.level_bytes-got.ensures.run _ _))
-    (rw c.if-got.true (c.deliver.ensures.run _))
+returns-then-modified-clause-run g c =
+    from_equal (λ i. i) (sym (image_modified (state_of c.args.self.now) c.args.usage.now c.args.t _ (sym c.modified.ensures ∙ c.if-modified.true))) refl done
+
+pub returns-then-has-clause-run : goal.returns-then-has-clause-run
+unfolding image
+returns-then-has-clause-run g c =
+    from_equal (λ i. i)
+    (sym (image_clean (state_of c.args.self.now) c.args.usage.now c.args.t _ (sym c.modified.ensures ∙ c.if-modified.false) (sym c.has.ensures ∙ c.if-has.true)))
+    refl (c.clean_image.ensures.run _)
 
 pub returns-clause-run : goal.returns-clause-run
 unfolding image
 returns-clause-run g c =
-    joined (λ z got. missed contents c.args.usage.now c.args.t z got got.bytes) (c.level_bytes-got.ensures.run _ _) (rw c.if-got.false done)
+    from_equal (λ i. i) (sym (image_none (state_of c.args.self.now) c.args.usage.now c.args.t _ (sym c.has.ensures ∙ c.if-has.false))) refl (c.miss.ensures.run _)

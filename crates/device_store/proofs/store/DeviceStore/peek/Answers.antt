@@ -4,6 +4,7 @@ use Rattle.device_outside.specs.Outside.{done}
 use Rattle.device_outside.proofs.Runs.{ended, joined}
 use Rattle.device_defs.specs.Memory.{had_by}
 use Rattle.device_defs.specs.Peek.{peeked}
+use Rattle.device_store.specs.State.{state_of}
 use Rattle.device_store.proofs.store.DeviceStore.peek.Goals as goal
 
 pub returns-then-has-clause-run : goal.returns-then-has-clause-run
@@ -16,4 +17,7 @@ returns-in-Err-clause-run g c =
 pub returns-in-Ok-clause-run : goal.returns-in-Ok-clause-run
 returns-in-Ok-clause-run g c =
     rw (← c.has.ensures, c.if-has.false) (joined (had_by (λ z i. Done z (Some (peeked i)))) (rw c.peek_usage.ensures at c.in-Ok.ensures.run)
-    (ended refl (ap Some (sym c.peeked.ensures))))
+    (ended refl (ap Some (sym (c.peeked.ensures.is (state_of c.image.new.self) c.args.t)))))
+
+pub returns-in-Ok-clause-there : goal.returns-in-Ok-clause-there
+returns-in-Ok-clause-there g c = c.peeked.ensures.there (state_of c.image.new.self) c.args.t c.in-Ok.ensures.there

@@ -12,4 +12,4 @@ returns-then-is_level-clause-state g c = rw (← c.has.ensures, c.if-has.false, 
 
 pub returns-clause-state : goal.returns-clause-state
 unfolding settled
-returns-clause-state g c = rw (c.add.ensures, ← c.has.ensures, c.if-has.false, ← c.is_level.ensures, c.if-is_level.false) refl
+returns-clause-state g c = rw (← c.has.ensures, c.if-has.false, ← c.is_level.ensures, c.if-is_level.false) c.keep_or_lose.ensures.state

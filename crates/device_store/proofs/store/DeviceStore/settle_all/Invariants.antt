@@ -1,7 +1,9 @@
-use Rattle.std.proofs.Common.{◌≡◌}
+use Rattle.std.proofs.Common.{◌≡◌, ◌*◌}
+use Rattle.device_outside.specs.Outside.{PortView, Ran}
 use Rattle.device_defs.specs.Contents.{contents}
-use Rattle.device_defs.specs.Losses.{over, settled}
-use Rattle.device_store.specs.State.{state_of}
+use Rattle.device_defs.specs.Losses.{all_firm_told, over, settled}
+use Rattle.event_notes.specs.Loose.{weight}
+use Rattle.device_store.specs.State.{state_of, outside, surely, Takes}
 use Rattle.device_store.proofs.store.DeviceStore.settle_all.Given as goal
 
 abbrev pub invariant-loop-t : goal.invariant-loop-t
@@ -9,5 +11,8 @@ invariant-loop-t g l = record {
   number : l.self.number ≡ l.fn.self.number;
   cylinders : l.self.cylinders ≡ l.fn.self.cylinders;
   volume : l.self.volume ≡ l.fn.self.volume;
-  state : state_of l.self ≡ over l.t (λ t z. settled contents z t) (state_of l.fn.self);
+  weight : weight l.self.loose ≡ weight l.fn.self.loose;
+  takes : Takes g.K.Keep.takes l.keep l.self.number (l.self.cylinders * 15);
+  ran : (p : PortView) → Ran surely g.K.Keep.hears (all_firm_told contents l.t (over l.t (λ t z. settled contents z t) (state_of l.fn.self)))
+      (outside p l.fn.self l.fn.keep) (state_of l.self) tt (outside p l.self l.keep);
 }

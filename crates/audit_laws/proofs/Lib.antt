@@ -1,0 +1,5 @@
+mod Devices
+mod Sound
+mod Works
+mod Lines
+mod Decks

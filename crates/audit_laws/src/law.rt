@@ -1,0 +1,26 @@
+ghost use Rattle.std.specs.Prelude.{◌≡◌, ℕ, List, Ok};
+ghost use Rattle.deck_text.specs.DeckLines.{DeckLines};
+ghost use Rattle.deck_text.specs.Parse.{parsed};
+ghost use Rattle.report_places.specs.declared.state.Due.TheVariants.{Next};
+ghost use Rattle.deck_audit.specs.State.{AuditState, first_state};
+ghost use Rattle.report_auditor.specs.Verdict.{read_back};
+ghost use Rattle.report_auditor.specs.declared.status.AuditStatus.TheVariants.{Yes};
+ghost use Rattle.report_audit.specs.FirstFault.{IsGood, LeadsTo};
+ghost use Rattle.audit_laws.specs.Plain.{ArePlain, IsPlainReport};
+
+/// Lines without a fault, up to where no piece of work and no order is half told, are of plain devices: each device of the deck, in its
+/// order, has a history that a plain device could have, its journal is legal.
+pub fn front_is_plain()
+    ensures { (text : List ℕ) (deck : DeckLines) (lines : List (List ℕ)) (s : AuditState) → parsed text ≡ Ok deck
+        → LeadsTo (first_state deck) lines s → s.due ≡ Next → ArePlain deck s }
+{}
+
+/// So is a whole report in which no line has a fault and the last is FINISH.
+pub fn good_report_is_plain()
+    ensures { (text : List ℕ) (good : IsGood text) → ArePlain good.deck good.report.end }
+{}
+
+/// So what an audit says yes to is a deck and a report of plain devices.
+pub fn yes_is_plain()
+    ensures { (text : List ℕ) → read_back text ≡ Yes → IsPlainReport text }
+{}

@@ -1,0 +1,134 @@
+-- The lines of an event of a run, by what it did; and what was recorded of it.
+use Rattle.std.proofs.Common.{◌≡◌, ◌∙◌, ◌++◌, ℕ, List, [], ◌∷◌, Option, Some, None, refl, sym, ap, subst}
+use Rattle.std.proofs.lemmas.List.{append-nil}
+use Rattle.plain_defs.specs.declared.journal.Item.{Item}
+use Rattle.device_outside.specs.declared.volume.Volume.{Ghosts}
+use Rattle.device_core.specs.declared.device.Device.{Device}
+use Rattle.report_text.specs.declared.event.Loosed.{Loosed}
+use Rattle.report_text.specs.declared.answers.BackAnswer.TheVariants as backs
+use Rattle.report_text.specs.declared.answers.StartAnswer.{StartAnswer}
+use Rattle.report_text.specs.declared.event.Happened as report
+use Rattle.report_text.specs.declared.event.Happened.TheVariants as did
+use Rattle.report_text.specs.declared.line.ReportLine.{ReportLine}
+use Rattle.run_report.specs.declared.told.RunningProgram.{RunningProgram}
+use Rattle.run_report.specs.Answers.{start_answer}
+use Rattle.run_report.specs.Events.{lines_of, running_in, work_lines, work_told}
+use Rattle.run_report.specs.OneDevice.{lines_by}
+use Rattle.subsystem_core.specs.declared.subsystem.Subsystem.{Subsystem}
+use Rattle.subsystem_core.specs.Devices.{device_at}
+use Rattle.subsystem_defs.specs.declared.end.EventEnd.{EventEnd}
+use Rattle.subsystem_defs.specs.declared.event.Event.{Event}
+use Rattle.subsystem_defs.specs.declared.event.Event.TheVariants as events
+use Rattle.subsystem_defs.specs.Beside.{behind_first}
+use Rattle.subsystem_defs.specs.Deeds.{Ends, Becomes, Asks, Each, Repairs, Lends}
+use Rattle.subsystem_defs.specs.Happening as H
+use Rattle.subsystem_defs.specs.Happening.{MarksDeed, Talk, asks, happens, happens_by}
+use Rattle.subsystem_defs.specs.Lines.{Once, Run, Settle, logged}
+use Rattle.subsystem_defs.specs.Subsystem as runs
+use Rattle.subsystem_defs.specs.Subsystem.{Mounted, devices_of, mounted_in}
+use Rattle.deck_run.specs.declared.pass.Passed.{Passed}
+use Rattle.deck_run.specs.Passing.{HasPassed}
+use Rattle.deck_run.specs.Recording.{all_lines, lines_when}
+
+asks_before : (s : runs.Subsystem) (n : ℕ) (o : Option Mounted) (talk : Talk (Option EventEnd)) → (asks s n o talk).before ≡ s
+asks_before s n (Some m) talk = refl
+asks_before s n None talk = refl
+
+before_by : (s : runs.Subsystem) (d : MarksDeed) → (happens_by s d).before ≡ s
+before_by s (Ends end) = refl
+before_by s (Becomes d end) = refl
+before_by s (Asks d talk) = asks_before s d.store.device (mounted_in s.mounted d.store.device) talk
+before_by s (Each pool f) = refl
+before_by s (Repairs pool) = refl
+before_by s (Lends a b) = refl
+
+before_is : (s : runs.Subsystem) (e : Event) → (happens s e).before ≡ s
+unfolding H.happens
+before_is s e = before_by s _
+
+-- with the subsystem before it as the run has it
+work_lines_by : (s : runs.Subsystem) (e : Event) (h : runs.Subsystem → report.Happened) →
+    work_lines (h (happens s e).before) (happens s e).reads (happens s e).writes (devices_of (happens s e).before) (devices_of (happens s e).behind)
+    ≡ lines_when s e (h s)
+work_lines_by s e h =
+    ap (λ (z : runs.Subsystem). work_lines (h z) (happens s e).reads (happens s e).writes (devices_of z) (devices_of (happens s e).behind)) (before_is s e)
+
+pub step_lines : (s : runs.Subsystem) (d : ℕ) → lines_of (logged (Run d) (happens s (events.Step d)))
+    ≡ lines_when s (events.Step d) (work_told d (running_in (devices_of s) d) (did.RunIdle d) (happens s (events.Step d)).end)
+step_lines s d =
+    work_lines_by s (events.Step d) (λ (z : runs.Subsystem). work_told d (running_in (devices_of z) d) (did.RunIdle d) (happens s (events.Step d)).end)
+
+pub back_lines : (s : runs.Subsystem) (d : ℕ) → lines_of (logged (Settle d) (happens s (events.Back d)))
+    ≡ lines_when s (events.Back d) (work_told d (running_in (devices_of s) d) (did.Back d backs.Nothing) (happens s (events.Back d)).end)
+back_lines s d =
+    work_lines_by s (events.Back d)
+    (λ (z : runs.Subsystem). work_told d (running_in (devices_of z) d) (did.Back d backs.Nothing) (happens s (events.Back d)).end)
+
+-- one event alone
+
+pub one_step_tells : (s : runs.Subsystem) (d : ℕ) (told more : List ReportLine) → more ≡ told ++ lines_when s (events.Step d)
+    (work_told d (running_in (devices_of s) d) (did.StepIdle d) (happens s (events.Step d)).end) →
+    more ≡ told ++ all_lines (logged (Once (events.Step d)) (happens s (events.Step d)) ∷ [])
+one_step_tells s d told more is =
+    is ∙ ap (λ (l : List ReportLine). told ++ l)
+    (sym (append-nil _ ∙ work_lines_by s (events.Step d)
+    (λ (z : runs.Subsystem). work_told d (running_in (devices_of z) d) (did.StepIdle d) (happens s (events.Step d)).end)))
+
+pub back_tells : (s : runs.Subsystem) (d : ℕ) (told more : List ReportLine) → more ≡ told ++ lines_when s (events.Back d)
+    (work_told d (running_in (devices_of s) d) (did.Back d backs.Nothing) (happens s (events.Back d)).end) →
+    more ≡ told ++ all_lines (logged (Once (events.Back d)) (happens s (events.Back d)) ∷ [])
+back_tells s d told more is =
+    is ∙ ap (λ (l : List ReportLine). told ++ l)
+    (sym (append-nil _ ∙ work_lines_by s (events.Back d)
+    (λ (z : runs.Subsystem). work_told d (running_in (devices_of z) d) (did.Back d backs.Nothing) (happens s (events.Back d)).end)))
+
+pub start_tells : (s : runs.Subsystem) (path d : ℕ) (told more : List ReportLine) → more ≡ told ++ lines_when s (events.Start path d)
+    (did.Started path d (start_answer (happens s (events.Start path d)).end)) →
+    more ≡ told ++ all_lines (logged (Once (events.Start path d)) (happens s (events.Start path d)) ∷ [])
+start_tells s path d told more is =
+    is ∙ ap (λ (l : List ReportLine). told ++ l)
+    (sym (append-nil _ ∙ work_lines_by s (events.Start path d)
+    (λ (z : runs.Subsystem). did.Started path d (start_answer (happens s (events.Start path d)).end))))
+
+pub reset_tells : (s : runs.Subsystem) (path d : ℕ) (told more : List ReportLine) → more ≡ told ++ lines_when s (events.Reset path d) (did.Reset path d) →
+    more ≡ told ++ all_lines (logged (Once (events.Reset path d)) (happens s (events.Reset path d)) ∷ [])
+reset_tells s path d told more is =
+    is ∙ ap (λ (l : List ReportLine). told ++ l)
+    (sym (append-nil _ ∙ work_lines_by s (events.Reset path d) (λ (z : runs.Subsystem). did.Reset path d)))
+
+-- What was recorded
+
+module _ {V : Type 0} {G : Ghosts V} (s : Subsystem V G) (run : runs.Subsystem) (e : Event) (d : ℕ) (p : Passed) (has : HasPassed s run e d p)
+    (y : Device V G) (at : device_at s.devices.items d ≡ Some y) (items : List Item) (came : items ≡ behind_first p.items y.past.items.items)
+    (acts : List Loosed) (noted : acts ≡ p.acts.items) (told more : List ReportLine) where
+  recorded : (h : report.Happened) → more ≡ told ++ lines_by d h acts p.calls.reads p.calls.writes items → more ≡ told ++ lines_when run e h
+  recorded h is =
+      is ∙ ap (λ (l : List Item). told ++ lines_by d h acts p.calls.reads p.calls.writes l) came
+      ∙ ap (λ (l : List Loosed). told ++ lines_by d h l p.calls.reads p.calls.writes (behind_first p.items y.past.items.items)) noted
+      ∙ ap (λ (l : List ReportLine). told ++ l) (sym (has.lines y at h))
+
+  -- room was made before it
+  roomy : (h : report.Happened) (room : List ReportLine) → room ≡ told → more ≡ room ++ lines_by d h acts p.calls.reads p.calls.writes items →
+      more ≡ told ++ lines_by d h acts p.calls.reads p.calls.writes items
+  roomy h room same is = is ∙ ap (λ (l : List ReportLine). l ++ lines_by d h acts p.calls.reads p.calls.writes items) same
+
+  pub work_recorded : (idle h : report.Happened) (room : List ReportLine) → room ≡ told → h ≡ work_told d p.running idle p.end →
+      more ≡ room ++ lines_by d h acts p.calls.reads p.calls.writes items →
+      more ≡ told ++ lines_when run e (work_told d (running_in (devices_of run) d) idle (happens run e).end)
+  work_recorded idle h room same did_so is =
+      recorded h (roomy h room same is)
+      ∙ ap (λ (x : report.Happened). told ++ lines_when run e x) did_so
+      ∙ ap (λ (r : Option RunningProgram). told ++ lines_when run e (work_told d r idle p.end)) (sym has.running)
+      ∙ ap (λ (x : EventEnd). told ++ lines_when run e (work_told d (running_in (devices_of run) d) idle x)) (sym has.ended)
+
+  pub start_recorded : (path : ℕ) (a : StartAnswer) (room : List ReportLine) → room ≡ told → a ≡ start_answer p.end →
+      more ≡ room ++ lines_by d (did.Started path d a) acts p.calls.reads p.calls.writes items →
+      more ≡ told ++ lines_when run e (did.Started path d (start_answer (happens run e).end))
+  start_recorded path a room same answered is =
+      recorded (did.Started path d a) (roomy (did.Started path d a) room same is)
+      ∙ ap (λ (x : StartAnswer). told ++ lines_when run e (did.Started path d x)) answered
+      ∙ ap (λ (x : EventEnd). told ++ lines_when run e (did.Started path d (start_answer x))) (sym has.ended)
+
+  pub reset_recorded : (path : ℕ) (room : List ReportLine) → room ≡ told →
+      more ≡ room ++ lines_by d (did.Reset path d) acts p.calls.reads p.calls.writes items → more ≡ told ++ lines_when run e (did.Reset path d)
+  reset_recorded path room same is = recorded (did.Reset path d) (roomy (did.Reset path d) room same is)

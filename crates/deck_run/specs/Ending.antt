@@ -1,0 +1,21 @@
+-- What is told of a device in code at the end of a run.
+use Rattle.std.specs.Prelude.{ℕ, ◌*◌, false, List, [], ◌∷◌, slice_index_or}
+use Rattle.std.specs.List.{range_with_len}
+use Rattle.device_outside.specs.declared.volume.Volume.{Ghosts}
+use Rattle.device_core.specs.declared.device.Device.{Device}
+use Rattle.report_text.specs.declared.line.ReportLine.{ReportLine}
+use Rattle.run_report.specs.Closing.{device_lines}
+use Rattle.subsystem_defs.specs.Closing.{Counted, where_true}
+
+module _ {V : Type 0} {G : Ghosts V} where
+  -- its lost tracks, in rising order
+  abbrev pub lost_in : Device V G → List ℕ
+  lost_in x = where_true (λ (t : ℕ). slice_index_or x.store.lost t false) (range_with_len 0 (x.store.cylinders * 15))
+
+  -- this track, where it is lost
+  abbrev pub lost_at : Device V G → ℕ → List ℕ
+  lost_at x t = where_true (λ (u : ℕ). slice_index_or x.store.lost u false) (t ∷ [])
+
+  -- and its calls. It is lent to none
+  abbrev pub end_lines_of : Device V G → List ReportLine
+  end_lines_of x = device_lines (Counted x.store.number x.store.counts.reads x.store.counts.writes (lost_in x))

@@ -1,0 +1,115 @@
+//! What is told of the acts of cache fast write that came with an event.
+
+ghost use Rattle.std.specs.Prelude.{◌≡◌, ◌≤◌, IfOk};
+ghost use Rattle.device_core.specs.State.{device_of};
+ghost use Rattle.run_report.specs.Beside.{id_of};
+ghost use Rattle.subsystem_defs.specs.Beside.{has_power, is_power, loose_count};
+ghost use Rattle.deck_run.specs.Loosening.{acts_by, all_loosed, loosed_by, power_by};
+
+use ckd_types::{DeviceNo, NoMemory};
+use device_core::Device;
+use device_outside::Volume;
+use plain_defs::{Act, Item};
+use report_text::{LooseAnswer, Loosed};
+use std::alloc::Global;
+use subsystem_defs::EventEnd;
+
+fn count_of<V: Volume>(device: &Device<V>) -> usize
+    ensures value { result ≡ loose_count (device_of device.now).store }
+    ensures most { result ≤ 960 }
+{
+    device.store.loose.count()
+}
+
+/// How many tracks are loose.
+pub(crate) fn loose_of<V: Volume>(device: &Device<V>) -> u16
+    ensures { result ≡ loose_count (device_of device.now).store }
+{
+    count_of(device) as u16
+}
+
+fn data_of<V: Volume>(device: &Device<V>) -> u16
+    ensures { result ≡ (device_of device.now).store.number }
+{
+    device.store.data_number
+}
+
+fn noted<V: Volume>(device: &Device<V>) -> &[Act]
+    ensures { result.now ≡ (device_of device.now).store.acts }
+{
+    device.store.loose.acts()
+}
+
+/// The acts that came with an event which ended so.
+fn acts_by<'a, V: Volume>(end: &EventEnd, device: &'a Device<V>) -> &'a [Act]
+    ensures { result.now ≡ acts_by end.now (device_of device.now) }
+{
+    match end {
+        EventEnd::Stepped(_) | EventEnd::Second(_) | EventEnd::Back(_) => noted(device),
+        _ => &[],
+    }
+}
+
+fn id_of(number: u16) -> [u8; 2]
+    ensures { result ≡ id_of number }
+{
+    [(number / 256) as u8, (number % 256) as u8]
+}
+
+/// What is told of an act, where so many tracks were loose before, and this is the number of the data behind.
+fn loosed_by(device: DeviceNo, count: u16, number: u16, act: Act) -> Loosed
+    ensures { result ≡ loosed_by device count number act }
+{
+    let answer = match act {
+        Act::Loosen(track) => LooseAnswer::Loosen(track),
+        Act::Harden(track) => LooseAnswer::Harden(track),
+        Act::CfwLost => LooseAnswer::Lost {
+            count,
+            id: id_of(number),
+        },
+    };
+    Loosed { device, answer }
+}
+
+fn is_power(item: &Item) -> bool
+    ensures { result ≡ is_power item.now }
+{
+    match item {
+        Item::Power => true,
+        _ => false,
+    }
+}
+
+#[tactic(auto, using(crate::proofs::Loosened::power_more, crate::proofs::Loosened::power_none))]
+fn has_power(items: &[Item]) -> bool
+    ensures { result ≡ has_power items.now }
+{
+    for item in items {
+        if is_power(item) {
+            return true;
+        }
+    }
+    false
+}
+
+/// What came to a device in an event that ended so: of its acts, and of a loss of power among the items that came.
+pub(crate) fn all_loosed<V: Volume>(
+    alloc: Global,
+    d: DeviceNo,
+    count: u16,
+    device: &Device<V>,
+    end: &EventEnd,
+    items: &[Item],
+) -> Result<Vec<Loosed>, NoMemory>
+    ensures { IfOk result (λ told. told.items ≡ all_loosed d count (device_of device.now).store.number (acts_by end.now (device_of device.now)) (has_power items.now)) }
+{
+    let number = data_of(device);
+    let mut told = Vec::new(alloc);
+    for act in acts_by(end, device) {
+        told.push(loosed_by(d, count, number, *act))?;
+    }
+    if has_power(items) && count != 0 {
+        told.push(loosed_by(d, count, number, Act::CfwLost))?;
+    }
+    Ok(told)
+}

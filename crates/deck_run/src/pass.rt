@@ -1,0 +1,121 @@
+//! One event of one device, with what its lines tell.
+
+ghost use Rattle.std.specs.Prelude.{◌≡◌, ℕ, IfOk, OnOk, length, true};
+ghost use Rattle.device_outside.specs.Lists.{is_in};
+ghost use Rattle.subsystem_core.specs.Devices.{numbers_of};
+ghost use Rattle.subsystem_defs.specs.Beside.{behind_first};
+ghost use Rattle.subsystem_defs.specs.Subsystem as runs;
+ghost use Rattle.deck_run.specs.Counting.{more_calls};
+ghost use Rattle.deck_run.specs.Owning.{AreOwn, IsOpenOn};
+ghost use Rattle.deck_run.specs.Passing.{HasPassed};
+ghost use Rattle.deck_run.specs.Recording.{running_of};
+ghost use Rattle.deck_run.specs.Standing.{StandsAs};
+
+use crate::event::do_event;
+use crate::loosed::{all_loosed, loose_of};
+use ckd_types::{DeviceNo, NoMemory};
+use device_core::Device;
+use device_outside::Volume;
+use plain_defs::Item;
+use report_text::Loosed;
+use run_report::{Calls, RunningProgram};
+use std::alloc::Global;
+use subsystem_core::Subsystem;
+use subsystem_defs::{Event, EventEnd};
+
+/// What passed at an event of a device: its end, the program that ran there before it, how many items the journal had then, and the
+/// what came of data of cache fast write, and the volume calls of the event.
+#[derive(Drop)]
+pub(crate) struct Passed {
+    pub end: EventEnd,
+    pub running: Option<RunningProgram>,
+    pub items: usize,
+    pub acts: Vec<Loosed>,
+    pub calls: Calls,
+}
+
+fn running_of<V: Volume>(device: &Device<V>) -> Option<RunningProgram>
+    ensures { result ≡ running_of device.now }
+{
+    match &device.past.running {
+        Some(running) => Some(RunningProgram {
+            path: running.path,
+            ordinal: running.ordinal,
+        }),
+        None => None,
+    }
+}
+
+fn calls_of<V: Volume>(device: &Device<V>) -> Calls
+    ensures reads { result.reads ≡ device.now.store.counts.reads }
+    ensures writes { result.writes ≡ device.now.store.counts.writes }
+{
+    Calls {
+        reads: device.reads(),
+        writes: device.writes(),
+    }
+}
+
+/// How many calls came to a count. Where it may have stopped at the greatest number, none is told, as for want of memory.
+#[tactic(auto, using(crate::proofs::Between::between))]
+fn count_between(before: u64, behind: u64) -> Result<u64, NoMemory>
+    ensures { IfOk result (λ n. (k : ℕ) → behind ≡ more_calls k before → n ≡ k) }
+{
+    if behind == u64::MAX {
+        return Err(NoMemory);
+    }
+    Ok(behind.saturating_sub(before))
+}
+
+fn calls_between(before: Calls, behind: Calls) -> Result<Calls, NoMemory>
+    ensures reads { IfOk result (λ calls. (k : ℕ) → behind.reads ≡ more_calls k before.reads → calls.reads ≡ k) }
+    ensures writes { IfOk result (λ calls. (k : ℕ) → behind.writes ≡ more_calls k before.writes → calls.writes ≡ k) }
+{
+    let reads = count_between(before.reads, behind.reads)?;
+    let writes = count_between(before.writes, behind.writes)?;
+    Ok(Calls { reads, writes })
+}
+
+/// The items of a journal behind the first ones, so many of them.
+#[tactic(auto, using(crate::proofs::Between::behind_is, crate::proofs::Between::behind_none))]
+pub(crate) fn behind_first(items: &[Item], n: usize) -> &[Item]
+    ensures { result.now ≡ behind_first n items.now }
+{
+    if n >= items.len() {
+        return &[];
+    }
+    items.split_at(n).1
+}
+
+/// An event of one device, which is what happens in the defined run.
+pub(crate) fn pass<V: Volume>(
+    alloc: Global,
+    sub: &mut Subsystem<V>,
+    d: DeviceNo,
+    e: Event,
+) -> Result<Passed, NoMemory>
+    requires here { is_in d (numbers_of sub.old.devices.items) ≡ true }
+    requires on { IsOpenOn d e }
+    requires own { AreOwn sub.old.devices.items }
+    ensures numbers { numbers_of sub.new.devices.items ≡ numbers_of sub.old.devices.items }
+    ensures own { OnOk result (AreOwn sub.new.devices.items) }
+    ensures passed { (run : runs.Subsystem) → StandsAs sub.old run → IfOk result (λ passed. HasPassed sub.new run e d passed) }
+{
+    let device = sub.device(d);
+    let running = running_of(device);
+    let items = device.journal().len();
+    let loose = loose_of(device);
+    let before = calls_of(device);
+    let end = do_event(alloc, sub, d, e)?;
+    let behind = sub.device(d);
+    let calls = calls_between(before, calls_of(behind))?;
+    let came = behind_first(behind.journal(), items);
+    let acts = all_loosed(alloc, d, loose, behind, &end, came)?;
+    Ok(Passed {
+        end,
+        running,
+        items,
+        acts,
+        calls,
+    })
+}

@@ -1,0 +1,21 @@
+use Rattle.std.proofs.Common.{refl, ap}
+use Rattle.device_defs.specs.Command.{command_by}
+use Rattle.device_defs.specs.Contents.{contents}
+use Rattle.device_defs.specs.Device.{event_begun}
+use Rattle.device_defs.specs.Owed.{hear, ended}
+use Rattle.device_store.specs.State.{state_of, outside_of}
+use Rattle.device_store.proofs.Moves.{from_equal, weaker}
+use Rattle.device_core.specs.State.{device_of}
+use Rattle.device_core.proofs.Eventful.{event_run}
+use Rattle.device_core.proofs.device.Device.command_event.Goals as goal
+
+pub returns-clause-run : goal.returns-clause-run
+returns-clause-run g c =
+    let d = device_of c.args.self.now in
+    let r = c.command_ready-stepped.result in
+    event_run d (λ z. command_by contents z z.history.running z.chain) (device_of c.command_ready-stepped.new.self)
+    (record (device_of c.command_ready-stepped.new.self) { store = state_of c.end_event.new.self })
+    (weaker r (from_equal (hear contents 960) c.begin_event.ensures.state
+    (ap (λ v. outside_of (g.P.Port.view c.args.port.now) (g.V.Volume.view v) c.args.keep.now) c.begin_event.ensures.volume) (c.hear.ensures.run c.args.keep.now)))
+    c.command_ready-stepped.ensures.run
+    (weaker r (from_equal (λ n. ended contents n (state_of c.command_ready-stepped.new.self.store)) c.waiting_count-before.ensures refl (c.end_event.ensures.run _))) refl

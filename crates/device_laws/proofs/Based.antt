@@ -1,0 +1,211 @@
+-- What a device is, and what it counts, goes along with the calls that its interactions make: reads and writes are counted, and those that
+-- fail; nothing else of it is changed, and only the end of an event tells how many tracks wait.
+use Rattle.std.proofs.Common.{◌≡◌, ◌==◌, ◌+◌, zero, suc, ℕ, Bool, true, false, List, [], ◌∷◌, ◌++◌, Option, Some, None, is_some, refl, ap, subst, ◌∙◌, arith}
+use Rattle.std.specs.Prelude.{if◌then◌else◌, not, count_by}
+use Rattle.std.specs.List.{fold}
+use Rattle.ckd_types.specs.declared.geometry.Geometry.{Geometry}
+use Rattle.ckd_types.specs.declared.paths.Side.{Side}
+use Rattle.ckd_types.specs.declared.paths.Side.TheVariants.{A, B}
+use Rattle.track_image.specs.Image.{Image}
+use Rattle.device_outside.specs.Interaction.{Interaction, Done, Try, Ask, Read, Write, Tell, and_then}
+use Rattle.device_outside.specs.Keeper.{Message, ReplyTo}
+use Rattle.device_outside.specs.Pool.{Call, TellWaiting, AnswerTo}
+use Rattle.device_outside.specs.Volume.{counted, counted_if}
+use Rattle.device_defs.specs.declared.counts.Counts.{Counts}
+use Rattle.device_defs.specs.Contents.{Contents}
+use Rattle.device_defs.specs.Losses as L
+use Rattle.device_defs.specs.Losses.{
+  over,
+  down,
+  slot_in,
+  gives_up,
+  without_frame,
+  without_patch,
+  by_frame,
+  settled,
+  settled_but,
+  stale_everywhere,
+  patch_lost,
+  side_lost,
+  cache_lost,
+  store_lost,
+}
+use Rattle.device_defs.specs.Effects.{acted, gone_back, loose_lost}
+use Rattle.device_defs.specs.Memory.{tried, had_by, and_had}
+use Rattle.device_defs.specs.Store.{Store, tracks_of, has_level, has_loose, frame_at, patch_at, is_lost, is_loose, half_is, with_lost}
+use Rattle.plain_defs.specs.declared.journal.Act.{Act}
+use Rattle.plain_defs.specs.declared.journal.Act.TheVariants.{Harden, CfwLost}
+use Rattle.device_defs.specs.Command.{is_loss}
+
+-- what it is, and what it counts
+pub record Base : Type 0 where
+  pub device : ℕ
+  pub geometry : Geometry
+  pub cylinders : ℕ
+  pub lent : Option ℕ
+  pub counts : Counts
+  pub gone : ℕ  -- how often data of cache fast write were lost in this event
+
+abbrev pub base_of : {F P H : Type 0} → Store F P H → Base
+base_of s = record { device = s.device; geometry = s.geometry; cylinders = s.cylinders; lent = s.lent; counts = s.counts; gone = count_by is_loss s.acts }
+
+-- but for what happened in this event
+abbrev pub forget : Base → Base
+forget b = record b { gone = 0 }
+
+abbrev pub kept : {F P H : Type 0} → Store F P H → Base
+kept s = forget (base_of s)
+
+abbrev pub read_base : Base → Bool → Base
+read_base b ok = record b { counts = record b.counts { reads = counted b.counts.reads; failed = counted_if (not ok) b.counts.failed } }
+
+abbrev pub write_base : Base → Bool → Base
+write_base b ok = record b { counts = record b.counts { writes = counted b.counts.writes; failed = counted_if (not ok) b.counts.failed } }
+
+-- any call but that which tells how many tracks wait
+abbrev pub Hushed : Call → Type 0
+Hushed (TellWaiting d n) = ⊥
+Hushed c = Unit {0}
+
+abbrev pub Any : Call → Type 0
+Any c = Unit {0}
+
+-- From this base an interaction makes only such calls, and leaves the base with what they count
+pub data Based {R S A : Type 0} (base : S → Base) (may : Call → Type 0) : Base → Interaction R Image S A → Type 0 where
+  based_done : {b : Base} {s : S} {a : A} → base s ≡ b → Based base may b (Done s a)
+  based_try : {b : Base} {k : Bool → Interaction R Image S A} → ((ok : Bool) → Based base may b (k ok)) → Based base may b (Try k)
+  based_ask : {b : Base} {call : Call} {k : AnswerTo call → Interaction R Image S A} → may call → ((a : AnswerTo call) → Based base may b (k a)) →
+      Based base may b (Ask call k)
+  based_read : {b : Base} {side : Side} {t : ℕ} {k : Option R → Interaction R Image S A} →
+      ((got : Option R) → Based base may (read_base b (is_some got)) (k got)) → Based base may b (Read side t k)
+  based_write : {b : Base} {side : Side} {t : ℕ} {r : R} {k : Bool → Interaction R Image S A} →
+      ((ok : Bool) → Based base may (write_base b ok) (k ok)) → Based base may b (Write side t r k)
+  based_tell : {b : Base} {m : Message Image} {k : ReplyTo m → Interaction R Image S A} → ((r : ReplyTo m) → Based base may b (k r)) →
+      Based base may b (Tell m k)
+
+pub based_then : {R S T A B : Type 0} {base : S → Base} {other : T → Base} {may : Call → Type 0} {b : Base} {i : Interaction R Image S A}
+    (f : S → A → Interaction R Image T B) → Based base may b i → ((s : S) (a : A) → Based other may (base s) (f s a)) →
+    Based other may b (and_then i f)
+based_then {other = other} {may = may} f (based_done {s = s} {a = a} e) w = subst (λ (x : Base). Based other may x (f s a)) e (w s a)
+based_then f (based_try x) w = based_try (λ ok. based_then f (x ok) w)
+based_then f (based_ask m x) w = based_ask m (λ a. based_then f (x a) w)
+based_then f (based_read x) w = based_read (λ got. based_then f (x got) w)
+based_then f (based_write x) w = based_write (λ ok. based_then f (x ok) w)
+based_then f (based_tell x) w = based_tell (λ r. based_then f (x r) w)
+
+-- with any calls
+pub based_any : {R S A : Type 0} {base : S → Base} {may : Call → Type 0} {b : Base} {i : Interaction R Image S A} → Based base may b i → Based base Any b i
+based_any (based_done e) = based_done e
+based_any (based_try x) = based_try (λ ok. based_any (x ok))
+based_any (based_ask m x) = based_ask tt (λ a. based_any (x a))
+based_any (based_read x) = based_read (λ got. based_any (x got))
+based_any (based_write x) = based_write (λ ok. based_any (x ok))
+based_any (based_tell x) = based_tell (λ r. based_any (x r))
+
+pub based_forget : {R S A : Type 0} {base : S → Base} {may : Call → Type 0} {b : Base} {i : Interaction R Image S A} → Based base may b i →
+    Based (λ s. forget (base s)) may (forget b) i
+based_forget (based_done e) = based_done (ap forget e)
+based_forget (based_try x) = based_try (λ ok. based_forget (x ok))
+based_forget (based_ask m x) = based_ask m (λ a. based_forget (x a))
+based_forget (based_read x) = based_read (λ got. based_forget (x got))
+based_forget (based_write x) = based_write (λ ok. based_forget (x ok))
+based_forget (based_tell x) = based_tell (λ r. based_forget (x r))
+
+pub based_if : {R S A : Type 0} {base : S → Base} {may : Call → Type 0} {b : Base} (x : Bool) {i j : Interaction R Image S A} → Based base may b i →
+    Based base may b j → Based base may b (if x then i else j)
+based_if true f g = f
+based_if false f g = g
+
+pub based_tried : {R S A : Type 0} {base : S → Base} {may : Call → Type 0} {b : Base} (s : S) (i : Interaction R Image S (Option A)) → base s ≡ b →
+    Based base may b i → Based base may b (tried s i)
+based_tried s i e f = based_try (λ ok. based_if ok f (based_done e))
+
+-- one, and then another unless memory was lacking
+pub based_had : {R S A B : Type 0} {base : S → Base} {may : Call → Type 0} {b : Base} {i : Interaction R Image S (Option A)}
+    (f : S → A → Interaction R Image S (Option B)) → Based base may b i → ((s : S) (a : A) → Based base may (base s) (f s a)) →
+    Based base may b (and_had i f)
+based_had {S = S} {A = X} {base = base} {may = may} f x w = based_then (had_by f) x by_answer
+  where
+    by_answer : (s : S) (o : Option X) → Based base may (base s) (had_by f s o)
+    by_answer s (Some a) = w s a
+    by_answer s None = based_done refl
+
+-- Changes of a store that leave its base
+
+abbrev count_from : ℕ → List Act → ℕ
+count_from n acts = fold (λ k act. k + (if is_loss act then 1 else 0)) n acts
+
+one_act : (n : ℕ) (acts : List Act) (act : Act) → is_loss act ≡ false → count_from n (acts ++ act ∷ []) ≡ count_from n acts
+one_act n [] act e = ap (λ (b : Bool). n + (if b then 1 else 0)) e ∙ (let same : n + 0 ≡ n = omega arith in same)
+one_act n (x ∷ acts) act e = one_act (n + (if is_loss x then 1 else 0)) acts act e
+
+module _ {F P H : Type 0} where
+  pub base_if : (x : Bool) (s z : Store F P H) {b : Base} → base_of s ≡ b → base_of z ≡ b → base_of (if x then s else z) ≡ b
+  base_if true s z e f = e
+  base_if false s z e f = f
+
+  -- an act that is no loss
+  pub acted_base : (s : Store F P H) (act : Act) → is_loss act ≡ false → base_of (acted s act) ≡ base_of s
+  acted_base s act e = ap (λ (n : ℕ). record (base_of s) { gone = n }) (one_act 0 s.acts act e)
+
+  pub over_base : (n : ℕ) (f : ℕ → Store F P H → Store F P H) → ((t : ℕ) (s : Store F P H) → base_of (f t s) ≡ base_of s) → (s : Store F P H) →
+      base_of (over n f s) ≡ base_of s
+  unfolding L.over
+  over_base zero f same s = refl
+  over_base (suc n) f same s = same n (over n f s) ∙ over_base n f same s
+
+  pub given_base : (s : Store F P H) (t : ℕ) (o : Option ℕ) → base_of (gives_up s t o) ≡ base_of s
+  given_base s t None = refl
+  given_base s t (Some slot) = refl
+
+  pub unframed_base : (s : Store F P H) (t : ℕ) → base_of (without_frame s t) ≡ base_of s
+  unframed_base s t = base_if (is_some (frame_at s t)) _ _ refl refl
+
+  pub stale_base : (s : Store F P H) (t : ℕ) → base_of (stale_everywhere s t) ≡ base_of s
+  stale_base s t = base_if s.paired _ _ refl refl
+
+  pub down_base : (s : Store F P H) (side : Side) → base_of (down s side) ≡ base_of s
+  down_base s A = refl
+  down_base s B = refl
+
+  loose_by : (s : Store F P H) (x : Bool) → kept (record (if x then acted (gone_back s) CfwLost else s) { queue = [] }) ≡ kept s
+  loose_by s true = refl
+  loose_by s false = refl
+
+module _ {F P H R : Type 0} (c : Contents F P H R) where
+  pub unpatched_base : (s : Store F P H) (t : ℕ) → base_of (without_patch c s t) ≡ base_of s
+  unpatched_base s t = given_base s t (slot_in c (patch_at s t))
+
+  frame_base : (s : Store F P H) (t : ℕ) (o : Option F) → base_of (by_frame c s t o) ≡ base_of s
+  frame_base s t (Some f) = base_if (is_loose s t) _ _ (acted_base s (Harden t) refl) (base_if (c.modified f) _ _ refl refl)
+  frame_base s t None = base_if (half_is s.half t) _ _ refl (unpatched_base (with_lost s t) t)
+
+  pub settled_base : (s : Store F P H) (t : ℕ) → base_of (settled c s t) ≡ base_of s
+  unfolding L.settled
+  settled_base s t = base_if (is_some s.lent) _ _ refl (base_if (is_lost s t) _ _ refl (base_if (has_level s t) _ _ refl (frame_base s t (frame_at s t))))
+
+  settled_but_base : (writing : Option ℕ) (q : ℕ) (s : Store F P H) → base_of (settled_but c writing q s) ≡ base_of s
+  settled_but_base None q s = settled_base s q
+  settled_but_base (Some t) q s = base_if (q == t) _ _ refl (settled_base s q)
+
+  pub side_base : (s : Store F P H) (side : Side) (writing : Option ℕ) → base_of (side_lost c s side writing) ≡ base_of s
+  unfolding L.side_lost
+  side_base s side writing = over_base (tracks_of s) (settled_but c writing) (settled_but_base writing) (down s side) ∙ down_base s side
+
+  pub swept_base : (n : ℕ) (s : Store F P H) → base_of (over n (λ t z. settled c (without_frame z t) t) s) ≡ base_of s
+  swept_base n s = over_base n (λ t z. settled c (without_frame z t) t) (λ t z. settled_base (without_frame z t) t ∙ unframed_base z t) s
+
+  pub cache_base : (s : Store F P H) → kept (cache_lost c s) ≡ kept s
+  unfolding L.cache_lost
+  cache_base s = ap forget (swept_base (tracks_of s) (record (loose_lost s) { queue = [] })) ∙ loose_by s (has_loose s)
+
+  patch_base : (t : ℕ) (s : Store F P H) → base_of (patch_lost c t s) ≡ base_of s
+  patch_base t s =
+      base_if (is_some (patch_at s t)) _ _
+      (base_if (half_is s.half t) _ _ (unpatched_base s t)
+      (settled_base (stale_everywhere (without_patch c s t) t) t ∙ stale_base (without_patch c s t) t ∙ unpatched_base s t))
+      refl
+
+  pub store_base : (s : Store F P H) → base_of (store_lost c s) ≡ base_of s
+  unfolding L.store_lost
+  store_base s = over_base (tracks_of s) (patch_lost c) patch_base s

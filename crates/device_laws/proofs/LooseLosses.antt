@@ -1,0 +1,356 @@
+-- Data of cache fast write are lost as often as the cache was, at most.
+use Rattle.std.proofs.Common.{◌≡◌, ◌≤◌, ◌+◌, ◌==◌, ℕ, Bool, true, false, List, [], ◌∷◌, ◌++◌, Option, Some, None, length, refl, sym, ap, ◌∙◌, arith}
+use Rattle.std.specs.Prelude.{if◌then◌else◌, count_by}
+use Rattle.std.specs.List.{fold}
+use Rattle.ckd_chain.specs.declared.progress.Progress.{Progress}
+use Rattle.ckd_chain.specs.declared.progress.Progress.TheVariants as progresses
+use Rattle.ckd_chain.specs.declared.progress.Settled.TheVariants.{Equipment}
+use Rattle.ckd_chain.specs.State.{ChainState}
+use Rattle.ckd_chain.specs.Steps.{need_of, stepped}
+use Rattle.ckd_types.specs.declared.channel.CommandEnd.{CommandEnd}
+use Rattle.loss_model.specs.declared.Loss.{Loss}
+use Rattle.loss_model.specs.declared.Loss.TheVariants as losses
+use Rattle.plain_defs.specs.declared.journal.Act.{Act}
+use Rattle.plain_defs.specs.declared.journal.Act.TheVariants.{CfwLost}
+use Rattle.plain_defs.specs.declared.journal.Acted.{Acted}
+use Rattle.plain_defs.specs.declared.journal.How.{How}
+use Rattle.plain_defs.specs.declared.journal.How.TheVariants.{Full, Checked, Cut}
+use Rattle.plain_defs.specs.declared.journal.Item.{Item}
+use Rattle.plain_defs.specs.declared.journal.Item.TheVariants as items
+use Rattle.plain_defs.specs.History.{
+  OpenEntry,
+  History,
+  acted,
+  acted_in,
+  checked_in,
+  closed,
+  cut_by,
+  ended,
+  ended_in,
+  entry_of,
+  has_used,
+  lost_power_in,
+  put,
+  reset_in,
+  resets_of,
+  with_end,
+}
+use Rattle.plain_defs.specs.Legal.{is_used, is_started}
+use Rattle.plain_device.specs.Acted.{settled_act, paths_behind}
+use Rattle.track_image.specs.Image.{Image}
+use Rattle.device_outside.specs.Interaction.{Interaction, Done, and_then}
+use Rattle.device_outside.specs.Pool.{Call}
+use Rattle.device_defs.specs.declared.answers.Came.{Came}
+use Rattle.device_defs.specs.declared.answers.Came.TheVariants.{Ends, Checks, HalfOpen}
+use Rattle.device_defs.specs.declared.answers.Did.{Did}
+use Rattle.device_defs.specs.Background.{work}
+use Rattle.device_defs.specs.Command as N
+use Rattle.device_defs.specs.Command.{is_loss, has_loss, follow, came_out, on_tracks, answered_by, command_at, command_by, command}
+use Rattle.device_defs.specs.Contents.{Contents}
+use Rattle.device_defs.specs.Cutting as U
+use Rattle.device_defs.specs.Cutting.{half_cut, counts_one_by, path_cut, reset_by, reset, powered_off, power}
+use Rattle.device_defs.specs.Device.{Device, all_acted, with_store, event_begun, event}
+use Rattle.device_defs.specs.Effects.{acted as store_acted, gone_back, loose_lost}
+use Rattle.device_defs.specs.Events as E
+use Rattle.device_defs.specs.Events.{with_loss, lost_by, losing, second_turn, command_ended, second_ended, second_of, second, background, lose}
+use Rattle.device_defs.specs.Excused.{losses_of, loose_losses}
+use Rattle.device_defs.specs.Losses as L
+use Rattle.device_defs.specs.Losses.{over, without_frame, settled, cache_lost, all_firm_told}
+use Rattle.device_defs.specs.Outcomes.{Turn, ends_with, settles, checks, sense_kept, program_over, turned_by}
+use Rattle.device_defs.specs.Owed.{waiting_count, ended as event_end}
+use Rattle.device_defs.specs.Store.{Origin, OfCommand, OfCut, OfBackground, HalfWrite, Store, tracks_of, has_loose}
+use Rattle.device_laws.specs.Unharmed.{running_losses, all_losses}
+use Rattle.device_laws.proofs.Always as A
+use Rattle.device_laws.proofs.Always.{Behind, Always, always_done, always_try, always_then}
+use Rattle.device_laws.proofs.Based.{Base, Based, based_done, based_try, based_ask, based_read, based_write, based_tell, swept_base, store_base, side_base}
+use Rattle.device_laws.proofs.BasedEvents.{follow_steady}
+use Rattle.device_laws.proofs.BasedParts.{hear_steady, firm_steady, second_steady, work_steady}
+use Rattle.device_laws.proofs.KeptEvents.{always_any, always_if}
+
+-- Counts of acts and of items
+
+abbrev pub loss_count : List Act → ℕ
+loss_count acts = count_by is_loss acts
+
+abbrev acts_from : ℕ → List Act → ℕ
+acts_from n acts = fold (λ k act. k + (if is_loss act then 1 else 0)) n acts
+
+abbrev acted_from : ℕ → List Acted → ℕ
+acted_from n acts = fold (λ k a. k + (if is_loss a.act then 1 else 0)) n acts
+
+acts_shift : (n : ℕ) (acts : List Act) → acts_from n acts ≡ n + acts_from 0 acts
+acts_shift n [] = omega arith
+acts_shift n (act ∷ acts) =
+    let one : ℕ = if is_loss act then 1 else 0 in
+    let a = acts_shift (n + one) acts in
+    let b = acts_shift (0 + one) acts in
+    omega (arith, a, b)
+
+acted_more : (n : ℕ) (acts : List Acted) (a : Acted) → acted_from n (acts ++ a ∷ []) ≡ acted_from n acts + (if is_loss a.act then 1 else 0)
+acted_more n [] a = refl
+acted_more n (x ∷ acts) a = acted_more (n + (if is_loss x.act then 1 else 0)) acts a
+
+loose_append : (xs ys : List Item) → loose_losses (xs ++ ys) ≡ loose_losses xs + loose_losses ys
+loose_append [] ys = omega arith
+loose_append (x ∷ xs) ys = let a = loose_append xs ys in omega (arith, a)
+
+no_loose_resets : (paths : List ℕ) → loose_losses (resets_of paths) ≡ 0
+no_loose_resets [] = refl
+no_loose_resets (path ∷ paths) = let a = no_loose_resets paths in omega (arith, a)
+
+-- What ends, checks, cuts and acts make of a history
+
+abbrev all_of : History → Option OpenEntry → ℕ
+all_of h r = loose_losses h.items + running_losses r
+
+closed_losses : (h : History) (o : OpenEntry) (how : How) → all_losses (closed h o how) ≡ all_of h (Some o)
+closed_losses h o how =
+    let a = loose_append h.items (entry_of o how ∷ resets_of h.waiting) in
+    let b = no_loose_resets h.waiting in
+    omega (arith, a, b)
+
+over_losses : (h : History) (o : OpenEntry) (b : Bool) → all_losses (if b then closed h o Full else record h { running = Some o }) ≡ all_of h (Some o)
+over_losses h o true = closed_losses h o Full
+over_losses h o false = refl
+
+ended_losses : (h : History) (e : CommandEnd) (r : Option OpenEntry) → h.running ≡ r → all_losses (ended_in h e r) ≡ all_losses h
+ended_losses h e (Some o) is = over_losses h (with_end o e) e.over ∙ ap (λ (r : Option OpenEntry). all_of h r) (sym is)
+ended_losses h e None is = refl
+
+checked_losses : (h : History) (e : CommandEnd) (r : Option OpenEntry) → h.running ≡ r → all_losses (checked_in h e r) ≡ all_losses h
+checked_losses h e (Some o) is = closed_losses h (with_end o e) Checked ∙ ap (λ (r : Option OpenEntry). all_of h r) (sym is)
+checked_losses h e None is = refl
+
+act_losses : (h : History) (act : Act) (r : Option OpenEntry) → h.running ≡ r → all_losses (acted_in h act r) ≡ all_losses h + (if is_loss act then 1 else 0)
+act_losses h act (Some o) is =
+    let one : ℕ = if is_loss act then 1 else 0 in
+    let a = acted_more 0 o.acts (record { after = length o.ends; act = act }) in
+    let b : all_losses h ≡ all_of h (Some o) = ap (λ (r : Option OpenEntry). all_of h r) is in
+    omega (arith, a, b)
+act_losses h act None is =
+    let one : ℕ = if is_loss act then 1 else 0 in
+    let a = loose_append h.items (items.Act act ∷ []) in
+    let b : all_losses h ≡ all_of h None = ap (λ (r : Option OpenEntry). all_of h r) is in
+    let c : running_losses h.running ≡ 0 = ap running_losses is in
+    omega (arith, a, b, c)
+
+pub acts_losses : (h : History) (acts : List Act) → all_losses (all_acted h acts) ≡ acts_from (all_losses h) acts
+acts_losses h [] = refl
+acts_losses h (act ∷ acts) =
+    acts_losses (acted h act) acts ∙ ap (λ (n : ℕ). acts_from n acts) (act_losses h act h.running refl)
+
+cut_losses : (h : History) (o : OpenEntry) (more : ℕ) → all_losses (cut_by h o more) ≡ all_of h (Some o)
+cut_losses h o more =
+    let a = loose_append h.items (entry_of o (Cut (length o.ends + more)) ∷ items.Reset o.path ∷ resets_of h.waiting) in
+    let b = no_loose_resets h.waiting in
+    omega (arith, a, b)
+
+one_more_item : (h : History) (x : Item) → losses_of x ≡ 0 → loose_losses (h.items ++ x ∷ []) ≡ loose_losses h.items
+one_more_item h x none = let a = loose_append h.items (x ∷ []) in omega (arith, a, none)
+
+used_losses : (h : History) (path : ℕ) (b : Bool) → all_losses (if b then record h { waiting = put path h.waiting } else h) ≡ all_losses h
+used_losses h path true = refl
+used_losses h path false = refl
+
+idle_losses : (h : History) (path : ℕ) (b : Bool) → all_losses (if b then record h { items = h.items ++ items.Reset path ∷ [] } else h) ≡ all_losses h
+idle_losses h path true = ap (λ (n : ℕ). n + running_losses h.running) (one_more_item h (items.Reset path) refl)
+idle_losses h path false = refl
+
+own_losses : (h : History) (path more : ℕ) (o : OpenEntry) (b : Bool) → h.running ≡ Some o →
+    all_losses (if b then cut_by h o more else if is_used path false h.items then record h { waiting = put path h.waiting } else h) ≡ all_losses h
+own_losses h path more o true is = cut_losses h o more ∙ ap (λ (r : Option OpenEntry). all_of h r) (sym is)
+own_losses h path more o false is = used_losses h path (is_used path false h.items)
+
+pub reset_losses : (h : History) (path more : ℕ) (r : Option OpenEntry) → h.running ≡ r → all_losses (reset_in h path more r) ≡ all_losses h
+reset_losses h path more (Some o) is = own_losses h path more o (o.path == path) is
+reset_losses h path more None is = idle_losses h path (is_used path false h.items)
+
+idle_power : (h : History) (b : Bool) → h.running ≡ None →
+    all_losses (if b then record { items = h.items ++ items.Power ∷ []; running = None; waiting = [] } else h) ≡ all_losses h
+idle_power h true is =
+    let a = one_more_item h items.Power refl in
+    let c : running_losses h.running ≡ 0 = ap running_losses is in
+    omega (arith, a, c)
+idle_power h false is = refl
+
+pub power_losses : (h : History) (more : ℕ) (r : Option OpenEntry) → h.running ≡ r → all_losses (lost_power_in h more r) ≡ all_losses h
+power_losses h more (Some o) is =
+    let a = loose_append h.items (entry_of o (Cut (length o.ends + more)) ∷ items.Power ∷ []) in
+    let b : all_losses h ≡ all_of h (Some o) = ap (λ (r : Option OpenEntry). all_of h r) is in
+    omega (arith, a, b)
+power_losses h more None is = idle_power h (is_started false h.items) is
+
+-- Acts of an event that loses none
+
+gone_by : {R S A : Type 0} {base : S → Base} {may : Call → Type 0} {b : Base} {i : Interaction R Image S A} → Based base may b i →
+    Behind i (λ s a. (base s).gone ≡ b.gone)
+unfolding A.Behind
+gone_by (based_done e) = ap (λ (x : Base). x.gone) e
+gone_by (based_try x) = λ ok. gone_by (x ok)
+gone_by (based_ask m x) = λ a. gone_by (x a)
+gone_by (based_read x) = λ got. gone_by (x got)
+gone_by (based_write x) = λ ok. gone_by (x ok)
+gone_by (based_tell x) = λ r. gone_by (x r)
+
+pub always_gone : {R S A : Type 0} {base : S → Base} {may : Call → Type 0} {b : Base} {i : Interaction R Image S A} → Based base may b i →
+    Always i (λ s a. (base s).gone ≡ b.gone)
+always_gone x = record { holds = gone_by x }
+
+module _ {F P H : Type 0} (n : ℕ) where
+  -- so many losses in all
+  abbrev pub Has : Device F P H → Type 0
+  Has d = all_losses d.history ≡ n
+
+  over_has : (d : Device F P H) (k : History) (chain : ChainState) (b : Bool) → all_losses k ≡ n →
+      Has (if b then program_over d k else record d { chain = Some chain; history = k })
+  over_has d k chain true e = e
+  over_has d k chain false e = e
+
+  turned_has : (d : Device F P H) (path : ℕ) (chain : ChainState) (came : Came) → Has d → Has (turned_by d path chain came)
+  turned_has d path chain (Ends e) f =
+      over_has (sense_kept d path e) (ended d.history e) chain e.over (ended_losses d.history e d.history.running refl ∙ f)
+  turned_has d path chain (Checks e) f = checked_losses d.history e d.history.running refl ∙ f
+  turned_has d path chain (HalfOpen t) f = f
+
+  store_has : (d : Device F P H) (s : Store F P H) → loss_count s.acts ≡ 0 → Has d → Has (with_store d s)
+  store_has d s none f =
+      let a = acts_losses d.history s.acts in
+      let b = acts_shift (all_losses d.history) s.acts in
+      omega (arith, a, b, none, f)
+
+module _ {F P H R : Type 0} (c : Contents F P H R) (n : ℕ) where
+  abbrev Holds : {A : Type 0} → Interaction R Image (Device F P H) A → Type 0
+  Holds i = Always i (λ e _. Has n e)
+
+  out_has : (d : Device F P H) (path : ℕ) (turn : Turn) → Has n d → Holds (came_out c d path turn)
+  out_has d path turn f = always_done (turned_has n d path turn.chain turn.came f)
+
+  on_has : (d : Device F P H) (path : ℕ) (chain : ChainState) (s : Store F P H) (o : Option Turn) → loss_count s.acts ≡ 0 → Has n d →
+      Holds (on_tracks c d path chain s o)
+  on_has d path chain s (Some turn) none f = out_has (with_store d s) path turn (store_has n d s none f)
+  on_has d path chain s None none f = always_done (store_has n d s none f)
+
+  answered_has : (d : Device F P H) (path : ℕ) (chain : ChainState) (p : Progress) → Has n d → Holds (answered_by c d path chain p)
+  answered_has d path chain (progresses.Ended e) f = out_has d path (ends_with chain e) f
+  answered_has d path chain (progresses.Local act) f =
+      out_has (record d { paths = paths_behind d.paths path act }) path (settles chain (settled_act d.store.geometry d.paths path act)) f
+  answered_has d path chain (progresses.Need q) f = out_has d path (checks chain Equipment) f
+  answered_has d path chain (progresses.Write q e) f = out_has d path (checks chain Equipment) f
+
+  at_has : (d : Device F P H) (path : ℕ) (chain : ChainState) (o : Option ℕ) → loss_count d.store.acts ≡ 0 → Has n d → Holds (command_at c d path chain o)
+  at_has d path chain (Some t) none f =
+      always_then (always_gone (follow_steady c (tracks_of d.store) t chain t d.store)) (λ s o e. on_has d path chain s o (e ∙ none) f)
+  at_has d path chain None none f =
+      always_try (λ ok. always_if ok (answered_has d path (stepped chain None).chain (stepped chain None).progress f) (always_done f))
+
+  by_has : (d : Device F P H) (o : Option OpenEntry) (k : Option ChainState) → loss_count d.store.acts ≡ 0 → Has n d → Holds (command_by c d o k)
+  by_has d (Some o) (Some chain) none f =
+      always_if (has_loss o.acts) (out_has d o.path (checks chain Equipment) f) (at_has d o.path chain (need_of chain) none f)
+  by_has d (Some o) None none f = always_done f
+  by_has d None k none f = always_done f
+
+  command_ended_has : (d : Device F P H) (t : ℕ) (o : Option OpenEntry) (k : Option ChainState) (done : Bool) → Has n d → Holds (command_ended c d t o k done)
+  command_ended_has d t (Some o) (Some chain) done f =
+      always_done (turned_has n d o.path (second_turn c chain done).chain (second_turn c chain done).came f)
+  command_ended_has d t (Some o) None done f = always_done f
+  command_ended_has d t None k done f = always_done f
+
+  second_ended_has : (d : Device F P H) (t : ℕ) (origin : Origin) (done : Bool) → Has n d → Holds (second_ended c d t origin done)
+  second_ended_has d t (OfCommand bypass e) done f = command_ended_has d t d.history.running d.chain done f
+  second_ended_has d t (OfCut bypass) done f = always_done f
+  second_ended_has d t OfBackground done f = always_done f
+
+  second_of_has : (d : Device F P H) (o : Option (HalfWrite H)) → loss_count d.store.acts ≡ 0 → Has n d → Holds (second_of c d o)
+  second_of_has d (Some w) none f =
+      always_then (always_gone (second_steady c d.store w))
+      (λ s done e. second_ended_has (with_store d s) w.track w.origin done (store_has n d s (e ∙ none) f))
+  second_of_has d None none f = always_done f
+
+  event_has : {A : Type 0} (q : Device F P H → Type 0) → ((y : Device F P H) (s : Store F P H) → q y → q (record y { store = s })) → (d : Device F P H)
+      (body : Device F P H → Interaction R Image (Device F P H) A) →
+      ((s : Store F P H) → loss_count s.acts ≡ 0 → Always (body (record (event_begun d) { store = s })) (λ e _. q e)) → Always (event c d body) (λ e _. q e)
+  event_has q stays d body x =
+      always_then
+      (always_then (always_gone (hear_steady c 960 (event_begun d).store)) (λ s _ e. x s e))
+      (λ y a f. always_then (always_any (event_end c (waiting_count c d.store) y.store)) (λ z _ _. always_done (stays y z f)))
+
+  pub command_has : (d : Device F P H) → Has n d → Holds (command c d)
+  unfolding N.command
+  command_has d f =
+      always_try (λ ok. always_if ok
+      (event_has (Has n) (λ y s g. g) d (λ z. command_by c z z.history.running z.chain)
+      (λ s none. by_has (record (event_begun d) { store = s }) d.history.running d.chain none f))
+      (always_done f))
+
+  pub second_has : (d : Device F P H) → Has n d → Holds (second c d)
+  unfolding E.second
+  second_has d f =
+      event_has (Has n) (λ y s g. g) d (λ z. second_of c z z.store.half) (λ s none. second_of_has (record (event_begun d) { store = s }) s.half none f)
+
+  pub background_has : (d : Device F P H) → Has n d → Holds (background c d)
+  unfolding E.background
+  background_has d f =
+      event_has (Has n) (λ y s g. g) d (λ z. and_then (work c z.store) (λ s did. Done (with_store z s) did))
+      (λ s none. always_then (always_gone (work_steady c s))
+      (λ y (did : Option Did) e. always_done (store_has n (record (event_begun d) { store = s }) y (e ∙ none) f)))
+
+  -- losses
+
+  abbrev pub most_lost : Loss → ℕ
+  most_lost losses.Cache = 1
+  most_lost losses.Store = 0
+  most_lost (losses.Side side) = 0
+
+  gone_if : (s : Store F P H) (b : Bool) → loss_count s.acts ≡ 0 → loss_count (record (if b then store_acted (gone_back s) CfwLost else s) { queue = [] }).acts ≤ 1
+  gone_if s true none = let a = one_act 0 s.acts in omega (arith, a, none)
+    where
+      one_act : (n : ℕ) (acts : List Act) → acts_from n (acts ++ CfwLost ∷ []) ≡ acts_from n acts + 1
+      one_act n [] = refl
+      one_act n (x ∷ acts) = one_act (n + (if is_loss x then 1 else 0)) acts
+  gone_if s false none = omega (arith, none)
+
+  lost_gone : (s : Store F P H) (loss : Loss) → loss_count s.acts ≡ 0 → loss_count (lost_by c s loss).acts ≤ most_lost loss
+  unfolding L.cache_lost
+  lost_gone s losses.Cache none =
+      let z : Store F P H = record (loose_lost s) { queue = [] } in
+      let a = ap (λ (x : Base). x.gone) (swept_base c (tracks_of s) z) in
+      let b = gone_if s (has_loose s) none in
+      omega (arith, a, b)
+  lost_gone s losses.Store none = let a = ap (λ (x : Base). x.gone) (store_base c s) in omega (arith, a, none)
+  lost_gone s (losses.Side side) none = let a = ap (λ (x : Base). x.gone) (side_base c s side None) in omega (arith, a, none)
+
+  pub lose_has : (d : Device F P H) (loss : Loss) → Has n d → Always (lose c d loss) (λ e _. all_losses e.history ≤ n + most_lost loss)
+  unfolding E.lose
+  lose_has d loss f =
+      event_has (λ e. all_losses e.history ≤ n + most_lost loss) (λ y s g. g) d (λ z. and_then (losing c z.store loss) (λ s _. Done (with_store z s) tt))
+      (λ s none.
+      let z = lost_by c (with_loss s loss) loss in
+      always_then (always_gone (firm_steady c (tracks_of s) z))
+      (λ y _ e.
+      let a = acts_losses d.history y.acts in
+      let b = acts_shift (all_losses d.history) y.acts in
+      let g = lost_gone (with_loss s loss) loss none in
+      always_done (omega (arith, a, b, e, g, f))))
+
+  -- cuts
+
+  reset_by_has : (d : Device F P H) (path : ℕ) (o : Option OpenEntry) → d.history.running ≡ o → Has n d → Holds (reset_by c d path o)
+  reset_by_has d path (Some o) is f =
+      always_if (o.path == path)
+      (always_then (always_any (half_cut c d.store d.store.half))
+      (λ s _ _. always_done (reset_losses d.history path (counts_one_by d.store.half) d.history.running refl ∙ f)))
+      (always_done (reset_losses d.history path 0 d.history.running refl ∙ f))
+  reset_by_has d path None is f =
+      always_if (has_used d.history path) (always_done (reset_losses d.history path 0 d.history.running refl ∙ f)) (always_done f)
+
+  pub reset_has : (d : Device F P H) (path : ℕ) → Has n d → Holds (reset c d path)
+  unfolding U.reset
+  reset_has d path f = reset_by_has d path d.history.running refl f
+
+  pub power_has : (d : Device F P H) → Has n d → Holds (power c d)
+  unfolding U.power
+  power_has d f =
+      always_then
+      (always_then (always_any (half_cut c (event_begun d).store (event_begun d).store.half))
+      (λ s _ _. always_done {s = powered_off c (event_begun d) s} {a = tt} (power_losses d.history (counts_one_by d.store.half) d.history.running refl ∙ f)))
+      (λ y a g. always_then (always_any (event_end c (waiting_count c d.store) y.store)) (λ z _ _. always_done g))

@@ -1,0 +1,130 @@
+-- Where no call fails, no part of an event loses a track; and while side A is up, no track becomes stale there.
+use Rattle.std.proofs.Common.{◌≡◌, ◌≢◌, ◌<◌, ◌≤◌, ℕ, Bool, true, false, List, Option, Some, None, is_some, length, set, get_or, refl, sym, ap, subst, ◌∙◌, arith, ◌⊎◌, inl, inr}
+use Rattle.std.proofs.lemmas.Bool.{cases_eq, cases_lt}
+use Rattle.std.proofs.lemmas.List.{get_or-set_same, get_or-set_other, get_or_past, length-set}
+use Rattle.std.specs.Prelude.{if◌then◌else◌}
+use Rattle.ckd_types.specs.declared.paths.Side.{Side}
+use Rattle.ckd_types.specs.declared.paths.Side.TheVariants as sides
+use Rattle.device_defs.specs.Contents.{Contents}
+use Rattle.device_defs.specs.Losses as L
+use Rattle.device_defs.specs.Losses.{slot_in, by_frame, kept_by_frame, hardened_by_loss, settled, stale_everywhere}
+use Rattle.device_defs.specs.Store.{Store, has_level, frame_at, patch_at, is_lost, is_loose, half_is, with_stale}
+use Rattle.device_defs.specs.Writing.{taken_a}
+use Rattle.device_laws.proofs.TrackMarks as M
+use Rattle.device_laws.proofs.TrackMarks.{TrackMarks, marks, is_good, frame_mark, track_at}
+
+-- what is said of a store
+pub record Core : Type 0 where
+  pub lost : List Bool
+  pub up : Bool
+  pub stale : List Bool
+
+abbrev pub core_of : {F P H : Type 0} → Store F P H → Core
+core_of s = record { lost = s.lost; up = s.a.up; stale = s.a.stale }
+
+pub record Fine (x y : Core) : Type 0 where
+  pub lost : y.lost ≡ x.lost
+  pub up : y.up ≡ x.up
+  pub level : x.up ≡ true → (q : ℕ) → get_or x.stale q false ≡ false → get_or y.stale q false ≡ false
+
+-- but for what side A has of track t
+pub record Off (t : ℕ) (x y : Core) : Type 0 where
+  pub lost : y.lost ≡ x.lost
+  pub up : y.up ≡ x.up
+  pub level : x.up ≡ true → (q : ℕ) → q ≢ t → get_or x.stale q false ≡ false → get_or y.stale q false ≡ false
+
+pub fine : (x : Core) → Fine x x
+fine x = record { lost = refl; up = refl; level = λ up q e. e }
+
+pub fine_on : (x y z : Core) → Fine x y → Fine y z → Fine x z
+fine_on x y z f g = record { lost = g.lost ∙ f.lost; up = g.up ∙ f.up; level = λ up q e. g.level (f.up ∙ up) q (f.level up q e) }
+
+pub off_on : (t : ℕ) (x y z : Core) → Off t x y → Fine y z → Off t x z
+off_on t x y z f g = record { lost = g.lost ∙ f.lost; up = g.up ∙ f.up; level = λ up q ne e. g.level (f.up ∙ up) q (f.level up q ne e) }
+
+pub fine_off : (t : ℕ) (x y : Core) → Fine x y → Off t x y
+fine_off t x y f = record { lost = f.lost; up = f.up; level = λ up q ne e. f.level up q e }
+
+pub off_down : (t : ℕ) (x y : Core) → Off t x y → y.up ≡ false → Fine x y
+off_down t x y f down = record {
+  lost = f.lost;
+  up = f.up;
+  level = λ up q e. absurd (let both : true ≡ false = sym up ∙ sym f.up ∙ down in cc);
+}
+
+-- Places
+
+clear_by : (l : List Bool) (t : ℕ) → ((t < length l) ⊎ (length l ≤ t)) → get_or (set l t false) t false ≡ false
+clear_by l t (inl lt) = get_or-set_same l t false false lt
+clear_by l t (inr le) = let same : length (set l t false) ≡ length l = length-set l t false in get_or_past (set l t false) t false (omega (arith, same, le))
+
+pub clear : (l : List Bool) (t : ℕ) → get_or (set l t false) t false ≡ false
+clear l t = clear_by l t (cases_lt t (length l))
+
+clear_at : (l : List Bool) (t q : ℕ) → ((q ≡ t) ⊎ (q ≢ t)) → (q ≢ t → get_or l q false ≡ false) → get_or (set l t false) q false ≡ false
+clear_at l t q (inl is) e = subst (λ (p : ℕ). get_or (set l t false) p false ≡ false) (sym is) (clear l t)
+clear_at l t q (inr ne) e = get_or-set_other l t q false false ne ∙ e ne
+
+stale_other : (l : List Bool) (t q : ℕ) → q ≢ t → get_or l q false ≡ false → get_or (set l t true) q false ≡ false
+stale_other l t q ne e = get_or-set_other l t q true false ne ∙ e
+
+-- Changes of a store
+
+module _ {F P H : Type 0} where
+  -- a side takes a track
+  took_a : (x : Core) (s : Store F P H) (t : ℕ) (b : Bool) → Off t x (core_of s) →
+      Fine x (core_of (if b then with_stale (with_stale s sides.A t false) sides.B t true else with_stale s sides.A t false))
+  took_a x s t true o = record { lost = o.lost; up = o.up; level = λ up q e. clear_at s.a.stale t q (cases_eq q t) (λ ne. o.level up q ne e) }
+  took_a x s t false o = record { lost = o.lost; up = o.up; level = λ up q e. clear_at s.a.stale t q (cases_eq q t) (λ ne. o.level up q ne e) }
+
+  pub taken_a_fine : (x : Core) (s : Store F P H) (t : ℕ) → Off t x (core_of s) → Fine x (core_of (taken_a s t))
+  taken_a_fine x s t o = took_a x s t s.b.up o
+
+  everywhere_by : (s : Store F P H) (t : ℕ) (b : Bool) →
+      Off t (core_of s) (core_of (if b then with_stale (with_stale s sides.A t true) sides.B t true else with_stale s sides.A t true))
+  everywhere_by s t true = record { lost = refl; up = refl; level = λ up q ne e. stale_other s.a.stale t q ne e }
+  everywhere_by s t false = record { lost = refl; up = refl; level = λ up q ne e. stale_other s.a.stale t q ne e }
+
+  pub everywhere_off : (s : Store F P H) (t : ℕ) → Off t (core_of s) (core_of (stale_everywhere s t))
+  everywhere_off s t = everywhere_by s t s.paired
+
+  pub side_fine : (s : Store F P H) (side : Side) (t : ℕ) → Fine (core_of s) (core_of (with_stale s side t false))
+  side_fine s sides.A t = record { lost = refl; up = refl; level = λ up q e. clear_at s.a.stale t q (cases_eq q t) (λ ne. e) }
+  side_fine s sides.B t = fine (core_of s)
+
+  pub fine_if : (x : Core) (b : Bool) (s z : Store F P H) → (b ≡ true → Fine x (core_of s)) → (b ≡ false → Fine x (core_of z)) →
+      Fine x (core_of (if b then s else z))
+  fine_if x true s z f g = f refl
+  fine_if x false s z f g = g refl
+
+-- A good track is settled without loss
+
+not_bare : (l h v : Bool) → (p o : Bool) → l ≡ false → h ≡ false → v ≡ false → is_good (marks None p l o h v) ≡ true → ⊥
+not_bare true h v p o bad i j e = cc
+not_bare false true v p o i bad j e = cc
+not_bare false false true p o i j bad e = cc
+not_bare false false false true true i j k e = cc
+not_bare false false false true false i j k e = cc
+not_bare false false false false true i j k e = cc
+not_bare false false false false false i j k e = cc
+
+module _ {F P H R : Type 0} (c : Contents F P H R) where
+  frame_fine : (s : Store F P H) (t : ℕ) (o : Option F) → frame_at s t ≡ o → is_good (track_at c s t) ≡ true → is_lost s t ≡ false → has_level s t ≡ false →
+      Fine (core_of s) (core_of (by_frame c s t o))
+  unfolding M.track_at
+  frame_fine s t (Some f) e good there none =
+      fine_if (core_of s) (is_loose s t) (hardened_by_loss s t) (kept_by_frame c s t f) (λ _. fine (core_of s))
+      (λ _. fine_if (core_of s) (c.modified f) s _ (λ _. fine (core_of s)) (λ _. fine (core_of s)))
+  frame_fine s t None e good there none =
+      fine_if (core_of s) (half_is s.half t) s _ (λ _. fine (core_of s))
+      (λ half. absurd (not_bare (is_lost s t) (half_is s.half t) (has_level s t) (is_some (patch_at s t)) (is_loose s t) there half none
+      (subst (λ (k : Option Bool). is_good (marks k (is_some (patch_at s t)) (is_lost s t) (is_loose s t) (half_is s.half t) (has_level s t)) ≡ true)
+      (ap (frame_mark c) e) good)))
+
+  pub settled_fine : (s : Store F P H) (t : ℕ) → is_good (track_at c s t) ≡ true → Fine (core_of s) (core_of (settled c s t))
+  unfolding L.settled
+  settled_fine s t good =
+      fine_if (core_of s) (is_some s.lent) s _ (λ _. fine (core_of s))
+      (λ _. fine_if (core_of s) (is_lost s t) s _ (λ _. fine (core_of s))
+      (λ there. fine_if (core_of s) (has_level s t) s _ (λ _. fine (core_of s))
+      (λ none. frame_fine s t (frame_at s t) refl good there none)))

@@ -1,0 +1,17 @@
+use Rattle.std.proofs.Common.{◌≡◌, ℕ, false}
+use Rattle.device_defs.specs.Contents.{contents}
+use Rattle.device_defs.specs.Losses.{over, settled, without_frame}
+use Rattle.device_defs.specs.Store.{is_loose}
+use Rattle.event_notes.specs.Loose.{weight}
+use Rattle.device_store.specs.State.{state_of}
+use Rattle.device_store.proofs.store.DeviceStore.lose_frames.Given as goal
+
+abbrev pub invariant-loop-t : goal.invariant-loop-t
+invariant-loop-t g l = record {
+  number : l.self.number ≡ l.fn.self.number;
+  cylinders : l.self.cylinders ≡ l.fn.self.cylinders;
+  volume : l.self.volume ≡ l.fn.self.volume;
+  weight : weight l.self.loose ≡ weight l.fn.self.loose;
+  firm : (t : ℕ) → is_loose (state_of l.self) t ≡ false;
+  state : state_of l.self ≡ over l.t (λ t z. settled contents (without_frame z t) t) (state_of l.fn.self);
+}

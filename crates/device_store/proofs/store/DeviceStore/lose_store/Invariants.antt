@@ -1,0 +1,18 @@
+use Rattle.std.proofs.Common.{◌≡◌, ◌*◌}
+use Rattle.device_outside.specs.Outside.{PortView, Ran}
+use Rattle.device_defs.specs.Contents.{contents}
+use Rattle.device_defs.specs.Losses.{all_firm_told, over, patch_lost}
+use Rattle.event_notes.specs.Loose.{weight}
+use Rattle.device_store.specs.State.{state_of, outside, surely, Takes}
+use Rattle.device_store.proofs.store.DeviceStore.lose_store.Given as goal
+
+abbrev pub invariant-loop-t : goal.invariant-loop-t
+invariant-loop-t g l = record {
+  number : l.self.number ≡ l.fn.self.number;
+  cylinders : l.self.cylinders ≡ l.fn.self.cylinders;
+  volume : l.self.volume ≡ l.fn.self.volume;
+  weight : weight l.self.loose ≡ weight l.fn.self.loose;
+  takes : Takes g.K.Keep.takes l.keep l.self.number (l.self.cylinders * 15);
+  ran : (p : PortView) → Ran surely g.K.Keep.hears (all_firm_told contents l.t (over l.t (λ t z. patch_lost contents t z) (state_of l.fn.self)))
+      (outside p l.fn.self l.fn.keep) (state_of l.self) tt (outside p l.self l.keep);
+}

@@ -1,0 +1,15 @@
+use Rattle.device_outside.specs.Outside.{done}
+use Rattle.device_outside.proofs.Runs.{joined}
+use Rattle.device_defs.specs.Contents.{contents}
+use Rattle.device_store.proofs.Moves.{weaker}
+use Rattle.device_store.proofs.store.DeviceStore.miss.Goals as goal
+use Rattle.device_defs.specs.Image.{missed}
+
+pub returns-then-got-clause-run : goal.returns-then-got-clause-run
+returns-then-got-clause-run g c =
+    λ k. joined (λ z got. missed contents c.args.usage.now c.args.t z got got.bytes) (weaker c.deliver.result (c.level_bytes-got.ensures.run _ _))
+    (rw c.if-got.true (c.deliver.ensures.run k))
+
+pub returns-clause-run : goal.returns-clause-run
+returns-clause-run g c =
+    λ k. joined (λ z got. missed contents c.args.usage.now c.args.t z got got.bytes) (c.level_bytes-got.ensures.run _ _) (rw c.if-got.false done)

@@ -1,0 +1,39 @@
+use Rattle.std.proofs.Common.{◌≡◌, ◌<◌, ◌≤◌, ◌*◌, ◌∙◌, ℕ, true, refl, sym, arith}
+use Rattle.std.specs.Prelude.{is_some}
+use Rattle.device_defs.specs.Store.{frame_at}
+use Rattle.track_table.specs.Tracks.{least}
+use Rattle.device_defs.specs.Background.{is_destaged}
+use Rattle.device_defs.specs.Contents.{contents}
+use Rattle.device_store.specs.State.{state_of}
+use Rattle.device_store.proofs.Firmly.{modified_there}
+use Rattle.device_store.proofs.Writes.{destages, least_of, least_one, IsOne, if_some, none_destaged, destaged_framed}
+use Rattle.device_store.proofs.store.DeviceStore.to_destage.Goals as goal
+
+pub returns-then-self-clause-least : goal.returns-then-self-clause-least
+returns-then-self-clause-least g c =
+    let s = state_of c.args.self.now in
+    let n = c.args.self.now.cylinders * 15 in
+    let few : n ≤ 960 = omega (arith, c.args.self.now.most) in
+    c.first.ensures ∙ least_of n c.destaged.result (is_destaged contents s) few c.destaged.ensures (λ t le. none_destaged s n t c.args.self.now.frame_of_each c.args.self.now.loose_of_each le)
+    ∙ sym (destages s c.if-self.true)
+
+pub returns-then-self-clause-here : goal.returns-then-self-clause-here
+returns-then-self-clause-here g c =
+    let s = state_of c.args.self.now in
+    let n = c.args.self.now.cylinders * 15 in
+    let few : n ≤ 960 = omega (arith, c.args.self.now.most) in
+    if_some _ _ (IsOne n (is_destaged contents s)) (λ t. t < n)
+    (c.first.ensures ∙ least_of n c.destaged.result (is_destaged contents s) few c.destaged.ensures (λ t le. none_destaged s n t c.args.self.now.frame_of_each c.args.self.now.loose_of_each le))
+    (λ t one. one.here) (least_one n (is_destaged contents s))
+
+pub returns-clause-least : goal.returns-clause-least
+returns-clause-least g c = rw c.if-self.false refl
+
+pub returns-then-self-clause-framed : goal.returns-then-self-clause-framed
+returns-then-self-clause-framed g c =
+    let s = state_of c.args.self.now in
+    let n = c.args.self.now.cylinders * 15 in
+    let few : n ≤ 960 = omega (arith, c.args.self.now.most) in
+    if_some _ _ (IsOne n (is_destaged contents s)) (λ t. is_some (frame_at s t) ≡ true)
+    (c.first.ensures ∙ least_of n c.destaged.result (is_destaged contents s) few c.destaged.ensures (λ t le. none_destaged s n t c.args.self.now.frame_of_each c.args.self.now.loose_of_each le))
+    (λ t one. destaged_framed s t (λ loose. modified_there _ (c.args.self.now.loose_modified t loose)) one.passes) (least_one n (is_destaged contents s))

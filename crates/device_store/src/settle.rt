@@ -1,0 +1,212 @@
+ghost use Rattle.std.specs.Prelude.{◌≡◌, ◌<◌, ◌≤◌, ◌*◌, ℕ, Some, false, is_some, true};
+ghost use Rattle.device_defs.specs.Contents.{contents};
+ghost use Rattle.device_defs.specs.Effects.{hardened, loose_lost};
+ghost use Rattle.device_defs.specs.Losses.{by_frame, firm_told, kept_by_frame, lost_now, owes_modified, settled, stale_everywhere, without_frame, without_patch};
+ghost use Rattle.device_defs.specs.Store.{frame_at, is_loose};
+ghost use Rattle.device_defs.specs.Writing.{unwritten};
+ghost use Rattle.device_outside.specs.Outside.{PortView, Ran};
+ghost use Rattle.event_notes.specs.Loose.{weight};
+ghost use Rattle.track_cache.specs.declared.frames.Frame.{Frame};
+ghost use Rattle.device_store.specs.State.{state_of, outside, surely, Takes};
+
+use crate::DeviceStore;
+use crate::marks::set_mark;
+use ckd_types::TrackNo;
+use device_outside::{Keep, Volume};
+use track_image::TrackImage;
+
+impl<V: Volume> DeviceStore<V> {
+    /// The frame was marked modified.
+    fn owe_modified(&mut self, t: TrackNo)
+        ensures fixed { (self.new.number ≡ self.old.number) × (self.new.cylinders ≡ self.old.cylinders) × (self.new.up ≡ self.old.up) }
+        ensures volume { self.new.volume ≡ self.old.volume }
+        ensures weight { weight self.new.loose ≡ weight self.old.loose }
+        ensures loose { self.new.loose ≡ self.old.loose }
+        ensures state { state_of self.new ≡ owes_modified (state_of self.old) t }
+    {
+        let mut owed = self.owed.at(t);
+        owed.modified = true;
+        self.owed.set(t, owed);
+    }
+
+    /// The frame of a track that isn't loose is given up.
+    pub(crate) fn give_up_frame(&mut self, t: TrackNo)
+        requires { is_loose (state_of self.old) t ≡ false }
+        ensures fixed { (self.new.number ≡ self.old.number) × (self.new.cylinders ≡ self.old.cylinders) × (self.new.up ≡ self.old.up) }
+        ensures volume { self.new.volume ≡ self.old.volume }
+        ensures weight { weight self.new.loose ≡ weight self.old.loose }
+        ensures loose { self.new.loose ≡ self.old.loose }
+        ensures state { state_of self.new ≡ without_frame (state_of self.old) t }
+    {
+        if self.frames.has(t) {
+            self.frames.set(t, None);
+            let mut owed = self.owed.at(t);
+            owed.dropped = true;
+            self.owed.set(t, owed);
+        }
+    }
+
+    /// The patch is given up with its slot.
+    pub(crate) fn give_up_patch(&mut self, t: TrackNo)
+        ensures fixed { (self.new.number ≡ self.old.number) × (self.new.cylinders ≡ self.old.cylinders) × (self.new.up ≡ self.old.up) }
+        ensures volume { self.new.volume ≡ self.old.volume }
+        ensures weight { weight self.new.loose ≡ weight self.old.loose }
+        ensures loose { self.new.loose ≡ self.old.loose }
+        ensures state { state_of self.new ≡ without_patch contents (state_of self.old) t }
+    {
+        match self.patches.slot_of(t) {
+            None => (),
+            Some(slot) => {
+                self.patches.set(t, None);
+                let mut owed = self.owed.at(t);
+                owed.freed = Some(slot);
+                self.owed.set(t, owed);
+            }
+        }
+    }
+
+    /// The track is lost, and with it its patch.
+    fn lose_track(&mut self, t: TrackNo)
+        requires { t < self.old.cylinders * 15 }
+        ensures fixed { (self.new.number ≡ self.old.number) × (self.new.cylinders ≡ self.old.cylinders) × (self.new.up ≡ self.old.up) }
+        ensures volume { self.new.volume ≡ self.old.volume }
+        ensures weight { weight self.new.loose ≡ weight self.old.loose }
+        ensures loose { self.new.loose ≡ self.old.loose }
+        ensures state { state_of self.new ≡ lost_now contents (state_of self.old) t }
+    {
+        self.lost.add(t);
+        self.give_up_patch(t);
+    }
+
+    /// Its frame, which is modified then, keeps the track.
+    fn keep_by_frame(&mut self, t: TrackNo)
+        requires { is_some (frame_at (state_of self.old) t) ≡ true }
+        ensures fixed { (self.new.number ≡ self.old.number) × (self.new.cylinders ≡ self.old.cylinders) × (self.new.up ≡ self.old.up) }
+        ensures volume { self.new.volume ≡ self.old.volume }
+        ensures weight { weight self.new.loose ≡ weight self.old.loose }
+        ensures loose { self.new.loose ≡ self.old.loose }
+        ensures state { (f : Frame) → frame_at (state_of self.old) t ≡ Some f → state_of self.new ≡ kept_by_frame contents (state_of self.old) t f }
+    {
+        if !self.frames.modified(t) {
+            self.frames.mark(t, true);
+            self.owe_modified(t);
+        }
+    }
+
+    /// A loose track becomes firm.
+    pub(crate) fn harden(&mut self, t: TrackNo)
+        requires track { t < self.old.cylinders * 15 }
+        requires loose { is_loose (state_of self.old) t ≡ true }
+        ensures fixed { (self.new.number ≡ self.old.number) × (self.new.cylinders ≡ self.old.cylinders) × (self.new.up ≡ self.old.up) }
+        ensures volume { self.new.volume ≡ self.old.volume }
+        ensures weight { weight self.new.loose ≡ weight self.old.loose }
+        ensures state { state_of self.new ≡ hardened (state_of self.old) t }
+    {
+        self.loose.harden(t);
+    }
+
+    /// A track that isn't loose and is level on no side is kept by its frame, or is lost.
+    fn keep_or_lose(&mut self, t: TrackNo)
+        requires track { t < self.old.cylinders * 15 }
+        requires firm { is_loose (state_of self.old) t ≡ false }
+        ensures fixed { (self.new.number ≡ self.old.number) × (self.new.cylinders ≡ self.old.cylinders) × (self.new.up ≡ self.old.up) }
+        ensures volume { self.new.volume ≡ self.old.volume }
+        ensures weight { weight self.new.loose ≡ weight self.old.loose }
+        ensures loose { self.new.loose ≡ self.old.loose }
+        ensures state { state_of self.new ≡ by_frame contents (state_of self.old) t (frame_at (state_of self.old) t) }
+    {
+        if self.frames.has(t) {
+            self.keep_by_frame(t);
+        } else {
+            self.lose_track(t);
+        }
+    }
+
+    /// A track that isn't loose is kept by its frame where it is level on no side, or is lost.
+    pub(crate) fn settle(&mut self, t: TrackNo)
+        requires track { t < self.old.cylinders * 15 }
+        requires firm { is_loose (state_of self.old) t ≡ false }
+        ensures fixed { (self.new.number ≡ self.old.number) × (self.new.cylinders ≡ self.old.cylinders) × (self.new.up ≡ self.old.up) }
+        ensures volume { self.new.volume ≡ self.old.volume }
+        ensures weight { weight self.new.loose ≡ weight self.old.loose }
+        ensures loose { self.new.loose ≡ self.old.loose }
+        ensures state { state_of self.new ≡ settled contents (state_of self.old) t }
+    {
+        if self.lost.has(t) {
+            return;
+        }
+        if self.is_level(t) {
+            return;
+        }
+        self.keep_or_lose(t);
+    }
+
+    /// The volume didn't take a track, which is stale then.
+    pub(crate) fn refuse(&mut self, t: TrackNo)
+        requires track { t < self.old.cylinders * 15 }
+        requires firm { is_loose (state_of self.old) t ≡ false }
+        ensures fixed { (self.new.number ≡ self.old.number) × (self.new.cylinders ≡ self.old.cylinders) × (self.new.up ≡ self.old.up) }
+        ensures volume { self.new.volume ≡ self.old.volume }
+        ensures weight { weight self.new.loose ≡ weight self.old.loose }
+        ensures loose { self.new.loose ≡ self.old.loose }
+        ensures state { state_of self.new ≡ unwritten contents (state_of self.old) t }
+    {
+        set_mark(&mut self.stale, t, true);
+        self.settle(t);
+    }
+
+    /// The same of any track. The keeper is told of a loose one that becomes firm, which its frame alone keeps.
+    pub(crate) fn settle_told<K: Keep<TrackImage>>(&mut self, t: TrackNo, keep: &mut K)
+        requires track { t < self.old.cylinders * 15 }
+        requires takes { Takes K.takes keep.old self.old.number (self.old.cylinders * 15) }
+        ensures fixed { (self.new.number ≡ self.old.number) × (self.new.cylinders ≡ self.old.cylinders) × (self.new.up ≡ self.old.up) }
+        ensures volume { self.new.volume ≡ self.old.volume }
+        ensures weight { weight self.new.loose ≡ weight self.old.loose }
+        ensures takes { Takes K.takes keep.new self.new.number (self.new.cylinders * 15) }
+        ensures run { (p : PortView) → Ran surely K.hears (firm_told contents t (settled contents (state_of self.old) t)) (outside p self.old keep.old) (state_of self.new) tt (outside p self.new keep.new) }
+    {
+        if self.loose.has(t) {
+            self.settle_loose(t, keep);
+            return;
+        }
+        self.settle(t);
+        self.owed.no_firm();
+    }
+
+    /// The same of a loose track.
+    fn settle_loose<K: Keep<TrackImage>>(&mut self, t: TrackNo, keep: &mut K)
+        requires track { t < self.old.cylinders * 15 }
+        requires loose { is_loose (state_of self.old) t ≡ true }
+        requires takes { Takes K.takes keep.old self.old.number (self.old.cylinders * 15) }
+        ensures fixed { (self.new.number ≡ self.old.number) × (self.new.cylinders ≡ self.old.cylinders) × (self.new.up ≡ self.old.up) }
+        ensures volume { self.new.volume ≡ self.old.volume }
+        ensures weight { weight self.new.loose ≡ weight self.old.loose }
+        ensures takes { Takes K.takes keep.new self.new.number (self.new.cylinders * 15) }
+        ensures run { (p : PortView) → Ran surely K.hears (firm_told contents t (settled contents (state_of self.old) t)) (outside p self.old keep.old) (state_of self.new) tt (outside p self.new keep.new) }
+    {
+        self.owed.no_firm();
+        if self.lost.has(t) {
+            return;
+        }
+        if self.is_level(t) {
+            return;
+        }
+        self.harden_told(t, keep);
+    }
+
+    /// A loose track becomes firm, and the keeper is told its frame's image.
+    fn harden_told<K: Keep<TrackImage>>(&mut self, t: TrackNo, keep: &mut K)
+        requires track { t < self.old.cylinders * 15 }
+        requires loose { is_loose (state_of self.old) t ≡ true }
+        requires takes { Takes K.takes keep.old self.old.number (self.old.cylinders * 15) }
+        ensures fixed { (self.new.number ≡ self.old.number) × (self.new.cylinders ≡ self.old.cylinders) × (self.new.up ≡ self.old.up) }
+        ensures volume { self.new.volume ≡ self.old.volume }
+        ensures weight { weight self.new.loose ≡ weight self.old.loose }
+        ensures takes { Takes K.takes keep.new self.new.number (self.new.cylinders * 15) }
+        ensures run { (p : PortView) → Ran surely K.hears (firm_told contents t (by_frame contents (state_of self.old) t (frame_at (state_of self.old) t))) (outside p self.old keep.old) (state_of self.new) tt (outside p self.new keep.new) }
+    {
+        self.owed.no_firm();
+        keep.firm(self.number, t, self.frame_image(t));
+        self.harden(t);
+    }
+}

@@ -1,0 +1,23 @@
+use Rattle.std.proofs.Common.{◌≡◌, ◌*◌, ◌≤◌, ◌+◌, false, length, refl, ap, ◌∙◌, arith}
+use Rattle.std.proofs.lemmas.List.{length-replicate, take-replicate}
+use Rattle.std.specs.Vec.{vec_len, vec_capacity}
+use Rattle.track_table.specs.Bits.{is_marked}
+use Rattle.track_table.specs.Tracks.{count_below}
+use Rattle.track_table.proofs.Places.{empty_places}
+use Rattle.event_notes.proofs.Counted.{count_none}
+use Rattle.event_notes.proofs.loose.LooseTracks.new.Goals as goal
+
+pub invariant_of-result : goal.invariant_of-result
+invariant_of-result c =
+    let tracks : c.from.result * c.from-2.result ≡ c.args.cylinders * 15 = rw (c.from.ensures, c.from-2.ensures) refl in
+    let none : count_below 960 (is_marked c.new.result) ≡ 0 = count_none 960 (is_marked c.new.result) (λ t. rw c.new.ensures (empty_places 960 t false)) in (
+      omega (arith, tracks, c.requires),
+      ap length c.new.ensures ∙ length-replicate 960 false,
+      λ t behind. rw c.new.ensures (empty_places 960 t false),
+      rw none (omega (arith, c.new-2.ensures.len)),
+    )
+
+pub returns-clause-loose : goal.returns-clause-loose
+returns-clause-loose c =
+    let few : c.args.cylinders * 15 ≤ 960 = omega (arith, c.requires) in
+    rw (c.from.ensures, c.from-2.ensures, c.new.ensures) (take-replicate (c.args.cylinders * 15) 960 false few)

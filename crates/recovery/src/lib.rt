@@ -1,8 +1,0 @@
-//! Which tracks wait for the writing that a loss made necessary.
-#![tactic(auto)]
-
-#[cfg(test)]
-mod tests;
-mod waiting;
-
-pub use waiting::{next, pending, waits};

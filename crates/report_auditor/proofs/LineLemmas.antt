@@ -1,0 +1,34 @@
+-- Where the first line of a report ends.
+use Rattle.std.proofs.Common.{◌≡◌, ◌≢◌, ◌<◌, ◌+◌, ◌-◌, length-drop, ◌∷◌, [], ℕ, zero, suc, List, length, get_or, take, drop, arith, sym, ap, ◌∙◌}
+use Rattle.std.proofs.lemmas.Bool.Decides.{nat_tests}
+use Rattle.std.proofs.lemmas.List.{take_all}
+use Rattle.deck_text.specs.Lines.{onto_first}
+use Rattle.report_auditor.specs.Verdict.{cut_lines}
+
+ends_here : (b : ℕ) (bytes : List ℕ) → b ≡ 10 → cut_lines (b ∷ bytes) ≡ [] ∷ cut_lines bytes
+ends_here b bytes is = grind (arith, nat_tests)
+
+goes_onto : (b : ℕ) (bytes : List ℕ) → b ≢ 10 → cut_lines (b ∷ bytes) ≡ onto_first b (cut_lines bytes)
+goes_onto b bytes ne = grind (arith, nat_tests)
+
+pub split_at : (text : List ℕ) (i : ℕ) → ((k : ℕ) → k < i → get_or text k 0 ≢ 10) → i < length text → get_or text i 0 ≡ 10
+    → cut_lines text ≡ take i text ∷ cut_lines (drop (suc i) text)
+split_at [] i none lt is = absurd (omega arith)
+split_at (b ∷ bytes) zero none lt is = ends_here b bytes is
+split_at (b ∷ bytes) (suc i) none lt is =
+    goes_onto b bytes (none 0 (omega arith))
+    ∙ ap (λ (l : List (List ℕ)). onto_first b l) (split_at bytes i (λ k h. none (suc k) (omega (arith, h))) (omega (arith, lt)) is)
+
+pub no_split : (text : List ℕ) → ((k : ℕ) → k < length text → get_or text k 0 ≢ 10) → 0 < length text → cut_lines text ≡ text ∷ []
+no_split [] none some = absurd (omega arith)
+no_split (b ∷ []) none some = goes_onto b [] (none 0 (omega arith))
+no_split (b ∷ c ∷ bytes) none some =
+    goes_onto b (c ∷ bytes) (none 0 (omega arith))
+    ∙ ap (λ (l : List (List ℕ)). onto_first b l) (no_split (c ∷ bytes) (λ k h. none (suc k) (omega (arith, h))) (omega arith))
+
+-- what is left from a place on
+pub rest_from : (text : List ℕ) (i : ℕ) → take (length text - i) (drop i text) ≡ drop i text
+rest_from text i = take_all (length text - i) (drop i text) (omega (arith, length-drop i text))
+
+pub whole_rest : (text : List ℕ) (i : ℕ) → drop (suc i) text ≡ take (length text - (i + 1)) (drop (i + 1) text)
+whole_rest text i = ap (λ (k : ℕ). drop k text) (let e : suc i ≡ i + 1 = omega arith in e) ∙ sym (rest_from text (i + 1))

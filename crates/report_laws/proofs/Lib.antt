@@ -1,0 +1,6 @@
+mod Lines
+mod Histories
+mod Places
+mod ShownEvents
+mod ShownDeeds
+mod ShownRuns

@@ -1,0 +1,110 @@
+-- What is promised of a calm run holds of a device that was never lent and of which nothing was lost and no call failed.
+use Rattle.std.proofs.Common.{◌≡◌, ◌≤◌, ◌+◌, ◌==◌, ℕ, Bool, true, false, List, [], ◌∷◌, map, refl, ap, arith}
+use Rattle.std.specs.List.{fold}
+use Rattle.std.specs.Prelude.{All, ◌&&◌, ◌||◌, not, if◌then◌else◌}
+use Rattle.deck_text.specs.declared.line.DeviceLine.{DeviceLine}
+use Rattle.deck_text.specs.DeckLines.{DeckLines}
+use Rattle.plain_defs.specs.declared.journal.Item.{Item}
+use Rattle.plain_defs.specs.declared.journal.Item.TheVariants as items
+use Rattle.plain_defs.specs.Journal.{last_sense}
+use Rattle.device_defs.specs.Command.{has_loss}
+use Rattle.device_defs.specs.Excused.{count_lost, is_checked, is_data_check, is_equipment_check}
+use Rattle.device_defs.specs.Marks.{MarksDevice}
+use Rattle.device_defs.specs.Pledge.{ends_with_data_check}
+use Rattle.device_laws.specs.Unharmed.{ends_with_equipment_check}
+use Rattle.device_laws.proofs.KeptHistories.{AreNot}
+use Rattle.device_laws.proofs.LossLaws.{unharmed_counts}
+use Rattle.subsystem_defs.specs.Decks as D
+use Rattle.subsystem_defs.specs.Decks.{opened_device, opened, run_of}
+use Rattle.subsystem_defs.specs.Lines.{asked_by}
+use Rattle.subsystem_defs.specs.Promised.{is_served, are_served}
+use Rattle.subsystem_laws.specs.Causes.{HasNoDataCheck, MissesNothing, MissNothing}
+use Rattle.subsystem_laws.specs.Served.{IsServedDeck}
+use Rattle.subsystem_laws.proofs.DataChecks.{checks_kept}
+use Rattle.subsystem_laws.proofs.NothingChecked.{Quiet, quiet_kept, opened_quiet}
+use Rattle.subsystem_laws.proofs.Walks.{IsKept, AreSo, run_keeps, behind_weaker}
+
+-- Two things at once
+
+both_kept : (P Q : MarksDevice → Type 0) → IsKept P → IsKept Q → IsKept (λ d. P d × Q d)
+both_kept P Q k l = record {
+  started = λ d path fault x. (k.started d path fault x.0, l.started d path fault x.1);
+  commanded = λ d o running whole x. λ t. (k.commanded d o running whole x.0 t, l.commanded d o running whole x.1 t);
+  seconded = λ d h is x. λ t. (k.seconded d h is x.0 t, l.seconded d h is x.1 t);
+  worked = λ d whole x. λ t. (k.worked d whole x.0 t, l.worked d whole x.1 t);
+  cut = λ d path x. λ t. (k.cut d path x.0 t, l.cut d path x.1 t);
+  lost_cache = λ d x. λ t. (k.lost_cache d x.0 t, l.lost_cache d x.1 t);
+  lost_store = λ d x. λ t. (k.lost_store d x.0 t, l.lost_store d x.1 t);
+  lost_side = λ d side fault x. λ t. (k.lost_side d side fault x.0 t, l.lost_side d side fault x.1 t);
+  lost_power = λ d x. λ t. (k.lost_power d x.0 t, l.lost_power d x.1 t);
+  held = λ d fault x. (k.held d fault x.0, l.held d fault x.1);
+  resumed = λ d fault x. (k.resumed d fault x.0, l.resumed d fault x.1);
+  replaced = λ d side fault x. (k.replaced d side fault x.0, l.replaced d side fault x.1);
+  lent = λ x y fault p q. λ t. (k.lent x y fault p.0 q.0 t, l.lent x y fault p.1 q.1 t);
+  joins = λ d single x. (k.joins d single x.0, l.joins d single x.1);
+  splits = λ d fault x. (k.splits d fault x.0, l.splits d fault x.1);
+  restored = λ d a is x. (k.restored d a is x.0, l.restored d a is x.1);
+}
+
+-- Journals
+
+module _ (p : Item → Bool) where
+  abbrev counts : ℕ → List Item → ℕ
+  counts m xs = fold (λ (k : ℕ) (x : Item). k + (if p x then 1 else 0)) m xs
+
+  grows : (m : ℕ) (xs : List Item) → m ≤ counts m xs
+  grows m [] = omega arith
+  grows m (x ∷ xs) = let more = grows (m + (if p x then 1 else 0)) xs in by_test (p x) more where
+    by_test : (b : Bool) → m + (if b then 1 else 0) ≤ counts (m + (if b then 1 else 0)) xs → m ≤ counts (m + (if b then 1 else 0)) xs
+    by_test true le = omega (arith, le)
+    by_test false le = omega (arith, le)
+
+  not_first : (n m : ℕ) (x : Item) (xs : List Item) (b : Bool) → p x ≡ b → counts (m + (if b then 1 else 0)) xs ≡ n → n ≤ m →
+      ((k : ℕ) → counts k xs ≡ n → n ≤ k → AreNot p xs) → (p x ≡ false) × AreNot p xs
+  not_first n m x xs true test is le more = absurd (let up = grows (m + 1) xs in omega (arith, up, is, le))
+  not_first n m x xs false test is le more = (test, more (m + 0) is (omega (arith, le)))
+
+  none_counted : (n m : ℕ) (xs : List Item) → counts m xs ≡ n → n ≤ m → AreNot p xs
+  none_counted n m [] is le = tt
+  none_counted n m (x ∷ xs) is le = not_first n m x xs (p x) refl is le (λ k e f. none_counted n k xs e f)
+
+served_if : (c d q l : Bool) → (c && d) ≡ false → (c && q) ≡ false → (not c || not (d || (q && not l))) ≡ true
+served_if false d q l e f = refl
+served_if true true q l e f = absurd (cc)
+served_if true false true l e f = absurd (cc)
+served_if true false false l e f = refl
+
+and_true : (x y : Bool) → x ≡ true → y ≡ true → (x && y) ≡ true
+and_true true true e f = refl
+and_true true false e f = absurd (cc)
+and_true false y e f = absurd (cc)
+
+served : (xs : List Item) → AreNot ends_with_data_check xs → AreNot ends_with_equipment_check xs → are_served xs ≡ true
+served [] h k = refl
+served (items.Program e ∷ xs) h k =
+    and_true (is_served e) (are_served xs)
+    (served_if (is_checked e.how) (is_data_check (last_sense e.ends)) (is_equipment_check (last_sense e.ends)) (has_loss e.acts) h.0 k.0)
+    (served xs h.1 k.1)
+served (items.Act act ∷ xs) h k = served xs h.1 k.1
+served (items.Reset path ∷ xs) h k = served xs h.1 k.1
+served (items.Fresh ∷ xs) h k = served xs h.1 k.1
+served (items.Power ∷ xs) h k = served xs h.1 k.1
+
+none_missed : (d : MarksDevice) → Quiet d × HasNoDataCheck d → MissesNothing d
+none_missed d x = λ home nothing cache.
+    and_true (are_served d.history.items) (count_lost d.store.lost == 0)
+    (served d.history.items (none_counted ends_with_data_check 0 0 d.history.items x.1 (omega arith))
+    (none_counted ends_with_equipment_check 0 0 d.history.items (x.0.none home nothing cache).0 (omega arith)))
+    (ap (λ (n : ℕ). n == 0) (unharmed_counts d.store (x.0.fair.un home) nothing))
+
+opened_both : (deck : DeckLines) (ds : List DeviceLine) → AreSo Quiet (map (opened_device deck) ds) →
+    AreSo (λ d. Quiet d × HasNoDataCheck d) (map (opened_device deck) ds)
+opened_both deck [] h = tt
+opened_both deck (d ∷ ds) h = ((h.0, refl), opened_both deck ds h.1)
+
+pub run_misses_nothing : (deck : DeckLines) → IsServedDeck deck → All MissNothing (run_of deck).events
+unfolding D.run_asked
+run_misses_nothing deck h =
+    behind_weaker (λ d. Quiet d × HasNoDataCheck d) MissesNothing none_missed (run_of deck).events
+    (run_keeps (λ d. Quiet d × HasNoDataCheck d) (both_kept Quiet HasNoDataCheck quiet_kept checks_kept) (map asked_by deck.events) (opened deck)
+    (opened_both deck deck.devices (opened_quiet deck deck.devices h.devices)))

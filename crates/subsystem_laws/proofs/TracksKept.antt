@@ -1,0 +1,295 @@
+-- In a run no track is lost of a device that was never lent, while none of its sides and not the store was lost and no call failed.
+use Rattle.std.proofs.Common.{◌≡◌, ◌<◌, ◌≤◌, ◌+◌, ℕ, Bool, true, false, List, [], ◌∷◌, map, Option, None, is_some, min, refl, sym, ap, subst, ◌∙◌, arith, inr, Some}
+use Rattle.std.proofs.lemmas.List.Elements.{All-head, All-tail}
+use Rattle.std.specs.Prelude.{All, not, ◌||◌, ◌==◌, ◌*◌}
+use Rattle.ckd_types.specs.declared.geometry.Geometry.{Geometry}
+use Rattle.ckd_types.specs.declared.paths.Side.{Side}
+use Rattle.ckd_types.specs.declared.paths.Side.TheVariants as sides
+use Rattle.deck_text.specs.declared.line.DeviceLine.{DeviceLine}
+use Rattle.deck_text.specs.DeckLines.{DeckLines}
+use Rattle.loss_model.specs.declared.Loss.{Loss}
+use Rattle.loss_model.specs.declared.Loss.TheVariants as losses
+use Rattle.track_image.specs.Image.{Image}
+use Rattle.track_table.proofs.Places.{empty_places}
+use Rattle.device_outside.specs.Interaction.{Interaction}
+use Rattle.device_outside.specs.Pool.{Call}
+use Rattle.device_outside.specs.Told as T
+use Rattle.device_outside.specs.Told.{Told}
+use Rattle.device_outside.specs.Volume as V
+use Rattle.device_outside.specs.Volume.{counted, counted_if}
+use Rattle.device_defs.specs.declared.counts.Counts.{Counts}
+use Rattle.device_defs.specs.declared.counts.Losses.{Losses}
+use Rattle.device_defs.specs.Command.{command}
+use Rattle.device_defs.specs.Contents.{by_plain}
+use Rattle.device_defs.specs.Cutting.{reset, power}
+use Rattle.device_defs.specs.Events.{second, lose, background}
+use Rattle.device_defs.specs.Marks.{MarksDevice, new_device}
+use Rattle.plain_defs.specs.Journal.{Plans}
+use Rattle.device_defs.specs.Orders.{replace, lend}
+use Rattle.device_defs.specs.Pledge.{is_fresh, fresh_count, was_lent}
+use Rattle.device_defs.specs.Start as S
+use Rattle.device_defs.specs.Start.{start}
+use Rattle.device_defs.specs.Store.{level_at, stale_at, side_of}
+use Rattle.device_laws.specs.Unharmed.{NothingLost, IsWholeOnA, IsUnharmed}
+use Rattle.device_laws.proofs.Always as A
+use Rattle.device_laws.proofs.Always.{Behind, Always}
+use Rattle.device_laws.proofs.Based.{Base, Any, Based, kept, based_any, based_done, based_try, based_ask, based_read, based_write, based_tell}
+use Rattle.device_laws.proofs.BasedEvents.{base_in, with_one_loss, command_based, second_based, background_based, lose_based, power_based, reset_body}
+use Rattle.device_laws.proofs.Harmless.{cache_goes, power_goes, reset_goes}
+use Rattle.device_laws.proofs.KeptEvents as K
+use Rattle.device_laws.proofs.KeptHistories.{extends_itself}
+use Rattle.device_laws.proofs.LossLaws.{whole_behind, some_counted, has_a, unharmed_counts, held_unharmed, joined_unharmed, replaced_unharmed}
+use Rattle.device_laws.proofs.Lucky.{top, failed_in, never_falls, where_none_failed}
+use Rattle.device_laws.proofs.TrackMarks.{marks_are_faithful}
+use Rattle.device_laws.proofs.Unlost.{core_of, Fine}
+use Rattle.device_laws.proofs.UnlostEvents.{DeviceGoes, command_goes_within, background_goes, second_event_goes}
+use Rattle.subsystem_defs.specs.Decks as D
+use Rattle.subsystem_defs.specs.Decks.{opened_device, opened, run_of}
+use Rattle.subsystem_defs.specs.Lines.{asked_by}
+use Rattle.subsystem_defs.specs.Refusals as R
+use Rattle.subsystem_defs.specs.Refusals.{replace_fault, pair_fault, unpair_fault}
+use Rattle.subsystem_laws.specs.Causes.{KeepsTracks, KeepTracks}
+use Rattle.subsystem_laws.specs.Served.{IsServedDeck}
+use Rattle.subsystem_laws.proofs.GoodMarks.{Good, good_kept, lent_same, within, new_good, restored_was_lent}
+use Rattle.subsystem_laws.proofs.LendBase.{at, stays_still, lend_lends, lend_based, lent_counts}
+use Rattle.subsystem_laws.proofs.PastChecks.{reset_counts, power_counts}
+use Rattle.subsystem_laws.proofs.Walks.{IsKept, AreSo, LeavesSo, run_keeps, behind_weaker}
+use Rattle.subsystem_laws.proofs.WholeOrders.{is_down}
+
+pub record Fair (d : MarksDevice) : Type 0 where
+  pub good : Good d
+  pub most : d.store.counts.failed ≤ top
+  pub un : was_lent d ≡ false → IsUnharmed d.store
+
+-- A count of failed calls isn't above the greatest number
+
+one_at_most : (n : ℕ) → counted n ≤ top
+unfolding V.counted
+one_at_most n = least_of (n + 1) top where
+  least_of : (x y : ℕ) → min x y ≤ y
+  least_of x y = omega arith
+
+if_at_most : (b : Bool) (n : ℕ) → n ≤ top → counted_if b n ≤ top
+if_at_most true n le = one_at_most n
+if_at_most false n le = le
+
+most_behind : {R S X : Type 0} {base : S → Base} {may : Call → Type 0} {b : Base} {i : Interaction R Image S X} → Based base may b i → failed_in b ≤ top →
+    Behind i (λ s a. failed_in (base s) ≤ top)
+unfolding A.Behind
+most_behind (based_done e) le = subst (λ (x : Base). failed_in x ≤ top) (sym e) le
+most_behind (based_try x) le = λ ok. most_behind (x ok) le
+most_behind (based_ask m x) le = λ a. most_behind (x a) le
+most_behind {b = b} (based_read x) le = λ got. most_behind (x got) (if_at_most (not (is_some got)) (failed_in b) le)
+most_behind {b = b} (based_write x) le = λ ok. most_behind (x ok) (if_at_most (not ok) (failed_in b) le)
+most_behind (based_tell x) le = λ r. most_behind (x r) le
+
+stays_most : {R S X : Type 0} {base : S → Base} {may : Call → Type 0} {b : Base} {i : Interaction R Image S X} → Based base may b i → failed_in b ≤ top →
+    Always i (λ s a. failed_in (base s) ≤ top)
+stays_most x le = record { holds = most_behind x le }
+
+-- Events
+
+pub none_less : (n m : ℕ) → n ≤ m → m ≡ 0 → n ≡ 0
+none_less n m le is = omega (arith, le, is)
+
+pub below_top : (n : ℕ) → n ≡ 0 → n < top
+below_top n is = omega (arith, is)
+
+module _ (d : MarksDevice) (f : Fair d) where
+  -- in which of sides and store none more is lost
+  unharmed_at : {X : Type 0} (b : Base) (i : Interaction Bool Image MarksDevice X) → failed_in b ≡ d.store.counts.failed →
+      b.counts.losses.sides ≡ d.store.counts.losses.sides → b.counts.losses.store ≡ d.store.counts.losses.store → Based base_in Any b i →
+      (IsWholeOnA d.store → DeviceGoes by_plain d.store i) → IsUnharmed d.store → (t : Told) → IsUnharmed (T.hold true i t).state.store
+  unharmed_at b i failed sides store x goes un t n =
+      let y = (T.hold true i t).state in
+      let losses_are = (at (stays_still x) t).3 in
+      let le : failed_in b ≤ top = subst (λ (k : ℕ). k ≤ top) (sym failed) f.most in
+      let none : failed_in b ≡ 0 = none_less (failed_in b) y.store.counts.failed (at (never_falls x le) t) n.failed in
+      let before : NothingLost d.store = record {
+        sides = sym sides ∙ ap (λ (l : Losses). l.sides) (sym losses_are) ∙ n.sides;
+        failed = sym failed ∙ none;
+        store = sym store ∙ ap (λ (l : Losses). l.store) (sym losses_are) ∙ n.store;
+      } in
+      let whole = un before in
+      whole_behind d.store y.store
+      (at (where_none_failed (λ z _. Fine (core_of d.store) (core_of z.store)) x (below_top (failed_in b) none) (goes whole)) t (n.failed ∙ sym none)) whole
+
+  command_fair : (good : LeavesSo Good (command by_plain d)) → d.store.half ≡ None → LeavesSo Fair (command by_plain d)
+  command_fair good none = λ t.
+      let y = (T.hold true (command by_plain d) t).state in
+      let x = command_based by_plain d in
+      let b = at (stays_still x) t in
+      let k = at (K.command_goes by_plain d.plans d.history d (record { plans = refl; history = extends_itself d.history })) t in
+      record {
+        good = good t;
+        most = at (stays_most x f.most) t;
+        un = λ home.
+            let was = sym (lent_same d y b.2 k.history.fresh) ∙ home in
+            unharmed_at (kept d.store) (command by_plain d) refl refl refl x
+            (λ _. command_goes_within by_plain marks_are_faithful d (within d f.good) (f.good.well was) none) (f.un was) t;
+      }
+
+  second_fair : (good : LeavesSo Good (second by_plain d)) → LeavesSo Fair (second by_plain d)
+  second_fair good = λ t.
+      let y = (T.hold true (second by_plain d) t).state in
+      let x = second_based by_plain d in
+      let b = at (stays_still x) t in
+      let k = at (K.second_goes by_plain d.plans d.history d (record { plans = refl; history = extends_itself d.history })) t in
+      record {
+        good = good t;
+        most = at (stays_most x f.most) t;
+        un = λ home.
+            let was = sym (lent_same d y b.2 k.history.fresh) ∙ home in
+            unharmed_at (kept d.store) (second by_plain d) refl refl refl x
+            (λ whole. second_event_goes by_plain marks_are_faithful d (f.good.well was)
+            (λ h is. inr (has_a d.store.a.up (stale_at d.store.a h.track) (level_at d.store.b h.track) whole.up (whole.level h.track)))) (f.un was) t;
+      }
+
+  background_fair : (good : LeavesSo Good (background by_plain d)) → LeavesSo Fair (background by_plain d)
+  background_fair good = λ t.
+      let y = (T.hold true (background by_plain d) t).state in
+      let x = background_based by_plain d in
+      let b = at (stays_still x) t in
+      let k = at (K.background_goes by_plain d.plans d.history d (record { plans = refl; history = extends_itself d.history })) t in
+      record {
+        good = good t;
+        most = at (stays_most x f.most) t;
+        un = λ home.
+            let was = sym (lent_same d y b.2 k.history.fresh) ∙ home in
+            unharmed_at (kept d.store) (background by_plain d) refl refl refl x
+            (λ _. background_goes by_plain marks_are_faithful d (f.good.well was)) (f.un was) t;
+      }
+
+  reset_fair : (path : ℕ) → LeavesSo Fair (reset by_plain d path)
+  reset_fair path = λ t.
+      let y = (T.hold true (reset by_plain d path) t).state in
+      let x = based_any (reset_body by_plain d path) in
+      let b = at (stays_still x) t in
+      let fresh = at (reset_counts is_fresh (λ o k. refl) (λ path. refl) refl (fresh_count d.history.items) d path refl) t in
+      record {
+        good = good_kept.cut d path f.good t;
+        most = at (stays_most x f.most) t;
+        un = λ home.
+            let was = sym (lent_same d y b.2 fresh) ∙ home in
+            unharmed_at (kept d.store) (reset by_plain d path) refl refl refl x (λ _. reset_goes by_plain marks_are_faithful d path) (f.un was) t;
+      }
+
+  power_fair : LeavesSo Fair (power by_plain d)
+  power_fair = λ t.
+      let y = (T.hold true (power by_plain d) t).state in
+      let x = power_based by_plain d in
+      let b = at (stays_still x) t in
+      let fresh = at (power_counts is_fresh (λ o k. refl) (λ path. refl) refl (fresh_count d.history.items) d refl) t in
+      record {
+        good = good_kept.lost_power d f.good t;
+        most = at (stays_most x f.most) t;
+        un = λ home.
+            let was = sym (lent_same d y b.2 fresh) ∙ home in
+            unharmed_at (with_one_loss losses.Cache (kept d.store)) (power by_plain d) refl refl refl x
+            (λ whole. power_goes by_plain marks_are_faithful d whole) (f.un was) t;
+      }
+
+  loss_un : (loss : Loss) (t : Told) → was_lent d ≡ false → IsUnharmed (T.hold true (lose by_plain d loss) t).state.store
+  loss_un losses.Cache t was n =
+      unharmed_at (with_one_loss losses.Cache (kept d.store)) (lose by_plain d losses.Cache) refl refl refl (lose_based by_plain d losses.Cache)
+      (λ whole. cache_goes by_plain marks_are_faithful d (f.good.well was) whole) (f.un was) t n
+  loss_un losses.Store t was n =
+      absurd (some_counted d.store.counts.losses.store
+      (ap (λ (l : Losses). l.store) (sym (at (stays_still (lose_based by_plain d losses.Store)) t).3) ∙ n.store))
+  loss_un (losses.Side side) t was n =
+      absurd (some_counted d.store.counts.losses.sides
+      (ap (λ (l : Losses). l.sides) (sym (at (stays_still (lose_based by_plain d (losses.Side side))) t).3) ∙ n.sides))
+
+  loss_fair : (loss : Loss) (good : LeavesSo Good (lose by_plain d loss)) → LeavesSo Fair (lose by_plain d loss)
+  loss_fair loss good = λ t.
+      let y = (T.hold true (lose by_plain d loss) t).state in
+      let x = lose_based by_plain d loss in
+      let b = at (stays_still x) t in
+      let k = at (K.lose_goes by_plain d.plans d.history d loss (record { plans = refl; history = extends_itself d.history })) t in
+      record {
+        good = good t;
+        most = at (stays_most x f.most) t;
+        un = λ home. loss_un loss t (sym (lent_same d y b.2 k.history.fresh) ∙ home);
+      }
+
+  start_fair : (path : ℕ) (good : Good (start d path)) → Fair (start d path)
+  unfolding S.start
+  start_fair path good = record { good = good; most = f.most; un = λ home. f.un home }
+
+  -- Orders
+
+  lend_fair : (to : ℕ) (good : LeavesSo Good (lend by_plain d to)) → LeavesSo Fair (lend by_plain d to)
+  lend_fair to good = λ t.
+      let y = (T.hold true (lend by_plain d to) t).state in
+      let e = lend_lends d to t in
+      record {
+        good = good t;
+        most = at (stays_most (lend_based d to) (subst (λ (c : Counts). c.failed ≤ top) (sym (lent_counts d to)) f.most)) t;
+        un = λ home. absurd (
+            let gone : was_lent y ≡ true = ap (λ (x : Option ℕ). is_some x || not (fresh_count y.history.items == 0)) e.lent in
+            let both : true ≡ false = sym gone ∙ home in cc);
+      }
+
+  replace_same : (side : Side) → ((replace d side).store.counts.failed ≡ d.store.counts.failed) × (was_lent (replace d side) ≡ was_lent d)
+  replace_same sides.A = (refl, refl)
+  replace_same sides.B = (refl, refl)
+
+  replace_fair : (side : Side) → replace_fault d side ≡ None → Good (replace d side) → Fair (replace d side)
+  unfolding R.replace_fault
+  replace_fair side e good =
+      let facts = is_down d.store.lent (R.has_side d.store side) (side_of d.store side).up _ e in
+      let same = replace_same side in
+      record {
+        good = good;
+        most = subst (λ (n : ℕ). n ≤ top) (sym same.0) f.most;
+        un = λ home. replaced_unharmed d (f.un (sym same.1 ∙ home)) side facts.0;
+      }
+
+pub lent_was : (y : MarksDevice) (to : ℕ) → y.store.lent ≡ Some to → was_lent y ≡ false → ⊥
+lent_was y to lent home =
+    let gone : was_lent y ≡ true = ap (λ (x : Option ℕ). is_some x || not (fresh_count y.history.items == 0)) lent in
+    let both : true ≡ false = sym gone ∙ home in cc
+
+pub fair_kept : IsKept Fair
+fair_kept = record {
+  started = λ d path fault f. start_fair d f path (good_kept.started d path fault f.good);
+  commanded = λ d o running whole f. command_fair d f (good_kept.commanded d o running whole f.good) whole;
+  seconded = λ d h is f. second_fair d f (good_kept.seconded d h is f.good);
+  worked = λ d whole f. background_fair d f (good_kept.worked d whole f.good);
+  cut = λ d path f. reset_fair d f path;
+  lost_cache = λ d f. loss_fair d f losses.Cache (good_kept.lost_cache d f.good);
+  lost_store = λ d f. loss_fair d f losses.Store (good_kept.lost_store d f.good);
+  lost_side = λ d side fault f. loss_fair d f (losses.Side side) (good_kept.lost_side d side fault f.good);
+  lost_power = λ d f. power_fair d f;
+  held = λ d fault f. record { good = good_kept.held d fault f.good; most = f.most; un = λ home. (held_unharmed d (f.un home)).0 };
+  resumed = λ d fault f. record { good = good_kept.resumed d fault f.good; most = f.most; un = λ home. (held_unharmed d (f.un home)).1 };
+  replaced = λ d side fault f. replace_fair d f side fault (good_kept.replaced d side fault f.good);
+  lent = λ x y fault e f. lend_fair y f x.store.device (good_kept.lent x y fault e.good f.good);
+  joins = λ d single f. record { good = good_kept.joins d single f.good; most = f.most; un = λ home. (joined_unharmed d (f.un home)).0 };
+  splits = λ d fault f. record { good = good_kept.splits d fault f.good; most = f.most; un = λ home. (joined_unharmed d (f.un home)).1 };
+  restored = λ d a is f. record {
+    good = good_kept.restored d a is f.good;
+    most = f.most;
+    un = λ home. absurd (restored_was_lent d home);
+  };
+}
+
+pub new_fair : (number : ℕ) (on : Geometry) (n : ℕ) (plans : Plans) → 1 ≤ n → Fair (new_device number on n plans)
+new_fair number on n plans some = record {
+  good = new_good number on n plans some;
+  most = omega arith;
+  un = λ home none. record { up = refl; level = λ t. empty_places (n * 15) t false; kept = λ t. empty_places (n * 15) t false };
+}
+
+opened_fair : (deck : DeckLines) (ds : List DeviceLine) → All (λ (d : DeviceLine). 1 ≤ d.cylinders) ds → AreSo Fair (map (opened_device deck) ds)
+opened_fair deck [] h = tt
+opened_fair deck (d ∷ ds) h = (
+  new_fair d.number d.geometry d.cylinders _ (All-head (λ (d : DeviceLine). 1 ≤ d.cylinders) d ds h),
+  opened_fair deck ds (All-tail (λ (d : DeviceLine). 1 ≤ d.cylinders) d ds h),
+)
+
+pub run_loses_no_track : (deck : DeckLines) → IsServedDeck deck → All KeepTracks (run_of deck).events
+unfolding D.run_asked
+run_loses_no_track deck h =
+    behind_weaker Fair KeepsTracks (λ d f. λ home nothing. unharmed_counts d.store (f.un home) nothing) (run_of deck).events
+    (run_keeps Fair fair_kept (map asked_by deck.events) (opened deck) (opened_fair deck deck.devices h.devices))

@@ -1,0 +1,442 @@
+-- What each event of a device keeps holds of all devices behind every event of a run.
+use Rattle.std.proofs.Common.{◌≡◌, ◌==◌, zero, suc, ℕ, Bool, true, false, List, [], ◌∷◌, ◌++◌, map, Option, Some, None, is_some, refl, sym, ap, subst, ◌∙◌, arith}
+use Rattle.std.specs.Prelude.{not, All, ⊤, IfSome, if◌then◌else◌}
+use Rattle.std.proofs.lemmas.Bool.{cond_both, eqb-true}
+use Rattle.std.proofs.lemmas.List.Elements.{All-nil, All-cons, All-head, All-tail}
+use Rattle.plain_defs.specs.History.{OpenEntry}
+use Rattle.ckd_types.specs.declared.paths.Side.{Side}
+use Rattle.ckd_types.specs.declared.paths.Side.TheVariants.{A, B}
+use Rattle.loss_model.specs.declared.Loss.TheVariants as losses
+use Rattle.track_image.specs.Image.{Image}
+use Rattle.device_outside.specs.Told as T
+use Rattle.device_outside.specs.Told.{Calls, Told, calls_of, read_fails, write_fails, read_counted, write_counted}
+use Rattle.device_outside.specs.Interaction.{Interaction, Done, Try, Ask, Read, Write, Tell, and_then}
+use Rattle.device_outside.specs.Keeper.{reply}
+use Rattle.device_outside.specs.Pool.{Pool, answer, after, all_waiting, cache_repaired, store_repaired}
+use Rattle.device_defs.specs.declared.answers.StartFault.{StartFault}
+use Rattle.device_defs.specs.Command.{command}
+use Rattle.device_defs.specs.Contents.{by_plain}
+use Rattle.device_defs.specs.Cutting.{reset, power}
+use Rattle.device_defs.specs.Events.{second, lose, background}
+use Rattle.device_defs.specs.Orders.{join, split, restore, hold, resume, replace, lend}
+use Rattle.device_defs.specs.Marks.{MarksDevice}
+use Rattle.device_defs.specs.Start.{start_fault, start}
+use Rattle.device_defs.specs.Store.{HalfWrite}
+use Rattle.subsystem_defs.specs.declared.end.EventEnd.{EventEnd}
+use Rattle.subsystem_defs.specs.declared.end.EventEnd.TheVariants as ends
+use Rattle.subsystem_defs.specs.declared.end.OrderFault.{OrderFault}
+use Rattle.subsystem_defs.specs.declared.event.Event.{Event}
+use Rattle.subsystem_defs.specs.declared.event.Event.TheVariants as events
+use Rattle.subsystem_defs.specs.Deeds as E
+use Rattle.subsystem_defs.specs.Deeds.{back, order, repair, Ends, Becomes, Asks, Each, Repairs, Lends, deed, device_in, on_device, starts, start_by, is_own, step, seconds, ends_by, may_end_by, ends_done, end_of}
+use Rattle.subsystem_defs.specs.Happening as H
+use Rattle.subsystem_defs.specs.Happening.{MarksDeed, Talk, held_with, told_to, mounted_behind, behind_outcome, joined, lends, is_lent_to, restored_in, asks, becomes, happens_by, happens, quietly, sweep, replaced_by, replaced_at, unpaired_by, unpaired_at}
+use Rattle.subsystem_defs.specs.Lines as L
+use Rattle.subsystem_defs.specs.Lines.{is_settled, most_backs, backs, Asked, Once, Replace, Unpair, Run, Settle, Logged, logged, is_busy, step_logged, steps, most_steps, run_logged, line_logged, last_behind, run_lines}
+use Rattle.subsystem_defs.specs.Subsystem.{Mounted, Subsystem, number_of, devices_of, mounted_in, put_in, with_calls, unfailing}
+use Rattle.subsystem_defs.specs.declared.end.OrderFault.TheVariants.{Same, Paired}
+use Rattle.subsystem_defs.specs.Refusals as R
+use Rattle.subsystem_defs.specs.Refusals.{pair_fault, suspend_fault, resume_fault, fail_fault, replace_fault, unpair_fault}
+use Rattle.subsystem_laws.proofs.LendBase.{lend_lends}
+use Rattle.subsystem_laws.proofs.PlainRuns.{number_found, same_found}
+use Rattle.subsystem_laws.proofs.WholeLends.{first_none, where_none}
+
+-- an answer changes nothing of the device behind it
+hold_answer : {S X Y : Type 0} (i : Interaction Bool Image S X) (f : X → Y) (t : Told) →
+    (T.hold true (and_then i (λ d a. Done d (f a))) t).state ≡ (T.hold true i t).state
+unfolding T.hold
+hold_answer (Done s a) f t = refl
+hold_answer (Try k) f t = hold_answer (k true) f t
+hold_answer (Ask call k) f t = hold_answer (k (answer t.pool call)) f (record t { pool = after t.pool call (answer t.pool call) })
+hold_answer (Read side q k) f t = hold_answer (k (if read_fails (calls_of t side) then None else Some true)) f (read_counted t side)
+hold_answer (Write side q r k) f t = hold_answer (k (if write_fails (calls_of t side) then false else true)) f (write_counted t side)
+hold_answer (Tell m k) f t = hold_answer (k (reply m)) f t
+
+-- Numbers
+
+number_if : (b : Bool) (k m : Mounted) (n : ℕ) (o : Option Mounted) → (number_of k == n) ≡ b → (if b then Some k else o) ≡ Some m →
+    (o ≡ Some m → number_of m ≡ n) → number_of m ≡ n
+number_if true k m n o is at more = let same : k ≡ m = cc in subst (λ (x : Mounted). number_of x ≡ n) same (eqb-true (number_of k) n is)
+number_if false k m n o is at more = more at
+
+mounted_number : (ms : List Mounted) (n : ℕ) (m : Mounted) → mounted_in ms n ≡ Some m → number_of m ≡ n
+mounted_number [] n m at = absurd (cc)
+mounted_number (k ∷ ms) n m at = number_if (number_of k == n) k m n (mounted_in ms n) refl at (mounted_number ms n m)
+
+not_of : (k a b : ℕ) (y : Mounted) (o : Option Mounted) → k ≡ b → (b == a) ≡ false → (if k == a then Some y else o) ≡ o
+not_of k a b y o e other = ap (λ (x : ℕ). if x == a then Some y else o) e ∙ ap (λ (t : Bool). if t then Some y else o) other
+
+other_if : (t : Bool) (k y : Mounted) (ms : List Mounted) (a b : ℕ) → (number_of k == b) ≡ t → number_of y ≡ b → (b == a) ≡ false →
+    mounted_in (put_in ms b y) a ≡ mounted_in ms a → mounted_in (if t then y ∷ ms else k ∷ put_in ms b y) a ≡ mounted_in (k ∷ ms) a
+other_if true k y ms a b is number other more =
+    not_of (number_of y) a b y (mounted_in ms a) number other ∙ sym (not_of (number_of k) a b k (mounted_in ms a) (eqb-true (number_of k) b is) other)
+other_if false k y ms a b is number other more = ap (λ (o : Option Mounted). if number_of k == a then Some k else o) more
+
+-- another one's place
+put_other : (ms : List Mounted) (a b : ℕ) (y : Mounted) → number_of y ≡ b → (b == a) ≡ false → mounted_in (put_in ms b y) a ≡ mounted_in ms a
+put_other [] a b y number other = refl
+put_other (k ∷ ms) a b y number other = other_if (number_of k == b) k y ms a b refl number other (put_other ms a b y number other)
+
+turned_round : (a b : ℕ) → (a == b) ≡ false → (b == a) ≡ false
+turned_round a b e = by_test (b == a) refl where
+  by_test : (t : Bool) → (b == a) ≡ t → t ≡ false
+  by_test false f = refl
+  by_test true f =
+      absurd (let same : b ≡ a = eqb-true b a f in let back : (a == a) ≡ false = subst (λ (x : ℕ). (a == x) ≡ false) same e in grind arith)
+
+-- two devices that may become a pair
+may_pair : (x y : MarksDevice) → pair_fault x y ≡ None → ((y.store.device == x.store.device) ≡ false) × (x.store.paired ≡ false)
+unfolding R.pair_fault
+may_pair x y is =
+    let a = first_none (R.where_so (x.store.device == y.store.device) Same) _ is in
+    let b = first_none (R.lent_by x.store.lent) _ a.1 in
+    let c = first_none (R.lent_by y.store.lent) _ b.1 in
+    let e = first_none (R.where_so x.store.paired Paired) _ c.1 in
+    (turned_round x.store.device y.store.device (where_none (x.store.device == y.store.device) Same a.0), where_none x.store.paired Paired e.0)
+
+module _ (P : MarksDevice → Type 0) where
+  -- so it is behind an interaction, where the outside is told
+  abbrev pub LeavesSo : {A : Type 0} → Talk A → Type 0
+  LeavesSo talk = (t : Told) → P (T.hold true talk t).state
+
+  -- what each deed keeps
+  pub record IsKept : Type 0 where
+    pub started : (d : MarksDevice) (path : ℕ) → start_fault d path ≡ None → P d → P (start d path)
+    pub commanded : (d : MarksDevice) (o : OpenEntry) → d.history.running ≡ Some o → d.store.half ≡ None → P d → LeavesSo (command by_plain d)
+    pub seconded : (d : MarksDevice) (h : HalfWrite (Unit {0})) → d.store.half ≡ Some h → P d → LeavesSo (second by_plain d)
+    pub worked : (d : MarksDevice) → d.store.half ≡ None → P d → LeavesSo (background by_plain d)
+    pub cut : (d : MarksDevice) (path : ℕ) → P d → LeavesSo (reset by_plain d path)
+    pub lost_cache : (d : MarksDevice) → P d → LeavesSo (lose by_plain d losses.Cache)
+    pub lost_store : (d : MarksDevice) → P d → LeavesSo (lose by_plain d losses.Store)
+    pub lost_side : (d : MarksDevice) (side : Side) → fail_fault d side ≡ None → P d → LeavesSo (lose by_plain d (losses.Side side))
+    pub lost_power : (d : MarksDevice) → P d → LeavesSo (power by_plain d)
+    pub held : (d : MarksDevice) → suspend_fault d ≡ None → P d → P (hold d)
+    pub resumed : (d : MarksDevice) → resume_fault d ≡ None → P d → P (resume d)
+    pub replaced : (d : MarksDevice) (side : Side) → replace_fault d side ≡ None → P d → P (replace d side)
+    pub lent : (x y : MarksDevice) → pair_fault x y ≡ None → P x → P y → LeavesSo (lend by_plain y x.store.device)
+    pub joins : (d : MarksDevice) → d.store.paired ≡ false → P d → P (join d)
+    pub splits : (d : MarksDevice) → unpair_fault d ≡ None → P d → P (split d)
+    pub restored : (d : MarksDevice) (a : ℕ) → is_lent_to d.store.lent a ≡ true → P d → P (restore d)
+
+  abbrev pub IsSo : Mounted → Type 0
+  IsSo m = P m.device
+
+  abbrev pub AreSo : List Mounted → Type 0
+  AreSo [] = Unit {0}
+  AreSo (m ∷ ms) = P m.device × AreSo ms
+
+  all_so : (ms : List Mounted) → AreSo ms → All P (map (λ (m : Mounted). m.device) ms)
+  all_so [] p = All-nil P
+  all_so (m ∷ ms) p = All-cons P m.device (map (λ (m : Mounted). m.device) ms) p.0 (all_so ms p.1)
+
+  -- Devices by their numbers
+
+  found_if : (b : Bool) (d : MarksDevice) (o : Option MarksDevice) → P d → IfSome o P → IfSome (if b then Some d else o) P
+  found_if true d o p rest = p
+  found_if false d o p rest = rest
+
+  device_so : (ms : List Mounted) (n : ℕ) → AreSo ms → IfSome (device_in (map (λ (m : Mounted). m.device) ms) n) P
+  device_so [] n p = tt
+  device_so (m ∷ ms) n p =
+      found_if (number_of m == n) m.device (device_in (map (λ (x : Mounted). x.device) ms) n) p.0 (device_so ms n p.1)
+
+  mounted_if : (b : Bool) (m : Mounted) (o : Option Mounted) → IsSo m → IfSome o IsSo → IfSome (if b then Some m else o) IsSo
+  mounted_if true m o p rest = p
+  mounted_if false m o p rest = rest
+
+  mounted_so : (ms : List Mounted) (n : ℕ) → AreSo ms → IfSome (mounted_in ms n) IsSo
+  mounted_so [] n p = tt
+  mounted_so (m ∷ ms) n p = mounted_if (number_of m == n) m (mounted_in ms n) p.0 (mounted_so ms n p.1)
+
+  put_so : (ms : List Mounted) (n : ℕ) (x : Mounted) → AreSo ms → IsSo x → AreSo (put_in ms n x)
+  put_so [] n x p new = tt
+  put_so (m ∷ ms) n x p new =
+      cond_both (number_of m == n) (x ∷ ms) (m ∷ put_in ms n x) AreSo (λ _. (new, p.1)) (λ _. (p.0, put_so ms n x p.1 new))
+
+  -- Deeds that keep it
+
+  record MayLend (ms : List Mounted) (a b : ℕ) : Type 0 where
+    lent : (m : Mounted) → mounted_in ms b ≡ Some m → LeavesSo (lend by_plain m.device a)
+    single : (m : Mounted) → mounted_in ms a ≡ Some m → m.device.store.paired ≡ false
+    other : (b == a) ≡ false
+
+  abbrev KeepsDeed : List Mounted → MarksDeed → Type 0
+  KeepsDeed ms (Ends end) = ⊤
+  KeepsDeed ms (Becomes d end) = P d
+  KeepsDeed ms (Asks d talk) = LeavesSo talk
+  KeepsDeed ms (Each pool f) = (d : MarksDevice) → P d → LeavesSo (f d)
+  KeepsDeed ms (Repairs pool) = ⊤
+  KeepsDeed ms (Lends a b) = MayLend ms a.store.device b.store.device
+
+  -- a record round it, so that the deed can be inferred
+  record KeptDeed (ms : List Mounted) (x : MarksDeed) : Type 0 where
+    is : KeepsDeed ms x
+
+  swept_so : (f : MarksDevice → Talk (Unit {0})) → ((d : MarksDevice) → P d → LeavesSo (f d)) → (ms : List Mounted) (pool : Pool) → AreSo ms →
+      AreSo (sweep f ms pool).mounted
+  unfolding H.sweep
+  swept_so f h [] pool p = tt
+  swept_so f h (m ∷ ms) pool p =
+      (h m.device p.0 (told_to pool m), swept_so f h ms (held_with pool m (f m.device)).told.pool p.1)
+
+  asked_so : (s : Subsystem) (n : ℕ) (talk : Talk (Option EventEnd)) → LeavesSo talk → AreSo s.mounted → (o : Option Mounted) →
+      AreSo (asks s n o talk).behind.mounted
+  asked_so s n talk h p None = p
+  asked_so s n talk h p (Some m) = put_so s.mounted n (mounted_behind (held_with s.pool m talk)) p (h (told_to s.pool m))
+
+  becomes_so : (s : Subsystem) (n : ℕ) (d : MarksDevice) → P d → AreSo s.mounted → (o : Option Mounted) → AreSo (becomes s n o d).mounted
+  becomes_so s n d new p None = p
+  becomes_so s n d new p (Some m) = put_so s.mounted n (record m { device = d }) p new
+
+  module _ (k : IsKept) where
+    joined_so : (s : Subsystem) (n : ℕ) (volume : Calls) → AreSo s.mounted → (o : Option Mounted) → IfSome o IsSo →
+        ((m : Mounted) → o ≡ Some m → m.device.store.paired ≡ false) → AreSo (joined s n volume o).mounted
+    joined_so s n volume p None q single = p
+    joined_so s n volume p (Some m) q single =
+        put_so s.mounted n (record m { device = join m.device; b = volume }) p (k.joins m.device (single m refl) q)
+
+    lends_so : (s : Subsystem) (a b : ℕ) → AreSo s.mounted → (o : Option Mounted) → mounted_in s.mounted b ≡ o → MayLend s.mounted a b →
+        AreSo (lends s a b o).mounted
+    lends_so s a b p None is h = p
+    lends_so s a b p (Some m) is h =
+        let o = held_with s.pool m (lend by_plain m.device a) in
+        let z = behind_outcome s b o in
+        let pz = put_so s.mounted b (mounted_behind o) p (h.lent m is (told_to s.pool m)) in
+        let number = (lend_lends m.device a (told_to s.pool m)).number ∙ mounted_number s.mounted b m is in
+        joined_so z a o.told.a pz (mounted_in z.mounted a) (mounted_so z.mounted a pz)
+        (λ y at. h.single y (sym (put_other s.mounted a b (mounted_behind o) number h.other) ∙ at))
+
+    happens_so : (s : Subsystem) (x : MarksDeed) → AreSo s.mounted → KeepsDeed s.mounted x → AreSo (happens_by s x).behind.mounted
+    happens_so s (Ends end) p h = p
+    happens_so s (Becomes d end) p h = becomes_so s d.store.device d h p (mounted_in s.mounted d.store.device)
+    happens_so s (Asks d talk) p h = asked_so s d.store.device talk h p (mounted_in s.mounted d.store.device)
+    happens_so s (Each pool f) p h = swept_so f h s.mounted pool p
+    happens_so s (Repairs pool) p h = p
+    happens_so s (Lends a b) p h = lends_so s a.store.device b.store.device p (mounted_in s.mounted b.store.device) refl h
+
+    -- Events
+
+    -- an answer is an event's end
+    answers : {X Y : Type 0} (talk : Talk X) (f : X → Y) → LeavesSo talk → LeavesSo (and_then talk (λ d a. Done d (f a)))
+    answers talk f h = λ t. subst P (sym (hold_answer talk f t)) (h t)
+
+    module _ (ms : List Mounted) where
+      on_so : (o : Option MarksDevice) (f : MarksDevice → MarksDeed) → IfSome o P → ((d : MarksDevice) → P d → KeptDeed ms (f d)) →
+          KeptDeed ms (on_device o f)
+      on_so None f p h = record { is = tt }
+      on_so (Some d) f p h = h d p
+
+      on_found : (o : Option MarksDevice) (f : MarksDevice → MarksDeed) → IfSome o P → ((d : MarksDevice) → o ≡ Some d → P d → KeptDeed ms (f d)) →
+          KeptDeed ms (on_device o f)
+      on_found None f p h = record { is = tt }
+      on_found (Some d) f p h = h d refl p
+
+      deed_if : (b : Bool) {x y : MarksDeed} → (b ≡ true → KeptDeed ms x) → (b ≡ false → KeptDeed ms y) → KeptDeed ms (if b then x else y)
+      deed_if true f g = f refl
+      deed_if false f g = g refl
+
+      ordered : (o : Option OrderFault) {x : MarksDeed} → (o ≡ None → KeptDeed ms x) → KeptDeed ms (order o x)
+      ordered (Some fault) h = record { is = tt }
+      ordered None h = h refl
+
+      starts_by : (d : MarksDevice) (path : ℕ) (o : Option StartFault) → start_fault d path ≡ o → P d → KeptDeed ms (start_by {R = Bool} d path o)
+      starts_by d path (Some fault) is p = record { is = tt }
+      starts_by d path None is p = record { is = k.started d path is p }
+
+      starts_so : (d : MarksDevice) (path : ℕ) → P d → KeptDeed ms (starts {R = Bool} path d)
+      starts_so d path p =
+          deed_if (is_own path d.history.running) (λ _. record { is = tt }) (λ _. starts_by d path (start_fault d path) refl p)
+
+      seconds_so : (d : MarksDevice) (h : HalfWrite (Unit {0})) → d.store.half ≡ Some h → P d → KeptDeed ms (seconds by_plain d)
+      seconds_so d h is p = record { is = answers (second by_plain d) (λ a. Some (ends.Second a)) (k.seconded d h is p) }
+
+      steps_by : (d : MarksDevice) (r : Option OpenEntry) → d.history.running ≡ r → d.store.half ≡ None → P d →
+          KeptDeed ms (if is_some r then Asks d (may_end_by ends.Stepped (command by_plain d)) else Ends ends.Idle)
+      steps_by d None none whole p = record { is = tt }
+      steps_by d (Some o) running whole p = record { is = answers (command by_plain d) (end_of ends.Stepped) (k.commanded d o running whole p) }
+
+      step_by : (d : MarksDevice) (h : Option (HalfWrite (Unit {0}))) → d.store.half ≡ h → P d →
+          KeptDeed ms (if is_some h then seconds by_plain d
+          else if is_some d.history.running then Asks d (may_end_by ends.Stepped (command by_plain d)) else Ends ends.Idle)
+      step_by d (Some h) is p = seconds_so d h is p
+      step_by d None is p = steps_by d d.history.running refl is p
+
+      back_by : (d : MarksDevice) (h : Option (HalfWrite (Unit {0}))) → d.store.half ≡ h → P d →
+          KeptDeed ms (if is_some h then seconds by_plain d else Asks d (may_end_by ends.Back (background by_plain d)))
+      back_by d (Some h) is p = seconds_so d h is p
+      back_by d None is p = record { is = answers (background by_plain d) (end_of ends.Back) (k.worked d is p) }
+
+      reset_so : (d : MarksDevice) (path : ℕ) → P d → KeptDeed ms (Asks d (ends_by ends_done (reset by_plain d path)))
+      reset_so d path p = record { is = answers (reset by_plain d path) (λ a. Some (ends_done a)) (k.cut d path p) }
+
+      side_so : (d : MarksDevice) (side : Side) → P d → KeptDeed ms (order (fail_fault d side) (Asks d (ends_by ends_done (lose by_plain d
+          (losses.Side side)))))
+      side_so d side p =
+          ordered (fail_fault d side) (λ fault. record { is = answers (lose by_plain d (losses.Side side)) (λ a. Some (ends_done a)) (k.lost_side d side fault p) })
+
+      repair_so : (up : Bool) (pool repaired : Pool) → KeptDeed ms (repair {F = Bool} {P = Unit {0}} {H = Unit {0}} {R = Bool} up pool repaired)
+      repair_so up pool repaired =
+          deed_if up (λ _. record { is = tt }) (λ _. deed_if (all_waiting pool == 0) (λ _. record { is = tt }) (λ _. record { is = tt }))
+
+    module _ (s : Subsystem) (p : AreSo s.mounted) where
+      pair_so : (x : MarksDevice) (a b : ℕ) (o : Option MarksDevice) → device_in (devices_of s) b ≡ o → device_in (devices_of s) a ≡ Some x → P x → IfSome o P →
+          KeptDeed s.mounted (on_device o (λ y. order (pair_fault x y) (Lends x y)))
+      pair_so x a b None at here px py = record { is = tt }
+      pair_so x a b (Some y) at here px py =
+          ordered s.mounted (pair_fault x y) (λ fault. record {
+            is = record {
+              lent = λ m there.
+                  subst (λ (d : MarksDevice). LeavesSo (lend by_plain d x.store.device))
+                  (sym (same_found s.mounted b y m at (ap (mounted_in s.mounted) (sym (number_found s.mounted b y at)) ∙ there)))
+                  (k.lent x y fault px py);
+              single = λ m there.
+                  ap (λ (d : MarksDevice). d.store.paired)
+                  (same_found s.mounted a x m here (ap (mounted_in s.mounted) (sym (number_found s.mounted a x here)) ∙ there))
+                  ∙ (may_pair x y fault).1;
+              other = (may_pair x y fault).0;
+            };
+          })
+
+      deed_so : (e : Event) → KeptDeed s.mounted (deed by_plain s.pool (devices_of s) e)
+      unfolding E.deed
+      deed_so (events.Start path d) =
+          on_so s.mounted (device_in (devices_of s) d) (starts path) (device_so s.mounted d p) (λ x q. starts_so s.mounted x path q)
+      deed_so (events.Step d) =
+          on_so s.mounted (device_in (devices_of s) d) (step by_plain) (device_so s.mounted d p) (λ x q. step_by s.mounted x x.store.half refl q)
+      deed_so (events.Back d) =
+          on_so s.mounted (device_in (devices_of s) d) (back by_plain) (device_so s.mounted d p) (λ x q. back_by s.mounted x x.store.half refl q)
+      deed_so (events.Reset path d) =
+          on_so s.mounted (device_in (devices_of s) d) (λ x. Asks x (ends_by ends_done (reset by_plain x path))) (device_so s.mounted d p)
+          (λ x q. reset_so s.mounted x path q)
+      deed_so events.FailCache = deed_if s.mounted (not s.pool.cache_up) (λ _. record { is = tt }) (λ _. record { is = k.lost_cache })
+      deed_so events.FailStore = deed_if s.mounted (not s.pool.store_up) (λ _. record { is = tt }) (λ _. record { is = k.lost_store })
+      deed_so (events.FailVolume d side) =
+          on_so s.mounted (device_in (devices_of s) d) (λ x. order (fail_fault x side) (Asks x (ends_by ends_done (lose by_plain x (losses.Side side)))))
+          (device_so s.mounted d p) (λ x q. side_so s.mounted x side q)
+      deed_so events.RepairCache = repair_so s.mounted s.pool.cache_up s.pool (cache_repaired s.pool)
+      deed_so events.RepairStore = repair_so s.mounted s.pool.store_up s.pool (store_repaired s.pool)
+      deed_so (events.Pair a b) =
+          on_found s.mounted (device_in (devices_of s) a) (λ x. on_device (device_in (devices_of s) b) (λ y. order (pair_fault x y) (Lends x y)))
+          (device_so s.mounted a p) (λ x here q. pair_so x a b (device_in (devices_of s) b) refl here q (device_so s.mounted b p))
+      deed_so (events.Suspend a) =
+          on_so s.mounted (device_in (devices_of s) a) (λ x. order (suspend_fault x) (Becomes (hold x) ends.Done)) (device_so s.mounted a p)
+          (λ x q. ordered s.mounted (suspend_fault x) (λ fault. record { is = k.held x fault q }))
+      deed_so (events.Resume a) =
+          on_so s.mounted (device_in (devices_of s) a) (λ x. order (resume_fault x) (Becomes (resume x) ends.Done)) (device_so s.mounted a p)
+          (λ x q. ordered s.mounted (resume_fault x) (λ fault. record { is = k.resumed x fault q }))
+      deed_so events.Power = record { is = k.lost_power }
+
+      -- one event
+      event_so : (e : Event) → AreSo (happens s e).behind.mounted
+      unfolding H.happens
+      event_so e = happens_so s (deed by_plain s.pool (devices_of s) e) p (deed_so e).is
+
+    -- The two orders for which a volume is handed in
+
+    with_side : (side : Side) (calls : Calls) (m : Mounted) → IsSo m → IsSo (with_calls m side calls)
+    with_side A calls m q = q
+    with_side B calls m q = q
+
+    replaced_so : (s : Subsystem) (n : ℕ) (side : Side) (calls : Calls) → AreSo s.mounted → (o : Option Mounted) → IfSome o IsSo →
+        AreSo (replaced_at s n side calls o).behind.mounted
+    replaced_so s n side calls p None q = p
+    replaced_so s n side calls p (Some m) q = by_fault (replace_fault m.device side) refl where
+      by_fault : (o : Option OrderFault) → replace_fault m.device side ≡ o → AreSo (replaced_by s n side calls m o).behind.mounted
+      by_fault (Some fault) is = p
+      by_fault None is =
+          put_so s.mounted n (with_calls (record m { device = replace m.device side }) side calls) p
+          (with_side side calls (record m { device = replace m.device side }) (k.replaced m.device side is q))
+
+    restored_so : (ms : List Mounted) (a : ℕ) (calls : Calls) → AreSo ms → AreSo (restored_in ms a calls)
+    restored_so [] a calls p = p
+    restored_so (m ∷ ms) a calls p =
+        cond_both (is_lent_to m.device.store.lent a) (record m { device = restore m.device; a = calls } ∷ ms) (m ∷ restored_in ms a calls) AreSo
+        (λ is. (k.restored m.device a is p.0, p.1)) (λ _. (p.0, restored_so ms a calls p.1))
+
+    unpaired_so : (s : Subsystem) (n : ℕ) (calls : Calls) → AreSo s.mounted → (o : Option Mounted) → IfSome o IsSo →
+        AreSo (unpaired_at s n calls o).behind.mounted
+    unpaired_so s n calls p None q = p
+    unpaired_so s n calls p (Some m) q = by_fault (unpair_fault m.device) refl where
+      by_fault : (o : Option OrderFault) → unpair_fault m.device ≡ o → AreSo (unpaired_by s n calls m o).behind.mounted
+      by_fault (Some fault) is = p
+      by_fault None is =
+          let x = record m { device = split m.device } in
+          restored_so (put_in s.mounted n x) n calls (put_so s.mounted n x p (k.splits m.device is q))
+
+    -- Lines
+
+    -- behind each event, and behind all of them
+    abbrev LogsSo : Subsystem → List Logged → Type 0
+    LogsSo s [] = AreSo s.mounted
+    LogsSo s (t ∷ ts) = AreSo t.happened.behind.mounted × LogsSo t.happened.behind ts
+
+    logs_end : (s : Subsystem) (ts : List Logged) → LogsSo s ts → AreSo (last_behind s ts).mounted
+    logs_end s [] p = p
+    logs_end s (t ∷ ts) p = logs_end t.happened.behind ts p.1
+
+    logs_on : (s : Subsystem) (ts us : List Logged) → LogsSo s ts → LogsSo (last_behind s ts) us → LogsSo s (ts ++ us)
+    logs_on s [] us p more = more
+    logs_on s (t ∷ ts) us p more = (p.0, logs_on t.happened.behind ts us p.1 more)
+
+    abbrev pub IsBehind : Logged → Type 0
+    IsBehind x = All P (devices_of x.happened.behind)
+
+    logs_all : (s : Subsystem) (ts : List Logged) → LogsSo s ts → All IsBehind ts
+    logs_all s [] p = All-nil IsBehind
+    logs_all s (t ∷ ts) p = All-cons IsBehind t ts (all_so t.happened.behind.mounted p.0) (logs_all t.happened.behind ts p.1)
+
+    steps_so : (n d : ℕ) (s : Subsystem) → AreSo s.mounted → LogsSo s (steps n d s)
+    unfolding L.steps
+    steps_so zero d s p = p
+    steps_so (suc n) d s p =
+        let behind = event_so s p (events.Step d) in
+        cond_both (is_busy (mounted_in s.mounted d)) (step_logged s d (steps n d)) [] (LogsSo s)
+        (λ _. (behind, steps_so n d (happens s (events.Step d)).behind behind)) (λ _. p)
+
+    run_so : (d : ℕ) (s : Subsystem) → AreSo s.mounted → LogsSo s (run_logged s d)
+    run_so d s p =
+        cond_both (is_busy (mounted_in s.mounted d)) (steps most_steps d s) (logged (Run d) (quietly s s ends.Idle) ∷ []) (LogsSo s)
+        (λ _. steps_so most_steps d s p) (λ _. (p, p))
+
+    backs_so : (n d : ℕ) (s : Subsystem) → AreSo s.mounted → LogsSo s (backs n d s)
+    unfolding L.backs
+    backs_so zero d s p = p
+    backs_so (suc n) d s p =
+        let h = happens s (events.Back d) in
+        let behind = event_so s p (events.Back d) in (
+          behind,
+          cond_both (is_settled h.end) [] (backs n d h.behind) (LogsSo h.behind) (λ _. behind) (λ _. backs_so n d h.behind behind),
+        )
+
+    line_so : (x : Asked) (s : Subsystem) → AreSo s.mounted → LogsSo s (line_logged s x)
+    unfolding L.line_logged H.replaced H.unpaired
+    line_so (Once e) s p = let behind = event_so s p e in (behind, behind)
+    line_so (Replace d side) s p = let q = replaced_so s d side unfailing p (mounted_in s.mounted d) (mounted_so s.mounted d p) in (q, q)
+    line_so (Unpair a) s p = let q = unpaired_so s a unfailing p (mounted_in s.mounted a) (mounted_so s.mounted a p) in (q, q)
+    line_so (Run d) s p = run_so d s p
+    line_so (Settle d) s p = backs_so most_backs d s p
+
+    lines_so : (lines : List Asked) (s : Subsystem) → AreSo s.mounted → LogsSo s (run_lines lines s)
+    unfolding L.run_lines
+    lines_so [] s p = p
+    lines_so (line ∷ lines) s p =
+        let ts = line_logged s line in
+        let here = line_so line s p in
+        logs_on s ts (run_lines lines (last_behind s ts)) here (lines_so lines (last_behind s ts) (logs_end s ts here))
+
+    -- so it is behind each event of all lines
+    pub run_keeps : (lines : List Asked) (s : Subsystem) → AreSo s.mounted → All IsBehind (run_lines lines s)
+    run_keeps lines s p = logs_all s (run_lines lines s) (lines_so lines s p)
+
+-- and so is what follows from it
+pub all_weaker : (P Q : MarksDevice → Type 0) → ((d : MarksDevice) → P d → Q d) → (ds : List MarksDevice) → All P ds → All Q ds
+all_weaker P Q f [] h = All-nil Q
+all_weaker P Q f (d ∷ ds) h = All-cons Q d ds (f d (All-head P d ds h)) (all_weaker P Q f ds (All-tail P d ds h))
+
+pub behind_weaker : (P Q : MarksDevice → Type 0) → ((d : MarksDevice) → P d → Q d) → (ts : List Logged) →
+    All (λ (x : Logged). All P (devices_of x.happened.behind)) ts → All (λ (x : Logged). All Q (devices_of x.happened.behind)) ts
+behind_weaker P Q f [] h = All-nil (λ (x : Logged). All Q (devices_of x.happened.behind))
+behind_weaker P Q f (t ∷ ts) h =
+    All-cons (λ (x : Logged). All Q (devices_of x.happened.behind)) t ts
+    (all_weaker P Q f (devices_of t.happened.behind) (All-head (λ (x : Logged). All P (devices_of x.happened.behind)) t ts h))
+    (behind_weaker P Q f ts (All-tail (λ (x : Logged). All P (devices_of x.happened.behind)) t ts h))

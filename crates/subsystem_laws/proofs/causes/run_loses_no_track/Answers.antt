@@ -1,0 +1,5 @@
+use Rattle.subsystem_laws.proofs.TracksKept.{run_loses_no_track}
+use Rattle.subsystem_laws.proofs.causes.run_loses_no_track.Goals as goal
+
+pub returns : goal.returns
+returns c = run_loses_no_track

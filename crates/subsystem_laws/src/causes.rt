@@ -1,0 +1,42 @@
+//! Laws of the run of a deck: what causes the checks of its commands.
+
+ghost use Rattle.std.specs.Prelude.{◌≡◌, ℕ, List, Ok, All};
+ghost use Rattle.deck_text.specs.DeckLines.{DeckLines};
+ghost use Rattle.deck_text.specs.Parse.{parsed};
+ghost use Rattle.subsystem_defs.specs.Decks.{run_of};
+ghost use Rattle.subsystem_laws.specs.Causes.{CheckNothing, HaveGoodMarks, HaveNoDataCheck, KeepTracks, MissNothing};
+ghost use Rattle.subsystem_laws.specs.Served.{IsServedDeck};
+
+/// No command ends with data check, whatever calls fail and whatever is lost.
+pub fn run_has_no_data_check()
+    ensures { (deck : DeckLines) → All HaveNoDataCheck (run_of deck).events }
+{}
+
+/// Behind every event each device that was never lent has good marks, whatever calls fail and whatever is lost.
+pub fn run_has_good_marks()
+    ensures { (deck : DeckLines) → IsServedDeck deck → All HaveGoodMarks (run_of deck).events }
+{}
+
+/// Behind every event no track is lost of a device that was never lent, while none of its sides and not the store was lost and no call
+/// failed.
+pub fn run_loses_no_track()
+    ensures { (deck : DeckLines) → IsServedDeck deck → All KeepTracks (run_of deck).events }
+{}
+
+/// No command ends with equipment check on a device that was never lent, while nothing of it was lost, cache and power among it, and no
+/// call failed.
+pub fn run_checks_nothing()
+    ensures { (deck : DeckLines) → IsServedDeck deck → All CheckNothing (run_of deck).events }
+{}
+
+/// So what is promised of a calm run holds of such a device: every program was served, and no track is lost.
+pub fn run_misses_nothing()
+    ensures { (deck : DeckLines) → IsServedDeck deck → All MissNothing (run_of deck).events }
+{}
+
+/// So it is in the run of every deck that was read.
+pub fn read_run_checks_nothing()
+    ensures marks { (text : List ℕ) (deck : DeckLines) → parsed text ≡ Ok deck → All HaveGoodMarks (run_of deck).events }
+    ensures tracks { (text : List ℕ) (deck : DeckLines) → parsed text ≡ Ok deck → All KeepTracks (run_of deck).events }
+    ensures checks { (text : List ℕ) (deck : DeckLines) → parsed text ≡ Ok deck → All CheckNothing (run_of deck).events }
+{}
