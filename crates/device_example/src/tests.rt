@@ -1,0 +1,99 @@
+use crate::{CountedRequests, Watched};
+use ckd_ccw::Program;
+use ckd_types::{Bytes, Ccw, DeviceNo, Geometry, PathNo, TrackNo};
+use deck_plan::PathPlans;
+use device_core::{Device, Stepped};
+use device_outside::MemVolume;
+use std::alloc::Global;
+use std::test::Fail;
+
+/// Define extent over cylinder 0: format writes are permitted.
+const EXTENT: &[u8] = &[0xc0, 0xc0, 0x10, 0, 0, 0, 0, 0, 0, 0, 0, 0, 0, 0, 0, 0x0e];
+
+/// Locate record: one format write behind record 0 of track 0, and one read of record 1.
+const FORMAT_ONE: &[u8] = &[3, 0, 0, 1, 0, 0, 0, 0, 0, 0, 0, 0, 0, 0, 0, 0];
+
+const READ_ONE: &[u8] = &[6, 0, 0, 1, 0, 0, 0, 0, 0, 0, 0, 0, 1, 0, 0, 0];
+
+/// The count area of record 1, no key and four bytes of data, and these.
+const RECORD_ONE: &[u8] = &[0, 0, 0, 0, 1, 0, 0, 4, 0xc3, 0xd2, 0xc4, 0x40];
+
+/// Its data, as the second program reads it.
+const DATA: &[u8] = &[0xc3, 0xd2, 0xc4, 0x40];
+
+fn word(alloc: Global, command: u8, flags: u8, count: u16, given: &[u8]) -> Result<Ccw, Fail> {
+    Ok(Ccw {
+        command,
+        flags,
+        count,
+        given: Bytes::from_slice(alloc, given)?,
+    })
+}
+
+/// A channel program of three words: define extent, locate record, and one command in its domain.
+fn program(alloc: Global, locate: &[u8], last: Ccw) -> Result<Program, Fail> {
+    let mut words = Vec::new(alloc);
+    words.push(word(alloc, 0x63, Ccw::CHAIN, 16, EXTENT)?)?;
+    words.push(word(alloc, 0x47, Ccw::CHAIN, 16, locate)?)?;
+    words.push(last)?;
+    Ok(Program::new(words).ok().ok_or("a word is bad")?)
+}
+
+/// Path 1 has two programs: it formats record 1 of track 0, and reads it.
+fn plans(alloc: Global, path: PathNo) -> Result<PathPlans, Fail> {
+    let format = program(alloc, FORMAT_ONE, word(alloc, 0x1d, 0, 12, RECORD_ONE)?)?;
+    let read = program(alloc, READ_ONE, word(alloc, 0x06, 0, 4, &[])?)?;
+    let mut plans = PathPlans::new(alloc);
+    plans.push(path, format)?;
+    if plans.len(path) < 65535 {
+        plans.push(path, read)?;
+    }
+    Ok(plans)
+}
+
+/// Device 5 of one cylinder, over a volume of empty tracks.
+fn device(alloc: Global, plans: PathPlans) -> Result<Device<Watched<MemVolume>>, Fail> {
+    let number = DeviceNo::new(5).ok_or("device")?;
+    let volume = Watched::new(MemVolume::new(alloc, 1, &[], &[])?);
+    match Device::open(alloc, number, Geometry::D3390, 1, volume, plans) {
+        Ok(device) => Ok(device),
+        Err(_) => Err("no memory".into()),
+    }
+}
+
+/// Starts the path's next program and runs its three commands.
+fn run(
+    device: &mut Device<Watched<MemVolume>>,
+    path: PathNo,
+    port: &mut CountedRequests,
+) -> Result<(), Fail> {
+    if device.active().is_some() || device.start(path).is_err() {
+        return Err("not started".into());
+    }
+    for _command in 0..3 {
+        if device.active().is_none() {
+            return Err("no program runs".into());
+        }
+        match device.command(port) {
+            Ok(Stepped::Ended) => (),
+            _ => return Err("not ended".into()),
+        }
+    }
+    Ok(())
+}
+
+/// Without a frame each locate record and each command behind one reads its track, and asks the port for a frame.
+#[test]
+fn two_programs_over_a_volume_of_the_callers(rt: HostRuntime) -> Result<(), Fail> {
+    let path = PathNo::new(1).ok_or("path")?;
+    let mut device = device(rt.alloc(), plans(rt.alloc(), path)?)?;
+    let mut port = CountedRequests::new();
+    run(&mut device, path, &mut port)?;
+    assert_eq!(rt; device.store.volume.last_written, TrackNo::new(0));
+    run(&mut device, path, &mut port)?;
+    let end = device.last_end().ok_or("no end")?;
+    assert_eq!(rt; (end.residual, end.sent.as_slice()), (0, DATA));
+    assert_eq!(rt; (device.reads(), device.writes(), port.wanted), (4, 1, 4));
+    assert_eq!(rt; device.finished(), true);
+    Ok(())
+}
