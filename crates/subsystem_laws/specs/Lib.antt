@@ -1,6 +1,5 @@
-pub mod Stood
-pub mod Comes
 pub mod Served
 pub mod Causes
 pub mod WholeStood
 pub mod WholeComes
+pub mod Waits

@@ -3,7 +3,6 @@
 
 mod causes;
 mod plain;
-mod runs;
 mod whole;
 
 pub use causes::{
@@ -11,9 +10,6 @@ pub use causes::{
     run_loses_no_track, run_misses_nothing,
 };
 pub use plain::{read_run_is_plain, run_is_plain};
-pub use runs::{
-    event_is_what_happens, events_are_what_happens, new_device_is_mounted, replaced_is_what_happens,
-};
 pub use whole::{
     whole_device_is_mounted, whole_event_is_what_happens, whole_events_are_what_happens,
     whole_replaced_is_what_happens, whole_unpaired_is_what_happens,
