@@ -100,6 +100,20 @@ split r f (based_tell {m = m} x) w =
     let y = split r f (x (reply m)) w in
     record { state = y.state; answer = y.answer; told = y.told; device = y.device; waiting = y.waiting; same = y.same }
 
+-- one that tells none leaves the numbers that the pool has
+pub hushed_waits : {R S X : Type 0} {base : S → Base} {b : Base} {i : Interaction R Image S X} (r : R) → Based base Hushed b i → (w : Told) →
+    (hold r i w).told.pool.waiting ≡ w.pool.waiting
+unfolding T.hold
+hushed_waits r (based_done e) w = refl
+hushed_waits r (based_try x) w = hushed_waits r (x true) w
+hushed_waits r (based_ask {call = call} m x) w =
+    let a = answer w.pool call in hushed_waits r (x a) (record w { pool = after w.pool call a }) ∙ after_waits w.pool call a m
+hushed_waits r (based_read {side = side} x) w =
+    hushed_waits r (x (if read_fails (calls_of w side) then None else Some r)) (read_counted w side) ∙ ap (λ (p : O.Pool). p.waiting) (read_pool w side)
+hushed_waits r (based_write {side = side} x) w =
+    hushed_waits r (x (if write_fails (calls_of w side) then false else true)) (write_counted w side) ∙ ap (λ (p : O.Pool). p.waiting) (write_pool w side)
+hushed_waits r (based_tell {m = m} x) w = hushed_waits r (x (reply m)) w
+
 hold_on : {R S U V X Y Z : Type 0} (r : R) (i : Interaction R Image S X) (f : S → X → Interaction R Image U Y) (g : U → Y → Interaction R Image V Z) (w : Told) →
     hold r (and_then (and_then i f) g) w ≡ hold r (and_then i (λ s a. and_then (f s a) g)) w
 unfolding T.hold
@@ -130,7 +144,7 @@ module _ {F P H R : Type 0} (c : Contents F P H R) (r : R) where
         subst (HasTold ws d) (sym (hold_on r (all_told c (tracks_of y.store) y.store) (λ z _. waiting_told c before z) (put_in y o) w ∙ x.same))
         (count_told x.state (x.device ∙ own) (waiting_count c x.state == before) refl x.told (x.waiting ∙ same))
 
-  quiet_told : {X : Type 0} (d : Device F P H) (b : Base) (body : Device F P H → Interaction R Image (Device F P H) X) → b.device ≡ d.store.device →
+  pub quiet_told : {X : Type 0} (d : Device F P H) (b : Base) (body : Device F P H → Interaction R Image (Device F P H) X) → b.device ≡ d.store.device →
       Based base_in Hushed b (body (event_begun d)) → (w : Told) → get_or w.pool.waiting d.store.device 0 ≡ waiting_count c d.store →
       HasTold w.pool.waiting d.store.device (hold r (quiet_event c d body) w)
   quiet_told d b body own x w number =

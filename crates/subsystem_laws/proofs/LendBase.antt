@@ -87,3 +87,6 @@ lend_lends d to t =
 
 pub lent_counts : (d : MarksDevice) (to : ℕ) → (lent_store d to).counts ≡ d.store.counts
 lent_counts d to = ap (λ (x : ℕ × ℕ × Counts). x.2) (over_ids (tracks_of (event_begun d).store) (event_begun d).store)
+
+pub lent_number : (d : MarksDevice) (to : ℕ) → (lent_store d to).device ≡ d.store.device
+lent_number d to = ap (λ (x : ℕ × ℕ × Counts). x.0) (over_ids (tracks_of (event_begun d).store) (event_begun d).store)

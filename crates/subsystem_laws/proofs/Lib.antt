@@ -14,6 +14,7 @@ pub mod NothingChecked
 pub mod NothingMissed
 pub mod RunLines
 pub mod WaitingSum
+pub mod Waiting
 pub mod WholeSlots
 pub mod WholeFinding
 pub mod WholeTalks

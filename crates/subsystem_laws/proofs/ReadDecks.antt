@@ -1,6 +1,10 @@
 -- Every deck that was read has devices of one cylinder at least, and starts programs of one of four paths.
-use Rattle.std.proofs.Common.{◌≡◌, ◌≤◌, ℕ, true, List, [], ◌∷◌, ◌++◌, Ok, subst}
-use Rattle.std.specs.Prelude.{All, Result}
+use Rattle.std.proofs.Common.{◌≡◌, ◌≤◌, ◌<◌, ◌==◌, ℕ, Bool, true, false, List, [], ◌∷◌, ◌++◌, Ok, Err, refl, sym, subst, ◌∙◌, arith, eqb-true}
+use Rattle.std.specs.Prelude.{All, Result, ◌&&◌, nat_lt, if◌then◌else◌}
+use Rattle.std.proofs.lemmas.Bool.{ltb-true}
+use Rattle.std.proofs.lemmas.List.Folds.{list_all-append}
+use Rattle.device_outside.specs.Lists as L
+use Rattle.device_outside.specs.Lists.{is_in}
 use Rattle.std.proofs.lemmas.List.Elements.{All-nil, All-cons}
 use Rattle.deck_plan.specs.declared.event.EventLine.{EventLine}
 use Rattle.deck_plan.specs.declared.event.EventLine.TheVariants as lines
@@ -18,9 +22,20 @@ use Rattle.deck_text.proofs.FormsAgain.{went, needed_is, if_ok, Ranged, number_r
 use Rattle.deck_text.proofs.Reached.{parsed_good}
 use Rattle.subsystem_defs.specs.Lines.{asked_by}
 use Rattle.subsystem_laws.specs.Served.{IsServed, IsServedDeck}
+use Rattle.subsystem_laws.specs.Waits.{AreNumbered}
 
-device_range : (before : List DeviceLine) (words : List (List ℕ)) (d : DeviceLine) → device_line before words ≡ Ok d → Ranged 1 64 d.cylinders
-device_range before words d h =
+-- what a device's line says of its numbers
+record DeviceRanges (before : List DeviceLine) (d : DeviceLine) : Type 0 where
+  number : Ranged 0 15 d.number
+  cylinders : Ranged 1 64 d.cylinders
+  rises : rises before d.number ≡ true
+
+if_so : (b : Bool) (x y : DeviceLine) → (if b then Ok x else Err Number) ≡ Ok y → (x ≡ y) × (b ≡ true)
+if_so true x y h = (if_ok true x y Number h, refl)
+if_so false x y h = absurd (cc)
+
+device_ranges : (before : List DeviceLine) (words : List (List ℕ)) (d : DeviceLine) → device_line before words ≡ Ok d → DeviceRanges before d
+device_ranges before words d h =
     let a = went (needed Words (three_words words))
     (λ w. and_then (needed Number (number_in 0 15 w.0))
     (λ n. and_then (needed Number (geometry_of w.1))
@@ -32,14 +47,50 @@ device_range before words d h =
     (λ g. and_then (needed Number (number_in 1 64 a.value.2)) (λ c. rising before (record { number = b.value; geometry = g; cylinders = c }))) d b.second
     in
     let f = went (needed Number (number_in 1 64 a.value.2)) (λ c. rising before (record { number = b.value; geometry = e.value; cylinders = c })) d e.second in
-    let same = if_ok (rises before b.value) (record { number = b.value; geometry = e.value; cylinders = f.value }) d Number f.second in
-    subst (λ (x : DeviceLine). Ranged 1 64 x.cylinders) same
-    (number_range 1 64 a.value.2 f.value (needed_is Number (number_in 1 64 a.value.2) f.value f.first))
+    let same = if_so (rises before b.value) (record { number = b.value; geometry = e.value; cylinders = f.value }) d f.second in
+    subst (DeviceRanges before) same.0 (record {
+      number = number_range 0 15 a.value.0 b.value (needed_is Number (number_in 0 15 a.value.0) b.value b.first);
+      cylinders = number_range 1 64 a.value.2 f.value (needed_is Number (number_in 1 64 a.value.2) f.value f.first);
+      rises = same.1;
+    })
 
 devices_served : (before ds : List DeviceLine) → AllDevices before ds → All (λ (d : DeviceLine). 1 ≤ d.cylinders) ds
 devices_served before [] h = All-nil (λ (d : DeviceLine). 1 ≤ d.cylinders)
 devices_served before (d ∷ ds) h =
-    All-cons (λ (x : DeviceLine). 1 ≤ x.cylinders) d ds (device_range before (device_words d) d h.0.again).low (devices_served (before ++ d ∷ []) ds h.1)
+    All-cons (λ (x : DeviceLine). 1 ≤ x.cylinders) d ds (device_ranges before (device_words d) d h.0.again).cylinders.low (devices_served (before ++ d ∷ []) ds h.1)
+
+-- what is above all of these is none of them
+abbrev IsAbove : List DeviceLine → List ℕ → Type 0
+IsAbove before seen = (n : ℕ) → rises before n ≡ true → is_in n seen ≡ false
+
+above_more : (before : List DeviceLine) (seen : List ℕ) (d : DeviceLine) → IsAbove before seen → IsAbove (before ++ d ∷ []) (d.number ∷ seen)
+unfolding L.is_in
+above_more before seen d h n up =
+    let both : (rises before n && (nat_lt d.number n && true)) ≡ true = sym (list_all-append (λ (x : DeviceLine). nat_lt x.number n) before (d ∷ [])) ∙ up in
+    by_test (n == d.number) refl (parts (rises before n) (nat_lt d.number n) both)
+  where
+    parts : (a b : Bool) → (a && (b && true)) ≡ true → (a ≡ true) × (b ≡ true)
+    parts true true e = (refl, refl)
+    parts true false e = absurd (cc)
+    parts false b e = absurd (cc)
+
+    by_test : (b : Bool) → (n == d.number) ≡ b → (rises before n ≡ true) × (nat_lt d.number n ≡ true) → (if b then true else is_in n seen) ≡ false
+    by_test true test up = absurd (let same : n ≡ d.number = eqb-true n d.number test in let less : d.number < n = ltb-true d.number n up.1 in omega (arith, same, less))
+    by_test false test up = h n up.0
+
+devices_numbered : (before : List DeviceLine) (seen : List ℕ) (ds : List DeviceLine) → IsAbove before seen → AllDevices before ds → AreNumbered seen ds
+devices_numbered before seen [] above h = tt
+devices_numbered before seen (d ∷ ds) above h =
+    let r = device_ranges before (device_words d) d h.0.again in
+    let most = r.number.high in (
+      above d.number r.rises,
+      omega (arith, most),
+      devices_numbered (before ++ d ∷ []) (d.number ∷ seen) ds (above_more before seen d above) h.1,
+    )
+
+pub read_numbered : (text : List ℕ) (deck : DeckLines) → parsed text ≡ Ok deck → AreNumbered [] deck.devices
+unfolding L.is_in
+read_numbered text deck read = devices_numbered [] [] deck.devices (λ n up. refl) (parsed_good text deck read).devices
 
 path_range : (devices : List DeviceLine) (words : List (List ℕ)) (at : ℕ × ℕ) → path_and_device devices words ≡ Ok at → Ranged 1 4 at.0
 path_range devices words at h =

@@ -52,11 +52,11 @@ taken_out (suc n) g h at lt none other = by_place (cases_eq n at) (λ less. take
 
 -- Numbers that were seen
 
-in_first : (n : ℕ) (seen : List ℕ) → is_in n (n ∷ seen) ≡ true
+pub in_first : (n : ℕ) (seen : List ℕ) → is_in n (n ∷ seen) ≡ true
 unfolding L.is_in
 in_first n seen = let same : (n == n) ≡ true = grind arith in ap (λ (b : Bool). if b then true else is_in n seen) same
 
-in_more : (q n : ℕ) (seen : List ℕ) → is_in q seen ≡ true → is_in q (n ∷ seen) ≡ true
+pub in_more : (q n : ℕ) (seen : List ℕ) → is_in q seen ≡ true → is_in q (n ∷ seen) ≡ true
 unfolding L.is_in
 in_more q n seen e = by_test (q == n)
   where
@@ -64,7 +64,7 @@ in_more q n seen e = by_test (q == n)
     by_test true = refl
     by_test false = e
 
-apart : (q n : ℕ) (seen : List ℕ) → is_in q seen ≡ false → is_in n seen ≡ true → q ≢ n
+pub apart : (q n : ℕ) (seen : List ℕ) → is_in q seen ≡ false → is_in n seen ≡ true → q ≢ n
 apart q n seen out here e = absurd (let both : true ≡ false = sym here ∙ sym (ap (λ (k : ℕ). is_in k seen) e) ∙ out in cc)
 
 out_more : (q n : ℕ) (seen : List ℕ) → (q ≢ n) → is_in q seen ≡ false → is_in q (n ∷ seen) ≡ false

@@ -52,6 +52,17 @@ hold_answer (Read side q k) f t = hold_answer (k (if read_fails (calls_of t side
 hold_answer (Write side q r k) f t = hold_answer (k (if write_fails (calls_of t side) then false else true)) f (write_counted t side)
 hold_answer (Tell m k) f t = hold_answer (k (reply m)) f t
 
+-- nor of what the outside tells then
+pub hold_told : {S X Y : Type 0} (i : Interaction Bool Image S X) (f : X → Y) (t : Told) →
+    (T.hold true (and_then i (λ d a. Done d (f a))) t).told ≡ (T.hold true i t).told
+unfolding T.hold
+hold_told (Done s a) f t = refl
+hold_told (Try k) f t = hold_told (k true) f t
+hold_told (Ask call k) f t = hold_told (k (answer t.pool call)) f (record t { pool = after t.pool call (answer t.pool call) })
+hold_told (Read side q k) f t = hold_told (k (if read_fails (calls_of t side) then None else Some true)) f (read_counted t side)
+hold_told (Write side q r k) f t = hold_told (k (if write_fails (calls_of t side) then false else true)) f (write_counted t side)
+hold_told (Tell m k) f t = hold_told (k (reply m)) f t
+
 -- Numbers
 
 number_if : (b : Bool) (k m : Mounted) (n : ℕ) (o : Option Mounted) → (number_of k == n) ≡ b → (if b then Some k else o) ≡ Some m →
@@ -59,7 +70,7 @@ number_if : (b : Bool) (k m : Mounted) (n : ℕ) (o : Option Mounted) → (numbe
 number_if true k m n o is at more = let same : k ≡ m = cc in subst (λ (x : Mounted). number_of x ≡ n) same (eqb-true (number_of k) n is)
 number_if false k m n o is at more = more at
 
-mounted_number : (ms : List Mounted) (n : ℕ) (m : Mounted) → mounted_in ms n ≡ Some m → number_of m ≡ n
+pub mounted_number : (ms : List Mounted) (n : ℕ) (m : Mounted) → mounted_in ms n ≡ Some m → number_of m ≡ n
 mounted_number [] n m at = absurd (cc)
 mounted_number (k ∷ ms) n m at = number_if (number_of k == n) k m n (mounted_in ms n) refl at (mounted_number ms n m)
 
@@ -157,7 +168,7 @@ module _ (P : MarksDevice → Type 0) where
   mounted_so [] n p = tt
   mounted_so (m ∷ ms) n p = mounted_if (number_of m == n) m (mounted_in ms n) p.0 (mounted_so ms n p.1)
 
-  put_so : (ms : List Mounted) (n : ℕ) (x : Mounted) → AreSo ms → IsSo x → AreSo (put_in ms n x)
+  pub put_so : (ms : List Mounted) (n : ℕ) (x : Mounted) → AreSo ms → IsSo x → AreSo (put_in ms n x)
   put_so [] n x p new = tt
   put_so (m ∷ ms) n x p new =
       cond_both (number_of m == n) (x ∷ ms) (m ∷ put_in ms n x) AreSo (λ _. (new, p.1)) (λ _. (p.0, put_so ms n x p.1 new))
