@@ -18,6 +18,8 @@ pub mod SecondChecks
 pub mod NothingChecked
 pub mod NothingMissed
 pub mod WholeSlots
+pub mod SlotsApart
+pub mod AllSound
 pub mod WholeFinding
 pub mod WholeTalks
 pub mod WholeDeeds

@@ -4,3 +4,5 @@ pub mod Served
 pub mod Causes
 pub mod WholeStood
 pub mod WholeComes
+pub mod SlotsApart
+pub mod AllSound

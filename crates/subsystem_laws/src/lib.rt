@@ -4,6 +4,7 @@
 mod causes;
 mod plain;
 mod runs;
+mod standing;
 mod whole;
 
 pub use causes::{
@@ -14,6 +15,7 @@ pub use plain::{read_run_is_plain, run_is_plain};
 pub use runs::{
     event_is_what_happens, events_are_what_happens, new_device_is_mounted, replaced_is_what_happens,
 };
+pub use standing::{devices_are_sound, slots_are_apart};
 pub use whole::{
     whole_device_is_mounted, whole_event_is_what_happens, whole_events_are_what_happens,
     whole_replaced_is_what_happens, whole_unpaired_is_what_happens,

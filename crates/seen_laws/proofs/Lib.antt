@@ -1,0 +1,5 @@
+mod RanParts
+mod Looks
+mod Walks
+mod Commands
+mod Rows
