@@ -73,9 +73,8 @@ use Rattle.subsystem_core.specs.Devices.{numbers_of, devices_of, device_at, put_
 use Rattle.subsystem_core.specs.Ends.{end_seen}
 use Rattle.subsystem_core.specs.Places.{may_come}
 use Rattle.subsystem_core.proofs.Found.{number_found, found_in}
-use Rattle.subsystem_laws.specs.Comes.{subsystem_of}
 use Rattle.subsystem_laws.specs.WholeComes as laws
-use Rattle.subsystem_laws.specs.WholeComes.{IsWhatCame}
+use Rattle.subsystem_laws.specs.WholeComes.{subsystem_of, IsWhatCame}
 use Rattle.subsystem_laws.proofs.WholeHappens.{event_so}
 use Rattle.deck_run.specs.Owning.{GivesAll, PlansGive, IsOwn, AreOwn, ChainsStand, IsOpenOn}
 use Rattle.deck_run.specs.Standing.{StandsAs, stood_of, all_stood}

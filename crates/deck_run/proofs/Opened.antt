@@ -19,8 +19,7 @@ use Rattle.subsystem_core.specs.Devices.{number_of, numbers_of}
 use Rattle.subsystem_core.specs.declared.subsystem.Subsystem.{Subsystem}
 use Rattle.subsystem_defs.specs.Decks.{failing_of, opened_device}
 use Rattle.subsystem_defs.specs.Subsystem as defs
-use Rattle.subsystem_laws.specs.Stood.{opened}
-use Rattle.subsystem_laws.specs.WholeStood.{Stood, IsMounted, AreMounted, no_more}
+use Rattle.subsystem_laws.specs.WholeStood.{opened, Stood, IsMounted, AreMounted, no_more}
 use Rattle.subsystem_laws.proofs.WholeOrders.{new_mounted}
 use Rattle.subsystem_laws.proofs.WholeSlots.{one_mounted}
 use Rattle.deck_run.specs.Opening.{is_open_device, numbers_in}

@@ -27,7 +27,7 @@ use Rattle.subsystem_defs.specs.Happening as H
 use Rattle.subsystem_defs.specs.Happening.{Happened, MarksDeed, Talk, asks, becomes, happens, happens_by, mounted_behind, quietly, told_to}
 use Rattle.subsystem_defs.specs.Refusals.{fail_fault}
 use Rattle.subsystem_defs.specs.Subsystem.{Mounted, Subsystem, devices_of, mounted_in, number_of, put_in}
-use Rattle.subsystem_laws.proofs.Finding.{device_mounted}
+use Rattle.subsystem_laws.proofs.WholeFinding.{device_mounted}
 use Rattle.deck_run.specs.Counting.{more_calls}
 use Rattle.deck_run.specs.Owning.{IsOpenOn}
 use Rattle.deck_run.proofs.Counts.{Is, IsOn, background_counts, command_counts, lose_counts, reset_counts}

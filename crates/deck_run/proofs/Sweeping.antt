@@ -53,9 +53,8 @@ use Rattle.subsystem_defs.specs.Happening as H
 use Rattle.subsystem_defs.specs.Happening.{MarksDeed, happens, happens_by}
 use Rattle.subsystem_defs.specs.Subsystem as runs
 use Rattle.subsystem_defs.specs.Subsystem.{Mounted}
-use Rattle.subsystem_laws.specs.Comes.{subsystem_of}
 use Rattle.subsystem_laws.specs.WholeComes as laws
-use Rattle.subsystem_laws.specs.WholeComes.{IsWhatCame}
+use Rattle.subsystem_laws.specs.WholeComes.{subsystem_of, IsWhatCame}
 use Rattle.subsystem_laws.proofs.WholeHappens.{event_so}
 use Rattle.deck_run.specs.Owning.{AreOwn, ChainsStand, IsOwn}
 use Rattle.deck_run.specs.Standing.{StandsAs, stood_of, all_stood}

@@ -85,7 +85,7 @@ use Rattle.device_laws.proofs.WholeTwins.{whole_done, whole_ends, store_then, wh
 acted_idle : (h : History) (act : Act) → h.running ≡ None → (act_done h act).running ≡ None
 acted_idle h act e = ap (λ (o : Option OpenEntry). (acted_in h act o).running) e ∙ e
 
-all_idle : (h : History) (acts : List Act) → h.running ≡ None → (all_acted h acts).running ≡ None
+pub all_idle : (h : History) (acts : List Act) → h.running ≡ None → (all_acted h acts).running ≡ None
 all_idle h [] e = e
 all_idle h (act ∷ acts) e = all_idle (act_done h act) acts (acted_idle h act e)
 
@@ -93,30 +93,30 @@ running_if : (b : Bool) (x y : History) → x.running ≡ None → y.running ≡
 running_if true x y e f = e
 running_if false x y e f = f
 
-reset_idle : (h : History) (path more : ℕ) → h.running ≡ None → (history_reset h path more).running ≡ None
+pub reset_idle : (h : History) (path more : ℕ) → h.running ≡ None → (history_reset h path more).running ≡ None
 reset_idle h path more e =
     ap (λ (o : Option OpenEntry). (reset_in h path more o).running) e ∙ running_if (is_used path false h.items) _ h e e
 
-power_idle : (h : History) (more : ℕ) → h.running ≡ None → (lost_power h more).running ≡ None
+pub power_idle : (h : History) (more : ℕ) → h.running ≡ None → (lost_power h more).running ≡ None
 power_idle h more e = ap (λ (o : Option OpenEntry). (lost_power_in h more o).running) e ∙ running_if (is_started false h.items) _ h refl e
 
 -- What nothing is kept of stays so
 
 module _ {F P H R : Type 0} (c : Contents F P H R) where
-  dropped_same : (s : Store F P H) (t : ℕ) → frame_at s t ≡ None → dropped c s t ≡ s
+  pub dropped_same : (s : Store F P H) (t : ℕ) → frame_at s t ≡ None → dropped c s t ≡ s
   dropped_same s t e = ap (λ (o : Option F). if is_clean c o then with_frame s t None else s) e
 
-  unframed_same : (s : Store F P H) (t : ℕ) → frame_at s t ≡ None → without_frame s t ≡ s
+  pub unframed_same : (s : Store F P H) (t : ℕ) → frame_at s t ≡ None → without_frame s t ≡ s
   unframed_same s t e =
       ap (λ (o : Option F). if is_some o then with_owed (with_frame s t None) t (record (owed_at s t) { dropped = true }) else s) e
 
-  settled_same : (s : Store F P H) (t : ℕ) → is_some s.lent ≡ true → settled c s t ≡ s
+  pub settled_same : (s : Store F P H) (t : ℕ) → is_some s.lent ≡ true → settled c s t ≡ s
   unfolding L.settled
   settled_same s t e =
       ap (λ (b : Bool). if b then s else if is_lost s t then s else if has_level s t then s
       else L.by_frame c s t (frame_at s t)) e
 
-  swept_same : (n : ℕ) (s : Store F P H) → ((t : ℕ) → frame_at s t ≡ None) → is_some s.lent ≡ true →
+  pub swept_same : (n : ℕ) (s : Store F P H) → ((t : ℕ) → frame_at s t ≡ None) → is_some s.lent ≡ true →
       over n (λ t z. settled c (without_frame z t) t) s ≡ s
   unfolding L.over
   swept_same zero s none lent = refl
@@ -124,7 +124,7 @@ module _ {F P H R : Type 0} (c : Contents F P H R) where
       ap (λ (z : Store F P H). settled c (without_frame z n) n) (swept_same n s none lent)
       ∙ ap (λ (z : Store F P H). settled c z n) (unframed_same s n (none n)) ∙ settled_same s n lent
 
-  patches_same : (n : ℕ) (s : Store F P H) → ((t : ℕ) → patch_at s t ≡ None) → over n (patch_lost c) s ≡ s
+  pub patches_same : (n : ℕ) (s : Store F P H) → ((t : ℕ) → patch_at s t ≡ None) → over n (patch_lost c) s ≡ s
   unfolding L.over
   patches_same zero s none = refl
   patches_same (suc n) s none =
@@ -160,7 +160,7 @@ module _ {F P H R : Type 0} (c : Contents F P H R) where
   none_up false y e f = f
   none_up true y e f = absurd (cc)
 
-  work_none : (s : Store F P H) → s.a.up ≡ false → s.b.up ≡ false → s.queue ≡ [] → work c s ≡ Done s (Some Nothing)
+  pub work_none : (s : Store F P H) → s.a.up ≡ false → s.b.up ≡ false → s.queue ≡ [] → work c s ≡ Done s (Some Nothing)
   unfolding K.work
   work_none s a b queue =
       let up = none_up s.a.up s.b.up a b in

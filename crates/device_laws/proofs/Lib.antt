@@ -27,7 +27,6 @@ pub mod DeviceEnds
 pub mod ChainAtHand
 pub mod DevicePaths
 pub mod PathsAlong
-pub mod SensesKept
 pub mod WriteMarks
 pub mod Others
 pub mod Writes
@@ -75,12 +74,8 @@ pub mod OrdersStand
 pub mod WholeTwins
 pub mod WholeCommand
 pub mod WholeParts
-pub mod Alike
-pub mod AlikeStore
-pub mod AlikeEvents
 pub mod ChainFeeds
 pub mod PlainLooks
-pub mod PlacelessPower
 pub mod OrdersInOrder
 pub mod QuietParts
 pub mod ReadMoves
@@ -119,3 +114,4 @@ pub mod HeldBased
 pub mod Unchecked
 pub mod UncheckedEvents
 pub mod LentLosses
+pub mod GoneEvents

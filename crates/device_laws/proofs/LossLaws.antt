@@ -33,7 +33,7 @@ use Rattle.device_defs.specs.Orders.{join, split, replace, hold, resume}
 use Rattle.device_defs.specs.Sound.{DeviceStore}
 use Rattle.device_defs.specs.Start as S
 use Rattle.device_defs.specs.Start.{start}
-use Rattle.device_defs.specs.Store.{Store, stale_at, level_at, side_of}
+use Rattle.device_defs.specs.Store.{Store, stale_at, level_at, is_lost, side_of}
 use Rattle.device_laws.specs.Agrees.{Held}
 use Rattle.device_laws.specs.InOrder.{IsInOrder}
 use Rattle.device_laws.specs.NewDevice.{new_contents}
@@ -322,5 +322,8 @@ none_counted n (x ∷ xs) none =
     ap (λ (b : Bool). fold (λ (k : ℕ) (y : Bool). k + (if y then 1 else 0)) (n + (if b then 1 else 0)) xs) first
     ∙ none_counted (n + 0) xs (λ t. none (suc t)) ∙ same
 
+pub kept_counts : {F P H : Type 0} (s : Store F P H) → ((t : ℕ) → is_lost s t ≡ false) → count_lost s.lost ≡ 0
+kept_counts s kept = none_counted 0 s.lost kept
+
 pub unharmed_counts : {F P H : Type 0} (s : Store F P H) → IsUnharmed s → NothingLost s → count_lost s.lost ≡ 0
-unharmed_counts s un nothing = none_counted 0 s.lost (un nothing).kept
+unharmed_counts s un nothing = kept_counts s (un nothing).kept

@@ -6,7 +6,6 @@ pub mod Feeding
 pub mod NewDevice
 pub mod Standing
 pub mod Whole
-pub mod Places
 pub mod Handed
 pub mod Lent
 pub mod Unharmed

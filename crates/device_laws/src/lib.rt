@@ -4,7 +4,6 @@
 mod contents;
 mod keeping;
 mod losses;
-mod placeless;
 mod runs;
 mod transfers;
 
@@ -20,11 +19,6 @@ pub use keeping::{
 pub use losses::{
     calm_command_checks_nothing, loose_losses_are_counted, lost_list_grows_where_calls_fail,
     order_has_good_marks, unharmed_device_loses_no_track,
-};
-pub use placeless::{
-    new_device_has_nothing, placeless_background_is_step, placeless_command_is_step,
-    placeless_loss_is_step, placeless_power_is_step, placeless_reset_is_step,
-    placeless_second_is_step, placeless_start,
 };
 pub use runs::{
     background_is_step, command_is_step, loss_is_step, orders_leave_order, power_is_step,

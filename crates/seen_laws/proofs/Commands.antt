@@ -42,11 +42,11 @@ use Rattle.seen_laws.proofs.Walks.{follow_so}
 
 -- What a turn makes of a device is by its paths, and by the resets that wait
 
-record IsLike (x d : WholeDevice) : Type 0 where
-  paths : x.paths ≡ d.paths
-  waiting : x.history.waiting ≡ d.history.waiting
+pub record IsLike (x d : WholeDevice) : Type 0 where
+  pub paths : x.paths ≡ d.paths
+  pub waiting : x.history.waiting ≡ d.history.waiting
 
-turned_paths : (x d : WholeDevice) (path : ℕ) (chain : ChainState) (came : Came) → IsLike x d →
+pub turned_paths : (x d : WholeDevice) (path : ℕ) (chain : ChainState) (came : Came) → IsLike x d →
     (turned_by x path chain came).paths ≡ (turned_by d path chain came).paths
 turned_paths x d path chain (Ends e) like = by_over e.over
   where
@@ -60,7 +60,7 @@ turned_paths x d path chain (Ends e) like = by_over e.over
 turned_paths x d path chain (Checks e) like = rw (like.paths, like.waiting) refl
 turned_paths x d path chain (HalfOpen t) like = like.paths
 
-turned_chain : (x d : WholeDevice) (path : ℕ) (chain : ChainState) (came : Came) → (turned_by x path chain came).chain ≡ (turned_by d path chain came).chain
+pub turned_chain : (x d : WholeDevice) (path : ℕ) (chain : ChainState) (came : Came) → (turned_by x path chain came).chain ≡ (turned_by d path chain came).chain
 turned_chain x d path chain (Ends e) = by_over e.over
   where
     by_over : (b : Bool) →
@@ -73,7 +73,7 @@ turned_chain x d path chain (Ends e) = by_over e.over
 turned_chain x d path chain (Checks e) = refl
 turned_chain x d path chain (HalfOpen t) = refl
 
-still_waiting : (acts : List Act) (h : History) → (all_acted h acts).waiting ≡ h.waiting
+pub still_waiting : (acts : List Act) (h : History) → (all_acted h acts).waiting ≡ h.waiting
 still_waiting [] h = refl
 still_waiting (act ∷ acts) h = still_waiting acts (acted h act) ∙ by_running h.running
   where
@@ -112,8 +112,8 @@ module _ {K : Type 0} (had : Bool → Type 0) (hears : Hearing Image K) where
       let x = split (ended contents (waiting_count contents old.store) y.store) (λ s _. Done (record y { store = s }) o) r in
       last (quiet_ran (ended_quiet contents (waiting_count contents old.store) y.store) x.first) x.rest
     where
-      last : {s : DeviceStore} {w v z : Calls} {e : WholeDevice} {a : Option Stepped} → NotCalled w v → Ran had hears (Done (record y { store = s }) o) v e a z →
-          Ended y o w e a z
+      last : {s : DeviceStore} {w v z : Calls} {e : WholeDevice} {a : Option Stepped} → NotCalled w v →
+          Ran had hears (Done (record y { store = s }) o) v e a z → Ended y o w e a z
       last quiet done = record { same = refl; paths = refl; chain = refl; quiet = quiet }
 
   module _ (d : WholeDevice) (o : OpenEntry) (chain : ChainState) (runs : RunsOn d.store.cylinders d.store.geometry chain) where

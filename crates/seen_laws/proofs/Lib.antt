@@ -3,3 +3,4 @@ mod Looks
 mod Walks
 mod Commands
 mod Rows
+mod Seconds

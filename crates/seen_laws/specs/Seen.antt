@@ -22,11 +22,13 @@ use Rattle.device_defs.specs.declared.answers.Came.{Came}
 use Rattle.device_defs.specs.declared.answers.Came.TheVariants.{Ends, Checks, HalfOpen}
 use Rattle.device_defs.specs.declared.answers.Choice.{Choice}
 use Rattle.device_defs.specs.declared.answers.Choice.TheVariants.{Provisional, Fast, Through}
+use Rattle.device_defs.specs.declared.answers.SecondEnd.{SecondEnd}
 use Rattle.device_defs.specs.declared.answers.Stepped.{Stepped}
 use Rattle.device_defs.specs.declared.usage.Usage.{Usage}
 use Rattle.device_defs.specs.Choosing.{choose}
 use Rattle.device_defs.specs.Command.{has_loss}
 use Rattle.device_defs.specs.Contents.{contents}
+use Rattle.device_defs.specs.Events.{second_told, second_turn}
 use Rattle.device_defs.specs.Image.{got, level_bytes, image_of}
 use Rattle.device_defs.specs.Outcomes.{Turn, checks, told_step, turned}
 use Rattle.device_defs.specs.Sound.{DeviceStore}
@@ -125,3 +127,10 @@ module _ {K : Type 0} (had : Bool → Type 0) (hears : Hearing Image K) where
     asked : (turn : Turn) → need_of chain ≡ None → NotCalled u z →
         ((n : ℕ) (tracks : ℕ → Track) → EndsAs (fed (suc n) tracks (settled_act d.store.geometry d.paths o.path) chain) turn.chain turn.came) →
         IsKept (answered d o.path chain (stepped chain None).progress) o.path turn a e → CommandCame d o chain u a e z
+
+-- the second part of a command's write, done or not: the command ends as the chain that was kept does, or with equipment check
+pub record SecondCame (d : WholeDevice) (o : OpenEntry) (kept : ChainState) (t : ℕ) (a : SecondEnd) (e : WholeDevice) : Type 0 where
+  pub done : Bool
+  pub answer : a ≡ second_told contents t (second_turn contents kept done).came
+  pub paths : e.paths ≡ (turned d o.path (second_turn contents kept done)).paths
+  pub chain : e.chain ≡ (turned d o.path (second_turn contents kept done)).chain

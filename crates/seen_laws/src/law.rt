@@ -1,6 +1,6 @@
 //! The laws.
 
-ghost use Rattle.std.specs.Prelude.{◌≡◌, ◌*◌, ℕ, true, false, List, Option, None, Some};
+ghost use Rattle.std.specs.Prelude.{◌≡◌, ◌*◌, ℕ, Bool, true, false, List, Option, None, Some};
 ghost use Rattle.ckd_chain.specs.State.{ChainState};
 ghost use Rattle.ckd_types.specs.declared.geometry.Geometry.{Geometry};
 ghost use Rattle.ckd_types.specs.declared.record.Edit.{Edit};
@@ -11,18 +11,20 @@ ghost use Rattle.device_outside.specs.Outside.{Outside, Ran};
 ghost use Rattle.device_outside.specs.Pool.{Pool, is_listed};
 ghost use Rattle.device_defs.specs.declared.answers.Took.{Took};
 ghost use Rattle.device_defs.specs.declared.usage.Usage.{Usage};
+ghost use Rattle.device_defs.specs.declared.answers.SecondEnd.{SecondEnd};
 ghost use Rattle.device_defs.specs.declared.answers.Stepped.{Stepped};
 ghost use Rattle.device_defs.specs.Command.{command, follow};
 ghost use Rattle.device_defs.specs.Contents.{contents};
 ghost use Rattle.device_defs.specs.Editing.{write};
+ghost use Rattle.device_defs.specs.Events.{second};
 ghost use Rattle.device_defs.specs.Image.{Imaged, Has, image};
 ghost use Rattle.device_defs.specs.Outcomes.{Turn};
 ghost use Rattle.device_defs.specs.Sound.{DeviceStore};
-ghost use Rattle.device_defs.specs.Store.{frame_at};
+ghost use Rattle.device_defs.specs.Store.{OfCommand, HalfWrite, frame_at};
 ghost use Rattle.device_laws.specs.Standing.{LooksAt, RunsOn};
 ghost use Rattle.device_laws.specs.Whole.{WholeDevice};
 ghost use Rattle.plain_defs.specs.History.{OpenEntry};
-ghost use Rattle.seen_laws.specs.Seen.{NotCalled, Saw, Wrote, CameAsSeen, CommandCame};
+ghost use Rattle.seen_laws.specs.Seen.{NotCalled, Saw, Wrote, CameAsSeen, CommandCame, SecondCame};
 
 use device_outside::Keep;
 use track_image::TrackImage;
@@ -60,4 +62,12 @@ pub fn command_ends_as_seen<K: Keep<TrackImage>>()
     ensures { (d e : WholeDevice) (o : OpenEntry) (chain : ChainState) (u z : Outside (List ℕ) K) (a : Stepped) → d.history.running ≡ Some o →
         d.chain ≡ Some chain → RunsOn d.store.cylinders d.store.geometry chain → Ran (λ ok. Unit {0}) K.hears (command contents d) u e (Some a) z →
         CommandCame (λ ok. Unit {0}) K.hears d o chain u a e z }
+{}
+
+/// The second part of a command's write that is half done ends the command: as the chain that was kept says once it is done, or with equipment
+/// check; and with it goes what is kept of the paths.
+pub fn second_ends_as_kept<K: Keep<TrackImage>>()
+    ensures { (d e : WholeDevice) (o : OpenEntry) (chain : ChainState) (h : HalfWrite Image) (bypass : Bool) (edit : Edit) (u z : Outside (List ℕ) K)
+        (a : SecondEnd) → d.store.half ≡ Some h → h.origin ≡ OfCommand bypass edit → d.history.running ≡ Some o → d.chain ≡ Some chain →
+        Ran (λ ok. Unit {0}) K.hears (second contents d) u e a z → SecondCame d o chain h.track a e }
 {}

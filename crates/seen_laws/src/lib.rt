@@ -4,4 +4,6 @@
 
 mod law;
 
-pub use law::{command_ends_as_seen, image_is_seen, track_walk_is_seen, write_is_seen};
+pub use law::{
+    command_ends_as_seen, image_is_seen, second_ends_as_kept, track_walk_is_seen, write_is_seen,
+};

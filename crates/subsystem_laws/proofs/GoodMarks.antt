@@ -1,10 +1,8 @@
--- Behind every event of a run each device that was never lent has good marks, and its chain is on the device.
-use Rattle.std.proofs.Common.{◌≡◌, ◌<◌, ◌≤◌, ◌+◌, ◌*◌, ◌==◌, ℕ, Bool, true, false, List, [], ◌∷◌, ◌++◌, map, Option, Some, None, is_some, refl, sym, ap, subst, ◌∙◌, arith}
-use Rattle.std.proofs.lemmas.Bool.{eqb-true}
+-- Behind every event of a run each device has good marks, or is lent and keeps nothing of its tracks; and its chain is on the device.
+use Rattle.std.proofs.Common.{◌≡◌, ◌<◌, ◌≤◌, ◌*◌, ◌==◌, ℕ, Bool, true, false, List, [], ◌∷◌, map, Option, Some, None, is_some, refl, sym, ap, subst, ◌∙◌, arith}
 use Rattle.std.proofs.lemmas.List.{length-replicate}
 use Rattle.std.proofs.lemmas.List.Elements.{All-head, All-tail}
-use Rattle.std.specs.List.{fold}
-use Rattle.std.specs.Prelude.{All, not, if◌then◌else◌, ◌&&◌, ◌||◌}
+use Rattle.std.specs.Prelude.{All, not, ◌&&◌, ◌||◌}
 use Rattle.ckd_chain.specs.State.{ChainState}
 use Rattle.ckd_types.specs.declared.geometry.Geometry.{Geometry}
 use Rattle.ckd_types.specs.declared.paths.Side.{Side}
@@ -13,9 +11,8 @@ use Rattle.deck_text.specs.declared.line.DeviceLine.{DeviceLine}
 use Rattle.deck_text.specs.DeckLines.{DeckLines}
 use Rattle.loss_model.specs.declared.Loss.{Loss}
 use Rattle.loss_model.specs.declared.Loss.TheVariants as losses
-use Rattle.plain_defs.specs.declared.journal.Item.{Item}
-use Rattle.plain_defs.specs.declared.journal.Item.TheVariants as items
 use Rattle.track_table.proofs.Places.{empty_places}
+use Rattle.plain_defs.specs.History.{OpenEntry}
 use Rattle.plain_defs.specs.Journal.{Plans}
 use Rattle.device_outside.specs.Told as T
 use Rattle.device_outside.specs.Told.{Told}
@@ -26,9 +23,8 @@ use Rattle.device_defs.specs.Cutting.{reset, power}
 use Rattle.device_defs.specs.Events.{second, lose, background}
 use Rattle.device_defs.specs.Marks.{MarksDevice, MarksStore, new_store, new_device}
 use Rattle.device_defs.specs.Orders.{join, split, restore, hold, resume, replace, lend}
-use Rattle.device_defs.specs.Pledge.{is_fresh, fresh_count, was_lent}
 use Rattle.device_defs.specs.Start as S
-use Rattle.device_defs.specs.Start.{start_fault, start, next_program}
+use Rattle.device_defs.specs.Start.{fault_by, start_fault, start, next_program}
 use Rattle.device_defs.specs.Store.{HalfWrite, tracks_of, stale_at, is_lost, half_is, side_of, fixed_of}
 use Rattle.device_laws.specs.Standing.{IsWithin}
 use Rattle.device_laws.specs.Unharmed.{MarksAreGood}
@@ -37,8 +33,7 @@ use Rattle.device_laws.proofs.Changes as C
 use Rattle.device_laws.proofs.ChainTracks.{within_stays, whole_cylinders}
 use Rattle.device_laws.proofs.Commands.{command_keeps_good}
 use Rattle.device_laws.proofs.FailedCall.{IsWell}
-use Rattle.device_laws.proofs.KeptEvents.{command_goes, second_goes, background_goes, lose_goes}
-use Rattle.device_laws.proofs.KeptHistories.{extends_itself}
+use Rattle.device_laws.proofs.GoneEvents.{Gone, background_away, loss_away, power_away, reset_away, lend_away, restored_well}
 use Rattle.device_laws.proofs.LossEvents.{loss_keeps_good}
 use Rattle.device_laws.proofs.OrderMarks.{join_keeps_good, replace_keeps_good, split_keeps_good, hold_keeps_good, resume_keeps_good}
 use Rattle.device_laws.proofs.Powers.{power_keeps_good}
@@ -46,19 +41,19 @@ use Rattle.device_laws.proofs.Soundness.{good_is_sound, good_is_nowhere}
 use Rattle.device_laws.proofs.TrackMarks as M
 use Rattle.device_laws.proofs.TrackMarks.{marks_are_faithful, marks, is_good, track_at}
 use Rattle.device_laws.proofs.WholeEvents.{second_keeps_good, background_keeps_good, reset_keeps_good}
-use Rattle.subsystem_defs.specs.declared.end.OrderFault.TheVariants.{Unpaired, Half, Down}
+use Rattle.subsystem_defs.specs.declared.end.OrderFault.TheVariants.{Same, Paired, Unpaired, Half, Down}
 use Rattle.subsystem_defs.specs.Decks as D
 use Rattle.subsystem_defs.specs.Decks.{opened_device, opened, run_of}
 use Rattle.subsystem_defs.specs.Lines.{asked_by}
 use Rattle.subsystem_defs.specs.Refusals as R
-use Rattle.subsystem_defs.specs.Refusals.{replace_fault, unpair_fault}
+use Rattle.subsystem_defs.specs.Happening.{is_lent_to}
+use Rattle.subsystem_defs.specs.Refusals.{pair_fault, suspend_fault, resume_fault, fail_fault, replace_fault, unpair_fault}
 use Rattle.subsystem_laws.specs.Causes.{HasGoodMarks, HaveGoodMarks}
 use Rattle.subsystem_laws.specs.Served.{IsServedDeck}
 use Rattle.subsystem_laws.proofs.ChainPlaces.{on_is_within, begins_on}
 use Rattle.subsystem_laws.proofs.ChainRuns.{HasChainOn, command_on, second_on, background_on, lose_on, power_on, reset_on, lend_on}
 use Rattle.subsystem_laws.proofs.LendBase.{at, stays_still, lend_lends}
-use Rattle.subsystem_laws.proofs.PastChecks.{reset_counts, power_counts}
-use Rattle.subsystem_laws.proofs.Walks.{IsKept, AreSo, LeavesSo, run_keeps, behind_weaker}
+use Rattle.subsystem_laws.proofs.Walks.{IsFree, IsKept, none_lent, AreSo, LeavesSo, run_keeps, behind_weaker}
 use Rattle.subsystem_laws.proofs.WholeLends.{first_none, where_none, is_not}
 use Rattle.subsystem_laws.proofs.WholeOrders.{is_down}
 use Rattle.subsystem_laws.proofs.WholeUnpairs.{not_some, count_none, none_counted}
@@ -67,116 +62,172 @@ use Rattle.subsystem_laws.proofs.WholeUnpairs.{not_some, count_none, none_counte
 pub record Good (d : MarksDevice) : Type 0 where
   pub some : 0 < d.store.cylinders
   pub chain : HasChainOn d.store.cylinders d.chain
-  pub well : was_lent d ≡ false → IsWell by_plain d.store
+  pub well : is_some d.store.lent ≡ false → IsWell by_plain d.store
+  pub gone : is_some d.store.lent ≡ true → Gone d
 
-pub lent_same : (d y : MarksDevice) → y.store.lent ≡ d.store.lent → fresh_count y.history.items ≡ fresh_count d.history.items → was_lent y ≡ was_lent d
-lent_same d y lent fresh =
-    ap (λ (x : Option ℕ). is_some x || not (fresh_count y.history.items == 0)) lent
-    ∙ ap (λ (n : ℕ). is_some d.store.lent || not (n == 0)) fresh
+not_both : {X : Type 0} (b : Bool) → b ≡ true → b ≡ false → X
+not_both true e f = absurd (cc)
+not_both false e f = absurd (cc)
 
-goes : (d y : MarksDevice) → y.store.cylinders ≡ d.store.cylinders → y.store.lent ≡ d.store.lent →
-    fresh_count y.history.items ≡ fresh_count d.history.items → HasChainOn d.store.cylinders y.chain → (IsWell by_plain d.store → IsWell by_plain y.store) →
-    Good d → Good y
-goes d y cylinders lent fresh chain well g = record {
+pub by_lent : {X : Type 0} (d : MarksDevice) → (is_some d.store.lent ≡ false → X) → (is_some d.store.lent ≡ true → X) → X
+by_lent {X} d home away = by_test (is_some d.store.lent) refl where
+  by_test : (b : Bool) → is_some d.store.lent ≡ b → X
+  by_test false e = home e
+  by_test true e = away e
+
+-- a device that runs a program, or has an open half write, isn't lent
+pub runs_home : (d : MarksDevice) → Good d → (o : OpenEntry) → d.history.running ≡ Some o → is_some d.store.lent ≡ false
+runs_home d g o running =
+    by_lent d (λ e. e) (λ away. absurd (let idle = (g.gone away).idle in let both : None ≡ Some o = sym idle ∙ running in cc))
+
+pub half_home : (d : MarksDevice) → Good d → (h : HalfWrite (Unit {0})) → d.store.half ≡ Some h → is_some d.store.lent ≡ false
+half_home d g h is =
+    by_lent d (λ e. e) (λ away. absurd (let none = (g.gone away).store.none in let both : None ≡ Some h = sym none ∙ is in cc))
+
+pub home_before : (d y : MarksDevice) → y.store.lent ≡ d.store.lent → (b : Bool) → is_some y.store.lent ≡ b → is_some d.store.lent ≡ b
+home_before d y lent b e = sym (ap (λ (x : Option ℕ). is_some x) lent) ∙ e
+
+goes : (d y : MarksDevice) → y.store.cylinders ≡ d.store.cylinders → y.store.lent ≡ d.store.lent → HasChainOn d.store.cylinders y.chain →
+    (IsWell by_plain d.store → IsWell by_plain y.store) → (is_some d.store.lent ≡ true → Gone d → Gone y) → Good d → Good y
+goes d y cylinders lent chain well gone g = record {
   some = subst (λ (n : ℕ). 0 < n) (sym cylinders) g.some;
   chain = subst (λ (n : ℕ). HasChainOn n y.chain) (sym cylinders) chain;
-  well = λ home. well (g.well (sym (lent_same d y lent fresh) ∙ home));
+  well = λ home. well (g.well (home_before d y lent false home));
+  gone = λ away. let was = home_before d y lent true away in gone was (g.gone was);
 }
 
-one_fresh : (n : ℕ) (xs : List Item) →
-    fold (λ (a : ℕ) (x : Item). a + (if is_fresh x then 1 else 0)) n (xs ++ items.Fresh ∷ [])
-    ≡ fold (λ (a : ℕ) (x : Item). a + (if is_fresh x then 1 else 0)) n xs + 1
-one_fresh n [] = refl
-one_fresh n (x ∷ xs) = one_fresh (n + (if is_fresh x then 1 else 0)) xs
-
-some_left : (n m : ℕ) → n ≡ m + 1 → not (n == 0) ≡ false → ⊥
-some_left n m e none = let zero_is : n ≡ 0 = eqb-true n 0 (is_not (n == 0) none) in omega (arith, e, zero_is)
+start_home : (d : MarksDevice) (path : ℕ) (l : Option ℕ) → fault_by d path l ≡ None → is_some l ≡ false
+start_home d path (Some of) e = absurd (cc)
+start_home d path None e = refl
 
 -- Events
 
 pub within : (d : MarksDevice) → Good d → (chain : ChainState) → d.chain ≡ Some chain → IsWithin (d.store.cylinders * 15) chain
 within d g chain is = on_is_within d.store.cylinders g.some chain (subst (λ (x : Option ChainState). HasChainOn d.store.cylinders x) is g.chain)
 
+none_active : (r : Option OpenEntry) → R.active_by r ≡ None → r ≡ None
+none_active (Some o) e = absurd (cc)
+none_active None e = refl
+
+-- a volume that is alone has no open half write
+whole_single : (d : MarksDevice) → IsWell by_plain d.store → d.store.paired ≡ false → d.store.half ≡ None
+unfolding C.rest_of
+whole_single d w single = w.here.whole single
+
 module _ (d : MarksDevice) (g : Good d) where
-  command_good : d.store.half ≡ None → LeavesSo Good (command by_plain d)
-  command_good none = λ t.
+  command_good : (o : OpenEntry) → d.history.running ≡ Some o → d.store.half ≡ None → LeavesSo Good (command by_plain d)
+  command_good o running none = λ t.
       let y = (T.hold true (command by_plain d) t).state in
       let b = at (stays_still (command_based by_plain d)) t in
-      let f = at (command_goes by_plain d.plans d.history d (record { plans = refl; history = extends_itself d.history })) t in
-      goes d y b.1 b.2 f.history.fresh (at (command_on by_plain d.store.cylinders g.some d g.chain) t)
+      goes d y b.1 b.2 (at (command_on by_plain d.store.cylinders g.some d g.chain) t)
       (λ w. (at (command_keeps_good by_plain marks_are_faithful (tracks_of d.store) (IsWithin (tracks_of d.store))
-      (within_stays (tracks_of d.store) (whole_cylinders d.store.cylinders)) d (within d g) refl w none) t).well) g
+      (within_stays (tracks_of d.store) (whole_cylinders d.store.cylinders)) d (within d g) refl w none) t).well)
+      (λ away x. not_both (is_some d.store.lent) away (runs_home d g o running)) g
 
-  second_good : LeavesSo Good (second by_plain d)
-  second_good = λ t.
+  second_good : (h : HalfWrite (Unit {0})) → d.store.half ≡ Some h → LeavesSo Good (second by_plain d)
+  second_good h is = λ t.
       let y = (T.hold true (second by_plain d) t).state in
       let b = at (stays_still (second_based by_plain d)) t in
-      let f = at (second_goes by_plain d.plans d.history d (record { plans = refl; history = extends_itself d.history })) t in
-      goes d y b.1 b.2 f.history.fresh (at (second_on by_plain d.store.cylinders g.some d g.chain) t)
-      (λ w. (at (second_keeps_good by_plain marks_are_faithful d w) t).well) g
+      goes d y b.1 b.2 (at (second_on by_plain d.store.cylinders g.some d g.chain) t)
+      (λ w. (at (second_keeps_good by_plain marks_are_faithful d w) t).well)
+      (λ away x. not_both (is_some d.store.lent) away (half_home d g h is)) g
 
   background_good : d.store.half ≡ None → LeavesSo Good (background by_plain d)
   background_good none = λ t.
       let y = (T.hold true (background by_plain d) t).state in
       let b = at (stays_still (background_based by_plain d)) t in
-      let f = at (background_goes by_plain d.plans d.history d (record { plans = refl; history = extends_itself d.history })) t in
-      goes d y b.1 b.2 f.history.fresh (at (background_on by_plain d.store.cylinders g.some d g.chain) t)
-      (λ w. (at (background_keeps_good by_plain marks_are_faithful d w none) t).well) g
+      goes d y b.1 b.2 (at (background_on by_plain d.store.cylinders g.some d g.chain) t)
+      (λ w. (at (background_keeps_good by_plain marks_are_faithful d w none) t).well) (λ away x. at (background_away by_plain d x) t) g
 
-  loss_good : (loss : Loss) → LeavesSo Good (lose by_plain d loss)
-  loss_good loss = λ t.
+  loss_good : (loss : Loss) → (is_some d.store.lent ≡ true → (side : Side) → loss ≡ losses.Side side → ⊥) → LeavesSo Good (lose by_plain d loss)
+  loss_good loss other = λ t.
       let y = (T.hold true (lose by_plain d loss) t).state in
       let b = at (stays_still (lose_based by_plain d loss)) t in
-      let f = at (lose_goes by_plain d.plans d.history d loss (record { plans = refl; history = extends_itself d.history })) t in
-      goes d y b.1 b.2 f.history.fresh (at (lose_on by_plain d.store.cylinders g.some d loss g.chain) t)
-      (λ w. (at (loss_keeps_good by_plain marks_are_faithful d loss w) t).well) g
+      goes d y b.1 b.2 (at (lose_on by_plain d.store.cylinders g.some d loss g.chain) t)
+      (λ w. (at (loss_keeps_good by_plain marks_are_faithful d loss w) t).well) (λ away x. at (loss_away by_plain d loss (other away) x) t) g
+
+  side_good : (side : Side) → fail_fault d side ≡ None → LeavesSo Good (lose by_plain d (losses.Side side))
+  unfolding R.fail_fault
+  side_good side e =
+      loss_good (losses.Side side)
+      (λ away s is. not_both (is_some d.store.lent) away (none_lent d.store.lent (first_none (R.lent_by d.store.lent) _ e).0))
 
   power_good : LeavesSo Good (power by_plain d)
   power_good = λ t.
       let y = (T.hold true (power by_plain d) t).state in
       let b = at (stays_still (power_based by_plain d)) t in
-      let fresh = at (power_counts is_fresh (λ o k. refl) (λ path. refl) refl (fresh_count d.history.items) d refl) t in
-      goes d y b.1 b.2 fresh (at (power_on by_plain d.store.cylinders g.some d) t)
-      (λ w. (at (power_keeps_good by_plain marks_are_faithful d w) t).well) g
+      goes d y b.1 b.2 (at (power_on by_plain d.store.cylinders g.some d) t)
+      (λ w. (at (power_keeps_good by_plain marks_are_faithful d w) t).well) (λ away x. at (power_away by_plain d x) t) g
 
   reset_good : (path : ℕ) → LeavesSo Good (reset by_plain d path)
   reset_good path = λ t.
       let y = (T.hold true (reset by_plain d path) t).state in
       let b = at (stays_still (reset_body by_plain d path)) t in
-      let fresh = at (reset_counts is_fresh (λ o k. refl) (λ path. refl) refl (fresh_count d.history.items) d path refl) t in
-      goes d y b.1 b.2 fresh (at (reset_on by_plain d.store.cylinders g.some d path g.chain) t)
-      (λ w. (at (reset_keeps_good by_plain marks_are_faithful d path w) t).well) g
+      goes d y b.1 b.2 (at (reset_on by_plain d.store.cylinders g.some d path g.chain) t)
+      (λ w. (at (reset_keeps_good by_plain marks_are_faithful d path w) t).well) (λ away x. at (reset_away by_plain d path x) t) g
 
-  start_good : (path : ℕ) → Good (start d path)
-  unfolding S.start
-  start_good path = record {
+  start_good : (path : ℕ) → start_fault d path ≡ None → Good (start d path)
+  unfolding S.start S.start_fault
+  start_good path e = record {
     some = g.some;
     chain = begins_on d.store.cylinders g.some (next_program d path) (fixed_of d.store) refl;
     well = g.well;
+    gone = λ away. not_both (is_some d.store.lent) away (start_home d path d.store.lent e);
   }
 
   -- Orders
 
-  lend_good : (to : ℕ) → LeavesSo Good (lend by_plain d to)
-  lend_good to = λ t.
+  lend_good : (x : MarksDevice) (to : ℕ) → pair_fault x d ≡ None → LeavesSo Good (lend by_plain d to)
+  unfolding R.pair_fault
+  lend_good x to fault = λ t.
       let y = (T.hold true (lend by_plain d to) t).state in
       let e = lend_lends d to t in
+      let lent : is_some y.store.lent ≡ true = ap (λ (o : Option ℕ). is_some o) e.lent in
+      let a = first_none (R.where_so (x.store.device == d.store.device) Same) _ fault in
+      let b = first_none (R.lent_by x.store.lent) _ a.1 in
+      let c = first_none (R.lent_by d.store.lent) _ b.1 in
+      let f = first_none (R.where_so x.store.paired Paired) _ c.1 in
+      let h = first_none (R.where_so d.store.paired Paired) _ f.1 in
+      let i = first_none (R.active_by x.history.running) _ h.1 in
+      let j = first_none (R.active_by d.history.running) _ i.1 in
+      let w = g.well (none_lent d.store.lent c.0) in
+      let single = where_none d.store.paired Paired h.0 in
       record {
         some = subst (λ (n : ℕ). 0 < n) (sym e.cylinders) g.some;
         chain = subst (λ (n : ℕ). HasChainOn n y.chain) (sym e.cylinders) (at (lend_on by_plain d.store.cylinders g.some d to g.chain) t);
-        well = λ home. absurd (
-            let gone : was_lent y ≡ true = ap (λ (x : Option ℕ). is_some x || not (fresh_count y.history.items == 0)) e.lent in
-            let both : true ≡ false = sym gone ∙ home in cc);
+        well = λ home. not_both (is_some y.store.lent) lent home;
+        gone = λ away. at (lend_away by_plain marks_are_faithful d to w single (whole_single d w single) (none_active d.history.running j.0)) t;
       }
 
-  hold_good : Good (hold d)
-  hold_good = record { some = g.some; chain = g.chain; well = λ home. (hold_keeps_good by_plain marks_are_faithful d (g.well home)).well }
+  -- a pair isn't lent
+  not_single : {X : Type 0} → d.store.paired ≡ true → is_some d.store.lent ≡ true → X
+  not_single paired away = not_both d.store.paired paired (g.gone away).store.single
 
-  resume_good : Good (resume d)
-  resume_good = record { some = g.some; chain = g.chain; well = λ home. (resume_keeps_good by_plain marks_are_faithful d (g.well home)).well }
+  hold_good : suspend_fault d ≡ None → Good (hold d)
+  unfolding R.suspend_fault
+  hold_good e = record {
+    some = g.some;
+    chain = g.chain;
+    well = λ home. (hold_keeps_good by_plain marks_are_faithful d (g.well home)).well;
+    gone = not_single (is_not d.store.paired (where_none (not d.store.paired) Unpaired (first_none (R.where_so (not d.store.paired) Unpaired) _ e).0));
+  }
 
-  join_good : d.store.paired ≡ false → Good (join d)
-  join_good single = record { some = g.some; chain = g.chain; well = λ home. (join_keeps_good by_plain marks_are_faithful d (g.well home) single).well }
+  resume_good : resume_fault d ≡ None → Good (resume d)
+  unfolding R.resume_fault
+  resume_good e = record {
+    some = g.some;
+    chain = g.chain;
+    well = λ home. (resume_keeps_good by_plain marks_are_faithful d (g.well home)).well;
+    gone = not_single (is_not d.store.paired (where_none (not d.store.paired) Unpaired (first_none (R.where_so (not d.store.paired) Unpaired) _ e).0));
+  }
+
+  join_good : IsFree d → Good (join d)
+  join_good free = record {
+    some = g.some;
+    chain = g.chain;
+    well = λ home. (join_keeps_good by_plain marks_are_faithful d (g.well home) free.0).well;
+    gone = λ away. not_both (is_some d.store.lent) away free.1;
+  }
 
   split_good : unpair_fault d ≡ None → Good (split d)
   unfolding R.unpair_fault
@@ -193,64 +244,53 @@ module _ (d : MarksDevice) (g : Good d) where
             (split_keeps_good by_plain marks_are_faithful d (g.well home) (not_some d.store.half (where_none (is_some d.store.half) Half c.0))
             (is_not d.store.a.up (where_none (not d.store.a.up) Down f.0))
             (none_counted (tracks_of d.store) (stale_at d.store.a) (count_none (R.stale_count d.store) h.0))).well;
+        gone = not_single (is_not d.store.paired (where_none (not d.store.paired) Unpaired a.0));
       }
 
   paired_by : (side : Side) → R.has_side d.store side ≡ true → side ≡ B → d.store.paired ≡ true
   paired_by A e is = absurd (cc)
   paired_by B e is = e
 
-  side_same : (side : Side) → IsWell by_plain (replace d side).store → Good (replace d side)
-  side_same A w = record { some = g.some; chain = g.chain; well = λ home. w }
-  side_same B w = record { some = g.some; chain = g.chain; well = λ home. w }
-
-  was_same : (side : Side) → was_lent (replace d side) ≡ was_lent d
-  was_same A = refl
-  was_same B = refl
-
-  cylinders_same : (side : Side) → (replace d side).store.cylinders ≡ d.store.cylinders
-  cylinders_same A = refl
-  cylinders_same B = refl
+  side_same : (side : Side) → IsWell by_plain (replace d side).store → is_some d.store.lent ≡ false → Good (replace d side)
+  side_same A w home = record { some = g.some; chain = g.chain; well = λ _. w; gone = λ away. not_both (is_some d.store.lent) away home }
+  side_same B w home = record { some = g.some; chain = g.chain; well = λ _. w; gone = λ away. not_both (is_some d.store.lent) away home }
 
   replace_good : (side : Side) → replace_fault d side ≡ None → Good (replace d side)
   unfolding R.replace_fault
   replace_good side e =
       let facts = is_down d.store.lent (R.has_side d.store side) (side_of d.store side).up _ e in
-      record {
-        some = subst (λ (n : ℕ). 0 < n) (sym (cylinders_same side)) g.some;
-        chain = subst (λ (n : ℕ). HasChainOn n d.chain) (sym (cylinders_same side)) g.chain;
-        well = λ home.
-            (replace_keeps_good by_plain marks_are_faithful d side (g.well (sym (was_same side) ∙ home)) facts.0 (paired_by side facts.1)).well;
-      }
+      side_same side (replace_keeps_good by_plain marks_are_faithful d side (g.well facts.2) facts.0 (paired_by side facts.1)).well facts.2
 
-  restore_good : Good (restore d)
-  restore_good = record {
+  pub restore_good : is_some d.store.lent ≡ true → Good (restore d)
+  restore_good away = record {
     some = g.some;
     chain = g.chain;
-    well = λ home. absurd (some_left (fresh_count (d.history.items ++ items.Fresh ∷ [])) (fresh_count d.history.items) (one_fresh 0 d.history.items) home);
+    well = λ home. restored_well by_plain marks_are_faithful d (g.gone away).store;
+    gone = λ still. absurd (cc);
   }
 
-pub restored_was_lent : (d : MarksDevice) → was_lent (restore d) ≡ false → ⊥
-restored_was_lent d home =
-    some_left (fresh_count (d.history.items ++ items.Fresh ∷ [])) (fresh_count d.history.items) (one_fresh 0 d.history.items) home
+pub lent_is : (l : Option ℕ) (a : ℕ) → is_lent_to l a ≡ true → is_some l ≡ true
+lent_is (Some to) a e = refl
+lent_is None a e = absurd (cc)
 
 pub good_kept : IsKept Good
 good_kept = record {
-  started = λ d path fault g. start_good d g path;
-  commanded = λ d o running whole g. command_good d g whole;
-  seconded = λ d h is g. second_good d g;
+  started = λ d path fault g. start_good d g path fault;
+  commanded = λ d o running whole g. command_good d g o running whole;
+  seconded = λ d h is g. second_good d g h is;
   worked = λ d whole g. background_good d g whole;
   cut = λ d path g. reset_good d g path;
-  lost_cache = λ d g. loss_good d g losses.Cache;
-  lost_store = λ d g. loss_good d g losses.Store;
-  lost_side = λ d side fault g. loss_good d g (losses.Side side);
+  lost_cache = λ d g. loss_good d g losses.Cache (λ away side is. absurd (cc));
+  lost_store = λ d g. loss_good d g losses.Store (λ away side is. absurd (cc));
+  lost_side = λ d side fault g. side_good d g side fault;
   lost_power = λ d g. power_good d g;
-  held = λ d fault g. hold_good d g;
-  resumed = λ d fault g. resume_good d g;
+  held = λ d fault g. hold_good d g fault;
+  resumed = λ d fault g. resume_good d g fault;
   replaced = λ d side fault g. replace_good d g side fault;
-  lent = λ x y fault f g. lend_good y g x.store.device;
-  joins = λ d single g. join_good d g single;
+  lent = λ x y fault f g. lend_good y g x x.store.device fault;
+  joins = λ d free g. join_good d g free;
   splits = λ d fault g. split_good d g fault;
-  restored = λ d a is g. restore_good d g;
+  restored = λ d a is g. restore_good d g (lent_is d.store.lent a is);
 }
 
 -- A new device
@@ -290,13 +330,13 @@ module _ (number : ℕ) (on : Geometry) (n : ℕ) where
   }
 
 pub new_good : (number : ℕ) (on : Geometry) (n : ℕ) (plans : Plans) → 1 ≤ n → Good (new_device number on n plans)
-new_good number on n plans some = record { some = omega (arith, some); chain = tt; well = λ home. new_well number on n }
+new_good number on n plans some = record { some = omega (arith, some); chain = tt; well = λ home. new_well number on n; gone = λ away. absurd (cc) }
 
 pub opened_good : (deck : DeckLines) (ds : List DeviceLine) → All (λ (d : DeviceLine). 1 ≤ d.cylinders) ds → AreSo Good (map (opened_device deck) ds)
 opened_good deck [] h = tt
 opened_good deck (d ∷ ds) h =
     let some = All-head (λ (d : DeviceLine). 1 ≤ d.cylinders) d ds h in (
-      record { some = omega (arith, some); chain = tt; well = λ home. new_well d.number d.geometry d.cylinders },
+      record { some = omega (arith, some); chain = tt; well = λ home. new_well d.number d.geometry d.cylinders; gone = λ away. absurd (cc) },
       opened_good deck ds (All-tail (λ (d : DeviceLine). 1 ≤ d.cylinders) d ds h),
     )
 

@@ -1,8 +1,3 @@
-pub mod Finding
-pub mod Talks
-pub mod Deeds
-pub mod Happens
-pub mod Orders
 pub mod PlainRuns
 pub mod ReadDecks
 pub mod LendBase
@@ -17,6 +12,8 @@ pub mod TracksKept
 pub mod SecondChecks
 pub mod NothingChecked
 pub mod NothingMissed
+pub mod RunLines
+pub mod WaitingSum
 pub mod WholeSlots
 pub mod SlotsApart
 pub mod AllSound

@@ -13,7 +13,6 @@ use Rattle.device_defs.specs.Marks.{MarksDevice}
 use Rattle.device_defs.specs.Pledge.{ends_with_data_check}
 use Rattle.device_laws.specs.Unharmed.{ends_with_equipment_check}
 use Rattle.device_laws.proofs.KeptHistories.{AreNot}
-use Rattle.device_laws.proofs.LossLaws.{unharmed_counts}
 use Rattle.subsystem_defs.specs.Decks as D
 use Rattle.subsystem_defs.specs.Decks.{opened_device, opened, run_of}
 use Rattle.subsystem_defs.specs.Lines.{asked_by}
@@ -22,6 +21,7 @@ use Rattle.subsystem_laws.specs.Causes.{HasNoDataCheck, MissesNothing, MissNothi
 use Rattle.subsystem_laws.specs.Served.{IsServedDeck}
 use Rattle.subsystem_laws.proofs.DataChecks.{checks_kept}
 use Rattle.subsystem_laws.proofs.NothingChecked.{Quiet, quiet_kept, opened_quiet}
+use Rattle.subsystem_laws.proofs.TracksKept.{keeps_tracks}
 use Rattle.subsystem_laws.proofs.Walks.{IsKept, AreSo, run_keeps, behind_weaker}
 
 -- Two things at once
@@ -91,11 +91,11 @@ served (items.Fresh ∷ xs) h k = served xs h.1 k.1
 served (items.Power ∷ xs) h k = served xs h.1 k.1
 
 none_missed : (d : MarksDevice) → Quiet d × HasNoDataCheck d → MissesNothing d
-none_missed d x = λ home nothing cache.
+none_missed d x = λ nothing cache.
     and_true (are_served d.history.items) (count_lost d.store.lost == 0)
     (served d.history.items (none_counted ends_with_data_check 0 0 d.history.items x.1 (omega arith))
-    (none_counted ends_with_equipment_check 0 0 d.history.items (x.0.none home nothing cache).0 (omega arith)))
-    (ap (λ (n : ℕ). n == 0) (unharmed_counts d.store (x.0.fair.un home) nothing))
+    (none_counted ends_with_equipment_check 0 0 d.history.items (x.0.none nothing cache).0 (omega arith)))
+    (ap (λ (n : ℕ). n == 0) (keeps_tracks d x.0.fair nothing))
 
 opened_both : (deck : DeckLines) (ds : List DeviceLine) → AreSo Quiet (map (opened_device deck) ds) →
     AreSo (λ d. Quiet d × HasNoDataCheck d) (map (opened_device deck) ds)

@@ -1,7 +1,7 @@
 -- In a run no track is lost of a device that was never lent, while none of its sides and not the store was lost and no call failed.
-use Rattle.std.proofs.Common.{◌≡◌, ◌<◌, ◌≤◌, ◌+◌, ℕ, Bool, true, false, List, [], ◌∷◌, map, Option, None, is_some, min, refl, sym, ap, subst, ◌∙◌, arith, inr, Some}
+use Rattle.std.proofs.Common.{◌≡◌, ◌<◌, ◌≤◌, ◌+◌, ℕ, Bool, true, false, List, [], ◌∷◌, map, Option, None, is_some, min, refl, sym, ap, subst, ◌∙◌, arith, inr}
 use Rattle.std.proofs.lemmas.List.Elements.{All-head, All-tail}
-use Rattle.std.specs.Prelude.{All, not, ◌||◌, ◌==◌, ◌*◌}
+use Rattle.std.specs.Prelude.{All, not, ◌*◌}
 use Rattle.ckd_types.specs.declared.geometry.Geometry.{Geometry}
 use Rattle.ckd_types.specs.declared.paths.Side.{Side}
 use Rattle.ckd_types.specs.declared.paths.Side.TheVariants as sides
@@ -25,20 +25,17 @@ use Rattle.device_defs.specs.Cutting.{reset, power}
 use Rattle.device_defs.specs.Events.{second, lose, background}
 use Rattle.device_defs.specs.Marks.{MarksDevice, new_device}
 use Rattle.plain_defs.specs.Journal.{Plans}
-use Rattle.device_defs.specs.Orders.{replace, lend}
-use Rattle.device_defs.specs.Pledge.{is_fresh, fresh_count, was_lent}
+use Rattle.device_defs.specs.Orders.{restore, replace, lend}
 use Rattle.device_defs.specs.Start as S
 use Rattle.device_defs.specs.Start.{start}
-use Rattle.device_defs.specs.Store.{level_at, stale_at, side_of}
+use Rattle.device_defs.specs.Store.{tracks_of, level_at, stale_at, side_of}
 use Rattle.device_laws.specs.Unharmed.{NothingLost, IsWholeOnA, IsUnharmed}
 use Rattle.device_laws.proofs.Always as A
 use Rattle.device_laws.proofs.Always.{Behind, Always}
 use Rattle.device_laws.proofs.Based.{Base, Any, Based, kept, based_any, based_done, based_try, based_ask, based_read, based_write, based_tell}
 use Rattle.device_laws.proofs.BasedEvents.{base_in, with_one_loss, command_based, second_based, background_based, lose_based, power_based, reset_body}
 use Rattle.device_laws.proofs.Harmless.{cache_goes, power_goes, reset_goes}
-use Rattle.device_laws.proofs.KeptEvents as K
-use Rattle.device_laws.proofs.KeptHistories.{extends_itself}
-use Rattle.device_laws.proofs.LossLaws.{whole_behind, some_counted, has_a, unharmed_counts, held_unharmed, joined_unharmed, replaced_unharmed}
+use Rattle.device_laws.proofs.LossLaws.{whole_behind, some_counted, has_a, kept_counts, unharmed_counts, held_unharmed, joined_unharmed, replaced_unharmed}
 use Rattle.device_laws.proofs.Lucky.{top, failed_in, never_falls, where_none_failed}
 use Rattle.device_laws.proofs.TrackMarks.{marks_are_faithful}
 use Rattle.device_laws.proofs.Unlost.{core_of, Fine}
@@ -50,16 +47,15 @@ use Rattle.subsystem_defs.specs.Refusals as R
 use Rattle.subsystem_defs.specs.Refusals.{replace_fault, pair_fault, unpair_fault}
 use Rattle.subsystem_laws.specs.Causes.{KeepsTracks, KeepTracks}
 use Rattle.subsystem_laws.specs.Served.{IsServedDeck}
-use Rattle.subsystem_laws.proofs.GoodMarks.{Good, good_kept, lent_same, within, new_good, restored_was_lent}
+use Rattle.subsystem_laws.proofs.GoodMarks.{Good, good_kept, home_before, by_lent, lent_is, restore_good, within, new_good}
 use Rattle.subsystem_laws.proofs.LendBase.{at, stays_still, lend_lends, lend_based, lent_counts}
-use Rattle.subsystem_laws.proofs.PastChecks.{reset_counts, power_counts}
 use Rattle.subsystem_laws.proofs.Walks.{IsKept, AreSo, LeavesSo, run_keeps, behind_weaker}
 use Rattle.subsystem_laws.proofs.WholeOrders.{is_down}
 
 pub record Fair (d : MarksDevice) : Type 0 where
   pub good : Good d
   pub most : d.store.counts.failed ≤ top
-  pub un : was_lent d ≡ false → IsUnharmed d.store
+  pub un : is_some d.store.lent ≡ false → IsUnharmed d.store
 
 -- A count of failed calls isn't above the greatest number
 
@@ -119,12 +115,11 @@ module _ (d : MarksDevice) (f : Fair d) where
       let y = (T.hold true (command by_plain d) t).state in
       let x = command_based by_plain d in
       let b = at (stays_still x) t in
-      let k = at (K.command_goes by_plain d.plans d.history d (record { plans = refl; history = extends_itself d.history })) t in
       record {
         good = good t;
         most = at (stays_most x f.most) t;
         un = λ home.
-            let was = sym (lent_same d y b.2 k.history.fresh) ∙ home in
+            let was = home_before d y b.2 false home in
             unharmed_at (kept d.store) (command by_plain d) refl refl refl x
             (λ _. command_goes_within by_plain marks_are_faithful d (within d f.good) (f.good.well was) none) (f.un was) t;
       }
@@ -134,12 +129,11 @@ module _ (d : MarksDevice) (f : Fair d) where
       let y = (T.hold true (second by_plain d) t).state in
       let x = second_based by_plain d in
       let b = at (stays_still x) t in
-      let k = at (K.second_goes by_plain d.plans d.history d (record { plans = refl; history = extends_itself d.history })) t in
       record {
         good = good t;
         most = at (stays_most x f.most) t;
         un = λ home.
-            let was = sym (lent_same d y b.2 k.history.fresh) ∙ home in
+            let was = home_before d y b.2 false home in
             unharmed_at (kept d.store) (second by_plain d) refl refl refl x
             (λ whole. second_event_goes by_plain marks_are_faithful d (f.good.well was)
             (λ h is. inr (has_a d.store.a.up (stale_at d.store.a h.track) (level_at d.store.b h.track) whole.up (whole.level h.track)))) (f.un was) t;
@@ -150,12 +144,11 @@ module _ (d : MarksDevice) (f : Fair d) where
       let y = (T.hold true (background by_plain d) t).state in
       let x = background_based by_plain d in
       let b = at (stays_still x) t in
-      let k = at (K.background_goes by_plain d.plans d.history d (record { plans = refl; history = extends_itself d.history })) t in
       record {
         good = good t;
         most = at (stays_most x f.most) t;
         un = λ home.
-            let was = sym (lent_same d y b.2 k.history.fresh) ∙ home in
+            let was = home_before d y b.2 false home in
             unharmed_at (kept d.store) (background by_plain d) refl refl refl x
             (λ _. background_goes by_plain marks_are_faithful d (f.good.well was)) (f.un was) t;
       }
@@ -165,12 +158,11 @@ module _ (d : MarksDevice) (f : Fair d) where
       let y = (T.hold true (reset by_plain d path) t).state in
       let x = based_any (reset_body by_plain d path) in
       let b = at (stays_still x) t in
-      let fresh = at (reset_counts is_fresh (λ o k. refl) (λ path. refl) refl (fresh_count d.history.items) d path refl) t in
       record {
         good = good_kept.cut d path f.good t;
         most = at (stays_most x f.most) t;
         un = λ home.
-            let was = sym (lent_same d y b.2 fresh) ∙ home in
+            let was = home_before d y b.2 false home in
             unharmed_at (kept d.store) (reset by_plain d path) refl refl refl x (λ _. reset_goes by_plain marks_are_faithful d path) (f.un was) t;
       }
 
@@ -179,17 +171,16 @@ module _ (d : MarksDevice) (f : Fair d) where
       let y = (T.hold true (power by_plain d) t).state in
       let x = power_based by_plain d in
       let b = at (stays_still x) t in
-      let fresh = at (power_counts is_fresh (λ o k. refl) (λ path. refl) refl (fresh_count d.history.items) d refl) t in
       record {
         good = good_kept.lost_power d f.good t;
         most = at (stays_most x f.most) t;
         un = λ home.
-            let was = sym (lent_same d y b.2 fresh) ∙ home in
+            let was = home_before d y b.2 false home in
             unharmed_at (with_one_loss losses.Cache (kept d.store)) (power by_plain d) refl refl refl x
             (λ whole. power_goes by_plain marks_are_faithful d whole) (f.un was) t;
       }
 
-  loss_un : (loss : Loss) (t : Told) → was_lent d ≡ false → IsUnharmed (T.hold true (lose by_plain d loss) t).state.store
+  loss_un : (loss : Loss) (t : Told) → is_some d.store.lent ≡ false → IsUnharmed (T.hold true (lose by_plain d loss) t).state.store
   loss_un losses.Cache t was n =
       unharmed_at (with_one_loss losses.Cache (kept d.store)) (lose by_plain d losses.Cache) refl refl refl (lose_based by_plain d losses.Cache)
       (λ whole. cache_goes by_plain marks_are_faithful d (f.good.well was) whole) (f.un was) t n
@@ -205,11 +196,10 @@ module _ (d : MarksDevice) (f : Fair d) where
       let y = (T.hold true (lose by_plain d loss) t).state in
       let x = lose_based by_plain d loss in
       let b = at (stays_still x) t in
-      let k = at (K.lose_goes by_plain d.plans d.history d loss (record { plans = refl; history = extends_itself d.history })) t in
       record {
         good = good t;
         most = at (stays_most x f.most) t;
-        un = λ home. loss_un loss t (sym (lent_same d y b.2 k.history.fresh) ∙ home);
+        un = λ home. loss_un loss t (home_before d y b.2 false home);
       }
 
   start_fair : (path : ℕ) (good : Good (start d path)) → Fair (start d path)
@@ -225,12 +215,10 @@ module _ (d : MarksDevice) (f : Fair d) where
       record {
         good = good t;
         most = at (stays_most (lend_based d to) (subst (λ (c : Counts). c.failed ≤ top) (sym (lent_counts d to)) f.most)) t;
-        un = λ home. absurd (
-            let gone : was_lent y ≡ true = ap (λ (x : Option ℕ). is_some x || not (fresh_count y.history.items == 0)) e.lent in
-            let both : true ≡ false = sym gone ∙ home in cc);
+        un = λ home. absurd (let lent : is_some y.store.lent ≡ true = ap (λ (x : Option ℕ). is_some x) e.lent in let both : true ≡ false = sym lent ∙ home in cc);
       }
 
-  replace_same : (side : Side) → ((replace d side).store.counts.failed ≡ d.store.counts.failed) × (was_lent (replace d side) ≡ was_lent d)
+  replace_same : (side : Side) → ((replace d side).store.counts.failed ≡ d.store.counts.failed) × ((replace d side).store.lent ≡ d.store.lent)
   replace_same sides.A = (refl, refl)
   replace_same sides.B = (refl, refl)
 
@@ -242,13 +230,16 @@ module _ (d : MarksDevice) (f : Fair d) where
       record {
         good = good;
         most = subst (λ (n : ℕ). n ≤ top) (sym same.0) f.most;
-        un = λ home. replaced_unharmed d (f.un (sym same.1 ∙ home)) side facts.0;
+        un = λ home. replaced_unharmed d (f.un (home_before d (replace d side) same.1 false home)) side facts.0;
       }
 
-pub lent_was : (y : MarksDevice) (to : ℕ) → y.store.lent ≡ Some to → was_lent y ≡ false → ⊥
-lent_was y to lent home =
-    let gone : was_lent y ≡ true = ap (λ (x : Option ℕ). is_some x || not (fresh_count y.history.items == 0)) lent in
-    let both : true ≡ false = sym gone ∙ home in cc
+-- one that gets its volume back has no lost track
+restored_fair : (d : MarksDevice) → Fair d → is_some d.store.lent ≡ true → Fair (restore d)
+restored_fair d f away = record {
+  good = restore_good d f.good away;
+  most = f.most;
+  un = λ home nothing. record { up = refl; level = λ t. empty_places (tracks_of d.store) t false; kept = (f.good.gone away).store.lost };
+}
 
 pub fair_kept : IsKept Fair
 fair_kept = record {
@@ -267,11 +258,7 @@ fair_kept = record {
   lent = λ x y fault e f. lend_fair y f x.store.device (good_kept.lent x y fault e.good f.good);
   joins = λ d single f. record { good = good_kept.joins d single f.good; most = f.most; un = λ home. (joined_unharmed d (f.un home)).0 };
   splits = λ d fault f. record { good = good_kept.splits d fault f.good; most = f.most; un = λ home. (joined_unharmed d (f.un home)).1 };
-  restored = λ d a is f. record {
-    good = good_kept.restored d a is f.good;
-    most = f.most;
-    un = λ home. absurd (restored_was_lent d home);
-  };
+  restored = λ d a is f. restored_fair d f (lent_is d.store.lent a is);
 }
 
 pub new_fair : (number : ℕ) (on : Geometry) (n : ℕ) (plans : Plans) → 1 ≤ n → Fair (new_device number on n plans)
@@ -288,8 +275,13 @@ opened_fair deck (d ∷ ds) h = (
   opened_fair deck ds (All-tail (λ (d : DeviceLine). 1 ≤ d.cylinders) d ds h),
 )
 
+-- one that is lent has none either
+pub keeps_tracks : (d : MarksDevice) → Fair d → KeepsTracks d
+keeps_tracks d f nothing =
+    by_lent d (λ home. unharmed_counts d.store (f.un home) nothing) (λ away. kept_counts d.store (f.good.gone away).store.lost)
+
 pub run_loses_no_track : (deck : DeckLines) → IsServedDeck deck → All KeepTracks (run_of deck).events
 unfolding D.run_asked
 run_loses_no_track deck h =
-    behind_weaker Fair KeepsTracks (λ d f. λ home nothing. unharmed_counts d.store (f.un home) nothing) (run_of deck).events
+    behind_weaker Fair KeepsTracks keeps_tracks (run_of deck).events
     (run_keeps Fair fair_kept (map asked_by deck.events) (opened deck) (opened_fair deck deck.devices h.devices))

@@ -42,7 +42,7 @@ use Rattle.subsystem_laws.proofs.PlainRuns.{number_found, same_found}
 use Rattle.subsystem_laws.proofs.WholeLends.{first_none, where_none}
 
 -- an answer changes nothing of the device behind it
-hold_answer : {S X Y : Type 0} (i : Interaction Bool Image S X) (f : X → Y) (t : Told) →
+pub hold_answer : {S X Y : Type 0} (i : Interaction Bool Image S X) (f : X → Y) (t : Told) →
     (T.hold true (and_then i (λ d a. Done d (f a))) t).state ≡ (T.hold true i t).state
 unfolding T.hold
 hold_answer (Done s a) f t = refl
@@ -85,14 +85,23 @@ turned_round a b e = by_test (b == a) refl where
       absurd (let same : b ≡ a = eqb-true b a f in let back : (a == a) ≡ false = subst (λ (x : ℕ). (a == x) ≡ false) same e in grind arith)
 
 -- two devices that may become a pair
-may_pair : (x y : MarksDevice) → pair_fault x y ≡ None → ((y.store.device == x.store.device) ≡ false) × (x.store.paired ≡ false)
+pub none_lent : (o : Option ℕ) → R.lent_by o ≡ None → is_some o ≡ false
+none_lent (Some to) e = absurd (cc)
+none_lent None e = refl
+
+abbrev pub IsFree : MarksDevice → Type 0
+IsFree d = (d.store.paired ≡ false) × (is_some d.store.lent ≡ false)
+
+may_pair : (x y : MarksDevice) → pair_fault x y ≡ None → ((y.store.device == x.store.device) ≡ false) × IsFree x
 unfolding R.pair_fault
 may_pair x y is =
     let a = first_none (R.where_so (x.store.device == y.store.device) Same) _ is in
     let b = first_none (R.lent_by x.store.lent) _ a.1 in
     let c = first_none (R.lent_by y.store.lent) _ b.1 in
-    let e = first_none (R.where_so x.store.paired Paired) _ c.1 in
-    (turned_round x.store.device y.store.device (where_none (x.store.device == y.store.device) Same a.0), where_none x.store.paired Paired e.0)
+    let e = first_none (R.where_so x.store.paired Paired) _ c.1 in (
+      turned_round x.store.device y.store.device (where_none (x.store.device == y.store.device) Same a.0),
+      (where_none x.store.paired Paired e.0, none_lent x.store.lent b.0),
+    )
 
 module _ (P : MarksDevice → Type 0) where
   -- so it is behind an interaction, where the outside is told
@@ -114,7 +123,7 @@ module _ (P : MarksDevice → Type 0) where
     pub resumed : (d : MarksDevice) → resume_fault d ≡ None → P d → P (resume d)
     pub replaced : (d : MarksDevice) (side : Side) → replace_fault d side ≡ None → P d → P (replace d side)
     pub lent : (x y : MarksDevice) → pair_fault x y ≡ None → P x → P y → LeavesSo (lend by_plain y x.store.device)
-    pub joins : (d : MarksDevice) → d.store.paired ≡ false → P d → P (join d)
+    pub joins : (d : MarksDevice) → IsFree d → P d → P (join d)
     pub splits : (d : MarksDevice) → unpair_fault d ≡ None → P d → P (split d)
     pub restored : (d : MarksDevice) (a : ℕ) → is_lent_to d.store.lent a ≡ true → P d → P (restore d)
 
@@ -144,7 +153,7 @@ module _ (P : MarksDevice → Type 0) where
   mounted_if true m o p rest = p
   mounted_if false m o p rest = rest
 
-  mounted_so : (ms : List Mounted) (n : ℕ) → AreSo ms → IfSome (mounted_in ms n) IsSo
+  pub mounted_so : (ms : List Mounted) (n : ℕ) → AreSo ms → IfSome (mounted_in ms n) IsSo
   mounted_so [] n p = tt
   mounted_so (m ∷ ms) n p = mounted_if (number_of m == n) m (mounted_in ms n) p.0 (mounted_so ms n p.1)
 
@@ -157,7 +166,7 @@ module _ (P : MarksDevice → Type 0) where
 
   record MayLend (ms : List Mounted) (a b : ℕ) : Type 0 where
     lent : (m : Mounted) → mounted_in ms b ≡ Some m → LeavesSo (lend by_plain m.device a)
-    single : (m : Mounted) → mounted_in ms a ≡ Some m → m.device.store.paired ≡ false
+    single : (m : Mounted) → mounted_in ms a ≡ Some m → IsFree m.device
     other : (b == a) ≡ false
 
   abbrev KeepsDeed : List Mounted → MarksDeed → Type 0
@@ -190,7 +199,7 @@ module _ (P : MarksDevice → Type 0) where
 
   module _ (k : IsKept) where
     joined_so : (s : Subsystem) (n : ℕ) (volume : Calls) → AreSo s.mounted → (o : Option Mounted) → IfSome o IsSo →
-        ((m : Mounted) → o ≡ Some m → m.device.store.paired ≡ false) → AreSo (joined s n volume o).mounted
+        ((m : Mounted) → o ≡ Some m → IsFree m.device) → AreSo (joined s n volume o).mounted
     joined_so s n volume p None q single = p
     joined_so s n volume p (Some m) q single =
         put_so s.mounted n (record m { device = join m.device; b = volume }) p (k.joins m.device (single m refl) q)
@@ -290,9 +299,8 @@ module _ (P : MarksDevice → Type 0) where
                   (sym (same_found s.mounted b y m at (ap (mounted_in s.mounted) (sym (number_found s.mounted b y at)) ∙ there)))
                   (k.lent x y fault px py);
               single = λ m there.
-                  ap (λ (d : MarksDevice). d.store.paired)
-                  (same_found s.mounted a x m here (ap (mounted_in s.mounted) (sym (number_found s.mounted a x here)) ∙ there))
-                  ∙ (may_pair x y fault).1;
+                  subst IsFree (sym (same_found s.mounted a x m here (ap (mounted_in s.mounted) (sym (number_found s.mounted a x here)) ∙ there)))
+                  (may_pair x y fault).1;
               other = (may_pair x y fault).0;
             };
           })
@@ -327,7 +335,7 @@ module _ (P : MarksDevice → Type 0) where
       deed_so events.Power = record { is = k.lost_power }
 
       -- one event
-      event_so : (e : Event) → AreSo (happens s e).behind.mounted
+      pub event_so : (e : Event) → AreSo (happens s e).behind.mounted
       unfolding H.happens
       event_so e = happens_so s (deed by_plain s.pool (devices_of s) e) p (deed_so e).is
 
@@ -337,7 +345,7 @@ module _ (P : MarksDevice → Type 0) where
     with_side A calls m q = q
     with_side B calls m q = q
 
-    replaced_so : (s : Subsystem) (n : ℕ) (side : Side) (calls : Calls) → AreSo s.mounted → (o : Option Mounted) → IfSome o IsSo →
+    pub replaced_so : (s : Subsystem) (n : ℕ) (side : Side) (calls : Calls) → AreSo s.mounted → (o : Option Mounted) → IfSome o IsSo →
         AreSo (replaced_at s n side calls o).behind.mounted
     replaced_so s n side calls p None q = p
     replaced_so s n side calls p (Some m) q = by_fault (replace_fault m.device side) refl where
@@ -353,7 +361,7 @@ module _ (P : MarksDevice → Type 0) where
         cond_both (is_lent_to m.device.store.lent a) (record m { device = restore m.device; a = calls } ∷ ms) (m ∷ restored_in ms a calls) AreSo
         (λ is. (k.restored m.device a is p.0, p.1)) (λ _. (p.0, restored_so ms a calls p.1))
 
-    unpaired_so : (s : Subsystem) (n : ℕ) (calls : Calls) → AreSo s.mounted → (o : Option Mounted) → IfSome o IsSo →
+    pub unpaired_so : (s : Subsystem) (n : ℕ) (calls : Calls) → AreSo s.mounted → (o : Option Mounted) → IfSome o IsSo →
         AreSo (unpaired_at s n calls o).behind.mounted
     unpaired_so s n calls p None q = p
     unpaired_so s n calls p (Some m) q = by_fault (unpair_fault m.device) refl where

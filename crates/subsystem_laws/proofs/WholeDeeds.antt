@@ -32,12 +32,9 @@ use Rattle.subsystem_defs.specs.Happening.{
   happens_by,
 }
 use Rattle.subsystem_defs.specs.Subsystem.{Mounted, Subsystem, devices_of, mounted_in, put_in}
-use Rattle.subsystem_laws.specs.Comes.{OwnDeed, OwnTalk, subsystem_of}
-use Rattle.subsystem_laws.specs.Stood.{HasChain}
-use Rattle.subsystem_laws.specs.WholeComes.{Changes, IsNow, Asked, Swept, all_swept, one_swept, CameBy, IsWhatCame}
-use Rattle.subsystem_laws.specs.WholeStood.{Stood, devices_at, stood_in, put_at, IsMounted, is_mounted, AreMountedBy, one_more, AreMounted, HaveChains}
-use Rattle.subsystem_laws.proofs.Finding.{device_mounted}
-use Rattle.subsystem_laws.proofs.WholeFinding.{Found, none_found, both_found, find, chain_at, device_stood}
+use Rattle.subsystem_laws.specs.WholeComes.{OwnDeed, OwnTalk, subsystem_of, Changes, IsNow, Asked, Swept, all_swept, one_swept, CameBy, IsWhatCame}
+use Rattle.subsystem_laws.specs.WholeStood.{HasChain, Stood, devices_at, stood_in, put_at, IsMounted, is_mounted, AreMountedBy, one_more, AreMounted, HaveChains}
+use Rattle.subsystem_laws.proofs.WholeFinding.{device_mounted, Found, none_found, both_found, find, chain_at, device_stood}
 use Rattle.subsystem_laws.proofs.WholeSlots.{slots_of, first_shared, still_apart, rest_now}
 use Rattle.subsystem_laws.proofs.WholeTalks.{AreTwins, held_so}
 

@@ -1,13 +1,13 @@
 -- Devices by their numbers, among those that stand and among those that are mounted for them; and another one in the place of each.
-use Rattle.std.proofs.Common.{◌≡◌, ℕ, ◌==◌, Bool, true, false, List, [], ◌∷◌, ◌++◌, Option, Some, None, refl, sym, ap, subst, ◌∙◌, eqb-true}
+use Rattle.std.proofs.Common.{◌≡◌, ℕ, ◌==◌, Bool, true, false, List, [], ◌∷◌, ◌++◌, Option, Some, None, map, refl, sym, ap, subst, ◌∙◌, eqb-true}
 use Rattle.std.specs.Prelude.{if◌then◌else◌, option_map}
 use Rattle.device_outside.specs.Lists.{is_in}
 use Rattle.device_outside.specs.Slots.{AreShared}
+use Rattle.device_defs.specs.Marks.{MarksDevice}
 use Rattle.device_laws.specs.Whole.{WholeDevice}
 use Rattle.subsystem_defs.specs.Deeds.{device_in}
 use Rattle.subsystem_defs.specs.Subsystem.{Mounted, number_of, mounted_in, put_in}
-use Rattle.subsystem_laws.specs.Stood.{HasChain}
-use Rattle.subsystem_laws.specs.WholeStood.{Stood, number_at, devices_at, stood_in, put_at, IsMounted, is_mounted, AreMountedBy, one_more, HaveChains}
+use Rattle.subsystem_laws.specs.WholeStood.{HasChain, Stood, number_at, devices_at, stood_in, put_at, IsMounted, is_mounted, AreMountedBy, one_more, HaveChains}
 use Rattle.subsystem_laws.proofs.WholeSlots.{slots_of, first_shared, still_apart, rest_now}
 
 -- in both of a number, or in none
@@ -106,3 +106,9 @@ device_stood [] n = refl
 device_stood (x ∷ xs) n =
     ap (λ (o : Option WholeDevice). if number_at x == n then Some x.device else o) (device_stood xs n)
     ∙ sym (map_if (λ (y : Stood). y.device) (number_at x == n) x (stood_in xs n))
+
+pub device_mounted : (ms : List Mounted) (n : ℕ) → device_in (map (λ (m : Mounted). m.device) ms) n ≡ option_map (λ (m : Mounted). m.device) (mounted_in ms n)
+device_mounted [] n = refl
+device_mounted (m ∷ ms) n =
+    ap (λ (o : Option MarksDevice). if number_of m == n then Some m.device else o) (device_mounted ms n)
+    ∙ sym (map_if (λ (y : Mounted). y.device) (number_of m == n) m (mounted_in ms n))

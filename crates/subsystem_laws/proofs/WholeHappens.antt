@@ -59,8 +59,7 @@ use Rattle.subsystem_defs.specs.Happening.{MarksDeed, lends, quietly, happens}
 use Rattle.subsystem_defs.specs.Refusals as R
 use Rattle.subsystem_defs.specs.Refusals.{pair_fault, suspend_fault, resume_fault, fail_fault}
 use Rattle.subsystem_defs.specs.Subsystem.{Mounted, Subsystem, devices_of, mounted_in}
-use Rattle.subsystem_laws.specs.Comes.{OwnDeed, subsystem_of, behind_all, ends_of_all}
-use Rattle.subsystem_laws.specs.WholeComes.{Comes, Runs, no_event, next_event, IsWhatCame, AreWhatCame}
+use Rattle.subsystem_laws.specs.WholeComes.{OwnDeed, subsystem_of, behind_all, ends_of_all, Comes, Runs, no_event, next_event, IsWhatCame, AreWhatCame}
 use Rattle.subsystem_laws.specs.WholeStood.{Stood, devices_at, AreMounted, HaveChains}
 use Rattle.subsystem_laws.proofs.WholeDeeds.{Seat, Leads, leads_if, ends_so, repairs_so, asks_so, becomes_so, by_device, each_so}
 use Rattle.subsystem_laws.proofs.WholeLends.{may_pair, lends_so}

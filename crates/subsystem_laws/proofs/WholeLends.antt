@@ -29,8 +29,7 @@ use Rattle.subsystem_defs.specs.Happening.{told_to, held_with, mounted_behind, b
 use Rattle.subsystem_defs.specs.Refusals as R
 use Rattle.subsystem_defs.specs.Refusals.{pair_fault}
 use Rattle.subsystem_defs.specs.Subsystem.{Mounted, Subsystem, mounted_in, put_in}
-use Rattle.subsystem_laws.specs.Comes.{subsystem_of}
-use Rattle.subsystem_laws.specs.WholeComes.{outside_at, Asked, Joins, IsWhatCame}
+use Rattle.subsystem_laws.specs.WholeComes.{subsystem_of, outside_at, Asked, Joins, IsWhatCame}
 use Rattle.subsystem_laws.specs.WholeStood.{Stood, stood_in, put_at, IsMounted, is_mounted, AreMounted}
 use Rattle.subsystem_laws.proofs.WholeDeeds.{Seat}
 use Rattle.subsystem_laws.proofs.WholeFinding.{Found, none_found, both_found, find, stood_other}

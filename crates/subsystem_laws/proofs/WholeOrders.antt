@@ -30,10 +30,8 @@ use Rattle.subsystem_defs.specs.Happening.{replaced_by, replaced_at, replaced}
 use Rattle.subsystem_defs.specs.Refusals as R
 use Rattle.subsystem_defs.specs.Refusals.{first_cause, where_so, lent_by, replace_fault}
 use Rattle.subsystem_defs.specs.Subsystem.{Mounted, new_calls, unfailing, newly_mounted, mounted_in, put_in, with_calls}
-use Rattle.subsystem_laws.specs.Comes.{subsystem_of}
-use Rattle.subsystem_laws.specs.Stood.{opened}
-use Rattle.subsystem_laws.specs.WholeComes.{IsWhatCame}
-use Rattle.subsystem_laws.specs.WholeStood.{Stood, stood_in, put_at, with_volume, IsMounted, is_mounted, AreMounted, HaveChains}
+use Rattle.subsystem_laws.specs.WholeComes.{subsystem_of, IsWhatCame}
+use Rattle.subsystem_laws.specs.WholeStood.{opened, Stood, stood_in, put_at, with_volume, IsMounted, is_mounted, AreMounted, HaveChains}
 use Rattle.subsystem_laws.proofs.WholeDeeds.{Seat, seat_of}
 use Rattle.subsystem_laws.proofs.WholeFinding.{Found, none_found, both_found, find, chain_at}
 

@@ -31,10 +31,8 @@ use Rattle.device_laws.proofs.WholePower.{power_whole}
 use Rattle.device_laws.proofs.WholeTwins.{whole_done, whole_then}
 use Rattle.subsystem_defs.specs.Happening.{Talk, told_to, held_with, mounted_behind}
 use Rattle.subsystem_defs.specs.Subsystem.{Mounted}
-use Rattle.subsystem_laws.specs.Comes.{OwnTalk}
-use Rattle.subsystem_laws.specs.Stood.{HasChain}
-use Rattle.subsystem_laws.specs.WholeComes.{outside_at, Asked}
-use Rattle.subsystem_laws.specs.WholeStood.{Stood, IsMounted, is_mounted}
+use Rattle.subsystem_laws.specs.WholeComes.{OwnTalk, outside_at, Asked}
+use Rattle.subsystem_laws.specs.WholeStood.{HasChain, Stood, IsMounted, is_mounted}
 
 -- the device is left in order, or lent, and both answer alike
 pub record LeavesSo {A : Type 0} (v w : List Track) (d : WholeDevice) (a b : A) (k : Held) : Type 0 where

@@ -30,8 +30,7 @@ use Rattle.subsystem_defs.specs.Happening.{is_lent_to, restored_in, unpaired_by,
 use Rattle.subsystem_defs.specs.Refusals as R
 use Rattle.subsystem_defs.specs.Refusals.{unpair_fault}
 use Rattle.subsystem_defs.specs.Subsystem.{Mounted, mounted_in, put_in}
-use Rattle.subsystem_laws.specs.Comes.{subsystem_of}
-use Rattle.subsystem_laws.specs.WholeComes.{IsWhatCame}
+use Rattle.subsystem_laws.specs.WholeComes.{subsystem_of, IsWhatCame}
 use Rattle.subsystem_laws.specs.WholeStood.{Stood, stood_in, put_at, lent_in, restored_at, IsMounted, is_mounted, AreMountedBy, one_more, AreMounted}
 use Rattle.subsystem_laws.proofs.WholeFinding.{Found, none_found, both_found, find}
 use Rattle.subsystem_laws.proofs.WholeLends.{first_none, where_none, is_not}

@@ -1,9 +1,9 @@
 -- What causes a check of the run of a deck.
-use Rattle.std.specs.Prelude.{◌≡◌, true, false, All, count_by}
+use Rattle.std.specs.Prelude.{◌≡◌, true, false, All, count_by, is_some}
 use Rattle.device_defs.specs.Contents.{by_plain}
 use Rattle.device_defs.specs.Excused.{count_lost}
 use Rattle.device_defs.specs.Marks.{MarksDevice}
-use Rattle.device_defs.specs.Pledge.{ends_with_data_check, was_lent}
+use Rattle.device_defs.specs.Pledge.{ends_with_data_check}
 use Rattle.device_laws.specs.Unharmed.{MarksAreGood, NothingLost, ends_with_equipment_check}
 use Rattle.subsystem_defs.specs.Lines.{Logged}
 use Rattle.subsystem_defs.specs.Promised.{misses_nothing}
@@ -16,31 +16,30 @@ HasNoDataCheck d = count_by ends_with_data_check d.history.items ≡ 0
 abbrev pub HaveNoDataCheck : Logged → Type 0
 HaveNoDataCheck x = All HasNoDataCheck (devices_of x.happened.behind)
 
--- its marks are good, unless it was lent
+-- its marks are good, unless it is lent
 abbrev pub HasGoodMarks : MarksDevice → Type 0
-HasGoodMarks d = was_lent d ≡ false → MarksAreGood by_plain d.store
+HasGoodMarks d = is_some d.store.lent ≡ false → MarksAreGood by_plain d.store
 
 abbrev pub HaveGoodMarks : Logged → Type 0
 HaveGoodMarks x = All HasGoodMarks (devices_of x.happened.behind)
 
--- none of its tracks is lost, unless it was lent, or one of its sides or the store was lost or a call failed
+-- none of its tracks is lost, unless one of its sides or the store was lost or a call failed
 abbrev pub KeepsTracks : MarksDevice → Type 0
-KeepsTracks d = was_lent d ≡ false → NothingLost d.store → count_lost d.store.lost ≡ 0
+KeepsTracks d = NothingLost d.store → count_lost d.store.lost ≡ 0
 
 abbrev pub KeepTracks : Logged → Type 0
 KeepTracks x = All KeepsTracks (devices_of x.happened.behind)
 
--- none of its programs ended with equipment check, unless it was lent, or something of it was lost or a call failed
+-- none of its programs ended with equipment check, unless something of it was lost or a call failed
 abbrev pub ChecksNothing : MarksDevice → Type 0
-ChecksNothing d =
-    was_lent d ≡ false → NothingLost d.store → d.store.counts.losses.cache ≡ 0 → count_by ends_with_equipment_check d.history.items ≡ 0
+ChecksNothing d = NothingLost d.store → d.store.counts.losses.cache ≡ 0 → count_by ends_with_equipment_check d.history.items ≡ 0
 
 abbrev pub CheckNothing : Logged → Type 0
 CheckNothing x = All ChecksNothing (devices_of x.happened.behind)
 
 -- so what is promised of a calm run holds of it
 abbrev pub MissesNothing : MarksDevice → Type 0
-MissesNothing d = was_lent d ≡ false → NothingLost d.store → d.store.counts.losses.cache ≡ 0 → misses_nothing d ≡ true
+MissesNothing d = NothingLost d.store → d.store.counts.losses.cache ≡ 0 → misses_nothing d ≡ true
 
 abbrev pub MissNothing : Logged → Type 0
 MissNothing x = All MissesNothing (devices_of x.happened.behind)

@@ -1,8 +1,7 @@
-pub mod Stood
-pub mod Comes
 pub mod Served
 pub mod Causes
 pub mod WholeStood
 pub mod WholeComes
 pub mod SlotsApart
 pub mod AllSound
+pub mod Waits

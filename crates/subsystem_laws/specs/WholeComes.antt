@@ -1,6 +1,9 @@
 -- What an event comes to, where the pool is told and memory is had; and the run's events one after another.
 use Rattle.std.specs.Prelude.{◌≡◌, ℕ, true, List, [], ◌∷◌, Some, None}
+use Rattle.nv_store.specs.declared.patches.Stored.{Stored}
+use Rattle.track_cache.specs.declared.frames.Frame.{Frame}
 use Rattle.track_image.specs.Image.{Image}
+use Rattle.device_outside.specs.Interaction.{Interaction}
 use Rattle.device_outside.specs.Keeper.{Hearing}
 use Rattle.device_outside.specs.Outside.{PortView, Outside, Ran}
 use Rattle.device_outside.specs.Pool.{Pool, counted_slots}
@@ -10,11 +13,16 @@ use Rattle.device_laws.specs.Whole.{WholeDevice}
 use Rattle.subsystem_defs.specs.declared.end.EventEnd.{EventEnd}
 use Rattle.subsystem_defs.specs.declared.end.EventEnd.TheVariants.{Done}
 use Rattle.subsystem_defs.specs.declared.event.Event.{Event}
-use Rattle.subsystem_defs.specs.Deeds.{Ends, Becomes, Asks, Each, Repairs, Lends, deed}
-use Rattle.subsystem_defs.specs.Happening.{Happened}
-use Rattle.subsystem_defs.specs.Subsystem.{Subsystem}
-use Rattle.subsystem_laws.specs.Comes.{OwnDeed, OwnTalk, behind_all, ends_of_all}
+use Rattle.subsystem_defs.specs.Deeds.{Deed, Ends, Becomes, Asks, Each, Repairs, Lends, deed}
+use Rattle.subsystem_defs.specs.Happening.{Happened, happens}
+use Rattle.subsystem_defs.specs.Subsystem.{Subsystem, Mounted}
 use Rattle.subsystem_laws.specs.WholeStood.{Stood, devices_at, stood_in, put_at, AreMounted, HaveChains}
+
+abbrev pub OwnDeed : Type 0
+OwnDeed = Deed Frame Stored Image (List ℕ)
+
+abbrev pub OwnTalk : Type 0 → Type 0
+OwnTalk A = Interaction (List ℕ) Image WholeDevice A
 
 abbrev pub outside_at : {K : Type 0} → PortView → Stood → K → Outside (List ℕ) K
 outside_at port x keeper = record { port = port; a = x.a; b = x.b; keeper = keeper }
@@ -78,13 +86,27 @@ module _ {K : Type 0} (hears : Hearing Image K) where
     next_event : {e : Event} {es : List Event} {end : EventEnd} {ends : List EventEnd} {pool between last : Pool} {xs ys zs : List Stood} →
         HaveChains xs → Comes e pool xs end between ys → Runs es between ys ends last zs → Runs (e ∷ es) pool xs (end ∷ ends) last zs
 
+-- the subsystem of a run
+abbrev pub subsystem_of : Pool → List Mounted → Subsystem
+subsystem_of pool ms = record { pool = counted_slots pool; mounted = ms }
+
 -- what happens in a run is what came: it ends so, and leaves what a run has mounted for what is left
 pub record IsWhatCame (o : Happened) (end : EventEnd) (pool : Pool) (xs : List Stood) : Type 0 where
   pub ended : o.end ≡ end
   pub left : o.behind.pool ≡ counted_slots pool
   pub mounted : AreMounted pool xs o.behind.mounted
 
--- and so it is for a run's events
+-- A run's events
+
+abbrev pub behind_all : Subsystem → List Event → Subsystem
+behind_all s [] = s
+behind_all s (e ∷ es) = behind_all (happens s e).behind es
+
+abbrev pub ends_of_all : Subsystem → List Event → List EventEnd
+ends_of_all s [] = []
+ends_of_all s (e ∷ es) = (happens s e).end ∷ ends_of_all (happens s e).behind es
+
+-- and so it is for them
 pub record AreWhatCame (s : Subsystem) (es : List Event) (ends : List EventEnd) (pool : Pool) (xs : List Stood) : Type 0 where
   pub ended : ends_of_all s es ≡ ends
   pub left : (behind_all s es).pool ≡ counted_slots pool

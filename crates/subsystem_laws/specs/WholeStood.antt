@@ -1,8 +1,13 @@
 -- Devices with what their volumes tell, beside what a run has mounted for them. Of the slots in use each device has its own.
 use Rattle.std.specs.Prelude.{◌≡◌, ℕ, ◌==◌, true, false, List, [], ◌∷◌, ◌++◌, Option, Some, None, map, if◌then◌else◌}
+use Rattle.ckd_types.specs.declared.geometry.Geometry.{Geometry}
 use Rattle.ckd_types.specs.declared.paths.Side.{Side}
 use Rattle.ckd_types.specs.declared.paths.Side.TheVariants.{A, B}
 use Rattle.ckd_types.specs.declared.record.Track.{Track}
+use Rattle.ckd_chain.specs.State.{ChainState}
+use Rattle.plain_defs.specs.History.{no_history}
+use Rattle.plain_defs.specs.Journal.{Plans}
+use Rattle.plain_defs.specs.PlainState.{fresh_paths}
 use Rattle.device_outside.specs.Both.{SideTold}
 use Rattle.device_outside.specs.Lists.{is_in}
 use Rattle.device_outside.specs.Pool.{Pool}
@@ -11,10 +16,11 @@ use Rattle.device_outside.specs.Volume.{VolumeView}
 use Rattle.device_defs.specs.Orders.{restore}
 use Rattle.device_laws.specs.Agrees.{Held}
 use Rattle.device_laws.specs.Lent.{Stands}
+use Rattle.device_laws.specs.NewDevice.{new_contents}
+use Rattle.device_laws.specs.Standing.{RunsOn}
 use Rattle.device_laws.specs.Whole.{WholeDevice, marks_device}
 use Rattle.subsystem_defs.specs.Happening.{is_lent_to}
 use Rattle.subsystem_defs.specs.Subsystem.{Mounted}
-use Rattle.subsystem_laws.specs.Stood.{HasChain}
 
 -- a device, and what the volume of each side tells, where there is one
 pub record Stood : Type 0 where
@@ -71,6 +77,20 @@ pub data AreMountedBy (used : List ℕ) : List ℕ → List Stood → List Mount
 abbrev pub AreMounted : Pool → List Stood → List Mounted → Type 0
 AreMounted pool xs ms = AreMountedBy pool.used [] xs ms
 
+-- the chain that runs is one of its device
+abbrev pub HasChain : WholeDevice → Type 0
+HasChain d = (chain : ChainState) → d.chain ≡ Some chain → RunsOn d.store.cylinders d.store.geometry chain
+
 abbrev pub HaveChains : List Stood → Type 0
 HaveChains [] = Unit {0}
 HaveChains (x ∷ xs) = HasChain x.device × HaveChains xs
+
+-- a new device on one volume of empty tracks, with an empty place for each track
+abbrev pub opened : ℕ → Geometry → ℕ → Plans → WholeDevice
+opened d g cylinders plans = record {
+  store = new_contents d g cylinders;
+  paths = fresh_paths;
+  plans = plans;
+  history = no_history;
+  chain = None;
+}

@@ -12,19 +12,17 @@ pub fn run_has_no_data_check()
     ensures { (deck : DeckLines) → All HaveNoDataCheck (run_of deck).events }
 {}
 
-/// Behind every event each device that was never lent has good marks, whatever calls fail and whatever is lost.
+/// Behind every event each device that isn't lent has good marks, whatever calls fail and whatever is lost.
 pub fn run_has_good_marks()
     ensures { (deck : DeckLines) → IsServedDeck deck → All HaveGoodMarks (run_of deck).events }
 {}
 
-/// Behind every event no track is lost of a device that was never lent, while none of its sides and not the store was lost and no call
-/// failed.
+/// Behind every event no track is lost of a device, while none of its sides and not the store was lost and no call failed.
 pub fn run_loses_no_track()
     ensures { (deck : DeckLines) → IsServedDeck deck → All KeepTracks (run_of deck).events }
 {}
 
-/// No command ends with equipment check on a device that was never lent, while nothing of it was lost, cache and power among it, and no
-/// call failed.
+/// No command ends with equipment check on a device, while nothing of it was lost, cache and power among it, and no call failed.
 pub fn run_checks_nothing()
     ensures { (deck : DeckLines) → IsServedDeck deck → All CheckNothing (run_of deck).events }
 {}

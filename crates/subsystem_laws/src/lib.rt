@@ -3,7 +3,6 @@
 
 mod causes;
 mod plain;
-mod runs;
 mod standing;
 mod whole;
 
@@ -12,9 +11,6 @@ pub use causes::{
     run_loses_no_track, run_misses_nothing,
 };
 pub use plain::{read_run_is_plain, run_is_plain};
-pub use runs::{
-    event_is_what_happens, events_are_what_happens, new_device_is_mounted, replaced_is_what_happens,
-};
 pub use standing::{devices_are_sound, slots_are_apart};
 pub use whole::{
     whole_device_is_mounted, whole_event_is_what_happens, whole_events_are_what_happens,

@@ -18,10 +18,8 @@ ghost use Rattle.subsystem_defs.specs.declared.event.Event.{Event};
 ghost use Rattle.subsystem_defs.specs.Happening.{happens, replaced, unpaired};
 ghost use Rattle.subsystem_defs.specs.Refusals.{replace_fault, unpair_fault};
 ghost use Rattle.subsystem_defs.specs.Subsystem.{Mounted, new_calls, newly_mounted};
-ghost use Rattle.subsystem_laws.specs.Comes.{subsystem_of};
-ghost use Rattle.subsystem_laws.specs.Stood.{opened};
-ghost use Rattle.subsystem_laws.specs.WholeComes.{Comes, Runs, IsWhatCame, AreWhatCame};
-ghost use Rattle.subsystem_laws.specs.WholeStood.{Stood, stood_in, put_at, with_volume, lent_in, restored_at, IsMounted, AreMounted, HaveChains};
+ghost use Rattle.subsystem_laws.specs.WholeComes.{subsystem_of, Comes, Runs, IsWhatCame, AreWhatCame};
+ghost use Rattle.subsystem_laws.specs.WholeStood.{opened, Stood, stood_in, put_at, with_volume, lent_in, restored_at, IsMounted, AreMounted, HaveChains};
 
 use device_outside::Keep;
 use track_image::TrackImage;
