@@ -16,6 +16,8 @@ pub mod RunLines
 pub mod WaitingSum
 pub mod Waiting
 pub mod WholeSlots
+pub mod SlotsApart
+pub mod AllSound
 pub mod WholeFinding
 pub mod WholeTalks
 pub mod WholeDeeds

@@ -459,3 +459,10 @@ unfolding D.run_asked
 run_plainly deck h =
     logs_all (opened deck) (run_lines (map asked_by deck.events) (opened deck))
     (lines_plain deck.events (opened deck) h.events (opened_plain deck deck.devices h.devices))
+
+-- and behind the last one
+pub plain_behind : (deck : DeckLines) → IsServedDeck deck → ArePlain (run_of deck).behind.mounted
+unfolding D.run_asked
+plain_behind deck h =
+    logs_end (opened deck) (run_lines (map asked_by deck.events) (opened deck))
+    (lines_plain deck.events (opened deck) h.events (opened_plain deck deck.devices h.devices))

@@ -22,10 +22,10 @@ unfolding L.is_in
 in_none k e = cc
 
 module _ (k : ℕ) (xs ys : List ℕ) where
-  in_left : is_in k xs ≡ true → is_in k (xs ++ ys) ≡ true
+  pub in_left : is_in k xs ≡ true → is_in k (xs ++ ys) ≡ true
   in_left e = in_both k xs ys ∙ ap (λ (b : Bool). cond b true (is_in k ys)) e
 
-  in_right : is_in k ys ≡ true → is_in k (xs ++ ys) ≡ true
+  pub in_right : is_in k ys ≡ true → is_in k (xs ++ ys) ≡ true
   in_right e = in_both k xs ys ∙ by_left (is_in k xs) (is_in k ys) e
     where
       by_left : (b c : Bool) → c ≡ true → cond b true c ≡ true
@@ -39,14 +39,14 @@ module _ (k : ℕ) (xs ys : List ℕ) where
       by_left true e f = inl e
       by_left false e f = inr f
 
-  out_left : is_in k (xs ++ ys) ≡ false → is_in k xs ≡ false
+  pub out_left : is_in k (xs ++ ys) ≡ false → is_in k xs ≡ false
   out_left e = by_left (is_in k xs) (is_in k ys) (sym (in_both k xs ys) ∙ e)
     where
       by_left : (b c : Bool) → cond b true c ≡ false → b ≡ false
       by_left true c e = absurd (cc)
       by_left false c e = refl
 
-  out_right : is_in k (xs ++ ys) ≡ false → is_in k ys ≡ false
+  pub out_right : is_in k (xs ++ ys) ≡ false → is_in k ys ≡ false
   out_right e = by_left (is_in k xs) (is_in k ys) (sym (in_both k xs ys) ∙ e)
     where
       by_left : (b c : Bool) → cond b true c ≡ false → c ≡ false
@@ -64,12 +64,12 @@ out_by k xs f = by_case (is_in k xs) refl
     by_case true e = absurd (f e)
     by_case false e = refl
 
-not_both : (k : ℕ) (xs : List ℕ) → is_in k xs ≡ true → is_in k xs ≡ false → ⊥
+pub not_both : (k : ℕ) (xs : List ℕ) → is_in k xs ≡ true → is_in k xs ≡ false → ⊥
 not_both k xs e f = cc
 
 -- The slots of all
 
-pub slots_of : {used taken : List ℕ} {xs : List Stood} {ms : List Mounted} → AreMountedBy used taken xs ms → List ℕ
+unfoldable pub slots_of : {used taken : List ℕ} {xs : List Stood} {ms : List Mounted} → AreMountedBy used taken xs ms → List ℕ
 slots_of (no_more f) = []
 slots_of (one_more mine is apart rest) = mine ++ slots_of rest
 
@@ -77,7 +77,7 @@ all_used : {used taken : List ℕ} {xs : List Stood} {ms : List Mounted} → Are
 all_used (no_more f) k e = f k e
 all_used {taken = taken} (one_more mine is apart rest) k e = all_used rest k (in_right k mine taken e)
 
-theirs_used : {used taken : List ℕ} {xs : List Stood} {ms : List Mounted} (s : AreMountedBy used taken xs ms) (k : ℕ) → is_in k (slots_of s) ≡ true →
+pub theirs_used : {used taken : List ℕ} {xs : List Stood} {ms : List Mounted} (s : AreMountedBy used taken xs ms) (k : ℕ) → is_in k (slots_of s) ≡ true →
     is_in k used ≡ true
 unfolding slots_of
 theirs_used (no_more f) k e = absurd (in_none k e)
@@ -87,7 +87,7 @@ theirs_used {used = used} {taken = taken} (one_more mine is apart rest) k e = by
     by_place (inl own) f = all_used rest k (in_left k mine taken own)
     by_place (inr other) f = f other
 
-theirs_apart : {used taken : List ℕ} {xs : List Stood} {ms : List Mounted} (s : AreMountedBy used taken xs ms) (k : ℕ) → is_in k (slots_of s) ≡ true →
+pub theirs_apart : {used taken : List ℕ} {xs : List Stood} {ms : List Mounted} (s : AreMountedBy used taken xs ms) (k : ℕ) → is_in k (slots_of s) ≡ true →
     is_in k taken ≡ false
 unfolding slots_of
 theirs_apart (no_more f) k e = absurd (in_none k e)

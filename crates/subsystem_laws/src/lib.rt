@@ -4,6 +4,7 @@
 mod causes;
 mod plain;
 mod waits;
+mod standing;
 mod whole;
 
 pub use causes::{
@@ -12,6 +13,7 @@ pub use causes::{
 };
 pub use plain::{read_run_is_plain, run_is_plain};
 pub use waits::{read_repairs_count_waiting, repairs_count_waiting};
+pub use standing::{devices_are_sound, slots_are_apart};
 pub use whole::{
     whole_device_is_mounted, whole_event_is_what_happens, whole_events_are_what_happens,
     whole_replaced_is_what_happens, whole_unpaired_is_what_happens,

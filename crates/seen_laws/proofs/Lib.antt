@@ -1,0 +1,6 @@
+mod RanParts
+mod Looks
+mod Walks
+mod Commands
+mod Rows
+mod Seconds

@@ -1,0 +1,272 @@
+-- What the image of a track is: the one in its frame, or that of the bytes of a level side.
+use Rattle.std.proofs.Common.{◌≡◌, ◌⊎◌, ℕ, Bool, true, false, List, Option, Some, None, refl, ap, subst, ◌∙◌, inl, inr}
+use Rattle.std.specs.Prelude.{if◌then◌else◌}
+use Rattle.ckd_types.specs.declared.parameters.Mode.{Mode}
+use Rattle.ckd_types.specs.declared.paths.Side.{Side}
+use Rattle.ckd_types.specs.declared.paths.Side.TheVariants.{A, B}
+use Rattle.ckd_types.specs.Parameters.{is_bypass}
+use Rattle.track_cache.specs.declared.frames.Frame.{Frame}
+use Rattle.track_image.specs.Image.{Image}
+use Rattle.device_outside.specs.Interaction.{Done, Ask}
+use Rattle.device_outside.specs.Keeper.{Hearing}
+use Rattle.device_outside.specs.Outside.{ByPool, Outside, view_of, with_view, Ran, done, tried, asked, read}
+use Rattle.device_outside.specs.Pool as P
+use Rattle.device_outside.specs.Pool.{Pool, Touch, WantFrame, is_listed}
+use Rattle.device_outside.specs.Volume.{VolumeView, ReadOf}
+use Rattle.device_defs.specs.declared.usage.Usage.{Usage}
+use Rattle.device_defs.specs.Contents.{contents}
+use Rattle.device_defs.specs.Image as I
+use Rattle.device_defs.specs.Image.{
+  Got,
+  got,
+  Imaged,
+  Has,
+  first_fault,
+  read_counted,
+  ahead,
+  loads,
+  read_side,
+  second_read,
+  read_b,
+  first_read,
+  level_bytes,
+  image_of,
+  filled,
+  granted,
+  loaded,
+  delivered,
+  missed,
+  miss,
+  hit,
+  clean_image,
+  image_by,
+  image,
+}
+use Rattle.device_defs.specs.Losses.{call_failed}
+use Rattle.device_defs.specs.Memory.{tried as or_none}
+use Rattle.device_defs.specs.Sound.{DeviceStore}
+use Rattle.device_defs.specs.Store.{level_at, frame_at, with_frame}
+use Rattle.device_laws.proofs.QuietParts.{Quiet, quiet_done, quiet_try, quiet_ask, quiet_then, quiet_if}
+use Rattle.device_laws.proofs.ReadMoves.{filled_quiet}
+use Rattle.seen_laws.specs.Seen as seen
+use Rattle.seen_laws.specs.Seen.{NotCalled, LastOf, Saw}
+use Rattle.seen_laws.proofs.RanParts.{split, quiet_ran, same_calls}
+
+granted_quiet : (s : DeviceStore) (t : ℕ) (i : Image) (given : Bool) → Quiet (granted contents s t i given)
+granted_quiet s t i true = quiet_then (λ z _. Done z _) (filled_quiet contents s t i) (λ z _. quiet_done)
+granted_quiet s t i false = quiet_done
+
+loaded_quiet : (s : DeviceStore) (t : ℕ) (i : Image) (mode : Mode) → Quiet (loaded contents s t i mode)
+loaded_quiet s t i mode =
+    quiet_if (loads mode) (quiet_try (λ ok. quiet_if ok (quiet_ask (λ given. granted_quiet s t i given)) quiet_done)) quiet_done
+
+module _ {K : Type 0} (had : Bool → Type 0) (hears : Hearing Image K) where
+  abbrev Calls : Type 0
+  Calls = Outside (List ℕ) K
+
+  viewed : (w : Calls) (side : Side) (v : VolumeView (List ℕ)) → view_of (with_view w side v) side ≡ Some v
+  viewed w A v = refl
+  viewed w B v = refl
+
+  -- a read that doesn't fail
+  read_last : (w : Calls) (side : Side) (t : ℕ) (old new : VolumeView (List ℕ)) (r : List ℕ) → ReadOf old t (Some r) new → LastOf (with_view w side new) side r
+  read_last w side t old new r of =
+      record { view = new; is = viewed w side new; delivered = ap (λ (v : VolumeView (List ℕ)). v.delivered) of.after }
+
+  -- the bytes that a run gave are those that its side delivered last
+  abbrev Delivered : Got (List ℕ) → Calls → Type 0
+  Delivered g z = (r : List ℕ) → g.bytes ≡ Some r → LastOf z g.side r
+
+  no_bytes : (side : Side) (fault : Option Side) (z : Calls) → Delivered (got side None fault) z
+  no_bytes side fault z r e = absurd (cc)
+
+  some_bytes : (side : Side) (r : List ℕ) (fault : Option Side) (z : Calls) → LastOf z side r → Delivered (got side (Some r) fault) z
+  some_bytes side r fault z last q e = let same : r ≡ q = cc in subst (LastOf z side) same last
+
+  none_behind : {y e : DeviceStore} {f : Option Side} {v z : Calls} {g : Got (List ℕ)} → Ran had hears (Done y (got B None f)) v e g z → Delivered g z
+  none_behind {f = f} {z = z} done = no_bytes B f z
+
+  from_b : (t : ℕ) (fault : Option Side) (s : DeviceStore) (b : Bool) {u z : Calls} {e : DeviceStore} {g : Got (List ℕ)} →
+      Ran had hears (if b then read_side contents s B t (second_read contents fault) else Done s (got B None fault)) u e g z → Delivered g z
+  from_b t fault s true {u = w} (read {got = Some r} {v = v} {u = u} is of done) = some_bytes B r fault (with_view w B u) (read_last w B t v u r of)
+  from_b t fault s true (read {got = None} is of r) =
+      let x = split (call_failed contents (read_counted s false) B None) (λ z _. Done z (got B None (Some (first_fault fault B)))) r in
+      none_behind x.rest
+  from_b t fault s false {z = z} done = no_bytes B fault z
+
+  from_a : (t : ℕ) (s : DeviceStore) (b : Bool) {u z : Calls} {e : DeviceStore} {g : Got (List ℕ)} →
+      Ran had hears (if b then read_side contents s A t (first_read contents t) else read_b contents s t None) u e g z → Delivered g z
+  from_a t s true {u = w} (read {got = Some r} {v = v} {u = u} is of done) = some_bytes A r None (with_view w A u) (read_last w A t v u r of)
+  from_a t s true (read {got = None} is of r) =
+      let x = split (call_failed contents (read_counted s false) A None) (λ z _. read_b contents z t (Some A)) r in
+      from_b t (Some A) x.state (level_at x.state.b t) x.rest
+  from_a t s false r = from_b t None s (level_at s.b t) r
+
+  pub bytes_are_last : (s : DeviceStore) (t : ℕ) {u z : Calls} {e : DeviceStore} {g : Got (List ℕ)} → Ran had hears (level_bytes contents s t) u e g z →
+      Delivered g z
+  unfolding I.level_bytes
+  bytes_are_last s t r = from_a t s (level_at s.a t) r
+
+  -- A track that is loaded is answered as it was read
+
+  done_has : {s e : DeviceStore} {u z : Calls} {i j : Image} → Ran had hears (Done s (Some (Has i))) u e (Some (Has j)) z → i ≡ j
+  done_has done = refl
+
+  none_has : {s e : DeviceStore} {u z : Calls} {j : Image} → Ran had hears (Done s None) u e (Some (Has j)) z → ⊥
+  none_has r = elim r [ ]
+
+  granted_has : (s : DeviceStore) (t : ℕ) (i : Image) (given : Bool) {u z : Calls} {e : DeviceStore} {j : Image} →
+      Ran had hears (granted contents s t i given) u e (Some (Has j)) z → i ≡ j
+  granted_has s t i true r = done_has (split (filled contents s t i) (λ z _. Done z (Some (Has i))) r).rest
+  granted_has s t i false r = done_has r
+
+  wanted_has : (s : DeviceStore) (t : ℕ) (i : Image) (ok : Bool) {u z : Calls} {e : DeviceStore} {j : Image} →
+      Ran had hears (if ok then Ask (WantFrame s.device t) (granted contents s t i) else Done s None) u e (Some (Has j)) z → i ≡ j
+  wanted_has s t i true (asked {a = given} says r) = granted_has s t i given r
+  wanted_has s t i false r = absurd (none_has r)
+
+  loaded_has : (s : DeviceStore) (t : ℕ) (i : Image) (b : Bool) {u z : Calls} {e : DeviceStore} {j : Image} →
+      Ran had hears (if b then or_none s (Ask (WantFrame s.device t) (granted contents s t i)) else Done s (Some (Has i))) u e (Some (Has j)) z → i ≡ j
+  loaded_has s t i true (tried ok m r) = wanted_has s t i ok r
+  loaded_has s t i false r = done_has r
+
+  -- Misses
+
+  module _ (usage : Usage) (t : ℕ) where
+    -- behind the read
+    record Read (y : DeviceStore) (g : Got (List ℕ)) (u : Calls) (i : Image) (z : Calls) : Type 0 where
+      bytes : List ℕ
+      are : g.bytes ≡ Some bytes
+      image : image_of contents y t bytes ≡ Some i
+      quiet : NotCalled u z
+
+    delivered_read : (y : DeviceStore) (g : Got (List ℕ)) (r : List ℕ) → g.bytes ≡ Some r → (o : Option Image) → image_of contents y t r ≡ o →
+        {u z : Calls} {e : DeviceStore} {i : Image} → Ran had hears (delivered contents usage t g.side y o) u e (Some (Has i)) z → Read y g u i z
+    delivered_read y g r is None im x = elim x [ ]
+    delivered_read y g r is (Some j) im {i = i} x = record {
+      bytes = r;
+      are = is;
+      image = im ∙ ap Some (loaded_has (ahead usage y t) t j (loads usage.mode) x);
+      quiet = quiet_ran (loaded_quiet (ahead usage y t) t j usage.mode) x;
+    }
+
+    had_read : (y : DeviceStore) (g : Got (List ℕ)) (r : List ℕ) → g.bytes ≡ Some r → (ok : Bool) → {u z : Calls} {e : DeviceStore} {i : Image} →
+        Ran had hears (if ok then delivered contents usage t g.side y (image_of contents y t r) else Done y None) u e (Some (Has i)) z → Read y g u i z
+    had_read y g r is true x = delivered_read y g r is (image_of contents y t r) refl x
+    had_read y g r is false x = absurd (none_has x)
+
+    missed_read : (y : DeviceStore) (g : Got (List ℕ)) (o : Option (List ℕ)) → g.bytes ≡ o → {u z : Calls} {e : DeviceStore} {i : Image} →
+        Ran had hears (missed contents usage t y g o) u e (Some (Has i)) z → Read y g u i z
+    missed_read y g None is x = elim x [ ]
+    missed_read y g (Some r) is (tried ok m x) = had_read y g r is ok x
+
+    miss_saw : (s x : DeviceStore) → (x ≡ s) ⊎ (x ≡ with_frame s t None) → {u v z : Calls} {e : DeviceStore} {i : Image} → NotCalled u v →
+        Ran had hears (miss contents x usage t) v e (Some (Has i)) z → Saw had hears s t u i e z
+    miss_saw s x from {v = v} quiet r =
+        let y = split (level_bytes contents x t) (λ z g. missed contents usage t z g g.bytes) r in
+        let read = missed_read y.state y.answer y.answer.bytes refl y.rest in
+        seen.missed x y.state v y.outside y.answer.side read.bytes y.answer.fault from quiet
+        (subst (λ (o : Option (List ℕ)). Ran had hears (level_bytes contents x t) v y.state (got y.answer.side o y.answer.fault) y.outside) read.are y.first)
+        (bytes_are_last x t y.first read.bytes read.are) read.image read.quiet
+
+    -- Hits
+
+    hit_saw : (s : DeviceStore) (f : Frame) → frame_at s t ≡ Some f → {u v z : Calls} {e : DeviceStore} {i : Image} → NotCalled u v →
+        Ran had hears (hit contents s t f) v e (Some (Has i)) z → Saw had hears s t u i e z
+    hit_saw s f is quiet done = seen.hit f is refl quiet
+
+    touched_saw : (s : DeviceStore) (f : Frame) → frame_at s t ≡ Some f → (listed : Bool) {u v z : Calls} {e : DeviceStore} {i : Image} → NotCalled u v →
+        Ran had hears (if listed then hit contents s t f else miss contents (with_frame s t None) usage t) v e (Some (Has i)) z → Saw had hears s t u i e z
+    touched_saw s f is true quiet r = hit_saw s f is quiet r
+    touched_saw s f is false quiet r = miss_saw s (with_frame s t None) (inr refl) quiet r
+
+    no_call : (u : Calls) → NotCalled u u
+    no_call u = record { a = refl; b = refl }
+
+    clean_saw : (s : DeviceStore) (f : Frame) → frame_at s t ≡ Some f → (bypass : Bool) {u z : Calls} {e : DeviceStore} {i : Image} →
+        Ran had hears (if bypass then miss contents s usage t
+        else Ask (Touch s.device t) (λ listed. if listed then hit contents s t f else miss contents (with_frame s t None) usage t)) u e (Some (Has i)) z →
+        Saw had hears s t u i e z
+    clean_saw s f is true {u = u} r = miss_saw s s (inl refl) (no_call u) r
+    clean_saw s f is false (asked {a = listed} says r) = touched_saw s f is listed (record { a = refl; b = refl }) r
+
+    framed_saw : (s : DeviceStore) (f : Frame) → frame_at s t ≡ Some f → (modified : Bool) {u z : Calls} {e : DeviceStore} {i : Image} →
+        Ran had hears (if modified then hit contents s t f else clean_image contents s usage t f) u e (Some (Has i)) z → Saw had hears s t u i e z
+    framed_saw s f is true {u = u} r = hit_saw s f is (no_call u) r
+    framed_saw s f is false r = clean_saw s f is (is_bypass usage.mode) r
+
+    by_frame : (s : DeviceStore) (o : Option Frame) → frame_at s t ≡ o → {u z : Calls} {e : DeviceStore} {i : Image} →
+        Ran had hears (image_by contents s usage t o) u e (Some (Has i)) z → Saw had hears s t u i e z
+    by_frame s None is {u = u} r = miss_saw s s (inl refl) (no_call u) r
+    by_frame s (Some f) is r = framed_saw s f is f.modified r
+
+    pub image_saw : (s : DeviceStore) {u z : Calls} {e : DeviceStore} {i : Image} → Ran had hears (image contents s usage t) u e (Some (Has i)) z →
+        Saw had hears s t u i e z
+    unfolding I.image
+    image_saw s r = by_frame s (frame_at s t) refl r
+
+    -- a frame that counts is a hit, whatever comes
+
+    hit_quiet : (s : DeviceStore) (f : Frame) {u z : Calls} {e : DeviceStore} {a : Option Imaged} → Ran had hears (hit contents s t f) u e a z →
+        NotCalled u z × (a ≡ Some (Has f.image))
+    hit_quiet s f done = (record { a = refl; b = refl }, refl)
+
+    modified_quiet : (s : DeviceStore) (f : Frame) (m : Bool) → m ≡ true → {u z : Calls} {e : DeviceStore} {a : Option Imaged} →
+        Ran had hears (if m then hit contents s t f else clean_image contents s usage t f) u e a z → NotCalled u z × (a ≡ Some (Has f.image))
+    modified_quiet s f true is r = hit_quiet s f r
+    modified_quiet s f false is r = absurd (cc)
+
+    framed_quiet : (s : DeviceStore) (f : Frame) (o : Option Frame) → o ≡ Some f → f.modified ≡ true → {u z : Calls} {e : DeviceStore} {a : Option Imaged} →
+        Ran had hears (image_by contents s usage t o) u e a z → NotCalled u z × (a ≡ Some (Has f.image))
+    framed_quiet s f None e is r = absurd (cc)
+    framed_quiet s f (Some g) e is {u = u} {z = z} {a = a} r =
+        let same : g ≡ f = cc in
+        subst (λ (x : Frame). NotCalled u z × (a ≡ Some (Has x.image))) same
+        (modified_quiet s g g.modified (ap (λ (x : Frame). x.modified) same ∙ is) r)
+
+    pub modified_is_hit : (s : DeviceStore) (f : Frame) → frame_at s t ≡ Some f → f.modified ≡ true → {u z : Calls} {e : DeviceStore} {a : Option Imaged} →
+        Ran had hears (image contents s usage t) u e a z → NotCalled u z × (a ≡ Some (Has f.image))
+    unfolding I.image
+    modified_is_hit s f e is r = framed_quiet s f (frame_at s t) e is r
+
+    listed_quiet : (s : DeviceStore) (f : Frame) (listed : Bool) → listed ≡ true → {u v z : Calls} {e : DeviceStore} {a : Option Imaged} → NotCalled u v →
+        Ran had hears (if listed then hit contents s t f else miss contents (with_frame s t None) usage t) v e a z →
+        NotCalled u z × (a ≡ Some (Has f.image))
+    listed_quiet s f true is quiet r = let y = hit_quiet s f r in (same_calls quiet y.0, y.1)
+    listed_quiet s f false is quiet r = absurd (cc)
+
+    touched_is : (p : Pool) (d : ℕ) (o new : Option Pool) (a : Bool) → o ≡ Some p → ByPool o (Touch d t) a new → is_listed p.frames d t ≡ true → a ≡ true
+    unfolding P.answer
+    touched_is p d None new a is by listed = absurd (cc)
+    touched_is p d (Some q) new a is by listed =
+        let same : q ≡ p = cc in by.0.same ∙ ap (λ (x : Pool). is_listed x.frames d t) same ∙ listed
+
+    touch_quiet : (s : DeviceStore) (f : Frame) (p : Pool) (b : Bool) → b ≡ false → is_listed p.frames s.device t ≡ true →
+        {u z : Calls} {e : DeviceStore} {a : Option Imaged} → u.port.pool ≡ Some p →
+        Ran had hears (if b then miss contents s usage t
+        else Ask (Touch s.device t) (λ listed. if listed then hit contents s t f else miss contents (with_frame s t None) usage t)) u e a z →
+        NotCalled u z × (a ≡ Some (Has f.image))
+    touch_quiet s f p true is listed told r = absurd (cc)
+    touch_quiet s f p false is listed {u = u} told (asked {a = a} {p = new} says r) =
+        listed_quiet s f a (touched_is p s.device u.port.pool new.pool a told says.by_pool listed) (record { a = refl; b = refl }) r
+
+    by_mark : (s : DeviceStore) (f : Frame) (p : Pool) (m : Bool) → m ≡ false → is_bypass usage.mode ≡ false → is_listed p.frames s.device t ≡ true →
+        {u z : Calls} {e : DeviceStore} {a : Option Imaged} → u.port.pool ≡ Some p →
+        Ran had hears (if m then hit contents s t f else clean_image contents s usage t f) u e a z → NotCalled u z × (a ≡ Some (Has f.image))
+    by_mark s f p true is unpassed listed told r = absurd (cc)
+    by_mark s f p false is unpassed listed told r = touch_quiet s f p (is_bypass usage.mode) unpassed listed told r
+
+    clean_quiet : (s : DeviceStore) (f : Frame) (o : Option Frame) → o ≡ Some f → f.modified ≡ false → is_bypass usage.mode ≡ false → (p : Pool) →
+        is_listed p.frames s.device t ≡ true → {u z : Calls} {e : DeviceStore} {a : Option Imaged} → u.port.pool ≡ Some p →
+        Ran had hears (image_by contents s usage t o) u e a z → NotCalled u z × (a ≡ Some (Has f.image))
+    clean_quiet s f None e clean unpassed p listed told r = absurd (cc)
+    clean_quiet s f (Some g) e clean unpassed p listed {u = u} {z = z} {a = a} told r =
+        let same : g ≡ f = cc in
+        subst (λ (x : Frame). NotCalled u z × (a ≡ Some (Has x.image))) same
+        (by_mark s g p g.modified (ap (λ (x : Frame). x.modified) same ∙ clean) unpassed listed told r)
+
+    pub clean_is_hit : (s : DeviceStore) (f : Frame) (p : Pool) → frame_at s t ≡ Some f → f.modified ≡ false → is_bypass usage.mode ≡ false →
+        is_listed p.frames s.device t ≡ true → {u z : Calls} {e : DeviceStore} {a : Option Imaged} → u.port.pool ≡ Some p →
+        Ran had hears (image contents s usage t) u e a z → NotCalled u z × (a ≡ Some (Has f.image))
+    unfolding I.image
+    clean_is_hit s f p e clean unpassed listed told r = clean_quiet s f (frame_at s t) e clean unpassed p listed told r

@@ -1,0 +1,272 @@
+-- A command that goes from track to track ends as the chain does that is fed with the images that it saw.
+use Rattle.std.proofs.Common.{◌≡◌, ℕ, zero, suc, Bool, true, false, List, [], ◌∷◌, Option, Some, None, refl, sym, ap, subst, ◌∙◌}
+use Rattle.std.specs.Prelude.{if◌then◌else◌}
+use Rattle.ckd_types.specs.declared.geometry.Geometry.{Geometry}
+use Rattle.ckd_types.specs.declared.record.Edit.{Edit}
+use Rattle.ckd_types.specs.declared.record.Track.{Track}
+use Rattle.ckd_rules.specs.declared.order.LocalAct.{LocalAct}
+use Rattle.ckd_chain.specs.declared.progress.Progress.{Progress}
+use Rattle.ckd_chain.specs.declared.progress.Progress.TheVariants as progresses
+use Rattle.ckd_chain.specs.declared.progress.Settled.{Settled}
+use Rattle.ckd_chain.specs.declared.progress.Settled.TheVariants.{Written, Equipment}
+use Rattle.ckd_chain.specs.Fed as F
+use Rattle.ckd_chain.specs.Fed.{Fed, ended_by, fed_image, fed_by, fed}
+use Rattle.ckd_chain.specs.State.{ChainState}
+use Rattle.ckd_chain.specs.Steps.{need_of, stepped, settled_by}
+use Rattle.track_image.specs.Image.{Image, edited_image}
+use Rattle.device_outside.specs.declared.port.SlotGrant.{SlotGrant}
+use Rattle.device_outside.specs.declared.port.SlotGrant.TheVariants as grants
+use Rattle.device_outside.specs.Interaction.{Done, and_then}
+use Rattle.device_outside.specs.Keeper.{Hearing}
+use Rattle.device_outside.specs.Outside.{Outside, Ran, done, tried}
+use Rattle.device_defs.specs.declared.answers.Came.TheVariants.{Checks}
+use Rattle.device_defs.specs.declared.answers.Choice.{Choice}
+use Rattle.device_defs.specs.declared.answers.Choice.TheVariants.{Provisional, Fast, Through}
+use Rattle.device_defs.specs.declared.answers.Took.{Took}
+use Rattle.device_defs.specs.declared.answers.Took.TheVariants.{Whole, Opened, Unwritten}
+use Rattle.device_defs.specs.declared.usage.Usage.{Usage}
+use Rattle.device_defs.specs.Choosing as G
+use Rattle.device_defs.specs.Choosing.{
+  choose,
+  choose_loose,
+  choose_firm,
+  fast_or_through,
+  fast_by,
+  slot_by,
+  may_be_fast,
+}
+use Rattle.device_defs.specs.Command as N
+use Rattle.device_defs.specs.Command.{Went, Over, On, came_of_write, went_by, went_on, looked, look, goes_on, follow}
+use Rattle.device_defs.specs.Contents.{contents}
+use Rattle.device_defs.specs.Editing as E
+use Rattle.device_defs.specs.Editing.{unchosen, write, write_by, write_chosen, written, is_given}
+use Rattle.device_defs.specs.Image.{Imaged, Has, NoBytes, BadTrack, image}
+use Rattle.device_defs.specs.Memory.{had_by}
+use Rattle.device_defs.specs.Outcomes.{Turn, ends_with, checks, wrote_turn, usage_of}
+use Rattle.device_defs.specs.Owed.{is_clean}
+use Rattle.device_defs.specs.Sound.{DeviceStore}
+use Rattle.device_defs.specs.Store.{frame_at, is_lost, is_loose}
+use Rattle.device_laws.specs.Feeding.{Feeds}
+use Rattle.device_laws.proofs.QuietParts.{Quiet, quiet_done, quiet_tell, quiet_ask, quiet_if, quiet_then}
+use Rattle.seen_laws.specs.Seen as seen
+use Rattle.seen_laws.specs.Seen.{NotCalled, Look, look_at, AreOf, EndsAs, is_in_cache, Saw, AllSeen, Wrote, CameAsSeen}
+use Rattle.seen_laws.proofs.RanParts.{split, quiet_ran, same_calls}
+use Rattle.seen_laws.proofs.Looks.{image_saw}
+
+-- A write
+
+module _ {K : Type 0} (had : Bool → Type 0) (hears : Hearing Image K) where
+  abbrev pub Calls : Type 0
+  Calls = Outside (List ℕ) K
+
+  no_call : (u : Calls) → NotCalled u u
+  no_call u = record { a = refl; b = refl }
+
+  module _ (usage : Usage) (first t : ℕ) (old : Image) (edit : Edit) where
+    by_quiet : (s : DeviceStore) (choice : Choice) → is_in_cache choice ≡ true →
+        Quiet {R = List ℕ} (write_by contents usage first t (edited_image edit old) edit s choice)
+    by_quiet s Provisional is = quiet_done
+    by_quiet s (Fast slot) is = quiet_tell (λ _. quiet_done)
+    by_quiet s Through is = absurd (cc)
+
+    written_quiet : (s : DeviceStore) (choice : Choice) → is_in_cache choice ≡ true → Quiet {R = List ℕ} (written contents s usage first t old edit choice)
+    written_quiet s choice is = quiet_then (λ z took. Done z (Some took)) (by_quiet s choice is) (λ z took. quiet_done)
+
+    clean_quiet : (s : DeviceStore) → Quiet {R = List ℕ} (E.clean_again contents s t)
+    clean_quiet s = quiet_if (is_clean contents (frame_at s t)) (quiet_ask (λ _. quiet_done)) quiet_done
+
+    unchosen_quiet : (s : DeviceStore) (choice : Choice) → Quiet {R = List ℕ} (unchosen contents s t choice)
+    unchosen_quiet s Provisional = clean_quiet s
+    unchosen_quiet s (Fast (Some slot)) = quiet_ask (λ _. clean_quiet s)
+    unchosen_quiet s (Fast None) = clean_quiet s
+    unchosen_quiet s Through = quiet_done
+
+    chosen_quiet : (s : DeviceStore) (choice : Choice) → is_in_cache choice ≡ true → Quiet {R = List ℕ} (write_chosen contents usage first t old edit s choice)
+    chosen_quiet s choice is =
+        quiet_if (is_given contents s choice)
+        (quiet_tell (λ ok. quiet_if ok (written_quiet s choice is) (unchosen_quiet s choice)))
+        (written_quiet s choice is)
+
+  slot_quiet : (s : DeviceStore) (t : ℕ) (grant : SlotGrant) → Quiet {R = List ℕ} (slot_by contents s t grant)
+  slot_quiet s t (grants.Given slot) = quiet_ask (λ listed. quiet_if listed quiet_done (quiet_ask (λ _. quiet_done)))
+  slot_quiet s t grants.Denied = quiet_done
+  slot_quiet s t grants.Down = quiet_done
+
+  fast_quiet : (s : DeviceStore) (t : ℕ) (patched : Bool) → Quiet {R = List ℕ} (fast_by contents s t patched)
+  fast_quiet s t true = quiet_ask (λ listed. quiet_done)
+  fast_quiet s t false = quiet_ask (λ grant. slot_quiet s t grant)
+
+  through_quiet : (s : DeviceStore) (u : Usage) (t : ℕ) → Quiet {R = List ℕ} (fast_or_through contents s u t)
+  through_quiet s u t = quiet_if (may_be_fast contents s u t) (fast_quiet s t _) quiet_done
+
+  choice_quiet : (s : DeviceStore) (u : Usage) (t : ℕ) → Quiet {R = List ℕ} (choose contents s u t)
+  unfolding G.choose
+  choice_quiet s u t =
+      quiet_if (is_loose s t)
+      (quiet_if u.provisional (quiet_ask (λ listed. quiet_done)) quiet_done)
+      (quiet_if _ (quiet_ask (λ listed. quiet_if listed quiet_done (through_quiet s u t))) (through_quiet s u t))
+
+  tried_write : (s : DeviceStore) (u : Usage) (first t : ℕ) (old : Image) (edit : Edit) (ok : Bool) {v z : Calls} {e : DeviceStore} {took : Took} →
+      Ran had hears (if ok then and_then (choose contents s u t) (write_chosen contents u first t old edit) else Done s None) v e (Some took) z →
+      Wrote had hears s v z
+  tried_write s u first t old edit true r =
+      let y = split (choose contents s u t) (write_chosen contents u first t old edit) r in
+      seen.wrote u t y.state y.outside y.answer y.first
+      (λ is. same_calls (quiet_ran (choice_quiet s u t) y.first) (quiet_ran (chosen_quiet u first t old edit y.state y.answer is) y.rest))
+  tried_write s u first t old edit false r = elim r [ ]
+
+  -- one that is fast or provisional calls no volume
+  pub write_wrote : (s : DeviceStore) (u : Usage) (first t : ℕ) (old : Image) (edit : Edit) {v z : Calls} {e : DeviceStore} {took : Took} →
+      Ran had hears (write contents s u first t old edit) v e (Some took) z → Wrote had hears s v z
+  unfolding E.write
+  write_wrote s u first t old edit (tried ok m r) = tried_write s u first t old edit ok r
+
+  -- From track to track
+
+  module _ (m : ℕ) (g : Geometry) (looks : ChainState → ℕ → Type 0) (feeds : Feeds m g looks) where
+    fed_step : (n : ℕ) (tracks : ℕ → Track) (answer : LocalAct → Settled) (chain : ChainState) (t : ℕ) (i : Image) → looks chain t →
+        i ≡ record { geometry = g; track = tracks t } →
+        fed (suc n) tracks answer chain ≡ fed_by answer (fed n tracks answer) (stepped chain (Some i)).chain (stepped chain (Some i)).progress
+    unfolding F.fed
+    fed_step n tracks answer chain t i at same =
+        let is : fed_image chain.fixed tracks (need_of chain) ≡ Some i =
+        ap (fed_image chain.fixed tracks) (feeds.needs chain t at)
+        ∙ ap (λ (x : Geometry). Some (record { geometry = x; track = tracks t })) (feeds.fixed chain t at)
+        ∙ ap Some (sym same) in
+        ap (λ (o : Option Image). fed_by answer (fed n tracks answer) (stepped chain o).chain (stepped chain o).progress) is
+
+    -- what a look at one track leads to
+    data LookedSo (chain : ChainState) (t : ℕ) (s : DeviceStore) (u : Calls) : DeviceStore → Went → Calls → Type 0 where
+      look_checks : {z : DeviceStore} {w : Calls} {turn : Turn} {e : _} → turn.came ≡ Checks e → LookedSo chain t s u z (Over turn) w
+      look_over : {z : DeviceStore} {w : Calls} {turn : Turn} (i : Image) (y : DeviceStore) (v : Calls) → Saw had hears s t u i y v → Wrote had hears y v w →
+          ((n : ℕ) (tracks : ℕ → Track) (answer : LocalAct → Settled) → i ≡ record { geometry = g; track = tracks t } →
+          EndsAs (fed (suc n) tracks answer chain) turn.chain turn.came) → LookedSo chain t s u z (Over turn) w
+      look_on : {z : DeviceStore} {w : Calls} {next : ChainState} {q : ℕ} (i : Image) → Saw had hears s t u i z w → looks next q →
+          ((n : ℕ) (tracks : ℕ → Track) (answer : LocalAct → Settled) → i ≡ record { geometry = g; track = tracks t } →
+          fed (suc n) tracks answer chain ≡ fed n tracks answer next) → LookedSo chain t s u z (On next q) w
+
+    module _ (chain : ChainState) (first t : ℕ) (at : looks chain t) where
+      -- by what came of its write
+      wrote_so : (next : ChainState) (q : ℕ) (e : Edit) (i : Image) → (stepped chain (Some i)).chain ≡ next →
+          (stepped chain (Some i)).progress ≡ progresses.Write q e → {s y z : DeviceStore} {u v w : Calls} (took : Took) → Saw had hears s t u i y v →
+          Wrote had hears y v w → LookedSo chain t s u z (Over (wrote_turn next t took)) w
+      wrote_so next q e i is p {s = s} {y = y} {z = z} {u = u} {v = v} {w = w} took saw rest = by_took took
+        where
+          step : (n : ℕ) (tracks : ℕ → Track) (answer : LocalAct → Settled) → i ≡ record { geometry = g; track = tracks t } →
+              fed (suc n) tracks answer chain ≡ ended_by next (settled_by next Written) (Some (record { track = q; edit = e }))
+          step n tracks answer same =
+              fed_step n tracks answer chain t i at same
+              ∙ ap (λ (x : Progress). fed_by answer (fed n tracks answer) (stepped chain (Some i)).chain x) p
+              ∙ ap (λ (x : ChainState). ended_by x (settled_by x Written) (Some (record { track = q; edit = e }))) is
+
+          by_took : (took : Took) → LookedSo chain t s u z (Over (wrote_turn next t took)) w
+          by_took Whole =
+              look_over i y v saw rest
+              (λ n tracks answer same. (ap (λ (x : Fed). x.end) (step n tracks answer same), ap (λ (x : Fed). x.chain) (step n tracks answer same)))
+          by_took Opened =
+              look_over i y v saw rest
+              (λ n tracks answer same. (ap (λ (x : Fed). x.end) (step n tracks answer same), ap (λ (x : Fed). x.chain) (step n tracks answer same)))
+          by_took Unwritten = look_checks refl
+
+      took_so : (next : ChainState) (q : ℕ) (e : Edit) (i : Image) → (stepped chain (Some i)).chain ≡ next →
+          (stepped chain (Some i)).progress ≡ progresses.Write q e → {s y y2 z : DeviceStore} {u v v2 w : Calls} {went : Went} (took : Took) →
+          Saw had hears s t u i y v → Wrote had hears y v v2 → Ran had hears (came_of_write contents next t y2 took) v2 z (Some went) w →
+          LookedSo chain t s u z went w
+      took_so next q e i is p took saw rest done = wrote_so next q e i is p took saw rest
+
+      answer_so : (next : ChainState) (q : ℕ) (e : Edit) (i : Image) → (stepped chain (Some i)).chain ≡ next →
+          (stepped chain (Some i)).progress ≡ progresses.Write q e → {s y y2 z : DeviceStore} {u v v2 w : Calls} {went : Went} (a : Option Took) →
+          Saw had hears s t u i y v → Ran had hears (write contents y (usage_of chain) first t i e) v y2 a v2 →
+          Ran had hears (had_by (came_of_write contents next t) y2 a) v2 z (Some went) w → LookedSo chain t s u z went w
+      answer_so next q e i is p None saw first_ran rest = elim rest [ ]
+      answer_so next q e i is p {y = y} (Some took) saw first_ran rest =
+          took_so next q e i is p took saw (write_wrote y (usage_of chain) first t i e first_ran) rest
+
+      by_progress : (next : ChainState) (p : Progress) (i : Image) → (stepped chain (Some i)).chain ≡ next → (stepped chain (Some i)).progress ≡ p →
+          {s y z : DeviceStore} {u v w : Calls} {went : Went} → Saw had hears s t u i y v →
+          Ran had hears (went_by contents (usage_of chain) first t y i next p) v z (Some went) w → LookedSo chain t s u z went w
+      by_progress next (progresses.Ended e) i is p {v = v} saw done =
+          look_over i _ _ saw (seen.no_write (no_call v)) (λ n tracks answer same. ended n tracks answer same)
+        where
+          ended : (n : ℕ) (tracks : ℕ → Track) (answer : LocalAct → Settled) → i ≡ record { geometry = g; track = tracks t } →
+              EndsAs (fed (suc n) tracks answer chain) next (ends_with next e).came
+          ended n tracks answer same =
+              let f : fed (suc n) tracks answer chain ≡ record { end = e; chain = next; edit = None } =
+              fed_step n tracks answer chain t i at same
+              ∙ ap (λ (x : Progress). fed_by answer (fed n tracks answer) (stepped chain (Some i)).chain x) p
+              ∙ ap (λ (x : ChainState). record { end = e; chain = x; edit = None }) is in
+              (ap (λ (x : Fed). x.end) f, ap (λ (x : Fed). x.chain) f)
+      by_progress next (progresses.Need q) i is p saw done =
+          look_on i saw (subst (λ (x : ChainState). looks x q) is (feeds.goes chain t i q at p))
+          (λ n tracks answer same.
+          fed_step n tracks answer chain t i at same
+          ∙ ap (λ (x : Progress). fed_by answer (fed n tracks answer) (stepped chain (Some i)).chain x) p
+          ∙ ap (fed n tracks answer) is)
+      by_progress next (progresses.Write q e) i is p {y = y} saw r =
+          let x = split (write contents y (usage_of chain) first t i e) (had_by (came_of_write contents next t)) r in
+          answer_so next q e i is p x.answer saw x.first x.rest
+      by_progress next (progresses.Local act) i is p saw done = look_checks refl
+
+      went_so : (i : Image) (ok : Bool) {s y z : DeviceStore} {u v w : Calls} {went : Went} → Saw had hears s t u i y v →
+          Ran had hears (if ok then went_by contents (usage_of chain) first t y i (stepped chain (Some i)).chain (stepped chain (Some i)).progress
+          else Done y None) v z (Some went) w → LookedSo chain t s u z went w
+      went_so i true saw r = by_progress (stepped chain (Some i)).chain (stepped chain (Some i)).progress i refl refl saw r
+      went_so i false saw r = elim r [ ]
+
+      by_image : (s y : DeviceStore) (a : Option Imaged) {z : DeviceStore} {u v w : Calls} {went : Went} →
+          Ran had hears (image contents s (usage_of chain) t) u y a v → Ran had hears (had_by (looked contents chain first t) y a) v z (Some went) w →
+          LookedSo chain t s u z went w
+      by_image s y None first_ran rest = elim rest [ ]
+      by_image s y (Some (Has i)) first_ran (tried ok m r) = went_so i ok (image_saw had hears (usage_of chain) t s first_ran) r
+      by_image s y (Some (NoBytes fault)) first_ran done = look_checks refl
+      by_image s y (Some (BadTrack side)) first_ran done = look_checks refl
+
+      by_lost : (s : DeviceStore) (lost : Bool) {z : DeviceStore} {u w : Calls} {went : Went} →
+          Ran had hears (if lost then Done s (Some (Over (checks chain Equipment)))
+          else and_then (image contents s (usage_of chain) t) (had_by (looked contents chain first t))) u z (Some went) w → LookedSo chain t s u z went w
+      by_lost s true done = look_checks refl
+      by_lost s false r =
+          let x = split (image contents s (usage_of chain) t) (had_by (looked contents chain first t)) r in by_image s x.state x.answer x.first x.rest
+
+      look_so : (s : DeviceStore) {z : DeviceStore} {u w : Calls} {went : Went} → Ran had hears (look contents chain first t s) u z (Some went) w →
+          LookedSo chain t s u z went w
+      unfolding N.look
+      look_so s r = by_lost s (is_lost s t) r
+
+    -- the looks behind the first one
+    more_seen : (n : ℕ) (chain next : ChainState) (t : ℕ) (i : Image) {s y : DeviceStore} {u v w : Calls} {turn : Turn} → Saw had hears s t u i y v →
+        ((tracks : ℕ → Track) (answer : LocalAct → Settled) → i ≡ record { geometry = g; track = tracks t } →
+        fed (suc n) tracks answer chain ≡ fed n tracks answer next) →
+        CameAsSeen had hears n g next y v turn w → CameAsSeen had hears (suc n) g chain s u turn w
+    more_seen n chain next t i saw same (seen.checked e) = seen.checked e
+    more_seen n chain next t i {turn = turn} saw same (seen.came ls last at all rest ends) =
+        seen.came (look_at t i ∷ ls) last at (seen.one_look saw all) rest
+        (λ tracks answer are. subst (λ (f : Fed). EndsAs f turn.chain turn.came) (sym (same tracks answer are.0)) (ends tracks answer are.1))
+
+    abbrev pub Following : ℕ → ℕ → Type 0
+    Following n first =
+        (chain : ChainState) (t : ℕ) (s : DeviceStore) → looks chain t → (z : DeviceStore) (u w : Calls) (turn : Turn) →
+        Ran had hears (follow contents n first chain t s) u z (Some turn) w → CameAsSeen had hears n g chain s u turn w
+
+    goes_further : (n first : ℕ) (chain : ChainState) (t : ℕ) → Following n first → {s y : DeviceStore} {u v : Calls} (went : Went) →
+        LookedSo chain t s u y went v → {z : DeviceStore} {w : Calls} {turn : Turn} →
+        Ran had hears (goes_on contents (follow contents n first) y went) v z (Some turn) w → CameAsSeen had hears (suc n) g chain s u turn w
+    goes_further n first chain t later (Over turn) (look_checks e) done = seen.checked e
+    goes_further n first chain t later (Over turn) (look_over i y v saw rest ends) done =
+        seen.came (look_at t i ∷ []) y v (seen.one_look saw seen.no_look) rest (λ tracks answer are. ends n tracks answer are.0)
+    goes_further n first chain t later (On next q) (look_on i saw at same) r =
+        more_seen n chain next t i saw (same n) (later next q _ at _ _ _ _ r)
+
+    by_went : (n first : ℕ) (chain : ChainState) (t : ℕ) → looks chain t → Following n first → {s y : DeviceStore} {u v : Calls} (a : Option Went) →
+        Ran had hears (look contents chain first t s) u y a v → {z : DeviceStore} {w : Calls} {turn : Turn} →
+        Ran had hears (had_by (goes_on contents (follow contents n first)) y a) v z (Some turn) w → CameAsSeen had hears (suc n) g chain s u turn w
+    by_went n first chain t at later None first_ran rest = elim rest [ ]
+    by_went n first chain t at later {s = s} (Some went) first_ran rest =
+        goes_further n first chain t later went (look_so chain first t at s first_ran) rest
+
+    pub follow_so : (n first : ℕ) → Following n first
+    unfolding N.follow
+    follow_so zero first chain t s at z u w turn done = seen.checked refl
+    follow_so (suc n) first chain t s at z u w turn r =
+        let x = split (look contents chain first t s) (had_by (goes_on contents (follow contents n first))) r in
+        by_went n first chain t at (follow_so n first) x.answer x.first x.rest

@@ -1,0 +1,136 @@
+-- What a command saw of the tracks that it looked at, and which volumes it called for that; also where the volumes don't tell what they hold.
+use Rattle.std.specs.Prelude.{◌≡◌, ◌⊎◌, ℕ, suc, Bool, true, false, List, [], ◌∷◌, Option, Some, None}
+use Rattle.ckd_types.specs.declared.geometry.Geometry.{Geometry}
+use Rattle.ckd_types.specs.declared.paths.Side.{Side}
+use Rattle.ckd_types.specs.declared.record.Track.{Track}
+use Rattle.ckd_rules.specs.declared.order.LocalAct.{LocalAct}
+use Rattle.ckd_chain.specs.declared.progress.Progress.{Progress}
+use Rattle.ckd_chain.specs.declared.progress.Progress.TheVariants as progresses
+use Rattle.ckd_chain.specs.declared.progress.Settled.{Settled}
+use Rattle.ckd_chain.specs.declared.progress.Settled.TheVariants.{Written, Equipment}
+use Rattle.ckd_chain.specs.Fed.{Fed, fed}
+use Rattle.ckd_chain.specs.State.{ChainState}
+use Rattle.ckd_chain.specs.Steps.{need_of, stepped, behind, end_with, settled_by}
+use Rattle.plain_defs.specs.History.{OpenEntry}
+use Rattle.plain_device.specs.Acted.{settled_act, paths_behind}
+use Rattle.track_image.specs.Image.{Image}
+use Rattle.track_cache.specs.declared.frames.Frame.{Frame}
+use Rattle.device_outside.specs.Keeper.{Hearing}
+use Rattle.device_outside.specs.Outside.{Outside, view_of, Ran}
+use Rattle.device_outside.specs.Volume.{VolumeView}
+use Rattle.device_defs.specs.declared.answers.Came.{Came}
+use Rattle.device_defs.specs.declared.answers.Came.TheVariants.{Ends, Checks, HalfOpen}
+use Rattle.device_defs.specs.declared.answers.Choice.{Choice}
+use Rattle.device_defs.specs.declared.answers.Choice.TheVariants.{Provisional, Fast, Through}
+use Rattle.device_defs.specs.declared.answers.SecondEnd.{SecondEnd}
+use Rattle.device_defs.specs.declared.answers.Stepped.{Stepped}
+use Rattle.device_defs.specs.declared.usage.Usage.{Usage}
+use Rattle.device_defs.specs.Choosing.{choose}
+use Rattle.device_defs.specs.Command.{has_loss}
+use Rattle.device_defs.specs.Contents.{contents}
+use Rattle.device_defs.specs.Events.{second_told, second_turn}
+use Rattle.device_defs.specs.Image.{got, level_bytes, image_of}
+use Rattle.device_defs.specs.Outcomes.{Turn, checks, told_step, turned}
+use Rattle.device_defs.specs.Sound.{DeviceStore}
+use Rattle.device_defs.specs.Store.{tracks_of, frame_at, with_frame}
+use Rattle.device_laws.specs.Whole.{WholeDevice}
+
+-- no volume was called between these two
+pub record NotCalled {R K : Type 0} (u z : Outside R K) : Type 0 where
+  pub a : z.a ≡ u.a
+  pub b : z.b ≡ u.b
+
+-- the bytes that this side delivered last
+pub record LastOf {K : Type 0} (u : Outside (List ℕ) K) (side : Side) (bytes : List ℕ) : Type 0 where
+  pub view : VolumeView (List ℕ)
+  pub is : view_of u side ≡ Some view
+  pub delivered : view.delivered ≡ Some bytes
+
+-- a track that was looked at, and the image that was seen
+pub record Look : Type 0 where
+  pub track : ℕ
+  pub image : Image
+
+abbrev pub look_at : ℕ → Image → Look
+look_at t i = record { track = t; image = i }
+
+-- the images are those of these tracks, on volumes of this geometry
+abbrev pub AreOf : Geometry → (ℕ → Track) → List Look → Type 0
+AreOf g tracks [] = Unit {0}
+AreOf g tracks (l ∷ ls) = (l.image ≡ record { geometry = g; track = tracks l.track }) × AreOf g tracks ls
+
+-- It ends so, or its write is half done and it ends so once that is done. Of an equipment or a data check nothing is said
+abbrev pub EndsAs : Fed → ChainState → Came → Type 0
+EndsAs f chain (Ends e) = (f.end ≡ e) × (f.chain ≡ chain)
+EndsAs f chain (Checks e) = Unit {0}
+EndsAs f chain (HalfOpen t) = (f.end ≡ end_with chain (settled_by chain Written)) × (f.chain ≡ behind chain (settled_by chain Written))
+
+-- a fast or a provisional write
+abbrev pub is_in_cache : Choice → Bool
+is_in_cache Provisional = true
+is_in_cache (Fast slot) = true
+is_in_cache Through = false
+
+module _ {K : Type 0} (had : Bool → Type 0) (hears : Hearing Image K) where
+  -- A look at a track of this store saw this image, and left a store. A hit saw what is in the frame, and called no volume. A miss saw what the bytes
+  -- of a level side make, with the patch that is held
+  pub data Saw (s : DeviceStore) (t : ℕ) (u : Outside (List ℕ) K) (i : Image) : DeviceStore → Outside (List ℕ) K → Type 0 where
+    hit : {z : Outside (List ℕ) K} (f : Frame) → frame_at s t ≡ Some f → i ≡ f.image → NotCalled u z → Saw s t u i s z
+    missed : {e : DeviceStore} {z : Outside (List ℕ) K} (x y : DeviceStore) (v w : Outside (List ℕ) K) (side : Side) (bytes : List ℕ)
+        (fault : Option Side) → (x ≡ s) ⊎ (x ≡ with_frame s t None) → NotCalled u v →
+        Ran had hears (level_bytes contents x t) v y (got side (Some bytes) fault) w → LastOf w side bytes → image_of contents y t bytes ≡ Some i →
+        NotCalled w z → Saw s t u i e z
+
+  -- looks one behind the other
+  pub data AllSeen : DeviceStore → Outside (List ℕ) K → List Look → DeviceStore → Outside (List ℕ) K → Type 0 where
+    no_look : {s : DeviceStore} {u : Outside (List ℕ) K} → AllSeen s u [] s u
+    one_look : {s y e : DeviceStore} {u v z : Outside (List ℕ) K} {l : Look} {ls : List Look} → Saw s l.track u l.image y v →
+        AllSeen y v ls e z → AllSeen s u (l ∷ ls) e z
+
+  -- Behind the last look: nothing more, or a write. In the cache alone it calls no volume
+  pub data Wrote (s : DeviceStore) (u z : Outside (List ℕ) K) : Type 0 where
+    no_write : NotCalled u z → Wrote s u z
+    wrote : (usage : Usage) (t : ℕ) (y : DeviceStore) (v : Outside (List ℕ) K) (choice : Choice) →
+        Ran had hears (choose contents s usage t) u y choice v → (is_in_cache choice ≡ true → NotCalled u z) → Wrote s u z
+
+  -- a command that began so came out so, by the images that it saw
+  pub data CameAsSeen (n : ℕ) (g : Geometry) (chain : ChainState) (s : DeviceStore) (u : Outside (List ℕ) K) (turn : Turn)
+      (z : Outside (List ℕ) K) : Type 0 where
+    checked : {e : _} → turn.came ≡ Checks e → CameAsSeen n g chain s u turn z
+    came : (looks : List Look) (last : DeviceStore) (at : Outside (List ℕ) K) → AllSeen s u looks last at → Wrote last at z →
+        ((tracks : ℕ → Track) (answer : LocalAct → Settled) → AreOf g tracks looks → EndsAs (fed n tracks answer chain) turn.chain turn.came) →
+        CameAsSeen n g chain s u turn z
+
+-- what is kept behind the command of a path, of the device as it was before it or behind an act on its paths
+pub record IsKept (d : WholeDevice) (path : ℕ) (turn : Turn) (a : Stepped) (e : WholeDevice) : Type 0 where
+  pub answer : a ≡ told_step turn.came
+  pub paths : e.paths ≡ (turned d path turn).paths
+  pub chain : e.chain ≡ (turned d path turn).chain
+
+-- the device once it did an act that a command asked for, or refused it
+abbrev pub with_act : WholeDevice → ℕ → LocalAct → WholeDevice
+with_act d path act = record d { paths = paths_behind d.paths path act }
+
+-- how a command of the paths came out that asked for an act, or for none
+abbrev pub answered : WholeDevice → ℕ → ChainState → Progress → WholeDevice
+answered d path chain (progresses.Local act) = with_act d path act
+answered d path chain p = d
+
+module _ {K : Type 0} (had : Bool → Type 0) (hears : Hearing Image K) where
+  -- A command of the running program: by the images of the tracks that it looked at, and by what the device kept of its paths. Once data of
+  -- cache fast write were lost in its own program it looks at none
+  pub data CommandCame (d : WholeDevice) (o : OpenEntry) (chain : ChainState) (u : Outside (List ℕ) K) (a : Stepped) (e : WholeDevice)
+      (z : Outside (List ℕ) K) : Type 0 where
+    data_lost : has_loss o.acts ≡ true → IsKept d o.path (checks chain Equipment) a e → NotCalled u z → CommandCame d o chain u a e z
+    looked : (t : ℕ) (s : DeviceStore) (v w : Outside (List ℕ) K) (turn : Turn) → need_of chain ≡ Some t → NotCalled u v →
+        CameAsSeen had hears (tracks_of d.store) d.store.geometry chain s v turn w → NotCalled w z → IsKept d o.path turn a e → CommandCame d o chain u a e z
+    asked : (turn : Turn) → need_of chain ≡ None → NotCalled u z →
+        ((n : ℕ) (tracks : ℕ → Track) → EndsAs (fed (suc n) tracks (settled_act d.store.geometry d.paths o.path) chain) turn.chain turn.came) →
+        IsKept (answered d o.path chain (stepped chain None).progress) o.path turn a e → CommandCame d o chain u a e z
+
+-- the second part of a command's write, done or not: the command ends as the chain that was kept does, or with equipment check
+pub record SecondCame (d : WholeDevice) (o : OpenEntry) (kept : ChainState) (t : ℕ) (a : SecondEnd) (e : WholeDevice) : Type 0 where
+  pub done : Bool
+  pub answer : a ≡ second_told contents t (second_turn contents kept done).came
+  pub paths : e.paths ≡ (turned d o.path (second_turn contents kept done)).paths
+  pub chain : e.chain ≡ (turned d o.path (second_turn contents kept done)).chain

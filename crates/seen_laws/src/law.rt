@@ -1,0 +1,73 @@
+//! The laws.
+
+ghost use Rattle.std.specs.Prelude.{◌≡◌, ◌*◌, ℕ, Bool, true, false, List, Option, None, Some};
+ghost use Rattle.ckd_chain.specs.State.{ChainState};
+ghost use Rattle.ckd_types.specs.declared.geometry.Geometry.{Geometry};
+ghost use Rattle.ckd_types.specs.declared.record.Edit.{Edit};
+ghost use Rattle.ckd_types.specs.Parameters.{is_bypass};
+ghost use Rattle.track_cache.specs.declared.frames.Frame.{Frame};
+ghost use Rattle.track_image.specs.Image.{Image};
+ghost use Rattle.device_outside.specs.Outside.{Outside, Ran};
+ghost use Rattle.device_outside.specs.Pool.{Pool, is_listed};
+ghost use Rattle.device_defs.specs.declared.answers.Took.{Took};
+ghost use Rattle.device_defs.specs.declared.usage.Usage.{Usage};
+ghost use Rattle.device_defs.specs.declared.answers.SecondEnd.{SecondEnd};
+ghost use Rattle.device_defs.specs.declared.answers.Stepped.{Stepped};
+ghost use Rattle.device_defs.specs.Command.{command, follow};
+ghost use Rattle.device_defs.specs.Contents.{contents};
+ghost use Rattle.device_defs.specs.Editing.{write};
+ghost use Rattle.device_defs.specs.Events.{second};
+ghost use Rattle.device_defs.specs.Image.{Imaged, Has, image};
+ghost use Rattle.device_defs.specs.Outcomes.{Turn};
+ghost use Rattle.device_defs.specs.Sound.{DeviceStore};
+ghost use Rattle.device_defs.specs.Store.{OfCommand, HalfWrite, frame_at};
+ghost use Rattle.device_laws.specs.Standing.{LooksAt, RunsOn};
+ghost use Rattle.device_laws.specs.Whole.{WholeDevice};
+ghost use Rattle.plain_defs.specs.History.{OpenEntry};
+ghost use Rattle.seen_laws.specs.Seen.{NotCalled, Saw, Wrote, CameAsSeen, CommandCame, SecondCame};
+
+use device_outside::Keep;
+use track_image::TrackImage;
+
+/// The image of a track is the one in its frame, and no volume was called; or that of the bytes that a level side delivered, with the
+/// patch that is held. A modified frame is a hit, and so is a clean one that the pool lists, unless in bypass mode: it reads no volume.
+pub fn image_is_seen<K: Keep<TrackImage>>()
+    ensures seen { (s e : DeviceStore) (usage : Usage) (t : ℕ) (u z : Outside (List ℕ) K) (i : Image) →
+        Ran (λ ok. Unit {0}) K.hears (image contents s usage t) u e (Some (Has i)) z → Saw (λ ok. Unit {0}) K.hears s t u i e z }
+    ensures modified { (s e : DeviceStore) (usage : Usage) (t : ℕ) (u z : Outside (List ℕ) K) (f : Frame) (a : Option Imaged) → frame_at s t ≡ Some f →
+        f.modified ≡ true → Ran (λ ok. Unit {0}) K.hears (image contents s usage t) u e a z → NotCalled u z × (a ≡ Some (Has f.image)) }
+    ensures clean { (s e : DeviceStore) (usage : Usage) (t : ℕ) (u z : Outside (List ℕ) K) (f : Frame) (p : Pool) (a : Option Imaged) →
+        frame_at s t ≡ Some f → f.modified ≡ false → is_bypass usage.mode ≡ false → u.port.pool ≡ Some p → is_listed p.frames s.device t ≡ true →
+        Ran (λ ok. Unit {0}) K.hears (image contents s usage t) u e a z → NotCalled u z × (a ≡ Some (Has f.image)) }
+{}
+
+/// A command's write that is chosen to be fast or provisional writes no volume.
+pub fn write_is_seen<K: Keep<TrackImage>>()
+    ensures { (s e : DeviceStore) (usage : Usage) (first t : ℕ) (old : Image) (edit : Edit) (u z : Outside (List ℕ) K) (took : Took) →
+        Ran (λ ok. Unit {0}) K.hears (write contents s usage first t old edit) u e (Some took) z → Wrote (λ ok. Unit {0}) K.hears s u z }
+{}
+
+/// A command that goes from track to track, with neither equipment nor data check, ends as the rules say over the images that it saw, and so
+/// does the chain behind it.
+pub fn track_walk_is_seen<K: Keep<TrackImage>>()
+    ensures { (cylinders : ℕ) (g : Geometry) (n first t : ℕ) (chain : ChainState) (s e : DeviceStore) (u z : Outside (List ℕ) K) (turn : Turn) →
+        LooksAt cylinders g chain t → Ran (λ ok. Unit {0}) K.hears (follow contents n first chain t s) u e (Some turn) z →
+        CameAsSeen (λ ok. Unit {0}) K.hears n g chain s u turn z }
+{}
+
+/// A whole command, with neither equipment nor data check, or one that is half done: its end, the chain behind it and what the device keeps of its
+/// paths are those of the rules over the images that it saw and what the device kept of its paths before it. Only its looks and its write call
+/// volumes.
+pub fn command_ends_as_seen<K: Keep<TrackImage>>()
+    ensures { (d e : WholeDevice) (o : OpenEntry) (chain : ChainState) (u z : Outside (List ℕ) K) (a : Stepped) → d.history.running ≡ Some o →
+        d.chain ≡ Some chain → RunsOn d.store.cylinders d.store.geometry chain → Ran (λ ok. Unit {0}) K.hears (command contents d) u e (Some a) z →
+        CommandCame (λ ok. Unit {0}) K.hears d o chain u a e z }
+{}
+
+/// The second part of a command's write that is half done ends the command: as the chain that was kept says once it is done, or with equipment
+/// check; and with it goes what is kept of the paths.
+pub fn second_ends_as_kept<K: Keep<TrackImage>>()
+    ensures { (d e : WholeDevice) (o : OpenEntry) (chain : ChainState) (h : HalfWrite Image) (bypass : Bool) (edit : Edit) (u z : Outside (List ℕ) K)
+        (a : SecondEnd) → d.store.half ≡ Some h → h.origin ≡ OfCommand bypass edit → d.history.running ≡ Some o → d.chain ≡ Some chain →
+        Ran (λ ok. Unit {0}) K.hears (second contents d) u e a z → SecondCame d o chain h.track a e }
+{}
