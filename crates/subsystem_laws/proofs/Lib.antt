@@ -15,6 +15,8 @@ pub mod NothingMissed
 pub mod RunLines
 pub mod WaitingSum
 pub mod Waiting
+pub mod CheckCauses
+pub mod Causing
 pub mod WholeSlots
 pub mod WholeFinding
 pub mod WholeTalks

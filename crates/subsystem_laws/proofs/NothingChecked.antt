@@ -77,7 +77,7 @@ quiet_past : {A : Type 0} (d : MarksDevice) (body : MarksDevice → Interaction 
 quiet_past d body does =
     always_then does (λ y a g. always_then (always_any (ended by_plain (waiting_count by_plain d.store) y.store)) (λ z _ _. always_done g))
 
-lend_past : (d : MarksDevice) (to : ℕ) → Always (lend by_plain d to) (λ y _. y.history ≡ d.history)
+pub lend_past : (d : MarksDevice) (to : ℕ) → Always (lend by_plain d to) (λ y _. y.history ≡ d.history)
 unfolding O.lend
 lend_past d to =
     quiet_past d (λ z. Done (with_tracks z (lent_to (over (tracks_of z.store) (given_up by_plain) z.store) to)) tt) (always_done refl)

@@ -38,7 +38,7 @@ done_by s t i (OfCommand bypass e) = lucky_tell (λ r. finished_done _ t i bypas
 done_by s t i (OfCut bypass) = finished_done s t i bypass
 done_by s t i OfBackground = finished_done s t i false
 
-part_done : (s : MarksStore) (h : HalfWrite (Unit {0})) → has_level s h.track ≡ true → Lucky (λ z a. a ≡ true) (second_part by_plain s h)
+pub part_done : (s : MarksStore) (h : HalfWrite (Unit {0})) → has_level s h.track ≡ true → Lucky (λ z a. a ≡ true) (second_part by_plain s h)
 unfolding D.second_part
 part_done s h level =
     lucky_then (λ z _. second_by by_plain h.track (half_image_of by_plain s h) h.origin z)
@@ -61,7 +61,7 @@ module _ (n : ℕ) where
   ended_so d t (Some o) None done is f = lucky_done f
   ended_so d t None k done is f = lucky_done f
 
-  end_so : (d : MarksDevice) (t : ℕ) (origin : Origin) (done : Bool) → done ≡ true → equipment_checks d.history ≡ n → Holds (second_ended by_plain d t origin done)
+  pub end_so : (d : MarksDevice) (t : ℕ) (origin : Origin) (done : Bool) → done ≡ true → equipment_checks d.history ≡ n → Holds (second_ended by_plain d t origin done)
   end_so d t (OfCommand bypass e) done is f = ended_so d t d.history.running d.chain done is f
   end_so d t (OfCut bypass) done is f = lucky_done f
   end_so d t OfBackground done is f = lucky_done f

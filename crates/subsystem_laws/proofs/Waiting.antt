@@ -217,7 +217,7 @@ swept_told f h seen (m ∷ ms) pool (one_told n own out lt is rest) =
     }
 
 -- the one that is mounted at its number
-abbrev IsSeat : Subsystem → MarksDevice → Type 0
+abbrev pub IsSeat : Subsystem → MarksDevice → Type 0
 IsSeat s d = (m : Mounted) → mounted_in s.mounted d.store.device ≡ Some m → m.device ≡ d
 
 asked_told : (s : Subsystem) (t : IsTold s) (d : MarksDevice) → IsSeat s d → {A : Type 0} (talk : Talk A) → Tells d talk → (m : Mounted) →
