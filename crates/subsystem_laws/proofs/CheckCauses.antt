@@ -1,5 +1,5 @@
 -- Where an event adds a check to a device's journal, it has a cause before it, or a call failed in it.
-use Rattle.std.proofs.Common.{◌≡◌, ◌≢◌, ◌<◌, ◌≤◌, ◌&&◌, ◌||◌, not, zero, suc, ℕ, Bool, true, false, List, [], ◌∷◌, Option, Some, None, get_or, refl, sym, ap, subst, ◌∙◌, arith, ◌⊎◌, inl, inr}
+use Rattle.std.proofs.Common.{◌≡◌, ◌≢◌, ◌<◌, ◌≤◌, ◌&&◌, not, zero, suc, ℕ, Bool, true, false, List, [], ◌∷◌, Option, Some, None, get_or, refl, sym, ap, subst, ◌∙◌, arith, ◌⊎◌, inl, inr}
 use Rattle.std.proofs.lemmas.Bool.{cases_eq, cases_lt}
 use Rattle.ckd_types.specs.declared.paths.Side.{Side}
 use Rattle.ckd_types.specs.declared.paths.Side.TheVariants as sides
@@ -21,8 +21,8 @@ use Rattle.device_defs.specs.Orders.{restore, replace, lend}
 use Rattle.device_defs.specs.Owed.{hear, waiting_count, ended}
 use Rattle.device_defs.specs.Start as S
 use Rattle.device_defs.specs.Start.{start}
-use Rattle.device_defs.specs.Store.{HalfWrite, stale_at, level_at}
-use Rattle.device_laws.specs.Unharmed.{RunsUnharmed, ends_with_equipment_check}
+use Rattle.device_defs.specs.Store.{HalfWrite, takes_b, has_level, stale_at, level_at}
+use Rattle.device_laws.specs.Unharmed.{RunsUnharmed, some_takes, ends_with_equipment_check}
 use Rattle.device_laws.proofs.Always.{Always, always_done, always_then}
 use Rattle.device_laws.proofs.Based.{Any, Based, kept}
 use Rattle.device_laws.proofs.BasedEvents.{base_in, command_based, second_based}
@@ -38,7 +38,7 @@ use Rattle.device_laws.proofs.Unchecked.{lucky_any}
 use Rattle.device_laws.proofs.Unlost.{Fine, core_of}
 use Rattle.device_laws.proofs.UncheckedEvents.{equipment_checks, acts_same, command_unchecked_within}
 use Rattle.device_laws.proofs.UnlostParts.{hear_goes}
-use Rattle.subsystem_laws.specs.Causes.{call_failed, not_counted, side_down, half_stale, track_lost, data_gone, checks_of, ChecksForCause}
+use Rattle.subsystem_laws.specs.Causes.{call_failed, not_counted, none_takes, half_untried, track_lost, data_gone, checks_of, ChecksForCause}
 use Rattle.subsystem_laws.proofs.GoodMarks.{runs_home, half_home, within}
 use Rattle.subsystem_laws.proofs.LendBase.{at}
 use Rattle.subsystem_laws.proofs.NothingChecked.{lend_past}
@@ -68,23 +68,25 @@ decided false f g = g refl
 -- The other part of a write
 
 module _ (n : ℕ) (d : MarksDevice) (w : IsWell by_plain d.store) (h : HalfWrite (Unit {0})) (is : d.store.half ≡ Some h)
-    (level : level_at d.store.a h.track ≡ true) (f : equipment_checks d.history ≡ n) where
+    (tried : (takes_b d.store ≡ true) ⊎ (level_at d.store.a h.track ≡ true)) (f : equipment_checks d.history ≡ n) where
   up_a : (b c : Bool) → (b && not c) ≡ true → (b ≡ true) × (c ≡ false)
   up_a true true e = absurd (cc)
   up_a true false e = (refl, refl)
   up_a false c e = absurd (cc)
 
-  level_still : (s : MarksStore) → Fine (core_of d.store) (core_of s) → (level_at s.a h.track || level_at s.b h.track) ≡ true
-  level_still s g =
+  still_tried : (s : MarksStore) → Fine (core_of d.store) (core_of s) → ((takes_b d.store ≡ true) ⊎ (level_at d.store.a h.track ≡ true)) →
+      (takes_b s ≡ true) ⊎ (has_level s h.track ≡ true)
+  still_tried s g (inl takes) = inl (g.takes ∙ takes)
+  still_tried s g (inr level) =
       let a = up_a d.store.a.up (stale_at d.store.a h.track) level in
-      has_a s.a.up (stale_at s.a h.track) (level_at s.b h.track) (g.up ∙ a.0) (g.level a.0 h.track a.1)
+      inr (has_a s.a.up (stale_at s.a h.track) (level_at s.b h.track) (g.up ∙ a.0) (g.level a.0 h.track a.1))
 
   half_checks : (s : MarksStore) → Fine (core_of d.store) (core_of s) → (o : Option (HalfWrite (Unit {0}))) → o ≡ Some h →
       Lucky (λ e _. equipment_checks e.history ≡ n) (second_of by_plain (record (event_begun d) { store = s }) o)
   half_checks s g (Some k) e =
       let same : k ≡ h = cc in
       lucky_then (λ z done. second_ended by_plain (with_store (record (event_begun d) { store = s }) z) k.track k.origin done)
-      (part_done s k (subst (λ (x : HalfWrite (Unit {0})). (level_at s.a x.track || level_at s.b x.track) ≡ true) (sym same) (level_still s g)))
+      (part_done s k (subst (λ (x : HalfWrite (Unit {0})). (takes_b s ≡ true) ⊎ (has_level s x.track ≡ true)) (sym same) (still_tried s g tried)))
       (λ z done so. end_so n (with_store (record (event_begun d) { store = s }) z) k.track k.origin done so (acts_same d.history z.acts ∙ f))
   half_checks s g None e = absurd (cc)
 
@@ -124,11 +126,9 @@ module _ (d : MarksDevice) (f : Fair d) where
   command_causes o running whole t =
       let x = command_based by_plain d in
       where_failed (command by_plain d) x t (λ lt same.
-      decided d.store.a.up
-      (λ up. by_lost lt same up (find_lost d.store.lost))
-      (λ down. inr (side_down down)))
+      decided (some_takes d.store) (λ up. by_lost lt same up (find_lost d.store.lost)) (λ none. inr (none_takes none)))
     where
-      by_lost : d.store.counts.failed < top → (T.hold true (command by_plain d) t).state.store.counts.failed ≡ d.store.counts.failed → d.store.a.up ≡ true →
+      by_lost : d.store.counts.failed < top → (T.hold true (command by_plain d) t).state.store.counts.failed ≡ d.store.counts.failed → some_takes d.store ≡ true →
           (((q : ℕ) → get_or d.store.lost q false ≡ false) ⊎ ((q : ℕ) × (get_or d.store.lost q false ≡ true))) →
           ChecksForCause d (T.hold true (command by_plain d) t).state
       by_lost lt same up (inr y) = inr (track_lost y.0 y.1)
@@ -141,16 +141,14 @@ module _ (d : MarksDevice) (f : Fair d) where
   pub second_causes : (h : HalfWrite (Unit {0})) → d.store.half ≡ Some h → (t : Told) → ChecksForCause d (T.hold true (second by_plain d) t).state
   second_causes h is t =
       where_failed (second by_plain d) (second_based by_plain d) t (λ lt same.
-      decided d.store.a.up
-      (λ up. decided (stale_at d.store.a h.track) (λ stale. inr (half_stale h is stale))
-      (λ level. inl (at (where_none_failed (λ e _. equipment_checks e.history ≡ checks) (second_based by_plain d) lt
-      (second_checks checks d (f.good.well (half_home d f.good h is)) h is (on_a d.store.a.up (stale_at d.store.a h.track) up level) refl)) t same)))
-      (λ down. inr (side_down down)))
+      decided (takes_b d.store) (λ takes. by_tried lt same (inl takes))
+      (λ none. decided (level_at d.store.a h.track) (λ level. by_tried lt same (inr level)) (λ off. inr (half_untried h is off none))))
     where
-      on_a : (a b : Bool) → a ≡ true → b ≡ false → (a && not b) ≡ true
-      on_a true false e g = refl
-      on_a true true e g = absurd (cc)
-      on_a false b e g = absurd (cc)
+      by_tried : d.store.counts.failed < top → (T.hold true (second by_plain d) t).state.store.counts.failed ≡ d.store.counts.failed →
+          ((takes_b d.store ≡ true) ⊎ (level_at d.store.a h.track ≡ true)) → ChecksForCause d (T.hold true (second by_plain d) t).state
+      by_tried lt same tried =
+          inl (at (where_none_failed (λ e _. equipment_checks e.history ≡ checks) (second_based by_plain d) lt
+          (second_checks checks d (f.good.well (half_home d f.good h is)) h is tried refl)) t same)
 
 -- Events that add no check
 

@@ -39,8 +39,8 @@ pub fn read_run_checks_nothing()
     ensures checks { (text : List ℕ) (deck : DeckLines) → parsed text ≡ Ok deck → All CheckNothing (run_of deck).events }
 {}
 
-/// Where an event adds a program that ended with equipment check to a device's journal, a call of it failed in the event, or before it side A was
-/// down or hadn't the track of the open half write, a track was lost, or data of the program's own cache fast write were gone.
+/// Where an event adds a program that ended with equipment check to a device's journal, a call of it failed in the event, or before it no side took
+/// writes, neither side was left for its open half write, a track was lost, or data of the program's own cache fast write were gone.
 pub fn checks_have_causes()
     ensures served { (deck : DeckLines) → IsServedDeck deck → All CheckForCause (run_of deck).events }
     ensures read { (text : List ℕ) (deck : DeckLines) → parsed text ≡ Ok deck → All CheckForCause (run_of deck).events }
