@@ -1,16 +1,14 @@
 -- In a run each check of each device has its cause.
-use Rattle.std.proofs.Common.{◌≡◌, ◌==◌, ℕ, Bool, true, false, not, List, [], ◌∷◌, map, Option, Some, None, is_some, refl, sym, ap, subst, ◌∙◌, inl}
+use Rattle.std.proofs.Common.{◌≡◌, ◌==◌, ℕ, Bool, true, false, List, [], ◌∷◌, map, Option, Some, None, refl, sym, ap, subst, ◌∙◌, inl}
 use Rattle.std.specs.Prelude.{All, ⊤, IfSome, if◌then◌else◌}
 use Rattle.ckd_types.specs.declared.paths.Side.{Side}
 use Rattle.ckd_types.specs.declared.paths.Side.TheVariants as sides
 use Rattle.deck_text.specs.DeckLines.{DeckLines}
 use Rattle.loss_model.specs.declared.Loss.TheVariants as losses
-use Rattle.plain_defs.specs.History.{OpenEntry}
 use Rattle.device_outside.specs.Interaction.{Done, and_then}
-use Rattle.device_outside.specs.Pool.{Pool, all_waiting}
+use Rattle.device_outside.specs.Pool.{Pool}
 use Rattle.device_outside.specs.Told as T
 use Rattle.device_outside.specs.Told.{Calls, Told}
-use Rattle.device_defs.specs.declared.answers.StartFault.{StartFault}
 use Rattle.device_defs.specs.Command.{command}
 use Rattle.device_defs.specs.Contents.{by_plain}
 use Rattle.device_defs.specs.Cutting.{reset}
@@ -19,7 +17,6 @@ use Rattle.device_defs.specs.Marks.{MarksDevice}
 use Rattle.device_defs.specs.Orders.{lend, join, split, restore, replace, hold, resume}
 use Rattle.device_defs.specs.Start as S
 use Rattle.device_defs.specs.Start.{start_fault, start, next_ordinal}
-use Rattle.device_defs.specs.Store.{HalfWrite}
 use Rattle.subsystem_defs.specs.declared.end.EventEnd.{EventEnd}
 use Rattle.subsystem_defs.specs.declared.end.EventEnd.TheVariants as ends
 use Rattle.subsystem_defs.specs.declared.end.OrderFault.{OrderFault}
@@ -27,20 +24,18 @@ use Rattle.subsystem_defs.specs.declared.event.Event.{Event}
 use Rattle.subsystem_defs.specs.declared.event.Event.TheVariants as events
 use Rattle.subsystem_defs.specs.Decks as D
 use Rattle.subsystem_defs.specs.Decks.{opened_device, opened, run_of}
-use Rattle.subsystem_defs.specs.Deeds as E
-use Rattle.subsystem_defs.specs.Deeds.{back, order, repair, Ends, Becomes, Asks, Each, Repairs, Lends, deed, device_in, on_device, starts, start_by, is_own, step, seconds, ends_by, may_end_by, ends_done, end_of}
+use Rattle.subsystem_defs.specs.Deeds.{Ends, Becomes, Asks, Each, Repairs, Lends, deed, ends_done, end_of}
 use Rattle.subsystem_defs.specs.Happening as H
 use Rattle.subsystem_defs.specs.Happening.{Happened, MarksDeed, Talk, held_with, told_to, mounted_behind, behind_outcome, joined, lends, is_lent_to, restored_in, asks, becomes, happens_by, happens, quietly, sweep, replaced_by, replaced_at, replaced, unpaired_by, unpaired_at, unpaired}
 use Rattle.subsystem_defs.specs.Lines.{Replace, Unpair, logged, asked_by}
-use Rattle.subsystem_defs.specs.Refusals.{pair_fault, suspend_fault, resume_fault, fail_fault, replace_fault, unpair_fault}
+use Rattle.subsystem_defs.specs.Refusals.{replace_fault, unpair_fault}
 use Rattle.subsystem_defs.specs.Subsystem.{Mounted, Subsystem, number_of, devices_of, mounted_in, put_in, with_calls, unfailing}
 use Rattle.subsystem_laws.specs.Causes.{checks_of, ChecksForCause, EachPair, CheckForCause}
 use Rattle.subsystem_laws.specs.Served.{IsServedDeck}
 use Rattle.subsystem_laws.proofs.CheckCauses.{command_causes, second_causes, background_same, reset_same, power_same, loss_same, lend_same, start_same, replace_same, restore_same}
-use Rattle.subsystem_laws.proofs.PlainRuns.{number_found, same_found}
+use Rattle.subsystem_laws.proofs.DeedWalk.{IsSeat, Stands, seat_of, IsDeedwise, deed_is}
 use Rattle.subsystem_laws.proofs.RunLines.{Goes, run_shows}
 use Rattle.subsystem_laws.proofs.TracksKept.{Fair, fair_kept, opened_fair}
-use Rattle.subsystem_laws.proofs.Waiting.{IsSeat}
 use Rattle.subsystem_laws.proofs.Walks.{AreSo, hold_answer, device_so, mounted_so, event_so, replaced_so, unpaired_so}
 
 -- Devices before and behind, pair by pair
@@ -107,10 +102,6 @@ KeepsDeed s (Each pool f) = (d : MarksDevice) (t : Told) → AddsNone d (T.hold 
 KeepsDeed s (Repairs pool) = ⊤
 KeepsDeed s (Lends a b) = ⊤
 
--- a record round it, so that the deed can be inferred
-record KeptDeed (s : Subsystem) (x : MarksDeed) : Type 0 where
-  is : KeepsDeed s x
-
 some_is : (x y : Mounted) → Some x ≡ Some y → x ≡ y
 some_is x y e = cc
 
@@ -168,86 +159,41 @@ unfolding S.start
 started_number d path = refl
 
 module _ (s : Subsystem) (p : AreSo Fair s.mounted) where
-  on_seat : (n : ℕ) (o : Option MarksDevice) → device_in (devices_of s) n ≡ o → IfSome o Fair → (f : MarksDevice → MarksDeed) →
-      ((d : MarksDevice) → IsSeat s d → Fair d → KeptDeed s (f d)) → KeptDeed s (on_device o f)
-  on_seat n None here q f h = record { is = tt }
-  on_seat n (Some d) here q f h =
-      h d (λ m there. same_found s.mounted n d m here (ap (mounted_in s.mounted) (sym (number_found s.mounted n d here)) ∙ there)) q
+  fair_of : (d : MarksDevice) → Stands s d → Fair d
+  fair_of d x = subst (λ (o : Option MarksDevice). IfSome o Fair) x.found (device_so Fair s.mounted x.number p)
 
-  deed_if : (b : Bool) {x y : MarksDeed} → KeptDeed s x → KeptDeed s y → KeptDeed s (if b then x else y)
-  deed_if true f g = f
-  deed_if false f g = g
+  held_so : (d : MarksDevice) → Stands s d → (z : MarksDevice) → z.store.device ≡ d.store.device → AddsNone d z → (end : EventEnd) →
+      KeepsDeed s (Becomes z end)
+  held_so d x z number same end = λ m there. same ∙ ap checks_of (sym (seat_of s d x m (ap (mounted_in s.mounted) (sym number) ∙ there)))
 
-  ordered : (o : Option OrderFault) {x : MarksDeed} → KeptDeed s x → KeptDeed s (order o x)
-  ordered (Some fault) h = record { is = tt }
-  ordered None h = h
-
-  held_so : (d : MarksDevice) → IsSeat s d → (z : MarksDevice) → z.store.device ≡ d.store.device → AddsNone d z → (end : EventEnd) →
-      KeptDeed s (Becomes z end)
-  held_so d seat z number same end = record {
-    is = λ m there. same ∙ ap checks_of (sym (seat m (ap (mounted_in s.mounted) (sym number) ∙ there)));
+  deeds_show : IsDeedwise s (KeepsDeed s)
+  deeds_show = record {
+    ended = λ end. tt;
+    started = λ d x path. held_so d x (start d path) (started_number d path) (start_same d path) (ends.Started (next_ordinal d path));
+    seconded = λ d x h is. (seat_of s d x, answers d (second by_plain d) (λ a. Some (ends.Second a)) (second_causes d (fair_of d x) h is));
+    commanded = λ d x whole o running. (
+      seat_of s d x,
+      answers d (command by_plain d) (end_of ends.Stepped) (command_causes d (fair_of d x) o running whole),
+    );
+    worked = λ d x. (seat_of s d x, answers d (background by_plain d) (end_of ends.Back) (λ t. inl (background_same d t)));
+    cut = λ d x path. (seat_of s d x, answers d (reset by_plain d path) (λ a. Some (ends_done a)) (λ t. inl (reset_same d path t)));
+    lost_cache = λ d t. loss_same d losses.Cache t;
+    lost_store = λ d t. loss_same d losses.Store t;
+    lost_side = λ d x side. (
+      seat_of s d x,
+      answers d (lose by_plain d (losses.Side side)) (λ a. Some (ends_done a)) (λ t. inl (loss_same d (losses.Side side) t)),
+    );
+    lost_power = λ d t. power_same d t;
+    repaired_cache = tt;
+    repaired_store = tt;
+    lent = λ x y z. tt;
+    held = λ d x. held_so d x (hold d) refl refl ends.Done;
+    resumed = λ d x. held_so d x (resume d) refl refl ends.Done;
   }
-
-  starts_by : (d : MarksDevice) → IsSeat s d → (path : ℕ) (o : Option StartFault) → KeptDeed s (start_by {R = Bool} d path o)
-  starts_by d seat path (Some fault) = record { is = tt }
-  starts_by d seat path None = held_so d seat (start d path) (started_number d path) (start_same d path) (ends.Started (next_ordinal d path))
-
-  seconds_so : (d : MarksDevice) → IsSeat s d → Fair d → (h : HalfWrite (Unit {0})) → d.store.half ≡ Some h → KeptDeed s (seconds by_plain d)
-  seconds_so d seat f h is = record { is = (seat, answers d (second by_plain d) (λ a. Some (ends.Second a)) (second_causes d f h is)) }
-
-  steps_by : (d : MarksDevice) → IsSeat s d → Fair d → d.store.half ≡ None → (r : Option OpenEntry) → d.history.running ≡ r →
-      KeptDeed s (if is_some r then Asks d (may_end_by ends.Stepped (command by_plain d)) else Ends ends.Idle)
-  steps_by d seat f whole None none = record { is = tt }
-  steps_by d seat f whole (Some o) running = record { is = (seat, answers d (command by_plain d) (end_of ends.Stepped) (command_causes d f o running whole)) }
-
-  step_by : (d : MarksDevice) → IsSeat s d → Fair d → (h : Option (HalfWrite (Unit {0}))) → d.store.half ≡ h →
-      KeptDeed s (if is_some h then seconds by_plain d
-      else if is_some d.history.running then Asks d (may_end_by ends.Stepped (command by_plain d)) else Ends ends.Idle)
-  step_by d seat f (Some h) is = seconds_so d seat f h is
-  step_by d seat f None whole = steps_by d seat f whole d.history.running refl
-
-  back_by : (d : MarksDevice) → IsSeat s d → Fair d → (h : Option (HalfWrite (Unit {0}))) → d.store.half ≡ h →
-      KeptDeed s (if is_some h then seconds by_plain d else Asks d (may_end_by ends.Back (background by_plain d)))
-  back_by d seat f (Some h) is = seconds_so d seat f h is
-  back_by d seat f None whole = record { is = (seat, answers d (background by_plain d) (end_of ends.Back) (λ t. inl (background_same d t))) }
-
-  at_device : (n : ℕ) (f : MarksDevice → MarksDeed) → ((d : MarksDevice) → IsSeat s d → Fair d → KeptDeed s (f d)) →
-      KeptDeed s (on_device (device_in (devices_of s) n) f)
-  at_device n f h = on_seat n (device_in (devices_of s) n) refl (device_so Fair s.mounted n p) f h
-
-  deed_so : (e : Event) → KeptDeed s (deed by_plain s.pool (devices_of s) e)
-  unfolding E.deed
-  deed_so (events.Start path d) =
-      at_device d (starts path)
-      (λ x seat f. deed_if (is_own path x.history.running) (record { is = tt }) (starts_by x seat path (start_fault x path)))
-  deed_so (events.Step d) = at_device d (step by_plain) (λ x seat f. step_by x seat f x.store.half refl)
-  deed_so (events.Back d) = at_device d (back by_plain) (λ x seat f. back_by x seat f x.store.half refl)
-  deed_so (events.Reset path d) =
-      at_device d (λ x. Asks x (ends_by ends_done (reset by_plain x path)))
-      (λ x seat f. record { is = (seat, answers x (reset by_plain x path) (λ a. Some (ends_done a)) (λ t. inl (reset_same x path t))) })
-  deed_so events.FailCache = deed_if (not s.pool.cache_up) (record { is = tt }) (record { is = λ x t. loss_same x losses.Cache t })
-  deed_so events.FailStore = deed_if (not s.pool.store_up) (record { is = tt }) (record { is = λ x t. loss_same x losses.Store t })
-  deed_so (events.FailVolume d side) =
-      at_device d (λ x. order (fail_fault x side) (Asks x (ends_by ends_done (lose by_plain x (losses.Side side)))))
-      (λ x seat f. ordered (fail_fault x side) (record {
-        is = (seat, answers x (lose by_plain x (losses.Side side)) (λ a. Some (ends_done a)) (λ t. inl (loss_same x (losses.Side side) t)));
-      }))
-  deed_so events.RepairCache = deed_if s.pool.cache_up (record { is = tt }) (deed_if (all_waiting s.pool == 0) (record { is = tt }) (record { is = tt }))
-  deed_so events.RepairStore = deed_if s.pool.store_up (record { is = tt }) (deed_if (all_waiting s.pool == 0) (record { is = tt }) (record { is = tt }))
-  deed_so (events.Pair a b) =
-      at_device a (λ x. on_device (device_in (devices_of s) b) (λ y. order (pair_fault x y) (Lends x y)))
-      (λ x _ _. at_device b (λ y. order (pair_fault x y) (Lends x y)) (λ y _ _. ordered (pair_fault x y) (record { is = tt })))
-  deed_so (events.Suspend a) =
-      at_device a (λ x. order (suspend_fault x) (Becomes (hold x) ends.Done))
-      (λ x seat f. ordered (suspend_fault x) (held_so x seat (hold x) refl refl ends.Done))
-  deed_so (events.Resume a) =
-      at_device a (λ x. order (resume_fault x) (Becomes (resume x) ends.Done))
-      (λ x seat f. ordered (resume_fault x) (held_so x seat (resume x) refl refl ends.Done))
-  deed_so events.Power = record { is = λ x t. power_same x t }
 
   event_shown : (e : Event) → Shows (happens s e)
   unfolding H.happens
-  event_shown e = happens_shown s (deed by_plain s.pool (devices_of s) e) (deed_so e).is
+  event_shown e = happens_shown s (deed by_plain s.pool (devices_of s) e) (deed_is s (KeepsDeed s) deeds_show e)
 
 -- The two orders for which a volume is handed in
 

@@ -13,6 +13,7 @@ pub mod SecondChecks
 pub mod NothingChecked
 pub mod NothingMissed
 pub mod RunLines
+pub mod DeedWalk
 pub mod WaitingSum
 pub mod Waiting
 pub mod CheckCauses
