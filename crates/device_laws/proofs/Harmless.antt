@@ -86,7 +86,7 @@ module _ {F P H R : Type 0} (c : Contents F P H R) where
   losing_fine s o =
       let z = cache_lost c (with_loss s losses.Cache) in
       let f = cache_fine (with_loss s losses.Cache) (record { up = o.up; level = o.level }) in
-      firm_from s (tracks_of s) z (record { lost = f.lost; up = f.up; level = f.level })
+      firm_from s (tracks_of s) z (record { lost = f.lost; up = f.up; takes = f.takes; level = f.level })
     where
       firm_from : (s : Store F P H) (n : ℕ) (z : Store F P H) → Fine (core_of s) (core_of z) → Goes s (all_firm_told c n z)
       firm_from s n z f = lucky_weaker (firm_goes n z) (λ y _ g. fine_on (core_of s) (core_of z) (core_of y) f g)
@@ -132,7 +132,7 @@ module _ {F P H R : Type 0} (c : Contents F P H R) where
     off_by : (d : Device F P H) (s : Store F P H) → OnA (core_of s) → Fine (core_of s) (core_of (powered_off c d s).store)
     off_by d s o =
         let f = powerless_fine (with_loss s losses.Cache) (record { up = o.up; level = o.level }) in
-        record { lost = f.lost; up = f.up; level = f.level }
+        record { lost = f.lost; up = f.up; takes = f.takes; level = f.level }
 
     cut_goes : (d : Device F P H) (s : Store F P H) (h : HalfWrite H) (origin : Origin) → OnA (core_of s) →
         DeviceGoes c s (and_then (origin_cut c s h origin) (λ z _. Done (powered_off c d z) (tt {0})))

@@ -41,6 +41,7 @@ use Rattle.device_defs.specs.Outcomes.{Turn, usage_of, wrote_turn}
 use Rattle.device_defs.specs.Store.{OfCommand, Store, tracks_of, level_at, has_level, takes_b, frame_at, patch_at, is_lost, is_loose, half_is, with_frame}
 use Rattle.device_defs.specs.Writing as V
 use Rattle.device_defs.specs.Writing.{Wrote, write_counted, firm_first, write_first, write_second, write_done, opened}
+use Rattle.device_laws.specs.Unharmed.{some_takes}
 use Rattle.device_laws.proofs.ChainFeeds.{begun_stage, need_at, need_is}
 use Rattle.device_laws.proofs.Choices.{choice_fits}
 use Rattle.device_laws.proofs.Commands.{Stays, LookedAt, look_keeps_good}
@@ -202,10 +203,20 @@ module _ {F P H R : Type 0} (c : Contents F P H R) where
   took_so true = tt
   took_so false = tt
 
-  first_taken : (s : Store F P H) (t : ℕ) (r : R) → s.a.up ≡ true → Lucky (λ z (w : Wrote). IsTaken w.took) (write_first c s t r)
+  no_side : (a b : Bool) → (a || b) ≡ true → a ≡ false → b ≡ false → ⊥
+  no_side true b up down none = cc
+  no_side false true up down none = cc
+  no_side false false up down none = cc
+
+  -- while no call fails each side stays as it is
+  pub takes_still : (s z : Store F P H) → z.a.up ≡ s.a.up → takes_b z ≡ takes_b s → some_takes s ≡ true → some_takes z ≡ true
+  takes_still s z a b up = ap (λ (x : Bool). x || takes_b z) a ∙ ap (λ (x : Bool). s.a.up || x) b ∙ up
+
+  first_taken : (s : Store F P H) (t : ℕ) (r : R) → some_takes s ≡ true → Lucky (λ z (w : Wrote). IsTaken w.took) (write_first c s t r)
   unfolding V.write_first
   first_taken s t r up =
-      lucky_if s.a.up (λ _. lucky_write (lucky_done (took_so (takes_b s)))) (λ down. absurd (let both : true ≡ false = sym up ∙ down in cc))
+      lucky_if s.a.up (λ _. lucky_write (lucky_done (took_so (takes_b s))))
+      (λ down. lucky_if (takes_b s) (λ _. lucky_write (lucky_done tt)) (λ none. absurd (no_side s.a.up (takes_b s) up down none)))
 
   whole_taken : (s : Store F P H) (t : ℕ) (i : Image) (e : Edit) (bypass : Bool) → Lucky (λ z (took : Took). IsTaken took) (whole c s t i e bypass)
   whole_taken s t i e bypass =
@@ -228,7 +239,7 @@ module _ {F P H R : Type 0} (c : Contents F P H R) where
     by_taken t i e bypass opens was_loose s Unwritten is level = absurd is
 
     through_taken : (s : Store F P H) (t : ℕ) (i : Image) (e : Edit) (bypass opens : Bool) → t < tracks_of s → IsWell c s → is_lost s t ≡ false →
-        s.a.up ≡ true → Lucky (λ z (x : Took). IsTaken x) (through c s t i e bypass opens)
+        some_takes s ≡ true → Lucky (λ z (x : Took). IsTaken x) (through c s t i e bypass opens)
     unfolding E.through
     through_taken s t i e bypass opens lt w there up =
         lucky_then (λ z b. and_then (write_first c z t (c.bytes i)) (λ y v. through_by c t i e bypass opens b y v.took))
@@ -237,11 +248,11 @@ module _ {F P H R : Type 0} (c : Contents F P H R) where
         let below : t < tracks_of z = let tracks = g.0.goes.tracks in omega arith in
         lucky_then (λ y v. through_by c t i e bypass opens b y v.took)
         (with_always (write_first_keeps_good c faithful t z below (g.0.lost ∙ lost_mark s t there) (c.bytes i) g.0.goes.well)
-        (first_taken z t (c.bytes i) (g.1.up ∙ up)))
+        (first_taken z t (c.bytes i) (takes_still s z g.1.up g.1.takes up)))
         (λ y v h. by_taken t i e bypass opens b y v.took h.1 h.0.level))
 
     by_choice : (u : Usage) (first t : ℕ) (i : Image) (e : Edit) (s : Store F P H) (choice : Choice) → t < tracks_of s → IsWell c s → is_lost s t ≡ false →
-        s.a.up ≡ true → Lucky (λ z (x : Took). IsTaken x) (write_by c u first t i e s choice)
+        some_takes s ≡ true → Lucky (λ z (x : Took). IsTaken x) (write_by c u first t i e s choice)
     by_choice u first t i e s Provisional lt w there up = lucky_done tt
     by_choice u first t i e s (Fast slot) lt w there up = lucky_tell (λ _. lucky_done tt)
     by_choice u first t i e s Through lt w there up = through_taken s t i e (is_bypass u.mode) (not (another_loose s first t)) lt w there up
@@ -256,19 +267,19 @@ module _ {F P H R : Type 0} (c : Contents F P H R) where
     unchosen_none s t Through = lucky_done tt
 
     written_taken : (s : Store F P H) (u : Usage) (first t : ℕ) (old : Image) (e : Edit) (choice : Choice) → t < tracks_of s → IsWell c s →
-        is_lost s t ≡ false → s.a.up ≡ true → Lucky (λ z (x : Option Took). WasTaken x) (written c s u first t old e choice)
+        is_lost s t ≡ false → some_takes s ≡ true → Lucky (λ z (x : Option Took). WasTaken x) (written c s u first t old e choice)
     written_taken s u first t old e choice lt w there up =
         lucky_then (λ z took. Done z (Some took)) (by_choice u first t (edited_image e old) e s choice lt w there up) (λ z took is. lucky_done is)
 
     chosen_taken : (u : Usage) (first t : ℕ) (old : Image) (e : Edit) (s : Store F P H) (choice : Choice) → t < tracks_of s → IsWell c s →
-        is_lost s t ≡ false → s.a.up ≡ true → Lucky (λ z (x : Option Took). WasTaken x) (write_chosen c u first t old e s choice)
+        is_lost s t ≡ false → some_takes s ≡ true → Lucky (λ z (x : Option Took). WasTaken x) (write_chosen c u first t old e s choice)
     chosen_taken u first t old e s choice lt w there up =
         lucky_if (is_given c s choice)
         (λ _. lucky_tell (λ ok. lucky_if ok (λ _. written_taken s u first t old e choice lt w there up) (λ _. unchosen_none s t choice)))
         (λ _. written_taken s u first t old e choice lt w there up)
 
     write_taken : (s : Store F P H) (u : Usage) (first t : ℕ) (old : Image) (e : Edit) → t < tracks_of s → IsWell c s → is_lost s t ≡ false →
-        s.a.up ≡ true → Lucky (λ z (x : Option Took). WasTaken x) (write c s u first t old e)
+        some_takes s ≡ true → Lucky (λ z (x : Option Took). WasTaken x) (write c s u first t old e)
     unfolding E.write
     write_taken s u first t old e lt w there up =
         lucky_tried s _ tt
@@ -289,7 +300,7 @@ module _ {F P H R : Type 0} (c : Contents F P H R) where
     came_so at chain t s None is = lucky_done tt
 
     went_so : (u : Usage) (first t : ℕ) (s : Store F P H) (i : Image) (chain : ChainState) (p : Progress) → StepIs t p chain → t < tracks_of s →
-        IsWell c s → is_lost s t ≡ false → s.a.up ≡ true → Lucky (λ z (x : Option Went). WentSo t x) (went_by c u first t s i chain p)
+        IsWell c s → is_lost s t ≡ false → some_takes s ≡ true → Lucky (λ z (x : Option Went). WentSo t x) (went_by c u first t s i chain p)
     went_so u first t s i chain (progresses.Ended e) is lt w there up = lucky_done tt
     went_so u first t s i chain (progresses.Need q) is lt w there up = lucky_done is
     went_so u first t s i chain (progresses.Write q e) is lt w there up =
@@ -297,7 +308,7 @@ module _ {F P H R : Type 0} (c : Contents F P H R) where
     went_so u first t s i chain (progresses.Local act) is lt w there up = absurd is
 
     looked_so : (chain : ChainState) (first t : ℕ) (s : Store F P H) (o : Option Imaged) → HasBytes o → need_of chain ≡ Some t → t < tracks_of s →
-        IsWell c s → is_lost s t ≡ false → s.a.up ≡ true → Lucky (λ z (x : Option Went). WentSo t x) (had_by (looked c chain first t) s o)
+        IsWell c s → is_lost s t ≡ false → some_takes s ≡ true → Lucky (λ z (x : Option Went). WentSo t x) (had_by (looked c chain first t) s o)
     looked_so chain first t s None has needs lt w there up = lucky_done tt
     looked_so chain first t s (Some (Has i)) has needs lt w there up =
         lucky_tried s _ tt
@@ -310,7 +321,7 @@ module _ {F P H R : Type 0} (c : Contents F P H R) where
       none_half s t none = ap (λ (o : _). half_is o t) none
 
       look_so : (chain : ChainState) (first t : ℕ) (s : Store F P H) → Within chain → tracks_of s ≡ n → t < tracks_of s → IsWell c s → s.half ≡ None →
-          need_of chain ≡ Some t → is_lost s t ≡ false → s.a.up ≡ true → Lucky (λ z (x : Option Went). WentSo t x) (look c chain first t s)
+          need_of chain ≡ Some t → is_lost s t ≡ false → some_takes s ≡ true → Lucky (λ z (x : Option Went). WentSo t x) (look c chain first t s)
       unfolding N.look
       look_so chain first t s is same lt w none needs there up =
           lucky_if (is_lost s t) (λ lost. absurd (let both : true ≡ false = sym lost ∙ there in cc))
@@ -318,14 +329,14 @@ module _ {F P H R : Type 0} (c : Contents F P H R) where
           (with_always (image_keeps_good c faithful s (usage_of chain) t (subst (Reaches (usage_of chain)) (sym same) (within.reaches chain is)) lt w)
           (lucky_both (image_goes c s (usage_of chain) t) (image_has s (usage_of chain) t (w.good t lt) there (none_half s t none))))
           (λ z o g. looked_so chain first t z o g.1.1 needs (let tracks = g.0.goes.tracks in omega arith) g.0.goes.well
-          (ap (λ (l : List Bool). get_or l t false) g.1.0.lost ∙ there) (g.1.0.up ∙ up)))
+          (ap (λ (l : List Bool). get_or l t false) g.1.0.lost ∙ there) (takes_still s z g.1.0.up g.1.0.takes up)))
 
       abbrev Follows : ℕ → ℕ → Type 0
       Follows k first = (chain : ChainState) (t : ℕ) (s : Store F P H) → Within chain → tracks_of s ≡ n → t < n → IsWell c s → s.half ≡ None →
-          need_of chain ≡ Some t → n ≤ t + k → ((q : ℕ) → is_lost s q ≡ false) → s.a.up ≡ true → Lucky (λ z (x : Option Turn). TurnSo x) (follow c k first chain t s)
+          need_of chain ≡ Some t → n ≤ t + k → ((q : ℕ) → is_lost s q ≡ false) → some_takes s ≡ true → Lucky (λ z (x : Option Turn). TurnSo x) (follow c k first chain t s)
 
       by_went : (k first t : ℕ) (s z : Store F P H) (o : Option Went) → Follows k first → tracks_of s ≡ n → LookedAt c faithful n Within within s z o →
-          WentSo t o → n ≤ t + suc k → ((q : ℕ) → is_lost z q ≡ false) → z.a.up ≡ true →
+          WentSo t o → n ≤ t + suc k → ((q : ℕ) → is_lost z q ≡ false) → some_takes z ≡ true →
           Lucky (λ y (x : Option Turn). TurnSo x) (had_by (goes_on c (follow c k first)) z o)
       by_went k first t s z None later same f so room there up = lucky_done tt
       by_went k first t s z (Some (Over turn)) later same f so room there up = lucky_done so
@@ -341,4 +352,4 @@ module _ {F P H R : Type 0} (c : Contents F P H R) where
           (lucky_both (look_goes c faithful n Within within chain first t s is same (omega arith) w)
           (look_so chain first t s is same (omega arith) w none needs (there t) up)))
           (λ z o g. by_went k first t s z o (follow_so k first) same g.0 g.1.1 room (λ q. ap (λ (l : List Bool). get_or l q false) g.1.0.lost ∙ there q)
-          (g.1.0.up ∙ up))
+          (takes_still s z g.1.0.up g.1.0.takes up))

@@ -37,7 +37,7 @@ use Rattle.device_laws.proofs.Lucky.{Lucky, lucky_done, lucky_try, lucky_then, l
 use Rattle.device_laws.proofs.Notices.{hearing_keeps_good}
 use Rattle.device_laws.proofs.OrdersStand.{chain_stands}
 use Rattle.device_laws.proofs.TrackMarks.{IsFaithful}
-use Rattle.device_laws.proofs.Unchecked.{NoCheck, TurnSo, lucky_any, follow_so}
+use Rattle.device_laws.proofs.Unchecked.{NoCheck, TurnSo, lucky_any, takes_still, follow_so}
 use Rattle.device_laws.proofs.UnlostParts.{hear_goes}
 
 -- Journals
@@ -157,7 +157,7 @@ module _ {F P H R : Type 0} (c : Contents F P H R) (n : ℕ) where
         let well = well_on c d.store (event_begun d).store s front g.0 in
         by_has m (IsWithin m) (within_stays m (whole_cylinders d.store.cylinders)) (record (event_begun d) { store = s }) d.history.running d.chain un
         of_device well.tracks well.well (well.half ∙ none)
-        (g.1.up ∙ calm.0, λ t. ap (λ (l : List Bool). get_or l t false) g.1.lost ∙ calm.1 t) f))
+        (takes_still c d.store s g.1.up g.1.takes calm.0, λ t. ap (λ (l : List Bool). get_or l t false) g.1.lost ∙ calm.1 t) f))
         (λ y a h. lucky_then (λ z _. Done (record y { store = z }) a) (lucky_any (event_end c (waiting_count c d.store) y.store)) (λ z _ _. lucky_done h)))
 
     pub command_unchecked : (d : Device F P H) → ((chain : ChainState) → d.chain ≡ Some chain → IsChainOf d.store.cylinders chain) → IsWell c d.store →

@@ -1,4 +1,4 @@
--- Where no call fails, no part of an event loses a track; and while side A is up, no track becomes stale there.
+-- Where no call fails, no part of an event loses a track, and each side stays as it is; and while side A is up, no track becomes stale there.
 use Rattle.std.proofs.Common.{◌≡◌, ◌≢◌, ◌<◌, ◌≤◌, ℕ, Bool, true, false, List, Option, Some, None, is_some, length, set, get_or, refl, sym, ap, subst, ◌∙◌, arith, ◌⊎◌, inl, inr}
 use Rattle.std.proofs.lemmas.Bool.{cases_eq, cases_lt}
 use Rattle.std.proofs.lemmas.List.{get_or-set_same, get_or-set_other, get_or_past, length-set}
@@ -8,7 +8,7 @@ use Rattle.ckd_types.specs.declared.paths.Side.TheVariants as sides
 use Rattle.device_defs.specs.Contents.{Contents}
 use Rattle.device_defs.specs.Losses as L
 use Rattle.device_defs.specs.Losses.{slot_in, by_frame, kept_by_frame, hardened_by_loss, settled, stale_everywhere}
-use Rattle.device_defs.specs.Store.{Store, has_level, frame_at, patch_at, is_lost, is_loose, half_is, with_stale}
+use Rattle.device_defs.specs.Store.{Store, takes_b, has_level, frame_at, patch_at, is_lost, is_loose, half_is, with_stale}
 use Rattle.device_defs.specs.Writing.{taken_a}
 use Rattle.device_laws.proofs.TrackMarks as M
 use Rattle.device_laws.proofs.TrackMarks.{TrackMarks, marks, is_good, frame_mark, track_at}
@@ -17,38 +17,42 @@ use Rattle.device_laws.proofs.TrackMarks.{TrackMarks, marks, is_good, frame_mark
 pub record Core : Type 0 where
   pub lost : List Bool
   pub up : Bool
+  pub takes : Bool  -- side B takes writes
   pub stale : List Bool
 
 abbrev pub core_of : {F P H : Type 0} → Store F P H → Core
-core_of s = record { lost = s.lost; up = s.a.up; stale = s.a.stale }
+core_of s = record { lost = s.lost; up = s.a.up; takes = takes_b s; stale = s.a.stale }
 
 pub record Fine (x y : Core) : Type 0 where
   pub lost : y.lost ≡ x.lost
   pub up : y.up ≡ x.up
+  pub takes : y.takes ≡ x.takes
   pub level : x.up ≡ true → (q : ℕ) → get_or x.stale q false ≡ false → get_or y.stale q false ≡ false
 
 -- but for what side A has of track t
 pub record Off (t : ℕ) (x y : Core) : Type 0 where
   pub lost : y.lost ≡ x.lost
   pub up : y.up ≡ x.up
+  pub takes : y.takes ≡ x.takes
   pub level : x.up ≡ true → (q : ℕ) → q ≢ t → get_or x.stale q false ≡ false → get_or y.stale q false ≡ false
 
 pub fine : (x : Core) → Fine x x
-fine x = record { lost = refl; up = refl; level = λ up q e. e }
+fine x = record { lost = refl; up = refl; takes = refl; level = λ up q e. e }
 
 pub fine_on : (x y z : Core) → Fine x y → Fine y z → Fine x z
-fine_on x y z f g = record { lost = g.lost ∙ f.lost; up = g.up ∙ f.up; level = λ up q e. g.level (f.up ∙ up) q (f.level up q e) }
+fine_on x y z f g = record { lost = g.lost ∙ f.lost; up = g.up ∙ f.up; takes = g.takes ∙ f.takes; level = λ up q e. g.level (f.up ∙ up) q (f.level up q e) }
 
 pub off_on : (t : ℕ) (x y z : Core) → Off t x y → Fine y z → Off t x z
-off_on t x y z f g = record { lost = g.lost ∙ f.lost; up = g.up ∙ f.up; level = λ up q ne e. g.level (f.up ∙ up) q (f.level up q ne e) }
+off_on t x y z f g = record { lost = g.lost ∙ f.lost; up = g.up ∙ f.up; takes = g.takes ∙ f.takes; level = λ up q ne e. g.level (f.up ∙ up) q (f.level up q ne e) }
 
 pub fine_off : (t : ℕ) (x y : Core) → Fine x y → Off t x y
-fine_off t x y f = record { lost = f.lost; up = f.up; level = λ up q ne e. f.level up q e }
+fine_off t x y f = record { lost = f.lost; up = f.up; takes = f.takes; level = λ up q ne e. f.level up q e }
 
 pub off_down : (t : ℕ) (x y : Core) → Off t x y → y.up ≡ false → Fine x y
 off_down t x y f down = record {
   lost = f.lost;
   up = f.up;
+  takes = f.takes;
   level = λ up q e. absurd (let both : true ≡ false = sym up ∙ sym f.up ∙ down in cc);
 }
 
@@ -74,22 +78,22 @@ module _ {F P H : Type 0} where
   -- a side takes a track
   took_a : (x : Core) (s : Store F P H) (t : ℕ) (b : Bool) → Off t x (core_of s) →
       Fine x (core_of (if b then with_stale (with_stale s sides.A t false) sides.B t true else with_stale s sides.A t false))
-  took_a x s t true o = record { lost = o.lost; up = o.up; level = λ up q e. clear_at s.a.stale t q (cases_eq q t) (λ ne. o.level up q ne e) }
-  took_a x s t false o = record { lost = o.lost; up = o.up; level = λ up q e. clear_at s.a.stale t q (cases_eq q t) (λ ne. o.level up q ne e) }
+  took_a x s t true o = record { lost = o.lost; up = o.up; takes = o.takes; level = λ up q e. clear_at s.a.stale t q (cases_eq q t) (λ ne. o.level up q ne e) }
+  took_a x s t false o = record { lost = o.lost; up = o.up; takes = o.takes; level = λ up q e. clear_at s.a.stale t q (cases_eq q t) (λ ne. o.level up q ne e) }
 
   pub taken_a_fine : (x : Core) (s : Store F P H) (t : ℕ) → Off t x (core_of s) → Fine x (core_of (taken_a s t))
   taken_a_fine x s t o = took_a x s t s.b.up o
 
   everywhere_by : (s : Store F P H) (t : ℕ) (b : Bool) →
       Off t (core_of s) (core_of (if b then with_stale (with_stale s sides.A t true) sides.B t true else with_stale s sides.A t true))
-  everywhere_by s t true = record { lost = refl; up = refl; level = λ up q ne e. stale_other s.a.stale t q ne e }
-  everywhere_by s t false = record { lost = refl; up = refl; level = λ up q ne e. stale_other s.a.stale t q ne e }
+  everywhere_by s t true = record { lost = refl; up = refl; takes = refl; level = λ up q ne e. stale_other s.a.stale t q ne e }
+  everywhere_by s t false = record { lost = refl; up = refl; takes = refl; level = λ up q ne e. stale_other s.a.stale t q ne e }
 
   pub everywhere_off : (s : Store F P H) (t : ℕ) → Off t (core_of s) (core_of (stale_everywhere s t))
   everywhere_off s t = everywhere_by s t s.paired
 
   pub side_fine : (s : Store F P H) (side : Side) (t : ℕ) → Fine (core_of s) (core_of (with_stale s side t false))
-  side_fine s sides.A t = record { lost = refl; up = refl; level = λ up q e. clear_at s.a.stale t q (cases_eq q t) (λ ne. e) }
+  side_fine s sides.A t = record { lost = refl; up = refl; takes = refl; level = λ up q e. clear_at s.a.stale t q (cases_eq q t) (λ ne. e) }
   side_fine s sides.B t = fine (core_of s)
 
   pub fine_if : (x : Core) (b : Bool) (s z : Store F P H) → (b ≡ true → Fine x (core_of s)) → (b ≡ false → Fine x (core_of z)) →

@@ -355,9 +355,9 @@ module _ {F P H R : Type 0} (c : Contents F P H R) where
     unfolding V.write_first
     write_first_fine x s t r lt w o =
         lucky_if s.a.up (λ up. lucky_write (lucky_done (taken_a_fine x (write_counted s true) t
-        (record { lost = o.lost; up = o.up; level = o.level }))))
+        (record { lost = o.lost; up = o.up; takes = o.takes; level = o.level }))))
         (λ down. let f = off_down t x (core_of s) o down in
-        lucky_if (takes_b s) (λ _. lucky_write (lucky_done (record { lost = f.lost; up = f.up; level = f.level })))
+        lucky_if (takes_b s) (λ _. lucky_write (lucky_done (record { lost = f.lost; up = f.up; takes = f.takes; level = f.level })))
         (λ _. lucky_done (fine_on x (core_of s) (core_of (settled c s t)) f (settled_fine c s t (w.good t lt)))))
 
     -- firm first, and the first part; then more
@@ -480,7 +480,7 @@ module _ {F P H R : Type 0} (c : Contents F P H R) where
     abbrev pub IsTried : Store F P H → ℕ → Type 0
     IsTried s t = (takes_b s ≡ true) ⊎ (has_level s t ≡ true)
 
-    tried_lucky : (s : Store F P H) (t : ℕ) (r : R) → IsTried s t →
+    pub tried_lucky : (s : Store F P H) (t : ℕ) (r : R) → IsTried s t →
         Lucky (λ z (a : Unit {0}). Fine (core_of s) (core_of z) × (has_level z t ≡ true)) (write_second c s t r)
     unfolding V.write_second
     tried_lucky s t r (inl takes) =

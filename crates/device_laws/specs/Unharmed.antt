@@ -1,5 +1,5 @@
 -- Marks of a device that are good, and a device of which no side was lost, no call failed and whose store was never lost.
-use Rattle.std.specs.Prelude.{◌≡◌, ◌<◌, ◌⊎◌, ℕ, true, false, Some, is_some, ◌≤◌, ◌+◌, Option, None, Bool, ◌&&◌}
+use Rattle.std.specs.Prelude.{◌≡◌, ◌<◌, ◌⊎◌, ℕ, true, false, Some, is_some, ◌≤◌, ◌+◌, Option, None, Bool, ◌&&◌, ◌||◌}
 use Rattle.device_defs.specs.Between.{HasSizes}
 use Rattle.device_defs.specs.Contents.{Contents}
 use Rattle.device_defs.specs.Sound.{has_sound_marks}
@@ -61,6 +61,10 @@ LossesAreCounted d = all_losses d.history ≤ d.store.counts.losses.cache
 
 -- Checks
 
+-- side A is up, or side B is up and not held
+abbrev pub some_takes : {F P H : Type 0} → Store F P H → Bool
+some_takes s = s.a.up || takes_b s
+
 abbrev pub ends_with_equipment_check : Item → Bool
 ends_with_equipment_check (items.Program e) = is_checked e.how && is_equipment_check (last_sense e.ends)
 ends_with_equipment_check _ = false
@@ -70,6 +74,6 @@ abbrev pub RunsUnharmed : Option OpenEntry → Type 0
 RunsUnharmed (Some o) = has_loss o.acts ≡ false
 RunsUnharmed None = Unit {0}
 
--- side A is up, and no track is lost
+-- some side takes writes, and no track is lost
 abbrev pub IsCalm : {F P H : Type 0} → Store F P H → Type 0
-IsCalm s = (s.a.up ≡ true) × ((t : ℕ) → is_lost s t ≡ false)
+IsCalm s = (some_takes s ≡ true) × ((t : ℕ) → is_lost s t ≡ false)

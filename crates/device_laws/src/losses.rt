@@ -92,8 +92,8 @@ pub fn loose_losses_are_counted<K: Keep<TrackImage>>()
         Ran (λ ok. Unit {0}) K.hears (power contents d) u e a z → LossesAreCounted e }
 {}
 
-/// A command adds no entry to the journal that ended with equipment check, where no more calls failed, side A is up, no track is lost,
-/// and of its own program no data of cache fast write were.
+/// A command adds no entry to the journal that ended with equipment check, where no more calls failed, some side takes writes, no track is
+/// lost, and of its own program no data of cache fast write were.
 pub fn calm_command_checks_nothing<K: Keep<TrackImage>>()
     ensures { (d e : WholeDevice) (u z : Outside (List ℕ) K) (a : Option Stepped) → MarksAreGood contents d.store → d.store.half ≡ None →
         ((chain : ChainState) → d.chain ≡ Some chain → IsChainOf d.store.cylinders chain) → IsCalm d.store → RunsUnharmed d.history.running →

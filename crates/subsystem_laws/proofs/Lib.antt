@@ -13,8 +13,11 @@ pub mod SecondChecks
 pub mod NothingChecked
 pub mod NothingMissed
 pub mod RunLines
+pub mod DeedWalk
 pub mod WaitingSum
 pub mod Waiting
+pub mod CheckCauses
+pub mod Causing
 pub mod WholeSlots
 pub mod SlotsApart
 pub mod AllSound

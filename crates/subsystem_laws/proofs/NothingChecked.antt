@@ -1,7 +1,7 @@
 -- In a run no command ends with equipment check on a device that was never lent and of which nothing was lost and no call failed.
 use Rattle.std.proofs.Common.{◌≡◌, ◌≤◌, ◌+◌, ℕ, Bool, true, List, [], ◌∷◌, ◌++◌, map, Some, None, refl, subst, sym, ap, ◌∙◌, arith}
 use Rattle.std.proofs.lemmas.List.Elements.{All-head, All-tail}
-use Rattle.std.specs.Prelude.{All}
+use Rattle.std.specs.Prelude.{All, ◌||◌}
 use Rattle.ckd_types.specs.declared.paths.Side.{Side}
 use Rattle.ckd_types.specs.declared.paths.Side.TheVariants as sides
 use Rattle.deck_text.specs.declared.line.DeviceLine.{DeviceLine}
@@ -26,7 +26,7 @@ use Rattle.device_defs.specs.Excused.{losses_of, loose_losses}
 use Rattle.device_defs.specs.Orders as O
 use Rattle.device_defs.specs.Orders.{restore, replace, with_tracks, lent_to, given_up, lend}
 use Rattle.device_defs.specs.Owed.{waiting_count, ended}
-use Rattle.device_defs.specs.Store.{HalfWrite, tracks_of}
+use Rattle.device_defs.specs.Store.{HalfWrite, tracks_of, takes_b}
 use Rattle.device_defs.specs.Device.{event_begun, quiet_event}
 use Rattle.device_defs.specs.Losses.{over}
 use Rattle.device_defs.specs.Start as S
@@ -77,7 +77,7 @@ quiet_past : {A : Type 0} (d : MarksDevice) (body : MarksDevice → Interaction 
 quiet_past d body does =
     always_then does (λ y a g. always_then (always_any (ended by_plain (waiting_count by_plain d.store) y.store)) (λ z _ _. always_done g))
 
-lend_past : (d : MarksDevice) (to : ℕ) → Always (lend by_plain d to) (λ y _. y.history ≡ d.history)
+pub lend_past : (d : MarksDevice) (to : ℕ) → Always (lend by_plain d to) (λ y _. y.history ≡ d.history)
 unfolding O.lend
 lend_past d to =
     quiet_past d (λ z. Done (with_tracks z (lent_to (over (tracks_of z.store) (given_up by_plain) z.store) to)) tt) (always_done refl)
@@ -119,7 +119,7 @@ module _ (d : MarksDevice) (q : Quiet d) where
             let on_a = q.fair.un was b.nothing in
             let runs = runs_unharmed d.history.running (none_running _ (running_losses d.history.running) z.1) in (
               at (where_none_failed (λ e _. equipment_checks e.history ≡ 0) x (below_top d.store.counts.failed b.nothing.failed)
-                  (command_unchecked_within by_plain 0 marks_are_faithful d (within d q.fair.good) (q.fair.good.well was) whole (on_a.up, on_a.kept) runs z.0)) t
+                  (command_unchecked_within by_plain 0 marks_are_faithful d (within d q.fair.good) (q.fair.good.well was) whole (ap (λ (b : Bool). b || takes_b d.store) on_a.up, on_a.kept) runs z.0)) t
                   b.failed,
               at (command_has by_plain 0 d z.1) t,
             );

@@ -1,5 +1,5 @@
 -- The other part of a write ends with no equipment check where side A is up and has each track, and no call fails; nor does anything of itself.
-use Rattle.std.proofs.Common.{◌≡◌, ◌≤◌, ◌+◌, ℕ, Bool, true, false, List, [], ◌∷◌, Option, Some, None, refl, sym, ◌∙◌, arith}
+use Rattle.std.proofs.Common.{◌≡◌, ◌≤◌, ◌+◌, ℕ, Bool, true, false, List, [], ◌∷◌, Option, Some, None, refl, sym, ◌∙◌, arith, ◌⊎◌, inr}
 use Rattle.std.specs.List.{fold}
 use Rattle.std.specs.Prelude.{if◌then◌else◌}
 use Rattle.ckd_chain.specs.State.{ChainState}
@@ -18,7 +18,7 @@ use Rattle.device_defs.specs.Marks.{MarksDevice, MarksStore}
 use Rattle.device_defs.specs.Owed.{hear, waiting_count, ended}
 use Rattle.device_defs.specs.Second as D
 use Rattle.device_defs.specs.Second.{closed, half_image_of, finished, second_done, second_by, second_part}
-use Rattle.device_defs.specs.Store.{Origin, OfCommand, OfCut, OfBackground, HalfWrite, has_level, stale_at, level_at}
+use Rattle.device_defs.specs.Store.{Origin, OfCommand, OfCut, OfBackground, HalfWrite, takes_b, has_level, stale_at, level_at}
 use Rattle.device_defs.specs.Writing.{write_done}
 use Rattle.device_laws.specs.Unharmed.{IsWholeOnA, RunsUnharmed, running_losses}
 use Rattle.device_laws.proofs.Always.{Always, always_done, always_then}
@@ -28,7 +28,7 @@ use Rattle.device_laws.proofs.Lucky.{Lucky, lucky_done, lucky_tell, lucky_then, 
 use Rattle.device_laws.proofs.TrackMarks.{marks_are_faithful}
 use Rattle.device_laws.proofs.Unchecked.{lucky_any}
 use Rattle.device_laws.proofs.UncheckedEvents.{equipment_checks, turned_has, acts_same}
-use Rattle.device_laws.proofs.UnlostParts.{hear_goes, second_lucky}
+use Rattle.device_laws.proofs.UnlostParts.{hear_goes, tried_lucky}
 
 finished_done : (s : MarksStore) (t : ℕ) (i : Image) (bypass : Bool) → Lucky (λ z a. a ≡ true) (finished by_plain s t i bypass)
 finished_done s t i bypass = lucky_then (λ z _. Done z true) (lucky_any (write_done by_plain s t i bypass)) (λ z _ _. lucky_done refl)
@@ -38,11 +38,12 @@ done_by s t i (OfCommand bypass e) = lucky_tell (λ r. finished_done _ t i bypas
 done_by s t i (OfCut bypass) = finished_done s t i bypass
 done_by s t i OfBackground = finished_done s t i false
 
-part_done : (s : MarksStore) (h : HalfWrite (Unit {0})) → has_level s h.track ≡ true → Lucky (λ z a. a ≡ true) (second_part by_plain s h)
+-- where side B takes writes, or some side has the track
+pub part_done : (s : MarksStore) (h : HalfWrite (Unit {0})) → (takes_b s ≡ true) ⊎ (has_level s h.track ≡ true) → Lucky (λ z a. a ≡ true) (second_part by_plain s h)
 unfolding D.second_part
-part_done s h level =
+part_done s h tried =
     lucky_then (λ z _. second_by by_plain h.track (half_image_of by_plain s h) h.origin z)
-    (second_lucky by_plain marks_are_faithful s h.track (by_plain.bytes (half_image_of by_plain s h)) level)
+    (tried_lucky by_plain marks_are_faithful s h.track (by_plain.bytes (half_image_of by_plain s h)) tried)
     (λ z _ g. lucky_if (has_level z h.track) (λ _. done_by (closed z) h.track (half_image_of by_plain s h) h.origin)
     (λ none. absurd (let both : true ≡ false = sym g.1 ∙ none in cc)))
 
@@ -61,7 +62,7 @@ module _ (n : ℕ) where
   ended_so d t (Some o) None done is f = lucky_done f
   ended_so d t None k done is f = lucky_done f
 
-  end_so : (d : MarksDevice) (t : ℕ) (origin : Origin) (done : Bool) → done ≡ true → equipment_checks d.history ≡ n → Holds (second_ended by_plain d t origin done)
+  pub end_so : (d : MarksDevice) (t : ℕ) (origin : Origin) (done : Bool) → done ≡ true → equipment_checks d.history ≡ n → Holds (second_ended by_plain d t origin done)
   end_so d t (OfCommand bypass e) done is f = ended_so d t d.history.running d.chain done is f
   end_so d t (OfCut bypass) done is f = lucky_done f
   end_so d t OfBackground done is f = lucky_done f
@@ -69,7 +70,7 @@ module _ (n : ℕ) where
   of_half_so : (d : MarksDevice) (o : Option (HalfWrite (Unit {0}))) → IsWholeOnA d.store → equipment_checks d.history ≡ n → Holds (second_of by_plain d o)
   of_half_so d (Some h) whole f =
       lucky_then (λ s done. second_ended by_plain (with_store d s) h.track h.origin done)
-      (part_done d.store h (has_a d.store.a.up (stale_at d.store.a h.track) (level_at d.store.b h.track) whole.up (whole.level h.track)))
+      (part_done d.store h (inr (has_a d.store.a.up (stale_at d.store.a h.track) (level_at d.store.b h.track) whole.up (whole.level h.track))))
       (λ s done is. end_so (with_store d s) h.track h.origin done is (acts_same d.history s.acts ∙ f))
   of_half_so d None whole f = lucky_done f
 

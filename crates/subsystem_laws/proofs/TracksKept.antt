@@ -268,7 +268,7 @@ new_fair number on n plans some = record {
   un = λ home none. record { up = refl; level = λ t. empty_places (n * 15) t false; kept = λ t. empty_places (n * 15) t false };
 }
 
-opened_fair : (deck : DeckLines) (ds : List DeviceLine) → All (λ (d : DeviceLine). 1 ≤ d.cylinders) ds → AreSo Fair (map (opened_device deck) ds)
+pub opened_fair : (deck : DeckLines) (ds : List DeviceLine) → All (λ (d : DeviceLine). 1 ≤ d.cylinders) ds → AreSo Fair (map (opened_device deck) ds)
 opened_fair deck [] h = tt
 opened_fair deck (d ∷ ds) h = (
   new_fair d.number d.geometry d.cylinders _ (All-head (λ (d : DeviceLine). 1 ≤ d.cylinders) d ds h),

@@ -21,7 +21,6 @@ use Rattle.device_outside.specs.Lists.{is_in}
 use Rattle.device_outside.specs.Pool.{Pool, all_waiting, cache_repaired, store_repaired}
 use Rattle.device_outside.specs.Told as T
 use Rattle.device_outside.specs.Told.{Calls, Told, Outcome}
-use Rattle.device_defs.specs.declared.answers.StartFault.{StartFault}
 use Rattle.device_defs.specs.Command.{command}
 use Rattle.device_defs.specs.Contents.{by_plain}
 use Rattle.device_defs.specs.Cutting as U
@@ -53,13 +52,13 @@ use Rattle.subsystem_defs.specs.Deeds.{back, order, repair, Ends, Becomes, Asks,
 use Rattle.subsystem_defs.specs.Happening as H
 use Rattle.subsystem_defs.specs.Happening.{Happened, MarksDeed, Talk, Swept, held_with, told_to, mounted_behind, behind_outcome, joined, lends, is_lent_to, restored_in, asks, becomes, happens_by, happens, quietly, sweep, replaced_by, replaced_at, replaced, unpaired_by, unpaired_at, unpaired}
 use Rattle.subsystem_defs.specs.Lines.{Asked, Once, Replace, Unpair, Run, Settle, logged, asked_by}
-use Rattle.subsystem_defs.specs.Refusals.{pair_fault, suspend_fault, resume_fault, fail_fault, replace_fault, unpair_fault}
+use Rattle.subsystem_defs.specs.Refusals.{replace_fault, unpair_fault}
 use Rattle.subsystem_defs.specs.Subsystem.{Mounted, Subsystem, number_of, devices_of, mounted_in, put_in, with_calls, unfailing}
 use Rattle.subsystem_laws.specs.Served.{IsServedDeck}
 use Rattle.subsystem_laws.specs.Waits.{waiting_of, waiting_in, repair_end, RepairsBy, TellsWaiting, AreNumbered}
+use Rattle.subsystem_laws.proofs.DeedWalk.{IsSeat, Stands, seat_of, IsDeedwise, deed_is}
 use Rattle.subsystem_laws.proofs.GoodMarks.{Good, good_kept, lent_is, opened_good}
 use Rattle.subsystem_laws.proofs.LendBase.{at, stays_still, lent_store, lend_based, lent_number}
-use Rattle.subsystem_laws.proofs.PlainRuns.{number_found, same_found}
 use Rattle.subsystem_laws.proofs.RunLines.{Goes, run_shows}
 use Rattle.subsystem_laws.proofs.WaitingSum.{AreTold, none_told, one_told, in_first, in_more, apart, told_past, told_put, told_at, told_same, sum_told}
 use Rattle.subsystem_laws.proofs.Walks.{AreSo, hold_answer, hold_told, mounted_number, mounted_so, put_so, event_so, replaced_so, unpaired_so}
@@ -216,10 +215,6 @@ swept_told f h seen (m ∷ ms) pool (one_told n own out lt is rest) =
       long = r.long ∙ long;
     }
 
--- the one that is mounted at its number
-abbrev IsSeat : Subsystem → MarksDevice → Type 0
-IsSeat s d = (m : Mounted) → mounted_in s.mounted d.store.device ≡ Some m → m.device ≡ d
-
 asked_told : (s : Subsystem) (t : IsTold s) (d : MarksDevice) → IsSeat s d → {A : Type 0} (talk : Talk A) → Tells d talk → (m : Mounted) →
     mounted_in s.mounted d.store.device ≡ Some m → IsTold (behind_outcome s d.store.device (held_with s.pool m talk))
 asked_told s t d seat talk h m there =
@@ -235,10 +230,6 @@ KeepsDeed s (Asks d talk) = IsSeat s d × Tells d talk
 KeepsDeed s (Each pool f) = (pool.waiting ≡ s.pool.waiting) × ((d : MarksDevice) → Tells d (f d))
 KeepsDeed s (Repairs pool) = pool.waiting ≡ s.pool.waiting
 KeepsDeed s (Lends a b) = IsSeat s b
-
--- a record round it, so that the deed can be inferred
-record KeptDeed (s : Subsystem) (x : MarksDeed) : Type 0 where
-  is : KeepsDeed s x
 
 module _ (s : Subsystem) (t : IsTold s) where
   asks_told : (d : MarksDevice) (talk : Talk (Option EventEnd)) → IsSeat s d → Tells d talk → (o : Option Mounted) →
@@ -277,89 +268,36 @@ module _ (s : Subsystem) (t : IsTold s) where
 -- Events
 
 module _ (s : Subsystem) where
-  on_seat : (n : ℕ) (o : Option MarksDevice) → device_in (devices_of s) n ≡ o → (f : MarksDevice → MarksDeed) →
-      ((d : MarksDevice) → IsSeat s d → KeptDeed s (f d)) → KeptDeed s (on_device o f)
-  on_seat n None here f h = record { is = tt }
-  on_seat n (Some d) here f h =
-      h d (λ m there. same_found s.mounted n d m here (ap (mounted_in s.mounted) (sym (number_found s.mounted n d here)) ∙ there))
-
-  deed_if : (b : Bool) {x y : MarksDeed} → KeptDeed s x → KeptDeed s y → KeptDeed s (if b then x else y)
-  deed_if true f g = f
-  deed_if false f g = g
-
-  ordered : (o : Option OrderFault) {x : MarksDeed} → KeptDeed s x → KeptDeed s (order o x)
-  ordered (Some fault) h = record { is = tt }
-  ordered None h = h
-
-  starts_by : (d : MarksDevice) → IsSeat s d → (path : ℕ) (o : Option StartFault) → KeptDeed s (start_by {R = Bool} d path o)
-  starts_by d seat path (Some fault) = record { is = tt }
-  starts_by d seat path None = record {
-    is = λ m there.
-        started_waits d path
-        ∙ ap waiting_of (sym (seat m (ap (mounted_in s.mounted) (sym (started_number d path)) ∙ there)));
-  }
-
-  seconds_so : (d : MarksDevice) → IsSeat s d → KeptDeed s (seconds by_plain d)
-  seconds_so d seat = record { is = (seat, answers d (second by_plain d) (λ a. Some (ends.Second a)) (second_tells d)) }
-
-  step_so : (d : MarksDevice) → IsSeat s d → KeptDeed s (step by_plain d)
-  step_so d seat =
-      deed_if (is_some d.store.half) (seconds_so d seat)
-      (deed_if (is_some d.history.running) (record { is = (seat, answers d (command by_plain d) (end_of ends.Stepped) (command_tells d)) }) (record { is = tt }))
-
-  back_so : (d : MarksDevice) → IsSeat s d → KeptDeed s (back by_plain d)
-  back_so d seat =
-      deed_if (is_some d.store.half) (seconds_so d seat) (record { is = (seat, answers d (background by_plain d) (end_of ends.Back) (background_tells d)) })
-
   repaired_waits : (b : Bool) (p q : Pool) → p.waiting ≡ s.pool.waiting → q.waiting ≡ s.pool.waiting → (if b then p else q).waiting ≡ s.pool.waiting
   repaired_waits true p q e f = e
   repaired_waits false p q e f = f
 
-  repair_so : (up : Bool) (repaired : Pool) → repaired.waiting ≡ s.pool.waiting →
-      KeptDeed s (repair {F = Bool} {P = Unit {0}} {H = Unit {0}} {R = Bool} up s.pool repaired)
-  repair_so up repaired same = deed_if up (record { is = tt }) (deed_if (all_waiting s.pool == 0) (record { is = same }) (record { is = tt }))
+  held_so : (d : MarksDevice) → Stands s d → (z : MarksDevice) → z.store.device ≡ d.store.device → waiting_of z ≡ waiting_of d → (end : EventEnd) →
+      KeepsDeed s (Becomes z end)
+  held_so d x z number same end = λ m there. same ∙ ap waiting_of (sym (seat_of s d x m (ap (mounted_in s.mounted) (sym number) ∙ there)))
 
-  held_so : (d : MarksDevice) → IsSeat s d → (z : MarksDevice) → z.store.device ≡ d.store.device → waiting_of z ≡ waiting_of d → (end : EventEnd) →
-      KeptDeed s (Becomes z end)
-  held_so d seat z number same end = record {
-    is = λ m there. same ∙ ap waiting_of (sym (seat m (ap (mounted_in s.mounted) (sym number) ∙ there)));
+  deeds_tell : IsDeedwise s (KeepsDeed s)
+  deeds_tell = record {
+    ended = λ end. tt;
+    started = λ d x path. held_so d x (start d path) (started_number d path) (started_waits d path) (ends.Started (next_ordinal d path));
+    seconded = λ d x h is. (seat_of s d x, answers d (second by_plain d) (λ a. Some (ends.Second a)) (second_tells d));
+    commanded = λ d x whole o running. (seat_of s d x, answers d (command by_plain d) (end_of ends.Stepped) (command_tells d));
+    worked = λ d x. (seat_of s d x, answers d (background by_plain d) (end_of ends.Back) (background_tells d));
+    cut = λ d x path. (seat_of s d x, answers d (reset by_plain d path) (λ a. Some (ends_done a)) (reset_tells d path));
+    lost_cache = (refl, λ d. loss_tells d losses.Cache);
+    lost_store = (refl, λ d. loss_tells d losses.Store);
+    lost_side = λ d x side. (seat_of s d x, answers d (lose by_plain d (losses.Side side)) (λ a. Some (ends_done a)) (loss_tells d (losses.Side side)));
+    lost_power = (refl, λ d. power_tells d);
+    repaired_cache = repaired_waits (all_waiting s.pool == 0) (record s.pool { cache_up = true }) s.pool refl refl;
+    repaired_store = repaired_waits (all_waiting s.pool == 0) (record s.pool { store_up = true }) s.pool refl refl;
+    lent = λ x y z. seat_of s y z;
+    held = λ d x. held_so d x (hold d) refl (held_waits d).0 ends.Done;
+    resumed = λ d x. held_so d x (resume d) refl (held_waits d).1 ends.Done;
   }
-
-  deed_so : (e : Event) → KeptDeed s (deed by_plain s.pool (devices_of s) e)
-  unfolding E.deed
-  deed_so (events.Start path d) =
-      on_seat d (device_in (devices_of s) d) refl (starts path)
-      (λ x seat. deed_if (is_own path x.history.running) (record { is = tt }) (starts_by x seat path (start_fault x path)))
-  deed_so (events.Step d) = on_seat d (device_in (devices_of s) d) refl (step by_plain) step_so
-  deed_so (events.Back d) = on_seat d (device_in (devices_of s) d) refl (back by_plain) back_so
-  deed_so (events.Reset path d) =
-      on_seat d (device_in (devices_of s) d) refl (λ x. Asks x (ends_by ends_done (reset by_plain x path)))
-      (λ x seat. record { is = (seat, answers x (reset by_plain x path) (λ a. Some (ends_done a)) (reset_tells x path)) })
-  deed_so events.FailCache = deed_if (not s.pool.cache_up) (record { is = tt }) (record { is = (refl, λ x. loss_tells x losses.Cache) })
-  deed_so events.FailStore = deed_if (not s.pool.store_up) (record { is = tt }) (record { is = (refl, λ x. loss_tells x losses.Store) })
-  deed_so (events.FailVolume d side) =
-      on_seat d (device_in (devices_of s) d) refl (λ x. order (fail_fault x side) (Asks x (ends_by ends_done (lose by_plain x (losses.Side side)))))
-      (λ x seat. ordered (fail_fault x side) (record {
-        is = (seat, answers x (lose by_plain x (losses.Side side)) (λ a. Some (ends_done a)) (loss_tells x (losses.Side side)));
-      }))
-  deed_so events.RepairCache =
-      repair_so s.pool.cache_up (cache_repaired s.pool) (repaired_waits (all_waiting s.pool == 0) (record s.pool { cache_up = true }) s.pool refl refl)
-  deed_so events.RepairStore =
-      repair_so s.pool.store_up (store_repaired s.pool) (repaired_waits (all_waiting s.pool == 0) (record s.pool { store_up = true }) s.pool refl refl)
-  deed_so (events.Pair a b) =
-      on_seat a (device_in (devices_of s) a) refl (λ x. on_device (device_in (devices_of s) b) (λ y. order (pair_fault x y) (Lends x y)))
-      (λ x _. on_seat b (device_in (devices_of s) b) refl (λ y. order (pair_fault x y) (Lends x y)) (λ y seat. ordered (pair_fault x y) (record { is = seat })))
-  deed_so (events.Suspend a) =
-      on_seat a (device_in (devices_of s) a) refl (λ x. order (suspend_fault x) (Becomes (hold x) ends.Done))
-      (λ x seat. ordered (suspend_fault x) (held_so x seat (hold x) refl (held_waits x).0 ends.Done))
-  deed_so (events.Resume a) =
-      on_seat a (device_in (devices_of s) a) refl (λ x. order (resume_fault x) (Becomes (resume x) ends.Done))
-      (λ x seat. ordered (resume_fault x) (held_so x seat (resume x) refl (held_waits x).1 ends.Done))
-  deed_so events.Power = record { is = (refl, λ x. power_tells x) }
 
   event_told : IsTold s → (e : Event) → IsTold (happens s e).behind
   unfolding H.happens
-  event_told t e = happens_told s t (deed by_plain s.pool (devices_of s) e) (deed_so e).is
+  event_told t e = happens_told s t (deed by_plain s.pool (devices_of s) e) (deed_is s (KeepsDeed s) deeds_tell e)
 
   -- A repair's end
 

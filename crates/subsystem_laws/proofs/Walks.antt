@@ -155,7 +155,7 @@ module _ (P : MarksDevice → Type 0) where
   found_if true d o p rest = p
   found_if false d o p rest = rest
 
-  device_so : (ms : List Mounted) (n : ℕ) → AreSo ms → IfSome (device_in (map (λ (m : Mounted). m.device) ms) n) P
+  pub device_so : (ms : List Mounted) (n : ℕ) → AreSo ms → IfSome (device_in (map (λ (m : Mounted). m.device) ms) n) P
   device_so [] n p = tt
   device_so (m ∷ ms) n p =
       found_if (number_of m == n) m.device (device_in (map (λ (x : Mounted). x.device) ms) n) p.0 (device_so ms n p.1)

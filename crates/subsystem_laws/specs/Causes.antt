@@ -1,10 +1,13 @@
 -- What causes a check of the run of a deck.
-use Rattle.std.specs.Prelude.{◌≡◌, true, false, All, count_by, is_some}
+use Rattle.std.specs.Prelude.{◌≡◌, ◌<◌, ◌^◌, ◌-◌, ◌⊎◌, ⊤, ℕ, true, false, List, [], ◌∷◌, Some, All, count_by, is_some}
+use Rattle.plain_defs.specs.History.{OpenEntry}
+use Rattle.device_defs.specs.Command.{has_loss}
 use Rattle.device_defs.specs.Contents.{by_plain}
 use Rattle.device_defs.specs.Excused.{count_lost}
 use Rattle.device_defs.specs.Marks.{MarksDevice}
 use Rattle.device_defs.specs.Pledge.{ends_with_data_check}
-use Rattle.device_laws.specs.Unharmed.{MarksAreGood, NothingLost, ends_with_equipment_check}
+use Rattle.device_defs.specs.Store.{HalfWrite, level_at, takes_b, is_lost}
+use Rattle.device_laws.specs.Unharmed.{MarksAreGood, NothingLost, ends_with_equipment_check, some_takes}
 use Rattle.subsystem_defs.specs.Lines.{Logged}
 use Rattle.subsystem_defs.specs.Promised.{misses_nothing}
 use Rattle.subsystem_defs.specs.Subsystem.{devices_of}
@@ -43,3 +46,29 @@ MissesNothing d = NothingLost d.store → d.store.counts.losses.cache ≡ 0 → 
 
 abbrev pub MissNothing : Logged → Type 0
 MissNothing x = All MissesNothing (devices_of x.happened.behind)
+
+-- Where the number of checks rises in an event: a call failed in it (or their number stands at the greatest one, which counts no further), or before it
+-- no side took writes, side A hadn't the track of the open half write and B took no writes, a track was lost, or data of cache fast write of the
+-- program that runs were gone
+pub data HasCause (x y : MarksDevice) : Type 0 where
+  call_failed : x.store.counts.failed < y.store.counts.failed → HasCause x y
+  not_counted : x.store.counts.failed ≡ 2 ^ 64 - 1 → HasCause x y
+  none_takes : some_takes x.store ≡ false → HasCause x y
+  half_untried : (h : HalfWrite (Unit {0})) → x.store.half ≡ Some h → level_at x.store.a h.track ≡ false → takes_b x.store ≡ false → HasCause x y
+  track_lost : (t : ℕ) → is_lost x.store t ≡ true → HasCause x y
+  data_gone : (o : OpenEntry) → x.history.running ≡ Some o → has_loss o.acts ≡ true → HasCause x y
+
+abbrev pub checks_of : MarksDevice → ℕ
+checks_of d = count_by ends_with_equipment_check d.history.items
+
+abbrev pub ChecksForCause : MarksDevice → MarksDevice → Type 0
+ChecksForCause x y = (checks_of y ≡ checks_of x) ⊎ HasCause x y
+
+-- each device before beside the same behind
+abbrev pub EachPair : (MarksDevice → MarksDevice → Type 0) → List MarksDevice → List MarksDevice → Type 0
+EachPair r [] [] = ⊤
+EachPair r (x ∷ xs) (y ∷ ys) = r x y × EachPair r xs ys
+EachPair r _ _ = ⊥
+
+abbrev pub CheckForCause : Logged → Type 0
+CheckForCause x = EachPair ChecksForCause (devices_of x.happened.before) (devices_of x.happened.behind)

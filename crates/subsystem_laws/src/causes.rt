@@ -4,7 +4,7 @@ ghost use Rattle.std.specs.Prelude.{◌≡◌, ℕ, List, Ok, All};
 ghost use Rattle.deck_text.specs.DeckLines.{DeckLines};
 ghost use Rattle.deck_text.specs.Parse.{parsed};
 ghost use Rattle.subsystem_defs.specs.Decks.{run_of};
-ghost use Rattle.subsystem_laws.specs.Causes.{CheckNothing, HaveGoodMarks, HaveNoDataCheck, KeepTracks, MissNothing};
+ghost use Rattle.subsystem_laws.specs.Causes.{CheckForCause, CheckNothing, HaveGoodMarks, HaveNoDataCheck, KeepTracks, MissNothing};
 ghost use Rattle.subsystem_laws.specs.Served.{IsServedDeck};
 
 /// No command ends with data check, whatever calls fail and whatever is lost.
@@ -37,4 +37,11 @@ pub fn read_run_checks_nothing()
     ensures marks { (text : List ℕ) (deck : DeckLines) → parsed text ≡ Ok deck → All HaveGoodMarks (run_of deck).events }
     ensures tracks { (text : List ℕ) (deck : DeckLines) → parsed text ≡ Ok deck → All KeepTracks (run_of deck).events }
     ensures checks { (text : List ℕ) (deck : DeckLines) → parsed text ≡ Ok deck → All CheckNothing (run_of deck).events }
+{}
+
+/// Where an event adds a program that ended with equipment check to a device's journal, a call of it failed in the event, or before it no side took
+/// writes, neither side was left for its open half write, a track was lost, or data of the program's own cache fast write were gone.
+pub fn checks_have_causes()
+    ensures served { (deck : DeckLines) → IsServedDeck deck → All CheckForCause (run_of deck).events }
+    ensures read { (text : List ℕ) (deck : DeckLines) → parsed text ≡ Ok deck → All CheckForCause (run_of deck).events }
 {}
