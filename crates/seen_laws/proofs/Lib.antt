@@ -4,3 +4,4 @@ mod Walks
 mod Commands
 mod Rows
 mod Seconds
+mod Others

@@ -134,3 +134,8 @@ pub record SecondCame (d : WholeDevice) (o : OpenEntry) (kept : ChainState) (t :
   pub answer : a ≡ second_told contents t (second_turn contents kept done).came
   pub paths : e.paths ≡ (turned d o.path (second_turn contents kept done)).paths
   pub chain : e.chain ≡ (turned d o.path (second_turn contents kept done)).chain
+
+-- what is kept of the paths, and the chain, are as they were
+pub record KeepsPaths (d e : WholeDevice) : Type 0 where
+  pub paths : e.paths ≡ d.paths
+  pub chain : e.chain ≡ d.chain

@@ -11,12 +11,15 @@ ghost use Rattle.device_outside.specs.Outside.{Outside, Ran};
 ghost use Rattle.device_outside.specs.Pool.{Pool, is_listed};
 ghost use Rattle.device_defs.specs.declared.answers.Took.{Took};
 ghost use Rattle.device_defs.specs.declared.usage.Usage.{Usage};
+ghost use Rattle.device_defs.specs.declared.answers.Did.{Did};
 ghost use Rattle.device_defs.specs.declared.answers.SecondEnd.{SecondEnd};
+ghost use Rattle.device_defs.specs.Peek.{Peeked, peek};
+ghost use Rattle.loss_model.specs.declared.Loss.{Loss};
 ghost use Rattle.device_defs.specs.declared.answers.Stepped.{Stepped};
 ghost use Rattle.device_defs.specs.Command.{command, follow};
 ghost use Rattle.device_defs.specs.Contents.{contents};
 ghost use Rattle.device_defs.specs.Editing.{write};
-ghost use Rattle.device_defs.specs.Events.{second};
+ghost use Rattle.device_defs.specs.Events.{background, lose, second};
 ghost use Rattle.device_defs.specs.Image.{Imaged, Has, image};
 ghost use Rattle.device_defs.specs.Outcomes.{Turn};
 ghost use Rattle.device_defs.specs.Sound.{DeviceStore};
@@ -24,7 +27,7 @@ ghost use Rattle.device_defs.specs.Store.{OfCommand, HalfWrite, frame_at};
 ghost use Rattle.device_laws.specs.Standing.{LooksAt, RunsOn};
 ghost use Rattle.device_laws.specs.Whole.{WholeDevice};
 ghost use Rattle.plain_defs.specs.History.{OpenEntry};
-ghost use Rattle.seen_laws.specs.Seen.{NotCalled, Saw, Wrote, CameAsSeen, CommandCame, SecondCame};
+ghost use Rattle.seen_laws.specs.Seen.{NotCalled, Saw, Wrote, CameAsSeen, CommandCame, KeepsPaths, SecondCame};
 
 use device_outside::Keep;
 use track_image::TrackImage;
@@ -70,4 +73,14 @@ pub fn second_ends_as_kept<K: Keep<TrackImage>>()
     ensures { (d e : WholeDevice) (o : OpenEntry) (chain : ChainState) (h : HalfWrite Image) (bypass : Bool) (edit : Edit) (u z : Outside (List ℕ) K)
         (a : SecondEnd) → d.store.half ≡ Some h → h.origin ≡ OfCommand bypass edit → d.history.running ≡ Some o → d.chain ≡ Some chain →
         Ran (λ ok. Unit {0}) K.hears (second contents d) u e a z → SecondCame d o chain h.track a e }
+{}
+
+/// What a device does by itself, its losses and a look at one of its tracks leave what is kept of its paths, and the chain that runs.
+pub fn others_keep_paths<K: Keep<TrackImage>>()
+    ensures background { (d e : WholeDevice) (u z : Outside (List ℕ) K) (a : Option Did) → Ran (λ ok. Unit {0}) K.hears (background contents d) u e a z →
+        KeepsPaths d e }
+    ensures lose { (d e : WholeDevice) (loss : Loss) (u z : Outside (List ℕ) K) (a : Unit {0}) → Ran (λ ok. Unit {0}) K.hears (lose contents d loss) u e a z →
+        KeepsPaths d e }
+    ensures peek { (d e : WholeDevice) (t : ℕ) (u z : Outside (List ℕ) K) (a : Option Peeked) → Ran (λ ok. Unit {0}) K.hears (peek contents d t) u e a z →
+        KeepsPaths d e }
 {}

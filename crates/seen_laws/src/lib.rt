@@ -5,5 +5,6 @@
 mod law;
 
 pub use law::{
-    command_ends_as_seen, image_is_seen, second_ends_as_kept, track_walk_is_seen, write_is_seen,
+    command_ends_as_seen, image_is_seen, others_keep_paths, second_ends_as_kept,
+    track_walk_is_seen, write_is_seen,
 };
