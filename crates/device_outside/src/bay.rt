@@ -120,8 +120,10 @@ impl MemBay {
         self.taken.push_reserved(taken);
     }
 
+    /// How many volumes it took back: never more than it made.
     pub fn len(&self) -> usize
-        ensures { result ≡ length self.now.taken }
+        ensures number { result ≡ length self.now.taken }
+        ensures most { length self.now.taken ≤ self.now.made }
     {
         self.taken.len()
     }

@@ -1,4 +1,4 @@
-ghost use Rattle.std.specs.Prelude.{◌≡◌, ◌<◌, ◌≤◌, ◌*◌, ◌^◌, not, IfOk, IsTrue, is_ok, length};
+ghost use Rattle.std.specs.Prelude.{◌≡◌, ◌<◌, ◌≤◌, ◌*◌, ◌^◌, not, [], IfOk, IsTrue, is_ok, length, slice_index_or};
 ghost use Rattle.ckd_outside.specs.Memory.{to_come};
 ghost use Rattle.device_outside.specs.Lists.{is_in};
 ghost use Rattle.device_outside.specs.Volume.{counted, ReadOf, WriteOf, delivery};
@@ -106,6 +106,14 @@ impl MemVolume {
         ensures { result ≡ length self.now.tracks }
     {
         self.held.len()
+    }
+
+    /// The bytes that a track holds, whether it was spoiled or not. No call is counted.
+    pub fn track(&self, t: TrackNo) -> &[u8]
+        requires { t < length self.now.tracks }
+        ensures { result.now ≡ slice_index_or self.now.tracks t [] }
+    {
+        self.held.track(t)
     }
 
     /// Spoils a track: from here on the volume doesn't tell what it holds.

@@ -91,6 +91,13 @@ impl Tracks {
         self.tracks.len()
     }
 
+    pub(crate) fn track(&self, t: TrackNo) -> &[u8]
+        requires { t < length self.now.tracks }
+        ensures { result.now ≡ slice_index_or self.now.tracks t [] }
+    {
+        self.tracks[usize::from(t.get())].bytes()
+    }
+
     pub(crate) fn deliver(&mut self, t: TrackNo, into: &mut TrackBuffer)
         requires { t < length self.old.tracks }
         ensures into { into.new ≡ slice_index_or self.old.tracks t [] }
