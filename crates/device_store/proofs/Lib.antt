@@ -1,3 +1,4 @@
+pub mod InPlace
 pub mod Moves
 pub mod Hearings
 pub mod Queues

@@ -113,3 +113,12 @@ module _ {F P H R : Type 0} (c : Contents F P H R) where
   pub told_none : (s : Store F P H) → all_told c 0 s ≡ Done s tt
   unfolding owed.all_told
   told_none s = refl
+
+none_by : (s : StoreOf) (t : ℕ) (f : Option Frame) → is_some (patch_at s t) ≡ false → is_modified_frame f ≡ false → waits_by contents s t f ≡ false
+none_by s t None bare clean = bare
+none_by s t (Some f) bare clean = ap (λ (m : Bool). m && not (is_some (patch_at s t)) && not (is_loose s t)) clean
+
+-- a track without a patch and without a modified frame doesn't wait
+pub none_waits : (s : StoreOf) (t : ℕ) → is_some (patch_at s t) ≡ false → is_modified_frame (frame_at s t) ≡ false → waits contents s t ≡ false
+unfolding owed.waits
+none_waits s t bare clean = not_false (not (is_lost s t)) (waits_by contents s t (frame_at s t)) (none_by s t (frame_at s t) bare clean)

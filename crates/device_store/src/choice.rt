@@ -63,7 +63,7 @@ impl<V: Volume> DeviceStore<V> {
         self.choose_slot::<P, K>(t, port)
     }
 
-    fn may_be_fast(&self, usage: &Usage, t: TrackNo) -> bool
+    pub(crate) fn may_be_fast(&self, usage: &Usage, t: TrackNo) -> bool
         ensures { result ≡ may_be_fast contents (state_of self.now) usage.now t }
     {
         !is_bypass(usage.mode) && !usage.inhibit && self.frames.has(t)

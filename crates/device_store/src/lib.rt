@@ -1,6 +1,7 @@
 //! The tracks of a device: its volume, and what is kept of each track.
 #![tactic(auto)]
 
+mod again;
 mod background;
 mod choice;
 mod destage;

@@ -1,4 +1,4 @@
-ghost use Rattle.std.specs.Prelude.{◌≡◌, ◌*◌, ◌≤◌, ◌<◌, ◌&&◌, ◌||◌, ℕ, is_some};
+ghost use Rattle.std.specs.Prelude.{◌≡◌, ◌*◌, ◌≤◌, ◌<◌, ◌&&◌, ◌||◌, ℕ, is_some, false, true};
 ghost use Rattle.device_defs.specs.Contents.{contents};
 ghost use Rattle.device_defs.specs.Owed.{all_told, begun, dropped_told, ended, freed_told, is_owed, modified_told, settles_debt, track_told, waiting_count, waiting_told, waits};
 ghost use Rattle.device_defs.specs.Store.{no_debt, owed_at};
@@ -53,10 +53,23 @@ impl<V: Volume> DeviceStore<V> {
         without_frame.or(&alone).without(self.lost.marks())
     }
 
+    /// Whether it is known that no track waits: without a patch and a modified frame none does.
+    fn none_waits(&self) -> bool
+        ensures { result ≡ true → (t : ℕ) → waits contents (state_of self.now) t ≡ false }
+    {
+        if self.patches.is_empty() {
+            return self.frames.none_modified();
+        }
+        false
+    }
+
     /// How many tracks wait for recovery.
     pub fn waiting_count(&self) -> u16
         ensures { result ≡ waiting_count contents (state_of self.now) }
     {
+        if self.none_waits() {
+            return 0;
+        }
         self.waiting().count()
     }
 

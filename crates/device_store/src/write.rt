@@ -29,7 +29,7 @@ use track_cache::Frame;
 use track_image::TrackImage;
 
 /// The same edit in memory of its own.
-fn copy_edit(alloc: Global, edit: &Edit) -> Result<Edit, NoMemory>
+pub(crate) fn copy_edit(alloc: Global, edit: &Edit) -> Result<Edit, NoMemory>
     ensures { IfOk result (λ made. made ≡ edit.now) }
 {
     match edit {
@@ -61,7 +61,7 @@ fn edited(alloc: Global, image: &TrackImage, edit: &Edit) -> Result<TrackImage, 
 
 impl<V: Volume> DeviceStore<V> {
     /// Makes room for an edit of a track's patch, and for the track to become loose where it may.
-    fn make_room(&mut self, usage: &Usage, t: TrackNo) -> Result<(), NoMemory>
+    pub(crate) fn make_room(&mut self, usage: &Usage, t: TrackNo) -> Result<(), NoMemory>
         ensures fixed { (self.new.number ≡ self.old.number) × (self.new.cylinders ≡ self.old.cylinders) }
         ensures volume { self.new.volume ≡ self.old.volume }
         ensures weight { weight self.new.loose ≡ weight self.old.loose }
@@ -77,7 +77,7 @@ impl<V: Volume> DeviceStore<V> {
     }
 
     /// Adds an edit to a track's patch, or to a new one in a slot.
-    fn keep_edit(&mut self, t: TrackNo, edit: Edit, slot: Option<usize>)
+    pub(crate) fn keep_edit(&mut self, t: TrackNo, edit: Edit, slot: Option<usize>)
         requires fits { FitsSlot (is_some (patch_at (state_of self.old) t)) slot }
         requires room { room_for (stored_at self.old.patches t) ≤ self.old.edits }
         ensures fixed { (self.new.number ≡ self.old.number) × (self.new.cylinders ≡ self.old.cylinders) }
@@ -127,7 +127,7 @@ impl<V: Volume> DeviceStore<V> {
     }
 
     /// A write with its new image, to where it was chosen to go.
-    fn write_by<P: Port, K: Keep<TrackImage>>(
+    pub(crate) fn write_by<P: Port, K: Keep<TrackImage>>(
         &mut self,
         usage: &Usage,
         first: TrackNo,
@@ -164,7 +164,7 @@ impl<V: Volume> DeviceStore<V> {
     }
 
     /// The edit goes to a frame, or to a volume.
-    fn is_given(&self, choice: Choice) -> bool
+    pub(crate) fn is_given(&self, choice: Choice) -> bool
         ensures { result ≡ is_given contents (state_of self.now) choice }
     {
         match choice {
@@ -195,7 +195,12 @@ impl<V: Volume> DeviceStore<V> {
     }
 
     /// Memory was lacking: a new slot is given back, and a frame that the pool was told as modified is clean as before.
-    fn unchosen<P: Port, K: Keep<TrackImage>>(&self, t: TrackNo, choice: Choice, port: &mut P)
+    pub(crate) fn unchosen<P: Port, K: Keep<TrackImage>>(
+        &self,
+        t: TrackNo,
+        choice: Choice,
+        port: &mut P,
+    )
         ensures run { (k : K) → Ran surely K.hears (unchosen contents (state_of self.now) t choice) (outside (P.view port.old) self.now k) (state_of self.now) None (outside (P.view port.new) self.now k) }
     {
         match choice {
@@ -298,7 +303,7 @@ impl<V: Volume> DeviceStore<V> {
     }
 
     /// A copy of the image in a track's frame, with an edit.
-    fn edited_frame(&self, t: TrackNo, edit: &Edit) -> Result<TrackImage, NoMemory>
+    pub(crate) fn edited_frame(&self, t: TrackNo, edit: &Edit) -> Result<TrackImage, NoMemory>
         requires framed { is_some (frame_at (state_of self.now) t) ≡ true }
         requires suits { Suits (frame_in (state_of self.now) t).geometry (frame_in (state_of self.now) t).track.records edit.now }
         ensures { IfOk result (λ made. made ≡ edited_image edit.now (frame_in (state_of self.now) t)) }
@@ -307,7 +312,11 @@ impl<V: Volume> DeviceStore<V> {
     }
 
     /// The keeper is told the image in a track's frame before an edit of it.
-    fn tell_frame<K: Keep<TrackImage>>(&self, t: TrackNo, keep: &mut K) -> Result<(), NoMemory>
+    pub(crate) fn tell_frame<K: Keep<TrackImage>>(
+        &self,
+        t: TrackNo,
+        keep: &mut K,
+    ) -> Result<(), NoMemory>
         requires track { t < self.now.cylinders * 15 }
         requires framed { is_some (frame_at (state_of self.now) t) ≡ true }
         requires takes { Takes K.takes keep.old self.now.number (self.now.cylinders * 15) }
@@ -317,7 +326,7 @@ impl<V: Volume> DeviceStore<V> {
     }
 
     /// The keeper is told the track before an edit that is given to something.
-    fn given_framed<P: Port, K: Keep<TrackImage>>(
+    pub(crate) fn given_framed<P: Port, K: Keep<TrackImage>>(
         &mut self,
         usage: &Usage,
         first: TrackNo,
@@ -397,6 +406,9 @@ impl<V: Volume> DeviceStore<V> {
         ensures weight { weight self.new.loose ≤ weight self.old.loose + 2 }
         ensures run { Ran (where_ok result) K.hears (write contents (state_of self.old) usage.now first t (frame_in (state_of self.old) t) edit) (outside (P.view port.old) self.old keep.old) (state_of self.new) (had (λ took. took) result) (outside (P.view port.new) self.new keep.new) }
     {
+        if self.is_again(usage, t) {
+            return self.write_again(usage, first, t, edit, port, keep);
+        }
         let image = match self.edited_frame(t, &edit) {
             Err(NoMemory) => return Err(NoMemory),
             Ok(image) => image,

@@ -8,13 +8,13 @@ use ckd_types::{HEADS, NoMemory, TrackNo};
 use plain_defs::Act;
 use std::alloc::Global;
 use std::marker::Model;
-use track_table::TrackBits;
+use track_table::{CountedBits, TrackBits};
 
 /// The tracks of a device that have data of cache fast write, and the acts of the event at hand. Contracts see a mark for each of
 /// its tracks. There is room for the acts that come when loose tracks become firm or are lost: only that one becomes loose takes more.
 #[derive(Debug, Drop)]
 pub struct LooseTracks {
-    marks: TrackBits,
+    marks: CountedBits,
     /// The tracks of the device.
     tracks: usize,
     acts: Vec<Act>,
@@ -41,7 +41,7 @@ impl LooseTracks {
         ensures acts { result.acts ≡ [] }
     {
         LooseTracks {
-            marks: TrackBits::new(),
+            marks: CountedBits::new(),
             tracks: usize::from(cylinders) * usize::from(HEADS),
             acts: Vec::new(alloc),
         }
@@ -58,7 +58,7 @@ impl LooseTracks {
     pub fn marks(&self) -> &TrackBits
         ensures { (t : ℕ) → is_marked result.now t ≡ is_loose_in self.now.loose t }
     {
-        &self.marks
+        self.marks.bits()
     }
 
     /// Whether a track is loose.
@@ -134,7 +134,7 @@ impl LooseTracks {
         ensures acts { self.new.acts ≡ self.old.acts }
         ensures weight { weight self.new ≤ weight self.old }
     {
-        self.marks = TrackBits::new();
+        self.marks = CountedBits::new();
     }
 
     /// The data of cache fast write are lost: some track is loose.
@@ -145,6 +145,6 @@ impl LooseTracks {
         ensures weight { weight self.new ≤ weight self.old }
     {
         self.acts.push_reserved(Act::CfwLost);
-        self.marks = TrackBits::new();
+        self.marks = CountedBits::new();
     }
 }

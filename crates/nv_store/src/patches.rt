@@ -1,4 +1,4 @@
-ghost use Rattle.std.specs.Prelude.{◌≡◌, ℕ, ◌<◌, ◌≤◌, ◌*◌, IsOk, OnOk, OnErr, IsTrue, false, [], None, length, replicate, slice_set};
+ghost use Rattle.std.specs.Prelude.{◌≡◌, ℕ, ◌<◌, ◌≤◌, ◌*◌, IsOk, OnOk, OnErr, IsTrue, false, true, [], None, length, replicate, slice_set};
 ghost use Rattle.std.specs.Option.{option_copied};
 ghost use Rattle.track_table.specs.Bits.{is_marked};
 ghost use Rattle.track_table.specs.Table.{with_places};
@@ -52,6 +52,13 @@ impl Patches {
     {
         self.table
             .reserve(usize::from(cylinders) * usize::from(HEADS))
+    }
+
+    /// Whether it is known that no track has a patch: it is, where none has.
+    pub fn is_empty(&self) -> bool
+        ensures { result ≡ true → (t : ℕ) → has_patch self.now t ≡ false }
+    {
+        self.table.is_empty()
     }
 
     /// Whether a track has a patch.

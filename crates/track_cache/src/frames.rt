@@ -1,4 +1,4 @@
-ghost use Rattle.std.specs.Prelude.{◌≡◌, ℕ, ◌≤◌, ◌<◌, ◌*◌, IsOk, OnOk, OnErr, IfErr, IsTrue, [], None, Some, length, replicate, slice_set};
+ghost use Rattle.std.specs.Prelude.{◌≡◌, ℕ, ◌≤◌, ◌<◌, ◌*◌, IsOk, OnOk, OnErr, IfErr, IsTrue, [], false, true, None, Some, length, replicate, slice_set};
 ghost use Rattle.std.specs.Option.{option_copied};
 ghost use Rattle.track_table.specs.Bits.{is_marked};
 ghost use Rattle.track_table.specs.Table.{with_places};
@@ -10,7 +10,7 @@ use ckd_write::{edit_within, make_room};
 use std::alloc::Global;
 use std::marker::Model;
 use track_image::{RecordRoom, TrackImage};
-use track_table::{TrackBits, TrackTable};
+use track_table::{CountedBits, TrackBits, TrackTable};
 
 /// A track in the cache. A modified frame has what its volume doesn't have.
 #[derive(Debug, Drop)]
@@ -30,7 +30,7 @@ pub enum PutRefused {
 pub struct Frames {
     table: TrackTable<Frame>,
     /// The tracks that have a modified frame.
-    modified: TrackBits,
+    modified: CountedBits,
 }
 
 impl Model for Frames {
@@ -63,7 +63,7 @@ impl Frames {
     {
         Frames {
             table: TrackTable::new(alloc),
-            modified: TrackBits::new(),
+            modified: CountedBits::new(),
         }
     }
 
@@ -100,6 +100,13 @@ impl Frames {
         self.modified.has(t)
     }
 
+    /// Whether it is known that no track has a modified frame: it is, where none has.
+    pub fn none_modified(&self) -> bool
+        ensures { result ≡ true → (t : ℕ) → is_modified self.now t ≡ false }
+    {
+        self.modified.is_empty()
+    }
+
     /// The tracks that have a frame.
     pub fn framed_tracks(&self) -> &TrackBits
         ensures { (t : ℕ) → is_marked result.now t ≡ has_frame self.now t }
@@ -111,7 +118,7 @@ impl Frames {
     pub fn modified_tracks(&self) -> &TrackBits
         ensures { (t : ℕ) → is_marked result.now t ≡ is_modified self.now t }
     {
-        &self.modified
+        self.modified.bits()
     }
 
     /// Puts another frame, or none, into a track's place, and gives what was there.
@@ -216,6 +223,6 @@ impl Frames {
         ensures { self.new ≡ replicate (length self.old) None }
     {
         self.table.clear();
-        self.modified = TrackBits::new();
+        self.modified = CountedBits::new();
     }
 }

@@ -2,7 +2,9 @@
 #![tactic(auto)]
 
 mod bits;
+mod counted;
 mod table;
 
 pub use bits::{Marked, TrackBits};
+pub use counted::CountedBits;
 pub use table::TrackTable;

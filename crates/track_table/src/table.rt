@@ -1,9 +1,9 @@
-ghost use Rattle.std.specs.Prelude.{◌≡◌, ℕ, ◌≤◌, ◌<◌, ◌+◌, ◌++◌, IsOk, OnOk, OnErr, [], None, length, replicate, slice_set, vec_len, vec_capacity};
+ghost use Rattle.std.specs.Prelude.{◌≡◌, ℕ, ◌≤◌, ◌<◌, ◌+◌, ◌++◌, IsOk, OnOk, OnErr, [], false, true, None, length, replicate, slice_set, vec_len, vec_capacity};
 ghost use Rattle.std.specs.Option.{option_copied};
 ghost use Rattle.track_table.specs.Bits.{is_marked};
 ghost use Rattle.track_table.specs.Table.{entry_at, has_entry, with_places};
 
-use crate::TrackBits;
+use crate::{CountedBits, TrackBits};
 use ckd_types::{NoMemory, TrackNo};
 use std::alloc::Global;
 use std::marker::Model;
@@ -15,7 +15,7 @@ use std::mem;
 pub struct TrackTable<T> {
     places: Vec<Option<T>>,
     /// The tracks that have an entry.
-    held: TrackBits,
+    held: CountedBits,
 }
 
 impl<T> Model for TrackTable<T> {
@@ -48,7 +48,7 @@ impl<T: Drop> TrackTable<T> {
     {
         TrackTable {
             places: Vec::new(alloc),
-            held: TrackBits::new(),
+            held: CountedBits::new(),
         }
     }
 
@@ -79,7 +79,14 @@ impl<T: Drop> TrackTable<T> {
     pub fn held(&self) -> &TrackBits
         ensures { (t : ℕ) → is_marked result.now t ≡ has_entry self.now t }
     {
-        &self.held
+        self.held.bits()
+    }
+
+    /// Whether it is known that no track has an entry: it is, where none has.
+    pub fn is_empty(&self) -> bool
+        ensures { result ≡ true → (t : ℕ) → has_entry self.now t ≡ false }
+    {
+        self.held.is_empty()
     }
 
     /// Whether a track has an entry.
@@ -123,6 +130,6 @@ impl<T: Drop> TrackTable<T> {
         let places = self.places.len();
         self.places.clear();
         add_places(&mut self.places, places);
-        self.held = TrackBits::new();
+        self.held = CountedBits::new();
     }
 }

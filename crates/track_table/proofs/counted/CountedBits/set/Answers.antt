@@ -1,0 +1,27 @@
+use Rattle.std.proofs.Common.{◌≡◌, ◌≤◌, ◌<◌, ◌+◌, ◌∙◌, true, length, ap, sym, arith}
+use Rattle.std.proofs.lemmas.List.{length-set}
+use Rattle.track_table.specs.Bits.{is_marked}
+use Rattle.track_table.specs.Tracks.{count_below}
+use Rattle.track_table.proofs.Counts.{count_set, few_marked, marked_one, one_if}
+use Rattle.track_table.proofs.counted.CountedBits.set.Goals as goal
+
+pub recounted-self-inside-requires-clause-some : goal.recounted-self-inside-requires-clause-some
+recounted-self-inside-requires-clause-some c = λ is.
+    let there : c.args.t < 960 = omega (arith, c.get-track.ensures.value, c.get-track.ensures.range) in
+    let one = marked_one 960 (is_marked c.self.inside.bits) c.args.t there (sym c.has-was.ensures ∙ is) in
+    omega (arith, one, c.self.invariant.0)
+
+pub recounted-self-inside-requires-clause-few : goal.recounted-self-inside-requires-clause-few
+recounted-self-inside-requires-clause-few c =
+    let few = few_marked 960 (is_marked c.self.inside.bits) in
+    omega (arith, few, c.self.invariant.0)
+
+pub invariant_of-self : goal.invariant_of-self
+invariant_of-self c =
+    let there : c.args.t < 960 = omega (arith, c.get-track.ensures.value, c.get-track.ensures.range) in
+    let changed = count_set 960 (is_marked c.self.inside.bits) (is_marked c.set.new.self) c.args.t c.args.marked c.set.ensures.each there in
+    let now : c.recounted-self-inside.result + one_if (is_marked c.self.inside.bits c.args.t) ≡ c.self.inside.count + one_if c.args.marked =
+    rw c.has-was.ensures at c.recounted-self-inside.ensures in (
+      omega (arith, changed, now, c.self.invariant.0),
+      ap length c.set.ensures.marks ∙ length-set c.self.inside.bits c.args.t c.args.marked ∙ c.self.invariant.1,
+    )
