@@ -1,71 +1,24 @@
--- A track that is written again: what is known of it, and what its write asks the pool.
-use Rattle.std.proofs.Common.{◌≡◌, ◌∙◌, ◌<◌, inl, inr, length, ℕ, Bool, true, false, List, [], ◌∷◌, Option, Some, None, cond, refl, sym, ap}
-use Rattle.std.specs.Prelude.{◌&&◌, not, is_some, slice_set, if◌then◌else◌}
+-- A write of a framed track: a choice that goes through leaves the pool, and an edit in place leaves a modified frame.
+use Rattle.std.proofs.Common.{◌≡◌, ◌∙◌, ◌<◌, ◌==◌, inl, inr, length, ℕ, Bool, true, false, List, [], ◌∷◌, Option, Some, None, cond, refl, sym, ap, subst}
+use Rattle.std.specs.Prelude.{is_some, nat_lt, slice_set, if◌then◌else◌}
+use Rattle.std.proofs.lemmas.Bool.{eq-eqb}
 use Rattle.std.proofs.lemmas.List.{get_or-set_same, get_or-set_other}
 use Rattle.std.specs.Map.{lookup, set_value}
 use Rattle.ckd_types.specs.declared.record.Edit.{Edit}
-use Rattle.ckd_types.specs.Parameters.{is_bypass}
 use Rattle.ckd_rules.specs.Facts.{Suits}
-use Rattle.track_image.specs.Image.{Image, edited_image}
 use Rattle.track_cache.specs.declared.frames.Frame.{Frame}
-use Rattle.track_cache.specs.Frames.{is_modified, is_modified_frame, edited_frame, SuitsFrame}
-use Rattle.device_outside.specs.Interaction.{Interaction, Ask, Done}
+use Rattle.track_cache.specs.Frames.{is_modified, is_modified_frame, SuitsFrame}
+use Rattle.device_outside.specs.declared.port.SlotGrant.TheVariants as grants
+use Rattle.device_outside.specs.Lists as lists
+use Rattle.device_outside.specs.Lists.{is_in, less_one, with_number}
 use Rattle.device_outside.specs.Outside.{PortView, Answered, ByPool}
 use Rattle.device_outside.specs.Pool as pools
-use Rattle.device_outside.specs.Pool.{Pool, SetModified, is_listed, is_of, after, answer}
-use Rattle.device_defs.specs.declared.answers.Choice.{Choice}
-use Rattle.device_defs.specs.declared.answers.Choice.TheVariants.{Fast, Through}
-use Rattle.device_defs.specs.declared.usage.Usage.{Usage}
-use Rattle.device_defs.specs.Choosing as choosing
-use Rattle.device_defs.specs.Choosing.{choose, may_be_fast}
+use Rattle.device_outside.specs.Pool.{Pool, FreeSlot, SetModified, WantSlot, is_listed, is_of, after, answer}
 use Rattle.device_defs.specs.Contents.{contents}
 use Rattle.device_defs.specs.Losses.{framed_image}
-use Rattle.device_defs.specs.Owed.{is_clean}
-use Rattle.device_defs.specs.Store.{frame_at, is_loose, patch_at}
+use Rattle.event_notes.specs.Loose.{is_loose_in}
+use Rattle.device_store.specs.Looks.{StoreOf}
 use Rattle.device_store.proofs.Loosely.{same_or_not}
-use Rattle.device_store.specs.Again.{is_again}
-use Rattle.device_store.specs.Looks.{StoreOf, frame_in}
-
-pub record IsAgain (s : StoreOf) (u : Usage) (t : ℕ) : Type 0 where
-  pub firm : is_loose s t ≡ false
-  pub modified : is_modified s.frames t ≡ true
-  pub held : is_some (patch_at s t) ≡ true
-  pub fast : may_be_fast contents s u t ≡ true
-
-parts : (l m p f : Bool) → (not l && m && p && f) ≡ true → (l ≡ false) × (m ≡ true) × (p ≡ true) × (f ≡ true)
-parts false true true true is = (refl, refl, refl, refl)
-parts true m p f is = absurd cc
-parts false false p f is = absurd cc
-parts false true false f is = absurd cc
-parts false true true false is = absurd cc
-
-pub again : (s : StoreOf) (u : Usage) (t : ℕ) → is_again s u t ≡ true → IsAgain s u t
-again s u t is =
-    let all = parts (is_loose s t) (is_modified s.frames t) (is_some (patch_at s t)) (may_be_fast contents s u t) is in
-    record { firm = all.0; modified = all.1; held = all.2; fast = all.3 }
-
-framed_by : (f : Option Frame) → is_modified_frame f ≡ true → is_some f ≡ true
-framed_by None is = absurd cc
-framed_by (Some f) is = refl
-
-pub framed : (s : StoreOf) (t : ℕ) → is_modified s.frames t ≡ true → is_some (frame_at s t) ≡ true
-framed s t is = framed_by (frame_at s t) is
-
-unclean_by : (f : Option Frame) → is_modified_frame f ≡ true → is_clean contents f ≡ false
-unclean_by None is = absurd cc
-unclean_by (Some f) is = ap not is
-
-none_and : (b c : Bool) → c ≡ false → (b && c) ≡ false
-none_and true c is = is
-none_and false c is = refl
-
--- it asks whether the frame is listed, and nothing else
-pub chooses_again : (s : StoreOf) (u : Usage) (t : ℕ) → is_again s u t ≡ true →
-    choose contents s u t ≡ Ask (SetModified s.device t) (λ listed. Done s (if listed then Fast None else Through))
-unfolding choosing.choose
-chooses_again s u t is =
-    let a = again s u t is in
-    rw (a.firm, none_and u.provisional (is_clean contents (frame_at s t)) (unclean_by (frame_at s t) a.modified), a.fast, a.held) refl
 
 -- The pool doesn't list the frame
 
@@ -101,6 +54,69 @@ view_by a b m n same is = rw (same, is) refl
 pub unlisted_same : (p q : PortView) (d t : ℕ) → Answered p (SetModified d t) false q → p ≡ q
 unlisted_same p q d t says = view_by p.pool q.pool p.denials q.denials (pool_by p.pool q.pool d t says.by_pool) (sym says.denials)
 
+-- a slot that wasn't in use is given back
+
+back_step : (k y : ℕ) (ys : List ℕ) (less same : Bool) → (k == y) ≡ same → (is_in k ys ≡ false → less_one k (with_number k ys) ≡ ys) →
+    (if same then true else is_in k ys) ≡ false → less_one k (if less then y ∷ with_number k ys else k ∷ y ∷ ys) ≡ y ∷ ys
+unfolding lists.less_one
+back_step k y ys less true is rest none = absurd cc
+back_step k y ys true false is rest none = rw is (ap (λ l. y ∷ l) (rest none))
+back_step k y ys false false is rest none = rw (eq-eqb k k refl) refl
+
+pub given_back : (k : ℕ) (ys : List ℕ) → is_in k ys ≡ false → less_one k (with_number k ys) ≡ ys
+unfolding lists.less_one lists.with_number lists.is_in
+given_back k [] none = rw (eq-eqb k k refl) refl
+given_back k (y ∷ ys) none = back_step k y ys (nat_lt y k) (k == y) refl (given_back k ys) none
+
+pool_back : (p : Pool) (k d t : ℕ) → is_in k p.used ≡ false → is_listed p.frames d t ≡ false →
+    after (after (after p WantSlot (grants.Given k)) (SetModified d t) false) (FreeSlot k) tt ≡ p
+unfolding pools.after
+pool_back p k d t none bare =
+    ap (λ fs. record p { frames = fs; used = less_one k (with_number k p.used) }) (unset (is_of d t) p.frames true bare)
+    ∙ ap (λ us. record p { used = us }) (given_back k p.used none)
+
+bare_still : (p : Pool) (k d t : ℕ) → false ≡ answer (after p WantSlot (grants.Given k)) (SetModified d t) → is_listed p.frames d t ≡ false
+unfolding pools.answer pools.after
+bare_still p k d t is = sym is
+
+back_by : (o q r s : Option Pool) (k d t : ℕ) → ByPool o WantSlot (grants.Given k) q → ByPool q (SetModified d t) false r → ByPool r (FreeSlot k) tt s → o ≡ s
+back_by None q r s k d t want set free = by_none q r want set free where
+  by_none : (q r : Option Pool) → q ≡ None → ByPool q (SetModified d t) false r → ByPool r (FreeSlot k) tt s → None ≡ s
+  by_none None None is set free = sym free
+  by_none None (Some r) is set free = absurd cc
+  by_none (Some q) r is set free = absurd cc
+back_by (Some p) q r s k d t want set free =
+    let set : ByPool (Some (after p WantSlot (grants.Given k))) (SetModified d t) false r = subst (λ x. ByPool x (SetModified d t) false r) want.1 set in
+    let free : ByPool (Some (after (after p WantSlot (grants.Given k)) (SetModified d t) false)) (FreeSlot k) tt s = subst (λ x. ByPool x (FreeSlot k) tt s) set.1 free in
+    ap Some (sym (pool_back p k d t want.0.free (bare_still p k d t set.0.same))) ∙ sym free.1
+
+pub slot_back : (p q r s : PortView) (k d t : ℕ) → Answered p WantSlot (grants.Given k) q → Answered q (SetModified d t) false r → Answered r (FreeSlot k) tt s → p ≡ s
+slot_back p q r s k d t want set free =
+    view_by p.pool s.pool p.denials s.denials (back_by p.pool q.pool r.pool s.pool k d t want.by_pool set.by_pool free.by_pool)
+    (sym (free.denials ∙ set.denials ∙ want.denials))
+
+none_denied : (p : Pool) → after p WantSlot grants.Denied ≡ p
+unfolding pools.after
+none_denied p = refl
+
+none_down : (p : Pool) → after p WantSlot grants.Down ≡ p
+unfolding pools.after
+none_down p = refl
+
+denied_by : (o q : Option Pool) → ByPool o WantSlot grants.Denied q → o ≡ q
+denied_by None q is = sym is
+denied_by (Some p) q is = ap Some (sym (none_denied p)) ∙ sym is.1
+
+down_by : (o q : Option Pool) → ByPool o WantSlot grants.Down q → o ≡ q
+down_by None q is = sym is
+down_by (Some p) q is = ap Some (sym (none_down p)) ∙ sym is.1
+
+pub slot_denied : (p q : PortView) → Answered p WantSlot grants.Denied q → p ≡ q
+slot_denied p q says = view_by p.pool q.pool p.denials q.denials (denied_by p.pool q.pool says.by_pool) (sym says.denials)
+
+pub slot_down : (p q : PortView) → Answered p WantSlot grants.Down q → p ≡ q
+slot_down p q says = view_by p.pool q.pool p.denials q.denials (down_by p.pool q.pool says.by_pool) (sym says.denials)
+
 -- The edit of the frame
 
 pub suits_frame : (s : StoreOf) (t : ℕ) (e : Edit) (f : Option Frame) → is_some f ≡ true →
@@ -108,15 +124,19 @@ pub suits_frame : (s : StoreOf) (t : ℕ) (e : Edit) (f : Option Frame) → is_s
 suits_frame s t e None there suits = absurd cc
 suits_frame s t e (Some f) there suits = suits
 
-pub edited_is : (s : StoreOf) (t : ℕ) (e : Edit) (f : Option Frame) → is_modified_frame f ≡ true →
-    edited_frame e f ≡ Some (record { image = edited_image e (framed_image contents s t f); modified = true })
-edited_is s t e None is = absurd cc
-edited_is s t e (Some f) is = ap (λ m. Some (record { image = edited_image e f.image; modified = m })) is
-
 -- where the frame of a track becomes another that is modified
 pub still_modified : (frames : List (Option Frame)) (loose : ℕ → Bool) (t : ℕ) (f : Option Frame) → is_modified_frame f ≡ true → t < length frames →
     ((q : ℕ) → loose q ≡ true → is_modified frames q ≡ true) → (q : ℕ) → loose q ≡ true → is_modified (slice_set frames t f) q ≡ true
 still_modified frames loose t f marked there all q is = elim (same_or_not q t) [
   | inl same ↦ rw same (ap is_modified_frame (get_or-set_same frames t f None there) ∙ marked)
   | inr differ ↦ ap is_modified_frame (get_or-set_other frames t q f None differ) ∙ all q is
+]
+
+-- and the track becomes loose
+pub loosened_modified : (frames : List (Option Frame)) (loose : List Bool) (t : ℕ) (f : Option Frame) → is_modified_frame f ≡ true → t < length frames →
+    ((q : ℕ) → is_loose_in loose q ≡ true → is_modified frames q ≡ true) → (q : ℕ) → is_loose_in (slice_set loose t true) q ≡ true →
+    is_modified (slice_set frames t f) q ≡ true
+loosened_modified frames loose t f marked there all q is = elim (same_or_not q t) [
+  | inl same ↦ rw same (ap is_modified_frame (get_or-set_same frames t f None there) ∙ marked)
+  | inr differ ↦ ap is_modified_frame (get_or-set_other frames t q f None differ) ∙ all q (sym (get_or-set_other loose t q true false differ) ∙ is)
 ]

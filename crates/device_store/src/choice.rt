@@ -1,12 +1,12 @@
 ghost use Rattle.std.specs.Prelude.{◌≡◌, ◌&&◌, false, if◌then◌else◌, is_some, true};
 ghost use Rattle.device_defs.specs.Choosing.{choose, choose_firm, choose_loose, fast_by, fast_or_through, may_be_fast, slot_by};
 ghost use Rattle.device_defs.specs.Contents.{contents};
-ghost use Rattle.device_defs.specs.declared.answers.Choice.TheVariants.{Provisional};
+ghost use Rattle.device_defs.specs.declared.answers.Choice.TheVariants.{Provisional, Through};
 ghost use Rattle.device_defs.specs.Owed.{is_clean};
 ghost use Rattle.device_defs.specs.Store.{frame_at, patch_at};
 ghost use Rattle.device_outside.specs.declared.port.SlotGrant.TheVariants as grants;
 ghost use Rattle.device_outside.specs.Interaction.{Ask, Done};
-ghost use Rattle.device_outside.specs.Outside.{Ran};
+ghost use Rattle.device_outside.specs.Outside.{Answered, PortView, Ran};
 ghost use Rattle.device_outside.specs.Pool.{SetModified, WantSlot};
 ghost use Rattle.device_store.specs.State.{state_of, outside, surely};
 ghost use Rattle.device_store.specs.Chosen.{Fits};
@@ -27,6 +27,7 @@ impl<V: Volume> DeviceStore<V> {
         port: &mut P,
     ) -> Choice
         requires { is_some (patch_at (state_of self.now) t) ≡ false }
+        ensures same { (p : PortView) → Answered p WantSlot (grants.Given slot) (P.view port.old) → result ≡ Through → p ≡ P.view port.new }
         ensures fits { Fits false (is_some (patch_at (state_of self.now) t)) result }
         ensures run { (k : K) → Ran surely K.hears (slot_by contents (state_of self.now) t (grants.Given slot)) (outside (P.view port.old) self.now k) (state_of self.now) result (outside (P.view port.new) self.now k) }
     {
@@ -40,6 +41,7 @@ impl<V: Volume> DeviceStore<V> {
     /// A fast write of a track without a patch wants a slot.
     fn choose_slot<P: Port, K: Keep<TrackImage>>(&self, t: TrackNo, port: &mut P) -> Choice
         requires { is_some (patch_at (state_of self.now) t) ≡ false }
+        ensures same { result ≡ Through → P.view port.old ≡ P.view port.new }
         ensures fits { Fits false (is_some (patch_at (state_of self.now) t)) result }
         ensures run { (k : K) → Ran surely K.hears (Ask WantSlot (slot_by contents (state_of self.now) t)) (outside (P.view port.old) self.now k) (state_of self.now) result (outside (P.view port.new) self.now k) }
     {
@@ -51,6 +53,7 @@ impl<V: Volume> DeviceStore<V> {
     }
 
     fn choose_fast<P: Port, K: Keep<TrackImage>>(&self, t: TrackNo, port: &mut P) -> Choice
+        ensures same { result ≡ Through → P.view port.old ≡ P.view port.new }
         ensures fits { Fits false (is_some (patch_at (state_of self.now) t)) result }
         ensures run { (k : K) → Ran surely K.hears (fast_by contents (state_of self.now) t (is_some (patch_at (state_of self.now) t))) (outside (P.view port.old) self.now k) (state_of self.now) result (outside (P.view port.new) self.now k) }
     {
@@ -63,7 +66,7 @@ impl<V: Volume> DeviceStore<V> {
         self.choose_slot::<P, K>(t, port)
     }
 
-    pub(crate) fn may_be_fast(&self, usage: &Usage, t: TrackNo) -> bool
+    fn may_be_fast(&self, usage: &Usage, t: TrackNo) -> bool
         ensures { result ≡ may_be_fast contents (state_of self.now) usage.now t }
     {
         !is_bypass(usage.mode) && !usage.inhibit && self.frames.has(t)
@@ -76,6 +79,7 @@ impl<V: Volume> DeviceStore<V> {
         t: TrackNo,
         port: &mut P,
     ) -> Choice
+        ensures same { result ≡ Through → P.view port.old ≡ P.view port.new }
         ensures fits { Fits false (is_some (patch_at (state_of self.now) t)) result }
         ensures run { (k : K) → Ran surely K.hears (fast_or_through contents (state_of self.now) usage.now t) (outside (P.view port.old) self.now k) (state_of self.now) result (outside (P.view port.new) self.now k) }
     {
@@ -92,6 +96,7 @@ impl<V: Volume> DeviceStore<V> {
         t: TrackNo,
         port: &mut P,
     ) -> Choice
+        ensures same { result ≡ Through → P.view port.old ≡ P.view port.new }
         ensures fits { Fits usage.now.provisional (is_some (patch_at (state_of self.now) t)) result }
         ensures run { (k : K) → Ran surely K.hears (choose_loose contents (state_of self.now) usage.now t) (outside (P.view port.old) self.now k) (state_of self.now) result (outside (P.view port.new) self.now k) }
     {
@@ -118,6 +123,7 @@ impl<V: Volume> DeviceStore<V> {
         port: &mut P,
     ) -> Choice
         requires { usage.now.provisional ≡ true }
+        ensures same { result ≡ Through → P.view port.old ≡ P.view port.new }
         ensures fits { Fits usage.now.provisional (is_some (patch_at (state_of self.now) t)) result }
         ensures run { (k : K) → Ran surely K.hears (Ask (SetModified self.now.number t) (λ listed. if listed then Done (state_of self.now) Provisional else fast_or_through contents (state_of self.now) usage.now t)) (outside (P.view port.old) self.now k) (state_of self.now) result (outside (P.view port.new) self.now k) }
     {
@@ -133,6 +139,7 @@ impl<V: Volume> DeviceStore<V> {
         t: TrackNo,
         port: &mut P,
     ) -> Choice
+        ensures same { result ≡ Through → P.view port.old ≡ P.view port.new }
         ensures fits { Fits usage.now.provisional (is_some (patch_at (state_of self.now) t)) result }
         ensures run { (k : K) → Ran surely K.hears (choose_firm contents (state_of self.now) usage.now t) (outside (P.view port.old) self.now k) (state_of self.now) result (outside (P.view port.new) self.now k) }
     {
@@ -142,13 +149,14 @@ impl<V: Volume> DeviceStore<V> {
         self.fast_or_through::<P, K>(usage, t, port)
     }
 
-    /// Where a write goes.
+    /// Where a write goes. Where it goes through, the pool is as it was.
     pub(crate) fn choose<P: Port, K: Keep<TrackImage>>(
         &self,
         usage: &Usage,
         t: TrackNo,
         port: &mut P,
     ) -> Choice
+        ensures same { result ≡ Through → P.view port.old ≡ P.view port.new }
         ensures fits { Fits usage.now.provisional (is_some (patch_at (state_of self.now) t)) result }
         ensures run { (k : K) → Ran surely K.hears (choose contents (state_of self.now) usage.now t) (outside (P.view port.old) self.now k) (state_of self.now) result (outside (P.view port.new) self.now k) }
     {

@@ -1,10 +1,10 @@
 //! The tracks of a device: its volume, and what is kept of each track.
 #![tactic(auto)]
 
-mod again;
 mod background;
 mod choice;
 mod destage;
+mod framed;
 mod frames;
 mod image;
 mod losses;

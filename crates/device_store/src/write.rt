@@ -302,15 +302,6 @@ impl<V: Volume> DeviceStore<V> {
         }
     }
 
-    /// A copy of the image in a track's frame, with an edit.
-    pub(crate) fn edited_frame(&self, t: TrackNo, edit: &Edit) -> Result<TrackImage, NoMemory>
-        requires framed { is_some (frame_at (state_of self.now) t) ≡ true }
-        requires suits { Suits (frame_in (state_of self.now) t).geometry (frame_in (state_of self.now) t).track.records edit.now }
-        ensures { IfOk result (λ made. made ≡ edited_image edit.now (frame_in (state_of self.now) t)) }
-    {
-        edited(self.alloc, self.frame_image(t), edit)
-    }
-
     /// The keeper is told the image in a track's frame before an edit of it.
     pub(crate) fn tell_frame<K: Keep<TrackImage>>(
         &self,
@@ -355,67 +346,6 @@ impl<V: Volume> DeviceStore<V> {
                 Err(NoMemory)
             }
             Ok(()) => Ok(self.write_by(usage, first, t, image, edit, choice, port, keep)),
-        }
-    }
-
-    /// The write goes where it is chosen to go, in room that was made.
-    fn chosen_framed<P: Port, K: Keep<TrackImage>>(
-        &mut self,
-        usage: &Usage,
-        first: TrackNo,
-        t: TrackNo,
-        image: TrackImage,
-        edit: Edit,
-        port: &mut P,
-        keep: &mut K,
-    ) -> Result<Took, NoMemory>
-        requires track { t < self.old.cylinders * 15 }
-        requires framed { is_some (frame_at (state_of self.old) t) ≡ true }
-        requires image { image ≡ edited_image edit (frame_in (state_of self.old) t) }
-        requires patch { room_for (stored_at self.old.patches t) ≤ self.old.edits }
-        requires loose { usage.now.provisional ≡ true → loose_count self.old.loose.loose + 2 ≤ self.old.loose.spare }
-        requires takes { Takes K.takes keep.old self.old.number (self.old.cylinders * 15) }
-        ensures fixed { (self.new.number ≡ self.old.number) × (self.new.cylinders ≡ self.old.cylinders) }
-        ensures takes { Takes K.takes keep.new self.new.number (self.new.cylinders * 15) }
-        ensures weight { weight self.new.loose ≤ weight self.old.loose + 2 }
-        ensures run { Ran (where_ok result) K.hears (and_then (choose contents (state_of self.old) usage.now t) (write_chosen contents usage.now first t (frame_in (state_of self.old) t) edit)) (outside (P.view port.old) self.old keep.old) (state_of self.new) (had (λ took. took) result) (outside (P.view port.new) self.new keep.new) }
-    {
-        let choice = self.choose::<P, K>(usage, t, port);
-        if self.is_given(choice) {
-            return self.given_framed(usage, first, t, image, edit, choice, port, keep);
-        }
-        Ok(self.write_by(usage, first, t, image, edit, choice, port, keep))
-    }
-
-    /// The same of a track whose image is in its frame.
-    pub fn write_framed<P: Port, K: Keep<TrackImage>>(
-        &mut self,
-        usage: &Usage,
-        first: TrackNo,
-        t: TrackNo,
-        edit: Edit,
-        port: &mut P,
-        keep: &mut K,
-    ) -> Result<Took, NoMemory>
-        requires track { t < self.old.cylinders * 15 }
-        requires there { is_some (frame_at (state_of self.old) t) ≡ true }
-        requires suits { Suits (frame_in (state_of self.old) t).geometry (frame_in (state_of self.old) t).track.records edit }
-        requires takes { Takes K.takes keep.old self.old.number (self.old.cylinders * 15) }
-        ensures fixed { (self.new.number ≡ self.old.number) × (self.new.cylinders ≡ self.old.cylinders) }
-        ensures takes { Takes K.takes keep.new self.new.number (self.new.cylinders * 15) }
-        ensures weight { weight self.new.loose ≤ weight self.old.loose + 2 }
-        ensures run { Ran (where_ok result) K.hears (write contents (state_of self.old) usage.now first t (frame_in (state_of self.old) t) edit) (outside (P.view port.old) self.old keep.old) (state_of self.new) (had (λ took. took) result) (outside (P.view port.new) self.new keep.new) }
-    {
-        if self.is_again(usage, t) {
-            return self.write_again(usage, first, t, edit, port, keep);
-        }
-        let image = match self.edited_frame(t, &edit) {
-            Err(NoMemory) => return Err(NoMemory),
-            Ok(image) => image,
-        };
-        match self.make_room(usage, t) {
-            Err(NoMemory) => Err(NoMemory),
-            Ok(()) => self.chosen_framed(usage, first, t, image, edit, port, keep),
         }
     }
 }

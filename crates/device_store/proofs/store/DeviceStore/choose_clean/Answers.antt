@@ -1,5 +1,7 @@
 use Rattle.device_outside.specs.Outside.{done}
 use Rattle.device_outside.proofs.Runs.{asks}
+use Rattle.std.proofs.Common.{◌∙◌}
+use Rattle.device_store.proofs.InPlace.{unlisted_same}
 use Rattle.device_store.proofs.store.DeviceStore.choose_clean.Goals as goal
 
 pub returns-then-set_modified-clause-run : goal.returns-then-set_modified-clause-run
@@ -7,3 +9,7 @@ returns-then-set_modified-clause-run g c = λ k. asks (rw c.if-set_modified.true
 
 pub returns-clause-run : goal.returns-clause-run
 returns-clause-run g c = λ k. asks (rw c.if-set_modified.false at c.set_modified.ensures) (c.fast_or_through.ensures.run k)
+
+pub returns-clause-same : goal.returns-clause-same
+returns-clause-same g c = λ is.
+    unlisted_same _ _ c.args.self.now.number c.args.t (rw c.if-set_modified.false at c.set_modified.ensures) ∙ c.fast_or_through.ensures.same is

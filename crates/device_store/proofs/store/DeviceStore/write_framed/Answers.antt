@@ -1,27 +1,18 @@
-use Rattle.std.proofs.Common.{refl, sym, ap, true, false}
-use Rattle.device_outside.specs.Interaction.{and_then}
-use Rattle.device_outside.specs.Outside.{done}
+use Rattle.std.proofs.Common.{refl, sym, ap, false}
 use Rattle.device_outside.proofs.Runs.{tries, ended}
-use Rattle.device_defs.specs.Choosing.{choose}
 use Rattle.device_defs.specs.Contents.{contents}
-use Rattle.device_defs.specs.Editing.{write, write_chosen}
+use Rattle.device_defs.specs.Editing.{write}
 use Rattle.device_store.specs.Looks.{frame_in}
 use Rattle.device_store.specs.State.{outside_of}
-use Rattle.device_store.proofs.Moves.{had_ok, from_equal}
+use Rattle.device_store.proofs.Moves.{from_equal}
 use Rattle.device_store.proofs.store.DeviceStore.write_framed.Goals as goal
 
 pub returns-in-Err-clause-run : goal.returns-in-Err-clause-run
 unfolding write
-returns-in-Err-clause-run g c = tries false tt done
+returns-in-Err-clause-run g c = rw c.room_framed.ensures.volume (tries false tt (ended (sym c.room_framed.ensures.state) refl))
 
-pub returns-in-Err-make_room-clause-run : goal.returns-in-Err-make_room-clause-run
-unfolding write
-returns-in-Err-make_room-clause-run g c = rw c.make_room.ensures.volume (tries false tt (ended (sym c.make_room.ensures.state) refl))
-
-pub returns-in-Ok-make_room-clause-run : goal.returns-in-Ok-make_room-clause-run
-unfolding write
-returns-in-Ok-make_room-clause-run g c =
-    tries true (had_ok c.chosen_framed.result) (from_equal
-    (λ z. and_then (choose contents z c.args.usage.now c.args.t) (write_chosen contents c.args.usage.now c.args.first c.args.t (frame_in z c.args.t) c.args.edit))
-    c.make_room.ensures.state (ap (λ v. outside_of (g.P.Port.view c.args.port.now) (g.V.Volume.view v) c.args.keep.now) c.make_room.ensures.volume)
-    c.chosen_framed.ensures.run)
+pub returns-clause-run : goal.returns-clause-run
+returns-clause-run g c =
+    from_equal (λ z. write contents z c.args.usage.now c.args.first c.args.t (frame_in z c.args.t) c.args.edit)
+    c.room_framed.ensures.state (ap (λ v. outside_of (g.P.Port.view c.args.port.now) (g.V.Volume.view v) c.args.keep.now) c.room_framed.ensures.volume)
+    c.chosen_framed.ensures.run

@@ -1,12 +1,13 @@
-use Rattle.std.proofs.Common.{refl, true, false, Some}
+use Rattle.std.proofs.Common.{refl, sym, true, false, Some}
 use Rattle.device_outside.specs.Interaction.{Done}
 use Rattle.device_outside.specs.Outside.{done}
-use Rattle.device_outside.proofs.Runs.{tells, joined, ran_weaker}
-use Rattle.device_store.proofs.store.DeviceStore.write_listed.Goals as goal
+use Rattle.device_outside.proofs.Runs.{tells, joined, ran_weaker, ended}
+use Rattle.device_store.proofs.store.DeviceStore.framed_loose.Goals as goal
 
 pub returns-in-Err-clause-run : goal.returns-in-Err-clause-run
 returns-in-Err-clause-run g c = λ u first. tells false c.in-Err.ensures.moves tt (ran_weaker (λ ok is. tt) (c.unchosen.ensures.run _))
 
 pub returns-in-Ok-clause-run : goal.returns-in-Ok-clause-run
 returns-in-Ok-clause-run g c = λ u first.
-    tells true c.in-Ok.ensures.moves refl (joined (λ z took. Done z (Some took)) (c.edit_again.ensures.run u first _) done)
+    tells true c.in-Ok.ensures.moves refl (rw c.edit_loose.ensures.volume
+    (joined (λ z took. Done z (Some took)) (ended (sym (c.edit_loose.ensures.state c.args.edit)) refl) done))

@@ -1,0 +1,27 @@
+use Rattle.std.proofs.Common.{◌≡◌, ◌∙◌, ◌<◌, length, refl, sym, ap, arith}
+use Rattle.std.proofs.lemmas.List.{length-set}
+use Rattle.device_outside.proofs.Runs.{ended, tells}
+use Rattle.event_notes.specs.Loose.{is_loose_in}
+use Rattle.device_store.specs.State.{state_of}
+use Rattle.device_store.proofs.InPlace.{still_modified}
+use Rattle.device_store.proofs.store.DeviceStore.edit_fast.Goals as goal
+
+pub returns-clause-run : goal.returns-clause-run
+returns-clause-run g c = λ u first p.
+    rw c.keep_edit.ensures.volume (tells tt (rw c.requires.copy at (c.edit_firm.ensures.told (state_of c.args.self.now) refl).moves) tt
+    (ended (sym (rw (c.keep_edit.ensures.state, c.edit_firm.ensures.frames (state_of c.args.self.now) refl, c.requires.copy) refl)) refl))
+
+pub returns-clause-takes : goal.returns-clause-takes
+returns-clause-takes g c =
+    rw (c.keep_edit.ensures.fixed.0, c.keep_edit.ensures.fixed.1)
+    (record { all = λ t i below. (c.edit_firm.ensures.told (state_of c.args.self.now) refl).still c.args.self.now.number t i (c.requires.takes.all t i below) })
+
+pub invariant_of-self-clause-frame_of_each : goal.invariant_of-self-clause-frame_of_each
+invariant_of-self-clause-frame_of_each g c =
+    ap length (c.edit_firm.ensures.frames (state_of c.args.self.now) refl) ∙ length-set c.args.self.now.frames c.args.t _ ∙ c.args.self.now.frame_of_each
+
+pub invariant_of-self-clause-loose_modified : goal.invariant_of-self-clause-loose_modified
+invariant_of-self-clause-loose_modified g c =
+    let there : c.args.t < length c.args.self.now.frames = omega (arith, c.requires.track, c.args.self.now.frame_of_each) in
+    rw (c.edit_firm.ensures.frames (state_of c.args.self.now) refl)
+    (still_modified c.args.self.now.frames (is_loose_in c.args.self.now.loose.loose) c.args.t _ refl there c.args.self.now.loose_modified)

@@ -1,0 +1,26 @@
+use Rattle.std.proofs.Common.{◌≡◌, ◌∙◌, ◌<◌, length, refl, ap, arith}
+use Rattle.std.proofs.lemmas.List.{length-set}
+use Rattle.event_notes.specs.Loose.{is_loose_in}
+use Rattle.device_store.specs.State.{state_of}
+use Rattle.device_store.proofs.InPlace.{loosened_modified, still_modified}
+use Rattle.device_store.proofs.store.DeviceStore.edit_loose.Goals as goal
+
+pub invariant_of-self-clause-frame_of_each : goal.invariant_of-self-clause-frame_of_each
+invariant_of-self-clause-frame_of_each g c =
+    ap length (c.edit_frame.ensures.frames (state_of c.args.self.now) refl) ∙ length-set c.args.self.now.frames c.args.t _ ∙ c.args.self.now.frame_of_each
+
+pub invariant_of-self-clause-loose_modified : goal.invariant_of-self-clause-loose_modified
+invariant_of-self-clause-loose_modified g c =
+    let there : c.args.t < length c.args.self.now.frames = omega (arith, c.requires.track, c.args.self.now.frame_of_each) in
+    rw (c.edit_frame.ensures.frames (state_of c.args.self.now) refl)
+    (still_modified c.args.self.now.frames (is_loose_in c.args.self.now.loose.loose) c.args.t _ refl there c.args.self.now.loose_modified)
+
+pub invariant_of-self-2-clause-frame_of_each : goal.invariant_of-self-2-clause-frame_of_each
+invariant_of-self-2-clause-frame_of_each g c =
+    ap length (c.edit_frame.ensures.frames (state_of c.args.self.now) refl) ∙ length-set c.args.self.now.frames c.args.t _ ∙ c.args.self.now.frame_of_each
+
+pub invariant_of-self-2-clause-loose_modified : goal.invariant_of-self-2-clause-loose_modified
+invariant_of-self-2-clause-loose_modified g c =
+    let there : c.args.t < length c.args.self.now.frames = omega (arith, c.requires.track, c.args.self.now.frame_of_each) in
+    rw (c.edit_frame.ensures.frames (state_of c.args.self.now) refl, c.loosen.ensures.loose)
+    (loosened_modified c.args.self.now.frames c.args.self.now.loose.loose c.args.t _ refl there c.args.self.now.loose_modified)
