@@ -90,7 +90,6 @@ pub mod PlainPower
 pub mod PlainSeconds
 pub mod PlainOrders
 pub mod HistoryTold
-pub mod TouchedTracks
 pub mod WholePower
 pub mod Based
 pub mod BasedParts

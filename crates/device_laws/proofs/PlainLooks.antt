@@ -128,11 +128,11 @@ extent_by s o (openings.Over e) look is keeps = absurd (cc)
 extent_by s o (openings.Looks other) look is keeps = keeps
 extent_by s o (openings.Asks act) look is keeps = absurd (cc)
 
-pub last_or : Option Extent → ℕ
+last_or : Option Extent → ℕ
 last_or (Some e) = e.last
 last_or None = 0
 
-pub reaches : (k : ℕ) (o : Option Extent) → IfSome o (λ e. e.last < (k + 1 + last_or o) * 15)
+reaches : (k : ℕ) (o : Option Extent) → IfSome o (λ e. e.last < (k + 1 + last_or o) * 15)
 unfolding last_or
 reaches k (Some e) = omega arith
 reaches k None = tt
@@ -142,7 +142,7 @@ onward s z n (turns.Ended e) f is = absurd (cc)
 onward s z n turns.Onward f is = f.1
 onward s z n (turns.Edits edit e) f is = absurd (cc)
 
-look_stays : (g : Geometry) (t : Track) (s : Stance) (c : Ccw) (look : Look) → (look_on g t s c look).turned ≡ turns.Onward →
+pub look_stays : (g : Geometry) (t : Track) (s : Stance) (c : Ccw) (look : Look) → (look_on g t s c look).turned ≡ turns.Onward →
     ((look_on g t s c look).stance.extent ≡ s.extent) × ((look_on g t s c look).stance.track ≡ s.track + 1)
 look_stays g t s c look is =
     let k = s.track + 1 + last_or s.extent in

@@ -47,7 +47,7 @@ use Rattle.device_laws.proofs.Choices.{choice_fits}
 use Rattle.device_laws.proofs.Commands.{Stays, LookedAt, look_keeps_good}
 use Rattle.device_laws.proofs.FailedCall.{IsWell}
 use Rattle.device_laws.proofs.Lucky.{Lucky, lucky_done, lucky_try, lucky_ask, lucky_read, lucky_write, lucky_tell, lucky_then, lucky_if, lucky_tried, with_always}
-use Rattle.device_laws.proofs.TouchedTracks.{goes_to_next}
+use Rattle.device_laws.proofs.PlainLooks.{look_stays}
 use Rattle.device_laws.proofs.TrackMarks as M
 use Rattle.device_laws.proofs.TrackMarks.{TrackMarks, marks, is_true, is_good, IsFaithful, frame_mark, track_at}
 use Rattle.device_laws.proofs.UnlostEvents.{look_goes}
@@ -79,7 +79,7 @@ stage_is chain t i (stages.Looks look) needs at =
     let l = look_on i.geometry i.track u.at.stance (word_of u) look in
     let place : u.at.stance.track ≡ t = need_is u (stages.Looks look) t (sym (ap (λ (x : Stage). needed u x) at) ∙ needs) in
     turned_is u t look l.stance l.turned (begun_stage chain chain.stage refl ∙ ap (λ (x : Stage). Some x) at)
-    (λ on. goes_to_next i.geometry u.at.stance (word_of u) look i.track u.at.stance on ∙ ap (λ (n : ℕ). n + 1) place)
+    (λ on. (look_stays i.geometry i.track u.at.stance (word_of u) look on).1 ∙ ap (λ (n : ℕ). n + 1) place)
 
 pub step_is : (chain : ChainState) (t : ℕ) (i : Image) → need_of chain ≡ Some t → StepIs t (stepped chain (Some i)).progress (stepped chain (Some i)).chain
 step_is chain t i needs = stage_is chain t i (stage_of chain) needs refl

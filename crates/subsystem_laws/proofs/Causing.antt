@@ -169,26 +169,26 @@ module _ (s : Subsystem) (p : AreSo Fair s.mounted) where
   deeds_show : IsDeedwise s (KeepsDeed s)
   deeds_show = record {
     ended = λ end. tt;
-    started = λ d x path. held_so d x (start d path) (started_number d path) (start_same d path) (ends.Started (next_ordinal d path));
+    started = λ d x path fault. held_so d x (start d path) (started_number d path) (start_same d path) (ends.Started (next_ordinal d path));
     seconded = λ d x h is. (seat_of s d x, answers d (second by_plain d) (λ a. Some (ends.Second a)) (second_causes d (fair_of d x) h is));
     commanded = λ d x whole o running. (
       seat_of s d x,
       answers d (command by_plain d) (end_of ends.Stepped) (command_causes d (fair_of d x) o running whole),
     );
-    worked = λ d x. (seat_of s d x, answers d (background by_plain d) (end_of ends.Back) (λ t. inl (background_same d t)));
+    worked = λ d x whole. (seat_of s d x, answers d (background by_plain d) (end_of ends.Back) (λ t. inl (background_same d t)));
     cut = λ d x path. (seat_of s d x, answers d (reset by_plain d path) (λ a. Some (ends_done a)) (λ t. inl (reset_same d path t)));
     lost_cache = λ d t. loss_same d losses.Cache t;
     lost_store = λ d t. loss_same d losses.Store t;
-    lost_side = λ d x side. (
+    lost_side = λ d x side fault. (
       seat_of s d x,
       answers d (lose by_plain d (losses.Side side)) (λ a. Some (ends_done a)) (λ t. inl (loss_same d (losses.Side side) t)),
     );
     lost_power = λ d t. power_same d t;
     repaired_cache = tt;
     repaired_store = tt;
-    lent = λ x y z. tt;
-    held = λ d x. held_so d x (hold d) refl refl ends.Done;
-    resumed = λ d x. held_so d x (resume d) refl refl ends.Done;
+    lent = λ x y z w fault. tt;
+    held = λ d x fault. held_so d x (hold d) refl refl ends.Done;
+    resumed = λ d x fault. held_so d x (resume d) refl refl ends.Done;
   }
 
   event_shown : (e : Event) → Shows (happens s e)

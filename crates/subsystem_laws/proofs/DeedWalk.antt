@@ -42,21 +42,21 @@ seat_of s d x m there =
 module _ (s : Subsystem) (Kept : MarksDeed → Type 0) where
   pub record IsDeedwise : Type 0 where
     pub ended : (end : EventEnd) → Kept (Ends end)
-    pub started : (d : MarksDevice) → Stands s d → (path : ℕ) → Kept (Becomes (start d path) (ends.Started (next_ordinal d path)))
+    pub started : (d : MarksDevice) → Stands s d → (path : ℕ) → start_fault d path ≡ None → Kept (Becomes (start d path) (ends.Started (next_ordinal d path)))
     pub seconded : (d : MarksDevice) → Stands s d → (h : HalfWrite (Unit {0})) → d.store.half ≡ Some h → Kept (seconds by_plain d)
     pub commanded : (d : MarksDevice) → Stands s d → d.store.half ≡ None → (o : OpenEntry) → d.history.running ≡ Some o →
         Kept (Asks d (may_end_by ends.Stepped (command by_plain d)))
-    pub worked : (d : MarksDevice) → Stands s d → Kept (Asks d (may_end_by ends.Back (background by_plain d)))
+    pub worked : (d : MarksDevice) → Stands s d → d.store.half ≡ None → Kept (Asks d (may_end_by ends.Back (background by_plain d)))
     pub cut : (d : MarksDevice) → Stands s d → (path : ℕ) → Kept (Asks d (ends_by ends_done (reset by_plain d path)))
     pub lost_cache : Kept (Each (cache_failed s.pool) (λ x. lose by_plain x losses.Cache))
     pub lost_store : Kept (Each (store_failed s.pool) (λ x. lose by_plain x losses.Store))
-    pub lost_side : (d : MarksDevice) → Stands s d → (side : Side) → Kept (Asks d (ends_by ends_done (lose by_plain d (losses.Side side))))
+    pub lost_side : (d : MarksDevice) → Stands s d → (side : Side) → fail_fault d side ≡ None → Kept (Asks d (ends_by ends_done (lose by_plain d (losses.Side side))))
     pub lost_power : Kept (Each (power_lost s.pool) (power by_plain))
     pub repaired_cache : Kept (Repairs (cache_repaired s.pool))
     pub repaired_store : Kept (Repairs (store_repaired s.pool))
-    pub lent : (x y : MarksDevice) → Stands s y → Kept (Lends x y)
-    pub held : (d : MarksDevice) → Stands s d → Kept (Becomes (hold d) ends.Done)
-    pub resumed : (d : MarksDevice) → Stands s d → Kept (Becomes (resume d) ends.Done)
+    pub lent : (x y : MarksDevice) → Stands s x → Stands s y → pair_fault x y ≡ None → Kept (Lends x y)
+    pub held : (d : MarksDevice) → Stands s d → suspend_fault d ≡ None → Kept (Becomes (hold d) ends.Done)
+    pub resumed : (d : MarksDevice) → Stands s d → resume_fault d ≡ None → Kept (Becomes (resume d) ends.Done)
 
   -- a record round it, so that the deed can be inferred
   record Deeds (x : MarksDeed) : Type 0 where
@@ -75,13 +75,13 @@ module _ (s : Subsystem) (Kept : MarksDeed → Type 0) where
     deed_if true f g = f
     deed_if false f g = g
 
-    ordered : (o : Option OrderFault) {x : MarksDeed} → Deeds x → Deeds (order o x)
+    ordered : (o : Option OrderFault) {x : MarksDeed} → (o ≡ None → Deeds x) → Deeds (order o x)
     ordered (Some fault) h = record { is = k.ended (ends.Refused fault) }
-    ordered None h = h
+    ordered None h = h refl
 
-    starts_by : (d : MarksDevice) → Stands s d → (path : ℕ) (o : Option StartFault) → Deeds (start_by {R = Bool} d path o)
-    starts_by d x path (Some fault) = record { is = k.ended (ends.NotStarted fault) }
-    starts_by d x path None = record { is = k.started d x path }
+    starts_by : (d : MarksDevice) → Stands s d → (path : ℕ) (o : Option StartFault) → start_fault d path ≡ o → Deeds (start_by {R = Bool} d path o)
+    starts_by d x path (Some fault) is = record { is = k.ended (ends.NotStarted fault) }
+    starts_by d x path None is = record { is = k.started d x path is }
 
     seconds_so : (d : MarksDevice) → Stands s d → (h : HalfWrite (Unit {0})) → d.store.half ≡ Some h → Deeds (seconds by_plain d)
     seconds_so d x h is = record { is = k.seconded d x h is }
@@ -100,13 +100,13 @@ module _ (s : Subsystem) (Kept : MarksDeed → Type 0) where
     back_by : (d : MarksDevice) → Stands s d → (h : Option (HalfWrite (Unit {0}))) → d.store.half ≡ h →
         Deeds (if is_some h then seconds by_plain d else Asks d (may_end_by ends.Back (background by_plain d)))
     back_by d x (Some h) is = seconds_so d x h is
-    back_by d x None whole = record { is = k.worked d x }
+    back_by d x None whole = record { is = k.worked d x whole }
 
     deed_by : (e : Event) → Deeds (deed by_plain s.pool (devices_of s) e)
     unfolding E.deed
     deed_by (events.Start path d) =
         at_device d (starts path)
-        (λ z x. deed_if (is_own path z.history.running) (record { is = k.ended ends.Running }) (starts_by z x path (start_fault z path)))
+        (λ z x. deed_if (is_own path z.history.running) (record { is = k.ended ends.Running }) (starts_by z x path (start_fault z path) refl))
     deed_by (events.Step d) = at_device d (step by_plain) (λ z x. step_by z x z.store.half refl)
     deed_by (events.Back d) = at_device d (back by_plain) (λ z x. back_by z x z.store.half refl)
     deed_by (events.Reset path d) = at_device d (λ z. Asks z (ends_by ends_done (reset by_plain z path))) (λ z x. record { is = k.cut z x path })
@@ -114,18 +114,18 @@ module _ (s : Subsystem) (Kept : MarksDeed → Type 0) where
     deed_by events.FailStore = deed_if (not s.pool.store_up) (record { is = k.ended _ }) (record { is = k.lost_store })
     deed_by (events.FailVolume d side) =
         at_device d (λ z. order (fail_fault z side) (Asks z (ends_by ends_done (lose by_plain z (losses.Side side)))))
-        (λ z x. ordered (fail_fault z side) (record { is = k.lost_side z x side }))
+        (λ z x. ordered (fail_fault z side) (λ fault. record { is = k.lost_side z x side fault }))
     deed_by events.RepairCache =
         deed_if s.pool.cache_up (record { is = k.ended _ }) (deed_if (all_waiting s.pool == 0) (record { is = k.repaired_cache }) (record { is = k.ended _ }))
     deed_by events.RepairStore =
         deed_if s.pool.store_up (record { is = k.ended _ }) (deed_if (all_waiting s.pool == 0) (record { is = k.repaired_store }) (record { is = k.ended _ }))
     deed_by (events.Pair a b) =
         at_device a (λ y. on_device (device_in (devices_of s) b) (λ z. order (pair_fault y z) (Lends y z)))
-        (λ y _. at_device b (λ z. order (pair_fault y z) (Lends y z)) (λ z x. ordered (pair_fault y z) (record { is = k.lent y z x })))
+        (λ y x. at_device b (λ z. order (pair_fault y z) (Lends y z)) (λ z w. ordered (pair_fault y z) (λ fault. record { is = k.lent y z x w fault })))
     deed_by (events.Suspend a) =
-        at_device a (λ z. order (suspend_fault z) (Becomes (hold z) ends.Done)) (λ z x. ordered (suspend_fault z) (record { is = k.held z x }))
+        at_device a (λ z. order (suspend_fault z) (Becomes (hold z) ends.Done)) (λ z x. ordered (suspend_fault z) (λ fault. record { is = k.held z x fault }))
     deed_by (events.Resume a) =
-        at_device a (λ z. order (resume_fault z) (Becomes (resume z) ends.Done)) (λ z x. ordered (resume_fault z) (record { is = k.resumed z x }))
+        at_device a (λ z. order (resume_fault z) (Becomes (resume z) ends.Done)) (λ z x. ordered (resume_fault z) (λ fault. record { is = k.resumed z x fault }))
     deed_by events.Power = record { is = k.lost_power }
 
     pub deed_is : (e : Event) → Kept (deed by_plain s.pool (devices_of s) e)

@@ -279,20 +279,20 @@ module _ (s : Subsystem) where
   deeds_tell : IsDeedwise s (KeepsDeed s)
   deeds_tell = record {
     ended = λ end. tt;
-    started = λ d x path. held_so d x (start d path) (started_number d path) (started_waits d path) (ends.Started (next_ordinal d path));
+    started = λ d x path fault. held_so d x (start d path) (started_number d path) (started_waits d path) (ends.Started (next_ordinal d path));
     seconded = λ d x h is. (seat_of s d x, answers d (second by_plain d) (λ a. Some (ends.Second a)) (second_tells d));
     commanded = λ d x whole o running. (seat_of s d x, answers d (command by_plain d) (end_of ends.Stepped) (command_tells d));
-    worked = λ d x. (seat_of s d x, answers d (background by_plain d) (end_of ends.Back) (background_tells d));
+    worked = λ d x whole. (seat_of s d x, answers d (background by_plain d) (end_of ends.Back) (background_tells d));
     cut = λ d x path. (seat_of s d x, answers d (reset by_plain d path) (λ a. Some (ends_done a)) (reset_tells d path));
     lost_cache = (refl, λ d. loss_tells d losses.Cache);
     lost_store = (refl, λ d. loss_tells d losses.Store);
-    lost_side = λ d x side. (seat_of s d x, answers d (lose by_plain d (losses.Side side)) (λ a. Some (ends_done a)) (loss_tells d (losses.Side side)));
+    lost_side = λ d x side fault. (seat_of s d x, answers d (lose by_plain d (losses.Side side)) (λ a. Some (ends_done a)) (loss_tells d (losses.Side side)));
     lost_power = (refl, λ d. power_tells d);
     repaired_cache = repaired_waits (all_waiting s.pool == 0) (record s.pool { cache_up = true }) s.pool refl refl;
     repaired_store = repaired_waits (all_waiting s.pool == 0) (record s.pool { store_up = true }) s.pool refl refl;
-    lent = λ x y z. seat_of s y z;
-    held = λ d x. held_so d x (hold d) refl (held_waits d).0 ends.Done;
-    resumed = λ d x. held_so d x (resume d) refl (held_waits d).1 ends.Done;
+    lent = λ x y z w fault. seat_of s y w;
+    held = λ d x fault. held_so d x (hold d) refl (held_waits d).0 ends.Done;
+    resumed = λ d x fault. held_so d x (resume d) refl (held_waits d).1 ends.Done;
   }
 
   event_told : IsTold s → (e : Event) → IsTold (happens s e).behind

@@ -1,6 +1,6 @@
 -- What each event of a device keeps holds of all devices behind every event of a run.
 use Rattle.std.proofs.Common.{◌≡◌, ◌==◌, zero, suc, ℕ, Bool, true, false, List, [], ◌∷◌, ◌++◌, map, Option, Some, None, is_some, refl, sym, ap, subst, ◌∙◌, arith}
-use Rattle.std.specs.Prelude.{not, All, ⊤, IfSome, if◌then◌else◌}
+use Rattle.std.specs.Prelude.{All, ⊤, IfSome, if◌then◌else◌}
 use Rattle.std.proofs.lemmas.Bool.{cond_both, eqb-true}
 use Rattle.std.proofs.lemmas.List.Elements.{All-nil, All-cons, All-head, All-tail}
 use Rattle.plain_defs.specs.History.{OpenEntry}
@@ -12,8 +12,7 @@ use Rattle.device_outside.specs.Told as T
 use Rattle.device_outside.specs.Told.{Calls, Told, calls_of, read_fails, write_fails, read_counted, write_counted}
 use Rattle.device_outside.specs.Interaction.{Interaction, Done, Try, Ask, Read, Write, Tell, and_then}
 use Rattle.device_outside.specs.Keeper.{reply}
-use Rattle.device_outside.specs.Pool.{Pool, answer, after, all_waiting, cache_repaired, store_repaired}
-use Rattle.device_defs.specs.declared.answers.StartFault.{StartFault}
+use Rattle.device_outside.specs.Pool.{Pool, answer, after}
 use Rattle.device_defs.specs.Command.{command}
 use Rattle.device_defs.specs.Contents.{by_plain}
 use Rattle.device_defs.specs.Cutting.{reset, power}
@@ -27,8 +26,7 @@ use Rattle.subsystem_defs.specs.declared.end.EventEnd.TheVariants as ends
 use Rattle.subsystem_defs.specs.declared.end.OrderFault.{OrderFault}
 use Rattle.subsystem_defs.specs.declared.event.Event.{Event}
 use Rattle.subsystem_defs.specs.declared.event.Event.TheVariants as events
-use Rattle.subsystem_defs.specs.Deeds as E
-use Rattle.subsystem_defs.specs.Deeds.{back, order, repair, Ends, Becomes, Asks, Each, Repairs, Lends, deed, device_in, on_device, starts, start_by, is_own, step, seconds, ends_by, may_end_by, ends_done, end_of}
+use Rattle.subsystem_defs.specs.Deeds.{Ends, Becomes, Asks, Each, Repairs, Lends, deed, device_in, ends_done, end_of}
 use Rattle.subsystem_defs.specs.Happening as H
 use Rattle.subsystem_defs.specs.Happening.{MarksDeed, Talk, held_with, told_to, mounted_behind, behind_outcome, joined, lends, is_lent_to, restored_in, asks, becomes, happens_by, happens, quietly, sweep, replaced_by, replaced_at, unpaired_by, unpaired_at}
 use Rattle.subsystem_defs.specs.Lines as L
@@ -37,8 +35,8 @@ use Rattle.subsystem_defs.specs.Subsystem.{Mounted, Subsystem, number_of, device
 use Rattle.subsystem_defs.specs.declared.end.OrderFault.TheVariants.{Same, Paired}
 use Rattle.subsystem_defs.specs.Refusals as R
 use Rattle.subsystem_defs.specs.Refusals.{pair_fault, suspend_fault, resume_fault, fail_fault, replace_fault, unpair_fault}
+use Rattle.subsystem_laws.proofs.DeedWalk.{Stands, seat_of, IsDeedwise, deed_is}
 use Rattle.subsystem_laws.proofs.LendBase.{lend_lends}
-use Rattle.subsystem_laws.proofs.PlainRuns.{number_found, same_found}
 use Rattle.subsystem_laws.proofs.WholeLends.{first_none, where_none}
 
 -- an answer changes nothing of the device behind it
@@ -188,10 +186,6 @@ module _ (P : MarksDevice → Type 0) where
   KeepsDeed ms (Repairs pool) = ⊤
   KeepsDeed ms (Lends a b) = MayLend ms a.store.device b.store.device
 
-  -- a record round it, so that the deed can be inferred
-  record KeptDeed (ms : List Mounted) (x : MarksDeed) : Type 0 where
-    is : KeepsDeed ms x
-
   swept_so : (f : MarksDevice → Talk (Unit {0})) → ((d : MarksDevice) → P d → LeavesSo (f d)) → (ms : List Mounted) (pool : Pool) → AreSo ms →
       AreSo (sweep f ms pool).mounted
   unfolding H.sweep
@@ -240,115 +234,42 @@ module _ (P : MarksDevice → Type 0) where
     answers : {X Y : Type 0} (talk : Talk X) (f : X → Y) → LeavesSo talk → LeavesSo (and_then talk (λ d a. Done d (f a)))
     answers talk f h = λ t. subst P (sym (hold_answer talk f t)) (h t)
 
-    module _ (ms : List Mounted) where
-      on_so : (o : Option MarksDevice) (f : MarksDevice → MarksDeed) → IfSome o P → ((d : MarksDevice) → P d → KeptDeed ms (f d)) →
-          KeptDeed ms (on_device o f)
-      on_so None f p h = record { is = tt }
-      on_so (Some d) f p h = h d p
-
-      on_found : (o : Option MarksDevice) (f : MarksDevice → MarksDeed) → IfSome o P → ((d : MarksDevice) → o ≡ Some d → P d → KeptDeed ms (f d)) →
-          KeptDeed ms (on_device o f)
-      on_found None f p h = record { is = tt }
-      on_found (Some d) f p h = h d refl p
-
-      deed_if : (b : Bool) {x y : MarksDeed} → (b ≡ true → KeptDeed ms x) → (b ≡ false → KeptDeed ms y) → KeptDeed ms (if b then x else y)
-      deed_if true f g = f refl
-      deed_if false f g = g refl
-
-      ordered : (o : Option OrderFault) {x : MarksDeed} → (o ≡ None → KeptDeed ms x) → KeptDeed ms (order o x)
-      ordered (Some fault) h = record { is = tt }
-      ordered None h = h refl
-
-      starts_by : (d : MarksDevice) (path : ℕ) (o : Option StartFault) → start_fault d path ≡ o → P d → KeptDeed ms (start_by {R = Bool} d path o)
-      starts_by d path (Some fault) is p = record { is = tt }
-      starts_by d path None is p = record { is = k.started d path is p }
-
-      starts_so : (d : MarksDevice) (path : ℕ) → P d → KeptDeed ms (starts {R = Bool} path d)
-      starts_so d path p =
-          deed_if (is_own path d.history.running) (λ _. record { is = tt }) (λ _. starts_by d path (start_fault d path) refl p)
-
-      seconds_so : (d : MarksDevice) (h : HalfWrite (Unit {0})) → d.store.half ≡ Some h → P d → KeptDeed ms (seconds by_plain d)
-      seconds_so d h is p = record { is = answers (second by_plain d) (λ a. Some (ends.Second a)) (k.seconded d h is p) }
-
-      steps_by : (d : MarksDevice) (r : Option OpenEntry) → d.history.running ≡ r → d.store.half ≡ None → P d →
-          KeptDeed ms (if is_some r then Asks d (may_end_by ends.Stepped (command by_plain d)) else Ends ends.Idle)
-      steps_by d None none whole p = record { is = tt }
-      steps_by d (Some o) running whole p = record { is = answers (command by_plain d) (end_of ends.Stepped) (k.commanded d o running whole p) }
-
-      step_by : (d : MarksDevice) (h : Option (HalfWrite (Unit {0}))) → d.store.half ≡ h → P d →
-          KeptDeed ms (if is_some h then seconds by_plain d
-          else if is_some d.history.running then Asks d (may_end_by ends.Stepped (command by_plain d)) else Ends ends.Idle)
-      step_by d (Some h) is p = seconds_so d h is p
-      step_by d None is p = steps_by d d.history.running refl is p
-
-      back_by : (d : MarksDevice) (h : Option (HalfWrite (Unit {0}))) → d.store.half ≡ h → P d →
-          KeptDeed ms (if is_some h then seconds by_plain d else Asks d (may_end_by ends.Back (background by_plain d)))
-      back_by d (Some h) is p = seconds_so d h is p
-      back_by d None is p = record { is = answers (background by_plain d) (end_of ends.Back) (k.worked d is p) }
-
-      reset_so : (d : MarksDevice) (path : ℕ) → P d → KeptDeed ms (Asks d (ends_by ends_done (reset by_plain d path)))
-      reset_so d path p = record { is = answers (reset by_plain d path) (λ a. Some (ends_done a)) (k.cut d path p) }
-
-      side_so : (d : MarksDevice) (side : Side) → P d → KeptDeed ms (order (fail_fault d side) (Asks d (ends_by ends_done (lose by_plain d
-          (losses.Side side)))))
-      side_so d side p =
-          ordered (fail_fault d side) (λ fault. record { is = answers (lose by_plain d (losses.Side side)) (λ a. Some (ends_done a)) (k.lost_side d side fault p) })
-
-      repair_so : (up : Bool) (pool repaired : Pool) → KeptDeed ms (repair {F = Bool} {P = Unit {0}} {H = Unit {0}} {R = Bool} up pool repaired)
-      repair_so up pool repaired =
-          deed_if up (λ _. record { is = tt }) (λ _. deed_if (all_waiting pool == 0) (λ _. record { is = tt }) (λ _. record { is = tt }))
-
     module _ (s : Subsystem) (p : AreSo s.mounted) where
-      pair_so : (x : MarksDevice) (a b : ℕ) (o : Option MarksDevice) → device_in (devices_of s) b ≡ o → device_in (devices_of s) a ≡ Some x → P x → IfSome o P →
-          KeptDeed s.mounted (on_device o (λ y. order (pair_fault x y) (Lends x y)))
-      pair_so x a b None at here px py = record { is = tt }
-      pair_so x a b (Some y) at here px py =
-          ordered s.mounted (pair_fault x y) (λ fault. record {
-            is = record {
-              lent = λ m there.
-                  subst (λ (d : MarksDevice). LeavesSo (lend by_plain d x.store.device))
-                  (sym (same_found s.mounted b y m at (ap (mounted_in s.mounted) (sym (number_found s.mounted b y at)) ∙ there)))
-                  (k.lent x y fault px py);
-              single = λ m there.
-                  subst IsFree (sym (same_found s.mounted a x m here (ap (mounted_in s.mounted) (sym (number_found s.mounted a x here)) ∙ there)))
-                  (may_pair x y fault).1;
-              other = (may_pair x y fault).0;
-            };
-          })
+      so_of : (d : MarksDevice) → Stands s d → P d
+      so_of d x = subst (λ (o : Option MarksDevice). IfSome o P) x.found (device_so s.mounted x.number p)
 
-      deed_so : (e : Event) → KeptDeed s.mounted (deed by_plain s.pool (devices_of s) e)
-      unfolding E.deed
-      deed_so (events.Start path d) =
-          on_so s.mounted (device_in (devices_of s) d) (starts path) (device_so s.mounted d p) (λ x q. starts_so s.mounted x path q)
-      deed_so (events.Step d) =
-          on_so s.mounted (device_in (devices_of s) d) (step by_plain) (device_so s.mounted d p) (λ x q. step_by s.mounted x x.store.half refl q)
-      deed_so (events.Back d) =
-          on_so s.mounted (device_in (devices_of s) d) (back by_plain) (device_so s.mounted d p) (λ x q. back_by s.mounted x x.store.half refl q)
-      deed_so (events.Reset path d) =
-          on_so s.mounted (device_in (devices_of s) d) (λ x. Asks x (ends_by ends_done (reset by_plain x path))) (device_so s.mounted d p)
-          (λ x q. reset_so s.mounted x path q)
-      deed_so events.FailCache = deed_if s.mounted (not s.pool.cache_up) (λ _. record { is = tt }) (λ _. record { is = k.lost_cache })
-      deed_so events.FailStore = deed_if s.mounted (not s.pool.store_up) (λ _. record { is = tt }) (λ _. record { is = k.lost_store })
-      deed_so (events.FailVolume d side) =
-          on_so s.mounted (device_in (devices_of s) d) (λ x. order (fail_fault x side) (Asks x (ends_by ends_done (lose by_plain x (losses.Side side)))))
-          (device_so s.mounted d p) (λ x q. side_so s.mounted x side q)
-      deed_so events.RepairCache = repair_so s.mounted s.pool.cache_up s.pool (cache_repaired s.pool)
-      deed_so events.RepairStore = repair_so s.mounted s.pool.store_up s.pool (store_repaired s.pool)
-      deed_so (events.Pair a b) =
-          on_found s.mounted (device_in (devices_of s) a) (λ x. on_device (device_in (devices_of s) b) (λ y. order (pair_fault x y) (Lends x y)))
-          (device_so s.mounted a p) (λ x here q. pair_so x a b (device_in (devices_of s) b) refl here q (device_so s.mounted b p))
-      deed_so (events.Suspend a) =
-          on_so s.mounted (device_in (devices_of s) a) (λ x. order (suspend_fault x) (Becomes (hold x) ends.Done)) (device_so s.mounted a p)
-          (λ x q. ordered s.mounted (suspend_fault x) (λ fault. record { is = k.held x fault q }))
-      deed_so (events.Resume a) =
-          on_so s.mounted (device_in (devices_of s) a) (λ x. order (resume_fault x) (Becomes (resume x) ends.Done)) (device_so s.mounted a p)
-          (λ x q. ordered s.mounted (resume_fault x) (λ fault. record { is = k.resumed x fault q }))
-      deed_so events.Power = record { is = k.lost_power }
+      may_lend : (x y : MarksDevice) → Stands s x → Stands s y → pair_fault x y ≡ None → MayLend s.mounted x.store.device y.store.device
+      may_lend x y stands_x stands_y fault = record {
+        lent = λ m there.
+            subst (λ (d : MarksDevice). LeavesSo (lend by_plain d x.store.device)) (sym (seat_of s y stands_y m there))
+            (k.lent x y fault (so_of x stands_x) (so_of y stands_y));
+        single = λ m there. subst IsFree (sym (seat_of s x stands_x m there)) (may_pair x y fault).1;
+        other = (may_pair x y fault).0;
+      }
+
+      deeds_keep : IsDeedwise s (KeepsDeed s.mounted)
+      deeds_keep = record {
+        ended = λ end. tt;
+        started = λ d x path fault. k.started d path fault (so_of d x);
+        seconded = λ d x h is. answers (second by_plain d) (λ a. Some (ends.Second a)) (k.seconded d h is (so_of d x));
+        commanded = λ d x whole o running. answers (command by_plain d) (end_of ends.Stepped) (k.commanded d o running whole (so_of d x));
+        worked = λ d x whole. answers (background by_plain d) (end_of ends.Back) (k.worked d whole (so_of d x));
+        cut = λ d x path. answers (reset by_plain d path) (λ a. Some (ends_done a)) (k.cut d path (so_of d x));
+        lost_cache = k.lost_cache;
+        lost_store = k.lost_store;
+        lost_side = λ d x side fault. answers (lose by_plain d (losses.Side side)) (λ a. Some (ends_done a)) (k.lost_side d side fault (so_of d x));
+        lost_power = k.lost_power;
+        repaired_cache = tt;
+        repaired_store = tt;
+        lent = may_lend;
+        held = λ d x fault. k.held d fault (so_of d x);
+        resumed = λ d x fault. k.resumed d fault (so_of d x);
+      }
 
       -- one event
       pub event_so : (e : Event) → AreSo (happens s e).behind.mounted
       unfolding H.happens
-      event_so e = happens_so s (deed by_plain s.pool (devices_of s) e) p (deed_so e).is
+      event_so e = happens_so s (deed by_plain s.pool (devices_of s) e) p (deed_is s (KeepsDeed s.mounted) deeds_keep e)
 
     -- The two orders for which a volume is handed in
 
