@@ -36,7 +36,7 @@ use Rattle.device_laws.proofs.ChainFeeds.{chain_feeds, runs_looks}
 use Rattle.device_laws.proofs.KeepLaws.{ran_same}
 use Rattle.device_laws.proofs.QuietParts.{hear_quiet, ended_quiet}
 use Rattle.seen_laws.specs.Seen as seen
-use Rattle.seen_laws.specs.Seen.{NotCalled, EndsAs, IsKept, with_act, answered, CameAsSeen, CommandCame}
+use Rattle.seen_laws.specs.Seen.{NotCalled, EndsAs, IsKept, with_act, answered, CameAsSeen, Noticed, CommandCame}
 use Rattle.seen_laws.proofs.RanParts.{split, quiet_ran, same_calls}
 use Rattle.seen_laws.proofs.Walks.{follow_so}
 
@@ -125,7 +125,7 @@ module _ {K : Type 0} (had : Bool → Type 0) (hears : Hearing Image K) where
 
     -- behind the look at its tracks
     module _ (s : DeviceStore) (cylinders : s.cylinders ≡ d.store.cylinders) where
-      on_tracks_came : (t : ℕ) → need_of chain ≡ Some t → {u v w z : Calls} {s2 : DeviceStore} {y : WholeDevice} {a : Stepped} → NotCalled u v →
+      on_tracks_came : (t : ℕ) → need_of chain ≡ Some t → {u v w z : Calls} {s2 : DeviceStore} {y : WholeDevice} {a : Stepped} → Noticed had hears d u s v →
           (turn : Option Turn) →
           Ran had hears (follow contents (tracks_of s) t chain t s) v s2 turn w →
           Ran had hears (on_tracks contents (heard_by s) o.path chain s2 turn) w y (Some a) z → CommandCame had hears d o chain u a y z
@@ -213,19 +213,19 @@ module _ {K : Type 0} (had : Bool → Type 0) (hears : Hearing Image K) where
       by_memory same none false quiet r = elim r [ ]
 
       by_need : (same : s.geometry ≡ d.store.geometry) → (need : Option ℕ) → need_of chain ≡ need → {u v z : Calls} {y : WholeDevice} {a : Stepped} →
-          NotCalled u v → Ran had hears (command_at contents (heard_by s) o.path chain need) v y (Some a) z → CommandCame had hears d o chain u a y z
+          Noticed had hears d u s v → Ran had hears (command_at contents (heard_by s) o.path chain need) v y (Some a) z → CommandCame had hears d o chain u a y z
       by_need same (Some t) needs quiet r =
           let x = split (follow contents (tracks_of s) t chain t s) (on_tracks contents (heard_by s) o.path chain) r in
           on_tracks_came t needs quiet x.answer x.first x.rest
-      by_need same None needs quiet (tried ok m r) = by_memory same needs ok quiet r
+      by_need same None needs quiet (tried ok m r) = by_memory same needs ok quiet.quiet r
 
       pub by_loss : (same : s.geometry ≡ d.store.geometry) → (lost : Bool) → has_loss o.acts ≡ lost → {u v z : Calls} {y : WholeDevice} {a : Stepped} →
-          NotCalled u v →
+          Noticed had hears d u s v →
           Ran had hears (if lost then came_out contents (heard_by s) o.path (checks chain Equipment)
           else command_at contents (heard_by s) o.path chain (need_of chain)) v y (Some a) z → CommandCame had hears d o chain u a y z
       by_loss same true lost quiet r =
           let k = came_kept (heard_by s) o.path (checks chain Equipment) r in
-          seen.data_lost lost (like_kept (heard_by s) d o.path (checks chain Equipment) _ _ (is_like s) k.0) (same_calls quiet k.1)
+          seen.data_lost lost (like_kept (heard_by s) d o.path (checks chain Equipment) _ _ (is_like s) k.0) (same_calls quiet.quiet k.1)
       by_loss same false lost quiet r = by_need same (need_of chain) refl quiet r
 
     -- behind the end of the event
@@ -250,7 +250,8 @@ module _ {K : Type 0} (had : Bool → Type 0) (hears : Hearing Image K) where
         let h = split (hear contents 960 b.store) (λ s _. command_by contents (heard_by s) d.history.running d.chain) x.first in
         let base = ran_same (hear_steady contents 960 b.store) h.first in
         came_on
-        (by_loss h.state base.cylinders base.geometry (has_loss o.acts) refl (quiet_ran (hear_quiet contents 960 b.store) h.first)
+        (by_loss h.state base.cylinders base.geometry (has_loss o.acts) refl
+        (record { answer = h.answer; ran = h.first; quiet = quiet_ran (hear_quiet contents 960 b.store) h.first })
         (subst (λ (c : Option ChainState). Ran had hears (command_by contents (heard_by h.state) (Some o) c) h.outside x.state (Some a) x.outside) at
         (subst (λ (l : Option OpenEntry). Ran had hears (command_by contents (heard_by h.state) l d.chain) h.outside x.state (Some a) x.outside) running
         (subst (λ (l : Option Stepped). Ran had hears (command_by contents (heard_by h.state) d.history.running d.chain) h.outside x.state l x.outside)

@@ -108,16 +108,16 @@ module _ {K : Type 0} (had : Bool → Type 0) (hears : Hearing Image K) where
 
   tried_write : (s : DeviceStore) (u : Usage) (first t : ℕ) (old : Image) (edit : Edit) (ok : Bool) {v z : Calls} {e : DeviceStore} {took : Took} →
       Ran had hears (if ok then and_then (choose contents s u t) (write_chosen contents u first t old edit) else Done s None) v e (Some took) z →
-      Wrote had hears s v z
+      Wrote had hears u t s v z
   tried_write s u first t old edit true r =
       let y = split (choose contents s u t) (write_chosen contents u first t old edit) r in
-      seen.wrote u t y.state y.outside y.answer y.first
+      seen.wrote y.state y.outside y.answer y.first
       (λ is. same_calls (quiet_ran (choice_quiet s u t) y.first) (quiet_ran (chosen_quiet u first t old edit y.state y.answer is) y.rest))
   tried_write s u first t old edit false r = elim r [ ]
 
   -- one that is fast or provisional calls no volume
   pub write_wrote : (s : DeviceStore) (u : Usage) (first t : ℕ) (old : Image) (edit : Edit) {v z : Calls} {e : DeviceStore} {took : Took} →
-      Ran had hears (write contents s u first t old edit) v e (Some took) z → Wrote had hears s v z
+      Ran had hears (write contents s u first t old edit) v e (Some took) z → Wrote had hears u t s v z
   unfolding E.write
   write_wrote s u first t old edit (tried ok m r) = tried_write s u first t old edit ok r
 
@@ -138,10 +138,11 @@ module _ {K : Type 0} (had : Bool → Type 0) (hears : Hearing Image K) where
     -- what a look at one track leads to
     data LookedSo (chain : ChainState) (t : ℕ) (s : DeviceStore) (u : Calls) : DeviceStore → Went → Calls → Type 0 where
       look_checks : {z : DeviceStore} {w : Calls} {turn : Turn} {e : _} → turn.came ≡ Checks e → LookedSo chain t s u z (Over turn) w
-      look_over : {z : DeviceStore} {w : Calls} {turn : Turn} (i : Image) (y : DeviceStore) (v : Calls) → Saw had hears s t u i y v → Wrote had hears y v w →
+      look_over : {z : DeviceStore} {w : Calls} {turn : Turn} (i : Image) (y : DeviceStore) (v : Calls) → Saw had hears s t u i y v → Wrote had hears (usage_of chain) t y v w →
           ((n : ℕ) (tracks : ℕ → Track) (answer : LocalAct → Settled) → i ≡ record { geometry = g; track = tracks t } →
           EndsAs (fed (suc n) tracks answer chain) turn.chain turn.came) → LookedSo chain t s u z (Over turn) w
       look_on : {z : DeviceStore} {w : Calls} {next : ChainState} {q : ℕ} (i : Image) → Saw had hears s t u i z w → looks next q →
+          (stepped chain (Some i)).chain ≡ next → (stepped chain (Some i)).progress ≡ progresses.Need q →
           ((n : ℕ) (tracks : ℕ → Track) (answer : LocalAct → Settled) → i ≡ record { geometry = g; track = tracks t } →
           fed (suc n) tracks answer chain ≡ fed n tracks answer next) → LookedSo chain t s u z (On next q) w
 
@@ -149,7 +150,7 @@ module _ {K : Type 0} (had : Bool → Type 0) (hears : Hearing Image K) where
       -- by what came of its write
       wrote_so : (next : ChainState) (q : ℕ) (e : Edit) (i : Image) → (stepped chain (Some i)).chain ≡ next →
           (stepped chain (Some i)).progress ≡ progresses.Write q e → {s y z : DeviceStore} {u v w : Calls} (took : Took) → Saw had hears s t u i y v →
-          Wrote had hears y v w → LookedSo chain t s u z (Over (wrote_turn next t took)) w
+          Wrote had hears (usage_of chain) t y v w → LookedSo chain t s u z (Over (wrote_turn next t took)) w
       wrote_so next q e i is p {s = s} {y = y} {z = z} {u = u} {v = v} {w = w} took saw rest = by_took took
         where
           step : (n : ℕ) (tracks : ℕ → Track) (answer : LocalAct → Settled) → i ≡ record { geometry = g; track = tracks t } →
@@ -170,7 +171,7 @@ module _ {K : Type 0} (had : Bool → Type 0) (hears : Hearing Image K) where
 
       took_so : (next : ChainState) (q : ℕ) (e : Edit) (i : Image) → (stepped chain (Some i)).chain ≡ next →
           (stepped chain (Some i)).progress ≡ progresses.Write q e → {s y y2 z : DeviceStore} {u v v2 w : Calls} {went : Went} (took : Took) →
-          Saw had hears s t u i y v → Wrote had hears y v v2 → Ran had hears (came_of_write contents next t y2 took) v2 z (Some went) w →
+          Saw had hears s t u i y v → Wrote had hears (usage_of chain) t y v v2 → Ran had hears (came_of_write contents next t y2 took) v2 z (Some went) w →
           LookedSo chain t s u z went w
       took_so next q e i is p took saw rest done = wrote_so next q e i is p took saw rest
 
@@ -197,7 +198,7 @@ module _ {K : Type 0} (had : Bool → Type 0) (hears : Hearing Image K) where
               ∙ ap (λ (x : ChainState). record { end = e; chain = x; edit = None }) is in
               (ap (λ (x : Fed). x.end) f, ap (λ (x : Fed). x.chain) f)
       by_progress next (progresses.Need q) i is p saw done =
-          look_on i saw (subst (λ (x : ChainState). looks x q) is (feeds.goes chain t i q at p))
+          look_on i saw (subst (λ (x : ChainState). looks x q) is (feeds.goes chain t i q at p)) is p
           (λ n tracks answer same.
           fed_step n tracks answer chain t i at same
           ∙ ap (λ (x : Progress). fed_by answer (fed n tracks answer) (stepped chain (Some i)).chain x) p
@@ -234,13 +235,16 @@ module _ {K : Type 0} (had : Bool → Type 0) (hears : Hearing Image K) where
       look_so s r = by_lost s (is_lost s t) r
 
     -- the looks behind the first one
-    more_seen : (n : ℕ) (chain next : ChainState) (t : ℕ) (i : Image) {s y : DeviceStore} {u v w : Calls} {turn : Turn} → Saw had hears s t u i y v →
+    more_seen : (n : ℕ) (chain next : ChainState) (t q : ℕ) (i : Image) {s y : DeviceStore} {u v w : Calls} {turn : Turn} → looks chain t →
+        Saw had hears s t u i y v → (stepped chain (Some i)).chain ≡ next → (stepped chain (Some i)).progress ≡ progresses.Need q →
         ((tracks : ℕ → Track) (answer : LocalAct → Settled) → i ≡ record { geometry = g; track = tracks t } →
         fed (suc n) tracks answer chain ≡ fed n tracks answer next) →
         CameAsSeen had hears n g next y v turn w → CameAsSeen had hears (suc n) g chain s u turn w
-    more_seen n chain next t i saw same (seen.checked e) = seen.checked e
-    more_seen n chain next t i {turn = turn} saw same (seen.came ls last at all rest ends) =
-        seen.came (look_at t i ∷ ls) last at (seen.one_look saw all) rest
+    more_seen n chain next t q i at saw is p same (seen.checked e) = seen.checked e
+    more_seen n chain next t q i {y = y} {v = v} {turn = turn} at saw is p same (seen.came ls final k last there all rest ends) =
+        seen.came (look_at t i ∷ ls) final k last there
+        (seen.one_more t q i (feeds.needs chain t at) saw p
+        (subst (λ (x : ChainState). AllSeen had hears x y v ls final k last there) (sym is) all)) rest
         (λ tracks answer are. subst (λ (f : Fed). EndsAs f turn.chain turn.came) (sym (same tracks answer are.0)) (ends tracks answer are.1))
 
     abbrev pub Following : ℕ → ℕ → Type 0
@@ -248,21 +252,21 @@ module _ {K : Type 0} (had : Bool → Type 0) (hears : Hearing Image K) where
         (chain : ChainState) (t : ℕ) (s : DeviceStore) → looks chain t → (z : DeviceStore) (u w : Calls) (turn : Turn) →
         Ran had hears (follow contents n first chain t s) u z (Some turn) w → CameAsSeen had hears n g chain s u turn w
 
-    goes_further : (n first : ℕ) (chain : ChainState) (t : ℕ) → Following n first → {s y : DeviceStore} {u v : Calls} (went : Went) →
+    goes_further : (n first : ℕ) (chain : ChainState) (t : ℕ) → looks chain t → Following n first → {s y : DeviceStore} {u v : Calls} (went : Went) →
         LookedSo chain t s u y went v → {z : DeviceStore} {w : Calls} {turn : Turn} →
         Ran had hears (goes_on contents (follow contents n first) y went) v z (Some turn) w → CameAsSeen had hears (suc n) g chain s u turn w
-    goes_further n first chain t later (Over turn) (look_checks e) done = seen.checked e
-    goes_further n first chain t later (Over turn) (look_over i y v saw rest ends) done =
-        seen.came (look_at t i ∷ []) y v (seen.one_look saw seen.no_look) rest (λ tracks answer are. ends n tracks answer are.0)
-    goes_further n first chain t later (On next q) (look_on i saw at same) r =
-        more_seen n chain next t i saw (same n) (later next q _ at _ _ _ _ r)
+    goes_further n first chain t at later (Over turn) (look_checks e) done = seen.checked e
+    goes_further n first chain t at later (Over turn) (look_over i y v saw rest ends) done =
+        seen.came (look_at t i ∷ []) chain t y v (seen.last_look t i (feeds.needs chain t at) saw) rest (λ tracks answer are. ends n tracks answer are.0)
+    goes_further n first chain t at later (On next q) (look_on i saw there is p same) r =
+        more_seen n chain next t q i at saw is p (same n) (later next q _ there _ _ _ _ r)
 
     by_went : (n first : ℕ) (chain : ChainState) (t : ℕ) → looks chain t → Following n first → {s y : DeviceStore} {u v : Calls} (a : Option Went) →
         Ran had hears (look contents chain first t s) u y a v → {z : DeviceStore} {w : Calls} {turn : Turn} →
         Ran had hears (had_by (goes_on contents (follow contents n first)) y a) v z (Some turn) w → CameAsSeen had hears (suc n) g chain s u turn w
     by_went n first chain t at later None first_ran rest = elim rest [ ]
     by_went n first chain t at later {s = s} (Some went) first_ran rest =
-        goes_further n first chain t later went (look_so chain first t at s first_ran) rest
+        goes_further n first chain t at later went (look_so chain first t at s first_ran) rest
 
     pub follow_so : (n first : ℕ) → Following n first
     unfolding N.follow

@@ -29,8 +29,10 @@ use Rattle.device_defs.specs.Choosing.{choose}
 use Rattle.device_defs.specs.Command.{has_loss}
 use Rattle.device_defs.specs.Contents.{contents}
 use Rattle.device_defs.specs.Events.{second_told, second_turn}
+use Rattle.device_defs.specs.Device.{event_begun}
 use Rattle.device_defs.specs.Image.{got, level_bytes, image_of}
-use Rattle.device_defs.specs.Outcomes.{Turn, checks, told_step, turned}
+use Rattle.device_defs.specs.Outcomes.{Turn, checks, told_step, turned, usage_of}
+use Rattle.device_defs.specs.Owed.{hear}
 use Rattle.device_defs.specs.Sound.{DeviceStore}
 use Rattle.device_defs.specs.Store.{tracks_of, frame_at, with_frame}
 use Rattle.device_laws.specs.Whole.{WholeDevice}
@@ -81,23 +83,26 @@ module _ {K : Type 0} (had : Bool → Type 0) (hears : Hearing Image K) where
         Ran had hears (level_bytes contents x t) v y (got side (Some bytes) fault) w → LastOf w side bytes → image_of contents y t bytes ≡ Some i →
         NotCalled w z → Saw s t u i e z
 
-  -- looks one behind the other
-  pub data AllSeen : DeviceStore → Outside (List ℕ) K → List Look → DeviceStore → Outside (List ℕ) K → Type 0 where
-    no_look : {s : DeviceStore} {u : Outside (List ℕ) K} → AllSeen s u [] s u
-    one_look : {s y e : DeviceStore} {u v z : Outside (List ℕ) K} {l : Look} {ls : List Look} → Saw s l.track u l.image y v →
-        AllSeen y v ls e z → AllSeen s u (l ∷ ls) e z
+  -- looks one behind the other, each at the track that the chain asks for then. What they leave: the chain at the last one, its track, a store
+  pub data AllSeen : ChainState → DeviceStore → Outside (List ℕ) K → List Look → ChainState → ℕ → DeviceStore → Outside (List ℕ) K → Type 0 where
+    last_look : {chain : ChainState} {s y : DeviceStore} {u v : Outside (List ℕ) K} (t : ℕ) (i : Image) → need_of chain ≡ Some t → Saw s t u i y v →
+        AllSeen chain s u (look_at t i ∷ []) chain t y v
+    one_more : {chain final : ChainState} {s y e : DeviceStore} {u v z : Outside (List ℕ) K} {ls : List Look} {q : ℕ} (t next : ℕ) (i : Image) →
+        need_of chain ≡ Some t → Saw s t u i y v → (stepped chain (Some i)).progress ≡ progresses.Need next →
+        AllSeen (stepped chain (Some i)).chain y v ls final q e z → AllSeen chain s u (look_at t i ∷ ls) final q e z
 
-  -- Behind the last look: nothing more, or a write. In the cache alone it calls no volume
-  pub data Wrote (s : DeviceStore) (u z : Outside (List ℕ) K) : Type 0 where
-    no_write : NotCalled u z → Wrote s u z
-    wrote : (usage : Usage) (t : ℕ) (y : DeviceStore) (v : Outside (List ℕ) K) (choice : Choice) →
-        Ran had hears (choose contents s usage t) u y choice v → (is_in_cache choice ≡ true → NotCalled u z) → Wrote s u z
+  -- Behind the last look: nothing more, or a write of its track. In the cache alone it calls no volume
+  pub data Wrote (usage : Usage) (t : ℕ) (s : DeviceStore) (u z : Outside (List ℕ) K) : Type 0 where
+    no_write : NotCalled u z → Wrote usage t s u z
+    wrote : (y : DeviceStore) (v : Outside (List ℕ) K) (choice : Choice) → Ran had hears (choose contents s usage t) u y choice v →
+        (is_in_cache choice ≡ true → NotCalled u z) → Wrote usage t s u z
 
   -- a command that began so came out so, by the images that it saw
   pub data CameAsSeen (n : ℕ) (g : Geometry) (chain : ChainState) (s : DeviceStore) (u : Outside (List ℕ) K) (turn : Turn)
       (z : Outside (List ℕ) K) : Type 0 where
     checked : {e : _} → turn.came ≡ Checks e → CameAsSeen n g chain s u turn z
-    came : (looks : List Look) (last : DeviceStore) (at : Outside (List ℕ) K) → AllSeen s u looks last at → Wrote last at z →
+    came : (looks : List Look) (final : ChainState) (t : ℕ) (last : DeviceStore) (at : Outside (List ℕ) K) → AllSeen chain s u looks final t last at →
+        Wrote (usage_of final) t last at z →
         ((tracks : ℕ → Track) (answer : LocalAct → Settled) → AreOf g tracks looks → EndsAs (fed n tracks answer chain) turn.chain turn.came) →
         CameAsSeen n g chain s u turn z
 
@@ -117,12 +122,18 @@ answered d path chain (progresses.Local act) = with_act d path act
 answered d path chain p = d
 
 module _ {K : Type 0} (had : Bool → Type 0) (hears : Hearing Image K) where
+  -- the event took its notices, and left this store
+  pub record Noticed (d : WholeDevice) (u : Outside (List ℕ) K) (s : DeviceStore) (v : Outside (List ℕ) K) : Type 0 where
+    pub answer : Unit {0}
+    pub ran : Ran had hears (hear contents 960 (event_begun d).store) u s answer v
+    pub quiet : NotCalled u v
+
   -- A command of the running program: by the images of the tracks that it looked at, and by what the device kept of its paths. Once data of
   -- cache fast write were lost in its own program it looks at none
   pub data CommandCame (d : WholeDevice) (o : OpenEntry) (chain : ChainState) (u : Outside (List ℕ) K) (a : Stepped) (e : WholeDevice)
       (z : Outside (List ℕ) K) : Type 0 where
     data_lost : has_loss o.acts ≡ true → IsKept d o.path (checks chain Equipment) a e → NotCalled u z → CommandCame d o chain u a e z
-    looked : (t : ℕ) (s : DeviceStore) (v w : Outside (List ℕ) K) (turn : Turn) → need_of chain ≡ Some t → NotCalled u v →
+    looked : (t : ℕ) (s : DeviceStore) (v w : Outside (List ℕ) K) (turn : Turn) → need_of chain ≡ Some t → Noticed d u s v →
         CameAsSeen had hears (tracks_of d.store) d.store.geometry chain s v turn w → NotCalled w z → IsKept d o.path turn a e → CommandCame d o chain u a e z
     asked : (turn : Turn) → need_of chain ≡ None → NotCalled u z →
         ((n : ℕ) (tracks : ℕ → Track) → EndsAs (fed (suc n) tracks (settled_act d.store.geometry d.paths o.path) chain) turn.chain turn.came) →

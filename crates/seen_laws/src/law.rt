@@ -47,7 +47,7 @@ pub fn image_is_seen<K: Keep<TrackImage>>()
 /// A command's write that is chosen to be fast or provisional writes no volume.
 pub fn write_is_seen<K: Keep<TrackImage>>()
     ensures { (s e : DeviceStore) (usage : Usage) (first t : ℕ) (old : Image) (edit : Edit) (u z : Outside (List ℕ) K) (took : Took) →
-        Ran (λ ok. Unit {0}) K.hears (write contents s usage first t old edit) u e (Some took) z → Wrote (λ ok. Unit {0}) K.hears s u z }
+        Ran (λ ok. Unit {0}) K.hears (write contents s usage first t old edit) u e (Some took) z → Wrote (λ ok. Unit {0}) K.hears usage t s u z }
 {}
 
 /// A command that goes from track to track, with neither equipment nor data check, ends as the rules say over the images that it saw, and so
