@@ -7,15 +7,6 @@ use std::alloc::Global;
 use std::test::Fail;
 use track_image::{AddFault, TrackImage};
 
-/// An edit whose bytes are all the same. Record 0 has eight bytes of data, each other record a key
-/// of one byte and two bytes of data.
-#[derive(Clone, Copy)]
-enum Step {
-    Update(usize, u8),
-    Format(usize, u8),
-    Zero(u8),
-}
-
 fn record(alloc: Global, r: u8, key: &[u8], body: &[u8]) -> Result<Record, NoMemory>
     ensures { IfOk result (λ made. (made.key ≡ key.now) × (made.body ≡ body.now)) }
 {
@@ -29,33 +20,31 @@ fn record(alloc: Global, r: u8, key: &[u8], body: &[u8]) -> Result<Record, NoMem
     })
 }
 
-fn edit(alloc: Global, step: Step) -> Result<Edit, NoMemory> {
-    Ok(match step {
-        Step::Update(0, byte) => Edit::Update {
-            index: 0,
-            key: Bytes::new(),
-            body: Bytes::from_slice(alloc, &[byte; 8])?,
-        },
-        Step::Update(index, byte) => Edit::Update {
-            index,
-            key: Bytes::from_slice(alloc, &[byte; 1])?,
-            body: Bytes::from_slice(alloc, &[byte; 2])?,
-        },
-        Step::Format(after, byte) => Edit::Format {
-            after,
-            added: record(alloc, byte, &[byte; 1], &[byte; 2])?,
-        },
-        Step::Zero(byte) => Edit::Zero {
-            added: record(alloc, byte, &[], &[byte; 8])?,
-        },
+/// An edit whose bytes are all the same, of a record with a key of one byte and two bytes of data.
+fn update(alloc: Global, index: usize, byte: u8) -> Result<Edit, NoMemory> {
+    Ok(Edit::Update {
+        index,
+        key: Bytes::from_slice(alloc, &[byte; 1])?,
+        body: Bytes::from_slice(alloc, &[byte; 2])?,
     })
 }
 
-fn patch_of(alloc: Global, steps: &[Step]) -> Result<Patch, NoMemory> {
+fn format(alloc: Global, after: usize, byte: u8) -> Result<Edit, NoMemory> {
+    let added = record(alloc, byte, &[byte; 1], &[byte; 2])?;
+    Ok(Edit::Format { after, added })
+}
+
+fn zero(alloc: Global) -> Result<Edit, NoMemory> {
+    let added = record(alloc, 1, &[], &[1; 8])?;
+    Ok(Edit::Zero { added })
+}
+
+/// Record 2 is replaced, then cut by a format behind record 1, and the new record 2 is replaced.
+fn cut_patch(alloc: Global) -> Result<Patch, NoMemory> {
     let mut patch = Patch::new(alloc);
-    for step in steps {
-        patch.add(edit(alloc, *step)?)?;
-    }
+    patch.add(update(alloc, 2, 1)?)?;
+    patch.add(format(alloc, 1, 2)?)?;
+    patch.add(update(alloc, 2, 3)?)?;
     Ok(patch)
 }
 
@@ -97,24 +86,21 @@ fn shown(image: &TrackImage, i: usize) -> (usize, u8, Option<u8>, Option<u8>) {
     (image.len(), 0, None, None)
 }
 
-/// A track of record 0 and some more, as a patch of these edits makes it, at its record 2.
+/// A track of record 0 and some more, as that patch makes it, at its record 2.
 fn shown_behind(
     alloc: Global,
-    steps: &[Step],
     more: usize,
 ) -> Result<Option<(usize, u8, Option<u8>, Option<u8>)>, Fail> {
-    let patch = patch_of(alloc, steps)?;
+    let patch = cut_patch(alloc)?;
     let patched = apply(alloc, &patch, &track(alloc, more)?)?;
     Ok(patched.map(|image| shown(&image, 2)))
 }
 
-const CUT: [Step; 3] = [Step::Update(2, 1), Step::Format(1, 2), Step::Update(2, 3)];
-
 #[test]
 fn update_of_a_record_behind_a_cut(rt: HostRuntime) -> Result<(), Fail> {
-    let patched = shown_behind(rt.alloc(), &CUT, 3)?;
+    let patched = shown_behind(rt.alloc(), 3)?;
     assert_eq!(rt; patched, Some((3, 2, Some(3), Some(3))));
-    let alone = shown_behind(rt.alloc(), &CUT, 0)?;
+    let alone = shown_behind(rt.alloc(), 0)?;
     assert_eq!(rt; alone, None);
     Ok(())
 }
@@ -122,8 +108,9 @@ fn update_of_a_record_behind_a_cut(rt: HostRuntime) -> Result<(), Fail> {
 #[test]
 fn a_patch_with_one_more_edit(rt: HostRuntime) -> Result<(), Fail> {
     let alloc = rt.alloc();
-    let patch = patch_of(alloc, &[Step::Update(1, 1)])?;
-    let more = patch.with(alloc, edit(alloc, Step::Format(1, 2))?)?;
+    let mut patch = Patch::new(alloc);
+    patch.add(update(alloc, 1, 1)?)?;
+    let more = patch.with(alloc, format(alloc, 1, 2)?)?;
     let image = track(alloc, 3)?;
     let copied = apply(alloc, &patch.copy(alloc)?, &image)?.ok_or("unfit")?;
     let edited = apply(alloc, &more, &image)?.ok_or("unfit")?;
@@ -139,7 +126,7 @@ fn one_patch(alloc: Global, t: TrackNo) -> Result<Patches, Fail> {
         patches.put(t, Patch::new(alloc), 7)?;
     }
     if patches.has(t) {
-        patches.add(t, edit(alloc, Step::Zero(1))?)?;
+        patches.add(t, zero(alloc)?)?;
     }
     Ok(patches)
 }
@@ -152,11 +139,11 @@ fn patched_len(alloc: Global, patches: &Patches, t: TrackNo) -> Result<Option<us
 }
 
 /// Puts one more edit into room made ahead.
-fn add_in_room(alloc: Global, patches: &mut Patches, t: TrackNo, step: Step) -> Result<(), Fail> {
+fn add_in_room(alloc: Global, patches: &mut Patches, t: TrackNo) -> Result<(), Fail> {
     let mut room = EditRoom::new(alloc);
     patches.room(t, &mut room)?;
     if patches.has(t) {
-        patches.add_within(t, edit(alloc, step)?, &mut room);
+        patches.add_within(t, format(alloc, 0, 2)?, &mut room);
     }
     Ok(())
 }
@@ -165,7 +152,7 @@ fn add_in_room(alloc: Global, patches: &mut Patches, t: TrackNo, step: Step) -> 
 fn edits_in_room(rt: HostRuntime) -> Result<(), Fail> {
     let t = TrackNo::new(3).ok_or("track")?;
     let mut patches = one_patch(rt.alloc(), t)?;
-    add_in_room(rt.alloc(), &mut patches, t, Step::Format(0, 2))?;
+    add_in_room(rt.alloc(), &mut patches, t)?;
     assert_eq!(rt; patched_len(rt.alloc(), &patches, t)?, Some(2));
     assert_eq!(rt; (patches.take(t), patches.has(t)), (Some(7), false));
     Ok(())

@@ -5,14 +5,27 @@ use plain_device::PlainDevice;
 use std::alloc::Global;
 use std::test::Fail;
 
-/// The count area of record 1 with four bytes of data, and three of them.
-const RECORD_ONE: &[u8] = &[0, 0, 0, 0, 1, 0, 0, 4, 5, 6, 7];
+/// What writes give: the count area of record 1 with four bytes of data, and three of them; that of record 2, an end of file;
+/// and what an update gives.
+const GIVEN: [u8; 21] = [
+    0, 0, 0, 0, 1, 0, 0, 4, 5, 6, 7, 0, 0, 0, 0, 2, 0, 0, 0, 9, 8,
+];
 
-/// The count area of record 2, an end of file.
-const END_OF_FILE: &[u8] = &[0, 0, 0, 0, 2, 0, 0, 0];
+/// Where each of these begins and ends.
+const RECORD_ONE: (usize, usize) = (0, 11);
 
-/// What an update gives.
-const DATA: &[u8] = &[9, 8];
+const END_OF_FILE: (usize, usize) = (11, 19);
+
+const DATA: (usize, usize) = (19, 21);
+
+const NONE: (usize, usize) = (0, 0);
+
+/// Cylinder 0 with the number 0 of cache fast write data; one write of record 0 of track 0, and what it gives.
+const PROVISIONAL: &[u8] = &[0x80, 0xc2, 0x10, 0, 0, 0, 0, 0, 0, 0, 0, 0, 0, 0, 0, 0x0e];
+
+const AT_ZERO: &[u8] = &[1, 0, 0, 1, 0, 0, 0, 0, 0, 0, 0, 0, 0, 0, 0, 0];
+
+const NEW_ZERO: &[u8] = &[0x11, 0x22, 0x33, 0x44, 0x55, 0x66, 0x77, 0x88];
 
 fn path(n: u8) -> Result<PathNo, Fail> {
     Ok(PathNo::new(n).ok_or("path")?)
@@ -31,7 +44,16 @@ fn program(ccws: Vec<Ccw>) -> Result<Program, Fail> {
     Ok(Program::new(ccws).ok().ok_or("a word is bad")?)
 }
 
-/// Define extent over cylinder 0, locate record for one command on track 0, and that command.
+/// Define extent, locate record, and one command in its domain.
+fn in_domain(alloc: Global, extent: &[u8], locate: &[u8], command: Ccw) -> Result<Program, Fail> {
+    let mut ccws = Vec::new(alloc);
+    ccws.push(word(alloc, 0x63, 0x40, 16, extent)?)?;
+    ccws.push(word(alloc, 0x47, 0x40, 16, locate)?)?;
+    ccws.push(command)?;
+    program(ccws)
+}
+
+/// The extent is cylinder 0, and the command on its track 0.
 fn located(
     alloc: Global,
     mask: u8,
@@ -41,21 +63,12 @@ fn located(
 ) -> Result<Program, Fail> {
     let extent = [mask, 0xc0, 0x10, 0, 0, 0, 0, 0, 0, 0, 0, 0, 0, 0, 0, 0x0e];
     let locate = [operation, 0, 0, 1, 0, 0, 0, 0, 0, 0, 0, 0, record, 0, 0, 0];
-    let mut ccws = Vec::new(alloc);
-    ccws.push(word(alloc, 0x63, 0x40, 16, extent.as_slice())?)?;
-    ccws.push(word(alloc, 0x47, 0x40, 16, locate.as_slice())?)?;
-    ccws.push(command)?;
-    program(ccws)
+    in_domain(alloc, extent.as_slice(), locate.as_slice(), command)
 }
 
 /// What a write gives.
-fn given_by(command: u8, count: u16) -> &'static [u8] {
-    match (command, count) {
-        (0x1d, 8) => END_OF_FILE,
-        (0x1d, _) => RECORD_ONE,
-        (0x85, _) => DATA,
-        _ => &[],
-    }
+fn given(place: (usize, usize)) -> &'static [u8] {
+    GIVEN.get(place.0..place.1).unwrap_or(&[])
 }
 
 /// How many commands ended; of the last its status, its residual count and whether incorrect length
@@ -80,8 +93,8 @@ fn shown(ends: &EndList) -> Result<Shown, Fail> {
 /// A device whose track 0 has record 1 with four bytes of data, and an end of file.
 fn written(alloc: Global) -> Result<PlainDevice, Fail> {
     let mut device = PlainDevice::new(alloc, Geometry::D3390, 1)?;
-    for (record, count) in [(0, 12), (1, 8)] {
-        let format = word(alloc, 0x1d, 0, count, given_by(0x1d, count))?;
+    for (record, count, place) in [(0, 12, RECORD_ONE), (1, 8, END_OF_FILE)] {
+        let format = word(alloc, 0x1d, 0, count, given(place))?;
         let format = located(alloc, 0xc0, 3, record, format)?;
         device.run(alloc, path(1)?, &format)?;
     }
@@ -93,18 +106,52 @@ fn written(alloc: Global) -> Result<PlainDevice, Fail> {
 fn records_are_written_and_read(rt: HostRuntime) -> Result<(), Fail> {
     let alloc = rt.alloc();
     let rows = [
-        (0x40, 6, 0, 0x06, 0, 8, (3, 0x0c, 0, false, 8, 0, 0)),
-        (0x40, 6, 1, 0x06, 0, 8, (2, 0x0e, 16, false, 0, 0, 0)),
-        (0xc0, 3, 0, 0x1d, 0, 12, (3, 0x0c, 0, false, 0, 0, 0)),
-        (0x40, 6, 1, 0x86, 0, 4, (3, 0x0c, 0, false, 4, 5, 6)),
-        (0x80, 1, 1, 0x85, 0x20, 2, (3, 0x0c, 0, false, 0, 0, 0)),
-        (0x40, 6, 1, 0x86, 0, 4, (3, 0x0c, 0, false, 4, 9, 8)),
-        (0xc0, 3, 1, 0x1d, 0, 8, (3, 0x0c, 0, false, 0, 0, 0)),
-        (0x40, 6, 2, 0x86, 0x20, 100, (3, 0x0d, 100, false, 0, 0, 0)),
+        (0x40, 6, 1, 0x06, 0, 8, NONE, (2, 0x0e, 16, false, 0, 0, 0)),
+        (
+            0xc0,
+            3,
+            0,
+            0x1d,
+            0,
+            12,
+            RECORD_ONE,
+            (3, 0x0c, 0, false, 0, 0, 0),
+        ),
+        (
+            0x80,
+            1,
+            1,
+            0x85,
+            0x20,
+            2,
+            DATA,
+            (3, 0x0c, 0, false, 0, 0, 0),
+        ),
+        (0x40, 6, 1, 0x86, 0, 4, NONE, (3, 0x0c, 0, false, 4, 9, 8)),
+        (
+            0xc0,
+            3,
+            1,
+            0x1d,
+            0,
+            8,
+            END_OF_FILE,
+            (3, 0x0c, 0, false, 0, 0, 0),
+        ),
+        (
+            0x40,
+            6,
+            2,
+            0x86,
+            0x20,
+            100,
+            NONE,
+            (3, 0x0d, 100, false, 0, 0, 0),
+        ),
     ];
     let mut device = PlainDevice::new(alloc, Geometry::D3390, 1)?;
-    for (mask, operation, record, command, flags, count, want) in rows {
-        let last = word(alloc, command, flags, count, given_by(command, count))?;
+    for (mask, operation, record, command, flags, count, place, want) in rows {
+        let last = word(alloc, command, flags, count, given(place))?;
         let program = located(alloc, mask, operation, record, last)?;
         let ends = device.run(alloc, path(1)?, &program)?;
         assert_eq!(rt; shown(&ends)?, want, "command {command} of record {record}");
@@ -137,14 +184,8 @@ fn a_search_in_a_loop(rt: HostRuntime) -> Result<(), Fail> {
 
 /// Record 0 is updated as data of cache fast write, under number 0.
 fn provisional_update(alloc: Global) -> Result<Program, Fail> {
-    let extent = [0x80, 0xc2, 0x10, 0, 0, 0, 0, 0, 0, 0, 0, 0, 0, 0, 0, 0x0e];
-    let locate = [1, 0, 0, 1, 0, 0, 0, 0, 0, 0, 0, 0, 0, 0, 0, 0];
-    let data = [0x11, 0x22, 0x33, 0x44, 0x55, 0x66, 0x77, 0x88];
-    let mut ccws = Vec::new(alloc);
-    ccws.push(word(alloc, 0x63, 0x40, 16, extent.as_slice())?)?;
-    ccws.push(word(alloc, 0x47, 0x40, 16, locate.as_slice())?)?;
-    ccws.push(word(alloc, 0x85, 0, 8, data.as_slice())?)?;
-    program(ccws)
+    let update = word(alloc, 0x85, 0, 8, NEW_ZERO)?;
+    in_domain(alloc, PROVISIONAL, AT_ZERO, update)
 }
 
 /// Its data are read until they are lost; then the old number is refused.
