@@ -241,7 +241,7 @@ module _ {G : Ghosts Disk} (views : (v : Disk) → G.view v ≡ disk_view v) whe
         let within : n < x.store.cylinders * 15 = subst (λ (k : ℕ). n < k) (same_tracks is) lt in
         let own : IsBytes (get_or x.store.volume.tracks n []) = λ i. bytes n i (few_tracks x.store.cylinders n x.store.most within) in
         subst (λ (o : Option (List ℕ)). IsKnownAs (get_or x.store.volume.tracks n []) o)
-        (sym (get_or-map-range_with_len known 0 number n n None lt refl))
+        (sym (get_or-map-range_with_len known 0 number n n None lt (omega arith)))
         (subst (λ (l : List (List ℕ)). IsKnownAs (get_or l n []) (known n)) (sym tracks_are)
         (side.known n lt (subst (λ (l : List (List ℕ)). IsBytes (get_or l n [])) tracks_are own)))
     track_known n (inr past) =
@@ -264,6 +264,8 @@ module _ {G : Ghosts Disk} (views : (v : Disk) → G.view v ≡ disk_view v) whe
       AreHandedOut (all_taken xs) (handed_of ms)
   unfolding closing.handed_of
   handed_by_each used taken [] [] bytes (no_more within) = tt
+  handed_by_each used taken [] (m ∷ ms) bytes are = elim are [ ]
+  handed_by_each used taken (x ∷ xs) [] bytes are = elim are [ ]
   handed_by_each used taken (x ∷ xs) (m ∷ ms) bytes (one_more mine is apart rest) =
       subst (λ (hs : List HandedOut). AreHandedOut (all_taken (x ∷ xs)) hs) (sym (one_side m ms (same_lent is) (same_paired is)))
       (one_handed x m mine bytes.0 is, handed_by_each used (mine ++ taken) xs ms bytes.1 rest)
@@ -276,7 +278,7 @@ module _ {G : Ghosts Disk} (views : (v : Disk) → G.view v ≡ disk_view v) whe
 -- How many they are
 
 pub as_many : {G : Ghosts Disk} (xs : List (Device Disk G)) (ds : List DeviceLine) → numbers_of xs ≡ numbers_in ds → length xs ≡ length ds
-as_many xs ds are =
+as_many {G = G} xs ds are =
     sym (length-map xs (λ (x : Device Disk G). x.store.number)) ∙ ap (λ (l : List ℕ). length l) are ∙ length-map ds (λ (d : DeviceLine). d.number)
 
 pub all_number : {G : Ghosts Disk} (xs : List (Device Disk G)) → length (all_taken xs) ≡ length xs
@@ -284,7 +286,7 @@ all_number xs = length-map xs taken_of
 
 pub held_more : {G : Ghosts Disk} (all xs : List (Device Disk G)) (x : Device Disk G) → all ≡ xs ++ x ∷ [] → AllHoldBytes xs → HoldsBytes x.store.volume →
     AllHoldBytes all
-held_more all xs x is hold holds = subst AllHoldBytes (sym is) (go xs hold)
+held_more {G = G} all xs x is hold holds = subst AllHoldBytes (sym is) (go xs hold)
   where
     go : (ys : List (Device Disk G)) → AllHoldBytes ys → AllHoldBytes (ys ++ x ∷ [])
     go [] h = (holds, tt)
