@@ -1,6 +1,7 @@
 -- What is opened stands as a run has it.
-use Rattle.std.proofs.Common.{◌≡◌, ◌≤◌, ◌∙◌, ◌++◌, ◌∷◌, [], map, ℕ, true, false, List, Some, None, refl, sym, ap, subst, arith}
+use Rattle.std.proofs.Common.{◌≡◌, ◌<◌, ◌≤◌, ◌+◌, ◌∙◌, ◌++◌, ◌∷◌, [], length, map, take, ℕ, true, false, List, Some, None, refl, sym, ap, subst, arith}
 use Rattle.std.proofs.lemmas.Bool.Decides.{nat_tests}
+use Rattle.std.proofs.lemmas.List.{length-take-le}
 use Rattle.ckd_types.specs.declared.geometry.Geometry.{Geometry}
 use Rattle.deck_run.specs.Owning.{PlansGive, IsOwn}
 use Rattle.deck_text.specs.declared.line.DeviceLine.{DeviceLine}
@@ -8,7 +9,10 @@ use Rattle.deck_text.specs.DeckLines.{DeckLines}
 use Rattle.deck_text.specs.Plans.{plans_of}
 use Rattle.plain_defs.specs.Journal.{Plans}
 use Rattle.device_outside.specs.declared.volume.Volume.{Ghosts}
-use Rattle.device_outside.specs.Disk.{disk_view, new_disk}
+use Rattle.device_outside.specs.Bay as bays
+use Rattle.device_outside.specs.Bay.{spoil_all}
+use Rattle.device_outside.specs.declared.bay.Spoiled.{Spoiled}
+use Rattle.device_outside.specs.Disk.{Disk, disk_view, new_disk}
 use Rattle.device_outside.specs.Lists as lists
 use Rattle.device_outside.specs.Lists.{is_in}
 use Rattle.device_outside.specs.Pool.{Pool, new_pool, counted_slots}
@@ -28,6 +32,10 @@ use Rattle.deck_run.proofs.Lines.{mapped_more}
 
 pub at_most : (d : DeviceLine) → is_open_device d ≡ true → d.cylinders ≤ 64
 at_most d is = grind (arith, nat_tests)
+
+pub none_spoiled : (spoiled : List Spoiled) (d : ℕ) (disk : Disk) → spoiled ≡ [] → spoil_all spoiled d disk ≡ disk
+unfolding bays.spoil_all
+none_spoiled spoiled d disk none = ap (λ (l : List Spoiled). spoil_all l d disk) none
 
 pub device_stands : (deck : DeckLines) (d : DeviceLine) (x : DefinedDevice) (volume : VolumeView (List ℕ)) (plans : Plans) (reads writes : List ℕ) →
     is_open_device d ≡ true → x ≡ opened_by d.number d.geometry d.cylinders plans → plans ≡ plans_of deck.programs d.number →
@@ -58,6 +66,23 @@ none_in k is = absurd (cc)
 
 pub none_mounted : (p : Pool) → AreMounted p [] []
 none_mounted p = no_more (λ k is. absurd (none_in k is))
+
+-- How many volumes were made
+
+pub none_made : (ds : List DeviceLine) (made : ℕ) → made ≡ made + length (take 0 ds)
+none_made ds made = omega arith
+
+one_longer : (ds : List DeviceLine) (i : ℕ) → i < length ds → length (take (i + 1) ds) ≡ length (take i ds) + 1
+one_longer ds i inside =
+    length-take-le (i + 1) ds (omega (arith, inside)) ∙ ap (λ (n : ℕ). n + 1) (sym (length-take-le i ds (omega (arith, inside))))
+
+made_by : (made now behind n m : ℕ) → now ≡ made + n → behind ≡ now + 1 → m ≡ n + 1 → behind ≡ made + m
+made_by made now behind n m is more one = omega (arith, is, more, one)
+
+pub made_more : (ds : List DeviceLine) (i made now behind : ℕ) → i < length ds → now ≡ made + length (take i ds) → behind ≡ now + 1 →
+    behind ≡ made + length (take (i + 1) ds)
+made_more ds i made now behind inside is more =
+    made_by made now behind (length (take i ds)) (length (take (i + 1) ds)) is more (one_longer ds i inside)
 
 module _ {V : Type 0} {G : Ghosts V} where
   pub opened_stands : (s : Subsystem V G) (run : defs.Subsystem) (frames slots : ℕ) → s.pool.pool ≡ new_pool frames slots →

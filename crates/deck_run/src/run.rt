@@ -1,8 +1,10 @@
-ghost use Rattle.std.specs.Prelude.{◌≡◌, ◌++◌, ◌∷◌, [], IfOk, None};
+ghost use Rattle.std.specs.Prelude.{◌≡◌, ◌+◌, ◌++◌, ◌∷◌, [], IfOk, OnOk, None, length};
 ghost use Rattle.report_text.specs.declared.line.ReportLine.TheVariants as lines;
 ghost use Rattle.run_report.specs.Report.{lines_of_run, report_lines};
 ghost use Rattle.subsystem_defs.specs.Decks.{run_of};
+ghost use Rattle.subsystem_core.specs.Devices.{numbers_of};
 ghost use Rattle.deck_run.specs.Later.{first_later};
+ghost use Rattle.deck_run.specs.Opening.{numbers_in};
 ghost use Rattle.deck_run.specs.Standing.{StandsAs};
 
 use crate::close::{record_devices, record_frames};
@@ -10,7 +12,7 @@ use crate::line::do_line;
 use crate::open::open_deck;
 use ckd_types::NoMemory;
 use deck_text::Deck;
-use device_outside::MemVolume;
+use device_outside::{MemBay, MemVolume};
 use report_text::RunRecord;
 use std::alloc::Global;
 use subsystem_core::Subsystem;
@@ -23,12 +25,16 @@ pub struct FinishedRun {
 }
 
 /// The event lines of a deck over its devices.
-fn run_events(alloc: Global, deck: &Deck) -> Result<FinishedRun, NoMemory>
+fn run_events(alloc: Global, deck: &Deck, bay: &mut MemBay) -> Result<FinishedRun, NoMemory>
     requires { first_later deck.now ≡ None }
-    ensures stands { IfOk result (λ ran. StandsAs ran.sub (run_of deck.now).behind) }
-    ensures lines { IfOk result (λ ran. ran.report ≡ lines_of_run (run_of deck.now)) }
+    ensures stands { bay.old.spoiled ≡ [] → IfOk result (λ ran. StandsAs ran.sub (run_of deck.now).behind) }
+    ensures lines { bay.old.spoiled ≡ [] → IfOk result (λ ran. ran.report ≡ lines_of_run (run_of deck.now)) }
+    ensures numbers { IfOk result (λ ran. numbers_of ran.sub.devices.items ≡ numbers_in deck.now.devices) }
+    ensures made { OnOk result (bay.new.made ≡ bay.old.made + length deck.now.devices) }
+    ensures spoiled { bay.new.spoiled ≡ bay.old.spoiled }
+    ensures taken { bay.new.taken ≡ bay.old.taken }
 {
-    let mut sub = open_deck(alloc, deck)?;
+    let mut sub = open_deck(alloc, deck, bay)?;
     let mut report = RunRecord::new(alloc);
     for line in deck.schedule().as_slice() {
         match do_line(alloc, &mut sub, &mut report, *line) {
@@ -39,14 +45,18 @@ fn run_events(alloc: Global, deck: &Deck) -> Result<FinishedRun, NoMemory>
     Ok(FinishedRun { sub, report })
 }
 
-/// Runs a deck. Its devices are those that the defined run leaves, and what was recorded are the
-/// lines of its report, but for the last one.
-pub fn run_deck(alloc: Global, deck: &Deck) -> Result<FinishedRun, NoMemory>
+/// Runs a deck over volumes that the bay makes. Where no track is spoiled its devices are those that the defined run leaves, and what
+/// was recorded are the lines of its report, but for the last one.
+pub fn run_deck(alloc: Global, deck: &Deck, bay: &mut MemBay) -> Result<FinishedRun, NoMemory>
     requires { first_later deck.now ≡ None }
-    ensures stands { IfOk result (λ ran. StandsAs ran.sub (run_of deck.now).behind) }
-    ensures lines { IfOk result (λ ran. ran.report ++ lines.Finish ∷ [] ≡ report_lines (run_of deck.now)) }
+    ensures stands { bay.old.spoiled ≡ [] → IfOk result (λ ran. StandsAs ran.sub (run_of deck.now).behind) }
+    ensures lines { bay.old.spoiled ≡ [] → IfOk result (λ ran. ran.report ++ lines.Finish ∷ [] ≡ report_lines (run_of deck.now)) }
+    ensures numbers { IfOk result (λ ran. numbers_of ran.sub.devices.items ≡ numbers_in deck.now.devices) }
+    ensures made { OnOk result (bay.new.made ≡ bay.old.made + length deck.now.devices) }
+    ensures spoiled { bay.new.spoiled ≡ bay.old.spoiled }
+    ensures taken { bay.new.taken ≡ bay.old.taken }
 {
-    let ran = run_events(alloc, deck)?;
+    let ran = run_events(alloc, deck, bay)?;
     let sub = ran.sub;
     let mut report = ran.report;
     record_devices(alloc, &mut report, sub.devices())?;

@@ -1,5 +1,6 @@
 use crate::{first_later, has_open_devices, run_deck};
 use deck_text::read_deck;
+use device_outside::MemBay;
 use std::test::Fail;
 
 /// Device 1 writes nothing and ends its one command; path 2 of device 4 finds no program, and the reset of path 1 cuts its program.
@@ -15,7 +16,7 @@ fn a_deck_of_two_devices(rt: HostRuntime) -> Result<(), Fail> {
     assert!(rt; has_open_devices(&deck));
     let ran = match first_later(&deck) {
         Some(_) => return Err("later".into()),
-        None => run_deck(rt.alloc(), &deck)?,
+        None => run_deck(rt.alloc(), &deck, &mut MemBay::new(rt.alloc()))?,
     };
     let journals = [
         ran.sub.devices().first().map(|d| d.journal().len()),

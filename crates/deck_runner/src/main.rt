@@ -3,6 +3,7 @@
 
 use ckd_outside::{StdSink, StdSource};
 use deck_top::{Status, code_of, deck_top, words_of};
+use device_outside::MemBay;
 use std::alloc::AllocError;
 use std::env::Args;
 use std::process::ExitCode;
@@ -12,12 +13,13 @@ fn ended(status: Status) -> ExitCode {
     ExitCode::from(code_of(status))
 }
 
-/// Runs over the standard streams.
+/// Runs over the standard streams and an empty bay.
 fn serve(rt: &HostRuntime, arguments: Option<&[&str]>) -> ExitCode {
     let mut source = StdSource::new(rt.reader());
     let mut sink = StdSink::new(io::writer(rt));
+    let mut bay = MemBay::new(rt.alloc());
     let words = words_of(arguments);
-    ended(deck_top(rt.alloc(), words, &mut source, &mut sink))
+    ended(deck_top(rt.alloc(), words, &mut source, &mut sink, &mut bay))
 }
 
 /// Runs with the arguments behind the program's name.

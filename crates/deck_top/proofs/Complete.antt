@@ -5,6 +5,7 @@ use Rattle.std.proofs.lemmas.Bool.{cases_lt}
 use Rattle.std.proofs.lemmas.Bool.Decides.{nat_tests}
 use Rattle.std.proofs.lemmas.List.{append-nil}
 use Rattle.std.proofs.lemmas.Option.{none-some, same_Some}
+use Rattle.device_outside.specs.Bay.{Bay}
 use Rattle.deck_text.specs.DeckLines.{DeckLines}
 use Rattle.deck_text.specs.declared.line.DeckFault.{DeckFault}
 use Rattle.deck_text.specs.declared.line.DeckFault.TheVariants as faults
@@ -35,24 +36,26 @@ refused : (task : Task) (text read : List ℕ) (before after : Option (List ℕ)
 refused task text read before after d f is r p q =
     no_fault d f (deck_for task read) (ap (deck_for task) (same_text task text read after d (subst (λ b. Reads b after read) is r) p) ∙ p) q
 
-by_task : (status : Status) (task : Task) (before after held holds : Option (List ℕ)) (text : List ℕ) (d : DeckLines)
-    → before ≡ Some text → deck_for task text ≡ Ok d → TellsTask status task before after held holds → (status ≡ ReadFault → ⊥) → (status ≡ WriteFault → ⊥)
-    → (status ≡ Reported) ⊎ (status ≡ NoMemory)
-by_task Reported task before after held holds text d is p told nr nw = inl refl
-by_task NoMemory task before after held holds text d is p told nr nw = inr refl
-by_task ReadFault task before after held holds text d is p told nr nw = absurd (nr refl)
-by_task WriteFault task before after held holds text d is p told nr nw = absurd (nw refl)
-by_task Usage task before after held holds text d is p told nr nw = absurd told.2
-by_task (DeckRefused line why) task before after held holds text d is p told nr nw =
-    absurd (refused task text told.0 before after d (faults.Refused line why) is told.1 p told.2.0)
-by_task (Limit which) task before after held holds text d is p told nr nw =
-    absurd (refused task text told.0 before after d (faults.Limit which) is told.1 p told.2.0)
-
-pub complete : (status : Status) (task : Option Task) (wanted : Task) (before after held holds : Option (List ℕ)) (text : List ℕ) (d : DeckLines)
-    → before ≡ Some text → task ≡ Some wanted → deck_for wanted text ≡ Ok d → Tells status task before after held holds → (status ≡ ReadFault → ⊥)
+by_task : (status : Status) (task : Task) (old new : Bay) (before after held holds : Option (List ℕ)) (text : List ℕ) (d : DeckLines)
+    → before ≡ Some text → deck_for task text ≡ Ok d → TellsTask status task old new before after held holds → (status ≡ ReadFault → ⊥)
     → (status ≡ WriteFault → ⊥)
     → (status ≡ Reported) ⊎ (status ≡ NoMemory)
-complete status None wanted before after held holds text d is task_is p told nr nw = absurd (none-some wanted task_is)
-complete status (Some task) wanted before after held holds text d is task_is p told nr nw =
-    by_task status wanted before after held holds text d is p
-    (subst (λ (t : Task). TellsTask status t before after held holds) (same_Some task wanted task_is) told) nr nw
+by_task Reported task old new before after held holds text d is p told nr nw = inl refl
+by_task NoMemory task old new before after held holds text d is p told nr nw = inr refl
+by_task ReadFault task old new before after held holds text d is p told nr nw = absurd (nr refl)
+by_task WriteFault task old new before after held holds text d is p told nr nw = absurd (nw refl)
+by_task Usage task old new before after held holds text d is p told nr nw = absurd told.2
+by_task (DeckRefused line why) task old new before after held holds text d is p told nr nw =
+    absurd (refused task text told.0 before after d (faults.Refused line why) is told.1 p told.2.0)
+by_task (Limit which) task old new before after held holds text d is p told nr nw =
+    absurd (refused task text told.0 before after d (faults.Limit which) is told.1 p told.2.0)
+
+pub complete : (status : Status) (task : Option Task) (wanted : Task) (old new : Bay) (before after held holds : Option (List ℕ)) (text : List ℕ) (d : DeckLines)
+    → before ≡ Some text → task ≡ Some wanted → deck_for wanted text ≡ Ok d → Tells status task old new before after held holds
+    → (status ≡ ReadFault → ⊥)
+    → (status ≡ WriteFault → ⊥)
+    → (status ≡ Reported) ⊎ (status ≡ NoMemory)
+complete status None wanted old new before after held holds text d is task_is p told nr nw = absurd (none-some wanted task_is)
+complete status (Some task) wanted old new before after held holds text d is task_is p told nr nw =
+    by_task status wanted old new before after held holds text d is p
+    (subst (λ (t : Task). TellsTask status t old new before after held holds) (same_Some task wanted task_is) told) nr nw

@@ -1,3 +1,4 @@
 pub mod Complete
+pub mod HandedBack
 pub mod Plain
 pub mod Written

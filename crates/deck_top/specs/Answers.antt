@@ -14,7 +14,10 @@ use Rattle.deck_top.specs.declared.task.Task.{Task}
 use Rattle.deck_top.specs.declared.task.Task.TheVariants.{Run, Check}
 use Rattle.deck_top.specs.declared.top.Status.{Status}
 use Rattle.deck_top.specs.declared.top.Status.TheVariants.{Reported, DeckRefused, ReadFault, WriteFault, Limit, NoMemory, Usage}
+use Rattle.deck_top.specs.Handed.{TakesBack}
 use Rattle.deck_top.specs.Run.{DeckRunsPlainly}
+use Rattle.device_outside.specs.Bay.{Bay}
+use Rattle.device_outside.specs.declared.bay.Spoiled.{Spoiled}
 use Rattle.deck_run.specs.Later.{first_later}
 use Rattle.run_report.specs.Report.{report_of}
 
@@ -69,9 +72,20 @@ text_of task (Err (faults.Refused line why)) = refused_text line why
 text_of task (Err (faults.Limit which)) = limit_text which
 text_of task (Err faults.NoMemory) = []
 
-abbrev pub TaskRunsPlainly : Task → DeckLines → Type 0
-TaskRunsPlainly Run d = DeckRunsPlainly d
-TaskRunsPlainly Check d = Unit {0}
+-- The report of a run is that of the defined run where no track was spoiled, and else whatever its devices made of what they read
+
+-- what is written of a deck at a fault
+abbrev pub FrontOf : Result DeckLines DeckFault → Task → List Spoiled → Option (List ℕ) → Option (List ℕ) → Type 0
+FrontOf (Err fault) task spoiled held holds = AppendsFront held holds (text_of task (Err fault))
+FrontOf (Ok d) Check spoiled held holds = AppendsFront held holds (canonical d)
+FrontOf (Ok d) Run spoiled held holds = (text : List ℕ) × (spoiled ≡ [] → text ≡ report_of d) × AppendsFront held holds text
+
+-- what is done for a deck: its canonical text, or the report of its run, in which each device's history is plain, and whose volumes go
+-- back to the bay
+abbrev pub IsDone : Task → DeckLines → Bay → Bay → Option (List ℕ) → Option (List ℕ) → Type 0
+IsDone Check d old new held holds = Appends held holds (canonical d)
+IsDone Run d old new held holds =
+    (text : List ℕ) × (old.spoiled ≡ [] → text ≡ report_of d) × Appends held holds text × DeckRunsPlainly d × TakesBack d old new
 
 -- the source gave this text: all of it, or its first 16,777,217 bytes
 pub record Reads (before after : Option (List ℕ)) (text : List ℕ) : Type 0 where
@@ -79,28 +93,29 @@ pub record Reads (before after : Option (List ℕ)) (text : List ℕ) : Type 0 w
   pub bound : length text ≤ 16777217
   pub whole : length text < 16777217 → IsAtEnd after
 
--- what an answer says of the deck that was read, and of what the sink holds
-abbrev pub TellsDeck : Status → Task → Result DeckLines DeckFault → Option (List ℕ) → Option (List ℕ) → Type 0
-TellsDeck Reported task deck held holds = (d : DeckLines) × (deck ≡ Ok d) × Appends held holds (output_of task d) × TaskRunsPlainly task d
-TellsDeck (DeckRefused line why) task deck held holds = (deck ≡ Err (faults.Refused line why)) × Appends held holds (refused_text line why)
-TellsDeck (Limit which) task deck held holds = (deck ≡ Err (faults.Limit which)) × Appends held holds (limit_text which)
-TellsDeck WriteFault task deck held holds = AppendsFront held holds (text_of task deck)
-TellsDeck NoMemory task deck held holds = holds ≡ held
-TellsDeck ReadFault task deck held holds = ⊥
-TellsDeck Usage task deck held holds = ⊥
+-- what an answer says of the deck that was read, of the bay, and of what the sink holds
+abbrev pub TellsDeck : Status → Task → Result DeckLines DeckFault → Bay → Bay → Option (List ℕ) → Option (List ℕ) → Type 0
+TellsDeck Reported task deck old new held holds = (d : DeckLines) × (deck ≡ Ok d) × IsDone task d old new held holds
+TellsDeck (DeckRefused line why) task deck old new held holds = (deck ≡ Err (faults.Refused line why)) × Appends held holds (refused_text line why)
+TellsDeck (Limit which) task deck old new held holds = (deck ≡ Err (faults.Limit which)) × Appends held holds (limit_text which)
+TellsDeck WriteFault task deck old new held holds = FrontOf deck task old.spoiled held holds
+TellsDeck NoMemory task deck old new held holds = holds ≡ held
+TellsDeck ReadFault task deck old new held holds = ⊥
+TellsDeck Usage task deck old new held holds = ⊥
 
--- what an answer to a task says of the source and of the sink
-abbrev pub TellsTask : Status → Task → Option (List ℕ) → Option (List ℕ) → Option (List ℕ) → Option (List ℕ) → Type 0
-TellsTask ReadFault task before after held holds = holds ≡ held
-TellsTask NoMemory task before after held holds = holds ≡ held
-TellsTask status task before after held holds = (text : List ℕ) × Reads before after text × TellsDeck status task (deck_for task text) held holds
+-- what an answer to a task says of the bay, of the source and of the sink
+abbrev pub TellsTask : Status → Task → Bay → Bay → Option (List ℕ) → Option (List ℕ) → Option (List ℕ) → Option (List ℕ) → Type 0
+TellsTask ReadFault task old new before after held holds = holds ≡ held
+TellsTask NoMemory task old new before after held holds = holds ≡ held
+TellsTask status task old new before after held holds =
+    (text : List ℕ) × Reads before after text × TellsDeck status task (deck_for task text) old new held holds
 
 -- what the answer to words that name no task says
 abbrev pub TellsUsage : Status → Option (List ℕ) → Option (List ℕ) → Option (List ℕ) → Option (List ℕ) → Type 0
 TellsUsage status before after held holds =
     (after ≡ before) × (((status ≡ Usage) × Appends held holds usage_text) ⊎ ((status ≡ WriteFault) × AppendsFront held holds usage_text))
 
--- what an answer says of the words, of the source and of the sink
-abbrev pub Tells : Status → Option Task → Option (List ℕ) → Option (List ℕ) → Option (List ℕ) → Option (List ℕ) → Type 0
-Tells status None before after held holds = TellsUsage status before after held holds
-Tells status (Some task) before after held holds = TellsTask status task before after held holds
+-- what an answer says of the words, of the bay, of the source and of the sink
+abbrev pub Tells : Status → Option Task → Bay → Bay → Option (List ℕ) → Option (List ℕ) → Option (List ℕ) → Option (List ℕ) → Type 0
+Tells status None old new before after held holds = TellsUsage status before after held holds
+Tells status (Some task) old new before after held holds = TellsTask status task old new before after held holds

@@ -1,6 +1,8 @@
 //! What the program does: the top call over a source and a sink, which `main` makes.
 #![tactic(auto)]
 
+mod give;
+mod report;
 mod task;
 mod top;
 

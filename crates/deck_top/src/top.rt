@@ -3,22 +3,20 @@ ghost use Rattle.std.specs.Io.KnownBytes.{Appends};
 ghost use Rattle.ckd_outside.specs.Causes.{Rose, HasCause};
 ghost use Rattle.ckd_outside.specs.Texts.{Writes, AppendsFront};
 ghost use Rattle.deck_text.specs.DeckLines.{DeckLines};
-ghost use Rattle.report_text.specs.Report.{report_text};
-ghost use Rattle.run_report.specs.Report.{report_of};
+ghost use Rattle.device_outside.specs.Bay.{Bay};
 ghost use Rattle.deck_run.specs.Later.{first_later};
-ghost use Rattle.deck_top.specs.Run.{DeckRunsPlainly, WasRead};
+ghost use Rattle.deck_top.specs.Run.{WasRead};
 ghost use Rattle.deck_top.specs.Answers.{code_of, task_by, task_of, usage_text, open_deck, deck_for, TellsDeck, TellsTask, TellsUsage, Tells};
 
+use crate::report::report;
 use crate::task::Task;
 use ckd_outside::{Failed, Piece, ReadError, Sink, Source, read_up_to};
-use ckd_types::NoMemory;
 use deck_run::first_later;
 use deck_text::{
     Deck, DeckFault, DeckWhy, Which, read_deck, write_deck, write_limit, write_line, write_refused,
 };
-use report_text::{RunRecord, write_report};
+use device_outside::MemBay;
 use std::alloc::Global;
-use subsystem_laws::run_is_plain;
 
 /// How the program ends.
 #[derive(Clone, Copy, Debug, PartialEq, Eq)]
@@ -100,7 +98,7 @@ fn write_usage<K: Sink>(sink: &mut K) -> Result<(), Failed>
 }
 
 fn refuse<K: Sink>(sink: &mut K, line: u32, why: DeckWhy) -> Status
-    ensures told { (task : Task) → TellsDeck result task (Err (DeckFault.Refused line why)) (K.held sink.old) (K.held sink.new) }
+    ensures told { (task : Task) (old new : Bay) → TellsDeck result task (Err (DeckFault.Refused line why)) old new (K.held sink.old) (K.held sink.new) }
     ensures later { K.faults sink.old ≤ K.faults sink.new }
     ensures write { result ≡ Status.WriteFault → Rose (K.faults sink.old) (K.faults sink.new) }
 {
@@ -111,7 +109,7 @@ fn refuse<K: Sink>(sink: &mut K, line: u32, why: DeckWhy) -> Status
 }
 
 fn limit<K: Sink>(sink: &mut K, which: Which) -> Status
-    ensures told { (task : Task) → TellsDeck result task (Err (DeckFault.Limit which)) (K.held sink.old) (K.held sink.new) }
+    ensures told { (task : Task) (old new : Bay) → TellsDeck result task (Err (DeckFault.Limit which)) old new (K.held sink.old) (K.held sink.new) }
     ensures later { K.faults sink.old ≤ K.faults sink.new }
     ensures write { result ≡ Status.WriteFault → Rose (K.faults sink.old) (K.faults sink.new) }
 {
@@ -121,48 +119,22 @@ fn limit<K: Sink>(sink: &mut K, which: Which) -> Status
     }
 }
 
-/// The lines of a deck's report, but for the last one; and that the run is plain.
-fn run_deck(alloc: Global, deck: &Deck) -> Result<RunRecord, NoMemory>
-    requires served { first_later deck.now ≡ None }
-    requires read { WasRead deck.now }
-    ensures text { IfOk result (λ told. report_text told [] [] ≡ report_of deck.now) }
-    ensures plain { IfOk result (λ told. DeckRunsPlainly deck.now) }
-{
-    run_is_plain();
-    let ran = deck_run::run_deck(alloc, deck)?;
-    Ok(ran.report)
-}
-
-fn report<K: Sink>(alloc: Global, deck: &Deck, sink: &mut K) -> Status
-    requires served { first_later deck.now ≡ None }
-    requires read { WasRead deck.now }
-    ensures told { TellsDeck result Task.Run (Ok deck.now) (K.held sink.old) (K.held sink.new) }
-    ensures later { K.faults sink.old ≤ K.faults sink.new }
-    ensures write { result ≡ Status.WriteFault → Rose (K.faults sink.old) (K.faults sink.new) }
-{
-    let Ok(told) = run_deck(alloc, deck) else {
-        return Status::NoMemory;
-    };
-    match write_report(sink, &told, &[], &[]) {
-        Ok(()) => Status::Reported,
-        Err(_) => Status::WriteFault,
-    }
-}
-
-fn run<K: Sink>(alloc: Global, deck: &Deck, sink: &mut K) -> Status
+fn run<K: Sink>(alloc: Global, deck: &Deck, sink: &mut K, bay: &mut MemBay) -> Status
     requires { WasRead deck.now }
-    ensures told { TellsDeck result Task.Run (open_deck Task.Run deck.now) (K.held sink.old) (K.held sink.new) }
+    ensures spoiled { bay.new.spoiled ≡ bay.old.spoiled }
+    ensures kept { result ≢ Status.Reported → bay.new.taken ≡ bay.old.taken }
+    ensures told { TellsDeck result Task.Run (open_deck Task.Run deck.now) bay.old bay.new (K.held sink.old) (K.held sink.new) }
     ensures later { K.faults sink.old ≤ K.faults sink.new }
     ensures write { result ≡ Status.WriteFault → Rose (K.faults sink.old) (K.faults sink.new) }
 {
     match first_later(deck) {
         Some(line) => refuse(sink, line, DeckWhy::Later),
-        None => report(alloc, deck, sink),
+        None => report(alloc, deck, sink, bay),
     }
 }
 
 fn check<K: Sink>(deck: &Deck, sink: &mut K) -> Status
-    ensures told { TellsDeck result Task.Check (Ok deck.now) (K.held sink.old) (K.held sink.new) }
+    ensures told { (old new : Bay) → TellsDeck result Task.Check (Ok deck.now) old new (K.held sink.old) (K.held sink.new) }
     ensures later { K.faults sink.old ≤ K.faults sink.new }
     ensures write { result ≡ Status.WriteFault → Rose (K.faults sink.old) (K.faults sink.new) }
 {
@@ -172,25 +144,37 @@ fn check<K: Sink>(deck: &Deck, sink: &mut K) -> Status
     }
 }
 
-fn serve_deck<K: Sink>(alloc: Global, task: Task, deck: &Deck, sink: &mut K) -> Status
+fn serve_deck<K: Sink>(
+    alloc: Global,
+    task: Task,
+    deck: &Deck,
+    sink: &mut K,
+    bay: &mut MemBay,
+) -> Status
     requires { WasRead deck.now }
-    ensures told { TellsDeck result task (open_deck task deck.now) (K.held sink.old) (K.held sink.new) }
+    ensures spoiled { bay.new.spoiled ≡ bay.old.spoiled }
+    ensures kept { result ≢ Status.Reported → bay.new.taken ≡ bay.old.taken }
+    ensures check { task ≢ Task.Run → bay.new ≡ bay.old }
+    ensures told { TellsDeck result task (open_deck task deck.now) bay.old bay.new (K.held sink.old) (K.held sink.new) }
     ensures later { K.faults sink.old ≤ K.faults sink.new }
     ensures write { result ≡ Status.WriteFault → Rose (K.faults sink.old) (K.faults sink.new) }
 {
     match task {
-        Task::Run => run(alloc, deck, sink),
+        Task::Run => run(alloc, deck, sink, bay),
         Task::Check => check(deck, sink),
     }
 }
 
-fn answer<K: Sink>(alloc: Global, task: Task, text: &[u8], sink: &mut K) -> Status
-    ensures told { TellsDeck result task (deck_for task text.now) (K.held sink.old) (K.held sink.new) }
+fn answer<K: Sink>(alloc: Global, task: Task, text: &[u8], sink: &mut K, bay: &mut MemBay) -> Status
+    ensures spoiled { bay.new.spoiled ≡ bay.old.spoiled }
+    ensures kept { result ≢ Status.Reported → bay.new.taken ≡ bay.old.taken }
+    ensures check { task ≢ Task.Run → bay.new ≡ bay.old }
+    ensures told { TellsDeck result task (deck_for task text.now) bay.old bay.new (K.held sink.old) (K.held sink.new) }
     ensures later { K.faults sink.old ≤ K.faults sink.new }
     ensures write { result ≡ Status.WriteFault → Rose (K.faults sink.old) (K.faults sink.new) }
 {
     match read_deck(alloc, text) {
-        Ok(deck) => serve_deck(alloc, task, &deck, sink),
+        Ok(deck) => serve_deck(alloc, task, &deck, sink, bay),
         Err(DeckFault::Refused { line, why }) => refuse(sink, line, why),
         Err(DeckFault::Limit(which)) => limit(sink, which),
         Err(DeckFault::NoMemory) => Status::NoMemory,
@@ -209,45 +193,71 @@ fn usage<K: Sink>(sink: &mut K) -> Status
     }
 }
 
-fn serve_task<S: Source, K: Sink>(alloc: Global, task: Task, source: &mut S, sink: &mut K) -> Status
-    ensures told { TellsTask result task (S.left source.old) (S.left source.new) (K.held sink.old) (K.held sink.new) }
+fn serve_task<S: Source, K: Sink>(
+    alloc: Global,
+    task: Task,
+    source: &mut S,
+    sink: &mut K,
+    bay: &mut MemBay,
+) -> Status
+    ensures spoiled { bay.new.spoiled ≡ bay.old.spoiled }
+    ensures kept { result ≢ Status.Reported → bay.new.taken ≡ bay.old.taken }
+    ensures check { task ≢ Task.Run → bay.new ≡ bay.old }
+    ensures told { TellsTask result task bay.old bay.new (S.left source.old) (S.left source.new) (K.held sink.old) (K.held sink.new) }
     ensures read { result ≡ Status.ReadFault → Rose (S.faults source.old) (S.faults source.new) }
     ensures calm { result ≢ Status.ReadFault → S.faults source.new ≡ S.faults source.old }
     ensures write { result ≡ Status.WriteFault → Rose (K.faults sink.old) (K.faults sink.new) }
 {
     match read_up_to(alloc, source, MOST_READ) {
-        Ok(text) => answer(alloc, task, &text, sink),
+        Ok(text) => answer(alloc, task, &text, sink, bay),
         Err(ReadError::Failed) => Status::ReadFault,
         Err(ReadError::NoMemory) => Status::NoMemory,
     }
 }
 
-fn serve<S: Source, K: Sink>(alloc: Global, words: &[&str], source: &mut S, sink: &mut K) -> Status
-    ensures told { Tells result (task_of (map (λ w. w.now) words.now))
+fn serve<S: Source, K: Sink>(
+    alloc: Global,
+    words: &[&str],
+    source: &mut S,
+    sink: &mut K,
+    bay: &mut MemBay,
+) -> Status
+    ensures spoiled { bay.new.spoiled ≡ bay.old.spoiled }
+    ensures kept { result ≢ Status.Reported → bay.new.taken ≡ bay.old.taken }
+    ensures check { task_of (map (λ w. w.now) words.now) ≢ Some Task.Run → bay.new ≡ bay.old }
+    ensures told { Tells result (task_of (map (λ w. w.now) words.now)) bay.old bay.new
         (S.left source.old) (S.left source.new) (K.held sink.old) (K.held sink.new) }
     ensures read { result ≡ Status.ReadFault → Rose (S.faults source.old) (S.faults source.new) }
     ensures calm { result ≢ Status.ReadFault → S.faults source.new ≡ S.faults source.old }
     ensures write { result ≡ Status.WriteFault → Rose (K.faults sink.old) (K.faults sink.new) }
 {
     match task_of(words) {
-        Some(task) => serve_task(alloc, task, source, sink),
+        Some(task) => serve_task(alloc, task, source, sink, bay),
         None => usage(sink),
     }
 }
 
-/// Does what the words ask for, over a source and a sink. `run` reads a deck and writes the report of its
-/// run; `check` reads a deck and writes its canonical text. A read fault is answered exactly where a read failed.
+/// Does what the words ask for, over a source, a sink and a bay. `run` reads a deck, runs it over volumes that the bay makes, writes the
+/// report of its run and then gives the bay the volumes that stand in the devices, by rising number, side A before side B; `check`
+/// reads a deck and writes its canonical text. A read fault is answered exactly where a read failed. Where memory is lacking, or a
+/// write failed, the bay may have made volumes that don't come back.
 pub fn deck_top<S: Source, K: Sink>(
     alloc: Global,
     words: &[&str],
     source: &mut S,
     sink: &mut K,
+    bay: &mut MemBay,
 ) -> Status
-    ensures told { Tells result (task_of (map (λ w. w.now) words.now))
+    ensures told { Tells result (task_of (map (λ w. w.now) words.now)) bay.old bay.new
         (S.left source.old) (S.left source.new) (K.held sink.old) (K.held sink.new) }
     ensures read { result ≡ Status.ReadFault → Rose (S.faults source.old) (S.faults source.new) }
     ensures calm { result ≢ Status.ReadFault → S.faults source.new ≡ S.faults source.old }
     ensures write { result ≡ Status.WriteFault → Rose (K.faults sink.old) (K.faults sink.new) }
+
+    // Its spoiled tracks stay, and so do the volumes that it took back, but behind the report of a run.
+    ensures spoiled { bay.new.spoiled ≡ bay.old.spoiled }
+    ensures kept { result ≢ Status.Reported → bay.new.taken ≡ bay.old.taken }
+    ensures check { task_of (map (λ w. w.now) words.now) ≢ Some Task.Run → bay.new ≡ bay.old }
 
     // Every deck is checked, and every deck that `run` serves so far is run, unless memory runs out or the
     // outside fails.
@@ -256,5 +266,5 @@ pub fn deck_top<S: Source, K: Sink>(
         → ¬ Rose (S.faults source.old) (S.faults source.new) → ¬ Rose (K.faults sink.old) (K.faults sink.new)
         → (result ≡ Status.Reported) ⊎ (result ≡ Status.NoMemory) }
 {
-    serve(alloc, words, source, sink)
+    serve(alloc, words, source, sink, bay)
 }

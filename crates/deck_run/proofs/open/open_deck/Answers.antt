@@ -12,11 +12,11 @@ new-requires-2 c =
     subst (λ (l : List ℕ). are_rising l ≡ true) (sym c.in_ok-devices.ensures.numbers) (numbers_rise c.args.deck.now.devices None c.requires)
 
 pub returns-clause-stands : goal.returns-clause-stands
-returns-clause-stands c =
+returns-clause-stands c = λ none.
     opened_stands c.in_ok-made.made (opened c.args.deck.now) c.args.deck.now.frames c.args.deck.now.slots
     (ap (λ (s : Shared). s.pool) (c.in_ok-made.ensures.pool ∙ c.in_ok-pool.ensures)
     ∙ ap (λ (n : ℕ). new_pool n c.slots.result) c.frames.ensures ∙ ap (new_pool c.args.deck.now.frames) c.slots.ensures) refl
-    (λ p. rw c.in_ok-made.ensures.devices (c.in_ok-devices.ensures.mounted p))
+    (λ p. rw c.in_ok-made.ensures.devices (c.in_ok-devices.ensures.mounted p none))
 
 pub returns-clause-numbers : goal.returns-clause-numbers
 returns-clause-numbers c = rw c.in_ok-made.ensures.devices c.in_ok-devices.ensures.numbers

@@ -1,14 +1,14 @@
 use Rattle.std.proofs.Common.{◌∙◌, ap}
 use Rattle.device_outside.specs.Disk.{disk_view}
 use Rattle.device_core.specs.State.{device_of}
-use Rattle.deck_run.proofs.Opened.{device_stands, opened_own}
+use Rattle.deck_run.proofs.Opened.{device_stands, none_spoiled, opened_own}
 use Rattle.deck_run.proofs.open.open_device.Goals as goal
 
 pub returns-in-Ok-clause-mounted : goal.returns-in-Ok-clause-mounted
-returns-in-Ok-clause-mounted c =
+returns-in-Ok-clause-mounted c = λ none.
     device_stands c.args.deck.now c.args.line (device_of c.in-Ok.made) (disk_view c.in-Ok.made.store.volume) c.in_ok-plans.plans
     c.deref.result.now c.deref-2.result.now c.requires c.in-Ok.ensures.device (c.in_ok-plans.ensures ∙ c.plans.ensures)
-    (ap disk_view (c.in-Ok.ensures.volume ∙ c.in_ok-volume.ensures.volume)) (c.deref.ensures.value ∙ c.in_ok-reads.ensures)
+    (ap disk_view (c.in-Ok.ensures.volume ∙ c.in_ok-volume.ensures.volume ∙ none_spoiled _ _ _ none)) (c.deref.ensures.value ∙ c.in_ok-reads.ensures)
     (c.deref-2.ensures.value ∙ c.in_ok-writes.ensures)
 
 pub returns-in-Ok-clause-own : goal.returns-in-Ok-clause-own

@@ -1,16 +1,19 @@
-use Rattle.std.proofs.Common.{refl, take, None}
+use Rattle.std.proofs.Common.{◌∙◌, refl, take, None}
 use Rattle.std.proofs.lemmas.List.{take_more}
 use Rattle.deck_run.proofs.Lines.{open_at}
 use Rattle.deck_run.proofs.Found.{own_more}
-use Rattle.deck_run.proofs.Opened.{none_mounted, numbers_more, stands_more}
+use Rattle.deck_run.proofs.Opened.{made_more, none_made, none_mounted, numbers_more, stands_more}
 use Rattle.deck_run.proofs.open.open_devices.Goals as goal
 
 pub loop-i-init : goal.loop-i-init
 loop-i-init c = record {
   numbers = rw c.new-made.ensures.items refl;
-  mounted = λ p. rw c.new-made.ensures.items (none_mounted p);
+  mounted = λ p none. rw c.new-made.ensures.items (none_mounted p);
   own = rw c.new-made.ensures.items tt;
   count = c.device_count-i-end.ensures;
+  made = none_made c.args.deck.now.devices c.args.bay.now.made;
+  spoiled = refl;
+  taken = refl;
 }
 
 pub open_device-requires : goal.open_device-requires
@@ -25,10 +28,13 @@ loop-i-preserved c =
     record {
       numbers = rw (taken, c.in_ok-push.ensures.items, ← c.device_at.ensures)
           (numbers_more c.loop-i.made.items c.in_ok-open_device.field-0 (take c.loop-i.i ds) d c.loop-i.invariant.numbers c.in_ok-open_device.ensures.number);
-      mounted = λ p. rw (taken, c.in_ok-push.ensures.items, ← c.device_at.ensures)
-          (stands_more p c.args.deck.now c.loop-i.made.items c.in_ok-open_device.field-0 (take c.loop-i.i ds) d (c.loop-i.invariant.mounted p)
-          c.in_ok-open_device.ensures.mounted);
+      mounted = λ p none. rw (taken, c.in_ok-push.ensures.items, ← c.device_at.ensures)
+          (stands_more p c.args.deck.now c.loop-i.made.items c.in_ok-open_device.field-0 (take c.loop-i.i ds) d (c.loop-i.invariant.mounted p none)
+          (c.in_ok-open_device.ensures.mounted (c.loop-i.invariant.spoiled ∙ none)));
       own = own_more c.loop-i.made.items c.push.new.self.items c.in_ok-open_device.field-0 c.in_ok-push.ensures.items c.loop-i.invariant.own
           c.in_ok-open_device.ensures.own;
       count = c.loop-i.invariant.count;
+      made = made_more ds c.loop-i.i _ _ _ (rw c.loop-i.invariant.count at c.loop-i-test.true) c.loop-i.invariant.made c.in_ok-open_device.ensures.made;
+      spoiled = c.in_ok-open_device.ensures.spoiled ∙ c.loop-i.invariant.spoiled;
+      taken = c.in_ok-open_device.ensures.taken ∙ c.loop-i.invariant.taken;
     }

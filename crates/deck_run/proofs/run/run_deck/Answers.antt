@@ -8,7 +8,8 @@ use Rattle.deck_run.proofs.Closing.{report_whole}
 use Rattle.deck_run.proofs.run.run_deck.Goals as goal
 
 pub returns-clause-lines : goal.returns-clause-lines
-returns-clause-lines c =
-    report_whole c.in_ok-ran.ran.sub (run_of c.args.deck.now) c.in_ok-ran.ran.report c.record_devices.new.report c.record_frames.new.report c.in_ok-ran.ensures.stands
-    c.in_ok-ran.ensures.lines (c.in_ok-record_devices.ensures ∙ ap (λ l. c.in_ok-ran.ran.report ++ flat_map end_lines_of l) c.devices.ensures)
+returns-clause-lines c = λ none.
+    report_whole c.in_ok-ran.ran.sub (run_of c.args.deck.now) c.in_ok-ran.ran.report c.record_devices.new.report c.record_frames.new.report
+    (c.in_ok-ran.ensures.stands none)
+    (c.in_ok-ran.ensures.lines none) (c.in_ok-record_devices.ensures ∙ ap (λ l. c.in_ok-ran.ran.report ++ flat_map end_lines_of l) c.devices.ensures)
     (c.in_ok-record_frames.ensures ∙ ap (λ (p : Shared). c.record_devices.new.report ++ map frame_line p.pool.frames) c.pool.ensures)

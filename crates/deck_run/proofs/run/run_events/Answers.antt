@@ -15,9 +15,9 @@ unfolding decks.run_asked
 loop-line-init c = record {
   numbers = c.in_ok-sub.ensures.numbers;
   own = c.in_ok-sub.ensures.own;
-  left = record {
+  left = λ none. record {
     now = opened c.args.deck.now;
-    stands = c.in_ok-sub.ensures.stands;
+    stands = c.in_ok-sub.ensures.stands none;
     rest = refl;
     lines = ap (λ (l : List ReportLine). l ++ all_lines (run_lines (map asked_by c.args.deck.now.events) (opened c.args.deck.now)))
         c.new-report.ensures;
@@ -39,22 +39,22 @@ loop-line-preserved c =
     record {
       numbers = c.in-Ok.ensures.numbers ∙ c.loop-line.invariant.numbers;
       own = c.in-Ok.ensures.own;
-      left = line_done c.loop-line.sub c.do_line.new.sub c.loop-line.report c.do_line.new.report es c.loop-line.line-index c.line-item.result
+      left = λ none. line_done c.loop-line.sub c.do_line.new.sub c.loop-line.report c.do_line.new.report es c.loop-line.line-index c.line-item.result
           (run_of c.args.deck.now).behind (lines_of_run (run_of c.args.deck.now))
-          (rw same at c.loop-line-test.true) (rw same at c.line-item.is) c.in-Ok.ensures.stands c.in-Ok.ensures.lines c.loop-line.invariant.left;
+          (rw same at c.loop-line-test.true) (rw same at c.line-item.is) c.in-Ok.ensures.stands c.in-Ok.ensures.lines (c.loop-line.invariant.left none);
     }
 
 pub returns-clause-stands : goal.returns-clause-stands
 returns-clause-stands c =
     let same : c.as_slice-line-items.result.now ≡ c.args.deck.now.events = c.as_slice-line-items.ensures ∙ c.schedule.ensures in
-    (lines_over c.loop-line.sub c.loop-line.report c.args.deck.now.events c.loop-line.line-index (run_of c.args.deck.now).behind
-    (lines_of_run (run_of c.args.deck.now)) (rw same at c.loop-line-test.false) c.loop-line.invariant.left).stands
+    λ none. (lines_over c.loop-line.sub c.loop-line.report c.args.deck.now.events c.loop-line.line-index (run_of c.args.deck.now).behind
+    (lines_of_run (run_of c.args.deck.now)) (rw same at c.loop-line-test.false) (c.loop-line.invariant.left none)).stands
 
 pub returns-clause-lines : goal.returns-clause-lines
 returns-clause-lines c =
     let same : c.as_slice-line-items.result.now ≡ c.args.deck.now.events = c.as_slice-line-items.ensures ∙ c.schedule.ensures in
-    (lines_over c.loop-line.sub c.loop-line.report c.args.deck.now.events c.loop-line.line-index (run_of c.args.deck.now).behind
-    (lines_of_run (run_of c.args.deck.now)) (rw same at c.loop-line-test.false) c.loop-line.invariant.left).lines
+    λ none. (lines_over c.loop-line.sub c.loop-line.report c.args.deck.now.events c.loop-line.line-index (run_of c.args.deck.now).behind
+    (lines_of_run (run_of c.args.deck.now)) (rw same at c.loop-line-test.false) (c.loop-line.invariant.left none)).lines
 
 pub open_deck-requires : goal.open_deck-requires
 open_deck-requires c = devices_open c.args.deck.now c.requires

@@ -1,4 +1,4 @@
-use Rattle.std.proofs.Common.{◌≡◌, drop}
+use Rattle.std.proofs.Common.{◌≡◌, [], drop}
 use Rattle.run_report.specs.Report.{lines_of_run}
 use Rattle.subsystem_core.specs.Devices.{numbers_of}
 use Rattle.subsystem_defs.specs.Decks.{run_of}
@@ -11,5 +11,5 @@ abbrev pub invariant-loop-line : goal.invariant-loop-line
 invariant-loop-line l = record {
   numbers : numbers_of l.sub.devices.items ≡ numbers_in l.deck.devices;
   own : AreOwn l.sub.devices.items;
-  left : LinesLeft l.sub l.report (drop l.line-index l.deck.events) (run_of l.deck).behind (lines_of_run (run_of l.deck));
+  left : l.fn.bay.spoiled ≡ [] → LinesLeft l.sub l.report (drop l.line-index l.deck.events) (run_of l.deck).behind (lines_of_run (run_of l.deck));
 }

@@ -1,0 +1,52 @@
+-- The volumes of a run that go back to a bay, and what they hold then.
+use Rattle.std.specs.Prelude.{◌≡◌, ◌<◌, ℕ, List, [], ◌∷◌, ◌++◌, length, Option, Some, None, map, slice_index_or}
+use Rattle.ckd_types.specs.declared.paths.Side.TheVariants.{A}
+use Rattle.deck_text.specs.DeckLines.{DeckLines}
+use Rattle.device_outside.specs.Bay.{Bay}
+use Rattle.device_outside.specs.declared.bay.Taken.{Taken}
+use Rattle.device_outside.specs.declared.volume.Volume.{Ghosts}
+use Rattle.device_outside.specs.Disk.{Disk}
+use Rattle.device_core.specs.declared.device.Device.{Device}
+use Rattle.subsystem_defs.specs.Closing.{HandedOut}
+use Rattle.subsystem_defs.specs.Decks.{handed_out_of}
+
+abbrev pub IsKnownAs : List ℕ → Option (List ℕ) → Type 0
+IsKnownAs bytes None = Unit {0}
+IsKnownAs bytes (Some known) = bytes ≡ known
+
+-- of this device and side, after these calls, and holding on each track the bytes that are known of it
+pub record IsHandedOut (t : Taken) (h : HandedOut) : Type 0 where
+  pub device : t.device ≡ h.device
+  pub side : t.side ≡ h.side
+  pub reads : t.volume.reads ≡ h.calls.reads
+  pub writes : t.volume.writes ≡ h.calls.writes
+  pub tracks : (n : ℕ) → IsKnownAs (slice_index_or t.volume.tracks n []) (slice_index_or h.tracks n None)
+
+abbrev pub AreHandedOut : List Taken → List HandedOut → Type 0
+AreHandedOut [] [] = Unit {0}
+AreHandedOut [] (h ∷ hs) = ⊥
+AreHandedOut (t ∷ ts) [] = ⊥
+AreHandedOut (t ∷ ts) (h ∷ hs) = IsHandedOut t h × AreHandedOut ts hs
+
+-- The bay took as many more volumes as the deck has devices: those that its defined run hands out, where no track was spoiled
+pub record TakesBack (d : DeckLines) (old new : Bay) : Type 0 where
+  pub more : List Taken
+  pub taken : new.taken ≡ old.taken ++ more
+  pub number : length more ≡ length d.devices
+  pub are : old.spoiled ≡ [] → AreHandedOut more (handed_out_of d)
+
+-- each of the first tracks, as many as a device has at most, holds bytes
+abbrev pub HoldsBytes : Disk → Type 0
+HoldsBytes v = (t i : ℕ) → t < 960 → slice_index_or (slice_index_or v.tracks t []) i 0 < 256
+
+module _ {G : Ghosts Disk} where
+  -- the volume that stands in a device
+  abbrev pub taken_of : Device Disk G → Taken
+  taken_of x = record { device = x.store.number; side = A; volume = x.store.volume }
+
+  abbrev pub all_taken : List (Device Disk G) → List Taken
+  all_taken xs = map taken_of xs
+
+  abbrev pub AllHoldBytes : List (Device Disk G) → Type 0
+  AllHoldBytes [] = Unit {0}
+  AllHoldBytes (x ∷ xs) = HoldsBytes x.store.volume × AllHoldBytes xs

@@ -1,0 +1,76 @@
+//! The run of a deck over the volumes of a bay, and its report.
+
+ghost use Rattle.std.specs.Prelude.{◌≡◌, ◌≢◌, ◌≤◌, ◌+◌, [], IfOk, Ok, None, length, OnOk};
+ghost use Rattle.ckd_outside.specs.Causes.{Rose};
+ghost use Rattle.report_text.specs.Report.{report_text};
+ghost use Rattle.run_report.specs.Report.{report_of};
+ghost use Rattle.subsystem_core.specs.Devices.{numbers_of};
+ghost use Rattle.subsystem_defs.specs.Decks.{run_of};
+ghost use Rattle.deck_run.specs.Later.{first_later};
+ghost use Rattle.deck_run.specs.Opening.{numbers_in};
+ghost use Rattle.deck_run.specs.Standing.{StandsAs};
+ghost use Rattle.deck_top.specs.Handed.{TakesBack};
+ghost use Rattle.deck_top.specs.Run.{DeckRunsPlainly, WasRead};
+ghost use Rattle.deck_top.specs.Answers.{TellsDeck};
+
+use crate::give::give_back;
+use crate::task::Task;
+use crate::top::Status;
+use ckd_outside::Sink;
+use ckd_types::NoMemory;
+use deck_run::FinishedRun;
+use deck_text::Deck;
+use device_outside::{MemBay, MemVolume};
+use report_text::write_report;
+use std::alloc::Global;
+use subsystem_core::Subsystem;
+use subsystem_laws::run_is_plain;
+
+/// A deck's devices behind its run, and the lines of its report, but for the last one; and that the run is plain.
+fn run_deck(alloc: Global, deck: &Deck, bay: &mut MemBay) -> Result<FinishedRun, NoMemory>
+    requires served { first_later deck.now ≡ None }
+    requires read { WasRead deck.now }
+    ensures text { bay.old.spoiled ≡ [] → IfOk result (λ ran. report_text ran.report [] [] ≡ report_of deck.now) }
+    ensures plain { IfOk result (λ ran. DeckRunsPlainly deck.now) }
+    ensures stands { bay.old.spoiled ≡ [] → IfOk result (λ ran. StandsAs ran.sub (run_of deck.now).behind) }
+    ensures numbers { IfOk result (λ ran. numbers_of ran.sub.devices.items ≡ numbers_in deck.now.devices) }
+    ensures made { OnOk result (bay.new.made ≡ bay.old.made + length deck.now.devices) }
+    ensures spoiled { bay.new.spoiled ≡ bay.old.spoiled }
+    ensures taken { bay.new.taken ≡ bay.old.taken }
+{
+    run_is_plain();
+    let ran = deck_run::run_deck(alloc, deck, bay)?;
+    Ok(ran)
+}
+
+/// The volumes of the devices of a deck, given to the bay. It has made as many more as there are devices.
+fn take_back(deck: &Deck, sub: Subsystem<MemVolume>, bay: &mut MemBay)
+    requires numbers { numbers_of sub.devices.items ≡ numbers_in deck.now.devices }
+    requires room { length bay.old.taken + length deck.now.devices ≤ bay.old.made }
+    ensures spoiled { bay.new.spoiled ≡ bay.old.spoiled }
+    ensures volumes { (bay.old.spoiled ≡ [] → StandsAs sub (run_of deck.now).behind) → TakesBack deck.now bay.old bay.new }
+{
+    give_back(sub, bay);
+}
+
+pub(crate) fn report<K: Sink>(alloc: Global, deck: &Deck, sink: &mut K, bay: &mut MemBay) -> Status
+    requires served { first_later deck.now ≡ None }
+    requires read { WasRead deck.now }
+    ensures told { TellsDeck result Task.Run (Ok deck.now) bay.old bay.new (K.held sink.old) (K.held sink.new) }
+    ensures spoiled { bay.new.spoiled ≡ bay.old.spoiled }
+    ensures kept { result ≢ Status.Reported → bay.new.taken ≡ bay.old.taken }
+    ensures later { K.faults sink.old ≤ K.faults sink.new }
+    ensures write { result ≡ Status.WriteFault → Rose (K.faults sink.old) (K.faults sink.new) }
+{
+    let _taken = bay.len();
+    let Ok(ran) = run_deck(alloc, deck, bay) else {
+        return Status::NoMemory;
+    };
+    match write_report(sink, &ran.report, &[], &[]) {
+        Ok(()) => {
+            take_back(deck, ran.sub, bay);
+            Status::Reported
+        }
+        Err(_) => Status::WriteFault,
+    }
+}

@@ -1,0 +1,170 @@
+use ckd_ccw::Program;
+use ckd_types::{Bytes, Ccw, DeviceNo, Geometry, PathNo, Side, TrackNo};
+use deck_plan::PathPlans;
+use device_core::Device;
+use device_outside::MemVolume;
+use frame_pool::Pool;
+use plain_defs::{How, Item};
+use std::alloc::Global;
+use std::test::Fail;
+use subsystem_core::{EventEnd, Subsystem};
+use subsystem_defs::{Event, OrderFault};
+
+/// Define extent over cylinder 0.
+const EXTENT: &[u8] = &[0x40, 0xc0, 0x10, 0, 0, 0, 0, 0, 0, 0, 0, 0, 0, 0, 0, 0x0e];
+
+/// Locate record: one read of record 0 of track 0.
+const LOCATE: &[u8] = &[6, 0, 0, 1, 0, 0, 0, 0, 0, 0, 0, 0, 0, 0, 0, 0];
+
+fn word(alloc: Global, command: u8, flags: u8, count: u16, given: &[u8]) -> Result<Ccw, Fail> {
+    Ok(Ccw {
+        command,
+        flags,
+        count,
+        given: Bytes::from_slice(alloc, given)?,
+    })
+}
+
+/// Path 1 has one program: it reads record 0 of track 0.
+fn plans(alloc: Global) -> Result<PathPlans, Fail> {
+    let path = PathNo::new(1).ok_or("path")?;
+    let mut words = Vec::new(alloc);
+    words.push(word(alloc, 0x63, Ccw::CHAIN, 16, EXTENT)?)?;
+    words.push(word(alloc, 0x47, Ccw::CHAIN, 16, LOCATE)?)?;
+    words.push(word(alloc, 0x06, 0, 8, &[])?)?;
+    let mut plans = PathPlans::new(alloc);
+    plans.push(path, Program::new(words).ok().ok_or("word")?)?;
+    Ok(plans)
+}
+
+/// Device 5 of one cylinder, over this volume.
+fn device(alloc: Global, d: DeviceNo, volume: MemVolume) -> Result<Device<MemVolume>, Fail> {
+    if volume.len() != 15 {
+        return Err("volume".into());
+    }
+    match Device::open(alloc, d, Geometry::D3390, 1, volume, plans(alloc)?) {
+        Ok(device) => Ok(device),
+        Err(_) => Err("memory".into()),
+    }
+}
+
+fn subsystem(alloc: Global, d: DeviceNo, volume: MemVolume) -> Result<Subsystem<MemVolume>, Fail> {
+    let mut devices = Vec::new(alloc);
+    devices.push(device(alloc, d, volume)?)?;
+    Ok(Subsystem::new(Pool::new(alloc, 1, 1)?, devices)?)
+}
+
+fn event(sub: &mut Subsystem<MemVolume>, e: &Event) -> Result<EventEnd, Fail> {
+    if sub.may_come(*e) {
+        return Ok(sub.event(*e)?);
+    }
+    Err("event".into())
+}
+
+fn device_of(sub: &Subsystem<MemVolume>, d: DeviceNo) -> Result<&Device<MemVolume>, Fail> {
+    if sub.has_device(d) {
+        return Ok(sub.device(d));
+    }
+    Err("device".into())
+}
+
+/// The status and residual count of the end of the command that ended last, and its sense byte 0.
+fn last_end(sub: &Subsystem<MemVolume>, d: DeviceNo) -> Result<(u8, u16, Option<u8>), Fail> {
+    let end = device_of(sub, d)?.last_end().ok_or("end")?;
+    let sense = end.sense.as_ref().map(|s| s.bytes()[0]);
+    Ok((end.status.0, end.residual, sense))
+}
+
+/// Whether a device's journal is one program that was checked.
+fn was_checked(sub: &Subsystem<MemVolume>, d: DeviceNo) -> Result<bool, Fail> {
+    match device_of(sub, d)?.journal() {
+        [Item::Program(entry)] => Ok(matches!(entry.how, How::Checked)),
+        _ => Ok(false),
+    }
+}
+
+#[test]
+fn bytes_that_are_no_track_end_a_command_with_data_check(rt: HostRuntime) -> Result<(), Fail> {
+    let alloc = rt.alloc();
+    let d = DeviceNo::new(5).ok_or("device")?;
+    let path = PathNo::new(1).ok_or("path")?;
+    let t = TrackNo::new(0).ok_or("track")?;
+    let mut volume = MemVolume::new(alloc, 1, &[], &[])?;
+    volume.spoil(t, &[0; 3]);
+    let mut sub = subsystem(alloc, d, volume)?;
+    let _started = event(&mut sub, &Event::Start(path, d))?;
+    let _extent = event(&mut sub, &Event::Step(d))?;
+    let _locate = event(&mut sub, &Event::Step(d))?;
+    assert_eq!(rt; last_end(&sub, d)?, (0x0e, 16, Some(8)));
+    assert!(rt; was_checked(&sub, d)?);
+    assert_eq!(rt; device_of(&sub, d)?.lost().len(), 0);
+    Ok(())
+}
+
+/// Events one after another, as long as they may come.
+fn ends_of(
+    alloc: Global,
+    sub: &mut Subsystem<MemVolume>,
+    events: &[Event],
+) -> Result<Option<usize>, Fail> {
+    if sub.may_all_come(events) {
+        return Ok(Some(sub.run(alloc, events)?.len()));
+    }
+    Ok(None)
+}
+
+#[test]
+fn events_come_one_after_another(rt: HostRuntime) -> Result<(), Fail> {
+    let alloc = rt.alloc();
+    let d = DeviceNo::new(5).ok_or("device")?;
+    let path = PathNo::new(1).ok_or("path")?;
+    let mut sub = subsystem(alloc, d, MemVolume::new(alloc, 1, &[], &[])?)?;
+    let events = [
+        Event::Start(path, d),
+        Event::Step(d),
+        Event::Step(d),
+        Event::Step(d),
+    ];
+    assert_eq!(rt; ends_of(alloc, &mut sub, &events)?, Some(4));
+    assert_eq!(rt; last_end(&sub, d)?, (0x0c, 0, None));
+    let (_pool, devices) = sub.into_parts();
+    assert_eq!(rt; devices.len(), 1);
+    Ok(())
+}
+
+fn replaced(
+    sub: &mut Subsystem<MemVolume>,
+    d: DeviceNo,
+    volume: MemVolume,
+) -> Result<EventEnd, Fail> {
+    let cylinders = device_of(sub, d)?.cylinders();
+    if volume.len() != usize::from(cylinders) * 15 {
+        return Err("volume".into());
+    }
+    match sub.replace(d, Side::A, volume) {
+        Ok(end) => Ok(end),
+        Err(_) => Err("memory".into()),
+    }
+}
+
+/// Whether a replacement was done, or the side was up.
+fn was_done(end: &EventEnd) -> Option<bool> {
+    match end {
+        EventEnd::Done => Some(true),
+        EventEnd::Refused(OrderFault::Up) => Some(false),
+        _ => None,
+    }
+}
+
+#[test]
+fn a_lost_volume_is_replaced_once(rt: HostRuntime) -> Result<(), Fail> {
+    let alloc = rt.alloc();
+    let d = DeviceNo::new(5).ok_or("device")?;
+    let mut sub = subsystem(alloc, d, MemVolume::new(alloc, 1, &[], &[])?)?;
+    let _lost = event(&mut sub, &Event::FailVolume(d, Side::A))?;
+    let first = replaced(&mut sub, d, MemVolume::new(alloc, 1, &[], &[])?)?;
+    assert_eq!(rt; was_done(&first), Some(true));
+    let second = replaced(&mut sub, d, MemVolume::new(alloc, 1, &[], &[])?)?;
+    assert_eq!(rt; was_done(&second), Some(false));
+    Ok(())
+}
