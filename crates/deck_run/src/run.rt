@@ -3,7 +3,10 @@ ghost use Rattle.report_text.specs.declared.line.ReportLine.TheVariants as lines
 ghost use Rattle.run_report.specs.Report.{lines_of_run, report_lines};
 ghost use Rattle.subsystem_defs.specs.Decks.{run_of};
 ghost use Rattle.deck_run.specs.Later.{first_later};
-ghost use Rattle.deck_run.specs.Standing.{StandsAs};
+ghost use Rattle.subsystem_laws.specs.AllSound.{AreSound};
+ghost use Rattle.subsystem_laws.specs.Served.{IsServedDeck};
+ghost use Rattle.subsystem_laws.specs.SlotsApart.{AreApart};
+ghost use Rattle.deck_run.specs.Standing.{StandsAs, all_stood};
 
 use crate::close::{record_devices, record_frames};
 use crate::line::do_line;
@@ -45,6 +48,8 @@ pub fn run_deck(alloc: Global, deck: &Deck) -> Result<FinishedRun, NoMemory>
     requires { first_later deck.now ≡ None }
     ensures stands { IfOk result (λ ran. StandsAs ran.sub (run_of deck.now).behind) }
     ensures lines { IfOk result (λ ran. ran.report ++ lines.Finish ∷ [] ≡ report_lines (run_of deck.now)) }
+    ensures slots { IfOk result (λ ran. AreApart ran.sub.pool.pool.used (all_stood ran.sub.devices.items)) }
+    ensures sound { IsServedDeck deck.now → IfOk result (λ ran. AreSound (all_stood ran.sub.devices.items)) }
 {
     let ran = run_events(alloc, deck)?;
     let sub = ran.sub;
