@@ -4,8 +4,11 @@ ghost use Rattle.run_report.specs.Report.{lines_of_run, report_lines};
 ghost use Rattle.subsystem_defs.specs.Decks.{run_of};
 ghost use Rattle.subsystem_core.specs.Devices.{numbers_of};
 ghost use Rattle.deck_run.specs.Later.{first_later};
+ghost use Rattle.subsystem_laws.specs.AllSound.{AreSound};
+ghost use Rattle.subsystem_laws.specs.Served.{IsServedDeck};
+ghost use Rattle.subsystem_laws.specs.SlotsApart.{AreApart};
 ghost use Rattle.deck_run.specs.Opening.{numbers_in};
-ghost use Rattle.deck_run.specs.Standing.{StandsAs};
+ghost use Rattle.deck_run.specs.Standing.{StandsAs, all_stood};
 
 use crate::close::{record_devices, record_frames};
 use crate::line::do_line;
@@ -51,6 +54,8 @@ pub fn run_deck(alloc: Global, deck: &Deck, bay: &mut MemBay) -> Result<Finished
     requires { first_later deck.now ≡ None }
     ensures stands { bay.old.spoiled ≡ [] → IfOk result (λ ran. StandsAs ran.sub (run_of deck.now).behind) }
     ensures lines { bay.old.spoiled ≡ [] → IfOk result (λ ran. ran.report ++ lines.Finish ∷ [] ≡ report_lines (run_of deck.now)) }
+    ensures slots { bay.old.spoiled ≡ [] → IfOk result (λ ran. AreApart ran.sub.pool.pool.used (all_stood ran.sub.devices.items)) }
+    ensures sound { bay.old.spoiled ≡ [] → IsServedDeck deck.now → IfOk result (λ ran. AreSound (all_stood ran.sub.devices.items)) }
     ensures numbers { IfOk result (λ ran. numbers_of ran.sub.devices.items ≡ numbers_in deck.now.devices) }
     ensures made { OnOk result (bay.new.made ≡ bay.old.made + length deck.now.devices) }
     ensures spoiled { bay.new.spoiled ≡ bay.old.spoiled }

@@ -213,7 +213,8 @@ module _ {K : Type 0} (had : Bool → Type 0) (hears : Hearing Image K) where
       by_memory same none false quiet r = elim r [ ]
 
       by_need : (same : s.geometry ≡ d.store.geometry) → (need : Option ℕ) → need_of chain ≡ need → {u v z : Calls} {y : WholeDevice} {a : Stepped} →
-          Noticed had hears d u s v → Ran had hears (command_at contents (heard_by s) o.path chain need) v y (Some a) z → CommandCame had hears d o chain u a y z
+          Noticed had hears d u s v → Ran had hears (command_at contents (heard_by s) o.path chain need) v y (Some a) z →
+          CommandCame had hears d o chain u a y z
       by_need same (Some t) needs quiet r =
           let x = split (follow contents (tracks_of s) t chain t s) (on_tracks contents (heard_by s) o.path chain) r in
           on_tracks_came t needs quiet x.answer x.first x.rest

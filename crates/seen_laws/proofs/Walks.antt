@@ -138,7 +138,8 @@ module _ {K : Type 0} (had : Bool → Type 0) (hears : Hearing Image K) where
     -- what a look at one track leads to
     data LookedSo (chain : ChainState) (t : ℕ) (s : DeviceStore) (u : Calls) : DeviceStore → Went → Calls → Type 0 where
       look_checks : {z : DeviceStore} {w : Calls} {turn : Turn} {e : _} → turn.came ≡ Checks e → LookedSo chain t s u z (Over turn) w
-      look_over : {z : DeviceStore} {w : Calls} {turn : Turn} (i : Image) (y : DeviceStore) (v : Calls) → Saw had hears s t u i y v → Wrote had hears (usage_of chain) t y v w →
+      look_over : {z : DeviceStore} {w : Calls} {turn : Turn} (i : Image) (y : DeviceStore) (v : Calls) → Saw had hears s t u i y v →
+          Wrote had hears (usage_of chain) t y v w →
           ((n : ℕ) (tracks : ℕ → Track) (answer : LocalAct → Settled) → i ≡ record { geometry = g; track = tracks t } →
           EndsAs (fed (suc n) tracks answer chain) turn.chain turn.came) → LookedSo chain t s u z (Over turn) w
       look_on : {z : DeviceStore} {w : Calls} {next : ChainState} {q : ℕ} (i : Image) → Saw had hears s t u i z w → looks next q →
