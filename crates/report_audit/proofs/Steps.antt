@@ -1,5 +1,6 @@
 -- What an audit comes to behind one line more.
-use Rattle.std.proofs.Common.{◌≡◌, ◌<◌, ◌+◌, ◌∷◌, [], ◌++◌, ℕ, ◌-◌, zero, suc, List, Bool, true, false, Option, Some, None, Result, Ok, Err, length, get_or, take, drop}
+use Rattle.std.proofs.Common.{◌≡◌, ◌<◌, ◌+◌, ◌∷◌, [], ◌++◌, ℕ, ◌-◌, zero, suc, List, Bool, true, false, Option, Some, None, Result, Ok, Err, length, get_or}
+use Rattle.std.proofs.Common.{take, drop}
 use Rattle.std.proofs.Common.{refl, sym, ap, subst, ◌∙◌, arith, add-one, append_assoc, length-append}
 use Rattle.std.specs.Prelude.{codes, option_map}
 use Rattle.std.specs.List.{flat_map}
@@ -22,7 +23,8 @@ use Rattle.report_auditor.proofs.LineLemmas.{whole_rest}
 use Rattle.report_auditor.specs.declared.auditor.Auditor.{Auditor}
 use Rattle.report_auditor.specs.Auditor.{IsAuditOf, is_nothing}
 use Rattle.report_audit.specs.Lines.{IsOneLine}
-use Rattle.report_audit.specs.Progress.{Progress, Comes, Comes_by, GoesOn, JudgedIn, Reporting, behind, behind_at, deck_behind, deck_end, fault_answer, is_over, is_reporting, over_by, report_end, some_auditor, status_of}
+use Rattle.report_audit.specs.Progress.{Progress, Comes, Comes_by, GoesOn, JudgedIn, Reporting, behind, behind_at, deck_behind, deck_end, fault_answer, is_over}
+use Rattle.report_audit.specs.Progress.{is_reporting, over_by, report_end, some_auditor, status_of}
 use Rattle.report_audit.proofs.Cuts.{cut_ended, cut_last, found_behind, next}
 
 -- Before REPORT
@@ -118,11 +120,13 @@ pub over_stays : (p : Progress) (text rest : List ℕ) → is_over p ≡ true �
 over_stays p text rest over answer comes = over_goes p.status p.auditor p text rest answer over comes
 
 -- before REPORT, what it comes to
-pub comes_behind : (p : Progress) (text : List ℕ) (answer : AuditStatus) → p.status ≡ None → p.auditor ≡ None → Comes p text answer → answer ≡ behind p.lines p.deck text
+pub comes_behind : (p : Progress) (text : List ℕ) (answer : AuditStatus) → p.status ≡ None → p.auditor ≡ None → Comes p text answer
+    → answer ≡ behind p.lines p.deck text
 comes_behind p text answer front deck comes =
     subst (λ (a : Option Auditor). Comes_by None a p text answer) deck (subst (λ (s : Option AuditStatus). Comes_by s p.auditor p text answer) front comes)
 
-pub behind_comes : (p : Progress) (text : List ℕ) (answer : AuditStatus) → p.status ≡ None → p.auditor ≡ None → answer ≡ behind p.lines p.deck text → Comes p text answer
+pub behind_comes : (p : Progress) (text : List ℕ) (answer : AuditStatus) → p.status ≡ None → p.auditor ≡ None → answer ≡ behind p.lines p.deck text
+    → Comes p text answer
 behind_comes p text answer front deck is =
     subst (λ (s : Option AuditStatus). Comes_by s p.auditor p text answer) (sym front) (subst (λ (a : Option Auditor). Comes_by None a p text answer) (sym deck) is)
 
@@ -166,7 +170,8 @@ comes_reporting q auditor text answer front is comes =
 known_comes : (q : Progress) (text : List ℕ) (answer known : AuditStatus) → q.status ≡ Some known → answer ≡ known → Comes q text answer
 known_comes q text answer known is same = subst (λ (s : Option AuditStatus). Comes_by s q.auditor q text answer) (sym is) same
 
-opens_by : (p q : Progress) (r : Result DeckLines DeckFault) (text rest : List ℕ) (answer : AuditStatus) → Opens p q r → drop 1 (cut_lines text) ≡ cut_lines rest
+opens_by : (p q : Progress) (r : Result DeckLines DeckFault) (text rest : List ℕ) (answer : AuditStatus) → Opens p q r
+    → drop 1 (cut_lines text) ≡ cut_lines rest
     → answer ≡ deck_behind p.lines r text (Some 0) → Comes q rest answer
 opens_by p q (Ok deck) text rest answer opens cut is =
     reporting_comes q opens.0 rest answer opens.1 opens.2

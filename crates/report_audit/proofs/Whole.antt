@@ -124,7 +124,8 @@ same_read text read (Some rest) r = elim (cases_lt (length read) 268435457) [
   | inr long ↦ read_long read (omega (arith, long)) ∙ sym (read_long text (omega (arith, long, ap length r.read, length-append read rest)))
 ]
 
-came_of : (status : AuditStatus) (before after : Option (List ℕ)) (text : List ℕ) → before ≡ Some text → IsReadBack before after status → status ≡ read_back text
+came_of : (status : AuditStatus) (before after : Option (List ℕ)) (text : List ℕ) → before ≡ Some text → IsReadBack before after status
+    → status ≡ read_back text
 came_of status before after text is came =
     came.comes ∙ same_read text came.text after (subst (λ (b : Option (List ℕ)). Reads b after came.text) is came.reads)
 

@@ -1,5 +1,6 @@
 -- A line that one device judges makes of an auditor what it makes of the audited state.
-use Rattle.std.proofs.Common.{◌≡◌, ◌≤◌, ◌+◌, ℕ, zero, suc, List, [], ◌∷◌, length, drop, Option, Some, None, Bool, true, false, cond, refl, arith, sym, ap, subst, ◌∙◌, inl, inr}
+use Rattle.std.proofs.Common.{◌≡◌, ◌≤◌, ◌+◌, ℕ, zero, suc, List, [], ◌∷◌, length, drop, Option, Some, None, Bool, true, false, cond, refl, arith, sym, ap}
+use Rattle.std.proofs.Common.{subst, ◌∙◌, inl, inr}
 use Rattle.std.specs.Prelude.{◌&&◌, ◌⊎◌, ⊤, map, nat_lt, slice_get, slice_set}
 use Rattle.std.proofs.Common.{rules}
 use Rattle.std.proofs.Math.ListN.{drop_of_length-le}
@@ -14,7 +15,8 @@ use Rattle.deck_text.specs.Plans.{plans_of}
 use Rattle.report_text.specs.declared.answers.LooseAnswer.TheVariants as loose
 use Rattle.report_text.specs.declared.line.ReportLine.{ReportLine}
 use Rattle.report_text.specs.declared.line.ReportLine.TheVariants as lines
-use Rattle.report_auditor.specs.Auditor.{AreKept, ArePowered, Fits, IsAt, IsAuditOf, IsFor, IsJudgedAt, Makes, NoneRuns, OneKept, gone_on, is_quiet, kept_outline, next_place, place_from}
+use Rattle.report_auditor.specs.Auditor.{AreKept, ArePowered, Fits, IsAt, IsAuditOf, IsFor, IsJudgedAt, Makes, NoneRuns, OneKept, gone_on, is_quiet}
+use Rattle.report_auditor.specs.Auditor.{kept_outline, next_place, place_from}
 use Rattle.report_auditor.specs.declared.auditor.Auditor.{Auditor}
 use Rattle.deck_audit.specs.declared.kept.Kept.{Kept}
 use Rattle.deck_audit.specs.declared.kept.Then.{Then}

@@ -12,7 +12,8 @@ use Rattle.report_text.specs.declared.answers.LooseAnswer.TheVariants as loose
 use Rattle.report_text.specs.declared.answers.OrderAnswer.TheVariants as order_answers
 use Rattle.report_text.specs.declared.line.ReportLine.{ReportLine}
 use Rattle.report_text.specs.declared.line.ReportLine.TheVariants as lines
-use Rattle.report_auditor.specs.Auditor.{AllKept, FitsTotals, IsAuditOf, IsFor, Makes, NoneRuns, cut_at, dark_kept, gone_on, is_quiet, kept_outline, lent_runs, loose_at, order_told, taken_back, totals_due}
+use Rattle.report_auditor.specs.Auditor.{AllKept, FitsTotals, IsAuditOf, IsFor, Makes, NoneRuns, cut_at, dark_kept, gone_on, is_quiet, kept_outline, lent_runs}
+use Rattle.report_auditor.specs.Auditor.{loose_at, order_told, taken_back, totals_due}
 use Rattle.report_auditor.specs.declared.auditor.Auditor.{Auditor}
 use Rattle.report_auditor.specs.declared.told.OrderTold.TheVariants as told
 use Rattle.deck_audit.specs.declared.kept.Kept.{Kept}

@@ -11,14 +11,6 @@ ends_here b bytes is = grind (arith, nat_tests)
 goes_onto : (b : ℕ) (bytes : List ℕ) → b ≢ 10 → cut_lines (b ∷ bytes) ≡ onto_first b (cut_lines bytes)
 goes_onto b bytes ne = grind (arith, nat_tests)
 
-pub split_at : (text : List ℕ) (i : ℕ) → ((k : ℕ) → k < i → get_or text k 0 ≢ 10) → i < length text → get_or text i 0 ≡ 10
-    → cut_lines text ≡ take i text ∷ cut_lines (drop (suc i) text)
-split_at [] i none lt is = absurd (omega arith)
-split_at (b ∷ bytes) zero none lt is = ends_here b bytes is
-split_at (b ∷ bytes) (suc i) none lt is =
-    goes_onto b bytes (none 0 (omega arith))
-    ∙ ap (λ (l : List (List ℕ)). onto_first b l) (split_at bytes i (λ k h. none (suc k) (omega (arith, h))) (omega (arith, lt)) is)
-
 pub no_split : (text : List ℕ) → ((k : ℕ) → k < length text → get_or text k 0 ≢ 10) → 0 < length text → cut_lines text ≡ text ∷ []
 no_split [] none some = absurd (omega arith)
 no_split (b ∷ []) none some = goes_onto b [] (none 0 (omega arith))

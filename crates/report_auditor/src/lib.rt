@@ -3,12 +3,10 @@
 
 mod auditor;
 mod devices;
-mod lines;
 mod status;
 mod texts;
 mod told;
 
 pub use auditor::{Auditor, outlines_are_same};
-pub use lines::{next_line, report_from};
 pub use status::{AuditStatus, AuditWhy, code_of};
 pub use texts::{write_no, write_no_report, write_usage, write_yes};
