@@ -11,8 +11,6 @@ mod loosed;
 mod open;
 mod pass;
 mod run;
-#[cfg(test)]
-mod tests;
 
 pub use later::first_later;
 pub use open::{has_open_devices, open_deck};

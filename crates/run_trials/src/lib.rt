@@ -1,0 +1,8 @@
+//! Trials of the tracks of a device and of the run of a deck, of what no clause says: that calls which may lack memory have it
+//! with ample memory, and what a few decks give. They stand here, so that no large crate is proved once more for them.
+#![tactic(auto)]
+
+#[cfg(test)]
+mod runs;
+#[cfg(test)]
+mod stores;
