@@ -11,9 +11,7 @@ mod loosed;
 mod open;
 mod pass;
 mod run;
-#[cfg(test)]
-mod tests;
 
 pub use later::first_later;
-pub use open::{has_open_devices, open_deck};
+pub use open::open_deck;
 pub use run::{FinishedRun, run_deck};

@@ -32,22 +32,6 @@ pub(crate) fn is_behind(last: Option<u8>, number: u8) -> bool
     }
 }
 
-/// Whether the numbers of a deck's devices rise, and each has 1 to 64 cylinders.
-#[tactic(auto, using(crate::proofs::Lines::open_more, crate::proofs::Lines::open_none))]
-pub fn has_open_devices(deck: &Deck) -> bool
-    ensures { result ≡ are_open deck.now.devices }
-{
-    let mut last = None;
-    for i in 0..deck.device_count() {
-        let line = deck.device_at(i);
-        if !is_behind(last, line.number.get()) || !is_open_device(line) {
-            return false;
-        }
-        last = Some(line.number.get());
-    }
-    true
-}
-
 fn is_same(a: bool, b: bool) -> bool
     ensures { result ≡ is_same a b }
 {

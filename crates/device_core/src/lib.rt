@@ -21,8 +21,6 @@ mod second;
 mod seen;
 mod start;
 mod step;
-#[cfg(test)]
-mod tests;
 mod turns;
 
 pub use device::Device;

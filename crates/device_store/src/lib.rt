@@ -18,8 +18,6 @@ mod settle;
 mod sides;
 mod stage;
 mod store;
-#[cfg(test)]
-mod tests;
 mod through;
 mod write;
 

@@ -5,8 +5,6 @@
 mod answers;
 mod law;
 mod record;
-#[cfg(test)]
-mod tests;
 mod told;
 mod work;
 
@@ -15,9 +13,6 @@ pub use law::{
     acts_come_to_a_history, events_show_a_history, histories_show, one_device_tells,
     quiet_events_tell_nothing, report_is_text, same_lines_are_told,
 };
-pub use record::{
-    Calls, Gained, over_of, record_event, record_order, record_power_of, record_reset,
-    record_start, record_work,
-};
+pub use record::{Calls, Gained, over_of, record_event, record_order, record_power_of};
 pub use told::RunningProgram;
 pub use work::work_told;

@@ -1,16 +1,12 @@
 ghost use Rattle.std.specs.Prelude.{◌≡◌, ◌++◌, ◌∷◌, [], OnOk, map};
-ghost use Rattle.report_text.specs.declared.event.Happened.TheVariants as did;
 ghost use Rattle.report_text.specs.declared.line.ReportLine.TheVariants as lines;
 ghost use Rattle.report_text.specs.Events.{loosed_line, program_over_lines};
-ghost use Rattle.run_report.specs.Answers.{order_answer, start_answer};
+ghost use Rattle.run_report.specs.Answers.{order_answer};
 ghost use Rattle.run_report.specs.Beside.{over_of, program_over};
-ghost use Rattle.run_report.specs.Events.{work_told};
 ghost use Rattle.run_report.specs.OneDevice.{lines_by, power_lines_by};
 
-use crate::answers::{how_over, order_answer, start_answer};
-use crate::told::RunningProgram;
-use crate::work::work_told;
-use ckd_types::{DeviceNo, NoMemory, PathNo};
+use crate::answers::{how_over, order_answer};
+use ckd_types::{DeviceNo, NoMemory};
 use plain_defs::{Entry, Item};
 use report_text::{Happened, Loosed, Order, ProgramOver, ReportLine, RunEvent, RunRecord};
 use subsystem_defs::EventEnd;
@@ -70,56 +66,6 @@ pub fn record_event(
         writes: calls.writes,
         over: over_of(device, gained.items),
     })
-}
-
-/// Records a start. Nothing else comes with it.
-pub fn record_start(
-    run: &mut RunRecord,
-    path: PathNo,
-    device: DeviceNo,
-    end: &EventEnd,
-) -> Result<(), NoMemory>
-    ensures { OnOk result (run.new ≡ run.old ++ lines.Start path device (start_answer end.now) ∷ []) }
-{
-    run.push(ReportLine::Start(path, device, start_answer(end)))
-}
-
-/// Records a step or work in the background; `idle` is told where there was nothing to do.
-pub fn record_work(
-    run: &mut RunRecord,
-    device: DeviceNo,
-    running: &Option<RunningProgram>,
-    idle: Happened,
-    end: EventEnd,
-    gained: &Gained,
-    calls: Calls,
-) -> Result<(), NoMemory>
-    ensures { OnOk result (run.new ≡ run.old ++ lines_by device (work_told device running.now idle end) gained.now.acts.now calls.reads calls.writes gained.now.items.now) }
-{
-    record_event(
-        run,
-        device,
-        work_told(device, running, idle, end),
-        gained,
-        calls,
-    )
-}
-
-/// Records a reset, with the program that it cut.
-pub fn record_reset(
-    run: &mut RunRecord,
-    path: PathNo,
-    device: DeviceNo,
-    items: &[Item],
-) -> Result<(), NoMemory>
-    ensures { OnOk result (run.new ≡ run.old ++ lines_by device (did.Reset path device) [] 0 0 items.now) }
-{
-    let gained = Gained { acts: &[], items };
-    let calls = Calls {
-        reads: 0,
-        writes: 0,
-    };
-    record_event(run, device, Happened::Reset(path, device), &gained, calls)
 }
 
 fn record_over(run: &mut RunRecord, over: &Option<ProgramOver>) -> Result<(), NoMemory>

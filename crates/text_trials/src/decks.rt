@@ -10,25 +10,8 @@ const FRONT: &[u8] = b"DECK 1\nCACHE 1\nSTORE 0\nDEVICE 0 3390 1\n";
 const FORMS: &[u8] =
     b"DECK 1\nCACHE 4096\nSTORE 1024\nDEVICE 0 3390 1\nDEVICE 15 3380 64\nFAULT 0 READ 1\nFAULT 15 WRITE 4294967295\nPROGRAM 4 15\nCCW 07 60 6 0000000000AF\nCCW 1E 00 65535\nEND\nPROGRAM 1 0\nCCW 03 00 1\nEND\nPROGRAM 4 15\nCCW 03 20 2\nEND\nEVENTS\nSTART 4 15\nSTEP 0\nRUN 0\nBACK 15\nSETTLE 15\nRESET 1 0\nFAIL CACHE\nFAIL STORE\nFAIL VOLUME 0 A\nREPAIR CACHE\nREPAIR STORE\nREPLACE 15 B\nPAIR 0 15\nUNPAIR 0\nSUSPEND 0\nRESUME 0\n";
 
-/// What stands behind the first four lines.
-const BEHIND: [(&[u8], u32, DeckWhy); 13] = [
-    (b"EVENTS\r", 5, DeckWhy::Byte),
-    (b" * note\n", 5, DeckWhy::Word),
-    (
-        b"PROGRAM 1 0\nCCW 03 00 1\nEND\nFAULT 0 READ 1\n",
-        8,
-        DeckWhy::Order,
-    ),
-    (b"EVENTS\nFAIL CACHE 0 A\n", 6, DeckWhy::Words),
-    (b"FAULT 0 READ 01\n", 5, DeckWhy::Number),
-    (b"DEVICE 0 3390 1\n", 5, DeckWhy::Number),
-    (b"PROGRAM 1 0\nCCW 03 00 1 0\n", 6, DeckWhy::Hex),
-    (
-        b"PROGRAM 1 0\nCCW 03 40 1\n* note\nCCW 00 00 1\nEND\n",
-        8,
-        DeckWhy::Program,
-    ),
-    (b"PROGRAM 1 0\nCCW 03 00 1\n", 7, DeckWhy::Unfinished),
+/// What stands behind the first four lines: each has a later reason too.
+const BEHIND: [(&[u8], u32, DeckWhy); 4] = [
     (b"FALT\t\n", 5, DeckWhy::Byte),
     (b"FAULT 1 REED 0\n", 5, DeckWhy::Words),
     (b"PROGRAM 1 0\nCCW 3 00 70000\n", 6, DeckWhy::Number),

@@ -1,7 +1,7 @@
-use crate::{DeviceStore, Peeked};
 use ckd_types::{DeviceNo, Geometry, Mode, Side, TrackNo};
 use device_defs::{Did, Usage};
 use device_outside::{MemVolume, NoFrames, NoKeep};
+use device_store::{DeviceStore, Peeked};
 use loss_model::Loss;
 use std::test::Fail;
 
