@@ -36,16 +36,6 @@ use Rattle.subsystem_core.specs.Places.{are_rising, is_before}
 use Rattle.subsystem_defs.specs.Decks.{failing_of, is_same}
 use Rattle.deck_run.specs.Opening.{is_open_device, is_behind, are_open_behind, numbers_in}
 
-module _ (ds : List DeviceLine) (i : ℕ) (last : Option ℕ) (d : DeviceLine) (inside : i < length ds) (is : d ≡ get_or ds i d) where
-  pub open_more : are_open_behind last (drop i ds)
-      ≡ cond (is_behind last d.number && is_open_device d) (are_open_behind (Some d.number) (drop (i + 1) ds)) false
-  open_more =
-      at_drop_more (are_open_behind last) ds i d inside
-      ∙ ap (λ (x : DeviceLine). cond (is_behind last x.number && is_open_device x) (are_open_behind (Some x.number) (drop (i + 1) ds)) false) (sym is)
-
-pub open_none : (ds : List DeviceLine) (i : ℕ) (last : Option ℕ) → length ds ≤ i → are_open_behind last (drop i ds) ≡ true
-open_none ds i last past = at_drop_all (are_open_behind last) ds i past
-
 module _ (fs : List FaultLine) (write : Bool) (n i : ℕ) (f : FaultLine) (inside : i < length fs) (is : f ≡ get_or fs i f) where
   pub failing_more : failing_of write n (drop i fs)
       ≡ cond ((f.device == n) && is_same f.write write) (f.call ∷ failing_of write n (drop (i + 1) fs)) (failing_of write n (drop (i + 1) fs))
