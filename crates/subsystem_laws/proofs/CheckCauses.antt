@@ -61,7 +61,7 @@ find_lost (false ∷ l) = behind (find_lost l)
     behind (inl h) = inl (none h)
     behind (inr x) = inr (suc x.0, x.1)
 
-decided : {X : Type 0} (b : Bool) → (b ≡ true → X) → (b ≡ false → X) → X
+pub decided : {X : Type 0} (b : Bool) → (b ≡ true → X) → (b ≡ false → X) → X
 decided true f g = f refl
 decided false f g = g refl
 
@@ -106,21 +106,25 @@ module _ (d : MarksDevice) (f : Fair d) where
   abbrev checks : ℕ
   checks = equipment_checks d.history
 
-  where_failed : {X : Type 0} (i : Interaction Bool Image MarksDevice X) → Based base_in Any (kept d.store) i → (t : Told) →
-      (d.store.counts.failed < top → (T.hold true i t).state.store.counts.failed ≡ d.store.counts.failed → ChecksForCause d (T.hold true i t).state) →
-      ChecksForCause d (T.hold true i t).state
-  where_failed i x t later =
-      let y = (T.hold true i t).state in
-      let more : d.store.counts.failed ≤ y.store.counts.failed = at (never_falls x f.most) t in
-      by_count more (cases_eq d.store.counts.failed top) (cases_lt d.store.counts.failed y.store.counts.failed)
+  -- the number of failed calls stands at the greatest one, or rises, or stays
+  pub by_failed : {X C : Type 0} (i : Interaction Bool Image MarksDevice X) → Based base_in Any (kept d.store) i → (t : Told) →
+      (d.store.counts.failed ≡ top → C) → (d.store.counts.failed < (T.hold true i t).state.store.counts.failed → C) →
+      (d.store.counts.failed < top → (T.hold true i t).state.store.counts.failed ≡ d.store.counts.failed → C) → C
+  by_failed {X} {C} i x t full rose later =
+      by_count (at (never_falls x f.most) t) (cases_eq d.store.counts.failed top)
+      (cases_lt d.store.counts.failed (T.hold true i t).state.store.counts.failed)
     where
       by_count : d.store.counts.failed ≤ (T.hold true i t).state.store.counts.failed →
           ((d.store.counts.failed ≡ top) ⊎ (d.store.counts.failed ≢ top)) →
-          ((d.store.counts.failed < (T.hold true i t).state.store.counts.failed) ⊎ ((T.hold true i t).state.store.counts.failed ≤ d.store.counts.failed)) →
-          ChecksForCause d (T.hold true i t).state
-      by_count more (inl is) c = inr (not_counted is)
-      by_count more (inr ne) (inl rises) = inr (call_failed rises)
+          ((d.store.counts.failed < (T.hold true i t).state.store.counts.failed) ⊎ ((T.hold true i t).state.store.counts.failed ≤ d.store.counts.failed)) → C
+      by_count more (inl is) c = full is
+      by_count more (inr ne) (inl rises) = rose rises
       by_count more (inr ne) (inr less) = later (let most = f.most in let apart = ne in omega (arith, most, apart)) (omega (arith, more, less))
+
+  where_failed : {X : Type 0} (i : Interaction Bool Image MarksDevice X) → Based base_in Any (kept d.store) i → (t : Told) →
+      (d.store.counts.failed < top → (T.hold true i t).state.store.counts.failed ≡ d.store.counts.failed → ChecksForCause d (T.hold true i t).state) →
+      ChecksForCause d (T.hold true i t).state
+  where_failed i x t later = by_failed i x t (λ full. inr (not_counted full)) (λ rose. inr (call_failed rose)) later
 
   pub command_causes : (o : OpenEntry) → d.history.running ≡ Some o → d.store.half ≡ None → (t : Told) → ChecksForCause d (T.hold true (command by_plain d) t).state
   command_causes o running whole t =

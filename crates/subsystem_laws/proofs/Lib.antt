@@ -14,10 +14,12 @@ pub mod NothingChecked
 pub mod NothingMissed
 pub mod RunLines
 pub mod DeedWalk
+pub mod Pairing
 pub mod WaitingSum
 pub mod Waiting
 pub mod CheckCauses
 pub mod Causing
+pub mod LostLists
 pub mod WholeSlots
 pub mod SlotsApart
 pub mod AllSound

@@ -3,10 +3,12 @@ use Rattle.std.specs.Prelude.{◌≡◌, ◌<◌, ◌^◌, ◌-◌, ◌⊎◌, �
 use Rattle.plain_defs.specs.History.{OpenEntry}
 use Rattle.device_defs.specs.Command.{has_loss}
 use Rattle.device_defs.specs.Contents.{by_plain}
+use Rattle.loss_model.specs.declared.Loss.{Loss}
+use Rattle.device_defs.specs.Events.{one_more}
 use Rattle.device_defs.specs.Excused.{count_lost}
 use Rattle.device_defs.specs.Marks.{MarksDevice}
 use Rattle.device_defs.specs.Pledge.{ends_with_data_check}
-use Rattle.device_defs.specs.Store.{HalfWrite, level_at, takes_b, is_lost}
+use Rattle.device_defs.specs.Store.{HalfWrite, level_at, has_level, takes_b, is_lost}
 use Rattle.device_laws.specs.Unharmed.{MarksAreGood, NothingLost, ends_with_equipment_check, some_takes}
 use Rattle.subsystem_defs.specs.Lines.{Logged}
 use Rattle.subsystem_defs.specs.Promised.{misses_nothing}
@@ -72,3 +74,22 @@ EachPair r _ _ = ⊥
 
 abbrev pub CheckForCause : Logged → Type 0
 CheckForCause x = EachPair ChecksForCause (devices_of x.happened.before) (devices_of x.happened.behind)
+
+-- A track becomes lost where a loss was given to the device, a call failed (or their number stands at the greatest one), or of the open half write no
+-- side has the track and B takes no writes
+
+pub data MayLose (x y : MarksDevice) : Type 0 where
+  by_loss : (loss : Loss) → y.store.counts.losses ≡ one_more x.store.counts.losses loss → MayLose x y
+  by_call : x.store.counts.failed < y.store.counts.failed → MayLose x y
+  by_full_count : x.store.counts.failed ≡ 2 ^ 64 - 1 → MayLose x y
+  by_half : (h : HalfWrite (Unit {0})) → x.store.half ≡ Some h → has_level x.store h.track ≡ false → takes_b x.store ≡ false → MayLose x y
+
+-- no track more is lost
+abbrev pub LosesNone : MarksDevice → MarksDevice → Type 0
+LosesNone x y = (t : ℕ) → is_lost y.store t ≡ true → is_lost x.store t ≡ true
+
+abbrev pub LosesForCause : MarksDevice → MarksDevice → Type 0
+LosesForCause x y = LosesNone x y ⊎ MayLose x y
+
+abbrev pub LoseForCause : Logged → Type 0
+LoseForCause x = EachPair LosesForCause (devices_of x.happened.before) (devices_of x.happened.behind)

@@ -4,7 +4,7 @@ ghost use Rattle.std.specs.Prelude.{◌≡◌, ℕ, List, Ok, All};
 ghost use Rattle.deck_text.specs.DeckLines.{DeckLines};
 ghost use Rattle.deck_text.specs.Parse.{parsed};
 ghost use Rattle.subsystem_defs.specs.Decks.{run_of};
-ghost use Rattle.subsystem_laws.specs.Causes.{CheckForCause, CheckNothing, HaveGoodMarks, HaveNoDataCheck, KeepTracks, MissNothing};
+ghost use Rattle.subsystem_laws.specs.Causes.{CheckForCause, CheckNothing, HaveGoodMarks, HaveNoDataCheck, KeepTracks, LoseForCause, MissNothing};
 ghost use Rattle.subsystem_laws.specs.Served.{IsServedDeck};
 
 /// No command ends with data check, whatever calls fail and whatever is lost.
@@ -44,4 +44,11 @@ pub fn read_run_checks_nothing()
 pub fn checks_have_causes()
     ensures served { (deck : DeckLines) → IsServedDeck deck → All CheckForCause (run_of deck).events }
     ensures read { (text : List ℕ) (deck : DeckLines) → parsed text ≡ Ok deck → All CheckForCause (run_of deck).events }
+{}
+
+/// Where a track of a device becomes lost in an event, a loss was given to the device then, a call of it failed, or of its open half write no side had
+/// the track and side B took no writes.
+pub fn lost_tracks_have_causes()
+    ensures served { (deck : DeckLines) → IsServedDeck deck → All LoseForCause (run_of deck).events }
+    ensures read { (text : List ℕ) (deck : DeckLines) → parsed text ≡ Ok deck → All LoseForCause (run_of deck).events }
 {}

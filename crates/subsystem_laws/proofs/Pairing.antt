@@ -1,0 +1,249 @@
+-- What each event makes of each device, before it beside behind it, over all lines.
+use Rattle.std.proofs.Common.{◌≡◌, ◌==◌, ℕ, Bool, true, false, List, [], ◌∷◌, map, Option, Some, None, refl, sym, ap, subst, ◌∙◌}
+use Rattle.std.specs.Prelude.{All, ⊤, IfSome, if◌then◌else◌}
+use Rattle.ckd_types.specs.declared.paths.Side.{Side}
+use Rattle.ckd_types.specs.declared.paths.Side.TheVariants as sides
+use Rattle.deck_text.specs.DeckLines.{DeckLines}
+use Rattle.device_outside.specs.Interaction.{Done, and_then}
+use Rattle.device_outside.specs.Pool.{Pool}
+use Rattle.device_outside.specs.Told as T
+use Rattle.device_outside.specs.Told.{Calls, Told}
+use Rattle.device_defs.specs.Contents.{by_plain}
+use Rattle.device_defs.specs.Marks.{MarksDevice}
+use Rattle.device_defs.specs.Orders.{lend, join, split, restore, replace}
+use Rattle.device_defs.specs.Start as S
+use Rattle.device_defs.specs.Start.{start_fault, start, next_ordinal}
+use Rattle.subsystem_defs.specs.declared.end.EventEnd.{EventEnd}
+use Rattle.subsystem_defs.specs.declared.end.OrderFault.{OrderFault}
+use Rattle.subsystem_defs.specs.declared.event.Event.{Event}
+use Rattle.subsystem_defs.specs.declared.event.Event.TheVariants as events
+use Rattle.subsystem_defs.specs.Decks as D
+use Rattle.subsystem_defs.specs.Decks.{opened_device, opened, run_of}
+use Rattle.subsystem_defs.specs.Deeds.{Ends, Becomes, Asks, Each, Repairs, Lends, deed}
+use Rattle.subsystem_defs.specs.Happening as H
+use Rattle.subsystem_defs.specs.Happening.{Happened, MarksDeed, Talk, held_with, told_to, mounted_behind, behind_outcome, joined, lends, is_lent_to, restored_in, asks, becomes, happens_by, happens, quietly, sweep, replaced_by, replaced_at, replaced, unpaired_by, unpaired_at, unpaired}
+use Rattle.subsystem_defs.specs.Lines.{Logged, Replace, Unpair, logged, asked_by}
+use Rattle.subsystem_defs.specs.Refusals.{replace_fault, unpair_fault}
+use Rattle.subsystem_defs.specs.Subsystem.{Mounted, Subsystem, number_of, devices_of, mounted_in, put_in, with_calls, unfailing}
+use Rattle.subsystem_laws.specs.Causes.{EachPair}
+use Rattle.subsystem_laws.specs.Served.{IsServedDeck}
+use Rattle.subsystem_laws.proofs.DeedWalk.{IsSeat, Stands, seat_of, IsDeedwise, deed_is}
+use Rattle.subsystem_laws.proofs.RunLines.{Goes, run_shows}
+use Rattle.subsystem_laws.proofs.TracksKept.{Fair, fair_kept, opened_fair}
+use Rattle.subsystem_laws.proofs.Walks.{AreSo, hold_answer, device_so, mounted_so, event_so, replaced_so, unpaired_so}
+
+-- Devices before and behind, pair by pair
+
+abbrev Pairs : (MarksDevice → MarksDevice → Type 0) → List Mounted → List Mounted → Type 0
+Pairs r ms ks = EachPair r (map (λ (m : Mounted). m.device) ms) (map (λ (m : Mounted). m.device) ks)
+
+module _ (r : MarksDevice → MarksDevice → Type 0) (own : (d : MarksDevice) → r d d) where
+  pairs_same : (ms : List Mounted) → Pairs r ms ms
+  pairs_same [] = tt
+  pairs_same (m ∷ ms) = (own m.device, pairs_same ms)
+
+  put_if : (n : ℕ) (y m : Mounted) (ms : List Mounted) (b : Bool) →
+      ((k : Mounted) → (if b then Some m else mounted_in ms n) ≡ Some k → r k.device y.device) →
+      (((k : Mounted) → mounted_in ms n ≡ Some k → r k.device y.device) → Pairs r ms (put_in ms n y)) →
+      Pairs r (m ∷ ms) (if b then y ∷ ms else m ∷ put_in ms n y)
+  put_if n y m ms true h more = (h m refl, pairs_same ms)
+  put_if n y m ms false h more = (own m.device, more h)
+
+  -- another one in the place of a device
+  pairs_put : (n : ℕ) (y : Mounted) (ms : List Mounted) → ((k : Mounted) → mounted_in ms n ≡ Some k → r k.device y.device) → Pairs r ms (put_in ms n y)
+  pairs_put n y [] h = tt
+  pairs_put n y (m ∷ ms) h = put_if n y m ms (number_of m == n) h (pairs_put n y ms)
+
+  pairs_swept : (f : MarksDevice → Talk (Unit {0})) → ((d : MarksDevice) (t : Told) → r d (T.hold true (f d) t).state) → (ms : List Mounted) (pool : Pool) →
+      Pairs r ms (sweep f ms pool).mounted
+  unfolding H.sweep
+  pairs_swept f h [] pool = tt
+  pairs_swept f h (m ∷ ms) pool = (h m.device (told_to pool m), pairs_swept f h ms (held_with pool m (f m.device)).told.pool)
+
+pairs_on : (r : MarksDevice → MarksDevice → Type 0) → ((x y z : MarksDevice) → r x y → r y z → r x z) → (xs ys zs : List MarksDevice) →
+    EachPair r xs ys → EachPair r ys zs → EachPair r xs zs
+pairs_on r on [] [] [] p q = tt
+pairs_on r on [] [] (z ∷ zs) p q = absurd q
+pairs_on r on [] (y ∷ ys) zs p q = absurd p
+pairs_on r on (x ∷ xs) [] zs p q = absurd p
+pairs_on r on (x ∷ xs) (y ∷ ys) [] p q = absurd q
+pairs_on r on (x ∷ xs) (y ∷ ys) (z ∷ zs) p q = (on x y z p.0 q.0, pairs_on r on xs ys zs p.1 q.1)
+
+pairs_weaker : (r q : MarksDevice → MarksDevice → Type 0) → ((x y : MarksDevice) → r x y → q x y) → (xs ys : List MarksDevice) → EachPair r xs ys → EachPair q xs ys
+pairs_weaker r q so [] [] p = tt
+pairs_weaker r q so [] (y ∷ ys) p = absurd p
+pairs_weaker r q so (x ∷ xs) [] p = absurd p
+pairs_weaker r q so (x ∷ xs) (y ∷ ys) p = (so x y p.0, pairs_weaker r q so xs ys p.1)
+
+some_is : (x y : Mounted) → Some x ≡ Some y → x ≡ y
+some_is x y e = cc
+
+-- What orders and what a device's own event make of it
+
+module _ (Still Made : MarksDevice → MarksDevice → Type 0) where
+  abbrev pub KeepsDeed : Subsystem → MarksDeed → Type 0
+  KeepsDeed s (Ends end) = ⊤
+  KeepsDeed s (Becomes d end) = (m : Mounted) → mounted_in s.mounted d.store.device ≡ Some m → Still m.device d
+  KeepsDeed s (Asks d talk) = IsSeat s d × ((t : Told) → Made d (T.hold true talk t).state)
+  KeepsDeed s (Each pool f) = (d : MarksDevice) (t : Told) → Made d (T.hold true (f d) t).state
+  KeepsDeed s (Repairs pool) = ⊤
+  KeepsDeed s (Lends a b) = IsSeat s b × ((t : Told) → Still b (T.hold true (lend by_plain b a.store.device) t).state)
+
+  pub record IsPairwise : Type 0 where
+    pub own : (d : MarksDevice) → Still d d
+    pub on : (x y z : MarksDevice) → Still x y → Still y z → Still x z
+    pub made : (x y : MarksDevice) → Still x y → Made x y
+    pub joins : (d : MarksDevice) → Still d (join d)
+    pub splits : (d : MarksDevice) → Still d (split d)
+    pub replaces : (d : MarksDevice) (side : Side) → Still d (replace d side)
+    pub restores : (d : MarksDevice) → Still d (restore d)
+    pub deeds : (s : Subsystem) → AreSo Fair s.mounted → IsDeedwise s (KeepsDeed s)
+
+  module _ (k : IsPairwise) where
+    made_own : (d : MarksDevice) → Made d d
+    made_own d = k.made d d (k.own d)
+
+    abbrev Shows : Happened → Type 0
+    Shows h = EachPair Made (devices_of h.before) (devices_of h.behind)
+
+    still_shows : (s : Subsystem) (ms : List Mounted) → Pairs Still s.mounted ms → Pairs Made s.mounted ms
+    still_shows s ms p = pairs_weaker Still Made k.made (devices_of s) (map (λ (m : Mounted). m.device) ms) p
+
+    put_same : (s : Subsystem) (n : ℕ) (m y : Mounted) → mounted_in s.mounted n ≡ Some m → Still m.device y.device → Pairs Still s.mounted (put_in s.mounted n y)
+    put_same s n m y there is =
+        pairs_put Still k.own n y s.mounted (λ x at. subst (λ (z : Mounted). Still z.device y.device) (some_is m x (sym there ∙ at)) is)
+
+    becomes_shown : (s : Subsystem) (d : MarksDevice) → ((m : Mounted) → mounted_in s.mounted d.store.device ≡ Some m → Still m.device d) →
+        (o : Option Mounted) → Pairs Still s.mounted (becomes s d.store.device o d).mounted
+    becomes_shown s d h None = pairs_same Still k.own s.mounted
+    becomes_shown s d h (Some m) = pairs_put Still k.own d.store.device (record m { device = d }) s.mounted h
+
+    asks_shown : (s : Subsystem) (d : MarksDevice) → IsSeat s d → (talk : Talk (Option EventEnd)) → ((t : Told) → Made d (T.hold true talk t).state) →
+        (o : Option Mounted) → Shows (asks s d.store.device o talk)
+    asks_shown s d seat talk h None = pairs_same Made made_own s.mounted
+    asks_shown s d seat talk h (Some m) =
+        pairs_put Made made_own d.store.device (mounted_behind (held_with s.pool m talk)) s.mounted
+        (λ x there. subst (λ (z : MarksDevice). Made z (held_with s.pool m talk).state) (sym (seat x there)) (h (told_to s.pool m)))
+
+    joined_shown : (z : Subsystem) (n : ℕ) (volume : Calls) (o : Option Mounted) → mounted_in z.mounted n ≡ o →
+        Pairs Still z.mounted (joined z n volume o).mounted
+    joined_shown z n volume None there = pairs_same Still k.own z.mounted
+    joined_shown z n volume (Some m) there = put_same z n m (record m { device = join m.device; b = volume }) there (k.joins m.device)
+
+    lends_shown : (s : Subsystem) (a : ℕ) (d : MarksDevice) → IsSeat s d → ((t : Told) → Still d (T.hold true (lend by_plain d a) t).state) → (o : Option Mounted) →
+        mounted_in s.mounted d.store.device ≡ o → Pairs Still s.mounted (lends s a d.store.device o).mounted
+    lends_shown s a d seat h None there = pairs_same Still k.own s.mounted
+    lends_shown s a d seat h (Some m) there =
+        let o = held_with s.pool m (lend by_plain m.device a) in
+        let z = behind_outcome s d.store.device o in
+        pairs_on Still k.on (devices_of s) (devices_of z) (devices_of (joined z a o.told.a (mounted_in z.mounted a)))
+        (put_same s d.store.device m (mounted_behind o) there
+        (subst (λ (x : MarksDevice). Still x (T.hold true (lend by_plain x a) (told_to s.pool m)).state) (sym (seat m there)) (h (told_to s.pool m))))
+        (joined_shown z a o.told.a (mounted_in z.mounted a) refl)
+
+    happens_shown : (s : Subsystem) (x : MarksDeed) → KeepsDeed s x → Shows (happens_by s x)
+    happens_shown s (Ends end) h = pairs_same Made made_own s.mounted
+    happens_shown s (Becomes d end) h =
+        still_shows s (becomes s d.store.device (mounted_in s.mounted d.store.device) d).mounted
+        (becomes_shown s d h (mounted_in s.mounted d.store.device))
+    happens_shown s (Asks d talk) h = asks_shown s d h.0 talk h.1 (mounted_in s.mounted d.store.device)
+    happens_shown s (Each pool f) h = pairs_swept Made made_own f h s.mounted pool
+    happens_shown s (Repairs pool) h = pairs_same Made made_own s.mounted
+    happens_shown s (Lends a b) h =
+        still_shows s (lends s a.store.device b.store.device (mounted_in s.mounted b.store.device)).mounted
+        (lends_shown s a.store.device b h.0 h.1 (mounted_in s.mounted b.store.device) refl)
+
+    event_shown : (s : Subsystem) → AreSo Fair s.mounted → (e : Event) → Shows (happens s e)
+    unfolding H.happens
+    event_shown s p e = happens_shown s (deed by_plain s.pool (devices_of s) e) (deed_is s (KeepsDeed s) (k.deeds s p) e)
+
+    -- The two orders for which a volume is handed in
+
+    with_still : (d : MarksDevice) (m : Mounted) (side : Side) (calls : Calls) → Still d m.device → Still d (with_calls m side calls).device
+    with_still d m sides.A calls is = is
+    with_still d m sides.B calls is = is
+
+    replaced_shown : (s : Subsystem) (n : ℕ) (side : Side) (calls : Calls) (o : Option Mounted) → mounted_in s.mounted n ≡ o → Shows (replaced_at s n side calls o)
+    replaced_shown s n side calls None there = pairs_same Made made_own s.mounted
+    replaced_shown s n side calls (Some m) there = by_fault (replace_fault m.device side) where
+      by_fault : (o : Option OrderFault) → Shows (replaced_by s n side calls m o)
+      by_fault (Some fault) = pairs_same Made made_own s.mounted
+      by_fault None =
+          let y : Mounted = record m { device = replace m.device side } in
+          still_shows s (put_in s.mounted n (with_calls y side calls))
+          (put_same s n m (with_calls y side calls) there (with_still m.device y side calls (k.replaces m.device side)))
+
+    restored_shown : (ms : List Mounted) (a : ℕ) (calls : Calls) → Pairs Still ms (restored_in ms a calls)
+    restored_shown [] a calls = tt
+    restored_shown (m ∷ ms) a calls = by_lent (is_lent_to m.device.store.lent a) (restored_shown ms a calls) where
+      by_lent : (b : Bool) → Pairs Still ms (restored_in ms a calls) →
+          Pairs Still (m ∷ ms) (if b then record m { device = restore m.device; a = calls } ∷ ms else m ∷ restored_in ms a calls)
+      by_lent true later = (k.restores m.device, pairs_same Still k.own ms)
+      by_lent false later = (k.own m.device, later)
+
+    unpaired_shown : (s : Subsystem) (n : ℕ) (calls : Calls) (o : Option Mounted) → mounted_in s.mounted n ≡ o → Shows (unpaired_at s n calls o)
+    unpaired_shown s n calls None there = pairs_same Made made_own s.mounted
+    unpaired_shown s n calls (Some m) there = by_fault (unpair_fault m.device) where
+      by_fault : (o : Option OrderFault) → Shows (unpaired_by s n calls m o)
+      by_fault (Some fault) = pairs_same Made made_own s.mounted
+      by_fault None =
+          let x : Mounted = record m { device = split m.device } in
+          let ms = put_in s.mounted n x in
+          let ks = restored_in ms n calls in
+          still_shows s ks
+          (pairs_on Still k.on (devices_of s) (map (λ (z : Mounted). z.device) ms) (map (λ (z : Mounted). z.device) ks)
+          (put_same s n m x there (k.splits m.device)) (restored_shown ms n calls))
+
+    -- All lines
+
+    abbrev AreFair : Subsystem → Type 0
+    AreFair s = AreSo Fair s.mounted
+
+    abbrev ShowsAll : Logged → Type 0
+    ShowsAll x = EachPair Made (devices_of x.happened.before) (devices_of x.happened.behind)
+
+    replace_goes : (s : Subsystem) → AreFair s → (d : ℕ) (side : Side) →
+        AreFair (replaced s d side unfailing).behind × ShowsAll (logged (Replace d side) (replaced s d side unfailing))
+    unfolding H.replaced
+    replace_goes s q d side = (
+      replaced_so Fair fair_kept s d side unfailing q (mounted_in s.mounted d) (mounted_so Fair s.mounted d q),
+      replaced_shown s d side unfailing (mounted_in s.mounted d) refl,
+    )
+
+    unpair_goes : (s : Subsystem) → AreFair s → (a : ℕ) → AreFair (unpaired s a unfailing).behind × ShowsAll (logged (Unpair a) (unpaired s a unfailing))
+    unfolding H.unpaired
+    unpair_goes s q a = (
+      unpaired_so Fair fair_kept s a unfailing q (mounted_in s.mounted a) (mounted_so Fair s.mounted a q),
+      unpaired_shown s a unfailing (mounted_in s.mounted a) refl,
+    )
+
+    pairs_go : Goes AreFair ShowsAll
+    pairs_go = record {
+      once = λ s e q. (event_so Fair fair_kept s q e, event_shown s q e);
+      stepped = λ s d q. (event_so Fair fair_kept s q (events.Step d), event_shown s q (events.Step d));
+      idle = λ s d q. (q, pairs_same Made made_own s.mounted);
+      backed = λ s d q. (event_so Fair fair_kept s q (events.Back d), event_shown s q (events.Back d));
+      replaces = λ s d side q. replace_goes s q d side;
+      unpairs = λ s a q. unpair_goes s q a;
+    }
+
+    pub run_pairs : (deck : DeckLines) → IsServedDeck deck → All ShowsAll (run_of deck).events
+    unfolding D.run_asked
+    run_pairs deck h = run_shows AreFair ShowsAll pairs_go (map asked_by deck.events) (opened deck) (opened_fair deck deck.devices h.devices)
+
+  -- an answer is an event's end
+  pub ends_made : {X Y : Type 0} (d : MarksDevice) (talk : Talk X) (f : X → Y) → ((t : Told) → Made d (T.hold true talk t).state) →
+      (t : Told) → Made d (T.hold true (and_then talk (λ z a. Done z (f a))) t).state
+  ends_made d talk f h t = subst (Made d) (sym (hold_answer talk f t)) (h t)
+
+  pub becomes_so : (s : Subsystem) (d : MarksDevice) → Stands s d → (z : MarksDevice) → z.store.device ≡ d.store.device → Still d z → (end : EventEnd) →
+      KeepsDeed s (Becomes z end)
+  becomes_so s d x z number is end =
+      λ m there. subst (λ (y : MarksDevice). Still y z) (sym (seat_of s d x m (ap (mounted_in s.mounted) (sym number) ∙ there))) is
+
+pub fair_of : (s : Subsystem) → AreSo Fair s.mounted → (d : MarksDevice) → Stands s d → Fair d
+fair_of s p d x = subst (λ (o : Option MarksDevice). IfSome o Fair) x.found (device_so Fair s.mounted x.number p)
+
+pub started_number : (d : MarksDevice) (path : ℕ) → (start d path).store.device ≡ d.store.device
+unfolding S.start
+started_number d path = refl
