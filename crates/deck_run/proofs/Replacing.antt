@@ -111,7 +111,7 @@ replace_own d B own = record { plans = own.plans; chain = own.chain }
 past_same : (d : DefinedDevice) (side : Side) → (replace d side).history ≡ d.history
 past_same d side = refl
 
-new_told : (v : VolumeView (List ℕ)) (n : ℕ) → v ≡ disk_view (new_disk n [] []) → SideIs v (empty_contents (n * 15)) unfailing
+pub new_told : (v : VolumeView (List ℕ)) (n : ℕ) → v ≡ disk_view (new_disk n [] []) → SideIs v (empty_contents (n * 15)) unfailing
 new_told v n is =
     subst (λ (w : VolumeView (List ℕ)). SideIs w (empty_contents (n * 15)) unfailing) (sym is)
     (record { contents = refl; reads = refl; writes = refl; plan = refl })

@@ -13,7 +13,8 @@ use Rattle.device_defs.specs.Contents.{by_plain}
 use Rattle.device_defs.specs.Cutting.{reset}
 use Rattle.device_defs.specs.Events.{background, lose}
 use Rattle.device_defs.specs.Marks.{MarksDevice}
-use Rattle.device_defs.specs.Orders.{hold, resume}
+use Rattle.device_defs.specs.Orders as orders
+use Rattle.device_defs.specs.Orders.{resume}
 use Rattle.device_defs.specs.Start as S
 use Rattle.device_defs.specs.Start.{start, start_fault, next_ordinal}
 use Rattle.device_defs.specs.Store.{HalfWrite}
@@ -198,8 +199,8 @@ module _ (s : Subsystem) (n : ℕ) (m : Mounted) (at : mounted_in s.mounted n �
     event_counted events.RepairStore on = absurd on
     event_counted (events.Pair a b) on = absurd on
     event_counted (events.Suspend d) on =
-        subst (λ (o : Option MarksDevice). Claim (on_device o (λ x. order (suspend_fault x) (Becomes (hold x) ends.Done)))) (sym (found d on))
-        (becomes_by (hold m.device) (suspend_fault m.device) mine refl refl)
+        subst (λ (o : Option MarksDevice). Claim (on_device o (λ x. order (suspend_fault x) (Becomes (orders.hold x) ends.Done)))) (sym (found d on))
+        (becomes_by (orders.hold m.device) (suspend_fault m.device) mine refl refl)
     event_counted (events.Resume d) on =
         subst (λ (o : Option MarksDevice). Claim (on_device o (λ x. order (resume_fault x) (Becomes (resume x) ends.Done)))) (sym (found d on))
         (becomes_by (resume m.device) (resume_fault m.device) mine refl refl)
