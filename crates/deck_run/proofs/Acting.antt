@@ -1,4 +1,4 @@
--- The acts that came to a history where a program starts, a command ends and a path is reset.
+-- The acts that came to a history where a program starts, a command ends, a path is reset and the power is lost.
 use Rattle.std.proofs.Common.{◌≡◌, ◌∙◌, ◌+◌, ◌++◌, [], ◌∷◌, ℕ, zero, suc, Bool, true, false, List, Option, Some, None, length, refl, sym, ap, subst, arith}
 use Rattle.std.specs.Prelude.{◌==◌, if◌then◌else◌}
 use Rattle.std.proofs.lemmas.Bool.{cond_both}
@@ -8,8 +8,8 @@ use Rattle.plain_defs.specs.declared.journal.Act.{Act}
 use Rattle.plain_defs.specs.declared.journal.How.TheVariants.{Cut}
 use Rattle.plain_defs.specs.declared.journal.Item.{Item}
 use Rattle.plain_defs.specs.declared.journal.Item.TheVariants as items
-use Rattle.plain_defs.specs.History.{History, OpenEntry, checked, cut_by, ended, entry_of, put, reset, reset_in, resets_of, started}
-use Rattle.plain_defs.specs.Legal.{is_used}
+use Rattle.plain_defs.specs.History.{History, OpenEntry, checked, cut_by, ended, entry_of, lost_power, lost_power_in, put, reset, reset_in, resets_of, started}
+use Rattle.plain_defs.specs.Legal.{is_started, is_used}
 use Rattle.device_defs.specs.Device.{all_acted}
 use Rattle.run_report.proofs.ActsCome.{acts_both, all_acts, came, checked_acts, ended_acts, no_act, same_program}
 use Rattle.subsystem_defs.specs.Beside.{acts_in, acts_of_entry, acts_of_items, acts_running, behind_first, new_acts}
@@ -62,6 +62,24 @@ reset_by h path more (Some o) is =
 
 pub reset_brought : (before h : History) (path more : ℕ) → Brought before h [] → Brought before (reset h path more) []
 reset_brought before h path more b = record { acts_are = reset_by h path more h.running refl ∙ b.acts_are }
+
+-- A loss of power
+
+power_by : (h : History) (more : ℕ) (r : Option OpenEntry) → h.running ≡ r → acts_in (lost_power_in h more r) ≡ acts_in h
+power_by h more (Some o) is =
+    let cut = entry_of o (Cut (length o.ends + more)) in
+    append-nil (acts_of_items (h.items ++ cut ∷ items.Power ∷ []))
+    ∙ acts_both h.items (cut ∷ items.Power ∷ [])
+    ∙ ap (λ (l : List Act). acts_of_items h.items ++ l) (append-nil (acts_of_entry o.acts))
+    ∙ same_program h (Some o) is
+power_by h more None is =
+    cond_both (is_started false h.items) (record { items = h.items ++ items.Power ∷ []; running = None; waiting = [] }) h
+    (λ (k : History). acts_in k ≡ acts_in h)
+    (λ _. append-nil (acts_of_items (h.items ++ items.Power ∷ [])) ∙ acts_both h.items (items.Power ∷ []) ∙ same_program h None is) (λ _. refl)
+
+pub power_new : (h k : History) (more : ℕ) → k ≡ lost_power h more → new_acts h k ≡ []
+power_new h k more is =
+    came h k [] (ap acts_in is ∙ power_by h more h.running refl ∙ sym (append-nil (acts_in h)))
 
 -- A start
 

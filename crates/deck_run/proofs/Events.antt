@@ -28,6 +28,7 @@ use Rattle.device_defs.specs.declared.answers.Did.{Did}
 use Rattle.device_defs.specs.Contents.{contents}
 use Rattle.device_defs.specs.Events.{background, lose}
 use Rattle.device_defs.specs.Cutting.{reset}
+use Rattle.device_defs.specs.Orders.{hold, resume}
 use Rattle.device_defs.specs.Start as starting
 use Rattle.device_defs.specs.Start.{start_fault, start, started_count}
 use Rattle.device_core.specs.declared.device.Device.{Device}
@@ -64,7 +65,7 @@ use Rattle.subsystem_defs.specs.Deeds.{
   deed,
 }
 use Rattle.subsystem_defs.specs.Happening.{happens}
-use Rattle.subsystem_defs.specs.Refusals.{fail_fault}
+use Rattle.subsystem_defs.specs.Refusals.{fail_fault, resume_fault, suspend_fault}
 use Rattle.subsystem_defs.specs.Subsystem as runs
 use Rattle.subsystem_core.specs.declared.end.EventEnd.{EventEnd}
 use Rattle.subsystem_core.specs.declared.subsystem.Subsystem.{Subsystem}
@@ -274,6 +275,16 @@ good_starts e n d path is least most own =
     cond_both (is_own path d.history.running) (Ends answers.Running) (start_by d path (start_fault d path)) (Good e n d) (λ _. λ y. refl)
     (λ _. good_start e n d path (start_fault d path) is least most own)
 
+good_hold : (n a : ℕ) (d : DefinedDevice) (o : Option OrderFault) → d.store.device ≡ n → IsOwn d →
+    Good (events.Suspend a) n d (order o (Becomes (hold d) answers.Done))
+good_hold n a d (Some f) is own = λ y. refl
+good_hold n a d None is own = (is, (record { plans = own.plans; chain = own.chain }, none_new d.history d.history refl))
+
+good_resume : (n a : ℕ) (d : DefinedDevice) (o : Option OrderFault) → d.store.device ≡ n → IsOwn d →
+    Good (events.Resume a) n d (order o (Becomes (resume d) answers.Done))
+good_resume n a d (Some f) is own = λ y. refl
+good_resume n a d None is own = (is, (record { plans = own.plans; chain = own.chain }, none_new d.history d.history refl))
+
 abbrev pub hears : NoKeep → (m : Message Image) → ReplyTo m → NoKeep → Type 0
 hears k m r l = r ≡ reply m
 
@@ -328,8 +339,14 @@ module _ {V : Type 0} {G : Ghosts V} where
   good n x xs pool events.RepairCache at own on = absurd on
   good n x xs pool events.RepairStore at own on = absurd on
   good n x xs pool (events.Pair a b) at own on = absurd on
-  good n x xs pool (events.Suspend a) at own on = absurd on
-  good n x xs pool (events.Resume a) at own on = absurd on
+  good n x xs pool (events.Suspend d) at own on =
+      let here = found_in xs d x (ap (device_at xs) on ∙ at) in
+      subst (λ (o : Option DefinedDevice). Good (events.Suspend d) n (device_of x) (on_device o (λ y. order (suspend_fault y) (Becomes (hold y) answers.Done))))
+      (sym here) (good_hold n d (device_of x) (suspend_fault (device_of x)) (number_found xs n x at) own)
+  good n x xs pool (events.Resume d) at own on =
+      let here = found_in xs d x (ap (device_at xs) on ∙ at) in
+      subst (λ (o : Option DefinedDevice). Good (events.Resume d) n (device_of x) (on_device o (λ y. order (resume_fault y) (Becomes (resume y) answers.Done))))
+      (sym here) (good_resume n d (device_of x) (resume_fault (device_of x)) (number_found xs n x at) own)
 
   -- What came
 
@@ -520,8 +537,8 @@ open_may_come ns n (events.FailVolume d side) on here = may_by ns n d on here
 open_may_come ns n events.RepairCache on here = absurd on
 open_may_come ns n events.RepairStore on here = absurd on
 open_may_come ns n (events.Pair a b) on here = absurd on
-open_may_come ns n (events.Suspend a) on here = absurd on
-open_may_come ns n (events.Resume a) on here = absurd on
+open_may_come ns n (events.Suspend d) on here = may_by ns n d on here
+open_may_come ns n (events.Resume d) on here = may_by ns n d on here
 
 pub all_ok : {X E : Type 0} (r : Result X E) (p : Type 0) → p → OnOk r p
 all_ok (Ok x) p h = h

@@ -10,7 +10,9 @@ pub mod RunCounts
 pub mod Telling
 pub mod Found
 pub mod Events
+pub mod Powering
 pub mod Sweeping
+pub mod Replacing
 pub mod Passed
 pub mod Recorded
 pub mod Going

@@ -27,7 +27,7 @@ use Rattle.subsystem_defs.specs.Beside.{behind_first}
 use Rattle.subsystem_defs.specs.Deeds.{Ends, Becomes, Asks, Each, Repairs, Lends}
 use Rattle.subsystem_defs.specs.Happening as H
 use Rattle.subsystem_defs.specs.Happening.{MarksDeed, Talk, asks, happens, happens_by}
-use Rattle.subsystem_defs.specs.Lines.{Once, Run, Settle, logged}
+use Rattle.subsystem_defs.specs.Lines.{Logged, Once, Run, Settle, logged}
 use Rattle.subsystem_defs.specs.Subsystem as runs
 use Rattle.subsystem_defs.specs.Subsystem.{Mounted, devices_of, mounted_in}
 use Rattle.deck_run.specs.declared.pass.Passed.{Passed}
@@ -46,7 +46,7 @@ before_by s (Each pool f) = refl
 before_by s (Repairs pool) = refl
 before_by s (Lends a b) = refl
 
-before_is : (s : runs.Subsystem) (e : Event) → (happens s e).before ≡ s
+pub before_is : (s : runs.Subsystem) (e : Event) → (happens s e).before ≡ s
 unfolding H.happens
 before_is s e = before_by s _
 
@@ -108,37 +108,25 @@ fail_tells s d side told more is =
     (sym (append-nil _ ∙ work_lines_by s (events.FailVolume d side)
     (λ (z : runs.Subsystem). did.Ordered (orders.FailVolume d side) (order_answer (happens s (events.FailVolume d side)).end))))
 
-pub fail_cache_tells : (s : runs.Subsystem) (told more : List ReportLine) → more ≡ told ++ lines_when s events.FailCache
-    (did.Ordered orders.FailCache (order_answer (happens s events.FailCache).end)) →
-    more ≡ told ++ all_lines (logged (Once events.FailCache) (happens s events.FailCache) ∷ [])
-fail_cache_tells s told more is =
+pub suspend_tells : (s : runs.Subsystem) (d : ℕ) (told more : List ReportLine) → more ≡ told ++ lines_when s (events.Suspend d)
+    (did.Ordered (orders.Suspend d) (order_answer (happens s (events.Suspend d)).end)) →
+    more ≡ told ++ all_lines (logged (Once (events.Suspend d)) (happens s (events.Suspend d)) ∷ [])
+suspend_tells s d told more is =
     is ∙ ap (λ (l : List ReportLine). told ++ l)
-    (sym (append-nil _ ∙ work_lines_by s events.FailCache
-    (λ (z : runs.Subsystem). did.Ordered orders.FailCache (order_answer (happens s events.FailCache).end))))
+    (sym (append-nil _ ∙ work_lines_by s (events.Suspend d)
+    (λ (z : runs.Subsystem). did.Ordered (orders.Suspend d) (order_answer (happens s (events.Suspend d)).end))))
 
-pub fail_store_tells : (s : runs.Subsystem) (told more : List ReportLine) → more ≡ told ++ lines_when s events.FailStore
-    (did.Ordered orders.FailStore (order_answer (happens s events.FailStore).end)) →
-    more ≡ told ++ all_lines (logged (Once events.FailStore) (happens s events.FailStore) ∷ [])
-fail_store_tells s told more is =
+pub resume_tells : (s : runs.Subsystem) (d : ℕ) (told more : List ReportLine) → more ≡ told ++ lines_when s (events.Resume d)
+    (did.Ordered (orders.Resume d) (order_answer (happens s (events.Resume d)).end)) →
+    more ≡ told ++ all_lines (logged (Once (events.Resume d)) (happens s (events.Resume d)) ∷ [])
+resume_tells s d told more is =
     is ∙ ap (λ (l : List ReportLine). told ++ l)
-    (sym (append-nil _ ∙ work_lines_by s events.FailStore
-    (λ (z : runs.Subsystem). did.Ordered orders.FailStore (order_answer (happens s events.FailStore).end))))
+    (sym (append-nil _ ∙ work_lines_by s (events.Resume d)
+    (λ (z : runs.Subsystem). did.Ordered (orders.Resume d) (order_answer (happens s (events.Resume d)).end))))
 
-pub repair_cache_tells : (s : runs.Subsystem) (told more : List ReportLine) → more ≡ told ++ lines_when s events.RepairCache
-    (did.Ordered orders.RepairCache (order_answer (happens s events.RepairCache).end)) →
-    more ≡ told ++ all_lines (logged (Once events.RepairCache) (happens s events.RepairCache) ∷ [])
-repair_cache_tells s told more is =
-    is ∙ ap (λ (l : List ReportLine). told ++ l)
-    (sym (append-nil _ ∙ work_lines_by s events.RepairCache
-    (λ (z : runs.Subsystem). did.Ordered orders.RepairCache (order_answer (happens s events.RepairCache).end))))
-
-pub repair_store_tells : (s : runs.Subsystem) (told more : List ReportLine) → more ≡ told ++ lines_when s events.RepairStore
-    (did.Ordered orders.RepairStore (order_answer (happens s events.RepairStore).end)) →
-    more ≡ told ++ all_lines (logged (Once events.RepairStore) (happens s events.RepairStore) ∷ [])
-repair_store_tells s told more is =
-    is ∙ ap (λ (l : List ReportLine). told ++ l)
-    (sym (append-nil _ ∙ work_lines_by s events.RepairStore
-    (λ (z : runs.Subsystem). did.Ordered orders.RepairStore (order_answer (happens s events.RepairStore).end))))
+-- by its lines
+pub one_tells : (x : Logged) (told more : List ReportLine) → more ≡ told ++ lines_of x → more ≡ told ++ all_lines (x ∷ [])
+one_tells x told more is = is ∙ ap (λ (l : List ReportLine). told ++ l) (sym (append-nil (lines_of x)))
 
 -- What was recorded
 

@@ -13,6 +13,8 @@ use Rattle.device_defs.specs.Contents.{by_plain}
 use Rattle.device_defs.specs.Cutting.{reset}
 use Rattle.device_defs.specs.Events.{background, lose}
 use Rattle.device_defs.specs.Marks.{MarksDevice}
+use Rattle.device_defs.specs.Orders as orders
+use Rattle.device_defs.specs.Orders.{resume}
 use Rattle.device_defs.specs.Start as S
 use Rattle.device_defs.specs.Start.{start, start_fault, next_ordinal}
 use Rattle.device_defs.specs.Store.{HalfWrite}
@@ -25,7 +27,7 @@ use Rattle.subsystem_defs.specs.Deeds as D
 use Rattle.subsystem_defs.specs.Deeds.{Ends, Becomes, Asks, back, deed, device_in, ends_by, ends_done, end_of, is_own, may_end_by, on_device, order, seconds, start_by, starts, step}
 use Rattle.subsystem_defs.specs.Happening as H
 use Rattle.subsystem_defs.specs.Happening.{Happened, MarksDeed, Talk, asks, becomes, happens, happens_by, mounted_behind, quietly, told_to}
-use Rattle.subsystem_defs.specs.Refusals.{fail_fault}
+use Rattle.subsystem_defs.specs.Refusals.{fail_fault, resume_fault, suspend_fault}
 use Rattle.subsystem_defs.specs.Subsystem.{Mounted, Subsystem, devices_of, mounted_in, number_of, put_in}
 use Rattle.subsystem_laws.proofs.WholeFinding.{device_mounted}
 use Rattle.deck_run.specs.Counting.{more_calls}
@@ -98,6 +100,12 @@ module _ (s : Subsystem) (n : ℕ) (m : Mounted) (at : mounted_in s.mounted n �
   becomes_counted d end is reads writes =
       subst (λ (k : ℕ). IsCounted n m (quietly s (becomes s k (mounted_in s.mounted k) d) end)) (sym is)
       (subst (λ (o : Option Mounted). IsCounted n m (quietly s (becomes s n o d) end)) (sym at) (becomes_here d end is reads writes))
+
+  -- an order that is refused, or asks nobody
+  becomes_by : (d : MarksDevice) (o : Option OrderFault) → d.store.device ≡ n → d.store.counts.reads ≡ m.device.store.counts.reads →
+      d.store.counts.writes ≡ m.device.store.counts.writes → Claim (order o (Becomes d ends.Done))
+  becomes_by d (Some f) is reads writes = ends_counted (ends.Refused f)
+  becomes_by d None is reads writes = becomes_counted d ends.Done is reads writes
 
   abbrev Counts : Talk (Option EventEnd) → Type 0
   Counts talk =
@@ -190,5 +198,9 @@ module _ (s : Subsystem) (n : ℕ) (m : Mounted) (at : mounted_in s.mounted n �
     event_counted events.RepairCache on = absurd on
     event_counted events.RepairStore on = absurd on
     event_counted (events.Pair a b) on = absurd on
-    event_counted (events.Suspend a) on = absurd on
-    event_counted (events.Resume a) on = absurd on
+    event_counted (events.Suspend d) on =
+        subst (λ (o : Option MarksDevice). Claim (on_device o (λ x. order (suspend_fault x) (Becomes (orders.hold x) ends.Done)))) (sym (found d on))
+        (becomes_by (orders.hold m.device) (suspend_fault m.device) mine refl refl)
+    event_counted (events.Resume d) on =
+        subst (λ (o : Option MarksDevice). Claim (on_device o (λ x. order (resume_fault x) (Becomes (resume x) ends.Done)))) (sym (found d on))
+        (becomes_by (resume m.device) (resume_fault m.device) mine refl refl)

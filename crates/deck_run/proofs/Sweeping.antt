@@ -1,6 +1,6 @@
 -- From what an event of all devices came to, to what happens in a run, and what it tells.
 use Rattle.std.proofs.Common.{◌≡◌, ◌<◌, ◌≤◌, ◌∙◌, ◌+◌, ◌++◌, add-one, arith, ℕ, zero, suc, Bool, true, false, List, [], ◌∷◌, Option, Some, None, length, drop, get_or, map, refl, sym, ap, subst, append_assoc}
-use Rattle.std.specs.Prelude.{Result, Ok, Err, OnOk, IfOk, ◌==◌, not, if◌then◌else◌, slice_index_or}
+use Rattle.std.specs.Prelude.{IfSome, ◌==◌, not, if◌then◌else◌, slice_index_or}
 use Rattle.std.proofs.lemmas.Bool.{cond_both}
 use Rattle.std.proofs.lemmas.List.{append-nil, drop_all}
 use Rattle.loss_model.specs.declared.Loss.{Loss}
@@ -8,11 +8,14 @@ use Rattle.loss_model.specs.declared.Loss.TheVariants as losses
 use Rattle.plain_defs.specs.declared.journal.Act.{Act}
 use Rattle.plain_defs.specs.declared.journal.Item.{Item}
 use Rattle.plain_defs.specs.declared.journal.Item.TheVariants as items
-use Rattle.plain_defs.specs.History.{History, OpenEntry, acted_in}
+use Rattle.plain_defs.specs.History.{History, OpenEntry, acted_in, lost_power}
+use Rattle.ckd_chain.specs.State.{ChainState}
 use Rattle.device_outside.specs.declared.keep.NoKeep.{NoKeep}
 use Rattle.device_outside.specs.declared.volume.Volume.{Ghosts}
 use Rattle.device_outside.specs.Pool as pools
 use Rattle.device_defs.specs.Contents.{contents}
+use Rattle.device_defs.specs.Cutting.{counts_one_by, power}
+use Rattle.device_defs.specs.Marks.{MarksDevice}
 use Rattle.device_defs.specs.Device.{all_acted}
 use Rattle.device_defs.specs.Events.{lose}
 use Rattle.device_defs.specs.declared.answers.Stepped as defs
@@ -21,21 +24,22 @@ use Rattle.device_core.specs.declared.device.Device.{Device}
 use Rattle.device_core.specs.declared.past.Past.{Past}
 use Rattle.device_core.specs.State.{DefinedDevice, device_of}
 use Rattle.frame_pool.specs.Shared.{Shared, shared_view}
-use Rattle.report_text.specs.declared.event.Happened as report
-use Rattle.report_text.specs.declared.event.Happened.TheVariants as did
 use Rattle.report_text.specs.declared.event.Loosed.{Loosed}
 use Rattle.report_text.specs.declared.line.ReportLine.{ReportLine}
 use Rattle.report_text.specs.declared.line.ReportLine.TheVariants as told_lines
 use Rattle.run_report.specs.Answers.{order_answer}
 use Rattle.report_text.specs.declared.order.Order.{Order}
-use Rattle.report_text.specs.Events.{first_lines, last_line, line_if, loosed_line, program_over_lines}
+use Rattle.report_text.specs.declared.order.Order.TheVariants as orders
+use Rattle.report_text.specs.Events.{loosed_line, program_over_lines}
 use Rattle.run_report.proofs.Quiet.{behind_more}
 use Rattle.run_report.proofs.ActsCome.{acts_come}
-use Rattle.run_report.specs.Beside.{loose_lines, of_each, over_lines, over_of}
+use Rattle.run_report.specs.Beside.{loose_lines, of_each, over_lines, over_of, power_lines}
+use Rattle.run_report.specs.Events.{event_lines, lines_of}
+use Rattle.run_report.specs.OneDevice.{power_lines_by}
 use Rattle.subsystem_core.specs.declared.end.EventEnd.{EventEnd}
 use Rattle.subsystem_core.specs.declared.end.EventEnd.TheVariants as seen
 use Rattle.subsystem_core.specs.declared.subsystem.Subsystem.{Subsystem}
-use Rattle.subsystem_core.specs.Comes.{OwnDeed, AskedWith, CameBy, Came, Swept, over, next}
+use Rattle.subsystem_core.specs.Comes.{OwnDeed, Talk, AskedWith, CameBy, Came, Swept, over, next}
 use Rattle.subsystem_core.specs.Devices.{devices_of, numbers_of}
 use Rattle.subsystem_core.specs.Ends as seeing
 use Rattle.subsystem_core.specs.Ends.{end_seen}
@@ -46,38 +50,43 @@ use Rattle.subsystem_defs.specs.declared.end.EventEnd.TheVariants as answers
 use Rattle.subsystem_defs.specs.declared.end.OrderFault.TheVariants.{Down, Up}
 use Rattle.subsystem_defs.specs.declared.event.Event.{Event}
 use Rattle.subsystem_defs.specs.declared.event.Event.TheVariants as events
-use Rattle.subsystem_defs.specs.Beside.{has_power, new_acts, new_items}
+use Rattle.subsystem_defs.specs.Beside.{has_power, loose_count, new_acts, new_items}
 use Rattle.subsystem_defs.specs.Deeds as D
 use Rattle.subsystem_defs.specs.Deeds.{Ends, Becomes, Asks, Each, Repairs, Lends, deed, end_of}
 use Rattle.subsystem_defs.specs.Happening as H
 use Rattle.subsystem_defs.specs.Happening.{MarksDeed, happens, happens_by}
+use Rattle.subsystem_defs.specs.Lines.{Once, logged}
 use Rattle.subsystem_defs.specs.Subsystem as runs
 use Rattle.subsystem_defs.specs.Subsystem.{Mounted}
 use Rattle.subsystem_laws.specs.WholeComes as laws
 use Rattle.subsystem_laws.specs.WholeComes.{subsystem_of, IsWhatCame}
 use Rattle.subsystem_laws.proofs.WholeHappens.{event_so}
-use Rattle.deck_run.specs.Owning.{AreOwn, ChainsStand, IsOwn}
+use Rattle.deck_run.specs.Owning.{AreOwn, ChainsStand, GivesAll, IsOwn, PlansGive}
 use Rattle.deck_run.specs.Standing.{StandsAs, stood_of, all_stood}
 use Rattle.deck_run.specs.Loosening.{acts_when, all_loosed, is_quiet}
-use Rattle.deck_run.specs.Recording.{lines_when, loosed_between}
-use Rattle.deck_run.specs.Sweeping.{IsOpenOfAll, TellsAll, gone_lines, gone_one, head_or, loose_in, order_end, tail_of}
+use Rattle.deck_run.specs.declared.all.Stock.{Stock}
+use Rattle.deck_run.specs.Recording.{loosed_between}
+use Rattle.deck_run.specs.Sweeping.{IsOpenOfAll, TellsAll, gone_lines, gone_one, head_or, no_stock, order_end, order_of, stock_of, tail_of}
+use Rattle.deck_run.proofs.Acting.{none_behind, power_new}
 use Rattle.deck_run.proofs.Events.{hears, lose_owns}
 use Rattle.deck_run.proofs.Found.{chains_are, devices_stood}
+use Rattle.deck_run.proofs.Powering.{IsPowered, power_so}
+use Rattle.deck_run.proofs.Recorded.{before_is}
 use Rattle.deck_run.proofs.Surely.{ran_so}
-use Rattle.deck_run.proofs.Telling.{AreKnown, IsKnown, all_known, all_loose_none, all_over_none, loose_by}
+use Rattle.deck_run.proofs.Telling.{AreKnown, IsKnown, all_known, all_loose_none, all_over_none, loose_by, over_by}
 
 some_same : {X : Type 0} {x y : X} → Some x ≡ Some y → x ≡ y
 some_same e = cc
 
 -- How an order ends
 
-abbrev IsOrderEnd : ends.EventEnd → Type 0
+abbrev pub IsOrderEnd : ends.EventEnd → Type 0
 IsOrderEnd answers.Done = Unit {0}
 IsOrderEnd (answers.Pending n) = Unit {0}
 IsOrderEnd (answers.Refused fault) = Unit {0}
 IsOrderEnd _ = ⊥
 
-blank : Past
+pub blank : Past
 blank = record { items = record { items = []; spare = 0; aside = 0 }; running = None; kept = []; powered = false; last = 0 }
 
 not_stepped : (o : Option defs.Stepped) (end : ends.EventEnd) → end_of answers.Stepped o ≡ Some end → IsOrderEnd end → ⊥
@@ -88,7 +97,7 @@ not_second : (o : Option SecondEnd) (end : ends.EventEnd) → end_of answers.Sec
 not_second None end is on = cc
 not_second (Some s) end is on = subst IsOrderEnd (sym (some_same is)) on
 
-order_seen : (a : EventEnd) (end : ends.EventEnd) → IsOrderEnd end → end_seen blank a ≡ Some end → order_end a ≡ end
+pub order_seen : (a : EventEnd) (end : ends.EventEnd) → IsOrderEnd end → end_seen blank a ≡ Some end → order_end a ≡ end
 order_seen seen.Done end on is = some_same is
 order_seen (seen.Pending n) end on is = some_same is
 order_seen (seen.Refused f) end on is = some_same is
@@ -123,7 +132,39 @@ quiet_calls s (events.FailVolume d side) on = absurd on
 quiet_calls s (events.Pair x y) on = absurd on
 quiet_calls s (events.Suspend d) on = absurd on
 quiet_calls s (events.Resume d) on = absurd on
-quiet_calls s events.Power on = absurd on
+quiet_calls s events.Power on = (refl, refl)
+
+-- What is told of an event that tells of data of cache fast write alone
+
+abbrev IsWork : Event → Type 0
+IsWork events.FailCache = Unit {0}
+IsWork events.FailStore = Unit {0}
+IsWork events.RepairCache = Unit {0}
+IsWork events.RepairStore = Unit {0}
+IsWork _ = ⊥
+
+module _ (end : ends.EventEnd) (ms ks : List MarksDevice) (gone : List ReportLine) (loose : of_each loose_lines ms ks ≡ gone)
+    (none : of_each over_lines ms ks ≡ []) where
+  work_line : (o : Order) → of_each loose_lines ms ks ++ (of_each over_lines ms ks ++ told_lines.Order o (order_answer end) ∷ [])
+      ≡ gone ++ told_lines.Order o (order_answer end) ∷ []
+  work_line o =
+      ap (λ (l : List ReportLine). l ++ (of_each over_lines ms ks ++ told_lines.Order o (order_answer end) ∷ [])) loose
+      ∙ ap (λ (l : List ReportLine). gone ++ (l ++ told_lines.Order o (order_answer end) ∷ [])) none
+
+  work_tells : (e : Event) → IsWork e → event_lines (Once e) end 0 0 ms ks ≡ gone ++ told_lines.Order (order_of e) (order_answer end) ∷ []
+  work_tells events.FailCache on = work_line orders.FailCache
+  work_tells events.FailStore on = work_line orders.FailStore
+  work_tells events.RepairCache on = work_line orders.RepairCache
+  work_tells events.RepairStore on = work_line orders.RepairStore
+  work_tells (events.Start path d) on = absurd on
+  work_tells (events.Step d) on = absurd on
+  work_tells (events.Back d) on = absurd on
+  work_tells (events.Reset path d) on = absurd on
+  work_tells (events.FailVolume d side) on = absurd on
+  work_tells (events.Pair x y) on = absurd on
+  work_tells (events.Suspend d) on = absurd on
+  work_tells (events.Resume d) on = absurd on
+  work_tells events.Power on = absurd on
 
 -- What acts bring to a journal
 
@@ -146,14 +187,6 @@ over_none n (items.Program e ∷ l) are = elim are [ ]
 over_none n (items.Reset path ∷ l) are = elim are [ ]
 over_none n (items.Fresh ∷ l) are = elim are [ ]
 over_none n (items.Power ∷ l) are = elim are [ ]
-
-power_none : (l : List Item) → AreActs l → has_power l ≡ false
-power_none [] no_acts = refl
-power_none (items.Act a ∷ l) (one_act are) = power_none l are
-power_none (items.Program e ∷ l) are = elim are [ ]
-power_none (items.Reset path ∷ l) are = elim are [ ]
-power_none (items.Fresh ∷ l) are = elim are [ ]
-power_none (items.Power ∷ l) are = elim are [ ]
 
 record HasGrown (before : List Item) (h : History) : Type 0 where
   pub more : List Item
@@ -183,9 +216,6 @@ module _ (h k : History) (acts : List Act) (is : k ≡ all_acted h acts) where
   no_over : (n : ℕ) → over_of n (new_items h k) ≡ None
   no_over n = ap (over_of n) came_items ∙ over_none n grown.more grown.acts
 
-  no_power : has_power (new_items h k) ≡ false
-  no_power = ap has_power came_items ∙ power_none grown.more grown.acts
-
   the_acts : new_acts h k ≡ acts
   the_acts = ap (new_acts h) is ∙ acts_come h acts
 
@@ -197,17 +227,26 @@ head_same m n ms ns e = cc
 rest_same : (m n : ℕ) (ms ns : List ℕ) → m ∷ ms ≡ n ∷ ns → ms ≡ ns
 rest_same m n ms ns e = cc
 
-head_drop : (ns : List ℕ) (i : ℕ) → slice_index_or ns i 0 ≡ head_or (drop i ns)
+head_drop : (ns : List Stock) (i : ℕ) → slice_index_or ns i no_stock ≡ head_or (drop i ns)
 head_drop [] zero = refl
 head_drop [] (suc i) = refl
 head_drop (n ∷ ns) zero = refl
 head_drop (n ∷ ns) (suc i) = head_drop ns i
 
-tail_drop : (ns : List ℕ) (i : ℕ) → tail_of (drop i ns) ≡ drop (suc i) ns
+tail_drop : (ns : List Stock) (i : ℕ) → tail_of (drop i ns) ≡ drop (suc i) ns
 tail_drop [] zero = refl
 tail_drop [] (suc i) = refl
 tail_drop (n ∷ ns) zero = refl
 tail_drop (n ∷ ns) (suc i) = tail_drop ns i
+
+abbrev device : Mounted → MarksDevice
+device m = m.device
+
+cut_own : (d y : DefinedDevice) → IsPowered d y → IsOwn d → IsOwn y
+cut_own d y l own = record {
+  plans = subst PlansGive (sym l.plans) own.plans;
+  chain = subst (λ (o : Option ChainState). IfSome o (λ (c : ChainState). (c.fixed.geometry ≡ y.store.geometry) × GivesAll c.ccws)) (sym l.chain) tt;
+}
 
 -- Each device
 
@@ -216,11 +255,6 @@ module _ {V : Type 0} {G : Ghosts V} where
     pub own : IsOwn (device_of y)
     pub number : y.store.number ≡ x.store.number
     pub history : (device_of y).history ≡ all_acted (device_of x).history (device_of y).store.acts
-
-  abbrev AreGained : List (Device V G) → List (Device V G) → Type 0
-  AreGained [] [] = Unit {0}
-  AreGained (x ∷ xs) (y ∷ ys) = IsGained x y × AreGained xs ys
-  AreGained _ _ = ⊥
 
   one_gained : (loss : Loss) (pool new : Shared) (x y : Device V G) → IsOwn (device_of x) → y.store.number ≡ x.store.number →
       AskedWith (λ ok. ok ≡ true) (lose contents (device_of x) loss) tt pool x y new → IsGained x y
@@ -231,16 +265,45 @@ module _ {V : Type 0} {G : Ghosts V} where
       (lose_owns (device_of x) loss (device_of x).chain refl refl own) in
       record { own = l.0; number = same; history = l.1 }
 
-  all_gained : (loss : Loss) {pool new : Shared} {xs ys : List (Device V G)} → AreOwn xs → numbers_of ys ≡ numbers_of xs →
-      Swept (λ d. lose contents d loss) pool xs ys new → AreGained xs ys
-  all_gained loss own same over = tt
-  all_gained loss own same (next {pool = pool} {behind = behind} {x = x} {y = y} asked rest) =
-      (one_gained loss pool behind x y own.0 (head_same _ _ _ _ same) asked, all_gained loss own.1 (rest_same _ _ _ _ same) rest)
+  -- the power is lost
+  record IsCut (x y : Device V G) : Type 0 where
+    pub own : IsOwn (device_of y)
+    pub number : y.store.number ≡ x.store.number
+    pub history : (device_of y).history ≡ lost_power (device_of x).history (counts_one_by (device_of x).store.half)
 
-  swept_so : (loss : Loss) {pool new : Shared} {xs ys : List (Device V G)} → Swept (λ d. lose contents d loss) pool xs ys new →
-      laws.Swept hears (λ d. lose contents d loss) pool.pool (all_stood xs) (all_stood ys) new.pool
-  swept_so loss over = laws.all_swept
-  swept_so loss (next {pool = pool} {behind = behind} asked rest) =
+  one_cut : (pool new : Shared) (x y : Device V G) → IsOwn (device_of x) → y.store.number ≡ x.store.number →
+      AskedWith (λ ok. ok ≡ true) (power contents (device_of x)) tt pool x y new → IsCut x y
+  one_cut pool new x y own same asked =
+      let k : NoKeep = record {} in
+      let l : IsPowered (device_of x) (device_of y) = ran_so (λ z u. IsPowered (device_of x) z) (asked k) (power_so (device_of x)) in
+      record { own = cut_own (device_of x) (device_of y) l own; number = same; history = l.history }
+
+  -- each before and behind an event
+
+  abbrev AreBoth : (Device V G → Device V G → Type 0) → List (Device V G) → List (Device V G) → Type 0
+  AreBoth p [] [] = Unit {0}
+  AreBoth p (x ∷ xs) (y ∷ ys) = p x y × AreBoth p xs ys
+  AreBoth p _ _ = ⊥
+
+  all_both : (f : DefinedDevice → Talk (Unit {0})) (p : Device V G → Device V G → Type 0) →
+      ((pool new : Shared) (x y : Device V G) → IsOwn (device_of x) → y.store.number ≡ x.store.number →
+      AskedWith (λ ok. ok ≡ true) (f (device_of x)) tt pool x y new → p x y) →
+      {pool new : Shared} {xs ys : List (Device V G)} → AreOwn xs → numbers_of ys ≡ numbers_of xs → Swept f pool xs ys new → AreBoth p xs ys
+  all_both f p one own same over = tt
+  all_both f p one own same (next {pool = pool} {behind = behind} {x = x} {y = y} asked rest) =
+      (one pool behind x y own.0 (head_same _ _ _ _ same) asked, all_both f p one own.1 (rest_same _ _ _ _ same) rest)
+
+  both_own : (p : Device V G → Device V G → Type 0) → ((x y : Device V G) → p x y → IsOwn (device_of y)) → (xs ys : List (Device V G)) →
+      AreBoth p xs ys → AreOwn ys
+  both_own p one [] [] all = tt
+  both_own p one [] (y ∷ ys) all = absurd all
+  both_own p one (x ∷ xs) [] all = absurd all
+  both_own p one (x ∷ xs) (y ∷ ys) all = (one x y all.0, both_own p one xs ys all.1)
+
+  swept_so : (f : DefinedDevice → Talk (Unit {0})) {pool new : Shared} {xs ys : List (Device V G)} → Swept f pool xs ys new →
+      laws.Swept hears f pool.pool (all_stood xs) (all_stood ys) new.pool
+  swept_so f over = laws.all_swept
+  swept_so f (next {pool = pool} {behind = behind} asked rest) =
       laws.one_swept (record {
         port = shared_view pool;
         after = shared_view behind;
@@ -249,49 +312,58 @@ module _ {V : Type 0} {G : Ghosts V} where
         pool_before = refl;
         pool_behind = refl;
         ran = asked (record {});
-      }) (swept_so loss rest)
-
-  gained_own : (xs ys : List (Device V G)) → AreGained xs ys → AreOwn ys
-  gained_own [] [] all = tt
-  gained_own [] (y ∷ ys) all = absurd all
-  gained_own (x ∷ xs) [] all = absurd all
-  gained_own (x ∷ xs) (y ∷ ys) all = (all.0.own, gained_own xs ys all.1)
+      }) (swept_so f rest)
 
   -- What it tells
 
   loose_told : (x y : Device V G) (m k : Mounted) → IsKnown (stood_of x) m → IsKnown (stood_of y) k → IsGained x y →
-      loose_lines m.device k.device ≡ gone_one false answers.Done (loose_in x) y
+      loose_lines m.device k.device ≡ gone_one false answers.Done (stock_of x) y
   loose_told x y m k is now g =
       let hx = (device_of x).history in
       let hy = (device_of y).history in
       let acts = (device_of y).store.acts in
-      let id = (device_of y).store.number in
-      loose_by y.store.number x y m k (sym g.number) is now
-      ∙ ap (λ (l : List Act). map loosed_line (all_loosed y.store.number (loose_in x) id l (has_power (new_items hx hy)))) (the_acts hx hy acts g.history)
-      ∙ ap (λ (b : Bool). map loosed_line (all_loosed y.store.number (loose_in x) id acts b)) (no_power hx hy acts g.history)
-
-  all_loose : (xs ys : List (Device V G)) (ms ks : List Mounted) → AreKnown (all_stood xs) ms → AreKnown (all_stood ys) ks → AreGained xs ys →
-      of_each loose_lines (map (λ (m : Mounted). m.device) ms) (map (λ (m : Mounted). m.device) ks) ≡ gone_lines false answers.Done (map loose_in xs) ys
-  all_loose [] [] [] [] all now g = refl
-  all_loose [] [] [] (k ∷ ks) all now g = absurd now
-  all_loose [] [] (m ∷ ms) ks all now g = absurd all
-  all_loose [] (y ∷ ys) ms ks all now g = absurd g
-  all_loose (x ∷ xs) [] ms ks all now g = absurd g
-  all_loose (x ∷ xs) (y ∷ ys) [] ks all now g = absurd all
-  all_loose (x ∷ xs) (y ∷ ys) (m ∷ ms) [] all now g = absurd now
-  all_loose (x ∷ xs) (y ∷ ys) (m ∷ ms) (k ∷ ks) all now g =
-      ap (λ (l : List ReportLine). l ++ of_each loose_lines (map (λ (m : Mounted). m.device) ms) (map (λ (m : Mounted). m.device) ks))
-      (loose_told x y m k all.0 now.0 g.0)
-      ∙ ap (λ (l : List ReportLine). gone_one false answers.Done (loose_in x) y ++ l) (all_loose xs ys ms ks all.1 now.1 g.1)
+      let n = y.store.number in
+      let told : List Act → List ReportLine =
+      λ (l : List Act). map loosed_line (all_loosed n (loose_count (device_of x).store) (device_of y).store.number l (has_power (new_items hx hy))) in
+      loose_by n x y m k (sym g.number) is now
+      ∙ ap told (the_acts hx hy acts g.history)
+      ∙ ap (λ (l : List ReportLine). l ++ told acts) (sym (ap program_over_lines (no_over hx hy acts g.history n)))
 
   one_over : (x y : Device V G) (m k : Mounted) → IsKnown (stood_of x) m → IsKnown (stood_of y) k → IsGained x y → over_lines m.device k.device ≡ []
   one_over x y m k is now g =
-      ap (λ (h : History). program_over_lines (over_of m.device.store.device (new_items h k.device.history))) is.history
-      ∙ ap (λ (h : History). program_over_lines (over_of m.device.store.device (new_items (device_of x).history h))) now.history
-      ∙ ap program_over_lines (no_over (device_of x).history (device_of y).history (device_of y).store.acts g.history m.device.store.device)
+      over_by x.store.number x y m k refl is now
+      ∙ ap program_over_lines (no_over (device_of x).history (device_of y).history (device_of y).store.acts g.history x.store.number)
 
-  all_over : (xs ys : List (Device V G)) (ms ks : List Mounted) → AreKnown (all_stood xs) ms → AreKnown (all_stood ys) ks → AreGained xs ys →
-      of_each over_lines (map (λ (m : Mounted). m.device) ms) (map (λ (m : Mounted). m.device) ks) ≡ []
+  cut_told : (x y : Device V G) (m k : Mounted) → IsKnown (stood_of x) m → IsKnown (stood_of y) k → IsCut x y →
+      power_lines m.device k.device ≡ gone_one true answers.Done (stock_of x) y
+  cut_told x y m k is now g =
+      let hx = (device_of x).history in
+      let hy = (device_of y).history in
+      let n = y.store.number in
+      let cut = program_over_lines (over_of n (new_items hx hy)) in
+      ap (λ (l : List ReportLine). l ++ loose_lines m.device k.device) (over_by n x y m k (sym g.number) is now)
+      ∙ ap (λ (l : List ReportLine). cut ++ l) (loose_by n x y m k (sym g.number) is now)
+      ∙ ap (λ (l : List Act). cut ++ map loosed_line (all_loosed n (loose_count (device_of x).store) (device_of y).store.number l (has_power (new_items hx hy))))
+      (power_new hx hy (counts_one_by (device_of x).store.half) g.history)
+
+  module _ (p : Device V G → Device V G → Type 0) (f : MarksDevice → MarksDevice → List ReportLine) (quiet : Bool) (end : ends.EventEnd)
+      (one : (x y : Device V G) (m k : Mounted) → IsKnown (stood_of x) m → IsKnown (stood_of y) k → p x y →
+      f m.device k.device ≡ gone_one quiet end (stock_of x) y) where
+    each_told : (xs ys : List (Device V G)) (ms ks : List Mounted) → AreKnown (all_stood xs) ms → AreKnown (all_stood ys) ks → AreBoth p xs ys →
+        of_each f (map device ms) (map device ks) ≡ gone_lines quiet end (map stock_of xs) ys
+    each_told [] [] [] [] all now g = refl
+    each_told [] [] [] (k ∷ ks) all now g = absurd now
+    each_told [] [] (m ∷ ms) ks all now g = absurd all
+    each_told [] (y ∷ ys) ms ks all now g = absurd g
+    each_told (x ∷ xs) [] ms ks all now g = absurd g
+    each_told (x ∷ xs) (y ∷ ys) [] ks all now g = absurd all
+    each_told (x ∷ xs) (y ∷ ys) (m ∷ ms) [] all now g = absurd now
+    each_told (x ∷ xs) (y ∷ ys) (m ∷ ms) (k ∷ ks) all now g =
+        ap (λ (l : List ReportLine). l ++ of_each f (map device ms) (map device ks)) (one x y m k all.0 now.0 g.0)
+        ∙ ap (λ (l : List ReportLine). gone_one quiet end (stock_of x) y ++ l) (each_told xs ys ms ks all.1 now.1 g.1)
+
+  all_over : (xs ys : List (Device V G)) (ms ks : List Mounted) → AreKnown (all_stood xs) ms → AreKnown (all_stood ys) ks → AreBoth IsGained xs ys →
+      of_each over_lines (map device ms) (map device ks) ≡ []
   all_over [] [] [] [] all now g = refl
   all_over [] [] [] (k ∷ ks) all now g = absurd now
   all_over [] [] (m ∷ ms) ks all now g = absurd all
@@ -300,36 +372,40 @@ module _ {V : Type 0} {G : Ghosts V} where
   all_over (x ∷ xs) (y ∷ ys) [] ks all now g = absurd all
   all_over (x ∷ xs) (y ∷ ys) (m ∷ ms) [] all now g = absurd now
   all_over (x ∷ xs) (y ∷ ys) (m ∷ ms) (k ∷ ks) all now g =
-      ap (λ (l : List ReportLine). l ++ of_each over_lines (map (λ (m : Mounted). m.device) ms) (map (λ (m : Mounted). m.device) ks))
-      (one_over x y m k all.0 now.0 g.0)
+      ap (λ (l : List ReportLine). l ++ of_each over_lines (map device ms) (map device ks)) (one_over x y m k all.0 now.0 g.0)
       ∙ all_over xs ys ms ks all.1 now.1 g.1
 
   -- where nothing came
-  gone_none : (quiet : Bool) (end : ends.EventEnd) (ns : List ℕ) (ys : List (Device V G)) → ((d : DefinedDevice) → acts_when quiet end d ≡ []) →
-      gone_lines quiet end ns ys ≡ []
-  gone_none quiet end ns [] none = refl
-  gone_none quiet end ns (y ∷ ys) none =
-      ap (λ (l : List Act). map loosed_line (all_loosed y.store.number (head_or ns) (device_of y).store.number l false) ++ gone_lines quiet end (tail_of ns) ys)
-      (none (device_of y))
-      ∙ gone_none quiet end (tail_of ns) ys none
+  gone_none : (quiet : Bool) (end : ends.EventEnd) (ys : List (Device V G)) → ((d : DefinedDevice) → acts_when quiet end d ≡ []) →
+      gone_lines quiet end (map stock_of ys) ys ≡ []
+  gone_none quiet end [] none = refl
+  gone_none quiet end (y ∷ ys) none =
+      let n = y.store.number in
+      let count = loose_count (device_of y).store in
+      let id = (device_of y).store.number in
+      let rest = gone_lines quiet end (map stock_of ys) ys in
+      ap (λ (l : List Item). power_lines_by n (all_loosed n count id (acts_when quiet end (device_of y)) (has_power l)) l ++ rest)
+      (none_behind y.past.items.items)
+      ∙ ap (λ (l : List Act). map loosed_line (all_loosed n count id l false) ++ rest) (none (device_of y))
+      ∙ gone_none quiet end ys none
 
   -- The loop
 
-  pub gone_more : (quiet : Bool) (end : ends.EventEnd) (ns : List ℕ) (ys : List (Device V G)) (i n : ℕ) (y : Device V G) (told more : List ReportLine)
-      (all : List ReportLine) → i < length ys → y ≡ get_or ys i y → n ≡ slice_index_or ns i 0 → more ≡ told ++ gone_one quiet end n y →
+  pub gone_more : (quiet : Bool) (end : ends.EventEnd) (ns : List Stock) (ys : List (Device V G)) (i : ℕ) (n : Stock) (y : Device V G) (told more : List ReportLine)
+      (all : List ReportLine) → i < length ys → y ≡ get_or ys i y → n ≡ slice_index_or ns i no_stock → more ≡ told ++ gone_one quiet end n y →
       told ++ gone_lines quiet end (drop i ns) (drop i ys) ≡ all → more ++ gone_lines quiet end (drop (i + 1) ns) (drop (i + 1) ys) ≡ all
   gone_more quiet end ns ys i n y told more all within is count so left =
       let here : gone_lines quiet end (drop i ns) (drop i ys) ≡ gone_one quiet end n y ++ gone_lines quiet end (drop (suc i) ns) (drop (suc i) ys) =
       ap (λ (l : List (Device V G)). gone_lines quiet end (drop i ns) l) (at_hand ys y i within is)
-      ∙ ap (λ (m : ℕ). gone_one quiet end m y ++ gone_lines quiet end (tail_of (drop i ns)) (drop (suc i) ys)) (sym (count ∙ head_drop ns i))
-      ∙ ap (λ (l : List ℕ). gone_one quiet end n y ++ gone_lines quiet end l (drop (suc i) ys)) (tail_drop ns i) in
+      ∙ ap (λ (m : Stock). gone_one quiet end m y ++ gone_lines quiet end (tail_of (drop i ns)) (drop (suc i) ys)) (sym (count ∙ head_drop ns i))
+      ∙ ap (λ (l : List Stock). gone_one quiet end n y ++ gone_lines quiet end l (drop (suc i) ys)) (tail_drop ns i) in
       let done : more ++ gone_lines quiet end (drop (suc i) ns) (drop (suc i) ys) ≡ all =
       ap (λ (l : List ReportLine). l ++ gone_lines quiet end (drop (suc i) ns) (drop (suc i) ys)) so
       ∙ append_assoc told (gone_one quiet end n y) (gone_lines quiet end (drop (suc i) ns) (drop (suc i) ys))
       ∙ ap (λ (l : List ReportLine). told ++ l) (sym here) ∙ left in
       rw add-one done
 
-  pub gone_over : (quiet : Bool) (end : ends.EventEnd) (ns : List ℕ) (ys : List (Device V G)) (i : ℕ) (told all : List ReportLine) → length ys ≤ i →
+  pub gone_over : (quiet : Bool) (end : ends.EventEnd) (ns : List Stock) (ys : List (Device V G)) (i : ℕ) (told all : List ReportLine) → length ys ≤ i →
       told ++ gone_lines quiet end (drop i ns) (drop i ys) ≡ all → told ≡ all
   gone_over quiet end ns ys i told all past left =
       sym (append-nil told)
@@ -337,29 +413,44 @@ module _ {V : Type 0} {G : Ghosts V} where
 
   -- What came
 
+  -- by what a run knows of the devices before and behind it
+  abbrev Tells : Event → Subsystem V G → Subsystem V G → ends.EventEnd → Type 0
+  Tells e old new end = (ms ks : List Mounted) → AreKnown (all_stood old.devices.items) ms → AreKnown (all_stood new.devices.items) ks →
+      event_lines (Once e) end 0 0 (map device ms) (map device ks)
+      ≡ gone_lines (is_quiet e) end (map stock_of old.devices.items) new.devices.items ++ told_lines.Order (order_of e) (order_answer end) ∷ []
+
   pub record Told (e : Event) (d : OwnDeed) (old new : Subsystem V G) (a : EventEnd) : Type 0 where
     pub end : ends.EventEnd
     pub seen : order_end a ≡ end
     pub comes : laws.CameBy hears d old.pool.pool (all_stood old.devices.items) end new.pool.pool (all_stood new.devices.items)
     pub own : AreOwn new.devices.items
-    pub tells : (ms ks : List Mounted) → AreKnown (all_stood old.devices.items) ms → AreKnown (all_stood new.devices.items) ks →
-        (of_each loose_lines (map (λ (m : Mounted). m.device) ms) (map (λ (m : Mounted). m.device) ks)
-        ≡ gone_lines (is_quiet e) end (map loose_in old.devices.items) new.devices.items)
-        × (of_each over_lines (map (λ (m : Mounted). m.device) ms) (map (λ (m : Mounted). m.device) ks) ≡ [])
+    pub tells : Tells e old new end
 
-  module _ (e : Event) (old new : Subsystem V G) (a : EventEnd) (own : AreOwn old.devices.items)
+  powered : (old new : Subsystem V G) (a : EventEnd) (pool : pools.Pool) → AreOwn old.devices.items →
+      numbers_of new.devices.items ≡ numbers_of old.devices.items → CameBy (Each pool (power contents)) old (Some a) new →
+      Told events.Power (Each pool (power contents)) old new a
+  powered old new a pool own numbers came =
+      let cut : AreBoth IsCut old.devices.items new.devices.items = all_both (power contents) IsCut one_cut own numbers came.1 in
+      record {
+        end = answers.Done;
+        seen = order_seen a answers.Done tt (came.0 blank);
+        comes = (refl, swept_so (power contents) came.1);
+        own = both_own IsCut (λ x y k. k.own) old.devices.items new.devices.items cut;
+        tells = λ ms ks all now.
+            ap (λ (l : List ReportLine). l ++ told_lines.Order orders.Power (order_answer answers.Done) ∷ [])
+            (each_told IsCut power_lines true answers.Done cut_told old.devices.items new.devices.items ms ks all now cut);
+      }
+
+  module _ (e : Event) (work : IsWork e) (old new : Subsystem V G) (a : EventEnd) (own : AreOwn old.devices.items)
       (numbers : numbers_of new.devices.items ≡ numbers_of old.devices.items) where
     -- no device is another
-    still : (end : ends.EventEnd) → ((d : DefinedDevice) → acts_when (is_quiet e) end d ≡ []) → new.devices.items ≡ old.devices.items →
-        (ms ks : List Mounted) → AreKnown (all_stood old.devices.items) ms → AreKnown (all_stood new.devices.items) ks →
-        (of_each loose_lines (map (λ (m : Mounted). m.device) ms) (map (λ (m : Mounted). m.device) ks)
-        ≡ gone_lines (is_quiet e) end (map loose_in old.devices.items) new.devices.items)
-        × (of_each over_lines (map (λ (m : Mounted). m.device) ms) (map (λ (m : Mounted). m.device) ks) ≡ [])
+    still : (end : ends.EventEnd) → ((d : DefinedDevice) → acts_when (is_quiet e) end d ≡ []) → new.devices.items ≡ old.devices.items → Tells e old new end
     still end none is ms ks all now =
-        let same = subst (λ (l : List (Device V G)). AreKnown (all_stood l) ks) is now in (
-          all_loose_none old.devices.items ms ks all same ∙ sym (gone_none (is_quiet e) end (map loose_in old.devices.items) new.devices.items none),
-          all_over_none old.devices.items ms ks all same,
-        )
+        let same = subst (λ (l : List (Device V G)). AreKnown (all_stood l) ks) is now in
+        work_tells end (map device ms) (map device ks) (gone_lines (is_quiet e) end (map stock_of old.devices.items) new.devices.items)
+        (all_loose_none old.devices.items ms ks all same ∙ sym (gone_none (is_quiet e) end old.devices.items none)
+        ∙ ap (λ (l : List (Device V G)). gone_lines (is_quiet e) end (map stock_of old.devices.items) l) (sym is))
+        (all_over_none old.devices.items ms ks all same) e work
 
     refused : (end : ends.EventEnd) → IsOrderEnd end → ((d : DefinedDevice) → acts_when (is_quiet e) end d ≡ []) → CameBy (Ends end) old (Some a) new →
         Told e (Ends end) old new a
@@ -383,17 +474,19 @@ module _ {V : Type 0} {G : Ghosts V} where
     lost : (pool : pools.Pool) (loss : Loss) → is_quiet e ≡ false → CameBy (Each pool (λ d. lose contents d loss)) old (Some a) new →
         Told e (Each pool (λ d. lose contents d loss)) old new a
     lost pool loss loud came =
-        let g = all_gained loss own numbers came.1 in
+        let f : DefinedDevice → Talk (Unit {0}) = λ d. lose contents d loss in
+        let g : AreBoth IsGained old.devices.items new.devices.items = all_both f IsGained (one_gained loss) own numbers came.1 in
         record {
           end = answers.Done;
           seen = order_seen a answers.Done tt (came.0 blank);
-          comes = (refl, swept_so loss came.1);
-          own = gained_own old.devices.items new.devices.items g;
-          tells = λ ms ks all now. (
-            all_loose old.devices.items new.devices.items ms ks all now g
-                ∙ ap (λ (b : Bool). gone_lines b answers.Done (map loose_in old.devices.items) new.devices.items) (sym loud),
-            all_over old.devices.items new.devices.items ms ks all now g,
-          );
+          comes = (refl, swept_so f came.1);
+          own = both_own IsGained (λ x y k. k.own) old.devices.items new.devices.items g;
+          tells = λ ms ks all now.
+              work_tells answers.Done (map device ms) (map device ks)
+              (gone_lines (is_quiet e) answers.Done (map stock_of old.devices.items) new.devices.items)
+              (each_told IsGained loose_lines false answers.Done loose_told old.devices.items new.devices.items ms ks all now g
+              ∙ ap (λ (b : Bool). gone_lines b answers.Done (map stock_of old.devices.items) new.devices.items) (sym loud))
+              (all_over old.devices.items new.devices.items ms ks all now g) e work;
         }
 
     abbrev Claim : OwnDeed → Type 0
@@ -417,13 +510,14 @@ module _ {V : Type 0} {G : Ghosts V} where
       Told e (deed contents old.pool.pool (devices_of old.devices.items) e) old new a
   unfolding D.deed
   told_all events.FailCache old new a on own numbers came =
-      failed events.FailCache old new a own numbers old.pool.pool.cache_up (pools.cache_failed old.pool.pool) losses.Cache refl came
+      failed events.FailCache tt old new a own numbers old.pool.pool.cache_up (pools.cache_failed old.pool.pool) losses.Cache refl came
   told_all events.FailStore old new a on own numbers came =
-      failed events.FailStore old new a own numbers old.pool.pool.store_up (pools.store_failed old.pool.pool) losses.Store refl came
+      failed events.FailStore tt old new a own numbers old.pool.pool.store_up (pools.store_failed old.pool.pool) losses.Store refl came
   told_all events.RepairCache old new a on own numbers came =
-      mended events.RepairCache old new a own numbers old.pool.pool.cache_up old.pool.pool (pools.cache_repaired old.pool.pool) refl came
+      mended events.RepairCache tt old new a own numbers old.pool.pool.cache_up old.pool.pool (pools.cache_repaired old.pool.pool) refl came
   told_all events.RepairStore old new a on own numbers came =
-      mended events.RepairStore old new a own numbers old.pool.pool.store_up old.pool.pool (pools.store_repaired old.pool.pool) refl came
+      mended events.RepairStore tt old new a own numbers old.pool.pool.store_up old.pool.pool (pools.store_repaired old.pool.pool) refl came
+  told_all events.Power old new a on own numbers came = powered old new a (pools.power_lost old.pool.pool) own numbers came
   told_all (events.Start path d) old new a on own numbers came = absurd on
   told_all (events.Step d) old new a on own numbers came = absurd on
   told_all (events.Back d) old new a on own numbers came = absurd on
@@ -432,7 +526,6 @@ module _ {V : Type 0} {G : Ghosts V} where
   told_all (events.Pair x y) old new a on own numbers came = absurd on
   told_all (events.Suspend d) old new a on own numbers came = absurd on
   told_all (events.Resume d) old new a on own numbers came = absurd on
-  told_all events.Power old new a on own numbers came = absurd on
 
   module _ (e : Event) (old new : Subsystem V G) (a : EventEnd) (on : IsOpenOfAll e) (own : AreOwn old.devices.items)
       (numbers : numbers_of new.devices.items ≡ numbers_of old.devices.items) (came : Came e old (Some a) new) where
@@ -456,39 +549,38 @@ module _ {V : Type 0} {G : Ghosts V} where
         (v.ended ∙ sym so.seen, record { pool = v.left; mounted = v.mounted })
 
     pub all_told : (run : runs.Subsystem) → ChainsStand old.devices.items → StandsAs old run → TellsAll old new e run (order_end a)
-    all_told run stand all = record {
-      lines = λ h.
-          let x = all_happens run stand all in
-          let ks = (happens run e).behind.mounted in
-          let t = so.tells run.mounted ks (all_known (all_stood old.devices.items) run.mounted all.mounted)
-          (all_known (all_stood new.devices.items) ks x.1.mounted) in
-          let gone = gone_lines (is_quiet e) so.end (map loose_in old.devices.items) new.devices.items in
-          ap (λ (n : ℕ). Rattle.run_report.specs.Events.work_lines h n (happens run e).writes (runs.devices_of run) (runs.devices_of (happens run e).behind))
-          (quiet_calls run e on).0
-          ∙ ap (λ (n : ℕ). Rattle.run_report.specs.Events.work_lines h 0 n (runs.devices_of run) (runs.devices_of (happens run e).behind)) (quiet_calls run e on).1
-          ∙ ap (λ (l : List ReportLine). first_lines h ++ (l ++ (of_each over_lines (runs.devices_of run) (runs.devices_of (happens run e).behind)
-          ++ line_if (last_line h)))) t.0
-          ∙ ap (λ (l : List ReportLine). first_lines h ++ (gone ++ (l ++ line_if (last_line h)))) t.1
-          ∙ ap (λ (end : ends.EventEnd). first_lines h ++ (gone_lines (is_quiet e) end (map loose_in old.devices.items) new.devices.items
-          ++ line_if (last_line h))) (sym so.seen);
-    }
+    all_told run stand all =
+        let x = all_happens run stand all in
+        let h = happens run e in
+        let ms = runs.devices_of run in
+        let ks = runs.devices_of h.behind in
+        record {
+          lines = ap (λ (z : runs.Subsystem). event_lines (Once e) h.end h.reads h.writes (runs.devices_of z) ks) (before_is run e)
+              ∙ ap (λ (end : ends.EventEnd). event_lines (Once e) end h.reads h.writes ms ks) (x.0 ∙ so.seen)
+              ∙ ap (λ (n : ℕ). event_lines (Once e) so.end n h.writes ms ks) (quiet_calls run e on).0
+              ∙ ap (λ (n : ℕ). event_lines (Once e) so.end 0 n ms ks) (quiet_calls run e on).1
+              ∙ so.tells run.mounted h.behind.mounted (all_known (all_stood old.devices.items) run.mounted all.mounted)
+              (all_known (all_stood new.devices.items) h.behind.mounted x.1.mounted)
+              ∙ ap (λ (end : ends.EventEnd). gone_lines (is_quiet e) end (map stock_of old.devices.items) new.devices.items
+              ++ told_lines.Order (order_of e) (order_answer end) ∷ []) (sym so.seen);
+        }
 
 module _ {V : Type 0} {G : Ghosts V} where
-  pub order_recorded : (old new : Subsystem V G) (e : Event) (run : runs.Subsystem) (order : Order) (counts : List ℕ) (quiet : Bool) (end : ends.EventEnd)
-      (ys : List (Device V G)) (told room gone more : List ReportLine) → counts ≡ map loose_in old.devices.items → quiet ≡ is_quiet e →
-      (happens run e).end ≡ end → TellsAll old new e run end → room ≡ told → ys ≡ new.devices.items → gone ≡ room ++ gone_lines quiet end counts ys →
-      more ≡ gone ++ told_lines.Order order (order_answer end) ∷ [] →
-      more ≡ told ++ lines_when run e (did.Ordered order (order_answer (happens run e).end))
-  order_recorded old new e run order counts quiet end ys told room gone more are so ended tells roomy here went is =
+  pub order_recorded : (old new : Subsystem V G) (e : Event) (run : runs.Subsystem) (order : Order) (counts : List Stock) (quiet : Bool) (end : ends.EventEnd)
+      (ys : List (Device V G)) (told room gone more : List ReportLine) → counts ≡ map stock_of old.devices.items → quiet ≡ is_quiet e → order ≡ order_of e →
+      TellsAll old new e run end → room ≡ told → ys ≡ new.devices.items → gone ≡ room ++ gone_lines quiet end counts ys →
+      more ≡ gone ++ told_lines.Order order (order_answer end) ∷ [] → more ≡ told ++ lines_of (logged (Once e) (happens run e))
+  order_recorded old new e run order counts quiet end ys told room gone more are so named tells roomy here went is =
       let o : List ReportLine = told_lines.Order order (order_answer end) ∷ [] in
       is ∙ ap (λ (l : List ReportLine). l ++ o) went
       ∙ ap (λ (l : List ReportLine). (l ++ gone_lines quiet end counts ys) ++ o) roomy
       ∙ append_assoc told (gone_lines quiet end counts ys) o
       ∙ ap (λ (b : Bool). told ++ (gone_lines b end counts ys ++ o)) so
-      ∙ ap (λ (l : List ℕ). told ++ (gone_lines (is_quiet e) end l ys ++ o)) are
-      ∙ ap (λ (l : List (Device V G)). told ++ (gone_lines (is_quiet e) end (map loose_in old.devices.items) l ++ o)) here
-      ∙ ap (λ (l : List ReportLine). told ++ l) (sym (tells.lines (did.Ordered order (order_answer end))))
-      ∙ ap (λ (x : ends.EventEnd). told ++ lines_when run e (did.Ordered order (order_answer x))) (sym ended)
+      ∙ ap (λ (l : List Stock). told ++ (gone_lines (is_quiet e) end l ys ++ o)) are
+      ∙ ap (λ (l : List (Device V G)). told ++ (gone_lines (is_quiet e) end (map stock_of old.devices.items) l ++ o)) here
+      ∙ ap (λ (x : Order). told ++ (gone_lines (is_quiet e) end (map stock_of old.devices.items) new.devices.items
+      ++ told_lines.Order x (order_answer end) ∷ [])) named
+      ∙ ap (λ (l : List ReportLine). told ++ l) (sym tells.lines)
 
 pub all_may_come : (ns : List ℕ) (e : Event) → IsOpenOfAll e → may_come ns e ≡ true
 all_may_come ns events.FailCache on = refl
@@ -503,4 +595,4 @@ all_may_come ns (events.FailVolume d side) on = absurd on
 all_may_come ns (events.Pair x y) on = absurd on
 all_may_come ns (events.Suspend d) on = absurd on
 all_may_come ns (events.Resume d) on = absurd on
-all_may_come ns events.Power on = absurd on
+all_may_come ns events.Power on = refl

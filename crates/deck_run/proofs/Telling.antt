@@ -48,6 +48,8 @@ pub record IsKnown (x : Stood) (m : Mounted) : Type 0 where
   pub half : m.device.store.half ≡ option_map half_mark x.device.store.half
   pub paired : m.device.store.paired ≡ x.device.store.paired
   pub lent : m.device.store.lent ≡ x.device.store.lent
+  pub up_a : m.device.store.a.up ≡ x.device.store.a.up
+  pub up_b : m.device.store.b.up ≡ x.device.store.b.up
 
 pub known : {mine : List ℕ} {x : Stood} {m : Mounted} → IsMounted mine x m → IsKnown x m
 known (is_mounted d v w h on_a on_b a b stands slots side_a side_b) = record {
@@ -61,6 +63,8 @@ known (is_mounted d v w h on_a on_b a b stands slots side_a side_b) = record {
   half = refl;
   paired = refl;
   lent = refl;
+  up_a = refl;
+  up_b = refl;
 }
 
 abbrev pub AreKnown : List Stood → List Mounted → Type 0
@@ -183,7 +187,7 @@ module _ {V : Type 0} {G : Ghosts V} where
       ap (λ (l : List ReportLine). l ++ of_each over_lines (map device ms) (map device ks)) (over_none x m k all.0 now.0)
       ∙ all_over_none xs ms ks all.1 now.1
 
-  over_by : (n : ℕ) (x y : Device V G) (m k : Mounted) → x.store.number ≡ n → IsKnown (stood_of x) m → IsKnown (stood_of y) k →
+  pub over_by : (n : ℕ) (x y : Device V G) (m k : Mounted) → x.store.number ≡ n → IsKnown (stood_of x) m → IsKnown (stood_of y) k →
       over_lines m.device k.device ≡ program_over_lines (over_of n (new_items (device_of x).history (device_of y).history))
   over_by n x y m k here is now =
       ap (λ (d : ℕ). program_over_lines (over_of d (new_items m.device.history k.device.history))) (is.number ∙ here)

@@ -5,6 +5,7 @@ pub mod Counting
 pub mod Loosening
 pub mod Recording
 pub mod Sweeping
+pub mod Replacing
 pub mod Passing
 pub mod Ending
 pub mod Going

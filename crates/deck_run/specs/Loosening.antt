@@ -11,11 +11,14 @@ use Rattle.subsystem_defs.specs.declared.end.EventEnd.TheVariants as ends
 use Rattle.subsystem_defs.specs.declared.event.Event.{Event}
 use Rattle.subsystem_defs.specs.declared.event.Event.TheVariants as events
 
--- a reset notes no act, and neither does a repair
+-- a reset notes no act, and neither does a repair, or an order to hold a side or to go on; a loss of power takes data of cache fast write by itself
 abbrev pub is_quiet : Event → Bool
 is_quiet (events.Reset path d) = true
 is_quiet events.RepairCache = true
 is_quiet events.RepairStore = true
+is_quiet (events.Suspend d) = true
+is_quiet (events.Resume d) = true
+is_quiet events.Power = true
 is_quiet _ = false
 
 abbrev pub acts_when : Bool → EventEnd → DefinedDevice → List Act

@@ -24,7 +24,7 @@ are_open ds = are_open_behind None ds
 abbrev pub numbers_in : List DeviceLine → List ℕ
 numbers_in ds = map (λ (d : DeviceLine). d.number) ds
 
--- START, STEP, RUN, BACK, SETTLE, RESET and FAIL VOLUME of a device that is there, and FAIL and REPAIR of the cache and the store
+-- all but PAIR and UNPAIR, where the device that a line names is there
 abbrev pub is_open_line : List ℕ → EventLine → Bool
 is_open_line ns (lines.Start path d) = is_in d ns
 is_open_line ns (lines.Step d) = is_in d ns
@@ -37,6 +37,10 @@ is_open_line ns lines.FailCache = true
 is_open_line ns lines.FailStore = true
 is_open_line ns lines.RepairCache = true
 is_open_line ns lines.RepairStore = true
+is_open_line ns (lines.Replace d side) = is_in d ns
+is_open_line ns (lines.Suspend d) = is_in d ns
+is_open_line ns (lines.Resume d) = is_in d ns
+is_open_line ns lines.Power = true
 is_open_line ns _ = false
 
 abbrev pub are_open_lines : List ℕ → List EventLine → Bool

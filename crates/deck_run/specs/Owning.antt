@@ -36,11 +36,13 @@ module _ {V : Type 0} {G : Ghosts V} where
   ChainsStand [] = Unit {0}
   ChainsStand (x ∷ xs) = IfSome x.past.running (λ r. IsChain r.chain) × ChainsStand xs
 
--- the events of this device that run so far
+-- the events of this device
 abbrev pub IsOpenOn : ℕ → Event → Type 0
 IsOpenOn n (events.Start path d) = (d ≡ n) × ((1 ≤ path) × (path ≤ 4))
 IsOpenOn n (events.Step d) = d ≡ n
 IsOpenOn n (events.Back d) = d ≡ n
 IsOpenOn n (events.Reset path d) = d ≡ n
 IsOpenOn n (events.FailVolume d side) = d ≡ n
+IsOpenOn n (events.Suspend d) = d ≡ n
+IsOpenOn n (events.Resume d) = d ≡ n
 IsOpenOn n _ = ⊥

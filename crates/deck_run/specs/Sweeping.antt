@@ -1,11 +1,15 @@
 -- What an event of all devices brings to them, and what is told of it.
-use Rattle.std.specs.Prelude.{◌≡◌, ℕ, Bool, true, false, List, [], ◌∷◌, ◌++◌, map}
+use Rattle.std.specs.Prelude.{◌≡◌, Bool, List, [], ◌∷◌, ◌++◌, length, map}
 use Rattle.device_outside.specs.declared.volume.Volume.{Ghosts}
 use Rattle.device_core.specs.declared.device.Device.{Device}
 use Rattle.device_core.specs.State.{device_of}
-use Rattle.report_text.specs.declared.event.Happened.{Happened}
 use Rattle.report_text.specs.declared.line.ReportLine.{ReportLine}
-use Rattle.report_text.specs.Events.{first_lines, last_line, line_if, loosed_line}
+use Rattle.report_text.specs.declared.line.ReportLine.TheVariants as lines
+use Rattle.report_text.specs.declared.order.Order.{Order}
+use Rattle.report_text.specs.declared.order.Order.TheVariants as orders
+use Rattle.run_report.specs.Answers.{order_answer}
+use Rattle.run_report.specs.Events.{lines_of}
+use Rattle.run_report.specs.OneDevice.{power_lines_by}
 use Rattle.subsystem_core.specs.declared.end.EventEnd as core
 use Rattle.subsystem_core.specs.declared.end.EventEnd.TheVariants as seen
 use Rattle.subsystem_core.specs.declared.subsystem.Subsystem.{Subsystem}
@@ -13,17 +17,20 @@ use Rattle.subsystem_defs.specs.declared.end.EventEnd.{EventEnd}
 use Rattle.subsystem_defs.specs.declared.end.EventEnd.TheVariants as ends
 use Rattle.subsystem_defs.specs.declared.event.Event.{Event}
 use Rattle.subsystem_defs.specs.declared.event.Event.TheVariants as events
-use Rattle.subsystem_defs.specs.Beside.{loose_count}
+use Rattle.subsystem_defs.specs.Beside.{behind_first, has_power, loose_count}
+use Rattle.subsystem_defs.specs.Happening.{happens}
+use Rattle.subsystem_defs.specs.Lines.{Once, logged}
 use Rattle.subsystem_defs.specs.Subsystem as runs
+use Rattle.deck_run.specs.declared.all.Stock.{Stock}
 use Rattle.deck_run.specs.Loosening.{acts_when, all_loosed, is_quiet}
-use Rattle.deck_run.specs.Recording.{lines_when}
 
--- the events of all devices that run so far
+-- the events of all devices
 abbrev pub IsOpenOfAll : Event → Type 0
 IsOpenOfAll events.FailCache = Unit {0}
 IsOpenOfAll events.FailStore = Unit {0}
 IsOpenOfAll events.RepairCache = Unit {0}
 IsOpenOfAll events.RepairStore = Unit {0}
+IsOpenOfAll events.Power = Unit {0}
 IsOpenOfAll _ = ⊥
 
 -- the end of an order, which no device is asked for
@@ -32,29 +39,43 @@ order_end (seen.Pending n) = ends.Pending n
 order_end (seen.Refused fault) = ends.Refused fault
 order_end _ = ends.Done
 
-abbrev pub head_or : List ℕ → ℕ
-head_or [] = 0
-head_or (n ∷ ns) = n
+-- the order by which it is told
+abbrev pub order_of : Event → Order
+order_of events.FailCache = orders.FailCache
+order_of events.FailStore = orders.FailStore
+order_of events.RepairCache = orders.RepairCache
+order_of events.RepairStore = orders.RepairStore
+order_of _ = orders.Power
 
-abbrev pub tail_of : List ℕ → List ℕ
+abbrev pub no_stock : Stock
+no_stock = record { loose = 0; items = 0 }
+
+abbrev pub head_or : List Stock → Stock
+head_or [] = no_stock
+head_or (s ∷ ss) = s
+
+abbrev pub tail_of : List Stock → List Stock
 tail_of [] = []
-tail_of (n ∷ ns) = ns
+tail_of (s ∷ ss) = ss
 
 module _ {V : Type 0} {G : Ghosts V} where
-  abbrev pub loose_in : Device V G → ℕ
-  loose_in x = loose_count (device_of x).store
+  -- what is counted of a device before an event
+  abbrev pub stock_of : Device V G → Stock
+  stock_of x = record { loose = loose_count (device_of x).store; items = length x.past.items.items }
 
-  -- of a device on which so many tracks were loose before
-  abbrev pub gone_one : Bool → EventEnd → ℕ → Device V G → List ReportLine
-  gone_one quiet end n y =
-      map loosed_line (all_loosed y.store.number n (device_of y).store.number (acts_when quiet end (device_of y)) false)
+  -- of a device that had so much before: the program that a loss of power cut, and what came of its data of cache fast write
+  abbrev pub gone_one : Bool → EventEnd → Stock → Device V G → List ReportLine
+  gone_one quiet end s y =
+      let items = behind_first s.items y.past.items.items in
+      power_lines_by y.store.number
+      (all_loosed y.store.number s.loose (device_of y).store.number (acts_when quiet end (device_of y)) (has_power items)) items
 
   -- of each in rising order
-  abbrev pub gone_lines : Bool → EventEnd → List ℕ → List (Device V G) → List ReportLine
-  gone_lines quiet end ns [] = []
-  gone_lines quiet end ns (y ∷ ys) = gone_one quiet end (head_or ns) y ++ gone_lines quiet end (tail_of ns) ys
+  abbrev pub gone_lines : Bool → EventEnd → List Stock → List (Device V G) → List ReportLine
+  gone_lines quiet end ss [] = []
+  gone_lines quiet end ss (y ∷ ys) = gone_one quiet end (head_or ss) y ++ gone_lines quiet end (tail_of ss) ys
 
   -- an event of all devices that ended so tells this
   pub record TellsAll (old new : Subsystem V G) (e : Event) (run : runs.Subsystem) (end : EventEnd) : Type 0 where
-    pub lines : (h : Happened) → lines_when run e h
-        ≡ first_lines h ++ (gone_lines (is_quiet e) end (map loose_in old.devices.items) new.devices.items ++ line_if (last_line h))
+    pub lines : lines_of (logged (Once e) (happens run e))
+        ≡ gone_lines (is_quiet e) end (map stock_of old.devices.items) new.devices.items ++ lines.Order (order_of e) (order_answer end) ∷ []

@@ -1,19 +1,19 @@
 //! Events of all devices, with what their lines tell.
 
 ghost use Rattle.std.specs.Prelude.{◌≡◌, ◌<◌, ◌++◌, get_or, length, map, slice_index_or, IfOk, OnOk};
-ghost use Rattle.report_text.specs.declared.event.Happened.TheVariants as did;
-ghost use Rattle.run_report.specs.Answers.{order_answer};
+ghost use Rattle.run_report.specs.Events.{lines_of};
 ghost use Rattle.subsystem_core.specs.Devices.{numbers_of};
 ghost use Rattle.subsystem_defs.specs.Happening.{happens};
+ghost use Rattle.subsystem_defs.specs.Lines.{Once, logged};
 ghost use Rattle.subsystem_defs.specs.Subsystem as runs;
 ghost use Rattle.deck_run.specs.Loosening.{is_quiet};
 ghost use Rattle.deck_run.specs.Owning.{AreOwn};
-ghost use Rattle.deck_run.specs.Recording.{lines_when};
 ghost use Rattle.deck_run.specs.Standing.{StandsAs};
-ghost use Rattle.deck_run.specs.Sweeping.{IsOpenOfAll, TellsAll, gone_lines, gone_one, loose_in, order_end};
+ghost use Rattle.deck_run.specs.Sweeping.{IsOpenOfAll, TellsAll, gone_lines, gone_one, no_stock, order_end, order_of, stock_of};
 
 use crate::event::chains_stand;
 use crate::loosed::{all_loosed, is_quiet, loose_of};
+use crate::pass::behind_first;
 use ckd_types::NoMemory;
 use device_core::Device;
 use device_outside::Volume;
@@ -23,24 +23,51 @@ use std::alloc::Global;
 use subsystem_core::{EventEnd, Subsystem};
 use subsystem_defs::{Event, EventEnd as End};
 
-/// How many tracks of each device are loose.
-fn loose_counts<V: Volume>(alloc: Global, devices: &[Device<V>]) -> Result<Vec<u16>, NoMemory>
-    ensures { IfOk result (λ counts. counts.items ≡ map loose_in devices.now) }
-{
-    let mut counts = Vec::new(alloc);
-    for device in devices {
-        counts.push(loose_of(device))?;
-    }
-    Ok(counts)
+/// What is counted of a device before an event: how many of its tracks are loose, and how many items its journal has.
+#[derive(Clone, Copy)]
+pub(crate) struct Stock {
+    pub loose: u16,
+    pub items: usize,
 }
 
-fn order_end(end: EventEnd) -> End
+fn stock_of<V: Volume>(device: &Device<V>) -> Stock
+    ensures { result ≡ stock_of device.now }
+{
+    Stock {
+        loose: loose_of(device),
+        items: device.journal().len(),
+    }
+}
+
+fn stocks_of<V: Volume>(alloc: Global, devices: &[Device<V>]) -> Result<Vec<Stock>, NoMemory>
+    ensures { IfOk result (λ stocks. stocks.items ≡ map stock_of devices.now) }
+{
+    let mut stocks = Vec::new(alloc);
+    for device in devices {
+        stocks.push(stock_of(device))?;
+    }
+    Ok(stocks)
+}
+
+pub(crate) fn order_end(end: EventEnd) -> End
     ensures { result ≡ order_end end }
 {
     match end {
         EventEnd::Pending(n) => End::Pending(n),
         EventEnd::Refused(fault) => End::Refused(fault),
         _ => End::Done,
+    }
+}
+
+fn order_of(e: &Event) -> Order
+    ensures { result ≡ order_of e.now }
+{
+    match e {
+        Event::FailCache => Order::FailCache,
+        Event::FailStore => Order::FailStore,
+        Event::RepairCache => Order::RepairCache,
+        Event::RepairStore => Order::RepairStore,
+        _ => Order::Power,
     }
 }
 
@@ -61,10 +88,11 @@ fn do_all<V: Volume>(sub: &mut Subsystem<V>, e: Event) -> Result<End, NoMemory>
     Ok(order_end(end))
 }
 
-fn count_at(counts: &[u16], i: usize) -> u16
-    ensures { result ≡ slice_index_or counts.now i 0 }
+fn stock_at(stocks: &[Stock], i: usize) -> Stock
+    ensures { result ≡ slice_index_or stocks.now i no_stock }
 {
-    counts.get(i).copied().unwrap_or(0)
+    let none = Stock { loose: 0, items: 0 };
+    stocks.get(i).copied().unwrap_or(none)
 }
 
 fn device_of<V: Volume>(devices: &[Device<V>], i: usize) -> &Device<V>
@@ -79,34 +107,32 @@ fn record_one<V: Volume>(
     report: &mut RunRecord,
     quiet: bool,
     end: &End,
-    count: u16,
+    stock: Stock,
     device: &Device<V>,
 ) -> Result<(), NoMemory>
-    ensures { OnOk result (report.new ≡ report.old ++ gone_one quiet end.now count device.now) }
+    ensures { OnOk result (report.new ≡ report.old ++ gone_one quiet end.now stock device.now) }
 {
-    let acts = all_loosed(alloc, device.number(), count, device, quiet, end, &[])?;
-    let gained = Gained {
-        acts: &acts,
-        items: &[],
-    };
+    let items = behind_first(device.journal(), stock.items);
+    let acts = all_loosed(alloc, device.number(), stock.loose, device, quiet, end, items)?;
+    let gained = Gained { acts: &acts, items };
     record_power_of(report, device.number(), &gained)?;
     Ok(())
 }
 
-/// What came to each device of its data of cache fast write.
+/// What came to each device: the program that was cut, and what became of its data of cache fast write.
 fn record_gone<V: Volume>(
     alloc: Global,
     report: &mut RunRecord,
     quiet: bool,
     end: &End,
-    counts: &[u16],
+    stocks: &[Stock],
     devices: &[Device<V>],
 ) -> Result<(), NoMemory>
-    ensures { OnOk result (report.new ≡ report.old ++ gone_lines quiet end.now counts.now devices.now) }
+    ensures { OnOk result (report.new ≡ report.old ++ gone_lines quiet end.now stocks.now devices.now) }
 {
     for i in 0..devices.len() {
         let device = device_of(devices, i);
-        record_one(alloc, report, quiet, end, count_at(counts, i), device)?;
+        record_one(alloc, report, quiet, end, stock_at(stocks, i), device)?;
     }
     Ok(())
 }
@@ -117,20 +143,20 @@ pub(crate) fn order_all<V: Volume>(
     sub: &mut Subsystem<V>,
     report: &mut RunRecord,
     e: Event,
-    order: Order,
 ) -> Result<(), NoMemory>
     requires on { IsOpenOfAll e }
     requires own { AreOwn sub.old.devices.items }
     ensures numbers { numbers_of sub.new.devices.items ≡ numbers_of sub.old.devices.items }
     ensures own { OnOk result (AreOwn sub.new.devices.items) }
     ensures stands { (run : runs.Subsystem) → StandsAs sub.old run → OnOk result (StandsAs sub.new (happens run e).behind) }
-    ensures lines { (run : runs.Subsystem) → StandsAs sub.old run → OnOk result (report.new ≡ report.old ++ lines_when run e (did.Ordered order (order_answer (happens run e).end))) }
+    ensures lines { (run : runs.Subsystem) → StandsAs sub.old run → OnOk result (report.new ≡ report.old ++ lines_of (logged (Once e) (happens run e))) }
 {
     report.make_room()?;
-    let counts = loose_counts(alloc, sub.devices())?;
+    let stocks = stocks_of(alloc, sub.devices())?;
     let quiet = is_quiet(&e);
+    let order = order_of(&e);
     let end = do_all(sub, e)?;
-    record_gone(alloc, report, quiet, &end, &counts, sub.devices())?;
+    record_gone(alloc, report, quiet, &end, &stocks, sub.devices())?;
     record_order(report, order, &end)?;
     Ok(())
 }

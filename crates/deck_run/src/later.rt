@@ -76,7 +76,9 @@ fn is_open_line(deck: &Deck, line: EventLine) -> bool
         EventLine::Settle(d) | EventLine::FailVolume(d, _) => is_there(deck, d),
         EventLine::Step(d) | EventLine::Run(d) | EventLine::Back(d) => is_there(deck, d),
         EventLine::FailCache | EventLine::FailStore => true,
-        EventLine::RepairCache | EventLine::RepairStore => true,
+        EventLine::RepairCache | EventLine::RepairStore | EventLine::Power => true,
+        EventLine::Replace(d, _) => is_there(deck, d),
+        EventLine::Suspend(d) | EventLine::Resume(d) => is_there(deck, d),
         _ => false,
     }
 }

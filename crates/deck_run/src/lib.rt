@@ -10,6 +10,7 @@ mod line;
 mod loosed;
 mod open;
 mod pass;
+mod replace;
 mod run;
 
 pub use later::first_later;

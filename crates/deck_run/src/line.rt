@@ -2,7 +2,6 @@ ghost use Rattle.std.specs.Prelude.{◌≡◌, ◌++◌, IfOk, OnOk, true};
 ghost use Rattle.device_outside.specs.Lists.{is_in};
 ghost use Rattle.report_text.specs.declared.answers.BackAnswer.TheVariants as none;
 ghost use Rattle.report_text.specs.declared.event.Happened.TheVariants as did;
-ghost use Rattle.report_text.specs.declared.order.Order.TheVariants as orders;
 ghost use Rattle.run_report.specs.Answers.{order_answer, start_answer};
 ghost use Rattle.run_report.specs.Events.{running_in, work_told};
 ghost use Rattle.run_report.specs.OneDevice.{lines_by};
@@ -12,16 +11,17 @@ ghost use Rattle.subsystem_defs.specs.Lines.{asked_by, backs, is_busy, is_settle
 ghost use Rattle.subsystem_defs.specs.Subsystem as runs;
 ghost use Rattle.subsystem_defs.specs.Subsystem.{devices_of};
 ghost use Rattle.deck_run.specs.Opening.{is_open_line};
-ghost use Rattle.deck_run.specs.Owning.{AreOwn};
+ghost use Rattle.deck_run.specs.Owning.{AreOwn, IsOpenOn};
 ghost use Rattle.deck_run.specs.Recording.{all_lines, lines_when};
 ghost use Rattle.deck_run.specs.Standing.{StandsAs};
 
 use crate::all::order_all;
 use crate::pass::{behind_first, pass};
-use ckd_types::{DeviceNo, NoMemory, PathNo, Side};
+use crate::replace::replace;
+use ckd_types::{DeviceNo, NoMemory, PathNo};
 use deck_plan::EventLine;
 use device_defs::Did;
-use device_outside::Volume;
+use device_outside::{MemVolume, Volume};
 use plain_defs::Item;
 use report_text::{BackAnswer, Happened, Loosed, Order, ReportLine, RunRecord};
 use run_report::{Calls, Gained, order_answer, record_event, start_answer, work_told};
@@ -206,25 +206,26 @@ fn reset<V: Volume>(
     Ok(())
 }
 
-/// The loss of a side.
-fn fail_volume<V: Volume>(
+/// An order to one device.
+fn order_one<V: Volume>(
     alloc: Global,
     sub: &mut Subsystem<V>,
     report: &mut RunRecord,
     d: DeviceNo,
-    side: Side,
+    e: Event,
+    order: Order,
 ) -> Result<(), NoMemory>
     requires here { is_in d (numbers_of sub.old.devices.items) ≡ true }
+    requires on { IsOpenOn d e }
     requires own { AreOwn sub.old.devices.items }
     ensures numbers { numbers_of sub.new.devices.items ≡ numbers_of sub.old.devices.items }
     ensures own { OnOk result (AreOwn sub.new.devices.items) }
-    ensures stands { (run : runs.Subsystem) → StandsAs sub.old run → OnOk result (StandsAs sub.new (happens run (Event.FailVolume d side)).behind) }
-    ensures lines { (run : runs.Subsystem) → StandsAs sub.old run → OnOk result (report.new ≡ report.old ++ lines_when run (Event.FailVolume d side) (did.Ordered (orders.FailVolume d side) (order_answer (happens run (Event.FailVolume d side)).end))) }
+    ensures stands { (run : runs.Subsystem) → StandsAs sub.old run → OnOk result (StandsAs sub.new (happens run e).behind) }
+    ensures lines { (run : runs.Subsystem) → StandsAs sub.old run → OnOk result (report.new ≡ report.old ++ lines_when run e (did.Ordered order (order_answer (happens run e).end))) }
 {
     report.make_room()?;
-    let passed = pass(alloc, sub, d, Event::FailVolume(d, side))?;
+    let passed = pass(alloc, sub, d, e)?;
     let items = behind_first(sub.device(d).journal(), passed.items);
-    let order = Order::FailVolume(d, side);
     let happened = Happened::Ordered(order, order_answer(&passed.end));
     record_passed(report, d, happened, &passed.acts, items, passed.calls)?;
     Ok(())
@@ -287,10 +288,10 @@ fn finish<V: Volume>(
     Ok(())
 }
 
-/// One event line. START, STEP, RUN, BACK, SETTLE, RESET, FAIL and REPAIR run so far.
-pub(crate) fn do_line<V: Volume>(
+/// One event line. PAIR and UNPAIR don't run yet.
+pub(crate) fn do_line(
     alloc: Global,
-    sub: &mut Subsystem<V>,
+    sub: &mut Subsystem<MemVolume>,
     report: &mut RunRecord,
     line: EventLine,
 ) -> Result<(), NoMemory>
@@ -308,23 +309,26 @@ pub(crate) fn do_line<V: Volume>(
         EventLine::Back(d) => back(alloc, sub, report, d),
         EventLine::Settle(d) => settle(alloc, sub, report, d),
         EventLine::Reset(path, d) => reset(alloc, sub, report, path, d),
-        EventLine::FailVolume(d, side) => fail_volume(alloc, sub, report, d, side),
-        EventLine::FailCache => order_all(alloc, sub, report, Event::FailCache, Order::FailCache),
-        EventLine::FailStore => order_all(alloc, sub, report, Event::FailStore, Order::FailStore),
-        EventLine::RepairCache => order_all(
+        EventLine::Replace(d, side) => replace(alloc, sub, report, d, side),
+        EventLine::FailVolume(d, side) => order_one(
             alloc,
             sub,
             report,
-            Event::RepairCache,
-            Order::RepairCache,
+            d,
+            Event::FailVolume(d, side),
+            Order::FailVolume(d, side),
         ),
-        EventLine::RepairStore => order_all(
-            alloc,
-            sub,
-            report,
-            Event::RepairStore,
-            Order::RepairStore,
-        ),
+        EventLine::Suspend(d) => {
+            order_one(alloc, sub, report, d, Event::Suspend(d), Order::Suspend(d))
+        }
+        EventLine::Resume(d) => {
+            order_one(alloc, sub, report, d, Event::Resume(d), Order::Resume(d))
+        }
+        EventLine::FailCache => order_all(alloc, sub, report, Event::FailCache),
+        EventLine::FailStore => order_all(alloc, sub, report, Event::FailStore),
+        EventLine::RepairCache => order_all(alloc, sub, report, Event::RepairCache),
+        EventLine::RepairStore => order_all(alloc, sub, report, Event::RepairStore),
+        EventLine::Power => order_all(alloc, sub, report, Event::Power),
         _ => unreachable!(),
     }
 }

@@ -44,7 +44,9 @@ pub(crate) fn is_quiet(e: &Event) -> bool
     ensures { result ≡ is_quiet e.now }
 {
     match e {
-        Event::Reset(_, _) | Event::RepairCache | Event::RepairStore => true,
+        Event::Reset(_, _) | Event::Power => true,
+        Event::Suspend(_) | Event::Resume(_) => true,
+        Event::RepairCache | Event::RepairStore => true,
         _ => false,
     }
 }

@@ -5,5 +5,5 @@ use Rattle.deck_run.proofs.all.record_gone.Given as goal
 -- what is left to tell
 abbrev pub invariant-loop-i : goal.invariant-loop-i
 invariant-loop-i g l =
-    (l.report ++ gone_lines l.quiet l.end (drop l.i l.counts) (drop l.i l.devices) ≡ l.initial.report ++ gone_lines l.quiet l.end l.counts l.devices)
+    (l.report ++ gone_lines l.quiet l.end (drop l.i l.stocks) (drop l.i l.devices) ≡ l.initial.report ++ gone_lines l.quiet l.end l.stocks l.devices)
     × (l.i-end ≡ length l.devices)

@@ -1,0 +1,68 @@
+ghost use Rattle.std.specs.Prelude.{◌≡◌, ◌*◌, ◌++◌, [], IfOk, IfSome, OnOk, length, true};
+ghost use Rattle.device_outside.specs.Disk.{new_disk};
+ghost use Rattle.device_outside.specs.Lists.{is_in};
+ghost use Rattle.run_report.specs.Events.{lines_of};
+ghost use Rattle.subsystem_core.specs.Devices.{device_at, numbers_of};
+ghost use Rattle.subsystem_defs.specs.Happening.{replaced};
+ghost use Rattle.subsystem_defs.specs.Lines.{Replace, logged};
+ghost use Rattle.subsystem_defs.specs.Subsystem as runs;
+ghost use Rattle.subsystem_defs.specs.Subsystem.{unfailing};
+ghost use Rattle.deck_run.specs.Owning.{AreOwn};
+ghost use Rattle.deck_run.specs.Replacing.{IsReplaced};
+ghost use Rattle.deck_run.specs.Standing.{StandsAs};
+
+use crate::all::order_end;
+use crate::event::chains_stand;
+use ckd_types::{DeviceNo, NoMemory, Side};
+use device_outside::MemVolume;
+use report_text::{Order, RunRecord};
+use run_report::record_order;
+use std::alloc::Global;
+use subsystem_core::Subsystem;
+use subsystem_defs::EventEnd;
+
+/// A side's new volume of empty tracks, and how the order ends.
+fn put_volume(
+    sub: &mut Subsystem<MemVolume>,
+    d: DeviceNo,
+    side: Side,
+    volume: MemVolume,
+) -> Result<EventEnd, NoMemory>
+    requires here { is_in d (numbers_of sub.old.devices.items) ≡ true }
+    requires own { AreOwn sub.old.devices.items }
+    requires empty { IfSome (device_at sub.old.devices.items d) (λ x. volume ≡ new_disk x.store.cylinders [] []) }
+    requires size { IfSome (device_at sub.old.devices.items d) (λ x. length volume.tracks ≡ x.store.cylinders * 15) }
+    ensures numbers { numbers_of sub.new.devices.items ≡ numbers_of sub.old.devices.items }
+    ensures own { OnOk result (AreOwn sub.new.devices.items) }
+    ensures happened { (run : runs.Subsystem) → StandsAs sub.old run → IfOk result (λ end. IsReplaced run d side end sub.new) }
+{
+    chains_stand(sub.devices());
+    let end = match sub.replace(d, side, volume) {
+        Err((NoMemory, _)) => return Err(NoMemory),
+        Ok(end) => end,
+    };
+    Ok(order_end(end))
+}
+
+/// A new volume of empty tracks in place of a failed side's. None of its calls fails.
+pub(crate) fn replace(
+    alloc: Global,
+    sub: &mut Subsystem<MemVolume>,
+    report: &mut RunRecord,
+    d: DeviceNo,
+    side: Side,
+) -> Result<(), NoMemory>
+    requires here { is_in d (numbers_of sub.old.devices.items) ≡ true }
+    requires own { AreOwn sub.old.devices.items }
+    ensures numbers { numbers_of sub.new.devices.items ≡ numbers_of sub.old.devices.items }
+    ensures own { OnOk result (AreOwn sub.new.devices.items) }
+    ensures stands { (run : runs.Subsystem) → StandsAs sub.old run → OnOk result (StandsAs sub.new (replaced run d side unfailing).behind) }
+    ensures lines { (run : runs.Subsystem) → StandsAs sub.old run → OnOk result (report.new ≡ report.old ++ lines_of (logged (Replace d side) (replaced run d side unfailing))) }
+{
+    report.make_room()?;
+    let cylinders = sub.device(d).cylinders();
+    let volume = MemVolume::new(alloc, cylinders, &[], &[])?;
+    let end = put_volume(sub, d, side, volume)?;
+    record_order(report, Order::Replace(d, side), &end)?;
+    Ok(())
+}
