@@ -42,7 +42,7 @@ use Rattle.subsystem_defs.specs.Refusals as R
 use Rattle.subsystem_defs.specs.Refusals.{first_cause, lent_by, replace_fault, where_so}
 use Rattle.subsystem_defs.specs.Subsystem as runs
 use Rattle.subsystem_defs.specs.Subsystem.{Mounted, mounted_in, unfailing}
-use Rattle.subsystem_laws.specs.Comes.{subsystem_of}
+use Rattle.subsystem_laws.specs.WholeComes.{subsystem_of}
 use Rattle.subsystem_laws.specs.WholeComes.{IsWhatCame}
 use Rattle.subsystem_laws.specs.WholeStood as laws
 use Rattle.subsystem_laws.specs.WholeStood.{AreMounted, Stood, with_volume}

@@ -113,7 +113,15 @@ fn record_one<V: Volume>(
     ensures { OnOk result (report.new ≡ report.old ++ gone_one quiet end.now stock device.now) }
 {
     let items = behind_first(device.journal(), stock.items);
-    let acts = all_loosed(alloc, device.number(), stock.loose, device, quiet, end, items)?;
+    let acts = all_loosed(
+        alloc,
+        device.number(),
+        stock.loose,
+        device,
+        quiet,
+        end,
+        items,
+    )?;
     let gained = Gained { acts: &acts, items };
     record_power_of(report, device.number(), &gained)?;
     Ok(())
