@@ -47,7 +47,7 @@ all_apart : {used taken : List ℕ} {xs : List Stood} {ms : List Mounted} (s : A
 all_apart (no_more k) i j t q slot x y at there e f = absurd (cc)
 all_apart (one_more {x = z} mine is apart rest) zero zero t q slot x y at there e f =
     let same = (own_slots is).apart true true t q slot (subst (λ (k : Stood). slot_on k t ≡ Some slot) (sym (some_is z x at)) e)
-        (subst (λ (k : Stood). slot_on k q ≡ Some slot) (sym (some_is z y there)) f) in
+    (subst (λ (k : Stood). slot_on k q ≡ Some slot) (sym (some_is z y there)) f) in
     (refl, same.1)
 all_apart {taken = taken} (one_more mine is apart rest) zero (suc j) t q slot x y at there e f =
     absurd (first_alone taken mine rest slot (own_is mine is x t slot at e) (all_theirs rest j q slot y there f))

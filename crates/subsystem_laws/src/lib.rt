@@ -3,8 +3,8 @@
 
 mod causes;
 mod plain;
-mod waits;
 mod standing;
+mod waits;
 mod whole;
 
 pub use causes::{
@@ -12,8 +12,8 @@ pub use causes::{
     run_has_good_marks, run_has_no_data_check, run_loses_no_track, run_misses_nothing,
 };
 pub use plain::{read_run_is_plain, run_is_plain};
-pub use waits::{read_repairs_count_waiting, repairs_count_waiting};
 pub use standing::{devices_are_sound, slots_are_apart};
+pub use waits::{read_repairs_count_waiting, repairs_count_waiting};
 pub use whole::{
     whole_device_is_mounted, whole_event_is_what_happens, whole_events_are_what_happens,
     whole_replaced_is_what_happens, whole_unpaired_is_what_happens,
