@@ -1,5 +1,5 @@
 use ckd_ccw::Program;
-use ckd_types::{Bytes, Ccw, DeviceNo, Geometry, PathNo, Side, TrackNo};
+use ckd_types::{Bytes, Ccw, DeviceNo, Geometry, PathNo, TrackNo};
 use deck_plan::PathPlans;
 use device_core::Device;
 use device_outside::MemVolume;
@@ -8,7 +8,7 @@ use plain_defs::{How, Item};
 use std::alloc::Global;
 use std::test::Fail;
 use subsystem_core::{EventEnd, Subsystem};
-use subsystem_defs::{Event, OrderFault};
+use subsystem_defs::Event;
 
 /// Define extent over cylinder 0.
 const EXTENT: &[u8] = &[0x40, 0xc0, 0x10, 0, 0, 0, 0, 0, 0, 0, 0, 0, 0, 0, 0, 0x0e];
@@ -54,12 +54,17 @@ fn subsystem(alloc: Global, d: DeviceNo, volume: MemVolume) -> Result<Subsystem<
     Ok(Subsystem::new(Pool::new(alloc, 1, 1)?, devices)?)
 }
 
-fn event(sub: &mut Subsystem<MemVolume>, e: &Event) -> Result<(), Fail> {
+fn event(sub: &mut Subsystem<MemVolume>, e: &Event) -> Result<EventEnd, Fail> {
     if sub.may_come(*e) {
-        sub.event(*e)?;
-        return Ok(());
+        return Ok(sub.event(*e)?);
     }
     Err("event".into())
+}
+
+/// An event whose end isn't looked at.
+fn happen(sub: &mut Subsystem<MemVolume>, e: &Event) -> Result<(), Fail> {
+    let _end = event(sub, e)?;
+    Ok(())
 }
 
 fn device_of(sub: &Subsystem<MemVolume>, d: DeviceNo) -> Result<&Device<MemVolume>, Fail> {
@@ -93,9 +98,9 @@ fn bytes_that_are_no_track_end_a_command_with_data_check(rt: HostRuntime) -> Res
     let mut volume = MemVolume::new(alloc, 1, &[], &[])?;
     volume.spoil(t, &[0; 3]);
     let mut sub = subsystem(alloc, d, volume)?;
-    event(&mut sub, &Event::Start(path, d))?;
-    event(&mut sub, &Event::Step(d))?;
-    event(&mut sub, &Event::Step(d))?;
+    happen(&mut sub, &Event::Start(path, d))?;
+    happen(&mut sub, &Event::Step(d))?;
+    happen(&mut sub, &Event::Step(d))?;
     assert_eq!(rt; last_end(&sub, d)?, (0x0e, 16, Some(8)));
     assert!(rt; was_checked(&sub, d)?);
     assert_eq!(rt; device_of(&sub, d)?.lost().len(), 0);
@@ -130,42 +135,5 @@ fn events_come_one_after_another(rt: HostRuntime) -> Result<(), Fail> {
     assert_eq!(rt; last_end(&sub, d)?, (0x0c, 0, None));
     let (_pool, devices) = sub.into_parts();
     assert_eq!(rt; devices.len(), 1);
-    Ok(())
-}
-
-/// Whether a replacement was done, or the side was up.
-fn was_done(end: &EventEnd) -> Option<bool> {
-    match end {
-        EventEnd::Done => Some(true),
-        EventEnd::Refused(OrderFault::Up) => Some(false),
-        _ => None,
-    }
-}
-
-fn replaced(
-    sub: &mut Subsystem<MemVolume>,
-    d: DeviceNo,
-    volume: MemVolume,
-) -> Result<Option<bool>, Fail> {
-    let cylinders = device_of(sub, d)?.cylinders();
-    if volume.len() != usize::from(cylinders) * 15 {
-        return Err("volume".into());
-    }
-    let Ok(end) = sub.replace(d, Side::A, volume) else {
-        return Err("memory".into());
-    };
-    Ok(was_done(&end))
-}
-
-#[test]
-fn a_lost_volume_is_replaced_once(rt: HostRuntime) -> Result<(), Fail> {
-    let alloc = rt.alloc();
-    let d = DeviceNo::new(5).ok_or("device")?;
-    let mut sub = subsystem(alloc, d, MemVolume::new(alloc, 1, &[], &[])?)?;
-    event(&mut sub, &Event::FailVolume(d, Side::A))?;
-    let first = replaced(&mut sub, d, MemVolume::new(alloc, 1, &[], &[])?)?;
-    assert_eq!(rt; first, Some(true));
-    let second = replaced(&mut sub, d, MemVolume::new(alloc, 1, &[], &[])?)?;
-    assert_eq!(rt; second, Some(false));
     Ok(())
 }
