@@ -7,7 +7,7 @@ use frame_pool::Pool;
 use plain_defs::{How, Item};
 use std::alloc::Global;
 use std::test::Fail;
-use subsystem_core::{EventEnd, Subsystem};
+use subsystem_core::Subsystem;
 use subsystem_defs::Event;
 
 /// Define extent over cylinder 0.
@@ -54,19 +54,6 @@ fn subsystem(alloc: Global, d: DeviceNo, volume: MemVolume) -> Result<Subsystem<
     Ok(Subsystem::new(Pool::new(alloc, 1, 1)?, devices)?)
 }
 
-fn event(sub: &mut Subsystem<MemVolume>, e: &Event) -> Result<EventEnd, Fail> {
-    if sub.may_come(*e) {
-        return Ok(sub.event(*e)?);
-    }
-    Err("event".into())
-}
-
-/// An event whose end isn't looked at.
-fn happen(sub: &mut Subsystem<MemVolume>, e: &Event) -> Result<(), Fail> {
-    let _end = event(sub, e)?;
-    Ok(())
-}
-
 fn device_of(sub: &Subsystem<MemVolume>, d: DeviceNo) -> Result<&Device<MemVolume>, Fail> {
     if sub.has_device(d) {
         return Ok(sub.device(d));
@@ -89,24 +76,6 @@ fn was_checked(sub: &Subsystem<MemVolume>, d: DeviceNo) -> Result<bool, Fail> {
     }
 }
 
-#[test]
-fn bytes_that_are_no_track_end_a_command_with_data_check(rt: HostRuntime) -> Result<(), Fail> {
-    let alloc = rt.alloc();
-    let d = DeviceNo::new(5).ok_or("device")?;
-    let path = PathNo::new(1).ok_or("path")?;
-    let t = TrackNo::new(0).ok_or("track")?;
-    let mut volume = MemVolume::new(alloc, 1, &[], &[])?;
-    volume.spoil(t, &[0; 3]);
-    let mut sub = subsystem(alloc, d, volume)?;
-    happen(&mut sub, &Event::Start(path, d))?;
-    happen(&mut sub, &Event::Step(d))?;
-    happen(&mut sub, &Event::Step(d))?;
-    assert_eq!(rt; last_end(&sub, d)?, (0x0e, 16, Some(8)));
-    assert!(rt; was_checked(&sub, d)?);
-    assert_eq!(rt; device_of(&sub, d)?.lost().len(), 0);
-    Ok(())
-}
-
 /// Events one after another, as long as they may come.
 fn ends_of(
     alloc: Global,
@@ -117,6 +86,23 @@ fn ends_of(
         return Ok(Some(sub.run(alloc, events)?.len()));
     }
     Ok(None)
+}
+
+#[test]
+fn bytes_that_are_no_track_end_a_command_with_data_check(rt: HostRuntime) -> Result<(), Fail> {
+    let alloc = rt.alloc();
+    let d = DeviceNo::new(5).ok_or("device")?;
+    let path = PathNo::new(1).ok_or("path")?;
+    let t = TrackNo::new(0).ok_or("track")?;
+    let mut volume = MemVolume::new(alloc, 1, &[], &[])?;
+    volume.spoil(t, &[0; 3]);
+    let mut sub = subsystem(alloc, d, volume)?;
+    let events = [Event::Start(path, d), Event::Step(d), Event::Step(d)];
+    assert_eq!(rt; ends_of(alloc, &mut sub, &events)?, Some(3));
+    assert_eq!(rt; last_end(&sub, d)?, (0x0e, 16, Some(8)));
+    assert!(rt; was_checked(&sub, d)?);
+    assert_eq!(rt; device_of(&sub, d)?.lost().len(), 0);
+    Ok(())
 }
 
 #[test]
