@@ -25,9 +25,9 @@ none_open : (x : Option Running) → is_some x ≡ false → option_map open_of 
 none_open None e = refl
 none_open (Some r) e = absurd cc
 
-pub counted_ends : (p : Past) → Keeps p → IfSome p.running (λ r. length r.ends.items ≤ 65535)
+pub counted_ends : (p : Past) → Keeps p → IfSome p.running (λ r. length r.ends.items ≤ 65534)
 counted_ends p k = by_case p.running k.ends where
-  by_case : (x : Option Running) → IfSome (option_map open_of x) (λ (o : OpenEntry). length o.ends ≤ 65535) → IfSome x (λ r. length r.ends.items ≤ 65535)
+  by_case : (x : Option Running) → IfSome (option_map open_of x) (λ (o : OpenEntry). length o.ends ≤ 65534) → IfSome x (λ r. length r.ends.items ≤ 65534)
   by_case None e = tt
   by_case (Some r) e = e
 

@@ -76,11 +76,11 @@ module _ (h : History) (kept : List KeptPath) (powered : Bool) (spare : ℕ) (k 
   pub room_of_running : 7 ≤ spare
   room_of_running = running_room
 
-  pub ends_of_running : length o.ends ≤ 65535
-  ends_of_running = subst (λ (r : Option OpenEntry). IfSome r (λ (x : OpenEntry). length x.ends ≤ 65535)) is k.ends
+  pub ends_of_running : length o.ends ≤ 65534
+  ends_of_running = subst (λ (r : Option OpenEntry). IfSome r (λ (x : OpenEntry). length x.ends ≤ 65534)) is k.ends
 
   -- a command of it ended
-  pub end_keeps : (e : CommandEnd) → length o.ends < 65535 → KeepsAll (record h { running = Some (with_end o e) }) kept powered spare
+  pub end_keeps : (e : CommandEnd) → length o.ends < 65534 → KeepsAll (record h { running = Some (with_end o e) }) kept powered spare
   end_keeps e lt = record {
     four = k.four;
     paths = λ i least most. let kp = k.paths i least most in

@@ -14,3 +14,4 @@ pub mod Powers
 pub mod Acting
 pub mod Eventful
 pub mod Losing
+pub mod Halves

@@ -42,7 +42,7 @@ pub room_where : (p : Past) → Keeps p → IsSome p.running → 7 ≤ p.items.s
 room_where p k is =
     let it = some_open p.running is in room_of_running (history_of p) p.kept p.powered p.items.spare k it.0 it.1
 
-pub ends_where : (p : Past) → Keeps p → (o : OpenEntry) → option_map open_of p.running ≡ Some o → length o.ends ≤ 65535
+pub ends_where : (p : Past) → Keeps p → (o : OpenEntry) → option_map open_of p.running ≡ Some o → length o.ends ≤ 65534
 ends_where p k o is = ends_of_running (history_of p) p.kept p.powered p.items.spare k o is
 
 -- what is kept is so of an equal past
@@ -75,7 +75,7 @@ keeps_same p y same k =
 -- a command of it ended
 pub keeps_ended : (p : Past) (y : Option Running) (e : CommandEnd) → Keeps p → IsSome p.running →
     ((o : OpenEntry) → option_map open_of p.running ≡ Some o → option_map open_of y ≡ Some (with_end o e)) →
-    ((o : OpenEntry) → option_map open_of p.running ≡ Some o → length o.ends < 65535) → Keeps (record p { running = y })
+    ((o : OpenEntry) → option_map open_of p.running ≡ Some o → length o.ends < 65534) → Keeps (record p { running = y })
 keeps_ended p y e k is same counted =
     let it = some_open p.running is in
     subst (λ (x : Option OpenEntry). KeepsAll (made p.items.items x (waiting_in p.kept)) p.kept p.powered p.items.spare) (sym (same it.0 it.1))
@@ -154,8 +154,8 @@ room_unused p path k idle used least most =
     omega (arith, some, room)
 
 -- its own path's reset cuts the program that runs
-module _ (p q y z : Past) (o : OpenEntry) (k : Keeps p) (is : option_map open_of p.running ≡ Some o) (least : 1 ≤ o.path) (most : o.path ≤ 4)
-    (over : q.running ≡ None) (entry : q.items.items ≡ p.items.items ++ entry_of o (Cut (length o.ends)) ∷ [])
+module _ (p q y z : Past) (o : OpenEntry) (more : ℕ) (k : Keeps p) (is : option_map open_of p.running ≡ Some o) (least : 1 ≤ o.path) (most : o.path ≤ 4)
+    (over : q.running ≡ None) (entry : q.items.items ≡ p.items.items ++ entry_of o (Cut (length o.ends + more)) ∷ [])
     (spare_q : q.items.spare + 1 ≡ p.items.spare) (kept_q : q.kept ≡ p.kept) (powered_q : q.powered ≡ p.powered)
     (reset_y : y.items.items ≡ q.items.items ++ items.Reset o.path ∷ []) (spare_y : y.items.spare + 1 ≡ q.items.spare)
     (running_y : y.running ≡ q.running) (kept_y : y.kept ≡ with_unused q.kept o.path) (powered_y : y.powered ≡ q.powered)
@@ -167,26 +167,24 @@ module _ (p q y z : Past) (o : OpenEntry) (k : Keeps p) (is : option_map open_of
   pub waiting_cut : waiting_in y.kept ≡ waiting_in p.kept
   waiting_cut = ap waiting_in kept_cut ∙ waiting_kept p.kept 1 (o.path - 1) (unused p.kept o.path) (omega (arith, k.four, least, most)) refl
 
-  pub history_cut : history_of z ≡ cut_by (history_of p) o 0
+  pub history_cut : history_of z ≡ cut_by (history_of p) o more
   history_cut =
-      let none : length o.ends ≡ length o.ends + 0 = omega arith in
       ap (λ (l : List Item). made l (option_map open_of z.running) (waiting_in z.kept))
       (follow ∙ ap (λ (l : List Item). l ++ resets_of (waiting_in y.kept)) (reset_y ∙ ap (λ (l : List Item). l ++ items.Reset o.path ∷ []) entry)
-      ∙ ap (λ (w : List ℕ). ((p.items.items ++ entry_of o (Cut (length o.ends)) ∷ []) ++ items.Reset o.path ∷ []) ++ resets_of w) waiting_cut
-      ∙ append_assoc (p.items.items ++ entry_of o (Cut (length o.ends)) ∷ []) (items.Reset o.path ∷ []) (resets_of (waiting_in p.kept))
-      ∙ append_assoc p.items.items (entry_of o (Cut (length o.ends)) ∷ []) (items.Reset o.path ∷ resets_of (waiting_in p.kept)))
-      ∙ ap (λ (r : Option Running). made (p.items.items ++ entry_of o (Cut (length o.ends)) ∷ items.Reset o.path ∷ resets_of (waiting_in p.kept))
+      ∙ ap (λ (w : List ℕ). ((p.items.items ++ entry_of o (Cut (length o.ends + more)) ∷ []) ++ items.Reset o.path ∷ []) ++ resets_of w) waiting_cut
+      ∙ append_assoc (p.items.items ++ entry_of o (Cut (length o.ends + more)) ∷ []) (items.Reset o.path ∷ []) (resets_of (waiting_in p.kept))
+      ∙ append_assoc p.items.items (entry_of o (Cut (length o.ends + more)) ∷ []) (items.Reset o.path ∷ resets_of (waiting_in p.kept)))
+      ∙ ap (λ (r : Option Running). made (p.items.items ++ entry_of o (Cut (length o.ends + more)) ∷ items.Reset o.path ∷ resets_of (waiting_in p.kept))
       (option_map open_of r) (waiting_in z.kept)) (running_z ∙ running_y ∙ over)
-      ∙ ap (λ (w : List ℕ). made (p.items.items ++ entry_of o (Cut (length o.ends)) ∷ items.Reset o.path ∷ resets_of (waiting_in p.kept)) None w)
+      ∙ ap (λ (w : List ℕ). made (p.items.items ++ entry_of o (Cut (length o.ends + more)) ∷ items.Reset o.path ∷ resets_of (waiting_in p.kept)) None w)
       (ap waiting_in kept_z ∙ none_wait y.kept 1)
-      ∙ ap (λ (n : ℕ). made (p.items.items ++ entry_of o (Cut n) ∷ items.Reset o.path ∷ resets_of (waiting_in p.kept)) None []) none
 
   pub keeps_cut : Keeps z
   keeps_cut =
       let same : length (waiting_in y.kept) ≡ length (waiting_in p.kept) = ap length waiting_cut in
-      keeps_as z (cut_by (history_of p) o 0) (map over_path (with_unused p.kept o.path)) p.powered history_cut (kept_z ∙ ap (map over_path) kept_cut)
+      keeps_as z (cut_by (history_of p) o more) (map over_path (with_unused p.kept o.path)) p.powered history_cut (kept_z ∙ ap (map over_path) kept_cut)
       (powered_z ∙ powered_y ∙ powered_q)
-      (cut_keeps (history_of p) p.kept p.powered p.items.spare k o is 0 z.items.spare least most refl (omega (arith, same, spare_q, spare_y, spare_z)))
+      (cut_keeps (history_of p) p.kept p.powered p.items.spare k o is more z.items.spare least most refl (omega (arith, same, spare_q, spare_y, spare_z)))
 
 -- A start
 

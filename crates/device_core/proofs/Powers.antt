@@ -16,7 +16,7 @@ use Rattle.track_cache.specs.declared.frames.Frame.{Frame}
 use Rattle.track_image.specs.Image.{Image}
 use Rattle.device_outside.specs.declared.volume.Volume.{Ghosts}
 use Rattle.device_defs.specs.Contents.{contents}
-use Rattle.device_defs.specs.Cutting.{powerless, powered_off}
+use Rattle.device_defs.specs.Cutting.{counts_one_by, powerless, powered_off}
 use Rattle.device_defs.specs.Events.{with_loss}
 use Rattle.device_defs.specs.Start.{started_count}
 use Rattle.device_defs.specs.Store.{Store}
@@ -76,12 +76,12 @@ made l o w = record { items = l; running = o; waiting = w }
 
 -- A program ran, and was cut
 
-module _ (p q z : Past) (o : OpenEntry) (is : option_map open_of p.running ≡ Some o) (over : q.running ≡ None)
-    (entry : q.items.items ≡ p.items.items ++ entry_of o (Cut (length o.ends)) ∷ []) (kept_q : q.kept ≡ p.kept)
+module _ (p q z : Past) (o : OpenEntry) (more : ℕ) (is : option_map open_of p.running ≡ Some o) (over : q.running ≡ None)
+    (entry : q.items.items ≡ p.items.items ++ entry_of o (Cut (length o.ends + more)) ∷ []) (kept_q : q.kept ≡ p.kept)
     (power : z.items.items ≡ q.items.items ++ items.Power ∷ []) (running_z : z.running ≡ q.running) (kept_z : z.kept ≡ map off_path q.kept)
     (powered_z : z.powered ≡ false) where
   abbrev cut_items : List Item
-  cut_items = p.items.items ++ entry_of o (Cut (length o.ends)) ∷ []
+  cut_items = p.items.items ++ entry_of o (Cut (length o.ends + more)) ∷ []
 
   off_running : history_of z ≡ off_with cut_items
   off_running =
@@ -89,29 +89,28 @@ module _ (p q z : Past) (o : OpenEntry) (is : option_map open_of p.running ≡ S
       ∙ ap (λ (r : Option Running). made (cut_items ++ items.Power ∷ []) (option_map open_of r) (waiting_in z.kept)) (running_z ∙ over)
       ∙ ap (λ (w : List ℕ). made (cut_items ++ items.Power ∷ []) None w) (ap waiting_in kept_z ∙ none_left q.kept 1)
 
-  pub history_running : history_of z ≡ lost_power (history_of p) 0
+  pub history_running : history_of z ≡ lost_power (history_of p) more
   history_running =
       off_running
-      ∙ ap (λ (l : List Item). made l None []) (append_assoc p.items.items (entry_of o (Cut (length o.ends)) ∷ []) (items.Power ∷ []))
-      ∙ ap (λ (n : ℕ). made (p.items.items ++ entry_of o (Cut n) ∷ items.Power ∷ []) None []) (sym (no_more (length o.ends)))
-      ∙ sym (ap (lost_power_in (history_of p) 0) is)
+      ∙ ap (λ (l : List Item). made l None []) (append_assoc p.items.items (entry_of o (Cut (length o.ends + more)) ∷ []) (items.Power ∷ []))
+      ∙ sym (ap (lost_power_in (history_of p) more) is)
 
   pub keeps_running : Keeps p → Keeps z
   keeps_running k =
       keeps_as z (off_with cut_items) (map off_path p.kept) false off_running (kept_z ∙ ap (map off_path) kept_q) powered_z
       (off_keeps cut_items p.kept z.items.spare k.four (λ i least most.
       running_path (history_of p) p.kept p.powered p.items.spare k o is i (of_path p.kept i) (k.paths i least most)
-      ∙ sym (count_append (is_of_path i) 0 p.items.items (entry_of o (Cut (length o.ends)) ∷ []))))
+      ∙ sym (count_append (is_of_path i) 0 p.items.items (entry_of o (Cut (length o.ends + more)) ∷ []))))
 
 -- No program ran
 
 started_of : (p : Past) → Keeps p → p.running ≡ None → p.powered ≡ is_started false p.items.items
 started_of p k idle = k.powered_is ∙ ap (λ (r : Option Running). is_some (option_map open_of r) || is_started false p.items.items) idle
 
-power_if : (h : History) (b : Bool) → is_started false h.items ≡ b → lost_power_in h 0 None ≡ (if b then off_with h.items else h)
-power_if h b is = ap (λ (x : Bool). if x then off_with h.items else h) is
+power_if : (h : History) (more : ℕ) (b : Bool) → is_started false h.items ≡ b → lost_power_in h more None ≡ (if b then off_with h.items else h)
+power_if h more b is = ap (λ (x : Bool). if x then off_with h.items else h) is
 
-module _ (p z : Past) (idle : p.running ≡ None) (k : Keeps p) (powered : p.powered ≡ true)
+module _ (p z : Past) (more : ℕ) (idle : p.running ≡ None) (k : Keeps p) (powered : p.powered ≡ true)
     (power : z.items.items ≡ p.items.items ++ items.Power ∷ []) (running_z : z.running ≡ p.running) (kept_z : z.kept ≡ map off_path p.kept)
     (powered_z : z.powered ≡ false) where
   off_idle : history_of z ≡ off_with p.items.items
@@ -120,10 +119,10 @@ module _ (p z : Past) (idle : p.running ≡ None) (k : Keeps p) (powered : p.pow
       ∙ ap (λ (r : Option Running). made (p.items.items ++ items.Power ∷ []) (option_map open_of r) (waiting_in z.kept)) (running_z ∙ idle)
       ∙ ap (λ (w : List ℕ). made (p.items.items ++ items.Power ∷ []) None w) (ap waiting_in kept_z ∙ none_left p.kept 1)
 
-  pub history_idle : history_of z ≡ lost_power (history_of p) 0
+  pub history_idle : history_of z ≡ lost_power (history_of p) more
   history_idle =
-      off_idle ∙ sym (ap (λ (r : Option Running). lost_power_in (history_of p) 0 (option_map open_of r)) idle
-      ∙ power_if (history_of p) true (sym (started_of p k idle) ∙ powered))
+      off_idle ∙ sym (ap (λ (r : Option Running). lost_power_in (history_of p) more (option_map open_of r)) idle
+      ∙ power_if (history_of p) more true (sym (started_of p k idle) ∙ powered))
 
   pub keeps_idle : Keeps z
   keeps_idle =
@@ -133,10 +132,10 @@ module _ (p z : Past) (idle : p.running ≡ None) (k : Keeps p) (powered : p.pow
       ∙ no_more (count_by (is_of_path i) p.items.items)))
 
 -- nothing was started since the power came
-pub history_off : (p : Past) → Keeps p → p.running ≡ None → p.powered ≡ false → history_of p ≡ lost_power (history_of p) 0
-history_off p k idle off =
-    sym (ap (λ (r : Option Running). lost_power_in (history_of p) 0 (option_map open_of r)) idle
-    ∙ power_if (history_of p) false (sym (started_of p k idle) ∙ off))
+pub history_off : (p : Past) (more : ℕ) → Keeps p → p.running ≡ None → p.powered ≡ false → history_of p ≡ lost_power (history_of p) more
+history_off p more k idle off =
+    sym (ap (λ (r : Option Running). lost_power_in (history_of p) more (option_map open_of r)) idle
+    ∙ power_if (history_of p) more false (sym (started_of p k idle) ∙ off))
 
 -- Room
 
@@ -150,13 +149,15 @@ room_idle p k idle powered =
     omega (arith, one)
 
 -- the device behind it
-pub off_is : {V : Type 0} {G : Ghosts V} (x y : DeviceStore V G) (p q : Past) (paths now : PathsState) (plans : Plans) →
-    state_of y ≡ powerless contents (with_loss (state_of x) Cache) → now ≡ fresh_paths → history_of q ≡ lost_power (history_of p) 0 →
-    q.running ≡ None → powered_off contents (device_by (state_of x) paths plans p) (state_of x) ≡ device_by (state_of y) now plans q
-off_is x y p q paths now plans store fresh history over =
+pub off_is : {V : Type 0} {G : Ghosts V} (w : Store Frame Stored Image) (x y : DeviceStore V G) (p q : Past) (paths now : PathsState) (plans : Plans)
+    (more : ℕ) → counts_one_by w.half ≡ more → state_of y ≡ powerless contents (with_loss (state_of x) Cache) → now ≡ fresh_paths →
+    history_of q ≡ lost_power (history_of p) more → q.running ≡ None →
+    powered_off contents (device_by w paths plans p) (state_of x) ≡ device_by (state_of y) now plans q
+off_is w x y p q paths now plans more count store fresh history over =
     let off : Store Frame Stored Image → PathsState → History → Option Running → DefinedDevice = λ s ps h r.
     record { store = s; paths = ps; plans = plans; history = h; chain = option_map chain_of r } in
-    ap (λ (s : Store Frame Stored Image). off s fresh_paths (lost_power (history_of p) 0) None) (sym store)
-    ∙ ap (λ (ps : PathsState). off (state_of y) ps (lost_power (history_of p) 0) None) (sym fresh)
+    ap (λ (n : ℕ). off (powerless contents (with_loss (state_of x) Cache)) fresh_paths (lost_power (history_of p) n) None) count
+    ∙ ap (λ (s : Store Frame Stored Image). off s fresh_paths (lost_power (history_of p) more) None) (sym store)
+    ∙ ap (λ (ps : PathsState). off (state_of y) ps (lost_power (history_of p) more) None) (sym fresh)
     ∙ ap (λ (h : History). off (state_of y) now h None) (sym history)
     ∙ ap (λ (r : Option Running). off (state_of y) now (history_of q) r) (sym over)

@@ -20,7 +20,7 @@ use Rattle.device_outside.specs.Interaction.{Interaction, Done, and_then}
 use Rattle.device_defs.specs.Contents.{contents}
 use Rattle.device_defs.specs.Cutting.{counts_one_by, half_cut, path_cut, reset, reset_by, reset_noted}
 use Rattle.device_defs.specs.Device.{all_reset}
-use Rattle.device_defs.specs.Store.{HalfWrite, Store}
+use Rattle.device_defs.specs.Store.{Store}
 use Rattle.device_core.specs.declared.past.Past.{Past}
 use Rattle.device_core.specs.Kept.{chain_of, history_of}
 use Rattle.device_core.specs.State.{DefinedDevice, device_by}
@@ -52,9 +52,6 @@ module _ (d : DefinedDevice) (path : ℕ) where
   abbrev noted : History → DefinedDevice
   noted h = record d { history = h }
 
-  abbrev cut_to : History → Left
-  cut_to h = Done (record d { history = h; chain = None; paths = all_reset (reset_path d.paths path) d.history.waiting }) tt
-
   abbrev with_paths : History → Left
   with_paths h = Done (record d { history = h; paths = reset_path d.paths path }) tt
 
@@ -71,24 +68,24 @@ module _ (d : DefinedDevice) (path : ℕ) where
       ap (λ (t : Bool). t || is_used path false d.history.items) (sym other)
       ∙ ap (λ (y : Option OpenEntry). is_path_of y path || is_used path false d.history.items) (sym running) ∙ used
 
-  -- its program is cut
-  pub reset_cut : (o : OpenEntry) → d.store.half ≡ None → d.history.running ≡ Some o → (o.path == path) ≡ true →
-      reset contents d path ≡ Done (record d {
-        history = cut_by d.history o 0;
-        chain = None;
-        paths = all_reset (reset_path d.paths path) d.history.waiting;
-      }) tt
+  -- its program is cut, and an open half write of its command counts as done
+  abbrev cut_with : Store Frame Stored Image → History → DefinedDevice
+  cut_with s h = record d { store = s; history = h; chain = None; paths = all_reset (reset_path d.paths path) d.history.waiting }
+
+  abbrev pub cut_behind : Store Frame Stored Image → DefinedDevice
+  cut_behind s = cut_with s (reset_in d.history path (counts_one_by d.store.half) d.history.running)
+
+  pub reset_cut : (o : OpenEntry) → d.history.running ≡ Some o → (o.path == path) ≡ true →
+      reset contents d path ≡ and_then (half_cut contents d.store d.store.half) (λ s _. Done (cut_behind s) tt)
   unfolding reset
-  reset_cut o whole running same =
-      ap (λ (x : Option OpenEntry). reset_by contents d path x) running
-      ∙ ap (λ (b : Bool). by_path o b) same
-      ∙ ap (λ (h : Option (HalfWrite Image)). and_then (half_cut contents d.store h) (λ s _. Done (record (reset_noted contents d path (counts_one_by h)) {
-        store = s;
-        chain = None;
-        paths = all_reset (reset_path d.paths path) d.history.waiting;
-      }) tt)) whole
-      ∙ ap (λ (x : Option OpenEntry). cut_to (reset_in d.history path 0 x)) running
-      ∙ ap (λ (b : Bool). cut_to (in_path o 0 b)) same
+  reset_cut o running same = ap (λ (x : Option OpenEntry). reset_by contents d path x) running ∙ ap (λ (b : Bool). by_path o b) same
+
+  pub behind_cut : (s : Store Frame Stored Image) (o : OpenEntry) (more : ℕ) → more ≡ counts_one_by d.store.half → d.history.running ≡ Some o →
+      (o.path == path) ≡ true → cut_behind s ≡ cut_with s (cut_by d.history o more)
+  behind_cut s o more count running same =
+      ap (λ (n : ℕ). cut_with s (reset_in d.history path n d.history.running)) (sym count)
+      ∙ ap (λ (x : Option OpenEntry). cut_with s (reset_in d.history path more x)) running
+      ∙ ap (λ (b : Bool). cut_with s (in_path o more b)) same
 
   noted_by : (x : Option OpenEntry) → d.history.running ≡ x → reset_noted contents d path 0 ≡ noted (reset_in d.history path 0 x)
   noted_by x running = ap (λ (y : Option OpenEntry). noted (reset_in d.history path 0 y)) running

@@ -79,7 +79,7 @@ pub record KeepsAll (h : History) (kept : List KeptPath) (powered : Bool) (spare
   pub four : length kept ≡ 4
   pub paths : (path : ℕ) → 1 ≤ path → path ≤ 4 → KeepsPath h path (of_path kept path)
   pub powered_is : powered ≡ (is_some h.running || is_started false h.items)
-  pub ends : IfSome h.running (λ (o : OpenEntry). length o.ends ≤ 65535)
+  pub ends : IfSome h.running (λ (o : OpenEntry). length o.ends ≤ 65534)
   pub room : needed h.running kept powered ≤ spare
 
 abbrev pub Keeps : Past → Type 0

@@ -26,8 +26,6 @@ use Rattle.device_core.specs.Turns.{turn_with}
 use Rattle.device_defs.specs.declared.answers.Stepped.TheVariants as answers
 use Rattle.device_defs.specs.declared.answers.SecondEnd.{SecondEnd}
 use Rattle.device_defs.specs.declared.answers.SecondEnd.TheVariants as seconds
-use Rattle.ckd_types.specs.declared.paths.Side.{Side}
-use Rattle.ckd_types.specs.declared.paths.Side.TheVariants.{A, B}
 use Rattle.device_defs.specs.Device as definitions
 use Rattle.device_defs.specs.Store.{Store}
 use Rattle.device_store.specs.State.{state_of, opened_store}
@@ -76,11 +74,6 @@ abbrev pub second_seen : Past → SecondStep → Option SecondEnd
 second_seen p parts.Ended = option_map seconds.Ended (last_end_of p)
 second_seen p (parts.Finished t) = Some (seconds.Finished t)
 second_seen p (parts.Unwritten t) = Some (seconds.Unwritten t)
-
--- a device has side A, and side B while it is paired
-abbrev pub is_there : {F P H : Type 0} → Store F P H → Side → Bool
-is_there s A = true
-is_there s B = s.paired
 
 -- The device behind a command of a path that came out, or for which memory was lacking
 

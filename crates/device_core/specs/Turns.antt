@@ -1,15 +1,18 @@
 -- How a command's way over tracks is seen, and what its chain keeps on it.
-use Rattle.std.specs.Prelude.{◌≡◌, ◌<◌, ℕ, ◌*◌, Bool, false, IsSome}
+use Rattle.std.specs.Prelude.{◌≡◌, ◌<◌, ℕ, ◌*◌, Bool, true, false, Option, Some, IsSome}
+use Rattle.ckd_chain.specs.declared.mark.Stage.{Stage}
+use Rattle.ckd_chain.specs.declared.mark.Stage.TheVariants as stages
 use Rattle.ckd_chain.specs.declared.progress.Progress.{Progress}
 use Rattle.ckd_chain.specs.declared.progress.Progress.TheVariants as progresses
 use Rattle.ckd_chain.specs.Facts.{MayBeWritten}
 use Rattle.ckd_chain.specs.State.{ChainState}
+use Rattle.ckd_rules.specs.Acts.{is_given}
 use Rattle.ckd_chain.specs.Steps.{again_from}
 use Rattle.device_defs.specs.declared.answers.Came.{Came}
 use Rattle.device_defs.specs.declared.answers.Came.TheVariants.{Ends, Checks, HalfOpen}
 use Rattle.device_defs.specs.Command.{Went, Over, On}
 use Rattle.device_defs.specs.Outcomes.{Turn}
-use Rattle.event_notes.specs.Loose.{LooseView}
+use Rattle.event_notes.specs.Loose.{LooseView, weight}
 use Rattle.device_core.specs.Words.{IsReady}
 use Rattle.device_core.specs.declared.turns.Step.{Step}
 use Rattle.device_core.specs.declared.turns.Step.TheVariants as steps
@@ -32,11 +35,23 @@ pub record IsAt (cylinders : ℕ) (chain : ChainState) : Type 0 where
   pub back : IsSome chain.before.next
   pub cylinders_are : chain.fixed.cylinders ≡ cylinders
 
+abbrev pub may_be_written : Option Stage → Bool
+may_be_written (Some stages.Over) = true
+may_be_written (Some (stages.Asks act)) = is_given act
+may_be_written _ = false
+
+-- its command waits until its write is done or not, and then it can be ended
+pub record IsHeld (chain : ChainState) : Type 0 where
+  pub running : IsSome chain.at.next
+  pub begun : IsSome chain.stage
+  pub back : IsSome chain.before.next
+  pub written : may_be_written chain.stage ≡ true
+
 -- the program goes on behind a command that isn't its last
 abbrev pub RunsOn : ChainState → Came → Type 0
 RunsOn chain (Ends e) = e.over ≡ false → IsReady chain
 RunsOn chain (Checks e) = Unit {0}
-RunsOn chain (HalfOpen t) = IsReady chain
+RunsOn chain (HalfOpen t) = IsHeld chain
 
 pub record Left (cylinders : ℕ) (chain : ChainState) (came : Came) : Type 0 where
   pub cylinders_are : chain.fixed.cylinders ≡ cylinders
@@ -57,7 +72,16 @@ Waits cylinders old new (progresses.Need t) = IsAt cylinders new × IsSameHand o
 Waits cylinders old new (progresses.Write t e) = IsAt cylinders new × IsSameHand old new × MayBeWritten new.stage
 Waits cylinders old new (progresses.Local act) = IsAt cylinders new
 
--- a command that goes on to another track left the loose tracks and the acts as they were
-abbrev pub KeepsLoose : LooseView → LooseView → Step → Type 0
-KeepsLoose old new (steps.Over came) = Unit {0}
-KeepsLoose old new (steps.On t) = new ≡ old
+-- a command that goes on to another track left as many loose tracks and acts as there were
+abbrev pub KeepsWeight : ℕ → LooseView → Step → Type 0
+KeepsWeight n new (steps.Over came) = Unit {0}
+KeepsWeight n new (steps.On t) = weight new ≡ n
+
+-- whether a command came out with a write that is half done
+abbrev pub is_half : Came → Bool
+is_half (HalfOpen t) = true
+is_half _ = false
+
+abbrev pub is_half_over : Step → Bool
+is_half_over (steps.Over came) = is_half came
+is_half_over (steps.On t) = false

@@ -18,4 +18,4 @@ pub record IsAtWord (cylinders : ℕ) (chain : ChainState) : Type 0 where
 -- there is room for one end more, which can still be counted
 pub record HasEndRoom (ends : Roomy CommandEnd) : Type 0 where
   pub room : 0 < ends.spare
-  pub counted : length ends.items < 65535
+  pub counted : length ends.items < 65534

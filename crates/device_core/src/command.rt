@@ -1,4 +1,4 @@
-ghost use Rattle.std.specs.Prelude.{◌≡◌, ◌<◌, ◌≤◌, ◌+◌, ◌*◌, ℕ, IfOk, IsSome, None, OnErr, Some};
+ghost use Rattle.std.specs.Prelude.{◌≡◌, ◌<◌, ◌≤◌, ◌+◌, ◌*◌, ℕ, IfOk, IsSome, None, OnErr, Some, false, is_some};
 ghost use Rattle.ckd_chain.specs.State.{ChainState};
 ghost use Rattle.ckd_chain.specs.Steps.{again_from, need_of, opened, stepped};
 ghost use Rattle.ckd_chain.specs.declared.mark.Stage.TheVariants.{Asks};
@@ -12,7 +12,7 @@ ghost use Rattle.device_outside.specs.Outside.{Ran, where_ok};
 ghost use Rattle.device_store.specs.State.{state_of, outside, Takes};
 ghost use Rattle.plain_device.specs.Looking.{IsAtAnswer};
 ghost use Rattle.device_core.specs.State.{DefinedDevice, open_of, came_to, told, Answers};
-ghost use Rattle.device_core.specs.Turns.{IsAt, Left};
+ghost use Rattle.device_core.specs.Turns.{IsAt, Left, is_half};
 
 use crate::past::Running;
 use crate::turns::{check, follow};
@@ -36,6 +36,7 @@ pub(crate) fn on_tracks<V: Volume, P: Port, K: Keep<TrackImage>>(
     requires track { t < store.old.cylinders * 15 }
     requires takes { Takes K.takes keep.old store.old.number (store.old.cylinders * 15) }
     requires at { IsAt store.old.cylinders running.old.chain }
+    requires none { store.old.half ≡ None }
     ensures fixed { (store.new.number ≡ store.old.number) × (store.new.cylinders ≡ store.old.cylinders) }
     ensures takes { Takes K.takes keep.new store.new.number (store.new.cylinders * 15) }
     ensures open { (open_of running.new ≡ open_of running.old) × (running.new.ends ≡ running.old.ends) }
@@ -44,6 +45,8 @@ pub(crate) fn on_tracks<V: Volume, P: Port, K: Keep<TrackImage>>(
     ensures again { OnErr result (running.new.chain ≡ again_from running.old.chain) }
     ensures weight { weight store.new.loose ≤ weight store.old.loose + 2 }
     ensures run { (d : DefinedDevice) (path : ℕ) (z : ChainState) → running.old.chain ≡ opened z → need_of z ≡ Some t → Ran (where_ok result) K.hears (and_then (follow contents (store.old.cylinders * 15) t z t (state_of store.old)) (on_tracks contents d path z)) (outside (P.view port.old) store.old keep.old) (came_to (with_store d (state_of store.new)) path running.new.chain result) (told result) (outside (P.view port.new) store.new keep.new) }
+    ensures half { IfOk result (λ came. is_some store.new.half ≡ is_half came) }
+    ensures same { OnErr result (store.new.half ≡ None) }
 {
     match follow(store, &mut running.chain, t, port, keep) {
         Ok(came) => Ok(came),
@@ -69,6 +72,7 @@ fn answer(
     ensures left { IfOk result (Left running.old.chain.fixed.cylinders running.new.chain) }
     ensures again { OnErr result ((running.new.chain ≡ again_from running.old.chain) × (paths.new ≡ paths.old)) }
     ensures answers { IfOk result (Answers geometry paths.old paths.new running.old.path running.old.chain (Local act) running.new.chain) }
+    ensures half { IfOk result (λ came. is_half came ≡ false) }
 {
     let mut behind = *paths;
     match behind.act(alloc, geometry, running.path, act) {
@@ -97,6 +101,7 @@ pub(crate) fn on_paths(
     ensures left { IfOk result (Left running.old.chain.fixed.cylinders running.new.chain) }
     ensures again { OnErr result ((running.new.chain ≡ again_from running.old.chain) × (paths.new ≡ paths.old)) }
     ensures answers { IfOk result (Answers geometry paths.old paths.new running.old.path (stepped running.old.chain None).chain (stepped running.old.chain None).progress running.new.chain) }
+    ensures half { IfOk result (λ came. is_half came ≡ false) }
 {
     let progress = match running.chain.step(alloc, None) {
         Err(NoMemory) => {

@@ -1,6 +1,9 @@
 ghost use Rattle.std.specs.Prelude.{◌≡◌, IfSome};
 ghost use Rattle.std.proofs.Props.{props};
 ghost use Rattle.event_notes.specs.Loose.{loose_count};
+ghost use Rattle.device_defs.specs.Cutting.{counts_one_by};
+ghost use Rattle.device_store.specs.State.{state_of};
+ghost use Rattle.device_core.specs.Halves.{IsWaiting};
 ghost use Rattle.device_core.specs.Kept.{ActRoom, Keeps};
 ghost use Rattle.device_core.specs.Words.{IsAtWord};
 
@@ -18,6 +21,7 @@ pub struct Device<V: Volume> {
     pub plans: PathPlans,
     pub past: Past,
     pub ghost at_word: { IfSome past.running (λ r. IsAtWord store.cylinders r.chain) } by { Prim.hlevel props },
+    pub ghost half_waits: { counts_one_by (state_of store).half ≡ 1 → IsWaiting past.running } by { Prim.hlevel props },
     pub ghost keeps: { Keeps past } by { Prim.hlevel props },
     pub ghost act_room: { ActRoom (loose_count store.loose.loose) past } by { Prim.hlevel props },
 }

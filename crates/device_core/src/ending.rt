@@ -1,4 +1,4 @@
-ghost use Rattle.std.specs.Prelude.{◌≡◌, ◌<◌, ◌+◌, ◌++◌, ◌∷◌, [], ℕ, IfSome, IsSome, Some, None, length, option_map};
+ghost use Rattle.std.specs.Prelude.{◌≡◌, ◌<◌, ◌+◌, ◌++◌, ◌∷◌, [], ℕ, IfSome, IsSome, Some, None, length, option_map, true};
 ghost use Rattle.ckd_chain.specs.State.{ChainState};
 ghost use Rattle.plain_defs.specs.History.{OpenEntry, closed, entry_of, with_end};
 ghost use Rattle.plain_defs.specs.Journal.{Plans};
@@ -11,7 +11,8 @@ ghost use Rattle.track_cache.specs.declared.frames.Frame.{Frame};
 ghost use Rattle.track_image.specs.Image.{Image};
 ghost use Rattle.device_core.specs.Kept.{open_of, chain_of, history_of, waiting_in, ActRoom, HasRoomFor, Keeps};
 ghost use Rattle.device_core.specs.State.{device_by, last_of, last_end_of, step_seen};
-ghost use Rattle.device_core.specs.Turns.{turn_with, Left};
+ghost use Rattle.device_core.specs.Turns.{turn_with, Left, is_half};
+ghost use Rattle.device_core.specs.Halves.{IsWaiting, is_half_step};
 ghost use Rattle.device_core.specs.Words.{HasEndRoom, IsAtWord};
 
 use crate::past::{Past, Running, Stepped};
@@ -29,7 +30,7 @@ fn add_end(running: &mut Option<Running>, end: CommandEnd, paths: &mut Paths)
     ensures chain { option_map chain_of running.new ≡ option_map chain_of running.old }
     ensures running { IsSome running.new }
     ensures room { (n : ℕ) → IfSome running.old (HasRoomFor n) → IfSome running.new (HasRoomFor n) }
-    ensures ends { (o : OpenEntry) → option_map open_of running.old ≡ Some o → length o.ends < 65535 }
+    ensures ends { (o : OpenEntry) → option_map open_of running.old ≡ Some o → length o.ends < 65534 }
 {
     match running {
         Some(running) => {
@@ -88,6 +89,8 @@ impl Past {
         ensures state { (s : Store Frame Stored Image) (plans : Plans) (o : OpenEntry) (chain : ChainState) → option_map open_of self.old.running ≡ Some o → option_map chain_of self.old.running ≡ Some chain → device_by s paths.new plans self.new ≡ turned (device_by s paths.old plans self.old) o.path (turn_with chain came) }
         ensures answer { step_seen self.new result ≡ Some (told_step came) }
         ensures word { (n : ℕ) → IfSome self.old.running (λ r. Left n r.chain came) → IfSome self.new.running (λ r. IsAtWord n r.chain) }
+        ensures waits { (n : ℕ) → is_half came ≡ true → IfSome self.old.running (λ r. Left n r.chain came) → IsWaiting self.new.running }
+        ensures half { is_half_step result ≡ is_half came }
         ensures keeps { Keeps self.new }
         ensures room { (n : ℕ) → ActRoom n self.old → ActRoom n self.new }
     {

@@ -1,4 +1,4 @@
-ghost use Rattle.std.specs.Prelude.{◌≡◌, ◌<◌, ◌*◌, ℕ, IfOk};
+ghost use Rattle.std.specs.Prelude.{◌≡◌, ◌<◌, ◌*◌, ℕ, IfOk, false, is_some};
 ghost use Rattle.device_defs.specs.Contents.{contents};
 ghost use Rattle.device_defs.specs.Events.{background};
 ghost use Rattle.device_defs.specs.Peek.{peek};
@@ -17,13 +17,14 @@ use device_store::Peeked;
 use track_image::TrackImage;
 
 impl<V: Volume> Device<V> {
-    /// What the device does by itself, behind its notes: it recovers a track, stages the oldest queued one or destages one. After
-    /// want of memory that track isn't queued any more. The keeper is told of a track that it makes firm.
+    /// What the device does by itself, behind its notes, while no write is half done: it recovers a track, copies one to the other
+    /// side, stages the oldest queued one or destages one. After want of memory a queued track isn't queued any more. The keeper is told of a track that it makes firm.
     pub fn background_with<P: Port, K: Keep<TrackImage>>(
         &mut self,
         port: &mut P,
         keep: &mut K,
     ) -> Result<Did, NoMemory>
+        requires whole { is_some (device_of self.old).store.half ≡ false }
         requires takes { Takes K.takes keep.old self.old.store.number (self.old.store.cylinders * 15) }
         ensures fixed { (self.new.store.number ≡ self.old.store.number) × (self.new.store.cylinders ≡ self.old.store.cylinders) }
         ensures takes { Takes K.takes keep.new self.new.store.number (self.new.store.cylinders * 15) }
@@ -39,6 +40,7 @@ impl<V: Volume> Device<V> {
 
     /// The same, with a keeper that keeps nothing.
     pub fn background<P: Port>(&mut self, port: &mut P) -> Result<Did, NoMemory>
+        requires whole { is_some (device_of self.old).store.half ≡ false }
         ensures fixed { (self.new.store.number ≡ self.old.store.number) × (self.new.store.cylinders ≡ self.old.store.cylinders) }
         ensures run { (k : NoKeep) → Ran (where_ok result) (λ _ m r _. r ≡ reply m) (background contents (device_of self.old)) (outside (P.view port.old) self.old.store k) (device_of self.new) (had (λ did. did) result) (outside (P.view port.new) self.new.store k) }
     {
@@ -63,7 +65,7 @@ impl<V: Volume> Device<V> {
         let before = self.store.waiting_count();
         self.store.begin_event();
         let peeked = self.store.peek(t, port, keep);
-        self.store.end_event::<P, K>(before, port);
+        self.close_event::<P, K>(before, port);
         peeked
     }
 

@@ -7,6 +7,7 @@ mod counts;
 mod device;
 mod ending;
 mod events;
+mod half;
 mod kept;
 mod log;
 mod losses;
@@ -21,6 +22,8 @@ mod second;
 mod seen;
 mod start;
 mod step;
+#[cfg(test)]
+mod tests;
 mod turns;
 
 pub use device::Device;

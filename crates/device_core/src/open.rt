@@ -1,6 +1,7 @@
-ghost use Rattle.std.specs.Prelude.{◌≡◌, ◌≤◌, ◌*◌, IfErr, IfOk, None};
+ghost use Rattle.std.specs.Prelude.{◌≡◌, ◌≤◌, ◌*◌, IfErr, IfOk, None, Some};
 ghost use Rattle.plain_defs.specs.History.{no_history};
 ghost use Rattle.device_core.specs.Kept.{history_of, Keeps};
+ghost use Rattle.device_store.specs.State.{on_a, on_b};
 ghost use Rattle.device_core.specs.State.{device_of, opened_device};
 
 use crate::past::{KeptPath, Past};
@@ -44,7 +45,7 @@ impl<V: Volume> Device<V> {
         requires most { cylinders ≤ 64 }
         requires volume { (V.view volume).tracks ≡ cylinders * 15 }
         ensures device { IfOk result (λ d. device_of d ≡ opened_device number geometry cylinders plans) }
-        ensures volume { IfOk result (λ d. d.store.volume ≡ volume) }
+        ensures volume { IfOk result (λ d. (on_a d.store ≡ Some volume) × (on_b d.store ≡ None)) }
         ensures back { IfErr result (λ e. (e.1 ≡ volume) × (e.2 ≡ plans)) }
     {
         match DeviceStore::open(alloc, number, geometry, cylinders, volume) {

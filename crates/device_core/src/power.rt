@@ -1,4 +1,4 @@
-ghost use Rattle.std.specs.Prelude.{◌≡◌, ◌<◌, ◌++◌, ◌∷◌, [], ℕ, None, false, map};
+ghost use Rattle.std.specs.Prelude.{◌≡◌, ◌*◌, ◌≤◌, ◌<◌, ◌++◌, ◌∷◌, [], ℕ, None, false, map};
 ghost use Rattle.plain_defs.specs.declared.journal.Item.TheVariants.{Power};
 ghost use Rattle.plain_defs.specs.History.{lost_power};
 ghost use Rattle.device_defs.specs.Contents.{contents};
@@ -12,6 +12,7 @@ ghost use Rattle.device_core.specs.Powered.{off_path};
 ghost use Rattle.device_core.specs.State.{device_of};
 
 use crate::Device;
+use crate::half::half_count;
 use crate::past::{KeptPath, Past};
 use device_outside::{Keep, NoKeep, Port, Volume};
 use plain_defs::Item;
@@ -46,17 +47,18 @@ impl Past {
         self.powered = false;
     }
 
-    /// The loss of power cuts the program that runs, and drops the resets that wait. It is none where no program was started since
-    /// the power came.
-    fn lose_power(&mut self)
+    /// The loss of power cuts the program that runs, of which so many commands more than ended took effect, and drops the resets that
+    /// wait. It is none where no program was started since the power came.
+    fn lose_power(&mut self, more: u16)
         requires keeps { Keeps self.old }
-        ensures history { history_of self.new ≡ lost_power (history_of self.old) 0 }
+        requires most { more ≤ 1 }
+        ensures history { history_of self.new ≡ lost_power (history_of self.old) more }
         ensures over { self.new.running ≡ None }
         ensures keeps { Keeps self.new }
         ensures aside { self.new.items.aside ≡ self.old.items.aside }
     {
         if self.is_running() {
-            self.note_cut();
+            self.note_cut(more);
             self.note_power();
             return;
         }
@@ -68,16 +70,20 @@ impl Past {
 }
 
 impl<V: Volume> Device<V> {
-    /// The loss of power. Takes no memory. The device takes no notes, and tells its keeper of nothing yet.
+    /// The loss of power. Takes no memory. The device takes no notes. An open half write ends; that of a command counts as done, and
+    /// the keeper is told of its edit.
     pub fn power_with<P: Port, K: Keep<TrackImage>>(&mut self, port: &mut P, keep: &mut K)
+        requires takes { Takes K.takes keep.old self.old.store.number (self.old.store.cylinders * 15) }
         ensures fixed { (self.new.store.number ≡ self.old.store.number) × (self.new.store.cylinders ≡ self.old.store.cylinders) }
-        ensures takes { (d n : ℕ) → Takes K.takes keep.old d n → Takes K.takes keep.new d n }
+        ensures takes { Takes K.takes keep.new self.new.store.number (self.new.store.cylinders * 15) }
         ensures run { Ran surely K.hears (power contents (device_of self.old)) (outside (P.view port.old) self.old.store keep.old) (device_of self.new) tt (outside (P.view port.new) self.new.store keep.new) }
     {
         let before = self.store.waiting_count();
         self.store.begin_event();
+        let more = half_count(&self.store.half);
+        self.store.cut_half(keep);
         self.store.lose_power();
-        self.past.lose_power();
+        self.past.lose_power(more);
         self.paths = Paths::new();
         self.store.end_event::<P, K>(before, port);
     }

@@ -1,4 +1,4 @@
-ghost use Rattle.std.specs.Prelude.{◌≡◌, ◌+◌, ◌++◌, ◌∷◌, [], ℕ, None, Some, IsSome, length, option_map, false, true};
+ghost use Rattle.std.specs.Prelude.{◌≡◌, ◌*◌, ◌≤◌, ◌+◌, ◌++◌, ◌∷◌, [], ℕ, None, Some, IsSome, length, option_map, false, true};
 ghost use Rattle.plain_defs.specs.declared.journal.How.TheVariants.{Cut};
 ghost use Rattle.plain_defs.specs.declared.journal.Item.TheVariants.{Reset};
 ghost use Rattle.plain_defs.specs.History.{OpenEntry, cut_by, entry_of, has_used, is_path_of, put};
@@ -15,6 +15,7 @@ ghost use Rattle.device_core.specs.Kept.{open_of, history_of, waiting_in, Keeps}
 ghost use Rattle.device_core.specs.State.{device_of};
 
 use crate::Device;
+use crate::half::half_count;
 use crate::kept::{set_unused, set_waiting};
 use crate::past::Past;
 use ckd_types::PathNo;
@@ -24,43 +25,47 @@ use plain_device::Paths;
 use track_image::TrackImage;
 
 impl Past {
-    /// How many commands of the running program ended.
-    fn ended_count(&self) -> u16
+    /// How many commands of the running program took effect: those that ended, and so many more.
+    fn effect_count(&self, more: u16) -> u16
         requires keeps { Keeps self.now }
         requires running { IsSome self.now.running }
-        ensures { (o : OpenEntry) → option_map open_of self.now.running ≡ Some o → result ≡ length o.ends }
+        requires most { more ≤ 1 }
+        ensures { (o : OpenEntry) → option_map open_of self.now.running ≡ Some o → result ≡ length o.ends + more }
     {
         match &self.running {
-            Some(running) => running.ends.len() as u16,
+            Some(running) => running.ends.len() as u16 + more,
             None => unreachable!(),
         }
     }
 
-    /// The running program is cut: its entry stands in the journal, in room that was made. As many commands as ended took effect.
-    pub(crate) fn note_cut(&mut self)
+    /// The running program is cut: its entry stands in the journal, in room that was made. So many commands more than ended took
+    /// effect.
+    pub(crate) fn note_cut(&mut self, more: u16)
         requires keeps { Keeps self.old }
         requires running { IsSome self.old.running }
+        requires most { more ≤ 1 }
         ensures over { self.new.running ≡ None }
-        ensures items { (o : OpenEntry) → option_map open_of self.old.running ≡ Some o → self.new.items.items ≡ self.old.items.items ++ entry_of o (Cut (length o.ends)) ∷ [] }
+        ensures items { (o : OpenEntry) → option_map open_of self.old.running ≡ Some o → self.new.items.items ≡ self.old.items.items ++ entry_of o (Cut (length o.ends + more)) ∷ [] }
         ensures spare { self.new.items.spare + 1 ≡ self.old.items.spare }
         ensures aside { self.new.items.aside ≡ self.old.items.aside }
         ensures rest { (self.new.kept ≡ self.old.kept) × (self.new.powered ≡ self.old.powered) }
     {
-        let effect = self.ended_count();
+        let effect = self.effect_count(more);
         self.note_program(How::Cut { effect });
     }
 
     /// The reset of its path cuts the running program, and the resets that waited follow.
-    fn cut(&mut self, path: PathNo, paths: &mut Paths)
+    fn cut(&mut self, path: PathNo, more: u16, paths: &mut Paths)
         requires keeps { Keeps self.old }
+        requires most { more ≤ 1 }
         requires runs { is_path_of (history_of self.old).running path ≡ true }
-        ensures history { (o : OpenEntry) → option_map open_of self.old.running ≡ Some o → history_of self.new ≡ cut_by (history_of self.old) o 0 }
+        ensures history { (o : OpenEntry) → option_map open_of self.old.running ≡ Some o → history_of self.new ≡ cut_by (history_of self.old) o more }
         ensures over { self.new.running ≡ None }
         ensures paths { paths.new ≡ all_reset (reset_path paths.old path) (waiting_in self.old.kept) }
         ensures keeps { Keeps self.new }
         ensures aside { self.new.items.aside ≡ self.old.items.aside }
     {
-        self.note_cut();
+        self.note_cut(more);
         self.items.push(Item::Reset(path));
         paths.reset(path);
         set_unused(&mut self.kept, path);
@@ -110,13 +115,31 @@ impl<V: Volume> Device<V> {
         self.paths.reset(path);
     }
 
-    /// What a reset of a path does. It asks nothing, and tells nothing: no write in two parts is ever open yet.
-    fn reset_path(&mut self, path: PathNo)
-        ensures done { reset contents (device_of self.old) path ≡ Done (device_of self.new) tt }
-        ensures store { self.new.store ≡ self.old.store }
+    /// Its path's reset cuts the program that runs. An open half write of its command counts as done.
+    fn cut_program<K: Keep<TrackImage>>(&mut self, path: PathNo, keep: &mut K)
+        requires runs { is_path_of (history_of self.old.past).running path ≡ true }
+        requires takes { Takes K.takes keep.old self.old.store.number (self.old.store.cylinders * 15) }
+        ensures fixed { (self.new.store.number ≡ self.old.store.number) × (self.new.store.cylinders ≡ self.old.store.cylinders) }
+        ensures volume { self.new.store.pair.volumes ≡ self.old.store.pair.volumes }
+        ensures takes { Takes K.takes keep.new self.new.store.number (self.new.store.cylinders * 15) }
+        ensures run { (p : PortView) → Ran surely K.hears (reset contents (device_of self.old) path) (outside p self.old.store keep.old) (device_of self.new) tt (outside p self.new.store keep.new) }
+    {
+        let more = half_count(&self.store.half);
+        self.store.cut_half(keep);
+        self.past.cut(path, more, &mut self.paths);
+    }
+
+    /// A path is reset: a program that it runs is cut, and where another path's runs, the reset waits for its end. Of a path that used
+    /// nothing since its last reset it is none. Takes no memory. The keeper is told of an edit that takes effect.
+    pub fn reset_with<K: Keep<TrackImage>>(&mut self, path: PathNo, keep: &mut K)
+        requires takes { Takes K.takes keep.old self.old.store.number (self.old.store.cylinders * 15) }
+        ensures fixed { (self.new.store.number ≡ self.old.store.number) × (self.new.store.cylinders ≡ self.old.store.cylinders) }
+        ensures volume { self.new.store.pair.volumes ≡ self.old.store.pair.volumes }
+        ensures run { (p : PortView) → Ran surely K.hears (reset contents (device_of self.old) path) (outside p self.old.store keep.old) (device_of self.new) tt (outside p self.new.store keep.new) }
+        ensures takes { Takes K.takes keep.new self.new.store.number (self.new.store.cylinders * 15) }
     {
         if self.past.runs_on(path) {
-            self.past.cut(path, &mut self.paths);
+            self.cut_program(path, keep);
             return;
         }
         if self.past.has_used(path) {
@@ -125,22 +148,13 @@ impl<V: Volume> Device<V> {
         }
     }
 
-    /// A path is reset: a program that it runs is cut, and where another path's runs, the reset waits for its end. Of a path that used
-    /// nothing since its last reset it is none. Takes no memory. The keeper is told of an edit that takes effect.
-    pub fn reset_with<K: Keep<TrackImage>>(&mut self, path: PathNo, keep: &mut K)
-        ensures run { (p : PortView) → Ran surely K.hears (reset contents (device_of self.old) path) (outside p self.old.store keep.old) (device_of self.new) tt (outside p self.new.store keep.new) }
-        ensures takes { (d n : ℕ) → Takes K.takes keep.old d n → Takes K.takes keep.new d n }
-        ensures store { self.new.store ≡ self.old.store }
-    {
-        let _ = keep;
-        self.reset_path(path);
-    }
-
     /// The same, with a keeper that keeps nothing.
     pub fn reset(&mut self, path: PathNo)
+        ensures fixed { (self.new.store.number ≡ self.old.store.number) × (self.new.store.cylinders ≡ self.old.store.cylinders) }
+        ensures volume { self.new.store.pair.volumes ≡ self.old.store.pair.volumes }
         ensures run { (p : PortView) (k : NoKeep) → Ran surely (λ _ m r _. r ≡ reply m) (reset contents (device_of self.old) path) (outside p self.old.store k) (device_of self.new) tt (outside p self.new.store k) }
-        ensures store { self.new.store ≡ self.old.store }
     {
-        self.reset_path(path);
+        let mut keep = NoKeep;
+        self.reset_with(path, &mut keep)
     }
 }

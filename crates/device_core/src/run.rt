@@ -1,4 +1,4 @@
-ghost use Rattle.std.specs.Prelude.{◌≡◌, ◌≤◌, ◌+◌, ◌*◌, ℕ, [], IfSome, IsSome, OnOk, option_map};
+ghost use Rattle.std.specs.Prelude.{◌≡◌, ◌≤◌, ◌+◌, ◌*◌, ℕ, [], IfOk, IfSome, IsSome, None, OnErr, OnOk, false, is_some, option_map};
 ghost use Rattle.device_defs.specs.Command.{command, command_by};
 ghost use Rattle.device_defs.specs.Contents.{contents};
 ghost use Rattle.device_defs.specs.Device.{event};
@@ -7,6 +7,7 @@ ghost use Rattle.device_outside.specs.declared.keep.NoKeep.{NoKeep};
 ghost use Rattle.device_outside.specs.Keeper.{reply};
 ghost use Rattle.device_outside.specs.Outside.{Ran, where_ok};
 ghost use Rattle.device_store.specs.State.{outside, Takes};
+ghost use Rattle.device_core.specs.Halves.{is_half_step};
 ghost use Rattle.device_core.specs.Kept.{open_of, chain_of, history_of, ActRoom, HasRoomFor, Keeps};
 ghost use Rattle.device_core.specs.State.{device_of, step_had};
 ghost use Rattle.device_core.specs.Words.{HasEndRoom};
@@ -19,8 +20,9 @@ use device_outside::{Keep, NoKeep, Port, Volume};
 use std::alloc::Global;
 use track_image::TrackImage;
 
-/// The most ends of a program that can be counted. A chain is over long before, behind 4,096 commands.
-const MOST_ENDS: usize = 65535;
+/// The most ends of a program that can be counted, with one command more that took effect. A chain is over long before, behind
+/// 4,096 commands.
+const MOST_ENDS: usize = 65534;
 
 /// Makes room for a command's end.
 fn reserve_end(running: &mut Option<Running>) -> Result<(), NoMemory>
@@ -72,10 +74,13 @@ impl<V: Volume> Device<V> {
         requires running { IsSome self.old.past.running }
         requires ends { IfSome self.old.past.running (λ r. HasEndRoom r.ends) }
         requires fresh { self.old.store.loose.acts ≡ [] }
+        requires whole { self.old.store.half ≡ None }
         requires room { ActRoom (weight self.old.store.loose + 2) self.old.past }
         requires takes { Takes K.takes keep.old self.old.store.number (self.old.store.cylinders * 15) }
         ensures fixed { (self.new.store.number ≡ self.old.store.number) × (self.new.store.cylinders ≡ self.old.store.cylinders) }
         ensures takes { Takes K.takes keep.new self.new.store.number (self.new.store.cylinders * 15) }
+        ensures half { IfOk result (λ step. is_some self.new.store.half ≡ is_half_step step) }
+        ensures same { OnErr result (self.new.store.half ≡ None) }
         ensures run { Ran (where_ok result) K.hears (command_by contents (device_of self.old) (device_of self.old).history.running (device_of self.old).chain) (outside (P.view port.old) self.old.store keep.old) (device_of self.new) (step_had self.new.past result) (outside (P.view port.new) self.new.store keep.new) }
     {
         match on_past(
@@ -105,9 +110,12 @@ impl<V: Volume> Device<V> {
         requires running { IsSome self.old.past.running }
         requires ends { IfSome self.old.past.running (λ r. HasEndRoom r.ends) }
         requires room { ActRoom (loose_count self.old.store.loose.loose + 2) self.old.past }
+        requires whole { self.old.store.half ≡ None }
         requires takes { Takes K.takes keep.old self.old.store.number (self.old.store.cylinders * 15) }
         ensures fixed { (self.new.store.number ≡ self.old.store.number) × (self.new.store.cylinders ≡ self.old.store.cylinders) }
         ensures takes { Takes K.takes keep.new self.new.store.number (self.new.store.cylinders * 15) }
+        ensures half { IfOk result (λ step. is_some self.new.store.half ≡ is_half_step step) }
+        ensures same { OnErr result (self.new.store.half ≡ None) }
         ensures run { Ran (where_ok result) K.hears (event contents (device_of self.old) (λ z. command_by contents z z.history.running z.chain)) (outside (P.view port.old) self.old.store keep.old) (device_of self.new) (step_had self.new.past result) (outside (P.view port.new) self.new.store keep.new) }
     {
         let before = self.store.waiting_count();
@@ -118,17 +126,20 @@ impl<V: Volume> Device<V> {
         stepped
     }
 
-    /// The command at hand of the running program. Its end stands in the journal (`last_end`): nothing of it is copied. Room is
-    /// made first; after want of memory the program is where it was before the command.
+    /// The command at hand of the running program, while no write is half done. Its end stands in the journal (`last_end`): nothing
+    /// of it is copied. Room is made first; after want of memory the program is where it was before the command.
     pub fn command_with<P: Port, K: Keep<TrackImage>>(
         &mut self,
         port: &mut P,
         keep: &mut K,
     ) -> Result<Stepped, NoMemory>
         requires running { IsSome self.old.past.running }
+        requires whole { is_some (device_of self.old).store.half ≡ false }
         requires takes { Takes K.takes keep.old self.old.store.number (self.old.store.cylinders * 15) }
         ensures fixed { (self.new.store.number ≡ self.old.store.number) × (self.new.store.cylinders ≡ self.old.store.cylinders) }
         ensures takes { Takes K.takes keep.new self.new.store.number (self.new.store.cylinders * 15) }
+        ensures half { IfOk result (λ step. is_some (device_of self.new).store.half ≡ is_half_step step) }
+        ensures same { OnErr result (is_some (device_of self.new).store.half ≡ false) }
         ensures run { Ran (where_ok result) K.hears (command contents (device_of self.old)) (outside (P.view port.old) self.old.store keep.old) (device_of self.new) (step_had self.new.past result) (outside (P.view port.new) self.new.store keep.new) }
     {
         match self
@@ -143,8 +154,11 @@ impl<V: Volume> Device<V> {
 
     /// The same, with a keeper that keeps nothing.
     pub fn command<P: Port>(&mut self, port: &mut P) -> Result<Stepped, NoMemory>
-        requires { IsSome self.old.past.running }
+        requires running { IsSome self.old.past.running }
+        requires whole { is_some (device_of self.old).store.half ≡ false }
         ensures fixed { (self.new.store.number ≡ self.old.store.number) × (self.new.store.cylinders ≡ self.old.store.cylinders) }
+        ensures half { IfOk result (λ step. is_some (device_of self.new).store.half ≡ is_half_step step) }
+        ensures same { OnErr result (is_some (device_of self.new).store.half ≡ false) }
         ensures run { (k : NoKeep) → Ran (where_ok result) (λ _ m r _. r ≡ reply m) (command contents (device_of self.old)) (outside (P.view port.old) self.old.store k) (device_of self.new) (step_had self.new.past result) (outside (P.view port.new) self.new.store k) }
     {
         let mut keep = NoKeep;

@@ -1,7 +1,12 @@
-ghost use Rattle.std.specs.Prelude.{◌≡◌, ℕ, IsSome, Some};
+ghost use Rattle.std.specs.Prelude.{◌≡◌, ◌*◌, [], IsSome, None, Some, is_some, true, if◌then◌else◌};
 ghost use Rattle.device_defs.specs.declared.answers.SecondEnd.{SecondEnd};
+ghost use Rattle.device_defs.specs.declared.answers.SecondEnd.TheVariants as seconds;
+ghost use Rattle.device_defs.specs.declared.answers.Took.TheVariants.{Whole, Unwritten};
+ghost use Rattle.event_notes.specs.Loose.{weight};
+ghost use Rattle.device_core.specs.declared.past.Past.{Past};
+ghost use Rattle.device_core.specs.Kept.{ActRoom};
 ghost use Rattle.device_defs.specs.Contents.{contents};
-ghost use Rattle.device_defs.specs.Events.{second};
+ghost use Rattle.device_defs.specs.Events.{second, second_of};
 ghost use Rattle.device_outside.specs.declared.keep.NoKeep.{NoKeep};
 ghost use Rattle.device_outside.specs.Keeper.{reply};
 ghost use Rattle.device_outside.specs.Outside.{Ran};
@@ -10,6 +15,7 @@ ghost use Rattle.device_core.specs.State.{device_of, second_seen};
 
 use crate::Device;
 use ckd_types::TrackNo;
+use device_defs::Took;
 use device_outside::{Keep, NoKeep, Port, Volume};
 use track_image::TrackImage;
 
@@ -28,28 +34,95 @@ fn first_track() -> TrackNo
     TrackNo::new(0).unwrap()
 }
 
+fn took_of(done: bool) -> Took
+    ensures { result ≡ (if done then Whole else Unwritten) }
+{
+    if done { Took::Whole } else { Took::Unwritten }
+}
+
+/// The second part of a write that no command waits for.
+fn told(track: TrackNo, done: bool) -> SecondStep
+    ensures { (p : Past) → second_seen p result ≡ Some (if done then seconds.Finished track else seconds.Unwritten track) }
+{
+    if done {
+        return SecondStep::Finished(track);
+    }
+    SecondStep::Unwritten(track)
+}
+
 impl<V: Volume> Device<V> {
-    /// The second part of a write. No write is open in two parts yet (`half_open`): the notes are taken, and nothing is written.
+    /// The second part of the write that is half done, with the acts that it brought, and the end of the command that waits for it.
+    fn second_ready<P: Port, K: Keep<TrackImage>>(
+        &mut self,
+        port: &mut P,
+        keep: &mut K,
+    ) -> SecondStep
+        requires open { is_some self.old.store.half ≡ true }
+        requires room { ActRoom (weight self.old.store.loose) self.old.past }
+        requires takes { Takes K.takes keep.old self.old.store.number (self.old.store.cylinders * 15) }
+        ensures fixed { (self.new.store.number ≡ self.old.store.number) × (self.new.store.cylinders ≡ self.old.store.cylinders) }
+        ensures takes { Takes K.takes keep.new self.new.store.number (self.new.store.cylinders * 15) }
+        ensures whole { self.new.store.half ≡ None }
+        ensures seen { IsSome (second_seen self.new.past result) }
+        ensures run { (e : SecondEnd) → second_seen self.new.past result ≡ Some e → Ran surely K.hears (second_of contents (device_of self.old) (device_of self.old).store.half) (outside (P.view port.old) self.old.store keep.old) (device_of self.new) e (outside (P.view port.new) self.new.store keep.new) }
+    {
+        let part = self.store.second(port, keep);
+        self.past.note_acts(self.store.loose.acts());
+        if part.of_command {
+            self.past
+                .end_write(part.track, took_of(part.done), &mut self.paths);
+            return SecondStep::Ended;
+        }
+        told(part.track, part.done)
+    }
+
+    /// The same, where a write is half done.
+    fn second_where<P: Port, K: Keep<TrackImage>>(
+        &mut self,
+        port: &mut P,
+        keep: &mut K,
+    ) -> SecondStep
+        requires room { ActRoom (weight self.old.store.loose) self.old.past }
+        requires fresh { self.old.store.loose.acts ≡ [] }
+        requires takes { Takes K.takes keep.old self.old.store.number (self.old.store.cylinders * 15) }
+        ensures fixed { (self.new.store.number ≡ self.old.store.number) × (self.new.store.cylinders ≡ self.old.store.cylinders) }
+        ensures takes { Takes K.takes keep.new self.new.store.number (self.new.store.cylinders * 15) }
+        ensures whole { self.new.store.half ≡ None }
+        ensures seen { IsSome (second_seen self.new.past result) }
+        ensures run { (e : SecondEnd) → second_seen self.new.past result ≡ Some e → Ran surely K.hears (second_of contents (device_of self.old) (device_of self.old).store.half) (outside (P.view port.old) self.old.store keep.old) (device_of self.new) e (outside (P.view port.new) self.new.store keep.new) }
+    {
+        if self.store.half_open() {
+            return self.second_ready(port, keep);
+        }
+        SecondStep::Unwritten(first_track())
+    }
+
+    /// The second part of the write that is half done. Takes no memory. Where none is, the notes are taken, and nothing is written. The
+    /// keeper is told of a track that it makes firm.
     pub fn second_with<P: Port, K: Keep<TrackImage>>(
         &mut self,
         port: &mut P,
         keep: &mut K,
     ) -> SecondStep
+        requires takes { Takes K.takes keep.old self.old.store.number (self.old.store.cylinders * 15) }
         ensures fixed { (self.new.store.number ≡ self.old.store.number) × (self.new.store.cylinders ≡ self.old.store.cylinders) }
-        ensures takes { (d n : ℕ) → Takes K.takes keep.old d n → Takes K.takes keep.new d n }
+        ensures takes { Takes K.takes keep.new self.new.store.number (self.new.store.cylinders * 15) }
+        ensures whole { self.new.store.half ≡ None }
         ensures seen { IsSome (second_seen self.new.past result) }
         ensures run { (e : SecondEnd) → second_seen self.new.past result ≡ Some e → Ran surely K.hears (second contents (device_of self.old)) (outside (P.view port.old) self.old.store keep.old) (device_of self.new) e (outside (P.view port.new) self.new.store keep.new) }
     {
         let before = self.store.waiting_count();
         self.store.begin_event();
         self.store.hear::<P, K>(port);
+        let step = self.second_where(port, keep);
         self.store.end_event::<P, K>(before, port);
-        SecondStep::Unwritten(first_track())
+        step
     }
 
     /// The same, with a keeper that keeps nothing.
     pub fn second<P: Port>(&mut self, port: &mut P) -> SecondStep
         ensures fixed { (self.new.store.number ≡ self.old.store.number) × (self.new.store.cylinders ≡ self.old.store.cylinders) }
+        ensures whole { self.new.store.half ≡ None }
         ensures seen { IsSome (second_seen self.new.past result) }
         ensures run { (k : NoKeep) (e : SecondEnd) → second_seen self.new.past result ≡ Some e → Ran surely (λ _ m r _. r ≡ reply m) (second contents (device_of self.old)) (outside (P.view port.old) self.old.store k) (device_of self.new) e (outside (P.view port.new) self.new.store k) }
     {

@@ -1,6 +1,7 @@
-ghost use Rattle.std.specs.Prelude.{◌≡◌, None, Some, option_map, is_some};
+ghost use Rattle.std.specs.Prelude.{◌≡◌, option_map, is_some};
 ghost use Rattle.std.specs.Option.{option_copied};
 ghost use Rattle.plain_defs.specs.History.{OpenEntry};
+ghost use Rattle.device_store.specs.State.{on_a, on_b};
 ghost use Rattle.device_core.specs.Kept.{open_of};
 ghost use Rattle.device_core.specs.State.{last_of, last_end_of, device_of};
 
@@ -61,18 +62,18 @@ impl<V: Volume> Device<V> {
         }
     }
 
-    /// Whether a write in two parts is open. None ever is yet.
+    /// Whether a write in two parts is open.
     pub fn half_open(&self) -> bool
         ensures { result ≡ is_some (device_of self.now).store.half }
     {
-        false
+        self.store.half_open()
     }
 
-    /// The device that its volume is lent to. It never is yet.
+    /// The device that its volume is lent to.
     pub fn lent_to(&self) -> Option<DeviceNo>
         ensures { result ≡ (device_of self.now).store.lent }
     {
-        None
+        self.store.lent_to()
     }
 
     /// What happened to the device, but for the program that runs.
@@ -110,10 +111,10 @@ impl<V: Volume> Device<V> {
         self.store.counts.writes
     }
 
-    /// Hands back the volumes of side A and of side B. Takes no memory.
+    /// Hands back the volumes of side A and of side B: none where there is no such side, or it is lent. Takes no memory.
     pub fn into_volumes(self) -> (Option<V>, Option<V>)
-        ensures { result ≡ (Some self.store.volume, None) }
+        ensures { result ≡ (on_a self.store, on_b self.store) }
     {
-        (Some(self.store.volume), None)
+        self.store.into_volumes()
     }
 }

@@ -153,11 +153,14 @@ impl<V: Volume> Device<V> {
         None
     }
 
-    /// Why the path's next program doesn't start, the first cause; the path itself runs none. No device is lent yet.
+    /// Why the path's next program doesn't start, the first cause; the path itself runs none.
     #[tactic(auto, unfolding(device_defs::specs::Start::start_fault))]
     pub fn start_fault(&self, path: PathNo) -> Option<StartFault>
         ensures { result ≡ start_fault (device_of self.now) path }
     {
+        if let Some(of) = self.store.lent_to() {
+            return Some(StartFault::Secondary { of });
+        }
         match &self.past.running {
             Some(running) => Some(StartFault::Busy {
                 holder: running.path,
@@ -166,11 +169,11 @@ impl<V: Volume> Device<V> {
         }
     }
 
-    /// No program runs, and each path has none left, or is kept out.
+    /// No program runs, and the device is lent, or each path has none left, or is kept out.
     pub fn finished(&self) -> bool
         ensures { result ≡ is_finished (device_of self.now) }
     {
-        !self.past.is_running() && self.is_shut()
+        !self.past.is_running() && (self.store.lent_to().is_some() || self.is_shut())
     }
 
     /// The path's next program starts. Room is made first.

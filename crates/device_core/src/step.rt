@@ -1,4 +1,4 @@
-ghost use Rattle.std.specs.Prelude.{◌≡◌, ◌<◌, ◌≤◌, ◌+◌, ◌*◌, ℕ, [], IfOk, IfSome, IsSome, OnErr, option_map};
+ghost use Rattle.std.specs.Prelude.{◌≡◌, ◌<◌, ◌≤◌, ◌+◌, ◌*◌, ℕ, [], IfOk, IfSome, IsSome, None, OnErr, is_some, option_map};
 ghost use Rattle.std.specs.List.{list_any};
 ghost use Rattle.ckd_chain.specs.State.{ChainState};
 ghost use Rattle.plain_defs.specs.History.{OpenEntry};
@@ -11,7 +11,7 @@ ghost use Rattle.event_notes.specs.Loose.{weight};
 ghost use Rattle.device_store.specs.State.{state_of, outside, Takes};
 ghost use Rattle.device_core.specs.Kept.{HasRoomFor};
 ghost use Rattle.device_core.specs.State.{DefinedDevice, open_of, came_to, told, commanded, commanded_by, came_from};
-ghost use Rattle.device_core.specs.Turns.{Left};
+ghost use Rattle.device_core.specs.Turns.{Left, is_half};
 ghost use Rattle.device_core.specs.Words.{HasEndRoom, IsAtWord};
 
 use crate::Device;
@@ -37,6 +37,7 @@ fn on_running<V: Volume, P: Port, K: Keep<TrackImage>>(
     requires fresh { store.old.loose.acts ≡ [] }
     requires word { IsAtWord store.old.cylinders running.old.chain }
     requires takes { Takes K.takes keep.old store.old.number (store.old.cylinders * 15) }
+    requires none { store.old.half ≡ None }
     ensures fixed { (store.new.number ≡ store.old.number) × (store.new.cylinders ≡ store.old.cylinders) }
     ensures takes { Takes K.takes keep.new store.new.number (store.new.cylinders * 15) }
     ensures open { (open_of running.new ≡ open_of running.old) × (running.new.ends ≡ running.old.ends) }
@@ -45,6 +46,8 @@ fn on_running<V: Volume, P: Port, K: Keep<TrackImage>>(
     ensures word { OnErr result (IsAtWord store.old.cylinders running.new.chain) }
     ensures weight { weight store.new.loose ≤ weight store.old.loose + 2 }
     ensures run { (d : DefinedDevice) → d.store ≡ state_of store.old → d.paths ≡ paths.old → Ran (where_ok result) K.hears (command_at contents d running.old.path running.old.chain (need_of running.old.chain)) (outside (P.view port.old) store.old keep.old) (came_to (record (with_store d (state_of store.new)) { paths = paths.new }) running.old.path running.new.chain result) (told result) (outside (P.view port.new) store.new keep.new) }
+    ensures half { IfOk result (λ came. is_some store.new.half ≡ is_half came) }
+    ensures same { OnErr result (store.new.half ≡ None) }
 {
     match running.chain.need() {
         Some(t) => on_tracks(store, running, t, port, keep),
@@ -80,6 +83,7 @@ fn on_program<V: Volume, P: Port, K: Keep<TrackImage>>(
     requires fresh { store.old.loose.acts ≡ [] }
     requires word { IsAtWord store.old.cylinders running.old.chain }
     requires takes { Takes K.takes keep.old store.old.number (store.old.cylinders * 15) }
+    requires none { store.old.half ≡ None }
     ensures fixed { (store.new.number ≡ store.old.number) × (store.new.cylinders ≡ store.old.cylinders) }
     ensures takes { Takes K.takes keep.new store.new.number (store.new.cylinders * 15) }
     ensures open { (open_of running.new ≡ open_of running.old) × (running.new.ends ≡ running.old.ends) }
@@ -88,6 +92,8 @@ fn on_program<V: Volume, P: Port, K: Keep<TrackImage>>(
     ensures word { OnErr result (IsAtWord store.old.cylinders running.new.chain) }
     ensures weight { weight store.new.loose ≤ weight store.old.loose + 2 }
     ensures run { (d : DefinedDevice) → d.store ≡ state_of store.old → d.paths ≡ paths.old → Ran (where_ok result) K.hears (commanded_by d running.old) (outside (P.view port.old) store.old keep.old) (came_to (record (with_store d (state_of store.new)) { paths = paths.new }) running.old.path running.new.chain result) (told result) (outside (P.view port.new) store.new keep.new) }
+    ensures half { IfOk result (λ came. is_some store.new.half ≡ is_half came) }
+    ensures same { OnErr result (store.new.half ≡ None) }
 {
     if has_loss(running.acts.as_slice()) {
         return Ok(check(&mut running.chain));
@@ -108,6 +114,7 @@ pub(crate) fn on_past<V: Volume, P: Port, K: Keep<TrackImage>>(
     requires word { IfSome running.old (λ r. IsAtWord store.old.cylinders r.chain) }
     requires room { IfSome running.old (λ r. HasEndRoom r.ends) }
     requires takes { Takes K.takes keep.old store.old.number (store.old.cylinders * 15) }
+    requires none { store.old.half ≡ None }
     ensures fixed { (store.new.number ≡ store.old.number) × (store.new.cylinders ≡ store.old.cylinders) }
     ensures takes { Takes K.takes keep.new store.new.number (store.new.cylinders * 15) }
     ensures running { IsSome running.new }
@@ -118,6 +125,8 @@ pub(crate) fn on_past<V: Volume, P: Port, K: Keep<TrackImage>>(
     ensures word { OnErr result (IfSome running.new (λ r. IsAtWord store.old.cylinders r.chain)) }
     ensures weight { weight store.new.loose ≤ weight store.old.loose + 2 }
     ensures run { (d : DefinedDevice) → d.store ≡ state_of store.old → d.paths ≡ paths.old → Ran (where_ok result) K.hears (commanded d running.old) (outside (P.view port.old) store.old keep.old) (came_from (record (with_store d (state_of store.new)) { paths = paths.new }) running.new result) (told result) (outside (P.view port.new) store.new keep.new) }
+    ensures half { IfOk result (λ came. is_some store.new.half ≡ is_half came) }
+    ensures same { OnErr result (store.new.half ≡ None) }
 {
     match running {
         Some(running) => on_program(store, paths, running, port, keep),

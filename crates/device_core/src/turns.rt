@@ -1,4 +1,4 @@
-ghost use Rattle.std.specs.Prelude.{◌≡◌, ◌<◌, ◌≤◌, ◌+◌, ◌*◌, IfOk, IfSome, OnErr, IsSome, option_map};
+ghost use Rattle.std.specs.Prelude.{◌≡◌, ◌<◌, ◌≤◌, ◌+◌, ◌*◌, IfOk, IfSome, None, OnErr, IsSome, false, is_some, option_map};
 ghost use Rattle.ckd_chain.specs.declared.progress.Settled.TheVariants as settleds;
 ghost use Rattle.ckd_chain.specs.Facts.{MayBeWritten};
 ghost use Rattle.ckd_rules.specs.Facts.{Suits};
@@ -9,8 +9,8 @@ ghost use Rattle.device_defs.specs.Memory.{and_had};
 ghost use Rattle.device_defs.specs.Outcomes.{usage_of, wrote_turn, checks};
 ghost use Rattle.device_outside.specs.Outside.{Ran, where_ok};
 ghost use Rattle.device_store.specs.Looks.{seen, IsSeen};
-ghost use Rattle.device_store.specs.State.{state_of, outside, Takes, had};
-ghost use Rattle.device_core.specs.Turns.{turn_with, went_with, IsAt, Left, IsSameHand, GoesOn, KeepsLoose};
+ghost use Rattle.device_store.specs.State.{state_of, outside, Takes, had, is_opened};
+ghost use Rattle.device_core.specs.Turns.{turn_with, went_with, IsAt, Left, IsSameHand, GoesOn, KeepsWeight, is_half, is_half_over};
 ghost use Rattle.event_notes.specs.Loose.{weight};
 
 use ckd_chain::{Chain, Progress, Settled};
@@ -44,6 +44,7 @@ pub(crate) fn check(chain: &mut Chain) -> Came
     requires { IsSome chain.old.at.next }
     ensures turn { turn_with chain.new result ≡ checks chain.old settleds.Equipment }
     ensures left { Left chain.old.fixed.cylinders chain.new result }
+    ensures half { is_half result ≡ false }
 {
     Came::Checks(chain.settle(Settled::Equipment))
 }
@@ -53,18 +54,20 @@ fn check_data(chain: &mut Chain) -> Came
     requires { IsSome chain.old.at.next }
     ensures turn { turn_with chain.new result ≡ checks chain.old settleds.DataCheck }
     ensures left { Left chain.old.fixed.cylinders chain.new result }
+    ensures half { is_half result ≡ false }
 {
     Came::Checks(chain.settle(Settled::DataCheck))
 }
 
 /// The command at hand by what came of its write.
-fn wrote(chain: &mut Chain, t: TrackNo, took: Took) -> Came
+pub(crate) fn wrote(chain: &mut Chain, t: TrackNo, took: Took) -> Came
     requires running { IsSome chain.old.at.next }
     requires begun { IsSome chain.old.stage }
     requires back { IsSome chain.old.before.next }
     requires written { MayBeWritten chain.old.stage }
     ensures turn { turn_with chain.new result ≡ wrote_turn chain.old t took }
     ensures left { Left chain.old.fixed.cylinders chain.new result }
+    ensures half { is_half result ≡ is_opened took }
 {
     match took {
         Took::Whole => Came::Ends(chain.settle(Settled::Written)),
@@ -88,10 +91,13 @@ fn write_seen<V: Volume, P: Port, K: Keep<TrackImage>>(
     requires there { IsSeen (state_of store.old) t (option_map (λ i. i.now) read) }
     requires suits { Suits (seen (state_of store.old) t (option_map (λ i. i.now) read)).geometry (seen (state_of store.old) t (option_map (λ i. i.now) read)).track.records edit }
     requires takes { Takes K.takes keep.old store.old.number (store.old.cylinders * 15) }
+    requires none { store.old.half ≡ None }
     ensures fixed { (store.new.number ≡ store.old.number) × (store.new.cylinders ≡ store.old.cylinders) }
     ensures takes { Takes K.takes keep.new store.new.number (store.new.cylinders * 15) }
     ensures weight { weight store.new.loose ≤ weight store.old.loose + 2 }
     ensures run { Ran (where_ok result) K.hears (write contents (state_of store.old) usage.now first t (seen (state_of store.old) t (option_map (λ i. i.now) read.entry)) edit) (outside (P.view port.old) store.old keep.old) (state_of store.new) (had (λ took. took) result) (outside (P.view port.new) store.new keep.new) }
+    ensures half { IfOk result (λ took. is_some store.new.half ≡ is_opened took) }
+    ensures same { OnErr result (store.new.half ≡ None) }
 {
     match read {
         Some(image) => store.write(usage, first, t, image, edit, port, keep),
@@ -117,13 +123,16 @@ fn write_edit<V: Volume, P: Port, K: Keep<TrackImage>>(
     requires takes { Takes K.takes keep.old store.old.number (store.old.cylinders * 15) }
     requires at { IsAt store.old.cylinders chain.old }
     requires written { MayBeWritten chain.old.stage }
+    requires none { store.old.half ≡ None }
     ensures fixed { (store.new.number ≡ store.old.number) × (store.new.cylinders ≡ store.old.cylinders) }
     ensures takes { Takes K.takes keep.new store.new.number (store.new.cylinders * 15) }
     ensures goes { IfOk result (GoesOn store.old.cylinders chain.old chain.new) }
     ensures hand { OnErr result (IsSameHand chain.old chain.new) }
     ensures weight { weight store.new.loose ≤ weight store.old.loose + 2 }
-    ensures on { IfOk result (KeepsLoose store.old.loose store.new.loose) }
+    ensures on { IfOk result (KeepsWeight (weight store.old.loose) store.new.loose) }
     ensures run { Ran (where_ok result) K.hears (and_had (write contents (state_of store.old) usage.now first t (seen (state_of store.old) t (option_map (λ i. i.now) read.entry)) edit) (came_of_write contents chain.old t)) (outside (P.view port.old) store.old keep.old) (state_of store.new) (had (went_with chain.new) result) (outside (P.view port.new) store.new keep.new) }
+    ensures half { IfOk result (λ step. is_some store.new.half ≡ is_half_over step) }
+    ensures same { OnErr result (store.new.half ≡ None) }
 {
     match write_seen(store, usage, first, t, read, edit, port, keep) {
         Err(NoMemory) => Err(NoMemory),
@@ -147,13 +156,16 @@ fn on_image<V: Volume, P: Port, K: Keep<TrackImage>>(
     requires there { IsSeen (state_of store.old) t (option_map (λ i. i.now) read) }
     requires at { IsAt store.old.cylinders chain.old }
     requires usage { usage.now ≡ usage_of chain.old }
+    requires none { store.old.half ≡ None }
     ensures fixed { (store.new.number ≡ store.old.number) × (store.new.cylinders ≡ store.old.cylinders) }
     ensures takes { Takes K.takes keep.new store.new.number (store.new.cylinders * 15) }
     ensures goes { IfOk result (GoesOn store.old.cylinders chain.old chain.new) }
     ensures hand { OnErr result (IsSameHand chain.old chain.new) }
     ensures weight { weight store.new.loose ≤ weight store.old.loose + 2 }
-    ensures on { IfOk result (KeepsLoose store.old.loose store.new.loose) }
+    ensures on { IfOk result (KeepsWeight (weight store.old.loose) store.new.loose) }
     ensures run { Ran (where_ok result) K.hears (went_on contents chain.old first t (state_of store.old) (seen (state_of store.old) t (option_map (λ i. i.now) read.entry))) (outside (P.view port.old) store.old keep.old) (state_of store.new) (had (went_with chain.new) result) (outside (P.view port.new) store.new keep.new) }
+    ensures half { IfOk result (λ step. is_some store.new.half ≡ is_half_over step) }
+    ensures same { OnErr result (store.new.half ≡ None) }
 {
     let image = store.seen(t, read);
     let progress = match chain.step(store.alloc, Some(image)) {
@@ -182,13 +194,16 @@ fn look<V: Volume, P: Port, K: Keep<TrackImage>>(
     requires track { t < store.old.cylinders * 15 }
     requires takes { Takes K.takes keep.old store.old.number (store.old.cylinders * 15) }
     requires at { IsAt store.old.cylinders chain.old }
+    requires none { store.old.half ≡ None }
     ensures fixed { (store.new.number ≡ store.old.number) × (store.new.cylinders ≡ store.old.cylinders) }
     ensures takes { Takes K.takes keep.new store.new.number (store.new.cylinders * 15) }
     ensures goes { IfOk result (GoesOn store.old.cylinders chain.old chain.new) }
     ensures hand { OnErr result (IsSameHand chain.old chain.new) }
     ensures weight { weight store.new.loose ≤ weight store.old.loose + 2 }
-    ensures on { IfOk result (KeepsLoose store.old.loose store.new.loose) }
+    ensures on { IfOk result (KeepsWeight (weight store.old.loose) store.new.loose) }
     ensures run { Ran (where_ok result) K.hears (look contents chain.old first t (state_of store.old)) (outside (P.view port.old) store.old keep.old) (state_of store.new) (had (went_with chain.new) result) (outside (P.view port.new) store.new keep.new) }
+    ensures half { IfOk result (λ step. is_some store.new.half ≡ is_half_over step) }
+    ensures same { OnErr result (store.new.half ≡ None) }
 {
     if store.lost.has(t) {
         return Ok(Step::Over(check(chain)));
@@ -217,12 +232,15 @@ pub fn follow<V: Volume, P: Port, K: Keep<TrackImage>>(
     requires track { first < store.old.cylinders * 15 }
     requires takes { Takes K.takes keep.old store.old.number (store.old.cylinders * 15) }
     requires at { IsAt store.old.cylinders chain.old }
+    requires none { store.old.half ≡ None }
     ensures fixed { (store.new.number ≡ store.old.number) × (store.new.cylinders ≡ store.old.cylinders) }
     ensures takes { Takes K.takes keep.new store.new.number (store.new.cylinders * 15) }
     ensures left { IfOk result (Left store.old.cylinders chain.new) }
     ensures hand { OnErr result (IsSameHand chain.old chain.new) }
     ensures weight { weight store.new.loose ≤ weight store.old.loose + 2 }
     ensures run { Ran (where_ok result) K.hears (follow contents (store.old.cylinders * 15) first chain.old first (state_of store.old)) (outside (P.view port.old) store.old keep.old) (state_of store.new) (had (turn_with chain.new) result) (outside (P.view port.new) store.new keep.new) }
+    ensures half { IfOk result (λ came. is_some store.new.half ≡ is_half came) }
+    ensures same { OnErr result (store.new.half ≡ None) }
 {
     let tracks = usize::from(store.cylinders) * usize::from(HEADS);
     let mut t = first;

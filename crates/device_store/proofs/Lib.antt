@@ -11,4 +11,11 @@ pub mod Sweeps
 pub mod Loosed
 pub mod Firming
 pub mod Firmly
+pub mod Halved
 pub mod Writes
+pub mod Settling
+pub mod Volumes
+pub mod Peeking
+pub mod Behind
+pub mod Seconds
+pub mod Orders

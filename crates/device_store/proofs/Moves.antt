@@ -25,3 +25,8 @@ pub from_equal : {R I K S A T : Type 0} {had : Bool → Type 0} {hears : Hearing
     {s : S} {a : A} → x ≡ y → v ≡ w → Ran had hears (f x) v s a z → Ran had hears (f y) w s a z
 from_equal {had = had} {hears = hears} f {x} {y} {v} {w} {z} {s} {a} same there ran =
     subst (λ o. Ran had hears (f y) o s a z) there (subst (λ u. Ran had hears (f u) v s a z) same ran)
+
+-- the same run, to an equal outside
+pub lands : {R I K S A : Type 0} {had : Bool → Type 0} {hears : Hearing I K} {i : Interaction R I S A} {v w z : Outside R K} {s : S} {a : A} →
+    w ≡ z → Ran had hears i v s a w → Ran had hears i v s a z
+lands {had = had} {hears = hears} {i = i} {v = v} {s = s} {a = a} there ran = subst (λ o. Ran had hears i v s a o) there ran

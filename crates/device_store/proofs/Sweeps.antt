@@ -1,7 +1,7 @@
 -- A sweep over all tracks that settles each and tells the keeper of it at once does what one does that settles all first.
 use Rattle.std.proofs.Common.{◌≡◌, ◌≢◌, ◌∙◌, ◌+◌, ◌<◌, ℕ, zero, suc, Bool, true, false, List, [], ◌∷◌, Option, Some, None, refl, ap, sym, arith}
 use Rattle.std.proofs.Math.Path.{fun_ext}
-use Rattle.std.specs.Prelude.{is_some, slice_index_or, slice_set, if◌then◌else◌}
+use Rattle.std.specs.Prelude.{◌==◌, is_some, slice_index_or, slice_set, if◌then◌else◌}
 use Rattle.std.proofs.lemmas.List.{get_or-set_other}
 use Rattle.track_image.specs.Image.{Image}
 use Rattle.device_outside.specs.Interaction.{Interaction, Done, Try, Ask, Read, Write, Tell, and_then}
@@ -11,7 +11,7 @@ use Rattle.device_defs.specs.declared.owed.Owed.{Owed}
 use Rattle.device_defs.specs.Contents.{Contents}
 use Rattle.device_defs.specs.Effects.{hardened}
 use Rattle.device_defs.specs.Losses as losses
-use Rattle.device_defs.specs.Losses.{over, settled, by_frame, kept_by_frame, hardened_by_loss, gives_up, slot_in, without_patch, stale_everywhere}
+use Rattle.device_defs.specs.Losses.{over, settled, settled_but, by_frame, kept_by_frame, hardened_by_loss, gives_up, slot_in, without_patch, stale_everywhere}
 use Rattle.device_defs.specs.Losses.{patch_lost, framed_image, firm_told, all_firm_told}
 use Rattle.device_defs.specs.Store.{Store, no_debt, frame_at, patch_at, owed_at, is_lost, is_loose, has_level, half_is, with_frame, with_owed}
 use Rattle.device_store.proofs.Losing.{over_more}
@@ -94,6 +94,10 @@ module _ {F P H R : Type 0} (c : Contents F P H R) (t q : ℕ) (o : Owed) (ne : 
     unfolding losses.settled
     at_settled =
         at_if (is_some y.lent) at_same (at_if (is_lost y q) at_same (at_if (has_level y q) at_same (at_by_frame (frame_at y q))))
+
+    pub at_settled_but : (w : Option ℕ) → At c t o y (settled_but c w q y) (settled_but c w q (with_owed y t o))
+    at_settled_but None = at_settled
+    at_settled_but (Some p) = at_if (q == p) at_same at_settled
 
     at_stale : At c t o y (stale_everywhere y q) (stale_everywhere (with_owed y t o) q)
     at_stale = at_if y.paired (record { device = refl; owed = refl; image = refl; comm = refl }) (record { device = refl; owed = refl; image = refl; comm = refl })

@@ -1,29 +1,28 @@
 -- Writes and what is saved, by cases of a frame, a patch and a queue.
 use Rattle.std.proofs.Common.{◌≡◌, ◌∙◌, ◌<◌, ◌≤◌, ◌+◌, ◌-◌, ℕ, zero, suc, length, Bool, true, false, List, [], ◌∷◌, refl, sym, ap, arith}
-use Rattle.std.specs.Prelude.{◌&&◌, ◌||◌, Option, Some, None, is_some, slice_get, drop, if◌then◌else◌, IfSome}
-use Rattle.ckd_types.specs.declared.paths.Side.TheVariants.{A}
+use Rattle.std.specs.Prelude.{◌&&◌, ◌||◌, not, Option, Some, None, is_some, slice_get, drop, if◌then◌else◌, IfSome}
+use Rattle.ckd_types.specs.declared.paths.Side.TheVariants.{A, B}
 use Rattle.nv_store.specs.declared.patches.Stored.{Stored}
 use Rattle.nv_store.specs.Patches as patches
 use Rattle.track_cache.specs.declared.frames.Frame.{Frame}
 use Rattle.track_cache.specs.Frames as frames
 use Rattle.track_image.specs.Image.{Image}
-use Rattle.event_notes.proofs.Counted.{least_front, least_same}
 use Rattle.std.proofs.lemmas.List.{get_or_past}
 use Rattle.track_table.specs.Bits.{is_marked}
 use Rattle.track_table.specs.Tracks as tracks
 use Rattle.track_table.specs.Tracks.{least, or_else}
-use Rattle.track_table.proofs.Rising.{least_none}
 use Rattle.device_defs.specs.declared.answers.Did.TheVariants.{Recovered}
 use Rattle.device_defs.specs.Background as background
-use Rattle.device_defs.specs.Background.{is_destaged, copies_to, copy_first, destage_first, recover, recovered_bytes, saved, stage, stage_first, to_copy, to_destage, to_recover, work}
+use Rattle.device_defs.specs.Background.{is_destaged, copy_first, destage_first, recover, recovered_bytes, saved, stage, stage_first, to_copy, to_destage, to_recover, work}
 use Rattle.device_defs.specs.Contents.{contents}
 use Rattle.device_defs.specs.Image.{level_bytes}
-use Rattle.device_defs.specs.Losses.{framed_image, slot_in}
-use Rattle.device_defs.specs.Store.{frame_at, patch_at, is_loose, stale_at, tracks_of}
+use Rattle.device_defs.specs.Losses.{framed_image, settled, slot_in}
+use Rattle.device_defs.specs.Store.{frame_at, patch_at, is_loose, some_up, takes_b, tracks_of}
 use Rattle.device_defs.specs.Owed.{is_modified, waits}
 use Rattle.device_defs.specs.Writing as writing
-use Rattle.device_defs.specs.Writing.{first_a, write_first, write_side}
-use Rattle.device_outside.specs.Interaction.{and_then}
+use Rattle.device_defs.specs.Writing.{alone_b, cleaned, first_a, taken_a, tried_b, unwritten, write_first, write_second, write_side, wrote}
+use Rattle.device_defs.specs.declared.answers.Took.TheVariants.{Unwritten, Whole}
+use Rattle.device_outside.specs.Interaction.{Done, and_then}
 use Rattle.device_store.specs.Looks.{StoreOf, frame_in}
 
 pub slot_is : (p : Option Stored) → slot_in contents p ≡ patches.slot_of p
@@ -53,31 +52,13 @@ pub recover_bare : (s : StoreOf) (t : ℕ) (f : Option Frame) → is_some f ≡ 
 recover_bare s t None there = refl
 recover_bare s t (Some f) there = absurd cc
 
-both_false : (b : Bool) → (b && false) ≡ false
-both_false true = refl
-both_false false = refl
-
-side_if : (a : Bool) → a ≡ false → is_some (if a then Some A else None) ≡ false
-side_if true e = absurd cc
-side_if false e = refl
-
--- one volume has no track to copy
-abbrev pub alone : StoreOf → StoreOf
-alone s = record s { b = record s.b { up = false } }
-
-none_copied : (s : StoreOf) (t : ℕ) → is_some (copies_to (alone s) t) ≡ false
-none_copied s t = side_if (s.a.up && stale_at s.a t && false) (both_false (s.a.up && stale_at s.a t))
-
-none_to_copy : (s : StoreOf) → to_copy (alone s) ≡ None
-none_to_copy s = least_none (tracks_of s) (λ t. is_some (copies_to (alone s) t)) (λ t below. none_copied s t)
-
 pub work_recovers : (s : StoreOf) (t : ℕ) → to_recover contents s ≡ Some t → work contents s ≡ recover contents s t (frame_at s t)
 unfolding background.work
 work_recovers s t is = rw is refl
 
-pub work_stages : (s : StoreOf) → to_recover contents (alone s) ≡ None → work contents (alone s) ≡ stage_first contents (alone s) s.queue
+pub work_copies : (s : StoreOf) → to_recover contents s ≡ None → work contents s ≡ copy_first contents s (to_copy s)
 unfolding background.work
-work_stages s none = rw none (ap (copy_first contents (alone s)) (none_to_copy s))
+work_copies s none = rw none refl
 
 staged_by : (s : StoreOf) (queue : List ℕ) (t : ℕ) → slice_get queue 0 ≡ Some t →
     stage_first contents s queue ≡ stage contents (record s { queue = drop 1 queue }) t
@@ -108,13 +89,11 @@ pub clean_is : (s : StoreOf) (t : ℕ) (f : Option Frame) → is_some f ≡ true
 clean_is s t None there = absurd cc
 clean_is s t (Some f) there = refl
 
--- The least of some tracks
+pub marked_clean : (f : Option Frame) → frames.with_mark false f ≡ cleaned contents f
+marked_clean None = refl
+marked_clean (Some f) = refl
 
-pub least_of : (n : ℕ) (marks : List Bool) (p : ℕ → Bool) → n ≤ 960 → ((t : ℕ) → is_marked marks t ≡ p t) → ((t : ℕ) → n ≤ t → p t ≡ false) →
-    least 960 (is_marked marks) ≡ least n p
-least_of n marks p few each none =
-    let e : n + (960 - n) ≡ 960 = omega (arith, few) in
-    least_same 960 (is_marked marks) p each ∙ ap (λ (m : ℕ). least m p) (sym e) ∙ least_front n (960 - n) p none
+-- The least of some tracks
 
 pub record IsOne (n : ℕ) (p : ℕ → Bool) (t : ℕ) : Type 0 where
   pub here : t < n
@@ -152,12 +131,50 @@ if_some (Some a) (Some b) p q is f has = let same : a ≡ b = cc in rw same (f b
 if_some None (Some b) p q is f has = absurd cc
 if_some (Some a) None p q is f has = absurd cc
 
-up_by : (b c : Bool) (x : Option ℕ) → b ≡ true → (if b || c then x else None) ≡ x
-up_by true c x is = refl
-up_by false c x is = absurd cc
+up_by : (b : Bool) (x : Option ℕ) → b ≡ true → (if b then x else None) ≡ x
+up_by true x is = refl
+up_by false x is = absurd cc
 
-pub recovers : (s : StoreOf) → s.a.up ≡ true → to_recover contents s ≡ least (tracks_of s) (waits contents s)
-recovers s up = up_by s.a.up s.b.up (least (tracks_of s) (waits contents s)) up
+pub recovers : (s : StoreOf) → some_up s ≡ true → to_recover contents s ≡ least (tracks_of s) (waits contents s)
+recovers s up = up_by (some_up s) (least (tracks_of s) (waits contents s)) up
 
-pub destages : (s : StoreOf) → s.a.up ≡ true → to_destage contents s ≡ least (tracks_of s) (is_destaged contents s)
-destages s up = up_by s.a.up s.b.up (least (tracks_of s) (is_destaged contents s)) up
+pub destages : (s : StoreOf) → some_up s ≡ true → to_destage contents s ≡ least (tracks_of s) (is_destaged contents s)
+destages s up = up_by (some_up s) (least (tracks_of s) (is_destaged contents s)) up
+
+-- The first part of a write, by which side is up
+
+pub written_b : (s : StoreOf) (t : ℕ) (r : List ℕ) → s.a.up ≡ false → takes_b s ≡ true → write_first contents s t r ≡ write_side contents s B t r (alone_b contents t None B)
+unfolding writing.write_first
+written_b s t r down takes = rw (down, takes) refl
+
+pub written_none : (s : StoreOf) (t : ℕ) (r : List ℕ) → s.a.up ≡ false → takes_b s ≡ false →
+    write_first contents s t r ≡ Done (settled contents s t) (wrote Unwritten None)
+unfolding writing.write_first
+written_none s t r down none = rw (down, none) refl
+
+pub taken_alone : (s : StoreOf) (t : ℕ) (r : List ℕ) → takes_b s ≡ false → first_a contents t r s true ≡ Done (taken_a s t) (wrote Whole None)
+taken_alone s t r none = rw none refl
+
+pub refused_by_a : (s : StoreOf) (t : ℕ) (r : List ℕ) → s.paired ≡ false → takes_b s ≡ false →
+    first_a contents t r s false ≡ Done (unwritten contents s t) (wrote Unwritten (Some A))
+refused_by_a s t r single none = rw (single, none) refl
+
+pub second_b : (s : StoreOf) (t : ℕ) (r : List ℕ) → takes_b s ≡ true → write_second contents s t r ≡ write_side contents s B t r (tried_b contents t)
+unfolding writing.write_second
+second_b s t r takes = rw takes refl
+
+pub second_none : (s : StoreOf) (t : ℕ) (r : List ℕ) → takes_b s ≡ false → write_second contents s t r ≡ Done s tt
+unfolding writing.write_second
+second_none s t r none = rw none refl
+
+pub up_from : (up held : Bool) → (up && not held) ≡ true → up ≡ true
+up_from true held e = refl
+up_from false held e = absurd cc
+
+-- a side that isn't there takes nothing
+pub none_taken : (up held there : Bool) → (up ≡ true → there ≡ true) → there ≡ false → (up && not held) ≡ false
+none_taken true held true has none = absurd cc
+none_taken true held false has none = absurd (true_not_false (sym (has refl))) where
+  true_not_false : true ≡ false → ⊥
+  true_not_false e = absurd cc
+none_taken false held there has none = refl

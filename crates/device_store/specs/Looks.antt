@@ -1,5 +1,5 @@
 -- How looks at tracks are seen.
-use Rattle.std.specs.Prelude.{◌≡◌, ℕ, true, List, Option, None, Some, is_some, if◌then◌else◌}
+use Rattle.std.specs.Prelude.{◌≡◌, ◌&&◌, ℕ, Bool, not, true, List, Option, None, Some, is_some, if◌then◌else◌}
 use Rattle.ckd_types.specs.Parameters.{is_bypass}
 use Rattle.track_image.specs.Image.{Image}
 use Rattle.track_cache.specs.declared.frames.Frame.{Frame}
@@ -12,7 +12,8 @@ use Rattle.device_defs.specs.Contents.{contents}
 use Rattle.device_defs.specs.Image.{Imaged, Has, NoBytes, BadTrack, miss}
 use Rattle.device_defs.specs.Losses.{framed_image}
 use Rattle.device_defs.specs.Peek.{Peeked, Track, Lost, Fault, BadBytes}
-use Rattle.device_defs.specs.Store.{Store, frame_at, with_frame}
+use Rattle.device_defs.specs.Store.{Store, frame_at, half_is, has_level, with_frame}
+use Rattle.device_store.specs.declared.half.HalfWrite.{HalfWrite}
 use Rattle.device_store.specs.declared.store.Looked.{Looked}
 use Rattle.device_store.specs.declared.store.Looked.TheVariants as looks
 use Rattle.device_store.specs.declared.store.Peeked as answers
@@ -66,3 +67,12 @@ abbrev pub clean_by : StoreOf → Usage → ℕ → Interaction (List ℕ) Image
 clean_by s u t =
     if is_bypass u.mode then miss contents s u t
     else Ask (Touch s.device t) (λ listed. if listed then Done s (Some (Has (frame_in s t))) else miss contents (with_frame s t None) u t)
+
+-- an open half write alone has the track
+abbrev pub in_half : StoreOf → ℕ → Bool
+in_half s t = half_is s.half t && not (is_some (frame_at s t)) && not (has_level s t)
+
+-- the image of the open half write was copied
+abbrev pub IsHalfCopied : Option HalfWrite → answers.Peeked → Type 0
+IsHalfCopied (Some h) (peeks.Track image) = image ≡ h.image
+IsHalfCopied _ _ = ⊥

@@ -1,20 +1,20 @@
 ghost use Rattle.std.specs.Prelude.{◌≡◌, ◌<◌, ◌*◌, Bool, IfSome, None, ℕ, false, is_some, true};
 ghost use Rattle.ckd_types.specs.Track.{track_bytes};
-ghost use Rattle.device_defs.specs.Background.{is_destaged, saved_by, saving, to_destage};
+ghost use Rattle.device_defs.specs.Background.{is_destaged, saved, saved_by, saving, to_destage};
 ghost use Rattle.device_defs.specs.Contents.{contents};
 ghost use Rattle.device_defs.specs.Store.{frame_at, is_loose};
 ghost use Rattle.device_defs.specs.Writing.{write_first};
 ghost use Rattle.device_outside.specs.Interaction.{and_then};
-ghost use Rattle.device_outside.specs.Outside.{Ran};
+ghost use Rattle.device_outside.specs.Outside.{Ran, where_ok};
 ghost use Rattle.event_notes.specs.Loose.{weight};
 ghost use Rattle.track_table.specs.Bits.{is_marked};
 ghost use Rattle.device_store.specs.Looks.{frame_in};
-ghost use Rattle.device_store.specs.State.{state_of, outside, surely, Takes};
+ghost use Rattle.device_store.specs.State.{state_of, outside, surely, OnlyBackground, Takes, had};
 
 use crate::DeviceStore;
 use crate::background::did;
-use ckd_types::TrackNo;
-use device_defs::Did;
+use ckd_types::{NoMemory, TrackNo};
+use device_defs::{Did, Took};
 use device_outside::{Keep, Port, Volume};
 use track_image::TrackImage;
 use track_table::TrackBits;
@@ -29,19 +29,19 @@ impl<V: Volume> DeviceStore<V> {
         self.loose.marks().or(&modified)
     }
 
-    /// The least such track, where the volume is up.
+    /// The least such track, where a side is up.
     pub(crate) fn to_destage(&self) -> Option<TrackNo>
         ensures least { result ≡ to_destage contents (state_of self.now) }
         ensures here { IfSome result (λ t. t < self.now.cylinders * 15) }
         ensures framed { IfSome result (λ t. is_some (frame_at (state_of self.now) t) ≡ true) }
     {
-        if self.up {
+        if self.some_up() {
             return self.destaged().first();
         }
         None
     }
 
-    /// The same of a track that isn't loose.
+    /// Writes the image in a track's frame, which isn't loose, to a volume that is alone.
     fn save_firm<P: Port, K: Keep<TrackImage>>(
         &mut self,
         t: TrackNo,
@@ -51,20 +51,25 @@ impl<V: Volume> DeviceStore<V> {
         requires track { t < self.old.cylinders * 15 }
         requires framed { is_some (frame_at (state_of self.old) t) ≡ true }
         requires firm { is_loose (state_of self.old) t ≡ false }
+        requires single { (state_of self.old).paired ≡ false }
         ensures fixed { (self.new.number ≡ self.old.number) × (self.new.cylinders ≡ self.old.cylinders) }
+        ensures half { self.new.half ≡ self.old.half }
         ensures loose { self.new.loose ≡ self.old.loose }
         ensures run { (k : K) (was_loose : Bool) → Ran surely K.hears (and_then (write_first contents (state_of self.old) t (track_bytes (frame_in (state_of self.old) t).track)) (λ y w. saved_by contents t (frame_in (state_of self.old) t) done None was_loose w.fault y w.took)) (outside (P.view port.old) self.old k) (state_of self.new) result (outside (P.view port.new) self.new k) }
     {
         let written = self.write_frame::<K>(t);
-        if written.done {
-            self.frame_done::<P, K>(t, port);
-            return did(written.fault, done);
+        match written.took {
+            Took::Whole => {
+                self.frame_done::<P, K>(t, port);
+                did(written.fault, done)
+            }
+            Took::Unwritten => did(written.fault, Did::Nothing),
+            Took::Opened => unreachable!(),
         }
-        did(written.fault, Did::Nothing)
     }
 
-    /// Writes the image in a track's frame to the volume. What is done then is `done`.
-    pub(crate) fn save_frame<P: Port, K: Keep<TrackImage>>(
+    /// Writes the image in a track's frame to a volume that is alone. What is done then is `done`.
+    fn save_alone<P: Port, K: Keep<TrackImage>>(
         &mut self,
         t: TrackNo,
         done: Did,
@@ -73,13 +78,43 @@ impl<V: Volume> DeviceStore<V> {
     ) -> Did
         requires track { t < self.old.cylinders * 15 }
         requires framed { is_some (frame_at (state_of self.old) t) ≡ true }
+        requires single { (state_of self.old).paired ≡ false }
         requires takes { Takes K.takes keep.old self.old.number (self.old.cylinders * 15) }
         ensures fixed { (self.new.number ≡ self.old.number) × (self.new.cylinders ≡ self.old.cylinders) }
+        ensures half { self.new.half ≡ self.old.half }
         ensures weight { weight self.new.loose ≡ weight self.old.loose }
         ensures takes { Takes K.takes keep.new self.new.number (self.new.cylinders * 15) }
         ensures run { Ran surely K.hears (saving contents (state_of self.old) t (frame_in (state_of self.old) t) done None) (outside (P.view port.old) self.old keep.old) (state_of self.new) result (outside (P.view port.new) self.new keep.new) }
     {
         self.firm_first(t, keep);
         self.save_firm::<P, K>(t, done, port)
+    }
+
+    /// Writes the image in a track's frame to the volumes. What is done then is `done`. With two sides it is copied first, as the
+    /// frame may go before the second part.
+    pub(crate) fn save_frame<P: Port, K: Keep<TrackImage>>(
+        &mut self,
+        t: TrackNo,
+        done: Did,
+        port: &mut P,
+        keep: &mut K,
+    ) -> Result<Did, NoMemory>
+        requires track { t < self.old.cylinders * 15 }
+        requires framed { is_some (frame_at (state_of self.old) t) ≡ true }
+        requires none { self.old.half ≡ None }
+        requires takes { Takes K.takes keep.old self.old.number (self.old.cylinders * 15) }
+        ensures fixed { (self.new.number ≡ self.old.number) × (self.new.cylinders ≡ self.old.cylinders) }
+        ensures opened { OnlyBackground self.new.half }
+        ensures weight { weight self.new.loose ≡ weight self.old.loose }
+        ensures takes { Takes K.takes keep.new self.new.number (self.new.cylinders * 15) }
+        ensures run { Ran (where_ok result) K.hears (saved contents (state_of self.old) t (frame_in (state_of self.old) t) done None) (outside (P.view port.old) self.old keep.old) (state_of self.new) (had (λ did. did) result) (outside (P.view port.new) self.new keep.new) }
+    {
+        if !self.pair.is_paired() {
+            return Ok(self.save_alone(t, done, port, keep));
+        }
+        match self.frame_image(t).copy(self.alloc) {
+            Err(NoMemory) => Err(NoMemory),
+            Ok(image) => Ok(self.save_read(t, image, done, None, port, keep)),
+        }
     }
 }

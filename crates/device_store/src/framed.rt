@@ -1,6 +1,6 @@
 //! A write of a track whose image is in its frame: where it stays there, the edit is made in place.
 
-ghost use Rattle.std.specs.Prelude.{◌≡◌, ◌<◌, ◌≤◌, ◌+◌, ◌*◌, ℕ, None, OnOk, IfOk, Some, is_some, slice_set, true};
+ghost use Rattle.std.specs.Prelude.{◌≡◌, ◌<◌, ◌≤◌, ◌+◌, ◌*◌, ℕ, None, OnErr, OnOk, IfOk, Some, is_some, slice_set, true};
 ghost use Rattle.ckd_rules.specs.Facts.{Suits};
 ghost use Rattle.device_defs.specs.declared.answers.Choice.TheVariants.{Fast, Provisional, Through};
 ghost use Rattle.device_defs.specs.declared.answers.Took.TheVariants.{Whole};
@@ -19,7 +19,7 @@ ghost use Rattle.track_image.specs.Image.{edited_image, Image};
 ghost use Rattle.ckd_types.specs.declared.record.Edit.{Edit};
 ghost use Rattle.device_store.specs.Chosen.{FitsSlot};
 ghost use Rattle.device_store.specs.Looks.{frame_in, StoreOf};
-ghost use Rattle.device_store.specs.State.{state_of, outside, surely, Takes, had};
+ghost use Rattle.device_store.specs.State.{is_opened, state_of, outside, surely, Takes, had};
 
 use crate::DeviceStore;
 use crate::write::copy_edit;
@@ -78,7 +78,8 @@ impl<V: Volume> DeviceStore<V> {
     /// Makes all room that an edit in place needs, and a copy of it for the frame.
     fn room_framed(&mut self, usage: &Usage, t: TrackNo, edit: &Edit) -> Result<Edit, NoMemory>
         ensures fixed { (self.new.number ≡ self.old.number) × (self.new.cylinders ≡ self.old.cylinders) }
-        ensures volume { self.new.volume ≡ self.old.volume }
+        ensures half { self.new.half ≡ self.old.half }
+        ensures volume { self.new.pair.volumes ≡ self.old.pair.volumes }
         ensures weight { weight self.new.loose ≡ weight self.old.loose }
         ensures state { state_of self.new ≡ state_of self.old }
         ensures patch { OnOk result (room_for (stored_at self.new.patches t) ≤ self.new.edits) }
@@ -109,6 +110,7 @@ impl<V: Volume> DeviceStore<V> {
         requires frame { HasFrameRoom edit (framed.frame_at self.old.frames t) self.old.records }
         requires takes { Takes K.takes keep.old self.old.number (self.old.cylinders * 15) }
         ensures fixed { (self.new.number ≡ self.old.number) × (self.new.cylinders ≡ self.old.cylinders) }
+        ensures half { self.new.half ≡ self.old.half }
         ensures takes { Takes K.takes keep.new self.new.number (self.new.cylinders * 15) }
         ensures loose { self.new.loose ≡ self.old.loose }
         ensures run { (u : Usage) (first : ℕ) (p : PortView) → Ran surely K.hears (write_by contents u first t (edited_image edit (frame_in (state_of self.old) t)) edit (state_of self.old) (Fast slot)) (outside p self.old keep.old) (state_of self.new) Whole (outside p self.new keep.new) }
@@ -126,13 +128,15 @@ impl<V: Volume> DeviceStore<V> {
 
     /// A write of data of cache fast write: the edit is made in the frame alone.
     fn edit_loose(&mut self, t: TrackNo, edit: Edit)
+        requires none { self.old.half ≡ None }
         requires track { t < self.old.cylinders * 15 }
         requires there { is_some (frame_at (state_of self.old) t) ≡ true }
         requires suits { SuitsFrame edit (framed.frame_at self.old.frames t) }
         requires frame { HasFrameRoom edit (framed.frame_at self.old.frames t) self.old.records }
         requires room { loose_count self.old.loose.loose + 2 ≤ self.old.loose.spare }
         ensures fixed { (self.new.number ≡ self.old.number) × (self.new.cylinders ≡ self.old.cylinders) }
-        ensures volume { self.new.volume ≡ self.old.volume }
+        ensures half { self.new.half ≡ self.old.half }
+        ensures volume { self.new.pair.volumes ≡ self.old.pair.volumes }
         ensures weight { weight self.new.loose ≤ weight self.old.loose + 2 }
         ensures state { (e : Edit) → state_of self.new ≡ provisionally_written contents (state_of self.old) t (edited_image edit (frame_in (state_of self.old) t)) e }
     {
@@ -153,6 +157,7 @@ impl<V: Volume> DeviceStore<V> {
         port: &mut P,
         keep: &mut K,
     ) -> Result<Took, NoMemory>
+        requires none { self.old.half ≡ None }
         requires track { t < self.old.cylinders * 15 }
         requires copy { copy ≡ edit }
         requires fits { FitsSlot (is_some (patch_at (state_of self.old) t)) slot }
@@ -162,6 +167,8 @@ impl<V: Volume> DeviceStore<V> {
         requires frame { HasFrameRoom edit (framed.frame_at self.old.frames t) self.old.records }
         requires takes { Takes K.takes keep.old self.old.number (self.old.cylinders * 15) }
         ensures fixed { (self.new.number ≡ self.old.number) × (self.new.cylinders ≡ self.old.cylinders) }
+        ensures half { IfOk result (λ took. is_some self.new.half ≡ is_opened took) }
+        ensures same { OnErr result (self.new.half ≡ self.old.half) }
         ensures takes { Takes K.takes keep.new self.new.number (self.new.cylinders * 15) }
         ensures loose { self.new.loose ≡ self.old.loose }
         ensures run { (u : Usage) (first : ℕ) → Ran (where_ok result) K.hears (write_chosen contents u first t (frame_in (state_of self.old) t) edit (state_of self.old) (Fast slot)) (outside (P.view port.old) self.old keep.old) (state_of self.new) (had (λ took. took) result) (outside (P.view port.new) self.new keep.new) }
@@ -186,6 +193,7 @@ impl<V: Volume> DeviceStore<V> {
         port: &mut P,
         keep: &mut K,
     ) -> Result<Took, NoMemory>
+        requires none { self.old.half ≡ None }
         requires track { t < self.old.cylinders * 15 }
         requires there { is_some (frame_at (state_of self.old) t) ≡ true }
         requires suits { SuitsFrame edit (framed.frame_at self.old.frames t) }
@@ -193,6 +201,8 @@ impl<V: Volume> DeviceStore<V> {
         requires room { loose_count self.old.loose.loose + 2 ≤ self.old.loose.spare }
         requires takes { Takes K.takes keep.old self.old.number (self.old.cylinders * 15) }
         ensures fixed { (self.new.number ≡ self.old.number) × (self.new.cylinders ≡ self.old.cylinders) }
+        ensures half { IfOk result (λ took. is_some self.new.half ≡ is_opened took) }
+        ensures same { OnErr result (self.new.half ≡ self.old.half) }
         ensures takes { Takes K.takes keep.new self.new.number (self.new.cylinders * 15) }
         ensures weight { weight self.new.loose ≤ weight self.old.loose + 2 }
         ensures run { (u : Usage) (first : ℕ) → Ran (where_ok result) K.hears (write_chosen contents u first t (frame_in (state_of self.old) t) edit (state_of self.old) Provisional) (outside (P.view port.old) self.old keep.old) (state_of self.new) (had (λ took. took) result) (outside (P.view port.new) self.new keep.new) }
@@ -231,6 +241,7 @@ impl<V: Volume> DeviceStore<V> {
         port: &mut P,
         keep: &mut K,
     ) -> Result<Took, NoMemory>
+        requires none { self.old.half ≡ None }
         requires track { t < self.old.cylinders * 15 }
         requires framed { is_some (frame_at (state_of self.old) t) ≡ true }
         requires image { image ≡ edited_image edit (frame_in (state_of self.old) t) }
@@ -238,6 +249,8 @@ impl<V: Volume> DeviceStore<V> {
         requires loose { usage.now.provisional ≡ true → loose_count self.old.loose.loose + 2 ≤ self.old.loose.spare }
         requires takes { Takes K.takes keep.old self.old.number (self.old.cylinders * 15) }
         ensures fixed { (self.new.number ≡ self.old.number) × (self.new.cylinders ≡ self.old.cylinders) }
+        ensures half { IfOk result (λ took. is_some self.new.half ≡ is_opened took) }
+        ensures same { OnErr result (self.new.half ≡ self.old.half) }
         ensures takes { Takes K.takes keep.new self.new.number (self.new.cylinders * 15) }
         ensures weight { weight self.new.loose ≤ weight self.old.loose + 2 }
         ensures run { Ran (where_ok result) K.hears (write_chosen contents usage.now first t (frame_in (state_of self.old) t) edit (state_of self.old) Through) (outside (P.view port.old) self.old keep.old) (state_of self.new) (had (λ took. took) result) (outside (P.view port.new) self.new keep.new) }
@@ -260,6 +273,7 @@ impl<V: Volume> DeviceStore<V> {
         port: &mut P,
         keep: &mut K,
     ) -> Result<Took, NoMemory>
+        requires none { self.old.half ≡ None }
         requires track { t < self.old.cylinders * 15 }
         requires copy { copy ≡ edit }
         requires there { is_some (frame_at (state_of self.old) t) ≡ true }
@@ -268,6 +282,8 @@ impl<V: Volume> DeviceStore<V> {
         requires loose { usage.now.provisional ≡ true → loose_count self.old.loose.loose + 2 ≤ self.old.loose.spare }
         requires takes { Takes K.takes keep.old self.old.number (self.old.cylinders * 15) }
         ensures fixed { (self.new.number ≡ self.old.number) × (self.new.cylinders ≡ self.old.cylinders) }
+        ensures half { IfOk result (λ took. is_some self.new.half ≡ is_opened took) }
+        ensures same { OnErr result (self.new.half ≡ self.old.half) }
         ensures takes { Takes K.takes keep.new self.new.number (self.new.cylinders * 15) }
         ensures weight { weight self.new.loose ≤ weight self.old.loose + 2 }
         ensures run { (p : PortView) → p ≡ P.view port.old → Ran surely K.hears (choose contents (state_of self.old) usage.now t) (outside p self.old keep.old) (state_of self.old) Through (outside (P.view port.old) self.old keep.old) → Ran (where_ok result) K.hears (write contents (state_of self.old) usage.now first t (frame_in (state_of self.old) t) edit) (outside p self.old keep.old) (state_of self.new) (had (λ took. took) result) (outside (P.view port.new) self.new keep.new) }
@@ -289,6 +305,7 @@ impl<V: Volume> DeviceStore<V> {
         port: &mut P,
         keep: &mut K,
     ) -> Result<Took, NoMemory>
+        requires none { self.old.half ≡ None }
         requires track { t < self.old.cylinders * 15 }
         requires copy { copy ≡ edit }
         requires there { is_some (frame_at (state_of self.old) t) ≡ true }
@@ -298,6 +315,8 @@ impl<V: Volume> DeviceStore<V> {
         requires frame { HasFrameRoom edit (framed.frame_at self.old.frames t) self.old.records }
         requires takes { Takes K.takes keep.old self.old.number (self.old.cylinders * 15) }
         ensures fixed { (self.new.number ≡ self.old.number) × (self.new.cylinders ≡ self.old.cylinders) }
+        ensures half { IfOk result (λ took. is_some self.new.half ≡ is_opened took) }
+        ensures same { OnErr result (self.new.half ≡ self.old.half) }
         ensures takes { Takes K.takes keep.new self.new.number (self.new.cylinders * 15) }
         ensures weight { weight self.new.loose ≤ weight self.old.loose + 2 }
         ensures run { Ran (where_ok result) K.hears (write contents (state_of self.old) usage.now first t (frame_in (state_of self.old) t) edit) (outside (P.view port.old) self.old keep.old) (state_of self.new) (had (λ took. took) result) (outside (P.view port.new) self.new keep.new) }
@@ -320,11 +339,14 @@ impl<V: Volume> DeviceStore<V> {
         port: &mut P,
         keep: &mut K,
     ) -> Result<Took, NoMemory>
+        requires none { self.old.half ≡ None }
         requires track { t < self.old.cylinders * 15 }
         requires there { is_some (frame_at (state_of self.old) t) ≡ true }
         requires suits { Suits (frame_in (state_of self.old) t).geometry (frame_in (state_of self.old) t).track.records edit }
         requires takes { Takes K.takes keep.old self.old.number (self.old.cylinders * 15) }
         ensures fixed { (self.new.number ≡ self.old.number) × (self.new.cylinders ≡ self.old.cylinders) }
+        ensures half { IfOk result (λ took. is_some self.new.half ≡ is_opened took) }
+        ensures same { OnErr result (self.new.half ≡ self.old.half) }
         ensures takes { Takes K.takes keep.new self.new.number (self.new.cylinders * 15) }
         ensures weight { weight self.new.loose ≤ weight self.old.loose + 2 }
         ensures run { Ran (where_ok result) K.hears (write contents (state_of self.old) usage.now first t (frame_in (state_of self.old) t) edit) (outside (P.view port.old) self.old keep.old) (state_of self.new) (had (λ took. took) result) (outside (P.view port.new) self.new keep.new) }

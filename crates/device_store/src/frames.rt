@@ -3,7 +3,7 @@ ghost use Rattle.device_outside.specs.Outside.{Ran};
 ghost use Rattle.device_defs.specs.Contents.{contents};
 ghost use Rattle.device_defs.specs.Image.{filled, framed};
 ghost use Rattle.device_defs.specs.Owed.{is_clean};
-ghost use Rattle.device_defs.specs.Store.{frame_at, with_frame};
+ghost use Rattle.device_defs.specs.Store.{frame_at, is_loose, with_frame};
 ghost use Rattle.device_store.specs.Looks.{frame_in, seen, IsSeen};
 ghost use Rattle.device_store.specs.State.{state_of, outside, surely};
 ghost use Rattle.track_cache.specs.Frames.{is_modified};
@@ -51,8 +51,9 @@ impl<V: Volume> DeviceStore<V> {
     pub(crate) fn forget(&mut self, t: TrackNo)
         requires { is_modified self.old.frames t ≡ false }
         ensures fixed { (self.new.number ≡ self.old.number) × (self.new.cylinders ≡ self.old.cylinders) }
+        ensures half { self.new.half ≡ self.old.half }
         ensures loose { self.new.loose ≡ self.old.loose }
-        ensures volume { self.new.volume ≡ self.old.volume }
+        ensures volume { self.new.pair.volumes ≡ self.old.pair.volumes }
         ensures none { is_modified self.new.frames t ≡ false }
         ensures state { state_of self.new ≡ with_frame (state_of self.old) t None }
     {
@@ -62,10 +63,11 @@ impl<V: Volume> DeviceStore<V> {
     /// An image becomes a track's frame.
     pub(crate) fn put_frame(&mut self, t: TrackNo, image: TrackImage, modified: bool)
         requires track { t < self.old.cylinders * 15 }
-        requires clean { is_modified self.old.frames t ≡ false }
+        requires firm { is_loose (state_of self.old) t ≡ false }
         ensures fixed { (self.new.number ≡ self.old.number) × (self.new.cylinders ≡ self.old.cylinders) }
+        ensures half { self.new.half ≡ self.old.half }
         ensures loose { self.new.loose ≡ self.old.loose }
-        ensures volume { self.new.volume ≡ self.old.volume }
+        ensures volume { self.new.pair.volumes ≡ self.old.pair.volumes }
         ensures there { is_some (frame_at (state_of self.new) t) ≡ true }
         ensures image { frame_in (state_of self.new) t ≡ image }
         ensures state { state_of self.new ≡ framed contents (state_of self.old) t image modified }
@@ -81,8 +83,9 @@ impl<V: Volume> DeviceStore<V> {
         port: &mut P,
     )
         requires track { t < self.old.cylinders * 15 }
-        requires clean { is_modified self.old.frames t ≡ false }
+        requires firm { is_loose (state_of self.old) t ≡ false }
         ensures fixed { (self.new.number ≡ self.old.number) × (self.new.cylinders ≡ self.old.cylinders) }
+        ensures half { self.new.half ≡ self.old.half }
         ensures loose { self.new.loose ≡ self.old.loose }
         ensures there { is_some (frame_at (state_of self.new) t) ≡ true }
         ensures image { frame_in (state_of self.new) t ≡ image }

@@ -3,10 +3,11 @@ ghost use Rattle.std.specs.Prelude.{◌≡◌, ◌<◌, ◌*◌, IfOk, IfSome, N
 ghost use Rattle.device_outside.specs.Outside.{PortView, Ran, where_ok};
 ghost use Rattle.device_defs.specs.Contents.{contents};
 ghost use Rattle.ckd_types.specs.Parameters.{is_bypass};
-ghost use Rattle.device_defs.specs.Image.{loads, is_sequential, queued, ahead, image_of, level_bytes, loaded, miss, missed, got, image};
-ghost use Rattle.device_defs.specs.Store.{frame_at};
+ghost use Rattle.device_defs.specs.Image.{loads, is_sequential, queued, ahead, image_of, first_fault, level_bytes, loaded, miss, missed, got, image, read_b};
+ghost use Rattle.device_defs.specs.Store.{frame_at, is_loose};
+ghost use Rattle.event_notes.specs.Loose.{weight};
 ghost use Rattle.device_store.specs.Looks.{imaged, IsThere, applied_by, clean_by};
-ghost use Rattle.device_store.specs.State.{state_of, outside, surely, Takes, had, got_by};
+ghost use Rattle.device_store.specs.State.{state_of, outside, surely, StaysFirm, Takes, had, got_by};
 ghost use Rattle.track_cache.specs.Frames.{is_modified};
 
 use crate::marks::count_read;
@@ -73,23 +74,66 @@ fn patched(
     }
 }
 
+/// The first of two that failed.
+fn first_fault(fault: Option<Side>, later: Side) -> Side
+    ensures { result ≡ first_fault fault later }
+{
+    fault.unwrap_or(later)
+}
+
 impl<V: Volume> DeviceStore<V> {
-    /// Reads a track from the side where it is level.
-    pub(crate) fn level_bytes<K: Keep<TrackImage>>(&mut self, t: TrackNo) -> Given
-        requires { t < self.old.cylinders * 15 }
+    /// Reads a track from side B where it is level there, behind a side that failed or none.
+    fn read_b<K: Keep<TrackImage>>(
+        &mut self,
+        t: TrackNo,
+        fault: Option<Side>,
+        keep: &mut K,
+    ) -> Given
+        requires track { t < self.old.cylinders * 15 }
+        requires takes { Takes K.takes keep.old self.old.number (self.old.cylinders * 15) }
         ensures fixed { (self.new.number ≡ self.old.number) × (self.new.cylinders ≡ self.old.cylinders) }
-        ensures loose { self.new.loose ≡ self.old.loose }
-        ensures frames { self.new.frames ≡ self.old.frames }
-        ensures run { (p : PortView) (k : K) → Ran surely K.hears (level_bytes contents (state_of self.old) t) (outside p self.old k) (state_of self.new) (got_by self.new.buffer result) (outside p self.new k) }
+        ensures half { self.new.half ≡ self.old.half }
+        ensures weight { weight self.new.loose ≡ weight self.old.loose }
+        ensures firm { StaysFirm self.old.loose.loose self.new.loose.loose }
+        ensures takes { Takes K.takes keep.new self.new.number (self.new.cylinders * 15) }
+        ensures run { (p : PortView) → Ran surely K.hears (read_b contents (state_of self.old) t fault) (outside p self.old keep.old) (state_of self.new) (got_by self.new.buffer result) (outside p self.new keep.new) }
     {
-        if !self.is_level(t) {
-            return Given {
-                given: false,
-                side: Side::B,
-                fault: None,
-            };
+        let side = Side::B;
+        if !self.pair.is_level(Side::B, t) {
+            let given = false;
+            return Given { given, side, fault };
         }
-        match self.volume.read_track(t, &mut self.buffer) {
+        match self.pair.read(Side::B, t, &mut self.buffer) {
+            Ok(()) => {
+                count_read(&mut self.counts, true);
+                let given = true;
+                Given { given, side, fault }
+            }
+            Err(Failed) => {
+                count_read(&mut self.counts, false);
+                self.call_failed(Side::B, None, keep);
+                let given = false;
+                let fault = Some(first_fault(fault, Side::B));
+                Given { given, side, fault }
+            }
+        }
+    }
+
+    /// Reads a track from side A where it is level, else from side B, also where A fails.
+    pub(crate) fn level_bytes<K: Keep<TrackImage>>(&mut self, t: TrackNo, keep: &mut K) -> Given
+        requires track { t < self.old.cylinders * 15 }
+        requires takes { Takes K.takes keep.old self.old.number (self.old.cylinders * 15) }
+        ensures fixed { (self.new.number ≡ self.old.number) × (self.new.cylinders ≡ self.old.cylinders) }
+        ensures half { self.new.half ≡ self.old.half }
+        ensures weight { weight self.new.loose ≡ weight self.old.loose }
+        ensures firm { StaysFirm self.old.loose.loose self.new.loose.loose }
+        ensures takes { Takes K.takes keep.new self.new.number (self.new.cylinders * 15) }
+        ensures run { (p : PortView) → Ran surely K.hears (level_bytes contents (state_of self.old) t) (outside p self.old keep.old) (state_of self.new) (got_by self.new.buffer result) (outside p self.new keep.new) }
+    {
+        if !self.pair.is_level(Side::A, t) {
+            return self.read_b(t, None, keep);
+        }
+        match self.pair.read(Side::A, t, &mut self.buffer) {
             Ok(()) => {
                 count_read(&mut self.counts, true);
                 Given {
@@ -100,11 +144,8 @@ impl<V: Volume> DeviceStore<V> {
             }
             Err(Failed) => {
                 count_read(&mut self.counts, false);
-                Given {
-                    given: false,
-                    side: Side::B,
-                    fault: Some(Side::A),
-                }
+                self.call_failed(Side::A, None, keep);
+                self.read_b(t, Some(Side::A), keep)
             }
         }
     }
@@ -124,8 +165,9 @@ impl<V: Volume> DeviceStore<V> {
     fn queue_one(&mut self, last: Option<TrackNo>, t: u16)
         requires { IfSome last (λ l. l < self.old.cylinders * 15) }
         ensures fixed { (self.new.number ≡ self.old.number) × (self.new.cylinders ≡ self.old.cylinders) }
+        ensures half { self.new.half ≡ self.old.half }
         ensures loose { self.new.loose ≡ self.old.loose }
-        ensures volume { self.new.volume ≡ self.old.volume }
+        ensures volume { self.new.pair.volumes ≡ self.old.pair.volumes }
         ensures frames { self.new.frames ≡ self.old.frames }
         ensures state { state_of self.new ≡ queued last (state_of self.old) t }
     {
@@ -140,8 +182,9 @@ impl<V: Volume> DeviceStore<V> {
     fn queue_ahead(&mut self, usage: &Usage, t: TrackNo)
         requires { IfSome usage.now.last (λ l. l < self.old.cylinders * 15) }
         ensures fixed { (self.new.number ≡ self.old.number) × (self.new.cylinders ≡ self.old.cylinders) }
+        ensures half { self.new.half ≡ self.old.half }
         ensures loose { self.new.loose ≡ self.old.loose }
-        ensures volume { self.new.volume ≡ self.old.volume }
+        ensures volume { self.new.pair.volumes ≡ self.old.pair.volumes }
         ensures frames { self.new.frames ≡ self.old.frames }
         ensures state { state_of self.new ≡ ahead usage.now (state_of self.old) t }
     {
@@ -160,8 +203,9 @@ impl<V: Volume> DeviceStore<V> {
         port: &mut P,
     ) -> Result<Looked, NoMemory>
         requires track { t < self.old.cylinders * 15 }
-        requires clean { is_modified self.old.frames t ≡ false }
+        requires firm { is_loose (state_of self.old) t ≡ false }
         ensures fixed { (self.new.number ≡ self.old.number) × (self.new.cylinders ≡ self.old.cylinders) }
+        ensures half { self.new.half ≡ self.old.half }
         ensures loose { self.new.loose ≡ self.old.loose }
         ensures there { IfOk result (IsThere (state_of self.new) t) }
         ensures run { (k : K) → Ran (where_ok result) K.hears (loaded contents (state_of self.old) t image mode) (outside (P.view port.old) self.old k) (state_of self.new) (had (imaged (state_of self.new) t) result) (outside (P.view port.new) self.new k) }
@@ -189,8 +233,9 @@ impl<V: Volume> DeviceStore<V> {
     ) -> Result<Looked, NoMemory>
         requires track { t < self.old.cylinders * 15 }
         requires last { IfSome usage.now.last (λ l. l < self.old.cylinders * 15) }
-        requires clean { is_modified self.old.frames t ≡ false }
+        requires firm { is_loose (state_of self.old) t ≡ false }
         ensures fixed { (self.new.number ≡ self.old.number) × (self.new.cylinders ≡ self.old.cylinders) }
+        ensures half { self.new.half ≡ self.old.half }
         ensures loose { self.new.loose ≡ self.old.loose }
         ensures there { IfOk result (IsThere (state_of self.new) t) }
         ensures run { (k : K) → Ran (where_ok result) K.hears (missed contents usage.now t (state_of self.old) (got side (Some self.old.buffer) None) (Some self.old.buffer)) (outside (P.view port.old) self.old k) (state_of self.new) (had (imaged (state_of self.new) t) result) (outside (P.view port.new) self.new k) }
@@ -211,16 +256,20 @@ impl<V: Volume> DeviceStore<V> {
         usage: &Usage,
         t: TrackNo,
         port: &mut P,
+        keep: &mut K,
     ) -> Result<Looked, NoMemory>
         requires track { t < self.old.cylinders * 15 }
         requires last { IfSome usage.now.last (λ l. l < self.old.cylinders * 15) }
-        requires clean { is_modified self.old.frames t ≡ false }
+        requires takes { Takes K.takes keep.old self.old.number (self.old.cylinders * 15) }
+        requires firm { is_loose (state_of self.old) t ≡ false }
         ensures fixed { (self.new.number ≡ self.old.number) × (self.new.cylinders ≡ self.old.cylinders) }
-        ensures loose { self.new.loose ≡ self.old.loose }
+        ensures half { self.new.half ≡ self.old.half }
+        ensures weight { weight self.new.loose ≡ weight self.old.loose }
+        ensures takes { Takes K.takes keep.new self.new.number (self.new.cylinders * 15) }
         ensures there { IfOk result (IsThere (state_of self.new) t) }
-        ensures run { (k : K) → Ran (where_ok result) K.hears (miss contents (state_of self.old) usage.now t) (outside (P.view port.old) self.old k) (state_of self.new) (had (imaged (state_of self.new) t) result) (outside (P.view port.new) self.new k) }
+        ensures run { Ran (where_ok result) K.hears (miss contents (state_of self.old) usage.now t) (outside (P.view port.old) self.old keep.old) (state_of self.new) (had (imaged (state_of self.new) t) result) (outside (P.view port.new) self.new keep.new) }
     {
-        let got = self.level_bytes::<K>(t);
+        let got = self.level_bytes(t, keep);
         if got.given {
             return self.deliver::<P, K>(usage, t, got.side, port);
         }
@@ -233,24 +282,29 @@ impl<V: Volume> DeviceStore<V> {
         usage: &Usage,
         t: TrackNo,
         port: &mut P,
+        keep: &mut K,
     ) -> Result<Looked, NoMemory>
         requires track { t < self.old.cylinders * 15 }
         requires last { IfSome usage.now.last (λ l. l < self.old.cylinders * 15) }
+        requires takes { Takes K.takes keep.old self.old.number (self.old.cylinders * 15) }
         requires clean { is_modified self.old.frames t ≡ false }
+        requires firm { is_loose (state_of self.old) t ≡ false }
         requires there { is_some (frame_at (state_of self.old) t) ≡ true }
         ensures fixed { (self.new.number ≡ self.old.number) × (self.new.cylinders ≡ self.old.cylinders) }
-        ensures loose { self.new.loose ≡ self.old.loose }
+        ensures half { self.new.half ≡ self.old.half }
+        ensures weight { weight self.new.loose ≡ weight self.old.loose }
+        ensures takes { Takes K.takes keep.new self.new.number (self.new.cylinders * 15) }
         ensures there { IfOk result (IsThere (state_of self.new) t) }
-        ensures run { (k : K) → Ran (where_ok result) K.hears (clean_by (state_of self.old) usage.now t) (outside (P.view port.old) self.old k) (state_of self.new) (had (imaged (state_of self.new) t) result) (outside (P.view port.new) self.new k) }
+        ensures run { Ran (where_ok result) K.hears (clean_by (state_of self.old) usage.now t) (outside (P.view port.old) self.old keep.old) (state_of self.new) (had (imaged (state_of self.new) t) result) (outside (P.view port.new) self.new keep.new) }
     {
         if is_bypass(usage.mode) {
-            return self.miss::<P, K>(usage, t, port);
+            return self.miss(usage, t, port, keep);
         }
         if port.touch(self.number, t) {
             return Ok(Looked::Frame);
         }
         self.forget(t);
-        self.miss::<P, K>(usage, t, port)
+        self.miss(usage, t, port, keep)
     }
 
     /// The image of a track that a command looks at. A hit copies nothing: `frame_image` lends what is in the frame.
@@ -265,7 +319,8 @@ impl<V: Volume> DeviceStore<V> {
         requires last { IfSome usage.now.last (λ l. l < self.old.cylinders * 15) }
         requires takes { Takes K.takes keep.old self.old.number (self.old.cylinders * 15) }
         ensures fixed { (self.new.number ≡ self.old.number) × (self.new.cylinders ≡ self.old.cylinders) }
-        ensures loose { self.new.loose ≡ self.old.loose }
+        ensures half { self.new.half ≡ self.old.half }
+        ensures weight { weight self.new.loose ≡ weight self.old.loose }
         ensures takes { Takes K.takes keep.new self.new.number (self.new.cylinders * 15) }
         ensures there { IfOk result (IsThere (state_of self.new) t) }
         ensures run { Ran (where_ok result) K.hears (image contents (state_of self.old) usage.now t) (outside (P.view port.old) self.old keep.old) (state_of self.new) (had (imaged (state_of self.new) t) result) (outside (P.view port.new) self.new keep.new) }
@@ -274,8 +329,8 @@ impl<V: Volume> DeviceStore<V> {
             return Ok(Looked::Frame);
         }
         if self.frames.has(t) {
-            return self.clean_image::<P, K>(usage, t, port);
+            return self.clean_image(usage, t, port, keep);
         }
-        self.miss::<P, K>(usage, t, port)
+        self.miss(usage, t, port, keep)
     }
 }

@@ -1,11 +1,14 @@
-//! The tracks of a device: its volume, and what is kept of each track.
+//! The tracks of a device: its volumes, and what is kept of each track.
 #![tactic(auto)]
 
 mod background;
 mod choice;
+mod copy;
 mod destage;
+mod fail;
 mod framed;
 mod frames;
+mod half;
 mod image;
 mod losses;
 mod marks;
@@ -14,6 +17,7 @@ mod open;
 mod owed;
 mod peek;
 mod recover;
+mod second;
 mod settle;
 mod sides;
 mod stage;
@@ -21,4 +25,6 @@ mod store;
 mod through;
 mod write;
 
+pub use half::{HalfWrite, Origin};
+pub use second::SecondPart;
 pub use store::{DeviceStore, Looked, Peeked};

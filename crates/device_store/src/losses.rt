@@ -12,8 +12,8 @@ ghost use Rattle.loss_model.specs.declared.Loss.TheVariants as losses;
 ghost use Rattle.device_store.specs.State.{state_of, outside, surely, Takes};
 
 use crate::DeviceStore;
-use crate::marks::{one_more, set_mark, track};
-use ckd_types::{HEADS, Side, TrackNo};
+use crate::marks::{one_more, track};
+use ckd_types::{HEADS, TrackNo};
 use device_defs::Losses;
 use device_outside::{Keep, Volume};
 use loss_model::Loss;
@@ -41,7 +41,8 @@ impl<V: Volume> DeviceStore<V> {
     /// Data of cache fast write are lost, where there are some.
     fn lose_loose(&mut self)
         ensures fixed { (self.new.number ≡ self.old.number) × (self.new.cylinders ≡ self.old.cylinders) }
-        ensures volume { self.new.volume ≡ self.old.volume }
+        ensures volume { self.new.pair.volumes ≡ self.old.pair.volumes }
+        ensures half { self.new.half ≡ self.old.half }
         ensures weight { weight self.new.loose ≤ weight self.old.loose }
         ensures firm { (t : ℕ) → is_loose (state_of self.new) t ≡ false }
         ensures state { state_of self.new ≡ loose_lost (state_of self.old) }
@@ -55,7 +56,8 @@ impl<V: Volume> DeviceStore<V> {
     /// The same with the power, of which no act tells.
     fn clear_loose(&mut self)
         ensures fixed { (self.new.number ≡ self.old.number) × (self.new.cylinders ≡ self.old.cylinders) }
-        ensures volume { self.new.volume ≡ self.old.volume }
+        ensures volume { self.new.pair.volumes ≡ self.old.pair.volumes }
+        ensures half { self.new.half ≡ self.old.half }
         ensures weight { weight self.new.loose ≤ weight self.old.loose }
         ensures firm { (t : ℕ) → is_loose (state_of self.new) t ≡ false }
         ensures state { state_of self.new ≡ loose_gone contents (state_of self.old) }
@@ -71,7 +73,8 @@ impl<V: Volume> DeviceStore<V> {
         requires track { t < self.old.cylinders * 15 }
         requires firm { is_loose (state_of self.old) t ≡ false }
         ensures fixed { (self.new.number ≡ self.old.number) × (self.new.cylinders ≡ self.old.cylinders) }
-        ensures volume { self.new.volume ≡ self.old.volume }
+        ensures volume { self.new.pair.volumes ≡ self.old.pair.volumes }
+        ensures half { self.new.half ≡ self.old.half }
         ensures weight { weight self.new.loose ≡ weight self.old.loose }
         ensures loose { self.new.loose ≡ self.old.loose }
         ensures state { state_of self.new ≡ settled contents (without_frame (state_of self.old) t) t }
@@ -84,7 +87,8 @@ impl<V: Volume> DeviceStore<V> {
     fn lose_frames(&mut self)
         requires firm { (t : ℕ) → is_loose (state_of self.old) t ≡ false }
         ensures fixed { (self.new.number ≡ self.old.number) × (self.new.cylinders ≡ self.old.cylinders) }
-        ensures volume { self.new.volume ≡ self.old.volume }
+        ensures volume { self.new.pair.volumes ≡ self.old.pair.volumes }
+        ensures half { self.new.half ≡ self.old.half }
         ensures weight { weight self.new.loose ≡ weight self.old.loose }
         ensures state { state_of self.new ≡ over (self.old.cylinders * 15) (λ t z. settled contents (without_frame z t) t) (state_of self.old) }
     {
@@ -97,7 +101,8 @@ impl<V: Volume> DeviceStore<V> {
     /// What goes with the cache.
     fn lose_cache(&mut self)
         ensures fixed { (self.new.number ≡ self.old.number) × (self.new.cylinders ≡ self.old.cylinders) }
-        ensures volume { self.new.volume ≡ self.old.volume }
+        ensures volume { self.new.pair.volumes ≡ self.old.pair.volumes }
+        ensures half { self.new.half ≡ self.old.half }
         ensures weight { weight self.new.loose ≤ weight self.old.loose }
         ensures state { state_of self.new ≡ cache_lost contents (state_of self.old) }
     {
@@ -106,53 +111,13 @@ impl<V: Volume> DeviceStore<V> {
         self.lose_frames();
     }
 
-    /// Side A is down, where it is that side. There is no other.
-    fn down(&mut self, side: Side)
-        ensures fixed { (self.new.number ≡ self.old.number) × (self.new.cylinders ≡ self.old.cylinders) }
-        ensures volume { self.new.volume ≡ self.old.volume }
-        ensures weight { weight self.new.loose ≡ weight self.old.loose }
-        ensures state { state_of self.new ≡ down (state_of self.old) side }
-    {
-        match side {
-            Side::A => self.up = false,
-            Side::B => (),
-        }
-    }
-
-    /// Each track that is level on no side is settled. The keeper is told of those that become firm.
-    fn settle_all<K: Keep<TrackImage>>(&mut self, keep: &mut K)
-        requires takes { Takes K.takes keep.old self.old.number (self.old.cylinders * 15) }
-        ensures fixed { (self.new.number ≡ self.old.number) × (self.new.cylinders ≡ self.old.cylinders) }
-        ensures volume { self.new.volume ≡ self.old.volume }
-        ensures weight { weight self.new.loose ≡ weight self.old.loose }
-        ensures takes { Takes K.takes keep.new self.new.number (self.new.cylinders * 15) }
-        ensures run { (p : PortView) → Ran surely K.hears (all_firm_told contents (self.old.cylinders * 15) (over (self.old.cylinders * 15) (λ t z. settled contents z t) (state_of self.old))) (outside p self.old keep.old) (state_of self.new) tt (outside p self.new keep.new) }
-    {
-        let tracks = u16::from(self.cylinders) * HEADS;
-        for t in 0..tracks {
-            self.settle_told(track(t), keep);
-        }
-    }
-
-    /// A side is lost.
-    fn lose_side<K: Keep<TrackImage>>(&mut self, side: Side, keep: &mut K)
-        requires takes { Takes K.takes keep.old self.old.number (self.old.cylinders * 15) }
-        ensures fixed { (self.new.number ≡ self.old.number) × (self.new.cylinders ≡ self.old.cylinders) }
-        ensures volume { self.new.volume ≡ self.old.volume }
-        ensures weight { weight self.new.loose ≡ weight self.old.loose }
-        ensures takes { Takes K.takes keep.new self.new.number (self.new.cylinders * 15) }
-        ensures run { (p : PortView) → Ran surely K.hears (all_firm_told contents (self.old.cylinders * 15) (side_lost contents (state_of self.old) side None)) (outside p self.old keep.old) (state_of self.new) tt (outside p self.new keep.new) }
-    {
-        self.down(side);
-        self.settle_all(keep);
-    }
-
-    /// The patch of a track goes: the volume hasn't what it had.
+    /// The patch of a track goes: the volumes haven't what it had, but for what an open half write wrote.
     fn lose_patch<K: Keep<TrackImage>>(&mut self, t: TrackNo, keep: &mut K)
         requires track { t < self.old.cylinders * 15 }
         requires takes { Takes K.takes keep.old self.old.number (self.old.cylinders * 15) }
         ensures fixed { (self.new.number ≡ self.old.number) × (self.new.cylinders ≡ self.old.cylinders) }
-        ensures volume { self.new.volume ≡ self.old.volume }
+        ensures volume { self.new.pair.volumes ≡ self.old.pair.volumes }
+        ensures half { self.new.half ≡ self.old.half }
         ensures weight { weight self.new.loose ≡ weight self.old.loose }
         ensures takes { Takes K.takes keep.new self.new.number (self.new.cylinders * 15) }
         ensures run { (p : PortView) → Ran surely K.hears (firm_told contents t (patch_lost contents t (state_of self.old))) (outside p self.old keep.old) (state_of self.new) tt (outside p self.new keep.new) }
@@ -161,8 +126,13 @@ impl<V: Volume> DeviceStore<V> {
             self.owed.no_firm();
             return;
         }
+        if self.is_half_open(t) {
+            self.give_up_patch(t);
+            self.owed.no_firm();
+            return;
+        }
         self.give_up_patch(t);
-        set_mark(&mut self.stale, t, true);
+        self.stale_everywhere(t);
         self.settle_told(t, keep);
     }
 
@@ -170,7 +140,8 @@ impl<V: Volume> DeviceStore<V> {
     fn lose_store<K: Keep<TrackImage>>(&mut self, keep: &mut K)
         requires takes { Takes K.takes keep.old self.old.number (self.old.cylinders * 15) }
         ensures fixed { (self.new.number ≡ self.old.number) × (self.new.cylinders ≡ self.old.cylinders) }
-        ensures volume { self.new.volume ≡ self.old.volume }
+        ensures volume { self.new.pair.volumes ≡ self.old.pair.volumes }
+        ensures half { self.new.half ≡ self.old.half }
         ensures weight { weight self.new.loose ≡ weight self.old.loose }
         ensures takes { Takes K.takes keep.new self.new.number (self.new.cylinders * 15) }
         ensures run { (p : PortView) → Ran surely K.hears (all_firm_told contents (self.old.cylinders * 15) (store_lost contents (state_of self.old))) (outside p self.old keep.old) (state_of self.new) tt (outside p self.new keep.new) }
@@ -185,7 +156,8 @@ impl<V: Volume> DeviceStore<V> {
     fn lose_by<K: Keep<TrackImage>>(&mut self, loss: Loss, keep: &mut K)
         requires takes { Takes K.takes keep.old self.old.number (self.old.cylinders * 15) }
         ensures fixed { (self.new.number ≡ self.old.number) × (self.new.cylinders ≡ self.old.cylinders) }
-        ensures volume { self.new.volume ≡ self.old.volume }
+        ensures volume { self.new.pair.volumes ≡ self.old.pair.volumes }
+        ensures half { self.new.half ≡ self.old.half }
         ensures weight { weight self.new.loose ≤ weight self.old.loose }
         ensures takes { Takes K.takes keep.new self.new.number (self.new.cylinders * 15) }
         ensures run { (p : PortView) → Ran surely K.hears (all_firm_told contents (self.old.cylinders * 15) (lost_by contents (state_of self.old) loss)) (outside p self.old keep.old) (state_of self.new) tt (outside p self.new keep.new) }
@@ -196,7 +168,7 @@ impl<V: Volume> DeviceStore<V> {
                 self.owed.no_firm();
             }
             Loss::Store => self.lose_store(keep),
-            Loss::Side(side) => self.lose_side(side, keep),
+            Loss::Side(side) => self.lose_side(side, None, keep),
         }
     }
 
@@ -204,7 +176,8 @@ impl<V: Volume> DeviceStore<V> {
     pub fn lose<K: Keep<TrackImage>>(&mut self, loss: Loss, keep: &mut K)
         requires takes { Takes K.takes keep.old self.old.number (self.old.cylinders * 15) }
         ensures fixed { (self.new.number ≡ self.old.number) × (self.new.cylinders ≡ self.old.cylinders) }
-        ensures volume { self.new.volume ≡ self.old.volume }
+        ensures volume { self.new.pair.volumes ≡ self.old.pair.volumes }
+        ensures half { self.new.half ≡ self.old.half }
         ensures weight { weight self.new.loose ≤ weight self.old.loose }
         ensures takes { Takes K.takes keep.new self.new.number (self.new.cylinders * 15) }
         ensures run { (p : PortView) → Ran surely K.hears (losing contents (state_of self.old) loss) (outside p self.old keep.old) (state_of self.new) tt (outside p self.new keep.new) }
@@ -216,12 +189,14 @@ impl<V: Volume> DeviceStore<V> {
     /// What the loss of power takes: it counts as one of the cache.
     pub fn lose_power(&mut self)
         ensures fixed { (self.new.number ≡ self.old.number) × (self.new.cylinders ≡ self.old.cylinders) }
-        ensures volume { self.new.volume ≡ self.old.volume }
+        ensures volume { self.new.pair.volumes ≡ self.old.pair.volumes }
+        ensures half { self.new.half ≡ None }
         ensures weight { weight self.new.loose ≤ weight self.old.loose }
         ensures state { state_of self.new ≡ powerless contents (with_loss (state_of self.old) losses.Cache) }
     {
         count_loss(&mut self.counts.losses, Loss::Cache);
         self.clear_loose();
+        self.end_half();
         self.queue.clear();
         self.lose_frames();
     }

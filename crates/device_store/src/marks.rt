@@ -1,10 +1,10 @@
-ghost use Rattle.std.specs.Prelude.{◌≡◌, ◌<◌, not, false, slice_index_or, slice_set};
+ghost use Rattle.std.specs.Prelude.{◌≡◌, ◌<◌, not};
 ghost use Rattle.device_outside.specs.Volume.{counted, counted_if};
-ghost use Rattle.device_defs.specs.Store.{level_at};
+ghost use Rattle.device_defs.specs.Store.{has_level, some_up};
 ghost use Rattle.device_store.specs.State.{state_of};
 
 use crate::DeviceStore;
-use ckd_types::TrackNo;
+use ckd_types::{Side, TrackNo};
 use device_defs::Counts;
 use device_outside::Volume;
 
@@ -48,28 +48,18 @@ pub(crate) fn track(n: u16) -> TrackNo
     TrackNo::new(n).unwrap()
 }
 
-/// Sets a track's mark.
-pub(crate) fn set_mark(marks: &mut Vec<bool>, t: TrackNo, marked: bool)
-    ensures { marks.new.items ≡ slice_set marks.old.items t marked }
-{
-    let t = usize::from(t.get());
-    if t < marks.len() {
-        marks[t] = marked;
-    }
-}
-
 impl<V: Volume> DeviceStore<V> {
-    pub(crate) fn is_stale(&self, t: TrackNo) -> bool
-        ensures { result ≡ slice_index_or self.now.stale.items t false }
+    /// Whether a side that is up has a track's bytes that count.
+    pub(crate) fn has_level(&self, t: TrackNo) -> bool
+        ensures { result ≡ has_level (state_of self.now) t }
     {
-        let t = usize::from(t.get());
-        t < self.stale.len() && self.stale[t]
+        self.pair.is_level(Side::A, t) || self.pair.is_level(Side::B, t)
     }
 
-    /// Whether the volume is up, and its bytes of a track count.
-    pub(crate) fn is_level(&self, t: TrackNo) -> bool
-        ensures { result ≡ level_at (state_of self.now).a t }
+    /// Whether some side is up.
+    pub(crate) fn some_up(&self) -> bool
+        ensures { result ≡ some_up (state_of self.now) }
     {
-        self.up && !self.is_stale(t)
+        self.pair.a.up || self.pair.b.up
     }
 }

@@ -16,8 +16,9 @@ impl<V: Volume> DeviceStore<V> {
     /// A note of a track that has a clean frame drops it.
     fn drop_noted(&mut self, t: TrackNo)
         ensures fixed { (self.new.number ≡ self.old.number) × (self.new.cylinders ≡ self.old.cylinders) }
+        ensures half { self.new.half ≡ self.old.half }
         ensures loose { self.new.loose ≡ self.old.loose }
-        ensures volume { self.new.volume ≡ self.old.volume }
+        ensures volume { self.new.pair.volumes ≡ self.old.pair.volumes }
         ensures state { state_of self.new ≡ dropped contents (state_of self.old) t }
     {
         if !self.is_clean(t) {
@@ -29,6 +30,7 @@ impl<V: Volume> DeviceStore<V> {
     /// Takes the notes of the device, at most 960, and drops the clean frames that they name.
     pub fn hear<P: Port, K: Keep<TrackImage>>(&mut self, port: &mut P)
         ensures fixed { (self.new.number ≡ self.old.number) × (self.new.cylinders ≡ self.old.cylinders) }
+        ensures half { self.new.half ≡ self.old.half }
         ensures loose { self.new.loose ≡ self.old.loose }
         ensures run { (k : K) → Ran surely K.hears (hear contents 960 (state_of self.old)) (outside (P.view port.old) self.old k) (state_of self.new) tt (outside (P.view port.new) self.new k) }
     {

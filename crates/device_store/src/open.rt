@@ -1,12 +1,13 @@
-ghost use Rattle.std.specs.Prelude.{◌≡◌, ◌≤◌, ◌*◌, IfErr, IfOk, None, false, replicate};
+ghost use Rattle.std.specs.Prelude.{◌≡◌, ◌≤◌, ◌*◌, IfErr, IfOk, None, Some, replicate};
 ghost use Rattle.device_defs.specs.Marks.{no_counts};
 ghost use Rattle.device_defs.specs.Store.{no_debt};
-ghost use Rattle.device_store.specs.State.{state_of, opened_store};
+ghost use Rattle.device_store.specs.State.{state_of, on_a, on_b, opened_store};
 
 use crate::DeviceStore;
 use ckd_types::{DeviceNo, Geometry, HEADS, NoMemory};
 use device_defs::{Counts, Losses};
 use device_outside::{TrackBuffer, Volume};
+use duplex_pair::DuplexPair;
 use event_notes::{Debts, LooseTracks};
 use loss_model::LostList;
 use nv_store::{EditRoom, Patches};
@@ -29,13 +30,6 @@ fn no_counts() -> Counts
         failed: 0,
         losses,
     }
-}
-
-/// No track is marked.
-fn no_marks(alloc: Global, tracks: usize) -> Result<Vec<bool>, NoMemory>
-    ensures { IfOk result (λ made. made.items ≡ replicate tracks false) }
-{
-    Ok(vec![in alloc; false; tracks]?)
 }
 
 /// A place for a frame of each track.
@@ -61,7 +55,6 @@ fn no_patches(alloc: Global, cylinders: u8) -> Result<Patches, NoMemory>
 /// What takes memory of a new device.
 #[derive(Drop)]
 struct Parts {
-    stale: Vec<bool>,
     frames: Frames,
     patches: Patches,
     owed: Debts,
@@ -71,14 +64,12 @@ struct Parts {
 impl Parts {
     fn new(alloc: Global, cylinders: u8) -> Result<Parts, NoMemory>
         requires { cylinders ≤ 64 }
-        ensures stale { IfOk result (λ parts. parts.stale.items ≡ replicate (cylinders * 15) false) }
         ensures frames { IfOk result (λ parts. parts.frames ≡ replicate (cylinders * 15) None) }
         ensures patches { IfOk result (λ parts. parts.patches ≡ replicate (cylinders * 15) None) }
         ensures owed { IfOk result (λ parts. parts.owed ≡ replicate (cylinders * 15) no_debt) }
     {
         let tracks = usize::from(cylinders) * usize::from(HEADS);
         Ok(Parts {
-            stale: no_marks(alloc, tracks)?,
             frames: no_frames(alloc, cylinders)?,
             patches: no_patches(alloc, cylinders)?,
             owed: Debts::new(alloc, tracks)?,
@@ -100,7 +91,7 @@ impl<V: Volume> DeviceStore<V> {
         requires most { cylinders ≤ 64 }
         requires volume { (V.view volume).tracks ≡ cylinders * 15 }
         ensures state { IfOk result (λ s. state_of s ≡ opened_store number geometry cylinders) }
-        ensures volume { IfOk result (λ s. s.volume ≡ volume) }
+        ensures volume { IfOk result (λ s. (on_a s ≡ Some volume) × (on_b s ≡ None)) }
         ensures back { IfErr result (λ e. e.1 ≡ volume) }
     {
         let parts = match Parts::new(alloc, cylinders) {
@@ -113,9 +104,8 @@ impl<V: Volume> DeviceStore<V> {
             geometry,
             cylinders,
             data_number: 0,
-            volume,
-            up: true,
-            stale: parts.stale,
+            pair: DuplexPair::single(volume, cylinders),
+            half: None,
             frames: parts.frames,
             patches: parts.patches,
             lost: LostList::new(cylinders),

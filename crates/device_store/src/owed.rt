@@ -35,7 +35,8 @@ impl<V: Volume> DeviceStore<V> {
     /// An event begins.
     pub fn begin_event(&mut self)
         ensures fixed { (self.new.number ≡ self.old.number) × (self.new.cylinders ≡ self.old.cylinders) }
-        ensures volume { self.new.volume ≡ self.old.volume }
+        ensures half { self.new.half ≡ self.old.half }
+        ensures volume { self.new.pair.volumes ≡ self.old.pair.volumes }
         ensures loose { self.new.loose.loose ≡ self.old.loose.loose }
         ensures state { state_of self.new ≡ begun (state_of self.old) }
     {
@@ -104,7 +105,8 @@ impl<V: Volume> DeviceStore<V> {
     /// The port is told what it is owed of a track.
     fn settle_debt<P: Port, K: Keep<TrackImage>>(&mut self, t: TrackNo, port: &mut P)
         ensures fixed { (self.new.number ≡ self.old.number) × (self.new.cylinders ≡ self.old.cylinders) }
-        ensures volume { self.new.volume ≡ self.old.volume }
+        ensures half { self.new.half ≡ self.old.half }
+        ensures volume { self.new.pair.volumes ≡ self.old.pair.volumes }
         ensures loose { self.new.loose ≡ self.old.loose }
         ensures rest { state_of self.new ≡ record (state_of self.old) { owed = self.new.owed } }
         ensures run { (k : K) → Ran surely K.hears (settles_debt contents t (state_of self.old)) (outside (P.view port.old) self.old k) (state_of self.new) tt (outside (P.view port.new) self.new k) }
@@ -117,7 +119,8 @@ impl<V: Volume> DeviceStore<V> {
 
     fn tell_track<P: Port, K: Keep<TrackImage>>(&mut self, t: TrackNo, port: &mut P)
         ensures fixed { (self.new.number ≡ self.old.number) × (self.new.cylinders ≡ self.old.cylinders) }
-        ensures volume { self.new.volume ≡ self.old.volume }
+        ensures half { self.new.half ≡ self.old.half }
+        ensures volume { self.new.pair.volumes ≡ self.old.pair.volumes }
         ensures loose { self.new.loose ≡ self.old.loose }
         ensures rest { state_of self.new ≡ record (state_of self.old) { owed = self.new.owed } }
         ensures run { (k : K) → Ran surely K.hears (track_told contents t (state_of self.old)) (outside (P.view port.old) self.old k) (state_of self.new) tt (outside (P.view port.new) self.new k) }
@@ -130,7 +133,8 @@ impl<V: Volume> DeviceStore<V> {
     /// The port is told what it is owed of each track.
     fn tell_each<P: Port, K: Keep<TrackImage>>(&mut self, port: &mut P)
         ensures fixed { (self.new.number ≡ self.old.number) × (self.new.cylinders ≡ self.old.cylinders) }
-        ensures volume { self.new.volume ≡ self.old.volume }
+        ensures half { self.new.half ≡ self.old.half }
+        ensures volume { self.new.pair.volumes ≡ self.old.pair.volumes }
         ensures loose { self.new.loose ≡ self.old.loose }
         ensures rest { state_of self.new ≡ record (state_of self.old) { owed = self.new.owed } }
         ensures run { (k : K) → Ran surely K.hears (all_told contents (self.old.cylinders * 15) (state_of self.old)) (outside (P.view port.old) self.old k) (state_of self.new) tt (outside (P.view port.new) self.new k) }
@@ -144,7 +148,8 @@ impl<V: Volume> DeviceStore<V> {
     /// The same. Where nothing is owed no track is looked at.
     fn tell_all<P: Port, K: Keep<TrackImage>>(&mut self, port: &mut P)
         ensures fixed { (self.new.number ≡ self.old.number) × (self.new.cylinders ≡ self.old.cylinders) }
-        ensures volume { self.new.volume ≡ self.old.volume }
+        ensures half { self.new.half ≡ self.old.half }
+        ensures volume { self.new.pair.volumes ≡ self.old.pair.volumes }
         ensures loose { self.new.loose ≡ self.old.loose }
         ensures rest { state_of self.new ≡ record (state_of self.old) { owed = self.new.owed } }
         ensures run { (k : K) → Ran surely K.hears (all_told contents (self.old.cylinders * 15) (state_of self.old)) (outside (P.view port.old) self.old k) (state_of self.new) tt (outside (P.view port.new) self.new k) }
@@ -170,7 +175,8 @@ impl<V: Volume> DeviceStore<V> {
     /// An event ends before which so many tracks waited: the port is told what it is owed, and then how many tracks wait.
     pub fn end_event<P: Port, K: Keep<TrackImage>>(&mut self, before: u16, port: &mut P)
         ensures fixed { (self.new.number ≡ self.old.number) × (self.new.cylinders ≡ self.old.cylinders) }
-        ensures volume { self.new.volume ≡ self.old.volume }
+        ensures half { self.new.half ≡ self.old.half }
+        ensures volume { self.new.pair.volumes ≡ self.old.pair.volumes }
         ensures loose { self.new.loose ≡ self.old.loose }
         ensures rest { state_of self.new ≡ record (state_of self.old) { owed = self.new.owed } }
         ensures run { (k : K) → Ran surely K.hears (ended contents before (state_of self.old)) (outside (P.view port.old) self.old k) (state_of self.new) tt (outside (P.view port.new) self.new k) }

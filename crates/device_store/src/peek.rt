@@ -1,8 +1,9 @@
-ghost use Rattle.std.specs.Prelude.{◌≡◌, ℕ, ◌<◌, ◌*◌, IfOk};
+ghost use Rattle.std.specs.Prelude.{◌≡◌, ℕ, ◌<◌, ◌*◌, IfOk, is_some, true};
 ghost use Rattle.device_outside.specs.Outside.{Ran, where_ok};
 ghost use Rattle.device_defs.specs.Contents.{contents};
 ghost use Rattle.device_defs.specs.Peek.{peek_usage, peek_track, peeked};
-ghost use Rattle.device_store.specs.Looks.{StoreOf, imaged, peeked_by, IsPeeked, IsThere};
+ghost use Rattle.event_notes.specs.Loose.{weight};
+ghost use Rattle.device_store.specs.Looks.{StoreOf, imaged, in_half, peeked_by, IsHalfCopied, IsPeeked, IsThere};
 ghost use Rattle.device_store.specs.State.{state_of, outside, Takes, had};
 
 use crate::{DeviceStore, Looked, Peeked};
@@ -36,6 +37,24 @@ fn peeked(looked: Looked) -> Peeked
 }
 
 impl<V: Volume> DeviceStore<V> {
+    /// Whether an open half write alone has a track.
+    fn is_in_half(&self, t: TrackNo) -> bool
+        ensures { result ≡ in_half (state_of self.now) t }
+    {
+        self.is_half_open(t) && !self.frames.has(t) && !self.has_level(t)
+    }
+
+    /// A copy of the image of the open half write.
+    fn half_copied(&self) -> Result<Peeked, NoMemory>
+        requires { is_some self.now.half ≡ true }
+        ensures { IfOk result (IsHalfCopied self.now.half) }
+    {
+        match &self.half {
+            None => unreachable!(),
+            Some(half) => Ok(Peeked::Track(half.image.copy(self.alloc)?)),
+        }
+    }
+
     /// A look at one track past the channel. It is read as a command does in a mode that loads nothing.
     pub fn peek<P: Port, K: Keep<TrackImage>>(
         &mut self,
@@ -46,13 +65,17 @@ impl<V: Volume> DeviceStore<V> {
         requires track { t < self.old.cylinders * 15 }
         requires takes { Takes K.takes keep.old self.old.number (self.old.cylinders * 15) }
         ensures fixed { (self.new.number ≡ self.old.number) × (self.new.cylinders ≡ self.old.cylinders) }
-        ensures loose { self.new.loose ≡ self.old.loose }
+        ensures half { self.new.half ≡ self.old.half }
+        ensures weight { weight self.new.loose ≡ weight self.old.loose }
         ensures takes { Takes K.takes keep.new self.new.number (self.new.cylinders * 15) }
         ensures there { IfOk result (IsPeeked (state_of self.new) t) }
         ensures run { Ran (where_ok result) K.hears (peek_track contents (state_of self.old) t) (outside (P.view port.old) self.old keep.old) (state_of self.new) (had (peeked_by (state_of self.new) t) result) (outside (P.view port.new) self.new keep.new) }
     {
         if self.lost.has(t) {
             return Ok(Peeked::Lost);
+        }
+        if self.is_in_half(t) {
+            return self.half_copied();
         }
         match self.image(&peek_usage(), t, port, keep) {
             Err(NoMemory) => Err(NoMemory),

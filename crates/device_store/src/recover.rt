@@ -1,33 +1,68 @@
-ghost use Rattle.std.specs.Prelude.{◌≡◌, ◌<◌, ◌*◌, ◌≤◌, IfSome, Some};
-ghost use Rattle.device_defs.specs.Background.{recover, recovered_bytes, saving, to_recover};
+ghost use Rattle.std.specs.Prelude.{◌≡◌, ◌<◌, ◌*◌, ◌≤◌, IfSome, None, Option, Some, false};
+ghost use Rattle.ckd_types.specs.declared.paths.Side.{Side};
+ghost use Rattle.device_store.specs.declared.half.Origin.TheVariants.{OfBackground};
+ghost use Rattle.device_defs.specs.Background.{did, recover, recovered_bytes, saved_by, saving, to_recover};
 ghost use Rattle.device_defs.specs.Contents.{contents};
-ghost use Rattle.device_defs.specs.Store.{frame_at};
+ghost use Rattle.device_defs.specs.Store.{frame_at, is_loose};
 ghost use Rattle.device_outside.specs.Outside.{Ran, where_ok};
 ghost use Rattle.event_notes.specs.Loose.{weight};
-ghost use Rattle.device_store.specs.State.{state_of, outside, surely, Takes, had, got_by};
+ghost use Rattle.device_store.specs.State.{state_of, outside, surely, OnlyBackground, Takes, had, got_by};
 
-use crate::DeviceStore;
 use crate::background::did;
 use crate::image::Given;
+use crate::through::Written;
+use crate::{DeviceStore, HalfWrite, Origin};
 use ckd_types::{NoMemory, Side, TrackNo};
-use device_defs::Did;
+use device_defs::{Did, Took};
 use device_outside::{Keep, Port, Volume};
 use track_image::TrackImage;
 
 impl<V: Volume> DeviceStore<V> {
-    /// The least track that waits, where the volume is up.
+    /// The least track that waits, where a side is up.
     pub(crate) fn to_recover(&self) -> Option<TrackNo>
         ensures least { result ≡ to_recover contents (state_of self.now) }
         ensures here { IfSome result (λ t. t < self.now.cylinders * 15) }
     {
-        if self.up {
+        if self.some_up() {
             return self.waiting().first();
         }
         None
     }
 
-    /// Writes an image that was read to the volume. What is done then is `done`, with the side that failed before.
-    fn save_read<P: Port, K: Keep<TrackImage>>(
+    /// Behind the first part of a write of the background, by what came of it.
+    fn saved_by<P: Port, K: Keep<TrackImage>>(
+        &mut self,
+        half: HalfWrite,
+        done: Did,
+        was_loose: bool,
+        written: Written,
+        port: &mut P,
+    ) -> Did
+        requires track { half.track < self.old.cylinders * 15 }
+        requires firm { is_loose (state_of self.old) half.track ≡ false }
+        requires background { half.origin ≡ OfBackground }
+        requires none { self.old.half ≡ None }
+        ensures fixed { (self.new.number ≡ self.old.number) × (self.new.cylinders ≡ self.old.cylinders) }
+        ensures opened { OnlyBackground self.new.half }
+        ensures loose { self.new.loose ≡ self.old.loose }
+        ensures run { (k : K) (fault : Option Side) → Ran surely K.hears (saved_by contents half.track half.image done fault was_loose written.fault (state_of self.old) written.took) (outside (P.view port.old) self.old k) (state_of self.new) (did fault result) (outside (P.view port.new) self.new k) }
+    {
+        match written.took {
+            Took::Unwritten => did(written.fault, Did::Nothing),
+            Took::Whole => {
+                self.write_done::<P, K>(half.track, half.image, false, port);
+                did(written.fault, done)
+            }
+            Took::Opened => {
+                let t = half.track;
+                self.open_half::<P, K>(half, was_loose, port);
+                Did::Half(t)
+            }
+        }
+    }
+
+    /// Writes an image to the volumes. What is done then is `done`, with the side that failed before.
+    pub(crate) fn save_read<P: Port, K: Keep<TrackImage>>(
         &mut self,
         t: TrackNo,
         image: TrackImage,
@@ -37,19 +72,25 @@ impl<V: Volume> DeviceStore<V> {
         keep: &mut K,
     ) -> Did
         requires track { t < self.old.cylinders * 15 }
+        requires none { self.old.half ≡ None }
         requires takes { Takes K.takes keep.old self.old.number (self.old.cylinders * 15) }
         ensures fixed { (self.new.number ≡ self.old.number) × (self.new.cylinders ≡ self.old.cylinders) }
+        ensures opened { OnlyBackground self.new.half }
         ensures weight { weight self.new.loose ≡ weight self.old.loose }
         ensures takes { Takes K.takes keep.new self.new.number (self.new.cylinders * 15) }
         ensures run { Ran surely K.hears (saving contents (state_of self.old) t image done fault) (outside (P.view port.old) self.old keep.old) (state_of self.new) result (outside (P.view port.new) self.new keep.new) }
     {
-        self.firm_first(t, keep);
-        let written = self.write_first::<K>(t, &image);
-        if written.done {
-            self.write_done::<P, K>(t, image, false, port);
-            return did(fault, did(written.fault, done));
-        }
-        did(fault, did(written.fault, Did::Nothing))
+        let was_loose = self.firm_first(t, keep);
+        let written = self.write_first(t, &image, keep);
+        let half = HalfWrite {
+            track: t,
+            origin: Origin::OfBackground,
+            image,
+        };
+        did(
+            fault,
+            self.saved_by::<P, K>(half, done, was_loose, written, port),
+        )
     }
 
     /// The bytes of a track without a frame are in the buffer.
@@ -61,8 +102,10 @@ impl<V: Volume> DeviceStore<V> {
         keep: &mut K,
     ) -> Result<Did, NoMemory>
         requires track { t < self.old.cylinders * 15 }
+        requires none { self.old.half ≡ None }
         requires takes { Takes K.takes keep.old self.old.number (self.old.cylinders * 15) }
         ensures fixed { (self.new.number ≡ self.old.number) × (self.new.cylinders ≡ self.old.cylinders) }
+        ensures opened { OnlyBackground self.new.half }
         ensures weight { weight self.new.loose ≡ weight self.old.loose }
         ensures takes { Takes K.takes keep.new self.new.number (self.new.cylinders * 15) }
         ensures run { Ran (where_ok result) K.hears (recovered_bytes contents t (state_of self.old) (got_by self.old.buffer given) (Some self.old.buffer)) (outside (P.view port.old) self.old keep.old) (state_of self.new) (had (λ did. did) result) (outside (P.view port.new) self.new keep.new) }
@@ -76,7 +119,7 @@ impl<V: Volume> DeviceStore<V> {
         }
     }
 
-    /// Recovers a track: what its frame has goes to the volume, or what the volume has with the patch.
+    /// Recovers a track: what its frame has goes to the volumes, or what a level side has with the patch.
     pub(crate) fn recover<P: Port, K: Keep<TrackImage>>(
         &mut self,
         t: TrackNo,
@@ -84,16 +127,18 @@ impl<V: Volume> DeviceStore<V> {
         keep: &mut K,
     ) -> Result<Did, NoMemory>
         requires track { t < self.old.cylinders * 15 }
+        requires none { self.old.half ≡ None }
         requires takes { Takes K.takes keep.old self.old.number (self.old.cylinders * 15) }
         ensures fixed { (self.new.number ≡ self.old.number) × (self.new.cylinders ≡ self.old.cylinders) }
+        ensures opened { OnlyBackground self.new.half }
         ensures weight { weight self.new.loose ≡ weight self.old.loose }
         ensures takes { Takes K.takes keep.new self.new.number (self.new.cylinders * 15) }
         ensures run { Ran (where_ok result) K.hears (recover contents (state_of self.old) t (frame_at (state_of self.old) t)) (outside (P.view port.old) self.old keep.old) (state_of self.new) (had (λ did. did) result) (outside (P.view port.new) self.new keep.new) }
     {
         if self.frames.has(t) {
-            return Ok(self.save_frame(t, Did::Recovered(t), port, keep));
+            return self.save_frame(t, Did::Recovered(t), port, keep);
         }
-        let got = self.level_bytes::<K>(t);
+        let got = self.level_bytes(t, keep);
         if got.given {
             return self.recover_bytes(t, got, port, keep);
         }

@@ -1,25 +1,26 @@
-ghost use Rattle.std.specs.Prelude.{◌≡◌, ◌<◌, ◌≤◌, ◌*◌, ℕ, Some, false, is_some, true};
+ghost use Rattle.std.specs.Prelude.{◌≡◌, ◌<◌, ◌≤◌, ◌*◌, ◌||◌, ℕ, Some, false, is_some, true};
 ghost use Rattle.device_defs.specs.Contents.{contents};
 ghost use Rattle.device_defs.specs.Effects.{hardened, loose_lost};
 ghost use Rattle.device_defs.specs.Losses.{by_frame, firm_told, kept_by_frame, lost_now, owes_modified, settled, stale_everywhere, without_frame, without_patch};
-ghost use Rattle.device_defs.specs.Store.{frame_at, is_loose};
+ghost use Rattle.device_defs.specs.Store.{frame_at, half_is, has_level, is_loose, is_lost, takes_b, with_stale};
+ghost use Rattle.ckd_types.specs.declared.paths.Side.TheVariants.{A, B};
 ghost use Rattle.device_defs.specs.Writing.{unwritten};
 ghost use Rattle.device_outside.specs.Outside.{PortView, Ran};
 ghost use Rattle.event_notes.specs.Loose.{weight};
 ghost use Rattle.track_cache.specs.declared.frames.Frame.{Frame};
-ghost use Rattle.device_store.specs.State.{state_of, outside, surely, Takes};
+ghost use Rattle.device_store.specs.State.{state_of, outside, surely, StaysFirm, Takes};
 
 use crate::DeviceStore;
-use crate::marks::set_mark;
-use ckd_types::TrackNo;
+use ckd_types::{Side, TrackNo};
 use device_outside::{Keep, Volume};
 use track_image::TrackImage;
 
 impl<V: Volume> DeviceStore<V> {
     /// The frame was marked modified.
     fn owe_modified(&mut self, t: TrackNo)
-        ensures fixed { (self.new.number ≡ self.old.number) × (self.new.cylinders ≡ self.old.cylinders) × (self.new.up ≡ self.old.up) }
-        ensures volume { self.new.volume ≡ self.old.volume }
+        ensures fixed { (self.new.number ≡ self.old.number) × (self.new.cylinders ≡ self.old.cylinders) }
+        ensures volume { self.new.pair ≡ self.old.pair }
+        ensures half { self.new.half ≡ self.old.half }
         ensures weight { weight self.new.loose ≡ weight self.old.loose }
         ensures loose { self.new.loose ≡ self.old.loose }
         ensures state { state_of self.new ≡ owes_modified (state_of self.old) t }
@@ -32,8 +33,9 @@ impl<V: Volume> DeviceStore<V> {
     /// The frame of a track that isn't loose is given up.
     pub(crate) fn give_up_frame(&mut self, t: TrackNo)
         requires { is_loose (state_of self.old) t ≡ false }
-        ensures fixed { (self.new.number ≡ self.old.number) × (self.new.cylinders ≡ self.old.cylinders) × (self.new.up ≡ self.old.up) }
-        ensures volume { self.new.volume ≡ self.old.volume }
+        ensures fixed { (self.new.number ≡ self.old.number) × (self.new.cylinders ≡ self.old.cylinders) }
+        ensures volume { self.new.pair ≡ self.old.pair }
+        ensures half { self.new.half ≡ self.old.half }
         ensures weight { weight self.new.loose ≡ weight self.old.loose }
         ensures loose { self.new.loose ≡ self.old.loose }
         ensures state { state_of self.new ≡ without_frame (state_of self.old) t }
@@ -48,8 +50,9 @@ impl<V: Volume> DeviceStore<V> {
 
     /// The patch is given up with its slot.
     pub(crate) fn give_up_patch(&mut self, t: TrackNo)
-        ensures fixed { (self.new.number ≡ self.old.number) × (self.new.cylinders ≡ self.old.cylinders) × (self.new.up ≡ self.old.up) }
-        ensures volume { self.new.volume ≡ self.old.volume }
+        ensures fixed { (self.new.number ≡ self.old.number) × (self.new.cylinders ≡ self.old.cylinders) }
+        ensures volume { self.new.pair ≡ self.old.pair }
+        ensures half { self.new.half ≡ self.old.half }
         ensures weight { weight self.new.loose ≡ weight self.old.loose }
         ensures loose { self.new.loose ≡ self.old.loose }
         ensures state { state_of self.new ≡ without_patch contents (state_of self.old) t }
@@ -68,8 +71,9 @@ impl<V: Volume> DeviceStore<V> {
     /// The track is lost, and with it its patch.
     fn lose_track(&mut self, t: TrackNo)
         requires { t < self.old.cylinders * 15 }
-        ensures fixed { (self.new.number ≡ self.old.number) × (self.new.cylinders ≡ self.old.cylinders) × (self.new.up ≡ self.old.up) }
-        ensures volume { self.new.volume ≡ self.old.volume }
+        ensures fixed { (self.new.number ≡ self.old.number) × (self.new.cylinders ≡ self.old.cylinders) }
+        ensures volume { self.new.pair ≡ self.old.pair }
+        ensures half { self.new.half ≡ self.old.half }
         ensures weight { weight self.new.loose ≡ weight self.old.loose }
         ensures loose { self.new.loose ≡ self.old.loose }
         ensures state { state_of self.new ≡ lost_now contents (state_of self.old) t }
@@ -81,8 +85,9 @@ impl<V: Volume> DeviceStore<V> {
     /// Its frame, which is modified then, keeps the track.
     fn keep_by_frame(&mut self, t: TrackNo)
         requires { is_some (frame_at (state_of self.old) t) ≡ true }
-        ensures fixed { (self.new.number ≡ self.old.number) × (self.new.cylinders ≡ self.old.cylinders) × (self.new.up ≡ self.old.up) }
-        ensures volume { self.new.volume ≡ self.old.volume }
+        ensures fixed { (self.new.number ≡ self.old.number) × (self.new.cylinders ≡ self.old.cylinders) }
+        ensures volume { self.new.pair ≡ self.old.pair }
+        ensures half { self.new.half ≡ self.old.half }
         ensures weight { weight self.new.loose ≡ weight self.old.loose }
         ensures loose { self.new.loose ≡ self.old.loose }
         ensures state { (f : Frame) → frame_at (state_of self.old) t ≡ Some f → state_of self.new ≡ kept_by_frame contents (state_of self.old) t f }
@@ -97,61 +102,146 @@ impl<V: Volume> DeviceStore<V> {
     pub(crate) fn harden(&mut self, t: TrackNo)
         requires track { t < self.old.cylinders * 15 }
         requires loose { is_loose (state_of self.old) t ≡ true }
-        ensures fixed { (self.new.number ≡ self.old.number) × (self.new.cylinders ≡ self.old.cylinders) × (self.new.up ≡ self.old.up) }
-        ensures volume { self.new.volume ≡ self.old.volume }
+        ensures fixed { (self.new.number ≡ self.old.number) × (self.new.cylinders ≡ self.old.cylinders) }
+        ensures volume { self.new.pair ≡ self.old.pair }
+        ensures half { self.new.half ≡ self.old.half }
         ensures weight { weight self.new.loose ≡ weight self.old.loose }
+        ensures firm { StaysFirm self.old.loose.loose self.new.loose.loose }
         ensures state { state_of self.new ≡ hardened (state_of self.old) t }
     {
         self.loose.harden(t);
     }
 
-    /// A track that isn't loose and is level on no side is kept by its frame, or is lost.
+    /// Whether a write of a track is open between its two parts.
+    pub(crate) fn is_half_open(&self, t: TrackNo) -> bool
+        ensures { result ≡ half_is (state_of self.now).half t }
+    {
+        match &self.half {
+            None => false,
+            Some(half) => half.track.get() == t.get(),
+        }
+    }
+
+    /// Whether a track isn't settled: the volume is lent, or the track is lost already, or level on a side.
+    fn stands(&self, t: TrackNo) -> bool
+        ensures { result ≡ (is_some (state_of self.now).lent || is_lost (state_of self.now) t || has_level (state_of self.now) t) }
+    {
+        self.pair.lent.is_some() || self.lost.has(t) || self.has_level(t)
+    }
+
+    /// A track that isn't loose and is level on no side is kept by its frame or by an open half write, or is lost.
     fn keep_or_lose(&mut self, t: TrackNo)
         requires track { t < self.old.cylinders * 15 }
         requires firm { is_loose (state_of self.old) t ≡ false }
-        ensures fixed { (self.new.number ≡ self.old.number) × (self.new.cylinders ≡ self.old.cylinders) × (self.new.up ≡ self.old.up) }
-        ensures volume { self.new.volume ≡ self.old.volume }
+        ensures fixed { (self.new.number ≡ self.old.number) × (self.new.cylinders ≡ self.old.cylinders) }
+        ensures volume { self.new.pair ≡ self.old.pair }
+        ensures half { self.new.half ≡ self.old.half }
         ensures weight { weight self.new.loose ≡ weight self.old.loose }
         ensures loose { self.new.loose ≡ self.old.loose }
         ensures state { state_of self.new ≡ by_frame contents (state_of self.old) t (frame_at (state_of self.old) t) }
     {
         if self.frames.has(t) {
             self.keep_by_frame(t);
-        } else {
-            self.lose_track(t);
+            return;
         }
+        if self.is_half_open(t) {
+            return;
+        }
+        self.lose_track(t);
     }
 
     /// A track that isn't loose is kept by its frame where it is level on no side, or is lost.
     pub(crate) fn settle(&mut self, t: TrackNo)
         requires track { t < self.old.cylinders * 15 }
         requires firm { is_loose (state_of self.old) t ≡ false }
-        ensures fixed { (self.new.number ≡ self.old.number) × (self.new.cylinders ≡ self.old.cylinders) × (self.new.up ≡ self.old.up) }
-        ensures volume { self.new.volume ≡ self.old.volume }
+        ensures fixed { (self.new.number ≡ self.old.number) × (self.new.cylinders ≡ self.old.cylinders) }
+        ensures volume { self.new.pair ≡ self.old.pair }
+        ensures half { self.new.half ≡ self.old.half }
         ensures weight { weight self.new.loose ≡ weight self.old.loose }
         ensures loose { self.new.loose ≡ self.old.loose }
         ensures state { state_of self.new ≡ settled contents (state_of self.old) t }
     {
-        if self.lost.has(t) {
-            return;
-        }
-        if self.is_level(t) {
+        if self.stands(t) {
             return;
         }
         self.keep_or_lose(t);
     }
 
-    /// The volume didn't take a track, which is stale then.
+    /// Marks a track of a side as stale, or as level.
+    pub(crate) fn mark(&mut self, side: Side, t: TrackNo, stale: bool)
+        requires track { t < self.old.cylinders * 15 }
+        ensures fixed { (self.new.number ≡ self.old.number) × (self.new.cylinders ≡ self.old.cylinders) }
+        ensures volume { self.new.pair.volumes ≡ self.old.pair.volumes }
+        ensures half { self.new.half ≡ self.old.half }
+        ensures loose { self.new.loose ≡ self.old.loose }
+        ensures state { state_of self.new ≡ with_stale (state_of self.old) side t stale }
+    {
+        match side {
+            Side::A => self.mark_a(t, stale),
+            Side::B => self.mark_b(t, stale),
+        }
+    }
+
+    /// No side holds a track.
+    pub(crate) fn stale_everywhere(&mut self, t: TrackNo)
+        requires track { t < self.old.cylinders * 15 }
+        ensures fixed { (self.new.number ≡ self.old.number) × (self.new.cylinders ≡ self.old.cylinders) }
+        ensures volume { self.new.pair.volumes ≡ self.old.pair.volumes }
+        ensures half { self.new.half ≡ self.old.half }
+        ensures loose { self.new.loose ≡ self.old.loose }
+        ensures frames { self.new.frames ≡ self.old.frames }
+        ensures state { state_of self.new ≡ stale_everywhere (state_of self.old) t }
+    {
+        self.mark_a(t, true);
+        if self.pair.is_paired() {
+            self.mark_b(t, true);
+        }
+    }
+
+    /// Marks a track of side A as stale, or as level.
+    pub(crate) fn mark_a(&mut self, t: TrackNo, stale: bool)
+        requires track { t < self.old.cylinders * 15 }
+        ensures fixed { (self.new.number ≡ self.old.number) × (self.new.cylinders ≡ self.old.cylinders) }
+        ensures volume { self.new.pair.volumes ≡ self.old.pair.volumes }
+        ensures half { self.new.half ≡ self.old.half }
+        ensures loose { self.new.loose ≡ self.old.loose }
+        ensures frames { self.new.frames ≡ self.old.frames }
+        ensures takes { takes_b (state_of self.new) ≡ takes_b (state_of self.old) }
+        ensures state { state_of self.new ≡ with_stale (state_of self.old) A t stale }
+    {
+        self.pair.set_stale(Side::A, t, stale);
+    }
+
+    /// The same of side B.
+    pub(crate) fn mark_b(&mut self, t: TrackNo, stale: bool)
+        requires track { t < self.old.cylinders * 15 }
+        ensures fixed { (self.new.number ≡ self.old.number) × (self.new.cylinders ≡ self.old.cylinders) }
+        ensures volume { self.new.pair.volumes ≡ self.old.pair.volumes }
+        ensures half { self.new.half ≡ self.old.half }
+        ensures loose { self.new.loose ≡ self.old.loose }
+        ensures frames { self.new.frames ≡ self.old.frames }
+        ensures takes { takes_b (state_of self.new) ≡ takes_b (state_of self.old) }
+        ensures state { state_of self.new ≡ with_stale (state_of self.old) B t stale }
+    {
+        self.pair.set_stale(Side::B, t, stale);
+    }
+
+    /// No side took a track. On a volume that is alone it is stale then.
     pub(crate) fn refuse(&mut self, t: TrackNo)
         requires track { t < self.old.cylinders * 15 }
         requires firm { is_loose (state_of self.old) t ≡ false }
-        ensures fixed { (self.new.number ≡ self.old.number) × (self.new.cylinders ≡ self.old.cylinders) × (self.new.up ≡ self.old.up) }
-        ensures volume { self.new.volume ≡ self.old.volume }
+        ensures fixed { (self.new.number ≡ self.old.number) × (self.new.cylinders ≡ self.old.cylinders) }
+        ensures volume { self.new.pair.volumes ≡ self.old.pair.volumes }
+        ensures half { self.new.half ≡ self.old.half }
         ensures weight { weight self.new.loose ≡ weight self.old.loose }
         ensures loose { self.new.loose ≡ self.old.loose }
         ensures state { state_of self.new ≡ unwritten contents (state_of self.old) t }
     {
-        set_mark(&mut self.stale, t, true);
+        if self.pair.is_paired() {
+            self.settle(t);
+            return;
+        }
+        self.mark_a(t, true);
         self.settle(t);
     }
 
@@ -159,8 +249,10 @@ impl<V: Volume> DeviceStore<V> {
     pub(crate) fn settle_told<K: Keep<TrackImage>>(&mut self, t: TrackNo, keep: &mut K)
         requires track { t < self.old.cylinders * 15 }
         requires takes { Takes K.takes keep.old self.old.number (self.old.cylinders * 15) }
-        ensures fixed { (self.new.number ≡ self.old.number) × (self.new.cylinders ≡ self.old.cylinders) × (self.new.up ≡ self.old.up) }
-        ensures volume { self.new.volume ≡ self.old.volume }
+        ensures fixed { (self.new.number ≡ self.old.number) × (self.new.cylinders ≡ self.old.cylinders) }
+        ensures volume { self.new.pair ≡ self.old.pair }
+        ensures half { self.new.half ≡ self.old.half }
+        ensures firm { StaysFirm self.old.loose.loose self.new.loose.loose }
         ensures weight { weight self.new.loose ≡ weight self.old.loose }
         ensures takes { Takes K.takes keep.new self.new.number (self.new.cylinders * 15) }
         ensures run { (p : PortView) → Ran surely K.hears (firm_told contents t (settled contents (state_of self.old) t)) (outside p self.old keep.old) (state_of self.new) tt (outside p self.new keep.new) }
@@ -178,17 +270,16 @@ impl<V: Volume> DeviceStore<V> {
         requires track { t < self.old.cylinders * 15 }
         requires loose { is_loose (state_of self.old) t ≡ true }
         requires takes { Takes K.takes keep.old self.old.number (self.old.cylinders * 15) }
-        ensures fixed { (self.new.number ≡ self.old.number) × (self.new.cylinders ≡ self.old.cylinders) × (self.new.up ≡ self.old.up) }
-        ensures volume { self.new.volume ≡ self.old.volume }
+        ensures fixed { (self.new.number ≡ self.old.number) × (self.new.cylinders ≡ self.old.cylinders) }
+        ensures volume { self.new.pair ≡ self.old.pair }
+        ensures half { self.new.half ≡ self.old.half }
+        ensures firm { StaysFirm self.old.loose.loose self.new.loose.loose }
         ensures weight { weight self.new.loose ≡ weight self.old.loose }
         ensures takes { Takes K.takes keep.new self.new.number (self.new.cylinders * 15) }
         ensures run { (p : PortView) → Ran surely K.hears (firm_told contents t (settled contents (state_of self.old) t)) (outside p self.old keep.old) (state_of self.new) tt (outside p self.new keep.new) }
     {
         self.owed.no_firm();
-        if self.lost.has(t) {
-            return;
-        }
-        if self.is_level(t) {
+        if self.stands(t) {
             return;
         }
         self.harden_told(t, keep);
@@ -199,8 +290,10 @@ impl<V: Volume> DeviceStore<V> {
         requires track { t < self.old.cylinders * 15 }
         requires loose { is_loose (state_of self.old) t ≡ true }
         requires takes { Takes K.takes keep.old self.old.number (self.old.cylinders * 15) }
-        ensures fixed { (self.new.number ≡ self.old.number) × (self.new.cylinders ≡ self.old.cylinders) × (self.new.up ≡ self.old.up) }
-        ensures volume { self.new.volume ≡ self.old.volume }
+        ensures fixed { (self.new.number ≡ self.old.number) × (self.new.cylinders ≡ self.old.cylinders) }
+        ensures volume { self.new.pair ≡ self.old.pair }
+        ensures half { self.new.half ≡ self.old.half }
+        ensures firm { StaysFirm self.old.loose.loose self.new.loose.loose }
         ensures weight { weight self.new.loose ≡ weight self.old.loose }
         ensures takes { Takes K.takes keep.new self.new.number (self.new.cylinders * 15) }
         ensures run { (p : PortView) → Ran surely K.hears (firm_told contents t (by_frame contents (state_of self.old) t (frame_at (state_of self.old) t))) (outside p self.old keep.old) (state_of self.new) tt (outside p self.new keep.new) }

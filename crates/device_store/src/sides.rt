@@ -1,51 +1,156 @@
-ghost use Rattle.std.specs.Prelude.{◌≡◌, ◌≤◌, ◌*◌, if◌then◌else◌, replicate, true, vec_len};
+ghost use Rattle.std.specs.Prelude.{◌≡◌, ◌<◌, ◌≤◌, ◌*◌, None, Some, false, is_some, replicate, true};
 ghost use Rattle.track_table.specs.Tracks.{count_below};
-ghost use Rattle.device_defs.specs.Store.{new_side, stale_at};
-ghost use Rattle.device_store.specs.State.{state_of};
+ghost use Rattle.device_defs.specs.Contents.{contents};
+ghost use Rattle.device_defs.specs.Orders.{given_up};
+ghost use Rattle.device_defs.specs.Store.{is_loose, new_side, no_side, side_of, stale_at, with_side};
+ghost use Rattle.duplex_pair.specs.Sides.{other_of, volume_of};
+ghost use Rattle.event_notes.specs.Loose.{weight};
+ghost use Rattle.device_store.specs.State.{on_a, on_b, state_of};
 
 use crate::DeviceStore;
-use crate::marks::track;
-use ckd_types::HEADS;
+use ckd_types::{DeviceNo, Side, TrackNo};
 use device_outside::Volume;
-use std::mem::replace;
-
-/// Every track is marked.
-fn mark_all(marks: &mut Vec<bool>)
-    ensures { marks.new.items ≡ replicate (vec_len marks.old) true }
-{
-    marks.fill(true);
-}
-
-fn one_if(holds: bool) -> u16
-    ensures value { result ≡ (if holds then 1 else 0) }
-    ensures most { result ≤ 1 }
-{
-    if holds { 1 } else { 0 }
-}
 
 impl<V: Volume> DeviceStore<V> {
-    /// Another volume takes the volume's place, with every track stale. It answers the old one.
-    pub fn replace(&mut self, volume: V) -> V
-        requires { (V.view volume).tracks ≡ self.old.cylinders * 15 }
+    /// Another volume takes a side's place, with every track stale. It answers the old one.
+    pub fn replace(&mut self, side: Side, volume: V) -> Option<V>
+        requires here { self.old.pair.lent ≡ None }
+        requires there { is_some (volume_of self.old.pair.volumes side) ≡ true }
+        requires size { (V.view volume).tracks ≡ self.old.cylinders * 15 }
         ensures fixed { (self.new.number ≡ self.old.number) × (self.new.cylinders ≡ self.old.cylinders) }
-        ensures volume { self.new.volume ≡ volume }
-        ensures back { result ≡ self.old.volume }
-        ensures state { state_of self.new ≡ record (state_of self.old) { a = new_side (self.old.cylinders * 15) true } }
+        ensures half { self.new.half ≡ self.old.half }
+        ensures loose { self.new.loose ≡ self.old.loose }
+        ensures volume { volume_of self.new.pair.volumes side ≡ Some volume }
+        ensures back { result ≡ volume_of self.old.pair.volumes side }
+        ensures other { other_of self.new.pair.volumes side ≡ other_of self.old.pair.volumes side }
+        ensures state { state_of self.new ≡ with_side (state_of self.old) side (new_side (self.old.cylinders * 15) true) }
     {
-        mark_all(&mut self.stale);
-        self.up = true;
-        replace(&mut self.volume, volume)
+        self.pair.replace(side, volume)
     }
 
-    /// How many tracks are stale on the volume.
-    pub fn stale_count(&self) -> u16
-        ensures { result ≡ count_below (self.now.cylinders * 15) (stale_at (state_of self.now).a) }
+    /// Another device's volume becomes side B, with every track stale.
+    pub fn join(&mut self, volume: V)
+        requires here { self.old.pair.lent ≡ None }
+        requires size { (V.view volume).tracks ≡ self.old.cylinders * 15 }
+        ensures fixed { (self.new.number ≡ self.old.number) × (self.new.cylinders ≡ self.old.cylinders) }
+        ensures half { self.new.half ≡ self.old.half }
+        ensures loose { self.new.loose ≡ self.old.loose }
+        ensures a { on_a self.new ≡ on_a self.old }
+        ensures b { on_b self.new ≡ Some volume }
+        ensures state { state_of self.new ≡ record (state_of self.old) { paired = true; b = new_side (self.old.cylinders * 15) true } }
     {
-        let tracks = u16::from(self.cylinders) * HEADS;
-        let mut count = 0;
-        for t in 0..tracks {
-            count += one_if(self.is_stale(track(t)));
-        }
-        count
+        self.pair.join(volume);
+    }
+
+    /// Side B leaves, and a held mark ends. It answers its volume.
+    pub fn split(&mut self) -> Option<V>
+        ensures fixed { (self.new.number ≡ self.old.number) × (self.new.cylinders ≡ self.old.cylinders) }
+        ensures half { self.new.half ≡ self.old.half }
+        ensures loose { self.new.loose ≡ self.old.loose }
+        ensures a { on_a self.new ≡ on_a self.old }
+        ensures b { on_b self.new ≡ None }
+        ensures back { result ≡ on_b self.old }
+        ensures state { state_of self.new ≡ record (state_of self.old) { paired = false; held = false; b = no_side (self.old.cylinders * 15) } }
+    {
+        self.pair.split()
+    }
+
+    /// Side B takes nothing from here on.
+    pub fn hold(&mut self)
+        ensures fixed { (self.new.number ≡ self.old.number) × (self.new.cylinders ≡ self.old.cylinders) }
+        ensures half { self.new.half ≡ self.old.half }
+        ensures loose { self.new.loose ≡ self.old.loose }
+        ensures volume { self.new.pair.volumes ≡ self.old.pair.volumes }
+        ensures state { state_of self.new ≡ record (state_of self.old) { held = true } }
+    {
+        self.pair.hold();
+    }
+
+    /// Side B takes what is written from here on, and what is stale there is copied.
+    pub fn resume(&mut self)
+        ensures fixed { (self.new.number ≡ self.old.number) × (self.new.cylinders ≡ self.old.cylinders) }
+        ensures half { self.new.half ≡ self.old.half }
+        ensures loose { self.new.loose ≡ self.old.loose }
+        ensures volume { self.new.pair.volumes ≡ self.old.pair.volumes }
+        ensures state { state_of self.new ≡ record (state_of self.old) { held = false } }
+    {
+        self.pair.resume();
+    }
+
+    /// An empty volume takes the place of one that was lent, and no track is loose.
+    pub fn restore(&mut self, volume: V)
+        requires size { (V.view volume).tracks ≡ self.old.cylinders * 15 }
+        ensures fixed { (self.new.number ≡ self.old.number) × (self.new.cylinders ≡ self.old.cylinders) }
+        ensures half { self.new.half ≡ self.old.half }
+        ensures weight { weight self.new.loose ≤ weight self.old.loose }
+        ensures a { on_a self.new ≡ Some volume }
+        ensures b { on_b self.new ≡ on_b self.old }
+        ensures state { state_of self.new ≡ record (state_of self.old) { lent = None; a = new_side (self.old.cylinders * 15) false; loose = replicate (self.old.cylinders * 15) false } }
+    {
+        self.pair.restore(volume);
+        self.loose.clear();
+    }
+
+    /// The frame and the patch of a track are given up.
+    fn give_up(&mut self, t: TrackNo)
+        requires track { t < self.old.cylinders * 15 }
+        requires firm { is_loose (state_of self.old) t ≡ false }
+        ensures fixed { (self.new.number ≡ self.old.number) × (self.new.cylinders ≡ self.old.cylinders) }
+        ensures volume { self.new.pair ≡ self.old.pair }
+        ensures half { self.new.half ≡ self.old.half }
+        ensures loose { self.new.loose ≡ self.old.loose }
+        ensures state { state_of self.new ≡ given_up contents t (state_of self.old) }
+    {
+        self.give_up_frame(t);
+        self.give_up_patch(t);
+    }
+
+    /// Whether there are two sides.
+    pub fn is_paired(&self) -> bool
+        ensures { result ≡ (state_of self.now).paired }
+    {
+        self.pair.is_paired()
+    }
+
+    /// Whether side B is held.
+    pub fn is_held(&self) -> bool
+        ensures { result ≡ (state_of self.now).held }
+    {
+        self.pair.held
+    }
+
+    /// Whether a side is there and wasn't lost.
+    pub fn is_up(&self, side: Side) -> bool
+        ensures { result ≡ (side_of (state_of self.now) side).up }
+    {
+        self.pair.is_up(side)
+    }
+
+    /// To which device the volume is lent.
+    pub fn lent_to(&self) -> Option<DeviceNo>
+        ensures { result ≡ (state_of self.now).lent }
+    {
+        self.pair.lent
+    }
+
+    /// Whether a write is open between its two parts.
+    pub fn half_open(&self) -> bool
+        ensures { result ≡ is_some (state_of self.now).half }
+    {
+        self.half.is_some()
+    }
+
+    /// How many tracks are stale on a side.
+    pub fn stale_count(&self, side: Side) -> u16
+        ensures { result ≡ count_below (self.now.cylinders * 15) (stale_at (side_of (state_of self.now) side)) }
+    {
+        self.pair.stale_count(side)
+    }
+
+    /// The volumes of the sides.
+    pub fn into_volumes(self) -> (Option<V>, Option<V>)
+        ensures { result ≡ (on_a self, on_b self) }
+    {
+        (self.pair.volumes.a, self.pair.volumes.b)
     }
 }

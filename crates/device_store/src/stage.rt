@@ -2,8 +2,9 @@ ghost use Rattle.std.specs.Prelude.{◌≡◌, ◌<◌, ◌*◌, Some, false, tr
 ghost use Rattle.device_outside.specs.Outside.{Ran, where_ok};
 ghost use Rattle.device_defs.specs.Background.{granted, stage, staged_bytes};
 ghost use Rattle.device_defs.specs.Contents.{contents};
-ghost use Rattle.device_store.specs.State.{state_of, outside, had, got_by};
-ghost use Rattle.track_cache.specs.Frames.{is_modified};
+ghost use Rattle.device_defs.specs.Store.{is_loose};
+ghost use Rattle.event_notes.specs.Loose.{weight};
+ghost use Rattle.device_store.specs.State.{state_of, outside, Takes, had, got_by};
 
 use crate::DeviceStore;
 use crate::background::did;
@@ -22,8 +23,9 @@ impl<V: Volume> DeviceStore<V> {
         port: &mut P,
     ) -> Result<Did, NoMemory>
         requires track { t < self.old.cylinders * 15 }
-        requires clean { is_modified self.old.frames t ≡ false }
+        requires firm { is_loose (state_of self.old) t ≡ false }
         ensures fixed { (self.new.number ≡ self.old.number) × (self.new.cylinders ≡ self.old.cylinders) }
+        ensures half { self.new.half ≡ self.old.half }
         ensures loose { self.new.loose ≡ self.old.loose }
         ensures run { (k : K) → Ran (where_ok result) K.hears (staged_bytes contents t (state_of self.old) (got_by self.old.buffer given) (Some self.old.buffer)) (outside (P.view port.old) self.old k) (state_of self.new) (had (λ did. did) result) (outside (P.view port.new) self.new k) }
     {
@@ -48,14 +50,18 @@ impl<V: Volume> DeviceStore<V> {
         &mut self,
         t: TrackNo,
         port: &mut P,
+        keep: &mut K,
     ) -> Result<Did, NoMemory>
         requires track { t < self.old.cylinders * 15 }
-        requires clean { is_modified self.old.frames t ≡ false }
+        requires takes { Takes K.takes keep.old self.old.number (self.old.cylinders * 15) }
+        requires firm { is_loose (state_of self.old) t ≡ false }
         ensures fixed { (self.new.number ≡ self.old.number) × (self.new.cylinders ≡ self.old.cylinders) }
-        ensures loose { self.new.loose ≡ self.old.loose }
-        ensures run { (k : K) → Ran (where_ok result) K.hears (granted contents (state_of self.old) t true) (outside (P.view port.old) self.old k) (state_of self.new) (had (λ did. did) result) (outside (P.view port.new) self.new k) }
+        ensures half { self.new.half ≡ self.old.half }
+        ensures weight { weight self.new.loose ≡ weight self.old.loose }
+        ensures takes { Takes K.takes keep.new self.new.number (self.new.cylinders * 15) }
+        ensures run { Ran (where_ok result) K.hears (granted contents (state_of self.old) t true) (outside (P.view port.old) self.old keep.old) (state_of self.new) (had (λ did. did) result) (outside (P.view port.new) self.new keep.new) }
     {
-        let got = self.level_bytes::<K>(t);
+        let got = self.level_bytes(t, keep);
         if got.given {
             return self.stage_bytes::<P, K>(t, got, port);
         }
@@ -68,11 +74,15 @@ impl<V: Volume> DeviceStore<V> {
         &mut self,
         t: TrackNo,
         port: &mut P,
+        keep: &mut K,
     ) -> Result<Did, NoMemory>
-        requires { t < self.old.cylinders * 15 }
+        requires track { t < self.old.cylinders * 15 }
+        requires takes { Takes K.takes keep.old self.old.number (self.old.cylinders * 15) }
         ensures fixed { (self.new.number ≡ self.old.number) × (self.new.cylinders ≡ self.old.cylinders) }
-        ensures loose { self.new.loose ≡ self.old.loose }
-        ensures run { (k : K) → Ran (where_ok result) K.hears (stage contents (state_of self.old) t) (outside (P.view port.old) self.old k) (state_of self.new) (had (λ did. did) result) (outside (P.view port.new) self.new k) }
+        ensures half { self.new.half ≡ self.old.half }
+        ensures weight { weight self.new.loose ≡ weight self.old.loose }
+        ensures takes { Takes K.takes keep.new self.new.number (self.new.cylinders * 15) }
+        ensures run { Ran (where_ok result) K.hears (stage contents (state_of self.old) t) (outside (P.view port.old) self.old keep.old) (state_of self.new) (had (λ did. did) result) (outside (P.view port.new) self.new keep.new) }
     {
         if self.frames.has(t) {
             return Ok(Did::Skipped(t));
@@ -83,7 +93,7 @@ impl<V: Volume> DeviceStore<V> {
         match port.want_frame(self.number, t) {
             Err(NoMemory) => Err(NoMemory),
             Ok(Grant::Denied) => Ok(Did::Skipped(t)),
-            Ok(Grant::Given) => self.stage_granted::<P, K>(t, port),
+            Ok(Grant::Given) => self.stage_granted(t, port, keep),
         }
     }
 }

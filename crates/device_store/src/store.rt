@@ -1,11 +1,14 @@
-ghost use Rattle.std.specs.Prelude.{◌≡◌, ◌≤◌, ◌*◌, ℕ, length, true, vec_len};
+ghost use Rattle.std.specs.Prelude.{◌≡◌, ◌≤◌, ◌*◌, ℕ, length, true};
 ghost use Rattle.track_cache.specs.Frames.{is_modified};
 ghost use Rattle.event_notes.specs.Loose.{is_loose_in};
+ghost use Rattle.device_store.specs.Halves.{half_below, half_is_firm};
 ghost use Rattle.device_store.specs.Queued.{are_below};
 
+use crate::HalfWrite;
 use ckd_types::{DeviceNo, Geometry, Side};
 use device_defs::Counts;
 use device_outside::{TrackBuffer, Volume};
+use duplex_pair::DuplexPair;
 use event_notes::{Debts, LooseTracks};
 use loss_model::LostList;
 use nv_store::{EditRoom, Patches};
@@ -14,10 +17,10 @@ use std::alloc::Global;
 use track_cache::Frames;
 use track_image::{RecordRoom, TrackImage};
 
-/// The tracks of a device, over one volume, with a place of each for a frame and a patch. `data_number` is the number of its cache
-/// fast write data; `up` says that the volume wasn't lost, `stale` of each track that the volume's bytes of it don't count; `acts` are
-/// those of the event that goes on, or of the last one, and `owed` of each track what the outside is still to be told. Room for an
-/// edit is made in `records` and `edits` before the first effect of a write.
+/// The tracks of a device, over a volume or a pair of them, with a place of each for a frame and a patch. `data_number` is the
+/// number of its cache fast write data; `half` is a write that is open between its two parts; `acts` are those of the event that
+/// goes on, or of the last one, and `owed` of each track what the outside is still to be told. Room for an edit is made in
+/// `records` and `edits` before the first effect of a write.
 #[derive(Drop)]
 pub struct DeviceStore<V: Volume> {
     pub alloc: Global,
@@ -25,9 +28,8 @@ pub struct DeviceStore<V: Volume> {
     pub geometry: Geometry,
     pub cylinders: u8,
     pub data_number: u16,
-    pub volume: V,
-    pub up: bool,
-    pub stale: Vec<bool>,
+    pub pair: DuplexPair<V>,
+    pub half: Option<HalfWrite>,
     pub frames: Frames,
     pub patches: Patches,
     pub lost: LostList,
@@ -40,14 +42,15 @@ pub struct DeviceStore<V: Volume> {
     pub edits: EditRoom,
     pub ghost some: { 1 ≤ cylinders },
     pub ghost most: { cylinders ≤ 64 },
-    pub ghost stale_of_each: { vec_len stale ≡ cylinders * 15 },
+    pub ghost stale_of_each: { length pair.a.stale ≡ cylinders * 15 },
     pub ghost frame_of_each: { length frames ≡ cylinders * 15 },
     pub ghost patch_of_each: { length patches ≡ cylinders * 15 },
     pub ghost lost_of_each: { length lost ≡ cylinders * 15 },
     pub ghost loose_of_each: { length loose.loose ≡ cylinders * 15 },
     pub ghost owed_of_each: { length owed ≡ cylinders * 15 },
     pub ghost loose_modified: { (t : ℕ) → is_loose_in loose.loose t ≡ true → is_modified frames t ≡ true },
-    pub ghost volume_of_each: { (V.view volume).tracks ≡ cylinders * 15 },
+    pub ghost half_here: { half_below (cylinders * 15) half ≡ true },
+    pub ghost half_firm: { half_is_firm loose.loose half ≡ true },
     pub ghost queue_of_device: { are_below (cylinders * 15) queue ≡ true },
 }
 

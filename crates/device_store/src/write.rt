@@ -1,10 +1,10 @@
-ghost use Rattle.std.specs.Prelude.{◌≡◌, ◌<◌, ◌*◌, ◌+◌, ◌≤◌, IfOk, None, OnOk, is_ok, is_some, slice_set, true};
+ghost use Rattle.std.specs.Prelude.{◌≡◌, ◌<◌, ◌*◌, ◌+◌, ◌≤◌, IfOk, None, OnErr, OnOk, is_ok, is_some, slice_set, true};
 ghost use Rattle.ckd_rules.specs.Facts.{Suits};
 ghost use Rattle.ckd_types.specs.declared.record.Edit.{Edit};
 ghost use Rattle.device_defs.specs.declared.answers.Choice.TheVariants.{Fast};
 ghost use Rattle.device_defs.specs.Choosing.{choose, fast_written, patch_with, provisionally_written};
 ghost use Rattle.device_defs.specs.Contents.{contents};
-ghost use Rattle.device_defs.specs.Editing.{clean_again, is_given, unchosen, write, write_by, write_chosen};
+ghost use Rattle.device_defs.specs.Editing.{another_loose, clean_again, is_given, unchosen, write, write_by, write_chosen};
 ghost use Rattle.device_defs.specs.Store.{frame_at, patch_at};
 ghost use Rattle.device_outside.specs.Interaction.{and_then};
 ghost use Rattle.device_outside.specs.Keeper.{BeforeEdit, Heard};
@@ -15,10 +15,11 @@ ghost use Rattle.nv_store.specs.Room.{room_for};
 ghost use Rattle.track_image.specs.Image.{edited_image};
 ghost use Rattle.device_store.specs.Chosen.{Fits, FitsSlot, told_before};
 ghost use Rattle.device_store.specs.Looks.{frame_in};
-ghost use Rattle.device_store.specs.State.{state_of, outside, surely, Takes, had};
+ghost use Rattle.device_store.specs.State.{is_opened, state_of, outside, surely, Takes, had};
 
 use crate::DeviceStore;
 use crate::image::is_bypass;
+use crate::marks::track;
 use ckd_types::{Edit, NoMemory, TrackNo};
 use ckd_write::edit_image;
 use device_defs::{Choice, Took, Usage};
@@ -63,7 +64,8 @@ impl<V: Volume> DeviceStore<V> {
     /// Makes room for an edit of a track's patch, and for the track to become loose where it may.
     pub(crate) fn make_room(&mut self, usage: &Usage, t: TrackNo) -> Result<(), NoMemory>
         ensures fixed { (self.new.number ≡ self.old.number) × (self.new.cylinders ≡ self.old.cylinders) }
-        ensures volume { self.new.volume ≡ self.old.volume }
+        ensures half { self.new.half ≡ self.old.half }
+        ensures volume { self.new.pair.volumes ≡ self.old.pair.volumes }
         ensures weight { weight self.new.loose ≡ weight self.old.loose }
         ensures state { state_of self.new ≡ state_of self.old }
         ensures patch { OnOk result (room_for (stored_at self.new.patches t) ≤ self.new.edits) }
@@ -81,7 +83,8 @@ impl<V: Volume> DeviceStore<V> {
         requires fits { FitsSlot (is_some (patch_at (state_of self.old) t)) slot }
         requires room { room_for (stored_at self.old.patches t) ≤ self.old.edits }
         ensures fixed { (self.new.number ≡ self.old.number) × (self.new.cylinders ≡ self.old.cylinders) }
-        ensures volume { self.new.volume ≡ self.old.volume }
+        ensures half { self.new.half ≡ self.old.half }
+        ensures volume { self.new.pair.volumes ≡ self.old.pair.volumes }
         ensures loose { self.new.loose ≡ self.old.loose }
         ensures frames { self.new.frames ≡ self.old.frames }
         ensures state { state_of self.new ≡ record (state_of self.old) { patches = slice_set self.old.patches t (patch_with contents edit slot (patch_at (state_of self.old) t)) } }
@@ -101,7 +104,8 @@ impl<V: Volume> DeviceStore<V> {
         requires fits { FitsSlot (is_some (patch_at (state_of self.old) t)) slot }
         requires room { room_for (stored_at self.old.patches t) ≤ self.old.edits }
         ensures fixed { (self.new.number ≡ self.old.number) × (self.new.cylinders ≡ self.old.cylinders) }
-        ensures volume { self.new.volume ≡ self.old.volume }
+        ensures half { self.new.half ≡ self.old.half }
+        ensures volume { self.new.pair.volumes ≡ self.old.pair.volumes }
         ensures loose { self.new.loose ≡ self.old.loose }
         ensures state { state_of self.new ≡ fast_written contents (state_of self.old) t image edit slot }
     {
@@ -112,10 +116,12 @@ impl<V: Volume> DeviceStore<V> {
 
     /// A write of data of cache fast write: to the frame alone. A track that isn't loose becomes that.
     fn write_provisional(&mut self, t: TrackNo, image: TrackImage)
+        requires none { self.old.half ≡ None }
         requires track { t < self.old.cylinders * 15 }
         requires room { loose_count self.old.loose.loose + 2 ≤ self.old.loose.spare }
         ensures fixed { (self.new.number ≡ self.old.number) × (self.new.cylinders ≡ self.old.cylinders) }
-        ensures volume { self.new.volume ≡ self.old.volume }
+        ensures half { self.new.half ≡ self.old.half }
+        ensures volume { self.new.pair.volumes ≡ self.old.pair.volumes }
         ensures weight { weight self.new.loose ≤ weight self.old.loose + 2 }
         ensures state { (e : Edit) → state_of self.new ≡ provisionally_written contents (state_of self.old) t image e }
     {
@@ -138,17 +144,18 @@ impl<V: Volume> DeviceStore<V> {
         port: &mut P,
         keep: &mut K,
     ) -> Took
+        requires none { self.old.half ≡ None }
         requires track { t < self.old.cylinders * 15 }
         requires fits { Fits usage.now.provisional (is_some (patch_at (state_of self.old) t)) choice }
         requires patch { room_for (stored_at self.old.patches t) ≤ self.old.edits }
         requires loose { usage.now.provisional ≡ true → loose_count self.old.loose.loose + 2 ≤ self.old.loose.spare }
         requires takes { Takes K.takes keep.old self.old.number (self.old.cylinders * 15) }
         ensures fixed { (self.new.number ≡ self.old.number) × (self.new.cylinders ≡ self.old.cylinders) }
+        ensures half { is_some self.new.half ≡ is_opened result }
         ensures takes { Takes K.takes keep.new self.new.number (self.new.cylinders * 15) }
         ensures weight { weight self.new.loose ≤ weight self.old.loose + 2 }
         ensures run { Ran surely K.hears (write_by contents usage.now first t image edit (state_of self.old) choice) (outside (P.view port.old) self.old keep.old) (state_of self.new) result (outside (P.view port.new) self.new keep.new) }
     {
-        let _ = first;
         match choice {
             Choice::Provisional => {
                 self.write_provisional(t, image);
@@ -159,8 +166,28 @@ impl<V: Volume> DeviceStore<V> {
                 self.write_fast(t, image, edit, slot);
                 Took::Whole
             }
-            Choice::Through => self.through(t, image, is_bypass(usage.mode), port, keep),
+            Choice::Through => {
+                let opens = !self.another_loose(first, t);
+                self.through(t, image, edit, is_bypass(usage.mode), opens, port, keep)
+            }
         }
+    }
+
+    /// Whether another track that the command looked at, from `first` up to before t, is loose.
+    fn another_loose(&self, first: TrackNo, t: TrackNo) -> bool
+        ensures { result ≡ another_loose (state_of self.now) first t }
+    {
+        if !self.loose.any() {
+            return false;
+        }
+        let from = first.get();
+        let until = t.get();
+        for q in from..until {
+            if self.loose.has(track(q)) {
+                return true;
+            }
+        }
+        false
     }
 
     /// The edit goes to a frame, or to a volume.
@@ -168,7 +195,7 @@ impl<V: Volume> DeviceStore<V> {
         ensures { result ≡ is_given contents (state_of self.now) choice }
     {
         match choice {
-            Choice::Through => self.up,
+            Choice::Through => self.pair.a.up || self.pair.takes_b(),
             Choice::Provisional => true,
             Choice::Fast(_) => true,
         }
@@ -223,6 +250,7 @@ impl<V: Volume> DeviceStore<V> {
         port: &mut P,
         keep: &mut K,
     ) -> Result<Took, NoMemory>
+        requires none { self.old.half ≡ None }
         requires track { t < self.old.cylinders * 15 }
         requires image { image ≡ edited_image edit old.now }
         requires fits { Fits usage.now.provisional (is_some (patch_at (state_of self.old) t)) choice }
@@ -230,6 +258,8 @@ impl<V: Volume> DeviceStore<V> {
         requires loose { usage.now.provisional ≡ true → loose_count self.old.loose.loose + 2 ≤ self.old.loose.spare }
         requires takes { Takes K.takes keep.old self.old.number (self.old.cylinders * 15) }
         ensures fixed { (self.new.number ≡ self.old.number) × (self.new.cylinders ≡ self.old.cylinders) }
+        ensures half { IfOk result (λ took. is_some self.new.half ≡ is_opened took) }
+        ensures same { OnErr result (self.new.half ≡ self.old.half) }
         ensures takes { Takes K.takes keep.new self.new.number (self.new.cylinders * 15) }
         ensures weight { weight self.new.loose ≤ weight self.old.loose + 2 }
         ensures run { Ran (where_ok result) K.hears (told_before (state_of self.old) usage.now first t old.now edit choice) (outside (P.view port.old) self.old keep.old) (state_of self.new) (had (λ took. took) result) (outside (P.view port.new) self.new keep.new) }
@@ -255,12 +285,15 @@ impl<V: Volume> DeviceStore<V> {
         port: &mut P,
         keep: &mut K,
     ) -> Result<Took, NoMemory>
+        requires none { self.old.half ≡ None }
         requires track { t < self.old.cylinders * 15 }
         requires image { image ≡ edited_image edit old.now }
         requires patch { room_for (stored_at self.old.patches t) ≤ self.old.edits }
         requires loose { usage.now.provisional ≡ true → loose_count self.old.loose.loose + 2 ≤ self.old.loose.spare }
         requires takes { Takes K.takes keep.old self.old.number (self.old.cylinders * 15) }
         ensures fixed { (self.new.number ≡ self.old.number) × (self.new.cylinders ≡ self.old.cylinders) }
+        ensures half { IfOk result (λ took. is_some self.new.half ≡ is_opened took) }
+        ensures same { OnErr result (self.new.half ≡ self.old.half) }
         ensures takes { Takes K.takes keep.new self.new.number (self.new.cylinders * 15) }
         ensures weight { weight self.new.loose ≤ weight self.old.loose + 2 }
         ensures run { Ran (where_ok result) K.hears (and_then (choose contents (state_of self.old) usage.now t) (write_chosen contents usage.now first t old.now edit)) (outside (P.view port.old) self.old keep.old) (state_of self.new) (had (λ took. took) result) (outside (P.view port.new) self.new keep.new) }
@@ -284,10 +317,13 @@ impl<V: Volume> DeviceStore<V> {
         port: &mut P,
         keep: &mut K,
     ) -> Result<Took, NoMemory>
+        requires none { self.old.half ≡ None }
         requires track { t < self.old.cylinders * 15 }
         requires suits { Suits old.now.geometry old.now.track.records edit }
         requires takes { Takes K.takes keep.old self.old.number (self.old.cylinders * 15) }
         ensures fixed { (self.new.number ≡ self.old.number) × (self.new.cylinders ≡ self.old.cylinders) }
+        ensures half { IfOk result (λ took. is_some self.new.half ≡ is_opened took) }
+        ensures same { OnErr result (self.new.half ≡ self.old.half) }
         ensures takes { Takes K.takes keep.new self.new.number (self.new.cylinders * 15) }
         ensures weight { weight self.new.loose ≤ weight self.old.loose + 2 }
         ensures run { Ran (where_ok result) K.hears (write contents (state_of self.old) usage.now first t old.now edit) (outside (P.view port.old) self.old keep.old) (state_of self.new) (had (λ took. took) result) (outside (P.view port.new) self.new keep.new) }
@@ -328,6 +364,7 @@ impl<V: Volume> DeviceStore<V> {
         port: &mut P,
         keep: &mut K,
     ) -> Result<Took, NoMemory>
+        requires none { self.old.half ≡ None }
         requires track { t < self.old.cylinders * 15 }
         requires framed { is_some (frame_at (state_of self.old) t) ≡ true }
         requires image { image ≡ edited_image edit (frame_in (state_of self.old) t) }
@@ -336,6 +373,8 @@ impl<V: Volume> DeviceStore<V> {
         requires loose { usage.now.provisional ≡ true → loose_count self.old.loose.loose + 2 ≤ self.old.loose.spare }
         requires takes { Takes K.takes keep.old self.old.number (self.old.cylinders * 15) }
         ensures fixed { (self.new.number ≡ self.old.number) × (self.new.cylinders ≡ self.old.cylinders) }
+        ensures half { IfOk result (λ took. is_some self.new.half ≡ is_opened took) }
+        ensures same { OnErr result (self.new.half ≡ self.old.half) }
         ensures takes { Takes K.takes keep.new self.new.number (self.new.cylinders * 15) }
         ensures weight { weight self.new.loose ≤ weight self.old.loose + 2 }
         ensures run { Ran (where_ok result) K.hears (told_before (state_of self.old) usage.now first t (frame_in (state_of self.old) t) edit choice) (outside (P.view port.old) self.old keep.old) (state_of self.new) (had (λ took. took) result) (outside (P.view port.new) self.new keep.new) }

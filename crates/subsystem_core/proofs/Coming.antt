@@ -1,6 +1,6 @@
 -- From what a call of a device did to what the event came to.
 use Rattle.std.proofs.Common.{◌≡◌, ◌∙◌, ◌<◌, ℕ, Bool, true, false, List, ◌∷◌, Option, Some, None, arith, refl, sym, ap, subst}
-use Rattle.std.specs.Prelude.{Result, Ok, Err, IfOk, OnOk, OnErr, IsSome, is_some, option_map}
+use Rattle.std.specs.Prelude.{Result, Ok, Err, IfOk, OnOk, OnErr, IsSome, is_some, not, option_map}
 use Rattle.std.specs.Prelude.{◌==◌}
 use Rattle.std.proofs.lemmas.Bool.Decides.{nat_tests}
 use Rattle.ckd_types.specs.declared.NoMemory.{NoMemory}
@@ -18,7 +18,7 @@ use Rattle.device_defs.specs.declared.answers.Stepped as defs
 use Rattle.device_defs.specs.Contents.{contents}
 use Rattle.device_defs.specs.Orders.{replace}
 use Rattle.device_defs.specs.Start.{start, next_ordinal}
-use Rattle.device_defs.specs.Store.{side_of}
+use Rattle.duplex_pair.specs.Sides.{volume_of}
 use Rattle.device_store.specs.State.{had, surely}
 use Rattle.device_core.specs.declared.device.Device.{Device}
 use Rattle.device_core.specs.declared.start.NotStarted.{NotStarted}
@@ -31,8 +31,8 @@ use Rattle.subsystem_defs.specs.declared.end.EventEnd as ends_of
 use Rattle.subsystem_defs.specs.declared.end.EventEnd.TheVariants as answers
 use Rattle.subsystem_defs.specs.declared.event.Event.{Event}
 use Rattle.subsystem_defs.specs.declared.end.OrderFault.{OrderFault}
-use Rattle.subsystem_defs.specs.declared.end.OrderFault.TheVariants.{Up}
-use Rattle.subsystem_defs.specs.Refusals.{first_cause, where_so, suspend_fault, resume_fault, replace_fault}
+use Rattle.subsystem_defs.specs.declared.end.OrderFault.TheVariants.{NoSide}
+use Rattle.subsystem_defs.specs.Refusals.{first_cause, lent_by, where_so, replace_fault}
 use Rattle.subsystem_defs.specs.Deeds.{Ends, Becomes, Asks, Each, Repairs, ends_by, may_end_by, ends_done, end_of, is_own, deed}
 use Rattle.subsystem_core.specs.declared.end.EventEnd.{EventEnd}
 use Rattle.subsystem_core.specs.declared.end.EventEnd.TheVariants as ends
@@ -64,9 +64,17 @@ none_wait n is = rw is refl
 pub some_wait : (n m : ℕ) → m ≡ n → 0 < m → (n == 0) ≡ false
 some_wait n m is more = grind (arith, nat_tests)
 
-up_by : (b : Bool) (rest : List (Option OrderFault)) → first_cause (where_so b Up ∷ rest) ≡ None → b ≡ false
-up_by true rest is = absurd (cc)
-up_by false rest is = refl
+not_lent : (o : Option ℕ) (rest : List (Option OrderFault)) → first_cause (lent_by o ∷ rest) ≡ None → is_some o ≡ false
+not_lent None rest is = refl
+not_lent (Some n) rest is = absurd (cc)
+
+no_cause : (o : Option OrderFault) (rest : List (Option OrderFault)) → first_cause (o ∷ rest) ≡ None → first_cause rest ≡ None
+no_cause None rest is = is
+no_cause (Some f) rest is = absurd (cc)
+
+has_side_by : (b : Bool) (rest : List (Option OrderFault)) → first_cause (where_so (not b) NoSide ∷ rest) ≡ None → b ≡ true
+has_side_by true rest is = refl
+has_side_by false rest is = absurd (cc)
 
 -- a path's own program runs
 pub own_runs : (path : ℕ) (o : Option OpenEntry) → is_own path o ≡ is_path_of o path
@@ -114,10 +122,10 @@ module _ {V : Type 0} {G : Ghosts V} where
   starts_by path (Ok n) o x y fault is lacks ordinal started still store =
       let number : n ≡ next_ordinal (device_of x) path = rw is at ordinal in
       let now : device_of y ≡ start (device_of x) path = rw is at started in
-      (number, (now, ap (λ s. s.volume) store))
+      (number, (now, ap (λ s. s.pair.volumes) store))
   starts_by path (Err e) o x y fault is lacks ordinal started still store =
       let now : device_of y ≡ device_of x = rw lacks at still in
-      (now, ap (λ s. s.volume) store)
+      (now, ap (λ s. s.pair.volumes) store)
 
   pub same_number : (x : Device V G) (path : ℕ) → (start (device_of x) path).store.device ≡ x.store.number
   unfolding start
@@ -259,24 +267,11 @@ module _ {V : Type 0} {G : Ghosts V} where
 
   -- Orders
 
-  pub never_held : (x : Device V G) → suspend_fault (device_of x) ≡ None → ⊥
-  unfolding suspend_fault
-  never_held x is = cc
-
-  pub never_resumed : (x : Device V G) → resume_fault (device_of x) ≡ None → ⊥
-  unfolding resume_fault
-  never_resumed x is = cc
-
-  -- a side that may get another volume is there, and failed
-  pub is_side_a : (x : Device V G) (side : Side) → replace_fault (device_of x) side ≡ None → side ≡ A
+  -- a side that may get another volume is there
+  pub is_there : (x : Device V G) (side : Side) → replace_fault (device_of x) side ≡ None → is_some (volume_of x.store.pair.volumes side) ≡ true
   unfolding replace_fault
-  is_side_a x A is = refl
-  is_side_a x B is = absurd (cc)
-
-  pub is_down : (x : Device V G) (side : Side) → replace_fault (device_of x) side ≡ None → (side_of (device_of x).store side).up ≡ false
-  unfolding replace_fault
-  is_down x A is = up_by x.store.up _ is
-  is_down x B is = absurd (cc)
+  is_there x A is = x.store.pair.home (not_lent x.store.pair.lent _ is)
+  is_there x B is = has_side_by (is_some x.store.pair.volumes.b) _ (no_cause (lent_by x.store.pair.lent) _ is)
 
   pub same_replaced : (x y : Device V G) (side : Side) → device_of y ≡ replace (device_of x) side → y.store.number ≡ x.store.number
   same_replaced x y A is = ap (λ (d : DefinedDevice). d.store.device) is

@@ -10,6 +10,7 @@ use Rattle.device_defs.specs.Contents.{Contents}
 use Rattle.device_defs.specs.Cutting.{reset, power}
 use Rattle.device_defs.specs.Device.{Device}
 use Rattle.device_defs.specs.Events.{second, background, lose}
+use Rattle.device_defs.specs.Orders.{hold, resume}
 use Rattle.device_defs.specs.Start.{start_fault, start, next_ordinal}
 use Rattle.subsystem_defs.specs.declared.end.EventEnd.TheVariants as ends
 use Rattle.subsystem_defs.specs.declared.end.OrderFault.{OrderFault}
@@ -73,6 +74,14 @@ module _ {F P H R : Type 0} (c : Contents F P H R) (pool : Pool) (ds : List (Dev
     pub suspend_refused : (f : OrderFault) → suspend_fault d ≡ Some f → deed c pool ds (events.Suspend n) ≡ Ends (ends.Refused f)
     unfolding deed
     suspend_refused f fault = rw (is, fault) refl
+
+    pub suspended : suspend_fault d ≡ None → deed c pool ds (events.Suspend n) ≡ Becomes (hold d) ends.Done
+    unfolding deed
+    suspended fault = rw (is, fault) refl
+
+    pub resumed : resume_fault d ≡ None → deed c pool ds (events.Resume n) ≡ Becomes (resume d) ends.Done
+    unfolding deed
+    resumed fault = rw (is, fault) refl
 
     pub resume_refused : (f : OrderFault) → resume_fault d ≡ Some f → deed c pool ds (events.Resume n) ≡ Ends (ends.Refused f)
     unfolding deed

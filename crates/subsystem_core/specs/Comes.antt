@@ -12,9 +12,10 @@ use Rattle.device_outside.specs.Outside.{PortView, Ran}
 use Rattle.device_outside.specs.Pool.{Pool}
 use Rattle.frame_pool.specs.Shared.{Shared, shared_view}
 use Rattle.device_defs.specs.Contents.{contents}
-use Rattle.device_defs.specs.Orders.{replace}
+use Rattle.device_defs.specs.Orders.{join, lend, replace}
 use Rattle.device_defs.specs.Start.{start, next_ordinal}
-use Rattle.device_store.specs.State.{outside, surely}
+use Rattle.device_store.specs.State.{on_a, on_b, outside, surely}
+use Rattle.duplex_pair.specs.Sides.{other_of, volume_of}
 use Rattle.device_core.specs.declared.device.Device.{Device}
 use Rattle.device_core.specs.State.{DefinedDevice, device_of}
 use Rattle.subsystem_defs.specs.declared.end.EventEnd as defs
@@ -54,9 +55,9 @@ module _ {V : Type 0} {G : Ghosts V} where
     pub stands : new ≡ put_at old n behind
     pub is_so : how before behind
 
-  -- it is this device now, on the same volume
+  -- it is this device now, on the same volumes
   abbrev pub IsNow : DefinedDevice → Device V G → Device V G → Type 0
-  IsNow d before behind = (device_of behind ≡ d) × (behind.store.volume ≡ before.store.volume)
+  IsNow d before behind = (device_of behind ≡ d) × (behind.store.pair.volumes ≡ before.store.pair.volumes)
 
   abbrev pub IsStill : Device V G → Device V G → Type 0
   IsStill before behind = IsNow (device_of before) before behind
@@ -86,14 +87,30 @@ module _ {V : Type 0} {G : Ghosts V} where
   abbrev pub AskedBy : Talk (Option defs.EventEnd) → Subsystem V G → Option EventEnd → Subsystem V G → Device V G → Device V G → Type 0
   AskedBy talk old a new before behind = AskedWith (where_some a) talk (end_had behind.past a) old.pool before behind new.pool
 
-  -- no order is met yet that lends a device to another
+  -- The device of that number lends its volume, which becomes side B of the other. No call does that yet
+  pub record Joins (to from : ℕ) (y : DefinedDevice) (old new : Subsystem V G) : Type 0 where
+    pub before : Device V G
+    pub behind : Device V G
+    pub first : Device V G
+    pub second : Device V G
+    pub volume : V
+    pub stood : device_at old.devices.items from ≡ Some before
+    pub asked : (k : NoKeep) → Ran surely (λ _ m r _. r ≡ reply m) (lend contents y to) (outside (shared_view old.pool) before.store k) (device_of
+        behind) tt (record (outside (shared_view new.pool) behind.store k) { a = Some (G.view volume) })
+    pub gone : on_a behind.store ≡ None
+    pub other : device_at (put_at old.devices.items from behind) to ≡ Some first
+    pub joined : device_of second ≡ join (device_of first)
+    pub a : on_a second.store ≡ on_a first.store
+    pub b : on_b second.store ≡ Some volume
+    pub stands : new.devices.items ≡ put_at (put_at old.devices.items from behind) to second
+
   abbrev pub CameBy : OwnDeed → Subsystem V G → Option EventEnd → Subsystem V G → Type 0
   CameBy (Ends end) old a new = Answers a end × IsSame old new
   CameBy (Becomes d end) old a new = BecameBy d end old a new
   CameBy (Asks d talk) old a new = Changes d.store.device (AskedBy talk old a new) old.devices.items new.devices.items
   CameBy (Each pool f) old a new = Answers a Done × Swept f (with_pool old.pool pool) old.devices.items new.devices.items new.pool
   CameBy (Repairs pool) old a new = Answers a Done × (new.pool ≡ with_pool old.pool pool) × (new.devices.items ≡ old.devices.items)
-  CameBy (Lends x y) old a new = ⊥
+  CameBy (Lends x y) old a new = Answers a Done × Joins x.store.device y.store.device y old new
 
   -- an event came, with this answer
   abbrev pub Came : Event → Subsystem V G → Option EventEnd → Subsystem V G → Type 0
@@ -102,7 +119,9 @@ module _ {V : Type 0} {G : Ghosts V} where
   -- The order for which a volume is handed in
 
   abbrev pub IsReplaced : Side → V → Device V G → Device V G → Type 0
-  IsReplaced side volume before behind = (device_of behind ≡ replace (device_of before) side) × (behind.store.volume ≡ volume)
+  IsReplaced side volume before behind =
+      (device_of behind ≡ replace (device_of before) side) × (volume_of behind.store.pair.volumes side ≡ Some volume)
+      × (other_of behind.store.pair.volumes side ≡ other_of before.store.pair.volumes side)
 
   -- refused, it drops the volume
   abbrev pub ReplacedBy : ℕ → Side → V → Option OrderFault → Subsystem V G → EventEnd → Subsystem V G → Type 0

@@ -1,4 +1,4 @@
-ghost use Rattle.std.specs.Prelude.{◌≡◌, IfOk, IfSome, IsSome, None, OnErr, Some, false, true};
+ghost use Rattle.std.specs.Prelude.{◌≡◌, IfOk, IfSome, IsSome, None, OnErr, Some, false, is_some, true};
 ghost use Rattle.device_outside.specs.Lists.{is_in};
 ghost use Rattle.device_outside.specs.Outside.{where_ok};
 ghost use Rattle.plain_defs.specs.History.{is_path_of};
@@ -52,6 +52,7 @@ impl<V: Volume> Subsystem<V> {
     pub(crate) fn command_at(&mut self, d: DeviceNo) -> Result<Stepped, NoMemory>
         requires here { is_in d (numbers_of self.old.devices.items) ≡ true }
         requires running { IfSome (device_at self.old.devices.items d) (λ x. IsSome x.past.running) }
+        requires whole { IfSome (device_at self.old.devices.items d) (λ x. is_some (device_of x).store.half ≡ false) }
         ensures numbers { numbers_of self.new.devices.items ≡ numbers_of self.old.devices.items }
         ensures asked { Changes d (λ x y. AskedWith (where_ok result) (command contents (device_of x)) (step_had y.past result) self.old.pool x y self.new.pool) self.old.devices.items self.new.devices.items }
     {
@@ -69,7 +70,8 @@ impl<V: Volume> Subsystem<V> {
     }
 
     pub(crate) fn background_at(&mut self, d: DeviceNo) -> Result<Did, NoMemory>
-        requires { is_in d (numbers_of self.old.devices.items) ≡ true }
+        requires whole { IfSome (device_at self.old.devices.items d) (λ x. is_some (device_of x).store.half ≡ false) }
+        requires here { is_in d (numbers_of self.old.devices.items) ≡ true }
         ensures numbers { numbers_of self.new.devices.items ≡ numbers_of self.old.devices.items }
         ensures asked { Changes d (λ x y. AskedWith (where_ok result) (background contents (device_of x)) (had (λ did. did) result) self.old.pool x y self.new.pool) self.old.devices.items self.new.devices.items }
     {

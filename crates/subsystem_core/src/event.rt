@@ -103,28 +103,30 @@ impl<V: Volume> Subsystem<V> {
         EventEnd::Done
     }
 
-    /// Side B is held. No device has one yet.
+    /// Side B is held.
     pub fn suspend(&mut self, d: DeviceNo) -> EventEnd
         requires { is_in d (numbers_of self.old.devices.items) ≡ true }
         ensures numbers { numbers_of self.new.devices.items ≡ numbers_of self.old.devices.items }
         ensures came { Came (Event.Suspend d) self.old (Some result) self.new }
     {
-        match suspend_fault(self.device(d)) {
-            Some(fault) => EventEnd::Refused(fault),
-            None => unreachable!(),
+        if let Some(fault) = suspend_fault(self.device(d)) {
+            return EventEnd::Refused(fault);
         }
+        self.hold_at(d);
+        EventEnd::Done
     }
 
-    /// Side B isn't held any more. No device has one yet.
+    /// Side B isn't held any more.
     pub fn resume(&mut self, d: DeviceNo) -> EventEnd
         requires { is_in d (numbers_of self.old.devices.items) ≡ true }
         ensures numbers { numbers_of self.new.devices.items ≡ numbers_of self.old.devices.items }
         ensures came { Came (Event.Resume d) self.old (Some result) self.new }
     {
-        match resume_fault(self.device(d)) {
-            Some(fault) => EventEnd::Refused(fault),
-            None => unreachable!(),
+        if let Some(fault) = resume_fault(self.device(d)) {
+            return EventEnd::Refused(fault);
         }
+        self.resume_at(d);
+        EventEnd::Done
     }
 }
 

@@ -1,8 +1,9 @@
 ghost use Rattle.std.specs.Prelude.{◌≡◌, ◌*◌, IfOk, IfSome, IsOk, None, false, true};
 ghost use Rattle.device_outside.specs.Lists.{is_in};
+ghost use Rattle.device_defs.specs.Orders.{hold, resume};
 ghost use Rattle.device_core.specs.State.{device_of};
 ghost use Rattle.subsystem_defs.specs.Refusals.{replace_fault};
-ghost use Rattle.subsystem_core.specs.Comes.{Changes, IsReplaced, Replaced};
+ghost use Rattle.subsystem_core.specs.Comes.{Changes, IsNow, IsReplaced, Replaced};
 ghost use Rattle.subsystem_core.specs.Devices.{device_at, numbers_of};
 
 use crate::refusal::replace_fault;
@@ -22,6 +23,28 @@ impl<V: Volume> Subsystem<V> {
     {
         let at = self.place(d);
         let _old = self.devices[at].replace(side, volume);
+    }
+
+    /// Side B of a device is held.
+    pub(crate) fn hold_at(&mut self, d: DeviceNo)
+        requires { is_in d (numbers_of self.old.devices.items) ≡ true }
+        ensures numbers { numbers_of self.new.devices.items ≡ numbers_of self.old.devices.items }
+        ensures pool { self.new.pool ≡ self.old.pool }
+        ensures held { Changes d (λ x y. IsNow (hold (device_of x)) x y) self.old.devices.items self.new.devices.items }
+    {
+        let at = self.place(d);
+        self.devices[at].hold();
+    }
+
+    /// Side B of a device isn't held any more.
+    pub(crate) fn resume_at(&mut self, d: DeviceNo)
+        requires { is_in d (numbers_of self.old.devices.items) ≡ true }
+        ensures numbers { numbers_of self.new.devices.items ≡ numbers_of self.old.devices.items }
+        ensures pool { self.new.pool ≡ self.old.pool }
+        ensures resumed { Changes d (λ x y. IsNow (resume (device_of x)) x y) self.old.devices.items self.new.devices.items }
+    {
+        let at = self.place(d);
+        self.devices[at].resume();
     }
 
     /// A new volume of empty tracks, 15 for each cylinder, in place of a failed side's. Takes no memory, so that it is always had.

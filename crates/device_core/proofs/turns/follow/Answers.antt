@@ -1,8 +1,11 @@
-use Rattle.std.proofs.Common.{◌∙◌, refl, subst}
+use Rattle.std.proofs.Common.{◌≡◌, ◌∙◌, refl, subst, ap, sym}
+use Rattle.std.specs.Prelude.{is_some}
+use Rattle.event_notes.specs.Loose.{weight}
+use Rattle.device_core.proofs.Halves.{none_by}
 use Rattle.device_outside.proofs.Runs.{ran_weaker}
 use Rattle.device_defs.specs.Contents.{contents}
 use Rattle.device_store.specs.State.{state_of}
-use Rattle.device_core.specs.Turns.{Left, GoesOn, KeepsLoose}
+use Rattle.device_core.specs.Turns.{Left, GoesOn, KeepsWeight, is_half_over}
 use Rattle.device_core.proofs.turns.follow.Goals as goal
 use Rattle.std.proofs.Common.{◌*◌}
 use Rattle.device_core.proofs.Rests.{rest_first, rest_on, rest_over, rest_lacked, rest_none}
@@ -18,6 +21,7 @@ loop-turn-init g c = record {
   number = refl;
   cylinders = refl;
   loose = refl;
+  none = c.requires.none;
   takes = c.requires.takes;
   at = c.requires.at;
   hand = record { again = refl };
@@ -30,12 +34,13 @@ pub loop-turn-preserved : goal.loop-turn-preserved
 loop-turn-preserved g c =
     let goes = subst (λ n. GoesOn n c.loop-turn.chain c.look.new.chain c.in-Ok.step) c.loop-turn.invariant.cylinders c.in-Ok.ensures.goes in
     let on = subst (λ x. GoesOn c.args.store.now.cylinders c.loop-turn.chain c.look.new.chain x) c.in-On.is goes in
-    let same = subst (λ x. KeepsLoose c.loop-turn.store.loose c.look.new.store.loose x) c.in-On.is c.in-Ok.ensures.on in
+    let same = subst (λ x. KeepsWeight (weight c.loop-turn.store.loose) c.look.new.store.loose x) c.in-On.is c.in-Ok.ensures.on in
     let ran = rw c.in-On.is at c.in-Ok.ensures.run in
     record {
       number = c.in-Ok.ensures.fixed.0 ∙ c.loop-turn.invariant.number;
       cylinders = c.in-Ok.ensures.fixed.1 ∙ c.loop-turn.invariant.cylinders;
       loose = same ∙ c.loop-turn.invariant.loose;
+      none = none_by c.look.new.store.half (subst (λ x. is_some c.look.new.store.half ≡ is_half_over x) c.in-On.is c.in-Ok.ensures.half);
       takes = c.in-Ok.ensures.takes;
       at = on.0;
       hand = record { again = on.1.again ∙ c.loop-turn.invariant.hand.again };
@@ -72,3 +77,9 @@ returns-in-Over-clause-left g c =
 pub returns-clause-left : goal.returns-clause-left
 returns-clause-left g c =
     subst (λ n. Left n c.check.new.chain c.check.result) c.loop-turn.invariant.at.cylinders_are c.check.ensures.left
+
+pub returns-in-Over-clause-half : goal.returns-in-Over-clause-half
+returns-in-Over-clause-half g c = subst (λ x. is_some c.look.new.store.half ≡ is_half_over x) c.in-Over.is c.in-Ok.ensures.half
+
+pub returns-clause-half : goal.returns-clause-half
+returns-clause-half g c = ap is_some c.loop-turn.invariant.none ∙ sym c.check.ensures.half

@@ -1,4 +1,5 @@
-use Rattle.std.proofs.Common.{◌≡◌, ◌-◌, ◌*◌, ◌<◌}
+use Rattle.std.proofs.Common.{◌≡◌, ◌-◌, ◌*◌, ◌<◌, None}
+use Rattle.event_notes.specs.Loose.{weight}
 use Rattle.device_defs.specs.Command.{follow}
 use Rattle.device_defs.specs.Contents.{contents}
 use Rattle.device_store.specs.State.{state_of, outside, surely, Takes, Rest}
@@ -9,7 +10,8 @@ abbrev pub invariant-loop-turn : goal.invariant-loop-turn
 invariant-loop-turn g l = record {
   number : l.store.number ≡ l.fn.store.number;
   cylinders : l.store.cylinders ≡ l.fn.store.cylinders;
-  loose : l.store.loose ≡ l.fn.store.loose;
+  loose : weight l.store.loose ≡ weight l.fn.store.loose;
+  none : l.store.half ≡ None;
   takes : Takes g.K.Keep.takes l.keep l.store.number (l.store.cylinders * 15);
   at : IsAt l.fn.store.cylinders l.chain;
   hand : IsSameHand l.fn.chain l.chain;

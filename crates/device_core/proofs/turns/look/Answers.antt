@@ -1,4 +1,5 @@
-use Rattle.std.proofs.Common.{refl, ap, sym, subst, Some}
+use Rattle.std.proofs.Common.{◌∙◌, refl, ap, sym, subst, Some}
+use Rattle.std.specs.Prelude.{is_some}
 use Rattle.device_outside.specs.Outside.{done}
 use Rattle.device_outside.proofs.Runs.{ended, joined}
 use Rattle.device_defs.specs.Command.{Over, looked}
@@ -64,3 +65,12 @@ returns-in-BadTrack-clause-goes g c =
 pub image-requires-clause-last : goal.image-requires-clause-last
 image-requires-clause-last g c =
     let inside = rw c.requires.at.cylinders_are at c.usage_of-usage.ensures.last in inside
+
+pub returns-then-has-clause-half : goal.returns-then-has-clause-half
+returns-then-has-clause-half g c = ap is_some c.requires.none ∙ sym c.check.ensures.half
+
+pub returns-in-NoBytes-clause-half : goal.returns-in-NoBytes-clause-half
+returns-in-NoBytes-clause-half g c = ap is_some (c.in-Ok.ensures.half ∙ c.requires.none) ∙ sym c.check-in-NoBytes.ensures.half
+
+pub returns-in-BadTrack-clause-half : goal.returns-in-BadTrack-clause-half
+returns-in-BadTrack-clause-half g c = ap is_some (c.in-Ok.ensures.half ∙ c.requires.none) ∙ sym c.check_data.ensures.half

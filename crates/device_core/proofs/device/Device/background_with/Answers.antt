@@ -8,8 +8,9 @@ use Rattle.device_defs.specs.Device.{with_store, event_begun}
 use Rattle.device_defs.specs.Events.{background}
 use Rattle.device_defs.specs.Owed.{hear, ended}
 use Rattle.event_notes.specs.Loose.{loose_count, weight}
-use Rattle.device_store.specs.State.{state_of, outside_of}
+use Rattle.device_store.specs.State.{half_of, state_of, outside_of}
 use Rattle.device_store.proofs.Moves.{from_equal, weaker}
+use Rattle.device_core.proofs.Parts.{none_unmapped}
 use Rattle.device_core.specs.State.{device_of}
 use Rattle.device_core.proofs.Eventful.{event_run, begun_weight, fits_room}
 use Rattle.device_core.proofs.device.Device.background_with.Goals as goal
@@ -30,7 +31,11 @@ returns-clause-run g c =
     event_run d (λ e. and_then (work contents e.store) (λ s did. Done (with_store e s) did))
     (with_store z (state_of c.background-did.new.self)) (device_of c.close_event.new.self)
     (weaker r (from_equal (hear contents 960) c.begin_event.ensures.state
-    (ap (λ v. outside_of (g.P.Port.view c.args.port.now) (g.V.Volume.view v) c.args.keep.now) c.begin_event.ensures.volume) (c.hear.ensures.run c.args.keep.now)))
+    (ap (λ v. outside_of (g.P.Port.view c.args.port.now) g.V.Volume.view v c.args.keep.now) c.begin_event.ensures.volume) (c.hear.ensures.run c.args.keep.now)))
     (joined (λ s did. Done (with_store z s) did) c.background-did.ensures.run done)
     (weaker r (from_equal (λ n. ended contents n (state_of c.background-did.new.self)) c.waiting_count-before.ensures refl (c.close_event.ensures.run _)))
     c.close_event.ensures.device
+
+pub background-did-requires-clause-none : goal.background-did-requires-clause-none
+background-did-requires-clause-none g c =
+    c.hear.ensures.half ∙ c.begin_event.ensures.half ∙ none_unmapped half_of c.args.self.now.store.half c.requires.whole

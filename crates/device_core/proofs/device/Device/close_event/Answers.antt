@@ -3,6 +3,7 @@ use Rattle.event_notes.specs.Loose.{loose_count, weight}
 use Rattle.device_core.specs.Kept.{ActRoom}
 use Rattle.device_core.proofs.Acting.{less_room}
 use Rattle.device_core.proofs.Eventful.{acted_device, at_word_same}
+use Rattle.device_core.proofs.Halves.{count_of, waits_same}
 use Rattle.device_store.specs.State.{state_of}
 use Rattle.device_core.proofs.device.Device.close_event.Goals as goal
 
@@ -24,6 +25,8 @@ invariant_of-self-2 g c =
     record {
       at_word = at_word_same c.note_acts.new.self.running c.args.self.now.past.running _ _ c.note_acts.ensures.chain c.end_event.ensures.fixed.1 c.args.self.now.at_word;
       keeps = c.note_acts.ensures.keeps;
+      half_waits = λ one. waits_same c.note_acts.new.self.running c.args.self.now.past.running c.note_acts.ensures.chain c.note_acts.ensures.ends
+          (c.args.self.now.half_waits (ap count_of (sym c.end_event.ensures.half) ∙ one));
       act_room = subst (λ x. ActRoom (loose_count x.loose) c.note_acts.new.self) (sym c.end_event.ensures.loose)
           (c.note_acts.ensures.room (loose_count l.loose) (subst (λ n. ActRoom n c.args.self.now.past) whole c.requires.room));
     }

@@ -9,6 +9,7 @@ use Rattle.device_core.specs.Turns.{Left}
 use Rattle.device_core.specs.Words.{IsAtWord}
 use Rattle.device_core.proofs.Acting.{less_room}
 use Rattle.device_core.proofs.Eventful.{at_word_same}
+use Rattle.device_core.proofs.Halves.{counts_some, none_counts}
 use Rattle.device_core.proofs.Commands.{by_command, lacked_to, ended_to, same_chain, same_running, to_answer}
 use Rattle.device_core.proofs.Whole.{to_equal}
 use Rattle.device_core.proofs.device.Device.command_ready.Goals as goal
@@ -71,3 +72,15 @@ invariant_of-self-in-Ok-2-clause-act_room g c =
     c.turned.ensures.room (loose_count new.loose) (c.note_acts-in-Ok.ensures.room (loose_count new.loose)
     (less_room (loose_count new.loose + length acts) (w + 2) (record c.args.self.now.past { running = c.on_past.new.running }) le
     (c.requires.room.0, c.on_past.ensures.acts (w + 2) c.requires.room.1)))
+
+pub invariant_of-self-in-Err-clause-half_waits : goal.invariant_of-self-in-Err-clause-half_waits
+invariant_of-self-in-Err-clause-half_waits g c = λ one. absurd (none_counts c.on_past.new.store.half c.in-Err.ensures.same one)
+
+pub invariant_of-self-in-Ok-2-clause-half_waits : goal.invariant_of-self-in-Ok-2-clause-half_waits
+invariant_of-self-in-Ok-2-clause-half_waits g c =
+    let n = c.args.self.now.store.cylinders in
+    λ one. c.turned.ensures.waits n (sym c.in-Ok.ensures.half ∙ counts_some c.on_past.new.store.half one)
+    (same_chain (λ z. Left n z c.in-Ok.came) c.note_acts-in-Ok.new.self.running c.on_past.new.running c.note_acts-in-Ok.ensures.chain c.in-Ok.ensures.left)
+
+pub returns-in-Ok-clause-half : goal.returns-in-Ok-clause-half
+returns-in-Ok-clause-half g c = c.in-Ok.ensures.half ∙ sym c.turned.ensures.half

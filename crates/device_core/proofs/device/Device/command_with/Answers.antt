@@ -1,11 +1,14 @@
-use Rattle.std.proofs.Common.{true, false, refl, sym}
+use Rattle.std.proofs.Common.{◌∙◌, true, false, refl, sym, ap}
+use Rattle.std.specs.Prelude.{is_some, option_map}
+use Rattle.std.proofs.lemmas.Result.{IfOk-weaker, on_err_weaker}
 use Rattle.device_outside.proofs.Runs.{ended, tries}
 use Rattle.device_defs.specs.Command.{command, command_by}
 use Rattle.device_defs.specs.Contents.{contents}
 use Rattle.device_defs.specs.Device.{event}
-use Rattle.device_store.specs.State.{state_of}
+use Rattle.device_store.specs.State.{half_of, state_of}
 use Rattle.device_store.proofs.Moves.{had_ok, from_equal}
 use Rattle.device_core.proofs.Commands.{same_device}
+use Rattle.device_core.proofs.Parts.{mapped_some, none_unmapped}
 use Rattle.device_core.proofs.device.Device.command_with.Goals as goal
 
 pub returns-in-Err-clause-run : goal.returns-in-Err-clause-run
@@ -21,3 +24,14 @@ returns-clause-run g c =
     (from_equal (λ z. event contents z (λ y. command_by contents y y.history.running y.chain))
     (sym (same_device (state_of c.args.self.now.store) c.args.self.now.paths c.args.self.now.plans c.args.self.now.past c.reserve.new.self
     c.in-Ok.ensures.history c.in-Ok.ensures.chain)) refl c.command_event.ensures.run)
+
+pub command_event-requires-clause-whole : goal.command_event-requires-clause-whole
+command_event-requires-clause-whole g c = none_unmapped half_of c.args.self.now.store.half c.requires.whole
+
+pub returns-clause-half : goal.returns-clause-half
+returns-clause-half g c =
+    IfOk-weaker c.command_event.result _ _ (λ step is. mapped_some half_of c.command_event.new.self.store.half ∙ is) c.command_event.ensures.half
+
+pub returns-clause-same : goal.returns-clause-same
+returns-clause-same g c =
+    on_err_weaker c.command_event.result (λ is. ap (λ x. is_some (option_map half_of x)) is) c.command_event.ensures.same

@@ -28,7 +28,7 @@ returns-clause-run g c =
     event_run d (λ e. and_then (losing contents e.store c.args.loss) (λ s _. Done (with_store e s) tt))
     (with_store z (state_of c.lose.new.self)) (device_of c.close_event.new.self)
     (from_equal (hear contents 960) c.begin_event.ensures.state
-    (ap (λ v. outside_of (g.P.Port.view c.args.port.now) (g.V.Volume.view v) c.args.keep.now) c.begin_event.ensures.volume) (c.hear.ensures.run c.args.keep.now))
+    (ap (λ v. outside_of (g.P.Port.view c.args.port.now) g.V.Volume.view v c.args.keep.now) c.begin_event.ensures.volume) (c.hear.ensures.run c.args.keep.now))
     (joined (λ s _. Done (with_store z s) tt) (c.lose.ensures.run _) done)
     (from_equal (λ n. ended contents n (state_of c.lose.new.self)) c.waiting_count-before.ensures refl (c.close_event.ensures.run _))
     c.close_event.ensures.device

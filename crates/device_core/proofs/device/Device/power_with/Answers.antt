@@ -1,15 +1,12 @@
 use Rattle.std.proofs.Common.{refl, sym, ap, ◌∙◌}
-use Rattle.std.specs.Prelude.{option_map}
 use Rattle.device_outside.specs.Interaction.{Done, and_then}
-use Rattle.device_outside.specs.Outside.{done}
-use Rattle.device_outside.proofs.Runs.{ended}
+use Rattle.device_outside.proofs.Runs.{ended, joined}
 use Rattle.device_defs.specs.Contents.{contents}
-use Rattle.device_defs.specs.Cutting.{half_cut, power, powered_off}
+use Rattle.device_defs.specs.Cutting.{counts_one_by, half_cut, power, powered_off}
 use Rattle.device_defs.specs.Device.{event_begun}
 use Rattle.device_defs.specs.Owed as owed
 use Rattle.device_store.specs.State.{state_of, outside_of}
 use Rattle.device_store.proofs.Moves.{from_equal}
-use Rattle.device_core.specs.Kept.{chain_of, history_of}
 use Rattle.device_core.specs.State.{device_by, device_of}
 use Rattle.device_core.proofs.Eventful.{quiet_run}
 use Rattle.device_core.proofs.Powers.{off_is}
@@ -22,9 +19,13 @@ returns-clause-run g c =
     let off = device_by (state_of c.lose_power.new.self) c.new-self.result c.args.self.now.plans c.lose_power-2.new.self in
     quiet_run d (λ z. and_then (half_cut contents z.store z.store.half) (λ s _. Done (powered_off contents z s) tt))
     off (record off { store = state_of c.end_event.new.self })
+    (joined (λ s _. Done (powered_off contents (event_begun d) s) tt)
+    (from_equal (λ s. half_cut contents s s.half) c.begin_event.ensures.state
+    (ap (λ v. outside_of (g.P.Port.view c.args.port.now) g.V.Volume.view v c.args.keep.now) c.begin_event.ensures.volume) (c.cut_half.ensures.run _))
     (from_equal (λ i. i) refl
-    (ap (λ v. outside_of (g.P.Port.view c.args.port.now) (g.V.Volume.view v) c.args.keep.now) (c.lose_power.ensures.volume ∙ c.begin_event.ensures.volume))
-    (ended (ap (λ s. powered_off contents (record d { store = s }) s) (sym c.begin_event.ensures.state)
-    ∙ off_is c.begin_event.new.self c.lose_power.new.self c.args.self.now.past c.lose_power-2.new.self c.args.self.now.paths c.new-self.result
-    c.args.self.now.plans c.lose_power.ensures.state c.new-self.ensures c.lose_power-2.ensures.history c.lose_power-2.ensures.over) refl))
+    (ap (λ v. outside_of (g.P.Port.view c.args.port.now) g.V.Volume.view v c.cut_half.new.keep) c.lose_power.ensures.volume)
+    (ended (off_is (event_begun d).store c.cut_half.new.self c.lose_power.new.self c.args.self.now.past c.lose_power-2.new.self c.args.self.now.paths
+    c.new-self.result c.args.self.now.plans c.half_count-more.result
+    (sym (c.half_count-more.ensures.count ∙ ap (λ s. counts_one_by s.half) c.begin_event.ensures.state))
+    c.lose_power.ensures.state c.new-self.ensures c.lose_power-2.ensures.history c.lose_power-2.ensures.over) refl)))
     (from_equal (λ n. owed.ended contents n (state_of c.lose_power.new.self)) c.waiting_count-before.ensures refl (c.end_event.ensures.run _)) refl

@@ -1,6 +1,13 @@
-use Rattle.device_core.proofs.Resetting.{asks_nothing}
+use Rattle.std.proofs.Common.{◌∙◌, refl, sym}
+use Rattle.device_core.specs.State.{device_of}
+use Rattle.device_core.proofs.Resetting.{asks_nothing, reset_none}
 use Rattle.device_core.proofs.device.Device.reset_with.Goals as goal
+
+pub returns-then-has_used-clause-run : goal.returns-then-has_used-clause-run
+returns-then-has_used-clause-run g c =
+    λ p. asks_nothing p c.args.keep.now c.args.self.now.store c.reset_other.new.self.store c.reset_other.ensures.done c.reset_other.ensures.store
 
 pub returns-clause-run : goal.returns-clause-run
 returns-clause-run g c =
-    λ p. asks_nothing p c.args.keep.now c.args.self.now.store c.reset_path.new.self.store c.reset_path.ensures.done c.reset_path.ensures.store
+    λ p. asks_nothing p c.args.keep.now c.args.self.now.store c.args.self.now.store
+    (reset_none (device_of c.args.self.now) c.args.path (sym c.runs_on.ensures ∙ c.if-runs_on.false) (sym c.has_used.ensures ∙ c.if-has_used.false)) refl

@@ -1,8 +1,5 @@
-use Rattle.std.proofs.Common.{refl, ap}
-use Rattle.device_outside.proofs.Runs.{ended}
-use Rattle.device_core.proofs.Parts.{no_part}
+use Rattle.std.proofs.Common.{◌∙◌, refl, ap}
 use Rattle.device_defs.specs.Contents.{contents}
-use Rattle.device_defs.specs.Device.{event_begun}
 use Rattle.device_defs.specs.Events.{second, second_of}
 use Rattle.device_defs.specs.Owed as owed
 use Rattle.device_defs.specs.Owed.{hear}
@@ -12,13 +9,16 @@ use Rattle.device_core.specs.State.{device_of}
 use Rattle.device_core.proofs.Eventful.{event_run}
 use Rattle.device_core.proofs.device.Device.second_with.Goals as goal
 
+pub returns-clause-whole : goal.returns-clause-whole
+returns-clause-whole g c = c.end_event.ensures.half ∙ c.second_where-step.ensures.whole
+
 pub returns-clause-run : goal.returns-clause-run
 unfolding second
 returns-clause-run g c =
     let d = device_of c.args.self.now in
-    let z = record (event_begun d) { store = state_of c.hear.new.self } in
-    λ e is. event_run d (λ x. second_of contents x x.store.half) z (record z { store = state_of c.end_event.new.self })
+    λ e is. event_run d (λ x. second_of contents x x.store.half) (device_of c.second_where-step.new.self)
+    (record (device_of c.second_where-step.new.self) { store = state_of c.end_event.new.self })
     (from_equal (hear contents 960) c.begin_event.ensures.state
-    (ap (λ v. outside_of (g.P.Port.view c.args.port.now) (g.V.Volume.view v) c.args.keep.now) c.begin_event.ensures.volume) (c.hear.ensures.run c.args.keep.now))
-    (ended refl (no_part c.first_track.result e is c.first_track.ensures))
-    (from_equal (λ n. owed.ended contents n (state_of c.hear.new.self)) c.waiting_count-before.ensures refl (c.end_event.ensures.run _)) refl
+    (ap (λ v. outside_of (g.P.Port.view c.args.port.now) g.V.Volume.view v c.args.keep.now) c.begin_event.ensures.volume) (c.hear.ensures.run c.args.keep.now))
+    (c.second_where-step.ensures.run e is)
+    (from_equal (λ n. owed.ended contents n (state_of c.second_where-step.new.self.store)) c.waiting_count-before.ensures refl (c.end_event.ensures.run _)) refl

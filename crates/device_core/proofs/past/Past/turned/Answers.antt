@@ -1,8 +1,11 @@
-use Rattle.std.proofs.Common.{◌∙◌, refl, ap}
-use Rattle.std.specs.Prelude.{option_map}
+use Rattle.std.proofs.Common.{◌≡◌, ◌∙◌, true, false, refl, ap, subst}
+use Rattle.std.specs.Prelude.{option_map, IfSome}
+use Rattle.device_core.specs.Turns.{Left}
+use Rattle.device_core.proofs.Halves.{half_waits, word_held}
 use Rattle.device_defs.specs.declared.answers.Stepped.TheVariants as answers
 use Rattle.device_core.proofs.Pasts.{some_open, keeps_ended}
 use Rattle.device_core.proofs.Endings.{last_is, last_running, turned_over, turned_checked}
+use Rattle.device_core.specs.Turns.{is_half}
 use Rattle.device_core.proofs.past.Past.turned.Goals as goal
 
 pub returns-then-over-clause-state : goal.returns-then-over-clause-state
@@ -45,3 +48,21 @@ close-requires-in-Checks-clause-keeps c =
 pub returns-else-over-clause-keeps : goal.returns-else-over-clause-keeps
 returns-else-over-clause-keeps c =
     keeps_ended c.args.self.now c.add_end.new.running c.in-Ends.end c.requires.keeps c.requires.running c.add_end.ensures.open c.add_end.ensures.ends
+
+pub returns-in-HalfOpen-clause-word : goal.returns-in-HalfOpen-clause-word
+returns-in-HalfOpen-clause-word c =
+    λ n left. word_held c.args.self.now.running n c.in-HalfOpen.t
+    (subst (λ x. IfSome c.args.self.now.running (λ r. Left n r.chain x)) c.in-HalfOpen.is left)
+
+pub returns-in-HalfOpen-clause-waits : goal.returns-in-HalfOpen-clause-waits
+returns-in-HalfOpen-clause-waits c =
+    λ n half left. half_waits c.args.self.now.running n c.args.came half c.requires.running c.requires.ends left
+
+pub returns-then-over-clause-waits : goal.returns-then-over-clause-waits
+returns-then-over-clause-waits c = λ n half left. let no : false ≡ true = subst (λ x. is_half x ≡ true) c.in-Ends.is half in absurd (cc)
+
+pub returns-else-over-clause-waits : goal.returns-else-over-clause-waits
+returns-else-over-clause-waits c = λ n half left. let no : false ≡ true = subst (λ x. is_half x ≡ true) c.in-Ends.is half in absurd (cc)
+
+pub returns-in-Checks-clause-waits : goal.returns-in-Checks-clause-waits
+returns-in-Checks-clause-waits c = λ n half left. let no : false ≡ true = subst (λ x. is_half x ≡ true) c.in-Checks.is half in absurd (cc)

@@ -8,14 +8,14 @@ use Rattle.device_store.proofs.Moves.{from_equal}
 use Rattle.device_store.proofs.store.DeviceStore.clean_image.Goals as goal
 
 pub returns-then-is_bypass-clause-run : goal.returns-then-is_bypass-clause-run
-returns-then-is_bypass-clause-run g c = λ k. rw (← c.is_bypass.ensures, c.if-is_bypass.true) (c.miss.ensures.run k)
+returns-then-is_bypass-clause-run g c = rw (← c.is_bypass.ensures, c.if-is_bypass.true) c.miss.ensures.run
 
 pub returns-then-touch-clause-run : goal.returns-then-touch-clause-run
 returns-then-touch-clause-run g c =
-    λ k. rw (← c.is_bypass.ensures, c.if-is_bypass.false) (asks (rw c.if-touch.true at c.touch.ensures) done)
+    rw (← c.is_bypass.ensures, c.if-is_bypass.false) (asks (rw c.if-touch.true at c.touch.ensures) done)
 
 pub returns-clause-run : goal.returns-clause-run
 returns-clause-run g c =
-    λ k. rw (← c.is_bypass.ensures, c.if-is_bypass.false) (asks (rw c.if-touch.false at c.touch.ensures)
+    rw (← c.is_bypass.ensures, c.if-is_bypass.false) (asks (rw c.if-touch.false at c.touch.ensures)
     (from_equal (λ z. miss contents z c.args.usage.now c.args.t) c.forget.ensures.state
-    (ap (λ x. outside_of (g.P.Port.view c.touch.new.self) (g.V.Volume.view x) k) c.forget.ensures.volume) (c.miss-2.ensures.run k)))
+    (ap (λ x. outside_of (g.P.Port.view c.touch.new.self) g.V.Volume.view x c.args.keep.now) c.forget.ensures.volume) c.miss-2.ensures.run))

@@ -1,7 +1,9 @@
-use Rattle.std.proofs.Common.{refl, sym, true, false, Some}
+use Rattle.std.proofs.Common.{ap, refl, sym, true, false, Some}
 use Rattle.device_outside.specs.Interaction.{Done}
 use Rattle.device_outside.specs.Outside.{done}
 use Rattle.device_outside.proofs.Runs.{tells, joined, ran_weaker, ended}
+use Rattle.device_store.specs.State.{outside_of}
+use Rattle.device_store.proofs.Moves.{lands}
 use Rattle.device_store.proofs.store.DeviceStore.framed_loose.Goals as goal
 
 pub returns-in-Err-clause-run : goal.returns-in-Err-clause-run
@@ -9,5 +11,5 @@ returns-in-Err-clause-run g c = λ u first. tells false c.in-Err.ensures.moves t
 
 pub returns-in-Ok-clause-run : goal.returns-in-Ok-clause-run
 returns-in-Ok-clause-run g c = λ u first.
-    tells true c.in-Ok.ensures.moves refl (rw c.edit_loose.ensures.volume
+    tells true c.in-Ok.ensures.moves refl (lands (ap (λ x. outside_of (g.P.Port.view c.args.port.now) g.V.Volume.view x c.tell_frame.new.keep) (sym c.edit_loose.ensures.volume))
     (joined (λ z took. Done z (Some took)) (ended (sym (c.edit_loose.ensures.state c.args.edit)) refl) done))

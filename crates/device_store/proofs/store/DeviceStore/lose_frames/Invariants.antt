@@ -10,7 +10,8 @@ abbrev pub invariant-loop-t : goal.invariant-loop-t
 invariant-loop-t g l = record {
   number : l.self.number ≡ l.fn.self.number;
   cylinders : l.self.cylinders ≡ l.fn.self.cylinders;
-  volume : l.self.volume ≡ l.fn.self.volume;
+  volume : l.self.pair.volumes ≡ l.fn.self.pair.volumes;
+  half : l.self.half ≡ l.fn.self.half;
   weight : weight l.self.loose ≡ weight l.fn.self.loose;
   firm : (t : ℕ) → is_loose (state_of l.self) t ≡ false;
   state : state_of l.self ≡ over l.t (λ t z. settled contents (without_frame z t) t) (state_of l.fn.self);

@@ -6,6 +6,7 @@ use Rattle.device_defs.specs.Store.{has_loose, is_loose}
 use Rattle.device_store.specs.State.{state_of}
 use Rattle.device_store.proofs.Losing.{none_marked, no_marks}
 use Rattle.device_store.proofs.Loosed.{some_lost, none_lost}
+use Rattle.device_store.proofs.Halved.{still_firm}
 use Rattle.device_store.proofs.store.DeviceStore.lose_loose.Goals as goal
 
 pub returns-then-any-clause-state : goal.returns-then-any-clause-state
@@ -25,3 +26,7 @@ returns-then-any-clause-firm g c = λ t. rw c.lose.ensures.loose (no_marks _ t)
 
 pub returns-else-any-clause-firm : goal.returns-else-any-clause-firm
 returns-else-any-clause-firm g c = λ t. none_marked c.args.self.now.loose.loose (sym c.any.ensures ∙ c.if-any.false) t
+
+pub invariant_of-self-clause-half_firm : goal.invariant_of-self-clause-half_firm
+invariant_of-self-clause-half_firm g c =
+    still_firm c.args.self.now.loose.loose _ c.args.self.now.half (λ q e. rw c.lose.ensures.loose (no_marks _ q)) c.args.self.now.half_firm

@@ -7,9 +7,9 @@ use Rattle.device_defs.specs.Image.{missed}
 
 pub returns-then-got-clause-run : goal.returns-then-got-clause-run
 returns-then-got-clause-run g c =
-    λ k. joined (λ z got. missed contents c.args.usage.now c.args.t z got got.bytes) (weaker c.deliver.result (c.level_bytes-got.ensures.run _ _))
-    (rw c.if-got.true (c.deliver.ensures.run k))
+    joined (λ z got. missed contents c.args.usage.now c.args.t z got got.bytes) (weaker c.deliver.result (c.level_bytes-got.ensures.run _))
+    (rw c.if-got.true (c.deliver.ensures.run _))
 
 pub returns-clause-run : goal.returns-clause-run
 returns-clause-run g c =
-    λ k. joined (λ z got. missed contents c.args.usage.now c.args.t z got got.bytes) (c.level_bytes-got.ensures.run _ _) (rw c.if-got.false done)
+    joined (λ z got. missed contents c.args.usage.now c.args.t z got got.bytes) (c.level_bytes-got.ensures.run _) (rw c.if-got.false done)

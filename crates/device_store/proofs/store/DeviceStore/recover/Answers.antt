@@ -12,16 +12,16 @@ use Rattle.device_store.proofs.store.DeviceStore.recover.Goals as goal
 pub returns-then-has-clause-run : goal.returns-then-has-clause-run
 returns-then-has-clause-run g c =
     from_equal (λ i. i) (sym (recover_framed (state_of c.args.self.now) c.args.t _ (sym c.has.ensures ∙ c.if-has.true))) refl
-    (tries true refl (joined (λ z e. Done z (Some e)) c.save_frame.ensures.run done))
+    c.save_frame.ensures.run
 
 pub returns-then-got-clause-run : goal.returns-then-got-clause-run
 returns-then-got-clause-run g c =
     from_equal (λ i. i) (sym (recover_bare (state_of c.args.self.now) c.args.t _ (sym c.has.ensures ∙ c.if-has.false))) refl
-    (joined (λ z got. recovered_bytes contents c.args.t z got got.bytes) (weaker c.recover_bytes.result (c.level_bytes-got.ensures.run _ _))
+    (joined (λ z got. recovered_bytes contents c.args.t z got got.bytes) (weaker c.recover_bytes.result (c.level_bytes-got.ensures.run _))
     (rw c.if-got.true c.recover_bytes.ensures.run))
 
 pub returns-clause-run : goal.returns-clause-run
 returns-clause-run g c =
     from_equal (λ i. i) (sym (recover_bare (state_of c.args.self.now) c.args.t _ (sym c.has.ensures ∙ c.if-has.false))) refl
-    (joined (λ z got. recovered_bytes contents c.args.t z got got.bytes) (c.level_bytes-got.ensures.run _ _)
+    (joined (λ z got. recovered_bytes contents c.args.t z got got.bytes) (c.level_bytes-got.ensures.run _)
     (rw (c.if-got.false, c.did.ensures) done))

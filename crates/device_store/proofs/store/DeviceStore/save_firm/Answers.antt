@@ -11,17 +11,17 @@ use Rattle.device_store.proofs.Moves.{from_equal}
 use Rattle.device_store.proofs.Writes.{same_image}
 use Rattle.device_store.proofs.store.DeviceStore.save_firm.Goals as goal
 
-pub returns-then-written-clause-run : goal.returns-then-written-clause-run
-returns-then-written-clause-run g c =
+pub returns-in-Whole-clause-run : goal.returns-in-Whole-clause-run
+returns-in-Whole-clause-run g c =
     let s = state_of c.args.self.now in
     let y = state_of c.write_frame-written.new.self in
-    let same = same_image s y c.args.t (sym (c.write_frame-written.ensures.kept c.if-written.true)) c.requires.framed in
+    let same = same_image s y c.args.t (sym (c.write_frame-written.ensures.kept c.in-Whole.is)) c.requires.framed in
     λ k was. joined (λ x w. saved_by contents c.args.t (frame_in s c.args.t) c.args.done None was w.fault x w.took) (c.write_frame-written.ensures.run _ k)
-    (rw (c.if-written.true, c.did.ensures) (joined (λ x _. Done x (did c.write_frame-written.result.fault c.args.done))
+    (rw (c.in-Whole.is, c.did.ensures) (joined (λ x _. Done x (did c.write_frame-written.result.fault c.args.done))
     (from_equal (λ i. write_done contents y c.args.t i false) (sym same) refl (c.frame_done.ensures.run k)) done))
 
-pub returns-clause-run : goal.returns-clause-run
-returns-clause-run g c =
+pub returns-in-Unwritten-clause-run : goal.returns-in-Unwritten-clause-run
+returns-in-Unwritten-clause-run g c =
     let s = state_of c.args.self.now in
     λ k was. joined (λ x w. saved_by contents c.args.t (frame_in s c.args.t) c.args.done None was w.fault x w.took) (c.write_frame-written.ensures.run _ k)
-    (rw (c.if-written.false, c.did-2.ensures) done)
+    (rw (c.in-Unwritten.is, c.did-in-Unwritten.ensures) done)

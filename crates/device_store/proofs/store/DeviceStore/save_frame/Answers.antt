@@ -1,23 +1,32 @@
-use Rattle.std.proofs.Common.{refl, sym, ap, None}
+use Rattle.std.proofs.Common.{◌≡◌, ◌∙◌, ap, refl, sym, true, false, Bool, List, Some, None}
+use Rattle.std.specs.Prelude.{is_some, not, option_map, if◌then◌else◌}
+use Rattle.ckd_types.specs.declared.paths.Side.TheVariants.{A, B}
+use Rattle.ckd_types.specs.Parameters.{is_bypass}
 use Rattle.ckd_types.specs.Track.{track_bytes}
-use Rattle.device_outside.specs.Interaction.{and_then}
-use Rattle.device_outside.proofs.Runs.{joined}
-use Rattle.device_defs.specs.Background.{saved_by}
+use Rattle.device_outside.specs.Interaction.{Done, and_then}
+use Rattle.device_outside.specs.Outside.{done}
+use Rattle.device_outside.proofs.Runs.{asks, ended, joined, tells, tries}
+use Rattle.device_defs.specs.Background.{copied, copy_by, copy_first, copy_read, did, other, saved_by, saving}
 use Rattle.device_defs.specs.Contents.{contents}
-use Rattle.device_defs.specs.Writing.{write_first}
+use Rattle.device_defs.specs.declared.answers.Did.TheVariants.{Fault}
+use Rattle.device_defs.specs.declared.answers.Took.TheVariants.{Opened, Unwritten, Whole}
+use Rattle.device_defs.specs.Editing.{through, through_by, whole}
+use Rattle.device_defs.specs.Losses.{call_failed, settled}
+use Rattle.device_defs.specs.Store.{OfCommand, frame_at, has_level, with_stale}
+use Rattle.device_defs.specs.Writing.{opened, write_done, write_first, write_second}
 use Rattle.device_store.specs.Looks.{frame_in}
-use Rattle.device_store.specs.State.{state_of}
-use Rattle.device_store.proofs.Moves.{from_equal}
-use Rattle.device_store.proofs.Writes.{same_image}
+use Rattle.device_store.specs.State.{outside_of, state_of, with_pair}
+use Rattle.device_store.proofs.Moves.{from_equal, had_ok, lands, weaker}
+use Rattle.device_store.proofs.Writes.{clean_is, same_image}
 use Rattle.device_store.proofs.store.DeviceStore.save_frame.Goals as goal
 
-pub returns-clause-run : goal.returns-clause-run
-returns-clause-run g c =
-    let s = state_of c.args.self.now in
-    let z = state_of c.firm_first.new.self in
-    let same = same_image s z c.args.t (sym c.firm_first.ensures.frames) c.requires.framed in
-    joined (λ y was. and_then (write_first contents y c.args.t (track_bytes (frame_in s c.args.t).track))
-    (λ x w. saved_by contents c.args.t (frame_in s c.args.t) c.args.done None was w.fault x w.took)) (c.firm_first.ensures.run _)
-    (from_equal (λ i. and_then (write_first contents z c.args.t (track_bytes i.track))
-    (λ x w. saved_by contents c.args.t i c.args.done None c.firm_first.result w.fault x w.took)) (sym same) refl
-    (c.save_firm.ensures.run _ c.firm_first.result))
+pub returns-then-not-is_paired-clause-run : goal.returns-then-not-is_paired-clause-run
+returns-then-not-is_paired-clause-run g c = tries true refl (joined (λ z e. Done z (Some e)) c.save_alone.ensures.run done)
+
+pub returns-in-Err-clause-run : goal.returns-in-Err-clause-run
+returns-in-Err-clause-run g c = tries false tt done
+
+pub returns-in-Ok-clause-run : goal.returns-in-Ok-clause-run
+returns-in-Ok-clause-run g c =
+    tries true refl (joined (λ z e. Done z (Some e))
+    (from_equal (λ i. saving contents (state_of c.args.self.now) c.args.t i c.args.done None) (c.in-Ok.ensures ∙ c.frame_image.ensures) refl c.save_read.ensures.run) done)

@@ -1,24 +1,28 @@
-use Rattle.std.proofs.Common.{refl, sym, false}
+use Rattle.std.proofs.Common.{◌≡◌, ◌∙◌, ap, refl, sym, true, false, Bool, List, Some, None}
+use Rattle.std.specs.Prelude.{is_some, not, option_map, if◌then◌else◌}
+use Rattle.ckd_types.specs.declared.paths.Side.TheVariants.{A, B}
+use Rattle.ckd_types.specs.Parameters.{is_bypass}
 use Rattle.ckd_types.specs.Track.{track_bytes}
 use Rattle.device_outside.specs.Interaction.{Done, and_then}
 use Rattle.device_outside.specs.Outside.{done}
-use Rattle.device_outside.proofs.Runs.{joined}
-use Rattle.device_defs.specs.Background.{did, saved_by}
+use Rattle.device_outside.proofs.Runs.{asks, ended, joined, tells, tries}
+use Rattle.device_defs.specs.Background.{copied, copy_by, copy_first, copy_read, did, other, saved_by, saving}
 use Rattle.device_defs.specs.Contents.{contents}
-use Rattle.device_defs.specs.Writing.{write_first}
+use Rattle.device_defs.specs.declared.answers.Did.TheVariants.{Fault}
+use Rattle.device_defs.specs.declared.answers.Took.TheVariants.{Opened, Unwritten, Whole}
+use Rattle.device_defs.specs.Editing.{through, through_by, whole}
+use Rattle.device_defs.specs.Losses.{call_failed, settled}
+use Rattle.device_defs.specs.Store.{OfCommand, frame_at, has_level, with_stale}
+use Rattle.device_defs.specs.Writing.{opened, write_done, write_first, write_second}
+use Rattle.device_store.specs.Looks.{frame_in}
+use Rattle.device_store.specs.State.{outside_of, state_of, with_pair}
+use Rattle.device_store.proofs.Moves.{from_equal, had_ok, lands, weaker}
+use Rattle.device_store.proofs.Writes.{clean_is, same_image}
 use Rattle.device_store.proofs.store.DeviceStore.save_read.Goals as goal
-
-pub returns-then-written-clause-run : goal.returns-then-written-clause-run
-returns-then-written-clause-run g c =
-    joined (λ y was. and_then (write_first contents y c.args.t (track_bytes c.args.image.track))
-    (λ x w. saved_by contents c.args.t c.args.image c.args.done c.args.fault was w.fault x w.took)) (c.firm_first.ensures.run _)
-    (joined (λ x w. saved_by contents c.args.t c.args.image c.args.done c.args.fault c.firm_first.result w.fault x w.took) (c.write_first-written.ensures.run _ _)
-    (rw (c.if-written.true, c.did-then-written.ensures, c.did.ensures) (joined (λ x _. Done x (did c.args.fault (did c.write_first-written.result.fault c.args.done)))
-    (c.write_done.ensures.run _) done)))
 
 pub returns-clause-run : goal.returns-clause-run
 returns-clause-run g c =
     joined (λ y was. and_then (write_first contents y c.args.t (track_bytes c.args.image.track))
-    (λ x w. saved_by contents c.args.t c.args.image c.args.done c.args.fault was w.fault x w.took)) (c.firm_first.ensures.run _)
-    (joined (λ x w. saved_by contents c.args.t c.args.image c.args.done c.args.fault c.firm_first.result w.fault x w.took) (c.write_first-written.ensures.run _ _)
-    (rw (c.if-written.false, c.did-3.ensures, c.did-2.ensures) done))
+    (λ x w. saved_by contents c.args.t c.args.image c.args.done c.args.fault was w.fault x w.took)) (c.firm_first-was_loose.ensures.run _)
+    (joined (λ x w. saved_by contents c.args.t c.args.image c.args.done c.args.fault c.firm_first-was_loose.result w.fault x w.took) (c.write_first-written.ensures.run _)
+    (rw c.did.ensures (c.saved_by.ensures.run _ c.args.fault)))

@@ -1,15 +1,10 @@
-use Rattle.std.proofs.Common.{refl}
+use Rattle.std.proofs.Common.{◌∙◌, sym}
+use Rattle.device_store.specs.State.{state_of}
+use Rattle.device_store.proofs.Settling.{goes, stands}
 use Rattle.device_store.proofs.store.DeviceStore.settle.Goals as goal
-use Rattle.device_defs.specs.Losses.{settled}
 
-pub returns-then-has-clause-state : goal.returns-then-has-clause-state
-unfolding settled
-returns-then-has-clause-state g c = rw (← c.has.ensures, c.if-has.true) refl
-
-pub returns-then-is_level-clause-state : goal.returns-then-is_level-clause-state
-unfolding settled
-returns-then-is_level-clause-state g c = rw (← c.has.ensures, c.if-has.false, ← c.is_level.ensures, c.if-is_level.true) refl
+pub returns-then-stands-clause-state : goal.returns-then-stands-clause-state
+returns-then-stands-clause-state g c = sym (stands (state_of c.args.self.now) c.args.t (sym c.stands.ensures ∙ c.if-stands.true))
 
 pub returns-clause-state : goal.returns-clause-state
-unfolding settled
-returns-clause-state g c = rw (← c.has.ensures, c.if-has.false, ← c.is_level.ensures, c.if-is_level.false) c.keep_or_lose.ensures.state
+returns-clause-state g c = c.keep_or_lose.ensures.state ∙ sym (goes (state_of c.args.self.now) c.args.t (sym c.stands.ensures ∙ c.if-stands.false))

@@ -1,11 +1,11 @@
-use Rattle.std.proofs.Common.{◌∙◌, refl, sym}
+use Rattle.std.proofs.Common.{◌≡◌, ◌∙◌, ◌*◌, refl, sym, arith}
 use Rattle.device_outside.specs.Outside.{done}
 use Rattle.device_outside.proofs.Runs.{joined}
 use Rattle.device_defs.specs.Contents.{contents}
-use Rattle.device_defs.specs.Losses.{firm_told, settled}
+use Rattle.device_defs.specs.Losses.{all_firm_told, firm_told, over, settled_but}
 use Rattle.device_store.specs.State.{state_of}
 use Rattle.device_store.proofs.Moves.{from_equal}
-use Rattle.device_store.proofs.Sweeps.{sweep_more, sweep_none, at_settled}
+use Rattle.device_store.proofs.Sweeps.{sweep_more, sweep_none, at_settled_but}
 use Rattle.device_store.proofs.store.DeviceStore.settle_all.Goals as goal
 
 pub loop-t-init : goal.loop-t-init
@@ -13,20 +13,30 @@ loop-t-init g c = record {
   number = refl;
   cylinders = refl;
   volume = refl;
+  half = refl;
   weight = refl;
+  firm = λ q e. e;
   takes = c.requires.takes;
-  ran = λ p. from_equal (λ i. i) (sym (sweep_none contents (λ t z. settled contents z t) (state_of c.args.self.now))) refl done;
+  ran = λ p. from_equal (λ i. i) (sym (sweep_none contents (settled_but contents c.args.writing.now) (state_of c.args.self.now))) refl done;
 }
 
 pub loop-t-preserved : goal.loop-t-preserved
 loop-t-preserved g c = record {
-  number = c.settle_told.ensures.fixed.0 ∙ c.loop-t.invariant.number;
-  cylinders = c.settle_told.ensures.fixed.1 ∙ c.loop-t.invariant.cylinders;
-  volume = c.settle_told.ensures.volume ∙ c.loop-t.invariant.volume;
-  weight = c.settle_told.ensures.weight ∙ c.loop-t.invariant.weight;
-  takes = c.settle_told.ensures.takes;
+  number = c.settle_other.ensures.fixed.0 ∙ c.loop-t.invariant.number;
+  cylinders = c.settle_other.ensures.fixed.1 ∙ c.loop-t.invariant.cylinders;
+  volume = c.settle_other.ensures.volume ∙ c.loop-t.invariant.volume;
+  half = c.settle_other.ensures.half ∙ c.loop-t.invariant.half;
+  weight = c.settle_other.ensures.weight ∙ c.loop-t.invariant.weight;
+  firm = λ q e. c.settle_other.ensures.firm q (c.loop-t.invariant.firm q e);
+  takes = c.settle_other.ensures.takes;
   ran = λ p. from_equal (λ i. i)
-      (sym (sweep_more contents (λ t z. settled contents z t) (λ q t ne y o. at_settled contents t q o ne y) c.loop-t.t (state_of c.args.self.now))) refl
-      (joined (λ x _. firm_told contents c.loop-t.t (settled contents x c.loop-t.t)) (c.loop-t.invariant.ran p)
-      (from_equal (λ n. firm_told contents n (settled contents (state_of c.loop-t.self) n)) c.track.ensures refl (c.settle_told.ensures.run p)));
+      (sym (sweep_more contents (settled_but contents c.args.writing.now) (λ q t ne y o. at_settled_but contents t q o ne y c.args.writing.now) c.loop-t.t
+      (state_of c.args.self.now))) refl
+      (joined (λ x _. firm_told contents c.loop-t.t (settled_but contents c.args.writing.now c.loop-t.t x)) (c.loop-t.invariant.ran p)
+      (from_equal (λ n. firm_told contents n (settled_but contents c.args.writing.now n (state_of c.loop-t.self))) c.track.ensures refl (c.settle_other.ensures.run p)));
 }
+
+pub returns-clause-run : goal.returns-clause-run
+returns-clause-run g c =
+    let all : c.loop-t.t ≡ c.args.self.now.cylinders * 15 = omega (arith, c.loop-t-test.false, c.loop-t.auto.t-end, c.from-tracks.ensures) in
+    λ p. from_equal (λ n. all_firm_told contents n (over n (settled_but contents c.args.writing.now) (state_of c.args.self.now))) all refl (c.loop-t.invariant.ran p)

@@ -1,18 +1,20 @@
 use Rattle.std.proofs.Common.{◌≡◌, ◌*◌}
 use Rattle.device_outside.specs.Outside.{PortView, Ran}
 use Rattle.device_defs.specs.Contents.{contents}
-use Rattle.device_defs.specs.Losses.{all_firm_told, over, settled}
+use Rattle.device_defs.specs.Losses.{all_firm_told, over, settled_but}
 use Rattle.event_notes.specs.Loose.{weight}
-use Rattle.device_store.specs.State.{state_of, outside, surely, Takes}
+use Rattle.device_store.specs.State.{state_of, outside, surely, StaysFirm, Takes}
 use Rattle.device_store.proofs.store.DeviceStore.settle_all.Given as goal
 
 abbrev pub invariant-loop-t : goal.invariant-loop-t
 invariant-loop-t g l = record {
   number : l.self.number ≡ l.fn.self.number;
   cylinders : l.self.cylinders ≡ l.fn.self.cylinders;
-  volume : l.self.volume ≡ l.fn.self.volume;
+  volume : l.self.pair ≡ l.fn.self.pair;
+  half : l.self.half ≡ l.fn.self.half;
   weight : weight l.self.loose ≡ weight l.fn.self.loose;
+  firm : StaysFirm l.fn.self.loose.loose l.self.loose.loose;
   takes : Takes g.K.Keep.takes l.keep l.self.number (l.self.cylinders * 15);
-  ran : (p : PortView) → Ran surely g.K.Keep.hears (all_firm_told contents l.t (over l.t (λ t z. settled contents z t) (state_of l.fn.self)))
+  ran : (p : PortView) → Ran surely g.K.Keep.hears (all_firm_told contents l.t (over l.t (settled_but contents l.fn.writing) (state_of l.fn.self)))
       (outside p l.fn.self l.fn.keep) (state_of l.self) tt (outside p l.self l.keep);
 }

@@ -12,4 +12,4 @@ returns-clause-run g c =
     λ p. from_equal (λ i. i)
     (sym (ap (λ z. firm_told contents c.args.t z) (sym c.settle.ensures.state)
     ∙ not_firm contents c.args.t (state_of c.settle.new.self) (c.no_firm.ensures c.args.t)))
-    (ap (λ x. outside_of p (g.V.Volume.view x) c.args.keep.now) c.settle.ensures.volume) done
+    (ap (λ x. outside_of p g.V.Volume.view x.volumes c.args.keep.now) c.settle.ensures.volume) done

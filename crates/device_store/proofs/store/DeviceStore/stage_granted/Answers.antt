@@ -7,10 +7,10 @@ use Rattle.device_store.proofs.store.DeviceStore.stage_granted.Goals as goal
 
 pub returns-then-got-clause-run : goal.returns-then-got-clause-run
 returns-then-got-clause-run g c =
-    λ k. joined (λ z got. staged_bytes contents c.args.t z got got.bytes) (weaker c.stage_bytes.result (c.level_bytes-got.ensures.run _ _))
-    (rw c.if-got.true (rw c.if-got.true at c.stage_bytes.ensures.run k))
+    joined (λ z got. staged_bytes contents c.args.t z got got.bytes) (weaker c.stage_bytes.result (c.level_bytes-got.ensures.run _))
+    (rw c.if-got.true (rw c.if-got.true at c.stage_bytes.ensures.run _))
 
 pub returns-clause-run : goal.returns-clause-run
 returns-clause-run g c =
-    λ k. joined (λ z got. staged_bytes contents c.args.t z got got.bytes) (c.level_bytes-got.ensures.run _ _)
+    joined (λ z got. staged_bytes contents c.args.t z got got.bytes) (c.level_bytes-got.ensures.run _)
     (rw c.if-got.false (asks c.drop_frame.ensures (ended refl (ap Some (sym c.did.ensures)))))

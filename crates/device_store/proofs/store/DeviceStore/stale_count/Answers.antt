@@ -1,16 +1,12 @@
-use Rattle.device_defs.specs.Store.{stale_at}
-use Rattle.device_store.specs.State.{state_of}
-use Rattle.device_store.proofs.Counts.{count_none, count_more}
-use Rattle.std.proofs.Common.{arith, sym}
+use Rattle.std.proofs.Common.{◌∙◌, ◌*◌, ap}
+use Rattle.track_table.specs.Tracks.{count_below}
+use Rattle.device_defs.specs.Store.{SideMarks, stale_at}
+use Rattle.duplex_pair.specs.Sides.{state_in}
+use Rattle.device_store.proofs.Orders.{side_is}
 use Rattle.device_store.proofs.store.DeviceStore.stale_count.Goals as goal
 
-pub loop-t-init : goal.loop-t-init
-loop-t-init g c = record { counted = count_none (stale_at (state_of c.args.self.now).a); most = omega arith }
-
-pub loop-t-preserved : goal.loop-t-preserved
-loop-t-preserved g c = record {
-  counted =
-      rw (c.loop-t.invariant.counted, c.one_if-count.ensures.value, c.is_stale.ensures, c.track.ensures)
-      (sym (count_more (stale_at (state_of c.args.self.now).a) c.loop-t.t));
-  most = let before = c.loop-t.invariant.most in let one = c.one_if-count.ensures.most in omega (arith, before, one);
-}
+pub returns : goal.returns
+returns g c =
+    let x = c.args.self.now in
+    c.stale_count.ensures ∙ ap (λ n. count_below n (stale_at (state_in x.pair c.args.side))) x.stale_of_each
+    ∙ ap (λ (m : SideMarks). count_below (x.cylinders * 15) (stale_at m)) (side_is x c.args.side)

@@ -14,6 +14,7 @@ loop-t-init g c = record {
   number = refl;
   cylinders = refl;
   volume = refl;
+  half = refl;
   loose = refl;
   rest = refl;
   ran = λ k. from_equal (λ i. i) (sym (told_none contents (state_of c.args.self.now))) refl done;
@@ -24,6 +25,7 @@ loop-t-preserved g c = record {
   number = c.tell_track.ensures.fixed.0 ∙ c.loop-t.invariant.number;
   cylinders = c.tell_track.ensures.fixed.1 ∙ c.loop-t.invariant.cylinders;
   volume = c.tell_track.ensures.volume ∙ c.loop-t.invariant.volume;
+  half = c.tell_track.ensures.half ∙ c.loop-t.invariant.half;
   loose = c.tell_track.ensures.loose ∙ c.loop-t.invariant.loose;
   rest = c.tell_track.ensures.rest ∙ ap (λ (z : StoreOf). record z { owed = c.tell_track.new.self.owed }) c.loop-t.invariant.rest;
   ran = λ k. from_equal (λ i. i) (sym (told_more contents c.loop-t.t _ (state_of c.args.self.now) refl)) refl

@@ -9,7 +9,8 @@ abbrev pub invariant-loop-t : goal.invariant-loop-t
 invariant-loop-t g l = record {
   number : l.self.number ≡ l.fn.self.number;
   cylinders : l.self.cylinders ≡ l.fn.self.cylinders;
-  volume : l.self.volume ≡ l.fn.self.volume;
+  volume : l.self.pair.volumes ≡ l.fn.self.pair.volumes;
+  half : l.self.half ≡ l.fn.self.half;
   loose : l.self.loose ≡ l.fn.self.loose;
   rest : state_of l.self ≡ record (state_of l.fn.self) { owed = l.self.owed };
   ran : (k : g.row.K.Denot) → Ran surely g.K.Keep.hears (all_told contents l.t (state_of l.fn.self)) (outside (g.P.Port.view l.fn.port) l.fn.self k)

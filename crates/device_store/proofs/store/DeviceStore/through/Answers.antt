@@ -1,25 +1,33 @@
-use Rattle.device_outside.specs.Outside.{done}
-use Rattle.device_outside.specs.Interaction.{Done, and_then}
-use Rattle.device_outside.proofs.Runs.{tells, joined}
+use Rattle.std.proofs.Common.{◌≡◌, ◌∙◌, ap, refl, sym, true, false, Bool, List, Some, None}
+use Rattle.std.specs.Prelude.{is_some, not, option_map, if◌then◌else◌}
+use Rattle.ckd_types.specs.declared.paths.Side.TheVariants.{A, B}
+use Rattle.ckd_types.specs.Parameters.{is_bypass}
 use Rattle.ckd_types.specs.Track.{track_bytes}
-use Rattle.device_defs.specs.declared.answers.Took.TheVariants.{Whole}
+use Rattle.device_outside.specs.Interaction.{Done, and_then}
+use Rattle.device_outside.specs.Outside.{done}
+use Rattle.device_outside.proofs.Runs.{asks, ended, joined, tells, tries}
+use Rattle.device_defs.specs.Background.{copied, copy_by, copy_first, copy_read, did, other, saved_by, saving}
 use Rattle.device_defs.specs.Contents.{contents}
-use Rattle.device_defs.specs.Editing.{through, through_by}
-use Rattle.device_defs.specs.Writing.{write_first}
+use Rattle.device_defs.specs.declared.answers.Did.TheVariants.{Fault}
+use Rattle.device_defs.specs.declared.answers.Took.TheVariants.{Opened, Unwritten, Whole}
+use Rattle.device_defs.specs.Editing.{through, through_by, whole}
+use Rattle.device_defs.specs.Losses.{call_failed, settled}
+use Rattle.device_defs.specs.Store.{OfCommand, frame_at, has_level, with_stale}
+use Rattle.device_defs.specs.Writing.{opened, write_done, write_first, write_second}
+use Rattle.device_store.specs.Looks.{frame_in}
+use Rattle.device_store.specs.State.{outside_of, state_of, with_pair}
+use Rattle.device_store.proofs.Moves.{from_equal, had_ok, lands, weaker}
+use Rattle.device_store.proofs.Writes.{clean_is, same_image}
+use Rattle.device_store.proofs.Halved.{opened_is}
 use Rattle.device_store.proofs.store.DeviceStore.through.Goals as goal
-
-pub returns-then-written-clause-run : goal.returns-then-written-clause-run
-unfolding through
-returns-then-written-clause-run g c =
-    λ e opens. joined (λ z was. and_then (write_first contents z c.args.t (track_bytes c.args.image.track))
-    (λ y w. through_by contents c.args.t c.args.image e c.args.bypass opens was y w.took)) (c.firm_first.ensures.run _)
-    (joined (λ y w. through_by contents c.args.t c.args.image e c.args.bypass opens c.firm_first.result y w.took) (c.write_first-written.ensures.run _ _)
-    (rw c.if-written.true (tells tt c.firm.ensures.moves tt (joined (λ y _. Done y Whole) (c.write_done.ensures.run _) done))))
 
 pub returns-clause-run : goal.returns-clause-run
 unfolding through
 returns-clause-run g c =
-    λ e opens. joined (λ z was. and_then (write_first contents z c.args.t (track_bytes c.args.image.track))
-    (λ y w. through_by contents c.args.t c.args.image e c.args.bypass opens was y w.took)) (c.firm_first.ensures.run _)
-    (joined (λ y w. through_by contents c.args.t c.args.image e c.args.bypass opens c.firm_first.result y w.took) (c.write_first-written.ensures.run _ _)
-    (rw c.if-written.false done))
+    joined (λ z was. and_then (write_first contents z c.args.t (track_bytes c.args.image.track))
+    (λ y w. through_by contents c.args.t c.args.image c.args.edit c.args.bypass c.args.opens was y w.took)) (c.firm_first-was_loose.ensures.run _)
+    (joined (λ y w. through_by contents c.args.t c.args.image c.args.edit c.args.bypass c.args.opens c.firm_first-was_loose.result y w.took) (c.write_first-written.ensures.run _)
+    (c.through_by.ensures.run c.args.edit refl))
+
+pub returns-clause-half : goal.returns-clause-half
+returns-clause-half g c = opened_is c.through_by.result c.through_by.new.self.half _ c.through_by.ensures.half

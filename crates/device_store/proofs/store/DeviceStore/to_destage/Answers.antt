@@ -6,19 +6,20 @@ use Rattle.device_defs.specs.Background.{is_destaged}
 use Rattle.device_defs.specs.Contents.{contents}
 use Rattle.device_store.specs.State.{state_of}
 use Rattle.device_store.proofs.Firmly.{modified_there}
-use Rattle.device_store.proofs.Writes.{destages, least_of, least_one, IsOne, if_some, none_destaged, destaged_framed}
+use Rattle.device_store.proofs.Writes.{destages, least_one, IsOne, if_some, none_destaged, destaged_framed}
+use Rattle.duplex_pair.proofs.Fronts.{least_of}
 use Rattle.device_store.proofs.store.DeviceStore.to_destage.Goals as goal
 
-pub returns-then-self-clause-least : goal.returns-then-self-clause-least
-returns-then-self-clause-least g c =
+pub returns-then-some_up-clause-least : goal.returns-then-some_up-clause-least
+returns-then-some_up-clause-least g c =
     let s = state_of c.args.self.now in
     let n = c.args.self.now.cylinders * 15 in
     let few : n ≤ 960 = omega (arith, c.args.self.now.most) in
     c.first.ensures ∙ least_of n c.destaged.result (is_destaged contents s) few c.destaged.ensures (λ t le. none_destaged s n t c.args.self.now.frame_of_each c.args.self.now.loose_of_each le)
-    ∙ sym (destages s c.if-self.true)
+    ∙ sym (destages s (sym c.some_up.ensures ∙ c.if-some_up.true))
 
-pub returns-then-self-clause-here : goal.returns-then-self-clause-here
-returns-then-self-clause-here g c =
+pub returns-then-some_up-clause-here : goal.returns-then-some_up-clause-here
+returns-then-some_up-clause-here g c =
     let s = state_of c.args.self.now in
     let n = c.args.self.now.cylinders * 15 in
     let few : n ≤ 960 = omega (arith, c.args.self.now.most) in
@@ -27,10 +28,10 @@ returns-then-self-clause-here g c =
     (λ t one. one.here) (least_one n (is_destaged contents s))
 
 pub returns-clause-least : goal.returns-clause-least
-returns-clause-least g c = rw c.if-self.false refl
+returns-clause-least g c = rw (sym c.some_up.ensures ∙ c.if-some_up.false) refl
 
-pub returns-then-self-clause-framed : goal.returns-then-self-clause-framed
-returns-then-self-clause-framed g c =
+pub returns-then-some_up-clause-framed : goal.returns-then-some_up-clause-framed
+returns-then-some_up-clause-framed g c =
     let s = state_of c.args.self.now in
     let n = c.args.self.now.cylinders * 15 in
     let few : n ≤ 960 = omega (arith, c.args.self.now.most) in

@@ -4,19 +4,20 @@ use Rattle.device_defs.specs.Owed.{waits}
 use Rattle.device_defs.specs.Contents.{contents}
 use Rattle.device_store.specs.State.{state_of}
 use Rattle.device_store.proofs.Telling.{none_beyond}
-use Rattle.device_store.proofs.Writes.{recovers, least_of, least_one, IsOne, if_some}
+use Rattle.device_store.proofs.Writes.{recovers, least_one, IsOne, if_some}
+use Rattle.duplex_pair.proofs.Fronts.{least_of}
 use Rattle.device_store.proofs.store.DeviceStore.to_recover.Goals as goal
 
-pub returns-then-self-clause-least : goal.returns-then-self-clause-least
-returns-then-self-clause-least g c =
+pub returns-then-some_up-clause-least : goal.returns-then-some_up-clause-least
+returns-then-some_up-clause-least g c =
     let s = state_of c.args.self.now in
     let n = c.args.self.now.cylinders * 15 in
     let few : n ≤ 960 = omega (arith, c.args.self.now.most) in
     c.first.ensures ∙ least_of n c.waiting.result (waits contents s) few c.waiting.ensures (λ t le. none_beyond s n t c.args.self.now.frame_of_each c.args.self.now.patch_of_each le)
-    ∙ sym (recovers s c.if-self.true)
+    ∙ sym (recovers s (sym c.some_up.ensures ∙ c.if-some_up.true))
 
-pub returns-then-self-clause-here : goal.returns-then-self-clause-here
-returns-then-self-clause-here g c =
+pub returns-then-some_up-clause-here : goal.returns-then-some_up-clause-here
+returns-then-some_up-clause-here g c =
     let s = state_of c.args.self.now in
     let n = c.args.self.now.cylinders * 15 in
     let few : n ≤ 960 = omega (arith, c.args.self.now.most) in
@@ -25,4 +26,4 @@ returns-then-self-clause-here g c =
     (λ t one. one.here) (least_one n (waits contents s))
 
 pub returns-clause-least : goal.returns-clause-least
-returns-clause-least g c = rw c.if-self.false refl
+returns-clause-least g c = rw (sym c.some_up.ensures ∙ c.if-some_up.false) refl

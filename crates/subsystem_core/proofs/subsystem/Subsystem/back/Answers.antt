@@ -8,6 +8,7 @@ use Rattle.device_defs.specs.Events.{second}
 use Rattle.device_defs.specs.Events.{background}
 use Rattle.subsystem_core.specs.Devices.{devices_of, device_at}
 use Rattle.subsystem_core.proofs.Coming.{seconded, work_lacked, worked}
+
 use Rattle.subsystem_core.proofs.Deeds as deeds
 use Rattle.subsystem_core.proofs.Found.{found_in}
 use Rattle.subsystem_core.proofs.subsystem.Subsystem.back.Goals as goal
@@ -29,3 +30,6 @@ returns-in-Ok-clause-came g c =
     worked c.args.self.now _ (events.Back c.args.d) c.args.d c.device.result.now (background contents) c.in-Ok.did c.device.ensures
     (deeds.worked contents _ _ _ _ (found_in c.args.self.now.devices.items c.args.d _ c.device.ensures)
     (sym c.half_open.ensures ∙ c.if-half_open.false)) c.in-Ok.ensures.asked
+
+pub background_at-requires-clause-whole : goal.background_at-requires-clause-whole
+background_at-requires-clause-whole g c = rw c.device.ensures (sym c.half_open.ensures ∙ c.if-half_open.false)

@@ -1,4 +1,6 @@
-use Rattle.subsystem_core.proofs.Found.{changed, numbers_kept}
+use Rattle.device_core.specs.State.{device_of}
+use Rattle.std.specs.Prelude.{◌≡◌, false, is_some}
+use Rattle.subsystem_core.proofs.Found.{changed, held, numbers_kept}
 use Rattle.subsystem_core.proofs.subsystem.Subsystem.background_at.Goals as goal
 
 pub invariant_of-self : goal.invariant_of-self
@@ -16,3 +18,9 @@ pub returns-clause-asked : goal.returns-clause-asked
 returns-clause-asked g c =
     changed c.args.self.now.devices.items c.args.d c.place-at.result c.index_mut.result.now c.background.new.self _ c.args.self.now.rising
     c.place-at.ensures.range c.place-at.ensures.found c.index_mut.ensures.value (c.background.ensures.run)
+
+pub background-requires : goal.background-requires
+background-requires g c = record {
+  whole = held c.args.self.now.devices.items c.args.d c.place-at.result c.index_mut.result.now (λ x. is_some (device_of x).store.half ≡ false)
+      c.args.self.now.rising c.place-at.ensures.range c.place-at.ensures.found c.index_mut.ensures.value c.requires.whole;
+}

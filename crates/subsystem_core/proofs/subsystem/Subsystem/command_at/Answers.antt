@@ -1,9 +1,15 @@
-use Rattle.std.specs.Prelude.{IsSome}
+use Rattle.std.specs.Prelude.{◌≡◌, IsSome, false, is_some}
+use Rattle.device_core.specs.State.{device_of}
 use Rattle.subsystem_core.proofs.Found.{changed, numbers_kept, held}
 use Rattle.subsystem_core.proofs.subsystem.Subsystem.command_at.Goals as goal
 
-pub command-requires : goal.command-requires
-command-requires g c =
+pub command-requires-clause-whole : goal.command-requires-clause-whole
+command-requires-clause-whole g c =
+    held c.args.self.now.devices.items c.args.d c.place-at.result c.index_mut.result.now (λ x. is_some (device_of x).store.half ≡ false)
+    c.args.self.now.rising c.place-at.ensures.range c.place-at.ensures.found c.index_mut.ensures.value c.requires.whole
+
+pub command-requires-clause-running : goal.command-requires-clause-running
+command-requires-clause-running g c =
     held c.args.self.now.devices.items c.args.d c.place-at.result c.index_mut.result.now (λ x. IsSome x.past.running) c.args.self.now.rising
     c.place-at.ensures.range c.place-at.ensures.found c.index_mut.ensures.value c.requires.running
 

@@ -1,17 +1,9 @@
-use Rattle.std.proofs.Common.{◌≡◌, ◌*◌, None, refl, true}
-use Rattle.ckd_types.specs.declared.paths.Side.{Side}
-use Rattle.ckd_types.specs.declared.paths.Side.TheVariants.{A, B}
-use Rattle.device_outside.specs.declared.volume.Volume.{Ghosts}
-use Rattle.device_core.specs.declared.device.Device.{Device}
+use Rattle.std.proofs.Common.{◌≡◌, ◌*◌, None}
 use Rattle.subsystem_defs.specs.Refusals.{replace_fault}
-use Rattle.subsystem_core.proofs.Coming.{is_side_a, is_down, same_replaced}
-use Rattle.device_core.specs.State.{device_of, is_there}
+use Rattle.subsystem_core.proofs.Coming.{is_there, same_replaced}
+use Rattle.device_core.specs.State.{device_of}
 use Rattle.subsystem_core.proofs.Found.{changed, held, numbers_kept}
 use Rattle.subsystem_core.proofs.subsystem.Subsystem.replace_at.Goals as goal
-
-is_here : {V : Type 0} {G : Ghosts V} (x : Device V G) (side : Side) → side ≡ A → is_there (device_of x).store side ≡ true
-is_here x A is = refl
-is_here x B is = absurd (cc)
 
 pub invariant_of-self : goal.invariant_of-self
 invariant_of-self g c =
@@ -27,19 +19,13 @@ returns-clause-numbers g c =
 pub returns-clause-replaced : goal.returns-clause-replaced
 returns-clause-replaced g c =
     changed c.args.self.now.devices.items c.args.d c.place-at.result c.index_mut.result.now c.replace-old.new.self _ c.args.self.now.rising
-    c.place-at.ensures.range c.place-at.ensures.found c.index_mut.ensures.value (c.replace-old.ensures.device, c.replace-old.ensures.volume)
+    c.place-at.ensures.range c.place-at.ensures.found c.index_mut.ensures.value (c.replace-old.ensures.device, c.replace-old.ensures.volume, c.replace-old.ensures.other)
 
 pub replace-old-requires-clause-there : goal.replace-old-requires-clause-there
 replace-old-requires-clause-there g c =
-    is_here c.index_mut.result.now c.args.side (is_side_a c.index_mut.result.now c.args.side
+    is_there c.index_mut.result.now c.args.side
     (held c.args.self.now.devices.items c.args.d c.place-at.result c.index_mut.result.now (λ x. replace_fault (device_of x) c.args.side ≡ None)
-    c.args.self.now.rising c.place-at.ensures.range c.place-at.ensures.found c.index_mut.ensures.value c.requires.fine))
-
-pub replace-old-requires-clause-failed : goal.replace-old-requires-clause-failed
-replace-old-requires-clause-failed g c =
-    is_down c.index_mut.result.now c.args.side (held c.args.self.now.devices.items c.args.d c.place-at.result c.index_mut.result.now (λ x. replace_fault
-    (device_of x) c.args.side ≡ None) c.args.self.now.rising
-    c.place-at.ensures.range c.place-at.ensures.found c.index_mut.ensures.value c.requires.fine)
+    c.args.self.now.rising c.place-at.ensures.range c.place-at.ensures.found c.index_mut.ensures.value c.requires.fine)
 
 pub replace-old-requires-clause-size : goal.replace-old-requires-clause-size
 replace-old-requires-clause-size g c =

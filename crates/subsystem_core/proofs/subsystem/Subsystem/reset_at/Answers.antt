@@ -1,17 +1,14 @@
-use Rattle.std.proofs.Common.{ap}
 use Rattle.subsystem_core.proofs.Found.{changed, numbers_kept}
 use Rattle.subsystem_core.proofs.subsystem.Subsystem.reset_at.Goals as goal
 
 pub invariant_of-self : goal.invariant_of-self
 invariant_of-self g c =
-    let same = numbers_kept c.args.self.now.devices.items c.place-at.result c.index_mut.result.now c.reset.new.self c.index_mut.ensures.value (ap
-    (λ s. s.number) c.reset.ensures.store) in
+    let same = numbers_kept c.args.self.now.devices.items c.place-at.result c.index_mut.result.now c.reset.new.self c.index_mut.ensures.value c.reset.ensures.fixed.0 in
     record { rising = rw same c.args.self.now.rising; table = rw same c.args.self.now.table }
 
 pub returns-clause-numbers : goal.returns-clause-numbers
 returns-clause-numbers g c =
-    numbers_kept c.args.self.now.devices.items c.place-at.result c.index_mut.result.now c.reset.new.self c.index_mut.ensures.value (ap
-    (λ s. s.number) c.reset.ensures.store)
+    numbers_kept c.args.self.now.devices.items c.place-at.result c.index_mut.result.now c.reset.new.self c.index_mut.ensures.value c.reset.ensures.fixed.0
 
 pub returns-clause-asked : goal.returns-clause-asked
 returns-clause-asked g c =

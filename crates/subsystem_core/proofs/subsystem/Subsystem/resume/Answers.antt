@@ -1,21 +1,25 @@
-use Rattle.std.proofs.Common.{◌≡◌, ◌∙◌, refl, sym, ap, subst, Some, None, true, false}
+use Rattle.std.proofs.Common.{◌≡◌, ◌∙◌, refl, sym, Some, None}
 use Rattle.device_defs.specs.Contents.{contents}
+use Rattle.device_defs.specs.Orders.{resume}
 use Rattle.device_core.specs.State.{device_of}
 use Rattle.subsystem_defs.specs.declared.end.EventEnd.TheVariants as answers
+use Rattle.subsystem_core.specs.Comes.{IsNow}
 use Rattle.subsystem_core.specs.declared.end.EventEnd.TheVariants as ends
 use Rattle.subsystem_defs.specs.declared.event.Event.TheVariants as events
-use Rattle.subsystem_core.specs.Devices.{devices_of, device_at}
-use Rattle.subsystem_core.proofs.Coming.{ended, never_resumed}
+use Rattle.subsystem_core.proofs.Coming.{became, ended}
 use Rattle.subsystem_core.proofs.Deeds as deeds
 use Rattle.subsystem_core.proofs.Found.{found_in}
 use Rattle.subsystem_core.proofs.subsystem.Subsystem.resume.Goals as goal
 
-pub returns-clause-came : goal.returns-clause-came
-returns-clause-came g c =
+pub returns-in-Some-clause-came : goal.returns-in-Some-clause-came
+returns-in-Some-clause-came g c =
     ended c.args.self.now _ (events.Resume c.args.d) (answers.Refused c.in-Some.fault) (ends.Refused c.in-Some.fault)
     (deeds.resume_refused contents _ _ _ _ (found_in c.args.self.now.devices.items c.args.d _ c.device.ensures) c.in-Some.fault
     (sym c.resume_fault.ensures ∙ c.in-Some.is)) (λ p. refl) (refl, refl)
 
-pub unreachable-requires : goal.unreachable-requires
-unreachable-requires g c =
-    never_resumed c.device.result.now (sym c.resume_fault.ensures ∙ c.in-None.is)
+pub returns-clause-came : goal.returns-clause-came
+returns-clause-came g c =
+    became c.args.self.now _ (events.Resume c.args.d) c.args.d c.device.result.now (resume (device_of c.device.result.now)) answers.Done ends.Done
+    (λ x y. IsNow (resume (device_of x)) x y) c.device.ensures
+    (deeds.resumed contents _ _ _ _ (found_in c.args.self.now.devices.items c.args.d _ c.device.ensures)
+    (sym c.resume_fault.ensures ∙ c.in_default.is)) refl (λ p. refl) c.resume_at.ensures.pool (λ y is. is) c.resume_at.ensures.resumed

@@ -8,6 +8,7 @@ use Rattle.device_defs.specs.Events.{second}
 use Rattle.device_defs.specs.Command.{command}
 use Rattle.subsystem_core.specs.Devices.{devices_of, device_at}
 use Rattle.subsystem_core.proofs.Coming.{commanded, command_lacked, ended, open_none, open_some, runs, seconded}
+
 use Rattle.subsystem_core.proofs.Deeds as deeds
 use Rattle.subsystem_core.proofs.Found.{found_in}
 use Rattle.subsystem_core.proofs.subsystem.Subsystem.step.Goals as goal
@@ -15,6 +16,9 @@ use Rattle.subsystem_core.proofs.subsystem.Subsystem.step.Goals as goal
 pub command_at-requires-clause-running : goal.command_at-requires-clause-running
 command_at-requires-clause-running g c =
     rw c.device-device.ensures (runs c.device-device.result.now.past.running _ (sym c.active.ensures ∙ c.in-Some.is))
+
+pub command_at-requires-clause-whole : goal.command_at-requires-clause-whole
+command_at-requires-clause-whole g c = rw c.device-device.ensures (sym c.half_open.ensures ∙ c.if-half_open.false)
 
 pub returns-then-half_open-clause-came : goal.returns-then-half_open-clause-came
 returns-then-half_open-clause-came g c =

@@ -1,0 +1,19 @@
+use Rattle.std.proofs.Common.{ap}
+use Rattle.subsystem_core.proofs.Found.{changed, numbers_kept}
+use Rattle.subsystem_core.proofs.subsystem.Subsystem.hold_at.Goals as goal
+
+pub invariant_of-self : goal.invariant_of-self
+invariant_of-self g c =
+    let same = numbers_kept c.args.self.now.devices.items c.place-at.result c.index_mut.result.now c.hold.new.self c.index_mut.ensures.value
+    (ap (λ d. d.store.device) c.hold.ensures.device) in
+    record { rising = rw same c.args.self.now.rising; table = rw same c.args.self.now.table }
+
+pub returns-clause-numbers : goal.returns-clause-numbers
+returns-clause-numbers g c =
+    numbers_kept c.args.self.now.devices.items c.place-at.result c.index_mut.result.now c.hold.new.self c.index_mut.ensures.value
+    (ap (λ d. d.store.device) c.hold.ensures.device)
+
+pub returns-clause-held : goal.returns-clause-held
+returns-clause-held g c =
+    changed c.args.self.now.devices.items c.args.d c.place-at.result c.index_mut.result.now c.hold.new.self _ c.args.self.now.rising
+    c.place-at.ensures.range c.place-at.ensures.found c.index_mut.ensures.value (c.hold.ensures.device, c.hold.ensures.volume)
