@@ -241,7 +241,8 @@ impl<V: Volume> DeviceStore<V> {
             self.settle(t);
             return;
         }
-        self.mark_a(t, true);
+        let stale = true;
+        self.mark_a(t, stale);
         self.settle(t);
     }
 
