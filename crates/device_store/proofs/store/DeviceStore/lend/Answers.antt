@@ -7,7 +7,8 @@ use Rattle.device_defs.specs.Store.{SideMarks, no_side}
 use Rattle.device_store.specs.Looks.{StoreOf}
 use Rattle.device_store.specs.State.{state_of}
 use Rattle.device_store.proofs.Lending.{all_aside, all_size, lent_with}
-use Rattle.device_store.proofs.Orders.{pair_is}
+use Rattle.std.proofs.lemmas.List.{length-replicate}
+use Rattle.device_store.proofs.Orders.{not_both, pair_is}
 use Rattle.device_store.proofs.store.DeviceStore.lend.Goals as goal
 
 pub returns-clause-state : goal.returns-clause-state
@@ -25,3 +26,14 @@ returns-clause-state g c =
     ∙ ap (over n (given_up contents)) (pair_is s c.lend-volume.new.self (ap is_some e.b) e.rest.1 e.rest.0 (e.marks ∙ ap no_side c.args.self.now.stale_of_each) e.other)
     ∙ all_aside contents (Some c.args.to) (no_side n) n s)
     ∙ lent_with given n c.args.to (ap (λ m. m * 15) (all_size contents n s))
+
+pub invariant_of-self-clause-stale_of_each : goal.invariant_of-self-clause-stale_of_each
+invariant_of-self-clause-stale_of_each g c =
+    ap (λ (m : SideMarks). length m.stale) c.lend-volume.ensures.marks ∙ length-replicate (length c.args.self.now.pair.a.stale) false
+    ∙ c.args.self.now.stale_of_each
+
+pub invariant_of-self-clause-loose_modified : goal.invariant_of-self-clause-loose_modified
+invariant_of-self-clause-loose_modified g c = λ here. absurd (not_both _ (ap is_some c.lend-volume.ensures.rest.1) here)
+
+pub give_up_all-requires : goal.give_up_all-requires
+give_up_all-requires g c = ap is_some c.lend-volume.ensures.rest.1
