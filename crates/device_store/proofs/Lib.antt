@@ -19,3 +19,4 @@ pub mod Peeking
 pub mod Behind
 pub mod Seconds
 pub mod Orders
+pub mod Lending

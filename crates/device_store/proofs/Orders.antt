@@ -12,6 +12,10 @@ use Rattle.device_store.specs.declared.store.DeviceStore.{DeviceStore}
 use Rattle.device_store.specs.Looks.{StoreOf}
 use Rattle.device_store.specs.State.{state_of, with_pair}
 
+pub not_both : (b : Bool) → b ≡ true → b ≡ false → ⊥
+not_both true is none = absurd cc
+not_both false is none = absurd cc
+
 module _ {V : Type 0} {G : Ghosts V} (s : StoreOf) (q : DuplexPair V G) {there held : Bool} {lent : Option ℕ} {a b : SideMarks} where
   pub pair_is : is_some q.volumes.b ≡ there → q.lent ≡ lent → q.held ≡ held → marks_of q.a ≡ a → marks_of q.b ≡ b →
       with_pair s q ≡ record s { paired = there; lent = lent; held = held; a = a; b = b }

@@ -24,6 +24,10 @@ goes_by false true d x y e = absurd cc
 goes_by false false true x y e = absurd cc
 goes_by false false false x y e = refl
 
+pub not_first : (a b d : Bool) → (a || b || d) ≡ false → a ≡ false
+not_first true b d e = absurd cc
+not_first false b d e = refl
+
 pub stands : (s : StoreOf) (t : ℕ) → (is_some s.lent || is_lost s t || has_level s t) ≡ true → settled contents s t ≡ s
 unfolding losses.settled
 stands s t e = stands_by (is_some s.lent) (is_lost s t) (has_level s t) s (by_frame contents s t (frame_at s t)) e

@@ -1,6 +1,6 @@
 -- Reads and writes of one side of a pair.
-use Rattle.std.proofs.Common.{◌≡◌, ◌∙◌, ℕ, Bool, true, List, refl, sym, ap}
-use Rattle.std.specs.Prelude.{Option, Some, None, is_some, option_map}
+use Rattle.std.proofs.Common.{◌≡◌, ◌∙◌, ◌*◌, ℕ, Bool, true, false, List, refl, sym, ap}
+use Rattle.std.specs.Prelude.{◌&&◌, ◌||◌, not, Option, Some, None, is_some, option_map}
 use Rattle.ckd_types.specs.declared.paths.Side.{Side}
 use Rattle.ckd_types.specs.declared.paths.Side.TheVariants as sides
 use Rattle.device_outside.specs.declared.volume.Volume.{Ghosts}
@@ -9,7 +9,7 @@ use Rattle.device_outside.specs.Keeper.{Hearing}
 use Rattle.device_outside.specs.Outside.{Outside, PortView, Ran}
 use Rattle.device_outside.specs.Volume.{VolumeView, ReadOf, WriteOf}
 use Rattle.device_outside.proofs.Runs.{reads_a, reads_b, writes_a, writes_b}
-use Rattle.device_defs.specs.Store.{SideMarks}
+use Rattle.device_defs.specs.Store.{SideMarks, level_at, stale_at}
 use Rattle.duplex_pair.specs.declared.pair.DuplexPair.{DuplexPair}
 use Rattle.duplex_pair.specs.declared.pair.SideVolumes.{SideVolumes}
 use Rattle.duplex_pair.specs.Sides.{HasSides, marks_of, other_of, state_in, volume_of}
@@ -54,6 +54,39 @@ module _ {V K I S A : Type 0} {had : Bool → Type 0} {hears : Hearing I K} (vie
       WriteOf (view_in view x.b) t r ok (view_in view y.b) → Ran had hears (k ok) (outside_of port view y keeper) s o z →
       Ran had hears (Write sides.B t r k) (outside_of port view x keeper) s o z
   writes_on_b before there other takes ran = writes_b (seen view x.b before) takes (from_equal (λ i. i) refl (lands_b view x y port keeper other there) ran)
+
+-- a side of a volume that is lent isn't up
+
+module _ {V : Type 0} {G : Ghosts V} (p : DuplexPair V G) where
+  here_by : (lent a b : Bool) → (lent ≡ true → (a ≡ false) × (b ≡ false)) → (a || b) ≡ true → lent ≡ false
+  here_by false a b away up = refl
+  here_by true true b away up = absurd (down (away refl).0) where
+    down : true ≡ false → ⊥
+    down e = absurd cc
+  here_by true false true away up = absurd (down (away refl).1) where
+    down : true ≡ false → ⊥
+    down e = absurd cc
+  here_by true false false away up = absurd cc
+
+  pub some_here : (p.a.up || p.b.up) ≡ true → is_some p.lent ≡ false
+  some_here up = here_by (is_some p.lent) p.a.up p.b.up p.away up
+
+  level_by : (up stale : Bool) → (up && not stale) ≡ true → up ≡ true
+  level_by true stale e = refl
+  level_by false stale e = absurd cc
+
+  first_up : (a b : Bool) → a ≡ true → (a || b) ≡ true
+  first_up true b e = refl
+  first_up false b e = absurd cc
+
+  later_up : (a b : Bool) → b ≡ true → (a || b) ≡ true
+  later_up true b e = refl
+  later_up false b e = e
+
+  -- one on which a track is level is here
+  pub level_here : (side : Side) (t : ℕ) → level_at (state_in p side) t ≡ true → is_some p.lent ≡ false
+  level_here sides.A t e = some_here (first_up p.a.up p.b.up (level_by p.a.up (stale_at (marks_of p.a) t) e))
+  level_here sides.B t e = some_here (later_up p.a.up p.b.up (level_by p.b.up (stale_at (marks_of p.b) t) e))
 
 module _ {V : Type 0} {G : Ghosts V} (s : StoreOf) {p q : DuplexPair V G} (same : HasSides p q) where
   pair_by : is_some q.volumes.b ≡ is_some p.volumes.b → with_pair s q ≡ with_pair s p

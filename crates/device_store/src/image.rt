@@ -93,6 +93,7 @@ impl<V: Volume> DeviceStore<V> {
         requires takes { Takes K.takes keep.old self.old.number (self.old.cylinders * 15) }
         ensures fixed { (self.new.number ≡ self.old.number) × (self.new.cylinders ≡ self.old.cylinders) }
         ensures half { self.new.half ≡ self.old.half }
+        ensures here { result.given ≡ true → (is_some self.old.pair.lent ≡ false) × (is_some self.new.pair.lent ≡ false) }
         ensures weight { weight self.new.loose ≡ weight self.old.loose }
         ensures firm { StaysFirm self.old.loose.loose self.new.loose.loose }
         ensures takes { Takes K.takes keep.new self.new.number (self.new.cylinders * 15) }
@@ -125,6 +126,7 @@ impl<V: Volume> DeviceStore<V> {
         requires takes { Takes K.takes keep.old self.old.number (self.old.cylinders * 15) }
         ensures fixed { (self.new.number ≡ self.old.number) × (self.new.cylinders ≡ self.old.cylinders) }
         ensures half { self.new.half ≡ self.old.half }
+        ensures here { result.given ≡ true → (is_some self.old.pair.lent ≡ false) × (is_some self.new.pair.lent ≡ false) }
         ensures weight { weight self.new.loose ≡ weight self.old.loose }
         ensures firm { StaysFirm self.old.loose.loose self.new.loose.loose }
         ensures takes { Takes K.takes keep.new self.new.number (self.new.cylinders * 15) }
@@ -261,7 +263,7 @@ impl<V: Volume> DeviceStore<V> {
         requires track { t < self.old.cylinders * 15 }
         requires last { IfSome usage.now.last (λ l. l < self.old.cylinders * 15) }
         requires takes { Takes K.takes keep.old self.old.number (self.old.cylinders * 15) }
-        requires firm { is_loose (state_of self.old) t ≡ false }
+        requires firm { is_some self.old.pair.lent ≡ false → is_loose (state_of self.old) t ≡ false }
         ensures fixed { (self.new.number ≡ self.old.number) × (self.new.cylinders ≡ self.old.cylinders) }
         ensures half { self.new.half ≡ self.old.half }
         ensures weight { weight self.new.loose ≡ weight self.old.loose }
@@ -288,7 +290,7 @@ impl<V: Volume> DeviceStore<V> {
         requires last { IfSome usage.now.last (λ l. l < self.old.cylinders * 15) }
         requires takes { Takes K.takes keep.old self.old.number (self.old.cylinders * 15) }
         requires clean { is_modified self.old.frames t ≡ false }
-        requires firm { is_loose (state_of self.old) t ≡ false }
+        requires firm { is_some self.old.pair.lent ≡ false → is_loose (state_of self.old) t ≡ false }
         requires there { is_some (frame_at (state_of self.old) t) ≡ true }
         ensures fixed { (self.new.number ≡ self.old.number) × (self.new.cylinders ≡ self.old.cylinders) }
         ensures half { self.new.half ≡ self.old.half }

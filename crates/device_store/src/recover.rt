@@ -1,4 +1,4 @@
-ghost use Rattle.std.specs.Prelude.{◌≡◌, ◌<◌, ◌*◌, ◌≤◌, IfSome, None, Option, Some, false};
+ghost use Rattle.std.specs.Prelude.{◌≡◌, ◌<◌, ◌*◌, ◌≤◌, IfSome, None, Option, Some, false, is_some, true};
 ghost use Rattle.ckd_types.specs.declared.paths.Side.{Side};
 ghost use Rattle.device_store.specs.declared.half.Origin.TheVariants.{OfBackground};
 ghost use Rattle.device_defs.specs.Background.{did, recover, recovered_bytes, saved_by, saving, to_recover};
@@ -72,6 +72,7 @@ impl<V: Volume> DeviceStore<V> {
         keep: &mut K,
     ) -> Did
         requires track { t < self.old.cylinders * 15 }
+        requires kept { is_loose (state_of self.old) t ≡ true → is_some (frame_at (state_of self.old) t) ≡ true }
         requires none { self.old.half ≡ None }
         requires takes { Takes K.takes keep.old self.old.number (self.old.cylinders * 15) }
         ensures fixed { (self.new.number ≡ self.old.number) × (self.new.cylinders ≡ self.old.cylinders) }
@@ -102,6 +103,7 @@ impl<V: Volume> DeviceStore<V> {
         keep: &mut K,
     ) -> Result<Did, NoMemory>
         requires track { t < self.old.cylinders * 15 }
+        requires here { is_some self.old.pair.lent ≡ false }
         requires none { self.old.half ≡ None }
         requires takes { Takes K.takes keep.old self.old.number (self.old.cylinders * 15) }
         ensures fixed { (self.new.number ≡ self.old.number) × (self.new.cylinders ≡ self.old.cylinders) }

@@ -1,4 +1,4 @@
-ghost use Rattle.std.specs.Prelude.{◌≡◌, ◌<◌, ◌*◌, Some, false, true};
+ghost use Rattle.std.specs.Prelude.{◌≡◌, ◌<◌, ◌*◌, Some, false, is_some, true};
 ghost use Rattle.device_outside.specs.Outside.{Ran, where_ok};
 ghost use Rattle.device_defs.specs.Background.{granted, stage, staged_bytes};
 ghost use Rattle.device_defs.specs.Contents.{contents};
@@ -54,7 +54,7 @@ impl<V: Volume> DeviceStore<V> {
     ) -> Result<Did, NoMemory>
         requires track { t < self.old.cylinders * 15 }
         requires takes { Takes K.takes keep.old self.old.number (self.old.cylinders * 15) }
-        requires firm { is_loose (state_of self.old) t ≡ false }
+        requires firm { is_some self.old.pair.lent ≡ false → is_loose (state_of self.old) t ≡ false }
         ensures fixed { (self.new.number ≡ self.old.number) × (self.new.cylinders ≡ self.old.cylinders) }
         ensures half { self.new.half ≡ self.old.half }
         ensures weight { weight self.new.loose ≡ weight self.old.loose }

@@ -76,6 +76,7 @@ impl<V: Volume> DeviceStore<V> {
     /// Before the first write of a loose track it becomes firm, and no side holds it.
     pub(crate) fn firm_first<K: Keep<TrackImage>>(&mut self, t: TrackNo, keep: &mut K) -> bool
         requires track { t < self.old.cylinders * 15 }
+        requires kept { is_loose (state_of self.old) t ≡ true → is_some (frame_at (state_of self.old) t) ≡ true }
         requires takes { Takes K.takes keep.old self.old.number (self.old.cylinders * 15) }
         ensures fixed { (self.new.number ≡ self.old.number) × (self.new.cylinders ≡ self.old.cylinders) }
         ensures volume { self.new.pair.volumes ≡ self.old.pair.volumes }
@@ -538,6 +539,7 @@ impl<V: Volume> DeviceStore<V> {
         keep: &mut K,
     ) -> Took
         requires track { t < self.old.cylinders * 15 }
+        requires kept { is_loose (state_of self.old) t ≡ true → is_some (frame_at (state_of self.old) t) ≡ true }
         requires none { self.old.half ≡ None }
         requires takes { Takes K.takes keep.old self.old.number (self.old.cylinders * 15) }
         ensures fixed { (self.new.number ≡ self.old.number) × (self.new.cylinders ≡ self.old.cylinders) }

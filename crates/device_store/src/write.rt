@@ -5,7 +5,7 @@ ghost use Rattle.device_defs.specs.declared.answers.Choice.TheVariants.{Fast};
 ghost use Rattle.device_defs.specs.Choosing.{choose, fast_written, patch_with, provisionally_written};
 ghost use Rattle.device_defs.specs.Contents.{contents};
 ghost use Rattle.device_defs.specs.Editing.{another_loose, clean_again, is_given, unchosen, write, write_by, write_chosen};
-ghost use Rattle.device_defs.specs.Store.{frame_at, patch_at};
+ghost use Rattle.device_defs.specs.Store.{frame_at, is_loose, patch_at};
 ghost use Rattle.device_outside.specs.Interaction.{and_then};
 ghost use Rattle.device_outside.specs.Keeper.{BeforeEdit, Heard};
 ghost use Rattle.device_outside.specs.Outside.{Ran, where_ok};
@@ -146,6 +146,7 @@ impl<V: Volume> DeviceStore<V> {
     ) -> Took
         requires none { self.old.half ≡ None }
         requires track { t < self.old.cylinders * 15 }
+        requires kept { is_loose (state_of self.old) t ≡ true → is_some (frame_at (state_of self.old) t) ≡ true }
         requires fits { Fits usage.now.provisional (is_some (patch_at (state_of self.old) t)) choice }
         requires patch { room_for (stored_at self.old.patches t) ≤ self.old.edits }
         requires loose { usage.now.provisional ≡ true → loose_count self.old.loose.loose + 2 ≤ self.old.loose.spare }
@@ -252,6 +253,7 @@ impl<V: Volume> DeviceStore<V> {
     ) -> Result<Took, NoMemory>
         requires none { self.old.half ≡ None }
         requires track { t < self.old.cylinders * 15 }
+        requires kept { is_loose (state_of self.old) t ≡ true → is_some (frame_at (state_of self.old) t) ≡ true }
         requires image { image ≡ edited_image edit old.now }
         requires fits { Fits usage.now.provisional (is_some (patch_at (state_of self.old) t)) choice }
         requires patch { room_for (stored_at self.old.patches t) ≤ self.old.edits }
@@ -287,6 +289,7 @@ impl<V: Volume> DeviceStore<V> {
     ) -> Result<Took, NoMemory>
         requires none { self.old.half ≡ None }
         requires track { t < self.old.cylinders * 15 }
+        requires kept { is_loose (state_of self.old) t ≡ true → is_some (frame_at (state_of self.old) t) ≡ true }
         requires image { image ≡ edited_image edit old.now }
         requires patch { room_for (stored_at self.old.patches t) ≤ self.old.edits }
         requires loose { usage.now.provisional ≡ true → loose_count self.old.loose.loose + 2 ≤ self.old.loose.spare }
@@ -306,7 +309,7 @@ impl<V: Volume> DeviceStore<V> {
     }
 
     /// A command's write of a track that it read, behind others from `first` on. Memory is had before the first effect: what lacks
-    /// it later is the keeper, before the edit.
+    /// it later is the keeper, before the edit. No program runs where the volume is lent: there nothing is written.
     pub fn write<P: Port, K: Keep<TrackImage>>(
         &mut self,
         usage: &Usage,
@@ -328,6 +331,9 @@ impl<V: Volume> DeviceStore<V> {
         ensures weight { weight self.new.loose ≤ weight self.old.loose + 2 }
         ensures run { Ran (where_ok result) K.hears (write contents (state_of self.old) usage.now first t old.now edit) (outside (P.view port.old) self.old keep.old) (state_of self.new) (had (λ took. took) result) (outside (P.view port.new) self.new keep.new) }
     {
+        if self.pair.lent.is_some() {
+            return Err(NoMemory);
+        }
         let image = match edited(self.alloc, old, &edit) {
             Err(NoMemory) => return Err(NoMemory),
             Ok(image) => image,

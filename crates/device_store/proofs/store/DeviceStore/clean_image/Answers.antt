@@ -1,4 +1,6 @@
-use Rattle.std.proofs.Common.{ap}
+use Rattle.std.proofs.Common.{◌∙◌, ap, sym}
+use Rattle.std.specs.Prelude.{is_some}
+use Rattle.event_notes.specs.Loose.{is_loose_in}
 use Rattle.device_outside.specs.Outside.{done}
 use Rattle.device_outside.proofs.Runs.{asks}
 use Rattle.device_defs.specs.Contents.{contents}
@@ -19,3 +21,7 @@ returns-clause-run g c =
     rw (← c.is_bypass.ensures, c.if-is_bypass.false) (asks (rw c.if-touch.false at c.touch.ensures)
     (from_equal (λ z. miss contents z c.args.usage.now c.args.t) c.forget.ensures.state
     (ap (λ x. outside_of (g.P.Port.view c.touch.new.self) g.V.Volume.view x c.args.keep.now) c.forget.ensures.volume) c.miss-2.ensures.run))
+
+pub miss-2-requires-clause-firm : goal.miss-2-requires-clause-firm
+miss-2-requires-clause-firm g c = λ here.
+    ap (λ l. is_loose_in l.loose c.args.t) c.forget.ensures.loose ∙ c.requires.firm (ap (λ z. is_some z.lent) (sym c.forget.ensures.state) ∙ here)

@@ -12,8 +12,8 @@ invariant_of-self-clause-frame_of_each g c =
 pub invariant_of-self-clause-loose_modified : goal.invariant_of-self-clause-loose_modified
 invariant_of-self-clause-loose_modified g c =
     let there : c.args.t < length c.args.self.now.frames = omega (arith, c.requires.track, c.args.self.now.frame_of_each) in
-    rw (c.edit_frame.ensures.frames (state_of c.args.self.now) refl)
-    (still_modified c.args.self.now.frames (is_loose_in c.args.self.now.loose.loose) c.args.t _ refl there c.args.self.now.loose_modified)
+    λ here. rw (c.edit_frame.ensures.frames (state_of c.args.self.now) refl)
+    (still_modified c.args.self.now.frames (is_loose_in c.args.self.now.loose.loose) c.args.t _ refl there (c.args.self.now.loose_modified here))
 
 pub invariant_of-self-2-clause-frame_of_each : goal.invariant_of-self-2-clause-frame_of_each
 invariant_of-self-2-clause-frame_of_each g c =
@@ -22,5 +22,5 @@ invariant_of-self-2-clause-frame_of_each g c =
 pub invariant_of-self-2-clause-loose_modified : goal.invariant_of-self-2-clause-loose_modified
 invariant_of-self-2-clause-loose_modified g c =
     let there : c.args.t < length c.args.self.now.frames = omega (arith, c.requires.track, c.args.self.now.frame_of_each) in
-    rw (c.edit_frame.ensures.frames (state_of c.args.self.now) refl, c.loosen.ensures.loose)
-    (loosened_modified c.args.self.now.frames c.args.self.now.loose.loose c.args.t _ refl there c.args.self.now.loose_modified)
+    λ here. rw (c.edit_frame.ensures.frames (state_of c.args.self.now) refl, c.loosen.ensures.loose)
+    (loosened_modified c.args.self.now.frames c.args.self.now.loose.loose c.args.t _ refl there (c.args.self.now.loose_modified here))

@@ -18,3 +18,6 @@ returns-clause-run g c = λ p. rw (← c.has.ensures, c.if-has.false) done
 
 pub returns-then-has-clause-volume : goal.returns-then-has-clause-volume
 returns-then-has-clause-volume g c = c.stale_everywhere.ensures.volume ∙ ap (λ x. x.volumes) c.harden.ensures.volume
+
+pub frame_image-requires : goal.frame_image-requires
+frame_image-requires g c = c.requires.kept (sym c.has.ensures ∙ c.if-has.true)

@@ -26,8 +26,8 @@ returns-clause-run g c =
 
 pub clean_image-requires-clause-firm : goal.clean_image-requires-clause-firm
 clean_image-requires-clause-firm g c =
-    unframed_firm c.args.self.now.loose.loose c.args.self.now.frames c.args.t _ c.args.self.now.loose_modified refl (sym c.modified.ensures ∙ c.if-modified.false)
+    λ here. unframed_firm c.args.self.now.loose.loose c.args.self.now.frames c.args.t _ (c.args.self.now.loose_modified here) refl (sym c.modified.ensures ∙ c.if-modified.false)
 
 pub miss-requires-clause-firm : goal.miss-requires-clause-firm
 miss-requires-clause-firm g c =
-    unframed_firm c.args.self.now.loose.loose c.args.self.now.frames c.args.t _ c.args.self.now.loose_modified refl (sym c.modified.ensures ∙ c.if-modified.false)
+    λ here. unframed_firm c.args.self.now.loose.loose c.args.self.now.frames c.args.t _ (c.args.self.now.loose_modified here) refl (sym c.modified.ensures ∙ c.if-modified.false)

@@ -13,3 +13,7 @@ returns-then-got-clause-run g c =
 pub returns-clause-run : goal.returns-clause-run
 returns-clause-run g c =
     joined (λ z got. missed contents c.args.usage.now c.args.t z got got.bytes) (c.level_bytes-got.ensures.run _) (rw c.if-got.false done)
+
+pub deliver-requires-clause-firm : goal.deliver-requires-clause-firm
+deliver-requires-clause-firm g c =
+    c.level_bytes-got.ensures.firm c.args.t (c.requires.firm (c.level_bytes-got.ensures.here c.if-got.true).0)

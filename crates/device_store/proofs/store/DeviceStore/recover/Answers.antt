@@ -24,3 +24,6 @@ returns-clause-run g c =
     from_equal (λ i. i) (sym (recover_bare (state_of c.args.self.now) c.args.t _ (sym c.has.ensures ∙ c.if-has.false))) refl
     (joined (λ z got. recovered_bytes contents c.args.t z got got.bytes) (c.level_bytes-got.ensures.run _)
     (rw (c.if-got.false, c.did.ensures) done))
+
+pub recover_bytes-requires-clause-here : goal.recover_bytes-requires-clause-here
+recover_bytes-requires-clause-here g c = (c.level_bytes-got.ensures.here c.if-got.true).1

@@ -1,11 +1,12 @@
-use Rattle.std.proofs.Common.{◌≡◌, ◌∙◌, ◌*◌, Bool, List, ap, false, sym, true}
+use Rattle.std.proofs.Common.{◌≡◌, ◌∙◌, ◌*◌, Bool, List, ap, false, length, sym, true}
 use Rattle.std.specs.Prelude.{is_some, replicate}
-use Rattle.device_defs.specs.Store.{new_side, no_side}
+use Rattle.device_defs.specs.Store.{SideMarks, new_side}
 use Rattle.device_store.specs.State.{state_of}
 use Rattle.device_store.specs.State.{with_pair}
 use Rattle.device_store.proofs.Halved.{still_firm}
 use Rattle.device_store.proofs.Losing.{no_marks}
-use Rattle.device_store.proofs.Orders.{pair_is, replaced, sized}
+use Rattle.std.proofs.lemmas.List.{length-replicate}
+use Rattle.device_store.proofs.Orders.{not_both, pair_is}
 use Rattle.device_store.proofs.store.DeviceStore.restore.Goals as goal
 
 pub restore-requires : goal.restore-requires
@@ -25,3 +26,11 @@ returns-clause-state g c =
     ∙ ap (λ a. with_pair (record s { loose = replicate n false; acts = a }) c.restore.new.self) c.clear.ensures.acts
     ∙ pair_is (record s { loose = replicate n false }) c.restore.new.self (ap is_some e.b) e.rest.1 e.rest.0
     (e.marks ∙ ap (λ m. new_side m false) c.args.self.now.stale_of_each) e.other
+
+pub invariant_of-self-clause-stale_of_each : goal.invariant_of-self-clause-stale_of_each
+invariant_of-self-clause-stale_of_each g c =
+    ap (λ (m : SideMarks). length m.stale) c.restore.ensures.marks ∙ length-replicate (length c.args.self.now.pair.a.stale) false
+    ∙ c.args.self.now.stale_of_each
+
+pub invariant_of-self-clause-loose_modified : goal.invariant_of-self-clause-loose_modified
+invariant_of-self-clause-loose_modified g c = λ here q is. absurd (not_both _ is (rw c.clear.ensures.loose (no_marks _ q)))

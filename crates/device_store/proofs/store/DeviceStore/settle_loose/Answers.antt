@@ -5,7 +5,7 @@ use Rattle.device_defs.specs.Losses.{firm_told}
 use Rattle.device_store.specs.State.{state_of}
 use Rattle.device_store.proofs.Firming.{not_firm}
 use Rattle.device_store.proofs.Moves.{from_equal}
-use Rattle.device_store.proofs.Settling.{goes, stands}
+use Rattle.device_store.proofs.Settling.{goes, not_first, stands}
 use Rattle.device_store.proofs.store.DeviceStore.settle_loose.Goals as goal
 
 pub returns-then-stands-clause-run : goal.returns-then-stands-clause-run
@@ -18,3 +18,6 @@ pub returns-clause-run : goal.returns-clause-run
 returns-clause-run g c =
     λ p. from_equal (firm_told contents c.args.t) (sym (goes (state_of c.args.self.now) c.args.t (sym c.stands.ensures ∙ c.if-stands.false))) refl
     (c.harden_told.ensures.run p)
+
+pub harden_told-requires-clause-here : goal.harden_told-requires-clause-here
+harden_told-requires-clause-here g c = not_first _ _ _ (sym c.stands.ensures ∙ c.if-stands.false)

@@ -14,3 +14,7 @@ pub returns-clause-run : goal.returns-clause-run
 returns-clause-run g c =
     joined (λ z got. staged_bytes contents c.args.t z got got.bytes) (c.level_bytes-got.ensures.run _)
     (rw c.if-got.false (asks c.drop_frame.ensures (ended refl (ap Some (sym c.did.ensures)))))
+
+pub stage_bytes-requires-clause-firm : goal.stage_bytes-requires-clause-firm
+stage_bytes-requires-clause-firm g c =
+    c.level_bytes-got.ensures.firm c.args.t (c.requires.firm (c.level_bytes-got.ensures.here c.if-got.true).0)

@@ -7,6 +7,7 @@ use Rattle.device_defs.specs.Contents.{contents}
 use Rattle.device_store.specs.State.{state_of}
 use Rattle.device_store.proofs.Firmly.{modified_there}
 use Rattle.device_store.proofs.Writes.{destages, least_one, IsOne, if_some, none_destaged, destaged_framed}
+use Rattle.device_store.proofs.Volumes.{some_here}
 use Rattle.duplex_pair.proofs.Fronts.{least_of}
 use Rattle.device_store.proofs.store.DeviceStore.to_destage.Goals as goal
 
@@ -37,4 +38,4 @@ returns-then-some_up-clause-framed g c =
     let few : n ≤ 960 = omega (arith, c.args.self.now.most) in
     if_some _ _ (IsOne n (is_destaged contents s)) (λ t. is_some (frame_at s t) ≡ true)
     (c.first.ensures ∙ least_of n c.destaged.result (is_destaged contents s) few c.destaged.ensures (λ t le. none_destaged s n t c.args.self.now.frame_of_each c.args.self.now.loose_of_each le))
-    (λ t one. destaged_framed s t (λ loose. modified_there _ (c.args.self.now.loose_modified t loose)) one.passes) (least_one n (is_destaged contents s))
+    (λ t one. destaged_framed s t (λ loose. modified_there _ (c.args.self.now.loose_modified (some_here c.args.self.now.pair (sym c.some_up.ensures ∙ c.if-some_up.true)) t loose)) one.passes) (least_one n (is_destaged contents s))
