@@ -30,9 +30,9 @@ copied_from : (s : StoreOf) (t : ℕ) (h : HalfWrite) → alone_in s t (Some (ha
     peek_half contents s t (Some (half_of h)) ≡ tried s (Done s (Some (Track h.image)))
 copied_from s t h e = ap (λ (b : Bool). if b then tried s (Done s (Some (Track h.image))) else peek_image contents s t) e
 
-pub half_there : (half : Option HalfWrite) (t : ℕ) (rest : Bool) → (half_is (option_map half_of half) t && rest) ≡ true → is_some half ≡ true
-half_there None t rest e = absurd cc
-half_there (Some h) t rest e = refl
+pub half_there : (half : Option HalfWrite) (t : ℕ) (p q : Bool) → (half_is (option_map half_of half) t && p && q) ≡ true → is_some half ≡ true
+half_there None t p q e = absurd cc
+half_there (Some h) t p q e = refl
 
 module _ {K E : Type 0} {hears : Hearing Image K} (s : StoreOf) (t : ℕ) {w : Outside (List ℕ) K} where
   pub copied_run : (half : Option HalfWrite) (r : Result answers.Peeked E) → IfOk r (IsHalfCopied half) →
@@ -47,6 +47,7 @@ module _ {K E : Type 0} {hears : Hearing Image K} (s : StoreOf) (t : ℕ) {w : O
   copied_run (Some h) (Ok (peeks.Track i)) is e =
       from_equal (λ i. i) (sym (copied_from s t h e)) refl (tries true refl (ended refl (ap (λ (x : Image). Some (Track x)) (sym is))))
 
+module _ {E : Type 0} (s : StoreOf) (t : ℕ) where
   pub copied_there : (half : Option HalfWrite) (r : Result answers.Peeked E) → IfOk r (IsHalfCopied half) → IfOk r (IsPeeked s t)
   copied_there half (Err x) is = tt
   copied_there None (Ok x) is = absurd is

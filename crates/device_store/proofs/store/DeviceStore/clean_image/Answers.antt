@@ -22,6 +22,6 @@ returns-clause-run g c =
     (from_equal (λ z. miss contents z c.args.usage.now c.args.t) c.forget.ensures.state
     (ap (λ x. outside_of (g.P.Port.view c.touch.new.self) g.V.Volume.view x c.args.keep.now) c.forget.ensures.volume) c.miss-2.ensures.run))
 
-pub miss-2-requires-clause-firm : goal.miss-2-requires-clause-firm
-miss-2-requires-clause-firm g c = λ here.
+pub miss-requires-2-clause-firm : goal.miss-requires-2-clause-firm
+miss-requires-2-clause-firm g c = λ here.
     ap (λ l. is_loose_in l.loose c.args.t) c.forget.ensures.loose ∙ c.requires.firm (ap (λ z. is_some z.lent) (sym c.forget.ensures.state) ∙ here)

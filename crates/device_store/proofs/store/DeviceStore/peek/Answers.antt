@@ -1,4 +1,6 @@
 use Rattle.std.proofs.Common.{◌∙◌, refl, ap, sym, Some}
+use Rattle.std.specs.Prelude.{is_some, not}
+use Rattle.device_defs.specs.Store.{frame_at, has_level}
 use Rattle.device_outside.specs.Interaction.{Done}
 use Rattle.device_outside.specs.Outside.{done}
 use Rattle.device_outside.proofs.Runs.{ended, joined}
@@ -10,7 +12,9 @@ use Rattle.device_store.proofs.Peeking.{copied_run, copied_there, half_there, no
 use Rattle.device_store.proofs.store.DeviceStore.peek.Goals as goal
 
 pub half_copied-requires : goal.half_copied-requires
-half_copied-requires g c = half_there c.args.self.now.half c.args.t _ (sym c.is_in_half.ensures ∙ c.if-is_in_half.true)
+half_copied-requires g c =
+    let s = state_of c.args.self.now in
+    half_there c.args.self.now.half c.args.t (not (is_some (frame_at s c.args.t))) (not (has_level s c.args.t)) (sym c.is_in_half.ensures ∙ c.if-is_in_half.true)
 
 pub returns-then-has-clause-run : goal.returns-then-has-clause-run
 returns-then-has-clause-run g c = rw (← c.has.ensures, c.if-has.true) done

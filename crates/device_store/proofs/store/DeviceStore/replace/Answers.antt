@@ -17,3 +17,6 @@ returns-clause-state g c =
     let e = c.replace.ensures in
     replaced c.args.self.now c.replace.new.self c.args.side _ c.args.volume e.volume e.others c.requires.there e.rest
     (e.marks ∙ ap (λ n. new_side n true) c.args.self.now.stale_of_each) e.other
+
+pub invariant_of-self-clause-loose_modified : goal.invariant_of-self-clause-loose_modified
+invariant_of-self-clause-loose_modified g c = λ here. c.args.self.now.loose_modified (ap is_some c.requires.here)
