@@ -228,11 +228,7 @@ impl<V: Volume> DeviceStore<V> {
     }
 
     /// The second part of the open half write.
-    pub fn second<P: Port, K: Keep<TrackImage>>(
-        &mut self,
-        port: &mut P,
-        keep: &mut K,
-    ) -> SecondPart
+    pub fn second<P: Port, K: Keep<TrackImage>>(&mut self, port: &mut P, keep: &mut K) -> SecondPart
         requires open { is_some self.old.half ≡ true }
         requires takes { Takes K.takes keep.old self.old.number (self.old.cylinders * 15) }
         ensures fixed { (self.new.number ≡ self.old.number) × (self.new.cylinders ≡ self.old.cylinders) }

@@ -30,9 +30,9 @@ impl<V: Volume> DeviceStore<V> {
         self.owed.set(t, owed);
     }
 
-    /// The frame of a track that isn't loose is given up.
+    /// The frame of a track is given up. It isn't loose, or the volume is lent.
     pub(crate) fn give_up_frame(&mut self, t: TrackNo)
-        requires { is_loose (state_of self.old) t ≡ false }
+        requires { is_some self.old.pair.lent ≡ false → is_loose (state_of self.old) t ≡ false }
         ensures fixed { (self.new.number ≡ self.old.number) × (self.new.cylinders ≡ self.old.cylinders) }
         ensures volume { self.new.pair ≡ self.old.pair }
         ensures half { self.new.half ≡ self.old.half }
@@ -288,6 +288,7 @@ impl<V: Volume> DeviceStore<V> {
     /// A loose track becomes firm, and the keeper is told its frame's image.
     fn harden_told<K: Keep<TrackImage>>(&mut self, t: TrackNo, keep: &mut K)
         requires track { t < self.old.cylinders * 15 }
+        requires here { is_some self.old.pair.lent ≡ false }
         requires loose { is_loose (state_of self.old) t ≡ true }
         requires takes { Takes K.takes keep.old self.old.number (self.old.cylinders * 15) }
         ensures fixed { (self.new.number ≡ self.old.number) × (self.new.cylinders ≡ self.old.cylinders) }

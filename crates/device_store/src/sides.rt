@@ -1,14 +1,16 @@
-ghost use Rattle.std.specs.Prelude.{◌≡◌, ◌<◌, ◌≤◌, ◌*◌, None, Some, false, is_some, replicate, true};
+ghost use Rattle.std.specs.Prelude.{◌≡◌, ◌<◌, ◌≤◌, ◌*◌, ℕ, None, Some, false, is_some, replicate, true};
 ghost use Rattle.track_table.specs.Tracks.{count_below};
 ghost use Rattle.device_defs.specs.Contents.{contents};
-ghost use Rattle.device_defs.specs.Orders.{given_up};
-ghost use Rattle.device_defs.specs.Store.{is_loose, new_side, no_side, side_of, stale_at, with_side};
+ghost use Rattle.device_defs.specs.Losses.{over};
+ghost use Rattle.device_defs.specs.Orders.{given_up, lent_to};
+ghost use Rattle.device_defs.specs.Store.{new_side, no_side, side_of, stale_at, with_side};
 ghost use Rattle.duplex_pair.specs.Sides.{other_of, volume_of};
 ghost use Rattle.event_notes.specs.Loose.{weight};
 ghost use Rattle.device_store.specs.State.{on_a, on_b, state_of};
 
 use crate::DeviceStore;
-use ckd_types::{DeviceNo, Side, TrackNo};
+use crate::marks::track;
+use ckd_types::{DeviceNo, HEADS, Side, TrackNo};
 use device_outside::Volume;
 
 impl<V: Volume> DeviceStore<V> {
@@ -87,14 +89,14 @@ impl<V: Volume> DeviceStore<V> {
         ensures b { on_b self.new ≡ on_b self.old }
         ensures state { state_of self.new ≡ record (state_of self.old) { lent = None; a = new_side (self.old.cylinders * 15) false; loose = replicate (self.old.cylinders * 15) false } }
     {
-        self.pair.restore(volume);
         self.loose.clear();
+        self.pair.restore(volume);
     }
 
-    /// The frame and the patch of a track are given up.
+    /// The frame and the patch of a track are given up. The volume is lent.
     fn give_up(&mut self, t: TrackNo)
         requires track { t < self.old.cylinders * 15 }
-        requires firm { is_loose (state_of self.old) t ≡ false }
+        requires away { is_some self.old.pair.lent ≡ true }
         ensures fixed { (self.new.number ≡ self.old.number) × (self.new.cylinders ≡ self.old.cylinders) }
         ensures volume { self.new.pair ≡ self.old.pair }
         ensures half { self.new.half ≡ self.old.half }
@@ -103,6 +105,40 @@ impl<V: Volume> DeviceStore<V> {
     {
         self.give_up_frame(t);
         self.give_up_patch(t);
+    }
+
+    /// The same of all tracks.
+    fn give_up_all(&mut self)
+        requires { is_some self.old.pair.lent ≡ true }
+        ensures fixed { (self.new.number ≡ self.old.number) × (self.new.cylinders ≡ self.old.cylinders) }
+        ensures volume { self.new.pair ≡ self.old.pair }
+        ensures half { self.new.half ≡ self.old.half }
+        ensures loose { self.new.loose ≡ self.old.loose }
+        ensures state { state_of self.new ≡ over (self.old.cylinders * 15) (given_up contents) (state_of self.old) }
+    {
+        let tracks = u16::from(self.cylinders) * HEADS;
+        for t in 0..tracks {
+            self.give_up(track(t));
+        }
+    }
+
+    /// The volume of a device that is alone leaves for another's pair: frames, patches, lost marks and queued tracks are given up.
+    /// Its loose tracks stay that. It answers the volume.
+    pub fn lend(&mut self, to: DeviceNo) -> Option<V>
+        requires { self.old.pair.b.up ≡ false }
+        ensures fixed { (self.new.number ≡ self.old.number) × (self.new.cylinders ≡ self.old.cylinders) }
+        ensures half { self.new.half ≡ self.old.half }
+        ensures loose { self.new.loose ≡ self.old.loose }
+        ensures a { on_a self.new ≡ None }
+        ensures b { on_b self.new ≡ on_b self.old }
+        ensures back { result ≡ on_a self.old }
+        ensures state { state_of self.new ≡ lent_to (over (self.old.cylinders * 15) (given_up contents) (state_of self.old)) to }
+    {
+        let volume = self.pair.lend(to);
+        self.give_up_all();
+        self.lost.clear();
+        self.queue.clear();
+        volume
     }
 
     /// Whether there are two sides.

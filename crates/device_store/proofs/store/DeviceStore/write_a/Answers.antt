@@ -21,7 +21,7 @@ pub returns-then-write_side-clause-run : goal.returns-then-write_side-clause-run
 returns-then-write_side-clause-run g c =
     let s = state_of c.args.self.now in
     let now = ap (λ (n : Counts). with_pair (record s { counts = n }) c.write_side.new.pair) c.write_side.ensures.counts
-        ∙ same_by_a (write_counted s c.write_side.result) c.write_side.ensures.sides c.write_side.ensures.other in
+    ∙ same_by_a (write_counted s c.write_side.result) c.write_side.ensures.sides c.write_side.ensures.other in
     λ p. from_equal (λ i. i) (sym (written_a s c.args.t _ c.requires.up)) refl
     (writes_on_a g.V.Volume.view c.args.self.now.pair.volumes c.write_side.new.pair.volumes c.write_side.ensures.before c.write_side.ensures.there c.write_side.ensures.other c.write_side.ensures.wrote
     (from_equal (first_a contents c.args.t (track_bytes c.args.image.now.track) (write_counted s c.write_side.result)) (sym c.if-write_side.true) refl
@@ -32,7 +32,7 @@ pub returns-clause-run : goal.returns-clause-run
 returns-clause-run g c =
     let s = state_of c.args.self.now in
     let now = ap (λ (n : Counts). with_pair (record s { counts = n }) c.write_side.new.pair) c.write_side.ensures.counts
-        ∙ same_by_a (write_counted s c.write_side.result) c.write_side.ensures.sides c.write_side.ensures.other in
+    ∙ same_by_a (write_counted s c.write_side.result) c.write_side.ensures.sides c.write_side.ensures.other in
     λ p. from_equal (λ i. i) (sym (written_a s c.args.t _ c.requires.up)) refl
     (writes_on_a g.V.Volume.view c.args.self.now.pair.volumes c.write_side.new.pair.volumes c.write_side.ensures.before c.write_side.ensures.there c.write_side.ensures.other c.write_side.ensures.wrote
     (from_equal (first_a contents c.args.t (track_bytes c.args.image.now.track) (write_counted s c.write_side.result)) (sym c.if-write_side.false) refl

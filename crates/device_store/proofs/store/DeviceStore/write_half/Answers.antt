@@ -22,7 +22,7 @@ returns-then-takes_second-clause-run g c =
     let s = state_of c.args.self.now in
     let w = c.write_open-took.ensures in
     let now = ap (λ (n : Counts). with_pair (record s { counts = n }) c.write_open-took.new.pair) w.counts
-        ∙ same_by_b (write_counted s c.write_open-took.result) w.sides w.before w.there in
+    ∙ same_by_b (write_counted s c.write_open-took.result) w.sides w.before w.there in
     λ h p is. from_equal (λ i. i) (sym (second_b s h.track _ (sym c.takes_second.ensures ∙ c.if-takes_second.true))) refl
     (writes_on_b g.V.Volume.view c.args.self.now.pair.volumes c.write_open-took.new.pair.volumes w.before w.there w.other (w.wrote h is)
     (from_equal (λ z. tried_b contents h.track z c.write_open-took.result) now refl
