@@ -24,9 +24,11 @@ returns-clause-device g c =
 
 pub returns-in-Err-clause-same : goal.returns-in-Err-clause-same
 returns-in-Err-clause-same g c =
-    let old = c.args.self.now in
-    (sym (same_device (state_of old.store) old.paths old.plans old.past c.reserve_fresh.new.self c.in-Err.ensures.history
-    (ap (option_map chain_of) c.in-Err.ensures.running)), refl)
+    let old = c.args.self.now in (
+      sym (same_device (state_of old.store) old.paths old.plans old.past c.reserve_fresh.new.self c.in-Err.ensures.history
+          (ap (option_map chain_of) c.in-Err.ensures.running)),
+      refl,
+    )
 
 pub invariant_of-self-clause-act_room : goal.invariant_of-self-clause-act_room
 invariant_of-self-clause-act_room g c =
