@@ -1,4 +1,3 @@
-use Rattle.std.proofs.Common.{refl}
 use Rattle.device_outside.specs.Outside.{done}
 use Rattle.device_outside.proofs.Runs.{tells}
 use Rattle.device_store.proofs.store.DeviceStore.cut.Goals as goal

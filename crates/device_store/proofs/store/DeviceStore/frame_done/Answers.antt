@@ -1,9 +1,6 @@
-use Rattle.std.proofs.Common.{refl, sym, ap, ◌∙◌, true}
-use Rattle.device_outside.specs.Outside.{done}
+use Rattle.std.proofs.Common.{refl}
 use Rattle.device_outside.proofs.Runs.{asks}
-use Rattle.device_defs.specs.Contents.{contents}
-use Rattle.device_defs.specs.Writing.{done_by, write_done}
-use Rattle.device_store.specs.Looks.{frame_in}
+use Rattle.device_defs.specs.Writing.{write_done}
 use Rattle.device_store.specs.State.{state_of}
 use Rattle.device_store.proofs.Moves.{from_equal}
 use Rattle.device_store.proofs.Writes.{clean_is}

@@ -1,4 +1,4 @@
-use Rattle.std.proofs.Common.{◌≡◌, ◌∙◌, Bool, List, Some, Option, ap, sym}
+use Rattle.std.proofs.Common.{◌∙◌, Bool, List, Some, Option, ap, sym}
 use Rattle.track_cache.specs.declared.frames.Frame.{Frame}
 use Rattle.device_defs.specs.Contents.{contents}
 use Rattle.device_defs.specs.Losses.{without_patch}

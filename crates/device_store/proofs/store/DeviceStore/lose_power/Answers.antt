@@ -1,6 +1,6 @@
-use Rattle.std.proofs.Common.{◌≡◌, ◌∙◌, ◌*◌, ℕ, List, [], None, ap}
+use Rattle.std.proofs.Common.{◌≡◌, ◌∙◌, ◌*◌, ℕ, List, [], ap}
 use Rattle.device_defs.specs.Contents.{contents}
-use Rattle.device_defs.specs.Cutting.{half_lost, loose_gone, powerless}
+use Rattle.device_defs.specs.Cutting.{half_lost, loose_gone}
 use Rattle.device_defs.specs.declared.counts.Losses.{Losses}
 use Rattle.device_defs.specs.Events.{with_loss}
 use Rattle.device_defs.specs.Losses.{over, settled, without_frame}

@@ -1,7 +1,6 @@
-use Rattle.std.proofs.Common.{refl, sym, true, Some, ◌∙◌}
-use Rattle.device_outside.specs.Interaction.{Done}
+use Rattle.std.proofs.Common.{refl, sym, ◌∙◌}
 use Rattle.device_outside.specs.Outside.{done}
-use Rattle.device_outside.proofs.Runs.{tries, joined}
+use Rattle.device_outside.proofs.Runs.{joined}
 use Rattle.device_defs.specs.Background.{recovered_bytes}
 use Rattle.device_defs.specs.Contents.{contents}
 use Rattle.device_store.specs.State.{state_of}

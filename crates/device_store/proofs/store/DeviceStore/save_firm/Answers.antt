@@ -1,5 +1,5 @@
-use Rattle.std.proofs.Common.{refl, sym, ap, None, false}
-use Rattle.device_outside.specs.Interaction.{Done, and_then}
+use Rattle.std.proofs.Common.{refl, sym, None, false}
+use Rattle.device_outside.specs.Interaction.{Done}
 use Rattle.device_outside.specs.Outside.{done}
 use Rattle.device_outside.proofs.Runs.{joined}
 use Rattle.device_defs.specs.Background.{did, saved_by}

@@ -1,4 +1,4 @@
-use Rattle.std.proofs.Common.{◌≡◌, ◌∙◌, ap, refl, sym}
+use Rattle.std.proofs.Common.{◌≡◌, ◌∙◌, ap, refl}
 use Rattle.device_outside.proofs.Runs.{joined}
 use Rattle.device_defs.specs.Contents.{contents}
 use Rattle.device_defs.specs.Cutting.{is_of_command}

@@ -1,7 +1,5 @@
-use Rattle.std.proofs.Common.{refl, sym, ap, true, Some, ◌∙◌}
-use Rattle.device_outside.specs.Interaction.{Done}
+use Rattle.std.proofs.Common.{refl, sym, ap}
 use Rattle.device_outside.specs.Outside.{done}
-use Rattle.device_outside.proofs.Runs.{tries, joined}
 use Rattle.device_defs.specs.Background.{stage, destage_first, to_destage}
 use Rattle.device_defs.specs.Contents.{contents}
 use Rattle.device_store.specs.State.{state_of, outside_of}

@@ -1,4 +1,4 @@
-use Rattle.std.proofs.Common.{◌≡◌, ◌∙◌, Bool, true, ap, sym, refl}
+use Rattle.std.proofs.Common.{◌∙◌, Bool, true, ap, sym}
 use Rattle.std.specs.Prelude.{if◌then◌else◌}
 use Rattle.ckd_types.specs.declared.paths.Side.TheVariants.{A, B}
 use Rattle.device_defs.specs.Store.{with_stale}

@@ -6,7 +6,6 @@ use Rattle.device_outside.proofs.Runs.{tries, ended}
 use Rattle.device_defs.specs.Choosing.{choose}
 use Rattle.device_defs.specs.Contents.{contents}
 use Rattle.device_defs.specs.Editing.{write, write_chosen}
-use Rattle.device_store.specs.Looks.{frame_in}
 use Rattle.device_store.specs.State.{outside_of}
 use Rattle.device_store.proofs.Firmly.{modified_there}
 use Rattle.device_store.proofs.Moves.{lands, had_ok, from_equal}

@@ -1,20 +1,12 @@
-use Rattle.std.proofs.Common.{◌∙◌, ap, refl, sym, true, false, Bool, Some, None}
-use Rattle.ckd_types.specs.declared.paths.Side.TheVariants.{A, B}
-use Rattle.ckd_types.specs.Track.{track_bytes}
-use Rattle.device_outside.specs.Interaction.{Done}
+use Rattle.std.proofs.Common.{◌∙◌, ap, refl, sym}
 use Rattle.device_outside.specs.Outside.{done}
-use Rattle.device_outside.proofs.Runs.{ended, joined}
 use Rattle.device_defs.specs.Contents.{contents}
-use Rattle.device_defs.specs.declared.answers.Took.TheVariants.{Opened, Unwritten, Whole}
 use Rattle.device_defs.specs.declared.counts.Counts.{Counts}
-use Rattle.device_defs.specs.Losses.{call_failed}
-use Rattle.device_defs.specs.Store.{takes_b, with_stale}
-use Rattle.device_defs.specs.Writing.{alone_b, failed_a, first_a, taken_a, tried_b, unwritten, write_counted, write_first, wrote}
-use Rattle.device_store.specs.Looks.{frame_in}
-use Rattle.device_store.specs.State.{outside_of, state_of, with_pair}
-use Rattle.device_store.proofs.Moves.{from_equal, lands}
-use Rattle.device_store.proofs.Volumes.{same_by_a, same_by_b, writes_on_a, writes_on_b}
-use Rattle.device_store.proofs.Writes.{image_is, none_taken, refused_by_a, second_b, second_none, taken_alone, up_from, written_a, written_b}
+use Rattle.device_defs.specs.Writing.{tried_b, write_counted}
+use Rattle.device_store.specs.State.{state_of, with_pair}
+use Rattle.device_store.proofs.Moves.{from_equal}
+use Rattle.device_store.proofs.Volumes.{same_by_b, writes_on_b}
+use Rattle.device_store.proofs.Writes.{second_b, second_none, up_from}
 use Rattle.device_store.proofs.store.DeviceStore.write_second.Goals as goal
 
 pub write_side-took-requires-clause-up : goal.write_side-took-requires-clause-up
