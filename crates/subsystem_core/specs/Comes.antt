@@ -27,7 +27,7 @@ use Rattle.subsystem_defs.specs.Happening.{is_lent_to}
 use Rattle.subsystem_defs.specs.Refusals.{replace_fault, unpair_fault}
 use Rattle.subsystem_core.specs.declared.end.EventEnd.{EventEnd}
 use Rattle.subsystem_core.specs.declared.subsystem.Subsystem.{Subsystem}
-use Rattle.subsystem_core.specs.Devices.{devices_of, device_at, put_at}
+use Rattle.subsystem_core.specs.Devices.{devices_of, device_at, put_at, volumes_of}
 use Rattle.subsystem_core.specs.Ends.{end_had, where_some, Answers}
 
 abbrev pub OwnDeed : Type 0
@@ -134,6 +134,10 @@ module _ {V : Type 0} {G : Ghosts V} where
   abbrev pub Replaced : ℕ → Side → V → Option (Device V G) → Subsystem V G → EventEnd → Subsystem V G → Type 0
   Replaced d side volume (Some x) old end new = ReplacedBy d side volume (replace_fault (device_of x) side) old end new
   Replaced d side volume None old end new = ⊥
+
+  -- each is what it was, on the same volumes
+  abbrev pub AreStill : List (Device V G) → List (Device V G) → Type 0
+  AreStill old new = (devices_of new ≡ devices_of old) × (volumes_of new ≡ volumes_of old)
 
   -- side B has left
   pub record IsSplit (before behind : Device V G) : Type 0 where

@@ -1,8 +1,8 @@
-ghost use Rattle.std.specs.Prelude.{◌≡◌, ◌*◌, IfOk, IfSome, IsOk, None, Some, false, true};
+ghost use Rattle.std.specs.Prelude.{◌≡◌, ◌*◌, IfErr, IfOk, IfSome, None, OnErr, OnOk, Some, false, is_some, true};
 ghost use Rattle.device_outside.specs.Lists.{is_in};
 ghost use Rattle.device_core.specs.State.{device_of};
 ghost use Rattle.subsystem_defs.specs.Happening.{is_lent_to};
-ghost use Rattle.subsystem_core.specs.Comes.{Came, Changes, IsSplit, Joins, Restored, Unpaired};
+ghost use Rattle.subsystem_core.specs.Comes.{AreStill, Came, Changes, IsSplit, Joins, Restored, Unpaired};
 ghost use Rattle.subsystem_core.specs.Devices.{device_at, numbers_of};
 ghost use Rattle.subsystem_core.specs.Pairs.{HasPairFault, IsFirstLent, IsJoined, IsLent};
 
@@ -60,7 +60,7 @@ impl<V: Volume> Subsystem<V> {
     /// A volume becomes side B of a device.
     fn join_at(&mut self, d: DeviceNo, volume: V)
         requires here { is_in d (numbers_of self.old.devices.items) ≡ true }
-        requires free { IfSome (device_at self.old.devices.items d) (λ x. x.store.pair.lent ≡ None) }
+        requires free { IfSome (device_at self.old.devices.items d) (λ x. is_some (device_of x).store.lent ≡ false) }
         requires size { IfSome (device_at self.old.devices.items d) (λ x. (V.view volume).tracks ≡ x.store.cylinders * 15) }
         ensures numbers { numbers_of self.new.devices.items ≡ numbers_of self.old.devices.items }
         ensures pool { self.new.pool ≡ self.old.pool }
@@ -113,34 +113,40 @@ impl<V: Volume> Subsystem<V> {
         let _volume = self.devices[at].split();
     }
 
-    /// The device that is lent to this one has a volume again.
-    fn restore_lent(&mut self, a: DeviceNo, volume: V)
+    /// The device that is lent to this one gets a volume again. Room in its journal is made first.
+    fn restore_lent(&mut self, a: DeviceNo, volume: V) -> Result<(), (NoMemory, V)>
         requires here { is_in a (numbers_of self.old.devices.items) ≡ true }
         requires size { IfSome (device_at self.old.devices.items a) (λ x. (V.view volume).tracks ≡ x.store.cylinders * 15) }
         ensures numbers { numbers_of self.new.devices.items ≡ numbers_of self.old.devices.items }
         ensures pool { self.new.pool ≡ self.old.pool }
-        ensures restored { Restored a volume self.old.devices.items self.new.devices.items }
+        ensures restored { OnOk result (Restored a volume self.old.devices.items self.new.devices.items) }
+        ensures still { OnErr result (AreStill self.old.devices.items self.new.devices.items) }
+        ensures back { IfErr result (λ e. e.1 ≡ volume) }
     {
         match lent_place(&self.devices, a) {
             Some(at) => self.devices[at].restore(volume),
-            None => (),
+            None => Ok(()),
         }
     }
 
     /// Side B leaves a device, and its volume is dropped. The device that had lent it gets a volume of empty tracks, 15 for each
-    /// cylinder, and is empty. Takes no memory, so that it is always had.
+    /// cylinder, and is empty. Refused, it drops the volume; where memory is lacking, nothing is changed and the volume comes back.
     pub fn unpair(&mut self, a: DeviceNo, volume: V) -> Result<EventEnd, (NoMemory, V)>
         requires here { is_in a (numbers_of self.old.devices.items) ≡ true }
         requires size { IfSome (device_at self.old.devices.items a) (λ x. (V.view volume).tracks ≡ x.store.cylinders * 15) }
         ensures numbers { numbers_of self.new.devices.items ≡ numbers_of self.old.devices.items }
-        ensures had { IsOk result }
         ensures unpaired { IfOk result (λ end. Unpaired a volume (device_at self.old.devices.items a) self.old end self.new) }
+        ensures lacked { OnErr result ((self.new.pool ≡ self.old.pool) × AreStill self.old.devices.items self.new.devices.items) }
+        ensures back { IfErr result (λ e. e.1 ≡ volume) }
     {
         if let Some(fault) = unpair_fault(self.device(a)) {
             return Ok(EventEnd::Refused(fault));
         }
+        match self.restore_lent(a, volume) {
+            Err((NoMemory, volume)) => return Err((NoMemory, volume)),
+            Ok(()) => (),
+        }
         self.split_at(a);
-        self.restore_lent(a, volume);
         Ok(EventEnd::Done)
     }
 }
