@@ -153,10 +153,10 @@ module _ {V : Type 0} {G : Ghosts V} where
 
   -- the first device that was lent to this one has the volume; where none was, it is dropped
   pub data Restored (n : ℕ) (volume : V) : List (Device V G) → List (Device V G) → Type 0 where
-    nowhere : Restored n volume [] []
-    here : {x y : Device V G} {xs : List (Device V G)} → is_lent_to x.store.pair.lent n ≡ true → IsRestored volume x y →
+    none_was_lent : Restored n volume [] []
+    this_was_lent : {x y : Device V G} {xs : List (Device V G)} → is_lent_to x.store.pair.lent n ≡ true → IsRestored volume x y →
         Restored n volume (x ∷ xs) (y ∷ xs)
-    behind : {x : Device V G} {xs ys : List (Device V G)} → is_lent_to x.store.pair.lent n ≡ false → Restored n volume xs ys →
+    another_was_lent : {x : Device V G} {xs ys : List (Device V G)} → is_lent_to x.store.pair.lent n ≡ false → Restored n volume xs ys →
         Restored n volume (x ∷ xs) (x ∷ ys)
 
   -- side B leaves the one, and the other has a volume again

@@ -1,5 +1,5 @@
 -- What the parts of an order do that makes a pair or takes it apart.
-use Rattle.std.specs.Prelude.{◌≡◌, ◌<◌, ℕ, true, false, List, length, slice_get, Option, Some, None, option_map}
+use Rattle.std.specs.Prelude.{◌≡◌, ◌<◌, ℕ, ◌*◌, true, false, List, length, slice_get, Option, Some, None, option_map}
 use Rattle.device_outside.specs.declared.keep.NoKeep.{NoKeep}
 use Rattle.device_outside.specs.declared.volume.Volume.{Ghosts}
 use Rattle.device_outside.specs.Keeper.{reply}
@@ -25,6 +25,7 @@ module _ {V : Type 0} {G : Ghosts V} where
   pub record IsLent (to : ℕ) (volume : Option V) (pool new : Shared) (before behind : Device V G) : Type 0 where
     pub asked : (k : NoKeep) → Ran surely (λ _ m r _. r ≡ reply m) (lend contents (device_of before) to) (outside (shared_view pool) before.store k)
         (device_of behind) tt (record (outside (shared_view new) behind.store k) { a = option_map G.view volume })
+    pub number : behind.store.number ≡ before.store.number
     pub gone : on_a behind.store ≡ None
     pub volume_is : volume ≡ on_a before.store
 
@@ -33,6 +34,11 @@ module _ {V : Type 0} {G : Ghosts V} where
     pub device : device_of behind ≡ join (device_of before)
     pub a : on_a behind.store ≡ on_a before.store
     pub b : on_b behind.store ≡ Some volume
+
+  -- the device is there, and the volume has as many tracks
+  abbrev pub IsOfSize : V → Option (Device V G) → Type 0
+  IsOfSize volume (Some x) = (G.view volume).tracks ≡ x.store.cylinders * 15
+  IsOfSize volume None = ⊥
 
   -- the one at that place is lent to this device
   pub record IsLentAt (n : ℕ) (ds : List (Device V G)) (i : ℕ) : Type 0 where

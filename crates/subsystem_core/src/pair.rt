@@ -4,7 +4,7 @@ ghost use Rattle.device_core.specs.State.{device_of};
 ghost use Rattle.subsystem_defs.specs.Happening.{is_lent_to};
 ghost use Rattle.subsystem_core.specs.Comes.{AreStill, Came, Changes, IsSplit, Joins, Restored, Unpaired};
 ghost use Rattle.subsystem_core.specs.Devices.{device_at, numbers_of};
-ghost use Rattle.subsystem_core.specs.Pairs.{HasPairFault, IsFirstLent, IsJoined, IsLent};
+ghost use Rattle.subsystem_core.specs.Pairs.{HasPairFault, IsFirstLent, IsJoined, IsLent, IsOfSize};
 
 use crate::refusal::{pair_fault, unpair_fault};
 use crate::{EventEnd, Subsystem};
@@ -113,10 +113,22 @@ impl<V: Volume> Subsystem<V> {
         let _volume = self.devices[at].split();
     }
 
-    /// The device that is lent to this one gets a volume again. Room in its journal is made first.
+    /// The device at that place, which is lent to this one, gets a volume again. Room in its journal is made first.
+    fn restore_at(&mut self, at: usize, a: DeviceNo, volume: V) -> Result<(), (NoMemory, V)>
+        requires lent { IsFirstLent a self.old.devices.items (Some at) }
+        requires size { IsOfSize volume (device_at self.old.devices.items a) }
+        ensures numbers { numbers_of self.new.devices.items ≡ numbers_of self.old.devices.items }
+        ensures pool { self.new.pool ≡ self.old.pool }
+        ensures restored { OnOk result (Restored a volume self.old.devices.items self.new.devices.items) }
+        ensures still { OnErr result (AreStill self.old.devices.items self.new.devices.items) }
+        ensures back { IfErr result (λ e. e.1 ≡ volume) }
+    {
+        self.devices[at].restore(volume)
+    }
+
+    /// The device that is lent to this one gets a volume again.
     fn restore_lent(&mut self, a: DeviceNo, volume: V) -> Result<(), (NoMemory, V)>
-        requires here { is_in a (numbers_of self.old.devices.items) ≡ true }
-        requires size { IfSome (device_at self.old.devices.items a) (λ x. (V.view volume).tracks ≡ x.store.cylinders * 15) }
+        requires { IsOfSize volume (device_at self.old.devices.items a) }
         ensures numbers { numbers_of self.new.devices.items ≡ numbers_of self.old.devices.items }
         ensures pool { self.new.pool ≡ self.old.pool }
         ensures restored { OnOk result (Restored a volume self.old.devices.items self.new.devices.items) }
@@ -124,7 +136,7 @@ impl<V: Volume> Subsystem<V> {
         ensures back { IfErr result (λ e. e.1 ≡ volume) }
     {
         match lent_place(&self.devices, a) {
-            Some(at) => self.devices[at].restore(volume),
+            Some(at) => self.restore_at(at, a, volume),
             None => Ok(()),
         }
     }
