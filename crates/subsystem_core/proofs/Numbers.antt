@@ -81,7 +81,7 @@ by_table places ns n table h =
     let same : get_or places n 0 ≡ it.0 = ap (λ m. get_or places m 0) (sym it.2) ∙ table it.0 it.1 in
     (rw same it.1, rw same (slice_get-get_or ns it.0 0 it.1 ∙ ap Some it.2))
 
-lt_or_eq : (j i : ℕ) → j < i + 1 → (j < i) ⊎ (j ≡ i)
+pub lt_or_eq : (j i : ℕ) → j < i + 1 → (j < i) ⊎ (j ≡ i)
 lt_or_eq j i h = grind arith
 
 -- a table of one place more

@@ -3,17 +3,24 @@ use Rattle.std.proofs.Common.{◌≡◌, ◌∙◌, ◌==◌, ◌*◌, ℕ, Bool
 use Rattle.std.specs.Prelude.{IfSome}
 use Rattle.std.proofs.lemmas.Bool.{eqb-true}
 use Rattle.device_outside.specs.declared.volume.Volume.{Ghosts}
+use Rattle.device_defs.specs.Contents.{contents}
 use Rattle.frame_pool.specs.Shared.{Shared}
 use Rattle.device_store.specs.State.{on_a}
 use Rattle.duplex_pair.specs.Volumes.{view_in}
 use Rattle.device_core.specs.declared.device.Device.{Device}
 use Rattle.device_core.specs.State.{device_of}
+use Rattle.subsystem_defs.specs.declared.end.EventEnd.TheVariants as answers
+use Rattle.subsystem_defs.specs.declared.end.OrderFault.{OrderFault}
+use Rattle.subsystem_defs.specs.declared.event.Event.TheVariants as events
 use Rattle.subsystem_defs.proofs.Unrefused.{MayPair, may_pair}
 use Rattle.subsystem_core.specs.declared.subsystem.Subsystem.{Subsystem}
-use Rattle.subsystem_core.specs.Comes.{Changes, Joins}
+use Rattle.subsystem_core.specs.declared.end.EventEnd.TheVariants as ends
+use Rattle.subsystem_core.specs.Comes.{Came, Changes, IsSame, Joins}
 use Rattle.subsystem_core.specs.Devices.{device_at, put_at}
 use Rattle.subsystem_core.specs.Pairs.{HasPairFault, IsJoined, IsLent}
-use Rattle.subsystem_core.proofs.Found.{at_other, eq_self, number_found, some_same}
+use Rattle.subsystem_core.proofs.Coming.{ended, joined}
+use Rattle.subsystem_core.proofs.Deeds as deeds
+use Rattle.subsystem_core.proofs.Found.{at_other, eq_self, found_in, number_found, some_same}
 
 turned : (m n : ℕ) → (m == n) ≡ false → (n == m) ≡ false
 turned m n off = by_test (n == m) refl
@@ -98,3 +105,21 @@ module _ {V : Type 0} {G : Ghosts V} where
         stands = ch.stands ∙ ap (λ (ds : List (Device V G)). put_at ds a ch.behind) l.stands;
       } in
       subst (λ (p : Option (Device V G)). IfSome p (λ y. Joins a b (device_of y) old new)) (sym l.stood) j
+
+  -- The event
+
+  pub pair_refused : (a b : ℕ) (old new : Subsystem V G) (o p : Option (Device V G)) (fault : OrderFault) → device_at old.devices.items a ≡ o →
+      device_at old.devices.items b ≡ p → HasPairFault o p (Some fault) → IsSame old new → Came (events.Pair a b) old (Some (ends.Refused fault)) new
+  pair_refused a b old new (Some x) (Some y) fault first second is same =
+      ended old new (events.Pair a b) (answers.Refused fault) (ends.Refused fault)
+      (deeds.pair_refused contents _ _ a b _ _ (found_in old.devices.items a x first) (found_in old.devices.items b y second) fault is) (λ h. refl) same
+  pair_refused a b old new (Some x) None fault first second is same = absurd is
+  pair_refused a b old new None p fault first second is same = absurd is
+
+  pub pair_done : (a b : ℕ) (old new : Subsystem V G) (o p : Option (Device V G)) → device_at old.devices.items a ≡ o → device_at old.devices.items b ≡ p →
+      HasPairFault o p None → IfSome p (λ y. Joins a b (device_of y) old new) → Came (events.Pair a b) old (Some ends.Done) new
+  pair_done a b old new (Some x) (Some y) first second is so =
+      joined old new (events.Pair a b) a b x y first second
+      (deeds.paired contents _ _ a b _ _ (found_in old.devices.items a x first) (found_in old.devices.items b y second) is) so
+  pair_done a b old new (Some x) None first second is so = absurd is
+  pair_done a b old new None p first second is so = absurd is

@@ -1,8 +1,8 @@
 -- A pair is taken apart.
-use Rattle.std.proofs.Common.{◌≡◌, ◌∙◌, ◌<◌, ◌==◌, ◌*◌, ℕ, zero, suc, Bool, true, false, List, [], ◌∷◌, Option, Some, None, arith, get_or, is_some, set, refl, sym, ap, subst}
+use Rattle.std.proofs.Common.{◌≡◌, ◌∙◌, ◌<◌, ◌⊎◌, inl, inr, length, ◌==◌, ◌*◌, ℕ, zero, suc, Bool, true, false, List, [], ◌∷◌, Option, Some, None, arith, get_or, is_some, set, refl, sym, ap, subst}
 use Rattle.std.specs.Prelude.{OnErr, OnOk, Result, Ok, Err, if◌then◌else◌, slice_get}
 use Rattle.std.proofs.lemmas.Bool.{eqb-true}
-use Rattle.std.proofs.lemmas.Option.{get_or_from_slice_get}
+use Rattle.std.proofs.lemmas.Option.{get_or_from_slice_get, slice_get_within}
 use Rattle.std.proofs.Math.Seq.{map-set_same}
 use Rattle.device_outside.specs.declared.volume.Volume.{Ghosts}
 use Rattle.device_defs.specs.Orders.{restore, split}
@@ -16,6 +16,7 @@ use Rattle.subsystem_core.specs.Devices.{devices_of, device_at, put_at, volumes_
 use Rattle.subsystem_core.specs.Pairs.{AreElsewhere, IsFirstLent, IsLentAt, IsOfSize}
 use Rattle.subsystem_core.specs.Seats.{seats_of, AreAlike}
 use Rattle.subsystem_core.proofs.Found.{some_same}
+use Rattle.subsystem_core.proofs.Numbers.{lt_or_eq}
 use Rattle.subsystem_core.proofs.Seating.{alike_kept, alike_restored, cylinders_found, seat_there, sits_by}
 
 pub lent_is : (o : Option ℕ) (n : ℕ) → is_lent_to o n ≡ true → o ≡ Some n
@@ -25,7 +26,7 @@ lent_is (Some to) n is = ap Some (eqb-true to n is)
 module _ {V : Type 0} {G : Ghosts V} where
   -- The one that was lent
 
-  pub none_restored : (n : ℕ) (volume : V) (ds : List (Device V G)) → ((j : ℕ) (x : Device V G) → slice_get ds j ≡ Some x →
+  none_restored : (n : ℕ) (volume : V) (ds : List (Device V G)) → ((j : ℕ) (x : Device V G) → slice_get ds j ≡ Some x →
       is_lent_to x.store.pair.lent n ≡ false) → Restored n volume ds ds
   none_restored n volume [] others = none_was_lent
   none_restored n volume (d ∷ ds) others = another_was_lent (others 0 d refl) (none_restored n volume ds (λ j x is. others (suc j) x is))
@@ -52,6 +53,36 @@ module _ {V : Type 0} {G : Ghosts V} where
   -- it is there
   pub stands_at : (ds : List (Device V G)) (i : ℕ) (x d : Device V G) → x ≡ get_or ds i x → slice_get ds i ≡ Some d → x ≡ d
   stands_at ds i x d read is = read ∙ get_or_from_slice_get ds i d x is
+
+  pub place_of : (n : ℕ) (ds : List (Device V G)) (i : ℕ) → IsFirstLent n ds (Some i) → i < length ds
+  place_of n ds i first = slice_get_within ds i first.0.device first.0.stands
+
+  pub record StandsThere (n : ℕ) (ds : List (Device V G)) (i : ℕ) (x : Device V G) : Type 0 where
+    pub stands : slice_get ds i ≡ Some x
+    pub lent : is_lent_to x.store.pair.lent n ≡ true
+
+  pub stands_there : (n : ℕ) (ds : List (Device V G)) (i : ℕ) (x : Device V G) → IsFirstLent n ds (Some i) → x ≡ get_or ds i x → StandsThere n ds i x
+  stands_there n ds i x first read =
+      let same : x ≡ first.0.device = stands_at ds i x first.0.device read first.0.stands in
+      record {
+        stands = first.0.stands ∙ ap Some (sym same);
+        lent = subst (λ (z : Device V G). is_lent_to z.store.pair.lent n ≡ true) (sym same) first.0.lent;
+      }
+
+  -- one place more
+  pub else_more : (n : ℕ) (ds : List (Device V G)) (i : ℕ) (x : Device V G) → i < length ds → x ≡ get_or ds i x → is_lent_to x.store.pair.lent n ≡ false →
+      AreElsewhere n ds i → AreElsewhere n ds (suc i)
+  else_more n ds i x within read off others j z below at = by_place (lt_or_eq j i below)
+    where
+      by_place : (j < i) ⊎ (j ≡ i) → is_lent_to z.store.pair.lent n ≡ false
+      by_place (inl less) = others j z less at
+      by_place (inr same) =
+          let here : slice_get ds i ≡ Some z = subst (λ (k : ℕ). slice_get ds k ≡ Some z) same at in
+          let it : x ≡ z = stands_at ds i x z read here in
+          subst (λ (w : Device V G). is_lent_to w.store.pair.lent n ≡ false) it off
+
+  pub restored_nowhere : (n : ℕ) (volume : V) (ds : List (Device V G)) → AreElsewhere n ds (length ds) → Restored n volume ds ds
+  restored_nowhere n volume ds others = none_restored n volume ds (λ j x is. others j x (slice_get_within ds j x is) is)
 
   module _ (x y : Device V G) where
     abbrev pub Again : {E : Type 0} → Result (Unit {0}) E → Type 0
