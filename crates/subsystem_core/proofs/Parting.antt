@@ -71,7 +71,7 @@ module _ {V : Type 0} {G : Ghosts V} where
 
   -- one place more
   pub else_more : (n : ℕ) (ds : List (Device V G)) (i : ℕ) (x : Device V G) → i < length ds → x ≡ get_or ds i x → is_lent_to x.store.pair.lent n ≡ false →
-      AreElsewhere n ds i → AreElsewhere n ds (suc i)
+      AreElsewhere n ds i → (j : ℕ) (z : Device V G) → j < suc i → slice_get ds j ≡ Some z → is_lent_to z.store.pair.lent n ≡ false
   else_more n ds i x within read off others j z below at = by_place (lt_or_eq j i below)
     where
       by_place : (j < i) ⊎ (j ≡ i) → is_lent_to z.store.pair.lent n ≡ false

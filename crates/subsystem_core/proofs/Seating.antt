@@ -69,7 +69,8 @@ same_cylinders (z ∷ zs) (suc i) x y is number cylinders n =
 
 -- another one sits there, which is as large as the device to which it is lent
 pub alike_behind : (xs : List Seat) (i : ℕ) (x y : Seat) → slice_get xs i ≡ Some x → y.number ≡ x.number → y.cylinders ≡ x.cylinders →
-    ((n m : ℕ) → y.lent ≡ Some n → cylinders_at xs n ≡ Some m → m ≡ y.cylinders) → AreAlike xs → AreAlike (set xs i y)
+    ((n m : ℕ) → y.lent ≡ Some n → cylinders_at xs n ≡ Some m → m ≡ y.cylinders) → AreAlike xs → (j n m : ℕ) (w : Seat) →
+    slice_get (set xs i y) j ≡ Some w → w.lent ≡ Some n → cylinders_at (set xs i y) n ≡ Some m → m ≡ w.cylinders
 alike_behind xs i x y is number cylinders lent alike j n m w at to large = by_place (at_set xs i j y w at)
   where
     before : cylinders_at xs n ≡ Some m
