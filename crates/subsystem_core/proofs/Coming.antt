@@ -267,9 +267,11 @@ module _ {V : Type 0} {G : Ghosts V} where
     joined a b x y first second is so =
         let number = number_found old.devices.items a x first in
         let other = number_found old.devices.items b y second in
-        came_by (Some ends.Done) (Lends (device_of x) (device_of y)) is
-        ((λ h. refl), subst (λ (n : ℕ). Joins n y.store.number (device_of y) old new) (sym number)
-        (subst (λ (m : ℕ). Joins a m (device_of y) old new) (sym other) so))
+        came_by (Some ends.Done) (Lends (device_of x) (device_of y)) is (
+          (λ h. refl),
+          subst (λ (n : ℕ). Joins n y.store.number (device_of y) old new) (sym number)
+              (subst (λ (m : ℕ). Joins a m (device_of y) old new) (sym other) so),
+        )
 
     -- nothing changed
     pub ended : (end : ends_of.EventEnd) (a : EventEnd) → deed contents old.pool.pool (devices_of old.devices.items) e ≡ Ends end →

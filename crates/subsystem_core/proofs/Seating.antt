@@ -153,7 +153,7 @@ module _ {V : Type 0} {G : Ghosts V} where
       by_lent n m at has =
           let same : to ≡ n = some_same (sym lent ∙ at) in
           let size : cylinders_at (seats_of ds) n ≡ Some z.store.cylinders = subst (λ (k : ℕ). cylinders_at (seats_of ds) k ≡ Some z.store.cylinders) same
-              (cylinders_found ds to z found) in
+          (cylinders_found ds to z found) in
           some_same (sym has ∙ size) ∙ large ∙ sym cylinders
 
   -- one isn't lent any more

@@ -14,10 +14,10 @@ invariant_of-self g c =
       rising = rw same c.args.self.now.rising;
       table = rw same c.args.self.now.table;
       alike = alike_kept c.args.self.now.devices.items c.place-at.result c.index_mut.result.now c.background.new.self c.index_mut.ensures.value (record {
-      number = c.background.ensures.fixed.0;
-      cylinders = c.background.ensures.fixed.1;
-      lent = ran_lent (background_based contents (device_of c.index_mut.result.now)) (c.background.ensures.run (record {}));
-    }) c.args.self.now.alike;
+        number = c.background.ensures.fixed.0;
+        cylinders = c.background.ensures.fixed.1;
+        lent = ran_lent (background_based contents (device_of c.index_mut.result.now)) (c.background.ensures.run (record {}));
+      }) c.args.self.now.alike;
     }
 
 pub returns-clause-numbers : goal.returns-clause-numbers

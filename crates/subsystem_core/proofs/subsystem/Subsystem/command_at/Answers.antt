@@ -24,10 +24,10 @@ invariant_of-self g c =
       rising = rw same c.args.self.now.rising;
       table = rw same c.args.self.now.table;
       alike = alike_kept c.args.self.now.devices.items c.place-at.result c.index_mut.result.now c.command.new.self c.index_mut.ensures.value (record {
-      number = c.command.ensures.fixed.0;
-      cylinders = c.command.ensures.fixed.1;
-      lent = ran_lent (command_based contents (device_of c.index_mut.result.now)) (c.command.ensures.run (record {}));
-    }) c.args.self.now.alike;
+        number = c.command.ensures.fixed.0;
+        cylinders = c.command.ensures.fixed.1;
+        lent = ran_lent (command_based contents (device_of c.index_mut.result.now)) (c.command.ensures.run (record {}));
+      }) c.args.self.now.alike;
     }
 
 pub returns-clause-numbers : goal.returns-clause-numbers

@@ -13,10 +13,10 @@ invariant_of-self g c =
       rising = rw same c.args.self.now.rising;
       table = rw same c.args.self.now.table;
       alike = alike_kept c.args.self.now.devices.items c.place-at.result c.index_mut.result.now c.lose.new.self c.index_mut.ensures.value (record {
-      number = c.lose.ensures.fixed.0;
-      cylinders = c.lose.ensures.fixed.1;
-      lent = ran_lent (lose_based contents (device_of c.index_mut.result.now) c.args.loss) (c.lose.ensures.run (record {}));
-    }) c.args.self.now.alike;
+        number = c.lose.ensures.fixed.0;
+        cylinders = c.lose.ensures.fixed.1;
+        lent = ran_lent (lose_based contents (device_of c.index_mut.result.now) c.args.loss) (c.lose.ensures.run (record {}));
+      }) c.args.self.now.alike;
     }
 
 pub returns-clause-numbers : goal.returns-clause-numbers

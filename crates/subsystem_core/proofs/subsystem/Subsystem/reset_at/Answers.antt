@@ -13,10 +13,10 @@ invariant_of-self g c =
       rising = rw same c.args.self.now.rising;
       table = rw same c.args.self.now.table;
       alike = alike_kept c.args.self.now.devices.items c.place-at.result c.index_mut.result.now c.reset.new.self c.index_mut.ensures.value (record {
-      number = c.reset.ensures.fixed.0;
-      cylinders = c.reset.ensures.fixed.1;
-      lent = ran_lent (reset_body contents (device_of c.index_mut.result.now) c.args.path) (c.reset.ensures.run (P.no_pool 0) (record {}));
-    }) c.args.self.now.alike;
+        number = c.reset.ensures.fixed.0;
+        cylinders = c.reset.ensures.fixed.1;
+        lent = ran_lent (reset_body contents (device_of c.index_mut.result.now) c.args.path) (c.reset.ensures.run (P.no_pool 0) (record {}));
+      }) c.args.self.now.alike;
     }
 
 pub returns-clause-numbers : goal.returns-clause-numbers

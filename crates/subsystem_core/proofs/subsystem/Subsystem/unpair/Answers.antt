@@ -17,6 +17,11 @@ returns-in-Some-clause-unpaired g c =
 pub returns-clause-unpaired : goal.returns-clause-unpaired
 returns-clause-unpaired g c =
     let free = sym c.unpair_fault.ensures ∙ c.in_default.is in
-    rw c.device.ensures (rw free ((λ p. refl), (c.split_at.ensures.pool ∙ c.in-Ok.ensures.pool,
-    parts c.args.a c.args.volume c.args.self.now.devices.items _ _ c.device.result.now c.device.ensures (parts_up (device_of c.device.result.now) free)
-    c.in-Ok.ensures.restored c.split_at.ensures.split)))
+    rw c.device.ensures (rw free (
+      (λ p. refl),
+      (
+        c.split_at.ensures.pool ∙ c.in-Ok.ensures.pool,
+        parts c.args.a c.args.volume c.args.self.now.devices.items _ _ c.device.result.now c.device.ensures (parts_up (device_of c.device.result.now) free)
+            c.in-Ok.ensures.restored c.split_at.ensures.split,
+      ),
+    ))
