@@ -33,11 +33,11 @@ use Rattle.subsystem_defs.specs.declared.event.Event.{Event}
 use Rattle.subsystem_defs.specs.declared.end.OrderFault.{OrderFault}
 use Rattle.subsystem_defs.specs.declared.end.OrderFault.TheVariants.{NoSide}
 use Rattle.subsystem_defs.specs.Refusals.{first_cause, lent_by, where_so, replace_fault}
-use Rattle.subsystem_defs.specs.Deeds.{Ends, Becomes, Asks, Each, Repairs, ends_by, may_end_by, ends_done, end_of, is_own, deed}
+use Rattle.subsystem_defs.specs.Deeds.{Ends, Becomes, Asks, Each, Repairs, Lends, ends_by, may_end_by, ends_done, end_of, is_own, deed}
 use Rattle.subsystem_core.specs.declared.end.EventEnd.{EventEnd}
 use Rattle.subsystem_core.specs.declared.end.EventEnd.TheVariants as ends
 use Rattle.subsystem_core.specs.declared.subsystem.Subsystem.{Subsystem}
-use Rattle.subsystem_core.specs.Comes.{OwnDeed, Talk, with_pool, AskedWith, Changes, Swept, IsNow, IsStill, StartsBy, IsSame, AskedBy, CameBy, Came}
+use Rattle.subsystem_core.specs.Comes.{OwnDeed, Talk, with_pool, AskedWith, Changes, Swept, IsNow, IsStill, StartsBy, IsSame, AskedBy, CameBy, Came, Joins}
 use Rattle.subsystem_core.specs.Devices.{devices_of, device_at}
 use Rattle.subsystem_core.specs.Ends.{end_had, Answers}
 use Rattle.subsystem_core.proofs.Found.{changed_into, number_found, some_same}
@@ -259,6 +259,19 @@ module _ {V : Type 0} {G : Ghosts V} where
     pub repaired : (p : Pool) → deed contents old.pool.pool (devices_of old.devices.items) e ≡ Repairs p → new.pool ≡ with_pool old.pool p →
         new.devices.items ≡ old.devices.items → Came e old (Some ends.Done) new
     repaired p is pool devices = came_by (Some ends.Done) (Repairs p) is ((λ h. refl), pool, devices)
+
+    -- two devices became a pair
+    pub joined : (a b : ℕ) (x y : Device V G) → device_at old.devices.items a ≡ Some x → device_at old.devices.items b ≡ Some y →
+        deed contents old.pool.pool (devices_of old.devices.items) e ≡ Lends (device_of x) (device_of y) → Joins a b (device_of y) old new →
+        Came e old (Some ends.Done) new
+    joined a b x y first second is so =
+        let number = number_found old.devices.items a x first in
+        let other = number_found old.devices.items b y second in
+        came_by (Some ends.Done) (Lends (device_of x) (device_of y)) is (
+          (λ h. refl),
+          subst (λ (n : ℕ). Joins n y.store.number (device_of y) old new) (sym number)
+              (subst (λ (m : ℕ). Joins a m (device_of y) old new) (sym other) so),
+        )
 
     -- nothing changed
     pub ended : (end : ends_of.EventEnd) (a : EventEnd) → deed contents old.pool.pool (devices_of old.devices.items) e ≡ Ends end →

@@ -16,8 +16,8 @@ use Rattle.subsystem_defs.specs.declared.end.EventEnd.TheVariants as ends
 use Rattle.subsystem_defs.specs.declared.end.OrderFault.{OrderFault}
 use Rattle.subsystem_defs.specs.declared.end.OrderFault.TheVariants.{Down, Up}
 use Rattle.subsystem_defs.specs.declared.event.Event.TheVariants as events
-use Rattle.subsystem_defs.specs.Deeds.{Ends, Becomes, Asks, Each, Repairs, ends_done, is_own, device_in, ends_by, may_end_by, deed}
-use Rattle.subsystem_defs.specs.Refusals.{suspend_fault, resume_fault, fail_fault}
+use Rattle.subsystem_defs.specs.Deeds.{Ends, Becomes, Asks, Each, Repairs, Lends, ends_done, is_own, device_in, ends_by, may_end_by, deed}
+use Rattle.subsystem_defs.specs.Refusals.{pair_fault, suspend_fault, resume_fault, fail_fault}
 
 module _ {F P H R : Type 0} (c : Contents F P H R) (pool : Pool) (ds : List (Device F P H)) where
   -- One device
@@ -86,6 +86,17 @@ module _ {F P H R : Type 0} (c : Contents F P H R) (pool : Pool) (ds : List (Dev
     pub resume_refused : (f : OrderFault) → resume_fault d ≡ Some f → deed c pool ds (events.Resume n) ≡ Ends (ends.Refused f)
     unfolding deed
     resume_refused f fault = rw (is, fault) refl
+
+  -- Two of them
+
+  module _ (n m : ℕ) (d e : Device F P H) (is : device_in ds n ≡ Some d) (other : device_in ds m ≡ Some e) where
+    pub pair_refused : (f : OrderFault) → pair_fault d e ≡ Some f → deed c pool ds (events.Pair n m) ≡ Ends (ends.Refused f)
+    unfolding deed
+    pair_refused f fault = rw (is, other, fault) refl
+
+    pub paired : pair_fault d e ≡ None → deed c pool ds (events.Pair n m) ≡ Lends d e
+    unfolding deed
+    paired fault = rw (is, other, fault) refl
 
   -- All of them
 

@@ -46,7 +46,7 @@ use Rattle.subsystem_core.proofs.Numbers.{first_is_least, rest_rises}
 pub some_same : {X : Type 0} {x y : X} → Some x ≡ Some y → x ≡ y
 some_same e = cc
 
-eq_self : (n : ℕ) → (n == n) ≡ true
+pub eq_self : (n : ℕ) → (n == n) ≡ true
 eq_self n = grind arith
 
 not_eq : (m n : ℕ) → m < n → (m == n) ≡ false
@@ -116,6 +116,16 @@ module _ {V : Type 0} {G : Ghosts V} where
 
   pub number_nowhere : (ds : List (Device V G)) (i : ℕ) → length ds ≤ i → slice_get (numbers_of ds) i ≡ None
   number_nowhere ds i past = slice_get-map number_of ds i ∙ ap (option_map number_of) (slice_get_past ds i past)
+
+  -- another one's place changes nothing of this one
+  pub at_other : (ds : List (Device V G)) (n m : ℕ) (y : Device V G) → y.store.number ≡ n → (n == m) ≡ false →
+      device_at (put_at ds n y) m ≡ device_at ds m
+  at_other [] n m y is off = refl
+  at_other (d ∷ ds) n m y is off = by_test (d.store.number == n) refl
+    where
+      by_test : (b : Bool) → (d.store.number == n) ≡ b → device_at (if b then y ∷ ds else d ∷ put_at ds n y) m ≡ device_at (d ∷ ds) m
+      by_test true e = rw (is, eqb-true d.store.number n e, off) refl
+      by_test false e = ap (λ (o : Option (Device V G)). if d.store.number == m then Some d else o) (at_other ds n m y is off)
 
   -- Changes
 

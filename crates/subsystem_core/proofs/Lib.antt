@@ -1,6 +1,9 @@
 pub mod Numbers
 pub mod Found
+pub mod Seating
 pub mod Sweeping
 pub mod Deeds
 pub mod Coming
+pub mod Pairing
+pub mod Parting
 pub mod Running

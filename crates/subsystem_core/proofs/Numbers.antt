@@ -36,7 +36,7 @@ use Rattle.std.specs.Prelude.{◌&&◌, ◌==◌, nat_lt, slice_get, if◌then�
 use Rattle.device_outside.specs.Lists.{is_in}
 use Rattle.subsystem_core.specs.Places.{are_rising, is_before, IsTable}
 
-both : (a b : Bool) → (a && b) ≡ true → (a ≡ true) × (b ≡ true)
+pub both : (a b : Bool) → (a && b) ≡ true → (a ≡ true) × (b ≡ true)
 both true true h = (refl, refl)
 both true false h = absurd (cc)
 both false b h = absurd (cc)
@@ -81,7 +81,7 @@ by_table places ns n table h =
     let same : get_or places n 0 ≡ it.0 = ap (λ m. get_or places m 0) (sym it.2) ∙ table it.0 it.1 in
     (rw same it.1, rw same (slice_get-get_or ns it.0 0 it.1 ∙ ap Some it.2))
 
-lt_or_eq : (j i : ℕ) → j < i + 1 → (j < i) ⊎ (j ≡ i)
+pub lt_or_eq : (j i : ℕ) → j < i + 1 → (j < i) ⊎ (j ≡ i)
 lt_or_eq j i h = grind arith
 
 -- a table of one place more

@@ -1,5 +1,5 @@
 -- What an event came to, between the subsystem before and behind it. An answer of None says that memory was lacking.
-use Rattle.std.specs.Prelude.{◌≡◌, ℕ, Bool, List, [], ◌∷◌, Option, Some, None, Result, Ok, Err}
+use Rattle.std.specs.Prelude.{◌≡◌, ℕ, Bool, true, false, List, [], ◌∷◌, Option, Some, None, Result, Ok, Err}
 use Rattle.ckd_types.specs.declared.paths.Side.{Side}
 use Rattle.nv_store.specs.declared.patches.Stored.{Stored}
 use Rattle.track_cache.specs.declared.frames.Frame.{Frame}
@@ -12,7 +12,7 @@ use Rattle.device_outside.specs.Outside.{PortView, Ran}
 use Rattle.device_outside.specs.Pool.{Pool}
 use Rattle.frame_pool.specs.Shared.{Shared, shared_view}
 use Rattle.device_defs.specs.Contents.{contents}
-use Rattle.device_defs.specs.Orders.{join, lend, replace}
+use Rattle.device_defs.specs.Orders.{join, lend, replace, restore, split}
 use Rattle.device_defs.specs.Start.{start, next_ordinal}
 use Rattle.device_store.specs.State.{on_a, on_b, outside, surely}
 use Rattle.duplex_pair.specs.Sides.{other_of, volume_of}
@@ -23,10 +23,11 @@ use Rattle.subsystem_defs.specs.declared.end.EventEnd.TheVariants.{Done, Refused
 use Rattle.subsystem_defs.specs.declared.end.OrderFault.{OrderFault}
 use Rattle.subsystem_defs.specs.declared.event.Event.{Event}
 use Rattle.subsystem_defs.specs.Deeds.{Deed, Ends, Becomes, Asks, Each, Repairs, Lends, deed}
-use Rattle.subsystem_defs.specs.Refusals.{replace_fault}
+use Rattle.subsystem_defs.specs.Happening.{is_lent_to}
+use Rattle.subsystem_defs.specs.Refusals.{replace_fault, unpair_fault}
 use Rattle.subsystem_core.specs.declared.end.EventEnd.{EventEnd}
 use Rattle.subsystem_core.specs.declared.subsystem.Subsystem.{Subsystem}
-use Rattle.subsystem_core.specs.Devices.{devices_of, device_at, put_at}
+use Rattle.subsystem_core.specs.Devices.{devices_of, device_at, put_at, volumes_of}
 use Rattle.subsystem_core.specs.Ends.{end_had, where_some, Answers}
 
 abbrev pub OwnDeed : Type 0
@@ -87,7 +88,7 @@ module _ {V : Type 0} {G : Ghosts V} where
   abbrev pub AskedBy : Talk (Option defs.EventEnd) → Subsystem V G → Option EventEnd → Subsystem V G → Device V G → Device V G → Type 0
   AskedBy talk old a new before behind = AskedWith (where_some a) talk (end_had behind.past a) old.pool before behind new.pool
 
-  -- The device of that number lends its volume, which becomes side B of the other. No call does that yet
+  -- the device of that number lends its volume, which becomes side B of the other
   pub record Joins (to from : ℕ) (y : DefinedDevice) (old new : Subsystem V G) : Type 0 where
     pub before : Device V G
     pub behind : Device V G
@@ -116,7 +117,7 @@ module _ {V : Type 0} {G : Ghosts V} where
   abbrev pub Came : Event → Subsystem V G → Option EventEnd → Subsystem V G → Type 0
   Came e old a new = CameBy (deed contents old.pool.pool (devices_of old.devices.items) e) old a new
 
-  -- The order for which a volume is handed in
+  -- The orders for which a volume is handed in
 
   abbrev pub IsReplaced : Side → V → Device V G → Device V G → Type 0
   IsReplaced side volume before behind =
@@ -133,3 +134,43 @@ module _ {V : Type 0} {G : Ghosts V} where
   abbrev pub Replaced : ℕ → Side → V → Option (Device V G) → Subsystem V G → EventEnd → Subsystem V G → Type 0
   Replaced d side volume (Some x) old end new = ReplacedBy d side volume (replace_fault (device_of x) side) old end new
   Replaced d side volume None old end new = ⊥
+
+  -- each is what it was, on the same volumes
+  abbrev pub AreStill : List (Device V G) → List (Device V G) → Type 0
+  AreStill old new = (devices_of new ≡ devices_of old) × (volumes_of new ≡ volumes_of old)
+
+  -- side B has left
+  pub record IsSplit (before behind : Device V G) : Type 0 where
+    pub device : device_of behind ≡ split (device_of before)
+    pub a : on_a behind.store ≡ on_a before.store
+    pub b : on_b behind.store ≡ None
+
+  -- a device that was lent has this volume, and is empty
+  pub record IsRestored (volume : V) (before behind : Device V G) : Type 0 where
+    pub device : device_of behind ≡ restore (device_of before)
+    pub a : on_a behind.store ≡ Some volume
+    pub b : on_b behind.store ≡ on_b before.store
+
+  -- the first device that was lent to this one has the volume; where none was, it is dropped
+  pub data Restored (n : ℕ) (volume : V) : List (Device V G) → List (Device V G) → Type 0 where
+    none_was_lent : Restored n volume [] []
+    this_was_lent : {x y : Device V G} {xs : List (Device V G)} → is_lent_to x.store.pair.lent n ≡ true → IsRestored volume x y →
+        Restored n volume (x ∷ xs) (y ∷ xs)
+    another_was_lent : {x : Device V G} {xs ys : List (Device V G)} → is_lent_to x.store.pair.lent n ≡ false → Restored n volume xs ys →
+        Restored n volume (x ∷ xs) (x ∷ ys)
+
+  -- side B leaves the one, and the other has a volume again
+  pub record Parts (n : ℕ) (volume : V) (old new : List (Device V G)) : Type 0 where
+    pub between : List (Device V G)
+    pub split : Changes n IsSplit old between
+    pub restored : Restored n volume between new
+
+  abbrev pub UnpairedBy : ℕ → V → Option OrderFault → Subsystem V G → EventEnd → Subsystem V G → Type 0
+  UnpairedBy n volume (Some fault) old end new = Answers (Some end) (Refused fault) × IsSame old new
+  UnpairedBy n volume None old end new =
+      Answers (Some end) Done × (new.pool ≡ old.pool) × Parts n volume old.devices.items new.devices.items
+
+  -- the device of this number is this one, and its pair was taken apart
+  abbrev pub Unpaired : ℕ → V → Option (Device V G) → Subsystem V G → EventEnd → Subsystem V G → Type 0
+  Unpaired n volume (Some x) old end new = UnpairedBy n volume (unpair_fault (device_of x)) old end new
+  Unpaired n volume None old end new = ⊥

@@ -1,6 +1,7 @@
 -- The devices of a subsystem by their numbers.
 use Rattle.std.specs.Prelude.{ℕ, ◌==◌, List, [], ◌∷◌, Option, Some, None, map, if◌then◌else◌}
 use Rattle.device_outside.specs.declared.volume.Volume.{Ghosts}
+use Rattle.duplex_pair.specs.declared.pair.SideVolumes.{SideVolumes}
 use Rattle.device_core.specs.declared.device.Device.{Device}
 use Rattle.device_core.specs.State.{DefinedDevice, device_of}
 
@@ -14,6 +15,9 @@ module _ {V : Type 0} {G : Ghosts V} where
   -- as the definitions have them
   abbrev pub devices_of : List (Device V G) → List DefinedDevice
   devices_of ds = map device_of ds
+
+  abbrev pub volumes_of : List (Device V G) → List (SideVolumes V)
+  volumes_of ds = map (λ (d : Device V G). d.store.pair.volumes) ds
 
   -- the device of this number
   abbrev pub device_at : List (Device V G) → ℕ → Option (Device V G)

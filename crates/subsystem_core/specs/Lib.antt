@@ -1,5 +1,7 @@
 pub mod Places
 pub mod Devices
+pub mod Seats
 pub mod Ends
 pub mod Comes
+pub mod Pairs
 pub mod Runs

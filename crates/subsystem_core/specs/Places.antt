@@ -19,25 +19,17 @@ IsTable places numbers = (i : ℕ) → i < length numbers → slice_index_or pla
 
 -- Which events come
 
--- all run so far but the order that makes a pair
-abbrev pub is_open : Event → Bool
-is_open (events.Pair a b) = false
-is_open _ = true
-
 -- the devices that it names are among these
-abbrev pub names : List ℕ → Event → Bool
-names ns (events.Start path d) = is_in d ns
-names ns (events.Step d) = is_in d ns
-names ns (events.Back d) = is_in d ns
-names ns (events.Reset path d) = is_in d ns
-names ns (events.FailVolume d side) = is_in d ns
-names ns (events.Pair a b) = is_in a ns && is_in b ns
-names ns (events.Suspend a) = is_in a ns
-names ns (events.Resume a) = is_in a ns
-names ns _ = true
-
 abbrev pub may_come : List ℕ → Event → Bool
-may_come ns e = is_open e && names ns e
+may_come ns (events.Start path d) = is_in d ns
+may_come ns (events.Step d) = is_in d ns
+may_come ns (events.Back d) = is_in d ns
+may_come ns (events.Reset path d) = is_in d ns
+may_come ns (events.FailVolume d side) = is_in d ns
+may_come ns (events.Pair a b) = is_in a ns && is_in b ns
+may_come ns (events.Suspend a) = is_in a ns
+may_come ns (events.Resume a) = is_in a ns
+may_come ns _ = true
 
 abbrev pub may_all_come : List ℕ → List Event → Bool
 may_all_come ns [] = true

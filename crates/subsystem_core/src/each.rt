@@ -4,6 +4,7 @@ ghost use Rattle.device_defs.specs.Cutting.{power};
 ghost use Rattle.device_defs.specs.Events.{lose};
 ghost use Rattle.subsystem_core.specs.Comes.{Swept};
 ghost use Rattle.subsystem_core.specs.Devices.{numbers_of};
+ghost use Rattle.subsystem_core.specs.Seats.{seats_of};
 
 use crate::Subsystem;
 use device_core::Device;
@@ -14,6 +15,7 @@ use loss_model::Loss;
 /// A loss comes to each device in its turn.
 fn lose_each<V: Volume>(devices: &mut [Device<V>], loss: Loss, pool: &mut Pool)
     ensures numbers { numbers_of devices.new ≡ numbers_of devices.old }
+    ensures seats { seats_of devices.new ≡ seats_of devices.old }
     ensures each { Swept (λ x. lose contents x loss) pool.old devices.old devices.new pool.new }
 {
     for i in 0..devices.len() {
@@ -24,6 +26,7 @@ fn lose_each<V: Volume>(devices: &mut [Device<V>], loss: Loss, pool: &mut Pool)
 /// A loss of power comes to each device in its turn.
 fn power_each<V: Volume>(devices: &mut [Device<V>], pool: &mut Pool)
     ensures numbers { numbers_of devices.new ≡ numbers_of devices.old }
+    ensures seats { seats_of devices.new ≡ seats_of devices.old }
     ensures each { Swept (power contents) pool.old devices.old devices.new pool.new }
 {
     for i in 0..devices.len() {

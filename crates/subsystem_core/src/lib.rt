@@ -1,4 +1,4 @@
-//! A subsystem: a pool that is shared, and its devices. An order that makes or parts a pair doesn't run yet.
+//! A subsystem: a pool that is shared, and its devices.
 #![tactic(auto)]
 
 mod asking;
@@ -6,6 +6,7 @@ mod each;
 mod end;
 mod event;
 mod order;
+mod pair;
 mod place;
 mod refusal;
 mod run;

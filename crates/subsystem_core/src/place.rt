@@ -2,6 +2,7 @@ ghost use Rattle.std.specs.Prelude.{◌≡◌, ◌<◌, IfOk, IsOk, Some, length
 ghost use Rattle.device_outside.specs.Lists.{is_in};
 ghost use Rattle.subsystem_core.specs.Devices.{device_at, numbers_of};
 ghost use Rattle.subsystem_core.specs.Places.{are_rising, may_all_come, may_come, IsTable};
+ghost use Rattle.subsystem_core.specs.Seats.{seats_of, AreAlike};
 
 use crate::Subsystem;
 use ckd_types::{DeviceNo, NoMemory};
@@ -24,9 +25,11 @@ fn places_of<V: Volume>(devices: &[Device<V>]) -> [usize; 16]
 
 impl<V: Volume> Subsystem<V> {
     /// A subsystem of devices with rising numbers. The pool's waiting numbers are to be those of these devices, and 0 of all others:
-    /// a new pool and new devices are so. None of them is lent or paired yet. Takes no memory, so that it is always had.
+    /// a new pool and new devices are so. A device that is lent has as many cylinders as the one to which it is lent. Takes no
+    /// memory, so that it is always had.
     pub fn new(pool: Pool, devices: Vec<Device<V>>) -> Result<Subsystem<V>, NoMemory>
-        requires { are_rising (numbers_of devices.items) ≡ true }
+        requires rising { are_rising (numbers_of devices.items) ≡ true }
+        requires alike { AreAlike (seats_of devices.items) }
         ensures had { IsOk result }
         ensures pool { IfOk result (λ s. s.pool ≡ pool) }
         ensures devices { IfOk result (λ s. s.devices ≡ devices) }
@@ -73,7 +76,7 @@ impl<V: Volume> Subsystem<V> {
         &self.devices
     }
 
-    /// Whether an event runs, and each device that it names is there. An order that makes a pair doesn't run yet.
+    /// Whether each device that an event names is there.
     pub fn may_come(&self, e: Event) -> bool
         ensures { result ≡ may_come (numbers_of self.now.devices.items) e }
     {
@@ -83,7 +86,7 @@ impl<V: Volume> Subsystem<V> {
             Event::Back(d) => self.has_device(d),
             Event::Reset(_, d) => self.has_device(d),
             Event::FailVolume(d, _) => self.has_device(d),
-            Event::Pair(_, _) => false,
+            Event::Pair(a, b) => self.has_device(a) && self.has_device(b),
             Event::Suspend(d) => self.has_device(d),
             Event::Resume(d) => self.has_device(d),
             _ => true,

@@ -12,7 +12,7 @@ use std::alloc::Global;
 use subsystem_defs::Event;
 
 impl<V: Volume> Subsystem<V> {
-    /// One event. An order that makes a pair doesn't run yet.
+    /// One event.
     pub fn event(&mut self, e: Event) -> Result<EventEnd, NoMemory>
         requires { may_come (numbers_of self.old.devices.items) e ≡ true }
         ensures numbers { numbers_of self.new.devices.items ≡ numbers_of self.old.devices.items }
@@ -28,7 +28,7 @@ impl<V: Volume> Subsystem<V> {
             Event::FailVolume(d, side) => Ok(self.fail_volume(d, side)),
             Event::RepairCache => Ok(self.repair_cache()),
             Event::RepairStore => Ok(self.repair_store()),
-            Event::Pair(_, _) => unreachable!(),
+            Event::Pair(a, b) => Ok(self.pair(a, b)),
             Event::Suspend(d) => Ok(self.suspend(d)),
             Event::Resume(d) => Ok(self.resume(d)),
             Event::Power => Ok(self.power()),

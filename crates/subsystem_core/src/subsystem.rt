@@ -1,6 +1,7 @@
 ghost use Rattle.std.specs.Prelude.{◌≡◌, true};
 ghost use Rattle.subsystem_core.specs.Devices.{numbers_of};
 ghost use Rattle.subsystem_core.specs.Places.{are_rising, IsTable};
+ghost use Rattle.subsystem_core.specs.Seats.{seats_of, AreAlike};
 
 use device_core::Device;
 use device_outside::Volume;
@@ -14,4 +15,5 @@ pub struct Subsystem<V: Volume> {
     pub places: [usize; 16],
     pub ghost rising: { are_rising (numbers_of devices.items) ≡ true },
     pub ghost table: { IsTable places (numbers_of devices.items) },
+    pub ghost alike: { AreAlike (seats_of devices.items) },
 }

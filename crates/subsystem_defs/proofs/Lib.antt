@@ -1,3 +1,4 @@
 pub mod Stand
 pub mod Runs
+pub mod Unrefused
 mod Rows

@@ -54,7 +54,7 @@ use Rattle.subsystem_laws.proofs.ChainPlaces.{on_is_within, begins_on}
 use Rattle.subsystem_laws.proofs.ChainRuns.{HasChainOn, command_on, second_on, background_on, lose_on, power_on, reset_on, lend_on}
 use Rattle.subsystem_laws.proofs.LendBase.{at, stays_still, lend_lends}
 use Rattle.subsystem_laws.proofs.Walks.{IsFree, IsKept, none_lent, AreSo, LeavesSo, run_keeps, behind_weaker}
-use Rattle.subsystem_laws.proofs.WholeLends.{first_none, where_none, is_not}
+use Rattle.subsystem_defs.proofs.Unrefused.{first_none, where_none, is_not}
 use Rattle.subsystem_laws.proofs.WholeOrders.{is_down}
 use Rattle.subsystem_laws.proofs.WholeUnpairs.{not_some, count_none, none_counted}
 

@@ -37,7 +37,7 @@ use Rattle.subsystem_defs.specs.Refusals as R
 use Rattle.subsystem_defs.specs.Refusals.{pair_fault, suspend_fault, resume_fault, fail_fault, replace_fault, unpair_fault}
 use Rattle.subsystem_laws.proofs.DeedWalk.{Stands, seat_of, IsDeedwise, deed_is}
 use Rattle.subsystem_laws.proofs.LendBase.{lend_lends}
-use Rattle.subsystem_laws.proofs.WholeLends.{first_none, where_none}
+use Rattle.subsystem_defs.proofs.Unrefused.{first_none, where_none}
 
 -- an answer changes nothing of the device behind it
 pub hold_answer : {S X Y : Type 0} (i : Interaction Bool Image S X) (f : X → Y) (t : Told) →

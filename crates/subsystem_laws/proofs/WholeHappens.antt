@@ -62,7 +62,8 @@ use Rattle.subsystem_defs.specs.Subsystem.{Mounted, Subsystem, devices_of, mount
 use Rattle.subsystem_laws.specs.WholeComes.{OwnDeed, subsystem_of, behind_all, ends_of_all, Comes, Runs, no_event, next_event, IsWhatCame, AreWhatCame}
 use Rattle.subsystem_laws.specs.WholeStood.{Stood, devices_at, AreMounted, HaveChains}
 use Rattle.subsystem_laws.proofs.WholeDeeds.{Seat, Leads, leads_if, ends_so, repairs_so, asks_so, becomes_so, by_device, each_so}
-use Rattle.subsystem_laws.proofs.WholeLends.{may_pair, lends_so}
+use Rattle.subsystem_defs.proofs.Unrefused.{may_pair}
+use Rattle.subsystem_laws.proofs.WholeLends.{lends_so}
 use Rattle.subsystem_laws.proofs.WholeTalks.{
   twins_then,
   command_twins,

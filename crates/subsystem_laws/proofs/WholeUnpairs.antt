@@ -33,7 +33,7 @@ use Rattle.subsystem_defs.specs.Subsystem.{Mounted, mounted_in, put_in}
 use Rattle.subsystem_laws.specs.WholeComes.{subsystem_of, IsWhatCame}
 use Rattle.subsystem_laws.specs.WholeStood.{Stood, stood_in, put_at, lent_in, restored_at, IsMounted, is_mounted, AreMountedBy, one_more, AreMounted}
 use Rattle.subsystem_laws.proofs.WholeFinding.{Found, none_found, both_found, find}
-use Rattle.subsystem_laws.proofs.WholeLends.{first_none, where_none, is_not}
+use Rattle.subsystem_defs.proofs.Unrefused.{first_none, where_none, is_not}
 
 some_is : {X : Type 0} (x y : X) → Some x ≡ Some y → x ≡ y
 some_is x y e = cc

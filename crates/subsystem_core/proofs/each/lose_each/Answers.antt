@@ -1,14 +1,16 @@
 use Rattle.std.proofs.Common.{◌≡◌, ◌<◌, ◌∙◌, refl, add-one, arith, get_or, length}
 use Rattle.device_defs.specs.Contents.{contents}
 use Rattle.device_defs.specs.Events.{lose}
-use Rattle.device_core.specs.State.{DefinedDevice}
+use Rattle.device_laws.proofs.BasedEvents.{lose_based}
+use Rattle.device_core.specs.State.{DefinedDevice, device_of}
 use Rattle.subsystem_core.specs.Comes.{Talk, over}
 use Rattle.subsystem_core.proofs.Found.{numbers_kept, read_again}
+use Rattle.subsystem_core.proofs.Seating.{ran_lent, seats_kept}
 use Rattle.subsystem_core.proofs.Sweeping.{swept_more, rest_more, swept_all}
 use Rattle.subsystem_core.proofs.each.lose_each.Goals as goal
 
 pub loop-i-init : goal.loop-i-init
-loop-i-init g c = record { numbers = refl; rest = refl; each = over }
+loop-i-init g c = record { numbers = refl; seats = refl; rest = refl; each = over }
 
 pub loop-i-preserved : goal.loop-i-preserved
 loop-i-preserved g c =
@@ -20,6 +22,11 @@ loop-i-preserved g c =
     let read : x ≡ get_or ds c.loop-i.i x = read_again ds c.loop-i.i c.index-devices-i.result within in
     record {
       numbers = numbers_kept ds c.loop-i.i x c.lose.new.self read c.lose.ensures.fixed.0 ∙ c.loop-i.invariant.numbers;
+      seats = seats_kept ds c.loop-i.i x c.lose.new.self read (record {
+        number = c.lose.ensures.fixed.0;
+        cylinders = c.lose.ensures.fixed.1;
+        lent = ran_lent (lose_based contents (device_of x) c.args.loss) (c.lose.ensures.run (record {}));
+      }) ∙ c.loop-i.invariant.seats;
       rest = rw add-one (rest_more f c.loop-i.i c.args.devices.now ds c.lose.new.self here within c.loop-i.invariant.rest);
       each = rw add-one (swept_more f c.loop-i.i c.args.devices.now ds x c.lose.new.self within c.loop-i.invariant.rest read c.loop-i.invariant.each
           c.lose.ensures.run);

@@ -8,7 +8,6 @@ use Rattle.device_defs.specs.Events.{second}
 use Rattle.device_defs.specs.Events.{background}
 use Rattle.subsystem_core.specs.Devices.{devices_of, device_at}
 use Rattle.subsystem_core.proofs.Coming.{seconded, work_lacked, worked}
-
 use Rattle.subsystem_core.proofs.Deeds as deeds
 use Rattle.subsystem_core.proofs.Found.{found_in}
 use Rattle.subsystem_core.proofs.subsystem.Subsystem.back.Goals as goal

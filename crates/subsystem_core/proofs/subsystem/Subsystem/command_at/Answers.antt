@@ -1,6 +1,9 @@
 use Rattle.std.specs.Prelude.{◌≡◌, IsSome, false, is_some}
 use Rattle.device_core.specs.State.{device_of}
+use Rattle.device_defs.specs.Contents.{contents}
+use Rattle.device_laws.proofs.BasedEvents.{command_based}
 use Rattle.subsystem_core.proofs.Found.{changed, numbers_kept, held}
+use Rattle.subsystem_core.proofs.Seating.{alike_kept, ran_lent}
 use Rattle.subsystem_core.proofs.subsystem.Subsystem.command_at.Goals as goal
 
 pub command-requires-clause-whole : goal.command-requires-clause-whole
@@ -17,7 +20,15 @@ pub invariant_of-self : goal.invariant_of-self
 invariant_of-self g c =
     let same = numbers_kept c.args.self.now.devices.items c.place-at.result c.index_mut.result.now c.command.new.self c.index_mut.ensures.value
     c.command.ensures.fixed.0 in
-    record { rising = rw same c.args.self.now.rising; table = rw same c.args.self.now.table }
+    record {
+      rising = rw same c.args.self.now.rising;
+      table = rw same c.args.self.now.table;
+      alike = alike_kept c.args.self.now.devices.items c.place-at.result c.index_mut.result.now c.command.new.self c.index_mut.ensures.value (record {
+        number = c.command.ensures.fixed.0;
+        cylinders = c.command.ensures.fixed.1;
+        lent = ran_lent (command_based contents (device_of c.index_mut.result.now)) (c.command.ensures.run (record {}));
+      }) c.args.self.now.alike;
+    }
 
 pub returns-clause-numbers : goal.returns-clause-numbers
 returns-clause-numbers g c =

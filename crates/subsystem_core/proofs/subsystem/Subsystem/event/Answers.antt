@@ -3,6 +3,7 @@ use Rattle.subsystem_defs.specs.declared.event.Event.{Event}
 use Rattle.subsystem_core.specs.Comes.{Came}
 use Rattle.subsystem_core.specs.Devices.{numbers_of}
 use Rattle.subsystem_core.specs.Places.{may_come}
+use Rattle.subsystem_core.proofs.Numbers.{both}
 use Rattle.subsystem_core.proofs.subsystem.Subsystem.event.Goals as goal
 
 pub start-requires : goal.start-requires
@@ -26,8 +27,14 @@ suspend-requires g c = rw c.in-Suspend.is at c.requires
 pub resume-requires : goal.resume-requires
 resume-requires g c = rw c.in-Resume.is at c.requires
 
-pub unreachable-requires : goal.unreachable-requires
-unreachable-requires g c = let h : false ≡ true = rw c.in-Pair.is at c.requires in cc
+pub pair-requires-clause-a : goal.pair-requires-clause-a
+pair-requires-clause-a g c = (both _ _ (rw c.in-Pair.is at c.requires)).0
+
+pub pair-requires-clause-b : goal.pair-requires-clause-b
+pair-requires-clause-b g c = (both _ _ (rw c.in-Pair.is at c.requires)).1
+
+pub returns-in-Pair-clause-came : goal.returns-in-Pair-clause-came
+returns-in-Pair-clause-came g c = rw c.in-Pair.is c.pair.ensures.came
 
 pub returns-in-Start-clause-came : goal.returns-in-Start-clause-came
 returns-in-Start-clause-came g c = rw c.in-Start.is c.start.ensures.came

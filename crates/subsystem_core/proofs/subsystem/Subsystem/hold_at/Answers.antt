@@ -1,12 +1,17 @@
-use Rattle.std.proofs.Common.{ap}
+use Rattle.std.proofs.Common.{ap, refl}
 use Rattle.subsystem_core.proofs.Found.{changed, numbers_kept}
+use Rattle.subsystem_core.proofs.Seating.{alike_kept, sits_by}
 use Rattle.subsystem_core.proofs.subsystem.Subsystem.hold_at.Goals as goal
 
 pub invariant_of-self : goal.invariant_of-self
 invariant_of-self g c =
     let same = numbers_kept c.args.self.now.devices.items c.place-at.result c.index_mut.result.now c.hold.new.self c.index_mut.ensures.value
     (ap (λ d. d.store.device) c.hold.ensures.device) in
-    record { rising = rw same c.args.self.now.rising; table = rw same c.args.self.now.table }
+    record {
+      rising = rw same c.args.self.now.rising;
+      table = rw same c.args.self.now.table;
+      alike = alike_kept c.args.self.now.devices.items c.place-at.result c.index_mut.result.now c.hold.new.self c.index_mut.ensures.value (sits_by _ _ _ c.hold.ensures.device refl refl refl) c.args.self.now.alike;
+    }
 
 pub returns-clause-numbers : goal.returns-clause-numbers
 returns-clause-numbers g c =

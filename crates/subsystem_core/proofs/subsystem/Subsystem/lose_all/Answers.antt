@@ -3,6 +3,7 @@ use Rattle.device_defs.specs.Contents.{contents}
 use Rattle.device_defs.specs.Events.{lose}
 use Rattle.subsystem_core.specs.Comes.{Swept}
 use Rattle.subsystem_core.specs.Devices.{numbers_of}
+use Rattle.subsystem_core.specs.Seats.{seats_of}
 use Rattle.subsystem_core.proofs.Found.{all_written}
 use Rattle.subsystem_core.proofs.subsystem.Subsystem.lose_all.Goals as goal
 
@@ -13,7 +14,9 @@ invariant_of-self g c =
     let room : length ds ≤ c.args.self.now.devices.len = omega (arith, ap length c.deref_mut.ensures.value, c.deref_mut.ensures.len) in
     let same = ap numbers_of (all_written c.args.self.now.devices.len ds c.lose_each.new.devices room count)
     ∙ c.lose_each.ensures.numbers ∙ ap numbers_of c.deref_mut.ensures.value in
-    record { rising = rw same c.args.self.now.rising; table = rw same c.args.self.now.table }
+    let seats = ap seats_of (all_written c.args.self.now.devices.len ds c.lose_each.new.devices room count)
+    ∙ c.lose_each.ensures.seats ∙ ap seats_of c.deref_mut.ensures.value in
+    record { rising = rw same c.args.self.now.rising; table = rw same c.args.self.now.table; alike = rw seats c.args.self.now.alike }
 
 pub returns-clause-each : goal.returns-clause-each
 returns-clause-each g c =

@@ -1,11 +1,23 @@
+use Rattle.device_defs.specs.Contents.{contents}
+use Rattle.device_laws.proofs.BasedEvents.{lose_based}
+use Rattle.device_core.specs.State.{device_of}
 use Rattle.subsystem_core.proofs.Found.{changed, numbers_kept}
+use Rattle.subsystem_core.proofs.Seating.{alike_kept, ran_lent}
 use Rattle.subsystem_core.proofs.subsystem.Subsystem.lose_at.Goals as goal
 
 pub invariant_of-self : goal.invariant_of-self
 invariant_of-self g c =
     let same = numbers_kept c.args.self.now.devices.items c.place-at.result c.index_mut.result.now c.lose.new.self c.index_mut.ensures.value
     c.lose.ensures.fixed.0 in
-    record { rising = rw same c.args.self.now.rising; table = rw same c.args.self.now.table }
+    record {
+      rising = rw same c.args.self.now.rising;
+      table = rw same c.args.self.now.table;
+      alike = alike_kept c.args.self.now.devices.items c.place-at.result c.index_mut.result.now c.lose.new.self c.index_mut.ensures.value (record {
+        number = c.lose.ensures.fixed.0;
+        cylinders = c.lose.ensures.fixed.1;
+        lent = ran_lent (lose_based contents (device_of c.index_mut.result.now) c.args.loss) (c.lose.ensures.run (record {}));
+      }) c.args.self.now.alike;
+    }
 
 pub returns-clause-numbers : goal.returns-clause-numbers
 returns-clause-numbers g c =

@@ -4,7 +4,10 @@ use Rattle.subsystem_core.specs.Places.{IsTable}
 use Rattle.subsystem_core.proofs.subsystem.Subsystem.new.Goals as goal
 
 pub invariant_of-result-clause-rising : goal.invariant_of-result-clause-rising
-invariant_of-result-clause-rising g c = c.requires
+invariant_of-result-clause-rising g c = c.requires.rising
+
+pub invariant_of-result-clause-alike : goal.invariant_of-result-clause-alike
+invariant_of-result-clause-alike g c = c.requires.alike
 
 pub invariant_of-result-clause-table : goal.invariant_of-result-clause-table
 invariant_of-result-clause-table g c =

@@ -3,13 +3,18 @@ use Rattle.subsystem_defs.specs.Refusals.{replace_fault}
 use Rattle.subsystem_core.proofs.Coming.{is_there, same_replaced}
 use Rattle.device_core.specs.State.{device_of}
 use Rattle.subsystem_core.proofs.Found.{changed, held, numbers_kept}
+use Rattle.subsystem_core.proofs.Seating.{alike_kept, sits_replaced}
 use Rattle.subsystem_core.proofs.subsystem.Subsystem.replace_at.Goals as goal
 
 pub invariant_of-self : goal.invariant_of-self
 invariant_of-self g c =
     let same = numbers_kept c.args.self.now.devices.items c.place-at.result c.index_mut.result.now c.replace-old.new.self c.index_mut.ensures.value
     (same_replaced c.index_mut.result.now c.replace-old.new.self c.args.side c.replace-old.ensures.device) in
-    record { rising = rw same c.args.self.now.rising; table = rw same c.args.self.now.table }
+    record {
+      rising = rw same c.args.self.now.rising;
+      table = rw same c.args.self.now.table;
+      alike = alike_kept c.args.self.now.devices.items c.place-at.result c.index_mut.result.now c.replace-old.new.self c.index_mut.ensures.value (sits_replaced _ _ c.args.side c.replace-old.ensures.device) c.args.self.now.alike;
+    }
 
 pub returns-clause-numbers : goal.returns-clause-numbers
 returns-clause-numbers g c =

@@ -1,10 +1,23 @@
+use Rattle.device_defs.specs.Contents.{contents}
+use Rattle.device_laws.proofs.BasedEvents.{reset_body}
+use Rattle.device_outside.specs.Outside as P
+use Rattle.device_core.specs.State.{device_of}
 use Rattle.subsystem_core.proofs.Found.{changed, numbers_kept}
+use Rattle.subsystem_core.proofs.Seating.{alike_kept, ran_lent}
 use Rattle.subsystem_core.proofs.subsystem.Subsystem.reset_at.Goals as goal
 
 pub invariant_of-self : goal.invariant_of-self
 invariant_of-self g c =
     let same = numbers_kept c.args.self.now.devices.items c.place-at.result c.index_mut.result.now c.reset.new.self c.index_mut.ensures.value c.reset.ensures.fixed.0 in
-    record { rising = rw same c.args.self.now.rising; table = rw same c.args.self.now.table }
+    record {
+      rising = rw same c.args.self.now.rising;
+      table = rw same c.args.self.now.table;
+      alike = alike_kept c.args.self.now.devices.items c.place-at.result c.index_mut.result.now c.reset.new.self c.index_mut.ensures.value (record {
+        number = c.reset.ensures.fixed.0;
+        cylinders = c.reset.ensures.fixed.1;
+        lent = ran_lent (reset_body contents (device_of c.index_mut.result.now) c.args.path) (c.reset.ensures.run (P.no_pool 0) (record {}));
+      }) c.args.self.now.alike;
+    }
 
 pub returns-clause-numbers : goal.returns-clause-numbers
 returns-clause-numbers g c =

@@ -4,6 +4,7 @@ use Rattle.device_defs.specs.Start.{start_fault}
 use Rattle.device_core.specs.State.{device_of}
 use Rattle.subsystem_core.proofs.Coming.{starts_by}
 use Rattle.subsystem_core.proofs.Found.{changed, numbers_kept, held}
+use Rattle.subsystem_core.proofs.Seating.{alike_kept, sits_store}
 use Rattle.subsystem_core.proofs.subsystem.Subsystem.start_at.Goals as goal
 
 pub start-outcome-requires : goal.start-outcome-requires
@@ -24,7 +25,11 @@ pub invariant_of-self : goal.invariant_of-self
 invariant_of-self g c =
     let same = numbers_kept c.args.self.now.devices.items c.place-at.result c.index_mut.result.now c.start-outcome.new.self c.index_mut.ensures.value (ap
     (λ s. s.number) c.start-outcome.ensures.store) in
-    record { rising = rw same c.args.self.now.rising; table = rw same c.args.self.now.table }
+    record {
+      rising = rw same c.args.self.now.rising;
+      table = rw same c.args.self.now.table;
+      alike = alike_kept c.args.self.now.devices.items c.place-at.result c.index_mut.result.now c.start-outcome.new.self c.index_mut.ensures.value (sits_store _ _ c.start-outcome.ensures.store) c.args.self.now.alike;
+    }
 
 pub returns-clause-numbers : goal.returns-clause-numbers
 returns-clause-numbers g c =

@@ -8,7 +8,6 @@ use Rattle.device_defs.specs.Events.{second}
 use Rattle.device_defs.specs.Command.{command}
 use Rattle.subsystem_core.specs.Devices.{devices_of, device_at}
 use Rattle.subsystem_core.proofs.Coming.{commanded, command_lacked, ended, open_none, open_some, runs, seconded}
-
 use Rattle.subsystem_core.proofs.Deeds as deeds
 use Rattle.subsystem_core.proofs.Found.{found_in}
 use Rattle.subsystem_core.proofs.subsystem.Subsystem.step.Goals as goal

@@ -1,0 +1,40 @@
+use Rattle.std.proofs.Common.{◌≡◌, ◌*◌, ap, false, is_some, refl}
+use Rattle.device_core.specs.State.{device_of}
+use Rattle.subsystem_core.proofs.Found.{changed, held, numbers_kept}
+use Rattle.subsystem_core.proofs.Seating.{alike_kept, sits_by}
+use Rattle.subsystem_core.proofs.subsystem.Subsystem.join_at.Goals as goal
+
+pub join_volume-requires-clause-here : goal.join_volume-requires-clause-here
+join_volume-requires-clause-here g c =
+    held c.args.self.now.devices.items c.args.d c.place-at.result c.index_mut.result.now (λ x. is_some (device_of x).store.lent ≡ false)
+    c.args.self.now.rising c.place-at.ensures.range c.place-at.ensures.found c.index_mut.ensures.value c.requires.free
+
+pub join_volume-requires-clause-size : goal.join_volume-requires-clause-size
+join_volume-requires-clause-size g c =
+    held c.args.self.now.devices.items c.args.d c.place-at.result c.index_mut.result.now (λ x. (g.V.Volume.view c.args.volume).tracks ≡ x.store.cylinders * 15)
+    c.args.self.now.rising c.place-at.ensures.range c.place-at.ensures.found c.index_mut.ensures.value c.requires.size
+
+pub invariant_of-self : goal.invariant_of-self
+invariant_of-self g c =
+    let same = numbers_kept c.args.self.now.devices.items c.place-at.result c.index_mut.result.now c.join_volume.new.self c.index_mut.ensures.value
+    (ap (λ d. d.store.device) c.join_volume.ensures.device) in
+    record {
+      rising = rw same c.args.self.now.rising;
+      table = rw same c.args.self.now.table;
+      alike = alike_kept c.args.self.now.devices.items c.place-at.result c.index_mut.result.now c.join_volume.new.self c.index_mut.ensures.value
+          (sits_by _ _ _ c.join_volume.ensures.device refl refl refl) c.args.self.now.alike;
+    }
+
+pub returns-clause-numbers : goal.returns-clause-numbers
+returns-clause-numbers g c =
+    numbers_kept c.args.self.now.devices.items c.place-at.result c.index_mut.result.now c.join_volume.new.self c.index_mut.ensures.value
+    (ap (λ d. d.store.device) c.join_volume.ensures.device)
+
+pub returns-clause-joined : goal.returns-clause-joined
+returns-clause-joined g c =
+    changed c.args.self.now.devices.items c.args.d c.place-at.result c.index_mut.result.now c.join_volume.new.self _ c.args.self.now.rising
+    c.place-at.ensures.range c.place-at.ensures.found c.index_mut.ensures.value (record {
+      device = c.join_volume.ensures.device;
+      a = c.join_volume.ensures.a;
+      b = c.join_volume.ensures.b;
+    })

@@ -1,0 +1,16 @@
+use Rattle.std.proofs.Common.{◌∙◌, None, Some, refl, subst}
+use Rattle.subsystem_core.specs.Devices.{device_at}
+use Rattle.subsystem_core.specs.Pairs.{HasPairFault}
+use Rattle.subsystem_core.proofs.Pairing.{pair_done, pair_refused}
+use Rattle.subsystem_core.proofs.subsystem.Subsystem.pair.Goals as goal
+
+pub join_lent-requires-clause-fine : goal.join_lent-requires-clause-fine
+join_lent-requires-clause-fine g c = rw c.in_default.is at c.pair_fault.ensures
+
+pub returns-in-Some-clause-came : goal.returns-in-Some-clause-came
+returns-in-Some-clause-came g c =
+    pair_refused c.args.a c.args.b c.args.self.now _ _ _ c.in-Some.fault refl refl (rw c.in-Some.is at c.pair_fault.ensures) (refl, refl)
+
+pub returns-clause-came : goal.returns-clause-came
+returns-clause-came g c =
+    pair_done c.args.a c.args.b c.args.self.now _ _ _ refl refl (rw c.in_default.is at c.pair_fault.ensures) c.join_lent.ensures.joined

@@ -1,0 +1,4 @@
+use Rattle.subsystem_core.proofs.subsystem.Subsystem.pair_fault.Goals as goal
+
+pub returns : goal.returns
+returns g c = rw (c.device-first.ensures, c.device-second.ensures) (c.pair_fault.ensures)

@@ -1,0 +1,29 @@
+use Rattle.std.proofs.Common.{ap, refl}
+use Rattle.subsystem_core.proofs.Found.{changed, numbers_kept}
+use Rattle.subsystem_core.proofs.Seating.{alike_kept, sits_by}
+use Rattle.subsystem_core.proofs.subsystem.Subsystem.split_at.Goals as goal
+
+pub invariant_of-self : goal.invariant_of-self
+invariant_of-self g c =
+    let same = numbers_kept c.args.self.now.devices.items c.place-at.result c.index_mut.result.now c.split-volume.new.self c.index_mut.ensures.value
+    (ap (λ d. d.store.device) c.split-volume.ensures.device) in
+    record {
+      rising = rw same c.args.self.now.rising;
+      table = rw same c.args.self.now.table;
+      alike = alike_kept c.args.self.now.devices.items c.place-at.result c.index_mut.result.now c.split-volume.new.self c.index_mut.ensures.value
+          (sits_by _ _ _ c.split-volume.ensures.device refl refl refl) c.args.self.now.alike;
+    }
+
+pub returns-clause-numbers : goal.returns-clause-numbers
+returns-clause-numbers g c =
+    numbers_kept c.args.self.now.devices.items c.place-at.result c.index_mut.result.now c.split-volume.new.self c.index_mut.ensures.value
+    (ap (λ d. d.store.device) c.split-volume.ensures.device)
+
+pub returns-clause-split : goal.returns-clause-split
+returns-clause-split g c =
+    changed c.args.self.now.devices.items c.args.d c.place-at.result c.index_mut.result.now c.split-volume.new.self _ c.args.self.now.rising
+    c.place-at.ensures.range c.place-at.ensures.found c.index_mut.ensures.value (record {
+      device = c.split-volume.ensures.device;
+      a = c.split-volume.ensures.a;
+      b = c.split-volume.ensures.b;
+    })
