@@ -1,18 +1,19 @@
 -- The acts that came to a history where a program starts, a command ends, a path is reset and the power is lost.
-use Rattle.std.proofs.Common.{◌≡◌, ◌∙◌, ◌+◌, ◌++◌, [], ◌∷◌, ℕ, zero, suc, Bool, true, false, List, Option, Some, None, length, refl, sym, ap, subst, arith}
+use Rattle.std.proofs.Common.{◌≡◌, ◌∙◌, ◌+◌, ◌++◌, [], ◌∷◌, ℕ, false, List, Option, Some, None, length, refl, sym, ap}
 use Rattle.std.specs.Prelude.{◌==◌, if◌then◌else◌}
 use Rattle.std.proofs.lemmas.Bool.{cond_both}
 use Rattle.std.proofs.lemmas.List.{append-nil}
 use Rattle.ckd_types.specs.declared.channel.CommandEnd.{CommandEnd}
 use Rattle.plain_defs.specs.declared.journal.Act.{Act}
 use Rattle.plain_defs.specs.declared.journal.How.TheVariants.{Cut}
-use Rattle.plain_defs.specs.declared.journal.Item.{Item}
 use Rattle.plain_defs.specs.declared.journal.Item.TheVariants as items
-use Rattle.plain_defs.specs.History.{History, OpenEntry, checked, cut_by, ended, entry_of, lost_power, lost_power_in, put, reset, reset_in, resets_of, started}
+use Rattle.plain_defs.specs.History.{History, OpenEntry, checked, cut_by, emptied, ended, entry_of, lost_power, lost_power_in, put, reset, reset_in, resets_of, started}
 use Rattle.plain_defs.specs.Legal.{is_started, is_used}
 use Rattle.device_defs.specs.Device.{all_acted}
 use Rattle.run_report.proofs.ActsCome.{acts_both, all_acts, came, checked_acts, ended_acts, no_act, same_program}
-use Rattle.subsystem_defs.specs.Beside.{acts_in, acts_of_entry, acts_of_items, acts_running, behind_first, new_acts}
+use Rattle.subsystem_defs.specs.Beside.{acts_in, acts_of_entry, acts_of_items, acts_running, behind_first, has_power, new_acts, new_items}
+use Rattle.run_report.specs.Beside.{over_of}
+use Rattle.run_report.proofs.Quiet.{behind_more}
 
 -- these acts came to a history since it was the one before
 pub record Brought (before h : History) (acts : List Act) : Type 0 where
@@ -99,3 +100,25 @@ none_behind (x ∷ xs) = none_behind xs
 
 pub none_new : (h k : History) → k ≡ h → new_acts h k ≡ []
 none_new h k is = ap (λ (x : History). new_acts h x) is ∙ none_behind (acts_in h)
+
+-- nothing that is told came to a past
+pub record NothingCame (h k : History) : Type 0 where
+  pub acts : new_acts h k ≡ []
+  pub power : has_power (new_items h k) ≡ false
+  pub over : (n : ℕ) → over_of n (new_items h k) ≡ None
+
+pub came_none : (h k : History) → k ≡ h → NothingCame h k
+came_none h k is =
+    let nothing : new_items h k ≡ [] = ap (λ (x : History). new_items h x) is ∙ none_behind h.items in
+    record { acts = none_new h k is; power = ap has_power nothing; over = λ n. ap (over_of n) nothing }
+
+-- a volume was made empty
+pub came_fresh : (h : History) → NothingCame h (emptied h)
+came_fresh h =
+    let fresh : new_items h (emptied h) ≡ items.Fresh ∷ [] = behind_more h.items (items.Fresh ∷ []) in
+    record {
+      acts = came h (emptied h) [] (ap (λ (l : List Act). l ++ acts_running h.running) (acts_both h.items (items.Fresh ∷ [])
+          ∙ append-nil (acts_of_items h.items)) ∙ sym (append-nil (acts_in h)));
+      power = ap has_power fresh;
+      over = λ n. ap (over_of n) fresh;
+    }

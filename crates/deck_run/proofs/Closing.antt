@@ -1,5 +1,5 @@
 -- The lines at the end of a run, by the devices in code.
-use Rattle.std.proofs.Common.{◌≡◌, ◌≤◌, ◌<◌, ◌∙◌, ◌+◌, ◌-◌, ◌*◌, ◌++◌, arith, ℕ, zero, suc, Bool, true, false, List, [], ◌∷◌, Option, Some, None, cond, length, map, refl, sym, ap, subst, append_assoc}
+use Rattle.std.proofs.Common.{◌≡◌, ◌≤◌, ◌<◌, ◌∙◌, ◌+◌, ◌-◌, ◌*◌, ◌++◌, arith, ℕ, zero, suc, Bool, true, false, List, [], ◌∷◌, Option, Some, None, cond, length, map, refl, sym, ap, append_assoc}
 use Rattle.std.specs.Prelude.{if◌then◌else◌, option_map, slice_get, slice_index_or, drop}
 use Rattle.std.specs.List.{flat_map, range_with_len}
 use Rattle.std.proofs.lemmas.List.{append-nil}
@@ -13,13 +13,13 @@ use Rattle.report_text.specs.declared.line.ReportLine.TheVariants as lines
 use Rattle.run_report.specs.Closing.{device_lines, frame_line}
 use Rattle.run_report.specs.Report.{lines_of_run, report_lines}
 use Rattle.subsystem_core.specs.declared.subsystem.Subsystem.{Subsystem}
-use Rattle.subsystem_defs.specs.Closing.{Counted, DeviceEnd, device_end, device_end_by, lost_tracks, where_true}
+use Rattle.subsystem_defs.specs.Closing.{Counted, LentTo, device_end, device_end_by, lost_tracks, where_true}
 use Rattle.subsystem_defs.specs.Decks.{DeckRun}
-use Rattle.subsystem_defs.specs.Subsystem as runs
 use Rattle.subsystem_defs.specs.Subsystem.{Mounted}
-use Rattle.deck_run.specs.Ending.{end_lines_of, lost_in}
+use Rattle.deck_run.specs.Ending.{end_by, end_lines_of}
 use Rattle.deck_run.specs.Standing.{StandsAs, stood_of, all_stood}
 use Rattle.deck_run.proofs.Telling.{AreKnown, IsKnown, all_known}
+use Rattle.device_core.specs.State.{device_of}
 
 some_same : {X : Type 0} {x y : X} → Some x ≡ Some y → x ≡ y
 some_same e = cc
@@ -66,22 +66,26 @@ few_all f cylinders n most is = omega (arith, most, is, few_lost f 0 (cylinders 
 
 -- Devices
 
-end_by : (s : MarksStore) (o : Option ℕ) (d reads writes cylinders : ℕ) (lost : List Bool) → o ≡ None → s.device ≡ d → s.counts.reads ≡ reads →
-    s.counts.writes ≡ writes → s.cylinders ≡ cylinders → s.lost ≡ lost →
-    device_end_by s o ≡ Counted d reads writes (where_true (λ (t : ℕ). slice_index_or lost t false) (range_with_len 0 (cylinders * 15)))
-end_by s o d reads writes cylinders lost free number read written many marks =
-    ap (λ (x : Option ℕ). device_end_by s x) free
-    ∙ ap (λ (n : ℕ). Counted n s.counts.reads s.counts.writes (lost_tracks s)) number
+counted_by : (s : MarksStore) (d reads writes cylinders : ℕ) (lost : List Bool) → s.device ≡ d → s.counts.reads ≡ reads → s.counts.writes ≡ writes →
+    s.cylinders ≡ cylinders → s.lost ≡ lost →
+    device_end_by s None ≡ Counted d reads writes (where_true (λ (t : ℕ). slice_index_or lost t false) (range_with_len 0 (cylinders * 15)))
+counted_by s d reads writes cylinders lost number read written many marks =
+    ap (λ (n : ℕ). Counted n s.counts.reads s.counts.writes (lost_tracks s)) number
     ∙ ap (λ (n : ℕ). Counted d n s.counts.writes (lost_tracks s)) read
     ∙ ap (λ (n : ℕ). Counted d reads n (lost_tracks s)) written
     ∙ ap (λ (l : List Bool). Counted d reads writes (where_true (λ (t : ℕ). slice_index_or l t false) (range_with_len 0 (s.cylinders * 15)))) marks
     ∙ ap (λ (n : ℕ). Counted d reads writes (where_true (λ (t : ℕ). slice_index_or lost t false) (range_with_len 0 (n * 15)))) many
 
 module _ {V : Type 0} {G : Ghosts V} where
+  end_at : (x : Device V G) (m : Mounted) (o : Option ℕ) → IsKnown (stood_of x) m → device_end_by m.device.store o ≡ end_by x o
+  end_at x m (Some to) is = ap (λ (n : ℕ). LentTo n to) is.number
+  end_at x m None is =
+      counted_by m.device.store x.store.number x.store.counts.reads x.store.counts.writes x.store.cylinders x.store.lost is.number
+      (ap (λ (k : Counts). k.reads) is.counts) (ap (λ (k : Counts). k.writes) is.counts) is.cylinders is.lost
+
   end_known : (x : Device V G) (m : Mounted) → IsKnown (stood_of x) m → end_lines_of x ≡ device_lines (device_end m)
   end_known x m is =
-      ap device_lines (sym (end_by m.device.store m.device.store.lent x.store.number x.store.counts.reads x.store.counts.writes x.store.cylinders
-      x.store.lost is.lent is.number (ap (λ (k : Counts). k.reads) is.counts) (ap (λ (k : Counts). k.writes) is.counts) is.cylinders is.lost))
+      ap device_lines (sym (end_at x m (device_of x).store.lent is) ∙ ap (λ (o : Option ℕ). device_end_by m.device.store o) (sym is.lent))
 
   ends_known : (xs : List (Device V G)) (ms : List Mounted) → AreKnown (all_stood xs) ms → flat_map end_lines_of xs ≡ flat_map device_lines (map device_end ms)
   ends_known [] [] all = refl

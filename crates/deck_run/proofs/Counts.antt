@@ -1,4 +1,4 @@
--- A command and a reset count in their device each read and each write that they make, and leave it its number. The device has one side.
+-- A command and a reset count in their device each read and each write that they make, and leave it its number. So does the second part of a write.
 use Rattle.std.proofs.Common.{◌≡◌, ◌&&◌, ◌+◌, ℕ, zero, suc, List, [], ◌∷◌, Bool, true, false, Option, Some, None, is_some, ap}
 use Rattle.std.specs.Prelude.{if◌then◌else◌, ◌||◌, nat_le, nat_lt, ◌==◌, length}
 use Rattle.std.proofs.lemmas.Bool.{cond_both}
@@ -30,177 +30,40 @@ use Rattle.device_defs.specs.declared.answers.Choice.TheVariants as choices
 use Rattle.device_defs.specs.declared.answers.Did.{Did}
 use Rattle.device_defs.specs.declared.answers.Did.TheVariants.{Recovered, Destaged}
 use Rattle.device_defs.specs.Background as works
-use Rattle.device_defs.specs.Background.{
-  saved_by,
-  saving,
-  saved,
-  recovered_image,
-  recovered_bytes,
-  recover,
-  copied,
-  copy_read,
-  copies_to,
-  copy_by,
-  staged_image,
-  staged_bytes,
-  stage,
-  to_destage,
-  destage_first,
-  stage_first,
-  to_copy,
-  copy_first,
-  to_recover,
-  recover_first,
-  work,
-}
+use Rattle.device_defs.specs.Background.{saved_by, saving, saved, recovered_image, recovered_bytes, recover, copied, copy_read, copies_to, copy_by, staged_image, staged_bytes, stage, to_destage, destage_first, stage_first, to_copy, copy_first, to_recover, recover_first, work}
 use Rattle.device_defs.specs.Choosing as choosing
 use Rattle.device_defs.specs.Choosing.{choose, slot_by, fast_by, fast_or_through, choose_loose, choose_firm, may_be_fast}
 use Rattle.device_defs.specs.Command as commands
-use Rattle.device_defs.specs.Command.{
-  Went,
-  Over,
-  On,
-  came_of_write,
-  went_by,
-  went_on,
-  looked,
-  look,
-  goes_on,
-  follow,
-  came_out,
-  on_tracks,
-  answered_by,
-  on_paths,
-  command_at,
-  command_by,
-  command,
-  has_loss,
-}
+use Rattle.device_defs.specs.Command.{Went, Over, On, came_of_write, went_by, looked, look, goes_on, follow, came_out, on_tracks, answered_by, command_at, command_by, command, has_loss}
 use Rattle.device_defs.specs.Contents.{Contents}
 use Rattle.device_defs.specs.Cutting as cutting
-use Rattle.device_defs.specs.Cutting.{origin_cut, half_cut, reset_by, path_cut, reset}
+use Rattle.device_defs.specs.Cutting.{origin_cut, half_cut, reset_by, reset}
 use Rattle.device_defs.specs.Effects.{with_edit, loosened, hardened, loose_lost}
 use Rattle.plain_device.specs.Acted.{settled_act, paths_behind}
 use Rattle.device_defs.specs.Device.{Device, event_ended, event_begun, with_store}
 use Rattle.device_defs.specs.Editing as editing
-use Rattle.device_defs.specs.Editing.{effect, whole, at_once, through_by, through, write_by, written, is_given, unchosen, write_chosen, write}
+use Rattle.device_defs.specs.Editing.{whole, at_once, through_by, through, write_by, written, is_given, write_chosen, write}
 use Rattle.device_defs.specs.Events as happened
 use Rattle.device_defs.specs.Events.{background, lose, losing, lost_by, with_loss}
 use Rattle.device_defs.specs.Image as images
-use Rattle.device_defs.specs.Image.{
-  is_sequential,
-  read_counted,
-  image_of,
-  Imaged,
-  Has,
-  NoBytes,
-  BadTrack,
-  Got,
-  ahead,
-  queued,
-  first_read,
-  read_b,
-  second_read,
-  level_bytes,
-  filled,
-  granted,
-  loaded,
-  delivered,
-  missed,
-  miss,
-  hit,
-  clean_image,
-  image_by,
-  image,
-}
+use Rattle.device_defs.specs.Image.{is_sequential, read_counted, image_of, Imaged, Has, NoBytes, BadTrack, Got, ahead, queued, first_read, read_b, second_read, level_bytes, filled, granted, loaded, delivered, missed, miss, clean_image, image_by, image}
 use Rattle.device_defs.specs.Losses as losses
-use Rattle.device_defs.specs.Losses.{
-  settled,
-  settled_but,
-  by_frame,
-  gives_up,
-  kept_by_frame,
-  stale_everywhere,
-  call_failed,
-  over,
-  down,
-  side_lost,
-  without_frame,
-  without_patch,
-  cache_lost,
-  patch_lost,
-  store_lost,
-  firm_told,
-  all_firm_told,
-}
+use Rattle.device_defs.specs.Losses.{settled, settled_but, by_frame, gives_up, stale_everywhere, call_failed, over, down, side_lost, without_frame, without_patch, cache_lost, patch_lost, store_lost, firm_told, all_firm_told}
 use Rattle.device_defs.specs.Memory.{had_by}
-use Rattle.device_defs.specs.Outcomes.{Turn, ends_with, settles, checks, wrote_turn, usage_of, turned_by}
+use Rattle.device_defs.specs.Outcomes.{Turn, ends_with, settles, checks, usage_of, turned_by}
 use Rattle.device_defs.specs.Owed as owed
-use Rattle.device_defs.specs.Owed.{
-  is_owed,
-  is_modified,
-  is_clean,
-  dropped,
-  heard,
-  hear,
-  modified_told,
-  dropped_told,
-  freed_told,
-  settles_debt,
-  track_told,
-  all_told,
-  waiting_told,
-  ended,
-  waiting_count,
-}
-use Rattle.device_defs.specs.Store.{
-  Origin,
-  OfCommand,
-  OfCut,
-  OfBackground,
-  HalfWrite,
-  Store,
-  tracks_of,
-  takes_b,
-  frame_at,
-  patch_at,
-  is_lost,
-  is_loose,
-  has_loose,
-  has_level,
-  level_at,
-  half_is,
-  owed_at,
-  with_frame,
-  with_stale,
-}
+use Rattle.device_defs.specs.Owed.{is_owed, is_modified, is_clean, dropped, heard, hear, modified_told, dropped_told, freed_told, settles_debt, track_told, all_told, waiting_told, ended, waiting_count}
+use Rattle.device_defs.specs.Store.{Origin, OfCommand, OfCut, OfBackground, HalfWrite, Store, tracks_of, takes_b, frame_at, patch_at, is_lost, is_loose, has_loose, has_level, level_at, half_is, owed_at, with_frame, with_stale}
 use Rattle.device_defs.specs.Writing as writing
-use Rattle.device_defs.specs.Writing.{
-  Wrote,
-  taken_a,
-  firm_first,
-  unwritten,
-  alone_b,
-  failed_a,
-  first_a,
-  write_first,
-  tried_b,
-  write_second,
-  write_counted,
-  slot_freed,
-  unpatched,
-  done_by,
-  write_done,
-  opened as half_open,
-}
+use Rattle.device_defs.specs.Writing.{firm_first, unwritten, alone_b, failed_a, first_a, write_first, tried_b, write_second, write_counted, slot_freed, unpatched, write_done, opened as half_open}
 use Rattle.deck_run.proofs.Makes.{Makes, m_done, m_try, m_ask, m_read, m_write, m_firm, m_before, m_if, m_then}
-
-clash : (b : Bool) → b ≡ true → b ≡ false → ⊥
-clash b x y = absurd (cc)
+use Rattle.device_defs.specs.Events.{command_ended, second, second_ended, second_of, second_turn}
+use Rattle.device_defs.specs.Second as parts
+use Rattle.device_defs.specs.Second.{closed, cut_kept, finished, half_image_of, left_by, second_by, second_done, second_part}
 
 module _ {F P H R : Type 0} (c : Contents F P H R) (n : ℕ) where
   abbrev pub Is : ℕ → ℕ → Store F P H → Type 0
-  Is rs ws s = (s.counts.reads ≡ rs) × ((s.counts.writes ≡ ws) × ((s.device ≡ n) × (s.paired ≡ false)))
+  Is rs ws s = (s.counts.reads ≡ rs) × ((s.counts.writes ≡ ws) × (s.device ≡ n))
 
   abbrev Keeps : {X : Type 0} → ℕ → ℕ → Interaction R Image (Store F P H) X → Type 0
   Keeps rs ws i = Makes i rs ws (λ s a r w. Is r w s)
@@ -228,9 +91,6 @@ module _ {F P H R : Type 0} (c : Contents F P H R) (n : ℕ) where
   settled_is s t k =
       either (is_some s.lent) s _ k (either (is_lost s t) s _ k (either (has_level s t) s _ k (framed_is s t (frame_at s t) k)))
 
-  failed : {rs ws : ℕ} (s : Store F P H) (side : Side) (o : Option ℕ) → Is rs ws s → Keeps rs ws (call_failed c s side o)
-  failed s side o k = m_if s.paired (λ e. absurd (clash s.paired e k.1.1.1)) (λ e. m_done k)
-
   -- Losses
 
   over_is : {rs ws : ℕ} (m : ℕ) (f : ℕ → Store F P H → Store F P H) → ((t : ℕ) (z : Store F P H) → Is rs ws z → Is rs ws (f t z)) →
@@ -243,9 +103,13 @@ module _ {F P H R : Type 0} (c : Contents F P H R) (n : ℕ) where
   down_is s A k = k
   down_is s B k = k
 
-  side_is : {rs ws : ℕ} (s : Store F P H) (side : Side) → Is rs ws s → Is rs ws (side_lost c s side None)
+  but_is : {rs ws : ℕ} (o : Option ℕ) (t : ℕ) (s : Store F P H) → Is rs ws s → Is rs ws (settled_but c o t s)
+  but_is None t s k = settled_is s t k
+  but_is (Some q) t s k = either (t == q) s _ k (settled_is s t k)
+
+  side_is : {rs ws : ℕ} (s : Store F P H) (side : Side) (o : Option ℕ) → Is rs ws s → Is rs ws (side_lost c s side o)
   unfolding losses.side_lost
-  side_is s side k = over_is (tracks_of s) (settled_but c None) (λ t z l. settled_is z t l) (down s side) (down_is s side k)
+  side_is s side o k = over_is (tracks_of s) (settled_but c o) (λ t z l. but_is o t z l) (down s side) (down_is s side k)
 
   bare_is : {rs ws : ℕ} (s : Store F P H) (t : ℕ) → Is rs ws s → Is rs ws (without_frame s t)
   bare_is s t k = either (is_some (frame_at s t)) _ s k k
@@ -278,7 +142,7 @@ module _ {F P H R : Type 0} (c : Contents F P H R) (n : ℕ) where
   lost_is : {rs ws : ℕ} (s : Store F P H) (loss : Loss) → Is rs ws s → Is rs ws (lost_by c s loss)
   lost_is s kinds.Cache k = cache_is s k
   lost_is s kinds.Store k = patches_is s k
-  lost_is s (kinds.Side side) k = side_is s side k
+  lost_is s (kinds.Side side) k = side_is s side None k
 
   firms : {rs ws : ℕ} (t : ℕ) (s : Store F P H) → Is rs ws s → Keeps rs ws (firm_told c t s)
   firms t s k = m_if (owed_at s t).firm (λ _. m_firm (m_done k)) (λ _. m_done k)
@@ -287,6 +151,9 @@ module _ {F P H R : Type 0} (c : Contents F P H R) (n : ℕ) where
   unfolding losses.all_firm_told
   all_firms zero s k = m_done k
   all_firms (suc m) s k = m_then (all_firms m s k) (λ z _ _ _ l. firms m z l)
+
+  failed : {rs ws : ℕ} (s : Store F P H) (side : Side) (o : Option ℕ) → Is rs ws s → Keeps rs ws (call_failed c s side o)
+  failed s side o k = m_if s.paired (λ _. all_firms (tracks_of s) (side_lost c s side o) (side_is s side o k)) (λ _. m_done k)
 
   loses : {rs ws : ℕ} (s : Store F P H) (loss : Loss) → Is rs ws s → Keeps rs ws (losing c s loss)
   loses s loss k = all_firms (tracks_of s) (lost_by c (with_loss s loss) loss) (lost_is (with_loss s loss) loss k)
@@ -578,6 +445,35 @@ module _ {F P H R : Type 0} (c : Contents F P H R) (n : ℕ) where
   unfolding works.work
   does_work s k = recovers_first s (to_recover c s) k
 
+  -- The second part of a write
+
+  finishes : {rs ws : ℕ} (s : Store F P H) (t : ℕ) (i : Image) (bypass : Bool) → Is rs ws s → Keeps rs ws (finished c s t i bypass)
+  finishes s t i bypass k = m_then (dones s t i bypass k) (λ z _ _ _ l. m_done l)
+
+  second_dones : {rs ws : ℕ} (s : Store F P H) (t : ℕ) (i : Image) (origin : Origin) → Is rs ws s → Keeps rs ws (second_done c s t i origin)
+  second_dones s t i (OfCommand bypass e) k = m_firm (finishes (with_edit s t e) t i bypass k)
+  second_dones s t i (OfCut bypass) k = finishes s t i bypass k
+  second_dones s t i OfBackground k = finishes s t i false k
+
+  cut_is : {rs ws : ℕ} (s : Store F P H) (t : ℕ) (i : Image) (o : Option F) → Is rs ws s → Is rs ws (cut_kept c s t i o)
+  cut_is s t i None k = k
+  cut_is s t i (Some f) k = unpatched_is (with_frame s t (Some (c.frame i (c.modified f)))) t k
+
+  left_is : {rs ws : ℕ} (s : Store F P H) (t : ℕ) (i : Image) (origin : Origin) → Is rs ws s → Is rs ws (left_by c s t i origin)
+  left_is s t i (OfCommand bypass e) k = k
+  left_is s t i (OfCut bypass) k = cut_is s t i (frame_at s t) k
+  left_is s t i OfBackground k = k
+
+  seconds_by : {rs ws : ℕ} (t : ℕ) (i : Image) (origin : Origin) (s : Store F P H) → Is rs ws s → Keeps rs ws (second_by c t i origin s)
+  seconds_by t i origin s k =
+      m_if (has_level s t) (λ _. second_dones (closed s) t i origin k)
+      (λ _. m_done (settled_is (left_by c (closed s) t i origin) t (left_is (closed s) t i origin k)))
+
+  second_parts : {rs ws : ℕ} (s : Store F P H) (h : HalfWrite H) → Is rs ws s → Keeps rs ws (second_part c s h)
+  unfolding parts.second_part
+  second_parts s h k =
+      m_then (seconds s h.track (c.bytes (half_image_of c s h)) k) (λ z _ _ _ l. seconds_by h.track (half_image_of c s h) h.origin z l)
+
   -- From track to track
 
   went_write : {rs ws : ℕ} (chain : ChainState) (t : ℕ) (s : Store F P H) (o : Option Took) → Is rs ws s →
@@ -676,6 +572,31 @@ module _ {F P H R : Type 0} (c : Contents F P H R) (n : ℕ) where
   unfolding happened.lose
   lose_counts d loss k =
       m_then (m_then (hears 960 (event_begun d).store k) (λ s _ _ _ l. m_then (loses s loss l) (λ z a _ _ m. m_done (record { store = m }))))
+      (λ y a _ _ l. ended_by d y a l)
+
+  -- the second part of a write
+  command_over : {rs ws : ℕ} (d : Device F P H) (t : ℕ) (r : Option OpenEntry) (o : Option ChainState) (done : Bool) → Is rs ws d.store →
+      Leaves rs ws (command_ended c d t r o done)
+  command_over d t None None done k = m_done (record { store = k })
+  command_over d t None (Some chain) done k = m_done (record { store = k })
+  command_over d t (Some r) None done k = m_done (record { store = k })
+  command_over d t (Some r) (Some chain) done k =
+      let turn = second_turn c chain done in m_done (turns_by d r.path turn.chain turn.came k)
+
+  second_over : {rs ws : ℕ} (d : Device F P H) (t : ℕ) (origin : Origin) (done : Bool) → Is rs ws d.store → Leaves rs ws (second_ended c d t origin done)
+  second_over d t (OfCommand bypass e) done k = command_over d t d.history.running d.chain done k
+  second_over d t (OfCut bypass) done k = m_done (record { store = k })
+  second_over d t OfBackground done k = m_done (record { store = k })
+
+  seconds_of : {rs ws : ℕ} (d : Device F P H) (o : Option (HalfWrite H)) → Is rs ws d.store → Leaves rs ws (second_of c d o)
+  seconds_of d None k = m_done (record { store = k })
+  seconds_of d (Some h) k =
+      m_then (second_parts d.store h k) (λ s done _ _ l. second_over (with_store d s) h.track h.origin done l)
+
+  pub second_counts : {rs ws : ℕ} (d : Device F P H) → Is rs ws d.store → Leaves rs ws (second c d)
+  unfolding happened.second
+  second_counts d k =
+      m_then (m_then (hears 960 (event_begun d).store k) (λ s _ _ _ l. seconds_of (record (event_begun d) { store = s }) s.half l))
       (λ y a _ _ l. ended_by d y a l)
 
   halves_by : {rs ws : ℕ} (s : Store F P H) (h : HalfWrite H) (o : Origin) → Is rs ws s → Keeps rs ws (origin_cut c s h o)

@@ -18,7 +18,6 @@ use Rattle.device_outside.specs.Lists as lists
 use Rattle.device_outside.specs.Lists.{is_in}
 use Rattle.device_outside.specs.Keeper.{Message, ReplyTo, reply}
 use Rattle.device_outside.specs.Outside.{Ran}
-use Rattle.device_outside.specs.Pool.{counted_slots}
 use Rattle.device_outside.specs.Pool as pools
 use Rattle.device_defs.specs.declared.answers.StartFault.{StartFault}
 use Rattle.device_defs.specs.declared.answers.Stepped as defs
@@ -26,7 +25,7 @@ use Rattle.device_defs.specs.declared.counts.Counts.{Counts}
 use Rattle.device_defs.specs.Command.{command}
 use Rattle.device_defs.specs.declared.answers.Did.{Did}
 use Rattle.device_defs.specs.Contents.{contents}
-use Rattle.device_defs.specs.Events.{background, lose}
+use Rattle.device_defs.specs.Events.{background, lose, second}
 use Rattle.device_defs.specs.Cutting.{reset}
 use Rattle.device_defs.specs.Orders.{hold, resume}
 use Rattle.device_defs.specs.Start as starting
@@ -42,28 +41,7 @@ use Rattle.subsystem_defs.specs.declared.end.OrderFault.{OrderFault}
 use Rattle.subsystem_defs.specs.declared.event.Event.{Event}
 use Rattle.subsystem_defs.specs.declared.event.Event.TheVariants as events
 use Rattle.subsystem_defs.specs.Deeds as deeds
-use Rattle.subsystem_defs.specs.Deeds.{
-  Deed,
-  Ends,
-  Becomes,
-  Asks,
-  Each,
-  Repairs,
-  Lends,
-  ends_by,
-  may_end_by,
-  ends_done,
-  end_of,
-  is_own,
-  start_by,
-  starts,
-  step,
-  back,
-  on_device,
-  order,
-  device_in,
-  deed,
-}
+use Rattle.subsystem_defs.specs.Deeds.{Ends, Becomes, Asks, Each, Repairs, Lends, ends_by, may_end_by, ends_done, end_of, is_own, start_by, starts, step, back, on_device, order, seconds, deed}
 use Rattle.subsystem_defs.specs.Happening.{happens}
 use Rattle.subsystem_defs.specs.Refusals.{fail_fault, resume_fault, suspend_fault}
 use Rattle.subsystem_defs.specs.Subsystem as runs
@@ -77,7 +55,7 @@ use Rattle.subsystem_core.proofs.Found.{number_found, found_in}
 use Rattle.subsystem_laws.specs.WholeComes as laws
 use Rattle.subsystem_laws.specs.WholeComes.{subsystem_of, IsWhatCame}
 use Rattle.subsystem_laws.proofs.WholeHappens.{event_so}
-use Rattle.deck_run.specs.Owning.{GivesAll, PlansGive, IsOwn, AreOwn, ChainsStand, IsOpenOn}
+use Rattle.deck_run.specs.Owning.{GivesAll, PlansGive, IsOwn, AreOwn, AllOwn, ChainsStand, IsOpenOn}
 use Rattle.deck_run.specs.Standing.{StandsAs, stood_of, all_stood}
 use Rattle.deck_run.specs.Counting.{more_calls}
 use Rattle.deck_run.specs.Recording.{IsTold}
@@ -87,10 +65,14 @@ use Rattle.deck_run.proofs.Telling.{AreKnown, all_known, known_at, one_tells, ru
 use Rattle.subsystem_defs.specs.Beside.{new_acts}
 use Rattle.deck_run.specs.Loosening.{acts_by}
 use Rattle.deck_run.proofs.Acting.{brought_none, new_are, none_new, started_new}
-use Rattle.deck_run.proofs.Stays.{Answers, HasOf, Is, IsNoted, Stays, background_stays, command_stays, lose_stays, reset_stays}
+use Rattle.deck_run.proofs.Stays.{HasOf, Is, background_stays, command_stays, lose_stays, reset_stays, second_stays}
 use Rattle.deck_run.proofs.Surely.{Surely, s_done, s_then, surely_so, ran_so}
 use Rattle.device_defs.specs.Device.{all_acted}
 use Rattle.run_report.proofs.ActsCome.{acts_come}
+use Rattle.duplex_pair.specs.declared.pair.SideVolumes.{SideVolumes}
+use Rattle.deck_run.proofs.StoreStays.{Answers}
+use Rattle.deck_run.specs.Sides.{AreAccounted, all_sides}
+use Rattle.deck_run.proofs.Accounted.{asked_sides, put_sides, ran_there, same_sides}
 
 some_same : {X : Type 0} {x y : X} → Some x ≡ Some y → x ≡ y
 some_same e = cc
@@ -103,12 +85,21 @@ own_chain ccws fixed g None on gives has = tt
 own_chain ccws fixed g (Some chain) on gives has =
     (ap (λ (f : Fixed). f.geometry) has.1 ∙ on, subst GivesAll (sym has.0) gives)
 
-own_of : (ccws : List Ccw) (fixed : Fixed) (d y : DefinedDevice) → fixed.geometry ≡ d.store.geometry → GivesAll ccws → PlansGive d.plans →
-    Is contents d.store.geometry d.store.cylinders y.store → y.plans ≡ d.plans → HasOf ccws fixed y.chain → IsOwn y
-own_of ccws fixed d y on gives plans is same has = record {
+pub own_so : (ccws : List Ccw) (fixed : Fixed) (d y : DefinedDevice) → fixed.geometry ≡ d.store.geometry → GivesAll ccws → PlansGive d.plans →
+    y.store.geometry ≡ d.store.geometry → y.plans ≡ d.plans → HasOf ccws fixed y.chain → IsOwn y
+own_so ccws fixed d y on gives plans is same has = record {
   plans = subst PlansGive (sym same) plans;
-  chain = own_chain ccws fixed y.store.geometry y.chain (on ∙ sym is.0) gives has;
+  chain = own_chain ccws fixed y.store.geometry y.chain (on ∙ sym is) gives has;
 }
+
+-- its own, and lent to whom it was
+abbrev pub KeptOwn : DefinedDevice → DefinedDevice → Type 0
+KeptOwn d y = IsOwn y × (y.store.lent ≡ d.store.lent)
+
+own_of : (ccws : List Ccw) (fixed : Fixed) (d y : DefinedDevice) → fixed.geometry ≡ d.store.geometry → GivesAll ccws → PlansGive d.plans →
+    Is contents d.store.geometry d.store.cylinders (d.store.lent, d.store.device) y.store → y.plans ≡ d.plans → HasOf ccws fixed y.chain → KeptOwn d y
+own_of ccws fixed d y on gives plans is same has =
+    (own_so ccws fixed d y on gives plans is.0 same has, ap (λ (p : Option ℕ × ℕ). p.0) is.1.1)
 
 -- what is said of an end: it is told, and these acts came to the device
 abbrev Brings : Event → DefinedDevice → DefinedDevice → Option ends.EventEnd → Type 0
@@ -116,7 +107,7 @@ Brings e d y None = ⊥
 Brings e d y (Some end) = new_acts d.history y.history ≡ acts_by e end y
 
 abbrev Leaves : Event → DefinedDevice → Talk (Option ends.EventEnd) → Type 0
-Leaves e d talk = Surely talk (λ y o. IsOwn y × Brings e d y o)
+Leaves e d talk = Surely talk (λ y o. KeptOwn d y × Brings e d y o)
 
 pub record Ending (e : Event) (d y : DefinedDevice) (o : Option ends.EventEnd) : Type 0 where
   pub end : ends.EventEnd
@@ -132,14 +123,14 @@ step_brings : (e : Event) (d y : DefinedDevice) (o : Option defs.Stepped) → ne
 step_brings e d y None came h = h
 step_brings e d y (Some s) came h = came
 
-step_leaves : (e : Event) (d : DefinedDevice) (o : OpenEntry) (chain : ChainState) → d.history.running ≡ Some o → d.chain ≡ Some chain → d.store.paired ≡ false →
-    IsOwn d → Leaves e d (may_end_by answers.Stepped (command contents d))
-step_leaves e d o chain running at single own =
+step_leaves : (e : Event) (d : DefinedDevice) (o : OpenEntry) (chain : ChainState) → d.history.running ≡ Some o → d.chain ≡ Some chain → IsOwn d →
+    Leaves e d (may_end_by answers.Stepped (command contents d))
+step_leaves e d o chain running at own =
     let mine : (chain.fixed.geometry ≡ d.store.geometry) × GivesAll chain.ccws =
     subst (λ (x : Option ChainState). IfSome x (λ (c : ChainState). (c.fixed.geometry ≡ d.store.geometry) × GivesAll c.ccws)) at own.chain in
     s_then
-    (command_stays contents d.store.geometry d.store.cylinders chain.ccws chain.fixed d.plans d.history d (subst Answers (sym running) tt)
-    (subst Answers (sym at) tt) (refl, (refl, single)) refl (subst (HasOf chain.ccws chain.fixed) (sym at) (refl, refl)) refl)
+    (command_stays contents d.store.geometry d.store.cylinders (d.store.lent, d.store.device) chain.ccws chain.fixed d.plans d.history d (subst Answers (sym running) tt)
+    (subst Answers (sym at) tt) (refl, (refl, refl)) refl (subst (HasOf chain.ccws chain.fixed) (sym at) (refl, refl)) refl)
     (λ y a l. s_done (
       own_of chain.ccws chain.fixed d y mine.0 mine.1 own.plans l.0.is l.0.plans_are l.0.chain,
       step_brings e d y a (new_are d.history y.history y.store.acts l.0.acts) l.1,
@@ -150,36 +141,56 @@ back_brings : (e : Event) (d y : DefinedDevice) (o : Option Did) → new_acts d.
 back_brings e d y None came h = h
 back_brings e d y (Some did) came h = came
 
-back_by : (e : Event) (d : DefinedDevice) (o : Option ChainState) → d.chain ≡ o → d.store.paired ≡ false → IsOwn d →
+back_by : (e : Event) (d : DefinedDevice) (o : Option ChainState) → d.chain ≡ o → IsOwn d →
     Leaves e d (may_end_by answers.Back (background contents d))
-back_by e d None at single own =
+back_by e d None at own =
     let fixed : Fixed = record { geometry = d.store.geometry; cylinders = d.store.cylinders; number = 0 } in
     s_then
-    (background_stays contents d.store.geometry d.store.cylinders [] fixed d.plans d.history d (refl, (refl, single)) refl
+    (background_stays contents d.store.geometry d.store.cylinders (d.store.lent, d.store.device) [] fixed d.plans d.history d (refl, (refl, refl)) refl
     (subst (HasOf [] fixed) (sym at) tt) refl)
     (λ y a l. s_done (
       own_of [] fixed d y refl (λ i k m h. absurd (omega (arith, h))) own.plans l.0.is l.0.plans_are l.0.chain,
       back_brings e d y a (new_are d.history y.history y.store.acts l.0.acts) l.1,
     ))
-back_by e d (Some chain) at single own =
+back_by e d (Some chain) at own =
     let mine : (chain.fixed.geometry ≡ d.store.geometry) × GivesAll chain.ccws =
     subst (λ (x : Option ChainState). IfSome x (λ (c : ChainState). (c.fixed.geometry ≡ d.store.geometry) × GivesAll c.ccws)) at own.chain in
     s_then
-    (background_stays contents d.store.geometry d.store.cylinders chain.ccws chain.fixed d.plans d.history d (refl, (refl, single)) refl
+    (background_stays contents d.store.geometry d.store.cylinders (d.store.lent, d.store.device) chain.ccws chain.fixed d.plans d.history d (refl, (refl, refl)) refl
     (subst (HasOf chain.ccws chain.fixed) (sym at) (refl, refl)) refl)
     (λ y a l. s_done (
       own_of chain.ccws chain.fixed d y mine.0 mine.1 own.plans l.0.is l.0.plans_are l.0.chain,
       back_brings e d y a (new_are d.history y.history y.store.acts l.0.acts) l.1,
     ))
 
-reset_by : (n : ℕ) (d : DefinedDevice) (path : ℕ) (o : Option ChainState) → d.chain ≡ o → d.store.paired ≡ false → IsOwn d →
-    Leaves (events.Reset path n) d (ends_by ends_done (reset contents d path))
-reset_by n d path None at single own =
+second_by : (e : Event) (d : DefinedDevice) (o : Option ChainState) → d.chain ≡ o → IsOwn d → Leaves e d (ends_by answers.Second (second contents d))
+second_by e d None at own =
     let fixed : Fixed = record { geometry = d.store.geometry; cylinders = d.store.cylinders; number = 0 } in
     s_then
-    (reset_stays contents d.store.geometry d.store.cylinders [] fixed d.plans d.history d path
+    (second_stays contents d.store.geometry d.store.cylinders (d.store.lent, d.store.device) [] fixed d.plans d.history d (refl, (refl, refl)) refl (subst (HasOf [] fixed) (sym at) tt) refl)
+    (λ y a l. s_done (
+      own_of [] fixed d y refl (λ i k m h. absurd (omega (arith, h))) own.plans l.is l.plans_are l.chain,
+      new_are d.history y.history y.store.acts l.acts,
+    ))
+second_by e d (Some chain) at own =
+    let mine : (chain.fixed.geometry ≡ d.store.geometry) × GivesAll chain.ccws =
+    subst (λ (x : Option ChainState). IfSome x (λ (c : ChainState). (c.fixed.geometry ≡ d.store.geometry) × GivesAll c.ccws)) at own.chain in
+    s_then
+    (second_stays contents d.store.geometry d.store.cylinders (d.store.lent, d.store.device) chain.ccws chain.fixed d.plans d.history d (refl, (refl, refl)) refl
+    (subst (HasOf chain.ccws chain.fixed) (sym at) (refl, refl)) refl)
+    (λ y a l. s_done (
+      own_of chain.ccws chain.fixed d y mine.0 mine.1 own.plans l.is l.plans_are l.chain,
+      new_are d.history y.history y.store.acts l.acts,
+    ))
+
+reset_by : (n : ℕ) (d : DefinedDevice) (path : ℕ) (o : Option ChainState) → d.chain ≡ o → IsOwn d →
+    Leaves (events.Reset path n) d (ends_by ends_done (reset contents d path))
+reset_by n d path None at own =
+    let fixed : Fixed = record { geometry = d.store.geometry; cylinders = d.store.cylinders; number = 0 } in
+    s_then
+    (reset_stays contents d.store.geometry d.store.cylinders (d.store.lent, d.store.device) [] fixed d.plans d.history d path
     (record {
-      is = (refl, (refl, single));
+      is = (refl, (refl, refl));
       plans_are = refl;
       chain = subst (HasOf [] fixed) (sym at) tt;
       acts = brought_none d.history d.history [] refl refl;
@@ -188,13 +199,13 @@ reset_by n d path None at single own =
       own_of [] fixed d y refl (λ i k m h. absurd (omega (arith, h))) own.plans l.is l.plans_are l.chain,
       new_are d.history y.history [] l.acts,
     ))
-reset_by n d path (Some chain) at single own =
+reset_by n d path (Some chain) at own =
     let mine : (chain.fixed.geometry ≡ d.store.geometry) × GivesAll chain.ccws =
     subst (λ (x : Option ChainState). IfSome x (λ (c : ChainState). (c.fixed.geometry ≡ d.store.geometry) × GivesAll c.ccws)) at own.chain in
     s_then
-    (reset_stays contents d.store.geometry d.store.cylinders chain.ccws chain.fixed d.plans d.history d path
+    (reset_stays contents d.store.geometry d.store.cylinders (d.store.lent, d.store.device) chain.ccws chain.fixed d.plans d.history d path
     (record {
-      is = (refl, (refl, single));
+      is = (refl, (refl, refl));
       plans_are = refl;
       chain = subst (HasOf chain.ccws chain.fixed) (sym at) (refl, refl);
       acts = brought_none d.history d.history [] refl refl;
@@ -206,24 +217,24 @@ reset_by n d path (Some chain) at single own =
 
 -- a loss
 
-pub lose_owns : (d : DefinedDevice) (loss : Loss) (o : Option ChainState) → d.chain ≡ o → d.store.paired ≡ false → IsOwn d →
-    Surely (lose contents d loss) (λ y _. IsOwn y × (y.history ≡ all_acted d.history y.store.acts))
-lose_owns d loss None at single own =
+pub lose_owns : (d : DefinedDevice) (loss : Loss) (o : Option ChainState) → d.chain ≡ o → IsOwn d →
+    Surely (lose contents d loss) (λ y _. KeptOwn d y × (y.history ≡ all_acted d.history y.store.acts))
+lose_owns d loss None at own =
     let fixed : Fixed = record { geometry = d.store.geometry; cylinders = d.store.cylinders; number = 0 } in
     surely_so (λ y a l. (own_of [] fixed d y refl (λ i k m h. absurd (omega (arith, h))) own.plans l.0.is l.0.plans_are l.0.chain, l.1))
-    (lose_stays contents d.store.geometry d.store.cylinders [] fixed d.plans d.history d loss (refl, (refl, single)) refl
+    (lose_stays contents d.store.geometry d.store.cylinders (d.store.lent, d.store.device) [] fixed d.plans d.history d loss (refl, (refl, refl)) refl
     (subst (HasOf [] fixed) (sym at) tt) refl)
-lose_owns d loss (Some chain) at single own =
+lose_owns d loss (Some chain) at own =
     let mine : (chain.fixed.geometry ≡ d.store.geometry) × GivesAll chain.ccws =
     subst (λ (x : Option ChainState). IfSome x (λ (c : ChainState). (c.fixed.geometry ≡ d.store.geometry) × GivesAll c.ccws)) at own.chain in
     surely_so (λ y a l. (own_of chain.ccws chain.fixed d y mine.0 mine.1 own.plans l.0.is l.0.plans_are l.0.chain, l.1))
-    (lose_stays contents d.store.geometry d.store.cylinders chain.ccws chain.fixed d.plans d.history d loss (refl, (refl, single)) refl
+    (lose_stays contents d.store.geometry d.store.cylinders (d.store.lent, d.store.device) chain.ccws chain.fixed d.plans d.history d loss (refl, (refl, refl)) refl
     (subst (HasOf chain.ccws chain.fixed) (sym at) (refl, refl)) refl)
 
 lose_by : (e : Event) (d : DefinedDevice) (loss : Loss) → ((y : DefinedDevice) → acts_by e answers.Done y ≡ y.store.acts) →
-    d.store.paired ≡ false → IsOwn d → Leaves e d (ends_by ends_done (lose contents d loss))
-lose_by e d loss noted single own =
-    s_then (lose_owns d loss d.chain refl single own)
+    IsOwn d → Leaves e d (ends_by ends_done (lose contents d loss))
+lose_by e d loss noted own =
+    s_then (lose_owns d loss d.chain refl own)
     (λ y a l. s_done (l.0, ap (λ (h : History). new_acts d.history h) l.1 ∙ acts_come d.history y.store.acts ∙ sym (noted y)))
 
 start_own : (d : DefinedDevice) (path : ℕ) → 1 ≤ path → path ≤ 4 → IsOwn d → IsOwn (start d path)
@@ -236,6 +247,10 @@ start_own d path least most own = record {
 start_number : (d : DefinedDevice) (path : ℕ) → (start d path).store.device ≡ d.store.device
 unfolding starting.start
 start_number d path = refl
+
+start_lent : (d : DefinedDevice) (path : ℕ) → (start d path).store.lent ≡ d.store.lent
+unfolding starting.start
+start_lent d path = refl
 
 start_new : (d : DefinedDevice) (path : ℕ) → new_acts d.history (start d path).history ≡ []
 unfolding starting.start
@@ -261,14 +276,14 @@ pub record HasOne {V : Type 0} {G : Ghosts V} (xs : List (Device V G)) (n : ℕ)
 
 abbrev Good : Event → ℕ → DefinedDevice → OwnDeed → Type 0
 Good e n x (Ends end) = (y : DefinedDevice) → acts_by e end y ≡ []
-Good e n x (Becomes d end) = (d.store.device ≡ n) × (IsOwn d × (new_acts x.history d.history ≡ acts_by e end d))
+Good e n x (Becomes d end) = (d.store.device ≡ n) × (KeptOwn x d × (new_acts x.history d.history ≡ acts_by e end d))
 Good e n x (Asks d talk) = (d.store.device ≡ n) × Leaves e x talk
 Good e n x _ = ⊥
 
 good_start : (e : Event) (n : ℕ) (d : DefinedDevice) (path : ℕ) (o : Option StartFault) → d.store.device ≡ n → 1 ≤ path → path ≤ 4 → IsOwn d →
     Good e n d (start_by d path o)
 good_start e n d path (Some f) is least most own = λ y. refl
-good_start e n d path None is least most own = (start_number d path ∙ is, (start_own d path least most own, start_new d path))
+good_start e n d path None is least most own = (start_number d path ∙ is, ((start_own d path least most own, start_lent d path), start_new d path))
 
 good_starts : (e : Event) (n : ℕ) (d : DefinedDevice) (path : ℕ) → d.store.device ≡ n → 1 ≤ path → path ≤ 4 → IsOwn d → Good e n d (starts path d)
 good_starts e n d path is least most own =
@@ -278,36 +293,52 @@ good_starts e n d path is least most own =
 good_hold : (n a : ℕ) (d : DefinedDevice) (o : Option OrderFault) → d.store.device ≡ n → IsOwn d →
     Good (events.Suspend a) n d (order o (Becomes (hold d) answers.Done))
 good_hold n a d (Some f) is own = λ y. refl
-good_hold n a d None is own = (is, (record { plans = own.plans; chain = own.chain }, none_new d.history d.history refl))
+good_hold n a d None is own = (is, ((record { plans = own.plans; chain = own.chain }, refl), none_new d.history d.history refl))
 
 good_resume : (n a : ℕ) (d : DefinedDevice) (o : Option OrderFault) → d.store.device ≡ n → IsOwn d →
     Good (events.Resume a) n d (order o (Becomes (resume d) answers.Done))
 good_resume n a d (Some f) is own = λ y. refl
-good_resume n a d None is own = (is, (record { plans = own.plans; chain = own.chain }, none_new d.history d.history refl))
+good_resume n a d None is own = (is, ((record { plans = own.plans; chain = own.chain }, refl), none_new d.history d.history refl))
 
 abbrev pub hears : NoKeep → (m : Message Image) → ReplyTo m → NoKeep → Type 0
 hears k m r l = r ≡ reply m
 
 module _ {V : Type 0} {G : Ghosts V} where
-  good_step : (e : Event) (n : ℕ) (x : Device V G) (r : Option Running) → x.past.running ≡ r → x.store.number ≡ n → IsOwn (device_of x) →
-      Good e n (device_of x) (step contents (device_of x))
-  good_step e n x None at is own =
+  good_second : (e : Event) (n : ℕ) (x : Device V G) → x.store.number ≡ n → IsOwn (device_of x) → Good e n (device_of x) (seconds contents (device_of x))
+  good_second e n x is own = (is, second_by e (device_of x) (device_of x).chain refl own)
+
+  good_command : (e : Event) (n : ℕ) (x : Device V G) (r : Option Running) → x.past.running ≡ r → x.store.number ≡ n → IsOwn (device_of x) →
+      Good e n (device_of x)
+      (if is_some (device_of x).history.running then Asks (device_of x) (may_end_by answers.Stepped (command contents (device_of x))) else Ends answers.Idle)
+  good_command e n x None at is own =
       cond_both (is_some (device_of x).history.running) (Asks (device_of x) (may_end_by answers.Stepped (command contents (device_of x)))) (Ends answers.Idle)
       (Good e n (device_of x)) (λ e. absurd (let none : is_some (device_of x).history.running ≡ false = ap (λ (o : Option Running). is_some (option_map open_of o)) at in cc))
       (λ _. λ y. refl)
-  good_step e n x (Some r) at is own =
+  good_command e n x (Some r) at is own =
       cond_both (is_some (device_of x).history.running) (Asks (device_of x) (may_end_by answers.Stepped (command contents (device_of x)))) (Ends answers.Idle)
       (Good e n (device_of x)) (λ _. (
         is,
-        step_leaves e (device_of x) (open_of r) (chain_of r) (ap (option_map open_of) at) (ap (option_map chain_of) at) refl own,
+        step_leaves e (device_of x) (open_of r) (chain_of r) (ap (option_map open_of) at) (ap (option_map chain_of) at) own,
       )) (λ _. λ y. refl)
+
+  good_step : (e : Event) (n : ℕ) (x : Device V G) → x.store.number ≡ n → IsOwn (device_of x) → Good e n (device_of x) (step contents (device_of x))
+  good_step e n x is own =
+      cond_both (is_some (device_of x).store.half) (seconds contents (device_of x))
+      (if is_some (device_of x).history.running then Asks (device_of x) (may_end_by answers.Stepped (command contents (device_of x))) else Ends answers.Idle)
+      (Good e n (device_of x)) (λ _. good_second e n x is own) (λ _. good_command e n x x.past.running refl is own)
+
+  good_back : (e : Event) (n : ℕ) (x : Device V G) → x.store.number ≡ n → IsOwn (device_of x) → Good e n (device_of x) (back contents (device_of x))
+  good_back e n x is own =
+      cond_both (is_some (device_of x).store.half) (seconds contents (device_of x))
+      (Asks (device_of x) (may_end_by answers.Back (background contents (device_of x))))
+      (Good e n (device_of x)) (λ _. good_second e n x is own) (λ _. (is, back_by e (device_of x) (device_of x).chain refl own))
 
   good_fail : (n d : ℕ) (side : Side) (x : Device V G) (o : Option OrderFault) → x.store.number ≡ n → IsOwn (device_of x) →
       Good (events.FailVolume d side) n (device_of x)
       (order o (Asks (device_of x) (ends_by ends_done (lose contents (device_of x) (losses.Side side)))))
   good_fail n d side x (Some f) is own = λ y. refl
   good_fail n d side x None is own =
-      (is, lose_by (events.FailVolume d side) (device_of x) (losses.Side side) (λ y. refl) refl own)
+      (is, lose_by (events.FailVolume d side) (device_of x) (losses.Side side) (λ y. refl) own)
 
   good : (n : ℕ) (x : Device V G) (xs : List (Device V G)) (pool : pools.Pool) (e : Event) → device_at xs n ≡ Some x → IsOwn (device_of x) → IsOpenOn n e →
       Good e n (device_of x) (deed contents pool (devices_of xs) e)
@@ -319,15 +350,15 @@ module _ {V : Type 0} {G : Ghosts V} where
   good n x xs pool (events.Step d) at own on =
       let here = found_in xs d x (ap (device_at xs) on ∙ at) in
       subst (λ (o : Option DefinedDevice). Good (events.Step d) n (device_of x) (on_device o (step contents))) (sym here)
-      (good_step (events.Step d) n x x.past.running refl (number_found xs n x at) own)
+      (good_step (events.Step d) n x (number_found xs n x at) own)
   good n x xs pool (events.Back d) at own on =
       let here = found_in xs d x (ap (device_at xs) on ∙ at) in
       subst (λ (o : Option DefinedDevice). Good (events.Back d) n (device_of x) (on_device o (back contents))) (sym here)
-      (number_found xs n x at, back_by (events.Back d) (device_of x) (device_of x).chain refl refl own)
+      (good_back (events.Back d) n x (number_found xs n x at) own)
   good n x xs pool (events.Reset path d) at own on =
       let here = found_in xs d x (ap (device_at xs) on ∙ at) in
       subst (λ (o : Option DefinedDevice). Good (events.Reset path d) n (device_of x) (on_device o (λ y. Asks y (ends_by ends_done (reset contents y path))))) (sym here)
-      (number_found xs n x at, reset_by d (device_of x) path (device_of x).chain refl refl own)
+      (number_found xs n x at, reset_by d (device_of x) path (device_of x).chain refl own)
   good n x xs pool events.Power at own on = absurd on
   good n x xs pool events.FailCache at own on = absurd on
   good n x xs pool events.FailStore at own on = absurd on
@@ -357,11 +388,12 @@ module _ {V : Type 0} {G : Ghosts V} where
     pub end : ends.EventEnd
     pub seen : end_seen behind.past a ≡ Some end
     pub comes : laws.CameBy hears d old.pool.pool (all_stood old.devices.items) end new.pool.pool (all_stood new.devices.items)
-    pub own : AreOwn new.devices.items
+    pub own : AllOwn new.devices.items
+    pub sides : all_sides new.devices.items ≡ all_sides old.devices.items
     pub acts : new_acts (device_of x).history (device_of behind).history ≡ acts_by e end (device_of behind)
 
   module _ (n : ℕ) (x : Device V G) (old new : Subsystem V G) (a : EventEnd) (at : device_at old.devices.items n ≡ Some x)
-      (own : AreOwn old.devices.items) (numbers : numbers_of new.devices.items ≡ numbers_of old.devices.items) where
+      (own : AllOwn old.devices.items) (numbers : numbers_of new.devices.items ≡ numbers_of old.devices.items) where
     put_there : (y : Device V G) → new.devices.items ≡ put_at old.devices.items n y → device_at new.devices.items n ≡ Some y
     put_there y is =
         subst (λ (l : List (Device V G)). device_at l n ≡ Some y) (sym is)
@@ -375,7 +407,8 @@ module _ {V : Type 0} {G : Ghosts V} where
       end = end;
       seen = came.0 x.past;
       comes = (refl, ap (λ s. s.pool) came.1.0, ap all_stood came.1.1);
-      own = subst AreOwn (sym came.1.1) own;
+      own = subst AllOwn (sym came.1.1) own;
+      sides = ap (λ (l : List (Device V G)). all_sides l) came.1.1;
       acts = none_new (device_of x).history (device_of x).history refl ∙ sym (good (device_of x));
     }
     told e (Becomes d end) good came =
@@ -397,18 +430,28 @@ module _ {V : Type 0} {G : Ghosts V} where
                   behind = stood_of ch.behind;
                   stood = stood_found old.devices.items n ch.before ch.stood;
                   stands = ap all_stood ch.stands ∙ put_stood old.devices.items n ch.behind;
-                  is_so = record { device = ch.is_so.0; a = ap (λ (v : V). Some (G.view v)) ch.is_so.1; b = refl };
+                  is_so = record {
+                    device = ch.is_so.0;
+                    a = ap (λ (v : SideVolumes V). option_map G.view v.a) ch.is_so.1;
+                    b = ap (λ (v : SideVolumes V). option_map G.view v.b) ch.is_so.1;
+                  };
                 }),
           );
-          own = subst AreOwn (sym ch.stands) (own_put old.devices.items n ch.behind own (subst IsOwn (sym ch.is_so.0) good.1.0));
+          own = subst AllOwn (sym ch.stands) (own_put old.devices.items n ch.behind own (subst IsOwn (sym ch.is_so.0) good.1.0.0));
+          sides = ap (λ (l : List (Device V G)). all_sides l) ch.stands
+              ∙ put_sides old.devices.items n ch.before ch.behind
+              (same_sides ch.before ch.behind
+              (ap (λ (y : DefinedDevice). y.store.device) ch.is_so.0 ∙ good.0 ∙ sym (number_found old.devices.items n ch.before ch.stood))
+              (ap (λ (y : DefinedDevice). y.store.lent) ch.is_so.0 ∙ good.1.0.1 ∙ ap (λ (y : Device V G). y.store.pair.lent) (some_same (sym at ∙ ch.stood)))
+              (ap (λ (v : SideVolumes V). is_some v.a) ch.is_so.1) (ap (λ (v : SideVolumes V). is_some v.b) ch.is_so.1)) ch.stood;
           acts = ap (λ (y : DefinedDevice). new_acts (device_of x).history y.history) ch.is_so.0 ∙ good.1.1 ∙ ap (acts_by e end) (sym ch.is_so.0);
         }
     told e (Asks d talk) good came =
         let ch = subst (λ (m : ℕ). Rattle.subsystem_core.specs.Comes.Changes m (Rattle.subsystem_core.specs.Comes.AskedBy talk old (Some a) new)
         old.devices.items new.devices.items) good.0 came in
         let k : NoKeep = record {} in
-        let left : IsOwn (device_of ch.behind) × Brings e (device_of x) (device_of ch.behind) (end_seen ch.behind.past a) =
-        ran_so (λ y o. IsOwn y × Brings e (device_of x) y o) (ch.is_so k) good.1 in
+        let left : KeptOwn (device_of x) (device_of ch.behind) × Brings e (device_of x) (device_of ch.behind) (end_seen ch.behind.past a) =
+        ran_so (λ y o. KeptOwn (device_of x) y × Brings e (device_of x) y o) (ch.is_so k) good.1 in
         let f = ending e (device_of x) (device_of ch.behind) (end_seen ch.behind.past a) left.1 in
         record {
           behind = ch.behind;
@@ -435,7 +478,12 @@ module _ {V : Type 0} {G : Ghosts V} where
                       (laws.outside_at (shared_view new.pool) (stood_of ch.behind) k)) f.is (ch.is_so k);
                 };
               });
-          own = subst AreOwn (sym ch.stands) (own_put old.devices.items n ch.behind own left.0);
+          own = subst AllOwn (sym ch.stands) (own_put old.devices.items n ch.behind own left.0.0);
+          sides = ap (λ (l : List (Device V G)). all_sides l) ch.stands
+              ∙ put_sides old.devices.items n ch.before ch.behind
+              (asked_sides ch.before ch.behind
+              (number_found new.devices.items n ch.behind (put_there ch.behind ch.stands) ∙ sym (number_found old.devices.items n ch.before ch.stood))
+              (left.0.1 ∙ ap (λ (y : Device V G). y.store.pair.lent) (some_same (sym at ∙ ch.stood))) (ran_there (ch.is_so k))) ch.stood;
           acts = f.brings;
         }
     told e (Each pool f) good came = absurd good
@@ -447,7 +495,7 @@ module _ {V : Type 0} {G : Ghosts V} where
 
   -- and what happens there
   pub event_happens : (e : Event) (n : ℕ) (x : Device V G) (old new : Subsystem V G) (a : EventEnd) (run : runs.Subsystem) →
-      (t : Told e (deed contents old.pool.pool (devices_of old.devices.items) e) n x old new a) → AreOwn old.devices.items → ChainsStand old.devices.items →
+      (t : Told e (deed contents old.pool.pool (devices_of old.devices.items) e) n x old new a) → AllOwn old.devices.items → ChainsStand old.devices.items →
       StandsAs old run → ((happens run e).end ≡ t.end) × StandsAs new (happens run e).behind
   event_happens e n x old new a run t own stand all =
       let comes : laws.Comes hears e old.pool.pool (all_stood old.devices.items) t.end new.pool.pool (all_stood new.devices.items) =
@@ -477,10 +525,10 @@ module _ {V : Type 0} {G : Ghosts V} where
   module _ (n : ℕ) (old new : Subsystem V G) (a : EventEnd) (here : is_in n (numbers_of old.devices.items) ≡ true) (own : AreOwn old.devices.items)
       (numbers : numbers_of new.devices.items ≡ numbers_of old.devices.items) (e : Event) (on : IsOpenOn n e) (came : Came e old (Some a) new) where
     abbrev so : Told e (deed contents old.pool.pool (devices_of old.devices.items) e) n (has_one old.devices.items n here).device old new a
-    so = event_told n (has_one old.devices.items n here).device old new a (has_one old.devices.items n here).found own numbers e on came
+    so = event_told n (has_one old.devices.items n here).device old new a (has_one old.devices.items n here).found own.each numbers e on came
 
     pub own_behind : AreOwn new.devices.items
-    own_behind = so.own
+    own_behind = record { each = so.own; accounted = subst AreAccounted (sym so.sides) own.accounted }
 
     pub end_is : (y : Device V G) → device_at new.devices.items n ≡ Some y → end_seen y.past a ≡ Some so.end
     end_is y at = ap (λ (z : Device V G). end_seen z.past a) (some_same (sym at ∙ so.stands)) ∙ so.seen
@@ -491,13 +539,13 @@ module _ {V : Type 0} {G : Ghosts V} where
     pub happens_so : (y : Device V G) (end : ends.EventEnd) (run : runs.Subsystem) → device_at new.devices.items n ≡ Some y → end_seen y.past a ≡ Some end →
         ChainsStand old.devices.items → StandsAs old run → ((happens run e).end ≡ end) × StandsAs new (happens run e).behind
     happens_so y end run at seen stand all =
-        let h = event_happens e n (has_one old.devices.items n here).device old new a run so own stand all in
+        let h = event_happens e n (has_one old.devices.items n here).device old new a run so own.each stand all in
         (h.0 ∙ some_same (sym (end_is y at) ∙ seen), h.1)
 
     -- what the event tells
     pub told_so : (run : runs.Subsystem) → ChainsStand old.devices.items → StandsAs old run → IsTold old new e n run
     told_so run stand all x y at now =
-        let h = event_happens e n (has_one old.devices.items n here).device old new a run so own stand all in
+        let h = event_happens e n (has_one old.devices.items n here).device old new a run so own.each stand all in
         let ks = (happens run e).behind.mounted in
         let before = all_known (all_stood old.devices.items) run.mounted all.mounted in
         let behind = all_known (all_stood new.devices.items) ks h.1.mounted in
@@ -505,7 +553,7 @@ module _ {V : Type 0} {G : Ghosts V} where
         so.put ∙ ap (λ (z : Device V G). put_at old.devices.items n z) (some_same (sym so.stands ∙ now)) in
         let was = known_at old.devices.items run.mounted n x before at in
         let is = known_at new.devices.items ks n y behind now in
-        let counted = event_counted run n was.mounted was.there was.is.half was.is.paired e on in
+        let counted = event_counted run n was.mounted was.there e on in
         let mine : is.mounted ≡ counted.mounted = some_same (sym is.there ∙ counted.there) in
         record {
           running = running_known old.devices.items run.mounted n x before at;

@@ -1,29 +1,5 @@
 -- The devices of a subsystem by their numbers, as they stand.
-use Rattle.std.proofs.Common.{
-  ◌≡◌,
-  ◌∙◌,
-  ◌<◌,
-  ◌≤◌,
-  ◌+◌,
-  ◌++◌,
-  length,
-  take,
-  get_or,
-  ℕ,
-  Bool,
-  true,
-  false,
-  List,
-  [],
-  ◌∷◌,
-  Option,
-  Some,
-  None,
-  refl,
-  sym,
-  ap,
-  subst,
-}
+use Rattle.std.proofs.Common.{◌≡◌, ◌∙◌, ◌<◌, ◌≤◌, ◌+◌, ◌++◌, length, take, get_or, ℕ, Bool, true, false, List, [], ◌∷◌, Option, Some, None, refl, sym, ap, subst}
 use Rattle.std.specs.Prelude.{◌==◌, if◌then◌else◌, option_map, IfSome}
 use Rattle.std.proofs.lemmas.List.{take_more, take_all}
 use Rattle.ckd_chain.specs.Facts.{IsChain}
@@ -39,7 +15,7 @@ use Rattle.subsystem_core.specs.Devices.{numbers_of, devices_of, device_at, put_
 use Rattle.subsystem_laws.specs.WholeStood as laws
 use Rattle.subsystem_laws.specs.WholeStood.{Stood, devices_at, stood_in, HaveChains}
 use Rattle.ckd_types.specs.declared.geometry.Geometry.{Geometry}
-use Rattle.deck_run.specs.Owning.{GivesAll, IsOwn, AreOwn, ChainsStand}
+use Rattle.deck_run.specs.Owning.{GivesAll, IsOwn, AllOwn, ChainsStand}
 use Rattle.deck_run.specs.Standing.{stood_of, all_stood}
 
 some_same : {X : Type 0} {x y : X} → Some x ≡ Some y → x ≡ y
@@ -119,11 +95,11 @@ module _ {V : Type 0} {G : Ghosts V} where
 
   -- Devices whose chains are their own
 
-  own_by : (b : Bool) (xs ys : List (Device V G)) → AreOwn xs → AreOwn ys → AreOwn (if b then xs else ys)
+  own_by : (b : Bool) (xs ys : List (Device V G)) → AllOwn xs → AllOwn ys → AllOwn (if b then xs else ys)
   own_by true xs ys k l = k
   own_by false xs ys k l = l
 
-  pub own_put : (xs : List (Device V G)) (n : ℕ) (y : Device V G) → AreOwn xs → IsOwn (device_of y) → AreOwn (put_at xs n y)
+  pub own_put : (xs : List (Device V G)) (n : ℕ) (y : Device V G) → AllOwn xs → IsOwn (device_of y) → AllOwn (put_at xs n y)
   own_put [] n y all own = all
   own_put (x ∷ xs) n y all own = own_by (x.store.number == n) (y ∷ xs) (x ∷ put_at xs n y) (own, all.1) (all.0, own_put xs n y all.1 own)
 
@@ -132,11 +108,11 @@ module _ {V : Type 0} {G : Ghosts V} where
   found_own d x o true own rest is = subst (λ (y : Device V G). IsOwn (device_of y)) (some_same is) own
   found_own d x o false own rest is = rest is
 
-  pub own_at : (xs : List (Device V G)) (n : ℕ) (x : Device V G) → AreOwn xs → device_at xs n ≡ Some x → IsOwn (device_of x)
+  pub own_at : (xs : List (Device V G)) (n : ℕ) (x : Device V G) → AllOwn xs → device_at xs n ≡ Some x → IsOwn (device_of x)
   own_at [] n x all is = absurd (cc)
   own_at (d ∷ ds) n x all is = found_own d x (device_at ds n) (d.store.number == n) all.0 (own_at ds n x all.1) is
 
-  pub chains_are : (xs : List (Device V G)) → AreOwn xs → ChainsStand xs → HaveChains (all_stood xs)
+  pub chains_are : (xs : List (Device V G)) → AllOwn xs → ChainsStand xs → HaveChains (all_stood xs)
   chains_are [] own stand = tt
   chains_are (x ∷ xs) own stand =
       (runs_on x.store.cylinders x.store.geometry x.past.running x.at_word stand.0 own.0.chain, chains_are xs own.1 stand.1)
@@ -153,9 +129,9 @@ module _ {V : Type 0} {G : Ghosts V} where
   pub stand_all : (xs : List (Device V G)) (i : ℕ) → length xs ≤ i → ChainsStand (take i xs) → ChainsStand xs
   stand_all xs i past all = subst ChainsStand (take_all i xs past) all
 
-  own_append : (xs : List (Device V G)) (x : Device V G) → AreOwn xs → IsOwn (device_of x) → AreOwn (xs ++ x ∷ [])
+  own_append : (xs : List (Device V G)) (x : Device V G) → AllOwn xs → IsOwn (device_of x) → AllOwn (xs ++ x ∷ [])
   own_append [] x all is = (is, tt)
   own_append (y ∷ xs) x all is = (all.0, own_append xs x all.1 is)
 
-  pub own_more : (xs ys : List (Device V G)) (x : Device V G) → ys ≡ xs ++ x ∷ [] → AreOwn xs → IsOwn (device_of x) → AreOwn ys
-  own_more xs ys x are all is = subst AreOwn (sym are) (own_append xs x all is)
+  pub own_more : (xs ys : List (Device V G)) (x : Device V G) → ys ≡ xs ++ x ∷ [] → AllOwn xs → IsOwn (device_of x) → AllOwn ys
+  own_more xs ys x are all is = subst AllOwn (sym are) (own_append xs x all is)

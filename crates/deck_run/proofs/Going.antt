@@ -1,38 +1,6 @@
 -- One step, and one line, of a run on, with the lines that it tells.
-use Rattle.std.proofs.Common.{
-  ◌≡◌,
-  ◌≤◌,
-  ◌<◌,
-  ◌∙◌,
-  ◌+◌,
-  ◌-◌,
-  ◌++◌,
-  add-one,
-  arith,
-  ℕ,
-  zero,
-  suc,
-  Bool,
-  true,
-  false,
-  List,
-  [],
-  ◌∷◌,
-  Option,
-  Some,
-  None,
-  length,
-  drop,
-  get_or,
-  map,
-  refl,
-  sym,
-  ap,
-  subst,
-  append_assoc,
-}
+use Rattle.std.proofs.Common.{◌≡◌, ◌≤◌, ◌<◌, ◌∙◌, ◌+◌, ◌-◌, ◌++◌, add-one, arith, ℕ, zero, suc, Bool, true, false, List, [], ◌∷◌, Option, Some, None, length, drop, get_or, map, refl, sym, ap, subst, append_assoc}
 use Rattle.std.specs.Prelude.{◌==◌, ◌||◌, if◌then◌else◌, is_some, option_map}
-use Rattle.std.specs.List.{flat_map}
 use Rattle.std.proofs.lemmas.List.{append-nil, drop_all}
 use Rattle.plain_defs.specs.History.{OpenEntry}
 use Rattle.deck_plan.specs.declared.event.EventLine.{EventLine}
@@ -51,23 +19,9 @@ use Rattle.report_text.specs.declared.line.ReportLine.TheVariants as told_lines
 use Rattle.run_report.specs.Events.{lines_of, running_in, work_told}
 use Rattle.subsystem_defs.specs.declared.end.EventEnd.TheVariants as ends
 use Rattle.subsystem_defs.specs.declared.event.Event.TheVariants as events
-use Rattle.subsystem_defs.specs.Happening.{Happened, happens, quietly}
+use Rattle.subsystem_defs.specs.Happening.{happens, quietly}
 use Rattle.subsystem_defs.specs.Lines as lines
-use Rattle.subsystem_defs.specs.Lines.{
-  Asked,
-  Run,
-  Logged,
-  logged,
-  asked_by,
-  is_busy,
-  most_steps,
-  step_logged,
-  steps,
-  run_logged,
-  line_logged,
-  last_behind,
-  run_lines,
-}
+use Rattle.subsystem_defs.specs.Lines.{Run, Logged, logged, asked_by, is_busy, most_steps, step_logged, steps, run_logged, line_logged, last_behind, run_lines}
 use Rattle.subsystem_defs.specs.Subsystem as runs
 use Rattle.subsystem_defs.specs.Subsystem.{Mounted, devices_of, mounted_in, number_of}
 use Rattle.subsystem_laws.specs.WholeStood.{Stood, number_at, IsMounted, is_mounted, AreMountedBy, one_more}
@@ -77,15 +31,24 @@ use Rattle.deck_run.proofs.Recorded.{step_lines}
 use Rattle.deck_run.proofs.Telling.{all_known, none_tells}
 use Rattle.deck_run.specs.Opening.{is_open_line, are_open_lines}
 use Rattle.deck_run.specs.Standing.{StandsAs, stood_of, all_stood}
+use Rattle.device_defs.specs.Store.{HalfWrite}
+use Rattle.track_image.specs.Image.{Image}
 
 some_same : {X : Type 0} {x y : X} → Some x ≡ Some y → x ≡ y
 some_same e = cc
 
--- Whether a program runs
+-- Whether a program runs, or a half write is open
 
-one_busy : {mine : List ℕ} {s : Stood} {m : Mounted} → IsMounted mine s m → s.device.store.half ≡ None → is_busy (Some m) ≡ is_some s.device.history.running
-one_busy (is_mounted d v w h on_a on_b a b stands slots side_a side_b) none =
-    ap (λ (o : Option _). is_some (option_map half_mark o) || is_some d.history.running) none
+abbrev IsBusy : Stood → Bool
+IsBusy s = is_some s.device.store.half || is_some s.device.history.running
+
+half_some : (o : Option (HalfWrite Image)) → is_some (option_map half_mark o) ≡ is_some o
+half_some None = refl
+half_some (Some h) = refl
+
+one_busy : {mine : List ℕ} {s : Stood} {m : Mounted} → IsMounted mine s m → is_busy (Some m) ≡ IsBusy s
+one_busy (is_mounted d v w h on_a on_b a b stands slots side_a side_b) =
+    ap (λ (x : Bool). x || is_some d.history.running) (half_some d.store.half)
 
 same_number : {mine : List ℕ} {s : Stood} {m : Mounted} → IsMounted mine s m → number_of m ≡ number_at s
 same_number (is_mounted d v w h on_a on_b a b stands slots side_a side_b) = refl
@@ -96,25 +59,28 @@ path_some (Some r) = refl
 
 module _ {V : Type 0} {G : Ghosts V} where
   busy_test : (mine : List ℕ) (y x : Device V G) (m : Mounted) (o : Option (Device V G)) (q : Option Mounted) (b : Bool) → IsMounted mine (stood_of y) m →
-      (o ≡ Some x → is_busy q ≡ is_some (device_of x).history.running) → (if b then Some y else o) ≡ Some x →
-      is_busy (if b then Some m else q) ≡ is_some (device_of x).history.running
+      (o ≡ Some x → is_busy q ≡ IsBusy (stood_of x)) → (if b then Some y else o) ≡ Some x →
+      is_busy (if b then Some m else q) ≡ IsBusy (stood_of x)
   busy_test mine y x m o q true is rest at =
-      subst (λ (z : Device V G). is_busy (Some m) ≡ is_some (device_of z).history.running) (some_same at) (one_busy is refl)
+      subst (λ (z : Device V G). is_busy (Some m) ≡ IsBusy (stood_of z)) (some_same at) (one_busy is)
   busy_test mine y x m o q false is rest at = rest at
 
   busy_at : (used taken : List ℕ) (xs : List (Device V G)) (ms : List Mounted) (n : ℕ) (x : Device V G) → AreMountedBy used taken (all_stood xs) ms →
-      device_at xs n ≡ Some x → is_busy (mounted_in ms n) ≡ is_some (device_of x).history.running
+      device_at xs n ≡ Some x → is_busy (mounted_in ms n) ≡ IsBusy (stood_of x)
   busy_at used taken [] ms n x all at = absurd (cc)
   busy_at used taken (y ∷ xs) [] n x all at = elim all [ ]
   busy_at used taken (y ∷ xs) (m ∷ ms) n x (one_more mine is apart all) at =
       ap (λ (k : ℕ). is_busy (if k == n then Some m else mounted_in ms n)) (same_number is)
       ∙ busy_test mine y x m (device_at xs n) (mounted_in ms n) (y.store.number == n) is (busy_at used (mine ++ taken) xs ms n x all) at
 
-  pub busy_is : (s : Subsystem V G) (run : runs.Subsystem) (n : ℕ) (x : Device V G) (o : Option ℕ) (b : Bool) → StandsAs s run →
-      device_at s.devices.items n ≡ Some x → o ≡ option_map (λ (e : OpenEntry). e.path) (option_map open_of x.past.running) → b ≡ is_some o →
-      b ≡ is_busy (mounted_in run.mounted n)
-  busy_is s run n x o b stands at is test =
-      test ∙ ap is_some is ∙ path_some x.past.running ∙ sym (busy_at s.pool.pool.used [] s.devices.items run.mounted n x stands.mounted at)
+  pub busy_is : (s : Subsystem V G) (run : runs.Subsystem) (n : ℕ) (x : Device V G) (half : Bool) (o : Option ℕ) (b : Bool) → StandsAs s run →
+      device_at s.devices.items n ≡ Some x → half ≡ is_some (device_of x).store.half →
+      o ≡ option_map (λ (e : OpenEntry). e.path) (option_map open_of x.past.running) → b ≡ is_some o →
+      half || b ≡ is_busy (mounted_in run.mounted n)
+  busy_is s run n x half o b stands at open_too is test =
+      ap (λ (h : Bool). h || b) open_too
+      ∙ ap (λ (r : Bool). is_some (device_of x).store.half || r) (test ∙ ap is_some is ∙ path_some x.past.running)
+      ∙ sym (busy_at s.pool.pool.used [] s.devices.items run.mounted n x stands.mounted at)
 
 -- Steps
 

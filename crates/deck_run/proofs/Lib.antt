@@ -2,7 +2,9 @@ pub mod Lines
 pub mod Opened
 pub mod Surely
 pub mod Acting
+pub mod Accounted
 pub mod Between
+pub mod StoreStays
 pub mod Stays
 pub mod Makes
 pub mod Counts
@@ -12,11 +14,14 @@ pub mod Found
 pub mod Events
 pub mod Powering
 pub mod Sweeping
+pub mod Ordered
 pub mod Replacing
+pub mod Pairing
+pub mod Parting
 pub mod Passed
 pub mod Recorded
 pub mod Going
 pub mod Settling
 pub mod Closing
 pub mod Loosened
-pub mod LaterSteps
+pub mod Ready

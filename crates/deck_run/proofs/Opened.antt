@@ -57,6 +57,14 @@ device_stands deck d x volume plans reads writes right_line is plans_are volume_
     (new_mounted d.number d.geometry d.cylinders planned (record { reads = right; writes = wrong }) told (at_most d right_line)
     (record { contents = refl; reads = refl; writes = refl; plan = refl })))
 
+-- what its sides tell
+pub stood_stands : {m : Mounted} (x : DefinedDevice) (a b : Option Disk) (v : Disk) → a ≡ Some v → b ≡ None →
+    IsMounted [] (record { device = x; a = Some (disk_view v); b = None }) m →
+    IsMounted [] (record { device = x; a = option_map disk_view a; b = option_map disk_view b }) m
+stood_stands {m = m} x a b v is none stands =
+    subst (λ (o : Option Disk). IsMounted [] (record { device = x; a = option_map disk_view o; b = option_map disk_view b }) m) (sym is)
+    (subst (λ (o : Option Disk). IsMounted [] (record { device = x; a = Some (disk_view v); b = option_map disk_view o }) m) (sym none) stands)
+
 new_counted : (frames slots : ℕ) → new_pool frames slots ≡ counted_slots (new_pool frames slots)
 new_counted frames slots = refl
 

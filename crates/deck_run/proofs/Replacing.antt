@@ -1,61 +1,49 @@
 -- A new volume in place of a failed side's: what it comes to in a run, and what is told of it.
-use Rattle.std.proofs.Common.{◌≡◌, ◌∙◌, ◌*◌, ℕ, Bool, true, false, List, [], ◌∷◌, Option, Some, None, is_some, length, map, refl, sym, ap, subst}
+use Rattle.std.proofs.Common.{◌≡◌, ◌∙◌, ◌*◌, ℕ, Bool, true, List, [], ◌∷◌, Option, Some, None, is_some, length, refl, sym, ap, subst}
 use Rattle.std.specs.Prelude.{not, option_map}
 use Rattle.ckd_types.specs.declared.paths.Side.{Side}
 use Rattle.ckd_types.specs.declared.paths.Side.TheVariants.{A, B}
-use Rattle.plain_defs.specs.declared.journal.Act.{Act}
-use Rattle.plain_defs.specs.declared.journal.Item.{Item}
-use Rattle.plain_defs.specs.History.{History}
-use Rattle.track_image.specs.Image.{Image}
 use Rattle.device_outside.specs.declared.volume.Volume.{Ghosts}
 use Rattle.device_outside.specs.Both.{SideIs}
-use Rattle.device_outside.specs.Disk.{Disk, disk_view, empty_contents, new_disk}
+use Rattle.device_outside.specs.Disk.{disk_view, empty_contents, new_disk}
 use Rattle.device_outside.specs.Pool as pools
-use Rattle.device_outside.specs.Pool.{counted_slots}
 use Rattle.device_outside.specs.Volume.{VolumeView}
+use Rattle.device_store.specs.State.{on_a, on_b}
 use Rattle.device_defs.specs.Orders.{replace}
 use Rattle.device_defs.specs.Store.{HalfWrite}
 use Rattle.device_core.specs.declared.device.Device.{Device}
 use Rattle.device_core.specs.State.{DefinedDevice, device_of}
-use Rattle.frame_pool.specs.Shared.{Shared}
-use Rattle.report_text.specs.declared.answers.OrderAnswer.{OrderAnswer}
-use Rattle.report_text.specs.declared.event.Happened.TheVariants as did
-use Rattle.report_text.specs.declared.line.ReportLine.{ReportLine}
-use Rattle.report_text.specs.declared.line.ReportLine.TheVariants as lines
 use Rattle.report_text.specs.declared.order.Order.TheVariants as orders
-use Rattle.run_report.specs.Answers.{order_answer}
-use Rattle.run_report.specs.Events.{event_lines, work_lines}
-use Rattle.run_report.specs.OneDevice.{lines_by}
 use Rattle.subsystem_core.specs.declared.end.EventEnd.{EventEnd}
 use Rattle.subsystem_core.specs.declared.subsystem.Subsystem.{Subsystem}
-use Rattle.subsystem_core.specs.Comes.{IsSame, Replaced, ReplacedBy}
+use Rattle.subsystem_core.specs.Comes.{IsReplaced, Replaced, ReplacedBy}
 use Rattle.subsystem_core.specs.Devices.{device_at, put_at}
 use Rattle.subsystem_defs.specs.declared.end.EventEnd as ends
 use Rattle.subsystem_defs.specs.declared.end.EventEnd.TheVariants as answers
 use Rattle.subsystem_defs.specs.declared.end.OrderFault.{OrderFault}
 use Rattle.subsystem_defs.specs.declared.end.OrderFault.TheVariants.{Half, NoSide, Up}
-use Rattle.subsystem_defs.specs.Beside.{has_power, loose_count, new_acts, new_items}
 use Rattle.subsystem_defs.specs.Happening as H
 use Rattle.subsystem_defs.specs.Happening.{Happened, quietly, replaced, replaced_at, replaced_by}
-use Rattle.subsystem_defs.specs.Lines.{Replace}
+use Rattle.subsystem_defs.specs.Lines.{Replace, logged}
 use Rattle.subsystem_defs.specs.Refusals as R
 use Rattle.subsystem_defs.specs.Refusals.{first_cause, lent_by, replace_fault, where_so}
 use Rattle.subsystem_defs.specs.Subsystem as runs
 use Rattle.subsystem_defs.specs.Subsystem.{Mounted, mounted_in, unfailing}
-use Rattle.subsystem_laws.specs.WholeComes.{subsystem_of}
-use Rattle.subsystem_laws.specs.WholeComes.{IsWhatCame}
+use Rattle.subsystem_laws.specs.WholeComes.{subsystem_of, IsWhatCame}
 use Rattle.subsystem_laws.specs.WholeStood as laws
-use Rattle.subsystem_laws.specs.WholeStood.{AreMounted, Stood, with_volume}
+use Rattle.subsystem_laws.specs.WholeStood.{Stood, with_volume}
+use Rattle.subsystem_laws.proofs.WholeLends.{first_none, is_not, where_none}
 use Rattle.subsystem_laws.proofs.WholeOrders.{replaced_so}
-use Rattle.deck_run.specs.Loosening.{all_loosed}
-use Rattle.deck_run.specs.Owning.{AreOwn, ChainsStand, IsOwn}
-use Rattle.deck_run.specs.Replacing.{IsReplaced}
+use Rattle.deck_run.specs.Ordered.{IsOrdered}
+use Rattle.deck_run.specs.Owning.{AllOwn, AreOwn, ChainsStand, IsOwn}
+use Rattle.deck_run.specs.Sides.{AreAccounted, all_sides, sides_of}
 use Rattle.deck_run.specs.Standing.{StandsAs, all_stood, stood_of}
 use Rattle.deck_run.specs.Sweeping.{order_end}
-use Rattle.deck_run.proofs.Acting.{none_behind, none_new}
+use Rattle.deck_run.proofs.Accounted.{put_sides, same_sides}
 use Rattle.deck_run.proofs.Found.{chains_are, own_at, own_put, put_same, put_stood, stood_found}
+use Rattle.deck_run.proofs.Ordered.{IsQuiet, ordered_tells, stands_by}
 use Rattle.deck_run.proofs.Sweeping.{blank, order_seen}
-use Rattle.deck_run.proofs.Telling.{AreKnown, IsKnown, all_known, known_at, one_tells}
+use Rattle.deck_run.proofs.Telling.{AreKnown, IsKnown, all_known, known_at, put_then, same_pasts}
 
 some_same : {X : Type 0} {x y : X} → Some x ≡ Some y → x ≡ y
 some_same e = cc
@@ -87,9 +75,6 @@ fault_known x m B is =
 
 -- No volume is called
 
-abbrev IsQuiet : runs.Subsystem → Happened → Type 0
-IsQuiet s h = (h.before ≡ s) × ((h.reads ≡ 0) × (h.writes ≡ 0))
-
 quiet_by : (s : runs.Subsystem) (d : ℕ) (side : Side) (m : Mounted) (f : Option OrderFault) → IsQuiet s (replaced_by s d side unfailing m f)
 quiet_by s d side m None = (refl, (refl, refl))
 quiet_by s d side m (Some f) = (refl, (refl, refl))
@@ -102,128 +87,148 @@ quiet_so : (s : runs.Subsystem) (d : ℕ) (side : Side) → IsQuiet s (replaced 
 unfolding H.replaced
 quiet_so s d side = quiet_at s d side (mounted_in s.mounted d)
 
--- The chain is its own still
+-- The device's chain is its own still, and the side had a volume
 
 replace_own : (d : DefinedDevice) (side : Side) → IsOwn d → IsOwn (replace d side)
 replace_own d A own = record { plans = own.plans; chain = own.chain }
 replace_own d B own = record { plans = own.plans; chain = own.chain }
 
 past_same : (d : DefinedDevice) (side : Side) → (replace d side).history ≡ d.history
-past_same d side = refl
+past_same d A = refl
+past_same d B = refl
+
+number_same : (d : DefinedDevice) (side : Side) → (replace d side).store.device ≡ d.store.device
+number_same d A = refl
+number_same d B = refl
+
+lent_same : (d : DefinedDevice) (side : Side) → (replace d side).store.lent ≡ d.store.lent
+lent_same d A = refl
+lent_same d B = refl
+
+none_lent : (o : Option ℕ) → lent_by o ≡ None → o ≡ None
+none_lent None e = refl
+none_lent (Some to) e = absurd (cc)
+
+free_so : (d : DefinedDevice) (side : Side) → replace_fault d side ≡ None → d.store.lent ≡ None
+unfolding R.replace_fault
+free_so d side e = none_lent d.store.lent (first_none (lent_by d.store.lent) _ e).0
+
+paired_so : (d : DefinedDevice) → replace_fault d B ≡ None → d.store.paired ≡ true
+unfolding R.replace_fault
+paired_so d e =
+    let rest = (first_none (lent_by d.store.lent) _ e).1 in
+    is_not d.store.paired (where_none (not d.store.paired) NoSide (first_none (where_so (not d.store.paired) NoSide) _ rest).0)
 
 pub new_told : (v : VolumeView (List ℕ)) (n : ℕ) → v ≡ disk_view (new_disk n [] []) → SideIs v (empty_contents (n * 15)) unfailing
 new_told v n is =
     subst (λ (w : VolumeView (List ℕ)). SideIs w (empty_contents (n * 15)) unfailing) (sym is)
     (record { contents = refl; reads = refl; writes = refl; plan = refl })
 
-module _ {V : Type 0} {G : Ghosts V} (d : ℕ) (side : Side) (volume : V) (x : Device V G) (old new : Subsystem V G) (a : EventEnd)
-    (at : device_at old.devices.items d ≡ Some x) (own : AreOwn old.devices.items) where
-  own_by : (f : Option OrderFault) → ReplacedBy d side volume f old a new → AreOwn new.devices.items
-  own_by (Some f) came = subst AreOwn (sym came.1.1) own
-  own_by None came =
-      let ch = came.2 in
-      let before : ch.before ≡ x = some_same (sym ch.stood ∙ at) in
-      subst AreOwn (sym ch.stands) (own_put old.devices.items d ch.behind own
-      (subst IsOwn (sym ch.is_so.0) (replace_own (device_of ch.before) side
-      (subst (λ (z : Device V G). IsOwn (device_of z)) (sym before) (own_at old.devices.items d x own at)))))
+module _ {V : Type 0} {G : Ghosts V} where
+  there_is : (v : V) (o : Option V) (b : Bool) → o ≡ Some v → b ≡ true → is_some o ≡ b
+  there_is v o b is e = ap (λ (x : Option V). is_some x) is ∙ sym e
 
-  pub replaced_own : Replaced d side volume (Some x) old a new → AreOwn new.devices.items
-  replaced_own came = own_by (replace_fault (device_of x) side) came
+  replaced_sides : (side : Side) (volume : V) (x y : Device V G) → replace_fault (device_of x) side ≡ None → IsReplaced side volume x y → sides_of y ≡ sides_of x
+  replaced_sides A volume x y free r =
+      let home : is_some (on_a x.store) ≡ true = x.store.pair.home (ap (λ (o : Option ℕ). is_some o) (free_so (device_of x) A free)) in
+      same_sides x y (ap (λ (d : DefinedDevice). d.store.device) r.0 ∙ number_same (device_of x) A)
+      (ap (λ (d : DefinedDevice). d.store.lent) r.0 ∙ lent_same (device_of x) A) (there_is volume (on_a y.store) (is_some (on_a x.store)) r.1.0 home)
+      (ap (λ (o : Option V). is_some o) r.1.1)
+  replaced_sides B volume x y free r =
+      same_sides x y (ap (λ (d : DefinedDevice). d.store.device) r.0 ∙ number_same (device_of x) B)
+      (ap (λ (d : DefinedDevice). d.store.lent) r.0 ∙ lent_same (device_of x) B) (ap (λ (o : Option V). is_some o) r.1.1)
+      (there_is volume (on_b y.store) (is_some (on_b x.store)) r.1.0 (paired_so (device_of x) free))
 
-  stood_by : (y : Device V G) (k : Side) → replace_fault (device_of x) k ≡ None → device_of y ≡ replace (device_of x) k → y.store.volume ≡ volume →
-      stood_of y ≡ with_volume (stood_of x) k (G.view volume) (replace (device_of x) k)
-  unfolding R.replace_fault
-  stood_by y A free is on =
-      ap (λ (e : DefinedDevice). record { device = e; a = Some (G.view y.store.volume); b = None }) is
-      ∙ ap (λ (v : V). record { device = replace (device_of x) A; a = Some (G.view v); b = None }) on
-  stood_by y B free is on = absurd (cc)
-
-  module _ (run : runs.Subsystem) (stand : ChainsStand old.devices.items) (all : StandsAs old run)
-      (told : SideIs (G.view volume) (empty_contents (x.store.cylinders * 15)) unfailing)
-      (long : length (empty_contents (x.store.cylinders * 15)) ≡ x.store.cylinders * 15) where
-    abbrev known : AreKnown (all_stood old.devices.items) run.mounted
-    known = all_known (all_stood old.devices.items) run.mounted all.mounted
-
-    -- the device has the same past
-    tells : (y : Device V G) (ks : List Mounted) (o : OrderAnswer) → (device_of y).history ≡ (device_of x).history →
-        AreKnown (all_stood (put_at old.devices.items d y)) ks →
-        work_lines (did.Ordered (orders.Replace d side) o) 0 0 (map (λ (m : Mounted). m.device) run.mounted) (map (λ (m : Mounted). m.device) ks)
-        ≡ lines.Order (orders.Replace d side) o ∷ []
-    tells y ks o same now =
-        let h = did.Ordered (orders.Replace d side) o in
-        let hx = (device_of x).history in
-        let count = loose_count (device_of x).store in
-        let id = (device_of y).store.number in
-        one_tells d x y old.devices.items run.mounted ks h 0 0 known at now
-        ∙ ap (λ (k : History). lines_by d h (all_loosed d count id (new_acts hx k) (has_power (new_items hx k))) 0 0 (new_items hx k)) same
-        ∙ ap (λ (l : List Item). lines_by d h (all_loosed d count id (new_acts hx hx) (has_power l)) 0 0 l) (none_behind hx.items)
-        ∙ ap (λ (l : List Act). lines_by d h (all_loosed d count id l false) 0 0 []) (none_new hx hx refl)
-
-    abbrev what : Happened
-    what = replaced run d side unfailing
-
-    lines_so : (y : Device V G) (end : ends.EventEnd) → what.end ≡ end → (device_of y).history ≡ (device_of x).history →
-        AreKnown (all_stood (put_at old.devices.items d y)) what.behind.mounted → order_end a ≡ end →
-        event_lines (Replace d side) what.end what.reads what.writes (runs.devices_of what.before) (runs.devices_of what.behind)
-        ≡ lines.Order (orders.Replace d side) (order_answer (order_end a)) ∷ []
-    lines_so y end ended same now seen =
-        let q = quiet_so run d side in
-        let ks = runs.devices_of what.behind in
-        ap (λ (s : runs.Subsystem). event_lines (Replace d side) what.end what.reads what.writes (runs.devices_of s) ks) q.0
-        ∙ ap (λ (n : ℕ). event_lines (Replace d side) what.end n what.writes (runs.devices_of run) ks) q.1.0
-        ∙ ap (λ (n : ℕ). event_lines (Replace d side) what.end 0 n (runs.devices_of run) ks) q.1.1
-        ∙ ap (λ (e : ends.EventEnd). event_lines (Replace d side) e 0 0 (runs.devices_of run) ks) ended
-        ∙ tells y what.behind.mounted (order_answer end) same now
-        ∙ ap (λ (e : ends.EventEnd). lines.Order (orders.Replace d side) (order_answer e) ∷ []) (sym seen)
-
-    stands_by : (s : runs.Subsystem) (p : Shared) (xs : List Stood) → s.pool ≡ counted_slots p.pool → AreMounted p.pool xs s.mounted → new.pool ≡ p →
-        all_stood new.devices.items ≡ xs → StandsAs new s
-    stands_by s p xs pool mounted same are = record {
-      pool = pool ∙ ap (λ (q : Shared). counted_slots q.pool) (sym same);
-      mounted = subst (λ (q : Shared). AreMounted q.pool (all_stood new.devices.items) s.mounted) (sym same)
-          (subst (λ (l : List Stood). AreMounted p.pool l s.mounted) (sym are) mounted);
-    }
-
-    same_what : (f : OrderFault) → replace_fault (device_of x) side ≡ Some f → what ≡ quietly run run (answers.Refused f)
-    unfolding H.replaced
-    same_what f free =
-        let m = known_at old.devices.items run.mounted d x known at in
-        ap (λ (o : Option Mounted). replaced_at run d side unfailing o) m.there
-        ∙ ap (λ (o : Option OrderFault). replaced_by run d side unfailing m.mounted o) (fault_known (stood_of x) m.mounted side m.is ∙ free)
-
-    swapped_by : (f : Option OrderFault) → replace_fault (device_of x) side ≡ f → ReplacedBy d side volume f old a new →
-        IsReplaced run d side (order_end a) new
-    swapped_by (Some f) free came =
-        let is = same_what f free in
-        let behind : what.behind ≡ run = ap (λ (h : Happened). h.behind) is in
-        let seen : order_end a ≡ answers.Refused f = order_seen a (answers.Refused f) tt (came.0 blank) in
-        record {
-          stands = subst (λ (s : runs.Subsystem). StandsAs new s) (sym behind)
-              (stands_by run old.pool (all_stood old.devices.items) all.pool all.mounted came.1.0 (ap all_stood came.1.1));
-          lines = lines_so x (answers.Refused f) (ap (λ (h : Happened). h.end) is) refl
-              (subst (λ (s : runs.Subsystem). AreKnown (all_stood (put_at old.devices.items d x)) s.mounted) (sym behind)
-              (subst (λ (l : List (Device V G)). AreKnown (all_stood l) run.mounted) (sym (put_same old.devices.items d x at)) known)) seen;
-        }
-    swapped_by None free came =
+  module _ (d : ℕ) (side : Side) (volume : V) (x : Device V G) (old new : Subsystem V G) (a : EventEnd)
+      (at : device_at old.devices.items d ≡ Some x) (own : AreOwn old.devices.items) where
+    own_by : (f : Option OrderFault) → replace_fault (device_of x) side ≡ f → ReplacedBy d side volume f old a new → AreOwn new.devices.items
+    own_by (Some f) free came = subst AreOwn (sym came.1.1) own
+    own_by None free came =
         let ch = came.2 in
         let before : ch.before ≡ x = some_same (sym ch.stood ∙ at) in
-        let is : device_of ch.behind ≡ replace (device_of x) side =
-        ch.is_so.0 ∙ ap (λ (z : Device V G). replace (device_of z) side) before in
-        let p = old.pool.pool in
-        let xs = all_stood old.devices.items in
-        let same : run ≡ subsystem_of p run.mounted = ap (λ (q : pools.Pool). record { pool = q; mounted = run.mounted }) all.pool in
-        let put : laws.put_at xs d (with_volume (stood_of x) side (G.view volume) (replace (device_of x) side)) ≡ all_stood (put_at old.devices.items d ch.behind) =
-        ap (λ (y : Stood). laws.put_at xs d y) (sym (stood_by ch.behind side free is ch.is_so.1)) ∙ sym (put_stood old.devices.items d ch.behind) in
-        let w : IsWhatCame what answers.Done p (all_stood (put_at old.devices.items d ch.behind)) =
-        subst (λ (s : runs.Subsystem). IsWhatCame (replaced s d side unfailing) answers.Done p (all_stood (put_at old.devices.items d ch.behind))) (sym same)
-        (subst (λ (l : List Stood). IsWhatCame (replaced (subsystem_of p run.mounted) d side unfailing) answers.Done p l) put
-        (replaced_so p xs run.mounted d side unfailing (empty_contents (x.store.cylinders * 15)) (G.view volume) (stood_of x) all.mounted
-        (chains_are old.devices.items own stand) (stood_found old.devices.items d x at) free told long)) in
         record {
-          stands = stands_by what.behind old.pool (all_stood (put_at old.devices.items d ch.behind)) w.left w.mounted came.1 (ap all_stood ch.stands);
-          lines = lines_so ch.behind answers.Done w.ended (ap (λ (e : DefinedDevice). e.history) is ∙ past_same (device_of x) side)
-              (all_known (all_stood (put_at old.devices.items d ch.behind)) what.behind.mounted w.mounted) (order_seen a answers.Done tt (came.0 blank));
+          each = subst AllOwn (sym ch.stands) (own_put old.devices.items d ch.behind own.each
+              (subst IsOwn (sym ch.is_so.0) (replace_own (device_of ch.before) side
+              (subst (λ (z : Device V G). IsOwn (device_of z)) (sym before) (own_at old.devices.items d x own.each at)))));
+          accounted = subst AreAccounted (sym (ap (λ (l : List (Device V G)). all_sides l) ch.stands
+              ∙ put_sides old.devices.items d ch.before ch.behind
+              (replaced_sides side volume ch.before ch.behind (ap (λ (z : Device V G). replace_fault (device_of z) side) before ∙ free) ch.is_so) ch.stood))
+              own.accounted;
         }
 
-    pub swapped : Replaced d side volume (Some x) old a new → IsReplaced run d side (order_end a) new
-    swapped came = swapped_by (replace_fault (device_of x) side) refl came
+    pub replaced_own : Replaced d side volume (Some x) old a new → AreOwn new.devices.items
+    replaced_own came = own_by (replace_fault (device_of x) side) refl came
+
+    view_is : (o : Option V) → o ≡ Some volume → option_map G.view o ≡ Some (G.view volume)
+    view_is o is = ap (λ (p : Option V). option_map G.view p) is
+
+    stood_by : (y : Device V G) (k : Side) → IsReplaced k volume x y → stood_of y ≡ with_volume (stood_of x) k (G.view volume) (replace (device_of x) k)
+    stood_by y A r =
+        ap (λ (e : DefinedDevice). record { device = e; a = option_map G.view (on_a y.store); b = option_map G.view (on_b y.store) }) r.0
+        ∙ ap (λ (v : Option (VolumeView (List ℕ))). record { device = replace (device_of x) A; a = v; b = option_map G.view (on_b y.store) })
+        (view_is (on_a y.store) r.1.0)
+        ∙ ap (λ (o : Option V). record { device = replace (device_of x) A; a = Some (G.view volume); b = option_map G.view o }) r.1.1
+    stood_by y B r =
+        ap (λ (e : DefinedDevice). record { device = e; a = option_map G.view (on_a y.store); b = option_map G.view (on_b y.store) }) r.0
+        ∙ ap (λ (v : Option (VolumeView (List ℕ))). record { device = replace (device_of x) B; a = option_map G.view (on_a y.store); b = v })
+        (view_is (on_b y.store) r.1.0)
+        ∙ ap (λ (o : Option V). record { device = replace (device_of x) B; a = option_map G.view o; b = Some (G.view volume) }) r.1.1
+
+    module _ (run : runs.Subsystem) (stand : ChainsStand old.devices.items) (all : StandsAs old run)
+        (told : SideIs (G.view volume) (empty_contents (x.store.cylinders * 15)) unfailing)
+        (long : length (empty_contents (x.store.cylinders * 15)) ≡ x.store.cylinders * 15) where
+      abbrev known : AreKnown (all_stood old.devices.items) run.mounted
+      known = all_known (all_stood old.devices.items) run.mounted all.mounted
+
+      abbrev what : Happened
+      what = replaced run d side unfailing
+
+      -- the device has the same past
+      ordered : (y : Device V G) (end : ends.EventEnd) → what.end ≡ end → (device_of y).history ≡ (device_of x).history →
+          AreKnown (all_stood (put_at old.devices.items d y)) what.behind.mounted → order_end a ≡ end → StandsAs new what.behind →
+          IsOrdered (logged (Replace d side) what) (orders.Replace d side) (order_end a) new
+      ordered y end ended same now seen stands = record {
+        stands = stands;
+        lines = ordered_tells (Replace d side) what run (orders.Replace d side) (order_end a) old.devices.items (put_at old.devices.items d y)
+            (quiet_so run d side) (ended ∙ sym seen) (λ e ds es. refl)
+            (put_then old.devices.items (put_at old.devices.items d y) d x y same at (same_pasts (put_at old.devices.items d y))) known now;
+      }
+
+      same_what : (f : OrderFault) → replace_fault (device_of x) side ≡ Some f → what ≡ quietly run run (answers.Refused f)
+      unfolding H.replaced
+      same_what f free =
+          let m = known_at old.devices.items run.mounted d x known at in
+          ap (λ (o : Option Mounted). replaced_at run d side unfailing o) m.there
+          ∙ ap (λ (o : Option OrderFault). replaced_by run d side unfailing m.mounted o) (fault_known (stood_of x) m.mounted side m.is ∙ free)
+
+      swapped_by : (f : Option OrderFault) → replace_fault (device_of x) side ≡ f → ReplacedBy d side volume f old a new →
+          IsOrdered (logged (Replace d side) what) (orders.Replace d side) (order_end a) new
+      swapped_by (Some f) free came =
+          let is = same_what f free in
+          let behind : what.behind ≡ run = ap (λ (h : Happened). h.behind) is in
+          ordered x (answers.Refused f) (ap (λ (h : Happened). h.end) is) refl
+          (subst (λ (s : runs.Subsystem). AreKnown (all_stood (put_at old.devices.items d x)) s.mounted) (sym behind)
+          (subst (λ (l : List (Device V G)). AreKnown (all_stood l) run.mounted) (sym (put_same old.devices.items d x at)) known))
+          (order_seen a (answers.Refused f) tt (came.0 blank))
+          (subst (λ (s : runs.Subsystem). StandsAs new s) (sym behind)
+          (stands_by new run old.pool (all_stood old.devices.items) all.pool all.mounted came.1.0 (ap all_stood came.1.1)))
+      swapped_by None free came =
+          let ch = came.2 in
+          let before : ch.before ≡ x = some_same (sym ch.stood ∙ at) in
+          let is : IsReplaced side volume x ch.behind = subst (λ (z : Device V G). IsReplaced side volume z ch.behind) before ch.is_so in
+          let p = old.pool.pool in
+          let xs = all_stood old.devices.items in
+          let same : run ≡ subsystem_of p run.mounted = ap (λ (q : pools.Pool). record { pool = q; mounted = run.mounted }) all.pool in
+          let put : laws.put_at xs d (with_volume (stood_of x) side (G.view volume) (replace (device_of x) side)) ≡ all_stood (put_at old.devices.items d ch.behind) =
+          ap (λ (y : Stood). laws.put_at xs d y) (sym (stood_by ch.behind side is)) ∙ sym (put_stood old.devices.items d ch.behind) in
+          let w : IsWhatCame what answers.Done p (all_stood (put_at old.devices.items d ch.behind)) =
+          subst (λ (s : runs.Subsystem). IsWhatCame (replaced s d side unfailing) answers.Done p (all_stood (put_at old.devices.items d ch.behind))) (sym same)
+          (subst (λ (l : List Stood). IsWhatCame (replaced (subsystem_of p run.mounted) d side unfailing) answers.Done p l) put
+          (replaced_so p xs run.mounted d side unfailing (empty_contents (x.store.cylinders * 15)) (G.view volume) (stood_of x) all.mounted
+          (chains_are old.devices.items own.each stand) (stood_found old.devices.items d x at) free told long)) in
+          ordered ch.behind answers.Done w.ended (ap (λ (e : DefinedDevice). e.history) is.0 ∙ past_same (device_of x) side)
+          (all_known (all_stood (put_at old.devices.items d ch.behind)) what.behind.mounted w.mounted) (order_seen a answers.Done tt (came.0 blank))
+          (stands_by new what.behind old.pool (all_stood (put_at old.devices.items d ch.behind)) w.left w.mounted came.1 (ap all_stood ch.stands))
+
+      pub swapped : Replaced d side volume (Some x) old a new → IsOrdered (logged (Replace d side) what) (orders.Replace d side) (order_end a) new
+      swapped came = swapped_by (replace_fault (device_of x) side) refl came

@@ -1,30 +1,28 @@
 -- In a run the counts of the one device that an event asks go on by the volume calls of the event.
-use Rattle.std.proofs.Common.{◌≡◌, ◌∙◌, arith, ℕ, Bool, true, false, List, [], ◌∷◌, Option, Some, None, is_some, map, refl, sym, ap, subst}
+use Rattle.std.proofs.Common.{◌≡◌, ◌∙◌, arith, ℕ, Bool, true, false, List, [], ◌∷◌, Option, Some, None, is_some, refl, sym, ap, subst}
 use Rattle.std.specs.Prelude.{◌==◌, if◌then◌else◌, option_map}
 use Rattle.std.proofs.lemmas.Bool.{cond_both, eqb-true}
 use Rattle.std.proofs.lemmas.Bool.Decides.{nat_tests}
 use Rattle.ckd_types.specs.declared.paths.Side.{Side}
 use Rattle.loss_model.specs.declared.Loss.TheVariants as losses
-use Rattle.track_image.specs.Image.{Image}
 use Rattle.device_outside.specs.Told.{hold}
 use Rattle.device_defs.specs.declared.answers.StartFault.{StartFault}
 use Rattle.device_defs.specs.Command.{command}
 use Rattle.device_defs.specs.Contents.{by_plain}
 use Rattle.device_defs.specs.Cutting.{reset}
-use Rattle.device_defs.specs.Events.{background, lose}
+use Rattle.device_defs.specs.Events.{background, lose, second}
 use Rattle.device_defs.specs.Marks.{MarksDevice}
 use Rattle.device_defs.specs.Orders as orders
 use Rattle.device_defs.specs.Orders.{resume}
 use Rattle.device_defs.specs.Start as S
 use Rattle.device_defs.specs.Start.{start, start_fault, next_ordinal}
-use Rattle.device_defs.specs.Store.{HalfWrite}
 use Rattle.subsystem_defs.specs.declared.end.EventEnd.{EventEnd}
 use Rattle.subsystem_defs.specs.declared.end.EventEnd.TheVariants as ends
 use Rattle.subsystem_defs.specs.declared.end.OrderFault.{OrderFault}
 use Rattle.subsystem_defs.specs.declared.event.Event.{Event}
 use Rattle.subsystem_defs.specs.declared.event.Event.TheVariants as events
 use Rattle.subsystem_defs.specs.Deeds as D
-use Rattle.subsystem_defs.specs.Deeds.{Ends, Becomes, Asks, back, deed, device_in, ends_by, ends_done, end_of, is_own, may_end_by, on_device, order, seconds, start_by, starts, step}
+use Rattle.subsystem_defs.specs.Deeds.{Ends, Becomes, Asks, back, deed, device_in, ends_by, ends_done, is_own, may_end_by, on_device, order, seconds, start_by, starts, step}
 use Rattle.subsystem_defs.specs.Happening as H
 use Rattle.subsystem_defs.specs.Happening.{Happened, MarksDeed, Talk, asks, becomes, happens, happens_by, mounted_behind, quietly, told_to}
 use Rattle.subsystem_defs.specs.Refusals.{fail_fault, resume_fault, suspend_fault}
@@ -32,7 +30,7 @@ use Rattle.subsystem_defs.specs.Subsystem.{Mounted, Subsystem, devices_of, mount
 use Rattle.subsystem_laws.proofs.WholeFinding.{device_mounted}
 use Rattle.deck_run.specs.Counting.{more_calls}
 use Rattle.deck_run.specs.Owning.{IsOpenOn}
-use Rattle.deck_run.proofs.Counts.{Is, IsOn, background_counts, command_counts, lose_counts, reset_counts}
+use Rattle.deck_run.proofs.Counts.{IsOn, background_counts, command_counts, lose_counts, reset_counts, second_counts}
 use Rattle.deck_run.proofs.Makes.{Makes, m_done, m_then, held_so}
 
 some_same : {X : Type 0} {x y : X} → Some x ≡ Some y → x ≡ y
@@ -119,7 +117,7 @@ module _ (s : Subsystem) (n : ℕ) (m : Mounted) (at : mounted_in s.mounted n �
       m.device.store.counts.writes talk (told_to s.pool m) refl refl makes in
       record {
         mounted = mounted_behind o;
-        there = put_there s.mounted n m (mounted_behind o) at h.store.1.1.0;
+        there = put_there s.mounted n m (mounted_behind o) at h.store.1.1;
         reads = h.store.0;
         writes = h.store.1.0;
       }
@@ -145,62 +143,66 @@ module _ (s : Subsystem) (n : ℕ) (m : Mounted) (at : mounted_in s.mounted n �
       cond_both (is_own path m.device.history.running) (Ends ends.Running) (start_by m.device path (start_fault m.device path)) Claim
       (λ _. ends_counted ends.Running) (λ _. start_counted path (start_fault m.device path))
 
-  module _ (none : m.device.store.half ≡ None) (single : m.device.store.paired ≡ false) where
-    step_counted : Claim (step by_plain m.device)
-    step_counted =
-        cond_both (is_some m.device.store.half) (seconds by_plain m.device)
-        (if is_some m.device.history.running then Asks m.device (may_end_by ends.Stepped (command by_plain m.device)) else Ends ends.Idle) Claim
-        (λ e. absurd (let shut : is_some m.device.store.half ≡ false = ap (λ (o : Option (HalfWrite (Unit {0}))). is_some o) none in cc))
-        (λ _. cond_both (is_some m.device.history.running) (Asks m.device (may_end_by ends.Stepped (command by_plain m.device))) (Ends ends.Idle) Claim
-        (λ _. asks_counted m.device (may_end_by ends.Stepped (command by_plain m.device)) mine
-        (m_then (command_counts by_plain n m.device (refl, (refl, (mine, single)))) (λ y a r w l. m_done l)))
-        (λ _. ends_counted ends.Idle))
+  seconds_counted : Claim (seconds by_plain m.device)
+  seconds_counted =
+      asks_counted m.device (ends_by ends.Second (second by_plain m.device)) mine
+      (m_then (second_counts by_plain n m.device (refl, (refl, mine))) (λ y a r w l. m_done l))
 
-    back_counted : Claim (back by_plain m.device)
-    back_counted =
-        cond_both (is_some m.device.store.half) (seconds by_plain m.device) (Asks m.device (may_end_by ends.Back (background by_plain m.device))) Claim
-        (λ e. absurd (let shut : is_some m.device.store.half ≡ false = ap (λ (o : Option (HalfWrite (Unit {0}))). is_some o) none in cc))
-        (λ _. asks_counted m.device (may_end_by ends.Back (background by_plain m.device)) mine
-        (m_then (background_counts by_plain n m.device (refl, (refl, (mine, single)))) (λ y a r w l. m_done l)))
+  step_counted : Claim (step by_plain m.device)
+  step_counted =
+      cond_both (is_some m.device.store.half) (seconds by_plain m.device)
+      (if is_some m.device.history.running then Asks m.device (may_end_by ends.Stepped (command by_plain m.device)) else Ends ends.Idle) Claim
+      (λ _. seconds_counted)
+      (λ _. cond_both (is_some m.device.history.running) (Asks m.device (may_end_by ends.Stepped (command by_plain m.device))) (Ends ends.Idle) Claim
+      (λ _. asks_counted m.device (may_end_by ends.Stepped (command by_plain m.device)) mine
+      (m_then (command_counts by_plain n m.device (refl, (refl, mine))) (λ y a r w l. m_done l)))
+      (λ _. ends_counted ends.Idle))
 
-    reset_counted : (path : ℕ) → Claim (Asks m.device (ends_by ends_done (reset by_plain m.device path)))
-    reset_counted path =
-        asks_counted m.device (ends_by ends_done (reset by_plain m.device path)) mine
-        (m_then (reset_counts by_plain n m.device path (refl, (refl, (mine, single)))) (λ y a r w l. m_done l))
+  back_counted : Claim (back by_plain m.device)
+  back_counted =
+      cond_both (is_some m.device.store.half) (seconds by_plain m.device) (Asks m.device (may_end_by ends.Back (background by_plain m.device))) Claim
+      (λ _. seconds_counted)
+      (λ _. asks_counted m.device (may_end_by ends.Back (background by_plain m.device)) mine
+      (m_then (background_counts by_plain n m.device (refl, (refl, mine))) (λ y a r w l. m_done l)))
 
-    fail_by : (side : Side) (o : Option OrderFault) →
-        Claim (order o (Asks m.device (ends_by ends_done (lose by_plain m.device (losses.Side side)))))
-    fail_by side (Some f) = ends_counted (ends.Refused f)
-    fail_by side None =
-        asks_counted m.device (ends_by ends_done (lose by_plain m.device (losses.Side side))) mine
-        (m_then (lose_counts by_plain n m.device (losses.Side side) (refl, (refl, (mine, single)))) (λ y a r w l. m_done l))
+  reset_counted : (path : ℕ) → Claim (Asks m.device (ends_by ends_done (reset by_plain m.device path)))
+  reset_counted path =
+      asks_counted m.device (ends_by ends_done (reset by_plain m.device path)) mine
+      (m_then (reset_counts by_plain n m.device path (refl, (refl, mine))) (λ y a r w l. m_done l))
 
-    found : (d : ℕ) → d ≡ n → device_in (devices_of s) d ≡ Some m.device
-    found d is =
-        ap (λ (k : ℕ). device_in (devices_of s) k) is ∙ device_mounted s.mounted n ∙ ap (λ (o : Option Mounted). option_map (λ (x : Mounted). x.device) o) at
+  fail_by : (side : Side) (o : Option OrderFault) →
+      Claim (order o (Asks m.device (ends_by ends_done (lose by_plain m.device (losses.Side side)))))
+  fail_by side (Some f) = ends_counted (ends.Refused f)
+  fail_by side None =
+      asks_counted m.device (ends_by ends_done (lose by_plain m.device (losses.Side side))) mine
+      (m_then (lose_counts by_plain n m.device (losses.Side side) (refl, (refl, mine))) (λ y a r w l. m_done l))
 
-    pub event_counted : (e : Event) → IsOpenOn n e → IsCounted n m (happens s e)
-    unfolding D.deed H.happens
-    event_counted (events.Start path d) on =
-        subst (λ (o : Option MarksDevice). Claim (on_device o (starts path))) (sym (found d on.0)) (starts_counted path)
-    event_counted (events.Step d) on = subst (λ (o : Option MarksDevice). Claim (on_device o (step by_plain))) (sym (found d on)) step_counted
-    event_counted (events.Back d) on = subst (λ (o : Option MarksDevice). Claim (on_device o (back by_plain))) (sym (found d on)) back_counted
-    event_counted (events.Reset path d) on =
-        subst (λ (o : Option MarksDevice). Claim (on_device o (λ x. Asks x (ends_by ends_done (reset by_plain x path))))) (sym (found d on))
-        (reset_counted path)
-    event_counted events.Power on = absurd on
-    event_counted events.FailCache on = absurd on
-    event_counted events.FailStore on = absurd on
-    event_counted (events.FailVolume d side) on =
-        subst (λ (o : Option MarksDevice). Claim (on_device o
-        (λ x. order (fail_fault x side) (Asks x (ends_by ends_done (lose by_plain x (losses.Side side))))))) (sym (found d on))
-        (fail_by side (fail_fault m.device side))
-    event_counted events.RepairCache on = absurd on
-    event_counted events.RepairStore on = absurd on
-    event_counted (events.Pair a b) on = absurd on
-    event_counted (events.Suspend d) on =
-        subst (λ (o : Option MarksDevice). Claim (on_device o (λ x. order (suspend_fault x) (Becomes (orders.hold x) ends.Done)))) (sym (found d on))
-        (becomes_by (orders.hold m.device) (suspend_fault m.device) mine refl refl)
-    event_counted (events.Resume d) on =
-        subst (λ (o : Option MarksDevice). Claim (on_device o (λ x. order (resume_fault x) (Becomes (resume x) ends.Done)))) (sym (found d on))
-        (becomes_by (resume m.device) (resume_fault m.device) mine refl refl)
+  found : (d : ℕ) → d ≡ n → device_in (devices_of s) d ≡ Some m.device
+  found d is =
+      ap (λ (k : ℕ). device_in (devices_of s) k) is ∙ device_mounted s.mounted n ∙ ap (λ (o : Option Mounted). option_map (λ (x : Mounted). x.device) o) at
+
+  pub event_counted : (e : Event) → IsOpenOn n e → IsCounted n m (happens s e)
+  unfolding D.deed H.happens
+  event_counted (events.Start path d) on =
+      subst (λ (o : Option MarksDevice). Claim (on_device o (starts path))) (sym (found d on.0)) (starts_counted path)
+  event_counted (events.Step d) on = subst (λ (o : Option MarksDevice). Claim (on_device o (step by_plain))) (sym (found d on)) step_counted
+  event_counted (events.Back d) on = subst (λ (o : Option MarksDevice). Claim (on_device o (back by_plain))) (sym (found d on)) back_counted
+  event_counted (events.Reset path d) on =
+      subst (λ (o : Option MarksDevice). Claim (on_device o (λ x. Asks x (ends_by ends_done (reset by_plain x path))))) (sym (found d on))
+      (reset_counted path)
+  event_counted events.Power on = absurd on
+  event_counted events.FailCache on = absurd on
+  event_counted events.FailStore on = absurd on
+  event_counted (events.FailVolume d side) on =
+      subst (λ (o : Option MarksDevice). Claim (on_device o
+      (λ x. order (fail_fault x side) (Asks x (ends_by ends_done (lose by_plain x (losses.Side side))))))) (sym (found d on))
+      (fail_by side (fail_fault m.device side))
+  event_counted events.RepairCache on = absurd on
+  event_counted events.RepairStore on = absurd on
+  event_counted (events.Pair a b) on = absurd on
+  event_counted (events.Suspend d) on =
+      subst (λ (o : Option MarksDevice). Claim (on_device o (λ x. order (suspend_fault x) (Becomes (orders.hold x) ends.Done)))) (sym (found d on))
+      (becomes_by (orders.hold m.device) (suspend_fault m.device) mine refl refl)
+  event_counted (events.Resume d) on =
+      subst (λ (o : Option MarksDevice). Claim (on_device o (λ x. order (resume_fault x) (Becomes (resume x) ends.Done)))) (sym (found d on))
+      (becomes_by (resume m.device) (resume_fault m.device) mine refl refl)

@@ -1,16 +1,11 @@
 -- A command leaves a device its geometry, its cylinders and its plans, and the chain of the program that runs its words and what it goes by;
--- and it answers where memory is had. The acts that come to its history are those that its store has noted. So it is with a reset, which
--- brings none. The device has one side.
-use Rattle.std.proofs.Common.{◌≡◌, ◌∙◌, ◌&&◌, ◌+◌, ◌++◌, [], ◌∷◌, ℕ, zero, suc, Bool, true, false, List, Option, Some, None, is_some, refl, sym, ap, subst}
-use Rattle.std.specs.Prelude.{if◌then◌else◌, ◌||◌, nat_le, nat_lt, ◌==◌, length, slice_index_or, slice_set}
+-- and it answers where memory is had. The acts that come to its history are those that its store has noted. So it is with the second part of
+-- a write, with work in the background and with a loss; a reset brings none, and neither does the loan of its volume.
+use Rattle.std.proofs.Common.{◌≡◌, ◌∙◌, [], ℕ, zero, suc, Bool, List, Option, Some, None, refl, sym, ap, subst}
+use Rattle.std.specs.Prelude.{◌==◌}
 use Rattle.std.proofs.lemmas.Bool.{cond_both}
 use Rattle.ckd_types.specs.declared.channel.Ccw.{Ccw}
-use Rattle.ckd_types.specs.declared.channel.CommandEnd.{CommandEnd}
 use Rattle.ckd_types.specs.declared.geometry.Geometry.{Geometry}
-use Rattle.ckd_types.specs.declared.parameters.Mode.{Mode}
-use Rattle.ckd_types.specs.declared.paths.Side.{Side}
-use Rattle.ckd_types.specs.declared.paths.Side.TheVariants.{A, B}
-use Rattle.ckd_types.specs.declared.record.Edit.{Edit}
 use Rattle.ckd_types.specs.Fixed.{Fixed}
 use Rattle.ckd_chain.specs.declared.mark.Stage.{Stage}
 use Rattle.ckd_chain.specs.declared.mark.Stage.TheVariants as stages
@@ -25,192 +20,43 @@ use Rattle.ckd_rules.specs.declared.turned.Turned.TheVariants as turns
 use Rattle.ckd_rules.specs.Look.{look_on}
 use Rattle.ckd_rules.specs.Looked.{Looked}
 use Rattle.loss_model.specs.declared.Loss.{Loss}
-use Rattle.loss_model.specs.declared.Loss.TheVariants as kinds
 use Rattle.plain_defs.specs.declared.journal.Act.{Act}
 use Rattle.plain_defs.specs.History.{History, OpenEntry, has_used}
 use Rattle.plain_defs.specs.Journal.{Plans}
-use Rattle.ckd_types.specs.Parameters.{is_bypass}
-use Rattle.track_image.specs.Image.{Image, edited_image}
+use Rattle.track_image.specs.Image.{Image}
 use Rattle.device_outside.specs.Interaction.{Interaction, Done, and_then}
-use Rattle.device_outside.specs.declared.port.SlotGrant.{SlotGrant}
-use Rattle.device_outside.specs.declared.port.SlotGrant.TheVariants as grants
 use Rattle.device_defs.specs.declared.answers.Came.{Came}
 use Rattle.device_defs.specs.declared.answers.Came.TheVariants.{Ends, Checks, HalfOpen}
 use Rattle.device_defs.specs.declared.answers.Took.{Took}
 use Rattle.device_defs.specs.declared.answers.Took.TheVariants.{Whole, Opened, Unwritten}
 use Rattle.device_defs.specs.declared.usage.Usage.{Usage}
-use Rattle.device_defs.specs.declared.answers.Choice.{Choice}
-use Rattle.device_defs.specs.declared.answers.Choice.TheVariants as choices
 use Rattle.device_defs.specs.declared.answers.Did.{Did}
-use Rattle.device_defs.specs.declared.answers.Did.TheVariants.{Recovered, Destaged}
-use Rattle.device_defs.specs.Background as works
-use Rattle.device_defs.specs.Background.{
-  saved_by,
-  saving,
-  saved,
-  recovered_image,
-  recovered_bytes,
-  recover,
-  copied,
-  copy_read,
-  copies_to,
-  copy_by,
-  staged_image,
-  staged_bytes,
-  stage,
-  to_destage,
-  destage_first,
-  stage_first,
-  to_copy,
-  copy_first,
-  to_recover,
-  recover_first,
-  work,
-}
-use Rattle.device_defs.specs.Choosing as choosing
-use Rattle.device_defs.specs.Choosing.{choose, slot_by, fast_by, fast_or_through, choose_loose, choose_firm, may_be_fast}
+use Rattle.device_defs.specs.Background.{stage, work}
 use Rattle.device_defs.specs.Command as commands
-use Rattle.device_defs.specs.Command.{
-  Went,
-  Over,
-  On,
-  came_of_write,
-  went_by,
-  went_on,
-  looked,
-  look,
-  goes_on,
-  follow,
-  came_out,
-  on_tracks,
-  answered_by,
-  on_paths,
-  command_at,
-  command_by,
-  command,
-  has_loss,
-}
+use Rattle.device_defs.specs.Command.{Went, Over, On, came_of_write, went_by, looked, look, goes_on, follow, came_out, on_tracks, answered_by, command_at, command_by, command, has_loss}
 use Rattle.device_defs.specs.Contents.{Contents}
 use Rattle.device_defs.specs.Cutting as cutting
-use Rattle.device_defs.specs.Cutting.{origin_cut, half_cut, reset_by, path_cut, reset}
-use Rattle.device_defs.specs.Effects.{with_edit, loosened, hardened, loose_lost}
+use Rattle.device_defs.specs.Cutting.{reset_by, reset}
 use Rattle.plain_device.specs.Acted.{settled_act, paths_behind}
 use Rattle.device_defs.specs.Device.{Device, all_acted, event_ended, event_begun, with_store}
-use Rattle.device_defs.specs.Editing as editing
-use Rattle.device_defs.specs.Editing.{effect, whole, at_once, through_by, through, write_by, written, is_given, unchosen, write_chosen, write}
+use Rattle.device_defs.specs.Editing.{write}
 use Rattle.device_defs.specs.Events as happened
-use Rattle.device_defs.specs.Events.{background, lose, losing, lost_by, with_loss}
-use Rattle.device_defs.specs.Image as images
-use Rattle.device_defs.specs.Image.{
-  is_sequential,
-  read_counted,
-  image_of,
-  Imaged,
-  Has,
-  NoBytes,
-  BadTrack,
-  Got,
-  ahead,
-  queued,
-  first_read,
-  read_b,
-  second_read,
-  level_bytes,
-  filled,
-  granted,
-  loaded,
-  delivered,
-  missed,
-  miss,
-  hit,
-  clean_image,
-  image_by,
-  image,
-}
-use Rattle.device_defs.specs.Losses as losses
-use Rattle.device_defs.specs.Losses.{
-  settled,
-  settled_but,
-  by_frame,
-  gives_up,
-  stale_everywhere,
-  call_failed,
-  over,
-  down,
-  side_lost,
-  without_frame,
-  without_patch,
-  cache_lost,
-  patch_lost,
-  store_lost,
-  firm_told,
-  all_firm_told,
-}
+use Rattle.device_defs.specs.Events.{background, lose, losing}
+use Rattle.device_defs.specs.Image.{Imaged, Has, NoBytes, BadTrack}
+use Rattle.device_defs.specs.Losses.{over}
 use Rattle.device_defs.specs.Memory.{had_by}
 use Rattle.device_defs.specs.Outcomes.{Turn, ends_with, settles, checks, wrote_turn, usage_of, turned_by}
-use Rattle.device_defs.specs.Owed as owed
-use Rattle.device_defs.specs.Owed.{
-  is_owed,
-  is_modified,
-  is_clean,
-  dropped,
-  heard,
-  hear,
-  modified_told,
-  dropped_told,
-  freed_told,
-  settles_debt,
-  track_told,
-  all_told,
-  waiting_told,
-  ended,
-  waiting_count,
-}
-use Rattle.device_defs.specs.Store.{
-  Origin,
-  OfCommand,
-  OfCut,
-  OfBackground,
-  HalfWrite,
-  Store,
-  tracks_of,
-  takes_b,
-  frame_at,
-  patch_at,
-  is_lost,
-  is_loose,
-  has_loose,
-  has_level,
-  level_at,
-  half_is,
-  owed_at,
-  with_frame,
-  with_stale,
-}
-use Rattle.device_defs.specs.Writing as writing
-use Rattle.device_defs.specs.Writing.{
-  Wrote,
-  taken_a,
-  firm_first,
-  unwritten,
-  alone_b,
-  failed_a,
-  first_a,
-  write_first,
-  tried_b,
-  write_second,
-  write_counted,
-  slot_freed,
-  unpatched,
-  done_by,
-  write_done,
-  opened as half_open,
-}
+use Rattle.device_defs.specs.Store.{Origin, OfCommand, OfCut, OfBackground, HalfWrite, Store, tracks_of, is_lost}
 use Rattle.deck_run.proofs.Acting.{Brought, brought_none, all_brought, ended_brought, checked_brought, reset_brought}
-use Rattle.deck_run.proofs.Surely.{Surely, s_done, s_try, s_ask, s_read, s_write, s_firm, s_before, s_if, s_then}
-
-clash : (b : Bool) → b ≡ true → b ≡ false → ⊥
-clash b x y = absurd (cc)
+use Rattle.deck_run.proofs.Surely.{Surely, s_done, s_try, s_if, s_then}
+use Rattle.ckd_chain.specs.declared.progress.Settled.TheVariants.{Written}
+use Rattle.device_defs.specs.Events.{command_ended, second, second_ended, second_of, second_turn}
+use Rattle.device_defs.specs.Losses.{over}
+use Rattle.device_defs.specs.Orders as orders
+use Rattle.device_defs.specs.Orders.{given_up, lend, lent_to, with_tracks}
+use Rattle.deck_run.proofs.Surely.{surely_so}
+use Rattle.deck_run.proofs.StoreStays as stores
+use Rattle.deck_run.proofs.StoreStays.{Answers}
 
 -- Chains
 
@@ -265,393 +111,11 @@ module _ (ccws : List Ccw) (fixed : Fixed) where
   HasOf None = Unit {0}
   HasOf (Some chain) = IsOf chain
 
-abbrev pub Answers : {X : Type 0} → Option X → Type 0
-Answers None = ⊥
-Answers (Some x) = Unit {0}
-
 -- Stores
 
-module _ {F P H R : Type 0} (c : Contents F P H R) (g : Geometry) (n : ℕ) where
+module _ {F P H R : Type 0} (c : Contents F P H R) (g : Geometry) (n : ℕ) (away : Option ℕ × ℕ) where
   abbrev pub Is : Store F P H → Type 0
-  Is s = (s.geometry ≡ g) × ((s.cylinders ≡ n) × (s.paired ≡ false))
-
-  abbrev Keeps : {X : Type 0} → Interaction R Image (Store F P H) X → Type 0
-  Keeps i = Surely i (λ s a. Is s)
-
-  abbrev Had : {X : Type 0} → Interaction R Image (Store F P H) (Option X) → Type 0
-  Had i = Surely i (λ s a. Is s × Answers a)
-
-  either : (b : Bool) (s z : Store F P H) → Is s → Is z → Is (if b then s else z)
-  either b s z k l = cond_both b s z Is (λ e. k) (λ e. l)
-
-  gives_is : (s : Store F P H) (t : ℕ) (o : Option ℕ) → Is s → Is (gives_up s t o)
-  gives_is s t None k = k
-  gives_is s t (Some slot) k = k
-
-  framed_is : (s : Store F P H) (t : ℕ) (o : Option F) → Is s → Is (by_frame c s t o)
-  framed_is s t (Some f) k = either (is_loose s t) _ _ k (either (c.modified f) s _ k k)
-  framed_is s t None k = either (half_is s.half t) s _ k (gives_is _ t (losses.slot_in c (patch_at s t)) k)
-
-  settled_is : (s : Store F P H) (t : ℕ) → Is s → Is (settled c s t)
-  unfolding losses.settled
-  settled_is s t k =
-      either (is_some s.lent) s _ k (either (is_lost s t) s _ k (either (has_level s t) s _ k (framed_is s t (frame_at s t) k)))
-
-  failed : (s : Store F P H) (side : Side) (o : Option ℕ) → Is s → Keeps (call_failed c s side o)
-  failed s side o k = s_if s.paired (λ e. absurd (clash s.paired e k.1.1)) (λ e. s_done k)
-
-  -- Losses
-
-  over_is : (m : ℕ) (f : ℕ → Store F P H → Store F P H) → ((t : ℕ) (z : Store F P H) → Is z → Is (f t z)) → (s : Store F P H) → Is s → Is (over m f s)
-  unfolding losses.over
-  over_is zero f keeps s k = k
-  over_is (suc m) f keeps s k = keeps m (over m f s) (over_is m f keeps s k)
-
-  down_is : (s : Store F P H) (side : Side) → Is s → Is (down s side)
-  down_is s A k = k
-  down_is s B k = k
-
-  side_is : (s : Store F P H) (side : Side) → Is s → Is (side_lost c s side None)
-  unfolding losses.side_lost
-  side_is s side k = over_is (tracks_of s) (settled_but c None) (λ t z l. settled_is z t l) (down s side) (down_is s side k)
-
-  bare_is : (s : Store F P H) (t : ℕ) → Is s → Is (without_frame s t)
-  bare_is s t k = either (is_some (frame_at s t)) _ s k k
-
-  gone_is : (s : Store F P H) → Is s → Is (loose_lost s)
-  gone_is s k = either (has_loose s) _ s k k
-
-  cache_is : (s : Store F P H) → Is s → Is (cache_lost c s)
-  unfolding losses.cache_lost
-  cache_is s k =
-      over_is (tracks_of s) (λ t z. settled c (without_frame z t) t) (λ t z l. settled_is (without_frame z t) t (bare_is z t l))
-      (record (loose_lost s) { queue = [] }) (gone_is s k)
-
-  unpatched_is : (s : Store F P H) (t : ℕ) → Is s → Is (without_patch c s t)
-  unpatched_is s t k = gives_is s t (losses.slot_in c (patch_at s t)) k
-
-  stale_is : (s : Store F P H) (t : ℕ) → Is s → Is (stale_everywhere s t)
-  stale_is s t k = either s.paired _ _ k k
-
-  patch_is : (t : ℕ) (s : Store F P H) → Is s → Is (patch_lost c t s)
-  patch_is t s k =
-      either (is_some (patch_at s t)) _ s
-      (either (half_is s.half t) _ _ (unpatched_is s t k)
-      (settled_is (stale_everywhere (without_patch c s t) t) t (stale_is (without_patch c s t) t (unpatched_is s t k)))) k
-
-  patches_is : (s : Store F P H) → Is s → Is (store_lost c s)
-  unfolding losses.store_lost
-  patches_is s k = over_is (tracks_of s) (patch_lost c) patch_is s k
-
-  lost_is : (s : Store F P H) (loss : Loss) → Is s → Is (lost_by c s loss)
-  lost_is s kinds.Cache k = cache_is s k
-  lost_is s kinds.Store k = patches_is s k
-  lost_is s (kinds.Side side) k = side_is s side k
-
-  firms : (t : ℕ) (s : Store F P H) → Is s → Keeps (firm_told c t s)
-  firms t s k = s_if (owed_at s t).firm (λ _. s_firm (s_done k)) (λ _. s_done k)
-
-  all_firms : (m : ℕ) (s : Store F P H) → Is s → Keeps (all_firm_told c m s)
-  unfolding losses.all_firm_told
-  all_firms zero s k = s_done k
-  all_firms (suc m) s k = s_then (all_firms m s k) (λ z _ l. firms m z l)
-
-  loses : (s : Store F P H) (loss : Loss) → Is s → Keeps (losing c s loss)
-  loses s loss k = all_firms (tracks_of s) (lost_by c (with_loss s loss) loss) (lost_is (with_loss s loss) loss k)
-
-  -- Notices, and what the port is told: no act is noted
-
-  module _ (acts : List Act) where
-    abbrev IsWith : Store F P H → Type 0
-    IsWith s = Is s × (s.acts ≡ acts)
-
-    abbrev KeepsWith : {X : Type 0} → Interaction R Image (Store F P H) X → Type 0
-    KeepsWith i = Surely i (λ s a. IsWith s)
-
-    either_with : (b : Bool) (s z : Store F P H) → IsWith s → IsWith z → IsWith (if b then s else z)
-    either_with b s z k l = cond_both b s z IsWith (λ e. k) (λ e. l)
-
-    mutual_heard : (m : ℕ) (s : Store F P H) (o : Option ℕ) → ((z : Store F P H) → IsWith z → KeepsWith (hear c m z)) → IsWith s → KeepsWith (heard c (hear c m) s o)
-    mutual_heard m s None f k = s_done k
-    mutual_heard m s (Some t) f k = f _ (either_with (owed.is_clean c (frame_at s t)) _ s k k)
-
-    hears : (m : ℕ) (s : Store F P H) → IsWith s → KeepsWith (hear c m s)
-    unfolding owed.hear
-    hears zero s k = s_done k
-    hears (suc m) s k = s_ask (λ a. mutual_heard m s a (hears m) k)
-
-    freed : (s : Store F P H) (o : Option ℕ) → IsWith s → KeepsWith (freed_told c s o)
-    freed s None k = s_done k
-    freed s (Some slot) k = s_ask (λ _. s_done k)
-
-    modifieds : (t : ℕ) (s : Store F P H) → IsWith s → KeepsWith (modified_told c t s)
-    modifieds t s k = s_if ((owed_at s t).modified && is_modified c (frame_at s t)) (λ _. s_ask (λ _. s_done k)) (λ _. s_done k)
-
-    droppeds : (t : ℕ) (s : Store F P H) → IsWith s → KeepsWith (dropped_told c t s)
-    droppeds t s k = s_if (owed_at s t).dropped (λ _. s_ask (λ _. s_done k)) (λ _. s_done k)
-
-    debt : (t : ℕ) (s : Store F P H) → IsWith s → KeepsWith (settles_debt c t s)
-    debt t s k =
-        s_then (modifieds t s k) (λ z _ l. s_then (droppeds t z l) (λ y _ m. s_then (freed y (owed_at y t).freed m) (λ x _ o. s_done o)))
-
-    told_track : (t : ℕ) (s : Store F P H) → IsWith s → KeepsWith (track_told c t s)
-    told_track t s k = s_if (is_owed c (owed_at s t)) (λ _. debt t s k) (λ _. s_done k)
-
-    told_all : (m : ℕ) (s : Store F P H) → IsWith s → KeepsWith (all_told c m s)
-    unfolding owed.all_told
-    told_all zero s k = s_done k
-    told_all (suc m) s k = s_then (told_all m s k) (λ z _ l. told_track m z l)
-
-    waits_told : (before : ℕ) (s : Store F P H) → IsWith s → KeepsWith (waiting_told c before s)
-    waits_told before s k = s_if (waiting_count c s == before) (λ _. s_done k) (λ _. s_ask (λ _. s_done k))
-
-    ends : (before : ℕ) (s : Store F P H) → IsWith s → KeepsWith (ended c before s)
-    ends before s k = s_then (told_all (tracks_of s) s k) (λ z _ l. waits_told before z l)
-
-  -- Images
-
-  second_got : (o : Option Side) (s : Store F P H) (r : Option R) → Is s → Keeps (second_read c o s r)
-  second_got o s (Some r) k = s_done k
-  second_got o s None k = s_then (failed s B None k) (λ z _ l. s_done l)
-
-  got_b : (s : Store F P H) (t : ℕ) (o : Option Side) → Is s → Keeps (read_b c s t o)
-  got_b s t o k = s_if (level_at s.b t) (λ _. s_read (λ r. second_got o (read_counted s (is_some r)) r k)) (λ _. s_done k)
-
-  first_got : (t : ℕ) (s : Store F P H) (r : Option R) → Is s → Keeps (first_read c t s r)
-  first_got t s (Some r) k = s_done k
-  first_got t s None k = s_then (failed s A None k) (λ z _ l. got_b z t (Some A) l)
-
-  got_level : (s : Store F P H) (t : ℕ) → Is s → Keeps (level_bytes c s t)
-  unfolding images.level_bytes
-  got_level s t k = s_if (level_at s.a t) (λ _. s_read (λ r. first_got t (read_counted s (is_some r)) r k)) (λ _. got_b s t None k)
-
-  queued_is : (o : Option ℕ) (s : Store F P H) (t : ℕ) → Is s → Is (queued o s t)
-  queued_is None s t k = k
-  queued_is (Some last) s t k = either (nat_le t last) _ s (either (nat_lt (length s.queue) 64) _ s k k) k
-
-  ahead_is : (u : Usage) (s : Store F P H) (t : ℕ) → Is s → Is (ahead u s t)
-  ahead_is u s t k = either (is_sequential u.mode) _ s (queued_is u.last (queued u.last s (t + 1)) (t + 2) (queued_is u.last s (t + 1) k)) k
-
-  fills : (s : Store F P H) (t : ℕ) (i : Image) → Is s → Keeps (filled c s t i)
-  fills s t i k =
-      s_if (is_some (patch_at s t)) (λ _. s_ask (λ _. s_done k)) (λ _. s_done k)
-
-  granted_had : (s : Store F P H) (t : ℕ) (i : Image) (given : Bool) → Is s → Had (granted c s t i given)
-  granted_had s t i given k = s_if given (λ _. s_then (fills s t i k) (λ z _ l. s_done (l, tt))) (λ _. s_done (k, tt))
-
-  loads : (s : Store F P H) (t : ℕ) (i : Image) (mode : Mode) → Is s → Had (loaded c s t i mode)
-  loads s t i mode k = s_if (images.loads mode) (λ _. s_try (s_ask (λ given. granted_had s t i given k))) (λ _. s_done (k, tt))
-
-  delivers : (u : Usage) (t : ℕ) (side : Side) (s : Store F P H) (o : Option Image) → Is s → Had (delivered c u t side s o)
-  delivers u t side s None k = s_done (k, tt)
-  delivers u t side s (Some i) k = loads (ahead u s t) t i u.mode (ahead_is u s t k)
-
-  misses_by : (u : Usage) (t : ℕ) (s : Store F P H) (got : Got R) (o : Option R) → Is s → Had (missed c u t s got o)
-  misses_by u t s got None k = s_done (k, tt)
-  misses_by u t s got (Some r) k = s_try (delivers u t got.side s (image_of c s t r) k)
-
-  misses : (s : Store F P H) (u : Usage) (t : ℕ) → Is s → Had (miss c s u t)
-  misses s u t k = s_then (got_level s t k) (λ z got l. misses_by u t z got got.bytes l)
-
-  clean_had : (s : Store F P H) (u : Usage) (t : ℕ) (f : F) → Is s → Had (clean_image c s u t f)
-  clean_had s u t f k =
-      s_if (is_bypass u.mode) (λ _. misses s u t k)
-      (λ _. s_ask (λ listed. s_if listed (λ _. s_done (k, tt)) (λ _. misses (with_frame s t None) u t k)))
-
-  image_had : (s : Store F P H) (u : Usage) (t : ℕ) (o : Option F) → Is s → Had (image_by c s u t o)
-  image_had s u t None k = misses s u t k
-  image_had s u t (Some f) k =
-      s_if (c.modified f) (λ _. s_done (k, tt)) (λ _. clean_had s u t f k)
-
-  images_had : (s : Store F P H) (u : Usage) (t : ℕ) → Is s → Had (image c s u t)
-  unfolding images.image
-  images_had s u t k = image_had s u t (frame_at s t) k
-
-  -- Writes
-
-  slots : (s : Store F P H) (t : ℕ) (o : SlotGrant) → Is s → Keeps (slot_by c s t o)
-  slots s t (grants.Given slot) k = s_ask (λ listed. s_if listed (λ _. s_done k) (λ _. s_ask (λ _. s_done k)))
-  slots s t grants.Denied k = s_done k
-  slots s t grants.Down k = s_done k
-
-  fasts : (s : Store F P H) (t : ℕ) (patched : Bool) → Is s → Keeps (fast_by c s t patched)
-  fasts s t patched k = s_if patched (λ _. s_ask (λ _. s_done k)) (λ _. s_ask (λ a. slots s t a k))
-
-  fast : (s : Store F P H) (u : Usage) (t : ℕ) → Is s → Keeps (fast_or_through c s u t)
-  fast s u t k = s_if (may_be_fast c s u t) (λ _. fasts s t (is_some (patch_at s t)) k) (λ _. s_done k)
-
-  loose_chosen : (s : Store F P H) (u : Usage) (t : ℕ) → Is s → Keeps (choose_loose c s u t)
-  loose_chosen s u t k = s_if u.provisional (λ _. s_ask (λ _. s_done k)) (λ _. s_done k)
-
-  firm_chosen : (s : Store F P H) (u : Usage) (t : ℕ) → Is s → Keeps (choose_firm c s u t)
-  firm_chosen s u t k =
-      s_if (u.provisional && is_clean c (frame_at s t)) (λ _. s_ask (λ listed. s_if listed (λ _. s_done k) (λ _. fast s u t k))) (λ _. fast s u t k)
-
-  chosen : (s : Store F P H) (u : Usage) (t : ℕ) → Is s → Keeps (choose c s u t)
-  unfolding choosing.choose
-  chosen s u t k =
-      s_if (is_loose s t) (λ _. loose_chosen s u t k) (λ _. firm_chosen s u t k)
-
-  everywhere : (s : Store F P H) (t : ℕ) → Is s → Is (stale_everywhere s t)
-  everywhere s t k = either s.paired _ _ k k
-
-  first_firm : (s : Store F P H) (t : ℕ) → Is s → Keeps (firm_first c s t)
-  first_firm s t k = s_if (is_loose s t) (λ _. s_firm (s_done (everywhere (hardened s t) t k))) (λ _. s_done k)
-
-  undone : (s : Store F P H) (t : ℕ) → Is s → Is (unwritten c s t)
-  undone s t k = settled_is (if s.paired then s else with_stale s A t true) t (either s.paired s (with_stale s A t true) k k)
-
-  last_b : (t : ℕ) (o : Option Side) (side : Side) (s : Store F P H) (ok : Bool) → Is s → Keeps (alone_b c t o side s ok)
-  last_b t o side s ok k = s_if ok (λ _. s_done k) (λ _. s_then (failed s B (Some t) k) (λ z _ l. s_done (undone z t l)))
-
-  after_a : (t : ℕ) (r : R) (takes : Bool) (s : Store F P H) → Is s → Keeps (failed_a c t r takes s)
-  after_a t r takes s k = s_if takes (λ _. s_write (λ ok. last_b t (Some A) A (write_counted s ok) ok k)) (λ _. s_done (undone s t k))
-
-  on_a : (t : ℕ) (r : R) (s : Store F P H) (ok : Bool) → Is s → Keeps (first_a c t r s ok)
-  on_a t r s ok k =
-      s_if ok (λ _. s_done (either s.b.up _ _ k k)) (λ _. s_then (failed s A (Some t) k) (λ z _ l. after_a t r (takes_b s) z l))
-
-  firsts : (s : Store F P H) (t : ℕ) (r : R) → Is s → Keeps (write_first c s t r)
-  unfolding writing.write_first
-  firsts s t r k =
-      s_if s.a.up (λ _. s_write (λ ok. on_a t r (write_counted s ok) ok k))
-      (λ _. s_if (takes_b s) (λ _. s_write (λ ok. last_b t None B (write_counted s ok) ok k)) (λ _. s_done (settled_is s t k)))
-
-  tries_b : (t : ℕ) (s : Store F P H) (ok : Bool) → Is s → Keeps (tried_b c t s ok)
-  tries_b t s ok k = s_if ok (λ _. s_done k) (λ _. failed s B (Some t) k)
-
-  seconds : (s : Store F P H) (t : ℕ) (r : R) → Is s → Keeps (write_second c s t r)
-  unfolding writing.write_second
-  seconds s t r k = s_if (takes_b s) (λ _. s_write (λ ok. tries_b t (write_counted s ok) ok k)) (λ _. s_done k)
-
-  frees : (s : Store F P H) (t : ℕ) (o : Option ℕ) → Is s → Keeps (slot_freed c s t o)
-  frees s t None k = s_done k
-  frees s t (Some slot) k = s_ask (λ _. s_done k)
-
-  unpatches : (s : Store F P H) (t : ℕ) → Is s → Keeps (unpatched c s t)
-  unpatches s t k = frees s t (losses.slot_in c (patch_at s t)) k
-
-  dones : (s : Store F P H) (t : ℕ) (i : Image) (bypass : Bool) → Is s → Keeps (write_done c s t i bypass)
-  unfolding writing.write_done
-  dones s t i bypass k =
-      s_if (is_some (frame_at s t))
-      (λ _. s_if bypass (λ _. s_ask (λ _. unpatches (with_frame s t None) t k)) (λ _. s_ask (λ _. unpatches (with_frame s t (Some (c.frame i false))) t k)))
-      (λ _. unpatches s t k)
-
-  wholes : (s : Store F P H) (t : ℕ) (i : Image) (e : Edit) (bypass : Bool) → Is s → Keeps (whole c s t i e bypass)
-  wholes s t i e bypass k = s_firm (s_then (dones (with_edit s t e) t i bypass k) (λ z _ l. s_done l))
-
-  at_onces : (s : Store F P H) (t : ℕ) (i : Image) (e : Edit) (bypass : Bool) → Is s → Keeps (at_once c s t i e bypass)
-  at_onces s t i e bypass k =
-      s_then (seconds s t (c.bytes i) k) (λ z _ l. s_if (has_level z t) (λ _. wholes z t i e bypass l) (λ _. s_done (settled_is z t l)))
-
-  half_opens : (s : Store F P H) (t : ℕ) (i : Image) (origin : Origin) (was : Bool) → Is s → Keeps (half_open c s t i origin was)
-  half_opens s t i origin was k = s_if was (λ _. s_ask (λ _. s_done k)) (λ _. s_done k)
-
-  throughs_by : (t : ℕ) (i : Image) (e : Edit) (bypass opens was : Bool) (s : Store F P H) (took : Took) → Is s →
-      Keeps (through_by c t i e bypass opens was s took)
-  throughs_by t i e bypass opens was s Whole k = wholes s t i e bypass k
-  throughs_by t i e bypass opens was s Opened k =
-      s_if opens (λ _. s_then (half_opens s t i (OfCommand bypass e) was k) (λ z _ l. s_done l))
-      (λ _. at_onces s t i e bypass k)
-  throughs_by t i e bypass opens was s Unwritten k = s_done k
-
-  throughs : (s : Store F P H) (t : ℕ) (i : Image) (e : Edit) (bypass opens : Bool) → Is s → Keeps (through c s t i e bypass opens)
-  unfolding editing.through
-  throughs s t i e bypass opens k =
-      s_then (first_firm s t k)
-      (λ z was l. s_then (firsts z t (c.bytes i) l) (λ y w m. throughs_by t i e bypass opens was y w.took m))
-
-  writes_by : (u : Usage) (first t : ℕ) (i : Image) (e : Edit) (s : Store F P H) (choice : Choice) → Is s → Keeps (write_by c u first t i e s choice)
-  writes_by u first t i e s choices.Provisional k = s_done (either (is_loose s t) s (loosened s t) k k)
-  writes_by u first t i e s (choices.Fast slot) k = s_firm (s_done k)
-  writes_by u first t i e s choices.Through k = throughs s t i e _ _ k
-
-  writtens : (u : Usage) (first t : ℕ) (i : Image) (e : Edit) (s : Store F P H) (choice : Choice) → Is s → Had (written c s u first t i e choice)
-  writtens u first t i e s choice k = s_then (writes_by u first t (edited_image e i) e s choice k) (λ z _ l. s_done (l, tt))
-
-  chosen_had : (u : Usage) (first t : ℕ) (i : Image) (e : Edit) (s : Store F P H) (choice : Choice) → Is s → Had (write_chosen c u first t i e s choice)
-  chosen_had u first t i e s choice k =
-      s_if (is_given c s choice) (λ _. s_before (writtens u first t i e s choice k)) (λ _. writtens u first t i e s choice k)
-
-  writes : (s : Store F P H) (u : Usage) (first t : ℕ) (i : Image) (e : Edit) → Is s → Had (write c s u first t i e)
-  unfolding editing.write
-  writes s u first t i e k = s_try (s_then (chosen s u t k) (λ z choice l. chosen_had u first t i e z choice l))
-
-  -- Work in the background
-
-  saveds_by : (t : ℕ) (i : Image) (d : Did) (fault : Option Side) (was : Bool) (failed : Option Side) (s : Store F P H) (took : Took) → Is s →
-      Keeps (saved_by c t i d fault was failed s took)
-  saveds_by t i d fault was failed s Whole k = s_then (dones s t i false k) (λ z _ l. s_done l)
-  saveds_by t i d fault was failed s Opened k = s_then (half_opens s t i OfBackground was k) (λ z _ l. s_done l)
-  saveds_by t i d fault was failed s Unwritten k = s_done k
-
-  savings : (s : Store F P H) (t : ℕ) (i : Image) (d : Did) (fault : Option Side) → Is s → Keeps (saving c s t i d fault)
-  savings s t i d fault k =
-      s_then (first_firm s t k)
-      (λ z was l. s_then (firsts z t (c.bytes i) l) (λ y w m. saveds_by t i d fault was w.fault y w.took m))
-
-  saves : (s : Store F P H) (t : ℕ) (i : Image) (d : Did) (fault : Option Side) → Is s → Had (saved c s t i d fault)
-  saves s t i d fault k = s_try (s_then (savings s t i d fault k) (λ z e l. s_done (l, tt)))
-
-  recovers_image : (t : ℕ) (s : Store F P H) (got : Got R) (o : Option Image) → Is s → Had (recovered_image c t s got o)
-  recovers_image t s got None k = s_done (k, tt)
-  recovers_image t s got (Some i) k = saves s t i (Recovered t) got.fault k
-
-  recovers_bytes : (t : ℕ) (s : Store F P H) (got : Got R) (o : Option R) → Is s → Had (recovered_bytes c t s got o)
-  recovers_bytes t s got None k = s_done (k, tt)
-  recovers_bytes t s got (Some r) k = s_try (recovers_image t s got (image_of c s t r) k)
-
-  recovers : (s : Store F P H) (t : ℕ) (o : Option F) → Is s → Had (recover c s t o)
-  recovers s t (Some f) k = saves s t (losses.framed_image c s t (Some f)) (Recovered t) None k
-  recovers s t None k = s_then (got_level s t k) (λ z got l. recovers_bytes t z got got.bytes l)
-
-  copies : (t : ℕ) (side : Side) (s : Store F P H) (ok : Bool) → Is s → Had (copied c t side s ok)
-  copies t A s ok k = s_if ok (λ _. s_done (k, tt)) (λ _. s_then (failed s A None k) (λ z _ l. s_done (l, tt)))
-  copies t B s ok k = s_if ok (λ _. s_done (k, tt)) (λ _. s_then (failed s B None k) (λ z _ l. s_done (l, tt)))
-
-  copies_read : (t : ℕ) (side : Side) (s : Store F P H) (o : Option R) → Is s → Had (copy_read c t side s o)
-  copies_read t side s None k = s_then (failed s (works.other side) None k) (λ z _ l. s_done (l, tt))
-  copies_read t side s (Some r) k = s_write (λ ok. copies t side (write_counted s ok) ok k)
-
-  copies_by : (s : Store F P H) (t : ℕ) (o : Option Side) → Is s → Had (copy_by c s t o)
-  copies_by s t None k = s_done (k, tt)
-  copies_by s t (Some side) k = s_read (λ r. copies_read t side (read_counted s (is_some r)) r k)
-
-  stages_image : (t : ℕ) (s : Store F P H) (got : Got R) (o : Option Image) → Is s → Had (staged_image c t s got o)
-  stages_image t s got None k = s_ask (λ _. s_done (k, tt))
-  stages_image t s got (Some i) k = s_then (fills s t i k) (λ z _ l. s_done (l, tt))
-
-  stages_bytes : (t : ℕ) (s : Store F P H) (got : Got R) (o : Option R) → Is s → Had (staged_bytes c t s got o)
-  stages_bytes t s got None k = s_ask (λ _. s_done (k, tt))
-  stages_bytes t s got (Some r) k = s_try (stages_image t s got (image_of c s t r) k)
-
-  stages_given : (s : Store F P H) (t : ℕ) (given : Bool) → Is s → Had (works.granted c s t given)
-  stages_given s t given k = s_if given (λ _. s_then (got_level s t k) (λ z got l. stages_bytes t z got got.bytes l)) (λ _. s_done (k, tt))
-
-  one_staged : (s : Store F P H) (t : ℕ) → Is s → Had (stage c s t)
-  one_staged s t k =
-      s_if (is_some (frame_at s t) || is_lost s t) (λ _. s_done (k, tt)) (λ _. s_try (s_ask (λ given. stages_given s t given k)))
-
-  destages_first : (s : Store F P H) (o : Option ℕ) → Is s → Had (destage_first c s o)
-  destages_first s None k = s_done (k, tt)
-  destages_first s (Some t) k = saves s t (losses.framed_image c s t (frame_at s t)) (Destaged t) None k
-
-  stages_first : (s : Store F P H) (ts : List ℕ) → Is s → Had (stage_first c s ts)
-  stages_first s [] k = destages_first s (to_destage c s) k
-  stages_first s (t ∷ ts) k = one_staged (record s { queue = ts }) t k
-
-  copies_first : (s : Store F P H) (o : Option ℕ) → Is s → Had (copy_first c s o)
-  copies_first s None k = stages_first s s.queue k
-  copies_first s (Some t) k = copies_by s t (copies_to s t) k
-
-  recovers_first : (s : Store F P H) (o : Option ℕ) → Is s → Had (recover_first c s o)
-  recovers_first s None k = copies_first s (to_copy s) k
-  recovers_first s (Some t) k = recovers s t (frame_at s t) k
-
-  does_work : (s : Store F P H) → Is s → Had (work c s)
-  unfolding works.work
-  does_work s k = recovers_first s (to_recover c s) k
+  Is s = stores.Is c g n away s
 
   -- From track to track
 
@@ -668,7 +132,7 @@ module _ {F P H R : Type 0} (c : Contents F P H R) (g : Geometry) (n : ℕ) wher
         Goes (went_by c u first t s i chain p)
     wents u first t s i chain (progresses.Ended e) of k = s_done (k, of)
     wents u first t s i chain (progresses.Need q) of k = s_done (k, of)
-    wents u first t s i chain (progresses.Write q e) of k = s_then (writes s u first t i e k) (λ z o l. went_write chain t z o of l.0 l.1)
+    wents u first t s i chain (progresses.Write q e) of k = s_then (stores.writes c g n away s u first t i e k) (λ z o l. went_write chain t z o of l.0 l.1)
     wents u first t s i chain (progresses.Local act) of k = s_done (k, of)
 
     looks_by : (chain : ChainState) (first t : ℕ) (s : Store F P H) (o : Option Imaged) → IsOf ccws fixed chain → Is s → Answers o →
@@ -682,7 +146,7 @@ module _ {F P H R : Type 0} (c : Contents F P H R) (g : Geometry) (n : ℕ) wher
     looks : (chain : ChainState) (first t : ℕ) (s : Store F P H) → IsOf ccws fixed chain → Is s → Goes (look c chain first t s)
     unfolding commands.look
     looks chain first t s of k =
-        s_if (is_lost s t) (λ _. s_done (k, of)) (λ _. s_then (images_had s (usage_of chain) t k) (λ z o l. looks_by chain first t z o of l.0 l.1))
+        s_if (is_lost s t) (λ _. s_done (k, of)) (λ _. s_then (stores.images_had c g n away s (usage_of chain) t k) (λ z o l. looks_by chain first t z o of l.0 l.1))
 
     abbrev Follows : Interaction R Image (Store F P H) (Option Turn) → Type 0
     Follows i = Surely i (λ s w. Is s × TurnOf ccws fixed w)
@@ -770,38 +234,41 @@ module _ {F P H R : Type 0} (c : Contents F P H R) (g : Geometry) (n : ℕ) wher
       by_running d (Some r) None runs has is same of begins = absurd has
       by_running d (Some r) (Some chain) runs has is same of begins = by_chain d r chain is same of begins
 
-      ended_by : {X : Type 0} (old d : Device F P H) (a : Option X) → IsNoted d → Answers a → Leaves (event_ended c old d a)
-      ended_by old d a k h =
-          s_then (ends d.store.acts _ d.store (k.is, refl)) (λ z _ l. s_done (
+      ended_noted : {X : Type 0} (old d : Device F P H) (a : X) → IsNoted d → Surely (event_ended c old d a) (λ y b. IsNoted y × (b ≡ a))
+      ended_noted old d a k =
+          s_then (stores.ends c g n away d.store.acts _ d.store (k.is, refl)) (λ z _ l. s_done (
             record {
               is = l.0;
               plans_are = k.plans_are;
               chain = k.chain;
               acts = subst (λ (acts : List Act). Brought before d.history acts) (sym l.1) k.acts;
             },
-            h,
+            refl,
           ))
+
+      ended_by : {X : Type 0} (old d : Device F P H) (a : Option X) → IsNoted d → Answers a → Leaves (event_ended c old d a)
+      ended_by old d a k h = surely_so (λ y b l. (l.0, subst Answers (sym l.1) h)) (ended_noted old d a k)
 
       -- a command of the program that runs
       pub command_stays : (d : Device F P H) → Answers d.history.running → Answers d.chain → Is d.store → d.plans ≡ plans → HasOf ccws fixed d.chain →
           d.history ≡ before → Leaves (command c d)
       unfolding commands.command
       command_stays d runs has is same of at =
-          s_try (s_then (s_then (hears [] 960 (event_begun d).store (is, refl))
+          s_try (s_then (s_then (stores.hears c g n away [] 960 (event_begun d).store (is, refl))
           (λ s _ l. by_running (record (event_begun d) { store = s }) d.history.running d.chain runs has l.0 same of (at, l.1)))
           (λ y a l. ended_by d y a l.0 l.1))
 
       -- work in the background
       worked_on : (d : Device F P H) → Is d.store → d.plans ≡ plans → HasOf ccws fixed d.chain → d.history ≡ before →
           Leaves (and_then (work c d.store) (λ z a. Done (with_store d z) a))
-      worked_on d is same of at = s_then (does_work d.store is) (λ z a m. left_so z a m.0 m.1) where
+      worked_on d is same of at = s_then (stores.does_work c g n away d.store is) (λ z a m. left_so z a m.0 m.1) where
         left_so : (z : Store F P H) (a : Option Did) → Is z → Answers a → Leaves (Done (with_store d z) a)
         left_so z a k h = s_done (record { is = k; plans_are = same; chain = of; acts = all_brought before d.history z.acts at }, h)
 
       pub background_stays : (d : Device F P H) → Is d.store → d.plans ≡ plans → HasOf ccws fixed d.chain → d.history ≡ before → Leaves (background c d)
       unfolding happened.background
       background_stays d is same of at =
-          s_then (s_then (hears [] 960 (event_begun d).store (is, refl))
+          s_then (s_then (stores.hears c g n away [] 960 (event_begun d).store (is, refl))
           (λ s _ l. worked_on (record (event_begun d) { store = s }) l.0 same of at))
           (λ y a l. ended_by d y a l.0 l.1)
 
@@ -812,13 +279,13 @@ module _ {F P H R : Type 0} (c : Contents F P H R) (g : Geometry) (n : ℕ) wher
       loses_on : (d : Device F P H) (loss : Loss) → Is d.store → d.plans ≡ plans → HasOf ccws fixed d.chain → d.history ≡ before →
           Surely (and_then (losing c d.store loss) (λ s _. Done (with_store d s) (tt {0}))) (λ y _. HasNoted y)
       loses_on d loss is same of at =
-          s_then (loses d.store loss is)
+          s_then (stores.loses c g n away d.store loss is)
           (λ z _ m. s_done
           (record { is = m; plans_are = same; chain = of; acts = all_brought before d.history z.acts at }, ap (λ (h : History). all_acted h z.acts) at))
 
       ended_so : {X : Type 0} (old d : Device F P H) (a : X) → HasNoted d → Surely (event_ended c old d a) (λ y _. HasNoted y)
       ended_so old d a k =
-          s_then (ends d.store.acts _ d.store (k.0.is, refl)) (λ z _ l. s_done (
+          s_then (stores.ends c g n away d.store.acts _ d.store (k.0.is, refl)) (λ z _ l. s_done (
             record {
               is = l.0;
               plans_are = k.0.plans_are;
@@ -832,23 +299,15 @@ module _ {F P H R : Type 0} (c : Contents F P H R) (g : Geometry) (n : ℕ) wher
           Surely (lose c d loss) (λ y _. HasNoted y)
       unfolding happened.lose
       lose_stays d loss is same of at =
-          s_then (s_then (hears [] 960 (event_begun d).store (is, refl))
+          s_then (s_then (stores.hears c g n away [] 960 (event_begun d).store (is, refl))
           (λ s _ l. loses_on (record (event_begun d) { store = s }) loss l.0 same of at))
           (λ y a l. ended_so d y a l)
 
       -- a reset
-      halves : (s : Store F P H) (o : Option (HalfWrite H)) → Is s → Keeps (half_cut c s o)
-      halves s None k = s_done k
-      halves s (Some h) k = origins h.origin where
-        origins : (x : Origin) → Keeps (origin_cut c s h x)
-        origins (OfCommand bypass e) = s_firm (s_done k)
-        origins (OfCut bypass) = s_done k
-        origins OfBackground = s_done k
-
       resets_by : (d : Device F P H) (path : ℕ) (r : Option OpenEntry) → Stays [] d → Surely (reset_by c d path r) (λ y _. Stays [] y)
       resets_by d path (Some o) k =
           s_if (o.path == path)
-          (λ _. s_then (halves d.store d.store.half k.is)
+          (λ _. s_then (stores.halves_cut c g n away d.store d.store.half k.is)
           (λ s _ l. s_done (record { is = l; plans_are = k.plans_are; chain = tt; acts = reset_brought before d.history path _ k.acts })))
           (λ _. s_done (record { is = k.is; plans_are = k.plans_are; chain = k.chain; acts = reset_brought before d.history path 0 k.acts }))
       resets_by d path None k =
@@ -859,3 +318,64 @@ module _ {F P H R : Type 0} (c : Contents F P H R) (g : Geometry) (n : ℕ) wher
       pub reset_stays : (d : Device F P H) (path : ℕ) → Stays [] d → Surely (reset c d path) (λ y _. Stays [] y)
       unfolding cutting.reset
       reset_stays d path k = resets_by d path d.history.running k
+
+      -- the second part of a write
+      abbrev pub Notes : {X : Type 0} → Interaction R Image (Device F P H) X → Type 0
+      Notes i = Surely i (λ y _. IsNoted y)
+
+      turn_of : (chain : ChainState) (done : Bool) → IsOf ccws fixed chain → IsOf ccws fixed (second_turn c chain done).chain
+      turn_of chain done of =
+          cond_both done (settles chain Written) (checks chain Equipment) (λ (turn : Turn). IsOf ccws fixed turn.chain) (λ _. of) (λ _. of)
+
+      is_so : (d : Device F P H) → Is d.store → d.plans ≡ plans → HasOf ccws fixed d.chain → Brought before d.history d.store.acts → IsNoted d
+      is_so d is same of came = record { is = is; plans_are = same; chain = of; acts = came }
+
+      command_over : (d : Device F P H) (t : ℕ) (r : Option OpenEntry) (o : Option ChainState) (done : Bool) → IsNoted d → d.chain ≡ o →
+          Notes (command_ended c d t r o done)
+      command_over d t None None done k at = s_done k
+      command_over d t None (Some chain) done k at = s_done k
+      command_over d t (Some r) None done k at = s_done k
+      command_over d t (Some r) (Some chain) done k at =
+          let turn = second_turn c chain done in
+          s_done (turns_by d r.path turn.chain turn.came k.is k.plans_are (turn_of chain done (subst (HasOf ccws fixed) at k.chain)) k.acts)
+
+      second_over : (d : Device F P H) (t : ℕ) (origin : Origin) (done : Bool) → IsNoted d → Notes (second_ended c d t origin done)
+      second_over d t (OfCommand bypass e) done k = command_over d t d.history.running d.chain done k refl
+      second_over d t (OfCut bypass) done k = s_done k
+      second_over d t OfBackground done k = s_done k
+
+      seconds_of : (d : Device F P H) (o : Option (HalfWrite H)) → Is d.store → d.plans ≡ plans → HasOf ccws fixed d.chain → Begins d → Notes (second_of c d o)
+      seconds_of d None is same of begins = s_done (is_so d is same of (brought_none before d.history d.store.acts begins.0 begins.1))
+      seconds_of d (Some h) is same of begins =
+          s_then (stores.second_parts c g n away d.store h is)
+          (λ s done l. second_over (with_store d s) h.track h.origin done
+          (is_so (with_store d s) l same of (all_brought before d.history s.acts begins.0)))
+
+      pub second_stays : (d : Device F P H) → Is d.store → d.plans ≡ plans → HasOf ccws fixed d.chain → d.history ≡ before → Notes (second c d)
+      unfolding happened.second
+      second_stays d is same of at =
+          s_then (s_then (stores.hears c g n away [] 960 (event_begun d).store (is, refl))
+          (λ s _ l. seconds_of (record (event_begun d) { store = s }) s.half l.0 same of (at, l.1)))
+          (λ y a l. surely_so (λ z b m. m.0) (ended_noted d y a l))
+
+      -- a device that is lent has the history that it had
+      pub record HasGone (to : ℕ) (y : Device F P H) : Type 0 where
+        pub is : stores.Is c g n (Some to, away.1) y.store
+        pub plans_are : y.plans ≡ plans
+        pub chain : HasOf ccws fixed y.chain
+        pub history : y.history ≡ before
+
+      gone_over : {X : Type 0} (to : ℕ) (old d : Device F P H) (a : X) → HasGone to d → Surely (event_ended c old d a) (λ y _. HasGone to y)
+      gone_over to old d a k =
+          s_then (stores.ends c g n (Some to, away.1) d.store.acts _ d.store (k.is, refl))
+          (λ z _ m. s_done (record { is = m.0; plans_are = k.plans_are; chain = k.chain; history = k.history }))
+
+      goes : (d : Device F P H) (to : ℕ) → Is d.store → d.plans ≡ plans → HasOf ccws fixed d.chain → d.history ≡ before →
+          Surely (Done {R = R} {I = Image} (with_tracks d (lent_to (over (tracks_of d.store) (given_up c) d.store) to)) (tt {0})) (λ y _. HasGone to y)
+      goes d to is same of at =
+          s_done (record { is = stores.lent_is c g n away d.store to is; plans_are = same; chain = of; history = at })
+
+      pub lend_stays : (d : Device F P H) (to : ℕ) → Is d.store → d.plans ≡ plans → HasOf ccws fixed d.chain → d.history ≡ before →
+          Surely (lend c d to) (λ y _. HasGone to y)
+      unfolding orders.lend
+      lend_stays d to is same of at = s_then (goes (event_begun d) to is same of at) (λ y a l. gone_over to d y a l)

@@ -1,5 +1,5 @@
 -- From what an event of all devices came to, to what happens in a run, and what it tells.
-use Rattle.std.proofs.Common.{◌≡◌, ◌<◌, ◌≤◌, ◌∙◌, ◌+◌, ◌++◌, add-one, arith, ℕ, zero, suc, Bool, true, false, List, [], ◌∷◌, Option, Some, None, length, drop, get_or, map, refl, sym, ap, subst, append_assoc}
+use Rattle.std.proofs.Common.{◌≡◌, ◌<◌, ◌≤◌, ◌∙◌, ◌+◌, ◌++◌, add-one, ℕ, zero, suc, Bool, true, false, List, [], ◌∷◌, Option, Some, None, length, drop, get_or, map, refl, sym, ap, subst, append_assoc}
 use Rattle.std.specs.Prelude.{IfSome, ◌==◌, not, if◌then◌else◌, slice_index_or}
 use Rattle.std.proofs.lemmas.Bool.{cond_both}
 use Rattle.std.proofs.lemmas.List.{append-nil, drop_all}
@@ -24,7 +24,6 @@ use Rattle.device_core.specs.declared.device.Device.{Device}
 use Rattle.device_core.specs.declared.past.Past.{Past}
 use Rattle.device_core.specs.State.{DefinedDevice, device_of}
 use Rattle.frame_pool.specs.Shared.{Shared, shared_view}
-use Rattle.report_text.specs.declared.event.Loosed.{Loosed}
 use Rattle.report_text.specs.declared.line.ReportLine.{ReportLine}
 use Rattle.report_text.specs.declared.line.ReportLine.TheVariants as told_lines
 use Rattle.run_report.specs.Answers.{order_answer}
@@ -41,7 +40,6 @@ use Rattle.subsystem_core.specs.declared.end.EventEnd.TheVariants as seen
 use Rattle.subsystem_core.specs.declared.subsystem.Subsystem.{Subsystem}
 use Rattle.subsystem_core.specs.Comes.{OwnDeed, Talk, AskedWith, CameBy, Came, Swept, over, next}
 use Rattle.subsystem_core.specs.Devices.{devices_of, numbers_of}
-use Rattle.subsystem_core.specs.Ends as seeing
 use Rattle.subsystem_core.specs.Ends.{end_seen}
 use Rattle.subsystem_core.specs.Places.{may_come}
 use Rattle.subsystem_core.proofs.Running.{at_hand}
@@ -52,7 +50,7 @@ use Rattle.subsystem_defs.specs.declared.event.Event.{Event}
 use Rattle.subsystem_defs.specs.declared.event.Event.TheVariants as events
 use Rattle.subsystem_defs.specs.Beside.{has_power, loose_count, new_acts, new_items}
 use Rattle.subsystem_defs.specs.Deeds as D
-use Rattle.subsystem_defs.specs.Deeds.{Ends, Becomes, Asks, Each, Repairs, Lends, deed, end_of}
+use Rattle.subsystem_defs.specs.Deeds.{Ends, Each, Repairs, deed, end_of}
 use Rattle.subsystem_defs.specs.Happening as H
 use Rattle.subsystem_defs.specs.Happening.{MarksDeed, happens, happens_by}
 use Rattle.subsystem_defs.specs.Lines.{Once, logged}
@@ -61,19 +59,20 @@ use Rattle.subsystem_defs.specs.Subsystem.{Mounted}
 use Rattle.subsystem_laws.specs.WholeComes as laws
 use Rattle.subsystem_laws.specs.WholeComes.{subsystem_of, IsWhatCame}
 use Rattle.subsystem_laws.proofs.WholeHappens.{event_so}
-use Rattle.deck_run.specs.Owning.{AreOwn, ChainsStand, GivesAll, IsOwn, PlansGive}
+use Rattle.deck_run.specs.Owning.{AllOwn, AreOwn, ChainsStand, GivesAll, IsOwn, PlansGive}
 use Rattle.deck_run.specs.Standing.{StandsAs, stood_of, all_stood}
 use Rattle.deck_run.specs.Loosening.{acts_when, all_loosed, is_quiet}
 use Rattle.deck_run.specs.declared.all.Stock.{Stock}
-use Rattle.deck_run.specs.Recording.{loosed_between}
 use Rattle.deck_run.specs.Sweeping.{IsOpenOfAll, TellsAll, gone_lines, gone_one, head_or, no_stock, order_end, order_of, stock_of, tail_of}
 use Rattle.deck_run.proofs.Acting.{none_behind, power_new}
-use Rattle.deck_run.proofs.Events.{hears, lose_owns}
+use Rattle.deck_run.proofs.Events.{KeptOwn, hears, lose_owns}
 use Rattle.deck_run.proofs.Found.{chains_are, devices_stood}
 use Rattle.deck_run.proofs.Powering.{IsPowered, power_so}
 use Rattle.deck_run.proofs.Recorded.{before_is}
 use Rattle.deck_run.proofs.Surely.{ran_so}
-use Rattle.deck_run.proofs.Telling.{AreKnown, IsKnown, all_known, all_loose_none, all_over_none, loose_by, over_by}
+use Rattle.deck_run.proofs.Telling.{AreKnown, IsKnown, all_known, all_loose_none, all_over_none, loose_by, over_by, same_pasts}
+use Rattle.deck_run.specs.Sides.{AreAccounted, Sides, all_sides, sides_of}
+use Rattle.deck_run.proofs.Accounted.{asked_sides, ran_there}
 
 some_same : {X : Type 0} {x y : X} → Some x ≡ Some y → x ≡ y
 some_same e = cc
@@ -254,21 +253,23 @@ module _ {V : Type 0} {G : Ghosts V} where
   record IsGained (x y : Device V G) : Type 0 where
     pub own : IsOwn (device_of y)
     pub number : y.store.number ≡ x.store.number
+    pub sides : sides_of y ≡ sides_of x
     pub history : (device_of y).history ≡ all_acted (device_of x).history (device_of y).store.acts
 
   one_gained : (loss : Loss) (pool new : Shared) (x y : Device V G) → IsOwn (device_of x) → y.store.number ≡ x.store.number →
       AskedWith (λ ok. ok ≡ true) (lose contents (device_of x) loss) tt pool x y new → IsGained x y
   one_gained loss pool new x y own same asked =
       let k : NoKeep = record {} in
-      let l : IsOwn (device_of y) × ((device_of y).history ≡ all_acted (device_of x).history (device_of y).store.acts) =
-      ran_so (λ z u. IsOwn z × (z.history ≡ all_acted (device_of x).history z.store.acts)) (asked k)
-      (lose_owns (device_of x) loss (device_of x).chain refl refl own) in
-      record { own = l.0; number = same; history = l.1 }
+      let l : KeptOwn (device_of x) (device_of y) × ((device_of y).history ≡ all_acted (device_of x).history (device_of y).store.acts) =
+      ran_so (λ z u. KeptOwn (device_of x) z × (z.history ≡ all_acted (device_of x).history z.store.acts)) (asked k)
+      (lose_owns (device_of x) loss (device_of x).chain refl own) in
+      record { own = l.0.0; number = same; sides = asked_sides x y same l.0.1 (ran_there (asked k)); history = l.1 }
 
   -- the power is lost
   record IsCut (x y : Device V G) : Type 0 where
     pub own : IsOwn (device_of y)
     pub number : y.store.number ≡ x.store.number
+    pub sides : sides_of y ≡ sides_of x
     pub history : (device_of y).history ≡ lost_power (device_of x).history (counts_one_by (device_of x).store.half)
 
   one_cut : (pool new : Shared) (x y : Device V G) → IsOwn (device_of x) → y.store.number ≡ x.store.number →
@@ -276,7 +277,7 @@ module _ {V : Type 0} {G : Ghosts V} where
   one_cut pool new x y own same asked =
       let k : NoKeep = record {} in
       let l : IsPowered (device_of x) (device_of y) = ran_so (λ z u. IsPowered (device_of x) z) (asked k) (power_so (device_of x)) in
-      record { own = cut_own (device_of x) (device_of y) l own; number = same; history = l.history }
+      record { own = cut_own (device_of x) (device_of y) l own; number = same; sides = asked_sides x y same l.lent (ran_there (asked k)); history = l.history }
 
   -- each before and behind an event
 
@@ -288,17 +289,25 @@ module _ {V : Type 0} {G : Ghosts V} where
   all_both : (f : DefinedDevice → Talk (Unit {0})) (p : Device V G → Device V G → Type 0) →
       ((pool new : Shared) (x y : Device V G) → IsOwn (device_of x) → y.store.number ≡ x.store.number →
       AskedWith (λ ok. ok ≡ true) (f (device_of x)) tt pool x y new → p x y) →
-      {pool new : Shared} {xs ys : List (Device V G)} → AreOwn xs → numbers_of ys ≡ numbers_of xs → Swept f pool xs ys new → AreBoth p xs ys
+      {pool new : Shared} {xs ys : List (Device V G)} → AllOwn xs → numbers_of ys ≡ numbers_of xs → Swept f pool xs ys new → AreBoth p xs ys
   all_both f p one own same over = tt
   all_both f p one own same (next {pool = pool} {behind = behind} {x = x} {y = y} asked rest) =
       (one pool behind x y own.0 (head_same _ _ _ _ same) asked, all_both f p one own.1 (rest_same _ _ _ _ same) rest)
 
   both_own : (p : Device V G → Device V G → Type 0) → ((x y : Device V G) → p x y → IsOwn (device_of y)) → (xs ys : List (Device V G)) →
-      AreBoth p xs ys → AreOwn ys
+      AreBoth p xs ys → AllOwn ys
   both_own p one [] [] all = tt
   both_own p one [] (y ∷ ys) all = absurd all
   both_own p one (x ∷ xs) [] all = absurd all
   both_own p one (x ∷ xs) (y ∷ ys) all = (one x y all.0, both_own p one xs ys all.1)
+
+  both_sides : (p : Device V G → Device V G → Type 0) → ((x y : Device V G) → p x y → sides_of y ≡ sides_of x) → (xs ys : List (Device V G)) →
+      AreBoth p xs ys → all_sides ys ≡ all_sides xs
+  both_sides p one [] [] all = refl
+  both_sides p one [] (y ∷ ys) all = absurd all
+  both_sides p one (x ∷ xs) [] all = absurd all
+  both_sides p one (x ∷ xs) (y ∷ ys) all =
+      ap (λ (s : Sides). s ∷ all_sides ys) (one x y all.0) ∙ ap (λ (l : List Sides). sides_of x ∷ l) (both_sides p one xs ys all.1)
 
   swept_so : (f : DefinedDevice → Talk (Unit {0})) {pool new : Shared} {xs ys : List (Device V G)} → Swept f pool xs ys new →
       laws.Swept hears f pool.pool (all_stood xs) (all_stood ys) new.pool
@@ -423,10 +432,11 @@ module _ {V : Type 0} {G : Ghosts V} where
     pub end : ends.EventEnd
     pub seen : order_end a ≡ end
     pub comes : laws.CameBy hears d old.pool.pool (all_stood old.devices.items) end new.pool.pool (all_stood new.devices.items)
-    pub own : AreOwn new.devices.items
+    pub own : AllOwn new.devices.items
+    pub sides : all_sides new.devices.items ≡ all_sides old.devices.items
     pub tells : Tells e old new end
 
-  powered : (old new : Subsystem V G) (a : EventEnd) (pool : pools.Pool) → AreOwn old.devices.items →
+  powered : (old new : Subsystem V G) (a : EventEnd) (pool : pools.Pool) → AllOwn old.devices.items →
       numbers_of new.devices.items ≡ numbers_of old.devices.items → CameBy (Each pool (power contents)) old (Some a) new →
       Told events.Power (Each pool (power contents)) old new a
   powered old new a pool own numbers came =
@@ -436,21 +446,22 @@ module _ {V : Type 0} {G : Ghosts V} where
         seen = order_seen a answers.Done tt (came.0 blank);
         comes = (refl, swept_so (power contents) came.1);
         own = both_own IsCut (λ x y k. k.own) old.devices.items new.devices.items cut;
+        sides = both_sides IsCut (λ x y k. k.sides) old.devices.items new.devices.items cut;
         tells = λ ms ks all now.
             ap (λ (l : List ReportLine). l ++ told_lines.Order orders.Power (order_answer answers.Done) ∷ [])
             (each_told IsCut power_lines true answers.Done cut_told old.devices.items new.devices.items ms ks all now cut);
       }
 
-  module _ (e : Event) (work : IsWork e) (old new : Subsystem V G) (a : EventEnd) (own : AreOwn old.devices.items)
+  module _ (e : Event) (work : IsWork e) (old new : Subsystem V G) (a : EventEnd) (own : AllOwn old.devices.items)
       (numbers : numbers_of new.devices.items ≡ numbers_of old.devices.items) where
     -- no device is another
     still : (end : ends.EventEnd) → ((d : DefinedDevice) → acts_when (is_quiet e) end d ≡ []) → new.devices.items ≡ old.devices.items → Tells e old new end
     still end none is ms ks all now =
         let same = subst (λ (l : List (Device V G)). AreKnown (all_stood l) ks) is now in
         work_tells end (map device ms) (map device ks) (gone_lines (is_quiet e) end (map stock_of old.devices.items) new.devices.items)
-        (all_loose_none old.devices.items ms ks all same ∙ sym (gone_none (is_quiet e) end old.devices.items none)
+        (all_loose_none old.devices.items old.devices.items ms ks (same_pasts old.devices.items) all same ∙ sym (gone_none (is_quiet e) end old.devices.items none)
         ∙ ap (λ (l : List (Device V G)). gone_lines (is_quiet e) end (map stock_of old.devices.items) l) (sym is))
-        (all_over_none old.devices.items ms ks all same) e work
+        (all_over_none old.devices.items old.devices.items ms ks (same_pasts old.devices.items) all same) e work
 
     refused : (end : ends.EventEnd) → IsOrderEnd end → ((d : DefinedDevice) → acts_when (is_quiet e) end d ≡ []) → CameBy (Ends end) old (Some a) new →
         Told e (Ends end) old new a
@@ -458,7 +469,8 @@ module _ {V : Type 0} {G : Ghosts V} where
       end = end;
       seen = order_seen a end on (came.0 blank);
       comes = (refl, ap (λ s. s.pool) came.1.0, ap all_stood came.1.1);
-      own = subst AreOwn (sym came.1.1) own;
+      own = subst AllOwn (sym came.1.1) own;
+      sides = ap (λ (l : List (Device V G)). all_sides l) came.1.1;
       tells = still end none came.1.1;
     }
 
@@ -467,7 +479,8 @@ module _ {V : Type 0} {G : Ghosts V} where
       end = answers.Done;
       seen = order_seen a answers.Done tt (came.0 blank);
       comes = (refl, ap (λ s. s.pool) came.1, ap all_stood came.2);
-      own = subst AreOwn (sym came.2) own;
+      own = subst AllOwn (sym came.2) own;
+      sides = ap (λ (l : List (Device V G)). all_sides l) came.2;
       tells = still answers.Done (λ d. ap (λ (b : Bool). acts_when b answers.Done d) quiet) came.2;
     }
 
@@ -481,6 +494,7 @@ module _ {V : Type 0} {G : Ghosts V} where
           seen = order_seen a answers.Done tt (came.0 blank);
           comes = (refl, swept_so f came.1);
           own = both_own IsGained (λ x y k. k.own) old.devices.items new.devices.items g;
+          sides = both_sides IsGained (λ x y k. k.sides) old.devices.items new.devices.items g;
           tells = λ ms ks all now.
               work_tells answers.Done (map device ms) (map device ks)
               (gone_lines (is_quiet e) answers.Done (map stock_of old.devices.items) new.devices.items)
@@ -505,7 +519,7 @@ module _ {V : Type 0} {G : Ghosts V} where
         (λ _. cond_both (pools.all_waiting pool == 0) (Repairs repair) (Ends (answers.Pending (pools.all_waiting pool))) Claim
         (λ _. repaired repair quiet) (λ _. refused (answers.Pending (pools.all_waiting pool)) tt (λ d. refl)))
 
-  pub told_all : (e : Event) (old new : Subsystem V G) (a : EventEnd) → IsOpenOfAll e → AreOwn old.devices.items →
+  pub told_all : (e : Event) (old new : Subsystem V G) (a : EventEnd) → IsOpenOfAll e → AllOwn old.devices.items →
       numbers_of new.devices.items ≡ numbers_of old.devices.items → Came e old (Some a) new →
       Told e (deed contents old.pool.pool (devices_of old.devices.items) e) old new a
   unfolding D.deed
@@ -530,10 +544,10 @@ module _ {V : Type 0} {G : Ghosts V} where
   module _ (e : Event) (old new : Subsystem V G) (a : EventEnd) (on : IsOpenOfAll e) (own : AreOwn old.devices.items)
       (numbers : numbers_of new.devices.items ≡ numbers_of old.devices.items) (came : Came e old (Some a) new) where
     abbrev so : Told e (deed contents old.pool.pool (devices_of old.devices.items) e) old new a
-    so = told_all e old new a on own numbers came
+    so = told_all e old new a on own.each numbers came
 
     pub all_own : AreOwn new.devices.items
-    all_own = so.own
+    all_own = record { each = so.own; accounted = subst AreAccounted (sym so.sides) own.accounted }
 
     pub all_happens : (run : runs.Subsystem) → ChainsStand old.devices.items → StandsAs old run →
         ((happens run e).end ≡ order_end a) × StandsAs new (happens run e).behind
@@ -543,7 +557,7 @@ module _ {V : Type 0} {G : Ghosts V} where
         (all_stood new.devices.items)) (sym (devices_stood old.devices.items)) so.comes in
         let is : run ≡ subsystem_of old.pool.pool run.mounted = ap (λ (p : pools.Pool). record { pool = p; mounted = run.mounted }) all.pool in
         let w = event_so hears old.pool.pool new.pool.pool (all_stood old.devices.items) (all_stood new.devices.items) run.mounted so.end all.mounted e
-        (chains_are old.devices.items own stand) comes in
+        (chains_are old.devices.items own.each stand) comes in
         let v : IsWhatCame (happens run e) so.end new.pool.pool (all_stood new.devices.items) =
         subst (λ (s : runs.Subsystem). IsWhatCame (happens s e) so.end new.pool.pool (all_stood new.devices.items)) (sym is) w in
         (v.ended ∙ sym so.seen, record { pool = v.left; mounted = v.mounted })

@@ -1,15 +1,12 @@
 -- What the devices of a run tell of an event of one device, by the devices in code before and behind it.
-use Rattle.std.proofs.Common.{◌≡◌, ◌∙◌, ◌++◌, ℕ, suc, Bool, true, false, List, [], ◌∷◌, Option, Some, None, map, refl, sym, ap, subst}
-use Rattle.std.specs.Prelude.{◌==◌, ◌&&◌, not, length, if◌then◌else◌, option_map, count_by, slice_index_or, ⊤}
+use Rattle.std.proofs.Common.{◌≡◌, ◌∙◌, ◌++◌, ℕ, Bool, true, false, List, [], ◌∷◌, Option, Some, None, map, refl, sym, ap, subst}
+use Rattle.std.specs.Prelude.{◌==◌, ◌&&◌, not, if◌then◌else◌, option_map, count_by, ⊤}
 use Rattle.std.proofs.lemmas.Bool.{eqb-true}
 use Rattle.std.proofs.lemmas.List.{append-nil, map-append}
 use Rattle.plain_defs.specs.declared.journal.Act.{Act}
 use Rattle.plain_defs.specs.declared.journal.Act.TheVariants.{Loosen, Harden, CfwLost}
-use Rattle.plain_defs.specs.declared.journal.Item.{Item}
-use Rattle.plain_defs.specs.History.{History, OpenEntry}
+use Rattle.plain_defs.specs.History.{History}
 use Rattle.device_outside.specs.declared.volume.Volume.{Ghosts}
-use Rattle.device_outside.specs.Pool.{Pool}
-use Rattle.device_defs.specs.declared.counts.Counts.{Counts}
 use Rattle.device_defs.specs.Device as D
 use Rattle.device_defs.specs.Marks.{MarksDevice, half_mark}
 use Rattle.device_core.specs.declared.device.Device.{Device}
@@ -23,14 +20,14 @@ use Rattle.run_report.specs.Beside.{loose_lines, loosed, of_each, over_lines, ov
 use Rattle.run_report.specs.Events.{running_by, running_in, running_program, work_lines}
 use Rattle.run_report.specs.OneDevice.{lines_by}
 use Rattle.subsystem_core.specs.Devices.{device_at, put_at}
-use Rattle.subsystem_defs.specs.Beside.{WentBack, behind_first, has_power, loose_count, loose_told, new_acts, new_items, power_told, told_act}
+use Rattle.subsystem_defs.specs.Beside.{WentBack, has_power, loose_count, loose_told, new_acts, new_items, power_told, told_act}
 use Rattle.subsystem_defs.specs.Deeds.{device_in}
-use Rattle.subsystem_defs.specs.Subsystem.{Mounted, mounted_in, number_of}
+use Rattle.subsystem_defs.specs.Subsystem.{Mounted, mounted_in}
 use Rattle.subsystem_laws.specs.WholeStood.{Stood, IsMounted, is_mounted, AreMountedBy, one_more, no_more}
 use Rattle.deck_run.specs.Standing.{stood_of, all_stood}
-use Rattle.deck_run.specs.Loosening.{loosed_by, power_by, all_loosed}
+use Rattle.deck_run.specs.Loosening.{loosed_by, all_loosed}
 use Rattle.deck_run.specs.Recording.{loosed_between}
-use Rattle.deck_run.proofs.Acting.{none_behind, none_new}
+use Rattle.deck_run.proofs.Acting.{NothingCame, came_none}
 
 some_same : {X : Type 0} {x y : X} → Some x ≡ Some y → x ≡ y
 some_same e = cc
@@ -48,6 +45,7 @@ pub record IsKnown (x : Stood) (m : Mounted) : Type 0 where
   pub half : m.device.store.half ≡ option_map half_mark x.device.store.half
   pub paired : m.device.store.paired ≡ x.device.store.paired
   pub lent : m.device.store.lent ≡ x.device.store.lent
+  pub side_a : m.device.store.a ≡ x.device.store.a
   pub up_a : m.device.store.a.up ≡ x.device.store.a.up
   pub up_b : m.device.store.b.up ≡ x.device.store.b.up
 
@@ -63,6 +61,7 @@ known (is_mounted d v w h on_a on_b a b stands slots side_a side_b) = record {
   half = refl;
   paired = refl;
   lent = refl;
+  side_a = refl;
   up_a = refl;
   up_b = refl;
 }
@@ -150,42 +149,77 @@ module _ {V : Type 0} {G : Ghosts V} where
 
   -- What the others tell: nothing
 
-  loose_none : (x : Device V G) (m k : Mounted) → IsKnown (stood_of x) m → IsKnown (stood_of x) k → loose_lines m.device k.device ≡ []
-  loose_none x m k is now =
-      let same : k.device.history ≡ m.device.history = now.history ∙ sym is.history in
+  loose_none : (x y : Device V G) (m k : Mounted) → NothingCame (device_of x).history (device_of y).history → IsKnown (stood_of x) m →
+      IsKnown (stood_of y) k → loose_lines m.device k.device ≡ []
+  loose_none x y m k past is now =
       let d = m.device.store.device in
-      let items : new_items m.device.history k.device.history ≡ [] =
-      ap (λ (h : History). new_items m.device.history h) same ∙ none_behind m.device.history.items in
+      let acts : new_acts m.device.history k.device.history ≡ [] =
+      ap (λ (h : History). new_acts h k.device.history) is.history ∙ ap (λ (h : History). new_acts (device_of x).history h) now.history ∙ past.acts in
+      let power : has_power (new_items m.device.history k.device.history) ≡ false =
+      ap (λ (h : History). has_power (new_items h k.device.history)) is.history
+      ∙ ap (λ (h : History). has_power (new_items (device_of x).history h)) now.history ∙ past.power in
       ap (λ (l : List Act). map loosed_line (map (loosed d) (map (told_act m.device.store k.device.store) l
-      ++ power_told m.device.store k.device.store (has_power (new_items m.device.history k.device.history)))))
-      (none_new m.device.history k.device.history same)
-      ∙ ap (λ (l : List Item). map loosed_line (map (loosed d) (power_told m.device.store k.device.store (has_power l)))) items
+      ++ power_told m.device.store k.device.store (has_power (new_items m.device.history k.device.history))))) acts
+      ∙ ap (λ (b : Bool). map loosed_line (map (loosed d) (power_told m.device.store k.device.store b))) power
 
-  pub all_loose_none : (xs : List (Device V G)) (ms ks : List Mounted) → AreKnown (all_stood xs) ms → AreKnown (all_stood xs) ks →
+  over_none : (x y : Device V G) (m k : Mounted) → NothingCame (device_of x).history (device_of y).history → IsKnown (stood_of x) m →
+      IsKnown (stood_of y) k → over_lines m.device k.device ≡ []
+  over_none x y m k past is now =
+      let d = m.device.store.device in
+      ap (λ (h : History). program_over_lines (over_of d (new_items h k.device.history))) is.history
+      ∙ ap (λ (h : History). program_over_lines (over_of d (new_items (device_of x).history h))) now.history
+      ∙ ap program_over_lines (past.over d)
+
+  -- to none of these devices anything came that is told
+  pub data HavePasts : List (Device V G) → List (Device V G) → Type 0 where
+    no_pasts : HavePasts [] []
+    past_too : {x y : Device V G} {xs ys : List (Device V G)} → NothingCame (device_of x).history (device_of y).history → HavePasts xs ys →
+        HavePasts (x ∷ xs) (y ∷ ys)
+
+  pub same_pasts : (xs : List (Device V G)) → HavePasts xs xs
+  same_pasts [] = no_pasts
+  same_pasts (x ∷ xs) = past_too (came_none (device_of x).history (device_of x).history refl) (same_pasts xs)
+
+  then_by : (x y d : Device V G) (ds zs : List (Device V G)) (n : ℕ) (b : Bool) → (device_of y).history ≡ (device_of x).history →
+      ((ws : List (Device V G)) → device_at ds n ≡ Some x → HavePasts (put_at ds n y) ws → HavePasts ds ws) → (if b then Some d else device_at ds n) ≡ Some x →
+      HavePasts (if b then y ∷ ds else d ∷ put_at ds n y) zs → HavePasts (d ∷ ds) zs
+  then_by x y d ds [] n true past rest at all = elim all [ ]
+  then_by x y d ds [] n false past rest at all = elim all [ ]
+  then_by x y d ds (z ∷ zs) n true past rest at (past_too p ps) =
+      past_too (subst (λ (h : History). NothingCame h (device_of z).history)
+      (past ∙ ap (λ (w : Device V G). (device_of w).history) (sym (some_same at))) p) ps
+  then_by x y d ds (z ∷ zs) n false past rest at (past_too p ps) = past_too p (rest zs at ps)
+
+  -- before them one device had another state, and the same past
+  pub put_then : (xs zs : List (Device V G)) (n : ℕ) (x y : Device V G) → (device_of y).history ≡ (device_of x).history → device_at xs n ≡ Some x →
+      HavePasts (put_at xs n y) zs → HavePasts xs zs
+  put_then [] zs n x y past at all = all
+  put_then (d ∷ ds) zs n x y past at all =
+      then_by x y d ds zs n (d.store.number == n) past (λ ws there more. put_then ds ws n x y past there more) at all
+
+  pub all_loose_none : (xs ys : List (Device V G)) (ms ks : List Mounted) → HavePasts xs ys → AreKnown (all_stood xs) ms → AreKnown (all_stood ys) ks →
       of_each loose_lines (map device ms) (map device ks) ≡ []
-  all_loose_none [] [] ks all now = refl
-  all_loose_none [] (m ∷ ms) ks all now = absurd all
-  all_loose_none (x ∷ xs) [] ks all now = absurd all
-  all_loose_none (x ∷ xs) (m ∷ ms) [] all now = refl
-  all_loose_none (x ∷ xs) (m ∷ ms) (k ∷ ks) all now =
-      ap (λ (l : List ReportLine). l ++ of_each loose_lines (map device ms) (map device ks)) (loose_none x m k all.0 now.0)
-      ∙ all_loose_none xs ms ks all.1 now.1
+  all_loose_none [] [] [] ks no_pasts all now = refl
+  all_loose_none [] [] (m ∷ ms) ks no_pasts all now = absurd all
+  all_loose_none (x ∷ xs) (y ∷ ys) [] ks (past_too p ps) all now = absurd all
+  all_loose_none (x ∷ xs) (y ∷ ys) (m ∷ ms) [] (past_too p ps) all now = refl
+  all_loose_none (x ∷ xs) (y ∷ ys) (m ∷ ms) (k ∷ ks) (past_too p ps) all now =
+      ap (λ (l : List ReportLine). l ++ of_each loose_lines (map device ms) (map device ks)) (loose_none x y m k p all.0 now.0)
+      ∙ all_loose_none xs ys ms ks ps all.1 now.1
+  all_loose_none [] (y ∷ ys) ms ks ps all now = elim ps [ ]
+  all_loose_none (x ∷ xs) [] ms ks ps all now = elim ps [ ]
 
-  -- by the same device before and behind it
-  over_none : (x : Device V G) (m k : Mounted) → IsKnown (stood_of x) m → IsKnown (stood_of x) k → over_lines m.device k.device ≡ []
-  over_none x m k is now =
-      ap (λ (h : History). program_over_lines (over_of m.device.store.device (new_items m.device.history h))) (now.history ∙ sym is.history)
-      ∙ ap (λ (l : List Item). program_over_lines (over_of m.device.store.device l)) (none_behind m.device.history.items)
-
-  pub all_over_none : (xs : List (Device V G)) (ms ks : List Mounted) → AreKnown (all_stood xs) ms → AreKnown (all_stood xs) ks →
+  pub all_over_none : (xs ys : List (Device V G)) (ms ks : List Mounted) → HavePasts xs ys → AreKnown (all_stood xs) ms → AreKnown (all_stood ys) ks →
       of_each over_lines (map device ms) (map device ks) ≡ []
-  all_over_none [] [] ks all now = refl
-  all_over_none [] (m ∷ ms) ks all now = absurd all
-  all_over_none (x ∷ xs) [] ks all now = absurd all
-  all_over_none (x ∷ xs) (m ∷ ms) [] all now = refl
-  all_over_none (x ∷ xs) (m ∷ ms) (k ∷ ks) all now =
-      ap (λ (l : List ReportLine). l ++ of_each over_lines (map device ms) (map device ks)) (over_none x m k all.0 now.0)
-      ∙ all_over_none xs ms ks all.1 now.1
+  all_over_none [] [] [] ks no_pasts all now = refl
+  all_over_none [] [] (m ∷ ms) ks no_pasts all now = absurd all
+  all_over_none (x ∷ xs) (y ∷ ys) [] ks (past_too p ps) all now = absurd all
+  all_over_none (x ∷ xs) (y ∷ ys) (m ∷ ms) [] (past_too p ps) all now = refl
+  all_over_none (x ∷ xs) (y ∷ ys) (m ∷ ms) (k ∷ ks) (past_too p ps) all now =
+      ap (λ (l : List ReportLine). l ++ of_each over_lines (map device ms) (map device ks)) (over_none x y m k p all.0 now.0)
+      ∙ all_over_none xs ys ms ks ps all.1 now.1
+  all_over_none [] (y ∷ ys) ms ks ps all now = elim ps [ ]
+  all_over_none (x ∷ xs) [] ms ks ps all now = elim ps [ ]
 
   pub over_by : (n : ℕ) (x y : Device V G) (m k : Mounted) → x.store.number ≡ n → IsKnown (stood_of x) m → IsKnown (stood_of y) k →
       over_lines m.device k.device ≡ program_over_lines (over_of n (new_items (device_of x).history (device_of y).history))
@@ -205,12 +239,12 @@ module _ {V : Type 0} {G : Ghosts V} where
   one_over_by n d x y ds m ms [] true e rest is all at now = absurd now
   one_over_by n d x y ds m ms [] false e rest is all at now = absurd now
   one_over_by n d x y ds m ms (k ∷ ks) true e rest is all at now =
-      ap (λ (l : List ReportLine). over_lines m.device k.device ++ l) (all_over_none ds ms ks all now.1)
+      ap (λ (l : List ReportLine). over_lines m.device k.device ++ l) (all_over_none ds ds ms ks (same_pasts ds) all now.1)
       ∙ append-nil (over_lines m.device k.device)
       ∙ over_by n x y m k (ap (λ (z : Device V G). z.store.number) (sym (some_same at)) ∙ eqb-true d.store.number n e)
       (subst (λ (z : Device V G). IsKnown (stood_of z) m) (some_same at) is) now.0
   one_over_by n d x y ds m ms (k ∷ ks) false e rest is all at now =
-      ap (λ (l : List ReportLine). l ++ of_each over_lines (map device ms) (map device ks)) (over_none d m k is now.0)
+      ap (λ (l : List ReportLine). l ++ of_each over_lines (map device ms) (map device ks)) (over_none d d m k (came_none (device_of d).history (device_of d).history refl) is now.0)
       ∙ rest at ks now.1
 
   one_over : (n : ℕ) (x y : Device V G) (xs : List (Device V G)) (ms ks : List Mounted) → AreKnown (all_stood xs) ms → device_at xs n ≡ Some x →
@@ -247,12 +281,12 @@ module _ {V : Type 0} {G : Ghosts V} where
   one_loose_by n d x y ds m ms [] true e rest is all at now = absurd now
   one_loose_by n d x y ds m ms [] false e rest is all at now = absurd now
   one_loose_by n d x y ds m ms (k ∷ ks) true e rest is all at now =
-      ap (λ (l : List ReportLine). loose_lines m.device k.device ++ l) (all_loose_none ds ms ks all now.1)
+      ap (λ (l : List ReportLine). loose_lines m.device k.device ++ l) (all_loose_none ds ds ms ks (same_pasts ds) all now.1)
       ∙ append-nil (loose_lines m.device k.device)
       ∙ loose_by n x y m k (ap (λ (z : Device V G). z.store.number) (sym (some_same at)) ∙ eqb-true d.store.number n e)
       (subst (λ (z : Device V G). IsKnown (stood_of z) m) (some_same at) is) now.0
   one_loose_by n d x y ds m ms (k ∷ ks) false e rest is all at now =
-      ap (λ (l : List ReportLine). l ++ of_each loose_lines (map device ms) (map device ks)) (loose_none d m k is now.0)
+      ap (λ (l : List ReportLine). l ++ of_each loose_lines (map device ms) (map device ks)) (loose_none d d m k (came_none (device_of d).history (device_of d).history refl) is now.0)
       ∙ rest at ks now.1
 
   one_loose : (n : ℕ) (x y : Device V G) (xs : List (Device V G)) (ms ks : List Mounted) → AreKnown (all_stood xs) ms → device_at xs n ≡ Some x →
@@ -277,13 +311,18 @@ module _ {V : Type 0} {G : Ghosts V} where
       ++ (l ++ line_if (last_line h)))))
       (one_over n x y xs ms ks all at now)
 
+  -- where nothing came to a past
+  pub none_came : (xs ys : List (Device V G)) (ms ks : List Mounted) (h : Happened) → HavePasts xs ys → AreKnown (all_stood xs) ms →
+      AreKnown (all_stood ys) ks → work_lines h 0 0 (map device ms) (map device ks) ≡ first_lines h ++ line_if (last_line h)
+  none_came xs ys ms ks h past all now =
+      ap (λ (l : List ReportLine). first_lines h ++ (l ++ (of_each over_lines (map device ms) (map device ks) ++ line_if (last_line h))))
+      (all_loose_none xs ys ms ks past all now)
+      ∙ ap (λ (l : List ReportLine). first_lines h ++ (l ++ line_if (last_line h))) (all_over_none xs ys ms ks past all now)
+
   -- where nothing happened
   pub none_tells : (xs : List (Device V G)) (ms : List Mounted) (h : Happened) → AreKnown (all_stood xs) ms →
       work_lines h 0 0 (map device ms) (map device ms) ≡ first_lines h ++ line_if (last_line h)
-  none_tells xs ms h all =
-      ap (λ (l : List ReportLine). first_lines h ++ (l ++ (of_each over_lines (map device ms) (map device ms) ++ line_if (last_line h))))
-      (all_loose_none xs ms ms all all)
-      ∙ ap (λ (l : List ReportLine). first_lines h ++ (l ++ line_if (last_line h))) (all_over_none xs ms ms all all)
+  none_tells xs ms h all = none_came xs xs ms ms h (same_pasts xs) all all
 
   -- Which program runs
 

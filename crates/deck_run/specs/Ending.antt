@@ -1,11 +1,12 @@
 -- What is told of a device in code at the end of a run.
-use Rattle.std.specs.Prelude.{ℕ, ◌*◌, false, List, [], ◌∷◌, slice_index_or}
+use Rattle.std.specs.Prelude.{ℕ, ◌*◌, false, List, [], ◌∷◌, Option, Some, None, slice_index_or}
 use Rattle.std.specs.List.{range_with_len}
 use Rattle.device_outside.specs.declared.volume.Volume.{Ghosts}
 use Rattle.device_core.specs.declared.device.Device.{Device}
+use Rattle.device_core.specs.State.{device_of}
 use Rattle.report_text.specs.declared.line.ReportLine.{ReportLine}
 use Rattle.run_report.specs.Closing.{device_lines}
-use Rattle.subsystem_defs.specs.Closing.{Counted, where_true}
+use Rattle.subsystem_defs.specs.Closing.{Counted, DeviceEnd, LentTo, where_true}
 
 module _ {V : Type 0} {G : Ghosts V} where
   -- its lost tracks, in rising order
@@ -16,6 +17,10 @@ module _ {V : Type 0} {G : Ghosts V} where
   abbrev pub lost_at : Device V G → ℕ → List ℕ
   lost_at x t = where_true (λ (u : ℕ). slice_index_or x.store.lost u false) (t ∷ [])
 
-  -- and its calls. It is lent to none
+  abbrev pub end_by : Device V G → Option ℕ → DeviceEnd
+  end_by x (Some to) = LentTo x.store.number to
+  end_by x None = Counted x.store.number x.store.counts.reads x.store.counts.writes (lost_in x)
+
+  -- its calls and its lost tracks, or to whom it is lent
   abbrev pub end_lines_of : Device V G → List ReportLine
-  end_lines_of x = device_lines (Counted x.store.number x.store.counts.reads x.store.counts.writes (lost_in x))
+  end_lines_of x = device_lines (end_by x (device_of x).store.lent)

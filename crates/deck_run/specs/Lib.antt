@@ -1,12 +1,12 @@
 pub mod Opening
+pub mod Sides
 pub mod Owning
 pub mod Standing
 pub mod Counting
 pub mod Loosening
 pub mod Recording
 pub mod Sweeping
-pub mod Replacing
+pub mod Ordered
 pub mod Passing
 pub mod Ending
 pub mod Going
-pub mod Later

@@ -1,10 +1,15 @@
--- Which devices of a deck can be opened, and what is opened.
-use Rattle.std.specs.Prelude.{ℕ, ◌&&◌, nat_le, nat_lt, Bool, true, false, List, [], ◌∷◌, Option, Some, None, map, if◌then◌else◌}
+-- Which devices of a deck can be opened, and which event lines run. In a deck that was read all can.
+use Rattle.std.specs.Prelude.{◌≡◌, ℕ, ◌&&◌, nat_le, nat_lt, Bool, true, false, List, [], ◌∷◌, Option, Some, None, Ok, map, if◌then◌else◌}
 use Rattle.deck_plan.specs.declared.event.EventLine.{EventLine}
 use Rattle.deck_plan.specs.declared.event.EventLine.TheVariants as lines
 use Rattle.device_outside.specs.Lists.{is_in}
 use Rattle.deck_text.specs.declared.line.DeviceLine.{DeviceLine}
 use Rattle.deck_text.specs.DeckLines.{DeckLines}
+use Rattle.deck_text.specs.Parse.{parsed}
+
+-- some text is this deck
+abbrev pub WasRead : DeckLines → Type 0
+WasRead d = (text : List ℕ) × (parsed text ≡ Ok d)
 
 abbrev pub is_open_device : DeviceLine → Bool
 is_open_device d = nat_le 1 d.cylinders && nat_le d.cylinders 64
@@ -24,7 +29,7 @@ are_open ds = are_open_behind None ds
 abbrev pub numbers_in : List DeviceLine → List ℕ
 numbers_in ds = map (λ (d : DeviceLine). d.number) ds
 
--- all but PAIR and UNPAIR, where the device that a line names is there
+-- the devices that a line names are there
 abbrev pub is_open_line : List ℕ → EventLine → Bool
 is_open_line ns (lines.Start path d) = is_in d ns
 is_open_line ns (lines.Step d) = is_in d ns
@@ -40,8 +45,9 @@ is_open_line ns lines.RepairStore = true
 is_open_line ns (lines.Replace d side) = is_in d ns
 is_open_line ns (lines.Suspend d) = is_in d ns
 is_open_line ns (lines.Resume d) = is_in d ns
+is_open_line ns (lines.Pair a b) = is_in a ns && is_in b ns
+is_open_line ns (lines.Unpair a) = is_in a ns
 is_open_line ns lines.Power = true
-is_open_line ns _ = false
 
 abbrev pub are_open_lines : List ℕ → List EventLine → Bool
 are_open_lines ns [] = true

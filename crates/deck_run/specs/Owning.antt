@@ -12,6 +12,7 @@ use Rattle.device_core.specs.State.{device_of}
 use Rattle.device_laws.specs.Whole.{WholeDevice}
 use Rattle.subsystem_defs.specs.declared.event.Event.{Event}
 use Rattle.subsystem_defs.specs.declared.event.Event.TheVariants as events
+use Rattle.deck_run.specs.Sides.{AreAccounted, all_sides}
 
 -- each of its words gives bytes
 abbrev pub GivesAll : List Ccw → Type 0
@@ -27,9 +28,14 @@ pub record IsOwn (d : WholeDevice) : Type 0 where
   pub chain : IfSome d.chain (λ (c : ChainState). (c.fixed.geometry ≡ d.store.geometry) × GivesAll c.ccws)
 
 module _ {V : Type 0} {G : Ghosts V} where
-  abbrev pub AreOwn : List (Device V G) → Type 0
-  AreOwn [] = Unit {0}
-  AreOwn (x ∷ xs) = IsOwn (device_of x) × AreOwn xs
+  abbrev pub AllOwn : List (Device V G) → Type 0
+  AllOwn [] = Unit {0}
+  AllOwn (x ∷ xs) = IsOwn (device_of x) × AllOwn xs
+
+  -- and all of their volumes are accounted for
+  pub record AreOwn (xs : List (Device V G)) : Type 0 where
+    pub each : AllOwn xs
+    pub accounted : AreAccounted (all_sides xs)
 
   -- the chain of each program that runs keeps to what chains keep to
   abbrev pub ChainsStand : List (Device V G) → Type 0

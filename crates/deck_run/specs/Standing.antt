@@ -1,7 +1,8 @@
 -- A subsystem of the code beside that of a run.
-use Rattle.std.specs.Prelude.{◌≡◌, List, Some, None, map}
+use Rattle.std.specs.Prelude.{◌≡◌, List, map, option_map}
 use Rattle.device_outside.specs.declared.volume.Volume.{Ghosts}
 use Rattle.device_outside.specs.Pool.{counted_slots}
+use Rattle.device_store.specs.State.{on_a, on_b}
 use Rattle.device_core.specs.declared.device.Device.{Device}
 use Rattle.device_core.specs.State.{device_of}
 use Rattle.subsystem_core.specs.declared.subsystem.Subsystem.{Subsystem}
@@ -9,9 +10,9 @@ use Rattle.subsystem_defs.specs.Subsystem as defs
 use Rattle.subsystem_laws.specs.WholeStood.{Stood, AreMounted}
 
 module _ {V : Type 0} {G : Ghosts V} where
-  -- a device, with what its one volume tells
+  -- a device, with what the volume of each side tells
   abbrev pub stood_of : Device V G → Stood
-  stood_of x = record { device = device_of x; a = Some (G.view x.store.volume); b = None }
+  stood_of x = record { device = device_of x; a = option_map G.view (on_a x.store); b = option_map G.view (on_b x.store) }
 
   abbrev pub all_stood : List (Device V G) → List Stood
   all_stood ds = map stood_of ds

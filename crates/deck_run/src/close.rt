@@ -1,11 +1,11 @@
 //! The lines at the end of a run.
 
-ghost use Rattle.std.specs.Prelude.{◌≡◌, ◌<◌, ◌++◌, IfOk, OnOk, length, map};
+ghost use Rattle.std.specs.Prelude.{◌≡◌, ◌<◌, ◌++◌, IfOk, None, OnOk, length, map};
 ghost use Rattle.std.specs.List.{flat_map};
 ghost use Rattle.report_text.specs.declared.line.ReportLine.TheVariants as lines;
 ghost use Rattle.run_report.specs.Closing.{device_lines, frame_line};
-ghost use Rattle.subsystem_defs.specs.Closing.{Counted};
-ghost use Rattle.deck_run.specs.Ending.{end_lines_of, lost_at, lost_in};
+ghost use Rattle.subsystem_defs.specs.Closing.{Counted, LentTo};
+ghost use Rattle.deck_run.specs.Ending.{end_by, end_lines_of, lost_at, lost_in};
 
 use ckd_types::{DeviceNo, NoMemory, TrackNo};
 use device_core::Device;
@@ -70,6 +70,30 @@ fn record_end<V: Volume>(
     Ok(())
 }
 
+fn record_counted<V: Volume>(
+    alloc: Global,
+    report: &mut RunRecord,
+    device: &Device<V>,
+) -> Result<(), NoMemory>
+    ensures { OnOk result (report.new ≡ report.old ++ device_lines (end_by device.now None)) }
+{
+    let lost = lost_in(alloc, device)?;
+    record_end(report, device, &lost)?;
+    Ok(())
+}
+
+/// The volume of a device is lent to another.
+fn record_lent<V: Volume>(
+    report: &mut RunRecord,
+    device: &Device<V>,
+    to: DeviceNo,
+) -> Result<(), NoMemory>
+    ensures { OnOk result (report.new ≡ report.old ++ device_lines (LentTo device.now.store.number to)) }
+{
+    report.push(ReportLine::Device(device.number(), DeviceTotals::Lent(to)))?;
+    Ok(())
+}
+
 fn record_device<V: Volume>(
     alloc: Global,
     report: &mut RunRecord,
@@ -77,9 +101,10 @@ fn record_device<V: Volume>(
 ) -> Result<(), NoMemory>
     ensures { OnOk result (report.new ≡ report.old ++ end_lines_of device.now) }
 {
-    let lost = lost_in(alloc, device)?;
-    record_end(report, device, &lost)?;
-    Ok(())
+    match device.lent_to() {
+        Some(to) => record_lent(report, device, to),
+        None => record_counted(alloc, report, device),
+    }
 }
 
 /// What is told of each device at the end.

@@ -5,14 +5,13 @@ mod all;
 mod close;
 mod event;
 mod giving;
-mod later;
 mod line;
 mod loosed;
 mod open;
+mod pair;
 mod pass;
 mod replace;
 mod run;
 
-pub use later::first_later;
 pub use open::open_deck;
 pub use run::{FinishedRun, run_deck};

@@ -16,6 +16,7 @@ ghost use Rattle.deck_run.specs.Recording.{all_lines, lines_when};
 ghost use Rattle.deck_run.specs.Standing.{StandsAs};
 
 use crate::all::order_all;
+use crate::pair::{pair, unpair};
 use crate::pass::{behind_first, pass};
 use crate::replace::replace;
 use ckd_types::{DeviceNo, NoMemory, PathNo};
@@ -237,7 +238,9 @@ fn is_busy<V: Volume>(sub: &Subsystem<V>, d: DeviceNo) -> bool
     ensures { (run : runs.Subsystem) → StandsAs sub.now run → result ≡ is_busy (runs.mounted_in run.mounted d) }
 {
     let device = sub.device(d);
-    device.half_open() || device.active().is_some()
+    let half = device.half_open();
+    let runs = device.active().is_some();
+    half || runs
 }
 
 /// Steps while a program runs on a device.
@@ -288,7 +291,7 @@ fn finish<V: Volume>(
     Ok(())
 }
 
-/// One event line. PAIR and UNPAIR don't run yet.
+/// One event line.
 pub(crate) fn do_line(
     alloc: Global,
     sub: &mut Subsystem<MemVolume>,
@@ -329,6 +332,7 @@ pub(crate) fn do_line(
         EventLine::RepairCache => order_all(alloc, sub, report, Event::RepairCache),
         EventLine::RepairStore => order_all(alloc, sub, report, Event::RepairStore),
         EventLine::Power => order_all(alloc, sub, report, Event::Power),
-        _ => unreachable!(),
+        EventLine::Pair(a, b) => pair(sub, report, a, b),
+        EventLine::Unpair(a) => unpair(alloc, sub, report, a),
     }
 }

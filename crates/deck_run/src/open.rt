@@ -3,9 +3,10 @@ ghost use Rattle.device_outside.specs.Pool as pools;
 ghost use Rattle.subsystem_core.specs.Devices.{numbers_of};
 ghost use Rattle.subsystem_defs.specs.Decks.{failing_of, is_same, opened, opened_device};
 ghost use Rattle.subsystem_laws.specs.WholeStood.{AreMounted, IsMounted};
-ghost use Rattle.deck_run.specs.Opening.{are_open, is_behind, is_open_device, numbers_in};
+ghost use Rattle.deck_run.specs.Opening.{are_open, is_open_device, numbers_in};
 ghost use Rattle.device_core.specs.State.{device_of};
-ghost use Rattle.deck_run.specs.Owning.{AreOwn, IsOwn};
+ghost use Rattle.deck_run.specs.Owning.{AllOwn, AreOwn, IsOwn};
+ghost use Rattle.deck_run.specs.Sides.{AllFresh, IsFresh};
 ghost use Rattle.deck_run.specs.Standing.{StandsAs, all_stood, stood_of};
 
 use crate::giving::plans_give;
@@ -16,21 +17,6 @@ use device_outside::{MemBay, MemVolume};
 use frame_pool::Pool;
 use std::alloc::Global;
 use subsystem_core::Subsystem;
-
-pub(crate) fn is_open_device(line: DeviceLine) -> bool
-    ensures { result ≡ is_open_device line }
-{
-    1 <= line.cylinders && line.cylinders <= 64
-}
-
-pub(crate) fn is_behind(last: Option<u8>, number: u8) -> bool
-    ensures { result ≡ is_behind last number }
-{
-    match last {
-        Some(last) => last < number,
-        None => true,
-    }
-}
 
 fn is_same(a: bool, b: bool) -> bool
     ensures { result ≡ is_same a b }
@@ -64,6 +50,7 @@ fn open_device(
     ensures number { IfOk result (λ made. made.store.number ≡ line.number) }
     ensures mounted { bay.old.spoiled ≡ [] → IfOk result (λ made. IsMounted [] (stood_of made) (opened_device deck.now line)) }
     ensures own { IfOk result (λ made. IsOwn (device_of made)) }
+    ensures fresh { IfOk result (λ made. IsFresh made) }
     ensures made { OnOk result (bay.new.made ≡ bay.old.made + 1) }
     ensures spoiled { bay.new.spoiled ≡ bay.old.spoiled }
     ensures taken { bay.new.taken ≡ bay.old.taken }
@@ -94,7 +81,8 @@ fn open_devices(
     requires { are_open deck.now.devices ≡ true }
     ensures numbers { IfOk result (λ made. numbers_of made.items ≡ numbers_in deck.now.devices) }
     ensures mounted { (p : pools.Pool) → bay.old.spoiled ≡ [] → IfOk result (λ made. AreMounted p (all_stood made.items) (map (opened_device deck.now) deck.now.devices)) }
-    ensures own { IfOk result (λ made. AreOwn made.items) }
+    ensures own { IfOk result (λ made. AllOwn made.items) }
+    ensures fresh { IfOk result (λ made. AllFresh made.items) }
     ensures made { OnOk result (bay.new.made ≡ bay.old.made + length deck.now.devices) }
     ensures spoiled { bay.new.spoiled ≡ bay.old.spoiled }
     ensures taken { bay.new.taken ≡ bay.old.taken }

@@ -1,14 +1,15 @@
 ghost use Rattle.std.specs.Prelude.{◌≡◌, ◌*◌, ◌++◌, [], IfOk, IfSome, OnOk, length, true};
 ghost use Rattle.device_outside.specs.Disk.{new_disk};
 ghost use Rattle.device_outside.specs.Lists.{is_in};
+ghost use Rattle.report_text.specs.declared.order.Order.TheVariants as orders;
 ghost use Rattle.run_report.specs.Events.{lines_of};
 ghost use Rattle.subsystem_core.specs.Devices.{device_at, numbers_of};
 ghost use Rattle.subsystem_defs.specs.Happening.{replaced};
 ghost use Rattle.subsystem_defs.specs.Lines.{Replace, logged};
 ghost use Rattle.subsystem_defs.specs.Subsystem as runs;
 ghost use Rattle.subsystem_defs.specs.Subsystem.{unfailing};
+ghost use Rattle.deck_run.specs.Ordered.{IsOrdered};
 ghost use Rattle.deck_run.specs.Owning.{AreOwn};
-ghost use Rattle.deck_run.specs.Replacing.{IsReplaced};
 ghost use Rattle.deck_run.specs.Standing.{StandsAs};
 
 use crate::all::order_end;
@@ -34,7 +35,7 @@ fn put_volume(
     requires size { IfSome (device_at sub.old.devices.items d) (λ x. length volume.tracks ≡ x.store.cylinders * 15) }
     ensures numbers { numbers_of sub.new.devices.items ≡ numbers_of sub.old.devices.items }
     ensures own { OnOk result (AreOwn sub.new.devices.items) }
-    ensures happened { (run : runs.Subsystem) → StandsAs sub.old run → IfOk result (λ end. IsReplaced run d side end sub.new) }
+    ensures happened { (run : runs.Subsystem) → StandsAs sub.old run → IfOk result (λ end. IsOrdered (logged (Replace d side) (replaced run d side unfailing)) (orders.Replace d side) end sub.new) }
 {
     chains_stand(sub.devices());
     let end = match sub.replace(d, side, volume) {

@@ -1,13 +1,13 @@
-ghost use Rattle.std.specs.Prelude.{◌≡◌, ◌+◌, ◌++◌, ◌∷◌, [], IfOk, OnOk, None, length};
+ghost use Rattle.std.specs.Prelude.{◌≡◌, ◌+◌, ◌++◌, ◌∷◌, [], IfOk, OnOk, length};
 ghost use Rattle.report_text.specs.declared.line.ReportLine.TheVariants as lines;
 ghost use Rattle.run_report.specs.Report.{lines_of_run, report_lines};
 ghost use Rattle.subsystem_defs.specs.Decks.{run_of};
 ghost use Rattle.subsystem_core.specs.Devices.{numbers_of};
-ghost use Rattle.deck_run.specs.Later.{first_later};
 ghost use Rattle.subsystem_laws.specs.AllSound.{AreSound};
 ghost use Rattle.subsystem_laws.specs.Served.{IsServedDeck};
 ghost use Rattle.subsystem_laws.specs.SlotsApart.{AreApart};
-ghost use Rattle.deck_run.specs.Opening.{numbers_in};
+ghost use Rattle.deck_run.specs.Opening.{WasRead, numbers_in};
+ghost use Rattle.deck_run.specs.Sides.{AreAccounted, all_sides};
 ghost use Rattle.deck_run.specs.Standing.{StandsAs, all_stood};
 
 use crate::close::{record_devices, record_frames};
@@ -29,10 +29,11 @@ pub struct FinishedRun {
 
 /// The event lines of a deck over its devices.
 fn run_events(alloc: Global, deck: &Deck, bay: &mut MemBay) -> Result<FinishedRun, NoMemory>
-    requires { first_later deck.now ≡ None }
+    requires { WasRead deck.now }
     ensures stands { bay.old.spoiled ≡ [] → IfOk result (λ ran. StandsAs ran.sub (run_of deck.now).behind) }
     ensures lines { bay.old.spoiled ≡ [] → IfOk result (λ ran. ran.report ≡ lines_of_run (run_of deck.now)) }
     ensures numbers { IfOk result (λ ran. numbers_of ran.sub.devices.items ≡ numbers_in deck.now.devices) }
+    ensures accounted { IfOk result (λ ran. AreAccounted (all_sides ran.sub.devices.items)) }
     ensures made { OnOk result (bay.new.made ≡ bay.old.made + length deck.now.devices) }
     ensures spoiled { bay.new.spoiled ≡ bay.old.spoiled }
     ensures taken { bay.new.taken ≡ bay.old.taken }
@@ -51,12 +52,13 @@ fn run_events(alloc: Global, deck: &Deck, bay: &mut MemBay) -> Result<FinishedRu
 /// Runs a deck over volumes that the bay makes. Where no track is spoiled its devices are those that the defined run leaves, and what
 /// was recorded are the lines of its report, but for the last one.
 pub fn run_deck(alloc: Global, deck: &Deck, bay: &mut MemBay) -> Result<FinishedRun, NoMemory>
-    requires { first_later deck.now ≡ None }
+    requires { WasRead deck.now }
     ensures stands { bay.old.spoiled ≡ [] → IfOk result (λ ran. StandsAs ran.sub (run_of deck.now).behind) }
     ensures lines { bay.old.spoiled ≡ [] → IfOk result (λ ran. ran.report ++ lines.Finish ∷ [] ≡ report_lines (run_of deck.now)) }
     ensures slots { bay.old.spoiled ≡ [] → IfOk result (λ ran. AreApart ran.sub.pool.pool.used (all_stood ran.sub.devices.items)) }
     ensures sound { bay.old.spoiled ≡ [] → IsServedDeck deck.now → IfOk result (λ ran. AreSound (all_stood ran.sub.devices.items)) }
     ensures numbers { IfOk result (λ ran. numbers_of ran.sub.devices.items ≡ numbers_in deck.now.devices) }
+    ensures accounted { IfOk result (λ ran. AreAccounted (all_sides ran.sub.devices.items)) }
     ensures made { OnOk result (bay.new.made ≡ bay.old.made + length deck.now.devices) }
     ensures spoiled { bay.new.spoiled ≡ bay.old.spoiled }
     ensures taken { bay.new.taken ≡ bay.old.taken }

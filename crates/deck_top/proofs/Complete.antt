@@ -14,7 +14,7 @@ use Rattle.deck_text.specs.Parse.{parsed}
 use Rattle.deck_top.specs.declared.task.Task.{Task}
 use Rattle.deck_top.specs.declared.top.Status.{Status}
 use Rattle.deck_top.specs.declared.top.Status.TheVariants.{Reported, DeckRefused, ReadFault, WriteFault, Limit, NoMemory, Usage}
-use Rattle.deck_top.specs.Answers.{Reads, Tells, TellsTask, deck_for, open_deck, if_read}
+use Rattle.deck_top.specs.Answers.{Reads, Tells, TellsTask}
 
 parse_long : (text : List ℕ) → 16777217 ≤ length text → parsed text ≡ Err (faults.Limit Size)
 parse_long text long = grind (arith, nat_tests)
@@ -22,22 +22,22 @@ parse_long text long = grind (arith, nat_tests)
 no_fault : (d : DeckLines) (f : DeckFault) (deck : Result DeckLines DeckFault) → deck ≡ Ok d → deck ≡ Err f → ⊥
 no_fault d f deck p q = cc
 
-same_text : (task : Task) (text read : List ℕ) (after : Option (List ℕ)) (d : DeckLines) → Reads (Some text) after read → deck_for task text ≡ Ok d
+same_text : (task : Task) (text read : List ℕ) (after : Option (List ℕ)) (d : DeckLines) → Reads (Some text) after read → parsed text ≡ Ok d
     → read ≡ text
 same_text task text read None d r p = absurd r.read
 same_text task text read (Some rest) d r p = elim (cases_lt (length read) 16777217) [
   | inl short ↦ sym (r.read ∙ ap (λ (l : List ℕ). read ++ l) (r.whole short) ∙ append-nil read)
-  | inr long ↦ absurd (no_fault d (faults.Limit Size) (deck_for task text) p
-      (ap (λ (x : Result DeckLines DeckFault). if_read x (open_deck task)) (parse_long text (omega (arith, ap length r.read, length-append read rest)))))
+  | inr long ↦ absurd (no_fault d (faults.Limit Size) (parsed text) p
+      (parse_long text (omega (arith, ap length r.read, length-append read rest))))
 ]
 
 refused : (task : Task) (text read : List ℕ) (before after : Option (List ℕ)) (d : DeckLines) (f : DeckFault) → before ≡ Some text → Reads before after read
-    → deck_for task text ≡ Ok d → deck_for task read ≡ Err f → ⊥
+    → parsed text ≡ Ok d → parsed read ≡ Err f → ⊥
 refused task text read before after d f is r p q =
-    no_fault d f (deck_for task read) (ap (deck_for task) (same_text task text read after d (subst (λ b. Reads b after read) is r) p) ∙ p) q
+    no_fault d f (parsed read) (ap parsed (same_text task text read after d (subst (λ b. Reads b after read) is r) p) ∙ p) q
 
 by_task : (status : Status) (task : Task) (old new : Bay) (before after held holds : Option (List ℕ)) (text : List ℕ) (d : DeckLines)
-    → before ≡ Some text → deck_for task text ≡ Ok d → TellsTask status task old new before after held holds → (status ≡ ReadFault → ⊥)
+    → before ≡ Some text → parsed text ≡ Ok d → TellsTask status task old new before after held holds → (status ≡ ReadFault → ⊥)
     → (status ≡ WriteFault → ⊥)
     → (status ≡ Reported) ⊎ (status ≡ NoMemory)
 by_task Reported task old new before after held holds text d is p told nr nw = inl refl
@@ -51,7 +51,7 @@ by_task (Limit which) task old new before after held holds text d is p told nr n
     absurd (refused task text told.0 before after d (faults.Limit which) is told.1 p told.2.0)
 
 pub complete : (status : Status) (task : Option Task) (wanted : Task) (old new : Bay) (before after held holds : Option (List ℕ)) (text : List ℕ) (d : DeckLines)
-    → before ≡ Some text → task ≡ Some wanted → deck_for wanted text ≡ Ok d → Tells status task old new before after held holds
+    → before ≡ Some text → task ≡ Some wanted → parsed text ≡ Ok d → Tells status task old new before after held holds
     → (status ≡ ReadFault → ⊥)
     → (status ≡ WriteFault → ⊥)
     → (status ≡ Reported) ⊎ (status ≡ NoMemory)

@@ -1,45 +1,9 @@
 -- The volumes that stand in the devices behind a run are those that the run hands out.
-use Rattle.std.proofs.Common.{
-  ◌≡◌,
-  ◌<◌,
-  ◌≤◌,
-  ◌⊎◌,
-  inl,
-  inr,
-  ◌∙◌,
-  ◌++◌,
-  ◌∷◌,
-  [],
-  ◌*◌,
-  ◌==◌,
-  ◌&&◌,
-  ◌||◌,
-  not,
-  map,
-  length,
-  ℕ,
-  Bool,
-  true,
-  false,
-  List,
-  Option,
-  Some,
-  None,
-  Result,
-  Ok,
-  Err,
-  is_some,
-  refl,
-  sym,
-  ap,
-  subst,
-  arith,
-  get_or,
-}
-use Rattle.std.specs.Prelude.{slice_index_or, option_map, if◌then◌else◌}
+use Rattle.std.proofs.Common.{◌≡◌, ◌<◌, ◌≤◌, ◌⊎◌, inl, inr, ◌∙◌, ◌++◌, append_assoc, ◌+◌, ◌∷◌, [], ◌*◌, ◌==◌, ◌&&◌, ◌||◌, not, map, length, ℕ, Bool, true, false, List, Option, Some, None, Result, Ok, Err, is_some, refl, sym, ap, subst, arith, get_or}
+use Rattle.std.specs.Prelude.{option_map, IfSome, if◌then◌else◌}
 use Rattle.std.specs.List.{range_with_len}
 use Rattle.std.proofs.lemmas.Bool.{and_parts, cases_lt}
-use Rattle.std.proofs.lemmas.List.{get_or_past, length-map}
+use Rattle.std.proofs.lemmas.List.{append-nil, get_or_past, length-append, length-map}
 use Rattle.std.proofs.lemmas.List.FromFn.{get_or-map-range_with_len, length-map-range_with_len}
 use Rattle.std.proofs.lemmas.Option.{none-some, same_Some}
 use Rattle.ckd_types.specs.declared.geometry.Geometry.{Geometry}
@@ -60,7 +24,6 @@ use Rattle.device_outside.specs.declared.volume.Volume.{Ghosts}
 use Rattle.device_outside.specs.After.{holds_of}
 use Rattle.device_outside.specs.Both as both
 use Rattle.device_outside.specs.Disk.{Disk, disk_view}
-use Rattle.device_outside.specs.Told.{Calls}
 use Rattle.device_outside.specs.Volume.{VolumeView}
 use Rattle.device_defs.specs.Contents.{contents, by_plain, image_with, image_read, patched_by}
 use Rattle.device_defs.specs.Marks.{marks_of, frame_mark}
@@ -70,14 +33,14 @@ use Rattle.device_defs.specs.Store.{HalfWrite, tracks_of, side_of, level_at, has
 use Rattle.device_core.specs.declared.device.Device.{Device}
 use Rattle.device_laws.specs.Agrees.{Held, image_in}
 use Rattle.device_laws.specs.InOrder.{IsInOrder}
-use Rattle.device_laws.specs.Lent.{Stands, in_order, is_away}
+use Rattle.device_laws.specs.Lent.{in_order, is_away}
 use Rattle.device_laws.proofs.Soundness.{and_left, and_not}
 use Rattle.device_laws.proofs.TrackContents.{By}
 use Rattle.device_laws.proofs.TwinChanges.{frame_twin, has_patch_twin, half_twin}
 use Rattle.subsystem_defs.specs.Closing as closing
 use Rattle.subsystem_defs.specs.Closing.{HandedOut, handed_of, handed_by, handed_out, handed_side, known_bytes, is_plain_at}
-use Rattle.subsystem_defs.specs.Subsystem.{Mounted, calls_behind, number_of}
-use Rattle.subsystem_laws.specs.WholeStood.{Stood, IsMounted, is_mounted, AreMountedBy, no_more, one_more, number_at}
+use Rattle.subsystem_defs.specs.Subsystem.{Mounted, calls_behind}
+use Rattle.subsystem_laws.specs.WholeStood.{Stood, IsMounted, is_mounted, AreMountedBy, no_more, one_more}
 use Rattle.subsystem_laws.proofs.WholeFinding.{same_number}
 use Rattle.deck_run.specs.Opening.{numbers_in}
 use Rattle.deck_run.specs.Standing.{StandsAs, stood_of, all_stood}
@@ -85,7 +48,10 @@ use Rattle.deck_text.specs.declared.line.DeviceLine.{DeviceLine}
 use Rattle.subsystem_core.specs.declared.subsystem.Subsystem.{Subsystem}
 use Rattle.subsystem_core.specs.Devices.{numbers_of}
 use Rattle.subsystem_defs.specs.Subsystem as defs
-use Rattle.deck_top.specs.Handed.{IsKnownAs, IsHandedOut, AreHandedOut, HoldsBytes, taken_of, all_taken, AllHoldBytes}
+use Rattle.deck_top.specs.Handed.{IsKnownAs, IsHandedOut, AreHandedOut, HoldsBytes, SidesHoldBytes, on_side, taken_of, all_taken, AllHoldBytes}
+use Rattle.device_store.specs.State.{on_a, on_b}
+use Rattle.deck_run.specs.Sides.{AreAccounted, all_sides, away_here, one_if, sides_of, total, volumes_here}
+use Rattle.device_outside.specs.Bay.{Bay}
 
 -- Of one track
 
@@ -198,6 +164,25 @@ side_of_a (is_mounted d plain firm h on_a on_b a b (in_order order) slots told_a
           (λ is_plain. holds_plain plain firm d.store h order A t lt is_plain are);
     }
 
+side_of_b : {mine : List ℕ} {x : Stood} {m : Mounted} → IsMounted mine x m → (v : VolumeView (List ℕ)) → x.b ≡ Some v →
+    is_some x.device.store.lent ≡ false → SideOf v m B
+side_of_b (is_mounted d plain firm h on_a on_b a b (is_away away) slots told_a told_b) v is free = absurd (let gone = away.store.lent in cc)
+side_of_b (is_mounted d plain firm h on_a on_b a b (in_order order) slots told_a told_b) v is free =
+    let told : both.SideIs v h.b b = subst (λ (o : Option (VolumeView (List ℕ))). both.SideTold o h.b b) is told_b in
+    record {
+      reads = told.reads;
+      writes = told.writes;
+      held = h.b;
+      told = told.contents;
+      known = λ t lt are.
+          known_by (get_or h.b t []) (track_bytes (track_in plain t)) (is_plain_at (marks_of plain firm d.store) B t)
+          (λ is_plain. holds_plain plain firm d.store h order B t lt is_plain are);
+    }
+
+away_single : {mine : List ℕ} {x : Stood} {m : Mounted} → IsMounted mine x m → is_some x.device.store.lent ≡ true → x.device.store.paired ≡ false
+away_single (is_mounted d plain firm h on_a on_b a b (is_away away) slots told_a told_b) gone = away.store.single
+away_single (is_mounted d plain firm h on_a on_b a b (in_order order) slots told_a told_b) gone = absurd (let free = order.free in cc)
+
 same_lent : {mine : List ℕ} {x : Stood} {m : Mounted} → IsMounted mine x m → m.device.store.lent ≡ x.device.store.lent
 same_lent (is_mounted d v w h on_a on_b a b order slots told_a told_b) = refl
 
@@ -209,13 +194,6 @@ same_tracks (is_mounted d v w h on_a on_b a b order slots told_a told_b) = refl
 
 -- Of all devices
 
-one_side : (m : Mounted) (ms : List Mounted) → m.device.store.lent ≡ None → m.device.store.paired ≡ false →
-    handed_of (m ∷ ms) ≡ handed_side m A ∷ handed_of ms
-unfolding closing.handed_of
-one_side m ms lent paired =
-    ap (λ (o : Option ℕ). handed_by m (is_some o) m.device.store.paired ++ handed_of ms) lent
-    ∙ ap (λ (b : Bool). handed_by m false b ++ handed_of ms) paired
-
 few_tracks : (cylinders t : ℕ) → cylinders ≤ 64 → t < cylinders * 15 → t < 960
 few_tracks cylinders t most lt = omega (arith, most, lt)
 
@@ -223,71 +201,157 @@ told_tracks : (spoiled : Bool) (tracks held : List (List ℕ)) → (if spoiled t
 told_tracks true tracks held e = absurd (none-some held e)
 told_tracks false tracks held e = same_Some tracks held e
 
-module _ {G : Ghosts Disk} (views : (v : Disk) → G.view v ≡ disk_view v) where
-  module _ (x : Device Disk G) (m : Mounted) (mine : List ℕ) (bytes : HoldsBytes x.store.volume) (is : IsMounted mine (stood_of x) m) where
-    side : SideOf (G.view x.store.volume) m A
-    side = side_of_a is (G.view x.store.volume) refl refl
+both_handed : (ts us : List Taken) (hs ks : List HandedOut) → AreHandedOut ts hs → AreHandedOut us ks → AreHandedOut (ts ++ us) (hs ++ ks)
+both_handed [] us [] ks one two = two
+both_handed [] us (h ∷ hs) ks one two = absurd one
+both_handed (t ∷ ts) us [] ks one two = absurd one
+both_handed (t ∷ ts) us (h ∷ hs) ks one two = (one.0, both_handed ts us hs ks one.1 two)
 
-    tracks_are : x.store.volume.tracks ≡ side.held
+first_zero : (m n : ℕ) → m + n ≡ 0 → m ≡ 0
+first_zero m n e = omega (arith, e)
+
+rest_zero : (m n : ℕ) → m + n ≡ 0 → n ≡ 0
+rest_zero m n e = omega (arith, e)
+
+not_there : (lent there : Bool) → one_if (lent && there) ≡ 0 → lent ≡ true → there ≡ false
+not_there true true e l = absurd (omega (arith, e))
+not_there true false e l = refl
+not_there false there e l = absurd (cc)
+
+module _ {G : Ghosts Disk} (views : (v : Disk) → G.view v ≡ disk_view v) where
+  -- the volume of a side is the one that the run hands out
+  module _ (x : Device Disk G) (m : Mounted) (mine : List ℕ) (is : IsMounted mine (stood_of x) m) (k : Side) (v : Disk) (bytes : HoldsBytes v)
+      (side : SideOf (G.view v) m k) where
+    tracks_are : v.tracks ≡ side.held
     tracks_are =
-        told_tracks x.store.volume.spoiled x.store.volume.tracks side.held
-        (ap (λ (y : VolumeView (List ℕ)). y.contents) (sym (views x.store.volume)) ∙ side.told)
+        told_tracks v.spoiled v.tracks side.held (ap (λ (y : VolumeView (List ℕ)). y.contents) (sym (views v)) ∙ side.told)
 
     track_known : (n : ℕ) → (n < tracks_of m.device.store) ⊎ (tracks_of m.device.store ≤ n) →
-        IsKnownAs (get_or x.store.volume.tracks n []) (get_or (handed_side m A).tracks n None)
+        IsKnownAs (get_or v.tracks n []) (get_or (handed_side m k).tracks n None)
     track_known n (inl lt) =
-        let known = known_bytes m.device.store A in
+        let known = known_bytes m.device.store k in
         let number = tracks_of m.device.store in
-        let within : n < x.store.cylinders * 15 = subst (λ (k : ℕ). n < k) (same_tracks is) lt in
-        let own : IsBytes (get_or x.store.volume.tracks n []) = λ i. bytes n i (few_tracks x.store.cylinders n x.store.most within) in
-        subst (λ (o : Option (List ℕ)). IsKnownAs (get_or x.store.volume.tracks n []) o)
+        let within : n < x.store.cylinders * 15 = subst (λ (i : ℕ). n < i) (same_tracks is) lt in
+        let own : IsBytes (get_or v.tracks n []) = λ i. bytes n i (few_tracks x.store.cylinders n x.store.most within) in
+        subst (λ (o : Option (List ℕ)). IsKnownAs (get_or v.tracks n []) o)
         (sym (get_or-map-range_with_len known 0 number n n None lt (omega arith)))
         (subst (λ (l : List (List ℕ)). IsKnownAs (get_or l n []) (known n)) (sym tracks_are)
         (side.known n lt (subst (λ (l : List (List ℕ)). IsBytes (get_or l n [])) tracks_are own)))
     track_known n (inr past) =
-        let known = known_bytes m.device.store A in
+        let known = known_bytes m.device.store k in
         let number = tracks_of m.device.store in
-        subst (λ (o : Option (List ℕ)). IsKnownAs (get_or x.store.volume.tracks n []) o)
-        (sym (get_or_past (map known (range_with_len 0 number)) n None (subst (λ (k : ℕ). k ≤ n) (sym (length-map-range_with_len known 0 number)) past)))
+        subst (λ (o : Option (List ℕ)). IsKnownAs (get_or v.tracks n []) o)
+        (sym (get_or_past (map known (range_with_len 0 number)) n None (subst (λ (i : ℕ). i ≤ n) (sym (length-map-range_with_len known 0 number)) past)))
         tt
 
-    one_handed : IsHandedOut (taken_of x) (handed_side m A)
+    one_handed : IsHandedOut (record { device = x.store.number; side = k; volume = v }) (handed_side m k)
     one_handed = record {
       device = sym (same_number is);
       side = refl;
-      reads = ap (λ (y : VolumeView (List ℕ)). y.reads) (sym (views x.store.volume)) ∙ side.reads;
-      writes = ap (λ (y : VolumeView (List ℕ)). y.writes) (sym (views x.store.volume)) ∙ side.writes;
+      reads = ap (λ (y : VolumeView (List ℕ)). y.reads) (sym (views v)) ∙ side.reads;
+      writes = ap (λ (y : VolumeView (List ℕ)). y.writes) (sym (views v)) ∙ side.writes;
       tracks = λ n. track_known n (cases_lt n (tracks_of m.device.store));
     }
 
-  handed_by_each : (used taken : List ℕ) (xs : List (Device Disk G)) (ms : List Mounted) → AllHoldBytes xs → AreMountedBy used taken (all_stood xs) ms →
-      AreHandedOut (all_taken xs) (handed_of ms)
+  -- of a device
+  module _ (x : Device Disk G) (m : Mounted) (mine : List ℕ) (is : IsMounted mine (stood_of x) m) where
+    sides_handed : (free : is_some x.store.pair.lent ≡ false) (a b : Option Disk) → on_a x.store ≡ a → on_b x.store ≡ b → is_some a ≡ true →
+        IfSome a HoldsBytes → IfSome b HoldsBytes →
+        AreHandedOut (on_side x.store.number A a ++ on_side x.store.number B b) (handed_by m false (is_some b))
+    sides_handed free None b at_a at_b there one two = absurd (cc)
+    sides_handed free (Some v) None at_a at_b there one two =
+        (one_handed x m mine is A v one (side_of_a is (G.view v) (ap (λ (o : Option Disk). option_map G.view o) at_a) free), tt)
+    sides_handed free (Some v) (Some w) at_a at_b there one two = (
+      one_handed x m mine is A v one (side_of_a is (G.view v) (ap (λ (o : Option Disk). option_map G.view o) at_a) free),
+      (one_handed x m mine is B w two (side_of_b is (G.view w) (ap (λ (o : Option Disk). option_map G.view o) at_b) free), tt),
+    )
+
+    gone_handed : (a b : Option Disk) → is_some a ≡ false → is_some b ≡ false →
+        AreHandedOut (on_side x.store.number A a ++ on_side x.store.number B b) (handed_by m true (is_some b))
+    gone_handed None None none no_more = tt
+    gone_handed None (Some w) none no_more = absurd (cc)
+    gone_handed (Some v) b none no_more = absurd (cc)
+
+    device_by : (lent : Bool) → is_some x.store.pair.lent ≡ lent → away_here (sides_of x) ≡ 0 → SidesHoldBytes x →
+        AreHandedOut (taken_of x) (handed_by m lent (is_some (on_b x.store)))
+    device_by true gone away bytes =
+        gone_handed (on_a x.store) (on_b x.store) (not_there (is_some x.store.pair.lent) (is_some (on_a x.store)) away gone) (away_single is gone)
+    device_by false free away bytes = sides_handed free (on_a x.store) (on_b x.store) refl refl (x.store.pair.home free) bytes.0 bytes.1
+
+    device_handed : away_here (sides_of x) ≡ 0 → SidesHoldBytes x →
+        AreHandedOut (taken_of x) (handed_by m (is_some m.device.store.lent) m.device.store.paired)
+    device_handed away bytes =
+        subst (λ (o : Option ℕ). AreHandedOut (taken_of x) (handed_by m (is_some o) m.device.store.paired)) (sym (same_lent is))
+        (subst (λ (b : Bool). AreHandedOut (taken_of x) (handed_by m (is_some x.store.pair.lent) b)) (sym (same_paired is))
+        (device_by (is_some x.store.pair.lent) refl away bytes))
+
+  handed_by_each : (used taken : List ℕ) (xs : List (Device Disk G)) (ms : List Mounted) → AllHoldBytes xs → total away_here (all_sides xs) ≡ 0 →
+      AreMountedBy used taken (all_stood xs) ms → AreHandedOut (all_taken xs) (handed_of ms)
   unfolding closing.handed_of
-  handed_by_each used taken [] [] bytes (no_more within) = tt
-  handed_by_each used taken [] (m ∷ ms) bytes are = elim are [ ]
-  handed_by_each used taken (x ∷ xs) [] bytes are = elim are [ ]
-  handed_by_each used taken (x ∷ xs) (m ∷ ms) bytes (one_more mine is apart rest) =
-      subst (λ (hs : List HandedOut). AreHandedOut (all_taken (x ∷ xs)) hs) (sym (one_side m ms (same_lent is) (same_paired is)))
-      (one_handed x m mine bytes.0 is, handed_by_each used (mine ++ taken) xs ms bytes.1 rest)
+  handed_by_each used taken [] [] bytes away (no_more within) = tt
+  handed_by_each used taken [] (m ∷ ms) bytes away are = elim are [ ]
+  handed_by_each used taken (x ∷ xs) [] bytes away are = elim are [ ]
+  handed_by_each used taken (x ∷ xs) (m ∷ ms) bytes away (one_more mine is apart rest) =
+      both_handed (taken_of x) (all_taken xs) (handed_by m (is_some m.device.store.lent) m.device.store.paired) (handed_of ms)
+      (device_handed x m mine is (first_zero (away_here (sides_of x)) (total away_here (all_sides xs)) away) bytes.0)
+      (handed_by_each used (mine ++ taken) xs ms bytes.1 (rest_zero (away_here (sides_of x)) (total away_here (all_sides xs)) away) rest)
 
   -- so are those of a subsystem that stands as a run has it
-  pub all_handed : (s : Subsystem Disk G) (run : defs.Subsystem) → AllHoldBytes s.devices.items → StandsAs s run →
+  pub all_handed : (s : Subsystem Disk G) (run : defs.Subsystem) → AllHoldBytes s.devices.items → AreAccounted (all_sides s.devices.items) → StandsAs s run →
       AreHandedOut (all_taken s.devices.items) (handed_out run)
-  all_handed s run bytes stands = handed_by_each s.pool.pool.used [] s.devices.items run.mounted bytes stands.mounted
+  all_handed s run bytes accounted stands =
+      handed_by_each s.pool.pool.used [] s.devices.items run.mounted bytes accounted.away stands.mounted
 
 -- How many they are
 
-pub as_many : {G : Ghosts Disk} (xs : List (Device Disk G)) (ds : List DeviceLine) → numbers_of xs ≡ numbers_in ds → length xs ≡ length ds
-as_many {G = G} xs ds are =
-    sym (length-map xs (λ (x : Device Disk G). x.store.number)) ∙ ap (λ (l : List ℕ). length l) are ∙ length-map ds (λ (d : DeviceLine). d.number)
+one_long : (n : ℕ) (side : Side) (o : Option Disk) → length (on_side n side o) ≡ one_if (is_some o)
+one_long n side None = refl
+one_long n side (Some v) = refl
 
-pub all_number : {G : Ghosts Disk} (xs : List (Device Disk G)) → length (all_taken xs) ≡ length xs
-all_number xs = length-map xs taken_of
+pub taken_long : {G : Ghosts Disk} (x : Device Disk G) → length (taken_of x) ≡ volumes_here (sides_of x)
+taken_long x =
+    length-append (on_side x.store.number A (on_a x.store)) (on_side x.store.number B (on_b x.store))
+    ∙ ap (λ (k : ℕ). k + length (on_side x.store.number B (on_b x.store))) (one_long x.store.number A (on_a x.store))
+    ∙ ap (λ (k : ℕ). one_if (is_some (on_a x.store)) + k) (one_long x.store.number B (on_b x.store))
 
-pub held_more : {G : Ghosts Disk} (all xs : List (Device Disk G)) (x : Device Disk G) → all ≡ xs ++ x ∷ [] → AllHoldBytes xs → HoldsBytes x.store.volume →
-    AllHoldBytes all
+all_long : {G : Ghosts Disk} (xs : List (Device Disk G)) → length (all_taken xs) ≡ total volumes_here (all_sides xs)
+all_long [] = refl
+all_long (x ∷ xs) =
+    length-append (taken_of x) (all_taken xs) ∙ ap (λ (k : ℕ). k + length (all_taken xs)) (taken_long x)
+    ∙ ap (λ (k : ℕ). volumes_here (sides_of x) + k) (all_long xs)
+
+-- as many as there are devices
+pub all_number : {G : Ghosts Disk} (xs : List (Device Disk G)) (ds : List DeviceLine) → AreAccounted (all_sides xs) → numbers_of xs ≡ numbers_in ds →
+    length (all_taken xs) ≡ length ds
+all_number {G = G} xs ds accounted are =
+    all_long xs ∙ accounted.volumes ∙ length-map xs sides_of ∙ sym (length-map xs (λ (x : Device Disk G). x.store.number))
+    ∙ ap (λ (l : List ℕ). length l) are ∙ length-map ds (λ (d : DeviceLine). d.number)
+
+pub taken_more : {G : Ghosts Disk} (all xs : List (Device Disk G)) (x : Device Disk G) → all ≡ xs ++ x ∷ [] → all_taken all ≡ all_taken xs ++ taken_of x
+taken_more {G = G} all xs x is = ap (λ (l : List (Device Disk G)). all_taken l) is ∙ go xs
+  where
+    go : (ys : List (Device Disk G)) → all_taken (ys ++ x ∷ []) ≡ all_taken ys ++ taken_of x
+    go [] = append-nil (taken_of x)
+    go (y ∷ ys) = ap (λ (l : List Taken). taken_of y ++ l) (go ys) ∙ sym (append_assoc (taken_of y) (all_taken ys) (taken_of x))
+
+pub held_more : {G : Ghosts Disk} (all xs : List (Device Disk G)) (x : Device Disk G) → all ≡ xs ++ x ∷ [] → AllHoldBytes xs → SidesHoldBytes x → AllHoldBytes all
 held_more {G = G} all xs x is hold holds = subst AllHoldBytes (sym is) (go xs hold)
   where
     go : (ys : List (Device Disk G)) → AllHoldBytes ys → AllHoldBytes (ys ++ x ∷ [])
     go [] h = (holds, tt)
     go (y ∷ ys) h = (h.0, go ys h.1)
+
+-- A bay that takes some volumes and then others
+
+pub both_given : (b c d : Bay) (ts us : List Taken) → c ≡ record b { taken = b.taken ++ ts } → d ≡ record c { taken = c.taken ++ us } →
+    d ≡ record b { taken = b.taken ++ (ts ++ us) }
+both_given b c d ts us one two =
+    two ∙ ap (λ (x : Bay). record x { taken = x.taken ++ us }) one ∙ ap (λ (l : List Taken). record b { taken = l }) (append_assoc b.taken ts us)
+
+pub room_one : (b : Bay) (ts us : List Taken) → length b.taken + length (ts ++ us) ≤ b.made → length b.taken + length ts ≤ b.made
+room_one b ts us room = omega (arith, room, length-append ts us)
+
+pub room_two : (b c : Bay) (ts us : List Taken) → c ≡ record b { taken = b.taken ++ ts } → length b.taken + length (ts ++ us) ≤ b.made →
+    length c.taken + length us ≤ c.made
+room_two b c ts us is room =
+    subst (λ (x : Bay). length x.taken + length us ≤ x.made) (sym is) (omega (arith, room, length-append ts us, length-append b.taken ts))

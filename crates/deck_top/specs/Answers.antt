@@ -6,7 +6,6 @@ use Rattle.ckd_outside.specs.Texts.{AppendsFront}
 use Rattle.deck_text.specs.DeckLines.{DeckLines}
 use Rattle.deck_text.specs.declared.line.DeckFault.{DeckFault}
 use Rattle.deck_text.specs.declared.line.DeckFault.TheVariants as faults
-use Rattle.deck_text.specs.declared.line.DeckWhy.TheVariants as reasons
 use Rattle.deck_text.specs.Canonical.{canonical}
 use Rattle.deck_text.specs.Parse.{parsed}
 use Rattle.deck_text.specs.Texts.{limit_text, refused_text}
@@ -18,7 +17,6 @@ use Rattle.deck_top.specs.Handed.{TakesBack}
 use Rattle.deck_top.specs.Run.{DeckRunsPlainly}
 use Rattle.device_outside.specs.Bay.{Bay}
 use Rattle.device_outside.specs.declared.bay.Spoiled.{Spoiled}
-use Rattle.deck_run.specs.Later.{first_later}
 use Rattle.run_report.specs.Report.{report_of}
 
 -- the exit status of the program
@@ -42,23 +40,6 @@ task_of (word ∷ other ∷ words) = None
 
 unfoldable pub usage_text : List ℕ
 usage_text = codes "usage: run, check, paths, generate SEED COUNT\n"
-
-abbrev pub unless_later : DeckLines → Option ℕ → Result DeckLines DeckFault
-unless_later d (Some n) = Err (faults.Refused n reasons.Later)
-unless_later d None = Ok d
-
--- `run` alone refuses what it doesn't run yet
-abbrev pub open_deck : Task → DeckLines → Result DeckLines DeckFault
-open_deck Run d = unless_later d (first_later d)
-open_deck Check d = Ok d
-
-abbrev pub if_read : Result DeckLines DeckFault → (DeckLines → Result DeckLines DeckFault) → Result DeckLines DeckFault
-if_read (Ok d) go = go d
-if_read (Err fault) go = Err fault
-
--- the deck that a text is for a task, or its fault
-abbrev pub deck_for : Task → List ℕ → Result DeckLines DeckFault
-deck_for task text = if_read (parsed text) (open_deck task)
 
 -- what a task writes for a deck: the report of its run, or its canonical text
 abbrev pub output_of : Task → DeckLines → List ℕ
@@ -108,7 +89,7 @@ abbrev pub TellsTask : Status → Task → Bay → Bay → Option (List ℕ) →
 TellsTask ReadFault task old new before after held holds = holds ≡ held
 TellsTask NoMemory task old new before after held holds = holds ≡ held
 TellsTask status task old new before after held holds =
-    (text : List ℕ) × Reads before after text × TellsDeck status task (deck_for task text) old new held holds
+    (text : List ℕ) × Reads before after text × TellsDeck status task (parsed text) old new held holds
 
 -- what the answer to words that name no task says
 abbrev pub TellsUsage : Status → Option (List ℕ) → Option (List ℕ) → Option (List ℕ) → Option (List ℕ) → Type 0

@@ -1,11 +1,14 @@
 -- The volumes of a run that go back to a bay, and what they hold then.
-use Rattle.std.specs.Prelude.{◌≡◌, ◌<◌, ℕ, List, [], ◌∷◌, ◌++◌, length, Option, Some, None, map, slice_index_or}
-use Rattle.ckd_types.specs.declared.paths.Side.TheVariants.{A}
+use Rattle.std.specs.Prelude.{◌≡◌, ◌<◌, ℕ, List, [], ◌∷◌, ◌++◌, length, Option, Some, None, IfSome, slice_index_or}
+use Rattle.std.specs.List.{flat_map}
+use Rattle.ckd_types.specs.declared.paths.Side.{Side}
+use Rattle.ckd_types.specs.declared.paths.Side.TheVariants.{A, B}
 use Rattle.deck_text.specs.DeckLines.{DeckLines}
 use Rattle.device_outside.specs.Bay.{Bay}
 use Rattle.device_outside.specs.declared.bay.Taken.{Taken}
 use Rattle.device_outside.specs.declared.volume.Volume.{Ghosts}
 use Rattle.device_outside.specs.Disk.{Disk}
+use Rattle.device_store.specs.State.{on_a, on_b}
 use Rattle.device_core.specs.declared.device.Device.{Device}
 use Rattle.subsystem_defs.specs.Closing.{HandedOut}
 use Rattle.subsystem_defs.specs.Decks.{handed_out_of}
@@ -39,14 +42,22 @@ pub record TakesBack (d : DeckLines) (old new : Bay) : Type 0 where
 abbrev pub HoldsBytes : Disk → Type 0
 HoldsBytes v = (t i : ℕ) → t < 960 → slice_index_or (slice_index_or v.tracks t []) i 0 < 256
 
+-- the volume of a side, where one stands
+abbrev pub on_side : ℕ → Side → Option Disk → List Taken
+on_side n side None = []
+on_side n side (Some v) = record { device = n; side = side; volume = v } ∷ []
+
 module _ {G : Ghosts Disk} where
-  -- the volume that stands in a device
-  abbrev pub taken_of : Device Disk G → Taken
-  taken_of x = record { device = x.store.number; side = A; volume = x.store.volume }
+  -- the volumes that stand in a device, side A before side B
+  abbrev pub taken_of : Device Disk G → List Taken
+  taken_of x = on_side x.store.number A (on_a x.store) ++ on_side x.store.number B (on_b x.store)
 
   abbrev pub all_taken : List (Device Disk G) → List Taken
-  all_taken xs = map taken_of xs
+  all_taken xs = flat_map taken_of xs
+
+  abbrev pub SidesHoldBytes : Device Disk G → Type 0
+  SidesHoldBytes x = IfSome (on_a x.store) HoldsBytes × IfSome (on_b x.store) HoldsBytes
 
   abbrev pub AllHoldBytes : List (Device Disk G) → Type 0
   AllHoldBytes [] = Unit {0}
-  AllHoldBytes (x ∷ xs) = HoldsBytes x.store.volume × AllHoldBytes xs
+  AllHoldBytes (x ∷ xs) = SidesHoldBytes x × AllHoldBytes xs

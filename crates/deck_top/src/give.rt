@@ -1,9 +1,9 @@
 //! The volumes of a run, given to the bay.
 
-ghost use Rattle.std.specs.Prelude.{◌≡◌, ◌<◌, ◌≤◌, ◌+◌, ◌++◌, ◌∷◌, [], ℕ, length, slice_index_or};
-ghost use Rattle.deck_top.specs.Handed.{HoldsBytes, AllHoldBytes, taken_of, all_taken};
+ghost use Rattle.std.specs.Prelude.{◌≡◌, ◌<◌, ◌≤◌, ◌+◌, ◌++◌, [], ℕ, IfSome, length, slice_index_or};
+ghost use Rattle.deck_top.specs.Handed.{HoldsBytes, SidesHoldBytes, AllHoldBytes, on_side, taken_of, all_taken};
 
-use ckd_types::{Side, TrackNo};
+use ckd_types::{DeviceNo, Side, TrackNo};
 use device_core::Device;
 use device_outside::{MemBay, MemVolume, Taken};
 use subsystem_core::Subsystem;
@@ -35,26 +35,38 @@ fn holds_bytes(volume: &MemVolume)
     }
 }
 
-/// The volume of a device.
-fn give_device(device: Device<MemVolume>, bay: &mut MemBay)
-    requires { length bay.old.taken < bay.old.made }
-    ensures bay { bay.new ≡ record bay.old { taken = bay.old.taken ++ taken_of device ∷ [] } }
-    ensures bytes { HoldsBytes device.store.volume }
+/// The volume of a side, where one stands.
+fn give_side(number: DeviceNo, side: Side, volume: Option<MemVolume>, bay: &mut MemBay)
+    requires { length bay.old.taken + length (on_side number side volume) ≤ bay.old.made }
+    ensures bay { bay.new ≡ record bay.old { taken = bay.old.taken ++ on_side number side volume } }
+    ensures bytes { IfSome volume HoldsBytes }
 {
-    let number = device.number();
-    let (a, _none) = device.into_volumes();
-    let Some(volume) = a else { unreachable!() };
+    let Some(volume) = volume else {
+        return;
+    };
     holds_bytes(&volume);
     bay.back(Taken {
         device: number,
-        side: Side::A,
+        side,
         volume,
     });
 }
 
+/// The volumes of a device.
+fn give_device(device: Device<MemVolume>, bay: &mut MemBay)
+    requires { length bay.old.taken + length (taken_of device) ≤ bay.old.made }
+    ensures bay { bay.new ≡ record bay.old { taken = bay.old.taken ++ taken_of device } }
+    ensures bytes { SidesHoldBytes device }
+{
+    let number = device.number();
+    let (a, b) = device.into_volumes();
+    give_side(number, Side::A, a, bay);
+    give_side(number, Side::B, b, bay);
+}
+
 /// Those of some devices, the first one's first.
 fn give_devices(mut devices: Vec<Device<MemVolume>>, bay: &mut MemBay)
-    requires { length bay.old.taken + length devices.items ≤ bay.old.made }
+    requires { length bay.old.taken + length (all_taken devices.items) ≤ bay.old.made }
     ensures bay { bay.new ≡ record bay.old { taken = bay.old.taken ++ all_taken devices.items } }
     ensures bytes { AllHoldBytes devices.items }
 {
@@ -67,7 +79,7 @@ fn give_devices(mut devices: Vec<Device<MemVolume>>, bay: &mut MemBay)
 
 /// The volumes that stand in the devices, by rising number.
 pub(crate) fn give_back(sub: Subsystem<MemVolume>, bay: &mut MemBay)
-    requires { length bay.old.taken + length sub.devices.items ≤ bay.old.made }
+    requires { length bay.old.taken + length (all_taken sub.devices.items) ≤ bay.old.made }
     ensures bay { bay.new ≡ record bay.old { taken = bay.old.taken ++ all_taken sub.devices.items } }
     ensures bytes { AllHoldBytes sub.devices.items }
 {

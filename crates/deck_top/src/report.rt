@@ -1,16 +1,16 @@
 //! The run of a deck over the volumes of a bay, and its report.
 
-ghost use Rattle.std.specs.Prelude.{◌≡◌, ◌≢◌, ◌≤◌, ◌+◌, [], IfOk, Ok, None, length, OnOk};
+ghost use Rattle.std.specs.Prelude.{◌≡◌, ◌≢◌, ◌≤◌, ◌+◌, [], IfOk, Ok, length, OnOk};
 ghost use Rattle.ckd_outside.specs.Causes.{Rose};
 ghost use Rattle.report_text.specs.Report.{report_text};
 ghost use Rattle.run_report.specs.Report.{report_of};
 ghost use Rattle.subsystem_core.specs.Devices.{numbers_of};
 ghost use Rattle.subsystem_defs.specs.Decks.{run_of};
-ghost use Rattle.deck_run.specs.Later.{first_later};
-ghost use Rattle.deck_run.specs.Opening.{numbers_in};
+ghost use Rattle.deck_run.specs.Opening.{WasRead, numbers_in};
+ghost use Rattle.deck_run.specs.Sides.{AreAccounted, all_sides};
 ghost use Rattle.deck_run.specs.Standing.{StandsAs};
 ghost use Rattle.deck_top.specs.Handed.{TakesBack};
-ghost use Rattle.deck_top.specs.Run.{DeckRunsPlainly, WasRead};
+ghost use Rattle.deck_top.specs.Run.{DeckRunsPlainly};
 ghost use Rattle.deck_top.specs.Answers.{TellsDeck};
 
 use crate::give::give_back;
@@ -28,12 +28,12 @@ use subsystem_laws::run_is_plain;
 
 /// A deck's devices behind its run, and the lines of its report, but for the last one; and that the run is plain.
 fn run_deck(alloc: Global, deck: &Deck, bay: &mut MemBay) -> Result<FinishedRun, NoMemory>
-    requires served { first_later deck.now ≡ None }
-    requires read { WasRead deck.now }
+    requires { WasRead deck.now }
     ensures text { bay.old.spoiled ≡ [] → IfOk result (λ ran. report_text ran.report [] [] ≡ report_of deck.now) }
     ensures plain { IfOk result (λ ran. DeckRunsPlainly deck.now) }
     ensures stands { bay.old.spoiled ≡ [] → IfOk result (λ ran. StandsAs ran.sub (run_of deck.now).behind) }
     ensures numbers { IfOk result (λ ran. numbers_of ran.sub.devices.items ≡ numbers_in deck.now.devices) }
+    ensures accounted { IfOk result (λ ran. AreAccounted (all_sides ran.sub.devices.items)) }
     ensures made { OnOk result (bay.new.made ≡ bay.old.made + length deck.now.devices) }
     ensures spoiled { bay.new.spoiled ≡ bay.old.spoiled }
     ensures taken { bay.new.taken ≡ bay.old.taken }
@@ -43,9 +43,10 @@ fn run_deck(alloc: Global, deck: &Deck, bay: &mut MemBay) -> Result<FinishedRun,
     Ok(ran)
 }
 
-/// The volumes of the devices of a deck, given to the bay. It has made as many more as there are devices.
+/// The volumes of the devices of a deck, given to the bay. It has made as many more as there are devices, and as many stand there.
 fn take_back(deck: &Deck, sub: Subsystem<MemVolume>, bay: &mut MemBay)
     requires numbers { numbers_of sub.devices.items ≡ numbers_in deck.now.devices }
+    requires accounted { AreAccounted (all_sides sub.devices.items) }
     requires room { length bay.old.taken + length deck.now.devices ≤ bay.old.made }
     ensures spoiled { bay.new.spoiled ≡ bay.old.spoiled }
     ensures volumes { (bay.old.spoiled ≡ [] → StandsAs sub (run_of deck.now).behind) → TakesBack deck.now bay.old bay.new }
@@ -54,8 +55,7 @@ fn take_back(deck: &Deck, sub: Subsystem<MemVolume>, bay: &mut MemBay)
 }
 
 pub(crate) fn report<K: Sink>(alloc: Global, deck: &Deck, sink: &mut K, bay: &mut MemBay) -> Status
-    requires served { first_later deck.now ≡ None }
-    requires read { WasRead deck.now }
+    requires { WasRead deck.now }
     ensures told { TellsDeck result Task.Run (Ok deck.now) bay.old bay.new (K.held sink.old) (K.held sink.new) }
     ensures spoiled { bay.new.spoiled ≡ bay.old.spoiled }
     ensures kept { result ≢ Status.Reported → bay.new.taken ≡ bay.old.taken }

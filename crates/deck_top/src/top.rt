@@ -4,14 +4,13 @@ ghost use Rattle.ckd_outside.specs.Causes.{Rose, HasCause};
 ghost use Rattle.ckd_outside.specs.Texts.{Writes, AppendsFront};
 ghost use Rattle.deck_text.specs.DeckLines.{DeckLines};
 ghost use Rattle.device_outside.specs.Bay.{Bay};
-ghost use Rattle.deck_run.specs.Later.{first_later};
-ghost use Rattle.deck_top.specs.Run.{WasRead};
-ghost use Rattle.deck_top.specs.Answers.{code_of, task_by, task_of, usage_text, open_deck, deck_for, TellsDeck, TellsTask, TellsUsage, Tells};
+ghost use Rattle.deck_text.specs.Parse.{parsed};
+ghost use Rattle.deck_run.specs.Opening.{WasRead};
+ghost use Rattle.deck_top.specs.Answers.{code_of, task_by, task_of, usage_text, TellsDeck, TellsTask, TellsUsage, Tells};
 
 use crate::report::report;
 use crate::task::Task;
 use ckd_outside::{Failed, Piece, ReadError, Sink, Source, read_up_to};
-use deck_run::first_later;
 use deck_text::{
     Deck, DeckFault, DeckWhy, Which, read_deck, write_deck, write_limit, write_line, write_refused,
 };
@@ -119,20 +118,6 @@ fn limit<K: Sink>(sink: &mut K, which: Which) -> Status
     }
 }
 
-fn run<K: Sink>(alloc: Global, deck: &Deck, sink: &mut K, bay: &mut MemBay) -> Status
-    requires { WasRead deck.now }
-    ensures spoiled { bay.new.spoiled ≡ bay.old.spoiled }
-    ensures kept { result ≢ Status.Reported → bay.new.taken ≡ bay.old.taken }
-    ensures told { TellsDeck result Task.Run (open_deck Task.Run deck.now) bay.old bay.new (K.held sink.old) (K.held sink.new) }
-    ensures later { K.faults sink.old ≤ K.faults sink.new }
-    ensures write { result ≡ Status.WriteFault → Rose (K.faults sink.old) (K.faults sink.new) }
-{
-    match first_later(deck) {
-        Some(line) => refuse(sink, line, DeckWhy::Later),
-        None => report(alloc, deck, sink, bay),
-    }
-}
-
 fn check<K: Sink>(deck: &Deck, sink: &mut K) -> Status
     ensures told { (old new : Bay) → TellsDeck result Task.Check (Ok deck.now) old new (K.held sink.old) (K.held sink.new) }
     ensures later { K.faults sink.old ≤ K.faults sink.new }
@@ -155,12 +140,12 @@ fn serve_deck<K: Sink>(
     ensures spoiled { bay.new.spoiled ≡ bay.old.spoiled }
     ensures kept { result ≢ Status.Reported → bay.new.taken ≡ bay.old.taken }
     ensures check { task ≢ Task.Run → bay.new ≡ bay.old }
-    ensures told { TellsDeck result task (open_deck task deck.now) bay.old bay.new (K.held sink.old) (K.held sink.new) }
+    ensures told { TellsDeck result task (Ok deck.now) bay.old bay.new (K.held sink.old) (K.held sink.new) }
     ensures later { K.faults sink.old ≤ K.faults sink.new }
     ensures write { result ≡ Status.WriteFault → Rose (K.faults sink.old) (K.faults sink.new) }
 {
     match task {
-        Task::Run => run(alloc, deck, sink, bay),
+        Task::Run => report(alloc, deck, sink, bay),
         Task::Check => check(deck, sink),
     }
 }
@@ -169,7 +154,7 @@ fn answer<K: Sink>(alloc: Global, task: Task, text: &[u8], sink: &mut K, bay: &m
     ensures spoiled { bay.new.spoiled ≡ bay.old.spoiled }
     ensures kept { result ≢ Status.Reported → bay.new.taken ≡ bay.old.taken }
     ensures check { task ≢ Task.Run → bay.new ≡ bay.old }
-    ensures told { TellsDeck result task (deck_for task text.now) bay.old bay.new (K.held sink.old) (K.held sink.new) }
+    ensures told { TellsDeck result task (parsed text.now) bay.old bay.new (K.held sink.old) (K.held sink.new) }
     ensures later { K.faults sink.old ≤ K.faults sink.new }
     ensures write { result ≡ Status.WriteFault → Rose (K.faults sink.old) (K.faults sink.new) }
 {
@@ -259,10 +244,9 @@ pub fn deck_top<S: Source, K: Sink>(
     ensures kept { result ≢ Status.Reported → bay.new.taken ≡ bay.old.taken }
     ensures check { task_of (map (λ w. w.now) words.now) ≢ Some Task.Run → bay.new ≡ bay.old }
 
-    // Every deck is checked, and every deck that `run` serves so far is run, unless memory runs out or the
-    // outside fails.
+    // Every deck is checked, and run, unless memory runs out or the outside fails.
     ensures complete { (text : List ℕ) (task : Task) (d : DeckLines) → S.left source.old ≡ Some text
-        → task_of (map (λ w. w.now) words.now) ≡ Some task → deck_for task text ≡ Ok d
+        → task_of (map (λ w. w.now) words.now) ≡ Some task → parsed text ≡ Ok d
         → ¬ Rose (S.faults source.old) (S.faults source.new) → ¬ Rose (K.faults sink.old) (K.faults sink.new)
         → (result ≡ Status.Reported) ⊎ (result ≡ Status.NoMemory) }
 {

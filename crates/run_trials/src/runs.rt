@@ -1,5 +1,5 @@
 use ckd_outside::MemSink;
-use deck_run::{first_later, run_deck};
+use deck_run::run_deck;
 use deck_text::read_deck;
 use device_outside::MemBay;
 use report_text::write_report;
@@ -34,10 +34,7 @@ fn report_of(alloc: Global, text: &str) -> Result<MemSink, Fail> {
         Err(_) => return Err("deck".into()),
     };
     let mut bay = MemBay::new(alloc);
-    let ran = match first_later(&deck) {
-        Some(_) => return Err("later".into()),
-        None => run_deck(alloc, &deck, &mut bay)?,
-    };
+    let ran = run_deck(alloc, &deck, &mut bay)?;
     let mut sink = MemSink::new(alloc, 10000, 10000, &[])?;
     write_report(&mut sink, &ran.report, &[], &[]).or(Err("sink"))?;
     Ok(sink)

@@ -1,9 +1,10 @@
 use Rattle.subsystem_defs.specs.declared.event.Event.TheVariants as events
-use Rattle.subsystem_defs.specs.Happening.{happens, replaced}
+use Rattle.subsystem_defs.specs.Happening.{happens, replaced, unpaired}
 use Rattle.subsystem_defs.specs.Lines as lines
-use Rattle.subsystem_defs.specs.Lines.{Once, Replace, logged}
+use Rattle.subsystem_defs.specs.Lines.{Once, Replace, Unpair, logged}
 use Rattle.subsystem_defs.specs.Subsystem.{unfailing}
 use Rattle.deck_run.proofs.Events.{ok_so}
+use Rattle.deck_run.proofs.Pairing.{first_so, second_so}
 use Rattle.deck_run.proofs.Recorded.{back_tells, fail_tells, one_step_tells, one_tells, reset_tells, resume_tells, start_tells, suspend_tells}
 use Rattle.deck_run.proofs.line.do_line.Goals as goal
 
@@ -150,3 +151,29 @@ unfolding lines.line_logged
 returns-in-Power-clause-lines c = λ run all.
     rw c.in-Power.is
     (ok_so c.order_all-in-Power.result _ _ (λ h. one_tells (logged (Once events.Power) (happens run events.Power)) c.args.report.now c.order_all-in-Power.new.report h) (c.order_all-in-Power.ensures.lines run all))
+
+pub pair-requires-clause-a : goal.pair-requires-clause-a
+pair-requires-clause-a c = first_so _ _ (rw c.in-Pair.is at c.requires.here)
+
+pub pair-requires-clause-b : goal.pair-requires-clause-b
+pair-requires-clause-b c = second_so _ _ (rw c.in-Pair.is at c.requires.here)
+
+pub returns-in-Pair-clause-stands : goal.returns-in-Pair-clause-stands
+unfolding lines.line_logged
+returns-in-Pair-clause-stands c = λ run all. rw c.in-Pair.is (c.pair.ensures.stands run all)
+
+pub returns-in-Pair-clause-lines : goal.returns-in-Pair-clause-lines
+unfolding lines.line_logged
+returns-in-Pair-clause-lines c = λ run all.
+    rw c.in-Pair.is
+    (ok_so c.pair.result _ _ (λ h. one_tells (logged (Once (events.Pair c.in-Pair.a c.in-Pair.b)) (happens run (events.Pair c.in-Pair.a c.in-Pair.b))) c.args.report.now c.pair.new.report h) (c.pair.ensures.lines run all))
+
+pub returns-in-Unpair-clause-stands : goal.returns-in-Unpair-clause-stands
+unfolding lines.line_logged
+returns-in-Unpair-clause-stands c = λ run all. rw c.in-Unpair.is (c.unpair.ensures.stands run all)
+
+pub returns-in-Unpair-clause-lines : goal.returns-in-Unpair-clause-lines
+unfolding lines.line_logged
+returns-in-Unpair-clause-lines c = λ run all.
+    rw c.in-Unpair.is
+    (ok_so c.unpair.result _ _ (λ h. one_tells (logged (Unpair c.in-Unpair.a) (unpaired run c.in-Unpair.a unfailing)) c.args.report.now c.unpair.new.report h) (c.unpair.ensures.lines run all))

@@ -3,13 +3,17 @@ use Rattle.device_outside.specs.Pool.{new_pool}
 use Rattle.frame_pool.specs.Shared.{Shared}
 use Rattle.subsystem_core.specs.Places.{are_rising}
 use Rattle.subsystem_defs.specs.Decks.{opened}
+use Rattle.deck_run.proofs.Accounted.{fresh_accounted, fresh_alike}
 use Rattle.deck_run.proofs.Lines.{numbers_rise}
 use Rattle.deck_run.proofs.Opened.{opened_stands}
 use Rattle.deck_run.proofs.open.open_deck.Goals as goal
 
-pub new-requires-2 : goal.new-requires-2
-new-requires-2 c =
+pub new-requires-2-clause-rising : goal.new-requires-2-clause-rising
+new-requires-2-clause-rising c =
     subst (λ (l : List ℕ). are_rising l ≡ true) (sym c.in_ok-devices.ensures.numbers) (numbers_rise c.args.deck.now.devices None c.requires)
+
+pub new-requires-2-clause-alike : goal.new-requires-2-clause-alike
+new-requires-2-clause-alike c = fresh_alike c.in_ok-devices.devices.items c.in_ok-devices.ensures.fresh
 
 pub returns-clause-stands : goal.returns-clause-stands
 returns-clause-stands c = λ none.
@@ -22,4 +26,7 @@ pub returns-clause-numbers : goal.returns-clause-numbers
 returns-clause-numbers c = rw c.in_ok-made.ensures.devices c.in_ok-devices.ensures.numbers
 
 pub returns-clause-own : goal.returns-clause-own
-returns-clause-own c = rw c.in_ok-made.ensures.devices c.in_ok-devices.ensures.own
+returns-clause-own c = rw c.in_ok-made.ensures.devices (record {
+  each = c.in_ok-devices.ensures.own;
+  accounted = fresh_accounted c.in_ok-devices.devices.items c.in_ok-devices.ensures.fresh;
+})

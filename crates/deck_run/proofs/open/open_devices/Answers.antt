@@ -1,5 +1,6 @@
 use Rattle.std.proofs.Common.{◌∙◌, refl, take, None}
 use Rattle.std.proofs.lemmas.List.{take_more}
+use Rattle.deck_run.proofs.Accounted.{fresh_append}
 use Rattle.deck_run.proofs.Lines.{open_at}
 use Rattle.deck_run.proofs.Found.{own_more}
 use Rattle.deck_run.proofs.Opened.{made_more, none_made, none_mounted, numbers_more, stands_more}
@@ -10,6 +11,7 @@ loop-i-init c = record {
   numbers = rw c.new-made.ensures.items refl;
   mounted = λ p none. rw c.new-made.ensures.items (none_mounted p);
   own = rw c.new-made.ensures.items tt;
+  fresh = rw c.new-made.ensures.items tt;
   count = c.device_count-i-end.ensures;
   made = none_made c.args.deck.now.devices c.args.bay.now.made;
   spoiled = refl;
@@ -33,6 +35,8 @@ loop-i-preserved c =
           (c.in_ok-open_device.ensures.mounted (c.loop-i.invariant.spoiled ∙ none)));
       own = own_more c.loop-i.made.items c.push.new.self.items c.in_ok-open_device.field-0 c.in_ok-push.ensures.items c.loop-i.invariant.own
           c.in_ok-open_device.ensures.own;
+      fresh = fresh_append c.loop-i.made.items c.push.new.self.items c.in_ok-open_device.field-0 c.in_ok-push.ensures.items c.loop-i.invariant.fresh
+          c.in_ok-open_device.ensures.fresh;
       count = c.loop-i.invariant.count;
       made = made_more ds c.loop-i.i _ _ _ (rw c.loop-i.invariant.count at c.loop-i-test.true) c.loop-i.invariant.made c.in_ok-open_device.ensures.made;
       spoiled = c.in_ok-open_device.ensures.spoiled ∙ c.loop-i.invariant.spoiled;

@@ -5,6 +5,7 @@ use Rattle.report_text.specs.declared.line.ReportLine.{ReportLine}
 use Rattle.report_text.specs.declared.line.ReportLine.TheVariants as lines
 use Rattle.report_text.specs.declared.order.Order.TheVariants as orders
 use Rattle.run_report.specs.Answers.{order_answer}
+use Rattle.deck_run.proofs.Ordered.{order_told}
 use Rattle.deck_run.proofs.replace.replace.Goals as goal
 
 pub put_volume-requires-clause-empty : goal.put_volume-requires-clause-empty
@@ -22,6 +23,5 @@ returns-clause-stands c = λ run all. (c.in_ok-end.ensures.happened run all).sta
 
 pub returns-clause-lines : goal.returns-clause-lines
 returns-clause-lines c = λ run all.
-    c.in_ok-record_order.ensures
-    ∙ ap (λ (l : List ReportLine). l ++ lines.Order (orders.Replace c.args.d c.args.side) (order_answer c.in_ok-end.end) ∷ []) c.in_ok-make_room.ensures
-    ∙ ap (λ (l : List ReportLine). c.args.report.now ++ l) (sym (c.in_ok-end.ensures.happened run all).lines)
+    order_told (orders.Replace c.args.d c.args.side) c.in_ok-end.end c.args.report.now c.make_room.new.self c.record_order.new.run _ c.in_ok-make_room.ensures
+    c.in_ok-record_order.ensures (c.in_ok-end.ensures.happened run all).lines

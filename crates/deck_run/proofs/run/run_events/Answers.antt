@@ -7,7 +7,7 @@ use Rattle.subsystem_defs.specs.Decks as decks
 use Rattle.subsystem_defs.specs.Decks.{run_of, opened}
 use Rattle.deck_run.specs.Opening.{numbers_in}
 use Rattle.deck_run.proofs.Going.{line_open_at, line_done, lines_over}
-use Rattle.deck_run.proofs.LaterSteps.{devices_open, lines_open}
+use Rattle.deck_run.proofs.Ready.{read_devices, read_lines}
 use Rattle.deck_run.proofs.run.run_events.Goals as goal
 
 pub loop-line-init : goal.loop-line-init
@@ -30,7 +30,7 @@ do_line-requires-clause-here c =
     let same : c.as_slice-line-items.result.now ≡ es = c.as_slice-line-items.ensures ∙ c.schedule.ensures in
     rw c.loop-line.invariant.numbers
     (line_open_at (numbers_in c.args.deck.now.devices) es c.loop-line.line-index c.line-item.result (rw same at c.loop-line-test.true)
-    (rw same at c.line-item.is) (lines_open c.args.deck.now c.requires))
+    (rw same at c.line-item.is) (read_lines c.requires.0 c.args.deck.now c.requires.1))
 
 pub loop-line-preserved : goal.loop-line-preserved
 loop-line-preserved c =
@@ -57,4 +57,7 @@ returns-clause-lines c =
     (lines_of_run (run_of c.args.deck.now)) (rw same at c.loop-line-test.false) (c.loop-line.invariant.left none)).lines
 
 pub open_deck-requires : goal.open_deck-requires
-open_deck-requires c = devices_open c.args.deck.now c.requires
+open_deck-requires c = read_devices c.requires.0 c.args.deck.now c.requires.1
+
+pub returns-clause-accounted : goal.returns-clause-accounted
+returns-clause-accounted c = c.loop-line.invariant.own.accounted

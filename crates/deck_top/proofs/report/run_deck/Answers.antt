@@ -8,4 +8,4 @@ pub returns-clause-text : goal.returns-clause-text
 returns-clause-text c = λ none. whole_text c.in_ok-ran.ran.report (report_lines (run_of c.args.deck.now)) (c.in_ok-ran.ensures.lines none)
 
 pub returns-clause-plain : goal.returns-clause-plain
-returns-clause-plain c = deck_plain c.args.deck.now c.run_is_plain.ensures c.requires.read
+returns-clause-plain c = deck_plain c.args.deck.now c.run_is_plain.ensures c.requires

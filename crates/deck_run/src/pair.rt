@@ -1,0 +1,104 @@
+ghost use Rattle.std.specs.Prelude.{◌≡◌, ◌*◌, ◌++◌, [], IfOk, IfSome, OnOk, length, true};
+ghost use Rattle.device_outside.specs.Disk.{new_disk};
+ghost use Rattle.device_outside.specs.Lists.{is_in};
+ghost use Rattle.report_text.specs.declared.order.Order.TheVariants as orders;
+ghost use Rattle.run_report.specs.Events.{lines_of};
+ghost use Rattle.subsystem_core.specs.Devices.{device_at, numbers_of};
+ghost use Rattle.subsystem_defs.specs.Happening.{happens, unpaired};
+ghost use Rattle.subsystem_defs.specs.Lines.{Once, Unpair, logged};
+ghost use Rattle.subsystem_defs.specs.Subsystem as runs;
+ghost use Rattle.subsystem_defs.specs.Subsystem.{unfailing};
+ghost use Rattle.deck_run.specs.Ordered.{IsOrdered};
+ghost use Rattle.deck_run.specs.Owning.{AreOwn};
+ghost use Rattle.deck_run.specs.Standing.{StandsAs};
+
+use crate::all::order_end;
+use crate::event::chains_stand;
+use ckd_types::{DeviceNo, NoMemory};
+use device_outside::{MemVolume, Volume};
+use report_text::{Order, RunRecord};
+use run_report::record_order;
+use std::alloc::Global;
+use subsystem_core::Subsystem;
+use subsystem_defs::{Event, EventEnd};
+
+/// The second one's volume becomes side B of the first, and how the order ends.
+fn join<V: Volume>(sub: &mut Subsystem<V>, a: DeviceNo, b: DeviceNo) -> Result<EventEnd, NoMemory>
+    requires a { is_in a (numbers_of sub.old.devices.items) ≡ true }
+    requires b { is_in b (numbers_of sub.old.devices.items) ≡ true }
+    requires own { AreOwn sub.old.devices.items }
+    ensures numbers { numbers_of sub.new.devices.items ≡ numbers_of sub.old.devices.items }
+    ensures own { OnOk result (AreOwn sub.new.devices.items) }
+    ensures happened { (run : runs.Subsystem) → StandsAs sub.old run → IfOk result (λ end. IsOrdered (logged (Once (Event.Pair a b)) (happens run (Event.Pair a b))) (orders.Pair a b) end sub.new) }
+{
+    chains_stand(sub.devices());
+    let end = match sub.event(Event::Pair(a, b)) {
+        Err(NoMemory) => return Err(NoMemory),
+        Ok(end) => end,
+    };
+    Ok(order_end(end))
+}
+
+/// A pair of two devices.
+pub(crate) fn pair<V: Volume>(
+    sub: &mut Subsystem<V>,
+    report: &mut RunRecord,
+    a: DeviceNo,
+    b: DeviceNo,
+) -> Result<(), NoMemory>
+    requires a { is_in a (numbers_of sub.old.devices.items) ≡ true }
+    requires b { is_in b (numbers_of sub.old.devices.items) ≡ true }
+    requires own { AreOwn sub.old.devices.items }
+    ensures numbers { numbers_of sub.new.devices.items ≡ numbers_of sub.old.devices.items }
+    ensures own { OnOk result (AreOwn sub.new.devices.items) }
+    ensures stands { (run : runs.Subsystem) → StandsAs sub.old run → OnOk result (StandsAs sub.new (happens run (Event.Pair a b)).behind) }
+    ensures lines { (run : runs.Subsystem) → StandsAs sub.old run → OnOk result (report.new ≡ report.old ++ lines_of (logged (Once (Event.Pair a b)) (happens run (Event.Pair a b)))) }
+{
+    report.make_room()?;
+    let end = join(sub, a, b)?;
+    record_order(report, Order::Pair(a, b), &end)?;
+    Ok(())
+}
+
+/// Side B leaves, and the device that had lent it gets this volume of empty tracks; and how the order ends.
+fn part(
+    sub: &mut Subsystem<MemVolume>,
+    a: DeviceNo,
+    volume: MemVolume,
+) -> Result<EventEnd, NoMemory>
+    requires here { is_in a (numbers_of sub.old.devices.items) ≡ true }
+    requires own { AreOwn sub.old.devices.items }
+    requires empty { IfSome (device_at sub.old.devices.items a) (λ x. volume ≡ new_disk x.store.cylinders [] []) }
+    requires size { IfSome (device_at sub.old.devices.items a) (λ x. length volume.tracks ≡ x.store.cylinders * 15) }
+    ensures numbers { numbers_of sub.new.devices.items ≡ numbers_of sub.old.devices.items }
+    ensures own { OnOk result (AreOwn sub.new.devices.items) }
+    ensures happened { (run : runs.Subsystem) → StandsAs sub.old run → IfOk result (λ end. IsOrdered (logged (Unpair a) (unpaired run a unfailing)) (orders.Unpair a) end sub.new) }
+{
+    let end = match sub.unpair(a, volume) {
+        Err((NoMemory, _)) => return Err(NoMemory),
+        Ok(end) => end,
+    };
+    Ok(order_end(end))
+}
+
+/// A pair is taken apart. None of the new volume's calls fails.
+pub(crate) fn unpair(
+    alloc: Global,
+    sub: &mut Subsystem<MemVolume>,
+    report: &mut RunRecord,
+    a: DeviceNo,
+) -> Result<(), NoMemory>
+    requires here { is_in a (numbers_of sub.old.devices.items) ≡ true }
+    requires own { AreOwn sub.old.devices.items }
+    ensures numbers { numbers_of sub.new.devices.items ≡ numbers_of sub.old.devices.items }
+    ensures own { OnOk result (AreOwn sub.new.devices.items) }
+    ensures stands { (run : runs.Subsystem) → StandsAs sub.old run → OnOk result (StandsAs sub.new (unpaired run a unfailing).behind) }
+    ensures lines { (run : runs.Subsystem) → StandsAs sub.old run → OnOk result (report.new ≡ report.old ++ lines_of (logged (Unpair a) (unpaired run a unfailing))) }
+{
+    report.make_room()?;
+    let cylinders = sub.device(a).cylinders();
+    let volume = MemVolume::new(alloc, cylinders, &[], &[])?;
+    let end = part(sub, a, volume)?;
+    record_order(report, Order::Unpair(a), &end)?;
+    Ok(())
+}
