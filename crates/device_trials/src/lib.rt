@@ -3,12 +3,6 @@
 #![tactic(auto)]
 
 #[cfg(test)]
-mod patches;
-#[cfg(test)]
-mod plain;
-#[cfg(test)]
-mod pool;
-#[cfg(test)]
 mod tables;
 #[cfg(test)]
 mod tracks;
