@@ -13,6 +13,7 @@ ghost use Rattle.device_outside.specs.Outside.{PortView, Ran};
 ghost use Rattle.device_store.specs.State.{outside, surely, Takes};
 ghost use Rattle.device_core.specs.Kept.{open_of, history_of, waiting_in, Keeps};
 ghost use Rattle.device_core.specs.State.{device_of};
+ghost use Rattle.seen_laws.specs.Moved.{MovesNothing};
 
 use crate::Device;
 use crate::kept::{set_unused, set_waiting};
@@ -129,6 +130,7 @@ impl<V: Volume> Device<V> {
     /// nothing since its last reset it is none. Takes no memory. The keeper is told of an edit that takes effect.
     pub fn reset_with<K: Keep<TrackImage>>(&mut self, path: PathNo, keep: &mut K)
         ensures run { (p : PortView) → Ran surely K.hears (reset contents (device_of self.old) path) (outside p self.old.store keep.old) (device_of self.new) tt (outside p self.new.store keep.new) }
+        ensures transfers { MovesNothing (device_of self.old) (device_of self.new) }
         ensures takes { (d n : ℕ) → Takes K.takes keep.old d n → Takes K.takes keep.new d n }
         ensures store { self.new.store ≡ self.old.store }
     {

@@ -10,6 +10,8 @@ ghost use Rattle.device_store.specs.State.{outside, Takes};
 ghost use Rattle.device_core.specs.Kept.{open_of, chain_of, history_of, ActRoom, HasRoomFor, Keeps};
 ghost use Rattle.device_core.specs.State.{device_of, step_had};
 ghost use Rattle.device_core.specs.Words.{HasEndRoom};
+ghost use Rattle.seen_laws.specs.Moved.{CommandMoves, HitReadsNone};
+ghost use Rattle.seen_laws.specs.Seen.{EndsAsSeen};
 
 use crate::Device;
 use crate::past::{Past, Running, Stepped};
@@ -130,6 +132,9 @@ impl<V: Volume> Device<V> {
         ensures fixed { (self.new.store.number ≡ self.old.store.number) × (self.new.store.cylinders ≡ self.old.store.cylinders) }
         ensures takes { Takes K.takes keep.new self.new.store.number (self.new.store.cylinders * 15) }
         ensures run { Ran (where_ok result) K.hears (command contents (device_of self.old)) (outside (P.view port.old) self.old.store keep.old) (device_of self.new) (step_had self.new.past result) (outside (P.view port.new) self.new.store keep.new) }
+        ensures ends_as_seen { EndsAsSeen (where_ok result) K.hears (device_of self.old) (outside (P.view port.old) self.old.store keep.old) (device_of self.new) (step_had self.new.past result) (outside (P.view port.new) self.new.store keep.new) }
+        ensures hits { HitReadsNone (device_of self.old) (device_of self.new) }
+        ensures transfers { CommandMoves (device_of self.old) (device_of self.new) }
     {
         match self
             .past
@@ -146,6 +151,9 @@ impl<V: Volume> Device<V> {
         requires { IsSome self.old.past.running }
         ensures fixed { (self.new.store.number ≡ self.old.store.number) × (self.new.store.cylinders ≡ self.old.store.cylinders) }
         ensures run { (k : NoKeep) → Ran (where_ok result) (λ _ m r _. r ≡ reply m) (command contents (device_of self.old)) (outside (P.view port.old) self.old.store k) (device_of self.new) (step_had self.new.past result) (outside (P.view port.new) self.new.store k) }
+        ensures ends_as_seen { (k : NoKeep) → EndsAsSeen (where_ok result) (λ _ m r _. r ≡ reply m) (device_of self.old) (outside (P.view port.old) self.old.store k) (device_of self.new) (step_had self.new.past result) (outside (P.view port.new) self.new.store k) }
+        ensures hits { HitReadsNone (device_of self.old) (device_of self.new) }
+        ensures transfers { CommandMoves (device_of self.old) (device_of self.new) }
     {
         let mut keep = NoKeep;
         self.command_with(port, &mut keep)

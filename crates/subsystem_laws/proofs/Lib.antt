@@ -30,3 +30,4 @@ pub mod WholeHappens
 pub mod WholeOrders
 pub mod WholeLends
 pub mod WholeUnpairs
+pub mod MovedRuns

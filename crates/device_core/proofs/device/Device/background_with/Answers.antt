@@ -12,6 +12,8 @@ use Rattle.device_store.specs.State.{state_of, outside_of}
 use Rattle.device_store.proofs.Moves.{from_equal, weaker}
 use Rattle.device_core.specs.State.{device_of}
 use Rattle.device_core.proofs.Eventful.{event_run, begun_weight, fits_room}
+use Rattle.seen_laws.proofs.EventCounts.{background_moved}
+use Rattle.seen_laws.proofs.Others.{background_keeps}
 use Rattle.device_core.proofs.device.Device.background_with.Goals as goal
 
 pub close_event-requires : goal.close_event-requires
@@ -34,3 +36,9 @@ returns-clause-run g c =
     (joined (λ s did. Done (with_store z s) did) c.background-did.ensures.run done)
     (weaker r (from_equal (λ n. ended contents n (state_of c.background-did.new.self)) c.waiting_count-before.ensures refl (c.close_event.ensures.run _)))
     c.close_event.ensures.device
+
+pub returns-clause-paths : goal.returns-clause-paths
+returns-clause-paths g c = background_keeps _ _ _ (returns-clause-run g c)
+
+pub returns-clause-transfers : goal.returns-clause-transfers
+returns-clause-transfers g c = background_moved _ _ _ (returns-clause-run g c)

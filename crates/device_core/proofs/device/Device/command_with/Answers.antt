@@ -6,6 +6,8 @@ use Rattle.device_defs.specs.Device.{event}
 use Rattle.device_store.specs.State.{state_of}
 use Rattle.device_store.proofs.Moves.{had_ok, from_equal}
 use Rattle.device_core.proofs.Commands.{same_device}
+use Rattle.seen_laws.proofs.Calls.{ends_as_seen}
+use Rattle.seen_laws.proofs.EventCounts.{command_moved, hit_reads_none}
 use Rattle.device_core.proofs.device.Device.command_with.Goals as goal
 
 pub returns-in-Err-clause-run : goal.returns-in-Err-clause-run
@@ -21,3 +23,21 @@ returns-clause-run g c =
     (from_equal (λ z. event contents z (λ y. command_by contents y y.history.running y.chain))
     (sym (same_device (state_of c.args.self.now.store) c.args.self.now.paths c.args.self.now.plans c.args.self.now.past c.reserve.new.self
     c.in-Ok.ensures.history c.in-Ok.ensures.chain)) refl c.command_event.ensures.run)
+
+pub returns-in-Err-clause-ends_as_seen : goal.returns-in-Err-clause-ends_as_seen
+returns-in-Err-clause-ends_as_seen g c = ends_as_seen _ _ _ (returns-in-Err-clause-run g c)
+
+pub returns-clause-ends_as_seen : goal.returns-clause-ends_as_seen
+returns-clause-ends_as_seen g c = ends_as_seen _ _ _ (returns-clause-run g c)
+
+pub returns-in-Err-clause-hits : goal.returns-in-Err-clause-hits
+returns-in-Err-clause-hits g c = hit_reads_none _ _ _ (returns-in-Err-clause-run g c)
+
+pub returns-clause-hits : goal.returns-clause-hits
+returns-clause-hits g c = hit_reads_none _ _ _ (returns-clause-run g c)
+
+pub returns-in-Err-clause-transfers : goal.returns-in-Err-clause-transfers
+returns-in-Err-clause-transfers g c = command_moved _ _ _ (returns-in-Err-clause-run g c)
+
+pub returns-clause-transfers : goal.returns-clause-transfers
+returns-clause-transfers g c = command_moved _ _ _ (returns-clause-run g c)

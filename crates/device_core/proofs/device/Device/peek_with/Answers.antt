@@ -15,6 +15,8 @@ use Rattle.device_core.specs.State.{device_of}
 use Rattle.device_core.proofs.Commands.{to_answer}
 use Rattle.device_core.proofs.Eventful.{quiet_run}
 use Rattle.device_core.proofs.Whole.{to_equal}
+use Rattle.seen_laws.proofs.EventCounts.{peek_moved}
+use Rattle.seen_laws.proofs.Others.{peek_keeps}
 use Rattle.device_core.proofs.device.Device.peek_with.Goals as goal
 
 pub returns-clause-run : goal.returns-clause-run
@@ -36,3 +38,9 @@ returns-clause-run g c =
 pub returns-clause-there : goal.returns-clause-there
 returns-clause-there g c =
     subst (λ (q : StoreOf). IfOk c.peek-peeked.result (IsPeeked q c.args.t)) (sym c.end_event.ensures.rest) c.peek-peeked.ensures.there
+
+pub returns-clause-paths : goal.returns-clause-paths
+returns-clause-paths g c = peek_keeps _ _ _ _ (returns-clause-run g c)
+
+pub returns-clause-transfers : goal.returns-clause-transfers
+returns-clause-transfers g c = peek_moved _ _ _ _ (returns-clause-run g c)
