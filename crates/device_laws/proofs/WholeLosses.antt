@@ -184,7 +184,7 @@ module _ {F P H R : Type 0} (c : Contents F P H R) where
   -- The events
 
   module _ (faithful : IsFaithful c) where
-    lose_quiet : (d : Device F P H) (loss : Loss) → Quiet (lose c d loss)
+    pub lose_quiet : (d : Device F P H) (loss : Loss) → Quiet (lose c d loss)
     unfolding E.lose
     lose_quiet d loss =
         quiet_then (event_ended c d)

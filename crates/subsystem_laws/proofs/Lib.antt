@@ -30,3 +30,8 @@ pub mod WholeHappens
 pub mod WholeOrders
 pub mod WholeLends
 pub mod WholeUnpairs
+pub mod RunLinks
+pub mod RunLength
+pub mod CalmDevices
+pub mod CalmEvents
+pub mod CalmRuns
