@@ -1,5 +1,6 @@
 -- The events of a turn go on with a device's plans and its journal: no reset, no empty volume, no cut program comes in between.
-use Rattle.std.proofs.Common.{◌≡◌, ℕ, Bool, true, false, Option, Some, None, refl, ◌∙◌}
+use Rattle.std.proofs.Common.{◌≡◌, ℕ, Bool, true, false, [], Option, Some, None, refl, sym, ◌∙◌}
+use Rattle.std.proofs.lemmas.List.{append-nil}
 use Rattle.std.specs.Prelude.{if◌then◌else◌}
 use Rattle.ckd_chain.specs.declared.progress.Progress.{Progress}
 use Rattle.ckd_chain.specs.declared.progress.Progress.TheVariants as progresses
@@ -165,7 +166,7 @@ module _ {F P H R : Type 0} (c : Contents F P H R) (programs : Plans) (past : Hi
 -- a start
 pub start_continues : {F P H : Type 0} (d : Device F P H) (path : ℕ) → Continues d.plans d.history (start d path)
 unfolding S.start
-start_continues d path = record { plans = refl; history = record { waiting = λ none. none; kept = λ none n e. e; fresh = refl } }
+start_continues d path = record { plans = refl; history = record { waiting = λ none. none; kept = λ none n e. e; fresh = refl; more = []; grown = sym (append-nil d.history.items) } }
 
 -- Events in which no command ends add no data check
 

@@ -114,3 +114,8 @@ pub mod Unchecked
 pub mod UncheckedEvents
 pub mod LentLosses
 pub mod GoneEvents
+pub mod Once
+pub mod OneFailed
+pub mod OneFailedEvents
+pub mod FramesKept
+pub mod WholeLosses

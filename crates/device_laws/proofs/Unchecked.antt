@@ -163,7 +163,7 @@ module _ {F P H R : Type 0} (c : Contents F P H R) where
   delivered_has u t side s None = lucky_done tt
   delivered_has u t side s (Some i) = loaded_has (ahead u s t) t i u.mode
 
-  missed_has : (u : Usage) (t : ℕ) (s : Store F P H) (g : Got R) (o : Option R) → is_some o ≡ true → Lucky (λ z a. HasBytes a) (missed c u t s g o)
+  pub missed_has : (u : Usage) (t : ℕ) (s : Store F P H) (g : Got R) (o : Option R) → is_some o ≡ true → Lucky (λ z a. HasBytes a) (missed c u t s g o)
   missed_has u t s g None e = absurd (cc)
   missed_has u t s g (Some r) e = lucky_tried s _ tt (delivered_has u t g.side s (image_of c s t r))
 
@@ -218,7 +218,7 @@ module _ {F P H R : Type 0} (c : Contents F P H R) where
       lucky_if s.a.up (λ _. lucky_write (lucky_done (took_so (takes_b s))))
       (λ down. lucky_if (takes_b s) (λ _. lucky_write (lucky_done tt)) (λ none. absurd (no_side s.a.up (takes_b s) up down none)))
 
-  whole_taken : (s : Store F P H) (t : ℕ) (i : Image) (e : Edit) (bypass : Bool) → Lucky (λ z (took : Took). IsTaken took) (whole c s t i e bypass)
+  pub whole_taken : (s : Store F P H) (t : ℕ) (i : Image) (e : Edit) (bypass : Bool) → Lucky (λ z (took : Took). IsTaken took) (whole c s t i e bypass)
   whole_taken s t i e bypass =
       lucky_tell (λ _. lucky_then (λ y _. Done y Whole) (lucky_any (write_done c _ t i bypass)) (λ y _ _. lucky_done tt))
 
@@ -289,7 +289,7 @@ module _ {F P H R : Type 0} (c : Contents F P H R) where
 
     -- From track to track
 
-    wrote_so : (chain : ChainState) (t : ℕ) (took : Took) → IsTaken took → NoCheck (wrote_turn chain t took).came
+    pub wrote_so : (chain : ChainState) (t : ℕ) (took : Took) → IsTaken took → NoCheck (wrote_turn chain t took).came
     wrote_so chain t Whole is = tt
     wrote_so chain t Opened is = tt
     wrote_so chain t Unwritten is = absurd is
@@ -307,7 +307,7 @@ module _ {F P H R : Type 0} (c : Contents F P H R) where
         lucky_then (had_by (came_of_write c chain t)) (write_taken s u first t i e lt w there up) (λ z o k. came_so t chain t z o k)
     went_so u first t s i chain (progresses.Local act) is lt w there up = absurd is
 
-    looked_so : (chain : ChainState) (first t : ℕ) (s : Store F P H) (o : Option Imaged) → HasBytes o → need_of chain ≡ Some t → t < tracks_of s →
+    pub looked_so : (chain : ChainState) (first t : ℕ) (s : Store F P H) (o : Option Imaged) → HasBytes o → need_of chain ≡ Some t → t < tracks_of s →
         IsWell c s → is_lost s t ≡ false → some_takes s ≡ true → Lucky (λ z (x : Option Went). WentSo t x) (had_by (looked c chain first t) s o)
     looked_so chain first t s None has needs lt w there up = lucky_done tt
     looked_so chain first t s (Some (Has i)) has needs lt w there up =
@@ -317,10 +317,10 @@ module _ {F P H R : Type 0} (c : Contents F P H R) where
     looked_so chain first t s (Some (BadTrack side)) has needs lt w there up = lucky_done refl
 
     module _ (n : ℕ) (Within : ChainState → Type 0) (within : Stays n Within) where
-      none_half : (s : Store F P H) (t : ℕ) → s.half ≡ None → half_is s.half t ≡ false
+      pub none_half : (s : Store F P H) (t : ℕ) → s.half ≡ None → half_is s.half t ≡ false
       none_half s t none = ap (λ (o : _). half_is o t) none
 
-      look_so : (chain : ChainState) (first t : ℕ) (s : Store F P H) → Within chain → tracks_of s ≡ n → t < tracks_of s → IsWell c s → s.half ≡ None →
+      pub look_so : (chain : ChainState) (first t : ℕ) (s : Store F P H) → Within chain → tracks_of s ≡ n → t < tracks_of s → IsWell c s → s.half ≡ None →
           need_of chain ≡ Some t → is_lost s t ≡ false → some_takes s ≡ true → Lucky (λ z (x : Option Went). WentSo t x) (look c chain first t s)
       unfolding N.look
       look_so chain first t s is same lt w none needs there up =
@@ -331,7 +331,7 @@ module _ {F P H R : Type 0} (c : Contents F P H R) where
           (λ z o g. looked_so chain first t z o g.1.1 needs (let tracks = g.0.goes.tracks in omega arith) g.0.goes.well
           (ap (λ (l : List Bool). get_or l t false) g.1.0.lost ∙ there) (takes_still s z g.1.0.up g.1.0.takes up)))
 
-      abbrev Follows : ℕ → ℕ → Type 0
+      abbrev pub Follows : ℕ → ℕ → Type 0
       Follows k first = (chain : ChainState) (t : ℕ) (s : Store F P H) → Within chain → tracks_of s ≡ n → t < n → IsWell c s → s.half ≡ None →
           need_of chain ≡ Some t → n ≤ t + k → ((q : ℕ) → is_lost s q ≡ false) → some_takes s ≡ true → Lucky (λ z (x : Option Turn). TurnSo x) (follow c k first chain t s)
 

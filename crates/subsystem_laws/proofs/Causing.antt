@@ -18,7 +18,7 @@ use Rattle.subsystem_laws.specs.Causes.{checks_of, ChecksForCause, CheckForCause
 use Rattle.subsystem_laws.specs.Served.{IsServedDeck}
 use Rattle.subsystem_laws.proofs.CheckCauses.{command_causes, second_causes, background_same, reset_same, power_same, loss_same, lend_same, start_same, replace_same, restore_same}
 use Rattle.subsystem_laws.proofs.DeedWalk.{seat_of, IsDeedwise}
-use Rattle.subsystem_laws.proofs.Pairing.{KeepsDeed, IsPairwise, run_pairs, ends_made, becomes_so, fair_of, started_number}
+use Rattle.subsystem_laws.proofs.Pairing.{KeepsDeed, deeds_of, IsPairwise, run_pairs, ends_made, becomes_so, fair_of, started_number}
 use Rattle.subsystem_laws.proofs.TracksKept.{Fair}
 use Rattle.subsystem_laws.proofs.Walks.{AreSo}
 
@@ -51,17 +51,17 @@ deeds_show s p = record {
   resumed = λ d x fault. becomes_so AddsNone ChecksForCause s d x (resume d) refl refl ends.Done;
 }
 
-checks_pairwise : IsPairwise AddsNone ChecksForCause
+checks_pairwise : IsPairwise AddsNone (λ lossy alone. ChecksForCause)
 checks_pairwise = record {
   own = λ d. refl;
   on = λ x y z p q. q ∙ p;
-  made = λ x y p. inl p;
+  made = λ lossy alone x y p. inl p;
   joins = λ d. refl;
-  splits = λ d. refl;
-  replaces = replace_same;
-  restores = restore_same;
-  deeds = deeds_show;
+  splits = λ d fault. refl;
+  replaces = λ d side fault. replace_same d side;
+  restores = λ d a is. restore_same d;
+  deeds = λ s p. deeds_of AddsNone ChecksForCause s (deeds_show s p);
 }
 
 pub run_checks_for_cause : (deck : DeckLines) → IsServedDeck deck → All CheckForCause (run_of deck).events
-run_checks_for_cause = run_pairs AddsNone ChecksForCause checks_pairwise
+run_checks_for_cause = run_pairs AddsNone (λ lossy alone. ChecksForCause) checks_pairwise

@@ -90,7 +90,7 @@ module _ (n : ℕ) (d : MarksDevice) (w : IsWell by_plain d.store) (h : HalfWrit
       (λ z done so. end_so n (with_store (record (event_begun d) { store = s }) z) k.track k.origin done so (acts_same d.history z.acts ∙ f))
   half_checks s g None e = absurd (cc)
 
-  second_checks : Lucky (λ e _. equipment_checks e.history ≡ n) (second by_plain d)
+  pub second_checks : Lucky (λ e _. equipment_checks e.history ≡ n) (second by_plain d)
   unfolding E.second
   second_checks =
       let front = goes_same by_plain d.store (event_begun d).store w (begun_same by_plain marks_are_faithful d w) in
@@ -166,7 +166,7 @@ module _ (d : MarksDevice) where
   pub power_same : (t : Told) → checks_of (T.hold true (power by_plain d) t).state ≡ checks_of d
   power_same t = at (power_counts ends_with_equipment_check (λ o k. refl) (λ p. refl) refl (equipment_checks d.history) d refl) t
 
-  loss_unchecked : (loss : Loss) → Always (lose by_plain d loss) (λ e _. equipment_checks e.history ≡ equipment_checks d.history)
+  pub loss_unchecked : (loss : Loss) → Always (lose by_plain d loss) (λ e _. equipment_checks e.history ≡ equipment_checks d.history)
   unfolding E.lose
   loss_unchecked loss =
       always_then {p = λ (y : MarksDevice) _. equipment_checks y.history ≡ equipment_checks d.history}

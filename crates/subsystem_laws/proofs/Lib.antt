@@ -31,3 +31,8 @@ pub mod WholeOrders
 pub mod WholeLends
 pub mod WholeUnpairs
 pub mod MovedRuns
+pub mod RunLinks
+pub mod RunLength
+pub mod CalmDevices
+pub mod CalmEvents
+pub mod CalmRuns

@@ -33,7 +33,7 @@ use Rattle.device_laws.proofs.UnlostParts.{hear_goes, tried_lucky}
 finished_done : (s : MarksStore) (t : ℕ) (i : Image) (bypass : Bool) → Lucky (λ z a. a ≡ true) (finished by_plain s t i bypass)
 finished_done s t i bypass = lucky_then (λ z _. Done z true) (lucky_any (write_done by_plain s t i bypass)) (λ z _ _. lucky_done refl)
 
-done_by : (s : MarksStore) (t : ℕ) (i : Image) (origin : Origin) → Lucky (λ z a. a ≡ true) (second_done by_plain s t i origin)
+pub done_by : (s : MarksStore) (t : ℕ) (i : Image) (origin : Origin) → Lucky (λ z a. a ≡ true) (second_done by_plain s t i origin)
 done_by s t i (OfCommand bypass e) = lucky_tell (λ r. finished_done _ t i bypass)
 done_by s t i (OfCut bypass) = finished_done s t i bypass
 done_by s t i OfBackground = finished_done s t i false

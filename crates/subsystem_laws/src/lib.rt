@@ -9,7 +9,7 @@ mod waits;
 mod whole;
 
 pub use causes::{
-    checks_have_causes, lost_tracks_have_causes, read_run_checks_nothing, run_checks_nothing,
+    calm_run_misses_nothing, checks_have_causes, lost_tracks_have_causes, read_run_checks_nothing, run_checks_nothing,
     run_has_good_marks, run_has_no_data_check, run_loses_no_track, run_misses_nothing,
 };
 pub use plain::{read_run_is_plain, run_is_plain};
