@@ -245,13 +245,13 @@ lines_move = record {
   stepped = λ s d q. (
     tt,
     subst (λ (b : Subsystem). RunTransfers (device_in (devices_of b) d) (happens s (events.Step d)).end (happens s (events.Step d)).reads
-    (happens s (events.Step d)).writes) (sym (before_is s (events.Step d))) (inr (step_happens s d)),
+        (happens s (events.Step d)).writes) (sym (before_is s (events.Step d))) (inr (step_happens s d)),
   );
   idle = λ s d q. (tt, inl (refl, (refl, refl)));
   backed = λ s d q. (
     tt,
     subst (λ (b : Subsystem). BackTransfers (device_in (devices_of b) d) (happens s (events.Back d)).end (happens s (events.Back d)).reads
-    (happens s (events.Back d)).writes) (sym (before_is s (events.Back d))) (back_happens s d),
+        (happens s (events.Back d)).writes) (sym (before_is s (events.Back d))) (back_happens s d),
   );
   replaces = λ s d side q. (tt, replaced_moves s d side);
   unpairs = λ s a q. (tt, unpaired_moves s a);
