@@ -1,5 +1,35 @@
 -- While the cache isn't lost, each track with a patch has a frame: so it stays behind each part of an event in which no call fails.
-use Rattle.std.proofs.Common.{◌≡◌, ◌≢◌, ◌<◌, ◌==◌, ◌+◌, zero, suc, ℕ, Bool, true, false, List, [], ◌∷◌, Option, Some, None, is_some, set, get_or, refl, sym, ap, subst, ◌∙◌, arith, ◌⊎◌, inl, inr}
+use Rattle.std.proofs.Common.{
+  ◌≡◌,
+  ◌≢◌,
+  ◌<◌,
+  ◌==◌,
+  ◌+◌,
+  zero,
+  suc,
+  ℕ,
+  Bool,
+  true,
+  false,
+  List,
+  [],
+  ◌∷◌,
+  Option,
+  Some,
+  None,
+  is_some,
+  set,
+  get_or,
+  refl,
+  sym,
+  ap,
+  subst,
+  ◌∙◌,
+  arith,
+  ◌⊎◌,
+  inl,
+  inr,
+}
 use Rattle.std.proofs.lemmas.Bool.{cases_eq, eqb-false, ne_eqb}
 use Rattle.std.proofs.lemmas.List.{get_or-set_other}
 use Rattle.std.specs.Prelude.{if◌then◌else◌, ◌&&◌, ◌||◌, not, length, nat_le, nat_lt}
@@ -81,7 +111,11 @@ module _ {F P H R : Type 0} (c : Contents F P H R) where
   -- a frame goes of a track without a patch
   none_framed : (x : Plates F P H) (t : ℕ) → HasFramesBut t x → (half_is x.half t ≡ false → is_some (get_or x.patches t None) ≡ false) →
       HasFrames (record x { frames = set x.frames t None })
-  none_framed x t f bare = record { framed = λ q none patched. framed q none patched (cases_eq q t); clean = λ q none clean. cleaned q none clean (cases_eq q t) } where
+  none_framed x t f bare = record {
+    framed = λ q none patched. framed q none patched (cases_eq q t);
+    clean = λ q none clean. cleaned q none clean
+        (cases_eq q t);
+  } where
     framed : (q : ℕ) → half_is x.half q ≡ false → is_some (get_or x.patches q None) ≡ true → ((q ≡ t) ⊎ (q ≢ t)) →
         is_some (get_or (set x.frames t None) q None) ≡ true
     framed q none patched (inl is) =
@@ -95,7 +129,8 @@ module _ {F P H R : Type 0} (c : Contents F P H R) where
     cleaned q none clean (inl is) = not_clean _ (ap (λ (p : ℕ). get_or (set x.frames t None) p None) is ∙ none_at x.frames t) clean
     cleaned q none clean (inr ne) = f.clean q ne none (sym (ap (is_clean c) (get_or-set_other x.frames t q None None ne)) ∙ clean)
 
-  pub drop_framed : (x : Plates F P H) (t : ℕ) → is_clean c (get_or x.frames t None) ≡ true → HasFrames x → HasFrames (record x { frames = set x.frames t None })
+  pub drop_framed : (x : Plates F P H) (t : ℕ) → is_clean c (get_or x.frames t None) ≡ true → HasFrames x →
+      HasFrames (record x { frames = set x.frames t None })
   drop_framed x t clean f = none_framed x t (but_one t x f) (λ none. f.clean t none clean)
 
   -- a frame comes, modified, or of a track without a patch
@@ -110,7 +145,8 @@ module _ {F P H R : Type 0} (c : Contents F P H R) where
         is_clean c (get_or (set x.frames t (Some g)) t None) ≡ true → is_some (get_or x.patches t None) ≡ false
     here (inr bare) at clean = bare
     here (inl modified) (inr gone) clean = not_clean _ gone clean
-    here (inl modified) (inl is) clean = absurd (let e = ap not modified in let k = sym (ap (is_clean c) is) ∙ clean in let both : false ≡ true = sym e ∙ k in cc)
+    here (inl modified) (inl is) clean = absurd (let e = ap not modified in let k = sym
+        (ap (is_clean c) is) ∙ clean in let both : false ≡ true = sym e ∙ k in cc)
 
     cleaned : (q : ℕ) → half_is x.half q ≡ false → is_clean c (get_or (set x.frames t (Some g)) q None) ≡ true → ((q ≡ t) ⊎ (q ≢ t)) →
         is_some (get_or x.patches q None) ≡ false
@@ -134,7 +170,8 @@ module _ {F P H R : Type 0} (c : Contents F P H R) where
   heard_framed n s None f more = lucky_done f
   heard_framed n s (Some t) f more = by_clean (is_clean c (frame_at s t)) refl
     where
-      by_clean : (b : Bool) → is_clean c (frame_at s t) ≡ b → Lucky (λ y (a : Unit {0}). HasFrames (plates_of y)) (hear c n (if b then with_frame s t None else s))
+      by_clean : (b : Bool) → is_clean c (frame_at s t) ≡ b → Lucky (λ y (a : Unit {0}). HasFrames (plates_of y)) (hear c n
+          (if b then with_frame s t None else s))
       by_clean true e = more (with_frame s t None) (drop_framed (plates_of s) t e f)
       by_clean false e = more s f
 

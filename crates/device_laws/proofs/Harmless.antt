@@ -8,14 +8,44 @@ use Rattle.plain_defs.specs.declared.journal.Act.TheVariants.{CfwLost}
 use Rattle.device_outside.specs.Interaction.{Done, and_then}
 use Rattle.device_defs.specs.Contents.{Contents}
 use Rattle.device_defs.specs.Cutting as U
-use Rattle.device_defs.specs.Cutting.{origin_cut, half_cut, counts_one_by, reset_noted, path_cut, reset_by, reset, half_ended, half_lost, loose_gone, powerless, powered_off, power}
+use Rattle.device_defs.specs.Cutting.{
+  origin_cut,
+  half_cut,
+  counts_one_by,
+  reset_noted,
+  path_cut,
+  reset_by,
+  reset,
+  half_ended,
+  half_lost,
+  loose_gone,
+  powerless,
+  powered_off,
+  power,
+}
 use Rattle.device_defs.specs.Device.{Device, all_reset, with_store, event_begun}
 use Rattle.device_defs.specs.Effects.{with_edit, acted, gone_back, loose_lost}
 use Rattle.device_defs.specs.Events as E
 use Rattle.device_defs.specs.Events.{with_loss, losing, lose}
 use Rattle.device_defs.specs.Losses as L
 use Rattle.device_defs.specs.Losses.{over, slot_in, gives_up, without_frame, without_patch, settled, by_frame, firm_told, all_firm_told, cache_lost}
-use Rattle.device_defs.specs.Store.{Origin, OfCommand, OfCut, OfBackground, HalfWrite, Store, tracks_of, stale_at, level_at, has_level, frame_at, patch_at, is_lost, has_loose, owed_at}
+use Rattle.device_defs.specs.Store.{
+  Origin,
+  OfCommand,
+  OfCut,
+  OfBackground,
+  HalfWrite,
+  Store,
+  tracks_of,
+  stale_at,
+  level_at,
+  has_level,
+  frame_at,
+  patch_at,
+  is_lost,
+  has_loose,
+  owed_at,
+}
 use Rattle.device_laws.specs.Unharmed.{IsWholeOnA}
 use Rattle.device_laws.proofs.FailedCall.{IsWell}
 use Rattle.device_laws.proofs.Lucky.{lucky_done, lucky_tell, lucky_then, lucky_weaker, lucky_if}

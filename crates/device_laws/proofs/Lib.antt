@@ -119,3 +119,6 @@ pub mod OneFailed
 pub mod OneFailedEvents
 pub mod FramesKept
 pub mod WholeLosses
+pub mod FramesParts
+pub mod FramesEvents
+pub mod FramesLaws

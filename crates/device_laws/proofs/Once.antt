@@ -12,7 +12,21 @@ use Rattle.device_defs.specs.Memory.{tried}
 use Rattle.device_laws.proofs.Always as A
 use Rattle.device_laws.proofs.Always.{Behind, Always, always_weaker}
 use Rattle.device_laws.proofs.Based.{Base, Based, read_base, write_base, based_done, based_try, based_ask, based_read, based_write, based_tell}
-use Rattle.device_laws.proofs.Lucky.{Lucky, lucky_done, lucky_try, lucky_ask, lucky_read, lucky_write, lucky_tell, lucky_then, lucky_weaker, with_always, top, failed_in, where_none_failed}
+use Rattle.device_laws.proofs.Lucky.{
+  Lucky,
+  lucky_done,
+  lucky_try,
+  lucky_ask,
+  lucky_read,
+  lucky_write,
+  lucky_tell,
+  lucky_then,
+  lucky_weaker,
+  with_always,
+  top,
+  failed_in,
+  where_none_failed,
+}
 use Rattle.device_laws.proofs.QuietParts.{Quiet, quiet_done, quiet_try, quiet_ask, quiet_tell}
 
 -- p holds where none failed, and q where one did
@@ -34,7 +48,8 @@ once_then f (once_read x y) g h = once_read (λ r. once_then f (x r) g h) (lucky
 once_then f (once_write x y) g h = once_write (once_then f x g h) (lucky_then f y h)
 once_then f (once_tell x) g h = once_tell (λ r. once_then f (x r) g h)
 
-once_behind : {R I S A : Type 0} {p q h : S → A → Type 0} (i : Interaction R I S A) → Behind i h → Once p q i → Once (λ s a. h s a × p s a) (λ s a. h s a × q s a) i
+once_behind : {R I S A : Type 0} {p q h : S → A → Type 0} (i : Interaction R I S A) → Behind i h → Once p q i →
+    Once (λ s a. h s a × p s a) (λ s a. h s a × q s a) i
 unfolding A.Behind
 once_behind (Done s a) h (once_done x) = once_done (h, x)
 once_behind (Try k) h (once_try x) = once_try (λ ok. once_behind (k ok) (h ok) (x ok))
@@ -103,7 +118,8 @@ module _ {R S X : Type 0} {base : S → Base} {may : Call → Type 0} where
       let one : counted n ≡ n + 1 = counted_is n (omega (arith, lt)) in
       from i (where_none_failed q x (omega (arith, lt, is, one)) y).holds (λ s a h same. h (same ∙ sym one ∙ sym is))
 
-  read_case : (p q : S → X → Type 0) (b : Base) (k : Option R → Interaction R Image S X) → ((got : Option R) → Based base may (read_base b (is_some got)) (k got)) →
+  read_case : (p q : S → X → Type 0) (b : Base) (k : Option R → Interaction R Image S X) → ((got : Option R) → Based base may (read_base b (is_some got))
+      (k got)) →
       failed_in b + 1 < top → ((r : R) → Behind (k (Some r)) (λ s a. failed_in (base s) ≡ failed_in b + 1 → q s a)) → Lucky q (k None) → (got : Option R) →
       Behind (k got) (λ s a. failed_in (base s) ≡ failed_in b + 1 → q s a)
   read_case p q b k x lt f y (Some r) = f r

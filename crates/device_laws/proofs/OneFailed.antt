@@ -1,6 +1,33 @@
 -- The parts of an event of a pair of which both sides have all tracks, where one call of its volumes fails: the other side has all of them then, and
 -- no track is lost.
-use Rattle.std.proofs.Common.{◌≡◌, ◌≢◌, ◌<◌, ◌==◌, ◌+◌, zero, suc, ℕ, Bool, true, false, List, Option, Some, None, is_some, set, get_or, refl, sym, ap, subst, ◌∙◌, ◌⊎◌, inl, inr}
+use Rattle.std.proofs.Common.{
+  ◌≡◌,
+  ◌≢◌,
+  ◌<◌,
+  ◌==◌,
+  ◌+◌,
+  zero,
+  suc,
+  ℕ,
+  Bool,
+  true,
+  false,
+  List,
+  Option,
+  Some,
+  None,
+  is_some,
+  set,
+  get_or,
+  refl,
+  sym,
+  ap,
+  subst,
+  ◌∙◌,
+  ◌⊎◌,
+  inl,
+  inr,
+}
 use Rattle.std.proofs.lemmas.Bool.{cases_eq, eqb-false, ne_eqb}
 use Rattle.std.proofs.lemmas.List.{get_or-set_other}
 use Rattle.std.specs.Prelude.{if◌then◌else◌, ◌&&◌, ◌||◌, not, length, nat_le, nat_lt}
@@ -22,19 +49,85 @@ use Rattle.device_defs.specs.Choosing as G
 use Rattle.device_defs.specs.Choosing.{slot_by, may_be_fast, fast_by, fast_or_through, choose_loose, choose_firm, choose}
 use Rattle.device_defs.specs.Contents.{Contents}
 use Rattle.device_defs.specs.Editing as E
-use Rattle.device_defs.specs.Editing.{another_loose, whole, at_once, through_by, through, write_by, written, is_given, clean_again, unchosen, write_chosen, write}
+use Rattle.device_defs.specs.Editing.{
+  another_loose,
+  whole,
+  at_once,
+  through_by,
+  through,
+  write_by,
+  written,
+  is_given,
+  clean_again,
+  unchosen,
+  write_chosen,
+  write,
+}
 use Rattle.device_defs.specs.Effects.{hardened}
 use Rattle.device_defs.specs.Image as I
-use Rattle.device_defs.specs.Image.{Got, Imaged, Has, read_counted, read_b, level_bytes, image_of, is_sequential, loads, queued, ahead, filled, loaded, delivered, missed, miss, clean_image, image_by, image}
+use Rattle.device_defs.specs.Image.{
+  Got,
+  Imaged,
+  Has,
+  read_counted,
+  read_b,
+  level_bytes,
+  image_of,
+  is_sequential,
+  loads,
+  queued,
+  ahead,
+  filled,
+  loaded,
+  delivered,
+  missed,
+  miss,
+  clean_image,
+  image_by,
+  image,
+}
 use Rattle.device_defs.specs.Losses as L
 use Rattle.device_defs.specs.Losses.{over, down, by_frame, lost_now, settled, settled_but, side_lost, firm_told, all_firm_told, call_failed}
 use Rattle.device_defs.specs.Owed.{is_clean}
-use Rattle.device_defs.specs.Store.{Origin, OfCommand, HalfWrite, half_is, SideMarks, Store, tracks_of, stale_at, level_at, has_level, takes_b, frame_at, patch_at, is_lost, is_loose, owed_at, with_stale, with_frame}
+use Rattle.device_defs.specs.Store.{
+  Origin,
+  OfCommand,
+  HalfWrite,
+  half_is,
+  SideMarks,
+  Store,
+  tracks_of,
+  stale_at,
+  level_at,
+  has_level,
+  takes_b,
+  frame_at,
+  patch_at,
+  is_lost,
+  is_loose,
+  owed_at,
+  with_stale,
+  with_frame,
+}
 use Rattle.device_defs.specs.Writing as V
 use Rattle.device_defs.specs.Writing.{Wrote, write_counted, taken_a, taken_b, firm_first, failed_a, write_first, write_second, opened}
 use Rattle.device_laws.proofs.Lucky.{Lucky, lucky_done, lucky_read, lucky_write, lucky_tell, lucky_then, lucky_weaker, lucky_if, with_always}
 use Rattle.device_laws.proofs.Choices.{choice_fits}
-use Rattle.device_laws.proofs.Once.{Once, once_done, once_ask, once_read, once_write, once_tell, once_then, once_always, once_lucky, where_none, once_quiet, once_if, once_tried}
+use Rattle.device_laws.proofs.Once.{
+  Once,
+  once_done,
+  once_ask,
+  once_read,
+  once_write,
+  once_tell,
+  once_then,
+  once_always,
+  once_lucky,
+  where_none,
+  once_quiet,
+  once_if,
+  once_tried,
+}
 use Rattle.device_laws.proofs.QuietParts.{Quiet, quiet_done, quiet_ask, quiet_tell, quiet_if, quiet_then, done_quiet}
 use Rattle.device_laws.proofs.TrackMarks.{IsFaithful}
 use Rattle.device_laws.proofs.Unchecked.{HasBytes, IsTaken, WasTaken, lucky_both, missed_has, whole_taken}
@@ -333,7 +426,8 @@ module _ {F P H R : Type 0} (c : Contents F P H R) where
   firm_once s t o =
       once_if (is_loose s t) (λ _. once_tell (λ _. once_done (everywhere_both (hardened s t) t s.paired o))) (λ _. once_done (but_one (sides_of s) t o))
 
-  b_wrote : (s z : Store F P H) (t : ℕ) → OnBoth (Some t) (sides_of s) → sides_of z ≡ fallen_a (sides_of s) → Steady (core_of (taken_b (write_counted z true) t))
+  b_wrote : (s z : Store F P H) (t : ℕ) → OnBoth (Some t) (sides_of s) → sides_of z ≡ fallen_a (sides_of s) →
+      Steady (core_of (taken_b (write_counted z true) t))
   b_wrote s z t o e = let f = steady_a (sides_of s) z (Some t) o e in record { kept = f.kept; takes = f.takes; half = f.half }
 
   pub first_once : (s : Store F P H) (t : ℕ) (r : R) → OnBoth (Some t) (sides_of s) →

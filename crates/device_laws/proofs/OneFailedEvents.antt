@@ -1,6 +1,32 @@
 -- A command, and work in the background, of a pair of which both sides have all tracks, where one call of its volumes fails: no track is lost, and the
 -- command ends with no equipment check.
-use Rattle.std.proofs.Common.{◌≡◌, ◌<◌, ◌≤◌, ◌+◌, ◌*◌, zero, suc, ℕ, Bool, true, false, List, [], ◌∷◌, Option, Some, None, is_some, get_or, refl, sym, ap, subst, ◌∙◌, arith}
+use Rattle.std.proofs.Common.{
+  ◌≡◌,
+  ◌<◌,
+  ◌≤◌,
+  ◌+◌,
+  ◌*◌,
+  zero,
+  suc,
+  ℕ,
+  Bool,
+  true,
+  false,
+  List,
+  [],
+  ◌∷◌,
+  Option,
+  Some,
+  None,
+  is_some,
+  get_or,
+  refl,
+  sym,
+  ap,
+  subst,
+  ◌∙◌,
+  arith,
+}
 use Rattle.std.specs.Prelude.{if◌then◌else◌, ◌&&◌, ◌||◌, not}
 use Rattle.ckd_chain.specs.declared.progress.Progress.{Progress}
 use Rattle.ckd_chain.specs.declared.progress.Progress.TheVariants as progresses
@@ -17,9 +43,45 @@ use Rattle.device_defs.specs.declared.answers.Did.TheVariants.{Recovered, Destag
 use Rattle.device_defs.specs.declared.answers.Took.{Took}
 use Rattle.device_defs.specs.declared.usage.Usage.{Usage}
 use Rattle.device_defs.specs.Background as B
-use Rattle.device_defs.specs.Background.{copies_to, to_copy, to_recover, to_destage, is_destaged, saved_by, saving, saved, recovered_bytes, recover, copy_by, staged_bytes, granted, stage, destage_first, stage_first, copy_first, recover_first, work}
+use Rattle.device_defs.specs.Background.{
+  copies_to,
+  to_copy,
+  to_recover,
+  to_destage,
+  is_destaged,
+  saved_by,
+  saving,
+  saved,
+  recovered_bytes,
+  recover,
+  copy_by,
+  staged_bytes,
+  granted,
+  stage,
+  destage_first,
+  stage_first,
+  copy_first,
+  recover_first,
+  work,
+}
 use Rattle.device_defs.specs.Command as N
-use Rattle.device_defs.specs.Command.{Went, Over, On, has_loss, came_of_write, went_by, looked, look, goes_on, follow, on_tracks, answered_by, command_at, command_by, command}
+use Rattle.device_defs.specs.Command.{
+  Went,
+  Over,
+  On,
+  has_loss,
+  came_of_write,
+  went_by,
+  looked,
+  look,
+  goes_on,
+  follow,
+  on_tracks,
+  answered_by,
+  command_at,
+  command_by,
+  command,
+}
 use Rattle.device_defs.specs.Contents.{Contents}
 use Rattle.device_defs.specs.Device.{Device, with_store, event_begun, event_ended}
 use Rattle.device_defs.specs.Events as E
@@ -319,7 +381,8 @@ module _ {F P H R : Type 0} (c : Contents F P H R) where
     work_works s w o = first_works s (to_recover c s) (λ t e. found_if (tracks_of s) (waits c s) (some_up s) t e) w o
 
     worked_comes : (d : Device F P H) → IsWell c d.store → OnBoth None (sides_of d.store) →
-        Once (λ (e : Device F P H) (a : Option Did). Unit {0}) (λ e a. Steady (core_of e.store)) (and_then (work c d.store) (λ z did. Done (with_store d z) did))
+        Once (λ (e : Device F P H) (a : Option Did). Unit {0}) (λ e a. Steady (core_of e.store))
+        (and_then (work c d.store) (λ z did. Done (with_store d z) did))
     worked_comes d w o =
         once_then (λ z (did : Option Did). Done (with_store d z) did) (work_works d.store w o) (λ z did _. once_done tt) (λ z did f. lucky_done f)
 

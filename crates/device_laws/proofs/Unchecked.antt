@@ -33,7 +33,27 @@ use Rattle.device_defs.specs.Editing as E
 use Rattle.device_defs.specs.Editing.{another_loose, whole, at_once, through_by, through, write_by, written, is_given, unchosen, write_chosen, write}
 use Rattle.device_defs.specs.Excused.{is_equipment_check}
 use Rattle.device_defs.specs.Image as I
-use Rattle.device_defs.specs.Image.{Got, Imaged, Has, NoBytes, BadTrack, level_bytes, read_b, filled, loads, ahead, loaded, delivered, missed, miss, hit, clean_image, image_by, image, image_of}
+use Rattle.device_defs.specs.Image.{
+  Got,
+  Imaged,
+  Has,
+  NoBytes,
+  BadTrack,
+  level_bytes,
+  read_b,
+  filled,
+  loads,
+  ahead,
+  loaded,
+  delivered,
+  missed,
+  miss,
+  hit,
+  clean_image,
+  image_by,
+  image,
+  image_of,
+}
 use Rattle.device_defs.specs.Losses.{settled}
 use Rattle.device_defs.specs.Memory.{had_by}
 use Rattle.device_defs.specs.Owed.{is_clean}
@@ -46,7 +66,19 @@ use Rattle.device_laws.proofs.ChainFeeds.{begun_stage, need_at, need_is}
 use Rattle.device_laws.proofs.Choices.{choice_fits}
 use Rattle.device_laws.proofs.Commands.{Stays, LookedAt, look_keeps_good}
 use Rattle.device_laws.proofs.FailedCall.{IsWell}
-use Rattle.device_laws.proofs.Lucky.{Lucky, lucky_done, lucky_try, lucky_ask, lucky_read, lucky_write, lucky_tell, lucky_then, lucky_if, lucky_tried, with_always}
+use Rattle.device_laws.proofs.Lucky.{
+  Lucky,
+  lucky_done,
+  lucky_try,
+  lucky_ask,
+  lucky_read,
+  lucky_write,
+  lucky_tell,
+  lucky_then,
+  lucky_if,
+  lucky_tried,
+  with_always,
+}
 use Rattle.device_laws.proofs.PlainLooks.{look_stays}
 use Rattle.device_laws.proofs.TrackMarks as M
 use Rattle.device_laws.proofs.TrackMarks.{TrackMarks, marks, is_true, is_good, IsFaithful, frame_mark, track_at}
@@ -186,7 +218,8 @@ module _ {F P H R : Type 0} (c : Contents F P H R) where
   level_of s t good there half clean =
       needs_side (frame_mark c (frame_at s t)) clean (is_some (patch_at s t)) (is_loose s t) (has_level s t)
       (subst (λ (l : Bool). is_good (marks (frame_mark c (frame_at s t)) (is_some (patch_at s t)) l (is_loose s t) false (has_level s t)) ≡ true) there
-      (subst (λ (h : Bool). is_good (marks (frame_mark c (frame_at s t)) (is_some (patch_at s t)) (is_lost s t) (is_loose s t) h (has_level s t)) ≡ true) half good))
+      (subst (λ (h : Bool). is_good (marks (frame_mark c (frame_at s t)) (is_some (patch_at s t)) (is_lost s t) (is_loose s t) h
+      (has_level s t)) ≡ true) half good))
 
   image_has : (s : Store F P H) (u : Usage) (t : ℕ) → is_good (track_at c s t) ≡ true → is_lost s t ≡ false → half_is s.half t ≡ false →
       Lucky (λ z a. HasBytes a) (image c s u t)
@@ -333,7 +366,8 @@ module _ {F P H R : Type 0} (c : Contents F P H R) where
 
       abbrev pub Follows : ℕ → ℕ → Type 0
       Follows k first = (chain : ChainState) (t : ℕ) (s : Store F P H) → Within chain → tracks_of s ≡ n → t < n → IsWell c s → s.half ≡ None →
-          need_of chain ≡ Some t → n ≤ t + k → ((q : ℕ) → is_lost s q ≡ false) → some_takes s ≡ true → Lucky (λ z (x : Option Turn). TurnSo x) (follow c k first chain t s)
+          need_of chain ≡ Some t → n ≤ t + k → ((q : ℕ) → is_lost s q ≡ false) → some_takes s ≡ true →
+          Lucky (λ z (x : Option Turn). TurnSo x) (follow c k first chain t s)
 
       by_went : (k first t : ℕ) (s z : Store F P H) (o : Option Went) → Follows k first → tracks_of s ≡ n → LookedAt c faithful n Within within s z o →
           WentSo t o → n ≤ t + suc k → ((q : ℕ) → is_lost z q ≡ false) → some_takes z ≡ true →

@@ -1,5 +1,32 @@
 -- Where no call fails, no part of an event loses a track, and each side stays as it is; and while side A is up, no track becomes stale there.
-use Rattle.std.proofs.Common.{◌≡◌, ◌≢◌, ◌<◌, ◌≤◌, ℕ, Bool, true, false, List, Option, Some, None, is_some, length, set, get_or, option_map, refl, sym, ap, subst, ◌∙◌, arith, ◌⊎◌, inl, inr}
+use Rattle.std.proofs.Common.{
+  ◌≡◌,
+  ◌≢◌,
+  ◌<◌,
+  ◌≤◌,
+  ℕ,
+  Bool,
+  true,
+  false,
+  List,
+  Option,
+  Some,
+  None,
+  is_some,
+  length,
+  set,
+  get_or,
+  option_map,
+  refl,
+  sym,
+  ap,
+  subst,
+  ◌∙◌,
+  arith,
+  ◌⊎◌,
+  inl,
+  inr,
+}
 use Rattle.std.proofs.lemmas.Bool.{cases_eq, cases_lt}
 use Rattle.std.proofs.lemmas.List.{get_or-set_same, get_or-set_other, get_or_past, length-set}
 use Rattle.std.specs.Prelude.{if◌then◌else◌, ◌||◌}
@@ -59,7 +86,8 @@ pub record Off (t : ℕ) (x y : Core) : Type 0 where
   pub level : x.up ≡ true → (q : ℕ) → q ≢ t → get_or x.stale q false ≡ false → get_or y.stale q false ≡ false
   pub opens : (t : ℕ) → y.half ≡ Some t → IsOpened x y t
 
-opens_on : (x y z : Core) (t : ℕ) → y.up ≡ x.up → y.takes ≡ x.takes → (y.up ≡ true → (q : ℕ) → get_or y.stale q false ≡ false → get_or z.stale q false ≡ false) →
+opens_on : (x y z : Core) (t : ℕ) → y.up ≡ x.up → y.takes ≡ x.takes →
+    (y.up ≡ true → (q : ℕ) → get_or y.stale q false ≡ false → get_or z.stale q false ≡ false) →
     (y.half ≡ Some t → IsOpened x y t) → IsOpened y z t → IsOpened x z t
 opens_on x y z t up takes level f (inl half) = taken_on (f half) where
   taken_on : IsOpened x y t → IsOpened x z t

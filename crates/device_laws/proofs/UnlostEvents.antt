@@ -42,7 +42,23 @@ use Rattle.device_defs.specs.Memory.{had_by}
 use Rattle.device_defs.specs.Outcomes.{Turn, ends_with, settles, checks, usage_of}
 use Rattle.device_defs.specs.Owed as O
 use Rattle.device_defs.specs.Owed.{is_clean, heard, hear, all_told, waiting_count, waiting_told, ended}
-use Rattle.device_defs.specs.Store.{Origin, OfCommand, OfCut, OfBackground, HalfWrite, SideMarks, Store, tracks_of, level_at, has_level, takes_b, frame_at, is_lost, half_is, with_frame}
+use Rattle.device_defs.specs.Store.{
+  Origin,
+  OfCommand,
+  OfCut,
+  OfBackground,
+  HalfWrite,
+  SideMarks,
+  Store,
+  tracks_of,
+  level_at,
+  has_level,
+  takes_b,
+  frame_at,
+  is_lost,
+  half_is,
+  with_frame,
+}
 use Rattle.device_laws.specs.Standing.{IsWithin, IsChainOf}
 use Rattle.device_laws.specs.Unharmed.{MarksAreGood, HalfIsTried}
 use Rattle.device_laws.proofs.Always.{Always, always_done, always_ask, always_weaker}

@@ -1,5 +1,33 @@
 -- The parts of an event in which no call fails lose no track, where the marks are good.
-use Rattle.std.proofs.Common.{◌≡◌, ◌<◌, ◌+◌, zero, suc, ℕ, Bool, true, false, List, [], ◌∷◌, Option, Some, None, is_some, set, get_or, refl, sym, ap, subst, ◌∙◌, arith, ◌⊎◌, inl, inr}
+use Rattle.std.proofs.Common.{
+  ◌≡◌,
+  ◌<◌,
+  ◌+◌,
+  zero,
+  suc,
+  ℕ,
+  Bool,
+  true,
+  false,
+  List,
+  [],
+  ◌∷◌,
+  Option,
+  Some,
+  None,
+  is_some,
+  set,
+  get_or,
+  refl,
+  sym,
+  ap,
+  subst,
+  ◌∙◌,
+  arith,
+  ◌⊎◌,
+  inl,
+  inr,
+}
 use Rattle.track_table.specs.Tracks.{least}
 use Rattle.std.specs.Prelude.{if◌then◌else◌, ◌&&◌, ◌||◌, not, length, nat_le, nat_lt}
 use Rattle.ckd_types.specs.declared.parameters.Mode.{Mode}
@@ -131,7 +159,29 @@ use Rattle.device_defs.specs.Second.{
   second_by,
   second_part,
 }
-use Rattle.device_defs.specs.Store.{Origin, OfCommand, OfCut, OfBackground, HalfWrite, Store, no_debt, tracks_of, stale_at, level_at, has_level, some_up, takes_b, frame_at, patch_at, is_lost, is_loose, owed_at, with_stale, with_frame, with_owed}
+use Rattle.device_defs.specs.Store.{
+  Origin,
+  OfCommand,
+  OfCut,
+  OfBackground,
+  HalfWrite,
+  Store,
+  no_debt,
+  tracks_of,
+  stale_at,
+  level_at,
+  has_level,
+  some_up,
+  takes_b,
+  frame_at,
+  patch_at,
+  is_lost,
+  is_loose,
+  owed_at,
+  with_stale,
+  with_frame,
+  with_owed,
+}
 use Rattle.device_defs.specs.Writing as V
 use Rattle.device_defs.specs.Writing.{
   Wrote,
@@ -161,10 +211,39 @@ use Rattle.device_laws.proofs.TrackMarks.{IsFaithful}
 use Rattle.device_laws.proofs.Writes.{is_taken, firm_first_keeps_good, write_first_keeps_good}
 use Rattle.device_laws.proofs.Choices.{choice_fits}
 use Rattle.device_laws.proofs.Working.{least_found, destaged_there, waits_there}
-use Rattle.device_laws.proofs.Lucky.{Lucky, lucky_done, lucky_try, lucky_ask, lucky_read, lucky_write, lucky_tell, lucky_then, lucky_weaker, lucky_if, lucky_tried, with_always}
+use Rattle.device_laws.proofs.Lucky.{
+  Lucky,
+  lucky_done,
+  lucky_try,
+  lucky_ask,
+  lucky_read,
+  lucky_write,
+  lucky_tell,
+  lucky_then,
+  lucky_weaker,
+  lucky_if,
+  lucky_tried,
+  with_always,
+}
 use Rattle.device_laws.proofs.TrackMarks as M
 use Rattle.device_laws.proofs.TrackMarks.{track_at}
-use Rattle.device_laws.proofs.Unlost.{Core, core_of, clear, Fine, Off, fine, fine_on, fine_off, off_down, taken_a_fine, everywhere_off, side_fine, settled_fine, fine_if, closed_fine}
+use Rattle.device_laws.proofs.Unlost.{
+  Core,
+  core_of,
+  clear,
+  Fine,
+  Off,
+  fine,
+  fine_on,
+  fine_off,
+  off_down,
+  taken_a_fine,
+  everywhere_off,
+  side_fine,
+  settled_fine,
+  fine_if,
+  closed_fine,
+}
 
 -- from a store on
 abbrev pub Goes : {F P H R A : Type 0} → Store F P H → Interaction R Image (Store F P H) A → Type 0
@@ -204,7 +283,8 @@ module _ {F P H R : Type 0} (c : Contents F P H R) where
   freed_goes s (Some slot) = lucky_ask (λ _. lucky_done (fine (core_of s)))
 
   modified_goes : (t : ℕ) (s : Store F P H) → Goes s (modified_told c t s)
-  modified_goes t s = lucky_if ((owed_at s t).modified && is_modified c (frame_at s t)) (λ _. lucky_ask (λ _. lucky_done (fine (core_of s)))) (λ _. lucky_done (fine (core_of s)))
+  modified_goes t s = lucky_if ((owed_at s t).modified && is_modified c (frame_at s t)) (λ _. lucky_ask (λ _. lucky_done (fine (core_of s))))
+      (λ _. lucky_done (fine (core_of s)))
 
   drop_goes : (t : ℕ) (s : Store F P H) → Goes s (dropped_told c t s)
   drop_goes t s = lucky_if (owed_at s t).dropped (λ _. lucky_ask (λ _. lucky_done (fine (core_of s)))) (λ _. lucky_done (fine (core_of s)))
@@ -238,7 +318,8 @@ module _ {F P H R : Type 0} (c : Contents F P H R) where
 
   granted_goes : (s : Store F P H) (t : ℕ) (i : Image) (given : Bool) → Goes s (I.granted c s t i given)
   granted_goes s t i given =
-      lucky_if given (λ _. goes_then s (λ z _. Done z (Some (Has i))) (filled_goes s t i) (λ z _. lucky_done (fine (core_of z)))) (λ _. lucky_done (fine (core_of s)))
+      lucky_if given (λ _. goes_then s (λ z _. Done z (Some (Has i))) (filled_goes s t i) (λ z _. lucky_done (fine (core_of z))))
+      (λ _. lucky_done (fine (core_of s)))
 
   loaded_goes : (s : Store F P H) (t : ℕ) (i : Image) (mode : Mode) → Goes s (loaded c s t i mode)
   loaded_goes s t i mode =
@@ -392,7 +473,8 @@ module _ {F P H R : Type 0} (c : Contents F P H R) where
 
     -- firm first, and the first part; then more
     firm_write : {A : Type 0} (s : Store F P H) (t : ℕ) (r : R) (f : Store F P H → Bool → Wrote → Interaction R Image (Store F P H) A) → t < tracks_of s →
-        IsWell c s → is_lost s t ≡ false → ((z : Store F P H) (b : Bool) (w : Wrote) → (is_taken w.took ≡ true → has_level z t ≡ true) → Opens t z w.took → Goes z (f z b w)) →
+        IsWell c s → is_lost s t ≡ false → ((z : Store F P H) (b : Bool) (w : Wrote) → (is_taken w.took ≡ true → has_level z t ≡ true) → Opens t z w.took →
+        Goes z (f z b w)) →
         Goes s (and_then (firm_first c s t) (λ z b. and_then (write_first c z t r) (λ y w. f y b w)))
     firm_write s t r f lt w there more =
         lucky_then (λ z b. and_then (write_first c z t r) (λ y v. f y b v)) (with_always (firm_first_keeps_good c faithful s t lt w) (firm_first_off s t))
@@ -415,7 +497,8 @@ module _ {F P H R : Type 0} (c : Contents F P H R) where
         Lucky (λ z (a : Unit {0}). Fine (core_of s) (core_of z) × (has_level z t ≡ true)) (write_second c s t r)
     unfolding V.write_second
     second_lucky s t r level =
-        lucky_if (takes_b s) (λ _. lucky_write (lucky_done (fine (core_of s), level_b (write_counted s true) t level))) (λ _. lucky_done (fine (core_of s), level))
+        lucky_if (takes_b s) (λ _. lucky_write (lucky_done (fine (core_of s), level_b (write_counted s true) t level)))
+        (λ _. lucky_done (fine (core_of s), level))
 
     at_once_goes : (s : Store F P H) (t : ℕ) (i : Image) (e : Edit) (bypass : Bool) → has_level s t ≡ true → Goes s (at_once c s t i e bypass)
     at_once_goes s t i e bypass level =
@@ -457,7 +540,8 @@ module _ {F P H R : Type 0} (c : Contents F P H R) where
     written_goes : (s : Store F P H) (u : Usage) (first t : ℕ) (old : Image) (e : Edit) (choice : Choice) → t < tracks_of s → IsWell c s → is_lost s t ≡ false →
         Goes s (written c s u first t old e choice)
     written_goes s u first t old e choice lt w there =
-        goes_then s (λ z took. Done z (Some took)) (write_by_goes u first t (edited_image e old) e s choice lt w there) (λ z took. lucky_done (fine (core_of z)))
+        goes_then s (λ z took. Done z (Some took)) (write_by_goes u first t (edited_image e old) e s choice lt w there)
+        (λ z took. lucky_done (fine (core_of z)))
 
     again_goes : (s : Store F P H) (t : ℕ) → Goes s (clean_again c s t)
     again_goes s t = lucky_if (is_clean c (frame_at s t)) (λ _. lucky_ask (λ _. lucky_done (fine (core_of s)))) (λ _. lucky_done (fine (core_of s)))
@@ -516,7 +600,8 @@ module _ {F P H R : Type 0} (c : Contents F P H R) where
         lucky_if (takes_b s) (λ _. lucky_write (lucky_done (fine (core_of s), take_b (write_counted s true) t (and_up s.b.up (not s.held) takes))))
         (λ none. absurd (let both : true ≡ false = sym takes ∙ none in cc))
     tried_lucky s t r (inr level) =
-        lucky_if (takes_b s) (λ _. lucky_write (lucky_done (fine (core_of s), level_b (write_counted s true) t level))) (λ _. lucky_done (fine (core_of s), level))
+        lucky_if (takes_b s) (λ _. lucky_write (lucky_done (fine (core_of s), level_b (write_counted s true) t level)))
+        (λ _. lucky_done (fine (core_of s), level))
 
     pub second_goes : (s : Store F P H) (h : HalfWrite H) → IsTried s h.track → Goes s (second_part c s h)
     unfolding D.second_part
@@ -589,9 +674,11 @@ module _ {F P H R : Type 0} (c : Contents F P H R) where
     stage_goes s t =
         lucky_if (is_some (frame_at s t) || is_lost s t) (λ _. lucky_done (fine (core_of s)))
         (λ _. lucky_tried s _ (fine (core_of s)) (lucky_ask (λ given. lucky_if given
-        (λ _. goes_then s (λ z g. staged_bytes c t z g g.bytes) (level_goes s t) (λ z g. staged_bytes_goes t z g g.bytes)) (λ _. lucky_done (fine (core_of s))))))
+        (λ _. goes_then s (λ z g. staged_bytes c t z g g.bytes) (level_goes s t) (λ z g. staged_bytes_goes t z g g.bytes))
+        (λ _. lucky_done (fine (core_of s))))))
 
-    destage_goes : (s : Store F P H) (o : Option ℕ) → ((t : ℕ) → o ≡ Some t → (t < tracks_of s) × (is_lost s t ≡ false)) → IsWell c s → Goes s (destage_first c s o)
+    destage_goes : (s : Store F P H) (o : Option ℕ) → ((t : ℕ) → o ≡ Some t → (t < tracks_of s) × (is_lost s t ≡ false)) → IsWell c s →
+        Goes s (destage_first c s o)
     destage_goes s None here w = lucky_done (fine (core_of s))
     destage_goes s (Some t) here w = let at = here t refl in saved_goes s t (framed_image c s t (frame_at s t)) (Destaged t) None at.0 w at.1
 

@@ -1,5 +1,34 @@
 -- The loss of a pair's side, or of the store, where everything is repaired: no track is lost.
-use Rattle.std.proofs.Common.{◌≡◌, ◌≢◌, ◌==◌, zero, suc, ℕ, Bool, true, false, List, [], ◌∷◌, Option, Some, None, is_some, length, set, get_or, option_map, refl, sym, ap, subst, ◌∙◌, ◌⊎◌, inl, inr}
+use Rattle.std.proofs.Common.{
+  ◌≡◌,
+  ◌≢◌,
+  ◌==◌,
+  zero,
+  suc,
+  ℕ,
+  Bool,
+  true,
+  false,
+  List,
+  [],
+  ◌∷◌,
+  Option,
+  Some,
+  None,
+  is_some,
+  length,
+  set,
+  get_or,
+  option_map,
+  refl,
+  sym,
+  ap,
+  subst,
+  ◌∙◌,
+  ◌⊎◌,
+  inl,
+  inr,
+}
 use Rattle.std.proofs.lemmas.Bool.{cases_eq, eq-eqb}
 use Rattle.std.proofs.lemmas.List.{get_or-set_other}
 use Rattle.std.specs.Prelude.{if◌then◌else◌, ◌&&◌, ◌||◌, not}
@@ -14,10 +43,38 @@ use Rattle.device_defs.specs.Device.{Device, with_store, event_begun, event_ende
 use Rattle.device_defs.specs.Events as E
 use Rattle.device_defs.specs.Events.{with_loss, losing, lose}
 use Rattle.device_defs.specs.Losses as L
-use Rattle.device_defs.specs.Losses.{over, slot_in, gives_up, without_patch, by_frame, hardened_by_loss, kept_by_frame, stale_everywhere, settled, patch_lost, store_lost, side_lost}
+use Rattle.device_defs.specs.Losses.{
+  over,
+  slot_in,
+  gives_up,
+  without_patch,
+  by_frame,
+  hardened_by_loss,
+  kept_by_frame,
+  stale_everywhere,
+  settled,
+  patch_lost,
+  store_lost,
+  side_lost,
+}
 use Rattle.device_defs.specs.Owed as O
 use Rattle.device_defs.specs.Owed.{is_clean, heard, hear, waiting_count}
-use Rattle.device_defs.specs.Store.{HalfWrite, Store, tracks_of, level_at, has_level, stale_at, takes_b, frame_at, patch_at, is_lost, is_loose, half_is, with_stale, with_frame}
+use Rattle.device_defs.specs.Store.{
+  HalfWrite,
+  Store,
+  tracks_of,
+  level_at,
+  has_level,
+  stale_at,
+  takes_b,
+  frame_at,
+  patch_at,
+  is_lost,
+  is_loose,
+  half_is,
+  with_stale,
+  with_frame,
+}
 use Rattle.device_laws.proofs.Always as A
 use Rattle.device_laws.proofs.Always.{Behind, Always}
 use Rattle.device_laws.proofs.FramesKept.{plates_of, HasFrames, some_still, no_more, hear_framed}
@@ -142,7 +199,7 @@ module _ {F P H R : Type 0} (c : Contents F P H R) where
       wide_if s (is_some s.lent) s _ (wide s)
       (wide_if s (is_lost s t) s _ (wide s) (wide_if s (has_level s t) s _ (wide s) (frame_wide s t (frame_at s t) e)))
 
-  abbrev Framed : Store F P H → Type 0
+  abbrev pub Framed : Store F P H → Type 0
   Framed s = (q : ℕ) → half_is s.half q ≡ false → is_some (patch_at s q) ≡ true → is_some (frame_at s q) ≡ true
 
   patch_wide : (t : ℕ) (s : Store F P H) → Framed s → (b a : Bool) → is_some (patch_at s t) ≡ b → half_is s.half t ≡ a →
@@ -168,6 +225,11 @@ module _ {F P H R : Type 0} (c : Contents F P H R) where
       let w = patches_wide n s f in
       wider_on s z (patch_lost c n z) w
       (patch_wide n z (still_framed s z w f) (is_some (patch_at z n)) (half_is z.half n) refl refl)
+
+  -- and so each track that has a patch still
+  pub store_framed : (s : Store F P H) → HasFrames c (plates_of s) → ((store_lost c s).a.up ≡ s.a.up) × Framed (store_lost c s)
+  unfolding L.store_lost
+  store_framed s f = let w = patches_wide (tracks_of s) s f.framed in (w.up, still_framed s (over (tracks_of s) (patch_lost c) s) w f.framed)
 
   store_steady : (s : Store F P H) → HasFrames c (plates_of s) → Steady (core_of s) → Steady (core_of (store_lost c s))
   unfolding L.store_lost

@@ -1,5 +1,38 @@
 -- What a calm run keeps of a device, and what each event makes of it where none of its calls fails.
-use Rattle.std.proofs.Common.{◌≡◌, ◌≢◌, ◌<◌, ◌≤◌, ◌+◌, ◌==◌, ◌*◌, ℕ, Bool, true, false, not, List, [], ◌∷◌, ◌++◌, Option, Some, None, is_some, length, get_or, option_map, refl, sym, ap, subst, ◌∙◌, arith, ◌⊎◌, inl, inr}
+use Rattle.std.proofs.Common.{
+  ◌≡◌,
+  ◌≢◌,
+  ◌<◌,
+  ◌≤◌,
+  ◌+◌,
+  ◌==◌,
+  ◌*◌,
+  ℕ,
+  Bool,
+  true,
+  false,
+  not,
+  List,
+  [],
+  ◌∷◌,
+  ◌++◌,
+  Option,
+  Some,
+  None,
+  is_some,
+  length,
+  get_or,
+  option_map,
+  refl,
+  sym,
+  ap,
+  subst,
+  ◌∙◌,
+  arith,
+  ◌⊎◌,
+  inl,
+  inr,
+}
 use Rattle.std.proofs.lemmas.Bool.{cases_lt, eqb-true}
 use Rattle.std.proofs.lemmas.List.{get_or_past}
 use Rattle.std.specs.Prelude.{if◌then◌else◌, ◌&&◌, ◌||◌, count_by}
@@ -85,7 +118,8 @@ not_both : (b : Bool) (a : Bool) → a ≡ true → (b && not a) ≡ false
 not_both true a e = ap not e
 not_both false a e = refl
 
-always_true : {A : Type 0} {q : MarksDevice → A → Type 0} (b : Bool) {i : Interaction Bool Image MarksDevice A} (j : Interaction Bool Image MarksDevice A) → b ≡ true → Always i q →
+always_true : {A : Type 0} {q : MarksDevice → A → Type 0} (b : Bool) {i : Interaction Bool Image MarksDevice A} (j : Interaction Bool Image MarksDevice A) →
+    b ≡ true → Always i q →
     Always (if b then i else j) q
 always_true true j e f = f
 always_true false j e f = absurd (cc)
@@ -227,7 +261,8 @@ module _ (d : MarksDevice) (w : IsWell by_plain d.store) (x : Steady (core_of d.
   none_waits : (q : ℕ) → q < tracks_of d.store → waits by_plain d.store q ≡ false
   none_waits q lt =
       none_counted (tracks_of d.store) (waits by_plain d.store)
-      (eqb-true (waiting_count by_plain d.store) 0 (and_left (waiting_count by_plain d.store == 0) (is_some d.store.lent || has_whole_sides d.store) whole)) q lt
+      (eqb-true (waiting_count by_plain d.store) 0 (and_left (waiting_count by_plain d.store == 0)
+      (is_some d.store.lent || has_whole_sides d.store) whole)) q lt
 
   not_waiting : (l p : Bool) → l ≡ false → p ≡ true → (not l && p) ≡ false → ⊥
   not_waiting true p e f g = cc
@@ -241,7 +276,8 @@ module _ (d : MarksDevice) (w : IsWell by_plain d.store) (x : Steady (core_of d.
       absurd (not_waiting (is_lost d.store q) (is_some (patch_at d.store q)) (x.kept q) patched
       (ap (λ (f : Option Bool). not (is_lost d.store q) && waits_by by_plain d.store q f) (sym e) ∙ none_waits q lt))
 
-  clean_bare : (f : Option Bool) (p l o h v : Bool) → l ≡ false → h ≡ false → is_clean by_plain f ≡ true → is_good (marks (frame_mark by_plain f) p l o h v) ≡ true →
+  clean_bare : (f : Option Bool) (p l o h v : Bool) → l ≡ false → h ≡ false → is_clean by_plain f ≡ true →
+      is_good (marks (frame_mark by_plain f) p l o h v) ≡ true →
       p ≡ false
   clean_bare f false l o h v e g clean good = refl
   clean_bare f true true o h v e g clean good = absurd (cc)
@@ -251,14 +287,19 @@ module _ (d : MarksDevice) (w : IsWell by_plain d.store) (x : Steady (core_of d.
   clean_bare (Some false) true false o false true e g clean good = absurd (cc)
   clean_bare (Some false) true false o false false e g clean good = absurd (cc)
 
-  clean_at : (q : ℕ) → q < tracks_of d.store → half_is d.store.half q ≡ false → is_clean by_plain (frame_at d.store q) ≡ true → is_some (patch_at d.store q) ≡ false
+  clean_at : (q : ℕ) → q < tracks_of d.store → half_is d.store.half q ≡ false → is_clean by_plain (frame_at d.store q) ≡ true →
+      is_some (patch_at d.store q) ≡ false
   unfolding M.track_at
   clean_at q lt none clean =
       clean_bare (frame_at d.store q) (is_some (patch_at d.store q)) (is_lost d.store q) (is_loose d.store q) (half_is d.store.half q) (has_level d.store q)
       (x.kept q) none clean (w.good q lt)
 
   pub whole_frames : HasFrames by_plain (plates_of d.store)
-  whole_frames = record { framed = λ q none patched. framed q patched (cases_lt q (tracks_of d.store)); clean = λ q none clean. clean_by q none clean (cases_lt q (tracks_of d.store)) } where
+  whole_frames = record {
+    framed = λ q none patched. framed q patched (cases_lt q (tracks_of d.store));
+    clean = λ q none clean. clean_by q none clean
+        (cases_lt q (tracks_of d.store));
+  } where
     patches_long : length d.store.patches ≡ tracks_of d.store
     patches_long = cc (w.sizes.are)
 

@@ -1,6 +1,35 @@
 -- What each event and order makes of a device of a calm run: no track is lost, and no command ends with equipment check but behind a loss of its
 -- own program's data of cache fast write.
-use Rattle.std.proofs.Common.{◌≡◌, ◌<◌, ◌≤◌, ◌+◌, ◌==◌, ℕ, Bool, true, false, not, Option, Some, None, is_some, List, [], ◌∷◌, get_or, option_map, refl, sym, ap, subst, ◌∙◌, arith, ◌⊎◌, inl, inr}
+use Rattle.std.proofs.Common.{
+  ◌≡◌,
+  ◌<◌,
+  ◌≤◌,
+  ◌+◌,
+  ◌==◌,
+  ℕ,
+  Bool,
+  true,
+  false,
+  not,
+  Option,
+  Some,
+  None,
+  is_some,
+  List,
+  [],
+  ◌∷◌,
+  get_or,
+  option_map,
+  refl,
+  sym,
+  ap,
+  subst,
+  ◌∙◌,
+  arith,
+  ◌⊎◌,
+  inl,
+  inr,
+}
 use Rattle.std.specs.Prelude.{if◌then◌else◌, ◌&&◌, ◌||◌}
 use Rattle.ckd_chain.specs.State.{ChainState}
 use Rattle.ckd_types.specs.declared.paths.Side.{Side}
@@ -37,10 +66,10 @@ use Rattle.device_laws.proofs.Always.{Always}
 use Rattle.device_laws.proofs.Based.{Any, Based, kept}
 use Rattle.device_laws.proofs.BasedEvents.{base_in, command_based, second_based, background_based, lose_based, power_based, reset_body}
 use Rattle.device_laws.proofs.Based as B
+use Rattle.device_laws.proofs.FramesEvents.{steady_tried}
 use Rattle.device_laws.proofs.Harmless.{cache_goes, power_goes, reset_goes}
 use Rattle.device_laws.proofs.KeptEvents as K
 use Rattle.device_laws.proofs.KeptHistories.{count_more}
-use Rattle.device_laws.proofs.LossLaws.{has_a}
 use Rattle.device_laws.proofs.Lucky.{top, failed_in, Lucky, lucky_done, lucky_then, lucky_weaker, lucky_if, never_falls, where_none_failed}
 use Rattle.device_laws.proofs.Once.{Once, once_then, once_quiet, where_one_failed}
 use Rattle.device_laws.proofs.OneFailed.{Sides, sides_of, fallen_b, OnSideA, steady_b, second_once, still_level, up_level, never}
@@ -58,7 +87,20 @@ use Rattle.subsystem_defs.specs.declared.end.OrderFault.TheVariants.{Unpaired, H
 use Rattle.subsystem_defs.specs.Happening.{is_lent_to}
 use Rattle.subsystem_defs.specs.Refusals as R
 use Rattle.subsystem_defs.specs.Refusals.{pair_fault, suspend_fault, fail_fault, replace_fault, unpair_fault}
-use Rattle.subsystem_laws.proofs.CalmDevices.{Calm, is_unserved, unserved, served_on, itself, command_served, whole_on_a, whole_b, whole_side_a, whole_both, whole_somewhere, whole_frames}
+use Rattle.subsystem_laws.proofs.CalmDevices.{
+  Calm,
+  is_unserved,
+  unserved,
+  served_on,
+  itself,
+  command_served,
+  whole_on_a,
+  whole_b,
+  whole_side_a,
+  whole_both,
+  whole_somewhere,
+  whole_frames,
+}
 use Rattle.subsystem_laws.proofs.CheckCauses.{decided, second_checks, loss_unchecked}
 use Rattle.subsystem_laws.proofs.GoodMarks.{Good, good_kept, by_lent, home_before, runs_home, half_home, lent_is, within}
 use Rattle.subsystem_laws.proofs.LendBase.{at, stays_still, lend_lends, lend_based, lent_counts}
@@ -115,7 +157,11 @@ part_once s h o =
     (λ z _ _. once_quiet (quiet_second z h.track i h.origin))
     (λ z _ e. lucky_if (has_level z h.track)
     (λ _. lucky_weaker (lucky_both (done_by (closed z) h.track i h.origin) (second_done_goes by_plain marks_are_faithful (closed z) h.track i h.origin))
-    (λ y a g. (g.0, steady_on (core_of z) (core_of y) (fine_on (core_of z) (core_of (closed z)) (core_of y) (closed_fine z) g.1) (steady_b (sides_of s) z o e))))
+    (λ y a g. (
+      g.0,
+      steady_on (core_of z) (core_of y) (fine_on (core_of z) (core_of (closed z)) (core_of y) (closed_fine z) g.1)
+          (steady_b (sides_of s) z o e),
+    )))
     (λ none. never (has_level z h.track) (still_level by_plain s z h.track o e) none))
 
 quiet_ended : (d : MarksDevice) (t : ℕ) (origin : Origin) (done : Bool) → Quiet (second_ended by_plain d t origin done)
@@ -131,7 +177,8 @@ module _ (n : ℕ) where
   abbrev Comes : {A : Type 0} → Interaction Bool Image MarksDevice A → Type 0
   Comes i = Once (λ e a. Unit {0}) (λ e a. (equipment_checks e.history ≡ n) × Steady (core_of e.store)) i
 
-  half_comes : (d : MarksDevice) (o : Option (HalfWrite (Unit {0}))) → OnSideA (sides_of d.store) → equipment_checks d.history ≡ n → Comes (second_of by_plain d o)
+  half_comes : (d : MarksDevice) (o : Option (HalfWrite (Unit {0}))) → OnSideA (sides_of d.store) → equipment_checks d.history ≡ n →
+      Comes (second_of by_plain d o)
   half_comes d (Some h) o f =
       once_then (λ s done. second_ended by_plain (with_store d s) h.track h.origin done) (part_once d.store h o)
       (λ s done _. once_quiet (quiet_ended (with_store d s) h.track h.origin done))
@@ -158,7 +205,8 @@ power_quiet : (d : MarksDevice) → Quiet (power by_plain d)
 unfolding U.power
 power_quiet d =
     quiet_then (event_ended by_plain d)
-    (quiet_then (λ s _. Done (powered_off by_plain (event_begun d) s) (tt {0})) (cut_quiet by_plain (event_begun d).store (event_begun d).store.half) (λ s _. quiet_done))
+    (quiet_then (λ s _. Done (powered_off by_plain (event_begun d) s) (tt {0})) (cut_quiet by_plain (event_begun d).store (event_begun d).store.half)
+    (λ s _. quiet_done))
     (λ y a. end_quiet by_plain d y a)
 
 reset_quiet : (d : MarksDevice) (path : ℕ) → Quiet (reset by_plain d path)
@@ -187,14 +235,6 @@ module _ (d : MarksDevice) (f : Fair d) where
       subst (λ (n : ℕ). n ≤ (T.hold true i t).state.store.counts.failed) same (at (never_falls x (subst (λ (n : ℕ). n ≤ top) (sym same) f.most)) t)
 
   -- the second part of an open half write is tried
-  half_tried : Steady (core_of d.store) → HalfIsTried d.store
-  half_tried x h is = by_up d.store.a.up refl where
-    by_up : (b : Bool) → d.store.a.up ≡ b → (takes_b d.store ≡ true) ⊎ (has_level d.store h.track ≡ true)
-    by_up true up =
-        inr (has_a d.store.a.up (stale_at d.store.a h.track) (level_at d.store.b h.track) up
-        (x.half h.track (ap (option_map (λ (k : HalfWrite (Unit {0})). k.track)) is) up))
-    by_up false down = inl (ap (λ (b : Bool). b || takes_b d.store) (sym down) ∙ x.takes)
-
   tried_a : Steady (core_of d.store) → (h : HalfWrite (Unit {0})) → d.store.half ≡ Some h →
       (takes_b d.store ≡ true) ⊎ (level_at d.store.a h.track ≡ true)
   tried_a x h is = by_up d.store.a.up refl where
@@ -269,7 +309,7 @@ module _ (d : MarksDevice) (f : Fair d) where
             (second_checks checks d (f.good.well here) h is (tried_a (x.steady here) h is) refl),
         steady_on (core_of d.store) (core_of seconded.store)
             (unfailed (second by_plain d) (second_based by_plain d) t same
-            (second_event_goes by_plain marks_are_faithful d (f.good.well here) (half_tried (x.steady here)))) (x.steady here),
+            (second_event_goes by_plain marks_are_faithful d (f.good.well here) (steady_tried d.store (x.steady here)))) (x.steady here),
       )
       second_both (inr one) =
           failed_once (second by_plain d) (second_based by_plain d) t one.2
@@ -290,7 +330,8 @@ module _ (d : MarksDevice) (f : Fair d) where
       background_steady : is_some d.store.lent ≡ false → Unordered d worked → Steady (core_of worked.store)
       background_steady was (inl same) =
           steady_on (core_of d.store) (core_of worked.store)
-          (unfailed (background by_plain d) (background_based by_plain d) t same (background_goes by_plain marks_are_faithful d (f.good.well was))) (x.steady was)
+          (unfailed (background by_plain d) (background_based by_plain d) t same (background_goes by_plain marks_are_faithful d (f.good.well was)))
+          (x.steady was)
       background_steady was (inr one) =
           failed_once (background by_plain d) (background_based by_plain d) t one.2
           (background_comes by_plain marks_are_faithful d (f.good.well was) (whole_both d (f.good.well was) (x.steady was) was one.1 one.0 whole))
@@ -339,14 +380,16 @@ module _ (d : MarksDevice) (f : Fair d) where
           loss_calm losses.Store t (good_kept.lost_store d f.good t)
           (λ was. lose_store_steady by_plain marks_are_faithful d (whole_frames d (f.good.well was) (x.steady was) was whole) (x.steady was))
 
-      side_steady : (side : Side) → d.store.paired ≡ true → is_some d.store.lent ≡ false → Always (lose by_plain d (losses.Side side)) (λ e _. Steady (core_of e.store))
+      side_steady : (side : Side) → d.store.paired ≡ true → is_some d.store.lent ≡ false →
+          Always (lose by_plain d (losses.Side side)) (λ e _. Steady (core_of e.store))
       side_steady sides.A paired was =
           lose_a_steady by_plain marks_are_faithful d (whole_b d (f.good.well was) (x.steady was) was whole paired) x.kept
           (whole_somewhere d (f.good.well was) (x.steady was) was whole paired)
       side_steady sides.B paired was =
           lose_b_steady by_plain marks_are_faithful d (whole_side_a d (f.good.well was) (x.steady was) was whole paired)
 
-      pub side_calm : (side : Side) → fail_fault d side ≡ None → d.store.paired ≡ true → (t : Told) → Calm (T.hold true (lose by_plain d (losses.Side side)) t).state
+      pub side_calm : (side : Side) → fail_fault d side ≡ None → d.store.paired ≡ true → (t : Told) →
+          Calm (T.hold true (lose by_plain d (losses.Side side)) t).state
       side_calm side fault paired t = loss_calm (losses.Side side) t (good_kept.lost_side d side fault f.good t) (side_steady side paired)
 
       pub power_calm : (t : Told) → Calm (T.hold true (power by_plain d) t).state
@@ -442,7 +485,8 @@ module _ (d : MarksDevice) where
         calm = λ x. record {
           steady = λ home. let s = x.steady home in record {
             kept = s.kept;
-            takes = or_left d.store.a.up _ (up_a d.store.a.up d.store.b.up (is_not (d.store.a.up && d.store.b.up) (where_none (not (d.store.a.up && d.store.b.up)) Down c.0)));
+            takes = or_left d.store.a.up _ (up_a d.store.a.up d.store.b.up
+                (is_not (d.store.a.up && d.store.b.up) (where_none (not (d.store.a.up && d.store.b.up)) Down c.0)));
             half = s.half;
           };
           kept = x.kept;

@@ -1,5 +1,36 @@
 -- Over a calm run, in which each failure comes where the last one was repaired, no program misses its command and no track is lost.
-use Rattle.std.proofs.Common.{◌≡◌, ◌<◌, ◌≤◌, ◌+◌, ◌-◌, ◌==◌, zero, suc, ℕ, Bool, true, false, not, List, [], ◌∷◌, length, map, Option, Some, None, refl, sym, ap, subst, ◌∙◌, arith, ◌⊎◌, inl, inr}
+use Rattle.std.proofs.Common.{
+  ◌≡◌,
+  ◌<◌,
+  ◌≤◌,
+  ◌+◌,
+  ◌-◌,
+  ◌==◌,
+  zero,
+  suc,
+  ℕ,
+  Bool,
+  true,
+  false,
+  not,
+  List,
+  [],
+  ◌∷◌,
+  length,
+  map,
+  Option,
+  Some,
+  None,
+  refl,
+  sym,
+  ap,
+  subst,
+  ◌∙◌,
+  arith,
+  ◌⊎◌,
+  inl,
+  inr,
+}
 use Rattle.std.proofs.lemmas.Bool.{eqb-true, leb-true}
 use Rattle.std.proofs.lemmas.List.Elements.{All-head, All-tail}
 use Rattle.std.specs.Prelude.{All, ◌*◌, if◌then◌else◌, ◌&&◌, ◌||◌, ◌^◌, nat_le}
@@ -35,7 +66,24 @@ use Rattle.device_laws.proofs.Lucky.{top}
 use Rattle.device_laws.proofs.Unlost.{Steady}
 use Rattle.track_table.proofs.Places.{empty_places}
 use Rattle.subsystem_defs.specs.Calm as C
-use Rattle.subsystem_defs.specs.Calm.{are_whole, is_whole, is_whole_device, is_done, is_loss, asks_loss, ordered, failed_calls, failed_in, losses_in, is_alone, fails_alone_by, fails_alone_of, fails_alone, is_calm_event, is_calm}
+use Rattle.subsystem_defs.specs.Calm.{
+  are_whole,
+  is_whole,
+  is_whole_device,
+  is_done,
+  is_loss,
+  asks_loss,
+  ordered,
+  failed_calls,
+  failed_in,
+  losses_in,
+  is_alone,
+  fails_alone_by,
+  fails_alone_of,
+  fails_alone,
+  is_calm_event,
+  is_calm,
+}
 use Rattle.subsystem_defs.specs.Decks as D
 use Rattle.subsystem_defs.specs.Decks.{is_same, opened_device, opened, run_of}
 use Rattle.subsystem_defs.specs.declared.end.EventEnd.{EventEnd}
@@ -55,7 +103,28 @@ use Rattle.subsystem_defs.specs.Subsystem.{Mounted, Subsystem, devices_of, mount
 use Rattle.subsystem_laws.specs.Causes.{HasNoDataCheck, HaveNoDataCheck, EachPair}
 use Rattle.subsystem_laws.specs.Served.{IsServedDeck}
 use Rattle.subsystem_laws.proofs.CalmDevices.{Calm, is_unserved}
-use Rattle.subsystem_laws.proofs.CalmEvents.{Losing, StillCalm, MadeCalm, rises, command_calm, second_calm, background_calm, reset_calm, cache_calm, store_calm, side_calm, power_calm, start_still, join_still, split_still, restore_still, hold_still, resume_still, replace_still, lend_still}
+use Rattle.subsystem_laws.proofs.CalmEvents.{
+  Losing,
+  StillCalm,
+  MadeCalm,
+  rises,
+  command_calm,
+  second_calm,
+  background_calm,
+  reset_calm,
+  cache_calm,
+  store_calm,
+  side_calm,
+  power_calm,
+  start_still,
+  join_still,
+  split_still,
+  restore_still,
+  hold_still,
+  resume_still,
+  replace_still,
+  lend_still,
+}
 use Rattle.subsystem_laws.proofs.DataChecks.{run_has_no_data_check}
 use Rattle.subsystem_laws.proofs.DeedWalk.{Stands, seat_of, IsEventwise}
 use Rattle.subsystem_laws.proofs.Pairing.{KeepsEvent, IsPairwise, ShowsAll, run_pairs, ends_made, becomes_so, fair_of, started_number}
@@ -67,7 +136,8 @@ use Rattle.subsystem_laws.proofs.Walks.{IsKept, AreSo, run_keeps}
 -- Events and orders, device by device
 
 module _ (d : MarksDevice) where
-  command_made : (o : OpenEntry) → d.history.running ≡ Some o → d.store.half ≡ None → (t : Told) → MadeCalm false false d (T.hold true (command by_plain d) t).state
+  command_made : (o : OpenEntry) → d.history.running ≡ Some o → d.store.half ≡ None → (t : Told) →
+      MadeCalm false false d (T.hold true (command by_plain d) t).state
   command_made o running whole t = record {
     more = λ f. rises d f (kept d.store) (command by_plain d) refl (command_based by_plain d) t;
     calm = λ how f lt x. command_calm d f lt x o running whole t how;
@@ -96,7 +166,8 @@ module _ (d : MarksDevice) where
   side_made : (alone : Bool) (side : Side) → fail_fault d side ≡ None → (alone ≡ false → d.store.paired ≡ true) → (t : Told) →
       MadeCalm true alone d (T.hold true (lose by_plain d (losses.Side side)) t).state
   side_made alone side fault paired t = record {
-    more = λ f. rises d f (with_one_loss (losses.Side side) (kept d.store)) (lose by_plain d (losses.Side side)) refl (lose_based by_plain d (losses.Side side)) t;
+    more = λ f. rises d f (with_one_loss (losses.Side side) (kept d.store)) (lose by_plain d (losses.Side side)) refl
+        (lose_based by_plain d (losses.Side side)) t;
     calm = λ how f lt x. side_calm d f lt x how.1 side fault (paired how.0) t;
   }
 
@@ -515,7 +586,8 @@ all_served : (xs : List Item) → AreNot ends_with_data_check xs → AreNot is_u
 all_served [] h k = refl
 all_served (items.Program e ∷ xs) h k =
     and_true (is_served e) (are_served xs)
-    (served_if (is_checked e.how) (is_data_check (last_sense e.ends)) (is_equipment_check (last_sense e.ends)) (has_loss e.acts) h.0 k.0) (all_served xs h.1 k.1)
+    (served_if (is_checked e.how) (is_data_check (last_sense e.ends)) (is_equipment_check (last_sense e.ends)) (has_loss e.acts) h.0 k.0)
+    (all_served xs h.1 k.1)
 all_served (items.Act act ∷ xs) h k = all_served xs h.1 k.1
 all_served (items.Reset path ∷ xs) h k = all_served xs h.1 k.1
 all_served (items.Fresh ∷ xs) h k = all_served xs h.1 k.1
@@ -524,7 +596,8 @@ all_served (items.Power ∷ xs) h k = all_served xs h.1 k.1
 none_missed : (d : MarksDevice) → Calm d → HasNoDataCheck d → misses_nothing d ≡ true
 none_missed d x none =
     and_true (are_served d.history.items) (count_lost d.store.lost == 0)
-    (all_served d.history.items (none_came ends_with_data_check 0 0 d.history.items none (omega arith)) (none_came is_unserved 0 0 d.history.items x.served (omega arith)))
+    (all_served d.history.items (none_came ends_with_data_check 0 0 d.history.items none (omega arith))
+    (none_came is_unserved 0 0 d.history.items x.served (omega arith)))
     (ap (λ (n : ℕ). n == 0) (kept_counts d.store x.kept))
 
 all_missed : (k : ℕ) (ds : List MarksDevice) → AllSo (Fits k) ds → AllSo HasNoDataCheck ds → all_miss_nothing ds ≡ true
@@ -549,7 +622,8 @@ calm_on [] s k l p r h g calm lt f = refl
 calm_on (t ∷ ts) s k l p r h g calm lt f =
     let room = one_event k (length ts) lt in
     let behind = devices_of t.happened.behind in
-    let fits = ordered_by t (calm_event t (and_left (is_calm_event t) (is_calm ts) calm)) k room.0 (asks_loss t.asked) (fails_alone_of t.happened.before t.asked)
+    let fits = ordered_by t (calm_event t (and_left (is_calm_event t) (is_calm ts) calm)) k room.0 (asks_loss t.asked)
+    (fails_alone_of t.happened.before t.asked)
     (is_done t.happened.end) refl refl refl (All-head Shown t ts p) (All-head Refuses t ts r)
     (subst (λ (x : Subsystem). AllSo (Fits k) (devices_of x)) (sym l.0) f) (all_so Fair behind (All-head AreFairBehind t ts g)) in
     and_true (all_miss_nothing behind) (miss_nothing ts)

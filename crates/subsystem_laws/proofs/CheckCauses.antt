@@ -1,5 +1,34 @@
 -- Where an event adds a check to a device's journal, it has a cause before it, or a call failed in it.
-use Rattle.std.proofs.Common.{◌≡◌, ◌≢◌, ◌<◌, ◌≤◌, ◌&&◌, not, zero, suc, ℕ, Bool, true, false, List, [], ◌∷◌, Option, Some, None, get_or, refl, sym, ap, subst, ◌∙◌, arith, ◌⊎◌, inl, inr}
+use Rattle.std.proofs.Common.{
+  ◌≡◌,
+  ◌≢◌,
+  ◌<◌,
+  ◌≤◌,
+  ◌&&◌,
+  not,
+  zero,
+  suc,
+  ℕ,
+  Bool,
+  true,
+  false,
+  List,
+  [],
+  ◌∷◌,
+  Option,
+  Some,
+  None,
+  get_or,
+  refl,
+  sym,
+  ap,
+  subst,
+  ◌∙◌,
+  arith,
+  ◌⊎◌,
+  inl,
+  inr,
+}
 use Rattle.std.proofs.lemmas.Bool.{cases_eq, cases_lt}
 use Rattle.ckd_types.specs.declared.paths.Side.{Side}
 use Rattle.ckd_types.specs.declared.paths.Side.TheVariants as sides
@@ -98,7 +127,8 @@ module _ (n : ℕ) (d : MarksDevice) (w : IsWell by_plain d.store) (h : HalfWrit
       (lucky_then (λ s _. second_of by_plain (record (event_begun d) { store = s }) s.half)
       (with_always (hearing_keeps_good by_plain 960 (event_begun d).store front.well) (hear_goes by_plain 960 (event_begun d).store))
       (λ s _ g. half_checks s g.1 s.half (g.0.half ∙ is)))
-      (λ y a k. lucky_then (λ z _. Done (record y { store = z }) a) (lucky_any (ended by_plain (waiting_count by_plain d.store) y.store)) (λ z _ _. lucky_done k))
+      (λ y a k. lucky_then (λ z _. Done (record y { store = z }) a) (lucky_any (ended by_plain (waiting_count by_plain d.store) y.store))
+      (λ z _ _. lucky_done k))
 
 -- Events in which calls may fail
 
@@ -126,13 +156,15 @@ module _ (d : MarksDevice) (f : Fair d) where
       ChecksForCause d (T.hold true i t).state
   where_failed i x t later = by_failed i x t (λ full. inr (not_counted full)) (λ rose. inr (call_failed rose)) later
 
-  pub command_causes : (o : OpenEntry) → d.history.running ≡ Some o → d.store.half ≡ None → (t : Told) → ChecksForCause d (T.hold true (command by_plain d) t).state
+  pub command_causes : (o : OpenEntry) → d.history.running ≡ Some o → d.store.half ≡ None → (t : Told) →
+      ChecksForCause d (T.hold true (command by_plain d) t).state
   command_causes o running whole t =
       let x = command_based by_plain d in
       where_failed (command by_plain d) x t (λ lt same.
       decided (some_takes d.store) (λ up. by_lost lt same up (find_lost d.store.lost)) (λ none. inr (none_takes none)))
     where
-      by_lost : d.store.counts.failed < top → (T.hold true (command by_plain d) t).state.store.counts.failed ≡ d.store.counts.failed → some_takes d.store ≡ true →
+      by_lost : d.store.counts.failed < top → (T.hold true (command by_plain d) t).state.store.counts.failed ≡ d.store.counts.failed →
+          some_takes d.store ≡ true →
           (((q : ℕ) → get_or d.store.lost q false ≡ false) ⊎ ((q : ℕ) × (get_or d.store.lost q false ≡ true))) →
           ChecksForCause d (T.hold true (command by_plain d) t).state
       by_lost lt same up (inr y) = inr (track_lost y.0 y.1)

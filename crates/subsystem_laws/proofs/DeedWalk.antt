@@ -21,7 +21,28 @@ use Rattle.subsystem_defs.specs.declared.event.Event.{Event}
 use Rattle.subsystem_defs.specs.declared.event.Event.TheVariants as events
 use Rattle.subsystem_defs.specs.Calm.{is_loss}
 use Rattle.subsystem_defs.specs.Deeds as E
-use Rattle.subsystem_defs.specs.Deeds.{back, order, Ends, Becomes, Asks, Each, Repairs, Lends, deed, device_in, on_device, starts, start_by, is_own, step, seconds, ends_by, may_end_by, ends_done, end_of}
+use Rattle.subsystem_defs.specs.Deeds.{
+  back,
+  order,
+  Ends,
+  Becomes,
+  Asks,
+  Each,
+  Repairs,
+  Lends,
+  deed,
+  device_in,
+  on_device,
+  starts,
+  start_by,
+  is_own,
+  step,
+  seconds,
+  ends_by,
+  may_end_by,
+  ends_done,
+  end_of,
+}
 use Rattle.subsystem_defs.specs.Happening.{MarksDeed}
 use Rattle.subsystem_defs.specs.Refusals.{pair_fault, suspend_fault, resume_fault, fail_fault}
 use Rattle.subsystem_defs.specs.Subsystem.{Mounted, Subsystem, devices_of, mounted_in}
@@ -46,7 +67,8 @@ module _ (s : Subsystem) (Kept : Event → MarksDeed → Type 0) where
     pub ended : (e : Event) (end : EventEnd) → Kept e (Ends end)
     pub started : (path n : ℕ) (d : MarksDevice) → Stands s d → start_fault d path ≡ None →
         Kept (events.Start path n) (Becomes (start d path) (ends.Started (next_ordinal d path)))
-    pub seconded : (e : Event) → is_loss e ≡ false → (d : MarksDevice) → Stands s d → (h : HalfWrite (Unit {0})) → d.store.half ≡ Some h → Kept e (seconds by_plain d)
+    pub seconded : (e : Event) → is_loss e ≡ false → (d : MarksDevice) → Stands s d → (h : HalfWrite (Unit {0})) → d.store.half ≡ Some h →
+        Kept e (seconds by_plain d)
     pub commanded : (n : ℕ) (d : MarksDevice) → Stands s d → d.store.half ≡ None → (o : OpenEntry) → d.history.running ≡ Some o →
         Kept (events.Step n) (Asks d (may_end_by ends.Stepped (command by_plain d)))
     pub worked : (n : ℕ) (d : MarksDevice) → Stands s d → d.store.half ≡ None → Kept (events.Back n) (Asks d (may_end_by ends.Back (background by_plain d)))
@@ -87,7 +109,8 @@ module _ (s : Subsystem) (Kept : Event → MarksDeed → Type 0) where
     ordered e (Some fault) h = record { is = k.ended e (ends.Refused fault) }
     ordered e None h = h refl
 
-    starts_by : (path n : ℕ) (d : MarksDevice) → Stands s d → (o : Option StartFault) → start_fault d path ≡ o → Deeds (events.Start path n) (start_by {R = Bool} d path o)
+    starts_by : (path n : ℕ) (d : MarksDevice) → Stands s d → (o : Option StartFault) → start_fault d path ≡ o →
+        Deeds (events.Start path n) (start_by {R = Bool} d path o)
     starts_by path n d x (Some fault) is = record { is = k.ended (events.Start path n) (ends.NotStarted fault) }
     starts_by path n d x None is = record { is = k.started path n d x is }
 
@@ -155,7 +178,8 @@ module _ (s : Subsystem) (Kept : MarksDeed → Type 0) where
     pub cut : (d : MarksDevice) → Stands s d → (path : ℕ) → Kept (Asks d (ends_by ends_done (reset by_plain d path)))
     pub lost_cache : Kept (Each (cache_failed s.pool) (λ x. lose by_plain x losses.Cache))
     pub lost_store : Kept (Each (store_failed s.pool) (λ x. lose by_plain x losses.Store))
-    pub lost_side : (d : MarksDevice) → Stands s d → (side : Side) → fail_fault d side ≡ None → Kept (Asks d (ends_by ends_done (lose by_plain d (losses.Side side))))
+    pub lost_side : (d : MarksDevice) → Stands s d → (side : Side) → fail_fault d side ≡ None →
+        Kept (Asks d (ends_by ends_done (lose by_plain d (losses.Side side))))
     pub lost_power : Kept (Each (power_lost s.pool) (power by_plain))
     pub repaired_cache : Kept (Repairs (cache_repaired s.pool))
     pub repaired_store : Kept (Repairs (store_repaired s.pool))

@@ -105,7 +105,11 @@ deeds_lose s p = record {
   ended = λ end. tt;
   started = λ d x path fault.
       becomes_so LosesNone LosesForCause s d x (start d path) (started_number d path) (started_keeps d path) (ends.Started (next_ordinal d path));
-  seconded = λ d x h is. (seat_of s d x, ends_made LosesNone LosesForCause d (second by_plain d) (λ a. Some (ends.Second a)) (second_loses d (fair_of s p d x) h is));
+  seconded = λ d x h is. (
+    seat_of s d x,
+    ends_made LosesNone LosesForCause d (second by_plain d) (λ a. Some (ends.Second a))
+        (second_loses d (fair_of s p d x) h is),
+  );
   commanded = λ d x whole o running. (
     seat_of s d x,
     ends_made LosesNone LosesForCause d (command by_plain d) (end_of ends.Stepped) (command_loses d (fair_of s p d x) o running whole),

@@ -22,7 +22,31 @@ use Rattle.subsystem_defs.specs.Decks as D
 use Rattle.subsystem_defs.specs.Decks.{opened_device, opened, run_of}
 use Rattle.subsystem_defs.specs.Deeds.{Ends, Becomes, Asks, Each, Repairs, Lends, deed}
 use Rattle.subsystem_defs.specs.Happening as H
-use Rattle.subsystem_defs.specs.Happening.{Happened, MarksDeed, Talk, held_with, told_to, mounted_behind, behind_outcome, joined, lends, is_lent_to, restored_in, asks, becomes, happens_by, happens, quietly, sweep, replaced_by, replaced_at, replaced, unpaired_by, unpaired_at, unpaired}
+use Rattle.subsystem_defs.specs.Happening.{
+  Happened,
+  MarksDeed,
+  Talk,
+  held_with,
+  told_to,
+  mounted_behind,
+  behind_outcome,
+  joined,
+  lends,
+  is_lent_to,
+  restored_in,
+  asks,
+  becomes,
+  happens_by,
+  happens,
+  quietly,
+  sweep,
+  replaced_by,
+  replaced_at,
+  replaced,
+  unpaired_by,
+  unpaired_at,
+  unpaired,
+}
 use Rattle.subsystem_defs.specs.Lines.{Logged, Replace, Unpair, logged, asked_by}
 use Rattle.subsystem_defs.specs.Refusals.{replace_fault, unpair_fault}
 use Rattle.subsystem_defs.specs.Subsystem.{Mounted, Subsystem, number_of, devices_of, mounted_in, put_in, with_calls, unfailing}
@@ -71,7 +95,8 @@ pairs_on r on (x ∷ xs) [] zs p q = absurd p
 pairs_on r on (x ∷ xs) (y ∷ ys) [] p q = absurd q
 pairs_on r on (x ∷ xs) (y ∷ ys) (z ∷ zs) p q = (on x y z p.0 q.0, pairs_on r on xs ys zs p.1 q.1)
 
-pairs_weaker : (r q : MarksDevice → MarksDevice → Type 0) → ((x y : MarksDevice) → r x y → q x y) → (xs ys : List MarksDevice) → EachPair r xs ys → EachPair q xs ys
+pairs_weaker : (r q : MarksDevice → MarksDevice → Type 0) → ((x y : MarksDevice) → r x y → q x y) → (xs ys : List MarksDevice) → EachPair r xs ys →
+    EachPair q xs ys
 pairs_weaker r q so [] [] p = tt
 pairs_weaker r q so [] (y ∷ ys) p = absurd p
 pairs_weaker r q so (x ∷ xs) [] p = absurd p
@@ -115,7 +140,8 @@ module _ (Still : MarksDevice → MarksDevice → Type 0) (Made : Bool → Bool 
     still_shows : (lossy alone : Bool) (s : Subsystem) (ms : List Mounted) → Pairs Still s.mounted ms → Pairs (Made lossy alone) s.mounted ms
     still_shows lossy alone s ms p = pairs_weaker Still (Made lossy alone) (k.made lossy alone) (devices_of s) (map (λ (m : Mounted). m.device) ms) p
 
-    put_same : (s : Subsystem) (n : ℕ) (m y : Mounted) → mounted_in s.mounted n ≡ Some m → Still m.device y.device → Pairs Still s.mounted (put_in s.mounted n y)
+    put_same : (s : Subsystem) (n : ℕ) (m y : Mounted) → mounted_in s.mounted n ≡ Some m → Still m.device y.device →
+        Pairs Still s.mounted (put_in s.mounted n y)
     put_same s n m y there is =
         pairs_put Still k.own n y s.mounted (λ x at. subst (λ (z : Mounted). Still z.device y.device) (some_is m x (sym there ∙ at)) is)
 
@@ -136,7 +162,8 @@ module _ (Still : MarksDevice → MarksDevice → Type 0) (Made : Bool → Bool 
     joined_shown z n volume None there = pairs_same Still k.own z.mounted
     joined_shown z n volume (Some m) there = put_same z n m (record m { device = join m.device; b = volume }) there (k.joins m.device)
 
-    lends_shown : (s : Subsystem) (a : ℕ) (d : MarksDevice) → IsSeat s d → ((t : Told) → Still d (T.hold true (lend by_plain d a) t).state) → (o : Option Mounted) →
+    lends_shown : (s : Subsystem) (a : ℕ) (d : MarksDevice) → IsSeat s d → ((t : Told) → Still d (T.hold true (lend by_plain d a) t).state) →
+        (o : Option Mounted) →
         mounted_in s.mounted d.store.device ≡ o → Pairs Still s.mounted (lends s a d.store.device o).mounted
     lends_shown s a d seat h None there = pairs_same Still k.own s.mounted
     lends_shown s a d seat h (Some m) there =
@@ -175,7 +202,8 @@ module _ (Still : MarksDevice → MarksDevice → Type 0) (Made : Bool → Bool 
     unordered : (s : Subsystem) → Pairs (Made false false) s.mounted s.mounted
     unordered s = pairs_same (Made false false) (made_own false false) s.mounted
 
-    replaced_shown : (s : Subsystem) (n : ℕ) (side : Side) (calls : Calls) (o : Option Mounted) → mounted_in s.mounted n ≡ o → Orders (replaced_at s n side calls o)
+    replaced_shown : (s : Subsystem) (n : ℕ) (side : Side) (calls : Calls) (o : Option Mounted) → mounted_in s.mounted n ≡ o →
+        Orders (replaced_at s n side calls o)
     replaced_shown s n side calls None there = unordered s
     replaced_shown s n side calls (Some m) there = by_fault (replace_fault m.device side) refl where
       by_fault : (o : Option OrderFault) → replace_fault m.device side ≡ o → Orders (replaced_by s n side calls m o)

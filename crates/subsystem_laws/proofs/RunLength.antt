@@ -12,7 +12,28 @@ use Rattle.subsystem_defs.specs.Decks as D
 use Rattle.subsystem_defs.specs.Decks.{opened, run_of}
 use Rattle.subsystem_defs.specs.Happening.{quietly, happens}
 use Rattle.subsystem_defs.specs.Lines as L
-use Rattle.subsystem_defs.specs.Lines.{is_settled, most_backs, backs, Asked, Once, Replace, Unpair, Run, Settle, Logged, logged, is_busy, step_logged, steps, most_steps, run_logged, line_logged, last_behind, run_lines, asked_by}
+use Rattle.subsystem_defs.specs.Lines.{
+  is_settled,
+  most_backs,
+  backs,
+  Asked,
+  Once,
+  Replace,
+  Unpair,
+  Run,
+  Settle,
+  Logged,
+  logged,
+  is_busy,
+  step_logged,
+  steps,
+  most_steps,
+  run_logged,
+  line_logged,
+  last_behind,
+  run_lines,
+  asked_by,
+}
 use Rattle.subsystem_defs.specs.Subsystem.{Subsystem, mounted_in}
 
 steps_few : (n d : ℕ) (s : Subsystem) → length (steps n d s) ≤ n
