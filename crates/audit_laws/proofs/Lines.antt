@@ -1,5 +1,6 @@
 -- Each line that is judged well keeps every device's past one that a plain device could have.
-use Rattle.std.proofs.Common.{◌≡◌, ◌≤◌, ℕ, [], ◌∷◌, List, drop, map, length, Option, Some, None, Result, Ok, Err, Bool, true, false, not, cond, refl, sym, ap, subst, ◌∙◌, inl, inr}
+use Rattle.std.proofs.Common.{◌≡◌, ◌≤◌, ℕ, [], ◌∷◌, List, drop, map, length, Option, Some, None, Result}
+use Rattle.std.proofs.Common.{Ok, Err, Bool, true, false, not, cond, refl, sym, ap, subst, ◌∙◌, inl, inr}
 use Rattle.std.specs.Prelude.{◌⊎◌, ◌&&◌, ◌||◌, ◌==◌, ◌+◌, ⊤}
 use Rattle.std.specs.List.{list_any}
 use Rattle.std.proofs.lemmas.Bool.{and_parts}
@@ -29,17 +30,24 @@ use Rattle.report_places.specs.declared.state.HalfWrite.{HalfWrite}
 use Rattle.report_places.specs.declared.state.HalfWrite.TheVariants.{Closed, OfCommand}
 use Rattle.report_places.specs.Place.{first_event, holds, is_io, is_of_work, worker_of}
 use Rattle.report_places.specs.Same.{says}
-use Rattle.deck_audit.specs.Device.{AuditedDevice, check_end, device_in, has_loose, is_next_legal, may_loosen, plain_end, start_answer, state_of, with_device, words_of_open}
-use Rattle.deck_audit.specs.History.{act_made, act_of_work, after_start, back_half, behind_end, behind_made, changed, check_made, cut_by, cut_half, cut_open, done_order, due_made, end_made, end_made_by, event_made, given_back, harden_made, has_sense, is_legal, lent_to, loosen_made, loss_line, loss_made, made, made_in, next_made, order_made, place_of, power_cut, power_loss, power_made, reset_made, runs_lent, sense_made, shown, shows_end, start_made, totals_made, without_power, work_made}
+use Rattle.deck_audit.specs.Device.{AuditedDevice, check_end, device_in, has_loose, is_next_legal, may_loosen}
+use Rattle.deck_audit.specs.Device.{plain_end, start_answer, state_of, with_device, words_of_open}
+use Rattle.deck_audit.specs.History.{act_made, act_of_work, after_start, back_half, behind_end, behind_made, changed, check_made, cut_by, cut_half}
+use Rattle.deck_audit.specs.History.{cut_open, done_order, due_made, end_made, end_made_by, event_made, given_back, harden_made, has_sense, is_legal}
+use Rattle.deck_audit.specs.History.{lent_to, loosen_made, loss_line, loss_made, made, made_in, next_made, order_made, place_of, power_cut}
+use Rattle.deck_audit.specs.History.{power_loss, power_made, reset_made, runs_lent, sense_made, shown, shows_end, start_made, totals_made}
+use Rattle.deck_audit.specs.History.{without_power, work_made}
 use Rattle.deck_audit.specs.Stands.{stands}
-use Rattle.deck_audit.specs.State.{AuditState, behind_work, is_event_over, over_by, passed, settled, settled_by, settled_in, then_of, worked, worker, worker_number}
+use Rattle.deck_audit.specs.State.{AuditState, behind_work, is_event_over, over_by, passed, settled}
+use Rattle.deck_audit.specs.State.{settled_by, settled_in, then_of, worked, worker, worker_number}
 use Rattle.report_reading.specs.declared.fault.LineFault.{LineFault}
 use Rattle.report_reading.specs.Reading.{line_of}
 use Rattle.report_auditor.specs.declared.status.AuditWhy.TheVariants.{Place}
 use Rattle.report_auditor.specs.Verdict.{judged_by, or_history}
 use Rattle.report_audit.specs.FirstFault.{LeadsTo}
 use Rattle.audit_laws.proofs.Devices.{But, Each, IsOf, but_of_each, but_put, but_told, each_mapped, each_of_but, each_so}
-use Rattle.audit_laws.proofs.Sound.{Darkening, Sound, cut_dark, cut_more_dark, cut_more_sound, darkened_sound, given_sound, hardened_sound, lost_sound, reset_sound, runs_on, started_sound}
+use Rattle.audit_laws.proofs.Sound.{Darkening, Sound, cut_dark, cut_more_dark, cut_more_sound, darkened_sound, given_sound}
+use Rattle.audit_laws.proofs.Sound.{hardened_sound, lost_sound, reset_sound, runs_on, started_sound}
 use Rattle.audit_laws.proofs.Works.{Checks, DidSo, Ends, IsNextCheck, check_is, did_hardened, loosened_sound, worked_sound}
 
 -- What an answer says

@@ -1,5 +1,6 @@
 -- What each line makes of a device's past keeps it one that a plain device could have.
-use Rattle.std.proofs.Common.{◌≡◌, ◌≤◌, ◌+◌, ◌∷◌, ◌++◌, ℕ, [], List, Option, Some, None, Bool, true, false, not, cond, length, refl, sym, ap, subst, ◌∙◌, append_assoc, inl, inr}
+use Rattle.std.proofs.Common.{◌≡◌, ◌≤◌, ◌+◌, ◌∷◌, ◌++◌, ℕ, [], List, Option, Some, None, Bool, true, false}
+use Rattle.std.proofs.Common.{not, cond, length, refl, sym, ap, subst, ◌∙◌, append_assoc, inl, inr}
 use Rattle.std.specs.Prelude.{◌⊎◌, ◌&&◌, ◌||◌, nat_lt}
 use Rattle.ckd_types.specs.Parameters.{is_provisional}
 use Rattle.ckd_rules.specs.Walk.{TrackEdit}
@@ -15,7 +16,8 @@ use Rattle.plain_defs.specs.PlainState.{LooseTrack, PlainState}
 use Rattle.plain_defs.specs.Program.{Part}
 use Rattle.report_text.specs.declared.answers.StartAnswer.{StartAnswer}
 use Rattle.report_text.specs.declared.answers.StartAnswer.TheVariants as start
-use Rattle.deck_audit.specs.Device.{AuditedDevice, edit_of, has_loose, is_edit_legal, is_next_legal, lent_answer, own_runs, part_of_open, running_answer, runs, start_answer, state_of}
+use Rattle.deck_audit.specs.Device.{AuditedDevice, edit_of, has_loose, is_edit_legal, is_next_legal, lent_answer}
+use Rattle.deck_audit.specs.Device.{own_runs, part_of_open, running_answer, runs, start_answer, state_of}
 use Rattle.deck_audit.specs.History.{after_start, cut_open, given_back, is_lent_to, runs_lent, without_power}
 use Rattle.deck_audit.proofs.StartLaw.{start_plain}
 use Rattle.device_laws.proofs.DueResets.{acted_due, emptied_due, lost_power_due, reset_due, started_due}

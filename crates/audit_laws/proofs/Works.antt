@@ -21,7 +21,8 @@ use Rattle.plain_defs.specs.Loose.{is_loose}
 use Rattle.plain_defs.specs.Program.{Part, with_act}
 use Rattle.report_places.specs.declared.state.Did.{Did}
 use Rattle.report_places.specs.declared.state.Did.TheVariants.{Ended, CheckEnded, Halved, Worked}
-use Rattle.deck_audit.specs.Device.{AuditedDevice, check_end, edit_of, is_next_legal, loosens, may_loosen, part_of_open, plain_end, plain_end_at, state_of, words_of_open}
+use Rattle.deck_audit.specs.Device.{AuditedDevice, check_end, edit_of, is_next_legal, loosens, may_loosen}
+use Rattle.deck_audit.specs.Device.{part_of_open, plain_end, plain_end_at, state_of, words_of_open}
 use Rattle.deck_audit.specs.History.{is_legal}
 use Rattle.deck_audit.specs.State.{worked}
 use Rattle.device_laws.proofs.DueResets.{acted_due, checked_due, ended_due}
@@ -94,7 +95,8 @@ module _ (a : AuditedDevice) (e : CommandEnd) (ends : Ends e a) where
     }
 
     -- a check of it
-    pub check_is : (sense : Sense) → (◌≡◌ {A = Option Sense} (Some sense) (Some equipment_sense)) ⊎ (◌≡◌ {A = Option Sense} (Some sense) (Some data_check_sense))
+    pub check_is : (sense : Sense)
+        → (◌≡◌ {A = Option Sense} (Some sense) (Some equipment_sense)) ⊎ (◌≡◌ {A = Option Sense} (Some sense) (Some data_check_sense))
         → IsNextCheck (check_end (words_of_open a o) e.index sense) a o
     check_is sense is = record {
       next = next_is;

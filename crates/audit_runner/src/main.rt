@@ -2,8 +2,6 @@
 #![tactic(auto)]
 
 mod progress;
-#[cfg(test)]
-mod tests;
 
 use ckd_outside::{StdSink, StdSource};
 use progress::Shown;

@@ -2,7 +2,9 @@ ghost use Rattle.std.specs.Prelude.{◌≡◌, ◌<◌, ◌≤◌, ◌+◌, ◌*
 ghost use Rattle.std.specs.Prelude.{option_map};
 ghost use Rattle.ckd_types.specs.Parameters.{is_provisional};
 ghost use Rattle.ckd_chain.specs.Facts.{IsChain, SuitsTrack, NeedsTrack, FurtherFrom, GoesFurther, CountsEnd, IsAsking, MayBeWritten, MaySettle};
-ghost use Rattle.ckd_chain.specs.Steps.{first_mark, begun_chain, index_of, word_of, standing, stage_of, opened, begin_with, opening_at, needed, need_of, start_of, behind, end_with, waiting, turned_with, looked_with, held_outcome, stepped_by, stepped, checked, written_by, settled_by, again_from, mode_by, inhibits_by, last_by};
+ghost use Rattle.ckd_chain.specs.Steps.{first_mark, begun_chain, index_of, word_of, standing, stage_of, opened, begin_with, opening_at};
+ghost use Rattle.ckd_chain.specs.Steps.{needed, need_of, start_of, behind, end_with, waiting, turned_with, looked_with, held_outcome, stepped_by};
+ghost use Rattle.ckd_chain.specs.Steps.{stepped, checked, written_by, settled_by, again_from, mode_by, inhibits_by, last_by};
 ghost use Rattle.ckd_rules.specs.Facts.{HasRoom, Stands, IsLook, IsRunning};
 ghost use Rattle.ckd_rules.specs.Ends.{end_of, goes_to};
 ghost use Rattle.ckd_types.specs.Ccw.{ccw_at};

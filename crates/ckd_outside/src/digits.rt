@@ -22,7 +22,7 @@ pub fn write_hex_digits(out: &mut [u8], bytes: &[u8])
 }
 
 /// How many decimal digits a number has.
-#[tactic(auto, using(crate::proofs::DecimalLengths::length_three, crate::proofs::DecimalLengths::length_of_four, crate::proofs::DecimalLengths::length_five, itoa::proofs::Decimal::length_one, itoa::proofs::Decimal::length_two))]
+#[tactic(auto, using(crate::proofs::DecimalLengths::length_three, crate::proofs::DecimalLengths::length_of_four, crate::proofs::DecimalLengths::length_five, itoa::proofs::Decimal::length_one, itoa::proofs::Decimal::length_two,))]
 pub fn decimal_len(n: u16) -> usize
     ensures len { result ≡ length (decimal n) }
     ensures most { result ≤ 5 }

@@ -118,7 +118,14 @@ impl Model for MemSink {
 
     ghost Value = { Store };
 
-    ghost view = { λ s. record { held = take s.len s.bytes.items; room = length s.bytes.items - s.len; piece = s.piece; writes = s.writes; fail_writes = s.fail_writes.items; faults = s.faults } };
+    ghost view = { λ s. record {
+      held = take s.len s.bytes.items;
+      room = length s.bytes.items - s.len;
+      piece = s.piece;
+      writes = s.writes;
+      fail_writes = s.fail_writes.items;
+      faults = s.faults;
+    } };
 
     ghost invariant = { λ s. (s.len ≤ length s.bytes.items) × (0 < s.piece) };
 }

@@ -1,6 +1,7 @@
 ghost use Rattle.std.specs.Prelude.{◌≡◌, ◌+◌, ◌*◌, ◌<◌, ◌≤◌, IfOk, IfSome, length, slice_index};
 ghost use Rattle.ckd_types.specs.Geometry.{track_at};
-ghost use Rattle.ckd_types.specs.Parameters.{number_at, cchh_at, seek_to, head_to, attributes_mode, extent_number, orientation_of, is_bad_count, extent_of, domain_of};
+ghost use Rattle.ckd_types.specs.Parameters.{number_at, cchh_at, seek_to, head_to, attributes_mode, extent_number};
+ghost use Rattle.ckd_types.specs.Parameters.{orientation_of, is_bad_count, extent_of, domain_of};
 ghost use Rattle.ckd_params.specs.Wellformed.{IsExtent, IsDomain};
 
 use crate::bits::{

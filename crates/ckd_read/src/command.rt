@@ -1,7 +1,8 @@
 ghost use Rattle.std.specs.Prelude.{◌≡◌, ◌<◌, ◌≤◌, Ok, IfOk, IfSome, IsSome, OnErr, OnOk, length};
 ghost use Rattle.ckd_rules.specs.Finding.{record_of, track_after, find_on};
 ghost use Rattle.ckd_rules.specs.Facts.{HasRoom, Stands, Stays, IsHere, IsOnward, PassedOnce, LooksOn};
-ghost use Rattle.ckd_rules.specs.Reads.{read_candidate, read_place, read_passes, found_after, read_after, read_status, read_stance, read_ended, read_sought, read_on};
+ghost use Rattle.ckd_rules.specs.Reads.{read_candidate, read_place, read_passes, found_after, read_after};
+ghost use Rattle.ckd_rules.specs.Reads.{read_status, read_stance, read_ended, read_sought, read_on};
 
 use crate::area::{area_len, sent_of};
 use ckd_rules::{

@@ -1,6 +1,9 @@
 ghost use Rattle.std.specs.Prelude.{◌≡◌, ◌<◌, ◌*◌, IfOk, IfSome, Ok, Some};
 ghost use Rattle.ckd_types.specs.Parameters.{given};
-ghost use Rattle.ckd_rules.specs.Checks.{control_may_follow, write_may_follow, read_may_follow, device_may_follow, may_follow, is_before_records, may_stand_at, is_in_sequence, seeks, sets_mask, has_own_number, defines, locates, control_order, device_act, decoded, mask_fault, first_track, is_between, is_within, placed_order, masked_order, permitted_order, order_by, order_of};
+ghost use Rattle.ckd_rules.specs.Checks.{control_may_follow, write_may_follow, read_may_follow, device_may_follow, may_follow, is_before_records};
+ghost use Rattle.ckd_rules.specs.Checks.{may_stand_at, is_in_sequence, seeks, sets_mask, has_own_number, defines, locates, control_order, device_act};
+ghost use Rattle.ckd_rules.specs.Checks.{decoded, mask_fault, first_track, is_between, is_within, placed_order, masked_order, permitted_order};
+ghost use Rattle.ckd_rules.specs.Checks.{order_by, order_of};
 ghost use Rattle.ckd_rules.specs.Facts.{IsOrder};
 ghost use Rattle.ckd_rules.specs.declared.order.Order.TheVariants.{Seeks, Defines};
 ghost use Rattle.ckd_types.specs.declared.command.DeviceCommand.TheVariants.{SetPathGroup};

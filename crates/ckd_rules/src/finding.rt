@@ -1,5 +1,6 @@
 ghost use Rattle.std.specs.Prelude.{◌≡◌, ◌<◌, ◌≤◌, ◌+◌, ◌^◌, IfSome, IfOk, IsSomeAnd, Ok};
-ghost use Rattle.ckd_rules.specs.Finding.{kept_place, place_on, record_of, next_id, next_count, next_data, next_key, zero_from, home_from, if_there, next_track, track_after, find_from, missed, from_index};
+ghost use Rattle.ckd_rules.specs.Finding.{kept_place, place_on, record_of, next_id, next_count, next_data, next_key, zero_from};
+ghost use Rattle.ckd_rules.specs.Finding.{home_from, if_there, next_track, track_after, find_from, missed, from_index};
 ghost use Rattle.ckd_rules.specs.Updates.{next_area};
 ghost use Rattle.ckd_rules.specs.Facts.{IsHere, IsOnward, PassedOnce};
 

@@ -1,6 +1,8 @@
 ghost use Rattle.std.specs.Prelude.{◌≡◌, ◌≤◌, map};
 ghost use Rattle.std.specs.List.{list_any};
-ghost use Rattle.ckd_rules.specs.Grouping.{is_same_group, is_in_group, owner_by, is_same_owner, is_free_for, owner_after, establishes, resigns, asks_multipath, is_bad_function, is_elsewhere, is_bad_id, group_fault, disbanded, paths_set, owner_joined, owner_left, owner_set, member_bits, reserved_bits, mode_bit, state_byte, group_id_bytes, group_bytes};
+ghost use Rattle.ckd_rules.specs.Grouping.{is_same_group, is_in_group, owner_by, is_same_owner, is_free_for, owner_after, establishes, resigns};
+ghost use Rattle.ckd_rules.specs.Grouping.{asks_multipath, is_bad_function, is_elsewhere, is_bad_id, group_fault, disbanded, paths_set, owner_joined};
+ghost use Rattle.ckd_rules.specs.Grouping.{owner_left, owner_set, member_bits, reserved_bits, mode_bit, state_byte, group_id_bytes, group_bytes};
 
 use ckd_types::{GroupId, Owner, PathNo, PathState};
 

@@ -1,7 +1,8 @@
 ghost use Rattle.std.specs.Prelude.{◌≡◌, ◌<◌, ◌≤◌, Ok, length};
 ghost use Rattle.ckd_rules.specs.Finding.{track_after};
 ghost use Rattle.ckd_rules.specs.Facts.{HasRoom, Stands, Stays, IsHere, IsOnward, PassedOnce, LooksOn};
-ghost use Rattle.ckd_rules.specs.Searches.{search_area, search_place, equal_after, search_after, search_status, search_ended, search_found, search_sought, search_on};
+ghost use Rattle.ckd_rules.specs.Searches.{search_area, search_place, equal_after, search_after, search_status};
+ghost use Rattle.ckd_rules.specs.Searches.{search_ended, search_found, search_sought, search_on};
 
 use crate::candidate::search_candidate;
 use crate::comparing::{cchh_bytes, compared, comparison_of, id_bytes, satisfies};

@@ -5,7 +5,8 @@
 mod tests;
 
 ghost use Rattle.std.specs.Prelude.{◌≡◌, ◌≤◌};
-ghost use Rattle.ckd_types.specs.Sense.{sense_of, reject_sense, track_format_sense, end_of_cylinder_sense, no_record_sense, file_protected_sense, equipment_sense, data_check_sense, zero_sense};
+ghost use Rattle.ckd_types.specs.Sense.{sense_of, reject_sense, track_format_sense, end_of_cylinder_sense, no_record_sense};
+ghost use Rattle.ckd_types.specs.Sense.{file_protected_sense, equipment_sense, data_check_sense, zero_sense};
 
 use ckd_types::Sense;
 

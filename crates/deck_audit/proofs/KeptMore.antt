@@ -6,7 +6,8 @@ use Rattle.plain_defs.specs.declared.journal.How.TheVariants.{Full, Cut, Checked
 use Rattle.plain_defs.specs.declared.journal.Act.{Act}
 use Rattle.plain_defs.specs.declared.journal.Item.{Item}
 use Rattle.plain_defs.specs.declared.journal.Item.TheVariants as items
-use Rattle.plain_defs.specs.History.{History, OpenEntry, acted, acted_in, checked, checked_in, closed, emptied, ended, ended_in, is_path_of, lost_power, lost_power_in, with_end}
+use Rattle.plain_defs.specs.History.{History, OpenEntry, acted, acted_in, checked, checked_in, closed, emptied}
+use Rattle.plain_defs.specs.History.{ended, ended_in, is_path_of, lost_power, lost_power_in, with_end}
 use Rattle.plain_defs.specs.Legal.{is_of_path, is_started, is_used, started_by, used_by}
 use Rattle.report_places.specs.declared.state.HalfWrite.TheVariants.{Closed}
 use Rattle.deck_audit.specs.Device.{runs}

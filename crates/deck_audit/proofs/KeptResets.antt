@@ -1,5 +1,6 @@
 -- What is kept of a device's paths, behind resets.
-use Rattle.std.proofs.Common.{◌≡◌, ◌≤◌, ◌+◌, ◌-◌, ◌==◌, ◌∷◌, ◌++◌, [], ℕ, List, Option, Some, None, Bool, true, false, cond, not, length, refl, arith, sym, ap, subst, ◌∙◌, inl, inr, append_assoc}
+use Rattle.std.proofs.Common.{◌≡◌, ◌≤◌, ◌+◌, ◌-◌, ◌==◌, ◌∷◌, ◌++◌, [], ℕ, List, Option, Some, None, Bool, true}
+use Rattle.std.proofs.Common.{false, cond, not, length, refl, arith, sym, ap, subst, ◌∙◌, inl, inr, append_assoc}
 use Rattle.std.specs.Prelude.{◌⊎◌, ◌||◌, ◌&&◌, count_by, slice_set}
 use Rattle.std.proofs.lemmas.Bool.{eq-eqb}
 use Rattle.plain_defs.specs.declared.journal.How.TheVariants.{Cut}

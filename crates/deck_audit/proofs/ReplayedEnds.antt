@@ -18,7 +18,8 @@ use Rattle.plain_defs.specs.PlainState.{PlainState}
 use Rattle.plain_defs.specs.Program.{Part}
 use Rattle.plain_device.specs.Between.{effect_of}
 use Rattle.deck_audit.specs.declared.replayed.Running.{Running}
-use Rattle.deck_audit.specs.Device.{AuditedDevice, edit_of, is_edit_legal, is_next_legal, loosens, may_loosen, part_of_open, plain_end, plain_end_at, words_of_open}
+use Rattle.deck_audit.specs.Device.{AuditedDevice, edit_of, is_edit_legal, is_next_legal, loosens, may_loosen}
+use Rattle.deck_audit.specs.Device.{part_of_open, plain_end, plain_end_at, words_of_open}
 use Rattle.deck_audit.specs.Follows.{EndsAs, Follows, FollowsProgram, IsAt, RunsAs, pending_by}
 use Rattle.deck_audit.specs.Replay as replay
 use Rattle.deck_audit.specs.Replayed.{PendingState, ReplayedState}

@@ -11,7 +11,8 @@ use Rattle.plain_defs.specs.PlainState.{PlainState, is_admitted}
 use Rattle.report_text.specs.declared.answers.StartAnswer.{StartAnswer}
 use Rattle.report_text.specs.declared.answers.StartAnswer.TheVariants as start
 use Rattle.deck_audit.specs.declared.replayed.Running.{Running}
-use Rattle.deck_audit.specs.Device.{AuditedDevice, four_paths, free_answer, has_left, held_answer, lent_answer, may_start, next_ordinal, own_runs, running_answer, start_answer, state_of}
+use Rattle.deck_audit.specs.Device.{AuditedDevice, four_paths, free_answer, has_left, held_answer, lent_answer}
+use Rattle.deck_audit.specs.Device.{may_start, next_ordinal, own_runs, running_answer, start_answer, state_of}
 use Rattle.deck_audit.specs.Follows.{CountsAs, Follows, FollowsProgram, own_count}
 use Rattle.deck_audit.specs.Replay as replayed
 use Rattle.deck_audit.specs.Replayed.{PendingState, ReplayedState}

@@ -1,6 +1,7 @@
 -- What each kind of line makes of a device that an audit keeps, and what follows the line; nothing where the line shows
 -- what no plain device answers.
-use Rattle.std.specs.Prelude.{ℕ, ◌+◌, ◌/◌, ◌%◌, ◌==◌, ◌&&◌, nat_lt, Bool, true, false, List, [], ◌∷◌, length, Option, Some, None, Result, Ok, Err, if◌then◌else◌}
+use Rattle.std.specs.Prelude.{ℕ, ◌+◌, ◌/◌, ◌%◌, ◌==◌, ◌&&◌, nat_lt, Bool, true, false, List, []}
+use Rattle.std.specs.Prelude.{◌∷◌, length, Option, Some, None, Result, Ok, Err, if◌then◌else◌}
 use Rattle.ckd_types.specs.declared.channel.CommandEnd.{CommandEnd}
 use Rattle.ckd_types.specs.declared.sense.Sense.{Sense}
 use Rattle.deck_plan.specs.Plans.{Plans}
@@ -28,7 +29,8 @@ use Rattle.report_places.specs.declared.state.HalfWrite.{HalfWrite}
 use Rattle.report_places.specs.declared.state.HalfWrite.TheVariants.{Closed, OfCommand, OfBackground}
 use Rattle.deck_audit.specs.History.{cut_half, is_last}
 use Rattle.deck_audit.specs.Judging.{end_due}
-use Rattle.deck_audit.specs.Replay.{acted, checked, closed, cut, ended_next, has_left, is_legal, lost, may_loosen, next_end, reset, settled, start_answer, started_next}
+use Rattle.deck_audit.specs.Replay.{acted, checked, closed, cut, ended_next, has_left, is_legal, lost}
+use Rattle.deck_audit.specs.Replay.{may_loosen, next_end, reset, settled, start_answer, started_next}
 use Rattle.deck_audit.specs.Replayed.{ReplayedState}
 use Rattle.report_places.specs.Same.{says}
 

@@ -19,7 +19,8 @@ use Rattle.deck_audit.specs.History as history
 use Rattle.deck_audit.specs.History.{changed, shown}
 use Rattle.deck_audit.specs.Judging.{sense_due}
 use Rattle.deck_audit.specs.Keeping.{DidSo, EndsSo, IsQuiet}
-use Rattle.deck_audit.specs.Kept.{act_kept, act_made, act_then, cut_kept_by, cut_then_by, harden_then, is_idle, loss_kept, loss_then, power_kept, power_then, settled_kept, settled_over, start_kept, start_then, tells_loss, then_if, wait_if, work_kept, work_then}
+use Rattle.deck_audit.specs.Kept.{act_kept, act_made, act_then, cut_kept_by, cut_then_by, harden_then, is_idle, loss_kept, loss_then, power_kept}
+use Rattle.deck_audit.specs.Kept.{power_then, settled_kept, settled_over, start_kept, start_then, tells_loss, then_if, wait_if, work_kept, work_then}
 use Rattle.deck_audit.specs.Replay as replay
 use Rattle.report_places.specs.Same.{says}
 use Rattle.deck_audit.specs.State as state

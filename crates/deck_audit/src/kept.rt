@@ -1,7 +1,10 @@
 ghost use Rattle.std.specs.Prelude.{◌≡◌, IfOk, OnOk, true};
 ghost use Rattle.report_places.specs.declared.state.Due.TheVariants.{ResetOf};
 ghost use Rattle.plain_defs.specs.declared.journal.Act.TheVariants.{Harden, Loosen};
-ghost use Rattle.deck_audit.specs.Kept.{OnGood, act_kept, act_made, act_then, back_half, begun, cut_kept_by, cut_then_by, end_kept, end_then, ended_kept, ended_over, checked_kept, harden_then, is_accepted, loosen_then, loss_kept, loss_then, one_more, power_kept, power_then, settled_kept, settled_over, start_kept, start_then, taken, takes, work_kept, work_then};
+ghost use Rattle.deck_audit.specs.Kept.{OnGood, act_kept, act_made, act_then, back_half, begun, cut_kept_by, cut_then_by, end_kept, end_then};
+ghost use Rattle.deck_audit.specs.Kept.{ended_kept, ended_over, checked_kept, harden_then, is_accepted, loosen_then, loss_kept, loss_then, one_more};
+ghost use Rattle.deck_audit.specs.Kept.{power_kept, power_then, settled_kept, settled_over, start_kept, start_then, taken, takes, work_kept};
+ghost use Rattle.deck_audit.specs.Kept.{work_then};
 ghost use Rattle.deck_audit.specs.History.{is_last};
 
 use crate::replayed::ReplayedDevice;

@@ -1,6 +1,8 @@
 ghost use Rattle.std.specs.Prelude.{◌≡◌, ◌<◌, ◌≤◌, ◌*◌, IfOk, OnErr, OnOk, true};
 ghost use Rattle.plain_defs.specs.declared.journal.Act.TheVariants.{Harden, Loosen};
-ghost use Rattle.deck_audit.specs.Replay.{acted, any_may_start, ended_next, free_answer, given_back, has_left, held_answer, is_legal, lent_answer, lost, may_loosen, may_start, new_replayed, next_end, outline_of, own_runs, program_of, running_answer, settled, start_answer, started_next, started_on};
+ghost use Rattle.deck_audit.specs.Replay.{acted, any_may_start, ended_next, free_answer, given_back, has_left, held_answer, is_legal, lent_answer};
+ghost use Rattle.deck_audit.specs.Replay.{lost, may_loosen, may_start, new_replayed, next_end, outline_of, own_runs, program_of, running_answer};
+ghost use Rattle.deck_audit.specs.Replay.{settled, start_answer, started_next, started_on};
 
 use crate::replayed::{Pending, ReplayedDevice, Running};
 use ckd_chain::Chain;

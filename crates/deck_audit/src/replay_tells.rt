@@ -25,12 +25,14 @@ impl ReplayedDevice {
         self.number
     }
 
+    /// Whether a write of the device is half done, and of what it is a part.
     pub fn half(&self) -> HalfWrite
         ensures { result ≡ self.now.half }
     {
         self.half
     }
 
+    /// Sets it, as a line of the report told it.
     pub fn set_half(&mut self, half: HalfWrite)
         ensures { self.new ≡ with_half self.old half }
     {

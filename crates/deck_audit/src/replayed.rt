@@ -48,7 +48,18 @@ impl Model for ReplayedDevice {
 
     ghost Value = { ReplayedState };
 
-    ghost view = { λ d. record { number = d.number; device = d.device; started = d.started; used = d.used; waits = d.waits; powered = d.powered; running = d.running; pending = option_map pending_of d.pending; half = d.half; lent = d.lent } };
+    ghost view = { λ d. record {
+      number = d.number;
+      device = d.device;
+      started = d.started;
+      used = d.used;
+      waits = d.waits;
+      powered = d.powered;
+      running = d.running;
+      pending = option_map pending_of d.pending;
+      half = d.half;
+      lent = d.lent;
+    } };
 
     ghost invariant = { λ d. IfSome d.running (λ r. IsOn d.device r) × IfSome d.pending (λ p. IsPendingOn d.device p) };
 }

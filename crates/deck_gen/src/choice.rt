@@ -26,6 +26,8 @@ pub struct Choice {
     pub last: u64,
 }
 
+/// The number that is drawn behind another: a linear congruential generator modulo 2 to the 64th, whose constants are our
+/// own choice.
 #[tactic(auto, unfolding(crate::specs::Draws::next_number))]
 pub fn next_number(x: u64) -> u64
     ensures { result ≡ next_number x }
@@ -33,6 +35,7 @@ pub fn next_number(x: u64) -> u64
     x.wrapping_mul(MULTIPLIER).wrapping_add(INCREMENT)
 }
 
+/// One of so many choices, from 0 on: by the upper 31 bits of a drawn number, since the lower ones repeat soon.
 #[tactic(auto, unfolding(crate::specs::Draws::choice_of))]
 pub fn choice_of(choices: u64, x: u64) -> u64
     requires { 0 < choices }

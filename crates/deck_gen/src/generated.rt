@@ -35,7 +35,14 @@ fn device_line(n: u8) -> DeviceLine
 
 /// The deck before its first program, with the events that stand before all others.
 fn head(alloc: Global) -> Result<Deck, NoMemory>
-    ensures { IfOk result (λ deck. deck ≡ record { frames = 64; slots = 16; devices = device_line 0 ∷ device_line 1 ∷ device_line 2 ∷ []; faults = []; programs = []; events = EventLine.Pair 0 1 ∷ EventLine.Settle 0 ∷ [] }) }
+    ensures { IfOk result (λ deck. deck ≡ record {
+      frames = 64;
+      slots = 16;
+      devices = device_line 0 ∷ device_line 1 ∷ device_line 2 ∷ [];
+      faults = [];
+      programs = [];
+      events = EventLine.Pair 0 1 ∷ EventLine.Settle 0 ∷ [];
+    }) }
 {
     let mut deck = Deck::new(alloc)?;
     deck.set_frames(64);

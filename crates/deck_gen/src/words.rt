@@ -7,6 +7,7 @@ use ckd_params::encode_domain;
 use ckd_types::{Bytes, Ccw, Domain, NoMemory, Operation, Orientation, RecId, TrackNo, cchh_of};
 use std::alloc::Global;
 
+/// Define extent over cylinders 0 and 1, chained: of its 16 parameter bytes the mask and the global attributes vary.
 pub fn extent_word(alloc: Global, mask: u8, attributes: u8) -> Result<Ccw, NoMemory>
     ensures { IfOk result (λ ccw. ccw ≡ extent_word mask attributes) }
 {
@@ -21,6 +22,7 @@ pub fn extent_word(alloc: Global, mask: u8, attributes: u8) -> Result<Ccw, NoMem
     })
 }
 
+/// Locate record, chained: `count` commands of the operation, from the record `r` of the track on, found by its count area.
 pub fn locate_word(
     alloc: Global,
     operation: Operation,
@@ -62,6 +64,8 @@ fn format_bytes(track: TrackNo, r: u8, x: u64) -> [u8; 16]
     bytes
 }
 
+/// Write count, key and data: a record `r` of 4,096 bytes without key, of which the word gives the count area and the first
+/// eight data bytes.
 pub fn format_word(alloc: Global, flags: u8, track: TrackNo, r: u8, x: u64) -> Result<Ccw, NoMemory>
     ensures { IfOk result (λ ccw. ccw ≡ format_word flags track r x) }
 {
@@ -73,6 +77,7 @@ pub fn format_word(alloc: Global, flags: u8, track: TrackNo, r: u8, x: u64) -> R
     })
 }
 
+/// Write data in a domain: eight bytes, and no incorrect length where the record is longer.
 pub fn update_word(alloc: Global, x: u64) -> Result<Ccw, NoMemory>
     ensures { IfOk result (λ ccw. ccw ≡ update_word x) }
 {
@@ -84,6 +89,7 @@ pub fn update_word(alloc: Global, x: u64) -> Result<Ccw, NoMemory>
     })
 }
 
+/// A read, which gives nothing: `count` is the most that it sends.
 pub fn read_word(command: u8, flags: u8, count: u16) -> Ccw
     ensures { result ≡ read_word command flags count }
 {

@@ -23,7 +23,8 @@ impl Model for PathPlans {
 
     ghost view = { λ p. p.first.items ∷ p.second.items ∷ p.third.items ∷ p.fourth.items ∷ [] };
 
-    ghost invariant = { λ p. (length p.first.items ≤ 65535) × (length p.second.items ≤ 65535) × (length p.third.items ≤ 65535) × (length p.fourth.items ≤ 65535) };
+    ghost invariant = { λ p. (length p.first.items ≤ 65535) × (length p.second.items ≤ 65535) × (length p.third.items ≤ 65535) ×
+        (length p.fourth.items ≤ 65535) };
 }
 
 impl PathPlans {

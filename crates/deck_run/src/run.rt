@@ -1,4 +1,4 @@
-ghost use Rattle.std.specs.Prelude.{◌≡◌, ◌+◌, ◌++◌, ◌∷◌, [], IfOk, OnOk, length};
+ghost use Rattle.std.specs.Prelude.{◌≡◌, ◌+◌, ◌++◌, ◌∷◌, [], All, IfOk, OnOk, length};
 ghost use Rattle.report_text.specs.declared.line.ReportLine.TheVariants as lines;
 ghost use Rattle.run_report.specs.Report.{lines_of_run, report_lines};
 ghost use Rattle.subsystem_defs.specs.Decks.{run_of};
@@ -6,6 +6,7 @@ ghost use Rattle.subsystem_core.specs.Devices.{numbers_of};
 ghost use Rattle.subsystem_laws.specs.AllSound.{AreSound};
 ghost use Rattle.subsystem_laws.specs.Served.{IsServedDeck};
 ghost use Rattle.subsystem_laws.specs.SlotsApart.{AreApart};
+ghost use Rattle.subsystem_laws.specs.Transfers.{MovesByTable};
 ghost use Rattle.deck_run.specs.Opening.{WasRead, numbers_in};
 ghost use Rattle.deck_run.specs.Sides.{AreAccounted, all_sides};
 ghost use Rattle.deck_run.specs.Standing.{StandsAs, all_stood};
@@ -50,13 +51,14 @@ fn run_events(alloc: Global, deck: &Deck, bay: &mut MemBay) -> Result<FinishedRu
 }
 
 /// Runs a deck over volumes that the bay makes. Where no track is spoiled its devices are those that the defined run leaves, and what
-/// was recorded are the lines of its report, but for the last one.
+/// was recorded are the lines of its report, but for the last one. The reads and writes of each event in them are those of the table of events.
 pub fn run_deck(alloc: Global, deck: &Deck, bay: &mut MemBay) -> Result<FinishedRun, NoMemory>
     requires { WasRead deck.now }
     ensures stands { bay.old.spoiled ≡ [] → IfOk result (λ ran. StandsAs ran.sub (run_of deck.now).behind) }
     ensures lines { bay.old.spoiled ≡ [] → IfOk result (λ ran. ran.report ++ lines.Finish ∷ [] ≡ report_lines (run_of deck.now)) }
     ensures slots { bay.old.spoiled ≡ [] → IfOk result (λ ran. AreApart ran.sub.pool.pool.used (all_stood ran.sub.devices.items)) }
     ensures sound { bay.old.spoiled ≡ [] → IsServedDeck deck.now → IfOk result (λ ran. AreSound (all_stood ran.sub.devices.items)) }
+    ensures transfers { IfOk result (λ ran. All MovesByTable (run_of deck.now).events) }
     ensures numbers { IfOk result (λ ran. numbers_of ran.sub.devices.items ≡ numbers_in deck.now.devices) }
     ensures accounted { IfOk result (λ ran. AreAccounted (all_sides ran.sub.devices.items)) }
     ensures made { OnOk result (bay.new.made ≡ bay.old.made + length deck.now.devices) }

@@ -5,7 +5,8 @@ use Rattle.ckd_types.specs.declared.paths.Side.{Side}
 use Rattle.deck_plan.specs.declared.event.EventLine.{EventLine}
 use Rattle.deck_plan.specs.declared.event.EventLine.TheVariants as events
 use Rattle.deck_text.specs.declared.keyword.EventWord.{EventWord}
-use Rattle.deck_text.specs.declared.keyword.EventWord.TheVariants.{Start, Step, Run, Back, Settle, Reset, Fail, Repair, Replace, Pair, Unpair, Suspend, Resume, Power}
+use Rattle.deck_text.specs.declared.keyword.EventWord.TheVariants.{Start, Step, Run, Back, Settle, Reset, Fail, Repair}
+use Rattle.deck_text.specs.declared.keyword.EventWord.TheVariants.{Replace, Pair, Unpair, Suspend, Resume, Power}
 use Rattle.deck_text.specs.declared.keyword.Part.{Part}
 use Rattle.deck_text.specs.declared.keyword.Part.TheVariants.{Cache, Store}
 use Rattle.deck_text.specs.declared.line.DeckWhy.{DeckWhy}

@@ -2,7 +2,8 @@
 use Rattle.std.specs.Prelude.{ℕ, List, codes, Option, Some, None, if◌then◌else◌}
 use Rattle.std.specs.Str.{bytes_eq}
 use Rattle.deck_text.specs.declared.keyword.EventWord.{EventWord}
-use Rattle.deck_text.specs.declared.keyword.EventWord.TheVariants.{Start, Step, Run, Back, Settle, Reset, Fail, Repair, Replace, Pair, Unpair, Suspend, Resume, Power}
+use Rattle.deck_text.specs.declared.keyword.EventWord.TheVariants.{Start, Step, Run, Back, Settle, Reset, Fail, Repair}
+use Rattle.deck_text.specs.declared.keyword.EventWord.TheVariants.{Replace, Pair, Unpair, Suspend, Resume, Power}
 use Rattle.deck_text.specs.declared.keyword.Keyword.{Keyword}
 use Rattle.deck_text.specs.declared.keyword.Keyword.TheVariants.{Deck, Cache, Store, Device, Fault, Program, Ccw, End, Events, Event}
 

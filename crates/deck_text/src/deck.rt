@@ -25,7 +25,14 @@ impl Model for Deck {
 
     ghost Value = { DeckLines };
 
-    ghost view = { λ d. record { frames = d.frames; slots = d.slots; devices = d.devices.items; faults = d.faults.items; programs = d.programs; events = d.schedule.items } };
+    ghost view = { λ d. record {
+      frames = d.frames;
+      slots = d.slots;
+      devices = d.devices.items;
+      faults = d.faults.items;
+      programs = d.programs;
+      events = d.schedule.items;
+    } };
 
     ghost use Rattle.std.specs.Prelude.{◌≤◌, length};
 
@@ -47,18 +54,21 @@ impl Deck {
         })
     }
 
+    /// How many frames the cache has. No range is looked at: a deck that is read has at most 4,096.
     pub fn set_frames(&mut self, frames: u16)
         ensures { self.new ≡ record self.old { frames = frames } }
     {
         self.frames = frames;
     }
 
+    /// How many slots the nonvolatile store has. No range is looked at: a deck that is read has at most 1,024.
     pub fn set_slots(&mut self, slots: u16)
         ensures { self.new ≡ record self.old { slots = slots } }
     {
         self.slots = slots;
     }
 
+    /// Puts a device behind those that there are. Whether its number is another one's isn't looked at.
     pub fn push_device(&mut self, line: DeviceLine) -> Result<(), NoMemory>
         ensures ok { OnOk result (self.new ≡ record self.old { devices = self.old.devices ++ line ∷ [] }) }
         ensures err { OnErr result (self.new ≡ self.old) }
@@ -75,6 +85,7 @@ impl Deck {
         Ok(())
     }
 
+    /// Puts a program behind those that there are: a deck has 512 at most.
     pub fn push_program(&mut self, alloc: Global, planned: PlannedProgram) -> Result<(), NoMemory>
         requires { length self.old.programs < 512 }
         ensures ok { OnOk result (self.new ≡ record self.old { programs = self.old.programs ++ planned ∷ [] }) }
@@ -83,6 +94,7 @@ impl Deck {
         self.programs.push(alloc, planned)
     }
 
+    /// Puts an event line behind those that there are: a deck has 65,536 at most.
     pub fn push_event(&mut self, line: EventLine) -> Result<(), NoMemory>
         requires { length self.old.events < 65536 }
         ensures ok { OnOk result (self.new ≡ record self.old { events = self.old.events ++ line ∷ [] }) }

@@ -1,6 +1,7 @@
 ghost use Rattle.std.specs.Prelude.{◌≡◌};
 ghost use Rattle.deck_text.specs.Words.{words_of};
-ghost use Rattle.deck_text.specs.Events.{device_words, pair_words, side_words, part_of, is_volume, part_words, fail_line, repair_line, replace_line, event_line, failed_part, repaired_part};
+ghost use Rattle.deck_text.specs.Events.{device_words, pair_words, side_words, part_of, is_volume, part_words, fail_line};
+ghost use Rattle.deck_text.specs.Events.{repair_line, replace_line, event_line, failed_part, repaired_part};
 
 use crate::forms::{device_of, no_words, path_and_device, side_of};
 use crate::keyword::{EventWord, Part, is_text};

@@ -1,7 +1,8 @@
 ghost use Rattle.std.specs.Prelude.{◌≡◌, ◌≤◌, IfOk};
 ghost use Rattle.deck_text.specs.Words.{words_of};
 ghost use Rattle.deck_text.specs.Numbers.{number_in};
-ghost use Rattle.deck_text.specs.Forms.{no_words, is_one, deck_line, count_line, rises, device_line, is_declared, device_of, path_of, is_write, side_of, fault_line, path_and_device};
+ghost use Rattle.deck_text.specs.Forms.{no_words, is_one, deck_line, count_line, rises, device_line, is_declared};
+ghost use Rattle.deck_text.specs.Forms.{device_of, path_of, is_write, side_of, fault_line, path_and_device};
 
 use crate::keyword::is_text;
 use crate::numbers::{geometry_of, number_in};

@@ -1,7 +1,8 @@
 ghost use Rattle.std.specs.Prelude.{List, ℕ};
 ghost use Rattle.ckd_outside.specs.Causes.{HasCause};
 ghost use Rattle.ckd_outside.specs.Texts.{Puts, Writes};
-ghost use Rattle.deck_text.specs.Canonical.{canonical, device_text, event_text, fault_text, from_devices, from_events, from_faults, from_programs, planned_text};
+ghost use Rattle.deck_text.specs.Canonical.{canonical, device_text, event_text, fault_text, from_devices};
+ghost use Rattle.deck_text.specs.Canonical.{from_events, from_faults, from_programs, planned_text};
 
 use crate::write_events::write_event;
 use crate::write_lines::{write_device, write_events_line, write_fault, write_head};

@@ -1,4 +1,4 @@
 pub mod Complete
 pub mod HandedBack
-pub mod Plain
+pub mod RunsWell
 pub mod Written

@@ -10,7 +10,7 @@ ghost use Rattle.deck_run.specs.Opening.{WasRead, numbers_in};
 ghost use Rattle.deck_run.specs.Sides.{AreAccounted, all_sides};
 ghost use Rattle.deck_run.specs.Standing.{StandsAs};
 ghost use Rattle.deck_top.specs.Handed.{TakesBack};
-ghost use Rattle.deck_top.specs.Run.{DeckRunsPlainly};
+ghost use Rattle.deck_top.specs.Run.{DeckRunsWell};
 ghost use Rattle.deck_top.specs.Answers.{TellsDeck};
 
 use crate::give::give_back;
@@ -24,13 +24,13 @@ use device_outside::{MemBay, MemVolume};
 use report_text::write_report;
 use std::alloc::Global;
 use subsystem_core::Subsystem;
-use subsystem_laws::run_is_plain;
+use subsystem_laws::{calm_run_misses_nothing, run_is_plain};
 
-/// A deck's devices behind its run, and the lines of its report, but for the last one; and that the run is plain.
+/// A deck's devices behind its run, and the lines of its report, but for the last one; and that the run is plain, and misses nothing while it is calm.
 fn run_deck(alloc: Global, deck: &Deck, bay: &mut MemBay) -> Result<FinishedRun, NoMemory>
     requires { WasRead deck.now }
     ensures text { bay.old.spoiled ≡ [] → IfOk result (λ ran. report_text ran.report [] [] ≡ report_of deck.now) }
-    ensures plain { IfOk result (λ ran. DeckRunsPlainly deck.now) }
+    ensures well { IfOk result (λ ran. DeckRunsWell deck.now) }
     ensures stands { bay.old.spoiled ≡ [] → IfOk result (λ ran. StandsAs ran.sub (run_of deck.now).behind) }
     ensures numbers { IfOk result (λ ran. numbers_of ran.sub.devices.items ≡ numbers_in deck.now.devices) }
     ensures accounted { IfOk result (λ ran. AreAccounted (all_sides ran.sub.devices.items)) }
@@ -39,6 +39,7 @@ fn run_deck(alloc: Global, deck: &Deck, bay: &mut MemBay) -> Result<FinishedRun,
     ensures taken { bay.new.taken ≡ bay.old.taken }
 {
     run_is_plain();
+    calm_run_misses_nothing();
     let ran = deck_run::run_deck(alloc, deck, bay)?;
     Ok(ran)
 }

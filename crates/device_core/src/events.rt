@@ -8,6 +8,8 @@ ghost use Rattle.device_outside.specs.Outside.{Ran, where_ok};
 ghost use Rattle.device_store.specs.Looks.{peeked_by, IsPeeked};
 ghost use Rattle.device_store.specs.State.{state_of, outside, Takes, had};
 ghost use Rattle.device_core.specs.State.{device_of};
+ghost use Rattle.seen_laws.specs.Moved.{LookMoves, WorkMoves};
+ghost use Rattle.seen_laws.specs.Seen.{KeepsPaths};
 
 use crate::Device;
 use ckd_types::{NoMemory, TrackNo};
@@ -29,6 +31,8 @@ impl<V: Volume> Device<V> {
         ensures fixed { (self.new.store.number ≡ self.old.store.number) × (self.new.store.cylinders ≡ self.old.store.cylinders) }
         ensures takes { Takes K.takes keep.new self.new.store.number (self.new.store.cylinders * 15) }
         ensures run { Ran (where_ok result) K.hears (background contents (device_of self.old)) (outside (P.view port.old) self.old.store keep.old) (device_of self.new) (had (λ did. did) result) (outside (P.view port.new) self.new.store keep.new) }
+        ensures paths { KeepsPaths (device_of self.old) (device_of self.new) }
+        ensures transfers { WorkMoves (device_of self.old) (had (λ did. did) result) (device_of self.new) }
     {
         let before = self.store.waiting_count();
         self.store.begin_event();
@@ -43,6 +47,8 @@ impl<V: Volume> Device<V> {
         requires whole { is_some (device_of self.old).store.half ≡ false }
         ensures fixed { (self.new.store.number ≡ self.old.store.number) × (self.new.store.cylinders ≡ self.old.store.cylinders) }
         ensures run { (k : NoKeep) → Ran (where_ok result) (λ _ m r _. r ≡ reply m) (background contents (device_of self.old)) (outside (P.view port.old) self.old.store k) (device_of self.new) (had (λ did. did) result) (outside (P.view port.new) self.new.store k) }
+        ensures paths { KeepsPaths (device_of self.old) (device_of self.new) }
+        ensures transfers { WorkMoves (device_of self.old) (had (λ did. did) result) (device_of self.new) }
     {
         let mut keep = NoKeep;
         self.background_with(port, &mut keep)
@@ -61,6 +67,8 @@ impl<V: Volume> Device<V> {
         ensures takes { Takes K.takes keep.new self.new.store.number (self.new.store.cylinders * 15) }
         ensures there { IfOk result (IsPeeked (state_of self.new.store) t) }
         ensures run { Ran (where_ok result) K.hears (peek contents (device_of self.old) t) (outside (P.view port.old) self.old.store keep.old) (device_of self.new) (had (peeked_by (state_of self.new.store) t) result) (outside (P.view port.new) self.new.store keep.new) }
+        ensures paths { KeepsPaths (device_of self.old) (device_of self.new) }
+        ensures transfers { LookMoves (device_of self.old) (device_of self.new) }
     {
         let before = self.store.waiting_count();
         self.store.begin_event();
@@ -75,6 +83,8 @@ impl<V: Volume> Device<V> {
         ensures fixed { (self.new.store.number ≡ self.old.store.number) × (self.new.store.cylinders ≡ self.old.store.cylinders) }
         ensures there { IfOk result (IsPeeked (state_of self.new.store) t) }
         ensures run { (k : NoKeep) → Ran (where_ok result) (λ _ m r _. r ≡ reply m) (peek contents (device_of self.old) t) (outside (P.view port.old) self.old.store k) (device_of self.new) (had (peeked_by (state_of self.new.store) t) result) (outside (P.view port.new) self.new.store k) }
+        ensures paths { KeepsPaths (device_of self.old) (device_of self.new) }
+        ensures transfers { LookMoves (device_of self.old) (device_of self.new) }
     {
         let mut keep = NoKeep;
         self.peek_with(t, port, &mut keep)

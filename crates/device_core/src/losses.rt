@@ -6,6 +6,8 @@ ghost use Rattle.device_outside.specs.Keeper.{reply};
 ghost use Rattle.device_outside.specs.Outside.{Ran};
 ghost use Rattle.device_store.specs.State.{outside, surely, Takes};
 ghost use Rattle.device_core.specs.State.{device_of};
+ghost use Rattle.seen_laws.specs.Moved.{MovesNothing};
+ghost use Rattle.seen_laws.specs.Seen.{KeepsPaths};
 
 use crate::Device;
 use device_outside::{Keep, NoKeep, Port, Volume};
@@ -25,6 +27,8 @@ impl<V: Volume> Device<V> {
         ensures fixed { (self.new.store.number ≡ self.old.store.number) × (self.new.store.cylinders ≡ self.old.store.cylinders) }
         ensures takes { Takes K.takes keep.new self.new.store.number (self.new.store.cylinders * 15) }
         ensures run { Ran surely K.hears (lose contents (device_of self.old) loss) (outside (P.view port.old) self.old.store keep.old) (device_of self.new) tt (outside (P.view port.new) self.new.store keep.new) }
+        ensures paths { KeepsPaths (device_of self.old) (device_of self.new) }
+        ensures transfers { MovesNothing (device_of self.old) (device_of self.new) }
     {
         let before = self.store.waiting_count();
         self.store.begin_event();
@@ -37,6 +41,8 @@ impl<V: Volume> Device<V> {
     pub fn lose<P: Port>(&mut self, loss: Loss, port: &mut P)
         ensures fixed { (self.new.store.number ≡ self.old.store.number) × (self.new.store.cylinders ≡ self.old.store.cylinders) }
         ensures run { (k : NoKeep) → Ran surely (λ _ m r _. r ≡ reply m) (lose contents (device_of self.old) loss) (outside (P.view port.old) self.old.store k) (device_of self.new) tt (outside (P.view port.new) self.new.store k) }
+        ensures paths { KeepsPaths (device_of self.old) (device_of self.new) }
+        ensures transfers { MovesNothing (device_of self.old) (device_of self.new) }
     {
         let mut keep = NoKeep;
         self.lose_with(loss, port, &mut keep)

@@ -10,6 +10,7 @@ ghost use Rattle.device_store.specs.State.{outside, surely, Takes};
 ghost use Rattle.device_core.specs.Kept.{history_of, Keeps};
 ghost use Rattle.device_core.specs.Powered.{off_path};
 ghost use Rattle.device_core.specs.State.{device_of};
+ghost use Rattle.seen_laws.specs.Moved.{MovesNothing};
 
 use crate::Device;
 use crate::half::half_count;
@@ -77,6 +78,7 @@ impl<V: Volume> Device<V> {
         ensures fixed { (self.new.store.number ≡ self.old.store.number) × (self.new.store.cylinders ≡ self.old.store.cylinders) }
         ensures takes { Takes K.takes keep.new self.new.store.number (self.new.store.cylinders * 15) }
         ensures run { Ran surely K.hears (power contents (device_of self.old)) (outside (P.view port.old) self.old.store keep.old) (device_of self.new) tt (outside (P.view port.new) self.new.store keep.new) }
+        ensures transfers { MovesNothing (device_of self.old) (device_of self.new) }
     {
         let before = self.store.waiting_count();
         self.store.begin_event();
@@ -92,6 +94,7 @@ impl<V: Volume> Device<V> {
     pub fn power<P: Port>(&mut self, port: &mut P)
         ensures fixed { (self.new.store.number ≡ self.old.store.number) × (self.new.store.cylinders ≡ self.old.store.cylinders) }
         ensures run { (k : NoKeep) → Ran surely (λ _ m r _. r ≡ reply m) (power contents (device_of self.old)) (outside (P.view port.old) self.old.store k) (device_of self.new) tt (outside (P.view port.new) self.new.store k) }
+        ensures transfers { MovesNothing (device_of self.old) (device_of self.new) }
     {
         let mut keep = NoKeep;
         self.power_with(port, &mut keep)

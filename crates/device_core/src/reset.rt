@@ -13,6 +13,7 @@ ghost use Rattle.device_outside.specs.Outside.{PortView, Ran};
 ghost use Rattle.device_store.specs.State.{outside, surely, Takes};
 ghost use Rattle.device_core.specs.Kept.{open_of, history_of, waiting_in, Keeps};
 ghost use Rattle.device_core.specs.State.{device_of};
+ghost use Rattle.seen_laws.specs.Moved.{MovesNothing};
 
 use crate::Device;
 use crate::half::half_count;
@@ -136,6 +137,7 @@ impl<V: Volume> Device<V> {
         ensures fixed { (self.new.store.number ≡ self.old.store.number) × (self.new.store.cylinders ≡ self.old.store.cylinders) }
         ensures volume { self.new.store.pair.volumes ≡ self.old.store.pair.volumes }
         ensures run { (p : PortView) → Ran surely K.hears (reset contents (device_of self.old) path) (outside p self.old.store keep.old) (device_of self.new) tt (outside p self.new.store keep.new) }
+        ensures transfers { MovesNothing (device_of self.old) (device_of self.new) }
         ensures takes { Takes K.takes keep.new self.new.store.number (self.new.store.cylinders * 15) }
     {
         if self.past.runs_on(path) {

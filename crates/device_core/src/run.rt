@@ -11,6 +11,8 @@ ghost use Rattle.device_core.specs.Halves.{is_half_step};
 ghost use Rattle.device_core.specs.Kept.{open_of, chain_of, history_of, ActRoom, HasRoomFor, Keeps};
 ghost use Rattle.device_core.specs.State.{device_of, step_had};
 ghost use Rattle.device_core.specs.Words.{HasEndRoom};
+ghost use Rattle.seen_laws.specs.Moved.{CommandMoves, HitReadsNone};
+ghost use Rattle.seen_laws.specs.Seen.{EndsAsSeen};
 
 use crate::Device;
 use crate::past::{Past, Running, Stepped};
@@ -141,6 +143,9 @@ impl<V: Volume> Device<V> {
         ensures half { IfOk result (λ step. is_some (device_of self.new).store.half ≡ is_half_step step) }
         ensures same { OnErr result (is_some (device_of self.new).store.half ≡ false) }
         ensures run { Ran (where_ok result) K.hears (command contents (device_of self.old)) (outside (P.view port.old) self.old.store keep.old) (device_of self.new) (step_had self.new.past result) (outside (P.view port.new) self.new.store keep.new) }
+        ensures ends_as_seen { EndsAsSeen (where_ok result) K.hears (device_of self.old) (outside (P.view port.old) self.old.store keep.old) (device_of self.new) (step_had self.new.past result) (outside (P.view port.new) self.new.store keep.new) }
+        ensures hits { HitReadsNone (device_of self.old) (device_of self.new) }
+        ensures transfers { CommandMoves (device_of self.old) (device_of self.new) }
     {
         match self
             .past
@@ -160,6 +165,9 @@ impl<V: Volume> Device<V> {
         ensures half { IfOk result (λ step. is_some (device_of self.new).store.half ≡ is_half_step step) }
         ensures same { OnErr result (is_some (device_of self.new).store.half ≡ false) }
         ensures run { (k : NoKeep) → Ran (where_ok result) (λ _ m r _. r ≡ reply m) (command contents (device_of self.old)) (outside (P.view port.old) self.old.store k) (device_of self.new) (step_had self.new.past result) (outside (P.view port.new) self.new.store k) }
+        ensures ends_as_seen { (k : NoKeep) → EndsAsSeen (where_ok result) (λ _ m r _. r ≡ reply m) (device_of self.old) (outside (P.view port.old) self.old.store k) (device_of self.new) (step_had self.new.past result) (outside (P.view port.new) self.new.store k) }
+        ensures hits { HitReadsNone (device_of self.old) (device_of self.new) }
+        ensures transfers { CommandMoves (device_of self.old) (device_of self.new) }
     {
         let mut keep = NoKeep;
         self.command_with(port, &mut keep)

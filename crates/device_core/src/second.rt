@@ -12,6 +12,8 @@ ghost use Rattle.device_outside.specs.Keeper.{reply};
 ghost use Rattle.device_outside.specs.Outside.{Ran};
 ghost use Rattle.device_store.specs.State.{outside, surely, Takes};
 ghost use Rattle.device_core.specs.State.{device_of, second_seen};
+ghost use Rattle.seen_laws.specs.Moved.{SecondMoves};
+ghost use Rattle.seen_laws.specs.Seen.{EndsAsKept};
 
 use crate::Device;
 use ckd_types::TrackNo;
@@ -110,6 +112,8 @@ impl<V: Volume> Device<V> {
         ensures whole { self.new.store.half ≡ None }
         ensures seen { IsSome (second_seen self.new.past result) }
         ensures run { (e : SecondEnd) → second_seen self.new.past result ≡ Some e → Ran surely K.hears (second contents (device_of self.old)) (outside (P.view port.old) self.old.store keep.old) (device_of self.new) e (outside (P.view port.new) self.new.store keep.new) }
+        ensures ends_as_kept { (e : SecondEnd) → second_seen self.new.past result ≡ Some e → EndsAsKept (device_of self.old) (device_of self.new) e }
+        ensures transfers { (e : SecondEnd) → second_seen self.new.past result ≡ Some e → SecondMoves (device_of self.old) (device_of self.new) }
     {
         let before = self.store.waiting_count();
         self.store.begin_event();
@@ -125,6 +129,8 @@ impl<V: Volume> Device<V> {
         ensures whole { self.new.store.half ≡ None }
         ensures seen { IsSome (second_seen self.new.past result) }
         ensures run { (k : NoKeep) (e : SecondEnd) → second_seen self.new.past result ≡ Some e → Ran surely (λ _ m r _. r ≡ reply m) (second contents (device_of self.old)) (outside (P.view port.old) self.old.store k) (device_of self.new) e (outside (P.view port.new) self.new.store k) }
+        ensures ends_as_kept { (e : SecondEnd) → second_seen self.new.past result ≡ Some e → EndsAsKept (device_of self.old) (device_of self.new) e }
+        ensures transfers { (e : SecondEnd) → second_seen self.new.past result ≡ Some e → SecondMoves (device_of self.old) (device_of self.new) }
     {
         let mut keep = NoKeep;
         self.second_with(port, &mut keep)

@@ -1,5 +1,6 @@
 -- What a device has between two events: known ones have it, and marks that no event leaves haven't.
-use Rattle.std.proofs.Common.{◌≡◌, ◌<◌, ◌≤◌, ◌∙◌, ℕ, zero, suc, Bool, true, false, true≢false, List, [], ◌∷◌, ◌++◌, Option, Some, None, refl, sym, ap, arith, not, replicate, slice_index_or, is_some}
+use Rattle.std.proofs.Common.{◌≡◌, ◌<◌, ◌≤◌, ◌∙◌, ℕ, zero, suc, Bool, true, false, true≢false, List, [], ◌∷◌, ◌++◌}
+use Rattle.std.proofs.Common.{Option, Some, None, refl, sym, ap, arith, not, replicate, slice_index_or, is_some}
 use Rattle.std.specs.List.{list_all}
 use Rattle.ckd_types.specs.Commands.{command_of}
 use Rattle.ckd_types.specs.declared.paths.Side.TheVariants.{A}

@@ -1,5 +1,6 @@
 -- What soundness of contents is shown by, and refuted by, of devices that are tried by hand.
-use Rattle.std.proofs.Common.{◌≡◌, ◌∙◌, ◌==◌, ℕ, Bool, true, false, true≢false, List, [], Option, Some, None, refl, sym, ap, slice_index_or, slice_set, if◌then◌else◌, replicate, ◌||◌, subst, arith}
+use Rattle.std.proofs.Common.{◌≡◌, ◌∙◌, ◌==◌, ℕ, Bool, true, false, true≢false, List, [], Option, Some, None, refl}
+use Rattle.std.proofs.Common.{sym, ap, slice_index_or, slice_set, if◌then◌else◌, replicate, ◌||◌, subst, arith}
 use Rattle.ckd_types.specs.declared.geometry.Geometry.TheVariants.{D3390}
 use Rattle.ckd_types.specs.declared.paths.Side.{Side}
 use Rattle.ckd_types.specs.declared.paths.Side.TheVariants.{A, B}

@@ -1,5 +1,6 @@
 -- What a device is excused for, and what it keeps in a turn: known runs are excused and keep their pledge, and forged ones aren't and don't.
-use Rattle.std.proofs.Common.{◌≡◌, ◌≤◌, ◌==◌, ◌&&◌, ◌||◌, ◌∙◌, ℕ, Bool, true, false, true≢false, List, [], ◌∷◌, ◌++◌, Option, Some, None, refl, sym, ap, arith, not, nat_le, le-leb, leb-true, replicate, length}
+use Rattle.std.proofs.Common.{◌≡◌, ◌≤◌, ◌==◌, ◌&&◌, ◌||◌, ◌∙◌, ℕ, Bool, true, false, true≢false, List, [], ◌∷◌, ◌++◌, Option}
+use Rattle.std.proofs.Common.{Some, None, refl, sym, ap, arith, not, nat_le, le-leb, leb-true, replicate, length}
 use Rattle.std.specs.List.{list_all}
 use Rattle.ckd_types.specs.Commands.{command_of}
 use Rattle.ckd_types.specs.Sense.{data_check_sense}
@@ -38,7 +39,8 @@ use Rattle.device_defs.specs.Writing.{write_first, write_second, write_done}
 use Rattle.device_defs.proofs.MarkRuns as M
 use Rattle.device_defs.proofs.Runs as R
 use Rattle.device_defs.proofs.SecondRuns as Q
-use Rattle.device_defs.proofs.Stand.{Event, FailCache, Lend, Power, Reset, Restore, Run, Stand, all_happen, copies, go, read_zero, stand, steps_of, works, write_zero}
+use Rattle.device_defs.proofs.Stand.{Event, FailCache, Lend, Power, Reset, Restore, Run, Stand, all_happen}
+use Rattle.device_defs.proofs.Stand.{copies, go, read_zero, stand, steps_of, works, write_zero}
 
 -- Excused, as a test
 

@@ -1,6 +1,7 @@
 -- How many reads and writes the parts of an event make, by every answer that there is: the ranges that are said are those that they make,
 -- and one read or write more or fewer is refused.
-use Rattle.std.proofs.Common.{◌≡◌, ℕ, zero, suc, ◌+◌, ◌==◌, ◌&&◌, Bool, true, false, List, [], ◌∷◌, ◌++◌, Some, None, refl, min, max, nat_le, filter, le-leb, map, add-zero, zero-add, arith, subst, subst₂, sym, true≢false, ◌∙◌}
+use Rattle.std.proofs.Common.{◌≡◌, ℕ, zero, suc, ◌+◌, ◌==◌, ◌&&◌, Bool, true, false, List, [], ◌∷◌, ◌++◌, Some, None, refl, min}
+use Rattle.std.proofs.Common.{max, nat_le, filter, le-leb, map, add-zero, zero-add, arith, subst, subst₂, sym, true≢false, ◌∙◌}
 use Rattle.ckd_types.specs.declared.parameters.Mode.TheVariants.{Normal, Sequential}
 use Rattle.ckd_types.specs.declared.paths.Side.TheVariants.{A, B}
 use Rattle.ckd_types.specs.declared.record.Edit.{Edit}

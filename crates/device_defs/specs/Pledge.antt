@@ -1,5 +1,6 @@
 -- What a device keeps while it stands in a turn, and what it counts for each seat of the turn.
-use Rattle.std.specs.Prelude.{◌≡◌, ◌≤◌, ℕ, zero, suc, ◌+◌, ◌*◌, ◌==◌, ◌&&◌, ◌||◌, not, Bool, true, false, List, [], ◌∷◌, length, count_by, Option, Some, None, is_some, if◌then◌else◌}
+use Rattle.std.specs.Prelude.{◌≡◌, ◌≤◌, ℕ, zero, suc, ◌+◌, ◌*◌, ◌==◌, ◌&&◌, ◌||◌, not, Bool, true, false}
+use Rattle.std.specs.Prelude.{List, [], ◌∷◌, length, count_by, Option, Some, None, is_some, if◌then◌else◌}
 use Rattle.ckd_types.specs.declared.geometry.Geometry.{Geometry}
 use Rattle.plain_defs.specs.declared.journal.How.{How}
 use Rattle.plain_defs.specs.declared.journal.How.TheVariants.{Full, Cut, Checked}

@@ -79,7 +79,7 @@ module _ {F P H R : Type 0} (c : Contents F P H R) where
   image_quiet t s g None = unfilled_quiet s t _
   image_quiet t s g (Some i) = quiet_then (λ z _. Done z _) (filled_quiet c s t i) (λ z _. quiet_done)
 
-  bytes_quiet : (t : ℕ) (s : Store F P H) (g : Got R) (bytes : Option R) → Quiet (staged_bytes c t s g bytes)
+  pub bytes_quiet : (t : ℕ) (s : Store F P H) (g : Got R) (bytes : Option R) → Quiet (staged_bytes c t s g bytes)
   bytes_quiet t s g None = unfilled_quiet s t _
   bytes_quiet t s g (Some r) = quiet_try (λ ok. quiet_if ok (image_quiet t s g (image_of c s t r)) (unfilled_quiet s t None))
 
@@ -135,7 +135,7 @@ module _ {F P H R : Type 0} (c : Contents F P H R) where
   open_quiet s t i true = quiet_ask (λ _. quiet_done)
   open_quiet s t i false = quiet_done
 
-  saved_quiet : (t : ℕ) (i : Image) (d : Did) (fault : Option Side) (was_loose : Bool) (failed : Option Side) (s : Store F P H) (took : Took) →
+  pub saved_quiet : (t : ℕ) (i : Image) (d : Did) (fault : Option Side) (was_loose : Bool) (failed : Option Side) (s : Store F P H) (took : Took) →
       Quiet (saved_by c t i d fault was_loose failed s took)
   saved_quiet t i d fault was_loose failed s Whole = quiet_then (λ z _. Done z _) (done_quiet c s t i false) (λ z _. quiet_done)
   saved_quiet t i d fault was_loose failed s Opened = quiet_then (λ z _. Done z _) (open_quiet s t i was_loose) (λ z _. quiet_done)

@@ -40,7 +40,21 @@ use Rattle.device_defs.specs.Command.{
 }
 use Rattle.device_defs.specs.Contents.{Contents}
 use Rattle.device_defs.specs.Cutting as U
-use Rattle.device_defs.specs.Cutting.{origin_cut, half_cut, counts_one_by, reset_noted, path_cut, reset_by, reset, half_ended, half_lost, loose_gone, powerless, powered_off, power}
+use Rattle.device_defs.specs.Cutting.{
+  origin_cut,
+  half_cut,
+  counts_one_by,
+  reset_noted,
+  path_cut,
+  reset_by,
+  reset,
+  half_ended,
+  half_lost,
+  loose_gone,
+  powerless,
+  powered_off,
+  power,
+}
 use Rattle.device_defs.specs.Device.{Device, all_reset, with_store, event_begun, event_ended, quiet_event, event}
 use Rattle.device_defs.specs.Effects.{with_edit, gone_back}
 use Rattle.device_defs.specs.Events as E
@@ -313,7 +327,8 @@ module _ {F P H R : Type 0} (c : Contents F P H R) where
   cut_then : (d : Device F P H) (s : Store F P H) (h : HalfWrite H) (origin : Origin) →
       Based base_in Hushed (with_one_loss losses.Cache (kept s)) (and_then (origin_cut c s h origin) (λ z _. Done (powered_off c d z) (tt {0})))
   cut_then d s h (OfCommand bypass e) =
-      based_tell (λ _. based_done (powerless_base (with_loss (record (with_edit s h.track e) { half = Some (record h { origin = OfCut bypass }) }) losses.Cache)))
+      based_tell (λ _. based_done (powerless_base (with_loss
+      (record (with_edit s h.track e) { half = Some (record h { origin = OfCut bypass }) }) losses.Cache)))
   cut_then d s h (OfCut bypass) = based_done (powerless_base (with_loss s losses.Cache))
   cut_then d s h OfBackground = based_done (powerless_base (with_loss s losses.Cache))
 

@@ -176,7 +176,32 @@ use Rattle.device_defs.specs.Writing.{
   write_done,
   opened,
 }
-use Rattle.device_laws.proofs.Based.{Base, base_of, Hushed, Based, based_done, based_try, based_ask, based_read, based_write, based_tell, based_then, based_if, based_tried, base_if, stale_base, unpatched_base, settled_base, side_base, cache_base, store_base, forget, kept, acted_base, based_forget}
+use Rattle.device_laws.proofs.Based.{
+  Base,
+  base_of,
+  Hushed,
+  Based,
+  based_done,
+  based_try,
+  based_ask,
+  based_read,
+  based_write,
+  based_tell,
+  based_then,
+  based_if,
+  based_tried,
+  base_if,
+  stale_base,
+  unpatched_base,
+  settled_base,
+  side_base,
+  cache_base,
+  store_base,
+  forget,
+  kept,
+  acted_base,
+  based_forget,
+}
 
 module _ {F P H R : Type 0} (c : Contents F P H R) where
   abbrev pub Steady : {A : Type 0} → Store F P H → Interaction R Image (Store F P H) A → Type 0

@@ -153,7 +153,8 @@ clean_held {q = q} (clean_read {side = side} {k = k} x y) t =
   where
     by_plan : (b : Bool) → q (hold true (k None) (read_counted t side)).state (hold true (k None) (read_counted t side)).answer →
         q (hold true (k (Some true)) (read_counted t side)).state (hold true (k (Some true)) (read_counted t side)).answer →
-        q (hold true (k (if b then None else Some true)) (read_counted t side)).state (hold true (k (if b then None else Some true)) (read_counted t side)).answer
+        q (hold true (k (if b then None else Some true)) (read_counted t side)).state
+        (hold true (k (if b then None else Some true)) (read_counted t side)).answer
     by_plan true e f = e
     by_plan false e f = f
 clean_held (clean_write {side = side} x) t = clean_held (x (if write_fails (calls_of t side) then false else true)) (write_counted t side)
@@ -184,7 +185,8 @@ Images i = Clean (λ s a. NotBad a) i
 read_b_clean : (s : MarksStore) (t : ℕ) (fault : Option Side) → Reads (read_b by_plain s t fault)
 read_b_clean s t fault =
     clean_if (level_at s.b t)
-    (clean_read (clean_then (λ z _. Done z _) (clean_any (call_failed by_plain (I.read_counted s false) sides.B None)) (λ z _ _. clean_done tt)) (clean_done tt))
+    (clean_read (clean_then (λ z _. Done z _) (clean_any (call_failed by_plain (I.read_counted s false) sides.B None)) (λ z _ _. clean_done tt))
+    (clean_done tt))
     (clean_done tt)
 
 pub level_clean : (s : MarksStore) (t : ℕ) → Reads (level_bytes by_plain s t)
@@ -491,7 +493,8 @@ staged_bytes_clean : (t : ℕ) (s : MarksStore) (g : Got Bool) (o : Option Bool)
 staged_bytes_clean t s g None h = unfilled_clean s t _ (did_well g.fault dids.Nothing tt)
 staged_bytes_clean t s g (Some true) h =
     clean_try (λ ok. clean_if ok
-    (clean_then (λ z _. Done z (Some (did g.fault (dids.Staged t)))) (clean_any (filled by_plain s t (plain_at s t))) (λ z _ _. clean_done (did_well g.fault (dids.Staged t) tt)))
+    (clean_then (λ z _. Done z (Some (did g.fault (dids.Staged t)))) (clean_any (filled by_plain s t (plain_at s t)))
+    (λ z _ _. clean_done (did_well g.fault (dids.Staged t) tt)))
     (unfilled_clean s t None tt))
 staged_bytes_clean t s g (Some false) h = absurd h
 

@@ -1,5 +1,32 @@
 -- A device that is lent stays that over its events, over any contents: it keeps nothing of its tracks, and runs no program.
-use Rattle.std.proofs.Common.{◌≡◌, ◌<◌, ◌≤◌, zero, suc, ℕ, Bool, true, false, List, [], ◌∷◌, length, Option, Some, None, is_some, refl, sym, ap, subst, ◌∙◌, arith, ◌⊎◌, inl, inr}
+use Rattle.std.proofs.Common.{
+  ◌≡◌,
+  ◌<◌,
+  ◌≤◌,
+  zero,
+  suc,
+  ℕ,
+  Bool,
+  true,
+  false,
+  List,
+  [],
+  ◌∷◌,
+  length,
+  Option,
+  Some,
+  None,
+  is_some,
+  refl,
+  sym,
+  ap,
+  subst,
+  ◌∙◌,
+  arith,
+  ◌⊎◌,
+  inl,
+  inr,
+}
 use Rattle.std.proofs.lemmas.Bool.{cases_lt}
 use Rattle.std.proofs.lemmas.List.{get_or_past, length-replicate}
 use Rattle.std.specs.Prelude.{if◌then◌else◌}
@@ -185,7 +212,8 @@ module _ {F P H R : Type 0} (c : Contents F P H R) where
 
   -- Events
 
-  heard_still : (n : ℕ) (s : Store F P H) → IsLentOut s → (note : Option ℕ) → Always (hear c n s) (λ z _. z ≡ s) → Always (heard c (hear c n) s note) (λ z _. z ≡ s)
+  heard_still : (n : ℕ) (s : Store F P H) → IsLentOut s → (note : Option ℕ) → Always (hear c n s) (λ z _. z ≡ s) →
+      Always (heard c (hear c n) s note) (λ z _. z ≡ s)
   heard_still n s i None later = always_done refl
   heard_still n s i (Some t) later =
       subst (λ (x : Store F P H). Always (hear c n x) (λ z _. z ≡ s)) (sym (dropped_same c s t (i.frame t))) later
@@ -232,7 +260,8 @@ module _ {F P H R : Type 0} (c : Contents F P H R) where
       let s = (event_begun d).store in
       let i = begun_away d g.store in
       quiet_away d (λ z. and_then (half_cut c z.store z.store.half) (λ x _. Done (powered_off c z x) tt))
-      (subst (λ (h : Option (HalfWrite H)). Always (and_then (half_cut c s h) (λ x _. Done (powered_off c (event_begun d) x) (tt {0}))) (λ y _. Gone y)) (sym i.none)
+      (subst (λ (h : Option (HalfWrite H)). Always (and_then (half_cut c s h) (λ x _. Done (powered_off c (event_begun d) x) (tt {0}))) (λ y _. Gone y))
+      (sym i.none)
       (always_done (record {
         store = off_away (with_loss s losses.Cache) (counted_away s losses.Cache i);
         idle = power_idle d.history (counts_one_by s.half) g.idle;

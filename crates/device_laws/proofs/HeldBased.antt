@@ -42,7 +42,8 @@ use Rattle.device_laws.proofs.BasedParts.{all_told_steady}
 use Rattle.device_laws.proofs.RanBased.{put_in, after_waits}
 
 -- what stands between an interaction that tells none, and the run of another behind it
-record Split {R S U X Y : Type 0} (base : S → Base) (b : Base) (r : R) (i : Interaction R Image S X) (f : S → X → Interaction R Image U Y) (w : Told) : Type 0 where
+record Split {R S U X Y : Type 0} (base : S → Base) (b : Base) (r : R) (i : Interaction R Image S X) (f : S → X → Interaction R Image U Y)
+    (w : Told) : Type 0 where
   state : S
   answer : X
   told : Told
@@ -114,7 +115,8 @@ hushed_waits r (based_write {side = side} x) w =
     hushed_waits r (x (if write_fails (calls_of w side) then false else true)) (write_counted w side) ∙ ap (λ (p : O.Pool). p.waiting) (write_pool w side)
 hushed_waits r (based_tell {m = m} x) w = hushed_waits r (x (reply m)) w
 
-hold_on : {R S U V X Y Z : Type 0} (r : R) (i : Interaction R Image S X) (f : S → X → Interaction R Image U Y) (g : U → Y → Interaction R Image V Z) (w : Told) →
+hold_on : {R S U V X Y Z : Type 0} (r : R) (i : Interaction R Image S X) (f : S → X → Interaction R Image U Y) (g : U → Y → Interaction R Image V Z)
+    (w : Told) →
     hold r (and_then (and_then i f) g) w ≡ hold r (and_then i (λ s a. and_then (f s a) g)) w
 unfolding T.hold
 hold_on r (Done s a) f g w = refl
@@ -167,7 +169,8 @@ module _ {F P H R : Type 0} (c : Contents F P H R) (r : R) where
 
     pub background_told : HasTold w.pool.waiting d.store.device (hold r (background c d) w)
     unfolding E.background
-    background_told = event_told (λ y. and_then (work c y.store) (λ s (did : Option Did). Done (with_store y s) did)) (λ (b : Base). b) refl (λ y. work_body c y)
+    background_told = event_told (λ y. and_then (work c y.store) (λ s (did : Option Did). Done (with_store y s) did)) (λ (b : Base). b) refl
+        (λ y. work_body c y)
 
     pub loss_told : (loss : Loss) → HasTold w.pool.waiting d.store.device (hold r (lose c d loss) w)
     unfolding E.lose

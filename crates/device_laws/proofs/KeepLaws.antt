@@ -74,7 +74,8 @@ use Rattle.device_laws.proofs.RanBased.{ran_within, quiet_waits, own_waiting}
 
 -- What always holds holds behind a run
 
-pub always_ran : {R K S X : Type 0} {had : Bool → Type 0} {hears : Hearing Image K} (i : Interaction R Image S X) (q : S → X → Type 0) {u z : Outside R K} {s : S}
+pub always_ran : {R K S X : Type 0} {had : Bool → Type 0} {hears : Hearing Image K} (i : Interaction R Image S X)
+    (q : S → X → Type 0) {u z : Outside R K} {s : S}
     {a : X} → Behind i q → Ran had hears i u s a z → q s a
 unfolding A.Behind
 always_ran (Done s a) q h done = h
@@ -120,7 +121,8 @@ no_lent None is e = cc
 no_lent (Some n) is e = cc
 
 module _ {F P H R K : Type 0} (p : Pledge) (v : Handed) (d e : Device F P H) (u z : Outside R K) where
-  pub kept_by : StaysInTurn p d v u → (is_some p.lent ≡ true → length e.history.items ≡ p.fresh) → (b : Base) → b.device ≡ d.store.device → b.geometry ≡ d.store.geometry →
+  pub kept_by : StaysInTurn p d v u → (is_some p.lent ≡ true → length e.history.items ≡ p.fresh) → (b : Base) → b.device ≡ d.store.device →
+      b.geometry ≡ d.store.geometry →
       b.cylinders ≡ d.store.cylinders → b.lent ≡ d.store.lent → AreWithin b.counts.losses p.losses → IsSameBase b (kept e.store) →
       StaysWithin p.failures e.store.counts.failed (allowance_in z) → Continues d.plans d.history e →
       (p.told ≡ true → data_checks e.history ≡ data_checks d.history) → StaysInTurn p e (handed_then v z) z
@@ -263,12 +265,14 @@ module _ {F P H R K : Type 0} (c : Contents F P H R) (hears : Hearing Image K) (
 
   pub peek_waits : (t : ℕ) (a : Option Peeked) → Ran (λ ok. Unit {0}) hears (peek c d t) u e a z → IsTold c hears d e u z
   unfolding J.peek
-  peek_waits t a r = quiet_waits c d (kept d.store) (λ x. and_then (peek_track c x.store t) (λ s found. Done (with_store x s) found)) refl (peeked_body c t (event_begun d)) number r
+  peek_waits t a r = quiet_waits c d (kept d.store) (λ x. and_then (peek_track c x.store t) (λ s found. Done (with_store x s) found)) refl
+      (peeked_body c t (event_begun d)) number r
 
   pub power_waits : (a : Unit {0}) → Ran (λ ok. Unit {0}) hears (power c d) u e a z → IsTold c hears d e u z
   unfolding U.power
   power_waits a r =
-      quiet_waits c d (with_one_loss losses.Cache (kept d.store)) (λ x. and_then (half_cut c x.store x.store.half) (λ s _. Done (powered_off c x s) tt)) refl (power_body c d) number r
+      quiet_waits c d (with_one_loss losses.Cache (kept d.store)) (λ x. and_then (half_cut c x.store x.store.half) (λ s _. Done (powered_off c x s) tt)) refl
+      (power_body c d) number r
 
 module _ {F P H R K : Type 0} (c : Contents F P H R) (hears : Hearing Image K) (d : Device F P H) where
   command_if : {e : Device F P H} {u z : Outside R K} {a : Option Stepped} (ok : Bool) → HasWaiting (waiting_in u) d.store.device (waiting_count c d.store) →

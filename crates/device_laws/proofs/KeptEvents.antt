@@ -1,5 +1,6 @@
 -- The events of a turn go on with a device's plans and its journal: no reset, no empty volume, no cut program comes in between.
-use Rattle.std.proofs.Common.{◌≡◌, ℕ, Bool, true, false, Option, Some, None, refl, ◌∙◌}
+use Rattle.std.proofs.Common.{◌≡◌, ℕ, Bool, true, false, [], Option, Some, None, refl, sym, ◌∙◌}
+use Rattle.std.proofs.lemmas.List.{append-nil}
 use Rattle.std.specs.Prelude.{if◌then◌else◌}
 use Rattle.ckd_chain.specs.declared.progress.Progress.{Progress}
 use Rattle.ckd_chain.specs.declared.progress.Progress.TheVariants as progresses
@@ -81,7 +82,8 @@ module _ {F P H R : Type 0} (c : Contents F P H R) (programs : Plans) (past : Hi
   out_goes : (d : Device F P H) (path : ℕ) (turn : Turn) → Continues programs past d → Goes (came_out c d path turn)
   out_goes d path turn f = always_done (turned_continues programs past d path turn.chain turn.came f)
 
-  on_goes : (d : Device F P H) (path : ℕ) (chain : ChainState) (s : Store F P H) (o : Option Turn) → Continues programs past d → Goes (on_tracks c d path chain s o)
+  on_goes : (d : Device F P H) (path : ℕ) (chain : ChainState) (s : Store F P H) (o : Option Turn) → Continues programs past d →
+      Goes (on_tracks c d path chain s o)
   on_goes d path chain s (Some turn) f = out_goes (with_store d s) path turn (store_continues programs past d s f)
   on_goes d path chain s None f = let g = store_continues programs past d s f in always_done (record { plans = g.plans; history = g.history })
 
@@ -131,7 +133,8 @@ module _ {F P H R : Type 0} (c : Contents F P H R) (programs : Plans) (past : Hi
     quiet_goes : (d : Device F P H) (body : Device F P H → Interaction R Image (Device F P H) A) → Goes (body (event_begun d)) → Goes (quiet_event c d body)
     quiet_goes d body x =
         always_then x
-        (λ y a f. always_then (always_any (event_end c (waiting_count c d.store) y.store)) (λ z _ _. always_done (record { plans = f.plans; history = f.history })))
+        (λ y a f. always_then (always_any (event_end c (waiting_count c d.store) y.store))
+        (λ z _ _. always_done (record { plans = f.plans; history = f.history })))
 
     event_goes : (d : Device F P H) (body : Device F P H → Interaction R Image (Device F P H) A) → Continues programs past d →
         ((y : Device F P H) → Continues programs past y → Goes (body y)) → Goes (event c d body)
@@ -165,7 +168,17 @@ module _ {F P H R : Type 0} (c : Contents F P H R) (programs : Plans) (past : Hi
 -- a start
 pub start_continues : {F P H : Type 0} (d : Device F P H) (path : ℕ) → Continues d.plans d.history (start d path)
 unfolding S.start
-start_continues d path = record { plans = refl; history = record { waiting = λ none. none; kept = λ none n e. e; fresh = refl } }
+start_continues d path = record {
+  plans = refl;
+  history = record {
+    waiting = λ none. none;
+    kept = λ none n e. e;
+    fresh = refl;
+    more = [];
+    grown = sym
+        (append-nil d.history.items);
+  };
+}
 
 -- Events in which no command ends add no data check
 

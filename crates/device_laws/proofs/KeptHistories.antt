@@ -1,5 +1,30 @@
 -- What ends, checks and acts make of a journal: it stays one that a turn keeps, and has no more data checks but where a command ended with one.
-use Rattle.std.proofs.Common.{◌≡◌, ◌+◌, zero, suc, ℕ, Bool, true, false, List, [], ◌∷◌, ◌++◌, Option, Some, None, refl, sym, ap, subst, ◌∙◌, arith}
+use Rattle.std.proofs.Common.{
+  ◌≡◌,
+  ◌≤◌,
+  ◌+◌,
+  zero,
+  suc,
+  ℕ,
+  Bool,
+  true,
+  false,
+  List,
+  [],
+  ◌∷◌,
+  ◌++◌,
+  Option,
+  Some,
+  None,
+  refl,
+  sym,
+  ap,
+  subst,
+  ◌∙◌,
+  append_assoc,
+  arith,
+}
+use Rattle.std.proofs.lemmas.List.{append-nil}
 use Rattle.std.specs.Prelude.{if◌then◌else◌, ◌&&◌, count_by}
 use Rattle.std.specs.List.{fold}
 use Rattle.ckd_types.specs.declared.channel.CommandEnd.{CommandEnd}
@@ -32,6 +57,26 @@ none_counted p n [] h = refl
 none_counted p n (y ∷ ys) h =
     let same : n + 0 ≡ n = omega arith in
     ap (λ (b : Bool). count_from p (n + (if b then 1 else 0)) ys) h.0 ∙ none_counted p (n + 0) ys h.1 ∙ same
+
+-- where it stays, none that came is counted
+counts_more : (p : Item → Bool) (n : ℕ) (xs : List Item) → n ≤ count_from p n xs
+counts_more p n [] = omega arith
+counts_more p n (x ∷ xs) = let more = counts_more p (n + (if p x then 1 else 0)) xs in by_test (p x) more where
+  by_test : (b : Bool) → n + (if b then 1 else 0) ≤ count_from p (n + (if b then 1 else 0)) xs → n ≤ count_from p (n + (if b then 1 else 0)) xs
+  by_test true le = omega (arith, le)
+  by_test false le = omega (arith, le)
+
+not_first : (p : Item → Bool) (n m : ℕ) (x : Item) (xs : List Item) (b : Bool) → p x ≡ b → count_from p (m + (if b then 1 else 0)) xs ≡ n → n ≤ m →
+    ((k : ℕ) → count_from p k xs ≡ n → n ≤ k → AreNot p xs) → (p x ≡ false) × AreNot p xs
+not_first p n m x xs true test is le more = absurd (let up = counts_more p (m + 1) xs in omega (arith, up, is, le))
+not_first p n m x xs false test is le more = (test, more (m + 0) is (omega (arith, le)))
+
+pub none_came : (p : Item → Bool) (n m : ℕ) (xs : List Item) → count_from p m xs ≡ n → n ≤ m → AreNot p xs
+none_came p n m [] is le = tt
+none_came p n m (x ∷ xs) is le = not_first p n m x xs (p x) refl is le (λ k e f. none_came p n k xs e f)
+
+pub same_came : (p : Item → Bool) (xs ys : List Item) → count_by p (xs ++ ys) ≡ count_by p xs → AreNot p ys
+same_came p xs ys same = none_came p (count_by p xs) (count_by p xs) ys (sym (count_append p 0 xs ys) ∙ same) (omega arith)
 
 pub count_more : (p : Item → Bool) (xs ys : List Item) → AreNot p ys → count_by p (xs ++ ys) ≡ count_by p xs
 count_more p xs ys h = count_append p 0 xs ys ∙ none_counted p (count_from p 0 xs) ys h
@@ -76,15 +121,19 @@ pub record Extends (h k : History) : Type 0 where
   pub waiting : h.waiting ≡ [] → k.waiting ≡ []
   pub kept : h.waiting ≡ [] → (n : ℕ) → is_kept_journal n h.items ≡ true → is_kept_journal n k.items ≡ true
   pub fresh : fresh_count k.items ≡ fresh_count h.items
+  pub more : List Item
+  pub grown : k.items ≡ h.items ++ more
 
 pub extends_itself : (h : History) → Extends h h
-extends_itself h = record { waiting = λ none. none; kept = λ none n e. e; fresh = refl }
+extends_itself h = record { waiting = λ none. none; kept = λ none n e. e; fresh = refl; more = []; grown = sym (append-nil h.items) }
 
 pub extends_on : (h k l : History) → Extends h k → Extends k l → Extends h l
 extends_on h k l f g = record {
   waiting = λ none. g.waiting (f.waiting none);
   kept = λ none n e. g.kept (f.waiting none) n (f.kept none n e);
   fresh = g.fresh ∙ f.fresh;
+  more = f.more ++ g.more;
+  grown = g.grown ∙ ap (λ (xs : List Item). xs ++ g.more) f.grown ∙ append_assoc h.items f.more g.more;
 }
 
 closed_extends : (h : History) (o : OpenEntry) (how : How) → is_uncut how ≡ true → Extends h (closed h o how)
@@ -93,11 +142,13 @@ closed_extends h o how uncut = record {
   kept = λ none n e. subst (λ (l : List ℕ). is_kept_journal n (h.items ++ entry_of o how ∷ resets_of l) ≡ true) (sym none)
       (kept_more n h.items (entry_of o how) e uncut);
   fresh = count_more is_fresh h.items (entry_of o how ∷ resets_of h.waiting) (refl, no_fresh_resets h.waiting);
+  more = entry_of o how ∷ resets_of h.waiting;
+  grown = refl;
 }
 
 over_extends : (h : History) (o : OpenEntry) (b : Bool) → Extends h (if b then closed h o Full else record h { running = Some o })
 over_extends h o true = closed_extends h o Full refl
-over_extends h o false = record { waiting = λ none. none; kept = λ none n e. e; fresh = refl }
+over_extends h o false = record { waiting = λ none. none; kept = λ none n e. e; fresh = refl; more = []; grown = sym (append-nil h.items) }
 
 pub ended_extends : (h : History) (e : CommandEnd) (r : Option OpenEntry) → Extends h (ended_in h e r)
 ended_extends h e (Some o) = over_extends h (with_end o e) e.over
@@ -108,11 +159,13 @@ checked_extends h e (Some o) = closed_extends h (with_end o e) Checked refl
 checked_extends h e None = extends_itself h
 
 act_extends : (h : History) (act : Act) (r : Option OpenEntry) → Extends h (acted_in h act r)
-act_extends h act (Some o) = record { waiting = λ none. none; kept = λ none n e. e; fresh = refl }
+act_extends h act (Some o) = record { waiting = λ none. none; kept = λ none n e. e; fresh = refl; more = []; grown = sym (append-nil h.items) }
 act_extends h act None = record {
   waiting = λ none. none;
   kept = λ none n e. kept_more n h.items (items.Act act) e refl;
   fresh = count_more is_fresh h.items (items.Act act ∷ []) (refl, tt);
+  more = items.Act act ∷ [];
+  grown = refl;
 }
 
 pub acts_extend : (h : History) (acts : List Act) → Extends h (all_acted h acts)

@@ -1,5 +1,31 @@
 -- A device lends its volume: of its tracks it gives up what it keeps, and over marks does the same.
-use Rattle.std.proofs.Common.{◌≡◌, ◌<◌, ◌≤◌, ℕ, zero, suc, Bool, true, false, List, [], ◌∷◌, length, Option, Some, None, is_some, get_or, refl, ap, ◌∙◌, arith, ◌⊎◌, inl, inr}
+use Rattle.std.proofs.Common.{
+  ◌≡◌,
+  ◌<◌,
+  ◌≤◌,
+  ℕ,
+  zero,
+  suc,
+  Bool,
+  true,
+  false,
+  List,
+  [],
+  ◌∷◌,
+  length,
+  Option,
+  Some,
+  None,
+  is_some,
+  get_or,
+  refl,
+  ap,
+  ◌∙◌,
+  arith,
+  ◌⊎◌,
+  inl,
+  inr,
+}
 use Rattle.std.proofs.lemmas.Bool.{cases_lt}
 use Rattle.std.specs.Prelude.{◌&&◌, ◌==◌, if◌then◌else◌}
 use Rattle.ckd_types.specs.declared.paths.Side.{Side}
@@ -236,7 +262,8 @@ module _ {F P H R : Type 0} (c : Contents F P H R) where
       (λ z _ e. by_waiting z e (O.waiting_count c z == before))
     where
       by_waiting : (z : Store F P H) → z.device ≡ s.device → (b : Bool) →
-          Always {R = R} {I = Image} (if b then Done z (tt {0}) else Ask (TellWaiting z.device (O.waiting_count c z)) (λ _. Done z (tt {0}))) (λ y _. y.device ≡ s.device)
+          Always {R = R} {I = Image} (if b then Done z (tt {0}) else Ask (TellWaiting z.device (O.waiting_count c z)) (λ _. Done z (tt {0})))
+          (λ y _. y.device ≡ s.device)
       by_waiting z e true = always_done e
       by_waiting z e false = always_ask (λ _. always_done e)
 

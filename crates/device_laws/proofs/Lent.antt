@@ -538,7 +538,8 @@ module _ {F P H R : Type 0} (c : Contents F P H R) where
   powerless_same : (s : Store F P H) → s.half ≡ None → ((t : ℕ) → frame_at s t ≡ None) → is_some s.lent ≡ true →
       powerless c s ≡ record (loose_gone c s) { queue = [] }
   powerless_same s half none lent =
-      ap (λ (o : Option (HalfWrite H)). over (tracks_of s) (λ t z. settled c (without_frame z t) t) (record (half_lost c (loose_gone c s) o) { queue = [] })) half
+      ap (λ (o : Option (HalfWrite H)). over (tracks_of s) (λ t z. settled c (without_frame z t) t)
+      (record (half_lost c (loose_gone c s) o) { queue = [] })) half
       ∙ swept_same c (tracks_of s) (record (loose_gone c s) { queue = [] }) (λ t. gone_frame s (has_loose s) t (none t)) (gone_is_lent s (has_loose s) lent)
 
   off_same : (d : Device F P H) → d.store.half ≡ None →
@@ -585,7 +586,8 @@ power_lent v w d h i =
     ∙ ap (λ (m : MarksStore). off m (counts_one_by d.store.half)) (gone_marks v w l any)
     ∙ ap (λ (m : MarksStore). off m (counts_one_by d.store.half))
     (sym (powerless_same by_plain (marks_of v w l) half (marks_frame v w l h o) i.store.lent))
-    ∙ ap (λ (n : ℕ). off (powerless by_plain (marks_of v w l)) n) (counts_none d.store.half i.store.half ∙ sym (counts_none (option_map half_mark d.store.half) half)))
+    ∙ ap (λ (n : ℕ). off (powerless by_plain (marks_of v w l)) n)
+    (counts_none d.store.half i.store.half ∙ sym (counts_none (option_map half_mark d.store.half) half)))
     (record {
       lent = record {
         store = subst (λ (x : DeviceStore). IsLentStore u w x h) (sym e) (gone_lent v w l h any refl o);

@@ -114,3 +114,11 @@ pub mod Unchecked
 pub mod UncheckedEvents
 pub mod LentLosses
 pub mod GoneEvents
+pub mod Once
+pub mod OneFailed
+pub mod OneFailedEvents
+pub mod FramesKept
+pub mod WholeLosses
+pub mod FramesParts
+pub mod FramesEvents
+pub mod FramesLaws

@@ -301,7 +301,8 @@ module _ {F P H R : Type 0} (c : Contents F P H R) (n : ℕ) where
   most_lost losses.Store = 0
   most_lost (losses.Side side) = 0
 
-  gone_if : (s : Store F P H) (b : Bool) → loss_count s.acts ≡ 0 → loss_count (record (if b then store_acted (gone_back s) CfwLost else s) { queue = [] }).acts ≤ 1
+  gone_if : (s : Store F P H) (b : Bool) → loss_count s.acts ≡ 0 →
+      loss_count (record (if b then store_acted (gone_back s) CfwLost else s) { queue = [] }).acts ≤ 1
   gone_if s true none = let a = one_act 0 s.acts in omega (arith, a, none)
     where
       one_act : (n : ℕ) (acts : List Act) → acts_from n (acts ++ CfwLost ∷ []) ≡ acts_from n acts + 1

@@ -3,7 +3,32 @@ use Rattle.device_laws.proofs.UncheckedEvents.{equipment_checks, command_uncheck
 use Rattle.device_laws.proofs.LooseLosses.{most_lost, command_has, second_has, background_has, lose_has, reset_has, power_has}
 use Rattle.device_laws.proofs.Always.{Always}
 use Rattle.device_defs.specs.Excused.{loose_losses, count_lost}
-use Rattle.std.proofs.Common.{◌≡◌, ◌≤◌, ◌<◌, ◌+◌, ℕ, Bool, true, false, List, Option, Some, None, get_or, min, refl, sym, ap, subst, ◌∙◌, arith, inr, suc, [], ◌∷◌}
+use Rattle.std.proofs.Common.{
+  ◌≡◌,
+  ◌≤◌,
+  ◌<◌,
+  ◌+◌,
+  ℕ,
+  Bool,
+  true,
+  false,
+  List,
+  Option,
+  Some,
+  None,
+  get_or,
+  min,
+  refl,
+  sym,
+  ap,
+  subst,
+  ◌∙◌,
+  arith,
+  inr,
+  suc,
+  [],
+  ◌∷◌,
+}
 use Rattle.std.specs.List.{fold}
 use Rattle.std.specs.Prelude.{◌*◌, ◌&&◌, ◌||◌, not, if◌then◌else◌}
 use Rattle.ckd_chain.specs.State.{ChainState}
@@ -128,7 +153,7 @@ module _ {F P H R K : Type 0} (c : Contents F P H R) {hears : Hearing Image K} w
       (where_none_failed (λ y _. Fine (core_of d.store) (core_of y.store)) x (subst (λ (n : ℕ). n < top) (sym failed) lt) goes).holds r
       (same ∙ sym failed)
 
-  more_ran : {X : Type 0} (d : Device F P H) {e : Device F P H} {u z : Outside R K} {a : X} {b : Base} (i : Interaction R Image (Device F P H) X) →
+  pub more_ran : {X : Type 0} (d : Device F P H) {e : Device F P H} {u z : Outside R K} {a : X} {b : Base} (i : Interaction R Image (Device F P H) X) →
       failed_in b ≡ d.store.counts.failed → Based base_in Any b i → d.store.counts.failed < top → Ran (λ ok. Unit {0}) hears i u e a z →
       d.store.counts.failed ≤ e.store.counts.failed
   more_ran d {e = e} {b = b} i failed x lt r =
@@ -272,7 +297,8 @@ module _ {F P H R K : Type 0} (c : Contents F P H R) {hears : Hearing Image K} (
   pub power_counted : {a : Unit {0}} → d.store.counts.losses.cache < top → Ran (λ ok. Unit {0}) hears (power c d) u e a z → LossesAreCounted e
   power_counted lt r =
       let more = counted_rises d.store.counts.losses.cache lt in
-      event_counted (power c d) (with_one_loss losses.Cache (kept d.store)) (omega (arith, more)) (power_based c d) (power_has c (all_losses d.history) d refl) r
+      event_counted (power c d) (with_one_loss losses.Cache (kept d.store)) (omega (arith, more)) (power_based c d)
+      (power_has c (all_losses d.history) d refl) r
 
   lost_counted : (loss : Loss) {a : Unit {0}} → all_losses d.history + most_lost c (all_losses d.history) loss ≤ (one_more d.store.counts.losses loss).cache →
       Ran (λ ok. Unit {0}) hears (lose c d loss) u e a z → LossesAreCounted e

@@ -115,7 +115,8 @@ module _ {R S X : Type 0} {base : S → Base} {may : Call → Type 0} where
       Behind i (λ s a. failed_in (base s) ≡ n → q s a)
   fails q n {b = b} i x lt le = from i (rises x le) (λ s a e. λ same. absurd (omega (arith, lt, e, same)))
 
-  read_case : (q : S → X → Type 0) (b : Base) (k : Option R → Interaction R Image S X) → ((got : Option R) → Based base may (read_base b (is_some got)) (k got)) →
+  read_case : (q : S → X → Type 0) (b : Base) (k : Option R → Interaction R Image S X) → ((got : Option R) → Based base may (read_base b (is_some got))
+      (k got)) →
       failed_in b < top → ((r : R) → Behind (k (Some r)) (λ s a. failed_in (base s) ≡ failed_in b → q s a)) → (got : Option R) →
       Behind (k got) (λ s a. failed_in (base s) ≡ failed_in b → q s a)
   read_case q b k x lt f (Some r) = f r

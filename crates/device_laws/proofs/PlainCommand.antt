@@ -41,7 +41,22 @@ use Rattle.ckd_chain.specs.declared.mark.Stage.{Stage}
 use Rattle.ckd_chain.specs.declared.progress.Settled.TheVariants.{Written, Equipment, DataCheck}
 use Rattle.ckd_chain.specs.Fed.{Fed, ended_by, fed}
 use Rattle.ckd_chain.specs.State.{ChainState}
-use Rattle.ckd_chain.specs.Steps.{begin_with, opening_at, stage_for, opened_by, stage_by, needed, need_of, index_of, word_of, behind, end_with, stepped, stepped_by, settled_by}
+use Rattle.ckd_chain.specs.Steps.{
+  begin_with,
+  opening_at,
+  stage_for,
+  opened_by,
+  stage_by,
+  needed,
+  need_of,
+  index_of,
+  word_of,
+  behind,
+  end_with,
+  stepped,
+  stepped_by,
+  settled_by,
+}
 use Rattle.ckd_rules.specs.declared.opening.Opening.{Opening}
 use Rattle.ckd_rules.specs.declared.opening.Opening.TheVariants as openings
 use Rattle.ckd_rules.specs.declared.stance.Stance.{Stance}
@@ -299,7 +314,8 @@ module _ (num : ℕ) (empty : PlainState) (d : MarksDevice) (f : Follows num emp
 
   -- Behind an act by which its track becomes loose, too
 
-  module _ (y : MarksStore) (z : Sized y) (c : Core) (w : Walks (plain_of d.plans empty d.history) d.store.plain d.store.geometry d.store.cylinders (None, (d.store.lent, d.store.device)) c)
+  module _ (y : MarksStore) (z : Sized y) (c : Core) (w : Walks (plain_of d.plans empty d.history) d.store.plain d.store.geometry d.store.cylinders
+      (None, (d.store.lent, d.store.device)) c)
       (t : ℕ) (e : Edit) (firm : loose_at c t ≡ false) (inside : t < length c.loose) (provisional : is_provisional chain.at.stance.extent ≡ true)
       (core_is : core_of y ≡ loosely_edited_core (loosened_core c t) t e) (edit_is : the_effect.edit ≡ Some (record { track = t; edit = e })) where
     abbrev h1 : History
@@ -406,7 +422,8 @@ module _ (num : ℕ) (empty : PlainState) (d : MarksDevice) (f : Follows num emp
 
   pub edited_follows : (y : MarksStore) (c : Core) (t : ℕ) (e : Edit) → core_of y ≡ c → the_effect.edit ≡ Some (record { track = t; edit = e }) →
       with_sense d.paths o.path the_effect.outcome.ending.sense ≡ the_effect.paths →
-      IsEdited (plain_of d.plans empty d.history) d.store.plain d.store.geometry d.store.cylinders (None, (d.store.lent, d.store.device)) (is_provisional chain.at.stance.extent) t e c →
+      IsEdited (plain_of d.plans empty d.history) d.store.plain d.store.geometry d.store.cylinders (None, (d.store.lent, d.store.device))
+      (is_provisional chain.at.stance.extent) t e c →
       Follows num empty (turned (with_store d y) o.path the_turn)
   edited_follows y c t e same edit_is sense (firmly x d2 w firm how) =
       let are = acts_are y d2 x same (ap (λ (k : Core). k.acts) how) w in
@@ -566,14 +583,18 @@ module _ (num : ℕ) (empty : PlainState) (d : MarksDevice) (f : Follows num emp
 
       by_turn : (t : ℕ) → need_of chain ≡ Some t → (y : MarksStore) (a : Option Turn) →
           FollowSo (plain_of d.plans empty d.history) d.store.plain d.store.geometry d.store.cylinders (None, (d.store.lent, d.store.device))
-          (settled_act chain.fixed.geometry d.paths o.path) chain on.0 t (tracks_of s) chain t y a → Had (on_tracks by_plain (started_with s) o.path chain y a) (λ x (_ : Option Stepped). Follows num empty x)
+          (settled_act chain.fixed.geometry d.paths o.path) chain on.0 t (tracks_of s) chain t y a →
+          Had (on_tracks by_plain (started_with s) o.path chain y a) (λ x (_ : Option Stepped). Follows num empty x)
       by_turn t needs y None w = absurd w
       by_turn t needs y (Some turn) w =
-          had_done (turn_follows t y (core_of y) (λ (v : List Track). fed (tracks_of s) (track_in v) (settled_act chain.fixed.geometry d.paths o.path) chain) turn
+          had_done (turn_follows t y (core_of y) (λ (v : List Track). fed (tracks_of s) (track_in v)
+          (settled_act chain.fixed.geometry d.paths o.path) chain) turn
           refl needs (fed_is t needs)
-          (λ v. ap (λ (c : Core). fed (c.cylinders * 15) (track_in v) (settled_act chain.fixed.geometry d.paths o.path) chain) e) (looking_keeps chain at.fresh d.paths o.path d.store.plain t needs) w)
+          (λ v. ap (λ (c : Core). fed (c.cylinders * 15) (track_in v) (settled_act chain.fixed.geometry d.paths o.path) chain) e)
+          (looking_keeps chain at.fresh d.paths o.path d.store.plain t needs) w)
 
-      tracked : (t : ℕ) → need_of chain ≡ Some t → Had (command_at by_plain (started_with s) o.path chain (Some t)) (λ x (_ : Option Stepped). Follows num empty x)
+      tracked : (t : ℕ) → need_of chain ≡ Some t → Had (command_at by_plain (started_with s) o.path chain (Some t))
+          (λ x (_ : Option Stepped). Follows num empty x)
       tracked t needs =
           had_then (follow_so (plain_of d.plans empty d.history) d.store.plain d.store.geometry d.store.cylinders (None, (d.store.lent, d.store.device))
           (settled_act chain.fixed.geometry d.paths o.path) chain on.0 t (tracks_of s) chain t s (record {
@@ -585,7 +606,8 @@ module _ (num : ℕ) (empty : PlainState) (d : MarksDevice) (f : Follows num emp
 
       -- it looks at no track
       answered_follows : (turn : Turn) (paths : PathsState) (made : Effect) → made ≡ the_effect →
-          AnswerIs chain at.fresh d.paths o.path d.store.plain made turn paths → Follows num empty (turned (record (started_with s) { paths = paths }) o.path turn)
+          AnswerIs chain at.fresh d.paths o.path d.store.plain made turn paths →
+          Follows num empty (turned (record (started_with s) { paths = paths }) o.path turn)
       answered_follows turn paths made same a =
           subst (λ (x : Turn). Follows num empty (turned (record (started_with s) { paths = paths }) o.path x))
           (sym (a.turn_is ∙ ap (λ (x : Effect). record { came = Ends (end_with chain x.outcome); chain = behind chain x.outcome }) same))
@@ -615,7 +637,8 @@ module _ (num : ℕ) (empty : PlainState) (d : MarksDevice) (f : Follows num emp
       untracked none =
           let same : stepped chain None ≡ stepped_by (begin_with chain (opening_at chain)) None (stage_for (opening_at chain).opening) =
           ap (λ (k : Option Stage). stepped_by (opened_by chain k) None (stage_by chain k)) at.fresh in
-          had_try (subst (λ (k : _). Had (answered_by by_plain (started_with s) o.path k.chain k.progress) (λ x (_ : Option Stepped). Follows num empty x)) (sym same)
+          had_try (subst (λ (k : _). Had (answered_by by_plain (started_with s) o.path k.chain k.progress) (λ x (_ : Option Stepped). Follows num empty x))
+          (sym same)
           (opened_answer (opening_at chain) refl none))
 
       by_need : (k : Option ℕ) → need_of chain ≡ k → Had (command_at by_plain (started_with s) o.path chain k) (λ x (_ : Option Stepped). Follows num empty x)
@@ -676,7 +699,8 @@ module _ (num : ℕ) (empty : PlainState) where
       (subst (λ (r : Option OpenEntry). RunsAt d.plans (replay d.plans empty d.history.items) r f.before) running f.runs))
   by_chain d f o running whole (Some chain) is =
       let now = none_mid (core_of d.store) d.store.half d.history.running f.before d.chain whole f.mid ∙ is in
-      had_try (event_follows d (λ z. command_by by_plain z z.history.running z.chain) (λ s e. command_by_follows num empty d f o running chain is now whole s e))
+      had_try (event_follows d (λ z. command_by by_plain z z.history.running z.chain)
+      (λ s e. command_by_follows num empty d f o running chain is now whole s e))
 
   -- a command of the running program
   pub command_follows : (d : MarksDevice) → Follows num empty d → (o : OpenEntry) → d.history.running ≡ Some o → d.store.half ≡ None →

@@ -24,7 +24,23 @@ use Rattle.ckd_chain.specs.declared.progress.Settled.TheVariants.{Written, Equip
 use Rattle.ckd_chain.specs.Fed as F
 use Rattle.ckd_chain.specs.Fed.{Fed, ended_by, fed_image, fed_by, fed}
 use Rattle.ckd_chain.specs.State.{ChainState}
-use Rattle.ckd_chain.specs.Steps.{Stepped, opening_at, stage_for, opened_by, opened, stage_by, stage_of, needed, need_of, standing, turned_by, stepped_by, stepped, settled_by, word_of}
+use Rattle.ckd_chain.specs.Steps.{
+  Stepped,
+  opening_at,
+  stage_for,
+  opened_by,
+  opened,
+  stage_by,
+  stage_of,
+  needed,
+  need_of,
+  standing,
+  turned_by,
+  stepped_by,
+  stepped,
+  settled_by,
+  word_of,
+}
 use Rattle.ckd_rules.specs.declared.opening.Opening.{Opening}
 use Rattle.ckd_rules.specs.declared.opening.Opening.TheVariants as openings
 use Rattle.ckd_rules.specs.declared.order.LocalAct.{LocalAct}

@@ -1,5 +1,32 @@
 -- Losses and work in the background keep the history of a run's device a plain device's.
-use Rattle.std.proofs.Common.{◌≡◌, ◌<◌, ◌*◌, ◌==◌, ℕ, Bool, true, false, List, [], ◌∷◌, ◌++◌, length, Option, Some, None, is_some, cond, set, get_or, refl, sym, ap, subst, ◌∙◌, arith}
+use Rattle.std.proofs.Common.{
+  ◌≡◌,
+  ◌<◌,
+  ◌*◌,
+  ◌==◌,
+  ℕ,
+  Bool,
+  true,
+  false,
+  List,
+  [],
+  ◌∷◌,
+  ◌++◌,
+  length,
+  Option,
+  Some,
+  None,
+  is_some,
+  cond,
+  set,
+  get_or,
+  refl,
+  sym,
+  ap,
+  subst,
+  ◌∙◌,
+  arith,
+}
 use Rattle.std.specs.Prelude.{◌||◌, replicate, IsSome, if◌then◌else◌}
 use Rattle.std.proofs.lemmas.Bool.{cond_both, eqb-true, eqb-false}
 use Rattle.std.proofs.lemmas.List.{get_or-set_same, get_or-set_other, get_or_default, ext_get_or, length-set, length-replicate}
@@ -26,7 +53,27 @@ use Rattle.device_defs.specs.declared.answers.Did.{Did}
 use Rattle.device_defs.specs.declared.answers.Took.{Took}
 use Rattle.device_defs.specs.declared.answers.Took.TheVariants.{Whole, Opened, Unwritten}
 use Rattle.device_defs.specs.Background as B
-use Rattle.device_defs.specs.Background.{saved_by, saved, recovered_bytes, recover, copied, copy_read, copy_by, copies_to, staged_bytes, stage, destage_first, to_destage, stage_first, copy_first, to_copy, recover_first, to_recover, work, other}
+use Rattle.device_defs.specs.Background.{
+  saved_by,
+  saved,
+  recovered_bytes,
+  recover,
+  copied,
+  copy_read,
+  copy_by,
+  copies_to,
+  staged_bytes,
+  stage,
+  destage_first,
+  to_destage,
+  stage_first,
+  copy_first,
+  to_copy,
+  recover_first,
+  to_recover,
+  work,
+  other,
+}
 use Rattle.device_defs.specs.Contents.{by_plain}
 use Rattle.device_defs.specs.Device.{all_acted, with_store}
 use Rattle.device_defs.specs.Effects.{gone_back, loose_lost}
@@ -37,7 +84,20 @@ use Rattle.device_defs.specs.Losses as L
 use Rattle.device_defs.specs.Losses.{over, settled, patch_lost, without_frame, without_patch, slot_in, stale_everywhere, call_failed}
 use Rattle.device_defs.specs.Marks.{MarksDevice, MarksStore}
 use Rattle.device_defs.specs.Owed.{begun}
-use Rattle.device_defs.specs.Store.{OfBackground, HalfWrite, tracks_of, is_loose, is_lost, half_is, owed_at, frame_at, patch_at, plain_at, with_frame, with_stale}
+use Rattle.device_defs.specs.Store.{
+  OfBackground,
+  HalfWrite,
+  tracks_of,
+  is_loose,
+  is_lost,
+  half_is,
+  owed_at,
+  frame_at,
+  patch_at,
+  plain_at,
+  with_frame,
+  with_stale,
+}
 use Rattle.device_laws.proofs.DeviceEnds.{acts_stand}
 use Rattle.device_laws.proofs.DevicePaths.{acts_keep_them}
 use Rattle.device_laws.proofs.Had.{Had, had_done, had_try, had_ask, had_read, had_write, had_if, had_then}
@@ -429,7 +489,8 @@ module _ (num : ℕ) (empty : PlainState) (d : MarksDevice) (f : Follows num emp
   walked_follow y w =
       let half : y.half ≡ d.store.half = ap (λ (x : Open). x.0) w.walks.rest in
       acts_follow y w.plain
-      (subst (λ (h : Option (HalfWrite (Unit {0}))). Walks (plain_of d.plans empty d.history) w.plain d.store.geometry d.store.cylinders (h, (d.store.lent, d.store.device))
+      (subst (λ (h : Option (HalfWrite (Unit {0}))). Walks (plain_of d.plans empty d.history) w.plain d.store.geometry d.store.cylinders
+      (h, (d.store.lent, d.store.device))
       (core_of y)) (sym half) w.walks)
       (subst (λ (h : Option (HalfWrite (Unit {0}))). IsMid (core_of y) h (all_acted d.history y.acts).running f.before d.chain) (sym half)
       (mid_stays (core_of d.store) (core_of y) d.store.half d.history.running (all_acted d.history y.acts).running f.before d.chain w.stays
@@ -437,7 +498,8 @@ module _ (num : ℕ) (empty : PlainState) (d : MarksDevice) (f : Follows num emp
 
   pub walks_first : (s : MarksStore) → core_of s ≡ core_of (begun d.store) →
       Walks (plain_of d.plans empty d.history) d.store.plain d.store.geometry d.store.cylinders (d.store.half, (d.store.lent, d.store.device)) (core_of s)
-  walks_first s e = subst (Walks (plain_of d.plans empty d.history) d.store.plain d.store.geometry d.store.cylinders (d.store.half, (d.store.lent, d.store.device))) (sym e)
+  walks_first s e = subst (Walks (plain_of d.plans empty d.history) d.store.plain d.store.geometry d.store.cylinders
+      (d.store.half, (d.store.lent, d.store.device))) (sym e)
       (record {
         of = of_begun (plain_of d.plans empty d.history) (core_of d.store) f.of;
         are = tt;

@@ -8,7 +8,21 @@ use Rattle.ckd_chain.specs.declared.mark.Stage.{Stage}
 use Rattle.ckd_chain.specs.declared.progress.Settled.{Settled}
 use Rattle.ckd_chain.specs.Fed.{ended_by, fed, by_rules}
 use Rattle.ckd_chain.specs.State.{ChainState}
-use Rattle.ckd_chain.specs.Steps.{begin_with, opening_at, stage_for, opened_by, stage_by, needed, need_of, index_of, word_of, mark_by, behind, end_with, settled_by}
+use Rattle.ckd_chain.specs.Steps.{
+  begin_with,
+  opening_at,
+  stage_for,
+  opened_by,
+  stage_by,
+  needed,
+  need_of,
+  index_of,
+  word_of,
+  mark_by,
+  behind,
+  end_with,
+  settled_by,
+}
 use Rattle.ckd_chain.proofs.Feeding.{chain_fed}
 use Rattle.ckd_rules.specs.declared.grouping.GroupFault.{GroupFault}
 use Rattle.ckd_rules.specs.declared.opening.Opening.{Opening}

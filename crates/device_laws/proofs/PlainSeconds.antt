@@ -134,7 +134,8 @@ module _ (num : ℕ) (empty : PlainState) (d : MarksDevice) (f : Follows num emp
     }) ≡ settles mid.chain Written
     same_turn = ap (λ (x : Fed). record { came = Ends x.end; chain = x.chain }) (its_end num empty d f o running t e mid)
 
-    done_follows : (y : MarksStore) → Edited (plain_of d.plans empty d.history) d.store.plain d.store.geometry d.store.cylinders (d.store.lent, d.store.device) t e y →
+    done_follows : (y : MarksStore) → Edited (plain_of d.plans empty d.history) d.store.plain d.store.geometry d.store.cylinders
+        (d.store.lent, d.store.device) t e y →
         Follows num empty (turned (with_store d y) o.path (settles mid.chain Written))
     done_follows y k =
         subst (λ (x : Turn). Follows num empty (turned (with_store d y) o.path x)) same_turn
@@ -147,23 +148,27 @@ module _ (num : ℕ) (empty : PlainState) (d : MarksDevice) (f : Follows num emp
         (sized_by num empty d f o running mid.origin mid.begins y (core_of y) (core_of y) refl w w.places refl refl refl) w.are w.of mid.chain mid.word
 
     turn_follows : (y : MarksStore) (done : Bool) →
-        SecondSo (plain_of d.plans empty d.history) d.store.plain d.store.geometry d.store.cylinders (d.store.lent, d.store.device) t (OfCommand false e) y done →
+        SecondSo (plain_of d.plans empty d.history) d.store.plain d.store.geometry d.store.cylinders (d.store.lent, d.store.device) t
+        (OfCommand false e) y done →
         Follows num empty (turned (with_store d y) o.path (second_turn by_plain mid.chain done))
     turn_follows y true k = done_follows y k
     turn_follows y false w = failed_follows y w
 
     acts_legal : (y : MarksStore) (done : Bool) →
-        SecondSo (plain_of d.plans empty d.history) d.store.plain d.store.geometry d.store.cylinders (d.store.lent, d.store.device) t (OfCommand false e) y done →
+        SecondSo (plain_of d.plans empty d.history) d.store.plain d.store.geometry d.store.cylinders (d.store.lent, d.store.device) t
+        (OfCommand false e) y done →
         AreActs (plain_of d.plans empty d.history) None y.acts
     acts_legal y true k = subst (λ (l : List Act). AreActs (plain_of d.plans empty d.history) None l) (sym (ap (λ (c : Core). c.acts) k.is)) k.on.are
     acts_legal y false w = w.are
 
     command_follows : (y : MarksStore) (done : Bool) →
-        SecondSo (plain_of d.plans empty d.history) d.store.plain d.store.geometry d.store.cylinders (d.store.lent, d.store.device) t (OfCommand false e) y done →
+        SecondSo (plain_of d.plans empty d.history) d.store.plain d.store.geometry d.store.cylinders (d.store.lent, d.store.device) t
+        (OfCommand false e) y done →
         Had (command_ended by_plain (with_store d y) t (all_acted d.history y.acts).running d.chain done) (λ x (_ : SecondEnd). Follows num empty x)
     command_follows y done k =
         let r = runs_on num empty d f o running mid.origin mid.begins y.acts (acts_legal y done k) in
-        subst (λ (x : Option OpenEntry). Had (command_ended by_plain (with_store d y) t x d.chain done) (λ x (_ : SecondEnd). Follows num empty x)) (sym r.running)
+        subst (λ (x : Option OpenEntry). Had (command_ended by_plain (with_store d y) t x d.chain done) (λ x (_ : SecondEnd). Follows num empty x))
+        (sym r.running)
         (subst (λ (x : Option ChainState). Had (command_ended by_plain (with_store d y) t (Some r.entry) x done) (λ x (_ : SecondEnd). Follows num empty x))
         (sym mid.is)
         (had_done (subst (λ (i : ℕ). Follows num empty (turned (with_store d y) i (second_turn by_plain mid.chain done))) (sym r.path_is)
@@ -177,7 +182,8 @@ module _ (num : ℕ) (empty : PlainState) (d : MarksDevice) (f : Follows num emp
   its_second t e mid (Some o) running y done k = command_follows t e mid o running y done k
 
   either_done : (t : ℕ) (bypass : Bool) (e : Edit) (y : MarksStore) (done : Bool) →
-      SecondSo (plain_of d.plans empty d.history) d.store.plain d.store.geometry d.store.cylinders (d.store.lent, d.store.device) t (OfCommand bypass e) y done →
+      SecondSo (plain_of d.plans empty d.history) d.store.plain d.store.geometry d.store.cylinders (d.store.lent, d.store.device) t
+      (OfCommand bypass e) y done →
       SecondSo (plain_of d.plans empty d.history) d.store.plain d.store.geometry d.store.cylinders (d.store.lent, d.store.device) t (OfCommand false e) y done
   either_done t bypass e y true k = k
   either_done t bypass e y false k = k
@@ -191,7 +197,8 @@ module _ (num : ℕ) (empty : PlainState) (d : MarksDevice) (f : Follows num emp
 
   holds_first : (t : ℕ) (origin : Origin) → IsMidOf (core_of d.store) t origin d.history.running f.before d.chain → (s : MarksStore) →
       core_of s ≡ core_of (begun d.store) →
-      Holds (plain_of d.plans empty d.history) d.store.plain d.store.geometry d.store.cylinders (d.store.lent, d.store.device) origin (d.store.half, (d.store.lent, d.store.device)) t (core_of s)
+      Holds (plain_of d.plans empty d.history) d.store.plain d.store.geometry d.store.cylinders (d.store.lent, d.store.device) origin
+      (d.store.half, (d.store.lent, d.store.device)) t (core_of s)
   holds_first t (OfCommand bypass e) mid s is = record {
     on = walks_first num empty d f s is;
     firm = ap (λ (c : Core). loose_at c t) is ∙ (let below = mid.below in mid.firm t below (omega arith));
@@ -206,7 +213,8 @@ module _ (num : ℕ) (empty : PlainState) (d : MarksDevice) (f : Follows num emp
   second_follows h there =
       let mid = subst (λ (x : Option (HalfWrite (Unit {0}))). IsMid (core_of d.store) x d.history.running f.before d.chain) there f.mid in
       event_follows num empty d (λ z. second_of by_plain z z.store.half)
-      (λ s e. subst (λ (x : Option (HalfWrite (Unit {0}))). Had (second_of by_plain (record (event_begun d) { store = s }) x) (λ y (_ : SecondEnd). Follows num empty y))
+      (λ s e. subst (λ (x : Option (HalfWrite (Unit {0}))). Had (second_of by_plain (record (event_begun d) { store = s }) x)
+      (λ y (_ : SecondEnd). Follows num empty y))
       (sym (ap (λ (c : Core). c.half) e ∙ there))
       (had_then (part_so (plain_of d.plans empty d.history) d.store.plain d.store.geometry d.store.cylinders (d.store.lent, d.store.device) s h d.store.half
       (holds_first h.track h.origin mid s e))

@@ -386,7 +386,8 @@ module _ (empty : PlainState) (d : MarksDevice) where
         before = Some (behind chain outcome);
         runs = subst (λ (k : History). RunsAt d.plans (replay d.plans empty k.items) k.running (Some (behind chain outcome))) (sym (history_on more)) at_end;
         chain = on;
-        mid = mid_none (core_of d.store) d.store.half (history_ended d.history e).running (Some (behind chain outcome)) (Some (behind chain outcome)) whole refl;
+        mid = mid_none (core_of d.store) d.store.half (history_ended d.history e).running (Some (behind chain outcome))
+            (Some (behind chain outcome)) whole refl;
         home = at_home d.store.lent (history_ended d.history e).running home;
       }
 

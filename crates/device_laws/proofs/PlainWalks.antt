@@ -1,5 +1,32 @@
 -- The parts of an event over a run's device, and what each leaves of its plain device's.
-use Rattle.std.proofs.Common.{◌≡◌, ◌<◌, ◌≤◌, ◌==◌, ◌&&◌, zero, suc, ℕ, not, Bool, true, false, List, Option, Some, None, is_some, length, refl, sym, ap, subst, ◌∙◌, arith, inl, inr}
+use Rattle.std.proofs.Common.{
+  ◌≡◌,
+  ◌<◌,
+  ◌≤◌,
+  ◌==◌,
+  ◌&&◌,
+  zero,
+  suc,
+  ℕ,
+  not,
+  Bool,
+  true,
+  false,
+  List,
+  Option,
+  Some,
+  None,
+  is_some,
+  length,
+  refl,
+  sym,
+  ap,
+  subst,
+  ◌∙◌,
+  arith,
+  inl,
+  inr,
+}
 use Rattle.std.specs.Prelude.{◌⊎◌, ⊤, nat_le, if◌then◌else◌}
 use Rattle.std.proofs.lemmas.Bool.{cond_both, cases_lt, le-leb}
 use Rattle.std.proofs.lemmas.List.{length-set, get_or_past}
@@ -28,9 +55,45 @@ use Rattle.device_defs.specs.Editing.{whole, at_once, through, through_by, writt
 use Rattle.device_defs.specs.Effects as F
 use Rattle.device_defs.specs.Effects.{with_edit, with_loose_edit, hardened}
 use Rattle.device_defs.specs.Image as I
-use Rattle.device_defs.specs.Image.{Got, Imaged, Has, NoBytes, BadTrack, level_bytes, read_b, first_read, second_read, image, image_by, miss, missed, delivered, loaded, loads, granted, image_of, ahead}
+use Rattle.device_defs.specs.Image.{
+  Got,
+  Imaged,
+  Has,
+  NoBytes,
+  BadTrack,
+  level_bytes,
+  read_b,
+  first_read,
+  second_read,
+  image,
+  image_by,
+  miss,
+  missed,
+  delivered,
+  loaded,
+  loads,
+  granted,
+  image_of,
+  ahead,
+}
 use Rattle.device_defs.specs.Losses as L
-use Rattle.device_defs.specs.Losses.{settled, by_frame, kept_by_frame, hardened_by_loss, lost_now, gives_up, slot_in, stale_everywhere, owes_modified, call_failed, all_firm_told, side_lost, settled_but, over, down}
+use Rattle.device_defs.specs.Losses.{
+  settled,
+  by_frame,
+  kept_by_frame,
+  hardened_by_loss,
+  lost_now,
+  gives_up,
+  slot_in,
+  stale_everywhere,
+  owes_modified,
+  call_failed,
+  all_firm_told,
+  side_lost,
+  settled_but,
+  over,
+  down,
+}
 use Rattle.device_defs.specs.Marks.{MarksStore}
 use Rattle.device_defs.specs.Owed as O
 use Rattle.device_defs.specs.Owed.{hear, heard, dropped, is_clean, is_modified, is_owed, settles_debt, freed_told, track_told, all_told, waiting_count, ended}
@@ -54,7 +117,21 @@ use Rattle.device_defs.specs.Store.{
   with_stale,
 }
 use Rattle.device_defs.specs.Writing as W
-use Rattle.device_defs.specs.Writing.{wrote, firm_first, unwritten, write_first, first_a, failed_a, alone_b, write_second, write_done, slot_freed, taken_a, cleaned, opened}
+use Rattle.device_defs.specs.Writing.{
+  wrote,
+  firm_first,
+  unwritten,
+  write_first,
+  first_a,
+  failed_a,
+  alone_b,
+  write_second,
+  write_done,
+  slot_freed,
+  taken_a,
+  cleaned,
+  opened,
+}
 use Rattle.device_laws.proofs.Had.{Had, had_done, had_try, had_ask, had_read, had_write, had_tell, had_if, had_then, had_weaker}
 use Rattle.device_laws.proofs.CacheLost.{none_below}
 use Rattle.device_laws.proofs.PlainStores.{

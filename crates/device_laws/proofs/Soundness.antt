@@ -75,11 +75,13 @@ module _ {F P H R : Type 0} (c : Contents F P H R) where
       let x = track_at c s t in sound_good x.frame x.patched x.lost x.loose x.half x.level (sym (same s t) ∙ sound) none
 
   -- a device that isn't lent, between two events
-  pub is_here : (s : Store F P H) → IsBetween s → is_some s.lent ≡ false → (s.paired ≡ false → s.half ≡ None) → AreBelow (tracks_of s) s.queue → IsHere (rest_of s)
+  pub is_here : (s : Store F P H) → IsBetween s → is_some s.lent ≡ false → (s.paired ≡ false → s.half ≡ None) → AreBelow (tracks_of s) s.queue →
+      IsHere (rest_of s)
   unfolding C.rest_of
   is_here s between free whole queued = record { free = free; alone = between.sides.alone; whole = whole; within = between.half; queued = queued }
 
-  module _ (faithful : IsFaithful c) (s : Store F P H) (between : IsBetween s) (free : is_some s.lent ≡ false) (whole : s.paired ≡ false → s.half ≡ None) (queued : AreBelow (tracks_of s) s.queue)
+  module _ (faithful : IsFaithful c) (s : Store F P H) (between : IsBetween s) (free : is_some s.lent ≡ false) (whole : s.paired ≡ false → s.half ≡ None)
+      (queued : AreBelow (tracks_of s) s.queue)
       (sound : (q : ℕ) → q < tracks_of s → has_sound_marks c s q ≡ true) where
     good_now : (q : ℕ) → q < tracks_of s → is_good (track_at c s q) ≡ true
     good_now q lt = sound_is_good s q (sound q lt) (between.nowhere q)

@@ -230,7 +230,8 @@ module _ (v w : List Track) (s : DeviceStore) (h : Held) (t : ℕ) (e : Edit) (l
     fits_new p is =
         let old = image_in s v t in
         let was : PatchHas (patch_at s t) old = subst (λ (o : Option Stored). PatchHas o old) patch_is kept.patch.0 in
-        let gave = one_edit_more (patch_at s t) slot e (Some old) old place was_patch (o.sure.ground.plain.fits t lt) suits (patched_has (patch_at s t) old was) in
+        let gave = one_edit_more (patch_at s t) slot e (Some old) old place was_patch (o.sure.ground.plain.fits t lt) suits
+        (patched_has (patch_at s t) old was) in
         applied_again p.patch old i (patch_still (patch_at s t) slot e was_patch p is) (gives_some patch p (Some old) i is gave)
 
     fast_right : RightBut (Some t) (set v t n) (set w t n) both h
@@ -367,7 +368,8 @@ module _ (v w : List Track) (s : DeviceStore) (h : Held) (t : ℕ) (e : Edit) (l
     told = i.told;
   }
 
-  by_loose : (b : Bool) → is_loose s t ≡ b → patch_at s t ≡ None → Ordered (set v t n) w (with_loose_edit (with_frame (if b then s else loosened s t) t (Some new)) t e) h
+  by_loose : (b : Bool) → is_loose s t ≡ b → patch_at s t ≡ None → Ordered (set v t n) w (with_loose_edit (with_frame (if b then s else loosened s t) t
+      (Some new)) t e) h
   by_loose true loose bare = loose_edit (with_frame s t (Some new)) (loose_put (with_frame s t (Some new)) bare (again_altered loose))
   by_loose false loose bare = loose_edit (with_frame (loosened s t) t (Some new)) (loose_put (with_frame (loosened s t) t (Some new)) bare first_altered)
 

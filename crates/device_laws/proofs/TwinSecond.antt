@@ -44,7 +44,19 @@ use Rattle.device_defs.specs.Writing.{write_second}
 use Rattle.device_laws.specs.Agrees.{Held, image_in, PatchHas, PatchFits, PatchOf, slot_at}
 use Rattle.device_laws.specs.PlainWrites.{SuitsTrack, plain_second, OriginSuits}
 use Rattle.device_laws.specs.Twin.{Twins}
-use Rattle.device_laws.proofs.ContentChanges.{Altered, altered_twice, altered_frame, altered_lost, same_slots, sits_still, RightBut, Sure, right_altered, shut, opens_write}
+use Rattle.device_laws.proofs.ContentChanges.{
+  Altered,
+  altered_twice,
+  altered_frame,
+  altered_lost,
+  same_slots,
+  sits_still,
+  RightBut,
+  Sure,
+  right_altered,
+  shut,
+  opens_write,
+}
 use Rattle.device_laws.proofs.PlainVolumes.{put_here}
 use Rattle.device_laws.proofs.Sweeps.{is_free, is_alone}
 use Rattle.device_laws.proofs.TrackMarks as M

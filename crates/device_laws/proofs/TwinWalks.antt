@@ -87,7 +87,8 @@ both_behind i j h (both_write x y) c = both_write (both_behind _ _ _ x (c true))
 both_behind i j h (both_tell x) c = both_tell (λ r. both_behind _ _ h (x r) (c r))
 
 -- volumes stay as long as they are
-held_long : {R : Type 0} (h : Holdings R) (side : Side) (t : ℕ) (r : R) → (length (with_held h side t r).a ≡ length h.a) × (length (with_held h side t r).b ≡ length h.b)
+held_long : {R : Type 0} (h : Holdings R) (side : Side) (t : ℕ) (r : R) →
+    (length (with_held h side t r).a ≡ length h.a) × (length (with_held h side t r).b ≡ length h.b)
 held_long h A t r = (length-set h.a t r, refl)
 held_long h B t r = (refl, length-set h.b t r)
 

@@ -33,7 +33,27 @@ use Rattle.device_defs.specs.Editing as E
 use Rattle.device_defs.specs.Editing.{another_loose, whole, at_once, through_by, through, write_by, written, is_given, unchosen, write_chosen, write}
 use Rattle.device_defs.specs.Excused.{is_equipment_check}
 use Rattle.device_defs.specs.Image as I
-use Rattle.device_defs.specs.Image.{Got, Imaged, Has, NoBytes, BadTrack, level_bytes, read_b, filled, loads, ahead, loaded, delivered, missed, miss, hit, clean_image, image_by, image, image_of}
+use Rattle.device_defs.specs.Image.{
+  Got,
+  Imaged,
+  Has,
+  NoBytes,
+  BadTrack,
+  level_bytes,
+  read_b,
+  filled,
+  loads,
+  ahead,
+  loaded,
+  delivered,
+  missed,
+  miss,
+  hit,
+  clean_image,
+  image_by,
+  image,
+  image_of,
+}
 use Rattle.device_defs.specs.Losses.{settled}
 use Rattle.device_defs.specs.Memory.{had_by}
 use Rattle.device_defs.specs.Owed.{is_clean}
@@ -46,7 +66,19 @@ use Rattle.device_laws.proofs.ChainFeeds.{begun_stage, need_at, need_is}
 use Rattle.device_laws.proofs.Choices.{choice_fits}
 use Rattle.device_laws.proofs.Commands.{Stays, LookedAt, look_keeps_good}
 use Rattle.device_laws.proofs.FailedCall.{IsWell}
-use Rattle.device_laws.proofs.Lucky.{Lucky, lucky_done, lucky_try, lucky_ask, lucky_read, lucky_write, lucky_tell, lucky_then, lucky_if, lucky_tried, with_always}
+use Rattle.device_laws.proofs.Lucky.{
+  Lucky,
+  lucky_done,
+  lucky_try,
+  lucky_ask,
+  lucky_read,
+  lucky_write,
+  lucky_tell,
+  lucky_then,
+  lucky_if,
+  lucky_tried,
+  with_always,
+}
 use Rattle.device_laws.proofs.PlainLooks.{look_stays}
 use Rattle.device_laws.proofs.TrackMarks as M
 use Rattle.device_laws.proofs.TrackMarks.{TrackMarks, marks, is_true, is_good, IsFaithful, frame_mark, track_at}
@@ -163,7 +195,7 @@ module _ {F P H R : Type 0} (c : Contents F P H R) where
   delivered_has u t side s None = lucky_done tt
   delivered_has u t side s (Some i) = loaded_has (ahead u s t) t i u.mode
 
-  missed_has : (u : Usage) (t : ℕ) (s : Store F P H) (g : Got R) (o : Option R) → is_some o ≡ true → Lucky (λ z a. HasBytes a) (missed c u t s g o)
+  pub missed_has : (u : Usage) (t : ℕ) (s : Store F P H) (g : Got R) (o : Option R) → is_some o ≡ true → Lucky (λ z a. HasBytes a) (missed c u t s g o)
   missed_has u t s g None e = absurd (cc)
   missed_has u t s g (Some r) e = lucky_tried s _ tt (delivered_has u t g.side s (image_of c s t r))
 
@@ -186,7 +218,8 @@ module _ {F P H R : Type 0} (c : Contents F P H R) where
   level_of s t good there half clean =
       needs_side (frame_mark c (frame_at s t)) clean (is_some (patch_at s t)) (is_loose s t) (has_level s t)
       (subst (λ (l : Bool). is_good (marks (frame_mark c (frame_at s t)) (is_some (patch_at s t)) l (is_loose s t) false (has_level s t)) ≡ true) there
-      (subst (λ (h : Bool). is_good (marks (frame_mark c (frame_at s t)) (is_some (patch_at s t)) (is_lost s t) (is_loose s t) h (has_level s t)) ≡ true) half good))
+      (subst (λ (h : Bool). is_good (marks (frame_mark c (frame_at s t)) (is_some (patch_at s t)) (is_lost s t) (is_loose s t) h
+      (has_level s t)) ≡ true) half good))
 
   image_has : (s : Store F P H) (u : Usage) (t : ℕ) → is_good (track_at c s t) ≡ true → is_lost s t ≡ false → half_is s.half t ≡ false →
       Lucky (λ z a. HasBytes a) (image c s u t)
@@ -218,7 +251,7 @@ module _ {F P H R : Type 0} (c : Contents F P H R) where
       lucky_if s.a.up (λ _. lucky_write (lucky_done (took_so (takes_b s))))
       (λ down. lucky_if (takes_b s) (λ _. lucky_write (lucky_done tt)) (λ none. absurd (no_side s.a.up (takes_b s) up down none)))
 
-  whole_taken : (s : Store F P H) (t : ℕ) (i : Image) (e : Edit) (bypass : Bool) → Lucky (λ z (took : Took). IsTaken took) (whole c s t i e bypass)
+  pub whole_taken : (s : Store F P H) (t : ℕ) (i : Image) (e : Edit) (bypass : Bool) → Lucky (λ z (took : Took). IsTaken took) (whole c s t i e bypass)
   whole_taken s t i e bypass =
       lucky_tell (λ _. lucky_then (λ y _. Done y Whole) (lucky_any (write_done c _ t i bypass)) (λ y _ _. lucky_done tt))
 
@@ -289,7 +322,7 @@ module _ {F P H R : Type 0} (c : Contents F P H R) where
 
     -- From track to track
 
-    wrote_so : (chain : ChainState) (t : ℕ) (took : Took) → IsTaken took → NoCheck (wrote_turn chain t took).came
+    pub wrote_so : (chain : ChainState) (t : ℕ) (took : Took) → IsTaken took → NoCheck (wrote_turn chain t took).came
     wrote_so chain t Whole is = tt
     wrote_so chain t Opened is = tt
     wrote_so chain t Unwritten is = absurd is
@@ -307,7 +340,7 @@ module _ {F P H R : Type 0} (c : Contents F P H R) where
         lucky_then (had_by (came_of_write c chain t)) (write_taken s u first t i e lt w there up) (λ z o k. came_so t chain t z o k)
     went_so u first t s i chain (progresses.Local act) is lt w there up = absurd is
 
-    looked_so : (chain : ChainState) (first t : ℕ) (s : Store F P H) (o : Option Imaged) → HasBytes o → need_of chain ≡ Some t → t < tracks_of s →
+    pub looked_so : (chain : ChainState) (first t : ℕ) (s : Store F P H) (o : Option Imaged) → HasBytes o → need_of chain ≡ Some t → t < tracks_of s →
         IsWell c s → is_lost s t ≡ false → some_takes s ≡ true → Lucky (λ z (x : Option Went). WentSo t x) (had_by (looked c chain first t) s o)
     looked_so chain first t s None has needs lt w there up = lucky_done tt
     looked_so chain first t s (Some (Has i)) has needs lt w there up =
@@ -317,10 +350,10 @@ module _ {F P H R : Type 0} (c : Contents F P H R) where
     looked_so chain first t s (Some (BadTrack side)) has needs lt w there up = lucky_done refl
 
     module _ (n : ℕ) (Within : ChainState → Type 0) (within : Stays n Within) where
-      none_half : (s : Store F P H) (t : ℕ) → s.half ≡ None → half_is s.half t ≡ false
+      pub none_half : (s : Store F P H) (t : ℕ) → s.half ≡ None → half_is s.half t ≡ false
       none_half s t none = ap (λ (o : _). half_is o t) none
 
-      look_so : (chain : ChainState) (first t : ℕ) (s : Store F P H) → Within chain → tracks_of s ≡ n → t < tracks_of s → IsWell c s → s.half ≡ None →
+      pub look_so : (chain : ChainState) (first t : ℕ) (s : Store F P H) → Within chain → tracks_of s ≡ n → t < tracks_of s → IsWell c s → s.half ≡ None →
           need_of chain ≡ Some t → is_lost s t ≡ false → some_takes s ≡ true → Lucky (λ z (x : Option Went). WentSo t x) (look c chain first t s)
       unfolding N.look
       look_so chain first t s is same lt w none needs there up =
@@ -331,9 +364,10 @@ module _ {F P H R : Type 0} (c : Contents F P H R) where
           (λ z o g. looked_so chain first t z o g.1.1 needs (let tracks = g.0.goes.tracks in omega arith) g.0.goes.well
           (ap (λ (l : List Bool). get_or l t false) g.1.0.lost ∙ there) (takes_still s z g.1.0.up g.1.0.takes up)))
 
-      abbrev Follows : ℕ → ℕ → Type 0
+      abbrev pub Follows : ℕ → ℕ → Type 0
       Follows k first = (chain : ChainState) (t : ℕ) (s : Store F P H) → Within chain → tracks_of s ≡ n → t < n → IsWell c s → s.half ≡ None →
-          need_of chain ≡ Some t → n ≤ t + k → ((q : ℕ) → is_lost s q ≡ false) → some_takes s ≡ true → Lucky (λ z (x : Option Turn). TurnSo x) (follow c k first chain t s)
+          need_of chain ≡ Some t → n ≤ t + k → ((q : ℕ) → is_lost s q ≡ false) → some_takes s ≡ true →
+          Lucky (λ z (x : Option Turn). TurnSo x) (follow c k first chain t s)
 
       by_went : (k first t : ℕ) (s z : Store F P H) (o : Option Went) → Follows k first → tracks_of s ≡ n → LookedAt c faithful n Within within s z o →
           WentSo t o → n ≤ t + suc k → ((q : ℕ) → is_lost z q ≡ false) → some_takes z ≡ true →

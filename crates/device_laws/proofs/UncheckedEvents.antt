@@ -49,7 +49,8 @@ no_resets : (paths : List ℕ) → AreNot ends_with_equipment_check (resets_of p
 no_resets [] = tt
 no_resets (path ∷ paths) = (refl, no_resets paths)
 
-closed_same : (h : History) (o : OpenEntry) (how : How) → ends_with_equipment_check (entry_of o how) ≡ false → equipment_checks (closed h o how) ≡ equipment_checks h
+closed_same : (h : History) (o : OpenEntry) (how : How) → ends_with_equipment_check (entry_of o how) ≡ false →
+    equipment_checks (closed h o how) ≡ equipment_checks h
 closed_same h o how none = count_more ends_with_equipment_check h.items (entry_of o how ∷ resets_of h.waiting) (none, no_resets h.waiting)
 
 over_same : (h : History) (o : OpenEntry) (b : Bool) → equipment_checks (if b then closed h o Full else record h { running = Some o }) ≡ equipment_checks h
@@ -60,7 +61,8 @@ ended_same : (h : History) (e : CommandEnd) (r : Option OpenEntry) → equipment
 ended_same h e (Some o) = over_same h (with_end o e) e.over
 ended_same h e None = refl
 
-checked_same : (h : History) (e : CommandEnd) (r : Option OpenEntry) → is_equipment_check e.sense ≡ false → equipment_checks (checked_in h e r) ≡ equipment_checks h
+checked_same : (h : History) (e : CommandEnd) (r : Option OpenEntry) → is_equipment_check e.sense ≡ false →
+    equipment_checks (checked_in h e r) ≡ equipment_checks h
 checked_same h e (Some o) none = closed_same h (with_end o e) Checked (ap is_equipment_check (last_is o.ends e) ∙ none)
 checked_same h e None none = refl
 
@@ -74,13 +76,14 @@ acts_same h (act ∷ acts) = acts_same (acted h act) acts ∙ act_same h act h.r
 
 -- A chain that looks at no track
 
-abbrev NoTrack : Progress → Type 0
+abbrev pub NoTrack : Progress → Type 0
 NoTrack (progresses.Ended e) = Unit {0}
 NoTrack (progresses.Need q) = ⊥
 NoTrack (progresses.Write q e) = ⊥
 NoTrack (progresses.Local act) = Unit {0}
 
-stage_none : (chain : ChainState) (stage : Stage) → need_of chain ≡ None → stage_of chain ≡ stage → NoTrack (stepped_by (opened_chain chain) None stage).progress
+pub stage_none : (chain : ChainState) (stage : Stage) → need_of chain ≡ None → stage_of chain ≡ stage →
+    NoTrack (stepped_by (opened_chain chain) None stage).progress
 stage_none chain stages.Over none at = tt
 stage_none chain (stages.Asks act) none at = tt
 stage_none chain (stages.Looks look) none at =
@@ -107,14 +110,15 @@ module _ {F P H R : Type 0} (c : Contents F P H R) (n : ℕ) where
   abbrev Holds : {A : Type 0} → Interaction R Image (Device F P H) A → Type 0
   Holds i = Lucky (λ e _. Has n e) i
 
-  out_has : (d : Device F P H) (path : ℕ) (turn : Turn) → NoCheck turn.came → Has n d → Holds (came_out c d path turn)
+  pub out_has : (d : Device F P H) (path : ℕ) (turn : Turn) → NoCheck turn.came → Has n d → Holds (came_out c d path turn)
   out_has d path turn none f = lucky_done (turned_has n d path turn.chain turn.came none f)
 
-  on_has : (d : Device F P H) (path : ℕ) (chain : ChainState) (s : Store F P H) (o : Option Turn) → TurnSo o → Has n d → Holds (on_tracks c d path chain s o)
+  pub on_has : (d : Device F P H) (path : ℕ) (chain : ChainState) (s : Store F P H) (o : Option Turn) → TurnSo o → Has n d →
+      Holds (on_tracks c d path chain s o)
   on_has d path chain s (Some turn) so f = out_has (with_store d s) path turn so (acts_same d.history s.acts ∙ f)
   on_has d path chain s None so f = lucky_done (acts_same d.history s.acts ∙ f)
 
-  answered_has : (d : Device F P H) (path : ℕ) (chain : ChainState) (p : Progress) → NoTrack p → Has n d → Holds (answered_by c d path chain p)
+  pub answered_has : (d : Device F P H) (path : ℕ) (chain : ChainState) (p : Progress) → NoTrack p → Has n d → Holds (answered_by c d path chain p)
   answered_has d path chain (progresses.Ended e) so f = out_has d path (ends_with chain e) tt f
   answered_has d path chain (progresses.Local act) so f =
       out_has (record d { paths = paths_behind d.paths path act }) path (settles chain (settled_act d.store.geometry d.paths path act)) tt f

@@ -42,7 +42,23 @@ use Rattle.device_defs.specs.Memory.{had_by}
 use Rattle.device_defs.specs.Outcomes.{Turn, ends_with, settles, checks, usage_of}
 use Rattle.device_defs.specs.Owed as O
 use Rattle.device_defs.specs.Owed.{is_clean, heard, hear, all_told, waiting_count, waiting_told, ended}
-use Rattle.device_defs.specs.Store.{Origin, OfCommand, OfCut, OfBackground, HalfWrite, SideMarks, Store, tracks_of, level_at, has_level, takes_b, frame_at, is_lost, half_is, with_frame}
+use Rattle.device_defs.specs.Store.{
+  Origin,
+  OfCommand,
+  OfCut,
+  OfBackground,
+  HalfWrite,
+  SideMarks,
+  Store,
+  tracks_of,
+  level_at,
+  has_level,
+  takes_b,
+  frame_at,
+  is_lost,
+  half_is,
+  with_frame,
+}
 use Rattle.device_laws.specs.Standing.{IsWithin, IsChainOf}
 use Rattle.device_laws.specs.Unharmed.{MarksAreGood, HalfIsTried}
 use Rattle.device_laws.proofs.Always.{Always, always_done, always_ask, always_weaker}
@@ -104,7 +120,7 @@ module _ {F P H R : Type 0} (c : Contents F P H R) where
         goes_then s (had_by (came_of_write c chain t)) (write_goes c faithful s u first t i e lt w there) (λ z o. came_goes chain t z o)
     went_goes u first t s i chain (progresses.Local act) lt w there = lucky_done (fine (core_of s))
 
-    looked_goes : (chain : ChainState) (first t : ℕ) (s : Store F P H) (o : Option Imaged) → t < tracks_of s → IsWell c s → is_lost s t ≡ false →
+    pub looked_goes : (chain : ChainState) (first t : ℕ) (s : Store F P H) (o : Option Imaged) → t < tracks_of s → IsWell c s → is_lost s t ≡ false →
         Goes s (had_by (looked c chain first t) s o)
     looked_goes chain first t s None lt w there = lucky_done (fine (core_of s))
     looked_goes chain first t s (Some (Has i)) lt w there =
@@ -152,7 +168,7 @@ module _ {F P H R : Type 0} (c : Contents F P H R) where
   out_goes s d path turn f =
       lucky_done (subst (λ (x : Store F P H). Fine (core_of s) (core_of x)) (sym (turned_same d path turn.chain turn.came)) f)
 
-  on_goes : (s z : Store F P H) (d : Device F P H) (path : ℕ) (chain : ChainState) (o : Option Turn) → Fine (core_of s) (core_of z) →
+  pub on_goes : (s z : Store F P H) (d : Device F P H) (path : ℕ) (chain : ChainState) (o : Option Turn) → Fine (core_of s) (core_of z) →
       DeviceGoes s (on_tracks c d path chain z o)
   on_goes s z d path chain (Some turn) f = out_goes s (with_store d z) path turn f
   on_goes s z d path chain None f = lucky_done f
@@ -185,11 +201,11 @@ module _ {F P H R : Type 0} (c : Contents F P H R) where
       by_goes d (Some o) None is same w none = lucky_done (fine (core_of d.store))
       by_goes d None k is same w none = lucky_done (fine (core_of d.store))
 
-    waiting_goes : (before : ℕ) (s : Store F P H) → Goes s (waiting_told c before s)
+    pub waiting_goes : (before : ℕ) (s : Store F P H) → Goes s (waiting_told c before s)
     waiting_goes before s =
         lucky_if (waiting_count c s == before) (λ _. lucky_done (fine (core_of s))) (λ _. lucky_ask (λ _. lucky_done (fine (core_of s))))
 
-    end_goes : (before : ℕ) (s : Store F P H) → Goes s (ended c before s)
+    pub end_goes : (before : ℕ) (s : Store F P H) → Goes s (ended c before s)
     end_goes before s = goes_then s (λ z _. waiting_told c before z) (all_told_goes c (tracks_of s) s) (λ z _. waiting_goes before z)
 
     module _ {A : Type 0} where
@@ -236,7 +252,7 @@ module _ {F P H R : Type 0} (c : Contents F P H R) where
 
     -- The second part
 
-    second_ended_goes : (s : Store F P H) (d : Device F P H) (t : ℕ) (origin : Origin) (done : Bool) → Fine (core_of s) (core_of d.store) →
+    pub second_ended_goes : (s : Store F P H) (d : Device F P H) (t : ℕ) (origin : Origin) (done : Bool) → Fine (core_of s) (core_of d.store) →
         DeviceGoes s (second_ended c d t origin done)
     second_ended_goes s d t (OfCommand bypass e) done f = ended_by d.history.running d.chain
       where

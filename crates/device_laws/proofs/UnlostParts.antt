@@ -1,9 +1,38 @@
 -- The parts of an event in which no call fails lose no track, where the marks are good.
-use Rattle.std.proofs.Common.{◌≡◌, ◌<◌, ◌+◌, zero, suc, ℕ, Bool, true, false, List, [], ◌∷◌, Option, Some, None, is_some, set, get_or, refl, sym, ap, subst, ◌∙◌, arith, ◌⊎◌, inl, inr}
+use Rattle.std.proofs.Common.{
+  ◌≡◌,
+  ◌<◌,
+  ◌+◌,
+  zero,
+  suc,
+  ℕ,
+  Bool,
+  true,
+  false,
+  List,
+  [],
+  ◌∷◌,
+  Option,
+  Some,
+  None,
+  is_some,
+  set,
+  get_or,
+  refl,
+  sym,
+  ap,
+  subst,
+  ◌∙◌,
+  arith,
+  ◌⊎◌,
+  inl,
+  inr,
+}
 use Rattle.track_table.specs.Tracks.{least}
 use Rattle.std.specs.Prelude.{if◌then◌else◌, ◌&&◌, ◌||◌, not, length, nat_le, nat_lt}
 use Rattle.ckd_types.specs.declared.parameters.Mode.{Mode}
 use Rattle.ckd_types.specs.declared.paths.Side.{Side}
+use Rattle.ckd_types.specs.declared.paths.Side.TheVariants as sides
 use Rattle.ckd_types.specs.declared.record.Edit.{Edit}
 use Rattle.ckd_types.specs.Parameters.{is_bypass}
 use Rattle.track_image.specs.Image.{Image, edited_image}
@@ -130,7 +159,29 @@ use Rattle.device_defs.specs.Second.{
   second_by,
   second_part,
 }
-use Rattle.device_defs.specs.Store.{Origin, OfCommand, OfCut, OfBackground, HalfWrite, Store, no_debt, tracks_of, stale_at, level_at, has_level, some_up, takes_b, frame_at, patch_at, is_lost, is_loose, owed_at, with_frame, with_owed}
+use Rattle.device_defs.specs.Store.{
+  Origin,
+  OfCommand,
+  OfCut,
+  OfBackground,
+  HalfWrite,
+  Store,
+  no_debt,
+  tracks_of,
+  stale_at,
+  level_at,
+  has_level,
+  some_up,
+  takes_b,
+  frame_at,
+  patch_at,
+  is_lost,
+  is_loose,
+  owed_at,
+  with_stale,
+  with_frame,
+  with_owed,
+}
 use Rattle.device_defs.specs.Writing as V
 use Rattle.device_defs.specs.Writing.{
   Wrote,
@@ -160,10 +211,39 @@ use Rattle.device_laws.proofs.TrackMarks.{IsFaithful}
 use Rattle.device_laws.proofs.Writes.{is_taken, firm_first_keeps_good, write_first_keeps_good}
 use Rattle.device_laws.proofs.Choices.{choice_fits}
 use Rattle.device_laws.proofs.Working.{least_found, destaged_there, waits_there}
-use Rattle.device_laws.proofs.Lucky.{Lucky, lucky_done, lucky_try, lucky_ask, lucky_read, lucky_write, lucky_tell, lucky_then, lucky_weaker, lucky_if, lucky_tried, with_always}
+use Rattle.device_laws.proofs.Lucky.{
+  Lucky,
+  lucky_done,
+  lucky_try,
+  lucky_ask,
+  lucky_read,
+  lucky_write,
+  lucky_tell,
+  lucky_then,
+  lucky_weaker,
+  lucky_if,
+  lucky_tried,
+  with_always,
+}
 use Rattle.device_laws.proofs.TrackMarks as M
 use Rattle.device_laws.proofs.TrackMarks.{track_at}
-use Rattle.device_laws.proofs.Unlost.{Core, core_of, clear, Fine, Off, fine, fine_on, fine_off, off_down, taken_a_fine, everywhere_off, side_fine, settled_fine, fine_if}
+use Rattle.device_laws.proofs.Unlost.{
+  Core,
+  core_of,
+  clear,
+  Fine,
+  Off,
+  fine,
+  fine_on,
+  fine_off,
+  off_down,
+  taken_a_fine,
+  everywhere_off,
+  side_fine,
+  settled_fine,
+  fine_if,
+  closed_fine,
+}
 
 -- from a store on
 abbrev pub Goes : {F P H R A : Type 0} → Store F P H → Interaction R Image (Store F P H) A → Type 0
@@ -203,7 +283,8 @@ module _ {F P H R : Type 0} (c : Contents F P H R) where
   freed_goes s (Some slot) = lucky_ask (λ _. lucky_done (fine (core_of s)))
 
   modified_goes : (t : ℕ) (s : Store F P H) → Goes s (modified_told c t s)
-  modified_goes t s = lucky_if ((owed_at s t).modified && is_modified c (frame_at s t)) (λ _. lucky_ask (λ _. lucky_done (fine (core_of s)))) (λ _. lucky_done (fine (core_of s)))
+  modified_goes t s = lucky_if ((owed_at s t).modified && is_modified c (frame_at s t)) (λ _. lucky_ask (λ _. lucky_done (fine (core_of s))))
+      (λ _. lucky_done (fine (core_of s)))
 
   drop_goes : (t : ℕ) (s : Store F P H) → Goes s (dropped_told c t s)
   drop_goes t s = lucky_if (owed_at s t).dropped (λ _. lucky_ask (λ _. lucky_done (fine (core_of s)))) (λ _. lucky_done (fine (core_of s)))
@@ -237,7 +318,8 @@ module _ {F P H R : Type 0} (c : Contents F P H R) where
 
   granted_goes : (s : Store F P H) (t : ℕ) (i : Image) (given : Bool) → Goes s (I.granted c s t i given)
   granted_goes s t i given =
-      lucky_if given (λ _. goes_then s (λ z _. Done z (Some (Has i))) (filled_goes s t i) (λ z _. lucky_done (fine (core_of z)))) (λ _. lucky_done (fine (core_of s)))
+      lucky_if given (λ _. goes_then s (λ z _. Done z (Some (Has i))) (filled_goes s t i) (λ z _. lucky_done (fine (core_of z))))
+      (λ _. lucky_done (fine (core_of s)))
 
   loaded_goes : (s : Store F P H) (t : ℕ) (i : Image) (mode : Mode) → Goes s (loaded c s t i mode)
   loaded_goes s t i mode =
@@ -261,7 +343,7 @@ module _ {F P H R : Type 0} (c : Contents F P H R) where
   delivered_goes u t side s (Some i) =
       lucky_weaker (loaded_goes (ahead u s t) t i u.mode) (λ y b h. fine_on (core_of s) (core_of (ahead u s t)) (core_of y) (ahead_fine u s t) h)
 
-  missed_goes : (u : Usage) (t : ℕ) (s : Store F P H) (g : Got R) (o : Option R) → Goes s (missed c u t s g o)
+  pub missed_goes : (u : Usage) (t : ℕ) (s : Store F P H) (g : Got R) (o : Option R) → Goes s (missed c u t s g o)
   missed_goes u t s g None = lucky_done (fine (core_of s))
   missed_goes u t s g (Some r) = lucky_tried s _ (fine (core_of s)) (delivered_goes u t g.side s (image_of c s t r))
 
@@ -323,10 +405,24 @@ module _ {F P H R : Type 0} (c : Contents F P H R) where
       (λ _. lucky_ask (λ _. unpatched_goes (with_frame s t (Some (c.frame i false))) t)))
       (λ _. unpatched_goes s t)
 
-  opened_goes : (s : Store F P H) (t : ℕ) (i : Image) (origin : Origin) (was_loose : Bool) → Goes s (opened c s t i origin was_loose)
-  opened_goes s t i origin was_loose = lucky_if was_loose (λ _. lucky_ask (λ _. lucky_done (fine (core_of s)))) (λ _. lucky_done (fine (core_of s)))
+  -- a half write is to be opened where side A took the track and side B takes writes
+  abbrev pub MayOpen : Store F P H → ℕ → Type 0
+  MayOpen s t = (s.a.up ≡ true) × (takes_b s ≡ true) × (stale_at s.a t ≡ false)
 
-  whole_goes : (s : Store F P H) (t : ℕ) (i : Image) (e : Edit) (bypass : Bool) → Goes s (whole c s t i e bypass)
+  opened_fine : (s : Store F P H) (t : ℕ) → MayOpen s t → Fine (core_of s) (record (core_of s) { half = Some t })
+  opened_fine s t may = record {
+    lost = refl;
+    up = refl;
+    takes = refl;
+    level = λ up q e. e;
+    opens = λ q e. inr (may.0, may.1, let same : t ≡ q = cc in subst (λ (p : ℕ). stale_at s.a p ≡ false) same may.2);
+  }
+
+  opened_goes : (s : Store F P H) (t : ℕ) (i : Image) (origin : Origin) (was_loose : Bool) → MayOpen s t → Goes s (opened c s t i origin was_loose)
+  opened_goes s t i origin was_loose may =
+      lucky_if was_loose (λ _. lucky_ask (λ _. lucky_done (opened_fine s t may))) (λ _. lucky_done (opened_fine s t may))
+
+  pub whole_goes : (s : Store F P H) (t : ℕ) (i : Image) (e : Edit) (bypass : Bool) → Goes s (whole c s t i e bypass)
   whole_goes s t i e bypass =
       lucky_tell (λ _. goes_then s (λ y _. Done y Whole) (done_goes (with_edit s t e) t i bypass) (λ y _. lucky_done (fine (core_of y))))
 
@@ -350,19 +446,34 @@ module _ {F P H R : Type 0} (c : Contents F P H R) where
         (λ _. lucky_tell (λ _. lucky_done (everywhere_off (hardened s t) t)))
         (λ _. lucky_done (fine_off t (core_of s) (core_of s) (fine (core_of s))))
 
+    abbrev pub Opens : ℕ → Store F P H → Took → Type 0
+    Opens t s took = took ≡ Opened → MayOpen s t
+
+    a_took : (s : Store F P H) (t : ℕ) (b : Bool) → s.a.up ≡ true → takes_b s ≡ true →
+        MayOpen (if b then with_stale (with_stale s sides.A t false) sides.B t true else with_stale s sides.A t false) t
+    a_took s t true up takes = (up, takes, clear s.a.stale t)
+    a_took s t false up takes = (up, takes, clear s.a.stale t)
+
+    opens_so : (s : Store F P H) (t : ℕ) (b : Bool) → s.a.up ≡ true → takes_b s ≡ b → Opens t (taken_a (write_counted s true) t) (if b then Opened else Whole)
+    opens_so s t true up e f = a_took (write_counted s true) t s.b.up up e
+    opens_so s t false up e f = absurd (cc)
+
     write_first_fine : (x : Core) (s : Store F P H) (t : ℕ) (r : R) → t < tracks_of s → IsWell c s → Off t x (core_of s) →
-        Lucky (λ z _. Fine x (core_of z)) (write_first c s t r)
+        Lucky (λ z v. Fine x (core_of z) × Opens t z v.took) (write_first c s t r)
     unfolding V.write_first
     write_first_fine x s t r lt w o =
-        lucky_if s.a.up (λ up. lucky_write (lucky_done (taken_a_fine x (write_counted s true) t
-        (record { lost = o.lost; up = o.up; takes = o.takes; level = o.level }))))
+        lucky_if s.a.up (λ up. lucky_write (lucky_done (
+          taken_a_fine x (write_counted s true) t (record { lost = o.lost; up = o.up; takes = o.takes; level = o.level; opens = o.opens }),
+          opens_so s t (takes_b s) up refl,
+        )))
         (λ down. let f = off_down t x (core_of s) o down in
-        lucky_if (takes_b s) (λ _. lucky_write (lucky_done (record { lost = f.lost; up = f.up; takes = f.takes; level = f.level })))
-        (λ _. lucky_done (fine_on x (core_of s) (core_of (settled c s t)) f (settled_fine c s t (w.good t lt)))))
+        lucky_if (takes_b s)
+        (λ _. lucky_write (lucky_done (record { lost = f.lost; up = f.up; takes = f.takes; level = f.level; opens = f.opens }, λ e. absurd (cc))))
+        (λ _. lucky_done (fine_on x (core_of s) (core_of (settled c s t)) f (settled_fine c s t (w.good t lt)), λ e. absurd (cc))))
 
     -- firm first, and the first part; then more
     firm_write : {A : Type 0} (s : Store F P H) (t : ℕ) (r : R) (f : Store F P H → Bool → Wrote → Interaction R Image (Store F P H) A) → t < tracks_of s →
-        IsWell c s → is_lost s t ≡ false → ((z : Store F P H) (b : Bool) (w : Wrote) → (is_taken w.took ≡ true → has_level z t ≡ true) → IsWell c z → tracks_of z ≡ tracks_of s →
+        IsWell c s → is_lost s t ≡ false → ((z : Store F P H) (b : Bool) (w : Wrote) → (is_taken w.took ≡ true → has_level z t ≡ true) → Opens t z w.took →
         Goes z (f z b w)) →
         Goes s (and_then (firm_first c s t) (λ z b. and_then (write_first c z t r) (λ y w. f y b w)))
     firm_write s t r f lt w there more =
@@ -372,8 +483,7 @@ module _ {F P H R : Type 0} (c : Contents F P H R) where
         lucky_then (λ y v. f y b v)
         (with_always (write_first_keeps_good c faithful t z below (g.0.lost ∙ lost_mark s t there) r g.0.goes.well)
         (write_first_fine (core_of s) z t r below g.0.goes.well g.1))
-        (λ y v h. lucky_weaker (more y b v h.0.level h.0.goes.well (h.0.goes.tracks ∙ g.0.goes.tracks))
-        (λ q a k. fine_on (core_of s) (core_of y) (core_of q) h.1 k)))
+        (λ y v h. lucky_weaker (more y b v h.0.level h.1.1) (λ q a k. fine_on (core_of s) (core_of y) (core_of q) h.1.0 k)))
 
     level_b : (s : Store F P H) (t : ℕ) → has_level s t ≡ true → has_level (taken_b s t) t ≡ true
     level_b s t e = still (level_at s.a t) s.b.up (stale_at s.b t) (get_or (set s.b.stale t false) t false) (clear s.b.stale t) e
@@ -387,7 +497,8 @@ module _ {F P H R : Type 0} (c : Contents F P H R) where
         Lucky (λ z (a : Unit {0}). Fine (core_of s) (core_of z) × (has_level z t ≡ true)) (write_second c s t r)
     unfolding V.write_second
     second_lucky s t r level =
-        lucky_if (takes_b s) (λ _. lucky_write (lucky_done (fine (core_of s), level_b (write_counted s true) t level))) (λ _. lucky_done (fine (core_of s), level))
+        lucky_if (takes_b s) (λ _. lucky_write (lucky_done (fine (core_of s), level_b (write_counted s true) t level)))
+        (λ _. lucky_done (fine (core_of s), level))
 
     at_once_goes : (s : Store F P H) (t : ℕ) (i : Image) (e : Edit) (bypass : Bool) → has_level s t ≡ true → Goes s (at_once c s t i e bypass)
     at_once_goes s t i e bypass level =
@@ -398,19 +509,20 @@ module _ {F P H R : Type 0} (c : Contents F P H R) where
         (λ none. absurd (let both : true ≡ false = sym g.1 ∙ none in cc)))
 
     through_by_goes : (t : ℕ) (i : Image) (e : Edit) (bypass opens was_loose : Bool) (s : Store F P H) (took : Took) →
-        (is_taken took ≡ true → has_level s t ≡ true) → Goes s (through_by c t i e bypass opens was_loose s took)
-    through_by_goes t i e bypass opens was_loose s Whole level = whole_goes s t i e bypass
-    through_by_goes t i e bypass opens was_loose s Opened level =
-        lucky_if opens (λ _. goes_then s (λ z _. Done z Opened) (opened_goes s t i (OfCommand bypass e) was_loose) (λ z _. lucky_done (fine (core_of z))))
+        (is_taken took ≡ true → has_level s t ≡ true) → Opens t s took → Goes s (through_by c t i e bypass opens was_loose s took)
+    through_by_goes t i e bypass opens was_loose s Whole level takes = whole_goes s t i e bypass
+    through_by_goes t i e bypass opens was_loose s Opened level takes =
+        lucky_if opens
+        (λ _. goes_then s (λ z _. Done z Opened) (opened_goes s t i (OfCommand bypass e) was_loose (takes refl)) (λ z _. lucky_done (fine (core_of z))))
         (λ _. at_once_goes s t i e bypass (level refl))
-    through_by_goes t i e bypass opens was_loose s Unwritten level = lucky_done (fine (core_of s))
+    through_by_goes t i e bypass opens was_loose s Unwritten level takes = lucky_done (fine (core_of s))
 
     through_goes : (s : Store F P H) (t : ℕ) (i : Image) (e : Edit) (bypass opens : Bool) → t < tracks_of s → IsWell c s → is_lost s t ≡ false →
         Goes s (through c s t i e bypass opens)
     unfolding E.through
     through_goes s t i e bypass opens lt w there =
         firm_write s t (c.bytes i) (λ y was_loose v. through_by c t i e bypass opens was_loose y v.took) lt w there
-        (λ y was_loose v level _ _. through_by_goes t i e bypass opens was_loose y v.took level)
+        (λ y was_loose v level takes. through_by_goes t i e bypass opens was_loose y v.took level takes)
 
     provisional_fine : (s : Store F P H) (t : ℕ) (i : Image) (e : Edit) → Fine (core_of s) (core_of (provisionally_written c s t i e))
     provisional_fine s t i e = by_loose (is_loose s t)
@@ -428,7 +540,8 @@ module _ {F P H R : Type 0} (c : Contents F P H R) where
     written_goes : (s : Store F P H) (u : Usage) (first t : ℕ) (old : Image) (e : Edit) (choice : Choice) → t < tracks_of s → IsWell c s → is_lost s t ≡ false →
         Goes s (written c s u first t old e choice)
     written_goes s u first t old e choice lt w there =
-        goes_then s (λ z took. Done z (Some took)) (write_by_goes u first t (edited_image e old) e s choice lt w there) (λ z took. lucky_done (fine (core_of z)))
+        goes_then s (λ z took. Done z (Some took)) (write_by_goes u first t (edited_image e old) e s choice lt w there)
+        (λ z took. lucky_done (fine (core_of z)))
 
     again_goes : (s : Store F P H) (t : ℕ) → Goes s (clean_again c s t)
     again_goes s t = lucky_if (is_clean c (frame_at s t)) (λ _. lucky_ask (λ _. lucky_done (fine (core_of s)))) (λ _. lucky_done (fine (core_of s)))
@@ -460,7 +573,7 @@ module _ {F P H R : Type 0} (c : Contents F P H R) where
     finished_goes : (s : Store F P H) (t : ℕ) (i : Image) (bypass : Bool) → Goes s (finished c s t i bypass)
     finished_goes s t i bypass = goes_then s (λ z _. Done z true) (done_goes s t i bypass) (λ z _. lucky_done (fine (core_of z)))
 
-    second_done_goes : (s : Store F P H) (t : ℕ) (i : Image) (origin : Origin) → Goes s (second_done c s t i origin)
+    pub second_done_goes : (s : Store F P H) (t : ℕ) (i : Image) (origin : Origin) → Goes s (second_done c s t i origin)
     second_done_goes s t i (OfCommand bypass e) = lucky_tell (λ _. finished_goes (with_edit s t e) t i bypass)
     second_done_goes s t i (OfCut bypass) = finished_goes s t i bypass
     second_done_goes s t i OfBackground = finished_goes s t i false
@@ -487,7 +600,8 @@ module _ {F P H R : Type 0} (c : Contents F P H R) where
         lucky_if (takes_b s) (λ _. lucky_write (lucky_done (fine (core_of s), take_b (write_counted s true) t (and_up s.b.up (not s.held) takes))))
         (λ none. absurd (let both : true ≡ false = sym takes ∙ none in cc))
     tried_lucky s t r (inr level) =
-        lucky_if (takes_b s) (λ _. lucky_write (lucky_done (fine (core_of s), level_b (write_counted s true) t level))) (λ _. lucky_done (fine (core_of s), level))
+        lucky_if (takes_b s) (λ _. lucky_write (lucky_done (fine (core_of s), level_b (write_counted s true) t level)))
+        (λ _. lucky_done (fine (core_of s), level))
 
     pub second_goes : (s : Store F P H) (h : HalfWrite H) → IsTried s h.track → Goes s (second_part c s h)
     unfolding D.second_part
@@ -495,25 +609,26 @@ module _ {F P H R : Type 0} (c : Contents F P H R) where
         let i = half_image_of c s h in
         lucky_then (λ z _. second_by c h.track i h.origin z) (tried_lucky s h.track (c.bytes i) tried)
         (λ z _ g. lucky_if (has_level z h.track)
-        (λ _. lucky_weaker (second_done_goes (closed z) h.track i h.origin) (λ y b k. fine_on (core_of s) (core_of z) (core_of y) g.0 k))
+        (λ _. lucky_weaker (second_done_goes (closed z) h.track i h.origin)
+        (λ y b k. fine_on (core_of s) (core_of z) (core_of y) g.0 (fine_on (core_of z) (core_of (closed z)) (core_of y) (closed_fine z) k)))
         (λ none. absurd (let both : true ≡ false = sym g.1 ∙ none in cc)))
 
     -- By itself
 
-    saved_by_goes : (t : ℕ) (i : Image) (d : Did) (fault : Option Side) (was_loose : Bool) (failed : Option Side) (s : Store F P H) (took : Took) →
-        Goes s (saved_by c t i d fault was_loose failed s took)
-    saved_by_goes t i d fault was_loose failed s Whole =
+    pub saved_by_goes : (t : ℕ) (i : Image) (d : Did) (fault : Option Side) (was_loose : Bool) (failed : Option Side) (s : Store F P H) (took : Took) →
+        Opens t s took → Goes s (saved_by c t i d fault was_loose failed s took)
+    saved_by_goes t i d fault was_loose failed s Whole takes =
         goes_then s (λ z _. Done z (did fault (did failed d))) (done_goes s t i false) (λ z _. lucky_done (fine (core_of z)))
-    saved_by_goes t i d fault was_loose failed s Opened =
-        goes_then s (λ z _. Done z _) (opened_goes s t i OfBackground was_loose) (λ z _. lucky_done (fine (core_of z)))
-    saved_by_goes t i d fault was_loose failed s Unwritten = lucky_done (fine (core_of s))
+    saved_by_goes t i d fault was_loose failed s Opened takes =
+        goes_then s (λ z _. Done z _) (opened_goes s t i OfBackground was_loose (takes refl)) (λ z _. lucky_done (fine (core_of z)))
+    saved_by_goes t i d fault was_loose failed s Unwritten takes = lucky_done (fine (core_of s))
 
     saved_goes : (s : Store F P H) (t : ℕ) (i : Image) (d : Did) (fault : Option Side) → t < tracks_of s → IsWell c s → is_lost s t ≡ false →
         Goes s (saved c s t i d fault)
     saved_goes s t i d fault lt w there =
         lucky_tried s _ (fine (core_of s)) (goes_then s (λ z e. Done z (Some e))
         (firm_write s t (c.bytes i) (λ y was_loose v. saved_by c t i d fault was_loose v.fault y v.took) lt w there
-        (λ y was_loose v level _ _. saved_by_goes t i d fault was_loose v.fault y v.took))
+        (λ y was_loose v level takes. saved_by_goes t i d fault was_loose v.fault y v.took takes))
         (λ z e. lucky_done (fine (core_of z))))
 
     recovered_image_goes : (t : ℕ) (s : Store F P H) (g : Got R) (o : Option Image) → t < tracks_of s → IsWell c s → is_lost s t ≡ false →
@@ -521,7 +636,7 @@ module _ {F P H R : Type 0} (c : Contents F P H R) where
     recovered_image_goes t s g None lt w there = lucky_done (fine (core_of s))
     recovered_image_goes t s g (Some i) lt w there = saved_goes s t i (Recovered t) g.fault lt w there
 
-    recovered_bytes_goes : (t : ℕ) (s : Store F P H) (g : Got R) (o : Option R) → t < tracks_of s → IsWell c s → is_lost s t ≡ false →
+    pub recovered_bytes_goes : (t : ℕ) (s : Store F P H) (g : Got R) (o : Option R) → t < tracks_of s → IsWell c s → is_lost s t ≡ false →
         Goes s (recovered_bytes c t s g o)
     recovered_bytes_goes t s g None lt w there = lucky_done (fine (core_of s))
     recovered_bytes_goes t s g (Some r) lt w there = lucky_tried s _ (fine (core_of s)) (recovered_image_goes t s g (image_of c s t r) lt w there)
@@ -551,7 +666,7 @@ module _ {F P H R : Type 0} (c : Contents F P H R) where
     staged_image_goes t s g None = unfilled_goes s t _
     staged_image_goes t s g (Some i) = goes_then s (λ z _. Done z _) (filled_goes s t i) (λ z _. lucky_done (fine (core_of z)))
 
-    staged_bytes_goes : (t : ℕ) (s : Store F P H) (g : Got R) (o : Option R) → Goes s (staged_bytes c t s g o)
+    pub staged_bytes_goes : (t : ℕ) (s : Store F P H) (g : Got R) (o : Option R) → Goes s (staged_bytes c t s g o)
     staged_bytes_goes t s g None = unfilled_goes s t _
     staged_bytes_goes t s g (Some r) = lucky_try (λ ok. lucky_if ok (λ _. staged_image_goes t s g (image_of c s t r)) (λ _. unfilled_goes s t None))
 
@@ -559,9 +674,11 @@ module _ {F P H R : Type 0} (c : Contents F P H R) where
     stage_goes s t =
         lucky_if (is_some (frame_at s t) || is_lost s t) (λ _. lucky_done (fine (core_of s)))
         (λ _. lucky_tried s _ (fine (core_of s)) (lucky_ask (λ given. lucky_if given
-        (λ _. goes_then s (λ z g. staged_bytes c t z g g.bytes) (level_goes s t) (λ z g. staged_bytes_goes t z g g.bytes)) (λ _. lucky_done (fine (core_of s))))))
+        (λ _. goes_then s (λ z g. staged_bytes c t z g g.bytes) (level_goes s t) (λ z g. staged_bytes_goes t z g g.bytes))
+        (λ _. lucky_done (fine (core_of s))))))
 
-    destage_goes : (s : Store F P H) (o : Option ℕ) → ((t : ℕ) → o ≡ Some t → (t < tracks_of s) × (is_lost s t ≡ false)) → IsWell c s → Goes s (destage_first c s o)
+    destage_goes : (s : Store F P H) (o : Option ℕ) → ((t : ℕ) → o ≡ Some t → (t < tracks_of s) × (is_lost s t ≡ false)) → IsWell c s →
+        Goes s (destage_first c s o)
     destage_goes s None here w = lucky_done (fine (core_of s))
     destage_goes s (Some t) here w = let at = here t refl in saved_goes s t (framed_image c s t (frame_at s t)) (Destaged t) None at.0 w at.1
 
@@ -578,11 +695,11 @@ module _ {F P H R : Type 0} (c : Contents F P H R) where
     stage_first_goes s [] next = next
     stage_first_goes s (t ∷ ts) next = stage_goes (record s { queue = ts }) t
 
-    found_if : (n : ℕ) (p : ℕ → Bool) (b : Bool) (t : ℕ) → (if b then least n p else None) ≡ Some t → (t < n) × (p t ≡ true)
+    pub found_if : (n : ℕ) (p : ℕ → Bool) (b : Bool) (t : ℕ) → (if b then least n p else None) ≡ Some t → (t < n) × (p t ≡ true)
     found_if n p true t e = least_found n p t e
     found_if n p false t e = absurd (cc)
 
-    destaged_is : (s : Store F P H) (t : ℕ) → t < tracks_of s → is_destaged c s t ≡ true → IsWell c s → is_lost s t ≡ false
+    pub destaged_is : (s : Store F P H) (t : ℕ) → t < tracks_of s → is_destaged c s t ≡ true → IsWell c s → is_lost s t ≡ false
     destaged_is s t lt e w = lost_back s t (destaged_there c faithful t s (is_loose s t) refl e lt w)
 
     pub work_goes : (s : Store F P H) → IsWell c s → Goes s (work c s)

@@ -154,7 +154,13 @@ module _ {F P H R : Type 0} (c : Contents F P H R) (faithful : IsFaithful c) whe
     goes = record {
       well = record {
         sizes = record { are = r.goes.well.sizes.are };
-        here = record { free = r.goes.well.here.free; alone = r.goes.well.here.alone; whole = r.goes.well.here.whole; within = r.goes.well.here.within; queued = below };
+        here = record {
+          free = r.goes.well.here.free;
+          alone = r.goes.well.here.alone;
+          whole = r.goes.well.here.whole;
+          within = r.goes.well.here.within;
+          queued = below;
+        };
         good = r.goes.well.good;
         kept = r.goes.well.kept;
       };

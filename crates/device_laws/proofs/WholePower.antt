@@ -124,7 +124,8 @@ acts_swept h u w y acts queue x = record {
 
 -- An open half write ends
 
-module _ (h : Held) (u w : List Track) (y : DeviceStore) (x : Swept h u y 0 u w y) (hw : HalfWrite Image) (is : y.half ≡ Some hw) (lt : hw.track < tracks_of y) where
+module _ (h : Held) (u w : List Track) (y : DeviceStore) (x : Swept h u y 0 u w y) (hw : HalfWrite Image) (is : y.half ≡ Some hw)
+    (lt : hw.track < tracks_of y) where
   abbrev t : ℕ
   t = hw.track
 
@@ -199,7 +200,8 @@ module _ (h : Held) (u w : List Track) (y : DeviceStore) (x : Swept h u y 0 u w 
       j = image_in y u q
 
       r : IsRight g q (Some hw) (bare (contents_at y h q)) (image_in y u q) (image_in y u q)
-      r = subst (λ (o : Option (HalfWrite Image)). IsRight g q o (bare (contents_at y h q)) (image_in y u q) (image_in y u q)) is (x.later q below (omega arith))
+      r = subst (λ (o : Option (HalfWrite Image)). IsRight g q o (bare (contents_at y h q)) (image_in y u q) (image_in y u q)) is
+          (x.later q below (omega arith))
 
       other : (hw.track == q) ≡ false
       other = grind arith
@@ -358,7 +360,8 @@ module _ (v w : List Track) (s : DeviceStore) (h : Held) (sure : RightBut None v
   begun : Begins h u w s y
   begun =
       let any = has_loose s in
-      let b = half_by h u w (gone any) (gone_swept any refl) s.half (gone_half any) cut (λ i e. let lt = within i e in let same = gone_tracks any in omega arith) in
+      let b = half_by h u w (gone any) (gone_swept any refl) s.half (gone_half any) cut
+      (λ i e. let lt = within i e in let same = gone_tracks any in omega arith) in
       let q = half_lost contents (gone any) s.half in
       record { swept = acts_swept h u w q q.acts [] b.swept; tracks = b.tracks ∙ gone_tracks any }
 
@@ -368,7 +371,8 @@ module _ (v w : List Track) (s : DeviceStore) (h : Held) (sure : RightBut None v
       ap (λ (m : MarksStore). record m { queue = [] })
       (half_marks u w (gone any) s.half ∙ ap (λ (m : MarksStore). half_lost by_plain m (option_map half_mark s.half)) (gone_marks any))
 
-  powerless_pair : IsWell contents (powerless contents s) → Pair (λ v' w' z. IsInOrder v' w' z h × (v' ≡ u)) (powerless contents s) (powerless by_plain (marks_of v w s))
+  powerless_pair : IsWell contents (powerless contents s) → Pair (λ v' w' z. IsInOrder v' w' z h × (v' ≡ u)) (powerless contents s)
+      (powerless by_plain (marks_of v w s))
   powerless_pair well =
       let n = tracks_of s in
       subst (λ (m : MarksStore). Pair (λ v' w' z. IsInOrder v' w' z h × (v' ≡ u)) (over n (λ t z. settled contents (without_frame z t) t) y)

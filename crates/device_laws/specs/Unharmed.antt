@@ -3,7 +3,7 @@ use Rattle.std.specs.Prelude.{◌≡◌, ◌<◌, ◌⊎◌, ℕ, true, false, S
 use Rattle.device_defs.specs.Between.{HasSizes}
 use Rattle.device_defs.specs.Contents.{Contents}
 use Rattle.device_defs.specs.Sound.{has_sound_marks}
-use Rattle.device_defs.specs.Store.{HalfWrite, Store, tracks_of, has_level, is_lost, stale_at, takes_b}
+use Rattle.device_defs.specs.Store.{HalfWrite, Store, tracks_of, has_level, is_lost, stale_at, takes_b, half_is, frame_at, patch_at}
 use Rattle.plain_defs.specs.declared.journal.Item.{Item}
 use Rattle.plain_defs.specs.declared.journal.Item.TheVariants as items
 use Rattle.plain_defs.specs.History.{OpenEntry, History}
@@ -44,6 +44,22 @@ module _ {F P H : Type 0} where
   -- of an open half write, side B is tried, or some side has the track
   abbrev pub HalfIsTried : Store F P H → Type 0
   HalfIsTried s = (h : HalfWrite H) → s.half ≡ Some h → (takes_b s ≡ true) ⊎ (has_level s h.track ≡ true)
+
+  -- no side was lost, no call failed, and neither the cache nor the power was lost
+  pub record CacheKept (s : Store F P H) : Type 0 where
+    pub sides : s.counts.losses.sides ≡ 0
+    pub failed : s.counts.failed ≡ 0
+    pub cache : s.counts.losses.cache ≡ 0
+
+  -- then side A is up and has the track of an open half write, none is lost, and each other track with a patch has a frame
+  pub record IsFramed (s : Store F P H) : Type 0 where
+    pub up : s.a.up ≡ true
+    pub kept : (t : ℕ) → is_lost s t ≡ false
+    pub half : (h : HalfWrite H) → s.half ≡ Some h → stale_at s.a h.track ≡ false
+    pub framed : (t : ℕ) → half_is s.half t ≡ false → is_some (patch_at s t) ≡ true → is_some (frame_at s t) ≡ true
+
+  abbrev pub IsUncached : Store F P H → Type 0
+  IsUncached s = CacheKept s → IsFramed s
 
 -- Losses of data of cache fast write
 

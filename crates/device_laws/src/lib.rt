@@ -17,8 +17,8 @@ pub use keeping::{
     pool_is_told_waiting, run_tells_waiting, told_device_has_no_bad_bytes, turn_keeps_pledge,
 };
 pub use losses::{
-    calm_command_checks_nothing, loose_losses_are_counted, lost_list_grows_where_calls_fail,
-    order_has_good_marks, unharmed_device_loses_no_track,
+    calm_command_checks_nothing, excused_device_loses_no_track, loose_losses_are_counted,
+    lost_list_grows_where_calls_fail, order_has_good_marks, unharmed_device_loses_no_track,
 };
 pub use runs::{
     background_is_step, command_is_step, loss_is_step, orders_leave_order, power_is_step,

@@ -15,7 +15,7 @@ ghost use Rattle.device_defs.specs.Command.{command};
 ghost use Rattle.device_defs.specs.Contents.{contents};
 ghost use Rattle.device_defs.specs.Cutting.{power, reset};
 ghost use Rattle.device_defs.specs.Events.{second, background, lose};
-ghost use Rattle.device_defs.specs.Excused.{count_lost, loose_losses};
+ghost use Rattle.device_defs.specs.Excused.{count_lost, loose_losses, may_lose};
 ghost use Rattle.device_defs.specs.Orders.{join, split, replace, hold, resume};
 ghost use Rattle.device_defs.specs.Sound.{DeviceStore};
 ghost use Rattle.device_defs.specs.Start.{start};
@@ -24,7 +24,7 @@ ghost use Rattle.device_laws.specs.Agrees.{Held};
 ghost use Rattle.device_laws.specs.InOrder.{IsInOrder};
 ghost use Rattle.device_laws.specs.NewDevice.{new_contents};
 ghost use Rattle.device_laws.specs.Standing.{IsChainOf};
-ghost use Rattle.device_laws.specs.Unharmed.{MarksAreGood, IsUnharmed, HalfIsTried, LossesAreCounted, RunsUnharmed, IsCalm, ends_with_equipment_check, NothingLost};
+ghost use Rattle.device_laws.specs.Unharmed.{MarksAreGood, IsUncached, IsUnharmed, HalfIsTried, LossesAreCounted, RunsUnharmed, IsCalm, ends_with_equipment_check, NothingLost};
 ghost use Rattle.device_laws.specs.Whole.{WholeDevice};
 ghost use Rattle.loss_model.specs.declared.Loss.{Loss};
 
@@ -71,6 +71,31 @@ pub fn unharmed_device_loses_no_track<K: Keep<TrackImage>>()
     ensures held { (d : WholeDevice) → IsUnharmed d.store → IsUnharmed (hold d).store × IsUnharmed (resume d).store }
     ensures paired { (d : WholeDevice) → IsUnharmed d.store → IsUnharmed (join d).store × IsUnharmed (split d).store }
     ensures replaced { (d : WholeDevice) (side : Side) → IsUnharmed d.store → (side_of d.store side).up ≡ false → IsUnharmed (replace d side).store }
+{}
+
+/// Where no side was lost and no call failed, and neither the cache nor the power was lost, side A is up, no track is lost, and each track with a
+/// patch has a frame: so it is of a new device, and behind each event and order. With the law above, the lost list is empty of a device that
+/// has no loss of a side, no failed call, and losses of the cache or of the store alone.
+pub fn excused_device_loses_no_track<K: Keep<TrackImage>>()
+    ensures excused { (d : WholeDevice) → IsUnharmed d.store → IsUncached d.store → may_lose d.store.counts ≡ false → count_lost d.store.lost ≡ 0 }
+    ensures made { (d : ℕ) (g : Geometry) (n : ℕ) → IsUncached (new_contents d g n) }
+    ensures starts { (d : WholeDevice) (path : ℕ) → IsUncached d.store → IsUncached (start d path).store }
+    ensures command { (d e : WholeDevice) (u z : Outside (List ℕ) K) (a : Option Stepped) → MarksAreGood contents d.store → d.store.half ≡ None →
+        ((chain : ChainState) → d.chain ≡ Some chain → IsChainOf d.store.cylinders chain) → d.store.counts.failed < 2 ^ 64 - 1 → IsUncached d.store →
+        Ran (λ ok. Unit {0}) K.hears (command contents d) u e a z → IsUncached e.store }
+    ensures second { (d e : WholeDevice) (u z : Outside (List ℕ) K) (a : SecondEnd) → MarksAreGood contents d.store → d.store.counts.failed < 2 ^ 64 - 1 →
+        IsUncached d.store → Ran (λ ok. Unit {0}) K.hears (second contents d) u e a z → IsUncached e.store }
+    ensures background { (d e : WholeDevice) (u z : Outside (List ℕ) K) (a : Option Did) → MarksAreGood contents d.store → d.store.half ≡ None →
+        d.store.counts.failed < 2 ^ 64 - 1 → IsUncached d.store → Ran (λ ok. Unit {0}) K.hears (background contents d) u e a z → IsUncached e.store }
+    ensures lose { (d e : WholeDevice) (u z : Outside (List ℕ) K) (a : Unit {0}) (loss : Loss) → MarksAreGood contents d.store →
+        d.store.counts.failed < 2 ^ 64 - 1 → IsUncached d.store → Ran (λ ok. Unit {0}) K.hears (lose contents d loss) u e a z → IsUncached e.store }
+    ensures reset { (d e : WholeDevice) (u z : Outside (List ℕ) K) (a : Unit {0}) (path : ℕ) → MarksAreGood contents d.store →
+        d.store.counts.failed < 2 ^ 64 - 1 → IsUncached d.store → Ran (λ ok. Unit {0}) K.hears (reset contents d path) u e a z → IsUncached e.store }
+    ensures power { (d e : WholeDevice) (u z : Outside (List ℕ) K) (a : Unit {0}) → d.store.counts.failed < 2 ^ 64 - 1 → IsUncached d.store →
+        Ran (λ ok. Unit {0}) K.hears (power contents d) u e a z → IsUncached e.store }
+    ensures held { (d : WholeDevice) → IsUncached d.store → IsUncached (hold d).store × IsUncached (resume d).store }
+    ensures paired { (d : WholeDevice) → IsUncached d.store → IsUncached (join d).store × IsUncached (split d).store }
+    ensures replaced { (d : WholeDevice) (side : Side) → IsUncached d.store → (side_of d.store side).up ≡ false → IsUncached (replace d side).store }
 {}
 
 /// Data of cache fast write were lost at most as often as losses of the cache were counted: so it stays behind each event, and the

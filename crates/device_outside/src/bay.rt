@@ -128,6 +128,7 @@ impl MemBay {
         self.taken.len()
     }
 
+    /// A volume that came back, from 0 on in the order in which they came.
     pub fn at(&self, i: usize) -> &Taken
         requires { i < length self.now.taken }
         ensures { result.now ≡ slice_index_or self.now.taken i result.now }

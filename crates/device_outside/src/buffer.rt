@@ -32,6 +32,7 @@ impl TrackBuffer {
         Ok(TrackBuffer { bytes })
     }
 
+    /// The bytes of the track that was read last: as many as the volume handed over, whether they are a track's or not.
     pub fn bytes(&self) -> &[u8]
         ensures bytes { result.now ≡ self.now }
         ensures most { length result.now ≤ 65536 }

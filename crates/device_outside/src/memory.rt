@@ -63,7 +63,15 @@ impl Model for MemVolume {
 
     ghost Value = { Disk };
 
-    ghost view = { λ v. record { tracks = v.held.tracks; delivered = v.held.delivered; reads = v.reads; writes = v.writes; faults = v.faults; plan = record { reads = v.fail_reads.items; writes = v.fail_writes.items }; spoiled = v.spoiled } };
+    ghost view = { λ v. record {
+      tracks = v.held.tracks;
+      delivered = v.held.delivered;
+      reads = v.reads;
+      writes = v.writes;
+      faults = v.faults;
+      plan = record { reads = v.fail_reads.items; writes = v.fail_writes.items };
+      spoiled = v.spoiled;
+    } };
 }
 
 impl MemVolume {
@@ -90,18 +98,21 @@ impl MemVolume {
         })
     }
 
+    /// How many reads were called for, the failed ones too; at the greatest number the count stays.
     pub fn reads(&self) -> u64
         ensures { result ≡ self.now.reads }
     {
         self.reads
     }
 
+    /// How many writes were called for, the failed ones too; at the greatest number the count stays.
     pub fn writes(&self) -> u64
         ensures { result ≡ self.now.writes }
     {
         self.writes
     }
 
+    /// How many tracks it has: 15 a cylinder.
     pub fn len(&self) -> usize
         ensures { result ≡ length self.now.tracks }
     {

@@ -71,6 +71,7 @@ pub struct NoFrames {
 }
 
 impl NoFrames {
+    /// With no request denied yet.
     pub fn new() -> NoFrames
         ensures { (⟦<NoFrames as Port>⟧.view result).denials ≡ 0 }
     {

@@ -1,13 +1,7 @@
-//! Trials of the crates up to the plain device, of what no clause says: that calls which may lack memory have it with
+//! Trials of low crates, of what no clause says and no deck shows: that calls which may lack memory have it with
 //! ample memory, and a few worked rows. They stand here, so that no large crate is proved once more for them.
 #![tactic(auto)]
 
-#[cfg(test)]
-mod patches;
-#[cfg(test)]
-mod plain;
-#[cfg(test)]
-mod pool;
 #[cfg(test)]
 mod tables;
 #[cfg(test)]

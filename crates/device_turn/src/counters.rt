@@ -24,6 +24,7 @@ impl Holder<u64> for Counters {
 }
 
 impl Counters {
+    /// A tag, with no seat that has counted yet.
     pub fn new(tag: u64) -> Counters
         ensures { (result.tag ≡ tag) × (result.counts ≡ zeros) }
     {

@@ -14,7 +14,8 @@ impl<H: Holder<P>, P> Turn<H, P> {
     pub(crate) fn take(&self, seat: &mut TurnSeat<H, P>) -> u64
         requires own { seat.old.seat.table_id ≡ self.now.table.shared.table_id }
         requires away { seat.old.seat.me.0.stage ≡ Away }
-        ensures own { (seat.new.seat.table_id ≡ seat.old.seat.table_id) × (seat.new.seat.id ≡ seat.old.seat.id) × (seat.new.number ≡ seat.old.number) × (seat.new.made ≡ seat.old.made) }
+        ensures own { (seat.new.seat.table_id ≡ seat.old.seat.table_id) × (seat.new.seat.id ≡ seat.old.seat.id) ×
+            (seat.new.number ≡ seat.old.number) × (seat.new.made ≡ seat.old.made) }
         ensures got { result ≡ 0 → seat.new.seat.me ≡ (staged Mine seat.old.seat.me.0, seat.old.seat.me.1) }
         ensures not { result ≢ 0 → (seat.new.seat.me ≡ seat.old.seat.me) × (result ≢ seat.old.seat.me.0.number + 1) × (result ≤ 6) }
     {
@@ -29,7 +30,8 @@ impl<H: Holder<P>, P> Turn<H, P> {
         requires own { seat.old.seat.table_id ≡ self.now.table.shared.table_id }
         requires turn { seat.old.seat.me.0.stage ≡ Mine }
         requires other { (other < 6) × (other ≢ seat.old.number) }
-        ensures own { (seat.new.seat.table_id ≡ seat.old.seat.table_id) × (seat.new.seat.id ≡ seat.old.seat.id) × (seat.new.number ≡ seat.old.number) × (seat.new.made ≡ seat.old.made) }
+        ensures own { (seat.new.seat.table_id ≡ seat.old.seat.table_id) × (seat.new.seat.id ≡ seat.old.seat.id) ×
+            (seat.new.number ≡ seat.old.number) × (seat.new.made ≡ seat.old.made) }
         ensures noted { (n : ℕ) × (seat.new.seat.me ≡ (noted other n seat.old.seat.me.0, seat.old.seat.me.1)) }
     {
         self.table
@@ -41,7 +43,8 @@ impl<H: Holder<P>, P> Turn<H, P> {
     pub(crate) fn note_all(&self, seat: &mut TurnSeat<H, P>)
         requires own { seat.old.seat.table_id ≡ self.now.table.shared.table_id }
         requires turn { (seat.old.seat.me.0.stage ≡ Mine) × (seat.old.seat.me.0.loaded ≡ []) }
-        ensures own { (seat.new.seat.table_id ≡ seat.old.seat.table_id) × (seat.new.seat.id ≡ seat.old.seat.id) × (seat.new.number ≡ seat.old.number) × (seat.new.made ≡ seat.old.made) }
+        ensures own { (seat.new.seat.table_id ≡ seat.old.seat.table_id) × (seat.new.seat.id ≡ seat.old.seat.id) ×
+            (seat.new.number ≡ seat.old.number) × (seat.new.made ≡ seat.old.made) }
         ensures noted { seat.new.seat.me ≡ (with_loaded seat.new.seat.me.0.loaded seat.old.seat.me.0, seat.old.seat.me.1) }
         ensures complete { IsComplete seat.new.seat.me.0 }
         ensures others { Without seat.new.seat.me.0.number seat.new.seat.me.0.loaded }
@@ -58,9 +61,11 @@ impl<H: Holder<P>, P> Turn<H, P> {
     pub(crate) fn fetch(&self, seat: &mut TurnSeat<H, P>) -> H
         requires own { seat.old.seat.table_id ≡ self.now.table.shared.table_id }
         requires turn { (seat.old.seat.me.0.stage ≡ Mine) × (seat.old.seat.me.1 ≡ []) }
-        ensures own { (seat.new.seat.table_id ≡ seat.old.seat.table_id) × (seat.new.seat.id ≡ seat.old.seat.id) × (seat.new.number ≡ seat.old.number) × (seat.new.made ≡ seat.old.made) }
+        ensures own { (seat.new.seat.table_id ≡ seat.old.seat.table_id) × (seat.new.seat.id ≡ seat.old.seat.id) ×
+            (seat.new.number ≡ seat.old.number) × (seat.new.made ≡ seat.old.made) }
         ensures out { seat.new.seat.me ≡ (staged Out seat.old.seat.me.0, (0, None) ∷ []) }
-        ensures counts { MayLeave (KeptBy H.keeps) H.counts seat.old.seat.me.0 result × (slice_index (H.counts result) seat.old.seat.me.0.number ≡ seat.old.seat.me.0.word) }
+        ensures counts { MayLeave (KeptBy H.keeps) H.counts seat.old.seat.me.0 result ×
+            (slice_index (H.counts result) seat.old.seat.me.0.number ≡ seat.old.seat.me.0.word) }
     {
         self.table.shared.load::<Fetch<H, P>>(&mut seat.seat, 0);
         let found = self.table.shared.exchange(&mut seat.seat, 0, None);
@@ -71,7 +76,8 @@ impl<H: Holder<P>, P> Turn<H, P> {
     pub(crate) fn store(&self, seat: &mut TurnSeat<H, P>, word: u64)
         requires own { seat.old.seat.table_id ≡ self.now.table.shared.table_id }
         requires out { seat.old.seat.me.0.stage ≡ Out }
-        ensures own { (seat.new.seat.table_id ≡ seat.old.seat.table_id) × (seat.new.seat.id ≡ seat.old.seat.id) × (seat.new.number ≡ seat.old.number) × (seat.new.made ≡ seat.old.made) }
+        ensures own { (seat.new.seat.table_id ≡ seat.old.seat.table_id) × (seat.new.seat.id ≡ seat.old.seat.id) ×
+            (seat.new.number ≡ seat.old.number) × (seat.new.made ≡ seat.old.made) }
         ensures worded { seat.new.seat.me ≡ (worded word seat.old.seat.me.0, seat.old.seat.me.1) }
     {
         let number = seat.number as usize;
@@ -84,8 +90,10 @@ impl<H: Holder<P>, P> Turn<H, P> {
     pub(crate) fn give_back(&self, seat: &mut TurnSeat<H, P>, holder: H)
         requires own { seat.old.seat.table_id ≡ self.now.table.shared.table_id }
         requires out { (seat.old.seat.me.0.stage ≡ Out) × (seat.old.seat.me.1 ≡ (0, None) ∷ []) }
-        requires keeps { IsComplete seat.old.seat.me.0 × MayLeave (KeptBy H.keeps) H.counts seat.old.seat.me.0 holder × (slice_index (H.counts holder) seat.old.seat.me.0.number ≡ seat.old.seat.me.0.word) }
-        ensures own { (seat.new.seat.table_id ≡ seat.old.seat.table_id) × (seat.new.seat.id ≡ seat.old.seat.id) × (seat.new.number ≡ seat.old.number) × (seat.new.made ≡ seat.old.made) }
+        requires keeps { IsComplete seat.old.seat.me.0 × MayLeave (KeptBy H.keeps) H.counts seat.old.seat.me.0 holder ×
+            (slice_index (H.counts holder) seat.old.seat.me.0.number ≡ seat.old.seat.me.0.word) }
+        ensures own { (seat.new.seat.table_id ≡ seat.old.seat.table_id) × (seat.new.seat.id ≡ seat.old.seat.id) ×
+            (seat.new.number ≡ seat.old.number) × (seat.new.made ≡ seat.old.made) }
         ensures away { seat.new.seat.me ≡ (away seat.old.seat.me.0, []) }
     {
         let empty = self.table.shared.exchange(&mut seat.seat, 0, Some(holder));

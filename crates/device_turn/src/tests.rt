@@ -39,7 +39,8 @@ fn count_one<R: Wait>(rt: &R, turn: &CountersTurn, seat: &mut CountersSeat)
 fn wait_for<R: Wait>(rt: &R, turn: &CountersTurn, seat: &mut CountersSeat, other: u64, least: u64)
     requires own { seat.old.seat.table_id ≡ turn.now.table.shared.table_id }
     requires other { other < 6 }
-    ensures { (seat.new.seat.table_id ≡ seat.old.seat.table_id) × (seat.new.number ≡ seat.old.number) × (seat.new.made ≡ seat.old.made) × (seat.new.seat.me ≡ seat.old.seat.me) }
+    ensures { (seat.new.seat.table_id ≡ seat.old.seat.table_id) × (seat.new.number ≡ seat.old.number) × (seat.new.made ≡ seat.old.made) ×
+        (seat.new.seat.me ≡ seat.old.seat.me) }
 {
     for _ in rt.forever() {
         if turn.seen(seat, other) >= least {
@@ -103,11 +104,16 @@ fn four_count<R: Threads + Wait + Sync>(
     second: CountersPair,
     turns: u64,
 ) -> (CountersPair, CountersPair)
-    requires first { (first.0.seat.table_id ≡ turn.now.table.shared.table_id) × IsAway first.0.seat.me × (first.1.seat.table_id ≡ turn.now.table.shared.table_id) × IsAway first.1.seat.me }
-    requires second { (second.0.seat.table_id ≡ turn.now.table.shared.table_id) × IsAway second.0.seat.me × (second.1.seat.table_id ≡ turn.now.table.shared.table_id) × IsAway second.1.seat.me }
-    ensures first { (result.0.0.seat.table_id ≡ turn.now.table.shared.table_id) × IsAway result.0.0.seat.me × (result.0.1.seat.table_id ≡ turn.now.table.shared.table_id) × IsAway result.0.1.seat.me }
-    ensures second { (result.1.0.seat.table_id ≡ turn.now.table.shared.table_id) × IsAway result.1.0.seat.me × (result.1.1.seat.table_id ≡ turn.now.table.shared.table_id) × IsAway result.1.1.seat.me }
-    ensures numbers { (result.0.0.number ≡ first.0.number) × (result.0.1.number ≡ first.1.number) × (result.1.0.number ≡ second.0.number) × (result.1.1.number ≡ second.1.number) }
+    requires first { (first.0.seat.table_id ≡ turn.now.table.shared.table_id) × IsAway first.0.seat.me ×
+        (first.1.seat.table_id ≡ turn.now.table.shared.table_id) × IsAway first.1.seat.me }
+    requires second { (second.0.seat.table_id ≡ turn.now.table.shared.table_id) × IsAway second.0.seat.me ×
+        (second.1.seat.table_id ≡ turn.now.table.shared.table_id) × IsAway second.1.seat.me }
+    ensures first { (result.0.0.seat.table_id ≡ turn.now.table.shared.table_id) × IsAway result.0.0.seat.me ×
+        (result.0.1.seat.table_id ≡ turn.now.table.shared.table_id) × IsAway result.0.1.seat.me }
+    ensures second { (result.1.0.seat.table_id ≡ turn.now.table.shared.table_id) × IsAway result.1.0.seat.me ×
+        (result.1.1.seat.table_id ≡ turn.now.table.shared.table_id) × IsAway result.1.1.seat.me }
+    ensures numbers { (result.0.0.number ≡ first.0.number) × (result.0.1.number ≡ first.1.number) × (result.1.0.number ≡ second.0.number) ×
+        (result.1.1.number ≡ second.1.number) }
     ensures same { (result.0.0.made ≡ first.0.made) × (result.0.0.seat.me.0.joined ≡ first.0.seat.me.0.joined) }
 {
     let (one, two) = first;
@@ -115,12 +121,18 @@ fn four_count<R: Threads + Wait + Sync>(
     join(
         rt,
         || -> CountersPair
-            requires { IsSync R.row × (one.seat.table_id ≡ turn.now.table.shared.table_id) × IsAway one.seat.me × (two.seat.table_id ≡ turn.now.table.shared.table_id) × IsAway two.seat.me }
-            ensures { (result.0.seat.table_id ≡ turn.entry.now.table.shared.table_id) × IsAway result.0.seat.me × (result.1.seat.table_id ≡ turn.entry.now.table.shared.table_id) × IsAway result.1.seat.me × (result.0.number ≡ one.number) × (result.1.number ≡ two.number) × (result.0.made ≡ one.made) × (result.0.seat.me.0.joined ≡ one.seat.me.0.joined) }
+            requires { IsSync R.row × (one.seat.table_id ≡ turn.now.table.shared.table_id) × IsAway one.seat.me ×
+                (two.seat.table_id ≡ turn.now.table.shared.table_id) × IsAway two.seat.me }
+            ensures { (result.0.seat.table_id ≡ turn.entry.now.table.shared.table_id) × IsAway result.0.seat.me ×
+                (result.1.seat.table_id ≡ turn.entry.now.table.shared.table_id) × IsAway result.1.seat.me × (result.0.number ≡ one.number) ×
+                (result.1.number ≡ two.number) × (result.0.made ≡ one.made) × (result.0.seat.me.0.joined ≡ one.seat.me.0.joined) }
         { two_count(rt, turn, one, two, turns) },
         || -> CountersPair
-            requires { IsSync R.row × (three.seat.table_id ≡ turn.now.table.shared.table_id) × IsAway three.seat.me × (four.seat.table_id ≡ turn.now.table.shared.table_id) × IsAway four.seat.me }
-            ensures { (result.0.seat.table_id ≡ turn.entry.now.table.shared.table_id) × IsAway result.0.seat.me × (result.1.seat.table_id ≡ turn.entry.now.table.shared.table_id) × IsAway result.1.seat.me × (result.0.number ≡ three.number) × (result.1.number ≡ four.number) }
+            requires { IsSync R.row × (three.seat.table_id ≡ turn.now.table.shared.table_id) × IsAway three.seat.me ×
+                (four.seat.table_id ≡ turn.now.table.shared.table_id) × IsAway four.seat.me }
+            ensures { (result.0.seat.table_id ≡ turn.entry.now.table.shared.table_id) × IsAway result.0.seat.me ×
+                (result.1.seat.table_id ≡ turn.entry.now.table.shared.table_id) × IsAway result.1.seat.me × (result.0.number ≡ three.number) ×
+                (result.1.number ≡ four.number) }
         { two_count(rt, turn, three, four, turns) },
     )
 }
@@ -134,25 +146,43 @@ fn six_count<R: Threads + Wait + Sync>(
     third: CountersPair,
     turns: u64,
 ) -> ((CountersPair, CountersPair), CountersPair)
-    requires first { (first.0.seat.table_id ≡ turn.now.table.shared.table_id) × IsAway first.0.seat.me × (first.1.seat.table_id ≡ turn.now.table.shared.table_id) × IsAway first.1.seat.me }
-    requires second { (second.0.seat.table_id ≡ turn.now.table.shared.table_id) × IsAway second.0.seat.me × (second.1.seat.table_id ≡ turn.now.table.shared.table_id) × IsAway second.1.seat.me }
-    requires third { (third.0.seat.table_id ≡ turn.now.table.shared.table_id) × IsAway third.0.seat.me × (third.1.seat.table_id ≡ turn.now.table.shared.table_id) × IsAway third.1.seat.me }
-    ensures first { (result.0.0.0.seat.table_id ≡ turn.now.table.shared.table_id) × IsAway result.0.0.0.seat.me × (result.0.0.1.seat.table_id ≡ turn.now.table.shared.table_id) × IsAway result.0.0.1.seat.me }
-    ensures second { (result.0.1.0.seat.table_id ≡ turn.now.table.shared.table_id) × IsAway result.0.1.0.seat.me × (result.0.1.1.seat.table_id ≡ turn.now.table.shared.table_id) × IsAway result.0.1.1.seat.me }
-    ensures third { (result.1.0.seat.table_id ≡ turn.now.table.shared.table_id) × IsAway result.1.0.seat.me × (result.1.1.seat.table_id ≡ turn.now.table.shared.table_id) × IsAway result.1.1.seat.me }
-    ensures numbers { (result.0.0.0.number ≡ first.0.number) × (result.0.0.1.number ≡ first.1.number) × (result.0.1.0.number ≡ second.0.number) × (result.0.1.1.number ≡ second.1.number) × (result.1.0.number ≡ third.0.number) × (result.1.1.number ≡ third.1.number) }
+    requires first { (first.0.seat.table_id ≡ turn.now.table.shared.table_id) × IsAway first.0.seat.me ×
+        (first.1.seat.table_id ≡ turn.now.table.shared.table_id) × IsAway first.1.seat.me }
+    requires second { (second.0.seat.table_id ≡ turn.now.table.shared.table_id) × IsAway second.0.seat.me ×
+        (second.1.seat.table_id ≡ turn.now.table.shared.table_id) × IsAway second.1.seat.me }
+    requires third { (third.0.seat.table_id ≡ turn.now.table.shared.table_id) × IsAway third.0.seat.me ×
+        (third.1.seat.table_id ≡ turn.now.table.shared.table_id) × IsAway third.1.seat.me }
+    ensures first { (result.0.0.0.seat.table_id ≡ turn.now.table.shared.table_id) × IsAway result.0.0.0.seat.me ×
+        (result.0.0.1.seat.table_id ≡ turn.now.table.shared.table_id) × IsAway result.0.0.1.seat.me }
+    ensures second { (result.0.1.0.seat.table_id ≡ turn.now.table.shared.table_id) × IsAway result.0.1.0.seat.me ×
+        (result.0.1.1.seat.table_id ≡ turn.now.table.shared.table_id) × IsAway result.0.1.1.seat.me }
+    ensures third { (result.1.0.seat.table_id ≡ turn.now.table.shared.table_id) × IsAway result.1.0.seat.me ×
+        (result.1.1.seat.table_id ≡ turn.now.table.shared.table_id) × IsAway result.1.1.seat.me }
+    ensures numbers { (result.0.0.0.number ≡ first.0.number) × (result.0.0.1.number ≡ first.1.number) × (result.0.1.0.number ≡ second.0.number) ×
+        (result.0.1.1.number ≡ second.1.number) × (result.1.0.number ≡ third.0.number) × (result.1.1.number ≡ third.1.number) }
     ensures same { (result.0.0.0.made ≡ first.0.made) × (result.0.0.0.seat.me.0.joined ≡ first.0.seat.me.0.joined) }
 {
     let (five, six) = third;
     join(
         rt,
         || -> (CountersPair, CountersPair)
-            requires { IsSync R.row × (first.0.seat.table_id ≡ turn.now.table.shared.table_id) × IsAway first.0.seat.me × (first.1.seat.table_id ≡ turn.now.table.shared.table_id) × IsAway first.1.seat.me × (second.0.seat.table_id ≡ turn.now.table.shared.table_id) × IsAway second.0.seat.me × (second.1.seat.table_id ≡ turn.now.table.shared.table_id) × IsAway second.1.seat.me }
-            ensures { (result.0.0.seat.table_id ≡ turn.entry.now.table.shared.table_id) × IsAway result.0.0.seat.me × (result.0.1.seat.table_id ≡ turn.entry.now.table.shared.table_id) × IsAway result.0.1.seat.me × (result.1.0.seat.table_id ≡ turn.entry.now.table.shared.table_id) × IsAway result.1.0.seat.me × (result.1.1.seat.table_id ≡ turn.entry.now.table.shared.table_id) × IsAway result.1.1.seat.me × (result.0.0.number ≡ first.0.number) × (result.0.1.number ≡ first.1.number) × (result.1.0.number ≡ second.0.number) × (result.1.1.number ≡ second.1.number) × (result.0.0.made ≡ first.0.made) × (result.0.0.seat.me.0.joined ≡ first.0.seat.me.0.joined) }
+            requires { IsSync R.row × (first.0.seat.table_id ≡ turn.now.table.shared.table_id) × IsAway first.0.seat.me ×
+                (first.1.seat.table_id ≡ turn.now.table.shared.table_id) × IsAway first.1.seat.me ×
+                (second.0.seat.table_id ≡ turn.now.table.shared.table_id) × IsAway second.0.seat.me ×
+                (second.1.seat.table_id ≡ turn.now.table.shared.table_id) × IsAway second.1.seat.me }
+            ensures { (result.0.0.seat.table_id ≡ turn.entry.now.table.shared.table_id) × IsAway result.0.0.seat.me ×
+                (result.0.1.seat.table_id ≡ turn.entry.now.table.shared.table_id) × IsAway result.0.1.seat.me ×
+                (result.1.0.seat.table_id ≡ turn.entry.now.table.shared.table_id) × IsAway result.1.0.seat.me ×
+                (result.1.1.seat.table_id ≡ turn.entry.now.table.shared.table_id) × IsAway result.1.1.seat.me × (result.0.0.number ≡ first.0.number) ×
+                (result.0.1.number ≡ first.1.number) × (result.1.0.number ≡ second.0.number) × (result.1.1.number ≡ second.1.number) ×
+                (result.0.0.made ≡ first.0.made) × (result.0.0.seat.me.0.joined ≡ first.0.seat.me.0.joined) }
         { four_count(rt, turn, first, second, turns) },
         || -> CountersPair
-            requires { IsSync R.row × (five.seat.table_id ≡ turn.now.table.shared.table_id) × IsAway five.seat.me × (six.seat.table_id ≡ turn.now.table.shared.table_id) × IsAway six.seat.me }
-            ensures { (result.0.seat.table_id ≡ turn.entry.now.table.shared.table_id) × IsAway result.0.seat.me × (result.1.seat.table_id ≡ turn.entry.now.table.shared.table_id) × IsAway result.1.seat.me × (result.0.number ≡ five.number) × (result.1.number ≡ six.number) }
+            requires { IsSync R.row × (five.seat.table_id ≡ turn.now.table.shared.table_id) × IsAway five.seat.me ×
+                (six.seat.table_id ≡ turn.now.table.shared.table_id) × IsAway six.seat.me }
+            ensures { (result.0.seat.table_id ≡ turn.entry.now.table.shared.table_id) × IsAway result.0.seat.me ×
+                (result.1.seat.table_id ≡ turn.entry.now.table.shared.table_id) × IsAway result.1.seat.me × (result.0.number ≡ five.number) ×
+                (result.1.number ≡ six.number) }
         { two_count(rt, turn, five, six, turns) },
     )
 }
@@ -162,7 +192,8 @@ fn take_in(turn: &CountersTurn, seat: &mut CountersSeat, gone: CountersSeat)
     requires own { (seat.old.seat.table_id ≡ turn.now.table.shared.table_id) × (gone.seat.table_id ≡ turn.now.table.shared.table_id) }
     requires rests { IsAway gone.seat.me }
     requires before { (k : ℕ) → 0 < k → k < gone.number → has k seat.old.seat.me.0.joined ≡ true }
-    ensures own { (seat.new.seat.table_id ≡ seat.old.seat.table_id) × (seat.new.number ≡ seat.old.number) × (seat.new.made ≡ seat.old.made) × (seat.new.seat.me.0.stage ≡ seat.old.seat.me.0.stage) }
+    ensures own { (seat.new.seat.table_id ≡ seat.old.seat.table_id) × (seat.new.number ≡ seat.old.number) × (seat.new.made ≡ seat.old.made) ×
+        (seat.new.seat.me.0.stage ≡ seat.old.seat.me.0.stage) }
     ensures after { (k : ℕ) → 0 < k → k < gone.number + 1 → has k seat.new.seat.me.0.joined ≡ true }
 {
     turn.join(seat, gone);

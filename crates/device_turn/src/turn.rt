@@ -23,7 +23,8 @@ impl<H: Holder<P>, P> Turn<H, P> {
     ) -> Result<(Turn<H, P>, TurnSeat<H, P>), (NoMemory, H)>
         requires keeps { H.keeps pledge.now holder }
         requires unused { H.counts holder ≡ zeros }
-        ensures seat { IfOk result (λ r. (r.1.seat.table_id ≡ r.0.table.shared.table_id) × (r.1.number ≡ 0) × (r.1.made ≡ 1) × (r.1.seat.me ≡ (view 0 1 (Some pledge.now), []))) }
+        ensures seat { IfOk result (λ r. (r.1.seat.table_id ≡ r.0.table.shared.table_id) × (r.1.number ≡ 0) × (r.1.made ≡ 1) ×
+            (r.1.seat.me ≡ (view 0 1 (Some pledge.now), []))) }
         ensures same { IfErr result (λ e. e.1 ≡ holder) }
     {
         let mut slots = Vec::new(alloc);
@@ -49,7 +50,8 @@ impl<H: Holder<P>, P> Turn<H, P> {
         requires own { seat.old.seat.table_id ≡ self.now.table.shared.table_id }
         requires first { seat.old.number ≡ 0 }
         requires room { seat.old.made < 6 }
-        ensures own { (seat.new.seat.table_id ≡ seat.old.seat.table_id) × (seat.new.seat.id ≡ seat.old.seat.id) × (seat.new.number ≡ seat.old.number) × (seat.new.made ≡ seat.old.made + 1) }
+        ensures own { (seat.new.seat.table_id ≡ seat.old.seat.table_id) × (seat.new.seat.id ≡ seat.old.seat.id) ×
+            (seat.new.number ≡ seat.old.number) × (seat.new.made ≡ seat.old.made + 1) }
         ensures same { seat.new.seat.me ≡ (counted seat.old.seat.me.0, seat.old.seat.me.1) }
         ensures new { (result.seat.table_id ≡ seat.old.seat.table_id) × (result.number ≡ seat.old.made) × (result.seat.me ≡ (newcomer seat.old.seat.me.0, [])) }
     {
@@ -67,7 +69,8 @@ impl<H: Holder<P>, P> Turn<H, P> {
     pub fn join(&self, seat: &mut TurnSeat<H, P>, gone: TurnSeat<H, P>)
         requires own { (seat.old.seat.table_id ≡ self.now.table.shared.table_id) × (gone.seat.table_id ≡ self.now.table.shared.table_id) }
         requires rests { IsAway gone.seat.me }
-        ensures own { (seat.new.seat.table_id ≡ seat.old.seat.table_id) × (seat.new.seat.id ≡ seat.old.seat.id) × (seat.new.number ≡ seat.old.number) × (seat.new.made ≡ seat.old.made) }
+        ensures own { (seat.new.seat.table_id ≡ seat.old.seat.table_id) × (seat.new.seat.id ≡ seat.old.seat.id) ×
+            (seat.new.number ≡ seat.old.number) × (seat.new.made ≡ seat.old.made) }
         ensures both { seat.new.seat.me ≡ (both seat.old.seat.me.0 gone.seat.me.0, seat.old.seat.me.1) }
     {
         let TurnSeat {
@@ -85,7 +88,8 @@ impl<H: Holder<P>, P> Turn<H, P> {
     pub fn enter(&self, seat: &mut TurnSeat<H, P>) -> Enter<H>
         requires own { seat.old.seat.table_id ≡ self.now.table.shared.table_id }
         requires away { IsAway seat.old.seat.me }
-        ensures own { (seat.new.seat.table_id ≡ seat.old.seat.table_id) × (seat.new.seat.id ≡ seat.old.seat.id) × (seat.new.number ≡ seat.old.number) × (seat.new.made ≡ seat.old.made) }
+        ensures own { (seat.new.seat.table_id ≡ seat.old.seat.table_id) × (seat.new.seat.id ≡ seat.old.seat.id) ×
+            (seat.new.number ≡ seat.old.number) × (seat.new.made ≡ seat.old.made) }
         ensures entered { Entered (KeptBy H.keeps) H.counts seat.old.seat.me seat.new.seat.me result }
     {
         let found = self.take(seat);
@@ -101,7 +105,8 @@ impl<H: Holder<P>, P> Turn<H, P> {
         requires own { seat.old.seat.table_id ≡ self.now.table.shared.table_id }
         requires out { IsOut seat.old.seat.me }
         requires keeps { MayLeave (KeptBy H.keeps) H.counts seat.old.seat.me.0 holder }
-        ensures own { (seat.new.seat.table_id ≡ seat.old.seat.table_id) × (seat.new.seat.id ≡ seat.old.seat.id) × (seat.new.number ≡ seat.old.number) × (seat.new.made ≡ seat.old.made) }
+        ensures own { (seat.new.seat.table_id ≡ seat.old.seat.table_id) × (seat.new.seat.id ≡ seat.old.seat.id) ×
+            (seat.new.number ≡ seat.old.number) × (seat.new.made ≡ seat.old.made) }
         ensures away { seat.new.seat.me ≡ (away (worded (slice_index (H.counts holder) seat.old.number) seat.old.seat.me.0), []) }
     {
         let word = holder.count(seat.number);
@@ -113,7 +118,8 @@ impl<H: Holder<P>, P> Turn<H, P> {
     pub fn seen(&self, seat: &mut TurnSeat<H, P>, other: u64) -> u64
         requires own { seat.old.seat.table_id ≡ self.now.table.shared.table_id }
         requires other { other < 6 }
-        ensures same { (seat.new.seat.table_id ≡ seat.old.seat.table_id) × (seat.new.seat.id ≡ seat.old.seat.id) × (seat.new.number ≡ seat.old.number) × (seat.new.made ≡ seat.old.made) × (seat.new.seat.me ≡ seat.old.seat.me) }
+        ensures same { (seat.new.seat.table_id ≡ seat.old.seat.table_id) × (seat.new.seat.id ≡ seat.old.seat.id) ×
+            (seat.new.number ≡ seat.old.number) × (seat.new.made ≡ seat.old.made) × (seat.new.seat.me ≡ seat.old.seat.me) }
         ensures loaded { Agrees other result seat.old.seat.me.0.loaded }
         ensures owned { Agrees other result (owned seat.old.seat.me.0) }
     {

@@ -24,6 +24,8 @@ pub struct View<Q> {
     pub pledge: Q,
 }
 
+/// What is kept of a table while a holder of this kind goes round: the rule between any two steps, and what each step tells
+/// its seat.
 pub struct Keeping<H: Holder<P>, P> {
     holder: PhantomData<(H, P)>,
 }

@@ -50,7 +50,8 @@ impl<V: Volume> DuplexPair<V> {
         ensures other { other_of self.new.volumes side ≡ other_of self.old.volumes side }
         ensures before { IsThere (volume_of self.old.volumes side) }
         ensures there { IsThere (volume_of self.new.volumes side) }
-        ensures read { ReadOf (view_in V.view (volume_of self.old.volumes side)) t (delivery result into.new) (view_in V.view (volume_of self.new.volumes side)) }
+        ensures read { ReadOf (view_in V.view (volume_of self.old.volumes side)) t (delivery result into.new)
+            (view_in V.view (volume_of self.new.volumes side)) }
     {
         match side {
             Side::A => read_volume(&mut self.volumes.a, t, into),

@@ -1,5 +1,6 @@
 -- Counts of marks, where one more or one less is marked.
-use Rattle.std.proofs.Common.{◌≡◌, ◌∙◌, ◌+◌, ◌<◌, ◌≤◌, ◌==◌, ◌⊎◌, ℕ, zero, suc, inl, inr, Bool, true, false, List, Option, None, Some, refl, sym, ap, arith, take, length}
+use Rattle.std.proofs.Common.{◌≡◌, ◌∙◌, ◌+◌, ◌<◌, ◌≤◌, ◌==◌, ◌⊎◌, ℕ, zero, suc, inl, inr, Bool, true}
+use Rattle.std.proofs.Common.{false, List, Option, None, Some, refl, sym, ap, arith, take, length}
 use Rattle.std.specs.Prelude.{if◌then◌else◌, slice_index_or, replicate, is_some}
 use Rattle.std.proofs.lemmas.Bool.{cases_eq, cases_lt, eq-eqb, ne_eqb}
 use Rattle.track_table.specs.Tracks as tracks

@@ -1,4 +1,5 @@
-ghost use Rattle.std.specs.Prelude.{◌≡◌, ℕ, ◌*◌, ◌+◌, ◌++◌, ◌<◌, ◌≤◌, [], ◌∷◌, OnOk, false, true, is_some, if◌then◌else◌, length, replicate, slice_index_or, slice_set};
+ghost use Rattle.std.specs.Prelude.{◌≡◌, ℕ, ◌*◌, ◌+◌, ◌++◌, ◌<◌, ◌≤◌, [], ◌∷◌, OnOk, false, true, is_some};
+ghost use Rattle.std.specs.Prelude.{if◌then◌else◌, length, replicate, slice_index_or, slice_set};
 ghost use Rattle.plain_defs.specs.declared.journal.Act.TheVariants.{Loosen, Harden, CfwLost};
 ghost use Rattle.track_table.specs.Bits.{is_marked};
 ghost use Rattle.track_table.specs.Tracks.{least};
@@ -30,7 +31,8 @@ impl Model for LooseTracks {
 
     ghost view = { λ l. record { loose = take l.tracks l.marks; acts = l.acts.items; spare = vec_capacity l.acts - vec_len l.acts } };
 
-    ghost invariant = { λ l. (l.tracks ≤ 960) × (length l.marks ≡ 960) × ((t : ℕ) → l.tracks ≤ t → is_marked l.marks t ≡ false) × (count_below 960 (is_marked l.marks) + vec_len l.acts ≤ vec_capacity l.acts) };
+    ghost invariant = { λ l. (l.tracks ≤ 960) × (length l.marks ≡ 960) × ((t : ℕ) → l.tracks ≤ t → is_marked l.marks t ≡ false) ×
+        (count_below 960 (is_marked l.marks) + vec_len l.acts ≤ vec_capacity l.acts) };
 }
 
 impl LooseTracks {

@@ -1,5 +1,7 @@
 ghost use Rattle.std.specs.Prelude.{◌≡◌, Some, true, false, IfOk, MatchOption, ◌<◌, OnOk, OnErr, ◌∷◌, option_map, slice_get, sum};
-ghost use Rattle.device_outside.specs.Pool.{NextNotice, Touch, WantFrame, SetModified, SetClean, DropFrame, WantSlot, FreeSlot, TellWaiting, in_front, is_listed, has_room, victim, without, noted, new_pool, cache_failed, store_failed, power_lost, all_waiting};
+ghost use Rattle.device_outside.specs.Pool.{NextNotice, Touch, WantFrame, SetModified, SetClean, DropFrame, WantSlot, FreeSlot, TellWaiting};
+ghost use Rattle.device_outside.specs.Pool.{in_front, is_listed, has_room, victim, without, noted, new_pool, cache_failed, store_failed, power_lost};
+ghost use Rattle.device_outside.specs.Pool.{all_waiting};
 ghost use Rattle.device_outside.specs.Volume.{counted};
 ghost use Rattle.frame_pool.specs.Shared.{Shared, shared_view, Repairs};
 
@@ -39,7 +41,19 @@ impl Model for Pool {
 
     ghost Value = { Shared };
 
-    ghost view = { λ p. record { pool = record { frames = p.frames.entries; room = p.room; notes = p.notes; waiting = p.waiting; slots = p.slots.slots; used = p.slots.used; cache_up = p.cache_up; store_up = p.slots.up }; denials = p.denials } };
+    ghost view = { λ p. record {
+      pool = record {
+        frames = p.frames.entries;
+        room = p.room;
+        notes = p.notes;
+        waiting = p.waiting;
+        slots = p.slots.slots;
+        used = p.slots.used;
+        cache_up = p.cache_up;
+        store_up = p.slots.up;
+      };
+      denials = p.denials;
+    } };
 
     ghost invariant = { λ p. (length p.frames.entries ≤ p.room) × (p.frames.cap ≡ p.room + 1) };
 }
@@ -71,12 +85,14 @@ impl Pool {
         })
     }
 
+    /// Whether the cache is up: while it isn't, no frame is given.
     pub fn cache_up(&self) -> bool
         ensures { result ≡ self.now.pool.cache_up }
     {
         self.cache_up
     }
 
+    /// Whether the nonvolatile store is up: while it isn't, no slot is given.
     pub fn store_up(&self) -> bool
         ensures { result ≡ self.now.pool.store_up }
     {
@@ -99,6 +115,7 @@ impl Pool {
         self.cache_up = false;
     }
 
+    /// The nonvolatile store is lost. Its slots stay in use until the devices free them, patch by patch.
     pub fn fail_store(&mut self)
         ensures { self.new ≡ record self.old { pool = store_failed self.old.pool } }
     {
@@ -186,7 +203,12 @@ impl Pool {
     fn put_over(&mut self, place: Place, old: Place) -> Result<(), NoMemory>
         requires new { is_listed self.old.pool.frames place.0 place.1 ≡ false }
         requires victim { victim self.old.pool.frames ≡ Some old }
-        ensures done { OnOk result (self.new ≡ record self.old { pool = record self.old.pool { frames = (place, false) ∷ without self.old.pool.frames old.0 old.1; notes = noted self.old.pool.notes (Some old) } }) }
+        ensures done { OnOk result (self.new ≡ record self.old {
+          pool = record self.old.pool {
+            frames = (place, false) ∷ without self.old.pool.frames old.0 old.1;
+            notes = noted self.old.pool.notes (Some old);
+          };
+        }) }
         ensures same { OnErr result (self.new ≡ self.old) }
     {
         put_over(&mut self.frames, &mut self.notes, place, old)

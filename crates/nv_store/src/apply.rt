@@ -99,7 +99,8 @@ fn cut_behind(
     requires place { last < length image.old.track.records }
     requires some { 0 < length behind.now }
     requires fit { is_fit image.old.geometry (take (last + 1) image.old.track.records ++ behind.now) ≡ true }
-    ensures { OnOk result (image.new ≡ record image.old { track = record image.old.track { records = take (last + 1) image.old.track.records ++ behind.now } }) }
+    ensures { OnOk result (image.new ≡
+        record image.old { track = record image.old.track { records = take (last + 1) image.old.track.records ++ behind.now } }) }
 {
     put_copy(alloc, image, last, &behind[0])?;
     put_copies(alloc, image, &behind[1..])

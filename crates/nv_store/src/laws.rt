@@ -20,12 +20,14 @@ pub fn twice_is_once()
 
 /// Where a patch of some edits is not unfit for an image, it does what they do one after the other.
 pub fn edits_in_order()
-    ensures { (es : List Edit) (i out : Image) → applied (all_added no_edits es) i ≡ Some out → out ≡ record i { track = record i.track { records = all_edited es i.track.records } } }
+    ensures { (es : List Edit) (i out : Image) → applied (all_added no_edits es) i ≡ Some out →
+        out ≡ record i { track = record i.track { records = all_edited es i.track.records } } }
 {}
 
 /// A patch with one more edit, which suits the patched track, applies and gives the edited track.
 pub fn one_more()
-    ensures { (p : PatchView) (e : Edit) (i out : Image) → IsPatch p → applied p i ≡ Some out → Suits out.geometry out.track.records e → HasRanges e → applied (added p e) i ≡ Some (edited_image e out) }
+    ensures { (p : PatchView) (e : Edit) (i out : Image) → IsPatch p → applied p i ≡ Some out → Suits out.geometry out.track.records e → HasRanges e →
+        applied (added p e) i ≡ Some (edited_image e out) }
 {}
 
 /// The test of a patch's result is that the track fits, where its home address has its range.
@@ -35,5 +37,6 @@ pub fn fit_is_tested()
 
 /// The test of a replacement is that it suits the records as an update does.
 pub fn update_is_tested()
-    ensures { (records : List Record) (index : ℕ) (key body : List ℕ) → (has_lengths records index (length key) (length body) ≡ true) ↔ IsUpdate records index key body }
+    ensures { (records : List Record) (index : ℕ) (key body : List ℕ) →
+        (has_lengths records index (length key) (length body) ≡ true) ↔ IsUpdate records index key body }
 {}

@@ -65,7 +65,8 @@ impl Model for Patch {
 
     ghost view = { λ p. record { replaced = p.replaced.items; kept = p.kept; behind = p.behind.items } };
 
-    ghost invariant = { λ p. IsPatch (record { replaced = p.replaced.items; kept = p.kept; behind = p.behind.items }) × IsReduced (record { replaced = p.replaced.items; kept = p.kept; behind = p.behind.items }) };
+    ghost invariant = { λ p. IsPatch (record { replaced = p.replaced.items; kept = p.kept; behind = p.behind.items }) ×
+        IsReduced (record { replaced = p.replaced.items; kept = p.kept; behind = p.behind.items }) };
 }
 
 /// Puts a replacement in the place of an older one of its record, in room that was made.
@@ -118,7 +119,8 @@ fn drop_behind(replaced: &mut Vec<Replacement>, after: usize)
 /// Adds an edit in room that was made.
 fn put_edit(replaced: &mut Vec<Replacement>, kept: &mut Kept, behind: &mut Vec<Record>, e: Edit)
     requires { (vec_len replaced.old < vec_capacity replaced.old) × (vec_len behind.old < vec_capacity behind.old) }
-    ensures { record { replaced = replaced.new.items; kept = kept.new; behind = behind.new.items } ≡ added (record { replaced = replaced.old.items; kept = kept.old; behind = behind.old.items }) e }
+    ensures { record { replaced = replaced.new.items; kept = kept.new; behind = behind.new.items } ≡
+        added (record { replaced = replaced.old.items; kept = kept.old; behind = behind.old.items }) e }
 {
     match e {
         Edit::Update { index, key, body } => {

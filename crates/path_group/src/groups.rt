@@ -49,7 +49,8 @@ impl Groups {
 
     /// Set path group ID: establishes, resigns or disbands a group. Nothing changes at a fault.
     pub fn set(&mut self, path: PathNo, function: u8, id: GroupId) -> Result<(), GroupFault>
-        ensures fault { MatchResult result (λ done. group_fault function id (state_in self.old path) ≡ None) (λ fault. group_fault function id (state_in self.old path) ≡ Some fault) }
+        ensures fault { MatchResult result (λ done. group_fault function id (state_in self.old path) ≡ None)
+            (λ fault. group_fault function id (state_in self.old path) ≡ Some fault) }
         ensures set { OnOk result (self.new ≡ paths_set self.old path function id) }
         ensures same { OnErr result (self.new ≡ self.old) }
     {

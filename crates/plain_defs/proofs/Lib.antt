@@ -5,4 +5,3 @@ mod LegalRows
 pub mod JournalLaws
 pub mod HistoryLaws
 pub mod LooseLemmas
-pub mod OwnerLemmas

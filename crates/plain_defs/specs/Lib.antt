@@ -10,4 +10,3 @@ pub mod Legal
 pub mod History
 pub mod Whole
 pub mod Ends
-pub mod Built

@@ -36,9 +36,17 @@ impl Model for PlainDevice {
 
     ghost Value = { PlainState };
 
-    ghost view = { λ d. record { geometry = d.fixed.geometry; cylinders = d.fixed.cylinders; volume = d.volume.tracks; paths = d.paths; loose = loose_of d.loose.items; number = d.fixed.number } };
+    ghost view = { λ d. record {
+      geometry = d.fixed.geometry;
+      cylinders = d.fixed.cylinders;
+      volume = d.volume.tracks;
+      paths = d.paths;
+      loose = loose_of d.loose.items;
+      number = d.fixed.number;
+    } };
 
-    ghost invariant = { λ d. (d.volume.geometry ≡ d.fixed.geometry) × (length d.volume.tracks ≡ d.fixed.cylinders * 15) × All (IsLooseOf d.fixed.geometry (d.fixed.cylinders * 15)) d.loose.items };
+    ghost invariant = { λ d. (d.volume.geometry ≡ d.fixed.geometry) × (length d.volume.tracks ≡ d.fixed.cylinders * 15) ×
+        All (IsLooseOf d.fixed.geometry (d.fixed.cylinders * 15)) d.loose.items };
 }
 
 /// A look at one track: the command is over, or goes on to another one.
@@ -264,7 +272,8 @@ impl PlainDevice {
         requires looking { IsLooking self.now chain.old }
         requires track { first ≡ chain.old.at.stance.track }
         requires on_device { first < self.now.cylinders * 15 }
-        ensures ends { IfOk result (λ done. ComesTo chain.old chain.new done (kept_by self.now.paths path (walk_of self.now chain.old (self.now.cylinders * 15)))) }
+        ensures ends { IfOk result (λ done. ComesTo chain.old chain.new done
+            (kept_by self.now.paths path (walk_of self.now chain.old (self.now.cylinders * 15)))) }
         ensures fits { IfOk result (λ done. IsEditOn self.now done.edit) }
     {
         let mut track = first;

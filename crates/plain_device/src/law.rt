@@ -20,7 +20,8 @@ pub fn is_whole_at_first()
 
 /// Each command of a program leaves it whole.
 pub fn is_whole_behind_a_command()
-    ensures { (f : Fixed) (d : PlainState) (path : ℕ) (s : Stance) (c : Ccw) → f.geometry ≡ d.geometry → GivesBytes c → IsWhole d → IsWhole (behind_effect d (effect_on f d path s c)) }
+    ensures { (f : Fixed) (d : PlainState) (path : ℕ) (s : Stance) (c : Ccw) → f.geometry ≡ d.geometry → GivesBytes c → IsWhole d →
+        IsWhole (behind_effect d (effect_on f d path s c)) }
 {}
 
 /// So do a reset of a path, a new volume, an act on a track of the device, and a power loss.

@@ -76,7 +76,8 @@ impl PlainDevice {
     ) -> Result<(), NoMemory>
         requires between { is_none chain.old.at.next ≡ false → IsBetween self.old chain.old }
         requires on { All (λ a. IsActOn (self.old.cylinders * 15) a.act) acts.now }
-        ensures more { OnOk result ((p : Part) (ccws : List Ccw) → IsAtPart p ccws self.old chain.old ends.old.items → IsAtPart (one_more path ccws acts.now p) ccws self.new chain.new ends.new.items) }
+        ensures more { OnOk result ((p : Part) (ccws : List Ccw) → IsAtPart p ccws self.old chain.old ends.old.items →
+            IsAtPart (one_more path ccws acts.now p) ccws self.new chain.new ends.new.items) }
         ensures same { OnOk result (self.new.cylinders ≡ self.old.cylinders) }
     {
         if chain.over() {

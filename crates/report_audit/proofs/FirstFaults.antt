@@ -183,7 +183,12 @@ tells text deck lines is =
 pub yes_good : (text : List ℕ) → (read_back text ≡ Yes) ↔ IsGood text
 yes_good text = (
   λ told.
-      let r = reported text Yes tt told in record { deck = r.deck; lines = r.lines; is = r.is; report = yes_leads (r.lines + 2) (first_state r.deck) _ r.comes },
+      let r = reported text Yes tt told in record {
+        deck = r.deck;
+        lines = r.lines;
+        is = r.is;
+        report = yes_leads (r.lines + 2) (first_state r.deck) _ r.comes;
+      },
   λ good.
       tells text good.deck good.lines good.is
       ∙ leads_yes (good.lines + 2) (first_state good.deck) (report_lines text good.lines) good.report.end good.report.leads good.report.over,

@@ -128,7 +128,8 @@ comes_behind p text answer front deck comes =
 pub behind_comes : (p : Progress) (text : List ℕ) (answer : AuditStatus) → p.status ≡ None → p.auditor ≡ None → answer ≡ behind p.lines p.deck text
     → Comes p text answer
 behind_comes p text answer front deck is =
-    subst (λ (s : Option AuditStatus). Comes_by s p.auditor p text answer) (sym front) (subst (λ (a : Option Auditor). Comes_by None a p text answer) (sym deck) is)
+    subst (λ (s : Option AuditStatus). Comes_by s p.auditor p text answer) (sym front)
+    (subst (λ (a : Option Auditor). Comes_by None a p text answer) (sym deck) is)
 
 -- a line of the deck is put behind the others
 pub deck_goes : (p : Progress) (line rest : List ℕ) → p.status ≡ None → p.auditor ≡ None → IsOneLine line → bytes_eq line (codes "REPORT") ≡ false

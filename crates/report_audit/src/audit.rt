@@ -2,7 +2,8 @@ ghost use Rattle.std.specs.Prelude.{◌≡◌, ◌<◌, ◌≤◌, ◌+◌, ◌+
 ghost use Rattle.report_auditor.specs.declared.status.AuditStatus.{AuditStatus as Answer};
 ghost use Rattle.report_audit.specs.Lines.{IsOneLine};
 ghost use Rattle.deck_text.specs.Parse.{parsed};
-ghost use Rattle.report_audit.specs.Progress.{Comes, GoesOn, JudgedIn, begun, deck_end, fault_answer, is_answer, is_over, is_reporting, may_be, report_end, status_of};
+ghost use Rattle.report_audit.specs.Progress.{Comes, GoesOn, JudgedIn, begun, deck_end, fault_answer, is_answer};
+ghost use Rattle.report_audit.specs.Progress.{is_over, is_reporting, may_be, report_end, status_of};
 
 use crate::line::judge_text;
 use ckd_types::NoMemory;

@@ -1,6 +1,7 @@
 -- An auditor is that of the lines of a report so far: it keeps each device of the deck as they make it, the events that are left, and
 -- what is due.
-use Rattle.std.specs.Prelude.{◌≡◌, ◌≤◌, ℕ, ◌+◌, ◌==◌, ◌&&◌, ◌||◌, not, nat_lt, Bool, true, false, zero, suc, List, [], ◌∷◌, drop, length, map, slice_get, slice_set, Option, Some, None, Result, Ok, Err, if◌then◌else◌, ⊤}
+use Rattle.std.specs.Prelude.{◌≡◌, ◌≤◌, ℕ, ◌+◌, ◌==◌, ◌&&◌, ◌||◌, not, nat_lt, Bool, true, false, zero, suc, List, [], ◌∷◌}
+use Rattle.std.specs.Prelude.{drop, length, map, slice_get, slice_set, Option, Some, None, Result, Ok, Err, if◌then◌else◌, ⊤}
 use Rattle.deck_text.specs.declared.line.DeviceLine.{DeviceLine}
 use Rattle.deck_text.specs.declared.line.PlannedProgram.{PlannedProgram}
 use Rattle.deck_text.specs.Plans.{plans_of}

@@ -4,11 +4,13 @@ ghost use Rattle.deck_plan.specs.declared.event.EventLine.TheVariants.{Pair, Res
 ghost use Rattle.report_places.specs.declared.state.Did.TheVariants.{Halved};
 ghost use Rattle.report_places.specs.declared.state.Due.TheVariants.{Behind, DataOf, Losses, Next, OverOf, SenseOf};
 ghost use Rattle.report_auditor.specs.declared.auditor.Auditor.{Auditor};
-ghost use Rattle.report_auditor.specs.Auditor.{Fits, FitsTotals, IsAuditOf, IsFor, IsJudged, IsSized, Makes, NoneRuns, gone_on, is_nothing, is_quiet, judged_settled, kept_outline, placed, told_of};
+ghost use Rattle.report_auditor.specs.Auditor.{Fits, FitsTotals, IsAuditOf, IsFor, IsJudged, IsSized, Makes, NoneRuns, gone_on};
+ghost use Rattle.report_auditor.specs.Auditor.{is_nothing, is_quiet, judged_settled, kept_outline, placed, told_of};
 ghost use Rattle.report_places.specs.Place.{IsDueOf, first_event, in_due, in_event, in_next, in_power, is_act_of, worker_of};
 ghost use Rattle.deck_audit.specs.Stands.{in_state};
 ghost use Rattle.deck_audit.specs.Device.{AuditedDevice, device_in};
-ghost use Rattle.deck_audit.specs.History.{act_of_work, done_order, due_made, event_made, harden_made, is_legal, lent_to, loss_made, order_made, power_made, sense_made, shown, totals_made, work_made};
+ghost use Rattle.deck_audit.specs.History.{act_of_work, done_order, due_made, event_made, harden_made, is_legal, lent_to};
+ghost use Rattle.deck_audit.specs.History.{loss_made, order_made, power_made, sense_made, shown, totals_made, work_made};
 ghost use Rattle.deck_audit.specs.State.{AuditState, behind_work, first_state, outlines, over_by, settled_by, then_of, worker_number};
 ghost use Rattle.deck_audit.specs.Task.{task_made};
 ghost use Rattle.report_auditor.specs.Verdict.{judged};
@@ -154,7 +156,8 @@ impl Auditor {
         line: &ReportLine,
         task: Task,
     ) -> Result<bool, NoMemory>
-        ensures { IfOk result (λ good. (s : AuditState) → IsFor self.old s → Fits s d task → Makes good self.new (then_of (device_in s.devices d) (task_made s line.now task))) }
+        ensures { IfOk result (λ good. (s : AuditState) → IsFor self.old s → Fits s d task →
+            Makes good self.new (then_of (device_in s.devices d) (task_made s line.now task))) }
     {
         let at = match place_of(&self.devices, d) {
             Some(at) => at,
@@ -186,7 +189,8 @@ impl Auditor {
         d: DeviceNo,
         line: &ReportLine,
     ) -> Result<bool, NoMemory>
-        ensures { IfOk result (λ good. (s : AuditState) → IsFor self.old s → is_quiet s.due ≡ true → Makes good self.new (event_made s line.now (Start path d))) }
+        ensures { IfOk result (λ good. (s : AuditState) → IsFor self.old s → is_quiet s.due ≡ true →
+            Makes good self.new (event_made s line.now (Start path d))) }
     {
         let good = self.device_line(alloc, d, line, Task::Start(path))?;
         Ok(good)
@@ -194,7 +198,8 @@ impl Auditor {
 
     /// The first line of a piece of work of the device.
     fn work_line(&mut self, alloc: Global, d: DeviceNo, line: &ReportLine) -> Result<bool, NoMemory>
-        ensures { IfOk result (λ good. (s : AuditState) → IsFor self.old s → is_quiet s.due ≡ true → worker_number s ≡ Some d → Makes good self.new (then_of (device_in s.devices d) (work_made s line.now))) }
+        ensures { IfOk result (λ good. (s : AuditState) → IsFor self.old s → is_quiet s.due ≡ true → worker_number s ≡ Some d →
+            Makes good self.new (then_of (device_in s.devices d) (work_made s line.now))) }
     {
         let good = self.device_line(alloc, d, line, Task::Work)?;
         Ok(good)
@@ -208,7 +213,8 @@ impl Auditor {
         line: &ReportLine,
         e: CommandEnd,
     ) -> Result<bool, NoMemory>
-        ensures { IfOk result (λ good. (s : AuditState) → IsFor self.old s → s.due ≡ SenseOf e → worker_number s ≡ Some d → Makes good self.new (then_of (device_in s.devices d) (sense_made s line.now e))) }
+        ensures { IfOk result (λ good. (s : AuditState) → IsFor self.old s → s.due ≡ SenseOf e → worker_number s ≡ Some d →
+            Makes good self.new (then_of (device_in s.devices d) (sense_made s line.now e))) }
     {
         let good = self.device_line(alloc, d, line, Task::Sense(e))?;
         Ok(good)
@@ -222,7 +228,8 @@ impl Auditor {
         line: &ReportLine,
         did: Did,
     ) -> Result<bool, NoMemory>
-        ensures { IfOk result (λ good. (s : AuditState) (more : Bool) → IsFor self.old s → s.due ≡ Behind more did → worker_number s ≡ Some d → Makes good self.new (then_of (device_in s.devices d) (act_of_work s line.now did))) }
+        ensures { IfOk result (λ good. (s : AuditState) (more : Bool) → IsFor self.old s → s.due ≡ Behind more did → worker_number s ≡ Some d →
+            Makes good self.new (then_of (device_in s.devices d) (act_of_work s line.now did))) }
     {
         let good = self.device_line(alloc, d, line, Task::Act(did))?;
         Ok(good)
@@ -237,7 +244,9 @@ impl Auditor {
         event: Option<EventLine>,
         did: Did,
     ) -> Result<bool, NoMemory>
-        ensures { IfOk result (λ good. (s : AuditState) (more : Bool) → IsFor self.old s → s.due ≡ Behind more did → worker_number s ≡ Some d → event ≡ first_event s.events → Makes good self.new (then_of (device_in s.devices d) (λ a. Some (settled_by s a did (over_by a did a.history.running))))) }
+        ensures { IfOk result (λ good. (s : AuditState) (more : Bool) → IsFor self.old s → s.due ≡ Behind more did → worker_number s ≡ Some d →
+            event ≡ first_event s.events →
+            Makes good self.new (then_of (device_in s.devices d) (λ a. Some (settled_by s a did (over_by a did a.history.running))))) }
     {
         let good = self.device_line(alloc, d, line, Task::Settle(event, did))?;
         Ok(good)
@@ -252,7 +261,9 @@ impl Auditor {
         event: Option<EventLine>,
         wanted: ReportLine,
     ) -> Result<bool, NoMemory>
-        ensures { IfOk result (λ good. (s : AuditState) → IsFor self.old s → is_quiet s.due ≡ true → worker_number s ≡ Some d → event ≡ first_event s.events → Makes good self.new (then_of (device_in s.devices d) (λ a. shown wanted line.now (behind_work s a Halved)))) }
+        ensures { IfOk result (λ good. (s : AuditState) → IsFor self.old s → is_quiet s.due ≡ true → worker_number s ≡ Some d →
+            event ≡ first_event s.events →
+            Makes good self.new (then_of (device_in s.devices d) (λ a. shown wanted line.now (behind_work s a Halved)))) }
     {
         let good = self.device_line(alloc, d, line, Task::Over(event, wanted))?;
         Ok(good)
@@ -279,7 +290,8 @@ impl Auditor {
         line: &ReportLine,
         t: TrackNo,
     ) -> Result<bool, NoMemory>
-        ensures { IfOk result (λ good. (s : AuditState) → IsFor self.old s → is_quiet s.due ≡ true → Makes good self.new (then_of (device_in s.devices d) (λ a. harden_made s a t Next))) }
+        ensures { IfOk result (λ good. (s : AuditState) → IsFor self.old s → is_quiet s.due ≡ true →
+            Makes good self.new (then_of (device_in s.devices d) (λ a. harden_made s a t Next))) }
     {
         let good = self.device_line(alloc, d, line, Task::Harden(t))?;
         Ok(good)
@@ -287,7 +299,8 @@ impl Auditor {
 
     /// The cache failed: the device's loose tracks go back.
     fn loss_line(&mut self, alloc: Global, d: DeviceNo, line: &ReportLine) -> Result<bool, NoMemory>
-        ensures { IfOk result (λ good. (s : AuditState) → IsFor self.old s → is_quiet s.due ≡ true → Makes good self.new (then_of (device_in s.devices d) (loss_made s line.now))) }
+        ensures { IfOk result (λ good. (s : AuditState) → IsFor self.old s → is_quiet s.due ≡ true →
+            Makes good self.new (then_of (device_in s.devices d) (loss_made s line.now))) }
     {
         let good = self.device_line(alloc, d, line, Task::Loss)?;
         Ok(good)
@@ -301,7 +314,8 @@ impl Auditor {
         line: &ReportLine,
         of: DeviceNo,
     ) -> Result<bool, NoMemory>
-        ensures { IfOk result (λ good. (s : AuditState) → IsFor self.old s → is_quiet s.due ≡ true → Makes good self.new (then_of (device_in s.devices d) (lent_to s of))) }
+        ensures { IfOk result (λ good. (s : AuditState) → IsFor self.old s → is_quiet s.due ≡ true →
+            Makes good self.new (then_of (device_in s.devices d) (lent_to s of))) }
     {
         let good = self.device_line(alloc, d, line, Task::Lend(of))?;
         Ok(good)
@@ -346,7 +360,8 @@ impl Auditor {
         line: &ReportLine,
         wanted: ReportLine,
     ) -> Result<bool, NoMemory>
-        ensures { IfOk result (λ good. (s : AuditState) → IsFor self.old s → is_quiet s.due ≡ true → Makes good self.new (due_made s line.now (OverOf wanted))) }
+        ensures { IfOk result (λ good. (s : AuditState) → IsFor self.old s → is_quiet s.due ≡ true →
+            Makes good self.new (due_made s line.now (OverOf wanted))) }
     {
         let Some(d) = self.worker() else {
             return Ok(false);
@@ -364,7 +379,8 @@ impl Auditor {
         d: DeviceNo,
         line: &ReportLine,
     ) -> Result<bool, NoMemory>
-        ensures { IfOk result (λ good. (s : AuditState) → IsFor self.old s → is_quiet s.due ≡ true → in_event (outlines s) line.now (Reset path d) ≡ true → Makes good self.new (event_made s line.now (Reset path d))) }
+        ensures { IfOk result (λ good. (s : AuditState) → IsFor self.old s → is_quiet s.due ≡ true →
+            in_event (outlines s) line.now (Reset path d) ≡ true → Makes good self.new (event_made s line.now (Reset path d))) }
     {
         if let Some((_, n)) = cut_at(line) {
             let good = self.device_line(alloc, d, line, Task::Cut(n))?;
@@ -466,7 +482,8 @@ impl Auditor {
         line: &ReportLine,
         told: usize,
     ) -> Result<bool, NoMemory>
-        ensures { IfOk result (λ good. (s : AuditState) → IsFor self.old s → is_quiet s.due ≡ true → NoneRuns told s.devices → in_power line.now (drop told (outlines s)) ≡ true → Makes good self.new (power_made s line.now)) }
+        ensures { IfOk result (λ good. (s : AuditState) → IsFor self.old s → is_quiet s.due ≡ true → NoneRuns told s.devices →
+            in_power line.now (drop told (outlines s)) ≡ true → Makes good self.new (power_made s line.now)) }
     {
         if let Some(d) = loose_at(line) {
             let good = self.device_line(alloc, d, line, Task::PowerLoss)?;
@@ -489,7 +506,8 @@ impl Auditor {
         line: &ReportLine,
         event: EventLine,
     ) -> Result<bool, NoMemory>
-        ensures { IfOk result (λ good. (s : AuditState) → IsFor self.old s → is_quiet s.due ≡ true → first_event s.events ≡ Some event → in_event (outlines s) line.now event ≡ true → Makes good self.new (event_made s line.now event)) }
+        ensures { IfOk result (λ good. (s : AuditState) → IsFor self.old s → is_quiet s.due ≡ true → first_event s.events ≡ Some event →
+            in_event (outlines s) line.now event ≡ true → Makes good self.new (event_made s line.now event)) }
     {
         if let Some(d) = worker_of(&event) {
             let good = self.work_line(alloc, d, line)?;
@@ -517,7 +535,8 @@ impl Auditor {
 
     /// The first line of the next event, or of the totals.
     fn next_line(&mut self, alloc: Global, line: &ReportLine) -> Result<bool, NoMemory>
-        ensures { IfOk result (λ good. (s : AuditState) → IsFor self.old s → s.due ≡ Next → in_next (outlines s) line.now s.events ≡ true → Makes good self.new (due_made s line.now Next)) }
+        ensures { IfOk result (λ good. (s : AuditState) → IsFor self.old s → s.due ≡ Next → in_next (outlines s) line.now s.events ≡ true →
+            Makes good self.new (due_made s line.now Next)) }
     {
         match self.event() {
             Some(event) => {
@@ -549,7 +568,8 @@ impl Auditor {
 
     /// A line where this is due, which may stand there.
     fn due_line(&mut self, alloc: Global, line: &ReportLine, due: Due) -> Result<bool, NoMemory>
-        ensures { IfOk result (λ good. (s : AuditState) → IsFor self.old s → due ≡ s.due → in_due (outlines s) s.events line.now due ≡ true → Makes good self.new (due_made s line.now due)) }
+        ensures { IfOk result (λ good. (s : AuditState) → IsFor self.old s → due ≡ s.due → in_due (outlines s) s.events line.now due ≡ true →
+            Makes good self.new (due_made s line.now due)) }
     {
         match due {
             Due::Next => {
@@ -611,7 +631,8 @@ impl Auditor {
 
     /// What the device did that is at the end of a piece of work may be so.
     fn is_legal(&self, d: DeviceNo, did: &Did) -> bool
-        ensures { (s : AuditState) (more : Bool) → IsFor self.now s → s.due ≡ Behind more did.now → worker_number s ≡ Some d → (a : AuditedDevice) → device_in s.devices d ≡ Some a → result ≡ is_legal did.now a }
+        ensures { (s : AuditState) (more : Bool) → IsFor self.now s → s.due ≡ Behind more did.now → worker_number s ≡ Some d → (a : AuditedDevice) →
+            device_in s.devices d ≡ Some a → result ≡ is_legal did.now a }
     {
         match place_of(&self.devices, d) {
             Some(at) => is_legal(&self.devices[at], did),
@@ -654,7 +675,8 @@ impl Auditor {
         line: &ReportLine,
         did: Did,
     ) -> Result<Option<AuditWhy>, NoMemory>
-        ensures { IfOk result (λ why. (s : AuditState) (more : Bool) → IsFor self.old s → s.due ≡ Behind more did → worker_number s ≡ Some d → is_act_of more d line.now ≡ false → IsJudged why self.new (judged s line.now)) }
+        ensures { IfOk result (λ why. (s : AuditState) (more : Bool) → IsFor self.old s → s.due ≡ Behind more did → worker_number s ≡ Some d →
+            is_act_of more d line.now ≡ false → IsJudged why self.new (judged s line.now)) }
     {
         let legal = self.is_legal(d, &did);
         let event = self.event();

@@ -28,6 +28,7 @@ pub enum OrderTold {
     Other,
 }
 
+/// What a line behind an order tells; `Other` for a line of another kind.
 pub fn order_told(line: &ReportLine) -> OrderTold
     ensures { result ≡ order_told line.now }
 {

@@ -1,5 +1,28 @@
 -- What came to a device's history in an event is what the event's lines show of its programs.
-use Rattle.std.proofs.Common.{◌≡◌, ◌==◌, ◌+◌, ◌++◌, ℕ, Bool, true, false, List, [], ◌∷◌, Option, Some, None, length, refl, sym, ap, subst, ◌∙◌, append_assoc, if◌then◌else◌}
+use Rattle.std.proofs.Common.{
+  ◌≡◌,
+  ◌==◌,
+  ◌+◌,
+  ◌++◌,
+  ℕ,
+  Bool,
+  true,
+  false,
+  List,
+  [],
+  ◌∷◌,
+  Option,
+  Some,
+  None,
+  length,
+  refl,
+  sym,
+  ap,
+  subst,
+  ◌∙◌,
+  append_assoc,
+  if◌then◌else◌,
+}
 use Rattle.std.proofs.lemmas.List.{append-nil, flat_map_more}
 use Rattle.std.specs.List.{flat_map}
 use Rattle.ckd_types.specs.declared.channel.CommandEnd.{CommandEnd}

@@ -1,5 +1,27 @@
 -- What the lines of an event show of the programs of one device.
-use Rattle.std.proofs.Common.{◌≡◌, ◌==◌, ◌&&◌, ◌++◌, ℕ, Bool, true, false, List, [], ◌∷◌, map, Option, Some, None, refl, sym, ap, ◌∙◌, append_assoc, if◌then◌else◌}
+use Rattle.std.proofs.Common.{
+  ◌≡◌,
+  ◌==◌,
+  ◌&&◌,
+  ◌++◌,
+  ℕ,
+  Bool,
+  true,
+  false,
+  List,
+  [],
+  ◌∷◌,
+  map,
+  Option,
+  Some,
+  None,
+  refl,
+  sym,
+  ap,
+  ◌∙◌,
+  append_assoc,
+  if◌then◌else◌,
+}
 use Rattle.std.specs.Prelude.{⊤}
 use Rattle.std.proofs.lemmas.Bool.{cond_both, eq-eqb}
 use Rattle.ckd_types.specs.declared.channel.CommandEnd.{CommandEnd}
@@ -178,9 +200,11 @@ module _ (n : ℕ) where
   first_own true x f ls is e = ap (λ (l : List ReportLine). x ∷ l) e
   first_own false x f ls is e = absurd (cc)
 
-  pub ended_shown : (path ordinal : ℕ) (e : CommandEnd) (own : Bool) → shown_from n own (first_lines (did.Ended path n ordinal e)) ≡ ended_lines path n ordinal e
+  pub ended_shown : (path ordinal : ℕ) (e : CommandEnd) (own : Bool) →
+      shown_from n own (first_lines (did.Ended path n ordinal e)) ≡ ended_lines path n ordinal e
   ended_shown path ordinal e own =
-      first_own (n == n) _ (λ (b : Bool). shown_from n b (data_lines e.sent ++ sense_lines e.sense)) (data_lines e.sent ++ sense_lines e.sense) (eq-eqb n n refl)
+      first_own (n == n) _ (λ (b : Bool). shown_from n b (data_lines e.sent ++ sense_lines e.sense)) (data_lines e.sent ++ sense_lines e.sense)
+      (eq-eqb n n refl)
       (own_data e.sent (sense_lines e.sense) ∙ ap (λ (l : List ReportLine). data_lines e.sent ++ l) (own_sense e.sense))
 
   pub started_shown : (path ordinal : ℕ) (own : Bool) → (a : StartAnswer) → is_accepted a ≡ true →

@@ -59,7 +59,22 @@ use Rattle.report_laws.proofs.Places.{devices}
 use Rattle.report_laws.proofs.ShownEvents.{says, Silent, Shows, kept, Answered, ShowsDeed}
 use Rattle.subsystem_defs.specs.declared.end.EventEnd.{EventEnd}
 use Rattle.subsystem_defs.specs.declared.end.EventEnd.TheVariants as ends
-use Rattle.subsystem_defs.specs.Deeds.{Ends, Asks, Each, device_in, ends_done, end_of, is_own, starts, start_by, step, back, seconds as seconded, may_end_by, ends_by}
+use Rattle.subsystem_defs.specs.Deeds.{
+  Ends,
+  Asks,
+  Each,
+  device_in,
+  ends_done,
+  end_of,
+  is_own,
+  starts,
+  start_by,
+  step,
+  back,
+  seconds as seconded,
+  may_end_by,
+  ends_by,
+}
 use Rattle.subsystem_defs.specs.Happening.{told_to, told_end}
 use Rattle.subsystem_defs.specs.Subsystem.{Mounted, Subsystem, number_of, devices_of, mounted_in}
 use Rattle.subsystem_laws.proofs.PlainRuns.{Plainly, ArePlain, device_plain, number_found, same_found}
@@ -177,7 +192,8 @@ module _ (n : ℕ) (s : Subsystem) (plain : ArePlain s.mounted) where
             own = λ same. subst (λ (d : MarksDevice). Shows n (told (ends.Started (next_ordinal x path))) d (start x path))
                 (sym (it_is m (ap (mounted_in s.mounted) (sym number) ∙ found)))
                 (λ own. subst (HistoryShows n x.history (start x path).history)
-                (sym (ap (λ (i : ℕ). shown_from n own (first_lines (did.Started path i (answers.Accepted (next_ordinal x path))))) (sym (number ∙ number_is) ∙ same)
+                (sym (ap (λ (i : ℕ). shown_from n own (first_lines (did.Started path i (answers.Accepted (next_ordinal x path)))))
+                (sym (number ∙ number_is) ∙ same)
                 ∙ started_shown n path (next_ordinal x path) own (answers.Accepted (next_ordinal x path)) refl))
                 (start_is_shown path (starts_where_idle x path is)));
             other = λ far. other_shows n (told (ends.Started (next_ordinal x path))) (ap (λ (i : ℕ). i == n) (sym (number ∙ number_is)) ∙ far);
@@ -222,7 +238,8 @@ module _ (n : ℕ) (s : Subsystem) (plain : ArePlain s.mounted) where
       own_second y same (seconds.Finished q) t own = acted_is_shown n x.history y t
       own_second y same (seconds.Unwritten q) t own = acted_is_shown n x.history y t
 
-      own_back : (y : History) (a : Option Did) → HasActed x.history y → (own : Bool) → HistoryShows n x.history y (says n (told (told_end (end_of ends.Back a))) own)
+      own_back : (y : History) (a : Option Did) → HasActed x.history y → (own : Bool) →
+          HistoryShows n x.history y (says n (told (told_end (end_of ends.Back a))) own)
       own_back y (Some a) t own = acted_is_shown n x.history y t
       own_back y None t own = subst (HistoryShows n x.history y) (sym (silent own)) (acted_is_shown n x.history y t)
 

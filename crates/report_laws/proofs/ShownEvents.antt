@@ -20,7 +20,20 @@ use Rattle.report_laws.proofs.Places.{devices, At, One, at_same, at_then, at_wea
 use Rattle.subsystem_defs.specs.declared.end.EventEnd.{EventEnd}
 use Rattle.subsystem_defs.specs.declared.end.EventEnd.TheVariants as ends
 use Rattle.subsystem_defs.specs.Deeds.{Ends, Becomes, Asks, Each, Repairs, Lends}
-use Rattle.subsystem_defs.specs.Happening.{MarksDeed, Talk, happens_by, asks, becomes, lends, joined, held_with, told_to, mounted_behind, told_end, behind_outcome}
+use Rattle.subsystem_defs.specs.Happening.{
+  MarksDeed,
+  Talk,
+  happens_by,
+  asks,
+  becomes,
+  lends,
+  joined,
+  held_with,
+  told_to,
+  mounted_behind,
+  told_end,
+  behind_outcome,
+}
 use Rattle.subsystem_defs.specs.Subsystem.{Mounted, Subsystem, number_of, mounted_in, put_in}
 use Rattle.subsystem_laws.proofs.PlainRuns.{Plainly, ArePlain, IsPlainly, mounted_plain}
 
@@ -51,11 +64,13 @@ module _ (n : ℕ) where
 
     abbrev pub ShowsDeed : MarksDeed → Type 0
     ShowsDeed (Ends end) = Silent (told end)
-    ShowsDeed (Becomes d end) = (mounted_in s.mounted d.store.device ≡ None → Silent (told end)) × ((m : Mounted) → mounted_in s.mounted d.store.device ≡ Some m → Answered d m d end)
+    ShowsDeed (Becomes d end) = (mounted_in s.mounted d.store.device ≡ None → Silent (told end)) ×
+        ((m : Mounted) → mounted_in s.mounted d.store.device ≡ Some m → Answered d m d end)
     ShowsDeed (Asks d talk) =
         Silent (told ends.Idle) × ((m : Mounted) → mounted_in s.mounted d.store.device ≡ Some m → Had talk (λ y end. Answered d m y (told_end end)))
     ShowsDeed (Each pool f) =
-        Silent (told ends.Done) × ((m : Mounted) → Plainly m.device → (pool : Pool) → ((held_with pool m (f m.device)).state.store.device ≡ m.device.store.device)
+        Silent (told ends.Done) × ((m : Mounted) → Plainly m.device → (pool : Pool) →
+        ((held_with pool m (f m.device)).state.store.device ≡ m.device.store.device)
         × (m.device.store.device ≡ n → HistoryShows n m.device.history (held_with pool m (f m.device)).state.history []))
     ShowsDeed (Repairs pool) = Silent (told ends.Done)
     ShowsDeed (Lends a b) =

@@ -1,5 +1,31 @@
 -- The report of a run shows of each device's programs what its history has.
-use Rattle.std.proofs.Common.{◌≡◌, ◌==◌, ◌++◌, zero, suc, ℕ, Bool, true, false, List, [], ◌∷◌, map, Option, Some, None, not, refl, sym, ap, subst, ◌∙◌, if◌then◌else◌, length, arith}
+use Rattle.std.proofs.Common.{
+  ◌≡◌,
+  ◌==◌,
+  ◌++◌,
+  zero,
+  suc,
+  ℕ,
+  Bool,
+  true,
+  false,
+  List,
+  [],
+  ◌∷◌,
+  map,
+  Option,
+  Some,
+  None,
+  not,
+  refl,
+  sym,
+  ap,
+  subst,
+  ◌∙◌,
+  if◌then◌else◌,
+  length,
+  arith,
+}
 use Rattle.std.specs.Prelude.{◌&&◌, ◌<◌, nat_lt, All, Ok, Err}
 use Rattle.std.specs.List.{list_all}
 use Rattle.std.proofs.lemmas.Bool.{cond_both, eqb-true, eqb-false, eq-eqb, ne_eqb, ltb-true}
@@ -42,7 +68,28 @@ use Rattle.run_report.specs.Showing.{lines_by_history, lines_in, ShowsEvent, Are
 use Rattle.run_report.proofs.Showing.{report_shows}
 use Rattle.report_laws.proofs.Histories.{HistoryShows, same_shows, emptied_shows}
 use Rattle.report_laws.proofs.Lines.{IsOther, work_shows, power_shows}
-use Rattle.report_laws.proofs.Places.{devices, Apart, apart_none, apart_more, At, here, there, One, one_here, one_there, Lone, lone_none, lone_more, at_same, at_then, at_weaker, one_behind, put_at, restored_at, at_shows}
+use Rattle.report_laws.proofs.Places.{
+  devices,
+  Apart,
+  apart_none,
+  apart_more,
+  At,
+  here,
+  there,
+  One,
+  one_here,
+  one_there,
+  Lone,
+  lone_none,
+  lone_more,
+  at_same,
+  at_then,
+  at_weaker,
+  one_behind,
+  put_at,
+  restored_at,
+  at_shows,
+}
 use Rattle.report_laws.proofs.ShownDeeds.{start_shown, step_shown, back_shown, quiet_becomes, quiet_reset, quiet_loss, all_lose, all_power}
 use Rattle.report_laws.proofs.ShownEvents.{says, Silent, Shows, kept, same_kept, ShowsDeed, happens_at, before_same}
 use Rattle.subsystem_defs.specs.declared.end.EventEnd.{EventEnd}
@@ -55,7 +102,19 @@ use Rattle.subsystem_defs.specs.Decks.{opened, opened_device, run_of}
 use Rattle.subsystem_defs.specs.Deeds as E
 use Rattle.subsystem_defs.specs.Deeds.{Ends, Becomes, Asks, Repairs, Lends, on_device, order, repair, deed, device_in, ends_done, starts, step, back, ends_by}
 use Rattle.subsystem_defs.specs.Happening as H
-use Rattle.subsystem_defs.specs.Happening.{Happened, MarksDeed, happens, quietly, replaced, replaced_at, replaced_by, unpaired, unpaired_at, unpaired_by, restored_in}
+use Rattle.subsystem_defs.specs.Happening.{
+  Happened,
+  MarksDeed,
+  happens,
+  quietly,
+  replaced,
+  replaced_at,
+  replaced_by,
+  unpaired,
+  unpaired_at,
+  unpaired_by,
+  restored_in,
+}
 use Rattle.subsystem_defs.specs.Lines as L
 use Rattle.subsystem_defs.specs.Lines.{
   is_settled,
@@ -208,7 +267,8 @@ module _ (n : ℕ) where
 
   -- the event of a loss of power
   shows_power : (s : Subsystem) (h : Happened) → h.before ≡ s →
-      At n (Shows n (told (devices_of s) h.end (Once events.Power))) (devices s.mounted) (devices h.behind.mounted) → ShowsEvent n s (logged (Once events.Power) h)
+      At n (Shows n (told (devices_of s) h.end (Once events.Power))) (devices s.mounted) (devices h.behind.mounted) →
+      ShowsEvent n s (logged (Once events.Power) h)
   shows_power s h before at own =
       at_shows n (says n (told (devices_of s) h.end (Once events.Power))) (devices s.mounted) (devices h.behind.mounted) at own
       ∙ ap (λ (l : List ReportLine). lines_in s n ++ l)

@@ -18,6 +18,7 @@ pub fn outline_in(devices: &[Outline], d: DeviceNo) -> Option<&Outline>
     None
 }
 
+/// Whether the deck has a device of that number.
 pub fn is_declared(devices: &[Outline], d: DeviceNo) -> bool
     ensures { result ≡ is_declared devices.now d }
 {

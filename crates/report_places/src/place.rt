@@ -1,5 +1,7 @@
 ghost use Rattle.std.specs.Prelude.{◌≡◌, ◌≤◌, length};
-ghost use Rattle.report_places.specs.Place.{IsDueOf, first_event, holds, in_due, in_event, in_next, in_power, in_reset, in_totals, in_totals_of, is_data, is_finish, is_frame, is_harden, is_io, is_loss, is_loss_above, is_loss_of, is_of_work, is_order, is_over, is_power_done, is_sense, may_back, may_step, outline_in, worker_of};
+ghost use Rattle.report_places.specs.Place.{IsDueOf, first_event, holds, in_due, in_event, in_next, in_power, in_reset, in_totals, in_totals_of};
+ghost use Rattle.report_places.specs.Place.{is_data, is_finish, is_frame, is_harden, is_io, is_loss, is_loss_above, is_loss_of, is_of_work};
+ghost use Rattle.report_places.specs.Place.{is_order, is_over, is_power_done, is_sense, may_back, may_step, outline_in, worker_of};
 
 use crate::outline::{is_declared, is_lost_of, is_totals_of, outline_in};
 use crate::work::{is_act_of, is_cut, is_reset, is_start, may_back, may_reset, may_step};
@@ -230,6 +232,7 @@ pub fn in_due(devices: &[Outline], events: &[EventLine], line: &ReportLine, due:
     }
 }
 
+/// Whether a line counts the volume calls of an event.
 pub fn is_io(line: &ReportLine) -> bool
     ensures { result ≡ is_io line.now }
 {

@@ -1,5 +1,6 @@
 ghost use Rattle.std.specs.Prelude.{◌≡◌};
-ghost use Rattle.report_places.specs.Place.{in_steps, is_act_of, is_back_line, is_cut, is_end, is_half, is_reset, is_second, is_second_line, is_start, may_back, may_reset, may_step, second_of};
+ghost use Rattle.report_places.specs.Place.{in_steps, is_act_of, is_back_line, is_cut, is_end, is_half, is_reset, is_second};
+ghost use Rattle.report_places.specs.Place.{is_second_line, is_start, may_back, may_reset, may_step, second_of};
 
 use crate::{HalfWrite, OpenProgram, Outline, says};
 use ckd_types::{DeviceNo, PathNo};
@@ -93,6 +94,7 @@ pub fn may_back(a: &Outline, line: &ReportLine) -> bool
     }
 }
 
+/// Whether a line tells that this very program was cut: its path, its device and its number on the path.
 pub fn is_cut(d: DeviceNo, o: &OpenProgram, line: &ReportLine) -> bool
     ensures { result ≡ is_cut d o.now line.now }
 {
@@ -104,6 +106,7 @@ pub fn is_cut(d: DeviceNo, o: &OpenProgram, line: &ReportLine) -> bool
     }
 }
 
+/// Whether a line tells the reset of that path on that device.
 pub fn is_reset(path: PathNo, d: DeviceNo, line: &ReportLine) -> bool
     ensures { result ≡ is_reset path d line.now }
 {
@@ -129,6 +132,7 @@ pub fn may_reset(path: PathNo, d: DeviceNo, a: &Outline, line: &ReportLine) -> b
     }
 }
 
+/// Whether a line answers a start on that path of that device, whatever the answer is.
 pub fn is_start(path: PathNo, d: DeviceNo, line: &ReportLine) -> bool
     ensures { result ≡ is_start path d line.now }
 {

@@ -1,5 +1,6 @@
 -- The digits of a byte at the front of a text, and of bytes in two parts.
-use Rattle.std.proofs.Common.{◌≡◌, ◌<◌, ◌+◌, ◌/◌, ◌%◌, ◌&&◌, ◌∷◌, [], ◌++◌, ℕ, List, Bool, true, false, Option, Some, None, length, get_or, take, drop, refl, sym, ap, ◌∙◌}
+use Rattle.std.proofs.Common.{◌≡◌, ◌<◌, ◌+◌, ◌/◌, ◌%◌, ◌&&◌, ◌∷◌, [], ◌++◌, ℕ, List, Bool, true, false}
+use Rattle.std.proofs.Common.{Option, Some, None, length, get_or, take, drop, refl, sym, ap, ◌∙◌}
 use Rattle.std.proofs.Common.{◌==◌, ◌≤◌, append_assoc, arith, drop_of_length-le}
 use Rattle.std.specs.Prelude.{MatchOption, codes, slice_index, nat_eq}
 use Rattle.std.specs.Str.{bytes_eq}

@@ -45,6 +45,7 @@ impl<'a> Model for LineWords<'a> {
 }
 
 impl<'a> LineWords<'a> {
+    /// The words of a text. It takes no memory: words behind the eighth are found again at each look.
     pub fn of(text: &'a [u8]) -> LineWords<'a>
         ensures { result ≡ cut_words text.now }
     {

@@ -1,5 +1,6 @@
 ghost use Rattle.std.specs.Prelude.{◌≡◌, ◌≤◌, Ok, Err, IfOk, MatchResult};
-ghost use Rattle.report_reading.specs.Places.{bytes_at, byte_at, count_at, device_at, is_key, key_at, long_at, mark_at, mark_of, note_at, note_of, number_at, path_at, short_at, side_at, side_of, sized_at, track_at, word_at};
+ghost use Rattle.report_reading.specs.Places.{bytes_at, byte_at, count_at, device_at, is_key, key_at, long_at, mark_at, mark_of, note_at};
+ghost use Rattle.report_reading.specs.Places.{note_of, number_at, path_at, short_at, side_at, side_of, sized_at, track_at, word_at};
 
 use crate::LineFault;
 use crate::line_words::LineWords;
@@ -31,6 +32,7 @@ fn number_at(least: u64, most: u64, words: &LineWords, i: usize) -> Result<u64, 
     number_in(least, most, word).ok_or(LineFault::Number)
 }
 
+/// A path's number: 1 to 4, in decimal digits without leading zeros.
 pub fn path_at(words: &LineWords, i: usize) -> Result<PathNo, LineFault>
     ensures { result ≡ path_at words.now i }
 {
@@ -38,6 +40,7 @@ pub fn path_at(words: &LineWords, i: usize) -> Result<PathNo, LineFault>
     PathNo::new(n as u8).ok_or(LineFault::Number)
 }
 
+/// A device's number: 0 to 15.
 pub fn device_at(words: &LineWords, i: usize) -> Result<DeviceNo, LineFault>
     ensures { result ≡ device_at words.now i }
 {
@@ -45,6 +48,7 @@ pub fn device_at(words: &LineWords, i: usize) -> Result<DeviceNo, LineFault>
     DeviceNo::new(n as u8).ok_or(LineFault::Number)
 }
 
+/// A track's number: 0 to 959, as if the device had 64 cylinders. Whether it has that track isn't looked at.
 pub fn track_at(words: &LineWords, i: usize) -> Result<TrackNo, LineFault>
     ensures { result ≡ track_at words.now i }
 {
@@ -52,6 +56,7 @@ pub fn track_at(words: &LineWords, i: usize) -> Result<TrackNo, LineFault>
     TrackNo::new(n as u16).ok_or(LineFault::Number)
 }
 
+/// A number of 16 bits, as a residual count.
 pub fn short_at(words: &LineWords, i: usize) -> Result<u16, LineFault>
     ensures { result ≡ short_at words.now i }
 {
@@ -59,6 +64,7 @@ pub fn short_at(words: &LineWords, i: usize) -> Result<u16, LineFault>
     Ok(n as u16)
 }
 
+/// A number of 32 bits, as how many tracks wait.
 pub fn count_at(words: &LineWords, i: usize) -> Result<u32, LineFault>
     ensures { result ≡ count_at words.now i }
 {
@@ -66,6 +72,7 @@ pub fn count_at(words: &LineWords, i: usize) -> Result<u32, LineFault>
     Ok(n as u32)
 }
 
+/// A number of 64 bits, as a count of volume calls.
 pub fn long_at(words: &LineWords, i: usize) -> Result<u64, LineFault>
     ensures { result ≡ long_at words.now i }
 {
@@ -83,6 +90,7 @@ pub fn sized_at<const N: usize>(words: &LineWords, i: usize) -> Result<[u8; N], 
     }
 }
 
+/// One byte, in two digits of either case.
 pub fn byte_at(words: &LineWords, i: usize) -> Result<u8, LineFault>
     ensures { result ≡ byte_at words.now i }
 {
@@ -102,6 +110,7 @@ fn side_of(word: &[u8]) -> Option<Side>
     }
 }
 
+/// The side of a device: `A` or `B`.
 pub fn side_at(words: &LineWords, i: usize) -> Result<Side, LineFault>
     ensures { result ≡ side_at words.now i }
 {
@@ -123,6 +132,7 @@ fn note_of(word: &[u8]) -> Option<Note>
     }
 }
 
+/// The note on a command's length: `-`, `IL` or `LIMIT`.
 pub fn note_at(words: &LineWords, i: usize) -> Result<Note, LineFault>
     ensures { result ≡ note_at words.now i }
 {

@@ -1,6 +1,7 @@
 ghost use Rattle.std.specs.Prelude.{◌≡◌, ◌<◌, ◌^◌};
 ghost use Rattle.hex.specs.Hex.{IsBytes};
-ghost use Rattle.report_reading.specs.Ranges.{AreBytes, IsAnswer, IsBack, IsDevice, IsEnd, IsFault, IsLine, IsLoose, IsOrder, IsOver, IsOwner, IsPath, IsStart, IsTotals, IsTrack};
+ghost use Rattle.report_reading.specs.Ranges.{AreBytes, IsAnswer, IsBack, IsDevice, IsEnd, IsFault, IsLine, IsLoose};
+ghost use Rattle.report_reading.specs.Ranges.{IsOrder, IsOver, IsOwner, IsPath, IsStart, IsTotals, IsTrack};
 
 use ckd_types::{DeviceNo, GroupId, Owner, PathNo, Sense, TrackNo};
 use report_text::{

@@ -27,6 +27,8 @@ fn owner_at(words: &LineWords, i: usize) -> Result<Owner, LineFault>
     }
 }
 
+/// The answer to a start, which begins at word `i`. Words behind it aren't looked at, here and in the calls below: the whole
+/// line is compared later.
 pub fn start_at(words: &LineWords, i: usize) -> Result<StartAnswer, LineFault>
     requires near { i < 90 }
     ensures { result ≡ start_at words.now i }
@@ -51,6 +53,7 @@ pub fn start_at(words: &LineWords, i: usize) -> Result<StartAnswer, LineFault>
     }
 }
 
+/// What a device did by itself.
 pub fn back_at(words: &LineWords, i: usize) -> Result<BackAnswer, LineFault>
     requires near { i < 100 }
     ensures { result ≡ back_at words.now i }
@@ -92,6 +95,7 @@ fn loosed_at(words: &LineWords, i: usize) -> Result<LooseAnswer, LineFault>
     Ok(LooseAnswer::Lost { count, id })
 }
 
+/// What became of a device's loose tracks, or of its number of cache fast write data.
 pub fn loose_at(words: &LineWords, i: usize) -> Result<LooseAnswer, LineFault>
     requires near { i < 90 }
     ensures { result ≡ loose_at words.now i }
@@ -108,6 +112,7 @@ pub fn loose_at(words: &LineWords, i: usize) -> Result<LooseAnswer, LineFault>
     }
 }
 
+/// How a program was over: in full, checked, or cut behind so many commands.
 pub fn over_at(words: &LineWords, i: usize) -> Result<HowOver, LineFault>
     requires near { i < 100 }
     ensures { result ≡ over_at words.now i }
@@ -160,6 +165,7 @@ fn fault_at(words: &LineWords, i: usize) -> Result<OrderFault, LineFault>
     }
 }
 
+/// The answer to an order.
 pub fn answer_at(words: &LineWords, i: usize) -> Result<OrderAnswer, LineFault>
     requires near { i < 90 }
     ensures { result ≡ answer_at words.now i }
@@ -193,6 +199,7 @@ fn calls_at(words: &LineWords, i: usize) -> Result<DeviceTotals, LineFault>
     })
 }
 
+/// The totals of a device at the end of a run, or to whom its volume is lent.
 pub fn totals_at(words: &LineWords, i: usize) -> Result<DeviceTotals, LineFault>
     requires near { i < 90 }
     ensures { result ≡ totals_at words.now i }

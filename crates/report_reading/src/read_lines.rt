@@ -1,5 +1,8 @@
 ghost use Rattle.std.specs.Prelude.{◌≡◌};
-ghost use Rattle.report_reading.specs.Reading.{back_line, device_line, end_line, event_line, fail_line, frame_line, fresh_line, half_line, io_line, left_line, loose_line, lost_line, lost_track_line, order_line, over_line, pair_line, power_line, repair_line, replace_line, reset_line, resume_line, run_line, sense_line, start_line, step_line, sum_line, suspend_line, total_line, unpair_line, unused_line, volume_line};
+ghost use Rattle.report_reading.specs.Reading.{back_line, device_line, end_line, event_line, fail_line, frame_line, fresh_line, half_line, io_line};
+ghost use Rattle.report_reading.specs.Reading.{left_line, loose_line, lost_line, lost_track_line, order_line, over_line, pair_line, power_line};
+ghost use Rattle.report_reading.specs.Reading.{repair_line, replace_line, reset_line, resume_line, run_line, sense_line, start_line, step_line};
+ghost use Rattle.report_reading.specs.Reading.{sum_line, suspend_line, total_line, unpair_line, unused_line, volume_line};
 
 use crate::LineFault;
 use crate::line_words::LineWords;

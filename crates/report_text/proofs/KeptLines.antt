@@ -1,5 +1,6 @@
 -- What is kept of lines, with one line more, and one line on.
-use Rattle.std.proofs.Common.{◌≡◌, ◌≤◌, ◌<◌, ◌+◌, ◌-◌, ◌∷◌, [], ◌++◌, ℕ, suc, nat_lt, ltb-true, ltb-false, Bool, true, false, List, length, take, drop, get_or, refl, sym, ap, ◌∙◌, arith}
+use Rattle.std.proofs.Common.{◌≡◌, ◌≤◌, ◌<◌, ◌+◌, ◌-◌, ◌∷◌, [], ◌++◌, ℕ, suc, nat_lt, ltb-true, ltb-false, Bool}
+use Rattle.std.proofs.Common.{true, false, List, length, take, drop, get_or, refl, sym, ap, ◌∙◌, arith}
 use Rattle.std.proofs.Common.{length-append, length-drop}
 use Rattle.std.proofs.Common.{length-take-le, take-append-drop}
 use Rattle.std.proofs.lemmas.List.{append-nil, at_drop_more, drop-append-le, take-append-le, take_all, take_at}

@@ -5,7 +5,8 @@ ghost use Rattle.ckd_outside.specs.Texts.{Puts};
 ghost use Rattle.report_text.specs.declared.answers.DeviceTotals.TheVariants.{Calls};
 ghost use Rattle.report_text.specs.declared.keyword.Keyword.TheVariants as words;
 ghost use Rattle.report_text.specs.Keywords.{keyword_text};
-ghost use Rattle.report_text.specs.Words.{all_spaced, answer_words, back_words, fault_words, loose_words, mark_key, order_words, over_words, owner_words, side_key, start_words, totals_words, writes_words};
+ghost use Rattle.report_text.specs.Words.{all_spaced, answer_words, back_words, fault_words, loose_words, mark_key, order_words};
+ghost use Rattle.report_text.specs.Words.{over_words, owner_words, side_key, start_words, totals_words, writes_words};
 
 use crate::words::{
     HexWord, KeyWord, Words, put_behind, put_count, put_key, put_key_and, put_numbers,
@@ -108,7 +109,8 @@ fn put_loosed<K: Sink>(
     count: u16,
     id: &[u8],
 ) -> Result<(), Failed>
-    ensures bytes { Puts (K.held sink.old) buffer.old (K.held sink.new) buffer.new result (all_spaced (keyword_text words.Lost ∷ decimal count ∷ encode_upper id.now ∷ [])) }
+    ensures bytes { Puts (K.held sink.old) buffer.old (K.held sink.new) buffer.new result
+        (all_spaced (keyword_text words.Lost ∷ decimal count ∷ encode_upper id.now ∷ [])) }
     ensures cause { HasCause (K.faults sink.old) (K.faults sink.new) result }
 {
     put_key(sink, buffer, Keyword::Lost)?;
@@ -201,7 +203,8 @@ fn put_volume<K: Sink>(
     device: u8,
     side: Side,
 ) -> Result<(), Failed>
-    ensures bytes { Puts (K.held sink.old) buffer.old (K.held sink.new) buffer.new result (all_spaced (keyword_text words.Volume ∷ decimal device ∷ keyword_text (side_key side) ∷ [])) }
+    ensures bytes { Puts (K.held sink.old) buffer.old (K.held sink.new) buffer.new result
+        (all_spaced (keyword_text words.Volume ∷ decimal device ∷ keyword_text (side_key side) ∷ [])) }
     ensures cause { HasCause (K.faults sink.old) (K.faults sink.new) result }
 {
     put_key(sink, buffer, Keyword::Volume)?;

@@ -92,7 +92,8 @@ fn put_totals<K: Sink>(
     devices: &[DeviceEnd],
     frames: &[FrameEnd],
 ) -> Result<(), Failed>
-    ensures bytes { Puts (K.held sink.old) buffer.old (K.held sink.new) buffer.new result (flat_map device_text devices.now ++ (flat_map frame_text frames.now ++ line_text lines.Finish)) }
+    ensures bytes { Puts (K.held sink.old) buffer.old (K.held sink.new) buffer.new result
+        (flat_map device_text devices.now ++ (flat_map frame_text frames.now ++ line_text lines.Finish)) }
     ensures cause { HasCause (K.faults sink.old) (K.faults sink.new) result }
 {
     put_all::<LineSpelling, DeviceEnd, K>(sink, buffer, devices)?;

@@ -80,6 +80,7 @@ impl Model for Respelling {
 }
 
 impl Respelling {
+    /// Nothing is spelled yet, and no memory is taken.
     pub fn new(alloc: Global) -> Respelling {
         let bytes = Vec::new(alloc);
         Respelling {

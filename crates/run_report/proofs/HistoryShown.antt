@@ -8,7 +8,8 @@ use Rattle.plain_defs.specs.declared.journal.How.{How}
 use Rattle.plain_defs.specs.declared.journal.How.TheVariants.{Full, Cut, Checked}
 use Rattle.plain_defs.specs.declared.journal.Item.{Item}
 use Rattle.plain_defs.specs.declared.journal.Item.TheVariants as items
-use Rattle.plain_defs.specs.History.{History, OpenEntry, acted, acted_in, checked, checked_in, closed, cut_by, ended, ended_in, entry_of, lost_power, lost_power_in, resets_of, started, with_end}
+use Rattle.plain_defs.specs.History.{History, OpenEntry, acted, acted_in, checked, checked_in, closed, cut_by, ended}
+use Rattle.plain_defs.specs.History.{ended_in, entry_of, lost_power, lost_power_in, resets_of, started, with_end}
 use Rattle.device_defs.specs.Device.{all_acted}
 use Rattle.report_text.specs.declared.answers.StartAnswer.TheVariants as start
 use Rattle.report_text.specs.declared.line.ReportLine.{ReportLine}

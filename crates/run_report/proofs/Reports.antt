@@ -314,7 +314,8 @@ shut_row =
 -- power is lost while a program runs on each of two devices, of which one has data of cache fast write
 abbrev pub power_on_two : Sample
 power_on_two = record {
-  deck = deck_with 4 2 (device 0 ∷ device 1 ∷ []) [] (first (extent 0x80 0xc2 ∷ locate 1 1 0 0 ∷ record { command = 0x85; flags = 0x40; count = 8; given = new_data } ∷ alone 0x03 1 []) ∷ program 2 1 (read_zero 0xc0 0) ∷ []);
+  deck = deck_with 4 2 (device 0 ∷ device 1 ∷ []) [] (first (extent 0x80 0xc2 ∷ locate 1 1 0 0 ∷
+      record { command = 0x85; flags = 0x40; count = 8; given = new_data } ∷ alone 0x03 1 []) ∷ program 2 1 (read_zero 0xc0 0) ∷ []);
   asked =
       line (lines.Start 1 0) ++ step ++ step ++ step ++ line (lines.Start 2 1) ++ line (lines.Step 1) ++ power;
   shows = [];

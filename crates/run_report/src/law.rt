@@ -35,7 +35,8 @@ ghost use Rattle.subsystem_defs.specs.Subsystem.{Mounted, Subsystem};
 
 /// What is written of a run's events and of its end is the text of its lines.
 pub fn report_is_text()
-    ensures { (run : DeckRun) (devices : List DeviceEnd) (frames : List FrameEnd) → TellsEnding (ending run.behind) devices frames → report_text (lines_of_run run) devices frames ≡ lines_text (report_lines run) }
+    ensures { (run : DeckRun) (devices : List DeviceEnd) (frames : List FrameEnd) → TellsEnding (ending run.behind) devices frames →
+        report_text (lines_of_run run) devices frames ≡ lines_text (report_lines run) }
 {}
 
 /// An event of one device is told by that device alone.
@@ -45,13 +46,15 @@ pub fn one_device_tells()
 
 /// Devices over contents, and those over marks of which the same is told, make the same lines.
 pub fn same_lines_are_told()
-    ensures { (asked : Asked) (end : EventEnd) (reads writes : ℕ) (before behind : List (Device Frame Stored Image)) (other then : List MarksDevice) → AreToldAs before other → AreToldAs behind then →
+    ensures { (asked : Asked) (end : EventEnd) (reads writes : ℕ) (before behind : List (Device Frame Stored Image)) (other then : List MarksDevice) →
+        AreToldAs before other → AreToldAs behind then →
         event_lines asked end reads writes before behind ≡ event_lines asked end reads writes other then }
 {}
 
 /// A report shows what a device's history has, where each of its events shows what came to it.
 pub fn events_show_a_history()
-    ensures { (d : ℕ) (s : Subsystem) (events : List Logged) → AreShown d s events → lines_in s d ≡ [] → shown_of d (report_lines (run_from s events)) ≡ lines_in (last_behind s events) d }
+    ensures { (d : ℕ) (s : Subsystem) (events : List Logged) → AreShown d s events → lines_in s d ≡ [] →
+        shown_of d (report_lines (run_from s events)) ≡ lines_in (last_behind s events) d }
 {}
 
 /// Starts, orders that leave a history as it is, and an empty volume tell nothing beside what the event did.
@@ -72,10 +75,15 @@ pub fn acts_come_to_a_history()
 /// What comes to a history is what an event's lines show of its programs: a START, an END with its DATA and SENSE, an OVER. Acts
 /// show nothing.
 pub fn histories_show()
-    ensures starts { (d path ordinal : ℕ) (h : History) → h.running ≡ None → history_lines d (started h path ordinal) ≡ history_lines d h ++ lines.Start path d (answers.Accepted ordinal) ∷ [] }
+    ensures starts { (d path ordinal : ℕ) (h : History) → h.running ≡ None →
+        history_lines d (started h path ordinal) ≡ history_lines d h ++ lines.Start path d (answers.Accepted ordinal) ∷ [] }
     ensures acts { (d : ℕ) (h : History) (acts : List Act) → history_lines d (all_acted h acts) ≡ history_lines d h }
-    ensures ends { (d : ℕ) (h : History) (o : OpenEntry) (e : CommandEnd) → h.running ≡ Some o → history_lines d (ended h e) ≡ history_lines d h ++ (ended_lines o.path d o.ordinal e ++ over_if d o e.over) }
-    ensures checks { (d : ℕ) (h : History) (o : OpenEntry) (e : CommandEnd) → h.running ≡ Some o → history_lines d (checked h e) ≡ history_lines d h ++ (ended_lines o.path d o.ordinal e ++ over_lines_of d o hows.Checked) }
-    ensures cuts { (d : ℕ) (h : History) (o : OpenEntry) (more : ℕ) → h.running ≡ Some o → history_lines d (cut_by h o more) ≡ history_lines d h ++ over_lines_of d o (hows.Cut (length o.ends + more)) }
-    ensures powers { (d : ℕ) (h : History) (o : OpenEntry) (more : ℕ) → h.running ≡ Some o → history_lines d (lost_power h more) ≡ history_lines d h ++ over_lines_of d o (hows.Cut (length o.ends + more)) }
+    ensures ends { (d : ℕ) (h : History) (o : OpenEntry) (e : CommandEnd) → h.running ≡ Some o →
+        history_lines d (ended h e) ≡ history_lines d h ++ (ended_lines o.path d o.ordinal e ++ over_if d o e.over) }
+    ensures checks { (d : ℕ) (h : History) (o : OpenEntry) (e : CommandEnd) → h.running ≡ Some o →
+        history_lines d (checked h e) ≡ history_lines d h ++ (ended_lines o.path d o.ordinal e ++ over_lines_of d o hows.Checked) }
+    ensures cuts { (d : ℕ) (h : History) (o : OpenEntry) (more : ℕ) → h.running ≡ Some o →
+        history_lines d (cut_by h o more) ≡ history_lines d h ++ over_lines_of d o (hows.Cut (length o.ends + more)) }
+    ensures powers { (d : ℕ) (h : History) (o : OpenEntry) (more : ℕ) → h.running ≡ Some o →
+        history_lines d (lost_power h more) ≡ history_lines d h ++ over_lines_of d o (hows.Cut (length o.ends + more)) }
 {}

@@ -4,4 +4,12 @@ mod Walks
 mod Commands
 mod Rows
 mod Seconds
-mod Others
+pub mod Others
+pub mod Counting
+mod SidesLeft
+mod ReadCounts
+mod WriteCounts
+mod WorkCounts
+mod CommandCounts
+pub mod EventCounts
+pub mod Calls

@@ -2,6 +2,7 @@
 use Rattle.std.specs.Prelude.{◌≡◌, ◌⊎◌, ℕ, suc, Bool, true, false, List, [], ◌∷◌, Option, Some, None}
 use Rattle.ckd_types.specs.declared.geometry.Geometry.{Geometry}
 use Rattle.ckd_types.specs.declared.paths.Side.{Side}
+use Rattle.ckd_types.specs.declared.record.Edit.{Edit}
 use Rattle.ckd_types.specs.declared.record.Track.{Track}
 use Rattle.ckd_rules.specs.declared.order.LocalAct.{LocalAct}
 use Rattle.ckd_chain.specs.declared.progress.Progress.{Progress}
@@ -34,7 +35,8 @@ use Rattle.device_defs.specs.Image.{got, level_bytes, image_of}
 use Rattle.device_defs.specs.Outcomes.{Turn, checks, told_step, turned, usage_of}
 use Rattle.device_defs.specs.Owed.{hear}
 use Rattle.device_defs.specs.Sound.{DeviceStore}
-use Rattle.device_defs.specs.Store.{tracks_of, frame_at, with_frame}
+use Rattle.device_defs.specs.Store.{HalfWrite, OfCommand, tracks_of, frame_at, with_frame}
+use Rattle.device_laws.specs.Standing.{RunsOn}
 use Rattle.device_laws.specs.Whole.{WholeDevice}
 
 -- no volume was called between these two
@@ -150,3 +152,18 @@ pub record SecondCame (d : WholeDevice) (o : OpenEntry) (kept : ChainState) (t :
 pub record KeepsPaths (d e : WholeDevice) : Type 0 where
   pub paths : e.paths ≡ d.paths
   pub chain : e.chain ≡ d.chain
+
+-- As the calls of a device say it
+
+module _ {K : Type 0} (had : Bool → Type 0) (hears : Hearing Image K) where
+  -- a command of a running program that ended, or is half done
+  abbrev pub EndsAsSeen : WholeDevice → Outside (List ℕ) K → WholeDevice → Option Stepped → Outside (List ℕ) K → Type 0
+  EndsAsSeen d u e a z =
+      (o : OpenEntry) (chain : ChainState) (x : Stepped) → d.history.running ≡ Some o → d.chain ≡ Some chain →
+      RunsOn d.store.cylinders d.store.geometry chain → a ≡ Some x → CommandCame had hears d o chain u x e z
+
+-- a command's half write that was open
+abbrev pub EndsAsKept : WholeDevice → WholeDevice → SecondEnd → Type 0
+EndsAsKept d e a =
+    (o : OpenEntry) (chain : ChainState) (h : HalfWrite Image) (bypass : Bool) (edit : Edit) → d.store.half ≡ Some h → h.origin ≡ OfCommand bypass edit →
+    d.history.running ≡ Some o → d.chain ≡ Some chain → SecondCame d o chain h.track a e

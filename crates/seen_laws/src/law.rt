@@ -18,6 +18,7 @@ ghost use Rattle.loss_model.specs.declared.Loss.{Loss};
 ghost use Rattle.device_defs.specs.declared.answers.Stepped.{Stepped};
 ghost use Rattle.device_defs.specs.Command.{command, follow};
 ghost use Rattle.device_defs.specs.Contents.{contents};
+ghost use Rattle.device_defs.specs.Cutting.{power, reset};
 ghost use Rattle.device_defs.specs.Editing.{write};
 ghost use Rattle.device_defs.specs.Events.{background, lose, second};
 ghost use Rattle.device_defs.specs.Image.{Imaged, Has, image};
@@ -27,6 +28,7 @@ ghost use Rattle.device_defs.specs.Store.{OfCommand, HalfWrite, frame_at};
 ghost use Rattle.device_laws.specs.Standing.{LooksAt, RunsOn};
 ghost use Rattle.device_laws.specs.Whole.{WholeDevice};
 ghost use Rattle.plain_defs.specs.History.{OpenEntry};
+ghost use Rattle.seen_laws.specs.Moved.{HitReadsNone, CommandMoves, SecondMoves, WorkMoves, LookMoves, MovesNothing};
 ghost use Rattle.seen_laws.specs.Seen.{NotCalled, Saw, Wrote, CameAsSeen, CommandCame, KeepsPaths, SecondCame};
 
 use device_outside::Keep;
@@ -83,4 +85,26 @@ pub fn others_keep_paths<K: Keep<TrackImage>>()
         KeepsPaths d e }
     ensures peek { (d e : WholeDevice) (t : ℕ) (u z : Outside (List ℕ) K) (a : Option Peeked) → Ran (λ ok. Unit {0}) K.hears (peek contents d t) u e a z →
         KeepsPaths d e }
+{}
+
+/// What each event of a device moves, by its counts: a command that looks at one track with a modified frame reads no volume; each track is read
+/// and written at most once from a side; the second part of a write, and what a device does by itself, make the reads and writes of the table of
+/// events; losses, resets and the loss of power make none.
+pub fn events_move_by_table<K: Keep<TrackImage>>()
+    ensures hit { (d e : WholeDevice) (u z : Outside (List ℕ) K) (a : Option Stepped) → Ran (λ ok. Unit {0}) K.hears (command contents d) u e a z →
+        HitReadsNone d e }
+    ensures command { (d e : WholeDevice) (u z : Outside (List ℕ) K) (a : Option Stepped) → Ran (λ ok. Unit {0}) K.hears (command contents d) u e a z →
+        CommandMoves d e }
+    ensures second { (d e : WholeDevice) (u z : Outside (List ℕ) K) (a : SecondEnd) → Ran (λ ok. Unit {0}) K.hears (second contents d) u e a z →
+        SecondMoves d e }
+    ensures background { (d e : WholeDevice) (u z : Outside (List ℕ) K) (a : Option Did) → Ran (λ ok. Unit {0}) K.hears (background contents d) u e a z →
+        WorkMoves d a e }
+    ensures lose { (d e : WholeDevice) (loss : Loss) (u z : Outside (List ℕ) K) (a : Unit {0}) → Ran (λ ok. Unit {0}) K.hears (lose contents d loss) u e a z →
+        MovesNothing d e }
+    ensures power { (d e : WholeDevice) (u z : Outside (List ℕ) K) (a : Unit {0}) → Ran (λ ok. Unit {0}) K.hears (power contents d) u e a z →
+        MovesNothing d e }
+    ensures reset { (d e : WholeDevice) (path : ℕ) (u z : Outside (List ℕ) K) (a : Unit {0}) → Ran (λ ok. Unit {0}) K.hears (reset contents d path) u e a z →
+        MovesNothing d e }
+    ensures peek { (d e : WholeDevice) (t : ℕ) (u z : Outside (List ℕ) K) (a : Option Peeked) → Ran (λ ok. Unit {0}) K.hears (peek contents d t) u e a z →
+        LookMoves d e }
 {}

@@ -64,18 +64,21 @@ impl Slots {
         let _ = self.used.try_remove(slot);
     }
 
+    /// The store is lost: no slot is given from here on, and those in use stay so until they are freed.
     pub fn fail(&mut self)
         ensures { self.new ≡ record self.old { up = false } }
     {
         self.up = false;
     }
 
+    /// The store is up again, with the slots that are still in use.
     pub fn repair(&mut self)
         ensures { self.new ≡ record self.old { up = true } }
     {
         self.up = true;
     }
 
+    /// Whether slots are given.
     pub fn is_up(&self) -> bool
         ensures { result ≡ self.now.up }
     {

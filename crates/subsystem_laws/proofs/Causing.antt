@@ -16,9 +16,20 @@ use Rattle.subsystem_defs.specs.Deeds.{ends_done, end_of}
 use Rattle.subsystem_defs.specs.Subsystem.{Subsystem}
 use Rattle.subsystem_laws.specs.Causes.{checks_of, ChecksForCause, CheckForCause}
 use Rattle.subsystem_laws.specs.Served.{IsServedDeck}
-use Rattle.subsystem_laws.proofs.CheckCauses.{command_causes, second_causes, background_same, reset_same, power_same, loss_same, lend_same, start_same, replace_same, restore_same}
+use Rattle.subsystem_laws.proofs.CheckCauses.{
+  command_causes,
+  second_causes,
+  background_same,
+  reset_same,
+  power_same,
+  loss_same,
+  lend_same,
+  start_same,
+  replace_same,
+  restore_same,
+}
 use Rattle.subsystem_laws.proofs.DeedWalk.{seat_of, IsDeedwise}
-use Rattle.subsystem_laws.proofs.Pairing.{KeepsDeed, IsPairwise, run_pairs, ends_made, becomes_so, fair_of, started_number}
+use Rattle.subsystem_laws.proofs.Pairing.{KeepsDeed, deeds_of, IsPairwise, run_pairs, ends_made, becomes_so, fair_of, started_number}
 use Rattle.subsystem_laws.proofs.TracksKept.{Fair}
 use Rattle.subsystem_laws.proofs.Walks.{AreSo}
 
@@ -30,7 +41,11 @@ deeds_show s p = record {
   ended = λ end. tt;
   started = λ d x path fault.
       becomes_so AddsNone ChecksForCause s d x (start d path) (started_number d path) (start_same d path) (ends.Started (next_ordinal d path));
-  seconded = λ d x h is. (seat_of s d x, ends_made AddsNone ChecksForCause d (second by_plain d) (λ a. Some (ends.Second a)) (second_causes d (fair_of s p d x) h is));
+  seconded = λ d x h is. (
+    seat_of s d x,
+    ends_made AddsNone ChecksForCause d (second by_plain d) (λ a. Some (ends.Second a))
+        (second_causes d (fair_of s p d x) h is),
+  );
   commanded = λ d x whole o running. (
     seat_of s d x,
     ends_made AddsNone ChecksForCause d (command by_plain d) (end_of ends.Stepped) (command_causes d (fair_of s p d x) o running whole),
@@ -51,17 +66,17 @@ deeds_show s p = record {
   resumed = λ d x fault. becomes_so AddsNone ChecksForCause s d x (resume d) refl refl ends.Done;
 }
 
-checks_pairwise : IsPairwise AddsNone ChecksForCause
+checks_pairwise : IsPairwise AddsNone (λ lossy alone. ChecksForCause)
 checks_pairwise = record {
   own = λ d. refl;
   on = λ x y z p q. q ∙ p;
-  made = λ x y p. inl p;
+  made = λ lossy alone x y p. inl p;
   joins = λ d. refl;
-  splits = λ d. refl;
-  replaces = replace_same;
-  restores = restore_same;
-  deeds = deeds_show;
+  splits = λ d fault. refl;
+  replaces = λ d side fault. replace_same d side;
+  restores = λ d a is. restore_same d;
+  deeds = λ s p. deeds_of AddsNone ChecksForCause s (deeds_show s p);
 }
 
 pub run_checks_for_cause : (deck : DeckLines) → IsServedDeck deck → All CheckForCause (run_of deck).events
-run_checks_for_cause = run_pairs AddsNone ChecksForCause checks_pairwise
+run_checks_for_cause = run_pairs AddsNone (λ lossy alone. ChecksForCause) checks_pairwise

@@ -16,7 +16,27 @@ use Rattle.ckd_chain.specs.declared.mark.Stage.TheVariants as stages
 use Rattle.ckd_chain.specs.declared.progress.Settled.{Settled}
 use Rattle.ckd_chain.specs.declared.progress.Settled.TheVariants as settles
 use Rattle.ckd_chain.specs.State.{ChainState}
-use Rattle.ckd_chain.specs.Steps.{begun_chain, word_of, opening_at, stage_for, opened_by, opened, stage_by, stage_of, needed, mark_by, start_of, behind, held_outcome, stepped_by, stepped, turned_by, settled_by, written_by, again_from}
+use Rattle.ckd_chain.specs.Steps.{
+  begun_chain,
+  word_of,
+  opening_at,
+  stage_for,
+  opened_by,
+  opened,
+  stage_by,
+  stage_of,
+  needed,
+  mark_by,
+  start_of,
+  behind,
+  held_outcome,
+  stepped_by,
+  stepped,
+  turned_by,
+  settled_by,
+  written_by,
+  again_from,
+}
 use Rattle.track_image.specs.Image.{Image}
 use Rattle.device_laws.specs.Standing.{IsWithin}
 use Rattle.device_laws.proofs.ChainTracks.{whole_cylinders}

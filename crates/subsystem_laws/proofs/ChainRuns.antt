@@ -19,7 +19,24 @@ use Rattle.device_defs.specs.declared.answers.Took.TheVariants.{Whole, Opened, U
 use Rattle.device_defs.specs.declared.usage.Usage.{Usage}
 use Rattle.device_defs.specs.Background.{work}
 use Rattle.device_defs.specs.Command as N
-use Rattle.device_defs.specs.Command.{Went, Over, On, has_loss, came_of_write, went_by, looked, look, goes_on, follow, came_out, on_tracks, answered_by, command_at, command_by, command}
+use Rattle.device_defs.specs.Command.{
+  Went,
+  Over,
+  On,
+  has_loss,
+  came_of_write,
+  went_by,
+  looked,
+  look,
+  goes_on,
+  follow,
+  came_out,
+  on_tracks,
+  answered_by,
+  command_at,
+  command_by,
+  command,
+}
 use Rattle.device_defs.specs.Contents.{Contents}
 use Rattle.device_defs.specs.Cutting as U
 use Rattle.device_defs.specs.Cutting.{half_cut, path_cut, reset_noted, reset_by, reset, powered_off, power}

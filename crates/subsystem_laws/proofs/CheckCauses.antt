@@ -1,5 +1,34 @@
 -- Where an event adds a check to a device's journal, it has a cause before it, or a call failed in it.
-use Rattle.std.proofs.Common.{◌≡◌, ◌≢◌, ◌<◌, ◌≤◌, ◌&&◌, not, zero, suc, ℕ, Bool, true, false, List, [], ◌∷◌, Option, Some, None, get_or, refl, sym, ap, subst, ◌∙◌, arith, ◌⊎◌, inl, inr}
+use Rattle.std.proofs.Common.{
+  ◌≡◌,
+  ◌≢◌,
+  ◌<◌,
+  ◌≤◌,
+  ◌&&◌,
+  not,
+  zero,
+  suc,
+  ℕ,
+  Bool,
+  true,
+  false,
+  List,
+  [],
+  ◌∷◌,
+  Option,
+  Some,
+  None,
+  get_or,
+  refl,
+  sym,
+  ap,
+  subst,
+  ◌∙◌,
+  arith,
+  ◌⊎◌,
+  inl,
+  inr,
+}
 use Rattle.std.proofs.lemmas.Bool.{cases_eq, cases_lt}
 use Rattle.ckd_types.specs.declared.paths.Side.{Side}
 use Rattle.ckd_types.specs.declared.paths.Side.TheVariants as sides
@@ -90,7 +119,7 @@ module _ (n : ℕ) (d : MarksDevice) (w : IsWell by_plain d.store) (h : HalfWrit
       (λ z done so. end_so n (with_store (record (event_begun d) { store = s }) z) k.track k.origin done so (acts_same d.history z.acts ∙ f))
   half_checks s g None e = absurd (cc)
 
-  second_checks : Lucky (λ e _. equipment_checks e.history ≡ n) (second by_plain d)
+  pub second_checks : Lucky (λ e _. equipment_checks e.history ≡ n) (second by_plain d)
   unfolding E.second
   second_checks =
       let front = goes_same by_plain d.store (event_begun d).store w (begun_same by_plain marks_are_faithful d w) in
@@ -98,7 +127,8 @@ module _ (n : ℕ) (d : MarksDevice) (w : IsWell by_plain d.store) (h : HalfWrit
       (lucky_then (λ s _. second_of by_plain (record (event_begun d) { store = s }) s.half)
       (with_always (hearing_keeps_good by_plain 960 (event_begun d).store front.well) (hear_goes by_plain 960 (event_begun d).store))
       (λ s _ g. half_checks s g.1 s.half (g.0.half ∙ is)))
-      (λ y a k. lucky_then (λ z _. Done (record y { store = z }) a) (lucky_any (ended by_plain (waiting_count by_plain d.store) y.store)) (λ z _ _. lucky_done k))
+      (λ y a k. lucky_then (λ z _. Done (record y { store = z }) a) (lucky_any (ended by_plain (waiting_count by_plain d.store) y.store))
+      (λ z _ _. lucky_done k))
 
 -- Events in which calls may fail
 
@@ -126,13 +156,15 @@ module _ (d : MarksDevice) (f : Fair d) where
       ChecksForCause d (T.hold true i t).state
   where_failed i x t later = by_failed i x t (λ full. inr (not_counted full)) (λ rose. inr (call_failed rose)) later
 
-  pub command_causes : (o : OpenEntry) → d.history.running ≡ Some o → d.store.half ≡ None → (t : Told) → ChecksForCause d (T.hold true (command by_plain d) t).state
+  pub command_causes : (o : OpenEntry) → d.history.running ≡ Some o → d.store.half ≡ None → (t : Told) →
+      ChecksForCause d (T.hold true (command by_plain d) t).state
   command_causes o running whole t =
       let x = command_based by_plain d in
       where_failed (command by_plain d) x t (λ lt same.
       decided (some_takes d.store) (λ up. by_lost lt same up (find_lost d.store.lost)) (λ none. inr (none_takes none)))
     where
-      by_lost : d.store.counts.failed < top → (T.hold true (command by_plain d) t).state.store.counts.failed ≡ d.store.counts.failed → some_takes d.store ≡ true →
+      by_lost : d.store.counts.failed < top → (T.hold true (command by_plain d) t).state.store.counts.failed ≡ d.store.counts.failed →
+          some_takes d.store ≡ true →
           (((q : ℕ) → get_or d.store.lost q false ≡ false) ⊎ ((q : ℕ) × (get_or d.store.lost q false ≡ true))) →
           ChecksForCause d (T.hold true (command by_plain d) t).state
       by_lost lt same up (inr y) = inr (track_lost y.0 y.1)
@@ -166,7 +198,7 @@ module _ (d : MarksDevice) where
   pub power_same : (t : Told) → checks_of (T.hold true (power by_plain d) t).state ≡ checks_of d
   power_same t = at (power_counts ends_with_equipment_check (λ o k. refl) (λ p. refl) refl (equipment_checks d.history) d refl) t
 
-  loss_unchecked : (loss : Loss) → Always (lose by_plain d loss) (λ e _. equipment_checks e.history ≡ equipment_checks d.history)
+  pub loss_unchecked : (loss : Loss) → Always (lose by_plain d loss) (λ e _. equipment_checks e.history ≡ equipment_checks d.history)
   unfolding E.lose
   loss_unchecked loss =
       always_then {p = λ (y : MarksDevice) _. equipment_checks y.history ≡ equipment_checks d.history}

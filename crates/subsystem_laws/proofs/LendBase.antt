@@ -28,7 +28,13 @@ IsStill b x = (x.device ≡ b.device) × (x.cylinders ≡ b.cylinders) × (x.len
 still_behind : {R S X : Type 0} {base : S → Base} {may : Call → Type 0} {b : Base} {i : Interaction R Image S X} → Based base may b i →
     Behind i (λ s a. IsStill b (base s))
 unfolding A.Behind
-still_behind (based_done e) = (ap (λ (x : Base). x.device) e, ap (λ (x : Base). x.cylinders) e, ap (λ (x : Base). x.lent) e, ap (λ (x : Base). x.counts.losses) e)
+still_behind (based_done e) = (
+  ap (λ (x : Base). x.device) e,
+  ap (λ (x : Base). x.cylinders) e,
+  ap (λ (x : Base). x.lent) e,
+  ap
+      (λ (x : Base). x.counts.losses) e,
+)
 still_behind (based_try x) = λ ok. still_behind (x ok)
 still_behind (based_ask m x) = λ a. still_behind (x a)
 still_behind (based_read x) = λ got. still_behind (x got)

@@ -30,3 +30,9 @@ pub mod WholeHappens
 pub mod WholeOrders
 pub mod WholeLends
 pub mod WholeUnpairs
+pub mod MovedRuns
+pub mod RunLinks
+pub mod RunLength
+pub mod CalmDevices
+pub mod CalmEvents
+pub mod CalmRuns

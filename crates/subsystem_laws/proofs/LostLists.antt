@@ -39,7 +39,7 @@ use Rattle.subsystem_laws.specs.Causes.{by_loss, by_call, by_full_count, by_half
 use Rattle.subsystem_laws.specs.Served.{IsServedDeck}
 use Rattle.subsystem_laws.proofs.CheckCauses.{decided, by_failed}
 use Rattle.subsystem_laws.proofs.DeedWalk.{seat_of, IsDeedwise}
-use Rattle.subsystem_laws.proofs.Pairing.{KeepsDeed, IsPairwise, run_pairs, ends_made, becomes_so, fair_of, started_number}
+use Rattle.subsystem_laws.proofs.Pairing.{KeepsDeed, deeds_of, IsPairwise, run_pairs, ends_made, becomes_so, fair_of, started_number}
 use Rattle.subsystem_laws.proofs.TracksKept.{Fair}
 use Rattle.subsystem_laws.proofs.Walks.{AreSo}
 
@@ -105,7 +105,11 @@ deeds_lose s p = record {
   ended = λ end. tt;
   started = λ d x path fault.
       becomes_so LosesNone LosesForCause s d x (start d path) (started_number d path) (started_keeps d path) (ends.Started (next_ordinal d path));
-  seconded = λ d x h is. (seat_of s d x, ends_made LosesNone LosesForCause d (second by_plain d) (λ a. Some (ends.Second a)) (second_loses d (fair_of s p d x) h is));
+  seconded = λ d x h is. (
+    seat_of s d x,
+    ends_made LosesNone LosesForCause d (second by_plain d) (λ a. Some (ends.Second a))
+        (second_loses d (fair_of s p d x) h is),
+  );
   commanded = λ d x whole o running. (
     seat_of s d x,
     ends_made LosesNone LosesForCause d (command by_plain d) (end_of ends.Stepped) (command_loses d (fair_of s p d x) o running whole),
@@ -132,17 +136,17 @@ deeds_lose s p = record {
   resumed = λ d x fault. becomes_so LosesNone LosesForCause s d x (resume d) refl (λ q lost. lost) ends.Done;
 }
 
-losses_pairwise : IsPairwise LosesNone LosesForCause
+losses_pairwise : IsPairwise LosesNone (λ lossy alone. LosesForCause)
 losses_pairwise = record {
   own = λ d q lost. lost;
   on = λ x y z p r q lost. p q (r q lost);
-  made = λ x y p. inl p;
+  made = λ lossy alone x y p. inl p;
   joins = λ d q lost. lost;
-  splits = λ d q lost. lost;
-  replaces = replaced_keeps;
-  restores = λ d q lost. lost;
-  deeds = deeds_lose;
+  splits = λ d fault q lost. lost;
+  replaces = λ d side fault. replaced_keeps d side;
+  restores = λ d a is q lost. lost;
+  deeds = λ s p. deeds_of LosesNone LosesForCause s (deeds_lose s p);
 }
 
 pub run_loses_for_cause : (deck : DeckLines) → IsServedDeck deck → All LoseForCause (run_of deck).events
-run_loses_for_cause = run_pairs LosesNone LosesForCause losses_pairwise
+run_loses_for_cause = run_pairs LosesNone (λ lossy alone. LosesForCause) losses_pairwise

@@ -119,7 +119,8 @@ module _ (d : MarksDevice) (q : Quiet d) where
             let on_a = q.fair.un was b.nothing in
             let runs = runs_unharmed d.history.running (none_running _ (running_losses d.history.running) z.1) in (
               at (where_none_failed (λ e _. equipment_checks e.history ≡ 0) x (below_top d.store.counts.failed b.nothing.failed)
-                  (command_unchecked_within by_plain 0 marks_are_faithful d (within d q.fair.good) (q.fair.good.well was) whole (ap (λ (b : Bool). b || takes_b d.store) on_a.up, on_a.kept) runs z.0)) t
+                  (command_unchecked_within by_plain 0 marks_are_faithful d (within d q.fair.good) (q.fair.good.well was) whole
+                  (ap (λ (b : Bool). b || takes_b d.store) on_a.up, on_a.kept) runs z.0)) t
                   b.failed,
               at (command_has by_plain 0 d z.1) t,
             );
@@ -177,7 +178,8 @@ module _ (d : MarksDevice) (q : Quiet d) where
   loss_none losses.Cache t n c =
       absurd (some_counted d.store.counts.losses.cache (ap (λ (l : Losses). l.cache) (sym (at (stays_still (lose_based by_plain d losses.Cache)) t).3) ∙ c))
   loss_none losses.Store t n c =
-      absurd (some_counted d.store.counts.losses.store (ap (λ (l : Losses). l.store) (sym (at (stays_still (lose_based by_plain d losses.Store)) t).3) ∙ n.store))
+      absurd (some_counted d.store.counts.losses.store (ap (λ (l : Losses). l.store)
+      (sym (at (stays_still (lose_based by_plain d losses.Store)) t).3) ∙ n.store))
   loss_none (losses.Side side) t n c =
       absurd (some_counted d.store.counts.losses.sides
       (ap (λ (l : Losses). l.sides) (sym (at (stays_still (lose_based by_plain d (losses.Side side))) t).3) ∙ n.sides))

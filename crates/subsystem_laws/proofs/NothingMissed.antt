@@ -12,7 +12,7 @@ use Rattle.device_defs.specs.Excused.{count_lost, is_checked, is_data_check, is_
 use Rattle.device_defs.specs.Marks.{MarksDevice}
 use Rattle.device_defs.specs.Pledge.{ends_with_data_check}
 use Rattle.device_laws.specs.Unharmed.{ends_with_equipment_check}
-use Rattle.device_laws.proofs.KeptHistories.{AreNot}
+use Rattle.device_laws.proofs.KeptHistories.{AreNot, none_came}
 use Rattle.subsystem_defs.specs.Decks as D
 use Rattle.subsystem_defs.specs.Decks.{opened_device, opened, run_of}
 use Rattle.subsystem_defs.specs.Lines.{asked_by}
@@ -48,26 +48,6 @@ both_kept P Q k l = record {
 
 -- Journals
 
-module _ (p : Item → Bool) where
-  abbrev counts : ℕ → List Item → ℕ
-  counts m xs = fold (λ (k : ℕ) (x : Item). k + (if p x then 1 else 0)) m xs
-
-  grows : (m : ℕ) (xs : List Item) → m ≤ counts m xs
-  grows m [] = omega arith
-  grows m (x ∷ xs) = let more = grows (m + (if p x then 1 else 0)) xs in by_test (p x) more where
-    by_test : (b : Bool) → m + (if b then 1 else 0) ≤ counts (m + (if b then 1 else 0)) xs → m ≤ counts (m + (if b then 1 else 0)) xs
-    by_test true le = omega (arith, le)
-    by_test false le = omega (arith, le)
-
-  not_first : (n m : ℕ) (x : Item) (xs : List Item) (b : Bool) → p x ≡ b → counts (m + (if b then 1 else 0)) xs ≡ n → n ≤ m →
-      ((k : ℕ) → counts k xs ≡ n → n ≤ k → AreNot p xs) → (p x ≡ false) × AreNot p xs
-  not_first n m x xs true test is le more = absurd (let up = grows (m + 1) xs in omega (arith, up, is, le))
-  not_first n m x xs false test is le more = (test, more (m + 0) is (omega (arith, le)))
-
-  none_counted : (n m : ℕ) (xs : List Item) → counts m xs ≡ n → n ≤ m → AreNot p xs
-  none_counted n m [] is le = tt
-  none_counted n m (x ∷ xs) is le = not_first n m x xs (p x) refl is le (λ k e f. none_counted n k xs e f)
-
 served_if : (c d q l : Bool) → (c && d) ≡ false → (c && q) ≡ false → (not c || not (d || (q && not l))) ≡ true
 served_if false d q l e f = refl
 served_if true true q l e f = absurd (cc)
@@ -93,8 +73,8 @@ served (items.Power ∷ xs) h k = served xs h.1 k.1
 none_missed : (d : MarksDevice) → Quiet d × HasNoDataCheck d → MissesNothing d
 none_missed d x = λ nothing cache.
     and_true (are_served d.history.items) (count_lost d.store.lost == 0)
-    (served d.history.items (none_counted ends_with_data_check 0 0 d.history.items x.1 (omega arith))
-    (none_counted ends_with_equipment_check 0 0 d.history.items (x.0.none nothing cache).0 (omega arith)))
+    (served d.history.items (none_came ends_with_data_check 0 0 d.history.items x.1 (omega arith))
+    (none_came ends_with_equipment_check 0 0 d.history.items (x.0.none nothing cache).0 (omega arith)))
     (ap (λ (n : ℕ). n == 0) (keeps_tracks d x.0.fair nothing))
 
 opened_both : (deck : DeckLines) (ds : List DeviceLine) → AreSo Quiet (map (opened_device deck) ds) →

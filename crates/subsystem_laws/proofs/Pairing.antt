@@ -17,18 +17,44 @@ use Rattle.subsystem_defs.specs.declared.end.EventEnd.{EventEnd}
 use Rattle.subsystem_defs.specs.declared.end.OrderFault.{OrderFault}
 use Rattle.subsystem_defs.specs.declared.event.Event.{Event}
 use Rattle.subsystem_defs.specs.declared.event.Event.TheVariants as events
+use Rattle.subsystem_defs.specs.Calm.{is_loss, asks_loss, fails_alone_by, fails_alone_of}
 use Rattle.subsystem_defs.specs.Decks as D
 use Rattle.subsystem_defs.specs.Decks.{opened_device, opened, run_of}
 use Rattle.subsystem_defs.specs.Deeds.{Ends, Becomes, Asks, Each, Repairs, Lends, deed}
 use Rattle.subsystem_defs.specs.Happening as H
-use Rattle.subsystem_defs.specs.Happening.{Happened, MarksDeed, Talk, held_with, told_to, mounted_behind, behind_outcome, joined, lends, is_lent_to, restored_in, asks, becomes, happens_by, happens, quietly, sweep, replaced_by, replaced_at, replaced, unpaired_by, unpaired_at, unpaired}
+use Rattle.subsystem_defs.specs.Happening.{
+  Happened,
+  MarksDeed,
+  Talk,
+  held_with,
+  told_to,
+  mounted_behind,
+  behind_outcome,
+  joined,
+  lends,
+  is_lent_to,
+  restored_in,
+  asks,
+  becomes,
+  happens_by,
+  happens,
+  quietly,
+  sweep,
+  replaced_by,
+  replaced_at,
+  replaced,
+  unpaired_by,
+  unpaired_at,
+  unpaired,
+}
 use Rattle.subsystem_defs.specs.Lines.{Logged, Replace, Unpair, logged, asked_by}
 use Rattle.subsystem_defs.specs.Refusals.{replace_fault, unpair_fault}
 use Rattle.subsystem_defs.specs.Subsystem.{Mounted, Subsystem, number_of, devices_of, mounted_in, put_in, with_calls, unfailing}
 use Rattle.subsystem_laws.specs.Causes.{EachPair}
 use Rattle.subsystem_laws.specs.Served.{IsServedDeck}
-use Rattle.subsystem_laws.proofs.DeedWalk.{IsSeat, Stands, seat_of, IsDeedwise, deed_is}
+use Rattle.subsystem_laws.proofs.DeedWalk.{IsSeat, Stands, seat_of, IsEventwise, event_deed_is, IsDeedwise}
 use Rattle.subsystem_laws.proofs.RunLines.{Goes, run_shows}
+use Rattle.subsystem_laws.proofs.RunLinks.{event_from}
 use Rattle.subsystem_laws.proofs.TracksKept.{Fair, fair_kept, opened_fair}
 use Rattle.subsystem_laws.proofs.Walks.{AreSo, hold_answer, device_so, mounted_so, event_so, replaced_so, unpaired_so}
 
@@ -69,7 +95,8 @@ pairs_on r on (x ∷ xs) [] zs p q = absurd p
 pairs_on r on (x ∷ xs) (y ∷ ys) [] p q = absurd q
 pairs_on r on (x ∷ xs) (y ∷ ys) (z ∷ zs) p q = (on x y z p.0 q.0, pairs_on r on xs ys zs p.1 q.1)
 
-pairs_weaker : (r q : MarksDevice → MarksDevice → Type 0) → ((x y : MarksDevice) → r x y → q x y) → (xs ys : List MarksDevice) → EachPair r xs ys → EachPair q xs ys
+pairs_weaker : (r q : MarksDevice → MarksDevice → Type 0) → ((x y : MarksDevice) → r x y → q x y) → (xs ys : List MarksDevice) → EachPair r xs ys →
+    EachPair q xs ys
 pairs_weaker r q so [] [] p = tt
 pairs_weaker r q so [] (y ∷ ys) p = absurd p
 pairs_weaker r q so (x ∷ xs) [] p = absurd p
@@ -80,36 +107,41 @@ some_is x y e = cc
 
 -- What orders and what a device's own event make of it
 
-module _ (Still Made : MarksDevice → MarksDevice → Type 0) where
-  abbrev pub KeepsDeed : Subsystem → MarksDeed → Type 0
-  KeepsDeed s (Ends end) = ⊤
-  KeepsDeed s (Becomes d end) = (m : Mounted) → mounted_in s.mounted d.store.device ≡ Some m → Still m.device d
-  KeepsDeed s (Asks d talk) = IsSeat s d × ((t : Told) → Made d (T.hold true talk t).state)
-  KeepsDeed s (Each pool f) = (d : MarksDevice) (t : Told) → Made d (T.hold true (f d) t).state
-  KeepsDeed s (Repairs pool) = ⊤
-  KeepsDeed s (Lends a b) = IsSeat s b × ((t : Told) → Still b (T.hold true (lend by_plain b a.store.device) t).state)
+-- an event is a loss, or one of a volume that is alone
+module _ (Still : MarksDevice → MarksDevice → Type 0) (Made : Bool → Bool → MarksDevice → MarksDevice → Type 0) where
+  abbrev pub MadeBy : Subsystem → Event → MarksDevice → MarksDevice → Type 0
+  MadeBy s e = Made (is_loss e) (fails_alone_by s e)
+
+  abbrev pub KeepsEvent : Subsystem → Event → MarksDeed → Type 0
+  KeepsEvent s e (Ends end) = ⊤
+  KeepsEvent s e (Becomes d end) = (m : Mounted) → mounted_in s.mounted d.store.device ≡ Some m → Still m.device d
+  KeepsEvent s e (Asks d talk) = IsSeat s d × ((t : Told) → MadeBy s e d (T.hold true talk t).state)
+  KeepsEvent s e (Each pool f) = (d : MarksDevice) (t : Told) → MadeBy s e d (T.hold true (f d) t).state
+  KeepsEvent s e (Repairs pool) = ⊤
+  KeepsEvent s e (Lends a b) = IsSeat s b × ((t : Told) → Still b (T.hold true (lend by_plain b a.store.device) t).state)
 
   pub record IsPairwise : Type 0 where
     pub own : (d : MarksDevice) → Still d d
     pub on : (x y z : MarksDevice) → Still x y → Still y z → Still x z
-    pub made : (x y : MarksDevice) → Still x y → Made x y
+    pub made : (lossy alone : Bool) (x y : MarksDevice) → Still x y → Made lossy alone x y
     pub joins : (d : MarksDevice) → Still d (join d)
-    pub splits : (d : MarksDevice) → Still d (split d)
-    pub replaces : (d : MarksDevice) (side : Side) → Still d (replace d side)
-    pub restores : (d : MarksDevice) → Still d (restore d)
-    pub deeds : (s : Subsystem) → AreSo Fair s.mounted → IsDeedwise s (KeepsDeed s)
+    pub splits : (d : MarksDevice) → unpair_fault d ≡ None → Still d (split d)
+    pub replaces : (d : MarksDevice) (side : Side) → replace_fault d side ≡ None → Still d (replace d side)
+    pub restores : (d : MarksDevice) (a : ℕ) → is_lent_to d.store.lent a ≡ true → Still d (restore d)
+    pub deeds : (s : Subsystem) → AreSo Fair s.mounted → IsEventwise s (KeepsEvent s)
 
   module _ (k : IsPairwise) where
-    made_own : (d : MarksDevice) → Made d d
-    made_own d = k.made d d (k.own d)
+    made_own : (lossy alone : Bool) (d : MarksDevice) → Made lossy alone d d
+    made_own lossy alone d = k.made lossy alone d d (k.own d)
 
-    abbrev Shows : Happened → Type 0
-    Shows h = EachPair Made (devices_of h.before) (devices_of h.behind)
+    abbrev Shows : Bool → Bool → Happened → Type 0
+    Shows lossy alone h = EachPair (Made lossy alone) (devices_of h.before) (devices_of h.behind)
 
-    still_shows : (s : Subsystem) (ms : List Mounted) → Pairs Still s.mounted ms → Pairs Made s.mounted ms
-    still_shows s ms p = pairs_weaker Still Made k.made (devices_of s) (map (λ (m : Mounted). m.device) ms) p
+    still_shows : (lossy alone : Bool) (s : Subsystem) (ms : List Mounted) → Pairs Still s.mounted ms → Pairs (Made lossy alone) s.mounted ms
+    still_shows lossy alone s ms p = pairs_weaker Still (Made lossy alone) (k.made lossy alone) (devices_of s) (map (λ (m : Mounted). m.device) ms) p
 
-    put_same : (s : Subsystem) (n : ℕ) (m y : Mounted) → mounted_in s.mounted n ≡ Some m → Still m.device y.device → Pairs Still s.mounted (put_in s.mounted n y)
+    put_same : (s : Subsystem) (n : ℕ) (m y : Mounted) → mounted_in s.mounted n ≡ Some m → Still m.device y.device →
+        Pairs Still s.mounted (put_in s.mounted n y)
     put_same s n m y there is =
         pairs_put Still k.own n y s.mounted (λ x at. subst (λ (z : Mounted). Still z.device y.device) (some_is m x (sym there ∙ at)) is)
 
@@ -118,19 +150,20 @@ module _ (Still Made : MarksDevice → MarksDevice → Type 0) where
     becomes_shown s d h None = pairs_same Still k.own s.mounted
     becomes_shown s d h (Some m) = pairs_put Still k.own d.store.device (record m { device = d }) s.mounted h
 
-    asks_shown : (s : Subsystem) (d : MarksDevice) → IsSeat s d → (talk : Talk (Option EventEnd)) → ((t : Told) → Made d (T.hold true talk t).state) →
-        (o : Option Mounted) → Shows (asks s d.store.device o talk)
-    asks_shown s d seat talk h None = pairs_same Made made_own s.mounted
-    asks_shown s d seat talk h (Some m) =
-        pairs_put Made made_own d.store.device (mounted_behind (held_with s.pool m talk)) s.mounted
-        (λ x there. subst (λ (z : MarksDevice). Made z (held_with s.pool m talk).state) (sym (seat x there)) (h (told_to s.pool m)))
+    asks_shown : (lossy alone : Bool) (s : Subsystem) (d : MarksDevice) → IsSeat s d → (talk : Talk (Option EventEnd)) →
+        ((t : Told) → Made lossy alone d (T.hold true talk t).state) → (o : Option Mounted) → Shows lossy alone (asks s d.store.device o talk)
+    asks_shown lossy alone s d seat talk h None = pairs_same (Made lossy alone) (made_own lossy alone) s.mounted
+    asks_shown lossy alone s d seat talk h (Some m) =
+        pairs_put (Made lossy alone) (made_own lossy alone) d.store.device (mounted_behind (held_with s.pool m talk)) s.mounted
+        (λ x there. subst (λ (z : MarksDevice). Made lossy alone z (held_with s.pool m talk).state) (sym (seat x there)) (h (told_to s.pool m)))
 
     joined_shown : (z : Subsystem) (n : ℕ) (volume : Calls) (o : Option Mounted) → mounted_in z.mounted n ≡ o →
         Pairs Still z.mounted (joined z n volume o).mounted
     joined_shown z n volume None there = pairs_same Still k.own z.mounted
     joined_shown z n volume (Some m) there = put_same z n m (record m { device = join m.device; b = volume }) there (k.joins m.device)
 
-    lends_shown : (s : Subsystem) (a : ℕ) (d : MarksDevice) → IsSeat s d → ((t : Told) → Still d (T.hold true (lend by_plain d a) t).state) → (o : Option Mounted) →
+    lends_shown : (s : Subsystem) (a : ℕ) (d : MarksDevice) → IsSeat s d → ((t : Told) → Still d (T.hold true (lend by_plain d a) t).state) →
+        (o : Option Mounted) →
         mounted_in s.mounted d.store.device ≡ o → Pairs Still s.mounted (lends s a d.store.device o).mounted
     lends_shown s a d seat h None there = pairs_same Still k.own s.mounted
     lends_shown s a d seat h (Some m) there =
@@ -141,21 +174,21 @@ module _ (Still Made : MarksDevice → MarksDevice → Type 0) where
         (subst (λ (x : MarksDevice). Still x (T.hold true (lend by_plain x a) (told_to s.pool m)).state) (sym (seat m there)) (h (told_to s.pool m))))
         (joined_shown z a o.told.a (mounted_in z.mounted a) refl)
 
-    happens_shown : (s : Subsystem) (x : MarksDeed) → KeepsDeed s x → Shows (happens_by s x)
-    happens_shown s (Ends end) h = pairs_same Made made_own s.mounted
-    happens_shown s (Becomes d end) h =
-        still_shows s (becomes s d.store.device (mounted_in s.mounted d.store.device) d).mounted
+    happens_shown : (s : Subsystem) (e : Event) (x : MarksDeed) → KeepsEvent s e x → Shows (is_loss e) (fails_alone_by s e) (happens_by s x)
+    happens_shown s e (Ends end) h = pairs_same (MadeBy s e) (made_own (is_loss e) (fails_alone_by s e)) s.mounted
+    happens_shown s e (Becomes d end) h =
+        still_shows (is_loss e) (fails_alone_by s e) s (becomes s d.store.device (mounted_in s.mounted d.store.device) d).mounted
         (becomes_shown s d h (mounted_in s.mounted d.store.device))
-    happens_shown s (Asks d talk) h = asks_shown s d h.0 talk h.1 (mounted_in s.mounted d.store.device)
-    happens_shown s (Each pool f) h = pairs_swept Made made_own f h s.mounted pool
-    happens_shown s (Repairs pool) h = pairs_same Made made_own s.mounted
-    happens_shown s (Lends a b) h =
-        still_shows s (lends s a.store.device b.store.device (mounted_in s.mounted b.store.device)).mounted
+    happens_shown s e (Asks d talk) h = asks_shown (is_loss e) (fails_alone_by s e) s d h.0 talk h.1 (mounted_in s.mounted d.store.device)
+    happens_shown s e (Each pool f) h = pairs_swept (MadeBy s e) (made_own (is_loss e) (fails_alone_by s e)) f h s.mounted pool
+    happens_shown s e (Repairs pool) h = pairs_same (MadeBy s e) (made_own (is_loss e) (fails_alone_by s e)) s.mounted
+    happens_shown s e (Lends a b) h =
+        still_shows (is_loss e) (fails_alone_by s e) s (lends s a.store.device b.store.device (mounted_in s.mounted b.store.device)).mounted
         (lends_shown s a.store.device b h.0 h.1 (mounted_in s.mounted b.store.device) refl)
 
-    event_shown : (s : Subsystem) → AreSo Fair s.mounted → (e : Event) → Shows (happens s e)
+    event_shown : (s : Subsystem) → AreSo Fair s.mounted → (e : Event) → Shows (is_loss e) (fails_alone_by s e) (happens s e)
     unfolding H.happens
-    event_shown s p e = happens_shown s (deed by_plain s.pool (devices_of s) e) (deed_is s (KeepsDeed s) (k.deeds s p) e)
+    event_shown s p e = happens_shown s e (deed by_plain s.pool (devices_of s) e) (event_deed_is s (KeepsEvent s) (k.deeds s p) e)
 
     -- The two orders for which a volume is handed in
 
@@ -163,44 +196,51 @@ module _ (Still Made : MarksDevice → MarksDevice → Type 0) where
     with_still d m sides.A calls is = is
     with_still d m sides.B calls is = is
 
-    replaced_shown : (s : Subsystem) (n : ℕ) (side : Side) (calls : Calls) (o : Option Mounted) → mounted_in s.mounted n ≡ o → Shows (replaced_at s n side calls o)
-    replaced_shown s n side calls None there = pairs_same Made made_own s.mounted
-    replaced_shown s n side calls (Some m) there = by_fault (replace_fault m.device side) where
-      by_fault : (o : Option OrderFault) → Shows (replaced_by s n side calls m o)
-      by_fault (Some fault) = pairs_same Made made_own s.mounted
-      by_fault None =
+    abbrev Orders : Happened → Type 0
+    Orders h = Shows false false h
+
+    unordered : (s : Subsystem) → Pairs (Made false false) s.mounted s.mounted
+    unordered s = pairs_same (Made false false) (made_own false false) s.mounted
+
+    replaced_shown : (s : Subsystem) (n : ℕ) (side : Side) (calls : Calls) (o : Option Mounted) → mounted_in s.mounted n ≡ o →
+        Orders (replaced_at s n side calls o)
+    replaced_shown s n side calls None there = unordered s
+    replaced_shown s n side calls (Some m) there = by_fault (replace_fault m.device side) refl where
+      by_fault : (o : Option OrderFault) → replace_fault m.device side ≡ o → Orders (replaced_by s n side calls m o)
+      by_fault (Some fault) is = unordered s
+      by_fault None is =
           let y : Mounted = record m { device = replace m.device side } in
-          still_shows s (put_in s.mounted n (with_calls y side calls))
-          (put_same s n m (with_calls y side calls) there (with_still m.device y side calls (k.replaces m.device side)))
+          still_shows false false s (put_in s.mounted n (with_calls y side calls))
+          (put_same s n m (with_calls y side calls) there (with_still m.device y side calls (k.replaces m.device side is)))
 
     restored_shown : (ms : List Mounted) (a : ℕ) (calls : Calls) → Pairs Still ms (restored_in ms a calls)
     restored_shown [] a calls = tt
-    restored_shown (m ∷ ms) a calls = by_lent (is_lent_to m.device.store.lent a) (restored_shown ms a calls) where
-      by_lent : (b : Bool) → Pairs Still ms (restored_in ms a calls) →
+    restored_shown (m ∷ ms) a calls = by_lent (is_lent_to m.device.store.lent a) refl (restored_shown ms a calls) where
+      by_lent : (b : Bool) → is_lent_to m.device.store.lent a ≡ b → Pairs Still ms (restored_in ms a calls) →
           Pairs Still (m ∷ ms) (if b then record m { device = restore m.device; a = calls } ∷ ms else m ∷ restored_in ms a calls)
-      by_lent true later = (k.restores m.device, pairs_same Still k.own ms)
-      by_lent false later = (k.own m.device, later)
+      by_lent true is later = (k.restores m.device a is, pairs_same Still k.own ms)
+      by_lent false is later = (k.own m.device, later)
 
-    unpaired_shown : (s : Subsystem) (n : ℕ) (calls : Calls) (o : Option Mounted) → mounted_in s.mounted n ≡ o → Shows (unpaired_at s n calls o)
-    unpaired_shown s n calls None there = pairs_same Made made_own s.mounted
-    unpaired_shown s n calls (Some m) there = by_fault (unpair_fault m.device) where
-      by_fault : (o : Option OrderFault) → Shows (unpaired_by s n calls m o)
-      by_fault (Some fault) = pairs_same Made made_own s.mounted
-      by_fault None =
+    unpaired_shown : (s : Subsystem) (n : ℕ) (calls : Calls) (o : Option Mounted) → mounted_in s.mounted n ≡ o → Orders (unpaired_at s n calls o)
+    unpaired_shown s n calls None there = unordered s
+    unpaired_shown s n calls (Some m) there = by_fault (unpair_fault m.device) refl where
+      by_fault : (o : Option OrderFault) → unpair_fault m.device ≡ o → Orders (unpaired_by s n calls m o)
+      by_fault (Some fault) is = unordered s
+      by_fault None is =
           let x : Mounted = record m { device = split m.device } in
           let ms = put_in s.mounted n x in
           let ks = restored_in ms n calls in
-          still_shows s ks
+          still_shows false false s ks
           (pairs_on Still k.on (devices_of s) (map (λ (z : Mounted). z.device) ms) (map (λ (z : Mounted). z.device) ks)
-          (put_same s n m x there (k.splits m.device)) (restored_shown ms n calls))
+          (put_same s n m x there (k.splits m.device is)) (restored_shown ms n calls))
 
     -- All lines
 
     abbrev AreFair : Subsystem → Type 0
     AreFair s = AreSo Fair s.mounted
 
-    abbrev ShowsAll : Logged → Type 0
-    ShowsAll x = EachPair Made (devices_of x.happened.before) (devices_of x.happened.behind)
+    abbrev pub ShowsAll : Logged → Type 0
+    ShowsAll x = Shows (asks_loss x.asked) (fails_alone_of x.happened.before x.asked) x.happened
 
     replace_goes : (s : Subsystem) → AreFair s → (d : ℕ) (side : Side) →
         AreFair (replaced s d side unfailing).behind × ShowsAll (logged (Replace d side) (replaced s d side unfailing))
@@ -219,9 +259,12 @@ module _ (Still Made : MarksDevice → MarksDevice → Type 0) where
 
     pairs_go : Goes AreFair ShowsAll
     pairs_go = record {
-      once = λ s e q. (event_so Fair fair_kept s q e, event_shown s q e);
+      once = λ s e q. (
+        event_so Fair fair_kept s q e,
+        subst (λ (z : Subsystem). Shows (is_loss e) (fails_alone_by z e) (happens s e)) (sym (event_from s e)) (event_shown s q e),
+      );
       stepped = λ s d q. (event_so Fair fair_kept s q (events.Step d), event_shown s q (events.Step d));
-      idle = λ s d q. (q, pairs_same Made made_own s.mounted);
+      idle = λ s d q. (q, unordered s);
       backed = λ s d q. (event_so Fair fair_kept s q (events.Back d), event_shown s q (events.Back d));
       replaces = λ s d side q. replace_goes s q d side;
       unpairs = λ s a q. unpair_goes s q a;
@@ -230,6 +273,30 @@ module _ (Still Made : MarksDevice → MarksDevice → Type 0) where
     pub run_pairs : (deck : DeckLines) → IsServedDeck deck → All ShowsAll (run_of deck).events
     unfolding D.run_asked
     run_pairs deck h = run_shows AreFair ShowsAll pairs_go (map asked_by deck.events) (opened deck) (opened_fair deck deck.devices h.devices)
+
+-- whatever event it is of
+module _ (Still Made : MarksDevice → MarksDevice → Type 0) where
+  abbrev pub KeepsDeed : Subsystem → MarksDeed → Type 0
+  KeepsDeed s x = KeepsEvent Still (λ lossy alone. Made) s events.Power x
+
+  pub deeds_of : (s : Subsystem) → IsDeedwise s (KeepsDeed s) → IsEventwise s (KeepsEvent Still (λ lossy alone. Made) s)
+  deeds_of s k = record {
+    ended = λ e end. tt;
+    started = λ path n d x fault. k.started d x path fault;
+    seconded = λ e calm d x h is. k.seconded d x h is;
+    commanded = λ n d x whole o running. k.commanded d x whole o running;
+    worked = λ n d x whole. k.worked d x whole;
+    cut = λ path n d x. k.cut d x path;
+    lost_cache = k.lost_cache;
+    lost_store = k.lost_store;
+    lost_side = λ n d x here side fault. k.lost_side d x side fault;
+    lost_power = k.lost_power;
+    repaired_cache = tt;
+    repaired_store = tt;
+    lent = λ a b x y z w fault. k.lent x y z w fault;
+    held = λ n d x fault. k.held d x fault;
+    resumed = λ n d x fault. k.resumed d x fault;
+  }
 
   -- an answer is an event's end
   pub ends_made : {X Y : Type 0} (d : MarksDevice) (talk : Talk X) (f : X → Y) → ((t : Told) → Made d (T.hold true talk t).state) →

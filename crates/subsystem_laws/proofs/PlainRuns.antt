@@ -1,5 +1,30 @@
 -- In the run of a deck each device's history is one of a plain device after every event.
-use Rattle.std.proofs.Common.{◌≡◌, ◌≤◌, ◌==◌, zero, suc, ℕ, Bool, true, false, List, [], ◌∷◌, ◌++◌, map, Option, Some, None, is_some, refl, sym, ap, subst, ◌∙◌, arith}
+use Rattle.std.proofs.Common.{
+  ◌≡◌,
+  ◌≤◌,
+  ◌==◌,
+  zero,
+  suc,
+  ℕ,
+  Bool,
+  true,
+  false,
+  List,
+  [],
+  ◌∷◌,
+  ◌++◌,
+  map,
+  Option,
+  Some,
+  None,
+  is_some,
+  refl,
+  sym,
+  ap,
+  subst,
+  ◌∙◌,
+  arith,
+}
 use Rattle.std.specs.Prelude.{not, All, ⊤, IfSome, if◌then◌else◌}
 use Rattle.std.proofs.lemmas.Bool.{cond_both, eqb-true}
 use Rattle.std.proofs.lemmas.List.Elements.{All-nil, All-cons, All-head, All-tail}
@@ -43,15 +68,91 @@ use Rattle.subsystem_defs.specs.declared.event.Event.TheVariants as events
 use Rattle.subsystem_defs.specs.Decks as D
 use Rattle.subsystem_defs.specs.Decks.{opened_device, opened, run_of}
 use Rattle.subsystem_defs.specs.Deeds as E
-use Rattle.subsystem_defs.specs.Deeds.{back, order, repair, Ends, Becomes, Asks, Each, Repairs, Lends, deed, device_in, on_device, starts, start_by, is_own, step, seconds, ends_by, may_end_by, ends_done, end_of}
+use Rattle.subsystem_defs.specs.Deeds.{
+  back,
+  order,
+  repair,
+  Ends,
+  Becomes,
+  Asks,
+  Each,
+  Repairs,
+  Lends,
+  deed,
+  device_in,
+  on_device,
+  starts,
+  start_by,
+  is_own,
+  step,
+  seconds,
+  ends_by,
+  may_end_by,
+  ends_done,
+  end_of,
+}
 use Rattle.subsystem_defs.specs.Happening as H
-use Rattle.subsystem_defs.specs.Happening.{MarksDeed, Talk, held_with, told_to, mounted_behind, behind_outcome, joined, lends, is_lent_to, restored_in, asks, becomes, happens_by, happens, quietly, sweep, replaced_by, replaced_at, unpaired_by, unpaired_at}
+use Rattle.subsystem_defs.specs.Happening.{
+  MarksDeed,
+  Talk,
+  held_with,
+  told_to,
+  mounted_behind,
+  behind_outcome,
+  joined,
+  lends,
+  is_lent_to,
+  restored_in,
+  asks,
+  becomes,
+  happens_by,
+  happens,
+  quietly,
+  sweep,
+  replaced_by,
+  replaced_at,
+  unpaired_by,
+  unpaired_at,
+}
 use Rattle.subsystem_defs.specs.Lines as L
-use Rattle.subsystem_defs.specs.Lines.{is_settled, most_backs, backs, Asked, Once, Replace, Unpair, Run, Settle, asked_by, Logged, logged, is_busy, step_logged, steps, most_steps, run_logged, line_logged, last_behind, run_lines}
+use Rattle.subsystem_defs.specs.Lines.{
+  is_settled,
+  most_backs,
+  backs,
+  Asked,
+  Once,
+  Replace,
+  Unpair,
+  Run,
+  Settle,
+  asked_by,
+  Logged,
+  logged,
+  is_busy,
+  step_logged,
+  steps,
+  most_steps,
+  run_logged,
+  line_logged,
+  last_behind,
+  run_lines,
+}
 use Rattle.subsystem_defs.specs.Promised.{HasPlainHistory, IsPlainBehind}
 use Rattle.subsystem_defs.specs.Subsystem.{Mounted, Subsystem, number_of, devices_of, mounted_in, put_in, with_calls, unfailing}
 use Rattle.subsystem_defs.specs.Refusals as R
-use Rattle.subsystem_defs.specs.Refusals.{first_cause, where_so, lent_by, active_by, is_alike, pair_fault, suspend_fault, resume_fault, fail_fault, replace_fault, unpair_fault}
+use Rattle.subsystem_defs.specs.Refusals.{
+  first_cause,
+  where_so,
+  lent_by,
+  active_by,
+  is_alike,
+  pair_fault,
+  suspend_fault,
+  resume_fault,
+  fail_fault,
+  replace_fault,
+  unpair_fault,
+}
 use Rattle.subsystem_laws.specs.Served.{IsServedEvent, IsServed, IsServedDeck}
 
 -- a device that follows the plain device of its history
@@ -183,7 +284,9 @@ module _ (ms : List Mounted) where
   starts_by : (d : MarksDevice) (path : ℕ) (o : Option StartFault) → start_fault d path ≡ o → 1 ≤ path → path ≤ 4 → Plainly d →
       PlainDeed ms (start_by {R = Bool} d path o)
   starts_by d path (Some fault) is least most p = record { is = tt }
-  starts_by d path None is least most p = record { is = record { number = p.number; empty = p.empty; follows = start_follows p.number p.empty d p.follows path least most is } }
+  starts_by d path None is least most p = record {
+    is = record { number = p.number; empty = p.empty; follows = start_follows p.number p.empty d p.follows path least most is };
+  }
 
   starts_plain : (d : MarksDevice) (path : ℕ) → 1 ≤ path → path ≤ 4 → Plainly d → PlainDeed ms (starts {R = Bool} path d)
   starts_plain d path least most p =
@@ -315,9 +418,12 @@ module _ (s : Subsystem) (p : ArePlain s.mounted) where
   deed_plain (events.Step d) h = on_plain s.mounted (device_in (devices_of s) d) (step by_plain) (device_plain s.mounted d p) (step_plain s.mounted)
   deed_plain (events.Back d) h = on_plain s.mounted (device_in (devices_of s) d) (back by_plain) (device_plain s.mounted d p) (background_plain s.mounted)
   deed_plain (events.Reset path d) h =
-      on_plain s.mounted (device_in (devices_of s) d) (λ x. Asks x (ends_by ends_done (reset by_plain x path))) (device_plain s.mounted d p) (λ x q. reset_plain s.mounted x path q)
-  deed_plain events.FailCache h = deed_if s.mounted (not s.pool.cache_up) (λ _. record { is = tt }) (λ _. record { is = λ d q. loss_plain s.mounted d losses.Cache q })
-  deed_plain events.FailStore h = deed_if s.mounted (not s.pool.store_up) (λ _. record { is = tt }) (λ _. record { is = λ d q. loss_plain s.mounted d losses.Store q })
+      on_plain s.mounted (device_in (devices_of s) d) (λ x. Asks x (ends_by ends_done (reset by_plain x path))) (device_plain s.mounted d p)
+      (λ x q. reset_plain s.mounted x path q)
+  deed_plain events.FailCache h = deed_if s.mounted (not s.pool.cache_up) (λ _. record { is = tt })
+      (λ _. record { is = λ d q. loss_plain s.mounted d losses.Cache q })
+  deed_plain events.FailStore h = deed_if s.mounted (not s.pool.store_up) (λ _. record { is = tt })
+      (λ _. record { is = λ d q. loss_plain s.mounted d losses.Store q })
   deed_plain (events.FailVolume d side) h =
       on_plain s.mounted (device_in (devices_of s) d) (λ x. order (fail_fault x side) (Asks x (ends_by ends_done (lose by_plain x (losses.Side side)))))
       (device_plain s.mounted d p) (λ x q. side_plain s.mounted x side q)

@@ -57,7 +57,8 @@ device_ranges before words d h =
 devices_served : (before ds : List DeviceLine) → AllDevices before ds → All (λ (d : DeviceLine). 1 ≤ d.cylinders) ds
 devices_served before [] h = All-nil (λ (d : DeviceLine). 1 ≤ d.cylinders)
 devices_served before (d ∷ ds) h =
-    All-cons (λ (x : DeviceLine). 1 ≤ x.cylinders) d ds (device_ranges before (device_words d) d h.0.again).cylinders.low (devices_served (before ++ d ∷ []) ds h.1)
+    All-cons (λ (x : DeviceLine). 1 ≤ x.cylinders) d ds (device_ranges before (device_words d) d h.0.again).cylinders.low
+    (devices_served (before ++ d ∷ []) ds h.1)
 
 -- what is above all of these is none of them
 abbrev IsAbove : List DeviceLine → List ℕ → Type 0
@@ -75,7 +76,8 @@ above_more before seen d h n up =
     parts false b e = absurd (cc)
 
     by_test : (b : Bool) → (n == d.number) ≡ b → (rises before n ≡ true) × (nat_lt d.number n ≡ true) → (if b then true else is_in n seen) ≡ false
-    by_test true test up = absurd (let same : n ≡ d.number = eqb-true n d.number test in let less : d.number < n = ltb-true d.number n up.1 in omega (arith, same, less))
+    by_test true test up = absurd (let same : n ≡ d.number = eqb-true n d.number test in let less : d.number < n = ltb-true d.number n up.1 in omega
+        (arith, same, less))
     by_test false test up = h n up.0
 
 devices_numbered : (before : List DeviceLine) (seen : List ℕ) (ds : List DeviceLine) → IsAbove before seen → AllDevices before ds → AreNumbered seen ds

@@ -9,7 +9,27 @@ use Rattle.subsystem_defs.specs.declared.event.Event.{Event}
 use Rattle.subsystem_defs.specs.declared.event.Event.TheVariants as events
 use Rattle.subsystem_defs.specs.Happening.{Happened, happens, quietly, replaced, unpaired}
 use Rattle.subsystem_defs.specs.Lines as L
-use Rattle.subsystem_defs.specs.Lines.{is_settled, most_backs, backs, Asked, Once, Replace, Unpair, Run, Settle, Logged, logged, is_busy, step_logged, steps, most_steps, run_logged, line_logged, last_behind, run_lines}
+use Rattle.subsystem_defs.specs.Lines.{
+  is_settled,
+  most_backs,
+  backs,
+  Asked,
+  Once,
+  Replace,
+  Unpair,
+  Run,
+  Settle,
+  Logged,
+  logged,
+  is_busy,
+  step_logged,
+  steps,
+  most_steps,
+  run_logged,
+  line_logged,
+  last_behind,
+  run_lines,
+}
 use Rattle.subsystem_defs.specs.Subsystem.{Subsystem, mounted_in, unfailing}
 
 module _ (Q : Subsystem → Type 0) (R : Logged → Type 0) where

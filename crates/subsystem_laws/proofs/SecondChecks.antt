@@ -33,13 +33,14 @@ use Rattle.device_laws.proofs.UnlostParts.{hear_goes, tried_lucky}
 finished_done : (s : MarksStore) (t : ℕ) (i : Image) (bypass : Bool) → Lucky (λ z a. a ≡ true) (finished by_plain s t i bypass)
 finished_done s t i bypass = lucky_then (λ z _. Done z true) (lucky_any (write_done by_plain s t i bypass)) (λ z _ _. lucky_done refl)
 
-done_by : (s : MarksStore) (t : ℕ) (i : Image) (origin : Origin) → Lucky (λ z a. a ≡ true) (second_done by_plain s t i origin)
+pub done_by : (s : MarksStore) (t : ℕ) (i : Image) (origin : Origin) → Lucky (λ z a. a ≡ true) (second_done by_plain s t i origin)
 done_by s t i (OfCommand bypass e) = lucky_tell (λ r. finished_done _ t i bypass)
 done_by s t i (OfCut bypass) = finished_done s t i bypass
 done_by s t i OfBackground = finished_done s t i false
 
 -- where side B takes writes, or some side has the track
-pub part_done : (s : MarksStore) (h : HalfWrite (Unit {0})) → (takes_b s ≡ true) ⊎ (has_level s h.track ≡ true) → Lucky (λ z a. a ≡ true) (second_part by_plain s h)
+pub part_done : (s : MarksStore) (h : HalfWrite (Unit {0})) → (takes_b s ≡ true) ⊎ (has_level s h.track ≡ true) →
+    Lucky (λ z a. a ≡ true) (second_part by_plain s h)
 unfolding D.second_part
 part_done s h tried =
     lucky_then (λ z _. second_by by_plain h.track (half_image_of by_plain s h) h.origin z)
@@ -62,7 +63,8 @@ module _ (n : ℕ) where
   ended_so d t (Some o) None done is f = lucky_done f
   ended_so d t None k done is f = lucky_done f
 
-  pub end_so : (d : MarksDevice) (t : ℕ) (origin : Origin) (done : Bool) → done ≡ true → equipment_checks d.history ≡ n → Holds (second_ended by_plain d t origin done)
+  pub end_so : (d : MarksDevice) (t : ℕ) (origin : Origin) (done : Bool) → done ≡ true → equipment_checks d.history ≡ n →
+      Holds (second_ended by_plain d t origin done)
   end_so d t (OfCommand bypass e) done is f = ended_so d t d.history.running d.chain done is f
   end_so d t (OfCut bypass) done is f = lucky_done f
   end_so d t OfBackground done is f = lucky_done f
@@ -80,7 +82,8 @@ module _ (n : ℕ) where
       lucky_then (event_ended by_plain d)
       (lucky_then (λ s _. second_of by_plain (record (event_begun d) { store = s }) s.half) (hear_goes by_plain 960 (event_begun d).store)
       (λ s _ g. of_half_so (record (event_begun d) { store = s }) s.half (whole_behind d.store s g whole) f))
-      (λ y a h. lucky_then (λ z _. Done (record y { store = z }) a) (lucky_any (ended by_plain (waiting_count by_plain d.store) y.store)) (λ z _ _. lucky_done h))
+      (λ y a h. lucky_then (λ z _. Done (record y { store = z }) a) (lucky_any (ended by_plain (waiting_count by_plain d.store) y.store))
+      (λ z _ _. lucky_done h))
 
   pub background_unchecked : (d : MarksDevice) → equipment_checks d.history ≡ n → Always (background by_plain d) (λ e _. equipment_checks e.history ≡ n)
   unfolding E.background

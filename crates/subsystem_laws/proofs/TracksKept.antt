@@ -215,7 +215,8 @@ module _ (d : MarksDevice) (f : Fair d) where
       record {
         good = good t;
         most = at (stays_most (lend_based d to) (subst (λ (c : Counts). c.failed ≤ top) (sym (lent_counts d to)) f.most)) t;
-        un = λ home. absurd (let lent : is_some y.store.lent ≡ true = ap (λ (x : Option ℕ). is_some x) e.lent in let both : true ≡ false = sym lent ∙ home in cc);
+        un = λ home. absurd (let lent : is_some y.store.lent ≡ true = ap
+            (λ (x : Option ℕ). is_some x) e.lent in let both : true ≡ false = sym lent ∙ home in cc);
       }
 
   replace_same : (side : Side) → ((replace d side).store.counts.failed ≡ d.store.counts.failed) × ((replace d side).store.lent ≡ d.store.lent)

@@ -1,5 +1,35 @@
 -- Behind every event of a run the pool has been told how many tracks of all devices wait, and a repair answers by that.
-use Rattle.std.proofs.Common.{◌≡◌, ◌+◌, ◌*◌, ◌==◌, zero, suc, ℕ, Bool, true, false, not, List, [], ◌∷◌, length, map, replicate, Option, Some, None, is_some, set, get_or, refl, sym, ap, subst, ◌∙◌, arith}
+use Rattle.std.proofs.Common.{
+  ◌≡◌,
+  ◌+◌,
+  ◌*◌,
+  ◌==◌,
+  zero,
+  suc,
+  ℕ,
+  Bool,
+  true,
+  false,
+  not,
+  List,
+  [],
+  ◌∷◌,
+  length,
+  map,
+  replicate,
+  Option,
+  Some,
+  None,
+  is_some,
+  set,
+  get_or,
+  refl,
+  sym,
+  ap,
+  subst,
+  ◌∙◌,
+  arith,
+}
 use Rattle.std.proofs.lemmas.List.{get_or-set_same, get_or-set_other, length-set, set-get_or}
 use Rattle.std.specs.Prelude.{All, ⊤, IfSome, ◌&&◌, if◌then◌else◌}
 use Rattle.ckd_types.specs.declared.geometry.Geometry.{Geometry}
@@ -48,9 +78,56 @@ use Rattle.subsystem_defs.specs.declared.event.Event.TheVariants as events
 use Rattle.subsystem_defs.specs.Decks as D
 use Rattle.subsystem_defs.specs.Decks.{opened_device, opened, run_of}
 use Rattle.subsystem_defs.specs.Deeds as E
-use Rattle.subsystem_defs.specs.Deeds.{back, order, repair, Ends, Becomes, Asks, Each, Repairs, Lends, deed, device_in, on_device, starts, start_by, is_own, step, seconds, ends_by, may_end_by, ends_done, end_of}
+use Rattle.subsystem_defs.specs.Deeds.{
+  back,
+  order,
+  repair,
+  Ends,
+  Becomes,
+  Asks,
+  Each,
+  Repairs,
+  Lends,
+  deed,
+  device_in,
+  on_device,
+  starts,
+  start_by,
+  is_own,
+  step,
+  seconds,
+  ends_by,
+  may_end_by,
+  ends_done,
+  end_of,
+}
 use Rattle.subsystem_defs.specs.Happening as H
-use Rattle.subsystem_defs.specs.Happening.{Happened, MarksDeed, Talk, Swept, held_with, told_to, mounted_behind, behind_outcome, joined, lends, is_lent_to, restored_in, asks, becomes, happens_by, happens, quietly, sweep, replaced_by, replaced_at, replaced, unpaired_by, unpaired_at, unpaired}
+use Rattle.subsystem_defs.specs.Happening.{
+  Happened,
+  MarksDeed,
+  Talk,
+  Swept,
+  held_with,
+  told_to,
+  mounted_behind,
+  behind_outcome,
+  joined,
+  lends,
+  is_lent_to,
+  restored_in,
+  asks,
+  becomes,
+  happens_by,
+  happens,
+  quietly,
+  sweep,
+  replaced_by,
+  replaced_at,
+  replaced,
+  unpaired_by,
+  unpaired_at,
+  unpaired,
+}
 use Rattle.subsystem_defs.specs.Lines.{Asked, Once, Replace, Unpair, Run, Settle, logged, asked_by}
 use Rattle.subsystem_defs.specs.Refusals.{replace_fault, unpair_fault}
 use Rattle.subsystem_defs.specs.Subsystem.{Mounted, Subsystem, number_of, devices_of, mounted_in, put_in, with_calls, unfailing}
@@ -112,7 +189,8 @@ module _ (d : MarksDevice) where
   cut_by s h (OfCut bypass) = had_done refl
   cut_by s h OfBackground = had_done refl
 
-  half_same : (s : MarksStore) (o : Option (HalfWrite (Unit {0}))) → Had (half_cut by_plain s o) (λ z _. O.waiting_count by_plain z ≡ O.waiting_count by_plain s)
+  half_same : (s : MarksStore) (o : Option (HalfWrite (Unit {0}))) →
+      Had (half_cut by_plain s o) (λ z _. O.waiting_count by_plain z ≡ O.waiting_count by_plain s)
   half_same s (Some h) = cut_by s h h.origin
   half_same s None = had_done refl
 

@@ -1,5 +1,34 @@
 -- Where each device's number of waiting tracks stands at its place, and 0 everywhere else, all of them add up to what the devices have.
-use Rattle.std.proofs.Common.{◌≡◌, ◌≢◌, ◌<◌, ◌+◌, ◌==◌, zero, suc, ℕ, Bool, true, false, List, [], ◌∷◌, length, Some, set, get_or, refl, sym, ap, subst, ◌∙◌, arith, eqb-true, ◌⊎◌, inl, inr}
+use Rattle.std.proofs.Common.{
+  ◌≡◌,
+  ◌≢◌,
+  ◌<◌,
+  ◌+◌,
+  ◌==◌,
+  zero,
+  suc,
+  ℕ,
+  Bool,
+  true,
+  false,
+  List,
+  [],
+  ◌∷◌,
+  length,
+  Some,
+  set,
+  get_or,
+  refl,
+  sym,
+  ap,
+  subst,
+  ◌∙◌,
+  arith,
+  eqb-true,
+  ◌⊎◌,
+  inl,
+  inr,
+}
 use Rattle.std.proofs.lemmas.Bool.{cases_eq}
 use Rattle.std.proofs.lemmas.List.{get_or-set_same, get_or-set_other, length-set, set-get_or}
 use Rattle.std.proofs.lemmas.List.Sums.{sum_by-cons}
@@ -98,7 +127,8 @@ told_past {ws} {seen} n k here (one_told number own out lt is rest) =
     (get_or-set_other ws n number k 0 (apart number n seen out here) ∙ is) (told_past n k (in_more n number seen here) rest)
 
 -- the one that is looked for stands behind another
-past : (n : ℕ) (x : Mounted) (ms : List Mounted) (m : Mounted) (b : Bool) → b ≡ false → (if b then Some x else mounted_in ms n) ≡ Some m → mounted_in ms n ≡ Some m
+past : (n : ℕ) (x : Mounted) (ms : List Mounted) (m : Mounted) (b : Bool) → b ≡ false → (if b then Some x else mounted_in ms n) ≡ Some m →
+    mounted_in ms n ≡ Some m
 past n x ms m true e at = absurd (cc)
 past n x ms m false e at = at
 

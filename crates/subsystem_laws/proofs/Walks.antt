@@ -1,5 +1,29 @@
 -- What each event of a device keeps holds of all devices behind every event of a run.
-use Rattle.std.proofs.Common.{◌≡◌, ◌==◌, zero, suc, ℕ, Bool, true, false, List, [], ◌∷◌, ◌++◌, map, Option, Some, None, is_some, refl, sym, ap, subst, ◌∙◌, arith}
+use Rattle.std.proofs.Common.{
+  ◌≡◌,
+  ◌==◌,
+  zero,
+  suc,
+  ℕ,
+  Bool,
+  true,
+  false,
+  List,
+  [],
+  ◌∷◌,
+  ◌++◌,
+  map,
+  Option,
+  Some,
+  None,
+  is_some,
+  refl,
+  sym,
+  ap,
+  subst,
+  ◌∙◌,
+  arith,
+}
 use Rattle.std.specs.Prelude.{All, ⊤, IfSome, if◌then◌else◌}
 use Rattle.std.proofs.lemmas.Bool.{cond_both, eqb-true}
 use Rattle.std.proofs.lemmas.List.Elements.{All-nil, All-cons, All-head, All-tail}
@@ -28,9 +52,50 @@ use Rattle.subsystem_defs.specs.declared.event.Event.{Event}
 use Rattle.subsystem_defs.specs.declared.event.Event.TheVariants as events
 use Rattle.subsystem_defs.specs.Deeds.{Ends, Becomes, Asks, Each, Repairs, Lends, deed, device_in, ends_done, end_of}
 use Rattle.subsystem_defs.specs.Happening as H
-use Rattle.subsystem_defs.specs.Happening.{MarksDeed, Talk, held_with, told_to, mounted_behind, behind_outcome, joined, lends, is_lent_to, restored_in, asks, becomes, happens_by, happens, quietly, sweep, replaced_by, replaced_at, unpaired_by, unpaired_at}
+use Rattle.subsystem_defs.specs.Happening.{
+  MarksDeed,
+  Talk,
+  held_with,
+  told_to,
+  mounted_behind,
+  behind_outcome,
+  joined,
+  lends,
+  is_lent_to,
+  restored_in,
+  asks,
+  becomes,
+  happens_by,
+  happens,
+  quietly,
+  sweep,
+  replaced_by,
+  replaced_at,
+  unpaired_by,
+  unpaired_at,
+}
 use Rattle.subsystem_defs.specs.Lines as L
-use Rattle.subsystem_defs.specs.Lines.{is_settled, most_backs, backs, Asked, Once, Replace, Unpair, Run, Settle, Logged, logged, is_busy, step_logged, steps, most_steps, run_logged, line_logged, last_behind, run_lines}
+use Rattle.subsystem_defs.specs.Lines.{
+  is_settled,
+  most_backs,
+  backs,
+  Asked,
+  Once,
+  Replace,
+  Unpair,
+  Run,
+  Settle,
+  Logged,
+  logged,
+  is_busy,
+  step_logged,
+  steps,
+  most_steps,
+  run_logged,
+  line_logged,
+  last_behind,
+  run_lines,
+}
 use Rattle.subsystem_defs.specs.Subsystem.{Mounted, Subsystem, number_of, devices_of, mounted_in, put_in, with_calls, unfailing}
 use Rattle.subsystem_defs.specs.declared.end.OrderFault.TheVariants.{Same, Paired}
 use Rattle.subsystem_defs.specs.Refusals as R

@@ -33,7 +33,19 @@ use Rattle.subsystem_defs.specs.Happening.{
 }
 use Rattle.subsystem_defs.specs.Subsystem.{Mounted, Subsystem, devices_of, mounted_in, put_in}
 use Rattle.subsystem_laws.specs.WholeComes.{OwnDeed, OwnTalk, subsystem_of, Changes, IsNow, Asked, Swept, all_swept, one_swept, CameBy, IsWhatCame}
-use Rattle.subsystem_laws.specs.WholeStood.{HasChain, Stood, devices_at, stood_in, put_at, IsMounted, is_mounted, AreMountedBy, one_more, AreMounted, HaveChains}
+use Rattle.subsystem_laws.specs.WholeStood.{
+  HasChain,
+  Stood,
+  devices_at,
+  stood_in,
+  put_at,
+  IsMounted,
+  is_mounted,
+  AreMountedBy,
+  one_more,
+  AreMounted,
+  HaveChains,
+}
 use Rattle.subsystem_laws.proofs.WholeFinding.{device_mounted, Found, none_found, both_found, find, chain_at, device_stood}
 use Rattle.subsystem_laws.proofs.WholeSlots.{slots_of, first_shared, still_apart, rest_now}
 use Rattle.subsystem_laws.proofs.WholeTalks.{AreTwins, held_so}
@@ -160,7 +172,8 @@ module _ {K : Type 0} (hears : Hearing Image K) (p q : Pool) (xs ys : List Stood
         let stands : z ≡ f.behind =
         ap (λ (u : WholeDevice). record { device = u; a = x.on_a; b = x.on_b }) (sym f.is_so.device)
         ∙ ap (λ (u : Option (VolumeView (List ℕ))). record { device = f.behind.device; a = u; b = x.on_b }) (sym (f.is_so.a ∙ ap (λ (u : Stood). u.a) same))
-        ∙ ap (λ (u : Option (VolumeView (List ℕ))). record { device = f.behind.device; a = f.behind.a; b = u }) (sym (f.is_so.b ∙ ap (λ (u : Stood). u.b) same)) in
+        ∙ ap (λ (u : Option (VolumeView (List ℕ))). record { device = f.behind.device; a = f.behind.a; b = u })
+        (sym (f.is_so.b ∙ ap (λ (u : Stood). u.b) same)) in
         let is_so : IsMounted x.mine f.behind m =
         subst (λ (u : Stood). IsMounted x.mine u m) stands (is_mounted d x.plain x.firm x.held x.on_a x.on_b x.a x.b now x.slots x.told_a x.told_b) in
         subst (λ (r : Pool). AreMounted r ys (becomes s k (mounted_in ms k) (marks_device x.plain x.firm d)).mounted) (sym pool)

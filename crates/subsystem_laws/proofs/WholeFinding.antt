@@ -72,7 +72,8 @@ pub stood_other : (xs : List Stood) (n m : ℕ) (y : Stood) → number_at y ≡ 
 stood_other [] n m y is off = refl
 stood_other (x ∷ xs) n m y is off = by_place (number_at x == n) refl (stood_other xs n m y is off)
   where
-    by_place : (b : Bool) → (number_at x == n) ≡ b → stood_in (put_at xs n y) m ≡ stood_in xs m → stood_in (if b then y ∷ xs else x ∷ put_at xs n y) m ≡ (if number_at x == m then Some x else stood_in xs m)
+    by_place : (b : Bool) → (number_at x == n) ≡ b → stood_in (put_at xs n y) m ≡ stood_in xs m →
+        stood_in (if b then y ∷ xs else x ∷ put_at xs n y) m ≡ (if number_at x == m then Some x else stood_in xs m)
     by_place true e later =
         let same : number_at x ≡ n = eqb-true (number_at x) n e in
         ap (λ (k : ℕ). if k == m then Some y else stood_in xs m) is

@@ -192,7 +192,8 @@ module _ {K : Type 0} (hears : Hearing Image K) (p q : Pool) (xs ys : List Stood
     start_so path None i =
         subst (λ (y : MarksDevice). Lead (Becomes (start d path) (ends.Started (next_ordinal d path))) (Becomes y (ends.Started (next_ordinal d path))))
         (start_same x.plain x.firm d path)
-        (becomes_so hears p q xs ys ms e all n x (start d path) (ends.Started (next_ordinal d path)) (in_order (start_order x.plain x.firm d x.held path (i refl)))
+        (becomes_so hears p q xs ys ms e all n x (start d path) (ends.Started (next_ordinal d path))
+        (in_order (start_order x.plain x.firm d x.held path (i refl)))
         (same_place path))
 
     starts_so : (path : ℕ) → Lead (starts path d) (starts path m)
@@ -220,7 +221,8 @@ module _ {K : Type 0} (hears : Hearing Image K) (p q : Pool) (xs ys : List Stood
         (if b then seconds by_plain m
         else if is_some d.history.running then Asks m (may_end_by ends.Stepped (command by_plain m)) else Ends ends.Idle)) (sym (some_marked d.store.half))
         (leads_if hears p q xs ys ms e all (is_some d.store.half) (λ some. seconds_so some)
-        (λ none. leads_if hears p q xs ys ms e all (is_some d.history.running) (λ runs. commands_so none runs) (λ _. ends_so hears p q xs ys ms e all ends.Idle)))
+        (λ none. leads_if hears p q xs ys ms e all (is_some d.history.running) (λ runs. commands_so none runs)
+        (λ _. ends_so hears p q xs ys ms e all ends.Idle)))
 
     works_so : is_some d.store.half ≡ false →
         Lead (Asks d (may_end_by ends.Back (background contents d))) (Asks m (may_end_by ends.Back (background by_plain m)))
@@ -286,10 +288,12 @@ module _ {K : Type 0} (hears : Hearing Image K) (p q : Pool) (xs ys : List Stood
 
   -- Pools
 
-  each_lost : (r : Pool) → r.used ≡ p.used → (loss : _) → IsShared loss → Lead (Each r (λ y. lose contents y loss)) (Each (counted_slots r) (λ y. lose by_plain y loss))
+  each_lost : (r : Pool) → r.used ≡ p.used → (loss : _) → IsShared loss → Lead (Each r (λ y. lose contents y loss)) (Each (counted_slots r)
+      (λ y. lose by_plain y loss))
   each_lost r same loss shared =
       record {
-        leads = each_so hears (λ y. lose contents y loss) (λ y. lose by_plain y loss) (λ v w d h i. shared_loss_twins v w d h loss shared i) p r q xs ys ms e all same;
+        leads = each_so hears (λ y. lose contents y loss) (λ y. lose by_plain y loss)
+            (λ v w d h i. shared_loss_twins v w d h loss shared i) p r q xs ys ms e all same;
       }
 
   repairs_to : (up : Bool) (r : Pool) → r.used ≡ p.used → Lead (repair up p r) (repair up (counted_slots p) (counted_slots r))

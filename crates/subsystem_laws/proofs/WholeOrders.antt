@@ -72,7 +72,8 @@ is_down None true true more e = absurd (cc)
 is_down None false up more e = absurd (cc)
 is_down None true false more e = (refl, refl, refl)
 
-down_by : (d : WholeDevice) (side : Side) → replace_fault d side ≡ None → ((side_of d.store side).up ≡ false) × (R.has_side d.store side ≡ true) × (is_some d.store.lent ≡ false)
+down_by : (d : WholeDevice) (side : Side) → replace_fault d side ≡ None → ((side_of d.store side).up ≡ false) × (R.has_side d.store side ≡ true) ×
+    (is_some d.store.lent ≡ false)
 unfolding R.replace_fault
 down_by d side e =
     is_down d.store.lent (R.has_side d.store side) (side_of d.store side).up (where_so (is_some d.store.half) Half ∷ []) e
@@ -121,7 +122,8 @@ module _ (p : Pool) (xs : List Stood) (ms : List Mounted) (n : ℕ) (side : Side
             side calls)) (sym is) new) x.shared);
       }))
 
-  by_found : (x y : Stood) → Found p.used [] xs ms n → HaveChains xs → stood_in xs n ≡ Some x → length l ≡ tracks_of x.device.store → replace_fault x.device side ≡ None →
+  by_found : (x y : Stood) → Found p.used [] xs ms n → HaveChains xs → stood_in xs n ≡ Some x → length l ≡ tracks_of x.device.store →
+      replace_fault x.device side ≡ None →
       y ≡ with_volume x side volume (replace x.device side) →
       IsWhatCame (replaced_at (subsystem_of p ms) n side calls (mounted_in ms n)) Done p (put_at xs n y)
   by_found x y (none_found s t) chains at long free is = absurd (cc)

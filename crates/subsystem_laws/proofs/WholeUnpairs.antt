@@ -1,5 +1,35 @@
 -- A pair is taken apart: side B leaves, and the device that was lent gets an empty volume.
-use Rattle.std.proofs.Common.{◌≡◌, ◌<◌, ◌≤◌, ◌==◌, ◌+◌, ◌++◌, ℕ, zero, suc, Bool, true, false, List, [], ◌∷◌, Option, Some, None, is_some, refl, sym, ap, subst, ◌∙◌, arith, ◌⊎◌, inl, inr, eqb-true}
+use Rattle.std.proofs.Common.{
+  ◌≡◌,
+  ◌<◌,
+  ◌≤◌,
+  ◌==◌,
+  ◌+◌,
+  ◌++◌,
+  ℕ,
+  zero,
+  suc,
+  Bool,
+  true,
+  false,
+  List,
+  [],
+  ◌∷◌,
+  Option,
+  Some,
+  None,
+  is_some,
+  refl,
+  sym,
+  ap,
+  subst,
+  ◌∙◌,
+  arith,
+  ◌⊎◌,
+  inl,
+  inr,
+  eqb-true,
+}
 use Rattle.std.proofs.lemmas.Bool.{cases_eq}
 use Rattle.std.specs.Prelude.{if◌then◌else◌, not, option_map}
 use Rattle.ckd_types.specs.declared.paths.Side.TheVariants.{A}
@@ -148,10 +178,12 @@ module _ (p : Pool) (xs : List Stood) (ms : List Mounted) (n : ℕ) (calls : Cal
   abbrev parted : Stood → Stood
   parted x = record { device = split x.device; a = x.a; b = None }
 
-  split_mounted : (mine : List ℕ) (x : Stood) (m : Mounted) → IsMounted mine x m → MayPart x.device → IsMounted mine (parted x) (record m { device = split m.device })
+  split_mounted : (mine : List ℕ) (x : Stood) (m : Mounted) → IsMounted mine x m → MayPart x.device →
+      IsMounted mine (parted x) (record m { device = split m.device })
   split_mounted mine x m (is_mounted d v w h on_a on_b a b now slots told_a told_b) may =
       let i = paired_in_order now may.paired in
-      subst (λ (k : MarksDevice). IsMounted mine (parted (record { device = d; a = on_a; b = on_b })) (record { device = k; a = a; b = b })) (split_same v w d h)
+      subst (λ (k : MarksDevice). IsMounted mine (parted (record { device = d; a = on_a; b = on_b })) (record { device = k; a = a; b = b }))
+      (split_same v w d h)
       (is_mounted (split d) v w h on_a None a b (in_order (split_order v w d h i may.none may.up may.level)) slots told_a tt)
 
   fault_of : (mine : List ℕ) (x : Stood) (m : Mounted) → IsMounted mine x m → unpair_fault m.device ≡ unpair_fault x.device

@@ -5,3 +5,4 @@ pub mod WholeComes
 pub mod SlotsApart
 pub mod AllSound
 pub mod Waits
+pub mod Transfers

@@ -1,9 +1,11 @@
 //! Laws of the run of a deck: what causes the checks of its commands.
 
-ghost use Rattle.std.specs.Prelude.{◌≡◌, ℕ, List, Ok, All};
+ghost use Rattle.std.specs.Prelude.{◌≡◌, ◌<◌, ◌-◌, ◌^◌, ℕ, true, List, length, Ok, All};
 ghost use Rattle.deck_text.specs.DeckLines.{DeckLines};
 ghost use Rattle.deck_text.specs.Parse.{parsed};
+ghost use Rattle.subsystem_defs.specs.Calm.{is_calm};
 ghost use Rattle.subsystem_defs.specs.Decks.{run_of};
+ghost use Rattle.subsystem_defs.specs.Promised.{miss_nothing};
 ghost use Rattle.subsystem_laws.specs.Causes.{CheckForCause, CheckNothing, HaveGoodMarks, HaveNoDataCheck, KeepTracks, LoseForCause, MissNothing};
 ghost use Rattle.subsystem_laws.specs.Served.{IsServedDeck};
 
@@ -51,4 +53,13 @@ pub fn checks_have_causes()
 pub fn lost_tracks_have_causes()
     ensures served { (deck : DeckLines) → IsServedDeck deck → All LoseForCause (run_of deck).events }
     ensures read { (text : List ℕ) (deck : DeckLines) → parsed text ≡ Ok deck → All LoseForCause (run_of deck).events }
+{}
+
+/// Over a calm run, in which each failure comes where everything is repaired and no volume that is alone fails, every program is served and no track
+/// is lost behind any event. A deck that was read has few enough events for that.
+pub fn calm_run_misses_nothing()
+    ensures served { (deck : DeckLines) → IsServedDeck deck → length (run_of deck).events < 2 ^ 64 - 1 → is_calm (run_of deck).events ≡ true →
+        miss_nothing (run_of deck).events ≡ true }
+    ensures read { (text : List ℕ) (deck : DeckLines) → parsed text ≡ Ok deck → is_calm (run_of deck).events ≡ true →
+        miss_nothing (run_of deck).events ≡ true }
 {}

@@ -4,15 +4,18 @@
 mod causes;
 mod plain;
 mod standing;
+mod transfers;
 mod waits;
 mod whole;
 
 pub use causes::{
-    checks_have_causes, lost_tracks_have_causes, read_run_checks_nothing, run_checks_nothing,
-    run_has_good_marks, run_has_no_data_check, run_loses_no_track, run_misses_nothing,
+    calm_run_misses_nothing, checks_have_causes, lost_tracks_have_causes, read_run_checks_nothing,
+    run_checks_nothing, run_has_good_marks, run_has_no_data_check, run_loses_no_track,
+    run_misses_nothing,
 };
 pub use plain::{read_run_is_plain, run_is_plain};
 pub use standing::{devices_are_sound, slots_are_apart};
+pub use transfers::run_moves_by_table;
 pub use waits::{read_repairs_count_waiting, repairs_count_waiting};
 pub use whole::{
     whole_device_is_mounted, whole_event_is_what_happens, whole_events_are_what_happens,

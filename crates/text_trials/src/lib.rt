@@ -3,8 +3,6 @@
 #![tactic(auto)]
 
 #[cfg(test)]
-mod decks;
-#[cfg(test)]
 mod generated;
 #[cfg(test)]
 mod lines;
@@ -12,7 +10,3 @@ mod lines;
 mod outside;
 #[cfg(test)]
 mod plans;
-#[cfg(test)]
-mod replays;
-#[cfg(test)]
-mod reports;

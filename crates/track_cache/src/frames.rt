@@ -2,7 +2,8 @@ ghost use Rattle.std.specs.Prelude.{◌≡◌, ℕ, ◌≤◌, ◌<◌, ◌*◌,
 ghost use Rattle.std.specs.Option.{option_copied};
 ghost use Rattle.track_table.specs.Bits.{is_marked};
 ghost use Rattle.track_table.specs.Table.{with_places};
-ghost use Rattle.track_cache.specs.Frames.{frame_at, has_frame, image_at, is_modified_frame, is_modified, with_mark, edited_frame, SuitsFrame, HasFrameRoom, IsInsideFrame, unless_clean, put_frame};
+ghost use Rattle.track_cache.specs.Frames.{frame_at, has_frame, image_at, is_modified_frame, is_modified, with_mark, edited_frame};
+ghost use Rattle.track_cache.specs.Frames.{SuitsFrame, HasFrameRoom, IsInsideFrame, unless_clean, put_frame};
 ghost use Rattle.track_cache.specs.declared.frames.PutRefused.TheVariants as refusals;
 
 use ckd_types::{Edit, HEADS, NoMemory, TrackNo};

@@ -1,4 +1,5 @@
-ghost use Rattle.std.specs.Prelude.{◌≡◌, ◌≢◌, IsOk, ◌<◌, ◌≤◌, ◌^◌, ◌+◌, ◌↔◌, false, Err, IfOk, OnOk, OnErr, IfSome, All, true, [], ◌∷◌, ◌++◌, length, take, drop};
+ghost use Rattle.std.specs.Prelude.{◌≡◌, ◌≢◌, IsOk, ◌<◌, ◌≤◌, ◌^◌, ◌+◌, ◌↔◌, false, Err, IfOk, OnOk};
+ghost use Rattle.std.specs.Prelude.{OnErr, IfSome, All, true, [], ◌∷◌, ◌++◌, length, take, drop};
 ghost use Rattle.std.specs.List.{flat_map};
 ghost use Rattle.ckd_types.specs.Geometry.{cost, capacity};
 ghost use Rattle.ckd_types.specs.Track.{IsRecord, Fits, cost_of, find_id, empty_track, home_bytes, record_bytes, end_mark, track_bytes};

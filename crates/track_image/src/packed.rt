@@ -1,4 +1,5 @@
-ghost use Rattle.std.specs.Prelude.{◌≡◌, ◌<◌, ◌≤◌, ◌+◌, ◌∷◌, [], ◌++◌, IfOk, OnOk, OnErr, IsOk, IfSome, All, length, take, drop, slice_index_or, position, sum_by, vec_capacity, vec_len, ◌^◌};
+ghost use Rattle.std.specs.Prelude.{◌≡◌, ◌<◌, ◌≤◌, ◌+◌, ◌∷◌, [], ◌++◌, IfOk, OnOk, OnErr, IsOk, IfSome, All, length};
+ghost use Rattle.std.specs.Prelude.{take, drop, slice_index_or, position, sum_by, vec_capacity, vec_len, ◌^◌};
 ghost use Rattle.std.specs.List.{flat_map};
 ghost use Rattle.ckd_types.specs.Geometry.{cost};
 ghost use Rattle.ckd_types.specs.Track.{IsRecord, cost_of, find_id, is_same_id, empty_zero, record_bytes, end_mark, track_bytes};
@@ -38,7 +39,8 @@ impl Model for Packed {
 
     ghost view = { λ p. record { home = p.home; records = unpacked p.bytes.items p.places.items } };
 
-    ghost invariant = { λ p. IsPacked p.home p.bytes.items p.places.items (unpacked p.bytes.items p.places.items) × HasRoom p.places.items (vec_capacity p.bytes) };
+    ghost invariant = { λ p. IsPacked p.home p.bytes.items p.places.items (unpacked p.bytes.items p.places.items) ×
+        HasRoom p.places.items (vec_capacity p.bytes) };
 }
 
 /// The record at the front of bytes.
@@ -171,12 +173,14 @@ impl Packed {
         })
     }
 
+    /// The cylinder and head that its home area names.
     pub fn home(&self) -> Cchh
         ensures { result ≡ self.now.home }
     {
         self.home
     }
 
+    /// How many records it has, record 0 among them.
     pub fn len(&self) -> usize
         ensures value { result ≡ length self.now.records }
         ensures least { 1 ≤ result }
@@ -241,6 +245,7 @@ impl Packed {
         find_at(&self.bytes, &self.places, id)
     }
 
+    /// A record, lent from the bytes: 0 is record 0, and the others follow in their order on the track.
     pub fn record_at(&self, i: usize) -> RecordRef<'_>
         requires { i < length self.now.records }
         ensures { result ≡ slice_index_or self.now.records i (empty_zero 0) }
@@ -312,6 +317,7 @@ impl Packed {
         self.places.truncate(1);
     }
 
+    /// An equal one in memory of its own, with as much room as a track takes.
     pub fn copy(&self, alloc: Global) -> Result<Packed, NoMemory>
         ensures { IfOk result (λ made. made ≡ self.now) }
     {

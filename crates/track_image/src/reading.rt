@@ -101,7 +101,8 @@ fn find_records(geometry: Geometry, bytes: &[u8], places: &mut [u16]) -> Result<
     requires key { (count_at (drop HOME bytes.now)).key ≡ 0 }
     requires body { (count_at (drop HOME bytes.now)).body ≡ 8 }
     requires places { length places.old ≡ MOST }
-    ensures exact { map_ok (λ others. record_from (drop HOME bytes.now) ∷ others) (records_at (length bytes.now) geometry 0 BEHIND_ZERO (drop BEHIND_ZERO bytes.now))
+    ensures exact { map_ok (λ others. record_from (drop HOME bytes.now) ∷ others)
+        (records_at (length bytes.now) geometry 0 BEHIND_ZERO (drop BEHIND_ZERO bytes.now))
         ≡ map_ok (λ f. unpacked bytes.now (take f.count places.new)) result }
     ensures found { IfOk result (λ f. IsFound geometry bytes.now (take f.count places.new) f.spent) }
     ensures fault { IfErr result (λ offset. offset ≤ length bytes.now) }

@@ -1,4 +1,5 @@
-ghost use Rattle.std.specs.Prelude.{◌≡◌, ℕ, ◌≤◌, ◌<◌, ◌*◌, ◌+◌, ◌-◌, ◌==◌, ◌&&◌, ◌||◌, ◌%◌, ◌^◌, not, false, length, nat_le, replicate, slice_get, slice_set, if◌then◌else◌};
+ghost use Rattle.std.specs.Prelude.{◌≡◌, ℕ, ◌≤◌, ◌<◌, ◌*◌, ◌+◌, ◌-◌, ◌==◌, ◌&&◌, ◌||◌, ◌%◌, ◌^◌, not, false};
+ghost use Rattle.std.specs.Prelude.{length, nat_le, replicate, slice_get, slice_set, if◌then◌else◌};
 ghost use Rattle.std.specs.Int.{bit_at};
 ghost use Rattle.track_table.specs.Bits.{is_marked, marked_from, IsLeastFrom};
 ghost use Rattle.track_table.specs.Tracks.{least, count_below};

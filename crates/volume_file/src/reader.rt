@@ -52,12 +52,14 @@ impl FileReader {
         })
     }
 
+    /// The geometry that the head names.
     pub fn geometry(&self) -> Geometry
         ensures { result ≡ self.now.geometry }
     {
         self.geometry
     }
 
+    /// How many cylinders the head names: 1 to 64.
     pub fn cylinders(&self) -> u8
         ensures { result ≡ self.now.cylinders }
     {

@@ -79,12 +79,14 @@ impl FileVolume {
         let _ = &self.geometry;
     }
 
+    /// Which device type its tracks are laid out for.
     pub fn geometry(&self) -> Geometry
         ensures { result ≡ self.now.geometry }
     {
         self.geometry
     }
 
+    /// How many cylinders it has: 1 to 64, of 15 tracks each.
     pub fn cylinders(&self) -> u8
         ensures { result ≡ self.now.cylinders }
     {

@@ -4,7 +4,8 @@ ghost use Rattle.ckd_outside.specs.Pieces.{piece_text};
 ghost use Rattle.ckd_outside.specs.Causes.{Rose, HasCause};
 ghost use Rattle.ckd_outside.specs.Texts.{Writes};
 ghost use Rattle.volume_file.specs.File.{ImageVolume, IsWhole, file_of};
-ghost use Rattle.volume_tool.specs.Answers.{IsWritten, Tells, TellsFault, TellsList, code_of, head_text, task_by, task_of, track_text, trailing_text, usage_text};
+ghost use Rattle.volume_tool.specs.Answers.{IsWritten, Tells, TellsFault, TellsList, code_of, head_text};
+ghost use Rattle.volume_tool.specs.Answers.{task_by, task_of, track_text, trailing_text, usage_text};
 ghost use Rattle.volume_tool.specs.List.{rows_text};
 
 use crate::listing::{Row, read_listing, write_listing};

@@ -6,6 +6,7 @@ use Rattle.subsystem_defs.specs.Decks.{run_of}
 use Rattle.subsystem_laws.proofs.AllSound.{all_sound}
 use Rattle.subsystem_laws.proofs.PlainRuns.{plain_behind}
 use Rattle.subsystem_laws.proofs.SlotsApart.{slots_apart}
+use Rattle.subsystem_laws.proofs.MovedRuns.{run_moves}
 use Rattle.deck_run.specs.Ending.{end_lines_of}
 use Rattle.deck_run.proofs.Closing.{report_whole}
 use Rattle.deck_run.proofs.run.run_deck.Goals as goal
@@ -22,3 +23,6 @@ returns-clause-slots c = λ none. slots_apart (c.in_ok-ran.ensures.stands none).
 
 pub returns-clause-sound : goal.returns-clause-sound
 returns-clause-sound c = λ none served. all_sound (c.in_ok-ran.ensures.stands none).mounted (plain_behind c.args.deck.now served)
+
+pub returns-clause-transfers : goal.returns-clause-transfers
+returns-clause-transfers c = run_moves c.args.deck.now

@@ -13,6 +13,8 @@ use Rattle.device_store.proofs.Moves.{from_equal, weaker}
 use Rattle.device_core.proofs.Parts.{none_unmapped}
 use Rattle.device_core.specs.State.{device_of}
 use Rattle.device_core.proofs.Eventful.{event_run, begun_weight, fits_room}
+use Rattle.seen_laws.proofs.EventCounts.{background_moved}
+use Rattle.seen_laws.proofs.Others.{background_keeps}
 use Rattle.device_core.proofs.device.Device.background_with.Goals as goal
 
 pub close_event-requires : goal.close_event-requires
@@ -39,3 +41,9 @@ returns-clause-run g c =
 pub background-did-requires-clause-none : goal.background-did-requires-clause-none
 background-did-requires-clause-none g c =
     c.hear.ensures.half ∙ c.begin_event.ensures.half ∙ none_unmapped half_of c.args.self.now.store.half c.requires.whole
+
+pub returns-clause-paths : goal.returns-clause-paths
+returns-clause-paths g c = background_keeps _ _ _ (returns-clause-run g c)
+
+pub returns-clause-transfers : goal.returns-clause-transfers
+returns-clause-transfers g c = background_moved _ _ _ (returns-clause-run g c)

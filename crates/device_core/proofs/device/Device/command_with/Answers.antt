@@ -9,6 +9,8 @@ use Rattle.device_store.specs.State.{half_of, state_of}
 use Rattle.device_store.proofs.Moves.{had_ok, from_equal}
 use Rattle.device_core.proofs.Commands.{same_device}
 use Rattle.device_core.proofs.Parts.{mapped_some, none_unmapped}
+use Rattle.seen_laws.proofs.Calls.{ends_as_seen}
+use Rattle.seen_laws.proofs.EventCounts.{command_moved, hit_reads_none}
 use Rattle.device_core.proofs.device.Device.command_with.Goals as goal
 
 pub returns-in-Err-clause-run : goal.returns-in-Err-clause-run
@@ -35,3 +37,21 @@ returns-clause-half g c =
 pub returns-clause-same : goal.returns-clause-same
 returns-clause-same g c =
     on_err_weaker c.command_event.result (λ is. ap (λ x. is_some (option_map half_of x)) is) c.command_event.ensures.same
+
+pub returns-in-Err-clause-ends_as_seen : goal.returns-in-Err-clause-ends_as_seen
+returns-in-Err-clause-ends_as_seen g c = ends_as_seen _ _ _ (returns-in-Err-clause-run g c)
+
+pub returns-clause-ends_as_seen : goal.returns-clause-ends_as_seen
+returns-clause-ends_as_seen g c = ends_as_seen _ _ _ (returns-clause-run g c)
+
+pub returns-in-Err-clause-hits : goal.returns-in-Err-clause-hits
+returns-in-Err-clause-hits g c = hit_reads_none _ _ _ (returns-in-Err-clause-run g c)
+
+pub returns-clause-hits : goal.returns-clause-hits
+returns-clause-hits g c = hit_reads_none _ _ _ (returns-clause-run g c)
+
+pub returns-in-Err-clause-transfers : goal.returns-in-Err-clause-transfers
+returns-in-Err-clause-transfers g c = command_moved _ _ _ (returns-in-Err-clause-run g c)
+
+pub returns-clause-transfers : goal.returns-clause-transfers
+returns-clause-transfers g c = command_moved _ _ _ (returns-clause-run g c)

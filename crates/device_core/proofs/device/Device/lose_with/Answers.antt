@@ -11,6 +11,8 @@ use Rattle.device_store.specs.State.{state_of, outside_of}
 use Rattle.device_store.proofs.Moves.{from_equal}
 use Rattle.device_core.specs.State.{device_of}
 use Rattle.device_core.proofs.Eventful.{event_run, begun_weight, fits_room}
+use Rattle.seen_laws.proofs.EventCounts.{lose_moved}
+use Rattle.seen_laws.proofs.Others.{lose_keeps}
 use Rattle.device_core.proofs.device.Device.lose_with.Goals as goal
 
 pub close_event-requires : goal.close_event-requires
@@ -32,3 +34,9 @@ returns-clause-run g c =
     (joined (λ s _. Done (with_store z s) tt) (c.lose.ensures.run _) done)
     (from_equal (λ n. ended contents n (state_of c.lose.new.self)) c.waiting_count-before.ensures refl (c.close_event.ensures.run _))
     c.close_event.ensures.device
+
+pub returns-clause-paths : goal.returns-clause-paths
+returns-clause-paths g c = lose_keeps _ _ _ _ (returns-clause-run g c)
+
+pub returns-clause-transfers : goal.returns-clause-transfers
+returns-clause-transfers g c = lose_moved _ _ _ _ (returns-clause-run g c)

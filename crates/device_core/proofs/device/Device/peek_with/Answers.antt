@@ -14,6 +14,8 @@ use Rattle.device_store.proofs.Moves.{from_equal, weaker}
 use Rattle.device_core.specs.State.{device_of}
 use Rattle.device_core.proofs.Commands.{to_answer}
 use Rattle.device_core.proofs.Eventful.{quiet_run, begun_weight, fits_room}
+use Rattle.seen_laws.proofs.EventCounts.{peek_moved}
+use Rattle.seen_laws.proofs.Others.{peek_keeps}
 use Rattle.device_core.proofs.device.Device.peek_with.Goals as goal
 
 pub close_event-requires : goal.close_event-requires
@@ -40,3 +42,9 @@ returns-clause-run g c =
 pub returns-clause-there : goal.returns-clause-there
 returns-clause-there g c =
     subst (λ (q : StoreOf). IfOk c.peek-peeked.result (IsPeeked q c.args.t)) (sym c.close_event.ensures.rest) c.peek-peeked.ensures.there
+
+pub returns-clause-paths : goal.returns-clause-paths
+returns-clause-paths g c = peek_keeps _ _ _ _ (returns-clause-run g c)
+
+pub returns-clause-transfers : goal.returns-clause-transfers
+returns-clause-transfers g c = peek_moved _ _ _ _ (returns-clause-run g c)

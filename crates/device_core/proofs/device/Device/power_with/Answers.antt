@@ -10,6 +10,7 @@ use Rattle.device_store.proofs.Moves.{from_equal}
 use Rattle.device_core.specs.State.{device_by, device_of}
 use Rattle.device_core.proofs.Eventful.{quiet_run}
 use Rattle.device_core.proofs.Powers.{off_is}
+use Rattle.seen_laws.proofs.EventCounts.{power_moved}
 use Rattle.device_core.proofs.device.Device.power_with.Goals as goal
 
 pub returns-clause-run : goal.returns-clause-run
@@ -29,3 +30,6 @@ returns-clause-run g c =
     (sym (c.half_count-more.ensures.count ∙ ap (λ s. counts_one_by s.half) c.begin_event.ensures.state))
     c.lose_power.ensures.state c.new-self.ensures c.lose_power-2.ensures.history c.lose_power-2.ensures.over) refl)))
     (from_equal (λ n. owed.ended contents n (state_of c.lose_power.new.self)) c.waiting_count-before.ensures refl (c.end_event.ensures.run _)) refl
+
+pub returns-clause-transfers : goal.returns-clause-transfers
+returns-clause-transfers g c = power_moved _ _ _ (returns-clause-run g c)

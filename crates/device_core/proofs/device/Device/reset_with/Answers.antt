@@ -1,6 +1,8 @@
 use Rattle.std.proofs.Common.{◌∙◌, refl, sym}
 use Rattle.device_core.specs.State.{device_of}
 use Rattle.device_core.proofs.Resetting.{asks_nothing, reset_none}
+use Rattle.device_outside.specs.Outside.{no_pool}
+use Rattle.seen_laws.proofs.EventCounts.{reset_moved}
 use Rattle.device_core.proofs.device.Device.reset_with.Goals as goal
 
 pub returns-then-has_used-clause-run : goal.returns-then-has_used-clause-run
@@ -11,3 +13,12 @@ pub returns-clause-run : goal.returns-clause-run
 returns-clause-run g c =
     λ p. asks_nothing p c.args.keep.now c.args.self.now.store c.args.self.now.store
     (reset_none (device_of c.args.self.now) c.args.path (sym c.runs_on.ensures ∙ c.if-runs_on.false) (sym c.has_used.ensures ∙ c.if-has_used.false)) refl
+
+pub returns-then-runs_on-clause-transfers : goal.returns-then-runs_on-clause-transfers
+returns-then-runs_on-clause-transfers g c = reset_moved _ _ _ _ (c.cut_program.ensures.run (no_pool 0))
+
+pub returns-then-has_used-clause-transfers : goal.returns-then-has_used-clause-transfers
+returns-then-has_used-clause-transfers g c = reset_moved _ _ _ _ (returns-then-has_used-clause-run g c (no_pool 0))
+
+pub returns-clause-transfers : goal.returns-clause-transfers
+returns-clause-transfers g c = reset_moved _ _ _ _ (returns-clause-run g c (no_pool 0))

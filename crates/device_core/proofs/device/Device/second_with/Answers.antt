@@ -7,6 +7,8 @@ use Rattle.device_store.specs.State.{state_of, outside_of}
 use Rattle.device_store.proofs.Moves.{from_equal}
 use Rattle.device_core.specs.State.{device_of}
 use Rattle.device_core.proofs.Eventful.{event_run}
+use Rattle.seen_laws.proofs.Calls.{ends_as_kept}
+use Rattle.seen_laws.proofs.EventCounts.{second_moved}
 use Rattle.device_core.proofs.device.Device.second_with.Goals as goal
 
 pub returns-clause-whole : goal.returns-clause-whole
@@ -22,3 +24,9 @@ returns-clause-run g c =
     (ap (λ v. outside_of (g.P.Port.view c.args.port.now) g.V.Volume.view v c.args.keep.now) c.begin_event.ensures.volume) (c.hear.ensures.run c.args.keep.now))
     (c.second_where-step.ensures.run e is)
     (from_equal (λ n. owed.ended contents n (state_of c.second_where-step.new.self.store)) c.waiting_count-before.ensures refl (c.end_event.ensures.run _)) refl
+
+pub returns-clause-ends_as_kept : goal.returns-clause-ends_as_kept
+returns-clause-ends_as_kept g c = λ e is. ends_as_kept _ _ _ (returns-clause-run g c e is)
+
+pub returns-clause-transfers : goal.returns-clause-transfers
+returns-clause-transfers g c = λ e is. second_moved _ _ _ (returns-clause-run g c e is)

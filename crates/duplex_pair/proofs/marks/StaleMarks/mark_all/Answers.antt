@@ -28,6 +28,8 @@ pub returns : goal.returns
 returns c =
     let i = c.loop-t.invariant in
     let n = c.loop-t.self-inside.tracks in
-    let tracks : length c.args.self.now ≡ n = ap length (sym c.self.view_is) ∙ length-take-le c.self.inside.tracks c.self.inside.marks (omega (arith, c.self.invariant.0, c.self.invariant.1)) ∙ sym i.tracks in
+    let tracks : length c.args.self.now ≡ n = ap length (sym c.self.view_is)
+    ∙ length-take-le c.self.inside.tracks c.self.inside.marks (omega (arith, c.self.invariant.0, c.self.invariant.1))
+    ∙ sym i.tracks in
     rw tracks (all_marked n c.loop-t.self-inside.marks (omega (arith, i.tracks, c.self.invariant.0)) i.size
     (λ q lt. i.front q (omega (arith, lt, c.loop-t-test.false, c.loop-t.auto.t-end, i.tracks))))

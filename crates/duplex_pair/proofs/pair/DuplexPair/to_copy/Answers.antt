@@ -30,7 +30,15 @@ returns g c =
     let p = c.args.self.now in
     let up = sym c.both_up.ensures ∙ c.if-not-both_up.false in
     let each : (t : ℕ) → is_marked c.or.result t ≡ is_some (copies_in (marks_of p.a) (marks_of p.b) p.held t) =
-    λ t. rw (c.or.ensures t, c.without-to_a.ensures t, c.without-to_b.ensures t, c.marks.ensures.each t, c.marks-2.ensures.each t, c.marks-3.ensures.each t, c.marks-4.ensures.each t)
+    λ t. rw (
+      c.or.ensures t,
+      c.without-to_a.ensures t,
+      c.without-to_b.ensures t,
+      c.marks.ensures.each t,
+      c.marks-2.ensures.each t,
+      c.marks-3.ensures.each t,
+      c.marks-4.ensures.each t,
+    )
     (free_copied (marks_of p.a) (marks_of p.b) p.held t up c.if-self.false)
     in
     c.first-2.ensures

@@ -27,7 +27,8 @@ pub returns-clause-loose : goal.returns-clause-loose
 returns-clause-loose c =
     let n = c.self.inside.tracks in
     let marks = c.self.inside.marks in
-    let tracks : length c.args.self.now.loose ≡ n = ap (λ v. length v.loose) (sym c.self.view_is) ∙ length-take-le n marks (omega (arith, c.self.invariant.0, c.self.invariant.1)) in
+    let tracks : length c.args.self.now.loose ≡ n = ap (λ v. length v.loose) (sym c.self.view_is)
+    ∙ length-take-le n marks (omega (arith, c.self.invariant.0, c.self.invariant.1)) in
     rw (c.new-self-inside.ensures, tracks) (take-replicate n 960 false c.self.invariant.0)
 
 pub returns-clause-weight : goal.returns-clause-weight

@@ -9,7 +9,12 @@ new-requires c = record { sizes = deck_sized c.deref.result.now c.in-Ok.deck c.i
 
 pub returns-clause-follows : goal.returns-clause-follows
 returns-clause-follows c = λ rest.
-    let q : Progress = record { deck = c.new-2.result.items; lines = c.self.inside.lines + 1; auditor = Some c.in_ok-new.field-0; status = c.self.inside.status } in
+    let q : Progress = record {
+      deck = c.new-2.result.items;
+      lines = c.self.inside.lines + 1;
+      auditor = Some c.in_ok-new.field-0;
+      status = c.self.inside.status;
+    } in
     report_opens c.args.self.now q rest c.requires.front c.requires.deck
     (opens_deck c.args.self.now q c.deref.result.now c.in-Ok.deck c.in_ok-new.field-0 c.in-Ok.ensures
     (c.deref.ensures.value ∙ ap (λ (v : Progress). v.deck) c.self.view_is) (ap (λ (v : Progress). v.status) c.self.view_is ∙ c.requires.front) refl
@@ -17,7 +22,12 @@ returns-clause-follows c = λ rest.
 
 pub returns-clause-last : goal.returns-clause-last
 returns-clause-last c =
-    let q : Progress = record { deck = c.new-2.result.items; lines = c.self.inside.lines + 1; auditor = Some c.in_ok-new.field-0; status = c.self.inside.status } in
+    let q : Progress = record {
+      deck = c.new-2.result.items;
+      lines = c.self.inside.lines + 1;
+      auditor = Some c.in_ok-new.field-0;
+      status = c.self.inside.status;
+    } in
     report_alone_opens c.args.self.now q c.requires.front c.requires.deck
     (opens_deck c.args.self.now q c.deref.result.now c.in-Ok.deck c.in_ok-new.field-0 c.in-Ok.ensures
     (c.deref.ensures.value ∙ ap (λ (v : Progress). v.deck) c.self.view_is) (ap (λ (v : Progress). v.status) c.self.view_is ∙ c.requires.front) refl

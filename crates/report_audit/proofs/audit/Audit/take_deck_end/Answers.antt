@@ -7,4 +7,5 @@ use Rattle.report_audit.proofs.audit.Audit.take_deck_end.Goals as goal
 pub returns-clause-last : goal.returns-clause-last
 returns-clause-last c =
     subst (λ (q : Progress). GoesOn c.args.self.now c.args.line.now q []) (sym c.in_ok-put_deck.ensures.deck)
-    (deck_ends c.args.self.now c.args.line.now c.requires.front c.requires.deck c.requires.one c.requires.some (subst (λ (w : List ℕ). bytes_eq c.args.line.now w ≡ false) c.as_slice.ensures (sym c.if-eq.ensures)))
+    (deck_ends c.args.self.now c.args.line.now c.requires.front c.requires.deck c.requires.one c.requires.some
+    (subst (λ (w : List ℕ). bytes_eq c.args.line.now w ≡ false) c.as_slice.ensures (sym c.if-eq.ensures)))

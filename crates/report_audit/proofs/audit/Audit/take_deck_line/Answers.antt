@@ -7,4 +7,5 @@ use Rattle.report_audit.proofs.audit.Audit.take_deck_line.Goals as goal
 pub returns-clause-follows : goal.returns-clause-follows
 returns-clause-follows c = λ rest.
     subst (λ (q : Progress). GoesOn c.args.self.now (c.args.line.now ++ 10 ∷ rest) q rest) (sym c.in_ok-put_deck.ensures.deck)
-    (deck_goes c.args.self.now c.args.line.now rest c.requires.front c.requires.deck c.requires.one (subst (λ (w : List ℕ). bytes_eq c.args.line.now w ≡ false) c.as_slice.ensures (sym c.if-eq.ensures)))
+    (deck_goes c.args.self.now c.args.line.now rest c.requires.front c.requires.deck c.requires.one
+    (subst (λ (w : List ℕ). bytes_eq c.args.line.now w ≡ false) c.as_slice.ensures (sym c.if-eq.ensures)))

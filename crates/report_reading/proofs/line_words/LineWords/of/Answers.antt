@@ -11,7 +11,8 @@ returns-in-None c =
 pub loop-count-preserved : goal.loop-count-preserved
 loop-count-preserved c =
     let (before, count) = c.loop-count.invariant in (
-      one_more (λ (x : Bor (List ℕ)). x.now) c.loop-count.first c.loop-count.count c.first_word.result.0 c.args.text.now c.loop-count.left.now (Some c.in-Some.more.now)
+      one_more (λ (x : Bor (List ℕ)). x.now) c.loop-count.first c.loop-count.count c.first_word.result.0 c.args.text.now
+          c.loop-count.left.now (Some c.in-Some.more.now)
           (omega (arith, count, c.loop-count-test.true)) before (rw c.in-Some.is at c.first_word.ensures),
       length-set c.loop-count.first c.loop-count.count c.first_word.result.0 ∙ count,
     )
