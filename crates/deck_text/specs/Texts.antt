@@ -14,7 +14,6 @@ why_text reasons.Number = codes "number"
 why_text reasons.Hex = codes "hex"
 why_text reasons.Program = codes "program"
 why_text reasons.Unfinished = codes "unfinished"
-why_text reasons.Later = codes "later"
 
 unfoldable pub refused_text : ℕ → DeckWhy → List ℕ
 refused_text line why = codes "deck line " ++ (decimal line ++ (codes ": " ++ (why_text why ++ codes "\n")))

@@ -4,7 +4,7 @@ use std::alloc::{AllocError, AllocFailed};
 
 /// Why a line is refused: the first reason that applies, in this order. A program of channel command
 /// words that is none is `Program`. A text that ends before EVENTS is `Unfinished` at the line behind
-/// its last. `Later` is no reading's answer: it is for who runs decks, where a line isn't served yet.
+/// its last.
 #[derive(Clone, Copy, Debug, PartialEq, Eq)]
 pub enum DeckWhy {
     Byte,
@@ -15,7 +15,6 @@ pub enum DeckWhy {
     Hex,
     Program,
     Unfinished,
-    Later,
 }
 
 /// A limit that a deck passes.

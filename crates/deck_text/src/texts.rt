@@ -30,7 +30,6 @@ fn why_text(why: DeckWhy) -> &'static [u8]
         DeckWhy::Hex => b"hex",
         DeckWhy::Program => b"program",
         DeckWhy::Unfinished => b"unfinished",
-        DeckWhy::Later => b"later",
     }
 }
 
