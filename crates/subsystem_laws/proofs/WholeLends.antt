@@ -1,33 +1,7 @@
 -- Two devices become a pair: the one lends its volume, and it becomes side B of the other.
-use Rattle.std.proofs.Common.{
-  ◌≡◌,
-  ℕ,
-  ◌==◌,
-  ◌&&◌,
-  ◌*◌,
-  Bool,
-  true,
-  false,
-  List,
-  [],
-  ◌∷◌,
-  length,
-  Option,
-  Some,
-  None,
-  is_some,
-  refl,
-  sym,
-  ap,
-  subst,
-  ◌∙◌,
-  arith,
-  eqb-true,
-}
-use Rattle.std.specs.Prelude.{not}
+use Rattle.std.proofs.Common.{◌≡◌, ℕ, ◌==◌, ◌*◌, Bool, true, false, List, [], length, Option, Some, None, is_some, refl, sym, ap, subst, ◌∙◌, arith, eqb-true}
 use Rattle.ckd_types.specs.declared.paths.Side.TheVariants.{A, B}
 use Rattle.ckd_types.specs.declared.record.Track.{Track}
-use Rattle.plain_defs.specs.History.{OpenEntry}
 use Rattle.track_image.specs.Image.{Image}
 use Rattle.device_outside.specs.Both.{SideTold, Linked}
 use Rattle.device_outside.specs.Keeper.{Hearing}
@@ -47,12 +21,9 @@ use Rattle.device_laws.specs.Whole.{WholeDevice, marks_device, WholeTwin, holdin
 use Rattle.device_laws.proofs.Lending.{LeavesLending, lend_long}
 use Rattle.device_laws.proofs.OrdersInOrder.{join_order, join_same}
 use Rattle.subsystem_defs.specs.declared.end.EventEnd.TheVariants as ends
-use Rattle.subsystem_defs.specs.declared.end.OrderFault.{OrderFault}
-use Rattle.subsystem_defs.specs.declared.end.OrderFault.TheVariants.{Same, Paired, Geometry, Down}
 use Rattle.subsystem_defs.specs.Happening.{told_to, held_with, mounted_behind, behind_outcome, joined, lends, quietly}
-use Rattle.subsystem_defs.specs.Refusals as R
-use Rattle.subsystem_defs.specs.Refusals.{pair_fault}
 use Rattle.subsystem_defs.specs.Subsystem.{Mounted, Subsystem, mounted_in, put_in}
+use Rattle.subsystem_defs.proofs.Unrefused.{MayPair}
 use Rattle.subsystem_laws.specs.WholeComes.{subsystem_of, outside_at, Asked, Joins, IsWhatCame}
 use Rattle.subsystem_laws.specs.WholeStood.{Stood, stood_in, put_at, IsMounted, is_mounted, AreMounted}
 use Rattle.subsystem_laws.proofs.WholeDeeds.{Seat}
@@ -62,68 +33,6 @@ use Rattle.subsystem_laws.proofs.WholeTalks.{told_pool, shared_by, stands, mount
 some_is : {X : Type 0} (x y : X) → Some x ≡ Some y → x ≡ y
 some_is x y e = cc
 
--- When two devices may become a pair
-
-pub record MayPair (x y : WholeDevice) : Type 0 where
-  pub other : (x.store.device == y.store.device) ≡ false
-  pub free_x : is_some x.store.lent ≡ false
-  pub free_y : is_some y.store.lent ≡ false
-  pub single_x : x.store.paired ≡ false
-  pub single_y : y.store.paired ≡ false
-  pub idle : y.history.running ≡ None
-  pub alike : x.store.cylinders ≡ y.store.cylinders
-  pub up : y.store.a.up ≡ true
-
-pub first_none : (o : Option OrderFault) (more : List (Option OrderFault)) → R.first_cause (o ∷ more) ≡ None → (o ≡ None) × (R.first_cause more ≡ None)
-first_none None more e = (refl, e)
-first_none (Some f) more e = absurd (cc)
-
-pub where_none : (b : Bool) (f : OrderFault) → R.where_so b f ≡ None → b ≡ false
-where_none true f e = absurd (cc)
-where_none false f e = refl
-
-lent_none : (o : Option ℕ) → R.lent_by o ≡ None → is_some o ≡ false
-lent_none None e = refl
-lent_none (Some to) e = absurd (cc)
-
-active_none : (o : Option OpenEntry) → R.active_by o ≡ None → o ≡ None
-active_none None e = refl
-active_none (Some o) e = absurd (cc)
-
-pub is_not : (b : Bool) → not b ≡ false → b ≡ true
-is_not true e = refl
-is_not false e = absurd (cc)
-
-both_are : (x y : Bool) → (x && y) ≡ true → y ≡ true
-both_are true y e = e
-both_are false y e = absurd (cc)
-
-pub may_pair : (x y : WholeDevice) → pair_fault x y ≡ None → MayPair x y
-unfolding R.pair_fault
-may_pair x y e =
-    let a = first_none (R.where_so (x.store.device == y.store.device) Same) _ e in
-    let b = first_none (R.lent_by x.store.lent) _ a.1 in
-    let c = first_none (R.lent_by y.store.lent) _ b.1 in
-    let d = first_none (R.where_so x.store.paired Paired) _ c.1 in
-    let f = first_none (R.where_so y.store.paired Paired) _ d.1 in
-    let g = first_none (R.active_by x.history.running) _ f.1 in
-    let h = first_none (R.active_by y.history.running) _ g.1 in
-    let i = first_none (R.where_so (not (R.is_alike x.store y.store)) Geometry) _ h.1 in
-    let j = first_none (R.where_so (not x.store.a.up) Down) _ i.1 in
-    let k = first_none (R.where_so (not y.store.a.up) Down) _ j.1 in
-    let alike = is_not (R.is_alike x.store y.store) (where_none (not (R.is_alike x.store y.store)) Geometry i.0) in
-    record {
-      other = where_none (x.store.device == y.store.device) Same a.0;
-      free_x = lent_none x.store.lent b.0;
-      free_y = lent_none y.store.lent c.0;
-      single_x = where_none x.store.paired Paired d.0;
-      single_y = where_none y.store.paired Paired f.0;
-      idle = active_none y.history.running h.0;
-      alike = eqb-true x.store.cylinders y.store.cylinders
-          (both_are (R.is_same_kind x.store.geometry y.store.geometry) (x.store.cylinders == y.store.cylinders) alike);
-      up = is_not y.store.a.up (where_none (not y.store.a.up) Down k.0);
-    }
-
 pub here_in_order : {v w : List Track} {d : WholeDevice} {h : Held} → Stands v w d h → is_some d.store.lent ≡ false → IsInOrder v w d.store h
 here_in_order (in_order i) free = i
 here_in_order (is_away i) free = absurd (let lent = i.store.lent in cc)
@@ -132,8 +41,7 @@ turned : (m n : ℕ) → (m == n) ≡ false → (n == m) ≡ false
 turned m n e = by_case (n == m) refl
   where
     by_case : (b : Bool) → (n == m) ≡ b → b ≡ false
-    by_case true f = absurd (let same : n ≡ m = eqb-true n m f in let k : (m == m) ≡ true = grind arith in let l = subst
-        (λ (i : ℕ). (m == i) ≡ false) same e in cc)
+    by_case true f = absurd (let same : n ≡ m = eqb-true n m f in let k : (m == m) ≡ true = grind arith in let l = subst (λ (i : ℕ). (m == i) ≡ false) same e in cc)
     by_case false f = refl
 
 -- What the one that lends leaves
@@ -217,8 +125,7 @@ module _ {K : Type 0} (hears : Hearing Image K) (p q : Pool) (xs ys : List Stood
     abbrev there : Mounted
     there = record { device = marks_device y.plain y.firm y.device; a = y.a; b = y.b }
 
-    lends_at : Joins hears n m y.device p xs q ys → IsWhatCame
-        (quietly (subsystem_of p ms) (lends (subsystem_of p ms) n m (mounted_in ms m)) ends.Done) ends.Done q ys
+    lends_at : Joins hears n m y.device p xs q ys → IsWhatCame (quietly (subsystem_of p ms) (lends (subsystem_of p ms) n m (mounted_in ms m)) ends.Done) ends.Done q ys
     lends_at f =
         let s = subsystem_of p ms in
         let order_y = here_in_order y.stands may.free_y in
