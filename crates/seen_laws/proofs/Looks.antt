@@ -1,5 +1,5 @@
 -- What the image of a track is: the one in its frame, or that of the bytes of a level side.
-use Rattle.std.proofs.Common.{◌≡◌, ◌⊎◌, ℕ, Bool, true, false, List, Option, Some, None, refl, ap, subst, ◌∙◌, inl, inr}
+use Rattle.std.proofs.Common.{◌≡◌, ℕ, Bool, true, false, List, Option, Some, None, refl, sym, ap, subst, ◌∙◌}
 use Rattle.std.specs.Prelude.{if◌then◌else◌}
 use Rattle.ckd_types.specs.declared.parameters.Mode.{Mode}
 use Rattle.ckd_types.specs.declared.paths.Side.{Side}
@@ -7,12 +7,13 @@ use Rattle.ckd_types.specs.declared.paths.Side.TheVariants.{A, B}
 use Rattle.ckd_types.specs.Parameters.{is_bypass}
 use Rattle.track_cache.specs.declared.frames.Frame.{Frame}
 use Rattle.track_image.specs.Image.{Image}
-use Rattle.device_outside.specs.Interaction.{Done, Ask}
+use Rattle.device_outside.specs.Interaction.{Interaction, Done, Ask}
 use Rattle.device_outside.specs.Keeper.{Hearing}
-use Rattle.device_outside.specs.Outside.{ByPool, Outside, view_of, with_view, Ran, done, tried, asked, read}
+use Rattle.device_outside.specs.Outside.{ByPool, Answered, Outside, PortView, view_of, with_view, Ran, done, tried, asked, read}
 use Rattle.device_outside.specs.Pool as P
 use Rattle.device_outside.specs.Pool.{Pool, Touch, WantFrame, is_listed}
 use Rattle.device_outside.specs.Volume.{VolumeView, ReadOf}
+use Rattle.device_defs.specs.declared.counts.Counts.{Counts}
 use Rattle.device_defs.specs.declared.usage.Usage.{Usage}
 use Rattle.device_defs.specs.Contents.{contents}
 use Rattle.device_defs.specs.Image as I
@@ -46,10 +47,16 @@ use Rattle.device_defs.specs.Losses.{call_failed}
 use Rattle.device_defs.specs.Memory.{tried as or_none}
 use Rattle.device_defs.specs.Sound.{DeviceStore}
 use Rattle.device_defs.specs.Store.{level_at, frame_at, with_frame}
+use Rattle.device_laws.proofs.Based.{Base, base_of, Hushed, Based, based_ask}
+use Rattle.device_laws.proofs.BasedParts.{level_steady, image_steady}
 use Rattle.device_laws.proofs.QuietParts.{Quiet, quiet_done, quiet_try, quiet_ask, quiet_then, quiet_if}
 use Rattle.device_laws.proofs.ReadMoves.{filled_quiet}
 use Rattle.seen_laws.specs.Seen as seen
-use Rattle.seen_laws.specs.Seen.{NotCalled, LastOf, Saw}
+use Rattle.seen_laws.specs.Seen.{NotCalled, LastOf, ReadFrom, IsMissed, Saw}
+use Rattle.seen_laws.specs.Moved.{Moved, Counted, miss_reads}
+use Rattle.seen_laws.proofs.Counting.{ran_moved}
+use Rattle.seen_laws.proofs.Exact.{LevelBy, level_exact}
+use Rattle.seen_laws.proofs.RanCounts.{counted_from, counted_to, moved_counted, based_rest, quiet_base}
 use Rattle.seen_laws.proofs.RanParts.{split, quiet_ran, same_calls}
 
 granted_quiet : (s : DeviceStore) (t : ℕ) (i : Image) (given : Bool) → Quiet (granted contents s t i given)
@@ -59,6 +66,14 @@ granted_quiet s t i false = quiet_done
 loaded_quiet : (s : DeviceStore) (t : ℕ) (i : Image) (mode : Mode) → Quiet (loaded contents s t i mode)
 loaded_quiet s t i mode =
     quiet_if (loads mode) (quiet_try (λ ok. quiet_if ok (quiet_ask (λ given. granted_quiet s t i given)) quiet_done)) quiet_done
+
+delivered_quiet : (u : Usage) (t : ℕ) (side : Side) (s : DeviceStore) (o : Option Image) → Quiet (delivered contents u t side s o)
+delivered_quiet u t side s None = quiet_done
+delivered_quiet u t side s (Some i) = loaded_quiet (ahead u s t) t i u.mode
+
+missed_quiet : (u : Usage) (t : ℕ) (s : DeviceStore) (g : Got (List ℕ)) (o : Option (List ℕ)) → Quiet (missed contents u t s g o)
+missed_quiet u t s g None = quiet_done
+missed_quiet u t s g (Some r) = quiet_try (λ ok. quiet_if ok (delivered_quiet u t g.side s (image_of contents s t r)) quiet_done)
 
 module _ {K : Type 0} (had : Bool → Type 0) (hears : Hearing Image K) where
   abbrev Calls : Type 0
@@ -160,50 +175,79 @@ module _ {K : Type 0} (had : Bool → Type 0) (hears : Hearing Image K) where
     missed_read y g None is x = elim x [ ]
     missed_read y g (Some r) is (tried ok m x) = had_read y g r is ok x
 
-    miss_saw : (s x : DeviceStore) → (x ≡ s) ⊎ (x ≡ with_frame s t None) → {u v z : Calls} {e : DeviceStore} {i : Image} → NotCalled u v →
-        Ran had hears (miss contents x usage t) v e (Some (Has i)) z → Saw had hears s t u i e z
-    miss_saw s x from {v = v} quiet r =
-        let y = split (level_bytes contents x t) (λ z g. missed contents usage t z g g.bytes) r in
+    -- what was read, and where the image came from
+    record Exactly (x : DeviceStore) (g : Got (List ℕ)) (old new : Counts) : Type 0 where
+      from : ReadFrom x t g.side g.fault
+      made : Counted (miss_reads g.fault) 0 old new
+
+    exactly : (x y : DeviceStore) (g : Got (List ℕ)) (o : Option (List ℕ)) (bytes : List ℕ) → o ≡ Some bytes →
+        Moved (λ r w. LevelBy x t r w g o) x.counts y.counts → Exactly x g x.counts y.counts
+    exactly x y g None bytes e m = absurd (cc)
+    exactly x y g (Some r) bytes e m = record { from = m.is.2; made = moved_counted (miss_reads g.fault) 0 m m.is.0 m.is.1 }
+
+    miss_saw : (s x : DeviceStore) {u v z : Calls} {e : DeviceStore} {i : Image} → IsMissed s usage t u x v → x.counts ≡ s.counts →
+        Based base_of Hushed (base_of x) (miss contents x usage t) → Ran had hears (miss contents x usage t) v e (Some (Has i)) z →
+        (reads : ℕ) × Saw had hears s usage t u i reads e z
+    miss_saw s x {v = v} from same based r =
+        let after = λ (z : DeviceStore) (g : Got (List ℕ)). missed contents usage t z g g.bytes in
+        let y = split (level_bytes contents x t) after r in
         let read = missed_read y.state y.answer y.answer.bytes refl y.rest in
-        seen.missed x y.state v y.outside y.answer.side read.bytes y.answer.fault from quiet
-        (subst (λ (o : Option (List ℕ)). Ran had hears (level_bytes contents x t) v y.state (got y.answer.side o y.answer.fault) y.outside) read.are y.first)
-        (bytes_are_last x t y.first read.bytes read.are) read.image read.quiet
+        let level = level_steady contents x t in
+        let rest = quiet_base (missed_quiet usage t y.state y.answer y.answer.bytes) (based_rest after level based y.first) y.rest in
+        let so = exactly x y.state y.answer y.answer.bytes read.bytes read.are (ran_moved level (level_exact contents x t) y.first) in (
+          miss_reads y.answer.fault,
+          seen.missed x y.state v y.outside y.answer.side read.bytes y.answer.fault from
+              (subst (λ (o : Option (List ℕ)). Ran had hears (level_bytes contents x t) v y.state (got y.answer.side o y.answer.fault) y.outside) read.are y.first)
+              so.from (bytes_are_last x t y.first read.bytes read.are) read.image read.quiet
+              (counted_from (sym same) (counted_to so.made (ap (λ (b : Base). b.counts) rest))),
+        )
 
     -- Hits
 
     hit_saw : (s : DeviceStore) (f : Frame) → frame_at s t ≡ Some f → {u v z : Calls} {e : DeviceStore} {i : Image} → NotCalled u v →
-        Ran had hears (hit contents s t f) v e (Some (Has i)) z → Saw had hears s t u i e z
-    hit_saw s f is quiet done = seen.hit f is refl quiet
+        Ran had hears (hit contents s t f) v e (Some (Has i)) z → (reads : ℕ) × Saw had hears s usage t u i reads e z
+    hit_saw s f is quiet done = (0, seen.hit f is refl quiet)
 
-    touched_saw : (s : DeviceStore) (f : Frame) → frame_at s t ≡ Some f → (listed : Bool) {u v z : Calls} {e : DeviceStore} {i : Image} → NotCalled u v →
-        Ran had hears (if listed then hit contents s t f else miss contents (with_frame s t None) usage t) v e (Some (Has i)) z → Saw had hears s t u i e z
-    touched_saw s f is true quiet r = hit_saw s f is quiet r
-    touched_saw s f is false quiet r = miss_saw s (with_frame s t None) (inr refl) quiet r
+    touched_saw : (s : DeviceStore) (f : Frame) → frame_at s t ≡ Some f → f.modified ≡ false → is_bypass usage.mode ≡ false → (listed : Bool) (p : PortView)
+        {u z : Calls} {e : DeviceStore} {i : Image} → Answered u.port (Touch s.device t) listed p →
+        Based base_of Hushed (base_of s) (if listed then hit contents s t f else miss contents (with_frame s t None) usage t) →
+        Ran had hears (if listed then hit contents s t f else miss contents (with_frame s t None) usage t) (record u { port = p }) e (Some (Has i)) z →
+        (reads : ℕ) × Saw had hears s usage t u i reads e z
+    touched_saw s f is clean unpassed true p says based r = hit_saw s f is (record { a = refl; b = refl }) r
+    touched_saw s f is clean unpassed false p says based r = miss_saw s (with_frame s t None) (seen.unlisted f p is clean unpassed says) refl based r
 
     no_call : (u : Calls) → NotCalled u u
     no_call u = record { a = refl; b = refl }
 
-    clean_saw : (s : DeviceStore) (f : Frame) → frame_at s t ≡ Some f → (bypass : Bool) {u z : Calls} {e : DeviceStore} {i : Image} →
-        Ran had hears (if bypass then miss contents s usage t
-        else Ask (Touch s.device t) (λ listed. if listed then hit contents s t f else miss contents (with_frame s t None) usage t)) u e (Some (Has i)) z →
-        Saw had hears s t u i e z
-    clean_saw s f is true {u = u} r = miss_saw s s (inl refl) (no_call u) r
-    clean_saw s f is false (asked {a = listed} says r) = touched_saw s f is listed (record { a = refl; b = refl }) r
+    abbrev clean_by : DeviceStore → Frame → Bool → Interaction (List ℕ) Image DeviceStore (Option Imaged)
+    clean_by s f bypass =
+        if bypass then miss contents s usage t
+        else Ask (Touch s.device t) (λ listed. if listed then hit contents s t f else miss contents (with_frame s t None) usage t)
 
-    framed_saw : (s : DeviceStore) (f : Frame) → frame_at s t ≡ Some f → (modified : Bool) {u z : Calls} {e : DeviceStore} {i : Image} →
-        Ran had hears (if modified then hit contents s t f else clean_image contents s usage t f) u e (Some (Has i)) z → Saw had hears s t u i e z
-    framed_saw s f is true {u = u} r = hit_saw s f is (no_call u) r
-    framed_saw s f is false r = clean_saw s f is (is_bypass usage.mode) r
+    clean_saw : (s : DeviceStore) (f : Frame) → frame_at s t ≡ Some f → f.modified ≡ false → (bypass : Bool) → is_bypass usage.mode ≡ bypass →
+        {u z : Calls} {e : DeviceStore} {i : Image} → Based base_of Hushed (base_of s) (clean_by s f bypass) →
+        Ran had hears (clean_by s f bypass) u e (Some (Has i)) z → (reads : ℕ) × Saw had hears s usage t u i reads e z
+    clean_saw s f is clean true by based r = miss_saw s s (seen.bypassed f is clean by) refl based r
+    clean_saw s f is clean false by (based_ask m based) (asked {a = listed} {p = p} says r) =
+        touched_saw s f is clean by listed p says (based listed) r
+
+    framed_saw : (s : DeviceStore) (f : Frame) → frame_at s t ≡ Some f → (modified : Bool) → f.modified ≡ modified → {u z : Calls} {e : DeviceStore}
+        {i : Image} → Based base_of Hushed (base_of s) (if modified then hit contents s t f else clean_image contents s usage t f) →
+        Ran had hears (if modified then hit contents s t f else clean_image contents s usage t f) u e (Some (Has i)) z →
+        (reads : ℕ) × Saw had hears s usage t u i reads e z
+    framed_saw s f is true by {u = u} based r = hit_saw s f is (no_call u) r
+    framed_saw s f is false by based r = clean_saw s f is by (is_bypass usage.mode) refl based r
 
     by_frame : (s : DeviceStore) (o : Option Frame) → frame_at s t ≡ o → {u z : Calls} {e : DeviceStore} {i : Image} →
-        Ran had hears (image_by contents s usage t o) u e (Some (Has i)) z → Saw had hears s t u i e z
-    by_frame s None is {u = u} r = miss_saw s s (inl refl) (no_call u) r
-    by_frame s (Some f) is r = framed_saw s f is f.modified r
+        Based base_of Hushed (base_of s) (image_by contents s usage t o) → Ran had hears (image_by contents s usage t o) u e (Some (Has i)) z →
+        (reads : ℕ) × Saw had hears s usage t u i reads e z
+    by_frame s None is based r = miss_saw s s (seen.no_frame is) refl based r
+    by_frame s (Some f) is based r = framed_saw s f is f.modified refl based r
 
     pub image_saw : (s : DeviceStore) {u z : Calls} {e : DeviceStore} {i : Image} → Ran had hears (image contents s usage t) u e (Some (Has i)) z →
-        Saw had hears s t u i e z
+        (reads : ℕ) × Saw had hears s usage t u i reads e z
     unfolding I.image
-    image_saw s r = by_frame s (frame_at s t) refl r
+    image_saw s r = by_frame s (frame_at s t) refl (image_steady contents s usage t) r
 
     -- a frame that counts is a hit, whatever comes
 
