@@ -100,18 +100,19 @@ is_half (Ends e) = false
 is_half (Checks e) = false
 is_half (HalfOpen t) = true
 
--- The side that gave the bytes of a track, and the first that failed: A where the track is level there, else B; and B where A's read failed
+-- The side that gave the bytes of a track, and the first that failed: A where the track is level there, else B; and B where A's read failed and it is level
+-- there
 pub data ReadFrom {F P H : Type 0} (s : Store F P H) (t : ℕ) : Side → Option Side → Type 0 where
   from_a : level_at s.a t ≡ true → ReadFrom s t A None
   from_b : level_at s.a t ≡ false → level_at s.b t ≡ true → ReadFrom s t B None
-  after_a : level_at s.a t ≡ true → ReadFrom s t B (Some A)
+  after_a : level_at s.a t ≡ true → level_at s.b t ≡ true → ReadFrom s t B (Some A)
 
--- No side gave bytes: how many reads failed, and the first side that did. Side B's loss with A's, or that it isn't level, leaves it unread
+-- no side gave them: how many reads failed, one of each side where the track is level, and the first side whose did
 pub data ReadNone {F P H : Type 0} (s : Store F P H) (t : ℕ) : ℕ → Option Side → Type 0 where
   none_level : level_at s.a t ≡ false → level_at s.b t ≡ false → ReadNone s t 0 None
-  a_failed : level_at s.a t ≡ true → ReadNone s t 1 (Some A)
+  a_failed : level_at s.a t ≡ true → level_at s.b t ≡ false → ReadNone s t 1 (Some A)
   b_failed : level_at s.a t ≡ false → level_at s.b t ≡ true → ReadNone s t 1 (Some B)
-  both_failed : level_at s.a t ≡ true → ReadNone s t 2 (Some A)
+  both_failed : level_at s.a t ≡ true → level_at s.b t ≡ true → ReadNone s t 2 (Some A)
 
 -- a fast or a provisional write
 abbrev pub is_in_cache : Choice → Bool
@@ -136,7 +137,7 @@ module _ {K : Type 0} where
 
 module _ {K : Type 0} (had : Bool → Type 0) (hears : Hearing Image K) where
   -- A look at a track of this store saw this image, made so many reads and no write, and left a store. A hit saw what is in the frame, and called no
-  -- volume. A miss saw what the bytes of a level side make, with the patch that is held; it made one read, and one more where side A's read failed
+  -- volume: it made none. A miss saw what the bytes of a level side make, with the patch that is held; it made one, and one more where side A's read failed
   pub data Saw (s : DeviceStore) (usage : Usage) (t : ℕ) (u : Outside (List ℕ) K) (i : Image) : ℕ → DeviceStore → Outside (List ℕ) K → Type 0 where
     hit : {z : Outside (List ℕ) K} (f : Frame) → frame_at s t ≡ Some f → IsHit s usage t u f z → i ≡ f.image → NotCalled u z → Saw s usage t u i 0 s z
     missed : {e : DeviceStore} {z : Outside (List ℕ) K} (x y : DeviceStore) (v w : Outside (List ℕ) K) (side : Side) (bytes : List ℕ)
@@ -174,8 +175,8 @@ module _ {K : Type 0} (had : Bool → Type 0) (hears : Hearing Image K) where
         Counted 0 (choice_writes (sides_writing s) choice half) s.counts e.counts →
         Wrote usage t s u asked half (choice_writes (sides_writing s) choice half) e z
 
-  -- A command that began so came out so, by the images that it saw. Between these counts it made the reads of its looks and the writes of its write. With
-  -- equipment or data check it ended where its last look saw no image, or where it asked for more tracks than there are, also behind an image
+  -- A command that began so came out so, by the images that it saw. Between these counts it made the reads of its looks and the writes of its write. It ends
+  -- with equipment or data check where its last look saw no image, or where it asks for more tracks than there are; also behind an image it may
   pub data CameAsSeen (n : ℕ) (g : Geometry) (chain : ChainState) (s : DeviceStore) (u : Outside (List ℕ) K) (turn : Turn) (old new : Counts)
       (z : Outside (List ℕ) K) : Type 0 where
     came : (looks : List Look) (final : ChainState) (t : ℕ) (i : Image) (reads writes : ℕ) (x y e : DeviceStore) (v w : Outside (List ℕ) K) →
