@@ -40,7 +40,19 @@ use Rattle.device_defs.specs.Writing.{
 use Rattle.device_laws.proofs.QuietParts.{failed_quiet, done_quiet}
 use Rattle.seen_laws.specs.Moved.{sides_writing, miss_reads, choice_writes}
 use Rattle.seen_laws.specs.Seen.{ReadFrom, from_a, from_b, after_a, ReadNone, none_level, a_failed, b_failed, both_failed, is_opened}
-use Rattle.seen_laws.proofs.Counting.{Counts, counts_done, counts_ask, counts_tell, counts_read, counts_write, counts_then, counts_any, counts_first, counts_past, counts_if}
+use Rattle.seen_laws.proofs.Counting.{
+  Counts,
+  counts_done,
+  counts_ask,
+  counts_tell,
+  counts_read,
+  counts_write,
+  counts_then,
+  counts_any,
+  counts_first,
+  counts_past,
+  counts_if,
+}
 use Rattle.seen_laws.proofs.SidesLeft.{failed_leaves}
 use Rattle.seen_laws.proofs.WriteCounts.{tried_quiet, firm_quiet, firm_writes, opened_quiet}
 

@@ -1,5 +1,30 @@
 -- No part of an event brings a side up, and notices leave the sides.
-use Rattle.std.proofs.Common.{◌≡◌, ◌≤◌, ◌==◌, ◌+◌, ◌++◌, ℕ, zero, suc, Bool, true, false, [], ◌∷◌, length, Option, Some, None, is_some, refl, sym, ap, subst, ◌∙◌, arith}
+use Rattle.std.proofs.Common.{
+  ◌≡◌,
+  ◌≤◌,
+  ◌==◌,
+  ◌+◌,
+  ◌++◌,
+  ℕ,
+  zero,
+  suc,
+  Bool,
+  true,
+  false,
+  [],
+  ◌∷◌,
+  length,
+  Option,
+  Some,
+  None,
+  is_some,
+  refl,
+  sym,
+  ap,
+  subst,
+  ◌∙◌,
+  arith,
+}
 use Rattle.std.specs.Prelude.{if◌then◌else◌, ◌&&◌, not, nat_le, nat_lt}
 use Rattle.ckd_types.specs.declared.paths.Side.{Side}
 use Rattle.ckd_types.specs.declared.paths.Side.TheVariants.{A, B}
@@ -24,7 +49,21 @@ use Rattle.device_defs.specs.Losses.{
 }
 use Rattle.device_defs.specs.Owed as O
 use Rattle.device_defs.specs.Owed.{is_clean, heard, hear}
-use Rattle.device_defs.specs.Store.{SideMarks, Store, tracks_of, has_level, takes_b, frame_at, patch_at, is_lost, is_loose, half_is, owed_at, with_frame, with_lost}
+use Rattle.device_defs.specs.Store.{
+  SideMarks,
+  Store,
+  tracks_of,
+  has_level,
+  takes_b,
+  frame_at,
+  patch_at,
+  is_lost,
+  is_loose,
+  half_is,
+  owed_at,
+  with_frame,
+  with_lost,
+}
 use Rattle.device_defs.specs.Transfers.{both}
 use Rattle.device_laws.proofs.Always.{Always, always_done, always_ask, always_tell, always_then, always_weaker}
 use Rattle.seen_laws.specs.Moved.{sides_up, sides_writing}

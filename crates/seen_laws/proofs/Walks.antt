@@ -52,7 +52,23 @@ use Rattle.device_laws.proofs.Based.{base_of, Hushed, Based}
 use Rattle.device_laws.proofs.BasedParts.{write_steady}
 use Rattle.device_laws.proofs.QuietParts.{Quiet, quiet_done, quiet_tell, quiet_ask, quiet_if, quiet_then}
 use Rattle.seen_laws.specs.Seen as seen
-use Rattle.seen_laws.specs.Seen.{NotCalled, Look, look_at, AreOf, EndsAs, reads_of, asks_write, is_opened, is_half, is_in_cache, Saw, SawNone, WentOn, Wrote, CameAsSeen}
+use Rattle.seen_laws.specs.Seen.{
+  NotCalled,
+  Look,
+  look_at,
+  AreOf,
+  EndsAs,
+  reads_of,
+  asks_write,
+  is_opened,
+  is_half,
+  is_in_cache,
+  Saw,
+  SawNone,
+  WentOn,
+  Wrote,
+  CameAsSeen,
+}
 use Rattle.seen_laws.specs.Moved.{Moved, Counted, choice_writes, sides_writing}
 use Rattle.seen_laws.proofs.Counting.{ran_moved, ran_counted}
 use Rattle.seen_laws.proofs.Exact.{ByAnswer, chosen_exact}
@@ -164,7 +180,8 @@ module _ {K : Type 0} (had : Bool → Type 0) (hears : Hearing Image K) where
       look_none : {z : DeviceStore} {w : Calls} {turn : Turn} {c : _} (reads : ℕ) → turn.came ≡ Checks c → SawNone had hears s (usage_of chain) t u reads z w →
           LookedSo chain t s u z (Over turn) w
       look_over : {z : DeviceStore} {w : Calls} {turn : Turn} (i : Image) (y : DeviceStore) (v : Calls) (reads writes : ℕ) →
-          Saw had hears s (usage_of chain) t u i reads y v → Wrote had hears (usage_of chain) t y v (asks_write (stepped chain (Some i)).progress) (is_half turn.came) writes z w →
+          Saw had hears s (usage_of chain) t u i reads y v →
+          Wrote had hears (usage_of chain) t y v (asks_write (stepped chain (Some i)).progress) (is_half turn.came) writes z w →
           ((n : ℕ) (tracks : ℕ → Track) (answer : LocalAct → Settled) → i ≡ record { geometry = g; track = tracks t } →
           EndsAs (fed (suc n) tracks answer chain) turn.chain turn.came) → LookedSo chain t s u z (Over turn) w
       look_on : {z : DeviceStore} {w : Calls} {next : ChainState} {q : ℕ} (i : Image) (reads : ℕ) → Saw had hears s (usage_of chain) t u i reads z w →
@@ -311,7 +328,8 @@ module _ {K : Type 0} (had : Bool → Type 0) (hears : Hearing Image K) where
         seen.unseen (look_at t i reads ∷ ls) final k more x y2 v2 checks (further at saw is p all) needs none
         (counted_as (counted_then (saw_counted saw) made) sum (omega arith))
     more_seen n chain next t q i reads at saw is p same (seen.too_many ls final x count checks all made) =
-        seen.too_many (look_at t i reads ∷ ls) final x (ap suc count) checks (further at saw is p all) (counted_as (counted_then (saw_counted saw) made) refl (omega arith))
+        seen.too_many (look_at t i reads ∷ ls) final x (ap suc count) checks (further at saw is p all)
+        (counted_as (counted_then (saw_counted saw) made) refl (omega arith))
 
     abbrev pub Following : ℕ → ℕ → Type 0
     Following n first =

@@ -187,8 +187,8 @@ module _ {K : Type 0} (had : Bool → Type 0) (hears : Hearing Image K) where
     unseen : {c : _} (looks : List Look) (final : ChainState) (t reads : ℕ) (x y : DeviceStore) (v : Outside (List ℕ) K) → turn.came ≡ Checks c →
         WentOn chain s u looks final x v → need_of final ≡ Some t → SawNone x (usage_of final) t v reads y z →
         Counted (reads_of looks + reads) 0 old new → CameAsSeen n g chain s u turn old new z
-    too_many : {c : _} (looks : List Look) (final : ChainState) (x : DeviceStore) → length looks ≡ n → turn.came ≡ Checks c → WentOn chain s u looks final x z →
-        Counted (reads_of looks) 0 old new → CameAsSeen n g chain s u turn old new z
+    too_many : {c : _} (looks : List Look) (final : ChainState) (x : DeviceStore) → length looks ≡ n → turn.came ≡ Checks c →
+        WentOn chain s u looks final x z → Counted (reads_of looks) 0 old new → CameAsSeen n g chain s u turn old new z
 
 -- what is kept behind the command of a path, of the device as it was before it or behind an act on its paths
 pub record IsKept (d : WholeDevice) (path : ℕ) (turn : Turn) (a : Stepped) (e : WholeDevice) : Type 0 where
