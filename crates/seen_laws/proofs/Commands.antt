@@ -106,9 +106,12 @@ module _ {K : Type 0} (had : Bool → Type 0) (hears : Hearing Image K) where
 
   came_between : {n : ℕ} {g : Geometry} {chain : ChainState} {s : DeviceStore} {u z : Calls} {turn : Turn} {old new x y : Counts} → old ≡ x → y ≡ new →
       CameAsSeen had hears n g chain s u turn old new z → CameAsSeen had hears n g chain s u turn x y z
-  came_between same is (seen.checked e) = seen.checked e
-  came_between same is (seen.came looks final t last e at writes all rest ends made) =
-      seen.came looks final t last e at writes all rest ends (counted_from (sym same) (counted_to made is))
+  came_between same is (seen.came looks final t i reads writes x y e v w all needs saw rest ends made) =
+      seen.came looks final t i reads writes x y e v w all needs saw rest ends (counted_from (sym same) (counted_to made is))
+  came_between same is (seen.unseen looks final t reads x y v checks all needs none made) =
+      seen.unseen looks final t reads x y v checks all needs none (counted_from (sym same) (counted_to made is))
+  came_between same is (seen.too_many looks final x count checks all made) =
+      seen.too_many looks final x count checks all (counted_from (sym same) (counted_to made is))
 
   -- an event that ends keeps what it came to
   record Ended (y : WholeDevice) (o : Option Stepped) (w : Calls) (e : WholeDevice) (a : Option Stepped) (z : Calls) : Type 0 where

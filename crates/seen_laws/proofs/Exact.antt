@@ -19,7 +19,7 @@ use Rattle.device_defs.specs.Image as I
 use Rattle.device_defs.specs.Image.{Got, got, first_fault, read_counted, read_side, second_read, read_b, first_read, level_bytes}
 use Rattle.device_defs.specs.Losses.{settled}
 use Rattle.device_defs.specs.Owed.{is_clean}
-use Rattle.device_defs.specs.Store.{OfCommand, Store, level_at, has_level, takes_b, frame_at}
+use Rattle.device_defs.specs.Store.{OfCommand, SideMarks, Store, level_at, has_level, takes_b, frame_at}
 use Rattle.device_defs.specs.Transfers.{both}
 use Rattle.device_defs.specs.Writing as V
 use Rattle.device_defs.specs.Writing.{
@@ -39,8 +39,21 @@ use Rattle.device_defs.specs.Writing.{
 }
 use Rattle.device_laws.proofs.QuietParts.{failed_quiet, done_quiet}
 use Rattle.seen_laws.specs.Moved.{sides_writing, miss_reads, choice_writes}
-use Rattle.seen_laws.specs.Seen.{ReadFrom, from_a, from_b, after_a, is_opened}
-use Rattle.seen_laws.proofs.Counting.{Counts, counts_done, counts_ask, counts_tell, counts_read, counts_write, counts_then, counts_any, counts_first, counts_past, counts_if}
+use Rattle.seen_laws.specs.Seen.{ReadFrom, from_a, from_b, after_a, ReadNone, none_level, a_failed, b_failed, both_failed, is_opened}
+use Rattle.seen_laws.proofs.Counting.{
+  Counts,
+  counts_done,
+  counts_ask,
+  counts_tell,
+  counts_read,
+  counts_write,
+  counts_then,
+  counts_any,
+  counts_first,
+  counts_past,
+  counts_if,
+}
+use Rattle.seen_laws.proofs.SidesLeft.{failed_leaves}
 use Rattle.seen_laws.proofs.WriteCounts.{tried_quiet, firm_quiet, firm_writes, opened_quiet}
 
 -- what an answer says of the writes of a choice, where n sides take what is written
@@ -53,39 +66,43 @@ ByAnswer n choice r w None = Unit {0}
 module _ {F P H : Type 0} where
   abbrev pub LevelBy : {R : Type 0} → Store F P H → ℕ → ℕ → ℕ → Got R → Option R → Type 0
   LevelBy s t r w g (Some x) = (r ≡ miss_reads g.fault) × (w ≡ 0) × ReadFrom s t g.side g.fault
-  LevelBy s t r w g None = w ≡ 0
+  LevelBy s t r w g None = (w ≡ 0) × ReadNone s t r g.fault
 
 module _ {F P H R : Type 0} (c : Contents F P H R) where
   module _ (s : Store F P H) (t : ℕ) where
     abbrev Level : ℕ → ℕ → Store F P H → Got R → Type 0
     Level r w z g = LevelBy s t r w g g.bytes
 
-    second_at : (z : Store F P H) → level_at s.a t ≡ true → (bytes : Option R) →
+    second_at : (z : Store F P H) → level_at s.a t ≡ true → level_at s.b t ≡ true → (bytes : Option R) →
         Counts Level 2 0 (second_read c (Some A) (read_counted z (is_some bytes)) bytes)
-    second_at z level (Some x) = counts_done (refl, refl, after_a level)
-    second_at z level None =
-        counts_past (λ x _. Done x (got B None (Some (first_fault (Some A) B)))) (failed_quiet c (read_counted z false) B None) (λ x _. counts_done refl)
+    second_at z level other (Some x) = counts_done (refl, refl, after_a level other)
+    second_at z level other None =
+        counts_past (λ x _. Done x (got B None (Some (first_fault (Some A) B)))) (failed_quiet c (read_counted z false) B None)
+        (λ x _. counts_done (refl, both_failed level other))
 
-    behind_a : (z : Store F P H) → level_at s.a t ≡ true → (l : Bool) →
+    behind_a : (z : Store F P H) → level_at s.a t ≡ true → (l : Bool) → level_at s.b t ≡ l →
         Counts Level 1 0 (if l then read_side c z B t (second_read c (Some A)) else Done z (got B None (Some A)))
-    behind_a z level true = counts_read (λ bytes. second_at z level bytes)
-    behind_a z level false = counts_done refl
+    behind_a z level true other = counts_read (λ bytes. second_at z level other bytes)
+    behind_a z level false other = counts_done (refl, a_failed level other)
 
     first_at : level_at s.a t ≡ true → (bytes : Option R) → Counts Level 1 0 (first_read c t (read_counted s (is_some bytes)) bytes)
     first_at level (Some r) = counts_done (refl, refl, from_a level)
     first_at level None =
-        counts_past (λ z _. read_b c z t (Some A)) (failed_quiet c (read_counted s false) A None) (λ z _. behind_a z level (level_at z.b t))
+        let y = read_counted s false in
+        counts_first (λ z _. read_b c z t (Some A)) (failed_quiet c y A None) (failed_leaves c y None).holds
+        (λ z _ e. behind_a z level (level_at z.b t) (ap (λ (m : SideMarks). level_at m t) (sym e)))
 
     only_at : level_at s.a t ≡ false → level_at s.b t ≡ true → (bytes : Option R) →
         Counts Level 1 0 (second_read c None (read_counted s (is_some bytes)) bytes)
     only_at stale level (Some r) = counts_done (refl, refl, from_b stale level)
     only_at stale level None =
-        counts_past (λ z _. Done z (got B None (Some (first_fault None B)))) (failed_quiet c (read_counted s false) B None) (λ z _. counts_done refl)
+        counts_past (λ z _. Done z (got B None (Some (first_fault None B)))) (failed_quiet c (read_counted s false) B None)
+        (λ z _. counts_done (refl, b_failed stale level))
 
     by_b : level_at s.a t ≡ false → (l : Bool) → level_at s.b t ≡ l →
         Counts Level 0 0 (if l then read_side c s B t (second_read c None) else Done s (got B None None))
     by_b stale true level = counts_read (λ bytes. only_at stale level bytes)
-    by_b stale false level = counts_done refl
+    by_b stale false level = counts_done (refl, none_level stale level)
 
     by_a : (l : Bool) → level_at s.a t ≡ l → Counts Level 0 0 (if l then read_side c s A t (first_read c t) else read_b c s t None)
     by_a true level = counts_read (λ bytes. first_at level bytes)

@@ -13,7 +13,6 @@ use Rattle.device_outside.specs.Outside.{ByPool, Answered, Outside, PortView, vi
 use Rattle.device_outside.specs.Pool as P
 use Rattle.device_outside.specs.Pool.{Pool, Touch, WantFrame, is_listed}
 use Rattle.device_outside.specs.Volume.{VolumeView, ReadOf}
-use Rattle.device_defs.specs.declared.counts.Counts.{Counts}
 use Rattle.device_defs.specs.declared.usage.Usage.{Usage}
 use Rattle.device_defs.specs.Contents.{contents}
 use Rattle.device_defs.specs.Image as I
@@ -22,6 +21,8 @@ use Rattle.device_defs.specs.Image.{
   got,
   Imaged,
   Has,
+  NoBytes,
+  BadTrack,
   first_fault,
   read_counted,
   ahead,
@@ -52,7 +53,7 @@ use Rattle.device_laws.proofs.BasedParts.{level_steady, image_steady}
 use Rattle.device_laws.proofs.QuietParts.{Quiet, quiet_done, quiet_try, quiet_ask, quiet_then, quiet_if}
 use Rattle.device_laws.proofs.ReadMoves.{filled_quiet}
 use Rattle.seen_laws.specs.Seen as seen
-use Rattle.seen_laws.specs.Seen.{NotCalled, LastOf, ReadFrom, IsMissed, Saw}
+use Rattle.seen_laws.specs.Seen.{NotCalled, LastOf, ReadFrom, ReadNone, IsMissed, IsHit, Saw, SawNone}
 use Rattle.seen_laws.specs.Moved.{Moved, Counted, miss_reads}
 use Rattle.seen_laws.proofs.Counting.{ran_moved}
 use Rattle.seen_laws.proofs.Exact.{LevelBy, level_exact}
@@ -124,96 +125,116 @@ module _ {K : Type 0} (had : Bool → Type 0) (hears : Hearing Image K) where
 
   -- A track that is loaded is answered as it was read
 
-  done_has : {s e : DeviceStore} {u z : Calls} {i j : Image} → Ran had hears (Done s (Some (Has i))) u e (Some (Has j)) z → i ≡ j
+  done_has : {s e : DeviceStore} {u z : Calls} {i : Image} {a : Imaged} → Ran had hears (Done s (Some (Has i))) u e (Some a) z → a ≡ Has i
   done_has done = refl
 
-  none_has : {s e : DeviceStore} {u z : Calls} {j : Image} → Ran had hears (Done s None) u e (Some (Has j)) z → ⊥
+  none_has : {s e : DeviceStore} {u z : Calls} {a : Imaged} → Ran had hears (Done s None) u e (Some a) z → ⊥
   none_has r = elim r [ ]
 
-  granted_has : (s : DeviceStore) (t : ℕ) (i : Image) (given : Bool) {u z : Calls} {e : DeviceStore} {j : Image} →
-      Ran had hears (granted contents s t i given) u e (Some (Has j)) z → i ≡ j
+  granted_has : (s : DeviceStore) (t : ℕ) (i : Image) (given : Bool) {u z : Calls} {e : DeviceStore} {a : Imaged} →
+      Ran had hears (granted contents s t i given) u e (Some a) z → a ≡ Has i
   granted_has s t i true r = done_has (split (filled contents s t i) (λ z _. Done z (Some (Has i))) r).rest
   granted_has s t i false r = done_has r
 
-  wanted_has : (s : DeviceStore) (t : ℕ) (i : Image) (ok : Bool) {u z : Calls} {e : DeviceStore} {j : Image} →
-      Ran had hears (if ok then Ask (WantFrame s.device t) (granted contents s t i) else Done s None) u e (Some (Has j)) z → i ≡ j
+  wanted_has : (s : DeviceStore) (t : ℕ) (i : Image) (ok : Bool) {u z : Calls} {e : DeviceStore} {a : Imaged} →
+      Ran had hears (if ok then Ask (WantFrame s.device t) (granted contents s t i) else Done s None) u e (Some a) z → a ≡ Has i
   wanted_has s t i true (asked {a = given} says r) = granted_has s t i given r
   wanted_has s t i false r = absurd (none_has r)
 
-  loaded_has : (s : DeviceStore) (t : ℕ) (i : Image) (b : Bool) {u z : Calls} {e : DeviceStore} {j : Image} →
-      Ran had hears (if b then or_none s (Ask (WantFrame s.device t) (granted contents s t i)) else Done s (Some (Has i))) u e (Some (Has j)) z → i ≡ j
+  loaded_has : (s : DeviceStore) (t : ℕ) (i : Image) (b : Bool) {u z : Calls} {e : DeviceStore} {a : Imaged} →
+      Ran had hears (if b then or_none s (Ask (WantFrame s.device t) (granted contents s t i)) else Done s (Some (Has i))) u e (Some a) z → a ≡ Has i
   loaded_has s t i true (tried ok m r) = wanted_has s t i ok r
   loaded_has s t i false r = done_has r
 
   -- Misses
 
   module _ (usage : Usage) (t : ℕ) where
+    -- what a look that was answered so saw
+    abbrev pub SeenBy : DeviceStore → Calls → DeviceStore → Calls → Imaged → Type 0
+    SeenBy s u e z (Has i) = (reads : ℕ) × Saw had hears s usage t u i reads e z
+    SeenBy s u e z (NoBytes fault) = (reads : ℕ) × SawNone had hears s usage t u reads e z
+    SeenBy s u e z (BadTrack side) = (reads : ℕ) × SawNone had hears s usage t u reads e z
+
     -- behind the read
-    record Read (y : DeviceStore) (g : Got (List ℕ)) (u : Calls) (i : Image) (z : Calls) : Type 0 where
-      bytes : List ℕ
-      are : g.bytes ≡ Some bytes
-      image : image_of contents y t bytes ≡ Some i
-      quiet : NotCalled u z
+    data MissedSo (y : DeviceStore) (g : Got (List ℕ)) : Imaged → Type 0 where
+      miss_none : g.bytes ≡ None → MissedSo y g (NoBytes g.fault)
+      miss_bad : (r : List ℕ) → g.bytes ≡ Some r → image_of contents y t r ≡ None → MissedSo y g (BadTrack g.side)
+      miss_image : (r : List ℕ) (i : Image) → g.bytes ≡ Some r → image_of contents y t r ≡ Some i → MissedSo y g (Has i)
 
-    delivered_read : (y : DeviceStore) (g : Got (List ℕ)) (r : List ℕ) → g.bytes ≡ Some r → (o : Option Image) → image_of contents y t r ≡ o →
-        {u z : Calls} {e : DeviceStore} {i : Image} → Ran had hears (delivered contents usage t g.side y o) u e (Some (Has i)) z → Read y g u i z
-    delivered_read y g r is None im x = elim x [ ]
-    delivered_read y g r is (Some j) im {i = i} x = record {
-      bytes = r;
-      are = is;
-      image = im ∙ ap Some (loaded_has (ahead usage y t) t j (loads usage.mode) x);
-      quiet = quiet_ran (loaded_quiet (ahead usage y t) t j usage.mode) x;
-    }
+    delivered_so : (y : DeviceStore) (g : Got (List ℕ)) (r : List ℕ) → g.bytes ≡ Some r → (o : Option Image) → image_of contents y t r ≡ o →
+        {u z : Calls} {e : DeviceStore} {a : Imaged} → Ran had hears (delivered contents usage t g.side y o) u e (Some a) z → MissedSo y g a
+    delivered_so y g r is None im done = miss_bad r is im
+    delivered_so y g r is (Some j) im x =
+        subst (λ (i : Imaged). MissedSo y g i) (sym (loaded_has (ahead usage y t) t j (loads usage.mode) x)) (miss_image r j is im)
 
-    had_read : (y : DeviceStore) (g : Got (List ℕ)) (r : List ℕ) → g.bytes ≡ Some r → (ok : Bool) → {u z : Calls} {e : DeviceStore} {i : Image} →
-        Ran had hears (if ok then delivered contents usage t g.side y (image_of contents y t r) else Done y None) u e (Some (Has i)) z → Read y g u i z
-    had_read y g r is true x = delivered_read y g r is (image_of contents y t r) refl x
-    had_read y g r is false x = absurd (none_has x)
+    had_so : (y : DeviceStore) (g : Got (List ℕ)) (r : List ℕ) → g.bytes ≡ Some r → (ok : Bool) → {u z : Calls} {e : DeviceStore} {a : Imaged} →
+        Ran had hears (if ok then delivered contents usage t g.side y (image_of contents y t r) else Done y None) u e (Some a) z → MissedSo y g a
+    had_so y g r is true x = delivered_so y g r is (image_of contents y t r) refl x
+    had_so y g r is false x = absurd (none_has x)
 
-    missed_read : (y : DeviceStore) (g : Got (List ℕ)) (o : Option (List ℕ)) → g.bytes ≡ o → {u z : Calls} {e : DeviceStore} {i : Image} →
-        Ran had hears (missed contents usage t y g o) u e (Some (Has i)) z → Read y g u i z
-    missed_read y g None is x = elim x [ ]
-    missed_read y g (Some r) is (tried ok m x) = had_read y g r is ok x
+    missed_so : (y : DeviceStore) (g : Got (List ℕ)) (o : Option (List ℕ)) → g.bytes ≡ o → {u z : Calls} {e : DeviceStore} {a : Imaged} →
+        Ran had hears (missed contents usage t y g o) u e (Some a) z → MissedSo y g a
+    missed_so y g None is done = miss_none is
+    missed_so y g (Some r) is (tried ok m x) = had_so y g r is ok x
 
-    -- what was read, and where the image came from
-    record Exactly (x : DeviceStore) (g : Got (List ℕ)) (old new : Counts) : Type 0 where
-      from : ReadFrom x t g.side g.fault
-      made : Counted (miss_reads g.fault) 0 old new
+    -- what was read
+    module _ (x y : DeviceStore) (g : Got (List ℕ)) where
+      was_given : (o : Option (List ℕ)) (bytes : List ℕ) → o ≡ Some bytes → Moved (λ r w. LevelBy x t r w g o) x.counts y.counts →
+          ReadFrom x t g.side g.fault × Counted (miss_reads g.fault) 0 x.counts y.counts
+      was_given None bytes e m = absurd (cc)
+      was_given (Some r) bytes e m = (m.is.2, moved_counted (miss_reads g.fault) 0 m m.is.0 m.is.1)
 
-    exactly : (x y : DeviceStore) (g : Got (List ℕ)) (o : Option (List ℕ)) (bytes : List ℕ) → o ≡ Some bytes →
-        Moved (λ r w. LevelBy x t r w g o) x.counts y.counts → Exactly x g x.counts y.counts
-    exactly x y g None bytes e m = absurd (cc)
-    exactly x y g (Some r) bytes e m = record { from = m.is.2; made = moved_counted (miss_reads g.fault) 0 m m.is.0 m.is.1 }
+      was_vain : (o : Option (List ℕ)) → o ≡ None → (m : Moved (λ r w. LevelBy x t r w g o) x.counts y.counts) →
+          ReadNone x t m.reads g.fault × Counted m.reads 0 x.counts y.counts
+      was_vain None e m = (m.is.1, moved_counted m.reads 0 m refl m.is.0)
+      was_vain (Some r) e m = absurd (cc)
 
-    miss_saw : (s x : DeviceStore) {u v z : Calls} {e : DeviceStore} {i : Image} → IsMissed s usage t u x v → x.counts ≡ s.counts →
-        Based base_of Hushed (base_of x) (miss contents x usage t) → Ran had hears (miss contents x usage t) v e (Some (Has i)) z →
-        (reads : ℕ) × Saw had hears s usage t u i reads e z
-    miss_saw s x {v = v} from same based r =
+      module _ (e : DeviceStore) {s : DeviceStore} {u v w z : Calls} (from : IsMissed s usage t u x v) (same : x.counts ≡ s.counts)
+          (first : Ran had hears (level_bytes contents x t) v y g w) (quiet : NotCalled w z) (over : e.counts ≡ y.counts) where
+        with_bytes : (o : Option (List ℕ)) → g.bytes ≡ o → Ran had hears (level_bytes contents x t) v y (got g.side o g.fault) w
+        with_bytes o is = subst (λ (k : Option (List ℕ)). Ran had hears (level_bytes contents x t) v y (got g.side k g.fault) w) is first
+
+        counted_in : {reads : ℕ} → Counted reads 0 x.counts y.counts → Counted reads 0 s.counts e.counts
+        counted_in h = counted_from (sym same) (counted_to h over)
+
+        by_missed : {a : Imaged} → Moved (λ r w. LevelBy x t r w g g.bytes) x.counts y.counts → MissedSo y g a → SeenBy s u e z a
+        by_missed m (miss_none is) =
+            let k = was_vain g.bytes is m in
+            (m.reads, seen.unread x y v w m.reads g.side g.fault from (with_bytes None is) k.0 quiet (counted_in k.1))
+        by_missed m (miss_bad r is im) =
+            let k = was_given g.bytes r is m in (
+              miss_reads g.fault,
+              seen.no_track x y v w g.side r g.fault from (with_bytes (Some r) is) k.0 (bytes_are_last x t first r is) im quiet (counted_in k.1),
+            )
+        by_missed m (miss_image r i is im) =
+            let k = was_given g.bytes r is m in (
+              miss_reads g.fault,
+              seen.missed x y v w g.side r g.fault from (with_bytes (Some r) is) k.0 (bytes_are_last x t first r is) im quiet (counted_in k.1),
+            )
+
+    miss_saw : (s x : DeviceStore) {u v z : Calls} {e : DeviceStore} {a : Imaged} → IsMissed s usage t u x v → x.counts ≡ s.counts →
+        Based base_of Hushed (base_of x) (miss contents x usage t) → Ran had hears (miss contents x usage t) v e (Some a) z → SeenBy s u e z a
+    miss_saw s x {e = e} from same based r =
         let after = λ (z : DeviceStore) (g : Got (List ℕ)). missed contents usage t z g g.bytes in
         let y = split (level_bytes contents x t) after r in
-        let read = missed_read y.state y.answer y.answer.bytes refl y.rest in
         let level = level_steady contents x t in
-        let rest = quiet_base (missed_quiet usage t y.state y.answer y.answer.bytes) (based_rest after level based y.first) y.rest in
-        let so = exactly x y.state y.answer y.answer.bytes read.bytes read.are (ran_moved level (level_exact contents x t) y.first) in (
-          miss_reads y.answer.fault,
-          seen.missed x y.state v y.outside y.answer.side read.bytes y.answer.fault from
-              (subst (λ (o : Option (List ℕ)). Ran had hears (level_bytes contents x t) v y.state (got y.answer.side o y.answer.fault) y.outside) read.are y.first)
-              so.from (bytes_are_last x t y.first read.bytes read.are) read.image read.quiet
-              (counted_from (sym same) (counted_to so.made (ap (λ (b : Base). b.counts) rest))),
-        )
+        let still = missed_quiet usage t y.state y.answer y.answer.bytes in
+        by_missed x y.state y.answer e from same y.first (quiet_ran still y.rest)
+        (ap (λ (b : Base). b.counts) (quiet_base still (based_rest after level based y.first) y.rest))
+        (ran_moved level (level_exact contents x t) y.first) (missed_so y.state y.answer y.answer.bytes refl y.rest)
 
     -- Hits
 
-    hit_saw : (s : DeviceStore) (f : Frame) → frame_at s t ≡ Some f → {u v z : Calls} {e : DeviceStore} {i : Image} → NotCalled u v →
-        Ran had hears (hit contents s t f) v e (Some (Has i)) z → (reads : ℕ) × Saw had hears s usage t u i reads e z
-    hit_saw s f is quiet done = (0, seen.hit f is refl quiet)
+    hit_saw : (s : DeviceStore) (f : Frame) → frame_at s t ≡ Some f → {u v z : Calls} {e : DeviceStore} {a : Imaged} → IsHit s usage t u f v → NotCalled u v →
+        Ran had hears (hit contents s t f) v e (Some a) z → SeenBy s u e z a
+    hit_saw s f is why quiet done = (0, seen.hit f is why refl quiet)
 
     touched_saw : (s : DeviceStore) (f : Frame) → frame_at s t ≡ Some f → f.modified ≡ false → is_bypass usage.mode ≡ false → (listed : Bool) (p : PortView)
-        {u z : Calls} {e : DeviceStore} {i : Image} → Answered u.port (Touch s.device t) listed p →
+        {u z : Calls} {e : DeviceStore} {a : Imaged} → Answered u.port (Touch s.device t) listed p →
         Based base_of Hushed (base_of s) (if listed then hit contents s t f else miss contents (with_frame s t None) usage t) →
-        Ran had hears (if listed then hit contents s t f else miss contents (with_frame s t None) usage t) (record u { port = p }) e (Some (Has i)) z →
-        (reads : ℕ) × Saw had hears s usage t u i reads e z
-    touched_saw s f is clean unpassed true p says based r = hit_saw s f is (record { a = refl; b = refl }) r
+        Ran had hears (if listed then hit contents s t f else miss contents (with_frame s t None) usage t) (record u { port = p }) e (Some a) z →
+        SeenBy s u e z a
+    touched_saw s f is clean unpassed true p says based r = hit_saw s f is (seen.listed p clean unpassed says) (record { a = refl; b = refl }) r
     touched_saw s f is clean unpassed false p says based r = miss_saw s (with_frame s t None) (seen.unlisted f p is clean unpassed says) refl based r
 
     no_call : (u : Calls) → NotCalled u u
@@ -225,29 +246,29 @@ module _ {K : Type 0} (had : Bool → Type 0) (hears : Hearing Image K) where
         else Ask (Touch s.device t) (λ listed. if listed then hit contents s t f else miss contents (with_frame s t None) usage t)
 
     clean_saw : (s : DeviceStore) (f : Frame) → frame_at s t ≡ Some f → f.modified ≡ false → (bypass : Bool) → is_bypass usage.mode ≡ bypass →
-        {u z : Calls} {e : DeviceStore} {i : Image} → Based base_of Hushed (base_of s) (clean_by s f bypass) →
-        Ran had hears (clean_by s f bypass) u e (Some (Has i)) z → (reads : ℕ) × Saw had hears s usage t u i reads e z
+        {u z : Calls} {e : DeviceStore} {a : Imaged} → Based base_of Hushed (base_of s) (clean_by s f bypass) →
+        Ran had hears (clean_by s f bypass) u e (Some a) z → SeenBy s u e z a
     clean_saw s f is clean true by based r = miss_saw s s (seen.bypassed f is clean by) refl based r
     clean_saw s f is clean false by (based_ask m based) (asked {a = listed} {p = p} says r) =
         touched_saw s f is clean by listed p says (based listed) r
 
     framed_saw : (s : DeviceStore) (f : Frame) → frame_at s t ≡ Some f → (modified : Bool) → f.modified ≡ modified → {u z : Calls} {e : DeviceStore}
-        {i : Image} → Based base_of Hushed (base_of s) (if modified then hit contents s t f else clean_image contents s usage t f) →
-        Ran had hears (if modified then hit contents s t f else clean_image contents s usage t f) u e (Some (Has i)) z →
-        (reads : ℕ) × Saw had hears s usage t u i reads e z
-    framed_saw s f is true by {u = u} based r = hit_saw s f is (no_call u) r
+        {a : Imaged} → Based base_of Hushed (base_of s) (if modified then hit contents s t f else clean_image contents s usage t f) →
+        Ran had hears (if modified then hit contents s t f else clean_image contents s usage t f) u e (Some a) z →
+        SeenBy s u e z a
+    framed_saw s f is true by {u = u} based r = hit_saw s f is (seen.modified by) (no_call u) r
     framed_saw s f is false by based r = clean_saw s f is by (is_bypass usage.mode) refl based r
 
-    by_frame : (s : DeviceStore) (o : Option Frame) → frame_at s t ≡ o → {u z : Calls} {e : DeviceStore} {i : Image} →
-        Based base_of Hushed (base_of s) (image_by contents s usage t o) → Ran had hears (image_by contents s usage t o) u e (Some (Has i)) z →
-        (reads : ℕ) × Saw had hears s usage t u i reads e z
+    by_frame : (s : DeviceStore) (o : Option Frame) → frame_at s t ≡ o → {u z : Calls} {e : DeviceStore} {a : Imaged} →
+        Based base_of Hushed (base_of s) (image_by contents s usage t o) → Ran had hears (image_by contents s usage t o) u e (Some a) z →
+        SeenBy s u e z a
     by_frame s None is based r = miss_saw s s (seen.no_frame is) refl based r
     by_frame s (Some f) is based r = framed_saw s f is f.modified refl based r
 
-    pub image_saw : (s : DeviceStore) {u z : Calls} {e : DeviceStore} {i : Image} → Ran had hears (image contents s usage t) u e (Some (Has i)) z →
-        (reads : ℕ) × Saw had hears s usage t u i reads e z
+    pub image_saw : (s : DeviceStore) {u z : Calls} {e : DeviceStore} (a : Imaged) → Ran had hears (image contents s usage t) u e (Some a) z →
+        SeenBy s u e z a
     unfolding I.image
-    image_saw s r = by_frame s (frame_at s t) refl (image_steady contents s usage t) r
+    image_saw s a r = by_frame s (frame_at s t) refl (image_steady contents s usage t) r
 
     -- a frame that counts is a hit, whatever comes
 

@@ -46,8 +46,8 @@ moved_counted {old = old} r w m e f = record {
 
 -- Runs
 
-pub try_based : {R S X : Type 0} {base : S → Base} {may : Call → Type 0} {b : Base} {k : Bool → Interaction R Image S X} → Based base may b (Try k) → (ok : Bool) →
-    Based base may b (k ok)
+pub try_based : {R S X : Type 0} {base : S → Base} {may : Call → Type 0} {b : Base} {k : Bool → Interaction R Image S X} → Based base may b (Try k) →
+    (ok : Bool) → Based base may b (k ok)
 try_based (based_try x) ok = x ok
 
 module _ {R K : Type 0} {had : Bool → Type 0} {hears : Hearing Image K} where

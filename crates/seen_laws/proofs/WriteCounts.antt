@@ -22,7 +22,20 @@ use Rattle.device_defs.specs.Choosing as G
 use Rattle.device_defs.specs.Choosing.{choose, choose_loose, choose_firm, fast_or_through, fast_by, slot_by, may_be_fast}
 use Rattle.device_defs.specs.Contents.{Contents}
 use Rattle.device_defs.specs.Editing as E
-use Rattle.device_defs.specs.Editing.{whole, at_once, through_by, through, write_by, written, is_given, clean_again, unchosen, write_chosen, write, another_loose}
+use Rattle.device_defs.specs.Editing.{
+  whole,
+  at_once,
+  through_by,
+  through,
+  write_by,
+  written,
+  is_given,
+  clean_again,
+  unchosen,
+  write_chosen,
+  write,
+  another_loose,
+}
 use Rattle.device_defs.specs.Effects.{hardened}
 use Rattle.device_defs.specs.Losses.{stale_everywhere, settled, framed_image}
 use Rattle.device_defs.specs.Owed.{is_clean}
@@ -49,7 +62,21 @@ use Rattle.device_defs.specs.Writing.{
 use Rattle.device_laws.proofs.Always.{Always, always_done, always_tell}
 use Rattle.device_laws.proofs.QuietParts.{Quiet, quiet_done, quiet_ask, quiet_tell, quiet_then, quiet_if, failed_quiet, done_quiet, first_moves}
 use Rattle.seen_laws.specs.Moved.{sides_up, sides_writing}
-use Rattle.seen_laws.proofs.Counting.{Counts, counts_done, counts_try, counts_ask, counts_tell, counts_write, counts_then, counts_weaker, counts_moves, counts_any, counts_first, counts_past, counts_if}
+use Rattle.seen_laws.proofs.Counting.{
+  Counts,
+  counts_done,
+  counts_try,
+  counts_ask,
+  counts_tell,
+  counts_write,
+  counts_then,
+  counts_weaker,
+  counts_moves,
+  counts_any,
+  counts_first,
+  counts_past,
+  counts_if,
+}
 use Rattle.seen_laws.proofs.SidesLeft.{writing_up}
 
 none_writes : (x y : Bool) → x ≡ false → y ≡ false → both x y ≡ 0

@@ -44,8 +44,8 @@ abbrev pub miss_reads : Option Side → ℕ
 miss_reads None = 1
 miss_reads (Some side) = 2
 
--- A write in the cache alone makes none. One through makes one to each of the sides that take it, whether it fails or not; where it is half done then, to
--- side A alone
+-- A write in the cache alone makes none. One through makes one to each of the sides that take it as it begins, whichever fail; where it is half done
+-- then, to side A alone, and the second part makes side B's
 abbrev pub choice_writes : ℕ → Choice → Bool → ℕ
 choice_writes writing Provisional half = 0
 choice_writes writing (Fast slot) half = 0

@@ -53,20 +53,20 @@ pub fn image_is_seen<K: Keep<TrackImage>>()
 pub fn write_is_seen<K: Keep<TrackImage>>()
     ensures { (s e : DeviceStore) (usage : Usage) (first t : ℕ) (old : Image) (edit : Edit) (u z : Outside (List ℕ) K) (took : Took) →
         Ran (λ ok. Unit {0}) K.hears (write contents s usage first t old edit) u e (Some took) z →
-        (writes : ℕ) × Wrote (λ ok. Unit {0}) K.hears usage t s u (is_opened took) writes e z }
+        (writes : ℕ) × Wrote (λ ok. Unit {0}) K.hears usage t s u true (is_opened took) writes e z }
 {}
 
-/// A command that goes from track to track, with neither equipment nor data check, ends as the rules say over the images that it saw, and so
-/// does the chain behind it.
+/// A command that goes from track to track ends as the rules say over the images that it saw, and so does the chain behind it, unless it ends with
+/// equipment or data check. However it ends, it makes the reads of its looks and the writes of its write.
 pub fn track_walk_is_seen<K: Keep<TrackImage>>()
     ensures { (cylinders : ℕ) (g : Geometry) (n first t : ℕ) (chain : ChainState) (s e : DeviceStore) (u z : Outside (List ℕ) K) (turn : Turn) →
         LooksAt cylinders g chain t → Ran (λ ok. Unit {0}) K.hears (follow contents n first chain t s) u e (Some turn) z →
         CameAsSeen (λ ok. Unit {0}) K.hears n g chain s u turn s.counts e.counts z }
 {}
 
-/// A whole command, with neither equipment nor data check, or one that is half done: its end, the chain behind it and what the device keeps of its
-/// paths are those of the rules over the images that it saw and what the device kept of its paths before it. Only its looks and its write call
-/// volumes.
+/// A whole command that ended, or is half done: its end, the chain behind it and what the device keeps of its paths are those of the rules over the
+/// images that it saw and what the device kept of its paths before it, unless it ends with equipment or data check. Only its looks and its write
+/// call volumes, and it makes the reads and writes of these, however it ends.
 pub fn command_ends_as_seen<K: Keep<TrackImage>>()
     ensures { (d e : WholeDevice) (o : OpenEntry) (chain : ChainState) (u z : Outside (List ℕ) K) (a : Stepped) → d.history.running ≡ Some o →
         d.chain ≡ Some chain → RunsOn d.store.cylinders d.store.geometry chain → Ran (λ ok. Unit {0}) K.hears (command contents d) u e (Some a) z →
