@@ -118,6 +118,16 @@ counts_from r w h = shifted r w h r w (omega arith) (omega arith)
 
 -- Behind a run
 
+-- of some numbers, whatever a device counts
+pub ran_counted : {R K S A : Type 0} {had : Bool → Type 0} {hears : Hearing Image K} {q : ℕ → ℕ → S → A → Type 0} {r w : ℕ} {i : Interaction R Image S A}
+    {u z : Outside R K} {s : S} {a : A} → Counts q r w i → Ran had hears i u s a z → (m : ℕ) × (n : ℕ) × q m n s a
+ran_counted (counts_done x) done = (_, _, x)
+ran_counted (counts_try x) (tried ok m h) = ran_counted (x ok) h
+ran_counted (counts_ask x) (asked {a = a} says h) = ran_counted (x a) h
+ran_counted (counts_read x) (read {got = got} seen of h) = ran_counted (x got) h
+ran_counted (counts_write x) (wrote {ok = ok} seen of h) = ran_counted (x ok) h
+ran_counted (counts_tell x) (told p hears had h) = ran_counted (x p) h
+
 pub record CountsBy {S A : Type 0} (base : S → Base) (b : Base) (q : ℕ → ℕ → S → A → Type 0) (r w : ℕ) (s : S) (a : A) : Type 0 where
   pub all_reads : ℕ
   pub all_writes : ℕ

@@ -6,9 +6,11 @@ mod Rows
 mod Seconds
 pub mod Others
 pub mod Counting
+mod RanCounts
 mod SidesLeft
 mod ReadCounts
 mod WriteCounts
+mod Exact
 mod WorkCounts
 mod CommandCounts
 pub mod EventCounts

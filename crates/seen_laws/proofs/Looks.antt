@@ -1,5 +1,5 @@
 -- What the image of a track is: the one in its frame, or that of the bytes of a level side.
-use Rattle.std.proofs.Common.{◌≡◌, ◌⊎◌, ℕ, Bool, true, false, List, Option, Some, None, refl, ap, subst, ◌∙◌, inl, inr}
+use Rattle.std.proofs.Common.{◌≡◌, ℕ, Bool, true, false, List, Option, Some, None, refl, sym, ap, subst, ◌∙◌}
 use Rattle.std.specs.Prelude.{if◌then◌else◌}
 use Rattle.ckd_types.specs.declared.parameters.Mode.{Mode}
 use Rattle.ckd_types.specs.declared.paths.Side.{Side}
@@ -7,9 +7,9 @@ use Rattle.ckd_types.specs.declared.paths.Side.TheVariants.{A, B}
 use Rattle.ckd_types.specs.Parameters.{is_bypass}
 use Rattle.track_cache.specs.declared.frames.Frame.{Frame}
 use Rattle.track_image.specs.Image.{Image}
-use Rattle.device_outside.specs.Interaction.{Done, Ask}
+use Rattle.device_outside.specs.Interaction.{Interaction, Done, Ask}
 use Rattle.device_outside.specs.Keeper.{Hearing}
-use Rattle.device_outside.specs.Outside.{ByPool, Outside, view_of, with_view, Ran, done, tried, asked, read}
+use Rattle.device_outside.specs.Outside.{ByPool, Answered, Outside, PortView, view_of, with_view, Ran, done, tried, asked, read}
 use Rattle.device_outside.specs.Pool as P
 use Rattle.device_outside.specs.Pool.{Pool, Touch, WantFrame, is_listed}
 use Rattle.device_outside.specs.Volume.{VolumeView, ReadOf}
@@ -21,6 +21,8 @@ use Rattle.device_defs.specs.Image.{
   got,
   Imaged,
   Has,
+  NoBytes,
+  BadTrack,
   first_fault,
   read_counted,
   ahead,
@@ -46,10 +48,16 @@ use Rattle.device_defs.specs.Losses.{call_failed}
 use Rattle.device_defs.specs.Memory.{tried as or_none}
 use Rattle.device_defs.specs.Sound.{DeviceStore}
 use Rattle.device_defs.specs.Store.{level_at, frame_at, with_frame}
+use Rattle.device_laws.proofs.Based.{Base, base_of, Hushed, Based, based_ask}
+use Rattle.device_laws.proofs.BasedParts.{level_steady, image_steady}
 use Rattle.device_laws.proofs.QuietParts.{Quiet, quiet_done, quiet_try, quiet_ask, quiet_then, quiet_if}
 use Rattle.device_laws.proofs.ReadMoves.{filled_quiet}
 use Rattle.seen_laws.specs.Seen as seen
-use Rattle.seen_laws.specs.Seen.{NotCalled, LastOf, Saw}
+use Rattle.seen_laws.specs.Seen.{NotCalled, LastOf, ReadFrom, ReadNone, IsMissed, IsHit, Saw, SawNone}
+use Rattle.seen_laws.specs.Moved.{Moved, Counted, miss_reads}
+use Rattle.seen_laws.proofs.Counting.{ran_moved}
+use Rattle.seen_laws.proofs.Exact.{LevelBy, level_exact}
+use Rattle.seen_laws.proofs.RanCounts.{counted_from, counted_to, moved_counted, based_rest, quiet_base}
 use Rattle.seen_laws.proofs.RanParts.{split, quiet_ran, same_calls}
 
 granted_quiet : (s : DeviceStore) (t : ℕ) (i : Image) (given : Bool) → Quiet (granted contents s t i given)
@@ -59,6 +67,14 @@ granted_quiet s t i false = quiet_done
 loaded_quiet : (s : DeviceStore) (t : ℕ) (i : Image) (mode : Mode) → Quiet (loaded contents s t i mode)
 loaded_quiet s t i mode =
     quiet_if (loads mode) (quiet_try (λ ok. quiet_if ok (quiet_ask (λ given. granted_quiet s t i given)) quiet_done)) quiet_done
+
+delivered_quiet : (u : Usage) (t : ℕ) (side : Side) (s : DeviceStore) (o : Option Image) → Quiet (delivered contents u t side s o)
+delivered_quiet u t side s None = quiet_done
+delivered_quiet u t side s (Some i) = loaded_quiet (ahead u s t) t i u.mode
+
+missed_quiet : (u : Usage) (t : ℕ) (s : DeviceStore) (g : Got (List ℕ)) (o : Option (List ℕ)) → Quiet (missed contents u t s g o)
+missed_quiet u t s g None = quiet_done
+missed_quiet u t s g (Some r) = quiet_try (λ ok. quiet_if ok (delivered_quiet u t g.side s (image_of contents s t r)) quiet_done)
 
 module _ {K : Type 0} (had : Bool → Type 0) (hears : Hearing Image K) where
   abbrev Calls : Type 0
@@ -109,101 +125,150 @@ module _ {K : Type 0} (had : Bool → Type 0) (hears : Hearing Image K) where
 
   -- A track that is loaded is answered as it was read
 
-  done_has : {s e : DeviceStore} {u z : Calls} {i j : Image} → Ran had hears (Done s (Some (Has i))) u e (Some (Has j)) z → i ≡ j
+  done_has : {s e : DeviceStore} {u z : Calls} {i : Image} {a : Imaged} → Ran had hears (Done s (Some (Has i))) u e (Some a) z → a ≡ Has i
   done_has done = refl
 
-  none_has : {s e : DeviceStore} {u z : Calls} {j : Image} → Ran had hears (Done s None) u e (Some (Has j)) z → ⊥
+  none_has : {s e : DeviceStore} {u z : Calls} {a : Imaged} → Ran had hears (Done s None) u e (Some a) z → ⊥
   none_has r = elim r [ ]
 
-  granted_has : (s : DeviceStore) (t : ℕ) (i : Image) (given : Bool) {u z : Calls} {e : DeviceStore} {j : Image} →
-      Ran had hears (granted contents s t i given) u e (Some (Has j)) z → i ≡ j
+  granted_has : (s : DeviceStore) (t : ℕ) (i : Image) (given : Bool) {u z : Calls} {e : DeviceStore} {a : Imaged} →
+      Ran had hears (granted contents s t i given) u e (Some a) z → a ≡ Has i
   granted_has s t i true r = done_has (split (filled contents s t i) (λ z _. Done z (Some (Has i))) r).rest
   granted_has s t i false r = done_has r
 
-  wanted_has : (s : DeviceStore) (t : ℕ) (i : Image) (ok : Bool) {u z : Calls} {e : DeviceStore} {j : Image} →
-      Ran had hears (if ok then Ask (WantFrame s.device t) (granted contents s t i) else Done s None) u e (Some (Has j)) z → i ≡ j
+  wanted_has : (s : DeviceStore) (t : ℕ) (i : Image) (ok : Bool) {u z : Calls} {e : DeviceStore} {a : Imaged} →
+      Ran had hears (if ok then Ask (WantFrame s.device t) (granted contents s t i) else Done s None) u e (Some a) z → a ≡ Has i
   wanted_has s t i true (asked {a = given} says r) = granted_has s t i given r
   wanted_has s t i false r = absurd (none_has r)
 
-  loaded_has : (s : DeviceStore) (t : ℕ) (i : Image) (b : Bool) {u z : Calls} {e : DeviceStore} {j : Image} →
-      Ran had hears (if b then or_none s (Ask (WantFrame s.device t) (granted contents s t i)) else Done s (Some (Has i))) u e (Some (Has j)) z → i ≡ j
+  loaded_has : (s : DeviceStore) (t : ℕ) (i : Image) (b : Bool) {u z : Calls} {e : DeviceStore} {a : Imaged} →
+      Ran had hears (if b then or_none s (Ask (WantFrame s.device t) (granted contents s t i)) else Done s (Some (Has i))) u e (Some a) z → a ≡ Has i
   loaded_has s t i true (tried ok m r) = wanted_has s t i ok r
   loaded_has s t i false r = done_has r
 
   -- Misses
 
   module _ (usage : Usage) (t : ℕ) where
+    -- what a look that was answered so saw
+    abbrev pub SeenBy : DeviceStore → Calls → DeviceStore → Calls → Imaged → Type 0
+    SeenBy s u e z (Has i) = (reads : ℕ) × Saw had hears s usage t u i reads e z
+    SeenBy s u e z (NoBytes fault) = (reads : ℕ) × SawNone had hears s usage t u reads e z
+    SeenBy s u e z (BadTrack side) = (reads : ℕ) × SawNone had hears s usage t u reads e z
+
     -- behind the read
-    record Read (y : DeviceStore) (g : Got (List ℕ)) (u : Calls) (i : Image) (z : Calls) : Type 0 where
-      bytes : List ℕ
-      are : g.bytes ≡ Some bytes
-      image : image_of contents y t bytes ≡ Some i
-      quiet : NotCalled u z
+    data MissedSo (y : DeviceStore) (g : Got (List ℕ)) : Imaged → Type 0 where
+      miss_none : g.bytes ≡ None → MissedSo y g (NoBytes g.fault)
+      miss_bad : (r : List ℕ) → g.bytes ≡ Some r → image_of contents y t r ≡ None → MissedSo y g (BadTrack g.side)
+      miss_image : (r : List ℕ) (i : Image) → g.bytes ≡ Some r → image_of contents y t r ≡ Some i → MissedSo y g (Has i)
 
-    delivered_read : (y : DeviceStore) (g : Got (List ℕ)) (r : List ℕ) → g.bytes ≡ Some r → (o : Option Image) → image_of contents y t r ≡ o →
-        {u z : Calls} {e : DeviceStore} {i : Image} → Ran had hears (delivered contents usage t g.side y o) u e (Some (Has i)) z → Read y g u i z
-    delivered_read y g r is None im x = elim x [ ]
-    delivered_read y g r is (Some j) im {i = i} x = record {
-      bytes = r;
-      are = is;
-      image = im ∙ ap Some (loaded_has (ahead usage y t) t j (loads usage.mode) x);
-      quiet = quiet_ran (loaded_quiet (ahead usage y t) t j usage.mode) x;
-    }
+    delivered_so : (y : DeviceStore) (g : Got (List ℕ)) (r : List ℕ) → g.bytes ≡ Some r → (o : Option Image) → image_of contents y t r ≡ o →
+        {u z : Calls} {e : DeviceStore} {a : Imaged} → Ran had hears (delivered contents usage t g.side y o) u e (Some a) z → MissedSo y g a
+    delivered_so y g r is None im done = miss_bad r is im
+    delivered_so y g r is (Some j) im x =
+        subst (λ (i : Imaged). MissedSo y g i) (sym (loaded_has (ahead usage y t) t j (loads usage.mode) x)) (miss_image r j is im)
 
-    had_read : (y : DeviceStore) (g : Got (List ℕ)) (r : List ℕ) → g.bytes ≡ Some r → (ok : Bool) → {u z : Calls} {e : DeviceStore} {i : Image} →
-        Ran had hears (if ok then delivered contents usage t g.side y (image_of contents y t r) else Done y None) u e (Some (Has i)) z → Read y g u i z
-    had_read y g r is true x = delivered_read y g r is (image_of contents y t r) refl x
-    had_read y g r is false x = absurd (none_has x)
+    had_so : (y : DeviceStore) (g : Got (List ℕ)) (r : List ℕ) → g.bytes ≡ Some r → (ok : Bool) → {u z : Calls} {e : DeviceStore} {a : Imaged} →
+        Ran had hears (if ok then delivered contents usage t g.side y (image_of contents y t r) else Done y None) u e (Some a) z → MissedSo y g a
+    had_so y g r is true x = delivered_so y g r is (image_of contents y t r) refl x
+    had_so y g r is false x = absurd (none_has x)
 
-    missed_read : (y : DeviceStore) (g : Got (List ℕ)) (o : Option (List ℕ)) → g.bytes ≡ o → {u z : Calls} {e : DeviceStore} {i : Image} →
-        Ran had hears (missed contents usage t y g o) u e (Some (Has i)) z → Read y g u i z
-    missed_read y g None is x = elim x [ ]
-    missed_read y g (Some r) is (tried ok m x) = had_read y g r is ok x
+    missed_so : (y : DeviceStore) (g : Got (List ℕ)) (o : Option (List ℕ)) → g.bytes ≡ o → {u z : Calls} {e : DeviceStore} {a : Imaged} →
+        Ran had hears (missed contents usage t y g o) u e (Some a) z → MissedSo y g a
+    missed_so y g None is done = miss_none is
+    missed_so y g (Some r) is (tried ok m x) = had_so y g r is ok x
 
-    miss_saw : (s x : DeviceStore) → (x ≡ s) ⊎ (x ≡ with_frame s t None) → {u v z : Calls} {e : DeviceStore} {i : Image} → NotCalled u v →
-        Ran had hears (miss contents x usage t) v e (Some (Has i)) z → Saw had hears s t u i e z
-    miss_saw s x from {v = v} quiet r =
-        let y = split (level_bytes contents x t) (λ z g. missed contents usage t z g g.bytes) r in
-        let read = missed_read y.state y.answer y.answer.bytes refl y.rest in
-        seen.missed x y.state v y.outside y.answer.side read.bytes y.answer.fault from quiet
-        (subst (λ (o : Option (List ℕ)). Ran had hears (level_bytes contents x t) v y.state (got y.answer.side o y.answer.fault) y.outside) read.are y.first)
-        (bytes_are_last x t y.first read.bytes read.are) read.image read.quiet
+    -- what was read
+    module _ (x y : DeviceStore) (g : Got (List ℕ)) where
+      was_given : (o : Option (List ℕ)) (bytes : List ℕ) → o ≡ Some bytes → Moved (λ r w. LevelBy x t r w g o) x.counts y.counts →
+          ReadFrom x t g.side g.fault × Counted (miss_reads g.fault) 0 x.counts y.counts
+      was_given None bytes e m = absurd (cc)
+      was_given (Some r) bytes e m = (m.is.2, moved_counted (miss_reads g.fault) 0 m m.is.0 m.is.1)
+
+      was_vain : (o : Option (List ℕ)) → o ≡ None → (m : Moved (λ r w. LevelBy x t r w g o) x.counts y.counts) →
+          ReadNone x t m.reads g.fault × Counted m.reads 0 x.counts y.counts
+      was_vain None e m = (m.is.1, moved_counted m.reads 0 m refl m.is.0)
+      was_vain (Some r) e m = absurd (cc)
+
+      module _ (e : DeviceStore) {s : DeviceStore} {u v w z : Calls} (from : IsMissed s usage t u x v) (same : x.counts ≡ s.counts)
+          (first : Ran had hears (level_bytes contents x t) v y g w) (quiet : NotCalled w z) (over : e.counts ≡ y.counts) where
+        with_bytes : (o : Option (List ℕ)) → g.bytes ≡ o → Ran had hears (level_bytes contents x t) v y (got g.side o g.fault) w
+        with_bytes o is = subst (λ (k : Option (List ℕ)). Ran had hears (level_bytes contents x t) v y (got g.side k g.fault) w) is first
+
+        counted_in : {reads : ℕ} → Counted reads 0 x.counts y.counts → Counted reads 0 s.counts e.counts
+        counted_in h = counted_from (sym same) (counted_to h over)
+
+        by_missed : {a : Imaged} → Moved (λ r w. LevelBy x t r w g g.bytes) x.counts y.counts → MissedSo y g a → SeenBy s u e z a
+        by_missed m (miss_none is) =
+            let k = was_vain g.bytes is m in
+            (m.reads, seen.unread x y v w m.reads g.side g.fault from (with_bytes None is) k.0 quiet (counted_in k.1))
+        by_missed m (miss_bad r is im) =
+            let k = was_given g.bytes r is m in (
+              miss_reads g.fault,
+              seen.no_track x y v w g.side r g.fault from (with_bytes (Some r) is) k.0 (bytes_are_last x t first r is) im quiet (counted_in k.1),
+            )
+        by_missed m (miss_image r i is im) =
+            let k = was_given g.bytes r is m in (
+              miss_reads g.fault,
+              seen.missed x y v w g.side r g.fault from (with_bytes (Some r) is) k.0 (bytes_are_last x t first r is) im quiet (counted_in k.1),
+            )
+
+    miss_saw : (s x : DeviceStore) {u v z : Calls} {e : DeviceStore} {a : Imaged} → IsMissed s usage t u x v → x.counts ≡ s.counts →
+        Based base_of Hushed (base_of x) (miss contents x usage t) → Ran had hears (miss contents x usage t) v e (Some a) z → SeenBy s u e z a
+    miss_saw s x {e = e} from same based r =
+        let after = λ (z : DeviceStore) (g : Got (List ℕ)). missed contents usage t z g g.bytes in
+        let y = split (level_bytes contents x t) after r in
+        let level = level_steady contents x t in
+        let still = missed_quiet usage t y.state y.answer y.answer.bytes in
+        by_missed x y.state y.answer e from same y.first (quiet_ran still y.rest)
+        (ap (λ (b : Base). b.counts) (quiet_base still (based_rest after level based y.first) y.rest))
+        (ran_moved level (level_exact contents x t) y.first) (missed_so y.state y.answer y.answer.bytes refl y.rest)
 
     -- Hits
 
-    hit_saw : (s : DeviceStore) (f : Frame) → frame_at s t ≡ Some f → {u v z : Calls} {e : DeviceStore} {i : Image} → NotCalled u v →
-        Ran had hears (hit contents s t f) v e (Some (Has i)) z → Saw had hears s t u i e z
-    hit_saw s f is quiet done = seen.hit f is refl quiet
+    hit_saw : (s : DeviceStore) (f : Frame) → frame_at s t ≡ Some f → {u v z : Calls} {e : DeviceStore} {a : Imaged} → IsHit s usage t u f v → NotCalled u v →
+        Ran had hears (hit contents s t f) v e (Some a) z → SeenBy s u e z a
+    hit_saw s f is why quiet done = (0, seen.hit f is why refl quiet)
 
-    touched_saw : (s : DeviceStore) (f : Frame) → frame_at s t ≡ Some f → (listed : Bool) {u v z : Calls} {e : DeviceStore} {i : Image} → NotCalled u v →
-        Ran had hears (if listed then hit contents s t f else miss contents (with_frame s t None) usage t) v e (Some (Has i)) z → Saw had hears s t u i e z
-    touched_saw s f is true quiet r = hit_saw s f is quiet r
-    touched_saw s f is false quiet r = miss_saw s (with_frame s t None) (inr refl) quiet r
+    touched_saw : (s : DeviceStore) (f : Frame) → frame_at s t ≡ Some f → f.modified ≡ false → is_bypass usage.mode ≡ false → (listed : Bool) (p : PortView)
+        {u z : Calls} {e : DeviceStore} {a : Imaged} → Answered u.port (Touch s.device t) listed p →
+        Based base_of Hushed (base_of s) (if listed then hit contents s t f else miss contents (with_frame s t None) usage t) →
+        Ran had hears (if listed then hit contents s t f else miss contents (with_frame s t None) usage t) (record u { port = p }) e (Some a) z →
+        SeenBy s u e z a
+    touched_saw s f is clean unpassed true p says based r = hit_saw s f is (seen.listed p clean unpassed says) (record { a = refl; b = refl }) r
+    touched_saw s f is clean unpassed false p says based r = miss_saw s (with_frame s t None) (seen.unlisted f p is clean unpassed says) refl based r
 
     no_call : (u : Calls) → NotCalled u u
     no_call u = record { a = refl; b = refl }
 
-    clean_saw : (s : DeviceStore) (f : Frame) → frame_at s t ≡ Some f → (bypass : Bool) {u z : Calls} {e : DeviceStore} {i : Image} →
-        Ran had hears (if bypass then miss contents s usage t
-        else Ask (Touch s.device t) (λ listed. if listed then hit contents s t f else miss contents (with_frame s t None) usage t)) u e (Some (Has i)) z →
-        Saw had hears s t u i e z
-    clean_saw s f is true {u = u} r = miss_saw s s (inl refl) (no_call u) r
-    clean_saw s f is false (asked {a = listed} says r) = touched_saw s f is listed (record { a = refl; b = refl }) r
+    abbrev clean_by : DeviceStore → Frame → Bool → Interaction (List ℕ) Image DeviceStore (Option Imaged)
+    clean_by s f bypass =
+        if bypass then miss contents s usage t
+        else Ask (Touch s.device t) (λ listed. if listed then hit contents s t f else miss contents (with_frame s t None) usage t)
 
-    framed_saw : (s : DeviceStore) (f : Frame) → frame_at s t ≡ Some f → (modified : Bool) {u z : Calls} {e : DeviceStore} {i : Image} →
-        Ran had hears (if modified then hit contents s t f else clean_image contents s usage t f) u e (Some (Has i)) z → Saw had hears s t u i e z
-    framed_saw s f is true {u = u} r = hit_saw s f is (no_call u) r
-    framed_saw s f is false r = clean_saw s f is (is_bypass usage.mode) r
+    clean_saw : (s : DeviceStore) (f : Frame) → frame_at s t ≡ Some f → f.modified ≡ false → (bypass : Bool) → is_bypass usage.mode ≡ bypass →
+        {u z : Calls} {e : DeviceStore} {a : Imaged} → Based base_of Hushed (base_of s) (clean_by s f bypass) →
+        Ran had hears (clean_by s f bypass) u e (Some a) z → SeenBy s u e z a
+    clean_saw s f is clean true by based r = miss_saw s s (seen.bypassed f is clean by) refl based r
+    clean_saw s f is clean false by (based_ask m based) (asked {a = listed} {p = p} says r) =
+        touched_saw s f is clean by listed p says (based listed) r
 
-    by_frame : (s : DeviceStore) (o : Option Frame) → frame_at s t ≡ o → {u z : Calls} {e : DeviceStore} {i : Image} →
-        Ran had hears (image_by contents s usage t o) u e (Some (Has i)) z → Saw had hears s t u i e z
-    by_frame s None is {u = u} r = miss_saw s s (inl refl) (no_call u) r
-    by_frame s (Some f) is r = framed_saw s f is f.modified r
+    framed_saw : (s : DeviceStore) (f : Frame) → frame_at s t ≡ Some f → (modified : Bool) → f.modified ≡ modified → {u z : Calls} {e : DeviceStore}
+        {a : Imaged} → Based base_of Hushed (base_of s) (if modified then hit contents s t f else clean_image contents s usage t f) →
+        Ran had hears (if modified then hit contents s t f else clean_image contents s usage t f) u e (Some a) z →
+        SeenBy s u e z a
+    framed_saw s f is true by {u = u} based r = hit_saw s f is (seen.modified by) (no_call u) r
+    framed_saw s f is false by based r = clean_saw s f is by (is_bypass usage.mode) refl based r
 
-    pub image_saw : (s : DeviceStore) {u z : Calls} {e : DeviceStore} {i : Image} → Ran had hears (image contents s usage t) u e (Some (Has i)) z →
-        Saw had hears s t u i e z
+    by_frame : (s : DeviceStore) (o : Option Frame) → frame_at s t ≡ o → {u z : Calls} {e : DeviceStore} {a : Imaged} →
+        Based base_of Hushed (base_of s) (image_by contents s usage t o) → Ran had hears (image_by contents s usage t o) u e (Some a) z →
+        SeenBy s u e z a
+    by_frame s None is based r = miss_saw s s (seen.no_frame is) refl based r
+    by_frame s (Some f) is based r = framed_saw s f is f.modified refl based r
+
+    pub image_saw : (s : DeviceStore) {u z : Calls} {e : DeviceStore} (a : Imaged) → Ran had hears (image contents s usage t) u e (Some a) z →
+        SeenBy s u e z a
     unfolding I.image
-    image_saw s r = by_frame s (frame_at s t) refl r
+    image_saw s a r = by_frame s (frame_at s t) refl (image_steady contents s usage t) r
 
     -- a frame that counts is a hit, whatever comes
 

@@ -1,5 +1,30 @@
 -- No part of an event brings a side up, and notices leave the sides.
-use Rattle.std.proofs.Common.{◌≡◌, ◌≤◌, ◌==◌, ◌+◌, ◌++◌, ℕ, zero, suc, Bool, true, false, [], ◌∷◌, length, Option, Some, None, is_some, refl, sym, ap, subst, ◌∙◌, arith}
+use Rattle.std.proofs.Common.{
+  ◌≡◌,
+  ◌≤◌,
+  ◌==◌,
+  ◌+◌,
+  ◌++◌,
+  ℕ,
+  zero,
+  suc,
+  Bool,
+  true,
+  false,
+  [],
+  ◌∷◌,
+  length,
+  Option,
+  Some,
+  None,
+  is_some,
+  refl,
+  sym,
+  ap,
+  subst,
+  ◌∙◌,
+  arith,
+}
 use Rattle.std.specs.Prelude.{if◌then◌else◌, ◌&&◌, not, nat_le, nat_lt}
 use Rattle.ckd_types.specs.declared.paths.Side.{Side}
 use Rattle.ckd_types.specs.declared.paths.Side.TheVariants.{A, B}
@@ -24,7 +49,21 @@ use Rattle.device_defs.specs.Losses.{
 }
 use Rattle.device_defs.specs.Owed as O
 use Rattle.device_defs.specs.Owed.{is_clean, heard, hear}
-use Rattle.device_defs.specs.Store.{Store, tracks_of, has_level, takes_b, frame_at, patch_at, is_lost, is_loose, half_is, owed_at, with_frame, with_lost}
+use Rattle.device_defs.specs.Store.{
+  SideMarks,
+  Store,
+  tracks_of,
+  has_level,
+  takes_b,
+  frame_at,
+  patch_at,
+  is_lost,
+  is_loose,
+  half_is,
+  owed_at,
+  with_frame,
+  with_lost,
+}
 use Rattle.device_defs.specs.Transfers.{both}
 use Rattle.device_laws.proofs.Always.{Always, always_done, always_ask, always_tell, always_then, always_weaker}
 use Rattle.seen_laws.specs.Moved.{sides_up, sides_writing}
@@ -54,16 +93,16 @@ module _ {F P H : Type 0} where
   pub writing_up : (s : Store F P H) → sides_writing s ≤ sides_up s
   writing_up s = writing_by s.a.up s.b.up s.held
 
-  -- these sides are up
-  record AreUp (x y : Bool) (z : Store F P H) : Type 0 where
-    a : z.a.up ≡ x
-    b : z.b.up ≡ y
+  -- its sides are these
+  record AreSides (x y : SideMarks) (z : Store F P H) : Type 0 where
+    a : z.a ≡ x
+    b : z.b ≡ y
 
-  up_if : (x y c : Bool) {s z : Store F P H} → AreUp x y s → AreUp x y z → AreUp x y (if c then s else z)
-  up_if x y true f g = f
-  up_if x y false f g = g
+  sides_if : (x y : SideMarks) (c : Bool) {s z : Store F P H} → AreSides x y s → AreSides x y z → AreSides x y (if c then s else z)
+  sides_if x y true f g = f
+  sides_if x y false f g = g
 
-  gives_up_so : (s : Store F P H) (t : ℕ) (o : Option ℕ) → AreUp s.a.up s.b.up (gives_up s t o)
+  gives_up_so : (s : Store F P H) (t : ℕ) (o : Option ℕ) → AreSides s.a s.b (gives_up s t o)
   gives_up_so s t None = record { a = refl; b = refl }
   gives_up_so s t (Some slot) = record { a = refl; b = refl }
 
@@ -71,9 +110,9 @@ module _ {F P H : Type 0} where
   pub record Fewer (s z : Store F P H) : Type 0 where
     pub is : sides_up z ≤ sides_up s
 
-  fewer_by : (s z : Store F P H) (x y : Bool) → AreUp x y z → both x y ≤ sides_up s → Fewer s z
+  fewer_by : (s z : Store F P H) (x y : SideMarks) → AreSides x y z → both x.up y.up ≤ sides_up s → Fewer s z
   fewer_by s z x y e le = record {
-    is = subst (λ (c : Bool). both c z.b.up ≤ sides_up s) (sym e.a) (subst (λ (c : Bool). both x c ≤ sides_up s) (sym e.b) le);
+    is = subst (λ (c : SideMarks). both c.up z.b.up ≤ sides_up s) (sym e.a) (subst (λ (c : SideMarks). both x.up c.up ≤ sides_up s) (sym e.b) le);
   }
 
   pub fewer_then : (s y z : Store F P H) → Fewer s y → Fewer y z → Fewer s z
@@ -114,26 +153,26 @@ module _ {F P H : Type 0} where
   same_writing s z e = ap (λ (x : _). both x.up (takes_b z)) e.a ∙ ap (λ (x : Bool). both s.a.up x) (same_takes s z e)
 
 module _ {F P H R : Type 0} (c : Contents F P H R) where
-  frame_so : (s : Store F P H) (t : ℕ) (o : Option F) → AreUp s.a.up s.b.up (by_frame c s t o)
+  frame_so : (s : Store F P H) (t : ℕ) (o : Option F) → AreSides s.a s.b (by_frame c s t o)
   frame_so s t (Some f) =
-      up_if s.a.up s.b.up (is_loose s t) (record { a = refl; b = refl })
-      (up_if s.a.up s.b.up (c.modified f) (record { a = refl; b = refl }) (record { a = refl; b = refl }))
+      sides_if s.a s.b (is_loose s t) (record { a = refl; b = refl })
+      (sides_if s.a s.b (c.modified f) (record { a = refl; b = refl }) (record { a = refl; b = refl }))
   frame_so s t None =
-      up_if s.a.up s.b.up (half_is s.half t) (record { a = refl; b = refl })
+      sides_if s.a s.b (half_is s.half t) (record { a = refl; b = refl })
       (gives_up_so (with_lost s t) t (slot_in c (patch_at (with_lost s t) t)))
 
-  settled_so : (s : Store F P H) (t : ℕ) → AreUp s.a.up s.b.up (settled c s t)
+  settled_so : (s : Store F P H) (t : ℕ) → AreSides s.a s.b (settled c s t)
   unfolding L.settled
   settled_so s t =
-      up_if s.a.up s.b.up (is_some s.lent) (record { a = refl; b = refl })
-      (up_if s.a.up s.b.up (is_lost s t) (record { a = refl; b = refl })
-      (up_if s.a.up s.b.up (has_level s t) (record { a = refl; b = refl }) (frame_so s t (frame_at s t))))
+      sides_if s.a s.b (is_some s.lent) (record { a = refl; b = refl })
+      (sides_if s.a s.b (is_lost s t) (record { a = refl; b = refl })
+      (sides_if s.a s.b (has_level s t) (record { a = refl; b = refl }) (frame_so s t (frame_at s t))))
 
-  settled_but_so : (writing : Option ℕ) (q : ℕ) (s : Store F P H) → AreUp s.a.up s.b.up (settled_but c writing q s)
+  settled_but_so : (writing : Option ℕ) (q : ℕ) (s : Store F P H) → AreSides s.a s.b (settled_but c writing q s)
   settled_but_so None q s = settled_so s q
-  settled_but_so (Some t) q s = up_if s.a.up s.b.up (q == t) (record { a = refl; b = refl }) (settled_so s q)
+  settled_but_so (Some t) q s = sides_if s.a s.b (q == t) (record { a = refl; b = refl }) (settled_so s q)
 
-  over_so : (n : ℕ) (writing : Option ℕ) (s : Store F P H) → AreUp s.a.up s.b.up (over n (settled_but c writing) s)
+  over_so : (n : ℕ) (writing : Option ℕ) (s : Store F P H) → AreSides s.a s.b (over n (settled_but c writing) s)
   unfolding L.over
   over_so zero writing s = record { a = refl; b = refl }
   over_so (suc n) writing s =
@@ -143,28 +182,40 @@ module _ {F P H R : Type 0} (c : Contents F P H R) where
 
   lost_fewer : (s : Store F P H) (side : Side) (writing : Option ℕ) → Fewer s (side_lost c s side writing)
   unfolding L.side_lost
-  lost_fewer s A writing = fewer_by s _ false s.b.up (over_so (tracks_of s) writing (down s A)) (none_less s.a.up s.b.up)
-  lost_fewer s B writing = fewer_by s _ s.a.up false (over_so (tracks_of s) writing (down s B)) (last_less s.a.up s.b.up)
+  lost_fewer s A writing = fewer_by s _ (down s A).a s.b (over_so (tracks_of s) writing (down s A)) (none_less s.a.up s.b.up)
+  lost_fewer s B writing = fewer_by s _ s.a (down s B).b (over_so (tracks_of s) writing (down s B)) (last_less s.a.up s.b.up)
 
   firm_if : {A : Type 0} {p : Store F P H → A → Type 0} (b : Bool) {i j : Interaction R Image (Store F P H) A} → Always i p → Always j p →
       Always (if b then i else j) p
   firm_if true f g = f
   firm_if false f g = g
 
-  firm_fewer : (t : ℕ) (s : Store F P H) → Always (firm_told c t s) (λ z _. Fewer s z)
-  firm_fewer t s =
-      firm_if (owed_at s t).firm (always_tell (λ _. always_done (record { is = omega arith }))) (always_done (record { is = omega arith }))
+  firm_same : (t : ℕ) (s : Store F P H) → Always (firm_told c t s) (λ z _. AreSides s.a s.b z)
+  firm_same t s =
+      firm_if (owed_at s t).firm (always_tell (λ _. always_done (record { a = refl; b = refl }))) (always_done (record { a = refl; b = refl }))
 
-  all_firm_fewer : (n : ℕ) (s : Store F P H) → Always (all_firm_told c n s) (λ z _. Fewer s z)
+  all_firm_same : (n : ℕ) (s : Store F P H) → Always (all_firm_told c n s) (λ z _. AreSides s.a s.b z)
   unfolding L.all_firm_told
-  all_firm_fewer zero s = always_done (record { is = omega arith })
-  all_firm_fewer (suc n) s = always_then (all_firm_fewer n s) (λ z _ e. always_weaker (firm_fewer n z) (λ y _ f. fewer_then s z y e f))
+  all_firm_same zero s = always_done (record { a = refl; b = refl })
+  all_firm_same (suc n) s =
+      always_then (all_firm_same n s) (λ z _ e. always_weaker (firm_same n z) (λ y _ f. record { a = f.a ∙ e.a; b = f.b ∙ e.b }))
 
   pub failed_fewer : (s : Store F P H) (side : Side) (writing : Option ℕ) → Always (call_failed c s side writing) (λ z _. Fewer s z)
   failed_fewer s side writing =
+      let gone = side_lost c s side writing in
       firm_if s.paired
-      (always_weaker (all_firm_fewer (tracks_of s) (side_lost c s side writing)) (λ z _ e. fewer_then s _ z (lost_fewer s side writing) e))
+      (always_weaker (all_firm_same (tracks_of s) gone)
+      (λ z _ e. fewer_then s gone z (lost_fewer s side writing) (fewer_by gone z gone.a gone.b e (omega arith))))
       (always_done (record { is = omega arith }))
+
+  -- a call of side A that fails leaves side B
+  lost_leaves : (s : Store F P H) (writing : Option ℕ) → (side_lost c s A writing).b ≡ s.b
+  unfolding L.side_lost
+  lost_leaves s writing = (over_so (tracks_of s) writing (down s A)).b
+
+  pub failed_leaves : (s : Store F P H) (writing : Option ℕ) → Always (call_failed c s A writing) (λ z _. z.b ≡ s.b)
+  failed_leaves s writing =
+      firm_if s.paired (always_weaker (all_firm_same (tracks_of s) (side_lost c s A writing)) (λ z _ e. e.b ∙ lost_leaves s writing)) (always_done refl)
 
   -- Notices
 

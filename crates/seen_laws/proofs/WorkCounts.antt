@@ -41,7 +41,19 @@ use Rattle.device_defs.specs.Writing.{write_counted}
 use Rattle.device_laws.proofs.QuietParts.{failed_quiet}
 use Rattle.device_laws.proofs.ReadMoves.{filled_quiet}
 use Rattle.seen_laws.specs.Moved.{sides_up, sides_writing, DidTransfers, WorkTransfers}
-use Rattle.seen_laws.proofs.Counting.{Counts, counts_done, counts_try, counts_ask, counts_read, counts_write, counts_then, counts_weaker, counts_past, counts_if, counts_from}
+use Rattle.seen_laws.proofs.Counting.{
+  Counts,
+  counts_done,
+  counts_try,
+  counts_ask,
+  counts_read,
+  counts_write,
+  counts_then,
+  counts_weaker,
+  counts_past,
+  counts_if,
+  counts_from,
+}
 use Rattle.seen_laws.proofs.ReadCounts.{LevelSo, level_gave, level_none, level_failed, level_reads}
 use Rattle.seen_laws.proofs.SidesLeft.{writing_up}
 use Rattle.seen_laws.proofs.WriteCounts.{SavedBy, no_room, was_fault, now_fault, saved_whole, saved_half, saved_none, saved_counts}

@@ -22,7 +22,20 @@ use Rattle.device_defs.specs.Choosing as G
 use Rattle.device_defs.specs.Choosing.{choose, choose_loose, choose_firm, fast_or_through, fast_by, slot_by, may_be_fast}
 use Rattle.device_defs.specs.Contents.{Contents}
 use Rattle.device_defs.specs.Editing as E
-use Rattle.device_defs.specs.Editing.{whole, at_once, through_by, through, write_by, written, is_given, clean_again, unchosen, write_chosen, write, another_loose}
+use Rattle.device_defs.specs.Editing.{
+  whole,
+  at_once,
+  through_by,
+  through,
+  write_by,
+  written,
+  is_given,
+  clean_again,
+  unchosen,
+  write_chosen,
+  write,
+  another_loose,
+}
 use Rattle.device_defs.specs.Effects.{hardened}
 use Rattle.device_defs.specs.Losses.{stale_everywhere, settled, framed_image}
 use Rattle.device_defs.specs.Owed.{is_clean}
@@ -49,7 +62,21 @@ use Rattle.device_defs.specs.Writing.{
 use Rattle.device_laws.proofs.Always.{Always, always_done, always_tell}
 use Rattle.device_laws.proofs.QuietParts.{Quiet, quiet_done, quiet_ask, quiet_tell, quiet_then, quiet_if, failed_quiet, done_quiet, first_moves}
 use Rattle.seen_laws.specs.Moved.{sides_up, sides_writing}
-use Rattle.seen_laws.proofs.Counting.{Counts, counts_done, counts_try, counts_ask, counts_tell, counts_write, counts_then, counts_weaker, counts_moves, counts_any, counts_first, counts_past, counts_if}
+use Rattle.seen_laws.proofs.Counting.{
+  Counts,
+  counts_done,
+  counts_try,
+  counts_ask,
+  counts_tell,
+  counts_write,
+  counts_then,
+  counts_weaker,
+  counts_moves,
+  counts_any,
+  counts_first,
+  counts_past,
+  counts_if,
+}
 use Rattle.seen_laws.proofs.SidesLeft.{writing_up}
 
 none_writes : (x y : Bool) → x ≡ false → y ≡ false → both x y ≡ 0
@@ -95,9 +122,9 @@ module _ {F P H : Type 0} where
     pub so : WroteSo s r w z x
 
   -- the same sides take what is written
-  record Writes (n up : ℕ) (z : Store F P H) : Type 0 where
-    is : sides_writing z ≡ n
-    sides : sides_up z ≡ up
+  pub record Writes (n up : ℕ) (z : Store F P H) : Type 0 where
+    pub is : sides_writing z ≡ n
+    pub sides : sides_up z ≡ up
 
   writes_if : (n up : ℕ) (b : Bool) {s z : Store F P H} → Writes n up s → Writes n up z → Writes n up (if b then s else z)
   writes_if n up true f g = f
@@ -159,13 +186,13 @@ module _ {F P H R : Type 0} (c : Contents F P H R) where
   firm_by s t true = always_tell (λ _. always_done (let e = stale_writes (hardened s t) t in record { is = e.is; sides = e.sides }))
   firm_by s t false = always_done (record { is = refl; sides = refl })
 
-  firm_writes : (s : Store F P H) (t : ℕ) → Always (firm_first c s t) (λ z _. Writes (sides_writing s) (sides_up s) z)
+  pub firm_writes : (s : Store F P H) (t : ℕ) → Always (firm_first c s t) (λ z _. Writes (sides_writing s) (sides_up s) z)
   firm_writes s t = firm_by s t (is_loose s t)
 
-  firm_quiet : (s : Store F P H) (t : ℕ) → Quiet (firm_first c s t)
+  pub firm_quiet : (s : Store F P H) (t : ℕ) → Quiet (firm_first c s t)
   firm_quiet s t = quiet_if (is_loose s t) (quiet_tell (λ _. quiet_done)) quiet_done
 
-  opened_quiet : (s : Store F P H) (t : ℕ) (i : Image) (origin : Origin) (was_loose : Bool) → Quiet (opened c s t i origin was_loose)
+  pub opened_quiet : (s : Store F P H) (t : ℕ) (i : Image) (origin : Origin) (was_loose : Bool) → Quiet (opened c s t i origin was_loose)
   opened_quiet s t i origin true = quiet_ask (λ _. quiet_done)
   opened_quiet s t i origin false = quiet_done
 
@@ -217,10 +244,10 @@ module _ {F P H R : Type 0} (c : Contents F P H R) where
 
   -- A command's write
 
-  record Chosen (s : Store F P H) (r w : ℕ) (z : Store F P H) : Type 0 where
-    reads : r ≡ 0
-    writes : w ≡ 0
-    same : z ≡ s
+  pub record Chosen (s : Store F P H) (r w : ℕ) (z : Store F P H) : Type 0 where
+    pub reads : r ≡ 0
+    pub writes : w ≡ 0
+    pub same : z ≡ s
 
   module _ (s : Store F P H) (u : Usage) (t : ℕ) where
     abbrev By : ℕ → ℕ → Store F P H → Choice → Type 0
@@ -241,7 +268,7 @@ module _ {F P H R : Type 0} (c : Contents F P H R) where
     through_so : Counts By 0 0 (fast_or_through c s u t)
     through_so = counts_if (may_be_fast c s u t) (λ _. fast_so (is_some (patch_at s t))) (λ _. chosen _)
 
-    choice_so : Counts By 0 0 (choose c s u t)
+    pub choice_so : Counts By 0 0 (choose c s u t)
     unfolding G.choose
     choice_so =
         counts_if (is_loose s t) (λ _. counts_if u.provisional (λ _. counts_ask (λ listed. chosen _)) (λ _. chosen _))
@@ -259,7 +286,7 @@ module _ {F P H R : Type 0} (c : Contents F P H R) where
     whole_so s bypass w le = counts_any (whole_quiet s bypass) (λ z x. record { reads = refl; writes = le })
 
     -- the second part in the same event
-    tried_quiet : (s : Store F P H) (ok : Bool) → Quiet (tried_b c t s ok)
+    pub tried_quiet : (s : Store F P H) (ok : Bool) → Quiet (tried_b c t s ok)
     tried_quiet s true = quiet_done
     tried_quiet s false = failed_quiet c s B (Some t)
 

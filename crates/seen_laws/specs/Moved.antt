@@ -1,5 +1,6 @@
 -- How many reads and writes of volumes each event of a device makes, whatever the port, the volumes and the keeper answer.
-use Rattle.std.specs.Prelude.{◌≡◌, ◌≢◌, ◌≤◌, ◌+◌, ◌*◌, ℕ, zero, suc, true, false, Option, Some, None}
+use Rattle.std.specs.Prelude.{◌≡◌, ◌≢◌, ◌≤◌, ◌+◌, ◌*◌, ℕ, zero, suc, Bool, true, false, Option, Some, None, if◌then◌else◌}
+use Rattle.ckd_types.specs.declared.paths.Side.{Side}
 use Rattle.ckd_chain.specs.declared.progress.Progress.TheVariants as progresses
 use Rattle.ckd_chain.specs.State.{ChainState}
 use Rattle.ckd_chain.specs.Steps.{need_of, stepped}
@@ -7,6 +8,8 @@ use Rattle.plain_defs.specs.History.{OpenEntry}
 use Rattle.track_cache.specs.declared.frames.Frame.{Frame}
 use Rattle.track_image.specs.Image.{Image}
 use Rattle.device_outside.specs.Volume.{counted}
+use Rattle.device_defs.specs.declared.answers.Choice.{Choice}
+use Rattle.device_defs.specs.declared.answers.Choice.TheVariants.{Provisional, Fast, Through}
 use Rattle.device_defs.specs.declared.answers.Did.{Did}
 use Rattle.device_defs.specs.declared.answers.Did.TheVariants.{Nothing, Recovered, Copied, Staged, Skipped, Destaged, Half, Fault, BadBytes}
 use Rattle.device_defs.specs.declared.counts.Counts.{Counts}
@@ -28,6 +31,25 @@ pub record Moved (within : ℕ → ℕ → Type 0) (old new : Counts) : Type 0 w
   pub is : within reads writes
   pub read_count : new.reads ≡ counted_by reads old.reads
   pub write_count : new.writes ≡ counted_by writes old.writes
+
+-- so many reads and so many writes were counted between these two
+pub record Counted (reads writes : ℕ) (old new : Counts) : Type 0 where
+  pub read_count : new.reads ≡ counted_by reads old.reads
+  pub write_count : new.writes ≡ counted_by writes old.writes
+
+-- The parts of a command, exactly
+
+-- a miss that was given bytes made one read, and one more where a side's read failed before
+abbrev pub miss_reads : Option Side → ℕ
+miss_reads None = 1
+miss_reads (Some side) = 2
+
+-- A write in the cache alone makes none. One through makes one to each of the sides that take it as it begins, whichever fail; where it is half done
+-- then, to side A alone, and the second part makes side B's
+abbrev pub choice_writes : ℕ → Choice → Bool → ℕ
+choice_writes writing Provisional half = 0
+choice_writes writing (Fast slot) half = 0
+choice_writes writing Through half = if half then 1 else writing
 
 -- The table, of so many reads and so many writes
 

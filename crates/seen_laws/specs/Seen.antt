@@ -1,9 +1,12 @@
--- What a command saw of the tracks that it looked at, and which volumes it called for that; also where the volumes don't tell what they hold.
-use Rattle.std.specs.Prelude.{◌≡◌, ◌⊎◌, ℕ, suc, Bool, true, false, List, [], ◌∷◌, Option, Some, None}
+-- What a command saw of the tracks that it looked at, which volumes it called for that, and how many reads and writes each part of it made; also where the
+-- volumes don't tell what they hold.
+use Rattle.std.specs.Prelude.{◌≡◌, ◌+◌, ℕ, suc, Bool, true, false, List, [], ◌∷◌, Option, Some, None, length}
 use Rattle.ckd_types.specs.declared.geometry.Geometry.{Geometry}
 use Rattle.ckd_types.specs.declared.paths.Side.{Side}
+use Rattle.ckd_types.specs.declared.paths.Side.TheVariants.{A, B}
 use Rattle.ckd_types.specs.declared.record.Edit.{Edit}
 use Rattle.ckd_types.specs.declared.record.Track.{Track}
+use Rattle.ckd_types.specs.Parameters.{is_bypass}
 use Rattle.ckd_rules.specs.declared.order.LocalAct.{LocalAct}
 use Rattle.ckd_chain.specs.declared.progress.Progress.{Progress}
 use Rattle.ckd_chain.specs.declared.progress.Progress.TheVariants as progresses
@@ -17,7 +20,8 @@ use Rattle.plain_device.specs.Acted.{settled_act, paths_behind}
 use Rattle.track_image.specs.Image.{Image}
 use Rattle.track_cache.specs.declared.frames.Frame.{Frame}
 use Rattle.device_outside.specs.Keeper.{Hearing}
-use Rattle.device_outside.specs.Outside.{Outside, view_of, Ran}
+use Rattle.device_outside.specs.Outside.{Answered, Outside, PortView, view_of, Ran}
+use Rattle.device_outside.specs.Pool.{Touch}
 use Rattle.device_outside.specs.Volume.{VolumeView}
 use Rattle.device_defs.specs.declared.answers.Came.{Came}
 use Rattle.device_defs.specs.declared.answers.Came.TheVariants.{Ends, Checks, HalfOpen}
@@ -25,6 +29,9 @@ use Rattle.device_defs.specs.declared.answers.Choice.{Choice}
 use Rattle.device_defs.specs.declared.answers.Choice.TheVariants.{Provisional, Fast, Through}
 use Rattle.device_defs.specs.declared.answers.SecondEnd.{SecondEnd}
 use Rattle.device_defs.specs.declared.answers.Stepped.{Stepped}
+use Rattle.device_defs.specs.declared.answers.Took.{Took}
+use Rattle.device_defs.specs.declared.answers.Took.TheVariants.{Whole, Opened, Unwritten}
+use Rattle.device_defs.specs.declared.counts.Counts.{Counts}
 use Rattle.device_defs.specs.declared.usage.Usage.{Usage}
 use Rattle.device_defs.specs.Choosing.{choose}
 use Rattle.device_defs.specs.Command.{has_loss}
@@ -35,9 +42,10 @@ use Rattle.device_defs.specs.Image.{got, level_bytes, image_of}
 use Rattle.device_defs.specs.Outcomes.{Turn, checks, told_step, turned, usage_of}
 use Rattle.device_defs.specs.Owed.{hear}
 use Rattle.device_defs.specs.Sound.{DeviceStore}
-use Rattle.device_defs.specs.Store.{HalfWrite, OfCommand, tracks_of, frame_at, with_frame}
+use Rattle.device_defs.specs.Store.{HalfWrite, OfCommand, Store, tracks_of, level_at, frame_at, is_lost, with_frame}
 use Rattle.device_laws.specs.Standing.{RunsOn}
 use Rattle.device_laws.specs.Whole.{WholeDevice}
+use Rattle.seen_laws.specs.Moved.{Counted, miss_reads, choice_writes, sides_writing}
 
 -- no volume was called between these two
 pub record NotCalled {R K : Type 0} (u z : Outside R K) : Type 0 where
@@ -50,13 +58,19 @@ pub record LastOf {K : Type 0} (u : Outside (List ℕ) K) (side : Side) (bytes :
   pub is : view_of u side ≡ Some view
   pub delivered : view.delivered ≡ Some bytes
 
--- a track that was looked at, and the image that was seen
+-- a track that was looked at, the image that was seen, and how many reads that made
 pub record Look : Type 0 where
   pub track : ℕ
   pub image : Image
+  pub reads : ℕ
 
-abbrev pub look_at : ℕ → Image → Look
-look_at t i = record { track = t; image = i }
+abbrev pub look_at : ℕ → Image → ℕ → Look
+look_at t i reads = record { track = t; image = i; reads = reads }
+
+-- of all of them
+abbrev pub reads_of : List Look → ℕ
+reads_of [] = 0
+reads_of (l ∷ ls) = l.reads + reads_of ls
 
 -- the images are those of these tracks, on volumes of this geometry
 abbrev pub AreOf : Geometry → (ℕ → Track) → List Look → Type 0
@@ -69,44 +83,112 @@ EndsAs f chain (Ends e) = (f.end ≡ e) × (f.chain ≡ chain)
 EndsAs f chain (Checks e) = Unit {0}
 EndsAs f chain (HalfOpen t) = (f.end ≡ end_with chain (settled_by chain Written)) × (f.chain ≡ behind chain (settled_by chain Written))
 
+abbrev pub asks_write : Progress → Bool
+asks_write (progresses.Ended e) = false
+asks_write (progresses.Need t) = false
+asks_write (progresses.Write t e) = true
+asks_write (progresses.Local act) = false
+
+-- a write that is half done then
+abbrev pub is_opened : Took → Bool
+is_opened Whole = false
+is_opened Opened = true
+is_opened Unwritten = false
+
+abbrev pub is_half : Came → Bool
+is_half (Ends e) = false
+is_half (Checks e) = false
+is_half (HalfOpen t) = true
+
+-- The side that gave the bytes of a track, and the first that failed: A where the track is level there, else B; and B where A's read failed and it is level
+-- there
+pub data ReadFrom {F P H : Type 0} (s : Store F P H) (t : ℕ) : Side → Option Side → Type 0 where
+  from_a : level_at s.a t ≡ true → ReadFrom s t A None
+  from_b : level_at s.a t ≡ false → level_at s.b t ≡ true → ReadFrom s t B None
+  after_a : level_at s.a t ≡ true → level_at s.b t ≡ true → ReadFrom s t B (Some A)
+
+-- no side gave them: how many reads failed, one of each side where the track is level, and the first side whose did
+pub data ReadNone {F P H : Type 0} (s : Store F P H) (t : ℕ) : ℕ → Option Side → Type 0 where
+  none_level : level_at s.a t ≡ false → level_at s.b t ≡ false → ReadNone s t 0 None
+  a_failed : level_at s.a t ≡ true → level_at s.b t ≡ false → ReadNone s t 1 (Some A)
+  b_failed : level_at s.a t ≡ false → level_at s.b t ≡ true → ReadNone s t 1 (Some B)
+  both_failed : level_at s.a t ≡ true → level_at s.b t ≡ true → ReadNone s t 2 (Some A)
+
 -- a fast or a provisional write
 abbrev pub is_in_cache : Choice → Bool
 is_in_cache Provisional = true
 is_in_cache (Fast slot) = true
 is_in_cache Through = false
 
+module _ {K : Type 0} where
+  -- A track is read that has no frame, or has a clean one in bypass mode, or one of which the pool answers that it lists it no more: that frame goes. What
+  -- it is read from, and the outside then
+  pub data IsMissed (s : DeviceStore) (usage : Usage) (t : ℕ) (u : Outside (List ℕ) K) : DeviceStore → Outside (List ℕ) K → Type 0 where
+    no_frame : frame_at s t ≡ None → IsMissed s usage t u s u
+    bypassed : (f : Frame) → frame_at s t ≡ Some f → f.modified ≡ false → is_bypass usage.mode ≡ true → IsMissed s usage t u s u
+    unlisted : (f : Frame) (p : PortView) → frame_at s t ≡ Some f → f.modified ≡ false → is_bypass usage.mode ≡ false →
+        Answered u.port (Touch s.device t) false p → IsMissed s usage t u (with_frame s t None) (record u { port = p })
+
+  -- A track is seen in its frame where that is modified, and where it is clean, the mode isn't bypass and the pool answers that it lists it. The outside then
+  pub data IsHit (s : DeviceStore) (usage : Usage) (t : ℕ) (u : Outside (List ℕ) K) (f : Frame) : Outside (List ℕ) K → Type 0 where
+    modified : f.modified ≡ true → IsHit s usage t u f u
+    listed : (p : PortView) → f.modified ≡ false → is_bypass usage.mode ≡ false → Answered u.port (Touch s.device t) true p →
+        IsHit s usage t u f (record u { port = p })
+
 module _ {K : Type 0} (had : Bool → Type 0) (hears : Hearing Image K) where
-  -- A look at a track of this store saw this image, and left a store. A hit saw what is in the frame, and called no volume. A miss saw what the bytes
-  -- of a level side make, with the patch that is held
-  pub data Saw (s : DeviceStore) (t : ℕ) (u : Outside (List ℕ) K) (i : Image) : DeviceStore → Outside (List ℕ) K → Type 0 where
-    hit : {z : Outside (List ℕ) K} (f : Frame) → frame_at s t ≡ Some f → i ≡ f.image → NotCalled u z → Saw s t u i s z
+  -- A look at a track of this store saw this image, made so many reads and no write, and left a store. A hit saw what is in the frame, and called no
+  -- volume: it made none. A miss saw what the bytes of a level side make, with the patch that is held; it made one, and one more where side A's read failed
+  pub data Saw (s : DeviceStore) (usage : Usage) (t : ℕ) (u : Outside (List ℕ) K) (i : Image) : ℕ → DeviceStore → Outside (List ℕ) K → Type 0 where
+    hit : {z : Outside (List ℕ) K} (f : Frame) → frame_at s t ≡ Some f → IsHit s usage t u f z → i ≡ f.image → NotCalled u z → Saw s usage t u i 0 s z
     missed : {e : DeviceStore} {z : Outside (List ℕ) K} (x y : DeviceStore) (v w : Outside (List ℕ) K) (side : Side) (bytes : List ℕ)
-        (fault : Option Side) → (x ≡ s) ⊎ (x ≡ with_frame s t None) → NotCalled u v →
-        Ran had hears (level_bytes contents x t) v y (got side (Some bytes) fault) w → LastOf w side bytes → image_of contents y t bytes ≡ Some i →
-        NotCalled w z → Saw s t u i e z
+        (fault : Option Side) → IsMissed s usage t u x v → Ran had hears (level_bytes contents x t) v y (got side (Some bytes) fault) w →
+        ReadFrom x t side fault → LastOf w side bytes → image_of contents y t bytes ≡ Some i → NotCalled w z →
+        Counted (miss_reads fault) 0 s.counts e.counts → Saw s usage t u i (miss_reads fault) e z
 
-  -- looks one behind the other, each at the track that the chain asks for then. What they leave: the chain at the last one, its track, a store
-  pub data AllSeen : ChainState → DeviceStore → Outside (List ℕ) K → List Look → ChainState → ℕ → DeviceStore → Outside (List ℕ) K → Type 0 where
-    last_look : {chain : ChainState} {s y : DeviceStore} {u v : Outside (List ℕ) K} (t : ℕ) (i : Image) → need_of chain ≡ Some t → Saw s t u i y v →
-        AllSeen chain s u (look_at t i ∷ []) chain t y v
-    one_more : {chain final : ChainState} {s y e : DeviceStore} {u v z : Outside (List ℕ) K} {ls : List Look} {q : ℕ} (t next : ℕ) (i : Image) →
-        need_of chain ≡ Some t → Saw s t u i y v → (stepped chain (Some i)).progress ≡ progresses.Need next →
-        AllSeen (stepped chain (Some i)).chain y v ls final q e z → AllSeen chain s u (look_at t i ∷ ls) final q e z
+  -- A look that saw no image: its track is lost, and no volume was called; or no level side gave bytes, and each of them was read once; or the bytes that
+  -- came are no track
+  pub data SawNone (s : DeviceStore) (usage : Usage) (t : ℕ) (u : Outside (List ℕ) K) : ℕ → DeviceStore → Outside (List ℕ) K → Type 0 where
+    lost : {z : Outside (List ℕ) K} → is_lost s t ≡ true → NotCalled u z → SawNone s usage t u 0 s z
+    unread : {e : DeviceStore} {z : Outside (List ℕ) K} (x y : DeviceStore) (v w : Outside (List ℕ) K) (reads : ℕ) (side : Side) (fault : Option Side) →
+        IsMissed s usage t u x v → Ran had hears (level_bytes contents x t) v y (got side None fault) w → ReadNone x t reads fault → NotCalled w z →
+        Counted reads 0 s.counts e.counts → SawNone s usage t u reads e z
+    no_track : {e : DeviceStore} {z : Outside (List ℕ) K} (x y : DeviceStore) (v w : Outside (List ℕ) K) (side : Side) (bytes : List ℕ)
+        (fault : Option Side) → IsMissed s usage t u x v → Ran had hears (level_bytes contents x t) v y (got side (Some bytes) fault) w →
+        ReadFrom x t side fault → LastOf w side bytes → image_of contents y t bytes ≡ None → NotCalled w z →
+        Counted (miss_reads fault) 0 s.counts e.counts → SawNone s usage t u (miss_reads fault) e z
 
-  -- Behind the last look: nothing more, or a write of its track. In the cache alone it calls no volume
-  pub data Wrote (usage : Usage) (t : ℕ) (s : DeviceStore) (u z : Outside (List ℕ) K) : Type 0 where
-    no_write : NotCalled u z → Wrote usage t s u z
-    wrote : (y : DeviceStore) (v : Outside (List ℕ) K) (choice : Choice) → Ran had hears (choose contents s usage t) u y choice v →
-        (is_in_cache choice ≡ true → NotCalled u z) → Wrote usage t s u z
+  -- looks one behind the other, each at the track that the chain asks for then, and behind which it asked for a further one. What they leave: the chain,
+  -- and a store
+  pub data WentOn : ChainState → DeviceStore → Outside (List ℕ) K → List Look → ChainState → DeviceStore → Outside (List ℕ) K → Type 0 where
+    none_yet : {chain : ChainState} {s : DeviceStore} {u : Outside (List ℕ) K} → WentOn chain s u [] chain s u
+    one_more : {chain final : ChainState} {s y e : DeviceStore} {u v z : Outside (List ℕ) K} {ls : List Look} (t next : ℕ) (i : Image) (reads : ℕ) →
+        need_of chain ≡ Some t → Saw s (usage_of chain) t u i reads y v → (stepped chain (Some i)).progress ≡ progresses.Need next →
+        WentOn (stepped chain (Some i)).chain y v ls final e z → WentOn chain s u (look_at t i reads ∷ ls) final e z
 
-  -- a command that began so came out so, by the images that it saw
-  pub data CameAsSeen (n : ℕ) (g : Geometry) (chain : ChainState) (s : DeviceStore) (u : Outside (List ℕ) K) (turn : Turn)
+  -- Behind the last look: nothing more, or a write of its track where the chain asks for one, which is half done then or isn't; how many writes of volumes
+  -- that made, and no read; and the store that it left. In the cache alone it calls no volume
+  pub data Wrote (usage : Usage) (t : ℕ) (s : DeviceStore) (u : Outside (List ℕ) K) (asked half : Bool) : ℕ → DeviceStore → Outside (List ℕ) K →
+      Type 0 where
+    no_write : {z : Outside (List ℕ) K} → asked ≡ false → half ≡ false → NotCalled u z → Wrote usage t s u asked half 0 s z
+    wrote : {e : DeviceStore} {z : Outside (List ℕ) K} (v : Outside (List ℕ) K) (choice : Choice) → asked ≡ true →
+        Ran had hears (choose contents s usage t) u s choice v → (is_in_cache choice ≡ true → NotCalled u z) →
+        Counted 0 (choice_writes (sides_writing s) choice half) s.counts e.counts →
+        Wrote usage t s u asked half (choice_writes (sides_writing s) choice half) e z
+
+  -- A command that began so came out so, by the images that it saw. Between these counts it made the reads of its looks and the writes of its write. It ends
+  -- with equipment or data check where its last look saw no image, or where it asks for more tracks than there are; also behind an image it may
+  pub data CameAsSeen (n : ℕ) (g : Geometry) (chain : ChainState) (s : DeviceStore) (u : Outside (List ℕ) K) (turn : Turn) (old new : Counts)
       (z : Outside (List ℕ) K) : Type 0 where
-    checked : {e : _} → turn.came ≡ Checks e → CameAsSeen n g chain s u turn z
-    came : (looks : List Look) (final : ChainState) (t : ℕ) (last : DeviceStore) (at : Outside (List ℕ) K) → AllSeen chain s u looks final t last at →
-        Wrote (usage_of final) t last at z →
-        ((tracks : ℕ → Track) (answer : LocalAct → Settled) → AreOf g tracks looks → EndsAs (fed n tracks answer chain) turn.chain turn.came) →
-        CameAsSeen n g chain s u turn z
+    came : (looks : List Look) (final : ChainState) (t : ℕ) (i : Image) (reads writes : ℕ) (x y e : DeviceStore) (v w : Outside (List ℕ) K) →
+        WentOn chain s u looks final x v → need_of final ≡ Some t → Saw x (usage_of final) t v i reads y w →
+        Wrote (usage_of final) t y w (asks_write (stepped final (Some i)).progress) (is_half turn.came) writes e z →
+        ((tracks : ℕ → Track) (answer : LocalAct → Settled) → AreOf g tracks looks → i ≡ record { geometry = g; track = tracks t } →
+        EndsAs (fed n tracks answer chain) turn.chain turn.came) → Counted (reads_of looks + reads) writes old new → CameAsSeen n g chain s u turn old new z
+    unseen : {c : _} (looks : List Look) (final : ChainState) (t reads : ℕ) (x y : DeviceStore) (v : Outside (List ℕ) K) → turn.came ≡ Checks c →
+        WentOn chain s u looks final x v → need_of final ≡ Some t → SawNone x (usage_of final) t v reads y z →
+        Counted (reads_of looks + reads) 0 old new → CameAsSeen n g chain s u turn old new z
+    too_many : {c : _} (looks : List Look) (final : ChainState) (x : DeviceStore) → length looks ≡ n → turn.came ≡ Checks c →
+        WentOn chain s u looks final x z → Counted (reads_of looks) 0 old new → CameAsSeen n g chain s u turn old new z
 
 -- what is kept behind the command of a path, of the device as it was before it or behind an act on its paths
 pub record IsKept (d : WholeDevice) (path : ℕ) (turn : Turn) (a : Stepped) (e : WholeDevice) : Type 0 where
@@ -131,15 +213,19 @@ module _ {K : Type 0} (had : Bool → Type 0) (hears : Hearing Image K) where
     pub quiet : NotCalled u v
 
   -- A command of the running program: by the images of the tracks that it looked at, and by what the device kept of its paths. Once data of
-  -- cache fast write were lost in its own program it looks at none
+  -- cache fast write were lost in its own program it looks at none. One that looks at none makes no transfer; any other makes those of its looks and of its
+  -- write
   pub data CommandCame (d : WholeDevice) (o : OpenEntry) (chain : ChainState) (u : Outside (List ℕ) K) (a : Stepped) (e : WholeDevice)
       (z : Outside (List ℕ) K) : Type 0 where
-    data_lost : has_loss o.acts ≡ true → IsKept d o.path (checks chain Equipment) a e → NotCalled u z → CommandCame d o chain u a e z
+    data_lost : has_loss o.acts ≡ true → IsKept d o.path (checks chain Equipment) a e → NotCalled u z →
+        Counted 0 0 d.store.counts e.store.counts → CommandCame d o chain u a e z
     looked : (t : ℕ) (s : DeviceStore) (v w : Outside (List ℕ) K) (turn : Turn) → need_of chain ≡ Some t → Noticed d u s v →
-        CameAsSeen had hears (tracks_of d.store) d.store.geometry chain s v turn w → NotCalled w z → IsKept d o.path turn a e → CommandCame d o chain u a e z
+        CameAsSeen had hears (tracks_of d.store) d.store.geometry chain s v turn d.store.counts e.store.counts w → NotCalled w z →
+        IsKept d o.path turn a e → CommandCame d o chain u a e z
     asked : (turn : Turn) → need_of chain ≡ None → NotCalled u z →
         ((n : ℕ) (tracks : ℕ → Track) → EndsAs (fed (suc n) tracks (settled_act d.store.geometry d.paths o.path) chain) turn.chain turn.came) →
-        IsKept (answered d o.path chain (stepped chain None).progress) o.path turn a e → CommandCame d o chain u a e z
+        IsKept (answered d o.path chain (stepped chain None).progress) o.path turn a e → Counted 0 0 d.store.counts e.store.counts →
+        CommandCame d o chain u a e z
 
 -- the second part of a command's write, done or not: the command ends as the chain that was kept does, or with equipment check
 pub record SecondCame (d : WholeDevice) (o : OpenEntry) (kept : ChainState) (t : ℕ) (a : SecondEnd) (e : WholeDevice) : Type 0 where

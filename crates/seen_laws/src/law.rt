@@ -29,16 +29,18 @@ ghost use Rattle.device_laws.specs.Standing.{LooksAt, RunsOn};
 ghost use Rattle.device_laws.specs.Whole.{WholeDevice};
 ghost use Rattle.plain_defs.specs.History.{OpenEntry};
 ghost use Rattle.seen_laws.specs.Moved.{HitReadsNone, CommandMoves, SecondMoves, WorkMoves, LookMoves, MovesNothing};
-ghost use Rattle.seen_laws.specs.Seen.{NotCalled, Saw, Wrote, CameAsSeen, CommandCame, KeepsPaths, SecondCame};
+ghost use Rattle.seen_laws.specs.Seen.{NotCalled, is_opened, Saw, Wrote, CameAsSeen, CommandCame, KeepsPaths, SecondCame};
 
 use device_outside::Keep;
 use track_image::TrackImage;
 
 /// The image of a track is the one in its frame, and no volume was called; or that of the bytes that a level side delivered, with the
-/// patch that is held. A modified frame is a hit, and so is a clean one that the pool lists, unless in bypass mode: it reads no volume.
+/// patch that is held, and one read was made, or two where side A's failed. A modified frame is a hit, and so is a clean one that the pool
+/// lists, unless in bypass mode: it reads no volume.
 pub fn image_is_seen<K: Keep<TrackImage>>()
     ensures seen { (s e : DeviceStore) (usage : Usage) (t : ℕ) (u z : Outside (List ℕ) K) (i : Image) →
-        Ran (λ ok. Unit {0}) K.hears (image contents s usage t) u e (Some (Has i)) z → Saw (λ ok. Unit {0}) K.hears s t u i e z }
+        Ran (λ ok. Unit {0}) K.hears (image contents s usage t) u e (Some (Has i)) z →
+        (reads : ℕ) × Saw (λ ok. Unit {0}) K.hears s usage t u i reads e z }
     ensures modified { (s e : DeviceStore) (usage : Usage) (t : ℕ) (u z : Outside (List ℕ) K) (f : Frame) (a : Option Imaged) → frame_at s t ≡ Some f →
         f.modified ≡ true → Ran (λ ok. Unit {0}) K.hears (image contents s usage t) u e a z → NotCalled u z × (a ≡ Some (Has f.image)) }
     ensures clean { (s e : DeviceStore) (usage : Usage) (t : ℕ) (u z : Outside (List ℕ) K) (f : Frame) (p : Pool) (a : Option Imaged) →
@@ -46,23 +48,25 @@ pub fn image_is_seen<K: Keep<TrackImage>>()
         Ran (λ ok. Unit {0}) K.hears (image contents s usage t) u e a z → NotCalled u z × (a ≡ Some (Has f.image)) }
 {}
 
-/// A command's write that is chosen to be fast or provisional writes no volume.
+/// A command's write that is chosen to be fast or provisional writes no volume. One through makes one write to each side that takes it, or to side A
+/// alone where it is half done.
 pub fn write_is_seen<K: Keep<TrackImage>>()
     ensures { (s e : DeviceStore) (usage : Usage) (first t : ℕ) (old : Image) (edit : Edit) (u z : Outside (List ℕ) K) (took : Took) →
-        Ran (λ ok. Unit {0}) K.hears (write contents s usage first t old edit) u e (Some took) z → Wrote (λ ok. Unit {0}) K.hears usage t s u z }
+        Ran (λ ok. Unit {0}) K.hears (write contents s usage first t old edit) u e (Some took) z →
+        (writes : ℕ) × Wrote (λ ok. Unit {0}) K.hears usage t s u true (is_opened took) writes e z }
 {}
 
-/// A command that goes from track to track, with neither equipment nor data check, ends as the rules say over the images that it saw, and so
-/// does the chain behind it.
+/// A command that goes from track to track ends as the rules say over the images that it saw, and so does the chain behind it, unless it ends with
+/// equipment or data check. However it ends, it makes the reads of its looks and the writes of its write.
 pub fn track_walk_is_seen<K: Keep<TrackImage>>()
     ensures { (cylinders : ℕ) (g : Geometry) (n first t : ℕ) (chain : ChainState) (s e : DeviceStore) (u z : Outside (List ℕ) K) (turn : Turn) →
         LooksAt cylinders g chain t → Ran (λ ok. Unit {0}) K.hears (follow contents n first chain t s) u e (Some turn) z →
-        CameAsSeen (λ ok. Unit {0}) K.hears n g chain s u turn z }
+        CameAsSeen (λ ok. Unit {0}) K.hears n g chain s u turn s.counts e.counts z }
 {}
 
-/// A whole command, with neither equipment nor data check, or one that is half done: its end, the chain behind it and what the device keeps of its
-/// paths are those of the rules over the images that it saw and what the device kept of its paths before it. Only its looks and its write call
-/// volumes.
+/// A whole command that ended, or is half done: its end, the chain behind it and what the device keeps of its paths are those of the rules over the
+/// images that it saw and what the device kept of its paths before it, unless it ends with equipment or data check. Only its looks and its write
+/// call volumes, and it makes the reads and writes of these, however it ends.
 pub fn command_ends_as_seen<K: Keep<TrackImage>>()
     ensures { (d e : WholeDevice) (o : OpenEntry) (chain : ChainState) (u z : Outside (List ℕ) K) (a : Stepped) → d.history.running ≡ Some o →
         d.chain ≡ Some chain → RunsOn d.store.cylinders d.store.geometry chain → Ran (λ ok. Unit {0}) K.hears (command contents d) u e (Some a) z →

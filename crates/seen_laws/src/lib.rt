@@ -1,5 +1,6 @@
-//! Laws of what a command saw: its end is that of the rules over the images of the tracks that it looked at, and a hit and a write in the
-//! cache call no volume; and of how many reads and writes each event makes. They hold also where the volumes don't tell what they hold. It has no code; its lemmas are over plain variables.
+//! Laws of what a command saw: its end is that of the rules over the images of the tracks that it looked at, a hit and a write in the
+//! cache call no volume, and its reads and writes are those of its looks and its write; and of how many reads and writes each other event
+//! makes. They hold also where the volumes don't tell what they hold. It has no code; its lemmas are over plain variables.
 #![tactic(auto)]
 
 mod law;
