@@ -20,3 +20,4 @@ pub mod Behind
 pub mod Seconds
 pub mod Orders
 pub mod Lending
+pub mod Copying

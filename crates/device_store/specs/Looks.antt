@@ -1,5 +1,5 @@
 -- How looks at tracks are seen.
-use Rattle.std.specs.Prelude.{◌≡◌, ◌&&◌, ℕ, Bool, not, true, List, Option, None, Some, is_some, if◌then◌else◌}
+use Rattle.std.specs.Prelude.{◌≡◌, ◌&&◌, ℕ, Bool, not, true, false, List, Option, None, Some, is_some, if◌then◌else◌}
 use Rattle.ckd_types.specs.Parameters.{is_bypass}
 use Rattle.track_image.specs.Image.{Image}
 use Rattle.track_cache.specs.declared.frames.Frame.{Frame}
@@ -32,9 +32,10 @@ imaged s t (looks.Has i) = Has i
 imaged s t (looks.NoBytes fault) = NoBytes fault
 imaged s t (looks.BadTrack side) = BadTrack side
 
--- a track whose image is in its frame has one
+-- a track whose image is in its frame has one, and one that was read is of a volume that isn't lent
 abbrev pub IsThere : StoreOf → ℕ → Looked → Type 0
 IsThere s t looks.Frame = is_some (frame_at s t) ≡ true
+IsThere s t (looks.Has i) = is_some s.lent ≡ false
 IsThere s t _ = Unit {0}
 
 -- the image of a track that was looked at: one that was read, or the one in its frame
@@ -43,7 +44,7 @@ seen s t (Some i) = i
 seen s t None = frame_in s t
 
 abbrev pub IsSeen : StoreOf → ℕ → Option Image → Type 0
-IsSeen s t (Some i) = Unit {0}
+IsSeen s t (Some i) = is_some s.lent ≡ false
 IsSeen s t None = is_some (frame_at s t) ≡ true
 
 abbrev pub peeked_by : StoreOf → ℕ → answers.Peeked → Peeked

@@ -170,6 +170,7 @@ impl<V: Volume> DeviceStore<V> {
         ensures half { self.new.half ≡ self.old.half }
         ensures loose { self.new.loose ≡ self.old.loose }
         ensures volume { self.new.pair.volumes ≡ self.old.pair.volumes }
+        ensures lent { self.new.pair.lent ≡ self.old.pair.lent }
         ensures frames { self.new.frames ≡ self.old.frames }
         ensures state { state_of self.new ≡ queued last (state_of self.old) t }
     {
@@ -187,6 +188,7 @@ impl<V: Volume> DeviceStore<V> {
         ensures half { self.new.half ≡ self.old.half }
         ensures loose { self.new.loose ≡ self.old.loose }
         ensures volume { self.new.pair.volumes ≡ self.old.pair.volumes }
+        ensures lent { self.new.pair.lent ≡ self.old.pair.lent }
         ensures frames { self.new.frames ≡ self.old.frames }
         ensures state { state_of self.new ≡ ahead usage.now (state_of self.old) t }
     {
@@ -205,6 +207,7 @@ impl<V: Volume> DeviceStore<V> {
         port: &mut P,
     ) -> Result<Looked, NoMemory>
         requires track { t < self.old.cylinders * 15 }
+        requires here { is_some self.old.pair.lent ≡ false }
         requires firm { is_loose (state_of self.old) t ≡ false }
         ensures fixed { (self.new.number ≡ self.old.number) × (self.new.cylinders ≡ self.old.cylinders) }
         ensures half { self.new.half ≡ self.old.half }
@@ -235,6 +238,7 @@ impl<V: Volume> DeviceStore<V> {
     ) -> Result<Looked, NoMemory>
         requires track { t < self.old.cylinders * 15 }
         requires last { IfSome usage.now.last (λ l. l < self.old.cylinders * 15) }
+        requires here { is_some self.old.pair.lent ≡ false }
         requires firm { is_loose (state_of self.old) t ≡ false }
         ensures fixed { (self.new.number ≡ self.old.number) × (self.new.cylinders ≡ self.old.cylinders) }
         ensures half { self.new.half ≡ self.old.half }

@@ -1,4 +1,4 @@
-ghost use Rattle.std.specs.Prelude.{◌≡◌, ◌<◌, ◌*◌, ◌+◌, ◌≤◌, IfOk, None, OnErr, OnOk, is_ok, is_some, slice_set, true};
+ghost use Rattle.std.specs.Prelude.{◌≡◌, ◌<◌, ◌*◌, ◌+◌, ◌≤◌, IfOk, None, OnErr, OnOk, false, is_ok, is_some, slice_set, true};
 ghost use Rattle.ckd_rules.specs.Facts.{Suits};
 ghost use Rattle.ckd_types.specs.declared.record.Edit.{Edit};
 ghost use Rattle.device_defs.specs.declared.answers.Choice.TheVariants.{Fast};
@@ -309,7 +309,7 @@ impl<V: Volume> DeviceStore<V> {
     }
 
     /// A command's write of a track that it read, behind others from `first` on. Memory is had before the first effect: what lacks
-    /// it later is the keeper, before the edit. No program runs where the volume is lent: there nothing is written.
+    /// it later is the keeper, before the edit.
     pub fn write<P: Port, K: Keep<TrackImage>>(
         &mut self,
         usage: &Usage,
@@ -322,6 +322,7 @@ impl<V: Volume> DeviceStore<V> {
     ) -> Result<Took, NoMemory>
         requires none { self.old.half ≡ None }
         requires track { t < self.old.cylinders * 15 }
+        requires here { is_some self.old.pair.lent ≡ false }
         requires suits { Suits old.now.geometry old.now.track.records edit }
         requires takes { Takes K.takes keep.old self.old.number (self.old.cylinders * 15) }
         ensures fixed { (self.new.number ≡ self.old.number) × (self.new.cylinders ≡ self.old.cylinders) }
@@ -331,9 +332,6 @@ impl<V: Volume> DeviceStore<V> {
         ensures weight { weight self.new.loose ≤ weight self.old.loose + 2 }
         ensures run { Ran (where_ok result) K.hears (write contents (state_of self.old) usage.now first t old.now edit) (outside (P.view port.old) self.old keep.old) (state_of self.new) (had (λ took. took) result) (outside (P.view port.new) self.new keep.new) }
     {
-        if self.pair.lent.is_some() {
-            return Err(NoMemory);
-        }
         let image = match edited(self.alloc, old, &edit) {
             Err(NoMemory) => return Err(NoMemory),
             Ok(image) => image,

@@ -1,4 +1,5 @@
-use Rattle.std.proofs.Common.{refl, ap, true, false}
+use Rattle.std.proofs.Common.{◌∙◌, refl, ap, true, false}
+use Rattle.std.specs.Prelude.{is_some}
 use Rattle.device_outside.specs.Outside.{done}
 use Rattle.device_outside.proofs.Runs.{tries}
 use Rattle.device_defs.specs.Contents.{contents}
@@ -18,3 +19,6 @@ returns-in-Ok-Some-clause-run g c =
     λ k. tries true (had_ok c.load.result) (rw (← c.in-Ok-Some.ensures, c.in-Ok-Some.field-0-is) (
     from_equal (λ z. loaded contents z c.args.t c.in-Ok-Some.image c.args.usage.now.mode) c.queue_ahead.ensures.state
     (ap (λ x. outside_of (g.P.Port.view c.args.port.now) g.V.Volume.view x k) c.queue_ahead.ensures.volume) (c.load.ensures.run k)))
+
+pub load-requires-clause-here : goal.load-requires-clause-here
+load-requires-clause-here g c = ap is_some c.queue_ahead.ensures.lent ∙ c.requires.here

@@ -11,6 +11,6 @@ pub returns-in-OfCommand-clause-state : goal.returns-in-OfCommand-clause-state
 returns-in-OfCommand-clause-state g c =
     λ s is. rw c.in-OfCommand.is (c.give_up_patch.ensures.state ∙ ap (λ (z : StoreOf). without_patch contents z c.args.half.track) (sym is))
 
-pub returns-in-OfCut-clause-state : goal.returns-in-OfCut-clause-state
-returns-in-OfCut-clause-state g c =
-    λ s is. rw c.in-OfCut.is (c.give_up_patch-2.ensures.state ∙ ap (λ (z : StoreOf). without_patch contents z c.args.half.track) (sym is))
+pub returns-clause-state : goal.returns-clause-state
+returns-clause-state g c =
+    λ s is. rw c.in-OfCut.is (c.give_up_patch-in-OfCut.ensures.state ∙ ap (λ (z : StoreOf). without_patch contents z c.args.half.track) (sym is))

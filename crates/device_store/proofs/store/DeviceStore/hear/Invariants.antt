@@ -8,6 +8,7 @@ abbrev pub invariant-loop-turn : goal.invariant-loop-turn
 invariant-loop-turn g l = record {
   number : l.self.number ≡ l.fn.self.number;
   cylinders : l.self.cylinders ≡ l.fn.self.cylinders;
+  half : l.self.half ≡ l.fn.self.half;
   loose : l.self.loose ≡ l.fn.self.loose;
   rest : (k : g.row.K.Denot) → Rest surely g.K.Keep.hears (hear contents (960 - l._turn) (state_of l.self)) (outside (g.P.Port.view l.port) l.self k)
       (hear contents 960 (state_of l.fn.self)) (outside (g.P.Port.view l.fn.port) l.fn.self k);

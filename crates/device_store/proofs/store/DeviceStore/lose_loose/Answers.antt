@@ -7,6 +7,7 @@ use Rattle.device_store.specs.State.{state_of}
 use Rattle.device_store.proofs.Losing.{none_marked, no_marks}
 use Rattle.device_store.proofs.Loosed.{some_lost, none_lost}
 use Rattle.device_store.proofs.Halved.{still_firm}
+use Rattle.device_store.proofs.Orders.{not_both}
 use Rattle.device_store.proofs.store.DeviceStore.lose_loose.Goals as goal
 
 pub returns-then-any-clause-state : goal.returns-then-any-clause-state
@@ -30,3 +31,6 @@ returns-else-any-clause-firm g c = λ t. none_marked c.args.self.now.loose.loose
 pub invariant_of-self-clause-half_firm : goal.invariant_of-self-clause-half_firm
 invariant_of-self-clause-half_firm g c =
     still_firm c.args.self.now.loose.loose _ c.args.self.now.half (λ q e. rw c.lose.ensures.loose (no_marks _ q)) c.args.self.now.half_firm
+
+pub invariant_of-self-clause-loose_modified : goal.invariant_of-self-clause-loose_modified
+invariant_of-self-clause-loose_modified g c = λ here q is. absurd (not_both _ is (rw c.lose.ensures.loose (no_marks _ q)))

@@ -1,4 +1,4 @@
-use Rattle.std.proofs.Common.{◌≡◌, ◌∙◌, ◌*◌, ℕ, List, [], ap}
+use Rattle.std.proofs.Common.{◌≡◌, ◌∙◌, ◌≤◌, ◌*◌, ℕ, List, [], ap, arith}
 use Rattle.device_defs.specs.Contents.{contents}
 use Rattle.device_defs.specs.Cutting.{half_lost, loose_gone}
 use Rattle.device_defs.specs.declared.counts.Losses.{Losses}
@@ -8,6 +8,7 @@ use Rattle.loss_model.specs.declared.Loss.TheVariants.{Cache}
 use Rattle.device_store.specs.Looks.{StoreOf}
 use Rattle.device_store.specs.State.{half_of, state_of}
 use Rattle.std.specs.Prelude.{option_map}
+use Rattle.event_notes.specs.Loose.{weight}
 use Rattle.device_store.proofs.store.DeviceStore.lose_power.Goals as goal
 
 pub returns-clause-state : goal.returns-clause-state
@@ -26,3 +27,9 @@ returns-clause-state g c =
     c.lose_frames.ensures.state
     ∙ ap (λ n. over (n * 15) (λ t z. settled contents (without_frame z t) t) (record s { queue = c.clear.new.self })) (c.end_half.ensures.fixed.1 ∙ c.clear_loose.ensures.fixed.1)
     ∙ ap (λ z. over (c.args.self.now.cylinders * 15) (λ t y. settled contents (without_frame y t) t) z) same
+
+pub returns-clause-volume : goal.returns-clause-volume
+returns-clause-volume g c = c.lose_frames.ensures.volume ∙ ap (λ x. x.volumes) c.end_half.ensures.volume ∙ c.clear_loose.ensures.volume
+
+pub returns-clause-weight : goal.returns-clause-weight
+returns-clause-weight g c = omega (arith, c.lose_frames.ensures.weight, ap (λ l. weight l) c.end_half.ensures.loose, c.clear_loose.ensures.weight)

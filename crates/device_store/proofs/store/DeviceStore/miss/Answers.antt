@@ -17,3 +17,6 @@ returns-clause-run g c =
 pub deliver-requires-clause-firm : goal.deliver-requires-clause-firm
 deliver-requires-clause-firm g c =
     c.level_bytes-got.ensures.firm c.args.t (c.requires.firm (c.level_bytes-got.ensures.here c.if-got.true).0)
+
+pub deliver-requires-clause-here : goal.deliver-requires-clause-here
+deliver-requires-clause-here g c = (c.level_bytes-got.ensures.here c.if-got.true).1

@@ -9,7 +9,7 @@ returns-in-OfCommand-clause-run g c =
     rw c.in-OfCommand.is (tells tt c.firm.ensures.moves tt (joined (λ z _. Done z true) (c.write_done.ensures.run _) done))
 
 pub returns-in-OfCut-clause-run : goal.returns-in-OfCut-clause-run
-returns-in-OfCut-clause-run g c = rw c.in-OfCut.is (joined (λ z _. Done z true) (c.write_done-2.ensures.run _) done)
+returns-in-OfCut-clause-run g c = rw c.in-OfCut.is (joined (λ z _. Done z true) (c.write_done-in-OfCut.ensures.run _) done)
 
-pub returns-in-OfBackground-clause-run : goal.returns-in-OfBackground-clause-run
-returns-in-OfBackground-clause-run g c = rw c.in-OfBackground.is (joined (λ z _. Done z true) (c.write_done-3.ensures.run _) done)
+pub returns-clause-run : goal.returns-clause-run
+returns-clause-run g c = rw c.in-OfBackground.is (joined (λ z _. Done z true) (c.write_done-in-OfBackground.ensures.run _) done)

@@ -27,11 +27,7 @@ returns-in-Ok-make_room-clause-run g c =
     c.make_room.ensures.state (ap (λ v. outside_of (g.P.Port.view c.args.port.now) g.V.Volume.view v c.args.keep.now) c.make_room.ensures.volume)
     c.chosen_read.ensures.run)
 
-pub returns-then-is_some-clause-run : goal.returns-then-is_some-clause-run
-unfolding write
-returns-then-is_some-clause-run g c = tries false tt done
-
 pub chosen_read-requires-clause-kept : goal.chosen_read-requires-clause-kept
 chosen_read-requires-clause-kept g c = λ loose.
-    let here = ap (λ z. is_some z.lent) c.make_room.ensures.state ∙ sym c.is_some.ensures ∙ c.if-is_some.false in
+    let here = ap (λ z. is_some z.lent) c.make_room.ensures.state ∙ c.requires.here in
     modified_there _ (c.make_room.new.self.loose_modified here c.args.t loose)
