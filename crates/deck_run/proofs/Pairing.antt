@@ -367,7 +367,8 @@ module _ {V : Type 0} {G : Ghosts V} where
           other = ap (λ (l : List Stood). stood.stood_in l n) put_is ∙ stood_found between n j.first j.other;
           stands = ap all_stood j.stands ∙ put_stood between n j.second
               ∙ ap (λ (s : Stood). stood.put_at (all_stood between) n s) second_is
-              ∙ ap (λ (l : List Stood). stood.put_at l n (record { device = join (device_of j.first); a = option_map G.view (on_a j.first.store); b = Some (G.view j.volume) }))
+              ∙ ap (λ (l : List Stood). stood.put_at l n
+                  (record { device = join (device_of j.first); a = option_map G.view (on_a j.first.store); b = Some (G.view j.volume) }))
               (sym put_is);
         }
 
@@ -401,7 +402,8 @@ module _ {V : Type 0} {G : Ghosts V} where
           seen = order_seen a answers.Done tt (came.0 blank);
           comes = (
             refl,
-            subst (λ (i : ℕ). laws.Joins hears i z.store.number (device_of z) old.pool.pool (all_stood old.devices.items) new.pool.pool (all_stood new.devices.items))
+            subst (λ (i : ℕ). laws.Joins hears i z.store.number (device_of z) old.pool.pool (all_stood old.devices.items) new.pool.pool
+                (all_stood new.devices.items))
                 (sym (number_found old.devices.items n x at_x))
                 (subst (λ (i : ℕ). laws.Joins hears n i (device_of z) old.pool.pool (all_stood old.devices.items) new.pool.pool (all_stood new.devices.items))
                 (sym (number_found old.devices.items m z at_z)) (law_joins n m (device_of z) old new j x z at_x at_z refl may own)),

@@ -1,5 +1,6 @@
 -- A pair is taken apart: what it comes to in a run, and what is told of it.
-use Rattle.std.proofs.Common.{◌≡◌, ◌∙◌, ◌+◌, ◌*◌, ◌≤◌, ℕ, zero, suc, Bool, true, false, List, [], ◌∷◌, length, Option, Some, None, is_some, arith, refl, sym, ap, subst}
+use Rattle.std.proofs.Common.{◌≡◌, ◌∙◌, ◌+◌, ◌*◌, ◌≤◌, ℕ, zero, suc, Bool, true, false, List, [], ◌∷◌, length, Option, Some, None, is_some, arith,
+    refl, sym, ap, subst}
 use Rattle.std.specs.Prelude.{◌==◌, ◌&&◌, not, option_map, slice_get, if◌then◌else◌}
 use Rattle.std.proofs.lemmas.Bool.{eqb-true}
 use Rattle.track_table.specs.Tracks.{count_below}
@@ -163,7 +164,8 @@ module _ {V : Type 0} {G : Ghosts V} where
   pasts_restored n volume [] (y ∷ ys) r = elim r [ ]
   pasts_restored n volume (x ∷ xs) [] r = elim r [ ]
 
-  restored_is : (volume : V) (x y : Device V G) → IsRestored volume x y → stood_of y ≡ record (stood_of x) { device = restore (device_of x); a = Some (G.view volume) }
+  restored_is : (volume : V) (x y : Device V G) → IsRestored volume x y → stood_of y
+      ≡ record (stood_of x) { device = restore (device_of x); a = Some (G.view volume) }
   restored_is volume x y r =
       ap (λ (e : DefinedDevice). record { device = e; a = option_map G.view (on_a y.store); b = option_map G.view (on_b y.store) }) r.device
       ∙ ap (λ (o : Option V). record { device = restore (device_of x); a = option_map G.view o; b = option_map G.view (on_b y.store) }) r.a

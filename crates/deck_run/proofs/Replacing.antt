@@ -57,9 +57,11 @@ half_is f (Some x) = refl
 fault_known : (x : Stood) (m : Mounted) (side : Side) → IsKnown x m → replace_fault m.device side ≡ replace_fault x.device side
 unfolding R.replace_fault
 fault_known x m A is =
-    ap (λ (o : Option ℕ). first_cause (lent_by o ∷ where_so (not true) NoSide ∷ where_so m.device.store.a.up Up ∷ where_so (is_some m.device.store.half) Half ∷ []))
+    ap (λ (o : Option ℕ). first_cause (lent_by o ∷ where_so (not true) NoSide ∷ where_so m.device.store.a.up Up ∷
+        where_so (is_some m.device.store.half) Half ∷ []))
     is.lent
-    ∙ ap (λ (b : Bool). first_cause (lent_by x.device.store.lent ∷ where_so (not true) NoSide ∷ where_so b Up ∷ where_so (is_some m.device.store.half) Half ∷ []))
+    ∙ ap (λ (b : Bool). first_cause (lent_by x.device.store.lent ∷ where_so (not true) NoSide ∷ where_so b Up ∷
+        where_so (is_some m.device.store.half) Half ∷ []))
     is.up_a
     ∙ ap (λ (b : Bool). first_cause (lent_by x.device.store.lent ∷ where_so (not true) NoSide ∷ where_so x.device.store.a.up Up ∷ where_so b Half ∷ []))
     (ap (λ (o : Option (HalfWrite (Unit {0}))). is_some o) is.half ∙ half_is _ x.device.store.half)
@@ -128,7 +130,8 @@ module _ {V : Type 0} {G : Ghosts V} where
   there_is : (v : V) (o : Option V) (b : Bool) → o ≡ Some v → b ≡ true → is_some o ≡ b
   there_is v o b is e = ap (λ (x : Option V). is_some x) is ∙ sym e
 
-  replaced_sides : (side : Side) (volume : V) (x y : Device V G) → replace_fault (device_of x) side ≡ None → IsReplaced side volume x y → sides_of y ≡ sides_of x
+  replaced_sides : (side : Side) (volume : V) (x y : Device V G) → replace_fault (device_of x) side ≡ None → IsReplaced side volume x y → sides_of y
+      ≡ sides_of x
   replaced_sides A volume x y free r =
       let home : is_some (on_a x.store) ≡ true = x.store.pair.home (ap (λ (o : Option ℕ). is_some o) (free_so (device_of x) A free)) in
       same_sides x y (ap (λ (d : DefinedDevice). d.store.device) r.0 ∙ number_same (device_of x) A)
@@ -219,7 +222,8 @@ module _ {V : Type 0} {G : Ghosts V} where
           let p = old.pool.pool in
           let xs = all_stood old.devices.items in
           let same : run ≡ subsystem_of p run.mounted = ap (λ (q : pools.Pool). record { pool = q; mounted = run.mounted }) all.pool in
-          let put : laws.put_at xs d (with_volume (stood_of x) side (G.view volume) (replace (device_of x) side)) ≡ all_stood (put_at old.devices.items d ch.behind) =
+          let put : laws.put_at xs d (with_volume (stood_of x) side (G.view volume) (replace (device_of x) side))
+              ≡ all_stood (put_at old.devices.items d ch.behind) =
           ap (λ (y : Stood). laws.put_at xs d y) (sym (stood_by ch.behind side is)) ∙ sym (put_stood old.devices.items d ch.behind) in
           let w : IsWhatCame what answers.Done p (all_stood (put_at old.devices.items d ch.behind)) =
           subst (λ (s : runs.Subsystem). IsWhatCame (replaced s d side unfailing) answers.Done p (all_stood (put_at old.devices.items d ch.behind))) (sym same)

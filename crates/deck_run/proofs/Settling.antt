@@ -41,7 +41,8 @@ module _ {V : Type 0} {G : Ghosts V} where
   module _ (s z : Subsystem V G) (told more : List ReportLine) (d k : ℕ) (last : runs.Subsystem) (all : List ReportLine) (within : k < 2946) where
     pub back_done : ((run : runs.Subsystem) → StandsAs s run → false ≡ is_settled (happens run (events.Back d)).end) →
         ((run : runs.Subsystem) → StandsAs s run → StandsAs z (happens run (events.Back d)).behind) →
-        ((run : runs.Subsystem) → StandsAs s run → more ≡ told ++ lines_when run (events.Back d) (work_told d (running_in (devices_of run) d) (did.Back d Nothing)
+        ((run : runs.Subsystem) → StandsAs s run → more
+            ≡ told ++ lines_when run (events.Back d) (work_told d (running_in (devices_of run) d) (did.Back d Nothing)
         (happens run (events.Back d)).end)) →
         BacksLeft s told d (2946 - k) last all → BacksLeft z more d (2946 - (k + 1)) last all
     back_done goes_on goes tells left =
@@ -60,7 +61,8 @@ module _ {V : Type 0} {G : Ghosts V} where
 
     pub back_over : ((run : runs.Subsystem) → StandsAs s run → true ≡ is_settled (happens run (events.Back d)).end) →
         ((run : runs.Subsystem) → StandsAs s run → StandsAs z (happens run (events.Back d)).behind) →
-        ((run : runs.Subsystem) → StandsAs s run → more ≡ told ++ lines_when run (events.Back d) (work_told d (running_in (devices_of run) d) (did.Back d Nothing)
+        ((run : runs.Subsystem) → StandsAs s run → more
+            ≡ told ++ lines_when run (events.Back d) (work_told d (running_in (devices_of run) d) (did.Back d Nothing)
         (happens run (events.Back d)).end)) →
         BacksLeft s told d (2946 - k) last all → IsOver z more last all
     back_over settled goes tells left =

@@ -33,7 +33,8 @@ use Rattle.device_defs.specs.declared.usage.Usage.{Usage}
 use Rattle.device_defs.specs.declared.answers.Did.{Did}
 use Rattle.device_defs.specs.Background.{stage, work}
 use Rattle.device_defs.specs.Command as commands
-use Rattle.device_defs.specs.Command.{Went, Over, On, came_of_write, went_by, looked, look, goes_on, follow, came_out, on_tracks, answered_by, command_at, command_by, command, has_loss}
+use Rattle.device_defs.specs.Command.{Went, Over, On, came_of_write, went_by, looked, look, goes_on, follow, came_out, on_tracks, answered_by,
+    command_at, command_by, command, has_loss}
 use Rattle.device_defs.specs.Contents.{Contents}
 use Rattle.device_defs.specs.Cutting as cutting
 use Rattle.device_defs.specs.Cutting.{reset_by, reset}
@@ -146,7 +147,8 @@ module _ {F P H R : Type 0} (c : Contents F P H R) (g : Geometry) (n : ℕ) (awa
     looks : (chain : ChainState) (first t : ℕ) (s : Store F P H) → IsOf ccws fixed chain → Is s → Goes (look c chain first t s)
     unfolding commands.look
     looks chain first t s of k =
-        s_if (is_lost s t) (λ _. s_done (k, of)) (λ _. s_then (stores.images_had c g n away s (usage_of chain) t k) (λ z o l. looks_by chain first t z o of l.0 l.1))
+        s_if (is_lost s t) (λ _. s_done (k, of)) (λ _. s_then (stores.images_had c g n away s (usage_of chain) t k)
+            (λ z o l. looks_by chain first t z o of l.0 l.1))
 
     abbrev Follows : Interaction R Image (Store F P H) (Option Turn) → Type 0
     Follows i = Surely i (λ s w. Is s × TurnOf ccws fixed w)

@@ -78,7 +78,8 @@ fn do_all<V: Volume>(sub: &mut Subsystem<V>, e: Event) -> Result<End, NoMemory>
     ensures numbers { numbers_of sub.new.devices.items ≡ numbers_of sub.old.devices.items }
     ensures own { OnOk result (AreOwn sub.new.devices.items) }
     ensures told { (run : runs.Subsystem) → StandsAs sub.old run → IfOk result (λ end. TellsAll sub.old sub.new e run end) }
-    ensures happened { (run : runs.Subsystem) → StandsAs sub.old run → IfOk result (λ end. ((happens run e).end ≡ end) × StandsAs sub.new (happens run e).behind) }
+    ensures happened { (run : runs.Subsystem) → StandsAs sub.old run
+        → IfOk result (λ end. ((happens run e).end ≡ end) × StandsAs sub.new (happens run e).behind) }
 {
     chains_stand(sub.devices());
     let end = match sub.event(e) {

@@ -58,7 +58,8 @@ fn record_end<V: Volume>(
     lost: &[TrackNo],
 ) -> Result<(), NoMemory>
     requires { length lost.now < 65536 }
-    ensures { OnOk result (report.new ≡ report.old ++ device_lines (Counted device.now.store.number device.now.store.counts.reads device.now.store.counts.writes lost.now)) }
+    ensures { OnOk result (report.new ≡ report.old ++ device_lines
+        (Counted device.now.store.number device.now.store.counts.reads device.now.store.counts.writes lost.now)) }
 {
     let totals = DeviceTotals::Calls {
         reads: device.reads(),

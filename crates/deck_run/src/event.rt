@@ -105,7 +105,8 @@ pub(crate) fn do_event<V: Volume>(
     ensures numbers { numbers_of sub.new.devices.items ≡ numbers_of sub.old.devices.items }
     ensures own { OnOk result (AreOwn sub.new.devices.items) }
     ensures told { (run : runs.Subsystem) → StandsAs sub.old run → OnOk result (IsTold sub.old sub.new e d run) }
-    ensures happened { (run : runs.Subsystem) → StandsAs sub.old run → IfOk result (λ end. ((happens run e).end ≡ end) × StandsAs sub.new (happens run e).behind) }
+    ensures happened { (run : runs.Subsystem) → StandsAs sub.old run
+        → IfOk result (λ end. ((happens run e).end ≡ end) × StandsAs sub.new (happens run e).behind) }
 {
     chains_stand(sub.devices());
     let end = match sub.event(e) {

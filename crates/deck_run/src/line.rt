@@ -64,7 +64,9 @@ fn step<V: Volume>(
     ensures numbers { numbers_of sub.new.devices.items ≡ numbers_of sub.old.devices.items }
     ensures own { OnOk result (AreOwn sub.new.devices.items) }
     ensures stands { (run : runs.Subsystem) → StandsAs sub.old run → OnOk result (StandsAs sub.new (happens run (Event.Step d)).behind) }
-    ensures lines { (run : runs.Subsystem) → StandsAs sub.old run → OnOk result (report.new ≡ report.old ++ lines_when run (Event.Step d) (work_told d (running_in (devices_of run) d) idle (happens run (Event.Step d)).end)) }
+    ensures lines { (run : runs.Subsystem) → StandsAs sub.old run
+        → OnOk result (report.new ≡ report.old ++ lines_when run (Event.Step d)
+        (work_told d (running_in (devices_of run) d) idle (happens run (Event.Step d)).end)) }
 {
     report.make_room()?;
     let passed = pass(alloc, sub, d, Event::Step(d))?;
@@ -105,7 +107,9 @@ fn work<V: Volume>(
     ensures numbers { numbers_of sub.new.devices.items ≡ numbers_of sub.old.devices.items }
     ensures own { OnOk result (AreOwn sub.new.devices.items) }
     ensures stands { (run : runs.Subsystem) → StandsAs sub.old run → OnOk result (StandsAs sub.new (happens run (Event.Back d)).behind) }
-    ensures lines { (run : runs.Subsystem) → StandsAs sub.old run → OnOk result (report.new ≡ report.old ++ lines_when run (Event.Back d) (work_told d (running_in (devices_of run) d) (did.Back d none.Nothing) (happens run (Event.Back d)).end)) }
+    ensures lines { (run : runs.Subsystem) → StandsAs sub.old run
+        → OnOk result (report.new ≡ report.old ++ lines_when run (Event.Back d)
+        (work_told d (running_in (devices_of run) d) (did.Back d none.Nothing) (happens run (Event.Back d)).end)) }
     ensures settled { (run : runs.Subsystem) → StandsAs sub.old run → IfOk result (λ settled. settled ≡ is_settled (happens run (Event.Back d)).end) }
 {
     report.make_room()?;
@@ -130,7 +134,9 @@ fn back<V: Volume>(
     ensures numbers { numbers_of sub.new.devices.items ≡ numbers_of sub.old.devices.items }
     ensures own { OnOk result (AreOwn sub.new.devices.items) }
     ensures stands { (run : runs.Subsystem) → StandsAs sub.old run → OnOk result (StandsAs sub.new (happens run (Event.Back d)).behind) }
-    ensures lines { (run : runs.Subsystem) → StandsAs sub.old run → OnOk result (report.new ≡ report.old ++ lines_when run (Event.Back d) (work_told d (running_in (devices_of run) d) (did.Back d none.Nothing) (happens run (Event.Back d)).end)) }
+    ensures lines { (run : runs.Subsystem) → StandsAs sub.old run
+        → OnOk result (report.new ≡ report.old ++ lines_when run (Event.Back d)
+        (work_told d (running_in (devices_of run) d) (did.Back d none.Nothing) (happens run (Event.Back d)).end)) }
 {
     let _settled = work(alloc, sub, report, d)?;
     Ok(())
@@ -174,7 +180,9 @@ fn start<V: Volume>(
     ensures numbers { numbers_of sub.new.devices.items ≡ numbers_of sub.old.devices.items }
     ensures own { OnOk result (AreOwn sub.new.devices.items) }
     ensures stands { (run : runs.Subsystem) → StandsAs sub.old run → OnOk result (StandsAs sub.new (happens run (Event.Start path d)).behind) }
-    ensures lines { (run : runs.Subsystem) → StandsAs sub.old run → OnOk result (report.new ≡ report.old ++ lines_when run (Event.Start path d) (did.Started path d (start_answer (happens run (Event.Start path d)).end))) }
+    ensures lines { (run : runs.Subsystem) → StandsAs sub.old run
+        → OnOk result (report.new ≡ report.old ++ lines_when run (Event.Start path d)
+        (did.Started path d (start_answer (happens run (Event.Start path d)).end))) }
 {
     let _n = path.get();
     report.make_room()?;
@@ -197,7 +205,8 @@ fn reset<V: Volume>(
     ensures numbers { numbers_of sub.new.devices.items ≡ numbers_of sub.old.devices.items }
     ensures own { OnOk result (AreOwn sub.new.devices.items) }
     ensures stands { (run : runs.Subsystem) → StandsAs sub.old run → OnOk result (StandsAs sub.new (happens run (Event.Reset path d)).behind) }
-    ensures lines { (run : runs.Subsystem) → StandsAs sub.old run → OnOk result (report.new ≡ report.old ++ lines_when run (Event.Reset path d) (did.Reset path d)) }
+    ensures lines { (run : runs.Subsystem) → StandsAs sub.old run
+        → OnOk result (report.new ≡ report.old ++ lines_when run (Event.Reset path d) (did.Reset path d)) }
 {
     report.make_room()?;
     let passed = pass(alloc, sub, d, Event::Reset(path, d))?;
@@ -222,7 +231,8 @@ fn order_one<V: Volume>(
     ensures numbers { numbers_of sub.new.devices.items ≡ numbers_of sub.old.devices.items }
     ensures own { OnOk result (AreOwn sub.new.devices.items) }
     ensures stands { (run : runs.Subsystem) → StandsAs sub.old run → OnOk result (StandsAs sub.new (happens run e).behind) }
-    ensures lines { (run : runs.Subsystem) → StandsAs sub.old run → OnOk result (report.new ≡ report.old ++ lines_when run e (did.Ordered order (order_answer (happens run e).end))) }
+    ensures lines { (run : runs.Subsystem) → StandsAs sub.old run
+        → OnOk result (report.new ≡ report.old ++ lines_when run e (did.Ordered order (order_answer (happens run e).end))) }
 {
     report.make_room()?;
     let passed = pass(alloc, sub, d, e)?;

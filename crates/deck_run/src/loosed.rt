@@ -123,7 +123,8 @@ pub(crate) fn all_loosed<V: Volume>(
     end: &EventEnd,
     items: &[Item],
 ) -> Result<Vec<Loosed>, NoMemory>
-    ensures { IfOk result (λ told. told.items ≡ all_loosed d count (device_of device.now).store.number (acts_when quiet end.now (device_of device.now)) (has_power items.now)) }
+    ensures { IfOk result (λ told. told.items ≡ all_loosed d count (device_of device.now).store.number
+        (acts_when quiet end.now (device_of device.now)) (has_power items.now)) }
 {
     let number = data_of(device);
     let mut told = Vec::new(alloc);

@@ -80,7 +80,8 @@ fn open_devices(
 ) -> Result<Vec<Device<MemVolume>>, NoMemory>
     requires { are_open deck.now.devices ≡ true }
     ensures numbers { IfOk result (λ made. numbers_of made.items ≡ numbers_in deck.now.devices) }
-    ensures mounted { (p : pools.Pool) → bay.old.spoiled ≡ [] → IfOk result (λ made. AreMounted p (all_stood made.items) (map (opened_device deck.now) deck.now.devices)) }
+    ensures mounted { (p : pools.Pool) → bay.old.spoiled ≡ []
+        → IfOk result (λ made. AreMounted p (all_stood made.items) (map (opened_device deck.now) deck.now.devices)) }
     ensures own { IfOk result (λ made. AllOwn made.items) }
     ensures fresh { IfOk result (λ made. AllFresh made.items) }
     ensures made { OnOk result (bay.new.made ≡ bay.old.made + length deck.now.devices) }

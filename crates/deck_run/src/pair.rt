@@ -29,7 +29,8 @@ fn join<V: Volume>(sub: &mut Subsystem<V>, a: DeviceNo, b: DeviceNo) -> Result<E
     requires own { AreOwn sub.old.devices.items }
     ensures numbers { numbers_of sub.new.devices.items ≡ numbers_of sub.old.devices.items }
     ensures own { OnOk result (AreOwn sub.new.devices.items) }
-    ensures happened { (run : runs.Subsystem) → StandsAs sub.old run → IfOk result (λ end. IsOrdered (logged (Once (Event.Pair a b)) (happens run (Event.Pair a b))) (orders.Pair a b) end sub.new) }
+    ensures happened { (run : runs.Subsystem) → StandsAs sub.old run
+        → IfOk result (λ end. IsOrdered (logged (Once (Event.Pair a b)) (happens run (Event.Pair a b))) (orders.Pair a b) end sub.new) }
 {
     chains_stand(sub.devices());
     let end = match sub.event(Event::Pair(a, b)) {
@@ -52,7 +53,8 @@ pub(crate) fn pair<V: Volume>(
     ensures numbers { numbers_of sub.new.devices.items ≡ numbers_of sub.old.devices.items }
     ensures own { OnOk result (AreOwn sub.new.devices.items) }
     ensures stands { (run : runs.Subsystem) → StandsAs sub.old run → OnOk result (StandsAs sub.new (happens run (Event.Pair a b)).behind) }
-    ensures lines { (run : runs.Subsystem) → StandsAs sub.old run → OnOk result (report.new ≡ report.old ++ lines_of (logged (Once (Event.Pair a b)) (happens run (Event.Pair a b)))) }
+    ensures lines { (run : runs.Subsystem) → StandsAs sub.old run
+        → OnOk result (report.new ≡ report.old ++ lines_of (logged (Once (Event.Pair a b)) (happens run (Event.Pair a b)))) }
 {
     report.make_room()?;
     let end = join(sub, a, b)?;
@@ -72,7 +74,8 @@ fn part(
     requires size { IfSome (device_at sub.old.devices.items a) (λ x. length volume.tracks ≡ x.store.cylinders * 15) }
     ensures numbers { numbers_of sub.new.devices.items ≡ numbers_of sub.old.devices.items }
     ensures own { OnOk result (AreOwn sub.new.devices.items) }
-    ensures happened { (run : runs.Subsystem) → StandsAs sub.old run → IfOk result (λ end. IsOrdered (logged (Unpair a) (unpaired run a unfailing)) (orders.Unpair a) end sub.new) }
+    ensures happened { (run : runs.Subsystem) → StandsAs sub.old run
+        → IfOk result (λ end. IsOrdered (logged (Unpair a) (unpaired run a unfailing)) (orders.Unpair a) end sub.new) }
 {
     let end = match sub.unpair(a, volume) {
         Err((NoMemory, _)) => return Err(NoMemory),
@@ -93,7 +96,8 @@ pub(crate) fn unpair(
     ensures numbers { numbers_of sub.new.devices.items ≡ numbers_of sub.old.devices.items }
     ensures own { OnOk result (AreOwn sub.new.devices.items) }
     ensures stands { (run : runs.Subsystem) → StandsAs sub.old run → OnOk result (StandsAs sub.new (unpaired run a unfailing).behind) }
-    ensures lines { (run : runs.Subsystem) → StandsAs sub.old run → OnOk result (report.new ≡ report.old ++ lines_of (logged (Unpair a) (unpaired run a unfailing))) }
+    ensures lines { (run : runs.Subsystem) → StandsAs sub.old run
+        → OnOk result (report.new ≡ report.old ++ lines_of (logged (Unpair a) (unpaired run a unfailing))) }
 {
     report.make_room()?;
     let cylinders = sub.device(a).cylinders();

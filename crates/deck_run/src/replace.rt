@@ -35,7 +35,8 @@ fn put_volume(
     requires size { IfSome (device_at sub.old.devices.items d) (λ x. length volume.tracks ≡ x.store.cylinders * 15) }
     ensures numbers { numbers_of sub.new.devices.items ≡ numbers_of sub.old.devices.items }
     ensures own { OnOk result (AreOwn sub.new.devices.items) }
-    ensures happened { (run : runs.Subsystem) → StandsAs sub.old run → IfOk result (λ end. IsOrdered (logged (Replace d side) (replaced run d side unfailing)) (orders.Replace d side) end sub.new) }
+    ensures happened { (run : runs.Subsystem) → StandsAs sub.old run
+        → IfOk result (λ end. IsOrdered (logged (Replace d side) (replaced run d side unfailing)) (orders.Replace d side) end sub.new) }
 {
     chains_stand(sub.devices());
     let end = match sub.replace(d, side, volume) {
@@ -58,7 +59,8 @@ pub(crate) fn replace(
     ensures numbers { numbers_of sub.new.devices.items ≡ numbers_of sub.old.devices.items }
     ensures own { OnOk result (AreOwn sub.new.devices.items) }
     ensures stands { (run : runs.Subsystem) → StandsAs sub.old run → OnOk result (StandsAs sub.new (replaced run d side unfailing).behind) }
-    ensures lines { (run : runs.Subsystem) → StandsAs sub.old run → OnOk result (report.new ≡ report.old ++ lines_of (logged (Replace d side) (replaced run d side unfailing))) }
+    ensures lines { (run : runs.Subsystem) → StandsAs sub.old run
+        → OnOk result (report.new ≡ report.old ++ lines_of (logged (Replace d side) (replaced run d side unfailing))) }
 {
     report.make_room()?;
     let cylinders = sub.device(d).cylinders();

@@ -50,7 +50,8 @@ by_task (DeckRefused line why) task old new before after held holds text d is p 
 by_task (Limit which) task old new before after held holds text d is p told nr nw =
     absurd (refused task text told.0 before after d (faults.Limit which) is told.1 p told.2.0)
 
-pub complete : (status : Status) (task : Option Task) (wanted : Task) (old new : Bay) (before after held holds : Option (List ℕ)) (text : List ℕ) (d : DeckLines)
+pub complete : (status : Status) (task : Option Task) (wanted : Task) (old new : Bay) (before after held holds : Option (List ℕ)) (text : List ℕ)
+    (d : DeckLines)
     → before ≡ Some text → task ≡ Some wanted → parsed text ≡ Ok d → Tells status task old new before after held holds
     → (status ≡ ReadFault → ⊥)
     → (status ≡ WriteFault → ⊥)

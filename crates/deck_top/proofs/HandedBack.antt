@@ -1,5 +1,6 @@
 -- The volumes that stand in the devices behind a run are those that the run hands out.
-use Rattle.std.proofs.Common.{◌≡◌, ◌<◌, ◌≤◌, ◌⊎◌, inl, inr, ◌∙◌, ◌++◌, append_assoc, ◌+◌, ◌∷◌, [], ◌*◌, ◌==◌, ◌&&◌, ◌||◌, not, map, length, ℕ, Bool, true, false, List, Option, Some, None, Result, Ok, Err, is_some, refl, sym, ap, subst, arith, get_or}
+use Rattle.std.proofs.Common.{◌≡◌, ◌<◌, ◌≤◌, ◌⊎◌, inl, inr, ◌∙◌, ◌++◌, append_assoc, ◌+◌, ◌∷◌, [], ◌*◌, ◌==◌, ◌&&◌, ◌||◌, not, map, length, ℕ, Bool,
+    true, false, List, Option, Some, None, Result, Ok, Err, is_some, refl, sym, ap, subst, arith, get_or}
 use Rattle.std.specs.Prelude.{option_map, IfSome, if◌then◌else◌}
 use Rattle.std.specs.List.{range_with_len}
 use Rattle.std.proofs.lemmas.Bool.{and_parts, cases_lt}
@@ -334,7 +335,8 @@ taken_more {G = G} all xs x is = ap (λ (l : List (Device Disk G)). all_taken l)
     go [] = append-nil (taken_of x)
     go (y ∷ ys) = ap (λ (l : List Taken). taken_of y ++ l) (go ys) ∙ sym (append_assoc (taken_of y) (all_taken ys) (taken_of x))
 
-pub held_more : {G : Ghosts Disk} (all xs : List (Device Disk G)) (x : Device Disk G) → all ≡ xs ++ x ∷ [] → AllHoldBytes xs → SidesHoldBytes x → AllHoldBytes all
+pub held_more : {G : Ghosts Disk} (all xs : List (Device Disk G)) (x : Device Disk G) → all ≡ xs ++ x ∷ [] → AllHoldBytes xs → SidesHoldBytes x
+    → AllHoldBytes all
 held_more {G = G} all xs x is hold holds = subst AllHoldBytes (sym is) (go xs hold)
   where
     go : (ys : List (Device Disk G)) → AllHoldBytes ys → AllHoldBytes (ys ++ x ∷ [])

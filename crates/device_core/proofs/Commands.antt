@@ -52,7 +52,8 @@ open_acted h (act ∷ acts) o is = open_acted (acted h act) acts (record o { act
     (ap (λ (x : Option OpenEntry). (acted_in h act x).running) is)
 
 -- the same chain
-pub same_chain : (P : ChainState → Type 0) (x y : Option Running) → option_map chain_of x ≡ option_map chain_of y → IfSome y (λ r. P r.chain) → IfSome x (λ r. P r.chain)
+pub same_chain : (P : ChainState → Type 0) (x y : Option Running) → option_map chain_of x ≡ option_map chain_of y → IfSome y (λ r. P r.chain)
+    → IfSome x (λ r. P r.chain)
 same_chain P None y same has = tt
 same_chain P (Some r) None same has = absurd cc
 same_chain P (Some r) (Some q) same has = let c : r.chain ≡ q.chain = cc in subst P (sym c) has

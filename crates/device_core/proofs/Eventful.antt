@@ -23,7 +23,8 @@ use Rattle.device_store.specs.Looks.{StoreOf}
 
 module _ {K A : Type 0} {had : Bool → Type 0} {hears : Hearing Image K} where
   -- an event that takes no notes
-  pub quiet_run : (d : DefinedDevice) (body : DefinedDevice → Interaction (List ℕ) Image DefinedDevice A) {v w z : Outside (List ℕ) K} (x y : DefinedDevice) {a : A} {s : StoreOf} →
+  pub quiet_run : (d : DefinedDevice) (body : DefinedDevice → Interaction (List ℕ) Image DefinedDevice A) {v w z : Outside (List ℕ) K}
+      (x y : DefinedDevice) {a : A} {s : StoreOf} →
       Ran had hears (body (event_begun d)) v x a w → Ran had hears (ended contents (waiting_count contents d.store) x.store) w s tt z →
       y ≡ record x { store = s } → Ran had hears (quiet_event contents d body) v y a z
   quiet_run d body {v} {w} {z} x y {a} {s} runs ends is =
@@ -31,7 +32,8 @@ module _ {K A : Type 0} {had : Bool → Type 0} {hears : Hearing Image K} where
       (joined (event_ended contents d) runs (joined (λ u _. Done (record x { store = u }) a) ends done))
 
   -- one that takes the notes first
-  pub event_run : (d : DefinedDevice) (body : DefinedDevice → Interaction (List ℕ) Image DefinedDevice A) {u v w z : Outside (List ℕ) K} (x y : DefinedDevice) {a : A} {r s : StoreOf} →
+  pub event_run : (d : DefinedDevice) (body : DefinedDevice → Interaction (List ℕ) Image DefinedDevice A) {u v w z : Outside (List ℕ) K}
+      (x y : DefinedDevice) {a : A} {r s : StoreOf} →
       Ran had hears (hear contents 960 (begun d.store)) u r tt v → Ran had hears (body (record (event_begun d) { store = r })) v x a w →
       Ran had hears (ended contents (waiting_count contents d.store) x.store) w s tt z →
       y ≡ record x { store = s } → Ran had hears (event contents d body) u y a z
@@ -40,11 +42,13 @@ module _ {K A : Type 0} {had : Bool → Type 0} {hears : Hearing Image K} where
       (joined (λ r _. body (record (event_begun d) { store = r })) heard runs) ends is
 
 -- a device to whose past acts came
-pub acted_device : (s : StoreOf) (paths : PathsState) (plans : Plans) (p q : Past) (acts more : List Act) → history_of q ≡ all_acted (history_of p) more → more ≡ acts →
+pub acted_device : (s : StoreOf) (paths : PathsState) (plans : Plans) (p q : Past) (acts more : List Act) → history_of q
+    ≡ all_acted (history_of p) more → more ≡ acts →
     option_map chain_of q.running ≡ option_map chain_of p.running →
     device_by s paths plans q ≡ record (device_by s paths plans p) { history = all_acted (history_of p) acts }
 acted_device s paths plans p q acts more history same chain =
-    ap (λ h. record { store = s; paths = paths; plans = plans; history = h; chain = option_map chain_of q.running }) (history ∙ ap (all_acted (history_of p)) same)
+    ap (λ h. record { store = s; paths = paths; plans = plans; history = h; chain = option_map chain_of q.running })
+        (history ∙ ap (all_acted (history_of p)) same)
     ∙ ap (λ x. record { store = s; paths = paths; plans = plans; history = all_acted (history_of p) acts; chain = x }) chain
 
 pub at_word_same : (x y : Option Running) (m n : ℕ) → option_map chain_of x ≡ option_map chain_of y → m ≡ n → IfSome y (λ r. IsAtWord n r.chain) →

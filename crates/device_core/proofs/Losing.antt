@@ -42,7 +42,8 @@ by_loss d r is = rw is refl
 pub lost_ran : {K : Type 0} {hears : Hearing Image K} {w : Outside (List ℕ) K} (d : DefinedDevice) (r : Running) (s : StoreOf) (paths : PathsState)
     (chain : ChainState) (came : Came) → d.store ≡ s → d.paths ≡ paths → s.acts ≡ [] → has_loss r.acts.items ≡ true →
     turn_with chain came ≡ checks r.chain Equipment →
-    Ran (where_ok {E = NoMemory} (Ok came)) hears (commanded_by d r) w (came_to {E = NoMemory} (record (with_store d s) { paths = paths }) r.path chain (Ok came)) (told {E = NoMemory} (Ok came)) w
+    Ran (where_ok {E = NoMemory} (Ok came)) hears (commanded_by d r) w
+        (came_to {E = NoMemory} (record (with_store d s) { paths = paths }) r.path chain (Ok came)) (told {E = NoMemory} (Ok came)) w
 lost_ran d r s paths chain came store same fresh lost turn =
     rw lost (ended
     (ap (λ (t : Turn). turned d r.path t) (sym turn)

@@ -27,7 +27,8 @@ fn add_act(running: &mut Option<Running>, act: Act)
     requires running { IsSome running.old }
     requires room { IfSome running.old (HasRoomFor 1) }
     requires counted { IfSome running.old (λ r. length r.ends.items ≤ 65534) }
-    ensures open { (o : OpenEntry) → option_map open_of running.old ≡ Some o → option_map open_of running.new ≡ Some (record o { acts = o.acts ++ record { after = length o.ends; act = act } ∷ [] }) }
+    ensures open { (o : OpenEntry) → option_map open_of running.old ≡ Some o → option_map open_of running.new
+        ≡ Some (record o { acts = o.acts ++ record { after = length o.ends; act = act } ∷ [] }) }
     ensures chain { option_map chain_of running.new ≡ option_map chain_of running.old }
     ensures running { IsSome running.new }
     ensures ends { IfSome running.old (λ r. HasEndRoom r.ends) → IfSome running.new (λ r. HasEndRoom r.ends) }
@@ -139,7 +140,8 @@ impl<V: Volume> Device<V> {
         requires room { ActRoom (weight self.old.store.loose) self.old.past }
         ensures fixed { (self.new.store.number ≡ self.old.store.number) × (self.new.store.cylinders ≡ self.old.store.cylinders) }
         ensures rest { state_of self.new.store ≡ record (state_of self.old.store) { owed = self.new.store.owed } }
-        ensures run { (k : K) → Ran surely K.hears (ended contents before (state_of self.old.store)) (outside (P.view port.old) self.old.store k) (state_of self.new.store) tt (outside (P.view port.new) self.new.store k) }
+        ensures run { (k : K) → Ran surely K.hears (ended contents before (state_of self.old.store)) (outside (P.view port.old) self.old.store k)
+            (state_of self.new.store) tt (outside (P.view port.new) self.new.store k) }
         ensures device { device_of self.new ≡ record (with_store (device_of self.old) (state_of self.old.store)) { store = state_of self.new.store } }
     {
         self.past.note_acts(self.store.loose.acts());

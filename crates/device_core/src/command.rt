@@ -44,7 +44,10 @@ pub(crate) fn on_tracks<V: Volume, P: Port, K: Keep<TrackImage>>(
     ensures left { IfOk result (Left store.old.cylinders running.new.chain) }
     ensures again { OnErr result (running.new.chain ≡ again_from running.old.chain) }
     ensures weight { weight store.new.loose ≤ weight store.old.loose + 2 }
-    ensures run { (d : DefinedDevice) (path : ℕ) (z : ChainState) → running.old.chain ≡ opened z → need_of z ≡ Some t → Ran (where_ok result) K.hears (and_then (follow contents (store.old.cylinders * 15) t z t (state_of store.old)) (on_tracks contents d path z)) (outside (P.view port.old) store.old keep.old) (came_to (with_store d (state_of store.new)) path running.new.chain result) (told result) (outside (P.view port.new) store.new keep.new) }
+    ensures run { (d : DefinedDevice) (path : ℕ) (z : ChainState) → running.old.chain ≡ opened z → need_of z ≡ Some t
+        → Ran (where_ok result) K.hears (and_then (follow contents (store.old.cylinders * 15) t z t (state_of store.old))
+        (on_tracks contents d path z)) (outside (P.view port.old) store.old keep.old)
+        (came_to (with_store d (state_of store.new)) path running.new.chain result) (told result) (outside (P.view port.new) store.new keep.new) }
     ensures half { IfOk result (λ came. is_some store.new.half ≡ is_half came) }
     ensures same { OnErr result (store.new.half ≡ None) }
 {
@@ -100,7 +103,8 @@ pub(crate) fn on_paths(
     ensures acts { (running.new.acts ≡ running.old.acts) × (running.new.room ≡ running.old.room) }
     ensures left { IfOk result (Left running.old.chain.fixed.cylinders running.new.chain) }
     ensures again { OnErr result ((running.new.chain ≡ again_from running.old.chain) × (paths.new ≡ paths.old)) }
-    ensures answers { IfOk result (Answers geometry paths.old paths.new running.old.path (stepped running.old.chain None).chain (stepped running.old.chain None).progress running.new.chain) }
+    ensures answers { IfOk result (Answers geometry paths.old paths.new running.old.path (stepped running.old.chain None).chain
+        (stepped running.old.chain None).progress running.new.chain) }
     ensures half { IfOk result (λ came. is_half came ≡ false) }
 {
     let progress = match running.chain.step(alloc, None) {

@@ -20,7 +20,8 @@ use track_image::TrackImage;
 
 impl<V: Volume> Device<V> {
     /// What the device does by itself, behind its notes, while no write is half done: it recovers a track, copies one to the other
-    /// side, stages the oldest queued one or destages one. After want of memory a queued track isn't queued any more. The keeper is told of a track that it makes firm.
+    /// side, stages the oldest queued one or destages one. After want of memory a queued track isn't queued any more. The
+    /// keeper is told of a track that it makes firm.
     pub fn background_with<P: Port, K: Keep<TrackImage>>(
         &mut self,
         port: &mut P,
@@ -30,7 +31,8 @@ impl<V: Volume> Device<V> {
         requires takes { Takes K.takes keep.old self.old.store.number (self.old.store.cylinders * 15) }
         ensures fixed { (self.new.store.number ≡ self.old.store.number) × (self.new.store.cylinders ≡ self.old.store.cylinders) }
         ensures takes { Takes K.takes keep.new self.new.store.number (self.new.store.cylinders * 15) }
-        ensures run { Ran (where_ok result) K.hears (background contents (device_of self.old)) (outside (P.view port.old) self.old.store keep.old) (device_of self.new) (had (λ did. did) result) (outside (P.view port.new) self.new.store keep.new) }
+        ensures run { Ran (where_ok result) K.hears (background contents (device_of self.old)) (outside (P.view port.old) self.old.store keep.old)
+            (device_of self.new) (had (λ did. did) result) (outside (P.view port.new) self.new.store keep.new) }
         ensures paths { KeepsPaths (device_of self.old) (device_of self.new) }
         ensures transfers { WorkMoves (device_of self.old) (had (λ did. did) result) (device_of self.new) }
     {
@@ -46,7 +48,8 @@ impl<V: Volume> Device<V> {
     pub fn background<P: Port>(&mut self, port: &mut P) -> Result<Did, NoMemory>
         requires whole { is_some (device_of self.old).store.half ≡ false }
         ensures fixed { (self.new.store.number ≡ self.old.store.number) × (self.new.store.cylinders ≡ self.old.store.cylinders) }
-        ensures run { (k : NoKeep) → Ran (where_ok result) (λ _ m r _. r ≡ reply m) (background contents (device_of self.old)) (outside (P.view port.old) self.old.store k) (device_of self.new) (had (λ did. did) result) (outside (P.view port.new) self.new.store k) }
+        ensures run { (k : NoKeep) → Ran (where_ok result) (λ _ m r _. r ≡ reply m) (background contents (device_of self.old))
+            (outside (P.view port.old) self.old.store k) (device_of self.new) (had (λ did. did) result) (outside (P.view port.new) self.new.store k) }
         ensures paths { KeepsPaths (device_of self.old) (device_of self.new) }
         ensures transfers { WorkMoves (device_of self.old) (had (λ did. did) result) (device_of self.new) }
     {
@@ -66,7 +69,8 @@ impl<V: Volume> Device<V> {
         ensures fixed { (self.new.store.number ≡ self.old.store.number) × (self.new.store.cylinders ≡ self.old.store.cylinders) }
         ensures takes { Takes K.takes keep.new self.new.store.number (self.new.store.cylinders * 15) }
         ensures there { IfOk result (IsPeeked (state_of self.new.store) t) }
-        ensures run { Ran (where_ok result) K.hears (peek contents (device_of self.old) t) (outside (P.view port.old) self.old.store keep.old) (device_of self.new) (had (peeked_by (state_of self.new.store) t) result) (outside (P.view port.new) self.new.store keep.new) }
+        ensures run { Ran (where_ok result) K.hears (peek contents (device_of self.old) t) (outside (P.view port.old) self.old.store keep.old)
+            (device_of self.new) (had (peeked_by (state_of self.new.store) t) result) (outside (P.view port.new) self.new.store keep.new) }
         ensures paths { KeepsPaths (device_of self.old) (device_of self.new) }
         ensures transfers { LookMoves (device_of self.old) (device_of self.new) }
     {
@@ -82,7 +86,9 @@ impl<V: Volume> Device<V> {
         requires { t < self.old.store.cylinders * 15 }
         ensures fixed { (self.new.store.number ≡ self.old.store.number) × (self.new.store.cylinders ≡ self.old.store.cylinders) }
         ensures there { IfOk result (IsPeeked (state_of self.new.store) t) }
-        ensures run { (k : NoKeep) → Ran (where_ok result) (λ _ m r _. r ≡ reply m) (peek contents (device_of self.old) t) (outside (P.view port.old) self.old.store k) (device_of self.new) (had (peeked_by (state_of self.new.store) t) result) (outside (P.view port.new) self.new.store k) }
+        ensures run { (k : NoKeep) → Ran (where_ok result) (λ _ m r _. r ≡ reply m) (peek contents (device_of self.old) t)
+            (outside (P.view port.old) self.old.store k) (device_of self.new) (had (peeked_by (state_of self.new.store) t) result)
+            (outside (P.view port.new) self.new.store k) }
         ensures paths { KeepsPaths (device_of self.old) (device_of self.new) }
         ensures transfers { LookMoves (device_of self.old) (device_of self.new) }
     {

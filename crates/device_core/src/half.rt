@@ -47,7 +47,8 @@ fn end_in(running: &mut Option<Running>, t: TrackNo, took: Took) -> Came
     ensures running { IsSome running.new }
     ensures ends { IfSome running.new (λ r. HasEndRoom r.ends) }
     ensures acts { (n : ℕ) → IfSome running.old (HasRoomFor n) → IfSome running.new (HasRoomFor n) }
-    ensures turn { (z w : ChainState) → option_map chain_of running.old ≡ Some z → option_map chain_of running.new ≡ Some w → turn_with w result ≡ wrote_turn z t took }
+    ensures turn { (z w : ChainState) → option_map chain_of running.old ≡ Some z → option_map chain_of running.new ≡ Some w → turn_with w result
+        ≡ wrote_turn z t took }
     ensures left { (n : ℕ) → IfSome running.old (λ r. r.chain.fixed.cylinders ≡ n) → IfSome running.new (λ r. Left n r.chain result) }
     ensures half { is_half result ≡ is_opened took }
 {
@@ -63,8 +64,11 @@ impl Past {
         requires waits { IsWaiting self.old.running }
         requires whole { is_opened took ≡ false }
         requires keeps { Keeps self.old }
-        ensures state { (s : Store Frame Stored Image) (plans : Plans) (o : OpenEntry) (chain : ChainState) → option_map open_of self.old.running ≡ Some o → option_map chain_of self.old.running ≡ Some chain → device_by s paths.new plans self.new ≡ turned (device_by s paths.old plans self.old) o.path (wrote_turn chain t took) }
-        ensures answer { (chain : ChainState) → option_map chain_of self.old.running ≡ Some chain → second_seen self.new Ended ≡ Some (second_told contents t (wrote_turn chain t took).came) }
+        ensures state { (s : Store Frame Stored Image) (plans : Plans) (o : OpenEntry) (chain : ChainState) → option_map open_of self.old.running
+            ≡ Some o → option_map chain_of self.old.running ≡ Some chain → device_by s paths.new plans self.new
+            ≡ turned (device_by s paths.old plans self.old) o.path (wrote_turn chain t took) }
+        ensures answer { (chain : ChainState) → option_map chain_of self.old.running ≡ Some chain → second_seen self.new Ended
+            ≡ Some (second_told contents t (wrote_turn chain t took).came) }
         ensures word { (n : ℕ) → IfSome self.old.running (λ r. r.chain.fixed.cylinders ≡ n) → IfSome self.new.running (λ r. IsAtWord n r.chain) }
         ensures keeps { Keeps self.new }
         ensures room { (n : ℕ) → ActRoom n self.old → ActRoom n self.new }

@@ -112,7 +112,8 @@ impl<V: Volume> Device<V> {
         ensures a { on_a self.new.store ≡ None }
         ensures b { on_b self.new.store ≡ None }
         ensures back { result ≡ on_a self.old.store }
-        ensures run { (k : K) → Ran surely K.hears (lend contents (device_of self.old) to) (outside (P.view port.old) self.old.store k) (device_of self.new) tt (record (outside (P.view port.new) self.new.store k) { a = option_map V.view result }) }
+        ensures run { (k : K) → Ran surely K.hears (lend contents (device_of self.old) to) (outside (P.view port.old) self.old.store k)
+            (device_of self.new) tt (record (outside (P.view port.new) self.new.store k) { a = option_map V.view result }) }
     {
         let before = self.store.waiting_count();
         self.store.begin_event();
@@ -128,7 +129,9 @@ impl<V: Volume> Device<V> {
         ensures a { on_a self.new.store ≡ None }
         ensures b { on_b self.new.store ≡ None }
         ensures back { result ≡ on_a self.old.store }
-        ensures run { (k : NoKeep) → Ran surely (λ _ m r _. r ≡ reply m) (lend contents (device_of self.old) to) (outside (P.view port.old) self.old.store k) (device_of self.new) tt (record (outside (P.view port.new) self.new.store k) { a = option_map V.view result }) }
+        ensures run { (k : NoKeep) → Ran surely (λ _ m r _. r ≡ reply m) (lend contents (device_of self.old) to)
+            (outside (P.view port.old) self.old.store k) (device_of self.new) tt
+            (record (outside (P.view port.new) self.new.store k) { a = option_map V.view result }) }
     {
         self.lend_with::<P, NoKeep>(to, port)
     }

@@ -77,7 +77,8 @@ impl<V: Volume> Device<V> {
         requires takes { Takes K.takes keep.old self.old.store.number (self.old.store.cylinders * 15) }
         ensures fixed { (self.new.store.number ≡ self.old.store.number) × (self.new.store.cylinders ≡ self.old.store.cylinders) }
         ensures takes { Takes K.takes keep.new self.new.store.number (self.new.store.cylinders * 15) }
-        ensures run { Ran surely K.hears (power contents (device_of self.old)) (outside (P.view port.old) self.old.store keep.old) (device_of self.new) tt (outside (P.view port.new) self.new.store keep.new) }
+        ensures run { Ran surely K.hears (power contents (device_of self.old)) (outside (P.view port.old) self.old.store keep.old)
+            (device_of self.new) tt (outside (P.view port.new) self.new.store keep.new) }
         ensures transfers { MovesNothing (device_of self.old) (device_of self.new) }
     {
         let before = self.store.waiting_count();
@@ -93,7 +94,8 @@ impl<V: Volume> Device<V> {
     /// The same, with a keeper that keeps nothing.
     pub fn power<P: Port>(&mut self, port: &mut P)
         ensures fixed { (self.new.store.number ≡ self.old.store.number) × (self.new.store.cylinders ≡ self.old.store.cylinders) }
-        ensures run { (k : NoKeep) → Ran surely (λ _ m r _. r ≡ reply m) (power contents (device_of self.old)) (outside (P.view port.old) self.old.store k) (device_of self.new) tt (outside (P.view port.new) self.new.store k) }
+        ensures run { (k : NoKeep) → Ran surely (λ _ m r _. r ≡ reply m) (power contents (device_of self.old))
+            (outside (P.view port.old) self.old.store k) (device_of self.new) tt (outside (P.view port.new) self.new.store k) }
         ensures transfers { MovesNothing (device_of self.old) (device_of self.new) }
     {
         let mut keep = NoKeep;

@@ -46,7 +46,8 @@ impl Past {
         requires running { IsSome self.old.running }
         requires most { more ≤ 1 }
         ensures over { self.new.running ≡ None }
-        ensures items { (o : OpenEntry) → option_map open_of self.old.running ≡ Some o → self.new.items.items ≡ self.old.items.items ++ entry_of o (Cut (length o.ends + more)) ∷ [] }
+        ensures items { (o : OpenEntry) → option_map open_of self.old.running ≡ Some o → self.new.items.items
+            ≡ self.old.items.items ++ entry_of o (Cut (length o.ends + more)) ∷ [] }
         ensures spare { self.new.items.spare + 1 ≡ self.old.items.spare }
         ensures aside { self.new.items.aside ≡ self.old.items.aside }
         ensures rest { (self.new.kept ≡ self.old.kept) × (self.new.powered ≡ self.old.powered) }
@@ -123,7 +124,8 @@ impl<V: Volume> Device<V> {
         ensures fixed { (self.new.store.number ≡ self.old.store.number) × (self.new.store.cylinders ≡ self.old.store.cylinders) }
         ensures volume { self.new.store.pair.volumes ≡ self.old.store.pair.volumes }
         ensures takes { Takes K.takes keep.new self.new.store.number (self.new.store.cylinders * 15) }
-        ensures run { (p : PortView) → Ran surely K.hears (reset contents (device_of self.old) path) (outside p self.old.store keep.old) (device_of self.new) tt (outside p self.new.store keep.new) }
+        ensures run { (p : PortView) → Ran surely K.hears (reset contents (device_of self.old) path) (outside p self.old.store keep.old)
+            (device_of self.new) tt (outside p self.new.store keep.new) }
     {
         let more = half_count(&self.store.half);
         self.store.cut_half(keep);
@@ -136,7 +138,8 @@ impl<V: Volume> Device<V> {
         requires takes { Takes K.takes keep.old self.old.store.number (self.old.store.cylinders * 15) }
         ensures fixed { (self.new.store.number ≡ self.old.store.number) × (self.new.store.cylinders ≡ self.old.store.cylinders) }
         ensures volume { self.new.store.pair.volumes ≡ self.old.store.pair.volumes }
-        ensures run { (p : PortView) → Ran surely K.hears (reset contents (device_of self.old) path) (outside p self.old.store keep.old) (device_of self.new) tt (outside p self.new.store keep.new) }
+        ensures run { (p : PortView) → Ran surely K.hears (reset contents (device_of self.old) path) (outside p self.old.store keep.old)
+            (device_of self.new) tt (outside p self.new.store keep.new) }
         ensures transfers { MovesNothing (device_of self.old) (device_of self.new) }
         ensures takes { Takes K.takes keep.new self.new.store.number (self.new.store.cylinders * 15) }
     {
@@ -154,7 +157,8 @@ impl<V: Volume> Device<V> {
     pub fn reset(&mut self, path: PathNo)
         ensures fixed { (self.new.store.number ≡ self.old.store.number) × (self.new.store.cylinders ≡ self.old.store.cylinders) }
         ensures volume { self.new.store.pair.volumes ≡ self.old.store.pair.volumes }
-        ensures run { (p : PortView) (k : NoKeep) → Ran surely (λ _ m r _. r ≡ reply m) (reset contents (device_of self.old) path) (outside p self.old.store k) (device_of self.new) tt (outside p self.new.store k) }
+        ensures run { (p : PortView) (k : NoKeep) → Ran surely (λ _ m r _. r ≡ reply m) (reset contents (device_of self.old) path)
+            (outside p self.old.store k) (device_of self.new) tt (outside p self.new.store k) }
     {
         let mut keep = NoKeep;
         self.reset_with(path, &mut keep)

@@ -83,7 +83,10 @@ impl<V: Volume> Device<V> {
         ensures takes { Takes K.takes keep.new self.new.store.number (self.new.store.cylinders * 15) }
         ensures half { IfOk result (λ step. is_some self.new.store.half ≡ is_half_step step) }
         ensures same { OnErr result (self.new.store.half ≡ None) }
-        ensures run { Ran (where_ok result) K.hears (command_by contents (device_of self.old) (device_of self.old).history.running (device_of self.old).chain) (outside (P.view port.old) self.old.store keep.old) (device_of self.new) (step_had self.new.past result) (outside (P.view port.new) self.new.store keep.new) }
+        ensures run { Ran (where_ok result) K.hears
+            (command_by contents (device_of self.old) (device_of self.old).history.running (device_of self.old).chain)
+            (outside (P.view port.old) self.old.store keep.old) (device_of self.new) (step_had self.new.past result)
+            (outside (P.view port.new) self.new.store keep.new) }
     {
         match on_past(
             &mut self.store,
@@ -118,7 +121,9 @@ impl<V: Volume> Device<V> {
         ensures takes { Takes K.takes keep.new self.new.store.number (self.new.store.cylinders * 15) }
         ensures half { IfOk result (λ step. is_some self.new.store.half ≡ is_half_step step) }
         ensures same { OnErr result (self.new.store.half ≡ None) }
-        ensures run { Ran (where_ok result) K.hears (event contents (device_of self.old) (λ z. command_by contents z z.history.running z.chain)) (outside (P.view port.old) self.old.store keep.old) (device_of self.new) (step_had self.new.past result) (outside (P.view port.new) self.new.store keep.new) }
+        ensures run { Ran (where_ok result) K.hears (event contents (device_of self.old) (λ z. command_by contents z z.history.running z.chain))
+            (outside (P.view port.old) self.old.store keep.old) (device_of self.new) (step_had self.new.past result)
+            (outside (P.view port.new) self.new.store keep.new) }
     {
         let before = self.store.waiting_count();
         self.store.begin_event();
@@ -142,8 +147,10 @@ impl<V: Volume> Device<V> {
         ensures takes { Takes K.takes keep.new self.new.store.number (self.new.store.cylinders * 15) }
         ensures half { IfOk result (λ step. is_some (device_of self.new).store.half ≡ is_half_step step) }
         ensures same { OnErr result (is_some (device_of self.new).store.half ≡ false) }
-        ensures run { Ran (where_ok result) K.hears (command contents (device_of self.old)) (outside (P.view port.old) self.old.store keep.old) (device_of self.new) (step_had self.new.past result) (outside (P.view port.new) self.new.store keep.new) }
-        ensures ends_as_seen { EndsAsSeen (where_ok result) K.hears (device_of self.old) (outside (P.view port.old) self.old.store keep.old) (device_of self.new) (step_had self.new.past result) (outside (P.view port.new) self.new.store keep.new) }
+        ensures run { Ran (where_ok result) K.hears (command contents (device_of self.old)) (outside (P.view port.old) self.old.store keep.old)
+            (device_of self.new) (step_had self.new.past result) (outside (P.view port.new) self.new.store keep.new) }
+        ensures ends_as_seen { EndsAsSeen (where_ok result) K.hears (device_of self.old) (outside (P.view port.old) self.old.store keep.old)
+            (device_of self.new) (step_had self.new.past result) (outside (P.view port.new) self.new.store keep.new) }
         ensures hits { HitReadsNone (device_of self.old) (device_of self.new) }
         ensures transfers { CommandMoves (device_of self.old) (device_of self.new) }
     {
@@ -164,8 +171,10 @@ impl<V: Volume> Device<V> {
         ensures fixed { (self.new.store.number ≡ self.old.store.number) × (self.new.store.cylinders ≡ self.old.store.cylinders) }
         ensures half { IfOk result (λ step. is_some (device_of self.new).store.half ≡ is_half_step step) }
         ensures same { OnErr result (is_some (device_of self.new).store.half ≡ false) }
-        ensures run { (k : NoKeep) → Ran (where_ok result) (λ _ m r _. r ≡ reply m) (command contents (device_of self.old)) (outside (P.view port.old) self.old.store k) (device_of self.new) (step_had self.new.past result) (outside (P.view port.new) self.new.store k) }
-        ensures ends_as_seen { (k : NoKeep) → EndsAsSeen (where_ok result) (λ _ m r _. r ≡ reply m) (device_of self.old) (outside (P.view port.old) self.old.store k) (device_of self.new) (step_had self.new.past result) (outside (P.view port.new) self.new.store k) }
+        ensures run { (k : NoKeep) → Ran (where_ok result) (λ _ m r _. r ≡ reply m) (command contents (device_of self.old))
+            (outside (P.view port.old) self.old.store k) (device_of self.new) (step_had self.new.past result) (outside (P.view port.new) self.new.store k) }
+        ensures ends_as_seen { (k : NoKeep) → EndsAsSeen (where_ok result) (λ _ m r _. r ≡ reply m) (device_of self.old)
+            (outside (P.view port.old) self.old.store k) (device_of self.new) (step_had self.new.past result) (outside (P.view port.new) self.new.store k) }
         ensures hits { HitReadsNone (device_of self.old) (device_of self.new) }
         ensures transfers { CommandMoves (device_of self.old) (device_of self.new) }
     {

@@ -66,7 +66,9 @@ impl<V: Volume> Device<V> {
         ensures takes { Takes K.takes keep.new self.new.store.number (self.new.store.cylinders * 15) }
         ensures whole { self.new.store.half ≡ None }
         ensures seen { IsSome (second_seen self.new.past result) }
-        ensures run { (e : SecondEnd) → second_seen self.new.past result ≡ Some e → Ran surely K.hears (second_of contents (device_of self.old) (device_of self.old).store.half) (outside (P.view port.old) self.old.store keep.old) (device_of self.new) e (outside (P.view port.new) self.new.store keep.new) }
+        ensures run { (e : SecondEnd) → second_seen self.new.past result ≡ Some e
+            → Ran surely K.hears (second_of contents (device_of self.old) (device_of self.old).store.half)
+            (outside (P.view port.old) self.old.store keep.old) (device_of self.new) e (outside (P.view port.new) self.new.store keep.new) }
     {
         let part = self.store.second(port, keep);
         self.past.note_acts(self.store.loose.acts());
@@ -91,7 +93,9 @@ impl<V: Volume> Device<V> {
         ensures takes { Takes K.takes keep.new self.new.store.number (self.new.store.cylinders * 15) }
         ensures whole { self.new.store.half ≡ None }
         ensures seen { IsSome (second_seen self.new.past result) }
-        ensures run { (e : SecondEnd) → second_seen self.new.past result ≡ Some e → Ran surely K.hears (second_of contents (device_of self.old) (device_of self.old).store.half) (outside (P.view port.old) self.old.store keep.old) (device_of self.new) e (outside (P.view port.new) self.new.store keep.new) }
+        ensures run { (e : SecondEnd) → second_seen self.new.past result ≡ Some e
+            → Ran surely K.hears (second_of contents (device_of self.old) (device_of self.old).store.half)
+            (outside (P.view port.old) self.old.store keep.old) (device_of self.new) e (outside (P.view port.new) self.new.store keep.new) }
     {
         if self.store.half_open() {
             return self.second_ready(port, keep);
@@ -111,7 +115,9 @@ impl<V: Volume> Device<V> {
         ensures takes { Takes K.takes keep.new self.new.store.number (self.new.store.cylinders * 15) }
         ensures whole { self.new.store.half ≡ None }
         ensures seen { IsSome (second_seen self.new.past result) }
-        ensures run { (e : SecondEnd) → second_seen self.new.past result ≡ Some e → Ran surely K.hears (second contents (device_of self.old)) (outside (P.view port.old) self.old.store keep.old) (device_of self.new) e (outside (P.view port.new) self.new.store keep.new) }
+        ensures run { (e : SecondEnd) → second_seen self.new.past result ≡ Some e
+            → Ran surely K.hears (second contents (device_of self.old)) (outside (P.view port.old) self.old.store keep.old) (device_of self.new) e
+            (outside (P.view port.new) self.new.store keep.new) }
         ensures ends_as_kept { (e : SecondEnd) → second_seen self.new.past result ≡ Some e → EndsAsKept (device_of self.old) (device_of self.new) e }
         ensures transfers { (e : SecondEnd) → second_seen self.new.past result ≡ Some e → SecondMoves (device_of self.old) (device_of self.new) }
     {
@@ -128,7 +134,9 @@ impl<V: Volume> Device<V> {
         ensures fixed { (self.new.store.number ≡ self.old.store.number) × (self.new.store.cylinders ≡ self.old.store.cylinders) }
         ensures whole { self.new.store.half ≡ None }
         ensures seen { IsSome (second_seen self.new.past result) }
-        ensures run { (k : NoKeep) (e : SecondEnd) → second_seen self.new.past result ≡ Some e → Ran surely (λ _ m r _. r ≡ reply m) (second contents (device_of self.old)) (outside (P.view port.old) self.old.store k) (device_of self.new) e (outside (P.view port.new) self.new.store k) }
+        ensures run { (k : NoKeep) (e : SecondEnd) → second_seen self.new.past result ≡ Some e
+            → Ran surely (λ _ m r _. r ≡ reply m) (second contents (device_of self.old)) (outside (P.view port.old) self.old.store k)
+            (device_of self.new) e (outside (P.view port.new) self.new.store k) }
         ensures ends_as_kept { (e : SecondEnd) → second_seen self.new.past result ≡ Some e → EndsAsKept (device_of self.old) (device_of self.new) e }
         ensures transfers { (e : SecondEnd) → second_seen self.new.past result ≡ Some e → SecondMoves (device_of self.old) (device_of self.new) }
     {

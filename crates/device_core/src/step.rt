@@ -45,7 +45,11 @@ fn on_running<V: Volume, P: Port, K: Keep<TrackImage>>(
     ensures left { IfOk result (Left store.old.cylinders running.new.chain) }
     ensures word { OnErr result (IsAtWord store.old.cylinders running.new.chain) }
     ensures weight { weight store.new.loose ≤ weight store.old.loose + 2 }
-    ensures run { (d : DefinedDevice) → d.store ≡ state_of store.old → d.paths ≡ paths.old → Ran (where_ok result) K.hears (command_at contents d running.old.path running.old.chain (need_of running.old.chain)) (outside (P.view port.old) store.old keep.old) (came_to (record (with_store d (state_of store.new)) { paths = paths.new }) running.old.path running.new.chain result) (told result) (outside (P.view port.new) store.new keep.new) }
+    ensures run { (d : DefinedDevice) → d.store ≡ state_of store.old → d.paths ≡ paths.old
+        → Ran (where_ok result) K.hears (command_at contents d running.old.path running.old.chain (need_of running.old.chain))
+        (outside (P.view port.old) store.old keep.old)
+        (came_to (record (with_store d (state_of store.new)) { paths = paths.new }) running.old.path running.new.chain result) (told result)
+        (outside (P.view port.new) store.new keep.new) }
     ensures half { IfOk result (λ came. is_some store.new.half ≡ is_half came) }
     ensures same { OnErr result (store.new.half ≡ None) }
 {
@@ -91,7 +95,10 @@ fn on_program<V: Volume, P: Port, K: Keep<TrackImage>>(
     ensures left { IfOk result (Left store.old.cylinders running.new.chain) }
     ensures word { OnErr result (IsAtWord store.old.cylinders running.new.chain) }
     ensures weight { weight store.new.loose ≤ weight store.old.loose + 2 }
-    ensures run { (d : DefinedDevice) → d.store ≡ state_of store.old → d.paths ≡ paths.old → Ran (where_ok result) K.hears (commanded_by d running.old) (outside (P.view port.old) store.old keep.old) (came_to (record (with_store d (state_of store.new)) { paths = paths.new }) running.old.path running.new.chain result) (told result) (outside (P.view port.new) store.new keep.new) }
+    ensures run { (d : DefinedDevice) → d.store ≡ state_of store.old → d.paths ≡ paths.old
+        → Ran (where_ok result) K.hears (commanded_by d running.old) (outside (P.view port.old) store.old keep.old)
+        (came_to (record (with_store d (state_of store.new)) { paths = paths.new }) running.old.path running.new.chain result) (told result)
+        (outside (P.view port.new) store.new keep.new) }
     ensures half { IfOk result (λ came. is_some store.new.half ≡ is_half came) }
     ensures same { OnErr result (store.new.half ≡ None) }
 {
@@ -124,7 +131,10 @@ pub(crate) fn on_past<V: Volume, P: Port, K: Keep<TrackImage>>(
     ensures left { IfOk result (λ came. IfSome running.new (λ r. Left store.old.cylinders r.chain came)) }
     ensures word { OnErr result (IfSome running.new (λ r. IsAtWord store.old.cylinders r.chain)) }
     ensures weight { weight store.new.loose ≤ weight store.old.loose + 2 }
-    ensures run { (d : DefinedDevice) → d.store ≡ state_of store.old → d.paths ≡ paths.old → Ran (where_ok result) K.hears (commanded d running.old) (outside (P.view port.old) store.old keep.old) (came_from (record (with_store d (state_of store.new)) { paths = paths.new }) running.new result) (told result) (outside (P.view port.new) store.new keep.new) }
+    ensures run { (d : DefinedDevice) → d.store ≡ state_of store.old → d.paths ≡ paths.old
+        → Ran (where_ok result) K.hears (commanded d running.old) (outside (P.view port.old) store.old keep.old)
+        (came_from (record (with_store d (state_of store.new)) { paths = paths.new }) running.new result) (told result)
+        (outside (P.view port.new) store.new keep.new) }
     ensures half { IfOk result (λ came. is_some store.new.half ≡ is_half came) }
     ensures same { OnErr result (store.new.half ≡ None) }
 {

@@ -89,13 +89,16 @@ fn write_seen<V: Volume, P: Port, K: Keep<TrackImage>>(
 ) -> Result<Took, NoMemory>
     requires track { t < store.old.cylinders * 15 }
     requires there { IsSeen (state_of store.old) t (option_map (λ i. i.now) read) }
-    requires suits { Suits (seen (state_of store.old) t (option_map (λ i. i.now) read)).geometry (seen (state_of store.old) t (option_map (λ i. i.now) read)).track.records edit }
+    requires suits { Suits (seen (state_of store.old) t (option_map (λ i. i.now) read)).geometry
+        (seen (state_of store.old) t (option_map (λ i. i.now) read)).track.records edit }
     requires takes { Takes K.takes keep.old store.old.number (store.old.cylinders * 15) }
     requires none { store.old.half ≡ None }
     ensures fixed { (store.new.number ≡ store.old.number) × (store.new.cylinders ≡ store.old.cylinders) }
     ensures takes { Takes K.takes keep.new store.new.number (store.new.cylinders * 15) }
     ensures weight { weight store.new.loose ≤ weight store.old.loose + 2 }
-    ensures run { Ran (where_ok result) K.hears (write contents (state_of store.old) usage.now first t (seen (state_of store.old) t (option_map (λ i. i.now) read.entry)) edit) (outside (P.view port.old) store.old keep.old) (state_of store.new) (had (λ took. took) result) (outside (P.view port.new) store.new keep.new) }
+    ensures run { Ran (where_ok result) K.hears (write contents (state_of store.old) usage.now first t
+        (seen (state_of store.old) t (option_map (λ i. i.now) read.entry)) edit) (outside (P.view port.old) store.old keep.old) (state_of store.new)
+        (had (λ took. took) result) (outside (P.view port.new) store.new keep.new) }
     ensures half { IfOk result (λ took. is_some store.new.half ≡ is_opened took) }
     ensures same { OnErr result (store.new.half ≡ None) }
 {
@@ -119,7 +122,8 @@ fn write_edit<V: Volume, P: Port, K: Keep<TrackImage>>(
 ) -> Result<Step, NoMemory>
     requires track { t < store.old.cylinders * 15 }
     requires there { IsSeen (state_of store.old) t (option_map (λ i. i.now) read) }
-    requires suits { Suits (seen (state_of store.old) t (option_map (λ i. i.now) read)).geometry (seen (state_of store.old) t (option_map (λ i. i.now) read)).track.records edit }
+    requires suits { Suits (seen (state_of store.old) t (option_map (λ i. i.now) read)).geometry
+        (seen (state_of store.old) t (option_map (λ i. i.now) read)).track.records edit }
     requires takes { Takes K.takes keep.old store.old.number (store.old.cylinders * 15) }
     requires at { IsAt store.old.cylinders chain.old }
     requires written { MayBeWritten chain.old.stage }
@@ -130,7 +134,10 @@ fn write_edit<V: Volume, P: Port, K: Keep<TrackImage>>(
     ensures hand { OnErr result (IsSameHand chain.old chain.new) }
     ensures weight { weight store.new.loose ≤ weight store.old.loose + 2 }
     ensures on { IfOk result (KeepsWeight (weight store.old.loose) store.new.loose) }
-    ensures run { Ran (where_ok result) K.hears (and_had (write contents (state_of store.old) usage.now first t (seen (state_of store.old) t (option_map (λ i. i.now) read.entry)) edit) (came_of_write contents chain.old t)) (outside (P.view port.old) store.old keep.old) (state_of store.new) (had (went_with chain.new) result) (outside (P.view port.new) store.new keep.new) }
+    ensures run { Ran (where_ok result) K.hears (and_had
+        (write contents (state_of store.old) usage.now first t (seen (state_of store.old) t (option_map (λ i. i.now) read.entry)) edit)
+        (came_of_write contents chain.old t)) (outside (P.view port.old) store.old keep.old) (state_of store.new) (had (went_with chain.new) result)
+        (outside (P.view port.new) store.new keep.new) }
     ensures half { IfOk result (λ step. is_some store.new.half ≡ is_half_over step) }
     ensures same { OnErr result (store.new.half ≡ None) }
 {
@@ -163,7 +170,9 @@ fn on_image<V: Volume, P: Port, K: Keep<TrackImage>>(
     ensures hand { OnErr result (IsSameHand chain.old chain.new) }
     ensures weight { weight store.new.loose ≤ weight store.old.loose + 2 }
     ensures on { IfOk result (KeepsWeight (weight store.old.loose) store.new.loose) }
-    ensures run { Ran (where_ok result) K.hears (went_on contents chain.old first t (state_of store.old) (seen (state_of store.old) t (option_map (λ i. i.now) read.entry))) (outside (P.view port.old) store.old keep.old) (state_of store.new) (had (went_with chain.new) result) (outside (P.view port.new) store.new keep.new) }
+    ensures run { Ran (where_ok result) K.hears (went_on contents chain.old first t (state_of store.old)
+        (seen (state_of store.old) t (option_map (λ i. i.now) read.entry))) (outside (P.view port.old) store.old keep.old) (state_of store.new)
+        (had (went_with chain.new) result) (outside (P.view port.new) store.new keep.new) }
     ensures half { IfOk result (λ step. is_some store.new.half ≡ is_half_over step) }
     ensures same { OnErr result (store.new.half ≡ None) }
 {
@@ -201,7 +210,8 @@ fn look<V: Volume, P: Port, K: Keep<TrackImage>>(
     ensures hand { OnErr result (IsSameHand chain.old chain.new) }
     ensures weight { weight store.new.loose ≤ weight store.old.loose + 2 }
     ensures on { IfOk result (KeepsWeight (weight store.old.loose) store.new.loose) }
-    ensures run { Ran (where_ok result) K.hears (look contents chain.old first t (state_of store.old)) (outside (P.view port.old) store.old keep.old) (state_of store.new) (had (went_with chain.new) result) (outside (P.view port.new) store.new keep.new) }
+    ensures run { Ran (where_ok result) K.hears (look contents chain.old first t (state_of store.old)) (outside (P.view port.old) store.old keep.old)
+        (state_of store.new) (had (went_with chain.new) result) (outside (P.view port.new) store.new keep.new) }
     ensures half { IfOk result (λ step. is_some store.new.half ≡ is_half_over step) }
     ensures same { OnErr result (store.new.half ≡ None) }
 {
@@ -238,7 +248,8 @@ pub fn follow<V: Volume, P: Port, K: Keep<TrackImage>>(
     ensures left { IfOk result (Left store.old.cylinders chain.new) }
     ensures hand { OnErr result (IsSameHand chain.old chain.new) }
     ensures weight { weight store.new.loose ≤ weight store.old.loose + 2 }
-    ensures run { Ran (where_ok result) K.hears (follow contents (store.old.cylinders * 15) first chain.old first (state_of store.old)) (outside (P.view port.old) store.old keep.old) (state_of store.new) (had (turn_with chain.new) result) (outside (P.view port.new) store.new keep.new) }
+    ensures run { Ran (where_ok result) K.hears (follow contents (store.old.cylinders * 15) first chain.old first (state_of store.old))
+        (outside (P.view port.old) store.old keep.old) (state_of store.new) (had (turn_with chain.new) result) (outside (P.view port.new) store.new keep.new) }
     ensures half { IfOk result (λ came. is_some store.new.half ≡ is_half came) }
     ensures same { OnErr result (store.new.half ≡ None) }
 {

@@ -43,7 +43,8 @@ module _ {F P H R : Type 0} (c : Contents F P H R) where
         (get_or-set_same s.owed t (record owe { firm = true }) no_debt lt)
         ∙ ap (λ (l : List Owed). told_by t true s.device (framed_image c s t (frame_at s t)) now (record (hardened s t) { owed = l })) (back none)
 
-  by_some : (t : ℕ) (s : Store F P H) (x : Option F) → frame_at s t ≡ x → is_some x ≡ true → is_loose s t ≡ true → (owed_at s t).firm ≡ false → t < length s.owed →
+  by_some : (t : ℕ) (s : Store F P H) (x : Option F) → frame_at s t ≡ x → is_some x ≡ true → is_loose s t ≡ true → (owed_at s t).firm ≡ false
+      → t < length s.owed →
       firm_told c t (by_frame c s t (frame_at s t)) ≡ Tell (Firm s.device t (framed_image c s t (frame_at s t))) (λ _. Done (hardened s t) tt)
   by_some t s None is some loose none lt = absurd cc
   by_some t s (Some f) is some loose none lt = harden_run t s f is loose none lt

@@ -45,6 +45,7 @@ modified_there None e = absurd cc
 modified_there (Some f) e = refl
 
 -- a track without a frame isn't loose
-pub unframed_firm : (loose : List Bool) (frames : List (Option Frame)) (t : ℕ) (b : Bool) → Holds loose frames → is_loose_in loose t ≡ b → is_modified frames t ≡ false → b ≡ false
+pub unframed_firm : (loose : List Bool) (frames : List (Option Frame)) (t : ℕ) (b : Bool) → Holds loose frames → is_loose_in loose t ≡ b
+    → is_modified frames t ≡ false → b ≡ false
 unframed_firm loose frames t true holds is none = sym (holds t is) ∙ none
 unframed_firm loose frames t false holds is none = refl

@@ -17,7 +17,8 @@ pub still_firm : (old new : List Bool) (half : Option HalfWrite) → StaysFirm o
 still_firm old new None stays e = refl
 still_firm old new (Some h) stays e = ap not (stays h.track (is_firm (is_loose_in old h.track) e))
 
-pub half_firm : (loose : List Bool) (half : Option HalfWrite) (h : HalfWrite) → half ≡ Some h → half_is_firm loose half ≡ true → is_loose_in loose h.track ≡ false
+pub half_firm : (loose : List Bool) (half : Option HalfWrite) (h : HalfWrite) → half ≡ Some h → half_is_firm loose half ≡ true
+    → is_loose_in loose h.track ≡ false
 half_firm loose None h is e = absurd cc
 half_firm loose (Some x) h is e = let same : x ≡ h = cc in ap (λ (y : HalfWrite). is_loose_in loose y.track) (sym same) ∙ is_firm (is_loose_in loose x.track) e
 

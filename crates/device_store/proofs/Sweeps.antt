@@ -100,7 +100,8 @@ module _ {F P H R : Type 0} (c : Contents F P H R) (t q : ℕ) (o : Owed) (ne : 
     at_settled_but (Some p) = at_if (q == p) at_same at_settled
 
     at_stale : At c t o y (stale_everywhere y q) (stale_everywhere (with_owed y t o) q)
-    at_stale = at_if y.paired (record { device = refl; owed = refl; image = refl; comm = refl }) (record { device = refl; owed = refl; image = refl; comm = refl })
+    at_stale = at_if y.paired (record { device = refl; owed = refl; image = refl; comm = refl })
+        (record { device = refl; owed = refl; image = refl; comm = refl })
 
   at_then : {y x z v u w : Store F P H} → At c t o y x z → At c t o x v u → w ≡ u → At c t o y v w
   at_then p r e = record {

@@ -115,7 +115,8 @@ up_on p sides.B a b = b
 
 module _ {V K I S A : Type 0} {had : Bool → Type 0} {hears : Hearing I K} (view : V → VolumeView (List ℕ)) (x y : SideVolumes V)
     {port : PortView} {keeper : K} {t : ℕ} {s : S} {o : A} {z : Outside (List ℕ) K} where
-  pub reads_on : (side : Side) {got : Option (List ℕ)} {k : Option (List ℕ) → Interaction (List ℕ) I S A} → IsThere (volume_of x side) → IsThere (volume_of y side) →
+  pub reads_on : (side : Side) {got : Option (List ℕ)} {k : Option (List ℕ) → Interaction (List ℕ) I S A} → IsThere (volume_of x side)
+      → IsThere (volume_of y side) →
       other_of y side ≡ other_of x side → ReadOf (view_in view (volume_of x side)) t got (view_in view (volume_of y side)) →
       Ran had hears (k got) (outside_of port view y keeper) s o z → Ran had hears (Read side t k) (outside_of port view x keeper) s o z
   reads_on sides.A before there other gives ran = reads_on_a view x y before there other gives ran

@@ -13,7 +13,8 @@ use Rattle.track_table.specs.Tracks as tracks
 use Rattle.track_table.specs.Tracks.{least, or_else}
 use Rattle.device_defs.specs.declared.answers.Did.TheVariants.{Recovered}
 use Rattle.device_defs.specs.Background as background
-use Rattle.device_defs.specs.Background.{is_destaged, copy_first, destage_first, recover, recovered_bytes, saved, stage, stage_first, to_copy, to_destage, to_recover, work}
+use Rattle.device_defs.specs.Background.{is_destaged, copy_first, destage_first, recover, recovered_bytes, saved, stage, stage_first, to_copy,
+    to_destage, to_recover, work}
 use Rattle.device_defs.specs.Contents.{contents}
 use Rattle.device_defs.specs.Image.{level_bytes}
 use Rattle.device_defs.specs.Losses.{framed_image, settled, slot_in}
@@ -85,7 +86,8 @@ image_of s t (Some f) i is = cc
 pub image_is : (s : StoreOf) (t : ℕ) (i : Image) → Some i ≡ frames.image_at s.frames t → i ≡ frame_in s t
 image_is s t i is = image_of s t (frame_at s t) i is
 
-pub clean_is : (s : StoreOf) (t : ℕ) (f : Option Frame) → is_some f ≡ true → frames.with_mark false f ≡ Some (record { image = framed_image contents s t f; modified = false })
+pub clean_is : (s : StoreOf) (t : ℕ) (f : Option Frame) → is_some f ≡ true → frames.with_mark false f
+    ≡ Some (record { image = framed_image contents s t f; modified = false })
 clean_is s t None there = absurd cc
 clean_is s t (Some f) there = refl
 
@@ -99,7 +101,8 @@ pub record IsOne (n : ℕ) (p : ℕ → Bool) (t : ℕ) : Type 0 where
   pub here : t < n
   pub passes : p t ≡ true
 
-one_by : (n : ℕ) (p : ℕ → Bool) (before : Option ℕ) (b : Bool) → p n ≡ b → IfSome before (IsOne n p) → IfSome (or_else before (if b then Some n else None)) (IsOne (suc n) p)
+one_by : (n : ℕ) (p : ℕ → Bool) (before : Option ℕ) (b : Bool) → p n ≡ b → IfSome before (IsOne n p)
+    → IfSome (or_else before (if b then Some n else None)) (IsOne (suc n) p)
 one_by n p (Some t) b is one = record { here = let lt = one.here in omega (arith, lt); passes = one.passes }
 one_by n p None true is one = record { here = omega arith; passes = is }
 one_by n p None false is one = tt
@@ -116,13 +119,15 @@ none_destaged s n t framed loose le =
     let lf : length s.frames ≤ t = omega (arith, framed, le) in
     rw (get_or_past s.loose t false lt, get_or_past s.frames t None lf) refl
 
-destaged_by : (s : StoreOf) (t : ℕ) (f : Option Frame) (l p : Bool) → (l ≡ true → is_some f ≡ true) → (l || (is_modified contents f && p)) ≡ true → is_some f ≡ true
+destaged_by : (s : StoreOf) (t : ℕ) (f : Option Frame) (l p : Bool) → (l ≡ true → is_some f ≡ true) → (l || (is_modified contents f && p)) ≡ true
+    → is_some f ≡ true
 destaged_by s t (Some f) l p held is = refl
 destaged_by s t None true p held is = held refl
 destaged_by s t None false p held is = absurd cc
 
 -- such a track has a frame
-pub destaged_framed : (s : StoreOf) (t : ℕ) → (is_loose s t ≡ true → is_some (frame_at s t) ≡ true) → is_destaged contents s t ≡ true → is_some (frame_at s t) ≡ true
+pub destaged_framed : (s : StoreOf) (t : ℕ) → (is_loose s t ≡ true → is_some (frame_at s t) ≡ true) → is_destaged contents s t ≡ true
+    → is_some (frame_at s t) ≡ true
 destaged_framed s t held is = destaged_by s t (frame_at s t) (is_loose s t) (is_some (patch_at s t)) held is
 
 pub if_some : (x y : Option ℕ) (p q : ℕ → Type 0) → x ≡ y → ((t : ℕ) → p t → q t) → IfSome y p → IfSome x q
@@ -143,7 +148,8 @@ destages s up = up_by (some_up s) (least (tracks_of s) (is_destaged contents s))
 
 -- The first part of a write, by which side is up
 
-pub written_b : (s : StoreOf) (t : ℕ) (r : List ℕ) → s.a.up ≡ false → takes_b s ≡ true → write_first contents s t r ≡ write_side contents s B t r (alone_b contents t None B)
+pub written_b : (s : StoreOf) (t : ℕ) (r : List ℕ) → s.a.up ≡ false → takes_b s ≡ true → write_first contents s t r
+    ≡ write_side contents s B t r (alone_b contents t None B)
 unfolding writing.write_first
 written_b s t r down takes = rw (down, takes) refl
 

@@ -47,7 +47,8 @@ impl<V: Volume> DeviceStore<V> {
         ensures opened { OnlyBackground self.new.half }
         ensures weight { weight self.new.loose ≡ weight self.old.loose }
         ensures takes { Takes K.takes keep.new self.new.number (self.new.cylinders * 15) }
-        ensures run { Ran (where_ok result) K.hears (stage_first contents (state_of self.old) self.old.queue) (outside (P.view port.old) self.old keep.old) (state_of self.new) (had (λ did. did) result) (outside (P.view port.new) self.new keep.new) }
+        ensures run { Ran (where_ok result) K.hears (stage_first contents (state_of self.old) self.old.queue)
+            (outside (P.view port.old) self.old keep.old) (state_of self.new) (had (λ did. did) result) (outside (P.view port.new) self.new keep.new) }
     {
         match self.next_queued() {
             Some(t) => self.stage(t, port, keep),
@@ -70,7 +71,8 @@ impl<V: Volume> DeviceStore<V> {
         ensures opened { OnlyBackground self.new.half }
         ensures weight { weight self.new.loose ≡ weight self.old.loose }
         ensures takes { Takes K.takes keep.new self.new.number (self.new.cylinders * 15) }
-        ensures run { Ran (where_ok result) K.hears (copy_first contents (state_of self.old) (to_copy (state_of self.old))) (outside (P.view port.old) self.old keep.old) (state_of self.new) (had (λ did. did) result) (outside (P.view port.new) self.new keep.new) }
+        ensures run { Ran (where_ok result) K.hears (copy_first contents (state_of self.old) (to_copy (state_of self.old)))
+            (outside (P.view port.old) self.old keep.old) (state_of self.new) (had (λ did. did) result) (outside (P.view port.new) self.new keep.new) }
     {
         match self.to_copy() {
             Some(t) => Ok(self.copy_one(t, keep)),
@@ -91,7 +93,8 @@ impl<V: Volume> DeviceStore<V> {
         ensures opened { OnlyBackground self.new.half }
         ensures weight { weight self.new.loose ≡ weight self.old.loose }
         ensures takes { Takes K.takes keep.new self.new.number (self.new.cylinders * 15) }
-        ensures run { Ran (where_ok result) K.hears (work contents (state_of self.old)) (outside (P.view port.old) self.old keep.old) (state_of self.new) (had (λ did. did) result) (outside (P.view port.new) self.new keep.new) }
+        ensures run { Ran (where_ok result) K.hears (work contents (state_of self.old)) (outside (P.view port.old) self.old keep.old)
+            (state_of self.new) (had (λ did. did) result) (outside (P.view port.new) self.new keep.new) }
     {
         match self.to_recover() {
             Some(t) => self.recover(t, port, keep),

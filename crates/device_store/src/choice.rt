@@ -29,7 +29,8 @@ impl<V: Volume> DeviceStore<V> {
         requires { is_some (patch_at (state_of self.now) t) ≡ false }
         ensures same { (p : PortView) → Answered p WantSlot (grants.Given slot) (P.view port.old) → result ≡ Through → p ≡ P.view port.new }
         ensures fits { Fits false (is_some (patch_at (state_of self.now) t)) result }
-        ensures run { (k : K) → Ran surely K.hears (slot_by contents (state_of self.now) t (grants.Given slot)) (outside (P.view port.old) self.now k) (state_of self.now) result (outside (P.view port.new) self.now k) }
+        ensures run { (k : K) → Ran surely K.hears (slot_by contents (state_of self.now) t (grants.Given slot)) (outside (P.view port.old) self.now k)
+            (state_of self.now) result (outside (P.view port.new) self.now k) }
     {
         if port.set_modified(self.number, t) {
             return Choice::Fast(Some(slot));
@@ -43,7 +44,8 @@ impl<V: Volume> DeviceStore<V> {
         requires { is_some (patch_at (state_of self.now) t) ≡ false }
         ensures same { result ≡ Through → P.view port.old ≡ P.view port.new }
         ensures fits { Fits false (is_some (patch_at (state_of self.now) t)) result }
-        ensures run { (k : K) → Ran surely K.hears (Ask WantSlot (slot_by contents (state_of self.now) t)) (outside (P.view port.old) self.now k) (state_of self.now) result (outside (P.view port.new) self.now k) }
+        ensures run { (k : K) → Ran surely K.hears (Ask WantSlot (slot_by contents (state_of self.now) t)) (outside (P.view port.old) self.now k)
+            (state_of self.now) result (outside (P.view port.new) self.now k) }
     {
         match port.want_slot() {
             SlotGrant::Given(slot) => self.with_slot::<P, K>(t, slot, port),
@@ -55,7 +57,8 @@ impl<V: Volume> DeviceStore<V> {
     fn choose_fast<P: Port, K: Keep<TrackImage>>(&self, t: TrackNo, port: &mut P) -> Choice
         ensures same { result ≡ Through → P.view port.old ≡ P.view port.new }
         ensures fits { Fits false (is_some (patch_at (state_of self.now) t)) result }
-        ensures run { (k : K) → Ran surely K.hears (fast_by contents (state_of self.now) t (is_some (patch_at (state_of self.now) t))) (outside (P.view port.old) self.now k) (state_of self.now) result (outside (P.view port.new) self.now k) }
+        ensures run { (k : K) → Ran surely K.hears (fast_by contents (state_of self.now) t (is_some (patch_at (state_of self.now) t)))
+            (outside (P.view port.old) self.now k) (state_of self.now) result (outside (P.view port.new) self.now k) }
     {
         if self.patches.has(t) {
             if port.set_modified(self.number, t) {
@@ -81,7 +84,8 @@ impl<V: Volume> DeviceStore<V> {
     ) -> Choice
         ensures same { result ≡ Through → P.view port.old ≡ P.view port.new }
         ensures fits { Fits false (is_some (patch_at (state_of self.now) t)) result }
-        ensures run { (k : K) → Ran surely K.hears (fast_or_through contents (state_of self.now) usage.now t) (outside (P.view port.old) self.now k) (state_of self.now) result (outside (P.view port.new) self.now k) }
+        ensures run { (k : K) → Ran surely K.hears (fast_or_through contents (state_of self.now) usage.now t) (outside (P.view port.old) self.now k)
+            (state_of self.now) result (outside (P.view port.new) self.now k) }
     {
         if self.may_be_fast(usage, t) {
             return self.choose_fast::<P, K>(t, port);
@@ -98,7 +102,8 @@ impl<V: Volume> DeviceStore<V> {
     ) -> Choice
         ensures same { result ≡ Through → P.view port.old ≡ P.view port.new }
         ensures fits { Fits usage.now.provisional (is_some (patch_at (state_of self.now) t)) result }
-        ensures run { (k : K) → Ran surely K.hears (choose_loose contents (state_of self.now) usage.now t) (outside (P.view port.old) self.now k) (state_of self.now) result (outside (P.view port.new) self.now k) }
+        ensures run { (k : K) → Ran surely K.hears (choose_loose contents (state_of self.now) usage.now t) (outside (P.view port.old) self.now k)
+            (state_of self.now) result (outside (P.view port.new) self.now k) }
     {
         if usage.provisional {
             if port.set_modified(self.number, t) {
@@ -125,7 +130,9 @@ impl<V: Volume> DeviceStore<V> {
         requires { usage.now.provisional ≡ true }
         ensures same { result ≡ Through → P.view port.old ≡ P.view port.new }
         ensures fits { Fits usage.now.provisional (is_some (patch_at (state_of self.now) t)) result }
-        ensures run { (k : K) → Ran surely K.hears (Ask (SetModified self.now.number t) (λ listed. if listed then Done (state_of self.now) Provisional else fast_or_through contents (state_of self.now) usage.now t)) (outside (P.view port.old) self.now k) (state_of self.now) result (outside (P.view port.new) self.now k) }
+        ensures run { (k : K) → Ran surely K.hears (Ask (SetModified self.now.number t)
+            (λ listed. if listed then Done (state_of self.now) Provisional else fast_or_through contents (state_of self.now) usage.now t))
+            (outside (P.view port.old) self.now k) (state_of self.now) result (outside (P.view port.new) self.now k) }
     {
         if port.set_modified(self.number, t) {
             return Choice::Provisional;
@@ -141,7 +148,8 @@ impl<V: Volume> DeviceStore<V> {
     ) -> Choice
         ensures same { result ≡ Through → P.view port.old ≡ P.view port.new }
         ensures fits { Fits usage.now.provisional (is_some (patch_at (state_of self.now) t)) result }
-        ensures run { (k : K) → Ran surely K.hears (choose_firm contents (state_of self.now) usage.now t) (outside (P.view port.old) self.now k) (state_of self.now) result (outside (P.view port.new) self.now k) }
+        ensures run { (k : K) → Ran surely K.hears (choose_firm contents (state_of self.now) usage.now t) (outside (P.view port.old) self.now k)
+            (state_of self.now) result (outside (P.view port.new) self.now k) }
     {
         if self.may_be_provisional(usage, t) {
             return self.choose_clean::<P, K>(usage, t, port);
@@ -158,7 +166,8 @@ impl<V: Volume> DeviceStore<V> {
     ) -> Choice
         ensures same { result ≡ Through → P.view port.old ≡ P.view port.new }
         ensures fits { Fits usage.now.provisional (is_some (patch_at (state_of self.now) t)) result }
-        ensures run { (k : K) → Ran surely K.hears (choose contents (state_of self.now) usage.now t) (outside (P.view port.old) self.now k) (state_of self.now) result (outside (P.view port.new) self.now k) }
+        ensures run { (k : K) → Ran surely K.hears (choose contents (state_of self.now) usage.now t) (outside (P.view port.old) self.now k)
+            (state_of self.now) result (outside (P.view port.new) self.now k) }
     {
         if self.loose.has(t) {
             return self.choose_loose::<P, K>(usage, t, port);

@@ -47,7 +47,8 @@ impl<V: Volume> DeviceStore<V> {
         ensures half { self.new.half ≡ self.old.half }
         ensures weight { weight self.new.loose ≡ weight self.old.loose }
         ensures takes { Takes K.takes keep.new self.new.number (self.new.cylinders * 15) }
-        ensures run { (p : PortView) → Ran surely K.hears (copied contents t side (state_of self.old) took) (outside p self.old keep.old) (state_of self.new) (Some result) (outside p self.new keep.new) }
+        ensures run { (p : PortView) → Ran surely K.hears (copied contents t side (state_of self.old) took) (outside p self.old keep.old)
+            (state_of self.new) (Some result) (outside p self.new keep.new) }
     {
         if took {
             self.mark(side, t, false);
@@ -67,7 +68,8 @@ impl<V: Volume> DeviceStore<V> {
         ensures half { self.new.half ≡ self.old.half }
         ensures weight { weight self.new.loose ≡ weight self.old.loose }
         ensures takes { Takes K.takes keep.new self.new.number (self.new.cylinders * 15) }
-        ensures run { (p : PortView) → Ran surely K.hears (copy_by contents (state_of self.old) t (Some side)) (outside p self.old keep.old) (state_of self.new) (Some result) (outside p self.new keep.new) }
+        ensures run { (p : PortView) → Ran surely K.hears (copy_by contents (state_of self.old) t (Some side)) (outside p self.old keep.old)
+            (state_of self.new) (Some result) (outside p self.new keep.new) }
     {
         let from = other(side);
         match self.pair.read(from, t, &mut self.buffer) {
@@ -93,7 +95,8 @@ impl<V: Volume> DeviceStore<V> {
         ensures half { self.new.half ≡ self.old.half }
         ensures weight { weight self.new.loose ≡ weight self.old.loose }
         ensures takes { Takes K.takes keep.new self.new.number (self.new.cylinders * 15) }
-        ensures run { (p : PortView) → Ran surely K.hears (copy_by contents (state_of self.old) t (copies_to (state_of self.old) t)) (outside p self.old keep.old) (state_of self.new) (Some result) (outside p self.new keep.new) }
+        ensures run { (p : PortView) → Ran surely K.hears (copy_by contents (state_of self.old) t (copies_to (state_of self.old) t))
+            (outside p self.old keep.old) (state_of self.new) (Some result) (outside p self.new keep.new) }
     {
         match self.pair.copies_to(t) {
             None => Did::Nothing,

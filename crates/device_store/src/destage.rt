@@ -55,7 +55,10 @@ impl<V: Volume> DeviceStore<V> {
         ensures fixed { (self.new.number ≡ self.old.number) × (self.new.cylinders ≡ self.old.cylinders) }
         ensures half { self.new.half ≡ self.old.half }
         ensures loose { self.new.loose ≡ self.old.loose }
-        ensures run { (k : K) (was_loose : Bool) → Ran surely K.hears (and_then (write_first contents (state_of self.old) t (track_bytes (frame_in (state_of self.old) t).track)) (λ y w. saved_by contents t (frame_in (state_of self.old) t) done None was_loose w.fault y w.took)) (outside (P.view port.old) self.old k) (state_of self.new) result (outside (P.view port.new) self.new k) }
+        ensures run { (k : K) (was_loose : Bool) → Ran surely K.hears
+            (and_then (write_first contents (state_of self.old) t (track_bytes (frame_in (state_of self.old) t).track))
+            (λ y w. saved_by contents t (frame_in (state_of self.old) t) done None was_loose w.fault y w.took)) (outside (P.view port.old) self.old k)
+            (state_of self.new) result (outside (P.view port.new) self.new k) }
     {
         let written = self.write_frame::<K>(t);
         match written.took {
@@ -84,7 +87,8 @@ impl<V: Volume> DeviceStore<V> {
         ensures half { self.new.half ≡ self.old.half }
         ensures weight { weight self.new.loose ≡ weight self.old.loose }
         ensures takes { Takes K.takes keep.new self.new.number (self.new.cylinders * 15) }
-        ensures run { Ran surely K.hears (saving contents (state_of self.old) t (frame_in (state_of self.old) t) done None) (outside (P.view port.old) self.old keep.old) (state_of self.new) result (outside (P.view port.new) self.new keep.new) }
+        ensures run { Ran surely K.hears (saving contents (state_of self.old) t (frame_in (state_of self.old) t) done None)
+            (outside (P.view port.old) self.old keep.old) (state_of self.new) result (outside (P.view port.new) self.new keep.new) }
     {
         self.firm_first(t, keep);
         self.save_firm::<P, K>(t, done, port)
@@ -107,7 +111,8 @@ impl<V: Volume> DeviceStore<V> {
         ensures opened { OnlyBackground self.new.half }
         ensures weight { weight self.new.loose ≡ weight self.old.loose }
         ensures takes { Takes K.takes keep.new self.new.number (self.new.cylinders * 15) }
-        ensures run { Ran (where_ok result) K.hears (saved contents (state_of self.old) t (frame_in (state_of self.old) t) done None) (outside (P.view port.old) self.old keep.old) (state_of self.new) (had (λ did. did) result) (outside (P.view port.new) self.new keep.new) }
+        ensures run { Ran (where_ok result) K.hears (saved contents (state_of self.old) t (frame_in (state_of self.old) t) done None)
+            (outside (P.view port.old) self.old keep.old) (state_of self.new) (had (λ did. did) result) (outside (P.view port.new) self.new keep.new) }
     {
         if !self.pair.is_paired() {
             return Ok(self.save_alone(t, done, port, keep));

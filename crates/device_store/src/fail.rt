@@ -50,7 +50,8 @@ impl<V: Volume> DeviceStore<V> {
         ensures weight { weight self.new.loose ≡ weight self.old.loose }
         ensures firm { StaysFirm self.old.loose.loose self.new.loose.loose }
         ensures takes { Takes K.takes keep.new self.new.number (self.new.cylinders * 15) }
-        ensures run { (p : PortView) → Ran surely K.hears (firm_told contents t (settled_but contents writing.now t (state_of self.old))) (outside p self.old keep.old) (state_of self.new) tt (outside p self.new keep.new) }
+        ensures run { (p : PortView) → Ran surely K.hears (firm_told contents t (settled_but contents writing.now t (state_of self.old)))
+            (outside p self.old keep.old) (state_of self.new) tt (outside p self.new keep.new) }
     {
         if is_written(writing, t) {
             self.owed.no_firm();
@@ -68,7 +69,9 @@ impl<V: Volume> DeviceStore<V> {
         ensures weight { weight self.new.loose ≡ weight self.old.loose }
         ensures firm { StaysFirm self.old.loose.loose self.new.loose.loose }
         ensures takes { Takes K.takes keep.new self.new.number (self.new.cylinders * 15) }
-        ensures run { (p : PortView) → Ran surely K.hears (all_firm_told contents (self.old.cylinders * 15) (over (self.old.cylinders * 15) (settled_but contents writing.now) (state_of self.old))) (outside p self.old keep.old) (state_of self.new) tt (outside p self.new keep.new) }
+        ensures run { (p : PortView) → Ran surely K.hears
+            (all_firm_told contents (self.old.cylinders * 15) (over (self.old.cylinders * 15) (settled_but contents writing.now) (state_of self.old)))
+            (outside p self.old keep.old) (state_of self.new) tt (outside p self.new keep.new) }
     {
         let tracks = u16::from(self.cylinders) * HEADS;
         for t in 0..tracks {
@@ -91,7 +94,9 @@ impl<V: Volume> DeviceStore<V> {
         ensures weight { weight self.new.loose ≡ weight self.old.loose }
         ensures firm { StaysFirm self.old.loose.loose self.new.loose.loose }
         ensures takes { Takes K.takes keep.new self.new.number (self.new.cylinders * 15) }
-        ensures run { (p : PortView) → Ran surely K.hears (all_firm_told contents (self.old.cylinders * 15) (side_lost contents (state_of self.old) side writing)) (outside p self.old keep.old) (state_of self.new) tt (outside p self.new keep.new) }
+        ensures run { (p : PortView) → Ran surely K.hears
+            (all_firm_told contents (self.old.cylinders * 15) (side_lost contents (state_of self.old) side writing)) (outside p self.old keep.old)
+            (state_of self.new) tt (outside p self.new keep.new) }
     {
         self.down(side);
         self.settle_all(&writing, keep);
@@ -112,7 +117,8 @@ impl<V: Volume> DeviceStore<V> {
         ensures weight { weight self.new.loose ≡ weight self.old.loose }
         ensures firm { StaysFirm self.old.loose.loose self.new.loose.loose }
         ensures takes { Takes K.takes keep.new self.new.number (self.new.cylinders * 15) }
-        ensures run { (p : PortView) → Ran surely K.hears (call_failed contents (state_of self.old) side writing) (outside p self.old keep.old) (state_of self.new) tt (outside p self.new keep.new) }
+        ensures run { (p : PortView) → Ran surely K.hears (call_failed contents (state_of self.old) side writing) (outside p self.old keep.old)
+            (state_of self.new) tt (outside p self.new keep.new) }
     {
         if self.pair.is_paired() {
             self.lose_side(side, writing, keep);

@@ -36,7 +36,8 @@ fn edit_frame(frames: &mut Frames, records: &mut RecordRoom, t: TrackNo, edit: E
     requires there { is_some (framed.frame_at frames.old t) ≡ true }
     requires suits { SuitsFrame edit (framed.frame_at frames.old t) }
     requires room { HasFrameRoom edit (framed.frame_at frames.old t) records.old }
-    ensures frames { (s : StoreOf) → s.frames ≡ frames.old → frames.new ≡ slice_set frames.old t (Some (record { image = edited_image edit (frame_in s t); modified = true })) }
+    ensures frames { (s : StoreOf) → s.frames ≡ frames.old → frames.new
+        ≡ slice_set frames.old t (Some (record { image = edited_image edit (frame_in s t); modified = true })) }
 {
     let Some(frame) = frames.take(t) else {
         unreachable!()
@@ -61,7 +62,8 @@ fn edit_firm<K: Keep<TrackImage>>(
     requires suits { SuitsFrame edit (framed.frame_at frames.old t) }
     requires room { HasFrameRoom edit (framed.frame_at frames.old t) records.old }
     requires takes { (i : Image) → K.takes keep.old d t i }
-    ensures frames { (s : StoreOf) → s.frames ≡ frames.old → frames.new ≡ slice_set frames.old t (Some (record { image = edited_image edit (frame_in s t); modified = true })) }
+    ensures frames { (s : StoreOf) → s.frames ≡ frames.old → frames.new
+        ≡ slice_set frames.old t (Some (record { image = edited_image edit (frame_in s t); modified = true })) }
     ensures told { (s : StoreOf) → s.frames ≡ frames.old → Heard K.hears K.takes keep.old (Firm d t (edited_image edit (frame_in s t))) tt keep.new }
 {
     let Some(frame) = frames.take(t) else {
@@ -113,7 +115,9 @@ impl<V: Volume> DeviceStore<V> {
         ensures half { self.new.half ≡ self.old.half }
         ensures takes { Takes K.takes keep.new self.new.number (self.new.cylinders * 15) }
         ensures loose { self.new.loose ≡ self.old.loose }
-        ensures run { (u : Usage) (first : ℕ) (p : PortView) → Ran surely K.hears (write_by contents u first t (edited_image edit (frame_in (state_of self.old) t)) edit (state_of self.old) (Fast slot)) (outside p self.old keep.old) (state_of self.new) Whole (outside p self.new keep.new) }
+        ensures run { (u : Usage) (first : ℕ) (p : PortView)
+            → Ran surely K.hears (write_by contents u first t (edited_image edit (frame_in (state_of self.old) t)) edit (state_of self.old)
+            (Fast slot)) (outside p self.old keep.old) (state_of self.new) Whole (outside p self.new keep.new) }
     {
         edit_firm(
             &mut self.frames,
@@ -138,7 +142,8 @@ impl<V: Volume> DeviceStore<V> {
         ensures half { self.new.half ≡ self.old.half }
         ensures volume { self.new.pair.volumes ≡ self.old.pair.volumes }
         ensures weight { weight self.new.loose ≤ weight self.old.loose + 2 }
-        ensures state { (e : Edit) → state_of self.new ≡ provisionally_written contents (state_of self.old) t (edited_image edit (frame_in (state_of self.old) t)) e }
+        ensures state { (e : Edit) → state_of self.new
+            ≡ provisionally_written contents (state_of self.old) t (edited_image edit (frame_in (state_of self.old) t)) e }
     {
         edit_frame(&mut self.frames, &mut self.records, t, edit);
         if self.loose.has(t) {
@@ -171,7 +176,9 @@ impl<V: Volume> DeviceStore<V> {
         ensures same { OnErr result (self.new.half ≡ self.old.half) }
         ensures takes { Takes K.takes keep.new self.new.number (self.new.cylinders * 15) }
         ensures loose { self.new.loose ≡ self.old.loose }
-        ensures run { (u : Usage) (first : ℕ) → Ran (where_ok result) K.hears (write_chosen contents u first t (frame_in (state_of self.old) t) edit (state_of self.old) (Fast slot)) (outside (P.view port.old) self.old keep.old) (state_of self.new) (had (λ took. took) result) (outside (P.view port.new) self.new keep.new) }
+        ensures run { (u : Usage) (first : ℕ) → Ran (where_ok result) K.hears
+            (write_chosen contents u first t (frame_in (state_of self.old) t) edit (state_of self.old) (Fast slot))
+            (outside (P.view port.old) self.old keep.old) (state_of self.new) (had (λ took. took) result) (outside (P.view port.new) self.new keep.new) }
     {
         match self.tell_frame(t, keep) {
             Err(NoMemory) => {
@@ -205,7 +212,9 @@ impl<V: Volume> DeviceStore<V> {
         ensures same { OnErr result (self.new.half ≡ self.old.half) }
         ensures takes { Takes K.takes keep.new self.new.number (self.new.cylinders * 15) }
         ensures weight { weight self.new.loose ≤ weight self.old.loose + 2 }
-        ensures run { (u : Usage) (first : ℕ) → Ran (where_ok result) K.hears (write_chosen contents u first t (frame_in (state_of self.old) t) edit (state_of self.old) Provisional) (outside (P.view port.old) self.old keep.old) (state_of self.new) (had (λ took. took) result) (outside (P.view port.new) self.new keep.new) }
+        ensures run { (u : Usage) (first : ℕ) → Ran (where_ok result) K.hears
+            (write_chosen contents u first t (frame_in (state_of self.old) t) edit (state_of self.old) Provisional)
+            (outside (P.view port.old) self.old keep.old) (state_of self.new) (had (λ took. took) result) (outside (P.view port.new) self.new keep.new) }
     {
         match self.tell_frame(t, keep) {
             Err(NoMemory) => {
@@ -253,7 +262,9 @@ impl<V: Volume> DeviceStore<V> {
         ensures same { OnErr result (self.new.half ≡ self.old.half) }
         ensures takes { Takes K.takes keep.new self.new.number (self.new.cylinders * 15) }
         ensures weight { weight self.new.loose ≤ weight self.old.loose + 2 }
-        ensures run { Ran (where_ok result) K.hears (write_chosen contents usage.now first t (frame_in (state_of self.old) t) edit (state_of self.old) Through) (outside (P.view port.old) self.old keep.old) (state_of self.new) (had (λ took. took) result) (outside (P.view port.new) self.new keep.new) }
+        ensures run { Ran (where_ok result) K.hears
+            (write_chosen contents usage.now first t (frame_in (state_of self.old) t) edit (state_of self.old) Through)
+            (outside (P.view port.old) self.old keep.old) (state_of self.new) (had (λ took. took) result) (outside (P.view port.new) self.new keep.new) }
     {
         let choice = Choice::Through;
         if self.is_given(choice) {
@@ -286,7 +297,11 @@ impl<V: Volume> DeviceStore<V> {
         ensures same { OnErr result (self.new.half ≡ self.old.half) }
         ensures takes { Takes K.takes keep.new self.new.number (self.new.cylinders * 15) }
         ensures weight { weight self.new.loose ≤ weight self.old.loose + 2 }
-        ensures run { (p : PortView) → p ≡ P.view port.old → Ran surely K.hears (choose contents (state_of self.old) usage.now t) (outside p self.old keep.old) (state_of self.old) Through (outside (P.view port.old) self.old keep.old) → Ran (where_ok result) K.hears (write contents (state_of self.old) usage.now first t (frame_in (state_of self.old) t) edit) (outside p self.old keep.old) (state_of self.new) (had (λ took. took) result) (outside (P.view port.new) self.new keep.new) }
+        ensures run { (p : PortView) → p ≡ P.view port.old
+            → Ran surely K.hears (choose contents (state_of self.old) usage.now t) (outside p self.old keep.old) (state_of self.old) Through
+            (outside (P.view port.old) self.old keep.old)
+            → Ran (where_ok result) K.hears (write contents (state_of self.old) usage.now first t (frame_in (state_of self.old) t) edit)
+            (outside p self.old keep.old) (state_of self.new) (had (λ took. took) result) (outside (P.view port.new) self.new keep.new) }
     {
         match self.edited_frame(t, copy) {
             Err(NoMemory) => Err(NoMemory),
@@ -319,7 +334,8 @@ impl<V: Volume> DeviceStore<V> {
         ensures same { OnErr result (self.new.half ≡ self.old.half) }
         ensures takes { Takes K.takes keep.new self.new.number (self.new.cylinders * 15) }
         ensures weight { weight self.new.loose ≤ weight self.old.loose + 2 }
-        ensures run { Ran (where_ok result) K.hears (write contents (state_of self.old) usage.now first t (frame_in (state_of self.old) t) edit) (outside (P.view port.old) self.old keep.old) (state_of self.new) (had (λ took. took) result) (outside (P.view port.new) self.new keep.new) }
+        ensures run { Ran (where_ok result) K.hears (write contents (state_of self.old) usage.now first t (frame_in (state_of self.old) t) edit)
+            (outside (P.view port.old) self.old keep.old) (state_of self.new) (had (λ took. took) result) (outside (P.view port.new) self.new keep.new) }
     {
         let choice = self.choose::<P, K>(usage, t, port);
         match choice {
@@ -349,7 +365,8 @@ impl<V: Volume> DeviceStore<V> {
         ensures same { OnErr result (self.new.half ≡ self.old.half) }
         ensures takes { Takes K.takes keep.new self.new.number (self.new.cylinders * 15) }
         ensures weight { weight self.new.loose ≤ weight self.old.loose + 2 }
-        ensures run { Ran (where_ok result) K.hears (write contents (state_of self.old) usage.now first t (frame_in (state_of self.old) t) edit) (outside (P.view port.old) self.old keep.old) (state_of self.new) (had (λ took. took) result) (outside (P.view port.new) self.new keep.new) }
+        ensures run { Ran (where_ok result) K.hears (write contents (state_of self.old) usage.now first t (frame_in (state_of self.old) t) edit)
+            (outside (P.view port.old) self.old keep.old) (state_of self.new) (had (λ took. took) result) (outside (P.view port.new) self.new keep.new) }
     {
         let copy = match self.room_framed(usage, t, &edit) {
             Err(NoMemory) => return Err(NoMemory),

@@ -89,7 +89,8 @@ impl<V: Volume> DeviceStore<V> {
         ensures loose { self.new.loose ≡ self.old.loose }
         ensures there { is_some (frame_at (state_of self.new) t) ≡ true }
         ensures image { frame_in (state_of self.new) t ≡ image }
-        ensures run { (k : K) → Ran surely K.hears (filled contents (state_of self.old) t image) (outside (P.view port.old) self.old k) (state_of self.new) tt (outside (P.view port.new) self.new k) }
+        ensures run { (k : K) → Ran surely K.hears (filled contents (state_of self.old) t image) (outside (P.view port.old) self.old k)
+            (state_of self.new) tt (outside (P.view port.new) self.new k) }
     {
         if self.patches.has(t) {
             port.set_modified(self.number, t);

@@ -97,7 +97,8 @@ impl<V: Volume> DeviceStore<V> {
         ensures weight { weight self.new.loose ≡ weight self.old.loose }
         ensures firm { StaysFirm self.old.loose.loose self.new.loose.loose }
         ensures takes { Takes K.takes keep.new self.new.number (self.new.cylinders * 15) }
-        ensures run { (p : PortView) → Ran surely K.hears (read_b contents (state_of self.old) t fault) (outside p self.old keep.old) (state_of self.new) (got_by self.new.buffer result) (outside p self.new keep.new) }
+        ensures run { (p : PortView) → Ran surely K.hears (read_b contents (state_of self.old) t fault) (outside p self.old keep.old)
+            (state_of self.new) (got_by self.new.buffer result) (outside p self.new keep.new) }
     {
         let side = Side::B;
         if !self.pair.is_level(Side::B, t) {
@@ -130,7 +131,8 @@ impl<V: Volume> DeviceStore<V> {
         ensures weight { weight self.new.loose ≡ weight self.old.loose }
         ensures firm { StaysFirm self.old.loose.loose self.new.loose.loose }
         ensures takes { Takes K.takes keep.new self.new.number (self.new.cylinders * 15) }
-        ensures run { (p : PortView) → Ran surely K.hears (level_bytes contents (state_of self.old) t) (outside p self.old keep.old) (state_of self.new) (got_by self.new.buffer result) (outside p self.new keep.new) }
+        ensures run { (p : PortView) → Ran surely K.hears (level_bytes contents (state_of self.old) t) (outside p self.old keep.old)
+            (state_of self.new) (got_by self.new.buffer result) (outside p self.new keep.new) }
     {
         if !self.pair.is_level(Side::A, t) {
             return self.read_b(t, None, keep);
@@ -213,7 +215,8 @@ impl<V: Volume> DeviceStore<V> {
         ensures half { self.new.half ≡ self.old.half }
         ensures loose { self.new.loose ≡ self.old.loose }
         ensures there { IfOk result (IsThere (state_of self.new) t) }
-        ensures run { (k : K) → Ran (where_ok result) K.hears (loaded contents (state_of self.old) t image mode) (outside (P.view port.old) self.old k) (state_of self.new) (had (imaged (state_of self.new) t) result) (outside (P.view port.new) self.new k) }
+        ensures run { (k : K) → Ran (where_ok result) K.hears (loaded contents (state_of self.old) t image mode)
+            (outside (P.view port.old) self.old k) (state_of self.new) (had (imaged (state_of self.new) t) result) (outside (P.view port.new) self.new k) }
     {
         if !loads(mode) {
             return Ok(Looked::Has(image));
@@ -244,7 +247,9 @@ impl<V: Volume> DeviceStore<V> {
         ensures half { self.new.half ≡ self.old.half }
         ensures loose { self.new.loose ≡ self.old.loose }
         ensures there { IfOk result (IsThere (state_of self.new) t) }
-        ensures run { (k : K) → Ran (where_ok result) K.hears (missed contents usage.now t (state_of self.old) (got side (Some self.old.buffer) None) (Some self.old.buffer)) (outside (P.view port.old) self.old k) (state_of self.new) (had (imaged (state_of self.new) t) result) (outside (P.view port.new) self.new k) }
+        ensures run { (k : K) → Ran (where_ok result) K.hears
+            (missed contents usage.now t (state_of self.old) (got side (Some self.old.buffer) None) (Some self.old.buffer))
+            (outside (P.view port.old) self.old k) (state_of self.new) (had (imaged (state_of self.new) t) result) (outside (P.view port.new) self.new k) }
     {
         match self.image_of(t) {
             Err(NoMemory) => Err(NoMemory),
@@ -273,7 +278,8 @@ impl<V: Volume> DeviceStore<V> {
         ensures weight { weight self.new.loose ≡ weight self.old.loose }
         ensures takes { Takes K.takes keep.new self.new.number (self.new.cylinders * 15) }
         ensures there { IfOk result (IsThere (state_of self.new) t) }
-        ensures run { Ran (where_ok result) K.hears (miss contents (state_of self.old) usage.now t) (outside (P.view port.old) self.old keep.old) (state_of self.new) (had (imaged (state_of self.new) t) result) (outside (P.view port.new) self.new keep.new) }
+        ensures run { Ran (where_ok result) K.hears (miss contents (state_of self.old) usage.now t) (outside (P.view port.old) self.old keep.old)
+            (state_of self.new) (had (imaged (state_of self.new) t) result) (outside (P.view port.new) self.new keep.new) }
     {
         let got = self.level_bytes(t, keep);
         if got.given {
@@ -301,7 +307,8 @@ impl<V: Volume> DeviceStore<V> {
         ensures weight { weight self.new.loose ≡ weight self.old.loose }
         ensures takes { Takes K.takes keep.new self.new.number (self.new.cylinders * 15) }
         ensures there { IfOk result (IsThere (state_of self.new) t) }
-        ensures run { Ran (where_ok result) K.hears (clean_by (state_of self.old) usage.now t) (outside (P.view port.old) self.old keep.old) (state_of self.new) (had (imaged (state_of self.new) t) result) (outside (P.view port.new) self.new keep.new) }
+        ensures run { Ran (where_ok result) K.hears (clean_by (state_of self.old) usage.now t) (outside (P.view port.old) self.old keep.old)
+            (state_of self.new) (had (imaged (state_of self.new) t) result) (outside (P.view port.new) self.new keep.new) }
     {
         if is_bypass(usage.mode) {
             return self.miss(usage, t, port, keep);
@@ -329,7 +336,8 @@ impl<V: Volume> DeviceStore<V> {
         ensures weight { weight self.new.loose ≡ weight self.old.loose }
         ensures takes { Takes K.takes keep.new self.new.number (self.new.cylinders * 15) }
         ensures there { IfOk result (IsThere (state_of self.new) t) }
-        ensures run { Ran (where_ok result) K.hears (image contents (state_of self.old) usage.now t) (outside (P.view port.old) self.old keep.old) (state_of self.new) (had (imaged (state_of self.new) t) result) (outside (P.view port.new) self.new keep.new) }
+        ensures run { Ran (where_ok result) K.hears (image contents (state_of self.old) usage.now t) (outside (P.view port.old) self.old keep.old)
+            (state_of self.new) (had (imaged (state_of self.new) t) result) (outside (P.view port.new) self.new keep.new) }
     {
         if self.frames.modified(t) {
             return Ok(Looked::Frame);

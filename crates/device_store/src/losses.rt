@@ -120,7 +120,8 @@ impl<V: Volume> DeviceStore<V> {
         ensures half { self.new.half ≡ self.old.half }
         ensures weight { weight self.new.loose ≡ weight self.old.loose }
         ensures takes { Takes K.takes keep.new self.new.number (self.new.cylinders * 15) }
-        ensures run { (p : PortView) → Ran surely K.hears (firm_told contents t (patch_lost contents t (state_of self.old))) (outside p self.old keep.old) (state_of self.new) tt (outside p self.new keep.new) }
+        ensures run { (p : PortView) → Ran surely K.hears (firm_told contents t (patch_lost contents t (state_of self.old)))
+            (outside p self.old keep.old) (state_of self.new) tt (outside p self.new keep.new) }
     {
         if !self.patches.has(t) {
             self.owed.no_firm();
@@ -144,7 +145,8 @@ impl<V: Volume> DeviceStore<V> {
         ensures half { self.new.half ≡ self.old.half }
         ensures weight { weight self.new.loose ≡ weight self.old.loose }
         ensures takes { Takes K.takes keep.new self.new.number (self.new.cylinders * 15) }
-        ensures run { (p : PortView) → Ran surely K.hears (all_firm_told contents (self.old.cylinders * 15) (store_lost contents (state_of self.old))) (outside p self.old keep.old) (state_of self.new) tt (outside p self.new keep.new) }
+        ensures run { (p : PortView) → Ran surely K.hears (all_firm_told contents (self.old.cylinders * 15) (store_lost contents (state_of self.old)))
+            (outside p self.old keep.old) (state_of self.new) tt (outside p self.new keep.new) }
     {
         let tracks = u16::from(self.cylinders) * HEADS;
         for t in 0..tracks {
@@ -160,7 +162,9 @@ impl<V: Volume> DeviceStore<V> {
         ensures half { self.new.half ≡ self.old.half }
         ensures weight { weight self.new.loose ≤ weight self.old.loose }
         ensures takes { Takes K.takes keep.new self.new.number (self.new.cylinders * 15) }
-        ensures run { (p : PortView) → Ran surely K.hears (all_firm_told contents (self.old.cylinders * 15) (lost_by contents (state_of self.old) loss)) (outside p self.old keep.old) (state_of self.new) tt (outside p self.new keep.new) }
+        ensures run { (p : PortView) → Ran surely K.hears
+            (all_firm_told contents (self.old.cylinders * 15) (lost_by contents (state_of self.old) loss)) (outside p self.old keep.old)
+            (state_of self.new) tt (outside p self.new keep.new) }
     {
         match loss {
             Loss::Cache => {
@@ -180,7 +184,8 @@ impl<V: Volume> DeviceStore<V> {
         ensures half { self.new.half ≡ self.old.half }
         ensures weight { weight self.new.loose ≤ weight self.old.loose }
         ensures takes { Takes K.takes keep.new self.new.number (self.new.cylinders * 15) }
-        ensures run { (p : PortView) → Ran surely K.hears (losing contents (state_of self.old) loss) (outside p self.old keep.old) (state_of self.new) tt (outside p self.new keep.new) }
+        ensures run { (p : PortView) → Ran surely K.hears (losing contents (state_of self.old) loss) (outside p self.old keep.old) (state_of self.new)
+            tt (outside p self.new keep.new) }
     {
         count_loss(&mut self.counts.losses, loss);
         self.lose_by(loss, keep);

@@ -32,7 +32,8 @@ impl<V: Volume> DeviceStore<V> {
         ensures fixed { (self.new.number ≡ self.old.number) × (self.new.cylinders ≡ self.old.cylinders) }
         ensures half { self.new.half ≡ self.old.half }
         ensures loose { self.new.loose ≡ self.old.loose }
-        ensures run { (k : K) → Ran surely K.hears (hear contents 960 (state_of self.old)) (outside (P.view port.old) self.old k) (state_of self.new) tt (outside (P.view port.new) self.new k) }
+        ensures run { (k : K) → Ran surely K.hears (hear contents 960 (state_of self.old)) (outside (P.view port.old) self.old k) (state_of self.new)
+            tt (outside (P.view port.new) self.new k) }
     {
         for _turn in 0..NOTES {
             match port.next_notice(self.number) {

@@ -1,6 +1,7 @@
 ghost use Rattle.std.specs.Prelude.{◌≡◌, ◌*◌, ◌≤◌, ◌<◌, ◌&&◌, ◌||◌, ℕ, is_some, false, true};
 ghost use Rattle.device_defs.specs.Contents.{contents};
-ghost use Rattle.device_defs.specs.Owed.{all_told, begun, dropped_told, ended, freed_told, is_owed, modified_told, settles_debt, track_told, waiting_count, waiting_told, waits};
+ghost use Rattle.device_defs.specs.Owed.{all_told, begun, dropped_told, ended, freed_told, is_owed, modified_told, settles_debt, track_told,
+    waiting_count, waiting_told, waits};
 ghost use Rattle.device_defs.specs.Store.{no_debt, owed_at};
 ghost use Rattle.device_outside.specs.Outside.{Ran};
 ghost use Rattle.track_table.specs.Bits.{is_marked};
@@ -75,7 +76,8 @@ impl<V: Volume> DeviceStore<V> {
     }
 
     fn tell_modified<P: Port, K: Keep<TrackImage>>(&self, t: TrackNo, port: &mut P)
-        ensures run { (k : K) → Ran surely K.hears (modified_told contents t (state_of self.now)) (outside (P.view port.old) self.now k) (state_of self.now) tt (outside (P.view port.new) self.now k) }
+        ensures run { (k : K) → Ran surely K.hears (modified_told contents t (state_of self.now)) (outside (P.view port.old) self.now k)
+            (state_of self.now) tt (outside (P.view port.new) self.now k) }
     {
         if !self.owed.at(t).modified {
             return;
@@ -86,7 +88,8 @@ impl<V: Volume> DeviceStore<V> {
     }
 
     fn tell_dropped<P: Port, K: Keep<TrackImage>>(&self, t: TrackNo, port: &mut P)
-        ensures run { (k : K) → Ran surely K.hears (dropped_told contents t (state_of self.now)) (outside (P.view port.old) self.now k) (state_of self.now) tt (outside (P.view port.new) self.now k) }
+        ensures run { (k : K) → Ran surely K.hears (dropped_told contents t (state_of self.now)) (outside (P.view port.old) self.now k)
+            (state_of self.now) tt (outside (P.view port.new) self.now k) }
     {
         if self.owed.at(t).dropped {
             port.drop_frame(self.number, t);
@@ -94,7 +97,8 @@ impl<V: Volume> DeviceStore<V> {
     }
 
     fn tell_freed<P: Port, K: Keep<TrackImage>>(&self, t: TrackNo, port: &mut P)
-        ensures run { (k : K) → Ran surely K.hears (freed_told contents (state_of self.now) (owed_at (state_of self.now) t).freed) (outside (P.view port.old) self.now k) (state_of self.now) tt (outside (P.view port.new) self.now k) }
+        ensures run { (k : K) → Ran surely K.hears (freed_told contents (state_of self.now) (owed_at (state_of self.now) t).freed)
+            (outside (P.view port.old) self.now k) (state_of self.now) tt (outside (P.view port.new) self.now k) }
     {
         match self.owed.at(t).freed {
             None => (),
@@ -109,7 +113,8 @@ impl<V: Volume> DeviceStore<V> {
         ensures volume { self.new.pair.volumes ≡ self.old.pair.volumes }
         ensures loose { self.new.loose ≡ self.old.loose }
         ensures rest { state_of self.new ≡ record (state_of self.old) { owed = self.new.owed } }
-        ensures run { (k : K) → Ran surely K.hears (settles_debt contents t (state_of self.old)) (outside (P.view port.old) self.old k) (state_of self.new) tt (outside (P.view port.new) self.new k) }
+        ensures run { (k : K) → Ran surely K.hears (settles_debt contents t (state_of self.old)) (outside (P.view port.old) self.old k)
+            (state_of self.new) tt (outside (P.view port.new) self.new k) }
     {
         self.tell_modified::<P, K>(t, port);
         self.tell_dropped::<P, K>(t, port);
@@ -123,7 +128,8 @@ impl<V: Volume> DeviceStore<V> {
         ensures volume { self.new.pair.volumes ≡ self.old.pair.volumes }
         ensures loose { self.new.loose ≡ self.old.loose }
         ensures rest { state_of self.new ≡ record (state_of self.old) { owed = self.new.owed } }
-        ensures run { (k : K) → Ran surely K.hears (track_told contents t (state_of self.old)) (outside (P.view port.old) self.old k) (state_of self.new) tt (outside (P.view port.new) self.new k) }
+        ensures run { (k : K) → Ran surely K.hears (track_told contents t (state_of self.old)) (outside (P.view port.old) self.old k)
+            (state_of self.new) tt (outside (P.view port.new) self.new k) }
     {
         if is_owed(&self.owed.at(t)) {
             self.settle_debt::<P, K>(t, port);
@@ -137,7 +143,8 @@ impl<V: Volume> DeviceStore<V> {
         ensures volume { self.new.pair.volumes ≡ self.old.pair.volumes }
         ensures loose { self.new.loose ≡ self.old.loose }
         ensures rest { state_of self.new ≡ record (state_of self.old) { owed = self.new.owed } }
-        ensures run { (k : K) → Ran surely K.hears (all_told contents (self.old.cylinders * 15) (state_of self.old)) (outside (P.view port.old) self.old k) (state_of self.new) tt (outside (P.view port.new) self.new k) }
+        ensures run { (k : K) → Ran surely K.hears (all_told contents (self.old.cylinders * 15) (state_of self.old))
+            (outside (P.view port.old) self.old k) (state_of self.new) tt (outside (P.view port.new) self.new k) }
     {
         let tracks = u16::from(self.cylinders) * HEADS;
         for t in 0..tracks {
@@ -152,7 +159,8 @@ impl<V: Volume> DeviceStore<V> {
         ensures volume { self.new.pair.volumes ≡ self.old.pair.volumes }
         ensures loose { self.new.loose ≡ self.old.loose }
         ensures rest { state_of self.new ≡ record (state_of self.old) { owed = self.new.owed } }
-        ensures run { (k : K) → Ran surely K.hears (all_told contents (self.old.cylinders * 15) (state_of self.old)) (outside (P.view port.old) self.old k) (state_of self.new) tt (outside (P.view port.new) self.new k) }
+        ensures run { (k : K) → Ran surely K.hears (all_told contents (self.old.cylinders * 15) (state_of self.old))
+            (outside (P.view port.old) self.old k) (state_of self.new) tt (outside (P.view port.new) self.new k) }
     {
         if self.owed.are_paid() {
             return;
@@ -163,7 +171,8 @@ impl<V: Volume> DeviceStore<V> {
 
     /// The port is told how many tracks wait, where it is another number than before.
     fn tell_waiting<P: Port, K: Keep<TrackImage>>(&self, before: u16, port: &mut P)
-        ensures run { (k : K) → Ran surely K.hears (waiting_told contents before (state_of self.now)) (outside (P.view port.old) self.now k) (state_of self.now) tt (outside (P.view port.new) self.now k) }
+        ensures run { (k : K) → Ran surely K.hears (waiting_told contents before (state_of self.now)) (outside (P.view port.old) self.now k)
+            (state_of self.now) tt (outside (P.view port.new) self.now k) }
     {
         let waiting = self.waiting_count();
         if waiting == before {
@@ -179,7 +188,8 @@ impl<V: Volume> DeviceStore<V> {
         ensures volume { self.new.pair.volumes ≡ self.old.pair.volumes }
         ensures loose { self.new.loose ≡ self.old.loose }
         ensures rest { state_of self.new ≡ record (state_of self.old) { owed = self.new.owed } }
-        ensures run { (k : K) → Ran surely K.hears (ended contents before (state_of self.old)) (outside (P.view port.old) self.old k) (state_of self.new) tt (outside (P.view port.new) self.new k) }
+        ensures run { (k : K) → Ran surely K.hears (ended contents before (state_of self.old)) (outside (P.view port.old) self.old k)
+            (state_of self.new) tt (outside (P.view port.new) self.new k) }
     {
         self.tell_all::<P, K>(port);
         self.tell_waiting::<P, K>(before, port);

@@ -69,7 +69,8 @@ impl<V: Volume> DeviceStore<V> {
         ensures weight { weight self.new.loose ≡ weight self.old.loose }
         ensures takes { Takes K.takes keep.new self.new.number (self.new.cylinders * 15) }
         ensures there { IfOk result (IsPeeked (state_of self.new) t) }
-        ensures run { Ran (where_ok result) K.hears (peek_track contents (state_of self.old) t) (outside (P.view port.old) self.old keep.old) (state_of self.new) (had (peeked_by (state_of self.new) t) result) (outside (P.view port.new) self.new keep.new) }
+        ensures run { Ran (where_ok result) K.hears (peek_track contents (state_of self.old) t) (outside (P.view port.old) self.old keep.old)
+            (state_of self.new) (had (peeked_by (state_of self.new) t) result) (outside (P.view port.new) self.new keep.new) }
     {
         if self.lost.has(t) {
             return Ok(Peeked::Lost);

@@ -45,7 +45,9 @@ impl<V: Volume> DeviceStore<V> {
         ensures fixed { (self.new.number ≡ self.old.number) × (self.new.cylinders ≡ self.old.cylinders) }
         ensures opened { OnlyBackground self.new.half }
         ensures loose { self.new.loose ≡ self.old.loose }
-        ensures run { (k : K) (fault : Option Side) → Ran surely K.hears (saved_by contents half.track half.image done fault was_loose written.fault (state_of self.old) written.took) (outside (P.view port.old) self.old k) (state_of self.new) (did fault result) (outside (P.view port.new) self.new k) }
+        ensures run { (k : K) (fault : Option Side)
+            → Ran surely K.hears (saved_by contents half.track half.image done fault was_loose written.fault (state_of self.old) written.took)
+            (outside (P.view port.old) self.old k) (state_of self.new) (did fault result) (outside (P.view port.new) self.new k) }
     {
         match written.took {
             Took::Unwritten => did(written.fault, Did::Nothing),
@@ -79,7 +81,8 @@ impl<V: Volume> DeviceStore<V> {
         ensures opened { OnlyBackground self.new.half }
         ensures weight { weight self.new.loose ≡ weight self.old.loose }
         ensures takes { Takes K.takes keep.new self.new.number (self.new.cylinders * 15) }
-        ensures run { Ran surely K.hears (saving contents (state_of self.old) t image done fault) (outside (P.view port.old) self.old keep.old) (state_of self.new) result (outside (P.view port.new) self.new keep.new) }
+        ensures run { Ran surely K.hears (saving contents (state_of self.old) t image done fault) (outside (P.view port.old) self.old keep.old)
+            (state_of self.new) result (outside (P.view port.new) self.new keep.new) }
     {
         let was_loose = self.firm_first(t, keep);
         let written = self.write_first(t, &image, keep);
@@ -110,7 +113,9 @@ impl<V: Volume> DeviceStore<V> {
         ensures opened { OnlyBackground self.new.half }
         ensures weight { weight self.new.loose ≡ weight self.old.loose }
         ensures takes { Takes K.takes keep.new self.new.number (self.new.cylinders * 15) }
-        ensures run { Ran (where_ok result) K.hears (recovered_bytes contents t (state_of self.old) (got_by self.old.buffer given) (Some self.old.buffer)) (outside (P.view port.old) self.old keep.old) (state_of self.new) (had (λ did. did) result) (outside (P.view port.new) self.new keep.new) }
+        ensures run { Ran (where_ok result) K.hears
+            (recovered_bytes contents t (state_of self.old) (got_by self.old.buffer given) (Some self.old.buffer))
+            (outside (P.view port.old) self.old keep.old) (state_of self.new) (had (λ did. did) result) (outside (P.view port.new) self.new keep.new) }
     {
         match self.image_of(t) {
             Err(NoMemory) => Err(NoMemory),
@@ -135,7 +140,8 @@ impl<V: Volume> DeviceStore<V> {
         ensures opened { OnlyBackground self.new.half }
         ensures weight { weight self.new.loose ≡ weight self.old.loose }
         ensures takes { Takes K.takes keep.new self.new.number (self.new.cylinders * 15) }
-        ensures run { Ran (where_ok result) K.hears (recover contents (state_of self.old) t (frame_at (state_of self.old) t)) (outside (P.view port.old) self.old keep.old) (state_of self.new) (had (λ did. did) result) (outside (P.view port.new) self.new keep.new) }
+        ensures run { Ran (where_ok result) K.hears (recover contents (state_of self.old) t (frame_at (state_of self.old) t))
+            (outside (P.view port.old) self.old keep.old) (state_of self.new) (had (λ did. did) result) (outside (P.view port.new) self.new keep.new) }
     {
         if self.frames.has(t) {
             return self.save_frame(t, Did::Recovered(t), port, keep);

@@ -57,7 +57,8 @@ fn write_open<V: Volume>(
     ensures other { pair.new.volumes.a ≡ pair.old.volumes.a }
     ensures before { IsThere pair.old.volumes.b }
     ensures there { IsThere pair.new.volumes.b }
-    ensures wrote { (h : HalfWrite) → opened.now ≡ Some h → WriteOf (view_in V.view pair.old.volumes.b) h.track (track_bytes h.image.track) result (view_in V.view pair.new.volumes.b) }
+    ensures wrote { (h : HalfWrite) → opened.now ≡ Some h
+        → WriteOf (view_in V.view pair.old.volumes.b) h.track (track_bytes h.image.track) result (view_in V.view pair.new.volumes.b) }
     ensures counts { counts.new ≡ record counts.old { writes = counted counts.old.writes; failed = counted_if (not result) counts.old.failed } }
 {
     match opened {
@@ -88,7 +89,8 @@ impl<V: Volume> DeviceStore<V> {
         ensures half { self.new.half ≡ self.old.half }
         ensures loose { self.new.loose ≡ self.old.loose }
         ensures takes { Takes K.takes keep.new self.new.number (self.new.cylinders * 15) }
-        ensures run { Ran surely K.hears (second_done contents (state_of self.old) half.track half.image (origin_of half.origin)) (outside (P.view port.old) self.old keep.old) (state_of self.new) true (outside (P.view port.new) self.new keep.new) }
+        ensures run { Ran surely K.hears (second_done contents (state_of self.old) half.track half.image (origin_of half.origin))
+            (outside (P.view port.old) self.old keep.old) (state_of self.new) true (outside (P.view port.new) self.new keep.new) }
     {
         match half.origin {
             Origin::OfCommand(bypass, _) => {
@@ -193,7 +195,9 @@ impl<V: Volume> DeviceStore<V> {
         ensures half { self.new.half ≡ self.old.half }
         ensures weight { weight self.new.loose ≡ weight self.old.loose }
         ensures takes { Takes K.takes keep.new self.new.number (self.new.cylinders * 15) }
-        ensures run { (h : HalfWrite) (p : PortView) → self.old.half ≡ Some h → Ran surely K.hears (write_second contents (state_of self.old) h.track (track_bytes h.image.track)) (outside p self.old keep.old) (state_of self.new) tt (outside p self.new keep.new) }
+        ensures run { (h : HalfWrite) (p : PortView) → self.old.half ≡ Some h
+            → Ran surely K.hears (write_second contents (state_of self.old) h.track (track_bytes h.image.track)) (outside p self.old keep.old)
+            (state_of self.new) tt (outside p self.new keep.new) }
     {
         if self.takes_second() {
             let t = self.half_track();
@@ -217,7 +221,8 @@ impl<V: Volume> DeviceStore<V> {
         ensures half { self.new.half ≡ None }
         ensures loose { self.new.loose ≡ self.old.loose }
         ensures takes { Takes K.takes keep.new self.new.number (self.new.cylinders * 15) }
-        ensures run { Ran surely K.hears (closing (state_of self.old) half.track half.image (origin_of half.origin)) (outside (P.view port.old) self.old keep.old) (state_of self.new) result (outside (P.view port.new) self.new keep.new) }
+        ensures run { Ran surely K.hears (closing (state_of self.old) half.track half.image (origin_of half.origin))
+            (outside (P.view port.old) self.old keep.old) (state_of self.new) result (outside (P.view port.new) self.new keep.new) }
     {
         if self.has_level(half.track) {
             self.second_done(half, port, keep);
@@ -237,7 +242,9 @@ impl<V: Volume> DeviceStore<V> {
         ensures takes { Takes K.takes keep.new self.new.number (self.new.cylinders * 15) }
         ensures track { (h : HalfWrite) → self.old.half ≡ Some h → result.track ≡ h.track }
         ensures command { (h : HalfWrite) → self.old.half ≡ Some h → result.of_command ≡ is_of_command (origin_of h.origin) }
-        ensures run { (h : HalfWrite) → self.old.half ≡ Some h → Ran surely K.hears (second_part contents (state_of self.old) (half_of h)) (outside (P.view port.old) self.old keep.old) (state_of self.new) result.done (outside (P.view port.new) self.new keep.new) }
+        ensures run { (h : HalfWrite) → self.old.half ≡ Some h
+            → Ran surely K.hears (second_part contents (state_of self.old) (half_of h)) (outside (P.view port.old) self.old keep.old)
+            (state_of self.new) result.done (outside (P.view port.new) self.new keep.new) }
     {
         self.write_half(keep);
         let half = self.take_half();
@@ -259,7 +266,8 @@ impl<V: Volume> DeviceStore<V> {
         ensures half { IfSome self.new.half (λ h. is_of_command (origin_of h.origin) ≡ false) }
         ensures loose { self.new.loose ≡ self.old.loose }
         ensures takes { Takes K.takes keep.new self.new.number (self.new.cylinders * 15) }
-        ensures run { (p : PortView) → Ran surely K.hears (half_cut contents (state_of self.old) (state_of self.old).half) (outside p self.old keep.old) (state_of self.new) tt (outside p self.new keep.new) }
+        ensures run { (p : PortView) → Ran surely K.hears (half_cut contents (state_of self.old) (state_of self.old).half)
+            (outside p self.old keep.old) (state_of self.new) tt (outside p self.new keep.new) }
     {
         if self.half.is_some() {
             let half = self.take_half();
@@ -275,7 +283,9 @@ impl<V: Volume> DeviceStore<V> {
         ensures track { result.track ≡ half.track }
         ensures command { is_of_command (origin_of result.origin) ≡ false }
         ensures takes { Takes K.takes keep.new self.now.number (self.now.cylinders * 15) }
-        ensures run { (p : PortView) → Ran surely K.hears (half_cut contents (record (state_of self.now) { half = Some (half_of half) }) (Some (half_of half))) (outside p self.now keep.old) (record (state_of self.now) { half = Some (half_of result) }) tt (outside p self.now keep.new) }
+        ensures run { (p : PortView) → Ran surely K.hears
+            (half_cut contents (record (state_of self.now) { half = Some (half_of half) }) (Some (half_of half))) (outside p self.now keep.old)
+            (record (state_of self.now) { half = Some (half_of result) }) tt (outside p self.now keep.new) }
     {
         match half.origin {
             Origin::OfCommand(bypass, _) => {

@@ -1,7 +1,8 @@
 ghost use Rattle.std.specs.Prelude.{◌≡◌, ◌<◌, ◌≤◌, ◌*◌, ◌||◌, ℕ, Some, false, is_some, true};
 ghost use Rattle.device_defs.specs.Contents.{contents};
 ghost use Rattle.device_defs.specs.Effects.{hardened, loose_lost};
-ghost use Rattle.device_defs.specs.Losses.{by_frame, firm_told, kept_by_frame, lost_now, owes_modified, settled, stale_everywhere, without_frame, without_patch};
+ghost use Rattle.device_defs.specs.Losses.{by_frame, firm_told, kept_by_frame, lost_now, owes_modified, settled, stale_everywhere, without_frame,
+    without_patch};
 ghost use Rattle.device_defs.specs.Store.{frame_at, half_is, has_level, is_loose, is_lost, takes_b, with_stale};
 ghost use Rattle.ckd_types.specs.declared.paths.Side.TheVariants.{A, B};
 ghost use Rattle.device_defs.specs.Writing.{unwritten};
@@ -256,7 +257,8 @@ impl<V: Volume> DeviceStore<V> {
         ensures firm { StaysFirm self.old.loose.loose self.new.loose.loose }
         ensures weight { weight self.new.loose ≡ weight self.old.loose }
         ensures takes { Takes K.takes keep.new self.new.number (self.new.cylinders * 15) }
-        ensures run { (p : PortView) → Ran surely K.hears (firm_told contents t (settled contents (state_of self.old) t)) (outside p self.old keep.old) (state_of self.new) tt (outside p self.new keep.new) }
+        ensures run { (p : PortView) → Ran surely K.hears (firm_told contents t (settled contents (state_of self.old) t))
+            (outside p self.old keep.old) (state_of self.new) tt (outside p self.new keep.new) }
     {
         if self.loose.has(t) {
             self.settle_loose(t, keep);
@@ -277,7 +279,8 @@ impl<V: Volume> DeviceStore<V> {
         ensures firm { StaysFirm self.old.loose.loose self.new.loose.loose }
         ensures weight { weight self.new.loose ≡ weight self.old.loose }
         ensures takes { Takes K.takes keep.new self.new.number (self.new.cylinders * 15) }
-        ensures run { (p : PortView) → Ran surely K.hears (firm_told contents t (settled contents (state_of self.old) t)) (outside p self.old keep.old) (state_of self.new) tt (outside p self.new keep.new) }
+        ensures run { (p : PortView) → Ran surely K.hears (firm_told contents t (settled contents (state_of self.old) t))
+            (outside p self.old keep.old) (state_of self.new) tt (outside p self.new keep.new) }
     {
         self.owed.no_firm();
         if self.stands(t) {
@@ -298,7 +301,9 @@ impl<V: Volume> DeviceStore<V> {
         ensures firm { StaysFirm self.old.loose.loose self.new.loose.loose }
         ensures weight { weight self.new.loose ≡ weight self.old.loose }
         ensures takes { Takes K.takes keep.new self.new.number (self.new.cylinders * 15) }
-        ensures run { (p : PortView) → Ran surely K.hears (firm_told contents t (by_frame contents (state_of self.old) t (frame_at (state_of self.old) t))) (outside p self.old keep.old) (state_of self.new) tt (outside p self.new keep.new) }
+        ensures run { (p : PortView) → Ran surely K.hears
+            (firm_told contents t (by_frame contents (state_of self.old) t (frame_at (state_of self.old) t))) (outside p self.old keep.old)
+            (state_of self.new) tt (outside p self.new keep.new) }
     {
         self.owed.no_firm();
         keep.firm(self.number, t, self.frame_image(t));

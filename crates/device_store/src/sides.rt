@@ -87,7 +87,8 @@ impl<V: Volume> DeviceStore<V> {
         ensures weight { weight self.new.loose ≤ weight self.old.loose }
         ensures a { on_a self.new ≡ Some volume }
         ensures b { on_b self.new ≡ on_b self.old }
-        ensures state { state_of self.new ≡ record (state_of self.old) { lent = None; a = new_side (self.old.cylinders * 15) false; loose = replicate (self.old.cylinders * 15) false } }
+        ensures state { state_of self.new ≡ record (state_of self.old)
+            { lent = None; a = new_side (self.old.cylinders * 15) false; loose = replicate (self.old.cylinders * 15) false } }
     {
         self.loose.clear();
         self.pair.restore(volume);

@@ -27,7 +27,9 @@ impl<V: Volume> DeviceStore<V> {
         ensures fixed { (self.new.number ≡ self.old.number) × (self.new.cylinders ≡ self.old.cylinders) }
         ensures half { self.new.half ≡ self.old.half }
         ensures loose { self.new.loose ≡ self.old.loose }
-        ensures run { (k : K) → Ran (where_ok result) K.hears (staged_bytes contents t (state_of self.old) (got_by self.old.buffer given) (Some self.old.buffer)) (outside (P.view port.old) self.old k) (state_of self.new) (had (λ did. did) result) (outside (P.view port.new) self.new k) }
+        ensures run { (k : K) → Ran (where_ok result) K.hears
+            (staged_bytes contents t (state_of self.old) (got_by self.old.buffer given) (Some self.old.buffer)) (outside (P.view port.old) self.old k)
+            (state_of self.new) (had (λ did. did) result) (outside (P.view port.new) self.new k) }
     {
         match self.image_of(t) {
             Err(NoMemory) => {
@@ -59,7 +61,8 @@ impl<V: Volume> DeviceStore<V> {
         ensures half { self.new.half ≡ self.old.half }
         ensures weight { weight self.new.loose ≡ weight self.old.loose }
         ensures takes { Takes K.takes keep.new self.new.number (self.new.cylinders * 15) }
-        ensures run { Ran (where_ok result) K.hears (granted contents (state_of self.old) t true) (outside (P.view port.old) self.old keep.old) (state_of self.new) (had (λ did. did) result) (outside (P.view port.new) self.new keep.new) }
+        ensures run { Ran (where_ok result) K.hears (granted contents (state_of self.old) t true) (outside (P.view port.old) self.old keep.old)
+            (state_of self.new) (had (λ did. did) result) (outside (P.view port.new) self.new keep.new) }
     {
         let got = self.level_bytes(t, keep);
         if got.given {
@@ -82,7 +85,8 @@ impl<V: Volume> DeviceStore<V> {
         ensures half { self.new.half ≡ self.old.half }
         ensures weight { weight self.new.loose ≡ weight self.old.loose }
         ensures takes { Takes K.takes keep.new self.new.number (self.new.cylinders * 15) }
-        ensures run { Ran (where_ok result) K.hears (stage contents (state_of self.old) t) (outside (P.view port.old) self.old keep.old) (state_of self.new) (had (λ did. did) result) (outside (P.view port.new) self.new keep.new) }
+        ensures run { Ran (where_ok result) K.hears (stage contents (state_of self.old) t) (outside (P.view port.old) self.old keep.old)
+            (state_of self.new) (had (λ did. did) result) (outside (P.view port.new) self.new keep.new) }
     {
         if self.frames.has(t) {
             return Ok(Did::Skipped(t));

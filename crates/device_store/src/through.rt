@@ -6,7 +6,8 @@ ghost use Rattle.device_defs.specs.declared.answers.Took.TheVariants.{Opened, Un
 ghost use Rattle.device_defs.specs.Contents.{contents};
 ghost use Rattle.device_defs.specs.Editing.{at_once, through, through_by, whole};
 ghost use Rattle.device_defs.specs.Store.{frame_at, is_loose, takes_b, OfCommand};
-ghost use Rattle.device_defs.specs.Writing.{alone_b, done_by, failed_a, first_a, firm_first, opened, taken_a, tried_b, unpatched, write_done, write_first, write_second, write_side};
+ghost use Rattle.device_defs.specs.Writing.{alone_b, done_by, failed_a, first_a, firm_first, opened, taken_a, tried_b, unpatched, write_done,
+    write_first, write_second, write_side};
 ghost use Rattle.device_outside.specs.Outside.{PortView, Ran};
 ghost use Rattle.device_outside.specs.Volume.{WriteOf, counted, counted_if};
 ghost use Rattle.duplex_pair.specs.Sides.{HasSides, other_of, state_in, volume_of};
@@ -53,7 +54,8 @@ pub(crate) fn write_side<V: Volume>(
     ensures other { other_of pair.new.volumes side ≡ other_of pair.old.volumes side }
     ensures before { IsThere (volume_of pair.old.volumes side) }
     ensures there { IsThere (volume_of pair.new.volumes side) }
-    ensures wrote { WriteOf (view_in V.view (volume_of pair.old.volumes side)) t (track_bytes image.now.track) result (view_in V.view (volume_of pair.new.volumes side)) }
+    ensures wrote { WriteOf (view_in V.view (volume_of pair.old.volumes side)) t (track_bytes image.now.track) result
+        (view_in V.view (volume_of pair.new.volumes side)) }
     ensures counts { counts.new ≡ record counts.old { writes = counted counts.old.writes; failed = counted_if (not result) counts.old.failed } }
 {
     let took = pair.write(side, t, image.bytes());
@@ -85,7 +87,8 @@ impl<V: Volume> DeviceStore<V> {
         ensures takes { Takes K.takes keep.new self.new.number (self.new.cylinders * 15) }
         ensures frames { self.new.frames ≡ self.old.frames }
         ensures firm { is_loose (state_of self.new) t ≡ false }
-        ensures run { (p : PortView) → Ran surely K.hears (firm_first contents (state_of self.old) t) (outside p self.old keep.old) (state_of self.new) result (outside p self.new keep.new) }
+        ensures run { (p : PortView) → Ran surely K.hears (firm_first contents (state_of self.old) t) (outside p self.old keep.old)
+            (state_of self.new) result (outside p self.new keep.new) }
     {
         if self.loose.has(t) {
             keep.firm(self.number, t, self.frame_image(t));
@@ -106,7 +109,9 @@ impl<V: Volume> DeviceStore<V> {
         ensures half { self.new.half ≡ self.old.half }
         ensures loose { self.new.loose ≡ self.old.loose }
         ensures refused { result.took ≡ Unwritten }
-        ensures run { (p : PortView) (k : K) (bytes : List ℕ) → Ran surely K.hears (write_first contents (state_of self.old) t bytes) (outside p self.old k) (state_of self.new) (wrote_by result) (outside p self.new k) }
+        ensures run { (p : PortView) (k : K) (bytes : List ℕ)
+            → Ran surely K.hears (write_first contents (state_of self.old) t bytes) (outside p self.old k) (state_of self.new) (wrote_by result)
+            (outside p self.new k) }
     {
         self.settle(t);
         Written {
@@ -150,7 +155,9 @@ impl<V: Volume> DeviceStore<V> {
         ensures weight { weight self.new.loose ≡ weight self.old.loose }
         ensures firm { StaysFirm self.old.loose.loose self.new.loose.loose }
         ensures takes { Takes K.takes keep.new self.new.number (self.new.cylinders * 15) }
-        ensures run { (p : PortView) → Ran surely K.hears (write_side contents (state_of self.old) B t (track_bytes image.now.track) (alone_b contents t fault first)) (outside p self.old keep.old) (state_of self.new) (wrote_by result) (outside p self.new keep.new) }
+        ensures run { (p : PortView) → Ran surely K.hears
+            (write_side contents (state_of self.old) B t (track_bytes image.now.track) (alone_b contents t fault first)) (outside p self.old keep.old)
+            (state_of self.new) (wrote_by result) (outside p self.new keep.new) }
     {
         if write_side(&mut self.pair, &mut self.counts, Side::B, t, image) {
             self.mark_b(t, false);
@@ -182,7 +189,8 @@ impl<V: Volume> DeviceStore<V> {
         ensures weight { weight self.new.loose ≡ weight self.old.loose }
         ensures firm { StaysFirm self.old.loose.loose self.new.loose.loose }
         ensures takes { Takes K.takes keep.new self.new.number (self.new.cylinders * 15) }
-        ensures run { (p : PortView) → Ran surely K.hears (failed_a contents t (track_bytes image.now.track) takes (state_of self.old)) (outside p self.old keep.old) (state_of self.new) (wrote_by result) (outside p self.new keep.new) }
+        ensures run { (p : PortView) → Ran surely K.hears (failed_a contents t (track_bytes image.now.track) takes (state_of self.old))
+            (outside p self.old keep.old) (state_of self.new) (wrote_by result) (outside p self.new keep.new) }
     {
         if takes {
             return self.write_b(t, image, Some(Side::A), Side::A, keep);
@@ -210,7 +218,8 @@ impl<V: Volume> DeviceStore<V> {
         ensures weight { weight self.new.loose ≡ weight self.old.loose }
         ensures firm { StaysFirm self.old.loose.loose self.new.loose.loose }
         ensures takes { Takes K.takes keep.new self.new.number (self.new.cylinders * 15) }
-        ensures run { (p : PortView) → Ran surely K.hears (write_first contents (state_of self.old) t (track_bytes image.now.track)) (outside p self.old keep.old) (state_of self.new) (wrote_by result) (outside p self.new keep.new) }
+        ensures run { (p : PortView) → Ran surely K.hears (write_first contents (state_of self.old) t (track_bytes image.now.track))
+            (outside p self.old keep.old) (state_of self.new) (wrote_by result) (outside p self.new keep.new) }
     {
         let takes = self.pair.takes_b();
         if write_side(&mut self.pair, &mut self.counts, Side::A, t, image) {
@@ -239,7 +248,8 @@ impl<V: Volume> DeviceStore<V> {
         ensures weight { weight self.new.loose ≡ weight self.old.loose }
         ensures firm { StaysFirm self.old.loose.loose self.new.loose.loose }
         ensures takes { Takes K.takes keep.new self.new.number (self.new.cylinders * 15) }
-        ensures run { (p : PortView) → Ran surely K.hears (write_first contents (state_of self.old) t (track_bytes image.now.track)) (outside p self.old keep.old) (state_of self.new) (wrote_by result) (outside p self.new keep.new) }
+        ensures run { (p : PortView) → Ran surely K.hears (write_first contents (state_of self.old) t (track_bytes image.now.track))
+            (outside p self.old keep.old) (state_of self.new) (wrote_by result) (outside p self.new keep.new) }
     {
         if self.pair.a.up {
             return self.write_a(t, image, keep);
@@ -261,7 +271,9 @@ impl<V: Volume> DeviceStore<V> {
         ensures loose { self.new.loose ≡ self.old.loose }
         ensures kept { result.took ≡ Whole → self.new.frames ≡ self.old.frames }
         ensures whole { (result.took ≡ Opened) → ⊥ }
-        ensures run { (p : PortView) (k : K) (bytes : List ℕ) → Ran surely K.hears (first_a contents t bytes (state_of self.old) done) (outside p self.old k) (state_of self.new) (wrote_by result) (outside p self.new k) }
+        ensures run { (p : PortView) (k : K) (bytes : List ℕ)
+            → Ran surely K.hears (first_a contents t bytes (state_of self.old) done) (outside p self.old k) (state_of self.new) (wrote_by result)
+            (outside p self.new k) }
     {
         if done {
             self.taken_a(t);
@@ -288,7 +300,9 @@ impl<V: Volume> DeviceStore<V> {
         ensures loose { self.new.loose ≡ self.old.loose }
         ensures kept { result.took ≡ Whole → self.new.frames ≡ self.old.frames }
         ensures whole { (result.took ≡ Opened) → ⊥ }
-        ensures run { (p : PortView) (k : K) → Ran surely K.hears (write_first contents (state_of self.old) t (track_bytes (frame_in (state_of self.old) t).track)) (outside p self.old k) (state_of self.new) (wrote_by result) (outside p self.new k) }
+        ensures run { (p : PortView) (k : K) → Ran surely K.hears
+            (write_first contents (state_of self.old) t (track_bytes (frame_in (state_of self.old) t).track)) (outside p self.old k)
+            (state_of self.new) (wrote_by result) (outside p self.new k) }
     {
         if self.pair.a.up {
             let image = image_in(&self.frames, t);
@@ -308,7 +322,8 @@ impl<V: Volume> DeviceStore<V> {
         ensures weight { weight self.new.loose ≡ weight self.old.loose }
         ensures firm { StaysFirm self.old.loose.loose self.new.loose.loose }
         ensures takes { Takes K.takes keep.new self.new.number (self.new.cylinders * 15) }
-        ensures run { (p : PortView) → Ran surely K.hears (tried_b contents t (state_of self.old) took) (outside p self.old keep.old) (state_of self.new) tt (outside p self.new keep.new) }
+        ensures run { (p : PortView) → Ran surely K.hears (tried_b contents t (state_of self.old) took) (outside p self.old keep.old)
+            (state_of self.new) tt (outside p self.new keep.new) }
     {
         if took {
             self.mark_b(t, false);
@@ -326,7 +341,8 @@ impl<V: Volume> DeviceStore<V> {
         ensures weight { weight self.new.loose ≡ weight self.old.loose }
         ensures firm { StaysFirm self.old.loose.loose self.new.loose.loose }
         ensures takes { Takes K.takes keep.new self.new.number (self.new.cylinders * 15) }
-        ensures run { (p : PortView) → Ran surely K.hears (write_second contents (state_of self.old) t (track_bytes image.now.track)) (outside p self.old keep.old) (state_of self.new) tt (outside p self.new keep.new) }
+        ensures run { (p : PortView) → Ran surely K.hears (write_second contents (state_of self.old) t (track_bytes image.now.track))
+            (outside p self.old keep.old) (state_of self.new) tt (outside p self.new keep.new) }
     {
         if self.takes_second() {
             let took = write_side(&mut self.pair, &mut self.counts, Side::B, t, image);
@@ -347,7 +363,8 @@ impl<V: Volume> DeviceStore<V> {
         ensures volume { self.new.pair.volumes ≡ self.old.pair.volumes }
         ensures half { self.new.half ≡ Some half }
         ensures loose { self.new.loose ≡ self.old.loose }
-        ensures run { (k : K) → Ran surely K.hears (opened contents (state_of self.old) half.track half.image (origin_of half.origin) was_loose) (outside (P.view port.old) self.old k) (state_of self.new) tt (outside (P.view port.new) self.new k) }
+        ensures run { (k : K) → Ran surely K.hears (opened contents (state_of self.old) half.track half.image (origin_of half.origin) was_loose)
+            (outside (P.view port.old) self.old k) (state_of self.new) tt (outside (P.view port.new) self.new k) }
     {
         if was_loose {
             port.set_clean(self.number, half.track);
@@ -364,7 +381,8 @@ impl<V: Volume> DeviceStore<V> {
         ensures volume { self.new.pair.volumes ≡ self.old.pair.volumes }
         ensures half { self.new.half ≡ self.old.half }
         ensures loose { self.new.loose ≡ self.old.loose }
-        ensures run { (k : K) → Ran surely K.hears (unpatched contents (state_of self.old) t) (outside (P.view port.old) self.old k) (state_of self.new) tt (outside (P.view port.new) self.new k) }
+        ensures run { (k : K) → Ran surely K.hears (unpatched contents (state_of self.old) t) (outside (P.view port.old) self.old k)
+            (state_of self.new) tt (outside (P.view port.new) self.new k) }
     {
         match self.patches.slot_of(t) {
             None => (),
@@ -388,7 +406,8 @@ impl<V: Volume> DeviceStore<V> {
         ensures volume { self.new.pair.volumes ≡ self.old.pair.volumes }
         ensures half { self.new.half ≡ self.old.half }
         ensures loose { self.new.loose ≡ self.old.loose }
-        ensures run { (k : K) → Ran surely K.hears (done_by contents (state_of self.old) t image bypass true) (outside (P.view port.old) self.old k) (state_of self.new) tt (outside (P.view port.new) self.new k) }
+        ensures run { (k : K) → Ran surely K.hears (done_by contents (state_of self.old) t image bypass true) (outside (P.view port.old) self.old k)
+            (state_of self.new) tt (outside (P.view port.new) self.new k) }
     {
         if bypass {
             port.drop_frame(self.number, t);
@@ -415,7 +434,8 @@ impl<V: Volume> DeviceStore<V> {
         ensures volume { self.new.pair.volumes ≡ self.old.pair.volumes }
         ensures half { self.new.half ≡ self.old.half }
         ensures loose { self.new.loose ≡ self.old.loose }
-        ensures run { (k : K) → Ran surely K.hears (write_done contents (state_of self.old) t image bypass) (outside (P.view port.old) self.old k) (state_of self.new) tt (outside (P.view port.new) self.new k) }
+        ensures run { (k : K) → Ran surely K.hears (write_done contents (state_of self.old) t image bypass) (outside (P.view port.old) self.old k)
+            (state_of self.new) tt (outside (P.view port.new) self.new k) }
     {
         if self.frames.has(t) {
             self.framed_done::<P, K>(t, image, bypass, port);
@@ -432,7 +452,8 @@ impl<V: Volume> DeviceStore<V> {
         ensures volume { self.new.pair.volumes ≡ self.old.pair.volumes }
         ensures half { self.new.half ≡ self.old.half }
         ensures loose { self.new.loose ≡ self.old.loose }
-        ensures run { (k : K) → Ran surely K.hears (write_done contents (state_of self.old) t (frame_in (state_of self.old) t) false) (outside (P.view port.old) self.old k) (state_of self.new) tt (outside (P.view port.new) self.new k) }
+        ensures run { (k : K) → Ran surely K.hears (write_done contents (state_of self.old) t (frame_in (state_of self.old) t) false)
+            (outside (P.view port.old) self.old k) (state_of self.new) tt (outside (P.view port.new) self.new k) }
     {
         port.set_clean(self.number, t);
         self.frames.mark(t, false);
@@ -455,7 +476,8 @@ impl<V: Volume> DeviceStore<V> {
         ensures half { self.new.half ≡ self.old.half }
         ensures loose { self.new.loose ≡ self.old.loose }
         ensures takes { Takes K.takes keep.new self.new.number (self.new.cylinders * 15) }
-        ensures run { (e : Edit) → Ran surely K.hears (whole contents (state_of self.old) t image e bypass) (outside (P.view port.old) self.old keep.old) (state_of self.new) Whole (outside (P.view port.new) self.new keep.new) }
+        ensures run { (e : Edit) → Ran surely K.hears (whole contents (state_of self.old) t image e bypass)
+            (outside (P.view port.old) self.old keep.old) (state_of self.new) Whole (outside (P.view port.new) self.new keep.new) }
     {
         keep.firm(self.number, t, &image);
         self.write_done::<P, K>(t, image, bypass, port);
@@ -478,7 +500,8 @@ impl<V: Volume> DeviceStore<V> {
         ensures weight { weight self.new.loose ≡ weight self.old.loose }
         ensures takes { Takes K.takes keep.new self.new.number (self.new.cylinders * 15) }
         ensures ends { (result ≡ Opened) → ⊥ }
-        ensures run { (e : Edit) → Ran surely K.hears (at_once contents (state_of self.old) t image e bypass) (outside (P.view port.old) self.old keep.old) (state_of self.new) result (outside (P.view port.new) self.new keep.new) }
+        ensures run { (e : Edit) → Ran surely K.hears (at_once contents (state_of self.old) t image e bypass)
+            (outside (P.view port.old) self.old keep.old) (state_of self.new) result (outside (P.view port.new) self.new keep.new) }
     {
         self.write_second(t, &image, keep);
         if self.has_level(t) {
@@ -508,7 +531,9 @@ impl<V: Volume> DeviceStore<V> {
         ensures half { self.new.half ≡ (if is_opened result then Some half else None) }
         ensures weight { weight self.new.loose ≡ weight self.old.loose }
         ensures takes { Takes K.takes keep.new self.new.number (self.new.cylinders * 15) }
-        ensures run { (e : Edit) → origin_of half.origin ≡ OfCommand bypass e → Ran surely K.hears (through_by contents half.track half.image e bypass opens was_loose (state_of self.old) took) (outside (P.view port.old) self.old keep.old) (state_of self.new) result (outside (P.view port.new) self.new keep.new) }
+        ensures run { (e : Edit) → origin_of half.origin ≡ OfCommand bypass e
+            → Ran surely K.hears (through_by contents half.track half.image e bypass opens was_loose (state_of self.old) took)
+            (outside (P.view port.old) self.old keep.old) (state_of self.new) result (outside (P.view port.new) self.new keep.new) }
     {
         match took {
             Took::Unwritten => Took::Unwritten,
@@ -546,7 +571,8 @@ impl<V: Volume> DeviceStore<V> {
         ensures half { is_some self.new.half ≡ is_opened result }
         ensures weight { weight self.new.loose ≡ weight self.old.loose }
         ensures takes { Takes K.takes keep.new self.new.number (self.new.cylinders * 15) }
-        ensures run { Ran surely K.hears (through contents (state_of self.old) t image edit bypass opens) (outside (P.view port.old) self.old keep.old) (state_of self.new) result (outside (P.view port.new) self.new keep.new) }
+        ensures run { Ran surely K.hears (through contents (state_of self.old) t image edit bypass opens)
+            (outside (P.view port.old) self.old keep.old) (state_of self.new) result (outside (P.view port.new) self.new keep.new) }
     {
         let was_loose = self.firm_first(t, keep);
         let written = self.write_first(t, &image, keep);

@@ -87,7 +87,8 @@ impl<V: Volume> DeviceStore<V> {
         ensures volume { self.new.pair.volumes ≡ self.old.pair.volumes }
         ensures loose { self.new.loose ≡ self.old.loose }
         ensures frames { self.new.frames ≡ self.old.frames }
-        ensures state { state_of self.new ≡ record (state_of self.old) { patches = slice_set self.old.patches t (patch_with contents edit slot (patch_at (state_of self.old) t)) } }
+        ensures state { state_of self.new ≡ record (state_of self.old)
+            { patches = slice_set self.old.patches t (patch_with contents edit slot (patch_at (state_of self.old) t)) } }
     {
         match slot {
             None => self.patches.add_within(t, edit, &mut self.edits),
@@ -155,7 +156,8 @@ impl<V: Volume> DeviceStore<V> {
         ensures half { is_some self.new.half ≡ is_opened result }
         ensures takes { Takes K.takes keep.new self.new.number (self.new.cylinders * 15) }
         ensures weight { weight self.new.loose ≤ weight self.old.loose + 2 }
-        ensures run { Ran surely K.hears (write_by contents usage.now first t image edit (state_of self.old) choice) (outside (P.view port.old) self.old keep.old) (state_of self.new) result (outside (P.view port.new) self.new keep.new) }
+        ensures run { Ran surely K.hears (write_by contents usage.now first t image edit (state_of self.old) choice)
+            (outside (P.view port.old) self.old keep.old) (state_of self.new) result (outside (P.view port.new) self.new keep.new) }
     {
         match choice {
             Choice::Provisional => {
@@ -203,7 +205,8 @@ impl<V: Volume> DeviceStore<V> {
     }
 
     fn clean_again<P: Port, K: Keep<TrackImage>>(&self, t: TrackNo, port: &mut P)
-        ensures run { (k : K) → Ran surely K.hears (clean_again contents (state_of self.now) t) (outside (P.view port.old) self.now k) (state_of self.now) None (outside (P.view port.new) self.now k) }
+        ensures run { (k : K) → Ran surely K.hears (clean_again contents (state_of self.now) t) (outside (P.view port.old) self.now k)
+            (state_of self.now) None (outside (P.view port.new) self.now k) }
     {
         if self.is_clean(t) {
             port.set_clean(self.number, t);
@@ -211,7 +214,8 @@ impl<V: Volume> DeviceStore<V> {
     }
 
     fn give_back<P: Port, K: Keep<TrackImage>>(&self, t: TrackNo, slot: Option<usize>, port: &mut P)
-        ensures run { (k : K) → Ran surely K.hears (unchosen contents (state_of self.now) t (Fast slot)) (outside (P.view port.old) self.now k) (state_of self.now) None (outside (P.view port.new) self.now k) }
+        ensures run { (k : K) → Ran surely K.hears (unchosen contents (state_of self.now) t (Fast slot)) (outside (P.view port.old) self.now k)
+            (state_of self.now) None (outside (P.view port.new) self.now k) }
     {
         match slot {
             Some(slot) => {
@@ -229,7 +233,8 @@ impl<V: Volume> DeviceStore<V> {
         choice: Choice,
         port: &mut P,
     )
-        ensures run { (k : K) → Ran surely K.hears (unchosen contents (state_of self.now) t choice) (outside (P.view port.old) self.now k) (state_of self.now) None (outside (P.view port.new) self.now k) }
+        ensures run { (k : K) → Ran surely K.hears (unchosen contents (state_of self.now) t choice) (outside (P.view port.old) self.now k)
+            (state_of self.now) None (outside (P.view port.new) self.now k) }
     {
         match choice {
             Choice::Through => (),
@@ -264,7 +269,8 @@ impl<V: Volume> DeviceStore<V> {
         ensures same { OnErr result (self.new.half ≡ self.old.half) }
         ensures takes { Takes K.takes keep.new self.new.number (self.new.cylinders * 15) }
         ensures weight { weight self.new.loose ≤ weight self.old.loose + 2 }
-        ensures run { Ran (where_ok result) K.hears (told_before (state_of self.old) usage.now first t old.now edit choice) (outside (P.view port.old) self.old keep.old) (state_of self.new) (had (λ took. took) result) (outside (P.view port.new) self.new keep.new) }
+        ensures run { Ran (where_ok result) K.hears (told_before (state_of self.old) usage.now first t old.now edit choice)
+            (outside (P.view port.old) self.old keep.old) (state_of self.new) (had (λ took. took) result) (outside (P.view port.new) self.new keep.new) }
     {
         match keep.before_edit(self.number, t, old) {
             Err(NoMemory) => {
@@ -299,7 +305,9 @@ impl<V: Volume> DeviceStore<V> {
         ensures same { OnErr result (self.new.half ≡ self.old.half) }
         ensures takes { Takes K.takes keep.new self.new.number (self.new.cylinders * 15) }
         ensures weight { weight self.new.loose ≤ weight self.old.loose + 2 }
-        ensures run { Ran (where_ok result) K.hears (and_then (choose contents (state_of self.old) usage.now t) (write_chosen contents usage.now first t old.now edit)) (outside (P.view port.old) self.old keep.old) (state_of self.new) (had (λ took. took) result) (outside (P.view port.new) self.new keep.new) }
+        ensures run { Ran (where_ok result) K.hears
+            (and_then (choose contents (state_of self.old) usage.now t) (write_chosen contents usage.now first t old.now edit))
+            (outside (P.view port.old) self.old keep.old) (state_of self.new) (had (λ took. took) result) (outside (P.view port.new) self.new keep.new) }
     {
         let choice = self.choose::<P, K>(usage, t, port);
         if self.is_given(choice) {
@@ -330,7 +338,8 @@ impl<V: Volume> DeviceStore<V> {
         ensures same { OnErr result (self.new.half ≡ self.old.half) }
         ensures takes { Takes K.takes keep.new self.new.number (self.new.cylinders * 15) }
         ensures weight { weight self.new.loose ≤ weight self.old.loose + 2 }
-        ensures run { Ran (where_ok result) K.hears (write contents (state_of self.old) usage.now first t old.now edit) (outside (P.view port.old) self.old keep.old) (state_of self.new) (had (λ took. took) result) (outside (P.view port.new) self.new keep.new) }
+        ensures run { Ran (where_ok result) K.hears (write contents (state_of self.old) usage.now first t old.now edit)
+            (outside (P.view port.old) self.old keep.old) (state_of self.new) (had (λ took. took) result) (outside (P.view port.new) self.new keep.new) }
     {
         let image = match edited(self.alloc, old, &edit) {
             Err(NoMemory) => return Err(NoMemory),
@@ -381,7 +390,8 @@ impl<V: Volume> DeviceStore<V> {
         ensures same { OnErr result (self.new.half ≡ self.old.half) }
         ensures takes { Takes K.takes keep.new self.new.number (self.new.cylinders * 15) }
         ensures weight { weight self.new.loose ≤ weight self.old.loose + 2 }
-        ensures run { Ran (where_ok result) K.hears (told_before (state_of self.old) usage.now first t (frame_in (state_of self.old) t) edit choice) (outside (P.view port.old) self.old keep.old) (state_of self.new) (had (λ took. took) result) (outside (P.view port.new) self.new keep.new) }
+        ensures run { Ran (where_ok result) K.hears (told_before (state_of self.old) usage.now first t (frame_in (state_of self.old) t) edit choice)
+            (outside (P.view port.old) self.old keep.old) (state_of self.new) (had (λ took. took) result) (outside (P.view port.new) self.new keep.new) }
     {
         match self.tell_frame(t, keep) {
             Err(NoMemory) => {

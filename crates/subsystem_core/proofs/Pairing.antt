@@ -40,7 +40,8 @@ module _ {V : Type 0} {G : Ghosts V} where
   pub may_lend : (o p : Option (Device V G)) (x : Device V G) → p ≡ Some x → HasPairFault o p None → MayLend o x
   may_lend (Some to) (Some y) x is free =
       let same : y ≡ x = some_same is in
-      record { to = to; stands = refl; may = subst (λ (z : Device V G). MayPair (device_of to) (device_of z)) same (may_pair (device_of to) (device_of y) free) }
+      record { to = to; stands = refl; may = subst (λ (z : Device V G). MayPair (device_of to) (device_of z)) same
+          (may_pair (device_of to) (device_of y) free) }
   may_lend (Some to) None x is free = absurd free
   may_lend None p x is free = absurd free
 

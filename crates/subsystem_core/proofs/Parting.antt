@@ -1,5 +1,6 @@
 -- A pair is taken apart.
-use Rattle.std.proofs.Common.{◌≡◌, ◌∙◌, ◌<◌, ◌⊎◌, inl, inr, length, ◌==◌, ◌*◌, ℕ, zero, suc, Bool, true, false, List, [], ◌∷◌, Option, Some, None, arith, get_or, is_some, set, refl, sym, ap, subst}
+use Rattle.std.proofs.Common.{◌≡◌, ◌∙◌, ◌<◌, ◌⊎◌, inl, inr, length, ◌==◌, ◌*◌, ℕ, zero, suc, Bool, true, false, List, [], ◌∷◌, Option, Some, None,
+    arith, get_or, is_some, set, refl, sym, ap, subst}
 use Rattle.std.specs.Prelude.{OnErr, OnOk, Result, Ok, Err, if◌then◌else◌, slice_get}
 use Rattle.std.proofs.lemmas.Bool.{eqb-true}
 use Rattle.std.proofs.lemmas.Option.{get_or_from_slice_get, slice_get_within}
@@ -38,7 +39,8 @@ module _ {V : Type 0} {G : Ghosts V} where
       let same : x ≡ d = some_same (sym is) in
       this_was_lent (subst (λ (z : Device V G). is_lent_to z.store.pair.lent n ≡ true) same lent) (subst (λ (z : Device V G). IsRestored volume z y) same so)
   first_restored n (suc i) volume (d ∷ ds) x y is lent others so =
-      another_was_lent (others 0 d (omega arith) refl) (first_restored n i volume ds x y is lent (λ j z below at. others (suc j) z (omega (arith, below)) at) so)
+      another_was_lent (others 0 d (omega arith) refl)
+          (first_restored n i volume ds x y is lent (λ j z below at. others (suc j) z (omega (arith, below)) at) so)
 
   -- it is as large as the one to which it was
   pub restored_size : (n i : ℕ) (volume : V) (ds : List (Device V G)) (x : Device V G) → slice_get ds i ≡ Some x → is_lent_to x.store.pair.lent n ≡ true →

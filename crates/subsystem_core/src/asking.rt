@@ -54,7 +54,8 @@ impl<V: Volume> Subsystem<V> {
         requires running { IfSome (device_at self.old.devices.items d) (λ x. IsSome x.past.running) }
         requires whole { IfSome (device_at self.old.devices.items d) (λ x. is_some (device_of x).store.half ≡ false) }
         ensures numbers { numbers_of self.new.devices.items ≡ numbers_of self.old.devices.items }
-        ensures asked { Changes d (λ x y. AskedWith (where_ok result) (command contents (device_of x)) (step_had y.past result) self.old.pool x y self.new.pool) self.old.devices.items self.new.devices.items }
+        ensures asked { Changes d (λ x y. AskedWith (where_ok result) (command contents (device_of x)) (step_had y.past result) self.old.pool x y
+            self.new.pool) self.old.devices.items self.new.devices.items }
     {
         let at = self.place(d);
         self.devices[at].command(&mut self.pool)
@@ -63,7 +64,9 @@ impl<V: Volume> Subsystem<V> {
     pub(crate) fn second_at(&mut self, d: DeviceNo) -> SecondStep
         requires { is_in d (numbers_of self.old.devices.items) ≡ true }
         ensures numbers { numbers_of self.new.devices.items ≡ numbers_of self.old.devices.items }
-        ensures asked { Changes d (λ x y. IsSome (second_seen y.past result) × ((e : SecondEnd) → second_seen y.past result ≡ Some e → AskedWith surely (second contents (device_of x)) e self.old.pool x y self.new.pool)) self.old.devices.items self.new.devices.items }
+        ensures asked { Changes d (λ x y. IsSome (second_seen y.past result)
+            × ((e : SecondEnd) → second_seen y.past result ≡ Some e
+            → AskedWith surely (second contents (device_of x)) e self.old.pool x y self.new.pool)) self.old.devices.items self.new.devices.items }
     {
         let at = self.place(d);
         self.devices[at].second(&mut self.pool)
@@ -73,7 +76,8 @@ impl<V: Volume> Subsystem<V> {
         requires whole { IfSome (device_at self.old.devices.items d) (λ x. is_some (device_of x).store.half ≡ false) }
         requires here { is_in d (numbers_of self.old.devices.items) ≡ true }
         ensures numbers { numbers_of self.new.devices.items ≡ numbers_of self.old.devices.items }
-        ensures asked { Changes d (λ x y. AskedWith (where_ok result) (background contents (device_of x)) (had (λ did. did) result) self.old.pool x y self.new.pool) self.old.devices.items self.new.devices.items }
+        ensures asked { Changes d (λ x y. AskedWith (where_ok result) (background contents (device_of x)) (had (λ did. did) result) self.old.pool x y
+            self.new.pool) self.old.devices.items self.new.devices.items }
     {
         let at = self.place(d);
         self.devices[at].background(&mut self.pool)
@@ -82,7 +86,8 @@ impl<V: Volume> Subsystem<V> {
     pub(crate) fn reset_at(&mut self, path: PathNo, d: DeviceNo)
         requires { is_in d (numbers_of self.old.devices.items) ≡ true }
         ensures numbers { numbers_of self.new.devices.items ≡ numbers_of self.old.devices.items }
-        ensures asked { Changes d (λ x y. AskedWith surely (reset contents (device_of x) path) tt self.old.pool x y self.new.pool) self.old.devices.items self.new.devices.items }
+        ensures asked { Changes d (λ x y. AskedWith surely (reset contents (device_of x) path) tt self.old.pool x y self.new.pool)
+            self.old.devices.items self.new.devices.items }
     {
         let at = self.place(d);
         self.devices[at].reset(path);
@@ -91,7 +96,8 @@ impl<V: Volume> Subsystem<V> {
     pub(crate) fn lose_at(&mut self, d: DeviceNo, loss: Loss)
         requires { is_in d (numbers_of self.old.devices.items) ≡ true }
         ensures numbers { numbers_of self.new.devices.items ≡ numbers_of self.old.devices.items }
-        ensures asked { Changes d (λ x y. AskedWith surely (lose contents (device_of x) loss) tt self.old.pool x y self.new.pool) self.old.devices.items self.new.devices.items }
+        ensures asked { Changes d (λ x y. AskedWith surely (lose contents (device_of x) loss) tt self.old.pool x y self.new.pool)
+            self.old.devices.items self.new.devices.items }
     {
         let at = self.place(d);
         self.devices[at].lose(loss, &mut self.pool);

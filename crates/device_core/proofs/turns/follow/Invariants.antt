@@ -16,6 +16,12 @@ invariant-loop-turn g l = record {
   at : IsAt l.fn.store.cylinders l.chain;
   hand : IsSameHand l.fn.chain l.chain;
   inside : l.t < l.fn.store.cylinders * 15;
-  rest : Rest surely g.K.Keep.hears (follow contents (l.fn.store.cylinders * 15 - l._turn) l.fn.first l.chain l.t (state_of l.store)) (outside (g.P.Port.view l.port) l.store l.keep) (follow contents (l.fn.store.cylinders * 15) l.fn.first l.fn.chain l.fn.first (state_of l.fn.store)) (outside (g.P.Port.view l.fn.port) l.fn.store l.fn.keep);
-  lacks : Rest maybe g.K.Keep.hears (follow contents (l.fn.store.cylinders * 15 - l._turn) l.fn.first l.chain l.t (state_of l.store)) (outside (g.P.Port.view l.port) l.store l.keep) (follow contents (l.fn.store.cylinders * 15) l.fn.first l.fn.chain l.fn.first (state_of l.fn.store)) (outside (g.P.Port.view l.fn.port) l.fn.store l.fn.keep);
+  rest : Rest surely g.K.Keep.hears (follow contents (l.fn.store.cylinders * 15 - l._turn) l.fn.first l.chain l.t (state_of l.store))
+      (outside (g.P.Port.view l.port) l.store l.keep)
+      (follow contents (l.fn.store.cylinders * 15) l.fn.first l.fn.chain l.fn.first (state_of l.fn.store))
+      (outside (g.P.Port.view l.fn.port) l.fn.store l.fn.keep);
+  lacks : Rest maybe g.K.Keep.hears (follow contents (l.fn.store.cylinders * 15 - l._turn) l.fn.first l.chain l.t (state_of l.store))
+      (outside (g.P.Port.view l.port) l.store l.keep)
+      (follow contents (l.fn.store.cylinders * 15) l.fn.first l.fn.chain l.fn.first (state_of l.fn.store))
+      (outside (g.P.Port.view l.fn.port) l.fn.store l.fn.keep);
 }

@@ -21,7 +21,8 @@ pub close_event-requires : goal.close_event-requires
 close_event-requires g c =
     let l = c.args.self.now.store.loose in
     let first = begun_weight l c.begin_event.new.self.loose c.begin_event.ensures.loose (ap (λ s. s.acts) c.begin_event.ensures.state) in
-    let le : weight c.background-did.new.self.loose ≤ loose_count l.loose = omega (arith, c.background-did.ensures.weight, ap weight c.hear.ensures.loose, first) in
+    let le : weight c.background-did.new.self.loose ≤ loose_count l.loose =
+        omega (arith, c.background-did.ensures.weight, ap weight c.hear.ensures.loose, first) in
     record { room = fits_room l c.background-did.new.self.loose c.args.self.now.past c.args.self.now.act_room le }
 
 pub returns-clause-run : goal.returns-clause-run

@@ -20,7 +20,8 @@ returns-clause-run g c =
     (weaker r (from_equal (hear contents 960) c.begin_event.ensures.state
     (ap (λ v. outside_of (g.P.Port.view c.args.port.now) g.V.Volume.view v c.args.keep.now) c.begin_event.ensures.volume) (c.hear.ensures.run c.args.keep.now)))
     c.command_ready-stepped.ensures.run
-    (weaker r (from_equal (λ n. ended contents n (state_of c.command_ready-stepped.new.self.store)) c.waiting_count-before.ensures refl (c.end_event.ensures.run _))) refl
+    (weaker r (from_equal (λ n. ended contents n (state_of c.command_ready-stepped.new.self.store)) c.waiting_count-before.ensures refl
+        (c.end_event.ensures.run _))) refl
 
 pub returns-clause-half : goal.returns-clause-half
 returns-clause-half g c =

@@ -11,4 +11,6 @@ invariant_of-result g c =
     let n = c.args.cylinders * 15 in
     let none : loose_count c.in-Ok.store.loose.loose ≡ 0 =
     ap loose_count (ap (λ s. s.loose) c.in-Ok.ensures.state) ∙ count_none 960 (is_loose_in (replicate n false)) (λ t. empty_places n t false) in
-    rw c.new-in-Ok.ensures.over (record { at_word = tt; half_waits = λ one. absurd (none_counts c.in-Ok.store.half (none_mapped half_of c.in-Ok.store.half (ap (λ s. s.half) c.in-Ok.ensures.state)) one); keeps = rw c.new-in-Ok.ensures.over at c.new-in-Ok.ensures.keeps; act_room = (rw none (omega arith), tt) })
+    rw c.new-in-Ok.ensures.over (record { at_word = tt; half_waits =
+        λ one. absurd (none_counts c.in-Ok.store.half (none_mapped half_of c.in-Ok.store.half (ap (λ s. s.half) c.in-Ok.ensures.state)) one); keeps =
+        rw c.new-in-Ok.ensures.over at c.new-in-Ok.ensures.keeps; act_room = (rw none (omega arith), tt) })

@@ -16,7 +16,8 @@ pub returns-then-has-clause-run : goal.returns-then-has-clause-run
 unfolding image
 returns-then-has-clause-run g c =
     from_equal (λ i. i)
-    (sym (image_clean (state_of c.args.self.now) c.args.usage.now c.args.t _ (sym c.modified.ensures ∙ c.if-modified.false) (sym c.has.ensures ∙ c.if-has.true)))
+    (sym (image_clean (state_of c.args.self.now) c.args.usage.now c.args.t _ (sym c.modified.ensures ∙ c.if-modified.false)
+        (sym c.has.ensures ∙ c.if-has.true)))
     refl c.clean_image.ensures.run
 
 pub returns-clause-run : goal.returns-clause-run
@@ -26,8 +27,10 @@ returns-clause-run g c =
 
 pub clean_image-requires-clause-firm : goal.clean_image-requires-clause-firm
 clean_image-requires-clause-firm g c =
-    λ here. unframed_firm c.args.self.now.loose.loose c.args.self.now.frames c.args.t _ (c.args.self.now.loose_modified here) refl (sym c.modified.ensures ∙ c.if-modified.false)
+    λ here. unframed_firm c.args.self.now.loose.loose c.args.self.now.frames c.args.t _ (c.args.self.now.loose_modified here) refl
+        (sym c.modified.ensures ∙ c.if-modified.false)
 
 pub miss-requires-clause-firm : goal.miss-requires-clause-firm
 miss-requires-clause-firm g c =
-    λ here. unframed_firm c.args.self.now.loose.loose c.args.self.now.frames c.args.t _ (c.args.self.now.loose_modified here) refl (sym c.modified.ensures ∙ c.if-modified.false)
+    λ here. unframed_firm c.args.self.now.loose.loose c.args.self.now.frames c.args.t _ (c.args.self.now.loose_modified here) refl
+        (sym c.modified.ensures ∙ c.if-modified.false)

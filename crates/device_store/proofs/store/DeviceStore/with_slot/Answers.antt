@@ -10,4 +10,5 @@ pub returns-clause-run : goal.returns-clause-run
 returns-clause-run g c = λ k. asks (rw c.if-set_modified.false at c.set_modified.ensures) (asks c.free_slot.ensures done)
 
 pub returns-clause-same : goal.returns-clause-same
-returns-clause-same g c = λ p want is. slot_back p _ _ _ c.args.slot c.args.self.now.number c.args.t want (rw c.if-set_modified.false at c.set_modified.ensures) c.free_slot.ensures
+returns-clause-same g c = λ p want is. slot_back p _ _ _ c.args.slot c.args.self.now.number c.args.t want
+    (rw c.if-set_modified.false at c.set_modified.ensures) c.free_slot.ensures

@@ -17,7 +17,8 @@ returns-in-Err-clause-run g c = tries false tt done
 
 pub returns-in-Err-make_room-clause-run : goal.returns-in-Err-make_room-clause-run
 unfolding write
-returns-in-Err-make_room-clause-run g c = lands (ap (λ v. outside_of (g.P.Port.view c.args.port.now) g.V.Volume.view v c.args.keep.now) (sym c.make_room.ensures.volume)) (tries false tt (ended (sym c.make_room.ensures.state) refl))
+returns-in-Err-make_room-clause-run g c = lands (ap (λ v. outside_of (g.P.Port.view c.args.port.now) g.V.Volume.view v c.args.keep.now)
+    (sym c.make_room.ensures.volume)) (tries false tt (ended (sym c.make_room.ensures.state) refl))
 
 pub returns-in-Ok-make_room-clause-run : goal.returns-in-Ok-make_room-clause-run
 unfolding write

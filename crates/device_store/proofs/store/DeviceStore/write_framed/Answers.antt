@@ -9,7 +9,8 @@ use Rattle.device_store.proofs.store.DeviceStore.write_framed.Goals as goal
 
 pub returns-in-Err-clause-run : goal.returns-in-Err-clause-run
 unfolding write
-returns-in-Err-clause-run g c = lands (ap (λ x. outside_of (g.P.Port.view c.args.port.now) g.V.Volume.view x c.args.keep.now) (sym c.room_framed.ensures.volume)) (tries false tt (ended (sym c.room_framed.ensures.state) refl))
+returns-in-Err-clause-run g c = lands (ap (λ x. outside_of (g.P.Port.view c.args.port.now) g.V.Volume.view x c.args.keep.now)
+    (sym c.room_framed.ensures.volume)) (tries false tt (ended (sym c.room_framed.ensures.state) refl))
 
 pub returns-clause-run : goal.returns-clause-run
 returns-clause-run g c =

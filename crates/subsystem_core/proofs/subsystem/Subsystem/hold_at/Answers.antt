@@ -10,7 +10,8 @@ invariant_of-self g c =
     record {
       rising = rw same c.args.self.now.rising;
       table = rw same c.args.self.now.table;
-      alike = alike_kept c.args.self.now.devices.items c.place-at.result c.index_mut.result.now c.hold.new.self c.index_mut.ensures.value (sits_by _ _ _ c.hold.ensures.device refl refl refl) c.args.self.now.alike;
+      alike = alike_kept c.args.self.now.devices.items c.place-at.result c.index_mut.result.now c.hold.new.self c.index_mut.ensures.value
+          (sits_by _ _ _ c.hold.ensures.device refl refl refl) c.args.self.now.alike;
     }
 
 pub returns-clause-numbers : goal.returns-clause-numbers

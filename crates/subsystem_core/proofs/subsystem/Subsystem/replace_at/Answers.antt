@@ -13,7 +13,8 @@ invariant_of-self g c =
     record {
       rising = rw same c.args.self.now.rising;
       table = rw same c.args.self.now.table;
-      alike = alike_kept c.args.self.now.devices.items c.place-at.result c.index_mut.result.now c.replace-old.new.self c.index_mut.ensures.value (sits_replaced _ _ c.args.side c.replace-old.ensures.device) c.args.self.now.alike;
+      alike = alike_kept c.args.self.now.devices.items c.place-at.result c.index_mut.result.now c.replace-old.new.self c.index_mut.ensures.value
+          (sits_replaced _ _ c.args.side c.replace-old.ensures.device) c.args.self.now.alike;
     }
 
 pub returns-clause-numbers : goal.returns-clause-numbers
@@ -24,7 +25,8 @@ returns-clause-numbers g c =
 pub returns-clause-replaced : goal.returns-clause-replaced
 returns-clause-replaced g c =
     changed c.args.self.now.devices.items c.args.d c.place-at.result c.index_mut.result.now c.replace-old.new.self _ c.args.self.now.rising
-    c.place-at.ensures.range c.place-at.ensures.found c.index_mut.ensures.value (c.replace-old.ensures.device, c.replace-old.ensures.volume, c.replace-old.ensures.other)
+    c.place-at.ensures.range c.place-at.ensures.found c.index_mut.ensures.value
+        (c.replace-old.ensures.device, c.replace-old.ensures.volume, c.replace-old.ensures.other)
 
 pub replace-old-requires-clause-there : goal.replace-old-requires-clause-there
 replace-old-requires-clause-there g c =

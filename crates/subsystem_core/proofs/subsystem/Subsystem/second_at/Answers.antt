@@ -13,7 +13,8 @@ invariant_of-self g c =
       alike = alike_kept c.args.self.now.devices.items c.place-at.result c.index_mut.result.now c.second.new.self c.index_mut.ensures.value (record {
         number = c.second.ensures.fixed.0;
         cylinders = c.second.ensures.fixed.1;
-        lent = second_lent (second_seen c.second.new.self.past c.second.result) c.index_mut.result.now c.second.new.self _ _ c.second.ensures.seen (λ e is. c.second.ensures.run (record {}) e is);
+        lent = second_lent (second_seen c.second.new.self.past c.second.result) c.index_mut.result.now c.second.new.self _ _ c.second.ensures.seen
+            (λ e is. c.second.ensures.run (record {}) e is);
       }) c.args.self.now.alike;
     }
 

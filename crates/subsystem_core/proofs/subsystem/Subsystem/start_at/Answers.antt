@@ -28,7 +28,8 @@ invariant_of-self g c =
     record {
       rising = rw same c.args.self.now.rising;
       table = rw same c.args.self.now.table;
-      alike = alike_kept c.args.self.now.devices.items c.place-at.result c.index_mut.result.now c.start-outcome.new.self c.index_mut.ensures.value (sits_store _ _ c.start-outcome.ensures.store) c.args.self.now.alike;
+      alike = alike_kept c.args.self.now.devices.items c.place-at.result c.index_mut.result.now c.start-outcome.new.self c.index_mut.ensures.value
+          (sits_store _ _ c.start-outcome.ensures.store) c.args.self.now.alike;
     }
 
 pub returns-clause-numbers : goal.returns-clause-numbers
