@@ -108,7 +108,7 @@ use Rattle.subsystem_laws.proofs.NothingChecked.{lend_past}
 use Rattle.subsystem_laws.proofs.PastChecks.{reset_counts, power_counts}
 use Rattle.subsystem_laws.proofs.SecondChecks.{done_by, end_so, background_unchecked}
 use Rattle.subsystem_laws.proofs.TracksKept.{Fair}
-use Rattle.subsystem_laws.proofs.WholeLends.{first_none, where_none, is_not}
+use Rattle.subsystem_defs.proofs.Unrefused.{first_none, where_none, is_not}
 use Rattle.subsystem_laws.proofs.WholeUnpairs.{not_some}
 
 -- of no loss that was ordered: no call failed, or one did of a pair where everything is repaired; of one: everything is repaired, and the volume isn't alone
