@@ -3,6 +3,8 @@
 
 mod give;
 mod report;
+mod summary;
+mod sums;
 mod task;
 mod top;
 

@@ -2,8 +2,9 @@
 
 ghost use Rattle.std.specs.Prelude.{◌≡◌, ◌≢◌, ◌≤◌, ◌+◌, [], IfOk, Ok, length, OnOk};
 ghost use Rattle.ckd_outside.specs.Causes.{Rose};
+ghost use Rattle.report_text.specs.Counting.{counts_of};
 ghost use Rattle.report_text.specs.Report.{report_text};
-ghost use Rattle.run_report.specs.Report.{report_of};
+ghost use Rattle.run_report.specs.Report.{lines_of_run, report_of};
 ghost use Rattle.subsystem_core.specs.Devices.{numbers_of};
 ghost use Rattle.subsystem_defs.specs.Decks.{run_of};
 ghost use Rattle.deck_run.specs.Opening.{WasRead, numbers_in};
@@ -27,9 +28,10 @@ use subsystem_core::Subsystem;
 use subsystem_laws::{calm_run_misses_nothing, run_is_plain};
 
 /// A deck's devices behind its run, and the lines of its report, but for the last one; and that the run is plain, and misses nothing while it is calm.
-fn run_deck(alloc: Global, deck: &Deck, bay: &mut MemBay) -> Result<FinishedRun, NoMemory>
+pub(crate) fn run_deck(alloc: Global, deck: &Deck, bay: &mut MemBay) -> Result<FinishedRun, NoMemory>
     requires { WasRead deck.now }
     ensures text { bay.old.spoiled ≡ [] → IfOk result (λ ran. report_text ran.report [] [] ≡ report_of deck.now) }
+    ensures counts { bay.old.spoiled ≡ [] → IfOk result (λ ran. counts_of ran.report ≡ counts_of (lines_of_run (run_of deck.now))) }
     ensures well { IfOk result (λ ran. DeckRunsWell deck.now) }
     ensures stands { bay.old.spoiled ≡ [] → IfOk result (λ ran. StandsAs ran.sub (run_of deck.now).behind) }
     ensures numbers { IfOk result (λ ran. numbers_of ran.sub.devices.items ≡ numbers_in deck.now.devices) }
@@ -45,7 +47,7 @@ fn run_deck(alloc: Global, deck: &Deck, bay: &mut MemBay) -> Result<FinishedRun,
 }
 
 /// The volumes of the devices of a deck, given to the bay. It has made as many more as there are devices, and as many stand there.
-fn take_back(deck: &Deck, sub: Subsystem<MemVolume>, bay: &mut MemBay)
+pub(crate) fn take_back(deck: &Deck, sub: Subsystem<MemVolume>, bay: &mut MemBay)
     requires numbers { numbers_of sub.devices.items ≡ numbers_in deck.now.devices }
     requires accounted { AreAccounted (all_sides sub.devices.items) }
     requires room { length bay.old.taken + length deck.now.devices ≤ bay.old.made }

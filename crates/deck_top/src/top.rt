@@ -6,11 +6,14 @@ ghost use Rattle.deck_text.specs.DeckLines.{DeckLines};
 ghost use Rattle.device_outside.specs.Bay.{Bay};
 ghost use Rattle.deck_text.specs.Parse.{parsed};
 ghost use Rattle.deck_run.specs.Opening.{WasRead};
-ghost use Rattle.deck_top.specs.Answers.{code_of, task_by, task_of, usage_text, TellsDeck, TellsTask, TellsUsage, Tells};
+ghost use Rattle.deck_gen.specs.Generated.{deck_of_seed};
+ghost use Rattle.deck_top.specs.Answers.{code_of, is_run, task_of, usage_text, IsServed, TellsDeck, TellsRead, TellsTask, Tells};
 
 use crate::report::report;
-use crate::task::Task;
+use crate::summary::summarize;
+use crate::task::{Task, task_of};
 use ckd_outside::{Failed, Piece, ReadError, Sink, Source, read_up_to};
+use deck_gen::{generate, reads_back};
 use deck_text::{
     Deck, DeckFault, DeckWhy, Which, read_deck, write_deck, write_limit, write_line, write_refused,
 };
@@ -20,7 +23,7 @@ use std::alloc::Global;
 /// How the program ends.
 #[derive(Clone, Copy, Debug, PartialEq, Eq)]
 pub enum Status {
-    /// The report, or the canonical deck, was written.
+    /// The report, the canonical deck, or the summary was written.
     Reported,
     /// The first line that is refused, from 1 on, and its first reason, were written.
     DeckRefused { line: u32, why: DeckWhy },
@@ -38,28 +41,6 @@ pub enum Status {
 
 /// One byte more than a deck may have.
 const MOST_READ: usize = 16_777_217;
-
-fn task_by(word: &str) -> Option<Task>
-    ensures { result ≡ task_by word.now }
-{
-    if word.as_bytes() == b"run".as_slice() {
-        Some(Task::Run)
-    } else if word.as_bytes() == b"check".as_slice() {
-        Some(Task::Check)
-    } else {
-        None
-    }
-}
-
-#[tactic(auto, unfolding(crate::specs::Answers::task_of))]
-fn task_of(words: &[&str]) -> Option<Task>
-    ensures { result ≡ task_of (map (λ w. w.now) words.now) }
-{
-    match words {
-        [word] => task_by(word),
-        _ => None,
-    }
-}
 
 /// The exit status of the program.
 pub fn code_of(status: Status) -> u8
@@ -139,7 +120,7 @@ fn serve_deck<K: Sink>(
     requires { WasRead deck.now }
     ensures spoiled { bay.new.spoiled ≡ bay.old.spoiled }
     ensures kept { result ≢ Status.Reported → bay.new.taken ≡ bay.old.taken }
-    ensures check { task ≢ Task.Run → bay.new ≡ bay.old }
+    ensures check { is_run (Some task) ≡ false → bay.new ≡ bay.old }
     ensures told { TellsDeck result task (Ok deck.now) bay.old bay.new (K.held sink.old) (K.held sink.new) }
     ensures later { K.faults sink.old ≤ K.faults sink.new }
     ensures write { result ≡ Status.WriteFault → Rose (K.faults sink.old) (K.faults sink.new) }
@@ -147,13 +128,14 @@ fn serve_deck<K: Sink>(
     match task {
         Task::Run => report(alloc, deck, sink, bay),
         Task::Check => check(deck, sink),
+        Task::Generate { .. } => summarize(alloc, deck, sink, bay),
     }
 }
 
 fn answer<K: Sink>(alloc: Global, task: Task, text: &[u8], sink: &mut K, bay: &mut MemBay) -> Status
     ensures spoiled { bay.new.spoiled ≡ bay.old.spoiled }
     ensures kept { result ≢ Status.Reported → bay.new.taken ≡ bay.old.taken }
-    ensures check { task ≢ Task.Run → bay.new ≡ bay.old }
+    ensures check { is_run (Some task) ≡ false → bay.new ≡ bay.old }
     ensures told { TellsDeck result task (parsed text.now) bay.old bay.new (K.held sink.old) (K.held sink.new) }
     ensures later { K.faults sink.old ≤ K.faults sink.new }
     ensures write { result ≡ Status.WriteFault → Rose (K.faults sink.old) (K.faults sink.new) }
@@ -178,7 +160,29 @@ fn usage<K: Sink>(sink: &mut K) -> Status
     }
 }
 
-fn serve_task<S: Source, K: Sink>(
+/// The deck of a seed and a count of programs, for which nothing is read.
+fn generated<K: Sink>(
+    alloc: Global,
+    seed: u64,
+    count: u16,
+    sink: &mut K,
+    bay: &mut MemBay,
+) -> Status
+    requires { count ≤ 512 }
+    ensures spoiled { bay.new.spoiled ≡ bay.old.spoiled }
+    ensures kept { result ≢ Status.Reported → bay.new.taken ≡ bay.old.taken }
+    ensures told { TellsDeck result (Task.Generate seed count) (Ok (deck_of_seed seed count)) bay.old bay.new (K.held sink.old) (K.held sink.new) }
+    ensures later { K.faults sink.old ≤ K.faults sink.new }
+    ensures write { result ≡ Status.WriteFault → Rose (K.faults sink.old) (K.faults sink.new) }
+{
+    reads_back();
+    let Ok(deck) = generate(alloc, seed, count) else {
+        return Status::NoMemory;
+    };
+    summarize(alloc, &deck, sink, bay)
+}
+
+fn serve_read<S: Source, K: Sink>(
     alloc: Global,
     task: Task,
     source: &mut S,
@@ -187,8 +191,8 @@ fn serve_task<S: Source, K: Sink>(
 ) -> Status
     ensures spoiled { bay.new.spoiled ≡ bay.old.spoiled }
     ensures kept { result ≢ Status.Reported → bay.new.taken ≡ bay.old.taken }
-    ensures check { task ≢ Task.Run → bay.new ≡ bay.old }
-    ensures told { TellsTask result task bay.old bay.new (S.left source.old) (S.left source.new) (K.held sink.old) (K.held sink.new) }
+    ensures check { is_run (Some task) ≡ false → bay.new ≡ bay.old }
+    ensures told { TellsRead result task bay.old bay.new (S.left source.old) (S.left source.new) (K.held sink.old) (K.held sink.new) }
     ensures read { result ≡ Status.ReadFault → Rose (S.faults source.old) (S.faults source.new) }
     ensures calm { result ≢ Status.ReadFault → S.faults source.new ≡ S.faults source.old }
     ensures write { result ≡ Status.WriteFault → Rose (K.faults sink.old) (K.faults sink.new) }
@@ -197,6 +201,29 @@ fn serve_task<S: Source, K: Sink>(
         Ok(text) => answer(alloc, task, &text, sink, bay),
         Err(ReadError::Failed) => Status::ReadFault,
         Err(ReadError::NoMemory) => Status::NoMemory,
+    }
+}
+
+fn serve_task<S: Source, K: Sink>(
+    alloc: Global,
+    task: Task,
+    source: &mut S,
+    sink: &mut K,
+    bay: &mut MemBay,
+) -> Status
+    requires { IsServed task }
+    ensures spoiled { bay.new.spoiled ≡ bay.old.spoiled }
+    ensures kept { result ≢ Status.Reported → bay.new.taken ≡ bay.old.taken }
+    ensures check { is_run (Some task) ≡ false → bay.new ≡ bay.old }
+    ensures told { TellsTask result task bay.old bay.new (S.left source.old) (S.left source.new) (K.held sink.old) (K.held sink.new) }
+    ensures read { result ≡ Status.ReadFault → Rose (S.faults source.old) (S.faults source.new) }
+    ensures calm { result ≢ Status.ReadFault → S.faults source.new ≡ S.faults source.old }
+    ensures write { result ≡ Status.WriteFault → Rose (K.faults sink.old) (K.faults sink.new) }
+{
+    match task {
+        Task::Run => serve_read(alloc, Task::Run, source, sink, bay),
+        Task::Check => serve_read(alloc, Task::Check, source, sink, bay),
+        Task::Generate { seed, count } => generated(alloc, seed, count, sink, bay),
     }
 }
 
@@ -209,7 +236,7 @@ fn serve<S: Source, K: Sink>(
 ) -> Status
     ensures spoiled { bay.new.spoiled ≡ bay.old.spoiled }
     ensures kept { result ≢ Status.Reported → bay.new.taken ≡ bay.old.taken }
-    ensures check { task_of (map (λ w. w.now) words.now) ≢ Some Task.Run → bay.new ≡ bay.old }
+    ensures check { is_run (task_of (map (λ w. w.now) words.now)) ≡ false → bay.new ≡ bay.old }
     ensures told { Tells result (task_of (map (λ w. w.now) words.now)) bay.old bay.new
         (S.left source.old) (S.left source.new) (K.held sink.old) (K.held sink.new) }
     ensures read { result ≡ Status.ReadFault → Rose (S.faults source.old) (S.faults source.new) }
@@ -224,7 +251,8 @@ fn serve<S: Source, K: Sink>(
 
 /// Does what the words ask for, over a source, a sink and a bay. `run` reads a deck, runs it over volumes that the bay makes, writes the
 /// report of its run and then gives the bay the volumes that stand in the devices, by rising number, side A before side B; `check`
-/// reads a deck and writes its canonical text. A read fault is answered exactly where a read failed. Where memory is lacking, or a
+/// reads a deck and writes its canonical text; `generate SEED COUNT` reads nothing, runs the deck of that seed and so many programs
+/// in the same way, and writes the summary of its run. A read fault is answered exactly where a read failed. Where memory is lacking, or a
 /// write failed, the bay may have made volumes that don't come back.
 pub fn deck_top<S: Source, K: Sink>(
     alloc: Global,
@@ -242,13 +270,15 @@ pub fn deck_top<S: Source, K: Sink>(
     // Its spoiled tracks stay, and so do the volumes that it took back, but behind the report of a run.
     ensures spoiled { bay.new.spoiled ≡ bay.old.spoiled }
     ensures kept { result ≢ Status.Reported → bay.new.taken ≡ bay.old.taken }
-    ensures check { task_of (map (λ w. w.now) words.now) ≢ Some Task.Run → bay.new ≡ bay.old }
+    ensures check { is_run (task_of (map (λ w. w.now) words.now)) ≡ false → bay.new ≡ bay.old }
 
-    // Every deck is checked, and run, unless memory runs out or the outside fails.
+    // Every deck is checked, and run, unless memory runs out or the outside fails, and so is every generated deck.
     ensures complete { (text : List ℕ) (task : Task) (d : DeckLines) → S.left source.old ≡ Some text
         → task_of (map (λ w. w.now) words.now) ≡ Some task → parsed text ≡ Ok d
         → ¬ Rose (S.faults source.old) (S.faults source.new) → ¬ Rose (K.faults sink.old) (K.faults sink.new)
         → (result ≡ Status.Reported) ⊎ (result ≡ Status.NoMemory) }
+    ensures generated { (seed count : ℕ) → task_of (map (λ w. w.now) words.now) ≡ Some (Task.Generate seed count)
+        → ¬ Rose (K.faults sink.old) (K.faults sink.new) → (result ≡ Status.Reported) ⊎ (result ≡ Status.NoMemory) }
 {
     serve(alloc, words, source, sink, bay)
 }

@@ -39,7 +39,8 @@ use Rattle.report_text.specs.Ends.{data_lines, sense_lines}
 use Rattle.report_text.specs.Events.{ended_lines, first_lines, io_lines, last_line, line_if, loosed_line, program_over_lines}
 use Rattle.run_report.specs.Beside.{loosed, loose_lines, over_lines, over_of, power_lines, of_each}
 use Rattle.run_report.specs.Events.{work_lines, all_power_lines}
-use Rattle.run_report.specs.Shown.{is_accepted, shows, owns, shown_from}
+use Rattle.report_text.specs.Counting.{is_accepted}
+use Rattle.run_report.specs.Shown.{shows, owns, shown_from}
 use Rattle.subsystem_defs.specs.declared.end.EventEnd.{EventEnd}
 use Rattle.subsystem_defs.specs.Beside.{loose_told, new_items}
 

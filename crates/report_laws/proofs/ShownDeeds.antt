@@ -41,7 +41,8 @@ use Rattle.report_text.specs.Events.{first_lines, program_over_lines}
 use Rattle.run_report.specs.declared.told.RunningProgram.{RunningProgram}
 use Rattle.run_report.specs.Answers.{start_answer, start_refused}
 use Rattle.run_report.specs.Events.{work_told, end_told, half_told, running_program}
-use Rattle.run_report.specs.Shown.{is_accepted, shown_from}
+use Rattle.report_text.specs.Counting.{is_accepted}
+use Rattle.run_report.specs.Shown.{shown_from}
 use Rattle.run_report.proofs.HistoryShown.{start_shows}
 use Rattle.run_report.proofs.OneDevice.{none_behind}
 use Rattle.report_laws.proofs.Histories.{

@@ -15,5 +15,6 @@ mod read_lines;
 pub use data::{DATA_HEAD, are_digits_of, data_in_pieces};
 pub use fault::{LineError, LineFault};
 pub use law::{is_read_back, reads_back};
+pub use numbers::number_in;
 pub use ranges::in_ranges;
 pub use read::read_line;

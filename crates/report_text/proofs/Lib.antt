@@ -1,2 +1,3 @@
 pub mod Spaced
 mod KeptLines
+mod Counted

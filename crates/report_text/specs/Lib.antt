@@ -6,3 +6,4 @@ pub mod Summary
 pub mod Record
 pub mod Report
 pub mod Events
+pub mod Counting

@@ -28,5 +28,5 @@ pub use record::RunRecord;
 pub use report::{DeviceEnd, FrameEnd, write_report};
 pub use report_lines::{LineSpelling, put_data};
 pub use spelled::Respelling;
-pub use summary::{Summary, write_summary};
+pub use summary::{LineCounts, Summary, write_summary};
 pub use words::Words;

@@ -1,13 +1,14 @@
-ghost use Rattle.std.specs.Prelude.{◌≡◌, ◌≤◌, ◌-◌, ◌++◌, ◌∷◌, [], OnErr, OnOk, length, take};
+ghost use Rattle.std.specs.Prelude.{◌≡◌, ◌≤◌, ◌-◌, ◌++◌, ◌∷◌, [], ◌<◌, ◌+◌, List, OnErr, OnOk, if◌then◌else◌, length, take, ℕ};
 ghost use Rattle.ckd_outside.specs.Causes.{HasCause};
 ghost use Rattle.ckd_outside.specs.Texts.{Puts};
+ghost use Rattle.report_text.specs.Counting.{counts_of, is_accepted, is_check, is_end, is_start};
 ghost use Rattle.report_text.specs.Ends.{data_lines, end_line, lines_text, sense_lines};
 ghost use Rattle.report_text.specs.Lines.{line_text};
 ghost use Rattle.report_text.specs.Record.{IsSpent, byte_count, kept_line, kept_lines, other_count, whole_line};
 ghost use Rattle.report_text.specs.declared.line.ReportLine.TheVariants as lines;
 
 use crate::words::{HexWord, put_often};
-use crate::{EndLine, HowOver, LineSpelling, ReportLine, put_data};
+use crate::{EndLine, HowOver, LineCounts, LineSpelling, ReportLine, StartAnswer, put_data};
 use ckd_outside::{Failed, LineBuffer, Sink, Spelling};
 use ckd_types::{Bytes, CommandEnd, DeviceNo, NoMemory, PathNo, Sense};
 use std::alloc::Global;
@@ -233,6 +234,13 @@ impl RunRecord {
         self.push_owned(sent)
     }
 
+    /// What the lines come to.
+    pub fn counts(&self) -> LineCounts
+        ensures { result ≡ counts_of self.now }
+    {
+        count_kept(&self.kept, &self.bytes, &self.others)
+    }
+
     /// Where the end has sense.
     pub(crate) fn push_any_sense(&mut self, sense: &Option<Sense>) -> Result<(), NoMemory>
         ensures did { OnOk result (self.new ≡ self.old ++ sense_lines sense.now) }
@@ -319,6 +327,111 @@ fn other_count(kept: &Kept) -> usize
         Kept::Other => 1,
         Kept::End(_) | Kept::Io(_, _) | Kept::Over(_, _, _, _) | Kept::Data(_) | Kept::Sense => 0,
     }
+}
+
+fn is_accepted(answer: &StartAnswer) -> bool
+    ensures { result ≡ is_accepted answer.now }
+{
+    match answer {
+        StartAnswer::Accepted(_) => true,
+        StartAnswer::Busy(_)
+        | StartAnswer::Done
+        | StartAnswer::Running
+        | StartAnswer::Secondary(_)
+        | StartAnswer::Reserved(_)
+        | StartAnswer::Shut(_) => false,
+    }
+}
+
+fn is_start(line: &ReportLine) -> bool
+    ensures { result ≡ is_start line.now }
+{
+    match line {
+        ReportLine::Start(_, _, answer) => is_accepted(answer),
+        _ => false,
+    }
+}
+
+fn is_end(line: &ReportLine) -> bool
+    ensures { result ≡ is_end line.now }
+{
+    match line {
+        ReportLine::End(_) => true,
+        _ => false,
+    }
+}
+
+fn is_check(line: &ReportLine) -> bool
+    ensures { result ≡ is_check line.now }
+{
+    match line {
+        ReportLine::End(end) => end.status.has_unit_check(),
+        _ => false,
+    }
+}
+
+/// Whether a line that is kept starts a program, whatever its bytes are.
+fn starts(kept: &Kept, others: &[ReportLine]) -> bool
+    requires { other_count kept.now ≤ length others.now }
+    ensures { (bytes : List ℕ) → result ≡ is_start (kept_line kept.now bytes others.now) }
+{
+    match kept {
+        Kept::Other => is_start(&others[0]),
+        Kept::End(_) | Kept::Io(_, _) | Kept::Over(_, _, _, _) | Kept::Data(_) | Kept::Sense => false,
+    }
+}
+
+fn ends(kept: &Kept, others: &[ReportLine]) -> bool
+    requires { other_count kept.now ≤ length others.now }
+    ensures { (bytes : List ℕ) → result ≡ is_end (kept_line kept.now bytes others.now) }
+{
+    match kept {
+        Kept::End(_) => true,
+        Kept::Other => is_end(&others[0]),
+        Kept::Io(_, _) | Kept::Over(_, _, _, _) | Kept::Data(_) | Kept::Sense => false,
+    }
+}
+
+fn ends_checked(kept: &Kept, others: &[ReportLine]) -> bool
+    requires { other_count kept.now ≤ length others.now }
+    ensures { (bytes : List ℕ) → result ≡ is_check (kept_line kept.now bytes others.now) }
+{
+    match kept {
+        Kept::End(end) => end.status.has_unit_check(),
+        Kept::Other => is_check(&others[0]),
+        Kept::Io(_, _) | Kept::Over(_, _, _, _) | Kept::Data(_) | Kept::Sense => false,
+    }
+}
+
+/// One more, where it counts.
+fn counted(n: u64, more: bool) -> u64
+    requires { n < 18446744073709551615 }
+    ensures { result ≡ n + (if more then 1 else 0) }
+{
+    if more { n + 1 } else { n }
+}
+
+fn count_kept(list: &[Kept], bytes: &[u8], others: &[ReportLine]) -> LineCounts
+    requires spent { IsSpent list.now bytes.now others.now }
+    ensures { result ≡ counts_of (kept_lines list.now bytes.now others.now) }
+{
+    let mut counts = LineCounts {
+        programs: 0,
+        commands: 0,
+        checks: 0,
+    };
+    let mut bytes_left = bytes;
+    let mut others_left = others;
+    for kept in list {
+        counts = LineCounts {
+            programs: counted(counts.programs, starts(kept, others_left)),
+            commands: counted(counts.commands, ends(kept, others_left)),
+            checks: counted(counts.checks, ends_checked(kept, others_left)),
+        };
+        bytes_left = bytes_left.split_at(byte_count(kept)).1;
+        others_left = others_left.split_at(other_count(kept)).1;
+    }
+    counts
 }
 
 fn put_all_kept<K: Sink>(

@@ -6,6 +6,15 @@ ghost use Rattle.report_text.specs.Summary.{summary_text};
 use crate::{LineSpelling, ReportLine, SumOf};
 use ckd_outside::{Failed, LineBuffer, Sink, Spelling, put_all, write_out};
 
+/// What the lines of a run come to: how many programs were started, how many commands ended, and how many of those with
+/// unit check.
+#[derive(Clone, Copy, Debug, PartialEq, Eq)]
+pub struct LineCounts {
+    pub programs: u64,
+    pub commands: u64,
+    pub checks: u64,
+}
+
 /// What a run came to: the programs that were started, the commands that ended and those of them with unit
 /// check, the volume calls of all devices, and the lost tracks.
 #[derive(Clone, Copy, Debug, PartialEq, Eq)]

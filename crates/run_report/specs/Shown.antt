@@ -7,10 +7,10 @@ use Rattle.plain_defs.specs.declared.journal.Item.TheVariants as items
 use Rattle.plain_defs.specs.History.{History, OpenEntry}
 use Rattle.deck_text.specs.DeckLines.{DeckLines}
 use Rattle.device_defs.specs.Marks.{MarksDevice}
-use Rattle.report_text.specs.declared.answers.StartAnswer.{StartAnswer}
 use Rattle.report_text.specs.declared.answers.StartAnswer.TheVariants as start
 use Rattle.report_text.specs.declared.line.ReportLine.{ReportLine}
 use Rattle.report_text.specs.declared.line.ReportLine.TheVariants as lines
+use Rattle.report_text.specs.Counting.{is_accepted}
 use Rattle.report_text.specs.Events.{ended_lines, program_over_lines}
 use Rattle.run_report.specs.Beside.{program_over}
 use Rattle.run_report.specs.Report.{report_lines}
@@ -19,10 +19,6 @@ use Rattle.subsystem_defs.specs.Promised.{IsPlainBehind}
 use Rattle.subsystem_defs.specs.Subsystem.{devices_of}
 
 -- In a report: the lines of a device's accepted programs, from their START to their OVER
-
-abbrev pub is_accepted : StartAnswer → Bool
-is_accepted (start.Accepted n) = true
-is_accepted _ = false
 
 -- DATA and SENSE are of the device where the last END is
 abbrev pub shows : ℕ → Bool → ReportLine → Bool
