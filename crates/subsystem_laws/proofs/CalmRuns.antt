@@ -318,11 +318,11 @@ refuses_go = record {
 
 -- All devices
 
-abbrev AllSo : (MarksDevice → Type 0) → List MarksDevice → Type 0
+abbrev pub AllSo : (MarksDevice → Type 0) → List MarksDevice → Type 0
 AllSo p [] = Unit {0}
 AllSo p (d ∷ ds) = p d × AllSo p ds
 
-all_so : (p : MarksDevice → Type 0) (ds : List MarksDevice) → All p ds → AllSo p ds
+pub all_so : (p : MarksDevice → Type 0) (ds : List MarksDevice) → All p ds → AllSo p ds
 all_so p [] h = tt
 all_so p (d ∷ ds) h = (All-head p d ds h, all_so p ds (All-tail p d ds h))
 

@@ -38,3 +38,5 @@ pub mod RunLength
 pub mod CalmDevices
 pub mod CalmEvents
 pub mod CalmRuns
+pub mod FailedCalls
+pub mod ExplainedRuns
