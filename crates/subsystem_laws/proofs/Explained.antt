@@ -1,47 +1,10 @@
 -- Each equipment check in the run of a deck is explained, while failed calls are counted.
-use Rattle.std.proofs.Common.{
-  ◌≡◌,
-  ◌<◌,
-  ◌≤◌,
-  ◌+◌,
-  ◌-◌,
-  ◌==◌,
-  ◌*◌,
-  zero,
-  suc,
-  ℕ,
-  Bool,
-  true,
-  false,
-  List,
-  [],
-  ◌∷◌,
-  ◌++◌,
-  length,
-  map,
-  Option,
-  Some,
-  None,
-  is_some,
-  option_map,
-  get_or,
-  refl,
-  sym,
-  ap,
-  subst,
-  ◌∙◌,
-  append_assoc,
-  arith,
-  ◌⊎◌,
-  inl,
-  inr,
-}
+use Rattle.std.proofs.Common.{◌≡◌, ◌<◌, ◌+◌, ◌-◌, ◌==◌, ℕ, Bool, true, false, List, [], ◌∷◌, ◌++◌, length, Option, Some, None, option_map, refl, sym, ap, subst, ◌∙◌, append_assoc, arith, ◌⊎◌, inl, inr}
 use Rattle.std.proofs.lemmas.Bool.{ne_eqb}
 use Rattle.std.proofs.lemmas.List.{append-nil}
-use Rattle.std.specs.Prelude.{not, count_by, IsSome, if◌then◌else◌, ◌&&◌, ◌||◌}
+use Rattle.std.specs.Prelude.{not, count_by, if◌then◌else◌, ◌&&◌, ◌||◌}
 use Rattle.ckd_chain.specs.State.{ChainState}
 use Rattle.ckd_chain.specs.Steps.{word_of}
-use Rattle.ckd_rules.specs.Walk.{TrackEdit}
 use Rattle.ckd_types.specs.declared.paths.Side.{Side}
 use Rattle.ckd_types.specs.declared.paths.Side.TheVariants as sides
 use Rattle.ckd_types.specs.declared.record.Edit.{Edit}
@@ -55,7 +18,6 @@ use Rattle.plain_defs.specs.History.{OpenEntry, History, entry_of, resets_of, pu
 use Rattle.plain_defs.specs.Journal.{replay, last_sense}
 use Rattle.plain_defs.specs.Legal.{is_used, is_started}
 use Rattle.plain_defs.specs.PlainState.{PlainState}
-use Rattle.device_outside.specs.Interaction.{Done, and_then}
 use Rattle.device_outside.specs.Told as T
 use Rattle.device_outside.specs.Told.{Told}
 use Rattle.device_defs.specs.declared.answers.SecondEnd.{SecondEnd}
@@ -69,10 +31,10 @@ use Rattle.device_defs.specs.Events as E
 use Rattle.device_defs.specs.Events.{second_ended, second_of, second, lose, background}
 use Rattle.device_defs.specs.Second.{second_part}
 use Rattle.device_defs.specs.Excused.{LastCommand, is_write, is_checked, is_equipment_check, has_lost, last_command}
-use Rattle.device_defs.specs.Marks.{MarksDevice, MarksStore}
+use Rattle.device_defs.specs.Marks.{MarksDevice}
 use Rattle.device_defs.specs.Owed.{begun, waiting_count, ended}
 use Rattle.device_defs.specs.Store.{Origin, OfCommand, OfCut, OfBackground, HalfWrite, stale_at, level_at, takes_b, some_up}
-use Rattle.device_laws.specs.Unharmed.{some_takes, ends_with_equipment_check}
+use Rattle.device_laws.specs.Unharmed.{ends_with_equipment_check}
 use Rattle.device_laws.proofs.Always.{Always, always_done, always_then}
 use Rattle.device_laws.proofs.BasedEvents.{command_based, second_based}
 use Rattle.device_laws.proofs.Had.{Had, had_done, had_then, held}
@@ -86,7 +48,6 @@ use Rattle.device_laws.proofs.PlainEvents.{had_always}
 use Rattle.device_laws.proofs.PlainStores.{Core, core_of as plain_core}
 use Rattle.device_laws.proofs.PlainWalks.{hear_same}
 use Rattle.device_laws.proofs.Served.{served_at}
-use Rattle.device_laws.proofs.SidesKept.{state_of, IsSteered}
 use Rattle.device_laws.proofs.TouchedTracks.{command_touched}
 use Rattle.device_laws.proofs.TrackMarks.{marks_are_faithful}
 use Rattle.device_laws.proofs.UncheckedEvents.{equipment_checks, acts_same}
@@ -94,7 +55,7 @@ use Rattle.device_laws.proofs.Unlost.{Fine, core_of}
 use Rattle.device_laws.proofs.UnlostEvents.{command_goes_within}
 use Rattle.device_laws.proofs.WriteLooks.{edited_is_write}
 use Rattle.subsystem_defs.specs.Beside.{behind_first, new_items}
-use Rattle.subsystem_defs.specs.Promised.{empty_of, explains, is_explained, explained_first, explained_on}
+use Rattle.subsystem_defs.specs.Promised.{empty_of, explains, explained_first, explained_on}
 use Rattle.subsystem_laws.specs.Causes.{checks_of, EachPair}
 use Rattle.subsystem_laws.proofs.CheckCauses.{by_failed, decided, second_checks, reset_same, power_same, loss_same, background_same, restore_same}
 use Rattle.subsystem_laws.proofs.GoodMarks.{runs_home, half_home, within}
@@ -113,9 +74,8 @@ use Rattle.subsystem_defs.specs.Decks.{run_of}
 use Rattle.subsystem_defs.specs.Deeds.{ends_done, end_of}
 use Rattle.subsystem_defs.specs.Lines.{Logged}
 use Rattle.subsystem_defs.specs.Subsystem.{Subsystem, devices_of}
-use Rattle.subsystem_laws.specs.Causes.{ChecksForCause, CheckForCause}
 use Rattle.subsystem_laws.specs.Served.{IsServedDeck}
-use Rattle.subsystem_laws.proofs.CheckCauses.{command_causes, second_causes, lend_same, start_same, replace_same, restore_same}
+use Rattle.subsystem_laws.proofs.CheckCauses.{restore_same}
 use Rattle.subsystem_laws.proofs.DeedWalk.{seat_of, IsDeedwise}
 use Rattle.subsystem_laws.proofs.Pairing.{KeepsDeed, deeds_of, IsPairwise, run_pairs, ends_made, becomes_so, fair_of, started_number}
 use Rattle.subsystem_laws.proofs.Walks.{AreSo}
@@ -266,7 +226,6 @@ module _ (d : MarksDevice) (f : Fair d) (p : Plainly d) (s : Steered d) (lt : d.
     abbrev fol : Follows p.number (empty_of d) d
     fol = plainly_of d p
 
-
     now : d.chain ≡ Some chain
     now = none_mid (plain_core d.store) d.store.half d.history.running (plainly_of d p).before d.chain whole (plainly_of d p).mid ∙ is
 
@@ -308,8 +267,8 @@ module _ (d : MarksDevice) (f : Fair d) (p : Plainly d) (s : Steered d) (lt : d.
             has_lost y.store.lost (last_command d.plans (replay d.plans (empty_of d) d.history.items) e).touched ≡ true
         lost_behind y same t at_y e tells lost =
             let fine = at (where_none_failed (λ z _. Fine (core_of d.store) (core_of z.store)) (command_based by_plain d) lt
-                (command_goes_within by_plain marks_are_faithful d (within d f.good) (f.good.well (runs_home d f.good o running)) whole)) t
-                (ap (λ (z : MarksDevice). z.store.counts.failed) at_y ∙ same) in
+            (command_goes_within by_plain marks_are_faithful d (within d f.good) (f.good.well (runs_home d f.good o running)) whole)) t
+            (ap (λ (z : MarksDevice). z.store.counts.failed) at_y ∙ same) in
             ap (λ (l : List ℕ). has_lost y.store.lost l) tells.touched
             ∙ ap (λ (l : List Bool). has_lost l (its_effect p.number (empty_of d) d (plainly_of d p) o running chain is).touched)
             (ap (λ (z : MarksDevice). z.store.lost) (sym at_y) ∙ fine.lost) ∙ lost
@@ -342,7 +301,7 @@ module _ (d : MarksDevice) (f : Fair d) (p : Plainly d) (s : Steered d) (lt : d.
         let mid = halfway p.number (empty_of d) d fol h there bypass edit origin o running in
         let y = (T.hold true (second by_plain d) t).state in
         let write = edited_is_write mid.origin.fixed d.paths (track_in d.store.plain) o.path mid.origin.at.stance (word_of mid.origin)
-            (record { track = h.track; edit = edit }) (P.its_edit p.number (empty_of d) d fol o running h.track edit mid) in
+        (record { track = h.track; edit = edit }) (P.its_edit p.number (empty_of d) d fol o running h.track edit mid) in
         explained_cause d y g (λ e xs grown how.
         let tells = held true (second_adds p.number (empty_of d) d fol h there bypass edit origin o running) t e xs grown how in
         let last = last_command d.plans (replay d.plans (empty_of d) d.history.items) e in

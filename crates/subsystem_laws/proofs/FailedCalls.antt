@@ -1,7 +1,7 @@
 -- In the run of a deck that was read fewer calls of each device fail than are counted.
-use Rattle.std.proofs.Common.{◌≡◌, ◌<◌, ◌≤◌, ◌+◌, ◌*◌, ℕ, Bool, true, false, not, List, [], ◌∷◌, length, map, Option, Some, None, is_some, min, refl, sym, ap, subst, ◌∙◌, arith}
+use Rattle.std.proofs.Common.{◌≡◌, ◌<◌, ◌≤◌, ◌+◌, ◌*◌, ℕ, suc, Bool, true, false, not, List, [], ◌∷◌, length, map, Option, Some, None, is_some, min, refl, sym, ap, subst, ◌∙◌, arith}
 use Rattle.std.proofs.lemmas.List.Elements.{All-nil, All-cons, All-head, All-tail}
-use Rattle.std.specs.Prelude.{All, Ok, if◌then◌else◌}
+use Rattle.std.specs.Prelude.{All, Ok}
 use Rattle.ckd_types.specs.declared.paths.Side.{Side}
 use Rattle.ckd_types.specs.declared.paths.Side.TheVariants as sides
 use Rattle.deck_text.specs.declared.line.DeviceLine.{DeviceLine}
@@ -16,19 +16,16 @@ use Rattle.device_outside.specs.Told as T
 use Rattle.device_outside.specs.Told.{Told}
 use Rattle.device_outside.specs.Volume as V
 use Rattle.device_outside.specs.Volume.{counted, counted_if}
-use Rattle.device_defs.specs.declared.answers.Did.{Did}
-use Rattle.device_defs.specs.declared.answers.SecondEnd.{SecondEnd}
-use Rattle.device_defs.specs.declared.answers.Stepped.{Stepped}
 use Rattle.device_defs.specs.declared.counts.Counts as K
 use Rattle.device_defs.specs.Command.{command}
 use Rattle.device_defs.specs.Contents.{by_plain}
 use Rattle.device_defs.specs.Cutting.{reset, power}
-use Rattle.device_defs.specs.Device.{event_begun}
+use Rattle.device_defs.specs.Device.{event_ended}
 use Rattle.device_defs.specs.Events.{second, lose, background}
-use Rattle.device_defs.specs.Losses.{over}
 use Rattle.device_defs.specs.Marks.{MarksDevice}
 use Rattle.device_defs.specs.Orders as O
-use Rattle.device_defs.specs.Orders.{hold, resume, replace, lend, with_tracks, lent_to, given_up}
+use Rattle.device_defs.specs.Orders.{hold, resume, replace, lend}
+use Rattle.device_defs.specs.Owed.{waiting_count}
 use Rattle.device_defs.specs.Start as S
 use Rattle.device_defs.specs.Start.{start, next_ordinal}
 use Rattle.device_defs.specs.Store.{HalfWrite, tracks_of, takes_b}
@@ -38,9 +35,10 @@ use Rattle.device_laws.proofs.Always.{Behind, Always}
 use Rattle.device_laws.proofs.Based.{Base, Any, Based, kept, based_any, based_done, based_try, based_ask, based_read, based_write, based_tell}
 use Rattle.device_laws.proofs.BasedEvents.{base_in, with_one_loss, command_based, second_based, background_based, lose_based, power_based, reset_body}
 use Rattle.device_laws.proofs.Lucky.{top, failed_in}
-use Rattle.seen_laws.specs.Moved.{half_writing, NoTransfers, CommandTransfers, SecondTransfers, WorkTransfers}
-use Rattle.seen_laws.proofs.Counting.{Counts, counts_done, counts_try, counts_ask, counts_read, counts_write, counts_tell, counts_weaker}
-use Rattle.seen_laws.proofs.EventCounts.{quiet_counts, command_counts, second_counts, background_counts, lose_counts, power_counts, reset_counts}
+use Rattle.device_laws.proofs.QuietParts.{ended_quiet}
+use Rattle.seen_laws.specs.Moved.{half_writing, NoTransfers, SecondTransfers}
+use Rattle.seen_laws.proofs.Counting.{Counts, counts_done, counts_try, counts_ask, counts_read, counts_write, counts_tell, counts_weaker, counts_past}
+use Rattle.seen_laws.proofs.EventCounts.{command_counts, second_counts, background_counts, lose_counts, power_counts, reset_counts}
 use Rattle.subsystem_defs.specs.declared.end.EventEnd.TheVariants as ends
 use Rattle.subsystem_defs.specs.Decks as D
 use Rattle.subsystem_defs.specs.Decks.{opened_device, opened, run_of}
@@ -48,10 +46,9 @@ use Rattle.subsystem_defs.specs.Deeds.{ends_done, end_of}
 use Rattle.subsystem_defs.specs.Lines.{Logged, asked_by}
 use Rattle.subsystem_defs.specs.Subsystem.{Mounted, Subsystem, devices_of}
 use Rattle.subsystem_laws.specs.Causes.{EachPair, CountsFailures, CountFailures}
-use Rattle.subsystem_laws.specs.Served.{IsServedDeck}
 use Rattle.subsystem_laws.proofs.CalmRuns.{AllSo}
 use Rattle.subsystem_laws.proofs.DeedWalk.{seat_of, IsDeedwise}
-use Rattle.subsystem_laws.proofs.LendBase.{at, stays_still, lend_based, lend_lends, lent_counts}
+use Rattle.subsystem_laws.proofs.LendBase.{at, stays_still, lent_store, lend_based, lend_lends, lent_counts}
 use Rattle.subsystem_laws.proofs.Pairing.{KeepsDeed, deeds_of, IsPairwise, run_pairs, ends_made, becomes_so, started_number}
 use Rattle.subsystem_laws.proofs.ReadDecks.{read_served, read_small}
 use Rattle.subsystem_laws.proofs.RunLength.{read_run_has_few}
@@ -83,7 +80,7 @@ module _ {R S X : Type 0} {base : S → Base} {may : Call → Type 0} (m n : ℕ
   few {r = r} {w = w} (based_done {s = s} e) (counts_done y) le =
       subst (λ (x : Base). failed_in x ≤ m + n) (sym e) (at_end _ m n r w le y)
   few (based_try x) (counts_try y) le = λ ok. few (x ok) (y ok) le
-  few (based_ask may x) (counts_ask y) le = λ a. few (x a) (y a) le
+  few (based_ask asked x) (counts_ask y) le = λ a. few (x a) (y a) le
   few {b = b} {r = r} {w = w} (based_read x) (counts_read y) le = λ got.
       few (x got) (y got) (one_read _ (failed_in b) m r w (if_few (not (is_some got)) (failed_in b)) le)
   few {b = b} {r = r} {w = w} (based_write x) (counts_write y) le = λ ok.
@@ -97,13 +94,16 @@ FailsBy n x y = (y.store.cylinders ≡ x.store.cylinders) × (y.store.counts.fai
 none_yet : (x m : ℕ) → x ≡ m → x ≤ m + (0 + 0)
 none_yet x m e = omega (arith, e)
 
-fails_by : {X : Type 0} (n : ℕ) (d : MarksDevice) (b : Base) {talk : Interaction Bool Image MarksDevice X} → b.cylinders ≡ d.store.cylinders →
-    b.counts.failed ≡ d.store.counts.failed → Based base_in Any b talk → Counts (λ x y (z : MarksDevice) (a : X). x + y ≤ n) 0 0 talk → (t : Told) →
-    FailsBy n d (T.hold true talk t).state
-fails_by n d b {talk = talk} cylinders same x y t =
-    let h : Always talk (λ z a. failed_in (base_in z) ≤ d.store.counts.failed + n) =
-    record { holds = few d.store.counts.failed n x y (none_yet b.counts.failed d.store.counts.failed same) } in
-    ((at (stays_still x) t).1 ∙ cylinders, at h t)
+module _ {X : Type 0} (n : ℕ) (d : MarksDevice) (b : Base) {talk : Interaction Bool Image MarksDevice X} (same : b.counts.failed ≡ d.store.counts.failed)
+    (x : Based base_in Any b talk) (y : Counts (λ x y (z : MarksDevice) (a : X). x + y ≤ n) 0 0 talk) (t : Told) where
+  calls_few : (T.hold true talk t).state.store.counts.failed ≤ d.store.counts.failed + n
+  calls_few =
+      let h : Always talk (λ z a. failed_in (base_in z) ≤ d.store.counts.failed + n) =
+      record { holds = few d.store.counts.failed n x y (none_yet b.counts.failed d.store.counts.failed same) } in
+      at h t
+
+  fails_by : b.cylinders ≡ d.store.cylinders → FailsBy n d (T.hold true talk t).state
+  fails_by cylinders = ((at (stays_still x) t).1 ∙ cylinders, calls_few)
 
 -- An event's calls
 
@@ -132,58 +132,62 @@ half_few : (b : Bool) (n r w : ℕ) → r ≡ 0 → w ≡ both b false → r + w
 half_few true n r w reads writes = omega (arith, reads, writes)
 half_few false n r w reads writes = omega (arith, reads, writes)
 
-module _ (d : MarksDevice) where
-  abbrev FewCalls : {X : Type 0} → Interaction Bool Image MarksDevice X → Type 0
-  FewCalls {X} talk = Counts (λ x y (z : MarksDevice) (a : X). x + y ≤ most_calls d) 0 0 talk
+-- what is told at an event's end makes none
+over_calls : {X : Type 0} (d y : MarksDevice) (a : X) → Counts (λ r w (z : MarksDevice) (b : X). r + w ≤ 0) 0 0 (event_ended by_plain d y a)
+over_calls d y a =
+    counts_past (λ z _. Done (record y { store = z }) a) (ended_quiet by_plain (waiting_count by_plain d.store) y.store)
+    (λ z _. counts_done (omega arith))
 
+module _ (d : MarksDevice) where
   command_few : (t : Told) → FailsFew d (T.hold true (command by_plain d) t).state
-  command_few =
-      fails_by (most_calls d) d (kept d.store) refl refl (command_based by_plain d)
+  command_few t =
+      fails_by (most_calls d) d (kept d.store) refl (command_based by_plain d)
       (counts_weaker (command_counts by_plain d)
-      (λ r w z a k. commanded_few d.store.a.up d.store.b.up (tracks_of d.store) r w k.most_reads k.most_writes))
+      (λ r w z a k. commanded_few d.store.a.up d.store.b.up (tracks_of d.store) r w k.most_reads k.most_writes)) t refl
 
   second_calls : (h : Option (HalfWrite (Unit {0}))) (r w : ℕ) → SecondTransfers (half_writing d.store h) r w → r + w ≤ most_calls d
   second_calls (Some h) r w k = half_few (takes_b d.store) (tracks_of d.store) r w k.0 k.1
   second_calls None r w k = no_call_few (most_calls d) r w k.0 k.1
 
   second_few : (t : Told) → FailsFew d (T.hold true (second by_plain d) t).state
-  second_few =
-      fails_by (most_calls d) d (kept d.store) refl refl (second_based by_plain d)
-      (counts_weaker (second_counts by_plain d) (λ r w z a k. second_calls d.store.half r w k))
+  second_few t =
+      fails_by (most_calls d) d (kept d.store) refl (second_based by_plain d)
+      (counts_weaker (second_counts by_plain d) (λ r w z a k. second_calls d.store.half r w k)) t refl
 
   background_few : (t : Told) → FailsFew d (T.hold true (background by_plain d) t).state
-  background_few =
-      fails_by (most_calls d) d (kept d.store) refl refl (background_based by_plain d)
+  background_few t =
+      fails_by (most_calls d) d (kept d.store) refl (background_based by_plain d)
       (counts_weaker (background_counts by_plain d)
-      (λ r w z a k. worked_few d.store.a.up d.store.b.up (tracks_of d.store) r w k.most_reads k.most_writes))
+      (λ r w z a k. worked_few d.store.a.up d.store.b.up (tracks_of d.store) r w k.most_reads k.most_writes)) t refl
 
   quiet_few : {X : Type 0} {talk : Interaction Bool Image MarksDevice X} (n : ℕ) → Counts (λ r w (z : MarksDevice) (a : X). NoTransfers r w) 0 0 talk →
       Counts (λ x y (z : MarksDevice) (a : X). x + y ≤ n) 0 0 talk
   quiet_few n h = counts_weaker h (λ r w z a k. no_call_few n r w k.0 k.1)
 
   lose_few : (loss : Loss) (t : Told) → FailsFew d (T.hold true (lose by_plain d loss) t).state
-  lose_few loss =
-      fails_by (most_calls d) d (with_one_loss loss (kept d.store)) refl refl (lose_based by_plain d loss)
-      (quiet_few (most_calls d) (lose_counts by_plain d loss))
+  lose_few loss t =
+      fails_by (most_calls d) d (with_one_loss loss (kept d.store)) refl (lose_based by_plain d loss)
+      (quiet_few (most_calls d) (lose_counts by_plain d loss)) t refl
 
   power_few : (t : Told) → FailsFew d (T.hold true (power by_plain d) t).state
-  power_few =
-      fails_by (most_calls d) d (with_one_loss losses.Cache (kept d.store)) refl refl (power_based by_plain d)
-      (quiet_few (most_calls d) (power_counts by_plain d))
+  power_few t =
+      fails_by (most_calls d) d (with_one_loss losses.Cache (kept d.store)) refl (power_based by_plain d)
+      (quiet_few (most_calls d) (power_counts by_plain d)) t refl
 
   reset_few : (path : ℕ) (t : Told) → FailsFew d (T.hold true (reset by_plain d path) t).state
-  reset_few path =
-      fails_by (most_calls d) d (kept d.store) refl refl (based_any (reset_body by_plain d path))
-      (quiet_few (most_calls d) (reset_counts by_plain d path))
+  reset_few path t =
+      fails_by (most_calls d) d (kept d.store) refl (based_any (reset_body by_plain d path))
+      (quiet_few (most_calls d) (reset_counts by_plain d path)) t refl
+
+  lend_calls : (to : ℕ) → Counts (λ x y (z : MarksDevice) (a : Unit {0}). x + y ≤ 0) 0 0 (lend by_plain d to)
+  unfolding O.lend
+  lend_calls to = over_calls d _ tt
 
   lend_none : (to : ℕ) (t : Told) → FailsBy 0 d (T.hold true (lend by_plain d to) t).state
-  unfolding O.lend
-  lend_none to t =
-      let k : (t : Told) → FailsBy 0 d (T.hold true (lend by_plain d to) t).state =
-      fails_by 0 d _ refl (ap (λ (c : K.Counts). c.failed) (lent_counts d to)) (lend_based d to)
-      (quiet_few 0 (quiet_counts by_plain (λ r w (a : Unit {0}). NoTransfers r w) d
-      (λ z. Done (with_tracks z (lent_to (over (tracks_of z.store) (given_up by_plain) z.store) to)) tt) (counts_done (refl, refl)))) in
-      k t
+  lend_none to t = (
+    (lend_lends d to t).cylinders,
+    calls_few 0 d (kept (lent_store d to)) (ap (λ (c : K.Counts). c.failed) (lent_counts d to)) (lend_based d to) (lend_calls to) t,
+  )
 
 -- All events
 

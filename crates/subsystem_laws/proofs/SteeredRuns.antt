@@ -1,5 +1,5 @@
 -- Behind every event of a run side B of a device is held only while side A is up, and while that is up it has the track of an open half write.
-use Rattle.std.proofs.Common.{◌≡◌, ◌==◌, ◌≤◌, ℕ, Bool, true, false, List, [], ◌∷◌, map, Option, Some, None, is_some, option_map, refl, sym, ap, ◌∙◌}
+use Rattle.std.proofs.Common.{◌≡◌, ◌==◌, ℕ, Bool, true, false, List, [], ◌∷◌, map, Option, Some, None, is_some, option_map, refl}
 use Rattle.std.specs.Prelude.{not, ◌&&◌}
 use Rattle.ckd_types.specs.declared.paths.Side.{Side}
 use Rattle.ckd_types.specs.declared.paths.Side.TheVariants as sides
@@ -7,23 +7,21 @@ use Rattle.loss_model.specs.declared.Loss.TheVariants as losses
 use Rattle.deck_text.specs.declared.line.DeviceLine.{DeviceLine}
 use Rattle.deck_text.specs.DeckLines.{DeckLines}
 use Rattle.track_table.proofs.Places.{empty_places}
-use Rattle.device_outside.specs.Told.{Told}
 use Rattle.device_defs.specs.Contents.{by_plain}
 use Rattle.device_defs.specs.Marks.{MarksDevice}
-use Rattle.device_defs.specs.Orders.{join, split, restore, replace, hold, resume}
+use Rattle.device_defs.specs.Orders.{replace, hold}
 use Rattle.device_defs.specs.Start as S
 use Rattle.device_defs.specs.Start.{start}
 use Rattle.device_defs.specs.Store.{HalfWrite, side_of, tracks_of}
 use Rattle.device_laws.proofs.SidesEvents.{command_steers, second_steers, background_steers, lose_steers, power_steers, reset_steers, lend_steers}
 use Rattle.device_laws.proofs.SidesKept.{state_of, IsSteered}
 use Rattle.subsystem_defs.specs.declared.end.OrderFault.TheVariants.{Same, Paired, Unpaired, Down, Up, NoSide, Half}
-use Rattle.subsystem_defs.specs.Decks as D
 use Rattle.subsystem_defs.specs.Decks.{opened_device}
 use Rattle.subsystem_defs.specs.Refusals as R
 use Rattle.subsystem_defs.specs.Refusals.{pair_fault, unpair_fault, suspend_fault, replace_fault}
 use Rattle.subsystem_laws.proofs.LendBase.{at}
 use Rattle.subsystem_laws.proofs.Walks.{AreSo, IsKept}
-use Rattle.subsystem_laws.proofs.WholeLends.{first_none, where_none, is_not}
+use Rattle.subsystem_defs.proofs.Unrefused.{first_none, where_none, is_not}
 use Rattle.subsystem_laws.proofs.WholeUnpairs.{not_some}
 
 abbrev pub Steered : MarksDevice → Type 0
