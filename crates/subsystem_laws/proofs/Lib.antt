@@ -19,6 +19,8 @@ pub mod WaitingSum
 pub mod Waiting
 pub mod CheckCauses
 pub mod Causing
+pub mod SteeredRuns
+pub mod Explained
 pub mod LostLists
 pub mod WholeSlots
 pub mod SlotsApart
@@ -36,3 +38,5 @@ pub mod RunLength
 pub mod CalmDevices
 pub mod CalmEvents
 pub mod CalmRuns
+pub mod FailedCalls
+pub mod ExplainedRuns

@@ -5,13 +5,10 @@ use Rattle.ckd_types.specs.declared.paths.Side.{Side}
 use Rattle.deck_text.specs.DeckLines.{DeckLines}
 use Rattle.loss_model.specs.declared.Loss.TheVariants as losses
 use Rattle.track_image.specs.Image.{Image}
-use Rattle.device_outside.specs.Interaction.{Done, and_then}
+use Rattle.device_outside.specs.Interaction.{Done}
 use Rattle.device_outside.specs.Pool.{all_waiting}
-use Rattle.device_outside.specs.Told as T
-use Rattle.device_outside.specs.Told.{Calls}
 use Rattle.device_defs.specs.declared.answers.Did.{Did}
 use Rattle.device_defs.specs.declared.answers.StartFault.{StartFault}
-use Rattle.device_defs.specs.declared.answers.Stepped.{Stepped}
 use Rattle.device_defs.specs.Command.{command}
 use Rattle.device_defs.specs.Contents.{by_plain}
 use Rattle.device_defs.specs.Cutting.{reset}
@@ -30,7 +27,7 @@ use Rattle.subsystem_defs.specs.Deeds as E
 use Rattle.subsystem_defs.specs.Deeds.{Ends, Asks, deed, device_in, on_device, order, starts, start_by, is_own, step, back, ends_by, may_end_by, ends_done, end_of}
 use Rattle.subsystem_defs.specs.Happening as H
 use Rattle.subsystem_defs.specs.Happening.{Happened, MarksDeed, Talk, told_to, told_end, asks, happens_by, happens, quietly, replaced_by, replaced_at, replaced, unpaired_by, unpaired_at, unpaired}
-use Rattle.subsystem_defs.specs.Lines.{Logged, Replace, Unpair, logged, asked_by}
+use Rattle.subsystem_defs.specs.Lines.{asked_by}
 use Rattle.subsystem_defs.specs.Refusals.{fail_fault, pair_fault, replace_fault, suspend_fault, resume_fault, unpair_fault}
 use Rattle.subsystem_defs.specs.Subsystem.{Mounted, Subsystem, number_of, devices_of, mounted_in, unfailing}
 use Rattle.seen_laws.specs.Moved.{sides_up, sides_writing, second_writing, NoTransfers, CommandTransfers, SecondTransfers, WorkTransfers}

@@ -1,7 +1,6 @@
 -- What is promised of a calm run holds of a device that was never lent and of which nothing was lost and no call failed.
-use Rattle.std.proofs.Common.{◌≡◌, ◌≤◌, ◌+◌, ◌==◌, ℕ, Bool, true, false, List, [], ◌∷◌, map, refl, ap, arith}
-use Rattle.std.specs.List.{fold}
-use Rattle.std.specs.Prelude.{All, ◌&&◌, ◌||◌, not, if◌then◌else◌}
+use Rattle.std.proofs.Common.{◌≡◌, ◌==◌, ℕ, Bool, true, false, List, [], ◌∷◌, map, refl, ap, arith}
+use Rattle.std.specs.Prelude.{All, ◌&&◌, ◌||◌, not}
 use Rattle.deck_text.specs.declared.line.DeviceLine.{DeviceLine}
 use Rattle.deck_text.specs.DeckLines.{DeckLines}
 use Rattle.plain_defs.specs.declared.journal.Item.{Item}
