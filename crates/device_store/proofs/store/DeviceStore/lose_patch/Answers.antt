@@ -17,7 +17,7 @@ returns-then-is_half_open-clause-run g c =
     λ p. from_equal (λ i. i)
     (sym (ap (firm_told contents c.args.t) (patch_open s c.args.t (sym c.has.ensures ∙ c.if-not-has.false)
         (sym c.is_half_open.ensures ∙ c.if-is_half_open.true) ∙ sym c.give_up_patch.ensures.state)
-    ∙ not_firm contents c.args.t (state_of c.give_up_patch.new.self) (c.no_firm-2.ensures c.args.t)))
+    ∙ not_firm contents c.args.t (state_of c.give_up_patch.new.self) (c.no_firm-then-is_half_open.ensures c.args.t)))
     (ap (λ x. outside_of p g.V.Volume.view x.volumes c.args.keep.now) c.give_up_patch.ensures.volume) done
 
 pub returns-clause-run : goal.returns-clause-run
