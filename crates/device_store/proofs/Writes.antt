@@ -13,8 +13,20 @@ use Rattle.track_table.specs.Tracks as tracks
 use Rattle.track_table.specs.Tracks.{least, or_else}
 use Rattle.device_defs.specs.declared.answers.Did.TheVariants.{Recovered}
 use Rattle.device_defs.specs.Background as background
-use Rattle.device_defs.specs.Background.{is_destaged, copy_first, destage_first, recover, recovered_bytes, saved, stage, stage_first, to_copy,
-    to_destage, to_recover, work}
+use Rattle.device_defs.specs.Background.{
+  is_destaged,
+  copy_first,
+  destage_first,
+  recover,
+  recovered_bytes,
+  saved,
+  stage,
+  stage_first,
+  to_copy,
+  to_destage,
+  to_recover,
+  work,
+}
 use Rattle.device_defs.specs.Contents.{contents}
 use Rattle.device_defs.specs.Image.{level_bytes}
 use Rattle.device_defs.specs.Losses.{framed_image, settled, slot_in}

@@ -12,7 +12,7 @@ use Rattle.device_store.proofs.store.DeviceStore.chosen_read.Goals as goal
 pub returns-then-is_given-clause-run : goal.returns-then-is_given-clause-run
 returns-then-is_given-clause-run g c =
     joined (write_chosen contents c.args.usage.now c.args.first c.args.t c.args.old.now c.args.edit)
-        (weaker c.given_read.result (c.choose-choice.ensures.run _))
+    (weaker c.given_read.result (c.choose-choice.ensures.run _))
     (rw (← c.is_given.ensures, c.if-is_given.true) c.given_read.ensures.run)
 
 pub returns-clause-run : goal.returns-clause-run

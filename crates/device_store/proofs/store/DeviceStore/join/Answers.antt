@@ -12,4 +12,4 @@ pub returns-clause-state : goal.returns-clause-state
 returns-clause-state g c =
     let e = c.join.ensures in
     pair_is (state_of c.args.self.now) c.join.new.self (ap is_some e.b) e.rest.1 e.rest.0 e.other
-        (e.marks ∙ ap (λ n. new_side n true) c.args.self.now.stale_of_each)
+    (e.marks ∙ ap (λ n. new_side n true) c.args.self.now.stale_of_each)

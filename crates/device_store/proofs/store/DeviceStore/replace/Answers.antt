@@ -11,7 +11,7 @@ replace-requires-clause-size g c = c.requires.size ∙ sym c.args.self.now.stale
 pub invariant_of-self-clause-stale_of_each : goal.invariant_of-self-clause-stale_of_each
 invariant_of-self-clause-stale_of_each g c =
     sized c.args.self.now.pair c.replace.new.self c.args.side true (c.args.self.now.cylinders * 15) c.args.self.now.stale_of_each
-        c.replace.ensures.marks c.replace.ensures.other
+    c.replace.ensures.marks c.replace.ensures.other
 
 pub returns-clause-state : goal.returns-clause-state
 returns-clause-state g c =

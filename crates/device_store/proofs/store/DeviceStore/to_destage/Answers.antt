@@ -17,7 +17,7 @@ returns-then-some_up-clause-least g c =
     let n = c.args.self.now.cylinders * 15 in
     let few : n ≤ 960 = omega (arith, c.args.self.now.most) in
     c.first.ensures ∙ least_of n c.destaged.result (is_destaged contents s) few c.destaged.ensures
-        (λ t le. none_destaged s n t c.args.self.now.frame_of_each c.args.self.now.loose_of_each le)
+    (λ t le. none_destaged s n t c.args.self.now.frame_of_each c.args.self.now.loose_of_each le)
     ∙ sym (destages s (sym c.some_up.ensures ∙ c.if-some_up.true))
 
 pub returns-then-some_up-clause-here : goal.returns-then-some_up-clause-here
@@ -27,7 +27,7 @@ returns-then-some_up-clause-here g c =
     let few : n ≤ 960 = omega (arith, c.args.self.now.most) in
     if_some _ _ (IsOne n (is_destaged contents s)) (λ t. t < n)
     (c.first.ensures ∙ least_of n c.destaged.result (is_destaged contents s) few c.destaged.ensures
-        (λ t le. none_destaged s n t c.args.self.now.frame_of_each c.args.self.now.loose_of_each le))
+    (λ t le. none_destaged s n t c.args.self.now.frame_of_each c.args.self.now.loose_of_each le))
     (λ t one. one.here) (least_one n (is_destaged contents s))
 
 pub returns-clause-least : goal.returns-clause-least
@@ -40,7 +40,7 @@ returns-then-some_up-clause-framed g c =
     let few : n ≤ 960 = omega (arith, c.args.self.now.most) in
     if_some _ _ (IsOne n (is_destaged contents s)) (λ t. is_some (frame_at s t) ≡ true)
     (c.first.ensures ∙ least_of n c.destaged.result (is_destaged contents s) few c.destaged.ensures
-        (λ t le. none_destaged s n t c.args.self.now.frame_of_each c.args.self.now.loose_of_each le))
+    (λ t le. none_destaged s n t c.args.self.now.frame_of_each c.args.self.now.loose_of_each le))
     (λ t one. destaged_framed s t (λ loose. modified_there _
-        (c.args.self.now.loose_modified (some_here c.args.self.now.pair (sym c.some_up.ensures ∙ c.if-some_up.true)) t loose)) one.passes)
-        (least_one n (is_destaged contents s))
+    (c.args.self.now.loose_modified (some_here c.args.self.now.pair (sym c.some_up.ensures ∙ c.if-some_up.true)) t loose)) one.passes)
+    (least_one n (is_destaged contents s))
