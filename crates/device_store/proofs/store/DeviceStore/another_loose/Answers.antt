@@ -1,4 +1,4 @@
-use Rattle.std.proofs.Common.{◌≡◌, ◌∙◌, ◌<◌, ◌≤◌, sym, ap, arith}
+use Rattle.std.proofs.Common.{◌∙◌, ◌<◌, ◌≤◌, sym, ap, arith}
 use Rattle.std.specs.Prelude.{is_some}
 use Rattle.track_table.specs.Tracks.{least}
 use Rattle.event_notes.specs.Loose.{is_loose_in}

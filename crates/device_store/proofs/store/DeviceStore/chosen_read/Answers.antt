@@ -1,11 +1,9 @@
-use Rattle.std.proofs.Common.{refl, true, false, Some}
+use Rattle.std.proofs.Common.{Some}
 use Rattle.device_outside.specs.Interaction.{Done}
 use Rattle.device_outside.specs.Outside.{done}
-use Rattle.device_outside.proofs.Runs.{tells, joined}
+use Rattle.device_outside.proofs.Runs.{joined}
 use Rattle.device_defs.specs.Contents.{contents}
 use Rattle.device_defs.specs.Editing.{write_chosen}
-use Rattle.device_store.specs.Looks.{frame_in}
-use Rattle.device_store.specs.State.{state_of}
 use Rattle.device_store.proofs.Moves.{weaker}
 use Rattle.device_store.proofs.store.DeviceStore.chosen_read.Goals as goal
 

@@ -1,4 +1,4 @@
-use Rattle.std.proofs.Common.{◌≡◌, ◌∙◌, ◌<◌, length, refl, sym, ap, arith}
+use Rattle.std.proofs.Common.{◌∙◌, ◌<◌, length, refl, sym, ap, arith}
 use Rattle.std.proofs.lemmas.List.{length-set}
 use Rattle.device_outside.proofs.Runs.{ended, tells}
 use Rattle.event_notes.specs.Loose.{is_loose_in}

@@ -1,5 +1,4 @@
 use Rattle.std.proofs.Common.{ap, refl, sym}
-use Rattle.device_outside.specs.Outside.{done}
 use Rattle.device_outside.proofs.Runs.{ended, asks}
 use Rattle.device_store.specs.State.{outside_of}
 use Rattle.device_store.proofs.Moves.{lands}

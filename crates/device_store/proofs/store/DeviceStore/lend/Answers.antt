@@ -1,4 +1,4 @@
-use Rattle.std.proofs.Common.{◌≡◌, ◌∙◌, ◌*◌, ℕ, Bool, List, [], Some, ap, false, length, sym}
+use Rattle.std.proofs.Common.{◌∙◌, ◌*◌, ℕ, Bool, List, [], Some, ap, false, length}
 use Rattle.std.specs.Prelude.{is_some, replicate}
 use Rattle.device_defs.specs.Contents.{contents}
 use Rattle.device_defs.specs.Losses.{over}

@@ -1,7 +1,6 @@
 use Rattle.std.proofs.Common.{◌∙◌, ap, refl, sym, true, false, Some, None}
 use Rattle.std.specs.Prelude.{is_some}
 use Rattle.ckd_types.specs.declared.paths.Side.TheVariants.{A}
-use Rattle.device_outside.specs.Outside.{done}
 use Rattle.device_outside.proofs.Runs.{ended, joined}
 use Rattle.device_defs.specs.Contents.{contents}
 use Rattle.device_defs.specs.declared.counts.Counts.{Counts}

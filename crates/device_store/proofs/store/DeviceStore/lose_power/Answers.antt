@@ -1,4 +1,4 @@
-use Rattle.std.proofs.Common.{◌≡◌, ◌∙◌, ◌≤◌, ◌*◌, ℕ, List, [], ap, arith}
+use Rattle.std.proofs.Common.{◌≡◌, ◌∙◌, ◌*◌, ℕ, List, [], ap, arith}
 use Rattle.device_defs.specs.Contents.{contents}
 use Rattle.device_defs.specs.Cutting.{half_lost, loose_gone}
 use Rattle.device_defs.specs.declared.counts.Losses.{Losses}

@@ -1,5 +1,5 @@
-use Rattle.std.proofs.Common.{◌≡◌, ◌<◌, ◌*◌, length, Some, None, ap, sym, subst}
-use Rattle.std.specs.Prelude.{is_some, slice_index_or, slice_set}
+use Rattle.std.proofs.Common.{◌<◌, None, ap, sym, subst}
+use Rattle.std.specs.Prelude.{is_some}
 use Rattle.std.proofs.lemmas.List.{get_or-set_same}
 use Rattle.device_defs.specs.Contents.{contents}
 use Rattle.device_defs.specs.Losses.{framed_image}

@@ -1,7 +1,6 @@
-use Rattle.std.proofs.Common.{◌≡◌, ◌<◌, ◌≤◌, ◌*◌, ◌∙◌, ℕ, true, refl, sym, arith}
+use Rattle.std.proofs.Common.{◌≡◌, ◌<◌, ◌≤◌, ◌*◌, ◌∙◌, true, refl, sym, arith}
 use Rattle.std.specs.Prelude.{is_some}
 use Rattle.device_defs.specs.Store.{frame_at}
-use Rattle.track_table.specs.Tracks.{least}
 use Rattle.device_defs.specs.Background.{is_destaged}
 use Rattle.device_defs.specs.Contents.{contents}
 use Rattle.device_store.specs.State.{state_of}
