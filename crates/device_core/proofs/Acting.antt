@@ -1,6 +1,32 @@
 -- Acts that come to a device's past.
-use Rattle.std.proofs.Common.{◌≡◌, ◌∙◌, ◌+◌, ◌-◌, ◌<◌, ◌≤◌, ℕ, zero, suc, Bool, true, false, List, [], ◌∷◌, ◌++◌, length, drop, get_or, Option, Some,
-    None, refl, sym, ap, subst, arith}
+use Rattle.std.proofs.Common.{
+  ◌≡◌,
+  ◌∙◌,
+  ◌+◌,
+  ◌<◌,
+  ◌≤◌,
+  ℕ,
+  zero,
+  suc,
+  Bool,
+  true,
+  false,
+  List,
+  [],
+  ◌∷◌,
+  ◌++◌,
+  length,
+  drop,
+  get_or,
+  Option,
+  Some,
+  None,
+  refl,
+  sym,
+  ap,
+  subst,
+  arith,
+}
 use Rattle.std.specs.Prelude.{IfSome, IsSome, is_some, option_map, if◌then◌else◌}
 use Rattle.std.proofs.lemmas.List.{drop_more}
 use Rattle.plain_defs.specs.declared.journal.Act.{Act}
@@ -36,7 +62,7 @@ counted_ends p k = by_case p.running k.ends where
 -- the program that runs got one act more
 module _ (p : Past) (y : Option Running) (act : Act) (is : IsSome p.running)
     (same : (o : OpenEntry) → option_map open_of p.running ≡ Some o → option_map open_of y
-        ≡ Some (record o { acts = o.acts ++ record { after = length o.ends; act = act } ∷ [] })) where
+    ≡ Some (record o { acts = o.acts ++ record { after = length o.ends; act = act } ∷ [] })) where
   pub history_act : history_of (record p { running = y }) ≡ acted (history_of p) act
   history_act =
       let it = some_open p.running is in

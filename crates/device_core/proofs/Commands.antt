@@ -11,9 +11,9 @@ use Rattle.plain_defs.specs.PlainState.{PathsState, with_sense}
 use Rattle.track_image.specs.Image.{Image}
 use Rattle.track_cache.specs.declared.frames.Frame.{Frame}
 use Rattle.nv_store.specs.declared.patches.Stored.{Stored}
-use Rattle.device_outside.specs.Interaction.{Interaction, Done, and_then}
+use Rattle.device_outside.specs.Interaction.{Interaction}
 use Rattle.device_outside.specs.Keeper.{Hearing}
-use Rattle.device_outside.specs.Outside.{Outside, Ran, done}
+use Rattle.device_outside.specs.Outside.{Outside, Ran}
 use Rattle.device_defs.specs.declared.answers.Came.{Came}
 use Rattle.device_defs.specs.declared.answers.Came.TheVariants.{Ends, Checks, HalfOpen}
 use Rattle.device_defs.specs.Command.{command_by}

@@ -1,5 +1,5 @@
 -- Events of a device: how one begins, and how it ends.
-use Rattle.std.proofs.Common.{◌≡◌, ◌∙◌, ℕ, Bool, List, [], ◌+◌, ◌≤◌, length, arith, Option, Some, None, refl, sym, ap, subst}
+use Rattle.std.proofs.Common.{◌≡◌, ◌∙◌, ℕ, Bool, List, [], ◌≤◌, length, arith, Option, Some, None, sym, ap, subst}
 use Rattle.std.specs.Prelude.{IfSome, option_map}
 use Rattle.track_image.specs.Image.{Image}
 use Rattle.device_outside.specs.Keeper.{Hearing}
@@ -7,6 +7,7 @@ use Rattle.device_outside.specs.Interaction.{Interaction, Done, and_then}
 use Rattle.device_outside.specs.Outside.{Outside, Ran, done}
 use Rattle.device_outside.proofs.Runs.{joined}
 use Rattle.device_defs.specs.Contents.{contents}
+use Rattle.ckd_chain.specs.State.{ChainState}
 use Rattle.device_defs.specs.Device.{all_acted, event_begun, event_ended, quiet_event, event}
 use Rattle.device_defs.specs.Owed.{begun, hear, waiting_count, ended}
 use Rattle.plain_defs.specs.declared.journal.Act.{Act}
@@ -48,7 +49,7 @@ pub acted_device : (s : StoreOf) (paths : PathsState) (plans : Plans) (p q : Pas
     device_by s paths plans q ≡ record (device_by s paths plans p) { history = all_acted (history_of p) acts }
 acted_device s paths plans p q acts more history same chain =
     ap (λ h. record { store = s; paths = paths; plans = plans; history = h; chain = option_map chain_of q.running })
-        (history ∙ ap (all_acted (history_of p)) same)
+    (history ∙ ap (all_acted (history_of p)) same)
     ∙ ap (λ x. record { store = s; paths = paths; plans = plans; history = all_acted (history_of p) acts; chain = x }) chain
 
 pub at_word_same : (x y : Option Running) (m n : ℕ) → option_map chain_of x ≡ option_map chain_of y → m ≡ n → IfSome y (λ r. IsAtWord n r.chain) →
@@ -56,6 +57,14 @@ pub at_word_same : (x y : Option Running) (m n : ℕ) → option_map chain_of x 
 at_word_same None y m n chain same at = tt
 at_word_same (Some r) None m n chain same at = absurd cc
 at_word_same (Some r) (Some q) m n chain same at = let c : r.chain ≡ q.chain = cc in rw (c, same) at
+
+-- how many cylinders its chain goes by
+pub cylinders_held : (x y : Option Running) (m n : ℕ) → option_map chain_of x ≡ option_map chain_of y → m ≡ n → IfSome y (λ r. IsAtWord n r.chain) →
+    IfSome x (λ r. r.chain.fixed.cylinders ≡ m)
+cylinders_held None y m n chain same at = tt
+cylinders_held (Some r) None m n chain same at = absurd cc
+cylinders_held (Some r) (Some q) m n chain same at =
+    let c : r.chain ≡ q.chain = cc in ap (λ (z : ChainState). z.fixed.cylinders) c ∙ at.cylinders_are ∙ sym same
 
 -- an event begins without acts
 pub begun_weight : (a b : LooseView) → b.loose ≡ a.loose → b.acts ≡ [] → weight b ≡ loose_count a.loose

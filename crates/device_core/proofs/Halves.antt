@@ -1,6 +1,6 @@
 -- What a device keeps of a write that is half done.
-use Rattle.std.proofs.Common.{◌≡◌, ◌∙◌, ◌≤◌, ℕ, Bool, true, false, Option, Some, None, refl, sym, ap, subst}
-use Rattle.std.specs.Prelude.{IfSome, IsSome, is_some, option_map}
+use Rattle.std.proofs.Common.{◌≡◌, ◌∙◌, ℕ, Bool, true, false, Option, Some, None, refl, sym, ap, subst}
+use Rattle.std.specs.Prelude.{IfSome, IsSome, is_some, option_map, if◌then◌else◌}
 use Rattle.ckd_chain.specs.declared.mark.Stage.{Stage}
 use Rattle.ckd_chain.specs.declared.mark.Stage.TheVariants as stages
 use Rattle.ckd_chain.specs.Facts.{MayBeWritten}
@@ -15,7 +15,7 @@ use Rattle.device_defs.specs.Cutting.{counts_one_by, is_of_command}
 use Rattle.device_defs.specs.Events.{second_told}
 use Rattle.device_defs.specs.Outcomes.{told_step}
 use Rattle.device_store.specs.declared.half.HalfWrite.{HalfWrite}
-use Rattle.device_store.specs.declared.half.Origin.TheVariants as origins
+use Rattle.device_store.specs.declared.half.Origin.{Origin}
 use Rattle.device_store.specs.State.{half_of, origin_of, OnlyBackground}
 use Rattle.device_core.specs.declared.past.Past.{Past}
 use Rattle.device_core.specs.declared.past.Running.{Running}
@@ -37,13 +37,18 @@ pub none_counts : (x : Option HalfWrite) → x ≡ None → count_of x ≡ 1 →
 none_counts None is one = absurd (cc)
 none_counts (Some h) is one = absurd (cc)
 
+not_counted : (b : Bool) (n : ℕ) → n ≡ (if b then 1 else 0) → b ≡ false → n ≡ 1 → ⊥
+not_counted true n by is one = absurd (cc)
+not_counted false n by is one = absurd (cc)
+
 pub uncommanded_counts : (x : Option HalfWrite) → IfSome x (λ h. is_of_command (origin_of h.origin) ≡ false) → count_of x ≡ 1 → ⊥
 uncommanded_counts None is one = absurd (cc)
-uncommanded_counts (Some h) is one = let zero_one : 0 ≡ 1 = rw is at one in absurd (cc)
+uncommanded_counts (Some h) is one = not_counted (is_of_command (origin_of h.origin)) (count_of (Some h)) refl is one
 
 pub background_counts : (x : Option HalfWrite) → OnlyBackground x → count_of x ≡ 1 → ⊥
 background_counts None is one = absurd (cc)
-background_counts (Some h) is one = let zero_one : 0 ≡ 1 = rw is at one in absurd (cc)
+background_counts (Some h) is one =
+    not_counted (is_of_command (origin_of h.origin)) (count_of (Some h)) refl (ap (λ (o : Origin). is_of_command (origin_of o)) is) one
 
 pub counts_some : (x : Option HalfWrite) → count_of x ≡ 1 → is_some x ≡ true
 counts_some None one = absurd (cc)

@@ -1,6 +1,6 @@
 -- A command of a program that lost data of cache fast write.
-use Rattle.std.proofs.Common.{◌≡◌, ◌∙◌, ◌||◌, ℕ, Bool, true, false, List, [], ◌∷◌, Some, refl, sym, ap, subst}
-use Rattle.std.specs.Prelude.{Result, Ok, if◌then◌else◌}
+use Rattle.std.proofs.Common.{◌≡◌, ◌∙◌, ◌||◌, ℕ, Bool, true, false, List, [], ◌∷◌, Some, refl, sym, ap}
+use Rattle.std.specs.Prelude.{Ok, if◌then◌else◌}
 use Rattle.std.specs.List.{list_any}
 use Rattle.ckd_types.specs.declared.memory.NoMemory.{NoMemory}
 use Rattle.ckd_chain.specs.declared.progress.Settled.TheVariants.{Equipment}
@@ -10,12 +10,11 @@ use Rattle.plain_defs.specs.declared.journal.Act.{Act}
 use Rattle.plain_defs.specs.declared.journal.Acted.{Acted}
 use Rattle.plain_defs.specs.PlainState.{PathsState}
 use Rattle.track_image.specs.Image.{Image}
-use Rattle.device_outside.specs.Interaction.{Interaction, Done}
 use Rattle.device_outside.specs.Keeper.{Hearing}
-use Rattle.device_outside.specs.Outside.{Outside, Ran, where_ok, done}
+use Rattle.device_outside.specs.Outside.{Outside, Ran, where_ok}
 use Rattle.device_outside.proofs.Runs.{ended}
 use Rattle.device_defs.specs.declared.answers.Came.{Came}
-use Rattle.device_defs.specs.Command.{command_at, came_out, has_loss, is_loss}
+use Rattle.device_defs.specs.Command.{command_at, has_loss, is_loss}
 use Rattle.device_defs.specs.Contents.{contents}
 use Rattle.device_defs.specs.Device.{all_acted, with_store}
 use Rattle.device_defs.specs.Outcomes.{Turn, checks, turned, told_step}
@@ -43,7 +42,7 @@ pub lost_ran : {K : Type 0} {hears : Hearing Image K} {w : Outside (List ℕ) K}
     (chain : ChainState) (came : Came) → d.store ≡ s → d.paths ≡ paths → s.acts ≡ [] → has_loss r.acts.items ≡ true →
     turn_with chain came ≡ checks r.chain Equipment →
     Ran (where_ok {E = NoMemory} (Ok came)) hears (commanded_by d r) w
-        (came_to {E = NoMemory} (record (with_store d s) { paths = paths }) r.path chain (Ok came)) (told {E = NoMemory} (Ok came)) w
+    (came_to {E = NoMemory} (record (with_store d s) { paths = paths }) r.path chain (Ok came)) (told {E = NoMemory} (Ok came)) w
 lost_ran d r s paths chain came store same fresh lost turn =
     rw lost (ended
     (ap (λ (t : Turn). turned d r.path t) (sym turn)

@@ -15,12 +15,12 @@ use Rattle.device_defs.specs.declared.answers.SecondEnd.TheVariants.{Finished, U
 use Rattle.device_defs.specs.declared.answers.Took.{Took}
 use Rattle.device_defs.specs.declared.answers.Took.TheVariants as tooks
 use Rattle.device_defs.specs.Contents.{contents}
-use Rattle.device_defs.specs.Cutting.{counts_one_by, is_of_command}
+use Rattle.device_defs.specs.Cutting.{is_of_command}
 use Rattle.device_defs.specs.Events.{command_ended, second_ended, second_told, second_turn}
 use Rattle.device_defs.specs.Outcomes.{Turn, turned, wrote_turn}
 use Rattle.device_defs.specs.Store.{Store, Origin, OfCommand, OfCut, OfBackground}
 use Rattle.device_store.specs.declared.half.HalfWrite.{HalfWrite}
-use Rattle.device_store.specs.State.{half_of, origin_of, is_opened}
+use Rattle.device_store.specs.State.{origin_of, is_opened}
 use Rattle.device_core.specs.declared.past.Past.{Past}
 use Rattle.device_core.specs.declared.past.Running.{Running}
 use Rattle.device_core.specs.Kept.{open_of, chain_of, waiting_in}

@@ -1,5 +1,5 @@
 -- What a device keeps while a write is half done.
-use Rattle.std.specs.Prelude.{◌≡◌, Bool, true, false, Option, IsSome, IfSome}
+use Rattle.std.specs.Prelude.{Bool, true, false, Option, IsSome, IfSome}
 use Rattle.device_core.specs.declared.past.Running.{Running}
 use Rattle.device_core.specs.declared.past.Stepped.{Stepped}
 use Rattle.device_core.specs.declared.past.Stepped.TheVariants as steps

@@ -1,6 +1,31 @@
 -- What a device's past is in the definitions, and what is kept of it beside the journal, so that no event walks that.
-use Rattle.std.specs.Prelude.{◌≡◌, ◌≤◌, ℕ, ◌+◌, ◌-◌, ◌&&◌, ◌||◌, not, Bool, true, false, List, [], ◌∷◌, ◌++◌, length, slice_index_or, slice_set,
-    Option, None, Some, option_map, IfSome, is_some, if◌then◌else◌}
+use Rattle.std.specs.Prelude.{
+  ◌≡◌,
+  ◌≤◌,
+  ℕ,
+  ◌+◌,
+  ◌-◌,
+  ◌&&◌,
+  ◌||◌,
+  not,
+  Bool,
+  true,
+  false,
+  List,
+  [],
+  ◌∷◌,
+  ◌++◌,
+  length,
+  slice_index_or,
+  slice_set,
+  Option,
+  None,
+  Some,
+  option_map,
+  IfSome,
+  is_some,
+  if◌then◌else◌,
+}
 use Rattle.ckd_chain.specs.State.{ChainState}
 use Rattle.plain_defs.specs.History.{OpenEntry, History, has_used}
 use Rattle.plain_defs.specs.Legal.{is_started}

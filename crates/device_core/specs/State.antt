@@ -1,6 +1,25 @@
 -- What a device is in the definitions, and how its answers are seen.
-use Rattle.std.specs.Prelude.{◌≡◌, ℕ, ◌-◌, List, length, slice_get, Bool, true, Option, None, Some, Result, Ok, Err, option_map, ◌+◌, ◌*◌, ◌^◌, min,
-    count_by, if◌then◌else◌}
+use Rattle.std.specs.Prelude.{
+  ◌≡◌,
+  ℕ,
+  ◌-◌,
+  List,
+  length,
+  slice_get,
+  Option,
+  None,
+  Some,
+  Result,
+  Ok,
+  Err,
+  option_map,
+  ◌+◌,
+  ◌*◌,
+  ◌^◌,
+  min,
+  count_by,
+  if◌then◌else◌,
+}
 use Rattle.ckd_types.specs.declared.channel.CommandEnd.{CommandEnd}
 use Rattle.ckd_chain.specs.State.{ChainState}
 use Rattle.ckd_chain.specs.Steps.{need_of}

@@ -30,7 +30,8 @@ impl Past {
         ensures made { OnOk result (8 ≤ self.new.items.spare) }
         ensures room { (n : ℕ) → ActRoom n self.old → ActRoom n self.new }
     {
-        self.items.reserve(ITEMS_BEFORE_NEXT + 1, 0)
+        self.items.reserve(ITEMS_BEFORE_NEXT + 1, 0)?;
+        Ok(())
     }
 
     /// That the device is empty stands in the journal, in room that was made.

@@ -1,7 +1,20 @@
 ghost use Rattle.std.specs.Prelude.{◌≡◌, ◌&&◌, ◌+◌, ◌<◌, ◌≤◌, ◌==◌, [], IfOk, OnOk, OnErr, None, Some, true, false, option_map};
 ghost use Rattle.plain_defs.specs.History.{is_path_of, started};
-ghost use Rattle.device_defs.specs.Start.{has_none_or_is_out, idle_fault, is_finished, is_shut, keeps_out, left, next_ordinal, next_program,
-    reserved_fault, running_fault, start, start_fault, started_count};
+ghost use Rattle.device_defs.specs.Start.{
+  has_none_or_is_out,
+  idle_fault,
+  is_finished,
+  is_shut,
+  keeps_out,
+  left,
+  next_ordinal,
+  next_program,
+  reserved_fault,
+  running_fault,
+  start,
+  start_fault,
+  started_count,
+};
 ghost use Rattle.device_core.specs.Kept.{open_of, chain_of, history_of, of_path, ActRoom, Keeps};
 ghost use Rattle.device_core.specs.State.{device_of};
 ghost use Rattle.device_core.specs.Starting.{fault_told};

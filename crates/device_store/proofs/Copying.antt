@@ -1,5 +1,5 @@
 -- Both sides of a track that is to be copied are up.
-use Rattle.std.proofs.Common.{◌≡◌, ◌∙◌, ℕ, Bool, true, false, Some, refl, ap, sym}
+use Rattle.std.proofs.Common.{◌≡◌, ℕ, Bool, true, false, Some, refl, ap}
 use Rattle.std.specs.Prelude.{◌&&◌, is_some}
 use Rattle.ckd_types.specs.declared.paths.Side.{Side}
 use Rattle.device_defs.specs.Store.{SideMarks}

@@ -88,7 +88,7 @@ back_by None q r s k d t want set free = by_none q r want set free where
 back_by (Some p) q r s k d t want set free =
     let set : ByPool (Some (after p WantSlot (grants.Given k))) (SetModified d t) false r = subst (λ x. ByPool x (SetModified d t) false r) want.1 set in
     let free : ByPool (Some (after (after p WantSlot (grants.Given k)) (SetModified d t) false)) (FreeSlot k) tt s =
-        subst (λ x. ByPool x (FreeSlot k) tt s) set.1 free in
+    subst (λ x. ByPool x (FreeSlot k) tt s) set.1 free in
     ap Some (sym (pool_back p k d t want.0.free (bare_still p k d t set.0.same))) ∙ sym free.1
 
 pub slot_back : (p q r s : PortView) (k d t : ℕ) → Answered p WantSlot (grants.Given k) q → Answered q (SetModified d t) false r

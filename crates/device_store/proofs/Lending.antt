@@ -1,5 +1,5 @@
 -- All tracks of a device are given up as its volume leaves.
-use Rattle.std.proofs.Common.{◌≡◌, ◌∙◌, ◌*◌, ℕ, zero, suc, Bool, true, false, List, [], Option, Some, None, refl, ap, sym}
+use Rattle.std.proofs.Common.{◌≡◌, ◌∙◌, ℕ, zero, suc, Bool, true, false, [], Option, Some, None, refl, ap, sym}
 use Rattle.std.specs.Prelude.{is_some, replicate, if◌then◌else◌}
 use Rattle.device_defs.specs.Contents.{Contents}
 use Rattle.device_defs.specs.Losses as losses

@@ -1,8 +1,7 @@
 -- Looks at a track by what its frame is.
-use Rattle.std.proofs.Common.{◌≡◌, ℕ, Bool, true, false, List, Option, Some, None, Result, Ok, Err, refl, ap, sym}
-use Rattle.std.specs.Prelude.{◌&&◌, not, is_some, if◌then◌else◌}
+use Rattle.std.proofs.Common.{◌≡◌, ℕ, true, false, List, Option, Some, None, Ok, Err, refl, sym}
+use Rattle.std.specs.Prelude.{is_some, if◌then◌else◌}
 use Rattle.ckd_types.specs.declared.geometry.Geometry.{Geometry}
-use Rattle.ckd_types.specs.declared.record.Track.{Track}
 use Rattle.ckd_types.specs.Geometry.{cchh_of}
 use Rattle.ckd_types.specs.Parameters.{is_bypass}
 use Rattle.track_image.specs.Image.{Image}
@@ -10,13 +9,12 @@ use Rattle.track_image.specs.Reading.{reading}
 use Rattle.track_cache.specs.declared.frames.Frame.{Frame}
 use Rattle.track_cache.specs.Frames.{is_modified_frame}
 use Rattle.nv_store.specs.declared.patches.Stored.{Stored}
-use Rattle.nv_store.specs.Patch.{PatchView}
 use Rattle.nv_store.specs.Patches.{patch_of}
-use Rattle.device_outside.specs.Interaction.{Interaction, Done, Ask}
+use Rattle.device_outside.specs.Interaction.{Done, Ask}
 use Rattle.device_outside.specs.Pool.{Touch}
 use Rattle.device_defs.specs.declared.usage.Usage.{Usage}
-use Rattle.device_defs.specs.Contents.{contents, image_read, image_with, patched_by}
-use Rattle.device_defs.specs.Image.{Imaged, Has, image_by, miss}
+use Rattle.device_defs.specs.Contents.{contents, image_read, patched_by}
+use Rattle.device_defs.specs.Image.{Has, image_by, miss}
 use Rattle.device_defs.specs.Losses.{framed_image}
 use Rattle.device_defs.specs.Owed.{is_clean}
 use Rattle.device_defs.specs.Store.{with_frame}

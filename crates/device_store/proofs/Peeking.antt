@@ -1,5 +1,5 @@
 -- A look at a track that an open half write alone may have.
-use Rattle.std.proofs.Common.{◌≡◌, ◌∙◌, ℕ, Bool, true, false, List, refl, sym, ap}
+use Rattle.std.proofs.Common.{◌≡◌, ℕ, Bool, true, false, List, refl, sym, ap}
 use Rattle.std.specs.Prelude.{◌&&◌, not, Option, Some, None, Result, Ok, Err, IfOk, is_some, option_map, if◌then◌else◌}
 use Rattle.track_image.specs.Image.{Image}
 use Rattle.device_outside.specs.Interaction.{Done}
@@ -14,7 +14,7 @@ use Rattle.device_defs.specs.Store.{frame_at, half_is, has_level}
 use Rattle.device_store.specs.declared.half.HalfWrite.{HalfWrite}
 use Rattle.device_store.specs.declared.store.Peeked as answers
 use Rattle.device_store.specs.declared.store.Peeked.TheVariants as peeks
-use Rattle.device_store.specs.Looks.{StoreOf, IsHalfCopied, IsPeeked, in_half, peeked_by}
+use Rattle.device_store.specs.Looks.{StoreOf, IsHalfCopied, IsPeeked, peeked_by}
 use Rattle.device_store.specs.State.{half_of, had}
 use Rattle.device_store.proofs.Moves.{from_equal}
 

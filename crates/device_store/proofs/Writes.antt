@@ -1,5 +1,5 @@
 -- Writes and what is saved, by cases of a frame, a patch and a queue.
-use Rattle.std.proofs.Common.{◌≡◌, ◌∙◌, ◌<◌, ◌≤◌, ◌+◌, ◌-◌, ℕ, zero, suc, length, Bool, true, false, List, [], ◌∷◌, refl, sym, ap, arith}
+use Rattle.std.proofs.Common.{◌≡◌, ◌∙◌, ◌<◌, ◌≤◌, ℕ, zero, suc, length, Bool, true, false, List, [], ◌∷◌, refl, sym, ap, arith}
 use Rattle.std.specs.Prelude.{◌&&◌, ◌||◌, not, Option, Some, None, is_some, slice_get, drop, if◌then◌else◌, IfSome}
 use Rattle.ckd_types.specs.declared.paths.Side.TheVariants.{A, B}
 use Rattle.nv_store.specs.declared.patches.Stored.{Stored}
@@ -8,13 +8,24 @@ use Rattle.track_cache.specs.declared.frames.Frame.{Frame}
 use Rattle.track_cache.specs.Frames as frames
 use Rattle.track_image.specs.Image.{Image}
 use Rattle.std.proofs.lemmas.List.{get_or_past}
-use Rattle.track_table.specs.Bits.{is_marked}
 use Rattle.track_table.specs.Tracks as tracks
 use Rattle.track_table.specs.Tracks.{least, or_else}
 use Rattle.device_defs.specs.declared.answers.Did.TheVariants.{Recovered}
 use Rattle.device_defs.specs.Background as background
-use Rattle.device_defs.specs.Background.{is_destaged, copy_first, destage_first, recover, recovered_bytes, saved, stage, stage_first, to_copy,
-    to_destage, to_recover, work}
+use Rattle.device_defs.specs.Background.{
+  is_destaged,
+  copy_first,
+  destage_first,
+  recover,
+  recovered_bytes,
+  saved,
+  stage,
+  stage_first,
+  to_copy,
+  to_destage,
+  to_recover,
+  work,
+}
 use Rattle.device_defs.specs.Contents.{contents}
 use Rattle.device_defs.specs.Image.{level_bytes}
 use Rattle.device_defs.specs.Losses.{framed_image, settled, slot_in}

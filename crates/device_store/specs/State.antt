@@ -1,6 +1,27 @@
 -- What a store is in the definitions, and how its answers are seen.
-use Rattle.std.specs.Prelude.{◌≡◌, ◌<◌, ◌==◌, ℕ, ◌*◌, Bool, true, false, List, [], Option, None, Some, Result, Ok, Err, if◌then◌else◌, replicate,
-    is_some, option_map, slice_index_or}
+use Rattle.std.specs.Prelude.{
+  ◌≡◌,
+  ◌<◌,
+  ◌==◌,
+  ℕ,
+  ◌*◌,
+  Bool,
+  true,
+  false,
+  List,
+  [],
+  Option,
+  None,
+  Some,
+  Result,
+  Ok,
+  Err,
+  if◌then◌else◌,
+  replicate,
+  is_some,
+  option_map,
+  slice_index_or,
+}
 use Rattle.track_image.specs.Image.{Image}
 use Rattle.track_cache.specs.declared.frames.Frame.{Frame}
 use Rattle.nv_store.specs.declared.patches.Stored.{Stored}

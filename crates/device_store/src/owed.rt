@@ -1,7 +1,19 @@
 ghost use Rattle.std.specs.Prelude.{◌≡◌, ◌*◌, ◌≤◌, ◌<◌, ◌&&◌, ◌||◌, ℕ, is_some, false, true};
 ghost use Rattle.device_defs.specs.Contents.{contents};
-ghost use Rattle.device_defs.specs.Owed.{all_told, begun, dropped_told, ended, freed_told, is_owed, modified_told, settles_debt, track_told,
-    waiting_count, waiting_told, waits};
+ghost use Rattle.device_defs.specs.Owed.{
+  all_told,
+  begun,
+  dropped_told,
+  ended,
+  freed_told,
+  is_owed,
+  modified_told,
+  settles_debt,
+  track_told,
+  waiting_count,
+  waiting_told,
+  waits,
+};
 ghost use Rattle.device_defs.specs.Store.{no_debt, owed_at};
 ghost use Rattle.device_outside.specs.Outside.{Ran};
 ghost use Rattle.track_table.specs.Bits.{is_marked};

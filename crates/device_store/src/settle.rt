@@ -1,8 +1,17 @@
 ghost use Rattle.std.specs.Prelude.{◌≡◌, ◌<◌, ◌≤◌, ◌*◌, ◌||◌, ℕ, Some, false, is_some, true};
 ghost use Rattle.device_defs.specs.Contents.{contents};
 ghost use Rattle.device_defs.specs.Effects.{hardened, loose_lost};
-ghost use Rattle.device_defs.specs.Losses.{by_frame, firm_told, kept_by_frame, lost_now, owes_modified, settled, stale_everywhere, without_frame,
-    without_patch};
+ghost use Rattle.device_defs.specs.Losses.{
+  by_frame,
+  firm_told,
+  kept_by_frame,
+  lost_now,
+  owes_modified,
+  settled,
+  stale_everywhere,
+  without_frame,
+  without_patch,
+};
 ghost use Rattle.device_defs.specs.Store.{frame_at, half_is, has_level, is_loose, is_lost, takes_b, with_stale};
 ghost use Rattle.ckd_types.specs.declared.paths.Side.TheVariants.{A, B};
 ghost use Rattle.device_defs.specs.Writing.{unwritten};

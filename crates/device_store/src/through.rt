@@ -6,8 +6,21 @@ ghost use Rattle.device_defs.specs.declared.answers.Took.TheVariants.{Opened, Un
 ghost use Rattle.device_defs.specs.Contents.{contents};
 ghost use Rattle.device_defs.specs.Editing.{at_once, through, through_by, whole};
 ghost use Rattle.device_defs.specs.Store.{frame_at, is_loose, takes_b, OfCommand};
-ghost use Rattle.device_defs.specs.Writing.{alone_b, done_by, failed_a, first_a, firm_first, opened, taken_a, tried_b, unpatched, write_done,
-    write_first, write_second, write_side};
+ghost use Rattle.device_defs.specs.Writing.{
+  alone_b,
+  done_by,
+  failed_a,
+  first_a,
+  firm_first,
+  opened,
+  taken_a,
+  tried_b,
+  unpatched,
+  write_done,
+  write_first,
+  write_second,
+  write_side,
+};
 ghost use Rattle.device_outside.specs.Outside.{PortView, Ran};
 ghost use Rattle.device_outside.specs.Volume.{WriteOf, counted, counted_if};
 ghost use Rattle.duplex_pair.specs.Sides.{HasSides, other_of, state_in, volume_of};

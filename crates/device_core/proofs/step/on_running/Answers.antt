@@ -24,7 +24,7 @@ returns-in-Some-clause-run g c =
     (from_equal (λ x. and_then (follow contents (tracks_of x) c.in-Some.t c.args.running.now.chain c.in-Some.t x)
     (on_tracks contents d c.args.running.now.path c.args.running.now.chain)) (sym store) refl
     (to_equal (ap (λ (p : PathsState). came_to (record (with_store d (state_of c.on_tracks.new.store)) { paths = p }) c.args.running.now.path
-        c.on_tracks.new.running.chain c.on_tracks.result) paths)
+    c.on_tracks.new.running.chain c.on_tracks.result) paths)
     (c.on_tracks.ensures.run d c.args.running.now.path c.args.running.now.chain c.need.ensures.chain needs)))
 
 pub returns-in-None-clause-run : goal.returns-in-None-clause-run

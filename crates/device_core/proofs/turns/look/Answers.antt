@@ -51,6 +51,10 @@ returns-in-Frame-clause-run g c =
 pub on_image-requires-clause-there : goal.on_image-requires-clause-there
 on_image-requires-clause-there g c = subst (λ x. IsThere (state_of c.image.new.self) c.args.t x) c.in-Frame.is c.in-Ok.ensures.there
 
+pub on_image-requires-in-Has-clause-there : goal.on_image-requires-in-Has-clause-there
+on_image-requires-in-Has-clause-there g c =
+    subst (λ x. IsThere (state_of c.image.new.self) c.args.t x) c.in-Has.is c.in-Ok.ensures.there
+
 pub returns-then-has-clause-goes : goal.returns-then-has-clause-goes
 returns-then-has-clause-goes g c = subst (λ n. Left n c.check.new.chain c.check.result) c.requires.at.cylinders_are c.check.ensures.left
 

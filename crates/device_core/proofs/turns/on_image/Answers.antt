@@ -46,31 +46,31 @@ returns-in-Write-clause-run g c =
 pub check-requires : goal.check-requires
 check-requires g c =
     let w = waits_as c.args.store.now.cylinders c.args.chain.now c.step.new.self c.seen-image.result.now c.in-Ok.progress c.requires.at
-        c.in-Ok.ensures.progress c.in-Ok.ensures.chain in
+    c.in-Ok.ensures.progress c.in-Ok.ensures.chain in
     (subst (λ p. Waits c.args.store.now.cylinders c.args.chain.now c.step.new.self p) c.in-Local.is w).running
 
 pub write_edit-requires-clause-at : goal.write_edit-requires-clause-at
 write_edit-requires-clause-at g c =
     let w = waits_as c.args.store.now.cylinders c.args.chain.now c.step.new.self c.seen-image.result.now c.in-Ok.progress c.requires.at
-        c.in-Ok.ensures.progress c.in-Ok.ensures.chain in
+    c.in-Ok.ensures.progress c.in-Ok.ensures.chain in
     (subst (λ p. Waits c.args.store.now.cylinders c.args.chain.now c.step.new.self p) c.in-Write.is w).0
 
 pub write_edit-requires-clause-written : goal.write_edit-requires-clause-written
 write_edit-requires-clause-written g c =
     let w = waits_as c.args.store.now.cylinders c.args.chain.now c.step.new.self c.seen-image.result.now c.in-Ok.progress c.requires.at
-        c.in-Ok.ensures.progress c.in-Ok.ensures.chain in
+    c.in-Ok.ensures.progress c.in-Ok.ensures.chain in
     (subst (λ p. Waits c.args.store.now.cylinders c.args.chain.now c.step.new.self p) c.in-Write.is w).2
 
 pub returns-in-Ended-clause-goes : goal.returns-in-Ended-clause-goes
 returns-in-Ended-clause-goes g c =
     let w = waits_as c.args.store.now.cylinders c.args.chain.now c.step.new.self c.seen-image.result.now c.in-Ok.progress c.requires.at
-        c.in-Ok.ensures.progress c.in-Ok.ensures.chain in
+    c.in-Ok.ensures.progress c.in-Ok.ensures.chain in
     subst (λ p. Waits c.args.store.now.cylinders c.args.chain.now c.step.new.self p) c.in-Ended.is w
 
 pub returns-in-Need-clause-goes : goal.returns-in-Need-clause-goes
 returns-in-Need-clause-goes g c =
     let w = waits_as c.args.store.now.cylinders c.args.chain.now c.step.new.self c.seen-image.result.now c.in-Ok.progress c.requires.at
-        c.in-Ok.ensures.progress c.in-Ok.ensures.chain in
+    c.in-Ok.ensures.progress c.in-Ok.ensures.chain in
     let on = subst (λ p. Waits c.args.store.now.cylinders c.args.chain.now c.step.new.self p) c.in-Need.is w in (
       on.0,
       on.1,
@@ -81,21 +81,21 @@ returns-in-Need-clause-goes g c =
 pub returns-in-Local-clause-goes : goal.returns-in-Local-clause-goes
 returns-in-Local-clause-goes g c =
     let w = waits_as c.args.store.now.cylinders c.args.chain.now c.step.new.self c.seen-image.result.now c.in-Ok.progress c.requires.at
-        c.in-Ok.ensures.progress c.in-Ok.ensures.chain in
+    c.in-Ok.ensures.progress c.in-Ok.ensures.chain in
     subst (λ n. Left n c.check.new.chain c.check.result)
     (subst (λ p. Waits c.args.store.now.cylinders c.args.chain.now c.step.new.self p) c.in-Local.is w).cylinders_are c.check.ensures.left
 
 pub returns-in-Write-clause-goes : goal.returns-in-Write-clause-goes
 returns-in-Write-clause-goes g c =
     let w = waits_as c.args.store.now.cylinders c.args.chain.now c.step.new.self c.seen-image.result.now c.in-Ok.progress c.requires.at
-        c.in-Ok.ensures.progress c.in-Ok.ensures.chain in
+    c.in-Ok.ensures.progress c.in-Ok.ensures.chain in
     IfOk-weaker c.write_edit.result _ _ (goes_from c.args.store.now.cylinders c.args.chain.now c.step.new.self c.write_edit.new.chain
     (subst (λ p. Waits c.args.store.now.cylinders c.args.chain.now c.step.new.self p) c.in-Write.is w).1) c.write_edit.ensures.goes
 
 pub returns-in-Write-clause-hand : goal.returns-in-Write-clause-hand
 returns-in-Write-clause-hand g c =
     let w = waits_as c.args.store.now.cylinders c.args.chain.now c.step.new.self c.seen-image.result.now c.in-Ok.progress c.requires.at
-        c.in-Ok.ensures.progress c.in-Ok.ensures.chain in
+    c.in-Ok.ensures.progress c.in-Ok.ensures.chain in
     let same = (subst (λ p. Waits c.args.store.now.cylinders c.args.chain.now c.step.new.self p) c.in-Write.is w).1 in
     on_err_weaker c.write_edit.result (λ h. record { again = h.again ∙ same.again }) c.write_edit.ensures.hand
 

@@ -1,4 +1,4 @@
-use Rattle.std.proofs.Common.{◌≡◌, ◌≤◌, ◌+◌, ◌∙◌, refl, sym, ap, subst, length, arith}
+use Rattle.std.proofs.Common.{◌≤◌, ◌∙◌, refl, ap, arith}
 use Rattle.device_outside.specs.Interaction.{Done, and_then}
 use Rattle.device_outside.specs.Outside.{done}
 use Rattle.device_outside.proofs.Runs.{joined}
@@ -22,7 +22,7 @@ close_event-requires g c =
     let l = c.args.self.now.store.loose in
     let first = begun_weight l c.begin_event.new.self.loose c.begin_event.ensures.loose (ap (λ s. s.acts) c.begin_event.ensures.state) in
     let le : weight c.background-did.new.self.loose ≤ loose_count l.loose =
-        omega (arith, c.background-did.ensures.weight, ap weight c.hear.ensures.loose, first) in
+    omega (arith, c.background-did.ensures.weight, ap weight c.hear.ensures.loose, first) in
     record { room = fits_room l c.background-did.new.self.loose c.args.self.now.past c.args.self.now.act_room le }
 
 pub returns-clause-run : goal.returns-clause-run

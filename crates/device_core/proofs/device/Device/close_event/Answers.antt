@@ -1,4 +1,4 @@
-use Rattle.std.proofs.Common.{◌≡◌, ◌≤◌, ◌+◌, ◌∙◌, refl, sym, ap, subst, length, arith}
+use Rattle.std.proofs.Common.{◌≡◌, ◌≤◌, ◌+◌, ◌∙◌, sym, ap, subst, length, arith}
 use Rattle.event_notes.specs.Loose.{loose_count, weight}
 use Rattle.device_core.specs.Kept.{ActRoom}
 use Rattle.device_core.proofs.Acting.{less_room}

@@ -1,9 +1,8 @@
-use Rattle.std.proofs.Common.{◌≡◌, ◌∙◌, refl, ap}
+use Rattle.std.proofs.Common.{◌∙◌, refl, ap}
 use Rattle.std.specs.Prelude.{is_some}
 use Rattle.std.proofs.lemmas.Result.{IfOk-weaker, on_err_weaker}
 use Rattle.device_defs.specs.Command.{command_by}
 use Rattle.device_defs.specs.Contents.{contents}
-use Rattle.device_defs.specs.Device.{event_begun}
 use Rattle.device_defs.specs.Owed.{hear, ended}
 use Rattle.device_store.specs.State.{state_of, outside_of}
 use Rattle.device_store.proofs.Moves.{from_equal, weaker}
@@ -21,7 +20,7 @@ returns-clause-run g c =
     (ap (λ v. outside_of (g.P.Port.view c.args.port.now) g.V.Volume.view v c.args.keep.now) c.begin_event.ensures.volume) (c.hear.ensures.run c.args.keep.now)))
     c.command_ready-stepped.ensures.run
     (weaker r (from_equal (λ n. ended contents n (state_of c.command_ready-stepped.new.self.store)) c.waiting_count-before.ensures refl
-        (c.end_event.ensures.run _))) refl
+    (c.end_event.ensures.run _))) refl
 
 pub returns-clause-half : goal.returns-clause-half
 returns-clause-half g c =

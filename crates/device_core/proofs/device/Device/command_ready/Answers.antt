@@ -1,4 +1,4 @@
-use Rattle.std.proofs.Common.{◌≡◌, ◌≤◌, ◌+◌, length, ◌∙◌, refl, sym, ap, arith}
+use Rattle.std.proofs.Common.{◌≤◌, ◌+◌, length, ◌∙◌, refl, sym, ap, arith}
 use Rattle.device_defs.specs.Device.{all_acted}
 use Rattle.event_notes.specs.Loose.{loose_count, weight}
 use Rattle.device_store.specs.State.{state_of}
@@ -6,11 +6,10 @@ use Rattle.device_store.proofs.Moves.{from_equal}
 use Rattle.device_core.specs.Kept.{history_of}
 use Rattle.device_core.specs.State.{device_of}
 use Rattle.device_core.specs.Turns.{Left}
-use Rattle.device_core.specs.Words.{IsAtWord}
 use Rattle.device_core.proofs.Acting.{less_room}
 use Rattle.device_core.proofs.Eventful.{at_word_same}
 use Rattle.device_core.proofs.Halves.{counts_some, none_counts}
-use Rattle.device_core.proofs.Commands.{by_command, lacked_to, ended_to, same_chain, same_running, to_answer}
+use Rattle.device_core.proofs.Commands.{by_command, lacked_to, ended_to, same_chain, to_answer}
 use Rattle.device_core.proofs.Whole.{to_equal}
 use Rattle.device_core.proofs.device.Device.command_ready.Goals as goal
 

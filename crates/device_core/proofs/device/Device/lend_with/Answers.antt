@@ -1,4 +1,4 @@
-use Rattle.std.proofs.Common.{◌≡◌, ◌∙◌, refl, sym, ap}
+use Rattle.std.proofs.Common.{◌∙◌, refl, sym, ap}
 use Rattle.std.specs.Prelude.{is_some, option_map}
 use Rattle.device_outside.proofs.Runs.{ended}
 use Rattle.device_defs.specs.Contents.{contents}

@@ -1,4 +1,4 @@
-use Rattle.std.proofs.Common.{◌≡◌, ◌≤◌, ◌+◌, ◌∙◌, refl, sym, ap, subst, length, arith}
+use Rattle.std.proofs.Common.{◌≤◌, refl, ap, arith}
 use Rattle.device_outside.specs.Interaction.{Done, and_then}
 use Rattle.device_outside.specs.Outside.{done}
 use Rattle.device_outside.proofs.Runs.{joined}

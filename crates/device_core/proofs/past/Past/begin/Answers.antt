@@ -12,8 +12,15 @@ entry path ordinal ends acts = record { path = path; ordinal = ordinal; ends = e
 pub returns-clause-history : goal.returns-clause-history
 returns-clause-history c =
     let kept = c.requires.keeps.paths c.args.path c.count_one_more-ordinal.ensures.path.0 c.count_one_more-ordinal.ensures.path.1 in
-    let r : Running = record { path = c.args.path; ordinal = c.count_one_more-ordinal.result; chain = c.args.chain; ends = c.args.ends; acts =
-        c.args.acts; room = c.args.room } in
+    let r : Running = record {
+      path = c.args.path;
+      ordinal = c.count_one_more-ordinal.result;
+      chain = c.args.chain;
+      ends = c.args.ends;
+      acts =
+          c.args.acts;
+      room = c.args.room;
+    } in
     let begins = ap (λ (l : List CommandEnd). entry c.args.path c.count_one_more-ordinal.result l c.args.acts.items) c.requires.ends
     ∙ ap (λ (l : List Acted). entry c.args.path c.count_one_more-ordinal.result [] l) c.requires.acts.0 in
     history_started c.args.self.now (record c.args.self.now { running = Some r; kept = c.count_one_more-ordinal.new.kept; powered = true })
@@ -24,8 +31,15 @@ returns-clause-history c =
 pub returns-clause-keeps : goal.returns-clause-keeps
 returns-clause-keeps c =
     let kept = c.requires.keeps.paths c.args.path c.count_one_more-ordinal.ensures.path.0 c.count_one_more-ordinal.ensures.path.1 in
-    let r : Running = record { path = c.args.path; ordinal = c.count_one_more-ordinal.result; chain = c.args.chain; ends = c.args.ends; acts =
-        c.args.acts; room = c.args.room } in
+    let r : Running = record {
+      path = c.args.path;
+      ordinal = c.count_one_more-ordinal.result;
+      chain = c.args.chain;
+      ends = c.args.ends;
+      acts =
+          c.args.acts;
+      room = c.args.room;
+    } in
     let begins = ap (λ (l : List CommandEnd). entry c.args.path c.count_one_more-ordinal.result l c.args.acts.items) c.requires.ends
     ∙ ap (λ (l : List Acted). entry c.args.path c.count_one_more-ordinal.result [] l) c.requires.acts.0 in
     keeps_started c.args.self.now (record c.args.self.now { running = Some r; kept = c.count_one_more-ordinal.new.kept; powered = true })

@@ -1,4 +1,4 @@
-use Rattle.std.proofs.Common.{◌≡◌, ◌∙◌, Some, ap, sym}
+use Rattle.std.proofs.Common.{◌∙◌, Some, ap}
 use Rattle.device_defs.specs.Contents.{contents}
 use Rattle.device_defs.specs.Events.{second_told}
 use Rattle.device_defs.specs.Outcomes.{Turn}

@@ -11,14 +11,14 @@ use Rattle.device_core.proofs.past.Past.turned.Goals as goal
 pub returns-then-over-clause-state : goal.returns-then-over-clause-state
 returns-then-over-clause-state c =
     λ s plans o chain is at. rw c.in-Ends.is (turned_over s plans c.args.self.now (record c.args.self.now { running = c.add_end.new.running })
-        c.close.new.self _ _ _ o chain c.in-Ends.end is c.if-over.true
+    c.close.new.self _ _ _ o chain c.in-Ends.end is c.if-over.true
     c.close.ensures.over (c.close.ensures.history _ (c.add_end.ensures.open o is)) refl refl
     (c.add_end.ensures.paths o is) c.close.ensures.paths)
 
 pub returns-in-Checks-clause-state : goal.returns-in-Checks-clause-state
 returns-in-Checks-clause-state c =
     λ s plans o chain is at. rw c.in-Checks.is (turned_checked s plans c.args.self.now
-        (record c.args.self.now { running = c.add_end-in-Checks.new.running }) c.close-in-Checks.new.self _ _ _ o chain
+    (record c.args.self.now { running = c.add_end-in-Checks.new.running }) c.close-in-Checks.new.self _ _ _ o chain
     c.in-Checks.end is c.close-in-Checks.ensures.over (c.close-in-Checks.ensures.history _ (c.add_end-in-Checks.ensures.open o is))
     refl refl (c.add_end-in-Checks.ensures.paths o is) c.close-in-Checks.ensures.paths)
 
@@ -31,7 +31,7 @@ pub returns-else-over-clause-answer : goal.returns-else-over-clause-answer
 returns-else-over-clause-answer c =
     let it = some_open c.args.self.now.running c.requires.running in
     rw c.in-Ends.is (ap (option_map answers.Ended) (last_running (record c.args.self.now { running = c.add_end.new.running }) _
-        (c.add_end.ensures.open it.0 it.1) ∙ last_is it.0.ends c.in-Ends.end))
+    (c.add_end.ensures.open it.0 it.1) ∙ last_is it.0.ends c.in-Ends.end))
 
 pub returns-in-Checks-clause-answer : goal.returns-in-Checks-clause-answer
 returns-in-Checks-clause-answer c =

@@ -1,4 +1,4 @@
-use Rattle.std.proofs.Common.{◌≡◌, ◌∙◌, ◌<◌, ◌≤◌, sym, ap, arith}
+use Rattle.std.proofs.Common.{◌∙◌, ◌<◌, ◌≤◌, sym, ap, arith}
 use Rattle.std.specs.Prelude.{is_some}
 use Rattle.track_table.specs.Tracks.{least}
 use Rattle.event_notes.specs.Loose.{is_loose_in}
@@ -28,4 +28,4 @@ returns g c =
     let loose = c.args.self.now.loose.loose in
     let le : c.args.t ≤ c.loop-q.q = omega (arith, c.loop-q-test.false, c.get-until.ensures.value) in
     sym (ap (λ n. is_some (least c.args.t (looked_loose loose n))) (sym c.get-from.ensures.value) ∙ none_behind loose c.get-from.result c.args.t
-        c.loop-q.q le c.loop-q.invariant)
+    c.loop-q.q le c.loop-q.invariant)

@@ -21,4 +21,4 @@ returns-clause-run g c =
     λ e. joined (λ z _. if has_level z c.args.t then whole contents z c.args.t c.args.image e c.args.bypass else Done (settled contents z c.args.t) Unwritten)
     (c.write_second.ensures.run _) (rw (← c.has_level.ensures, c.if-has_level.false)
     (lands (ap (λ x. outside_of (g.P.Port.view c.args.port.now) g.V.Volume.view x.volumes c.write_second.new.keep) (sym c.settle.ensures.volume))
-        (ended (sym c.settle.ensures.state) refl)))
+    (ended (sym c.settle.ensures.state) refl)))

@@ -1,4 +1,4 @@
-use Rattle.std.proofs.Common.{refl, true, false}
+use Rattle.std.proofs.Common.{true}
 use Rattle.device_outside.proofs.Runs.{tries, joined}
 use Rattle.device_defs.specs.Contents.{contents}
 use Rattle.device_defs.specs.Editing.{write, write_chosen}

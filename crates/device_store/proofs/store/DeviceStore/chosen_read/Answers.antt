@@ -1,18 +1,16 @@
-use Rattle.std.proofs.Common.{refl, true, false, Some}
+use Rattle.std.proofs.Common.{Some}
 use Rattle.device_outside.specs.Interaction.{Done}
 use Rattle.device_outside.specs.Outside.{done}
-use Rattle.device_outside.proofs.Runs.{tells, joined}
+use Rattle.device_outside.proofs.Runs.{joined}
 use Rattle.device_defs.specs.Contents.{contents}
 use Rattle.device_defs.specs.Editing.{write_chosen}
-use Rattle.device_store.specs.Looks.{frame_in}
-use Rattle.device_store.specs.State.{state_of}
 use Rattle.device_store.proofs.Moves.{weaker}
 use Rattle.device_store.proofs.store.DeviceStore.chosen_read.Goals as goal
 
 pub returns-then-is_given-clause-run : goal.returns-then-is_given-clause-run
 returns-then-is_given-clause-run g c =
     joined (write_chosen contents c.args.usage.now c.args.first c.args.t c.args.old.now c.args.edit)
-        (weaker c.given_read.result (c.choose-choice.ensures.run _))
+    (weaker c.given_read.result (c.choose-choice.ensures.run _))
     (rw (← c.is_given.ensures, c.if-is_given.true) c.given_read.ensures.run)
 
 pub returns-clause-run : goal.returns-clause-run

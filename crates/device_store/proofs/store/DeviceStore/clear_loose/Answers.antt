@@ -14,8 +14,13 @@ pub returns-then-any-clause-state : goal.returns-then-any-clause-state
 returns-then-any-clause-state g c =
     let has : has_loose (state_of c.args.self.now) ≡ true =
     subst (λ n. is_some (least n (is_loose (state_of c.args.self.now))) ≡ true) c.args.self.now.loose_of_each (sym c.any.ensures ∙ c.if-any.true) in
-    rw (some_gone contents (state_of c.args.self.now) has, c.clear.ensures.loose, c.clear.ensures.acts, c.next_number-self.ensures,
-        c.args.self.now.loose_of_each) refl
+    rw (
+      some_gone contents (state_of c.args.self.now) has,
+      c.clear.ensures.loose,
+      c.clear.ensures.acts,
+      c.next_number-self.ensures,
+      c.args.self.now.loose_of_each,
+    ) refl
 
 pub returns-else-any-clause-state : goal.returns-else-any-clause-state
 returns-else-any-clause-state g c =

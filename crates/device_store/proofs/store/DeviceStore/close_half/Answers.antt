@@ -11,4 +11,4 @@ pub returns-clause-run : goal.returns-clause-run
 returns-clause-run g c =
     rw (← c.has_level.ensures, c.if-has_level.false)
     (lands (ap (λ x. outside_of (g.P.Port.view c.args.port.now) g.V.Volume.view x.volumes c.args.keep.now) (sym c.second_absent.ensures.volume))
-        (ended (sym c.second_absent.ensures.state) refl))
+    (ended (sym c.second_absent.ensures.state) refl))

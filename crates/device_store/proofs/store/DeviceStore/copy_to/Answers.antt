@@ -31,7 +31,7 @@ returns-in-Err-clause-run g c =
     (reads_on g.V.Volume.view c.args.self.now.pair.volumes c.read.new.self.volumes c.other-from.result e.before e.there e.other e.read
     (from_equal (λ f. and_then (call_failed contents (read_counted s false) f None) (λ z _. Done z (Some (Fault f)))) c.other-from.ensures refl
     (joined (λ z _. Done z (Some (Fault c.other-from.result)))
-        (from_equal (λ z. call_failed contents z c.other-from.result None) now refl (c.call_failed.ensures.run p)) done)))
+    (from_equal (λ z. call_failed contents z c.other-from.result None) now refl (c.call_failed.ensures.run p)) done)))
 
 pub returns-in-Ok-clause-run : goal.returns-in-Ok-clause-run
 returns-in-Ok-clause-run g c =
@@ -40,7 +40,7 @@ returns-in-Ok-clause-run g c =
     let d = c.write-took.ensures in
     let r = read_counted s true in
     let now = ap (λ (n : Counts). with_pair (record s { counts = n }) c.write-took.new.self)
-        (c.count_write.ensures ∙ ap (λ (n : Counts). (write_counted (record s { counts = n }) c.write-took.result).counts) c.count_read-in-Ok.ensures)
+    (c.count_write.ensures ∙ ap (λ (n : Counts). (write_counted (record s { counts = n }) c.write-took.result).counts) c.count_read-in-Ok.ensures)
     ∙ same_by (write_counted r c.write-took.result) d.sides c.args.side d.other d.before d.there
     ∙ same_by (write_counted r c.write-took.result) e.sides c.other-from.result e.other e.before e.there in
     λ p. from_equal (λ f. read_side contents s f c.args.t (copy_read contents c.args.t c.args.side)) c.other-from.ensures refl

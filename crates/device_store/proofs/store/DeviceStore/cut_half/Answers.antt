@@ -17,7 +17,7 @@ returns-then-is_some-clause-run g c =
     let was : Some x ≡ c.args.self.now.half = sym c.take_half-half.ensures.was in
     let same : record (state_of c.take_half-half.new.self) { half = Some (half_of x) } ≡ s =
     ap (λ (z : StoreOf). record z { half = Some (half_of x) }) c.take_half-half.ensures.state ∙ ap
-        (λ (h : Option HalfWrite). record s { half = option_map half_of h }) was
+    (λ (h : Option HalfWrite). record s { half = option_map half_of h }) was
     in
     λ p. from_equal (λ (h : Option HalfWrite). half_cut contents s (option_map half_of h)) was refl
     (from_equal (λ (z : StoreOf). half_cut contents z (Some (half_of x))) same

@@ -1,4 +1,4 @@
-use Rattle.std.proofs.Common.{◌≡◌, ◌∙◌, ◌<◌, length, refl, ap, arith}
+use Rattle.std.proofs.Common.{◌∙◌, ◌<◌, length, refl, ap, arith}
 use Rattle.std.proofs.lemmas.List.{length-set}
 use Rattle.event_notes.specs.Loose.{is_loose_in}
 use Rattle.device_store.specs.State.{state_of}

@@ -10,7 +10,7 @@ use Rattle.device_store.proofs.store.DeviceStore.failed_a.Goals as goal
 pub returns-then-takes-clause-run : goal.returns-then-takes-clause-run
 returns-then-takes-clause-run g c =
     λ p. from_equal (λ b. failed_a contents c.args.t (track_bytes c.args.image.now.track) b (state_of c.args.self.now)) (sym c.if-takes.true) refl
-        (c.write_b.ensures.run p)
+    (c.write_b.ensures.run p)
 
 pub returns-clause-run : goal.returns-clause-run
 returns-clause-run g c =

@@ -1,4 +1,3 @@
-use Rattle.device_outside.specs.Outside.{done}
 use Rattle.device_outside.proofs.Runs.{asks}
 use Rattle.device_store.proofs.store.DeviceStore.framed_done.Goals as goal
 

@@ -15,7 +15,7 @@ loop-turn-preserved g c = record {
   loose = c.drop_noted.ensures.loose ∙ c.loop-turn.invariant.loose;
   rest = λ k. hear_on contents 960 c.loop-turn._turn c.in-Some.t (state_of c.loop-turn.self) c.loop-turn-test.true (c.loop-turn.invariant.rest k)
       c.in-Some.ensures c.drop_noted.ensures.state (ap (λ x. outside_of (g.P.Port.view c.next_notice.new.self) g.V.Volume.view x k)
-          c.drop_noted.ensures.volume);
+      c.drop_noted.ensures.volume);
 }
 
 pub returns-in-None-clause-run : goal.returns-in-None-clause-run

@@ -17,7 +17,7 @@ unfolding image
 returns-then-has-clause-run g c =
     from_equal (λ i. i)
     (sym (image_clean (state_of c.args.self.now) c.args.usage.now c.args.t _ (sym c.modified.ensures ∙ c.if-modified.false)
-        (sym c.has.ensures ∙ c.if-has.true)))
+    (sym c.has.ensures ∙ c.if-has.true)))
     refl c.clean_image.ensures.run
 
 pub returns-clause-run : goal.returns-clause-run
@@ -28,9 +28,9 @@ returns-clause-run g c =
 pub clean_image-requires-clause-firm : goal.clean_image-requires-clause-firm
 clean_image-requires-clause-firm g c =
     λ here. unframed_firm c.args.self.now.loose.loose c.args.self.now.frames c.args.t _ (c.args.self.now.loose_modified here) refl
-        (sym c.modified.ensures ∙ c.if-modified.false)
+    (sym c.modified.ensures ∙ c.if-modified.false)
 
 pub miss-requires-clause-firm : goal.miss-requires-clause-firm
 miss-requires-clause-firm g c =
     λ here. unframed_firm c.args.self.now.loose.loose c.args.self.now.frames c.args.t _ (c.args.self.now.loose_modified here) refl
-        (sym c.modified.ensures ∙ c.if-modified.false)
+    (sym c.modified.ensures ∙ c.if-modified.false)

@@ -5,7 +5,7 @@ use Rattle.device_defs.specs.Contents.{patched_by, image_read}
 use Rattle.device_defs.specs.Store.{patch_at}
 use Rattle.device_store.specs.Looks.{applied_by}
 use Rattle.device_store.specs.State.{state_of}
-use Rattle.device_store.proofs.Looks.{patched_with, read_image, bad_image}
+use Rattle.device_store.proofs.Looks.{patched_with, read_image}
 use Rattle.device_store.proofs.store.DeviceStore.image_of.Goals as goal
 
 pub returns-in-Ok : goal.returns-in-Ok

@@ -13,7 +13,7 @@ returns-then-has-clause-state g c =
     c.give_up_patch.ensures.state
     ∙ ap (λ (fs : List (Option Frame)). without_patch contents (record s { frames = fs }) c.args.t) c.set.ensures
     ∙ ap (λ (m : Bool). without_patch contents (with_frame s c.args.t (Some (record { image = c.args.image; modified = m }))) c.args.t)
-        c.modified-modified.ensures
+    c.modified-modified.ensures
     ∙ sym (cut_framed s c.args.t c.args.image (frame_at s c.args.t) (sym c.has.ensures ∙ c.if-has.true))
 
 pub returns-else-has-clause-state : goal.returns-else-has-clause-state

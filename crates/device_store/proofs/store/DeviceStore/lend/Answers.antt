@@ -1,4 +1,4 @@
-use Rattle.std.proofs.Common.{◌≡◌, ◌∙◌, ◌*◌, ℕ, Bool, List, [], Some, ap, false, length, sym}
+use Rattle.std.proofs.Common.{◌∙◌, ◌*◌, ℕ, Bool, List, [], Some, ap, false, length}
 use Rattle.std.specs.Prelude.{is_some, replicate}
 use Rattle.device_defs.specs.Contents.{contents}
 use Rattle.device_defs.specs.Losses.{over}
@@ -24,7 +24,7 @@ returns-clause-state g c =
     ∙ ap (λ (z : StoreOf). record z { lost = replicate n false; queue = [] })
     (c.give_up_all.ensures.state
     ∙ ap (over n (given_up contents)) (pair_is s c.lend-volume.new.self (ap is_some e.b) e.rest.1 e.rest.0
-        (e.marks ∙ ap no_side c.args.self.now.stale_of_each) e.other)
+    (e.marks ∙ ap no_side c.args.self.now.stale_of_each) e.other)
     ∙ all_aside contents (Some c.args.to) (no_side n) n s)
     ∙ lent_with given n c.args.to (ap (λ m. m * 15) (all_size contents n s))
 

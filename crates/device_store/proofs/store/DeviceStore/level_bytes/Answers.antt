@@ -1,7 +1,6 @@
 use Rattle.std.proofs.Common.{◌∙◌, ap, refl, sym, true, false, Some, None}
 use Rattle.std.specs.Prelude.{is_some}
 use Rattle.ckd_types.specs.declared.paths.Side.TheVariants.{A}
-use Rattle.device_outside.specs.Outside.{done}
 use Rattle.device_outside.proofs.Runs.{ended, joined}
 use Rattle.device_defs.specs.Contents.{contents}
 use Rattle.device_defs.specs.declared.counts.Counts.{Counts}
@@ -24,7 +23,7 @@ returns-in-Ok-clause-run g c =
     ∙ same_by_a (read_counted s true) c.in-Ok.ensures.sides c.in-Ok.ensures.other in
     λ p. rw (← c.is_level.ensures, c.if-not-is_level.false)
     (reads_on_a g.V.Volume.view c.args.self.now.pair.volumes c.read.new.self.volumes c.in-Ok.ensures.before c.in-Ok.ensures.there
-        c.in-Ok.ensures.other c.in-Ok.ensures.read (ended (sym now) refl))
+    c.in-Ok.ensures.other c.in-Ok.ensures.read (ended (sym now) refl))
 
 pub returns-in-Err-clause-run : goal.returns-in-Err-clause-run
 unfolding level_bytes
@@ -34,7 +33,7 @@ returns-in-Err-clause-run g c =
     ∙ same_by_a (read_counted s false) c.in-Err.ensures.sides c.in-Err.ensures.other in
     λ p. rw (← c.is_level.ensures, c.if-not-is_level.false)
     (reads_on_a g.V.Volume.view c.args.self.now.pair.volumes c.read.new.self.volumes c.in-Err.ensures.before c.in-Err.ensures.there
-        c.in-Err.ensures.other c.in-Err.ensures.read
+    c.in-Err.ensures.other c.in-Err.ensures.read
     (joined (λ z _. read_b contents z c.args.t (Some A)) (from_equal (λ z. call_failed contents z A None) now refl (c.call_failed.ensures.run p))
     (c.read_b-in-Err.ensures.run p)))
 

@@ -1,7 +1,6 @@
 use Rattle.std.proofs.Common.{◌≡◌, ◌∙◌, true, false, refl, sym, subst}
 use Rattle.std.specs.Prelude.{is_some}
 use Rattle.track_table.specs.Tracks.{least}
-use Rattle.device_defs.specs.Contents.{contents}
 use Rattle.device_defs.specs.Store.{has_loose, is_loose}
 use Rattle.device_store.specs.State.{state_of}
 use Rattle.device_store.proofs.Losing.{none_marked, no_marks}

@@ -1,4 +1,4 @@
-use Rattle.std.proofs.Common.{◌≡◌, ◌∙◌, ap, sym}
+use Rattle.std.proofs.Common.{◌∙◌, ap, sym}
 use Rattle.device_outside.specs.Outside.{done}
 use Rattle.device_defs.specs.Contents.{contents}
 use Rattle.device_defs.specs.Losses.{firm_told, settled, stale_everywhere}
@@ -16,8 +16,8 @@ returns-then-is_half_open-clause-run g c =
     let s = state_of c.args.self.now in
     λ p. from_equal (λ i. i)
     (sym (ap (firm_told contents c.args.t) (patch_open s c.args.t (sym c.has.ensures ∙ c.if-not-has.false)
-        (sym c.is_half_open.ensures ∙ c.if-is_half_open.true) ∙ sym c.give_up_patch.ensures.state)
-    ∙ not_firm contents c.args.t (state_of c.give_up_patch.new.self) (c.no_firm-2.ensures c.args.t)))
+    (sym c.is_half_open.ensures ∙ c.if-is_half_open.true) ∙ sym c.give_up_patch.ensures.state)
+    ∙ not_firm contents c.args.t (state_of c.give_up_patch.new.self) (c.no_firm-then-is_half_open.ensures c.args.t)))
     (ap (λ x. outside_of p g.V.Volume.view x.volumes c.args.keep.now) c.give_up_patch.ensures.volume) done
 
 pub returns-clause-run : goal.returns-clause-run
@@ -27,9 +27,9 @@ returns-clause-run g c =
     (ap (λ z. firm_told contents c.args.t (settled contents z c.args.t))
     (c.stale_everywhere.ensures.state ∙ ap (λ z. stale_everywhere z c.args.t) c.give_up_patch-2.ensures.state)
     ∙ sym (ap (firm_told contents c.args.t) (patch_settled s c.args.t (sym c.has.ensures ∙ c.if-not-has.false)
-        (sym c.is_half_open.ensures ∙ c.if-is_half_open.false))))
+    (sym c.is_half_open.ensures ∙ c.if-is_half_open.false))))
     (ap (λ x. outside_of p g.V.Volume.view x c.args.keep.now)
-        (c.stale_everywhere.ensures.volume ∙ ap (λ x. x.volumes) c.give_up_patch-2.ensures.volume)) (c.settle_told.ensures.run p)
+    (c.stale_everywhere.ensures.volume ∙ ap (λ x. x.volumes) c.give_up_patch-2.ensures.volume)) (c.settle_told.ensures.run p)
 
 pub returns-clause-volume : goal.returns-clause-volume
 returns-clause-volume g c =

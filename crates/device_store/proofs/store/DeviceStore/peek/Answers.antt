@@ -15,7 +15,7 @@ pub half_copied-requires : goal.half_copied-requires
 half_copied-requires g c =
     let s = state_of c.args.self.now in
     half_there c.args.self.now.half c.args.t (not (is_some (frame_at s c.args.t))) (not (has_level s c.args.t))
-        (sym c.is_in_half.ensures ∙ c.if-is_in_half.true)
+    (sym c.is_in_half.ensures ∙ c.if-is_in_half.true)
 
 pub returns-then-has-clause-run : goal.returns-then-has-clause-run
 returns-then-has-clause-run g c = rw (← c.has.ensures, c.if-has.true) done
@@ -24,7 +24,7 @@ pub returns-then-is_in_half-clause-run : goal.returns-then-is_in_half-clause-run
 returns-then-is_in_half-clause-run g c =
     rw (← c.has.ensures, c.if-has.false)
     (copied_run (state_of c.args.self.now) c.args.t c.args.self.now.half c.half_copied.result c.half_copied.ensures
-        (sym c.is_in_half.ensures ∙ c.if-is_in_half.true))
+    (sym c.is_in_half.ensures ∙ c.if-is_in_half.true))
 
 pub returns-then-is_in_half-clause-there : goal.returns-then-is_in_half-clause-there
 returns-then-is_in_half-clause-there g c = copied_there (state_of c.args.self.now) c.args.t c.args.self.now.half c.half_copied.result c.half_copied.ensures
@@ -33,14 +33,14 @@ pub returns-in-Err-clause-run : goal.returns-in-Err-clause-run
 returns-in-Err-clause-run g c =
     rw (← c.has.ensures, c.if-has.false)
     (from_equal (λ i. i) (sym (not_in_half (state_of c.args.self.now) c.args.t (state_of c.args.self.now).half
-        (sym c.is_in_half.ensures ∙ c.if-is_in_half.false))) refl
+    (sym c.is_in_half.ensures ∙ c.if-is_in_half.false))) refl
     (joined (had_by (λ z i. Done z (Some (peeked i)))) (rw c.peek_usage.ensures at c.in-Err.ensures.run) done))
 
 pub returns-in-Ok-clause-run : goal.returns-in-Ok-clause-run
 returns-in-Ok-clause-run g c =
     rw (← c.has.ensures, c.if-has.false)
     (from_equal (λ i. i) (sym (not_in_half (state_of c.args.self.now) c.args.t (state_of c.args.self.now).half
-        (sym c.is_in_half.ensures ∙ c.if-is_in_half.false))) refl
+    (sym c.is_in_half.ensures ∙ c.if-is_in_half.false))) refl
     (joined (had_by (λ z i. Done z (Some (peeked i)))) (rw c.peek_usage.ensures at c.in-Ok.ensures.run)
     (ended refl (ap Some (sym (c.peeked.ensures.is (state_of c.image.new.self) c.args.t))))))
 

@@ -1,5 +1,5 @@
-use Rattle.std.proofs.Common.{◌≡◌, ◌<◌, ◌*◌, length, Some, None, ap, sym, subst}
-use Rattle.std.specs.Prelude.{is_some, slice_index_or, slice_set}
+use Rattle.std.proofs.Common.{◌<◌, None, ap, sym, subst}
+use Rattle.std.specs.Prelude.{is_some}
 use Rattle.std.proofs.lemmas.List.{get_or-set_same}
 use Rattle.device_defs.specs.Contents.{contents}
 use Rattle.device_defs.specs.Losses.{framed_image}
@@ -9,7 +9,7 @@ use Rattle.device_store.proofs.store.DeviceStore.put_frame.Goals as goal
 pub returns-clause-there : goal.returns-clause-there
 returns-clause-there g c =
     rw c.set.ensures (ap is_some (get_or-set_same c.args.self.now.frames c.args.t _ None
-        (subst (λ n. c.args.t < n) (sym c.args.self.now.frame_of_each) c.requires.track)))
+    (subst (λ n. c.args.t < n) (sym c.args.self.now.frame_of_each) c.requires.track)))
 
 pub returns-clause-image : goal.returns-clause-image
 returns-clause-image g c =

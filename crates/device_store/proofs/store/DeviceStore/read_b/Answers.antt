@@ -23,7 +23,7 @@ returns-in-Ok-clause-run g c =
     ∙ same_by_b (read_counted s true) c.in-Ok.ensures.sides c.in-Ok.ensures.before c.in-Ok.ensures.there in
     λ p. rw (← c.is_level.ensures, c.if-not-is_level.false)
     (reads_on_b g.V.Volume.view c.args.self.now.pair.volumes c.read.new.self.volumes c.in-Ok.ensures.before c.in-Ok.ensures.there
-        c.in-Ok.ensures.other c.in-Ok.ensures.read (ended (sym now) refl))
+    c.in-Ok.ensures.other c.in-Ok.ensures.read (ended (sym now) refl))
 
 pub returns-in-Err-clause-run : goal.returns-in-Err-clause-run
 returns-in-Err-clause-run g c =
@@ -32,7 +32,7 @@ returns-in-Err-clause-run g c =
     ∙ same_by_b (read_counted s false) c.in-Err.ensures.sides c.in-Err.ensures.before c.in-Err.ensures.there in
     λ p. rw (← c.is_level.ensures, c.if-not-is_level.false)
     (reads_on_b g.V.Volume.view c.args.self.now.pair.volumes c.read.new.self.volumes c.in-Err.ensures.before c.in-Err.ensures.there
-        c.in-Err.ensures.other c.in-Err.ensures.read
+    c.in-Err.ensures.other c.in-Err.ensures.read
     (joined (λ z _. Done z (got B None (Some (first_fault c.args.fault B))))
     (from_equal (λ z. call_failed contents z B None) now refl (c.call_failed.ensures.run p))
     (ended refl (rw c.first_fault.ensures refl))))

@@ -1,8 +1,7 @@
-use Rattle.std.proofs.Common.{◌≡◌, ◌∙◌, ◌*◌, Bool, List, ap, false, sym, true}
-use Rattle.std.specs.Prelude.{is_some, replicate}
-use Rattle.device_defs.specs.Store.{new_side, no_side}
-use Rattle.device_store.specs.State.{state_of}
-use Rattle.device_store.proofs.Orders.{pair_is, replaced, sized}
+use Rattle.std.proofs.Common.{◌∙◌, ◌*◌, ap, sym, true}
+use Rattle.std.specs.Prelude.{is_some}
+use Rattle.device_defs.specs.Store.{new_side}
+use Rattle.device_store.proofs.Orders.{replaced, sized}
 use Rattle.device_store.proofs.store.DeviceStore.replace.Goals as goal
 
 pub replace-requires-clause-size : goal.replace-requires-clause-size
@@ -11,7 +10,7 @@ replace-requires-clause-size g c = c.requires.size ∙ sym c.args.self.now.stale
 pub invariant_of-self-clause-stale_of_each : goal.invariant_of-self-clause-stale_of_each
 invariant_of-self-clause-stale_of_each g c =
     sized c.args.self.now.pair c.replace.new.self c.args.side true (c.args.self.now.cylinders * 15) c.args.self.now.stale_of_each
-        c.replace.ensures.marks c.replace.ensures.other
+    c.replace.ensures.marks c.replace.ensures.other
 
 pub returns-clause-state : goal.returns-clause-state
 returns-clause-state g c =

@@ -1,4 +1,4 @@
-use Rattle.std.proofs.Common.{◌≡◌, ◌∙◌, ◌*◌, Bool, List, ap, false, length, sym, true}
+use Rattle.std.proofs.Common.{◌∙◌, ◌*◌, Bool, List, ap, false, length, sym}
 use Rattle.std.specs.Prelude.{is_some, replicate}
 use Rattle.device_defs.specs.Store.{SideMarks, new_side}
 use Rattle.device_store.specs.State.{state_of}

@@ -18,4 +18,4 @@ pub returns-in-Ok-clause-run : goal.returns-in-Ok-clause-run
 returns-in-Ok-clause-run g c =
     tries true refl (joined (λ z e. Done z (Some e))
     (from_equal (λ i. saving contents (state_of c.args.self.now) c.args.t i c.args.done None) (c.in-Ok.ensures ∙ c.frame_image.ensures) refl
-        c.save_read.ensures.run) done)
+    c.save_read.ensures.run) done)

@@ -11,5 +11,5 @@ returns-clause-run g c =
     joined (λ y was. and_then (write_first contents y c.args.t (track_bytes c.args.image.track))
     (λ x w. saved_by contents c.args.t c.args.image c.args.done c.args.fault was w.fault x w.took)) (c.firm_first-was_loose.ensures.run _)
     (joined (λ x w. saved_by contents c.args.t c.args.image c.args.done c.args.fault c.firm_first-was_loose.result w.fault x w.took)
-        (c.write_first-written.ensures.run _)
+    (c.write_first-written.ensures.run _)
     (rw c.did.ensures (c.saved_by.ensures.run _ c.args.fault)))

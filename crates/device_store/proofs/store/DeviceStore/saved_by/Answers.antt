@@ -16,10 +16,10 @@ returns-in-Unwritten-clause-run g c = λ k fault. rw (c.in-Unwritten.is, c.did.e
 pub returns-in-Whole-clause-run : goal.returns-in-Whole-clause-run
 returns-in-Whole-clause-run g c =
     λ k fault. rw (c.in-Whole.is, c.did-in-Whole.ensures)
-        (joined (λ z _. Done z (did fault (did c.args.written.fault c.args.done))) (c.write_done.ensures.run k) done)
+    (joined (λ z _. Done z (did fault (did c.args.written.fault c.args.done))) (c.write_done.ensures.run k) done)
 
 pub returns-in-Opened-clause-run : goal.returns-in-Opened-clause-run
 returns-in-Opened-clause-run g c =
     λ k fault. rw c.in-Opened.is (joined (λ z _. Done z (did fault (Half c.args.half.track)))
     (from_equal (λ o. opened contents (state_of c.args.self.now) c.args.half.track c.args.half.image o c.args.was_loose)
-        (ap origin_of c.requires.background) refl (c.open_half.ensures.run k)) done)
+    (ap origin_of c.requires.background) refl (c.open_half.ensures.run k)) done)

@@ -12,13 +12,13 @@ use Rattle.device_store.proofs.store.DeviceStore.second.Goals as goal
 pub returns-clause-track : goal.returns-clause-track
 returns-clause-track g c =
     λ h is. ap (λ (x : HalfWrite). x.track) (same_half c.write_half.new.self.half c.take_half-half.result h c.take_half-half.ensures.was
-        (c.write_half.ensures.half ∙ is))
+    (c.write_half.ensures.half ∙ is))
 
 pub returns-clause-command : goal.returns-clause-command
 returns-clause-command g c =
     λ h is. c.is_of_command-of_command.ensures
     ∙ ap (λ (x : HalfWrite). is_of_command (origin_of x.origin))
-        (same_half c.write_half.new.self.half c.take_half-half.result h c.take_half-half.ensures.was (c.write_half.ensures.half ∙ is))
+    (same_half c.write_half.new.self.half c.take_half-half.result h c.take_half-half.ensures.was (c.write_half.ensures.half ∙ is))
 
 pub returns-clause-run : goal.returns-clause-run
 unfolding second_part

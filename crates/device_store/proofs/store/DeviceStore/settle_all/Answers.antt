@@ -34,11 +34,11 @@ loop-t-preserved g c = record {
       (state_of c.args.self.now))) refl
       (joined (λ x _. firm_told contents c.loop-t.t (settled_but contents c.args.writing.now c.loop-t.t x)) (c.loop-t.invariant.ran p)
       (from_equal (λ n. firm_told contents n (settled_but contents c.args.writing.now n (state_of c.loop-t.self))) c.track.ensures refl
-          (c.settle_other.ensures.run p)));
+      (c.settle_other.ensures.run p)));
 }
 
 pub returns-clause-run : goal.returns-clause-run
 returns-clause-run g c =
     let all : c.loop-t.t ≡ c.args.self.now.cylinders * 15 = omega (arith, c.loop-t-test.false, c.loop-t.auto.t-end, c.from-tracks.ensures) in
     λ p. from_equal (λ n. all_firm_told contents n (over n (settled_but contents c.args.writing.now) (state_of c.args.self.now))) all refl
-        (c.loop-t.invariant.ran p)
+    (c.loop-t.invariant.ran p)

@@ -1,4 +1,4 @@
-use Rattle.std.proofs.Common.{◌∙◌, refl, sym}
+use Rattle.std.proofs.Common.{refl}
 use Rattle.device_outside.specs.Interaction.{Done, and_then}
 use Rattle.device_outside.proofs.Runs.{ended, joined}
 use Rattle.device_defs.specs.Contents.{contents}

@@ -12,11 +12,11 @@ pub returns-then-is_written-clause-run : goal.returns-then-is_written-clause-run
 returns-then-is_written-clause-run g c =
     let s = state_of c.args.self.now in
     λ p. from_equal (λ i. i) (sym (ap (firm_told contents c.args.t)
-        (written_stays c.args.writing.now c.args.t s (sym c.is_written.ensures ∙ c.if-is_written.true))
+    (written_stays c.args.writing.now c.args.t s (sym c.is_written.ensures ∙ c.if-is_written.true))
     ∙ not_firm contents c.args.t s (c.no_firm.ensures c.args.t))) refl done
 
 pub returns-clause-run : goal.returns-clause-run
 returns-clause-run g c =
     λ p. from_equal (firm_told contents c.args.t) (sym
-        (others_go c.args.writing.now c.args.t (state_of c.args.self.now) (sym c.is_written.ensures ∙ c.if-is_written.false))) refl
+    (others_go c.args.writing.now c.args.t (state_of c.args.self.now) (sym c.is_written.ensures ∙ c.if-is_written.false))) refl
     (c.settle_told.ensures.run p)

@@ -1,8 +1,8 @@
-use Rattle.std.proofs.Common.{◌≡◌, ◌∙◌, ◌*◌, Bool, List, ap, false, sym, true}
-use Rattle.std.specs.Prelude.{is_some, replicate}
-use Rattle.device_defs.specs.Store.{new_side, no_side}
+use Rattle.std.proofs.Common.{◌∙◌, ap}
+use Rattle.std.specs.Prelude.{is_some}
+use Rattle.device_defs.specs.Store.{no_side}
 use Rattle.device_store.specs.State.{state_of}
-use Rattle.device_store.proofs.Orders.{pair_is, replaced, sized}
+use Rattle.device_store.proofs.Orders.{pair_is}
 use Rattle.device_store.proofs.store.DeviceStore.split.Goals as goal
 
 pub returns-clause-state : goal.returns-clause-state

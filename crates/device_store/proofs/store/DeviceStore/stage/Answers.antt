@@ -18,7 +18,7 @@ returns-in-Err-clause-run g c = rw (← c.has.ensures, c.if-has.false, ← c.has
 pub returns-in-Ok-Denied-clause-run : goal.returns-in-Ok-Denied-clause-run
 returns-in-Ok-Denied-clause-run g c =
     rw (← c.has.ensures, c.if-has.false, ← c.has-2.ensures, c.if-has-2.false)
-        (tries true refl (asks (rw c.in-Ok-Denied.field-0-is at c.in-Ok-Denied.ensures) done))
+    (tries true refl (asks (rw c.in-Ok-Denied.field-0-is at c.in-Ok-Denied.ensures) done))
 
 pub returns-in-Ok-Given-clause-run : goal.returns-in-Ok-Given-clause-run
 returns-in-Ok-Given-clause-run g c =
@@ -28,4 +28,4 @@ returns-in-Ok-Given-clause-run g c =
 pub stage_granted-requires-clause-firm : goal.stage_granted-requires-clause-firm
 stage_granted-requires-clause-firm g c = λ here.
     unframed_firm c.args.self.now.loose.loose c.args.self.now.frames c.args.t _ (c.args.self.now.loose_modified here) refl
-        (unframed _ (sym c.has.ensures ∙ c.if-has.false))
+    (unframed _ (sym c.has.ensures ∙ c.if-has.false))

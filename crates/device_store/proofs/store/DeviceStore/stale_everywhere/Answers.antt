@@ -10,11 +10,11 @@ returns-then-is_paired-clause-state g c =
     let s = with_stale (state_of c.args.self.now) A c.args.t true in
     c.mark_b.ensures.state ∙ ap (λ z. with_stale z B c.args.t true) c.mark_a.ensures.state
     ∙ ap (λ (b : Bool). if b then with_stale s B c.args.t true else s)
-        (sym (ap (λ z. z.paired) (sym c.mark_a.ensures.state) ∙ sym c.is_paired.ensures ∙ c.if-is_paired.true))
+    (sym (ap (λ z. z.paired) (sym c.mark_a.ensures.state) ∙ sym c.is_paired.ensures ∙ c.if-is_paired.true))
 
 pub returns-else-is_paired-clause-state : goal.returns-else-is_paired-clause-state
 returns-else-is_paired-clause-state g c =
     let s = with_stale (state_of c.args.self.now) A c.args.t true in
     c.mark_a.ensures.state
     ∙ ap (λ (b : Bool). if b then with_stale s B c.args.t true else s)
-        (sym (ap (λ z. z.paired) (sym c.mark_a.ensures.state) ∙ sym c.is_paired.ensures ∙ c.if-is_paired.false))
+    (sym (ap (λ z. z.paired) (sym c.mark_a.ensures.state) ∙ sym c.is_paired.ensures ∙ c.if-is_paired.false))

@@ -1,8 +1,8 @@
-use Rattle.std.proofs.Common.{◌∙◌, refl, sym, subst, ap}
+use Rattle.std.proofs.Common.{◌∙◌, refl, sym, ap}
 use Rattle.device_outside.specs.Outside.{done}
 use Rattle.device_outside.proofs.Runs.{joined}
 use Rattle.device_defs.specs.Contents.{contents}
-use Rattle.device_defs.specs.Owed.{all_told, track_told}
+use Rattle.device_defs.specs.Owed.{track_told}
 use Rattle.device_store.specs.Looks.{StoreOf}
 use Rattle.device_store.specs.State.{state_of}
 use Rattle.device_store.proofs.Moves.{from_equal}

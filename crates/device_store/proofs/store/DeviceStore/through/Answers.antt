@@ -14,7 +14,7 @@ returns-clause-run g c =
     joined (λ z was. and_then (write_first contents z c.args.t (track_bytes c.args.image.track))
     (λ y w. through_by contents c.args.t c.args.image c.args.edit c.args.bypass c.args.opens was y w.took)) (c.firm_first-was_loose.ensures.run _)
     (joined (λ y w. through_by contents c.args.t c.args.image c.args.edit c.args.bypass c.args.opens c.firm_first-was_loose.result y w.took)
-        (c.write_first-written.ensures.run _)
+    (c.write_first-written.ensures.run _)
     (c.through_by.ensures.run c.args.edit refl))
 
 pub returns-clause-half : goal.returns-clause-half

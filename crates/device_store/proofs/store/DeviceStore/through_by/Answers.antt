@@ -23,7 +23,7 @@ pub returns-else-not-opens-clause-run : goal.returns-else-not-opens-clause-run
 returns-else-not-opens-clause-run g c =
     λ e is. rw (c.in-Opened.is, c.if-not-opens.false) (joined (λ z _. Done z Opened)
     (from_equal (λ o. opened contents (state_of c.args.self.now) c.args.half.track c.args.half.image o c.args.was_loose) is refl
-        (c.open_half.ensures.run _)) done)
+    (c.open_half.ensures.run _)) done)
 
 pub returns-then-not-opens-clause-half : goal.returns-then-not-opens-clause-half
 returns-then-not-opens-clause-half g c = c.at_once.ensures.half ∙ c.requires.none ∙ none_opened c.at_once.result c.args.half c.at_once.ensures.ends

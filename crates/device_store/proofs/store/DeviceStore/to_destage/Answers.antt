@@ -1,7 +1,6 @@
-use Rattle.std.proofs.Common.{◌≡◌, ◌<◌, ◌≤◌, ◌*◌, ◌∙◌, ℕ, true, refl, sym, arith}
+use Rattle.std.proofs.Common.{◌≡◌, ◌<◌, ◌≤◌, ◌*◌, ◌∙◌, true, refl, sym, arith}
 use Rattle.std.specs.Prelude.{is_some}
 use Rattle.device_defs.specs.Store.{frame_at}
-use Rattle.track_table.specs.Tracks.{least}
 use Rattle.device_defs.specs.Background.{is_destaged}
 use Rattle.device_defs.specs.Contents.{contents}
 use Rattle.device_store.specs.State.{state_of}
@@ -17,7 +16,7 @@ returns-then-some_up-clause-least g c =
     let n = c.args.self.now.cylinders * 15 in
     let few : n ≤ 960 = omega (arith, c.args.self.now.most) in
     c.first.ensures ∙ least_of n c.destaged.result (is_destaged contents s) few c.destaged.ensures
-        (λ t le. none_destaged s n t c.args.self.now.frame_of_each c.args.self.now.loose_of_each le)
+    (λ t le. none_destaged s n t c.args.self.now.frame_of_each c.args.self.now.loose_of_each le)
     ∙ sym (destages s (sym c.some_up.ensures ∙ c.if-some_up.true))
 
 pub returns-then-some_up-clause-here : goal.returns-then-some_up-clause-here
@@ -27,7 +26,7 @@ returns-then-some_up-clause-here g c =
     let few : n ≤ 960 = omega (arith, c.args.self.now.most) in
     if_some _ _ (IsOne n (is_destaged contents s)) (λ t. t < n)
     (c.first.ensures ∙ least_of n c.destaged.result (is_destaged contents s) few c.destaged.ensures
-        (λ t le. none_destaged s n t c.args.self.now.frame_of_each c.args.self.now.loose_of_each le))
+    (λ t le. none_destaged s n t c.args.self.now.frame_of_each c.args.self.now.loose_of_each le))
     (λ t one. one.here) (least_one n (is_destaged contents s))
 
 pub returns-clause-least : goal.returns-clause-least
@@ -40,7 +39,7 @@ returns-then-some_up-clause-framed g c =
     let few : n ≤ 960 = omega (arith, c.args.self.now.most) in
     if_some _ _ (IsOne n (is_destaged contents s)) (λ t. is_some (frame_at s t) ≡ true)
     (c.first.ensures ∙ least_of n c.destaged.result (is_destaged contents s) few c.destaged.ensures
-        (λ t le. none_destaged s n t c.args.self.now.frame_of_each c.args.self.now.loose_of_each le))
+    (λ t le. none_destaged s n t c.args.self.now.frame_of_each c.args.self.now.loose_of_each le))
     (λ t one. destaged_framed s t (λ loose. modified_there _
-        (c.args.self.now.loose_modified (some_here c.args.self.now.pair (sym c.some_up.ensures ∙ c.if-some_up.true)) t loose)) one.passes)
-        (least_one n (is_destaged contents s))
+    (c.args.self.now.loose_modified (some_here c.args.self.now.pair (sym c.some_up.ensures ∙ c.if-some_up.true)) t loose)) one.passes)
+    (least_one n (is_destaged contents s))

@@ -1,5 +1,4 @@
-use Rattle.std.proofs.Common.{◌≡◌, ◌<◌, ◌≤◌, ◌*◌, ◌∙◌, ℕ, refl, sym, arith}
-use Rattle.track_table.specs.Tracks.{least}
+use Rattle.std.proofs.Common.{◌<◌, ◌≤◌, ◌*◌, ◌∙◌, refl, sym, arith}
 use Rattle.device_defs.specs.Owed.{waits}
 use Rattle.device_defs.specs.Contents.{contents}
 use Rattle.device_store.specs.State.{state_of}
@@ -14,7 +13,7 @@ returns-then-some_up-clause-least g c =
     let n = c.args.self.now.cylinders * 15 in
     let few : n ≤ 960 = omega (arith, c.args.self.now.most) in
     c.first.ensures ∙ least_of n c.waiting.result (waits contents s) few c.waiting.ensures
-        (λ t le. none_beyond s n t c.args.self.now.frame_of_each c.args.self.now.patch_of_each le)
+    (λ t le. none_beyond s n t c.args.self.now.frame_of_each c.args.self.now.patch_of_each le)
     ∙ sym (recovers s (sym c.some_up.ensures ∙ c.if-some_up.true))
 
 pub returns-then-some_up-clause-here : goal.returns-then-some_up-clause-here
@@ -24,7 +23,7 @@ returns-then-some_up-clause-here g c =
     let few : n ≤ 960 = omega (arith, c.args.self.now.most) in
     if_some _ _ (IsOne n (waits contents s)) (λ t. t < n)
     (c.first.ensures ∙ least_of n c.waiting.result (waits contents s) few c.waiting.ensures
-        (λ t le. none_beyond s n t c.args.self.now.frame_of_each c.args.self.now.patch_of_each le))
+    (λ t le. none_beyond s n t c.args.self.now.frame_of_each c.args.self.now.patch_of_each le))
     (λ t one. one.here) (least_one n (waits contents s))
 
 pub returns-clause-least : goal.returns-clause-least

@@ -1,5 +1,4 @@
 use Rattle.device_outside.specs.Outside.{done}
-use Rattle.device_outside.proofs.Runs.{asks}
 use Rattle.device_store.proofs.store.DeviceStore.unchosen.Goals as goal
 
 pub returns-in-Through : goal.returns-in-Through

@@ -24,7 +24,7 @@ returns-then-write_side-clause-run g c =
     ∙ same_by_a (write_counted s c.write_side.result) c.write_side.ensures.sides c.write_side.ensures.other in
     λ p. from_equal (λ i. i) (sym (written_a s c.args.t _ c.requires.up)) refl
     (writes_on_a g.V.Volume.view c.args.self.now.pair.volumes c.write_side.new.pair.volumes c.write_side.ensures.before c.write_side.ensures.there
-        c.write_side.ensures.other c.write_side.ensures.wrote
+    c.write_side.ensures.other c.write_side.ensures.wrote
     (from_equal (first_a contents c.args.t (track_bytes c.args.image.now.track) (write_counted s c.write_side.result)) (sym c.if-write_side.true) refl
     (lands (ap (λ x. outside_of p g.V.Volume.view x c.args.keep.now) (sym c.taken_a.ensures.volume))
     (ended (sym (c.taken_a.ensures.state ∙ ap (λ z. taken_a z c.args.t) now)) (sym (rw (c.opened_if.ensures, c.takes_b-takes.ensures) refl))))))
@@ -36,9 +36,9 @@ returns-clause-run g c =
     ∙ same_by_a (write_counted s c.write_side.result) c.write_side.ensures.sides c.write_side.ensures.other in
     λ p. from_equal (λ i. i) (sym (written_a s c.args.t _ c.requires.up)) refl
     (writes_on_a g.V.Volume.view c.args.self.now.pair.volumes c.write_side.new.pair.volumes c.write_side.ensures.before c.write_side.ensures.there
-        c.write_side.ensures.other c.write_side.ensures.wrote
+    c.write_side.ensures.other c.write_side.ensures.wrote
     (from_equal (first_a contents c.args.t (track_bytes c.args.image.now.track) (write_counted s c.write_side.result)) (sym c.if-write_side.false) refl
     (joined (λ z _. failed_a contents c.args.t (track_bytes c.args.image.now.track) (takes_b s) z)
     (from_equal (λ z. call_failed contents z A (Some c.args.t)) now refl (c.call_failed.ensures.run p))
     (from_equal (λ b. failed_a contents c.args.t (track_bytes c.args.image.now.track) b (state_of c.call_failed.new.self)) c.takes_b-takes.ensures
-        refl (c.failed_a.ensures.run p)))))
+    refl (c.failed_a.ensures.run p)))))

@@ -10,7 +10,7 @@ write_b-requires-clause-up g c = up_from _ _ (sym c.takes_b.ensures ∙ c.if-tak
 pub returns-then-takes_b-clause-run : goal.returns-then-takes_b-clause-run
 returns-then-takes_b-clause-run g c =
     λ p. from_equal (λ i. i) (sym (written_b (state_of c.args.self.now) c.args.t _ c.if-self.false (sym c.takes_b.ensures ∙ c.if-takes_b.true))) refl
-        (c.write_b.ensures.run p)
+    (c.write_b.ensures.run p)
 
 pub returns-clause-run : goal.returns-clause-run
 returns-clause-run g c = λ p. c.unheld.ensures.run p _ _

@@ -24,7 +24,7 @@ returns-then-self-clause-run g c =
     ∙ same_by_a (write_counted s c.write_side-done.result) c.write_side-done.ensures.sides c.write_side-done.ensures.other in
     λ p k. from_equal (λ i. i) (sym (written_a s c.args.t _ c.if-self.true)) refl
     (writes_on_a g.V.Volume.view c.args.self.now.pair.volumes c.write_side-done.new.pair.volumes c.write_side-done.ensures.before
-        c.write_side-done.ensures.there c.write_side-done.ensures.other
+    c.write_side-done.ensures.there c.write_side-done.ensures.other
     (rw (image_is s c.args.t c.image_in-image.result.now c.image_in-image.ensures) at c.write_side-done.ensures.wrote)
     (from_equal (λ z. first_a contents c.args.t (track_bytes (frame_in s c.args.t).track) z c.write_side-done.result) now refl
     (c.taken_alone.ensures.run p k (track_bytes (frame_in s c.args.t).track))))

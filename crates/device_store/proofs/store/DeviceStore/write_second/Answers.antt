@@ -19,7 +19,7 @@ returns-then-takes_second-clause-run g c =
     ∙ same_by_b (write_counted s c.write_side-took.result) c.write_side-took.ensures.sides c.write_side-took.ensures.before c.write_side-took.ensures.there in
     λ p. from_equal (λ i. i) (sym (second_b s c.args.t _ (sym c.takes_second.ensures ∙ c.if-takes_second.true))) refl
     (writes_on_b g.V.Volume.view c.args.self.now.pair.volumes c.write_side-took.new.pair.volumes c.write_side-took.ensures.before
-        c.write_side-took.ensures.there c.write_side-took.ensures.other c.write_side-took.ensures.wrote
+    c.write_side-took.ensures.there c.write_side-took.ensures.other c.write_side-took.ensures.wrote
     (from_equal (λ z. tried_b contents c.args.t z c.write_side-took.result) now refl (c.tried_b.ensures.run p)))
 
 pub returns-else-takes_second-clause-run : goal.returns-else-takes_second-clause-run
