@@ -1,4 +1,4 @@
 pub mod Complete
 pub mod HandedBack
-pub mod RunsWell
+pub mod Summed
 pub mod Written

@@ -1,4 +1,3 @@
-pub mod Run
 pub mod Handed
 pub mod Answers
 pub mod Summing
