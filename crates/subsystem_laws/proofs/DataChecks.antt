@@ -20,7 +20,7 @@ use Rattle.subsystem_defs.specs.Decks.{opened_device, opened, run_of}
 use Rattle.subsystem_defs.specs.Lines.{asked_by}
 use Rattle.subsystem_laws.specs.Causes.{HasNoDataCheck, HaveNoDataCheck}
 use Rattle.subsystem_laws.proofs.PastChecks.{reset_counts, power_counts, lend_counts}
-use Rattle.subsystem_laws.proofs.RunLines.{Any}
+use Rattle.subsystem_laws.proofs.RunLines.{AnyEvent}
 use Rattle.subsystem_laws.proofs.Walks.{IsKept, AreSo, LeavesSo, run_keeps}
 
 -- whatever is answered
@@ -31,7 +31,7 @@ started_so : (d : MarksDevice) (path : ℕ) → HasNoDataCheck d → HasNoDataCh
 unfolding S.start
 started_so d path p = p
 
-pub checks_kept : IsKept HasNoDataCheck Any
+pub checks_kept : IsKept HasNoDataCheck AnyEvent
 checks_kept = record {
   started = λ d path n may fault p. started_so d path p;
   commanded = λ d o running whole p. λ t. clean_held (command_clean d) t ∙ p;

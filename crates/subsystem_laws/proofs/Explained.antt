@@ -1,5 +1,34 @@
 -- Each equipment check in the run of a deck is explained, while failed calls are counted.
-use Rattle.std.proofs.Common.{◌≡◌, ◌<◌, ◌+◌, ◌-◌, ◌==◌, ℕ, Bool, true, false, List, [], ◌∷◌, ◌++◌, length, Option, Some, None, option_map, refl, sym, ap, subst, ◌∙◌, append_assoc, arith, ◌⊎◌, inl, inr}
+use Rattle.std.proofs.Common.{
+  ◌≡◌,
+  ◌<◌,
+  ◌+◌,
+  ◌-◌,
+  ◌==◌,
+  ℕ,
+  Bool,
+  true,
+  false,
+  List,
+  [],
+  ◌∷◌,
+  ◌++◌,
+  length,
+  Option,
+  Some,
+  None,
+  option_map,
+  refl,
+  sym,
+  ap,
+  subst,
+  ◌∙◌,
+  append_assoc,
+  arith,
+  ◌⊎◌,
+  inl,
+  inr,
+}
 use Rattle.std.proofs.lemmas.Bool.{ne_eqb}
 use Rattle.std.proofs.lemmas.List.{append-nil}
 use Rattle.std.specs.Prelude.{not, count_by, if◌then◌else◌, ◌&&◌, ◌||◌}
@@ -380,7 +409,8 @@ grows_none h k e = record { more = []; grown = e ∙ sym (append-nil h.items) }
 
 reset_grows : (h : History) (path more : ℕ) (r : Option OpenEntry) → Grows h (reset_in h path more r)
 reset_grows h path more (Some o) =
-    grows_if h (o.path == path) (cut_by h o more) _ (record { more = entry_of o (Cut (length o.ends + more)) ∷ items.Reset o.path ∷ resets_of h.waiting; grown = refl })
+    grows_if h (o.path == path) (cut_by h o more) _
+    (record { more = entry_of o (Cut (length o.ends + more)) ∷ items.Reset o.path ∷ resets_of h.waiting; grown = refl })
     (grows_if h (is_used path false h.items) (record h { waiting = put path h.waiting }) h (grows_none h (record h { waiting = put path h.waiting }) refl)
     (grows_none h h refl))
 reset_grows h path more None =

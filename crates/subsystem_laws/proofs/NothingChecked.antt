@@ -52,7 +52,7 @@ use Rattle.subsystem_laws.proofs.LendBase.{at, stays_still, lent_store, lend_bas
 use Rattle.subsystem_laws.proofs.PastChecks.{reset_counts}
 use Rattle.subsystem_laws.proofs.SecondChecks.{second_unchecked, background_unchecked, runs_unharmed}
 use Rattle.subsystem_laws.proofs.TracksKept.{Fair, fair_kept, none_less, below_top, new_fair}
-use Rattle.subsystem_laws.proofs.RunLines.{Any}
+use Rattle.subsystem_laws.proofs.RunLines.{AnyEvent}
 use Rattle.subsystem_laws.proofs.Walks.{IsKept, AreSo, LeavesSo, run_keeps, behind_weaker}
 
 abbrev pub IsQuiet : MarksDevice → Type 0
@@ -239,7 +239,7 @@ module _ (d : MarksDevice) (q : Quiet d) where
         );
   }
 
-pub quiet_kept : IsKept Quiet Any
+pub quiet_kept : IsKept Quiet AnyEvent
 quiet_kept = record {
   started = λ d path n may fault q. start_quiet d q path (fair_kept.started d path n may fault q.fair);
   commanded = λ d o running whole q. command_quiet d q o running (fair_kept.commanded d o running whole q.fair) whole;

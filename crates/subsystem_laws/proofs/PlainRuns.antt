@@ -1,5 +1,5 @@
 -- In the run of a deck each device's history is one of a plain device after every event.
-use Rattle.std.proofs.Common.{◌≡◌, ◌≤◌, ◌==◌, ℕ, Bool, true, false, List, [], ◌∷◌, map, Option, Some, None, refl, sym, ap, subst, ◌∙◌, arith}
+use Rattle.std.proofs.Common.{◌≡◌, ◌≤◌, ◌==◌, ℕ, Bool, true, List, [], ◌∷◌, map, Option, Some, None, refl, subst, arith}
 use Rattle.std.specs.Prelude.{not, All}
 use Rattle.std.proofs.lemmas.List.Elements.{All-nil, All-cons, All-head, All-tail}
 use Rattle.deck_plan.specs.declared.event.EventLine.{EventLine}
@@ -14,8 +14,7 @@ use Rattle.track_image.specs.Image.{Image}
 use Rattle.device_outside.specs.Interaction.{Interaction}
 use Rattle.device_outside.specs.Told as T
 use Rattle.device_outside.specs.Told.{Told}
-use Rattle.device_defs.specs.Contents.{by_plain}
-use Rattle.device_defs.specs.Orders.{join, split, restore, hold, resume, replace, lend}
+use Rattle.device_defs.specs.Orders.{join, split, restore, hold, resume, replace}
 use Rattle.device_defs.specs.Marks.{MarksDevice, MarksStore}
 use Rattle.device_laws.proofs.Had.{Had, held}
 use Rattle.device_laws.proofs.PlainCommand.{command_follows, follows_store}

@@ -38,19 +38,19 @@ module _ (May : Event → Type 0) where
   MayAsk (Once e) = May e
   MayAsk _ = Unit {0}
 
-abbrev pub Any : Event → Type 0
-Any e = Unit {0}
+abbrev pub AnyEvent : Event → Type 0
+AnyEvent e = Unit {0}
 
-any_asked : (x : Asked) → MayAsk Any x
+any_asked : (x : Asked) → MayAsk AnyEvent x
 any_asked (Once e) = tt
 any_asked (Replace d side) = tt
 any_asked (Unpair a) = tt
 any_asked (Run d) = tt
 any_asked (Settle d) = tt
 
-all_asked : (lines : List Asked) → All (MayAsk Any) lines
-all_asked [] = All-nil (MayAsk Any)
-all_asked (x ∷ xs) = All-cons (MayAsk Any) x xs (any_asked x) (all_asked xs)
+pub all_asked : (lines : List Asked) → All (MayAsk AnyEvent) lines
+all_asked [] = All-nil (MayAsk AnyEvent)
+all_asked (x ∷ xs) = All-cons (MayAsk AnyEvent) x xs (any_asked x) (all_asked xs)
 
 -- what is so of the subsystem before an event, and what the event shows
 module _ (Q : Subsystem → Type 0) (R : Subsystem → Logged → Type 0) where
@@ -126,10 +126,10 @@ module _ (Q : Subsystem → Type 0) (R : Logged → Type 0) where
   logs_all s [] q = All-nil R
   logs_all s (t ∷ ts) q = All-cons R t ts q.0 (logs_all t.happened.behind ts q.1)
 
-  pub run_shows : Goes Q (λ s. R) Any → (lines : List Asked) (s : Subsystem) → Q s → All R (run_lines lines s)
-  run_shows g lines s q = logs_all s (run_lines lines s) (lines_go Q (λ s. R) Any g lines s (all_asked lines) q)
+  pub run_shows : Goes Q (λ s. R) AnyEvent → (lines : List Asked) (s : Subsystem) → Q s → All R (run_lines lines s)
+  run_shows g lines s q = logs_all s (run_lines lines s) (lines_go Q (λ s. R) AnyEvent g lines s (all_asked lines) q)
 
 -- where any event may come
-pub lines_keep : (Q : Subsystem → Type 0) (R : Subsystem → Logged → Type 0) → Goes Q R Any → (lines : List Asked) (s : Subsystem) → Q s →
+pub lines_keep : (Q : Subsystem → Type 0) (R : Subsystem → Logged → Type 0) → Goes Q R AnyEvent → (lines : List Asked) (s : Subsystem) → Q s →
     Logs Q R s (run_lines lines s)
-lines_keep Q R g lines s q = lines_go Q R Any g lines s (all_asked lines) q
+lines_keep Q R g lines s q = lines_go Q R AnyEvent g lines s (all_asked lines) q

@@ -3,7 +3,6 @@ use Rattle.std.proofs.Common.{◌≡◌, ℕ, List, Option, Some, None, refl}
 use Rattle.ckd_types.specs.declared.paths.Side.{Side}
 use Rattle.device_outside.specs.Told.{Calls}
 use Rattle.device_defs.specs.Contents.{by_plain}
-use Rattle.subsystem_defs.specs.declared.end.EventEnd.TheVariants as ends
 use Rattle.subsystem_defs.specs.declared.end.OrderFault.{OrderFault}
 use Rattle.subsystem_defs.specs.declared.event.Event.{Event}
 use Rattle.subsystem_defs.specs.declared.event.Event.TheVariants as events
@@ -27,7 +26,7 @@ use Rattle.subsystem_defs.specs.declared.end.EventEnd.{EventEnd}
 use Rattle.subsystem_defs.specs.Lines.{Asked, Logged, run_lines}
 use Rattle.subsystem_defs.specs.Refusals.{replace_fault, unpair_fault}
 use Rattle.subsystem_defs.specs.Subsystem.{Mounted, Subsystem, devices_of, mounted_in, unfailing}
-use Rattle.subsystem_laws.proofs.RunLines.{Any, Logs, Goes, lines_keep}
+use Rattle.subsystem_laws.proofs.RunLines.{AnyEvent, Logs, Goes, lines_keep}
 
 abbrev pub Linked : Subsystem → List Logged → Type 0
 Linked s ts = Logs (λ s. Unit {0}) (λ s t. t.happened.before ≡ s) s ts
@@ -66,7 +65,7 @@ unpaired_from s a volume (Some m) = by_fault (unpair_fault m.device) where
 
 -- All lines
 
-links_go : Goes (λ s. Unit {0}) (λ s t. t.happened.before ≡ s) Any
+links_go : Goes (λ s. Unit {0}) (λ s t. t.happened.before ≡ s) AnyEvent
 unfolding H.replaced H.unpaired
 links_go = record {
   once = λ s e may q. (tt, event_from s e);

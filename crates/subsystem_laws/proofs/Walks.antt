@@ -79,7 +79,7 @@ use Rattle.subsystem_defs.specs.Refusals as R
 use Rattle.subsystem_defs.specs.Refusals.{pair_fault, suspend_fault, resume_fault, fail_fault, replace_fault, unpair_fault}
 use Rattle.subsystem_laws.proofs.DeedWalk.{Stands, seat_of, IsEventwise, event_deed_is}
 use Rattle.subsystem_laws.proofs.LendBase.{lend_lends}
-use Rattle.subsystem_laws.proofs.RunLines.{Any, MayAsk, all_asked, Logs, logs_end, logs_all, Goes, line_goes, lines_go}
+use Rattle.subsystem_laws.proofs.RunLines.{AnyEvent, MayAsk, all_asked, Logs, logs_end, logs_all, Goes, line_goes, lines_go}
 use Rattle.subsystem_defs.proofs.Unrefused.{first_none, where_none}
 
 -- an answer changes nothing of the device behind it
@@ -370,7 +370,8 @@ module _ (P : MarksDevice → Type 0) where
       stepped = λ s d p. shown (happens s (events.Step d)).behind (event_so s p (events.Step d) (own.step d));
       idle = λ s d p. shown s p;
       backed = λ s d p. shown (happens s (events.Back d)).behind (event_so s p (events.Back d) (own.back d));
-      replaces = λ s d side p. shown (replaced s d side unfailing).behind (replaced_so s d side unfailing p (mounted_in s.mounted d) (mounted_so s.mounted d p));
+      replaces = λ s d side p. shown (replaced s d side unfailing).behind
+          (replaced_so s d side unfailing p (mounted_in s.mounted d) (mounted_so s.mounted d p));
       unpairs = λ s a p. shown (unpaired s a unfailing).behind (unpaired_so s a unfailing p (mounted_in s.mounted a) (mounted_so s.mounted a p));
     }
 
@@ -387,12 +388,14 @@ module _ (P : MarksDevice → Type 0) where
     pub lines_keep_so : HasOwn May → (lines : List Asked) (s : Subsystem) → All (MayAsk May) lines → AreSo s.mounted → All IsBehind (run_lines lines s)
     lines_keep_so own lines s may p = logs_all (λ s. AreSo s.mounted) IsBehind s (run_lines lines s) (all_keep own lines s may p)
 
-    pub lines_end_so : HasOwn May → (lines : List Asked) (s : Subsystem) → All (MayAsk May) lines → AreSo s.mounted → AreSo (last_behind s (run_lines lines s)).mounted
+    pub lines_end_so : HasOwn May → (lines : List Asked) (s : Subsystem) → All (MayAsk May) lines → AreSo s.mounted
+        → AreSo (last_behind s (run_lines lines s)).mounted
     lines_end_so own lines s may p = logs_end (λ s. AreSo s.mounted) (λ s. IsBehind) s (run_lines lines s) (all_keep own lines s may p)
 
   -- where any event may come
-  pub run_keeps : IsKept Any → (lines : List Asked) (s : Subsystem) → AreSo s.mounted → All (λ (x : Logged). All P (devices_of x.happened.behind)) (run_lines lines s)
-  run_keeps k lines s p = lines_keep_so Any k (record { step = λ d. tt; back = λ d. tt }) lines s (all_asked lines) p
+  pub run_keeps : IsKept AnyEvent → (lines : List Asked) (s : Subsystem) → AreSo s.mounted
+      → All (λ (x : Logged). All P (devices_of x.happened.behind)) (run_lines lines s)
+  run_keeps k lines s p = lines_keep_so AnyEvent k (record { step = λ d. tt; back = λ d. tt }) lines s (all_asked lines) p
 
 -- and so is what follows from it
 pub all_weaker : (P Q : MarksDevice → Type 0) → ((d : MarksDevice) → P d → Q d) → (ds : List MarksDevice) → All P ds → All Q ds

@@ -6,7 +6,16 @@ ghost use Rattle.deck_text.specs.Parse.{parsed};
 ghost use Rattle.subsystem_defs.specs.Calm.{is_calm};
 ghost use Rattle.subsystem_defs.specs.Decks.{run_of};
 ghost use Rattle.subsystem_defs.specs.Promised.{are_explained, miss_nothing};
-ghost use Rattle.subsystem_laws.specs.Causes.{CheckForCause, CheckNothing, CountFailures, HaveGoodMarks, HaveNoDataCheck, KeepTracks, LoseForCause, MissNothing};
+ghost use Rattle.subsystem_laws.specs.Causes.{
+  CheckForCause,
+  CheckNothing,
+  CountFailures,
+  HaveGoodMarks,
+  HaveNoDataCheck,
+  KeepTracks,
+  LoseForCause,
+  MissNothing,
+};
 ghost use Rattle.subsystem_laws.specs.Served.{IsServedDeck};
 
 /// No command ends with data check, whatever calls fail and whatever is lost.
