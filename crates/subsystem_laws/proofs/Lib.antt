@@ -41,3 +41,5 @@ pub mod CalmEvents
 pub mod CalmRuns
 pub mod FailedCalls
 pub mod ExplainedRuns
+pub mod StoreFacts
+pub mod FactsEvents
