@@ -1,10 +1,10 @@
 -- Devices that stand as a run has them, each with the history of a plain device, are sound.
-use Rattle.std.proofs.Common.{◌≡◌, ◌<◌, ℕ, Bool, true, false, List, [], ◌∷◌, Option, Some, None, is_some, refl, sym, ap, subst, ◌∙◌}
+use Rattle.std.proofs.Common.{◌≡◌, ◌<◌, ℕ, Bool, true, false, List, Option, Some, None, is_some, refl, sym, ap, subst}
 use Rattle.ckd_types.specs.declared.record.Track.{Track}
 use Rattle.ckd_types.specs.Volume.{track_in}
 use Rattle.plain_defs.specs.History.{plain_of}
 use Rattle.plain_defs.specs.Loose.{firm}
-use Rattle.plain_defs.specs.PlainState.{PlainState, empty_state}
+use Rattle.plain_defs.specs.PlainState.{PlainState}
 use Rattle.track_image.specs.Image.{Image}
 use Rattle.device_outside.specs.After.{Tells}
 use Rattle.device_outside.specs.Both.{SideTold}

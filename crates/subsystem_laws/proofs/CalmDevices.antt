@@ -1,12 +1,9 @@
 -- What a calm run keeps of a device, and what each event makes of it where none of its calls fails.
 use Rattle.std.proofs.Common.{
   ◌≡◌,
-  ◌≢◌,
   ◌<◌,
   ◌≤◌,
-  ◌+◌,
   ◌==◌,
-  ◌*◌,
   ℕ,
   Bool,
   true,
@@ -15,13 +12,11 @@ use Rattle.std.proofs.Common.{
   List,
   [],
   ◌∷◌,
-  ◌++◌,
   Option,
   Some,
   None,
   is_some,
   length,
-  get_or,
   option_map,
   refl,
   sym,
@@ -58,17 +53,17 @@ use Rattle.device_defs.specs.Marks.{MarksDevice, MarksStore}
 use Rattle.device_defs.specs.Owed as O
 use Rattle.device_defs.specs.Owed.{hear, is_clean, waits_by, waits, waiting_count, ended}
 use Rattle.device_defs.specs.Store.{HalfWrite, tracks_of, stale_at, has_level, frame_at, patch_at, is_lost, is_loose, half_is}
-use Rattle.device_laws.specs.Unharmed.{IsWholeOnA, HalfIsTried, ends_with_equipment_check}
+use Rattle.device_laws.specs.Unharmed.{IsWholeOnA, ends_with_equipment_check}
 use Rattle.device_laws.proofs.Always.{Always, always_done, always_try, always_then}
 use Rattle.device_laws.proofs.CacheLost.{none_below}
 use Rattle.device_laws.proofs.FailedCall.{IsWell}
 use Rattle.device_laws.proofs.KeptEvents.{Continues, always_any, always_if}
 use Rattle.device_laws.proofs.KeptHistories.{AreNot, count_more, same_came, extends_itself}
-use Rattle.device_laws.proofs.OneFailed.{Sides, sides_of, fallen_a, OnBoth, OnSideA, IsSomewhere, up_level, or_right, never}
+use Rattle.device_laws.proofs.OneFailed.{sides_of, fallen_a, OnBoth, OnSideA, IsSomewhere, up_level}
 use Rattle.device_laws.proofs.TrackMarks as M
 use Rattle.device_laws.proofs.TrackMarks.{marks, is_good, frame_mark}
 use Rattle.device_laws.proofs.UncheckedEvents.{equipment_checks}
-use Rattle.device_laws.proofs.Unlost.{core_of, Fine, Steady, steady_on}
+use Rattle.device_laws.proofs.Unlost.{core_of, Steady}
 use Rattle.device_laws.proofs.FramesKept.{plates_of, HasFrames}
 use Rattle.subsystem_defs.specs.Calm.{is_behind, has_all_sides, has_whole_sides, is_whole_device}
 use Rattle.subsystem_laws.proofs.WholeUnpairs.{none_counted}

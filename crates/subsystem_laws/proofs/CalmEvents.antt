@@ -15,10 +15,8 @@ use Rattle.std.proofs.Common.{
   Some,
   None,
   is_some,
-  List,
   [],
   ◌∷◌,
-  get_or,
   option_map,
   refl,
   sym,
@@ -30,7 +28,7 @@ use Rattle.std.proofs.Common.{
   inl,
   inr,
 }
-use Rattle.std.specs.Prelude.{if◌then◌else◌, ◌&&◌, ◌||◌}
+use Rattle.std.specs.Prelude.{◌&&◌, ◌||◌}
 use Rattle.ckd_chain.specs.State.{ChainState}
 use Rattle.ckd_types.specs.declared.paths.Side.{Side}
 use Rattle.ckd_types.specs.declared.paths.Side.TheVariants as sides
@@ -40,7 +38,7 @@ use Rattle.plain_defs.specs.declared.journal.Item.TheVariants as items
 use Rattle.plain_defs.specs.History.{OpenEntry, has_used}
 use Rattle.track_image.specs.Image.{Image}
 use Rattle.track_table.proofs.Places.{empty_places}
-use Rattle.device_outside.specs.Interaction.{Interaction, Done, and_then}
+use Rattle.device_outside.specs.Interaction.{Interaction, Done}
 use Rattle.device_outside.specs.Told as T
 use Rattle.device_outside.specs.Told.{Told}
 use Rattle.device_defs.specs.declared.counts.Counts.{Counts}
@@ -53,15 +51,13 @@ use Rattle.device_defs.specs.Events as E
 use Rattle.device_defs.specs.Events.{second_ended, second_of, second, lose, background}
 use Rattle.device_defs.specs.Marks.{MarksDevice, MarksStore}
 use Rattle.device_defs.specs.Orders.{join, split, restore, hold, resume, replace, lend}
-use Rattle.device_defs.specs.Owed.{hear}
 use Rattle.device_defs.specs.Second as D
 use Rattle.device_defs.specs.Second.{half_image_of, closed, finished, second_done, second_absent, second_by, second_part}
 use Rattle.device_defs.specs.Start as S
 use Rattle.device_defs.specs.Start.{start}
-use Rattle.device_defs.specs.Store.{Origin, OfCommand, OfCut, OfBackground, HalfWrite, Store, tracks_of, has_level, level_at, stale_at, takes_b, side_of}
-use Rattle.device_defs.specs.Writing.{write_done}
+use Rattle.device_defs.specs.Store.{Origin, OfCommand, OfCut, OfBackground, HalfWrite, tracks_of, has_level, level_at, stale_at, takes_b, side_of}
 use Rattle.plain_defs.specs.PlainState.{reset_path}
-use Rattle.device_laws.specs.Unharmed.{RunsUnharmed, HalfIsTried}
+use Rattle.device_laws.specs.Unharmed.{RunsUnharmed}
 use Rattle.device_laws.proofs.Always.{Always}
 use Rattle.device_laws.proofs.Based.{Any, Based, kept}
 use Rattle.device_laws.proofs.BasedEvents.{base_in, command_based, second_based, background_based, lose_based, power_based, reset_body}
@@ -70,21 +66,20 @@ use Rattle.device_laws.proofs.FramesEvents.{steady_tried}
 use Rattle.device_laws.proofs.Harmless.{cache_goes, power_goes, reset_goes}
 use Rattle.device_laws.proofs.KeptEvents as K
 use Rattle.device_laws.proofs.KeptHistories.{count_more}
-use Rattle.device_laws.proofs.Lucky.{top, failed_in, Lucky, lucky_done, lucky_then, lucky_weaker, lucky_if, never_falls, where_none_failed}
+use Rattle.device_laws.proofs.Lucky.{top, failed_in, Lucky, lucky_weaker, lucky_if, never_falls, where_none_failed}
 use Rattle.device_laws.proofs.Once.{Once, once_then, once_quiet, where_one_failed}
-use Rattle.device_laws.proofs.OneFailed.{Sides, sides_of, fallen_b, OnSideA, steady_b, second_once, still_level, up_level, never}
+use Rattle.device_laws.proofs.OneFailed.{sides_of, OnSideA, steady_b, second_once, still_level, up_level, never}
 use Rattle.device_laws.proofs.OneFailedEvents.{hear_same, end_quiet, end_steady, command_comes, background_comes}
 use Rattle.device_laws.proofs.QuietParts.{Quiet, quiet_done, quiet_tell, quiet_if, quiet_then, cut_quiet, done_quiet}
 use Rattle.device_laws.proofs.TrackMarks.{marks_are_faithful}
 use Rattle.device_laws.proofs.Unchecked.{lucky_both}
 use Rattle.device_laws.proofs.UncheckedEvents.{equipment_checks, acts_same, command_unchecked_within}
-use Rattle.device_laws.proofs.Unlost.{core_of, Fine, fine, Steady, steady_on, closed_fine, fine_on}
+use Rattle.device_laws.proofs.Unlost.{core_of, fine, Steady, steady_on, closed_fine, fine_on}
 use Rattle.device_laws.proofs.UnlostEvents.{command_goes_within, background_goes, second_event_goes, second_ended_goes}
 use Rattle.device_laws.proofs.UnlostParts.{second_done_goes}
 use Rattle.device_laws.proofs.WholeLosses.{where_quiet, lose_quiet, lose_store_steady, lose_a_steady, lose_b_steady}
 use Rattle.subsystem_defs.specs.Calm.{is_whole_device}
 use Rattle.subsystem_defs.specs.declared.end.OrderFault.TheVariants.{Unpaired, Half, Down}
-use Rattle.subsystem_defs.specs.Happening.{is_lent_to}
 use Rattle.subsystem_defs.specs.Refusals as R
 use Rattle.subsystem_defs.specs.Refusals.{pair_fault, suspend_fault, fail_fault, replace_fault, unpair_fault}
 use Rattle.subsystem_laws.proofs.CalmDevices.{
@@ -102,7 +97,7 @@ use Rattle.subsystem_laws.proofs.CalmDevices.{
   whole_frames,
 }
 use Rattle.subsystem_laws.proofs.CheckCauses.{decided, second_checks, loss_unchecked}
-use Rattle.subsystem_laws.proofs.GoodMarks.{Good, good_kept, by_lent, home_before, runs_home, half_home, lent_is, within}
+use Rattle.subsystem_laws.proofs.GoodMarks.{Good, good_kept, by_lent, home_before, runs_home, half_home, within}
 use Rattle.subsystem_laws.proofs.LendBase.{at, stays_still, lend_lends, lend_based, lent_counts}
 use Rattle.subsystem_laws.proofs.NothingChecked.{lend_past}
 use Rattle.subsystem_laws.proofs.PastChecks.{reset_counts, power_counts}

@@ -53,7 +53,7 @@ use Rattle.device_defs.specs.Contents.{by_plain}
 use Rattle.device_defs.specs.Cutting.{reset, power}
 use Rattle.device_defs.specs.Events.{second, lose, background}
 use Rattle.device_defs.specs.Excused.{count_lost, is_checked, is_data_check, is_equipment_check}
-use Rattle.device_defs.specs.Marks.{MarksDevice, new_device}
+use Rattle.device_defs.specs.Marks.{MarksDevice}
 use Rattle.device_defs.specs.Orders.{hold, resume}
 use Rattle.device_defs.specs.Pledge.{ends_with_data_check}
 use Rattle.device_defs.specs.Start.{start, next_ordinal}
@@ -63,7 +63,6 @@ use Rattle.device_laws.proofs.BasedEvents.{with_one_loss, command_based, second_
 use Rattle.device_laws.proofs.KeptHistories.{AreNot, none_came}
 use Rattle.device_laws.proofs.LossLaws.{kept_counts}
 use Rattle.device_laws.proofs.Lucky.{top}
-use Rattle.device_laws.proofs.Unlost.{Steady}
 use Rattle.track_table.proofs.Places.{empty_places}
 use Rattle.subsystem_defs.specs.Calm as C
 use Rattle.subsystem_defs.specs.Calm.{
@@ -126,12 +125,12 @@ use Rattle.subsystem_laws.proofs.CalmEvents.{
   lend_still,
 }
 use Rattle.subsystem_laws.proofs.DataChecks.{run_has_no_data_check}
-use Rattle.subsystem_laws.proofs.DeedWalk.{Stands, seat_of, IsEventwise}
+use Rattle.subsystem_laws.proofs.DeedWalk.{seat_of, IsEventwise}
 use Rattle.subsystem_laws.proofs.Pairing.{KeepsEvent, IsPairwise, ShowsAll, run_pairs, ends_made, becomes_so, fair_of, started_number}
-use Rattle.subsystem_laws.proofs.RunLines.{Goes, run_shows}
+use Rattle.subsystem_laws.proofs.RunLines.{AnyEvent, Goes, run_shows}
 use Rattle.subsystem_laws.proofs.RunLinks.{Linked, event_from, lines_linked}
 use Rattle.subsystem_laws.proofs.TracksKept.{Fair, fair_kept, opened_fair}
-use Rattle.subsystem_laws.proofs.Walks.{IsKept, AreSo, run_keeps}
+use Rattle.subsystem_laws.proofs.Walks.{AreSo, run_keeps}
 
 -- Events and orders, device by device
 
@@ -306,9 +305,9 @@ module _ (s : Subsystem) where
 abbrev Refuses : Logged → Type 0
 Refuses x = asks_loss x.asked ≡ true → is_done x.happened.end ≡ false → x.happened.behind ≡ x.happened.before
 
-refuses_go : Goes (λ s. Unit {0}) Refuses
+refuses_go : Goes (λ s. Unit {0}) (λ s. Refuses) AnyEvent
 refuses_go = record {
-  once = λ s e q. (tt, λ is done. refused_same s e is done ∙ sym (event_from s e));
+  once = λ s e may q. (tt, λ is done. refused_same s e is done ∙ sym (event_from s e));
   stepped = λ s d q. (tt, λ is done. absurd (cc));
   idle = λ s d q. (tt, λ is done. absurd (cc));
   backed = λ s d q. (tt, λ is done. absurd (cc));
@@ -318,11 +317,11 @@ refuses_go = record {
 
 -- All devices
 
-abbrev AllSo : (MarksDevice → Type 0) → List MarksDevice → Type 0
+abbrev pub AllSo : (MarksDevice → Type 0) → List MarksDevice → Type 0
 AllSo p [] = Unit {0}
 AllSo p (d ∷ ds) = p d × AllSo p ds
 
-all_so : (p : MarksDevice → Type 0) (ds : List MarksDevice) → All p ds → AllSo p ds
+pub all_so : (p : MarksDevice → Type 0) (ds : List MarksDevice) → All p ds → AllSo p ds
 all_so p [] h = tt
 all_so p (d ∷ ds) h = (All-head p d ds h, all_so p ds (All-tail p d ds h))
 

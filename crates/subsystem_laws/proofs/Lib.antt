@@ -1,7 +1,10 @@
-pub mod PlainRuns
-pub mod ReadDecks
+pub mod FoundDevices
+pub mod RunLines
+pub mod DeedWalk
 pub mod LendBase
 pub mod Walks
+pub mod PlainRuns
+pub mod ReadDecks
 pub mod PastChecks
 pub mod DataChecks
 pub mod StancePlaces
@@ -12,13 +15,13 @@ pub mod TracksKept
 pub mod SecondChecks
 pub mod NothingChecked
 pub mod NothingMissed
-pub mod RunLines
-pub mod DeedWalk
 pub mod Pairing
 pub mod WaitingSum
 pub mod Waiting
 pub mod CheckCauses
 pub mod Causing
+pub mod SteeredRuns
+pub mod Explained
 pub mod LostLists
 pub mod WholeSlots
 pub mod SlotsApart
@@ -36,3 +39,7 @@ pub mod RunLength
 pub mod CalmDevices
 pub mod CalmEvents
 pub mod CalmRuns
+pub mod FailedCalls
+pub mod ExplainedRuns
+pub mod StoreFacts
+pub mod FactsEvents

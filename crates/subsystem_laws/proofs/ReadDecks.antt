@@ -60,6 +60,12 @@ devices_served before (d ∷ ds) h =
     All-cons (λ (x : DeviceLine). 1 ≤ x.cylinders) d ds (device_ranges before (device_words d) d h.0.again).cylinders.low
     (devices_served (before ++ d ∷ []) ds h.1)
 
+devices_small : (before ds : List DeviceLine) → AllDevices before ds → All (λ (d : DeviceLine). d.cylinders ≤ 64) ds
+devices_small before [] h = All-nil (λ (d : DeviceLine). d.cylinders ≤ 64)
+devices_small before (d ∷ ds) h =
+    All-cons (λ (x : DeviceLine). x.cylinders ≤ 64) d ds (device_ranges before (device_words d) d h.0.again).cylinders.high
+    (devices_small (before ++ d ∷ []) ds h.1)
+
 -- what is above all of these is none of them
 abbrev IsAbove : List DeviceLine → List ℕ → Type 0
 IsAbove before seen = (n : ℕ) → rises before n ≡ true → is_in n seen ≡ false
@@ -140,3 +146,6 @@ pub read_served : (text : List ℕ) (deck : DeckLines) → parsed text ≡ Ok de
 read_served text deck read =
     let good = parsed_good text deck read in
     record { devices = devices_served [] deck.devices good.devices; events = lines_served deck.devices deck.events good.events }
+
+pub read_small : (text : List ℕ) (deck : DeckLines) → parsed text ≡ Ok deck → All (λ (d : DeviceLine). d.cylinders ≤ 64) deck.devices
+read_small text deck read = devices_small [] deck.devices (parsed_good text deck read).devices

@@ -1,5 +1,5 @@
 -- How many events a run has.
-use Rattle.std.proofs.Common.{◌≡◌, ◌<◌, ◌≤◌, ◌+◌, zero, suc, ℕ, List, [], ◌∷◌, ◌++◌, length, map, refl, arith}
+use Rattle.std.proofs.Common.{◌≡◌, ◌<◌, ◌≤◌, ◌+◌, zero, suc, ℕ, List, [], ◌∷◌, ◌++◌, length, map, arith}
 use Rattle.std.proofs.lemmas.Bool.{cond_both}
 use Rattle.std.proofs.lemmas.List.{length-append, length-map}
 use Rattle.std.specs.Prelude.{Ok, ◌*◌, ◌^◌, ◌-◌}
@@ -75,10 +75,16 @@ lines_few (line ∷ lines) s =
     let both : length (ts ++ us) ≡ length ts + length us = length-append ts us in
     omega (arith, here, more, both)
 
-pub read_run_is_short : (text : List ℕ) (deck : DeckLines) → parsed text ≡ Ok deck → length (run_of deck).events < 2 ^ 64 - 1
+pub read_run_has_few : (text : List ℕ) (deck : DeckLines) → parsed text ≡ Ok deck → length (run_of deck).events ≤ 536936448
 unfolding D.run_asked
-read_run_is_short text deck read =
+read_run_has_few text deck read =
     let most = (parsed_good text deck read).event_count in
     let le = lines_few (map asked_by deck.events) (opened deck) in
     let same : length (map asked_by deck.events) ≡ length deck.events = length-map deck.events asked_by in
     omega (arith, most, le, same)
+
+below_top : (n : ℕ) → n ≤ 536936448 → n < 2 ^ 64 - 1
+below_top n le = omega (arith, le)
+
+pub read_run_is_short : (text : List ℕ) (deck : DeckLines) → parsed text ≡ Ok deck → length (run_of deck).events < 2 ^ 64 - 1
+read_run_is_short text deck read = below_top (length (run_of deck).events) (read_run_has_few text deck read)

@@ -1,5 +1,5 @@
 -- Each patch has a slot of its own among those in use, over all devices that are mounted.
-use Rattle.std.proofs.Common.{◌≡◌, ℕ, zero, suc, true, false, List, [], ◌∷◌, ◌++◌, Option, Some, None, refl, sym, ap, subst}
+use Rattle.std.proofs.Common.{◌≡◌, ℕ, zero, suc, true, List, [], ◌++◌, Some, refl, sym, ap, subst}
 use Rattle.std.specs.Prelude.{slice_get}
 use Rattle.ckd_types.specs.declared.record.Track.{Track}
 use Rattle.device_outside.specs.Lists.{is_in}

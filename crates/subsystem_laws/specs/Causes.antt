@@ -49,6 +49,13 @@ MissesNothing d = NothingLost d.store → d.store.counts.losses.cache ≡ 0 → 
 abbrev pub MissNothing : Logged → Type 0
 MissNothing x = All MissesNothing (devices_of x.happened.behind)
 
+-- its failed calls are counted on: at the greatest number the count stands still
+abbrev pub CountsFailures : MarksDevice → Type 0
+CountsFailures d = d.store.counts.failed < 2 ^ 64 - 1
+
+abbrev pub CountFailures : Logged → Type 0
+CountFailures x = All CountsFailures (devices_of x.happened.before)
+
 -- Where the number of checks rises in an event: a call failed in it (or their number stands at the greatest one, which counts no further), or before it
 -- no side took writes, side A hadn't the track of the open half write and B took no writes, a track was lost, or data of cache fast write of the
 -- program that runs were gone

@@ -1,5 +1,5 @@
 -- The slots of the patches of all devices.
-use Rattle.std.specs.Prelude.{◌≡◌, ◌*◌, ℕ, true, List, Option, Some, slice_get}
+use Rattle.std.specs.Prelude.{◌≡◌, ℕ, true, List, Option, Some, slice_get}
 use Rattle.device_outside.specs.Lists.{is_in}
 use Rattle.device_defs.specs.Contents.{contents}
 use Rattle.device_defs.specs.Losses.{slot_in}

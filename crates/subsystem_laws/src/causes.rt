@@ -5,8 +5,17 @@ ghost use Rattle.deck_text.specs.DeckLines.{DeckLines};
 ghost use Rattle.deck_text.specs.Parse.{parsed};
 ghost use Rattle.subsystem_defs.specs.Calm.{is_calm};
 ghost use Rattle.subsystem_defs.specs.Decks.{run_of};
-ghost use Rattle.subsystem_defs.specs.Promised.{miss_nothing};
-ghost use Rattle.subsystem_laws.specs.Causes.{CheckForCause, CheckNothing, HaveGoodMarks, HaveNoDataCheck, KeepTracks, LoseForCause, MissNothing};
+ghost use Rattle.subsystem_defs.specs.Promised.{are_explained, miss_nothing};
+ghost use Rattle.subsystem_laws.specs.Causes.{
+  CheckForCause,
+  CheckNothing,
+  CountFailures,
+  HaveGoodMarks,
+  HaveNoDataCheck,
+  KeepTracks,
+  LoseForCause,
+  MissNothing,
+};
 ghost use Rattle.subsystem_laws.specs.Served.{IsServedDeck};
 
 /// No command ends with data check, whatever calls fail and whatever is lost.
@@ -62,4 +71,12 @@ pub fn calm_run_misses_nothing()
         miss_nothing (run_of deck).events ≡ true }
     ensures read { (text : List ℕ) (deck : DeckLines) → parsed text ≡ Ok deck → is_calm (run_of deck).events ≡ true →
         miss_nothing (run_of deck).events ≡ true }
+{}
+
+/// Each equipment check is explained: a track that the last command of its program touched is lost then, a call failed in the event, that command is
+/// a write and no side was up, or data of the program's own cache fast write were lost. So while failed calls are counted, as in the run of every deck
+/// that was read.
+pub fn run_is_explained()
+    ensures served { (deck : DeckLines) → IsServedDeck deck → All CountFailures (run_of deck).events → are_explained (run_of deck).events ≡ true }
+    ensures read { (text : List ℕ) (deck : DeckLines) → parsed text ≡ Ok deck → are_explained (run_of deck).events ≡ true }
 {}

@@ -1,0 +1,12 @@
+//! A law of the run of a deck: all that is promised of it.
+
+ghost use Rattle.std.specs.Prelude.{◌≡◌, ℕ, List, Ok};
+ghost use Rattle.deck_text.specs.DeckLines.{DeckLines};
+ghost use Rattle.deck_text.specs.Parse.{parsed};
+ghost use Rattle.subsystem_defs.specs.Promised.{IsPromised};
+
+/// In the run of every deck that was read each device's history is one that a plain device could have, behind every event; each equipment check is
+/// explained; and where the run is calm every program is served and no track is lost.
+pub fn read_run_is_promised()
+    ensures { (text : List ℕ) (deck : DeckLines) → parsed text ≡ Ok deck → IsPromised deck }
+{}
