@@ -1,6 +1,5 @@
-use Rattle.std.proofs.Common.{◌≡◌, ◌∙◌, ◌+◌, ◌++◌, ◌<◌, ◌≤◌, ℕ, List, [], ◌∷◌, ap, arith, length, subst, sym}
+use Rattle.std.proofs.Common.{◌∙◌, ◌+◌, ◌++◌, ◌<◌, ◌≤◌, ℕ, List, [], ◌∷◌, ap, arith, length, subst, sym}
 use Rattle.std.proofs.lemmas.List.{length-append}
-use Rattle.device_outside.specs.Bay.{Bay}
 use Rattle.device_outside.specs.declared.bay.Taken.{Taken}
 use Rattle.deck_top.specs.Handed.{all_taken, taken_of}
 use Rattle.deck_top.proofs.HandedBack.{both_given, held_more, room_one, room_two, taken_more}
