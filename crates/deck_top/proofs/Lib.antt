@@ -1,4 +1,3 @@
 pub mod Complete
 pub mod HandedBack
-pub mod RunsWell
 pub mod Written

@@ -14,10 +14,10 @@ use Rattle.deck_top.specs.declared.task.Task.TheVariants.{Run, Check}
 use Rattle.deck_top.specs.declared.top.Status.{Status}
 use Rattle.deck_top.specs.declared.top.Status.TheVariants.{Reported, DeckRefused, ReadFault, WriteFault, Limit, NoMemory, Usage}
 use Rattle.deck_top.specs.Handed.{TakesBack}
-use Rattle.deck_top.specs.Run.{DeckRunsWell}
 use Rattle.device_outside.specs.Bay.{Bay}
 use Rattle.device_outside.specs.declared.bay.Spoiled.{Spoiled}
 use Rattle.run_report.specs.Report.{report_of}
+use Rattle.subsystem_defs.specs.Promised.{IsPromised}
 
 -- the exit status of the program
 abbrev pub code_of : Status → ℕ
@@ -61,12 +61,12 @@ FrontOf (Err fault) task spoiled held holds = AppendsFront held holds (text_of t
 FrontOf (Ok d) Check spoiled held holds = AppendsFront held holds (canonical d)
 FrontOf (Ok d) Run spoiled held holds = (text : List ℕ) × (spoiled ≡ [] → text ≡ report_of d) × AppendsFront held holds text
 
--- what is done for a deck: its canonical text, or the report of its run, in which each device's history is plain and nothing is missed
--- while it is calm, and whose volumes go back to the bay
+-- what is done for a deck: its canonical text, or the report of its run, of which all is so that is promised, and whose volumes go back to
+-- the bay
 abbrev pub IsDone : Task → DeckLines → Bay → Bay → Option (List ℕ) → Option (List ℕ) → Type 0
 IsDone Check d old new held holds = Appends held holds (canonical d)
 IsDone Run d old new held holds =
-    (text : List ℕ) × (old.spoiled ≡ [] → text ≡ report_of d) × Appends held holds text × DeckRunsWell d × TakesBack d old new
+    (text : List ℕ) × (old.spoiled ≡ [] → text ≡ report_of d) × Appends held holds text × IsPromised d × TakesBack d old new
 
 -- the source gave this text: all of it, or its first 16,777,217 bytes
 pub record Reads (before after : Option (List ℕ)) (text : List ℕ) : Type 0 where

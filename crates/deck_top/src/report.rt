@@ -6,11 +6,11 @@ ghost use Rattle.report_text.specs.Report.{report_text};
 ghost use Rattle.run_report.specs.Report.{report_of};
 ghost use Rattle.subsystem_core.specs.Devices.{numbers_of};
 ghost use Rattle.subsystem_defs.specs.Decks.{run_of};
+ghost use Rattle.subsystem_defs.specs.Promised.{IsPromised};
 ghost use Rattle.deck_run.specs.Opening.{WasRead, numbers_in};
 ghost use Rattle.deck_run.specs.Sides.{AreAccounted, all_sides};
 ghost use Rattle.deck_run.specs.Standing.{StandsAs};
 ghost use Rattle.deck_top.specs.Handed.{TakesBack};
-ghost use Rattle.deck_top.specs.Run.{DeckRunsWell};
 ghost use Rattle.deck_top.specs.Answers.{TellsDeck};
 
 use crate::give::give_back;
@@ -24,13 +24,13 @@ use device_outside::{MemBay, MemVolume};
 use report_text::write_report;
 use std::alloc::Global;
 use subsystem_core::Subsystem;
-use subsystem_laws::{calm_run_misses_nothing, run_is_plain};
+use subsystem_laws::read_run_is_promised;
 
-/// A deck's devices behind its run, and the lines of its report, but for the last one; and that the run is plain, and misses nothing while it is calm.
+/// A deck's devices behind its run, and the lines of its report, but for the last one; and all that is promised of the run.
 fn run_deck(alloc: Global, deck: &Deck, bay: &mut MemBay) -> Result<FinishedRun, NoMemory>
     requires { WasRead deck.now }
     ensures text { bay.old.spoiled ≡ [] → IfOk result (λ ran. report_text ran.report [] [] ≡ report_of deck.now) }
-    ensures well { IfOk result (λ ran. DeckRunsWell deck.now) }
+    ensures well { IfOk result (λ ran. IsPromised deck.now) }
     ensures stands { bay.old.spoiled ≡ [] → IfOk result (λ ran. StandsAs ran.sub (run_of deck.now).behind) }
     ensures numbers { IfOk result (λ ran. numbers_of ran.sub.devices.items ≡ numbers_in deck.now.devices) }
     ensures accounted { IfOk result (λ ran. AreAccounted (all_sides ran.sub.devices.items)) }
@@ -38,8 +38,7 @@ fn run_deck(alloc: Global, deck: &Deck, bay: &mut MemBay) -> Result<FinishedRun,
     ensures spoiled { bay.new.spoiled ≡ bay.old.spoiled }
     ensures taken { bay.new.taken ≡ bay.old.taken }
 {
-    run_is_plain();
-    calm_run_misses_nothing();
+    read_run_is_promised();
     let ran = deck_run::run_deck(alloc, deck, bay)?;
     Ok(ran)
 }

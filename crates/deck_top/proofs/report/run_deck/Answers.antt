@@ -1,6 +1,5 @@
 use Rattle.run_report.specs.Report.{report_lines}
 use Rattle.subsystem_defs.specs.Decks.{run_of}
-use Rattle.deck_top.proofs.RunsWell.{deck_runs_well}
 use Rattle.deck_top.proofs.Written.{whole_text}
 use Rattle.deck_top.proofs.report.run_deck.Goals as goal
 
@@ -8,5 +7,4 @@ pub returns-clause-text : goal.returns-clause-text
 returns-clause-text c = λ none. whole_text c.in_ok-ran.ran.report (report_lines (run_of c.args.deck.now)) (c.in_ok-ran.ensures.lines none)
 
 pub returns-clause-well : goal.returns-clause-well
-returns-clause-well c =
-    deck_runs_well c.args.deck.now c.run_is_plain.ensures c.calm_run_misses_nothing.ensures.read c.requires
+returns-clause-well c = c.read_run_is_promised.ensures c.requires.0 c.args.deck.now c.requires.1
