@@ -1,5 +1,31 @@
 -- How many checks are unexplained: fewer where more is lost and more failed, and of the items of one event those of the first alone.
-use Rattle.std.proofs.Common.{◌≡◌, ◌≤◌, ◌+◌, ◌-◌, ◌==◌, zero, suc, ℕ, Bool, true, false, List, [], ◌∷◌, ◌++◌, set, get_or, refl, ap, arith, leb-true, eqb-true, ◌⊎◌, inl, inr}
+use Rattle.std.proofs.Common.{
+  ◌≡◌,
+  ◌≤◌,
+  ◌+◌,
+  ◌-◌,
+  ◌==◌,
+  zero,
+  suc,
+  ℕ,
+  Bool,
+  true,
+  false,
+  List,
+  [],
+  ◌∷◌,
+  ◌++◌,
+  set,
+  get_or,
+  refl,
+  ap,
+  arith,
+  leb-true,
+  eqb-true,
+  ◌⊎◌,
+  inl,
+  inr,
+}
 use Rattle.std.specs.Prelude.{◌&&◌, ◌||◌, not, nat_le, if◌then◌else◌}
 use Rattle.plain_defs.specs.declared.journal.Item.{Item}
 use Rattle.plain_defs.specs.declared.journal.Item.TheVariants as items

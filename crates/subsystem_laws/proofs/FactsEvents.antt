@@ -116,7 +116,25 @@ use Rattle.device_defs.specs.Outcomes.{Turn, ends_with, settles, checks, usage_o
 use Rattle.device_defs.specs.Owed.{is_clean, hear, waiting_count}
 use Rattle.device_defs.specs.Second as D
 use Rattle.device_defs.specs.Second.{closed, half_image_of, finished, second_done, cut_kept, left_by, second_by, second_part}
-use Rattle.device_defs.specs.Store.{Origin, OfCommand, OfCut, OfBackground, HalfWrite, Store, tracks_of, has_level, has_loose, takes_b, frame_at, patch_at, is_lost, is_loose, half_is, with_frame, with_stale}
+use Rattle.device_defs.specs.Store.{
+  Origin,
+  OfCommand,
+  OfCut,
+  OfBackground,
+  HalfWrite,
+  Store,
+  tracks_of,
+  has_level,
+  has_loose,
+  takes_b,
+  frame_at,
+  patch_at,
+  is_lost,
+  is_loose,
+  half_is,
+  with_frame,
+  with_stale,
+}
 use Rattle.device_defs.specs.Writing as W
 use Rattle.device_defs.specs.Writing.{
   Wrote,

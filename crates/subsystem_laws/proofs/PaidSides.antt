@@ -1,6 +1,32 @@
 -- While no side of a device was lost and its volume never lent, each side of a pair that is down was paid for by a failed call, and a volume that is
 -- alone is up.
-use Rattle.std.proofs.Common.{◌≡◌, ◌≤◌, ◌+◌, ℕ, zero, suc, Bool, true, false, List, [], ◌∷◌, ◌++◌, map, Option, is_some, min, refl, sym, ap, ◌∙◌, arith, ◌⊎◌, inl, inr}
+use Rattle.std.proofs.Common.{
+  ◌≡◌,
+  ◌≤◌,
+  ◌+◌,
+  ℕ,
+  zero,
+  suc,
+  Bool,
+  true,
+  false,
+  List,
+  [],
+  ◌∷◌,
+  ◌++◌,
+  map,
+  Option,
+  is_some,
+  min,
+  refl,
+  sym,
+  ap,
+  ◌∙◌,
+  arith,
+  ◌⊎◌,
+  inl,
+  inr,
+}
 use Rattle.std.specs.Prelude.{◌||◌, if◌then◌else◌}
 use Rattle.ckd_types.specs.declared.paths.Side.{Side}
 use Rattle.ckd_types.specs.declared.paths.Side.TheVariants as sides
@@ -200,7 +226,8 @@ paid_kept = record {
   resumed = λ d fault f. λ never none. let p = f (record { home = never.home; none = never.none }) none in record { pair = p.pair; alone = p.alone };
   replaced = λ d side fault f. replaced_paid d side f;
   lent = λ x y fault f g t. λ never none.
-      not_both (is_some (T.hold true (lend by_plain y x.store.device) t).state.store.lent) (ap (λ (o : Option ℕ). is_some o) (lend_lends y x.store.device t).lent) never.home;
+      not_both (is_some (T.hold true (lend by_plain y x.store.device) t).state.store.lent)
+      (ap (λ (o : Option ℕ). is_some o) (lend_lends y x.store.device t).lent) never.home;
   joins = λ d free f. λ never none.
       let p = f (record { home = never.home; none = never.none }) none in
       record { pair = λ e. none_down d.store.a.up d.store.counts.failed (p.alone free.0); alone = λ e. absurd (cc) };

@@ -71,7 +71,21 @@ use Rattle.device_defs.specs.Owed.{
   waiting_told,
   ended,
 }
-use Rattle.device_defs.specs.Store.{Store, tracks_of, level_at, has_level, takes_b, frame_at, patch_at, is_lost, is_loose, half_is, owed_at, with_frame, with_lost}
+use Rattle.device_defs.specs.Store.{
+  Store,
+  tracks_of,
+  level_at,
+  has_level,
+  takes_b,
+  frame_at,
+  patch_at,
+  is_lost,
+  is_loose,
+  half_is,
+  owed_at,
+  with_frame,
+  with_lost,
+}
 use Rattle.device_defs.specs.Writing as V
 use Rattle.device_defs.specs.Writing.{write_counted, tried_b, write_second, slot_freed, unpatched, done_by, write_done}
 use Rattle.device_laws.proofs.Always.{Always, always_done, always_try, always_ask, always_read, always_write, always_tell, always_then}
