@@ -173,7 +173,7 @@ behind_all : (xs more : List Item) → behind_first (length xs) (xs ++ more) ≡
 behind_all [] more = refl
 behind_all (x ∷ xs) more = behind_all xs more
 
-new_are : (x y : MarksDevice) (g : Grows x.history y.history) → new_items x.history y.history ≡ g.more
+pub new_are : (x y : MarksDevice) (g : Grows x.history y.history) → new_items x.history y.history ≡ g.more
 new_are x y g = ap (behind_first (length x.history.items)) g.grown ∙ behind_all x.history.items g.more
 
 none_first : (x y : MarksDevice) (xs : List Item) → AreNot ends_with_equipment_check xs → explained_first x y xs ≡ true
@@ -452,7 +452,7 @@ module _ (d : MarksDevice) where
   grows_of : (y : MarksDevice) → Continues d.plans d.history y → Grows d.history y.history
   grows_of y k = record { more = k.history.more; grown = k.history.grown }
 
-  its_own : Continues d.plans d.history d
+  pub its_own : Continues d.plans d.history d
   its_own = record { plans = refl; history = extends_itself d.history }
 
   pub lose_explained : (loss : Loss) (t : Told) → explained_on d (T.hold true (lose by_plain d loss) t).state ≡ true

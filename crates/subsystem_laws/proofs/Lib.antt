@@ -43,3 +43,7 @@ pub mod FailedCalls
 pub mod ExplainedRuns
 pub mod StoreFacts
 pub mod FactsEvents
+pub mod Excusing
+pub mod Shapes
+pub mod PaidSides
+pub mod ExcusedRuns

@@ -1,34 +1,6 @@
 -- What is said of which sides are up, of failed calls and of lost tracks stays so behind each part of an event, where it bears a lost track more, one
 -- failed call more, and the fall of the side of a pair whose call failed.
-use Rattle.std.proofs.Common.{
-  ◌≡◌,
-  ◌≢◌,
-  ◌==◌,
-  ◌+◌,
-  zero,
-  suc,
-  ℕ,
-  Bool,
-  true,
-  false,
-  List,
-  [],
-  ◌∷◌,
-  length,
-  Option,
-  Some,
-  None,
-  is_some,
-  option_map,
-  set,
-  get_or,
-  refl,
-  sym,
-  ap,
-  subst,
-  ◌∙◌,
-}
-use Rattle.std.proofs.lemmas.Bool.{eqb-false}
+use Rattle.std.proofs.Common.{◌≡◌, ◌==◌, ◌+◌, zero, suc, ℕ, Bool, true, false, List, length, Option, Some, None, is_some, refl}
 use Rattle.std.specs.Prelude.{nat_le, nat_lt, slice_set, if◌then◌else◌, ◌&&◌}
 use Rattle.device_outside.specs.Volume.{counted}
 use Rattle.ckd_types.specs.declared.parameters.Mode.{Mode}
@@ -36,8 +8,7 @@ use Rattle.ckd_types.specs.declared.paths.Side.{Side}
 use Rattle.ckd_types.specs.declared.paths.Side.TheVariants as sides
 use Rattle.ckd_types.specs.Parameters.{is_bypass}
 use Rattle.track_image.specs.Image.{Image}
-use Rattle.device_outside.specs.Interaction.{Interaction, Done, Try, Ask, and_then}
-use Rattle.device_outside.specs.Pool.{SetClean, DropFrame}
+use Rattle.device_outside.specs.Interaction.{Interaction}
 use Rattle.device_defs.specs.declared.usage.Usage.{Usage}
 use Rattle.device_defs.specs.Contents.{Contents}
 use Rattle.device_defs.specs.Image as I
@@ -81,7 +52,7 @@ use Rattle.device_defs.specs.Losses.{
   firm_told,
   call_failed,
 }
-use Rattle.device_defs.specs.Memory.{tried, had_by}
+use Rattle.device_defs.specs.Memory.{tried}
 use Rattle.device_defs.specs.Owed as O
 use Rattle.device_defs.specs.Owed.{
   is_clean,
@@ -101,12 +72,8 @@ use Rattle.device_defs.specs.Owed.{
   ended,
 }
 use Rattle.device_defs.specs.Store.{
-  SideMarks,
-  HalfWrite,
   Store,
-  no_debt,
   tracks_of,
-  stale_at,
   level_at,
   has_level,
   takes_b,
@@ -118,7 +85,6 @@ use Rattle.device_defs.specs.Store.{
   owed_at,
   with_frame,
   with_lost,
-  with_owed,
 }
 use Rattle.device_defs.specs.Writing as V
 use Rattle.device_defs.specs.Writing.{write_counted, tried_b, write_second, slot_freed, unpatched, done_by, write_done}
