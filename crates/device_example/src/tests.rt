@@ -77,7 +77,7 @@ fn command(
     device: &mut Device<Watched<MemVolume>>,
     port: &mut CountedRequests,
 ) -> Result<(), Fail> {
-    if device.active().is_none() {
+    if device.active().is_none() || device.half_open() {
         return Err("no program runs".into());
     }
     match device.command(port) {
