@@ -1,4 +1,3 @@
-use Rattle.std.proofs.Common.{◌≡◌, ◌++◌, [], refl}
 use Rattle.subsystem_core.specs.Seats.{seat_of}
 use Rattle.subsystem_core.proofs.Seating.{alone_alike}
 use Rattle.run_trials.proofs.subsystem.subsystem.Goals as goal
