@@ -115,6 +115,12 @@ pub mod UncheckedEvents
 pub mod LentLosses
 pub mod GoneEvents
 pub mod Once
+pub mod SidesKept
+pub mod SidesEvents
+pub mod Served
+pub mod WriteLooks
+pub mod TouchedTracks
+pub mod LastCommands
 pub mod OneFailed
 pub mod OneFailedEvents
 pub mod FramesKept

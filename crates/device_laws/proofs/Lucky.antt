@@ -70,7 +70,7 @@ counted_more n le = least_of (n + 1) top n le (omega arith) where
   least_of : (x y n : ℕ) → n ≤ y → n ≤ x → n ≤ min x y
   least_of x y n le less = omega arith
 
-counted_top : (n : ℕ) → counted n ≤ top
+pub counted_top : (n : ℕ) → counted n ≤ top
 unfolding V.counted
 counted_top n = least_of (n + 1) top where
   least_of : (x y : ℕ) → min x y ≤ y

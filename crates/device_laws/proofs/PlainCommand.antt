@@ -259,10 +259,10 @@ module _ (num : ℕ) (empty : PlainState) (d : MarksDevice) (f : Follows num emp
     pub runs_on : StillRuns d.plans empty chain o.path (all_acted d.history acts)
     runs_on = all_run o.path acts d.history f.stands.plain f.stands.due are runs_first
 
-    part_on : (open_part d.plans (replay d.plans empty (all_acted d.history acts).items) runs_on.entry).state ≡ acts_done p acts
+    pub part_on : (open_part d.plans (replay d.plans empty (all_acted d.history acts).items) runs_on.entry).state ≡ acts_done p acts
     part_on = sym (ap (λ (r : Option OpenEntry). state_by d.plans (replay d.plans empty (all_acted d.history acts).items) r) runs_on.running) ∙ state_on
 
-    paths_on : (acts_done p acts).paths ≡ d.paths
+    pub paths_on : (acts_done p acts).paths ≡ d.paths
     paths_on = acts_keep_paths d.plans p acts ∙ sym f.keeps
 
     going_none : IsGoing d.plans (replay d.plans empty (all_acted d.history acts).items) (all_acted d.history acts).items runs_on.entry None
@@ -553,7 +553,7 @@ module _ (num : ℕ) (empty : PlainState) (d : MarksDevice) (f : Follows num emp
   -- In an event that began
 
   module _ (now : d.chain ≡ Some chain) (whole : d.store.half ≡ None) where
-    walking_first : (s : MarksStore) → core_of s ≡ core_of (begun d.store) → Walking (core_of s)
+    pub walking_first : (s : MarksStore) → core_of s ≡ core_of (begun d.store) → Walking (core_of s)
     walking_first s e = subst Walking (sym e) (record {
       of = of_begun p (core_of d.store) f.of;
       are = tt;

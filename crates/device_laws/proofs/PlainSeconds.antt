@@ -195,7 +195,7 @@ module _ (num : ℕ) (empty : PlainState) (d : MarksDevice) (f : Follows num emp
   ended_so t (OfCut bypass) mid y done w = had_done (other_follows y w mid)
   ended_so t OfBackground mid y done w = had_done (other_follows y w mid)
 
-  holds_first : (t : ℕ) (origin : Origin) → IsMidOf (core_of d.store) t origin d.history.running f.before d.chain → (s : MarksStore) →
+  pub holds_first : (t : ℕ) (origin : Origin) → IsMidOf (core_of d.store) t origin d.history.running f.before d.chain → (s : MarksStore) →
       core_of s ≡ core_of (begun d.store) →
       Holds (plain_of d.plans empty d.history) d.store.plain d.store.geometry d.store.cylinders (d.store.lent, d.store.device) origin
       (d.store.half, (d.store.lent, d.store.device)) t (core_of s)

@@ -221,7 +221,7 @@ module _ {F P H R : Type 0} (c : Contents F P H R) where
       (subst (λ (h : Bool). is_good (marks (frame_mark c (frame_at s t)) (is_some (patch_at s t)) (is_lost s t) (is_loose s t) h
       (has_level s t)) ≡ true) half good))
 
-  image_has : (s : Store F P H) (u : Usage) (t : ℕ) → is_good (track_at c s t) ≡ true → is_lost s t ≡ false → half_is s.half t ≡ false →
+  pub image_has : (s : Store F P H) (u : Usage) (t : ℕ) → is_good (track_at c s t) ≡ true → is_lost s t ≡ false → half_is s.half t ≡ false →
       Lucky (λ z a. HasBytes a) (image c s u t)
   unfolding I.image
   image_has s u t good there half = by_frame s u t (frame_at s t) (level_of s t good there half)
@@ -311,7 +311,7 @@ module _ {F P H R : Type 0} (c : Contents F P H R) where
         (λ _. lucky_tell (λ ok. lucky_if ok (λ _. written_taken s u first t old e choice lt w there up) (λ _. unchosen_none s t choice)))
         (λ _. written_taken s u first t old e choice lt w there up)
 
-    write_taken : (s : Store F P H) (u : Usage) (first t : ℕ) (old : Image) (e : Edit) → t < tracks_of s → IsWell c s → is_lost s t ≡ false →
+    pub write_taken : (s : Store F P H) (u : Usage) (first t : ℕ) (old : Image) (e : Edit) → t < tracks_of s → IsWell c s → is_lost s t ≡ false →
         some_takes s ≡ true → Lucky (λ z (x : Option Took). WasTaken x) (write c s u first t old e)
     unfolding E.write
     write_taken s u first t old e lt w there up =
