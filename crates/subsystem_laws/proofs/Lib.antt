@@ -19,6 +19,8 @@ pub mod WaitingSum
 pub mod Waiting
 pub mod CheckCauses
 pub mod Causing
+pub mod SteeredRuns
+pub mod Explained
 pub mod LostLists
 pub mod WholeSlots
 pub mod SlotsApart

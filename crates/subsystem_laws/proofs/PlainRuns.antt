@@ -540,7 +540,7 @@ line_plain (Unpair a) s h p = let q = unpaired_plain s a unfailing p (mounted_in
 line_plain (Run d) s h p = run_plain d s p
 line_plain (Settle d) s h p = backs_plain most_backs d s p
 
-lines_plain : (lines : List EventLine) (s : Subsystem) → All (λ (line : EventLine). IsServed (asked_by line)) lines → ArePlain s.mounted →
+pub lines_plain : (lines : List EventLine) (s : Subsystem) → All (λ (line : EventLine). IsServed (asked_by line)) lines → ArePlain s.mounted →
     LogsPlain s (run_lines (map asked_by lines) s)
 unfolding L.run_lines
 lines_plain [] s h p = p
