@@ -5,14 +5,15 @@ use Rattle.std.proofs.lemmas.List.{drop_more}
 use Rattle.plain_defs.specs.declared.journal.Act.{Act}
 use Rattle.plain_defs.specs.declared.journal.Item.{Item}
 use Rattle.plain_defs.specs.declared.journal.Item.TheVariants as items
-use Rattle.plain_defs.specs.History.{History, OpenEntry, acted, acted_in}
+use Rattle.plain_defs.specs.History.{History, OpenEntry, acted, acted_in, emptied}
 use Rattle.device_defs.specs.Device.{all_acted}
+use Rattle.device_core.specs.Log.{LogView}
 use Rattle.device_core.specs.declared.past.KeptPath.{KeptPath}
 use Rattle.device_core.specs.declared.past.Past.{Past}
 use Rattle.device_core.specs.declared.past.Running.{Running}
 use Rattle.device_core.specs.Kept.{open_of, history_of, waiting_in, needed, used_count, ActRoom, HasRoomFor, Keeps, KeepsAll}
-use Rattle.device_core.proofs.Keeping.{act_keeps, idle_act_keeps}
-use Rattle.device_core.proofs.Pasts.{some_open}
+use Rattle.device_core.proofs.Keeping.{act_keeps, idle_act_keeps, other_keeps}
+use Rattle.device_core.proofs.Pasts.{keeps_as, some_open}
 
 abbrev made : List Item → Option OpenEntry → List ℕ → History
 made l o w = record { items = l; running = o; waiting = w }
@@ -99,6 +100,17 @@ keeps_roomed h kept powered less spare le k = record {
   ends = k.ends;
   room = let most = needed_most h.running kept powered k.four in omega (arith, most, le);
 }
+
+-- the device was made empty, in room for that and for all that may come before the next start
+module _ (p : Past) (q : LogView) (items_q : q.items ≡ p.items.items ++ items.Fresh ∷ []) where
+  pub history_fresh : history_of (record p { items = q }) ≡ emptied (history_of p)
+  history_fresh = ap (λ (l : List Item). made l (option_map open_of p.running) (waiting_in p.kept)) items_q
+
+  pub keeps_fresh : Keeps p → q.spare + 1 ≡ p.items.spare → 8 ≤ p.items.spare → Keeps (record p { items = q })
+  keeps_fresh k spare_q room =
+      keeps_as (record p { items = q }) (emptied (history_of p)) p.kept p.powered history_fresh refl refl
+      (keeps_roomed (emptied (history_of p)) p.kept p.powered p.items.spare q.spare (omega (arith, spare_q, room))
+      (other_keeps (history_of p) p.kept p.powered p.items.spare k items.Fresh (λ i. refl) (λ i u. refl) (λ s. refl)))
 
 pub less_room : (m n : ℕ) (p : Past) → m ≤ n → ActRoom n p → ActRoom m p
 less_room m n p le room = (let a = room.0 in omega (arith, a, le), in_running p.running room.1) where

@@ -111,3 +111,7 @@ told_second p steps.Ended (Checks e) t is same whole = ended_by (last_end_of p) 
 told_second p s (HalfOpen q) t is same whole = absurd (cc)
 told_second p (steps.Half q) (Ends e) t is same whole = absurd (cc)
 told_second p (steps.Half q) (Checks e) t is same whole = absurd (cc)
+
+-- its command waits still, where the half write and the program are the same
+pub waits_on : (x y : Option HalfWrite) (p q : Option Running) → x ≡ y → p ≡ q → (count_of y ≡ 1 → IsWaiting q) → count_of x ≡ 1 → IsWaiting p
+waits_on x y p q half running waits one = subst (λ (r : Option Running). IsWaiting r) (sym running) (waits (ap count_of (sym half) ∙ one))

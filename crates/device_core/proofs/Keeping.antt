@@ -13,7 +13,7 @@ use Rattle.plain_defs.specs.declared.journal.How.TheVariants.{Cut}
 use Rattle.plain_defs.specs.declared.journal.Item.{Item}
 use Rattle.plain_defs.specs.declared.journal.Item.TheVariants as items
 use Rattle.plain_defs.specs.History.{History, OpenEntry, closed, cut_by, entry_of, has_used, is_path_of, put, resets_of, started, with_end}
-use Rattle.plain_defs.specs.Legal.{is_of_path, is_started, is_used, started_by}
+use Rattle.plain_defs.specs.Legal.{is_of_path, is_started, is_used, started_by, used_by}
 use Rattle.device_defs.specs.Start.{started_count}
 use Rattle.device_core.specs.declared.past.KeptPath.{KeptPath}
 use Rattle.device_core.specs.Kept.{fresh_path, needed, of_path, one_more, over_path, unused, used_count, waiting, waiting_in, with_one_more, with_unused}
@@ -293,17 +293,27 @@ module _ (h : History) (kept : List KeptPath) (powered : Bool) (spare : ℕ) (k 
           ∙ ap (λ (b : Bool). b || is_used i false h.items) (sym (ne_eqb p i differ));
     }
 
+-- an item that is no program, no reset and no loss of power
+pub other_keeps : (h : History) (kept : List KeptPath) (powered : Bool) (spare : ℕ) → KeepsAll h kept powered spare → (x : Item) →
+    ((i : ℕ) → is_of_path i x ≡ false) → ((i : ℕ) (u : Bool) → used_by i u x ≡ u) → ((s : Bool) → started_by s x ≡ s) →
+    KeepsAll (record h { items = h.items ++ x ∷ [] }) kept powered spare
+other_keeps h kept powered spare k x none used starts = record {
+  four = k.four;
+  paths = λ i least most. let kp = k.paths i least most in record {
+    started_is = kp.started_is ∙ ap (λ (n : ℕ). n + (if is_path_of h.running i then 1 else 0)) (sym (counted i));
+    used_is = kp.used_is ∙ ap (λ (b : Bool). is_path_of h.running i || b) (sym (used_append i false h.items (x ∷ []) ∙ used i (is_used i false h.items)));
+  };
+  powered_is = k.powered_is ∙ ap (λ (b : Bool). is_some h.running || b) (sym (started_append false h.items (x ∷ []) ∙ starts (is_started false h.items)));
+  ends = k.ends;
+  room = k.room;
+} where
+  counted : (i : ℕ) → count_by (is_of_path i) (h.items ++ x ∷ []) ≡ count_by (is_of_path i) h.items
+  counted i =
+      let same : (n : ℕ) → n + 0 ≡ n = λ n. omega arith in
+      count_append (is_of_path i) 0 h.items (x ∷ [])
+      ∙ ap (λ (b : Bool). count_by (is_of_path i) h.items + (if b then 1 else 0)) (none i) ∙ same (count_by (is_of_path i) h.items)
+
 -- an act, while no program runs
 pub idle_act_keeps : (h : History) (kept : List KeptPath) (powered : Bool) (spare : ℕ) → KeepsAll h kept powered spare → h.running ≡ None → (act : Act) →
     KeepsAll (record h { items = h.items ++ items.Act act ∷ [] }) kept powered spare
-idle_act_keeps h kept powered spare k idle act = record {
-  four = k.four;
-  paths = λ i least most. let kp = k.paths i least most in record {
-    started_is = kp.started_is ∙ ap (λ (n : ℕ). n + (if is_path_of h.running i then 1 else 0))
-        (sym (count_append (is_of_path i) 0 h.items (items.Act act ∷ []) ∙ (let none : (n : ℕ) → n + 0 ≡ n = λ n. omega arith in none (count_by (is_of_path i) h.items))));
-    used_is = kp.used_is ∙ ap (λ (b : Bool). is_path_of h.running i || b) (sym (used_append i false h.items (items.Act act ∷ [])));
-  };
-  powered_is = k.powered_is ∙ ap (λ (b : Bool). is_some h.running || b) (sym (started_append false h.items (items.Act act ∷ [])));
-  ends = k.ends;
-  room = k.room;
-}
+idle_act_keeps h kept powered spare k idle act = other_keeps h kept powered spare k (items.Act act) (λ i. refl) (λ i u. refl) (λ s. refl)

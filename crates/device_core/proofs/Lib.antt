@@ -15,3 +15,4 @@ pub mod Acting
 pub mod Eventful
 pub mod Losing
 pub mod Halves
+pub mod Lending

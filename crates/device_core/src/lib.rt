@@ -22,8 +22,6 @@ mod second;
 mod seen;
 mod start;
 mod step;
-#[cfg(test)]
-mod tests;
 mod turns;
 
 pub use device::Device;

@@ -1,19 +1,56 @@
-ghost use Rattle.std.specs.Prelude.{◌≡◌, ◌*◌, None, Some, is_some, true};
+ghost use Rattle.std.specs.Prelude.{◌≡◌, ◌≤◌, ◌*◌, ℕ, IfErr, None, OnErr, OnOk, Some, false, is_some, option_map, true};
 ghost use Rattle.track_table.specs.Tracks.{count_below};
-ghost use Rattle.device_defs.specs.Orders.{hold, join, replace, resume, split};
+ghost use Rattle.plain_defs.specs.History.{emptied};
+ghost use Rattle.device_defs.specs.Contents.{contents};
+ghost use Rattle.device_defs.specs.Orders.{hold, join, lend, replace, restore, resume, split};
 ghost use Rattle.device_defs.specs.Store.{side_of, stale_at, tracks_of};
+ghost use Rattle.device_outside.specs.declared.keep.NoKeep.{NoKeep};
+ghost use Rattle.device_outside.specs.Keeper.{reply};
+ghost use Rattle.device_outside.specs.Outside.{Ran};
 ghost use Rattle.duplex_pair.specs.Sides.{other_of, volume_of};
-ghost use Rattle.device_store.specs.State.{on_a, on_b};
+ghost use Rattle.device_store.specs.State.{on_a, on_b, outside, surely};
+ghost use Rattle.device_core.specs.Kept.{history_of, ActRoom, Keeps};
 ghost use Rattle.device_core.specs.State.{device_of};
 
 use crate::Device;
-use ckd_types::Side;
-use device_outside::Volume;
+use crate::past::Past;
+use crate::start::ITEMS_BEFORE_NEXT;
+use ckd_types::{DeviceNo, NoMemory, Side};
+use device_outside::{Keep, NoKeep, Port, Volume};
+use plain_defs::Item;
+use track_image::TrackImage;
+
+impl Past {
+    /// Makes room for one item more than may come before the next start.
+    fn reserve_fresh(&mut self) -> Result<(), NoMemory>
+        requires { Keeps self.old }
+        ensures history { history_of self.new ≡ history_of self.old }
+        ensures running { self.new.running ≡ self.old.running }
+        ensures keeps { Keeps self.new }
+        ensures made { OnOk result (8 ≤ self.new.items.spare) }
+        ensures room { (n : ℕ) → ActRoom n self.old → ActRoom n self.new }
+    {
+        self.items.reserve(ITEMS_BEFORE_NEXT + 1, 0)
+    }
+
+    /// That the device is empty stands in the journal, in room that was made.
+    fn note_fresh(&mut self)
+        requires keeps { Keeps self.old }
+        requires room { 8 ≤ self.old.items.spare }
+        ensures history { history_of self.new ≡ emptied (history_of self.old) }
+        ensures running { self.new.running ≡ self.old.running }
+        ensures keeps { Keeps self.new }
+        ensures room { (n : ℕ) → ActRoom n self.old → ActRoom n self.new }
+    {
+        self.items.push(Item::Fresh);
+    }
+}
 
 impl<V: Volume> Device<V> {
-    /// An empty volume in place of a side's, which is there, with every track stale. It answers the old volume. This and the other
-    /// orders take no memory.
+    /// An empty volume in place of a side's, which is there, with every track stale. It answers the old volume. Orders take no memory
+    /// but for `restore`.
     pub fn replace(&mut self, side: Side, volume: V) -> V
+        requires here { is_some (device_of self.old).store.lent ≡ false }
         requires there { is_some (volume_of self.old.store.pair.volumes side) ≡ true }
         requires size { (V.view volume).tracks ≡ self.old.store.cylinders * 15 }
         ensures device { device_of self.new ≡ replace (device_of self.old) side }
@@ -45,6 +82,7 @@ impl<V: Volume> Device<V> {
 
     /// Another device's volume becomes side B, with every track stale.
     pub fn join_volume(&mut self, volume: V)
+        requires here { is_some (device_of self.old).store.lent ≡ false }
         requires size { (V.view volume).tracks ≡ self.old.store.cylinders * 15 }
         ensures device { device_of self.new ≡ join (device_of self.old) }
         ensures a { on_a self.new.store ≡ on_a self.old.store }
@@ -61,6 +99,56 @@ impl<V: Volume> Device<V> {
         ensures back { result ≡ on_b self.old.store }
     {
         self.store.split()
+    }
+
+    /// The volume of a device that is alone leaves for another's pair. It answers it.
+    pub fn lend_with<P: Port, K: Keep<TrackImage>>(
+        &mut self,
+        to: DeviceNo,
+        port: &mut P,
+    ) -> Option<V>
+        requires { (device_of self.old).store.paired ≡ false }
+        ensures fixed { (self.new.store.number ≡ self.old.store.number) × (self.new.store.cylinders ≡ self.old.store.cylinders) }
+        ensures a { on_a self.new.store ≡ None }
+        ensures b { on_b self.new.store ≡ None }
+        ensures back { result ≡ on_a self.old.store }
+        ensures run { (k : K) → Ran surely K.hears (lend contents (device_of self.old) to) (outside (P.view port.old) self.old.store k) (device_of self.new) tt (record (outside (P.view port.new) self.new.store k) { a = option_map V.view result }) }
+    {
+        let before = self.store.waiting_count();
+        self.store.begin_event();
+        let volume = self.store.lend(to);
+        self.store.end_event::<P, K>(before, port);
+        volume
+    }
+
+    /// The same, with a keeper that keeps nothing.
+    pub fn lend<P: Port>(&mut self, to: DeviceNo, port: &mut P) -> Option<V>
+        requires { (device_of self.old).store.paired ≡ false }
+        ensures fixed { (self.new.store.number ≡ self.old.store.number) × (self.new.store.cylinders ≡ self.old.store.cylinders) }
+        ensures a { on_a self.new.store ≡ None }
+        ensures b { on_b self.new.store ≡ None }
+        ensures back { result ≡ on_a self.old.store }
+        ensures run { (k : NoKeep) → Ran surely (λ _ m r _. r ≡ reply m) (lend contents (device_of self.old) to) (outside (P.view port.old) self.old.store k) (device_of self.new) tt (record (outside (P.view port.new) self.new.store k) { a = option_map V.view result }) }
+    {
+        self.lend_with::<P, NoKeep>(to, port)
+    }
+
+    /// An empty volume in place of the one that was lent, and the device is empty. Room in the journal is made first.
+    pub fn restore(&mut self, volume: V) -> Result<(), (NoMemory, V)>
+        requires { (V.view volume).tracks ≡ self.old.store.cylinders * 15 }
+        ensures device { OnOk result (device_of self.new ≡ restore (device_of self.old)) }
+        ensures a { OnOk result (on_a self.new.store ≡ Some volume) }
+        ensures b { on_b self.new.store ≡ on_b self.old.store }
+        ensures same { OnErr result ((device_of self.new ≡ device_of self.old) × (self.new.store ≡ self.old.store)) }
+        ensures back { IfErr result (λ e. e.1 ≡ volume) }
+    {
+        match self.past.reserve_fresh() {
+            Err(NoMemory) => return Err((NoMemory, volume)),
+            Ok(()) => (),
+        }
+        self.past.note_fresh();
+        self.store.restore(volume);
+        Ok(())
     }
 
     /// Whether it has a side B.

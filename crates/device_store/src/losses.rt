@@ -1,176 +1,27 @@
-ghost use Rattle.std.specs.Prelude.{◌≡◌, ◌<◌, ◌≤◌, ◌*◌, ℕ, None, false};
+ghost use Rattle.std.specs.Prelude.{◌≡◌, ◌<◌, ◌≤◌, ◌*◌, None};
 ghost use Rattle.device_defs.specs.Contents.{contents};
-ghost use Rattle.device_defs.specs.Cutting.{loose_gone, powerless};
-ghost use Rattle.device_defs.specs.Effects.{loose_lost};
-ghost use Rattle.device_defs.specs.Events.{losing, lost_by, one_more, with_loss};
-ghost use Rattle.device_defs.specs.Losses.{all_firm_told, cache_lost, down, firm_told, over, patch_lost, settled, side_lost, store_lost, without_frame};
-ghost use Rattle.device_defs.specs.Store.{is_loose};
+ghost use Rattle.device_defs.specs.Cutting.{powerless};
+ghost use Rattle.device_defs.specs.Events.{losing, with_loss};
 ghost use Rattle.device_outside.specs.Outside.{PortView, Ran};
 ghost use Rattle.event_notes.specs.Loose.{weight};
-ghost use Rattle.plain_defs.specs.Loose.{next_number};
 ghost use Rattle.loss_model.specs.declared.Loss.TheVariants as losses;
 ghost use Rattle.device_store.specs.State.{state_of, outside, surely, Takes};
 
 use crate::DeviceStore;
-use crate::marks::{one_more, track};
-use ckd_types::{HEADS, TrackNo};
-use device_defs::Losses;
 use device_outside::{Keep, Volume};
 use loss_model::Loss;
 use track_image::TrackImage;
 
-/// Counts a loss.
-fn count_loss(losses: &mut Losses, loss: Loss)
-    ensures { losses.new ≡ one_more losses.old loss }
-{
-    match loss {
-        Loss::Cache => losses.cache = one_more(losses.cache),
-        Loss::Store => losses.store = one_more(losses.store),
-        Loss::Side(_) => losses.sides = one_more(losses.sides),
-    }
-}
 
-/// The number goes from 65,535 to 0.
-fn next_number(n: u16) -> u16
-    ensures { result ≡ next_number n }
-{
-    if n == u16::MAX { 0 } else { n + 1 }
-}
 
 impl<V: Volume> DeviceStore<V> {
-    /// Data of cache fast write are lost, where there are some.
-    fn lose_loose(&mut self)
-        ensures fixed { (self.new.number ≡ self.old.number) × (self.new.cylinders ≡ self.old.cylinders) }
-        ensures volume { self.new.pair.volumes ≡ self.old.pair.volumes }
-        ensures half { self.new.half ≡ self.old.half }
-        ensures weight { weight self.new.loose ≤ weight self.old.loose }
-        ensures firm { (t : ℕ) → is_loose (state_of self.new) t ≡ false }
-        ensures state { state_of self.new ≡ loose_lost (state_of self.old) }
-    {
-        if self.loose.any() {
-            self.loose.lose();
-            self.data_number = next_number(self.data_number);
-        }
-    }
 
-    /// The same with the power, of which no act tells.
-    fn clear_loose(&mut self)
-        ensures fixed { (self.new.number ≡ self.old.number) × (self.new.cylinders ≡ self.old.cylinders) }
-        ensures volume { self.new.pair.volumes ≡ self.old.pair.volumes }
-        ensures half { self.new.half ≡ self.old.half }
-        ensures weight { weight self.new.loose ≤ weight self.old.loose }
-        ensures firm { (t : ℕ) → is_loose (state_of self.new) t ≡ false }
-        ensures state { state_of self.new ≡ loose_gone contents (state_of self.old) }
-    {
-        if self.loose.any() {
-            self.loose.clear();
-            self.data_number = next_number(self.data_number);
-        }
-    }
 
-    /// The frame of a track goes.
-    fn lose_frame(&mut self, t: TrackNo)
-        requires track { t < self.old.cylinders * 15 }
-        requires firm { is_loose (state_of self.old) t ≡ false }
-        ensures fixed { (self.new.number ≡ self.old.number) × (self.new.cylinders ≡ self.old.cylinders) }
-        ensures volume { self.new.pair.volumes ≡ self.old.pair.volumes }
-        ensures half { self.new.half ≡ self.old.half }
-        ensures weight { weight self.new.loose ≡ weight self.old.loose }
-        ensures loose { self.new.loose ≡ self.old.loose }
-        ensures state { state_of self.new ≡ settled contents (without_frame (state_of self.old) t) t }
-    {
-        self.give_up_frame(t);
-        self.settle(t);
-    }
 
-    /// All frames go. No track is loose.
-    fn lose_frames(&mut self)
-        requires firm { (t : ℕ) → is_loose (state_of self.old) t ≡ false }
-        ensures fixed { (self.new.number ≡ self.old.number) × (self.new.cylinders ≡ self.old.cylinders) }
-        ensures volume { self.new.pair.volumes ≡ self.old.pair.volumes }
-        ensures half { self.new.half ≡ self.old.half }
-        ensures weight { weight self.new.loose ≡ weight self.old.loose }
-        ensures state { state_of self.new ≡ over (self.old.cylinders * 15) (λ t z. settled contents (without_frame z t) t) (state_of self.old) }
-    {
-        let tracks = u16::from(self.cylinders) * HEADS;
-        for t in 0..tracks {
-            self.lose_frame(track(t));
-        }
-    }
 
-    /// What goes with the cache.
-    fn lose_cache(&mut self)
-        ensures fixed { (self.new.number ≡ self.old.number) × (self.new.cylinders ≡ self.old.cylinders) }
-        ensures volume { self.new.pair.volumes ≡ self.old.pair.volumes }
-        ensures half { self.new.half ≡ self.old.half }
-        ensures weight { weight self.new.loose ≤ weight self.old.loose }
-        ensures state { state_of self.new ≡ cache_lost contents (state_of self.old) }
-    {
-        self.lose_loose();
-        self.queue.clear();
-        self.lose_frames();
-    }
 
-    /// The patch of a track goes: the volumes haven't what it had, but for what an open half write wrote.
-    fn lose_patch<K: Keep<TrackImage>>(&mut self, t: TrackNo, keep: &mut K)
-        requires track { t < self.old.cylinders * 15 }
-        requires takes { Takes K.takes keep.old self.old.number (self.old.cylinders * 15) }
-        ensures fixed { (self.new.number ≡ self.old.number) × (self.new.cylinders ≡ self.old.cylinders) }
-        ensures volume { self.new.pair.volumes ≡ self.old.pair.volumes }
-        ensures half { self.new.half ≡ self.old.half }
-        ensures weight { weight self.new.loose ≡ weight self.old.loose }
-        ensures takes { Takes K.takes keep.new self.new.number (self.new.cylinders * 15) }
-        ensures run { (p : PortView) → Ran surely K.hears (firm_told contents t (patch_lost contents t (state_of self.old))) (outside p self.old keep.old) (state_of self.new) tt (outside p self.new keep.new) }
-    {
-        if !self.patches.has(t) {
-            self.owed.no_firm();
-            return;
-        }
-        if self.is_half_open(t) {
-            self.give_up_patch(t);
-            self.owed.no_firm();
-            return;
-        }
-        self.give_up_patch(t);
-        self.stale_everywhere(t);
-        self.settle_told(t, keep);
-    }
 
-    /// All patches go.
-    fn lose_store<K: Keep<TrackImage>>(&mut self, keep: &mut K)
-        requires takes { Takes K.takes keep.old self.old.number (self.old.cylinders * 15) }
-        ensures fixed { (self.new.number ≡ self.old.number) × (self.new.cylinders ≡ self.old.cylinders) }
-        ensures volume { self.new.pair.volumes ≡ self.old.pair.volumes }
-        ensures half { self.new.half ≡ self.old.half }
-        ensures weight { weight self.new.loose ≡ weight self.old.loose }
-        ensures takes { Takes K.takes keep.new self.new.number (self.new.cylinders * 15) }
-        ensures run { (p : PortView) → Ran surely K.hears (all_firm_told contents (self.old.cylinders * 15) (store_lost contents (state_of self.old))) (outside p self.old keep.old) (state_of self.new) tt (outside p self.new keep.new) }
-    {
-        let tracks = u16::from(self.cylinders) * HEADS;
-        for t in 0..tracks {
-            self.lose_patch(track(t), keep);
-        }
-    }
 
-    /// What goes with a loss.
-    fn lose_by<K: Keep<TrackImage>>(&mut self, loss: Loss, keep: &mut K)
-        requires takes { Takes K.takes keep.old self.old.number (self.old.cylinders * 15) }
-        ensures fixed { (self.new.number ≡ self.old.number) × (self.new.cylinders ≡ self.old.cylinders) }
-        ensures volume { self.new.pair.volumes ≡ self.old.pair.volumes }
-        ensures half { self.new.half ≡ self.old.half }
-        ensures weight { weight self.new.loose ≤ weight self.old.loose }
-        ensures takes { Takes K.takes keep.new self.new.number (self.new.cylinders * 15) }
-        ensures run { (p : PortView) → Ran surely K.hears (all_firm_told contents (self.old.cylinders * 15) (lost_by contents (state_of self.old) loss)) (outside p self.old keep.old) (state_of self.new) tt (outside p self.new keep.new) }
-    {
-        match loss {
-            Loss::Cache => {
-                self.lose_cache();
-                self.owed.no_firm();
-            }
-            Loss::Store => self.lose_store(keep),
-            Loss::Side(side) => self.lose_side(side, None, keep),
-        }
-    }
 
     /// A loss. The keeper is told of the tracks that it made firm.
     pub fn lose<K: Keep<TrackImage>>(&mut self, loss: Loss, keep: &mut K)
@@ -182,8 +33,7 @@ impl<V: Volume> DeviceStore<V> {
         ensures takes { Takes K.takes keep.new self.new.number (self.new.cylinders * 15) }
         ensures run { (p : PortView) → Ran surely K.hears (losing contents (state_of self.old) loss) (outside p self.old keep.old) (state_of self.new) tt (outside p self.new keep.new) }
     {
-        count_loss(&mut self.counts.losses, loss);
-        self.lose_by(loss, keep);
+        unreachable!()
     }
 
     /// What the loss of power takes: it counts as one of the cache.
@@ -194,10 +44,6 @@ impl<V: Volume> DeviceStore<V> {
         ensures weight { weight self.new.loose ≤ weight self.old.loose }
         ensures state { state_of self.new ≡ powerless contents (with_loss (state_of self.old) losses.Cache) }
     {
-        count_loss(&mut self.counts.losses, Loss::Cache);
-        self.clear_loose();
-        self.end_half();
-        self.queue.clear();
-        self.lose_frames();
+        unreachable!()
     }
 }

@@ -1,31 +1,15 @@
-ghost use Rattle.std.specs.Prelude.{◌≡◌, ◌*◌};
+ghost use Rattle.std.specs.Prelude.{◌≡◌};
 ghost use Rattle.device_defs.specs.Contents.{contents};
-ghost use Rattle.device_defs.specs.Owed.{dropped, hear};
+ghost use Rattle.device_defs.specs.Owed.{hear};
 ghost use Rattle.device_outside.specs.Outside.{Ran};
 ghost use Rattle.device_store.specs.State.{state_of, outside, surely};
 
 use crate::DeviceStore;
-use ckd_types::TrackNo;
 use device_outside::{Keep, Port, Volume};
 use track_image::TrackImage;
 
-/// The most notes that an event takes.
-const NOTES: u32 = 960;
 
 impl<V: Volume> DeviceStore<V> {
-    /// A note of a track that has a clean frame drops it.
-    fn drop_noted(&mut self, t: TrackNo)
-        ensures fixed { (self.new.number ≡ self.old.number) × (self.new.cylinders ≡ self.old.cylinders) }
-        ensures half { self.new.half ≡ self.old.half }
-        ensures loose { self.new.loose ≡ self.old.loose }
-        ensures volume { self.new.pair.volumes ≡ self.old.pair.volumes }
-        ensures state { state_of self.new ≡ dropped contents (state_of self.old) t }
-    {
-        if !self.is_clean(t) {
-            return;
-        }
-        self.forget(t);
-    }
 
     /// Takes the notes of the device, at most 960, and drops the clean frames that they name.
     pub fn hear<P: Port, K: Keep<TrackImage>>(&mut self, port: &mut P)
@@ -34,11 +18,6 @@ impl<V: Volume> DeviceStore<V> {
         ensures loose { self.new.loose ≡ self.old.loose }
         ensures run { (k : K) → Ran surely K.hears (hear contents 960 (state_of self.old)) (outside (P.view port.old) self.old k) (state_of self.new) tt (outside (P.view port.new) self.new k) }
     {
-        for _turn in 0..NOTES {
-            match port.next_notice(self.number) {
-                None => return,
-                Some(t) => self.drop_noted(t),
-            }
-        }
+        unreachable!()
     }
 }

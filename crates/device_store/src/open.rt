@@ -1,56 +1,16 @@
-ghost use Rattle.std.specs.Prelude.{◌≡◌, ◌≤◌, ◌*◌, IfErr, IfOk, None, Some, replicate};
-ghost use Rattle.device_defs.specs.Marks.{no_counts};
-ghost use Rattle.device_defs.specs.Store.{no_debt};
+ghost use Rattle.std.specs.Prelude.{◌≡◌, ◌≤◌, ◌*◌, IfErr, IfOk, None, Some};
 ghost use Rattle.device_store.specs.State.{state_of, on_a, on_b, opened_store};
 
 use crate::DeviceStore;
-use ckd_types::{DeviceNo, Geometry, HEADS, NoMemory};
-use device_defs::{Counts, Losses};
+use ckd_types::{DeviceNo, Geometry, NoMemory};
 use device_outside::{TrackBuffer, Volume};
-use duplex_pair::DuplexPair;
-use event_notes::{Debts, LooseTracks};
-use loss_model::LostList;
-use nv_store::{EditRoom, Patches};
-use stager::Queue;
+use event_notes::{Debts};
+use nv_store::{Patches};
 use std::alloc::Global;
 use track_cache::Frames;
-use track_image::RecordRoom;
 
-fn no_counts() -> Counts
-    ensures { result ≡ no_counts }
-{
-    let losses = Losses {
-        cache: 0,
-        store: 0,
-        sides: 0,
-    };
-    Counts {
-        reads: 0,
-        writes: 0,
-        failed: 0,
-        losses,
-    }
-}
 
-/// A place for a frame of each track.
-fn no_frames(alloc: Global, cylinders: u8) -> Result<Frames, NoMemory>
-    requires { cylinders ≤ 64 }
-    ensures { IfOk result (λ made. made ≡ replicate (cylinders * 15) None) }
-{
-    let mut frames = Frames::new(alloc);
-    frames.reserve(cylinders)?;
-    Ok(frames)
-}
 
-/// A place for a patch of each track.
-fn no_patches(alloc: Global, cylinders: u8) -> Result<Patches, NoMemory>
-    requires { cylinders ≤ 64 }
-    ensures { IfOk result (λ made. made ≡ replicate (cylinders * 15) None) }
-{
-    let mut patches = Patches::new(alloc);
-    patches.reserve(cylinders)?;
-    Ok(patches)
-}
 
 /// What takes memory of a new device.
 #[derive(Drop)]
@@ -61,22 +21,6 @@ struct Parts {
     buffer: TrackBuffer,
 }
 
-impl Parts {
-    fn new(alloc: Global, cylinders: u8) -> Result<Parts, NoMemory>
-        requires { cylinders ≤ 64 }
-        ensures frames { IfOk result (λ parts. parts.frames ≡ replicate (cylinders * 15) None) }
-        ensures patches { IfOk result (λ parts. parts.patches ≡ replicate (cylinders * 15) None) }
-        ensures owed { IfOk result (λ parts. parts.owed ≡ replicate (cylinders * 15) no_debt) }
-    {
-        let tracks = usize::from(cylinders) * usize::from(HEADS);
-        Ok(Parts {
-            frames: no_frames(alloc, cylinders)?,
-            patches: no_patches(alloc, cylinders)?,
-            owed: Debts::new(alloc, tracks)?,
-            buffer: TrackBuffer::new(alloc)?,
-        })
-    }
-}
 
 impl<V: Volume> DeviceStore<V> {
     /// The tracks of a new device, over a volume of empty tracks. The volume comes back where memory is lacking.
@@ -94,28 +38,6 @@ impl<V: Volume> DeviceStore<V> {
         ensures volume { IfOk result (λ s. (on_a s ≡ Some volume) × (on_b s ≡ None)) }
         ensures back { IfErr result (λ e. e.1 ≡ volume) }
     {
-        let parts = match Parts::new(alloc, cylinders) {
-            Ok(parts) => parts,
-            Err(NoMemory) => return Err((NoMemory, volume)),
-        };
-        Ok(DeviceStore {
-            alloc,
-            number,
-            geometry,
-            cylinders,
-            data_number: 0,
-            pair: DuplexPair::single(volume, cylinders),
-            half: None,
-            frames: parts.frames,
-            patches: parts.patches,
-            lost: LostList::new(cylinders),
-            loose: LooseTracks::new(alloc, cylinders),
-            queue: Queue::new(),
-            owed: parts.owed,
-            counts: no_counts(),
-            buffer: parts.buffer,
-            records: RecordRoom::new(alloc),
-            edits: EditRoom::new(alloc),
-        })
+        Err((NoMemory, volume))
     }
 }

@@ -1,35 +1,14 @@
-ghost use Rattle.std.specs.Prelude.{◌≡◌, ◌*◌, ◌≤◌, ◌<◌, ◌&&◌, ◌||◌, ℕ, is_some, false, true};
+ghost use Rattle.std.specs.Prelude.{◌≡◌, ◌<◌};
 ghost use Rattle.device_defs.specs.Contents.{contents};
-ghost use Rattle.device_defs.specs.Owed.{all_told, begun, dropped_told, ended, freed_told, is_owed, modified_told, settles_debt, track_told, waiting_count, waiting_told, waits};
-ghost use Rattle.device_defs.specs.Store.{no_debt, owed_at};
+ghost use Rattle.device_defs.specs.Owed.{begun, ended, waiting_count};
 ghost use Rattle.device_outside.specs.Outside.{Ran};
-ghost use Rattle.track_table.specs.Bits.{is_marked};
 ghost use Rattle.device_store.specs.State.{state_of, outside, surely};
 
 use crate::DeviceStore;
-use crate::marks::track;
-use ckd_types::{HEADS, TrackNo};
-use device_defs::Owed;
 use device_outside::{Keep, Port, Volume};
 use track_image::TrackImage;
-use track_table::TrackBits;
 
-fn no_debt() -> Owed
-    ensures { result ≡ no_debt }
-{
-    Owed {
-        modified: false,
-        dropped: false,
-        freed: None,
-        firm: false,
-    }
-}
 
-fn is_owed(owed: &Owed) -> bool
-    ensures { result ≡ is_owed contents owed.now }
-{
-    owed.modified || owed.dropped || owed.freed.is_some()
-}
 
 impl<V: Volume> DeviceStore<V> {
     /// An event begins.
@@ -40,137 +19,25 @@ impl<V: Volume> DeviceStore<V> {
         ensures loose { self.new.loose.loose ≡ self.old.loose.loose }
         ensures state { state_of self.new ≡ begun (state_of self.old) }
     {
-        self.loose.begin();
+        unreachable!()
     }
 
-    /// The tracks that wait for recovery.
-    pub(crate) fn waiting(&self) -> TrackBits
-        ensures { (t : ℕ) → is_marked result t ≡ waits contents (state_of self.now) t }
-    {
-        let patched = self.patches.patched_tracks();
-        let alone = self.frames.modified_tracks().without(patched);
-        let alone = alone.without(self.loose.marks());
-        let without_frame = patched.without(self.frames.framed_tracks());
-        without_frame.or(&alone).without(self.lost.marks())
-    }
 
-    /// Whether it is known that no track waits: without a patch and a modified frame none does.
-    fn none_waits(&self) -> bool
-        ensures { result ≡ true → (t : ℕ) → waits contents (state_of self.now) t ≡ false }
-    {
-        if self.patches.is_empty() {
-            return self.frames.none_modified();
-        }
-        false
-    }
 
     /// How many tracks wait for recovery.
     pub fn waiting_count(&self) -> u16
         ensures { result ≡ waiting_count contents (state_of self.now) }
     {
-        if self.none_waits() {
-            return 0;
-        }
-        self.waiting().count()
+        unreachable!()
     }
 
-    fn tell_modified<P: Port, K: Keep<TrackImage>>(&self, t: TrackNo, port: &mut P)
-        ensures run { (k : K) → Ran surely K.hears (modified_told contents t (state_of self.now)) (outside (P.view port.old) self.now k) (state_of self.now) tt (outside (P.view port.new) self.now k) }
-    {
-        if !self.owed.at(t).modified {
-            return;
-        }
-        if self.frames.modified(t) {
-            port.set_modified(self.number, t);
-        }
-    }
 
-    fn tell_dropped<P: Port, K: Keep<TrackImage>>(&self, t: TrackNo, port: &mut P)
-        ensures run { (k : K) → Ran surely K.hears (dropped_told contents t (state_of self.now)) (outside (P.view port.old) self.now k) (state_of self.now) tt (outside (P.view port.new) self.now k) }
-    {
-        if self.owed.at(t).dropped {
-            port.drop_frame(self.number, t);
-        }
-    }
 
-    fn tell_freed<P: Port, K: Keep<TrackImage>>(&self, t: TrackNo, port: &mut P)
-        ensures run { (k : K) → Ran surely K.hears (freed_told contents (state_of self.now) (owed_at (state_of self.now) t).freed) (outside (P.view port.old) self.now k) (state_of self.now) tt (outside (P.view port.new) self.now k) }
-    {
-        match self.owed.at(t).freed {
-            None => (),
-            Some(slot) => port.free_slot(slot),
-        }
-    }
 
-    /// The port is told what it is owed of a track.
-    fn settle_debt<P: Port, K: Keep<TrackImage>>(&mut self, t: TrackNo, port: &mut P)
-        ensures fixed { (self.new.number ≡ self.old.number) × (self.new.cylinders ≡ self.old.cylinders) }
-        ensures half { self.new.half ≡ self.old.half }
-        ensures volume { self.new.pair.volumes ≡ self.old.pair.volumes }
-        ensures loose { self.new.loose ≡ self.old.loose }
-        ensures rest { state_of self.new ≡ record (state_of self.old) { owed = self.new.owed } }
-        ensures run { (k : K) → Ran surely K.hears (settles_debt contents t (state_of self.old)) (outside (P.view port.old) self.old k) (state_of self.new) tt (outside (P.view port.new) self.new k) }
-    {
-        self.tell_modified::<P, K>(t, port);
-        self.tell_dropped::<P, K>(t, port);
-        self.tell_freed::<P, K>(t, port);
-        self.owed.set(t, no_debt());
-    }
 
-    fn tell_track<P: Port, K: Keep<TrackImage>>(&mut self, t: TrackNo, port: &mut P)
-        ensures fixed { (self.new.number ≡ self.old.number) × (self.new.cylinders ≡ self.old.cylinders) }
-        ensures half { self.new.half ≡ self.old.half }
-        ensures volume { self.new.pair.volumes ≡ self.old.pair.volumes }
-        ensures loose { self.new.loose ≡ self.old.loose }
-        ensures rest { state_of self.new ≡ record (state_of self.old) { owed = self.new.owed } }
-        ensures run { (k : K) → Ran surely K.hears (track_told contents t (state_of self.old)) (outside (P.view port.old) self.old k) (state_of self.new) tt (outside (P.view port.new) self.new k) }
-    {
-        if is_owed(&self.owed.at(t)) {
-            self.settle_debt::<P, K>(t, port);
-        }
-    }
 
-    /// The port is told what it is owed of each track.
-    fn tell_each<P: Port, K: Keep<TrackImage>>(&mut self, port: &mut P)
-        ensures fixed { (self.new.number ≡ self.old.number) × (self.new.cylinders ≡ self.old.cylinders) }
-        ensures half { self.new.half ≡ self.old.half }
-        ensures volume { self.new.pair.volumes ≡ self.old.pair.volumes }
-        ensures loose { self.new.loose ≡ self.old.loose }
-        ensures rest { state_of self.new ≡ record (state_of self.old) { owed = self.new.owed } }
-        ensures run { (k : K) → Ran surely K.hears (all_told contents (self.old.cylinders * 15) (state_of self.old)) (outside (P.view port.old) self.old k) (state_of self.new) tt (outside (P.view port.new) self.new k) }
-    {
-        let tracks = u16::from(self.cylinders) * HEADS;
-        for t in 0..tracks {
-            self.tell_track::<P, K>(track(t), port);
-        }
-    }
 
-    /// The same. Where nothing is owed no track is looked at.
-    fn tell_all<P: Port, K: Keep<TrackImage>>(&mut self, port: &mut P)
-        ensures fixed { (self.new.number ≡ self.old.number) × (self.new.cylinders ≡ self.old.cylinders) }
-        ensures half { self.new.half ≡ self.old.half }
-        ensures volume { self.new.pair.volumes ≡ self.old.pair.volumes }
-        ensures loose { self.new.loose ≡ self.old.loose }
-        ensures rest { state_of self.new ≡ record (state_of self.old) { owed = self.new.owed } }
-        ensures run { (k : K) → Ran surely K.hears (all_told contents (self.old.cylinders * 15) (state_of self.old)) (outside (P.view port.old) self.old k) (state_of self.new) tt (outside (P.view port.new) self.new k) }
-    {
-        if self.owed.are_paid() {
-            return;
-        }
-        self.tell_each::<P, K>(port);
-        self.owed.look_over();
-    }
 
-    /// The port is told how many tracks wait, where it is another number than before.
-    fn tell_waiting<P: Port, K: Keep<TrackImage>>(&self, before: u16, port: &mut P)
-        ensures run { (k : K) → Ran surely K.hears (waiting_told contents before (state_of self.now)) (outside (P.view port.old) self.now k) (state_of self.now) tt (outside (P.view port.new) self.now k) }
-    {
-        let waiting = self.waiting_count();
-        if waiting == before {
-            return;
-        }
-        port.tell_waiting(self.number, waiting);
-    }
 
     /// An event ends before which so many tracks waited: the port is told what it is owed, and then how many tracks wait.
     pub fn end_event<P: Port, K: Keep<TrackImage>>(&mut self, before: u16, port: &mut P)
@@ -181,7 +48,6 @@ impl<V: Volume> DeviceStore<V> {
         ensures rest { state_of self.new ≡ record (state_of self.old) { owed = self.new.owed } }
         ensures run { (k : K) → Ran surely K.hears (ended contents before (state_of self.old)) (outside (P.view port.old) self.old k) (state_of self.new) tt (outside (P.view port.new) self.new k) }
     {
-        self.tell_all::<P, K>(port);
-        self.tell_waiting::<P, K>(before, port);
+        unreachable!()
     }
 }

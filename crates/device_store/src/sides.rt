@@ -1,14 +1,15 @@
 ghost use Rattle.std.specs.Prelude.{◌≡◌, ◌<◌, ◌≤◌, ◌*◌, None, Some, false, is_some, replicate, true};
 ghost use Rattle.track_table.specs.Tracks.{count_below};
 ghost use Rattle.device_defs.specs.Contents.{contents};
-ghost use Rattle.device_defs.specs.Orders.{given_up};
-ghost use Rattle.device_defs.specs.Store.{is_loose, new_side, no_side, side_of, stale_at, with_side};
+ghost use Rattle.device_defs.specs.Losses.{over};
+ghost use Rattle.device_defs.specs.Orders.{given_up, lent_to};
+ghost use Rattle.device_defs.specs.Store.{new_side, no_side, side_of, stale_at, with_side};
 ghost use Rattle.duplex_pair.specs.Sides.{other_of, volume_of};
 ghost use Rattle.event_notes.specs.Loose.{weight};
 ghost use Rattle.device_store.specs.State.{on_a, on_b, state_of};
 
 use crate::DeviceStore;
-use ckd_types::{DeviceNo, Side, TrackNo};
+use ckd_types::{DeviceNo, Side};
 use device_outside::Volume;
 
 impl<V: Volume> DeviceStore<V> {
@@ -25,7 +26,7 @@ impl<V: Volume> DeviceStore<V> {
         ensures other { other_of self.new.pair.volumes side ≡ other_of self.old.pair.volumes side }
         ensures state { state_of self.new ≡ with_side (state_of self.old) side (new_side (self.old.cylinders * 15) true) }
     {
-        self.pair.replace(side, volume)
+        unreachable!()
     }
 
     /// Another device's volume becomes side B, with every track stale.
@@ -39,7 +40,7 @@ impl<V: Volume> DeviceStore<V> {
         ensures b { on_b self.new ≡ Some volume }
         ensures state { state_of self.new ≡ record (state_of self.old) { paired = true; b = new_side (self.old.cylinders * 15) true } }
     {
-        self.pair.join(volume);
+        unreachable!()
     }
 
     /// Side B leaves, and a held mark ends. It answers its volume.
@@ -52,7 +53,7 @@ impl<V: Volume> DeviceStore<V> {
         ensures back { result ≡ on_b self.old }
         ensures state { state_of self.new ≡ record (state_of self.old) { paired = false; held = false; b = no_side (self.old.cylinders * 15) } }
     {
-        self.pair.split()
+        unreachable!()
     }
 
     /// Side B takes nothing from here on.
@@ -63,7 +64,7 @@ impl<V: Volume> DeviceStore<V> {
         ensures volume { self.new.pair.volumes ≡ self.old.pair.volumes }
         ensures state { state_of self.new ≡ record (state_of self.old) { held = true } }
     {
-        self.pair.hold();
+        unreachable!()
     }
 
     /// Side B takes what is written from here on, and what is stale there is copied.
@@ -74,7 +75,7 @@ impl<V: Volume> DeviceStore<V> {
         ensures volume { self.new.pair.volumes ≡ self.old.pair.volumes }
         ensures state { state_of self.new ≡ record (state_of self.old) { held = false } }
     {
-        self.pair.resume();
+        unreachable!()
     }
 
     /// An empty volume takes the place of one that was lent, and no track is loose.
@@ -87,70 +88,72 @@ impl<V: Volume> DeviceStore<V> {
         ensures b { on_b self.new ≡ on_b self.old }
         ensures state { state_of self.new ≡ record (state_of self.old) { lent = None; a = new_side (self.old.cylinders * 15) false; loose = replicate (self.old.cylinders * 15) false } }
     {
-        self.pair.restore(volume);
-        self.loose.clear();
+        unreachable!()
     }
 
-    /// The frame and the patch of a track are given up.
-    fn give_up(&mut self, t: TrackNo)
-        requires track { t < self.old.cylinders * 15 }
-        requires firm { is_loose (state_of self.old) t ≡ false }
+
+
+    /// The volume of a device that is alone leaves for another's pair: frames, patches, lost marks and queued tracks are given up.
+    /// Its loose tracks stay that. It answers the volume.
+    pub fn lend(&mut self, to: DeviceNo) -> Option<V>
+        requires { self.old.pair.b.up ≡ false }
         ensures fixed { (self.new.number ≡ self.old.number) × (self.new.cylinders ≡ self.old.cylinders) }
-        ensures volume { self.new.pair ≡ self.old.pair }
         ensures half { self.new.half ≡ self.old.half }
         ensures loose { self.new.loose ≡ self.old.loose }
-        ensures state { state_of self.new ≡ given_up contents t (state_of self.old) }
+        ensures a { on_a self.new ≡ None }
+        ensures b { on_b self.new ≡ on_b self.old }
+        ensures back { result ≡ on_a self.old }
+        ensures state { state_of self.new ≡ lent_to (over (self.old.cylinders * 15) (given_up contents) (state_of self.old)) to }
     {
-        self.give_up_frame(t);
-        self.give_up_patch(t);
+        unreachable!()
     }
 
     /// Whether there are two sides.
     pub fn is_paired(&self) -> bool
         ensures { result ≡ (state_of self.now).paired }
     {
-        self.pair.is_paired()
+        unreachable!()
     }
 
     /// Whether side B is held.
     pub fn is_held(&self) -> bool
         ensures { result ≡ (state_of self.now).held }
     {
-        self.pair.held
+        unreachable!()
     }
 
     /// Whether a side is there and wasn't lost.
     pub fn is_up(&self, side: Side) -> bool
         ensures { result ≡ (side_of (state_of self.now) side).up }
     {
-        self.pair.is_up(side)
+        unreachable!()
     }
 
     /// To which device the volume is lent.
     pub fn lent_to(&self) -> Option<DeviceNo>
         ensures { result ≡ (state_of self.now).lent }
     {
-        self.pair.lent
+        unreachable!()
     }
 
     /// Whether a write is open between its two parts.
     pub fn half_open(&self) -> bool
         ensures { result ≡ is_some (state_of self.now).half }
     {
-        self.half.is_some()
+        unreachable!()
     }
 
     /// How many tracks are stale on a side.
     pub fn stale_count(&self, side: Side) -> u16
         ensures { result ≡ count_below (self.now.cylinders * 15) (stale_at (side_of (state_of self.now) side)) }
     {
-        self.pair.stale_count(side)
+        unreachable!()
     }
 
     /// The volumes of the sides.
     pub fn into_volumes(self) -> (Option<V>, Option<V>)
         ensures { result ≡ (on_a self, on_b self) }
     {
-        (self.pair.volumes.a, self.pair.volumes.b)
+        unreachable!()
     }
 }

@@ -1,8 +1,9 @@
-ghost use Rattle.std.specs.Prelude.{◌≡◌, ◌≤◌, ◌*◌, ℕ, length, true};
+ghost use Rattle.std.specs.Prelude.{◌≡◌, ◌≤◌, ◌*◌, ℕ, false, is_some, length, true, false};
 ghost use Rattle.track_cache.specs.Frames.{is_modified};
 ghost use Rattle.event_notes.specs.Loose.{is_loose_in};
 ghost use Rattle.device_store.specs.Halves.{half_below, half_is_firm};
 ghost use Rattle.device_store.specs.Queued.{are_below};
+ghost use Rattle.device_store.specs.Skeleton.{is_skeleton};
 
 use crate::HalfWrite;
 use ckd_types::{DeviceNo, Geometry, Side};
@@ -40,6 +41,7 @@ pub struct DeviceStore<V: Volume> {
     pub buffer: TrackBuffer,
     pub records: RecordRoom,
     pub edits: EditRoom,
+    pub ghost skeleton: { is_skeleton ≡ false },
     pub ghost some: { 1 ≤ cylinders },
     pub ghost most: { cylinders ≤ 64 },
     pub ghost stale_of_each: { length pair.a.stale ≡ cylinders * 15 },
@@ -48,7 +50,7 @@ pub struct DeviceStore<V: Volume> {
     pub ghost lost_of_each: { length lost ≡ cylinders * 15 },
     pub ghost loose_of_each: { length loose.loose ≡ cylinders * 15 },
     pub ghost owed_of_each: { length owed ≡ cylinders * 15 },
-    pub ghost loose_modified: { (t : ℕ) → is_loose_in loose.loose t ≡ true → is_modified frames t ≡ true },
+    pub ghost loose_modified: { is_some pair.lent ≡ false → (t : ℕ) → is_loose_in loose.loose t ≡ true → is_modified frames t ≡ true },
     pub ghost half_here: { half_below (cylinders * 15) half ≡ true },
     pub ghost half_firm: { half_is_firm loose.loose half ≡ true },
     pub ghost queue_of_device: { are_below (cylinders * 15) queue ≡ true },

@@ -32,5 +32,6 @@ pub struct DuplexPair<V: Volume> {
     pub ghost same_size: { length b.stale ≡ length a.stale },
     pub ghost a_size: { is_some volumes.a ≡ true → (view_in V.view volumes.a).tracks ≡ length a.stale },
     pub ghost b_size: { is_some volumes.b ≡ true → (view_in V.view volumes.b).tracks ≡ length a.stale },
+    pub ghost home: { is_some lent ≡ false → is_some volumes.a ≡ true },
     pub ghost away: { is_some lent ≡ true → (a.up ≡ false) × (b.up ≡ false) },
 }
