@@ -7,6 +7,7 @@ use Rattle.device_outside.specs.Interaction.{Interaction, Done, and_then}
 use Rattle.device_outside.specs.Outside.{Outside, Ran, done}
 use Rattle.device_outside.proofs.Runs.{joined}
 use Rattle.device_defs.specs.Contents.{contents}
+use Rattle.ckd_chain.specs.State.{ChainState}
 use Rattle.device_defs.specs.Device.{all_acted, event_begun, event_ended, quiet_event, event}
 use Rattle.device_defs.specs.Owed.{begun, hear, waiting_count, ended}
 use Rattle.plain_defs.specs.declared.journal.Act.{Act}
@@ -52,6 +53,14 @@ pub at_word_same : (x y : Option Running) (m n : ℕ) → option_map chain_of x 
 at_word_same None y m n chain same at = tt
 at_word_same (Some r) None m n chain same at = absurd cc
 at_word_same (Some r) (Some q) m n chain same at = let c : r.chain ≡ q.chain = cc in rw (c, same) at
+
+-- how many cylinders its chain goes by
+pub cylinders_held : (x y : Option Running) (m n : ℕ) → option_map chain_of x ≡ option_map chain_of y → m ≡ n → IfSome y (λ r. IsAtWord n r.chain) →
+    IfSome x (λ r. r.chain.fixed.cylinders ≡ m)
+cylinders_held None y m n chain same at = tt
+cylinders_held (Some r) None m n chain same at = absurd cc
+cylinders_held (Some r) (Some q) m n chain same at =
+    let c : r.chain ≡ q.chain = cc in ap (λ (z : ChainState). z.fixed.cylinders) c ∙ at.cylinders_are ∙ sym same
 
 -- an event begins without acts
 pub begun_weight : (a b : LooseView) → b.loose ≡ a.loose → b.acts ≡ [] → weight b ≡ loose_count a.loose

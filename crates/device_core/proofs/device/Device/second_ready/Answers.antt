@@ -8,14 +8,14 @@ use Rattle.device_defs.specs.Contents.{contents}
 use Rattle.device_defs.specs.Device.{with_store}
 use Rattle.device_defs.specs.Events.{second_of, second_ended, second_told, second_turn}
 use Rattle.device_defs.specs.Outcomes.{Turn, turned}
-use Rattle.event_notes.specs.Loose.{weight}
+use Rattle.event_notes.specs.Loose.{loose_count, weight}
 use Rattle.device_store.specs.State.{half_of, origin_of, state_of}
 use Rattle.device_store.proofs.Moves.{from_equal}
 use Rattle.device_core.specs.State.{device_by, device_of}
 use Rattle.device_core.proofs.Acting.{less_room}
 use Rattle.device_core.proofs.Commands.{same_running}
-use Rattle.device_core.proofs.Eventful.{acted_device}
-use Rattle.device_core.proofs.Halves.{waits_same}
+use Rattle.device_core.proofs.Eventful.{acted_device, at_word_same, cylinders_held}
+use Rattle.device_core.proofs.Halves.{none_counts, waits_same}
 use Rattle.device_core.proofs.Parts.{by_took, commands_one, ended_command, ended_other, not_opened, same_told, some_chain, some_half}
 use Rattle.device_core.proofs.Pasts.{some_open}
 use Rattle.device_core.proofs.device.Device.second_ready.Goals as goal
@@ -80,3 +80,32 @@ returns-clause-run g c =
     c.acts.ensures c.note_acts.ensures.chain))
     (ap (λ (n : ℕ). if part.done then Finished n else Unwritten n) (sym (c.second-part.ensures.track it.0 it.1))
     ∙ same_told _ _ e (c.told.ensures q) is))))
+
+pub invariant_of-self-then-part : goal.invariant_of-self-then-part
+invariant_of-self-then-part g c =
+    let old = c.args.self.now in
+    let s = c.second-part.new.self in
+    let w = weight old.store.loose in
+    let le : loose_count s.loose.loose + length c.acts.result.now ≤ w = omega (arith, c.second-part.ensures.weight, ap length c.acts.ensures) in
+    record {
+      at_word = c.end_write.ensures.word s.cylinders (cylinders_held c.note_acts.new.self.running old.past.running s.cylinders old.store.cylinders
+          c.note_acts.ensures.chain c.second-part.ensures.fixed.1 old.at_word);
+      half_waits = λ one. absurd (none_counts s.half c.second-part.ensures.half one);
+      keeps = c.end_write.ensures.keeps;
+      act_room = c.end_write.ensures.room (loose_count s.loose.loose) (c.note_acts.ensures.room (loose_count s.loose.loose)
+          (less_room (loose_count s.loose.loose + length c.acts.result.now) w old.past le c.requires.room));
+    }
+
+pub invariant_of-self-2 : goal.invariant_of-self-2
+invariant_of-self-2 g c =
+    let old = c.args.self.now in
+    let s = c.second-part.new.self in
+    let w = weight old.store.loose in
+    let le : loose_count s.loose.loose + length c.acts.result.now ≤ w = omega (arith, c.second-part.ensures.weight, ap length c.acts.ensures) in
+    record {
+      at_word = at_word_same c.note_acts.new.self.running old.past.running s.cylinders old.store.cylinders c.note_acts.ensures.chain
+          c.second-part.ensures.fixed.1 old.at_word;
+      half_waits = λ one. absurd (none_counts s.half c.second-part.ensures.half one);
+      keeps = c.note_acts.ensures.keeps;
+      act_room = c.note_acts.ensures.room (loose_count s.loose.loose) (less_room (loose_count s.loose.loose + length c.acts.result.now) w old.past le c.requires.room);
+    }
