@@ -1,6 +1,29 @@
 -- What each event keeps of where the volumes stand.
-use Rattle.std.proofs.Common.{◌≡◌, ◌∙◌, ◌+◌, ◌++◌, ℕ, zero, suc, Bool, true, false, List, [], ◌∷◌, length, Option, Some, None, is_some, arith, refl,
-    sym, ap, subst}
+use Rattle.std.proofs.Common.{
+  ◌≡◌,
+  ◌∙◌,
+  ◌+◌,
+  ◌++◌,
+  ℕ,
+  zero,
+  suc,
+  Bool,
+  true,
+  false,
+  List,
+  [],
+  ◌∷◌,
+  length,
+  Option,
+  Some,
+  None,
+  is_some,
+  arith,
+  refl,
+  sym,
+  ap,
+  subst,
+}
 use Rattle.std.specs.Prelude.{◌==◌, ◌&&◌, option_map, slice_get, if◌then◌else◌}
 use Rattle.ckd_types.specs.declared.paths.Side.{Side}
 use Rattle.ckd_types.specs.declared.paths.Side.TheVariants.{A, B}
@@ -37,7 +60,21 @@ ran_there (wrote {side = side} {v = v} {u = u} {w = w} is y r) =
     let k = side_there w side v u is in let l = ran_there r in (l.0 ∙ k.0, l.1 ∙ k.1)
 ran_there (told r y h k) = ran_there k
 
+pub map_some : {X Y : Type 0} (f : X → Y) (o : Option X) → is_some (option_map f o) ≡ is_some o
+map_some f None = refl
+map_some f (Some x) = refl
+
+and_false : (b : Bool) → (b && false) ≡ false
+and_false true = refl
+and_false false = refl
+
 -- Sums
+
+pub none_more : (n : ℕ) → 0 + n ≡ n
+none_more n = omega arith
+
+one_more : (n : ℕ) → 1 + n ≡ suc n
+one_more n = omega arith
 
 moved : (a b c d e : ℕ) → a + b ≡ c + d → (e + a) + b ≡ (e + c) + d
 moved a b c d e is = omega (arith, is)
@@ -53,10 +90,6 @@ module _ {V : Type 0} {G : Ghosts V} where
       ∙ ap (λ (o : Option ℕ). record { number = x.store.number; lent = o; a = is_some (on_a y.store); b = is_some (on_b y.store) }) lent
       ∙ ap (λ (t : Bool). record { number = x.store.number; lent = x.store.pair.lent; a = t; b = is_some (on_b y.store) }) a
       ∙ ap (λ (t : Bool). record { number = x.store.number; lent = x.store.pair.lent; a = is_some (on_a x.store); b = t }) b
-
-  pub map_some : {X Y : Type 0} (f : X → Y) (o : Option X) → is_some (option_map f o) ≡ is_some o
-  map_some f None = refl
-  map_some f (Some x) = refl
 
   -- by what its sides tell
   pub asked_sides : (x y : Device V G) → y.store.number ≡ x.store.number → y.store.pair.lent ≡ x.store.pair.lent →
@@ -97,7 +130,7 @@ module _ {V : Type 0} {G : Ghosts V} where
   long_by : (y d : Device V G) (ds : List (Device V G)) (n : ℕ) (b : Bool) → length (all_sides (put_at ds n y)) ≡ length (all_sides ds) →
       length (all_sides (if b then y ∷ ds else d ∷ put_at ds n y)) ≡ length (all_sides (d ∷ ds))
   long_by y d ds n true rest = refl
-  long_by y d ds n false rest = ap (λ (k : ℕ). 1 + k) rest
+  long_by y d ds n false rest = ap (λ (k : ℕ). suc k) rest
 
   pub put_long : (xs : List (Device V G)) (n : ℕ) (y : Device V G) → length (all_sides (put_at xs n y)) ≡ length (all_sides xs)
   put_long [] n y = refl
@@ -107,10 +140,6 @@ module _ {V : Type 0} {G : Ghosts V} where
 
   none_lent : (n : ℕ) (x : Device V G) → IsFresh x → lent_here n (sides_of x) ≡ 0
   none_lent n x f = ap (λ (o : Option ℕ). one_if (is_lent_to o n)) f.lent
-
-  and_false : (b : Bool) → (b && false) ≡ false
-  and_false true = refl
-  and_false false = refl
 
   none_paired : (n : ℕ) (x : Device V G) → IsFresh x → paired_here n (sides_of x) ≡ 0
   none_paired n x f =
@@ -122,7 +151,8 @@ module _ {V : Type 0} {G : Ghosts V} where
   away_by : (xs : List (Device V G)) → AllFresh xs → total away_here (all_sides xs) ≡ 0
   away_by [] all = refl
   away_by (x ∷ xs) all =
-      ap (λ (o : Option ℕ). one_if (is_some o && is_some (on_a x.store)) + total away_here (all_sides xs)) all.0.lent ∙ away_by xs all.1
+      ap (λ (o : Option ℕ). one_if (is_some o && is_some (on_a x.store)) + total away_here (all_sides xs)) all.0.lent
+      ∙ none_more (total away_here (all_sides xs)) ∙ away_by xs all.1
 
   mates_by : (n : ℕ) (xs : List (Device V G)) → AllFresh xs → total (lent_here n) (all_sides xs) ≡ total (paired_here n) (all_sides xs)
   mates_by n [] all = refl
@@ -134,6 +164,7 @@ module _ {V : Type 0} {G : Ghosts V} where
   volumes_by [] all = refl
   volumes_by (x ∷ xs) all =
       ap (λ (k : ℕ). k + total volumes_here (all_sides xs)) (one_volume x all.0) ∙ ap (λ (k : ℕ). 1 + k) (volumes_by xs all.1)
+      ∙ one_more (length (all_sides xs))
 
   pub fresh_accounted : (xs : List (Device V G)) → AllFresh xs → AreAccounted (all_sides xs)
   fresh_accounted xs all = record { away = away_by xs all; mates = λ n. mates_by n xs all; volumes = volumes_by xs all }

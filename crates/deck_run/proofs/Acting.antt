@@ -7,8 +7,22 @@ use Rattle.ckd_types.specs.declared.channel.CommandEnd.{CommandEnd}
 use Rattle.plain_defs.specs.declared.journal.Act.{Act}
 use Rattle.plain_defs.specs.declared.journal.How.TheVariants.{Cut}
 use Rattle.plain_defs.specs.declared.journal.Item.TheVariants as items
-use Rattle.plain_defs.specs.History.{History, OpenEntry, checked, cut_by, emptied, ended, entry_of, lost_power, lost_power_in, put, reset, reset_in,
-    resets_of, started}
+use Rattle.plain_defs.specs.History.{
+  History,
+  OpenEntry,
+  checked,
+  cut_by,
+  emptied,
+  ended,
+  entry_of,
+  lost_power,
+  lost_power_in,
+  put,
+  reset,
+  reset_in,
+  resets_of,
+  started,
+}
 use Rattle.plain_defs.specs.Legal.{is_started, is_used}
 use Rattle.device_defs.specs.Device.{all_acted}
 use Rattle.run_report.proofs.ActsCome.{acts_both, all_acts, came, checked_acts, ended_acts, no_act, same_program}

@@ -1,6 +1,5 @@
 -- How many calls came to a count that didn't stop, and the items behind the first ones.
-use Rattle.std.proofs.Common.{◌≡◌, ◌≢◌, ◌≤◌, ◌<◌, ◌∙◌, ◌+◌, ◌-◌, ◌^◌, arith, ℕ, zero, suc, List, [], ◌∷◌, drop, length, min, refl, sym, ap, subst}
-use Rattle.std.proofs.lemmas.Bool.Decides.{nat_tests}
+use Rattle.std.proofs.Common.{◌≡◌, ◌≢◌, ◌≤◌, ◌<◌, ◌∙◌, ◌+◌, ◌-◌, ◌^◌, arith, ℕ, zero, suc, List, [], ◌∷◌, drop, length, refl, subst}
 use Rattle.device_outside.specs.Volume as volumes
 use Rattle.device_outside.specs.Volume.{counted}
 use Rattle.subsystem_defs.specs.Beside.{behind_first}

@@ -1,6 +1,34 @@
 -- The lines at the end of a run, by the devices in code.
-use Rattle.std.proofs.Common.{◌≡◌, ◌≤◌, ◌<◌, ◌∙◌, ◌+◌, ◌-◌, ◌*◌, ◌++◌, arith, ℕ, zero, suc, Bool, true, false, List, [], ◌∷◌, Option, Some, None,
-    cond, length, map, refl, sym, ap, append_assoc}
+use Rattle.std.proofs.Common.{
+  ◌≡◌,
+  ◌≤◌,
+  ◌<◌,
+  ◌∙◌,
+  ◌+◌,
+  ◌-◌,
+  ◌*◌,
+  ◌++◌,
+  arith,
+  ℕ,
+  zero,
+  suc,
+  Bool,
+  true,
+  false,
+  List,
+  [],
+  ◌∷◌,
+  Option,
+  Some,
+  None,
+  cond,
+  length,
+  map,
+  refl,
+  sym,
+  ap,
+  append_assoc,
+}
 use Rattle.std.specs.Prelude.{if◌then◌else◌, option_map, slice_get, slice_index_or, drop}
 use Rattle.std.specs.List.{flat_map, range_with_len}
 use Rattle.std.proofs.lemmas.List.{append-nil}

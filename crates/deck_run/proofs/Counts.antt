@@ -30,13 +30,50 @@ use Rattle.device_defs.specs.declared.answers.Choice.TheVariants as choices
 use Rattle.device_defs.specs.declared.answers.Did.{Did}
 use Rattle.device_defs.specs.declared.answers.Did.TheVariants.{Recovered, Destaged}
 use Rattle.device_defs.specs.Background as works
-use Rattle.device_defs.specs.Background.{saved_by, saving, saved, recovered_image, recovered_bytes, recover, copied, copy_read, copies_to, copy_by,
-    staged_image, staged_bytes, stage, to_destage, destage_first, stage_first, to_copy, copy_first, to_recover, recover_first, work}
+use Rattle.device_defs.specs.Background.{
+  saved_by,
+  saving,
+  saved,
+  recovered_image,
+  recovered_bytes,
+  recover,
+  copied,
+  copy_read,
+  copies_to,
+  copy_by,
+  staged_image,
+  staged_bytes,
+  stage,
+  to_destage,
+  destage_first,
+  stage_first,
+  to_copy,
+  copy_first,
+  to_recover,
+  recover_first,
+  work,
+}
 use Rattle.device_defs.specs.Choosing as choosing
 use Rattle.device_defs.specs.Choosing.{choose, slot_by, fast_by, fast_or_through, choose_loose, choose_firm, may_be_fast}
 use Rattle.device_defs.specs.Command as commands
-use Rattle.device_defs.specs.Command.{Went, Over, On, came_of_write, went_by, looked, look, goes_on, follow, came_out, on_tracks, answered_by,
-    command_at, command_by, command, has_loss}
+use Rattle.device_defs.specs.Command.{
+  Went,
+  Over,
+  On,
+  came_of_write,
+  went_by,
+  looked,
+  look,
+  goes_on,
+  follow,
+  came_out,
+  on_tracks,
+  answered_by,
+  command_at,
+  command_by,
+  command,
+  has_loss,
+}
 use Rattle.device_defs.specs.Contents.{Contents}
 use Rattle.device_defs.specs.Cutting as cutting
 use Rattle.device_defs.specs.Cutting.{origin_cut, half_cut, reset_by, reset}
@@ -48,21 +85,107 @@ use Rattle.device_defs.specs.Editing.{whole, at_once, through_by, through, write
 use Rattle.device_defs.specs.Events as happened
 use Rattle.device_defs.specs.Events.{background, lose, losing, lost_by, with_loss}
 use Rattle.device_defs.specs.Image as images
-use Rattle.device_defs.specs.Image.{is_sequential, read_counted, image_of, Imaged, Has, NoBytes, BadTrack, Got, ahead, queued, first_read, read_b,
-    second_read, level_bytes, filled, granted, loaded, delivered, missed, miss, clean_image, image_by, image}
+use Rattle.device_defs.specs.Image.{
+  is_sequential,
+  read_counted,
+  image_of,
+  Imaged,
+  Has,
+  NoBytes,
+  BadTrack,
+  Got,
+  ahead,
+  queued,
+  first_read,
+  read_b,
+  second_read,
+  level_bytes,
+  filled,
+  granted,
+  loaded,
+  delivered,
+  missed,
+  miss,
+  clean_image,
+  image_by,
+  image,
+}
 use Rattle.device_defs.specs.Losses as losses
-use Rattle.device_defs.specs.Losses.{settled, settled_but, by_frame, gives_up, stale_everywhere, call_failed, over, down, side_lost, without_frame,
-    without_patch, cache_lost, patch_lost, store_lost, firm_told, all_firm_told}
+use Rattle.device_defs.specs.Losses.{
+  settled,
+  settled_but,
+  by_frame,
+  gives_up,
+  stale_everywhere,
+  call_failed,
+  over,
+  down,
+  side_lost,
+  without_frame,
+  without_patch,
+  cache_lost,
+  patch_lost,
+  store_lost,
+  firm_told,
+  all_firm_told,
+}
 use Rattle.device_defs.specs.Memory.{had_by}
 use Rattle.device_defs.specs.Outcomes.{Turn, ends_with, settles, checks, usage_of, turned_by}
 use Rattle.device_defs.specs.Owed as owed
-use Rattle.device_defs.specs.Owed.{is_owed, is_modified, is_clean, dropped, heard, hear, modified_told, dropped_told, freed_told, settles_debt,
-    track_told, all_told, waiting_told, ended, waiting_count}
-use Rattle.device_defs.specs.Store.{Origin, OfCommand, OfCut, OfBackground, HalfWrite, Store, tracks_of, takes_b, frame_at, patch_at, is_lost,
-    is_loose, has_loose, has_level, level_at, half_is, owed_at, with_frame, with_stale}
+use Rattle.device_defs.specs.Owed.{
+  is_owed,
+  is_modified,
+  is_clean,
+  dropped,
+  heard,
+  hear,
+  modified_told,
+  dropped_told,
+  freed_told,
+  settles_debt,
+  track_told,
+  all_told,
+  waiting_told,
+  ended,
+  waiting_count,
+}
+use Rattle.device_defs.specs.Store.{
+  Origin,
+  OfCommand,
+  OfCut,
+  OfBackground,
+  HalfWrite,
+  Store,
+  tracks_of,
+  takes_b,
+  frame_at,
+  patch_at,
+  is_lost,
+  is_loose,
+  has_loose,
+  has_level,
+  level_at,
+  half_is,
+  owed_at,
+  with_frame,
+  with_stale,
+}
 use Rattle.device_defs.specs.Writing as writing
-use Rattle.device_defs.specs.Writing.{firm_first, unwritten, alone_b, failed_a, first_a, write_first, tried_b, write_second, write_counted,
-    slot_freed, unpatched, write_done, opened as half_open}
+use Rattle.device_defs.specs.Writing.{
+  firm_first,
+  unwritten,
+  alone_b,
+  failed_a,
+  first_a,
+  write_first,
+  tried_b,
+  write_second,
+  write_counted,
+  slot_freed,
+  unpatched,
+  write_done,
+  opened as half_open,
+}
 use Rattle.deck_run.proofs.Makes.{Makes, m_done, m_try, m_ask, m_read, m_write, m_firm, m_before, m_if, m_then}
 use Rattle.device_defs.specs.Events.{command_ended, second, second_ended, second_of, second_turn}
 use Rattle.device_defs.specs.Second as parts

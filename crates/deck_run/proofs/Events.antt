@@ -41,8 +41,27 @@ use Rattle.subsystem_defs.specs.declared.end.OrderFault.{OrderFault}
 use Rattle.subsystem_defs.specs.declared.event.Event.{Event}
 use Rattle.subsystem_defs.specs.declared.event.Event.TheVariants as events
 use Rattle.subsystem_defs.specs.Deeds as deeds
-use Rattle.subsystem_defs.specs.Deeds.{Ends, Becomes, Asks, Each, Repairs, Lends, ends_by, may_end_by, ends_done, end_of, is_own, start_by, starts,
-    step, back, on_device, order, seconds, deed}
+use Rattle.subsystem_defs.specs.Deeds.{
+  Ends,
+  Becomes,
+  Asks,
+  Each,
+  Repairs,
+  Lends,
+  ends_by,
+  may_end_by,
+  ends_done,
+  end_of,
+  is_own,
+  start_by,
+  starts,
+  step,
+  back,
+  on_device,
+  order,
+  seconds,
+  deed,
+}
 use Rattle.subsystem_defs.specs.Happening.{happens}
 use Rattle.subsystem_defs.specs.Refusals.{fail_fault, resume_fault, suspend_fault}
 use Rattle.subsystem_defs.specs.Subsystem as runs
@@ -131,7 +150,7 @@ step_leaves e d o chain running at own =
     subst (λ (x : Option ChainState). IfSome x (λ (c : ChainState). (c.fixed.geometry ≡ d.store.geometry) × GivesAll c.ccws)) at own.chain in
     s_then
     (command_stays contents d.store.geometry d.store.cylinders (d.store.lent, d.store.device) chain.ccws chain.fixed d.plans d.history d
-        (subst Answers (sym running) tt)
+    (subst Answers (sym running) tt)
     (subst Answers (sym at) tt) (refl, (refl, refl)) refl (subst (HasOf chain.ccws chain.fixed) (sym at) (refl, refl)) refl)
     (λ y a l. s_done (
       own_of chain.ccws chain.fixed d y mine.0 mine.1 own.plans l.0.is l.0.plans_are l.0.chain,
@@ -159,7 +178,7 @@ back_by e d (Some chain) at own =
     subst (λ (x : Option ChainState). IfSome x (λ (c : ChainState). (c.fixed.geometry ≡ d.store.geometry) × GivesAll c.ccws)) at own.chain in
     s_then
     (background_stays contents d.store.geometry d.store.cylinders (d.store.lent, d.store.device) chain.ccws chain.fixed d.plans d.history d
-        (refl, (refl, refl)) refl
+    (refl, (refl, refl)) refl
     (subst (HasOf chain.ccws chain.fixed) (sym at) (refl, refl)) refl)
     (λ y a l. s_done (
       own_of chain.ccws chain.fixed d y mine.0 mine.1 own.plans l.0.is l.0.plans_are l.0.chain,
@@ -171,7 +190,7 @@ second_by e d None at own =
     let fixed : Fixed = record { geometry = d.store.geometry; cylinders = d.store.cylinders; number = 0 } in
     s_then
     (second_stays contents d.store.geometry d.store.cylinders (d.store.lent, d.store.device) [] fixed d.plans d.history d (refl, (refl, refl)) refl
-        (subst (HasOf [] fixed) (sym at) tt) refl)
+    (subst (HasOf [] fixed) (sym at) tt) refl)
     (λ y a l. s_done (
       own_of [] fixed d y refl (λ i k m h. absurd (omega (arith, h))) own.plans l.is l.plans_are l.chain,
       new_are d.history y.history y.store.acts l.acts,
@@ -181,7 +200,7 @@ second_by e d (Some chain) at own =
     subst (λ (x : Option ChainState). IfSome x (λ (c : ChainState). (c.fixed.geometry ≡ d.store.geometry) × GivesAll c.ccws)) at own.chain in
     s_then
     (second_stays contents d.store.geometry d.store.cylinders (d.store.lent, d.store.device) chain.ccws chain.fixed d.plans d.history d
-        (refl, (refl, refl)) refl
+    (refl, (refl, refl)) refl
     (subst (HasOf chain.ccws chain.fixed) (sym at) (refl, refl)) refl)
     (λ y a l. s_done (
       own_of chain.ccws chain.fixed d y mine.0 mine.1 own.plans l.is l.plans_are l.chain,
@@ -234,7 +253,7 @@ lose_owns d loss (Some chain) at own =
     subst (λ (x : Option ChainState). IfSome x (λ (c : ChainState). (c.fixed.geometry ≡ d.store.geometry) × GivesAll c.ccws)) at own.chain in
     surely_so (λ y a l. (own_of chain.ccws chain.fixed d y mine.0 mine.1 own.plans l.0.is l.0.plans_are l.0.chain, l.1))
     (lose_stays contents d.store.geometry d.store.cylinders (d.store.lent, d.store.device) chain.ccws chain.fixed d.plans d.history d loss
-        (refl, (refl, refl)) refl
+    (refl, (refl, refl)) refl
     (subst (HasOf chain.ccws chain.fixed) (sym at) (refl, refl)) refl)
 
 lose_by : (e : Event) (d : DefinedDevice) (loss : Loss) → ((y : DefinedDevice) → acts_by e answers.Done y ≡ y.store.acts) →
@@ -319,7 +338,7 @@ module _ {V : Type 0} {G : Ghosts V} where
   good_command e n x None at is own =
       cond_both (is_some (device_of x).history.running) (Asks (device_of x) (may_end_by answers.Stepped (command contents (device_of x)))) (Ends answers.Idle)
       (Good e n (device_of x)) (λ e. absurd (let none : is_some (device_of x).history.running
-          ≡ false = ap (λ (o : Option Running). is_some (option_map open_of o)) at in cc))
+      ≡ false = ap (λ (o : Option Running). is_some (option_map open_of o)) at in cc))
       (λ _. λ y. refl)
   good_command e n x (Some r) at is own =
       cond_both (is_some (device_of x).history.running) (Asks (device_of x) (may_end_by answers.Stepped (command contents (device_of x)))) (Ends answers.Idle)
@@ -365,7 +384,7 @@ module _ {V : Type 0} {G : Ghosts V} where
   good n x xs pool (events.Reset path d) at own on =
       let here = found_in xs d x (ap (device_at xs) on ∙ at) in
       subst (λ (o : Option DefinedDevice). Good (events.Reset path d) n (device_of x)
-          (on_device o (λ y. Asks y (ends_by ends_done (reset contents y path))))) (sym here)
+      (on_device o (λ y. Asks y (ends_by ends_done (reset contents y path))))) (sym here)
       (number_found xs n x at, reset_by d (device_of x) path (device_of x).chain refl own)
   good n x xs pool events.Power at own on = absurd on
   good n x xs pool events.FailCache at own on = absurd on
@@ -570,7 +589,7 @@ module _ {V : Type 0} {G : Ghosts V} where
               (subst (λ (l : List (Device V G)). AreKnown (all_stood l) ks) put behind);
           acts = ap (λ (z : Device V G). new_acts (device_of z).history (device_of y).history) (some_same (sym at ∙ (has_one old.devices.items n here).found))
               ∙ ap (λ (z : Device V G). new_acts (device_of (has_one old.devices.items n here).device).history (device_of z).history)
-                  (some_same (sym now ∙ so.stands))
+              (some_same (sym now ∙ so.stands))
               ∙ so.acts ∙ ap (λ (z : Device V G). acts_by e so.end (device_of z)) (some_same (sym so.stands ∙ now))
               ∙ ap (λ (end : ends.EventEnd). acts_by e end (device_of y)) (sym h.0);
           reads = ap (λ (k : Counts). k.reads) (sym is.is.counts) ∙ ap (λ (m : runs.Mounted). m.device.store.counts.reads) mine ∙ counted.reads

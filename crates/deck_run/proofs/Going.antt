@@ -1,6 +1,36 @@
 -- One step, and one line, of a run on, with the lines that it tells.
-use Rattle.std.proofs.Common.{◌≡◌, ◌≤◌, ◌<◌, ◌∙◌, ◌+◌, ◌-◌, ◌++◌, add-one, arith, ℕ, zero, suc, Bool, true, false, List, [], ◌∷◌, Option, Some, None,
-    length, drop, get_or, map, refl, sym, ap, subst, append_assoc}
+use Rattle.std.proofs.Common.{
+  ◌≡◌,
+  ◌≤◌,
+  ◌<◌,
+  ◌∙◌,
+  ◌+◌,
+  ◌-◌,
+  ◌++◌,
+  add-one,
+  arith,
+  ℕ,
+  zero,
+  suc,
+  Bool,
+  true,
+  false,
+  List,
+  [],
+  ◌∷◌,
+  Option,
+  Some,
+  None,
+  length,
+  drop,
+  get_or,
+  map,
+  refl,
+  sym,
+  ap,
+  subst,
+  append_assoc,
+}
 use Rattle.std.specs.Prelude.{◌==◌, ◌||◌, if◌then◌else◌, is_some, option_map}
 use Rattle.std.proofs.lemmas.List.{append-nil, drop_all}
 use Rattle.plain_defs.specs.History.{OpenEntry}

@@ -27,9 +27,12 @@ use Rattle.std.proofs.Common.{
   arith,
   zero,
   suc,
+  take,
+  append_assoc,
 }
 use Rattle.std.specs.Prelude.{◌&&◌, ◌==◌, nat_lt}
-use Rattle.std.proofs.lemmas.List.{at_drop_more, at_drop_all}
+use Rattle.std.specs.List.{flat_map}
+use Rattle.std.proofs.lemmas.List.{append-nil, at_drop_more, at_drop_all, take_all, take_more}
 use Rattle.deck_text.specs.declared.line.DeviceLine.{DeviceLine}
 use Rattle.deck_text.specs.declared.line.FaultLine.{FaultLine}
 use Rattle.subsystem_core.specs.Places.{are_rising, is_before}
@@ -89,3 +92,28 @@ numbers_rise (d ∷ ds) last all =
 pub mapped_more : {A B : Type 0} (f : A → B) (xs : List A) (x : A) → map f (xs ++ x ∷ []) ≡ map f xs ++ f x ∷ []
 mapped_more f [] x = refl
 mapped_more f (y ∷ xs) x = ap (λ l. f y ∷ l) (mapped_more f xs x)
+
+-- the items so far, and all of them
+pub mapped_on : {A B : Type 0} (f : A → B) (xs : List A) (i : ℕ) (x : A) (olds news : List B) (y : B) → i < length xs → x ≡ get_or xs i x → y ≡ f x →
+    olds ≡ map f (take i xs) → news ≡ olds ++ y ∷ [] → news ≡ map f (take (i + 1) xs)
+mapped_on {A} {B} f xs i x olds news y within is made before now =
+    now ∙ ap (λ (l : List B). l ++ y ∷ []) before ∙ ap (λ (z : B). map f (take i xs) ++ z ∷ []) made ∙ sym (mapped_more f (take i xs) x)
+    ∙ ap (map f) (ap (λ (z : A). take i xs ++ z ∷ []) is ∙ sym (take_more xs i x within))
+
+pub mapped_all : {A B : Type 0} (f : A → B) (xs : List A) (i : ℕ) (news : List B) → length xs ≤ i → news ≡ map f (take i xs) → news ≡ map f xs
+mapped_all f xs i news past before = before ∙ ap (map f) (take_all i xs past)
+
+flat_one : {A B : Type 0} (f : A → List B) (xs : List A) (x : A) → flat_map f (xs ++ x ∷ []) ≡ flat_map f xs ++ f x
+flat_one f [] x = append-nil (f x)
+flat_one {A} {B} f (y ∷ xs) x = ap (λ (l : List B). f y ++ l) (flat_one f xs x) ∙ sym (append_assoc (f y) (flat_map f xs) (f x))
+
+pub flat_on : {A B : Type 0} (f : A → List B) (xs : List A) (i : ℕ) (x : A) (first olds news : List B) → i < length xs → x ≡ get_or xs i x →
+    olds ≡ first ++ flat_map f (take i xs) → news ≡ olds ++ f x → news ≡ first ++ flat_map f (take (i + 1) xs)
+flat_on {A} {B} f xs i x first olds news within is before now =
+    now ∙ ap (λ (l : List B). l ++ f x) before ∙ append_assoc first (flat_map f (take i xs)) (f x)
+    ∙ ap (λ (l : List B). first ++ l) (sym (flat_one f (take i xs) x)
+    ∙ ap (flat_map f) (ap (λ (z : A). take i xs ++ z ∷ []) is ∙ sym (take_more xs i x within)))
+
+pub flat_all : {A B : Type 0} (f : A → List B) (xs : List A) (i : ℕ) (first news : List B) → length xs ≤ i →
+    news ≡ first ++ flat_map f (take i xs) → news ≡ first ++ flat_map f xs
+flat_all {A} {B} f xs i first news past before = before ∙ ap (λ (l : List A). first ++ flat_map f l) (take_all i xs past)

@@ -1,5 +1,30 @@
 -- What is opened stands as a run has it.
-use Rattle.std.proofs.Common.{◌≡◌, ◌<◌, ◌≤◌, ◌+◌, ◌∙◌, ◌++◌, ◌∷◌, [], length, map, take, ℕ, true, false, List, Some, None, refl, sym, ap, subst, arith}
+use Rattle.std.proofs.Common.{
+  ◌≡◌,
+  ◌<◌,
+  ◌≤◌,
+  ◌+◌,
+  ◌∙◌,
+  ◌++◌,
+  ◌∷◌,
+  [],
+  length,
+  map,
+  take,
+  ℕ,
+  true,
+  false,
+  List,
+  Option,
+  Some,
+  None,
+  refl,
+  sym,
+  ap,
+  subst,
+  arith,
+}
+use Rattle.std.specs.Prelude.{option_map}
 use Rattle.std.proofs.lemmas.Bool.Decides.{nat_tests}
 use Rattle.std.proofs.lemmas.List.{length-take-le}
 use Rattle.ckd_types.specs.declared.geometry.Geometry.{Geometry}
@@ -23,6 +48,7 @@ use Rattle.subsystem_core.specs.Devices.{number_of, numbers_of}
 use Rattle.subsystem_core.specs.declared.subsystem.Subsystem.{Subsystem}
 use Rattle.subsystem_defs.specs.Decks.{failing_of, opened_device}
 use Rattle.subsystem_defs.specs.Subsystem as defs
+use Rattle.subsystem_defs.specs.Subsystem.{Mounted}
 use Rattle.subsystem_laws.specs.WholeStood.{opened, Stood, IsMounted, AreMounted, no_more}
 use Rattle.subsystem_laws.proofs.WholeOrders.{new_mounted}
 use Rattle.subsystem_laws.proofs.WholeSlots.{one_mounted}

@@ -25,6 +25,12 @@ use Rattle.deck_run.proofs.Telling.{AreKnown, HavePasts, none_came}
 abbrev pub IsQuiet : runs.Subsystem → Happened → Type 0
 IsQuiet s h = (h.before ≡ s) × ((h.reads ≡ 0) × (h.writes ≡ 0))
 
+-- recorded where room was made before
+pub order_told : (order : Order) (end : ends.EventEnd) (told room more here : List ReportLine) → room ≡ told →
+    more ≡ room ++ lines.Order order (order_answer end) ∷ [] → here ≡ lines.Order order (order_answer end) ∷ [] → more ≡ told ++ here
+order_told order end told room more here roomy is line =
+    is ∙ ap (λ (l : List ReportLine). l ++ lines.Order order (order_answer end) ∷ []) roomy ∙ ap (λ (l : List ReportLine). told ++ l) (sym line)
+
 module _ {V : Type 0} {G : Ghosts V} where
   pub ordered_tells : (asked : Asked) (o : Happened) (run : runs.Subsystem) (order : Order) (end : ends.EventEnd) (xs ys : List (Device V G)) →
       IsQuiet run o → o.end ≡ end →
@@ -47,9 +53,3 @@ module _ {V : Type 0} {G : Ghosts V} where
     mounted = subst (λ (q : Shared). AreMounted q.pool (all_stood new.devices.items) s.mounted) (sym same)
         (subst (λ (l : List Stood). AreMounted p.pool l s.mounted) (sym are) mounted);
   }
-
-  -- recorded where room was made before
-  pub order_told : (order : Order) (end : ends.EventEnd) (told room more here : List ReportLine) → room ≡ told →
-      more ≡ room ++ lines.Order order (order_answer end) ∷ [] → here ≡ lines.Order order (order_answer end) ∷ [] → more ≡ told ++ here
-  order_told order end told room more here roomy is line =
-      is ∙ ap (λ (l : List ReportLine). l ++ lines.Order order (order_answer end) ∷ []) roomy ∙ ap (λ (l : List ReportLine). told ++ l) (sym line)

@@ -1,6 +1,6 @@
 -- A pair is made: what it comes to in a run, and what is told of it.
 use Rattle.std.proofs.Common.{◌≡◌, ◌∙◌, ◌+◌, ℕ, Bool, true, false, List, [], ◌∷◌, Option, Some, None, is_some, arith, refl, sym, ap, subst}
-use Rattle.std.specs.Prelude.{◌==◌, ◌&&◌, not, option_map, IfSome, if◌then◌else◌}
+use Rattle.std.specs.Prelude.{◌==◌, ◌&&◌, option_map, IfSome, if◌then◌else◌}
 use Rattle.std.proofs.lemmas.Bool.{eqb-true}
 use Rattle.std.proofs.lemmas.Bool.Decides.{nat_tests}
 use Rattle.ckd_types.specs.Fixed.{Fixed}
@@ -40,7 +40,7 @@ use Rattle.subsystem_laws.specs.WholeComes.{subsystem_of, IsWhatCame}
 use Rattle.subsystem_laws.specs.WholeStood as stood
 use Rattle.subsystem_laws.specs.WholeStood.{Stood}
 use Rattle.subsystem_laws.proofs.WholeHappens.{event_so}
-use Rattle.subsystem_laws.proofs.WholeLends.{first_none, where_none}
+use Rattle.subsystem_defs.proofs.Unrefused.{first_none, where_none}
 use Rattle.deck_run.specs.Ordered.{IsOrdered}
 use Rattle.deck_run.specs.Owning.{AllOwn, AreOwn, ChainsStand, GivesAll, IsOwn}
 use Rattle.deck_run.specs.Sides.{AreAccounted, Sides, all_sides, away_here, lent_here, one_if, paired_here, sides_of, total, volumes_here}
@@ -368,7 +368,7 @@ module _ {V : Type 0} {G : Ghosts V} where
           stands = ap all_stood j.stands ∙ put_stood between n j.second
               ∙ ap (λ (s : Stood). stood.put_at (all_stood between) n s) second_is
               ∙ ap (λ (l : List Stood). stood.put_at l n
-                  (record { device = join (device_of j.first); a = option_map G.view (on_a j.first.store); b = Some (G.view j.volume) }))
+              (record { device = join (device_of j.first); a = option_map G.view (on_a j.first.store); b = Some (G.view j.volume) }))
               (sym put_is);
         }
 

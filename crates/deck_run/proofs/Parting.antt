@@ -1,6 +1,30 @@
 -- A pair is taken apart: what it comes to in a run, and what is told of it.
-use Rattle.std.proofs.Common.{◌≡◌, ◌∙◌, ◌+◌, ◌*◌, ◌≤◌, ℕ, zero, suc, Bool, true, false, List, [], ◌∷◌, length, Option, Some, None, is_some, arith,
-    refl, sym, ap, subst}
+use Rattle.std.proofs.Common.{
+  ◌≡◌,
+  ◌∙◌,
+  ◌+◌,
+  ◌*◌,
+  ◌≤◌,
+  ℕ,
+  zero,
+  suc,
+  Bool,
+  true,
+  false,
+  List,
+  [],
+  ◌∷◌,
+  length,
+  Option,
+  Some,
+  None,
+  is_some,
+  arith,
+  refl,
+  sym,
+  ap,
+  subst,
+}
 use Rattle.std.specs.Prelude.{◌==◌, ◌&&◌, not, option_map, slice_get, if◌then◌else◌}
 use Rattle.std.proofs.lemmas.Bool.{eqb-true}
 use Rattle.track_table.specs.Tracks.{count_below}
@@ -17,7 +41,7 @@ use Rattle.device_core.specs.State.{DefinedDevice, device_of}
 use Rattle.report_text.specs.declared.order.Order.TheVariants as orders
 use Rattle.subsystem_core.specs.declared.end.EventEnd.{EventEnd}
 use Rattle.subsystem_core.specs.declared.subsystem.Subsystem.{Subsystem}
-use Rattle.subsystem_core.specs.Comes.{IsRestored, IsSplit, Parts, Restored, nowhere, here, behind, Unpaired, UnpairedBy}
+use Rattle.subsystem_core.specs.Comes.{IsRestored, IsSplit, Parts, Restored, none_was_lent, this_was_lent, another_was_lent, Unpaired, UnpairedBy}
 use Rattle.subsystem_core.specs.Devices.{device_at, put_at}
 use Rattle.subsystem_core.specs.Seats.{Seat, cylinders_at, seat_of, seats_of}
 use Rattle.subsystem_core.proofs.Found.{number_found}
@@ -41,7 +65,7 @@ use Rattle.deck_run.specs.Owning.{AllOwn, AreOwn, IsOwn}
 use Rattle.deck_run.specs.Sides.{AreAccounted, Sides, all_sides, away_here, lent_here, one_if, paired_here, sides_of, total, volumes_here}
 use Rattle.deck_run.specs.Standing.{StandsAs, all_stood, stood_of}
 use Rattle.deck_run.specs.Sweeping.{order_end}
-use Rattle.deck_run.proofs.Accounted.{put_long, put_sum}
+use Rattle.deck_run.proofs.Accounted.{none_more, put_long, put_sum}
 use Rattle.deck_run.proofs.Acting.{NothingCame, came_fresh, came_none}
 use Rattle.deck_run.proofs.Found.{own_at, own_put, put_stood, stood_found}
 use Rattle.deck_run.proofs.Ordered.{IsQuiet, ordered_tells, stands_by}
@@ -109,6 +133,12 @@ back_one f g l k q p e h same = omega (arith, e, h, same)
 one_away : (f g h i l k q : ℕ) → k + f ≡ l + g → q + h ≡ k + i → f ≡ g + 1 → i ≡ h + 1 → q ≡ l
 one_away f g h i l k q e o gone came = omega (arith, e, o, gone, came)
 
+swapped : (x y r : ℕ) → (y + r) + x ≡ (x + r) + y
+swapped x y r = omega arith
+
+further : (a b c d e : ℕ) → a + b ≡ c + d → (e + a) + b ≡ (e + c) + d
+further a b c d e is = omega (arith, is)
+
 no_mate : (f g l k p q : ℕ) → k + f ≡ l + g → f ≡ g + 1 → p ≡ l → q ≡ 0 → q ≡ p → ⊥
 no_mate f g l k p q e more same none is = omega (arith, e, more, same, none, is)
 
@@ -125,41 +155,35 @@ module _ {V : Type 0} {G : Ghosts V} where
         ((f : Sides → ℕ) → total f (all_sides ys) + f (sides_of x) ≡ total f (all_sides xs) + f (sides_of y)) →
         length (all_sides ys) ≡ length (all_sides xs) → Mate n volume xs ys
 
-  swapped : (x y r : ℕ) → (y + r) + x ≡ (x + r) + y
-  swapped x y r = omega arith
-
-  further : (a b c d e : ℕ) → a + b ≡ c + d → (e + a) + b ≡ (e + c) + d
-  further a b c d e is = omega (arith, is)
-
   more_mate : (n : ℕ) (volume : V) (x : Device V G) (xs ys : List (Device V G)) → is_lent_to x.store.pair.lent n ≡ false → Mate n volume xs ys →
       Mate n volume (x ∷ xs) (x ∷ ys)
   more_mate n volume x xs ys off (no_mate_here none) =
-      no_mate_here (ap (λ (b : Bool). one_if b + total (lent_here n) (all_sides xs)) off ∙ none)
+      no_mate_here (ap (λ (b : Bool). one_if b + total (lent_here n) (all_sides xs)) off ∙ none_more (total (lent_here n) (all_sides xs)) ∙ none)
   more_mate n volume x xs ys off (a_mate u v lent is sums long) =
       a_mate u v lent is
       (λ f. further (total f (all_sides ys)) (f (sides_of u)) (total f (all_sides xs)) (f (sides_of v)) (f (sides_of x)) (sums f))
       (ap (λ (k : ℕ). suc k) long)
 
   mate : (n : ℕ) (volume : V) (xs ys : List (Device V G)) → Restored n volume xs ys → Mate n volume xs ys
-  mate n volume [] [] nowhere = no_mate_here refl
-  mate n volume (x ∷ xs) (y ∷ ys) (here lent is) =
+  mate n volume [] [] none_was_lent = no_mate_here refl
+  mate n volume (x ∷ xs) (y ∷ ys) (this_was_lent lent is) =
       a_mate x y lent is (λ f. swapped (f (sides_of x)) (f (sides_of y)) (total f (all_sides xs))) refl
-  mate n volume (x ∷ xs) (y ∷ ys) (behind off rest) = more_mate n volume x xs ys off (mate n volume xs ys rest)
+  mate n volume (x ∷ xs) (y ∷ ys) (another_was_lent off rest) = more_mate n volume x xs ys off (mate n volume xs ys rest)
   mate n volume [] (y ∷ ys) r = elim r [ ]
   mate n volume (x ∷ xs) [] r = elim r [ ]
 
   own_restored : (n : ℕ) (volume : V) (xs ys : List (Device V G)) → Restored n volume xs ys → AllOwn xs → AllOwn ys
-  own_restored n volume [] [] nowhere own = tt
-  own_restored n volume (x ∷ xs) (y ∷ ys) (here lent is) own = (subst IsOwn (sym is.device) (restore_own (device_of x) own.0), own.1)
-  own_restored n volume (x ∷ xs) (y ∷ ys) (behind off rest) own = (own.0, own_restored n volume xs ys rest own.1)
+  own_restored n volume [] [] none_was_lent own = tt
+  own_restored n volume (x ∷ xs) (y ∷ ys) (this_was_lent lent is) own = (subst IsOwn (sym is.device) (restore_own (device_of x) own.0), own.1)
+  own_restored n volume (x ∷ xs) (y ∷ ys) (another_was_lent off rest) own = (own.0, own_restored n volume xs ys rest own.1)
   own_restored n volume [] (y ∷ ys) r own = elim r [ ]
   own_restored n volume (x ∷ xs) [] r own = elim r [ ]
 
   pasts_restored : (n : ℕ) (volume : V) (xs ys : List (Device V G)) → Restored n volume xs ys → HavePasts xs ys
-  pasts_restored n volume [] [] nowhere = no_pasts
-  pasts_restored n volume (x ∷ xs) (y ∷ ys) (here lent is) =
+  pasts_restored n volume [] [] none_was_lent = no_pasts
+  pasts_restored n volume (x ∷ xs) (y ∷ ys) (this_was_lent lent is) =
       past_too (subst (λ (d : DefinedDevice). NothingCame (device_of x).history d.history) (sym is.device) (came_fresh (device_of x).history)) (same_pasts xs)
-  pasts_restored n volume (x ∷ xs) (y ∷ ys) (behind off rest) =
+  pasts_restored n volume (x ∷ xs) (y ∷ ys) (another_was_lent off rest) =
       past_too (came_none (device_of x).history (device_of x).history refl) (pasts_restored n volume xs ys rest)
   pasts_restored n volume [] (y ∷ ys) r = elim r [ ]
   pasts_restored n volume (x ∷ xs) [] r = elim r [ ]
@@ -173,12 +197,12 @@ module _ {V : Type 0} {G : Ghosts V} where
 
   stood_restored : (n : ℕ) (volume : V) (xs ys : List (Device V G)) → Restored n volume xs ys →
       all_stood ys ≡ restored_at (all_stood xs) n (G.view volume)
-  stood_restored n volume [] [] nowhere = refl
-  stood_restored n volume (x ∷ xs) (y ∷ ys) (here lent is) =
+  stood_restored n volume [] [] none_was_lent = refl
+  stood_restored n volume (x ∷ xs) (y ∷ ys) (this_was_lent lent is) =
       ap (λ (s : Stood). s ∷ all_stood xs) (restored_is volume x y is)
       ∙ ap (λ (b : Bool). if b then record (stood_of x) { device = restore (device_of x); a = Some (G.view volume) } ∷ all_stood xs
       else stood_of x ∷ restored_at (all_stood xs) n (G.view volume)) (sym lent)
-  stood_restored n volume (x ∷ xs) (y ∷ ys) (behind off rest) =
+  stood_restored n volume (x ∷ xs) (y ∷ ys) (another_was_lent off rest) =
       ap (λ (l : List Stood). stood_of x ∷ l) (stood_restored n volume xs ys rest)
       ∙ ap (λ (b : Bool). if b then record (stood_of x) { device = restore (device_of x); a = Some (G.view volume) } ∷ all_stood xs
       else stood_of x ∷ restored_at (all_stood xs) n (G.view volume)) (sym off)
@@ -285,8 +309,8 @@ module _ {V : Type 0} {G : Ghosts V} where
           ∙ sym (ap (λ (b : Bool). one_if ((y.store.number == i) && b) + one_if (n == i)) b_behind ∙ none_and (y.store.number == i) (one_if (n == i)))
         where
           none_and : (b : Bool) (k : ℕ) → one_if (b && false) + k ≡ k
-          none_and true k = refl
-          none_and false k = refl
+          none_and true k = none_more k
+          none_and false k = none_more k
 
       volume_gone : volumes_here (sides_of x) ≡ volumes_here (sides_of y) + 1
       volume_gone = by_parts (is_some (on_a x.store)) (is_some (on_b x.store)) (is_some (on_a y.store)) (is_some (on_b y.store))

@@ -23,14 +23,16 @@ cut_so : (d : DefinedDevice) → Surely (and_then (half_cut contents (event_begu
 cut_so d =
     let g = d.store.geometry in
     let n = d.store.cylinders in
-    let away = (d.store.lent, d.store.device) in
+    let away : Option ℕ × ℕ = (d.store.lent, d.store.device) in
     s_then (halves_cut contents g n away (event_begun d).store (event_begun d).store.half (refl, (refl, refl)))
-    (λ s u k. s_done (record {
+    (λ s u k.
+    let is : IsPowered d (powered_off contents (event_begun d) s) = record {
       plans = refl;
       chain = refl;
       history = refl;
       lent = ap (λ (p : Option ℕ × ℕ). p.0) (power_is contents g n away (with_loss s losses.Cache) k).1.1;
-    }))
+    } in
+    s_done is)
 
 ends_so : (old d y : DefinedDevice) (u : Unit {0}) → IsPowered d y → Surely (event_ended contents old y u) (λ z v. IsPowered d z)
 ends_so old d y u l =

@@ -32,7 +32,7 @@ use Rattle.subsystem_defs.specs.Subsystem.{Mounted, mounted_in, unfailing}
 use Rattle.subsystem_laws.specs.WholeComes.{subsystem_of, IsWhatCame}
 use Rattle.subsystem_laws.specs.WholeStood as laws
 use Rattle.subsystem_laws.specs.WholeStood.{Stood, with_volume}
-use Rattle.subsystem_laws.proofs.WholeLends.{first_none, is_not, where_none}
+use Rattle.subsystem_defs.proofs.Unrefused.{first_none, is_not, where_none}
 use Rattle.subsystem_laws.proofs.WholeOrders.{replaced_so}
 use Rattle.deck_run.specs.Ordered.{IsOrdered}
 use Rattle.deck_run.specs.Owning.{AllOwn, AreOwn, ChainsStand, IsOwn}
@@ -58,10 +58,10 @@ fault_known : (x : Stood) (m : Mounted) (side : Side) → IsKnown x m → replac
 unfolding R.replace_fault
 fault_known x m A is =
     ap (λ (o : Option ℕ). first_cause (lent_by o ∷ where_so (not true) NoSide ∷ where_so m.device.store.a.up Up ∷
-        where_so (is_some m.device.store.half) Half ∷ []))
+    where_so (is_some m.device.store.half) Half ∷ []))
     is.lent
     ∙ ap (λ (b : Bool). first_cause (lent_by x.device.store.lent ∷ where_so (not true) NoSide ∷ where_so b Up ∷
-        where_so (is_some m.device.store.half) Half ∷ []))
+    where_so (is_some m.device.store.half) Half ∷ []))
     is.up_a
     ∙ ap (λ (b : Bool). first_cause (lent_by x.device.store.lent ∷ where_so (not true) NoSide ∷ where_so x.device.store.a.up Up ∷ where_so b Half ∷ []))
     (ap (λ (o : Option (HalfWrite (Unit {0}))). is_some o) is.half ∙ half_is _ x.device.store.half)
@@ -126,21 +126,21 @@ new_told v n is =
     subst (λ (w : VolumeView (List ℕ)). SideIs w (empty_contents (n * 15)) unfailing) (sym is)
     (record { contents = refl; reads = refl; writes = refl; plan = refl })
 
-module _ {V : Type 0} {G : Ghosts V} where
-  there_is : (v : V) (o : Option V) (b : Bool) → o ≡ Some v → b ≡ true → is_some o ≡ b
-  there_is v o b is e = ap (λ (x : Option V). is_some x) is ∙ sym e
+there_is : {V : Type 0} (v : V) (o : Option V) (b : Bool) → o ≡ Some v → b ≡ true → is_some o ≡ b
+there_is {V} v o b is e = ap (λ (x : Option V). is_some x) is ∙ sym e
 
+module _ {V : Type 0} {G : Ghosts V} where
   replaced_sides : (side : Side) (volume : V) (x y : Device V G) → replace_fault (device_of x) side ≡ None → IsReplaced side volume x y → sides_of y
       ≡ sides_of x
   replaced_sides A volume x y free r =
       let home : is_some (on_a x.store) ≡ true = x.store.pair.home (ap (λ (o : Option ℕ). is_some o) (free_so (device_of x) A free)) in
       same_sides x y (ap (λ (d : DefinedDevice). d.store.device) r.0 ∙ number_same (device_of x) A)
-      (ap (λ (d : DefinedDevice). d.store.lent) r.0 ∙ lent_same (device_of x) A) (there_is volume (on_a y.store) (is_some (on_a x.store)) r.1.0 home)
-      (ap (λ (o : Option V). is_some o) r.1.1)
+      (ap (λ (d : DefinedDevice). d.store.lent) r.0 ∙ lent_same (device_of x) A) (there_is volume (on_a y.store) (is_some (on_a x.store)) r.1 home)
+      (ap (λ (o : Option V). is_some o) r.2)
   replaced_sides B volume x y free r =
       same_sides x y (ap (λ (d : DefinedDevice). d.store.device) r.0 ∙ number_same (device_of x) B)
-      (ap (λ (d : DefinedDevice). d.store.lent) r.0 ∙ lent_same (device_of x) B) (ap (λ (o : Option V). is_some o) r.1.1)
-      (there_is volume (on_b y.store) (is_some (on_b x.store)) r.1.0 (paired_so (device_of x) free))
+      (ap (λ (d : DefinedDevice). d.store.lent) r.0 ∙ lent_same (device_of x) B) (ap (λ (o : Option V). is_some o) r.2)
+      (there_is volume (on_b y.store) (is_some (on_b x.store)) r.1 (paired_so (device_of x) free))
 
   module _ (d : ℕ) (side : Side) (volume : V) (x : Device V G) (old new : Subsystem V G) (a : EventEnd)
       (at : device_at old.devices.items d ≡ Some x) (own : AreOwn old.devices.items) where
@@ -169,13 +169,13 @@ module _ {V : Type 0} {G : Ghosts V} where
     stood_by y A r =
         ap (λ (e : DefinedDevice). record { device = e; a = option_map G.view (on_a y.store); b = option_map G.view (on_b y.store) }) r.0
         ∙ ap (λ (v : Option (VolumeView (List ℕ))). record { device = replace (device_of x) A; a = v; b = option_map G.view (on_b y.store) })
-        (view_is (on_a y.store) r.1.0)
-        ∙ ap (λ (o : Option V). record { device = replace (device_of x) A; a = Some (G.view volume); b = option_map G.view o }) r.1.1
+        (view_is (on_a y.store) r.1)
+        ∙ ap (λ (o : Option V). record { device = replace (device_of x) A; a = Some (G.view volume); b = option_map G.view o }) r.2
     stood_by y B r =
         ap (λ (e : DefinedDevice). record { device = e; a = option_map G.view (on_a y.store); b = option_map G.view (on_b y.store) }) r.0
         ∙ ap (λ (v : Option (VolumeView (List ℕ))). record { device = replace (device_of x) B; a = option_map G.view (on_a y.store); b = v })
-        (view_is (on_b y.store) r.1.0)
-        ∙ ap (λ (o : Option V). record { device = replace (device_of x) B; a = option_map G.view o; b = Some (G.view volume) }) r.1.1
+        (view_is (on_b y.store) r.1)
+        ∙ ap (λ (o : Option V). record { device = replace (device_of x) B; a = option_map G.view o; b = Some (G.view volume) }) r.2
 
     module _ (run : runs.Subsystem) (stand : ChainsStand old.devices.items) (all : StandsAs old run)
         (told : SideIs (G.view volume) (empty_contents (x.store.cylinders * 15)) unfailing)
@@ -223,7 +223,7 @@ module _ {V : Type 0} {G : Ghosts V} where
           let xs = all_stood old.devices.items in
           let same : run ≡ subsystem_of p run.mounted = ap (λ (q : pools.Pool). record { pool = q; mounted = run.mounted }) all.pool in
           let put : laws.put_at xs d (with_volume (stood_of x) side (G.view volume) (replace (device_of x) side))
-              ≡ all_stood (put_at old.devices.items d ch.behind) =
+          ≡ all_stood (put_at old.devices.items d ch.behind) =
           ap (λ (y : Stood). laws.put_at xs d y) (sym (stood_by ch.behind side is)) ∙ sym (put_stood old.devices.items d ch.behind) in
           let w : IsWhatCame what answers.Done p (all_stood (put_at old.devices.items d ch.behind)) =
           subst (λ (s : runs.Subsystem). IsWhatCame (replaced s d side unfailing) answers.Done p (all_stood (put_at old.devices.items d ch.behind))) (sym same)

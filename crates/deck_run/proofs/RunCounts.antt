@@ -22,8 +22,24 @@ use Rattle.subsystem_defs.specs.declared.end.OrderFault.{OrderFault}
 use Rattle.subsystem_defs.specs.declared.event.Event.{Event}
 use Rattle.subsystem_defs.specs.declared.event.Event.TheVariants as events
 use Rattle.subsystem_defs.specs.Deeds as D
-use Rattle.subsystem_defs.specs.Deeds.{Ends, Becomes, Asks, back, deed, device_in, ends_by, ends_done, is_own, may_end_by, on_device, order, seconds,
-    start_by, starts, step}
+use Rattle.subsystem_defs.specs.Deeds.{
+  Ends,
+  Becomes,
+  Asks,
+  back,
+  deed,
+  device_in,
+  ends_by,
+  ends_done,
+  is_own,
+  may_end_by,
+  on_device,
+  order,
+  seconds,
+  start_by,
+  starts,
+  step,
+}
 use Rattle.subsystem_defs.specs.Happening as H
 use Rattle.subsystem_defs.specs.Happening.{Happened, MarksDeed, Talk, asks, becomes, happens, happens_by, mounted_behind, quietly, told_to}
 use Rattle.subsystem_defs.specs.Refusals.{fail_fault, resume_fault, suspend_fault}

@@ -9,7 +9,7 @@ use Rattle.report_text.specs.declared.line.ReportLine.{ReportLine}
 use Rattle.run_report.specs.Events.{lines_of, running_in, work_told}
 use Rattle.subsystem_core.specs.declared.subsystem.Subsystem.{Subsystem}
 use Rattle.subsystem_defs.specs.declared.event.Event.TheVariants as events
-use Rattle.subsystem_defs.specs.Happening.{Happened, happens}
+use Rattle.subsystem_defs.specs.Happening.{happens}
 use Rattle.subsystem_defs.specs.Lines as lines
 use Rattle.subsystem_defs.specs.Lines.{Settle, Logged, logged, backs, is_settled, last_behind}
 use Rattle.subsystem_defs.specs.Subsystem as runs
@@ -42,7 +42,7 @@ module _ {V : Type 0} {G : Ghosts V} where
     pub back_done : ((run : runs.Subsystem) → StandsAs s run → false ≡ is_settled (happens run (events.Back d)).end) →
         ((run : runs.Subsystem) → StandsAs s run → StandsAs z (happens run (events.Back d)).behind) →
         ((run : runs.Subsystem) → StandsAs s run → more
-            ≡ told ++ lines_when run (events.Back d) (work_told d (running_in (devices_of run) d) (did.Back d Nothing)
+        ≡ told ++ lines_when run (events.Back d) (work_told d (running_in (devices_of run) d) (did.Back d Nothing)
         (happens run (events.Back d)).end)) →
         BacksLeft s told d (2946 - k) last all → BacksLeft z more d (2946 - (k + 1)) last all
     back_done goes_on goes tells left =
@@ -62,7 +62,7 @@ module _ {V : Type 0} {G : Ghosts V} where
     pub back_over : ((run : runs.Subsystem) → StandsAs s run → true ≡ is_settled (happens run (events.Back d)).end) →
         ((run : runs.Subsystem) → StandsAs s run → StandsAs z (happens run (events.Back d)).behind) →
         ((run : runs.Subsystem) → StandsAs s run → more
-            ≡ told ++ lines_when run (events.Back d) (work_told d (running_in (devices_of run) d) (did.Back d Nothing)
+        ≡ told ++ lines_when run (events.Back d) (work_told d (running_in (devices_of run) d) (did.Back d Nothing)
         (happens run (events.Back d)).end)) →
         BacksLeft s told d (2946 - k) last all → IsOver z more last all
     back_over settled goes tells left =

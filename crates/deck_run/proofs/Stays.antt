@@ -33,14 +33,29 @@ use Rattle.device_defs.specs.declared.usage.Usage.{Usage}
 use Rattle.device_defs.specs.declared.answers.Did.{Did}
 use Rattle.device_defs.specs.Background.{stage, work}
 use Rattle.device_defs.specs.Command as commands
-use Rattle.device_defs.specs.Command.{Went, Over, On, came_of_write, went_by, looked, look, goes_on, follow, came_out, on_tracks, answered_by,
-    command_at, command_by, command, has_loss}
+use Rattle.device_defs.specs.Command.{
+  Went,
+  Over,
+  On,
+  came_of_write,
+  went_by,
+  looked,
+  look,
+  goes_on,
+  follow,
+  came_out,
+  on_tracks,
+  answered_by,
+  command_at,
+  command_by,
+  command,
+  has_loss,
+}
 use Rattle.device_defs.specs.Contents.{Contents}
 use Rattle.device_defs.specs.Cutting as cutting
 use Rattle.device_defs.specs.Cutting.{reset_by, reset}
 use Rattle.plain_device.specs.Acted.{settled_act, paths_behind}
 use Rattle.device_defs.specs.Device.{Device, all_acted, event_ended, event_begun, with_store}
-use Rattle.device_defs.specs.Editing.{write}
 use Rattle.device_defs.specs.Events as happened
 use Rattle.device_defs.specs.Events.{background, lose, losing}
 use Rattle.device_defs.specs.Image.{Imaged, Has, NoBytes, BadTrack}
@@ -148,7 +163,7 @@ module _ {F P H R : Type 0} (c : Contents F P H R) (g : Geometry) (n : ℕ) (awa
     unfolding commands.look
     looks chain first t s of k =
         s_if (is_lost s t) (λ _. s_done (k, of)) (λ _. s_then (stores.images_had c g n away s (usage_of chain) t k)
-            (λ z o l. looks_by chain first t z o of l.0 l.1))
+        (λ z o l. looks_by chain first t z o of l.0 l.1))
 
     abbrev Follows : Interaction R Image (Store F P H) (Option Turn) → Type 0
     Follows i = Surely i (λ s w. Is s × TurnOf ccws fixed w)
@@ -373,7 +388,7 @@ module _ {F P H R : Type 0} (c : Contents F P H R) (g : Geometry) (n : ℕ) (awa
           (λ z _ m. s_done (record { is = m.0; plans_are = k.plans_are; chain = k.chain; history = k.history }))
 
       goes : (d : Device F P H) (to : ℕ) → Is d.store → d.plans ≡ plans → HasOf ccws fixed d.chain → d.history ≡ before →
-          Surely (Done {R = R} {I = Image} (with_tracks d (lent_to (over (tracks_of d.store) (given_up c) d.store) to)) (tt {0})) (λ y _. HasGone to y)
+          Surely {R = R} {I = Image} (Done (with_tracks d (lent_to (over (tracks_of d.store) (given_up c) d.store) to)) (tt {0})) (λ y _. HasGone to y)
       goes d to is same of at =
           s_done (record { is = stores.lent_is c g n away d.store to is; plans_are = same; chain = of; history = at })
 

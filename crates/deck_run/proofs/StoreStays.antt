@@ -24,30 +24,133 @@ use Rattle.device_defs.specs.declared.answers.Choice.TheVariants as choices
 use Rattle.device_defs.specs.declared.answers.Did.{Did}
 use Rattle.device_defs.specs.declared.answers.Did.TheVariants.{Recovered, Destaged}
 use Rattle.device_defs.specs.Background as works
-use Rattle.device_defs.specs.Background.{saved_by, saving, saved, recovered_image, recovered_bytes, recover, copied, copy_read, copies_to, copy_by,
-    staged_image, staged_bytes, stage, to_destage, destage_first, stage_first, to_copy, copy_first, to_recover, recover_first, work}
+use Rattle.device_defs.specs.Background.{
+  saved_by,
+  saving,
+  saved,
+  recovered_image,
+  recovered_bytes,
+  recover,
+  copied,
+  copy_read,
+  copies_to,
+  copy_by,
+  staged_image,
+  staged_bytes,
+  stage,
+  to_destage,
+  destage_first,
+  stage_first,
+  to_copy,
+  copy_first,
+  to_recover,
+  recover_first,
+  work,
+}
 use Rattle.device_defs.specs.Choosing as choosing
 use Rattle.device_defs.specs.Choosing.{choose, slot_by, fast_by, fast_or_through, choose_loose, choose_firm, may_be_fast}
 use Rattle.device_defs.specs.Contents.{Contents}
-use Rattle.device_defs.specs.Cutting.{origin_cut, half_cut, reset}
+use Rattle.device_defs.specs.Cutting.{origin_cut, half_cut}
 use Rattle.device_defs.specs.Effects.{with_edit, loosened, hardened, loose_lost}
 use Rattle.device_defs.specs.Editing as editing
 use Rattle.device_defs.specs.Editing.{whole, at_once, through_by, through, write_by, written, is_given, write_chosen, write}
-use Rattle.device_defs.specs.Events.{background, losing, lost_by, with_loss}
+use Rattle.device_defs.specs.Events.{losing, lost_by, with_loss}
 use Rattle.device_defs.specs.Image as images
-use Rattle.device_defs.specs.Image.{is_sequential, read_counted, image_of, Got, ahead, queued, first_read, read_b, second_read, level_bytes, filled,
-    granted, loaded, delivered, missed, miss, clean_image, image_by, image}
+use Rattle.device_defs.specs.Image.{
+  is_sequential,
+  read_counted,
+  image_of,
+  Got,
+  ahead,
+  queued,
+  first_read,
+  read_b,
+  second_read,
+  level_bytes,
+  filled,
+  granted,
+  loaded,
+  delivered,
+  missed,
+  miss,
+  clean_image,
+  image_by,
+  image,
+}
 use Rattle.device_defs.specs.Losses as losses
-use Rattle.device_defs.specs.Losses.{settled, settled_but, by_frame, gives_up, stale_everywhere, call_failed, over, down, side_lost, without_frame,
-    without_patch, cache_lost, patch_lost, store_lost, firm_told, all_firm_told}
+use Rattle.device_defs.specs.Losses.{
+  settled,
+  settled_but,
+  by_frame,
+  gives_up,
+  stale_everywhere,
+  call_failed,
+  over,
+  down,
+  side_lost,
+  without_frame,
+  without_patch,
+  cache_lost,
+  patch_lost,
+  store_lost,
+  firm_told,
+  all_firm_told,
+}
 use Rattle.device_defs.specs.Owed as owed
-use Rattle.device_defs.specs.Owed.{is_owed, is_modified, is_clean, dropped, heard, hear, modified_told, dropped_told, freed_told, settles_debt,
-    track_told, all_told, waiting_told, ended, waiting_count}
-use Rattle.device_defs.specs.Store.{Origin, OfCommand, OfCut, OfBackground, HalfWrite, Store, tracks_of, takes_b, frame_at, patch_at, is_lost,
-    is_loose, has_loose, has_level, level_at, half_is, owed_at, with_frame, with_stale}
+use Rattle.device_defs.specs.Owed.{
+  is_owed,
+  is_modified,
+  is_clean,
+  dropped,
+  heard,
+  hear,
+  modified_told,
+  dropped_told,
+  freed_told,
+  settles_debt,
+  track_told,
+  all_told,
+  waiting_told,
+  ended,
+  waiting_count,
+}
+use Rattle.device_defs.specs.Store.{
+  Origin,
+  OfCommand,
+  OfCut,
+  OfBackground,
+  HalfWrite,
+  Store,
+  tracks_of,
+  takes_b,
+  frame_at,
+  patch_at,
+  is_lost,
+  is_loose,
+  has_loose,
+  has_level,
+  level_at,
+  half_is,
+  owed_at,
+  with_frame,
+  with_stale,
+}
 use Rattle.device_defs.specs.Writing as writing
-use Rattle.device_defs.specs.Writing.{firm_first, unwritten, alone_b, failed_a, first_a, write_first, tried_b, write_second, write_counted,
-    slot_freed, unpatched, write_done, opened as half_open}
+use Rattle.device_defs.specs.Writing.{
+  firm_first,
+  unwritten,
+  alone_b,
+  failed_a,
+  first_a,
+  write_first,
+  tried_b,
+  write_second,
+  write_counted,
+  slot_freed,
+  unpatched,
+  write_done,
+  opened as half_open,
+}
 use Rattle.deck_run.proofs.Surely.{Surely, s_done, s_try, s_ask, s_read, s_write, s_firm, s_before, s_if, s_then}
 use Rattle.device_defs.specs.Second as parts
 use Rattle.device_defs.specs.Second.{closed, cut_kept, finished, half_image_of, left_by, second_by, second_done, second_part}

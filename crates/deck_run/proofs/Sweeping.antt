@@ -1,6 +1,34 @@
 -- From what an event of all devices came to, to what happens in a run, and what it tells.
-use Rattle.std.proofs.Common.{◌≡◌, ◌<◌, ◌≤◌, ◌∙◌, ◌+◌, ◌++◌, add-one, ℕ, zero, suc, Bool, true, false, List, [], ◌∷◌, Option, Some, None, length,
-    drop, get_or, map, refl, sym, ap, subst, append_assoc}
+use Rattle.std.proofs.Common.{
+  ◌≡◌,
+  ◌<◌,
+  ◌≤◌,
+  ◌∙◌,
+  ◌+◌,
+  ◌++◌,
+  add-one,
+  ℕ,
+  zero,
+  suc,
+  Bool,
+  true,
+  false,
+  List,
+  [],
+  ◌∷◌,
+  Option,
+  Some,
+  None,
+  length,
+  drop,
+  get_or,
+  map,
+  refl,
+  sym,
+  ap,
+  subst,
+  append_assoc,
+}
 use Rattle.std.specs.Prelude.{IfSome, ◌==◌, not, if◌then◌else◌, slice_index_or}
 use Rattle.std.proofs.lemmas.Bool.{cond_both}
 use Rattle.std.proofs.lemmas.List.{append-nil, drop_all}
@@ -354,7 +382,7 @@ module _ {V : Type 0} {G : Ghosts V} where
       ap (λ (l : List ReportLine). l ++ loose_lines m.device k.device) (over_by n x y m k (sym g.number) is now)
       ∙ ap (λ (l : List ReportLine). cut ++ l) (loose_by n x y m k (sym g.number) is now)
       ∙ ap (λ (l : List Act). cut ++ map loosed_line
-          (all_loosed n (loose_count (device_of x).store) (device_of y).store.number l (has_power (new_items hx hy))))
+      (all_loosed n (loose_count (device_of x).store) (device_of y).store.number l (has_power (new_items hx hy))))
       (power_new hx hy (counts_one_by (device_of x).store.half) g.history)
 
   module _ (p : Device V G → Device V G → Type 0) (f : MarksDevice → MarksDevice → List ReportLine) (quiet : Bool) (end : ends.EventEnd)
@@ -463,7 +491,7 @@ module _ {V : Type 0} {G : Ghosts V} where
         let same = subst (λ (l : List (Device V G)). AreKnown (all_stood l) ks) is now in
         work_tells end (map device ms) (map device ks) (gone_lines (is_quiet e) end (map stock_of old.devices.items) new.devices.items)
         (all_loose_none old.devices.items old.devices.items ms ks (same_pasts old.devices.items) all same ∙ sym
-            (gone_none (is_quiet e) end old.devices.items none)
+        (gone_none (is_quiet e) end old.devices.items none)
         ∙ ap (λ (l : List (Device V G)). gone_lines (is_quiet e) end (map stock_of old.devices.items) l) (sym is))
         (all_over_none old.devices.items old.devices.items ms ks (same_pasts old.devices.items) all same) e work
 

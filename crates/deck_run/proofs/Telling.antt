@@ -245,7 +245,7 @@ module _ {V : Type 0} {G : Ghosts V} where
       (subst (λ (z : Device V G). IsKnown (stood_of z) m) (some_same at) is) now.0
   one_over_by n d x y ds m ms (k ∷ ks) false e rest is all at now =
       ap (λ (l : List ReportLine). l ++ of_each over_lines (map device ms) (map device ks))
-          (over_none d d m k (came_none (device_of d).history (device_of d).history refl) is now.0)
+      (over_none d d m k (came_none (device_of d).history (device_of d).history refl) is now.0)
       ∙ rest at ks now.1
 
   one_over : (n : ℕ) (x y : Device V G) (xs : List (Device V G)) (ms ks : List Mounted) → AreKnown (all_stood xs) ms → device_at xs n ≡ Some x →
@@ -288,7 +288,7 @@ module _ {V : Type 0} {G : Ghosts V} where
       (subst (λ (z : Device V G). IsKnown (stood_of z) m) (some_same at) is) now.0
   one_loose_by n d x y ds m ms (k ∷ ks) false e rest is all at now =
       ap (λ (l : List ReportLine). l ++ of_each loose_lines (map device ms) (map device ks))
-          (loose_none d d m k (came_none (device_of d).history (device_of d).history refl) is now.0)
+      (loose_none d d m k (came_none (device_of d).history (device_of d).history refl) is now.0)
       ∙ rest at ks now.1
 
   one_loose : (n : ℕ) (x y : Device V G) (xs : List (Device V G)) (ms ks : List Mounted) → AreKnown (all_stood xs) ms → device_at xs n ≡ Some x →

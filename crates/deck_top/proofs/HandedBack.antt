@@ -1,6 +1,43 @@
 -- The volumes that stand in the devices behind a run are those that the run hands out.
-use Rattle.std.proofs.Common.{◌≡◌, ◌<◌, ◌≤◌, ◌⊎◌, inl, inr, ◌∙◌, ◌++◌, append_assoc, ◌+◌, ◌∷◌, [], ◌*◌, ◌==◌, ◌&&◌, ◌||◌, not, map, length, ℕ, Bool,
-    true, false, List, Option, Some, None, Result, Ok, Err, is_some, refl, sym, ap, subst, arith, get_or}
+use Rattle.std.proofs.Common.{
+  ◌≡◌,
+  ◌<◌,
+  ◌≤◌,
+  ◌⊎◌,
+  inl,
+  inr,
+  ◌∙◌,
+  ◌++◌,
+  append_assoc,
+  ◌+◌,
+  ◌∷◌,
+  [],
+  ◌*◌,
+  ◌==◌,
+  ◌&&◌,
+  ◌||◌,
+  not,
+  map,
+  length,
+  ℕ,
+  Bool,
+  true,
+  false,
+  List,
+  Option,
+  Some,
+  None,
+  Result,
+  Ok,
+  Err,
+  is_some,
+  refl,
+  sym,
+  ap,
+  subst,
+  arith,
+  get_or,
+}
 use Rattle.std.specs.Prelude.{option_map, IfSome, if◌then◌else◌}
 use Rattle.std.specs.List.{range_with_len}
 use Rattle.std.proofs.lemmas.Bool.{and_parts, cases_lt}
@@ -269,9 +306,9 @@ module _ {G : Ghosts Disk} (views : (v : Disk) → G.view v ≡ disk_view v) whe
 
     gone_handed : (a b : Option Disk) → is_some a ≡ false → is_some b ≡ false →
         AreHandedOut (on_side x.store.number A a ++ on_side x.store.number B b) (handed_by m true (is_some b))
-    gone_handed None None none no_more = tt
-    gone_handed None (Some w) none no_more = absurd (cc)
-    gone_handed (Some v) b none no_more = absurd (cc)
+    gone_handed None None none no_b = tt
+    gone_handed None (Some w) none no_b = absurd (cc)
+    gone_handed (Some v) b none no_b = absurd (cc)
 
     device_by : (lent : Bool) → is_some x.store.pair.lent ≡ lent → away_here (sides_of x) ≡ 0 → SidesHoldBytes x →
         AreHandedOut (taken_of x) (handed_by m lent (is_some (on_b x.store)))

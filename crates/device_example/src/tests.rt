@@ -77,7 +77,7 @@ fn command(
     device: &mut Device<Watched<MemVolume>>,
     port: &mut CountedRequests,
 ) -> Result<(), Fail> {
-    if device.active().is_none() {
+    if device.active().is_none() || device.half_open() {
         return Err("no program runs".into());
     }
     match device.command(port) {
@@ -105,17 +105,46 @@ fn last_sent(device: &Device<Watched<MemVolume>>) -> Result<(u16, bool), Fail> {
     Ok((end.residual, end.sent.as_slice() == DATA))
 }
 
+/// The track that the device's volume wrote last.
+fn last_written(device: &Device<Watched<MemVolume>>) -> Option<TrackNo> {
+    match &device.store.pair.volumes.a {
+        Some(volume) => volume.last_written,
+        None => None,
+    }
+}
+
+fn expect(is_so: bool, what: &'static str) -> Result<(), Fail> {
+    match is_so {
+        true => Ok(()),
+        false => Err(what.into()),
+    }
+}
+
 /// Without a frame each locate record and each command behind one reads its track, and asks the port for a frame.
+fn run_both(
+    device: &mut Device<Watched<MemVolume>>,
+    path: PathNo,
+    port: &mut CountedRequests,
+) -> Result<(), Fail> {
+    run(device, path, port)?;
+    expect(
+        last_written(device) == TrackNo::new(0),
+        "track 0 is written",
+    )?;
+    run(device, path, port)?;
+    expect(last_sent(device)? == (0, true), "record 1 is sent")?;
+    expect(
+        device.reads() == 4 && device.writes() == 1,
+        "four reads and a write",
+    )?;
+    expect(port.wanted == 4, "four frames are wanted")?;
+    expect(device.finished(), "both programs were started")
+}
+
 #[test]
 fn two_programs_over_a_volume_of_the_callers(rt: HostRuntime) -> Result<(), Fail> {
     let path = PathNo::new(1).ok_or("path")?;
     let mut device = device(rt.alloc(), plans(rt.alloc(), path)?)?;
     let mut port = CountedRequests::new();
-    run(&mut device, path, &mut port)?;
-    assert_eq!(rt; device.store.volume.last_written, TrackNo::new(0));
-    run(&mut device, path, &mut port)?;
-    assert_eq!(rt; last_sent(&device)?, (0, true));
-    assert_eq!(rt; (device.reads(), device.writes(), port.wanted), (4, 1, 4));
-    assert_eq!(rt; device.finished(), true);
-    Ok(())
+    run_both(&mut device, path, &mut port)
 }

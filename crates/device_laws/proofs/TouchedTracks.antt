@@ -322,12 +322,12 @@ module _ (num : ℕ) (empty : PlainState) (d : MarksDevice) (f : Follows num emp
         let tracks = h.tracks in
         let below : t < m = (within_stays m (whole_cylinders d.store.cylinders)).needs chain t inside needs in
         let touched : has_lost d.store.lost
-            (walk (chain.fixed.cylinders * 15) chain.fixed.geometry (track_in d.store.plain) chain.at.stance (word_of chain) look (opening_at chain).stance).touched
-            ≡ false =
+        (walk (chain.fixed.cylinders * 15) chain.fixed.geometry (track_in d.store.plain) chain.at.stance (word_of chain) look (opening_at chain).stance).touched
+        ≡ false =
         subst (λ (x : Opening). has_lost d.store.lost (by_opening chain fresh d.paths o.path d.store.plain (opening_at chain).stance x).touched ≡ false) at kept_all in
         let here : has_lost d.store.lost
-            (walk (tracks_of s) d.store.geometry (track_in d.store.plain) chain.at.stance (word_of chain) look (opening_at chain).stance).touched
-            ≡ false =
+        (walk (tracks_of s) d.store.geometry (track_in d.store.plain) chain.at.stance (word_of chain) look (opening_at chain).stance).touched
+        ≡ false =
         subst (λ (k : ℕ). has_lost d.store.lost
         (walk k d.store.geometry (track_in d.store.plain) chain.at.stance (word_of chain) look (opening_at chain).stance).touched ≡ false)
         (ap (λ (k : ℕ). k * 15) on.1 ∙ sym h.tracks)

@@ -78,7 +78,9 @@ use Rattle.subsystem_defs.specs.Deeds.{
 }
 use Rattle.subsystem_defs.specs.Happening.{told_to, told_end}
 use Rattle.subsystem_defs.specs.Subsystem.{Mounted, Subsystem, number_of, devices_of, mounted_in}
-use Rattle.subsystem_laws.proofs.PlainRuns.{Plainly, ArePlain, device_plain, number_found, same_found}
+use Rattle.subsystem_laws.proofs.FoundDevices.{number_found, same_found}
+use Rattle.subsystem_laws.proofs.PlainRuns.{Plainly, ArePlain}
+use Rattle.subsystem_laws.proofs.Walks.{device_so}
 
 none_if : (b : Bool) (m : Mounted) (ms : List Mounted) (i : ℕ) (x : MarksDevice) → (number_of m == i) ≡ b →
     (if b then Some m.device else device_in (devices ms) i) ≡ Some x → (if b then Some m else mounted_in ms i) ≡ None →
@@ -97,7 +99,7 @@ module _ (n : ℕ) (s : Subsystem) (plain : ArePlain s.mounted) where
     number_is = number_found s.mounted k x at
 
     plainly : Plainly x
-    plainly = subst (λ (o : Option MarksDevice). IfSome o Plainly) at (device_plain s.mounted k plain)
+    plainly = subst (λ (o : Option MarksDevice). IfSome o Plainly) at (device_so Plainly s.mounted k plain)
 
     it_is : (m : Mounted) → mounted_in s.mounted x.store.device ≡ Some m → m.device ≡ x
     it_is m found = same_found s.mounted k x m at (ap (mounted_in s.mounted) (sym number_is) ∙ found)

@@ -35,7 +35,8 @@ use Rattle.subsystem_defs.specs.Happening.{
   behind_outcome,
 }
 use Rattle.subsystem_defs.specs.Subsystem.{Mounted, Subsystem, number_of, mounted_in, put_in}
-use Rattle.subsystem_laws.proofs.PlainRuns.{Plainly, ArePlain, IsPlainly, mounted_plain}
+use Rattle.subsystem_laws.proofs.PlainRuns.{Plainly, ArePlain}
+use Rattle.subsystem_laws.proofs.Walks.{IsSo, mounted_so}
 
 module _ (n : ℕ) where
   abbrev pub says : Happened → Bool → List ReportLine
@@ -129,7 +130,7 @@ module _ (n : ℕ) where
       joined_at t o a calls (Some m) is =
           kept_put t o a m (record m { device = join m.device; b = calls }) is (number_at t.mounted a m is) refl
 
-      lends_at : (a b : ℕ) (o : Option Mounted) → mounted_in s.mounted b ≡ o → IfSome o IsPlainly →
+      lends_at : (a b : ℕ) (o : Option Mounted) → mounted_in s.mounted b ≡ o → IfSome o (IsSo Plainly) →
           ((m : Mounted) → mounted_in s.mounted b ≡ Some m → m.device.history.running ≡ None) →
           At n SameHistory (devices s.mounted) (devices (lends s a b o).mounted)
       lends_at a b None is p none = at_same n (devices s.mounted) one (λ d. refl)
@@ -157,7 +158,7 @@ module _ (n : ℕ) where
       happens_at (Repairs pool) h = at_same n (devices s.mounted) one (same_kept (told ends.Done) h)
       happens_at (Lends a b) h =
           at_weaker n (devices s.mounted) (devices (lends s a.store.device b.store.device (mounted_in s.mounted b.store.device)).mounted)
-          (lends_at a.store.device b.store.device (mounted_in s.mounted b.store.device) refl (mounted_plain s.mounted b.store.device plain) h.1)
+          (lends_at a.store.device b.store.device (mounted_in s.mounted b.store.device) refl (mounted_so Plainly s.mounted b.store.device plain) h.1)
           (λ b a e. kept (told ends.Done) h.0 b a (same_shows n b.history a.history e))
 
   pub before_same : (s : Subsystem) (x : MarksDeed) → (happens_by s x).before ≡ s

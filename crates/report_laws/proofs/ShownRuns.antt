@@ -142,7 +142,8 @@ use Rattle.subsystem_defs.specs.Refusals.{pair_fault, suspend_fault, resume_faul
 use Rattle.subsystem_defs.specs.Subsystem.{Mounted, Subsystem, number_of, devices_of, mounted_in, put_in, with_calls, unfailing}
 use Rattle.subsystem_laws.specs.Served.{IsServed, IsServedDeck}
 use Rattle.subsystem_laws.proofs.ReadDecks.{read_served}
-use Rattle.subsystem_laws.proofs.PlainRuns.{ArePlain, event_plain, line_plain, logs_end, opened_plain, run_plainly, number_found, same_found, lent_is_idle}
+use Rattle.subsystem_laws.proofs.FoundDevices.{number_found, same_found}
+use Rattle.subsystem_laws.proofs.PlainRuns.{ArePlain, event_plain, line_plain, opened_plain, run_plainly, lent_is_idle}
 
 -- numbers that differ
 
@@ -506,7 +507,7 @@ module _ (n : ℕ) where
       let served = All-head (λ (l : EventLine). IsServed (asked_by l)) line events h in
       along_on s ts (run_lines (map asked_by events) (last_behind s ts)) here_along
       (lines_along events (last_behind s ts) (All-tail (λ (l : EventLine). IsServed (asked_by l)) line events h)
-      (logs_end s ts (line_plain (asked_by line) s served plain))
+      (line_plain (asked_by line) s served plain)
       (one_behind n (devices s.mounted) (devices (last_behind s ts).mounted) (along_at s ts one here_along)))
 
   -- A deck

@@ -19,7 +19,7 @@ use Rattle.device_defs.specs.Contents.{contents}
 use Rattle.device_defs.specs.Orders.{replace}
 use Rattle.device_defs.specs.Start.{start, next_ordinal}
 use Rattle.duplex_pair.specs.Sides.{volume_of}
-use Rattle.device_store.specs.State.{had, surely}
+use Rattle.device_store.specs.State.{surely}
 use Rattle.device_core.specs.declared.device.Device.{Device}
 use Rattle.device_core.specs.declared.start.NotStarted.{NotStarted}
 use Rattle.device_core.specs.declared.past.Running.{Running}
@@ -261,10 +261,10 @@ module _ {V : Type 0} {G : Ghosts V} where
     repaired p is pool devices = came_by (Some ends.Done) (Repairs p) is ((λ h. refl), pool, devices)
 
     -- two devices became a pair
-    pub joined : (a b : ℕ) (x y : Device V G) → device_at old.devices.items a ≡ Some x → device_at old.devices.items b ≡ Some y →
+    pub became_pair : (a b : ℕ) (x y : Device V G) → device_at old.devices.items a ≡ Some x → device_at old.devices.items b ≡ Some y →
         deed contents old.pool.pool (devices_of old.devices.items) e ≡ Lends (device_of x) (device_of y) → Joins a b (device_of y) old new →
         Came e old (Some ends.Done) new
-    joined a b x y first second is so =
+    became_pair a b x y first second is so =
         let number = number_found old.devices.items a x first in
         let other = number_found old.devices.items b y second in
         came_by (Some ends.Done) (Lends (device_of x) (device_of y)) is (
@@ -279,6 +279,11 @@ module _ {V : Type 0} {G : Ghosts V} where
     ended end a is answers same = came_by (Some a) (Ends end) is (answers, same)
 
   -- Orders
+
+  pub is_home : (x : Device V G) (side : Side) → replace_fault (device_of x) side ≡ None → is_some x.store.pair.lent ≡ false
+  unfolding replace_fault
+  is_home x A is = not_lent x.store.pair.lent _ is
+  is_home x B is = not_lent x.store.pair.lent _ is
 
   -- a side that may get another volume is there
   pub is_there : (x : Device V G) (side : Side) → replace_fault (device_of x) side ≡ None → is_some (volume_of x.store.pair.volumes side) ≡ true

@@ -21,7 +21,6 @@ use Rattle.std.proofs.Common.{
   arith,
   refl,
   ap,
-  map,
   sym,
   subst,
   ◌∙◌,
@@ -52,6 +51,16 @@ eq_self n = grind arith
 not_eq : (m n : ℕ) → m < n → (m == n) ≡ false
 not_eq m n h = grind arith
 
+-- what a test chooses, of any things
+
+if_this : {X : Type 0} (x y : X) (b : Bool) → b ≡ true → (if b then x else y) ≡ x
+if_this x y true is = refl
+if_this x y false is = absurd (cc)
+
+if_other : {X : Type 0} (x y z : X) (b : Bool) → b ≡ false → y ≡ z → (if b then x else y) ≡ z
+if_other x y z true is same = absurd (cc)
+if_other x y z false is same = same
+
 module _ {V : Type 0} {G : Ghosts V} where
   -- a device behind the first one has another number
   below_others : (d : Device V G) (ds : List (Device V G)) → are_rising (numbers_of (d ∷ ds)) ≡ true → (i : ℕ) (x : Device V G) →
@@ -63,24 +72,27 @@ module _ {V : Type 0} {G : Ghosts V} where
       (slice_get-map number_of ds i ∙ ap (option_map number_of) is) in
       rw number at (first_is_least d.store.number (numbers_of ds) up i there)
 
+  same_numbers : (d x : Device V G) → d ≡ x → (d.store.number == x.store.number) ≡ true
+  same_numbers d x same = ap (λ (z : Device V G). z.store.number == x.store.number) same ∙ eq_self x.store.number
+
   pub device_at_place : (ds : List (Device V G)) → are_rising (numbers_of ds) ≡ true → (i : ℕ) (x : Device V G) → slice_get ds i ≡ Some x →
       device_at ds x.store.number ≡ Some x
   device_at_place [] up i x is = absurd (cc)
   device_at_place (d ∷ ds) up zero x is =
-      let same : d ≡ x = cc in
-      subst (λ (y : Device V G). device_at (d ∷ ds) y.store.number ≡ Some y) same (rw eq_self refl)
+      if_this (Some d) (device_at ds x.store.number) (d.store.number == x.store.number) (same_numbers d x (some_same is)) ∙ is
   device_at_place (d ∷ ds) up (suc i) x is =
-      rw (not_eq d.store.number x.store.number (below_others d ds up i x is)) (device_at_place ds (rest_rises d.store.number (numbers_of ds) up) i x is)
+      if_other (Some d) (device_at ds x.store.number) (Some x) (d.store.number == x.store.number)
+      (not_eq d.store.number x.store.number (below_others d ds up i x is)) (device_at_place ds (rest_rises d.store.number (numbers_of ds) up) i x is)
 
   pub put_at_place : (ds : List (Device V G)) → are_rising (numbers_of ds) ≡ true → (i : ℕ) (x y : Device V G) → slice_get ds i ≡ Some x →
       put_at ds x.store.number y ≡ set ds i y
   put_at_place [] up i x y is = absurd (cc)
   put_at_place (d ∷ ds) up zero x y is =
-      let same : d ≡ x = cc in
-      subst (λ (z : Device V G). put_at (d ∷ ds) z.store.number y ≡ y ∷ ds) same (rw eq_self refl)
+      if_this (y ∷ ds) (d ∷ put_at ds x.store.number y) (d.store.number == x.store.number) (same_numbers d x (some_same is))
   put_at_place (d ∷ ds) up (suc i) x y is =
-      rw (not_eq d.store.number x.store.number (below_others d ds up i x is))
-      (ap (λ zs. d ∷ zs) (put_at_place ds (rest_rises d.store.number (numbers_of ds) up) i x y is))
+      if_other (y ∷ ds) (d ∷ put_at ds x.store.number y) (d ∷ set ds i y) (d.store.number == x.store.number)
+      (not_eq d.store.number x.store.number (below_others d ds up i x is))
+      (ap (λ (zs : List (Device V G)). d ∷ zs) (put_at_place ds (rest_rises d.store.number (numbers_of ds) up) i x y is))
 
   -- a device that was found by its place
   pub record IsAt (ds : List (Device V G)) (n i : ℕ) (x : Device V G) : Type 0 where
@@ -117,15 +129,16 @@ module _ {V : Type 0} {G : Ghosts V} where
   pub number_nowhere : (ds : List (Device V G)) (i : ℕ) → length ds ≤ i → slice_get (numbers_of ds) i ≡ None
   number_nowhere ds i past = slice_get-map number_of ds i ∙ ap (option_map number_of) (slice_get_past ds i past)
 
+  other_by : (d y : Device V G) (ds puts : List (Device V G)) (n m : ℕ) → y.store.number ≡ n → (n == m) ≡ false → device_at puts m ≡ device_at ds m →
+      (b : Bool) → (d.store.number == n) ≡ b → device_at (if b then y ∷ ds else d ∷ puts) m ≡ device_at (d ∷ ds) m
+  other_by d y ds puts n m is off rest true e = rw (is, eqb-true d.store.number n e, off) refl
+  other_by d y ds puts n m is off rest false e = ap (λ (o : Option (Device V G)). if d.store.number == m then Some d else o) rest
+
   -- another one's place changes nothing of this one
   pub at_other : (ds : List (Device V G)) (n m : ℕ) (y : Device V G) → y.store.number ≡ n → (n == m) ≡ false →
       device_at (put_at ds n y) m ≡ device_at ds m
   at_other [] n m y is off = refl
-  at_other (d ∷ ds) n m y is off = by_test (d.store.number == n) refl
-    where
-      by_test : (b : Bool) → (d.store.number == n) ≡ b → device_at (if b then y ∷ ds else d ∷ put_at ds n y) m ≡ device_at (d ∷ ds) m
-      by_test true e = rw (is, eqb-true d.store.number n e, off) refl
-      by_test false e = ap (λ (o : Option (Device V G)). if d.store.number == m then Some d else o) (at_other ds n m y is off)
+  at_other (d ∷ ds) n m y is off = other_by d y ds (put_at ds n y) n m is off (at_other ds n m y is off) (d.store.number == n) refl
 
   -- Changes
 

@@ -41,6 +41,20 @@ both true true h = (refl, refl)
 both true false h = absurd (cc)
 both false b h = absurd (cc)
 
+-- Bounds that were found by other names
+
+pub below_same : {i n m : ℕ} → i < n → m ≡ n → i < m
+below_same below same = omega (arith, below, same)
+
+pub above_same : {i n m : ℕ} → n ≤ i → m ≡ n → m ≤ i
+above_same above same = omega (arith, above, same)
+
+pub below_all : {i j n : ℕ} → j < n → n ≤ i → j < i
+below_all below above = omega (arith, below, above)
+
+pub nowhere : {j : ℕ} → j < 0 → ⊥
+nowhere below = omega (arith, below)
+
 -- the first of numbers that rise is below all others
 pub first_is_least : (n : ℕ) (ns : List ℕ) → are_rising (n ∷ ns) ≡ true → (i : ℕ) → i < length ns → n < get_or ns i 0
 first_is_least n [] up i within = absurd (omega arith)

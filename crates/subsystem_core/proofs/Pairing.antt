@@ -18,7 +18,7 @@ use Rattle.subsystem_core.specs.declared.end.EventEnd.TheVariants as ends
 use Rattle.subsystem_core.specs.Comes.{Came, Changes, IsSame, Joins}
 use Rattle.subsystem_core.specs.Devices.{device_at, put_at}
 use Rattle.subsystem_core.specs.Pairs.{HasPairFault, IsJoined, IsLent}
-use Rattle.subsystem_core.proofs.Coming.{ended, joined}
+use Rattle.subsystem_core.proofs.Coming.{became_pair, ended}
 use Rattle.subsystem_core.proofs.Deeds as deeds
 use Rattle.subsystem_core.proofs.Found.{at_other, eq_self, found_in, number_found, some_same}
 
@@ -40,8 +40,12 @@ module _ {V : Type 0} {G : Ghosts V} where
   pub may_lend : (o p : Option (Device V G)) (x : Device V G) → p ≡ Some x → HasPairFault o p None → MayLend o x
   may_lend (Some to) (Some y) x is free =
       let same : y ≡ x = some_same is in
-      record { to = to; stands = refl; may = subst (λ (z : Device V G). MayPair (device_of to) (device_of z)) same
-          (may_pair (device_of to) (device_of y) free) }
+      record {
+        to = to;
+        stands = refl;
+        may = subst (λ (z : Device V G). MayPair (device_of to) (device_of z)) same
+            (may_pair (device_of to) (device_of y) free);
+      }
   may_lend (Some to) None x is free = absurd free
   may_lend None p x is free = absurd free
 
@@ -120,7 +124,7 @@ module _ {V : Type 0} {G : Ghosts V} where
   pub pair_done : (a b : ℕ) (old new : Subsystem V G) (o p : Option (Device V G)) → device_at old.devices.items a ≡ o → device_at old.devices.items b ≡ p →
       HasPairFault o p None → IfSome p (λ y. Joins a b (device_of y) old new) → Came (events.Pair a b) old (Some ends.Done) new
   pair_done a b old new (Some x) (Some y) first second is so =
-      joined old new (events.Pair a b) a b x y first second
+      became_pair old new (events.Pair a b) a b x y first second
       (deeds.paired contents _ _ a b _ _ (found_in old.devices.items a x first) (found_in old.devices.items b y second) is) so
   pair_done a b old new (Some x) None first second is so = absurd is
   pair_done a b old new None p first second is so = absurd is

@@ -1,20 +1,50 @@
 -- A pair is taken apart.
-use Rattle.std.proofs.Common.{◌≡◌, ◌∙◌, ◌<◌, ◌⊎◌, inl, inr, length, ◌==◌, ◌*◌, ℕ, zero, suc, Bool, true, false, List, [], ◌∷◌, Option, Some, None,
-    arith, get_or, is_some, set, refl, sym, ap, subst}
+use Rattle.std.proofs.Common.{
+  ◌≡◌,
+  ◌∙◌,
+  ◌<◌,
+  ◌+◌,
+  ◌⊎◌,
+  inl,
+  inr,
+  length,
+  ◌==◌,
+  ◌*◌,
+  ℕ,
+  zero,
+  suc,
+  Bool,
+  true,
+  false,
+  List,
+  [],
+  ◌∷◌,
+  Option,
+  Some,
+  None,
+  arith,
+  get_or,
+  is_some,
+  set,
+  refl,
+  sym,
+  ap,
+  subst,
+}
 use Rattle.std.specs.Prelude.{OnErr, OnOk, Result, Ok, Err, if◌then◌else◌, slice_get}
 use Rattle.std.proofs.lemmas.Bool.{eqb-true}
 use Rattle.std.proofs.lemmas.Option.{get_or_from_slice_get, slice_get_within}
 use Rattle.std.proofs.Math.Seq.{map-set_same}
 use Rattle.device_outside.specs.declared.volume.Volume.{Ghosts}
-use Rattle.device_defs.specs.Orders.{restore, split}
+use Rattle.device_defs.specs.Orders.{restore}
 use Rattle.device_store.specs.declared.store.DeviceStore.{DeviceStore}
 use Rattle.device_store.specs.State.{on_a, on_b}
 use Rattle.device_core.specs.declared.device.Device.{Device}
 use Rattle.device_core.specs.State.{DefinedDevice, device_of}
 use Rattle.subsystem_defs.specs.Happening.{is_lent_to}
 use Rattle.subsystem_core.specs.Comes.{AreStill, Changes, IsRestored, IsSplit, Parts, Restored, none_was_lent, this_was_lent, another_was_lent}
-use Rattle.subsystem_core.specs.Devices.{devices_of, device_at, put_at, volumes_of}
-use Rattle.subsystem_core.specs.Pairs.{AreElsewhere, IsFirstLent, IsLentAt, IsOfSize}
+use Rattle.subsystem_core.specs.Devices.{device_at, put_at}
+use Rattle.subsystem_core.specs.Pairs.{AreElsewhere, IsFirstLent, IsOfSize}
 use Rattle.subsystem_core.specs.Seats.{seats_of, AreAlike}
 use Rattle.subsystem_core.proofs.Found.{some_same}
 use Rattle.subsystem_core.proofs.Numbers.{lt_or_eq}
@@ -40,7 +70,7 @@ module _ {V : Type 0} {G : Ghosts V} where
       this_was_lent (subst (λ (z : Device V G). is_lent_to z.store.pair.lent n ≡ true) same lent) (subst (λ (z : Device V G). IsRestored volume z y) same so)
   first_restored n (suc i) volume (d ∷ ds) x y is lent others so =
       another_was_lent (others 0 d (omega arith) refl)
-          (first_restored n i volume ds x y is lent (λ j z below at. others (suc j) z (omega (arith, below)) at) so)
+      (first_restored n i volume ds x y is lent (λ j z below at. others (suc j) z (omega (arith, below)) at) so)
 
   -- it is as large as the one to which it was
   pub restored_size : (n i : ℕ) (volume : V) (ds : List (Device V G)) (x : Device V G) → slice_get ds i ≡ Some x → is_lent_to x.store.pair.lent n ≡ true →
@@ -73,7 +103,7 @@ module _ {V : Type 0} {G : Ghosts V} where
 
   -- one place more
   pub else_more : (n : ℕ) (ds : List (Device V G)) (i : ℕ) (x : Device V G) → i < length ds → x ≡ get_or ds i x → is_lent_to x.store.pair.lent n ≡ false →
-      AreElsewhere n ds i → (j : ℕ) (z : Device V G) → j < suc i → slice_get ds j ≡ Some z → is_lent_to z.store.pair.lent n ≡ false
+      AreElsewhere n ds i → (j : ℕ) (z : Device V G) → j < i + 1 → slice_get ds j ≡ Some z → is_lent_to z.store.pair.lent n ≡ false
   else_more n ds i x within read off others j z below at = by_place (lt_or_eq j i below)
     where
       by_place : (j < i) ⊎ (j ≡ i) → is_lent_to z.store.pair.lent n ≡ false
@@ -128,45 +158,57 @@ module _ {V : Type 0} {G : Ghosts V} where
       by_lent None is = refl
       by_lent (Some to) is = let down = x.store.pair.away (ap is_some is) in let h : true ≡ false = sym up ∙ down.0 in absurd (cc)
 
-  restored_here : {n : ℕ} {volume : V} {x y : Device V G} → IsRestored volume x y → y.store.number ≡ x.store.number
+  restored_here : {volume : V} {x y : Device V G} → IsRestored volume x y → y.store.number ≡ x.store.number
   restored_here so = ap (λ (d : DefinedDevice). d.store.device) so.device
+
+  no_other : (n : ℕ) (x d : Device V G) → is_lent_to x.store.pair.lent n ≡ false → is_lent_to d.store.pair.lent n ≡ true → d ≡ x → ⊥
+  no_other n x d off lent same =
+      let h : true ≡ false = sym lent ∙ ap (λ (w : Device V G). is_lent_to w.store.pair.lent n) same ∙ off in absurd (cc)
+
+  other_here : (n m : ℕ) (volume : V) (x d z : Device V G) (ds : List (Device V G)) → is_lent_to x.store.pair.lent n ≡ false →
+      is_lent_to d.store.pair.lent n ≡ true → IsRestored volume d z → (b : Bool) → (d.store.number == m) ≡ b →
+      (if b then Some d else device_at ds m) ≡ Some x → device_at (z ∷ ds) m ≡ Some x
+  other_here n m volume x d z ds off lent so true e there = absurd (no_other n x d off lent (some_same there))
+  other_here n m volume x d z ds off lent so false e there = rw (restored_here so, e) there
+
+  other_behind : (m : ℕ) (x d : Device V G) (ds zs : List (Device V G)) → (device_at ds m ≡ Some x → device_at zs m ≡ Some x) → (b : Bool) →
+      (d.store.number == m) ≡ b → (if b then Some d else device_at ds m) ≡ Some x → device_at (d ∷ zs) m ≡ Some x
+  other_behind m x d ds zs rest true e there = rw e there
+  other_behind m x d ds zs rest false e there = rw e (rest there)
 
   -- it stays where it was
   restored_other : (n m : ℕ) (volume : V) (x : Device V G) {olds mids : List (Device V G)} → is_lent_to x.store.pair.lent n ≡ false →
       Restored n volume olds mids → device_at olds m ≡ Some x → device_at mids m ≡ Some x
   restored_other n m volume x off none_was_lent is = is
-  restored_other n m volume x off (this_was_lent {x = d} {y = z} {xs = ds} lent so) is = by_test (d.store.number == m) refl is
-    where
-      by_test : (b : Bool) → (d.store.number == m) ≡ b → (if b then Some d else device_at ds m) ≡ Some x → device_at (z ∷ ds) m ≡ Some x
-      by_test true e there =
-          let same : d ≡ x = some_same there in
-          let h : true ≡ false = sym lent ∙ ap (λ (w : Device V G). is_lent_to w.store.pair.lent n) same ∙ off in absurd (cc)
-      by_test false e there = rw (restored_here so, e) there
-  restored_other n m volume x off (another_was_lent {x = d} {xs = ds} {ys = zs} else_lent rest) is = by_test (d.store.number == m) refl is
-    where
-      by_test : (b : Bool) → (d.store.number == m) ≡ b → (if b then Some d else device_at ds m) ≡ Some x → device_at (d ∷ zs) m ≡ Some x
-      by_test true e there = rw e there
-      by_test false e there = rw e (restored_other n m volume x off rest there)
+  restored_other n m volume x off (this_was_lent {x = d} {y = z} {xs = ds} lent so) is =
+      other_here n m volume x d z ds off lent so (d.store.number == m) refl is
+  restored_other n m volume x off (another_was_lent {x = d} {xs = ds} {ys = zs} else_lent rest) is =
+      other_behind m x d ds zs (λ there. restored_other n m volume x off rest there) (d.store.number == m) refl is
+
+  put_here : (n m : ℕ) (volume : V) (x y d z : Device V G) (ds : List (Device V G)) → is_lent_to x.store.pair.lent n ≡ false →
+      is_lent_to d.store.pair.lent n ≡ true → IsRestored volume d z → (b : Bool) → (d.store.number == m) ≡ b →
+      (if b then Some d else device_at ds m) ≡ Some x → Restored n volume (if b then y ∷ ds else d ∷ put_at ds m y) (put_at (z ∷ ds) m y)
+  put_here n m volume x y d z ds off lent so true e there = absurd (no_other n x d off lent (some_same there))
+  put_here n m volume x y d z ds off lent so false e there =
+      let apart : (z.store.number == m) ≡ false = ap (λ (k : ℕ). k == m) (restored_here so) ∙ e in rw apart (this_was_lent lent so)
+
+  put_behind : (n m : ℕ) (volume : V) (x y d : Device V G) (ds zs : List (Device V G)) → is_lent_to y.store.pair.lent n ≡ false →
+      is_lent_to d.store.pair.lent n ≡ false → Restored n volume ds zs →
+      (device_at ds m ≡ Some x → Restored n volume (put_at ds m y) (put_at zs m y)) → (b : Bool) →
+      (if b then Some d else device_at ds m) ≡ Some x →
+      Restored n volume (if b then y ∷ ds else d ∷ put_at ds m y) (if b then y ∷ zs else d ∷ put_at zs m y)
+  put_behind n m volume x y d ds zs stays else_lent each rest true there = another_was_lent stays each
+  put_behind n m volume x y d ds zs stays else_lent each rest false there = another_was_lent else_lent (rest there)
 
   -- and so another one in its place
   restored_put : (n m : ℕ) (volume : V) (x y : Device V G) {olds mids : List (Device V G)} → is_lent_to x.store.pair.lent n ≡ false →
       is_lent_to y.store.pair.lent n ≡ false → Restored n volume olds mids → device_at olds m ≡ Some x →
       Restored n volume (put_at olds m y) (put_at mids m y)
   restored_put n m volume x y off stays none_was_lent is = none_was_lent
-  restored_put n m volume x y off stays (this_was_lent {x = d} {y = z} {xs = ds} lent so) is = by_test (d.store.number == m) refl is
-    where
-      by_test : (b : Bool) → (d.store.number == m) ≡ b → (if b then Some d else device_at ds m) ≡ Some x →
-          Restored n volume (if b then y ∷ ds else d ∷ put_at ds m y) (put_at (z ∷ ds) m y)
-      by_test true e there =
-          let same : d ≡ x = some_same there in
-          let h : true ≡ false = sym lent ∙ ap (λ (w : Device V G). is_lent_to w.store.pair.lent n) same ∙ off in absurd (cc)
-      by_test false e there = rw (restored_here so, e) (this_was_lent lent so)
-  restored_put n m volume x y off stays (another_was_lent {x = d} {xs = ds} {ys = zs} else_lent rest) is = by_test (d.store.number == m) refl is
-    where
-      by_test : (b : Bool) → (d.store.number == m) ≡ b → (if b then Some d else device_at ds m) ≡ Some x →
-          Restored n volume (if b then y ∷ ds else d ∷ put_at ds m y) (if b then y ∷ zs else d ∷ put_at zs m y)
-      by_test true e there = another_was_lent stays rest
-      by_test false e there = another_was_lent else_lent (restored_put n m volume x y off stays rest there)
+  restored_put n m volume x y off stays (this_was_lent {x = d} {y = z} {xs = ds} lent so) is =
+      put_here n m volume x y d z ds off lent so (d.store.number == m) refl is
+  restored_put n m volume x y off stays (another_was_lent {x = d} {xs = ds} {ys = zs} else_lent rest) is =
+      put_behind n m volume x y d ds zs stays else_lent rest (λ there. restored_put n m volume x y off stays rest there) (d.store.number == m) is
 
   pub parts : (n : ℕ) (volume : V) (olds mids news : List (Device V G)) (x : Device V G) → device_at olds n ≡ Some x → x.store.pair.a.up ≡ true →
       Restored n volume olds mids → Changes n IsSplit mids news → Parts n volume olds news

@@ -33,7 +33,7 @@ use Rattle.subsystem_defs.specs.declared.event.Event.{Event}
 use Rattle.subsystem_core.specs.declared.end.EventEnd.{EventEnd}
 use Rattle.subsystem_core.specs.declared.subsystem.Subsystem.{Subsystem}
 use Rattle.subsystem_core.specs.Comes.{Came}
-use Rattle.subsystem_core.specs.Runs.{Runs, over, next, Stops, before, lacked, behind}
+use Rattle.subsystem_core.specs.Runs.{Runs, over, next, Stops, lacked, behind}
 
 -- the items from one on
 pub at_hand : {X : Type 0} (xs : List X) (x : X) (i : ℕ) → i < length xs → x ≡ get_or xs i x → drop i xs ≡ x ∷ drop (suc i) xs

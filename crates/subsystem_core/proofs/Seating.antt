@@ -1,9 +1,7 @@
 -- To whom devices are lent, and how large they are, behind an event.
-use Rattle.std.proofs.Common.{◌≡◌, ◌∙◌, ◌<◌, ◌⊎◌, inl, inr, ℕ, zero, suc, Bool, true, false, List, [], ◌∷◌, Option, Some, None, length, get_or, set,
-    map, refl, sym, ap, subst}
+use Rattle.std.proofs.Common.{◌≡◌, ◌∙◌, ◌⊎◌, inl, inr, ℕ, zero, suc, Bool, true, false, List, [], ◌∷◌, Option, Some, None, get_or, set, refl, sym, ap, subst}
 use Rattle.std.specs.Prelude.{◌==◌, IsSome, slice_get, option_map, if◌then◌else◌}
-use Rattle.std.proofs.lemmas.Bool.{eqb-true}
-use Rattle.std.proofs.lemmas.Option.{slice_get-map, slice_get-get_or}
+use Rattle.std.proofs.lemmas.Option.{slice_get-map}
 use Rattle.std.proofs.Math.Seq.{map-set_same}
 use Rattle.std.proofs.lemmas.List.{map-set}
 use Rattle.ckd_types.specs.declared.paths.Side.{Side}
@@ -52,6 +50,17 @@ lend_based d to =
     (λ z. Done (with_tracks z (lent_to (over (tracks_of z.store) (given_up contents) z.store) to)) tt) (based_done refl)
 
 -- Seats in a list
+
+alone_by : (x : Seat) (m : ℕ) (b : Bool) → (if b then Some x.cylinders else None) ≡ Some m → m ≡ x.cylinders
+alone_by x m true is = sym (some_same is)
+alone_by x m false is = absurd (cc)
+
+-- one alone is as large as itself
+pub alone_alike : (x : Seat) (i n m : ℕ) (w : Seat) → slice_get (x ∷ []) i ≡ Some w → w.lent ≡ Some n → cylinders_at (x ∷ []) n ≡ Some m →
+    m ≡ w.cylinders
+alone_alike x zero n m w at lent large =
+    let same : x ≡ w = some_same at in alone_by x m (x.number == n) large ∙ ap (λ (z : Seat). z.cylinders) same
+alone_alike x (suc i) n m w at lent large = absurd (cc)
 
 at_set : (xs : List Seat) (i j : ℕ) (y w : Seat) → slice_get (set xs i y) j ≡ Some w → (w ≡ y) ⊎ (slice_get xs j ≡ Some w)
 at_set [] i j y w is = inr is
@@ -123,11 +132,11 @@ module _ {V : Type 0} {G : Ghosts V} where
   -- All of them
 
   pub seats_kept : (ds : List (Device V G)) (i : ℕ) (x y : Device V G) → x ≡ get_or ds i x → SitsAs x y → seats_of (set ds i y) ≡ seats_of ds
-  seats_kept ds i x y read s = map-set_same seat_of ds i y x (same_seat x y s ∙ ap seat_of read)
+  seats_kept ds i x y here s = map-set_same seat_of ds i y x (same_seat x y s ∙ ap seat_of here)
 
   pub alike_kept : (ds : List (Device V G)) (i : ℕ) (x y : Device V G) → x ≡ get_or ds i x → SitsAs x y → AreAlike (seats_of ds) →
       AreAlike (seats_of (set ds i y))
-  alike_kept ds i x y read s alike = subst (λ (xs : List Seat). AreAlike xs) (sym (seats_kept ds i x y read s)) alike
+  alike_kept ds i x y here s alike = subst (λ (xs : List Seat). AreAlike xs) (sym (seats_kept ds i x y here s)) alike
 
   pub seat_there : (ds : List (Device V G)) (i : ℕ) (x : Device V G) → slice_get ds i ≡ Some x → slice_get (seats_of ds) i ≡ Some (seat_of x)
   seat_there ds i x is = slice_get-map seat_of ds i ∙ ap (option_map seat_of) is

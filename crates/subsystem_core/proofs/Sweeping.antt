@@ -1,12 +1,18 @@
 -- Swept device, one after another.
 use Rattle.std.proofs.lemmas.List.{take_all}
-use Rattle.std.proofs.Common.{◌≡◌, ◌<◌, ◌≤◌, ◌+◌, ℕ, zero, suc, List, [], ◌∷◌, length, get_or, set, take, drop, arith, refl, ap, map, sym, ◌∙◌, subst, add-one}
+use Rattle.std.proofs.Common.{◌≡◌, ◌<◌, ◌≤◌, ℕ, zero, suc, List, [], ◌∷◌, length, get_or, set, take, drop, arith, ◌∙◌, subst}
 use Rattle.device_outside.specs.declared.volume.Volume.{Ghosts}
 use Rattle.frame_pool.specs.Shared.{Shared}
 use Rattle.device_store.specs.State.{surely}
 use Rattle.device_core.specs.declared.device.Device.{Device}
 use Rattle.device_core.specs.State.{DefinedDevice, device_of}
 use Rattle.subsystem_core.specs.Comes.{Talk, AskedWith, Swept, over, next}
+
+first_same : {X : Type 0} {x y : X} {xs ys : List X} → x ∷ xs ≡ y ∷ ys → x ≡ y
+first_same e = cc
+
+others_same : {X : Type 0} {x y : X} {xs ys : List X} → x ∷ xs ≡ y ∷ ys → xs ≡ ys
+others_same e = cc
 
 module _ {V : Type 0} {G : Ghosts V} (f : DefinedDevice → Talk (Unit {0})) where
   one_first : {p q : Shared} (r : Shared) (x y : Device V G) → AskedWith surely (f (device_of x)) tt q x y r → Swept {V = V} {G = G} f p [] [] q →
@@ -19,7 +25,7 @@ module _ {V : Type 0} {G : Ghosts V} (f : DefinedDevice → Talk (Unit {0})) whe
   swept_more i xs [] x y within rest read each asked = absurd (omega arith)
   swept_more zero [] (b ∷ bs) x y within rest read each asked = absurd (cc)
   swept_more {p} {q} {r} zero (a ∷ others) (b ∷ bs) x y within rest read each asked =
-      let same : b ≡ a = cc in
+      let same : b ≡ a = first_same rest in
       let it : x ≡ a = read ∙ same in
       subst (λ (z : Device V G). Swept f p (z ∷ []) (y ∷ []) r) it (one_first r x y asked each)
   swept_more (suc i) [] (b ∷ bs) x y within rest read each asked = absurd (elim each [ ])
@@ -30,7 +36,7 @@ module _ {V : Type 0} {G : Ghosts V} (f : DefinedDevice → Talk (Unit {0})) whe
       drop (suc i) (set ys i y) ≡ drop (suc i) xs
   rest_more i [] ys y here there rest = absurd (omega arith)
   rest_more i (a ∷ others) [] y here there rest = absurd (omega arith)
-  rest_more zero (a ∷ others) (b ∷ bs) y here there rest = cc
+  rest_more zero (a ∷ others) (b ∷ bs) y here there rest = others_same rest
   rest_more (suc i) (a ∷ others) (b ∷ bs) y here there rest = rest_more i others bs y (omega arith) (omega arith) rest
 
   pub swept_all : {p q : Shared} (i : ℕ) (xs ys : List (Device V G)) → length xs ≤ i → length ys ≤ i → Swept f p (take i xs) (take i ys) q → Swept f p xs ys q

@@ -8,7 +8,7 @@ use Rattle.device_outside.specs.declared.keep.NoKeep.{NoKeep}
 use Rattle.device_outside.specs.declared.volume.Volume.{Ghosts}
 use Rattle.device_outside.specs.Interaction.{Interaction}
 use Rattle.device_outside.specs.Keeper.{reply}
-use Rattle.device_outside.specs.Outside.{PortView, Ran}
+use Rattle.device_outside.specs.Outside.{Ran}
 use Rattle.device_outside.specs.Pool.{Pool}
 use Rattle.frame_pool.specs.Shared.{Shared, shared_view}
 use Rattle.device_defs.specs.Contents.{contents}

@@ -1,5 +1,5 @@
 -- Events one after another.
-use Rattle.std.specs.Prelude.{List, [], ◌∷◌, Some, None, Result, Ok, Err}
+use Rattle.std.specs.Prelude.{List, [], ◌∷◌, Some, None}
 use Rattle.device_outside.specs.declared.volume.Volume.{Ghosts}
 use Rattle.subsystem_defs.specs.declared.event.Event.{Event}
 use Rattle.subsystem_core.specs.declared.end.EventEnd.{EventEnd}

@@ -1,7 +1,16 @@
 ghost use Rattle.std.specs.Prelude.{◌≡◌};
 ghost use Rattle.device_core.specs.State.{device_of};
-ghost use Rattle.subsystem_defs.specs.Refusals.{fail_fault, has_side, is_alike, is_same_kind, pair_fault, replace_fault, resume_fault, suspend_fault,
-    unpair_fault};
+ghost use Rattle.subsystem_defs.specs.Refusals.{
+  fail_fault,
+  has_side,
+  is_alike,
+  is_same_kind,
+  pair_fault,
+  replace_fault,
+  resume_fault,
+  suspend_fault,
+  unpair_fault,
+};
 
 use ckd_types::{Geometry, Side};
 use device_core::Device;

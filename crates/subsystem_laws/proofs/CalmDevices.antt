@@ -1,5 +1,33 @@
 -- What a calm run keeps of a device, and what each event makes of it where none of its calls fails.
-use Rattle.std.proofs.Common.{◌≡◌, ◌<◌, ◌≤◌, ◌==◌, ℕ, Bool, true, false, not, List, [], ◌∷◌, Option, Some, None, is_some, length, option_map, refl, sym, ap, subst, ◌∙◌, arith, ◌⊎◌, inl, inr}
+use Rattle.std.proofs.Common.{
+  ◌≡◌,
+  ◌<◌,
+  ◌≤◌,
+  ◌==◌,
+  ℕ,
+  Bool,
+  true,
+  false,
+  not,
+  List,
+  [],
+  ◌∷◌,
+  Option,
+  Some,
+  None,
+  is_some,
+  length,
+  option_map,
+  refl,
+  sym,
+  ap,
+  subst,
+  ◌∙◌,
+  arith,
+  ◌⊎◌,
+  inl,
+  inr,
+}
 use Rattle.std.proofs.lemmas.Bool.{cases_lt, eqb-true}
 use Rattle.std.proofs.lemmas.List.{get_or_past}
 use Rattle.std.specs.Prelude.{if◌then◌else◌, ◌&&◌, ◌||◌, count_by}

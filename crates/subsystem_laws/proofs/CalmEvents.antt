@@ -1,6 +1,33 @@
 -- What each event and order makes of a device of a calm run: no track is lost, and no command ends with equipment check but behind a loss of its
 -- own program's data of cache fast write.
-use Rattle.std.proofs.Common.{◌≡◌, ◌<◌, ◌≤◌, ◌+◌, ◌==◌, ℕ, Bool, true, false, not, Option, Some, None, is_some, [], ◌∷◌, option_map, refl, sym, ap, subst, ◌∙◌, arith, ◌⊎◌, inl, inr}
+use Rattle.std.proofs.Common.{
+  ◌≡◌,
+  ◌<◌,
+  ◌≤◌,
+  ◌+◌,
+  ◌==◌,
+  ℕ,
+  Bool,
+  true,
+  false,
+  not,
+  Option,
+  Some,
+  None,
+  is_some,
+  [],
+  ◌∷◌,
+  option_map,
+  refl,
+  sym,
+  ap,
+  subst,
+  ◌∙◌,
+  arith,
+  ◌⊎◌,
+  inl,
+  inr,
+}
 use Rattle.std.specs.Prelude.{◌&&◌, ◌||◌}
 use Rattle.ckd_chain.specs.State.{ChainState}
 use Rattle.ckd_types.specs.declared.paths.Side.{Side}

@@ -127,7 +127,7 @@ use Rattle.subsystem_laws.proofs.CalmEvents.{
 use Rattle.subsystem_laws.proofs.DataChecks.{run_has_no_data_check}
 use Rattle.subsystem_laws.proofs.DeedWalk.{seat_of, IsEventwise}
 use Rattle.subsystem_laws.proofs.Pairing.{KeepsEvent, IsPairwise, ShowsAll, run_pairs, ends_made, becomes_so, fair_of, started_number}
-use Rattle.subsystem_laws.proofs.RunLines.{Goes, run_shows}
+use Rattle.subsystem_laws.proofs.RunLines.{AnyEvent, Goes, run_shows}
 use Rattle.subsystem_laws.proofs.RunLinks.{Linked, event_from, lines_linked}
 use Rattle.subsystem_laws.proofs.TracksKept.{Fair, fair_kept, opened_fair}
 use Rattle.subsystem_laws.proofs.Walks.{AreSo, run_keeps}
@@ -305,9 +305,9 @@ module _ (s : Subsystem) where
 abbrev Refuses : Logged → Type 0
 Refuses x = asks_loss x.asked ≡ true → is_done x.happened.end ≡ false → x.happened.behind ≡ x.happened.before
 
-refuses_go : Goes (λ s. Unit {0}) Refuses
+refuses_go : Goes (λ s. Unit {0}) (λ s. Refuses) AnyEvent
 refuses_go = record {
-  once = λ s e q. (tt, λ is done. refused_same s e is done ∙ sym (event_from s e));
+  once = λ s e may q. (tt, λ is done. refused_same s e is done ∙ sym (event_from s e));
   stepped = λ s d q. (tt, λ is done. absurd (cc));
   idle = λ s d q. (tt, λ is done. absurd (cc));
   backed = λ s d q. (tt, λ is done. absurd (cc));

@@ -20,6 +20,7 @@ use Rattle.subsystem_defs.specs.Decks.{opened_device, opened, run_of}
 use Rattle.subsystem_defs.specs.Lines.{asked_by}
 use Rattle.subsystem_laws.specs.Causes.{HasNoDataCheck, HaveNoDataCheck}
 use Rattle.subsystem_laws.proofs.PastChecks.{reset_counts, power_counts, lend_counts}
+use Rattle.subsystem_laws.proofs.RunLines.{AnyEvent}
 use Rattle.subsystem_laws.proofs.Walks.{IsKept, AreSo, LeavesSo, run_keeps}
 
 -- whatever is answered
@@ -30,9 +31,9 @@ started_so : (d : MarksDevice) (path : ℕ) → HasNoDataCheck d → HasNoDataCh
 unfolding S.start
 started_so d path p = p
 
-pub checks_kept : IsKept HasNoDataCheck
+pub checks_kept : IsKept HasNoDataCheck AnyEvent
 checks_kept = record {
-  started = λ d path fault p. started_so d path p;
+  started = λ d path n may fault p. started_so d path p;
   commanded = λ d o running whole p. λ t. clean_held (command_clean d) t ∙ p;
   seconded = λ d h is p. λ t. clean_held (second_clean d) t ∙ p;
   worked = λ d whole p. always_so (background_holds by_plain 0 d p);

@@ -46,7 +46,7 @@ use Rattle.subsystem_defs.specs.Deeds.{
 use Rattle.subsystem_defs.specs.Happening.{MarksDeed}
 use Rattle.subsystem_defs.specs.Refusals.{pair_fault, suspend_fault, resume_fault, fail_fault}
 use Rattle.subsystem_defs.specs.Subsystem.{Mounted, Subsystem, devices_of, mounted_in}
-use Rattle.subsystem_laws.proofs.PlainRuns.{number_found, same_found}
+use Rattle.subsystem_laws.proofs.FoundDevices.{number_found, same_found}
 
 -- the one that is mounted at its number
 abbrev pub IsSeat : Subsystem → MarksDevice → Type 0

@@ -1,5 +1,34 @@
 -- Each equipment check in the run of a deck is explained, while failed calls are counted.
-use Rattle.std.proofs.Common.{◌≡◌, ◌<◌, ◌+◌, ◌-◌, ◌==◌, ℕ, Bool, true, false, List, [], ◌∷◌, ◌++◌, length, Option, Some, None, option_map, refl, sym, ap, subst, ◌∙◌, append_assoc, arith, ◌⊎◌, inl, inr}
+use Rattle.std.proofs.Common.{
+  ◌≡◌,
+  ◌<◌,
+  ◌+◌,
+  ◌-◌,
+  ◌==◌,
+  ℕ,
+  Bool,
+  true,
+  false,
+  List,
+  [],
+  ◌∷◌,
+  ◌++◌,
+  length,
+  Option,
+  Some,
+  None,
+  option_map,
+  refl,
+  sym,
+  ap,
+  subst,
+  ◌∙◌,
+  append_assoc,
+  arith,
+  ◌⊎◌,
+  inl,
+  inr,
+}
 use Rattle.std.proofs.lemmas.Bool.{ne_eqb}
 use Rattle.std.proofs.lemmas.List.{append-nil}
 use Rattle.std.specs.Prelude.{not, count_by, if◌then◌else◌, ◌&&◌, ◌||◌}
@@ -144,7 +173,7 @@ behind_all : (xs more : List Item) → behind_first (length xs) (xs ++ more) ≡
 behind_all [] more = refl
 behind_all (x ∷ xs) more = behind_all xs more
 
-new_are : (x y : MarksDevice) (g : Grows x.history y.history) → new_items x.history y.history ≡ g.more
+pub new_are : (x y : MarksDevice) (g : Grows x.history y.history) → new_items x.history y.history ≡ g.more
 new_are x y g = ap (behind_first (length x.history.items)) g.grown ∙ behind_all x.history.items g.more
 
 none_first : (x y : MarksDevice) (xs : List Item) → AreNot ends_with_equipment_check xs → explained_first x y xs ≡ true
@@ -380,7 +409,8 @@ grows_none h k e = record { more = []; grown = e ∙ sym (append-nil h.items) }
 
 reset_grows : (h : History) (path more : ℕ) (r : Option OpenEntry) → Grows h (reset_in h path more r)
 reset_grows h path more (Some o) =
-    grows_if h (o.path == path) (cut_by h o more) _ (record { more = entry_of o (Cut (length o.ends + more)) ∷ items.Reset o.path ∷ resets_of h.waiting; grown = refl })
+    grows_if h (o.path == path) (cut_by h o more) _
+    (record { more = entry_of o (Cut (length o.ends + more)) ∷ items.Reset o.path ∷ resets_of h.waiting; grown = refl })
     (grows_if h (is_used path false h.items) (record h { waiting = put path h.waiting }) h (grows_none h (record h { waiting = put path h.waiting }) refl)
     (grows_none h h refl))
 reset_grows h path more None =
@@ -422,7 +452,7 @@ module _ (d : MarksDevice) where
   grows_of : (y : MarksDevice) → Continues d.plans d.history y → Grows d.history y.history
   grows_of y k = record { more = k.history.more; grown = k.history.grown }
 
-  its_own : Continues d.plans d.history d
+  pub its_own : Continues d.plans d.history d
   its_own = record { plans = refl; history = extends_itself d.history }
 
   pub lose_explained : (loss : Loss) (t : Told) → explained_on d (T.hold true (lose by_plain d loss) t).state ≡ true

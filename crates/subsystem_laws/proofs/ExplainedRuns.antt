@@ -14,7 +14,7 @@ use Rattle.subsystem_laws.specs.Causes.{EachPair, CountsFailures, CountFailures}
 use Rattle.subsystem_laws.specs.Served.{IsServedDeck}
 use Rattle.subsystem_laws.proofs.CalmRuns.{AllSo, all_so}
 use Rattle.subsystem_laws.proofs.Explained.{Explains, run_explains}
-use Rattle.subsystem_laws.proofs.PlainRuns.{Plainly, ArePlain, LogsPlain, lines_plain, opened_plain}
+use Rattle.subsystem_laws.proofs.PlainRuns.{Plainly, opened_plain, run_stays_plain}
 use Rattle.subsystem_laws.proofs.RunLinks.{Linked, lines_linked}
 use Rattle.subsystem_laws.proofs.SteeredRuns.{Steered, steered_kept, opened_steered}
 use Rattle.subsystem_laws.proofs.Walks.{AreSo, run_keeps}
@@ -28,13 +28,9 @@ record Stands (s : Subsystem) : Type 0 where
   plain : AllSo Plainly (devices_of s)
   steered : AllSo Steered (devices_of s)
 
-all_plainly : (ms : List Mounted) → ArePlain ms → AllSo Plainly (map (λ (m : Mounted). m.device) ms)
-all_plainly [] p = tt
-all_plainly (m ∷ ms) p = (p.0, all_plainly ms p.1)
-
-all_steered : (ms : List Mounted) → AreSo Steered ms → AllSo Steered (map (λ (m : Mounted). m.device) ms)
-all_steered [] p = tt
-all_steered (m ∷ ms) p = (p.0, all_steered ms p.1)
+all_mounted : (P : MarksDevice → Type 0) (ms : List Mounted) → AreSo P ms → AllSo P (map (λ (m : Mounted). m.device) ms)
+all_mounted P [] p = tt
+all_mounted P (m ∷ ms) p = (p.0, all_mounted P ms p.1)
 
 -- each device's pair
 all_explained : (xs ys : List MarksDevice) → EachPair Explains xs ys → AllSo Plainly xs → AllSo Steered xs → AllSo CountsFailures xs →
@@ -47,8 +43,11 @@ all_explained (x ∷ xs) (y ∷ ys) h p q n =
 abbrev PairsExplain : Logged → Type 0
 PairsExplain x = EachPair Explains (devices_of x.happened.before) (devices_of x.happened.behind)
 
-abbrev AreSteered : Logged → Type 0
-AreSteered x = All Steered (devices_of x.happened.behind)
+abbrev AreBehind : (MarksDevice → Type 0) → Logged → Type 0
+AreBehind P x = All P (devices_of x.happened.behind)
+
+behind : (P : MarksDevice → Type 0) (t : Logged) (ts : List Logged) → All (AreBehind P) (t ∷ ts) → AllSo P (devices_of t.happened.behind)
+behind P t ts h = all_so P (devices_of t.happened.behind) (All-head (AreBehind P) t ts h)
 
 event_explained : (t : Logged) → PairsExplain t → Stands t.happened.before → All CountsFailures (devices_of t.happened.before) → explained_in t ≡ true
 event_explained t h z n =
@@ -56,25 +55,24 @@ event_explained t h z n =
     (all_so CountsFailures (devices_of t.happened.before) n)
 
 -- event by event
-explained_from : (ts : List Logged) (s : Subsystem) → Linked s ts → All PairsExplain ts → LogsPlain s ts → All AreSteered ts → All CountFailures ts → Stands s →
-    are_explained ts ≡ true
+explained_from : (ts : List Logged) (s : Subsystem) → Linked s ts → All PairsExplain ts → All (AreBehind Plainly) ts → All (AreBehind Steered) ts →
+    All CountFailures ts → Stands s → are_explained ts ≡ true
 unfolding P.are_explained
 explained_from [] s l h p q n z = refl
 explained_from (t ∷ ts) s l h p q n z =
     and_true (explained_in t) (are_explained ts)
     (event_explained t (All-head PairsExplain t ts h) (subst Stands (sym l.0) z) (All-head CountFailures t ts n))
-    (explained_from ts t.happened.behind l.1 (All-tail PairsExplain t ts h) p.1 (All-tail AreSteered t ts q) (All-tail CountFailures t ts n)
-    (record {
-      plain = all_plainly t.happened.behind.mounted p.0;
-      steered = all_so Steered (devices_of t.happened.behind) (All-head AreSteered t ts q);
-    }))
+    (explained_from ts t.happened.behind l.1 (All-tail PairsExplain t ts h) (All-tail (AreBehind Plainly) t ts p) (All-tail (AreBehind Steered) t ts q)
+    (All-tail CountFailures t ts n) (record { plain = behind Plainly t ts p; steered = behind Steered t ts q }))
 
 pub run_is_explained : (deck : DeckLines) → IsServedDeck deck → All CountFailures (run_of deck).events → are_explained (run_of deck).events ≡ true
 unfolding D.run_asked
 run_is_explained deck h n =
     let lines = map asked_by deck.events in
-    let plain = opened_plain deck deck.devices h.devices in
     let steered = opened_steered deck deck.devices in
-    explained_from (run_of deck).events (opened deck) (lines_linked lines (opened deck)) (run_explains deck h)
-    (lines_plain deck.events (opened deck) h.events plain) (run_keeps Steered steered_kept lines (opened deck) steered) n
-    (record { plain = all_plainly (opened deck).mounted plain; steered = all_steered (opened deck).mounted steered })
+    explained_from (run_of deck).events (opened deck) (lines_linked lines (opened deck)) (run_explains deck h) (run_stays_plain deck h)
+    (run_keeps Steered steered_kept lines (opened deck) steered) n
+    (record {
+      plain = all_mounted Plainly (opened deck).mounted (opened_plain deck deck.devices h.devices);
+      steered = all_mounted Steered (opened deck).mounted steered;
+    })

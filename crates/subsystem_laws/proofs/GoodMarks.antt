@@ -53,6 +53,7 @@ use Rattle.subsystem_laws.specs.Served.{IsServedDeck}
 use Rattle.subsystem_laws.proofs.ChainPlaces.{on_is_within, begins_on}
 use Rattle.subsystem_laws.proofs.ChainRuns.{HasChainOn, command_on, second_on, background_on, lose_on, power_on, reset_on, lend_on}
 use Rattle.subsystem_laws.proofs.LendBase.{at, stays_still, lend_lends}
+use Rattle.subsystem_laws.proofs.RunLines.{AnyEvent}
 use Rattle.subsystem_laws.proofs.Walks.{IsFree, IsKept, none_lent, AreSo, LeavesSo, run_keeps, behind_weaker}
 use Rattle.subsystem_defs.proofs.Unrefused.{first_none, where_none, is_not}
 use Rattle.subsystem_laws.proofs.WholeOrders.{is_down}
@@ -273,9 +274,9 @@ pub lent_is : (l : Option ℕ) (a : ℕ) → is_lent_to l a ≡ true → is_some
 lent_is (Some to) a e = refl
 lent_is None a e = absurd (cc)
 
-pub good_kept : IsKept Good
+pub good_kept : IsKept Good AnyEvent
 good_kept = record {
-  started = λ d path fault g. start_good d g path fault;
+  started = λ d path n may fault g. start_good d g path fault;
   commanded = λ d o running whole g. command_good d g o running whole;
   seconded = λ d h is g. second_good d g h is;
   worked = λ d whole g. background_good d g whole;

@@ -1,7 +1,10 @@
-pub mod PlainRuns
-pub mod ReadDecks
+pub mod FoundDevices
+pub mod RunLines
+pub mod DeedWalk
 pub mod LendBase
 pub mod Walks
+pub mod PlainRuns
+pub mod ReadDecks
 pub mod PastChecks
 pub mod DataChecks
 pub mod StancePlaces
@@ -12,8 +15,6 @@ pub mod TracksKept
 pub mod SecondChecks
 pub mod NothingChecked
 pub mod NothingMissed
-pub mod RunLines
-pub mod DeedWalk
 pub mod Pairing
 pub mod WaitingSum
 pub mod Waiting
@@ -40,3 +41,9 @@ pub mod CalmEvents
 pub mod CalmRuns
 pub mod FailedCalls
 pub mod ExplainedRuns
+pub mod StoreFacts
+pub mod FactsEvents
+pub mod Excusing
+pub mod Shapes
+pub mod PaidSides
+pub mod ExcusedRuns

@@ -24,9 +24,41 @@ use Rattle.subsystem_defs.specs.declared.event.Event.TheVariants as events
 use Rattle.subsystem_defs.specs.Decks as D
 use Rattle.subsystem_defs.specs.Decks.{opened, run_of}
 use Rattle.subsystem_defs.specs.Deeds as E
-use Rattle.subsystem_defs.specs.Deeds.{Ends, Asks, deed, device_in, on_device, order, starts, start_by, is_own, step, back, ends_by, may_end_by, ends_done, end_of}
+use Rattle.subsystem_defs.specs.Deeds.{
+  Ends,
+  Asks,
+  deed,
+  device_in,
+  on_device,
+  order,
+  starts,
+  start_by,
+  is_own,
+  step,
+  back,
+  ends_by,
+  may_end_by,
+  ends_done,
+  end_of,
+}
 use Rattle.subsystem_defs.specs.Happening as H
-use Rattle.subsystem_defs.specs.Happening.{Happened, MarksDeed, Talk, told_to, told_end, asks, happens_by, happens, quietly, replaced_by, replaced_at, replaced, unpaired_by, unpaired_at, unpaired}
+use Rattle.subsystem_defs.specs.Happening.{
+  Happened,
+  MarksDeed,
+  Talk,
+  told_to,
+  told_end,
+  asks,
+  happens_by,
+  happens,
+  quietly,
+  replaced_by,
+  replaced_at,
+  replaced,
+  unpaired_by,
+  unpaired_at,
+  unpaired,
+}
 use Rattle.subsystem_defs.specs.Lines.{asked_by}
 use Rattle.subsystem_defs.specs.Refusals.{fail_fault, pair_fault, replace_fault, suspend_fault, resume_fault, unpair_fault}
 use Rattle.subsystem_defs.specs.Subsystem.{Mounted, Subsystem, number_of, devices_of, mounted_in, unfailing}
@@ -34,8 +66,9 @@ use Rattle.seen_laws.specs.Moved.{sides_up, sides_writing, second_writing, NoTra
 use Rattle.seen_laws.proofs.Counting.{Counts, counts_done, counts_then, held_moved}
 use Rattle.seen_laws.proofs.EventCounts.{command_counts, second_counts, background_counts, lose_counts, reset_counts}
 use Rattle.subsystem_laws.specs.Transfers.{did_of, RunningTransfers, StepBy, StepTransfers, BackBy, BackTransfers, EventTransfers, RunTransfers, MovesByTable}
-use Rattle.subsystem_laws.proofs.PlainRuns.{number_found}
-use Rattle.subsystem_laws.proofs.RunLines.{Goes, run_shows}
+use Rattle.subsystem_laws.proofs.FoundDevices.{number_found}
+use Rattle.subsystem_laws.proofs.RunLines.{AnyEvent, Goes, run_shows}
+use Rattle.subsystem_laws.proofs.RunLinks.{event_from}
 
 -- a device that is found is mounted
 
@@ -60,7 +93,8 @@ module _ (s : Subsystem) where
 
   -- A device's own event
 
-  asks_so : (q : EventEnd → ℕ → ℕ → Type 0) (d : MarksDevice) (talk : Talk (Option EventEnd)) → Counts (λ r w z (a : Option EventEnd). q (told_end a) r w) 0 0 talk →
+  asks_so : (q : EventEnd → ℕ → ℕ → Type 0) (d : MarksDevice) (talk : Talk (Option EventEnd))
+      → Counts (λ r w z (a : Option EventEnd). q (told_end a) r w) 0 0 talk →
       (o : Option Mounted) → (o ≡ None → ⊥) →
       q (asks s d.store.device o talk).end (asks s d.store.device o talk).reads (asks s d.store.device o talk).writes
   asks_so q d talk x None none = absurd (none refl)
@@ -172,7 +206,8 @@ module _ (s : Subsystem) where
   event_moves (events.Step d) = step_happens d
   event_moves (events.Back d) = back_happens d
   event_moves (events.Reset path d) =
-      (still_at d (λ x. Asks x (ends_by ends_done (reset by_plain x path))) (λ x at. still_own d x at (reset by_plain x path) (reset_counts by_plain x path))).is
+      (still_at d (λ x. Asks x (ends_by ends_done (reset by_plain x path)))
+      (λ x at. still_own d x at (reset by_plain x path) (reset_counts by_plain x path))).is
   event_moves events.FailCache = (still_if (not s.pool.cache_up) (quiet _ (refl, refl)) (quiet _ (refl, refl))).is
   event_moves events.FailStore = (still_if (not s.pool.store_up) (quiet _ (refl, refl)) (quiet _ (refl, refl))).is
   event_moves (events.FailVolume d side) =
@@ -220,35 +255,23 @@ module _ (s : Subsystem) where
 abbrev Nothing : Subsystem → Type 0
 Nothing s = ⊤
 
-before_is : (s : Subsystem) (e : Event) → (happens s e).before ≡ s
-unfolding H.happens
-before_is s e = by_deed (deed by_plain s.pool (devices_of s) e)
-  where
-    by_asked : (d : MarksDevice) (talk : Talk (Option EventEnd)) (o : Option Mounted) → (asks s d.store.device o talk).before ≡ s
-    by_asked d talk (Some m) = refl
-    by_asked d talk None = refl
-
-    by_deed : (x : MarksDeed) → (happens_by s x).before ≡ s
-    by_deed (E.Ends end) = refl
-    by_deed (E.Becomes d end) = refl
-    by_deed (E.Asks d talk) = by_asked d talk (mounted_in s.mounted d.store.device)
-    by_deed (E.Each pool f) = refl
-    by_deed (E.Repairs pool) = refl
-    by_deed (E.Lends a b) = refl
-
-lines_move : Goes Nothing MovesByTable
+lines_move : Goes Nothing (λ s. MovesByTable) AnyEvent
 lines_move = record {
-  once = λ s e q. (tt, subst (λ (b : Subsystem). EventTransfers e b (happens s e).end (happens s e).reads (happens s e).writes) (sym (before_is s e)) (event_moves s e));
+  once = λ s e may q. (
+    tt,
+    subst (λ (b : Subsystem). EventTransfers e b (happens s e).end (happens s e).reads (happens s e).writes)
+        (sym (event_from s e)) (event_moves s e),
+  );
   stepped = λ s d q. (
     tt,
     subst (λ (b : Subsystem). RunTransfers (device_in (devices_of b) d) (happens s (events.Step d)).end (happens s (events.Step d)).reads
-        (happens s (events.Step d)).writes) (sym (before_is s (events.Step d))) (inr (step_happens s d)),
+        (happens s (events.Step d)).writes) (sym (event_from s (events.Step d))) (inr (step_happens s d)),
   );
   idle = λ s d q. (tt, inl (refl, (refl, refl)));
   backed = λ s d q. (
     tt,
     subst (λ (b : Subsystem). BackTransfers (device_in (devices_of b) d) (happens s (events.Back d)).end (happens s (events.Back d)).reads
-        (happens s (events.Back d)).writes) (sym (before_is s (events.Back d))) (back_happens s d),
+        (happens s (events.Back d)).writes) (sym (event_from s (events.Back d))) (back_happens s d),
   );
   replaces = λ s d side q. (tt, replaced_moves s d side);
   unpairs = λ s a q. (tt, unpaired_moves s a);

@@ -52,6 +52,7 @@ use Rattle.subsystem_laws.proofs.LendBase.{at, stays_still, lent_store, lend_bas
 use Rattle.subsystem_laws.proofs.PastChecks.{reset_counts}
 use Rattle.subsystem_laws.proofs.SecondChecks.{second_unchecked, background_unchecked, runs_unharmed}
 use Rattle.subsystem_laws.proofs.TracksKept.{Fair, fair_kept, none_less, below_top, new_fair}
+use Rattle.subsystem_laws.proofs.RunLines.{AnyEvent}
 use Rattle.subsystem_laws.proofs.Walks.{IsKept, AreSo, LeavesSo, run_keeps, behind_weaker}
 
 abbrev pub IsQuiet : MarksDevice → Type 0
@@ -238,9 +239,9 @@ module _ (d : MarksDevice) (q : Quiet d) where
         );
   }
 
-pub quiet_kept : IsKept Quiet
+pub quiet_kept : IsKept Quiet AnyEvent
 quiet_kept = record {
-  started = λ d path fault q. start_quiet d q path (fair_kept.started d path fault q.fair);
+  started = λ d path n may fault q. start_quiet d q path (fair_kept.started d path n may fault q.fair);
   commanded = λ d o running whole q. command_quiet d q o running (fair_kept.commanded d o running whole q.fair) whole;
   seconded = λ d h is q. second_quiet d q h is (fair_kept.seconded d h is q.fair);
   worked = λ d whole q. background_quiet d q (fair_kept.worked d whole q.fair);

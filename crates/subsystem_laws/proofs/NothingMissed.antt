@@ -21,13 +21,14 @@ use Rattle.subsystem_laws.specs.Served.{IsServedDeck}
 use Rattle.subsystem_laws.proofs.DataChecks.{checks_kept}
 use Rattle.subsystem_laws.proofs.NothingChecked.{Quiet, quiet_kept, opened_quiet}
 use Rattle.subsystem_laws.proofs.TracksKept.{keeps_tracks}
+use Rattle.subsystem_laws.proofs.RunLines.{AnyEvent}
 use Rattle.subsystem_laws.proofs.Walks.{IsKept, AreSo, run_keeps, behind_weaker}
 
 -- Two things at once
 
-both_kept : (P Q : MarksDevice → Type 0) → IsKept P → IsKept Q → IsKept (λ d. P d × Q d)
+both_kept : (P Q : MarksDevice → Type 0) → IsKept P AnyEvent → IsKept Q AnyEvent → IsKept (λ d. P d × Q d) AnyEvent
 both_kept P Q k l = record {
-  started = λ d path fault x. (k.started d path fault x.0, l.started d path fault x.1);
+  started = λ d path n may fault x. (k.started d path n may fault x.0, l.started d path n may fault x.1);
   commanded = λ d o running whole x. λ t. (k.commanded d o running whole x.0 t, l.commanded d o running whole x.1 t);
   seconded = λ d h is x. λ t. (k.seconded d h is x.0 t, l.seconded d h is x.1 t);
   worked = λ d whole x. λ t. (k.worked d whole x.0 t, l.worked d whole x.1 t);

@@ -53,7 +53,7 @@ use Rattle.subsystem_defs.specs.Subsystem.{Mounted, Subsystem, number_of, device
 use Rattle.subsystem_laws.specs.Causes.{EachPair}
 use Rattle.subsystem_laws.specs.Served.{IsServedDeck}
 use Rattle.subsystem_laws.proofs.DeedWalk.{IsSeat, Stands, seat_of, IsEventwise, event_deed_is, IsDeedwise}
-use Rattle.subsystem_laws.proofs.RunLines.{Goes, run_shows}
+use Rattle.subsystem_laws.proofs.RunLines.{AnyEvent, Goes, run_shows}
 use Rattle.subsystem_laws.proofs.RunLinks.{event_from}
 use Rattle.subsystem_laws.proofs.TracksKept.{Fair, fair_kept, opened_fair}
 use Rattle.subsystem_laws.proofs.Walks.{AreSo, hold_answer, device_so, mounted_so, event_so, replaced_so, unpaired_so}
@@ -246,26 +246,26 @@ module _ (Still : MarksDevice → MarksDevice → Type 0) (Made : Bool → Bool 
         AreFair (replaced s d side unfailing).behind × ShowsAll (logged (Replace d side) (replaced s d side unfailing))
     unfolding H.replaced
     replace_goes s q d side = (
-      replaced_so Fair fair_kept s d side unfailing q (mounted_in s.mounted d) (mounted_so Fair s.mounted d q),
+      replaced_so Fair AnyEvent fair_kept s d side unfailing q (mounted_in s.mounted d) (mounted_so Fair s.mounted d q),
       replaced_shown s d side unfailing (mounted_in s.mounted d) refl,
     )
 
     unpair_goes : (s : Subsystem) → AreFair s → (a : ℕ) → AreFair (unpaired s a unfailing).behind × ShowsAll (logged (Unpair a) (unpaired s a unfailing))
     unfolding H.unpaired
     unpair_goes s q a = (
-      unpaired_so Fair fair_kept s a unfailing q (mounted_in s.mounted a) (mounted_so Fair s.mounted a q),
+      unpaired_so Fair AnyEvent fair_kept s a unfailing q (mounted_in s.mounted a) (mounted_so Fair s.mounted a q),
       unpaired_shown s a unfailing (mounted_in s.mounted a) refl,
     )
 
-    pairs_go : Goes AreFair ShowsAll
+    pairs_go : Goes AreFair (λ s. ShowsAll) AnyEvent
     pairs_go = record {
-      once = λ s e q. (
-        event_so Fair fair_kept s q e,
+      once = λ s e may q. (
+        event_so Fair AnyEvent fair_kept s q e tt,
         subst (λ (z : Subsystem). Shows (is_loss e) (fails_alone_by z e) (happens s e)) (sym (event_from s e)) (event_shown s q e),
       );
-      stepped = λ s d q. (event_so Fair fair_kept s q (events.Step d), event_shown s q (events.Step d));
+      stepped = λ s d q. (event_so Fair AnyEvent fair_kept s q (events.Step d) tt, event_shown s q (events.Step d));
       idle = λ s d q. (q, unordered s);
-      backed = λ s d q. (event_so Fair fair_kept s q (events.Back d), event_shown s q (events.Back d));
+      backed = λ s d q. (event_so Fair AnyEvent fair_kept s q (events.Back d) tt, event_shown s q (events.Back d));
       replaces = λ s d side q. replace_goes s q d side;
       unpairs = λ s a q. unpair_goes s q a;
     }

@@ -1,10 +1,8 @@
 -- Each event of a run begins where the one before it ended.
-use Rattle.std.proofs.Common.{◌≡◌, zero, suc, ℕ, List, [], ◌∷◌, ◌++◌, Option, Some, None, refl}
-use Rattle.std.proofs.lemmas.Bool.{cond_both}
+use Rattle.std.proofs.Common.{◌≡◌, ℕ, List, Option, Some, None, refl}
 use Rattle.ckd_types.specs.declared.paths.Side.{Side}
 use Rattle.device_outside.specs.Told.{Calls}
 use Rattle.device_defs.specs.Contents.{by_plain}
-use Rattle.subsystem_defs.specs.declared.end.EventEnd.TheVariants as ends
 use Rattle.subsystem_defs.specs.declared.end.OrderFault.{OrderFault}
 use Rattle.subsystem_defs.specs.declared.event.Event.{Event}
 use Rattle.subsystem_defs.specs.declared.event.Event.TheVariants as events
@@ -25,34 +23,13 @@ use Rattle.subsystem_defs.specs.Happening.{
   unpaired,
 }
 use Rattle.subsystem_defs.specs.declared.end.EventEnd.{EventEnd}
-use Rattle.subsystem_defs.specs.Lines as L
-use Rattle.subsystem_defs.specs.Lines.{
-  is_settled,
-  most_backs,
-  backs,
-  Asked,
-  Once,
-  Replace,
-  Unpair,
-  Run,
-  Settle,
-  Logged,
-  logged,
-  is_busy,
-  step_logged,
-  steps,
-  most_steps,
-  run_logged,
-  line_logged,
-  last_behind,
-  run_lines,
-}
+use Rattle.subsystem_defs.specs.Lines.{Asked, Logged, run_lines}
 use Rattle.subsystem_defs.specs.Refusals.{replace_fault, unpair_fault}
 use Rattle.subsystem_defs.specs.Subsystem.{Mounted, Subsystem, devices_of, mounted_in, unfailing}
+use Rattle.subsystem_laws.proofs.RunLines.{AnyEvent, Logs, Goes, lines_keep}
 
 abbrev pub Linked : Subsystem → List Logged → Type 0
-Linked s [] = Unit {0}
-Linked s (t ∷ ts) = (t.happened.before ≡ s) × Linked t.happened.behind ts
+Linked s ts = Logs (λ s. Unit {0}) (λ s t. t.happened.before ≡ s) s ts
 
 -- One event
 
@@ -86,44 +63,18 @@ unpaired_from s a volume (Some m) = by_fault (unpair_fault m.device) where
   by_fault (Some fault) = refl
   by_fault None = refl
 
--- Lines
+-- All lines
 
-linked_on : (s : Subsystem) (ts us : List Logged) → Linked s ts → Linked (last_behind s ts) us → Linked s (ts ++ us)
-linked_on s [] us q more = more
-linked_on s (t ∷ ts) us q more = (q.0, linked_on t.happened.behind ts us q.1 more)
-
-steps_linked : (n d : ℕ) (s : Subsystem) → Linked s (steps n d s)
-unfolding L.steps
-steps_linked zero d s = tt
-steps_linked (suc n) d s =
-    cond_both (is_busy (mounted_in s.mounted d)) (step_logged s d (steps n d)) [] (Linked s)
-    (λ _. (event_from s (events.Step d), steps_linked n d (happens s (events.Step d)).behind)) (λ _. tt)
-
-run_linked : (d : ℕ) (s : Subsystem) → Linked s (run_logged s d)
-run_linked d s =
-    cond_both (is_busy (mounted_in s.mounted d)) (steps most_steps d s) (logged (Run d) (quietly s s ends.Idle) ∷ []) (Linked s)
-    (λ _. steps_linked most_steps d s) (λ _. (refl, tt))
-
-backs_linked : (n d : ℕ) (s : Subsystem) → Linked s (backs n d s)
-unfolding L.backs
-backs_linked zero d s = tt
-backs_linked (suc n) d s =
-    let h = happens s (events.Back d) in (
-      event_from s (events.Back d),
-      cond_both (is_settled h.end) [] (backs n d h.behind) (Linked h.behind) (λ _. tt) (λ _. backs_linked n d h.behind),
-    )
-
-line_linked : (x : Asked) (s : Subsystem) → Linked s (line_logged s x)
-unfolding L.line_logged H.replaced H.unpaired
-line_linked (Once e) s = (event_from s e, tt)
-line_linked (Replace d side) s = (replaced_from s d side unfailing (mounted_in s.mounted d), tt)
-line_linked (Unpair a) s = (unpaired_from s a unfailing (mounted_in s.mounted a), tt)
-line_linked (Run d) s = run_linked d s
-line_linked (Settle d) s = backs_linked most_backs d s
+links_go : Goes (λ s. Unit {0}) (λ s t. t.happened.before ≡ s) AnyEvent
+unfolding H.replaced H.unpaired
+links_go = record {
+  once = λ s e may q. (tt, event_from s e);
+  stepped = λ s d q. (tt, event_from s (events.Step d));
+  idle = λ s d q. (tt, refl);
+  backed = λ s d q. (tt, event_from s (events.Back d));
+  replaces = λ s d side q. (tt, replaced_from s d side unfailing (mounted_in s.mounted d));
+  unpairs = λ s a q. (tt, unpaired_from s a unfailing (mounted_in s.mounted a));
+}
 
 pub lines_linked : (lines : List Asked) (s : Subsystem) → Linked s (run_lines lines s)
-unfolding L.run_lines
-lines_linked [] s = tt
-lines_linked (line ∷ lines) s =
-    let ts = line_logged s line in
-    linked_on s ts (run_lines lines (last_behind s ts)) (line_linked line s) (lines_linked lines (last_behind s ts))
+lines_linked lines s = lines_keep (λ s. Unit {0}) (λ s t. t.happened.before ≡ s) links_go lines s tt

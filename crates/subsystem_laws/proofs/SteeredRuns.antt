@@ -20,6 +20,7 @@ use Rattle.subsystem_defs.specs.Decks.{opened_device}
 use Rattle.subsystem_defs.specs.Refusals as R
 use Rattle.subsystem_defs.specs.Refusals.{pair_fault, unpair_fault, suspend_fault, replace_fault}
 use Rattle.subsystem_laws.proofs.LendBase.{at}
+use Rattle.subsystem_laws.proofs.RunLines.{AnyEvent}
 use Rattle.subsystem_laws.proofs.Walks.{AreSo, IsKept}
 use Rattle.subsystem_defs.proofs.Unrefused.{first_none, where_none, is_not}
 use Rattle.subsystem_laws.proofs.WholeUnpairs.{not_some}
@@ -72,9 +73,9 @@ module _ (d : MarksDevice) (f : Steered d) where
       let h = first_none (R.where_so d.store.paired Paired) _ g.1 in
       where_none d.store.paired Paired h.0
 
-pub steered_kept : IsKept Steered
+pub steered_kept : IsKept Steered AnyEvent
 steered_kept = record {
-  started = λ d path fault f. start_steered d f path;
+  started = λ d path n may fault f. start_steered d f path;
   commanded = λ d o running whole f. at (command_steers by_plain d whole f);
   seconded = λ d h is f. at (second_steers by_plain d f);
   worked = λ d whole f. at (background_steers by_plain d whole f);

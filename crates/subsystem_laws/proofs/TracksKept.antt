@@ -49,6 +49,7 @@ use Rattle.subsystem_laws.specs.Causes.{KeepsTracks, KeepTracks}
 use Rattle.subsystem_laws.specs.Served.{IsServedDeck}
 use Rattle.subsystem_laws.proofs.GoodMarks.{Good, good_kept, home_before, by_lent, lent_is, restore_good, within, new_good}
 use Rattle.subsystem_laws.proofs.LendBase.{at, stays_still, lend_lends, lend_based, lent_counts}
+use Rattle.subsystem_laws.proofs.RunLines.{AnyEvent}
 use Rattle.subsystem_laws.proofs.Walks.{IsKept, AreSo, LeavesSo, run_keeps, behind_weaker}
 use Rattle.subsystem_laws.proofs.WholeOrders.{is_down}
 
@@ -242,9 +243,9 @@ restored_fair d f away = record {
   un = λ home nothing. record { up = refl; level = λ t. empty_places (tracks_of d.store) t false; kept = (f.good.gone away).store.lost };
 }
 
-pub fair_kept : IsKept Fair
+pub fair_kept : IsKept Fair AnyEvent
 fair_kept = record {
-  started = λ d path fault f. start_fair d f path (good_kept.started d path fault f.good);
+  started = λ d path n may fault f. start_fair d f path (good_kept.started d path n may fault f.good);
   commanded = λ d o running whole f. command_fair d f (good_kept.commanded d o running whole f.good) whole;
   seconded = λ d h is f. second_fair d f (good_kept.seconded d h is f.good);
   worked = λ d whole f. background_fair d f (good_kept.worked d whole f.good);

@@ -136,7 +136,7 @@ use Rattle.subsystem_laws.specs.Waits.{waiting_of, waiting_in, repair_end, Repai
 use Rattle.subsystem_laws.proofs.DeedWalk.{IsSeat, Stands, seat_of, IsDeedwise, deed_is}
 use Rattle.subsystem_laws.proofs.GoodMarks.{Good, good_kept, lent_is, opened_good}
 use Rattle.subsystem_laws.proofs.LendBase.{at, stays_still, lent_store, lend_based, lent_number}
-use Rattle.subsystem_laws.proofs.RunLines.{Goes, run_shows}
+use Rattle.subsystem_laws.proofs.RunLines.{AnyEvent, Goes, run_shows}
 use Rattle.subsystem_laws.proofs.WaitingSum.{AreTold, none_told, one_told, in_first, in_more, apart, told_past, told_put, told_at, told_same, sum_told}
 use Rattle.subsystem_laws.proofs.Walks.{AreSo, hold_answer, hold_told, mounted_number, mounted_so, put_so, event_so, replaced_so, unpaired_so}
 
@@ -469,19 +469,19 @@ shows : (asked : Asked) (h : Happened) → Behind h.behind → RepairsBy asked h
 shows asked h q r = (q, record { behind = sum_told q.told; repairs = r })
 
 event_goes : (s : Subsystem) → Behind s → (e : Event) → Behind (happens s e).behind
-event_goes s q e = record { good = event_so Good good_kept s q.good e; told = event_told s q.told e }
+event_goes s q e = record { good = event_so Good AnyEvent good_kept s q.good e tt; told = event_told s q.told e }
 
 replace_goes : (s : Subsystem) → Behind s → (d : ℕ) (side : Side) → Behind (replaced s d side unfailing).behind
 unfolding H.replaced
 replace_goes s q d side = record {
-  good = replaced_so Good good_kept s d side unfailing q.good (mounted_in s.mounted d) (mounted_so Good s.mounted d q.good);
+  good = replaced_so Good AnyEvent good_kept s d side unfailing q.good (mounted_in s.mounted d) (mounted_so Good s.mounted d q.good);
   told = replaced_told s q.told d side unfailing (mounted_in s.mounted d) refl;
 }
 
 unpair_goes : (s : Subsystem) → Behind s → (a : ℕ) → Behind (unpaired s a unfailing).behind
 unfolding H.unpaired
 unpair_goes s q a = record {
-  good = unpaired_so Good good_kept s a unfailing q.good (mounted_in s.mounted a) (mounted_so Good s.mounted a q.good);
+  good = unpaired_so Good AnyEvent good_kept s a unfailing q.good (mounted_in s.mounted a) (mounted_so Good s.mounted a q.good);
   told = unpaired_told s q.good q.told a unfailing (mounted_in s.mounted a) refl
       (λ m at fault. put_so Good s.mounted a (record m { device = split m.device }) q.good (good_kept.splits m.device fault (good_of m at)));
 }
@@ -489,9 +489,9 @@ unpair_goes s q a = record {
     good_of : (m : Mounted) → mounted_in s.mounted a ≡ Some m → Good m.device
     good_of m at = subst (λ (o : Option Mounted). IfSome o (λ x. Good x.device)) at (mounted_so Good s.mounted a q.good)
 
-waiting_goes : Goes Behind TellsWaiting
+waiting_goes : Goes Behind (λ s. TellsWaiting) AnyEvent
 waiting_goes = record {
-  once = λ s e q. shows (Once e) (happens s e) (event_goes s q e) (repairs_by s q.told e);
+  once = λ s e may q. shows (Once e) (happens s e) (event_goes s q e) (repairs_by s q.told e);
   stepped = λ s d q. shows (Run d) (happens s (events.Step d)) (event_goes s q (events.Step d)) tt;
   idle = λ s d q. shows (Run d) (quietly s s ends.Idle) q tt;
   backed = λ s d q. shows (Settle d) (happens s (events.Back d)) (event_goes s q (events.Back d)) tt;

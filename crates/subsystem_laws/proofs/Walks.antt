@@ -2,8 +2,6 @@
 use Rattle.std.proofs.Common.{
   ◌≡◌,
   ◌==◌,
-  zero,
-  suc,
   ℕ,
   Bool,
   true,
@@ -11,7 +9,6 @@ use Rattle.std.proofs.Common.{
   List,
   [],
   ◌∷◌,
-  ◌++◌,
   map,
   Option,
   Some,
@@ -67,41 +64,22 @@ use Rattle.subsystem_defs.specs.Happening.{
   becomes,
   happens_by,
   happens,
-  quietly,
   sweep,
   replaced_by,
   replaced_at,
+  replaced,
   unpaired_by,
   unpaired_at,
+  unpaired,
 }
-use Rattle.subsystem_defs.specs.Lines as L
-use Rattle.subsystem_defs.specs.Lines.{
-  is_settled,
-  most_backs,
-  backs,
-  Asked,
-  Once,
-  Replace,
-  Unpair,
-  Run,
-  Settle,
-  Logged,
-  logged,
-  is_busy,
-  step_logged,
-  steps,
-  most_steps,
-  run_logged,
-  line_logged,
-  last_behind,
-  run_lines,
-}
+use Rattle.subsystem_defs.specs.Lines.{Asked, Logged, line_logged, last_behind, run_lines}
 use Rattle.subsystem_defs.specs.Subsystem.{Mounted, Subsystem, number_of, devices_of, mounted_in, put_in, with_calls, unfailing}
 use Rattle.subsystem_defs.specs.declared.end.OrderFault.TheVariants.{Same, Paired}
 use Rattle.subsystem_defs.specs.Refusals as R
 use Rattle.subsystem_defs.specs.Refusals.{pair_fault, suspend_fault, resume_fault, fail_fault, replace_fault, unpair_fault}
-use Rattle.subsystem_laws.proofs.DeedWalk.{Stands, seat_of, IsDeedwise, deed_is}
+use Rattle.subsystem_laws.proofs.DeedWalk.{Stands, seat_of, IsEventwise, event_deed_is}
 use Rattle.subsystem_laws.proofs.LendBase.{lend_lends}
+use Rattle.subsystem_laws.proofs.RunLines.{AnyEvent, MayAsk, all_asked, Logs, logs_end, logs_all, Goes, line_goes, lines_go}
 use Rattle.subsystem_defs.proofs.Unrefused.{first_none, where_none}
 
 -- an answer changes nothing of the device behind it
@@ -177,14 +155,19 @@ may_pair x y is =
       (where_none x.store.paired Paired e.0, none_lent x.store.lent b.0),
     )
 
+-- the steps of a program and the work of a device may come
+pub record HasOwn (May : Event → Type 0) : Type 0 where
+  pub step : (d : ℕ) → May (events.Step d)
+  pub back : (d : ℕ) → May (events.Back d)
+
 module _ (P : MarksDevice → Type 0) where
   -- so it is behind an interaction, where the outside is told
   abbrev pub LeavesSo : {A : Type 0} → Talk A → Type 0
   LeavesSo talk = (t : Told) → P (T.hold true talk t).state
 
-  -- what each deed keeps
-  pub record IsKept : Type 0 where
-    pub started : (d : MarksDevice) (path : ℕ) → start_fault d path ≡ None → P d → P (start d path)
+  -- what each deed keeps, where these events may come
+  pub record IsKept (May : Event → Type 0) : Type 0 where
+    pub started : (d : MarksDevice) (path n : ℕ) → May (events.Start path n) → start_fault d path ≡ None → P d → P (start d path)
     pub commanded : (d : MarksDevice) (o : OpenEntry) → d.history.running ≡ Some o → d.store.half ≡ None → P d → LeavesSo (command by_plain d)
     pub seconded : (d : MarksDevice) (h : HalfWrite (Unit {0})) → d.store.half ≡ Some h → P d → LeavesSo (second by_plain d)
     pub worked : (d : MarksDevice) → d.store.half ≡ None → P d → LeavesSo (background by_plain d)
@@ -267,7 +250,7 @@ module _ (P : MarksDevice → Type 0) where
   becomes_so s n d new p None = p
   becomes_so s n d new p (Some m) = put_so s.mounted n (record m { device = d }) p new
 
-  module _ (k : IsKept) where
+  module _ (May : Event → Type 0) (k : IsKept May) where
     joined_so : (s : Subsystem) (n : ℕ) (volume : Calls) → AreSo s.mounted → (o : Option Mounted) → IfSome o IsSo →
         ((m : Mounted) → o ≡ Some m → IsFree m.device) → AreSo (joined s n volume o).mounted
     joined_so s n volume p None q single = p
@@ -312,29 +295,33 @@ module _ (P : MarksDevice → Type 0) where
         other = (may_pair x y fault).0;
       }
 
-      deeds_keep : IsDeedwise s (KeepsDeed s.mounted)
+      abbrev KeepsEvent : Event → MarksDeed → Type 0
+      KeepsEvent e x = May e → KeepsDeed s.mounted x
+
+      deeds_keep : IsEventwise s KeepsEvent
       deeds_keep = record {
-        ended = λ end. tt;
-        started = λ d x path fault. k.started d path fault (so_of d x);
-        seconded = λ d x h is. answers (second by_plain d) (λ a. Some (ends.Second a)) (k.seconded d h is (so_of d x));
-        commanded = λ d x whole o running. answers (command by_plain d) (end_of ends.Stepped) (k.commanded d o running whole (so_of d x));
-        worked = λ d x whole. answers (background by_plain d) (end_of ends.Back) (k.worked d whole (so_of d x));
-        cut = λ d x path. answers (reset by_plain d path) (λ a. Some (ends_done a)) (k.cut d path (so_of d x));
-        lost_cache = k.lost_cache;
-        lost_store = k.lost_store;
-        lost_side = λ d x side fault. answers (lose by_plain d (losses.Side side)) (λ a. Some (ends_done a)) (k.lost_side d side fault (so_of d x));
-        lost_power = k.lost_power;
-        repaired_cache = tt;
-        repaired_store = tt;
-        lent = may_lend;
-        held = λ d x fault. k.held d fault (so_of d x);
-        resumed = λ d x fault. k.resumed d fault (so_of d x);
+        ended = λ e end may. tt;
+        started = λ path n d x fault may. k.started d path n may fault (so_of d x);
+        seconded = λ e calm d x h is may. answers (second by_plain d) (λ a. Some (ends.Second a)) (k.seconded d h is (so_of d x));
+        commanded = λ n d x whole o running may. answers (command by_plain d) (end_of ends.Stepped) (k.commanded d o running whole (so_of d x));
+        worked = λ n d x whole may. answers (background by_plain d) (end_of ends.Back) (k.worked d whole (so_of d x));
+        cut = λ path n d x may. answers (reset by_plain d path) (λ a. Some (ends_done a)) (k.cut d path (so_of d x));
+        lost_cache = λ may. k.lost_cache;
+        lost_store = λ may. k.lost_store;
+        lost_side = λ n d x here side fault may.
+            answers (lose by_plain d (losses.Side side)) (λ a. Some (ends_done a)) (k.lost_side d side fault (so_of d x));
+        lost_power = λ may. k.lost_power;
+        repaired_cache = λ may. tt;
+        repaired_store = λ may. tt;
+        lent = λ a b x y z w fault may. may_lend x y z w fault;
+        held = λ n d x fault may. k.held d fault (so_of d x);
+        resumed = λ n d x fault may. k.resumed d fault (so_of d x);
       }
 
       -- one event
-      pub event_so : (e : Event) → AreSo (happens s e).behind.mounted
+      pub event_so : (e : Event) → May e → AreSo (happens s e).behind.mounted
       unfolding H.happens
-      event_so e = happens_so s (deed by_plain s.pool (devices_of s) e) p (deed_is s (KeepsDeed s.mounted) deeds_keep e)
+      event_so e may = happens_so s (deed by_plain s.pool (devices_of s) e) p (event_deed_is s KeepsEvent deeds_keep e may)
 
     -- The two orders for which a volume is handed in
 
@@ -368,70 +355,47 @@ module _ (P : MarksDevice → Type 0) where
           let x = record m { device = split m.device } in
           restored_so (put_in s.mounted n x) n calls (put_so s.mounted n x p (k.splits m.device is q))
 
-    -- Lines
-
-    -- behind each event, and behind all of them
-    abbrev LogsSo : Subsystem → List Logged → Type 0
-    LogsSo s [] = AreSo s.mounted
-    LogsSo s (t ∷ ts) = AreSo t.happened.behind.mounted × LogsSo t.happened.behind ts
-
-    logs_end : (s : Subsystem) (ts : List Logged) → LogsSo s ts → AreSo (last_behind s ts).mounted
-    logs_end s [] p = p
-    logs_end s (t ∷ ts) p = logs_end t.happened.behind ts p.1
-
-    logs_on : (s : Subsystem) (ts us : List Logged) → LogsSo s ts → LogsSo (last_behind s ts) us → LogsSo s (ts ++ us)
-    logs_on s [] us p more = more
-    logs_on s (t ∷ ts) us p more = (p.0, logs_on t.happened.behind ts us p.1 more)
+    -- All lines
 
     abbrev pub IsBehind : Logged → Type 0
     IsBehind x = All P (devices_of x.happened.behind)
 
-    logs_all : (s : Subsystem) (ts : List Logged) → LogsSo s ts → All IsBehind ts
-    logs_all s [] p = All-nil IsBehind
-    logs_all s (t ∷ ts) p = All-cons IsBehind t ts (all_so t.happened.behind.mounted p.0) (logs_all t.happened.behind ts p.1)
+    shown : (s : Subsystem) → AreSo s.mounted → AreSo s.mounted × All P (devices_of s)
+    shown s p = (p, all_so s.mounted p)
 
-    steps_so : (n d : ℕ) (s : Subsystem) → AreSo s.mounted → LogsSo s (steps n d s)
-    unfolding L.steps
-    steps_so zero d s p = p
-    steps_so (suc n) d s p =
-        let behind = event_so s p (events.Step d) in
-        cond_both (is_busy (mounted_in s.mounted d)) (step_logged s d (steps n d)) [] (LogsSo s)
-        (λ _. (behind, steps_so n d (happens s (events.Step d)).behind behind)) (λ _. p)
+    lines_so : HasOwn May → Goes (λ s. AreSo s.mounted) (λ s. IsBehind) May
+    unfolding H.replaced H.unpaired
+    lines_so own = record {
+      once = λ s e may p. shown (happens s e).behind (event_so s p e may);
+      stepped = λ s d p. shown (happens s (events.Step d)).behind (event_so s p (events.Step d) (own.step d));
+      idle = λ s d p. shown s p;
+      backed = λ s d p. shown (happens s (events.Back d)).behind (event_so s p (events.Back d) (own.back d));
+      replaces = λ s d side p. shown (replaced s d side unfailing).behind
+          (replaced_so s d side unfailing p (mounted_in s.mounted d) (mounted_so s.mounted d p));
+      unpairs = λ s a p. shown (unpaired s a unfailing).behind (unpaired_so s a unfailing p (mounted_in s.mounted a) (mounted_so s.mounted a p));
+    }
 
-    run_so : (d : ℕ) (s : Subsystem) → AreSo s.mounted → LogsSo s (run_logged s d)
-    run_so d s p =
-        cond_both (is_busy (mounted_in s.mounted d)) (steps most_steps d s) (logged (Run d) (quietly s s ends.Idle) ∷ []) (LogsSo s)
-        (λ _. steps_so most_steps d s p) (λ _. (p, p))
+    -- so it is behind each event of lines that may come, and behind all of them
+    pub line_keeps : HasOwn May → (x : Asked) (s : Subsystem) → MayAsk May x → AreSo s.mounted → AreSo (last_behind s (line_logged s x)).mounted
+    line_keeps own x s may p =
+        logs_end (λ s. AreSo s.mounted) (λ s. IsBehind) s (line_logged s x)
+        (line_goes (λ s. AreSo s.mounted) (λ s. IsBehind) May (lines_so own) x s may p)
 
-    backs_so : (n d : ℕ) (s : Subsystem) → AreSo s.mounted → LogsSo s (backs n d s)
-    unfolding L.backs
-    backs_so zero d s p = p
-    backs_so (suc n) d s p =
-        let h = happens s (events.Back d) in
-        let behind = event_so s p (events.Back d) in (
-          behind,
-          cond_both (is_settled h.end) [] (backs n d h.behind) (LogsSo h.behind) (λ _. behind) (λ _. backs_so n d h.behind behind),
-        )
+    all_keep : HasOwn May → (lines : List Asked) (s : Subsystem) → All (MayAsk May) lines → AreSo s.mounted →
+        Logs (λ s. AreSo s.mounted) (λ s. IsBehind) s (run_lines lines s)
+    all_keep own lines s may p = lines_go (λ s. AreSo s.mounted) (λ s. IsBehind) May (lines_so own) lines s may p
 
-    line_so : (x : Asked) (s : Subsystem) → AreSo s.mounted → LogsSo s (line_logged s x)
-    unfolding L.line_logged H.replaced H.unpaired
-    line_so (Once e) s p = let behind = event_so s p e in (behind, behind)
-    line_so (Replace d side) s p = let q = replaced_so s d side unfailing p (mounted_in s.mounted d) (mounted_so s.mounted d p) in (q, q)
-    line_so (Unpair a) s p = let q = unpaired_so s a unfailing p (mounted_in s.mounted a) (mounted_so s.mounted a p) in (q, q)
-    line_so (Run d) s p = run_so d s p
-    line_so (Settle d) s p = backs_so most_backs d s p
+    pub lines_keep_so : HasOwn May → (lines : List Asked) (s : Subsystem) → All (MayAsk May) lines → AreSo s.mounted → All IsBehind (run_lines lines s)
+    lines_keep_so own lines s may p = logs_all (λ s. AreSo s.mounted) IsBehind s (run_lines lines s) (all_keep own lines s may p)
 
-    lines_so : (lines : List Asked) (s : Subsystem) → AreSo s.mounted → LogsSo s (run_lines lines s)
-    unfolding L.run_lines
-    lines_so [] s p = p
-    lines_so (line ∷ lines) s p =
-        let ts = line_logged s line in
-        let here = line_so line s p in
-        logs_on s ts (run_lines lines (last_behind s ts)) here (lines_so lines (last_behind s ts) (logs_end s ts here))
+    pub lines_end_so : HasOwn May → (lines : List Asked) (s : Subsystem) → All (MayAsk May) lines → AreSo s.mounted
+        → AreSo (last_behind s (run_lines lines s)).mounted
+    lines_end_so own lines s may p = logs_end (λ s. AreSo s.mounted) (λ s. IsBehind) s (run_lines lines s) (all_keep own lines s may p)
 
-    -- so it is behind each event of all lines
-    pub run_keeps : (lines : List Asked) (s : Subsystem) → AreSo s.mounted → All IsBehind (run_lines lines s)
-    run_keeps lines s p = logs_all s (run_lines lines s) (lines_so lines s p)
+  -- where any event may come
+  pub run_keeps : IsKept AnyEvent → (lines : List Asked) (s : Subsystem) → AreSo s.mounted
+      → All (λ (x : Logged). All P (devices_of x.happened.behind)) (run_lines lines s)
+  run_keeps k lines s p = lines_keep_so AnyEvent k (record { step = λ d. tt; back = λ d. tt }) lines s (all_asked lines) p
 
 -- and so is what follows from it
 pub all_weaker : (P Q : MarksDevice → Type 0) → ((d : MarksDevice) → P d → Q d) → (ds : List MarksDevice) → All P ds → All Q ds

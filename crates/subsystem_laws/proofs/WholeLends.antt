@@ -41,7 +41,8 @@ turned : (m n : ℕ) → (m == n) ≡ false → (n == m) ≡ false
 turned m n e = by_case (n == m) refl
   where
     by_case : (b : Bool) → (n == m) ≡ b → b ≡ false
-    by_case true f = absurd (let same : n ≡ m = eqb-true n m f in let k : (m == m) ≡ true = grind arith in let l = subst (λ (i : ℕ). (m == i) ≡ false) same e in cc)
+    by_case true f = absurd (let same : n ≡ m = eqb-true n m f in let k : (m == m)
+        ≡ true = grind arith in let l = subst (λ (i : ℕ). (m == i) ≡ false) same e in cc)
     by_case false f = refl
 
 -- What the one that lends leaves
@@ -125,7 +126,8 @@ module _ {K : Type 0} (hears : Hearing Image K) (p q : Pool) (xs ys : List Stood
     abbrev there : Mounted
     there = record { device = marks_device y.plain y.firm y.device; a = y.a; b = y.b }
 
-    lends_at : Joins hears n m y.device p xs q ys → IsWhatCame (quietly (subsystem_of p ms) (lends (subsystem_of p ms) n m (mounted_in ms m)) ends.Done) ends.Done q ys
+    lends_at : Joins hears n m y.device p xs q ys → IsWhatCame
+        (quietly (subsystem_of p ms) (lends (subsystem_of p ms) n m (mounted_in ms m)) ends.Done) ends.Done q ys
     lends_at f =
         let s = subsystem_of p ms in
         let order_y = here_in_order y.stands may.free_y in

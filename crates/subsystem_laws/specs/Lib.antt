@@ -6,3 +6,4 @@ pub mod SlotsApart
 pub mod AllSound
 pub mod Waits
 pub mod Transfers
+pub mod Excused

@@ -6,7 +6,17 @@ ghost use Rattle.deck_text.specs.Parse.{parsed};
 ghost use Rattle.subsystem_defs.specs.Calm.{is_calm};
 ghost use Rattle.subsystem_defs.specs.Decks.{run_of};
 ghost use Rattle.subsystem_defs.specs.Promised.{are_explained, miss_nothing};
-ghost use Rattle.subsystem_laws.specs.Causes.{CheckForCause, CheckNothing, CountFailures, HaveGoodMarks, HaveNoDataCheck, KeepTracks, LoseForCause, MissNothing};
+ghost use Rattle.subsystem_laws.specs.Causes.{
+  CheckForCause,
+  CheckNothing,
+  CountFailures,
+  HaveGoodMarks,
+  HaveNoDataCheck,
+  KeepTracks,
+  LoseForCause,
+  MissNothing,
+};
+ghost use Rattle.subsystem_laws.specs.Excused.{HaveExcusedChecks};
 ghost use Rattle.subsystem_laws.specs.Served.{IsServedDeck};
 
 /// No command ends with data check, whatever calls fail and whatever is lost.
@@ -70,4 +80,11 @@ pub fn calm_run_misses_nothing()
 pub fn run_is_explained()
     ensures served { (deck : DeckLines) → IsServedDeck deck → All CountFailures (run_of deck).events → are_explained (run_of deck).events ≡ true }
     ensures read { (text : List ℕ) (deck : DeckLines) → parsed text ≡ Ok deck → are_explained (run_of deck).events ≡ true }
+{}
+
+/// Of a device that was never lent no more equipment checks are unexplained than calls of it failed: of the others the program's last command touched
+/// a track that is lost, or is a write and a side was lost or two calls failed, or data of the program's own cache fast write were lost.
+pub fn run_excuses_checks()
+    ensures served { (deck : DeckLines) → IsServedDeck deck → All CountFailures (run_of deck).events → All HaveExcusedChecks (run_of deck).events }
+    ensures read { (text : List ℕ) (deck : DeckLines) → parsed text ≡ Ok deck → All HaveExcusedChecks (run_of deck).events }
 {}

@@ -1,8 +1,12 @@
 use Rattle.std.proofs.Common.{◌≡◌, Some, subst}
+use Rattle.subsystem_core.specs.Devices.{numbers_of}
 use Rattle.subsystem_core.specs.Ends.{end_seen}
 use Rattle.deck_run.specs.Owning.{ChainsStand}
-use Rattle.deck_run.proofs.Events.{own_behind, is_told, told_so, happens_so, all_ok, where_so}
+use Rattle.deck_run.proofs.Events.{own_behind, is_told, told_so, happens_so, all_ok, open_may_come, where_so}
 use Rattle.deck_run.proofs.event.do_event.Goals as goal
+
+pub event-requires : goal.event-requires
+event-requires g c = open_may_come (numbers_of c.args.sub.now.devices.items) c.args.d c.args.e c.requires.on c.requires.here
 
 pub told_end-requires : goal.told_end-requires
 told_end-requires g c =

@@ -71,7 +71,7 @@ unfolding lines.line_logged
 returns-in-Replace-clause-lines c = λ run all.
     rw c.in-Replace.is
     (ok_so c.replace.result _ _ (λ h. one_tells (logged (Replace c.in-Replace.d c.in-Replace.side)
-        (replaced run c.in-Replace.d c.in-Replace.side unfailing)) c.args.report.now c.replace.new.report h) (c.replace.ensures.lines run all))
+    (replaced run c.in-Replace.d c.in-Replace.side unfailing)) c.args.report.now c.replace.new.report h) (c.replace.ensures.lines run all))
 
 pub returns-in-FailVolume-clause-stands : goal.returns-in-FailVolume-clause-stands
 unfolding lines.line_logged
@@ -82,7 +82,7 @@ unfolding lines.line_logged
 returns-in-FailVolume-clause-lines c = λ run all.
     rw c.in-FailVolume.is
     (ok_so c.order_one.result _ _ (λ h. fail_tells run c.in-FailVolume.d c.in-FailVolume.side c.args.report.now c.order_one.new.report h)
-        (c.order_one.ensures.lines run all))
+    (c.order_one.ensures.lines run all))
 
 pub returns-in-Suspend-clause-stands : goal.returns-in-Suspend-clause-stands
 unfolding lines.line_logged
@@ -93,7 +93,7 @@ unfolding lines.line_logged
 returns-in-Suspend-clause-lines c = λ run all.
     rw c.in-Suspend.is
     (ok_so c.order_one-in-Suspend.result _ _ (λ h. suspend_tells run c.in-Suspend.d c.args.report.now c.order_one-in-Suspend.new.report h)
-        (c.order_one-in-Suspend.ensures.lines run all))
+    (c.order_one-in-Suspend.ensures.lines run all))
 
 pub returns-in-Resume-clause-stands : goal.returns-in-Resume-clause-stands
 unfolding lines.line_logged
@@ -104,7 +104,7 @@ unfolding lines.line_logged
 returns-in-Resume-clause-lines c = λ run all.
     rw c.in-Resume.is
     (ok_so c.order_one-in-Resume.result _ _ (λ h. resume_tells run c.in-Resume.d c.args.report.now c.order_one-in-Resume.new.report h)
-        (c.order_one-in-Resume.ensures.lines run all))
+    (c.order_one-in-Resume.ensures.lines run all))
 
 pub returns-in-FailCache-clause-stands : goal.returns-in-FailCache-clause-stands
 unfolding lines.line_logged
@@ -115,7 +115,7 @@ unfolding lines.line_logged
 returns-in-FailCache-clause-lines c = λ run all.
     rw c.in-FailCache.is
     (ok_so c.order_all.result _ _ (λ h. one_tells (logged (Once events.FailCache) (happens run events.FailCache)) c.args.report.now
-        c.order_all.new.report h) (c.order_all.ensures.lines run all))
+    c.order_all.new.report h) (c.order_all.ensures.lines run all))
 
 pub returns-in-FailStore-clause-stands : goal.returns-in-FailStore-clause-stands
 unfolding lines.line_logged
@@ -126,7 +126,7 @@ unfolding lines.line_logged
 returns-in-FailStore-clause-lines c = λ run all.
     rw c.in-FailStore.is
     (ok_so c.order_all-in-FailStore.result _ _ (λ h. one_tells (logged (Once events.FailStore) (happens run events.FailStore)) c.args.report.now
-        c.order_all-in-FailStore.new.report h) (c.order_all-in-FailStore.ensures.lines run all))
+    c.order_all-in-FailStore.new.report h) (c.order_all-in-FailStore.ensures.lines run all))
 
 pub returns-in-RepairCache-clause-stands : goal.returns-in-RepairCache-clause-stands
 unfolding lines.line_logged
@@ -137,7 +137,7 @@ unfolding lines.line_logged
 returns-in-RepairCache-clause-lines c = λ run all.
     rw c.in-RepairCache.is
     (ok_so c.order_all-in-RepairCache.result _ _ (λ h. one_tells (logged (Once events.RepairCache) (happens run events.RepairCache)) c.args.report.now
-        c.order_all-in-RepairCache.new.report h) (c.order_all-in-RepairCache.ensures.lines run all))
+    c.order_all-in-RepairCache.new.report h) (c.order_all-in-RepairCache.ensures.lines run all))
 
 pub returns-in-RepairStore-clause-stands : goal.returns-in-RepairStore-clause-stands
 unfolding lines.line_logged
@@ -148,7 +148,7 @@ unfolding lines.line_logged
 returns-in-RepairStore-clause-lines c = λ run all.
     rw c.in-RepairStore.is
     (ok_so c.order_all-in-RepairStore.result _ _ (λ h. one_tells (logged (Once events.RepairStore) (happens run events.RepairStore)) c.args.report.now
-        c.order_all-in-RepairStore.new.report h) (c.order_all-in-RepairStore.ensures.lines run all))
+    c.order_all-in-RepairStore.new.report h) (c.order_all-in-RepairStore.ensures.lines run all))
 
 pub returns-in-Power-clause-stands : goal.returns-in-Power-clause-stands
 unfolding lines.line_logged
@@ -159,7 +159,7 @@ unfolding lines.line_logged
 returns-in-Power-clause-lines c = λ run all.
     rw c.in-Power.is
     (ok_so c.order_all-in-Power.result _ _ (λ h. one_tells (logged (Once events.Power) (happens run events.Power)) c.args.report.now
-        c.order_all-in-Power.new.report h) (c.order_all-in-Power.ensures.lines run all))
+    c.order_all-in-Power.new.report h) (c.order_all-in-Power.ensures.lines run all))
 
 pub pair-requires-clause-a : goal.pair-requires-clause-a
 pair-requires-clause-a c = first_so _ _ (rw c.in-Pair.is at c.requires.here)
@@ -176,7 +176,7 @@ unfolding lines.line_logged
 returns-in-Pair-clause-lines c = λ run all.
     rw c.in-Pair.is
     (ok_so c.pair.result _ _ (λ h. one_tells (logged (Once (events.Pair c.in-Pair.a c.in-Pair.b)) (happens run (events.Pair c.in-Pair.a c.in-Pair.b)))
-        c.args.report.now c.pair.new.report h) (c.pair.ensures.lines run all))
+    c.args.report.now c.pair.new.report h) (c.pair.ensures.lines run all))
 
 pub returns-in-Unpair-clause-stands : goal.returns-in-Unpair-clause-stands
 unfolding lines.line_logged
@@ -187,4 +187,4 @@ unfolding lines.line_logged
 returns-in-Unpair-clause-lines c = λ run all.
     rw c.in-Unpair.is
     (ok_so c.unpair.result _ _ (λ h. one_tells (logged (Unpair c.in-Unpair.a) (unpaired run c.in-Unpair.a unfailing)) c.args.report.now
-        c.unpair.new.report h) (c.unpair.ensures.lines run all))
+    c.unpair.new.report h) (c.unpair.ensures.lines run all))

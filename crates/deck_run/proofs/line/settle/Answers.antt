@@ -1,4 +1,4 @@
-use Rattle.std.proofs.Common.{◌∙◌, ◌++◌, ◌-◌, refl, sym}
+use Rattle.std.proofs.Common.{◌∙◌, ◌++◌, refl, sym}
 use Rattle.subsystem_defs.specs.Lines.{backs, last_behind}
 use Rattle.deck_run.specs.Recording.{all_lines}
 use Rattle.deck_run.proofs.Settling.{backs_begin, back_done, back_over, backs_spent}

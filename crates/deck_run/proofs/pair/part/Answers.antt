@@ -1,4 +1,4 @@
-use Rattle.std.proofs.Common.{◌≡◌, ◌∙◌, ◌*◌, [], length, ap, subst}
+use Rattle.std.proofs.Common.{◌≡◌, [], ap, subst}
 use Rattle.std.specs.Prelude.{IfSome}
 use Rattle.device_outside.specs.Disk.{disk_view, new_disk}
 use Rattle.subsystem_core.specs.Comes.{Unpaired}

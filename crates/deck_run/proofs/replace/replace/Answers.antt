@@ -1,10 +1,7 @@
-use Rattle.std.proofs.Common.{◌≡◌, ◌∙◌, ◌*◌, ◌++◌, ◌∷◌, List, [], length, ap, subst, sym}
+use Rattle.std.proofs.Common.{◌≡◌, ◌∙◌, ◌*◌, [], length, ap, subst, sym}
 use Rattle.std.specs.Prelude.{IfSome}
 use Rattle.device_outside.specs.Disk.{new_disk}
-use Rattle.report_text.specs.declared.line.ReportLine.{ReportLine}
-use Rattle.report_text.specs.declared.line.ReportLine.TheVariants as lines
 use Rattle.report_text.specs.declared.order.Order.TheVariants as orders
-use Rattle.run_report.specs.Answers.{order_answer}
 use Rattle.deck_run.proofs.Ordered.{order_told}
 use Rattle.deck_run.proofs.replace.replace.Goals as goal
 

@@ -1,4 +1,4 @@
-use Rattle.std.proofs.Common.{◌∙◌, ◌++◌, List, ap, map}
+use Rattle.std.proofs.Common.{◌∙◌, ◌++◌, ap, map}
 use Rattle.frame_pool.specs.Shared.{Shared}
 use Rattle.run_report.specs.Closing.{frame_line}
 use Rattle.std.specs.List.{flat_map}

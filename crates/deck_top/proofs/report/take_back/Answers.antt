@@ -1,4 +1,4 @@
-use Rattle.std.proofs.Common.{◌∙◌, refl, ap}
+use Rattle.std.proofs.Common.{refl, ap}
 use Rattle.device_outside.specs.Bay.{Bay}
 use Rattle.subsystem_defs.specs.Decks.{run_of}
 use Rattle.deck_top.specs.Handed.{all_taken}

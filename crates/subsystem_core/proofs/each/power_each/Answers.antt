@@ -1,10 +1,11 @@
-use Rattle.std.proofs.Common.{◌≡◌, ◌<◌, ◌∙◌, refl, add-one, arith, get_or, length}
+use Rattle.std.proofs.Common.{◌≡◌, ◌<◌, ◌∙◌, refl, add-one, get_or, length}
 use Rattle.device_defs.specs.Contents.{contents}
 use Rattle.device_defs.specs.Cutting.{power}
 use Rattle.device_laws.proofs.BasedEvents.{power_based}
 use Rattle.device_core.specs.State.{DefinedDevice, device_of}
 use Rattle.subsystem_core.specs.Comes.{Talk, over}
 use Rattle.subsystem_core.proofs.Found.{numbers_kept, read_again}
+use Rattle.subsystem_core.proofs.Numbers.{above_same, below_same}
 use Rattle.subsystem_core.proofs.Seating.{ran_lent, seats_kept}
 use Rattle.subsystem_core.proofs.Sweeping.{swept_more, rest_more, swept_all}
 use Rattle.subsystem_core.proofs.each.power_each.Goals as goal
@@ -16,8 +17,8 @@ pub loop-i-preserved : goal.loop-i-preserved
 loop-i-preserved g c =
     let ds = c.loop-i.devices in
     let f : DefinedDevice → Talk (Unit {0}) = power contents in
-    let within : c.loop-i.i < length ds = omega arith in
-    let here : c.loop-i.i < length c.args.devices.now = omega arith in
+    let within : c.loop-i.i < length ds = below_same c.loop-i-test.true c.loop-i.auto.devices in
+    let here : c.loop-i.i < length c.args.devices.now = c.loop-i-test.true in
     let x = get_or ds c.loop-i.i c.index-devices-i.result in
     let read : x ≡ get_or ds c.loop-i.i x = read_again ds c.loop-i.i c.index-devices-i.result within in
     record {
@@ -34,4 +35,5 @@ loop-i-preserved g c =
 
 pub returns-clause-each : goal.returns-clause-each
 returns-clause-each g c =
-    swept_all (power contents) c.loop-i.i c.args.devices.now c.loop-i.devices c.loop-i-test.false (omega arith) c.loop-i.invariant.each
+    swept_all (power contents) c.loop-i.i c.args.devices.now c.loop-i.devices c.loop-i-test.false
+    (above_same c.loop-i-test.false c.loop-i.auto.devices) c.loop-i.invariant.each

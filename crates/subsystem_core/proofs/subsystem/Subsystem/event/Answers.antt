@@ -1,8 +1,3 @@
-use Rattle.std.proofs.Common.{◌≡◌, true, false}
-use Rattle.subsystem_defs.specs.declared.event.Event.{Event}
-use Rattle.subsystem_core.specs.Comes.{Came}
-use Rattle.subsystem_core.specs.Devices.{numbers_of}
-use Rattle.subsystem_core.specs.Places.{may_come}
 use Rattle.subsystem_core.proofs.Numbers.{both}
 use Rattle.subsystem_core.proofs.subsystem.Subsystem.event.Goals as goal
 

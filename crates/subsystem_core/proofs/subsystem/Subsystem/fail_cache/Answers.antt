@@ -1,17 +1,14 @@
-use Rattle.std.proofs.Common.{◌≡◌, ◌∙◌, refl, sym, ap, subst, Some, None, true, false}
+use Rattle.std.proofs.Common.{◌∙◌, refl, sym}
 use Rattle.device_defs.specs.Contents.{contents}
-use Rattle.device_core.specs.State.{device_of}
 use Rattle.subsystem_defs.specs.declared.end.EventEnd.TheVariants as answers
 use Rattle.subsystem_core.specs.declared.end.EventEnd.TheVariants as ends
 use Rattle.subsystem_defs.specs.declared.event.Event.TheVariants as events
 use Rattle.subsystem_defs.specs.declared.end.OrderFault.TheVariants.{Down}
 use Rattle.loss_model.specs.declared.Loss.TheVariants as losses
-use Rattle.device_outside.specs.Pool.{cache_failed, store_failed}
+use Rattle.device_outside.specs.Pool.{cache_failed}
 use Rattle.device_defs.specs.Events.{lose}
-use Rattle.subsystem_core.specs.Devices.{devices_of, device_at}
 use Rattle.subsystem_core.proofs.Coming.{all_swept, ended}
 use Rattle.subsystem_core.proofs.Deeds as deeds
-use Rattle.subsystem_core.proofs.Found.{found_in}
 use Rattle.subsystem_core.proofs.subsystem.Subsystem.fail_cache.Goals as goal
 
 pub returns-then-not-cache_up-clause-came : goal.returns-then-not-cache_up-clause-came

@@ -1,4 +1,4 @@
-use Rattle.std.proofs.Common.{◌≡◌, ◌∙◌, List, Some, None, get_or, subst, ap}
+use Rattle.std.proofs.Common.{◌≡◌, ◌∙◌, Some, None, get_or, ap}
 use Rattle.std.specs.Prelude.{slice_get, ◌==◌}
 use Rattle.subsystem_core.specs.Devices.{numbers_of}
 use Rattle.subsystem_core.proofs.Found.{number_there, number_nowhere}

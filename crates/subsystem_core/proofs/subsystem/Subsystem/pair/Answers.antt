@@ -1,6 +1,4 @@
-use Rattle.std.proofs.Common.{◌∙◌, None, Some, refl, subst}
-use Rattle.subsystem_core.specs.Devices.{device_at}
-use Rattle.subsystem_core.specs.Pairs.{HasPairFault}
+use Rattle.std.proofs.Common.{refl}
 use Rattle.subsystem_core.proofs.Pairing.{pair_done, pair_refused}
 use Rattle.subsystem_core.proofs.subsystem.Subsystem.pair.Goals as goal
 

@@ -1,4 +1,4 @@
-use Rattle.std.proofs.Common.{◌∙◌, ◌<◌, ap, length, get_or, sym, subst}
+use Rattle.std.proofs.Common.{◌<◌, get_or, subst}
 use Rattle.subsystem_core.specs.Devices.{numbers_of}
 use Rattle.subsystem_core.proofs.Numbers.{by_table}
 use Rattle.subsystem_core.proofs.Found.{count_of}

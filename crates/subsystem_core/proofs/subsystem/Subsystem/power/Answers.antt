@@ -1,15 +1,9 @@
-use Rattle.std.proofs.Common.{◌≡◌, ◌∙◌, refl, sym, ap, subst, Some, None, true, false}
 use Rattle.device_defs.specs.Contents.{contents}
-use Rattle.device_core.specs.State.{device_of}
-use Rattle.subsystem_defs.specs.declared.end.EventEnd.TheVariants as answers
-use Rattle.subsystem_core.specs.declared.end.EventEnd.TheVariants as ends
 use Rattle.subsystem_defs.specs.declared.event.Event.TheVariants as events
 use Rattle.device_outside.specs.Pool.{power_lost}
 use Rattle.device_defs.specs.Cutting.{power}
-use Rattle.subsystem_core.specs.Devices.{devices_of, device_at}
 use Rattle.subsystem_core.proofs.Coming.{all_swept}
 use Rattle.subsystem_core.proofs.Deeds as deeds
-use Rattle.subsystem_core.proofs.Found.{found_in}
 use Rattle.subsystem_core.proofs.subsystem.Subsystem.power.Goals as goal
 
 pub returns-clause-came : goal.returns-clause-came

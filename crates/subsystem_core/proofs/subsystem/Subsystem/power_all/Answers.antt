@@ -1,7 +1,4 @@
-use Rattle.std.proofs.Common.{◌≡◌, ◌∙◌, ◌≤◌, ◌++◌, List, arith, ap, drop, length, subst, sym, take}
-use Rattle.device_defs.specs.Contents.{contents}
-use Rattle.device_defs.specs.Cutting.{power}
-use Rattle.subsystem_core.specs.Comes.{Swept}
+use Rattle.std.proofs.Common.{◌≡◌, ◌∙◌, ◌≤◌, arith, ap, length}
 use Rattle.subsystem_core.specs.Devices.{numbers_of}
 use Rattle.subsystem_core.specs.Seats.{seats_of}
 use Rattle.subsystem_core.proofs.Found.{all_written}
@@ -17,6 +14,14 @@ invariant_of-self g c =
     let seats = ap seats_of (all_written c.args.self.now.devices.len ds c.power_each.new.devices room count)
     ∙ c.power_each.ensures.seats ∙ ap seats_of c.deref_mut.ensures.value in
     record { rising = rw same c.args.self.now.rising; table = rw same c.args.self.now.table; alike = rw seats c.args.self.now.alike }
+
+pub returns-clause-numbers : goal.returns-clause-numbers
+returns-clause-numbers g c =
+    let ds = c.args.self.now.devices.items in
+    let count : length c.power_each.new.devices ≡ length ds = c.power_each.auto.devices ∙ ap length c.deref_mut.ensures.value in
+    let room : length ds ≤ c.args.self.now.devices.len = omega (arith, ap length c.deref_mut.ensures.value, c.deref_mut.ensures.len) in
+    ap numbers_of (all_written c.args.self.now.devices.len ds c.power_each.new.devices room count)
+    ∙ c.power_each.ensures.numbers ∙ ap numbers_of c.deref_mut.ensures.value
 
 pub returns-clause-each : goal.returns-clause-each
 returns-clause-each g c =

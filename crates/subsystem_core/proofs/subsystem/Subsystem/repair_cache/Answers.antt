@@ -1,14 +1,11 @@
-use Rattle.std.proofs.Common.{◌≡◌, ◌∙◌, refl, sym, ap, subst, Some, None, true, false}
+use Rattle.std.proofs.Common.{◌∙◌, refl, sym, ap, Some}
 use Rattle.device_defs.specs.Contents.{contents}
-use Rattle.device_core.specs.State.{device_of}
 use Rattle.subsystem_defs.specs.declared.end.EventEnd.TheVariants as answers
 use Rattle.subsystem_core.specs.declared.end.EventEnd.TheVariants as ends
 use Rattle.subsystem_defs.specs.declared.event.Event.TheVariants as events
 use Rattle.subsystem_defs.specs.declared.end.OrderFault.TheVariants.{Up}
-use Rattle.subsystem_core.specs.Devices.{devices_of, device_at}
 use Rattle.subsystem_core.proofs.Coming.{none_wait, repaired, ended, some_wait}
 use Rattle.subsystem_core.proofs.Deeds as deeds
-use Rattle.subsystem_core.proofs.Found.{found_in}
 use Rattle.subsystem_core.proofs.subsystem.Subsystem.repair_cache.Goals as goal
 
 pub returns-then-cache_up-clause-came : goal.returns-then-cache_up-clause-came

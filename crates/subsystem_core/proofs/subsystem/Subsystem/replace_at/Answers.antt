@@ -1,6 +1,6 @@
 use Rattle.std.proofs.Common.{◌≡◌, ◌*◌, None}
 use Rattle.subsystem_defs.specs.Refusals.{replace_fault}
-use Rattle.subsystem_core.proofs.Coming.{is_there, same_replaced}
+use Rattle.subsystem_core.proofs.Coming.{is_home, is_there, same_replaced}
 use Rattle.device_core.specs.State.{device_of}
 use Rattle.subsystem_core.proofs.Found.{changed, held, numbers_kept}
 use Rattle.subsystem_core.proofs.Seating.{alike_kept, sits_replaced}
@@ -26,7 +26,13 @@ pub returns-clause-replaced : goal.returns-clause-replaced
 returns-clause-replaced g c =
     changed c.args.self.now.devices.items c.args.d c.place-at.result c.index_mut.result.now c.replace-old.new.self _ c.args.self.now.rising
     c.place-at.ensures.range c.place-at.ensures.found c.index_mut.ensures.value
-        (c.replace-old.ensures.device, c.replace-old.ensures.volume, c.replace-old.ensures.other)
+    (c.replace-old.ensures.device, c.replace-old.ensures.volume, c.replace-old.ensures.other)
+
+pub replace-old-requires-clause-here : goal.replace-old-requires-clause-here
+replace-old-requires-clause-here g c =
+    is_home c.index_mut.result.now c.args.side
+    (held c.args.self.now.devices.items c.args.d c.place-at.result c.index_mut.result.now (λ x. replace_fault (device_of x) c.args.side ≡ None)
+    c.args.self.now.rising c.place-at.ensures.range c.place-at.ensures.found c.index_mut.ensures.value c.requires.fine)
 
 pub replace-old-requires-clause-there : goal.replace-old-requires-clause-there
 replace-old-requires-clause-there g c =

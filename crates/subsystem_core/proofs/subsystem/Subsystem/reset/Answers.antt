@@ -1,11 +1,6 @@
-use Rattle.std.proofs.Common.{◌≡◌, ◌∙◌, refl, sym, ap, subst, Some, None, true, false}
 use Rattle.device_defs.specs.Contents.{contents}
-use Rattle.device_core.specs.State.{device_of}
-use Rattle.subsystem_defs.specs.declared.end.EventEnd.TheVariants as answers
-use Rattle.subsystem_core.specs.declared.end.EventEnd.TheVariants as ends
 use Rattle.subsystem_defs.specs.declared.event.Event.TheVariants as events
 use Rattle.device_defs.specs.Cutting.{reset}
-use Rattle.subsystem_core.specs.Devices.{devices_of, device_at}
 use Rattle.subsystem_core.proofs.Coming.{was_done}
 use Rattle.subsystem_core.proofs.Deeds as deeds
 use Rattle.subsystem_core.proofs.Found.{found_in}

@@ -9,7 +9,7 @@ use Rattle.subsystem_core.proofs.subsystem.Subsystem.reset_at.Goals as goal
 pub invariant_of-self : goal.invariant_of-self
 invariant_of-self g c =
     let same = numbers_kept c.args.self.now.devices.items c.place-at.result c.index_mut.result.now c.reset.new.self c.index_mut.ensures.value
-        c.reset.ensures.fixed.0 in
+    c.reset.ensures.fixed.0 in
     record {
       rising = rw same c.args.self.now.rising;
       table = rw same c.args.self.now.table;

@@ -1,11 +1,10 @@
-use Rattle.std.proofs.Common.{◌≡◌, ◌<◌, length, sym, subst}
-use Rattle.subsystem_core.specs.Pairs.{IsOfSize}
 use Rattle.subsystem_core.proofs.Found.{numbers_kept}
+use Rattle.subsystem_core.proofs.Numbers.{below_same}
 use Rattle.subsystem_core.proofs.Parting.{all_restored, all_still, place_of, restored_alike, restored_number, restored_size, stands_there}
 use Rattle.subsystem_core.proofs.subsystem.Subsystem.restore_at.Goals as goal
 
 pub index_mut-requires : goal.index_mut-requires
-index_mut-requires g c = place_of c.args.a c.args.self.now.devices.items c.args.at c.requires.lent
+index_mut-requires g c = below_same (place_of c.args.a c.args.self.now.devices.items c.args.at c.requires.lent) c.args.self.now.devices.ok.0
 
 pub restore-requires : goal.restore-requires
 restore-requires g c =

@@ -1,8 +1,7 @@
-use Rattle.std.proofs.Common.{◌≡◌, ◌∙◌, ◌≤◌, arith, refl, subst, length, take}
+use Rattle.std.proofs.Common.{◌∙◌, arith, refl}
 use Rattle.std.proofs.lemmas.List.{take_more, take_all}
 use Rattle.subsystem_core.specs.Devices.{numbers_of}
-use Rattle.subsystem_core.specs.Places.{may_come}
-use Rattle.subsystem_core.specs.Runs.{Runs, over, before}
+use Rattle.subsystem_core.specs.Runs.{over, before}
 use Rattle.subsystem_core.proofs.Running.{may_come_at, one_more, stops_at}
 use Rattle.subsystem_core.proofs.subsystem.Subsystem.run.Goals as goal
 

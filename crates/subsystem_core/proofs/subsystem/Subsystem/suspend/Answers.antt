@@ -1,4 +1,4 @@
-use Rattle.std.proofs.Common.{◌≡◌, ◌∙◌, refl, sym, Some, None}
+use Rattle.std.proofs.Common.{◌∙◌, refl, sym}
 use Rattle.device_defs.specs.Contents.{contents}
 use Rattle.device_defs.specs.Orders.{hold}
 use Rattle.device_core.specs.State.{device_of}

@@ -1,4 +1,4 @@
-use Rattle.std.proofs.Common.{◌≡◌, ◌∙◌, None, Some, refl, sym, subst}
+use Rattle.std.proofs.Common.{◌∙◌, refl, sym}
 use Rattle.subsystem_core.proofs.Parting.{parts}
 use Rattle.subsystem_defs.proofs.Unrefused.{parts_up}
 use Rattle.device_core.specs.State.{device_of}
@@ -19,9 +19,7 @@ returns-clause-unpaired g c =
     let free = sym c.unpair_fault.ensures ∙ c.in_default.is in
     rw c.device.ensures (rw free (
       (λ p. refl),
-      (
-        c.split_at.ensures.pool ∙ c.in-Ok.ensures.pool,
-        parts c.args.a c.args.volume c.args.self.now.devices.items _ _ c.device.result.now c.device.ensures (parts_up (device_of c.device.result.now) free)
-            c.in-Ok.ensures.restored c.split_at.ensures.split,
-      ),
+      c.split_at.ensures.pool ∙ c.in-Ok.ensures.pool,
+      parts c.args.a c.args.volume c.args.self.now.devices.items _ _ c.device.result.now c.device.ensures (parts_up (device_of c.device.result.now) free)
+          c.in-Ok.ensures.restored c.split_at.ensures.split,
     ))
