@@ -17,7 +17,7 @@ use Rattle.deck_top.specs.declared.top.Status.TheVariants.{Reported, DeckRefused
 use Rattle.deck_top.specs.Handed.{TakesBack}
 use Rattle.device_outside.specs.Bay.{Bay}
 use Rattle.device_outside.specs.declared.bay.Spoiled.{Spoiled}
-use Rattle.report_reading.specs.Numbers.{number_in}
+use Rattle.report_text.specs.Numbers.{number_in}
 use Rattle.report_text.specs.Summary.{summary_text}
 use Rattle.run_report.specs.Report.{report_of}
 use Rattle.run_report.specs.Summed.{summary_of}

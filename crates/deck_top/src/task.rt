@@ -3,7 +3,7 @@
 ghost use Rattle.std.specs.Prelude.{◌≡◌, ◌≤◌, IfSome, map};
 ghost use Rattle.deck_top.specs.Answers.{IsServed, generate_by, generate_of, task_by, task_of};
 
-use report_reading::number_in;
+use report_text::number_in;
 
 /// What the words ask for.
 #[derive(Clone, Copy, Debug, PartialEq, Eq)]

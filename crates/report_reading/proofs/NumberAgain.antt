@@ -8,7 +8,7 @@ use Rattle.std.proofs.lemmas.Fmt.{decimal_nonempty, length-decimal-le, first_dec
 use Rattle.std.proofs.lemmas.Str.Parse.{IsNumeralModel, numerals_by_fold}
 use Rattle.hex.specs.Hex.{encode_upper, decode_of, decode_sized, IsBytes}
 use Rattle.hex.proofs.HexLemmas.{decode_of-encode_upper, decode_sized-twice, length-encode_with}
-use Rattle.report_reading.specs.Numbers.{are_digits, is_digit, value_after, has_form, number_of, within, number_in}
+use Rattle.report_text.specs.Numbers.{are_digits, is_digit, value_after, has_form, number_of, within, number_in}
 use Rattle.report_reading.specs.Ranges.{IsPath, IsDevice, IsTrack, IsShort, IsCount, IsLong, AreBytes}
 use Rattle.report_reading.proofs.Cut.{is_solid}
 

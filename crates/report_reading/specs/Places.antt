@@ -13,7 +13,7 @@ use Rattle.report_reading.specs.declared.fault.LineFault.TheVariants.{Words, Wor
 use Rattle.report_text.specs.declared.keyword.Keyword.{Keyword}
 use Rattle.report_text.specs.declared.keyword.Keyword.TheVariants as words
 use Rattle.report_text.specs.Keywords.{keyword_text}
-use Rattle.report_reading.specs.Numbers.{number_in}
+use Rattle.report_text.specs.Numbers.{number_in}
 
 infixl 10 ◌>>=◌
 abbrev pub ◌>>=◌ : {S T : Type 0} → Result S LineFault → (S → Result T LineFault) → Result T LineFault

@@ -4,10 +4,9 @@ ghost use Rattle.report_reading.specs.Places.{note_of, number_at, path_at, short
 
 use crate::LineFault;
 use crate::line_words::LineWords;
-use crate::numbers::number_in;
 use ckd_types::{DeviceNo, Note, PathNo, Side, TrackNo};
 use hex::FromHex;
-use report_text::{Keyword, keyword_text};
+use report_text::{Keyword, keyword_text, number_in};
 
 /// A word of a line, from 0 on.
 pub fn word_at<'a>(words: &LineWords<'a>, i: usize) -> Result<&'a [u8], LineFault>

@@ -7,3 +7,4 @@ pub mod Record
 pub mod Report
 pub mod Events
 pub mod Counting
+pub mod Numbers

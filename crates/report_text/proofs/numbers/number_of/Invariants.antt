@@ -1,6 +1,6 @@
 use Rattle.std.proofs.Common.{◌≡◌, ◌<◌, ◌≤◌, ◌^◌, length, drop}
-use Rattle.report_reading.specs.Numbers.{are_digits, value_after}
-use Rattle.report_reading.proofs.numbers.number_of.Given as goal
+use Rattle.report_text.specs.Numbers.{are_digits, value_after}
+use Rattle.report_text.proofs.numbers.number_of.Given as goal
 
 -- what the digits so far say
 abbrev pub invariant-loop-b : goal.invariant-loop-b

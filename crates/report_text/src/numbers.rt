@@ -1,5 +1,5 @@
 ghost use Rattle.std.specs.Prelude.{◌≡◌, ◌≤◌, ◌<◌, ◌^◌, IfSome};
-ghost use Rattle.report_reading.specs.Numbers.{has_form, number_of, number_in};
+ghost use Rattle.report_text.specs.Numbers.{has_form, number_of, number_in};
 
 /// The most digits of a number: those of 18,446,744,073,709,551,615.
 const MOST_DIGITS: usize = 20;
