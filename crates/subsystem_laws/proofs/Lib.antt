@@ -39,6 +39,7 @@ pub mod RunLength
 pub mod CalmDevices
 pub mod CalmEvents
 pub mod CalmRuns
+pub mod CallCounts
 pub mod FailedCalls
 pub mod ExplainedRuns
 pub mod StoreFacts
