@@ -1,4 +1,5 @@
 pub mod Complete
 pub mod HandedBack
 pub mod Summed
+pub mod Words
 pub mod Written

@@ -30,7 +30,6 @@ struct SummedRun {
     summary: Summary,
 }
 
-/// A run whose sums pass 64 bits has none, for want of memory.
 fn sum_deck(alloc: Global, deck: &Deck, bay: &mut MemBay) -> Result<SummedRun, NoMemory>
     requires { WasRead deck.now }
     ensures summary { bay.old.spoiled ≡ [] → IfOk result (λ ran. ran.summary ≡ summary_of (run_of deck.now)) }
@@ -43,13 +42,11 @@ fn sum_deck(alloc: Global, deck: &Deck, bay: &mut MemBay) -> Result<SummedRun, N
     ensures taken { bay.new.taken ≡ bay.old.taken }
 {
     let ran = run_deck(alloc, deck, bay)?;
-    match summary_of(&ran.report, &ran.sub) {
-        Some(summary) => Ok(SummedRun {
-            sub: ran.sub,
-            summary,
-        }),
-        None => Err(NoMemory),
-    }
+    let summary = summary_of(&ran.report, &ran.sub);
+    Ok(SummedRun {
+        sub: ran.sub,
+        summary,
+    })
 }
 
 pub(crate) fn summarize<K: Sink>(

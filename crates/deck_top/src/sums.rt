@@ -1,9 +1,9 @@
 //! What a run comes to.
 
-ghost use Rattle.std.specs.Prelude.{◌≡◌, IfSome};
+ghost use Rattle.std.specs.Prelude.{◌≡◌};
 ghost use Rattle.device_defs.specs.Excused.{count_lost};
 ghost use Rattle.report_text.specs.Counting.{counts_of};
-ghost use Rattle.deck_top.specs.Summing.{no_sums, sums_of, sums_with, summary_by};
+ghost use Rattle.deck_top.specs.Summing.{added, sums_of, summary_by};
 
 use device_core::Device;
 use device_outside::{MemVolume, Volume};
@@ -25,22 +25,15 @@ fn count_lost(lost: &LostList) -> u64
     lost.len() as u64
 }
 
-/// With those of one device more; none where 64 bits don't hold a sum.
-fn sums_with<V: Volume>(sums: &Sums, device: &Device<V>) -> Option<Sums>
-    ensures { IfSome result (λ more. more ≡ sums_with sums.now device.now) }
+/// Sums of 64 bits, as the counts of a device are. Those of the run of a deck that was read never come to the greatest number.
+fn added(n: u64, m: u64) -> u64
+    ensures { result ≡ added n m }
 {
-    let reads = sums.reads.checked_add(device.reads())?;
-    let writes = sums.writes.checked_add(device.writes())?;
-    let lost = sums.lost.checked_add(count_lost(device.lost()))?;
-    Some(Sums {
-        reads,
-        writes,
-        lost,
-    })
+    n.saturating_add(m)
 }
 
-fn sums_of<V: Volume>(devices: &[Device<V>]) -> Option<Sums>
-    ensures { IfSome result (λ sums. sums ≡ sums_of devices.now) }
+fn sums_of<V: Volume>(devices: &[Device<V>]) -> Sums
+    ensures { result ≡ sums_of devices.now }
 {
     let mut sums = Sums {
         reads: 0,
@@ -48,23 +41,27 @@ fn sums_of<V: Volume>(devices: &[Device<V>]) -> Option<Sums>
         lost: 0,
     };
     for device in devices {
-        sums = sums_with(&sums, device)?;
+        sums = Sums {
+            reads: added(sums.reads, device.reads()),
+            writes: added(sums.writes, device.writes()),
+            lost: added(sums.lost, count_lost(device.lost())),
+        };
     }
-    Some(sums)
+    sums
 }
 
-/// What the lines of a run and its devices come to; none where 64 bits don't hold a sum.
-pub(crate) fn summary_of(report: &RunRecord, sub: &Subsystem<MemVolume>) -> Option<Summary>
-    ensures { IfSome result (λ summary. summary ≡ summary_by (counts_of report.now) (sums_of sub.now.devices.items)) }
+/// What the lines of a run and its devices come to.
+pub(crate) fn summary_of(report: &RunRecord, sub: &Subsystem<MemVolume>) -> Summary
+    ensures { result ≡ summary_by (counts_of report.now) (sums_of sub.now.devices.items) }
 {
     let counts = report.counts();
-    let sums = sums_of(sub.devices())?;
-    Some(Summary {
+    let sums = sums_of(sub.devices());
+    Summary {
         programs: counts.programs,
         commands: counts.commands,
         checks: counts.checks,
         reads: sums.reads,
         writes: sums.writes,
         lost: sums.lost,
-    })
+    }
 }

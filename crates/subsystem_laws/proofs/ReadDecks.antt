@@ -1,5 +1,5 @@
 -- Every deck that was read has devices of one cylinder at least, and starts programs of one of four paths.
-use Rattle.std.proofs.Common.{◌≡◌, ◌≤◌, ◌<◌, ◌==◌, ℕ, Bool, true, false, List, [], ◌∷◌, ◌++◌, Ok, Err, refl, sym, subst, ◌∙◌, arith, eqb-true}
+use Rattle.std.proofs.Common.{◌≡◌, ◌≤◌, ◌<◌, ◌==◌, ◌+◌, ℕ, Bool, true, false, List, [], ◌∷◌, ◌++◌, length, Ok, Err, refl, sym, subst, ◌∙◌, arith, eqb-true}
 use Rattle.std.specs.Prelude.{All, Result, ◌&&◌, nat_lt, if◌then◌else◌}
 use Rattle.std.proofs.lemmas.Bool.{ltb-true}
 use Rattle.std.proofs.lemmas.List.Folds.{list_all-append}
@@ -99,6 +99,32 @@ devices_numbered before seen (d ∷ ds) above h =
 pub read_numbered : (text : List ℕ) (deck : DeckLines) → parsed text ≡ Ok deck → AreNumbered [] deck.devices
 unfolding L.is_in
 read_numbered text deck read = devices_numbered [] [] deck.devices (λ n up. refl) (parsed_good text deck read).devices
+
+-- they are at most 16
+
+last_of : (a b : Bool) → (a && (b && true)) ≡ true → b ≡ true
+last_of true true e = refl
+last_of true false e = absurd (cc)
+last_of false b e = absurd (cc)
+
+above_last : (before : List DeviceLine) (d : DeviceLine) (n : ℕ) → rises (before ++ d ∷ []) n ≡ true → d.number + 1 ≤ n
+above_last before d n up =
+    let last = last_of (rises before n) (nat_lt d.number n) (sym (list_all-append (λ (x : DeviceLine). nat_lt x.number n) before (d ∷ [])) ∙ up) in
+    let less : d.number < n = ltb-true d.number n last in
+    omega (arith, less)
+
+few_from : (low : ℕ) (before ds : List DeviceLine) → low ≤ 16 → ((n : ℕ) → rises before n ≡ true → low ≤ n) → AllDevices before ds → low + length ds ≤ 16
+few_from low before [] most above h = omega (arith, most)
+few_from low before (d ∷ ds) most above h =
+    let r = device_ranges before (device_words d) d h.0.again in
+    let from = above d.number r.rises in
+    let high = r.number.high in
+    let rest = few_from (d.number + 1) (before ++ d ∷ []) ds (omega (arith, high)) (above_last before d) h.1 in
+    omega (arith, from, rest)
+
+pub read_few_devices : (text : List ℕ) (deck : DeckLines) → parsed text ≡ Ok deck → length deck.devices ≤ 16
+read_few_devices text deck read =
+    let few = few_from 0 [] deck.devices (omega arith) (λ n up. omega arith) (parsed_good text deck read).devices in omega (arith, few)
 
 path_range : (devices : List DeviceLine) (words : List (List ℕ)) (at : ℕ × ℕ) → path_and_device devices words ≡ Ok at → Ranged 1 4 at.0
 path_range devices words at h =

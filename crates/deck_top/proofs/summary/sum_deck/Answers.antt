@@ -1,8 +1,9 @@
 use Rattle.std.proofs.Common.{◌∙◌}
-use Rattle.subsystem_defs.specs.Decks.{run_of}
 use Rattle.deck_top.proofs.Summed.{summary_is}
 use Rattle.deck_top.proofs.summary.sum_deck.Goals as goal
 
 pub returns-clause-summary : goal.returns-clause-summary
 returns-clause-summary c = λ none.
-    c.summary_of.ensures ∙ summary_is c.in_ok-ran.ran.sub (run_of c.args.deck.now) _ (c.in_ok-ran.ensures.stands none) (c.in_ok-ran.ensures.counts none)
+    c.summary_of-summary.ensures
+    ∙ summary_is c.in_ok-ran.ran.sub c.args.deck.now c.requires.0 c.requires.1 (c.in_ok-ran.ensures.stands none) c.in_ok-ran.ensures.numbers _
+    (c.in_ok-ran.ensures.counts none)
