@@ -28,7 +28,11 @@ use subsystem_core::Subsystem;
 use subsystem_laws::read_run_is_promised;
 
 /// A deck's devices behind its run, and the lines of its report, but for the last one; and all that is promised of the run.
-pub(crate) fn run_deck(alloc: Global, deck: &Deck, bay: &mut MemBay) -> Result<FinishedRun, NoMemory>
+pub(crate) fn run_deck(
+    alloc: Global,
+    deck: &Deck,
+    bay: &mut MemBay,
+) -> Result<FinishedRun, NoMemory>
     requires { WasRead deck.now }
     ensures text { bay.old.spoiled ≡ [] → IfOk result (λ ran. report_text ran.report [] [] ≡ report_of deck.now) }
     ensures counts { bay.old.spoiled ≡ [] → IfOk result (λ ran. counts_of ran.report ≡ counts_of (lines_of_run (run_of deck.now))) }

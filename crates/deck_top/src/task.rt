@@ -11,10 +11,7 @@ pub enum Task {
     Run,
     Check,
     /// The run of the deck of this seed and so many programs.
-    Generate {
-        seed: u64,
-        count: u16,
-    },
+    Generate { seed: u64, count: u16 },
 }
 
 /// The most programs of a generated deck.

@@ -377,7 +377,8 @@ fn starts(kept: &Kept, others: &[ReportLine]) -> bool
 {
     match kept {
         Kept::Other => is_start(&others[0]),
-        Kept::End(_) | Kept::Io(_, _) | Kept::Over(_, _, _, _) | Kept::Data(_) | Kept::Sense => false,
+        Kept::End(_) | Kept::Io(_, _) | Kept::Over(_, _, _, _) | Kept::Data(_) | Kept::Sense =>
+            false,
     }
 }
 
