@@ -126,7 +126,7 @@ module _ {F P H R : Type 0} (c : Contents F P H R) where
   clean_is (Some f) e = e
   clean_is None e = absurd (cc)
 
-  framed_frames : (s : Store F P H) → IsWell c s → IsFramed s → HasFrames c (plates_of s)
+  pub framed_frames : (s : Store F P H) → IsWell c s → IsFramed s → HasFrames c (plates_of s)
   unfolding M.track_at
   framed_frames s w x = record { framed = x.framed; clean = λ q none clean. by_place q none clean (cases_lt q (tracks_of s)) } where
     long : length s.frames ≡ tracks_of s
@@ -143,7 +143,7 @@ module _ {F P H R : Type 0} (c : Contents F P H R) where
         let past = get_or_past s.frames q None (let same = long in omega (arith, same, le)) in
         absurd (let both : false ≡ true = sym (ap (λ (f : Option F). is_clean c f) past) ∙ clean in cc)
 
-  framed_steady : (s : Store F P H) → IsFramed s → Steady (core_of s)
+  pub framed_steady : (s : Store F P H) → IsFramed s → Steady (core_of s)
   framed_steady s x = record {
     kept = x.kept;
     takes = ap (λ (b : Bool). b || takes_b s) x.up;
@@ -151,7 +151,7 @@ module _ {F P H R : Type 0} (c : Contents F P H R) where
   }
 
   -- what is kept without a loss
-  framed_behind : (s z : Store F P H) → Fine (core_of s) (core_of z) → HasFrames c (plates_of z) → IsFramed s → IsFramed z
+  pub framed_behind : (s z : Store F P H) → Fine (core_of s) (core_of z) → HasFrames c (plates_of z) → IsFramed s → IsFramed z
   framed_behind s z f g x =
       let y = steady_on (core_of s) (core_of z) f (framed_steady s x) in
       record {
@@ -190,7 +190,8 @@ module _ {F P H R : Type 0} (c : Contents F P H R) where
       (λ _. lucky_done f)
   reset_by_framed d path None f = lucky_if (has_used d.history path) (λ _. lucky_done f) (λ _. lucky_done f)
 
-  reset_framed : (d : Device F P H) (path : ℕ) → HasFrames c (plates_of d.store) → Lucky (λ y (a : Unit {0}). HasFrames c (plates_of y.store)) (reset c d path)
+  pub reset_framed : (d : Device F P H) (path : ℕ) → HasFrames c (plates_of d.store) →
+      Lucky (λ y (a : Unit {0}). HasFrames c (plates_of y.store)) (reset c d path)
   unfolding U.reset
   reset_framed d path f = reset_by_framed d path d.history.running f
 
@@ -231,7 +232,7 @@ module _ {F P H R : Type 0} (c : Contents F P H R) where
         (lucky_both (end_goes c faithful (waiting_count c d.store) y.store) (end_keeps c IsFramedIn (waiting_count c d.store) y.store g.1))
         (λ z _ h. lucky_done (h.0.up ∙ g.0, h.1)))
 
-    lose_store_framed : (d : Device F P H) → HasFrames c (plates_of d.store) → IsFramed d.store →
+    pub lose_store_framed : (d : Device F P H) → HasFrames c (plates_of d.store) → IsFramed d.store →
         Always (lose c d losses.Store) (λ y (a : Unit {0}). IsFramed y.store)
     lose_store_framed d f w =
         where_quiet (lose_quiet c faithful d losses.Store)

@@ -155,7 +155,7 @@ still_small x y e le = omega (arith, e, le)
 one_event : (n k x y : ℕ) → n ≤ 64 → x ≤ k → y ≤ x + (n * 15 * 2 + 4) → y ≤ k + 1924
 one_event n k x y small most more = omega (arith, small, most, more)
 
-below : (n k : ℕ) → n ≤ k → k < top → n < top
+pub below : (n k : ℕ) → n ≤ k → k < top → n < top
 below n k le lt = omega (arith, le, lt)
 
 abbrev IsSmall : DeviceLine → Type 0

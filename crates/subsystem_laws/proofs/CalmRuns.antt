@@ -611,7 +611,7 @@ AreFairBehind x = All Fair (devices_of x.happened.behind)
 abbrev Shown : Logged → Type 0
 Shown x = ShowsAll StillCalm MadeCalm calm_pairwise x
 
-one_event : (k n : ℕ) → k + suc n < top → (k + 1 < top) × (k + 1 + n < top)
+pub one_event : (k n : ℕ) → k + suc n < top → (k + 1 < top) × (k + 1 + n < top)
 one_event k n lt = (omega (arith, lt), omega (arith, lt))
 
 calm_on : (ts : List Logged) (s : Subsystem) (k : ℕ) → Linked s ts → All Shown ts → All Refuses ts → All HaveNoDataCheck ts → All AreFairBehind ts →
@@ -646,7 +646,7 @@ opened_fits deck (d ∷ ds) f = (
   opened_fits deck ds f.1,
 )
 
-from_none : (n : ℕ) → n < 2 ^ 64 - 1 → 0 + n < top
+pub from_none : (n : ℕ) → n < 2 ^ 64 - 1 → 0 + n < top
 from_none n lt = omega (arith, lt)
 
 pub calm_run_misses_nothing : (deck : DeckLines) → IsServedDeck deck → length (run_of deck).events < 2 ^ 64 - 1 → is_calm (run_of deck).events ≡ true →

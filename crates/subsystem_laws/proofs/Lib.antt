@@ -48,3 +48,8 @@ pub mod Excusing
 pub mod Shapes
 pub mod PaidSides
 pub mod ExcusedRuns
+pub mod FramesRuns
+pub mod LooseRuns
+pub mod ExcusedDevices
+pub mod SoundHardware
+mod SoundRows

@@ -68,7 +68,7 @@ none_running x y e = omega (arith, e)
 none_past : (x y : ℕ) → x + y ≡ 0 → x + 0 ≡ 0
 none_past x y e = omega (arith, e)
 
-one_more_item : (xs : List Item) → loose_losses (xs ++ items.Fresh ∷ []) ≡ loose_losses xs
+pub one_more_item : (xs : List Item) → loose_losses (xs ++ items.Fresh ∷ []) ≡ loose_losses xs
 one_more_item [] = refl
 one_more_item (x ∷ xs) = ap (λ (n : ℕ). losses_of x + n) (one_more_item xs)
 

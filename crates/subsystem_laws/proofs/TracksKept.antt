@@ -220,7 +220,7 @@ module _ (d : MarksDevice) (f : Fair d) where
             (λ (x : Option ℕ). is_some x) e.lent in let both : true ≡ false = sym lent ∙ home in cc);
       }
 
-  replace_same : (side : Side) → ((replace d side).store.counts.failed ≡ d.store.counts.failed) × ((replace d side).store.lent ≡ d.store.lent)
+  pub replace_same : (side : Side) → ((replace d side).store.counts.failed ≡ d.store.counts.failed) × ((replace d side).store.lent ≡ d.store.lent)
   replace_same sides.A = (refl, refl)
   replace_same sides.B = (refl, refl)
 

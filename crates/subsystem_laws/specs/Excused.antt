@@ -1,8 +1,8 @@
--- A device that was never lent is excused for what it loses and checks.
+-- A device is excused for what it loses, and one that was never lent for its checks too.
 use Rattle.std.specs.Prelude.{◌≡◌, ◌≤◌, Bool, true, false, List, [], ◌∷◌, All, is_some}
 use Rattle.plain_defs.specs.declared.journal.Item.{Item}
 use Rattle.plain_defs.specs.declared.journal.Item.TheVariants as items
-use Rattle.device_defs.specs.Excused.{unexplained}
+use Rattle.device_defs.specs.Excused.{IsExcused, count_lost, loose_losses, may_lose, unexplained}
 use Rattle.device_defs.specs.Marks.{MarksDevice}
 use Rattle.subsystem_defs.specs.Lines.{Logged}
 use Rattle.subsystem_defs.specs.Promised.{empty_of}
@@ -18,6 +18,20 @@ pub record WasNeverLent (d : MarksDevice) : Type 0 where
   pub home : is_some d.store.lent ≡ false
   pub none : has_fresh d.history.items ≡ false
 
+-- none of its tracks is lost unless by how often something failed it may
+abbrev pub HasExcusedTracks : MarksDevice → Type 0
+HasExcusedTracks d = may_lose d.store.counts ≡ false → count_lost d.store.lost ≡ 0
+
+abbrev pub HaveExcusedTracks : Logged → Type 0
+HaveExcusedTracks x = All HasExcusedTracks (devices_of x.happened.behind)
+
+-- its data of cache fast write were lost no more often than losses of the cache were counted
+abbrev pub HasCountedLosses : MarksDevice → Type 0
+HasCountedLosses d = loose_losses d.history.items ≤ d.store.counts.losses.cache
+
+abbrev pub HaveCountedLosses : Logged → Type 0
+HaveCountedLosses x = All HasCountedLosses (devices_of x.happened.behind)
+
 -- no more of its checks are unexplained than calls of it failed
 abbrev pub HasExcusedChecks : MarksDevice → Type 0
 HasExcusedChecks d =
@@ -25,3 +39,10 @@ HasExcusedChecks d =
 
 abbrev pub HaveExcusedChecks : Logged → Type 0
 HaveExcusedChecks x = All HasExcusedChecks (devices_of x.happened.behind)
+
+-- all three
+abbrev pub HasExcuse : MarksDevice → Type 0
+HasExcuse d = WasNeverLent d → IsExcused d.plans (empty_of d) d.history.items d.store.lost d.store.counts
+
+abbrev pub HaveExcuses : Logged → Type 0
+HaveExcuses x = All HasExcuse (devices_of x.happened.behind)

@@ -16,8 +16,9 @@ ghost use Rattle.subsystem_laws.specs.Causes.{
   LoseForCause,
   MissNothing,
 };
-ghost use Rattle.subsystem_laws.specs.Excused.{HaveExcusedChecks};
+ghost use Rattle.subsystem_laws.specs.Excused.{HaveCountedLosses, HaveExcusedChecks, HaveExcusedTracks, HaveExcuses};
 ghost use Rattle.subsystem_laws.specs.Served.{IsServedDeck};
+ghost use Rattle.subsystem_laws.specs.SoundHardware.{HaveNoEquipmentCheck, has_sound_hardware};
 
 /// No command ends with data check, whatever calls fail and whatever is lost.
 pub fn run_has_no_data_check()
@@ -82,9 +83,27 @@ pub fn run_is_explained()
     ensures read { (text : List ℕ) (deck : DeckLines) → parsed text ≡ Ok deck → are_explained (run_of deck).events ≡ true }
 {}
 
-/// Of a device that was never lent no more equipment checks are unexplained than calls of it failed: of the others the program's last command touched
-/// a track that is lost, or is a write and a side was lost or two calls failed, or data of the program's own cache fast write were lost.
-pub fn run_excuses_checks()
-    ensures served { (deck : DeckLines) → IsServedDeck deck → All CountFailures (run_of deck).events → All HaveExcusedChecks (run_of deck).events }
-    ensures read { (text : List ℕ) (deck : DeckLines) → parsed text ≡ Ok deck → All HaveExcusedChecks (run_of deck).events }
+/// Behind every event a device is excused for what it lost and checked. Its tracks: with no loss of a side and no failed call it takes losses of both
+/// cache and store, that of power among the former, to lose one. Its data of cache fast write: they were lost at most as often as losses of the cache
+/// were counted. Where it was never lent, its checks: no more are unexplained than calls of it failed; of the others the program's last command touched
+/// a track that is lost, or is a write and a side was lost or two calls failed, or data of the program's own cache fast write were lost. All three are of
+/// every deck that was read.
+pub fn run_excuses_devices()
+    ensures tracks { (deck : DeckLines) → IsServedDeck deck → All HaveExcusedTracks (run_of deck).events }
+    ensures loose { (deck : DeckLines) → IsServedDeck deck → length (run_of deck).events < 2 ^ 64 - 1 → All HaveCountedLosses (run_of deck).events }
+    ensures checks { (deck : DeckLines) → IsServedDeck deck → All CountFailures (run_of deck).events → All HaveExcusedChecks (run_of deck).events }
+    ensures served { (deck : DeckLines) → IsServedDeck deck → length (run_of deck).events < 2 ^ 64 - 1 → All CountFailures (run_of deck).events →
+        All HaveExcuses (run_of deck).events }
+    ensures read { (text : List ℕ) (deck : DeckLines) → parsed text ≡ Ok deck → All HaveExcuses (run_of deck).events }
+{}
+
+/// On sound hardware, where no line of the deck is a FAULT, a FAIL or a POWER, no command ends with equipment check, every program is served, and no
+/// track is lost behind any event.
+pub fn sound_hardware_checks_nothing()
+    ensures checks { (deck : DeckLines) → IsServedDeck deck → has_sound_hardware deck ≡ true → All HaveNoEquipmentCheck (run_of deck).events }
+    ensures missed { (deck : DeckLines) → IsServedDeck deck → has_sound_hardware deck ≡ true → miss_nothing (run_of deck).events ≡ true }
+    ensures read_checks { (text : List ℕ) (deck : DeckLines) → parsed text ≡ Ok deck → has_sound_hardware deck ≡ true →
+        All HaveNoEquipmentCheck (run_of deck).events }
+    ensures read_missed { (text : List ℕ) (deck : DeckLines) → parsed text ≡ Ok deck → has_sound_hardware deck ≡ true →
+        miss_nothing (run_of deck).events ≡ true }
 {}
