@@ -51,5 +51,6 @@ pub mod ExcusedRuns
 pub mod FramesRuns
 pub mod LooseRuns
 pub mod ExcusedDevices
+pub mod UnfailingRuns
 pub mod SoundHardware
 mod SoundRows

@@ -409,3 +409,20 @@ behind_weaker P Q f (t ∷ ts) h =
     All-cons (λ (x : Logged). All Q (devices_of x.happened.behind)) t ts
     (all_weaker P Q f (devices_of t.happened.behind) (All-head (λ (x : Logged). All P (devices_of x.happened.behind)) t ts h))
     (behind_weaker P Q f ts (All-tail (λ (x : Logged). All P (devices_of x.happened.behind)) t ts h))
+
+-- and what follows from two of them
+pub both_all : (P Q R : MarksDevice → Type 0) → ((d : MarksDevice) → P d → Q d → R d) → (ds : List MarksDevice) → All P ds → All Q ds → All R ds
+both_all P Q R f [] h k = All-nil R
+both_all P Q R f (d ∷ ds) h k =
+    All-cons R d ds (f d (All-head P d ds h) (All-head Q d ds k)) (both_all P Q R f ds (All-tail P d ds h) (All-tail Q d ds k))
+
+pub both_behind : (P Q R : MarksDevice → Type 0) → ((d : MarksDevice) → P d → Q d → R d) → (ts : List Logged) →
+    All (λ (x : Logged). All P (devices_of x.happened.behind)) ts → All (λ (x : Logged). All Q (devices_of x.happened.behind)) ts →
+    All (λ (x : Logged). All R (devices_of x.happened.behind)) ts
+both_behind P Q R f [] h k = All-nil (λ (x : Logged). All R (devices_of x.happened.behind))
+both_behind P Q R f (t ∷ ts) h k =
+    All-cons (λ (x : Logged). All R (devices_of x.happened.behind)) t ts
+    (both_all P Q R f (devices_of t.happened.behind) (All-head (λ (x : Logged). All P (devices_of x.happened.behind)) t ts h)
+    (All-head (λ (x : Logged). All Q (devices_of x.happened.behind)) t ts k))
+    (both_behind P Q R f ts (All-tail (λ (x : Logged). All P (devices_of x.happened.behind)) t ts h)
+    (All-tail (λ (x : Logged). All Q (devices_of x.happened.behind)) t ts k))

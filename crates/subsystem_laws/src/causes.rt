@@ -1,6 +1,6 @@
 //! Laws of the run of a deck: what causes the checks of its commands.
 
-ghost use Rattle.std.specs.Prelude.{◌≡◌, ◌<◌, ◌-◌, ◌^◌, ℕ, true, List, length, Ok, All};
+ghost use Rattle.std.specs.Prelude.{◌≡◌, ◌<◌, ◌-◌, ◌^◌, ℕ, true, List, [], length, Ok, All};
 ghost use Rattle.deck_text.specs.DeckLines.{DeckLines};
 ghost use Rattle.deck_text.specs.Parse.{parsed};
 ghost use Rattle.subsystem_defs.specs.Calm.{is_calm};
@@ -18,7 +18,7 @@ ghost use Rattle.subsystem_laws.specs.Causes.{
 };
 ghost use Rattle.subsystem_laws.specs.Excused.{HaveCountedLosses, HaveExcusedChecks, HaveExcusedTracks, HaveExcuses};
 ghost use Rattle.subsystem_laws.specs.Served.{IsServedDeck};
-ghost use Rattle.subsystem_laws.specs.SoundHardware.{HaveNoEquipmentCheck, has_sound_hardware};
+ghost use Rattle.subsystem_laws.specs.SoundHardware.{HaveExplainedChecks, HaveNoEquipmentCheck, HaveNoFailedCall, has_sound_hardware};
 
 /// No command ends with data check, whatever calls fail and whatever is lost.
 pub fn run_has_no_data_check()
@@ -95,6 +95,14 @@ pub fn run_excuses_devices()
     ensures served { (deck : DeckLines) → IsServedDeck deck → length (run_of deck).events < 2 ^ 64 - 1 → All CountFailures (run_of deck).events →
         All HaveExcuses (run_of deck).events }
     ensures read { (text : List ℕ) (deck : DeckLines) → parsed text ≡ Ok deck → All HaveExcuses (run_of deck).events }
+{}
+
+/// Where no line of the deck is a FAULT, no call of a volume fails, whatever is lost. So what was lost explains each equipment check of a device that was
+/// never lent.
+pub fn no_call_fails_without_faults()
+    ensures calls { (deck : DeckLines) → deck.faults ≡ [] → All HaveNoFailedCall (run_of deck).events }
+    ensures checks { (deck : DeckLines) → IsServedDeck deck → deck.faults ≡ [] → All HaveExplainedChecks (run_of deck).events }
+    ensures read { (text : List ℕ) (deck : DeckLines) → parsed text ≡ Ok deck → deck.faults ≡ [] → All HaveExplainedChecks (run_of deck).events }
 {}
 
 /// On sound hardware, where no line of the deck is a FAULT, a FAIL or a POWER, no command ends with equipment check, every program is served, and no

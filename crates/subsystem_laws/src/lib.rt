@@ -10,9 +10,10 @@ mod waits;
 mod whole;
 
 pub use causes::{
-    calm_run_misses_nothing, checks_have_causes, lost_tracks_have_causes, read_run_checks_nothing,
-    run_checks_nothing, run_excuses_devices, run_has_good_marks, run_has_no_data_check,
-    run_is_explained, run_loses_no_track, run_misses_nothing, sound_hardware_checks_nothing,
+    calm_run_misses_nothing, checks_have_causes, lost_tracks_have_causes,
+    no_call_fails_without_faults, read_run_checks_nothing, run_checks_nothing, run_excuses_devices,
+    run_has_good_marks, run_has_no_data_check, run_is_explained, run_loses_no_track,
+    run_misses_nothing, sound_hardware_checks_nothing,
 };
 pub use plain::{read_run_is_plain, run_is_plain};
 pub use promised::read_run_is_promised;
