@@ -20,6 +20,7 @@ use Rattle.device_outside.specs.declared.bay.Spoiled.{Spoiled}
 use Rattle.report_text.specs.Numbers.{number_in}
 use Rattle.report_text.specs.Summary.{summary_text}
 use Rattle.run_report.specs.Report.{report_of}
+use Rattle.run_report.specs.Shown.{DeckRunsPlainly}
 use Rattle.run_report.specs.Summed.{summary_of}
 use Rattle.subsystem_defs.specs.Decks.{run_of}
 use Rattle.subsystem_defs.specs.Promised.{IsPromised}
@@ -90,12 +91,18 @@ FrontOf (Err fault) task spoiled held holds = AppendsFront held holds (text_of t
 FrontOf (Ok d) Check spoiled held holds = AppendsFront held holds (canonical d)
 FrontOf (Ok d) task spoiled held holds = (text : List ℕ) × (spoiled ≡ [] → text ≡ output_of task d) × AppendsFront held holds text
 
+-- the report shows each device's history, which is one of a plain device; each equipment check is explained; and while each failure is repaired
+-- before the next one comes nothing is missed
+pub record RunsAsPromised (d : DeckLines) : Type 0 where
+  pub shown : DeckRunsPlainly d
+  pub promised : IsPromised d
+
 -- what is done for a deck: its canonical text, or the report or the summary of its run, of which all is so that is promised, and whose volumes
 -- go back to the bay
 abbrev pub IsDone : Task → DeckLines → Bay → Bay → Option (List ℕ) → Option (List ℕ) → Type 0
 IsDone Check d old new held holds = Appends held holds (canonical d)
 IsDone task d old new held holds =
-    (text : List ℕ) × (old.spoiled ≡ [] → text ≡ output_of task d) × Appends held holds text × IsPromised d × TakesBack d old new
+    (text : List ℕ) × (old.spoiled ≡ [] → text ≡ output_of task d) × Appends held holds text × RunsAsPromised d × TakesBack d old new
 
 -- the source gave this text: all of it, or its first 16,777,217 bytes
 pub record Reads (before after : Option (List ℕ)) (text : List ℕ) : Type 0 where

@@ -7,12 +7,11 @@ ghost use Rattle.report_text.specs.Report.{report_text};
 ghost use Rattle.run_report.specs.Report.{lines_of_run, report_of};
 ghost use Rattle.subsystem_core.specs.Devices.{numbers_of};
 ghost use Rattle.subsystem_defs.specs.Decks.{run_of};
-ghost use Rattle.subsystem_defs.specs.Promised.{IsPromised};
 ghost use Rattle.deck_run.specs.Opening.{WasRead, numbers_in};
 ghost use Rattle.deck_run.specs.Sides.{AreAccounted, all_sides};
 ghost use Rattle.deck_run.specs.Standing.{StandsAs};
 ghost use Rattle.deck_top.specs.Handed.{TakesBack};
-ghost use Rattle.deck_top.specs.Answers.{TellsDeck};
+ghost use Rattle.deck_top.specs.Answers.{RunsAsPromised, TellsDeck};
 
 use crate::give::give_back;
 use crate::task::Task;
@@ -22,6 +21,7 @@ use ckd_types::NoMemory;
 use deck_run::FinishedRun;
 use deck_text::Deck;
 use device_outside::{MemBay, MemVolume};
+use report_laws::read_run_runs_plainly;
 use report_text::write_report;
 use std::alloc::Global;
 use subsystem_core::Subsystem;
@@ -36,7 +36,7 @@ pub(crate) fn run_deck(
     requires { WasRead deck.now }
     ensures text { bay.old.spoiled ≡ [] → IfOk result (λ ran. report_text ran.report [] [] ≡ report_of deck.now) }
     ensures counts { bay.old.spoiled ≡ [] → IfOk result (λ ran. counts_of ran.report ≡ counts_of (lines_of_run (run_of deck.now))) }
-    ensures well { IfOk result (λ ran. IsPromised deck.now) }
+    ensures well { IfOk result (λ ran. RunsAsPromised deck.now) }
     ensures stands { bay.old.spoiled ≡ [] → IfOk result (λ ran. StandsAs ran.sub (run_of deck.now).behind) }
     ensures numbers { IfOk result (λ ran. numbers_of ran.sub.devices.items ≡ numbers_in deck.now.devices) }
     ensures accounted { IfOk result (λ ran. AreAccounted (all_sides ran.sub.devices.items)) }
@@ -45,6 +45,7 @@ pub(crate) fn run_deck(
     ensures taken { bay.new.taken ≡ bay.old.taken }
 {
     read_run_is_promised();
+    read_run_runs_plainly();
     let ran = deck_run::run_deck(alloc, deck, bay)?;
     Ok(ran)
 }

@@ -5,11 +5,10 @@ ghost use Rattle.ckd_outside.specs.Causes.{Rose};
 ghost use Rattle.run_report.specs.Summed.{summary_of};
 ghost use Rattle.subsystem_core.specs.Devices.{numbers_of};
 ghost use Rattle.subsystem_defs.specs.Decks.{run_of};
-ghost use Rattle.subsystem_defs.specs.Promised.{IsPromised};
 ghost use Rattle.deck_run.specs.Opening.{WasRead, numbers_in};
 ghost use Rattle.deck_run.specs.Sides.{AreAccounted, all_sides};
 ghost use Rattle.deck_run.specs.Standing.{StandsAs};
-ghost use Rattle.deck_top.specs.Answers.{TellsDeck};
+ghost use Rattle.deck_top.specs.Answers.{RunsAsPromised, TellsDeck};
 
 use crate::report::{run_deck, take_back};
 use crate::sums::summary_of;
@@ -33,7 +32,7 @@ struct SummedRun {
 fn sum_deck(alloc: Global, deck: &Deck, bay: &mut MemBay) -> Result<SummedRun, NoMemory>
     requires { WasRead deck.now }
     ensures summary { bay.old.spoiled ≡ [] → IfOk result (λ ran. ran.summary ≡ summary_of (run_of deck.now)) }
-    ensures well { IfOk result (λ ran. IsPromised deck.now) }
+    ensures well { IfOk result (λ ran. RunsAsPromised deck.now) }
     ensures stands { bay.old.spoiled ≡ [] → IfOk result (λ ran. StandsAs ran.sub (run_of deck.now).behind) }
     ensures numbers { IfOk result (λ ran. numbers_of ran.sub.devices.items ≡ numbers_in deck.now.devices) }
     ensures accounted { IfOk result (λ ran. AreAccounted (all_sides ran.sub.devices.items)) }

@@ -33,6 +33,27 @@ fn first_calls(bay: &MemBay) -> Option<(u64, u64)> {
     Some((taken.volume.reads(), taken.volume.writes()))
 }
 
+/// How the run ends where these reads of the source and these writes of the sink fail, ten bytes at a time, and how much was written.
+fn ended(alloc: Global, reads: &[u32], writes: &[u32]) -> Result<(Status, usize), Fail> {
+    let mut bay = MemBay::new(alloc);
+    let mut source = MemSource::new(alloc, DECK.as_bytes(), 10, reads)?;
+    let mut sink = MemSink::new(alloc, 1000, 10, writes)?;
+    let status = deck_top(alloc, &["run"], &mut source, &mut sink, &mut bay);
+    Ok((status, sink.bytes().len()))
+}
+
+#[test]
+fn a_stream_that_fails_ends_the_run(rt: HostRuntime) -> Result<(), Fail> {
+    let alloc = rt.alloc();
+    for n in 1..4 {
+        assert_eq!(rt; ended(alloc, &[n], &[])?, (Status::ReadFault, 0));
+    }
+    assert_eq!(rt; ended(alloc, &[], &[1])?, (Status::WriteFault, 0));
+    assert_eq!(rt; ended(alloc, &[], &[2])?, (Status::WriteFault, 10));
+    assert_eq!(rt; ended(alloc, &[], &[3])?, (Status::WriteFault, 20));
+    Ok(())
+}
+
 #[test]
 fn volumes_of_a_run_come_back(rt: HostRuntime) -> Result<(), Fail> {
     let alloc = rt.alloc();

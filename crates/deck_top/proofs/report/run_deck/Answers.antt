@@ -11,4 +11,7 @@ pub returns-clause-counts : goal.returns-clause-counts
 returns-clause-counts c = λ none. told_counts c.in_ok-ran.ran.report (run_of c.args.deck.now) (c.in_ok-ran.ensures.lines none)
 
 pub returns-clause-well : goal.returns-clause-well
-returns-clause-well c = c.read_run_is_promised.ensures c.requires.0 c.args.deck.now c.requires.1
+returns-clause-well c = record {
+  shown = c.read_run_runs_plainly.ensures c.requires.0 c.args.deck.now c.requires.1;
+  promised = c.read_run_is_promised.ensures c.requires.0 c.args.deck.now c.requires.1;
+}
