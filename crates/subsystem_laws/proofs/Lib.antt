@@ -48,3 +48,4 @@ pub mod Excusing
 pub mod Shapes
 pub mod PaidSides
 pub mod ExcusedRuns
+pub mod RecoveryRuns

@@ -7,3 +7,4 @@ pub mod AllSound
 pub mod Waits
 pub mod Transfers
 pub mod Excused
+pub mod Recoveries

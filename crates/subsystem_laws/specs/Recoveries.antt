@@ -1,0 +1,64 @@
+-- How a recovery lowers the number of tracks that wait, on all devices.
+use Rattle.std.specs.Prelude.{◌≡◌, ◌<◌, ◌+◌, ◌*◌, ℕ, true, ⊤, Option, Some, None}
+use Rattle.device_defs.specs.declared.answers.Did.TheVariants.{Recovered, Half}
+use Rattle.device_defs.specs.declared.answers.SecondEnd.TheVariants.{Finished}
+use Rattle.device_defs.specs.Contents.{by_plain}
+use Rattle.device_defs.specs.Marks.{MarksDevice}
+use Rattle.device_defs.specs.Owed.{waits}
+use Rattle.device_defs.specs.Store.{OfBackground, HalfWrite, tracks_of}
+use Rattle.subsystem_defs.specs.declared.end.EventEnd.{EventEnd}
+use Rattle.subsystem_defs.specs.declared.end.EventEnd.TheVariants as ends
+use Rattle.subsystem_defs.specs.declared.event.Event.TheVariants as events
+use Rattle.subsystem_defs.specs.Deeds.{device_in}
+use Rattle.subsystem_defs.specs.Happening.{Happened}
+use Rattle.subsystem_defs.specs.Lines.{Asked, Once, Run, Settle, Logged}
+use Rattle.subsystem_defs.specs.Subsystem.{devices_of}
+use Rattle.subsystem_laws.specs.Causes.{CountsFailures}
+use Rattle.subsystem_laws.specs.Waits.{waiting_in}
+
+-- track t's recovery is half done: a half write of the background is open on it, and it still waits
+pub record IsHalfRecovered (t : ℕ) (d : MarksDevice) : Type 0 where
+  pub half : HalfWrite (Unit {0})
+  pub is : d.store.half ≡ Some half
+  pub background : half.origin ≡ OfBackground
+  pub track : half.track ≡ t
+  pub within : t < tracks_of d.store
+  pub waiting : waits by_plain d.store t ≡ true
+
+-- no call failed from the first one to the second one of a device, whose failed calls are counted on
+pub record NoCallFailed (d y : MarksDevice) : Type 0 where
+  pub counts : CountsFailures d
+  pub same : y.store.counts.failed ≡ d.store.counts.failed
+
+-- By an event's end, of the device that was asked, before and behind it, and of how many tracks wait before and behind it. Where the track of a half write
+-- of the background waited, its recovery is half done then; its second part may also be done where a call fails, which may lose a side and other tracks
+abbrev pub LowersBy : EventEnd → MarksDevice → MarksDevice → ℕ → ℕ → Type 0
+LowersBy (ends.Back (Recovered t)) d y before behind = behind + 1 ≡ before
+LowersBy (ends.Back (Half t)) d y before behind = (behind ≡ before) × (waits by_plain d.store t ≡ true → IsHalfRecovered t y)
+LowersBy (ends.Second (Finished t)) d y before behind = IsHalfRecovered t d → NoCallFailed d y → behind + 1 ≡ before
+LowersBy _ d y before behind = ⊤
+
+-- the device stays where it is
+abbrev pub LowersAt : EventEnd → Option MarksDevice → Option MarksDevice → ℕ → ℕ → Type 0
+LowersAt end (Some d) (Some y) before behind = LowersBy end d y before behind
+LowersAt end (Some d) None before behind = ⊥
+LowersAt end None y before behind = ⊤
+
+-- of the device that an event asks for a step or for work in the background
+abbrev pub asks_device : Asked → Option ℕ
+asks_device (Once (events.Step n)) = Some n
+asks_device (Once (events.Back n)) = Some n
+asks_device (Run n) = Some n
+asks_device (Settle n) = Some n
+asks_device _ = None
+
+abbrev pub LowersIn : Option ℕ → Happened → Type 0
+LowersIn (Some n) h =
+    let before = devices_of h.before in
+    let behind = devices_of h.behind in
+    LowersAt h.end (device_in before n) (device_in behind n) (waiting_in before) (waiting_in behind)
+LowersIn None h = ⊤
+
+-- of an event of a run
+abbrev pub LowersWaiting : Logged → Type 0
+LowersWaiting x = LowersIn (asks_device x.asked) x.happened
