@@ -49,3 +49,4 @@ pub mod Shapes
 pub mod PaidSides
 pub mod ExcusedRuns
 pub mod RecoveryRuns
+mod RecoveryRows

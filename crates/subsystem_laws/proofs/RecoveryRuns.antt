@@ -24,6 +24,7 @@ use Rattle.std.proofs.Common.{
   ◌∙◌,
   arith,
 }
+use Rattle.std.proofs.lemmas.List.Elements.{All-nil, All-cons, All-head, All-tail}
 use Rattle.std.specs.Prelude.{All, ⊤, IfSome, if◌then◌else◌}
 use Rattle.ckd_types.specs.declared.paths.Side.{Side}
 use Rattle.deck_text.specs.DeckLines.{DeckLines}
@@ -58,9 +59,10 @@ use Rattle.subsystem_defs.specs.Deeds as E
 use Rattle.subsystem_defs.specs.Deeds.{Ends, Asks, deed, device_in, on_device, step, back, ends_by, may_end_by, end_of}
 use Rattle.subsystem_defs.specs.Happening as H
 use Rattle.subsystem_defs.specs.Happening.{Talk, held_with, told_to, told_end, mounted_behind, asks, happens_by, happens, quietly, replaced, unpaired}
-use Rattle.subsystem_defs.specs.Lines.{Once, Replace, Unpair, logged, asked_by}
+use Rattle.subsystem_defs.specs.Lines.{Once, Logged, asked_by}
 use Rattle.subsystem_defs.specs.Subsystem.{Mounted, Subsystem, number_of, devices_of, mounted_in, put_in, unfailing}
-use Rattle.subsystem_laws.specs.Recoveries.{IsHalfRecovered, NoCallFailed, LowersBy, LowersAt, asks_device, LowersIn, LowersWaiting}
+use Rattle.subsystem_laws.specs.Causes.{CountsFailures, CountFailures}
+use Rattle.subsystem_laws.specs.Recoveries.{IsHalfRecovered, LowersBy, LowersAt, asks_device, LowersIn, LowersWaiting}
 use Rattle.subsystem_laws.specs.Served.{IsServedDeck}
 use Rattle.subsystem_laws.specs.Waits.{waiting_of, waiting_in}
 use Rattle.subsystem_laws.proofs.FoundDevices.{number_found, same_found}
@@ -68,6 +70,7 @@ use Rattle.subsystem_laws.proofs.GoodMarks.{Good, by_lent, half_home, good_kept,
 use Rattle.subsystem_laws.proofs.LendBase.{at, stays_still}
 use Rattle.subsystem_laws.proofs.MovedRuns.{is_there}
 use Rattle.subsystem_laws.proofs.RunLines.{AnyEvent, Goes, run_shows}
+use Rattle.subsystem_laws.proofs.RunLinks.{event_from}
 use Rattle.subsystem_laws.proofs.Walks.{AreSo, device_so, mounted_so, event_so, replaced_so, unpaired_so}
 
 -- An answer is an event's end
@@ -117,13 +120,13 @@ work_lowers d y None k = tt
 -- where its track waits and no call fails
 abbrev SecondSo : MarksDevice → MarksDevice → SecondEnd → Type 0
 SecondSo d y a =
-    (h : HalfWrite (Unit {0})) → d.store.half ≡ Some h → h.origin ≡ OfBackground → waits by_plain d.store h.track ≡ true → NoCallFailed d y →
-    SecondWaits by_plain (shelf_of d.store) h.track (shelf_of y.store) a
+    (h : HalfWrite (Unit {0})) → d.store.half ≡ Some h → h.origin ≡ OfBackground → waits by_plain d.store h.track ≡ true →
+    y.store.counts.failed ≡ d.store.counts.failed → SecondWaits by_plain (shelf_of d.store) h.track (shelf_of y.store) a
 
 part_lowers : (d y : MarksDevice) (a : SecondEnd) → SecondSo d y a → LowersBy (ends.Second a) d y (waiting_of d) (waiting_of y)
-part_lowers d y (parts.Finished t) so = λ half none.
+part_lowers d y (parts.Finished t) so = λ half same.
     let waited = subst (λ (q : ℕ). waits by_plain d.store q ≡ true) (sym half.track) half.waiting in
-    let k = so half.half half.is half.background waited none in
+    let k = so half.half half.is half.background waited same in
     fewer_wait by_plain d.store y.store t half.within (sym (waits_is by_plain d.store t) ∙ half.waiting)
     (subst (λ (q : ℕ). DoneIn by_plain (shelf_of d.store) q (shelf_of y.store)) half.track k)
 part_lowers d y (parts.Ended e) so = tt
@@ -156,17 +159,17 @@ module _ (d : MarksDevice) where
       (λ k other. subst (λ (x : HalfWrite (Unit {0})). waits by_plain d.store x.track ≡ true)
       (let both : Some h ≡ Some k = sym is ∙ other in let same : h ≡ k = cc in same) waited)
 
-  second_so : Good d → (t : Told) → SecondSo d (T.hold true (second by_plain d) t).state (T.hold true (second by_plain d) t).answer
-  second_so g t h is own waited none =
-      at (where_none_failed (λ (y : MarksDevice) a. SecondWaits by_plain (shelf_of d.store) h.track (shelf_of y.store) a) (second_based by_plain d) none.counts
-      (second_waits by_plain marks_are_faithful d h is own (own_drops g h is waited))) t none.same
+  second_so : Good d → CountsFailures d → (t : Told) → SecondSo d (T.hold true (second by_plain d) t).state (T.hold true (second by_plain d) t).answer
+  second_so g counts t h is own waited same =
+      at (where_none_failed (λ (y : MarksDevice) a. SecondWaits by_plain (shelf_of d.store) h.track (shelf_of y.store) a) (second_based by_plain d) counts
+      (second_waits by_plain marks_are_faithful d h is own (own_drops g h is waited))) t same
 
-  seconded : Good d → AlwaysLowers (ends_by ends.Second (second by_plain d))
-  seconded g t =
+  seconded : Good d → CountsFailures d → AlwaysLowers (ends_by ends.Second (second by_plain d))
+  seconded g counts t =
       let o = T.hold true (second by_plain d) t in
       subst (Lowers d) (sym (hold_mapped (second by_plain d) (λ a. Some (ends.Second a)) t)) (record {
         number = (at (stays_still (second_based by_plain d)) t).0;
-        lowers = part_lowers d o.state o.answer (second_so g t);
+        lowers = part_lowers d o.state o.answer (second_so g counts t);
       })
 
   commanded : AlwaysLowers (may_end_by ends.Stepped (command by_plain d))
@@ -224,7 +227,7 @@ lifted : (end : EventEnd) (d y : MarksDevice) (before behind mine now : ℕ) →
     LowersBy end d y before behind
 lifted (ends.Back (dids.Recovered t)) d y before behind mine now e k = omega (arith, e, k)
 lifted (ends.Back (dids.Half t)) d y before behind mine now e k = (let same = k.0 in omega (arith, e, same), k.1)
-lifted (ends.Second (parts.Finished t)) d y before behind mine now e k = λ half none. let less = k half none in omega (arith, e, less)
+lifted (ends.Second (parts.Finished t)) d y before behind mine now e k = λ half same. let less = k half same in omega (arith, e, less)
 lifted (ends.Back dids.Nothing) d y before behind mine now e k = tt
 lifted (ends.Back (dids.Copied t)) d y before behind mine now e k = tt
 lifted (ends.Back (dids.Staged t)) d y before behind mine now e k = tt
@@ -250,6 +253,17 @@ idle_at None before behind = tt
 done_at : (o : Option MarksDevice) (before behind : ℕ) → LowersAt ends.Done o o before behind
 done_at (Some d) before behind = tt
 done_at None before behind = tt
+
+counted_if : (b : Bool) (x d : MarksDevice) (o : Option MarksDevice) → (if b then Some x else o) ≡ Some d → CountsFailures x →
+    (o ≡ Some d → CountsFailures d) → CountsFailures d
+counted_if true x d o here counts more = let same : x ≡ d = cc in subst CountsFailures same counts
+counted_if false x d o here counts more = more here
+
+counted_in : (ds : List MarksDevice) (n : ℕ) (d : MarksDevice) → device_in ds n ≡ Some d → All CountsFailures ds → CountsFailures d
+counted_in [] n d here h = absurd (cc)
+counted_in (x ∷ ds) n d here h =
+    counted_if (x.store.device == n) x d (device_in ds n) here (All-head CountsFailures x ds h)
+    (λ more. counted_in ds n d more (All-tail CountsFailures x ds h))
 
 module _ (s : Subsystem) where
   own_by : (n : ℕ) (d : MarksDevice) → device_in (devices_of s) n ≡ Some d → (talk : Talk (Option EventEnd)) → AlwaysLowers d talk →
@@ -283,7 +297,7 @@ module _ (s : Subsystem) where
   done_lowers : (n : ℕ) → LowersIn (Some n) (quietly s s ends.Done)
   done_lowers n = done_at (device_in (devices_of s) n) (waiting_in (devices_of s)) (waiting_in (devices_of s))
 
-  module _ (q : AreSo Good s.mounted) where
+  module _ (q : AreSo Good s.mounted) (counted : All CountsFailures (devices_of s)) where
     good_at : (n : ℕ) (d : MarksDevice) → device_in (devices_of s) n ≡ Some d → Good d
     good_at n d here = subst (λ (o : Option MarksDevice). IfSome o Good) here (device_so Good s.mounted n q)
 
@@ -293,7 +307,8 @@ module _ (s : Subsystem) where
     running_lowers n d here false = idle_lowers n
 
     seconds_lower : (n : ℕ) (d : MarksDevice) → device_in (devices_of s) n ≡ Some d → LowersIn (Some n) (happens_by s (E.seconds by_plain d))
-    seconds_lower n d here = own_lowers n d here (ends_by ends.Second (second by_plain d)) (seconded d (good_at n d here))
+    seconds_lower n d here = own_lowers n d here (ends_by ends.Second (second by_plain d))
+        (seconded d (good_at n d here) (counted_in (devices_of s) n d here counted))
 
     stepped_lowers : (n : ℕ) (d : MarksDevice) → device_in (devices_of s) n ≡ Some d → (b : Bool) →
         LowersIn (Some n) (happens_by s (if b then E.seconds by_plain d
@@ -353,16 +368,32 @@ unpaired_good : (s : Subsystem) → AreGood s → (a : ℕ) → AreGood (unpaire
 unfolding H.unpaired
 unpaired_good s q a = unpaired_so Good AnyEvent good_kept s a unfailing q (mounted_in s.mounted a) (mounted_so Good s.mounted a q)
 
-lines_lower : Goes AreGood (λ s. LowersWaiting) AnyEvent
+-- while failed calls are counted
+abbrev LowersCounted : Logged → Type 0
+LowersCounted x = CountFailures x → LowersWaiting x
+
+counted_before : (s : Subsystem) (e : Event) → All CountsFailures (devices_of (happens s e).before) → All CountsFailures (devices_of s)
+counted_before s e h = subst (λ (z : Subsystem). All CountsFailures (devices_of z)) (event_from s e) h
+
+lines_lower : Goes AreGood (λ s. LowersCounted) AnyEvent
 lines_lower = record {
-  once = λ s e may q. (event_good s q e, event_lowers s q e);
-  stepped = λ s d q. (event_good s q (events.Step d), step_happens s q d);
-  idle = λ s d q. (q, idle_lowers s d);
-  backed = λ s d q. (event_good s q (events.Back d), back_happens s q d);
-  replaces = λ s d side q. (replaced_good s q d side, tt);
-  unpairs = λ s a q. (unpaired_good s q a, tt);
+  once = λ s e may q. (event_good s q e, λ h. event_lowers s q (counted_before s e h) e);
+  stepped = λ s d q. (event_good s q (events.Step d), λ h. step_happens s q (counted_before s (events.Step d) h) d);
+  idle = λ s d q. (q, λ h. idle_lowers s d);
+  backed = λ s d q. (event_good s q (events.Back d), λ h. back_happens s q (counted_before s (events.Back d) h) d);
+  replaces = λ s d side q. (replaced_good s q d side, λ h. tt);
+  unpairs = λ s a q. (unpaired_good s q a, λ h. tt);
 }
 
-pub run_recovers : (deck : DeckLines) → IsServedDeck deck → All LowersWaiting (run_of deck).events
+all_counted : (ts : List Logged) → All LowersCounted ts → All CountFailures ts → All LowersWaiting ts
+all_counted [] h n = All-nil LowersWaiting
+all_counted (t ∷ ts) h n =
+    All-cons LowersWaiting t ts (All-head LowersCounted t ts h (All-head CountFailures t ts n))
+    (all_counted ts (All-tail LowersCounted t ts h) (All-tail CountFailures t ts n))
+
+run_counted : (deck : DeckLines) → IsServedDeck deck → All LowersCounted (run_of deck).events
 unfolding D.run_asked
-run_recovers deck h = run_shows AreGood LowersWaiting lines_lower (map asked_by deck.events) (opened deck) (opened_good deck deck.devices h.devices)
+run_counted deck h = run_shows AreGood LowersCounted lines_lower (map asked_by deck.events) (opened deck) (opened_good deck deck.devices h.devices)
+
+pub run_recovers : (deck : DeckLines) → IsServedDeck deck → All CountFailures (run_of deck).events → All LowersWaiting (run_of deck).events
+run_recovers deck h n = all_counted (run_of deck).events (run_counted deck h) n

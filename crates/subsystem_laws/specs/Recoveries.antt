@@ -13,7 +13,6 @@ use Rattle.subsystem_defs.specs.Deeds.{device_in}
 use Rattle.subsystem_defs.specs.Happening.{Happened}
 use Rattle.subsystem_defs.specs.Lines.{Asked, Once, Run, Settle, Logged}
 use Rattle.subsystem_defs.specs.Subsystem.{devices_of}
-use Rattle.subsystem_laws.specs.Causes.{CountsFailures}
 use Rattle.subsystem_laws.specs.Waits.{waiting_in}
 
 -- track t's recovery is half done: a half write of the background is open on it, and it still waits
@@ -25,17 +24,12 @@ pub record IsHalfRecovered (t : ℕ) (d : MarksDevice) : Type 0 where
   pub within : t < tracks_of d.store
   pub waiting : waits by_plain d.store t ≡ true
 
--- no call failed from the first one to the second one of a device, whose failed calls are counted on
-pub record NoCallFailed (d y : MarksDevice) : Type 0 where
-  pub counts : CountsFailures d
-  pub same : y.store.counts.failed ≡ d.store.counts.failed
-
--- By an event's end, of the device that was asked, before and behind it, and of how many tracks wait before and behind it. Where the track of a half write
--- of the background waited, its recovery is half done then; its second part may also be done where a call fails, which may lose a side and other tracks
+-- By an event's end, of the device that was asked, before and behind it, and of how many tracks wait before and behind it. Where a call fails in a second
+-- part it may be done, too; a side is lost then, and other tracks may wait for it or be lost
 abbrev pub LowersBy : EventEnd → MarksDevice → MarksDevice → ℕ → ℕ → Type 0
 LowersBy (ends.Back (Recovered t)) d y before behind = behind + 1 ≡ before
 LowersBy (ends.Back (Half t)) d y before behind = (behind ≡ before) × (waits by_plain d.store t ≡ true → IsHalfRecovered t y)
-LowersBy (ends.Second (Finished t)) d y before behind = IsHalfRecovered t d → NoCallFailed d y → behind + 1 ≡ before
+LowersBy (ends.Second (Finished t)) d y before behind = IsHalfRecovered t d → y.store.counts.failed ≡ d.store.counts.failed → behind + 1 ≡ before
 LowersBy _ d y before behind = ⊤
 
 -- the device stays where it is
