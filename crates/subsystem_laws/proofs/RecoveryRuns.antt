@@ -46,7 +46,7 @@ use Rattle.device_defs.specs.Owed.{waits}
 use Rattle.device_defs.specs.Store.{OfBackground, HalfWrite}
 use Rattle.device_laws.proofs.BasedEvents.{command_based, second_based, background_based}
 use Rattle.device_laws.proofs.Lucky.{where_none_failed}
-use Rattle.device_laws.proofs.Recoveries.{shelf_of, waits_is, DoneIn, DropsWell, WorkWaits, fewer_wait, as_many_wait}
+use Rattle.device_laws.proofs.Recoveries.{shelf_of, waits_in, waits_is, DoneIn, DropsWell, WorkWaits, fewer_wait, as_many_wait}
 use Rattle.device_laws.proofs.RecoveryEvents.{SecondWaits, well_drops, frameless_drops, background_waits, second_waits}
 use Rattle.device_laws.proofs.TrackMarks.{marks_are_faithful}
 use Rattle.subsystem_defs.specs.declared.end.EventEnd.{EventEnd}
@@ -62,7 +62,7 @@ use Rattle.subsystem_defs.specs.Happening.{Talk, held_with, told_to, told_end, m
 use Rattle.subsystem_defs.specs.Lines.{Once, Logged, asked_by}
 use Rattle.subsystem_defs.specs.Subsystem.{Mounted, Subsystem, number_of, devices_of, mounted_in, put_in, unfailing}
 use Rattle.subsystem_laws.specs.Causes.{CountsFailures, CountFailures}
-use Rattle.subsystem_laws.specs.Recoveries.{IsHalfRecovered, LowersBy, LowersAt, asks_device, LowersIn, LowersWaiting}
+use Rattle.subsystem_laws.specs.Recoveries.{Recovers, IsHalfRecovered, LowersBy, LowersAt, asks_device, LowersIn, LowersWaiting}
 use Rattle.subsystem_laws.specs.Served.{IsServedDeck}
 use Rattle.subsystem_laws.specs.Waits.{waiting_of, waiting_in}
 use Rattle.subsystem_laws.proofs.FoundDevices.{number_found, same_found}
@@ -93,12 +93,21 @@ record Lowers (d : MarksDevice) (o : Outcome MarksDevice (Option EventEnd)) : Ty
   number : o.state.store.device ≡ d.store.device
   lowers : LowersBy (told_end o.answer) d o.state (waiting_of d) (waiting_of o.state)
 
+done_recovers : (d y : MarksDevice) (t : ℕ) → waits_in by_plain (shelf_of d.store) t ≡ true → DoneIn by_plain (shelf_of d.store) t (shelf_of y.store) →
+    Recovers t d y
+done_recovers d y t waited k = record {
+  waited = waits_is by_plain d.store t ∙ waited;
+  done = waits_is by_plain y.store t ∙ k.here;
+  others = λ q ne. waits_is by_plain y.store q ∙ k.others q ne ∙ sym (waits_is by_plain d.store q);
+}
+
 work_lowers : (d y : MarksDevice) (a : Option Did) → WorkWaits by_plain (shelf_of d.store) (shelf_of y.store) a →
     LowersBy (told_end (end_of ends.Back a)) d y (waiting_of d) (waiting_of y)
-work_lowers d y (Some (dids.Recovered t)) k = fewer_wait by_plain d.store y.store t k.0 k.1 k.2
+work_lowers d y (Some (dids.Recovered t)) k = (fewer_wait by_plain d.store y.store t k.0 k.1 k.2, done_recovers d y t k.1 k.2)
 work_lowers d y (Some (dids.Half t)) k =
     let h = k.1 in (
       as_many_wait by_plain d.store y.store h.cylinders h.all,
+      λ q. waits_is by_plain y.store q ∙ h.all q ∙ sym (waits_is by_plain d.store q),
       λ waited. record {
         half = h.half;
         is = h.is;
@@ -125,10 +134,14 @@ SecondSo d y a =
 
 part_lowers : (d y : MarksDevice) (a : SecondEnd) → SecondSo d y a → LowersBy (ends.Second a) d y (waiting_of d) (waiting_of y)
 part_lowers d y (parts.Finished t) so = λ half same.
+    let before : waits_in by_plain (shelf_of d.store) t ≡ true = sym (waits_is by_plain d.store t) ∙ half.waiting in
     let waited = subst (λ (q : ℕ). waits by_plain d.store q ≡ true) (sym half.track) half.waiting in
-    let k = so half.half half.is half.background waited same in
-    fewer_wait by_plain d.store y.store t half.within (sym (waits_is by_plain d.store t) ∙ half.waiting)
-    (subst (λ (q : ℕ). DoneIn by_plain (shelf_of d.store) q (shelf_of y.store)) half.track k)
+    let k : DoneIn by_plain (shelf_of d.store) t (shelf_of y.store) =
+    subst (λ (q : ℕ). DoneIn by_plain (shelf_of d.store) q (shelf_of y.store)) half.track
+    (so half.half half.is half.background waited same) in (
+      fewer_wait by_plain d.store y.store t half.within before k,
+      done_recovers d y t before k,
+    )
 part_lowers d y (parts.Ended e) so = tt
 part_lowers d y (parts.Unwritten t) so = tt
 
@@ -225,9 +238,10 @@ put_found (k ∷ ms) n m y there own = found_if (number_of k == n) n k m y ms re
 -- what an event lowers of one device, it lowers of all
 lifted : (end : EventEnd) (d y : MarksDevice) (before behind mine now : ℕ) → behind + mine ≡ before + now → LowersBy end d y mine now →
     LowersBy end d y before behind
-lifted (ends.Back (dids.Recovered t)) d y before behind mine now e k = omega (arith, e, k)
-lifted (ends.Back (dids.Half t)) d y before behind mine now e k = (let same = k.0 in omega (arith, e, same), k.1)
-lifted (ends.Second (parts.Finished t)) d y before behind mine now e k = λ half same. let less = k half same in omega (arith, e, less)
+lifted (ends.Back (dids.Recovered t)) d y before behind mine now e k = (let less = k.0 in omega (arith, e, less), k.1)
+lifted (ends.Back (dids.Half t)) d y before behind mine now e k = (let same = k.0 in omega (arith, e, same), k.1, k.2)
+lifted (ends.Second (parts.Finished t)) d y before behind mine now e k = λ half same.
+    let x = k half same in (let less = x.0 in omega (arith, e, less), x.1)
 lifted (ends.Back dids.Nothing) d y before behind mine now e k = tt
 lifted (ends.Back (dids.Copied t)) d y before behind mine now e k = tt
 lifted (ends.Back (dids.Staged t)) d y before behind mine now e k = tt

@@ -1,5 +1,5 @@
 -- How a recovery lowers the number of tracks that wait, on all devices.
-use Rattle.std.specs.Prelude.{◌≡◌, ◌<◌, ◌+◌, ◌*◌, ℕ, true, ⊤, Option, Some, None}
+use Rattle.std.specs.Prelude.{◌≡◌, ◌≢◌, ◌<◌, ◌+◌, ◌*◌, ℕ, true, false, ⊤, Option, Some, None}
 use Rattle.device_defs.specs.declared.answers.Did.TheVariants.{Recovered, Half}
 use Rattle.device_defs.specs.declared.answers.SecondEnd.TheVariants.{Finished}
 use Rattle.device_defs.specs.Contents.{by_plain}
@@ -15,6 +15,15 @@ use Rattle.subsystem_defs.specs.Lines.{Asked, Once, Run, Settle, Logged}
 use Rattle.subsystem_defs.specs.Subsystem.{devices_of}
 use Rattle.subsystem_laws.specs.Waits.{waiting_in}
 
+-- track t waited before and doesn't behind, and of all others it is as it was
+pub record Recovers (t : ℕ) (d y : MarksDevice) : Type 0 where
+  pub waited : waits by_plain d.store t ≡ true
+  pub done : waits by_plain y.store t ≡ false
+  pub others : (q : ℕ) → q ≢ t → waits by_plain y.store q ≡ waits by_plain d.store q
+
+abbrev pub WaitsAsBefore : MarksDevice → MarksDevice → Type 0
+WaitsAsBefore d y = (q : ℕ) → waits by_plain y.store q ≡ waits by_plain d.store q
+
 -- track t's recovery is half done: a half write of the background is open on it, and it still waits
 pub record IsHalfRecovered (t : ℕ) (d : MarksDevice) : Type 0 where
   pub half : HalfWrite (Unit {0})
@@ -27,9 +36,10 @@ pub record IsHalfRecovered (t : ℕ) (d : MarksDevice) : Type 0 where
 -- By an event's end, of the device that was asked, before and behind it, and of how many tracks wait before and behind it. Where a call fails in a second
 -- part it may be done, too; a side is lost then, and other tracks may wait for it or be lost
 abbrev pub LowersBy : EventEnd → MarksDevice → MarksDevice → ℕ → ℕ → Type 0
-LowersBy (ends.Back (Recovered t)) d y before behind = behind + 1 ≡ before
-LowersBy (ends.Back (Half t)) d y before behind = (behind ≡ before) × (waits by_plain d.store t ≡ true → IsHalfRecovered t y)
-LowersBy (ends.Second (Finished t)) d y before behind = IsHalfRecovered t d → y.store.counts.failed ≡ d.store.counts.failed → behind + 1 ≡ before
+LowersBy (ends.Back (Recovered t)) d y before behind = (behind + 1 ≡ before) × Recovers t d y
+LowersBy (ends.Back (Half t)) d y before behind = (behind ≡ before) × WaitsAsBefore d y × (waits by_plain d.store t ≡ true → IsHalfRecovered t y)
+LowersBy (ends.Second (Finished t)) d y before behind =
+    IsHalfRecovered t d → y.store.counts.failed ≡ d.store.counts.failed → (behind + 1 ≡ before) × Recovers t d y
 LowersBy _ d y before behind = ⊤
 
 -- the device stays where it is
