@@ -41,7 +41,7 @@ use Rattle.track_image.specs.Image.{Image}
 use Rattle.track_table.specs.Tracks as N
 use Rattle.track_table.specs.Tracks.{count_below}
 use Rattle.track_table.proofs.Marks.{count_same}
-use Rattle.device_outside.specs.Interaction.{Interaction, Done, Ask, and_then}
+use Rattle.device_outside.specs.Interaction.{Interaction, Done, Ask}
 use Rattle.device_outside.specs.Pool.{Call, SetModified, DropFrame}
 use Rattle.device_defs.specs.declared.answers.Did.{Did}
 use Rattle.device_defs.specs.declared.answers.Did.TheVariants as dids
@@ -89,7 +89,6 @@ use Rattle.device_defs.specs.Owed.{
   hear,
   freed_told,
   settles_debt,
-  track_told,
   all_told,
   waits_by,
   waits,
@@ -102,7 +101,6 @@ use Rattle.device_defs.specs.Store.{
   Store,
   tracks_of,
   level_at,
-  has_level,
   some_up,
   takes_b,
   frame_at,
@@ -111,7 +109,6 @@ use Rattle.device_defs.specs.Store.{
   is_loose,
   owed_at,
   with_frame,
-  with_patch,
 }
 use Rattle.device_defs.specs.Writing as V
 use Rattle.device_defs.specs.Writing.{

@@ -5,7 +5,6 @@ use Rattle.std.proofs.Common.{
   ◌<◌,
   ◌≤◌,
   ◌*◌,
-  ◌==◌,
   ℕ,
   Bool,
   true,
@@ -15,7 +14,6 @@ use Rattle.std.proofs.Common.{
   None,
   is_some,
   length,
-  get_or,
   refl,
   sym,
   ap,
@@ -31,12 +29,11 @@ use Rattle.std.proofs.lemmas.Bool.{cases_lt}
 use Rattle.std.proofs.lemmas.List.{get_or_past}
 use Rattle.std.specs.Prelude.{if◌then◌else◌, ◌&&◌, not}
 use Rattle.track_image.specs.Image.{Image}
-use Rattle.device_outside.specs.Interaction.{Interaction, Done, and_then}
+use Rattle.device_outside.specs.Interaction.{Interaction, Done}
 use Rattle.device_defs.specs.declared.answers.Did.{Did}
 use Rattle.device_defs.specs.declared.answers.Did.TheVariants as dids
 use Rattle.device_defs.specs.declared.answers.SecondEnd.{SecondEnd}
 use Rattle.device_defs.specs.declared.answers.SecondEnd.TheVariants as seconds
-use Rattle.device_defs.specs.Background.{work}
 use Rattle.device_defs.specs.Contents.{Contents}
 use Rattle.device_defs.specs.Device.{Device, with_store, event_begun, event_ended}
 use Rattle.device_defs.specs.Events as E

@@ -25,10 +25,10 @@ use Rattle.std.proofs.Common.{
   arith,
 }
 use Rattle.std.proofs.lemmas.List.Elements.{All-nil, All-cons, All-head, All-tail}
-use Rattle.std.specs.Prelude.{All, ⊤, IfSome, if◌then◌else◌}
+use Rattle.std.specs.Prelude.{All, IfSome, if◌then◌else◌}
 use Rattle.ckd_types.specs.declared.paths.Side.{Side}
 use Rattle.deck_text.specs.DeckLines.{DeckLines}
-use Rattle.device_outside.specs.Interaction.{Interaction, Done, Try, Ask, Read, Write, Tell, and_then}
+use Rattle.device_outside.specs.Interaction.{Done, Try, Ask, Read, Write, Tell, and_then}
 use Rattle.device_outside.specs.Keeper.{reply}
 use Rattle.device_outside.specs.Pool.{answer, after}
 use Rattle.device_outside.specs.Told as T
@@ -62,7 +62,7 @@ use Rattle.subsystem_defs.specs.Happening.{Talk, held_with, told_to, told_end, m
 use Rattle.subsystem_defs.specs.Lines.{Once, Logged, asked_by}
 use Rattle.subsystem_defs.specs.Subsystem.{Mounted, Subsystem, number_of, devices_of, mounted_in, put_in, unfailing}
 use Rattle.subsystem_laws.specs.Causes.{CountsFailures, CountFailures}
-use Rattle.subsystem_laws.specs.Recoveries.{Recovers, IsHalfRecovered, LowersBy, LowersAt, asks_device, LowersIn, LowersWaiting}
+use Rattle.subsystem_laws.specs.Recoveries.{Recovers, LowersBy, LowersAt, asks_device, LowersIn, LowersWaiting}
 use Rattle.subsystem_laws.specs.Served.{IsServedDeck}
 use Rattle.subsystem_laws.specs.Waits.{waiting_of, waiting_in}
 use Rattle.subsystem_laws.proofs.FoundDevices.{number_found, same_found}

@@ -1,5 +1,5 @@
 -- How a recovery lowers the number of tracks that wait, on all devices.
-use Rattle.std.specs.Prelude.{◌≡◌, ◌≢◌, ◌<◌, ◌+◌, ◌*◌, ℕ, true, false, ⊤, Option, Some, None}
+use Rattle.std.specs.Prelude.{◌≡◌, ◌≢◌, ◌<◌, ◌+◌, ℕ, true, false, ⊤, Option, Some, None}
 use Rattle.device_defs.specs.declared.answers.Did.TheVariants.{Recovered, Half}
 use Rattle.device_defs.specs.declared.answers.SecondEnd.TheVariants.{Finished}
 use Rattle.device_defs.specs.Contents.{by_plain}
