@@ -234,13 +234,10 @@ module _ {F P H R : Type 0} (c : Contents F P H R) where
         let same : k ≡ h = cc in
         let origin : k.origin ≡ OfBackground = ap (λ (i : HalfWrite H). i.origin) same ∙ own in
         let track : k.track ≡ h.track = ap (λ (i : HalfWrite H). i.track) same in
-        lucky_then (λ z done. second_ended c (with_store (record (event_begun d) { store = s }) z) k.track k.origin done)
-        (second_part_waits s k origin)
-        (λ z done g. subst
-        (λ (t : ℕ). Lucky (λ y a. SecondWaits x t (shelf_of y.store) a) (second_ended c (with_store (record (event_begun d) { store = s }) z) k.track k.origin done))
-        track
-        (ended_waits x (with_store (record (event_begun d) { store = s }) z) k.track k.origin origin done
-        (λ is. done_past x (shelf_of s) k.track (shelf_of z) f (g is))))
+        let y : Device F P H = record (event_begun d) { store = s } in
+        lucky_then (λ z done. second_ended c (with_store y z) k.track k.origin done) (second_part_waits s k origin)
+        (λ z done g. subst (λ (t : ℕ). Lucky (λ w a. SecondWaits x t (shelf_of w.store) a) (second_ended c (with_store y z) k.track k.origin done)) track
+        (ended_waits x (with_store y z) k.track k.origin origin done (λ is. done_past x (shelf_of s) k.track (shelf_of z) f (g is))))
 
     -- of the background
     pub second_waits : (d : Device F P H) (h : HalfWrite H) → d.store.half ≡ Some h → h.origin ≡ OfBackground → DropsWell c (shelf_of d.store) →
