@@ -74,7 +74,7 @@ no_more (y ∷ l) zero (suc q) e = e
 no_more (y ∷ l) (suc t) zero e = e
 no_more (y ∷ l) (suc t) (suc q) e = no_more l t q e
 
-none_at : {X : Type 0} (l : List (Option X)) (t : ℕ) → get_or (set l t None) t None ≡ None
+pub none_at : {X : Type 0} (l : List (Option X)) (t : ℕ) → get_or (set l t None) t None ≡ None
 none_at [] t = refl
 none_at (y ∷ l) zero = refl
 none_at (y ∷ l) (suc t) = none_at l t

@@ -106,7 +106,7 @@ use Rattle.device_laws.proofs.WholeLosses.{where_quiet, lose_quiet, lose_store_s
 
 -- A frame that is clean has no patch, where the marks are good
 
-clean_bare : (f : Option Bool) (p l o h v : Bool) → l ≡ false → h ≡ false → (is_some f && not (M.is_true f)) ≡ true → is_good (marks f p l o h v) ≡ true →
+pub clean_bare : (f : Option Bool) (p l o h v : Bool) → l ≡ false → h ≡ false → (is_some f && not (M.is_true f)) ≡ true → is_good (marks f p l o h v) ≡ true →
     p ≡ false
 clean_bare f false l o h v e g clean good = refl
 clean_bare f true true o h v e g clean good = absurd (cc)
@@ -122,7 +122,7 @@ half_track (Some h) q e P f = subst P (let same : h.track ≡ q = cc in same) (f
 half_track None q e P f = absurd (cc)
 
 module _ {F P H R : Type 0} (c : Contents F P H R) where
-  clean_is : (f : Option F) → is_clean c f ≡ true → (is_some (frame_mark c f) && not (M.is_true (frame_mark c f))) ≡ true
+  pub clean_is : (f : Option F) → is_clean c f ≡ true → (is_some (frame_mark c f) && not (M.is_true (frame_mark c f))) ≡ true
   clean_is (Some f) e = e
   clean_is None e = absurd (cc)
 

@@ -128,3 +128,5 @@ pub mod WholeLosses
 pub mod FramesParts
 pub mod FramesEvents
 pub mod FramesLaws
+pub mod Recoveries
+pub mod RecoveryEvents

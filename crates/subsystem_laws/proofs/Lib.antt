@@ -54,3 +54,5 @@ pub mod ExcusedDevices
 pub mod UnfailingRuns
 pub mod SoundHardware
 mod SoundRows
+pub mod RecoveryRuns
+mod RecoveryRows

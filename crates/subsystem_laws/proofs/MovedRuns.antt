@@ -77,7 +77,7 @@ there_if : (b : Bool) (k : Mounted) (o : Option MarksDevice) (d : MarksDevice) (
 there_if true k o d p more at none = cc
 there_if false k o d p more at none = more at none
 
-is_there : (ms : List Mounted) (n : ℕ) (d : MarksDevice) → device_in (map (λ (m : Mounted). m.device) ms) n ≡ Some d → mounted_in ms n ≡ None → ⊥
+pub is_there : (ms : List Mounted) (n : ℕ) (d : MarksDevice) → device_in (map (λ (m : Mounted). m.device) ms) n ≡ Some d → mounted_in ms n ≡ None → ⊥
 is_there [] n d at none = cc
 is_there (k ∷ ms) n d at none =
     there_if (number_of k == n) k (device_in (map (λ (m : Mounted). m.device) ms) n) d (mounted_in ms n) (is_there ms n d) at none

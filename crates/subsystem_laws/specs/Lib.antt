@@ -8,3 +8,4 @@ pub mod Waits
 pub mod Transfers
 pub mod Excused
 pub mod SoundHardware
+pub mod Recoveries

@@ -19,7 +19,7 @@ pub use plain::{read_run_is_plain, run_is_plain};
 pub use promised::read_run_is_promised;
 pub use standing::{devices_are_sound, slots_are_apart};
 pub use transfers::run_moves_by_table;
-pub use waits::{read_repairs_count_waiting, repairs_count_waiting};
+pub use waits::{read_repairs_count_waiting, recoveries_lower_waiting, repairs_count_waiting};
 pub use whole::{
     whole_device_is_mounted, whole_event_is_what_happens, whole_events_are_what_happens,
     whole_replaced_is_what_happens, whole_unpaired_is_what_happens,
