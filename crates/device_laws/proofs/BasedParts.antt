@@ -108,20 +108,7 @@ use Rattle.device_defs.specs.Image.{
 use Rattle.device_defs.specs.Losses as L
 use Rattle.device_defs.specs.Losses.{slot_in, settled, stale_everywhere, framed_image, firm_told, all_firm_told, side_lost, call_failed, without_patch}
 use Rattle.device_defs.specs.Owed as O
-use Rattle.device_defs.specs.Owed.{
-  is_owed,
-  is_clean,
-  is_modified,
-  dropped,
-  heard,
-  hear,
-  modified_told,
-  dropped_told,
-  freed_told,
-  settles_debt,
-  track_told,
-  all_told,
-}
+use Rattle.device_defs.specs.Owed.{is_owed, is_clean, is_modified, heard, hear, modified_told, dropped_told, freed_told, settles_debt, track_told, all_told}
 use Rattle.device_defs.specs.Second as D
 use Rattle.device_defs.specs.Second.{
   half_image_of,
@@ -208,9 +195,6 @@ module _ {F P H R : Type 0} (c : Contents F P H R) where
   Steady s i = Based base_of Hushed (base_of s) i
 
   -- Notices, and what is told
-
-  dropped_base : (s : Store F P H) (t : ℕ) → base_of (dropped c s t) ≡ base_of s
-  dropped_base s t = base_if (is_clean c (frame_at s t)) _ _ refl refl
 
   heard_steady : (n : ℕ) (s : Store F P H) (note : Option ℕ) → ((z : Store F P H) → Steady z (hear c n z)) → Steady s (heard c (hear c n) s note)
   heard_steady n s None more = based_done refl

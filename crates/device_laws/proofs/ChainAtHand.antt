@@ -5,9 +5,8 @@ use Rattle.ckd_types.specs.declared.channel.CommandEnd.{CommandEnd}
 use Rattle.ckd_types.specs.Fixed.{Fixed}
 use Rattle.ckd_rules.specs.Ending.{Outcome}
 use Rattle.ckd_rules.specs.Ends.{goes_to}
-use Rattle.ckd_chain.specs.declared.mark.Stage.{Stage}
 use Rattle.ckd_chain.specs.State.{ChainState}
-use Rattle.ckd_chain.specs.Steps.{begun_chain, index_of, behind, opened, opened_by, again_from}
+use Rattle.ckd_chain.specs.Steps.{begun_chain, index_of, behind}
 use Rattle.plain_defs.specs.declared.journal.Act.{Act}
 use Rattle.plain_defs.specs.declared.journal.Item.{Item}
 use Rattle.plain_defs.specs.History.{OpenEntry, with_end, IsOpen}
@@ -31,13 +30,6 @@ module _ (plans : Plans) (s : PlainState) where
     act_at_hand is_open act = record {
       words = at_hand.words;
       next = at_hand.next ∙ ap (λ (p : Part). p.next) (sym (part_with_act plans s items o (going_of_open plans s items o None is_open) act));
-    }
-
-    -- memory was lacking for a command that hadn't begun
-    pub again_at_hand : chain.stage ≡ None → IsAtHand plans s o (again_from (opened chain))
-    again_at_hand fresh = record {
-      words = ap (λ (x : Option Stage). (opened_by chain x).ccws) fresh ∙ at_hand.words;
-      next = ap (λ (x : Option Stage). (opened_by chain x).before.next) fresh ∙ at_hand.next;
     }
 
     -- the command at hand ends as on the plain device

@@ -104,8 +104,7 @@ use Rattle.device_defs.specs.Marks.{MarksStore, MarksDevice}
 use Rattle.device_defs.specs.Memory.{had_by}
 use Rattle.device_defs.specs.Outcomes.{Turn, ends_with, settles, checks, wrote_turn, usage_of, sense_kept, program_over, turned_by}
 use Rattle.device_defs.specs.Owed.{hear, waiting_count, ended as event_end}
-use Rattle.device_defs.specs.Peek as K
-use Rattle.device_defs.specs.Peek.{Peeked, Track, Lost, Fault, BadBytes, peek_usage, peeked, peek_image, is_in_half, peek_half, peek_track, peek}
+use Rattle.device_defs.specs.Peek.{BadBytes}
 use Rattle.device_defs.specs.Second.{second_part}
 use Rattle.device_defs.specs.Store.{Origin, OfCommand, OfCut, OfBackground, HalfWrite, level_at, tracks_of, frame_at, is_lost, with_frame, plain_at}
 use Rattle.device_defs.specs.Writing.{firm_first, write_first, write_done, opened}
@@ -388,43 +387,6 @@ unfolding E.second
 second_clean d =
     event_clean (λ e a. Holds (data_checks d.history) e) (λ e s a f. f) d (λ z. second_of by_plain z z.store.half)
     (λ s. second_of_clean (data_checks d.history) (record (event_begun d) { store = s }) s.half refl)
-
--- A look
-
-abbrev pub NoBadLook : Option Peeked → Type 0
-NoBadLook None = Unit {0}
-NoBadLook (Some (Track i)) = Unit {0}
-NoBadLook (Some Lost) = Unit {0}
-NoBadLook (Some (Fault side)) = Unit {0}
-NoBadLook (Some (BadBytes side)) = ⊥
-
-fault_well : (fault : Option Side) → NoBadLook (Some (peeked (NoBytes fault)))
-fault_well (Some side) = tt
-fault_well None = tt
-
-peeked_clean : (s : MarksStore) (o : Option Imaged) → NotBad o →
-    Clean {I = Image} (λ (z : MarksStore) a. NoBadLook a) (had_by (λ (z : MarksStore) i. Done z (Some (peeked i))) s o)
-peeked_clean s None h = clean_done tt
-peeked_clean s (Some (Has i)) h = clean_done tt
-peeked_clean s (Some (NoBytes fault)) h = clean_done (fault_well fault)
-peeked_clean s (Some (BadTrack side)) h = absurd h
-
-peek_image_clean : (s : MarksStore) (t : ℕ) → Clean (λ z a. NoBadLook a) (peek_image by_plain s t)
-peek_image_clean s t = clean_then (had_by (λ z i. Done z (Some (peeked i)))) (image_clean s peek_usage t) (λ z o h. peeked_clean z o h)
-
-peek_half_clean : (s : MarksStore) (t : ℕ) (o : Option (HalfWrite (Unit {0}))) → Clean (λ z a. NoBadLook a) (peek_half by_plain s t o)
-peek_half_clean s t (Some h) =
-    clean_if (is_in_half by_plain s t h) (clean_try (λ ok. clean_if ok (clean_done tt) (clean_done tt))) (peek_image_clean s t)
-peek_half_clean s t None = peek_image_clean s t
-
-peek_track_clean : (s : MarksStore) (t : ℕ) → Clean (λ z a. NoBadLook a) (peek_track by_plain s t)
-peek_track_clean s t = clean_if (is_lost s t) (clean_done tt) (peek_half_clean s t s.half)
-
-pub peek_clean : (d : MarksDevice) (t : ℕ) → Clean (λ e a. NoBadLook a) (peek by_plain d t)
-unfolding K.peek
-peek_clean d t =
-    quiet_clean (λ e a. NoBadLook a) (λ e s a f. f) d (λ z. and_then (peek_track by_plain z.store t) (λ s found. Done (with_store z s) found))
-    (clean_then (λ s found. Done (with_store (event_begun d) s) found) (peek_track_clean (event_begun d).store t) (λ s found h. clean_done h))
 
 -- By itself
 

@@ -222,9 +222,6 @@ module _ (s : DeviceStore) (h : Held) (z : DeviceStore) (k : Held) (e : base_of 
   unfolding base_of
   same_long_b = ap (λ (b : Base). b.long_b) e
 
-  pub same_image : (v : List Track) (q : ℕ) → image_in z v q ≡ image_in s v q
-  same_image v q = ap (λ (g : Geometry). record { geometry = g; track = track_in v q }) same_geometry
-
   same_long : ((side : Side) → (side_of s side).up ≡ true → length (holds_of h side) ≡ tracks_of s) → (side : Side) → (side_of z side).up ≡ true →
       length (holds_of k side) ≡ tracks_of z
   same_long f A up = same_long_a ∙ f A (sym same_up_a ∙ up) ∙ sym same_tracks

@@ -11,7 +11,7 @@ use Rattle.ckd_rules.specs.Walk.{TrackEdit}
 use Rattle.plain_defs.specs.declared.journal.Act.{Act}
 use Rattle.plain_defs.specs.declared.journal.Act.TheVariants.{Loosen, Harden, CfwLost}
 use Rattle.plain_defs.specs.declared.journal.Item.TheVariants as items
-use Rattle.plain_defs.specs.Effect.{effect_on, behind_effect}
+use Rattle.plain_defs.specs.Effect.{effect_on}
 use Rattle.plain_defs.specs.History.{OpenEntry, History, open_part, plain_of, state_by, acted, acted_in, ended, IsOpen, IsPlain}
 use Rattle.plain_defs.specs.Journal.{Plans, program_of, replay}
 use Rattle.plain_defs.specs.Legal.{AreActs, IsSomeLoose, MayEdit, edit_at, track_of, next_edit}
@@ -21,7 +21,7 @@ use Rattle.plain_defs.specs.Program.{Part, acts_done, with_act}
 use Rattle.plain_defs.proofs.JournalLaws.{legal_more, replay-append}
 use Rattle.device_defs.specs.Device.{all_acted}
 use Rattle.device_laws.proofs.HistoryCuts.{idle_with}
-use Rattle.device_laws.proofs.HistoryEnds.{all_reset_in, edited_next, effect_at, going_ends_plain, ended_state_on, ended_state_over}
+use Rattle.device_laws.proofs.HistoryEnds.{edited_next, effect_at, going_ends_plain}
 use Rattle.device_laws.proofs.OpenProgram.{IsGoing, with_one_act, going_of_open, open_of_going, part_with_act, going_with_act}
 use Rattle.device_laws.proofs.WaitingResets.{AreDue, WaitFor}
 
@@ -92,16 +92,6 @@ module _ (plans : Plans) (empty : PlainState) where
 pub some_loose : (loose : List LooseTrack) (t : ℕ) → is_loose_in loose t ≡ true → IsSomeLoose loose
 some_loose [] t is = absurd (cc)
 some_loose (l ∷ loose) t is = tt
-
-module _ (plans : Plans) (empty : PlainState) (h : History) (plain : IsPlain plans empty h) (t : ℕ)
-    (loose : is_loose (plain_of plans empty h) t ≡ true) where
-  -- a loose track becomes firm
-  pub hardened_plain : IsPlain plans empty (acted h (Harden t))
-  hardened_plain = acted_plain plans empty h plain (Harden t) (loose, tt)
-
-  -- the data of cache fast write are lost, where a track is loose
-  pub loss_plain : IsPlain plans empty (acted h CfwLost)
-  loss_plain = acted_plain plans empty h plain CfwLost (some_loose (plain_of plans empty h).loose t loose, tt)
 
 -- A track that becomes loose
 
@@ -174,19 +164,3 @@ module _ (plans : Plans) (empty : PlainState) (h : History) (plain : IsPlain pla
     pub loosened_plain : IsPlain plans empty (ended (acted h (Loosen t)) e)
     loosened_plain = subst (λ (r : Option OpenEntry). IsPlain plans empty (ended (acted_in h (Loosen t) r) e)) (sym running)
         (going_ends_plain plans empty loosened plain.legal due_as_before later refl loose_going i later_next e later_end later_may)
-
-    -- and the plain device is the one with the act and then the command'replayed effect
-    pub loosened_state_on : e.over ≡ false → plain_of plans empty (ended (acted h (Loosen t)) e)
-        ≡ behind_effect (act_done p.state (Loosen t)) (effect_at plans replayed h.items o i)
-    loosened_state_on more =
-        ap (λ (r : Option OpenEntry). plain_of plans empty (ended (acted_in h (Loosen t) r) e)) running
-        ∙ ended_state_on plans empty loosened plain.legal due_as_before later refl loose_going i later_next e later_end later_may more
-        ∙ ap (λ (x : Part). behind_effect x.state (effect_on x.fixed x.state o.path x.stance (ccw_at ccws i))) part_is
-
-    pub loosened_state_over : e.over ≡ true → plain_of plans empty (ended (acted h (Loosen t)) e)
-        ≡ all_reset_in (behind_effect (act_done p.state (Loosen t)) (effect_at plans replayed h.items o i)) h.waiting
-    loosened_state_over over =
-        ap (λ (r : Option OpenEntry). plain_of plans empty (ended (acted_in h (Loosen t) r) e)) running
-        ∙ ended_state_over plans empty loosened plain.legal due_as_before later refl loose_going i later_next e later_end later_may over
-        ∙ ap (λ (x : Part). all_reset_in (behind_effect x.state (effect_on x.fixed x.state o.path x.stance (ccw_at ccws i))) h.waiting)
-        part_is

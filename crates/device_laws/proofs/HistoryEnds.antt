@@ -119,9 +119,6 @@ module _ (plans : Plans) (empty : PlainState) (h : History) where
 -- A command of a running program
 
 module _ (plans : Plans) (s : PlainState) (items : List Item) (o : OpenEntry) where
-  abbrev pub words : List Ccw
-  words = program_of plans o.path o.ordinal
-
   -- what the command at hand does where it ends as on the plain device
   abbrev pub effect_at : ℕ → Effect
   effect_at i = effect_on (open_part plans s o).fixed (open_part plans s o).state o.path (open_part plans s o).stance

@@ -1,6 +1,5 @@
 -- The events of a turn go on with a device's plans and its journal: no reset, no empty volume, no cut program comes in between.
-use Rattle.std.proofs.Common.{◌≡◌, ℕ, Bool, true, false, [], Option, Some, None, refl, sym, ◌∙◌}
-use Rattle.std.proofs.lemmas.List.{append-nil}
+use Rattle.std.proofs.Common.{◌≡◌, ℕ, Bool, true, false, Option, Some, None, ◌∙◌}
 use Rattle.std.specs.Prelude.{if◌then◌else◌}
 use Rattle.ckd_chain.specs.declared.progress.Progress.{Progress}
 use Rattle.ckd_chain.specs.declared.progress.Progress.TheVariants as progresses
@@ -27,7 +26,6 @@ use Rattle.device_defs.specs.Outcomes.{Turn, ends_with, settles, checks, sense_k
 use Rattle.device_defs.specs.Owed.{hear, waiting_count, ended as event_end}
 use Rattle.device_defs.specs.Second.{second_part}
 use Rattle.device_defs.specs.Start as S
-use Rattle.device_defs.specs.Start.{start}
 use Rattle.device_defs.specs.Store.{Origin, OfCommand, OfCut, OfBackground, HalfWrite, Store, tracks_of}
 use Rattle.device_laws.proofs.Always as A
 use Rattle.device_laws.proofs.Always.{Behind, Always, always_done, always_try, always_then}
@@ -164,21 +162,6 @@ module _ {F P H R : Type 0} (c : Contents F P H R) (programs : Plans) (past : Hi
   lose_goes d loss f =
       event_goes d (λ z. and_then (losing c z.store loss) (λ s _. Done (with_store z s) tt)) f
       (λ y g. always_then (always_any (losing c y.store loss)) (λ s _ _. always_done (store_continues programs past y s g)))
-
--- a start
-pub start_continues : {F P H : Type 0} (d : Device F P H) (path : ℕ) → Continues d.plans d.history (start d path)
-unfolding S.start
-start_continues d path = record {
-  plans = refl;
-  history = record {
-    waiting = λ none. none;
-    kept = λ none n e. e;
-    fresh = refl;
-    more = [];
-    grown = sym
-        (append-nil d.history.items);
-  };
-}
 
 -- Events in which no command ends add no data check
 

@@ -453,10 +453,6 @@ module _ (v w : List Track) (s : DeviceStore) (h : Held) (i : IsLentStore v w s 
   begun_is_lent true x e = e
   begun_is_lent false x e = e
 
-  begun_tracks : {F P H : Type 0} (b : Bool) (x : Store F P H) → tracks_of (begun_with b x) ≡ tracks_of x
-  begun_tracks true x = refl
-  begun_tracks false x = refl
-
   lent_y : IsLentStore u w y h
   lent_y = begun_lent v w s h (has_loose s) refl i
 

@@ -39,7 +39,6 @@ pub mod WholeEvents
 pub mod Powers
 pub mod Commands
 pub mod OrderMarks
-pub mod SoundEvents
 pub mod ChainTracks
 pub mod TwinWalks
 pub mod TrackContents

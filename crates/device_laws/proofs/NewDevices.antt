@@ -48,7 +48,7 @@ use Rattle.device_defs.specs.Between.{HasSizes}
 use Rattle.device_defs.specs.Contents.{contents, image_with, image_read, patched_by}
 use Rattle.device_defs.specs.Marks.{new_store, marks_of, frame_mark, patch_mark, owed_mark}
 use Rattle.device_defs.specs.Sound.{DeviceStore, IsHeld, has_sound_marks}
-use Rattle.device_defs.specs.Store.{tracks_of, side_of, level_at, frame_at, patch_at, is_lost, is_loose, owed_at, no_debt}
+use Rattle.device_defs.specs.Store.{tracks_of, side_of, frame_at, patch_at, is_lost, owed_at, no_debt}
 use Rattle.device_laws.specs.Agrees.{Held, image_in, slot_at, HasSlots, IsGround}
 use Rattle.device_laws.specs.InOrder.{IsInOrder}
 use Rattle.device_laws.specs.NewDevice.{new_contents}
@@ -92,9 +92,6 @@ module _ (d : ℕ) (g : Geometry) (n : ℕ) where
   not_lost : (t : ℕ) → is_lost s t ≡ false
   not_lost t = empty_places (n * 15) t false
 
-  not_loose : (t : ℕ) → is_loose s t ≡ false
-  not_loose t = empty_places (n * 15) t false
-
   none_owed : (t : ℕ) → owed_at s t ≡ no_debt
   none_owed t = empty_places (n * 15) t no_debt
 
@@ -108,9 +105,6 @@ module _ (d : ℕ) (g : Geometry) (n : ℕ) where
           length-replicate (n * 15) no_debt,
         ) refl;
   }
-
-  level_a : (t : ℕ) → level_at s.a t ≡ true
-  level_a t = rw (empty_places (n * 15) t false) refl
 
   sound : (t : ℕ) → has_sound_marks contents s t ≡ true
   sound t = rw (not_lost t, no_frame t) refl

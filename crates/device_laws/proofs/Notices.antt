@@ -81,9 +81,6 @@ module _ {F P H R : Type 0} (c : Contents F P H R) where
   pub same_here : (s : Store F P H) → HasSizes s → IsSame c s s
   same_here s sizes = record { sizes = sizes; rest = refl; marks = λ q. refl }
 
-  pub same_twice : (s z y : Store F P H) → IsSame c s z → IsSame c z y → IsSame c s y
-  same_twice s z y f g = record { sizes = g.sizes; rest = g.rest ∙ f.rest; marks = λ q. g.marks q ∙ f.marks q }
-
   no_debt_left : (s z : Store F P H) (t : ℕ) → IsSame c s z → IsSame c s (with_owed z t no_debt)
   unfolding M.track_at C.rest_of
   no_debt_left s z t f = record { sizes = record { are = simp length-set f.sizes.are }; rest = f.rest; marks = f.marks }

@@ -1,54 +1,24 @@
 -- The orders keep good marks good; a device that is lent keeps nothing, and is good again when it gets its empty volume.
-use Rattle.std.proofs.Common.{
-  ◌*◌,
-  ◌≡◌,
-  ◌<◌,
-  ℕ,
-  Bool,
-  true,
-  false,
-  List,
-  [],
-  ◌∷◌,
-  Option,
-  None,
-  is_some,
-  length,
-  replicate,
-  get_or,
-  refl,
-  sym,
-  ap,
-  subst,
-  ◌∙◌,
-  arith,
-}
+use Rattle.std.proofs.Common.{◌≡◌, ◌<◌, ℕ, Bool, true, false, [], ◌∷◌, Option, None, length, replicate, get_or, refl, sym, ap, subst, ◌∙◌, arith}
 use Rattle.std.proofs.lemmas.List.{length-replicate, get_or-replicate}
 use Rattle.std.specs.Prelude.{◌&&◌, ◌||◌, not}
 use Rattle.ckd_types.specs.declared.paths.Side.{Side}
 use Rattle.ckd_types.specs.declared.paths.Side.TheVariants.{A, B}
-use Rattle.track_image.specs.Image.{Image}
 use Rattle.track_table.proofs.Places.{empty_places}
-use Rattle.device_outside.specs.Interaction.{Interaction, Done}
-use Rattle.device_defs.specs.Between.{HasSizes, HasSides, IsAway}
+use Rattle.device_defs.specs.Between.{HasSizes}
 use Rattle.device_defs.specs.Contents.{Contents}
-use Rattle.device_defs.specs.Device.{Device, event_begun, quiet_event}
+use Rattle.device_defs.specs.Device.{Device}
 use Rattle.device_defs.specs.Losses.{over, without_frame}
-use Rattle.device_defs.specs.Orders as D
-use Rattle.device_defs.specs.Orders.{with_tracks, join, split, restore, replace, hold, resume, lent_to, given_up, lend}
-use Rattle.device_defs.specs.Owed.{waiting_count}
+use Rattle.device_defs.specs.Orders.{join, split, restore, replace, hold, resume, lent_to, given_up}
 use Rattle.device_defs.specs.Store.{HalfWrite, Store, new_side, tracks_of, stale_at, level_at, has_level, side_of, half_is}
 use Rattle.device_laws.specs.InOrder.{AreBelow}
-use Rattle.device_laws.proofs.Always.{Always, always_done, always_then}
 use Rattle.device_laws.proofs.Changes as C
 use Rattle.device_laws.proofs.Changes.{Rest, Changed, rest_of, changed_twice, changed_unframed, changed_unpatched}
 use Rattle.device_laws.proofs.Done.{Keeps}
-use Rattle.device_laws.proofs.FailedCall.{IsKept, IsWell, IsSame, goes_same}
-use Rattle.device_laws.proofs.LossEvents.{begun_same}
-use Rattle.device_laws.proofs.Notices.{ending_changes_no_mark}
+use Rattle.device_laws.proofs.FailedCall.{IsKept, IsWell}
 use Rattle.device_laws.proofs.Sweeps.{IsHere, Swept, swept, same_tracks, same_half, is_alone}
 use Rattle.device_laws.proofs.TrackMarks as M
-use Rattle.device_laws.proofs.TrackMarks.{TrackMarks, marks, IsFaithful, is_good, frame_mark, track_at}
+use Rattle.device_laws.proofs.TrackMarks.{TrackMarks, marks, IsFaithful, is_good, track_at}
 
 given_good : (h : Bool) → h ≡ false → is_good (marks None false false false h true) ≡ true
 given_good true e = absurd (cc)
@@ -167,20 +137,6 @@ module _ {F P H R : Type 0} (c : Contents F P H R) (faithful : IsFaithful c) whe
     pub patched : (q : ℕ) → q < tracks_of s → (track_at c s q).patched ≡ false
     pub lost : (q : ℕ) → q < tracks_of s → (track_at c s q).lost ≡ false
 
-  -- so it is between two events
-  pub away_is_gone : (s : Store F P H) → HasSizes s → HasSides s → IsAway s → IsGone s
-  unfolding M.track_at
-  away_is_gone s sizes sides away = record {
-    sizes = sizes;
-    single = away.single;
-    other = sides.alone away.single;
-    none = away.half;
-    queued = subst (λ (l : List ℕ). AreBelow (tracks_of s) l) (sym away.queue) tt;
-    frame = λ q lt. ap (λ (l : List (Option F)). frame_mark c (get_or l q None)) away.frames ∙ ap (frame_mark c) (empty_places (tracks_of s) q None);
-    patched = λ q lt. ap (λ (l : List (Option P)). is_some (get_or l q None)) away.patches ∙ ap is_some (empty_places (tracks_of s) q None);
-    lost = λ q lt. ap (λ (l : List Bool). get_or l q false) away.lost ∙ empty_places (tracks_of s) q false;
-  }
-
   restored_sizes : (s : Store F P H) → HasSizes s →
       HasSizes (record s { a = new_side (tracks_of s) false; loose = replicate (tracks_of s) false })
   restored_sizes s sizes =
@@ -260,10 +216,6 @@ module _ {F P H R : Type 0} (c : Contents F P H R) (faithful : IsFaithful c) whe
   unfolding C.rest_of
   paired_same s z e = ap (λ (r : Rest H). r.paired) e
 
-  same_queue : (s z : Store F P H) → rest_of z ≡ rest_of s → AreBelow (tracks_of s) s.queue → AreBelow (tracks_of z) z.queue
-  unfolding C.rest_of
-  same_queue s z e below = subst (λ (r : Rest H). AreBelow (r.cylinders * 15) r.queue) (sym e) below
-
   lent_gone : (s z : Store F P H) (to : ℕ) → Swept c bare s z (tracks_of s) → IsHere (rest_of s) → s.paired ≡ false → s.half ≡ None → IsGone (lent_to z to)
   unfolding M.track_at
   lent_gone s z to e here single none =
@@ -284,36 +236,3 @@ module _ {F P H R : Type 0} (c : Contents F P H R) (faithful : IsFaithful c) whe
   pub lent_now_gone : (s : Store F P H) (to : ℕ) → IsWell c s → s.paired ≡ false → s.half ≡ None → IsGone (lent_to (over (tracks_of s) (given_up c) s) to)
   lent_now_gone s to w single none =
       lent_gone s (over (tracks_of s) (given_up c) s) to (swept c bare (given_up c) given_step (tracks_of s) s (omega arith) w.sizes w.here) w.here single none
-
-  gone_same : (s z : Store F P H) → IsGone s → IsSame c s z → IsGone z
-  gone_same s z g e =
-      let same : tracks_of z ≡ tracks_of s = same_tracks s z e.rest in
-      record {
-        sizes = e.sizes;
-        single = paired_same s z e.rest ∙ g.single;
-        other = up_b_same s z e.rest ∙ g.other;
-        none = same_half s z e.rest ∙ g.none;
-        queued = same_queue s z e.rest g.queued;
-        frame = λ q lt. ap (λ (x : TrackMarks). x.frame) (e.marks q) ∙ g.frame q (omega arith);
-        patched = λ q lt. ap (λ (x : TrackMarks). x.patched) (e.marks q) ∙ g.patched q (omega arith);
-        lost = λ q lt. ap (λ (x : TrackMarks). x.lost) (e.marks q) ∙ g.lost q (omega arith);
-      }
-
-  quiet_gone : (d : Device F P H) (body : Device F P H → Interaction R Image (Device F P H) (Unit {0})) →
-      Always (body (event_begun d)) (λ y _. IsGone y.store) → Always (quiet_event c d body) (λ y _. IsGone y.store)
-  quiet_gone d body does =
-      always_then does
-      (λ y a f. always_then (ending_changes_no_mark c (waiting_count c d.store) y.store f.sizes)
-      (λ x _ h. always_done (gone_same y.store x f h)))
-
-  -- it is lent, alone and with no open half write
-  pub lend_leaves_nothing : (d : Device F P H) (to : ℕ) → IsWell c d.store → d.store.paired ≡ false → d.store.half ≡ None →
-      Always (lend c d to) (λ y _. IsGone y.store)
-  unfolding D.lend
-  lend_leaves_nothing d to w single none =
-      let front = goes_same c d.store (event_begun d).store w (begun_same c faithful d w) in
-      let s = (event_begun d).store in
-      let z = over (tracks_of s) (given_up c) s in
-      let e = swept c bare (given_up c) given_step (tracks_of s) s (omega arith) front.well.sizes front.well.here in
-      quiet_gone d (λ x. Done (with_tracks x (lent_to (over (tracks_of x.store) (given_up c) x.store) to)) tt)
-      (always_done (lent_gone s z to e front.well.here single none))

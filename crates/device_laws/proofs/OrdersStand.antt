@@ -94,16 +94,9 @@ use Rattle.ckd_chain.specs.State.{ChainState}
 use Rattle.ckd_chain.specs.Steps as S
 use Rattle.ckd_chain.specs.Steps.{begun_chain, opened, need_of, needed, stage_of, stepped, word_of}
 use Rattle.device_defs.specs.Command.{command}
-use Rattle.device_defs.specs.Contents.{Contents}
 use Rattle.device_defs.specs.Device.{Device}
-use Rattle.device_defs.specs.Store.{tracks_of}
-use Rattle.device_laws.specs.Standing.{IsWithin, IsChainOf}
-use Rattle.device_laws.proofs.Always.{Always}
+use Rattle.device_laws.specs.Standing.{IsWithin}
 use Rattle.device_laws.proofs.ChainTracks.{within_stays, whole_cylinders}
-use Rattle.device_laws.proofs.Commands.{command_keeps_good}
-use Rattle.device_laws.proofs.Done.{Keeps}
-use Rattle.device_laws.proofs.FailedCall.{IsWell}
-use Rattle.device_laws.proofs.TrackMarks.{IsFaithful}
 
 -- Answers behind a test
 
@@ -319,13 +312,3 @@ chain_begins ccws f some most words = record {
 pub chain_stays : (n : ℕ) (chain : ChainState) (i : Image) (q : ℕ) → IsWithin (n * 15) chain → (stepped chain (Some i)).progress ≡ Need q →
     IsWithin (n * 15) (stepped chain (Some i)).chain × (q < n * 15)
 chain_stays n chain i q within is = (within_stays (n * 15) (whole_cylinders n)).goes chain i q within is
-
--- so a command of the running program keeps good marks good, while no half write is open
-pub running_command_keeps_good : {F P H R : Type 0} (c : Contents F P H R) (faithful : IsFaithful c) (d : Device F P H) →
-    ((chain : ChainState) → d.chain ≡ Some chain → IsChainOf d.store.cylinders chain) → IsWell c d.store → d.store.half ≡ None →
-    Always (command c d) (λ y _. Keeps c faithful d.store y.store)
-running_command_keeps_good c faithful d of_device w none =
-    let n = tracks_of d.store in
-    command_keeps_good c faithful n (IsWithin n) (within_stays n (whole_cylinders d.store.cylinders)) d
-    (λ chain is.
-    let k = of_device chain is in subst (λ (m : ℕ). IsWithin (m * 15) chain) k.cylinders (chain_stands chain k.is)) refl w none

@@ -109,24 +109,6 @@ module _ {F P H R : Type 0} (c : Contents F P H R) where
     own = ap (λ (m : TrackMarks). m.half) (e.marks t) ∙ o.own;
   }
 
-  pub open_goes : (t : ℕ) (s z y : Store F P H) → Goes c s z → Open t z y → (track_at c z t).lost ≡ (track_at c s t).lost →
-      (track_at c z t).loose ≡ (track_at c s t).loose → (track_at c z t).half ≡ (track_at c s t).half → Open t s y
-  open_goes t s z y g o lost loose own = record {
-    others = record {
-      sizes = o.others.sizes;
-      here = o.others.here;
-      tracks = o.others.tracks ∙ g.tracks;
-      half = o.others.half ∙ g.half;
-      good = λ q ne lt. o.others.good q ne (let same = g.tracks in omega arith);
-      kept = λ q ne lt. o.others.kept q ne (let same = g.tracks in omega arith);
-      firm = λ q ne lt f. o.others.firm q ne (let same = g.tracks in omega arith) (g.firm q lt f);
-    };
-    near = o.near;
-    lost = o.lost ∙ lost;
-    loose = o.loose ∙ loose;
-    own = o.own ∙ own;
-  }
-
   -- t is good, too
   all_good : (t : ℕ) (s z : Store F P H) → Others t s z → is_good (track_at c z t) ≡ true →
       (q : ℕ) → q < tracks_of s → ((q ≡ t) ⊎ (q ≢ t)) → is_good (track_at c z q) ≡ true

@@ -4,8 +4,6 @@ use Rattle.std.specs.Prelude.{◌⊎◌, ◌||◌, if◌then◌else◌}
 use Rattle.std.proofs.lemmas.Bool.{cases_Bool, cond_both, eqb-true}
 use Rattle.ckd_types.specs.declared.channel.Ccw.{Ccw}
 use Rattle.ckd_types.specs.declared.channel.CommandEnd.{CommandEnd}
-use Rattle.ckd_types.specs.Ccw.{ccw_at}
-use Rattle.ckd_rules.specs.Ends.{end_of}
 use Rattle.ckd_chain.specs.declared.progress.Settled.TheVariants.{Equipment, DataCheck}
 use Rattle.ckd_chain.specs.State.{ChainState}
 use Rattle.ckd_chain.specs.Steps.{end_with, settled_by}
@@ -13,7 +11,6 @@ use Rattle.plain_defs.specs.declared.journal.Item.TheVariants as items
 use Rattle.plain_defs.specs.History.{
   OpenEntry,
   checked,
-  ended as history_ended,
   open_part,
   plain_of,
   state_by,
@@ -27,7 +24,7 @@ use Rattle.plain_defs.specs.History.{
   lost_power_in,
 }
 use Rattle.plain_defs.specs.Journal.{program_of, replay}
-use Rattle.plain_defs.specs.Legal.{MayEdit, IsCheck, is_started, is_used}
+use Rattle.plain_defs.specs.Legal.{IsCheck, is_started, is_used}
 use Rattle.plain_defs.specs.PlainState.{PathsState, PlainState, fresh_paths, with_sense, reset_path}
 use Rattle.plain_defs.specs.Program.{Part, first_part, begun}
 use Rattle.plain_defs.proofs.PartLemmas.{acted_nothing}
@@ -37,7 +34,7 @@ use Rattle.device_defs.specs.Cutting as K
 use Rattle.device_defs.specs.Cutting.{counts_one_by, half_cut, reset_noted, path_cut, reset_by}
 use Rattle.device_defs.specs.Device.{Device, all_reset, event_begun}
 use Rattle.device_defs.specs.Orders.{restore}
-use Rattle.device_defs.specs.Outcomes.{ends_with, checks, turned, sense_kept, program_over}
+use Rattle.device_defs.specs.Outcomes.{checks, turned}
 use Rattle.device_defs.specs.Owed.{waiting_count, ended}
 use Rattle.device_defs.specs.Start as S
 use Rattle.device_defs.specs.Start.{start, next_program, next_ordinal}
@@ -46,8 +43,8 @@ use Rattle.device_laws.proofs.DeviceCuts.{StandsPlainly, always_any}
 use Rattle.device_laws.proofs.DeviceHistory.{IsAtHand, next_is, equipment_is_check, data_check_is_check}
 use Rattle.device_laws.proofs.DevicePaths.{KeepsPaths, unstarted_is_fresh}
 use Rattle.device_laws.proofs.HistoryCuts.{MayTake, taken_state, cut_state, waiting_state, emptied_state, idle_reset_state, power_cut_state, idle_power_state}
-use Rattle.device_laws.proofs.HistoryEnds.{edited_next, effect_at, running_is_open, checked_state, ended_state_on, ended_state_over}
-use Rattle.device_laws.proofs.OpenProgram.{IsGoing, going_of_open, part_is_acted}
+use Rattle.device_laws.proofs.HistoryEnds.{running_is_open, checked_state}
+use Rattle.device_laws.proofs.OpenProgram.{part_is_acted}
 
 module _ {F P H : Type 0} (empty : PlainState) (d : Device F P H) (keeps : KeepsPaths empty d) where
   running_paths : (o : OpenEntry) → d.history.running ≡ Some o
@@ -91,36 +88,6 @@ module _ {F P H : Type 0} (empty : PlainState) (d : Device F P H) (keeps : Keeps
     data_check_keeps = check_keeps (end_with chain (settled_by chain DataCheck))
         (next_is empty d stands.plain stands.due o running chain at_hand o.path)
         (subst (λ (l : List Ccw). IsCheck l (end_with chain (settled_by chain DataCheck))) at_hand.words (data_check_is_check chain))
-
-    -- behind an end as on the plain device, whose sense is what the plain paths keep
-    module _ (i : ℕ) (next : (open_part d.plans (replay d.plans empty d.history.items) o).next ≡ Some i) (e : CommandEnd)
-        (end_is : e ≡ end_of i (ccw_at (program_of d.plans o.path o.ordinal) i)
-        (effect_at d.plans (replay d.plans empty d.history.items) d.history.items o i).outcome)
-        (may : MayEdit (open_part d.plans (replay d.plans empty d.history.items) o).state
-        (open_part d.plans (replay d.plans empty d.history.items) o).stance
-        (effect_at d.plans (replay d.plans empty d.history.items) d.history.items o i).edit)
-        (sense_is : with_sense (open_part d.plans (replay d.plans empty d.history.items) o).state.paths o.path e.sense
-        ≡ (effect_at d.plans (replay d.plans empty d.history.items) d.history.items o i).paths) where
-      going : IsGoing d.plans (replay d.plans empty d.history.items) d.history.items o
-          (edited_next d.plans (replay d.plans empty d.history.items) d.history.items o)
-      going = going_of_open d.plans (replay d.plans empty d.history.items) d.history.items o
-          (edited_next d.plans (replay d.plans empty d.history.items) d.history.items o)
-          (running_is_open d.plans empty d.history stands.plain stands.due o running)
-
-      sense_kept_is : with_sense d.paths o.path e.sense ≡ (effect_at d.plans (replay d.plans empty d.history.items) d.history.items o i).paths
-      sense_kept_is = ap (λ (x : PathsState). with_sense x o.path e.sense) (running_paths o running) ∙ sense_is
-
-      pub end_keeps : KeepsPaths empty (turned d o.path (ends_with chain e))
-      end_keeps =
-          let z = sense_kept d o.path e in
-          cond_both e.over (program_over z (history_ended z.history e)) (record z { chain = Some chain; history = history_ended z.history e })
-          (λ (y : Device F P H). KeepsPaths empty y)
-          (λ over. ap (λ (x : PathsState). all_reset x d.history.waiting) sense_kept_is
-          ∙ sym (ap (λ (x : PlainState). x.paths)
-          (ended_state_over d.plans empty d.history stands.plain.legal stands.due o running going i next e end_is may over)))
-          (λ more. sense_kept_is
-          ∙ sym (ap (λ (x : PlainState). x.paths)
-          (ended_state_on d.plans empty d.history stands.plain.legal stands.due o running going i next e end_is may more)))
 
 module _ {F P H R : Type 0} (c : Contents F P H R) (empty : PlainState) (d : Device F P H) (stands : StandsPlainly empty d)
     (fresh : empty.paths ≡ fresh_paths) where

@@ -215,9 +215,6 @@ module _ (num : ℕ) (empty : PlainState) (d : MarksDevice) (f : Follows num emp
     abbrev part : Part
     part = open_part d.plans (replay d.plans empty h.items) entry
 
-    abbrev effect : Effect
-    effect = effect_at d.plans (replay d.plans empty h.items) h.items entry (index_of chain.at.next)
-
     module _ (volume : part.state.volume ≡ d.store.plain) (kept : part.state.paths ≡ d.paths) where
       ends_follow : IsGoing d.plans (replay d.plans empty h.items) h.items entry (edited_next d.plans (replay d.plans empty h.items) h.items entry) →
           MayEdit part.state part.stance (eff_of chain at.fresh d.paths o.path d.store.plain).edit →
@@ -244,9 +241,6 @@ module _ (num : ℕ) (empty : PlainState) (d : MarksDevice) (f : Follows num emp
   -- Behind acts by which no track becomes loose
 
   module _ (acts : List Act) (are : AreActs (plain_of d.plans empty d.history) None acts) where
-    abbrev behind_acts : History
-    behind_acts = all_acted d.history acts
-
     plain_on : IsPlain d.plans empty (all_acted d.history acts)
     plain_on = all_acted_plain d.plans empty acts d.history f.stands.plain are
 

@@ -66,9 +66,6 @@ use Rattle.device_laws.proofs.Working.{least_found}
 
 -- Where no track is loose
 
-some_is : (b : Bool) → cond true true b ≡ false → ⊥
-some_is b e = cc
-
 all_firm : (l : List LooseTrack) → ((t : ℕ) → is_loose_in l t ≡ false) → l ≡ []
 all_firm [] h = refl
 all_firm (x ∷ l) h = absurd (true≢false (sym (ap (λ (b : Bool). cond b true (is_loose_in l x.track)) (eq-eqb x.track x.track refl)) ∙ h x.track))

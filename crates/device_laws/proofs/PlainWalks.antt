@@ -175,9 +175,6 @@ everywhere_same s t =
 
 -- The notices, and the end of an event
 
-abbrev Same : {A : Type 0} → MarksStore → MarksStore → A → Type 0
-Same s z a = core_of z ≡ core_of s
-
 dropped_same : (s : MarksStore) (t : ℕ) → core_of (dropped by_plain s t) ≡ core_of s
 dropped_same s t =
     cond_both (is_clean by_plain (frame_at s t)) (with_frame s t None) s (λ (z : MarksStore). core_of z ≡ core_of s) (λ e. framed_same s t None) (λ e. refl)

@@ -9,19 +9,7 @@ use Rattle.device_defs.specs.Store.{Store, tracks_of, has_level, frame_at, patch
 use Rattle.device_laws.proofs.Changes as C
 use Rattle.device_laws.proofs.Changes.{Changed, unchanged, changed_twice, changed_frame, changed_patch, changed_lost, changed_owed, changed_hardened}
 use Rattle.device_laws.proofs.TrackMarks as M
-use Rattle.device_laws.proofs.TrackMarks.{
-  TrackMarks,
-  IsFaithful,
-  framed,
-  unframed,
-  settled_frame,
-  settled_marks,
-  is_near,
-  is_good,
-  frame_mark,
-  track_at,
-  settling_makes_good,
-}
+use Rattle.device_laws.proofs.TrackMarks.{TrackMarks, IsFaithful, framed, unframed, settled_frame, settled_marks, frame_mark, track_at}
 
 module _ {F P H R : Type 0} (c : Contents F P H R) (faithful : IsFaithful c) (s : Store F P H) (t : ℕ) (lt : t < tracks_of s) (sizes : HasSizes s) where
   abbrev x : TrackMarks
@@ -88,8 +76,3 @@ module _ {F P H R : Type 0} (c : Contents F P H R) (faithful : IsFaithful c) (s 
   pub settled_changes_one_track : is_some s.lent ≡ false → Changed c s (settled c s t) t (settled_marks x)
   unfolding L.settled
   settled_changes_one_track e = lent_case (is_some s.lent) e
-
-  -- and leaves it good
-  pub settled_track_is_good : is_some s.lent ≡ false → is_near x ≡ true → is_good (track_at c (settled c s t) t) ≡ true
-  settled_track_is_good e near =
-      ap is_good (settled_changes_one_track e).here ∙ settling_makes_good x near

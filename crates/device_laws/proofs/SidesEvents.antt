@@ -227,12 +227,6 @@ use Rattle.device_laws.proofs.WholeEvents.{turned_same}
 
 -- Changes of a store with no open half write
 
-stays_shut : (x y : SideState) → y.a.up ≡ x.a.up → y.held ≡ x.held → y.paired ≡ x.paired → y.half ≡ x.half → IsShut x → IsShut y
-stays_shut x y up held paired half f = record {
-  led = λ e. let g = f.led (sym held ∙ e) in (up ∙ g.0, paired ∙ g.1);
-  none = half ∙ f.none;
-}
-
 module _ {F P H : Type 0} where
   abbrev pub IsSide : Store F P H → Type 0
   IsSide s = IsSteered (state_of s)
@@ -257,9 +251,6 @@ module _ {F P H : Type 0} where
   side_shut : (s : Store F P H) (side : Side) (t : ℕ) (b : Bool) → NoHalf s → NoHalf (with_stale s side t b)
   side_shut s sides.A t b f = record { led = f.led; none = f.none }
   side_shut s sides.B t b f = record { led = f.led; none = f.none }
-
-  cleaned_same : (s : Store F P H) (t : ℕ) (f : Option F) → NoHalf s → NoHalf (with_frame s t f)
-  cleaned_same s t f k = record { led = k.led; none = k.none }
 
 -- an open half write, of a track that side A took
 pub opened_side : (x : SideState) (t : ℕ) → IsShut x → stale_at x.a t ≡ false → IsSteered (record x { half = Some t })
@@ -358,7 +349,8 @@ module _ {F P H R : Type 0} (c : Contents F P H R) where
   choice_keeps u first t i e s (Fast slot) f = always_tell (λ _. always_done (shut_steered (record { led = f.led; none = f.none })))
   choice_keeps u first t i e s Through f = through_keeps s t i e (is_bypass u.mode) (not (another_loose s first t)) f
 
-  written_keeps : (s : Store F P H) (u : Usage) (first t : ℕ) (old : Image) (e : Edit) (choice : Choice) → NoHalf s → Steered (written c s u first t old e choice)
+  written_keeps : (s : Store F P H) (u : Usage) (first t : ℕ) (old : Image) (e : Edit) (choice : Choice) → NoHalf s →
+      Steered (written c s u first t old e choice)
   written_keeps s u first t old e choice f =
       always_then (choice_keeps u first t (edited_image e old) e s choice f) (λ z took g. always_done g)
 
@@ -436,7 +428,8 @@ module _ {F P H R : Type 0} (c : Contents F P H R) where
       always_if (is_lost s t) (always_done (shut_steered f))
       (always_then (image_keeps c IsShut shut_falls s (usage_of chain) t f) (λ z o g. looked_keeps chain first t z o g))
 
-  by_went : (k first : ℕ) (z : Store F P H) (o : Option Went) → ((chain : ChainState) (t : ℕ) (s : Store F P H) → NoHalf s → Steered (follow c k first chain t s)) →
+  by_went : (k first : ℕ) (z : Store F P H) (o : Option Went) →
+      ((chain : ChainState) (t : ℕ) (s : Store F P H) → NoHalf s → Steered (follow c k first chain t s)) →
       WentSo z o → Steered (had_by (goes_on c (follow c k first)) z o)
   by_went k first z None later f = always_done f
   by_went k first z (Some (Over turn)) later f = always_done f

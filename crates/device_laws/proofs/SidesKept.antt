@@ -245,7 +245,9 @@ module _ {F P H R : Type 0} (c : Contents F P H R) where
 
     pub failed_keeps : (s : Store F P H) (side : Side) (w : Option ℕ) → Q (state_of s) → Keeps (call_failed c s side w)
     failed_keeps s side w f =
-        always_if s.paired (told_keeps (tracks_of s) (side_lost c s side w) (same_keeps (down s side) (side_lost c s side w) (lost_same s side w) (down_keeps s side f))) (always_done f)
+        always_if s.paired
+        (told_keeps (tracks_of s) (side_lost c s side w) (same_keeps (down s side) (side_lost c s side w) (lost_same s side w) (down_keeps s side f)))
+        (always_done f)
 
     -- Notes, and what is owed
 

@@ -1,22 +1,12 @@
--- Good marks are sound ones of which a lost track is on no side, and the losses keep a device's marks sound.
-use Rattle.std.proofs.Common.{◌≡◌, ◌<◌, ◌&&◌, ◌||◌, not, ℕ, Bool, true, false, Option, Some, None, is_some, refl, sym, ◌∙◌}
+-- Good marks are sound ones of which a lost track is on no side.
+use Rattle.std.proofs.Common.{◌≡◌, ◌&&◌, ◌||◌, not, ℕ, Bool, true, false, Option, Some, None, is_some, refl, sym, ◌∙◌}
 use Rattle.std.specs.Prelude.{if◌then◌else◌}
-use Rattle.ckd_types.specs.declared.paths.Side.{Side}
-use Rattle.device_defs.specs.Between.{IsBetween}
 use Rattle.device_defs.specs.Contents.{Contents}
-use Rattle.device_defs.specs.Losses.{side_lost, cache_lost, store_lost}
 use Rattle.device_defs.specs.Owed.{is_modified, is_clean}
 use Rattle.device_defs.specs.Sound.{has_sound_marks}
-use Rattle.device_defs.specs.Store.{Store, tracks_of, has_level, frame_at, patch_at, is_lost, is_loose, half_is}
-use Rattle.device_laws.specs.InOrder.{AreBelow}
-use Rattle.device_laws.proofs.CacheLost.{lost_cache_keeps_good}
-use Rattle.device_laws.proofs.Changes as C
-use Rattle.device_laws.proofs.Changes.{rest_of}
-use Rattle.device_laws.proofs.SideLost.{lost_side_keeps_good}
-use Rattle.device_laws.proofs.StoreLost.{lost_store_keeps_good}
-use Rattle.device_laws.proofs.Sweeps.{IsHere}
+use Rattle.device_defs.specs.Store.{Store, has_level, frame_at, patch_at, is_lost, is_loose, half_is}
 use Rattle.device_laws.proofs.TrackMarks as M
-use Rattle.device_laws.proofs.TrackMarks.{TrackMarks, marks, IsFaithful, is_bare, is_somewhere, is_good, frame_mark, track_at, good_is_near}
+use Rattle.device_laws.proofs.TrackMarks.{TrackMarks, marks, is_bare, is_somewhere, is_good, frame_mark, track_at}
 
 abbrev sound_marks : TrackMarks → Bool
 sound_marks x = if x.lost then is_bare x else if x.half then not x.loose else is_somewhere x
@@ -73,28 +63,3 @@ module _ {F P H R : Type 0} (c : Contents F P H R) where
   unfolding M.track_at
   sound_is_good s t sound none =
       let x = track_at c s t in sound_good x.frame x.patched x.lost x.loose x.half x.level (sym (same s t) ∙ sound) none
-
-  -- a device that isn't lent, between two events
-  pub is_here : (s : Store F P H) → IsBetween s → is_some s.lent ≡ false → (s.paired ≡ false → s.half ≡ None) → AreBelow (tracks_of s) s.queue →
-      IsHere (rest_of s)
-  unfolding C.rest_of
-  is_here s between free whole queued = record { free = free; alone = between.sides.alone; whole = whole; within = between.half; queued = queued }
-
-  module _ (faithful : IsFaithful c) (s : Store F P H) (between : IsBetween s) (free : is_some s.lent ≡ false) (whole : s.paired ≡ false → s.half ≡ None)
-      (queued : AreBelow (tracks_of s) s.queue)
-      (sound : (q : ℕ) → q < tracks_of s → has_sound_marks c s q ≡ true) where
-    good_now : (q : ℕ) → q < tracks_of s → is_good (track_at c s q) ≡ true
-    good_now q lt = sound_is_good s q (sound q lt) (between.nowhere q)
-
-    pub lost_side_keeps_sound : (side : Side) (q : ℕ) → q < tracks_of s → has_sound_marks c (side_lost c s side None) q ≡ true
-    lost_side_keeps_sound side q lt =
-        good_is_sound _ q (lost_side_keeps_good c faithful s side None between.sizes (is_here s between free whole queued) q lt
-        (good_is_near (track_at c s q) (good_now q lt)) (λ e. absurd (cc)))
-
-    pub lost_cache_keeps_sound : (q : ℕ) → q < tracks_of s → has_sound_marks c (cache_lost c s) q ≡ true
-    lost_cache_keeps_sound q lt =
-        good_is_sound _ q (lost_cache_keeps_good c faithful s between.sizes (is_here s between free whole queued) q lt (good_now q lt))
-
-    pub lost_store_keeps_sound : (q : ℕ) → q < tracks_of s → has_sound_marks c (store_lost c s) q ≡ true
-    lost_store_keeps_sound q lt =
-        good_is_sound _ q (lost_store_keeps_good c faithful s between.sizes (is_here s between free whole queued) q lt (good_now q lt))

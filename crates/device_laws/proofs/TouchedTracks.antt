@@ -235,7 +235,8 @@ module _ (p : PlainState) (u : List Track) (g : Geometry) (cylinders : ℕ) (ope
         (λ _. served_then (had_by (looked by_plain chain first t))
         (served_by (image_so p u g cylinders open_is t s (usage_of chain) w.walks)
         (with_always
-        (image_keeps_good by_plain marks_are_faithful s (usage_of chain) t (subst (Reaches (usage_of chain)) (sym w.tracks) (within.reaches chain is)) lt w.well)
+        (image_keeps_good by_plain marks_are_faithful s (usage_of chain) t
+        (subst (Reaches (usage_of chain)) (sym w.tracks) (within.reaches chain is)) lt w.well)
         (lucky_both (image_goes by_plain s (usage_of chain) t)
         (image_has by_plain s (usage_of chain) t (w.well.good t lt) kept (ap (λ (h : _). half_is h t) w.whole)))))
         (λ z o x. looked_so z o (record {
@@ -324,7 +325,9 @@ module _ (num : ℕ) (empty : PlainState) (d : MarksDevice) (f : Follows num emp
         let touched : has_lost d.store.lost
         (walk (chain.fixed.cylinders * 15) chain.fixed.geometry (track_in d.store.plain) chain.at.stance (word_of chain) look (opening_at chain).stance).touched
         ≡ false =
-        subst (λ (x : Opening). has_lost d.store.lost (by_opening chain fresh d.paths o.path d.store.plain (opening_at chain).stance x).touched ≡ false) at kept_all in
+        subst
+        (λ (x : Opening). has_lost d.store.lost (by_opening chain fresh d.paths o.path d.store.plain (opening_at chain).stance x).touched ≡ false)
+        at kept_all in
         let here : has_lost d.store.lost
         (walk (tracks_of s) d.store.geometry (track_in d.store.plain) chain.at.stance (word_of chain) look (opening_at chain).stance).touched
         ≡ false =

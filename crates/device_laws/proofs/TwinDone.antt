@@ -195,9 +195,6 @@ module _ (t : ℕ) (v w : List Track) (x : Track) where
         by_place true (inr ne) e = slot_is z k true q ∙ sym (ap (slot_of true) (gone.elsewhere q ne)) ∙ sym (slot_is (with_patch z t None) k true q) ∙ e
         by_place false (inr ne) e = e
 
-    after : Held
-    after = record k { slots = held_after k.slots (FreeSlot p.slot) (tt {0}) }
-
     same_at : (y : DeviceStore) (q : ℕ) → contents_at y (record k { slots = held_after k.slots (FreeSlot p.slot) (tt {0}) }) q ≡ contents_at y k q
     unfolding T.contents_at
     same_at y q = refl

@@ -67,7 +67,7 @@ use Rattle.device_defs.specs.Image.{
 }
 use Rattle.device_defs.specs.Marks.{marks_of}
 use Rattle.device_defs.specs.Sound.{DeviceStore}
-use Rattle.device_defs.specs.Store.{tracks_of, level_at, has_level, patch_at, is_lost, is_loose, half_is, with_frame}
+use Rattle.device_defs.specs.Store.{tracks_of, level_at, has_level, patch_at, is_lost, half_is, with_frame}
 use Rattle.device_laws.specs.Agrees.{Held, image_in}
 use Rattle.device_laws.specs.Twin.{Twins}
 use Rattle.device_laws.proofs.Changes as D
@@ -86,7 +86,7 @@ use Rattle.device_laws.proofs.ContentChanges.{
   Sure,
 }
 use Rattle.device_laws.proofs.FailedCall.{IsWell, failed_call_keeps_good}
-use Rattle.device_laws.proofs.SoundEvents.{well_is_nowhere}
+use Rattle.device_laws.proofs.Soundness.{good_is_nowhere}
 use Rattle.device_laws.proofs.TrackContents as T
 use Rattle.device_laws.proofs.TrackContents.{TrackContents, contents_at, FrameHas, Keeps}
 use Rattle.device_laws.proofs.TrackMarks as M
@@ -127,16 +127,12 @@ pub record GotTwin (u : List Track) (s : DeviceStore) (t : ℕ) (v w : List Trac
   pub side : g.side ≡ m.side
   pub fault : g.fault ≡ m.fault
 
-loose_mark : (s : DeviceStore) (t : ℕ) → (track_at contents s t).loose ≡ is_loose s t
-unfolding M.track_at
-loose_mark s t = refl
-
 -- a level track isn't lost
 pub not_lost : (s : DeviceStore) (t : ℕ) → t < tracks_of s → IsWell contents s → has_level s t ≡ true → is_lost s t ≡ false
 not_lost s t lt w level = by_case (is_lost s t) refl
   where
     by_case : (b : Bool) → is_lost s t ≡ b → b ≡ false
-    by_case true e = absurd (let f = well_is_nowhere contents s t w lt e in cc)
+    by_case true e = absurd (let f = good_is_nowhere contents s t (w.good t lt) e in cc)
     by_case false e = refl
 
 or_left : (x y : Bool) → x ≡ true → (x || y) ≡ true

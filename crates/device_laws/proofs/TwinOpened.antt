@@ -316,9 +316,6 @@ frame_of (OfCut bypass) f i k = tt
 frame_of OfBackground f i k = k
 
 module _ (t : ℕ) (v w : List Track) (i : Image) (origin : Origin) where
-  abbrev half_of : HalfWrite Image
-  half_of = record { track = t; origin = origin; image = i }
-
   pub record Opening (z : DeviceStore) (k : Held) : Type 0 where
     pub but : RightBut (Some t) v w z k
     pub told : AllTold z k
@@ -420,10 +417,6 @@ module _ (t : ℕ) (v w : List Track) (i : Image) (origin : Origin) where
   frame_at_is : (z : DeviceStore) (k : Held) → (contents_at z k t).frame ≡ frame_at z t
   unfolding T.contents_at
   frame_at_is z k = refl
-
-  loose_is : (z : DeviceStore) (k : Held) → is_loose z t ≡ (contents_at z k t).loose
-  unfolding T.contents_at
-  loose_is z k = refl
 
   cleaned_opening : (z : DeviceStore) (k : Held) → Opening z k → Opening (with_frame z t (cleaned contents (frame_at z t))) k
   cleaned_opening z k o =

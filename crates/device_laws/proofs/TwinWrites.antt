@@ -121,10 +121,6 @@ off_if : (p b : Bool) → p ≡ true → (if p then false else b) ≡ false
 off_if true b e = refl
 off_if false b e = absurd (cc)
 
-still_if : (p b : Bool) → (if p then false else b) ≡ true → b ≡ true
-still_if true b e = absurd (cc)
-still_if false b e = e
-
 same_paired : (s : DeviceStore) (h : Held) (z : DeviceStore) (k : Held) → base_of z k ≡ base_of s h → z.paired ≡ s.paired
 unfolding C.base_of
 same_paired s h z k e = ap (λ (b : C.Base). b.paired) e

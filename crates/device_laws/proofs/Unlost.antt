@@ -107,15 +107,6 @@ fine_on x y z f g = record {
   opens = λ t e. opens_on x y z t f.up f.takes g.level (f.opens t) (g.opens t e);
 }
 
-pub off_on : (t : ℕ) (x y z : Core) → Off t x y → Fine y z → Off t x z
-off_on t x y z f g = record {
-  lost = g.lost ∙ f.lost;
-  up = g.up ∙ f.up;
-  takes = g.takes ∙ f.takes;
-  level = λ up q ne e. g.level (f.up ∙ up) q (f.level up q ne e);
-  opens = λ q e. opens_on x y z q f.up f.takes g.level (f.opens q) (g.opens q e);
-}
-
 pub fine_off : (t : ℕ) (x y : Core) → Fine x y → Off t x y
 fine_off t x y f = record { lost = f.lost; up = f.up; takes = f.takes; level = λ up q ne e. f.level up q e; opens = f.opens }
 

@@ -127,9 +127,6 @@ module _ (tracks : ℕ) (g : Geometry) (looks : ChainState → ℕ → Type 0) (
     by_chain (Some o) None at = whole_done v w d (record { order = i; same = refl; is = refl })
     by_chain None k at = whole_done v w d (record { order = i; same = refl; is = stands v (tracks_of d.store) k })
 
-  behind_same : (u : List Track) (m n : ℕ) (k : Option ChainState) (v : List Track) → m ≡ n → BehindCommand u m k v → BehindCommand u n k v
-  behind_same u m n k v e x = subst (λ (l : ℕ). BehindCommand u l k v) e x
-
   -- of the running program, while no half write is open
   pub command_whole : (v w : List Track) (d : WholeDevice) (h : Held) → IsInOrder v w d.store h → tracks_of d.store ≡ tracks → d.store.geometry ≡ g →
       d.store.half ≡ None → ((chain : ChainState) (t : ℕ) → d.chain ≡ Some chain → need_of chain ≡ Some t → looks chain t) →

@@ -1,5 +1,5 @@
 -- The other events of a whole device, and the device of a run: a second part, what it does by itself, losses and resets.
-use Rattle.std.proofs.Common.{◌≡◌, ◌==◌, ℕ, Bool, false, List, Option, Some, None, refl, sym, ap, subst, ◌∙◌, inl, inr}
+use Rattle.std.proofs.Common.{◌≡◌, ◌==◌, ℕ, Bool, false, List, Option, Some, None, refl, sym, subst, ◌∙◌, inl, inr}
 use Rattle.std.specs.Prelude.{option_map}
 use Rattle.ckd_types.specs.declared.record.Track.{Track}
 use Rattle.ckd_types.specs.Volume.{track_in}
@@ -9,7 +9,7 @@ use Rattle.loss_model.specs.declared.Loss.TheVariants as losses
 use Rattle.plain_defs.specs.History.{OpenEntry, has_used}
 use Rattle.plain_defs.specs.PlainState.{reset_path}
 use Rattle.track_image.specs.Image.{Image}
-use Rattle.device_outside.specs.Interaction.{Interaction, Done, and_then}
+use Rattle.device_outside.specs.Interaction.{Done, and_then}
 use Rattle.device_outside.proofs.BothRules.{on_test}
 use Rattle.device_defs.specs.Background.{work}
 use Rattle.device_defs.specs.Contents.{contents, by_plain}
@@ -18,16 +18,16 @@ use Rattle.device_defs.specs.Cutting.{counts_one_by, half_cut, reset_noted, path
 use Rattle.device_defs.specs.Device.{all_reset, with_store, event_begun}
 use Rattle.device_defs.specs.Events as E
 use Rattle.device_defs.specs.Events.{second_turn, second_told, command_ended, second_ended, second_of, second, background, losing, lose}
-use Rattle.device_defs.specs.Marks.{MarksDevice, marks_of, half_mark}
+use Rattle.device_defs.specs.Marks.{marks_of, half_mark}
 use Rattle.device_defs.specs.Outcomes.{turned}
 use Rattle.device_defs.specs.Sound.{DeviceStore}
 use Rattle.device_defs.specs.Start as S
 use Rattle.device_defs.specs.Start.{start_fault, start}
 use Rattle.device_defs.specs.Store.{Origin, OfCommand, OfCut, OfBackground, HalfWrite}
 use Rattle.device_laws.specs.Agrees.{Held}
-use Rattle.device_laws.specs.InOrder.{IsInOrder, plain_cut}
+use Rattle.device_laws.specs.InOrder.{IsInOrder}
 use Rattle.device_laws.specs.PlainWrites.{OriginSuits}
-use Rattle.device_laws.specs.Whole.{WholeDevice, marks_device, WholeTwins, Leaves, plain_closed, HalfSuits, BehindSecond, BehindLoss, BehindReset}
+use Rattle.device_laws.specs.Whole.{WholeDevice, marks_device, WholeTwins, Leaves, HalfSuits, BehindSecond, BehindLoss, BehindReset}
 use Rattle.device_laws.proofs.TwinLaws.{
   second_part_is_plain,
   work_is_plain,
@@ -37,7 +37,6 @@ use Rattle.device_laws.proofs.TwinLaws.{
   cut_leaves_order,
 }
 use Rattle.device_laws.proofs.WholeCommand.{turned_marks}
-use Rattle.device_laws.proofs.TwinWalks.{both_weaker}
 use Rattle.device_laws.proofs.WholeEvents.{turned_same}
 use Rattle.device_laws.proofs.WholeTwins.{whole_done, whole_ends, store_then, event_twin}
 
@@ -174,40 +173,6 @@ pub reset_whole : (v w : List Track) (d : WholeDevice) (h : Held) (path : ℕ) �
     WholeTwins (Leaves (BehindReset v d.store.half)) (reset contents d path) (reset by_plain (marks_device v w d) path) h
 unfolding U.reset
 reset_whole v w d h path i suits = by_running v w d h path i suits d.history.running
-
--- where no half write is open there is no second part, and a reset changes nothing of the plain volume
-pub leaves_weaker : {A : Type 0} {p q : List Track → Type 0} (i : Interaction (List ℕ) Image WholeDevice A) (j : Interaction Bool Image MarksDevice A)
-    (h : Held) → ((v : List Track) → p v → q v) → WholeTwins (Leaves p) i j h → WholeTwins (Leaves q) i j h
-leaves_weaker i j h f x =
-    both_weaker i j h
-    (λ s a m b k e. record {
-      plain = e.plain;
-      firm = e.firm;
-      marks = e.marks;
-      is = record { order = e.is.order; same = e.is.same; is = f e.plain e.is.is };
-    }) x
-
-none_suits : (v : List Track) (s : DeviceStore) → s.half ≡ None → HalfSuits v s
-none_suits v s none i e = absurd (cc)
-
-closed_none : (u : List Track) (o : Option (HalfWrite Image)) (v : List Track) → o ≡ None → BehindSecond u o v → v ≡ u
-closed_none u o v none x = x.1 ∙ ap (λ (y : Option (HalfWrite Image)). plain_closed y x.0 u) none
-
-cut_none : (u : List Track) (o : Option (HalfWrite Image)) (v : List Track) → o ≡ None → BehindReset u o v → v ≡ u
-cut_none u o v none (inl e) = e
-cut_none u o v none (inr e) = e ∙ ap (λ (y : Option (HalfWrite Image)). plain_cut y u) none
-
-pub second_none : (v w : List Track) (d : WholeDevice) (h : Held) → IsInOrder v w d.store h → d.store.half ≡ None →
-    WholeTwins (Leaves (λ v2. v2 ≡ v)) (second contents d) (second by_plain (marks_device v w d)) h
-second_none v w d h i none =
-    leaves_weaker (second contents d) (second by_plain (marks_device v w d)) h (λ v2 x. closed_none v d.store.half v2 none x)
-    (second_whole v w d h i (none_suits v d.store none))
-
-pub reset_none : (v w : List Track) (d : WholeDevice) (h : Held) (path : ℕ) → IsInOrder v w d.store h → d.store.half ≡ None →
-    WholeTwins (Leaves (λ v2. v2 ≡ v)) (reset contents d path) (reset by_plain (marks_device v w d) path) h
-reset_none v w d h path i none =
-    leaves_weaker (reset contents d path) (reset by_plain (marks_device v w d) path) h (λ v2 x. cut_none v d.store.half v2 none x)
-    (reset_whole v w d h path i (none_suits v d.store none))
 
 -- A start asks nothing
 

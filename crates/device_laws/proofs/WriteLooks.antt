@@ -257,9 +257,6 @@ writes_by command (looks.Reads r) is e = absurd (cc)
 
 -- so a command with an edit is one
 
-record Unedited (o : Option TrackEdit) : Type 0 where
-  is : o ≡ None
-
 turned_unedited : (t : ℕ) (on : Stance → W.Walked) (s : Stance) (x : Turned) → NoEdit x → ((z : Stance) → (on z).edit ≡ None) → (walked t on s x).edit ≡ None
 turned_unedited t on s (turns.Ended e) none more = refl
 turned_unedited t on s turns.Onward none more = more s

@@ -36,7 +36,8 @@ use track_image::TrackImage;
 /// pledged; where contents are told, no data check is added, as the last law here says.
 pub fn turn_keeps_pledge<K: Keep<TrackImage>>()
     ensures starts { (p : Pledge) (v : Handed) (d : WholeDevice) (u : Outside (List ℕ) K) (path : ℕ) → StaysInTurn p d v u → StaysInTurn p (start d path) v u }
-    ensures command { (p : Pledge) (v : Handed) (d e : WholeDevice) (u z : Outside (List ℕ) K) (a : Option Stepped) → StaysInTurn p d v u → d.store.lent ≡ None →
+    ensures command { (p : Pledge) (v : Handed) (d e : WholeDevice) (u z : Outside (List ℕ) K) (a : Option Stepped) →
+        StaysInTurn p d v u → d.store.lent ≡ None →
         (p.told ≡ true → count_by ends_with_data_check e.history.items ≡ count_by ends_with_data_check d.history.items) →
         Ran (λ ok. Unit {0}) K.hears (command contents d) u e a z → StaysInTurn p e (handed_then v z) z }
     ensures second { (p : Pledge) (v : Handed) (d e : WholeDevice) (u z : Outside (List ℕ) K) (a : SecondEnd) → StaysInTurn p d v u → d.store.lent ≡ None →
@@ -44,7 +45,8 @@ pub fn turn_keeps_pledge<K: Keep<TrackImage>>()
         Ran (λ ok. Unit {0}) K.hears (second contents d) u e a z → StaysInTurn p e (handed_then v z) z }
     ensures background { (p : Pledge) (v : Handed) (d e : WholeDevice) (u z : Outside (List ℕ) K) (a : Option Did) → StaysInTurn p d v u → d.store.lent ≡ None →
         Ran (λ ok. Unit {0}) K.hears (background contents d) u e a z → StaysInTurn p e (handed_then v z) z }
-    ensures lose { (p : Pledge) (v : Handed) (d e : WholeDevice) (u z : Outside (List ℕ) K) (a : Unit {0}) (loss : Loss) → StaysInTurn p d v u → d.store.lent ≡ None →
+    ensures lose { (p : Pledge) (v : Handed) (d e : WholeDevice) (u z : Outside (List ℕ) K) (a : Unit {0}) (loss : Loss) →
+        StaysInTurn p d v u → d.store.lent ≡ None →
         (one_more d.store.counts.losses loss).cache ≤ p.losses.cache → (one_more d.store.counts.losses loss).store ≤ p.losses.store →
         (one_more d.store.counts.losses loss).sides ≤ p.losses.sides → Ran (λ ok. Unit {0}) K.hears (lose contents d loss) u e a z →
         StaysInTurn p e (handed_then v z) z }
@@ -57,18 +59,30 @@ pub fn turn_keeps_pledge<K: Keep<TrackImage>>()
 
 /// Behind an event the pool has been told how many of the device's tracks wait, and of no other device anything.
 pub fn pool_is_told_waiting<K: Keep<TrackImage>>()
-    ensures command { (d e : WholeDevice) (u z : Outside (List ℕ) K) (a : Option Stepped) → HasWaiting (waiting_in u) d.store.device (waiting_count contents d.store) →
-        Ran (λ ok. Unit {0}) K.hears (command contents d) u e a z → waiting_in z ≡ with_waiting (waiting_in u) d.store.device (waiting_count contents e.store) }
-    ensures second { (d e : WholeDevice) (u z : Outside (List ℕ) K) (a : SecondEnd) → HasWaiting (waiting_in u) d.store.device (waiting_count contents d.store) →
-        Ran (λ ok. Unit {0}) K.hears (second contents d) u e a z → waiting_in z ≡ with_waiting (waiting_in u) d.store.device (waiting_count contents e.store) }
-    ensures background { (d e : WholeDevice) (u z : Outside (List ℕ) K) (a : Option Did) → HasWaiting (waiting_in u) d.store.device (waiting_count contents d.store) →
-        Ran (λ ok. Unit {0}) K.hears (background contents d) u e a z → waiting_in z ≡ with_waiting (waiting_in u) d.store.device (waiting_count contents e.store) }
-    ensures lose { (d e : WholeDevice) (u z : Outside (List ℕ) K) (a : Unit {0}) (loss : Loss) → HasWaiting (waiting_in u) d.store.device (waiting_count contents d.store) →
-        Ran (λ ok. Unit {0}) K.hears (lose contents d loss) u e a z → waiting_in z ≡ with_waiting (waiting_in u) d.store.device (waiting_count contents e.store) }
-    ensures power { (d e : WholeDevice) (u z : Outside (List ℕ) K) (a : Unit {0}) → HasWaiting (waiting_in u) d.store.device (waiting_count contents d.store) →
-        Ran (λ ok. Unit {0}) K.hears (power contents d) u e a z → waiting_in z ≡ with_waiting (waiting_in u) d.store.device (waiting_count contents e.store) }
-    ensures peek { (d e : WholeDevice) (u z : Outside (List ℕ) K) (a : Option Peeked) (t : ℕ) → HasWaiting (waiting_in u) d.store.device (waiting_count contents d.store) →
-        Ran (λ ok. Unit {0}) K.hears (peek contents d t) u e a z → waiting_in z ≡ with_waiting (waiting_in u) d.store.device (waiting_count contents e.store) }
+    ensures command { (d e : WholeDevice) (u z : Outside (List ℕ) K) (a : Option Stepped) →
+        HasWaiting (waiting_in u) d.store.device (waiting_count contents d.store) →
+        Ran (λ ok. Unit {0}) K.hears (command contents d) u e a z →
+        waiting_in z ≡ with_waiting (waiting_in u) d.store.device (waiting_count contents e.store) }
+    ensures second { (d e : WholeDevice) (u z : Outside (List ℕ) K) (a : SecondEnd) →
+        HasWaiting (waiting_in u) d.store.device (waiting_count contents d.store) →
+        Ran (λ ok. Unit {0}) K.hears (second contents d) u e a z →
+        waiting_in z ≡ with_waiting (waiting_in u) d.store.device (waiting_count contents e.store) }
+    ensures background { (d e : WholeDevice) (u z : Outside (List ℕ) K) (a : Option Did) →
+        HasWaiting (waiting_in u) d.store.device (waiting_count contents d.store) →
+        Ran (λ ok. Unit {0}) K.hears (background contents d) u e a z →
+        waiting_in z ≡ with_waiting (waiting_in u) d.store.device (waiting_count contents e.store) }
+    ensures lose { (d e : WholeDevice) (u z : Outside (List ℕ) K) (a : Unit {0}) (loss : Loss) →
+        HasWaiting (waiting_in u) d.store.device (waiting_count contents d.store) →
+        Ran (λ ok. Unit {0}) K.hears (lose contents d loss) u e a z →
+        waiting_in z ≡ with_waiting (waiting_in u) d.store.device (waiting_count contents e.store) }
+    ensures power { (d e : WholeDevice) (u z : Outside (List ℕ) K) (a : Unit {0}) →
+        HasWaiting (waiting_in u) d.store.device (waiting_count contents d.store) →
+        Ran (λ ok. Unit {0}) K.hears (power contents d) u e a z →
+        waiting_in z ≡ with_waiting (waiting_in u) d.store.device (waiting_count contents e.store) }
+    ensures peek { (d e : WholeDevice) (u z : Outside (List ℕ) K) (a : Option Peeked) (t : ℕ) →
+        HasWaiting (waiting_in u) d.store.device (waiting_count contents d.store) →
+        Ran (λ ok. Unit {0}) K.hears (peek contents d t) u e a z →
+        waiting_in z ≡ with_waiting (waiting_in u) d.store.device (waiting_count contents e.store) }
 {}
 
 /// A device that is in order and whose volumes tell what they hold adds no data check to its journal, and finds no bad bytes by

@@ -24,7 +24,17 @@ ghost use Rattle.device_laws.specs.Agrees.{Held};
 ghost use Rattle.device_laws.specs.InOrder.{IsInOrder};
 ghost use Rattle.device_laws.specs.NewDevice.{new_contents};
 ghost use Rattle.device_laws.specs.Standing.{IsChainOf};
-ghost use Rattle.device_laws.specs.Unharmed.{MarksAreGood, IsUncached, IsUnharmed, HalfIsTried, LossesAreCounted, RunsUnharmed, IsCalm, ends_with_equipment_check, NothingLost};
+ghost use Rattle.device_laws.specs.Unharmed.{
+  MarksAreGood,
+  IsUncached,
+  IsUnharmed,
+  HalfIsTried,
+  LossesAreCounted,
+  RunsUnharmed,
+  IsCalm,
+  ends_with_equipment_check,
+  NothingLost,
+};
 ghost use Rattle.device_laws.specs.Whole.{WholeDevice};
 ghost use Rattle.loss_model.specs.declared.Loss.{Loss};
 

@@ -63,7 +63,8 @@ pub fn background_is_step<K: Keep<TrackImage>>()
 
 /// A loss.
 pub fn loss_is_step<K: Keep<TrackImage>>()
-    ensures { (v w : List Track) (d : WholeDevice) (h : Held) (others : List ℕ) (t : Told) (u z : Outside (List ℕ) K) (e : WholeDevice) (a : Unit {0}) (loss : Loss) →
+    ensures { (v w : List Track) (d : WholeDevice) (h : Held) (others : List ℕ) (t : Told) (u z : Outside (List ℕ) K) (e : WholeDevice)
+        (a : Unit {0}) (loss : Loss) →
         IsInOrder v w d.store h →
         Ran (λ ok. ok ≡ true) K.hears (lose contents d loss) u e a z → TellsAll others u h t →
         IsStep (BehindLoss v loss) others (lose by_plain (marks_device v w d) loss) t e a z }
@@ -71,7 +72,8 @@ pub fn loss_is_step<K: Keep<TrackImage>>()
 
 /// The reset of a path.
 pub fn reset_is_step<K: Keep<TrackImage>>()
-    ensures { (v w : List Track) (d : WholeDevice) (h : Held) (others : List ℕ) (t : Told) (u z : Outside (List ℕ) K) (e : WholeDevice) (a : Unit {0}) (path : ℕ) →
+    ensures { (v w : List Track) (d : WholeDevice) (h : Held) (others : List ℕ) (t : Told) (u z : Outside (List ℕ) K) (e : WholeDevice)
+        (a : Unit {0}) (path : ℕ) →
         IsInOrder v w d.store h →
         Ran (λ ok. ok ≡ true) K.hears (reset contents d path) u e a z → TellsAll others u h t →
         IsStep (BehindReset v d.store.half) others (reset by_plain (marks_device v w d) path) t e a z }

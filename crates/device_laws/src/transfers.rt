@@ -35,7 +35,8 @@ pub fn losses_move_nothing()
 /// A provisional and a fast write move nothing.
 pub fn cache_writes_move_nothing()
     ensures provisional { (s : DeviceStore) (u : Usage) (first t : ℕ) (i : Image) (e : Edit) → Makes s InCache (write_by contents u first t i e s Provisional) }
-    ensures fast { (s : DeviceStore) (u : Usage) (first t : ℕ) (i : Image) (e : Edit) (slot : Option ℕ) → Makes s InCache (write_by contents u first t i e s (Fast slot)) }
+    ensures fast { (s : DeviceStore) (u : Usage) (first t : ℕ) (i : Image) (e : Edit) (slot : Option ℕ) →
+        Makes s InCache (write_by contents u first t i e s (Fast slot)) }
 {}
 
 /// The two parts of a write write the sides that take it.

@@ -103,7 +103,8 @@ module _ {F P H R : Type 0} (c : Contents F P H R) where
   module _ (first up : ℕ) where
     abbrev Following : ℕ → Type 0
     Following n =
-        (chain : ChainState) (t : ℕ) (s : Store F P H) → sides_up s ≤ up → Counts (λ r w z (o : Option Turn). CommandTransfers n up r w) 0 0 (follow c n first chain t s)
+        (chain : ChainState) (t : ℕ) (s : Store F P H) → sides_up s ≤ up →
+        Counts (λ r w z (o : Option Turn). CommandTransfers n up r w) 0 0 (follow c n first chain t s)
 
     one_more : (n r w : ℕ) → r ≤ up → w ≤ up → CommandTransfers (suc n) up r w
     one_more n r w le less = record { most_reads = let e = suc-mul n up in omega (arith, e, le); most_writes = less }
@@ -141,13 +142,15 @@ module _ {F P H R : Type 0} (c : Contents F P H R) where
     none_done : (n up : ℕ) → CommandTransfers n up 0 0
     none_done n up = record { most_reads = omega arith; most_writes = omega arith }
 
-    answered_so : (n up : ℕ) (next : ChainState) (p : Progress) → Counts (λ r w z (a : Option Stepped). CommandTransfers n up r w) 0 0 (answered_by c d path next p)
+    answered_so : (n up : ℕ) (next : ChainState) (p : Progress) →
+        Counts (λ r w z (a : Option Stepped). CommandTransfers n up r w) 0 0 (answered_by c d path next p)
     answered_so n up next (progresses.Ended e) = counts_done (none_done n up)
     answered_so n up next (progresses.Need q) = counts_done (none_done n up)
     answered_so n up next (progresses.Write q e) = counts_done (none_done n up)
     answered_so n up next (progresses.Local act) = counts_done (none_done n up)
 
-    at_so : (o : Option ℕ) → Counts (λ r w z (a : Option Stepped). CommandTransfers (tracks_of d.store) (sides_up d.store) r w) 0 0 (command_at c d path chain o)
+    at_so : (o : Option ℕ) →
+        Counts (λ r w z (a : Option Stepped). CommandTransfers (tracks_of d.store) (sides_up d.store) r w) 0 0 (command_at c d path chain o)
     at_so (Some t) =
         counts_then (on_tracks c d path chain) (follow_so t (sides_up d.store) (tracks_of d.store) chain t d.store (omega arith))
         (λ r w z o h. on_tracks_so z (tracks_of d.store) (sides_up d.store) r w h o)

@@ -77,7 +77,8 @@ module _ {F P H R : Type 0} (c : Contents F P H R) where
         ((s : Store F P H) → Same d.store s → Counts By 0 0 (body (record (event_begun d) { store = s }))) → Counts By 0 0 (event c d body)
     event_counts d body h =
         quiet_counts d (λ z. and_then (hear c 960 z.store) (λ s _. body (record z { store = s })))
-        (counts_first (λ s _. body (record (event_begun d) { store = s })) (hear_quiet c 960 (event_begun d).store) (hear_same c 960 (event_begun d).store).holds
+        (counts_first (λ s _. body (record (event_begun d) { store = s })) (hear_quiet c 960 (event_begun d).store)
+        (hear_same c 960 (event_begun d).store).holds
         (λ s _ e. h s (record { a = e.a; b = e.b; held = e.held; half = e.half; cylinders = e.cylinders })))
 
   -- A command

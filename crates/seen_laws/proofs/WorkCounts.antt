@@ -146,7 +146,8 @@ module _ {F P H R : Type 0} (c : Contents F P H R) where
         Counts Ends reads 0 (recovered_bytes c t s (got last bytes (Some side)) bytes)
     late_so s few reads one le t last side None = counts_done (failed_fits side reads 0 one le (omega arith))
     late_so s few reads one le t last side (Some x) =
-        counts_try (λ ok. counts_if ok (λ _. late_image s few reads one le t last side x (image_of c s t x)) (λ _. counts_done (lacking reads 0 le (omega arith))))
+        counts_try (λ ok. counts_if ok (λ _. late_image s few reads one le t last side x (image_of c s t x))
+        (λ _. counts_done (lacking reads 0 le (omega arith))))
 
     recovered_so : (s : Store F P H) → sides_writing s ≡ n → sides_up s ≡ up → (t : ℕ) {r w : ℕ} {z : Store F P H} {g : Got R} → r ≤ up → LevelSo s r w z g →
         Counts Ends r w (recovered_bytes c t z g g.bytes)
@@ -223,7 +224,8 @@ module _ {F P H R : Type 0} (c : Contents F P H R) where
       staged_so : {r w : ℕ} {z : Store F P H} {g : Got R} → r ≤ up → LevelSo s r w z g → Counts Ends r w (staged_bytes c t z g g.bytes)
       staged_so le (level_gave {side = side} {bytes = bytes}) =
           let z = read_counted s true in
-          counts_try (λ ok. counts_if ok (λ _. gave_image le z side bytes (image_of c z t bytes)) (λ _. unfilled_so 1 0 z t None (lacking 1 0 le (omega arith))))
+          counts_try (λ ok. counts_if ok (λ _. gave_image le z side bytes (image_of c z t bytes))
+          (λ _. unfilled_so 1 0 z t None (lacking 1 0 le (omega arith))))
       staged_so le level_none = unfilled_so 0 0 s t (Some Nothing) nothing
       staged_so le (level_failed {r = r} {z = z} {last = last} {side = side} {bytes = bytes} one less) = fault_bytes r one le z last side bytes
 

@@ -316,7 +316,8 @@ module _ {F P H R : Type 0} (c : Contents F P H R) where
     by_part bypass opens was_loose s same {z = z} le wrote_whole = whole_so z bypass 1 le
     by_part bypass opens was_loose s same {z = z} le (wrote_opened two) =
         counts_if opens
-        (λ _. counts_past (λ y _. Done y Opened) (opened_quiet z t i (OfCommand bypass e) was_loose) (λ y _. counts_done (record { reads = refl; writes = le })))
+        (λ _. counts_past (λ y _. Done y Opened)
+        (opened_quiet z t i (OfCommand bypass e) was_loose) (λ y _. counts_done (record { reads = refl; writes = le })))
         (λ _. once_so z bypass (omega (arith, two, same)))
     by_part bypass opens was_loose s same le (wrote_none none) = counts_done (record { reads = refl; writes = le })
     by_part bypass opens was_loose s same {w = w} {z = z} le (wrote_late one) = whole_so z bypass w le

@@ -72,10 +72,6 @@ is_false : (a : Bool) → not a ≡ true → a ≡ false
 is_false true e = absurd (cc)
 is_false false e = refl
 
-false_is : (a : Bool) → a ≡ false → not a ≡ true
-false_is true e = absurd (cc)
-false_is false e = refl
-
 never : {X : Type 0} (a : Bool) → a ≡ true → a ≡ false → X
 never true e f = absurd (cc)
 never false e f = absurd (cc)

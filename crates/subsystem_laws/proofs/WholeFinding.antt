@@ -82,20 +82,6 @@ stood_other (x ∷ xs) n m y is off = by_place (number_at x == n) refl (stood_ot
         ∙ ap (λ (k : ℕ). if k == m then Some x else stood_in xs m) (sym same)
     by_place false e later = ap (λ (o : Option Stood). if number_at x == m then Some x else o) later
 
-pub mounted_other : (ms : List Mounted) (n m : ℕ) (k : Mounted) → number_of k ≡ n → (n == m) ≡ false → mounted_in (put_in ms n k) m ≡ mounted_in ms m
-mounted_other [] n m k is off = refl
-mounted_other (x ∷ ms) n m k is off = by_place (number_of x == n) refl (mounted_other ms n m k is off)
-  where
-    by_place : (b : Bool) → (number_of x == n) ≡ b → mounted_in (put_in ms n k) m ≡ mounted_in ms m → mounted_in (if b then k ∷ ms else x ∷ put_in ms n k) m
-        ≡ (if number_of x == m then Some x else mounted_in ms m)
-    by_place true e later =
-        let same : number_of x ≡ n = eqb-true (number_of x) n e in
-        ap (λ (j : ℕ). if j == m then Some k else mounted_in ms m) is
-        ∙ ap (λ (b : Bool). if b then Some k else mounted_in ms m) off
-        ∙ ap (λ (b : Bool). if b then Some x else mounted_in ms m) (sym off)
-        ∙ ap (λ (j : ℕ). if j == m then Some x else mounted_in ms m) (sym same)
-    by_place false e later = ap (λ (o : Option Mounted). if number_of x == m then Some x else o) later
-
 -- The definitions find the same devices
 
 map_if : {X Y : Type 0} (f : X → Y) (b : Bool) (x : X) (o : Option X) → option_map f (if b then Some x else o) ≡ (if b then Some (f x) else option_map f o)
