@@ -126,7 +126,8 @@ module _ {V : Type 0} {G : Ghosts V} {K : Type 0} {hears : Hearing Image K} wher
   pair_refused k a b old new None p fault first second is same = absurd is
 
   pub pair_done : (k : K) (a b : ℕ) (old new : Subsystem V G) (o p : Option (Device V G)) → device_at old.devices.items a ≡ o →
-      device_at old.devices.items b ≡ p → HasPairFault o p None → IfSome p (λ y. JoinsKept hears a b (device_of y) old new) → CameKept hears (events.Pair a b) old k (Some ends.Done) new k
+      device_at old.devices.items b ≡ p → HasPairFault o p None →
+      IfSome p (λ y. JoinsKept hears a b (device_of y) old new) → CameKept hears (events.Pair a b) old k (Some ends.Done) new k
   pair_done k a b old new (Some x) (Some y) first second is so =
       became_pair old new (events.Pair a b) a b x y first second
       (deeds.paired contents _ _ a b _ _ (found_in old.devices.items a x first) (found_in old.devices.items b y second) is) so
