@@ -152,99 +152,100 @@ module _ {V : Type 0} {G : Ghosts V} where
 
   -- Events
 
-  module _ {K : Type 0} {hears : Hearing Image K} {k : K} (old new : Subsystem V G) (e : Event) where
-    came_by : (l : K) (a : Option EventEnd) (d : OwnDeed) → deed contents old.pool.pool (devices_of old.devices.items) e ≡ d →
+  module _ {K : Type 0} (hears : Hearing Image K) (k l : K) (old new : Subsystem V G) (e : Event) where
+    came_by : (a : Option EventEnd) (d : OwnDeed) → deed contents old.pool.pool (devices_of old.devices.items) e ≡ d →
         CameKeptBy hears d old k a new l → CameKept hears e old k a new l
-    came_by l a d is h = subst (λ x. CameKeptBy hears x old k a new l) (sym is) h
+    came_by a d is h = subst (λ x. CameKeptBy hears x old k a new l) (sym is) h
 
-    module _ {l : K} where
-      -- a device was asked
-      pub asked_one : (n : ℕ) (x : Device V G) (a : Option EventEnd) (talk : Talk (Option ends_of.EventEnd)) (how : Device V G → Device V G → Type 0) →
-          device_at old.devices.items n ≡ Some x →
-          deed contents old.pool.pool (devices_of old.devices.items) e ≡ Asks (device_of x) talk →
-          ((y : Device V G) → how x y → AskedKeptBy hears talk old k a new l x y) → Changes n how old.devices.items new.devices.items →
-          CameKept hears e old k a new l
-      asked_one n x a talk how found is f ch =
-          let number = number_found old.devices.items n x found in
-          came_by l a (Asks (device_of x) talk) is
-          (subst (λ m. Changes m (AskedKeptBy hears talk old k a new l) old.devices.items new.devices.items) (sym number)
-          (changed_into how (AskedKeptBy hears talk old k a new l) found f ch))
+  module _ {K : Type 0} {hears : Hearing Image K} {k l : K} (old new : Subsystem V G) (e : Event) where
+    -- a device was asked
+    pub asked_one : (n : ℕ) (x : Device V G) (a : Option EventEnd) (talk : Talk (Option ends_of.EventEnd)) (how : Device V G → Device V G → Type 0) →
+        device_at old.devices.items n ≡ Some x →
+        deed contents old.pool.pool (devices_of old.devices.items) e ≡ Asks (device_of x) talk →
+        ((y : Device V G) → how x y → AskedKeptBy hears talk old k a new l x y) → Changes n how old.devices.items new.devices.items →
+        CameKept hears e old k a new l
+    asked_one n x a talk how found is f ch =
+        let number = number_found old.devices.items n x found in
+        came_by hears k l old new e a (Asks (device_of x) talk) is
+        (subst (λ m. Changes m (AskedKeptBy hears talk old k a new l) old.devices.items new.devices.items) (sym number)
+        (changed_into how (AskedKeptBy hears talk old k a new l) found f ch))
 
-      pub commanded : (n : ℕ) (x : Device V G) (how : DefinedDevice → Talk (Option defs.Stepped)) (s : Stepped) →
-          device_at old.devices.items n ≡ Some x →
-          deed contents old.pool.pool (devices_of old.devices.items) e ≡ Asks (device_of x) (may_end_by answers.Stepped (how (device_of x))) →
-          Changes n (λ a y. AskedKept hears (where_ok {E = NoMemory} (Ok s)) (how (device_of a)) (step_had {E = NoMemory} y.past (Ok s)) old.pool k a y
-          new.pool l)
-          old.devices.items new.devices.items →
-          CameKept hears e old k (Some (ends.Stepped s)) new l
-      commanded n x how s found is ch =
-          asked_one n x (Some (ends.Stepped s)) (may_end_by answers.Stepped (how (device_of x)))
-          (λ a y. AskedKept hears (where_ok {E = NoMemory} (Ok s)) (how (device_of a)) (step_had {E = NoMemory} y.past (Ok s)) old.pool k a y new.pool l)
-          found is
-          (λ y ran. step_ends (how (device_of x)) old.pool new.pool x y s ran) ch
+    pub commanded : (n : ℕ) (x : Device V G) (how : DefinedDevice → Talk (Option defs.Stepped)) (s : Stepped) →
+        device_at old.devices.items n ≡ Some x →
+        deed contents old.pool.pool (devices_of old.devices.items) e ≡ Asks (device_of x) (may_end_by answers.Stepped (how (device_of x))) →
+        Changes n (λ a y. AskedKept hears (where_ok {E = NoMemory} (Ok s)) (how (device_of a)) (step_had {E = NoMemory} y.past (Ok s)) old.pool k a y
+        new.pool l)
+        old.devices.items new.devices.items →
+        CameKept hears e old k (Some (ends.Stepped s)) new l
+    commanded n x how s found is ch =
+        asked_one n x (Some (ends.Stepped s)) (may_end_by answers.Stepped (how (device_of x)))
+        (λ a y. AskedKept hears (where_ok {E = NoMemory} (Ok s)) (how (device_of a)) (step_had {E = NoMemory} y.past (Ok s)) old.pool k a y new.pool l)
+        found is
+        (λ y ran. step_ends (how (device_of x)) old.pool new.pool x y s ran) ch
 
-      pub command_lacked : (n : ℕ) (x : Device V G) (how : DefinedDevice → Talk (Option defs.Stepped)) (lack : NoMemory) →
-          device_at old.devices.items n ≡ Some x →
-          deed contents old.pool.pool (devices_of old.devices.items) e ≡ Asks (device_of x) (may_end_by answers.Stepped (how (device_of x))) →
-          Changes n (λ a y. AskedKept hears (where_ok {X = Stepped} (Err lack)) (how (device_of a)) (step_had y.past (Err lack)) old.pool k a y new.pool l)
-          old.devices.items new.devices.items →
-          CameKept hears e old k None new l
-      command_lacked n x how lack found is ch =
-          asked_one n x None (may_end_by answers.Stepped (how (device_of x)))
-          (λ a y. AskedKept hears (where_ok {X = Stepped} (Err lack)) (how (device_of a)) (step_had y.past (Err lack)) old.pool k a y new.pool l) found is
-          (λ y ran. step_lacks lack (how (device_of x)) old.pool new.pool x y ran) ch
+    pub command_lacked : (n : ℕ) (x : Device V G) (how : DefinedDevice → Talk (Option defs.Stepped)) (lack : NoMemory) →
+        device_at old.devices.items n ≡ Some x →
+        deed contents old.pool.pool (devices_of old.devices.items) e ≡ Asks (device_of x) (may_end_by answers.Stepped (how (device_of x))) →
+        Changes n (λ a y. AskedKept hears (where_ok {X = Stepped} (Err lack)) (how (device_of a)) (step_had y.past (Err lack)) old.pool k a y new.pool l)
+        old.devices.items new.devices.items →
+        CameKept hears e old k None new l
+    command_lacked n x how lack found is ch =
+        asked_one n x None (may_end_by answers.Stepped (how (device_of x)))
+        (λ a y. AskedKept hears (where_ok {X = Stepped} (Err lack)) (how (device_of a)) (step_had y.past (Err lack)) old.pool k a y new.pool l) found is
+        (λ y ran. step_lacks lack (how (device_of x)) old.pool new.pool x y ran) ch
 
-      pub worked : (n : ℕ) (x : Device V G) (how : DefinedDevice → Talk (Option Did)) (did : Did) →
-          device_at old.devices.items n ≡ Some x →
-          deed contents old.pool.pool (devices_of old.devices.items) e ≡ Asks (device_of x) (may_end_by answers.Back (how (device_of x))) →
-          Changes n (λ a y. AskedKept hears (where_ok {E = NoMemory} (Ok did)) (how (device_of a)) (Some did) old.pool k a y new.pool l)
-          old.devices.items new.devices.items →
-          CameKept hears e old k (Some (ends.Back did)) new l
-      worked n x how did found is ch =
-          asked_one n x (Some (ends.Back did)) (may_end_by answers.Back (how (device_of x)))
-          (λ a y. AskedKept hears (where_ok {E = NoMemory} (Ok did)) (how (device_of a)) (Some did) old.pool k a y new.pool l) found is
-          (λ y ran. back_ends (how (device_of x)) old.pool new.pool x y did ran) ch
+    pub worked : (n : ℕ) (x : Device V G) (how : DefinedDevice → Talk (Option Did)) (did : Did) →
+        device_at old.devices.items n ≡ Some x →
+        deed contents old.pool.pool (devices_of old.devices.items) e ≡ Asks (device_of x) (may_end_by answers.Back (how (device_of x))) →
+        Changes n (λ a y. AskedKept hears (where_ok {E = NoMemory} (Ok did)) (how (device_of a)) (Some did) old.pool k a y new.pool l)
+        old.devices.items new.devices.items →
+        CameKept hears e old k (Some (ends.Back did)) new l
+    worked n x how did found is ch =
+        asked_one n x (Some (ends.Back did)) (may_end_by answers.Back (how (device_of x)))
+        (λ a y. AskedKept hears (where_ok {E = NoMemory} (Ok did)) (how (device_of a)) (Some did) old.pool k a y new.pool l) found is
+        (λ y ran. back_ends (how (device_of x)) old.pool new.pool x y did ran) ch
 
-      pub work_lacked : (n : ℕ) (x : Device V G) (how : DefinedDevice → Talk (Option Did)) (lack : NoMemory) →
-          device_at old.devices.items n ≡ Some x →
-          deed contents old.pool.pool (devices_of old.devices.items) e ≡ Asks (device_of x) (may_end_by answers.Back (how (device_of x))) →
-          Changes n (λ a y. AskedKept hears (where_ok {X = Did} (Err lack)) (how (device_of a)) None old.pool k a y new.pool l)
-          old.devices.items new.devices.items →
-          CameKept hears e old k None new l
-      work_lacked n x how lack found is ch =
-          asked_one n x None (may_end_by answers.Back (how (device_of x)))
-          (λ a y. AskedKept hears (where_ok {X = Did} (Err lack)) (how (device_of a)) None old.pool k a y new.pool l) found is
-          (λ y ran. back_lacks lack (how (device_of x)) old.pool new.pool x y ran) ch
+    pub work_lacked : (n : ℕ) (x : Device V G) (how : DefinedDevice → Talk (Option Did)) (lack : NoMemory) →
+        device_at old.devices.items n ≡ Some x →
+        deed contents old.pool.pool (devices_of old.devices.items) e ≡ Asks (device_of x) (may_end_by answers.Back (how (device_of x))) →
+        Changes n (λ a y. AskedKept hears (where_ok {X = Did} (Err lack)) (how (device_of a)) None old.pool k a y new.pool l)
+        old.devices.items new.devices.items →
+        CameKept hears e old k None new l
+    work_lacked n x how lack found is ch =
+        asked_one n x None (may_end_by answers.Back (how (device_of x)))
+        (λ a y. AskedKept hears (where_ok {X = Did} (Err lack)) (how (device_of a)) None old.pool k a y new.pool l) found is
+        (λ y ran. back_lacks lack (how (device_of x)) old.pool new.pool x y ran) ch
 
-      -- which lacks no memory, and tells nothing
-      pub was_done : (n : ℕ) (x : Device V G) (how : DefinedDevice → Talk (Unit {0})) → device_at old.devices.items n ≡ Some x →
-          deed contents old.pool.pool (devices_of old.devices.items) e ≡ Asks (device_of x) (ends_by ends_done (how (device_of x))) →
-          Changes n (λ a y. AskedKept hears surely (how (device_of a)) tt old.pool k a y new.pool l) old.devices.items new.devices.items →
-          CameKept hears e old k (Some ends.Done) new l
-      was_done n x how found is ch =
-          asked_one n x (Some ends.Done) (ends_by ends_done (how (device_of x)))
-          (λ a y. AskedKept hears surely (how (device_of a)) tt old.pool k a y new.pool l) found is
-          (λ y ran. done_ends (how (device_of x)) old.pool new.pool x y ran) ch
+    -- which lacks no memory, and tells nothing
+    pub was_done : (n : ℕ) (x : Device V G) (how : DefinedDevice → Talk (Unit {0})) → device_at old.devices.items n ≡ Some x →
+        deed contents old.pool.pool (devices_of old.devices.items) e ≡ Asks (device_of x) (ends_by ends_done (how (device_of x))) →
+        Changes n (λ a y. AskedKept hears surely (how (device_of a)) tt old.pool k a y new.pool l) old.devices.items new.devices.items →
+        CameKept hears e old k (Some ends.Done) new l
+    was_done n x how found is ch =
+        asked_one n x (Some ends.Done) (ends_by ends_done (how (device_of x)))
+        (λ a y. AskedKept hears surely (how (device_of a)) tt old.pool k a y new.pool l) found is
+        (λ y ran. done_ends (how (device_of x)) old.pool new.pool x y ran) ch
 
-      pub seconded : (n : ℕ) (x : Device V G) (how : DefinedDevice → Talk SecondEnd) (s : SecondStep) → device_at old.devices.items n ≡ Some x →
-          deed contents old.pool.pool (devices_of old.devices.items) e ≡ Asks (device_of x) (ends_by answers.Second (how (device_of x))) →
-          Changes n (λ a y. IsSome (second_seen y.past s) × ((z : SecondEnd) → second_seen y.past s ≡ Some z → AskedKept hears surely (how
-          (device_of a)) z old.pool k a y new.pool l))
-          old.devices.items new.devices.items →
-          CameKept hears e old k (Some (ends.Second s)) new l
-      seconded n x how s found is ch =
-          asked_one n x (Some (ends.Second s)) (ends_by answers.Second (how (device_of x)))
-          (λ a y. IsSome (second_seen y.past s) × ((z : SecondEnd) → second_seen y.past s ≡ Some z → AskedKept hears surely (how
-          (device_of a)) z old.pool k a y new.pool l))
-          found is (λ y ran. second_by (how (device_of x)) old.pool new.pool x y (second_seen y.past s) ran.0 ran.1) ch
+    pub seconded : (n : ℕ) (x : Device V G) (how : DefinedDevice → Talk SecondEnd) (s : SecondStep) → device_at old.devices.items n ≡ Some x →
+        deed contents old.pool.pool (devices_of old.devices.items) e ≡ Asks (device_of x) (ends_by answers.Second (how (device_of x))) →
+        Changes n (λ a y. IsSome (second_seen y.past s) × ((z : SecondEnd) → second_seen y.past s ≡ Some z → AskedKept hears surely (how
+        (device_of a)) z old.pool k a y new.pool l))
+        old.devices.items new.devices.items →
+        CameKept hears e old k (Some (ends.Second s)) new l
+    seconded n x how s found is ch =
+        asked_one n x (Some (ends.Second s)) (ends_by answers.Second (how (device_of x)))
+        (λ a y. IsSome (second_seen y.past s) × ((z : SecondEnd) → second_seen y.past s ≡ Some z → AskedKept hears surely (how
+        (device_of a)) z old.pool k a y new.pool l))
+        found is (λ y ran. second_by (how (device_of x)) old.pool new.pool x y (second_seen y.past s) ran.0 ran.1) ch
 
-      -- all devices
-      pub all_swept : (p : Pool) (f : DefinedDevice → Talk (Unit {0})) (q : Shared) → deed contents old.pool.pool (devices_of old.devices.items) e ≡ Each p f →
-          q ≡ with_pool old.pool p → SweptKept hears f q k old.devices.items new.devices.items new.pool l → CameKept hears e old k (Some ends.Done) new l
-      all_swept p f q is same swept =
-          came_by l (Some ends.Done) (Each p f) is
-          ((λ h. refl), subst (λ z. SweptKept hears f z k old.devices.items new.devices.items new.pool l) same swept)
+    -- all devices
+    pub all_swept : (p : Pool) (f : DefinedDevice → Talk (Unit {0})) (q : Shared) → deed contents old.pool.pool (devices_of old.devices.items) e ≡ Each p f →
+        q ≡ with_pool old.pool p → SweptKept hears f q k old.devices.items new.devices.items new.pool l → CameKept hears e old k (Some ends.Done) new l
+    all_swept p f q is same swept =
+        came_by hears k l old new e (Some ends.Done) (Each p f) is
+        ((λ h. refl), subst (λ z. SweptKept hears f z k old.devices.items new.devices.items new.pool l) same swept)
 
+  module _ {K : Type 0} (hears : Hearing Image K) (k : K) (old new : Subsystem V G) (e : Event) where
     -- a device became another
     pub became : (n : ℕ) (x : Device V G) (d : DefinedDevice) (end : ends_of.EventEnd) (a : EventEnd) (how : Device V G → Device V G → Type 0) →
         device_at old.devices.items n ≡ Some x → deed contents old.pool.pool
@@ -258,7 +259,7 @@ module _ {V : Type 0} {G : Ghosts V} where
           subst (λ m. Changes m (IsNow d) old.devices.items new.devices.items) (sym (number ∙ number_found old.devices.items n x found))
               (changed_into how (IsNow d) found f ch),
         ) in
-        came_by k (Some a) (Becomes d end) is (so, refl)
+        came_by hears k k old new e (Some a) (Becomes d end) is (so, refl)
 
     pub has_started : (n : ℕ) (x : Device V G) (path ordinal : ℕ) → device_at old.devices.items n ≡ Some x →
         deed contents old.pool.pool (devices_of old.devices.items) e ≡ Becomes (start (device_of x) path) (answers.Started (next_ordinal (device_of x) path)) →
@@ -280,13 +281,13 @@ module _ {V : Type 0} {G : Ghosts V} where
     became_none n x d end found is number pool ch =
         let so : CameBy (Becomes d end) old None new =
         (pool, subst (λ m. Changes m IsStill old.devices.items new.devices.items) (sym (number ∙ number_found old.devices.items n x found)) ch) in
-        came_by k None (Becomes d end) is (so, refl)
+        came_by hears k k old new e None (Becomes d end) is (so, refl)
 
     pub repaired : (p : Pool) → deed contents old.pool.pool (devices_of old.devices.items) e ≡ Repairs p → new.pool ≡ with_pool old.pool p →
         new.devices.items ≡ old.devices.items → CameKept hears e old k (Some ends.Done) new k
     repaired p is pool devices =
         let so : CameBy (Repairs p) old (Some ends.Done) new = ((λ h. refl), pool, devices) in
-        came_by k (Some ends.Done) (Repairs p) is (so, refl)
+        came_by hears k k old new e (Some ends.Done) (Repairs p) is (so, refl)
 
     -- two devices became a pair
     pub became_pair : (a b : ℕ) (x y : Device V G) → device_at old.devices.items a ≡ Some x → device_at old.devices.items b ≡ Some y →
@@ -295,7 +296,7 @@ module _ {V : Type 0} {G : Ghosts V} where
     became_pair a b x y first second is so =
         let number = number_found old.devices.items a x first in
         let other = number_found old.devices.items b y second in
-        came_by k (Some ends.Done) (Lends (device_of x) (device_of y)) is (
+        came_by hears k k old new e (Some ends.Done) (Lends (device_of x) (device_of y)) is (
           (λ h. refl),
           subst (λ (n : ℕ). JoinsKept hears n y.store.number (device_of y) old new) (sym number)
               (subst (λ (m : ℕ). JoinsKept hears a m (device_of y) old new) (sym other) so),
@@ -307,7 +308,7 @@ module _ {V : Type 0} {G : Ghosts V} where
         Answers (Some a) end → IsSame old new → CameKept hears e old k (Some a) new k
     ended end a is answers same =
         let so : CameBy (Ends end) old (Some a) new = (answers, same) in
-        came_by k (Some a) (Ends end) is (so, refl)
+        came_by hears k k old new e (Some a) (Ends end) is (so, refl)
 
   -- Orders
 

@@ -114,22 +114,23 @@ module _ {V : Type 0} {G : Ghosts V} {K : Type 0} {hears : Hearing Image K} wher
       } in
       subst (λ (p : Option (Device V G)). IfSome p (λ y. JoinsKept hears a b (device_of y) old new)) (sym l.stood) j
 
+module _ {V : Type 0} {G : Ghosts V} {K : Type 0} (hears : Hearing Image K) (k : K) where
   -- The event
 
-  pub pair_refused : (k : K) (a b : ℕ) (old new : Subsystem V G) (o p : Option (Device V G)) (fault : OrderFault) → device_at old.devices.items a ≡ o →
+  pub pair_refused : (a b : ℕ) (old new : Subsystem V G) (o p : Option (Device V G)) (fault : OrderFault) → device_at old.devices.items a ≡ o →
       device_at old.devices.items b ≡ p → HasPairFault o p (Some fault) → IsSame old new →
       CameKept hears (events.Pair a b) old k (Some (ends.Refused fault)) new k
-  pair_refused k a b old new (Some x) (Some y) fault first second is same =
-      ended old new (events.Pair a b) (answers.Refused fault) (ends.Refused fault)
+  pair_refused a b old new (Some x) (Some y) fault first second is same =
+      ended hears k old new (events.Pair a b) (answers.Refused fault) (ends.Refused fault)
       (deeds.pair_refused contents _ _ a b _ _ (found_in old.devices.items a x first) (found_in old.devices.items b y second) fault is) (λ h. refl) same
-  pair_refused k a b old new (Some x) None fault first second is same = absurd is
-  pair_refused k a b old new None p fault first second is same = absurd is
+  pair_refused a b old new (Some x) None fault first second is same = absurd is
+  pair_refused a b old new None p fault first second is same = absurd is
 
-  pub pair_done : (k : K) (a b : ℕ) (old new : Subsystem V G) (o p : Option (Device V G)) → device_at old.devices.items a ≡ o →
+  pub pair_done : (a b : ℕ) (old new : Subsystem V G) (o p : Option (Device V G)) → device_at old.devices.items a ≡ o →
       device_at old.devices.items b ≡ p → HasPairFault o p None →
       IfSome p (λ y. JoinsKept hears a b (device_of y) old new) → CameKept hears (events.Pair a b) old k (Some ends.Done) new k
-  pair_done k a b old new (Some x) (Some y) first second is so =
-      became_pair old new (events.Pair a b) a b x y first second
+  pair_done a b old new (Some x) (Some y) first second is so =
+      became_pair hears k old new (events.Pair a b) a b x y first second
       (deeds.paired contents _ _ a b _ _ (found_in old.devices.items a x first) (found_in old.devices.items b y second) is) so
-  pair_done k a b old new (Some x) None first second is so = absurd is
-  pair_done k a b old new None p first second is so = absurd is
+  pair_done a b old new (Some x) None first second is so = absurd is
+  pair_done a b old new None p first second is so = absurd is
