@@ -62,9 +62,9 @@ fn plans(alloc: Global) -> Result<PathPlans, Fail> {
 }
 
 /// One event, where it may come.
-fn happens(sub: &mut Subsystem<MemVolume>, e: Event, keep: &mut CountedTells) -> Result<(), Fail> {
-    if sub.may_come(e) {
-        if sub.event_with(e, keep).is_ok() {
+fn happens(sub: &mut Subsystem<MemVolume>, e: &Event, keep: &mut CountedTells) -> Result<(), Fail> {
+    if sub.may_come(*e) {
+        if sub.event_with(*e, keep).is_ok() {
             return Ok(());
         }
         return Err("memory".into());
@@ -99,11 +99,11 @@ fn a_keeper_hears_of_a_write(rt: HostRuntime) -> Result<(), Fail> {
     let volume = MemVolume::new(alloc, 1, &[], &[])?;
     let mut sub = subsystem(alloc, d, volume, plans(alloc)?)?;
     let mut keep = CountedTells { edits: 0, firm: 0 };
-    happens(&mut sub, Event::Start(path, d), &mut keep)?;
-    happens(&mut sub, Event::Step(d), &mut keep)?;
-    happens(&mut sub, Event::Step(d), &mut keep)?;
+    happens(&mut sub, &Event::Start(path, d), &mut keep)?;
+    happens(&mut sub, &Event::Step(d), &mut keep)?;
+    happens(&mut sub, &Event::Step(d), &mut keep)?;
     assert_eq!(rt; keep.edits, 0);
-    happens(&mut sub, Event::Step(d), &mut keep)?;
+    happens(&mut sub, &Event::Step(d), &mut keep)?;
     assert_eq!(rt; keep.edits, 1);
     assert!(rt; is_in_frame(&mut sub, d, t)?);
     Ok(())
