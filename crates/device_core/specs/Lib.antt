@@ -6,3 +6,4 @@ pub mod Turns
 pub mod Halves
 pub mod State
 pub mod Starting
+pub mod OpenHalf

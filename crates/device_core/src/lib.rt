@@ -29,5 +29,6 @@ pub use device_store::Peeked;
 pub use log::Log;
 pub use past::{KeptPath, Past, Running, Stepped};
 pub use second::SecondStep;
+pub use seen::HalfOrigin;
 pub use start::NotStarted;
 pub use turns::follow;

@@ -1,16 +1,47 @@
 ghost use Rattle.std.specs.Prelude.{◌≡◌, option_map, is_some};
 ghost use Rattle.std.specs.Option.{option_copied};
 ghost use Rattle.plain_defs.specs.History.{OpenEntry};
-ghost use Rattle.device_store.specs.State.{on_a, on_b};
+ghost use Rattle.device_defs.specs.Store.{is_loose};
+ghost use Rattle.device_store.specs.State.{half_of, on_a, on_b, origin_of};
+ghost use Rattle.device_core.specs.OpenHalf.{half_seen, origin_seen};
 ghost use Rattle.device_core.specs.Kept.{open_of};
 ghost use Rattle.device_core.specs.State.{last_of, last_end_of, device_of};
 
 use crate::Device;
-use ckd_types::{CommandEnd, DeviceNo, Geometry, PathNo};
+use ckd_types::{CommandEnd, DeviceNo, Geometry, PathNo, TrackNo};
 use device_defs::Losses;
 use device_outside::Volume;
+use device_store::{HalfWrite, Origin};
 use loss_model::LostList;
 use plain_defs::Item;
+
+/// Whose write in two parts it is: of the command at hand, of one that was cut since, or of the background.
+#[derive(Clone, Copy, Debug, PartialEq, Eq)]
+pub enum HalfOrigin {
+    Command,
+    Cut,
+    Background,
+}
+
+fn origin_seen(origin: &Origin) -> HalfOrigin
+    ensures { result ≡ origin_seen (origin_of origin.now) }
+{
+    match origin {
+        Origin::OfCommand(_, _) => HalfOrigin::Command,
+        Origin::OfCut(_) => HalfOrigin::Cut,
+        Origin::OfBackground => HalfOrigin::Background,
+    }
+}
+
+/// The track of an open half write, and whose it is.
+fn half_told(half: &Option<HalfWrite>) -> Option<(TrackNo, HalfOrigin)>
+    ensures { result ≡ option_map half_seen (option_map half_of half.now) }
+{
+    match half {
+        Some(half) => Some((half.track, origin_seen(&half.origin))),
+        None => None,
+    }
+}
 
 /// The last end of a program.
 fn last_of(ends: &[CommandEnd]) -> Option<&CommandEnd>
@@ -67,6 +98,20 @@ impl<V: Volume> Device<V> {
         ensures { result ≡ is_some (device_of self.now).store.half }
     {
         self.store.half_open()
+    }
+
+    /// The track of the write in two parts that is open, and whose it is.
+    pub fn half_of(&self) -> Option<(TrackNo, HalfOrigin)>
+        ensures { result ≡ option_map half_seen (device_of self.now).store.half }
+    {
+        half_told(&self.store.half)
+    }
+
+    /// Whether a track holds data of cache fast write that aren't firm.
+    pub fn loose(&self, t: TrackNo) -> bool
+        ensures { result ≡ is_loose (device_of self.now).store t }
+    {
+        self.store.loose.has(t)
     }
 
     /// The device that its volume is lent to.

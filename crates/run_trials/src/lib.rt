@@ -4,6 +4,8 @@
 #![tactic(auto)]
 
 #[cfg(test)]
+mod keepers;
+#[cfg(test)]
 mod reports;
 #[cfg(test)]
 mod stores;

@@ -16,7 +16,13 @@ const EXTENT: &[u8] = &[0x40, 0xc0, 0x10, 0, 0, 0, 0, 0, 0, 0, 0, 0, 0, 0, 0, 0x
 /// Locate record: one read of record 0 of track 0.
 const LOCATE: &[u8] = &[6, 0, 0, 1, 0, 0, 0, 0, 0, 0, 0, 0, 0, 0, 0, 0];
 
-fn word(alloc: Global, command: u8, flags: u8, count: u16, given: &[u8]) -> Result<Ccw, Fail> {
+pub(crate) fn word(
+    alloc: Global,
+    command: u8,
+    flags: u8,
+    count: u16,
+    given: &[u8],
+) -> Result<Ccw, Fail> {
     Ok(Ccw {
         command,
         flags,
@@ -37,20 +43,30 @@ fn plans(alloc: Global) -> Result<PathPlans, Fail> {
     Ok(plans)
 }
 
-/// Device 5 of one cylinder, over this volume.
-fn device(alloc: Global, d: DeviceNo, volume: MemVolume) -> Result<Device<MemVolume>, Fail> {
+/// A device of one cylinder, over this volume.
+fn device(
+    alloc: Global,
+    d: DeviceNo,
+    volume: MemVolume,
+    plans: PathPlans,
+) -> Result<Device<MemVolume>, Fail> {
     if volume.len() != 15 {
         return Err("volume".into());
     }
-    match Device::open(alloc, d, Geometry::D3390, 1, volume, plans(alloc)?) {
+    match Device::open(alloc, d, Geometry::D3390, 1, volume, plans) {
         Ok(device) => Ok(device),
         Err(_) => Err("memory".into()),
     }
 }
 
-fn subsystem(alloc: Global, d: DeviceNo, volume: MemVolume) -> Result<Subsystem<MemVolume>, Fail> {
+pub(crate) fn subsystem(
+    alloc: Global,
+    d: DeviceNo,
+    volume: MemVolume,
+    plans: PathPlans,
+) -> Result<Subsystem<MemVolume>, Fail> {
     let mut devices = Vec::new(alloc);
-    devices.push(device(alloc, d, volume)?)?;
+    devices.push(device(alloc, d, volume, plans)?)?;
     Ok(Subsystem::new(Pool::new(alloc, 1, 1)?, devices)?)
 }
 
@@ -96,7 +112,7 @@ fn bytes_that_are_no_track_end_a_command_with_data_check(rt: HostRuntime) -> Res
     let t = TrackNo::new(0).ok_or("track")?;
     let mut volume = MemVolume::new(alloc, 1, &[], &[])?;
     volume.spoil(t, &[0; 3]);
-    let mut sub = subsystem(alloc, d, volume)?;
+    let mut sub = subsystem(alloc, d, volume, plans(alloc)?)?;
     let events = [Event::Start(path, d), Event::Step(d), Event::Step(d)];
     assert_eq!(rt; ends_of(alloc, &mut sub, &events)?, Some(3));
     assert_eq!(rt; last_end(&sub, d)?, (0x0e, 16, Some(8)));
@@ -110,7 +126,8 @@ fn events_come_one_after_another(rt: HostRuntime) -> Result<(), Fail> {
     let alloc = rt.alloc();
     let d = DeviceNo::new(5).ok_or("device")?;
     let path = PathNo::new(1).ok_or("path")?;
-    let mut sub = subsystem(alloc, d, MemVolume::new(alloc, 1, &[], &[])?)?;
+    let volume = MemVolume::new(alloc, 1, &[], &[])?;
+    let mut sub = subsystem(alloc, d, volume, plans(alloc)?)?;
     let events = [
         Event::Start(path, d),
         Event::Step(d),

@@ -2,6 +2,7 @@ pub mod Numbers
 pub mod Found
 pub mod Seating
 pub mod Sweeping
+pub mod Hearing
 pub mod Deeds
 pub mod Coming
 pub mod Pairing

@@ -2,7 +2,9 @@
 use Rattle.std.proofs.Common.{◌≡◌, ◌∙◌, ◌==◌, ◌*◌, ℕ, Bool, true, false, List, Option, Some, None, is_some, refl, sym, ap, subst}
 use Rattle.std.specs.Prelude.{IfSome}
 use Rattle.std.proofs.lemmas.Bool.{eqb-true}
+use Rattle.track_image.specs.Image.{Image}
 use Rattle.device_outside.specs.declared.volume.Volume.{Ghosts}
+use Rattle.device_outside.specs.Keeper.{Hearing}
 use Rattle.device_defs.specs.Contents.{contents}
 use Rattle.frame_pool.specs.Shared.{Shared}
 use Rattle.device_store.specs.State.{on_a}
@@ -15,7 +17,7 @@ use Rattle.subsystem_defs.specs.declared.event.Event.TheVariants as events
 use Rattle.subsystem_defs.proofs.Unrefused.{MayPair, may_pair}
 use Rattle.subsystem_core.specs.declared.subsystem.Subsystem.{Subsystem}
 use Rattle.subsystem_core.specs.declared.end.EventEnd.TheVariants as ends
-use Rattle.subsystem_core.specs.Comes.{Came, Changes, IsSame, Joins}
+use Rattle.subsystem_core.specs.Comes.{CameKept, Changes, IsSame, JoinsKept}
 use Rattle.subsystem_core.specs.Devices.{device_at, put_at}
 use Rattle.subsystem_core.specs.Pairs.{HasPairFault, IsJoined, IsLent}
 use Rattle.subsystem_core.proofs.Coming.{became_pair, ended}
@@ -67,9 +69,10 @@ module _ {V : Type 0} {G : Ghosts V} where
     pub free : is_some first.store.pair.lent ≡ false
     pub size : (G.view volume).tracks ≡ first.store.cylinders * 15
 
+module _ {V : Type 0} {G : Ghosts V} {K : Type 0} {hears : Hearing Image K} where
   -- it is what it was
   pub may_join : (a b : ℕ) (olds mids : List (Device V G)) (volume : V) (o : Option V) (pool new : Shared) → o ≡ Some volume →
-      HasPairFault (device_at olds a) (device_at olds b) None → Changes b (IsLent a o pool new) olds mids → MayJoin volume (device_at mids a)
+      HasPairFault (device_at olds a) (device_at olds b) None → Changes b (IsLent hears a o pool new) olds mids → MayJoin volume (device_at mids a)
   may_join a b olds mids volume o pool new is free ch =
       let l = may_lend (device_at olds a) (device_at olds b) ch.before ch.stood free in
       let number_a : l.to.store.number ≡ a = number_found olds a l.to l.stands in
@@ -88,13 +91,13 @@ module _ {V : Type 0} {G : Ghosts V} where
   -- Both
 
   pub joins : (a b : ℕ) (old new : Subsystem V G) (mids : List (Device V G)) (pool : Shared) (volume : V) (o : Option V) → o ≡ Some volume →
-      Changes b (IsLent a o old.pool pool) old.devices.items mids → new.pool ≡ pool → Changes a (IsJoined volume) mids new.devices.items →
-      IfSome (device_at old.devices.items b) (λ y. Joins a b (device_of y) old new)
+      Changes b (IsLent hears a o old.pool pool) old.devices.items mids → new.pool ≡ pool → Changes a (IsJoined volume) mids new.devices.items →
+      IfSome (device_at old.devices.items b) (λ y. JoinsKept hears a b (device_of y) old new)
   joins a b old new mids pool volume o is lent same ch =
-      let l : Changes b (IsLent a (Some volume) old.pool new.pool) old.devices.items mids =
-      subst (λ (p : Shared). Changes b (IsLent a (Some volume) old.pool p) old.devices.items mids) (sym same)
-      (subst (λ (v : Option V). Changes b (IsLent a v old.pool pool) old.devices.items mids) is lent) in
-      let j : Joins a b (device_of l.before) old new = record {
+      let l : Changes b (IsLent hears a (Some volume) old.pool new.pool) old.devices.items mids =
+      subst (λ (p : Shared). Changes b (IsLent hears a (Some volume) old.pool p) old.devices.items mids) (sym same)
+      (subst (λ (v : Option V). Changes b (IsLent hears a v old.pool pool) old.devices.items mids) is lent) in
+      let j : JoinsKept hears a b (device_of l.before) old new = record {
         before = l.before;
         behind = l.behind;
         first = ch.before;
@@ -109,22 +112,25 @@ module _ {V : Type 0} {G : Ghosts V} where
         b = ch.is_so.b;
         stands = ch.stands ∙ ap (λ (ds : List (Device V G)). put_at ds a ch.behind) l.stands;
       } in
-      subst (λ (p : Option (Device V G)). IfSome p (λ y. Joins a b (device_of y) old new)) (sym l.stood) j
+      subst (λ (p : Option (Device V G)). IfSome p (λ y. JoinsKept hears a b (device_of y) old new)) (sym l.stood) j
 
+module _ {V : Type 0} {G : Ghosts V} {K : Type 0} (hears : Hearing Image K) (k : K) where
   -- The event
 
   pub pair_refused : (a b : ℕ) (old new : Subsystem V G) (o p : Option (Device V G)) (fault : OrderFault) → device_at old.devices.items a ≡ o →
-      device_at old.devices.items b ≡ p → HasPairFault o p (Some fault) → IsSame old new → Came (events.Pair a b) old (Some (ends.Refused fault)) new
+      device_at old.devices.items b ≡ p → HasPairFault o p (Some fault) → IsSame old new →
+      CameKept hears (events.Pair a b) old k (Some (ends.Refused fault)) new k
   pair_refused a b old new (Some x) (Some y) fault first second is same =
-      ended old new (events.Pair a b) (answers.Refused fault) (ends.Refused fault)
+      ended hears k old new (events.Pair a b) (answers.Refused fault) (ends.Refused fault)
       (deeds.pair_refused contents _ _ a b _ _ (found_in old.devices.items a x first) (found_in old.devices.items b y second) fault is) (λ h. refl) same
   pair_refused a b old new (Some x) None fault first second is same = absurd is
   pair_refused a b old new None p fault first second is same = absurd is
 
-  pub pair_done : (a b : ℕ) (old new : Subsystem V G) (o p : Option (Device V G)) → device_at old.devices.items a ≡ o → device_at old.devices.items b ≡ p →
-      HasPairFault o p None → IfSome p (λ y. Joins a b (device_of y) old new) → Came (events.Pair a b) old (Some ends.Done) new
+  pub pair_done : (a b : ℕ) (old new : Subsystem V G) (o p : Option (Device V G)) → device_at old.devices.items a ≡ o →
+      device_at old.devices.items b ≡ p → HasPairFault o p None →
+      IfSome p (λ y. JoinsKept hears a b (device_of y) old new) → CameKept hears (events.Pair a b) old k (Some ends.Done) new k
   pair_done a b old new (Some x) (Some y) first second is so =
-      became_pair old new (events.Pair a b) a b x y first second
+      became_pair hears k old new (events.Pair a b) a b x y first second
       (deeds.paired contents _ _ a b _ _ (found_in old.devices.items a x first) (found_in old.devices.items b y second) is) so
   pair_done a b old new (Some x) None first second is so = absurd is
   pair_done a b old new None p first second is so = absurd is

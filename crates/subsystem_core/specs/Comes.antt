@@ -7,7 +7,7 @@ use Rattle.track_image.specs.Image.{Image}
 use Rattle.device_outside.specs.declared.keep.NoKeep.{NoKeep}
 use Rattle.device_outside.specs.declared.volume.Volume.{Ghosts}
 use Rattle.device_outside.specs.Interaction.{Interaction}
-use Rattle.device_outside.specs.Keeper.{reply}
+use Rattle.device_outside.specs.Keeper.{Hearing}
 use Rattle.device_outside.specs.Outside.{Ran}
 use Rattle.device_outside.specs.Pool.{Pool}
 use Rattle.frame_pool.specs.Shared.{Shared, shared_view}
@@ -29,6 +29,7 @@ use Rattle.subsystem_core.specs.declared.end.EventEnd.{EventEnd}
 use Rattle.subsystem_core.specs.declared.subsystem.Subsystem.{Subsystem}
 use Rattle.subsystem_core.specs.Devices.{devices_of, device_at, put_at, volumes_of}
 use Rattle.subsystem_core.specs.Ends.{end_had, where_some, Answers}
+use Rattle.subsystem_core.specs.Keepers.{hears_none}
 
 abbrev pub OwnDeed : Type 0
 OwnDeed = Deed Frame Stored Image (List ℕ)
@@ -42,11 +43,14 @@ with_pool s pool = record s { pool = pool }
 module _ {V : Type 0} {G : Ghosts V} where
   -- Devices
 
-  -- a device ran this between what the pool tells, its volume tells and a keeper that keeps nothing
+  -- a device ran this between what the pool tells, its volumes tell and a keeper hears
+  abbrev pub AskedKept : {K A : Type 0} → Hearing Image K → (Bool → Type 0) → Talk A → A → Shared → K → Device V G → Device V G → Shared → K → Type 0
+  AskedKept hears had talk answer pool keep before behind new kept =
+      Ran had hears talk (outside (shared_view pool) before.store keep) (device_of behind) answer (outside (shared_view new) behind.store kept)
+
+  -- the same with a keeper that keeps nothing
   abbrev pub AskedWith : {A : Type 0} → (Bool → Type 0) → Talk A → A → Shared → Device V G → Device V G → Shared → Type 0
-  AskedWith had talk answer pool before behind new =
-      (k : NoKeep) → Ran had (λ _ m r _. r ≡ reply m) talk (outside (shared_view pool) before.store k) (device_of behind) answer (outside
-      (shared_view new) behind.store k)
+  AskedWith had talk answer pool before behind new = (k : NoKeep) → AskedKept hears_none had talk answer pool k before behind new k
 
   -- one device is another now, which is so to it; all others, and their volumes, are as they were
   pub record Changes (n : ℕ) (how : Device V G → Device V G → Type 0) (old new : List (Device V G)) : Type 0 where
@@ -68,11 +72,26 @@ module _ {V : Type 0} {G : Ghosts V} where
   StartsBy path (Ok n) before behind = (n ≡ next_ordinal (device_of before) path) × IsNow (start (device_of before) path) before behind
   StartsBy path (Err e) before behind = IsStill before behind
 
-  -- each device in its turn ran this, and the pool went on from one to the next
-  pub data Swept (f : DefinedDevice → Talk (Unit {0})) : Shared → List (Device V G) → List (Device V G) → Shared → Type 0 where
-    over : {pool : Shared} → Swept f pool [] [] pool
-    next : {pool behind last : Shared} {x y : Device V G} {xs ys : List (Device V G)} → AskedWith surely (f (device_of x)) tt pool x y behind →
-        Swept f behind xs ys last → Swept f pool (x ∷ xs) (y ∷ ys) last
+  -- each device in its turn became another, and what they share went on from one to the next
+  pub data SweptBy {S : Type 0} (how : S → Device V G → Device V G → S → Type 0) : S → List (Device V G) → List (Device V G) → S → Type 0 where
+    over : {pool : S} → SweptBy how pool [] [] pool
+    next : {pool behind last : S} {x y : Device V G} {xs ys : List (Device V G)} → how pool x y behind → SweptBy how behind xs ys last →
+        SweptBy how pool (x ∷ xs) (y ∷ ys) last
+
+  abbrev pub SweepsOne : (DefinedDevice → Talk (Unit {0})) → Shared → Device V G → Device V G → Shared → Type 0
+  SweepsOne f pool before behind new = AskedWith surely (f (device_of before)) tt pool before behind new
+
+  -- each ran this, and the pool went on
+  abbrev pub Swept : (DefinedDevice → Talk (Unit {0})) → Shared → List (Device V G) → List (Device V G) → Shared → Type 0
+  Swept f = SweptBy (SweepsOne f)
+
+  abbrev pub SweepsKept : {K : Type 0} → Hearing Image K → (DefinedDevice → Talk (Unit {0})) → Shared × K → Device V G → Device V G → Shared × K → Type 0
+  SweepsKept hears f old before behind new = AskedKept hears surely (f (device_of before)) tt old.0 old.1 before behind new.0 new.1
+
+  -- the same with a keeper, which went on too
+  abbrev pub SweptKept : {K : Type 0} → Hearing Image K → (DefinedDevice → Talk (Unit {0})) → Shared → K → List (Device V G) → List (Device V G) → Shared →
+      K → Type 0
+  SweptKept hears f pool keep xs ys new kept = SweptBy (SweepsKept hears f) (pool, keep) xs ys (new, kept)
 
   -- Events
 
@@ -85,25 +104,33 @@ module _ {V : Type 0} {G : Ghosts V} where
       Answers (Some a) end × (new.pool ≡ old.pool) × Changes d.store.device (IsNow d) old.devices.items new.devices.items
   BecameBy d end old None new = (new.pool ≡ old.pool) × Changes d.store.device IsStill old.devices.items new.devices.items
 
+  abbrev pub AskedKeptBy : {K : Type 0} → Hearing Image K → Talk (Option defs.EventEnd) → Subsystem V G → K → Option EventEnd → Subsystem V G → K →
+      Device V G → Device V G → Type 0
+  AskedKeptBy hears talk old keep a new kept before behind =
+      AskedKept hears (where_some a) talk (end_had behind.past a) old.pool keep before behind new.pool kept
+
   abbrev pub AskedBy : Talk (Option defs.EventEnd) → Subsystem V G → Option EventEnd → Subsystem V G → Device V G → Device V G → Type 0
   AskedBy talk old a new before behind = AskedWith (where_some a) talk (end_had behind.past a) old.pool before behind new.pool
 
-  -- the device of that number lends its volume, which becomes side B of the other
-  pub record Joins (to from : ℕ) (y : DefinedDevice) (old new : Subsystem V G) : Type 0 where
+  -- the device of that number lends its volume, of which no keeper hears, and it becomes side B of the other
+  pub record JoinsKept {K : Type 0} (hears : Hearing Image K) (to from : ℕ) (y : DefinedDevice) (old new : Subsystem V G) : Type 0 where
     pub before : Device V G
     pub behind : Device V G
     pub first : Device V G
     pub second : Device V G
     pub volume : V
     pub stood : device_at old.devices.items from ≡ Some before
-    pub asked : (k : NoKeep) → Ran surely (λ _ m r _. r ≡ reply m) (lend contents y to) (outside (shared_view old.pool) before.store k) (device_of
-        behind) tt (record (outside (shared_view new.pool) behind.store k) { a = Some (G.view volume) })
+    pub asked : (k : K) → Ran surely hears (lend contents y to) (outside (shared_view old.pool) before.store k) (device_of behind) tt
+        (record (outside (shared_view new.pool) behind.store k) { a = Some (G.view volume) })
     pub gone : on_a behind.store ≡ None
     pub other : device_at (put_at old.devices.items from behind) to ≡ Some first
     pub joined : device_of second ≡ join (device_of first)
     pub a : on_a second.store ≡ on_a first.store
     pub b : on_b second.store ≡ Some volume
     pub stands : new.devices.items ≡ put_at (put_at old.devices.items from behind) to second
+
+  abbrev pub Joins : ℕ → ℕ → DefinedDevice → Subsystem V G → Subsystem V G → Type 0
+  Joins = JoinsKept hears_none
 
   abbrev pub CameBy : OwnDeed → Subsystem V G → Option EventEnd → Subsystem V G → Type 0
   CameBy (Ends end) old a new = Answers a end × IsSame old new
@@ -116,6 +143,19 @@ module _ {V : Type 0} {G : Ghosts V} where
   -- an event came, with this answer
   abbrev pub Came : Event → Subsystem V G → Option EventEnd → Subsystem V G → Type 0
   Came e old a new = CameBy (deed contents old.pool.pool (devices_of old.devices.items) e) old a new
+
+  -- The same with a keeper. Where no device is asked it hears nothing
+
+  abbrev pub CameKeptBy : {K : Type 0} → Hearing Image K → OwnDeed → Subsystem V G → K → Option EventEnd → Subsystem V G → K → Type 0
+  CameKeptBy hears (Asks d talk) old keep a new kept =
+      Changes d.store.device (AskedKeptBy hears talk old keep a new kept) old.devices.items new.devices.items
+  CameKeptBy hears (Each pool f) old keep a new kept =
+      Answers a Done × SweptKept hears f (with_pool old.pool pool) keep old.devices.items new.devices.items new.pool kept
+  CameKeptBy hears (Lends x y) old keep a new kept = Answers a Done × JoinsKept hears x.store.device y.store.device y old new × (kept ≡ keep)
+  CameKeptBy hears d old keep a new kept = CameBy d old a new × (kept ≡ keep)
+
+  abbrev pub CameKept : {K : Type 0} → Hearing Image K → Event → Subsystem V G → K → Option EventEnd → Subsystem V G → K → Type 0
+  CameKept hears e old keep a new kept = CameKeptBy hears (deed contents old.pool.pool (devices_of old.devices.items) e) old keep a new kept
 
   -- The orders for which a volume is handed in
 

@@ -1,8 +1,8 @@
 -- What the parts of an order do that makes a pair or takes it apart.
 use Rattle.std.specs.Prelude.{◌≡◌, ◌<◌, ℕ, ◌*◌, true, false, List, length, slice_get, Option, Some, None, option_map}
-use Rattle.device_outside.specs.declared.keep.NoKeep.{NoKeep}
+use Rattle.track_image.specs.Image.{Image}
 use Rattle.device_outside.specs.declared.volume.Volume.{Ghosts}
-use Rattle.device_outside.specs.Keeper.{reply}
+use Rattle.device_outside.specs.Keeper.{Hearing}
 use Rattle.device_outside.specs.Outside.{Ran}
 use Rattle.frame_pool.specs.Shared.{Shared, shared_view}
 use Rattle.device_defs.specs.Contents.{contents}
@@ -21,10 +21,10 @@ module _ {V : Type 0} {G : Ghosts V} where
   HasPairFault (Some x) None fault = ⊥
   HasPairFault None y fault = ⊥
 
-  -- its volume has left for the pair of another device
-  pub record IsLent (to : ℕ) (volume : Option V) (pool new : Shared) (before behind : Device V G) : Type 0 where
-    pub asked : (k : NoKeep) → Ran surely (λ _ m r _. r ≡ reply m) (lend contents (device_of before) to) (outside (shared_view pool) before.store k)
-        (device_of behind) tt (record (outside (shared_view new) behind.store k) { a = option_map G.view volume })
+  -- its volume has left for the pair of another device, whatever hears of it
+  pub record IsLent {K : Type 0} (hears : Hearing Image K) (to : ℕ) (volume : Option V) (pool new : Shared) (before behind : Device V G) : Type 0 where
+    pub asked : (k : K) → Ran surely hears (lend contents (device_of before) to) (outside (shared_view pool) before.store k) (device_of behind) tt
+        (record (outside (shared_view new) behind.store k) { a = option_map G.view volume })
     pub number : behind.store.number ≡ before.store.number
     pub gone : on_a behind.store ≡ None
     pub volume_is : volume ≡ on_a before.store

@@ -1,4 +1,4 @@
-ghost use Rattle.std.specs.Prelude.{◌≡◌, IfOk, IfSome, IsSome, None, OnErr, Some, false, is_some, true};
+ghost use Rattle.std.specs.Prelude.{◌≡◌, ◌<◌, ◌*◌, IfOk, IfSome, IsSome, None, OnErr, Some, false, is_some, true};
 ghost use Rattle.device_outside.specs.Lists.{is_in};
 ghost use Rattle.device_outside.specs.Outside.{where_ok};
 ghost use Rattle.plain_defs.specs.History.{is_path_of};
@@ -7,19 +7,24 @@ ghost use Rattle.device_defs.specs.Command.{command};
 ghost use Rattle.device_defs.specs.Contents.{contents};
 ghost use Rattle.device_defs.specs.Cutting.{reset};
 ghost use Rattle.device_defs.specs.Events.{background, lose, second};
+ghost use Rattle.device_defs.specs.Peek.{peek};
 ghost use Rattle.device_defs.specs.Start.{start_fault};
-ghost use Rattle.device_store.specs.State.{had, surely};
+ghost use Rattle.device_store.specs.Looks.{peeked_by, IsPeeked};
+ghost use Rattle.device_store.specs.State.{had, state_of, surely, Takes};
 ghost use Rattle.device_core.specs.Starting.{fault_told};
 ghost use Rattle.device_core.specs.State.{device_of, second_seen, step_had};
-ghost use Rattle.subsystem_core.specs.Comes.{AskedWith, Changes, StartsBy};
+ghost use Rattle.subsystem_core.specs.Comes.{AskedKept, Changes, StartsBy};
 ghost use Rattle.subsystem_core.specs.Devices.{device_at, numbers_of};
+ghost use Rattle.subsystem_core.specs.Keepers.{spans_of};
 
 use crate::Subsystem;
-use ckd_types::{DeviceNo, NoMemory, PathNo};
+use ckd_types::{DeviceNo, NoMemory, PathNo, TrackNo};
 use device_core::{NotStarted, SecondStep, Stepped};
 use device_defs::Did;
-use device_outside::Volume;
+use device_outside::{Keep, Volume};
+use device_store::Peeked;
 use loss_model::Loss;
+use track_image::TrackImage;
 
 /// A start that wasn't refused.
 fn not_refused(outcome: Result<u16, NotStarted>) -> Result<u16, NoMemory>
@@ -40,7 +45,7 @@ impl<V: Volume> Subsystem<V> {
         requires here { is_in d (numbers_of self.old.devices.items) ≡ true }
         requires idle { IfSome (device_at self.old.devices.items d) (λ x. is_path_of (device_of x).history.running path ≡ false) }
         requires free { IfSome (device_at self.old.devices.items d) (λ x. start_fault (device_of x) path ≡ None) }
-        ensures numbers { numbers_of self.new.devices.items ≡ numbers_of self.old.devices.items }
+        ensures spans { spans_of self.new.devices.items ≡ spans_of self.old.devices.items }
         ensures pool { self.new.pool ≡ self.old.pool }
         ensures done { Changes d (StartsBy path result) self.old.devices.items self.new.devices.items }
     {
@@ -49,57 +54,89 @@ impl<V: Volume> Subsystem<V> {
         not_refused(outcome)
     }
 
-    pub(crate) fn command_at(&mut self, d: DeviceNo) -> Result<Stepped, NoMemory>
+    pub(crate) fn command_at<K: Keep<TrackImage>>(
+        &mut self,
+        d: DeviceNo,
+        keep: &mut K,
+    ) -> Result<Stepped, NoMemory>
         requires here { is_in d (numbers_of self.old.devices.items) ≡ true }
         requires running { IfSome (device_at self.old.devices.items d) (λ x. IsSome x.past.running) }
         requires whole { IfSome (device_at self.old.devices.items d) (λ x. is_some (device_of x).store.half ≡ false) }
-        ensures numbers { numbers_of self.new.devices.items ≡ numbers_of self.old.devices.items }
-        ensures asked { Changes d (λ x y. AskedWith (where_ok result) (command contents (device_of x)) (step_had y.past result) self.old.pool x y
-            self.new.pool) self.old.devices.items self.new.devices.items }
+        requires takes { IfSome (device_at self.old.devices.items d) (λ x. Takes K.takes keep.old x.store.number (x.store.cylinders * 15)) }
+        ensures spans { spans_of self.new.devices.items ≡ spans_of self.old.devices.items }
+        ensures asked { Changes d (λ x y. AskedKept K.hears (where_ok result) (command contents (device_of x)) (step_had y.past result)
+            self.old.pool keep.old x y self.new.pool keep.new) self.old.devices.items self.new.devices.items }
     {
         let at = self.place(d);
-        self.devices[at].command(&mut self.pool)
+        self.devices[at].command_with(&mut self.pool, keep)
     }
 
-    pub(crate) fn second_at(&mut self, d: DeviceNo) -> SecondStep
-        requires { is_in d (numbers_of self.old.devices.items) ≡ true }
-        ensures numbers { numbers_of self.new.devices.items ≡ numbers_of self.old.devices.items }
+    pub(crate) fn second_at<K: Keep<TrackImage>>(&mut self, d: DeviceNo, keep: &mut K) -> SecondStep
+        requires here { is_in d (numbers_of self.old.devices.items) ≡ true }
+        requires takes { IfSome (device_at self.old.devices.items d) (λ x. Takes K.takes keep.old x.store.number (x.store.cylinders * 15)) }
+        ensures spans { spans_of self.new.devices.items ≡ spans_of self.old.devices.items }
         ensures asked { Changes d (λ x y. IsSome (second_seen y.past result)
             × ((e : SecondEnd) → second_seen y.past result ≡ Some e
-            → AskedWith surely (second contents (device_of x)) e self.old.pool x y self.new.pool)) self.old.devices.items self.new.devices.items }
+            → AskedKept K.hears surely (second contents (device_of x)) e self.old.pool keep.old x y self.new.pool keep.new))
+            self.old.devices.items self.new.devices.items }
     {
         let at = self.place(d);
-        self.devices[at].second(&mut self.pool)
+        self.devices[at].second_with(&mut self.pool, keep)
     }
 
-    pub(crate) fn background_at(&mut self, d: DeviceNo) -> Result<Did, NoMemory>
+    pub(crate) fn background_at<K: Keep<TrackImage>>(
+        &mut self,
+        d: DeviceNo,
+        keep: &mut K,
+    ) -> Result<Did, NoMemory>
         requires whole { IfSome (device_at self.old.devices.items d) (λ x. is_some (device_of x).store.half ≡ false) }
         requires here { is_in d (numbers_of self.old.devices.items) ≡ true }
-        ensures numbers { numbers_of self.new.devices.items ≡ numbers_of self.old.devices.items }
-        ensures asked { Changes d (λ x y. AskedWith (where_ok result) (background contents (device_of x)) (had (λ did. did) result) self.old.pool x y
-            self.new.pool) self.old.devices.items self.new.devices.items }
+        requires takes { IfSome (device_at self.old.devices.items d) (λ x. Takes K.takes keep.old x.store.number (x.store.cylinders * 15)) }
+        ensures spans { spans_of self.new.devices.items ≡ spans_of self.old.devices.items }
+        ensures asked { Changes d (λ x y. AskedKept K.hears (where_ok result) (background contents (device_of x)) (had (λ did. did) result)
+            self.old.pool keep.old x y self.new.pool keep.new) self.old.devices.items self.new.devices.items }
     {
         let at = self.place(d);
-        self.devices[at].background(&mut self.pool)
+        self.devices[at].background_with(&mut self.pool, keep)
     }
 
-    pub(crate) fn reset_at(&mut self, path: PathNo, d: DeviceNo)
-        requires { is_in d (numbers_of self.old.devices.items) ≡ true }
-        ensures numbers { numbers_of self.new.devices.items ≡ numbers_of self.old.devices.items }
-        ensures asked { Changes d (λ x y. AskedWith surely (reset contents (device_of x) path) tt self.old.pool x y self.new.pool)
+    pub(crate) fn reset_at<K: Keep<TrackImage>>(&mut self, path: PathNo, d: DeviceNo, keep: &mut K)
+        requires here { is_in d (numbers_of self.old.devices.items) ≡ true }
+        requires takes { IfSome (device_at self.old.devices.items d) (λ x. Takes K.takes keep.old x.store.number (x.store.cylinders * 15)) }
+        ensures spans { spans_of self.new.devices.items ≡ spans_of self.old.devices.items }
+        ensures asked { Changes d (λ x y. AskedKept K.hears surely (reset contents (device_of x) path) tt self.old.pool keep.old x y self.new.pool keep.new)
             self.old.devices.items self.new.devices.items }
     {
         let at = self.place(d);
-        self.devices[at].reset(path);
+        self.devices[at].reset_with(path, keep);
     }
 
-    pub(crate) fn lose_at(&mut self, d: DeviceNo, loss: Loss)
-        requires { is_in d (numbers_of self.old.devices.items) ≡ true }
-        ensures numbers { numbers_of self.new.devices.items ≡ numbers_of self.old.devices.items }
-        ensures asked { Changes d (λ x y. AskedWith surely (lose contents (device_of x) loss) tt self.old.pool x y self.new.pool)
+    pub(crate) fn lose_at<K: Keep<TrackImage>>(&mut self, d: DeviceNo, loss: Loss, keep: &mut K)
+        requires here { is_in d (numbers_of self.old.devices.items) ≡ true }
+        requires takes { IfSome (device_at self.old.devices.items d) (λ x. Takes K.takes keep.old x.store.number (x.store.cylinders * 15)) }
+        ensures spans { spans_of self.new.devices.items ≡ spans_of self.old.devices.items }
+        ensures asked { Changes d (λ x y. AskedKept K.hears surely (lose contents (device_of x) loss) tt self.old.pool keep.old x y self.new.pool keep.new)
             self.old.devices.items self.new.devices.items }
     {
         let at = self.place(d);
-        self.devices[at].lose(loss, &mut self.pool);
+        self.devices[at].lose_with(loss, &mut self.pool, keep);
+    }
+
+    pub(crate) fn peek_at<K: Keep<TrackImage>>(
+        &mut self,
+        d: DeviceNo,
+        t: TrackNo,
+        keep: &mut K,
+    ) -> Result<Peeked, NoMemory>
+        requires here { is_in d (numbers_of self.old.devices.items) ≡ true }
+        requires track { IfSome (device_at self.old.devices.items d) (λ x. t < x.store.cylinders * 15) }
+        requires takes { IfSome (device_at self.old.devices.items d) (λ x. Takes K.takes keep.old x.store.number (x.store.cylinders * 15)) }
+        ensures spans { spans_of self.new.devices.items ≡ spans_of self.old.devices.items }
+        ensures asked { Changes d (λ x y. IfOk result (IsPeeked (state_of y.store) t) × AskedKept K.hears (where_ok result)
+            (peek contents (device_of x) t) (had (peeked_by (state_of y.store) t) result) self.old.pool keep.old x y self.new.pool keep.new)
+            self.old.devices.items self.new.devices.items }
+    {
+        let at = self.place(d);
+        self.devices[at].peek_with(t, &mut self.pool, keep)
     }
 }

@@ -1,18 +1,21 @@
-ghost use Rattle.std.specs.Prelude.{◌≡◌, Some, true};
+ghost use Rattle.std.specs.Prelude.{◌≡◌, ◌*◌, IfSome, Some, true};
 ghost use Rattle.device_outside.specs.Lists.{is_in};
+ghost use Rattle.device_store.specs.State.{Takes};
 ghost use Rattle.device_core.specs.State.{device_of};
 ghost use Rattle.subsystem_defs.specs.Deeds.{is_own};
-ghost use Rattle.subsystem_core.specs.Comes.{Came};
-ghost use Rattle.subsystem_core.specs.Devices.{numbers_of};
+ghost use Rattle.subsystem_core.specs.Comes.{CameKept};
+ghost use Rattle.subsystem_core.specs.Devices.{device_at, numbers_of};
 ghost use Rattle.subsystem_core.specs.Ends.{answer_of};
+ghost use Rattle.subsystem_core.specs.Keepers.{spans_of, GoesOnTaking, TakesAll};
 
 use crate::refusal::{fail_fault, resume_fault, suspend_fault};
 use crate::{EventEnd, Subsystem};
 use ckd_types::{DeviceNo, NoMemory, PathNo, Side};
 use device_core::Device;
-use device_outside::Volume;
+use device_outside::{Keep, Volume};
 use loss_model::Loss;
 use subsystem_defs::{Event, OrderFault};
+use track_image::TrackImage;
 
 /// Whether the program that runs is the path's own.
 fn is_own<V: Volume>(path: PathNo, device: &Device<V>) -> bool
@@ -27,10 +30,14 @@ fn is_own<V: Volume>(path: PathNo, device: &Device<V>) -> bool
 /// The events of one device. Its number is that of a device of the subsystem.
 impl<V: Volume> Subsystem<V> {
     /// Starts the path's next program.
-    pub fn start(&mut self, path: PathNo, d: DeviceNo) -> Result<EventEnd, NoMemory>
+    pub(crate) fn start<K: Keep<TrackImage>>(
+        &mut self,
+        path: PathNo,
+        d: DeviceNo,
+    ) -> Result<EventEnd, NoMemory>
         requires { is_in d (numbers_of self.old.devices.items) ≡ true }
-        ensures numbers { numbers_of self.new.devices.items ≡ numbers_of self.old.devices.items }
-        ensures came { Came (Event.Start path d) self.old (answer_of result) self.new }
+        ensures spans { spans_of self.new.devices.items ≡ spans_of self.old.devices.items }
+        ensures came { (k : K) → CameKept K.hears (Event.Start path d) self.old k (answer_of result) self.new k }
     {
         let device = self.device(d);
         if is_own(path, device) {
@@ -46,68 +53,90 @@ impl<V: Volume> Subsystem<V> {
     }
 
     /// One command of the running program, or the second part of an open half write.
-    pub fn step(&mut self, d: DeviceNo) -> Result<EventEnd, NoMemory>
-        requires { is_in d (numbers_of self.old.devices.items) ≡ true }
-        ensures numbers { numbers_of self.new.devices.items ≡ numbers_of self.old.devices.items }
-        ensures came { Came (Event.Step d) self.old (answer_of result) self.new }
+    pub(crate) fn step<K: Keep<TrackImage>>(
+        &mut self,
+        d: DeviceNo,
+        keep: &mut K,
+    ) -> Result<EventEnd, NoMemory>
+        requires here { is_in d (numbers_of self.old.devices.items) ≡ true }
+        requires takes { IfSome (device_at self.old.devices.items d) (λ x. Takes K.takes keep.old x.store.number (x.store.cylinders * 15)) }
+        ensures spans { spans_of self.new.devices.items ≡ spans_of self.old.devices.items }
+        ensures came { CameKept K.hears (Event.Step d) self.old keep.old (answer_of result) self.new keep.new }
     {
         let device = self.device(d);
         if device.half_open() {
-            return Ok(EventEnd::Second(self.second_at(d)));
+            return Ok(EventEnd::Second(self.second_at(d, keep)));
         }
         match device.active() {
             None => return Ok(EventEnd::Idle),
             Some(_) => (),
         }
-        match self.command_at(d) {
+        match self.command_at(d, keep) {
             Err(NoMemory) => Err(NoMemory),
             Ok(step) => Ok(EventEnd::Stepped(step)),
         }
     }
 
     /// One piece of work in the background, or the second part of an open half write.
-    pub fn back(&mut self, d: DeviceNo) -> Result<EventEnd, NoMemory>
-        requires { is_in d (numbers_of self.old.devices.items) ≡ true }
-        ensures numbers { numbers_of self.new.devices.items ≡ numbers_of self.old.devices.items }
-        ensures came { Came (Event.Back d) self.old (answer_of result) self.new }
+    pub(crate) fn back<K: Keep<TrackImage>>(
+        &mut self,
+        d: DeviceNo,
+        keep: &mut K,
+    ) -> Result<EventEnd, NoMemory>
+        requires here { is_in d (numbers_of self.old.devices.items) ≡ true }
+        requires takes { IfSome (device_at self.old.devices.items d) (λ x. Takes K.takes keep.old x.store.number (x.store.cylinders * 15)) }
+        ensures spans { spans_of self.new.devices.items ≡ spans_of self.old.devices.items }
+        ensures came { CameKept K.hears (Event.Back d) self.old keep.old (answer_of result) self.new keep.new }
     {
         if self.device(d).half_open() {
-            return Ok(EventEnd::Second(self.second_at(d)));
+            return Ok(EventEnd::Second(self.second_at(d, keep)));
         }
-        match self.background_at(d) {
+        match self.background_at(d, keep) {
             Err(NoMemory) => Err(NoMemory),
             Ok(did) => Ok(EventEnd::Back(did)),
         }
     }
 
     /// The reset of a path.
-    pub fn reset(&mut self, path: PathNo, d: DeviceNo) -> EventEnd
-        requires { is_in d (numbers_of self.old.devices.items) ≡ true }
-        ensures numbers { numbers_of self.new.devices.items ≡ numbers_of self.old.devices.items }
-        ensures came { Came (Event.Reset path d) self.old (Some result) self.new }
+    pub(crate) fn reset<K: Keep<TrackImage>>(
+        &mut self,
+        path: PathNo,
+        d: DeviceNo,
+        keep: &mut K,
+    ) -> EventEnd
+        requires here { is_in d (numbers_of self.old.devices.items) ≡ true }
+        requires takes { IfSome (device_at self.old.devices.items d) (λ x. Takes K.takes keep.old x.store.number (x.store.cylinders * 15)) }
+        ensures spans { spans_of self.new.devices.items ≡ spans_of self.old.devices.items }
+        ensures came { CameKept K.hears (Event.Reset path d) self.old keep.old (Some result) self.new keep.new }
     {
-        self.reset_at(path, d);
+        self.reset_at(path, d, keep);
         EventEnd::Done
     }
 
     /// The loss of a side.
-    pub fn fail_volume(&mut self, d: DeviceNo, side: Side) -> EventEnd
-        requires { is_in d (numbers_of self.old.devices.items) ≡ true }
-        ensures numbers { numbers_of self.new.devices.items ≡ numbers_of self.old.devices.items }
-        ensures came { Came (Event.FailVolume d side) self.old (Some result) self.new }
+    pub(crate) fn fail_volume<K: Keep<TrackImage>>(
+        &mut self,
+        d: DeviceNo,
+        side: Side,
+        keep: &mut K,
+    ) -> EventEnd
+        requires here { is_in d (numbers_of self.old.devices.items) ≡ true }
+        requires takes { IfSome (device_at self.old.devices.items d) (λ x. Takes K.takes keep.old x.store.number (x.store.cylinders * 15)) }
+        ensures spans { spans_of self.new.devices.items ≡ spans_of self.old.devices.items }
+        ensures came { CameKept K.hears (Event.FailVolume d side) self.old keep.old (Some result) self.new keep.new }
     {
         if let Some(fault) = fail_fault(self.device(d), side) {
             return EventEnd::Refused(fault);
         }
-        self.lose_at(d, Loss::Side(side));
+        self.lose_at(d, Loss::Side(side), keep);
         EventEnd::Done
     }
 
     /// Side B is held.
-    pub fn suspend(&mut self, d: DeviceNo) -> EventEnd
+    pub(crate) fn suspend<K: Keep<TrackImage>>(&mut self, d: DeviceNo) -> EventEnd
         requires { is_in d (numbers_of self.old.devices.items) ≡ true }
-        ensures numbers { numbers_of self.new.devices.items ≡ numbers_of self.old.devices.items }
-        ensures came { Came (Event.Suspend d) self.old (Some result) self.new }
+        ensures spans { spans_of self.new.devices.items ≡ spans_of self.old.devices.items }
+        ensures came { (k : K) → CameKept K.hears (Event.Suspend d) self.old k (Some result) self.new k }
     {
         if let Some(fault) = suspend_fault(self.device(d)) {
             return EventEnd::Refused(fault);
@@ -117,10 +146,10 @@ impl<V: Volume> Subsystem<V> {
     }
 
     /// Side B isn't held any more.
-    pub fn resume(&mut self, d: DeviceNo) -> EventEnd
+    pub(crate) fn resume<K: Keep<TrackImage>>(&mut self, d: DeviceNo) -> EventEnd
         requires { is_in d (numbers_of self.old.devices.items) ≡ true }
-        ensures numbers { numbers_of self.new.devices.items ≡ numbers_of self.old.devices.items }
-        ensures came { Came (Event.Resume d) self.old (Some result) self.new }
+        ensures spans { spans_of self.new.devices.items ≡ spans_of self.old.devices.items }
+        ensures came { (k : K) → CameKept K.hears (Event.Resume d) self.old k (Some result) self.new k }
     {
         if let Some(fault) = resume_fault(self.device(d)) {
             return EventEnd::Refused(fault);
@@ -133,45 +162,51 @@ impl<V: Volume> Subsystem<V> {
 /// The events of all devices. The pool comes first.
 impl<V: Volume> Subsystem<V> {
     /// The loss of the cache.
-    pub fn fail_cache(&mut self) -> EventEnd
-        ensures numbers { numbers_of self.new.devices.items ≡ numbers_of self.old.devices.items }
-        ensures came { Came Event.FailCache self.old (Some result) self.new }
+    pub(crate) fn fail_cache<K: Keep<TrackImage>>(&mut self, keep: &mut K) -> EventEnd
+        requires goes { GoesOnTaking K.hears K.takes }
+        requires takes { TakesAll K.takes keep.old self.old.devices.items }
+        ensures spans { spans_of self.new.devices.items ≡ spans_of self.old.devices.items }
+        ensures came { CameKept K.hears Event.FailCache self.old keep.old (Some result) self.new keep.new }
     {
         if !self.pool.cache_up() {
             return EventEnd::Refused(OrderFault::Down);
         }
         self.pool.fail_cache();
-        self.lose_all(Loss::Cache);
+        self.lose_all(Loss::Cache, keep);
         EventEnd::Done
     }
 
     /// The loss of the store.
-    pub fn fail_store(&mut self) -> EventEnd
-        ensures numbers { numbers_of self.new.devices.items ≡ numbers_of self.old.devices.items }
-        ensures came { Came Event.FailStore self.old (Some result) self.new }
+    pub(crate) fn fail_store<K: Keep<TrackImage>>(&mut self, keep: &mut K) -> EventEnd
+        requires goes { GoesOnTaking K.hears K.takes }
+        requires takes { TakesAll K.takes keep.old self.old.devices.items }
+        ensures spans { spans_of self.new.devices.items ≡ spans_of self.old.devices.items }
+        ensures came { CameKept K.hears Event.FailStore self.old keep.old (Some result) self.new keep.new }
     {
         if !self.pool.store_up() {
             return EventEnd::Refused(OrderFault::Down);
         }
         self.pool.fail_store();
-        self.lose_all(Loss::Store);
+        self.lose_all(Loss::Store, keep);
         EventEnd::Done
     }
 
     /// A loss of power.
-    pub fn power(&mut self) -> EventEnd
-        ensures numbers { numbers_of self.new.devices.items ≡ numbers_of self.old.devices.items }
-        ensures came { Came Event.Power self.old (Some result) self.new }
+    pub(crate) fn power<K: Keep<TrackImage>>(&mut self, keep: &mut K) -> EventEnd
+        requires goes { GoesOnTaking K.hears K.takes }
+        requires takes { TakesAll K.takes keep.old self.old.devices.items }
+        ensures spans { spans_of self.new.devices.items ≡ spans_of self.old.devices.items }
+        ensures came { CameKept K.hears Event.Power self.old keep.old (Some result) self.new keep.new }
     {
         self.pool.power();
-        self.power_all();
+        self.power_all(keep);
         EventEnd::Done
     }
 
     /// The cache is up again, unless a track waits for its recovery.
-    pub fn repair_cache(&mut self) -> EventEnd
-        ensures numbers { numbers_of self.new.devices.items ≡ numbers_of self.old.devices.items }
-        ensures came { Came Event.RepairCache self.old (Some result) self.new }
+    pub(crate) fn repair_cache<K: Keep<TrackImage>>(&mut self) -> EventEnd
+        ensures spans { spans_of self.new.devices.items ≡ spans_of self.old.devices.items }
+        ensures came { (k : K) → CameKept K.hears Event.RepairCache self.old k (Some result) self.new k }
     {
         if self.pool.cache_up() {
             return EventEnd::Refused(OrderFault::Up);
@@ -183,9 +218,9 @@ impl<V: Volume> Subsystem<V> {
     }
 
     /// The store is up again, unless a track waits for its recovery.
-    pub fn repair_store(&mut self) -> EventEnd
-        ensures numbers { numbers_of self.new.devices.items ≡ numbers_of self.old.devices.items }
-        ensures came { Came Event.RepairStore self.old (Some result) self.new }
+    pub(crate) fn repair_store<K: Keep<TrackImage>>(&mut self) -> EventEnd
+        ensures spans { spans_of self.new.devices.items ≡ spans_of self.old.devices.items }
+        ensures came { (k : K) → CameKept K.hears Event.RepairStore self.old k (Some result) self.new k }
     {
         if self.pool.store_up() {
             return EventEnd::Refused(OrderFault::Up);

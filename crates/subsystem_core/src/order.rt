@@ -5,6 +5,7 @@ ghost use Rattle.device_core.specs.State.{device_of};
 ghost use Rattle.subsystem_defs.specs.Refusals.{replace_fault};
 ghost use Rattle.subsystem_core.specs.Comes.{Changes, IsNow, IsReplaced, Replaced};
 ghost use Rattle.subsystem_core.specs.Devices.{device_at, numbers_of};
+ghost use Rattle.subsystem_core.specs.Keepers.{spans_of};
 
 use crate::refusal::replace_fault;
 use crate::{EventEnd, Subsystem};
@@ -28,7 +29,7 @@ impl<V: Volume> Subsystem<V> {
     /// Side B of a device is held.
     pub(crate) fn hold_at(&mut self, d: DeviceNo)
         requires { is_in d (numbers_of self.old.devices.items) ≡ true }
-        ensures numbers { numbers_of self.new.devices.items ≡ numbers_of self.old.devices.items }
+        ensures spans { spans_of self.new.devices.items ≡ spans_of self.old.devices.items }
         ensures pool { self.new.pool ≡ self.old.pool }
         ensures held { Changes d (λ x y. IsNow (hold (device_of x)) x y) self.old.devices.items self.new.devices.items }
     {
@@ -39,7 +40,7 @@ impl<V: Volume> Subsystem<V> {
     /// Side B of a device isn't held any more.
     pub(crate) fn resume_at(&mut self, d: DeviceNo)
         requires { is_in d (numbers_of self.old.devices.items) ≡ true }
-        ensures numbers { numbers_of self.new.devices.items ≡ numbers_of self.old.devices.items }
+        ensures spans { spans_of self.new.devices.items ≡ spans_of self.old.devices.items }
         ensures pool { self.new.pool ≡ self.old.pool }
         ensures resumed { Changes d (λ x y. IsNow (resume (device_of x)) x y) self.old.devices.items self.new.devices.items }
     {

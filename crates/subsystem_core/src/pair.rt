@@ -2,16 +2,19 @@ ghost use Rattle.std.specs.Prelude.{◌≡◌, ◌*◌, IfErr, IfOk, IfSome, Non
 ghost use Rattle.device_outside.specs.Lists.{is_in};
 ghost use Rattle.device_core.specs.State.{device_of};
 ghost use Rattle.subsystem_defs.specs.Happening.{is_lent_to};
-ghost use Rattle.subsystem_core.specs.Comes.{AreStill, Came, Changes, IsSplit, Joins, Restored, Unpaired};
+ghost use Rattle.subsystem_core.specs.Comes.{AreStill, CameKept, Changes, IsSplit, JoinsKept, Restored, Unpaired};
 ghost use Rattle.subsystem_core.specs.Devices.{device_at, numbers_of};
+ghost use Rattle.subsystem_core.specs.Keepers.{spans_of};
 ghost use Rattle.subsystem_core.specs.Pairs.{HasPairFault, IsFirstLent, IsJoined, IsLent, IsOfSize};
 
 use crate::refusal::{pair_fault, unpair_fault};
 use crate::{EventEnd, Subsystem};
 use ckd_types::{DeviceNo, NoMemory};
 use device_core::Device;
-use device_outside::Volume;
+use device_outside::{Keep, Volume};
+use frame_pool::Pool;
 use subsystem_defs::{Event, OrderFault};
+use track_image::TrackImage;
 
 fn is_lent_to<V: Volume>(device: &Device<V>, a: DeviceNo) -> bool
     ensures { result ≡ is_lent_to device.now.store.pair.lent a }
@@ -46,15 +49,15 @@ impl<V: Volume> Subsystem<V> {
         pair_fault(first, second)
     }
 
-    /// A device lends its volume.
-    fn lend_at(&mut self, d: DeviceNo, to: DeviceNo) -> Option<V>
+    /// A device lends its volume. No keeper hears of it.
+    fn lend_at<K: Keep<TrackImage>>(&mut self, d: DeviceNo, to: DeviceNo, _keep: &K) -> Option<V>
         requires here { is_in d (numbers_of self.old.devices.items) ≡ true }
         requires fine { HasPairFault (device_at self.old.devices.items to) (device_at self.old.devices.items d) None }
-        ensures numbers { numbers_of self.new.devices.items ≡ numbers_of self.old.devices.items }
-        ensures lent { Changes d (IsLent to result self.old.pool self.new.pool) self.old.devices.items self.new.devices.items }
+        ensures spans { spans_of self.new.devices.items ≡ spans_of self.old.devices.items }
+        ensures lent { Changes d (IsLent K.hears to result self.old.pool self.new.pool) self.old.devices.items self.new.devices.items }
     {
         let at = self.place(d);
-        self.devices[at].lend(to, &mut self.pool)
+        self.devices[at].lend_with::<Pool, K>(to, &mut self.pool)
     }
 
     /// A volume becomes side B of a device.
@@ -62,7 +65,7 @@ impl<V: Volume> Subsystem<V> {
         requires here { is_in d (numbers_of self.old.devices.items) ≡ true }
         requires free { IfSome (device_at self.old.devices.items d) (λ x. is_some (device_of x).store.lent ≡ false) }
         requires size { IfSome (device_at self.old.devices.items d) (λ x. (V.view volume).tracks ≡ x.store.cylinders * 15) }
-        ensures numbers { numbers_of self.new.devices.items ≡ numbers_of self.old.devices.items }
+        ensures spans { spans_of self.new.devices.items ≡ spans_of self.old.devices.items }
         ensures pool { self.new.pool ≡ self.old.pool }
         ensures joined { Changes d (IsJoined volume) self.old.devices.items self.new.devices.items }
     {
@@ -71,14 +74,14 @@ impl<V: Volume> Subsystem<V> {
     }
 
     /// The second one's volume becomes side B of the first.
-    fn join_lent(&mut self, a: DeviceNo, b: DeviceNo)
+    fn join_lent<K: Keep<TrackImage>>(&mut self, a: DeviceNo, b: DeviceNo, keep: &K)
         requires a { is_in a (numbers_of self.old.devices.items) ≡ true }
         requires b { is_in b (numbers_of self.old.devices.items) ≡ true }
         requires fine { HasPairFault (device_at self.old.devices.items a) (device_at self.old.devices.items b) None }
-        ensures numbers { numbers_of self.new.devices.items ≡ numbers_of self.old.devices.items }
-        ensures joined { IfSome (device_at self.old.devices.items b) (λ y. Joins a b (device_of y) self.old self.new) }
+        ensures spans { spans_of self.new.devices.items ≡ spans_of self.old.devices.items }
+        ensures joined { IfSome (device_at self.old.devices.items b) (λ y. JoinsKept K.hears a b (device_of y) self.old self.new) }
     {
-        let volume = match self.lend_at(b, a) {
+        let volume = match self.lend_at(b, a, keep) {
             Some(volume) => volume,
             None => unreachable!(),
         };
@@ -86,16 +89,21 @@ impl<V: Volume> Subsystem<V> {
     }
 
     /// The second device lends its volume to the first, whose side B it becomes, with every track stale.
-    pub fn pair(&mut self, a: DeviceNo, b: DeviceNo) -> EventEnd
+    pub(crate) fn pair<K: Keep<TrackImage>>(
+        &mut self,
+        a: DeviceNo,
+        b: DeviceNo,
+        keep: &K,
+    ) -> EventEnd
         requires a { is_in a (numbers_of self.old.devices.items) ≡ true }
         requires b { is_in b (numbers_of self.old.devices.items) ≡ true }
-        ensures numbers { numbers_of self.new.devices.items ≡ numbers_of self.old.devices.items }
-        ensures came { Came (Event.Pair a b) self.old (Some result) self.new }
+        ensures spans { spans_of self.new.devices.items ≡ spans_of self.old.devices.items }
+        ensures came { CameKept K.hears (Event.Pair a b) self.old keep.now (Some result) self.new keep.now }
     {
         if let Some(fault) = self.pair_fault(a, b) {
             return EventEnd::Refused(fault);
         }
-        self.join_lent(a, b);
+        self.join_lent(a, b, keep);
         EventEnd::Done
     }
 }

@@ -1,38 +1,69 @@
 ghost use Rattle.std.specs.Prelude.{◌≡◌, IfOk, OnErr, true};
-ghost use Rattle.subsystem_core.specs.Comes.{Came};
+ghost use Rattle.subsystem_core.specs.Comes.{Came, CameKept};
 ghost use Rattle.subsystem_core.specs.Devices.{numbers_of};
 ghost use Rattle.subsystem_core.specs.Ends.{answer_of};
+ghost use Rattle.subsystem_core.specs.Keepers.{spans_of, GoesOnTaking, TakesAll};
 ghost use Rattle.subsystem_core.specs.Places.{may_all_come, may_come};
 ghost use Rattle.subsystem_core.specs.Runs.{Runs, Stops};
 
 use crate::{EventEnd, EventEnds, Subsystem};
 use ckd_types::NoMemory;
-use device_outside::Volume;
+use device_outside::{Keep, NoKeep, Volume};
 use std::alloc::Global;
 use subsystem_defs::Event;
+use track_image::TrackImage;
 
 impl<V: Volume> Subsystem<V> {
-    /// One event.
+    /// One event, by its kind.
+    fn happen<K: Keep<TrackImage>>(&mut self, e: Event, keep: &mut K) -> Result<EventEnd, NoMemory>
+        requires may { may_come (numbers_of self.old.devices.items) e ≡ true }
+        requires goes { GoesOnTaking K.hears K.takes }
+        requires takes { TakesAll K.takes keep.old self.old.devices.items }
+        ensures spans { spans_of self.new.devices.items ≡ spans_of self.old.devices.items }
+        ensures came { CameKept K.hears e self.old keep.old (answer_of result) self.new keep.new }
+    {
+        match e {
+            Event::Start(path, d) => self.start::<K>(path, d),
+            Event::Step(d) => self.step(d, keep),
+            Event::Back(d) => self.back(d, keep),
+            Event::Reset(path, d) => Ok(self.reset(path, d, keep)),
+            Event::FailCache => Ok(self.fail_cache(keep)),
+            Event::FailStore => Ok(self.fail_store(keep)),
+            Event::FailVolume(d, side) => Ok(self.fail_volume(d, side, keep)),
+            Event::RepairCache => Ok(self.repair_cache::<K>()),
+            Event::RepairStore => Ok(self.repair_store::<K>()),
+            Event::Pair(a, b) => Ok(self.pair(a, b, &*keep)),
+            Event::Suspend(d) => Ok(self.suspend::<K>(d)),
+            Event::Resume(d) => Ok(self.resume::<K>(d)),
+            Event::Power => Ok(self.power(keep)),
+        }
+    }
+
+    /// One event. The keeper is told each track before a command's edit of it, and each track that the event made firm, of
+    /// whichever device; it may be told of all tracks of all devices behind it too.
+    pub fn event_with<K: Keep<TrackImage>>(
+        &mut self,
+        e: Event,
+        keep: &mut K,
+    ) -> Result<EventEnd, NoMemory>
+        requires may { may_come (numbers_of self.old.devices.items) e ≡ true }
+        requires goes { GoesOnTaking K.hears K.takes }
+        requires takes { TakesAll K.takes keep.old self.old.devices.items }
+        ensures numbers { numbers_of self.new.devices.items ≡ numbers_of self.old.devices.items }
+        ensures takes { TakesAll K.takes keep.new self.new.devices.items }
+        ensures came { CameKept K.hears e self.old keep.old (answer_of result) self.new keep.new }
+    {
+        self.happen(e, keep)
+    }
+
+    /// The same, with a keeper that keeps nothing.
     pub fn event(&mut self, e: Event) -> Result<EventEnd, NoMemory>
         requires { may_come (numbers_of self.old.devices.items) e ≡ true }
         ensures numbers { numbers_of self.new.devices.items ≡ numbers_of self.old.devices.items }
         ensures came { Came e self.old (answer_of result) self.new }
     {
-        match e {
-            Event::Start(path, d) => self.start(path, d),
-            Event::Step(d) => self.step(d),
-            Event::Back(d) => self.back(d),
-            Event::Reset(path, d) => Ok(self.reset(path, d)),
-            Event::FailCache => Ok(self.fail_cache()),
-            Event::FailStore => Ok(self.fail_store()),
-            Event::FailVolume(d, side) => Ok(self.fail_volume(d, side)),
-            Event::RepairCache => Ok(self.repair_cache()),
-            Event::RepairStore => Ok(self.repair_store()),
-            Event::Pair(a, b) => Ok(self.pair(a, b)),
-            Event::Suspend(d) => Ok(self.suspend(d)),
-            Event::Resume(d) => Ok(self.resume(d)),
-            Event::Power => Ok(self.power()),
-        }
+        let mut keep = NoKeep;
+        self.event_with(e, &mut keep)
     }
 
     /// Events one after another. Room for their ends is made first.

@@ -2,38 +2,47 @@ use Rattle.std.proofs.Common.{◌≡◌, ◌<◌, ◌∙◌, refl, add-one, get_
 use Rattle.device_defs.specs.Contents.{contents}
 use Rattle.device_defs.specs.Cutting.{power}
 use Rattle.device_laws.proofs.BasedEvents.{power_based}
-use Rattle.device_core.specs.State.{DefinedDevice, device_of}
-use Rattle.subsystem_core.specs.Comes.{Talk, over}
-use Rattle.subsystem_core.proofs.Found.{numbers_kept, read_again}
+use Rattle.device_core.specs.State.{device_of}
+use Rattle.subsystem_core.specs.Comes.{SweepsKept, over}
+use Rattle.subsystem_core.proofs.Found.{read_again}
+use Rattle.subsystem_core.proofs.Hearing.{spans_by_seats, swept_still, takes_on}
 use Rattle.subsystem_core.proofs.Numbers.{above_same, below_same}
 use Rattle.subsystem_core.proofs.Seating.{ran_lent, seats_kept}
 use Rattle.subsystem_core.proofs.Sweeping.{swept_more, rest_more, swept_all}
 use Rattle.subsystem_core.proofs.each.power_each.Goals as goal
 
 pub loop-i-init : goal.loop-i-init
-loop-i-init g c = record { numbers = refl; seats = refl; rest = refl; each = over }
+loop-i-init g c = record { seats = refl; rest = refl; each = over }
 
 pub loop-i-preserved : goal.loop-i-preserved
 loop-i-preserved g c =
     let ds = c.loop-i.devices in
-    let f : DefinedDevice → Talk (Unit {0}) = power contents in
+    let how = SweepsKept g.K.Keep.hears (power contents) in
     let within : c.loop-i.i < length ds = below_same c.loop-i-test.true c.loop-i.auto.devices in
     let here : c.loop-i.i < length c.args.devices.now = c.loop-i-test.true in
     let x = get_or ds c.loop-i.i c.index-devices-i.result in
     let read : x ≡ get_or ds c.loop-i.i x = read_again ds c.loop-i.i c.index-devices-i.result within in
     record {
-      numbers = numbers_kept ds c.loop-i.i x c.power.new.self read c.power.ensures.fixed.0 ∙ c.loop-i.invariant.numbers;
-      seats = seats_kept ds c.loop-i.i x c.power.new.self read (record {
-        number = c.power.ensures.fixed.0;
-        cylinders = c.power.ensures.fixed.1;
-        lent = ran_lent (power_based contents (device_of x)) (c.power.ensures.run (record {}));
+      seats = seats_kept ds c.loop-i.i x c.power_with.new.self read (record {
+        number = c.power_with.ensures.fixed.0;
+        cylinders = c.power_with.ensures.fixed.1;
+        lent = ran_lent (power_based contents (device_of x)) c.power_with.ensures.run;
       }) ∙ c.loop-i.invariant.seats;
-      rest = rw add-one (rest_more f c.loop-i.i c.args.devices.now ds c.power.new.self here within c.loop-i.invariant.rest);
-      each = rw add-one (swept_more f c.loop-i.i c.args.devices.now ds x c.power.new.self within c.loop-i.invariant.rest read c.loop-i.invariant.each
-          c.power.ensures.run);
+      rest = rw add-one (rest_more how c.loop-i.i c.args.devices.now ds c.power_with.new.self here within c.loop-i.invariant.rest);
+      each = rw add-one (swept_more how c.loop-i.i c.args.devices.now ds x c.power_with.new.self within c.loop-i.invariant.rest read c.loop-i.invariant.each
+          c.power_with.ensures.run);
+    }
+
+pub power_with-requires : goal.power_with-requires
+power_with-requires g c =
+    let ds = c.loop-i.devices in
+    let within : c.loop-i.i < length ds = below_same c.loop-i-test.true c.loop-i.auto.devices in
+    record {
+      takes = takes_on c.args.keep.now c.loop-i.keep c.args.devices.now ds (swept_still c.requires.goes (power contents) c.loop-i.invariant.each)
+          (spans_by_seats ds c.args.devices.now c.loop-i.invariant.seats) c.requires.takes c.loop-i.i c.index-devices-i.result within;
     }
 
 pub returns-clause-each : goal.returns-clause-each
 returns-clause-each g c =
-    swept_all (power contents) c.loop-i.i c.args.devices.now c.loop-i.devices c.loop-i-test.false
+    swept_all (SweepsKept g.K.Keep.hears (power contents)) c.loop-i.i c.args.devices.now c.loop-i.devices c.loop-i-test.false
     (above_same c.loop-i-test.false c.loop-i.auto.devices) c.loop-i.invariant.each

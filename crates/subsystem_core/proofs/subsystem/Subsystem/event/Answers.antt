@@ -1,68 +1,12 @@
-use Rattle.subsystem_core.proofs.Numbers.{both}
+use Rattle.subsystem_core.proofs.Hearing.{came_plain, none_goes, none_takes}
 use Rattle.subsystem_core.proofs.subsystem.Subsystem.event.Goals as goal
 
-pub start-requires : goal.start-requires
-start-requires g c = rw c.in-Start.is at c.requires
+pub event_with-requires-clause-goes : goal.event_with-requires-clause-goes
+event_with-requires-clause-goes g c = none_goes
 
-pub step-requires : goal.step-requires
-step-requires g c = rw c.in-Step.is at c.requires
+pub event_with-requires-clause-takes : goal.event_with-requires-clause-takes
+event_with-requires-clause-takes g c = none_takes _ _
 
-pub back-requires : goal.back-requires
-back-requires g c = rw c.in-Back.is at c.requires
-
-pub reset-requires : goal.reset-requires
-reset-requires g c = rw c.in-Reset.is at c.requires
-
-pub fail_volume-requires : goal.fail_volume-requires
-fail_volume-requires g c = rw c.in-FailVolume.is at c.requires
-
-pub suspend-requires : goal.suspend-requires
-suspend-requires g c = rw c.in-Suspend.is at c.requires
-
-pub resume-requires : goal.resume-requires
-resume-requires g c = rw c.in-Resume.is at c.requires
-
-pub pair-requires-clause-a : goal.pair-requires-clause-a
-pair-requires-clause-a g c = (both _ _ (rw c.in-Pair.is at c.requires)).0
-
-pub pair-requires-clause-b : goal.pair-requires-clause-b
-pair-requires-clause-b g c = (both _ _ (rw c.in-Pair.is at c.requires)).1
-
-pub returns-in-Pair-clause-came : goal.returns-in-Pair-clause-came
-returns-in-Pair-clause-came g c = rw c.in-Pair.is c.pair.ensures.came
-
-pub returns-in-Start-clause-came : goal.returns-in-Start-clause-came
-returns-in-Start-clause-came g c = rw c.in-Start.is c.start.ensures.came
-
-pub returns-in-Step-clause-came : goal.returns-in-Step-clause-came
-returns-in-Step-clause-came g c = rw c.in-Step.is c.step.ensures.came
-
-pub returns-in-Back-clause-came : goal.returns-in-Back-clause-came
-returns-in-Back-clause-came g c = rw c.in-Back.is c.back.ensures.came
-
-pub returns-in-Reset-clause-came : goal.returns-in-Reset-clause-came
-returns-in-Reset-clause-came g c = rw c.in-Reset.is c.reset.ensures.came
-
-pub returns-in-FailVolume-clause-came : goal.returns-in-FailVolume-clause-came
-returns-in-FailVolume-clause-came g c = rw c.in-FailVolume.is c.fail_volume.ensures.came
-
-pub returns-in-Suspend-clause-came : goal.returns-in-Suspend-clause-came
-returns-in-Suspend-clause-came g c = rw c.in-Suspend.is c.suspend.ensures.came
-
-pub returns-in-Resume-clause-came : goal.returns-in-Resume-clause-came
-returns-in-Resume-clause-came g c = rw c.in-Resume.is c.resume.ensures.came
-
-pub returns-in-FailCache-clause-came : goal.returns-in-FailCache-clause-came
-returns-in-FailCache-clause-came g c = rw c.in-FailCache.is c.fail_cache.ensures.came
-
-pub returns-in-FailStore-clause-came : goal.returns-in-FailStore-clause-came
-returns-in-FailStore-clause-came g c = rw c.in-FailStore.is c.fail_store.ensures.came
-
-pub returns-in-RepairCache-clause-came : goal.returns-in-RepairCache-clause-came
-returns-in-RepairCache-clause-came g c = rw c.in-RepairCache.is c.repair_cache.ensures.came
-
-pub returns-in-RepairStore-clause-came : goal.returns-in-RepairStore-clause-came
-returns-in-RepairStore-clause-came g c = rw c.in-RepairStore.is c.repair_store.ensures.came
-
-pub returns-in-Power-clause-came : goal.returns-in-Power-clause-came
-returns-in-Power-clause-came g c = rw c.in-Power.is c.power.ensures.came
+pub returns-clause-came : goal.returns-clause-came
+returns-clause-came g c =
+    came_plain c.args.e c.args.self.now c.event_with.new.self _ c.event_with.new.keep _ c.event_with.ensures.came

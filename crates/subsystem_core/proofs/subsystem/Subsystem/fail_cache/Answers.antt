@@ -13,7 +13,7 @@ use Rattle.subsystem_core.proofs.subsystem.Subsystem.fail_cache.Goals as goal
 
 pub returns-then-not-cache_up-clause-came : goal.returns-then-not-cache_up-clause-came
 returns-then-not-cache_up-clause-came g c =
-    ended c.args.self.now _ (events.FailCache) (answers.Refused Down) (ends.Refused Down)
+    ended g.K.Keep.hears c.args.keep.now c.args.self.now _ (events.FailCache) (answers.Refused Down) (ends.Refused Down)
     (deeds.cache_down contents _ _ (sym c.cache_up.ensures ∙ c.if-not-cache_up.true)) (λ p. refl) (refl, refl)
 
 pub returns-clause-came : goal.returns-clause-came

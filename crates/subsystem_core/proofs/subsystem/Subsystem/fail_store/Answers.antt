@@ -13,7 +13,7 @@ use Rattle.subsystem_core.proofs.subsystem.Subsystem.fail_store.Goals as goal
 
 pub returns-then-not-store_up-clause-came : goal.returns-then-not-store_up-clause-came
 returns-then-not-store_up-clause-came g c =
-    ended c.args.self.now _ (events.FailStore) (answers.Refused Down) (ends.Refused Down)
+    ended g.K.Keep.hears c.args.keep.now c.args.self.now _ (events.FailStore) (answers.Refused Down) (ends.Refused Down)
     (deeds.store_down contents _ _ (sym c.store_up.ensures ∙ c.if-not-store_up.true)) (λ p. refl) (refl, refl)
 
 pub returns-clause-came : goal.returns-clause-came

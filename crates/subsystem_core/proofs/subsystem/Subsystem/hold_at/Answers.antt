@@ -1,5 +1,6 @@
 use Rattle.std.proofs.Common.{ap, refl}
 use Rattle.subsystem_core.proofs.Found.{changed, numbers_kept}
+use Rattle.subsystem_core.proofs.Hearing.{spans_kept}
 use Rattle.subsystem_core.proofs.Seating.{alike_kept, sits_by}
 use Rattle.subsystem_core.proofs.subsystem.Subsystem.hold_at.Goals as goal
 
@@ -14,10 +15,10 @@ invariant_of-self g c =
           (sits_by _ _ _ c.hold.ensures.device refl refl refl) c.args.self.now.alike;
     }
 
-pub returns-clause-numbers : goal.returns-clause-numbers
-returns-clause-numbers g c =
-    numbers_kept c.args.self.now.devices.items c.place-at.result c.index_mut.result.now c.hold.new.self c.index_mut.ensures.value
-    (ap (λ d. d.store.device) c.hold.ensures.device)
+pub returns-clause-spans : goal.returns-clause-spans
+returns-clause-spans g c =
+    spans_kept c.args.self.now.devices.items c.place-at.result c.index_mut.result.now c.hold.new.self c.index_mut.ensures.value
+    (ap (λ d. d.store.device) c.hold.ensures.device) (ap (λ d. d.store.cylinders) c.hold.ensures.device)
 
 pub returns-clause-held : goal.returns-clause-held
 returns-clause-held g c =

@@ -1,6 +1,7 @@
 use Rattle.std.proofs.Common.{◌≡◌, ◌*◌, ap, false, is_some, refl}
 use Rattle.device_core.specs.State.{device_of}
 use Rattle.subsystem_core.proofs.Found.{changed, held, numbers_kept}
+use Rattle.subsystem_core.proofs.Hearing.{spans_kept}
 use Rattle.subsystem_core.proofs.Seating.{alike_kept, sits_by}
 use Rattle.subsystem_core.proofs.subsystem.Subsystem.join_at.Goals as goal
 
@@ -25,10 +26,10 @@ invariant_of-self g c =
           (sits_by _ _ _ c.join_volume.ensures.device refl refl refl) c.args.self.now.alike;
     }
 
-pub returns-clause-numbers : goal.returns-clause-numbers
-returns-clause-numbers g c =
-    numbers_kept c.args.self.now.devices.items c.place-at.result c.index_mut.result.now c.join_volume.new.self c.index_mut.ensures.value
-    (ap (λ d. d.store.device) c.join_volume.ensures.device)
+pub returns-clause-spans : goal.returns-clause-spans
+returns-clause-spans g c =
+    spans_kept c.args.self.now.devices.items c.place-at.result c.index_mut.result.now c.join_volume.new.self c.index_mut.ensures.value
+    (ap (λ d. d.store.device) c.join_volume.ensures.device) (ap (λ d. d.store.cylinders) c.join_volume.ensures.device)
 
 pub returns-clause-joined : goal.returns-clause-joined
 returns-clause-joined g c =

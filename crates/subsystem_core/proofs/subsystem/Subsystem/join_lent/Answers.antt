@@ -1,4 +1,5 @@
 use Rattle.subsystem_core.specs.Devices.{device_at}
+use Rattle.subsystem_core.proofs.Hearing.{numbers_by_spans}
 use Rattle.subsystem_core.proofs.Pairing.{joins, may_join, may_lend, not_gone}
 use Rattle.subsystem_core.proofs.subsystem.Subsystem.join_lent.Goals as goal
 
@@ -9,7 +10,7 @@ unreachable-requires g c =
     not_gone ch.before c.lend_at.result ch.is_so.volume_is l.may.up c.in-None.is
 
 pub join_at-requires-clause-here : goal.join_at-requires-clause-here
-join_at-requires-clause-here g c = rw c.lend_at.ensures.numbers c.requires.a
+join_at-requires-clause-here g c = rw (numbers_by_spans _ _ c.lend_at.ensures.spans) c.requires.a
 
 pub join_at-requires-clause-free : goal.join_at-requires-clause-free
 join_at-requires-clause-free g c =

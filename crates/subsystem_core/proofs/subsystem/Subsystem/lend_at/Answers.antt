@@ -1,12 +1,13 @@
 use Rattle.device_core.specs.State.{device_of}
 use Rattle.subsystem_core.specs.Devices.{device_at}
 use Rattle.subsystem_core.proofs.Found.{changed, found, is_at, numbers_kept}
+use Rattle.subsystem_core.proofs.Hearing.{spans_kept}
 use Rattle.subsystem_core.proofs.Pairing.{may_lend}
 use Rattle.subsystem_core.proofs.Seating.{alike_lent, lend_based, ran_lent}
 use Rattle.subsystem_core.proofs.subsystem.Subsystem.lend_at.Goals as goal
 
-pub lend-requires : goal.lend-requires
-lend-requires g c =
+pub lend_with-requires : goal.lend_with-requires
+lend_with-requires g c =
     let ds = c.args.self.now.devices.items in
     let at = is_at ds c.args.d c.place-at.result c.index_mut.result.now c.place-at.ensures.range c.place-at.ensures.found c.index_mut.ensures.value in
     let l = may_lend (device_at ds c.args.to) (device_at ds c.args.d) c.index_mut.result.now
@@ -19,24 +20,25 @@ invariant_of-self g c =
     let x = c.index_mut.result.now in
     let at = is_at ds c.args.d c.place-at.result x c.place-at.ensures.range c.place-at.ensures.found c.index_mut.ensures.value in
     let l = may_lend (device_at ds c.args.to) (device_at ds c.args.d) x (found ds c.args.d c.place-at.result x c.args.self.now.rising at) c.requires.fine in
-    let same = numbers_kept ds c.place-at.result x c.lend.new.self c.index_mut.ensures.value c.lend.ensures.fixed.0 in
+    let same = numbers_kept ds c.place-at.result x c.lend_with.new.self c.index_mut.ensures.value c.lend_with.ensures.fixed.0 in
     record {
       rising = rw same c.args.self.now.rising;
       table = rw same c.args.self.now.table;
-      alike = alike_lent ds c.place-at.result c.args.to x c.lend.new.self l.to at.stands c.lend.ensures.fixed.0 c.lend.ensures.fixed.1
-          (ran_lent (lend_based (device_of x) c.args.to) (c.lend.ensures.run (record {}))) l.stands l.may.alike c.args.self.now.alike;
+      alike = alike_lent ds c.place-at.result c.args.to x c.lend_with.new.self l.to at.stands c.lend_with.ensures.fixed.0 c.lend_with.ensures.fixed.1
+          (ran_lent (lend_based (device_of x) c.args.to) (c.lend_with.ensures.run c.args._keep.now)) l.stands l.may.alike c.args.self.now.alike;
     }
 
-pub returns-clause-numbers : goal.returns-clause-numbers
-returns-clause-numbers g c =
-    numbers_kept c.args.self.now.devices.items c.place-at.result c.index_mut.result.now c.lend.new.self c.index_mut.ensures.value c.lend.ensures.fixed.0
+pub returns-clause-spans : goal.returns-clause-spans
+returns-clause-spans g c =
+    spans_kept c.args.self.now.devices.items c.place-at.result c.index_mut.result.now c.lend_with.new.self c.index_mut.ensures.value
+    c.lend_with.ensures.fixed.0 c.lend_with.ensures.fixed.1
 
 pub returns-clause-lent : goal.returns-clause-lent
 returns-clause-lent g c =
-    changed c.args.self.now.devices.items c.args.d c.place-at.result c.index_mut.result.now c.lend.new.self _ c.args.self.now.rising
+    changed c.args.self.now.devices.items c.args.d c.place-at.result c.index_mut.result.now c.lend_with.new.self _ c.args.self.now.rising
     c.place-at.ensures.range c.place-at.ensures.found c.index_mut.ensures.value (record {
-      asked = c.lend.ensures.run;
-      number = c.lend.ensures.fixed.0;
-      gone = c.lend.ensures.a;
-      volume_is = c.lend.ensures.back;
+      asked = c.lend_with.ensures.run;
+      number = c.lend_with.ensures.fixed.0;
+      gone = c.lend_with.ensures.a;
+      volume_is = c.lend_with.ensures.back;
     })

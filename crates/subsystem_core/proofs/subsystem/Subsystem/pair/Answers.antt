@@ -7,8 +7,10 @@ join_lent-requires-clause-fine g c = rw c.in_default.is at c.pair_fault.ensures
 
 pub returns-in-Some-clause-came : goal.returns-in-Some-clause-came
 returns-in-Some-clause-came g c =
-    pair_refused c.args.a c.args.b c.args.self.now _ _ _ c.in-Some.fault refl refl (rw c.in-Some.is at c.pair_fault.ensures) (refl, refl)
+    pair_refused g.K.Keep.hears c.args.keep.now c.args.a c.args.b c.args.self.now _ _ _ c.in-Some.fault refl refl
+    (rw c.in-Some.is at c.pair_fault.ensures) (refl, refl)
 
 pub returns-clause-came : goal.returns-clause-came
 returns-clause-came g c =
-    pair_done c.args.a c.args.b c.args.self.now _ _ _ refl refl (rw c.in_default.is at c.pair_fault.ensures) c.join_lent.ensures.joined
+    pair_done g.K.Keep.hears c.args.keep.now c.args.a c.args.b c.args.self.now _ _ _ refl refl
+    (rw c.in_default.is at c.pair_fault.ensures) c.join_lent.ensures.joined

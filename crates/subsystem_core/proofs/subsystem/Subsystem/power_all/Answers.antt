@@ -1,27 +1,29 @@
 use Rattle.std.proofs.Common.{◌≡◌, ◌∙◌, ◌≤◌, arith, ap, length}
-use Rattle.subsystem_core.specs.Devices.{numbers_of}
 use Rattle.subsystem_core.specs.Seats.{seats_of}
 use Rattle.subsystem_core.proofs.Found.{all_written}
+use Rattle.subsystem_core.proofs.Hearing.{numbers_by_spans, spans_by_seats}
 use Rattle.subsystem_core.proofs.subsystem.Subsystem.power_all.Goals as goal
+
+pub power_each-requires-clause-takes : goal.power_each-requires-clause-takes
+power_each-requires-clause-takes g c = rw c.deref_mut.ensures.value c.requires.takes
 
 pub invariant_of-self : goal.invariant_of-self
 invariant_of-self g c =
     let ds = c.args.self.now.devices.items in
     let count : length c.power_each.new.devices ≡ length ds = c.power_each.auto.devices ∙ ap length c.deref_mut.ensures.value in
     let room : length ds ≤ c.args.self.now.devices.len = omega (arith, ap length c.deref_mut.ensures.value, c.deref_mut.ensures.len) in
-    let same = ap numbers_of (all_written c.args.self.now.devices.len ds c.power_each.new.devices room count)
-    ∙ c.power_each.ensures.numbers ∙ ap numbers_of c.deref_mut.ensures.value in
     let seats = ap seats_of (all_written c.args.self.now.devices.len ds c.power_each.new.devices room count)
     ∙ c.power_each.ensures.seats ∙ ap seats_of c.deref_mut.ensures.value in
+    let same = numbers_by_spans _ _ (spans_by_seats _ _ seats) in
     record { rising = rw same c.args.self.now.rising; table = rw same c.args.self.now.table; alike = rw seats c.args.self.now.alike }
 
-pub returns-clause-numbers : goal.returns-clause-numbers
-returns-clause-numbers g c =
+pub returns-clause-spans : goal.returns-clause-spans
+returns-clause-spans g c =
     let ds = c.args.self.now.devices.items in
     let count : length c.power_each.new.devices ≡ length ds = c.power_each.auto.devices ∙ ap length c.deref_mut.ensures.value in
     let room : length ds ≤ c.args.self.now.devices.len = omega (arith, ap length c.deref_mut.ensures.value, c.deref_mut.ensures.len) in
-    ap numbers_of (all_written c.args.self.now.devices.len ds c.power_each.new.devices room count)
-    ∙ c.power_each.ensures.numbers ∙ ap numbers_of c.deref_mut.ensures.value
+    spans_by_seats _ _ (ap seats_of (all_written c.args.self.now.devices.len ds c.power_each.new.devices room count)
+    ∙ c.power_each.ensures.seats ∙ ap seats_of c.deref_mut.ensures.value)
 
 pub returns-clause-each : goal.returns-clause-each
 returns-clause-each g c =

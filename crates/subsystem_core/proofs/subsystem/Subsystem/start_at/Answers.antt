@@ -4,6 +4,7 @@ use Rattle.device_defs.specs.Start.{start_fault}
 use Rattle.device_core.specs.State.{device_of}
 use Rattle.subsystem_core.proofs.Coming.{starts_by}
 use Rattle.subsystem_core.proofs.Found.{changed, numbers_kept, held}
+use Rattle.subsystem_core.proofs.Hearing.{spans_kept}
 use Rattle.subsystem_core.proofs.Seating.{alike_kept, sits_store}
 use Rattle.subsystem_core.proofs.subsystem.Subsystem.start_at.Goals as goal
 
@@ -32,10 +33,10 @@ invariant_of-self g c =
           (sits_store _ _ c.start-outcome.ensures.store) c.args.self.now.alike;
     }
 
-pub returns-clause-numbers : goal.returns-clause-numbers
-returns-clause-numbers g c =
-    numbers_kept c.args.self.now.devices.items c.place-at.result c.index_mut.result.now c.start-outcome.new.self c.index_mut.ensures.value (ap
-    (λ s. s.number) c.start-outcome.ensures.store)
+pub returns-clause-spans : goal.returns-clause-spans
+returns-clause-spans g c =
+    spans_kept c.args.self.now.devices.items c.place-at.result c.index_mut.result.now c.start-outcome.new.self c.index_mut.ensures.value
+    (ap (λ s. s.number) c.start-outcome.ensures.store) (ap (λ s. s.cylinders) c.start-outcome.ensures.store)
 
 pub returns-clause-done : goal.returns-clause-done
 returns-clause-done g c =

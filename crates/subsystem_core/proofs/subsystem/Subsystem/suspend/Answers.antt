@@ -13,13 +13,13 @@ use Rattle.subsystem_core.proofs.subsystem.Subsystem.suspend.Goals as goal
 
 pub returns-in-Some-clause-came : goal.returns-in-Some-clause-came
 returns-in-Some-clause-came g c =
-    ended c.args.self.now _ (events.Suspend c.args.d) (answers.Refused c.in-Some.fault) (ends.Refused c.in-Some.fault)
+    λ k. ended g.K.Keep.hears k c.args.self.now _ (events.Suspend c.args.d) (answers.Refused c.in-Some.fault) (ends.Refused c.in-Some.fault)
     (deeds.suspend_refused contents _ _ _ _ (found_in c.args.self.now.devices.items c.args.d _ c.device.ensures) c.in-Some.fault
     (sym c.suspend_fault.ensures ∙ c.in-Some.is)) (λ p. refl) (refl, refl)
 
 pub returns-clause-came : goal.returns-clause-came
 returns-clause-came g c =
-    became c.args.self.now _ (events.Suspend c.args.d) c.args.d c.device.result.now (hold (device_of c.device.result.now)) answers.Done ends.Done
-    (λ x y. IsNow (hold (device_of x)) x y) c.device.ensures
+    λ k. became g.K.Keep.hears k c.args.self.now _ (events.Suspend c.args.d) c.args.d c.device.result.now (hold (device_of c.device.result.now))
+    answers.Done ends.Done (λ x y. IsNow (hold (device_of x)) x y) c.device.ensures
     (deeds.suspended contents _ _ _ _ (found_in c.args.self.now.devices.items c.args.d _ c.device.ensures)
     (sym c.suspend_fault.ensures ∙ c.in_default.is)) refl (λ p. refl) c.hold_at.ensures.pool (λ y is. is) c.hold_at.ensures.held

@@ -1,0 +1,32 @@
+-- What a keeper may be told of a subsystem.
+use Rattle.std.specs.Prelude.{◌≡◌, ℕ, ◌*◌, List, map, All}
+use Rattle.track_image.specs.Image.{Image}
+use Rattle.device_outside.specs.declared.keep.NoKeep.{NoKeep}
+use Rattle.device_outside.specs.declared.volume.Volume.{Ghosts}
+use Rattle.device_outside.specs.Keeper.{Message, ReplyTo, Hearing, reply}
+use Rattle.device_store.specs.State.{Takes}
+use Rattle.device_core.specs.declared.device.Device.{Device}
+
+-- a keeper that keeps nothing, and never lacks memory
+abbrev pub hears_none : Hearing Image NoKeep
+hears_none = λ _ m r _. r ≡ reply m
+
+-- whatever a keeper hears, it may be called with all that it might be called with before
+pub record GoesOnTaking {I K : Type 0} (hears : Hearing I K) (takes : K → ℕ → ℕ → I → Type 0) : Type 0 where
+  pub goes : (old new : K) (m : Message I) (r : ReplyTo m) → hears old m r new → (d t : ℕ) (i : I) → takes old d t i → takes new d t i
+
+-- the number of a device, and how many cylinders it has
+pub record Span : Type 0 where
+  pub number : ℕ
+  pub cylinders : ℕ
+
+module _ {V : Type 0} {G : Ghosts V} where
+  abbrev pub span_of : Device V G → Span
+  span_of d = record { number = d.store.number; cylinders = d.store.cylinders }
+
+  abbrev pub spans_of : List (Device V G) → List Span
+  spans_of ds = map span_of ds
+
+  -- a keeper may be told of all tracks of all these devices
+  abbrev pub TakesAll : {K : Type 0} → (K → ℕ → ℕ → Image → Type 0) → K → List (Device V G) → Type 0
+  TakesAll takes keeper ds = All (λ (d : Device V G). Takes takes keeper d.store.number (d.store.cylinders * 15)) ds
