@@ -1,0 +1,9 @@
+mod Saying
+mod Found
+mod Leading
+mod Quiet
+mod Starts
+mod ResetDevices
+mod Resets
+mod Orders
+mod Endings
