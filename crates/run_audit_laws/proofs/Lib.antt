@@ -7,3 +7,4 @@ mod ResetDevices
 mod Resets
 mod Orders
 mod Endings
+mod Work
