@@ -8,3 +8,4 @@ mod Resets
 mod Orders
 mod Endings
 mod Work
+mod EndLines

@@ -103,7 +103,7 @@ module _ (xs : List AuditedDevice) (w : EventLine) (later : List EventLine) (n :
       if is_event_over (Some w) a did then record { devices = with_device xs a; events = later; due = Next }
       else record { devices = with_device xs a; events = w ∷ later; due = Next }
 
-  worker_is : (a : AuditedDevice) (due : Due) → a.number ≡ n → worker (at_work a due) ≡ Some a
+  pub worker_is : (a : AuditedDevice) (due : Due) → a.number ≡ n → worker (at_work a due) ≡ Some a
   worker_is a due same =
       ap (λ (o : Option ℕ). then_of o (device_in (with_device xs a))) works ∙ found_put xs n first a has same
 
