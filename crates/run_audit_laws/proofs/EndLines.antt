@@ -73,7 +73,7 @@ in_midst false s r n e = refl
 
 -- How an end of the plain device is told apart from equipment check and data check: with sense it has the form of such a check, and without
 -- it another status
-abbrev TidyBy : Ccw → CommandEnd → Option Sense → Type 0
+abbrev pub TidyBy : Ccw → CommandEnd → Option Sense → Type 0
 TidyBy c e (Some sense) = (e.status ≡ check) × (e.residual ≡ c.count) × (e.note ≡ Plain) × (e.sent ≡ [])
     × (bytes_eq sense.bytes equipment_sense.bytes ≡ false) × (bytes_eq sense.bytes data_check_sense.bytes ≡ false)
 TidyBy c e None = (check.0 == e.status.0) ≡ false

@@ -9,3 +9,5 @@ mod Orders
 mod Endings
 mod Work
 mod EndLines
+mod Tidy
+mod Commands
