@@ -30,7 +30,8 @@ use Rattle.deck_audit.specs.Device.{AuditedDevice, check_end, device_in, is_next
 use Rattle.deck_audit.specs.History.{event_made, is_legal, work_made}
 use Rattle.deck_audit.specs.State.{AuditState, outlines, over_by, over_line, worker_number, worked}
 use Rattle.run_audit_laws.specs.Standing.{LeadsBy}
-use Rattle.run_audit_laws.proofs.EndLines.{IsCheckSense, IsTidy, before_work, check_lead, plain_lead}
+use Rattle.run_audit_laws.specs.Steps.{IsCheckSense}
+use Rattle.run_audit_laws.proofs.EndLines.{IsTidy, before_work, check_lead, plain_lead}
 use Rattle.run_audit_laws.proofs.Leading.{leads_on}
 use Rattle.run_audit_laws.proofs.Saying.{both, same_number, same_over}
 use Rattle.run_audit_laws.proofs.Tidy.{end_is_tidy}

@@ -52,6 +52,7 @@ use Rattle.deck_audit.specs.State.{AuditState, outlines, then_of}
 use Rattle.report_auditor.specs.declared.status.AuditWhy.TheVariants.{Place}
 use Rattle.report_auditor.specs.Verdict.{judged, or_history}
 use Rattle.run_audit_laws.specs.Standing.{LeadsBy}
+use Rattle.run_audit_laws.specs.Steps.{IsCheckSense}
 use Rattle.run_audit_laws.proofs.Leading.{leads_on}
 use Rattle.run_audit_laws.proofs.Saying.{both, same_bytes, same_note, same_number}
 use Rattle.run_audit_laws.proofs.Work.{at_work, worker_is}
@@ -80,10 +81,6 @@ TidyBy c e None = (check.0 == e.status.0) ≡ false
 
 abbrev pub IsTidy : Ccw → CommandEnd → Type 0
 IsTidy c e = TidyBy c e e.sense
-
--- the sense of a check
-abbrev pub IsCheckSense : Sense → Type 0
-IsCheckSense sense = (sense ≡ equipment_sense) ⊎ (sense ≡ data_check_sense)
 
 module _ (xs : List AuditedDevice) (w : EventLine) (later : List EventLine) (a : AuditedDevice)
     (has : device_in xs a.number ≡ Some a) (is_work : worker_of w ≡ Some a.number) (o : OpenEntry) (running : a.history.running ≡ Some o) where

@@ -52,7 +52,7 @@ use Rattle.report_auditor.specs.Verdict.{judged, or_history}
 use Rattle.run_report.specs.Closing.{device_lines, ending_lines, frame_line}
 use Rattle.subsystem_defs.specs.Closing.{Counted, DeviceEnd, LentTo, device_end, device_end_by, ending, lost_tracks}
 use Rattle.subsystem_defs.specs.Subsystem.{Mounted, Subsystem, devices_of}
-use Rattle.run_audit_laws.specs.Standing.{LeadsBy, audited, stand}
+use Rattle.run_audit_laws.specs.Standing.{FramesAreDeclared, LeadsBy, audited, stand}
 use Rattle.run_audit_laws.proofs.Found.{devices}
 use Rattle.run_audit_laws.proofs.Leading.{leads_on, one_leads}
 use Rattle.run_audit_laws.proofs.Saying.{both, same_number}
@@ -216,10 +216,6 @@ frames_lead s (f ∷ fs) at all = (
 )
 
 -- The whole
-
--- each frame is of a device
-abbrev pub FramesAreDeclared : Subsystem → Type 0
-FramesAreDeclared s = All (λ (f : Frame). is_declared (outlines (stand s [])) f.0.0 ≡ true) s.pool.frames
 
 pub ending_leads : (s : Subsystem) → FramesAreDeclared s → LeadsBy (stand s []) (ending_lines (ending s)) (record (stand s []) { due = Nothing })
 ending_leads s declared =

@@ -11,3 +11,5 @@ mod Work
 mod EndLines
 mod Tidy
 mod Commands
+mod StillLines
+mod StepEnds

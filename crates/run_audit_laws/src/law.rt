@@ -1,7 +1,33 @@
-ghost use Rattle.std.specs.Prelude.{◌≡◌, Some};
+ghost use Rattle.std.specs.Prelude.{◌≡◌, ℕ, List, [], Some, Ok};
+ghost use Rattle.deck_plan.specs.declared.event.EventLine.{EventLine};
+ghost use Rattle.deck_text.specs.DeckLines.{DeckLines};
+ghost use Rattle.deck_text.specs.Parse.{parsed};
+ghost use Rattle.plain_defs.specs.History.{OpenEntry};
+ghost use Rattle.report_places.specs.declared.state.Due.TheVariants.{Nothing};
+ghost use Rattle.report_places.specs.declared.state.HalfWrite.TheVariants.{Closed};
+ghost use Rattle.deck_audit.specs.Device.{AuditedDevice, device_in};
+ghost use Rattle.run_report.specs.Closing.{ending_lines};
+ghost use Rattle.subsystem_defs.specs.Closing.{ending};
+ghost use Rattle.subsystem_defs.specs.Decks.{run_of};
 ghost use Rattle.subsystem_defs.specs.Subsystem.{Subsystem};
+ghost use Rattle.run_audit_laws.specs.Standing.{FramesAreDeclared, IsStill, LeadsBy, LineLeads, stand};
+ghost use Rattle.run_audit_laws.specs.Steps.{StepEnds};
 
-/// A start.
-pub fn start_leads()
-    ensures { (s : Subsystem) → s ≡ s }
+/// Behind the run of a deck that was read an audit knows each device as the run has it, and one more event line at which no command runs and
+/// nothing is written or lost (a start, a reset, a repair, a new volume, a side held or let go) leads it to where it does so again: its
+/// lines in the report stand where they may, and show what a plain device answers. The lines of a deck up to any of its events are a deck too.
+pub fn still_line_leads()
+    ensures { (text : List ℕ) (deck : DeckLines) → parsed text ≡ Ok deck → (e : EventLine) → IsStill (run_of deck).behind e
+        → LineLeads (run_of deck).behind e }
+{}
+
+/// The lines at the end of a run lead an audit that knows its devices so to FINISH, where each frame of the pool is of one of them.
+pub fn ending_leads()
+    ensures { (s : Subsystem) → FramesAreDeclared s → LeadsBy (stand s []) (ending_lines (ending s)) (record (stand s []) { due = Nothing }) }
+{}
+
+/// The lines of a command's end lead on where it ends as on the plain device, and where equipment check or data check is in place of that.
+pub fn step_ends_lead()
+    ensures { (xs : List AuditedDevice) (later : List EventLine) (a : AuditedDevice) → device_in xs a.number ≡ Some a → a.half ≡ Closed
+        → (o : OpenEntry) → a.history.running ≡ Some o → StepEnds xs later a o }
 {}

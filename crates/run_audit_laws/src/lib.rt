@@ -1,6 +1,6 @@
-//! Laws of the audit of a run's own report: the lines of an event lead the audit from where it stands to where it then stands. No code.
+//! Laws of the audit of a run's own report: lines of an event lead the audit from where it stands to where it then stands. No code.
 #![tactic(auto)]
 
 mod law;
 
-pub use law::start_leads;
+pub use law::{ending_leads, step_ends_lead, still_line_leads};
