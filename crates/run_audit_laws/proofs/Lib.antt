@@ -13,3 +13,4 @@ mod Tidy
 mod Commands
 mod StillLines
 mod StepEnds
+mod Backs

@@ -1,12 +1,16 @@
 -- The lines of a command that ends in a STEP.
-use Rattle.std.proofs.Common.{◌≡◌, ◌==◌, ℕ, Bool, true, false, List, [], ◌∷◌, map, Option, Some, None, refl, sym, ap, ◌∙◌}
+use Rattle.std.proofs.Common.{◌≡◌, ◌==◌, ◌++◌, ℕ, Bool, true, false, List, [], ◌∷◌, map, Option, Some, None, refl, sym, ap, subst, ◌∙◌}
 use Rattle.std.specs.Prelude.{◌&&◌, ◌||◌, option_map}
 use Rattle.ckd_types.specs.declared.channel.CommandEnd.{CommandEnd}
 use Rattle.ckd_types.specs.declared.sense.Sense.{Sense}
 use Rattle.ckd_types.specs.Sense.{equipment_sense}
 use Rattle.deck_plan.specs.declared.event.EventLine.{EventLine}
 use Rattle.deck_plan.specs.declared.event.EventLine.TheVariants.{Step}
-use Rattle.plain_defs.specs.History.{OpenEntry}
+use Rattle.plain_defs.specs.History.{OpenEntry, ended}
+use Rattle.device_defs.specs.Device.{all_acted}
+use Rattle.deck_audit.specs.Device.{is_next_legal}
+use Rattle.plain_defs.specs.declared.journal.Act.TheVariants.{Loosen}
+use Rattle.report_text.specs.declared.answers.HowOver.TheVariants as how
 use Rattle.report_text.specs.declared.line.ReportLine.{ReportLine}
 use Rattle.report_text.specs.declared.line.ReportLine.TheVariants as lines
 use Rattle.report_text.specs.Ends.{end_line}
@@ -21,11 +25,12 @@ use Rattle.deck_audit.specs.Device.{AuditedDevice, check_end, device_in, open_pr
 use Rattle.deck_audit.specs.History.{event_made, work_made}
 use Rattle.deck_audit.specs.State.{AuditState, outlines}
 use Rattle.run_audit_laws.specs.Standing.{LeadsBy}
-use Rattle.run_audit_laws.specs.Steps.{IsCheckSense, StepEnds}
-use Rattle.run_audit_laws.proofs.Commands.{plain_end_is_tidy}
+use Rattle.run_audit_laws.specs.Steps.{Reaches, StepEnds, WholeStepLeads, acted_to, over_if, over_told, step_done}
+use Rattle.run_audit_laws.proofs.Commands.{check_command_leads, loose_command_leads, plain_command_leads, plain_end_is_tidy}
 use Rattle.run_audit_laws.proofs.EndLines.{check_lead, plain_lead}
 use Rattle.run_audit_laws.proofs.Found.{outlined}
 use Rattle.run_audit_laws.proofs.Leading.{then_some}
+use Rattle.run_audit_laws.proofs.Work.{end_of}
 use Rattle.run_audit_laws.proofs.Saying.{both, same_number}
 
 first_of : (a b : Bool) → a ≡ true → (a || b) ≡ true
@@ -57,3 +62,28 @@ module _ (xs : List AuditedDevice) (later : List EventLine) (a : AuditedDevice) 
     plainly = plain_lead xs (Step a.number) later a has refl o running stands makes p plain (plain_end_is_tidy a o p plain few);
     checked = λ sense is. check_lead xs (Step a.number) later a has refl o running stands makes p plain (plain_end_is_tidy a o p plain few) sense is;
   }
+
+  -- all lines of the step
+  pub step_leads : WholeStepLeads xs later a o
+  step_leads p plain few plainly acts none are = record {
+    plainly = λ reads writes legal.
+        let leads = plain_command_leads xs (Step a.number) later a has refl o running plainly stands makes p plain few acts none are reads writes legal in
+        (leads.0, leads.1, subst (λ (t : AuditState). Reaches leads.0 t) (same_end legal p.over) leads.2);
+    loosened = λ reads writes t may legal.
+        let leads = loose_command_leads xs (Step a.number) later a has refl o running plainly stands makes p plain few acts none are reads writes t may legal in
+        (leads.0, leads.1, subst (λ (z : AuditState). Reaches leads.0 z) (loose_end t legal p.over) leads.2);
+    checked = λ reads writes sense is.
+        check_command_leads xs (Step a.number) later a has refl o running plainly stands makes p plain few acts none are reads writes sense is;
+  } where
+    same_end : (legal : is_next_legal (acted_to a acts) (all_acted a.history acts).running ≡ true) (over : Bool) →
+        end_of xs (Step a.number) later a.number refl a has (acted_to a acts) refl true (Ended p) legal (over_if over (over_told a o how.Full))
+        ≡ step_done xs later a (ended (all_acted a.history acts) p)
+    same_end legal true = refl
+    same_end legal false = refl
+
+    loose_end : (t : ℕ) (legal : is_next_legal (acted_to a (acts ++ Loosen t ∷ [])) (all_acted a.history (acts ++ Loosen t ∷ [])).running ≡ true) (over : Bool) →
+        end_of xs (Step a.number) later a.number refl a has (acted_to a (acts ++ Loosen t ∷ [])) refl false (Ended p) legal
+        (over_if over (over_told a o how.Full))
+        ≡ step_done xs later a (ended (all_acted a.history (acts ++ Loosen t ∷ [])) p)
+    loose_end t legal true = refl
+    loose_end t legal false = refl

@@ -55,6 +55,7 @@ use Rattle.report_auditor.specs.declared.status.AuditWhy.{AuditWhy}
 use Rattle.report_auditor.specs.declared.status.AuditWhy.TheVariants.{Place}
 use Rattle.report_auditor.specs.Verdict.{judged, or_history}
 use Rattle.run_audit_laws.specs.Standing.{LeadsBy}
+use Rattle.run_audit_laws.specs.Steps.{NoLoss, Reaches, is_there, is_waiting, act_line}
 use Rattle.run_audit_laws.proofs.Leading.{judged_due, judged_over, then_some, waiting_judged}
 use Rattle.run_audit_laws.proofs.Saying.{both, same_number, same_over}
 
@@ -84,12 +85,6 @@ put_again [] a b same = refl
 put_again (x ∷ xs) a b same =
     ap (λ (k : ℕ). with_device (if x.number == k then a ∷ xs else x ∷ with_device xs a) b) same
     ∙ again_by (x.number == b.number) x a b xs refl same (put_again xs a b same)
-
--- Where an audit's state leads once nothing is half told
-
-pub data Reaches (s t : AuditState) : Type 0 where
-  is_there : s ≡ t → Reaches s t
-  is_waiting : (more : Bool) (did : Did) → s.due ≡ Behind more did → holds (worker s) (is_legal did) ≡ true → settled s did ≡ t → Reaches s t
 
 module _ (xs : List AuditedDevice) (w : EventLine) (later : List EventLine) (n : ℕ) (works : worker_of w ≡ Some n) (first : AuditedDevice)
     (has : device_in xs n ≡ Some first) where
@@ -171,21 +166,12 @@ module _ (xs : List AuditedDevice) (w : EventLine) (later : List EventLine) (n :
 
   -- Acts by which tracks become firm
 
-  abbrev pub act_line : Act → ReportLine
-  act_line (Harden t) = lines.Loose n (loose.Harden t)
-  act_line (Loosen t) = lines.Loose n (loose.Loosen t)
-  act_line CfwLost = lines.Finish
-
-  abbrev pub NoLoss : List Act → Type 0
-  NoLoss [] = Unit {0}
-  NoLoss (act ∷ acts) = (is_loss act ≡ false) × NoLoss acts
-
   abbrev pub with_history : AuditedDevice → History → AuditedDevice
   with_history a h = record a { history = h }
 
   pub hardens_lead : (a : AuditedDevice) → a.number ≡ n → (did : Did) (acts : List Act) → IsPlain a.plans a.empty a.history → NoLoss acts →
       AreActs (state_of a) None acts →
-      LeadsBy (at_work a (Behind true did)) (map act_line acts) (at_work (with_history a (all_acted a.history acts)) (Behind true did))
+      LeadsBy (at_work a (Behind true did)) (map (act_line n) acts) (at_work (with_history a (all_acted a.history acts)) (Behind true did))
   hardens_lead a same did [] plain none are = refl
   hardens_lead a same did (Harden t ∷ acts) plain none are =
       let b = with_history a (acted a.history (Harden t)) in (

@@ -11,7 +11,7 @@ ghost use Rattle.subsystem_defs.specs.Closing.{ending};
 ghost use Rattle.subsystem_defs.specs.Decks.{run_of};
 ghost use Rattle.subsystem_defs.specs.Subsystem.{Subsystem};
 ghost use Rattle.run_audit_laws.specs.Standing.{FramesAreDeclared, IsStill, LeadsBy, LineLeads, stand};
-ghost use Rattle.run_audit_laws.specs.Steps.{StepEnds};
+ghost use Rattle.run_audit_laws.specs.Steps.{BackLeads, HalfLeads, StepEnds, WholeStepLeads};
 
 /// Behind the run of a deck that was read an audit knows each device as the run has it, and one more event line at which no command runs and
 /// nothing is written or lost (a start, a reset, a repair, a new volume, a side held or let go) leads it to where it does so again: its
@@ -30,4 +30,23 @@ pub fn ending_leads()
 pub fn step_ends_lead()
     ensures { (xs : List AuditedDevice) (later : List EventLine) (a : AuditedDevice) → device_in xs a.number ≡ Some a → a.half ≡ Closed
         → (o : OpenEntry) → a.history.running ≡ Some o → StepEnds xs later a o }
+{}
+
+/// So do all lines of a step in which a command ends, of a device whose history is a plain device's: its end, CFW lines of tracks that become
+/// firm, at last of one that becomes loose, volume calls, the program that is over. Behind them, at the latest at the next line, the device's
+/// past has these acts and the end.
+pub fn step_leads()
+    ensures { (xs : List AuditedDevice) (later : List EventLine) (a : AuditedDevice) → device_in xs a.number ≡ Some a → a.half ≡ Closed
+        → (o : OpenEntry) → a.history.running ≡ Some o → WholeStepLeads xs later a o }
+{}
+
+/// So do the lines of a step that writes one side of two, with the acts and the volume calls that come with it.
+pub fn half_leads()
+    ensures { (xs : List AuditedDevice) (later : List EventLine) (a : AuditedDevice) → device_in xs a.number ≡ Some a → a.half ≡ Closed
+        → (o : OpenEntry) → a.history.running ≡ Some o → HalfLeads xs later a o }
+{}
+
+/// And so do those of a piece of work in the background, where a line that stands there tells of it.
+pub fn back_leads()
+    ensures { (xs : List AuditedDevice) (later : List EventLine) (a : AuditedDevice) → device_in xs a.number ≡ Some a → BackLeads xs later a }
 {}

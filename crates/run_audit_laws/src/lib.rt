@@ -3,4 +3,4 @@
 
 mod law;
 
-pub use law::{ending_leads, step_ends_lead, still_line_leads};
+pub use law::{back_leads, ending_leads, half_leads, step_ends_lead, step_leads, still_line_leads};
