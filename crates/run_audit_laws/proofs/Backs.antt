@@ -1,5 +1,5 @@
 -- The lines of the first part of a command's write, and of work in the background.
-use Rattle.std.proofs.Common.{◌≡◌, ◌==◌, ◌++◌, ℕ, Bool, true, false, List, [], ◌∷◌, map, Option, Some, None, refl, sym, ap, ◌∙◌, if◌then◌else◌}
+use Rattle.std.proofs.Common.{◌≡◌, ◌==◌, ◌++◌, ℕ, Bool, true, false, List, ◌∷◌, map, Option, Some, None, refl, ap, ◌∙◌, if◌then◌else◌}
 use Rattle.std.specs.Prelude.{◌&&◌, ◌||◌, Ok, Err, option_map}
 use Rattle.deck_plan.specs.declared.event.EventLine.{EventLine}
 use Rattle.deck_plan.specs.declared.event.EventLine.TheVariants.{Back, Step}
@@ -17,10 +17,10 @@ use Rattle.report_places.specs.declared.state.Due.TheVariants.{Behind, Next}
 use Rattle.report_places.specs.declared.state.HalfWrite.{HalfWrite}
 use Rattle.report_places.specs.declared.state.HalfWrite.TheVariants.{Closed, OfCommand}
 use Rattle.report_places.specs.declared.state.Outline.{Outline}
-use Rattle.report_places.specs.Place.{holds, in_event, in_steps, may_back, may_step, worker_of}
+use Rattle.report_places.specs.Place.{holds, in_steps, may_back, may_step, worker_of}
 use Rattle.deck_audit.specs.Device.{AuditedDevice, device_in, open_program, outline_of, state_of}
 use Rattle.deck_audit.specs.History.{back_half, event_made, is_last, is_legal, work_made}
-use Rattle.deck_audit.specs.State.{AuditState, outlines, over_by}
+use Rattle.deck_audit.specs.State.{AuditState, over_by}
 use Rattle.report_auditor.specs.declared.status.AuditWhy.TheVariants.{Place}
 use Rattle.report_auditor.specs.Verdict.{judged, or_history}
 use Rattle.run_audit_laws.specs.Standing.{LeadsBy}

@@ -3,7 +3,6 @@ use Rattle.std.proofs.Common.{◌≡◌, ◌==◌, ◌++◌, ℕ, Bool, true, fa
 use Rattle.std.proofs.lemmas.List.{map-append}
 use Rattle.std.specs.Prelude.{◌&&◌}
 use Rattle.deck_plan.specs.declared.event.EventLine.{EventLine}
-use Rattle.ckd_types.specs.declared.channel.Ccw.{Ccw}
 use Rattle.ckd_types.specs.declared.channel.CommandEnd.{CommandEnd}
 use Rattle.ckd_types.specs.declared.sense.Sense.{Sense}
 use Rattle.ckd_types.specs.Ccw.{ccw_at}
@@ -25,18 +24,18 @@ use Rattle.report_places.specs.declared.state.Did.{Did}
 use Rattle.report_places.specs.declared.state.Did.TheVariants.{CheckEnded, Ended}
 use Rattle.report_places.specs.declared.state.Due.TheVariants.{Behind, Next}
 use Rattle.report_places.specs.declared.state.HalfWrite.TheVariants.{Closed}
-use Rattle.report_places.specs.Place.{in_event, is_act_of, is_of_work, is_over, worker_of}
-use Rattle.report_places.specs.Same.{is_same_over, says}
+use Rattle.report_places.specs.Place.{in_event, is_of_work, is_over, worker_of}
+use Rattle.report_places.specs.Same.{says}
 use Rattle.deck_audit.specs.Device.{AuditedDevice, check_end, device_in, is_next_legal, may_loosen, part_of_open, plain_end, plain_end_at, state_of, words_of_open}
 use Rattle.deck_audit.specs.History.{event_made, is_legal, work_made}
-use Rattle.deck_audit.specs.State.{AuditState, outlines, over_by, over_line, worker_number, worked}
+use Rattle.deck_audit.specs.State.{AuditState, outlines, over_by, over_line, worker_number}
 use Rattle.run_audit_laws.specs.Standing.{LeadsBy}
 use Rattle.run_audit_laws.specs.Steps.{IsCheckSense, NoLoss, Reaches, act_line, over_told, over_if, acted_to}
-use Rattle.run_audit_laws.proofs.EndLines.{IsTidy, before_work, check_lead, plain_lead}
+use Rattle.run_audit_laws.proofs.EndLines.{IsTidy, check_lead, plain_lead}
 use Rattle.run_audit_laws.proofs.Leading.{leads_on, one_leads}
-use Rattle.run_audit_laws.proofs.Saying.{both, same_number, same_over}
+use Rattle.run_audit_laws.proofs.Saying.{both, same_number}
 use Rattle.run_audit_laws.proofs.Tidy.{end_is_tidy}
-use Rattle.run_audit_laws.proofs.Work.{at_work, behind_event, end_of, hardens_lead, loosen_judged, tail_leads, with_history}
+use Rattle.run_audit_laws.proofs.Work.{at_work, end_of, hardens_lead, loosen_judged, tail_leads}
 
 -- The plain device's end of a command
 

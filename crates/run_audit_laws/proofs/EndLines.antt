@@ -22,7 +22,7 @@ use Rattle.std.proofs.Common.{
   inl,
   inr,
 }
-use Rattle.std.specs.Prelude.{◌&&◌, ◌⊎◌, Ok, Err}
+use Rattle.std.specs.Prelude.{◌&&◌, Ok, Err}
 use Rattle.std.specs.Str.{bytes_eq}
 use Rattle.deck_plan.specs.declared.event.EventLine.{EventLine}
 use Rattle.ckd_types.specs.declared.channel.Ccw.{Ccw}
@@ -42,18 +42,17 @@ use Rattle.report_text.specs.Ends.{data_lines, end_line, sense_lines}
 use Rattle.report_text.specs.Events.{ended_lines}
 use Rattle.report_places.specs.declared.state.Did.TheVariants.{CheckEnded, Ended}
 use Rattle.report_places.specs.declared.state.Due.{Due}
-use Rattle.report_places.specs.declared.state.Due.TheVariants.{Behind, DataOf, Next, SenseOf}
+use Rattle.report_places.specs.declared.state.Due.TheVariants.{Behind, Next, SenseOf}
 use Rattle.report_places.specs.declared.state.HalfWrite.TheVariants.{Closed}
 use Rattle.report_places.specs.Place.{in_event, is_sense, worker_of}
-use Rattle.report_places.specs.Same.{is_same_end, is_same_note, says}
+use Rattle.report_places.specs.Same.{is_same_end, is_same_note}
 use Rattle.deck_audit.specs.Device.{AuditedDevice, check_end, device_in, plain_end, words_of_open}
-use Rattle.deck_audit.specs.History.{behind_end, check_made, end_made, end_made_by, event_made, has_sense, sense_made, shown, shows_end, work_made}
+use Rattle.deck_audit.specs.History.{behind_end, check_made, end_made, end_made_by, event_made, has_sense, sense_made, shows_end, work_made}
 use Rattle.deck_audit.specs.State.{AuditState, outlines, then_of}
 use Rattle.report_auditor.specs.declared.status.AuditWhy.TheVariants.{Place}
 use Rattle.report_auditor.specs.Verdict.{judged, or_history}
 use Rattle.run_audit_laws.specs.Standing.{LeadsBy}
 use Rattle.run_audit_laws.specs.Steps.{IsCheckSense}
-use Rattle.run_audit_laws.proofs.Leading.{leads_on}
 use Rattle.run_audit_laws.proofs.Saying.{both, same_bytes, same_note, same_number}
 use Rattle.run_audit_laws.proofs.Work.{at_work, worker_is}
 
@@ -140,24 +139,28 @@ module _ (xs : List AuditedDevice) (w : EventLine) (later : List EventLine) (a :
     plain_by : (sense : Option Sense) → p.sense ≡ sense → TidyBy (ccw_at (words_of_open a o) p.index) p sense →
         LeadsBy before_work (end_told p ∷ (data_lines p.sent ++ sense_lines sense)) (at (Behind true (Ended p)))
     plain_by (Some sense) is tidy =
-        subst (λ (l : List ℕ). LeadsBy before_work (end_told p ∷ (data_lines l ++ sense_lines (Some sense))) (at (Behind true (Ended p)))) (sym tidy.3)
-        (at (SenseOf p),
-        check_judged p (ap (λ (s : UnitStatus). record (end_line o.path a.number o.ordinal checked_as) { status = s }) (sym tidy.0)
-        ∙ ap (λ (r : ℕ). record (end_line o.path a.number o.ordinal checked_as) { status = p.status; residual = r }) (sym tidy.1)
-        ∙ ap (λ (k : Note). record (end_line o.path a.number o.ordinal checked_as) { status = p.status; residual = p.residual; note = k }) (sym tidy.2)),
-        (at (Behind true (Ended p)),
-        sense_is (lines.Sense sense)
-        ∙ ap (λ (b : Bool). or_history (if b then Some (at (Behind true (Ended p)))
-        else then_of a.history.running (check_made (at (SenseOf p)) (lines.Sense sense) (record a { half = Closed }) p)))
-        (ap (has_sense (lines.Sense sense)) is ∙ same_bytes sense.bytes),
-        refl))
-    plain_by None is tidy =
-        (at (behind_end p p.sent),
-        first_is p
-        ∙ ap (λ (b : Bool). or_history (if b then Some (at (SenseOf p)) else if shows_end a o (end_told p) p then Some (at (behind_end p p.sent)) else None))
-        (in_midst _ (check.0 == p.status.0) (checked_as.residual == p.residual) (is_same_note Plain p.note) tidy)
-        ∙ ap (λ (b : Bool). or_history (if b then Some (at (behind_end p p.sent)) else None)) (same_end (end_line o.path a.number o.ordinal p)),
-        data_lead p.sent refl)
+        subst (λ (l : List ℕ). LeadsBy before_work (end_told p ∷ (data_lines l ++ sense_lines (Some sense))) (at (Behind true (Ended p)))) (sym tidy.3) (
+          at (SenseOf p),
+          check_judged p (ap (λ (s : UnitStatus). record (end_line o.path a.number o.ordinal checked_as) { status = s }) (sym tidy.0)
+              ∙ ap (λ (r : ℕ). record (end_line o.path a.number o.ordinal checked_as) { status = p.status; residual = r }) (sym tidy.1)
+              ∙ ap (λ (k : Note). record (end_line o.path a.number o.ordinal checked_as) { status = p.status; residual = p.residual; note = k }) (sym tidy.2)),
+          (
+            at (Behind true (Ended p)),
+            sense_is (lines.Sense sense)
+                ∙ ap (λ (b : Bool). or_history (if b then Some (at (Behind true (Ended p)))
+                else then_of a.history.running (check_made (at (SenseOf p)) (lines.Sense sense) (record a { half = Closed }) p)))
+                (ap (has_sense (lines.Sense sense)) is ∙ same_bytes sense.bytes),
+            refl,
+          ),
+        )
+    plain_by None is tidy = (
+      at (behind_end p p.sent),
+      first_is p
+          ∙ ap (λ (b : Bool). or_history (if b then Some (at (SenseOf p)) else if shows_end a o (end_told p) p then Some (at (behind_end p p.sent)) else None))
+          (in_midst _ (check.0 == p.status.0) (checked_as.residual == p.residual) (is_same_note Plain p.note) tidy)
+          ∙ ap (λ (b : Bool). or_history (if b then Some (at (behind_end p p.sent)) else None)) (same_end (end_line o.path a.number o.ordinal p)),
+      data_lead p.sent refl,
+    )
 
     pub plain_lead : IsTidy (ccw_at (words_of_open a o) p.index) p →
         LeadsBy before_work (ended_lines o.path a.number o.ordinal p) (at (Behind true (Ended p)))
@@ -185,13 +188,16 @@ module _ (xs : List AuditedDevice) (w : EventLine) (later : List EventLine) (a :
         LeadsBy before_work (ended_lines o.path a.number o.ordinal (check_end (words_of_open a o) p.index sense))
         (at (Behind true (CheckEnded (check_end (words_of_open a o) p.index sense))))
     check_lead tidy sense is =
-        let e = check_end (words_of_open a o) p.index sense in
-        (at (SenseOf p),
-        check_judged e refl,
-        (at (Behind true (CheckEnded e)),
-        sense_is (lines.Sense sense)
-        ∙ ap (λ (b : Bool). or_history (if b then Some (at (Behind true (Ended p)))
-        else then_of a.history.running (check_made (at (SenseOf p)) (lines.Sense sense) (record a { half = Closed }) p))) (not_its_sense p.sense tidy sense is)
-        ∙ ap (λ (r : Option OpenEntry). or_history (then_of r (check_made (at (SenseOf p)) (lines.Sense sense) (record a { half = Closed }) p))) running
-        ∙ ap (λ (k : Option AuditState). or_history k) (check_by sense is),
-        refl))
+        let e = check_end (words_of_open a o) p.index sense in (
+          at (SenseOf p),
+          check_judged e refl,
+          (
+            at (Behind true (CheckEnded e)),
+            sense_is (lines.Sense sense)
+                ∙ ap (λ (b : Bool). or_history (if b then Some (at (Behind true (Ended p)))
+                else then_of a.history.running (check_made (at (SenseOf p)) (lines.Sense sense) (record a { half = Closed }) p))) (not_its_sense p.sense tidy sense is)
+                ∙ ap (λ (r : Option OpenEntry). or_history (then_of r (check_made (at (SenseOf p)) (lines.Sense sense) (record a { half = Closed }) p))) running
+                ∙ ap (λ (k : Option AuditState). or_history k) (check_by sense is),
+            refl,
+          ),
+        )

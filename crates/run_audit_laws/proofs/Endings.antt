@@ -1,60 +1,31 @@
 -- The lines at the end of a run: each device's totals and lost tracks, the frames, FINISH.
-use Rattle.std.proofs.Common.{
-  ◌≡◌,
-  ◌+◌,
-  ◌-◌,
-  ◌==◌,
-  ◌++◌,
-  ◌<◌,
-  ℕ,
-  zero,
-  suc,
-  Bool,
-  true,
-  false,
-  List,
-  [],
-  ◌∷◌,
-  map,
-  length,
-  Option,
-  Some,
-  None,
-  refl,
-  sym,
-  ap,
-  subst,
-  ◌∙◌,
-  if◌then◌else◌,
-  append_assoc,
-  arith,
-}
+use Rattle.std.proofs.Common.{◌≡◌, ◌+◌, ◌-◌, ◌==◌, ◌++◌, ℕ, zero, suc, Bool, true, false, List, [], ◌∷◌, map, length, Option, Some, None, refl, ap, ◌∙◌, if◌then◌else◌, arith}
 use Rattle.std.specs.Prelude.{◌||◌, ◌&&◌, All, Ok, Err, drop, nat_lt, slice_get}
 use Rattle.std.specs.List.{flat_map}
 use Rattle.std.proofs.lemmas.List.Elements.{All-head, All-tail}
 use Rattle.std.proofs.lemmas.Bool.Decides.{nat_tests}
 use Rattle.device_outside.specs.Pool.{Frame}
-use Rattle.device_defs.specs.Marks.{MarksDevice, MarksStore}
+use Rattle.device_defs.specs.Marks.{MarksDevice}
 use Rattle.report_text.specs.declared.answers.DeviceTotals.{DeviceTotals}
 use Rattle.report_text.specs.declared.answers.DeviceTotals.TheVariants as totals
 use Rattle.report_text.specs.declared.line.ReportLine.{ReportLine}
 use Rattle.report_text.specs.declared.line.ReportLine.TheVariants as lines
 use Rattle.report_places.specs.declared.state.Due.{Due}
-use Rattle.report_places.specs.declared.state.Due.TheVariants.{Next, Totals, Frames, Nothing}
+use Rattle.report_places.specs.declared.state.Due.TheVariants.{Totals, Frames, Nothing}
 use Rattle.report_places.specs.declared.state.Outline.{Outline}
-use Rattle.report_places.specs.Place.{holds, in_due, in_totals, in_totals_of, is_declared, is_frame, is_finish, is_lost_of, is_totals_of, outline_in}
-use Rattle.deck_audit.specs.Device.{AuditedDevice, outline_of}
-use Rattle.deck_audit.specs.History.{due_made, made_in, totals_made}
+use Rattle.report_places.specs.Place.{holds, in_totals, in_totals_of, is_declared, is_lost_of, is_totals_of}
+use Rattle.deck_audit.specs.Device.{outline_of}
+use Rattle.deck_audit.specs.History.{made_in, totals_made}
 use Rattle.deck_audit.specs.Stands.{stands_in}
 use Rattle.deck_audit.specs.State.{AuditState, outlines}
 use Rattle.report_auditor.specs.declared.status.AuditWhy.TheVariants.{Place}
 use Rattle.report_auditor.specs.Verdict.{judged, or_history}
 use Rattle.run_report.specs.Closing.{device_lines, ending_lines, frame_line}
-use Rattle.subsystem_defs.specs.Closing.{Counted, DeviceEnd, LentTo, device_end, device_end_by, ending, lost_tracks}
-use Rattle.subsystem_defs.specs.Subsystem.{Mounted, Subsystem, devices_of}
+use Rattle.subsystem_defs.specs.Closing.{device_end, device_end_by, ending, lost_tracks}
+use Rattle.subsystem_defs.specs.Subsystem.{Mounted, Subsystem}
 use Rattle.run_audit_laws.specs.Standing.{FramesAreDeclared, LeadsBy, audited, stand}
 use Rattle.run_audit_laws.proofs.Found.{devices}
-use Rattle.run_audit_laws.proofs.Leading.{leads_on, one_leads}
+use Rattle.run_audit_laws.proofs.Leading.{leads_on}
 use Rattle.run_audit_laws.proofs.Saying.{both, same_number}
 
 -- Where k devices have had their totals: at the first line none has

@@ -1,5 +1,5 @@
 -- How lines lead on: one after another, at an event's first line, and behind a piece of work that is taken as done.
-use Rattle.std.proofs.Common.{◌≡◌, ◌++◌, ℕ, Bool, true, false, not, List, [], ◌∷◌, Option, Some, None, refl, sym, ap, subst, ◌∙◌, if◌then◌else◌}
+use Rattle.std.proofs.Common.{◌≡◌, ◌++◌, Bool, true, false, not, List, [], ◌∷◌, Option, Some, None, refl, sym, ap, subst, ◌∙◌, if◌then◌else◌}
 use Rattle.std.specs.Prelude.{◌||◌, ◌&&◌, Result, Ok, Err}
 use Rattle.deck_plan.specs.declared.event.EventLine.{EventLine}
 use Rattle.report_text.specs.declared.event.Happened.{Happened}
@@ -9,7 +9,6 @@ use Rattle.report_places.specs.declared.state.Did.{Did}
 use Rattle.report_places.specs.declared.state.Due.{Due}
 use Rattle.report_places.specs.declared.state.Due.TheVariants.{Next, Behind, OverOf}
 use Rattle.report_places.specs.Place.{holds, in_due, in_event, is_io, is_of_work}
-use Rattle.deck_audit.specs.Device.{AuditedDevice}
 use Rattle.deck_audit.specs.History.{act_of_work, due_made, event_made, is_legal, made_in}
 use Rattle.deck_audit.specs.Stands.{stands_in}
 use Rattle.deck_audit.specs.State.{AuditState, outlines, settled, then_of, worker, worker_number}

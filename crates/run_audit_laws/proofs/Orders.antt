@@ -1,41 +1,16 @@
 -- Orders that are refused, that wait, or that change nothing of what the audit knows.
-use Rattle.std.proofs.Common.{
-  ◌≡◌,
-  ◌==◌,
-  ◌++◌,
-  ℕ,
-  Bool,
-  true,
-  false,
-  List,
-  [],
-  ◌∷◌,
-  map,
-  Option,
-  Some,
-  None,
-  refl,
-  sym,
-  ap,
-  subst,
-  ◌∙◌,
-  if◌then◌else◌,
-}
-use Rattle.std.specs.Prelude.{Ok}
+use Rattle.std.proofs.Common.{◌≡◌, ◌==◌, ◌++◌, ℕ, Bool, true, false, List, [], ◌∷◌, Option, Some, None, refl, sym, ap, subst, ◌∙◌, if◌then◌else◌}
 use Rattle.ckd_types.specs.declared.paths.Side.{Side}
 use Rattle.ckd_types.specs.declared.paths.Side.TheVariants.{A, B}
 use Rattle.deck_plan.specs.declared.event.EventLine.{EventLine}
 use Rattle.deck_plan.specs.declared.event.EventLine.TheVariants as wanted
-use Rattle.plain_defs.specs.History.{History}
 use Rattle.device_outside.specs.Pool.{Pool, all_waiting, cache_repaired, store_repaired}
 use Rattle.device_outside.specs.Told.{Calls}
-use Rattle.device_defs.specs.Contents.{by_plain}
 use Rattle.device_defs.specs.Marks.{MarksDevice}
 use Rattle.device_defs.specs.Orders.{hold, replace, resume}
 use Rattle.report_text.specs.declared.answers.OrderAnswer.{OrderAnswer}
 use Rattle.report_text.specs.declared.answers.OrderAnswer.TheVariants as answers
 use Rattle.report_text.specs.declared.answers.OrderFault as told
-use Rattle.report_text.specs.declared.event.Happened.{Happened}
 use Rattle.report_text.specs.declared.event.Happened.TheVariants as did
 use Rattle.report_text.specs.declared.line.ReportLine.{ReportLine}
 use Rattle.report_text.specs.declared.line.ReportLine.TheVariants as lines
@@ -47,7 +22,7 @@ use Rattle.deck_audit.specs.Device.{AuditedDevice}
 use Rattle.deck_audit.specs.History.{event_made}
 use Rattle.deck_audit.specs.State.{AuditState, outlines, passed}
 use Rattle.run_report.specs.Answers.{order_answer, refused_as}
-use Rattle.run_report.specs.Beside.{loose_lines, over_lines, of_each}
+use Rattle.run_report.specs.Beside.{over_lines}
 use Rattle.run_report.specs.Events.{event_lines, work_lines}
 use Rattle.run_report.specs.OneDevice.{lines_at}
 use Rattle.run_report.proofs.OneDevice.{tells_alone}

@@ -2,11 +2,10 @@
 use Rattle.std.proofs.Common.{◌≡◌, ◌==◌, ℕ, Bool, true, false, Option, Some, None, refl, sym, ap, ◌∙◌, if◌then◌else◌}
 use Rattle.std.proofs.lemmas.Bool.{cond_both}
 use Rattle.ckd_types.specs.declared.geometry.Geometry.{Geometry}
-use Rattle.plain_defs.specs.History.{History, OpenEntry, has_used, reset as history_reset}
+use Rattle.plain_defs.specs.History.{History, OpenEntry, has_used}
 use Rattle.plain_defs.specs.Journal.{Plans}
-use Rattle.plain_defs.specs.PlainState.{PlainState, empty_state, reset_path}
-use Rattle.track_image.specs.Image.{Image}
-use Rattle.device_outside.specs.Interaction.{Interaction, Done, and_then}
+use Rattle.plain_defs.specs.PlainState.{empty_state, reset_path}
+use Rattle.device_outside.specs.Interaction.{Done}
 use Rattle.device_defs.specs.Contents.{by_plain}
 use Rattle.device_defs.specs.Cutting as K
 use Rattle.device_defs.specs.Cutting.{counts_one_by, half_cut, origin_cut, path_cut, reset, reset_by, reset_noted}
@@ -15,7 +14,6 @@ use Rattle.device_defs.specs.Store.{Origin, OfCommand, OfCut, OfBackground}
 use Rattle.device_defs.specs.Store as store
 use Rattle.device_laws.proofs.Always.{Always, always_done, always_tell, always_then}
 use Rattle.report_places.specs.declared.state.HalfWrite.{HalfWrite}
-use Rattle.deck_audit.specs.Device.{AuditedDevice}
 use Rattle.deck_audit.specs.History.{cut_half}
 use Rattle.run_audit_laws.specs.Standing.{audited, half_by, half_of}
 

@@ -1,35 +1,5 @@
 -- RESET: the OVER line of a program that it cuts, and its own line.
-use Rattle.std.proofs.Common.{
-  ◌≡◌,
-  ◌+◌,
-  ◌==◌,
-  ◌++◌,
-  ℕ,
-  zero,
-  suc,
-  Bool,
-  true,
-  false,
-  not,
-  List,
-  [],
-  ◌∷◌,
-  map,
-  length,
-  Option,
-  Some,
-  None,
-  refl,
-  sym,
-  ap,
-  subst,
-  cond,
-  ◌∙◌,
-  if◌then◌else◌,
-  arith,
-  inl,
-  inr,
-}
+use Rattle.std.proofs.Common.{◌≡◌, ◌+◌, ◌==◌, ◌++◌, ℕ, Bool, true, false, not, List, [], ◌∷◌, map, length, Option, Some, None, refl, sym, ap, subst, ◌∙◌, if◌then◌else◌, arith, inl, inr}
 use Rattle.std.specs.Prelude.{◌||◌, ◌&&◌, ◌⊎◌, IfSome, Ok, Err}
 use Rattle.std.proofs.lemmas.Bool.{eqb-true, eq-eqb, ne_eqb}
 use Rattle.ckd_types.specs.Parameters.{is_provisional}
@@ -50,7 +20,7 @@ use Rattle.device_defs.specs.Cutting.{counts_one_by, is_of_command, reset}
 use Rattle.device_defs.specs.Marks.{MarksDevice}
 use Rattle.device_defs.specs.Store as store
 use Rattle.device_outside.specs.Interaction.{Done}
-use Rattle.device_laws.proofs.DeviceCuts.{HasHistory, reset_tells}
+use Rattle.device_laws.proofs.DeviceCuts.{reset_tells}
 use Rattle.device_laws.proofs.Had.{Had, held, had_done, had_then}
 use Rattle.device_laws.proofs.HistoryCuts.{MayTake}
 use Rattle.device_laws.proofs.PlainCuts.{may}
@@ -61,15 +31,14 @@ use Rattle.report_text.specs.declared.answers.HowOver.TheVariants as how
 use Rattle.report_text.specs.declared.event.Happened.TheVariants as did
 use Rattle.report_text.specs.declared.line.ReportLine.{ReportLine}
 use Rattle.report_text.specs.declared.line.ReportLine.TheVariants as lines
-use Rattle.report_text.specs.Events.{io_lines, program_over_lines}
+use Rattle.report_text.specs.Events.{program_over_lines}
 use Rattle.report_places.specs.declared.state.Due.TheVariants.{ResetOf}
-use Rattle.report_places.specs.declared.state.HalfWrite.{HalfWrite}
 use Rattle.report_places.specs.declared.state.Outline.{Outline}
 use Rattle.report_places.specs.Place.{holds, is_cut, may_reset}
 use Rattle.deck_audit.specs.Device.{AuditedDevice, edit_of, is_edit_legal, is_next_legal, open_program, outline_of, part_of_open, with_device}
 use Rattle.deck_audit.specs.History as M
 use Rattle.deck_audit.specs.History.{changed, cut_half, reset_made}
-use Rattle.deck_audit.specs.State.{AuditState, passed, then_of}
+use Rattle.deck_audit.specs.State.{AuditState, passed}
 use Rattle.report_auditor.specs.declared.status.AuditWhy.TheVariants.{Place}
 use Rattle.report_auditor.specs.Verdict.{judged}
 use Rattle.run_report.specs.Beside.{loose_lines, over_lines, over_of}
@@ -334,11 +303,17 @@ module _ (s : Subsystem) (plain : ArePlain s.mounted) (path n : ℕ) (x : MarksD
         ∙ ap (λ (k : Option Mounted). lines_at (did.Reset path n) 0 0 k y) there
         ∙ ap (λ (d : MarksDevice). loose_lines d y ++ (over_lines d y ++ lines.Reset path n ∷ [])) it_is
         ∙ ap (λ (l : List ReportLine). l ++ (over_lines x y ++ lines.Reset path n ∷ [])) none
-        ∙ ap (λ (l : List ReportLine). l ++ lines.Reset path n ∷ []) over))
-        (cut_to more, over_judged, (stand (with_mounted s n z) later,
-        reset_judged (stand (with_mounted s n z) later)
-        (ap (λ (l : List AuditedDevice). record { devices = l; events = later; due = (stand s later).due })
-        (ap (with_device (map audited (devices_of s))) (sym as_cut) ∙ put_at s.mounted n z (g.parts.number ∙ number_is))), refl))
+        ∙ ap (λ (l : List ReportLine). l ++ lines.Reset path n ∷ []) over)) (
+          cut_to more,
+          over_judged,
+          (
+            stand (with_mounted s n z) later,
+            reset_judged (stand (with_mounted s n z) later)
+                (ap (λ (l : List AuditedDevice). record { devices = l; events = later; due = (stand s later).due })
+                (ap (with_device (map audited (devices_of s))) (sym as_cut) ∙ put_at s.mounted n z (g.parts.number ∙ number_is))),
+            refl,
+          ),
+        )
 
 module _ (s : Subsystem) (plain : ArePlain s.mounted) (path n : ℕ) (x : MarksDevice) (at : device_in (devices_of s) n ≡ Some x) where
   by_running : (later : List EventLine) (r : Option OpenEntry) → x.history.running ≡ r →

@@ -1,50 +1,33 @@
 -- START: the audit answers as the device of the run.
-use Rattle.std.proofs.Common.{
-  ◌≡◌,
-  ◌≤◌,
-  ◌+◌,
-  ◌-◌,
-  ◌==◌,
-  ◌++◌,
-  ℕ,
-  Bool,
-  true,
-  false,
-  not,
-  List,
-  [],
-  ◌∷◌,
-  map,
-  length,
-  Option,
-  Some,
-  None,
-  refl,
-  sym,
-  ap,
-  subst,
-  ◌∙◌,
-  if◌then◌else◌,
-  arith,
-}
-use Rattle.std.specs.Prelude.{◌||◌, ◌&&◌, nat_le, count_by, IfSome, Ok, Result}
+use Rattle.std.proofs.Common.{◌≡◌, ◌+◌, ◌-◌, ◌==◌, ◌++◌, ℕ, Bool, true, false, not, List, [], ◌∷◌, map, length, Option, Some, None, refl, sym, ap, subst, ◌∙◌, if◌then◌else◌, arith}
+use Rattle.std.specs.Prelude.{◌||◌, ◌&&◌, nat_le, count_by, IfSome, Ok}
 use Rattle.std.specs.List.{list_all, list_any}
 use Rattle.std.proofs.lemmas.Bool.Decides.{nat_tests}
 use Rattle.ckd_types.specs.declared.channel.Ccw.{Ccw}
 use Rattle.ckd_types.specs.declared.paths.Owner.{Owner}
 use Rattle.deck_plan.specs.declared.event.EventLine.{EventLine}
 use Rattle.deck_plan.specs.declared.event.EventLine.TheVariants as wanted
-use Rattle.plain_defs.specs.History.{History, OpenEntry, is_path_of, plain_of, started}
+use Rattle.plain_defs.specs.History.{OpenEntry, is_path_of, plain_of, started}
 use Rattle.plain_defs.specs.Journal.{planned, program_of}
 use Rattle.plain_defs.specs.Legal.{is_of_path}
-use Rattle.plain_defs.specs.PlainState.{PathsState, PlainState, is_admitted, owner_of}
+use Rattle.plain_defs.specs.PlainState.{PathsState, PlainState, is_admitted}
 use Rattle.device_defs.specs.declared.answers.StartFault.{StartFault}
 use Rattle.device_defs.specs.declared.answers.StartFault.TheVariants as faults
-use Rattle.device_defs.specs.Contents.{by_plain}
 use Rattle.device_defs.specs.Marks.{MarksDevice}
 use Rattle.device_defs.specs.Start as S
-use Rattle.device_defs.specs.Start.{start, start_fault, fault_by, running_fault, idle_fault, reserved_fault, started_count, left, keeps_out, is_shut,
-  has_none_or_is_out}
+use Rattle.device_defs.specs.Start.{
+  start,
+  start_fault,
+  fault_by,
+  running_fault,
+  idle_fault,
+  reserved_fault,
+  started_count,
+  left,
+  keeps_out,
+  is_shut,
+  has_none_or_is_out,
+}
 use Rattle.device_laws.proofs.DeviceHistory.{starts_where_idle}
 use Rattle.report_text.specs.declared.answers.StartAnswer.{StartAnswer}
 use Rattle.report_text.specs.declared.answers.StartAnswer.TheVariants as answers
@@ -53,16 +36,28 @@ use Rattle.report_text.specs.declared.line.ReportLine.{ReportLine}
 use Rattle.report_text.specs.declared.line.ReportLine.TheVariants as lines
 use Rattle.report_places.specs.Same.{is_same_start, says}
 use Rattle.deck_audit.specs.Device as A
-use Rattle.deck_audit.specs.Device.{AuditedDevice, state_of, has_left, may_start, four_paths, held_answer, free_answer, running_answer, lent_answer,
-  own_runs, start_answer, with_device}
-use Rattle.deck_audit.specs.History.{after_start, changed, event_made, shown, start_made}
+use Rattle.deck_audit.specs.Device.{
+  AuditedDevice,
+  state_of,
+  has_left,
+  may_start,
+  four_paths,
+  held_answer,
+  free_answer,
+  running_answer,
+  lent_answer,
+  own_runs,
+  start_answer,
+  with_device,
+}
+use Rattle.deck_audit.specs.History.{after_start, changed, shown, start_made}
 use Rattle.deck_audit.specs.State.{AuditState, passed}
 use Rattle.report_auditor.specs.Verdict.{judged}
 use Rattle.run_report.specs.Answers as R
 use Rattle.run_report.specs.Answers.{start_refused}
 use Rattle.run_report.specs.Beside.{over_lines}
 use Rattle.run_report.specs.OneDevice.{lines_at, TellsNothing}
-use Rattle.run_report.specs.Events.{event_lines, work_lines}
+use Rattle.run_report.specs.Events.{work_lines}
 use Rattle.run_report.proofs.OneDevice.{tells_alone}
 use Rattle.run_report.proofs.Quiet.{start_tells}
 use Rattle.subsystem_defs.specs.declared.end.EventEnd.TheVariants as ends
@@ -170,7 +165,7 @@ module _ (x : MarksDevice) (p : Plainly x) where
           by_shut false = refl
       held_by None is out =
           absurd (let yes : admits ≡ true = free_admits (state_of a).paths path (program_of x.plans path (A.next_ordinal a path))
-              (ap (λ (q : PathsState). q.owner) paths_are ∙ is) in let both : true ≡ false = sym yes ∙ out in cc)
+          (ap (λ (q : PathsState). q.owner) paths_are ∙ is) in let both : true ≡ false = sym yes ∙ out in cc)
 
       owner_is : (state_of a).paths.owner ≡ x.paths.owner
       owner_is = ap (λ (q : PathsState). q.owner) paths_are

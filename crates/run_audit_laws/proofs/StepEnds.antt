@@ -1,9 +1,7 @@
 -- The lines of a command that ends in a STEP.
-use Rattle.std.proofs.Common.{◌≡◌, ◌==◌, ◌++◌, ℕ, Bool, true, false, List, [], ◌∷◌, map, Option, Some, None, refl, sym, ap, subst, ◌∙◌}
+use Rattle.std.proofs.Common.{◌≡◌, ◌==◌, ◌++◌, ℕ, Bool, true, false, List, [], ◌∷◌, Option, Some, refl, ap, subst, ◌∙◌}
 use Rattle.std.specs.Prelude.{◌&&◌, ◌||◌, option_map}
 use Rattle.ckd_types.specs.declared.channel.CommandEnd.{CommandEnd}
-use Rattle.ckd_types.specs.declared.sense.Sense.{Sense}
-use Rattle.ckd_types.specs.Sense.{equipment_sense}
 use Rattle.deck_plan.specs.declared.event.EventLine.{EventLine}
 use Rattle.deck_plan.specs.declared.event.EventLine.TheVariants.{Step}
 use Rattle.plain_defs.specs.History.{OpenEntry, ended}
@@ -14,17 +12,14 @@ use Rattle.report_text.specs.declared.answers.HowOver.TheVariants as how
 use Rattle.report_text.specs.declared.line.ReportLine.{ReportLine}
 use Rattle.report_text.specs.declared.line.ReportLine.TheVariants as lines
 use Rattle.report_text.specs.Ends.{end_line}
-use Rattle.report_text.specs.Events.{ended_lines}
-use Rattle.report_places.specs.declared.state.Did.TheVariants.{CheckEnded, Ended}
-use Rattle.report_places.specs.declared.state.Due.TheVariants.{Behind, Next}
-use Rattle.report_places.specs.declared.state.HalfWrite.{HalfWrite}
+use Rattle.report_places.specs.declared.state.Did.TheVariants.{Ended}
+use Rattle.report_places.specs.declared.state.Due.TheVariants.{Next}
 use Rattle.report_places.specs.declared.state.HalfWrite.TheVariants.{Closed}
 use Rattle.report_places.specs.declared.state.Outline.{Outline}
 use Rattle.report_places.specs.Place.{holds, in_event, in_steps, may_step}
-use Rattle.deck_audit.specs.Device.{AuditedDevice, check_end, device_in, open_program, outline_of, plain_end, with_device, words_of_open}
+use Rattle.deck_audit.specs.Device.{AuditedDevice, device_in, open_program, outline_of}
 use Rattle.deck_audit.specs.History.{event_made, work_made}
 use Rattle.deck_audit.specs.State.{AuditState, outlines}
-use Rattle.run_audit_laws.specs.Standing.{LeadsBy}
 use Rattle.run_audit_laws.specs.Steps.{Reaches, StepEnds, WholeStepLeads, acted_to, over_if, over_told, step_done}
 use Rattle.run_audit_laws.proofs.Commands.{check_command_leads, loose_command_leads, plain_command_leads, plain_end_is_tidy}
 use Rattle.run_audit_laws.proofs.EndLines.{check_lead, plain_lead}

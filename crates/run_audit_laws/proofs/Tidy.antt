@@ -1,17 +1,14 @@
 -- The form of an end on the plain device: with sense it has that of a check, and of another cause; without sense another status.
-use Rattle.std.proofs.Common.{◌≡◌, ◌==◌, ◌+◌, ℕ, zero, suc, Bool, true, false, List, Option, Some, None, refl, sym, ap, subst, ◌∙◌, ◌*◌, inl, inr}
-use Rattle.std.specs.Prelude.{◌%◌, ◌&&◌, ◌||◌, [], ◌⊎◌, not, is_some, length, nat_le, nat_lt, Result, Ok, Err, ⊤, if◌then◌else◌}
+use Rattle.std.proofs.Common.{◌≡◌, ◌==◌, ◌+◌, ℕ, zero, suc, Bool, true, false, List, Option, Some, None, refl, ap, ◌∙◌, ◌*◌, inl, inr}
+use Rattle.std.specs.Prelude.{◌%◌, ◌&&◌, [], ◌⊎◌, not, is_some, length, nat_le, nat_lt, Result, Ok, Err, ⊤, if◌then◌else◌}
 use Rattle.std.specs.Str.{bytes_eq}
 use Rattle.std.proofs.lemmas.Bool.{cond_both}
 use Rattle.ckd_types.specs.declared.channel.Ccw.{Ccw}
-use Rattle.ckd_types.specs.declared.channel.CommandEnd.{CommandEnd}
-use Rattle.ckd_types.specs.declared.channel.Note.{Note}
-use Rattle.ckd_types.specs.declared.channel.Note.TheVariants.{Plain, IncorrectLength, Limit}
+use Rattle.ckd_types.specs.declared.channel.Note.TheVariants.{Plain, Limit}
 use Rattle.ckd_types.specs.declared.command.Command.{Command}
 use Rattle.ckd_types.specs.declared.command.Command.TheVariants as commands
 use Rattle.ckd_types.specs.declared.command.ReadArea.{ReadArea}
 use Rattle.ckd_types.specs.declared.command.ReadArea.TheVariants as reads
-use Rattle.ckd_types.specs.declared.command.Search.{Search}
 use Rattle.ckd_types.specs.declared.command.SearchArea.{SearchArea}
 use Rattle.ckd_types.specs.declared.command.Read.{Read}
 use Rattle.ckd_types.specs.declared.command.Write.{Write}
@@ -49,13 +46,13 @@ use Rattle.ckd_rules.specs.declared.turned.Turned.{Turned}
 use Rattle.ckd_rules.specs.declared.turned.Turned.TheVariants as turns
 use Rattle.ckd_rules.specs.Checks.{mask_fault, masked_order, order_by, order_of, permitted_order, placed_order, is_within, first_track, is_in_sequence, decoded}
 use Rattle.ckd_rules.specs.Control.{located, unseen_place}
-use Rattle.ckd_rules.specs.Ending.{Outcome, check, ended, exception, immediate, normal, refused}
-use Rattle.ckd_rules.specs.Ends.{at_limit, end_of, is_plain, note_of, would_go_on}
-use Rattle.ckd_rules.specs.Finding.{find_from, find_on, from_index, missed, moves_on, next_track, track_after}
+use Rattle.ckd_rules.specs.Ending.{Outcome, check, exception, normal, refused}
+use Rattle.ckd_rules.specs.Ends.{at_limit, end_of, is_plain, note_of}
+use Rattle.ckd_rules.specs.Finding.{find_from, from_index, missed, moves_on, next_track, track_after}
 use Rattle.ckd_rules.specs.Formats.{format_behind, format_ended, record_given, has_room_behind, is_zero_given, key_given, body_given, zero_on}
 use Rattle.ckd_rules.specs.Look.{look_on}
 use Rattle.ckd_rules.specs.Looked.{Looked, edits, ends}
-use Rattle.ckd_rules.specs.Opening.{Opened, begun, locating, look_from, moved, opened_by, opening_of, read_from}
+use Rattle.ckd_rules.specs.Opening.{begun, locating, look_from, moved, opened_by, opening_of, read_from}
 use Rattle.ckd_rules.specs.Reads.{read_sought, record_at, read_status, status_of}
 use Rattle.ckd_rules.specs.Searches.{search_sought, search_status}
 use Rattle.ckd_types.specs.declared.record.Edit.TheVariants.{Format, Update, Zero as ZeroEdit}
@@ -66,7 +63,7 @@ use Rattle.ckd_rules.specs.Walk as W
 use Rattle.ckd_rules.specs.Walk.{Walked, touching, walk, walked}
 use Rattle.ckd_rules.specs.Writes.{write_on}
 use Rattle.plain_defs.specs.Acts.{act_fault, act_outcome}
-use Rattle.plain_defs.specs.Effect.{acted, acted_by, command_effect, effect_by, effect_on}
+use Rattle.plain_defs.specs.Effect.{acted_by, effect_by, effect_on}
 use Rattle.plain_defs.specs.PlainState.{PathsState, PlainState}
 use Rattle.run_audit_laws.proofs.EndLines.{TidyBy}
 

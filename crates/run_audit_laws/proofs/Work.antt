@@ -22,21 +22,18 @@ use Rattle.std.proofs.Common.{
   ◌∙◌,
   if◌then◌else◌,
 }
-use Rattle.std.specs.Prelude.{◌||◌, ◌&&◌, Ok, Err, Result}
+use Rattle.std.specs.Prelude.{◌||◌, ◌&&◌, Ok, Err}
 use Rattle.std.proofs.lemmas.Bool.{eq-eqb}
 use Rattle.deck_plan.specs.declared.event.EventLine.{EventLine}
 use Rattle.ckd_types.specs.declared.channel.CommandEnd.{CommandEnd}
 use Rattle.plain_defs.specs.declared.journal.Act.{Act}
 use Rattle.plain_defs.specs.declared.journal.Act.TheVariants.{Loosen, Harden, CfwLost}
-use Rattle.plain_defs.specs.History.{History, IsPlain, OpenEntry, acted, plain_of}
+use Rattle.plain_defs.specs.History.{History, IsPlain, acted}
 use Rattle.plain_defs.specs.Legal.{AreActs}
-use Rattle.plain_defs.specs.Loose.{act_done, is_loose}
+use Rattle.plain_defs.specs.Loose.{is_loose}
 use Rattle.plain_defs.specs.PlainState.{PlainState}
-use Rattle.device_defs.specs.Command.{is_loss}
 use Rattle.device_defs.specs.Device.{all_acted}
 use Rattle.device_laws.proofs.HistoryActs.{acted_plain, acted_state, acts_first, acts_rest}
-use Rattle.report_text.specs.declared.answers.HowOver.{HowOver}
-use Rattle.report_text.specs.declared.answers.HowOver.TheVariants as how
 use Rattle.report_text.specs.declared.answers.LooseAnswer.TheVariants as loose
 use Rattle.report_text.specs.declared.line.ReportLine.{ReportLine}
 use Rattle.report_text.specs.declared.line.ReportLine.TheVariants as lines
@@ -48,16 +45,14 @@ use Rattle.report_places.specs.declared.state.Due.TheVariants.{Next, Behind, Ove
 use Rattle.report_places.specs.Place.{holds, in_due, is_act_of, is_io, is_of_work, is_over, worker_of}
 use Rattle.report_places.specs.Same.{says}
 use Rattle.deck_audit.specs.Device.{AuditedDevice, device_in, may_loosen, state_of, with_device}
-use Rattle.deck_audit.specs.History.{act_made, act_of_work, behind_made, due_made, is_legal, shown}
-use Rattle.deck_audit.specs.State.{AuditState, behind_work, is_event_over, outlines, over_by, over_line, settled, settled_by, settled_in, then_of, worked, worker,
-  worker_number}
-use Rattle.report_auditor.specs.declared.status.AuditWhy.{AuditWhy}
+use Rattle.deck_audit.specs.History.{act_made, act_of_work, due_made, is_legal, shown}
+use Rattle.deck_audit.specs.State.{AuditState, behind_work, is_event_over, outlines, over_by, settled, settled_by, settled_in, then_of, worked, worker, worker_number}
 use Rattle.report_auditor.specs.declared.status.AuditWhy.TheVariants.{Place}
 use Rattle.report_auditor.specs.Verdict.{judged, or_history}
 use Rattle.run_audit_laws.specs.Standing.{LeadsBy}
 use Rattle.run_audit_laws.specs.Steps.{NoLoss, Reaches, is_there, is_waiting, act_line}
-use Rattle.run_audit_laws.proofs.Leading.{judged_due, judged_over, then_some, waiting_judged}
-use Rattle.run_audit_laws.proofs.Saying.{both, same_number, same_over}
+use Rattle.run_audit_laws.proofs.Leading.{judged_due, judged_over, waiting_judged}
+use Rattle.run_audit_laws.proofs.Saying.{same_number}
 
 -- Another device in the place of its number
 
@@ -260,12 +255,14 @@ module _ (xs : List AuditedDevice) (w : EventLine) (later : List EventLine) (n :
         let z = at_work (worked a did) (OverOf line) in
         let as_settled = settled_over line is in (
           behind_event (worked a did) Halved,
-          (behind_event (worked a did) Halved,
-          waiting_judged s line more did refl (over line refl).1
-          (ap (λ (k : Option AuditedDevice). holds k (is_legal did)) (worker_is a (Behind more did) same) ∙ legal)
-          ∙ ap (λ (y : AuditState). judged_due y line y.due) as_settled
-          ∙ over_judged line (over line refl).0,
-          refl),
+          (
+            behind_event (worked a did) Halved,
+            waiting_judged s line more did refl (over line refl).1
+                (ap (λ (k : Option AuditedDevice). holds k (is_legal did)) (worker_is a (Behind more did) same) ∙ legal)
+                ∙ ap (λ (y : AuditState). judged_due y line y.due) as_settled
+                ∙ over_judged line (over line refl).0,
+            refl,
+          ),
           is_there refl,
         )
 
@@ -281,8 +278,11 @@ module _ (xs : List AuditedDevice) (w : EventLine) (later : List EventLine) (n :
     told_tail io is (Some line) found over =
         let z = at_work (worked a did) (OverOf line) in (
           behind_event (worked a did) Halved,
-          (z, io_judged a same more did io is legal ∙ ap (λ (y : AuditState). Ok y) (settled_over line found),
-          (behind_event (worked a did) Halved, judged_over z line line refl ∙ over_judged line (over line refl), refl)),
+          (
+            z,
+            io_judged a same more did io is legal ∙ ap (λ (y : AuditState). Ok y) (settled_over line found),
+            (behind_event (worked a did) Halved, judged_over z line line refl ∙ over_judged line (over line refl), refl),
+          ),
           is_there refl,
         )
 
