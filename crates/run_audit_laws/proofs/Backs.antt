@@ -54,8 +54,11 @@ module _ (xs : List AuditedDevice) (w : EventLine) (later : List EventLine) (a :
       let tail = tail_leads xs w later a.number is_work a has acted refl true did (legal acted) reads writes None (no_over acted)
       (λ l is. absurd (let none_is : None ≡ Some l = is in cc)) in (
         tail.0,
-        leads_on from s tail.0 (line ∷ map (act_line a.number) acts) (io_lines reads writes ++ line_if None)
-            (at_work xs w later a.number is_work a has b (Behind true did), first, hardens_lead xs w later a.number is_work a has b refl did acts plainly none are)
+        leads_on from s tail.0 (line ∷ map (act_line a.number) acts) (io_lines reads writes ++ line_if None) (
+          at_work xs w later a.number is_work a has b (Behind true did),
+          first,
+          hardens_lead xs w later a.number is_work a has b refl did acts plainly none are,
+        )
             tail.1,
         tail.2,
       )
@@ -84,7 +87,8 @@ module _ (xs : List AuditedDevice) (later : List EventLine) (a : AuditedDevice) 
         (outlined xs a.number ∙ ap (λ (k : Option AuditedDevice). option_map outline_of k) has)
         ∙ ap (may_step (outline_of a) (lines.StepIdle a.number) line) closed
         ∙ ap (λ (r : Option OpenEntry). in_steps (outline_of a) (lines.StepIdle a.number) line (open_program r)) running
-        ∙ first_of false ((o.path == o.path) && (a.number == a.number)) (both (o.path == o.path) (a.number == a.number) (same_number o.path) (same_number a.number)))
+        ∙ first_of false ((o.path == o.path) && (a.number == a.number)) (both (o.path == o.path) (a.number == a.number) (same_number o.path)
+        (same_number a.number)))
         ∙ ap (λ (k : Option AuditState). or_history k) (then_some (device_in xs a.number) a (work_made s line) has)
 
     pub half_leads : HalfLeads xs later a o

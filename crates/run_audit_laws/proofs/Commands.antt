@@ -1,5 +1,27 @@
 -- All lines of a command that ends: its end, acts of cache fast write, volume calls, the program that is over.
-use Rattle.std.proofs.Common.{◌≡◌, ◌==◌, ◌++◌, ℕ, Bool, true, false, List, [], ◌∷◌, map, Option, Some, None, refl, sym, ap, subst, ◌∙◌, if◌then◌else◌, append_assoc}
+use Rattle.std.proofs.Common.{
+  ◌≡◌,
+  ◌==◌,
+  ◌++◌,
+  ℕ,
+  Bool,
+  true,
+  false,
+  List,
+  [],
+  ◌∷◌,
+  map,
+  Option,
+  Some,
+  None,
+  refl,
+  sym,
+  ap,
+  subst,
+  ◌∙◌,
+  if◌then◌else◌,
+  append_assoc,
+}
 use Rattle.std.proofs.lemmas.List.{map-append}
 use Rattle.std.specs.Prelude.{◌&&◌}
 use Rattle.deck_plan.specs.declared.event.EventLine.{EventLine}
@@ -26,7 +48,18 @@ use Rattle.report_places.specs.declared.state.Due.TheVariants.{Behind, Next}
 use Rattle.report_places.specs.declared.state.HalfWrite.TheVariants.{Closed}
 use Rattle.report_places.specs.Place.{in_event, is_of_work, is_over, worker_of}
 use Rattle.report_places.specs.Same.{says}
-use Rattle.deck_audit.specs.Device.{AuditedDevice, check_end, device_in, is_next_legal, may_loosen, part_of_open, plain_end, plain_end_at, state_of, words_of_open}
+use Rattle.deck_audit.specs.Device.{
+  AuditedDevice,
+  check_end,
+  device_in,
+  is_next_legal,
+  may_loosen,
+  part_of_open,
+  plain_end,
+  plain_end_at,
+  state_of,
+  words_of_open,
+}
 use Rattle.deck_audit.specs.History.{event_made, is_legal, work_made}
 use Rattle.deck_audit.specs.State.{AuditState, outlines, over_by, over_line, worker_number}
 use Rattle.run_audit_laws.specs.Standing.{LeadsBy}
@@ -97,7 +130,8 @@ module _ (xs : List AuditedDevice) (w : EventLine) (later : List EventLine) (a :
 
   -- with the acts so far, and what came of the command
   module _ (acts : List Act) (more : Bool) (did : Did) (legal : is_legal did (record a { history = all_acted a.history acts; half = Closed }) ≡ true)
-      (over : Option ReportLine) (over_so : over_by (record a { history = all_acted a.history acts; half = Closed }) did (all_acted a.history acts).running ≡ over)
+      (over : Option ReportLine) (over_so : over_by (record a { history = all_acted a.history acts; half = Closed }) did (all_acted a.history acts).running
+      ≡ over)
       (apart : (line : ReportLine) → over ≡ Some line → ((is_over line line ≡ true) × (says line line ≡ true))
       × (is_of_work more (worker_number (at_work xs w later a.number is_work a has
       (record a { history = all_acted a.history acts; half = Closed }) (Behind more did))) line ≡ false)) where

@@ -117,7 +117,8 @@ module _ (xs : List AuditedDevice) (w : EventLine) (later : List EventLine) (a :
     check_judged e same =
         first_is e
         ∙ ap (λ (b : Bool). or_history (if b then Some (at (SenseOf p)) else if shows_end a o (end_told e) p then Some (at (behind_end p p.sent)) else None))
-        (ap (λ (l : EndLine). is_same_end (end_line o.path a.number o.ordinal checked_as) l) (sym same) ∙ same_end (end_line o.path a.number o.ordinal checked_as))
+        (ap (λ (l : EndLine). is_same_end (end_line o.path a.number o.ordinal checked_as) l) (sym same)
+        ∙ same_end (end_line o.path a.number o.ordinal checked_as))
 
     sense_is : (line : ReportLine) → judged (at (SenseOf p)) line
         ≡ (if is_sense line then or_history (sense_made (at (SenseOf p)) line p (record a { half = Closed })) else Err Place)
@@ -195,7 +196,8 @@ module _ (xs : List AuditedDevice) (w : EventLine) (later : List EventLine) (a :
             at (Behind true (CheckEnded e)),
             sense_is (lines.Sense sense)
                 ∙ ap (λ (b : Bool). or_history (if b then Some (at (Behind true (Ended p)))
-                else then_of a.history.running (check_made (at (SenseOf p)) (lines.Sense sense) (record a { half = Closed }) p))) (not_its_sense p.sense tidy sense is)
+                else then_of a.history.running (check_made (at (SenseOf p)) (lines.Sense sense) (record a { half = Closed }) p)))
+                (not_its_sense p.sense tidy sense is)
                 ∙ ap (λ (r : Option OpenEntry). or_history (then_of r (check_made (at (SenseOf p)) (lines.Sense sense) (record a { half = Closed }) p))) running
                 ∙ ap (λ (k : Option AuditState). or_history k) (check_by sense is),
             refl,

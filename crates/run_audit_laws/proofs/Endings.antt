@@ -1,5 +1,30 @@
 -- The lines at the end of a run: each device's totals and lost tracks, the frames, FINISH.
-use Rattle.std.proofs.Common.{◌≡◌, ◌+◌, ◌-◌, ◌==◌, ◌++◌, ℕ, zero, suc, Bool, true, false, List, [], ◌∷◌, map, length, Option, Some, None, refl, ap, ◌∙◌, if◌then◌else◌, arith}
+use Rattle.std.proofs.Common.{
+  ◌≡◌,
+  ◌+◌,
+  ◌-◌,
+  ◌==◌,
+  ◌++◌,
+  ℕ,
+  zero,
+  suc,
+  Bool,
+  true,
+  false,
+  List,
+  [],
+  ◌∷◌,
+  map,
+  length,
+  Option,
+  Some,
+  None,
+  refl,
+  ap,
+  ◌∙◌,
+  if◌then◌else◌,
+  arith,
+}
 use Rattle.std.specs.Prelude.{◌||◌, ◌&&◌, All, Ok, Err, drop, nat_lt, slice_get}
 use Rattle.std.specs.List.{flat_map}
 use Rattle.std.proofs.lemmas.List.Elements.{All-head, All-tail}
@@ -178,7 +203,8 @@ end_frames s = record {
   finish = refl;
 }
 
-frames_lead : (s : AuditState) (fs : List Frame) → AtEnd s → All (Declared s) fs → LeadsBy s (map frame_line fs ++ lines.Finish ∷ []) (record s { due = Nothing })
+frames_lead : (s : AuditState) (fs : List Frame) → AtEnd s → All (Declared s) fs →
+    LeadsBy s (map frame_line fs ++ lines.Finish ∷ []) (record s { due = Nothing })
 frames_lead s [] at all = (record s { due = Nothing }, at.finish, refl)
 frames_lead s (f ∷ fs) at all = (
   record s { due = Frames },

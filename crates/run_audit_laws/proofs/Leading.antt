@@ -34,7 +34,8 @@ one_leads s t line is = (t, is, refl)
 -- an event's lines, from where the audit stands before it to where it stands behind it
 abbrev pub EventLeads : Subsystem → EventLine → Asked → Happening → Type 0
 EventLeads s e asked h =
-    (later : List EventLine) → LeadsBy (stand s (e ∷ later)) (event_lines asked h.end h.reads h.writes (devices_of s) (devices_of h.behind)) (stand h.behind later)
+    (later : List EventLine) → LeadsBy (stand s (e ∷ later)) (event_lines asked h.end h.reads h.writes (devices_of s) (devices_of h.behind))
+    (stand h.behind later)
 
 -- The first line of an event
 

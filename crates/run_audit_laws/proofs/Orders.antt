@@ -176,7 +176,8 @@ module _ (s : Subsystem) where
     suspend_leads =
         let e = wanted.Suspend n in
         let asked = Once (events.Suspend n) in
-        subst (λ (o : Option MarksDevice). EventLeads s e asked (happens_by s (on_device o (λ d. order (suspend_fault d) (Becomes (hold d) ends.Done))))) (sym at)
+        subst (λ (o : Option MarksDevice). EventLeads s e asked (happens_by s (on_device o (λ d. order (suspend_fault d) (Becomes (hold d) ends.Done)))))
+        (sym at)
         (ordered s e (orders.Suspend n) asked (suspends n) (λ z. refl) (suspend_fault x) (Becomes (hold x) ends.Done)
         (λ free. becomes_leads s e (orders.Suspend n) asked (suspends n) (λ z. refl) n x (hold x) at refl refl x.store.device (number_found s.mounted n x at)))
 
@@ -185,13 +186,15 @@ module _ (s : Subsystem) where
     resume_leads =
         let e = wanted.Resume n in
         let asked = Once (events.Resume n) in
-        subst (λ (o : Option MarksDevice). EventLeads s e asked (happens_by s (on_device o (λ d. order (resume_fault d) (Becomes (resume d) ends.Done))))) (sym at)
+        subst (λ (o : Option MarksDevice). EventLeads s e asked (happens_by s (on_device o (λ d. order (resume_fault d) (Becomes (resume d) ends.Done)))))
+        (sym at)
         (ordered s e (orders.Resume n) asked (resumes n) (λ z. refl) (resume_fault x) (Becomes (resume x) ends.Done)
         (λ free. becomes_leads s e (orders.Resume n) asked (resumes n) (λ z. refl) n x (resume x) at refl refl x.store.device (number_found s.mounted n x at)))
 
     -- A new volume
 
-    same_replaced : (m : Mounted) (side : Side) (volume : Calls) → audited (with_calls (record m { device = replace m.device side }) side volume).device ≡ audited m.device
+    same_replaced : (m : Mounted) (side : Side) (volume : Calls) →
+        audited (with_calls (record m { device = replace m.device side }) side volume).device ≡ audited m.device
     same_replaced m A volume = refl
     same_replaced m B volume = refl
 

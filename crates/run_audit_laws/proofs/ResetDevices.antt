@@ -49,7 +49,8 @@ same_cut : (s : MarksStore) → cut_half (half_by s.half) ≡ half_by s.half →
 same_cut s is = record { number = refl; geometry = refl; cylinders = refl; lent = refl; half_is = sym is }
 
 module _ (s : MarksStore) where
-  by_origin : (h : store.HalfWrite (Unit {0})) → s.half ≡ Some h → (o : Origin) → h.origin ≡ o → Always (origin_cut by_plain s h o) (λ z (_ : Unit {0}). IsCutOf s z)
+  by_origin : (h : store.HalfWrite (Unit {0})) → s.half ≡ Some h → (o : Origin) → h.origin ≡ o →
+      Always (origin_cut by_plain s h o) (λ z (_ : Unit {0}). IsCutOf s z)
   by_origin h kept (OfCommand bypass e) is =
       always_tell (λ r. always_done (record {
         number = refl;

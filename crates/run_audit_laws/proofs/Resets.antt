@@ -1,5 +1,32 @@
 -- RESET: the OVER line of a program that it cuts, and its own line.
-use Rattle.std.proofs.Common.{◌≡◌, ◌+◌, ◌==◌, ◌++◌, ℕ, Bool, true, false, not, List, [], ◌∷◌, map, length, Option, Some, None, refl, sym, ap, subst, ◌∙◌, if◌then◌else◌, arith, inl, inr}
+use Rattle.std.proofs.Common.{
+  ◌≡◌,
+  ◌+◌,
+  ◌==◌,
+  ◌++◌,
+  ℕ,
+  Bool,
+  true,
+  false,
+  not,
+  List,
+  [],
+  ◌∷◌,
+  map,
+  length,
+  Option,
+  Some,
+  None,
+  refl,
+  sym,
+  ap,
+  subst,
+  ◌∙◌,
+  if◌then◌else◌,
+  arith,
+  inl,
+  inr,
+}
 use Rattle.std.specs.Prelude.{◌||◌, ◌&&◌, ◌⊎◌, IfSome, Ok, Err}
 use Rattle.std.proofs.lemmas.Bool.{eqb-true, eq-eqb, ne_eqb}
 use Rattle.ckd_types.specs.Parameters.{is_provisional}
@@ -83,7 +110,8 @@ module _ (h : History) (path more : ℕ) where
   waits = if is_used path false h.items then record h { waiting = put path h.waiting } else h
 
   -- the reset of a path whose program doesn't run comes to the same, whatever it counts
-  other_reset : (r : Option OpenEntry) → h.running ≡ r → ((o : OpenEntry) → r ≡ Some o → (o.path == path) ≡ false) → history_reset h path more ≡ history_reset h path 0
+  other_reset : (r : Option OpenEntry) → h.running ≡ r → ((o : OpenEntry) → r ≡ Some o → (o.path == path) ≡ false) →
+      history_reset h path more ≡ history_reset h path 0
   other_reset (Some o) is other =
       ap (λ (r : Option OpenEntry). reset_in h path more r) is
       ∙ ap (λ (b : Bool). if b then cut_by h o more else waits) (other o refl)
@@ -247,7 +275,8 @@ module _ (s : Subsystem) (plain : ArePlain s.mounted) (path n : ℕ) (x : MarksD
         else if (length o.ends + 0 == length o.ends + 1) && is_next_legal (audited x) x.history.running then Some (cut_to 1) else None)
         (eq-eqb (length o.ends + 0) (length o.ends) same)
 
-    cut_one : is_next_legal (audited x) x.history.running ≡ true → M.cut_by (stand s (wanted.Reset path n ∷ later)) (audited x) o (length o.ends + 1) ≡ Some (cut_to 1)
+    cut_one : is_next_legal (audited x) x.history.running ≡ true →
+        M.cut_by (stand s (wanted.Reset path n ∷ later)) (audited x) o (length o.ends + 1) ≡ Some (cut_to 1)
     cut_one is =
         let far : length o.ends + 1 ≡ length o.ends → ⊥ = λ e. omega (arith, e) in
         ap (λ (b : Bool). if b then Some (cut_to 0)
@@ -263,10 +292,12 @@ module _ (s : Subsystem) (plain : ArePlain s.mounted) (path n : ℕ) (x : MarksD
       by_test false = inl refl
     few None = inl refl
 
-    cut_made : M.cut_by (stand s (wanted.Reset path n ∷ later)) (audited x) o (length o.ends + counts_one_by x.store.half) ≡ Some (cut_to (counts_one_by x.store.half))
+    cut_made : M.cut_by (stand s (wanted.Reset path n ∷ later)) (audited x) o (length o.ends + counts_one_by x.store.half)
+        ≡ Some (cut_to (counts_one_by x.store.half))
     cut_made = by_count (few x.store.half) where
       by_count : (counts_one_by x.store.half ≡ 0) ⊎ (counts_one_by x.store.half ≡ 1) →
-          M.cut_by (stand s (wanted.Reset path n ∷ later)) (audited x) o (length o.ends + counts_one_by x.store.half) ≡ Some (cut_to (counts_one_by x.store.half))
+          M.cut_by (stand s (wanted.Reset path n ∷ later)) (audited x) o (length o.ends + counts_one_by x.store.half)
+          ≡ Some (cut_to (counts_one_by x.store.half))
       by_count (inl none) = subst (λ (k : ℕ). M.cut_by from (audited x) o (length o.ends + k) ≡ Some (cut_to k)) (sym none) cut_zero
       by_count (inr one) = subst (λ (k : ℕ). M.cut_by from (audited x) o (length o.ends + k) ≡ Some (cut_to k)) (sym one) (cut_one (legal one))
 
@@ -341,7 +372,8 @@ module _ (s : Subsystem) (plain : ArePlain s.mounted) (path n : ℕ) (x : MarksD
       let talk = ends_by ends_done (reset by_plain x path) in
       let o = held_with s.pool m.0 talk in
       let z = mounted_behind o in
-      let moves = held_moved {q = λ r w (y : MarksDevice) (a : Option EventEnd). (r ≡ 0) × (w ≡ 0)} true (counts_then (λ y a. Done y (Some (ends_done a))) (reset_counts by_plain x path) (λ r w y a h. counts_done h))
+      let moves = held_moved {q = λ r w (y : MarksDevice) (a : Option EventEnd). (r ≡ 0) × (w ≡ 0)} true
+      (counts_then (λ y a. Done y (Some (ends_done a))) (reset_counts by_plain x path) (λ r w y a h. counts_done h))
       (told_to s.pool m.0) refl refl in
       subst (λ (i : ℕ). LeadsBy (stand s (wanted.Reset path n ∷ later)) (its_lines (asks s i (mounted_in s.mounted i) talk))
       (stand (asks s i (mounted_in s.mounted i) talk).behind later)) (sym is)

@@ -1,5 +1,31 @@
 -- START: the audit answers as the device of the run.
-use Rattle.std.proofs.Common.{◌≡◌, ◌+◌, ◌-◌, ◌==◌, ◌++◌, ℕ, Bool, true, false, not, List, [], ◌∷◌, map, length, Option, Some, None, refl, sym, ap, subst, ◌∙◌, if◌then◌else◌, arith}
+use Rattle.std.proofs.Common.{
+  ◌≡◌,
+  ◌+◌,
+  ◌-◌,
+  ◌==◌,
+  ◌++◌,
+  ℕ,
+  Bool,
+  true,
+  false,
+  not,
+  List,
+  [],
+  ◌∷◌,
+  map,
+  length,
+  Option,
+  Some,
+  None,
+  refl,
+  sym,
+  ap,
+  subst,
+  ◌∙◌,
+  if◌then◌else◌,
+  arith,
+}
 use Rattle.std.specs.Prelude.{◌||◌, ◌&&◌, nat_le, count_by, IfSome, Ok}
 use Rattle.std.specs.List.{list_all, list_any}
 use Rattle.std.proofs.lemmas.Bool.Decides.{nat_tests}
@@ -307,14 +333,16 @@ module _ (s : Subsystem) (plain : ArePlain s.mounted) (path n : ℕ) (x : MarksD
           let h = did.Started path n (answers.Accepted (S.next_ordinal x path)) in
           (tells_alone s n new).tells h 0 0
           ∙ ap (λ (o : Option Mounted). lines_at h 0 0 o (start x path)) there
-          ∙ ap (λ (l : List ReportLine). lines.Start path n (answers.Accepted (S.next_ordinal x path)) ∷ (l ++ (over_lines m.device (start x path) ++ []))) nothing_told.loose
+          ∙ ap (λ (l : List ReportLine). lines.Start path n (answers.Accepted (S.next_ordinal x path)) ∷ (l ++ (over_lines m.device (start x path) ++ [])))
+          nothing_told.loose
           ∙ ap (λ (l : List ReportLine). lines.Start path n (answers.Accepted (S.next_ordinal x path)) ∷ (l ++ [])) nothing_told.over
 
       starts_lead : EventLeads s (wanted.Start path n) (Once (events.Start path n))
           (quietly s (with_mounted s n new) (ends.Started (S.next_ordinal x path)))
       starts_lead later =
           subst (λ (l : List ReportLine). LeadsBy (stand s (wanted.Start path n ∷ later)) l (stand (with_mounted s n new) later)) (sym its_lines)
-          (one_leads (stand s (wanted.Start path n ∷ later)) (stand (with_mounted s n new) later) (lines.Start path n (answers.Accepted (S.next_ordinal x path)))
+          (one_leads (stand s (wanted.Start path n ∷ later)) (stand (with_mounted s n new) later)
+          (lines.Start path n (answers.Accepted (S.next_ordinal x path)))
           (start_judged later (answers.Accepted (S.next_ordinal x path)) (its_answer None free) (with_mounted s n new)
           (ap (with_device (map audited (devices_of s))) (started_audited (S.next_ordinal x path) refl)
           ∙ put_at s.mounted n new start_number)))

@@ -76,7 +76,8 @@ module _ (xs : List AuditedDevice) (later : List EventLine) (a : AuditedDevice) 
     same_end legal true = refl
     same_end legal false = refl
 
-    loose_end : (t : ℕ) (legal : is_next_legal (acted_to a (acts ++ Loosen t ∷ [])) (all_acted a.history (acts ++ Loosen t ∷ [])).running ≡ true) (over : Bool) →
+    loose_end : (t : ℕ) (legal : is_next_legal (acted_to a (acts ++ Loosen t ∷ [])) (all_acted a.history (acts ++ Loosen t ∷ [])).running
+        ≡ true) (over : Bool) →
         end_of xs (Step a.number) later a.number refl a has (acted_to a (acts ++ Loosen t ∷ [])) refl false (Ended p) legal
         (over_if over (over_told a o how.Full))
         ≡ step_done xs later a (ended (all_acted a.history (acts ++ Loosen t ∷ [])) p)

@@ -20,7 +20,15 @@ use Rattle.ckd_types.specs.declared.record.Record.{Record}
 use Rattle.ckd_types.specs.declared.record.Track.{Track}
 use Rattle.ckd_types.specs.declared.sense.Sense.{Sense}
 use Rattle.ckd_types.specs.declared.status.UnitStatus.{UnitStatus}
-use Rattle.ckd_types.specs.Sense.{reject_sense, track_format_sense, end_of_cylinder_sense, no_record_sense, file_protected_sense, equipment_sense, data_check_sense}
+use Rattle.ckd_types.specs.Sense.{
+  reject_sense,
+  track_format_sense,
+  end_of_cylinder_sense,
+  no_record_sense,
+  file_protected_sense,
+  equipment_sense,
+  data_check_sense,
+}
 use Rattle.ckd_rules.specs.declared.finding.Sought.{Sought}
 use Rattle.ckd_rules.specs.declared.finding.Sought.TheVariants.{Here, Onward, Nowhere}
 use Rattle.ckd_rules.specs.declared.opening.Opening.{Opening}
@@ -229,7 +237,8 @@ turned_fits c t on s (turns.Ended e) h go = inl h
 turned_fits c t on s turns.Onward h go = go s
 turned_fits c t on s (turns.Edits edit e) h go = inl h
 
-walk_fits : (n : ℕ) (g : Geometry) (tracks : ℕ → Track) (start : Stance) (c : Ccw) (look : Look) (s : Stance) → WalkFits c (walk n g tracks start c look s).outcome
+walk_fits : (n : ℕ) (g : Geometry) (tracks : ℕ → Track) (start : Stance) (c : Ccw) (look : Look) (s : Stance) →
+    WalkFits c (walk n g tracks start c look s).outcome
 unfolding W.walk
 walk_fits zero g tracks start c look s = inr refl
 walk_fits (suc n) g tracks start c look s =

@@ -46,7 +46,20 @@ use Rattle.report_places.specs.Place.{holds, in_due, is_act_of, is_io, is_of_wor
 use Rattle.report_places.specs.Same.{says}
 use Rattle.deck_audit.specs.Device.{AuditedDevice, device_in, may_loosen, state_of, with_device}
 use Rattle.deck_audit.specs.History.{act_made, act_of_work, due_made, is_legal, shown}
-use Rattle.deck_audit.specs.State.{AuditState, behind_work, is_event_over, outlines, over_by, settled, settled_by, settled_in, then_of, worked, worker, worker_number}
+use Rattle.deck_audit.specs.State.{
+  AuditState,
+  behind_work,
+  is_event_over,
+  outlines,
+  over_by,
+  settled,
+  settled_by,
+  settled_in,
+  then_of,
+  worked,
+  worker,
+  worker_number,
+}
 use Rattle.report_auditor.specs.declared.status.AuditWhy.TheVariants.{Place}
 use Rattle.report_auditor.specs.Verdict.{judged, or_history}
 use Rattle.run_audit_laws.specs.Standing.{LeadsBy}
@@ -137,7 +150,8 @@ module _ (xs : List AuditedDevice) (w : EventLine) (later : List EventLine) (n :
         else if not (holds (worker s) (is_legal did)) then None
         else if i then Some (settled s did)
         else due_made (settled s did) line (settled s did).due) else Err Place) io
-        ∙ ap (λ (o : Option AuditedDevice). or_history (if not (holds o (is_legal did)) then None else Some (settled s did))) (worker_is a (Behind more did) same)
+        ∙ ap (λ (o : Option AuditedDevice). or_history (if not (holds o (is_legal did)) then None else Some (settled s did)))
+        (worker_is a (Behind more did) same)
         ∙ ap (λ (l : Bool). or_history (if not l then None else Some (settled s did))) legal
 
   -- a loose track becomes firm
@@ -233,7 +247,8 @@ module _ (xs : List AuditedDevice) (w : EventLine) (later : List EventLine) (n :
     abbrev pub IsOver : ReportLine → Type 0
     IsOver line = (is_over line line ≡ true) × (says line line ≡ true)
 
-    over_judged : (line : ReportLine) → IsOver line → judged_due (at_work (worked a did) (OverOf line)) line (OverOf line) ≡ Ok (behind_event (worked a did) Halved)
+    over_judged : (line : ReportLine) → IsOver line → judged_due (at_work (worked a did) (OverOf line)) line (OverOf line)
+        ≡ Ok (behind_event (worked a did) Halved)
     over_judged line is =
         let s = at_work (worked a did) (OverOf line) in
         ap (λ (b : Bool). if b then or_history (due_made s line (OverOf line)) else Err Place) is.0

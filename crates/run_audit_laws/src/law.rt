@@ -1,9 +1,14 @@
-ghost use Rattle.std.specs.Prelude.{◌≡◌, ℕ, List, [], Some, Ok};
+ghost use Rattle.std.specs.Prelude.{◌≡◌, ℕ, Bool, true, false, List, [], ◌∷◌, Some, Ok};
 ghost use Rattle.deck_plan.specs.declared.event.EventLine.{EventLine};
 ghost use Rattle.deck_text.specs.DeckLines.{DeckLines};
 ghost use Rattle.deck_text.specs.Parse.{parsed};
 ghost use Rattle.plain_defs.specs.History.{OpenEntry};
-ghost use Rattle.report_places.specs.declared.state.Due.TheVariants.{Nothing};
+ghost use Rattle.report_text.specs.declared.line.ReportLine.{ReportLine};
+ghost use Rattle.report_places.specs.declared.state.Did.{Did};
+ghost use Rattle.report_places.specs.declared.state.Due.TheVariants.{Behind, Next, Nothing};
+ghost use Rattle.report_places.specs.Place.{holds, is_of_work};
+ghost use Rattle.deck_audit.specs.History.{is_legal};
+ghost use Rattle.deck_audit.specs.State.{AuditState, settled, worker, worker_number};
 ghost use Rattle.report_places.specs.declared.state.HalfWrite.TheVariants.{Closed};
 ghost use Rattle.deck_audit.specs.Device.{AuditedDevice, device_in};
 ghost use Rattle.run_report.specs.Closing.{ending_lines};
@@ -15,7 +20,7 @@ ghost use Rattle.run_audit_laws.specs.Steps.{BackLeads, HalfLeads, StepEnds, Who
 
 /// Behind the run of a deck that was read an audit knows each device as the run has it, and one more event line at which no command runs and
 /// nothing is written or lost (a start, a reset, a repair, a new volume, a side held or let go) leads it to where it does so again: its
-/// lines in the report stand where they may, and show what a plain device answers. The lines of a deck up to any of its events are a deck too.
+/// lines in the report stand where they may, and show what a plain device answers.
 pub fn still_line_leads()
     ensures { (text : List ℕ) (deck : DeckLines) → parsed text ≡ Ok deck → (e : EventLine) → IsStill (run_of deck).behind e
         → LineLeads (run_of deck).behind e }
@@ -49,4 +54,12 @@ pub fn half_leads()
 /// And so do those of a piece of work in the background, where a line that stands there tells of it.
 pub fn back_leads()
     ensures { (xs : List AuditedDevice) (later : List EventLine) (a : AuditedDevice) → device_in xs a.number ≡ Some a → BackLeads xs later a }
+{}
+
+/// A piece of work that is told without a volume call and without the end of its program is known to be done at the next line: where that isn't
+/// of the work any more, lines lead on as from where it is done.
+pub fn work_is_done_at_next_line()
+    ensures { (s t : AuditState) (line : ReportLine) (lines : List ReportLine) (more : Bool) (did : Did) → s.due ≡ Behind more did
+        → is_of_work more (worker_number s) line ≡ false → holds (worker s) (is_legal did) ≡ true → (settled s did).due ≡ Next
+        → LeadsBy (settled s did) (line ∷ lines) t → LeadsBy s (line ∷ lines) t }
 {}

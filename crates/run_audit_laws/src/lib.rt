@@ -3,4 +3,7 @@
 
 mod law;
 
-pub use law::{back_leads, ending_leads, half_leads, step_ends_lead, step_leads, still_line_leads};
+pub use law::{
+    back_leads, ending_leads, half_leads, step_ends_lead, step_leads, still_line_leads,
+    work_is_done_at_next_line,
+};
