@@ -1,0 +1,205 @@
+-- The lines of a command's end, with what it sent and its sense.
+use Rattle.std.proofs.Common.{
+  ◌≡◌,
+  ◌==◌,
+  ◌++◌,
+  ℕ,
+  Bool,
+  true,
+  false,
+  List,
+  [],
+  ◌∷◌,
+  Option,
+  Some,
+  None,
+  refl,
+  sym,
+  ap,
+  subst,
+  ◌∙◌,
+  if◌then◌else◌,
+  inl,
+  inr,
+}
+use Rattle.std.specs.Prelude.{◌&&◌, Ok, Err}
+use Rattle.std.specs.Str.{bytes_eq}
+use Rattle.deck_plan.specs.declared.event.EventLine.{EventLine}
+use Rattle.ckd_types.specs.declared.channel.Ccw.{Ccw}
+use Rattle.ckd_types.specs.declared.channel.CommandEnd.{CommandEnd}
+use Rattle.ckd_types.specs.declared.channel.Note.{Note}
+use Rattle.ckd_types.specs.declared.channel.Note.TheVariants.{Plain}
+use Rattle.ckd_types.specs.declared.status.UnitStatus.{UnitStatus}
+use Rattle.ckd_types.specs.declared.sense.Sense.{Sense}
+use Rattle.ckd_types.specs.Ccw.{ccw_at}
+use Rattle.ckd_types.specs.Sense.{data_check_sense, equipment_sense}
+use Rattle.ckd_rules.specs.Ending.{check}
+use Rattle.plain_defs.specs.History.{OpenEntry}
+use Rattle.report_text.specs.declared.line.EndLine.{EndLine}
+use Rattle.report_text.specs.declared.line.ReportLine.{ReportLine}
+use Rattle.report_text.specs.declared.line.ReportLine.TheVariants as lines
+use Rattle.report_text.specs.Ends.{data_lines, end_line, sense_lines}
+use Rattle.report_text.specs.Events.{ended_lines}
+use Rattle.report_places.specs.declared.state.Did.TheVariants.{CheckEnded, Ended}
+use Rattle.report_places.specs.declared.state.Due.{Due}
+use Rattle.report_places.specs.declared.state.Due.TheVariants.{Behind, Next, SenseOf}
+use Rattle.report_places.specs.declared.state.HalfWrite.TheVariants.{Closed}
+use Rattle.report_places.specs.Place.{in_event, is_sense, worker_of}
+use Rattle.report_places.specs.Same.{is_same_end, is_same_note}
+use Rattle.deck_audit.specs.Device.{AuditedDevice, check_end, device_in, plain_end, words_of_open}
+use Rattle.deck_audit.specs.History.{behind_end, check_made, end_made, end_made_by, event_made, has_sense, sense_made, shows_end, work_made}
+use Rattle.deck_audit.specs.State.{AuditState, outlines, then_of}
+use Rattle.report_auditor.specs.declared.status.AuditWhy.TheVariants.{Place}
+use Rattle.report_auditor.specs.Verdict.{judged, or_history}
+use Rattle.run_audit_laws.specs.Standing.{LeadsBy}
+use Rattle.run_audit_laws.specs.Steps.{IsCheckSense}
+use Rattle.run_audit_laws.proofs.Saying.{both, same_bytes, same_note, same_number}
+use Rattle.run_audit_laws.proofs.Work.{at_work, worker_is}
+
+pub same_end : (e : EndLine) → is_same_end e e ≡ true
+same_end e =
+    both _ (is_same_note e.note e.note)
+    (both _ (e.residual == e.residual)
+    (both _ (e.status.0 == e.status.0)
+    (both _ (e.index == e.index)
+    (both _ (e.ordinal == e.ordinal)
+    (both (e.path == e.path) (e.device == e.device) (same_number e.path) (same_number e.device))
+    (same_number e.ordinal)) (same_number e.index)) (same_number e.status.0)) (same_number e.residual)) (same_note e.note)
+
+-- one of these isn't so
+in_midst : (a s r n : Bool) → s ≡ false → (((a && s) && r) && n) ≡ false
+in_midst true s r n e = ap (λ (x : Bool). (x && r) && n) e
+in_midst false s r n e = refl
+
+-- How an end of the plain device is told apart from equipment check and data check: with sense it has the form of such a check, and without
+-- it another status
+abbrev pub TidyBy : Ccw → CommandEnd → Option Sense → Type 0
+TidyBy c e (Some sense) = (e.status ≡ check) × (e.residual ≡ c.count) × (e.note ≡ Plain) × (e.sent ≡ [])
+    × (bytes_eq sense.bytes equipment_sense.bytes ≡ false) × (bytes_eq sense.bytes data_check_sense.bytes ≡ false)
+TidyBy c e None = (check.0 == e.status.0) ≡ false
+
+abbrev pub IsTidy : Ccw → CommandEnd → Type 0
+IsTidy c e = TidyBy c e e.sense
+
+module _ (xs : List AuditedDevice) (w : EventLine) (later : List EventLine) (a : AuditedDevice)
+    (has : device_in xs a.number ≡ Some a) (is_work : worker_of w ≡ Some a.number) (o : OpenEntry) (running : a.history.running ≡ Some o) where
+  abbrev pub before_work : AuditState
+  before_work = record { devices = xs; events = w ∷ later; due = Next }
+
+  -- with no half write
+  abbrev pub whole : AuditedDevice
+  whole = record a { half = Closed }
+
+  abbrev at : Due → AuditState
+  at due = at_work xs w later a.number is_work a has (record a { half = Closed }) due
+
+  abbrev end_told : CommandEnd → ReportLine
+  end_told e = lines.End (end_line o.path a.number o.ordinal e)
+
+  module _ (stands : (e : CommandEnd) → in_event (outlines (record { devices = xs; events = w ∷ later; due = Next }))
+      (lines.End (end_line o.path a.number o.ordinal e)) w ≡ true)
+      (makes : (line : ReportLine) → event_made (record { devices = xs; events = w ∷ later; due = Next }) line w
+      ≡ work_made (record { devices = xs; events = w ∷ later; due = Next }) line a)
+      (p : CommandEnd) (plain : plain_end a o ≡ Some p) where
+    abbrev checked_as : CommandEnd
+    checked_as = check_end (words_of_open a o) p.index equipment_sense
+
+    first_is : (e : CommandEnd) → judged before_work (end_told e) ≡ or_history (end_made_by before_work (end_told e) a o (Some p))
+    first_is e =
+        ap (λ (b : Bool). if b then or_history (event_made before_work (end_told e) w) else Err Place) (stands e)
+        ∙ ap (λ (k : Option AuditState). or_history k) (makes (end_told e))
+        ∙ ap (λ (r : Option OpenEntry). or_history (end_made before_work (end_told e) a r)) running
+        ∙ ap (λ (k : Option CommandEnd). or_history (end_made_by before_work (end_told e) a o k)) plain
+
+    -- its form is that of a check
+    check_judged : (e : CommandEnd) → end_line o.path a.number o.ordinal checked_as ≡ end_line o.path a.number o.ordinal e →
+        judged before_work (end_told e) ≡ Ok (at (SenseOf p))
+    check_judged e same =
+        first_is e
+        ∙ ap (λ (b : Bool). or_history (if b then Some (at (SenseOf p)) else if shows_end a o (end_told e) p then Some (at (behind_end p p.sent)) else None))
+        (ap (λ (l : EndLine). is_same_end (end_line o.path a.number o.ordinal checked_as) l) (sym same)
+        ∙ same_end (end_line o.path a.number o.ordinal checked_as))
+
+    sense_is : (line : ReportLine) → judged (at (SenseOf p)) line
+        ≡ (if is_sense line then or_history (sense_made (at (SenseOf p)) line p (record a { half = Closed })) else Err Place)
+    sense_is line =
+        ap (λ (k : Option AuditedDevice). if is_sense line then or_history (then_of k (sense_made (at (SenseOf p)) line p)) else Err Place)
+        (worker_is xs w later a.number is_work a has (record a { half = Closed }) (SenseOf p) refl)
+
+    -- As on the plain device
+
+    data_lead : (l : List ℕ) → p.sent ≡ l → LeadsBy (at (behind_end p l)) (data_lines l ++ []) (at (Behind true (Ended p)))
+    data_lead [] is = refl
+    data_lead (b ∷ bytes) is = (
+      at (Behind true (Ended p)),
+      ap (λ (c : Bool). or_history (if c then Some (at (Behind true (Ended p))) else None))
+          (ap (λ (k : List ℕ). bytes_eq k (b ∷ bytes)) is ∙ same_bytes (b ∷ bytes)),
+      refl,
+    )
+
+    plain_by : (sense : Option Sense) → p.sense ≡ sense → TidyBy (ccw_at (words_of_open a o) p.index) p sense →
+        LeadsBy before_work (end_told p ∷ (data_lines p.sent ++ sense_lines sense)) (at (Behind true (Ended p)))
+    plain_by (Some sense) is tidy =
+        subst (λ (l : List ℕ). LeadsBy before_work (end_told p ∷ (data_lines l ++ sense_lines (Some sense))) (at (Behind true (Ended p)))) (sym tidy.3) (
+          at (SenseOf p),
+          check_judged p (ap (λ (s : UnitStatus). record (end_line o.path a.number o.ordinal checked_as) { status = s }) (sym tidy.0)
+              ∙ ap (λ (r : ℕ). record (end_line o.path a.number o.ordinal checked_as) { status = p.status; residual = r }) (sym tidy.1)
+              ∙ ap (λ (k : Note). record (end_line o.path a.number o.ordinal checked_as) { status = p.status; residual = p.residual; note = k }) (sym tidy.2)),
+          (
+            at (Behind true (Ended p)),
+            sense_is (lines.Sense sense)
+                ∙ ap (λ (b : Bool). or_history (if b then Some (at (Behind true (Ended p)))
+                else then_of a.history.running (check_made (at (SenseOf p)) (lines.Sense sense) (record a { half = Closed }) p)))
+                (ap (has_sense (lines.Sense sense)) is ∙ same_bytes sense.bytes),
+            refl,
+          ),
+        )
+    plain_by None is tidy = (
+      at (behind_end p p.sent),
+      first_is p
+          ∙ ap (λ (b : Bool). or_history (if b then Some (at (SenseOf p)) else if shows_end a o (end_told p) p then Some (at (behind_end p p.sent)) else None))
+          (in_midst _ (check.0 == p.status.0) (checked_as.residual == p.residual) (is_same_note Plain p.note) tidy)
+          ∙ ap (λ (b : Bool). or_history (if b then Some (at (behind_end p p.sent)) else None)) (same_end (end_line o.path a.number o.ordinal p)),
+      data_lead p.sent refl,
+    )
+
+    pub plain_lead : IsTidy (ccw_at (words_of_open a o) p.index) p →
+        LeadsBy before_work (ended_lines o.path a.number o.ordinal p) (at (Behind true (Ended p)))
+    plain_lead tidy = plain_by p.sense refl tidy
+
+    -- With equipment check or data check
+
+    not_its_sense : (s : Option Sense) → TidyBy (ccw_at (words_of_open a o) p.index) p s → (sense : Sense) → IsCheckSense sense →
+        has_sense (lines.Sense sense) s ≡ false
+    not_its_sense (Some s) tidy sense (inl is) = ap (λ (k : Sense). bytes_eq s.bytes k.bytes) is ∙ tidy.4
+    not_its_sense (Some s) tidy sense (inr is) = ap (λ (k : Sense). bytes_eq s.bytes k.bytes) is ∙ tidy.5
+    not_its_sense None tidy sense is = refl
+
+    check_by : (sense : Sense) → IsCheckSense sense →
+        check_made (at (SenseOf p)) (lines.Sense sense) (record a { half = Closed }) p o
+        ≡ Some (at (Behind true (CheckEnded (check_end (words_of_open a o) p.index sense))))
+    check_by sense (inl is) =
+        subst (λ (k : Sense). check_made (at (SenseOf p)) (lines.Sense k) (record a { half = Closed }) p o
+        ≡ Some (at (Behind true (CheckEnded (check_end (words_of_open a o) p.index k))))) (sym is) refl
+    check_by sense (inr is) =
+        subst (λ (k : Sense). check_made (at (SenseOf p)) (lines.Sense k) (record a { half = Closed }) p o
+        ≡ Some (at (Behind true (CheckEnded (check_end (words_of_open a o) p.index k))))) (sym is) refl
+
+    pub check_lead : IsTidy (ccw_at (words_of_open a o) p.index) p → (sense : Sense) → IsCheckSense sense →
+        LeadsBy before_work (ended_lines o.path a.number o.ordinal (check_end (words_of_open a o) p.index sense))
+        (at (Behind true (CheckEnded (check_end (words_of_open a o) p.index sense))))
+    check_lead tidy sense is =
+        let e = check_end (words_of_open a o) p.index sense in (
+          at (SenseOf p),
+          check_judged e refl,
+          (
+            at (Behind true (CheckEnded e)),
+            sense_is (lines.Sense sense)
+                ∙ ap (λ (b : Bool). or_history (if b then Some (at (Behind true (Ended p)))
+                else then_of a.history.running (check_made (at (SenseOf p)) (lines.Sense sense) (record a { half = Closed }) p)))
+                (not_its_sense p.sense tidy sense is)
+                ∙ ap (λ (r : Option OpenEntry). or_history (then_of r (check_made (at (SenseOf p)) (lines.Sense sense) (record a { half = Closed }) p))) running
+                ∙ ap (λ (k : Option AuditState). or_history k) (check_by sense is),
+            refl,
+          ),
+        )

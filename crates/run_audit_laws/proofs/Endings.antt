@@ -1,0 +1,223 @@
+-- The lines at the end of a run: each device's totals and lost tracks, the frames, FINISH.
+use Rattle.std.proofs.Common.{
+  ◌≡◌,
+  ◌+◌,
+  ◌-◌,
+  ◌==◌,
+  ◌++◌,
+  ℕ,
+  zero,
+  suc,
+  Bool,
+  true,
+  false,
+  List,
+  [],
+  ◌∷◌,
+  map,
+  length,
+  Option,
+  Some,
+  None,
+  refl,
+  ap,
+  ◌∙◌,
+  if◌then◌else◌,
+  arith,
+}
+use Rattle.std.specs.Prelude.{◌||◌, ◌&&◌, All, Ok, Err, drop, nat_lt, slice_get}
+use Rattle.std.specs.List.{flat_map}
+use Rattle.std.proofs.lemmas.List.Elements.{All-head, All-tail}
+use Rattle.std.proofs.lemmas.Bool.Decides.{nat_tests}
+use Rattle.device_outside.specs.Pool.{Frame}
+use Rattle.device_defs.specs.Marks.{MarksDevice}
+use Rattle.report_text.specs.declared.answers.DeviceTotals.{DeviceTotals}
+use Rattle.report_text.specs.declared.answers.DeviceTotals.TheVariants as totals
+use Rattle.report_text.specs.declared.line.ReportLine.{ReportLine}
+use Rattle.report_text.specs.declared.line.ReportLine.TheVariants as lines
+use Rattle.report_places.specs.declared.state.Due.{Due}
+use Rattle.report_places.specs.declared.state.Due.TheVariants.{Totals, Frames, Nothing}
+use Rattle.report_places.specs.declared.state.Outline.{Outline}
+use Rattle.report_places.specs.Place.{holds, in_totals, in_totals_of, is_declared, is_lost_of, is_totals_of}
+use Rattle.deck_audit.specs.Device.{outline_of}
+use Rattle.deck_audit.specs.History.{made_in, totals_made}
+use Rattle.deck_audit.specs.Stands.{stands_in}
+use Rattle.deck_audit.specs.State.{AuditState, outlines}
+use Rattle.report_auditor.specs.declared.status.AuditWhy.TheVariants.{Place}
+use Rattle.report_auditor.specs.Verdict.{judged, or_history}
+use Rattle.run_report.specs.Closing.{device_lines, ending_lines, frame_line}
+use Rattle.subsystem_defs.specs.Closing.{device_end, device_end_by, ending, lost_tracks}
+use Rattle.subsystem_defs.specs.Subsystem.{Mounted, Subsystem}
+use Rattle.run_audit_laws.specs.Standing.{FramesAreDeclared, LeadsBy, audited, stand}
+use Rattle.run_audit_laws.proofs.Found.{devices}
+use Rattle.run_audit_laws.proofs.Leading.{leads_on}
+use Rattle.run_audit_laws.proofs.Saying.{both, same_number}
+
+-- Where k devices have had their totals: at the first line none has
+
+abbrev AtTotals : AuditState → ℕ → Type 0
+AtTotals s k = (line : ReportLine) → judged s line ≡ (if in_totals (outlines s) line k then Ok (totals_made s line k) else Err Place)
+
+at_first : (s : Subsystem) → AtTotals (stand s []) 0
+at_first s line = refl
+
+at_more : (s : AuditState) (k : ℕ) → s.due ≡ Totals k → AtTotals s k
+at_more s k is line =
+    ap (λ (due : Due). if stands_in s line due then or_history (made_in s line due) else Err Place) is
+
+judged_at : (s : AuditState) (k : ℕ) (line : ReportLine) → AtTotals s k → in_totals (outlines s) line k ≡ true → judged s line ≡ Ok (totals_made s line k)
+judged_at s k line at is = at line ∙ ap (λ (b : Bool). if b then Ok (totals_made s line k) else Err Place) is
+
+either : (a b : Bool) → b ≡ true → (a || b) ≡ true
+either true b is = refl
+either false b is = is
+
+first_of : (a b : Bool) → a ≡ true → (a || b) ≡ true
+first_of a b is = ap (λ (x : Bool). x || b) is
+
+-- The outlines from a place on
+
+same_tail : (x a : Outline) (xs rest : List Outline) → x ∷ xs ≡ a ∷ rest → xs ≡ rest
+same_tail x a xs rest e = cc
+
+same_head : (x a : Outline) (xs rest : List Outline) → x ∷ xs ≡ a ∷ rest → x ≡ a
+same_head x a xs rest e = cc
+
+drop_next : (outs : List Outline) (k : ℕ) (a : Outline) (rest : List Outline) → drop k outs ≡ a ∷ rest → drop (k + 1) outs ≡ rest
+drop_next [] zero a rest is = absurd (cc)
+drop_next [] (suc k) a rest is = absurd (cc)
+drop_next (x ∷ outs) zero a rest is = same_tail x a outs rest is
+drop_next (x ∷ outs) (suc k) a rest is =
+    let e : suc k + 1 ≡ suc (k + 1) = omega arith in
+    ap (λ (n : ℕ). drop n (x ∷ outs)) e ∙ drop_next outs k a rest is
+
+get_here : (outs : List Outline) (k : ℕ) (a : Outline) (rest : List Outline) → drop k outs ≡ a ∷ rest → slice_get outs k ≡ Some a
+get_here [] zero a rest is = absurd (cc)
+get_here [] (suc k) a rest is = absurd (cc)
+get_here (x ∷ outs) zero a rest is = ap (λ (y : Outline). Some y) (same_head x a outs rest is)
+get_here (x ∷ outs) (suc k) a rest is = get_here outs k a rest is
+
+-- One device
+
+abbrev totalled : AuditState → ℕ → AuditState
+totalled s k = record s { due = Totals (k + 1) }
+
+module _ (s : AuditState) (k : ℕ) (d : MarksDevice) (rest : List Outline) (left : drop k (outlines s) ≡ outline_of (audited d) ∷ rest) where
+  lost_stands : (t : ℕ) → d.store.lent ≡ None → in_totals (outlines s) (lines.Lost d.store.device t) (k + 1) ≡ true
+  lost_stands t home =
+      let some : nat_lt 0 (k + 1) ≡ true = grind (arith, nat_tests) in
+      let place : k + 1 - 1 ≡ k = omega arith in
+      let line = lines.Lost d.store.device t in
+      first_of (nat_lt 0 (k + 1) && holds (slice_get (outlines s) (k + 1 - 1)) (λ a. is_lost_of line a a.lent))
+      (in_totals_of (outlines s) line (drop (k + 1) (outlines s)))
+      (both (nat_lt 0 (k + 1)) (holds (slice_get (outlines s) (k + 1 - 1)) (λ a. is_lost_of line a a.lent)) some
+      (ap (λ (n : ℕ). holds (slice_get (outlines s) n) (λ a. is_lost_of line a a.lent)) place
+      ∙ ap (λ (o : Option Outline). holds o (λ a. is_lost_of line a a.lent)) (get_here (outlines s) k (outline_of (audited d)) rest left)
+      ∙ ap (is_lost_of line (outline_of (audited d))) home ∙ same_number d.store.device))
+
+  lost_lead : (lost : List ℕ) → d.store.lent ≡ None → LeadsBy (totalled s k) (map (lines.Lost d.store.device) lost) (totalled s k)
+  lost_lead [] home = refl
+  lost_lead (t ∷ lost) home = (
+    totalled s k,
+    judged_at (totalled s k) (k + 1) (lines.Lost d.store.device t) (at_more (totalled s k) (k + 1) refl) (lost_stands t home),
+    lost_lead lost home,
+  )
+
+  total_stands : (x : DeviceTotals) → is_totals_of (lines.Device d.store.device x) (outline_of (audited d)) d.store.lent ≡ true →
+      in_totals (outlines s) (lines.Device d.store.device x) k ≡ true
+  total_stands x is =
+      let line = lines.Device d.store.device x in
+      either (nat_lt 0 k && holds (slice_get (outlines s) (k - 1)) (λ a. is_lost_of line a a.lent)) (in_totals_of (outlines s) line (drop k (outlines s)))
+      (ap (in_totals_of (outlines s) line) left ∙ is)
+
+  module _ (at : AtTotals s k) where
+    total_judged : (x : DeviceTotals) → is_totals_of (lines.Device d.store.device x) (outline_of (audited d)) d.store.lent ≡ true →
+        judged s (lines.Device d.store.device x) ≡ Ok (totalled s k)
+    total_judged x is = judged_at s k (lines.Device d.store.device x) at (total_stands x is)
+
+    by_lent : (l : Option ℕ) → d.store.lent ≡ l → LeadsBy s (device_lines (device_end_by d.store l)) (totalled s k)
+    by_lent (Some to) is = (
+      totalled s k,
+      total_judged (totals.Lent to)
+          (ap (is_totals_of (lines.Device d.store.device (totals.Lent to)) (outline_of (audited d))) is
+          ∙ both (d.store.device == d.store.device) (to == to) (same_number d.store.device) (same_number to)),
+      refl,
+    )
+    by_lent None is = (
+      totalled s k,
+      total_judged (totals.Calls d.store.counts.reads d.store.counts.writes (length (lost_tracks d.store)))
+          (ap (is_totals_of (lines.Device d.store.device (totals.Calls d.store.counts.reads d.store.counts.writes (length (lost_tracks d.store))))
+          (outline_of (audited d))) is ∙ same_number d.store.device),
+      lost_lead (lost_tracks d.store) is,
+    )
+
+-- All devices
+
+record EndsAt (s : AuditState) (ls : List ReportLine) : Type 0 where
+  due : Due
+  leads : LeadsBy s ls (record s { due = due })
+  place : ℕ
+  at : AtTotals (record s { due = due }) place
+  none : drop place (outlines s) ≡ []
+
+devices_lead : (s : AuditState) (ms : List Mounted) (k : ℕ) → AtTotals s k → drop k (outlines s) ≡ map outline_of (map audited (devices ms)) →
+    EndsAt s (flat_map device_lines (map device_end ms))
+devices_lead s [] k at left = record { due = s.due; leads = refl; place = k; at = at; none = left }
+devices_lead s (m ∷ ms) k at left =
+    let rest = map outline_of (map audited (devices ms)) in
+    let next = drop_next (outlines s) k (outline_of (audited m.device)) rest left in
+    let more = devices_lead (totalled s k) ms (k + 1) (at_more (totalled s k) (k + 1) refl) next in
+    record {
+      due = more.due;
+      leads = leads_on s (totalled s k) (record s { due = more.due }) (device_lines (device_end m)) (flat_map device_lines (map device_end ms))
+          (by_lent s k m.device rest left at m.device.store.lent refl) more.leads;
+      place = more.place;
+      at = more.at;
+      none = more.none;
+    }
+
+-- The frames, and the last line
+
+abbrev Declared : AuditState → Frame → Type 0
+Declared s f = is_declared (outlines s) f.0.0 ≡ true
+
+record AtEnd (s : AuditState) : Type 0 where
+  frame : (d t : ℕ) (modified : Bool) → is_declared (outlines s) d ≡ true → judged s (lines.Frame d t modified) ≡ Ok (record s { due = Frames })
+  finish : judged s lines.Finish ≡ Ok (record s { due = Nothing })
+
+end_totals : (s : AuditState) (k : ℕ) → AtTotals s k → drop k (outlines s) ≡ [] → AtEnd s
+end_totals s k at none = record {
+  frame = λ d t modified is. judged_at s k (lines.Frame d t modified) at
+      (either (nat_lt 0 k && holds (slice_get (outlines s) (k - 1)) (λ a. is_lost_of (lines.Frame d t modified) a a.lent))
+      (in_totals_of (outlines s) (lines.Frame d t modified) (drop k (outlines s)))
+      (ap (in_totals_of (outlines s) (lines.Frame d t modified)) none ∙ first_of (is_declared (outlines s) d) false is));
+  finish = judged_at s k lines.Finish at
+      (either (nat_lt 0 k && holds (slice_get (outlines s) (k - 1)) (λ a. is_lost_of lines.Finish a a.lent))
+      (in_totals_of (outlines s) lines.Finish (drop k (outlines s)))
+      (ap (in_totals_of (outlines s) lines.Finish) none));
+}
+
+end_frames : (s : AuditState) → AtEnd (record s { due = Frames })
+end_frames s = record {
+  frame = λ d t modified is. ap (λ (b : Bool). if b then Ok (record s { due = Frames }) else Err Place) (first_of (is_declared (outlines s) d) false is);
+  finish = refl;
+}
+
+frames_lead : (s : AuditState) (fs : List Frame) → AtEnd s → All (Declared s) fs →
+    LeadsBy s (map frame_line fs ++ lines.Finish ∷ []) (record s { due = Nothing })
+frames_lead s [] at all = (record s { due = Nothing }, at.finish, refl)
+frames_lead s (f ∷ fs) at all = (
+  record s { due = Frames },
+  at.frame f.0.0 f.0.1 f.1 (All-head (Declared s) f fs all),
+  frames_lead (record s { due = Frames }) fs (end_frames s) (All-tail (Declared s) f fs all),
+)
+
+-- The whole
+
+pub ending_leads : (s : Subsystem) → FramesAreDeclared s → LeadsBy (stand s []) (ending_lines (ending s)) (record (stand s []) { due = Nothing })
+ending_leads s declared =
+    let at = devices_lead (stand s []) s.mounted 0 (at_first s) refl in
+    let end = record (stand s []) { due = at.due } in
+    leads_on (stand s []) end (record (stand s []) { due = Nothing }) (flat_map device_lines (map device_end s.mounted))
+    (map frame_line s.pool.frames ++ lines.Finish ∷ []) at.leads
+    (frames_lead end s.pool.frames (end_totals end at.place at.at at.none) declared)

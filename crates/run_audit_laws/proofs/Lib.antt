@@ -1,0 +1,16 @@
+mod Saying
+mod Found
+mod Leading
+mod Quiet
+mod Starts
+mod ResetDevices
+mod Resets
+mod Orders
+mod Endings
+mod Work
+mod EndLines
+mod Tidy
+mod Commands
+mod StillLines
+mod StepEnds
+mod Backs

@@ -1,0 +1,111 @@
+-- What a reset makes of a device, as the audit has it.
+use Rattle.std.proofs.Common.{◌≡◌, ◌==◌, ℕ, Bool, true, false, Option, Some, None, refl, sym, ap, ◌∙◌, if◌then◌else◌}
+use Rattle.std.proofs.lemmas.Bool.{cond_both}
+use Rattle.ckd_types.specs.declared.geometry.Geometry.{Geometry}
+use Rattle.plain_defs.specs.History.{History, OpenEntry, has_used}
+use Rattle.plain_defs.specs.Journal.{Plans}
+use Rattle.plain_defs.specs.PlainState.{empty_state, reset_path}
+use Rattle.device_outside.specs.Interaction.{Done}
+use Rattle.device_defs.specs.Contents.{by_plain}
+use Rattle.device_defs.specs.Cutting as K
+use Rattle.device_defs.specs.Cutting.{counts_one_by, half_cut, origin_cut, path_cut, reset, reset_by, reset_noted}
+use Rattle.device_defs.specs.Marks.{MarksDevice, MarksStore}
+use Rattle.device_defs.specs.Store.{Origin, OfCommand, OfCut, OfBackground}
+use Rattle.device_defs.specs.Store as store
+use Rattle.device_laws.proofs.Always.{Always, always_done, always_tell, always_then}
+use Rattle.report_places.specs.declared.state.HalfWrite.{HalfWrite}
+use Rattle.deck_audit.specs.History.{cut_half}
+use Rattle.run_audit_laws.specs.Standing.{audited, half_by, half_of}
+
+-- a device by its parts
+pub record HasParts (x y : MarksDevice) (half : HalfWrite) : Type 0 where
+  pub number : y.store.device ≡ x.store.device
+  pub geometry : y.store.geometry ≡ x.store.geometry
+  pub cylinders : y.store.cylinders ≡ x.store.cylinders
+  pub plans : y.plans ≡ x.plans
+  pub lent : y.store.lent ≡ x.store.lent
+  pub half_is : half_by y.store.half ≡ half
+
+module _ (x y : MarksDevice) (half : HalfWrite) (h : History) where
+  pub audited_by : HasParts x y half → y.history ≡ h → audited y ≡ record (audited x) { history = h; half = half }
+  audited_by p is =
+      ap (λ (n : ℕ). record (audited y) { number = n }) p.number
+      ∙ ap (λ (g : Geometry). record (audited y) { number = x.store.device; empty = empty_state g y.store.cylinders }) p.geometry
+      ∙ ap (λ (n : ℕ). record (audited y) { number = x.store.device; empty = empty_state x.store.geometry n }) p.cylinders
+      ∙ ap (λ (k : Plans). record (audited y) { number = x.store.device; empty = (audited x).empty; plans = k }) p.plans
+      ∙ ap (λ (l : Option ℕ). record (audited x) { history = y.history; half = half_by y.store.half; lent = l }) p.lent
+      ∙ ap (λ (k : HalfWrite). record (audited x) { history = y.history; half = k }) p.half_is
+      ∙ ap (λ (k : History). record (audited x) { history = k; half = half }) is
+
+-- the half write of a command that is cut
+record IsCutOf (s z : MarksStore) : Type 0 where
+  number : z.device ≡ s.device
+  geometry : z.geometry ≡ s.geometry
+  cylinders : z.cylinders ≡ s.cylinders
+  lent : z.lent ≡ s.lent
+  half_is : half_by z.half ≡ cut_half (half_by s.half)
+
+same_cut : (s : MarksStore) → cut_half (half_by s.half) ≡ half_by s.half → IsCutOf s s
+same_cut s is = record { number = refl; geometry = refl; cylinders = refl; lent = refl; half_is = sym is }
+
+module _ (s : MarksStore) where
+  by_origin : (h : store.HalfWrite (Unit {0})) → s.half ≡ Some h → (o : Origin) → h.origin ≡ o →
+      Always (origin_cut by_plain s h o) (λ z (_ : Unit {0}). IsCutOf s z)
+  by_origin h kept (OfCommand bypass e) is =
+      always_tell (λ r. always_done (record {
+        number = refl;
+        geometry = refl;
+        cylinders = refl;
+        lent = refl;
+        half_is = sym (ap (λ (k : Option (store.HalfWrite (Unit {0}))). cut_half (half_by k)) kept ∙ ap (λ (k : Origin). cut_half (half_of k)) is);
+      }))
+  by_origin h kept (OfCut bypass) is =
+      always_done (same_cut s (ap (λ (k : Option (store.HalfWrite (Unit {0}))). cut_half (half_by k)) kept ∙ ap (λ (k : Origin). cut_half (half_of k)) is
+      ∙ sym (ap half_by kept ∙ ap half_of is)))
+  by_origin h kept OfBackground is =
+      always_done (same_cut s (ap (λ (k : Option (store.HalfWrite (Unit {0}))). cut_half (half_by k)) kept ∙ ap (λ (k : Origin). cut_half (half_of k)) is
+      ∙ sym (ap half_by kept ∙ ap half_of is)))
+
+  by_half : (h : Option (store.HalfWrite (Unit {0}))) → s.half ≡ h → Always (half_cut by_plain s h) (λ z (_ : Unit {0}). IsCutOf s z)
+  by_half (Some h) kept = by_origin h kept h.origin refl
+  by_half None whole =
+      always_done (same_cut s (ap (λ (k : Option (store.HalfWrite (Unit {0}))). cut_half (half_by k)) whole ∙ sym (ap half_by whole)))
+
+abbrev pub reset_half : MarksDevice → ℕ → Option OpenEntry → HalfWrite
+reset_half x path (Some o) = if o.path == path then cut_half (half_by x.store.half) else half_by x.store.half
+reset_half x path None = half_by x.store.half
+
+module _ (x : MarksDevice) (path : ℕ) where
+  same_parts : (y : MarksDevice) → y.store ≡ x.store → y.plans ≡ x.plans → HasParts x y (half_by x.store.half)
+  same_parts y is plans = record {
+    number = ap (λ (s : MarksStore). s.device) is;
+    geometry = ap (λ (s : MarksStore). s.geometry) is;
+    cylinders = ap (λ (s : MarksStore). s.cylinders) is;
+    plans = plans;
+    lent = ap (λ (s : MarksStore). s.lent) is;
+    half_is = ap (λ (s : MarksStore). half_by s.half) is;
+  }
+
+  by_running : (r : Option OpenEntry) → Always (reset_by by_plain x path r) (λ y (_ : Unit {0}). HasParts x y (reset_half x path r))
+  by_running (Some o) = by_test (o.path == path) where
+    by_test : (b : Bool) → Always (if b then path_cut by_plain x path else Done (reset_noted by_plain x path 0) tt)
+        (λ y (_ : Unit {0}). HasParts x y (if b then cut_half (half_by x.store.half) else half_by x.store.half))
+    by_test true =
+        always_then (by_half x.store x.store.half refl) (λ z a cut. always_done (record {
+          number = cut.number;
+          geometry = cut.geometry;
+          cylinders = cut.cylinders;
+          plans = refl;
+          lent = cut.lent;
+          half_is = cut.half_is;
+        }))
+    by_test false = always_done (same_parts (reset_noted by_plain x path 0) refl refl)
+  by_running None =
+      cond_both (has_used x.history path) (Done (record (reset_noted by_plain x path 0) { paths = reset_path x.paths path }) tt) (Done x tt)
+      (λ i. Always i (λ y (_ : Unit {0}). HasParts x y (half_by x.store.half)))
+      (λ used. always_done (same_parts (record (reset_noted by_plain x path 0) { paths = reset_path x.paths path }) refl refl))
+      (λ unused. always_done (same_parts x refl refl))
+
+  pub reset_parts : Always (reset by_plain x path) (λ y (_ : Unit {0}). HasParts x y (reset_half x path x.history.running))
+  unfolding K.reset
+  reset_parts = by_running x.history.running

@@ -1,0 +1,85 @@
+-- The lines of a command that ends in a STEP.
+use Rattle.std.proofs.Common.{◌≡◌, ◌==◌, ◌++◌, ℕ, Bool, true, false, List, [], ◌∷◌, Option, Some, refl, ap, subst, ◌∙◌}
+use Rattle.std.specs.Prelude.{◌&&◌, ◌||◌, option_map}
+use Rattle.ckd_types.specs.declared.channel.CommandEnd.{CommandEnd}
+use Rattle.deck_plan.specs.declared.event.EventLine.{EventLine}
+use Rattle.deck_plan.specs.declared.event.EventLine.TheVariants.{Step}
+use Rattle.plain_defs.specs.History.{OpenEntry, ended}
+use Rattle.device_defs.specs.Device.{all_acted}
+use Rattle.deck_audit.specs.Device.{is_next_legal}
+use Rattle.plain_defs.specs.declared.journal.Act.TheVariants.{Loosen}
+use Rattle.report_text.specs.declared.answers.HowOver.TheVariants as how
+use Rattle.report_text.specs.declared.line.ReportLine.{ReportLine}
+use Rattle.report_text.specs.declared.line.ReportLine.TheVariants as lines
+use Rattle.report_text.specs.Ends.{end_line}
+use Rattle.report_places.specs.declared.state.Did.TheVariants.{Ended}
+use Rattle.report_places.specs.declared.state.Due.TheVariants.{Next}
+use Rattle.report_places.specs.declared.state.HalfWrite.TheVariants.{Closed}
+use Rattle.report_places.specs.declared.state.Outline.{Outline}
+use Rattle.report_places.specs.Place.{holds, in_event, in_steps, may_step}
+use Rattle.deck_audit.specs.Device.{AuditedDevice, device_in, open_program, outline_of}
+use Rattle.deck_audit.specs.History.{event_made, work_made}
+use Rattle.deck_audit.specs.State.{AuditState, outlines}
+use Rattle.run_audit_laws.specs.Steps.{Reaches, StepEnds, WholeStepLeads, acted_to, over_if, over_told, step_done}
+use Rattle.run_audit_laws.proofs.Commands.{check_command_leads, loose_command_leads, plain_command_leads, plain_end_is_tidy}
+use Rattle.run_audit_laws.proofs.EndLines.{check_lead, plain_lead}
+use Rattle.run_audit_laws.proofs.Found.{outlined}
+use Rattle.run_audit_laws.proofs.Leading.{then_some}
+use Rattle.run_audit_laws.proofs.Work.{end_of}
+use Rattle.run_audit_laws.proofs.Saying.{both, same_number}
+
+first_of : (a b : Bool) → a ≡ true → (a || b) ≡ true
+first_of a b is = ap (λ (x : Bool). x || b) is
+
+module _ (xs : List AuditedDevice) (later : List EventLine) (a : AuditedDevice) (has : device_in xs a.number ≡ Some a) (closed : a.half ≡ Closed)
+    (o : OpenEntry) (running : a.history.running ≡ Some o) where
+  abbrev from : AuditState
+  from = record { devices = xs; events = Step a.number ∷ later; due = Next }
+
+  stands : (e : CommandEnd) → in_event (outlines (record { devices = xs; events = Step a.number ∷ later; due = Next }))
+      (lines.End (end_line o.path a.number o.ordinal e)) (Step a.number) ≡ true
+  stands e =
+      let line = lines.End (end_line o.path a.number o.ordinal e) in
+      ap (λ (k : Option Outline). holds k (λ b. may_step b (lines.StepIdle a.number) line b.half))
+      (outlined xs a.number ∙ ap (λ (k : Option AuditedDevice). option_map outline_of k) has)
+      ∙ ap (may_step (outline_of a) (lines.StepIdle a.number) line) closed
+      ∙ ap (λ (r : Option OpenEntry). in_steps (outline_of a) (lines.StepIdle a.number) line (open_program r)) running
+      ∙ first_of ((o.path == o.path) && (a.number == a.number) && (o.ordinal == o.ordinal)) false
+      (both ((o.path == o.path) && (a.number == a.number)) (o.ordinal == o.ordinal)
+      (both (o.path == o.path) (a.number == a.number) (same_number o.path) (same_number a.number)) (same_number o.ordinal))
+
+  makes : (line : ReportLine) → event_made (record { devices = xs; events = Step a.number ∷ later; due = Next }) line (Step a.number)
+      ≡ work_made (record { devices = xs; events = Step a.number ∷ later; due = Next }) line a
+  makes line = then_some (device_in xs a.number) a (work_made from line) has
+
+  pub step_ends : StepEnds xs later a o
+  step_ends p plain few = record {
+    plainly = plain_lead xs (Step a.number) later a has refl o running stands makes p plain (plain_end_is_tidy a o p plain few);
+    checked = λ sense is. check_lead xs (Step a.number) later a has refl o running stands makes p plain (plain_end_is_tidy a o p plain few) sense is;
+  }
+
+  -- all lines of the step
+  pub step_leads : WholeStepLeads xs later a o
+  step_leads p plain few plainly acts none are = record {
+    plainly = λ reads writes legal.
+        let leads = plain_command_leads xs (Step a.number) later a has refl o running plainly stands makes p plain few acts none are reads writes legal in
+        (leads.0, leads.1, subst (λ (t : AuditState). Reaches leads.0 t) (same_end legal p.over) leads.2);
+    loosened = λ reads writes t may legal.
+        let leads = loose_command_leads xs (Step a.number) later a has refl o running plainly stands makes p plain few acts none are reads writes t may legal in
+        (leads.0, leads.1, subst (λ (z : AuditState). Reaches leads.0 z) (loose_end t legal p.over) leads.2);
+    checked = λ reads writes sense is.
+        check_command_leads xs (Step a.number) later a has refl o running plainly stands makes p plain few acts none are reads writes sense is;
+  } where
+    same_end : (legal : is_next_legal (acted_to a acts) (all_acted a.history acts).running ≡ true) (over : Bool) →
+        end_of xs (Step a.number) later a.number refl a has (acted_to a acts) refl true (Ended p) legal (over_if over (over_told a o how.Full))
+        ≡ step_done xs later a (ended (all_acted a.history acts) p)
+    same_end legal true = refl
+    same_end legal false = refl
+
+    loose_end : (t : ℕ) (legal : is_next_legal (acted_to a (acts ++ Loosen t ∷ [])) (all_acted a.history (acts ++ Loosen t ∷ [])).running
+        ≡ true) (over : Bool) →
+        end_of xs (Step a.number) later a.number refl a has (acted_to a (acts ++ Loosen t ∷ [])) refl false (Ended p) legal
+        (over_if over (over_told a o how.Full))
+        ≡ step_done xs later a (ended (all_acted a.history (acts ++ Loosen t ∷ [])) p)
+    loose_end t legal true = refl
+    loose_end t legal false = refl

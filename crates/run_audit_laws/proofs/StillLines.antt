@@ -1,0 +1,120 @@
+-- An event line at which no command runs, behind the run of a deck.
+use Rattle.std.proofs.Common.{◌≡◌, ℕ, List, [], ◌∷◌, Option, Some, None, refl, sym, ap, subst, ◌∙◌}
+use Rattle.std.specs.Prelude.{IsSome, Ok}
+use Rattle.std.proofs.lemmas.List.{append-nil}
+use Rattle.std.specs.List.{flat_map}
+use Rattle.deck_plan.specs.declared.event.EventLine.{EventLine}
+use Rattle.deck_plan.specs.declared.event.EventLine.TheVariants as wanted
+use Rattle.deck_text.specs.DeckLines.{DeckLines}
+use Rattle.deck_text.specs.Parse.{parsed}
+use Rattle.device_defs.specs.Contents.{by_plain}
+use Rattle.device_defs.specs.Marks.{MarksDevice}
+use Rattle.report_text.specs.declared.line.ReportLine.{ReportLine}
+use Rattle.run_report.specs.Events.{event_lines, lines_of}
+use Rattle.subsystem_defs.specs.declared.event.Event.{Event}
+use Rattle.subsystem_defs.specs.declared.event.Event.TheVariants as events
+use Rattle.subsystem_defs.specs.declared.end.OrderFault.{OrderFault}
+use Rattle.subsystem_defs.specs.Decks.{run_of}
+use Rattle.subsystem_defs.specs.Deeds.{Asks, Becomes, Each, Ends, Lends, Repairs, deed, device_in}
+use Rattle.subsystem_defs.specs.Happening as H
+use Rattle.subsystem_defs.specs.Happening.{Happened, MarksDeed, asks, happens, happens_by, replaced, replaced_at, replaced_by}
+use Rattle.subsystem_defs.specs.Lines as L
+use Rattle.subsystem_defs.specs.Lines.{Asked, Logged, Once, Replace, asked_by, last_behind, line_logged, logged}
+use Rattle.subsystem_defs.specs.Refusals.{replace_fault}
+use Rattle.subsystem_defs.specs.Subsystem.{Mounted, Subsystem, devices_of, mounted_in, unfailing}
+use Rattle.subsystem_laws.proofs.PlainRuns.{ArePlain, plain_behind}
+use Rattle.subsystem_laws.proofs.ReadDecks.{read_served}
+use Rattle.run_audit_laws.specs.Standing.{IsStill, LeadsBy, LineLeads, stand}
+use Rattle.run_audit_laws.proofs.Leading.{EventLeads}
+use Rattle.run_audit_laws.proofs.Orders.{repair_cache_leads, repair_store_leads, replace_leads, resume_leads, suspend_leads}
+use Rattle.run_audit_laws.proofs.Resets.{reset_leads}
+use Rattle.run_audit_laws.proofs.Starts.{start_leads}
+
+before_same : (s : Subsystem) (x : MarksDeed) → (happens_by s x).before ≡ s
+before_same s (Ends end) = refl
+before_same s (Becomes d end) = refl
+before_same s (Asks d talk) = by_mounted (mounted_in s.mounted d.store.device) where
+  by_mounted : (o : Option Mounted) → (asks s d.store.device o talk).before ≡ s
+  by_mounted (Some m) = refl
+  by_mounted None = refl
+before_same s (Each pool f) = refl
+before_same s (Repairs pool) = refl
+before_same s (Lends a b) = refl
+
+happens_before : (s : Subsystem) (e : Event) → (happens s e).before ≡ s
+unfolding H.happens
+happens_before s e = before_same s (deed by_plain s.pool (devices_of s) e)
+
+replaced_before : (s : Subsystem) (d : ℕ) (side : _) → (replaced s d side unfailing).before ≡ s
+unfolding H.replaced
+replaced_before s d side = by_mounted (mounted_in s.mounted d) where
+  by_fault : (m : Mounted) (f : Option OrderFault) → (replaced_by s d side unfailing m f).before ≡ s
+  by_fault m (Some fault) = refl
+  by_fault m None = refl
+
+  by_mounted : (o : Option Mounted) → (replaced_at s d side unfailing o).before ≡ s
+  by_mounted (Some m) = by_fault m (replace_fault m.device side)
+  by_mounted None = refl
+
+-- of one event
+module _ (s : Subsystem) (e : EventLine) (asked : Asked) (h : Happened) where
+  one_line : asked_by e ≡ asked → line_logged s asked ≡ logged asked h ∷ [] → h.before ≡ s → EventLeads s e asked h → LineLeads s e
+  one_line asks_so is before leads later =
+      subst (λ (ts : List Logged). LeadsBy (stand s (e ∷ later)) (flat_map lines_of ts) (stand (last_behind s ts) later))
+      (sym (ap (line_logged s) asks_so ∙ is))
+      (subst (λ (l : List ReportLine). LeadsBy (stand s (e ∷ later)) l (stand h.behind later))
+      (sym (append-nil (lines_of (logged asked h))
+      ∙ ap (λ (z : Subsystem). event_lines asked h.end h.reads h.writes (devices_of z) (devices_of h.behind)) before))
+      (leads later))
+
+once_logged : (s : Subsystem) (e : Event) → line_logged s (Once e) ≡ logged (Once e) (happens s e) ∷ []
+unfolding L.line_logged
+once_logged s e = refl
+
+replace_logged : (s : Subsystem) (d : ℕ) (side : _) → line_logged s (Replace d side) ≡ logged (Replace d side) (replaced s d side unfailing) ∷ []
+unfolding L.line_logged
+replace_logged s d side = refl
+
+module _ (s : Subsystem) (plain : ArePlain s.mounted) where
+  once : (line : EventLine) (e : Event) → asked_by line ≡ Once e → EventLeads s line (Once e) (happens s e) → LineLeads s line
+  once line e same leads = one_line s line (Once e) (happens s e) same (once_logged s e) (happens_before s e) leads
+
+  some_device : {T : Type 0} (o : Option MarksDevice) → IsSome o → ((x : MarksDevice) → o ≡ Some x → T) → T
+  some_device (Some x) some go = go x refl
+  some_device None some go = absurd (none_there None refl some) where
+    none_there : (o : Option MarksDevice) → o ≡ None → IsSome o → ⊥
+    none_there None is so = cc
+    none_there (Some x) is so = cc
+
+  pub still_leads : (e : EventLine) → IsStill s e → LineLeads s e
+  still_leads (wanted.Start path d) has =
+      some_device (device_in (devices_of s) d) has
+      (λ x at. once (wanted.Start path d) (events.Start path d) refl (start_leads s plain path d x at))
+  still_leads (wanted.Reset path d) has =
+      some_device (device_in (devices_of s) d) has
+      (λ x at. once (wanted.Reset path d) (events.Reset path d) refl (reset_leads s plain path d x at))
+  still_leads wanted.RepairCache has = once wanted.RepairCache events.RepairCache refl (repair_cache_leads s)
+  still_leads wanted.RepairStore has = once wanted.RepairStore events.RepairStore refl (repair_store_leads s)
+  still_leads (wanted.Replace d side) has =
+      some_device (device_in (devices_of s) d) has
+      (λ x at. one_line s (wanted.Replace d side) (Replace d side) (replaced s d side unfailing) refl (replace_logged s d side) (replaced_before s d side)
+      (replace_leads s d x at side))
+  still_leads (wanted.Suspend d) has =
+      some_device (device_in (devices_of s) d) has (λ x at. once (wanted.Suspend d) (events.Suspend d) refl (suspend_leads s d x at))
+  still_leads (wanted.Resume d) has =
+      some_device (device_in (devices_of s) d) has (λ x at. once (wanted.Resume d) (events.Resume d) refl (resume_leads s d x at))
+  still_leads (wanted.Step d) has = absurd has
+  still_leads (wanted.Run d) has = absurd has
+  still_leads (wanted.Back d) has = absurd has
+  still_leads (wanted.Settle d) has = absurd has
+  still_leads wanted.FailCache has = absurd has
+  still_leads wanted.FailStore has = absurd has
+  still_leads (wanted.FailVolume d side) has = absurd has
+  still_leads (wanted.Pair a b) has = absurd has
+  still_leads (wanted.Unpair a) has = absurd has
+  still_leads wanted.Power has = absurd has
+
+-- behind the run of a deck that was read
+pub still_line_leads : (text : List ℕ) (deck : DeckLines) → parsed text ≡ Ok deck → (e : EventLine) → IsStill (run_of deck).behind e →
+    LineLeads (run_of deck).behind e
+still_line_leads text deck read e still = still_leads (run_of deck).behind (plain_behind deck (read_served text deck read)) e still

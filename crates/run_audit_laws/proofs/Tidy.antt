@@ -1,0 +1,396 @@
+-- The form of an end on the plain device: with sense it has that of a check, and of another cause; without sense another status.
+use Rattle.std.proofs.Common.{◌≡◌, ◌==◌, ◌+◌, ℕ, zero, suc, Bool, true, false, List, Option, Some, None, refl, ap, ◌∙◌, ◌*◌, inl, inr}
+use Rattle.std.specs.Prelude.{◌%◌, ◌&&◌, [], ◌⊎◌, not, is_some, length, nat_le, nat_lt, Result, Ok, Err, ⊤, if◌then◌else◌}
+use Rattle.std.specs.Str.{bytes_eq}
+use Rattle.std.proofs.lemmas.Bool.{cond_both}
+use Rattle.ckd_types.specs.declared.channel.Ccw.{Ccw}
+use Rattle.ckd_types.specs.declared.channel.Note.TheVariants.{Plain, Limit}
+use Rattle.ckd_types.specs.declared.command.Command.{Command}
+use Rattle.ckd_types.specs.declared.command.Command.TheVariants as commands
+use Rattle.ckd_types.specs.declared.command.ReadArea.{ReadArea}
+use Rattle.ckd_types.specs.declared.command.ReadArea.TheVariants as reads
+use Rattle.ckd_types.specs.declared.command.SearchArea.{SearchArea}
+use Rattle.ckd_types.specs.declared.command.Read.{Read}
+use Rattle.ckd_types.specs.declared.command.Write.{Write}
+use Rattle.ckd_types.specs.declared.command.Write.TheVariants.{Data, UpdateData, KeyData, UpdateKeyData, CountKeyData, NextTrack, Zero}
+use Rattle.ckd_types.specs.declared.geometry.Geometry.{Geometry}
+use Rattle.ckd_types.specs.declared.parameters.Domain.{Domain}
+use Rattle.ckd_types.specs.declared.parameters.Extent.{Extent}
+use Rattle.ckd_types.specs.declared.record.Record.{Record}
+use Rattle.ckd_types.specs.declared.record.Track.{Track}
+use Rattle.ckd_types.specs.declared.sense.Sense.{Sense}
+use Rattle.ckd_types.specs.declared.status.UnitStatus.{UnitStatus}
+use Rattle.ckd_types.specs.Sense.{
+  reject_sense,
+  track_format_sense,
+  end_of_cylinder_sense,
+  no_record_sense,
+  file_protected_sense,
+  equipment_sense,
+  data_check_sense,
+}
+use Rattle.ckd_rules.specs.declared.finding.Sought.{Sought}
+use Rattle.ckd_rules.specs.declared.finding.Sought.TheVariants.{Here, Onward, Nowhere}
+use Rattle.ckd_rules.specs.declared.opening.Opening.{Opening}
+use Rattle.ckd_rules.specs.declared.opening.Opening.TheVariants as openings
+use Rattle.ckd_rules.specs.declared.order.LocalAct.{LocalAct}
+use Rattle.ckd_rules.specs.declared.order.LocalAct.TheVariants as acts
+use Rattle.ckd_rules.specs.declared.order.Look.{Look}
+use Rattle.ckd_rules.specs.declared.order.Look.TheVariants.{Finds, Searches, Reads, Writes}
+use Rattle.ckd_rules.specs.declared.order.Order.{Order}
+use Rattle.ckd_rules.specs.declared.order.Order.TheVariants.{Nothing, Seeks, Recalibrates, SetsSector, SetsMask, Defines, Locates, Looks, Asks}
+use Rattle.ckd_rules.specs.declared.ending.Ending.{Ending}
+use Rattle.ckd_rules.specs.declared.grouping.GroupFault.{GroupFault}
+use Rattle.ckd_types.specs.Fixed.{Fixed}
+use Rattle.ckd_types.specs.Status.{has_unit_check, has_unit_exception}
+use Rattle.ckd_types.specs.Mask.{permits_write, permits_seek}
+use Rattle.ckd_types.specs.Commands.{required_count}
+use Rattle.ckd_rules.specs.declared.stance.After.{After}
+use Rattle.ckd_rules.specs.declared.stance.After.TheVariants.{Other, Wrote}
+use Rattle.ckd_rules.specs.declared.stance.Place.{Place}
+use Rattle.ckd_rules.specs.declared.stance.Place.TheVariants.{Index, Home, Count, Key, Body}
+use Rattle.ckd_rules.specs.declared.stance.Stance.{Stance}
+use Rattle.ckd_rules.specs.declared.turned.Turned.{Turned}
+use Rattle.ckd_rules.specs.declared.turned.Turned.TheVariants as turns
+use Rattle.ckd_rules.specs.Checks.{mask_fault, masked_order, order_by, order_of, permitted_order, placed_order, is_within, first_track, is_in_sequence, decoded}
+use Rattle.ckd_rules.specs.Control.{located, unseen_place}
+use Rattle.ckd_rules.specs.Ending.{Outcome, check, exception, normal, refused}
+use Rattle.ckd_rules.specs.Ends.{at_limit, end_of, is_plain, note_of}
+use Rattle.ckd_rules.specs.Finding.{find_from, from_index, missed, moves_on, next_track, track_after}
+use Rattle.ckd_rules.specs.Formats.{format_behind, format_ended, record_given, has_room_behind, is_zero_given, key_given, body_given, zero_on}
+use Rattle.ckd_rules.specs.Look.{look_on}
+use Rattle.ckd_rules.specs.Looked.{Looked, edits, ends}
+use Rattle.ckd_rules.specs.Opening.{begun, locating, look_from, moved, opened_by, opening_of, read_from}
+use Rattle.ckd_rules.specs.Reads.{read_sought, record_at, read_status, status_of}
+use Rattle.ckd_rules.specs.Searches.{search_sought, search_status}
+use Rattle.ckd_types.specs.declared.record.Edit.TheVariants.{Format, Update, Zero as ZeroEdit}
+use Rattle.ckd_types.specs.Ccw.{is_chained}
+use Rattle.ckd_rules.specs.Area.{given_at}
+use Rattle.ckd_rules.specs.Updates.{update_data, update_ended, update_record, update_sought}
+use Rattle.ckd_rules.specs.Walk as W
+use Rattle.ckd_rules.specs.Walk.{Walked, touching, walk, walked}
+use Rattle.ckd_rules.specs.Writes.{write_on}
+use Rattle.plain_defs.specs.Acts.{act_fault, act_outcome}
+use Rattle.plain_defs.specs.Effect.{acted_by, effect_by, effect_on}
+use Rattle.plain_defs.specs.PlainState.{PathsState, PlainState}
+use Rattle.run_audit_laws.proofs.EndLines.{TidyBy}
+
+-- a sense that a rule gives
+abbrev IsRule : Sense → Type 0
+IsRule sense = (bytes_eq sense.bytes equipment_sense.bytes ≡ false) × (bytes_eq sense.bytes data_check_sense.bytes ≡ false)
+
+abbrev FitsBy : Ccw → Ending → Option Sense → Type 0
+FitsBy c e (Some sense) = (e.status ≡ check) × (e.residual ≡ c.count) × (e.note ≡ Plain) × (e.sent ≡ []) × IsRule sense
+FitsBy c e None = (check.0 == e.status.0) ≡ false
+
+abbrev Fits : Ccw → Ending → Type 0
+Fits c e = FitsBy c e e.sense
+
+rejects : (n : ℕ) → IsRule (reject_sense n)
+rejects n = (refl, refl)
+
+refused_fits : (s : Stance) (c : Ccw) (sense : Sense) → IsRule sense → Fits c (refused s c sense).ending
+refused_fits s c sense rule = (refl, refl, refl, refl, rule)
+
+abbrev Good : UnitStatus → Type 0
+Good status = (check.0 == status.0) ≡ false
+
+status_good : (body : List ℕ) → Good (status_of body)
+status_good body = by_test (length body == 0) where
+  by_test : (b : Bool) → Good (if b then exception else normal)
+  by_test true = refl
+  by_test false = refl
+
+search_good : (met : Bool) → Good (search_status met)
+search_good true = refl
+search_good false = refl
+
+read_good : (area : ReadArea) (body : List ℕ) → Good (read_status area body)
+read_good reads.Home body = refl
+read_good reads.Zero body = refl
+read_good reads.Count body = refl
+read_good reads.Data body = status_good body
+read_good reads.KeyData body = status_good body
+read_good reads.CountKeyData body = refl
+read_good reads.Multiple body = refl
+read_good reads.Track body = refl
+
+-- Where a record isn't found
+
+abbrev SoughtFits : Sought → Type 0
+SoughtFits (Nowhere sense) = IsRule sense
+SoughtFits (Here i passes) = ⊤
+SoughtFits (Onward t) = ⊤
+
+abbrev MoveFits : Result ℕ Sense → Type 0
+MoveFits (Ok t) = ⊤
+MoveFits (Err sense) = IsRule sense
+
+after_fits : (e : Option Extent) (t : ℕ) → MoveFits (track_after e t)
+after_fits None t = by_test (t % 15 == 14) where
+  by_test : (b : Bool) → MoveFits (if b then Err end_of_cylinder_sense else Ok (t + 1))
+  by_test true = (refl, refl)
+  by_test false = tt
+after_fits (Some e) t = by_test (nat_le e.last t) where
+  by_test : (b : Bool) → MoveFits (if b then Err file_protected_sense else Ok (t + 1))
+  by_test true = (refl, refl)
+  by_test false = tt
+
+next_fits : (s : Stance) → MoveFits (next_track s)
+next_fits s = by_test _ (after_fits s.extent s.track) where
+  by_test : (b : Bool) → MoveFits (track_after s.extent s.track) → MoveFits (if b then Err file_protected_sense else track_after s.extent s.track)
+  by_test true h = (refl, refl)
+  by_test false h = h
+
+moves_fits : (r : Result ℕ Sense) → MoveFits r → SoughtFits (moves_on r)
+moves_fits (Ok t) h = tt
+moves_fits (Err sense) h = h
+
+index_fits : (passes : ℕ) (o : Option ℕ) → SoughtFits (from_index passes o)
+index_fits passes (Some i) = tt
+index_fits passes None = (refl, refl)
+
+missed_fits : (b : Bool) (s : Stance) (again : Option ℕ) → SoughtFits (missed b s again)
+missed_fits true s again = moves_fits (next_track s) (next_fits s)
+missed_fits false s again = by_test (nat_le 1 s.passes) where
+  by_test : (b : Bool) → SoughtFits (if b then Nowhere no_record_sense else from_index (s.passes + 1) again)
+  by_test true = (refl, refl)
+  by_test false = index_fits (s.passes + 1) again
+
+found_fits : (b : Bool) (s : Stance) (o again : Option ℕ) → SoughtFits (find_from b s o again)
+found_fits b s (Some i) again = tt
+found_fits b s None again = missed_fits b s again
+
+-- A look at a track
+
+abbrev TurnFits : Ccw → Turned → Type 0
+TurnFits c (turns.Ended e) = Fits c e
+TurnFits c turns.Onward = ⊤
+TurnFits c (turns.Edits edit e) = Fits c e
+
+abbrev LookFits : Ccw → Looked → Type 0
+LookFits c l = TurnFits c l.turned
+
+search_fits : (t : Track) (area : SearchArea) (s : Stance) (c : Ccw) (k : Sought) → SoughtFits k → LookFits c (search_sought t area s c k)
+search_fits t area s c (Here i passes) h = search_good _
+search_fits t area s c (Onward u) h = tt
+search_fits t area s c (Nowhere sense) h = refused_fits s c sense h
+
+reads_fit : (t : Track) (area : ReadArea) (s : Stance) (c : Ccw) (k : Sought) → SoughtFits k → LookFits c (read_sought t area s c k)
+reads_fit t area s c (Here i passes) h = read_good area _
+reads_fit t area s c (Onward u) h = tt
+reads_fit t area s c (Nowhere sense) h = refused_fits s c sense h
+
+data_fits : (d : Bool) (s : Stance) (c : Ccw) (i : ℕ) (r : Record) → LookFits c (update_data d s c i r)
+data_fits d s c i r =
+    cond_both (length r.body == 0) (ends (update_ended d s c i r.body 0))
+    (edits (Update i r.key (given_at 0 (length r.body) c)) (update_ended d s c i r.body (length r.body))) (LookFits c)
+    (λ _. status_good r.body) (λ _. status_good r.body)
+
+record_fits : (key d : Bool) (s : Stance) (c : Ccw) (i : ℕ) (r : Record) → LookFits c (update_record key d s c i r)
+record_fits true d s c i r = status_good r.body
+record_fits false d s c i r = data_fits d s c i r
+
+updates_fit : (key d : Bool) (records : List Record) (s : Stance) (c : Ccw) (k : Sought) → SoughtFits k → LookFits c (update_sought key d records s c k)
+updates_fit key d records s c (Here i passes) h = record_fits key d s c i (record_at records i)
+updates_fit key d records s c (Onward t) h = tt
+updates_fit key d records s c (Nowhere sense) h = refused_fits s c sense h
+
+formats_fit : (g : Geometry) (records : List Record) (after : After) (s : Stance) (c : Ccw) (i : ℕ) → LookFits c (format_behind g records after s c i)
+formats_fit g records after s c i =
+    cond_both (has_room_behind g records i (key_given c) (body_given c))
+    (edits (Format i (record_given c)) (format_ended after s c (i + 1) (8 + key_given c + body_given c)))
+    (ends (refused s c track_format_sense)) (LookFits c) (λ _. refl) (λ _. refused_fits s c track_format_sense (refl, refl))
+
+zeros_fit : (s : Stance) (c : Ccw) → LookFits c (zero_on s c)
+zeros_fit s c =
+    cond_both (is_zero_given c) (edits (ZeroEdit (record_given c)) (format_ended Wrote s c 0 16)) (ends (refused s c track_format_sense)) (LookFits c)
+    (λ _. refl) (λ _. refused_fits s c track_format_sense (refl, refl))
+
+writes_fit : (g : Geometry) (t : Track) (s : Stance) (c : Ccw) (w : Write) → LookFits c (write_on g t s c w)
+writes_fit g t s c Data = updates_fit false (is_some s.domain) t.records s c _ (found_fits (is_some s.domain) s _ _)
+writes_fit g t s c UpdateData = updates_fit false true t.records s c _ (found_fits true s _ _)
+writes_fit g t s c KeyData = updates_fit true (is_some s.domain) t.records s c _ (found_fits (is_some s.domain) s _ _)
+writes_fit g t s c UpdateKeyData = updates_fit true true t.records s c _ (found_fits true s _ _)
+writes_fit g t s c CountKeyData = formats_fit g t.records Wrote s c _
+writes_fit g t s c NextTrack = formats_fit g t.records Other s c 0
+writes_fit g t s c Zero = zeros_fit s c
+
+found_record_fits : (s : Stance) (c : Ccw) (d : Domain) (o : Option ℕ) → Fits c (located s c d o).ending
+found_record_fits s c d (Some i) = refl
+found_record_fits s c d None = refused_fits s c no_record_sense (refl, refl)
+
+look_fits : (g : Geometry) (t : Track) (s : Stance) (c : Ccw) (look : Look) → LookFits c (look_on g t s c look)
+look_fits g t s c (Finds d) = found_record_fits s c d _
+look_fits g t s c (Searches x) = search_fits t x.area s c _ (found_fits x.multitrack s _ _)
+look_fits g t s c (Reads r) = reads_fit t r.area s c _ (found_fits r.multitrack s _ _)
+look_fits g t s c (Writes w) = writes_fit g t s c w
+
+-- From track to track: but for one that looks at more tracks than there are
+
+abbrev WalkFits : Ccw → Outcome → Type 0
+WalkFits c o = Fits c o.ending ⊎ (o.ending.sense ≡ Some equipment_sense)
+
+turned_fits : (c : Ccw) (t : ℕ) (on : Stance → Walked) (s : Stance) (k : Turned) → TurnFits c k → ((z : Stance) → WalkFits c (on z).outcome) →
+    WalkFits c (walked t on s k).outcome
+turned_fits c t on s (turns.Ended e) h go = inl h
+turned_fits c t on s turns.Onward h go = go s
+turned_fits c t on s (turns.Edits edit e) h go = inl h
+
+walk_fits : (n : ℕ) (g : Geometry) (tracks : ℕ → Track) (start : Stance) (c : Ccw) (look : Look) (s : Stance) →
+    WalkFits c (walk n g tracks start c look s).outcome
+unfolding W.walk
+walk_fits zero g tracks start c look s = inr refl
+walk_fits (suc n) g tracks start c look s =
+    turned_fits c s.track (walk n g tracks start c look) (look_on g (tracks s.track) s c look).stance (look_on g (tracks s.track) s c look).turned
+    (look_fits g (tracks s.track) s c look) (walk_fits n g tracks start c look)
+
+-- How a command begins
+
+abbrev OrderFits : Result Order Sense → Type 0
+OrderFits (Ok order) = ⊤
+OrderFits (Err sense) = IsRule sense
+
+placed_fits : (s : Stance) (order : Order) → OrderFits (placed_order s order)
+placed_fits s order = cond_both (is_within s.extent (first_track s order)) (Ok order) (Err file_protected_sense) OrderFits (λ _. tt) (λ _. (refl, refl))
+
+abbrev FaultFits : Option Sense → Type 0
+FaultFits (Some sense) = IsRule sense
+FaultFits None = ⊤
+
+mask_fits : (mask : ℕ) (command : Command) → FaultFits (mask_fault mask command)
+mask_fits mask (commands.Control k) = cond_both (permits_seek mask k) None (Some file_protected_sense) FaultFits (λ _. tt) (λ _. (refl, refl))
+mask_fits mask (commands.Write w) = cond_both (permits_write mask w) None (Some (reject_sense 2)) FaultFits (λ _. tt) (λ _. (refl, refl))
+mask_fits mask (commands.Search x) = tt
+mask_fits mask (commands.Read r) = tt
+mask_fits mask (commands.Device d) = tt
+
+masked_fits : (s : Stance) (order : Order) (o : Option Sense) → FaultFits o → OrderFits (masked_order s order o)
+masked_fits s order (Some sense) h = h
+masked_fits s order None h = placed_fits s order
+
+permitted_fits : (s : Stance) (command : Command) (o : Option Order) → OrderFits (permitted_order s command o)
+permitted_fits s command None = rejects 4
+permitted_fits s command (Some order) = masked_fits s order (mask_fault s.mask command) (mask_fits s.mask command)
+
+order_fits : (f : Fixed) (s : Stance) (c : Ccw) (o : Option Command) → OrderFits (order_by f s c o)
+order_fits f s c None = rejects 1
+order_fits f s c (Some command) =
+    cond_both (not (is_in_sequence s s.domain command)) (Err (reject_sense 2))
+    (if nat_lt c.count (required_count command) then Err (reject_sense 3) else permitted_order s command (decoded f s c command)) OrderFits
+    (λ _. rejects 2)
+    (λ _. cond_both (nat_lt c.count (required_count command)) (Err (reject_sense 3)) (permitted_order s command (decoded f s c command)) OrderFits
+    (λ _. rejects 3) (λ _. permitted_fits s command (decoded f s c command)))
+
+abbrev OpeningFits : Ccw → Opening → Type 0
+OpeningFits c (openings.Over e) = Fits c e
+OpeningFits c (openings.Looks look) = ⊤
+OpeningFits c (openings.Asks act) = ⊤
+
+moved_fits : (s : Stance) (c : Ccw) (look : Look) (r : Result ℕ Sense) → MoveFits r → OpeningFits c (moved s c look r).opening
+moved_fits s c look (Ok t) h = tt
+moved_fits s c look (Err sense) h = refused_fits s c sense h
+
+track_from_fits : (s : Stance) (c : Ccw) (r : Read) (place : Place) → OpeningFits c (read_from s c r reads.Track place).opening
+track_from_fits s c r Index = tt
+track_from_fits s c r Home = moved_fits s c (Reads r) (track_after s.extent s.track) (after_fits s.extent s.track)
+track_from_fits s c r (Count i) = moved_fits s c (Reads r) (track_after s.extent s.track) (after_fits s.extent s.track)
+track_from_fits s c r (Key i) = moved_fits s c (Reads r) (track_after s.extent s.track) (after_fits s.extent s.track)
+track_from_fits s c r (Body i) = moved_fits s c (Reads r) (track_after s.extent s.track) (after_fits s.extent s.track)
+
+read_from_fits : (s : Stance) (c : Ccw) (r : Read) (area : ReadArea) (place : Place) → OpeningFits c (read_from s c r area place).opening
+read_from_fits s c r reads.Track place = track_from_fits s c r place
+read_from_fits s c r reads.Home place = tt
+read_from_fits s c r reads.Zero place = tt
+read_from_fits s c r reads.Count place = tt
+read_from_fits s c r reads.Data place = tt
+read_from_fits s c r reads.KeyData place = tt
+read_from_fits s c r reads.CountKeyData place = tt
+read_from_fits s c r reads.Multiple place = tt
+
+write_from_fits : (s : Stance) (c : Ccw) (w : Write) → OpeningFits c (look_from s c (Writes w)).opening
+write_from_fits s c Data = tt
+write_from_fits s c UpdateData = tt
+write_from_fits s c KeyData = tt
+write_from_fits s c UpdateKeyData = tt
+write_from_fits s c CountKeyData = tt
+write_from_fits s c NextTrack = moved_fits s c (Writes NextTrack) (track_after s.extent s.track) (after_fits s.extent s.track)
+write_from_fits s c Zero = tt
+
+look_from_fits : (s : Stance) (c : Ccw) (look : Look) → OpeningFits c (look_from s c look).opening
+look_from_fits s c (Finds d) = tt
+look_from_fits s c (Searches x) = tt
+look_from_fits s c (Reads r) = read_from_fits s c r r.area s.place
+look_from_fits s c (Writes w) = write_from_fits s c w
+
+locating_fits : (s : Stance) (c : Ccw) (d : Domain) (o : Option Place) → OpeningFits c (locating s c d o).opening
+locating_fits s c d (Some place) = refl
+locating_fits s c d None = tt
+
+begun_fits : (s : Stance) (c : Ccw) (order : Order) → OpeningFits c (begun s c order).opening
+begun_fits s c Nothing = refl
+begun_fits s c (Seeks t) = refl
+begun_fits s c Recalibrates = refl
+begun_fits s c SetsSector = refl
+begun_fits s c (SetsMask mask) = refl
+begun_fits s c (Defines e) = refl
+begun_fits s c (Locates d) = locating_fits s c d (unseen_place d.orientation)
+begun_fits s c (Looks look) = look_from_fits s c look
+begun_fits s c (Asks act) = tt
+
+opened_fits : (s : Stance) (c : Ccw) (r : Result Order Sense) → OrderFits r → OpeningFits c (opened_by s c r).opening
+opened_fits s c (Ok order) h = begun_fits s c order
+opened_fits s c (Err sense) h = refused_fits s c sense h
+
+-- The whole effect
+
+done_fits : (s : Stance) (c : Ccw) (bytes : List ℕ) (act : LocalAct) → Fits c (act_outcome s c bytes act).ending
+done_fits s c bytes (acts.SetGroup function id) = refl
+done_fits s c bytes acts.Sense = refl
+done_fits s c bytes acts.SenseId = refl
+done_fits s c bytes acts.Reserve = refl
+done_fits s c bytes acts.Release = refl
+done_fits s c bytes acts.Steal = refl
+done_fits s c bytes acts.SenseGroup = refl
+
+act_fits : (f : Fixed) (paths : PathsState) (path : ℕ) (s : Stance) (c : Ccw) (act : LocalAct) (o : Option GroupFault) →
+    Fits c (acted_by f paths path s c act o).outcome.ending
+act_fits f paths path s c act (Some fault) = refused_fits s c (reject_sense 4) (rejects 4)
+act_fits f paths path s c act None = done_fits s c _ act
+
+effect_fits : (f : Fixed) (paths : PathsState) (tracks : ℕ → Track) (path : ℕ) (start : Stance) (c : Ccw) (s : Stance) (o : Opening) → OpeningFits c o →
+    WalkFits c (effect_by f paths tracks path start c s o).outcome
+effect_fits f paths tracks path start c s (openings.Over e) h = inl h
+effect_fits f paths tracks path start c s (openings.Looks look) h = walk_fits (f.cylinders * 15) f.geometry tracks start c look s
+effect_fits f paths tracks path start c s (openings.Asks act) h = inl (act_fits f paths path start c act (act_fault paths path act))
+
+pub outcome_fits : (f : Fixed) (state : PlainState) (path : ℕ) (s : Stance) (c : Ccw) → WalkFits c (effect_on f state path s c).outcome
+outcome_fits f state path s c =
+    effect_fits f state.paths _ path s c (opening_of f s c).stance (opening_of f s c).opening (opened_fits s c (order_of f s c) (order_fits f s c _))
+
+-- Its end
+
+no_more : (a b d : Bool) → (a && false && b && d) ≡ false
+no_more true b d = refl
+no_more false b d = refl
+
+-- the chain of a command that ends with unit check doesn't go on
+note_is : (i : ℕ) (c : Ccw) (o : Outcome) → o.ending.status ≡ check → note_of c o ≡ o.ending.note
+note_is i c o is =
+    ap (λ (x : Bool). if x && at_limit o.stance then Limit else o.ending.note)
+    (ap (λ (s : UnitStatus). is_chained c && not (has_unit_check s) && not (has_unit_exception s) && is_plain o.ending.note) is
+    ∙ no_more (is_chained c) (not (has_unit_exception check)) (is_plain o.ending.note))
+
+tidy_by : (i : ℕ) (c : Ccw) (o : Outcome) (s : Option Sense) → FitsBy c o.ending s → TidyBy c (end_of i c o) s
+tidy_by i c o (Some sense) h = (h.0, h.1, note_is i c o h.0 ∙ h.2, h.3, h.4.0, h.4.1)
+tidy_by i c o None h = h
+
+-- an end of the plain device, of a command that ends before it has looked at more tracks than there are
+pub end_is_tidy : (i : ℕ) (f : Fixed) (state : PlainState) (path : ℕ) (s : Stance) (c : Ccw) →
+    ((end_of i c (effect_on f state path s c).outcome).sense ≡ Some equipment_sense → ⊥) →
+    TidyBy c (end_of i c (effect_on f state path s c).outcome) (end_of i c (effect_on f state path s c).outcome).sense
+end_is_tidy i f state path s c few = by_fits (outcome_fits f state path s c) where
+  by_fits : WalkFits c (effect_on f state path s c).outcome →
+      TidyBy c (end_of i c (effect_on f state path s c).outcome) (end_of i c (effect_on f state path s c).outcome).sense
+  by_fits (inl h) = tidy_by i c (effect_on f state path s c).outcome (effect_on f state path s c).outcome.ending.sense h
+  by_fits (inr many) = absurd (few many)

@@ -1,0 +1,65 @@
+ghost use Rattle.std.specs.Prelude.{◌≡◌, ℕ, Bool, true, false, List, [], ◌∷◌, Some, Ok};
+ghost use Rattle.deck_plan.specs.declared.event.EventLine.{EventLine};
+ghost use Rattle.deck_text.specs.DeckLines.{DeckLines};
+ghost use Rattle.deck_text.specs.Parse.{parsed};
+ghost use Rattle.plain_defs.specs.History.{OpenEntry};
+ghost use Rattle.report_text.specs.declared.line.ReportLine.{ReportLine};
+ghost use Rattle.report_places.specs.declared.state.Did.{Did};
+ghost use Rattle.report_places.specs.declared.state.Due.TheVariants.{Behind, Next, Nothing};
+ghost use Rattle.report_places.specs.Place.{holds, is_of_work};
+ghost use Rattle.deck_audit.specs.History.{is_legal};
+ghost use Rattle.deck_audit.specs.State.{AuditState, settled, worker, worker_number};
+ghost use Rattle.report_places.specs.declared.state.HalfWrite.TheVariants.{Closed};
+ghost use Rattle.deck_audit.specs.Device.{AuditedDevice, device_in};
+ghost use Rattle.run_report.specs.Closing.{ending_lines};
+ghost use Rattle.subsystem_defs.specs.Closing.{ending};
+ghost use Rattle.subsystem_defs.specs.Decks.{run_of};
+ghost use Rattle.subsystem_defs.specs.Subsystem.{Subsystem};
+ghost use Rattle.run_audit_laws.specs.Standing.{FramesAreDeclared, IsStill, LeadsBy, LineLeads, stand};
+ghost use Rattle.run_audit_laws.specs.Steps.{BackLeads, HalfLeads, StepEnds, WholeStepLeads};
+
+/// Behind the run of a deck that was read an audit knows each device as the run has it, and one more event line at which no command runs and
+/// nothing is written or lost (a start, a reset, a repair, a new volume, a side held or let go) leads it to where it does so again: its
+/// lines in the report stand where they may, and show what a plain device answers.
+pub fn still_line_leads()
+    ensures { (text : List ℕ) (deck : DeckLines) → parsed text ≡ Ok deck → (e : EventLine) → IsStill (run_of deck).behind e
+        → LineLeads (run_of deck).behind e }
+{}
+
+/// The lines at the end of a run lead an audit that knows its devices so to FINISH, where each frame of the pool is of one of them.
+pub fn ending_leads()
+    ensures { (s : Subsystem) → FramesAreDeclared s → LeadsBy (stand s []) (ending_lines (ending s)) (record (stand s []) { due = Nothing }) }
+{}
+
+/// The lines of a command's end lead on where it ends as on the plain device, and where equipment check or data check is in place of that.
+pub fn step_ends_lead()
+    ensures { (xs : List AuditedDevice) (later : List EventLine) (a : AuditedDevice) → device_in xs a.number ≡ Some a → a.half ≡ Closed
+        → (o : OpenEntry) → a.history.running ≡ Some o → StepEnds xs later a o }
+{}
+
+/// So do all lines of a step in which a command ends, of a device whose history is a plain device's: its end, CFW lines of tracks that become
+/// firm, at last of one that becomes loose, volume calls, the program that is over. Behind them, at the latest at the next line, the device's
+/// past has these acts and the end.
+pub fn step_leads()
+    ensures { (xs : List AuditedDevice) (later : List EventLine) (a : AuditedDevice) → device_in xs a.number ≡ Some a → a.half ≡ Closed
+        → (o : OpenEntry) → a.history.running ≡ Some o → WholeStepLeads xs later a o }
+{}
+
+/// So do the lines of a step that writes one side of two, with the acts and the volume calls that come with it.
+pub fn half_leads()
+    ensures { (xs : List AuditedDevice) (later : List EventLine) (a : AuditedDevice) → device_in xs a.number ≡ Some a → a.half ≡ Closed
+        → (o : OpenEntry) → a.history.running ≡ Some o → HalfLeads xs later a o }
+{}
+
+/// And so do those of a piece of work in the background, where a line that stands there tells of it.
+pub fn back_leads()
+    ensures { (xs : List AuditedDevice) (later : List EventLine) (a : AuditedDevice) → device_in xs a.number ≡ Some a → BackLeads xs later a }
+{}
+
+/// A piece of work that is told without a volume call and without the end of its program is known to be done at the next line: where that isn't
+/// of the work any more, lines lead on as from where it is done.
+pub fn work_is_done_at_next_line()
+    ensures { (s t : AuditState) (line : ReportLine) (lines : List ReportLine) (more : Bool) (did : Did) → s.due ≡ Behind more did
+        → is_of_work more (worker_number s) line ≡ false → holds (worker s) (is_legal did) ≡ true → (settled s did).due ≡ Next
+        → LeadsBy (settled s did) (line ∷ lines) t → LeadsBy s (line ∷ lines) t }
+{}

@@ -1,0 +1,9 @@
+//! Laws of the audit of a run's own report: lines of an event lead the audit from where it stands to where it then stands. No code.
+#![tactic(auto)]
+
+mod law;
+
+pub use law::{
+    back_leads, ending_leads, half_leads, step_ends_lead, step_leads, still_line_leads,
+    work_is_done_at_next_line,
+};
