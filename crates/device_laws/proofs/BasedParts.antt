@@ -107,8 +107,7 @@ use Rattle.device_defs.specs.Image.{
 }
 use Rattle.device_defs.specs.Losses as L
 use Rattle.device_defs.specs.Losses.{slot_in, settled, stale_everywhere, framed_image, firm_told, all_firm_told, side_lost, call_failed, without_patch}
-use Rattle.device_defs.specs.Owed as O
-use Rattle.device_defs.specs.Owed.{is_owed, is_clean, is_modified, heard, hear, modified_told, dropped_told, freed_told, settles_debt, track_told, all_told}
+use Rattle.device_defs.specs.Owed.{is_clean, is_modified, hear, all_told}
 use Rattle.device_defs.specs.Second as D
 use Rattle.device_defs.specs.Second.{
   half_image_of,
@@ -128,7 +127,6 @@ use Rattle.device_defs.specs.Store.{
   OfBackground,
   HalfWrite,
   Store,
-  no_debt,
   tracks_of,
   level_at,
   has_level,
@@ -137,9 +135,7 @@ use Rattle.device_defs.specs.Store.{
   patch_at,
   is_lost,
   is_loose,
-  owed_at,
   with_frame,
-  with_owed,
   with_stale,
 }
 use Rattle.device_defs.specs.Writing as V
@@ -189,6 +185,7 @@ use Rattle.device_laws.proofs.Based.{
   acted_base,
   based_forget,
 }
+use Rattle.device_laws.proofs.PoolWalks.{asks_based, hear_asks, told_asks}
 
 module _ {F P H R : Type 0} (c : Contents F P H R) where
   abbrev pub Steady : {A : Type 0} → Store F P H → Interaction R Image (Store F P H) A → Type 0
@@ -196,43 +193,11 @@ module _ {F P H R : Type 0} (c : Contents F P H R) where
 
   -- Notices, and what is told
 
-  heard_steady : (n : ℕ) (s : Store F P H) (note : Option ℕ) → ((z : Store F P H) → Steady z (hear c n z)) → Steady s (heard c (hear c n) s note)
-  heard_steady n s None more = based_done refl
-  heard_steady n s (Some t) more = by_clean (is_clean c (frame_at s t))
-    where
-      by_clean : (b : Bool) → Steady s (hear c n (if b then with_frame s t None else s))
-      by_clean true = more (with_frame s t None)
-      by_clean false = more s
-
   pub hear_steady : (n : ℕ) (s : Store F P H) → Steady s (hear c n s)
-  unfolding O.hear
-  hear_steady zero s = based_done refl
-  hear_steady (suc n) s = based_ask tt (λ note. heard_steady n s note (hear_steady n))
-
-  freed_steady : (s : Store F P H) (o : Option ℕ) → Steady s (freed_told c s o)
-  freed_steady s None = based_done refl
-  freed_steady s (Some slot) = based_ask tt (λ _. based_done refl)
-
-  modified_steady : (t : ℕ) (s : Store F P H) → Steady s (modified_told c t s)
-  modified_steady t s = based_if _ (based_ask tt (λ _. based_done refl)) (based_done refl)
-
-  drop_steady : (t : ℕ) (s : Store F P H) → Steady s (dropped_told c t s)
-  drop_steady t s = based_if _ (based_ask tt (λ _. based_done refl)) (based_done refl)
-
-  debt_steady : (t : ℕ) (s : Store F P H) → Steady s (settles_debt c t s)
-  debt_steady t s =
-      based_then (λ z _. and_then (dropped_told c t z) (λ y _. and_then (freed_told c y (owed_at y t).freed) (λ x _. Done (with_owed x t no_debt) (tt {0}))))
-      (modified_steady t s)
-      (λ z _. based_then (λ y _. and_then (freed_told c y (owed_at y t).freed) (λ x _. Done (with_owed x t no_debt) (tt {0}))) (drop_steady t z)
-      (λ y _. based_then (λ x _. Done (with_owed x t no_debt) (tt {0})) (freed_steady y (owed_at y t).freed) (λ x _. based_done refl)))
-
-  told_steady : (t : ℕ) (s : Store F P H) → Steady s (track_told c t s)
-  told_steady t s = based_if (is_owed c (owed_at s t)) (debt_steady t s) (based_done refl)
+  hear_steady n s = asks_based (hear_asks c (λ z. base_of z ≡ base_of s) (λ z t clean e. e) n s refl)
 
   pub all_told_steady : (n : ℕ) (s : Store F P H) → Steady s (all_told c n s)
-  unfolding O.all_told
-  all_told_steady zero s = based_done refl
-  all_told_steady (suc n) s = based_then (λ z _. track_told c n z) (all_told_steady n s) (λ z _. told_steady n z)
+  all_told_steady n s = asks_based (told_asks c (λ z. base_of z ≡ base_of s) (λ z t e. e) n s refl)
 
   -- Losses, failed calls and cuts
 

@@ -28,7 +28,7 @@ use Rattle.std.proofs.Common.{
   ◌∙◌,
 }
 use Rattle.std.proofs.lemmas.Bool.{eqb-false}
-use Rattle.std.specs.Prelude.{nat_le, nat_lt, if◌then◌else◌, ◌&&◌}
+use Rattle.std.specs.Prelude.{nat_le, nat_lt, if◌then◌else◌}
 use Rattle.ckd_types.specs.declared.parameters.Mode.{Mode}
 use Rattle.ckd_types.specs.declared.paths.Side.{Side}
 use Rattle.ckd_types.specs.declared.paths.Side.TheVariants as sides
@@ -80,24 +80,7 @@ use Rattle.device_defs.specs.Losses.{
   call_failed,
 }
 use Rattle.device_defs.specs.Memory.{tried, had_by}
-use Rattle.device_defs.specs.Owed as O
-use Rattle.device_defs.specs.Owed.{
-  is_clean,
-  is_modified,
-  dropped,
-  heard,
-  hear,
-  modified_told,
-  dropped_told,
-  freed_told,
-  settles_debt,
-  is_owed,
-  track_told,
-  all_told,
-  waiting_count,
-  waiting_told,
-  ended,
-}
+use Rattle.device_defs.specs.Owed.{hear, modified_told, dropped_told, track_told, waiting_told, ended}
 use Rattle.device_defs.specs.Store.{
   SideMarks,
   HalfWrite,
@@ -122,6 +105,7 @@ use Rattle.device_defs.specs.Writing as V
 use Rattle.device_defs.specs.Writing.{write_counted, tried_b, write_second, slot_freed, unpatched, done_by, write_done}
 use Rattle.device_laws.proofs.Always.{Always, always_done, always_try, always_ask, always_read, always_write, always_tell, always_then}
 use Rattle.device_laws.proofs.KeptEvents.{always_if}
+use Rattle.device_laws.proofs.PoolWalks.{asks_always, hear_asks, ended_asks}
 
 -- what is said of a store
 pub record SideState : Type 0 where
@@ -251,36 +235,11 @@ module _ {F P H R : Type 0} (c : Contents F P H R) where
 
     -- Notes, and what is owed
 
-    heard_keeps : (n : ℕ) (s : Store F P H) (note : Option ℕ) → Q (state_of s) → ((z : Store F P H) → Q (state_of z) → Keeps (hear c n z)) →
-        Keeps (heard c (hear c n) s note)
-    heard_keeps n s None f more = always_done f
-    heard_keeps n s (Some t) f more =
-        more (dropped c s t) (same_keeps s (dropped c s t) (state_if (state_of s) (is_clean c (frame_at s t)) (with_frame s t None) s refl refl) f)
-
     pub hear_keeps : (n : ℕ) (s : Store F P H) → Q (state_of s) → Keeps (hear c n s)
-    unfolding O.hear
-    hear_keeps zero s f = always_done f
-    hear_keeps (suc n) s f = always_ask (λ note. heard_keeps n s note f (hear_keeps n))
-
-    freed_keeps : (s : Store F P H) (o : Option ℕ) → Q (state_of s) → Keeps (freed_told c s o)
-    freed_keeps s None f = always_done f
-    freed_keeps s (Some slot) f = always_ask (λ _. always_done f)
-
-    debt_keeps : (t : ℕ) (s : Store F P H) → Q (state_of s) → Keeps (settles_debt c t s)
-    debt_keeps t s f =
-        always_then (always_if ((owed_at s t).modified && is_modified c (frame_at s t)) (always_ask (λ _. always_done f)) (always_done f))
-        (λ z _ g. always_then (always_if (owed_at z t).dropped (always_ask (λ _. always_done g)) (always_done g))
-        (λ y _ h. always_then (freed_keeps y (owed_at y t).freed h) (λ x _ k. always_done k)))
-
-    all_keeps : (n : ℕ) (s : Store F P H) → Q (state_of s) → Keeps (all_told c n s)
-    unfolding O.all_told
-    all_keeps zero s f = always_done f
-    all_keeps (suc n) s f = always_then (all_keeps n s f) (λ z _ g. always_if (is_owed c (owed_at z n)) (debt_keeps n z g) (always_done g))
+    hear_keeps n s f = asks_always (hear_asks c (λ z. Q (state_of z)) (λ z t clean g. g) n s f)
 
     pub ended_keeps : (before : ℕ) (s : Store F P H) → Q (state_of s) → Keeps (ended c before s)
-    ended_keeps before s f =
-        always_then (all_keeps (tracks_of s) s f)
-        (λ z _ g. always_if (waiting_count c z == before) (always_done g) (always_ask (λ _. always_done g)))
+    ended_keeps before s f = asks_always (ended_asks c (λ z. Q (state_of z)) (λ z t g. g) before s f)
 
     -- The image of a track
 

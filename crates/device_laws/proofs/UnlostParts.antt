@@ -3,8 +3,6 @@ use Rattle.std.proofs.Common.{
   ◌≡◌,
   ◌<◌,
   ◌+◌,
-  zero,
-  suc,
   ℕ,
   Bool,
   true,
@@ -131,22 +129,7 @@ use Rattle.device_defs.specs.Image.{
   image,
 }
 use Rattle.device_defs.specs.Losses.{slot_in, settled, framed_image}
-use Rattle.device_defs.specs.Owed as O
-use Rattle.device_defs.specs.Owed.{
-  is_owed,
-  is_clean,
-  is_modified,
-  dropped,
-  heard,
-  hear,
-  modified_told,
-  dropped_told,
-  freed_told,
-  settles_debt,
-  waits,
-  track_told,
-  all_told,
-}
+use Rattle.device_defs.specs.Owed.{is_clean, hear, waits, all_told}
 use Rattle.device_defs.specs.Second as D
 use Rattle.device_defs.specs.Second.{
   half_image_of,
@@ -166,7 +149,6 @@ use Rattle.device_defs.specs.Store.{
   OfBackground,
   HalfWrite,
   Store,
-  no_debt,
   tracks_of,
   stale_at,
   level_at,
@@ -177,10 +159,8 @@ use Rattle.device_defs.specs.Store.{
   patch_at,
   is_lost,
   is_loose,
-  owed_at,
   with_stale,
   with_frame,
-  with_owed,
 }
 use Rattle.device_defs.specs.Writing as V
 use Rattle.device_defs.specs.Writing.{
@@ -206,6 +186,7 @@ use Rattle.device_defs.specs.Writing.{
 }
 use Rattle.device_laws.proofs.Always.{Always}
 use Rattle.device_laws.proofs.FailedCall.{IsWell}
+use Rattle.device_laws.proofs.PoolWalks.{asks_lucky, hear_asks, told_asks}
 use Rattle.device_laws.proofs.TrackImage.{level_bytes_keeps_good}
 use Rattle.device_laws.proofs.TrackMarks.{IsFaithful}
 use Rattle.device_laws.proofs.Writes.{is_taken, firm_first_keeps_good, write_first_keeps_good}
@@ -265,44 +246,11 @@ module _ {F P H R : Type 0} (c : Contents F P H R) where
 
   -- Notices, and what is told
 
-  heard_goes : (n : ℕ) (s : Store F P H) (note : Option ℕ) → ((z : Store F P H) → Goes z (hear c n z)) → Goes s (heard c (hear c n) s note)
-  heard_goes n s None more = lucky_done (fine (core_of s))
-  heard_goes n s (Some t) more = by_clean (is_clean c (frame_at s t))
-    where
-      by_clean : (b : Bool) → Goes s (hear c n (if b then with_frame s t None else s))
-      by_clean true = more (with_frame s t None)
-      by_clean false = more s
-
   pub hear_goes : (n : ℕ) (s : Store F P H) → Goes s (hear c n s)
-  unfolding O.hear
-  hear_goes zero s = lucky_done (fine (core_of s))
-  hear_goes (suc n) s = lucky_ask (λ note. heard_goes n s note (hear_goes n))
-
-  freed_goes : (s : Store F P H) (o : Option ℕ) → Goes s (freed_told c s o)
-  freed_goes s None = lucky_done (fine (core_of s))
-  freed_goes s (Some slot) = lucky_ask (λ _. lucky_done (fine (core_of s)))
-
-  modified_goes : (t : ℕ) (s : Store F P H) → Goes s (modified_told c t s)
-  modified_goes t s = lucky_if ((owed_at s t).modified && is_modified c (frame_at s t)) (λ _. lucky_ask (λ _. lucky_done (fine (core_of s))))
-      (λ _. lucky_done (fine (core_of s)))
-
-  drop_goes : (t : ℕ) (s : Store F P H) → Goes s (dropped_told c t s)
-  drop_goes t s = lucky_if (owed_at s t).dropped (λ _. lucky_ask (λ _. lucky_done (fine (core_of s)))) (λ _. lucky_done (fine (core_of s)))
-
-  debt_goes : (t : ℕ) (s : Store F P H) → Goes s (settles_debt c t s)
-  debt_goes t s =
-      goes_then s (λ z _. and_then (dropped_told c t z) (λ y _. and_then (freed_told c y (owed_at y t).freed) (λ x _. Done (with_owed x t no_debt) (tt {0}))))
-      (modified_goes t s)
-      (λ z _. goes_then z (λ y _. and_then (freed_told c y (owed_at y t).freed) (λ x _. Done (with_owed x t no_debt) (tt {0}))) (drop_goes t z)
-      (λ y _. goes_then y (λ x _. Done (with_owed x t no_debt) (tt {0})) (freed_goes y (owed_at y t).freed) (λ x _. lucky_done (fine (core_of x)))))
-
-  told_goes : (t : ℕ) (s : Store F P H) → Goes s (track_told c t s)
-  told_goes t s = lucky_if (is_owed c (owed_at s t)) (λ _. debt_goes t s) (λ _. lucky_done (fine (core_of s)))
+  hear_goes n s = asks_lucky (hear_asks c (λ z. Fine (core_of s) (core_of z)) (λ z t clean f. f) n s (fine (core_of s)))
 
   pub all_told_goes : (n : ℕ) (s : Store F P H) → Goes s (all_told c n s)
-  unfolding O.all_told
-  all_told_goes zero s = lucky_done (fine (core_of s))
-  all_told_goes (suc n) s = goes_then s (λ z _. track_told c n z) (all_told_goes n s) (λ z _. told_goes n z)
+  all_told_goes n s = asks_lucky (told_asks c (λ z. Fine (core_of s) (core_of z)) (λ z t f. f) n s (fine (core_of s)))
 
   -- Images
 

@@ -1,7 +1,7 @@
 -- What is said of which sides are up, of failed calls and of lost tracks stays so behind each part of an event, where it bears a lost track more, one
 -- failed call more, and the fall of the side of a pair whose call failed.
 use Rattle.std.proofs.Common.{◌≡◌, ◌==◌, ◌+◌, zero, suc, ℕ, Bool, true, false, List, length, Option, Some, None, is_some, refl}
-use Rattle.std.specs.Prelude.{nat_le, nat_lt, slice_set, if◌then◌else◌, ◌&&◌}
+use Rattle.std.specs.Prelude.{nat_le, nat_lt, slice_set, if◌then◌else◌}
 use Rattle.device_outside.specs.Volume.{counted}
 use Rattle.ckd_types.specs.declared.parameters.Mode.{Mode}
 use Rattle.ckd_types.specs.declared.paths.Side.{Side}
@@ -53,24 +53,7 @@ use Rattle.device_defs.specs.Losses.{
   call_failed,
 }
 use Rattle.device_defs.specs.Memory.{tried}
-use Rattle.device_defs.specs.Owed as O
-use Rattle.device_defs.specs.Owed.{
-  is_clean,
-  is_modified,
-  dropped,
-  heard,
-  hear,
-  modified_told,
-  dropped_told,
-  freed_told,
-  settles_debt,
-  is_owed,
-  track_told,
-  all_told,
-  waiting_count,
-  waiting_told,
-  ended,
-}
+use Rattle.device_defs.specs.Owed.{hear, modified_told, dropped_told, track_told, waiting_told, ended}
 use Rattle.device_defs.specs.Store.{
   Store,
   tracks_of,
@@ -90,6 +73,7 @@ use Rattle.device_defs.specs.Writing as V
 use Rattle.device_defs.specs.Writing.{write_counted, tried_b, write_second, slot_freed, unpatched, done_by, write_done}
 use Rattle.device_laws.proofs.Always.{Always, always_done, always_try, always_ask, always_read, always_write, always_tell, always_then}
 use Rattle.device_laws.proofs.KeptEvents.{always_if}
+use Rattle.device_laws.proofs.PoolWalks.{asks_always, hear_asks, ended_asks}
 
 -- what is said of a store
 pub record Facts : Type 0 where
@@ -200,36 +184,11 @@ module _ {F P H R : Type 0} (c : Contents F P H R) (Q : Facts → Type 0) where
 
   -- Notes, and what is owed
 
-  heard_keeps : (n : ℕ) (s : Store F P H) (note : Option ℕ) → Is Q s → ((z : Store F P H) → Is Q z → Keeps (hear c n z)) →
-      Keeps (heard c (hear c n) s note)
-  heard_keeps n s None f more = always_done f
-  heard_keeps n s (Some t) f more =
-      more (dropped c s t) (is_if Q (is_clean c (frame_at s t)) (with_frame s t None) s f f)
-
   pub hear_keeps : (n : ℕ) (s : Store F P H) → Is Q s → Keeps (hear c n s)
-  unfolding O.hear
-  hear_keeps zero s f = always_done f
-  hear_keeps (suc n) s f = always_ask (λ note. heard_keeps n s note f (hear_keeps n))
-
-  freed_keeps : (s : Store F P H) (o : Option ℕ) → Is Q s → Keeps (freed_told c s o)
-  freed_keeps s None f = always_done f
-  freed_keeps s (Some slot) f = always_ask (λ _. always_done f)
-
-  debt_keeps : (t : ℕ) (s : Store F P H) → Is Q s → Keeps (settles_debt c t s)
-  debt_keeps t s f =
-      always_then (always_if ((owed_at s t).modified && is_modified c (frame_at s t)) (always_ask (λ _. always_done f)) (always_done f))
-      (λ z _ g. always_then (always_if (owed_at z t).dropped (always_ask (λ _. always_done g)) (always_done g))
-      (λ y _ h. always_then (freed_keeps y (owed_at y t).freed h) (λ x _ k. always_done k)))
-
-  all_keeps : (n : ℕ) (s : Store F P H) → Is Q s → Keeps (all_told c n s)
-  unfolding O.all_told
-  all_keeps zero s f = always_done f
-  all_keeps (suc n) s f = always_then (all_keeps n s f) (λ z _ g. always_if (is_owed c (owed_at z n)) (debt_keeps n z g) (always_done g))
+  hear_keeps n s f = asks_always (hear_asks c (Is Q) (λ z t clean g. g) n s f)
 
   pub ended_keeps : (before : ℕ) (s : Store F P H) → Is Q s → Keeps (ended c before s)
-  ended_keeps before s f =
-      always_then (all_keeps (tracks_of s) s f)
-      (λ z _ g. always_if (waiting_count c z == before) (always_done g) (always_ask (λ _. always_done g)))
+  ended_keeps before s f = asks_always (ended_asks c (Is Q) (λ z t g. g) before s f)
 
   module _ (bears : Bears Q) where
     pub read_after : (s : Store F P H) (ok : Bool) → Is Q s → After Q ok (read_counted s ok)
