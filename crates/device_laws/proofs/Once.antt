@@ -27,7 +27,7 @@ use Rattle.device_laws.proofs.Lucky.{
   failed_in,
   where_none_failed,
 }
-use Rattle.device_laws.proofs.PoolWalks.{AsksPool, asks_done, asks_ask}
+use Rattle.device_laws.proofs.PoolWalks.{AsksPool, asks_done, asks_ask, asks_try}
 use Rattle.device_laws.proofs.QuietParts.{Quiet, quiet_done, quiet_try, quiet_ask, quiet_tell}
 
 -- p holds where none failed, and q where one did
@@ -92,6 +92,7 @@ once_quiet (quiet_tell x) = once_tell (λ r. once_quiet (x r))
 -- where the pool alone is asked
 pub once_asks : {R I S A : Type 0} {may : Call → Type 0} {p q : S → A → Type 0} {i : Interaction R I S A} → AsksPool may p i → Once p q i
 once_asks (asks_done x) = once_done x
+once_asks (asks_try x) = once_try (λ ok. once_asks (x ok))
 once_asks (asks_ask m x) = once_ask (λ a. once_asks (x a))
 
 pub once_if : {R I S A : Type 0} {p q : S → A → Type 0} (b : Bool) {i j : Interaction R I S A} → (b ≡ true → Once p q i) → (b ≡ false → Once p q j) →

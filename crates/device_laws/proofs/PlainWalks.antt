@@ -116,22 +116,8 @@ use Rattle.device_defs.specs.Store.{
   with_stale,
 }
 use Rattle.device_defs.specs.Writing as W
-use Rattle.device_defs.specs.Writing.{
-  wrote,
-  firm_first,
-  unwritten,
-  write_first,
-  first_a,
-  failed_a,
-  alone_b,
-  write_second,
-  write_done,
-  slot_freed,
-  taken_a,
-  cleaned,
-  opened,
-}
-use Rattle.device_laws.proofs.Had.{Had, had_done, had_try, had_ask, had_read, had_write, had_tell, had_if, had_then, had_weaker}
+use Rattle.device_defs.specs.Writing.{wrote, firm_first, unwritten, write_first, first_a, failed_a, alone_b, write_second, write_done, taken_a, cleaned, opened}
+use Rattle.device_laws.proofs.Had.{Had, had_done, had_try, had_ask, had_read, had_write, had_tell, had_if, had_then}
 use Rattle.device_laws.proofs.CacheLost.{none_below}
 use Rattle.device_laws.proofs.PlainStores.{
   Core,
@@ -149,7 +135,7 @@ use Rattle.device_laws.proofs.PlainStores.{
   put_false,
   put_keeps,
 }
-use Rattle.device_laws.proofs.PoolWalks.{asks_had, hear_asks, ended_asks}
+use Rattle.device_laws.proofs.PoolWalks.{asks_had, hear_asks, ended_asks, done_asks}
 use Rattle.device_laws.proofs.WholeImage.{ahead_only}
 
 -- What leaves the core
@@ -273,19 +259,9 @@ module _ (P : Core → Type 0) (hard : (c : Core) (t : ℕ) → P c → loose_at
 
 -- Behind a write that is done
 
-slot_same : (s : MarksStore) (t : ℕ) (o : Option ℕ) → Had (slot_freed by_plain s t o) (λ y (_ : Unit {0}). core_of y ≡ core_of s)
-slot_same s t None = had_done refl
-slot_same s t (Some slot) = had_ask (λ _. had_done refl)
-
 pub done_same : (s : MarksStore) (t : ℕ) (i : Image) (bypass : Bool) → Had (write_done by_plain s t i bypass) (λ y (_ : Unit {0}). core_of y ≡ core_of s)
-unfolding W.write_done
 done_same s t i bypass =
-    had_if (is_some (frame_at s t))
-    (λ _. had_if bypass
-    (λ _. had_ask (λ _. had_weaker (slot_same (with_frame s t None) t (slot_in by_plain (patch_at s t))) (λ y _ e. e ∙ framed_same s t None)))
-    (λ _. had_ask (λ _. had_weaker (slot_same (with_frame s t (Some false)) t (slot_in by_plain (patch_at s t))) (λ y _ e. e ∙ framed_same s t
-    (Some false)))))
-    (λ _. slot_same s t (slot_in by_plain (patch_at s t)))
+    asks_had (done_asks by_plain (λ z. core_of z ≡ core_of s) (λ z q o e. framed_same z q o ∙ e) (λ z q e. e) s t i bypass refl)
 
 abbrev pub opened_half : ℕ → Origin → Option (HalfWrite (Unit {0}))
 opened_half t origin = Some (record { track = t; origin = origin; image = tt })

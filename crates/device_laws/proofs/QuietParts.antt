@@ -1,5 +1,5 @@
 -- Parts of an event that move nothing, and the transfers of those that do.
-use Rattle.std.proofs.Common.{◌≡◌, ◌≤◌, ◌+◌, ℕ, zero, suc, Bool, true, false, Option, Some, None, is_some, refl, sym, ap, subst, ◌∙◌, arith}
+use Rattle.std.proofs.Common.{◌≡◌, ◌≤◌, ◌+◌, ℕ, zero, suc, Bool, true, false, Option, Some, None, refl, sym, ap, subst, ◌∙◌, arith}
 use Rattle.std.specs.Prelude.{if◌then◌else◌}
 use Rattle.ckd_types.specs.declared.paths.Side.{Side}
 use Rattle.ckd_types.specs.declared.paths.Side.TheVariants.{A, B}
@@ -21,7 +21,7 @@ use Rattle.device_defs.specs.Losses.{firm_told, all_firm_told, side_lost, call_f
 use Rattle.device_defs.specs.Owed.{hear, ended}
 use Rattle.device_defs.specs.Second as D
 use Rattle.device_defs.specs.Second.{half_image_of, closed, finished, second_done, second_absent, second_by, second_part}
-use Rattle.device_defs.specs.Store.{Origin, OfCommand, OfCut, OfBackground, HalfWrite, Store, tracks_of, takes_b, has_level, frame_at}
+use Rattle.device_defs.specs.Store.{Origin, OfCommand, OfCut, OfBackground, HalfWrite, Store, tracks_of, takes_b, has_level}
 use Rattle.device_defs.specs.Transfers as M
 use Rattle.device_defs.specs.Transfers.{Moves, FirstPart, SecondPart, InCache, Loss as LossPart, both, one_or_both, Within, Makes}
 use Rattle.device_defs.specs.Writing as V
@@ -36,12 +36,11 @@ use Rattle.device_defs.specs.Writing.{
   write_first,
   tried_b,
   write_second,
-  slot_freed,
   unpatched,
   done_by,
   write_done,
 }
-use Rattle.device_laws.proofs.PoolWalks.{AsksPool, asks_done, asks_ask, hear_asks, ended_asks}
+use Rattle.device_laws.proofs.PoolWalks.{AsksPool, asks_done, asks_ask, hear_asks, ended_asks, asks_try, done_asks}
 
 -- It moves nothing
 pub data Quiet {R I S A : Type 0} : Interaction R I S A → Type 0 where
@@ -72,6 +71,7 @@ quiet_moves q r w (Write side t b k) f x = elim f [ ]
 
 pub asks_quiet : {R I S A : Type 0} {may : Call → Type 0} {q : S → A → Type 0} {i : Interaction R I S A} → AsksPool may q i → Quiet i
 asks_quiet (asks_done x) = quiet_done
+asks_quiet (asks_try x) = quiet_try (λ ok. asks_quiet (x ok))
 asks_quiet (asks_ask m x) = quiet_ask (λ a. asks_quiet (x a))
 
 -- one, and then another that moves nothing
@@ -138,16 +138,8 @@ module _ {F P H R : Type 0} (c : Contents F P H R) where
 
   -- A write that is done, and one in the cache
 
-  slot_quiet : (s : Store F P H) (t : ℕ) (o : Option ℕ) → Talks (slot_freed c s t o)
-  slot_quiet s t None = quiet_done
-  slot_quiet s t (Some slot) = quiet_ask (λ _. quiet_done)
-
   pub done_quiet : (s : Store F P H) (t : ℕ) (i : Image) (bypass : Bool) → Talks (write_done c s t i bypass)
-  unfolding V.write_done
-  done_quiet s t i bypass =
-      quiet_if (is_some (frame_at s t))
-      (quiet_if bypass (quiet_ask (λ _. slot_quiet _ t _)) (quiet_ask (λ _. slot_quiet _ t _)))
-      (slot_quiet s t _)
+  done_quiet s t i bypass = asks_quiet (done_asks c (λ z. Unit {0}) (λ z q o f. f) (λ z q f. f) s t i bypass tt)
 
   whole_quiet : (s : Store F P H) (t : ℕ) (i : Image) (bypass : Bool) → Talks (finished c s t i bypass)
   whole_quiet s t i bypass = quiet_then (λ z _. Done z true) (done_quiet s t i bypass) (λ z _. quiet_done)

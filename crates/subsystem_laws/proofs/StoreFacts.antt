@@ -3,7 +3,6 @@
 use Rattle.std.proofs.Common.{◌≡◌, ◌==◌, ◌+◌, zero, suc, ℕ, Bool, true, false, List, length, Option, Some, None, is_some, refl}
 use Rattle.std.specs.Prelude.{nat_le, nat_lt, slice_set, if◌then◌else◌}
 use Rattle.device_outside.specs.Volume.{counted}
-use Rattle.ckd_types.specs.declared.parameters.Mode.{Mode}
 use Rattle.ckd_types.specs.declared.paths.Side.{Side}
 use Rattle.ckd_types.specs.declared.paths.Side.TheVariants as sides
 use Rattle.ckd_types.specs.Parameters.{is_bypass}
@@ -16,7 +15,6 @@ use Rattle.device_defs.specs.Image.{
   Got,
   Imaged,
   Has,
-  loads,
   is_sequential,
   queued,
   ahead,
@@ -25,10 +23,7 @@ use Rattle.device_defs.specs.Image.{
   read_b,
   first_read,
   level_bytes,
-  image_of,
   filled,
-  loaded,
-  delivered,
   missed,
   miss,
   clean_image,
@@ -70,10 +65,10 @@ use Rattle.device_defs.specs.Store.{
   with_lost,
 }
 use Rattle.device_defs.specs.Writing as V
-use Rattle.device_defs.specs.Writing.{write_counted, tried_b, write_second, slot_freed, unpatched, done_by, write_done}
+use Rattle.device_defs.specs.Writing.{write_counted, tried_b, write_second, unpatched, done_by, write_done}
 use Rattle.device_laws.proofs.Always.{Always, always_done, always_try, always_ask, always_read, always_write, always_tell, always_then}
 use Rattle.device_laws.proofs.KeptEvents.{always_if}
-use Rattle.device_laws.proofs.PoolWalks.{asks_always, hear_asks, ended_asks}
+use Rattle.device_laws.proofs.PoolWalks.{asks_always, hear_asks, ended_asks, filled_asks, missed_asks, done_asks}
 
 -- what is said of a store
 pub record Facts : Type 0 where
@@ -223,22 +218,10 @@ module _ {F P H R : Type 0} (c : Contents F P H R) (Q : Facts → Type 0) where
         always_if (level_at s.a t) (always_read (λ o. first_read_keeps t (read_counted s (is_some o)) o (read_after s (is_some o) f))) (read_b_keeps s t None f)
 
     pub filled_keeps : (s : Store F P H) (t : ℕ) (i : Image) → Is Q s → Keeps (filled c s t i)
-    filled_keeps s t i f = always_if (is_some (patch_at s t)) (always_ask (λ _. always_done f)) (always_done f)
-
-    granted_keeps : (s : Store F P H) (t : ℕ) (i : Image) (given : Bool) → Is Q s → Keeps (I.granted c s t i given)
-    granted_keeps s t i given f = always_if given (always_then (filled_keeps s t i f) (λ z _ g. always_done g)) (always_done f)
-
-    loaded_keeps : (s : Store F P H) (t : ℕ) (i : Image) (mode : Mode) → Is Q s → Keeps (loaded c s t i mode)
-    loaded_keeps s t i mode f =
-        always_if (loads mode) (tried_keeps s _ f (always_ask (λ given. granted_keeps s t i given f))) (always_done f)
-
-    delivered_keeps : (u : Usage) (t : ℕ) (side : Side) (s : Store F P H) (o : Option Image) → Is Q s → Keeps (delivered c u t side s o)
-    delivered_keeps u t side s None f = always_done f
-    delivered_keeps u t side s (Some i) f = loaded_keeps (ahead u s t) t i u.mode (ahead_is Q u s t f)
+    filled_keeps s t i f = asks_always (filled_asks c (Is Q) (λ z q j b is g. g) s t i f)
 
     missed_keeps : (u : Usage) (t : ℕ) (s : Store F P H) (g : Got R) (o : Option R) → Is Q s → Keeps (missed c u t s g o)
-    missed_keeps u t s g None f = always_done f
-    missed_keeps u t s g (Some r) f = tried_keeps s _ f (delivered_keeps u t g.side s (image_of c s t r) f)
+    missed_keeps u t s g o f = asks_always (missed_asks c (Is Q) (λ z q j b is h. h) (λ v z q h. ahead_is Q v z q h) u t s g o f)
 
     miss_keeps : (s : Store F P H) (u : Usage) (t : ℕ) → Is Q s → Keeps (miss c s u t)
     miss_keeps s u t f = always_then (level_keeps s t f) (λ z g h. missed_keeps u t z g g.bytes h)
@@ -256,17 +239,8 @@ module _ {F P H R : Type 0} (c : Contents F P H R) (Q : Facts → Type 0) where
 
     -- Writes
 
-    freed_slot_keeps : (s : Store F P H) (t : ℕ) (o : Option ℕ) → Is Q s → Keeps (slot_freed c s t o)
-    freed_slot_keeps s t None f = always_done f
-    freed_slot_keeps s t (Some slot) f = always_ask (λ _. always_done f)
-
     pub done_keeps : (s : Store F P H) (t : ℕ) (i : Image) (bypass : Bool) → Is Q s → Keeps (write_done c s t i bypass)
-    unfolding V.write_done
-    done_keeps s t i bypass f =
-        always_if (is_some (frame_at s t))
-        (always_if bypass (always_ask (λ _. freed_slot_keeps (with_frame s t None) t (slot_in c (patch_at s t)) f))
-        (always_ask (λ _. freed_slot_keeps (with_frame s t (Some (c.frame i false))) t (slot_in c (patch_at s t)) f)))
-        (freed_slot_keeps s t (slot_in c (patch_at s t)) f)
+    done_keeps s t i bypass f = asks_always (done_asks c (Is Q) (λ z q o g. g) (λ z q g. g) s t i bypass f)
 
     tried_b_keeps : (t : ℕ) (s : Store F P H) (ok : Bool) → After Q ok s → Keeps (tried_b c t s ok)
     tried_b_keeps t s true f = always_done f
