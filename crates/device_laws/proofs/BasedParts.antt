@@ -44,7 +44,7 @@ use Rattle.device_defs.specs.Background.{
   recover_first,
   work,
 }
-use Rattle.device_defs.specs.Choosing.{choose, fast_written, provisionally_written}
+use Rattle.device_defs.specs.Choosing.{choose, provisionally_written}
 use Rattle.device_defs.specs.Contents.{Contents}
 use Rattle.device_defs.specs.Cutting.{origin_cut, half_cut}
 use Rattle.device_defs.specs.Editing as E
@@ -89,7 +89,7 @@ use Rattle.device_defs.specs.Image.{
 }
 use Rattle.device_defs.specs.Losses as L
 use Rattle.device_defs.specs.Losses.{settled, stale_everywhere, framed_image, firm_told, all_firm_told, side_lost, call_failed, without_patch}
-use Rattle.device_defs.specs.Owed.{is_clean, is_modified, hear, all_told}
+use Rattle.device_defs.specs.Owed.{is_clean, hear, all_told}
 use Rattle.device_defs.specs.Second as D
 use Rattle.device_defs.specs.Second.{
   half_image_of,

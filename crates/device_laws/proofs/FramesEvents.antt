@@ -1,6 +1,6 @@
 -- An event in which no call fails leaves each track with a patch a frame.
 use Rattle.std.proofs.Common.{◌≡◌, ◌<◌, ◌*◌, zero, suc, ℕ, Bool, true, false, Option, Some, None, option_map, refl, sym, ap, subst, ◌∙◌, arith, ◌⊎◌, inl, inr}
-use Rattle.std.specs.Prelude.{if◌then◌else◌, ◌||◌}
+use Rattle.std.specs.Prelude.{◌||◌}
 use Rattle.ckd_chain.specs.declared.progress.Progress.{Progress}
 use Rattle.ckd_chain.specs.declared.progress.Progress.TheVariants as progresses
 use Rattle.ckd_chain.specs.declared.progress.Settled.TheVariants.{Equipment}
@@ -37,10 +37,10 @@ use Rattle.device_defs.specs.Contents.{Contents}
 use Rattle.device_defs.specs.Device.{Device, with_store, event_begun, event_ended, event}
 use Rattle.device_defs.specs.Events as E
 use Rattle.device_defs.specs.Events.{command_ended, second_turn, second_ended, second_of, second, background}
-use Rattle.device_defs.specs.Image.{Imaged, Has, NoBytes, BadTrack, image}
+use Rattle.device_defs.specs.Image.{Imaged, Has, NoBytes, BadTrack}
 use Rattle.device_defs.specs.Memory.{had_by}
 use Rattle.device_defs.specs.Outcomes.{Turn, ends_with, settles, checks, usage_of}
-use Rattle.device_defs.specs.Owed.{hear, modified_told, waiting_count, ended}
+use Rattle.device_defs.specs.Owed.{waiting_count, ended}
 use Rattle.device_defs.specs.Store.{Origin, OfCommand, OfCut, OfBackground, HalfWrite, Store, tracks_of, stale_at, level_at, has_level, takes_b, is_lost}
 use Rattle.device_laws.specs.Standing.{IsWithin}
 use Rattle.device_laws.proofs.ChainTracks.{within_stays, whole_cylinders}
@@ -50,13 +50,12 @@ use Rattle.device_laws.proofs.FramesKept.{Plates, plates_of, HasFrames, hear_fra
 use Rattle.device_laws.proofs.FramesParts.{Frames, image_frames, write_frames, second_part_frames, work_frames}
 use Rattle.device_laws.proofs.LossEvents.{begun_same}
 use Rattle.device_laws.proofs.LossLaws.{has_a}
-use Rattle.device_laws.proofs.Lucky.{Lucky, lucky_done, lucky_try, lucky_then, lucky_weaker, lucky_if, lucky_tried, with_always}
+use Rattle.device_laws.proofs.Lucky.{Lucky, lucky_done, lucky_try, lucky_then, lucky_if, lucky_tried, with_always}
 use Rattle.device_laws.proofs.Notices.{hearing_keeps_good}
 use Rattle.device_laws.proofs.PoolWalks.{asks_lucky, ended_asks}
 use Rattle.device_laws.proofs.TrackMarks.{IsFaithful}
 use Rattle.device_laws.proofs.Unchecked.{lucky_both}
 use Rattle.device_laws.proofs.Unlost.{core_of, Fine, Steady, steady_on}
-use Rattle.device_laws.proofs.UnlostEvents.{look_goes}
 use Rattle.device_laws.proofs.UnlostParts.{hear_goes, image_goes, still_there}
 use Rattle.device_laws.proofs.WholeEvents.{turned_same}
 use Rattle.device_laws.proofs.WholeImage.{Reaches, image_keeps_good}

@@ -1,50 +1,12 @@
 -- While the cache isn't lost, each track with a patch has a frame: so it stays behind each part of an event in which no call fails.
-use Rattle.std.proofs.Common.{
-  ◌≡◌,
-  ◌≢◌,
-  ◌<◌,
-  ◌==◌,
-  ◌+◌,
-  zero,
-  suc,
-  ℕ,
-  true,
-  false,
-  List,
-  [],
-  ◌∷◌,
-  Option,
-  Some,
-  None,
-  is_some,
-  set,
-  get_or,
-  refl,
-  sym,
-  ap,
-  subst,
-  ◌∙◌,
-  arith,
-  ◌⊎◌,
-  inl,
-  inr,
-}
+use Rattle.std.proofs.Common.{◌≡◌, ◌≢◌, ◌==◌, zero, suc, ℕ, true, false, List, [], ◌∷◌, Option, Some, None, is_some, set, get_or, refl, sym, ap, subst, ◌∙◌, ◌⊎◌, inl, inr}
 use Rattle.std.proofs.lemmas.Bool.{cases_eq, eqb-false, ne_eqb}
 use Rattle.std.proofs.lemmas.List.{get_or-set_other}
-use Rattle.std.specs.Prelude.{◌&&◌, ◌||◌, not, length, nat_le, nat_lt}
-use Rattle.ckd_types.specs.declared.parameters.Mode.{Mode}
-use Rattle.ckd_types.specs.declared.paths.Side.{Side}
-use Rattle.ckd_types.specs.declared.paths.Side.TheVariants as sides
-use Rattle.ckd_types.specs.declared.record.Edit.{Edit}
-use Rattle.track_image.specs.Image.{Image}
-use Rattle.device_outside.specs.Interaction.{Interaction, Done}
+use Rattle.std.specs.Prelude.{not}
 use Rattle.device_defs.specs.Contents.{Contents}
 use Rattle.device_defs.specs.Owed.{is_clean, hear}
-use Rattle.device_defs.specs.Store.{HalfWrite, Store, patch_at, half_is, with_patch}
-use Rattle.device_defs.specs.Losses.{slot_in}
-use Rattle.device_defs.specs.Writing as V
-use Rattle.device_defs.specs.Writing.{slot_freed, unpatched, write_done}
-use Rattle.device_laws.proofs.Lucky.{Lucky, lucky_if}
+use Rattle.device_defs.specs.Store.{HalfWrite, Store, half_is}
+use Rattle.device_laws.proofs.Lucky.{Lucky}
 use Rattle.device_laws.proofs.OneFailed.{never}
 use Rattle.device_laws.proofs.PoolWalks.{asks_lucky, hear_asks}
 

@@ -1,39 +1,6 @@
 -- The parts of an event in which no call fails leave each track with a patch a frame, where the marks are good.
-use Rattle.std.proofs.Common.{
-  ◌≡◌,
-  ◌≢◌,
-  ◌<◌,
-  ◌==◌,
-  ◌+◌,
-  zero,
-  suc,
-  ℕ,
-  Bool,
-  true,
-  false,
-  List,
-  [],
-  ◌∷◌,
-  Option,
-  Some,
-  None,
-  is_some,
-  set,
-  get_or,
-  refl,
-  sym,
-  ap,
-  subst,
-  ◌∙◌,
-  arith,
-  ◌⊎◌,
-  inl,
-  inr,
-}
-use Rattle.std.proofs.lemmas.Bool.{cases_eq, eqb-false, eq-eqb}
-use Rattle.std.proofs.lemmas.List.{get_or-set_other}
-use Rattle.std.specs.Prelude.{if◌then◌else◌, ◌&&◌, ◌||◌, not, length, nat_le, nat_lt}
-use Rattle.track_table.specs.Tracks.{least}
+use Rattle.std.proofs.Common.{◌≡◌, ◌<◌, ◌+◌, ℕ, Bool, true, false, List, [], ◌∷◌, Option, Some, None, is_some, set, refl, sym, ap, subst, ◌∙◌, arith, inl, inr}
+use Rattle.std.specs.Prelude.{if◌then◌else◌, ◌||◌, not, length, nat_le, nat_lt}
 use Rattle.ckd_types.specs.declared.paths.Side.{Side}
 use Rattle.ckd_types.specs.declared.paths.Side.TheVariants as sides
 use Rattle.ckd_types.specs.declared.record.Edit.{Edit}
@@ -71,7 +38,7 @@ use Rattle.device_defs.specs.Background.{
   recover_first,
   work,
 }
-use Rattle.device_defs.specs.Choosing.{choose, patch_with, fast_written, provisionally_written}
+use Rattle.device_defs.specs.Choosing.{choose, patch_with}
 use Rattle.device_defs.specs.Contents.{Contents}
 use Rattle.device_defs.specs.Editing as E
 use Rattle.device_defs.specs.Editing.{
@@ -112,28 +79,7 @@ use Rattle.device_defs.specs.Losses.{slot_in, gives_up, without_patch, by_frame,
 use Rattle.device_defs.specs.Owed.{is_clean, waits}
 use Rattle.device_defs.specs.Second as D
 use Rattle.device_defs.specs.Second.{half_image_of, closed, finished, second_done, second_absent, second_by, second_part}
-use Rattle.device_defs.specs.Store.{
-  Origin,
-  OfCommand,
-  OfCut,
-  OfBackground,
-  HalfWrite,
-  Store,
-  tracks_of,
-  level_at,
-  has_level,
-  some_up,
-  takes_b,
-  frame_at,
-  patch_at,
-  is_lost,
-  is_loose,
-  half_is,
-  with_stale,
-  with_frame,
-  with_patch,
-  with_lost,
-}
+use Rattle.device_defs.specs.Store.{Origin, OfCommand, OfCut, OfBackground, HalfWrite, Store, tracks_of, level_at, has_level, some_up, takes_b, frame_at, patch_at, is_lost, is_loose, half_is, with_stale, with_frame, with_lost}
 use Rattle.device_defs.specs.Writing as V
 use Rattle.device_defs.specs.Writing.{
   Wrote,
@@ -168,27 +114,14 @@ use Rattle.device_laws.proofs.FramesKept.{
   opened_framed,
   closed_but,
 }
-use Rattle.device_laws.proofs.Lucky.{
-  Lucky,
-  lucky_done,
-  lucky_try,
-  lucky_ask,
-  lucky_read,
-  lucky_write,
-  lucky_tell,
-  lucky_then,
-  lucky_weaker,
-  lucky_if,
-  lucky_tried,
-  with_always,
-}
+use Rattle.device_laws.proofs.Lucky.{Lucky, lucky_done, lucky_try, lucky_ask, lucky_read, lucky_write, lucky_tell, lucky_then, lucky_if, lucky_tried, with_always}
 use Rattle.device_laws.proofs.TrackImage.{level_bytes_keeps_good}
 use Rattle.device_laws.proofs.OneFailed.{never}
 use Rattle.device_laws.proofs.TrackMarks as M
 use Rattle.device_laws.proofs.TrackMarks.{IsFaithful, track_at}
 use Rattle.device_laws.proofs.Unchecked.{lucky_any, lucky_both}
 use Rattle.device_laws.proofs.UnlostParts.{IsTried, tried_lucky, level_goes, still_there, found_if, destaged_is}
-use Rattle.device_laws.proofs.Working.{least_found, destaged_there, waits_there}
+use Rattle.device_laws.proofs.Working.{waits_there}
 use Rattle.device_laws.proofs.Writes.{firm_first_keeps_good, write_first_keeps_good}
 use Rattle.device_laws.proofs.PoolWalks.{asks_lucky, filled_asks, missed_asks}
 

@@ -5,7 +5,7 @@ use Rattle.std.proofs.lemmas.List.{length-set, get_or_past}
 use Rattle.std.specs.Prelude.{if◌then◌else◌, not}
 use Rattle.device_defs.specs.Between.{HasSizes}
 use Rattle.device_defs.specs.Contents.{Contents}
-use Rattle.device_defs.specs.Owed.{is_clean, hear, modified_told, dropped_told, track_told, waiting_told, ended}
+use Rattle.device_defs.specs.Owed.{is_clean, hear, ended}
 use Rattle.device_defs.specs.Store.{Store, no_debt, tracks_of, frame_at, with_frame, with_owed}
 use Rattle.device_laws.proofs.Always.{Always}
 use Rattle.device_laws.proofs.Changes as C

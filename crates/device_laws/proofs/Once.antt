@@ -1,5 +1,5 @@
 -- What holds behind an interaction in which one call of a volume fails at most, and so behind a run that counts one failed call more.
-use Rattle.std.proofs.Common.{◌≡◌, ◌<◌, ◌+◌, ℕ, Bool, true, false, not, Option, Some, None, is_some, min, refl, sym, ap, ◌∙◌, arith}
+use Rattle.std.proofs.Common.{◌≡◌, ◌<◌, ◌+◌, ℕ, Bool, true, false, Option, Some, None, is_some, min, refl, sym, ap, ◌∙◌, arith}
 use Rattle.std.specs.Prelude.{if◌then◌else◌}
 use Rattle.ckd_types.specs.declared.paths.Side.{Side}
 use Rattle.track_image.specs.Image.{Image}
@@ -12,21 +12,7 @@ use Rattle.device_defs.specs.Memory.{tried}
 use Rattle.device_laws.proofs.Always as A
 use Rattle.device_laws.proofs.Always.{Behind, Always, always_weaker}
 use Rattle.device_laws.proofs.Based.{Base, Based, read_base, write_base, based_done, based_try, based_ask, based_read, based_write, based_tell}
-use Rattle.device_laws.proofs.Lucky.{
-  Lucky,
-  lucky_done,
-  lucky_try,
-  lucky_ask,
-  lucky_read,
-  lucky_write,
-  lucky_tell,
-  lucky_then,
-  lucky_weaker,
-  with_always,
-  top,
-  failed_in,
-  where_none_failed,
-}
+use Rattle.device_laws.proofs.Lucky.{Lucky, lucky_done, lucky_try, lucky_ask, lucky_read, lucky_write, lucky_tell, lucky_then, with_always, top, failed_in, where_none_failed}
 use Rattle.device_laws.proofs.PoolWalks.{AsksPool, asks_done, asks_ask, asks_try}
 use Rattle.device_laws.proofs.QuietParts.{Quiet, quiet_done, quiet_try, quiet_ask, quiet_tell}
 

@@ -1,33 +1,6 @@
 -- The parts of an event of a pair of which both sides have all tracks, where one call of its volumes fails: the other side has all of them then, and
 -- no track is lost.
-use Rattle.std.proofs.Common.{
-  ◌≡◌,
-  ◌≢◌,
-  ◌<◌,
-  ◌==◌,
-  ◌+◌,
-  zero,
-  suc,
-  ℕ,
-  Bool,
-  true,
-  false,
-  List,
-  Option,
-  Some,
-  None,
-  is_some,
-  set,
-  get_or,
-  refl,
-  sym,
-  ap,
-  subst,
-  ◌∙◌,
-  ◌⊎◌,
-  inl,
-  inr,
-}
+use Rattle.std.proofs.Common.{◌≡◌, ◌==◌, ◌+◌, zero, suc, ℕ, Bool, true, false, List, Option, Some, None, is_some, set, get_or, refl, sym, ap, subst, ◌∙◌, ◌⊎◌, inl, inr}
 use Rattle.std.proofs.lemmas.Bool.{cases_eq, eqb-false, ne_eqb}
 use Rattle.std.proofs.lemmas.List.{get_or-set_other}
 use Rattle.std.specs.Prelude.{if◌then◌else◌, ◌&&◌, ◌||◌, not, length, nat_le, nat_lt}
@@ -89,7 +62,7 @@ use Rattle.device_defs.specs.Store.{
 }
 use Rattle.device_defs.specs.Writing as V
 use Rattle.device_defs.specs.Writing.{Wrote, write_counted, taken_a, taken_b, firm_first, failed_a, write_first, write_second, opened}
-use Rattle.device_laws.proofs.Lucky.{Lucky, lucky_done, lucky_read, lucky_write, lucky_tell, lucky_then, lucky_weaker, lucky_if, with_always}
+use Rattle.device_laws.proofs.Lucky.{Lucky, lucky_done, lucky_read, lucky_write, lucky_tell, lucky_then, lucky_weaker, lucky_if}
 use Rattle.device_laws.proofs.Choices.{choice_fits}
 use Rattle.device_laws.proofs.Once.{
   Once,
@@ -108,9 +81,8 @@ use Rattle.device_laws.proofs.Once.{
   once_tried,
 }
 use Rattle.device_laws.proofs.QuietParts.{Quiet, quiet_done, quiet_ask, quiet_tell, quiet_if, quiet_then, done_quiet}
-use Rattle.device_laws.proofs.TrackMarks.{IsFaithful}
 use Rattle.device_laws.proofs.Unchecked.{HasBytes, IsTaken, WasTaken, lucky_both, missed_has, whole_taken}
-use Rattle.device_laws.proofs.Unlost.{Core, core_of, Fine, Steady, steady_on, clear_at}
+use Rattle.device_laws.proofs.Unlost.{core_of, Steady, steady_on, clear_at}
 use Rattle.device_laws.proofs.UnlostParts.{whole_goes}
 use Rattle.device_laws.proofs.PoolWalks.{missed_asks}
 

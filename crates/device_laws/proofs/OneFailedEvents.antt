@@ -1,32 +1,6 @@
 -- A command, and work in the background, of a pair of which both sides have all tracks, where one call of its volumes fails: no track is lost, and the
 -- command ends with no equipment check.
-use Rattle.std.proofs.Common.{
-  ◌≡◌,
-  ◌<◌,
-  ◌≤◌,
-  ◌+◌,
-  ◌*◌,
-  zero,
-  suc,
-  ℕ,
-  Bool,
-  true,
-  false,
-  List,
-  [],
-  ◌∷◌,
-  Option,
-  Some,
-  None,
-  is_some,
-  get_or,
-  refl,
-  sym,
-  ap,
-  subst,
-  ◌∙◌,
-  arith,
-}
+use Rattle.std.proofs.Common.{◌≡◌, ◌<◌, ◌≤◌, ◌+◌, ◌*◌, zero, suc, ℕ, Bool, true, false, List, [], ◌∷◌, Option, Some, None, is_some, refl, sym, ap, subst, ◌∙◌, arith}
 use Rattle.std.specs.Prelude.{if◌then◌else◌, ◌&&◌, ◌||◌, not}
 use Rattle.ckd_chain.specs.declared.progress.Progress.{Progress}
 use Rattle.ckd_chain.specs.declared.progress.Progress.TheVariants as progresses
@@ -86,29 +60,28 @@ use Rattle.device_defs.specs.Contents.{Contents}
 use Rattle.device_defs.specs.Device.{Device, with_store, event_begun, event_ended}
 use Rattle.device_defs.specs.Events as E
 use Rattle.device_defs.specs.Events.{background}
-use Rattle.device_defs.specs.Image.{Got, Imaged, Has, NoBytes, BadTrack, level_bytes, image}
+use Rattle.device_defs.specs.Image.{Got, Imaged, Has, NoBytes, BadTrack}
 use Rattle.device_defs.specs.Losses.{framed_image}
 use Rattle.device_defs.specs.Memory.{had_by}
-use Rattle.device_defs.specs.Outcomes.{Turn, usage_of, wrote_turn}
-use Rattle.device_defs.specs.Owed.{hear, waits, waiting_count, ended}
+use Rattle.device_defs.specs.Outcomes.{Turn, usage_of}
+use Rattle.device_defs.specs.Owed.{hear, waits, waiting_count}
 use Rattle.device_defs.specs.Store.{Store, tracks_of, stale_at, level_at, some_up, takes_b, frame_at, is_lost}
-use Rattle.device_defs.specs.Writing.{firm_first, write_first}
+use Rattle.device_defs.specs.Writing.{write_first}
 use Rattle.device_laws.specs.Standing.{IsWithin}
-use Rattle.device_laws.specs.Unharmed.{some_takes}
 use Rattle.device_laws.proofs.BackMoves.{saved_quiet, bytes_quiet}
 use Rattle.device_laws.proofs.ChainTracks.{within_stays, whole_cylinders}
 use Rattle.device_laws.proofs.Commands.{Stays, LookedAt, look_keeps_good}
 use Rattle.device_laws.proofs.FailedCall.{IsWell, goes_same, goes_on as well_on}
 use Rattle.device_laws.proofs.LossEvents.{begun_same}
-use Rattle.device_laws.proofs.Lucky.{Lucky, lucky_done, lucky_then, lucky_weaker, lucky_if}
+use Rattle.device_laws.proofs.Lucky.{Lucky, lucky_done, lucky_then, lucky_weaker}
 use Rattle.device_laws.proofs.Notices.{hearing_keeps_good}
 use Rattle.device_laws.proofs.Once.{Once, once_done, once_try, once_ask, once_then, once_always, once_lucky, once_quiet, once_asks, once_if, once_tried}
-use Rattle.device_laws.proofs.OneFailed.{Sides, sides_of, fallen_a, OnBoth, steady_a, never, level_once, image_once, firm_once, first_once, write_once}
+use Rattle.device_laws.proofs.OneFailed.{Sides, sides_of, OnBoth, steady_a, never, level_once, image_once, firm_once, first_once, write_once}
 use Rattle.device_laws.proofs.PoolWalks.{hear_asks}
 use Rattle.device_laws.proofs.QuietParts.{Quiet, quiet_done, quiet_then, ended_quiet}
 use Rattle.device_laws.proofs.TrackImage.{level_bytes_keeps_good}
 use Rattle.device_laws.proofs.TrackMarks.{IsFaithful}
-use Rattle.device_laws.proofs.Unchecked.{HasBytes, WasTaken, NoCheck, WentSo, TurnSo, StepIs, step_is, lucky_both, wrote_so, looked_so, look_so, follow_so}
+use Rattle.device_laws.proofs.Unchecked.{HasBytes, WasTaken, WentSo, TurnSo, StepIs, step_is, lucky_both, wrote_so, looked_so, look_so, follow_so}
 use Rattle.device_laws.proofs.UncheckedEvents.{equipment_checks, on_has}
 use Rattle.device_laws.proofs.Unlost.{core_of, Steady, steady_on, fine}
 use Rattle.device_laws.proofs.UnlostEvents.{looked_goes, follow_goes, on_goes, end_goes}

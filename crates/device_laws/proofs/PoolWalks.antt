@@ -10,7 +10,6 @@ use Rattle.device_outside.specs.declared.port.SlotGrant.TheVariants as grants
 use Rattle.device_outside.specs.Interaction.{Interaction, Done, Try, Ask, and_then}
 use Rattle.device_outside.specs.Pool.{Call, SetModified, AnswerTo}
 use Rattle.device_defs.specs.Contents.{Contents}
-use Rattle.device_defs.specs.declared.answers.Choice.{Choice}
 use Rattle.device_defs.specs.declared.usage.Usage.{Usage}
 use Rattle.device_defs.specs.Choosing as G
 use Rattle.device_defs.specs.Choosing.{slot_by, fast_by, may_be_fast, fast_or_through, choose_loose, choose_firm, choose}

@@ -1,32 +1,6 @@
 -- What each event of a device keeps of its sides, whatever calls fail.
-use Rattle.std.proofs.Common.{
-  ◌≡◌,
-  ◌≢◌,
-  ◌==◌,
-  zero,
-  suc,
-  ℕ,
-  Bool,
-  true,
-  false,
-  List,
-  [],
-  ◌∷◌,
-  Option,
-  Some,
-  None,
-  is_some,
-  option_map,
-  set,
-  get_or,
-  refl,
-  sym,
-  ap,
-  subst,
-  ◌∙◌,
-  arith,
-}
-use Rattle.std.proofs.lemmas.Bool.{eqb-false, eq-eqb}
+use Rattle.std.proofs.Common.{◌≡◌, ◌≢◌, ◌==◌, zero, suc, ℕ, Bool, true, false, List, [], ◌∷◌, Option, Some, None, is_some, option_map, set, get_or, refl, sym, ap, subst, ◌∙◌}
+use Rattle.std.proofs.lemmas.Bool.{eqb-false}
 use Rattle.std.proofs.lemmas.List.{get_or-set_other}
 use Rattle.std.specs.Prelude.{not, if◌then◌else◌, ◌||◌}
 use Rattle.ckd_chain.specs.declared.progress.Progress.{Progress}
@@ -77,7 +51,7 @@ use Rattle.device_defs.specs.Background.{
   recover_first,
   work,
 }
-use Rattle.device_defs.specs.Choosing.{fast_by, choose_loose, choose_firm, choose, provisionally_written}
+use Rattle.device_defs.specs.Choosing.{choose}
 use Rattle.device_defs.specs.Command as N
 use Rattle.device_defs.specs.Command.{
   Went,
@@ -100,7 +74,7 @@ use Rattle.device_defs.specs.Command.{
 use Rattle.device_defs.specs.Contents.{Contents}
 use Rattle.device_defs.specs.Cutting as U
 use Rattle.device_defs.specs.Cutting.{half_cut, half_ended, half_lost, loose_gone, powerless, powered_off, path_cut, reset_by, reset, power}
-use Rattle.device_defs.specs.Device.{Device, with_store, event_begun, event_ended, quiet_event, event}
+use Rattle.device_defs.specs.Device.{Device, with_store, event_begun, quiet_event, event}
 use Rattle.device_defs.specs.Editing as E
 use Rattle.device_defs.specs.Editing.{
   another_loose,
@@ -119,7 +93,7 @@ use Rattle.device_defs.specs.Editing.{
 use Rattle.device_defs.specs.Effects.{loosened, hardened, gone_back, loose_lost, with_loose_edit}
 use Rattle.device_defs.specs.Events as V
 use Rattle.device_defs.specs.Events.{with_loss, lost_by, losing, lose, command_ended, second_turn, second_ended, second_of, second, background}
-use Rattle.device_defs.specs.Image.{Got, Imaged, Has, NoBytes, BadTrack, read_counted, image_of, image}
+use Rattle.device_defs.specs.Image.{Got, Imaged, Has, NoBytes, BadTrack, read_counted, image_of}
 use Rattle.device_defs.specs.Losses as L
 use Rattle.device_defs.specs.Losses.{
   without_frame,
@@ -136,11 +110,11 @@ use Rattle.device_defs.specs.Losses.{
   all_firm_told,
   call_failed,
 }
-use Rattle.device_defs.specs.Memory.{tried, had_by}
+use Rattle.device_defs.specs.Memory.{had_by}
 use Rattle.device_defs.specs.Orders as K
 use Rattle.device_defs.specs.Orders.{with_tracks, lent_to, given_up, lend}
-use Rattle.device_defs.specs.Outcomes.{Turn, ends_with, settles, checks, usage_of, turned}
-use Rattle.device_defs.specs.Owed.{is_clean, hear, waiting_count, ended}
+use Rattle.device_defs.specs.Outcomes.{Turn, ends_with, settles, checks, usage_of}
+use Rattle.device_defs.specs.Owed.{is_clean, hear, waiting_count}
 use Rattle.device_defs.specs.Second as D
 use Rattle.device_defs.specs.Second.{closed, half_image_of, finished, second_done, cut_kept, left_by, second_by, second_part}
 use Rattle.device_defs.specs.Store.{

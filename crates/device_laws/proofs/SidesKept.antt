@@ -1,40 +1,11 @@
 -- Whatever calls fail, side B is held only while side A is up, and while that is up it has the track of an open half write.
-use Rattle.std.proofs.Common.{
-  ◌≡◌,
-  ◌≢◌,
-  ◌==◌,
-  ◌+◌,
-  zero,
-  suc,
-  ℕ,
-  Bool,
-  true,
-  false,
-  List,
-  [],
-  ◌∷◌,
-  length,
-  Option,
-  Some,
-  None,
-  is_some,
-  option_map,
-  set,
-  get_or,
-  refl,
-  sym,
-  ap,
-  subst,
-  ◌∙◌,
-}
-use Rattle.std.proofs.lemmas.Bool.{eqb-false}
+use Rattle.std.proofs.Common.{◌≡◌, ◌==◌, ◌+◌, zero, suc, ℕ, Bool, true, false, length, Option, Some, None, is_some, option_map, refl, sym, subst, ◌∙◌}
 use Rattle.std.specs.Prelude.{nat_le, nat_lt, if◌then◌else◌}
 use Rattle.ckd_types.specs.declared.paths.Side.{Side}
 use Rattle.ckd_types.specs.declared.paths.Side.TheVariants as sides
 use Rattle.ckd_types.specs.Parameters.{is_bypass}
 use Rattle.track_image.specs.Image.{Image}
-use Rattle.device_outside.specs.Interaction.{Interaction, Done, Try, Ask, and_then}
-use Rattle.device_outside.specs.Pool.{SetClean, DropFrame}
+use Rattle.device_outside.specs.Interaction.{Interaction}
 use Rattle.device_defs.specs.declared.usage.Usage.{Usage}
 use Rattle.device_defs.specs.Contents.{Contents}
 use Rattle.device_defs.specs.Image as I
@@ -74,28 +45,9 @@ use Rattle.device_defs.specs.Losses.{
   firm_told,
   call_failed,
 }
-use Rattle.device_defs.specs.Memory.{tried, had_by}
-use Rattle.device_defs.specs.Owed.{hear, modified_told, dropped_told, track_told, waiting_told, ended}
-use Rattle.device_defs.specs.Store.{
-  SideMarks,
-  HalfWrite,
-  Store,
-  no_debt,
-  tracks_of,
-  stale_at,
-  level_at,
-  has_level,
-  takes_b,
-  frame_at,
-  patch_at,
-  is_lost,
-  is_loose,
-  half_is,
-  owed_at,
-  with_frame,
-  with_lost,
-  with_owed,
-}
+use Rattle.device_defs.specs.Memory.{tried}
+use Rattle.device_defs.specs.Owed.{hear, ended}
+use Rattle.device_defs.specs.Store.{SideMarks, Store, tracks_of, stale_at, level_at, has_level, takes_b, frame_at, patch_at, is_lost, is_loose, half_is, owed_at, with_frame, with_lost}
 use Rattle.device_defs.specs.Writing as V
 use Rattle.device_defs.specs.Writing.{write_counted, tried_b, write_second, unpatched, done_by, write_done}
 use Rattle.device_laws.proofs.Always.{Always, always_done, always_try, always_ask, always_read, always_write, always_tell, always_then}

@@ -40,7 +40,7 @@ use Rattle.device_defs.specs.Events.{second_turn, command_ended, second_ended, s
 use Rattle.device_defs.specs.Image.{Imaged, Has, NoBytes, BadTrack}
 use Rattle.device_defs.specs.Memory.{had_by}
 use Rattle.device_defs.specs.Outcomes.{Turn, ends_with, settles, checks, usage_of}
-use Rattle.device_defs.specs.Owed.{hear, all_told, waiting_count, waiting_told, ended}
+use Rattle.device_defs.specs.Owed.{hear, waiting_count, waiting_told, ended}
 use Rattle.device_defs.specs.Store.{
   Origin,
   OfCommand,

@@ -24,7 +24,7 @@ use Rattle.device_defs.specs.declared.answers.Took.{Took}
 use Rattle.device_defs.specs.declared.answers.Took.TheVariants.{Whole, Opened, Unwritten}
 use Rattle.device_defs.specs.declared.counts.Counts.{Counts}
 use Rattle.device_defs.specs.declared.usage.Usage.{Usage}
-use Rattle.device_defs.specs.Choosing.{choose, choose_loose, choose_firm}
+use Rattle.device_defs.specs.Choosing.{choose}
 use Rattle.device_defs.specs.Command as N
 use Rattle.device_defs.specs.Command.{Went, Over, On, came_of_write, went_by, went_on, looked, look, goes_on, follow}
 use Rattle.device_defs.specs.Contents.{contents}
