@@ -1,5 +1,31 @@
 -- While the cache isn't lost, each track with a patch has a frame: so it stays behind each part of an event in which no call fails.
-use Rattle.std.proofs.Common.{◌≡◌, ◌≢◌, ◌==◌, zero, suc, ℕ, true, false, List, [], ◌∷◌, Option, Some, None, is_some, set, get_or, refl, sym, ap, subst, ◌∙◌, ◌⊎◌, inl, inr}
+use Rattle.std.proofs.Common.{
+  ◌≡◌,
+  ◌≢◌,
+  ◌==◌,
+  zero,
+  suc,
+  ℕ,
+  true,
+  false,
+  List,
+  [],
+  ◌∷◌,
+  Option,
+  Some,
+  None,
+  is_some,
+  set,
+  get_or,
+  refl,
+  sym,
+  ap,
+  subst,
+  ◌∙◌,
+  ◌⊎◌,
+  inl,
+  inr,
+}
 use Rattle.std.proofs.lemmas.Bool.{cases_eq, eqb-false, ne_eqb}
 use Rattle.std.proofs.lemmas.List.{get_or-set_other}
 use Rattle.std.specs.Prelude.{not}

@@ -1,5 +1,33 @@
 -- A device of which no side was lost, no call failed, and neither the cache nor the power was lost, loses no track, however often its store was.
-use Rattle.std.proofs.Common.{◌≡◌, ◌<◌, ◌≤◌, ◌==◌, zero, suc, ℕ, Bool, true, false, not, Option, Some, None, is_some, length, get_or, option_map, refl, sym, ap, subst, ◌∙◌, arith, ◌⊎◌, inl, inr}
+use Rattle.std.proofs.Common.{
+  ◌≡◌,
+  ◌<◌,
+  ◌≤◌,
+  ◌==◌,
+  zero,
+  suc,
+  ℕ,
+  Bool,
+  true,
+  false,
+  not,
+  Option,
+  Some,
+  None,
+  is_some,
+  length,
+  get_or,
+  option_map,
+  refl,
+  sym,
+  ap,
+  subst,
+  ◌∙◌,
+  arith,
+  ◌⊎◌,
+  inl,
+  inr,
+}
 use Rattle.std.proofs.lemmas.Bool.{cases_lt, eqb-true}
 use Rattle.std.proofs.lemmas.List.{get_or_past}
 use Rattle.std.specs.Prelude.{◌*◌, ◌&&◌, ◌||◌}

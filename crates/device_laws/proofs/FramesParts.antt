@@ -79,7 +79,27 @@ use Rattle.device_defs.specs.Losses.{slot_in, gives_up, without_patch, by_frame,
 use Rattle.device_defs.specs.Owed.{is_clean, waits}
 use Rattle.device_defs.specs.Second as D
 use Rattle.device_defs.specs.Second.{half_image_of, closed, finished, second_done, second_absent, second_by, second_part}
-use Rattle.device_defs.specs.Store.{Origin, OfCommand, OfCut, OfBackground, HalfWrite, Store, tracks_of, level_at, has_level, some_up, takes_b, frame_at, patch_at, is_lost, is_loose, half_is, with_stale, with_frame, with_lost}
+use Rattle.device_defs.specs.Store.{
+  Origin,
+  OfCommand,
+  OfCut,
+  OfBackground,
+  HalfWrite,
+  Store,
+  tracks_of,
+  level_at,
+  has_level,
+  some_up,
+  takes_b,
+  frame_at,
+  patch_at,
+  is_lost,
+  is_loose,
+  half_is,
+  with_stale,
+  with_frame,
+  with_lost,
+}
 use Rattle.device_defs.specs.Writing as V
 use Rattle.device_defs.specs.Writing.{
   Wrote,
@@ -114,7 +134,19 @@ use Rattle.device_laws.proofs.FramesKept.{
   opened_framed,
   closed_but,
 }
-use Rattle.device_laws.proofs.Lucky.{Lucky, lucky_done, lucky_try, lucky_ask, lucky_read, lucky_write, lucky_tell, lucky_then, lucky_if, lucky_tried, with_always}
+use Rattle.device_laws.proofs.Lucky.{
+  Lucky,
+  lucky_done,
+  lucky_try,
+  lucky_ask,
+  lucky_read,
+  lucky_write,
+  lucky_tell,
+  lucky_then,
+  lucky_if,
+  lucky_tried,
+  with_always,
+}
 use Rattle.device_laws.proofs.TrackImage.{level_bytes_keeps_good}
 use Rattle.device_laws.proofs.OneFailed.{never}
 use Rattle.device_laws.proofs.TrackMarks as M

@@ -12,7 +12,20 @@ use Rattle.device_defs.specs.Memory.{tried}
 use Rattle.device_laws.proofs.Always as A
 use Rattle.device_laws.proofs.Always.{Behind, Always, always_weaker}
 use Rattle.device_laws.proofs.Based.{Base, Based, read_base, write_base, based_done, based_try, based_ask, based_read, based_write, based_tell}
-use Rattle.device_laws.proofs.Lucky.{Lucky, lucky_done, lucky_try, lucky_ask, lucky_read, lucky_write, lucky_tell, lucky_then, with_always, top, failed_in, where_none_failed}
+use Rattle.device_laws.proofs.Lucky.{
+  Lucky,
+  lucky_done,
+  lucky_try,
+  lucky_ask,
+  lucky_read,
+  lucky_write,
+  lucky_tell,
+  lucky_then,
+  with_always,
+  top,
+  failed_in,
+  where_none_failed,
+}
 use Rattle.device_laws.proofs.PoolWalks.{AsksPool, asks_done, asks_ask, asks_try}
 use Rattle.device_laws.proofs.QuietParts.{Quiet, quiet_done, quiet_try, quiet_ask, quiet_tell}
 

@@ -1,6 +1,31 @@
 -- The parts of an event of a pair of which both sides have all tracks, where one call of its volumes fails: the other side has all of them then, and
 -- no track is lost.
-use Rattle.std.proofs.Common.{◌≡◌, ◌==◌, ◌+◌, zero, suc, ℕ, Bool, true, false, List, Option, Some, None, is_some, set, get_or, refl, sym, ap, subst, ◌∙◌, ◌⊎◌, inl, inr}
+use Rattle.std.proofs.Common.{
+  ◌≡◌,
+  ◌==◌,
+  ◌+◌,
+  zero,
+  suc,
+  ℕ,
+  Bool,
+  true,
+  false,
+  List,
+  Option,
+  Some,
+  None,
+  is_some,
+  set,
+  get_or,
+  refl,
+  sym,
+  ap,
+  subst,
+  ◌∙◌,
+  ◌⊎◌,
+  inl,
+  inr,
+}
 use Rattle.std.proofs.lemmas.Bool.{cases_eq, eqb-false, ne_eqb}
 use Rattle.std.proofs.lemmas.List.{get_or-set_other}
 use Rattle.std.specs.Prelude.{if◌then◌else◌, ◌&&◌, ◌||◌, not, length, nat_le, nat_lt}

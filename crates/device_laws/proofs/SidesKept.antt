@@ -47,7 +47,23 @@ use Rattle.device_defs.specs.Losses.{
 }
 use Rattle.device_defs.specs.Memory.{tried}
 use Rattle.device_defs.specs.Owed.{hear, ended}
-use Rattle.device_defs.specs.Store.{SideMarks, Store, tracks_of, stale_at, level_at, has_level, takes_b, frame_at, patch_at, is_lost, is_loose, half_is, owed_at, with_frame, with_lost}
+use Rattle.device_defs.specs.Store.{
+  SideMarks,
+  Store,
+  tracks_of,
+  stale_at,
+  level_at,
+  has_level,
+  takes_b,
+  frame_at,
+  patch_at,
+  is_lost,
+  is_loose,
+  half_is,
+  owed_at,
+  with_frame,
+  with_lost,
+}
 use Rattle.device_defs.specs.Writing as V
 use Rattle.device_defs.specs.Writing.{write_counted, tried_b, write_second, unpatched, done_by, write_done}
 use Rattle.device_laws.proofs.Always.{Always, always_done, always_try, always_ask, always_read, always_write, always_tell, always_then}

@@ -37,7 +37,23 @@ use Rattle.ckd_rules.specs.declared.stance.Place.TheVariants as places
 use Rattle.ckd_rules.specs.declared.stance.Stance.{Stance}
 use Rattle.ckd_rules.specs.declared.turned.Turned.{Turned}
 use Rattle.ckd_rules.specs.declared.turned.Turned.TheVariants as turns
-use Rattle.ckd_rules.specs.Checks.{is_in_sequence, seeks, sets_mask, has_own_number, defines, locates, control_order, decoded, mask_fault, is_within, first_track, masked_order, permitted_order, order_by, order_of}
+use Rattle.ckd_rules.specs.Checks.{
+  is_in_sequence,
+  seeks,
+  sets_mask,
+  has_own_number,
+  defines,
+  locates,
+  control_order,
+  decoded,
+  mask_fault,
+  is_within,
+  first_track,
+  masked_order,
+  permitted_order,
+  order_by,
+  order_of,
+}
 use Rattle.ckd_rules.specs.Control.{unseen_place}
 use Rattle.ckd_rules.specs.Finding.{track_after}
 use Rattle.ckd_rules.specs.Look.{look_on}
