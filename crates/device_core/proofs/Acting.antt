@@ -6,7 +6,6 @@ use Rattle.std.proofs.Common.{
   ◌<◌,
   ◌≤◌,
   ℕ,
-  zero,
   suc,
   Bool,
   true,
@@ -53,12 +52,6 @@ none_open : (x : Option Running) → is_some x ≡ false → option_map open_of 
 none_open None e = refl
 none_open (Some r) e = absurd cc
 
-pub counted_ends : (p : Past) → Keeps p → IfSome p.running (λ r. length r.ends.items ≤ 65534)
-counted_ends p k = by_case p.running k.ends where
-  by_case : (x : Option Running) → IfSome (option_map open_of x) (λ (o : OpenEntry). length o.ends ≤ 65534) → IfSome x (λ r. length r.ends.items ≤ 65534)
-  by_case None e = tt
-  by_case (Some r) e = e
-
 -- the program that runs got one act more
 module _ (p : Past) (y : Option Running) (act : Act) (is : IsSome p.running)
     (same : (o : OpenEntry) → option_map open_of p.running ≡ Some o → option_map open_of y
@@ -98,12 +91,6 @@ module _ (p z : Past) (act : Act) (idle : is_some p.running ≡ false) (items_z 
 pub acts_on : (h : History) (acts : List Act) (k : ℕ) (act : Act) → k < length acts → act ≡ get_or acts k act →
     all_acted (acted h act) (drop (k + 1) acts) ≡ all_acted h (drop k acts)
 acts_on h acts k act lt is = ap (λ x. all_acted (acted h x) (drop (k + 1) acts)) is ∙ sym (ap (all_acted h) (drop_more acts k act lt))
-
-pub no_more_acts : (h : History) (acts : List Act) (k : ℕ) → length acts ≤ k → all_acted h (drop k acts) ≡ h
-no_more_acts h [] zero le = refl
-no_more_acts h [] (suc k) le = refl
-no_more_acts h (a ∷ acts) zero le = absurd (omega (arith, le))
-no_more_acts h (a ∷ acts) (suc k) le = no_more_acts h acts k (omega (arith, le))
 
 used_most : (ks : List KeptPath) → used_count ks ≤ length ks
 used_most [] = omega arith

@@ -1,7 +1,7 @@
 -- A command that has begun goes on as one that begins.
 use Rattle.std.proofs.Common.{◌≡◌, ℕ, zero, suc, List, Option, Some, None, Ok, Err, refl, ap, ◌∙◌}
 use Rattle.std.proofs.Math.Path.{fun_ext}
-use Rattle.std.specs.Prelude.{Result, IsSome, if◌then◌else◌}
+use Rattle.std.specs.Prelude.{Result, if◌then◌else◌}
 use Rattle.ckd_types.specs.declared.channel.Ccw.{Ccw}
 use Rattle.ckd_types.specs.declared.command.Read.{Read}
 use Rattle.ckd_types.specs.declared.command.ReadArea.{ReadArea}
@@ -29,7 +29,6 @@ use Rattle.ckd_rules.specs.Finding.{track_after}
 use Rattle.ckd_rules.specs.Opening.{Opened, moved, read_from, look_from, locating, begun, opened_by}
 use Rattle.ckd_chain.specs.declared.mark.Mark.{Mark}
 use Rattle.ckd_chain.specs.declared.mark.Stage.{Stage}
-use Rattle.ckd_chain.specs.declared.mark.Stage.TheVariants as stages
 use Rattle.ckd_chain.specs.State.{ChainState}
 use Rattle.ckd_chain.specs.Steps as S
 use Rattle.ckd_chain.specs.Steps.{opening_at, opened, need_of, stepped, word_of}
@@ -42,7 +41,6 @@ use Rattle.device_defs.specs.Image.{Imaged, Has, NoBytes, BadTrack, image}
 use Rattle.device_defs.specs.Memory.{tried, and_had}
 use Rattle.device_outside.specs.Interaction.{Done}
 use Rattle.ckd_chain.specs.declared.progress.Settled.TheVariants.{Equipment}
-use Rattle.plain_device.specs.Looking.{IsAtAnswer}
 use Rattle.device_defs.specs.Contents.{Contents}
 use Rattle.device_defs.specs.Outcomes.{usage_of, checks}
 use Rattle.device_defs.specs.Store.{Store, is_lost}
@@ -172,35 +170,9 @@ steps_by chain (Some stage) i = refl
 pub stepped_opened : (chain : ChainState) (i : Option Image) → stepped (opened chain) i ≡ stepped chain i
 stepped_opened chain i = steps_by chain chain.stage i
 
-begun_by : (chain : ChainState) (o : Option Stage) → IsSome (opened (record chain { stage = o })).stage
-begun_by chain None = refl
-begun_by chain (Some stage) = refl
-
-pub is_begun : (chain : ChainState) → IsSome (opened chain).stage
-is_begun chain = begun_by chain chain.stage
-
-next_by : (chain : ChainState) (o : Option Stage) → (opened (record chain { stage = o })).at.next ≡ chain.at.next
-next_by chain None = refl
-next_by chain (Some stage) = refl
-
-pub same_next : (chain : ChainState) → (opened chain).at.next ≡ chain.at.next
-same_next chain = next_by chain chain.stage
-
 fixed_by : (chain : ChainState) (o : Option Stage) → (opened (record chain { stage = o })).fixed ≡ chain.fixed
 fixed_by chain None = refl
 fixed_by chain (Some stage) = refl
 
 pub same_fixed : (chain : ChainState) → (opened chain).fixed ≡ chain.fixed
 same_fixed chain = fixed_by chain chain.stage
-
-answer_at : (b : ChainState) (stage : Stage) → S.needed b stage ≡ None → IsAtAnswer (Some stage)
-answer_at b stages.Over e = tt
-answer_at b (stages.Asks act) e = tt
-answer_at b (stages.Looks look) e = absurd cc
-
-answers_by : (chain : ChainState) (o : Option Stage) → need_of (record chain { stage = o }) ≡ None → IsAtAnswer (opened (record chain { stage = o })).stage
-answers_by chain None e = answer_at (opened (record chain { stage = None })) (S.stage_of (record chain { stage = None })) e
-answers_by chain (Some stage) e = answer_at (opened (record chain { stage = Some stage })) stage e
-
-pub answers_where : (chain : ChainState) → need_of chain ≡ None → IsAtAnswer (opened chain).stage
-answers_where chain e = answers_by chain chain.stage e

@@ -73,6 +73,3 @@ begun_weight a b same none = let empty = ap length none in let count = ap loose_
 -- no more than there is room for
 pub fits_room : (a b : LooseView) (p : Past) → ActRoom (loose_count a.loose) p → weight b ≤ loose_count a.loose → ActRoom (weight b) p
 fits_room a b p room le = less_room (weight b) (loose_count a.loose) p le room
-
-pub count_room : (n : ℕ) (b : LooseView) (p : Past) → ActRoom n p → weight b ≤ n → ActRoom (loose_count b.loose) p
-count_room n b p room le = less_room (loose_count b.loose) n p (omega (arith, le)) room

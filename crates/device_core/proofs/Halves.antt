@@ -1,6 +1,6 @@
 -- What a device keeps of a write that is half done.
-use Rattle.std.proofs.Common.{◌≡◌, ◌∙◌, ℕ, Bool, true, false, Option, Some, None, refl, sym, ap, subst}
-use Rattle.std.specs.Prelude.{IfSome, IsSome, is_some, option_map, if◌then◌else◌}
+use Rattle.std.proofs.Common.{◌≡◌, ℕ, true, false, Option, Some, None, refl, sym, ap, subst}
+use Rattle.std.specs.Prelude.{IfSome, IsSome, is_some, option_map}
 use Rattle.ckd_chain.specs.declared.mark.Stage.{Stage}
 use Rattle.ckd_chain.specs.declared.mark.Stage.TheVariants as stages
 use Rattle.ckd_chain.specs.Facts.{MayBeWritten}
@@ -11,12 +11,11 @@ use Rattle.device_defs.specs.declared.answers.Came.TheVariants.{Ends, Checks, Ha
 use Rattle.device_defs.specs.declared.answers.SecondEnd.TheVariants as seconds
 use Rattle.device_defs.specs.declared.answers.Stepped.TheVariants as answers
 use Rattle.device_defs.specs.Contents.{contents}
-use Rattle.device_defs.specs.Cutting.{counts_one_by, is_of_command}
+use Rattle.device_defs.specs.Cutting.{counts_one_by}
 use Rattle.device_defs.specs.Events.{second_told}
 use Rattle.device_defs.specs.Outcomes.{told_step}
 use Rattle.device_store.specs.declared.half.HalfWrite.{HalfWrite}
-use Rattle.device_store.specs.declared.half.Origin.{Origin}
-use Rattle.device_store.specs.State.{half_of, origin_of, OnlyBackground}
+use Rattle.device_store.specs.State.{half_of}
 use Rattle.device_core.specs.declared.past.Past.{Past}
 use Rattle.device_core.specs.declared.past.Running.{Running}
 use Rattle.device_core.specs.declared.past.Stepped.{Stepped}
@@ -37,19 +36,6 @@ pub none_counts : (x : Option HalfWrite) → x ≡ None → count_of x ≡ 1 →
 none_counts None is one = absurd (cc)
 none_counts (Some h) is one = absurd (cc)
 
-not_counted : (b : Bool) (n : ℕ) → n ≡ (if b then 1 else 0) → b ≡ false → n ≡ 1 → ⊥
-not_counted true n by is one = absurd (cc)
-not_counted false n by is one = absurd (cc)
-
-pub uncommanded_counts : (x : Option HalfWrite) → IfSome x (λ h. is_of_command (origin_of h.origin) ≡ false) → count_of x ≡ 1 → ⊥
-uncommanded_counts None is one = absurd (cc)
-uncommanded_counts (Some h) is one = not_counted (is_of_command (origin_of h.origin)) (count_of (Some h)) refl is one
-
-pub background_counts : (x : Option HalfWrite) → OnlyBackground x → count_of x ≡ 1 → ⊥
-background_counts None is one = absurd (cc)
-background_counts (Some h) is one =
-    not_counted (is_of_command (origin_of h.origin)) (count_of (Some h)) refl (ap (λ (o : Origin). is_of_command (origin_of o)) is) one
-
 pub counts_some : (x : Option HalfWrite) → count_of x ≡ 1 → is_some x ≡ true
 counts_some None one = absurd (cc)
 counts_some (Some h) one = refl
@@ -63,12 +49,6 @@ none_mapped f None is = refl
 none_mapped f (Some a) is = absurd (cc)
 
 -- A program that waits
-
-pub may_write : (o : Option Stage) → may_be_written o ≡ true → MayBeWritten o
-may_write (Some stages.Over) is = tt
-may_write (Some (stages.Asks act)) is = is
-may_write (Some (stages.Looks look)) is = absurd (cc)
-may_write None is = absurd (cc)
 
 pub is_written : (o : Option Stage) → MayBeWritten o → may_be_written o ≡ true
 is_written (Some stages.Over) is = refl
@@ -116,7 +96,3 @@ told_second p steps.Ended (Checks e) t is same whole = ended_by (last_end_of p) 
 told_second p s (HalfOpen q) t is same whole = absurd (cc)
 told_second p (steps.Half q) (Ends e) t is same whole = absurd (cc)
 told_second p (steps.Half q) (Checks e) t is same whole = absurd (cc)
-
--- its command waits still, where the half write and the program are the same
-pub waits_on : (x y : Option HalfWrite) (p q : Option Running) → x ≡ y → p ≡ q → (count_of y ≡ 1 → IsWaiting q) → count_of x ≡ 1 → IsWaiting p
-waits_on x y p q half running waits one = subst (λ (r : Option Running). IsWaiting r) (sym running) (waits (ap count_of (sym half) ∙ one))

@@ -16,7 +16,7 @@ use Rattle.device_core.specs.declared.past.Past.{Past}
 use Rattle.device_core.specs.declared.past.Running.{Running}
 use Rattle.device_core.specs.Kept.{open_of, history_of, needed, of_path, one_more, over_path, unused, waiting_in, with_one_more, with_unused, with_waiting}
 use Rattle.device_core.specs.Kept.{Keeps, KeepsAll}
-use Rattle.device_core.proofs.Keeping.{closed_keeps, cut_keeps, end_keeps, ends_of_running, reset_keeps, room_of_running, start_keeps, wait_keeps}
+use Rattle.device_core.proofs.Keeping.{closed_keeps, cut_keeps, end_keeps, reset_keeps, room_of_running, start_keeps, wait_keeps}
 use Rattle.device_core.proofs.Waiting.{none_wait, put_waits, used_some, waiting_kept}
 
 pub some_open : (x : Option Running) → IsSome x → (o : OpenEntry) × (option_map open_of x ≡ Some o)
@@ -33,17 +33,10 @@ own_path x o path is runs = eqb-true o.path path (subst (λ (y : Option OpenEntr
 pub other_path : (x : Option OpenEntry) (o : OpenEntry) (path : ℕ) → x ≡ Some o → is_path_of x path ≡ false → (o.path == path) ≡ false
 other_path x o path is other = subst (λ (y : Option OpenEntry). is_path_of y path ≡ false) is other
 
-pub path_runs : (x : Option Running) (path : ℕ) → is_path_of (option_map open_of x) path ≡ true → IsSome x
-path_runs None path is = absurd cc
-path_runs (Some r) path is = refl
-
 -- room for the entry, and all that may follow it
 pub room_where : (p : Past) → Keeps p → IsSome p.running → 7 ≤ p.items.spare
 room_where p k is =
     let it = some_open p.running is in room_of_running (history_of p) p.kept p.powered p.items.spare k it.0 it.1
-
-pub ends_where : (p : Past) → Keeps p → (o : OpenEntry) → option_map open_of p.running ≡ Some o → length o.ends ≤ 65534
-ends_where p k o is = ends_of_running (history_of p) p.kept p.powered p.items.spare k o is
 
 -- what is kept is so of an equal past
 pub keeps_as : (p : Past) (h : History) (kept : List KeptPath) (powered : Bool) → history_of p ≡ h → p.kept ≡ kept → p.powered ≡ powered →
@@ -52,17 +45,6 @@ keeps_as p h kept powered history_is kept_is powered_is k =
     subst (λ (x : History). KeepsAll x p.kept p.powered p.items.spare) (sym history_is)
     (subst (λ (x : List KeptPath). KeepsAll h x p.powered p.items.spare) (sym kept_is)
     (subst (λ (x : Bool). KeepsAll h kept x p.items.spare) (sym powered_is) k))
-
--- with more room
-pub keeps_roomier : (h : History) (kept : List KeptPath) (powered : Bool) (less more : ℕ) → less ≤ more → KeepsAll h kept powered less →
-    KeepsAll h kept powered more
-keeps_roomier h kept powered less more le k = record {
-  four = k.four;
-  paths = k.paths;
-  powered_is = k.powered_is;
-  ends = k.ends;
-  room = let room = k.room in omega (arith, room, le);
-}
 
 abbrev made : List Item → Option OpenEntry → List ℕ → History
 made l o w = record { items = l; running = o; waiting = w }

@@ -1,7 +1,7 @@
 -- A device's past behind a loss of power.
-use Rattle.std.proofs.Common.{◌≡◌, ◌∙◌, ◌+◌, ◌-◌, ◌<◌, ◌≤◌, ℕ, List, [], ◌∷◌, ◌++◌, length, map, Bool, true, false}
-use Rattle.std.proofs.Common.{Option, Some, None, refl, sym, ap, subst, arith, append_assoc, ◌||◌}
-use Rattle.std.specs.Prelude.{IsSome, count_by, is_some, option_map, if◌then◌else◌}
+use Rattle.std.proofs.Common.{◌≡◌, ◌∙◌, ◌+◌, ◌-◌, ◌≤◌, ℕ, List, [], ◌∷◌, ◌++◌, length, map, Bool, true, false}
+use Rattle.std.proofs.Common.{Option, Some, None, refl, sym, ap, arith, append_assoc, ◌||◌}
+use Rattle.std.specs.Prelude.{count_by, is_some, option_map, if◌then◌else◌}
 use Rattle.std.proofs.lemmas.List.{get_or-map, length-map}
 use Rattle.loss_model.specs.declared.Loss.TheVariants.{Cache}
 use Rattle.plain_defs.specs.declared.journal.How.TheVariants.{Cut}
@@ -28,8 +28,8 @@ use Rattle.device_core.specs.declared.past.Running.{Running}
 use Rattle.device_core.specs.Kept.{open_of, chain_of, history_of, fresh_path, of_path, used_count, waiting_from, waiting_in, Keeps, KeepsAll}
 use Rattle.device_core.specs.Powered.{off_path}
 use Rattle.device_core.specs.State.{DefinedDevice, device_by}
-use Rattle.device_core.proofs.Keeping.{count_append, started_append, running_path, idle_path, idle_room}
-use Rattle.device_core.proofs.Pasts.{keeps_as, room_where}
+use Rattle.device_core.proofs.Keeping.{count_append, started_append, running_path, idle_path}
+use Rattle.device_core.proofs.Pasts.{keeps_as}
 use Rattle.device_core.proofs.Waiting.{used_append}
 
 no_more : (n : ℕ) → n + 0 ≡ n
@@ -131,22 +131,7 @@ module _ (p z : Past) (more : ℕ) (idle : p.running ≡ None) (k : Keeps p) (po
       idle_path (history_of p) p.kept p.powered p.items.spare k (ap (option_map open_of) idle) i (of_path p.kept i) (k.paths i least most)
       ∙ no_more (count_by (is_of_path i) p.items.items)))
 
--- nothing was started since the power came
-pub history_off : (p : Past) (more : ℕ) → Keeps p → p.running ≡ None → p.powered ≡ false → history_of p ≡ lost_power (history_of p) more
-history_off p more k idle off =
-    sym (ap (λ (r : Option Running). lost_power_in (history_of p) more (option_map open_of r)) idle
-    ∙ power_if (history_of p) more false (sym (started_of p k idle) ∙ off))
-
 -- Room
-
-pub room_running : (p : Past) (less : ℕ) → Keeps p → IsSome p.running → less + 1 ≡ p.items.spare → 0 < less
-room_running p less k is spare = let room = room_where p k is in omega (arith, room, spare)
-
-pub room_idle : (p : Past) → Keeps p → p.running ≡ None → p.powered ≡ true → 0 < p.items.spare
-room_idle p k idle powered =
-    let room = idle_room (history_of p) p.kept p.powered p.items.spare k (ap (option_map open_of) idle) in
-    let one : used_count p.kept + 1 ≤ p.items.spare = subst (λ (b : Bool). used_count p.kept + (if b then 1 else 0) ≤ p.items.spare) powered room in
-    omega (arith, one)
 
 -- the device behind it
 pub off_is : {V : Type 0} {G : Ghosts V} (w : Store Frame Stored Image) (x y : DeviceStore V G) (p q : Past) (paths now : PathsState) (plans : Plans)

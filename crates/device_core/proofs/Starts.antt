@@ -19,11 +19,6 @@ use Rattle.device_defs.specs.Store.{Store, fixed_of}
 use Rattle.device_core.specs.declared.past.Past.{Past}
 use Rattle.device_core.specs.Kept.{chain_of, history_of}
 use Rattle.device_core.specs.State.{DefinedDevice, device_by}
-use Rattle.device_core.specs.Words.{IsAtWord}
-
--- a chain that begins is at its first word
-pub begun_at_word : (n : ℕ) (ccws : List Ccw) (fixed : Fixed) → fixed.cylinders ≡ n → IsAtWord n (begun_chain ccws fixed)
-begun_at_word n ccws fixed is = record { ready = record { running = refl; back = refl }; cylinders_are = is }
 
 -- nothing keeps a program out that starts
 pub record MayStart (d : DefinedDevice) (path : ℕ) : Type 0 where

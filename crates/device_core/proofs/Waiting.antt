@@ -1,65 +1,18 @@
 -- The paths whose resets wait, by what is kept of each path.
-use Rattle.std.proofs.Common.{◌≡◌, ◌∙◌, ◌+◌, ◌<◌, ◌≤◌, ◌≢◌, ℕ, zero, suc, Bool, true, false, not, ◌&&◌, List, [], ◌∷◌, ◌++◌, length, map, drop, refl, sym, ap}
-use Rattle.std.proofs.Common.{arith, append_assoc, length-append, lit≤}
+use Rattle.std.proofs.Common.{◌≡◌, ◌∙◌, ◌+◌, ◌<◌, ◌≤◌, ◌≢◌, ℕ, zero, suc, Bool, true, false, not, ◌&&◌, List, [], ◌∷◌, ◌++◌, length, map, refl, sym, ap}
+use Rattle.std.proofs.Common.{arith, length-append, lit≤}
 use Rattle.std.specs.Prelude.{nat_lt, slice_index_or, slice_set, if◌then◌else◌}
 use Rattle.std.proofs.lemmas.Bool.{eq-eqb, ne_eqb, lt-ltb, le-ltb}
 use Rattle.plain_defs.specs.declared.journal.Item.{Item}
 use Rattle.plain_defs.specs.declared.journal.Item.TheVariants as items
 use Rattle.plain_defs.specs.History.{put, resets_of}
 use Rattle.plain_defs.specs.Legal.{is_used, used_by}
-use Rattle.plain_defs.specs.PlainState.{PathsState, reset_path}
-use Rattle.device_defs.specs.Device.{all_reset}
 use Rattle.device_core.specs.declared.past.KeptPath.{KeptPath}
 use Rattle.device_core.specs.Kept.{waiting_one, waiting_from, over_path, used_count, fresh_path}
-
-pub reset_more : (paths : PathsState) (xs ys : List ℕ) → all_reset paths (xs ++ ys) ≡ all_reset (all_reset paths xs) ys
-reset_more paths [] ys = refl
-reset_more paths (x ∷ xs) ys = reset_more (reset_path paths x) xs ys
 
 pub resets_more : (xs ys : List ℕ) → resets_of (xs ++ ys) ≡ resets_of xs ++ resets_of ys
 resets_more [] ys = refl
 resets_more (x ∷ xs) ys = ap (λ (l : List Item). items.Reset x ∷ l) (resets_more xs ys)
-
--- what is left behind a place is the path at it, and what is left behind the next one
-pub waiting_step : (ks : List KeptPath) (i n : ℕ) → i < length ks →
-    waiting_from n (drop i ks) ≡ waiting_one (slice_index_or ks i fresh_path).waits n ++ waiting_from (n + 1) (drop (i + 1) ks)
-waiting_step [] i n lt = absurd (omega (arith, lt))
-waiting_step (k ∷ ks) zero n lt = refl
-waiting_step (k ∷ ks) (suc i) n lt =
-    let below : i < length ks = omega (arith, lt) in
-    let next : suc (i + 1) ≡ suc i + 1 = omega arith in
-    waiting_step ks i n below
-    ∙ ap (λ (m : ℕ). waiting_one (slice_index_or ks i fresh_path).waits n ++ waiting_from (n + 1) (drop m (k ∷ ks))) next
-
--- what is done at a place, and behind it, is what is done from it on
-pub reset_step : (paths new : PathsState) (ks : List KeptPath) (i : ℕ) → i < length ks →
-    new ≡ all_reset paths (waiting_one (slice_index_or ks i fresh_path).waits (i + 1)) →
-    all_reset new (waiting_from (i + 1 + 1) (drop (i + 1) ks)) ≡ all_reset paths (waiting_from (i + 1) (drop i ks))
-reset_step paths new ks i lt is =
-    ap (λ (p : PathsState). all_reset p (waiting_from (i + 1 + 1) (drop (i + 1) ks))) is
-    ∙ sym (reset_more paths (waiting_one (slice_index_or ks i fresh_path).waits (i + 1)) (waiting_from (i + 1 + 1) (drop (i + 1) ks)))
-    ∙ ap (λ (l : List ℕ). all_reset paths l) (sym (waiting_step ks i (i + 1) lt))
-
-pub note_step : (old new : List Item) (ks : List KeptPath) (i : ℕ) → i < length ks →
-    new ≡ old ++ resets_of (waiting_one (slice_index_or ks i fresh_path).waits (i + 1)) →
-    new ++ resets_of (waiting_from (i + 1 + 1) (drop (i + 1) ks)) ≡ old ++ resets_of (waiting_from (i + 1) (drop i ks))
-note_step old new ks i lt is =
-    ap (λ (l : List Item). l ++ resets_of (waiting_from (i + 1 + 1) (drop (i + 1) ks))) is
-    ∙ append_assoc old (resets_of (waiting_one (slice_index_or ks i fresh_path).waits (i + 1))) (resets_of (waiting_from (i + 1 + 1) (drop (i + 1) ks)))
-    ∙ ap (λ (l : List Item). old ++ l) (sym (resets_more (waiting_one (slice_index_or ks i fresh_path).waits (i + 1))
-    (waiting_from (i + 1 + 1) (drop (i + 1) ks))) ∙ ap resets_of (sym (waiting_step ks i (i + 1) lt)))
-
-pub room_step : (ks : List KeptPath) (i : ℕ) → i < length ks → length (waiting_from (i + 1) (drop i ks))
-    ≡ length (waiting_one (slice_index_or ks i fresh_path).waits (i + 1)) + length (waiting_from (i + 1 + 1) (drop (i + 1) ks))
-room_step ks i lt = ap length (waiting_step ks i (i + 1) lt)
-    ∙ length-append (waiting_one (slice_index_or ks i fresh_path).waits (i + 1)) (waiting_from (i + 1 + 1) (drop (i + 1) ks))
-
-one_at_most : (w : Bool) (n : ℕ) → length (waiting_one w n) ≤ 1
-one_at_most true n = lit≤ tt
-one_at_most false n = lit≤ tt
-
-pub one_waits : (ks : List KeptPath) (i n : ℕ) → length (waiting_one (slice_index_or ks i fresh_path).waits n) ≤ 1
-one_waits ks i n = one_at_most (slice_index_or ks i fresh_path).waits n
 
 -- Resets of paths, and what a path used
 

@@ -1,7 +1,6 @@
 -- The parts of an event on its tracks change nothing of what a device is, and count their calls.
 use Rattle.std.proofs.Common.{◌≡◌, zero, suc, ℕ, Bool, true, false, List, [], ◌∷◌, Option, Some, None, is_some, refl, ap, subst, ◌∙◌}
-use Rattle.std.specs.Prelude.{if◌then◌else◌, ◌&&◌, ◌||◌, not, length, nat_le, nat_lt}
-use Rattle.ckd_types.specs.declared.parameters.Mode.{Mode}
+use Rattle.std.specs.Prelude.{if◌then◌else◌, ◌||◌, not, length, nat_le, nat_lt}
 use Rattle.ckd_types.specs.declared.paths.Side.{Side}
 use Rattle.ckd_types.specs.declared.paths.Side.TheVariants.{A, B}
 use Rattle.ckd_types.specs.declared.record.Edit.{Edit}
@@ -10,8 +9,6 @@ use Rattle.loss_model.specs.declared.Loss.{Loss}
 use Rattle.loss_model.specs.declared.Loss.TheVariants as losses
 use Rattle.plain_defs.specs.declared.journal.Act.TheVariants.{Loosen, Harden}
 use Rattle.track_image.specs.Image.{Image, edited_image}
-use Rattle.device_outside.specs.declared.port.SlotGrant.{SlotGrant}
-use Rattle.device_outside.specs.declared.port.SlotGrant.TheVariants as grants
 use Rattle.device_outside.specs.Interaction.{Interaction, Done, and_then}
 use Rattle.device_defs.specs.declared.answers.Choice.{Choice}
 use Rattle.device_defs.specs.declared.answers.Choice.TheVariants.{Provisional, Fast, Through}
@@ -47,18 +44,7 @@ use Rattle.device_defs.specs.Background.{
   recover_first,
   work,
 }
-use Rattle.device_defs.specs.Choosing as G
-use Rattle.device_defs.specs.Choosing.{
-  slot_by,
-  fast_by,
-  may_be_fast,
-  fast_or_through,
-  choose_loose,
-  choose_firm,
-  choose,
-  fast_written,
-  provisionally_written,
-}
+use Rattle.device_defs.specs.Choosing.{choose, provisionally_written}
 use Rattle.device_defs.specs.Contents.{Contents}
 use Rattle.device_defs.specs.Cutting.{origin_cut, half_cut}
 use Rattle.device_defs.specs.Editing as E
@@ -83,7 +69,6 @@ use Rattle.device_defs.specs.Image as I
 use Rattle.device_defs.specs.Image.{
   Got,
   Imaged,
-  Has,
   first_fault,
   read_side,
   second_read,
@@ -92,12 +77,9 @@ use Rattle.device_defs.specs.Image.{
   level_bytes,
   image_of,
   is_sequential,
-  loads,
   queued,
   ahead,
   filled,
-  loaded,
-  delivered,
   missed,
   miss,
   hit,
@@ -106,9 +88,8 @@ use Rattle.device_defs.specs.Image.{
   image,
 }
 use Rattle.device_defs.specs.Losses as L
-use Rattle.device_defs.specs.Losses.{slot_in, settled, stale_everywhere, framed_image, firm_told, all_firm_told, side_lost, call_failed, without_patch}
-use Rattle.device_defs.specs.Owed as O
-use Rattle.device_defs.specs.Owed.{is_owed, is_clean, is_modified, heard, hear, modified_told, dropped_told, freed_told, settles_debt, track_told, all_told}
+use Rattle.device_defs.specs.Losses.{settled, stale_everywhere, framed_image, firm_told, all_firm_told, side_lost, call_failed, without_patch}
+use Rattle.device_defs.specs.Owed.{is_clean, hear, all_told}
 use Rattle.device_defs.specs.Second as D
 use Rattle.device_defs.specs.Second.{
   half_image_of,
@@ -128,18 +109,14 @@ use Rattle.device_defs.specs.Store.{
   OfBackground,
   HalfWrite,
   Store,
-  no_debt,
   tracks_of,
   level_at,
   has_level,
   takes_b,
   frame_at,
-  patch_at,
   is_lost,
   is_loose,
-  owed_at,
   with_frame,
-  with_owed,
   with_stale,
 }
 use Rattle.device_defs.specs.Writing as V
@@ -157,8 +134,6 @@ use Rattle.device_defs.specs.Writing.{
   write_first,
   tried_b,
   write_second,
-  slot_freed,
-  unpatched,
   done_by,
   write_done,
   opened,
@@ -189,6 +164,7 @@ use Rattle.device_laws.proofs.Based.{
   acted_base,
   based_forget,
 }
+use Rattle.device_laws.proofs.PoolWalks.{asks_based, hear_asks, told_asks, filled_asks, missed_asks, choose_asks, done_asks}
 
 module _ {F P H R : Type 0} (c : Contents F P H R) where
   abbrev pub Steady : {A : Type 0} → Store F P H → Interaction R Image (Store F P H) A → Type 0
@@ -196,43 +172,11 @@ module _ {F P H R : Type 0} (c : Contents F P H R) where
 
   -- Notices, and what is told
 
-  heard_steady : (n : ℕ) (s : Store F P H) (note : Option ℕ) → ((z : Store F P H) → Steady z (hear c n z)) → Steady s (heard c (hear c n) s note)
-  heard_steady n s None more = based_done refl
-  heard_steady n s (Some t) more = by_clean (is_clean c (frame_at s t))
-    where
-      by_clean : (b : Bool) → Steady s (hear c n (if b then with_frame s t None else s))
-      by_clean true = more (with_frame s t None)
-      by_clean false = more s
-
   pub hear_steady : (n : ℕ) (s : Store F P H) → Steady s (hear c n s)
-  unfolding O.hear
-  hear_steady zero s = based_done refl
-  hear_steady (suc n) s = based_ask tt (λ note. heard_steady n s note (hear_steady n))
-
-  freed_steady : (s : Store F P H) (o : Option ℕ) → Steady s (freed_told c s o)
-  freed_steady s None = based_done refl
-  freed_steady s (Some slot) = based_ask tt (λ _. based_done refl)
-
-  modified_steady : (t : ℕ) (s : Store F P H) → Steady s (modified_told c t s)
-  modified_steady t s = based_if _ (based_ask tt (λ _. based_done refl)) (based_done refl)
-
-  drop_steady : (t : ℕ) (s : Store F P H) → Steady s (dropped_told c t s)
-  drop_steady t s = based_if _ (based_ask tt (λ _. based_done refl)) (based_done refl)
-
-  debt_steady : (t : ℕ) (s : Store F P H) → Steady s (settles_debt c t s)
-  debt_steady t s =
-      based_then (λ z _. and_then (dropped_told c t z) (λ y _. and_then (freed_told c y (owed_at y t).freed) (λ x _. Done (with_owed x t no_debt) (tt {0}))))
-      (modified_steady t s)
-      (λ z _. based_then (λ y _. and_then (freed_told c y (owed_at y t).freed) (λ x _. Done (with_owed x t no_debt) (tt {0}))) (drop_steady t z)
-      (λ y _. based_then (λ x _. Done (with_owed x t no_debt) (tt {0})) (freed_steady y (owed_at y t).freed) (λ x _. based_done refl)))
-
-  told_steady : (t : ℕ) (s : Store F P H) → Steady s (track_told c t s)
-  told_steady t s = based_if (is_owed c (owed_at s t)) (debt_steady t s) (based_done refl)
+  hear_steady n s = asks_based (hear_asks c (λ z. base_of z ≡ base_of s) (λ z t clean e. e) n s refl)
 
   pub all_told_steady : (n : ℕ) (s : Store F P H) → Steady s (all_told c n s)
-  unfolding O.all_told
-  all_told_steady zero s = based_done refl
-  all_told_steady (suc n) s = based_then (λ z _. track_told c n z) (all_told_steady n s) (λ z _. told_steady n z)
+  all_told_steady n s = asks_based (told_asks c (λ z. base_of z ≡ base_of s) (λ z t e. e) n s refl)
 
   -- Losses, failed calls and cuts
 
@@ -289,14 +233,7 @@ module _ {F P H R : Type 0} (c : Contents F P H R) where
       based_if (level_at s.a t) (based_read (λ got. first_read_steady t (I.read_counted s (is_some got)) got)) (read_b_steady s t None)
 
   filled_steady : (s : Store F P H) (t : ℕ) (i : Image) → Steady s (filled c s t i)
-  filled_steady s t i = based_if (is_some (patch_at s t)) (based_ask tt (λ _. based_done refl)) (based_done refl)
-
-  granted_steady : (s : Store F P H) (t : ℕ) (i : Image) (given : Bool) → Steady s (I.granted c s t i given)
-  granted_steady s t i given = based_if given (based_then (λ z _. Done z (Some (Has i))) (filled_steady s t i) (λ z _. based_done refl)) (based_done refl)
-
-  loaded_steady : (s : Store F P H) (t : ℕ) (i : Image) (mode : Mode) → Steady s (loaded c s t i mode)
-  loaded_steady s t i mode =
-      based_if (loads mode) (based_tried s _ refl (based_ask tt (λ given. granted_steady s t i given))) (based_done refl)
+  filled_steady s t i = asks_based (filled_asks c (λ z. base_of z ≡ base_of s) (λ z q j b is e. e) s t i refl)
 
   queued_base : (last : Option ℕ) (s : Store F P H) (t : ℕ) → base_of (queued last s t) ≡ base_of s
   queued_base None s t = refl
@@ -305,16 +242,9 @@ module _ {F P H R : Type 0} (c : Contents F P H R) where
   ahead_base : (u : Usage) (s : Store F P H) (t : ℕ) → base_of (ahead u s t) ≡ base_of s
   ahead_base u s t = base_if (is_sequential u.mode) _ _ (queued_base u.last _ _ ∙ queued_base u.last s _) refl
 
-  loaded_from : (b : Base) (s : Store F P H) (t : ℕ) (i : Image) (mode : Mode) → base_of s ≡ b → Based base_of Hushed b (loaded c s t i mode)
-  loaded_from b s t i mode e = subst (λ (x : Base). Based base_of Hushed x (loaded c s t i mode)) e (loaded_steady s t i mode)
-
-  delivered_steady : (u : Usage) (t : ℕ) (side : Side) (s : Store F P H) (o : Option Image) → Steady s (delivered c u t side s o)
-  delivered_steady u t side s None = based_done refl
-  delivered_steady u t side s (Some i) = loaded_from (base_of s) (ahead u s t) t i u.mode (ahead_base u s t)
-
   missed_steady : (u : Usage) (t : ℕ) (s : Store F P H) (g : Got R) (o : Option R) → Steady s (missed c u t s g o)
-  missed_steady u t s g None = based_done refl
-  missed_steady u t s g (Some r) = based_tried s _ refl (delivered_steady u t g.side s (image_of c s t r))
+  missed_steady u t s g o =
+      asks_based (missed_asks c (λ z. base_of z ≡ base_of s) (λ z q j b is e. e) (λ v z q e. ahead_base v z q ∙ e) u t s g o refl)
 
   miss_steady : (s : Store F P H) (u : Usage) (t : ℕ) → Steady s (miss c s u t)
   miss_steady s u t = based_then (λ z g. missed c u t z g g.bytes) (level_steady s t) (λ z g. missed_steady u t z g g.bytes)
@@ -336,28 +266,8 @@ module _ {F P H R : Type 0} (c : Contents F P H R) where
 
   -- Where a write goes
 
-  slot_steady : (s : Store F P H) (t : ℕ) (g : SlotGrant) → Steady s (slot_by c s t g)
-  slot_steady s t (grants.Given slot) = based_ask tt (λ listed. based_if listed (based_done refl) (based_ask tt (λ _. based_done refl)))
-  slot_steady s t grants.Denied = based_done refl
-  slot_steady s t grants.Down = based_done refl
-
-  fast_steady : (s : Store F P H) (t : ℕ) (patched : Bool) → Steady s (fast_by c s t patched)
-  fast_steady s t patched = based_if patched (based_ask tt (λ listed. based_done refl)) (based_ask tt (λ g. slot_steady s t g))
-
-  fast_or_steady : (s : Store F P H) (u : Usage) (t : ℕ) → Steady s (fast_or_through c s u t)
-  fast_or_steady s u t = based_if (may_be_fast c s u t) (fast_steady s t (is_some (patch_at s t))) (based_done refl)
-
-  loose_steady : (s : Store F P H) (u : Usage) (t : ℕ) → Steady s (choose_loose c s u t)
-  loose_steady s u t = based_if u.provisional (based_ask tt (λ listed. based_done refl)) (based_done refl)
-
-  firm_choice_steady : (s : Store F P H) (u : Usage) (t : ℕ) → Steady s (choose_firm c s u t)
-  firm_choice_steady s u t =
-      based_if (u.provisional && is_clean c (frame_at s t))
-      (based_ask tt (λ listed. based_if listed (based_done refl) (fast_or_steady s u t))) (fast_or_steady s u t)
-
   choose_steady : (s : Store F P H) (u : Usage) (t : ℕ) → Steady s (choose c s u t)
-  unfolding G.choose
-  choose_steady s u t = based_if (is_loose s t) (loose_steady s u t) (firm_choice_steady s u t)
+  choose_steady s u t = asks_based (choose_asks c (λ z. base_of z ≡ base_of s) s u t refl)
 
   -- Writes of the volumes
 
@@ -401,20 +311,8 @@ module _ {F P H R : Type 0} (c : Contents F P H R) where
   write_second_steady s t r =
       based_if (takes_b s) (based_write (λ ok. tried_steady t (write_counted s ok) ok)) (based_done refl)
 
-  slot_freed_steady : (s : Store F P H) (t : ℕ) (o : Option ℕ) → Steady s (slot_freed c s t o)
-  slot_freed_steady s t None = based_done refl
-  slot_freed_steady s t (Some slot) = based_ask tt (λ _. based_done refl)
-
-  unpatched_steady : (s : Store F P H) (t : ℕ) → Steady s (unpatched c s t)
-  unpatched_steady s t = slot_freed_steady s t (slot_in c (patch_at s t))
-
   done_steady : (s : Store F P H) (t : ℕ) (i : Image) (bypass : Bool) → Steady s (write_done c s t i bypass)
-  unfolding V.write_done
-  done_steady s t i bypass =
-      based_if (is_some (frame_at s t))
-      (based_if bypass (based_ask tt (λ _. unpatched_steady (with_frame s t None) t))
-      (based_ask tt (λ _. unpatched_steady (with_frame s t (Some (c.frame i false))) t)))
-      (unpatched_steady s t)
+  done_steady s t i bypass = asks_based (done_asks c (λ z. base_of z ≡ base_of s) (λ z q o e. e) (λ z q e. e) s t i bypass refl)
 
   opened_steady : (s : Store F P H) (t : ℕ) (i : Image) (origin : Origin) (was_loose : Bool) → Steady s (opened c s t i origin was_loose)
   opened_steady s t i origin was_loose = based_if was_loose (based_ask tt (λ _. based_done refl)) (based_done refl)

@@ -104,7 +104,6 @@ use Rattle.device_defs.specs.Marks.{MarksStore, MarksDevice}
 use Rattle.device_defs.specs.Memory.{had_by}
 use Rattle.device_defs.specs.Outcomes.{Turn, ends_with, settles, checks, wrote_turn, usage_of, sense_kept, program_over, turned_by}
 use Rattle.device_defs.specs.Owed.{hear, waiting_count, ended as event_end}
-use Rattle.device_defs.specs.Peek.{BadBytes}
 use Rattle.device_defs.specs.Second.{second_part}
 use Rattle.device_defs.specs.Store.{Origin, OfCommand, OfCut, OfBackground, HalfWrite, level_at, tracks_of, frame_at, is_lost, with_frame, plain_at}
 use Rattle.device_defs.specs.Writing.{firm_first, write_first, write_done, opened}

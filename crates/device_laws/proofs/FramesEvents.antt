@@ -1,30 +1,6 @@
 -- An event in which no call fails leaves each track with a patch a frame.
-use Rattle.std.proofs.Common.{
-  ◌≡◌,
-  ◌<◌,
-  ◌*◌,
-  ◌==◌,
-  zero,
-  suc,
-  ℕ,
-  Bool,
-  true,
-  false,
-  Option,
-  Some,
-  None,
-  option_map,
-  refl,
-  sym,
-  ap,
-  subst,
-  ◌∙◌,
-  arith,
-  ◌⊎◌,
-  inl,
-  inr,
-}
-use Rattle.std.specs.Prelude.{if◌then◌else◌, ◌&&◌, ◌||◌}
+use Rattle.std.proofs.Common.{◌≡◌, ◌<◌, ◌*◌, zero, suc, ℕ, Bool, true, false, Option, Some, None, option_map, refl, sym, ap, subst, ◌∙◌, arith, ◌⊎◌, inl, inr}
+use Rattle.std.specs.Prelude.{◌||◌}
 use Rattle.ckd_chain.specs.declared.progress.Progress.{Progress}
 use Rattle.ckd_chain.specs.declared.progress.Progress.TheVariants as progresses
 use Rattle.ckd_chain.specs.declared.progress.Settled.TheVariants.{Equipment}
@@ -61,42 +37,11 @@ use Rattle.device_defs.specs.Contents.{Contents}
 use Rattle.device_defs.specs.Device.{Device, with_store, event_begun, event_ended, event}
 use Rattle.device_defs.specs.Events as E
 use Rattle.device_defs.specs.Events.{command_ended, second_turn, second_ended, second_of, second, background}
-use Rattle.device_defs.specs.Image.{Imaged, Has, NoBytes, BadTrack, image}
+use Rattle.device_defs.specs.Image.{Imaged, Has, NoBytes, BadTrack}
 use Rattle.device_defs.specs.Memory.{had_by}
 use Rattle.device_defs.specs.Outcomes.{Turn, ends_with, settles, checks, usage_of}
-use Rattle.device_defs.specs.Owed as O
-use Rattle.device_defs.specs.Owed.{
-  is_owed,
-  is_modified,
-  hear,
-  modified_told,
-  dropped_told,
-  freed_told,
-  settles_debt,
-  track_told,
-  all_told,
-  waiting_count,
-  waiting_told,
-  ended,
-}
-use Rattle.device_defs.specs.Store.{
-  Origin,
-  OfCommand,
-  OfCut,
-  OfBackground,
-  HalfWrite,
-  Store,
-  no_debt,
-  tracks_of,
-  stale_at,
-  level_at,
-  has_level,
-  takes_b,
-  frame_at,
-  is_lost,
-  owed_at,
-  with_owed,
-}
+use Rattle.device_defs.specs.Owed.{waiting_count, ended}
+use Rattle.device_defs.specs.Store.{Origin, OfCommand, OfCut, OfBackground, HalfWrite, Store, tracks_of, stale_at, level_at, has_level, takes_b, is_lost}
 use Rattle.device_laws.specs.Standing.{IsWithin}
 use Rattle.device_laws.proofs.ChainTracks.{within_stays, whole_cylinders}
 use Rattle.device_laws.proofs.Commands.{Stays, LookedAt, look_keeps_good}
@@ -105,12 +50,12 @@ use Rattle.device_laws.proofs.FramesKept.{Plates, plates_of, HasFrames, hear_fra
 use Rattle.device_laws.proofs.FramesParts.{Frames, image_frames, write_frames, second_part_frames, work_frames}
 use Rattle.device_laws.proofs.LossEvents.{begun_same}
 use Rattle.device_laws.proofs.LossLaws.{has_a}
-use Rattle.device_laws.proofs.Lucky.{Lucky, lucky_done, lucky_try, lucky_ask, lucky_then, lucky_weaker, lucky_if, lucky_tried, with_always}
+use Rattle.device_laws.proofs.Lucky.{Lucky, lucky_done, lucky_try, lucky_then, lucky_if, lucky_tried, with_always}
 use Rattle.device_laws.proofs.Notices.{hearing_keeps_good}
+use Rattle.device_laws.proofs.PoolWalks.{asks_lucky, ended_asks}
 use Rattle.device_laws.proofs.TrackMarks.{IsFaithful}
 use Rattle.device_laws.proofs.Unchecked.{lucky_both}
 use Rattle.device_laws.proofs.Unlost.{core_of, Fine, Steady, steady_on}
-use Rattle.device_laws.proofs.UnlostEvents.{look_goes}
 use Rattle.device_laws.proofs.UnlostParts.{hear_goes, image_goes, still_there}
 use Rattle.device_laws.proofs.WholeEvents.{turned_same}
 use Rattle.device_laws.proofs.WholeImage.{Reaches, image_keeps_good}
@@ -130,29 +75,8 @@ module _ {F P H R : Type 0} (c : Contents F P H R) where
     abbrev Keeps : {A : Type 0} → Interaction R Image (Store F P H) A → Type 0
     Keeps i = Lucky (λ z a. p (plates_of z)) i
 
-    freed_keeps : (s : Store F P H) (o : Option ℕ) → p (plates_of s) → Keeps (freed_told c s o)
-    freed_keeps s None f = lucky_done f
-    freed_keeps s (Some slot) f = lucky_ask (λ _. lucky_done f)
-
-    debt_keeps : (t : ℕ) (s : Store F P H) → p (plates_of s) → Keeps (settles_debt c t s)
-    debt_keeps t s f =
-        lucky_then (λ z _. and_then (dropped_told c t z) (λ y _. and_then (freed_told c y (owed_at y t).freed) (λ x _. Done (with_owed x t no_debt) (tt {0}))))
-        (lucky_if ((owed_at s t).modified && is_modified c (frame_at s t)) (λ _. lucky_ask (λ _. lucky_done f)) (λ _. lucky_done f))
-        (λ z _ g. lucky_then (λ y _. and_then (freed_told c y (owed_at y t).freed) (λ x _. Done (with_owed x t no_debt) (tt {0})))
-        (lucky_if (owed_at z t).dropped (λ _. lucky_ask (λ _. lucky_done g)) (λ _. lucky_done g))
-        (λ y _ h. lucky_then (λ x _. Done (with_owed x t no_debt) (tt {0})) (freed_keeps y (owed_at y t).freed h) (λ x _ k. lucky_done k)))
-
-    told_keeps : (n : ℕ) (s : Store F P H) → p (plates_of s) → Keeps (all_told c n s)
-    unfolding O.all_told
-    told_keeps zero s f = lucky_done f
-    told_keeps (suc n) s f =
-        lucky_then (λ z _. track_told c n z) (told_keeps n s f)
-        (λ z _ g. lucky_if (is_owed c (owed_at z n)) (λ _. debt_keeps n z g) (λ _. lucky_done g))
-
     pub end_keeps : (before : ℕ) (s : Store F P H) → p (plates_of s) → Keeps (ended c before s)
-    end_keeps before s f =
-        lucky_then (λ z _. waiting_told c before z) (told_keeps (tracks_of s) s f)
-        (λ z _ g. lucky_if (waiting_count c z == before) (λ _. lucky_done g) (λ _. lucky_ask (λ _. lucky_done g)))
+    end_keeps before s f = asks_lucky (ended_asks c (λ z. p (plates_of z)) (λ z t g. g) before s f)
 
   module _ (faithful : IsFaithful c) where
     module _ (n : ℕ) (Within : ChainState → Type 0) (within : Stays n Within) where

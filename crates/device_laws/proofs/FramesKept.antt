@@ -2,13 +2,10 @@
 use Rattle.std.proofs.Common.{
   ◌≡◌,
   ◌≢◌,
-  ◌<◌,
   ◌==◌,
-  ◌+◌,
   zero,
   suc,
   ℕ,
-  Bool,
   true,
   false,
   List,
@@ -25,29 +22,19 @@ use Rattle.std.proofs.Common.{
   ap,
   subst,
   ◌∙◌,
-  arith,
   ◌⊎◌,
   inl,
   inr,
 }
 use Rattle.std.proofs.lemmas.Bool.{cases_eq, eqb-false, ne_eqb}
 use Rattle.std.proofs.lemmas.List.{get_or-set_other}
-use Rattle.std.specs.Prelude.{if◌then◌else◌, ◌&&◌, ◌||◌, not, length, nat_le, nat_lt}
-use Rattle.ckd_types.specs.declared.parameters.Mode.{Mode}
-use Rattle.ckd_types.specs.declared.paths.Side.{Side}
-use Rattle.ckd_types.specs.declared.paths.Side.TheVariants as sides
-use Rattle.ckd_types.specs.declared.record.Edit.{Edit}
-use Rattle.track_image.specs.Image.{Image}
-use Rattle.device_outside.specs.Interaction.{Interaction, Done}
+use Rattle.std.specs.Prelude.{not}
 use Rattle.device_defs.specs.Contents.{Contents}
-use Rattle.device_defs.specs.Owed as O
-use Rattle.device_defs.specs.Owed.{is_clean, heard, hear}
-use Rattle.device_defs.specs.Store.{HalfWrite, Store, frame_at, patch_at, half_is, with_frame, with_patch}
-use Rattle.device_defs.specs.Losses.{slot_in}
-use Rattle.device_defs.specs.Writing as V
-use Rattle.device_defs.specs.Writing.{slot_freed, unpatched, write_done}
-use Rattle.device_laws.proofs.Lucky.{Lucky, lucky_done, lucky_ask, lucky_if}
+use Rattle.device_defs.specs.Owed.{is_clean, hear}
+use Rattle.device_defs.specs.Store.{HalfWrite, Store, half_is}
+use Rattle.device_laws.proofs.Lucky.{Lucky}
 use Rattle.device_laws.proofs.OneFailed.{never}
+use Rattle.device_laws.proofs.PoolWalks.{asks_lucky, hear_asks}
 
 -- what a store has of its frames and patches
 pub record Plates (F P H : Type 0) : Type 0 where
@@ -164,21 +151,8 @@ module _ {F P H R : Type 0} (c : Contents F P H R) where
 
   -- Notices
 
-  heard_framed : (n : ℕ) (s : Store F P H) (note : Option ℕ) → HasFrames (plates_of s) →
-      ((z : Store F P H) → HasFrames (plates_of z) → Lucky (λ y (a : Unit {0}). HasFrames (plates_of y)) (hear c n z)) →
-      Lucky (λ y (a : Unit {0}). HasFrames (plates_of y)) (heard c (hear c n) s note)
-  heard_framed n s None f more = lucky_done f
-  heard_framed n s (Some t) f more = by_clean (is_clean c (frame_at s t)) refl
-    where
-      by_clean : (b : Bool) → is_clean c (frame_at s t) ≡ b → Lucky (λ y (a : Unit {0}). HasFrames (plates_of y)) (hear c n
-          (if b then with_frame s t None else s))
-      by_clean true e = more (with_frame s t None) (drop_framed (plates_of s) t e f)
-      by_clean false e = more s f
-
   pub hear_framed : (n : ℕ) (s : Store F P H) → HasFrames (plates_of s) → Lucky (λ y (a : Unit {0}). HasFrames (plates_of y)) (hear c n s)
-  unfolding O.hear
-  hear_framed zero s f = lucky_done f
-  hear_framed (suc n) s f = lucky_ask (λ note. heard_framed n s note f (hear_framed n))
+  hear_framed n s f = asks_lucky (hear_asks c (λ z. HasFrames (plates_of z)) (λ z t clean g. drop_framed (plates_of z) t clean g) n s f)
 
   -- Of the track that is written
 

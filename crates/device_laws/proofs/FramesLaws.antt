@@ -11,7 +11,6 @@ use Rattle.std.proofs.Common.{
   true,
   false,
   not,
-  List,
   Option,
   Some,
   None,
@@ -31,7 +30,7 @@ use Rattle.std.proofs.Common.{
 }
 use Rattle.std.proofs.lemmas.Bool.{cases_lt, eqb-true}
 use Rattle.std.proofs.lemmas.List.{get_or_past}
-use Rattle.std.specs.Prelude.{◌*◌, ◌&&◌, ◌||◌, if◌then◌else◌}
+use Rattle.std.specs.Prelude.{◌*◌, ◌&&◌, ◌||◌}
 use Rattle.ckd_chain.specs.State.{ChainState}
 use Rattle.ckd_types.specs.declared.geometry.Geometry.{Geometry}
 use Rattle.ckd_types.specs.declared.paths.Side.{Side}
@@ -50,7 +49,7 @@ use Rattle.device_defs.specs.declared.answers.SecondEnd.{SecondEnd}
 use Rattle.device_defs.specs.declared.answers.Stepped.{Stepped}
 use Rattle.device_defs.specs.declared.counts.Losses.{Losses}
 use Rattle.device_defs.specs.Command.{command}
-use Rattle.device_defs.specs.Contents.{Contents, contents}
+use Rattle.device_defs.specs.Contents.{Contents}
 use Rattle.device_defs.specs.Cutting as U
 use Rattle.device_defs.specs.Cutting.{origin_cut, half_cut, counts_one_by, reset_noted, reset_by, reset, power}
 use Rattle.device_defs.specs.Device.{Device, all_reset, with_store, event_begun, event_ended}
@@ -84,9 +83,9 @@ use Rattle.device_defs.specs.Store.{
 }
 use Rattle.device_laws.specs.NewDevice.{new_contents}
 use Rattle.device_laws.specs.Standing.{IsWithin, IsChainOf}
-use Rattle.device_laws.specs.Unharmed.{MarksAreGood, IsUnharmed, CacheKept, IsFramed, IsUncached}
+use Rattle.device_laws.specs.Unharmed.{MarksAreGood, IsUnharmed, IsFramed, IsUncached}
 use Rattle.device_laws.proofs.Always.{Always}
-use Rattle.device_laws.proofs.Based.{Base, kept, Any, Based, based_any}
+use Rattle.device_laws.proofs.Based.{kept, Any, Based, based_any}
 use Rattle.device_laws.proofs.BasedEvents.{base_in, command_based, second_based, background_based, lose_based, power_based, reset_body}
 use Rattle.device_laws.proofs.FailedCall.{IsWell}
 use Rattle.device_laws.proofs.FramesEvents.{end_keeps, steady_tried, command_frames, second_event_frames, background_frames}

@@ -1,40 +1,6 @@
 -- The parts of an event in which no call fails leave each track with a patch a frame, where the marks are good.
-use Rattle.std.proofs.Common.{
-  ◌≡◌,
-  ◌≢◌,
-  ◌<◌,
-  ◌==◌,
-  ◌+◌,
-  zero,
-  suc,
-  ℕ,
-  Bool,
-  true,
-  false,
-  List,
-  [],
-  ◌∷◌,
-  Option,
-  Some,
-  None,
-  is_some,
-  set,
-  get_or,
-  refl,
-  sym,
-  ap,
-  subst,
-  ◌∙◌,
-  arith,
-  ◌⊎◌,
-  inl,
-  inr,
-}
-use Rattle.std.proofs.lemmas.Bool.{cases_eq, eqb-false, eq-eqb}
-use Rattle.std.proofs.lemmas.List.{get_or-set_other}
-use Rattle.std.specs.Prelude.{if◌then◌else◌, ◌&&◌, ◌||◌, not, length, nat_le, nat_lt}
-use Rattle.track_table.specs.Tracks.{least}
-use Rattle.ckd_types.specs.declared.parameters.Mode.{Mode}
+use Rattle.std.proofs.Common.{◌≡◌, ◌<◌, ◌+◌, ℕ, Bool, true, false, List, [], ◌∷◌, Option, Some, None, is_some, set, refl, sym, ap, subst, ◌∙◌, arith, inl, inr}
+use Rattle.std.specs.Prelude.{if◌then◌else◌, ◌||◌, not, length, nat_le, nat_lt}
 use Rattle.ckd_types.specs.declared.paths.Side.{Side}
 use Rattle.ckd_types.specs.declared.paths.Side.TheVariants as sides
 use Rattle.ckd_types.specs.declared.record.Edit.{Edit}
@@ -72,7 +38,7 @@ use Rattle.device_defs.specs.Background.{
   recover_first,
   work,
 }
-use Rattle.device_defs.specs.Choosing.{choose, patch_with, fast_written, provisionally_written}
+use Rattle.device_defs.specs.Choosing.{choose, patch_with}
 use Rattle.device_defs.specs.Contents.{Contents}
 use Rattle.device_defs.specs.Editing as E
 use Rattle.device_defs.specs.Editing.{
@@ -94,17 +60,13 @@ use Rattle.device_defs.specs.Image as I
 use Rattle.device_defs.specs.Image.{
   Got,
   Imaged,
-  Has,
   read_b,
   level_bytes,
   image_of,
   is_sequential,
-  loads,
   queued,
   ahead,
   filled,
-  loaded,
-  delivered,
   missed,
   miss,
   hit,
@@ -136,7 +98,6 @@ use Rattle.device_defs.specs.Store.{
   half_is,
   with_stale,
   with_frame,
-  with_patch,
   with_lost,
 }
 use Rattle.device_defs.specs.Writing as V
@@ -182,7 +143,6 @@ use Rattle.device_laws.proofs.Lucky.{
   lucky_write,
   lucky_tell,
   lucky_then,
-  lucky_weaker,
   lucky_if,
   lucky_tried,
   with_always,
@@ -193,8 +153,9 @@ use Rattle.device_laws.proofs.TrackMarks as M
 use Rattle.device_laws.proofs.TrackMarks.{IsFaithful, track_at}
 use Rattle.device_laws.proofs.Unchecked.{lucky_any, lucky_both}
 use Rattle.device_laws.proofs.UnlostParts.{IsTried, tried_lucky, level_goes, still_there, found_if, destaged_is}
-use Rattle.device_laws.proofs.Working.{least_found, destaged_there, waits_there}
+use Rattle.device_laws.proofs.Working.{waits_there}
 use Rattle.device_laws.proofs.Writes.{firm_first_keeps_good, write_first_keeps_good}
+use Rattle.device_laws.proofs.PoolWalks.{asks_lucky, filled_asks, missed_asks}
 
 module _ {F P H R : Type 0} (c : Contents F P H R) where
   abbrev Plate : Type 0
@@ -229,27 +190,17 @@ module _ {F P H R : Type 0} (c : Contents F P H R) where
       (λ _. lucky_if (level_at s.b t) (λ _. lucky_read (λ r. lucky_done f)) (λ _. lucky_done f))
 
   module _ (faithful : IsFaithful c) where
+    filled_by : (z : Store F P H) (t : ℕ) (i : Image) (patched : Bool) → is_some (patch_at z t) ≡ patched → HasFrames c (plates_of z) →
+        HasFrames c (plates_of (with_frame z t (Some (c.frame i patched))))
+    filled_by z t i true e f = some_framed c (plates_of z) t (c.frame i true) (inl (faithful.made i true)) f
+    filled_by z t i false e f = some_framed c (plates_of z) t (c.frame i false) (inr e) f
+
     filled_frames : (s : Store F P H) (t : ℕ) (i : Image) → HasFrames c (plates_of s) → Frames (filled c s t i)
-    filled_frames s t i f =
-        lucky_if (is_some (patch_at s t))
-        (λ _. lucky_ask (λ _. lucky_done (some_framed c (plates_of s) t (c.frame i true) (inl (faithful.made i true)) f)))
-        (λ bare. lucky_done (some_framed c (plates_of s) t (c.frame i false) (inr bare) f))
-
-    granted_frames : (s : Store F P H) (t : ℕ) (i : Image) (given : Bool) → HasFrames c (plates_of s) → Frames (I.granted c s t i given)
-    granted_frames s t i given f =
-        lucky_if given (λ _. frames_then (λ z _. Done z (Some (Has i))) (filled_frames s t i f) (λ z _ g. lucky_done g)) (λ _. lucky_done f)
-
-    loaded_frames : (s : Store F P H) (t : ℕ) (i : Image) (mode : Mode) → HasFrames c (plates_of s) → Frames (loaded c s t i mode)
-    loaded_frames s t i mode f =
-        lucky_if (loads mode) (λ _. lucky_tried s _ f (lucky_ask (λ given. granted_frames s t i given f))) (λ _. lucky_done f)
-
-    delivered_frames : (u : Usage) (t : ℕ) (side : Side) (s : Store F P H) (o : Option Image) → HasFrames c (plates_of s) → Frames (delivered c u t side s o)
-    delivered_frames u t side s None f = lucky_done f
-    delivered_frames u t side s (Some i) f = loaded_frames (ahead u s t) t i u.mode (subst (HasFrames c) (sym (ahead_plates u s t)) f)
+    filled_frames s t i f = asks_lucky (filled_asks c (λ z. HasFrames c (plates_of z)) filled_by s t i f)
 
     missed_frames : (u : Usage) (t : ℕ) (s : Store F P H) (g : Got R) (o : Option R) → HasFrames c (plates_of s) → Frames (missed c u t s g o)
-    missed_frames u t s g None f = lucky_done f
-    missed_frames u t s g (Some r) f = lucky_tried s _ f (delivered_frames u t g.side s (image_of c s t r) f)
+    missed_frames u t s g o f =
+        asks_lucky (missed_asks c (λ z. HasFrames c (plates_of z)) filled_by (λ v z q h. subst (HasFrames c) (sym (ahead_plates v z q)) h) u t s g o f)
 
     miss_frames : (s : Store F P H) (u : Usage) (t : ℕ) → HasFrames c (plates_of s) → Frames (miss c s u t)
     miss_frames s u t f = frames_then (λ z g. missed c u t z g g.bytes) (level_frames s t f) (λ z g k. missed_frames u t z g g.bytes k)

@@ -25,7 +25,6 @@ use Rattle.device_defs.specs.Events.{losing, second_turn, command_ended, second_
 use Rattle.device_defs.specs.Outcomes.{Turn, ends_with, settles, checks, sense_kept, program_over, turned_by}
 use Rattle.device_defs.specs.Owed.{hear, waiting_count, ended as event_end}
 use Rattle.device_defs.specs.Second.{second_part}
-use Rattle.device_defs.specs.Start as S
 use Rattle.device_defs.specs.Store.{Origin, OfCommand, OfCut, OfBackground, HalfWrite, Store, tracks_of}
 use Rattle.device_laws.proofs.Always as A
 use Rattle.device_laws.proofs.Always.{Behind, Always, always_done, always_try, always_then}

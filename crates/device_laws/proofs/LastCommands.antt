@@ -1,35 +1,7 @@
 -- A program that ended with a check in an event has the command at hand as its last one.
-use Rattle.std.proofs.Common.{
-  ◌≡◌,
-  ◌<◌,
-  ◌≤◌,
-  ◌+◌,
-  ◌-◌,
-  ◌*◌,
-  zero,
-  suc,
-  ℕ,
-  Bool,
-  true,
-  false,
-  List,
-  [],
-  ◌∷◌,
-  ◌++◌,
-  length,
-  Option,
-  Some,
-  None,
-  refl,
-  sym,
-  ap,
-  subst,
-  ◌∙◌,
-  arith,
-}
+use Rattle.std.proofs.Common.{◌≡◌, ◌+◌, ◌-◌, ℕ, Bool, true, false, List, [], ◌∷◌, ◌++◌, length, Option, Some, None, refl, sym, ap, subst, ◌∙◌, arith}
 use Rattle.std.proofs.lemmas.List.{length-append}
 use Rattle.std.specs.Prelude.{IfSome, IsSome, if◌then◌else◌}
-use Rattle.ckd_chain.specs.declared.mark.Stage.{Stage}
 use Rattle.ckd_chain.specs.declared.progress.Progress.{Progress}
 use Rattle.ckd_chain.specs.declared.progress.Progress.TheVariants as progresses
 use Rattle.ckd_chain.specs.declared.progress.Settled.{Settled}
@@ -71,36 +43,33 @@ use Rattle.plain_defs.specs.History.{
   plain_of,
 }
 use Rattle.plain_defs.specs.Journal.{program_of, entry_part, replay}
-use Rattle.plain_defs.specs.PlainState.{PlainState, PathsState}
-use Rattle.plain_defs.specs.Program.{Part, part_of, acts_done}
+use Rattle.plain_defs.specs.PlainState.{PlainState}
+use Rattle.plain_defs.specs.Program.{Part, part_of}
 use Rattle.plain_device.specs.Acted.{settled_act, paths_behind}
 use Rattle.track_image.specs.Image.{Image}
-use Rattle.device_outside.specs.Interaction.{Interaction, Done, and_then}
-use Rattle.device_defs.specs.declared.answers.Came.{Came}
-use Rattle.device_defs.specs.declared.answers.Came.TheVariants.{Ends, Checks, HalfOpen}
+use Rattle.device_outside.specs.Interaction.{Interaction}
+use Rattle.device_defs.specs.declared.answers.Came.TheVariants.{Ends}
 use Rattle.device_defs.specs.declared.answers.SecondEnd.{SecondEnd}
-use Rattle.device_defs.specs.declared.answers.Stepped.{Stepped as StepEnd}
 use Rattle.device_defs.specs.Command as N
 use Rattle.device_defs.specs.Command.{is_loss, has_loss, came_out, on_tracks, answered_by, command_at, command_by, command}
 use Rattle.device_defs.specs.Contents.{by_plain}
-use Rattle.device_defs.specs.Device.{all_acted, with_store, event_begun, event_ended, event}
+use Rattle.device_defs.specs.Device.{all_acted, with_store, event_begun, event}
 use Rattle.device_defs.specs.Excused.{LastCommand, is_write, is_checked, last_command}
 use Rattle.device_defs.specs.Excused as X
 use Rattle.device_defs.specs.Events as V
 use Rattle.device_defs.specs.Events.{second_turn, command_ended, second_ended, second_of, second}
 use Rattle.device_defs.specs.Marks.{MarksDevice, MarksStore}
-use Rattle.device_defs.specs.Outcomes.{Turn, program_over, sense_kept, turned_by, turned, ends_with, settles}
-use Rattle.device_defs.specs.Owed.{begun, hear, waiting_count, ended as event_end}
-use Rattle.device_defs.specs.Store.{Origin, OfCommand, OfCut, OfBackground, HalfWrite, tracks_of}
+use Rattle.device_defs.specs.Outcomes.{Turn, program_over, sense_kept, turned_by, turned, settles}
+use Rattle.device_defs.specs.Owed.{begun, waiting_count}
+use Rattle.device_defs.specs.Store.{Origin, OfCommand, HalfWrite, tracks_of}
 use Rattle.device_laws.proofs.DeviceHistory.{index_is}
 use Rattle.device_laws.proofs.Had.{Had, had_done, had_try, had_if, had_then}
-use Rattle.device_laws.proofs.HistoryEnds.{effect_at}
 use Rattle.device_laws.proofs.OpenProgram.{with_one_act}
 use Rattle.device_laws.proofs.PlainCommand as C
 use Rattle.device_laws.proofs.PlainLooks.{from_itself, TurnIs, ended_so, equipment, data_check, half_open, FollowSo, follow_so}
 use Rattle.device_laws.proofs.PlainRules.{eff_of}
 use Rattle.device_laws.proofs.PlainSeconds.{SecondSo, part_so, holds_first}
-use Rattle.device_laws.proofs.PlainStores.{Core, Walks, core_of}
+use Rattle.device_laws.proofs.PlainStores.{Core, core_of}
 use Rattle.device_laws.proofs.PlainTurns.{AtPart, Follows, Halfway, IsMidOf, IsMid}
 use Rattle.device_laws.proofs.PlainWalks.{hear_same, ended_same}
 use Rattle.device_laws.proofs.UncheckedEvents.{NoTrack, stage_none}

@@ -27,17 +27,15 @@ use Rattle.std.proofs.Common.{
   inr,
 }
 use Rattle.std.proofs.lemmas.Bool.{cases_lt}
-use Rattle.std.specs.Prelude.{◌&&◌, ◌==◌, if◌then◌else◌}
+use Rattle.std.specs.Prelude.{if◌then◌else◌}
 use Rattle.ckd_types.specs.declared.paths.Side.{Side}
 use Rattle.ckd_types.specs.declared.paths.Side.TheVariants.{A, B}
 use Rattle.ckd_types.specs.declared.record.Track.{Track}
 use Rattle.track_cache.specs.declared.frames.Frame.{Frame}
 use Rattle.nv_store.specs.declared.patches.Stored.{Stored}
-use Rattle.track_image.specs.Image.{Image}
 use Rattle.track_table.proofs.Places.{empty_places}
 use Rattle.device_outside.specs.After.{holds_of}
-use Rattle.device_outside.specs.Interaction.{Interaction, Done, Ask}
-use Rattle.device_outside.specs.Pool.{TellWaiting}
+use Rattle.device_outside.specs.Interaction.{Done}
 use Rattle.device_defs.specs.Contents.{Contents, contents, by_plain}
 use Rattle.device_defs.specs.Device.{Device, event_begun}
 use Rattle.device_defs.specs.Losses as L
@@ -52,11 +50,12 @@ use Rattle.device_laws.specs.Agrees.{Held, slot_at, IsGround}
 use Rattle.device_laws.specs.InOrder.{IsInOrder}
 use Rattle.device_laws.specs.Lent.{IsLentStore, IsLent}
 use Rattle.device_laws.specs.Whole.{WholeDevice, marks_device, WholeTwins}
-use Rattle.device_laws.proofs.Always.{Always, always_done, always_ask, always_then, always_weaker}
+use Rattle.device_laws.proofs.Always.{Always, always_done, always_then}
 use Rattle.device_laws.proofs.ContentChanges.{base_of, Altered, ground_altered, same_tracks, same_slots, sits_still, slot_of, by_track, unseen_slots}
 use Rattle.device_laws.proofs.FailedCall.{IsWell}
 use Rattle.device_laws.proofs.Lent.{LeavesLent, quiet_lent}
 use Rattle.device_laws.proofs.OrderMarks.{IsGone, lent_now_gone}
+use Rattle.device_laws.proofs.PoolWalks.{asks_always, ended_asks}
 use Rattle.device_laws.proofs.TrackContents as T
 use Rattle.device_laws.proofs.TrackContents.{TrackContents, contents_at}
 use Rattle.device_laws.proofs.TrackMarks as M
@@ -234,38 +233,8 @@ module _ {F P H R : Type 0} (c : Contents F P H R) where
   abbrev Numbered : Store F P H → Store F P H → Unit {0} → Type 0
   Numbered s z u = z.device ≡ s.device
 
-  by_test : (s : Store F P H) {i j : Interaction R Image (Store F P H) (Unit {0})} (b : Bool) → Always i (Numbered s) → Always j (Numbered s) →
-      Always (if b then i else j) (Numbered s)
-  by_test s true f g = f
-  by_test s false f g = g
-
-  freed_number : (s : Store F P H) (o : Option ℕ) → Always {R = R} {I = Image} (O.freed_told c s o) (Numbered s)
-  freed_number s None = always_done refl
-  freed_number s (Some slot) = always_ask (λ _. always_done refl)
-
-  debt_number : (t : ℕ) (s : Store F P H) → Always (O.settles_debt c t s) (Numbered s)
-  debt_number t s =
-      always_then (by_test s ((owed_at s t).modified && O.is_modified c (frame_at s t)) (always_ask (λ _. always_done refl)) (always_done refl))
-      (λ z _ e. always_then (by_test z (owed_at z t).dropped (always_ask (λ _. always_done refl)) (always_done refl))
-      (λ y _ f. always_then (freed_number y (owed_at y t).freed) (λ x _ g. always_done (g ∙ f ∙ e))))
-
-  told_number : (n : ℕ) (s : Store F P H) → Always (O.all_told c n s) (Numbered s)
-  unfolding O.all_told
-  told_number zero s = always_done refl
-  told_number (suc n) s =
-      always_then (told_number n s)
-      (λ z _ e. always_weaker (by_test z (O.is_owed c (owed_at z n)) (debt_number n z) (always_done refl)) (λ y _ f. f ∙ e))
-
   ended_number : (before : ℕ) (s : Store F P H) → Always (O.ended c before s) (Numbered s)
-  ended_number before s =
-      always_then (told_number (tracks_of s) s)
-      (λ z _ e. by_waiting z e (O.waiting_count c z == before))
-    where
-      by_waiting : (z : Store F P H) → z.device ≡ s.device → (b : Bool) →
-          Always {R = R} {I = Image} (if b then Done z (tt {0}) else Ask (TellWaiting z.device (O.waiting_count c z)) (λ _. Done z (tt {0})))
-          (λ y _. y.device ≡ s.device)
-      by_waiting z e true = always_done e
-      by_waiting z e false = always_ask (λ _. always_done e)
+  ended_number before s = asks_always (ended_asks c (λ z. z.device ≡ s.device) (λ z t e. e) before s refl)
 
   unframed_number : (s : Store F P H) (t : ℕ) (b : Bool) →
       (if b then with_owed (with_frame s t None) t (record (owed_at s t) { dropped = true }) else s).device ≡ s.device

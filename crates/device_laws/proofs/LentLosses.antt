@@ -31,11 +31,11 @@ use Rattle.device_defs.specs.Losses.{
   firm_told,
   all_firm_told,
 }
-use Rattle.device_defs.specs.Owed as O
-use Rattle.device_defs.specs.Owed.{is_clean, heard, hear, waiting_count, ended}
-use Rattle.device_defs.specs.Store.{Store, tracks_of, frame_at, patch_at, has_loose, is_loose, half_is, owed_at, with_frame}
-use Rattle.device_laws.proofs.Always.{Always, always_done, always_ask, always_tell, always_then}
+use Rattle.device_defs.specs.Owed.{hear, waiting_count, ended}
+use Rattle.device_defs.specs.Store.{Store, tracks_of, frame_at, patch_at, has_loose, is_loose, half_is, owed_at}
+use Rattle.device_laws.proofs.Always.{Always, always_done, always_tell, always_then}
 use Rattle.device_laws.proofs.KeptEvents.{always_any, always_if}
+use Rattle.device_laws.proofs.PoolWalks.{asks_always, hear_asks}
 
 -- the acts, to whom it is lent, and which tracks are loose
 pub record Away : Type 0 where
@@ -52,19 +52,8 @@ module _ {F P H R : Type 0} (c : Contents F P H R) where
   away_if true s z e f = e
   away_if false s z e f = f
 
-  heard_away : (n : ℕ) (s : Store F P H) (note : Option ℕ) → ((z : Store F P H) → Always (hear c n z) (λ y _. away_of y ≡ away_of z)) →
-      Always (heard c (hear c n) s note) (λ y _. away_of y ≡ away_of s)
-  heard_away n s None more = always_done refl
-  heard_away n s (Some t) more = by_clean (is_clean c (frame_at s t))
-    where
-      by_clean : (b : Bool) → Always (hear c n (if b then with_frame s t None else s)) (λ y _. away_of y ≡ away_of s)
-      by_clean true = more (with_frame s t None)
-      by_clean false = more s
-
   hear_away : (n : ℕ) (s : Store F P H) → Always (hear c n s) (λ y _. away_of y ≡ away_of s)
-  unfolding O.hear
-  hear_away zero s = always_done refl
-  hear_away (suc n) s = always_ask (λ note. heard_away n s note (hear_away n))
+  hear_away n s = asks_always (hear_asks c (λ z. away_of z ≡ away_of s) (λ z t clean e. e) n s refl)
 
   firm_away : (n : ℕ) (s : Store F P H) → Always (all_firm_told c n s) (λ y _. away_of y ≡ away_of s)
   unfolding L.all_firm_told

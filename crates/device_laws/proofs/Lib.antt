@@ -7,6 +7,7 @@ pub mod CacheLost
 pub mod StoreLost
 pub mod Soundness
 pub mod Always
+pub mod PoolWalks
 pub mod Had
 pub mod PlainStores
 pub mod PlainWalks

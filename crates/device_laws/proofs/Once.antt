@@ -1,5 +1,5 @@
 -- What holds behind an interaction in which one call of a volume fails at most, and so behind a run that counts one failed call more.
-use Rattle.std.proofs.Common.{◌≡◌, ◌<◌, ◌+◌, ℕ, Bool, true, false, not, Option, Some, None, is_some, min, refl, sym, ap, ◌∙◌, arith}
+use Rattle.std.proofs.Common.{◌≡◌, ◌<◌, ◌+◌, ℕ, Bool, true, false, Option, Some, None, is_some, min, refl, sym, ap, ◌∙◌, arith}
 use Rattle.std.specs.Prelude.{if◌then◌else◌}
 use Rattle.ckd_types.specs.declared.paths.Side.{Side}
 use Rattle.track_image.specs.Image.{Image}
@@ -21,12 +21,12 @@ use Rattle.device_laws.proofs.Lucky.{
   lucky_write,
   lucky_tell,
   lucky_then,
-  lucky_weaker,
   with_always,
   top,
   failed_in,
   where_none_failed,
 }
+use Rattle.device_laws.proofs.PoolWalks.{AsksPool, asks_done, asks_ask, asks_try}
 use Rattle.device_laws.proofs.QuietParts.{Quiet, quiet_done, quiet_try, quiet_ask, quiet_tell}
 
 -- p holds where none failed, and q where one did
@@ -87,6 +87,12 @@ once_quiet quiet_done = once_done tt
 once_quiet (quiet_try x) = once_try (λ ok. once_quiet (x ok))
 once_quiet (quiet_ask x) = once_ask (λ a. once_quiet (x a))
 once_quiet (quiet_tell x) = once_tell (λ r. once_quiet (x r))
+
+-- where the pool alone is asked
+pub once_asks : {R I S A : Type 0} {may : Call → Type 0} {p q : S → A → Type 0} {i : Interaction R I S A} → AsksPool may p i → Once p q i
+once_asks (asks_done x) = once_done x
+once_asks (asks_try x) = once_try (λ ok. once_asks (x ok))
+once_asks (asks_ask m x) = once_ask (λ a. once_asks (x a))
 
 pub once_if : {R I S A : Type 0} {p q : S → A → Type 0} (b : Bool) {i j : Interaction R I S A} → (b ≡ true → Once p q i) → (b ≡ false → Once p q j) →
     Once p q (if b then i else j)

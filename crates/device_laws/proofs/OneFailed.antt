@@ -2,8 +2,6 @@
 -- no track is lost.
 use Rattle.std.proofs.Common.{
   ◌≡◌,
-  ◌≢◌,
-  ◌<◌,
   ◌==◌,
   ◌+◌,
   zero,
@@ -31,8 +29,6 @@ use Rattle.std.proofs.Common.{
 use Rattle.std.proofs.lemmas.Bool.{cases_eq, eqb-false, ne_eqb}
 use Rattle.std.proofs.lemmas.List.{get_or-set_other}
 use Rattle.std.specs.Prelude.{if◌then◌else◌, ◌&&◌, ◌||◌, not, length, nat_le, nat_lt}
-use Rattle.ckd_types.specs.declared.parameters.Mode.{Mode}
-use Rattle.ckd_types.specs.declared.paths.Side.{Side}
 use Rattle.ckd_types.specs.declared.paths.Side.TheVariants as sides
 use Rattle.ckd_types.specs.declared.record.Edit.{Edit}
 use Rattle.ckd_types.specs.Parameters.{is_bypass}
@@ -65,27 +61,7 @@ use Rattle.device_defs.specs.Editing.{
 }
 use Rattle.device_defs.specs.Effects.{hardened}
 use Rattle.device_defs.specs.Image as I
-use Rattle.device_defs.specs.Image.{
-  Got,
-  Imaged,
-  Has,
-  read_counted,
-  read_b,
-  level_bytes,
-  image_of,
-  is_sequential,
-  loads,
-  queued,
-  ahead,
-  filled,
-  loaded,
-  delivered,
-  missed,
-  miss,
-  clean_image,
-  image_by,
-  image,
-}
+use Rattle.device_defs.specs.Image.{Got, Imaged, read_counted, read_b, level_bytes, is_sequential, queued, ahead, missed, miss, clean_image, image_by, image}
 use Rattle.device_defs.specs.Losses as L
 use Rattle.device_defs.specs.Losses.{over, down, by_frame, lost_now, settled, settled_but, side_lost, firm_told, all_firm_told, call_failed}
 use Rattle.device_defs.specs.Owed.{is_clean}
@@ -111,7 +87,7 @@ use Rattle.device_defs.specs.Store.{
 }
 use Rattle.device_defs.specs.Writing as V
 use Rattle.device_defs.specs.Writing.{Wrote, write_counted, taken_a, taken_b, firm_first, failed_a, write_first, write_second, opened}
-use Rattle.device_laws.proofs.Lucky.{Lucky, lucky_done, lucky_read, lucky_write, lucky_tell, lucky_then, lucky_weaker, lucky_if, with_always}
+use Rattle.device_laws.proofs.Lucky.{Lucky, lucky_done, lucky_read, lucky_write, lucky_tell, lucky_then, lucky_weaker, lucky_if}
 use Rattle.device_laws.proofs.Choices.{choice_fits}
 use Rattle.device_laws.proofs.Once.{
   Once,
@@ -125,14 +101,15 @@ use Rattle.device_laws.proofs.Once.{
   once_lucky,
   where_none,
   once_quiet,
+  once_asks,
   once_if,
   once_tried,
 }
 use Rattle.device_laws.proofs.QuietParts.{Quiet, quiet_done, quiet_ask, quiet_tell, quiet_if, quiet_then, done_quiet}
-use Rattle.device_laws.proofs.TrackMarks.{IsFaithful}
 use Rattle.device_laws.proofs.Unchecked.{HasBytes, IsTaken, WasTaken, lucky_both, missed_has, whole_taken}
-use Rattle.device_laws.proofs.Unlost.{Core, core_of, Fine, Steady, steady_on, clear_at}
+use Rattle.device_laws.proofs.Unlost.{core_of, Steady, steady_on, clear_at}
 use Rattle.device_laws.proofs.UnlostParts.{whole_goes}
+use Rattle.device_laws.proofs.PoolWalks.{missed_asks}
 
 -- what a store has of its sides, its lost tracks, and its open half write
 pub record Sides (H : Type 0) : Type 0 where
@@ -368,30 +345,9 @@ module _ {F P H R : Type 0} (c : Contents F P H R) where
     abbrev Stills : {A : Type 0} → (Store F P H → A → Type 0) → Interaction R Image (Store F P H) A → Type 0
     Stills q i = Once (λ z _. sides_of z ≡ x) q i
 
-    pub filled_same : {q : Store F P H → Unit {0} → Type 0} (s : Store F P H) (t : ℕ) (i : Image) → sides_of s ≡ x → Stills q (filled c s t i)
-    filled_same s t i e = once_if (is_some (patch_at s t)) (λ _. once_ask (λ _. once_done e)) (λ _. once_done e)
-
-    granted_same : {q : Store F P H → Option Imaged → Type 0} (s : Store F P H) (t : ℕ) (i : Image) (given : Bool) → sides_of s ≡ x →
-        Stills q (I.granted c s t i given)
-    granted_same {q} s t i given e =
-        once_if given
-        (λ _. once_then (λ z _. Done z (Some (Has i))) (filled_same {q = λ z a. q z (Some (Has i))} s t i e) (λ z _ f. once_done f) (λ z _ f. lucky_done f))
-        (λ _. once_done e)
-
-    loaded_same : {q : Store F P H → Option Imaged → Type 0} (s : Store F P H) (t : ℕ) (i : Image) (mode : Mode) → sides_of s ≡ x →
-        Stills q (loaded c s t i mode)
-    loaded_same s t i mode e =
-        once_if (loads mode) (λ _. once_tried s _ e (once_ask (λ given. granted_same s t i given e))) (λ _. once_done e)
-
-    delivered_same : {q : Store F P H → Option Imaged → Type 0} (u : Usage) (t : ℕ) (side : Side) (s : Store F P H) (o : Option Image) → sides_of s ≡ x →
-        Stills q (delivered c u t side s o)
-    delivered_same u t side s None e = once_done e
-    delivered_same u t side s (Some i) e = loaded_same (ahead u s t) t i u.mode (ahead_sides x u s t e)
-
     missed_same : {q : Store F P H → Option Imaged → Type 0} (u : Usage) (t : ℕ) (s : Store F P H) (g : Got R) (o : Option R) → sides_of s ≡ x →
         Stills q (missed c u t s g o)
-    missed_same u t s g None e = once_done e
-    missed_same u t s g (Some r) e = once_tried s _ e (delivered_same u t g.side s (image_of c s t r) e)
+    missed_same u t s g o e = once_asks (missed_asks c (λ z. sides_of z ≡ x) (λ z r j b is f. f) (λ v z r f. ahead_sides x v z r f) u t s g o e)
 
   abbrev ImagedSo : Sides H → Store F P H → Option Imaged → Type 0
   ImagedSo x z a = HasBytes a × (sides_of z ≡ x)

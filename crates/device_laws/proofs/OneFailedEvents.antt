@@ -19,7 +19,6 @@ use Rattle.std.proofs.Common.{
   Some,
   None,
   is_some,
-  get_or,
   refl,
   sym,
   ap,
@@ -86,29 +85,28 @@ use Rattle.device_defs.specs.Contents.{Contents}
 use Rattle.device_defs.specs.Device.{Device, with_store, event_begun, event_ended}
 use Rattle.device_defs.specs.Events as E
 use Rattle.device_defs.specs.Events.{background}
-use Rattle.device_defs.specs.Image.{Got, Imaged, Has, NoBytes, BadTrack, level_bytes, image}
+use Rattle.device_defs.specs.Image.{Got, Imaged, Has, NoBytes, BadTrack}
 use Rattle.device_defs.specs.Losses.{framed_image}
 use Rattle.device_defs.specs.Memory.{had_by}
-use Rattle.device_defs.specs.Outcomes.{Turn, usage_of, wrote_turn}
-use Rattle.device_defs.specs.Owed as O
-use Rattle.device_defs.specs.Owed.{is_clean, heard, hear, waits, waiting_count, ended}
-use Rattle.device_defs.specs.Store.{Store, tracks_of, stale_at, level_at, some_up, takes_b, frame_at, is_lost, with_frame}
-use Rattle.device_defs.specs.Writing.{firm_first, write_first}
+use Rattle.device_defs.specs.Outcomes.{Turn, usage_of}
+use Rattle.device_defs.specs.Owed.{hear, waits, waiting_count}
+use Rattle.device_defs.specs.Store.{Store, tracks_of, stale_at, level_at, some_up, takes_b, frame_at, is_lost}
+use Rattle.device_defs.specs.Writing.{write_first}
 use Rattle.device_laws.specs.Standing.{IsWithin}
-use Rattle.device_laws.specs.Unharmed.{some_takes}
 use Rattle.device_laws.proofs.BackMoves.{saved_quiet, bytes_quiet}
 use Rattle.device_laws.proofs.ChainTracks.{within_stays, whole_cylinders}
 use Rattle.device_laws.proofs.Commands.{Stays, LookedAt, look_keeps_good}
 use Rattle.device_laws.proofs.FailedCall.{IsWell, goes_same, goes_on as well_on}
 use Rattle.device_laws.proofs.LossEvents.{begun_same}
-use Rattle.device_laws.proofs.Lucky.{Lucky, lucky_done, lucky_then, lucky_weaker, lucky_if}
+use Rattle.device_laws.proofs.Lucky.{Lucky, lucky_done, lucky_then, lucky_weaker}
 use Rattle.device_laws.proofs.Notices.{hearing_keeps_good}
-use Rattle.device_laws.proofs.Once.{Once, once_done, once_try, once_ask, once_then, once_always, once_lucky, once_quiet, once_if, once_tried}
-use Rattle.device_laws.proofs.OneFailed.{Sides, sides_of, fallen_a, OnBoth, steady_a, never, level_once, image_once, firm_once, first_once, write_once}
+use Rattle.device_laws.proofs.Once.{Once, once_done, once_try, once_ask, once_then, once_always, once_lucky, once_quiet, once_asks, once_if, once_tried}
+use Rattle.device_laws.proofs.OneFailed.{Sides, sides_of, OnBoth, steady_a, never, level_once, image_once, firm_once, first_once, write_once}
+use Rattle.device_laws.proofs.PoolWalks.{hear_asks}
 use Rattle.device_laws.proofs.QuietParts.{Quiet, quiet_done, quiet_then, ended_quiet}
 use Rattle.device_laws.proofs.TrackImage.{level_bytes_keeps_good}
 use Rattle.device_laws.proofs.TrackMarks.{IsFaithful}
-use Rattle.device_laws.proofs.Unchecked.{HasBytes, WasTaken, NoCheck, WentSo, TurnSo, StepIs, step_is, lucky_both, wrote_so, looked_so, look_so, follow_so}
+use Rattle.device_laws.proofs.Unchecked.{HasBytes, WasTaken, WentSo, TurnSo, StepIs, step_is, lucky_both, wrote_so, looked_so, look_so, follow_so}
 use Rattle.device_laws.proofs.UncheckedEvents.{equipment_checks, on_has}
 use Rattle.device_laws.proofs.Unlost.{core_of, Steady, steady_on, fine}
 use Rattle.device_laws.proofs.UnlostEvents.{looked_goes, follow_goes, on_goes, end_goes}
@@ -122,20 +120,9 @@ both_take x t o = ap (λ (b : Bool). b || (x.b.up && not x.held)) o.up_a
 module _ {F P H R : Type 0} (c : Contents F P H R) where
   -- Notices, and the end of an event
 
-  heard_same : {q : Store F P H → Unit {0} → Type 0} (x : Sides H) (n : ℕ) (s : Store F P H) (note : Option ℕ) → sides_of s ≡ x →
-      ((z : Store F P H) → sides_of z ≡ x → Once (λ y _. sides_of y ≡ x) q (hear c n z)) → Once (λ y _. sides_of y ≡ x) q (heard c (hear c n) s note)
-  heard_same x n s None e more = once_done e
-  heard_same {q} x n s (Some t) e more = by_clean (is_clean c (frame_at s t))
-    where
-      by_clean : (b : Bool) → Once (λ y _. sides_of y ≡ x) q (hear c n (if b then with_frame s t None else s))
-      by_clean true = more (with_frame s t None) e
-      by_clean false = more s e
-
   pub hear_same : {q : Store F P H → Unit {0} → Type 0} (x : Sides H) (n : ℕ) (s : Store F P H) → sides_of s ≡ x →
       Once (λ y _. sides_of y ≡ x) q (hear c n s)
-  unfolding O.hear
-  hear_same x zero s e = once_done e
-  hear_same x (suc n) s e = once_ask (λ note. heard_same x n s note e (λ z f. hear_same x n z f))
+  hear_same x n s e = once_asks (hear_asks c (λ z. sides_of z ≡ x) (λ z t clean f. f) n s e)
 
   module _ {A : Type 0} where
     pub end_quiet : (d y : Device F P H) (a : A) → Quiet (event_ended c d y a)

@@ -93,8 +93,6 @@ use Rattle.ckd_chain.specs.Facts.{IsChain}
 use Rattle.ckd_chain.specs.State.{ChainState}
 use Rattle.ckd_chain.specs.Steps as S
 use Rattle.ckd_chain.specs.Steps.{begun_chain, opened, need_of, needed, stage_of, stepped, word_of}
-use Rattle.device_defs.specs.Command.{command}
-use Rattle.device_defs.specs.Device.{Device}
 use Rattle.device_laws.specs.Standing.{IsWithin}
 use Rattle.device_laws.proofs.ChainTracks.{within_stays, whole_cylinders}
 

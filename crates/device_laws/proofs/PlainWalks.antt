@@ -95,8 +95,7 @@ use Rattle.device_defs.specs.Losses.{
   down,
 }
 use Rattle.device_defs.specs.Marks.{MarksStore}
-use Rattle.device_defs.specs.Owed as O
-use Rattle.device_defs.specs.Owed.{hear, heard, dropped, is_clean, is_modified, is_owed, settles_debt, freed_told, track_told, all_told, waiting_count, ended}
+use Rattle.device_defs.specs.Owed.{hear, is_clean, ended}
 use Rattle.device_defs.specs.Store.{
   Origin,
   OfCommand,
@@ -117,22 +116,8 @@ use Rattle.device_defs.specs.Store.{
   with_stale,
 }
 use Rattle.device_defs.specs.Writing as W
-use Rattle.device_defs.specs.Writing.{
-  wrote,
-  firm_first,
-  unwritten,
-  write_first,
-  first_a,
-  failed_a,
-  alone_b,
-  write_second,
-  write_done,
-  slot_freed,
-  taken_a,
-  cleaned,
-  opened,
-}
-use Rattle.device_laws.proofs.Had.{Had, had_done, had_try, had_ask, had_read, had_write, had_tell, had_if, had_then, had_weaker}
+use Rattle.device_defs.specs.Writing.{wrote, firm_first, unwritten, write_first, first_a, failed_a, alone_b, write_second, write_done, taken_a, cleaned, opened}
+use Rattle.device_laws.proofs.Had.{Had, had_done, had_try, had_ask, had_read, had_write, had_tell, had_if, had_then}
 use Rattle.device_laws.proofs.CacheLost.{none_below}
 use Rattle.device_laws.proofs.PlainStores.{
   Core,
@@ -150,6 +135,7 @@ use Rattle.device_laws.proofs.PlainStores.{
   put_false,
   put_keeps,
 }
+use Rattle.device_laws.proofs.PoolWalks.{asks_had, hear_asks, ended_asks, done_asks}
 use Rattle.device_laws.proofs.WholeImage.{ahead_only}
 
 -- What leaves the core
@@ -175,44 +161,11 @@ everywhere_same s t =
 
 -- The notices, and the end of an event
 
-dropped_same : (s : MarksStore) (t : ℕ) → core_of (dropped by_plain s t) ≡ core_of s
-dropped_same s t =
-    cond_both (is_clean by_plain (frame_at s t)) (with_frame s t None) s (λ (z : MarksStore). core_of z ≡ core_of s) (λ e. framed_same s t None) (λ e. refl)
-
-heard_same : (n : ℕ) (s : MarksStore) (o : Option ℕ) → ((z : MarksStore) → Had (hear by_plain n z) (λ y (_ : Unit {0}). core_of y ≡ core_of z)) →
-    Had (heard by_plain (hear by_plain n) s o) (λ y (_ : Unit {0}). core_of y ≡ core_of s)
-heard_same n s None rest = had_done refl
-heard_same n s (Some t) rest = had_weaker (rest (dropped by_plain s t)) (λ y _ e. e ∙ dropped_same s t)
-
 pub hear_same : (n : ℕ) (s : MarksStore) → Had (hear by_plain n s) (λ y (_ : Unit {0}). core_of y ≡ core_of s)
-unfolding O.hear
-hear_same zero s = had_done refl
-hear_same (suc n) s = had_ask (λ o. heard_same n s o (hear_same n))
-
-freed_same : (s : MarksStore) (o : Option ℕ) → Had (freed_told by_plain s o) (λ y (_ : Unit {0}). core_of y ≡ core_of s)
-freed_same s None = had_done refl
-freed_same s (Some slot) = had_ask (λ _. had_done refl)
-
-debt_same : (t : ℕ) (s : MarksStore) → Had (settles_debt by_plain t s) (λ y (_ : Unit {0}). core_of y ≡ core_of s)
-debt_same t s =
-    had_then {p = λ y _. core_of y ≡ core_of s}
-    (had_if ((owed_at s t).modified && is_modified by_plain (frame_at s t)) (λ _. had_ask (λ _. had_done refl)) (λ _. had_done refl))
-    (λ z _ e. had_then {p = λ y _. core_of y ≡ core_of s}
-    (had_if (owed_at z t).dropped (λ _. had_ask (λ _. had_done e)) (λ _. had_done e))
-    (λ y _ f. had_then (freed_same y (owed_at y t).freed) (λ x _ g. had_done (g ∙ f))))
-
-track_same : (t : ℕ) (s : MarksStore) → Had (track_told by_plain t s) (λ y (_ : Unit {0}). core_of y ≡ core_of s)
-track_same t s = had_if (is_owed by_plain (owed_at s t)) (λ _. debt_same t s) (λ _. had_done refl)
-
-all_same : (n : ℕ) (s : MarksStore) → Had (all_told by_plain n s) (λ y (_ : Unit {0}). core_of y ≡ core_of s)
-unfolding O.all_told
-all_same zero s = had_done refl
-all_same (suc n) s = had_then (all_same n s) (λ z _ e. had_weaker (track_same n z) (λ y _ f. f ∙ e))
+hear_same n s = asks_had (hear_asks by_plain (λ z. core_of z ≡ core_of s) (λ z t clean e. framed_same z t None ∙ e) n s refl)
 
 pub ended_same : (before : ℕ) (s : MarksStore) → Had (ended by_plain before s) (λ y (_ : Unit {0}). core_of y ≡ core_of s)
-ended_same before s =
-    had_then (all_same (tracks_of s) s)
-    (λ z _ e. had_if (waiting_count by_plain z == before) (λ _. had_done e) (λ _. had_ask (λ _. had_done e)))
+ended_same before s = asks_had (ended_asks by_plain (λ z. core_of z ≡ core_of s) (λ z t e. e) before s refl)
 
 -- What a loss of a side leaves
 
@@ -306,19 +259,9 @@ module _ (P : Core → Type 0) (hard : (c : Core) (t : ℕ) → P c → loose_at
 
 -- Behind a write that is done
 
-slot_same : (s : MarksStore) (t : ℕ) (o : Option ℕ) → Had (slot_freed by_plain s t o) (λ y (_ : Unit {0}). core_of y ≡ core_of s)
-slot_same s t None = had_done refl
-slot_same s t (Some slot) = had_ask (λ _. had_done refl)
-
 pub done_same : (s : MarksStore) (t : ℕ) (i : Image) (bypass : Bool) → Had (write_done by_plain s t i bypass) (λ y (_ : Unit {0}). core_of y ≡ core_of s)
-unfolding W.write_done
 done_same s t i bypass =
-    had_if (is_some (frame_at s t))
-    (λ _. had_if bypass
-    (λ _. had_ask (λ _. had_weaker (slot_same (with_frame s t None) t (slot_in by_plain (patch_at s t))) (λ y _ e. e ∙ framed_same s t None)))
-    (λ _. had_ask (λ _. had_weaker (slot_same (with_frame s t (Some false)) t (slot_in by_plain (patch_at s t))) (λ y _ e. e ∙ framed_same s t
-    (Some false)))))
-    (λ _. slot_same s t (slot_in by_plain (patch_at s t)))
+    asks_had (done_asks by_plain (λ z. core_of z ≡ core_of s) (λ z q o e. framed_same z q o ∙ e) (λ z q e. e) s t i bypass refl)
 
 abbrev pub opened_half : ℕ → Origin → Option (HalfWrite (Unit {0}))
 opened_half t origin = Some (record { track = t; origin = origin; image = tt })

@@ -1,5 +1,5 @@
 -- Parts of an event that move nothing, and the transfers of those that do.
-use Rattle.std.proofs.Common.{◌≡◌, ◌≤◌, ◌+◌, ℕ, zero, suc, Bool, true, false, Option, Some, None, is_some, refl, sym, ap, subst, ◌∙◌, arith}
+use Rattle.std.proofs.Common.{◌≡◌, ◌≤◌, ◌+◌, ℕ, zero, suc, Bool, true, false, Option, Some, None, refl, sym, ap, subst, ◌∙◌, arith}
 use Rattle.std.specs.Prelude.{if◌then◌else◌}
 use Rattle.ckd_types.specs.declared.paths.Side.{Side}
 use Rattle.ckd_types.specs.declared.paths.Side.TheVariants.{A, B}
@@ -8,7 +8,7 @@ use Rattle.loss_model.specs.declared.Loss.{Loss}
 use Rattle.track_image.specs.Image.{Image}
 use Rattle.device_outside.specs.Interaction.{Interaction, Done, Try, Ask, Read, Write, Tell, and_then}
 use Rattle.device_outside.specs.Keeper.{ReplyTo}
-use Rattle.device_outside.specs.Pool.{AnswerTo}
+use Rattle.device_outside.specs.Pool.{Call, AnswerTo}
 use Rattle.device_defs.specs.declared.answers.Choice.{Choice}
 use Rattle.device_defs.specs.declared.answers.Choice.TheVariants.{Provisional, Fast, Through}
 use Rattle.device_defs.specs.declared.usage.Usage.{Usage}
@@ -18,25 +18,10 @@ use Rattle.device_defs.specs.Editing.{write_by}
 use Rattle.device_defs.specs.Events.{with_loss, lost_by, losing}
 use Rattle.device_defs.specs.Losses as L
 use Rattle.device_defs.specs.Losses.{firm_told, all_firm_told, side_lost, call_failed}
-use Rattle.device_defs.specs.Owed as O
-use Rattle.device_defs.specs.Owed.{heard, hear, dropped_told, freed_told, modified_told, settles_debt, track_told, all_told, waiting_told, ended, dropped}
+use Rattle.device_defs.specs.Owed.{hear, ended}
 use Rattle.device_defs.specs.Second as D
 use Rattle.device_defs.specs.Second.{half_image_of, closed, finished, second_done, second_absent, second_by, second_part}
-use Rattle.device_defs.specs.Store.{
-  Origin,
-  OfCommand,
-  OfCut,
-  OfBackground,
-  HalfWrite,
-  Store,
-  tracks_of,
-  takes_b,
-  has_level,
-  owed_at,
-  frame_at,
-  with_owed,
-  no_debt,
-}
+use Rattle.device_defs.specs.Store.{Origin, OfCommand, OfCut, OfBackground, HalfWrite, Store, tracks_of, takes_b, has_level}
 use Rattle.device_defs.specs.Transfers as M
 use Rattle.device_defs.specs.Transfers.{Moves, FirstPart, SecondPart, InCache, Loss as LossPart, both, one_or_both, Within, Makes}
 use Rattle.device_defs.specs.Writing as V
@@ -51,11 +36,11 @@ use Rattle.device_defs.specs.Writing.{
   write_first,
   tried_b,
   write_second,
-  slot_freed,
   unpatched,
   done_by,
   write_done,
 }
+use Rattle.device_laws.proofs.PoolWalks.{AsksPool, asks_done, asks_ask, hear_asks, ended_asks, asks_try, done_asks}
 
 -- It moves nothing
 pub data Quiet {R I S A : Type 0} : Interaction R I S A → Type 0 where
@@ -83,6 +68,11 @@ quiet_moves q r w (Ask call k) (quiet_ask f) x = λ a. quiet_moves q r w (k a) (
 quiet_moves q r w (Tell m k) (quiet_tell f) x = λ a. quiet_moves q r w (k a) (f a) x
 quiet_moves q r w (Read side t k) f x = elim f [ ]
 quiet_moves q r w (Write side t b k) f x = elim f [ ]
+
+pub asks_quiet : {R I S A : Type 0} {may : Call → Type 0} {q : S → A → Type 0} {i : Interaction R I S A} → AsksPool may q i → Quiet i
+asks_quiet (asks_done x) = quiet_done
+asks_quiet (asks_try x) = quiet_try (λ ok. asks_quiet (x ok))
+asks_quiet (asks_ask m x) = quiet_ask (λ a. asks_quiet (x a))
 
 -- one, and then another that moves nothing
 pub then_quiet : {R I S A T B : Type 0} (q : ℕ → ℕ → Type 0) (r w : ℕ) (i : Interaction R I S A) (f : S → A → Interaction R I T B) → Moves q r w i →
@@ -118,43 +108,11 @@ module _ {F P H R : Type 0} (c : Contents F P H R) where
 
   -- Notices, and what is told
 
-  noted : (n : ℕ) (s : Store F P H) (note : Option ℕ) → ((z : Store F P H) → Talks (hear c n z)) → Talks (heard c (hear c n) s note)
-  noted n s None more = quiet_done
-  noted n s (Some t) more = more (dropped c s t)
-
   pub hear_quiet : (n : ℕ) (s : Store F P H) → Talks (hear c n s)
-  unfolding O.hear
-  hear_quiet zero s = quiet_done
-  hear_quiet (suc n) s = quiet_ask (λ note. noted n s note (hear_quiet n))
-
-  freed_quiet : (s : Store F P H) (o : Option ℕ) → Talks (freed_told c s o)
-  freed_quiet s None = quiet_done
-  freed_quiet s (Some slot) = quiet_ask (λ _. quiet_done)
-
-  modified_quiet : (t : ℕ) (s : Store F P H) → Talks (modified_told c t s)
-  modified_quiet t s = quiet_if _ (quiet_ask (λ _. quiet_done)) quiet_done
-
-  drop_quiet : (t : ℕ) (s : Store F P H) → Talks (dropped_told c t s)
-  drop_quiet t s = quiet_if _ (quiet_ask (λ _. quiet_done)) quiet_done
-
-  debt_quiet : (t : ℕ) (s : Store F P H) → Talks (settles_debt c t s)
-  debt_quiet t s =
-      quiet_then (λ z _. and_then (dropped_told c t z) (λ y _. and_then (freed_told c y (owed_at y t).freed) (λ x _. Done (with_owed x t no_debt) (tt {0}))))
-      (modified_quiet t s)
-      (λ z _. quiet_then (λ y _. and_then (freed_told c y (owed_at y t).freed) (λ x _. Done (with_owed x t no_debt) (tt {0}))) (drop_quiet t z)
-      (λ y _. quiet_then (λ x _. Done (with_owed x t no_debt) (tt {0})) (freed_quiet y (owed_at y t).freed) (λ x _. quiet_done)))
-
-  told_quiet : (t : ℕ) (s : Store F P H) → Talks (track_told c t s)
-  told_quiet t s = quiet_if (O.is_owed c (owed_at s t)) (debt_quiet t s) quiet_done
-
-  all_told_quiet : (n : ℕ) (s : Store F P H) → Talks (all_told c n s)
-  unfolding O.all_told
-  all_told_quiet zero s = quiet_done
-  all_told_quiet (suc n) s = quiet_then (λ z _. track_told c n z) (all_told_quiet n s) (λ z _. told_quiet n z)
+  hear_quiet n s = asks_quiet (hear_asks c (λ z. Unit {0}) (λ z t clean f. f) n s tt)
 
   pub ended_quiet : (before : ℕ) (s : Store F P H) → Talks (ended c before s)
-  ended_quiet before s =
-      quiet_then (λ z _. waiting_told c before z) (all_told_quiet (tracks_of s) s) (λ z _. quiet_if _ quiet_done (quiet_ask (λ _. quiet_done)))
+  ended_quiet before s = asks_quiet (ended_asks c (λ z. Unit {0}) (λ z t f. f) before s tt)
 
   -- Losses, failed calls and cuts
 
@@ -180,16 +138,8 @@ module _ {F P H R : Type 0} (c : Contents F P H R) where
 
   -- A write that is done, and one in the cache
 
-  slot_quiet : (s : Store F P H) (t : ℕ) (o : Option ℕ) → Talks (slot_freed c s t o)
-  slot_quiet s t None = quiet_done
-  slot_quiet s t (Some slot) = quiet_ask (λ _. quiet_done)
-
   pub done_quiet : (s : Store F P H) (t : ℕ) (i : Image) (bypass : Bool) → Talks (write_done c s t i bypass)
-  unfolding V.write_done
-  done_quiet s t i bypass =
-      quiet_if (is_some (frame_at s t))
-      (quiet_if bypass (quiet_ask (λ _. slot_quiet _ t _)) (quiet_ask (λ _. slot_quiet _ t _)))
-      (slot_quiet s t _)
+  done_quiet s t i bypass = asks_quiet (done_asks c (λ z. Unit {0}) (λ z q o f. f) (λ z q f. f) s t i bypass tt)
 
   whole_quiet : (s : Store F P H) (t : ℕ) (i : Image) (bypass : Bool) → Talks (finished c s t i bypass)
   whole_quiet s t i bypass = quiet_then (λ z _. Done z true) (done_quiet s t i bypass) (λ z _. quiet_done)

@@ -9,9 +9,7 @@ use Rattle.device_outside.specs.Pool.{Call, AnswerTo, answer, after}
 use Rattle.device_outside.specs.Told as T
 use Rattle.device_outside.specs.Told.{Told, hold, calls_of, read_fails, write_fails, read_counted, write_counted}
 use Rattle.device_defs.specs.Memory.{tried}
-use Rattle.device_laws.proofs.Always as A
-use Rattle.device_laws.proofs.Always.{Behind, Always}
-use Rattle.device_laws.proofs.Based.{Base, Based, read_base, write_base, based_done, based_try, based_ask, based_read, based_write, based_tell}
+use Rattle.device_laws.proofs.Based.{Base, Based, based_done, based_try, based_ask, based_read, based_write, based_tell}
 use Rattle.device_laws.proofs.Had as M
 use Rattle.device_laws.proofs.Had.{BehindHad, Had, held}
 use Rattle.device_laws.proofs.Lucky.{

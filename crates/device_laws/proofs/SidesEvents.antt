@@ -24,11 +24,10 @@ use Rattle.std.proofs.Common.{
   ap,
   subst,
   ◌∙◌,
-  arith,
 }
-use Rattle.std.proofs.lemmas.Bool.{eqb-false, eq-eqb}
+use Rattle.std.proofs.lemmas.Bool.{eqb-false}
 use Rattle.std.proofs.lemmas.List.{get_or-set_other}
-use Rattle.std.specs.Prelude.{not, if◌then◌else◌, ◌&&◌, ◌||◌}
+use Rattle.std.specs.Prelude.{not, if◌then◌else◌, ◌||◌}
 use Rattle.ckd_chain.specs.declared.progress.Progress.{Progress}
 use Rattle.ckd_chain.specs.declared.progress.Progress.TheVariants as progresses
 use Rattle.ckd_chain.specs.declared.progress.Settled.TheVariants.{Equipment}
@@ -44,8 +43,6 @@ use Rattle.plain_defs.specs.History.{OpenEntry, has_used}
 use Rattle.plain_device.specs.Acted.{settled_act, paths_behind}
 use Rattle.track_image.specs.Image.{Image, edited_image}
 use Rattle.device_outside.specs.Interaction.{Interaction, Done, and_then}
-use Rattle.device_outside.specs.declared.port.SlotGrant.{SlotGrant}
-use Rattle.device_outside.specs.declared.port.SlotGrant.TheVariants as grants
 use Rattle.device_defs.specs.declared.answers.Choice.{Choice}
 use Rattle.device_defs.specs.declared.answers.Choice.TheVariants.{Provisional, Fast, Through}
 use Rattle.device_defs.specs.declared.answers.Did.{Did}
@@ -79,8 +76,7 @@ use Rattle.device_defs.specs.Background.{
   recover_first,
   work,
 }
-use Rattle.device_defs.specs.Choosing as G
-use Rattle.device_defs.specs.Choosing.{slot_by, fast_by, may_be_fast, fast_or_through, choose_loose, choose_firm, choose, provisionally_written}
+use Rattle.device_defs.specs.Choosing.{choose}
 use Rattle.device_defs.specs.Command as N
 use Rattle.device_defs.specs.Command.{
   Went,
@@ -103,7 +99,7 @@ use Rattle.device_defs.specs.Command.{
 use Rattle.device_defs.specs.Contents.{Contents}
 use Rattle.device_defs.specs.Cutting as U
 use Rattle.device_defs.specs.Cutting.{half_cut, half_ended, half_lost, loose_gone, powerless, powered_off, path_cut, reset_by, reset, power}
-use Rattle.device_defs.specs.Device.{Device, with_store, event_begun, event_ended, quiet_event, event}
+use Rattle.device_defs.specs.Device.{Device, with_store, event_begun, quiet_event, event}
 use Rattle.device_defs.specs.Editing as E
 use Rattle.device_defs.specs.Editing.{
   another_loose,
@@ -122,7 +118,7 @@ use Rattle.device_defs.specs.Editing.{
 use Rattle.device_defs.specs.Effects.{loosened, hardened, gone_back, loose_lost, with_loose_edit}
 use Rattle.device_defs.specs.Events as V
 use Rattle.device_defs.specs.Events.{with_loss, lost_by, losing, lose, command_ended, second_turn, second_ended, second_of, second, background}
-use Rattle.device_defs.specs.Image.{Got, Imaged, Has, NoBytes, BadTrack, read_counted, image_of, image}
+use Rattle.device_defs.specs.Image.{Got, Imaged, Has, NoBytes, BadTrack, read_counted, image_of}
 use Rattle.device_defs.specs.Losses as L
 use Rattle.device_defs.specs.Losses.{
   without_frame,
@@ -139,11 +135,11 @@ use Rattle.device_defs.specs.Losses.{
   all_firm_told,
   call_failed,
 }
-use Rattle.device_defs.specs.Memory.{tried, had_by}
+use Rattle.device_defs.specs.Memory.{had_by}
 use Rattle.device_defs.specs.Orders as K
 use Rattle.device_defs.specs.Orders.{with_tracks, lent_to, given_up, lend}
-use Rattle.device_defs.specs.Outcomes.{Turn, ends_with, settles, checks, usage_of, turned}
-use Rattle.device_defs.specs.Owed.{is_clean, hear, waiting_count, ended}
+use Rattle.device_defs.specs.Outcomes.{Turn, ends_with, settles, checks, usage_of}
+use Rattle.device_defs.specs.Owed.{is_clean, hear, waiting_count}
 use Rattle.device_defs.specs.Second as D
 use Rattle.device_defs.specs.Second.{closed, half_image_of, finished, second_done, cut_kept, left_by, second_by, second_part}
 use Rattle.device_defs.specs.Store.{
@@ -224,6 +220,7 @@ use Rattle.device_laws.proofs.SidesKept.{
 }
 use Rattle.device_laws.proofs.Unlost.{clear}
 use Rattle.device_laws.proofs.WholeEvents.{turned_same}
+use Rattle.device_laws.proofs.PoolWalks.{asks_always, choose_asks}
 
 -- Changes of a store with no open half write
 
@@ -370,24 +367,8 @@ module _ {F P H R : Type 0} (c : Contents F P H R) where
       (always_tell (λ ok. always_if ok (written_keeps s u first t old e choice f) (unchosen_keeps s t choice f)))
       (written_keeps s u first t old e choice f)
 
-  slot_keeps : (s : Store F P H) (t : ℕ) (grant : SlotGrant) → NoHalf s → Shut (slot_by c s t grant)
-  slot_keeps s t (grants.Given slot) f =
-      always_ask (λ listed. always_if listed (always_done f) (always_ask (λ _. always_done f)))
-  slot_keeps s t grants.Denied f = always_done f
-  slot_keeps s t grants.Down f = always_done f
-
-  fast_keeps : (s : Store F P H) (u : Usage) (t : ℕ) → NoHalf s → Shut (fast_or_through c s u t)
-  fast_keeps s u t f =
-      always_if (may_be_fast c s u t)
-      (always_if (is_some (patch_at s t)) (always_ask (λ listed. always_done f)) (always_ask (λ grant. slot_keeps s t grant f))) (always_done f)
-
   choose_keeps : (s : Store F P H) (u : Usage) (t : ℕ) → NoHalf s → Shut (choose c s u t)
-  unfolding G.choose
-  choose_keeps s u t f =
-      always_if (is_loose s t)
-      (always_if u.provisional (always_ask (λ listed. always_done f)) (always_done f))
-      (always_if (u.provisional && is_clean c (frame_at s t))
-      (always_ask (λ listed. always_if listed (always_done f) (fast_keeps s u t f))) (fast_keeps s u t f))
+  choose_keeps s u t f = asks_always (choose_asks c NoHalf s u t f)
 
   write_keeps : (s : Store F P H) (u : Usage) (first t : ℕ) (old : Image) (e : Edit) → NoHalf s → Steered (write c s u first t old e)
   unfolding E.write

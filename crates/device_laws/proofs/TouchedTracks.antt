@@ -1,35 +1,9 @@
 -- A command ends with no equipment check where no call fails, no track that it looks at is lost, some side takes writes if it is one, and no data of
 -- its program were lost.
-use Rattle.std.proofs.Common.{
-  ◌≡◌,
-  ◌<◌,
-  ◌≤◌,
-  ◌+◌,
-  ◌*◌,
-  zero,
-  suc,
-  ℕ,
-  Bool,
-  true,
-  false,
-  List,
-  [],
-  ◌∷◌,
-  Option,
-  Some,
-  None,
-  get_or,
-  refl,
-  sym,
-  ap,
-  subst,
-  ◌∙◌,
-  arith,
-}
+use Rattle.std.proofs.Common.{◌≡◌, ◌<◌, ◌≤◌, ◌+◌, ◌*◌, zero, suc, ℕ, Bool, true, false, List, Option, Some, None, get_or, refl, sym, ap, subst, ◌∙◌, arith}
 use Rattle.std.specs.Prelude.{◌||◌}
 use Rattle.ckd_chain.specs.declared.mark.Stage.{Stage}
 use Rattle.ckd_chain.specs.declared.mark.Stage.TheVariants as stages
-use Rattle.ckd_chain.specs.declared.progress.Progress.TheVariants as progresses
 use Rattle.ckd_chain.specs.State.{ChainState}
 use Rattle.ckd_chain.specs.Steps.{
   begin_with,
@@ -57,9 +31,7 @@ use Rattle.ckd_rules.specs.Look.{look_on}
 use Rattle.ckd_rules.specs.Looked.{Looked}
 use Rattle.ckd_rules.specs.Walk as K
 use Rattle.ckd_rules.specs.Walk.{Walked, walked, walk}
-use Rattle.ckd_types.specs.declared.channel.Ccw.{Ccw}
 use Rattle.ckd_types.specs.declared.geometry.Geometry.{Geometry}
-use Rattle.ckd_types.specs.declared.record.Edit.{Edit}
 use Rattle.ckd_types.specs.declared.record.Track.{Track}
 use Rattle.ckd_types.specs.Commands.{command_of}
 use Rattle.ckd_types.specs.Volume.{track_in}
@@ -67,8 +39,7 @@ use Rattle.plain_defs.specs.Effect.{Effect}
 use Rattle.plain_defs.specs.History.{OpenEntry, plain_of}
 use Rattle.plain_defs.specs.PlainState.{PlainState}
 use Rattle.track_image.specs.Image.{Image}
-use Rattle.device_outside.specs.Interaction.{Interaction, Done, and_then}
-use Rattle.device_defs.specs.declared.answers.Stepped.{Stepped as StepEnd}
+use Rattle.device_outside.specs.Interaction.{Interaction, Done}
 use Rattle.device_defs.specs.declared.answers.Took.{Took}
 use Rattle.device_defs.specs.Command as N
 use Rattle.device_defs.specs.Command.{
@@ -90,18 +61,18 @@ use Rattle.device_defs.specs.Command.{
 use Rattle.device_defs.specs.Contents.{by_plain}
 use Rattle.device_defs.specs.Device.{event_begun, event_ended}
 use Rattle.device_defs.specs.Excused.{is_write, has_lost}
-use Rattle.device_defs.specs.Image.{Imaged, Has, NoBytes, BadTrack, image}
+use Rattle.device_defs.specs.Image.{Imaged, Has, NoBytes, BadTrack}
 use Rattle.device_defs.specs.Marks.{MarksDevice, MarksStore}
 use Rattle.device_defs.specs.Memory.{had_by}
 use Rattle.device_defs.specs.Outcomes.{Turn, usage_of}
-use Rattle.device_defs.specs.Owed.{begun, hear, waiting_count, ended as event_end}
+use Rattle.device_defs.specs.Owed.{begun, waiting_count, ended as event_end}
 use Rattle.device_defs.specs.Store.{tracks_of, is_lost, half_is}
 use Rattle.device_laws.specs.Standing.{IsWithin}
 use Rattle.device_laws.specs.Unharmed.{some_takes}
 use Rattle.device_laws.proofs.ChainFeeds.{begun_stage, need_at, need_is}
 use Rattle.device_laws.proofs.ChainTracks.{within_stays, whole_cylinders}
 use Rattle.device_laws.proofs.Commands.{Stays, LookedAt, look_keeps_good}
-use Rattle.device_laws.proofs.FailedCall.{IsWell, goes_same, goes_on as well_on, Goes as WellGoes}
+use Rattle.device_laws.proofs.FailedCall.{IsWell, goes_same, goes_on as well_on}
 use Rattle.device_laws.proofs.LossEvents.{begun_same}
 use Rattle.device_laws.proofs.Lucky.{lucky_try, lucky_if, lucky_done, with_always}
 use Rattle.device_laws.proofs.Notices.{hearing_keeps_good}
@@ -115,7 +86,6 @@ use Rattle.device_laws.proofs.Served.{Served, served_done, served_then, served_b
 use Rattle.device_laws.proofs.TrackMarks.{marks_are_faithful}
 use Rattle.device_laws.proofs.Unchecked.{HasBytes, WasTaken, NoCheck, TurnSo, lucky_any, lucky_both, image_has, write_taken, wrote_so, takes_still}
 use Rattle.device_laws.proofs.UncheckedEvents.{equipment_checks, stage_none, on_has, answered_has}
-use Rattle.device_laws.proofs.Unlost.{core_of}
 use Rattle.device_laws.proofs.UnlostEvents.{look_goes}
 use Rattle.device_laws.proofs.UnlostParts.{hear_goes, image_goes}
 use Rattle.device_laws.proofs.WholeImage.{Reaches, image_keeps_good}

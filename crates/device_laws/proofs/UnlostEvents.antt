@@ -1,6 +1,6 @@
 -- An event in which no call fails loses no track, where the marks are good.
 use Rattle.std.proofs.Common.{◌≡◌, ◌<◌, ◌*◌, ◌==◌, zero, suc, ℕ, Bool, true, false, Option, Some, None, refl, sym, ap, subst, ◌∙◌, arith, ◌⊎◌, inl, inr}
-use Rattle.std.specs.Prelude.{if◌then◌else◌, ◌&&◌, ◌||◌, not}
+use Rattle.std.specs.Prelude.{◌&&◌, ◌||◌, not}
 use Rattle.ckd_chain.specs.declared.progress.Progress.{Progress}
 use Rattle.ckd_chain.specs.declared.progress.Progress.TheVariants as progresses
 use Rattle.ckd_chain.specs.declared.progress.Settled.TheVariants.{Equipment}
@@ -40,8 +40,7 @@ use Rattle.device_defs.specs.Events.{second_turn, command_ended, second_ended, s
 use Rattle.device_defs.specs.Image.{Imaged, Has, NoBytes, BadTrack}
 use Rattle.device_defs.specs.Memory.{had_by}
 use Rattle.device_defs.specs.Outcomes.{Turn, ends_with, settles, checks, usage_of}
-use Rattle.device_defs.specs.Owed as O
-use Rattle.device_defs.specs.Owed.{is_clean, heard, hear, all_told, waiting_count, waiting_told, ended}
+use Rattle.device_defs.specs.Owed.{hear, waiting_count, waiting_told, ended}
 use Rattle.device_defs.specs.Store.{
   Origin,
   OfCommand,
@@ -54,14 +53,12 @@ use Rattle.device_defs.specs.Store.{
   level_at,
   has_level,
   takes_b,
-  frame_at,
   is_lost,
   half_is,
-  with_frame,
 }
 use Rattle.device_laws.specs.Standing.{IsWithin, IsChainOf}
 use Rattle.device_laws.specs.Unharmed.{MarksAreGood, HalfIsTried}
-use Rattle.device_laws.proofs.Always.{Always, always_done, always_ask, always_weaker}
+use Rattle.device_laws.proofs.Always.{Always}
 use Rattle.device_laws.proofs.Changes as C
 use Rattle.device_laws.proofs.Changes.{rest_of}
 use Rattle.device_laws.proofs.ChainTracks.{within_stays, whole_cylinders}
@@ -72,6 +69,7 @@ use Rattle.device_laws.proofs.LossEvents.{begun_same}
 use Rattle.device_laws.proofs.Lucky.{Lucky, lucky_done, lucky_try, lucky_ask, lucky_then, lucky_weaker, lucky_if, lucky_tried, with_always}
 use Rattle.device_laws.proofs.Notices.{hearing_keeps_good}
 use Rattle.device_laws.proofs.OrdersStand.{chain_stands}
+use Rattle.device_laws.proofs.PoolWalks.{asks_always, hear_asks}
 use Rattle.device_laws.proofs.Soundness.{sound_is_good}
 use Rattle.device_laws.proofs.Sweeps.{IsHere}
 use Rattle.device_laws.proofs.TrackMarks as M
@@ -279,19 +277,9 @@ module _ {F P H R : Type 0} (c : Contents F P H R) where
     b : z.b ≡ s.b
     held : z.held ≡ s.held
 
-  heard_sides : (n : ℕ) (s : Store F P H) (note : Option ℕ) → ((z : Store F P H) → Always (hear c n z) (λ y _. SameSides z y)) →
-      Always (heard c (hear c n) s note) (λ y _. SameSides s y)
-  heard_sides n s None more = always_done (record { a = refl; b = refl; held = refl })
-  heard_sides n s (Some t) more = by_clean (is_clean c (frame_at s t))
-    where
-      by_clean : (b : Bool) → Always (hear c n (if b then with_frame s t None else s)) (λ y _. SameSides s y)
-      by_clean true = always_weaker (more (with_frame s t None)) (λ y _ f. record { a = f.a; b = f.b; held = f.held })
-      by_clean false = more s
-
   hear_sides : (n : ℕ) (s : Store F P H) → Always (hear c n s) (λ y _. SameSides s y)
-  unfolding O.hear
-  hear_sides zero s = always_done (record { a = refl; b = refl; held = refl })
-  hear_sides (suc n) s = always_ask (λ note. heard_sides n s note (hear_sides n))
+  hear_sides n s =
+      asks_always (hear_asks c (SameSides s) (λ z t clean f. record { a = f.a; b = f.b; held = f.held }) n s (record { a = refl; b = refl; held = refl }))
 
   tried_still : (s z : Store F P H) (t : ℕ) → SameSides s z → (takes_b s ≡ true) ⊎ (has_level s t ≡ true) → (takes_b z ≡ true) ⊎ (has_level z t ≡ true)
   tried_still s z t f (inl takes) =

@@ -3,8 +3,6 @@ use Rattle.std.proofs.Common.{
   ◌≡◌,
   ◌<◌,
   ◌+◌,
-  zero,
-  suc,
   ℕ,
   Bool,
   true,
@@ -30,14 +28,11 @@ use Rattle.std.proofs.Common.{
 }
 use Rattle.track_table.specs.Tracks.{least}
 use Rattle.std.specs.Prelude.{if◌then◌else◌, ◌&&◌, ◌||◌, not, length, nat_le, nat_lt}
-use Rattle.ckd_types.specs.declared.parameters.Mode.{Mode}
 use Rattle.ckd_types.specs.declared.paths.Side.{Side}
 use Rattle.ckd_types.specs.declared.paths.Side.TheVariants as sides
 use Rattle.ckd_types.specs.declared.record.Edit.{Edit}
 use Rattle.ckd_types.specs.Parameters.{is_bypass}
 use Rattle.track_image.specs.Image.{Image, edited_image}
-use Rattle.device_outside.specs.declared.port.SlotGrant.{SlotGrant}
-use Rattle.device_outside.specs.declared.port.SlotGrant.TheVariants as grants
 use Rattle.device_outside.specs.Interaction.{Interaction, Done, and_then}
 use Rattle.device_defs.specs.declared.answers.Choice.{Choice}
 use Rattle.device_defs.specs.declared.answers.Choice.TheVariants.{Provisional, Fast, Through}
@@ -74,18 +69,7 @@ use Rattle.device_defs.specs.Background.{
   recover_first,
   work,
 }
-use Rattle.device_defs.specs.Choosing as G
-use Rattle.device_defs.specs.Choosing.{
-  slot_by,
-  fast_by,
-  may_be_fast,
-  fast_or_through,
-  choose_loose,
-  choose_firm,
-  choose,
-  fast_written,
-  provisionally_written,
-}
+use Rattle.device_defs.specs.Choosing.{choose, provisionally_written}
 use Rattle.device_defs.specs.Contents.{Contents}
 use Rattle.device_defs.specs.Editing as E
 use Rattle.device_defs.specs.Editing.{
@@ -108,7 +92,6 @@ use Rattle.device_defs.specs.Image as I
 use Rattle.device_defs.specs.Image.{
   Got,
   Imaged,
-  Has,
   first_fault,
   read_side,
   second_read,
@@ -117,12 +100,9 @@ use Rattle.device_defs.specs.Image.{
   level_bytes,
   image_of,
   is_sequential,
-  loads,
   queued,
   ahead,
   filled,
-  loaded,
-  delivered,
   missed,
   miss,
   hit,
@@ -130,23 +110,8 @@ use Rattle.device_defs.specs.Image.{
   image_by,
   image,
 }
-use Rattle.device_defs.specs.Losses.{slot_in, settled, framed_image}
-use Rattle.device_defs.specs.Owed as O
-use Rattle.device_defs.specs.Owed.{
-  is_owed,
-  is_clean,
-  is_modified,
-  dropped,
-  heard,
-  hear,
-  modified_told,
-  dropped_told,
-  freed_told,
-  settles_debt,
-  waits,
-  track_told,
-  all_told,
-}
+use Rattle.device_defs.specs.Losses.{settled, framed_image}
+use Rattle.device_defs.specs.Owed.{is_clean, hear, waits, all_told}
 use Rattle.device_defs.specs.Second as D
 use Rattle.device_defs.specs.Second.{
   half_image_of,
@@ -166,7 +131,6 @@ use Rattle.device_defs.specs.Store.{
   OfBackground,
   HalfWrite,
   Store,
-  no_debt,
   tracks_of,
   stale_at,
   level_at,
@@ -174,13 +138,10 @@ use Rattle.device_defs.specs.Store.{
   some_up,
   takes_b,
   frame_at,
-  patch_at,
   is_lost,
   is_loose,
-  owed_at,
   with_stale,
   with_frame,
-  with_owed,
 }
 use Rattle.device_defs.specs.Writing as V
 use Rattle.device_defs.specs.Writing.{
@@ -198,14 +159,13 @@ use Rattle.device_defs.specs.Writing.{
   write_first,
   tried_b,
   write_second,
-  slot_freed,
-  unpatched,
   done_by,
   write_done,
   opened,
 }
 use Rattle.device_laws.proofs.Always.{Always}
 use Rattle.device_laws.proofs.FailedCall.{IsWell}
+use Rattle.device_laws.proofs.PoolWalks.{asks_lucky, hear_asks, told_asks, filled_asks, missed_asks, choose_asks, done_asks}
 use Rattle.device_laws.proofs.TrackImage.{level_bytes_keeps_good}
 use Rattle.device_laws.proofs.TrackMarks.{IsFaithful}
 use Rattle.device_laws.proofs.Writes.{is_taken, firm_first_keeps_good, write_first_keeps_good}
@@ -265,44 +225,11 @@ module _ {F P H R : Type 0} (c : Contents F P H R) where
 
   -- Notices, and what is told
 
-  heard_goes : (n : ℕ) (s : Store F P H) (note : Option ℕ) → ((z : Store F P H) → Goes z (hear c n z)) → Goes s (heard c (hear c n) s note)
-  heard_goes n s None more = lucky_done (fine (core_of s))
-  heard_goes n s (Some t) more = by_clean (is_clean c (frame_at s t))
-    where
-      by_clean : (b : Bool) → Goes s (hear c n (if b then with_frame s t None else s))
-      by_clean true = more (with_frame s t None)
-      by_clean false = more s
-
   pub hear_goes : (n : ℕ) (s : Store F P H) → Goes s (hear c n s)
-  unfolding O.hear
-  hear_goes zero s = lucky_done (fine (core_of s))
-  hear_goes (suc n) s = lucky_ask (λ note. heard_goes n s note (hear_goes n))
-
-  freed_goes : (s : Store F P H) (o : Option ℕ) → Goes s (freed_told c s o)
-  freed_goes s None = lucky_done (fine (core_of s))
-  freed_goes s (Some slot) = lucky_ask (λ _. lucky_done (fine (core_of s)))
-
-  modified_goes : (t : ℕ) (s : Store F P H) → Goes s (modified_told c t s)
-  modified_goes t s = lucky_if ((owed_at s t).modified && is_modified c (frame_at s t)) (λ _. lucky_ask (λ _. lucky_done (fine (core_of s))))
-      (λ _. lucky_done (fine (core_of s)))
-
-  drop_goes : (t : ℕ) (s : Store F P H) → Goes s (dropped_told c t s)
-  drop_goes t s = lucky_if (owed_at s t).dropped (λ _. lucky_ask (λ _. lucky_done (fine (core_of s)))) (λ _. lucky_done (fine (core_of s)))
-
-  debt_goes : (t : ℕ) (s : Store F P H) → Goes s (settles_debt c t s)
-  debt_goes t s =
-      goes_then s (λ z _. and_then (dropped_told c t z) (λ y _. and_then (freed_told c y (owed_at y t).freed) (λ x _. Done (with_owed x t no_debt) (tt {0}))))
-      (modified_goes t s)
-      (λ z _. goes_then z (λ y _. and_then (freed_told c y (owed_at y t).freed) (λ x _. Done (with_owed x t no_debt) (tt {0}))) (drop_goes t z)
-      (λ y _. goes_then y (λ x _. Done (with_owed x t no_debt) (tt {0})) (freed_goes y (owed_at y t).freed) (λ x _. lucky_done (fine (core_of x)))))
-
-  told_goes : (t : ℕ) (s : Store F P H) → Goes s (track_told c t s)
-  told_goes t s = lucky_if (is_owed c (owed_at s t)) (λ _. debt_goes t s) (λ _. lucky_done (fine (core_of s)))
+  hear_goes n s = asks_lucky (hear_asks c (λ z. Fine (core_of s) (core_of z)) (λ z t clean f. f) n s (fine (core_of s)))
 
   pub all_told_goes : (n : ℕ) (s : Store F P H) → Goes s (all_told c n s)
-  unfolding O.all_told
-  all_told_goes zero s = lucky_done (fine (core_of s))
-  all_told_goes (suc n) s = goes_then s (λ z _. track_told c n z) (all_told_goes n s) (λ z _. told_goes n z)
+  all_told_goes n s = asks_lucky (told_asks c (λ z. Fine (core_of s) (core_of z)) (λ z t f. f) n s (fine (core_of s)))
 
   -- Images
 
@@ -314,16 +241,7 @@ module _ {F P H R : Type 0} (c : Contents F P H R) where
   level_goes s t = lucky_if (level_at s.a t) (λ _. lucky_read (λ r. lucky_done (fine (core_of s)))) (λ _. read_b_goes s t None)
 
   filled_goes : (s : Store F P H) (t : ℕ) (i : Image) → Goes s (filled c s t i)
-  filled_goes s t i = lucky_if (is_some (patch_at s t)) (λ _. lucky_ask (λ _. lucky_done (fine (core_of s)))) (λ _. lucky_done (fine (core_of s)))
-
-  granted_goes : (s : Store F P H) (t : ℕ) (i : Image) (given : Bool) → Goes s (I.granted c s t i given)
-  granted_goes s t i given =
-      lucky_if given (λ _. goes_then s (λ z _. Done z (Some (Has i))) (filled_goes s t i) (λ z _. lucky_done (fine (core_of z))))
-      (λ _. lucky_done (fine (core_of s)))
-
-  loaded_goes : (s : Store F P H) (t : ℕ) (i : Image) (mode : Mode) → Goes s (loaded c s t i mode)
-  loaded_goes s t i mode =
-      lucky_if (loads mode) (λ _. lucky_tried s _ (fine (core_of s)) (lucky_ask (λ given. granted_goes s t i given))) (λ _. lucky_done (fine (core_of s)))
+  filled_goes s t i = asks_lucky (filled_asks c (λ z. Fine (core_of s) (core_of z)) (λ z q j b is f. f) s t i (fine (core_of s)))
 
   queued_fine : (last : Option ℕ) (s : Store F P H) (t : ℕ) → Fine (core_of s) (core_of (queued last s t))
   queued_fine None s t = fine (core_of s)
@@ -338,14 +256,10 @@ module _ {F P H R : Type 0} (c : Contents F P H R) where
       (queued_fine u.last s (t + 1)) (queued_fine u.last (queued u.last s (t + 1)) (t + 2)))
       (λ _. fine (core_of s))
 
-  delivered_goes : (u : Usage) (t : ℕ) (side : Side) (s : Store F P H) (o : Option Image) → Goes s (delivered c u t side s o)
-  delivered_goes u t side s None = lucky_done (fine (core_of s))
-  delivered_goes u t side s (Some i) =
-      lucky_weaker (loaded_goes (ahead u s t) t i u.mode) (λ y b h. fine_on (core_of s) (core_of (ahead u s t)) (core_of y) (ahead_fine u s t) h)
-
   pub missed_goes : (u : Usage) (t : ℕ) (s : Store F P H) (g : Got R) (o : Option R) → Goes s (missed c u t s g o)
-  missed_goes u t s g None = lucky_done (fine (core_of s))
-  missed_goes u t s g (Some r) = lucky_tried s _ (fine (core_of s)) (delivered_goes u t g.side s (image_of c s t r))
+  missed_goes u t s g o =
+      asks_lucky (missed_asks c (λ z. Fine (core_of s) (core_of z)) (λ z q j b is f. f)
+      (λ v z q f. fine_on (core_of s) (core_of z) (core_of (ahead v z q)) f (ahead_fine v z q)) u t s g o (fine (core_of s)))
 
   miss_goes : (s : Store F P H) (u : Usage) (t : ℕ) → Goes s (miss c s u t)
   miss_goes s u t = goes_then s (λ z g. missed c u t z g g.bytes) (level_goes s t) (λ z g. missed_goes u t z g g.bytes)
@@ -366,44 +280,12 @@ module _ {F P H R : Type 0} (c : Contents F P H R) where
 
   -- Where a write goes
 
-  slot_goes : (s : Store F P H) (t : ℕ) (g : SlotGrant) → Goes s (slot_by c s t g)
-  slot_goes s t (grants.Given slot) =
-      lucky_ask (λ listed. lucky_if listed (λ _. lucky_done (fine (core_of s))) (λ _. lucky_ask (λ _. lucky_done (fine (core_of s)))))
-  slot_goes s t grants.Denied = lucky_done (fine (core_of s))
-  slot_goes s t grants.Down = lucky_done (fine (core_of s))
-
-  fast_goes : (s : Store F P H) (t : ℕ) (patched : Bool) → Goes s (fast_by c s t patched)
-  fast_goes s t patched = lucky_if patched (λ _. lucky_ask (λ listed. lucky_done (fine (core_of s)))) (λ _. lucky_ask (λ g. slot_goes s t g))
-
-  fast_or_goes : (s : Store F P H) (u : Usage) (t : ℕ) → Goes s (fast_or_through c s u t)
-  fast_or_goes s u t = lucky_if (may_be_fast c s u t) (λ _. fast_goes s t (is_some (patch_at s t))) (λ _. lucky_done (fine (core_of s)))
-
-  loose_goes : (s : Store F P H) (u : Usage) (t : ℕ) → Goes s (choose_loose c s u t)
-  loose_goes s u t = lucky_if u.provisional (λ _. lucky_ask (λ listed. lucky_done (fine (core_of s)))) (λ _. lucky_done (fine (core_of s)))
-
-  firm_choice_goes : (s : Store F P H) (u : Usage) (t : ℕ) → Goes s (choose_firm c s u t)
-  firm_choice_goes s u t =
-      lucky_if (u.provisional && is_clean c (frame_at s t))
-      (λ _. lucky_ask (λ listed. lucky_if listed (λ _. lucky_done (fine (core_of s))) (λ _. fast_or_goes s u t))) (λ _. fast_or_goes s u t)
-
   choose_goes : (s : Store F P H) (u : Usage) (t : ℕ) → Goes s (choose c s u t)
-  unfolding G.choose
-  choose_goes s u t = lucky_if (is_loose s t) (λ _. loose_goes s u t) (λ _. firm_choice_goes s u t)
-
-  slot_freed_goes : (s : Store F P H) (t : ℕ) (o : Option ℕ) → Goes s (slot_freed c s t o)
-  slot_freed_goes s t None = lucky_done (fine (core_of s))
-  slot_freed_goes s t (Some slot) = lucky_ask (λ _. lucky_done (fine (core_of s)))
-
-  unpatched_goes : (s : Store F P H) (t : ℕ) → Goes s (unpatched c s t)
-  unpatched_goes s t = slot_freed_goes s t (slot_in c (patch_at s t))
+  choose_goes s u t = asks_lucky (choose_asks c (λ z. Fine (core_of s) (core_of z)) s u t (fine (core_of s)))
 
   done_goes : (s : Store F P H) (t : ℕ) (i : Image) (bypass : Bool) → Goes s (write_done c s t i bypass)
-  unfolding V.write_done
   done_goes s t i bypass =
-      lucky_if (is_some (frame_at s t))
-      (λ _. lucky_if bypass (λ _. lucky_ask (λ _. unpatched_goes (with_frame s t None) t))
-      (λ _. lucky_ask (λ _. unpatched_goes (with_frame s t (Some (c.frame i false))) t)))
-      (λ _. unpatched_goes s t)
+      asks_lucky (done_asks c (λ z. Fine (core_of s) (core_of z)) (λ z q o f. f) (λ z q f. f) s t i bypass (fine (core_of s)))
 
   -- a half write is to be opened where side A took the track and side B takes writes
   abbrev pub MayOpen : Store F P H → ℕ → Type 0

@@ -1,42 +1,11 @@
 -- The loss of a pair's side, or of the store, where everything is repaired: no track is lost.
-use Rattle.std.proofs.Common.{
-  ◌≡◌,
-  ◌≢◌,
-  ◌==◌,
-  zero,
-  suc,
-  ℕ,
-  Bool,
-  true,
-  false,
-  List,
-  [],
-  ◌∷◌,
-  Option,
-  Some,
-  None,
-  is_some,
-  length,
-  set,
-  get_or,
-  option_map,
-  refl,
-  sym,
-  ap,
-  subst,
-  ◌∙◌,
-  ◌⊎◌,
-  inl,
-  inr,
-}
-use Rattle.std.proofs.lemmas.Bool.{cases_eq, eq-eqb}
+use Rattle.std.proofs.Common.{◌≡◌, ◌≢◌, zero, suc, ℕ, Bool, true, false, List, Option, Some, None, is_some, get_or, option_map, refl, sym, ap, subst, ◌∙◌}
+use Rattle.std.proofs.lemmas.Bool.{eq-eqb}
 use Rattle.std.proofs.lemmas.List.{get_or-set_other}
-use Rattle.std.specs.Prelude.{if◌then◌else◌, ◌&&◌, ◌||◌, not}
-use Rattle.ckd_types.specs.declared.paths.Side.{Side}
+use Rattle.std.specs.Prelude.{if◌then◌else◌, ◌||◌}
 use Rattle.ckd_types.specs.declared.paths.Side.TheVariants as sides
 use Rattle.loss_model.specs.declared.Loss.{Loss}
 use Rattle.loss_model.specs.declared.Loss.TheVariants as losses
-use Rattle.track_image.specs.Image.{Image}
 use Rattle.device_outside.specs.Interaction.{Interaction, Done, Try, Ask, Read, Write, Tell, and_then}
 use Rattle.device_defs.specs.Contents.{Contents}
 use Rattle.device_defs.specs.Device.{Device, with_store, event_begun, event_ended}
@@ -57,24 +26,8 @@ use Rattle.device_defs.specs.Losses.{
   store_lost,
   side_lost,
 }
-use Rattle.device_defs.specs.Owed as O
-use Rattle.device_defs.specs.Owed.{is_clean, heard, hear, waiting_count}
-use Rattle.device_defs.specs.Store.{
-  HalfWrite,
-  Store,
-  tracks_of,
-  level_at,
-  has_level,
-  stale_at,
-  takes_b,
-  frame_at,
-  patch_at,
-  is_lost,
-  is_loose,
-  half_is,
-  with_stale,
-  with_frame,
-}
+use Rattle.device_defs.specs.Owed.{heard, hear, waiting_count}
+use Rattle.device_defs.specs.Store.{HalfWrite, Store, tracks_of, has_level, stale_at, takes_b, frame_at, patch_at, is_lost, is_loose, half_is, with_stale}
 use Rattle.device_laws.proofs.Always as A
 use Rattle.device_laws.proofs.Always.{Behind, Always}
 use Rattle.device_laws.proofs.FramesKept.{plates_of, HasFrames, some_still, no_more, hear_framed}
@@ -86,7 +39,7 @@ use Rattle.device_laws.proofs.OneFailedEvents.{hear_same, end_quiet}
 use Rattle.device_laws.proofs.QuietParts.{Quiet, quiet_done, quiet_try, quiet_ask, quiet_tell, quiet_then, hear_quiet, losing_quiet}
 use Rattle.device_laws.proofs.TrackMarks.{IsFaithful}
 use Rattle.device_laws.proofs.Unchecked.{lucky_both}
-use Rattle.device_laws.proofs.Unlost.{Core, core_of, Fine, Steady, steady_on}
+use Rattle.device_laws.proofs.Unlost.{core_of, Steady, steady_on}
 use Rattle.device_laws.proofs.UnlostEvents.{end_goes}
 use Rattle.device_laws.proofs.UnlostParts.{hear_goes}
 

@@ -49,7 +49,6 @@ use Rattle.ckd_rules.specs.Checks.{
   mask_fault,
   is_within,
   first_track,
-  placed_order,
   masked_order,
   permitted_order,
   order_by,

@@ -1,7 +1,6 @@
 -- What the image of a track is: the one in its frame, or that of the bytes of a level side.
 use Rattle.std.proofs.Common.{◌≡◌, ℕ, Bool, true, false, List, Option, Some, None, refl, sym, ap, subst, ◌∙◌}
 use Rattle.std.specs.Prelude.{if◌then◌else◌}
-use Rattle.ckd_types.specs.declared.parameters.Mode.{Mode}
 use Rattle.ckd_types.specs.declared.paths.Side.{Side}
 use Rattle.ckd_types.specs.declared.paths.Side.TheVariants.{A, B}
 use Rattle.ckd_types.specs.Parameters.{is_bypass}
@@ -35,7 +34,6 @@ use Rattle.device_defs.specs.Image.{
   image_of,
   filled,
   granted,
-  loaded,
   delivered,
   missed,
   miss,
@@ -50,8 +48,7 @@ use Rattle.device_defs.specs.Sound.{DeviceStore}
 use Rattle.device_defs.specs.Store.{level_at, frame_at, with_frame}
 use Rattle.device_laws.proofs.Based.{Base, base_of, Hushed, Based, based_ask}
 use Rattle.device_laws.proofs.BasedParts.{level_steady, image_steady}
-use Rattle.device_laws.proofs.QuietParts.{Quiet, quiet_done, quiet_try, quiet_ask, quiet_then, quiet_if}
-use Rattle.device_laws.proofs.ReadMoves.{filled_quiet}
+use Rattle.device_laws.proofs.QuietParts.{Quiet, asks_quiet}
 use Rattle.seen_laws.specs.Seen as seen
 use Rattle.seen_laws.specs.Seen.{NotCalled, LastOf, ReadFrom, ReadNone, IsMissed, IsHit, Saw, SawNone}
 use Rattle.seen_laws.specs.Moved.{Moved, Counted, miss_reads}
@@ -59,22 +56,10 @@ use Rattle.seen_laws.proofs.Counting.{ran_moved}
 use Rattle.seen_laws.proofs.Exact.{LevelBy, level_exact}
 use Rattle.seen_laws.proofs.RanCounts.{counted_from, counted_to, moved_counted, based_rest, quiet_base}
 use Rattle.seen_laws.proofs.RanParts.{split, quiet_ran, same_calls}
-
-granted_quiet : (s : DeviceStore) (t : ℕ) (i : Image) (given : Bool) → Quiet (granted contents s t i given)
-granted_quiet s t i true = quiet_then (λ z _. Done z _) (filled_quiet contents s t i) (λ z _. quiet_done)
-granted_quiet s t i false = quiet_done
-
-loaded_quiet : (s : DeviceStore) (t : ℕ) (i : Image) (mode : Mode) → Quiet (loaded contents s t i mode)
-loaded_quiet s t i mode =
-    quiet_if (loads mode) (quiet_try (λ ok. quiet_if ok (quiet_ask (λ given. granted_quiet s t i given)) quiet_done)) quiet_done
-
-delivered_quiet : (u : Usage) (t : ℕ) (side : Side) (s : DeviceStore) (o : Option Image) → Quiet (delivered contents u t side s o)
-delivered_quiet u t side s None = quiet_done
-delivered_quiet u t side s (Some i) = loaded_quiet (ahead u s t) t i u.mode
+use Rattle.device_laws.proofs.PoolWalks.{missed_asks}
 
 missed_quiet : (u : Usage) (t : ℕ) (s : DeviceStore) (g : Got (List ℕ)) (o : Option (List ℕ)) → Quiet (missed contents u t s g o)
-missed_quiet u t s g None = quiet_done
-missed_quiet u t s g (Some r) = quiet_try (λ ok. quiet_if ok (delivered_quiet u t g.side s (image_of contents s t r)) quiet_done)
+missed_quiet u t s g o = asks_quiet (missed_asks contents (λ z. Unit {0}) (λ z q j b is f. f) (λ v z q f. f) u t s g o tt)
 
 module _ {K : Type 0} (had : Bool → Type 0) (hears : Hearing Image K) where
   abbrev Calls : Type 0

@@ -47,25 +47,11 @@ use Rattle.device_defs.specs.Losses.{
   all_firm_told,
   call_failed,
 }
-use Rattle.device_defs.specs.Owed as O
-use Rattle.device_defs.specs.Owed.{is_clean, heard, hear}
-use Rattle.device_defs.specs.Store.{
-  SideMarks,
-  Store,
-  tracks_of,
-  has_level,
-  takes_b,
-  frame_at,
-  patch_at,
-  is_lost,
-  is_loose,
-  half_is,
-  owed_at,
-  with_frame,
-  with_lost,
-}
+use Rattle.device_defs.specs.Owed.{hear}
+use Rattle.device_defs.specs.Store.{SideMarks, Store, tracks_of, has_level, takes_b, frame_at, patch_at, is_lost, is_loose, half_is, owed_at, with_lost}
 use Rattle.device_defs.specs.Transfers.{both}
-use Rattle.device_laws.proofs.Always.{Always, always_done, always_ask, always_tell, always_then, always_weaker}
+use Rattle.device_laws.proofs.Always.{Always, always_done, always_tell, always_then, always_weaker}
+use Rattle.device_laws.proofs.PoolWalks.{asks_always, hear_asks}
 use Rattle.seen_laws.specs.Moved.{sides_up, sides_writing}
 
 -- a side that takes what is written is up
@@ -219,17 +205,7 @@ module _ {F P H R : Type 0} (c : Contents F P H R) where
 
   -- Notices
 
-  heard_same : (n : ℕ) (s : Store F P H) (note : Option ℕ) → ((z : Store F P H) → Always (hear c n z) (λ y _. Same z y)) →
-      Always (heard c (hear c n) s note) (λ y _. Same s y)
-  heard_same n s None more = always_done (record { a = refl; b = refl; held = refl; half = refl; cylinders = refl })
-  heard_same n s (Some t) more = by_clean (is_clean c (frame_at s t))
-    where
-      by_clean : (b : Bool) → Always (hear c n (if b then with_frame s t None else s)) (λ y _. Same s y)
-      by_clean true =
-          always_weaker (more (with_frame s t None)) (λ y _ e. record { a = e.a; b = e.b; held = e.held; half = e.half; cylinders = e.cylinders })
-      by_clean false = more s
-
   pub hear_same : (n : ℕ) (s : Store F P H) → Always (hear c n s) (λ y _. Same s y)
-  unfolding O.hear
-  hear_same zero s = always_done (record { a = refl; b = refl; held = refl; half = refl; cylinders = refl })
-  hear_same (suc n) s = always_ask (λ note. heard_same n s note (hear_same n))
+  hear_same n s =
+      asks_always (hear_asks c (Same s) (λ z t clean e. record { a = e.a; b = e.b; held = e.held; half = e.half; cylinders = e.cylinders }) n s
+      (record { a = refl; b = refl; held = refl; half = refl; cylinders = refl }))

@@ -14,8 +14,6 @@ use Rattle.ckd_chain.specs.Fed.{Fed, ended_by, fed_image, fed_by, fed}
 use Rattle.ckd_chain.specs.State.{ChainState}
 use Rattle.ckd_chain.specs.Steps.{need_of, stepped, settled_by}
 use Rattle.track_image.specs.Image.{Image, edited_image}
-use Rattle.device_outside.specs.declared.port.SlotGrant.{SlotGrant}
-use Rattle.device_outside.specs.declared.port.SlotGrant.TheVariants as grants
 use Rattle.device_outside.specs.Interaction.{Done, and_then}
 use Rattle.device_outside.specs.Keeper.{Hearing}
 use Rattle.device_outside.specs.Outside.{Outside, Ran, done, tried}
@@ -26,16 +24,7 @@ use Rattle.device_defs.specs.declared.answers.Took.{Took}
 use Rattle.device_defs.specs.declared.answers.Took.TheVariants.{Whole, Opened, Unwritten}
 use Rattle.device_defs.specs.declared.counts.Counts.{Counts}
 use Rattle.device_defs.specs.declared.usage.Usage.{Usage}
-use Rattle.device_defs.specs.Choosing as G
-use Rattle.device_defs.specs.Choosing.{
-  choose,
-  choose_loose,
-  choose_firm,
-  fast_or_through,
-  fast_by,
-  slot_by,
-  may_be_fast,
-}
+use Rattle.device_defs.specs.Choosing.{choose}
 use Rattle.device_defs.specs.Command as N
 use Rattle.device_defs.specs.Command.{Went, Over, On, came_of_write, went_by, went_on, looked, look, goes_on, follow}
 use Rattle.device_defs.specs.Contents.{contents}
@@ -46,11 +35,11 @@ use Rattle.device_defs.specs.Memory.{had_by}
 use Rattle.device_defs.specs.Outcomes.{Turn, ends_with, checks, wrote_turn, usage_of}
 use Rattle.device_defs.specs.Owed.{is_clean}
 use Rattle.device_defs.specs.Sound.{DeviceStore}
-use Rattle.device_defs.specs.Store.{frame_at, is_lost, is_loose}
+use Rattle.device_defs.specs.Store.{frame_at, is_lost}
 use Rattle.device_laws.specs.Feeding.{Feeds}
 use Rattle.device_laws.proofs.Based.{base_of, Hushed, Based}
 use Rattle.device_laws.proofs.BasedParts.{write_steady}
-use Rattle.device_laws.proofs.QuietParts.{Quiet, quiet_done, quiet_tell, quiet_ask, quiet_if, quiet_then}
+use Rattle.device_laws.proofs.QuietParts.{Quiet, quiet_done, quiet_tell, quiet_ask, quiet_if, quiet_then, asks_quiet}
 use Rattle.seen_laws.specs.Seen as seen
 use Rattle.seen_laws.specs.Seen.{
   NotCalled,
@@ -76,6 +65,7 @@ use Rattle.seen_laws.proofs.WriteCounts.{choice_so}
 use Rattle.seen_laws.proofs.RanCounts.{none_counted, counted_then, counted_as, moved_counted, try_based, based_past}
 use Rattle.seen_laws.proofs.RanParts.{split, quiet_ran, same_calls}
 use Rattle.seen_laws.proofs.Looks.{image_saw}
+use Rattle.device_laws.proofs.PoolWalks.{choose_asks}
 
 -- A write
 
@@ -111,24 +101,8 @@ module _ {K : Type 0} (had : Bool → Type 0) (hears : Hearing Image K) where
         (quiet_tell (λ ok. quiet_if ok (written_quiet s choice is) (unchosen_quiet s choice)))
         (written_quiet s choice is)
 
-  slot_quiet : (s : DeviceStore) (t : ℕ) (grant : SlotGrant) → Quiet {R = List ℕ} (slot_by contents s t grant)
-  slot_quiet s t (grants.Given slot) = quiet_ask (λ listed. quiet_if listed quiet_done (quiet_ask (λ _. quiet_done)))
-  slot_quiet s t grants.Denied = quiet_done
-  slot_quiet s t grants.Down = quiet_done
-
-  fast_quiet : (s : DeviceStore) (t : ℕ) (patched : Bool) → Quiet {R = List ℕ} (fast_by contents s t patched)
-  fast_quiet s t true = quiet_ask (λ listed. quiet_done)
-  fast_quiet s t false = quiet_ask (λ grant. slot_quiet s t grant)
-
-  through_quiet : (s : DeviceStore) (u : Usage) (t : ℕ) → Quiet {R = List ℕ} (fast_or_through contents s u t)
-  through_quiet s u t = quiet_if (may_be_fast contents s u t) (fast_quiet s t _) quiet_done
-
   choice_quiet : (s : DeviceStore) (u : Usage) (t : ℕ) → Quiet {R = List ℕ} (choose contents s u t)
-  unfolding G.choose
-  choice_quiet s u t =
-      quiet_if (is_loose s t)
-      (quiet_if u.provisional (quiet_ask (λ listed. quiet_done)) quiet_done)
-      (quiet_if _ (quiet_ask (λ listed. quiet_if listed quiet_done (through_quiet s u t))) (through_quiet s u t))
+  choice_quiet s u t = asks_quiet (choose_asks contents (λ z. Unit {0}) s u t tt)
 
   choice_keeps : (s y : DeviceStore) (u : Usage) (t : ℕ) (choice : Choice) {v z : Calls} → Ran had hears (choose contents s u t) v y choice z → y ≡ s
   choice_keeps s y u t choice r = (ran_counted (choice_so contents s u t) r).2.same

@@ -1,6 +1,6 @@
 -- So it stays behind whole events.
 use Rattle.std.proofs.Common.{◌==◌, zero, suc, ℕ, Bool, true, false, List, [], ◌∷◌, Option, Some, None, is_some, sym, subst}
-use Rattle.std.specs.Prelude.{not, if◌then◌else◌, ◌&&◌, ◌||◌}
+use Rattle.std.specs.Prelude.{not, if◌then◌else◌, ◌||◌}
 use Rattle.ckd_chain.specs.declared.progress.Progress.{Progress}
 use Rattle.ckd_chain.specs.declared.progress.Progress.TheVariants as progresses
 use Rattle.ckd_chain.specs.declared.progress.Settled.TheVariants.{Equipment}
@@ -16,8 +16,6 @@ use Rattle.plain_defs.specs.History.{OpenEntry, has_used}
 use Rattle.plain_device.specs.Acted.{settled_act, paths_behind}
 use Rattle.track_image.specs.Image.{Image, edited_image}
 use Rattle.device_outside.specs.Interaction.{Interaction, Done, and_then}
-use Rattle.device_outside.specs.declared.port.SlotGrant.{SlotGrant}
-use Rattle.device_outside.specs.declared.port.SlotGrant.TheVariants as grants
 use Rattle.device_defs.specs.declared.answers.Choice.{Choice}
 use Rattle.device_defs.specs.declared.answers.Choice.TheVariants.{Provisional, Fast, Through}
 use Rattle.device_defs.specs.declared.answers.Did.{Did}
@@ -51,8 +49,7 @@ use Rattle.device_defs.specs.Background.{
   recover_first,
   work,
 }
-use Rattle.device_defs.specs.Choosing as G
-use Rattle.device_defs.specs.Choosing.{slot_by, fast_by, may_be_fast, fast_or_through, choose_loose, choose_firm, choose, provisionally_written}
+use Rattle.device_defs.specs.Choosing.{fast_by, choose_loose, choose_firm, choose, provisionally_written}
 use Rattle.device_defs.specs.Command as N
 use Rattle.device_defs.specs.Command.{
   Went,
@@ -185,6 +182,7 @@ use Rattle.subsystem_laws.proofs.StoreFacts.{
 use Rattle.device_defs.specs.Effects.{acted}
 use Rattle.plain_defs.specs.declared.journal.Act.TheVariants.{CfwLost}
 use Rattle.device_laws.proofs.WholeEvents.{turned_same}
+use Rattle.device_laws.proofs.PoolWalks.{asks_always, choose_asks}
 
 module _ {F P H R : Type 0} (c : Contents F P H R) (Q : Facts → Type 0) where
   -- so it is behind an event
@@ -307,24 +305,8 @@ module _ {F P H R : Type 0} (c : Contents F P H R) (Q : Facts → Type 0) (bears
       (always_tell (λ ok. always_if ok (written_keeps s u first t old e choice f) (unchosen_keeps s t choice f)))
       (written_keeps s u first t old e choice f)
 
-  slot_keeps : (s : Store F P H) (t : ℕ) (grant : SlotGrant) → So s → Holds (slot_by c s t grant)
-  slot_keeps s t (grants.Given slot) f =
-      always_ask (λ listed. always_if listed (always_done f) (always_ask (λ _. always_done f)))
-  slot_keeps s t grants.Denied f = always_done f
-  slot_keeps s t grants.Down f = always_done f
-
-  fast_keeps : (s : Store F P H) (u : Usage) (t : ℕ) → So s → Holds (fast_or_through c s u t)
-  fast_keeps s u t f =
-      always_if (may_be_fast c s u t)
-      (always_if (is_some (patch_at s t)) (always_ask (λ listed. always_done f)) (always_ask (λ grant. slot_keeps s t grant f))) (always_done f)
-
   choose_keeps : (s : Store F P H) (u : Usage) (t : ℕ) → So s → Holds (choose c s u t)
-  unfolding G.choose
-  choose_keeps s u t f =
-      always_if (is_loose s t)
-      (always_if u.provisional (always_ask (λ listed. always_done f)) (always_done f))
-      (always_if (u.provisional && is_clean c (frame_at s t))
-      (always_ask (λ listed. always_if listed (always_done f) (fast_keeps s u t f))) (fast_keeps s u t f))
+  choose_keeps s u t f = asks_always (choose_asks c So s u t f)
 
   write_keeps : (s : Store F P H) (u : Usage) (first t : ℕ) (old : Image) (e : Edit) → So s → Holds (write c s u first t old e)
   unfolding E.write

@@ -1,9 +1,8 @@
 -- What is said of which sides are up, of failed calls and of lost tracks stays so behind each part of an event, where it bears a lost track more, one
 -- failed call more, and the fall of the side of a pair whose call failed.
 use Rattle.std.proofs.Common.{◌≡◌, ◌==◌, ◌+◌, zero, suc, ℕ, Bool, true, false, List, length, Option, Some, None, is_some, refl}
-use Rattle.std.specs.Prelude.{nat_le, nat_lt, slice_set, if◌then◌else◌, ◌&&◌}
+use Rattle.std.specs.Prelude.{nat_le, nat_lt, slice_set, if◌then◌else◌}
 use Rattle.device_outside.specs.Volume.{counted}
-use Rattle.ckd_types.specs.declared.parameters.Mode.{Mode}
 use Rattle.ckd_types.specs.declared.paths.Side.{Side}
 use Rattle.ckd_types.specs.declared.paths.Side.TheVariants as sides
 use Rattle.ckd_types.specs.Parameters.{is_bypass}
@@ -16,7 +15,6 @@ use Rattle.device_defs.specs.Image.{
   Got,
   Imaged,
   Has,
-  loads,
   is_sequential,
   queued,
   ahead,
@@ -25,10 +23,7 @@ use Rattle.device_defs.specs.Image.{
   read_b,
   first_read,
   level_bytes,
-  image_of,
   filled,
-  loaded,
-  delivered,
   missed,
   miss,
   clean_image,
@@ -53,24 +48,7 @@ use Rattle.device_defs.specs.Losses.{
   call_failed,
 }
 use Rattle.device_defs.specs.Memory.{tried}
-use Rattle.device_defs.specs.Owed as O
-use Rattle.device_defs.specs.Owed.{
-  is_clean,
-  is_modified,
-  dropped,
-  heard,
-  hear,
-  modified_told,
-  dropped_told,
-  freed_told,
-  settles_debt,
-  is_owed,
-  track_told,
-  all_told,
-  waiting_count,
-  waiting_told,
-  ended,
-}
+use Rattle.device_defs.specs.Owed.{hear, modified_told, dropped_told, track_told, waiting_told, ended}
 use Rattle.device_defs.specs.Store.{
   Store,
   tracks_of,
@@ -87,9 +65,10 @@ use Rattle.device_defs.specs.Store.{
   with_lost,
 }
 use Rattle.device_defs.specs.Writing as V
-use Rattle.device_defs.specs.Writing.{write_counted, tried_b, write_second, slot_freed, unpatched, done_by, write_done}
+use Rattle.device_defs.specs.Writing.{write_counted, tried_b, write_second, unpatched, done_by, write_done}
 use Rattle.device_laws.proofs.Always.{Always, always_done, always_try, always_ask, always_read, always_write, always_tell, always_then}
 use Rattle.device_laws.proofs.KeptEvents.{always_if}
+use Rattle.device_laws.proofs.PoolWalks.{asks_always, hear_asks, ended_asks, filled_asks, missed_asks, done_asks}
 
 -- what is said of a store
 pub record Facts : Type 0 where
@@ -200,36 +179,11 @@ module _ {F P H R : Type 0} (c : Contents F P H R) (Q : Facts → Type 0) where
 
   -- Notes, and what is owed
 
-  heard_keeps : (n : ℕ) (s : Store F P H) (note : Option ℕ) → Is Q s → ((z : Store F P H) → Is Q z → Keeps (hear c n z)) →
-      Keeps (heard c (hear c n) s note)
-  heard_keeps n s None f more = always_done f
-  heard_keeps n s (Some t) f more =
-      more (dropped c s t) (is_if Q (is_clean c (frame_at s t)) (with_frame s t None) s f f)
-
   pub hear_keeps : (n : ℕ) (s : Store F P H) → Is Q s → Keeps (hear c n s)
-  unfolding O.hear
-  hear_keeps zero s f = always_done f
-  hear_keeps (suc n) s f = always_ask (λ note. heard_keeps n s note f (hear_keeps n))
-
-  freed_keeps : (s : Store F P H) (o : Option ℕ) → Is Q s → Keeps (freed_told c s o)
-  freed_keeps s None f = always_done f
-  freed_keeps s (Some slot) f = always_ask (λ _. always_done f)
-
-  debt_keeps : (t : ℕ) (s : Store F P H) → Is Q s → Keeps (settles_debt c t s)
-  debt_keeps t s f =
-      always_then (always_if ((owed_at s t).modified && is_modified c (frame_at s t)) (always_ask (λ _. always_done f)) (always_done f))
-      (λ z _ g. always_then (always_if (owed_at z t).dropped (always_ask (λ _. always_done g)) (always_done g))
-      (λ y _ h. always_then (freed_keeps y (owed_at y t).freed h) (λ x _ k. always_done k)))
-
-  all_keeps : (n : ℕ) (s : Store F P H) → Is Q s → Keeps (all_told c n s)
-  unfolding O.all_told
-  all_keeps zero s f = always_done f
-  all_keeps (suc n) s f = always_then (all_keeps n s f) (λ z _ g. always_if (is_owed c (owed_at z n)) (debt_keeps n z g) (always_done g))
+  hear_keeps n s f = asks_always (hear_asks c (Is Q) (λ z t clean g. g) n s f)
 
   pub ended_keeps : (before : ℕ) (s : Store F P H) → Is Q s → Keeps (ended c before s)
-  ended_keeps before s f =
-      always_then (all_keeps (tracks_of s) s f)
-      (λ z _ g. always_if (waiting_count c z == before) (always_done g) (always_ask (λ _. always_done g)))
+  ended_keeps before s f = asks_always (ended_asks c (Is Q) (λ z t g. g) before s f)
 
   module _ (bears : Bears Q) where
     pub read_after : (s : Store F P H) (ok : Bool) → Is Q s → After Q ok (read_counted s ok)
@@ -264,22 +218,10 @@ module _ {F P H R : Type 0} (c : Contents F P H R) (Q : Facts → Type 0) where
         always_if (level_at s.a t) (always_read (λ o. first_read_keeps t (read_counted s (is_some o)) o (read_after s (is_some o) f))) (read_b_keeps s t None f)
 
     pub filled_keeps : (s : Store F P H) (t : ℕ) (i : Image) → Is Q s → Keeps (filled c s t i)
-    filled_keeps s t i f = always_if (is_some (patch_at s t)) (always_ask (λ _. always_done f)) (always_done f)
-
-    granted_keeps : (s : Store F P H) (t : ℕ) (i : Image) (given : Bool) → Is Q s → Keeps (I.granted c s t i given)
-    granted_keeps s t i given f = always_if given (always_then (filled_keeps s t i f) (λ z _ g. always_done g)) (always_done f)
-
-    loaded_keeps : (s : Store F P H) (t : ℕ) (i : Image) (mode : Mode) → Is Q s → Keeps (loaded c s t i mode)
-    loaded_keeps s t i mode f =
-        always_if (loads mode) (tried_keeps s _ f (always_ask (λ given. granted_keeps s t i given f))) (always_done f)
-
-    delivered_keeps : (u : Usage) (t : ℕ) (side : Side) (s : Store F P H) (o : Option Image) → Is Q s → Keeps (delivered c u t side s o)
-    delivered_keeps u t side s None f = always_done f
-    delivered_keeps u t side s (Some i) f = loaded_keeps (ahead u s t) t i u.mode (ahead_is Q u s t f)
+    filled_keeps s t i f = asks_always (filled_asks c (Is Q) (λ z q j b is g. g) s t i f)
 
     missed_keeps : (u : Usage) (t : ℕ) (s : Store F P H) (g : Got R) (o : Option R) → Is Q s → Keeps (missed c u t s g o)
-    missed_keeps u t s g None f = always_done f
-    missed_keeps u t s g (Some r) f = tried_keeps s _ f (delivered_keeps u t g.side s (image_of c s t r) f)
+    missed_keeps u t s g o f = asks_always (missed_asks c (Is Q) (λ z q j b is h. h) (λ v z q h. ahead_is Q v z q h) u t s g o f)
 
     miss_keeps : (s : Store F P H) (u : Usage) (t : ℕ) → Is Q s → Keeps (miss c s u t)
     miss_keeps s u t f = always_then (level_keeps s t f) (λ z g h. missed_keeps u t z g g.bytes h)
@@ -297,17 +239,8 @@ module _ {F P H R : Type 0} (c : Contents F P H R) (Q : Facts → Type 0) where
 
     -- Writes
 
-    freed_slot_keeps : (s : Store F P H) (t : ℕ) (o : Option ℕ) → Is Q s → Keeps (slot_freed c s t o)
-    freed_slot_keeps s t None f = always_done f
-    freed_slot_keeps s t (Some slot) f = always_ask (λ _. always_done f)
-
     pub done_keeps : (s : Store F P H) (t : ℕ) (i : Image) (bypass : Bool) → Is Q s → Keeps (write_done c s t i bypass)
-    unfolding V.write_done
-    done_keeps s t i bypass f =
-        always_if (is_some (frame_at s t))
-        (always_if bypass (always_ask (λ _. freed_slot_keeps (with_frame s t None) t (slot_in c (patch_at s t)) f))
-        (always_ask (λ _. freed_slot_keeps (with_frame s t (Some (c.frame i false))) t (slot_in c (patch_at s t)) f)))
-        (freed_slot_keeps s t (slot_in c (patch_at s t)) f)
+    done_keeps s t i bypass f = asks_always (done_asks c (Is Q) (λ z q o g. g) (λ z q g. g) s t i bypass f)
 
     tried_b_keeps : (t : ℕ) (s : Store F P H) (ok : Bool) → After Q ok s → Keeps (tried_b c t s ok)
     tried_b_keeps t s true f = always_done f
