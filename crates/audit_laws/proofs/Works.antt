@@ -198,8 +198,6 @@ module _ (a : AuditedDevice) (s : Sound a) (t : ℕ) (o : OpenEntry) (running : 
   next_is_same = ap (λ (p : Part). p.next) part_is
 
 module _ (a : AuditedDevice) (t : ℕ) (loose : is_loose (state_of a) t ≡ true) where
-  abbrev firm_again : AuditedDevice
-  firm_again = record a { history = acted a.history (Harden t) }
 
   -- the program that runs then is the one that ran, with the act
   ran : (o : OpenEntry) (x : OpenEntry) → a.history.running ≡ Some o → (acted a.history (Harden t)).running ≡ Some x

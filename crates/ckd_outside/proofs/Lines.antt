@@ -1,5 +1,5 @@
 -- How texts that are put behind one another in a buffer come together. A writer of lines cites these.
-use Rattle.std.proofs.Common.{◌≡◌, ◌<◌, ◌+◌, ℕ, List, [], ◌++◌, length, drop, get_or, Option, Result, Ok, Err, refl, sym, ap, subst, ◌∙◌, append_assoc}
+use Rattle.std.proofs.Common.{[], ◌≡◌, ◌<◌, ◌+◌, ℕ, List, ◌++◌, length, drop, get_or, Option, Result, Ok, Err, sym, ap, subst, ◌∙◌, append_assoc}
 use Rattle.std.proofs.lemmas.List.{append-nil, at_drop_more}
 use Rattle.std.proofs.lemmas.Result.{err_from_is_err_and}
 use Rattle.std.specs.Prelude.{IsErrAnd}
@@ -15,10 +15,6 @@ joined w a f x b g y first second =
     ∙ append_assoc f x b
     ∙ ap (λ (l : List ℕ). f ++ l) second
     ∙ sym (append_assoc f g y)
-
--- no text was put
-pub moves_none : (o : Option (List ℕ)) (w : List ℕ) → Moves o w o w []
-moves_none o w = record { front = []; whole = append-nil w; grew = Appends-nil o }
 
 -- a text that fits was put
 pub moves_in : (o : Option (List ℕ)) (w y text : List ℕ) → y ≡ w ++ text → Moves o w o y text
@@ -97,9 +93,6 @@ pub record Put (old : Option (List ℕ)) (waited : List ℕ) (new : Option (List
   pub done : List ℕ
   pub whole : text ≡ done ++ rest
   pub moved : Moves old waited new waits done
-
-pub put_none : (o : Option (List ℕ)) (w text : List ℕ) → Put o w o w text text
-put_none o w text = record { done = []; whole = refl; moved = moves_none o w }
 
 -- the front of the rest was put too
 pub put_more : (o m n : Option (List ℕ)) (w x y text rest piece tail : List ℕ) → Put o w m x text rest → rest ≡ piece ++ tail → Moves m x n y piece

@@ -1,9 +1,7 @@
 -- How the parts of a text that were written come together.
-use Rattle.std.proofs.Common.{◌≡◌, ℕ, List, [], ◌++◌, take, drop, Option, refl, sym, ap, subst, ◌∙◌, append_assoc, take-append-drop}
-use Rattle.std.proofs.lemmas.List.{append-nil}
+use Rattle.std.proofs.Common.{[], ◌≡◌, ℕ, List, ◌++◌, take, drop, Option, refl, sym, ap, ◌∙◌, append_assoc, take-append-drop}
 use Rattle.std.specs.Io.KnownBytes.{Appends}
 use Rattle.std.proofs.KnownBytes.{Appends-trans, Appends-nil}
-use Rattle.ckd_outside.specs.Texts.{AppendsFront}
 
 -- the text up to the rest was written
 pub record Wrote (old new : Option (List ℕ)) (text rest : List ℕ) : Type 0 where
@@ -22,19 +20,4 @@ wrote_more a b c text rest tail n w more is =
       front = w.front ++ take n rest;
       whole = w.whole ∙ ap (λ (l : List ℕ). w.front ++ l) split ∙ sym (append_assoc w.front (take n rest) tail);
       grew = Appends-trans a b c w.front (take n rest) w.grew more;
-    }
-
-pub wrote_all : (a b : Option (List ℕ)) (text rest : List ℕ) → Wrote a b text rest → rest ≡ [] → Appends a b text
-wrote_all a b text rest w is =
-    let e : w.front ≡ text = sym (append-nil w.front) ∙ ap (λ (l : List ℕ). w.front ++ l) (sym is) ∙ sym w.whole in
-    subst (λ (l : List ℕ). Appends a b l) e w.grew
-
--- at a fault a front was written
-pub wrote_front : (a b c : Option (List ℕ)) (text rest : List ℕ) → Wrote a b text rest → Appends b c [] → AppendsFront a c text
-wrote_front a b c text rest w same =
-    record {
-      front = w.front;
-      rest = rest;
-      whole = w.whole;
-      grew = subst (λ (l : List ℕ). Appends a c l) (append-nil w.front) (Appends-trans a b c w.front [] w.grew same);
     }

@@ -1,5 +1,5 @@
 -- Pieces that come one after another come as one.
-use Rattle.std.proofs.Common.{◌≡◌, ℕ, zero, suc, ◌-◌, List, [], ◌∷◌, ◌++◌, length, take, refl, sym, ap, ◌∙◌, append_assoc, arith}
+use Rattle.std.proofs.Common.{[], ◌≡◌, ℕ, zero, suc, ◌-◌, List, ◌∷◌, ◌++◌, length, take, refl, sym, ap, ◌∙◌, append_assoc, arith}
 use Rattle.std.proofs.lemmas.List.{length-append}
 use Rattle.ckd_read.specs.declared.sending.Sending.{Sending}
 use Rattle.ckd_read.specs.Sending.{Takes}
@@ -11,10 +11,6 @@ take_both zero (x ∷ xs) ys = let e : 0 ≡ 0 - length (x ∷ xs) = omega arith
 take_both (suc n) (x ∷ xs) ys =
     let e : n - length xs ≡ suc n - length (x ∷ xs) = omega arith in
     ap (λ (zs : List ℕ). x ∷ zs) (take_both n xs ys ∙ ap (λ (m : ℕ). take n xs ++ take m ys) e)
-
-take_none : (n : ℕ) → take {A = ℕ} n [] ≡ []
-take_none zero = refl
-take_none (suc n) = refl
 
 pub takes_both : (a b c : Sending) (xs ys : List ℕ) → Takes a b xs → Takes b c ys → Takes a c (xs ++ ys)
 takes_both a b c xs ys first then =

@@ -1,5 +1,5 @@
 -- What is kept of a device's paths once its program is over.
-use Rattle.std.proofs.Common.{◌≡◌, ◌+◌, ◌==◌, ◌∷◌, ◌++◌, [], ℕ, List, Option, Some, None, Bool, true, false, cond, refl, arith, sym, ap, subst, ◌∙◌}
+use Rattle.std.proofs.Common.{[], ◌≡◌, ◌+◌, ◌==◌, ◌∷◌, ◌++◌, ℕ, List, Option, Some, None, Bool, true, false, cond, refl, arith, sym, ap, subst, ◌∙◌}
 use Rattle.std.specs.Prelude.{◌||◌, count_by}
 use Rattle.std.specs.List.{fold}
 use Rattle.plain_defs.specs.declared.journal.How.{How}
@@ -148,8 +148,6 @@ resets_used_4 u false false false false = refl
 -- Behind the entry of a program, and the resets that waited
 
 module _ (h : History) (o : OpenEntry) (how : How) (e : OpenEntry) (same : e.path ≡ o.path) (open_is : h.running ≡ Some o) where
-  abbrev pub later : List ℕ → History
-  later paths = record { items = h.items ++ entry_of e how ∷ resets_of paths; running = None; waiting = [] }
 
   pub count_later : (i n : ℕ) (paths : List ℕ) → n ≡ count_by (is_of_path i) h.items + own_count h.running i
       → n ≡ count_by (is_of_path i) (h.items ++ entry_of e how ∷ resets_of paths) + 0

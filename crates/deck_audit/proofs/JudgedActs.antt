@@ -50,9 +50,6 @@ counts_act : (n : ℕ) (h : History) (act : Act) (entry : Option OpenEntry) → 
 counts_act n h act (Some o) is c = c
 counts_act n h act None is c = subst (λ (x : Option OpenEntry). IsCounted n x) (sym is) tt
 
-abbrev acted_on : AuditedDevice → Act → AuditedDevice
-acted_on a act = record a { history = acted a.history act }
-
 module _ (k : Kept) (a : AuditedDevice) (act : Act) (i : IsKept k a) where
   kept_by : Follows (replay.acted k.device act) (record a { history = acted a.history act })
       → IsKept (act_kept k act) (record a { history = acted a.history act })

@@ -1,5 +1,5 @@
 -- What is kept of a device's paths, behind resets.
-use Rattle.std.proofs.Common.{◌≡◌, ◌≤◌, ◌+◌, ◌-◌, ◌==◌, ◌∷◌, ◌++◌, [], ℕ, List, Option, Some, None, Bool, true}
+use Rattle.std.proofs.Common.{[], ◌≡◌, ◌≤◌, ◌+◌, ◌-◌, ◌==◌, ◌∷◌, ◌++◌, ℕ, List, Option, Some, None, Bool, true}
 use Rattle.std.proofs.Common.{false, cond, not, length, refl, arith, sym, ap, subst, ◌∙◌, inl, inr, append_assoc}
 use Rattle.std.specs.Prelude.{◌⊎◌, ◌||◌, ◌&&◌, count_by, slice_set}
 use Rattle.std.proofs.lemmas.Bool.{eq-eqb}
@@ -18,8 +18,6 @@ use Rattle.deck_audit.proofs.KeptPaths.{path_cases}
 -- A reset that is done, while no program runs
 
 module _ (r : ReplayedState) (h : History) (k : KeepsPaths r h) (idle : h.running ≡ None) where
-  behind : ℕ → History
-  behind p = record h { items = h.items ++ items.Reset p ∷ [] }
 
   count_same : (p i n : ℕ) → n ≡ count_by (is_of_path i) h.items + own_count h.running i
       → n ≡ count_by (is_of_path i) (h.items ++ items.Reset p ∷ []) + own_count h.running i

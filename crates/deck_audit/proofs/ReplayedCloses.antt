@@ -1,5 +1,5 @@
 -- A device that is replayed, once its program is over, at resets, at a loss of power, and with a new volume.
-use Rattle.std.proofs.Common.{◌≡◌, ◌-◌, ◌∷◌, ◌++◌, [], ℕ, suc, List, Option, Some, None, Bool, true}
+use Rattle.std.proofs.Common.{[], ◌≡◌, ◌-◌, ◌∷◌, ◌++◌, ℕ, suc, List, Option, Some, None, Bool, true}
 use Rattle.std.proofs.Common.{false, length, cond, refl, arith, sym, ap, subst, ◌∙◌, append_assoc}
 use Rattle.std.proofs.lemmas.List.{length-append}
 use Rattle.ckd_types.specs.declared.channel.CommandEnd.{CommandEnd}
@@ -75,8 +75,6 @@ closed_is plans r true true true true =
 module _ (r : ReplayedState) (a : AuditedDevice) (before : List Item) (waiting : List ℕ) (w : WaitsAs r.waits waiting)
     (number_is : r.number ≡ a.number) (half_is : r.half ≡ a.half) (lent_is : r.lent ≡ a.lent)
     (device_is : r.device ≡ replay a.plans a.empty before) where
-  abbrev over_history : History
-  over_history = record { items = before ++ resets_of waiting; running = None; waiting = [] }
 
   closed_here : IsClosed a.plans r (replayed.closed r) waiting
   closed_here =

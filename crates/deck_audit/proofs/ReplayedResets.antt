@@ -1,5 +1,5 @@
 -- A device that is replayed, at resets, at a loss of power, and with a new volume.
-use Rattle.std.proofs.Common.{◌≡◌, ◌+◌, ◌∷◌, ◌++◌, [], ℕ, suc, List, Option, Some, None, Bool, true}
+use Rattle.std.proofs.Common.{[], ◌≡◌, ◌+◌, ◌∷◌, ◌++◌, ℕ, suc, List, Option, Some, None, Bool, true}
 use Rattle.std.proofs.Common.{false, length, cond, refl, arith, sym, ap, subst, ◌∙◌, append_assoc}
 use Rattle.std.proofs.lemmas.Bool.{eq-eqb}
 use Rattle.ckd_types.specs.declared.channel.CommandEnd.{CommandEnd}
@@ -102,9 +102,6 @@ module _ (r : ReplayedState) (a : AuditedDevice) (o : OpenEntry) (q : Running) (
   part_more =
       let same : length o.ends + 1 ≡ suc (length o.ends) = omega arith in
       ap (λ (k : ℕ). part_of (replay a.plans a.empty a.history.items) o.path (words_of_open a o) o.acts k) same
-
-  abbrev has_it : ReplayedState
-  has_it = record r { device = behind_edit r.device w.edit w.paths; pending = None }
 
   device_more : behind_edit r.device w.edit w.paths
       ≡ (part_of (replay a.plans a.empty a.history.items) o.path (words_of_open a o) o.acts (suc (length o.ends))).state

@@ -1,5 +1,5 @@
 -- A START that is accepted, on a device that is replayed.
-use Rattle.std.proofs.Common.{◌≡◌, ◌≤◌, ◌+◌, ◌==◌, [], ℕ, List, Option, Some, None, Bool, true, false, refl, sym, ap, subst, ◌∙◌, inl, inr}
+use Rattle.std.proofs.Common.{[], ◌≡◌, ◌≤◌, ◌+◌, ◌==◌, ℕ, List, Option, Some, None, Bool, true, false, refl, sym, ap, subst, ◌∙◌, inl, inr}
 use Rattle.std.specs.Prelude.{◌⊎◌, ◌||◌, count_by, slice_set, if◌then◌else◌}
 use Rattle.std.proofs.lemmas.Bool.{eq-eqb}
 use Rattle.ckd_types.specs.declared.channel.Ccw.{Ccw}
@@ -44,12 +44,6 @@ module _ (r : ReplayedState) (a : AuditedDevice) (f : Follows r a) (k : KeepsPat
 
   words_are : replayed.next_program a.plans r path ≡ program_of a.plans path n
   words_are = program_is r a f (counts_kept r a k) next.idle path least most ∙ ap (λ (m : ℕ). program_of a.plans path m) next.ordinal
-
-  abbrev begun_entry : OpenEntry
-  begun_entry = record { path = path; ordinal = n; ends = []; acts = [] }
-
-  abbrev behind_start : AuditedDevice
-  behind_start = record a { history = started a.history path n }
 
   device_is : r.device ≡ replay a.plans a.empty a.history.items
   device_is = f.device_is ∙ ap (λ (x : Option OpenEntry). state_by a.plans (replay a.plans a.empty a.history.items) x) next.idle

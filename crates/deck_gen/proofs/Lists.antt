@@ -1,13 +1,12 @@
 -- A deck that is made program by program.
-use Rattle.std.proofs.Common.{◌≡◌, ◌<◌, ◌≤◌, ◌+◌, ◌-◌, ◌*◌, ℕ, suc, List, [], ◌∷◌, ◌++◌, length, refl, sym, ◌∙◌, arith, append_assoc, length-append}
+use Rattle.std.proofs.Common.{[], ◌≡◌, ◌<◌, ◌≤◌, ◌+◌, ◌-◌, ◌*◌, ℕ, suc, List, ◌∷◌, ◌++◌, length, refl, ◌∙◌, arith, append_assoc, length-append}
 use Rattle.std.specs.Prelude.{◌==◌, ◌%◌, Bool, true, false, if◌then◌else◌}
-use Rattle.std.proofs.lemmas.List.{append-nil}
 use Rattle.deck_plan.specs.declared.event.EventLine.{EventLine}
 use Rattle.deck_plan.specs.declared.event.EventLine.TheVariants.{Settle, Pair, Back}
 use Rattle.deck_text.specs.DeckLines.{DeckLines}
 use Rattle.deck_gen.specs.declared.choice.Choice.{Choice}
 use Rattle.deck_gen.specs.Choices.{choices, choice_behind}
-use Rattle.deck_gen.specs.Generated.{device_line, planned, programs_from, lines_of, events_from, deck_of_seed}
+use Rattle.deck_gen.specs.Generated.{device_line, planned, programs_from, lines_of, events_from}
 
 one_more : (left count x : ℕ) → left ≡ suc count → choices left x ≡ choice_behind x ∷ choices count (choice_behind x).last
 one_more left count x e = rw e refl
@@ -15,9 +14,6 @@ one_more left count x e = rw e refl
 -- the choices that are left, where one is made
 choices_left : (n count x : ℕ) → n < count → choices (count - n) x ≡ choice_behind x ∷ choices (count - (n + 1)) (choice_behind x).last
 choices_left n count x h = one_more (count - n) (count - (n + 1)) x (omega arith)
-
-none_left : (n x : ℕ) → choices (n - n) x ≡ []
-none_left n x = let e : n - n ≡ 0 = omega arith in rw e refl
 
 abbrev pub first_events : List EventLine
 first_events = Pair 0 1 ∷ Settle 0 ∷ []
@@ -33,28 +29,6 @@ pub record IsMade (seed count n x : ℕ) (deck : DeckLines) : Type 0 where
   pub events : deck.events ++ events_from (n + 1) (choices (count - n) x) ≡ first_events ++ events_from 1 (choices count seed)
   pub program_count : length deck.programs ≡ n
   pub event_count : length deck.events ≤ 2 + 3 * n
-
-pub none_made : (seed count : ℕ) (deck : DeckLines) → deck ≡ record {
-  frames = 64;
-  slots = 16;
-  devices =
-      device_line 0 ∷ device_line 1 ∷ device_line 2 ∷ [];
-  faults = [];
-  programs = [];
-  events = first_events;
-}
-    → IsMade seed count 0 seed deck
-none_made seed count deck e = rw e (record {
-  within = omega arith;
-  frames = refl;
-  slots = refl;
-  devices = refl;
-  faults = refl;
-  programs = (let all : count - 0 ≡ count = omega arith in rw all refl);
-  events = (let all : count - 0 ≡ count = omega arith in rw all refl);
-  program_count = refl;
-  event_count = omega arith;
-})
 
 third_few : (d : ℕ) (third : Bool) → length (if third then Back d ∷ [] else []) ≤ 1
 third_few d true = omega arith
@@ -84,11 +58,3 @@ one_made seed count n x deck h made =
       program_count = omega (arith, length-append deck.programs (planned (n + 1) c ∷ []), made.program_count);
       event_count = omega (arith, length-append deck.events (lines_of (n + 1) c), few_lines (n + 1) c, made.event_count);
     }
-
-pub all_made : (seed count x : ℕ) (deck : DeckLines) → IsMade seed count count x deck
-    → record deck { events = (deck.events ++ Settle 0 ∷ []) ++ Settle 2 ∷ [] } ≡ deck_of_seed seed count
-all_made seed count x deck made =
-    let left = none_left count x in
-    let programs : deck.programs ≡ programs_from 1 (choices count seed) = sym (append-nil deck.programs) ∙ (rw left at made.programs) in
-    let events : deck.events ≡ first_events ++ events_from 1 (choices count seed) = sym (append-nil deck.events) ∙ (rw left at made.events) in
-    rw (made.frames, made.slots, made.devices, made.faults, programs, events, append_assoc) refl

@@ -1,31 +1,7 @@
 -- The devices of a subsystem by their numbers, as they stand.
-use Rattle.std.proofs.Common.{
-  ◌≡◌,
-  ◌∙◌,
-  ◌<◌,
-  ◌≤◌,
-  ◌+◌,
-  ◌++◌,
-  length,
-  take,
-  get_or,
-  ℕ,
-  Bool,
-  true,
-  false,
-  List,
-  [],
-  ◌∷◌,
-  Option,
-  Some,
-  None,
-  refl,
-  sym,
-  ap,
-  subst,
-}
+use Rattle.std.proofs.Common.{◌≡◌, ◌∙◌, ◌<◌, ◌+◌, ◌++◌, length, take, get_or, ℕ, Bool, true, false, List, ◌∷◌, Option, Some, None, refl, sym, ap, subst}
 use Rattle.std.specs.Prelude.{◌==◌, if◌then◌else◌, option_map, IfSome}
-use Rattle.std.proofs.lemmas.List.{take_more, take_all}
+use Rattle.std.proofs.lemmas.List.{take_more}
 use Rattle.ckd_chain.specs.Facts.{IsChain}
 use Rattle.ckd_chain.specs.State.{ChainState}
 use Rattle.device_outside.specs.declared.volume.Volume.{Ghosts}
@@ -149,9 +125,6 @@ module _ {V : Type 0} {G : Ghosts V} where
       IfSome x.past.running (λ r. IsChain r.chain) → ChainsStand (take (i + 1) xs)
   stand_more xs i x within is all stands =
       subst ChainsStand (sym (take_more xs i x within ∙ ap (λ (y : Device V G). take i xs ++ y ∷ []) (sym is))) (stand_append (take i xs) x all stands)
-
-  pub stand_all : (xs : List (Device V G)) (i : ℕ) → length xs ≤ i → ChainsStand (take i xs) → ChainsStand xs
-  stand_all xs i past all = subst ChainsStand (take_all i xs past) all
 
   own_append : (xs : List (Device V G)) (x : Device V G) → AllOwn xs → IsOwn (device_of x) → AllOwn (xs ++ x ∷ [])
   own_append [] x all is = (is, tt)

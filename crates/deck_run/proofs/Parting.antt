@@ -1,30 +1,5 @@
 -- A pair is taken apart: what it comes to in a run, and what is told of it.
-use Rattle.std.proofs.Common.{
-  ◌≡◌,
-  ◌∙◌,
-  ◌+◌,
-  ◌*◌,
-  ◌≤◌,
-  ℕ,
-  zero,
-  suc,
-  Bool,
-  true,
-  false,
-  List,
-  [],
-  ◌∷◌,
-  length,
-  Option,
-  Some,
-  None,
-  is_some,
-  arith,
-  refl,
-  sym,
-  ap,
-  subst,
-}
+use Rattle.std.proofs.Common.{◌≡◌, ◌∙◌, ◌+◌, ◌*◌, ◌≤◌, ℕ, zero, suc, Bool, true, false, List, ◌∷◌, length, Option, Some, None, is_some, arith, refl, sym, ap, subst}
 use Rattle.std.specs.Prelude.{◌==◌, ◌&&◌, not, option_map, slice_get, if◌then◌else◌}
 use Rattle.std.proofs.lemmas.Bool.{eqb-true}
 use Rattle.track_table.specs.Tracks.{count_below}
@@ -126,9 +101,6 @@ lent_is None n e = absurd (cc)
 lent_is (Some to) n e = ap (λ (k : ℕ). Some k) (eqb-true to n e)
 
 -- Sums
-
-back_one : (f g l k q p : ℕ) → k + f ≡ l + g → q + p ≡ k → f ≡ g → q + p ≡ l
-back_one f g l k q p e h same = omega (arith, e, h, same)
 
 one_away : (f g h i l k q : ℕ) → k + f ≡ l + g → q + h ≡ k + i → f ≡ g + 1 → i ≡ h + 1 → q ≡ l
 one_away f g h i l k q e o gone came = omega (arith, e, o, gone, came)

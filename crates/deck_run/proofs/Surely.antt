@@ -84,19 +84,6 @@ behind_so (Tell m k) p q f h = λ r x. behind_so (k r) p q f (h r x)
 pub surely_so : {R I S A : Type 0} {i : Interaction R I S A} {p q : S → A → Type 0} → ((s : S) (a : A) → p s a → q s a) → Surely i p → Surely i q
 surely_so {i = i} {p = p} {q = q} f h = record { holds = behind_so i p q f h.holds }
 
-behind_any : {R I S A : Type 0} (i : Interaction R I S A) → Behind i (λ s a. Unit {0})
-unfolding Behind
-behind_any (Done s a) = tt
-behind_any (Try k) = behind_any (k true)
-behind_any (Ask call k) = λ a. behind_any (k a)
-behind_any (Read side t k) = λ got. behind_any (k got)
-behind_any (Write side t r k) = λ ok. behind_any (k ok)
-behind_any (Tell m k) = λ r x. behind_any (k r)
-
--- of any interaction nothing is said
-pub s_any : {R I S A : Type 0} {i : Interaction R I S A} → Surely i (λ s a. Unit {0})
-s_any {i = i} = record { holds = behind_any i }
-
 module _ {R I K S A : Type 0} {hears : Hearing I K} (q : S → A → Type 0) where
   behind_ran : {i : Interaction R I S A} {w z : Outside R K} {s : S} {a : A} → Ran is_had hears i w s a z → Behind i q → q s a
   unfolding Behind

@@ -1,5 +1,5 @@
 -- The canonical text of a deck is read as the deck.
-use Rattle.std.proofs.Common.{◌≡◌, ◌≢◌, ◌≤◌, ◌<◌, ◌∷◌, [], ◌++◌, ◌+◌, ◌/◌, ◌%◌, ℕ, zero, suc, List, Bool, true, false, length, Option, Some, None, Ok, refl}
+use Rattle.std.proofs.Common.{[], ◌≡◌, ◌≢◌, ◌≤◌, ◌<◌, ◌∷◌, ◌++◌, ◌+◌, ◌/◌, ◌%◌, ℕ, zero, suc, List, Bool, true, false, length, Option, Some, None, Ok, refl}
 use Rattle.std.proofs.Common.{sym, ap, ◌∙◌, arith, append_assoc, length-append}
 use Rattle.std.specs.Prelude.{decimal, codes, slice_index, nat_lt, nat_le, ◌&&◌, ◌==◌, if◌then◌else◌}
 use Rattle.std.specs.List.{flat_map}
@@ -148,9 +148,6 @@ fault_is f false is = rw is (simp append_assoc)
 fault_key : keyword_of (70 ∷ codes "AULT") ≡ Some Fault
 unfolding head_of event_word_of
 fault_key = refl
-
-abbrev with_faults : DeckLines → List FaultLine → DeckLines
-with_faults deck faults = record deck { faults = faults }
 
 fault_leads : (deck : DeckLines) (place : Place) (f : FaultLine) → may_stand Fault place ≡ true → FaultOk deck.devices f → length deck.faults < 1024
     → Leads (outside place deck) (fault_text f) (outside places.Faults (record deck { faults = deck.faults ++ f ∷ [] }))

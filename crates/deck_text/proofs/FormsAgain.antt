@@ -1,5 +1,5 @@
 -- The words that a line is written with say what its words said.
-use Rattle.std.proofs.Common.{◌≡◌, ◌≤◌, ◌<◌, ◌^◌, ◌&&◌, ◌∷◌, [], ℕ, List, Bool, true, false, Option, Some, None, Result, Ok, Err, refl, sym, ap, ◌∙◌, arith}
+use Rattle.std.proofs.Common.{[], ◌≡◌, ◌≤◌, ◌<◌, ◌^◌, ◌&&◌, ◌∷◌, ℕ, List, Bool, true, false, Option, Some, None, Result, Ok, Err, refl, sym, ap, ◌∙◌, arith}
 use Rattle.std.specs.Prelude.{decimal, nat_le, if◌then◌else◌}
 use Rattle.std.proofs.lemmas.Bool.{and_parts, leb-true}
 use Rattle.ckd_types.specs.declared.geometry.Geometry.{Geometry}
@@ -8,8 +8,8 @@ use Rattle.deck_text.specs.declared.line.DeckWhy.{DeckWhy}
 use Rattle.deck_text.specs.declared.line.DeckWhy.TheVariants.{Words, Number}
 use Rattle.deck_text.specs.declared.line.DeviceLine.{DeviceLine}
 use Rattle.deck_text.specs.Numbers.{number_of, within, number_in, geometry_from, geometry_of}
-use Rattle.deck_text.specs.Words.{one_word, two_words, three_words}
-use Rattle.deck_text.specs.Forms.{needed, and_then, count_line, rises, rising, device_line, is_declared, declared, device_of, path_of, path_and_device}
+use Rattle.deck_text.specs.Words.{two_words, three_words}
+use Rattle.deck_text.specs.Forms.{needed, and_then, rises, rising, device_line, is_declared, declared, device_of, path_of, path_and_device}
 use Rattle.deck_text.specs.Canonical.{geometry_number}
 use Rattle.deck_text.proofs.ReadBack.{number_read, decimal_read}
 
@@ -51,12 +51,6 @@ number_range least most w n h = within_is least most (number_of w) n h
 pub number_again : (least most : ℕ) (w : List ℕ) (n : ℕ) → most < 10 ^ 10 → number_in least most w ≡ Some n → number_in least most (decimal n) ≡ Some n
 number_again least most w n small h =
     let r = within_is least most (number_of w) n h in number_read least most n r.low r.high small
-
-pub count_again : (least most : ℕ) (words : List (List ℕ)) (n : ℕ) → most < 10 ^ 10 → count_line least most words ≡ Ok n
-    → count_line least most (decimal n ∷ []) ≡ Ok n
-count_again least most words n small h =
-    let a = went (needed Words (one_word words)) (λ w. needed Number (number_in least most w)) n h in
-    ap (needed Number) (number_again least most a.value n small (needed_is Number (number_in least most a.value) n a.second))
 
 pub device_again : (devices : List DeviceLine) (w : List ℕ) (d : ℕ) → device_of devices w ≡ Ok d → device_of devices (decimal d) ≡ Ok d
 device_again devices w d h =

@@ -1,43 +1,5 @@
 -- The volumes that stand in the devices behind a run are those that the run hands out.
-use Rattle.std.proofs.Common.{
-  ◌≡◌,
-  ◌<◌,
-  ◌≤◌,
-  ◌⊎◌,
-  inl,
-  inr,
-  ◌∙◌,
-  ◌++◌,
-  append_assoc,
-  ◌+◌,
-  ◌∷◌,
-  [],
-  ◌*◌,
-  ◌==◌,
-  ◌&&◌,
-  ◌||◌,
-  not,
-  map,
-  length,
-  ℕ,
-  Bool,
-  true,
-  false,
-  List,
-  Option,
-  Some,
-  None,
-  Result,
-  Ok,
-  Err,
-  is_some,
-  refl,
-  sym,
-  ap,
-  subst,
-  arith,
-  get_or,
-}
+use Rattle.std.proofs.Common.{◌≡◌, ◌<◌, ◌≤◌, ◌⊎◌, inl, inr, ◌∙◌, ◌++◌, append_assoc, ◌+◌, ◌∷◌, ◌*◌, ◌==◌, ◌&&◌, ◌||◌, not, map, length, ℕ, Bool, true, false, List, Option, Some, None, Result, Ok, Err, is_some, refl, sym, ap, subst, arith, get_or}
 use Rattle.std.specs.Prelude.{option_map, IfSome, if◌then◌else◌}
 use Rattle.std.specs.List.{range_with_len}
 use Rattle.std.proofs.lemmas.Bool.{and_parts, cases_lt}
@@ -96,10 +58,6 @@ use Rattle.device_outside.specs.Bay.{Bay}
 none_by : {X : Type 0} (o : Option X) → is_some o ≡ false → o ≡ None
 none_by None e = refl
 none_by (Some x) e = absurd (cc)
-
-not_by : (b : Bool) → not b ≡ true → b ≡ false
-not_by false e = refl
-not_by true e = absurd (cc)
 
 here_by : (X : Type 0) (b : Bool) → b ≡ false → By b (Unit {0}) X → X
 here_by X true e k = absurd (cc)

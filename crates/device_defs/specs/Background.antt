@@ -1,5 +1,5 @@
 -- What a device does by itself: it recovers, copies, stages or destages a track, the first of these that there is to do.
-use Rattle.std.specs.Prelude.{ℕ, ◌&&◌, ◌||◌, Bool, false, List, [], ◌∷◌, Option, Some, None, is_some, if◌then◌else◌}
+use Rattle.std.specs.Prelude.{[], ℕ, ◌&&◌, ◌||◌, Bool, false, List, ◌∷◌, Option, Some, None, is_some, if◌then◌else◌}
 use Rattle.ckd_types.specs.declared.paths.Side.{Side}
 use Rattle.ckd_types.specs.declared.paths.Side.TheVariants.{A, B}
 use Rattle.track_image.specs.Image.{Image}
@@ -41,9 +41,6 @@ other A = B
 other B = A
 
 module _ {F P H : Type 0} where
-  abbrev pub is_level : Store F P H → Side → ℕ → Bool
-  is_level s A t = level_at s.a t
-  is_level s B t = level_at s.b t
 
   -- the side that is up, not held, and has the track stale, where the other has it level
   abbrev pub copies_to : Store F P H → ℕ → Option Side

@@ -19,11 +19,6 @@ use Rattle.device_defs.specs.Store.{
 use Rattle.device_defs.specs.Editing.{effect}
 use Rattle.device_defs.specs.Writing.{write_second, write_done}
 
-abbrev pub bypass_of : Origin → Bool
-bypass_of (OfCommand bypass e) = bypass
-bypass_of (OfCut bypass) = bypass
-bypass_of OfBackground = false
-
 module _ {F P H : Type 0} where
   -- what a half write writes, on the plain volume: a command's edit has no effect there yet
   abbrev pub plainly_written : Store F P H → ℕ → Origin → Image

@@ -158,7 +158,3 @@ module _ {F P H : Type 0} where
   -- the image of a track of the plain volume
   abbrev pub plain_at : Store F P H → ℕ → Image
   plain_at s t = record { geometry = s.geometry; track = track_in s.plain t }
-
-  -- and of the same without data of cache fast write
-  abbrev pub firm_at : Store F P H → ℕ → Image
-  firm_at s t = record { geometry = s.geometry; track = track_in s.firm t }

@@ -62,11 +62,6 @@ module _ {R I K : Type 0} {had : Bool → Type 0} {hears : Hearing I K} where
   joined rest (wrote is a h) r = wrote is a (joined rest h r)
   joined rest (told y a x h) r = told y a x (joined rest h r)
 
-  -- an interaction that asks nothing has one end, and leaves the outside
-  pub asks_nothing : {S A : Type 0} {s z : S} {a b : A} {v w : Outside R K} (q : S → A → Outside R K → Type 0) →
-      Ran had hears (Done s a) v z b w → q s a v → q z b w
-  asks_nothing q done x = x
-
 had_weaker : {I : Type 0} {had less : Bool → Type 0} (m : Message I) (r : ReplyTo m) → ((ok : Bool) → had ok → less ok) → Had had m r → Had less m r
 had_weaker (BeforeEdit d t i) ok f x = f ok x
 had_weaker (Firm d t i) r f x = x

@@ -10,35 +10,11 @@ use Rattle.track_cache.specs.Frames.{is_modified, is_modified_frame}
 abbrev pub Holds : List Bool → List (Option Frame) → Type 0
 Holds loose frames = (t : ℕ) → is_loose_in loose t ≡ true → is_modified frames t ≡ true
 
-pub firm_set : (loose : List Bool) (frames : List (Option Frame)) (t : ℕ) (f : Option Frame) → Holds loose frames → is_loose_in loose t ≡ false →
-    Holds loose (slice_set frames t f)
-firm_set loose frames t f holds firm q is = elim (cases_eq q t) [
-  | inl same ↦ absurd (false≢true (sym firm ∙ ap (is_loose_in loose) (sym same) ∙ is))
-  | inr differs ↦ ap is_modified_frame (get_or-set_other frames t q f None differs) ∙ holds q is
-]
-
-pub modified_set : (loose : List Bool) (frames : List (Option Frame)) (t : ℕ) (f : Option Frame) → Holds loose frames → t < length frames →
-    is_modified_frame f ≡ true → Holds loose (slice_set frames t f)
-modified_set loose frames t f holds lt modified q is = elim (cases_eq q t) [
-  | inl same ↦ ap (is_modified (slice_set frames t f)) same ∙ ap is_modified_frame (get_or-set_same frames t f None lt) ∙ modified
-  | inr differs ↦ ap is_modified_frame (get_or-set_other frames t q f None differs) ∙ holds q is
-]
-
 pub less_loose : (loose : List Bool) (frames : List (Option Frame)) (t : ℕ) → Holds loose frames → t < length loose → Holds (slice_set loose t false) frames
 less_loose loose frames t holds lt q is = elim (cases_eq q t) [
   | inl same ↦ absurd (false≢true (sym (ap (is_loose_in (slice_set loose t false)) same ∙ get_or-set_same loose t false false lt) ∙ is))
   | inr differs ↦ holds q (sym (get_or-set_other loose t q false false differs) ∙ is)
 ]
-
-pub more_loose : (loose : List Bool) (frames : List (Option Frame)) (t : ℕ) (f : Option Frame) → Holds loose frames → t < length frames →
-    is_modified_frame f ≡ true → Holds (slice_set loose t true) (slice_set frames t f)
-more_loose loose frames t f holds lt modified q is = elim (cases_eq q t) [
-  | inl same ↦ ap (is_modified (slice_set frames t f)) same ∙ ap is_modified_frame (get_or-set_same frames t f None lt) ∙ modified
-  | inr differs ↦ ap is_modified_frame (get_or-set_other frames t q f None differs) ∙ holds q (sym (get_or-set_other loose t q true false differs) ∙ is)
-]
-
-pub not_loose : (loose : List Bool) (t : ℕ) → t < length loose → is_loose_in (slice_set loose t false) t ≡ false
-not_loose loose t lt = get_or-set_same loose t false false lt
 
 pub modified_there : (f : Option Frame) → is_modified_frame f ≡ true → is_some f ≡ true
 modified_there None e = absurd cc

@@ -1,23 +1,18 @@
 -- A write of a framed track: a choice that goes through leaves the pool, and an edit in place leaves a modified frame.
-use Rattle.std.proofs.Common.{◌≡◌, ◌∙◌, ◌<◌, ◌==◌, inl, inr, length, ℕ, Bool, true, false, List, [], ◌∷◌, Option, Some, None, cond, refl, sym, ap, subst}
+use Rattle.std.proofs.Common.{[], ◌≡◌, ◌∙◌, ◌<◌, ◌==◌, inl, inr, length, ℕ, Bool, true, false, List, ◌∷◌, Option, Some, None, cond, refl, sym, ap, subst}
 use Rattle.std.specs.Prelude.{is_some, nat_lt, slice_set, if◌then◌else◌}
 use Rattle.std.proofs.lemmas.Bool.{eq-eqb}
 use Rattle.std.proofs.lemmas.List.{get_or-set_same, get_or-set_other}
 use Rattle.std.specs.Map.{lookup, set_value}
-use Rattle.ckd_types.specs.declared.record.Edit.{Edit}
-use Rattle.ckd_rules.specs.Facts.{Suits}
 use Rattle.track_cache.specs.declared.frames.Frame.{Frame}
-use Rattle.track_cache.specs.Frames.{is_modified, is_modified_frame, SuitsFrame}
+use Rattle.track_cache.specs.Frames.{is_modified, is_modified_frame}
 use Rattle.device_outside.specs.declared.port.SlotGrant.TheVariants as grants
 use Rattle.device_outside.specs.Lists as lists
 use Rattle.device_outside.specs.Lists.{is_in, less_one, with_number}
 use Rattle.device_outside.specs.Outside.{PortView, Answered, ByPool}
 use Rattle.device_outside.specs.Pool as pools
 use Rattle.device_outside.specs.Pool.{Pool, FreeSlot, SetModified, WantSlot, is_listed, is_of, after, answer}
-use Rattle.device_defs.specs.Contents.{contents}
-use Rattle.device_defs.specs.Losses.{framed_image}
 use Rattle.event_notes.specs.Loose.{is_loose_in}
-use Rattle.device_store.specs.Looks.{StoreOf}
 use Rattle.device_store.proofs.Loosely.{same_or_not}
 
 -- The pool doesn't list the frame
@@ -120,11 +115,6 @@ pub slot_down : (p q : PortView) → Answered p WantSlot grants.Down q → p ≡
 slot_down p q says = view_by p.pool q.pool p.denials q.denials (down_by p.pool q.pool says.by_pool) (sym says.denials)
 
 -- The edit of the frame
-
-pub suits_frame : (s : StoreOf) (t : ℕ) (e : Edit) (f : Option Frame) → is_some f ≡ true →
-    Suits (framed_image contents s t f).geometry (framed_image contents s t f).track.records e → SuitsFrame e f
-suits_frame s t e None there suits = absurd cc
-suits_frame s t e (Some f) there suits = suits
 
 -- where the frame of a track becomes another that is modified
 pub still_modified : (frames : List (Option Frame)) (loose : ℕ → Bool) (t : ℕ) (f : Option Frame) → is_modified_frame f ≡ true → t < length frames →

@@ -1,8 +1,6 @@
 pub mod InPlace
 pub mod Moves
 pub mod Hearings
-pub mod Queues
-pub mod Counts
 pub mod Losing
 pub mod Looks
 pub mod Telling

@@ -1,5 +1,5 @@
 -- Looks at a track by what its frame is.
-use Rattle.std.proofs.Common.{◌≡◌, ℕ, true, false, List, Option, Some, None, Ok, Err, refl, sym}
+use Rattle.std.proofs.Common.{◌≡◌, ℕ, true, false, List, Option, Some, None, Ok, refl, sym}
 use Rattle.std.specs.Prelude.{is_some, if◌then◌else◌}
 use Rattle.ckd_types.specs.declared.geometry.Geometry.{Geometry}
 use Rattle.ckd_types.specs.Geometry.{cchh_of}
@@ -60,7 +60,3 @@ patched_with (Some p) i = refl
 pub read_image : (g : Geometry) (t : ℕ) (bytes : List ℕ) (i : Image) → reading g (cchh_of t) bytes ≡ Ok i.track → i.geometry ≡ g →
     image_read g t bytes ≡ Some i
 read_image g t bytes i reads is = rw reads (rw (sym is) refl)
-
-pub bad_image : (g : Geometry) (t at : ℕ) (bytes : List ℕ) (p : Option Stored) → reading g (cchh_of t) bytes ≡ Err at →
-    None ≡ patched_by p (image_read g t bytes)
-bad_image g t at bytes p reads = rw reads refl

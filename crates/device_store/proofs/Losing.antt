@@ -9,11 +9,6 @@ use Rattle.device_defs.specs.Losses as losses
 use Rattle.device_defs.specs.Losses.{over}
 use Rattle.device_defs.specs.Store.{Store}
 
-pub none_least : (n : ℕ) (f : ℕ → Bool) → ((t : ℕ) → f t ≡ false) → least n f ≡ None
-unfolding tracks.least
-none_least zero f none = refl
-none_least (suc n) f none = rw (none_least n f none, none n) refl
-
 no_first : (x y : Option ℕ) → is_some (or_else x y) ≡ false → is_some x ≡ false
 no_first (Some t) y e = absurd cc
 no_first None y e = refl

@@ -1,5 +1,5 @@
 -- Lists of notes that are empty.
-use Rattle.std.proofs.Common.{◌≡◌, ◌<◌, ℕ, zero, suc, ◌+◌, List, [], ◌∷◌, ◌++◌, length, get_or, set, refl, ap, ◌∙◌, arith}
+use Rattle.std.proofs.Common.{[], ◌≡◌, ◌<◌, ℕ, zero, suc, ◌+◌, List, ◌∷◌, ◌++◌, length, get_or, refl, ap, ◌∙◌, arith}
 use Rattle.std.specs.Prelude.{replicate}
 
 one_more : (n : ℕ) → replicate n [] ++ [] ∷ [] ≡ replicate {A = List ℕ} (suc n) []
@@ -18,10 +18,3 @@ all_empty (suc n) [] e f = absurd (omega (arith, e))
 all_empty (suc n) (x ∷ xs) e f =
     ap (λ (l : List ℕ). l ∷ xs) (f zero (omega arith)) ∙ ap (λ (l : List (List ℕ)). [] ∷ l)
     (all_empty n xs (omega (arith, e)) (λ i lt. f (suc i) (omega (arith, lt))))
-
-pub cleared : (xs : List (List ℕ)) (n i : ℕ) → i < n + 1 → ((j : ℕ) → j < n → get_or xs j [] ≡ []) → get_or (set xs n []) i [] ≡ []
-cleared [] n i lt f = refl
-cleared (x ∷ xs) zero zero lt f = refl
-cleared (x ∷ xs) zero (suc i) lt f = absurd (omega (arith, lt))
-cleared (x ∷ xs) (suc n) zero lt f = f zero (omega arith)
-cleared (x ∷ xs) (suc n) (suc i) lt f = cleared xs n i (omega (arith, lt)) (λ j l. f (suc j) (omega (arith, l)))

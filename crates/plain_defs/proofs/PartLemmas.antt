@@ -1,31 +1,5 @@
 -- Laws of the parts of a program.
-use Rattle.std.proofs.Common.{
-  ◌≡◌,
-  ◌≤◌,
-  ◌<◌,
-  ◌+◌,
-  ℕ,
-  zero,
-  suc,
-  List,
-  [],
-  ◌∷◌,
-  ◌++◌,
-  Option,
-  Some,
-  None,
-  true,
-  length,
-  take,
-  refl,
-  arith,
-  sym,
-  ap,
-  subst,
-  ◌∙◌,
-  inl,
-  inr,
-}
+use Rattle.std.proofs.Common.{◌≡◌, ◌≤◌, ◌<◌, ◌+◌, ℕ, zero, suc, List, ◌∷◌, ◌++◌, Option, Some, None, true, length, take, refl, arith, sym, ap, subst, ◌∙◌, inl, inr}
 use Rattle.std.specs.Prelude.{◌⊎◌, IsSome, IfNone}
 use Rattle.std.proofs.lemmas.Bool.{cases_lt}
 use Rattle.std.proofs.lemmas.List.{length-append, take_all, take-append-le}
@@ -88,11 +62,6 @@ module _ (path : ℕ) (ccws : List Ccw) (acts : List Acted) where
       (effect_on p.fixed p.state path p.stance (ccw_at ccws i)).outcome
   more_next p i is = (acted_beside acts (stepped path ccws p)).next
       ∙ ap (λ (next : Option ℕ). (stepped_at path ccws p next).next) is
-
-  pub more_stance : (p : Part) (i : ℕ) → p.next ≡ Some i
-      → (one_more path ccws acts p).stance ≡ (effect_on p.fixed p.state path p.stance (ccw_at ccws i)).outcome.stance
-  more_stance p i is = (acted_beside acts (stepped path ccws p)).stance
-      ∙ ap (λ (next : Option ℕ). (stepped_at path ccws p next).stance) is
 
   module _ (state : PlainState) where
     pub part_more : (k : ℕ) → part_of state path ccws acts (suc k)

@@ -6,7 +6,6 @@ use Rattle.ckd_chain.specs.declared.mark.Stage.TheVariants.{Over, Looks, Asks}
 use Rattle.ckd_chain.specs.declared.progress.Progress.{Progress}
 use Rattle.ckd_chain.specs.declared.progress.Progress.TheVariants as progresses
 use Rattle.ckd_chain.specs.declared.progress.Settled.{Settled}
-use Rattle.ckd_chain.specs.Facts.{MaySettle}
 use Rattle.ckd_chain.specs.State.{ChainState}
 use Rattle.ckd_chain.specs.Steps.{word_of, start_of, behind, end_with, stepped, settled_by}
 use Rattle.ckd_rules.specs.declared.grouping.GroupFault.{GroupFault}
@@ -80,23 +79,6 @@ module _ (f : Fixed) (paths : PathsState) (path : ℕ) (b : ChainState) where
   edit_by act (Some fault) = refl
   edit_by act None = refl
 
-  may_by : (act : LocalAct) (fault : Option GroupFault) → act_fault paths path act ≡ fault
-      → MaySettle (at_act b act) (settled_with f.geometry paths path act fault)
-  may_by (acts.SetGroup function id) (Some fault) is = refl
-  may_by acts.Sense (Some fault) is = absurd (cc)
-  may_by acts.SenseId (Some fault) is = absurd (cc)
-  may_by acts.Reserve (Some fault) is = absurd (cc)
-  may_by acts.Release (Some fault) is = absurd (cc)
-  may_by acts.Steal (Some fault) is = absurd (cc)
-  may_by acts.SenseGroup (Some fault) is = absurd (cc)
-  may_by acts.Sense None is = refl
-  may_by acts.SenseId None is = refl
-  may_by acts.Reserve None is = refl
-  may_by acts.Release None is = refl
-  may_by acts.Steal None is = refl
-  may_by (acts.SetGroup function id) None is = refl
-  may_by acts.SenseGroup None is = refl
-
 -- a command that ended so, with what is then kept of the paths
 abbrev pub done_by : CommandEnd → PathsState → Done
 done_by e paths = record { end = e; edit = None; paths = paths }
@@ -132,13 +114,6 @@ module _ (d : PlainState) (path : ℕ) where
         chain_is = last_is ∙ ap (λ (o : Outcome). behind (at_act b act) o) out;
         counted = counted;
       }
-
-  pub may_settle : (s then_chain : ChainState) (act : LocalAct) (how : Settled) → AsksFor s act then_chain
-      → how ≡ settled_act d.geometry d.paths path act → MaySettle then_chain how
-  may_settle s then_chain act how asks how_is =
-      subst (λ (x : ChainState). MaySettle x how) (sym (asks.chain ∙ asks.is))
-      (subst (λ (h : Settled). MaySettle (at_act s act) h) (sym how_is)
-      (may_by (fixed_with d 0) d.paths path s act (act_fault d.paths path act) refl))
 
   pub answered_ends : (s then_chain : ChainState) (act : LocalAct) → AsksFor s act then_chain
       → (last : ChainState) (how : Settled) (middle : PathsState) (done : Done) (e : CommandEnd)

@@ -1,6 +1,5 @@
 -- A command of the plain device that goes from track to track.
 use Rattle.std.proofs.Common.{◌≡◌, ◌+◌, ◌-◌, ◌*◌, ◌<◌, ◌≤◌, ℕ, suc, refl, sym, ap, subst, ◌∙◌, arith}
-use Rattle.std.specs.Prelude.{IsSome}
 use Rattle.ckd_types.specs.declared.channel.CommandEnd.{CommandEnd}
 use Rattle.ckd_types.specs.Sense.{equipment_sense}
 use Rattle.ckd_chain.specs.declared.mark.Mark.{Mark}
@@ -12,8 +11,8 @@ use Rattle.ckd_rules.specs.Walk.{Walked, untouched, walk}
 use Rattle.plain_defs.specs.Effect.{kept_by}
 use Rattle.plain_defs.specs.PlainState.{PlainState, with_sense}
 use Rattle.plain_device.specs.declared.done.Done.{Done}
-use Rattle.plain_device.specs.Between.{ComesTo, edit_of, fixed_with}
-use Rattle.plain_device.specs.Looking.{IsLooking, IsAtLook, walk_of, IsSameWalk, GoesTo}
+use Rattle.plain_device.specs.Between.{ComesTo, edit_of}
+use Rattle.plain_device.specs.Looking.{IsLooking, IsAtLook, walk_of, IsSameWalk}
 use Rattle.plain_device.proofs.Looks.{HasLook, has_look, without_edit}
 
 -- what is left of the command comes to what all of it comes to
@@ -23,21 +22,6 @@ pub record IsFollowing (d : PlainState) (s now : ChainState) (track k : ℕ) : T
   pub rest : IsSameWalk (walk_of d s (d.cylinders * 15)) (walk_of d now ((d.cylinders * 15) - k))
   pub track_is : track ≡ now.at.stance.track
   pub on_device : track < d.cylinders * 15
-
-pub following_first : (d : PlainState) (s : ChainState) (track : ℕ) → IsLooking d s → track ≡ s.at.stance.track
-    → track < d.cylinders * 15 → IsFollowing d s s track 0
-following_first d s track looking at inside =
-    let all : (d.cylinders * 15) ≡ (d.cylinders * 15) - 0 = omega arith in record {
-      looking = looking;
-      stands = refl;
-      rest = record {
-        outcome = ap (λ (n : ℕ). (walk_of d s n).outcome) all;
-        edit =
-            ap (λ (n : ℕ). (walk_of d s n).edit) all;
-      };
-      track_is = at;
-      on_device = inside;
-    }
 
 starts_standing : (s : ChainState) → IsAtLook s.stage → (z : Stance) → start_of (standing s z) ≡ start_of s
 starts_standing s at z =
@@ -88,26 +72,6 @@ module _ (d : PlainState) (s now : ChainState) (track k : ℕ) (f : IsFollowing 
   following_over then_chain done at more e =
       ends_all then_chain done at (subst (λ (n : ℕ). ComesTo now then_chain done
       (kept_by d.paths path (walk_of d now n))) (sym (left more)) (e ((d.cylinders * 15) - (k + 1))))
-
-  pub following_on : (then_chain : ChainState) (t : ℕ) → k < (d.cylinders * 15)
-      → GoesTo d now then_chain t → IsFollowing d s then_chain t (k + 1)
-  following_on then_chain t more g =
-      let rest = g.rest ((d.cylinders * 15) - (k + 1)) in record {
-        looking = record {
-          fixed = subst (λ (n : ℕ). then_chain.fixed ≡ fixed_with d n)
-              (ap (λ (x : ChainState). x.fixed.number) (sym g.chain_is))
-              (ap (λ (x : ChainState). x.fixed) g.chain_is ∙ f.looking.fixed);
-          stage = subst (λ (x : ChainState). IsAtLook x.stage) (sym g.chain_is) f.looking.stage;
-          running = subst (λ (x : ChainState). IsSome x.at.next) (sym g.chain_is) f.looking.running;
-        };
-        stands = g.chain_is ∙ ap (λ (x : ChainState). standing x then_chain.at.stance) f.stands;
-        rest = record {
-          outcome = f.rest.outcome ∙ ap (λ (n : ℕ). (walk_of d now n).outcome) (left more) ∙ rest.outcome;
-          edit = f.rest.edit ∙ ap (λ (n : ℕ). (walk_of d now n).edit) (left more) ∙ rest.edit;
-        };
-        track_is = g.track_is;
-        on_device = g.on_device;
-      }
 
   -- no track is left to look at
   pub following_none : (last : ChainState) (end : CommandEnd) (done : Done) → IsAtLook s.stage

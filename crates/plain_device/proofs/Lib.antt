@@ -5,7 +5,6 @@ pub mod Following
 pub mod Answering
 pub mod Opened
 pub mod Running
-pub mod Kept
 pub mod Acts
 pub mod Suiting
 pub mod Wholes

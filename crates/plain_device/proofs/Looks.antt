@@ -215,6 +215,3 @@ module _ (d : PlainState) (s : ChainState) (at : IsAtLook s.stage) (i : Image) (
       let here = (look_edits_at track edit is).0 in
       subst (λ (t : ℕ). (t < d.cylinders * 15) × Suits d.geometry (track_in d.volume t).records edit) (sym here)
       (inside, subst (λ (x : Image). Suits x.geometry x.track.records edit) image_is suits)
-
-  pub look_asks_nothing : (act : LocalAct) → progress ≡ progresses.Local act → ⊥
-  look_asks_nothing act is = star_local d s looked.look i image_is progress after steps_progress steps_after act is

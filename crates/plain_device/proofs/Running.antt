@@ -1,5 +1,5 @@
 -- A program of the plain device, one command on.
-use Rattle.std.proofs.Common.{◌≡◌, ◌+◌, ◌-◌, ◌<◌, ◌≤◌, ◌++◌, ◌∷◌, [], ℕ, suc, List, Some, None, Option, true, false, length, refl, sym, ap, subst, ◌∙◌, arith}
+use Rattle.std.proofs.Common.{[], ◌≡◌, ◌+◌, ◌-◌, ◌<◌, ◌≤◌, ◌++◌, ◌∷◌, ℕ, suc, List, Some, None, Option, true, false, length, refl, sym, ap, subst, ◌∙◌, arith}
 use Rattle.std.specs.Prelude.{IfSome, IsSome, is_none}
 use Rattle.std.proofs.lemmas.List.{length-append}
 use Rattle.ckd_types.specs.declared.channel.Ccw.{Ccw}
@@ -36,10 +36,6 @@ some_of None is = absurd (cc)
 none_of : (next : Option ℕ) → is_none next ≡ true → next ≡ None
 none_of None is = refl
 none_of (Some i) is = absurd (cc)
-
-pub is_running : (next : Option ℕ) → IsSome next → is_none next ≡ false
-is_running (Some i) some = refl
-is_running None some = absurd (cc)
 
 pub between_of : (p : Part) (ccws : List Ccw) (device : PlainState) (chain : ChainState) (ends : List CommandEnd)
     → IsAtPart p ccws device chain ends → is_none chain.at.next ≡ false → IsBetween device chain

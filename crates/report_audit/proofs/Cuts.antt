@@ -1,5 +1,5 @@
 -- The lines of a text whose first line is known.
-use Rattle.std.proofs.Common.{◌≡◌, ◌≢◌, ◌<◌, ◌+◌, ◌∷◌, [], ◌++◌, ℕ, zero, suc, List, Bool, true, false, cond, Some, length}
+use Rattle.std.proofs.Common.{[], ◌≡◌, ◌≢◌, ◌<◌, ◌+◌, ◌∷◌, ◌++◌, ℕ, suc, List, Bool, true, false, cond, Some, length}
 use Rattle.std.proofs.Common.{refl, ap, ◌∙◌, arith}
 use Rattle.std.specs.Prelude.{codes, option_map}
 use Rattle.std.specs.Str.{bytes_eq}
@@ -22,16 +22,6 @@ cut_ended (b ∷ bytes) rest one =
 -- one that none ends
 pub cut_last : (line : List ℕ) → IsOneLine line → 0 < length line → cut_lines line ≡ line ∷ []
 cut_last line one some = no_split line one some
-
-pub no_line : IsOneLine []
-no_line k h = absurd (omega (arith, h))
-
--- a line goes on
-pub one_more : (line part : List ℕ) → IsOneLine line → IsOneLine part → IsOneLine (line ++ part)
-one_more [] part one more k h = more k h
-one_more (b ∷ line) part one more zero h = one 0 (omega arith)
-one_more (b ∷ line) part one more (suc k) h =
-    one_more line part (λ j lt. one (suc j) (omega (arith, lt))) more k (omega (arith, h))
 
 -- the first REPORT of lines behind one that isn't
 abbrev pub next : ℕ → ℕ

@@ -1,19 +1,17 @@
 -- What an audit comes to behind one line more.
-use Rattle.std.proofs.Common.{◌≡◌, ◌<◌, ◌+◌, ◌∷◌, [], ◌++◌, ℕ, ◌-◌, zero, suc, List, Bool, true, false, Option, Some, None, Result, Ok, Err, length, get_or}
+use Rattle.std.proofs.Common.{[], ◌≡◌, ◌<◌, ◌+◌, ◌∷◌, ◌++◌, ℕ, ◌-◌, zero, suc, List, Bool, true, false, Option, Some, None, Result, Ok, Err, length, get_or}
 use Rattle.std.proofs.Common.{take, drop}
-use Rattle.std.proofs.Common.{refl, sym, ap, subst, ◌∙◌, arith, add-one, append_assoc, length-append}
+use Rattle.std.proofs.Common.{refl, sym, ap, subst, ◌∙◌, arith, add-one, append_assoc}
 use Rattle.std.specs.Prelude.{codes, option_map}
 use Rattle.std.specs.List.{flat_map}
 use Rattle.std.specs.Str.{bytes_eq}
-use Rattle.std.proofs.lemmas.Bool.Decides.{nat_tests}
 use Rattle.std.proofs.lemmas.List.{append-nil}
 use Rattle.deck_text.specs.DeckLines.{DeckLines}
 use Rattle.deck_text.specs.Parse.{parsed}
 use Rattle.deck_text.specs.declared.line.DeckFault.{DeckFault}
 use Rattle.deck_text.specs.declared.line.DeckFault.TheVariants as deck_faults
-use Rattle.deck_text.specs.declared.line.Which.TheVariants.{Size}
 use Rattle.report_auditor.specs.declared.status.AuditStatus.{AuditStatus}
-use Rattle.report_auditor.specs.declared.status.AuditStatus.TheVariants.{No, Limit}
+use Rattle.report_auditor.specs.declared.status.AuditStatus.TheVariants.{No}
 use Rattle.report_auditor.specs.declared.status.AuditWhy.{AuditWhy}
 use Rattle.report_places.specs.declared.state.Due.{Due}
 use Rattle.report_places.specs.declared.state.Due.TheVariants as dues
@@ -23,8 +21,8 @@ use Rattle.report_auditor.proofs.LineLemmas.{whole_rest}
 use Rattle.report_auditor.specs.declared.auditor.Auditor.{Auditor}
 use Rattle.report_auditor.specs.Auditor.{IsAuditOf, is_nothing}
 use Rattle.report_audit.specs.Lines.{IsOneLine}
-use Rattle.report_audit.specs.Progress.{Progress, Comes, Comes_by, GoesOn, JudgedIn, Reporting, behind, behind_at, deck_behind, deck_end, fault_answer, is_over}
-use Rattle.report_audit.specs.Progress.{is_reporting, over_by, report_end, some_auditor, status_of}
+use Rattle.report_audit.specs.Progress.{Progress, Comes, Comes_by, GoesOn, JudgedIn, Reporting, behind, behind_at, deck_behind, fault_answer}
+use Rattle.report_audit.specs.Progress.{is_reporting, report_end, some_auditor, status_of}
 use Rattle.report_audit.proofs.Cuts.{cut_ended, cut_last, found_behind, next}
 
 -- Before REPORT
@@ -85,11 +83,6 @@ behind_last k m deck line one some other =
     ∙ ap (λ (l : List ℕ). deck_behind k (parsed l) line None) (sym (append-nil (deck ++ line)))
     ∙ no_report_same k m (parsed ((deck ++ line) ++ [])) line []
 
--- nothing follows
-pub behind_end : (k : ℕ) (deck : List ℕ) → behind k deck [] ≡ deck_end (parsed deck)
-behind_end k deck =
-    ap (λ (l : List ℕ). deck_behind k (parsed l) [] None) (append-nil deck) ∙ no_report_same k 0 (parsed deck) [] []
-
 -- the line REPORT
 pub behind_report : (k : ℕ) (deck rest : List ℕ)
     → behind k deck (codes "REPORT" ++ 10 ∷ rest) ≡ deck_behind k (parsed deck) (codes "REPORT" ++ 10 ∷ rest) (Some 0)
@@ -98,26 +91,7 @@ behind_report k deck rest = ap (λ (l : List ℕ). deck_behind k (parsed l) (cod
 pub behind_report_alone : (k : ℕ) (deck : List ℕ) → behind k deck (codes "REPORT") ≡ deck_behind k (parsed deck) (codes "REPORT") (Some 0)
 behind_report_alone k deck = ap (λ (l : List ℕ). deck_behind k (parsed l) (codes "REPORT") (Some 0)) (append-nil deck)
 
--- a deck that is too long
-parsed_long : (text : List ℕ) → 16777216 < length text → parsed text ≡ Err (deck_faults.Limit Size)
-parsed_long text long = grind (arith, nat_tests)
-
-pub behind_long : (k : ℕ) (deck text : List ℕ) → 16777216 < length deck → behind k deck text ≡ Limit Size
-behind_long k deck text long =
-    let at = report_from 0 (cut_lines text) in
-    ap (λ (r : Result DeckLines DeckFault). deck_behind k r text at)
-    (parsed_long (deck ++ deck_part text at) (omega (arith, long, length-append deck (deck_part text at))))
-
 -- Progress
-
--- where the answer is known nothing changes it
-over_goes : (status : Option AuditStatus) (auditor : Option Auditor) (p : Progress) (text rest : List ℕ) (answer : AuditStatus) → over_by status ≡ true
-    → Comes_by status auditor p text answer → Comes_by status auditor p rest answer
-over_goes (Some known) auditor p text rest answer over comes = comes
-over_goes None auditor p text rest answer over comes = absurd (cc)
-
-pub over_stays : (p : Progress) (text rest : List ℕ) → is_over p ≡ true → GoesOn p text p rest
-over_stays p text rest over answer comes = over_goes p.status p.auditor p text rest answer over comes
 
 -- before REPORT, what it comes to
 pub comes_behind : (p : Progress) (text : List ℕ) (answer : AuditStatus) → p.status ≡ None → p.auditor ≡ None → Comes p text answer
@@ -144,12 +118,6 @@ deck_ends p line front deck one some other answer comes =
     behind_comes (record p { deck = (p.deck ++ line) ++ []; lines = p.lines + 1 }) [] answer front deck
     (comes_behind p line answer front deck comes ∙ behind_last p.lines (p.lines + 1) p.deck line one some other
     ∙ ap (λ (l : List ℕ). behind (p.lines + 1) l []) (sym (append-nil (p.deck ++ line))))
-
-pub deck_too_long : (p q : Progress) (text rest : List ℕ) → p.status ≡ None → p.auditor ≡ None → 16777216 < length p.deck → q.status ≡ Some (Limit Size)
-    → GoesOn p text q rest
-deck_too_long p q text rest front deck long over answer comes =
-    subst (λ (s : Option AuditStatus). Comes_by s q.auditor q rest answer) (sym over)
-    (comes_behind p text answer front deck comes ∙ behind_long p.lines p.deck text long)
 
 -- REPORT: what follows is judged, or the deck's fault is told
 abbrev pub Opens : Progress → Progress → Result DeckLines DeckFault → Type 0
@@ -255,34 +223,13 @@ ends_by n (dues.Powers k) = refl
 ends_by n (dues.Totals k) = refl
 ends_by n dues.Frames = refl
 
-pub known_end : (p : Progress) (known answer : AuditStatus) → p.status ≡ Some known → Comes p [] answer → answer ≡ known
-known_end p known answer is comes = subst (λ (s : Option AuditStatus). Comes_by s p.auditor p [] answer) is comes
-
 pub report_over : (p : Progress) (auditor : Auditor) (finished : Bool) (answer : AuditStatus) → p.status ≡ None → p.auditor ≡ Some auditor
     → ((s : AuditState) → IsAuditOf auditor s → finished ≡ is_nothing s.due) → Comes p [] answer → answer ≡ report_end (p.lines + 1) finished
 report_over p auditor finished answer front is finishes comes =
     let r = comes_reporting p auditor [] answer front is comes in
     r.comes ∙ ends_by (p.lines + 1) r.state.due ∙ ap (λ (b : Bool). report_end (p.lines + 1) b) (sym (finishes r.state r.held))
 
-pub deck_over : (p : Progress) (answer : AuditStatus) → p.status ≡ None → p.auditor ≡ None → Comes p [] answer → answer ≡ deck_end (parsed p.deck)
-deck_over p answer front deck comes = comes_behind p [] answer front deck comes ∙ behind_end p.lines p.deck
-
 -- Pieces of a line
-
--- with a line feed behind a part: nothing had begun, or a part had
-pub ended_part : (p q : Progress) (line part rest : List ℕ) → line ≡ [] → ((more : List ℕ) → GoesOn p (part ++ 10 ∷ more) q more)
-    → GoesOn p (line ++ (part ++ 10 ∷ rest)) q (line ++ rest)
-ended_part p q line part rest none goes answer comes =
-    subst (λ (l : List ℕ). Comes q (l ++ rest) answer) (sym none)
-    (goes rest answer (subst (λ (l : List ℕ). Comes p (l ++ (part ++ 10 ∷ rest)) answer) none comes))
-
-pub ended_whole : (p q : Progress) (line part rest : List ℕ) → ((more : List ℕ) → GoesOn p ((line ++ part) ++ 10 ∷ more) q more)
-    → GoesOn p (line ++ (part ++ 10 ∷ rest)) q rest
-ended_whole p q line part rest goes answer comes =
-    goes rest answer (subst (λ (l : List ℕ). Comes p l answer) (sym (append_assoc line part (10 ∷ rest))) comes)
-
-pub kept_part : (p : Progress) (line part rest : List ℕ) → GoesOn p (line ++ (part ++ rest)) p ((line ++ part) ++ rest)
-kept_part p line part rest answer comes = subst (λ (l : List ℕ). Comes p l answer) (sym (append_assoc line part rest)) comes
 
 -- a text as what stands before a line feed, the line feed and what stands behind it
 pub cut_at : (text : List ℕ) (i : ℕ) → i < length text → get_or text i 0 ≡ 10 → text ≡ take i text ++ 10 ∷ drop (suc i) text

@@ -1,40 +1,25 @@
 -- What is known of a text as it is read piece by piece.
-use Rattle.std.proofs.Common.{◌≡◌, ◌⊎◌, inl, inr, ◌<◌, ◌≤◌, ◌+◌, [], ◌++◌, ℕ, List, Bool, true, false, Option, Some, None, Result, Ok, Err, length, drop}
+use Rattle.std.proofs.Common.{[], ◌≡◌, ◌⊎◌, inl, inr, ◌<◌, ◌≤◌, ◌+◌, ◌++◌, ℕ, List, Bool, true, false, Option, Some, None, length}
 use Rattle.std.proofs.Common.{refl, sym, ap, subst, ◌∙◌, arith, append_assoc, length-append}
-use Rattle.std.proofs.KnownBytes.{Consumes-nil, Consumes-trans}
+use Rattle.std.proofs.KnownBytes.{Consumes-trans}
 use Rattle.std.specs.Io.KnownBytes.{Consumes, IsAtEnd, Appends}
 use Rattle.std.proofs.lemmas.Bool.{cases_lt, true≢false}
 use Rattle.std.proofs.lemmas.List.{append-nil}
 use Rattle.ckd_outside.specs.Texts.{AppendsFront}
-use Rattle.deck_text.specs.DeckLines.{DeckLines}
-use Rattle.deck_text.specs.Parse.{parsed}
-use Rattle.deck_text.specs.declared.line.DeckFault.{DeckFault}
 use Rattle.deck_text.specs.declared.line.DeckFault.TheVariants as deck_faults
 use Rattle.deck_text.specs.declared.line.Which.TheVariants.{Size}
 use Rattle.report_auditor.specs.declared.status.AuditStatus.{AuditStatus}
 use Rattle.report_auditor.specs.declared.status.AuditStatus.TheVariants.{Yes, No, NoReport, DeckRefused, ReadFault, WriteFault, Limit, NoMemory, Usage}
 use Rattle.report_auditor.specs.declared.status.AuditWhy.{AuditWhy}
-use Rattle.deck_audit.specs.State.{first_state}
-use Rattle.report_auditor.specs.Verdict.{cut_lines, deck_judged, deck_part, judged_lines, read_back, read_back_at, report_from}
+use Rattle.report_auditor.specs.Verdict.{cut_lines, read_back, read_back_at, report_from}
 use Rattle.report_audit.specs.FirstFault.{IsBad, IsGood}
 use Rattle.report_audit.proofs.FirstFaults.{no_bad, read_long, read_short, yes_good}
 use Rattle.report_audit.specs.Answers.{IsReadBack, Reads, Tells, TellsAudit, status_text}
-use Rattle.report_audit.specs.Progress.{Comes, GoesOn, Halfway, begun, deck_behind, is_answer}
+use Rattle.report_audit.specs.Progress.{Comes, GoesOn, Halfway, is_answer}
 
 -- what a text comes to that isn't too long
 abbrev pub whole : List ℕ → AuditStatus
 whole text = read_back_at text (report_from 0 (cut_lines text))
-
-whole_by : (r : Result DeckLines DeckFault) (text : List ℕ) (at : Option ℕ) → deck_judged r text at ≡ deck_behind 0 r text at
-whole_by (Ok deck) text None = refl
-whole_by (Ok deck) text (Some n) =
-    ap (λ (k : ℕ). judged_lines k (first_state deck) (drop (n + 1) (cut_lines text))) (let e : n + 2 ≡ 0 + (n + 2) = omega arith in e)
-whole_by (Err (deck_faults.Refused line why)) text at = refl
-whole_by (Err (deck_faults.Limit which)) text at = refl
-whole_by (Err deck_faults.NoMemory) text at = refl
-
-pub whole_begun : (text : List ℕ) → Comes begun text (whole text)
-whole_begun text = whole_by (parsed (deck_part text (report_from 0 (cut_lines text)))) text (report_from 0 (cut_lines text))
 
 -- the text so far, and what it comes to with what follows
 pub record IsRead (before after : Option (List ℕ)) (audit : Halfway) (size : ℕ) : Type 0 where
@@ -42,9 +27,6 @@ pub record IsRead (before after : Option (List ℕ)) (audit : Halfway) (size : �
   pub taken : Consumes before after text
   pub len : length text ≡ size
   pub comes : (rest : List ℕ) → Comes audit.audit (audit.line ++ rest) (whole (text ++ rest))
-
-pub read_begun : (source : Option (List ℕ)) → IsRead source source (record { audit = begun; line = [] }) 0
-read_begun source = record { text = []; taken = Consumes-nil source; len = refl; comes = λ rest. whole_begun rest }
 
 pub read_on : (before middle after : Option (List ℕ)) (audit next : Halfway) (size count : ℕ) (piece : List ℕ) → IsRead before middle audit size
     → Consumes middle after piece → length piece ≡ count
@@ -59,9 +41,6 @@ read_on before middle after audit next size count piece was taken len goes =
           subst (λ (t : List ℕ). Comes next.audit (next.line ++ rest) (whole t)) (sym (append_assoc was.text piece rest))
           (goes rest (whole (was.text ++ (piece ++ rest))) (was.comes (piece ++ rest)));
     }
-
-same_text : (text : List ℕ) → text ≡ text ++ []
-same_text text = sym (append-nil text)
 
 pub read_done : (before middle after : Option (List ℕ)) (audit : Halfway) (size : ℕ) (answer : AuditStatus) → IsRead before middle audit size
     → Consumes middle after [] → IsAtEnd after → size < 268435457

@@ -1,10 +1,10 @@
 -- A line behind a piece of work: one of its acts, or the first line behind them, where the work is taken as done.
 use Rattle.std.proofs.Common.{◌≡◌, ℕ, List, Option, Some, None, Bool, true, false, cond, refl, arith, sym, ap, subst, ◌∙◌}
-use Rattle.std.specs.Prelude.{◌&&◌, ◌||◌, not, Result, Ok, Err, slice_get}
+use Rattle.std.specs.Prelude.{◌&&◌, ◌||◌, not, Result, Err, slice_get}
 use Rattle.deck_plan.specs.declared.event.EventLine.{EventLine}
 use Rattle.report_text.specs.declared.line.ReportLine.{ReportLine}
 use Rattle.report_text.specs.declared.line.ReportLine.TheVariants as lines
-use Rattle.report_auditor.specs.Auditor.{IsFor, IsJudged, Makes, OneKept, behind_of, idle_fault, judged_settled, kept_legal, place_from, placed}
+use Rattle.report_auditor.specs.Auditor.{IsFor, IsJudged, Makes, OneKept, idle_fault, judged_settled, kept_legal, place_from, placed}
 use Rattle.report_auditor.specs.declared.auditor.Auditor.{Auditor}
 use Rattle.deck_audit.specs.declared.kept.Kept.{Kept}
 use Rattle.report_places.specs.declared.state.Did.{Did}
@@ -101,9 +101,6 @@ module _ (s : AuditState) (line : ReportLine) (more : Bool) (did : Did) (due_is 
   idle_by : (w : Option ℕ) → holds w (λ d. is_act_of more d line) ≡ false → by w None ≡ Err (idle_fault line)
   idle_by w none = by_idle (is_io line) (holds w (λ d. is_act_of more d line)) (in_state s line) None none away
 
-  pub no_worker : worker_number s ≡ None → (why : AuditWhy) → why ≡ idle_fault line → judged s line ≡ Err why
-  no_worker none why is = is_by None none ∙ idle_by None refl ∙ ap (λ (x : AuditWhy). Err x) (sym is)
-
   module _ (d : ℕ) (worker_is : worker_number s ≡ Some d) where
     pub no_device : is_act_of more d line ≡ false → device_in s.devices d ≡ None → (why : AuditWhy) → why ≡ idle_fault line
         → judged s line ≡ Err why
@@ -147,18 +144,3 @@ pub worker_of_left : (z : Auditor) (s : AuditState) → IsFor z s → (left : Li
 worker_of_left z s f left is = ap (λ (e : List EventLine). then_of (first_event e) worker_of) is
 
 -- What is due by its kind
-
-abbrev due_in : Result (Bool × Did) Due → Due
-due_in (Ok (more, did)) = Behind more did
-due_in (Err due) = due
-
-pub behind_is : (due : Due) (r : Result (Bool × Did) Due) → behind_of due ≡ r → due ≡ due_in r
-behind_is (Behind more did) r is = ap due_in is
-behind_is due r is = ap due_in is
-
-pub placed_so : (s : AuditState) (line : ReportLine) (due : Due) → behind_of s.due ≡ Err due → judged s line ≡ placed s line
-placed_so s line due is = by_due s.due is where
-  by_due : (x : Due) → behind_of x ≡ Err due → cond (stands_in s line x) (or_history (made_in s line x)) (Err Place)
-      ≡ cond (in_due (outlines s) s.events line x) (or_history (due_made s line x)) (Err Place)
-  by_due (Behind more did) is = absurd (cc)
-  by_due x is = refl

@@ -1,5 +1,5 @@
 -- What a line's place says of the devices of an audited state.
-use Rattle.std.proofs.Common.{◌≡◌, ◌≤◌, ◌+◌, ◌-◌, ℕ, zero, suc, List, [], ◌∷◌, length, drop, Option, Some, None, Bool, true, false, cond, refl, arith, sym, ap}
+use Rattle.std.proofs.Common.{[], ◌≡◌, ◌≤◌, ◌+◌, ◌-◌, ℕ, zero, suc, List, ◌∷◌, length, drop, Option, Some, None, Bool, true, false, cond, refl, arith, sym, ap}
 use Rattle.std.proofs.Common.{subst, ◌∙◌, eq-eqb}
 use Rattle.std.specs.Prelude.{◌==◌, ◌&&◌, ◌||◌, not, map, nat_lt, slice_get}
 use Rattle.std.proofs.Common.{rules}
@@ -85,8 +85,6 @@ last_of_and true y is = is
 last_of_and false y is = absurd (cc)
 
 module _ (p e m k : ℕ) where
-  abbrev over : ReportLine
-  over = lines.Over p e m (how.Cut k)
 
   cut_step : (a : AuditedDevice) (ds : List AuditedDevice) (running : Option OpenEntry) → a.history.running ≡ running
       → in_power_of (outline_of a) (lines.Over p e m (how.Cut k)) (in_power (lines.Over p e m (how.Cut k)) (map outline_of ds)) (open_program running) ≡ true
@@ -219,7 +217,3 @@ totals_left s d t k is =
     (in_totals_of s (lines.Device d t) (drop k s)) is
     (and_false (nat_lt 0 k) _ (no_lost_device d t (slice_get s (k - 1))))) in
     let l = length-drop k s in omega (arith, left, l)
-
-no_lost : (s : List Outline) (d t : ℕ) (left : List Outline) → in_totals_of s (lines.Lost d t) left ≡ false
-no_lost s d t [] = refl
-no_lost s d t (a ∷ left) = refl

@@ -1,12 +1,9 @@
 -- Where the first line of a report ends.
-use Rattle.std.proofs.Common.{◌≡◌, ◌≢◌, ◌<◌, ◌+◌, ◌-◌, length-drop, ◌∷◌, [], ℕ, zero, suc, List, length, get_or, take, drop, arith, sym, ap, ◌∙◌}
+use Rattle.std.proofs.Common.{[], ◌≡◌, ◌≢◌, ◌<◌, ◌+◌, ◌-◌, length-drop, ◌∷◌, ℕ, suc, List, length, get_or, take, drop, arith, sym, ap, ◌∙◌}
 use Rattle.std.proofs.lemmas.Bool.Decides.{nat_tests}
 use Rattle.std.proofs.lemmas.List.{take_all}
 use Rattle.deck_text.specs.Lines.{onto_first}
 use Rattle.report_auditor.specs.Verdict.{cut_lines}
-
-ends_here : (b : ℕ) (bytes : List ℕ) → b ≡ 10 → cut_lines (b ∷ bytes) ≡ [] ∷ cut_lines bytes
-ends_here b bytes is = grind (arith, nat_tests)
 
 goes_onto : (b : ℕ) (bytes : List ℕ) → b ≢ 10 → cut_lines (b ∷ bytes) ≡ onto_first b (cut_lines bytes)
 goes_onto b bytes ne = grind (arith, nat_tests)

@@ -1,7 +1,7 @@
 -- The words of a text are its first word and those behind the space that ends it; and words found at places.
-use Rattle.std.proofs.Common.{◌≡◌, ◌<◌, ◌≤◌, ◌+◌, ◌-◌, ◌==◌, ◌∷◌, [], ◌++◌, ℕ, zero, suc, List, Bool, true, false}
+use Rattle.std.proofs.Common.{[], ◌≡◌, ◌<◌, ◌≤◌, ◌+◌, ◌-◌, ◌==◌, ◌∷◌, ◌++◌, ℕ, zero, suc, List, Bool, true, false}
 use Rattle.std.proofs.Common.{Option, length, take, drop, set, map, refl, sym, ap, ◌∙◌, arith, append_assoc}
-use Rattle.std.specs.Prelude.{slice_get, slice_index}
+use Rattle.std.specs.Prelude.{slice_index}
 use Rattle.std.specs.List.{slice_split, onto_first}
 use Rattle.std.proofs.lemmas.List.Splits.{slice_split-cons_no, slice_split-cons_yes}
 use Rattle.std.proofs.lemmas.List.{take_all, take_rest, map-append}
@@ -43,21 +43,6 @@ at_space text k inside before is =
     ∙ ap (λ (l : List ℕ). take k text ∷ slice_split space l) (sym (take_rest text (k + 1)))
 
 module _ {A : Type 0} where
-  pub get_front : (xs ys : List A) (i : ℕ) → i < length xs → slice_get (xs ++ ys) i ≡ slice_get xs i
-  get_front [] ys i inside = absurd (omega (arith, inside))
-  get_front (x ∷ xs) ys zero inside = refl
-  get_front (x ∷ xs) ys (suc i) inside = get_front xs ys i (omega (arith, inside))
-
-  behind : (xs ys : List A) (i : ℕ) → slice_get (xs ++ ys) (length xs + i) ≡ slice_get ys i
-  behind [] ys i = let e : 0 + i ≡ i = omega arith in ap (slice_get ys) e
-  behind (x ∷ xs) ys i =
-      let e : suc (length xs) + i ≡ suc (length xs + i) = omega arith in
-      ap (slice_get (x ∷ (xs ++ ys))) e ∙ behind xs ys i
-
-  pub get_back : (xs ys : List A) (n i : ℕ) → length xs ≡ n → n ≤ i → slice_get (xs ++ ys) i ≡ slice_get ys (i - n)
-  get_back xs ys n i is past =
-      let e : i ≡ length xs + (i - n) = omega (arith, is, past) in
-      ap (slice_get (xs ++ ys)) e ∙ behind xs ys (i - n)
 
 -- the words in the first places of a list, and those of what is left; one place more
 module _ {X : Type 0} (view : X → List ℕ) where

@@ -1,5 +1,5 @@
 -- A report shows of each device's programs what its history has, where each event shows what came to it.
-use Rattle.std.proofs.Common.{◌≡◌, ◌∷◌, [], ◌++◌, ◌∙◌, ℕ, List, Bool, true, false, Option, Some, None, refl, sym, ap, append_assoc, if◌then◌else◌, map}
+use Rattle.std.proofs.Common.{[], ◌≡◌, ◌∷◌, ◌++◌, ◌∙◌, ℕ, List, Bool, true, false, refl, sym, ap, append_assoc, if◌then◌else◌, map}
 use Rattle.std.proofs.lemmas.List.{append-nil}
 use Rattle.std.specs.List.{flat_map}
 use Rattle.device_outside.specs.Pool.{Frame}
@@ -39,17 +39,9 @@ module _ (d : ℕ) where
   lost_shows n own [] = refl
   lost_shows n own (t ∷ ts) = lost_shows n own ts
 
-  lost_owns : (n : ℕ) (own : Bool) (ts : List ℕ) → owned d own (map (lines.Lost n) ts) ≡ own
-  lost_owns n own [] = refl
-  lost_owns n own (t ∷ ts) = lost_owns n own ts
-
   one_shows : (own : Bool) (e : DeviceEnd) → shown_from d own (device_lines e) ≡ []
   one_shows own (Counted n reads writes lost) = lost_shows n own lost
   one_shows own (LentTo n to) = refl
-
-  one_owns : (own : Bool) (e : DeviceEnd) → owned d own (device_lines e) ≡ own
-  one_owns own (Counted n reads writes lost) = lost_owns n own lost
-  one_owns own (LentTo n to) = refl
 
   frames_show : (own : Bool) (fs : List Frame) → shown_from d own (map frame_line fs ++ lines.Finish ∷ []) ≡ []
   frames_show own [] = refl

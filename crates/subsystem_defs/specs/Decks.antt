@@ -1,12 +1,12 @@
 -- The run of a deck.
-use Rattle.std.specs.Prelude.{ℕ, ◌==◌, ◌&&◌, not, Bool, true, false, List, [], ◌∷◌, map, if◌then◌else◌}
+use Rattle.std.specs.Prelude.{[], ℕ, ◌==◌, ◌&&◌, not, Bool, true, false, List, ◌∷◌, map, if◌then◌else◌}
 use Rattle.deck_text.specs.declared.line.DeviceLine.{DeviceLine}
 use Rattle.deck_text.specs.declared.line.FaultLine.{FaultLine}
 use Rattle.deck_text.specs.DeckLines.{DeckLines}
 use Rattle.deck_text.specs.Plans.{plans_of}
 use Rattle.device_outside.specs.Pool.{new_pool}
 use Rattle.device_outside.specs.Volume.{Plan}
-use Rattle.subsystem_defs.specs.Closing.{Ending, HandedOut, ending, handed_out}
+use Rattle.subsystem_defs.specs.Closing.{HandedOut, handed_out}
 use Rattle.subsystem_defs.specs.Lines.{Asked, Logged, asked_by, run_lines, last_behind}
 use Rattle.subsystem_defs.specs.Subsystem.{Mounted, Subsystem, newly_mounted}
 
@@ -44,9 +44,6 @@ run_asked deck asked = run_from (opened deck) (run_lines asked (opened deck))
 
 abbrev pub run_of : DeckLines → DeckRun
 run_of deck = run_asked deck (map asked_by deck.events)
-
-abbrev pub ending_of : DeckLines → Ending
-ending_of deck = ending (run_of deck).behind
 
 abbrev pub handed_out_of : DeckLines → List HandedOut
 handed_out_of deck = handed_out (run_of deck).behind

@@ -8,4 +8,3 @@ pub mod Closing
 pub mod Decks
 pub mod Calm
 pub mod Promised
-pub mod Assembled

@@ -1,49 +1,7 @@
 -- A list of records in their bytes: where each stands, what is written over one, and what is cut.
-use Rattle.std.proofs.Common.{
-  ◌≡◌,
-  ℕ,
-  zero,
-  suc,
-  ◌+◌,
-  ◌≤◌,
-  ◌<◌,
-  List,
-  [],
-  ◌∷◌,
-  ◌++◌,
-  length,
-  get_or,
-  set,
-  take,
-  drop,
-  map,
-  All,
-  refl,
-  sym,
-  ap,
-  subst,
-  ◌∙◌,
-  append_assoc,
-  add-one,
-  arith,
-}
+use Rattle.std.proofs.Common.{◌≡◌, ℕ, zero, suc, ◌+◌, ◌≤◌, ◌<◌, List, ◌∷◌, ◌++◌, length, get_or, set, take, drop, map, All, refl, sym, ap, subst, ◌∙◌, append_assoc, add-one, arith}
 use Rattle.std.specs.List.{flat_map}
-use Rattle.std.proofs.lemmas.List.{
-  length-append,
-  length-take,
-  length-map,
-  same_lists,
-  drop-drop,
-  take_at,
-  drop_at,
-  take_all,
-  take-append-drop,
-  drop_more,
-  set_split,
-  get_or-map,
-  append-nil,
-  nil_from_length,
-}
+use Rattle.std.proofs.lemmas.List.{length-append, length-take, length-map, same_lists, drop-drop, take_at, drop_at, take-append-drop, drop_more, set_split, get_or-map, append-nil, nil_from_length}
 use Rattle.std.proofs.lemmas.List.Elements.{All-cons, All-nil, All-head, All-tail, All-append, All-take, All-set}
 use Rattle.std.proofs.lemmas.List.Concat.{flat_map-append}
 use Rattle.ckd_types.specs.declared.geometry.Cchh.{Cchh}
@@ -209,18 +167,6 @@ stands home bytes places rs i e d p there =
       here = omega arith;
       within = omega (arith, length-record_bytes r);
     }
-
--- where a record ends
-pub ends_at : (home : Cchh) (bytes places : List ℕ) (rs : List Record) (i : ℕ) → IsPacked home bytes places rs
-    → length rs ≤ i + 1 → length bytes ≡ 5 + length (all_bytes (take (i + 1) rs)) + 8
-ends_at home bytes places rs i p last =
-    let all : take (i + 1) rs ≡ rs = take_all (i + 1) rs last in
-    ap length (p.bytes_are ∙ grouped home rs) ∙ omega (
-      arith,
-      length-append (all_bytes rs) end_mark,
-      ap
-          (λ (x : List Record). length (all_bytes x)) all,
-    )
 
 -- what a record's count area says
 pub count_stands : (bytes : List ℕ) (at : ℕ) (r : Record) (front behind : List ℕ) → Stands bytes at r front behind

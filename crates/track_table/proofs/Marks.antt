@@ -131,15 +131,6 @@ unfolding count_below
 count_add n zero p = let e : n + 0 ≡ n = omega arith in rw e (omega arith)
 count_add n (suc m) p = let e : n + suc m ≡ suc (n + m) = omega arith in rw e (omega (arith, count_add n m p))
 
-pub count_le : (n : ℕ) (p : ℕ → Bool) → count_below n p ≤ n
-unfolding count_below
-count_le zero p = omega arith
-count_le (suc n) p = omega (arith, count_le n p, one (p n))
-  where
-    one : (b : Bool) → cond b 1 0 ≤ 1
-    one true = omega arith
-    one false = omega arith
-
 pub in_word : (words : List ℕ) (k i : ℕ) → i < 64 → is_set words (64 * k + i) ≡ (bit_at (get_or words k 0) i == 1)
 in_word words k i below =
     let word : (64 * k + i) / 64 ≡ k = omega arith in

@@ -155,10 +155,3 @@ lower_part w p h =
 -- the ones under a mask of h places
 pub low_ones : (x h : ℕ) → h < 64 → ones (bit_and x (1 * 2 ^ h % 2 ^ 64 - 1)) ≡ ones (x % 2 ^ h)
 low_ones x h few = ap (λ (m : ℕ). ones (bit_and x (m - 1))) (one_shl h 64 few) ∙ ap ones (and_mask x h)
-
--- where fewer than the ones of one place are left, it is set and none is left
-pub one_here : (w p b : ℕ) → b < ones (w / 2 ^ p % 2 ^ 1) → (bit_at w p ≡ 1) × (b ≡ 0)
-one_here w p b few = elim (bit_cases (bit_at w p) (bit_at-lt w p)) [
-  | inl e ↦ absurd (let none : ones (bit_at w p) ≡ 0 = rw e ones_0 in omega (arith, none, few))
-  | inr e ↦ (e, let one : ones (bit_at w p) ≡ 1 = rw e ones_1 in omega (arith, one, few))
-]
