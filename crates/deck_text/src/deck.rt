@@ -175,14 +175,6 @@ impl Deck {
         self.programs.programs().len()
     }
 
-    /// Program `i` in the deck's order, from 0 on.
-    pub fn program_at(&self, i: usize) -> &PlannedProgram
-        requires { i < length self.now.programs }
-        ensures { result.now ≡ slice_index_or self.now.programs i result.now }
-    {
-        &self.programs.programs()[i]
-    }
-
     /// The programs of a device by path, in the order in which they are started.
     pub fn plans(&self, d: DeviceNo) -> &PathPlans
         ensures { result.now ≡ plans_of self.now.programs d }
