@@ -1,5 +1,28 @@
 -- The devices of a subsystem by their numbers, as they stand.
-use Rattle.std.proofs.Common.{◌≡◌, ◌∙◌, ◌<◌, ◌+◌, ◌++◌, length, take, get_or, ℕ, Bool, true, false, List, ◌∷◌, Option, Some, None, refl, sym, ap, subst}
+use Rattle.std.proofs.Common.{
+  ◌≡◌,
+  ◌∙◌,
+  ◌<◌,
+  ◌+◌,
+  ◌++◌,
+  length,
+  take,
+  get_or,
+  ℕ,
+  Bool,
+  true,
+  false,
+  List,
+  [],
+  ◌∷◌,
+  Option,
+  Some,
+  None,
+  refl,
+  sym,
+  ap,
+  subst,
+}
 use Rattle.std.specs.Prelude.{◌==◌, if◌then◌else◌, option_map, IfSome}
 use Rattle.std.proofs.lemmas.List.{take_more}
 use Rattle.ckd_chain.specs.Facts.{IsChain}

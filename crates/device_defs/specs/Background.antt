@@ -1,5 +1,5 @@
 -- What a device does by itself: it recovers, copies, stages or destages a track, the first of these that there is to do.
-use Rattle.std.specs.Prelude.{[], ℕ, ◌&&◌, ◌||◌, Bool, false, List, ◌∷◌, Option, Some, None, is_some, if◌then◌else◌}
+use Rattle.std.specs.Prelude.{ℕ, ◌&&◌, ◌||◌, Bool, false, List, [], ◌∷◌, Option, Some, None, is_some, if◌then◌else◌}
 use Rattle.ckd_types.specs.declared.paths.Side.{Side}
 use Rattle.ckd_types.specs.declared.paths.Side.TheVariants.{A, B}
 use Rattle.track_image.specs.Image.{Image}

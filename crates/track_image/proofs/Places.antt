@@ -1,7 +1,48 @@
 -- A list of records in their bytes: where each stands, what is written over one, and what is cut.
-use Rattle.std.proofs.Common.{◌≡◌, ℕ, zero, suc, ◌+◌, ◌≤◌, ◌<◌, List, ◌∷◌, ◌++◌, length, get_or, set, take, drop, map, All, refl, sym, ap, subst, ◌∙◌, append_assoc, add-one, arith}
+use Rattle.std.proofs.Common.{
+  ◌≡◌,
+  ℕ,
+  zero,
+  suc,
+  ◌+◌,
+  ◌≤◌,
+  ◌<◌,
+  List,
+  [],
+  ◌∷◌,
+  ◌++◌,
+  length,
+  get_or,
+  set,
+  take,
+  drop,
+  map,
+  All,
+  refl,
+  sym,
+  ap,
+  subst,
+  ◌∙◌,
+  append_assoc,
+  add-one,
+  arith,
+}
 use Rattle.std.specs.List.{flat_map}
-use Rattle.std.proofs.lemmas.List.{length-append, length-take, length-map, same_lists, drop-drop, take_at, drop_at, take-append-drop, drop_more, set_split, get_or-map, append-nil, nil_from_length}
+use Rattle.std.proofs.lemmas.List.{
+  length-append,
+  length-take,
+  length-map,
+  same_lists,
+  drop-drop,
+  take_at,
+  drop_at,
+  take-append-drop,
+  drop_more,
+  set_split,
+  get_or-map,
+  append-nil,
+  nil_from_length,
+}
 use Rattle.std.proofs.lemmas.List.Elements.{All-cons, All-nil, All-head, All-tail, All-append, All-take, All-set}
 use Rattle.std.proofs.lemmas.List.Concat.{flat_map-append}
 use Rattle.ckd_types.specs.declared.geometry.Cchh.{Cchh}
