@@ -42,8 +42,6 @@ at_space text k inside before is =
     ∙ ap (λ (n : ℕ). take k text ∷ slice_split space (drop n text)) e
     ∙ ap (λ (l : List ℕ). take k text ∷ slice_split space l) (sym (take_rest text (k + 1)))
 
-module _ {A : Type 0} where
-
 -- the words in the first places of a list, and those of what is left; one place more
 module _ {X : Type 0} (view : X → List ℕ) where
   pub one_more : (first : List X) (n : ℕ) (w : X) (text left : List ℕ) (more : Option (List ℕ)) → n < length first
