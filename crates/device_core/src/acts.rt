@@ -3,6 +3,7 @@ ghost use Rattle.plain_defs.specs.History.{OpenEntry, acted};
 ghost use Rattle.device_defs.specs.Contents.{contents};
 ghost use Rattle.device_defs.specs.Device.{all_acted, with_store};
 ghost use Rattle.device_defs.specs.Owed.{ended};
+ghost use Rattle.device_outside.specs.Keeper.{Heard};
 ghost use Rattle.device_outside.specs.Outside.{Ran};
 ghost use Rattle.device_store.specs.State.{state_of, outside, surely};
 ghost use Rattle.event_notes.specs.Loose.{weight};
@@ -140,8 +141,8 @@ impl<V: Volume> Device<V> {
         requires room { ActRoom (weight self.old.store.loose) self.old.past }
         ensures fixed { (self.new.store.number ≡ self.old.store.number) × (self.new.store.cylinders ≡ self.old.store.cylinders) }
         ensures rest { state_of self.new.store ≡ record (state_of self.old.store) { owed = self.new.store.owed } }
-        ensures run { (k : K) → Ran surely K.hears (ended contents before (state_of self.old.store)) (outside (P.view port.old) self.old.store k)
-            (state_of self.new.store) tt (outside (P.view port.new) self.new.store k) }
+        ensures run { (k : K) → Ran surely (Heard K.hears K.takes) (ended contents before (state_of self.old.store))
+            (outside (P.view port.old) self.old.store k) (state_of self.new.store) tt (outside (P.view port.new) self.new.store k) }
         ensures device { device_of self.new ≡ record (with_store (device_of self.old) (state_of self.old.store)) { store = state_of self.new.store } }
     {
         self.past.note_acts(self.store.loose.acts());

@@ -7,6 +7,7 @@ ghost use Rattle.device_defs.specs.Command.{follow, on_tracks};
 ghost use Rattle.device_defs.specs.Contents.{contents};
 ghost use Rattle.device_defs.specs.Device.{with_store};
 ghost use Rattle.device_outside.specs.Interaction.{and_then};
+ghost use Rattle.device_outside.specs.Keeper.{Heard};
 ghost use Rattle.event_notes.specs.Loose.{weight};
 ghost use Rattle.device_outside.specs.Outside.{Ran, where_ok};
 ghost use Rattle.device_store.specs.State.{state_of, outside, Takes};
@@ -45,7 +46,7 @@ pub(crate) fn on_tracks<V: Volume, P: Port, K: Keep<TrackImage>>(
     ensures again { OnErr result (running.new.chain ≡ again_from running.old.chain) }
     ensures weight { weight store.new.loose ≤ weight store.old.loose + 2 }
     ensures run { (d : DefinedDevice) (path : ℕ) (z : ChainState) → running.old.chain ≡ opened z → need_of z ≡ Some t
-        → Ran (where_ok result) K.hears (and_then (follow contents (store.old.cylinders * 15) t z t (state_of store.old))
+        → Ran (where_ok result) (Heard K.hears K.takes) (and_then (follow contents (store.old.cylinders * 15) t z t (state_of store.old))
         (on_tracks contents d path z)) (outside (P.view port.old) store.old keep.old)
         (came_to (with_store d (state_of store.new)) path running.new.chain result) (told result) (outside (P.view port.new) store.new keep.new) }
     ensures half { IfOk result (λ came. is_some store.new.half ≡ is_half came) }

@@ -3,7 +3,7 @@ ghost use Rattle.device_defs.specs.Contents.{contents};
 ghost use Rattle.device_defs.specs.Events.{background};
 ghost use Rattle.device_defs.specs.Peek.{peek};
 ghost use Rattle.device_outside.specs.declared.keep.NoKeep.{NoKeep};
-ghost use Rattle.device_outside.specs.Keeper.{reply};
+ghost use Rattle.device_outside.specs.Keeper.{Heard, reply};
 ghost use Rattle.device_outside.specs.Outside.{Ran, where_ok};
 ghost use Rattle.device_store.specs.Looks.{peeked_by, IsPeeked};
 ghost use Rattle.device_store.specs.State.{state_of, outside, Takes, had};
@@ -31,8 +31,9 @@ impl<V: Volume> Device<V> {
         requires takes { Takes K.takes keep.old self.old.store.number (self.old.store.cylinders * 15) }
         ensures fixed { (self.new.store.number ≡ self.old.store.number) × (self.new.store.cylinders ≡ self.old.store.cylinders) }
         ensures takes { Takes K.takes keep.new self.new.store.number (self.new.store.cylinders * 15) }
-        ensures run { Ran (where_ok result) K.hears (background contents (device_of self.old)) (outside (P.view port.old) self.old.store keep.old)
-            (device_of self.new) (had (λ did. did) result) (outside (P.view port.new) self.new.store keep.new) }
+        ensures run { Ran (where_ok result) (Heard K.hears K.takes) (background contents (device_of self.old))
+            (outside (P.view port.old) self.old.store keep.old) (device_of self.new) (had (λ did. did) result)
+            (outside (P.view port.new) self.new.store keep.new) }
         ensures paths { KeepsPaths (device_of self.old) (device_of self.new) }
         ensures transfers { WorkMoves (device_of self.old) (had (λ did. did) result) (device_of self.new) }
     {
@@ -69,7 +70,7 @@ impl<V: Volume> Device<V> {
         ensures fixed { (self.new.store.number ≡ self.old.store.number) × (self.new.store.cylinders ≡ self.old.store.cylinders) }
         ensures takes { Takes K.takes keep.new self.new.store.number (self.new.store.cylinders * 15) }
         ensures there { IfOk result (IsPeeked (state_of self.new.store) t) }
-        ensures run { Ran (where_ok result) K.hears (peek contents (device_of self.old) t) (outside (P.view port.old) self.old.store keep.old)
+        ensures run { Ran (where_ok result) (Heard K.hears K.takes) (peek contents (device_of self.old) t) (outside (P.view port.old) self.old.store keep.old)
             (device_of self.new) (had (peeked_by (state_of self.new.store) t) result) (outside (P.view port.new) self.new.store keep.new) }
         ensures paths { KeepsPaths (device_of self.old) (device_of self.new) }
         ensures transfers { LookMoves (device_of self.old) (device_of self.new) }

@@ -2,7 +2,7 @@ ghost use Rattle.std.specs.Prelude.{◌≡◌, ◌*◌};
 ghost use Rattle.device_defs.specs.Contents.{contents};
 ghost use Rattle.device_defs.specs.Events.{lose};
 ghost use Rattle.device_outside.specs.declared.keep.NoKeep.{NoKeep};
-ghost use Rattle.device_outside.specs.Keeper.{reply};
+ghost use Rattle.device_outside.specs.Keeper.{Heard, reply};
 ghost use Rattle.device_outside.specs.Outside.{Ran};
 ghost use Rattle.device_store.specs.State.{outside, surely, Takes};
 ghost use Rattle.device_core.specs.State.{device_of};
@@ -26,7 +26,7 @@ impl<V: Volume> Device<V> {
         requires { Takes K.takes keep.old self.old.store.number (self.old.store.cylinders * 15) }
         ensures fixed { (self.new.store.number ≡ self.old.store.number) × (self.new.store.cylinders ≡ self.old.store.cylinders) }
         ensures takes { Takes K.takes keep.new self.new.store.number (self.new.store.cylinders * 15) }
-        ensures run { Ran surely K.hears (lose contents (device_of self.old) loss) (outside (P.view port.old) self.old.store keep.old)
+        ensures run { Ran surely (Heard K.hears K.takes) (lose contents (device_of self.old) loss) (outside (P.view port.old) self.old.store keep.old)
             (device_of self.new) tt (outside (P.view port.new) self.new.store keep.new) }
         ensures paths { KeepsPaths (device_of self.old) (device_of self.new) }
         ensures transfers { MovesNothing (device_of self.old) (device_of self.new) }

@@ -5,7 +5,7 @@ ghost use Rattle.device_defs.specs.Contents.{contents};
 ghost use Rattle.device_defs.specs.Orders.{hold, join, lend, replace, restore, resume, split};
 ghost use Rattle.device_defs.specs.Store.{side_of, stale_at, tracks_of};
 ghost use Rattle.device_outside.specs.declared.keep.NoKeep.{NoKeep};
-ghost use Rattle.device_outside.specs.Keeper.{reply};
+ghost use Rattle.device_outside.specs.Keeper.{Heard, reply};
 ghost use Rattle.device_outside.specs.Outside.{Ran};
 ghost use Rattle.duplex_pair.specs.Sides.{other_of, volume_of};
 ghost use Rattle.device_store.specs.State.{on_a, on_b, outside, surely};
@@ -113,7 +113,7 @@ impl<V: Volume> Device<V> {
         ensures a { on_a self.new.store ≡ None }
         ensures b { on_b self.new.store ≡ None }
         ensures back { result ≡ on_a self.old.store }
-        ensures run { (k : K) → Ran surely K.hears (lend contents (device_of self.old) to) (outside (P.view port.old) self.old.store k)
+        ensures run { (k : K) → Ran surely (Heard K.hears K.takes) (lend contents (device_of self.old) to) (outside (P.view port.old) self.old.store k)
             (device_of self.new) tt (record (outside (P.view port.new) self.new.store k) { a = option_map V.view result }) }
     {
         let before = self.store.waiting_count();

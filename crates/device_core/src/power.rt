@@ -4,7 +4,7 @@ ghost use Rattle.plain_defs.specs.History.{lost_power};
 ghost use Rattle.device_defs.specs.Contents.{contents};
 ghost use Rattle.device_defs.specs.Cutting.{power};
 ghost use Rattle.device_outside.specs.declared.keep.NoKeep.{NoKeep};
-ghost use Rattle.device_outside.specs.Keeper.{reply};
+ghost use Rattle.device_outside.specs.Keeper.{Heard, reply};
 ghost use Rattle.device_outside.specs.Outside.{Ran};
 ghost use Rattle.device_store.specs.State.{outside, surely, Takes};
 ghost use Rattle.device_core.specs.Kept.{history_of, Keeps};
@@ -77,7 +77,7 @@ impl<V: Volume> Device<V> {
         requires takes { Takes K.takes keep.old self.old.store.number (self.old.store.cylinders * 15) }
         ensures fixed { (self.new.store.number ≡ self.old.store.number) × (self.new.store.cylinders ≡ self.old.store.cylinders) }
         ensures takes { Takes K.takes keep.new self.new.store.number (self.new.store.cylinders * 15) }
-        ensures run { Ran surely K.hears (power contents (device_of self.old)) (outside (P.view port.old) self.old.store keep.old)
+        ensures run { Ran surely (Heard K.hears K.takes) (power contents (device_of self.old)) (outside (P.view port.old) self.old.store keep.old)
             (device_of self.new) tt (outside (P.view port.new) self.new.store keep.new) }
         ensures transfers { MovesNothing (device_of self.old) (device_of self.new) }
     {

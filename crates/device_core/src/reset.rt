@@ -8,7 +8,7 @@ ghost use Rattle.device_defs.specs.Cutting.{reset};
 ghost use Rattle.device_defs.specs.Device.{all_reset};
 ghost use Rattle.device_outside.specs.declared.keep.NoKeep.{NoKeep};
 ghost use Rattle.device_outside.specs.Interaction.{Done};
-ghost use Rattle.device_outside.specs.Keeper.{reply};
+ghost use Rattle.device_outside.specs.Keeper.{Heard, reply};
 ghost use Rattle.device_outside.specs.Outside.{PortView, Ran};
 ghost use Rattle.device_store.specs.State.{outside, surely, Takes};
 ghost use Rattle.device_core.specs.Kept.{open_of, history_of, waiting_in, Keeps};
@@ -124,7 +124,7 @@ impl<V: Volume> Device<V> {
         ensures fixed { (self.new.store.number ≡ self.old.store.number) × (self.new.store.cylinders ≡ self.old.store.cylinders) }
         ensures volume { self.new.store.pair.volumes ≡ self.old.store.pair.volumes }
         ensures takes { Takes K.takes keep.new self.new.store.number (self.new.store.cylinders * 15) }
-        ensures run { (p : PortView) → Ran surely K.hears (reset contents (device_of self.old) path) (outside p self.old.store keep.old)
+        ensures run { (p : PortView) → Ran surely (Heard K.hears K.takes) (reset contents (device_of self.old) path) (outside p self.old.store keep.old)
             (device_of self.new) tt (outside p self.new.store keep.new) }
     {
         let more = half_count(&self.store.half);
@@ -138,7 +138,7 @@ impl<V: Volume> Device<V> {
         requires takes { Takes K.takes keep.old self.old.store.number (self.old.store.cylinders * 15) }
         ensures fixed { (self.new.store.number ≡ self.old.store.number) × (self.new.store.cylinders ≡ self.old.store.cylinders) }
         ensures volume { self.new.store.pair.volumes ≡ self.old.store.pair.volumes }
-        ensures run { (p : PortView) → Ran surely K.hears (reset contents (device_of self.old) path) (outside p self.old.store keep.old)
+        ensures run { (p : PortView) → Ran surely (Heard K.hears K.takes) (reset contents (device_of self.old) path) (outside p self.old.store keep.old)
             (device_of self.new) tt (outside p self.new.store keep.new) }
         ensures transfers { MovesNothing (device_of self.old) (device_of self.new) }
         ensures takes { Takes K.takes keep.new self.new.store.number (self.new.store.cylinders * 15) }

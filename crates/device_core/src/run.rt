@@ -4,7 +4,7 @@ ghost use Rattle.device_defs.specs.Contents.{contents};
 ghost use Rattle.device_defs.specs.Device.{event};
 ghost use Rattle.event_notes.specs.Loose.{loose_count, weight};
 ghost use Rattle.device_outside.specs.declared.keep.NoKeep.{NoKeep};
-ghost use Rattle.device_outside.specs.Keeper.{reply};
+ghost use Rattle.device_outside.specs.Keeper.{Heard, reply};
 ghost use Rattle.device_outside.specs.Outside.{Ran, where_ok};
 ghost use Rattle.device_store.specs.State.{outside, Takes};
 ghost use Rattle.device_core.specs.Halves.{is_half_step};
@@ -83,7 +83,7 @@ impl<V: Volume> Device<V> {
         ensures takes { Takes K.takes keep.new self.new.store.number (self.new.store.cylinders * 15) }
         ensures half { IfOk result (λ step. is_some self.new.store.half ≡ is_half_step step) }
         ensures same { OnErr result (self.new.store.half ≡ None) }
-        ensures run { Ran (where_ok result) K.hears
+        ensures run { Ran (where_ok result) (Heard K.hears K.takes)
             (command_by contents (device_of self.old) (device_of self.old).history.running (device_of self.old).chain)
             (outside (P.view port.old) self.old.store keep.old) (device_of self.new) (step_had self.new.past result)
             (outside (P.view port.new) self.new.store keep.new) }
@@ -121,7 +121,7 @@ impl<V: Volume> Device<V> {
         ensures takes { Takes K.takes keep.new self.new.store.number (self.new.store.cylinders * 15) }
         ensures half { IfOk result (λ step. is_some self.new.store.half ≡ is_half_step step) }
         ensures same { OnErr result (self.new.store.half ≡ None) }
-        ensures run { Ran (where_ok result) K.hears (event contents (device_of self.old) (λ z. command_by contents z z.history.running z.chain))
+        ensures run { Ran (where_ok result) (Heard K.hears K.takes) (event contents (device_of self.old) (λ z. command_by contents z z.history.running z.chain))
             (outside (P.view port.old) self.old.store keep.old) (device_of self.new) (step_had self.new.past result)
             (outside (P.view port.new) self.new.store keep.new) }
     {
@@ -147,9 +147,9 @@ impl<V: Volume> Device<V> {
         ensures takes { Takes K.takes keep.new self.new.store.number (self.new.store.cylinders * 15) }
         ensures half { IfOk result (λ step. is_some (device_of self.new).store.half ≡ is_half_step step) }
         ensures same { OnErr result (is_some (device_of self.new).store.half ≡ false) }
-        ensures run { Ran (where_ok result) K.hears (command contents (device_of self.old)) (outside (P.view port.old) self.old.store keep.old)
+        ensures run { Ran (where_ok result) (Heard K.hears K.takes) (command contents (device_of self.old)) (outside (P.view port.old) self.old.store keep.old)
             (device_of self.new) (step_had self.new.past result) (outside (P.view port.new) self.new.store keep.new) }
-        ensures ends_as_seen { EndsAsSeen (where_ok result) K.hears (device_of self.old) (outside (P.view port.old) self.old.store keep.old)
+        ensures ends_as_seen { EndsAsSeen (where_ok result) (Heard K.hears K.takes) (device_of self.old) (outside (P.view port.old) self.old.store keep.old)
             (device_of self.new) (step_had self.new.past result) (outside (P.view port.new) self.new.store keep.new) }
         ensures hits { HitReadsNone (device_of self.old) (device_of self.new) }
         ensures transfers { CommandMoves (device_of self.old) (device_of self.new) }

@@ -8,7 +8,7 @@ ghost use Rattle.device_core.specs.Kept.{ActRoom};
 ghost use Rattle.device_defs.specs.Contents.{contents};
 ghost use Rattle.device_defs.specs.Events.{second, second_of};
 ghost use Rattle.device_outside.specs.declared.keep.NoKeep.{NoKeep};
-ghost use Rattle.device_outside.specs.Keeper.{reply};
+ghost use Rattle.device_outside.specs.Keeper.{Heard, reply};
 ghost use Rattle.device_outside.specs.Outside.{Ran};
 ghost use Rattle.device_store.specs.State.{outside, surely, Takes};
 ghost use Rattle.device_core.specs.State.{device_of, second_seen};
@@ -67,7 +67,7 @@ impl<V: Volume> Device<V> {
         ensures whole { self.new.store.half ≡ None }
         ensures seen { IsSome (second_seen self.new.past result) }
         ensures run { (e : SecondEnd) → second_seen self.new.past result ≡ Some e
-            → Ran surely K.hears (second_of contents (device_of self.old) (device_of self.old).store.half)
+            → Ran surely (Heard K.hears K.takes) (second_of contents (device_of self.old) (device_of self.old).store.half)
             (outside (P.view port.old) self.old.store keep.old) (device_of self.new) e (outside (P.view port.new) self.new.store keep.new) }
     {
         let part = self.store.second(port, keep);
@@ -94,7 +94,7 @@ impl<V: Volume> Device<V> {
         ensures whole { self.new.store.half ≡ None }
         ensures seen { IsSome (second_seen self.new.past result) }
         ensures run { (e : SecondEnd) → second_seen self.new.past result ≡ Some e
-            → Ran surely K.hears (second_of contents (device_of self.old) (device_of self.old).store.half)
+            → Ran surely (Heard K.hears K.takes) (second_of contents (device_of self.old) (device_of self.old).store.half)
             (outside (P.view port.old) self.old.store keep.old) (device_of self.new) e (outside (P.view port.new) self.new.store keep.new) }
     {
         if self.store.half_open() {
@@ -116,8 +116,8 @@ impl<V: Volume> Device<V> {
         ensures whole { self.new.store.half ≡ None }
         ensures seen { IsSome (second_seen self.new.past result) }
         ensures run { (e : SecondEnd) → second_seen self.new.past result ≡ Some e
-            → Ran surely K.hears (second contents (device_of self.old)) (outside (P.view port.old) self.old.store keep.old) (device_of self.new) e
-            (outside (P.view port.new) self.new.store keep.new) }
+            → Ran surely (Heard K.hears K.takes) (second contents (device_of self.old)) (outside (P.view port.old) self.old.store keep.old)
+            (device_of self.new) e (outside (P.view port.new) self.new.store keep.new) }
         ensures ends_as_kept { (e : SecondEnd) → second_seen self.new.past result ≡ Some e → EndsAsKept (device_of self.old) (device_of self.new) e }
         ensures transfers { (e : SecondEnd) → second_seen self.new.past result ≡ Some e → SecondMoves (device_of self.old) (device_of self.new) }
     {

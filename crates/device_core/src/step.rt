@@ -6,6 +6,7 @@ ghost use Rattle.device_defs.specs.Command.{command, command_at, is_loss};
 ghost use Rattle.ckd_chain.specs.Steps.{need_of};
 ghost use Rattle.device_defs.specs.Contents.{contents};
 ghost use Rattle.device_defs.specs.Device.{with_store};
+ghost use Rattle.device_outside.specs.Keeper.{Heard};
 ghost use Rattle.device_outside.specs.Outside.{Ran, where_ok};
 ghost use Rattle.event_notes.specs.Loose.{weight};
 ghost use Rattle.device_store.specs.State.{state_of, outside, Takes};
@@ -46,7 +47,7 @@ fn on_running<V: Volume, P: Port, K: Keep<TrackImage>>(
     ensures word { OnErr result (IsAtWord store.old.cylinders running.new.chain) }
     ensures weight { weight store.new.loose ≤ weight store.old.loose + 2 }
     ensures run { (d : DefinedDevice) → d.store ≡ state_of store.old → d.paths ≡ paths.old
-        → Ran (where_ok result) K.hears (command_at contents d running.old.path running.old.chain (need_of running.old.chain))
+        → Ran (where_ok result) (Heard K.hears K.takes) (command_at contents d running.old.path running.old.chain (need_of running.old.chain))
         (outside (P.view port.old) store.old keep.old)
         (came_to (record (with_store d (state_of store.new)) { paths = paths.new }) running.old.path running.new.chain result) (told result)
         (outside (P.view port.new) store.new keep.new) }
@@ -96,7 +97,7 @@ fn on_program<V: Volume, P: Port, K: Keep<TrackImage>>(
     ensures word { OnErr result (IsAtWord store.old.cylinders running.new.chain) }
     ensures weight { weight store.new.loose ≤ weight store.old.loose + 2 }
     ensures run { (d : DefinedDevice) → d.store ≡ state_of store.old → d.paths ≡ paths.old
-        → Ran (where_ok result) K.hears (commanded_by d running.old) (outside (P.view port.old) store.old keep.old)
+        → Ran (where_ok result) (Heard K.hears K.takes) (commanded_by d running.old) (outside (P.view port.old) store.old keep.old)
         (came_to (record (with_store d (state_of store.new)) { paths = paths.new }) running.old.path running.new.chain result) (told result)
         (outside (P.view port.new) store.new keep.new) }
     ensures half { IfOk result (λ came. is_some store.new.half ≡ is_half came) }
@@ -132,7 +133,7 @@ pub(crate) fn on_past<V: Volume, P: Port, K: Keep<TrackImage>>(
     ensures word { OnErr result (IfSome running.new (λ r. IsAtWord store.old.cylinders r.chain)) }
     ensures weight { weight store.new.loose ≤ weight store.old.loose + 2 }
     ensures run { (d : DefinedDevice) → d.store ≡ state_of store.old → d.paths ≡ paths.old
-        → Ran (where_ok result) K.hears (commanded d running.old) (outside (P.view port.old) store.old keep.old)
+        → Ran (where_ok result) (Heard K.hears K.takes) (commanded d running.old) (outside (P.view port.old) store.old keep.old)
         (came_from (record (with_store d (state_of store.new)) { paths = paths.new }) running.new result) (told result)
         (outside (P.view port.new) store.new keep.new) }
     ensures half { IfOk result (λ came. is_some store.new.half ≡ is_half came) }

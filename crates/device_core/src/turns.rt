@@ -7,6 +7,7 @@ ghost use Rattle.device_defs.specs.Contents.{contents};
 ghost use Rattle.device_defs.specs.Editing.{write};
 ghost use Rattle.device_defs.specs.Memory.{and_had};
 ghost use Rattle.device_defs.specs.Outcomes.{usage_of, wrote_turn, checks};
+ghost use Rattle.device_outside.specs.Keeper.{Heard};
 ghost use Rattle.device_outside.specs.Outside.{Ran, where_ok};
 ghost use Rattle.device_store.specs.Looks.{seen, IsSeen};
 ghost use Rattle.device_store.specs.State.{state_of, outside, Takes, had, is_opened};
@@ -96,7 +97,7 @@ fn write_seen<V: Volume, P: Port, K: Keep<TrackImage>>(
     ensures fixed { (store.new.number ≡ store.old.number) × (store.new.cylinders ≡ store.old.cylinders) }
     ensures takes { Takes K.takes keep.new store.new.number (store.new.cylinders * 15) }
     ensures weight { weight store.new.loose ≤ weight store.old.loose + 2 }
-    ensures run { Ran (where_ok result) K.hears (write contents (state_of store.old) usage.now first t
+    ensures run { Ran (where_ok result) (Heard K.hears K.takes) (write contents (state_of store.old) usage.now first t
         (seen (state_of store.old) t (option_map (λ i. i.now) read.entry)) edit) (outside (P.view port.old) store.old keep.old) (state_of store.new)
         (had (λ took. took) result) (outside (P.view port.new) store.new keep.new) }
     ensures half { IfOk result (λ took. is_some store.new.half ≡ is_opened took) }
@@ -134,7 +135,7 @@ fn write_edit<V: Volume, P: Port, K: Keep<TrackImage>>(
     ensures hand { OnErr result (IsSameHand chain.old chain.new) }
     ensures weight { weight store.new.loose ≤ weight store.old.loose + 2 }
     ensures on { IfOk result (KeepsWeight (weight store.old.loose) store.new.loose) }
-    ensures run { Ran (where_ok result) K.hears (and_had
+    ensures run { Ran (where_ok result) (Heard K.hears K.takes) (and_had
         (write contents (state_of store.old) usage.now first t (seen (state_of store.old) t (option_map (λ i. i.now) read.entry)) edit)
         (came_of_write contents chain.old t)) (outside (P.view port.old) store.old keep.old) (state_of store.new) (had (went_with chain.new) result)
         (outside (P.view port.new) store.new keep.new) }
@@ -170,7 +171,7 @@ fn on_image<V: Volume, P: Port, K: Keep<TrackImage>>(
     ensures hand { OnErr result (IsSameHand chain.old chain.new) }
     ensures weight { weight store.new.loose ≤ weight store.old.loose + 2 }
     ensures on { IfOk result (KeepsWeight (weight store.old.loose) store.new.loose) }
-    ensures run { Ran (where_ok result) K.hears (went_on contents chain.old first t (state_of store.old)
+    ensures run { Ran (where_ok result) (Heard K.hears K.takes) (went_on contents chain.old first t (state_of store.old)
         (seen (state_of store.old) t (option_map (λ i. i.now) read.entry))) (outside (P.view port.old) store.old keep.old) (state_of store.new)
         (had (went_with chain.new) result) (outside (P.view port.new) store.new keep.new) }
     ensures half { IfOk result (λ step. is_some store.new.half ≡ is_half_over step) }
@@ -210,8 +211,8 @@ fn look<V: Volume, P: Port, K: Keep<TrackImage>>(
     ensures hand { OnErr result (IsSameHand chain.old chain.new) }
     ensures weight { weight store.new.loose ≤ weight store.old.loose + 2 }
     ensures on { IfOk result (KeepsWeight (weight store.old.loose) store.new.loose) }
-    ensures run { Ran (where_ok result) K.hears (look contents chain.old first t (state_of store.old)) (outside (P.view port.old) store.old keep.old)
-        (state_of store.new) (had (went_with chain.new) result) (outside (P.view port.new) store.new keep.new) }
+    ensures run { Ran (where_ok result) (Heard K.hears K.takes) (look contents chain.old first t (state_of store.old))
+        (outside (P.view port.old) store.old keep.old) (state_of store.new) (had (went_with chain.new) result) (outside (P.view port.new) store.new keep.new) }
     ensures half { IfOk result (λ step. is_some store.new.half ≡ is_half_over step) }
     ensures same { OnErr result (store.new.half ≡ None) }
 {
@@ -248,7 +249,7 @@ pub fn follow<V: Volume, P: Port, K: Keep<TrackImage>>(
     ensures left { IfOk result (Left store.old.cylinders chain.new) }
     ensures hand { OnErr result (IsSameHand chain.old chain.new) }
     ensures weight { weight store.new.loose ≤ weight store.old.loose + 2 }
-    ensures run { Ran (where_ok result) K.hears (follow contents (store.old.cylinders * 15) first chain.old first (state_of store.old))
+    ensures run { Ran (where_ok result) (Heard K.hears K.takes) (follow contents (store.old.cylinders * 15) first chain.old first (state_of store.old))
         (outside (P.view port.old) store.old keep.old) (state_of store.new) (had (turn_with chain.new) result) (outside (P.view port.new) store.new keep.new) }
     ensures half { IfOk result (λ came. is_some store.new.half ≡ is_half came) }
     ensures same { OnErr result (store.new.half ≡ None) }

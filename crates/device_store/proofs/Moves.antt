@@ -1,9 +1,9 @@
--- Runs from equal states, and what is known of memory.
-use Rattle.std.proofs.Common.{◌≡◌, Bool, true, refl, subst}
+-- Runs from equal states, and what is known of memory and of what was heard.
+use Rattle.std.proofs.Common.{◌≡◌, ℕ, Bool, true, refl, subst}
 use Rattle.std.specs.Prelude.{Result, Ok, Err}
-use Rattle.device_outside.specs.Keeper.{Hearing}
+use Rattle.device_outside.specs.Keeper.{Heard, Hearing}
 use Rattle.device_outside.specs.Interaction.{Interaction}
-use Rattle.device_outside.specs.Outside.{Outside, Ran, where_ok}
+use Rattle.device_outside.specs.Outside.{Outside, Ran, done, tried, asked, read, wrote, told, where_ok}
 use Rattle.device_outside.proofs.Runs.{ran_weaker}
 use Rattle.device_store.specs.State.{surely}
 
@@ -30,3 +30,13 @@ from_equal {had = had} {hears = hears} f {x} {y} {v} {w} {z} {s} {a} same there 
 pub lands : {R I K S A : Type 0} {had : Bool → Type 0} {hears : Hearing I K} {i : Interaction R I S A} {v w z : Outside R K} {s : S} {a : A} →
     w ≡ z → Ran had hears i v s a w → Ran had hears i v s a z
 lands {had = had} {hears = hears} {i = i} {v = v} {s = s} {a = a} there ran = subst (λ o. Ran had hears i v s a o) there ran
+
+-- the same run, with nothing said of what the keeper may still be called with
+pub heard_alone : {R I K S A : Type 0} {had : Bool → Type 0} {hears : Hearing I K} {may : K → ℕ → ℕ → I → Type 0} {i : Interaction R I S A}
+    {v w : Outside R K} {s : S} {a : A} → Ran had (Heard hears may) i v s a w → Ran had hears i v s a w
+heard_alone done = done
+heard_alone (tried ok x h) = tried ok x (heard_alone h)
+heard_alone (asked says h) = asked says (heard_alone h)
+heard_alone (read is says h) = read is says (heard_alone h)
+heard_alone (wrote is says h) = wrote is says (heard_alone h)
+heard_alone (told r heard x h) = told r heard.moves x (heard_alone h)

@@ -1,4 +1,5 @@
 ghost use Rattle.std.specs.Prelude.{◌≡◌, ◌<◌, ◌≤◌, ◌*◌, IfSome, None, drop, slice_get};
+ghost use Rattle.device_outside.specs.Keeper.{Heard};
 ghost use Rattle.device_outside.specs.Outside.{Ran, where_ok};
 ghost use Rattle.device_defs.specs.Background.{copy_first, did, stage_first, to_copy, work};
 ghost use Rattle.device_defs.specs.Contents.{contents};
@@ -47,7 +48,7 @@ impl<V: Volume> DeviceStore<V> {
         ensures opened { OnlyBackground self.new.half }
         ensures weight { weight self.new.loose ≡ weight self.old.loose }
         ensures takes { Takes K.takes keep.new self.new.number (self.new.cylinders * 15) }
-        ensures run { Ran (where_ok result) K.hears (stage_first contents (state_of self.old) self.old.queue)
+        ensures run { Ran (where_ok result) (Heard K.hears K.takes) (stage_first contents (state_of self.old) self.old.queue)
             (outside (P.view port.old) self.old keep.old) (state_of self.new) (had (λ did. did) result) (outside (P.view port.new) self.new keep.new) }
     {
         match self.next_queued() {
@@ -71,7 +72,7 @@ impl<V: Volume> DeviceStore<V> {
         ensures opened { OnlyBackground self.new.half }
         ensures weight { weight self.new.loose ≡ weight self.old.loose }
         ensures takes { Takes K.takes keep.new self.new.number (self.new.cylinders * 15) }
-        ensures run { Ran (where_ok result) K.hears (copy_first contents (state_of self.old) (to_copy (state_of self.old)))
+        ensures run { Ran (where_ok result) (Heard K.hears K.takes) (copy_first contents (state_of self.old) (to_copy (state_of self.old)))
             (outside (P.view port.old) self.old keep.old) (state_of self.new) (had (λ did. did) result) (outside (P.view port.new) self.new keep.new) }
     {
         match self.to_copy() {
@@ -93,7 +94,7 @@ impl<V: Volume> DeviceStore<V> {
         ensures opened { OnlyBackground self.new.half }
         ensures weight { weight self.new.loose ≡ weight self.old.loose }
         ensures takes { Takes K.takes keep.new self.new.number (self.new.cylinders * 15) }
-        ensures run { Ran (where_ok result) K.hears (work contents (state_of self.old)) (outside (P.view port.old) self.old keep.old)
+        ensures run { Ran (where_ok result) (Heard K.hears K.takes) (work contents (state_of self.old)) (outside (P.view port.old) self.old keep.old)
             (state_of self.new) (had (λ did. did) result) (outside (P.view port.new) self.new keep.new) }
     {
         match self.to_recover() {

@@ -6,6 +6,7 @@ ghost use Rattle.device_defs.specs.Owed.{is_clean};
 ghost use Rattle.device_defs.specs.Store.{frame_at, patch_at};
 ghost use Rattle.device_outside.specs.declared.port.SlotGrant.TheVariants as grants;
 ghost use Rattle.device_outside.specs.Interaction.{Ask, Done};
+ghost use Rattle.device_outside.specs.Keeper.{Heard};
 ghost use Rattle.device_outside.specs.Outside.{Answered, PortView, Ran};
 ghost use Rattle.device_outside.specs.Pool.{SetModified, WantSlot};
 ghost use Rattle.device_store.specs.State.{state_of, outside, surely};
@@ -29,8 +30,8 @@ impl<V: Volume> DeviceStore<V> {
         requires { is_some (patch_at (state_of self.now) t) ≡ false }
         ensures same { (p : PortView) → Answered p WantSlot (grants.Given slot) (P.view port.old) → result ≡ Through → p ≡ P.view port.new }
         ensures fits { Fits false (is_some (patch_at (state_of self.now) t)) result }
-        ensures run { (k : K) → Ran surely K.hears (slot_by contents (state_of self.now) t (grants.Given slot)) (outside (P.view port.old) self.now k)
-            (state_of self.now) result (outside (P.view port.new) self.now k) }
+        ensures run { (k : K) → Ran surely (Heard K.hears K.takes) (slot_by contents (state_of self.now) t (grants.Given slot))
+            (outside (P.view port.old) self.now k) (state_of self.now) result (outside (P.view port.new) self.now k) }
     {
         if port.set_modified(self.number, t) {
             return Choice::Fast(Some(slot));
@@ -44,8 +45,8 @@ impl<V: Volume> DeviceStore<V> {
         requires { is_some (patch_at (state_of self.now) t) ≡ false }
         ensures same { result ≡ Through → P.view port.old ≡ P.view port.new }
         ensures fits { Fits false (is_some (patch_at (state_of self.now) t)) result }
-        ensures run { (k : K) → Ran surely K.hears (Ask WantSlot (slot_by contents (state_of self.now) t)) (outside (P.view port.old) self.now k)
-            (state_of self.now) result (outside (P.view port.new) self.now k) }
+        ensures run { (k : K) → Ran surely (Heard K.hears K.takes) (Ask WantSlot (slot_by contents (state_of self.now) t))
+            (outside (P.view port.old) self.now k) (state_of self.now) result (outside (P.view port.new) self.now k) }
     {
         match port.want_slot() {
             SlotGrant::Given(slot) => self.with_slot::<P, K>(t, slot, port),
@@ -57,7 +58,7 @@ impl<V: Volume> DeviceStore<V> {
     fn choose_fast<P: Port, K: Keep<TrackImage>>(&self, t: TrackNo, port: &mut P) -> Choice
         ensures same { result ≡ Through → P.view port.old ≡ P.view port.new }
         ensures fits { Fits false (is_some (patch_at (state_of self.now) t)) result }
-        ensures run { (k : K) → Ran surely K.hears (fast_by contents (state_of self.now) t (is_some (patch_at (state_of self.now) t)))
+        ensures run { (k : K) → Ran surely (Heard K.hears K.takes) (fast_by contents (state_of self.now) t (is_some (patch_at (state_of self.now) t)))
             (outside (P.view port.old) self.now k) (state_of self.now) result (outside (P.view port.new) self.now k) }
     {
         if self.patches.has(t) {
@@ -84,8 +85,8 @@ impl<V: Volume> DeviceStore<V> {
     ) -> Choice
         ensures same { result ≡ Through → P.view port.old ≡ P.view port.new }
         ensures fits { Fits false (is_some (patch_at (state_of self.now) t)) result }
-        ensures run { (k : K) → Ran surely K.hears (fast_or_through contents (state_of self.now) usage.now t) (outside (P.view port.old) self.now k)
-            (state_of self.now) result (outside (P.view port.new) self.now k) }
+        ensures run { (k : K) → Ran surely (Heard K.hears K.takes) (fast_or_through contents (state_of self.now) usage.now t)
+            (outside (P.view port.old) self.now k) (state_of self.now) result (outside (P.view port.new) self.now k) }
     {
         if self.may_be_fast(usage, t) {
             return self.choose_fast::<P, K>(t, port);
@@ -102,8 +103,8 @@ impl<V: Volume> DeviceStore<V> {
     ) -> Choice
         ensures same { result ≡ Through → P.view port.old ≡ P.view port.new }
         ensures fits { Fits usage.now.provisional (is_some (patch_at (state_of self.now) t)) result }
-        ensures run { (k : K) → Ran surely K.hears (choose_loose contents (state_of self.now) usage.now t) (outside (P.view port.old) self.now k)
-            (state_of self.now) result (outside (P.view port.new) self.now k) }
+        ensures run { (k : K) → Ran surely (Heard K.hears K.takes) (choose_loose contents (state_of self.now) usage.now t)
+            (outside (P.view port.old) self.now k) (state_of self.now) result (outside (P.view port.new) self.now k) }
     {
         if usage.provisional {
             if port.set_modified(self.number, t) {
@@ -130,7 +131,7 @@ impl<V: Volume> DeviceStore<V> {
         requires { usage.now.provisional ≡ true }
         ensures same { result ≡ Through → P.view port.old ≡ P.view port.new }
         ensures fits { Fits usage.now.provisional (is_some (patch_at (state_of self.now) t)) result }
-        ensures run { (k : K) → Ran surely K.hears (Ask (SetModified self.now.number t)
+        ensures run { (k : K) → Ran surely (Heard K.hears K.takes) (Ask (SetModified self.now.number t)
             (λ listed. if listed then Done (state_of self.now) Provisional else fast_or_through contents (state_of self.now) usage.now t))
             (outside (P.view port.old) self.now k) (state_of self.now) result (outside (P.view port.new) self.now k) }
     {
@@ -148,7 +149,7 @@ impl<V: Volume> DeviceStore<V> {
     ) -> Choice
         ensures same { result ≡ Through → P.view port.old ≡ P.view port.new }
         ensures fits { Fits usage.now.provisional (is_some (patch_at (state_of self.now) t)) result }
-        ensures run { (k : K) → Ran surely K.hears (choose_firm contents (state_of self.now) usage.now t) (outside (P.view port.old) self.now k)
+        ensures run { (k : K) → Ran surely (Heard K.hears K.takes) (choose_firm contents (state_of self.now) usage.now t) (outside (P.view port.old) self.now k)
             (state_of self.now) result (outside (P.view port.new) self.now k) }
     {
         if self.may_be_provisional(usage, t) {
@@ -166,7 +167,7 @@ impl<V: Volume> DeviceStore<V> {
     ) -> Choice
         ensures same { result ≡ Through → P.view port.old ≡ P.view port.new }
         ensures fits { Fits usage.now.provisional (is_some (patch_at (state_of self.now) t)) result }
-        ensures run { (k : K) → Ran surely K.hears (choose contents (state_of self.now) usage.now t) (outside (P.view port.old) self.now k)
+        ensures run { (k : K) → Ran surely (Heard K.hears K.takes) (choose contents (state_of self.now) usage.now t) (outside (P.view port.old) self.now k)
             (state_of self.now) result (outside (P.view port.new) self.now k) }
     {
         if self.loose.has(t) {

@@ -2,6 +2,7 @@ ghost use Rattle.std.specs.Prelude.{◌≡◌, ◌<◌, ◌*◌, IfSome, Some, t
 ghost use Rattle.device_defs.specs.Background.{copied, copies_to, copy_by, copy_read, other, to_copy};
 ghost use Rattle.device_defs.specs.Contents.{contents};
 ghost use Rattle.device_defs.specs.Store.{side_of};
+ghost use Rattle.device_outside.specs.Keeper.{Heard};
 ghost use Rattle.device_outside.specs.Outside.{PortView, Ran};
 ghost use Rattle.event_notes.specs.Loose.{weight};
 ghost use Rattle.device_store.specs.State.{state_of, outside, surely, Takes};
@@ -47,7 +48,7 @@ impl<V: Volume> DeviceStore<V> {
         ensures half { self.new.half ≡ self.old.half }
         ensures weight { weight self.new.loose ≡ weight self.old.loose }
         ensures takes { Takes K.takes keep.new self.new.number (self.new.cylinders * 15) }
-        ensures run { (p : PortView) → Ran surely K.hears (copied contents t side (state_of self.old) took) (outside p self.old keep.old)
+        ensures run { (p : PortView) → Ran surely (Heard K.hears K.takes) (copied contents t side (state_of self.old) took) (outside p self.old keep.old)
             (state_of self.new) (Some result) (outside p self.new keep.new) }
     {
         if took {
@@ -68,7 +69,7 @@ impl<V: Volume> DeviceStore<V> {
         ensures half { self.new.half ≡ self.old.half }
         ensures weight { weight self.new.loose ≡ weight self.old.loose }
         ensures takes { Takes K.takes keep.new self.new.number (self.new.cylinders * 15) }
-        ensures run { (p : PortView) → Ran surely K.hears (copy_by contents (state_of self.old) t (Some side)) (outside p self.old keep.old)
+        ensures run { (p : PortView) → Ran surely (Heard K.hears K.takes) (copy_by contents (state_of self.old) t (Some side)) (outside p self.old keep.old)
             (state_of self.new) (Some result) (outside p self.new keep.new) }
     {
         let from = other(side);
@@ -95,7 +96,7 @@ impl<V: Volume> DeviceStore<V> {
         ensures half { self.new.half ≡ self.old.half }
         ensures weight { weight self.new.loose ≡ weight self.old.loose }
         ensures takes { Takes K.takes keep.new self.new.number (self.new.cylinders * 15) }
-        ensures run { (p : PortView) → Ran surely K.hears (copy_by contents (state_of self.old) t (copies_to (state_of self.old) t))
+        ensures run { (p : PortView) → Ran surely (Heard K.hears K.takes) (copy_by contents (state_of self.old) t (copies_to (state_of self.old) t))
             (outside p self.old keep.old) (state_of self.new) (Some result) (outside p self.new keep.new) }
     {
         match self.pair.copies_to(t) {

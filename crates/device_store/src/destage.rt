@@ -5,6 +5,7 @@ ghost use Rattle.device_defs.specs.Contents.{contents};
 ghost use Rattle.device_defs.specs.Store.{frame_at, is_loose};
 ghost use Rattle.device_defs.specs.Writing.{write_first};
 ghost use Rattle.device_outside.specs.Interaction.{and_then};
+ghost use Rattle.device_outside.specs.Keeper.{Heard};
 ghost use Rattle.device_outside.specs.Outside.{Ran, where_ok};
 ghost use Rattle.event_notes.specs.Loose.{weight};
 ghost use Rattle.track_table.specs.Bits.{is_marked};
@@ -55,7 +56,7 @@ impl<V: Volume> DeviceStore<V> {
         ensures fixed { (self.new.number ≡ self.old.number) × (self.new.cylinders ≡ self.old.cylinders) }
         ensures half { self.new.half ≡ self.old.half }
         ensures loose { self.new.loose ≡ self.old.loose }
-        ensures run { (k : K) (was_loose : Bool) → Ran surely K.hears
+        ensures run { (k : K) (was_loose : Bool) → Ran surely (Heard K.hears K.takes)
             (and_then (write_first contents (state_of self.old) t (track_bytes (frame_in (state_of self.old) t).track))
             (λ y w. saved_by contents t (frame_in (state_of self.old) t) done None was_loose w.fault y w.took)) (outside (P.view port.old) self.old k)
             (state_of self.new) result (outside (P.view port.new) self.new k) }
@@ -87,7 +88,7 @@ impl<V: Volume> DeviceStore<V> {
         ensures half { self.new.half ≡ self.old.half }
         ensures weight { weight self.new.loose ≡ weight self.old.loose }
         ensures takes { Takes K.takes keep.new self.new.number (self.new.cylinders * 15) }
-        ensures run { Ran surely K.hears (saving contents (state_of self.old) t (frame_in (state_of self.old) t) done None)
+        ensures run { Ran surely (Heard K.hears K.takes) (saving contents (state_of self.old) t (frame_in (state_of self.old) t) done None)
             (outside (P.view port.old) self.old keep.old) (state_of self.new) result (outside (P.view port.new) self.new keep.new) }
     {
         self.firm_first(t, keep);
@@ -111,7 +112,7 @@ impl<V: Volume> DeviceStore<V> {
         ensures opened { OnlyBackground self.new.half }
         ensures weight { weight self.new.loose ≡ weight self.old.loose }
         ensures takes { Takes K.takes keep.new self.new.number (self.new.cylinders * 15) }
-        ensures run { Ran (where_ok result) K.hears (saved contents (state_of self.old) t (frame_in (state_of self.old) t) done None)
+        ensures run { Ran (where_ok result) (Heard K.hears K.takes) (saved contents (state_of self.old) t (frame_in (state_of self.old) t) done None)
             (outside (P.view port.old) self.old keep.old) (state_of self.new) (had (λ did. did) result) (outside (P.view port.new) self.new keep.new) }
     {
         if !self.pair.is_paired() {

@@ -2,6 +2,7 @@ ghost use Rattle.std.specs.Prelude.{◌≡◌, ◌<◌, ◌≤◌, ◌*◌};
 ghost use Rattle.ckd_types.specs.declared.paths.Side.TheVariants as sides;
 ghost use Rattle.device_defs.specs.Contents.{contents};
 ghost use Rattle.device_defs.specs.Losses.{all_firm_told, call_failed, down, firm_told, over, settled_but, side_lost};
+ghost use Rattle.device_outside.specs.Keeper.{Heard};
 ghost use Rattle.device_outside.specs.Outside.{PortView, Ran};
 ghost use Rattle.event_notes.specs.Loose.{weight};
 ghost use Rattle.device_store.specs.State.{is_written, state_of, outside, surely, StaysFirm, Takes};
@@ -50,7 +51,7 @@ impl<V: Volume> DeviceStore<V> {
         ensures weight { weight self.new.loose ≡ weight self.old.loose }
         ensures firm { StaysFirm self.old.loose.loose self.new.loose.loose }
         ensures takes { Takes K.takes keep.new self.new.number (self.new.cylinders * 15) }
-        ensures run { (p : PortView) → Ran surely K.hears (firm_told contents t (settled_but contents writing.now t (state_of self.old)))
+        ensures run { (p : PortView) → Ran surely (Heard K.hears K.takes) (firm_told contents t (settled_but contents writing.now t (state_of self.old)))
             (outside p self.old keep.old) (state_of self.new) tt (outside p self.new keep.new) }
     {
         if is_written(writing, t) {
@@ -69,7 +70,7 @@ impl<V: Volume> DeviceStore<V> {
         ensures weight { weight self.new.loose ≡ weight self.old.loose }
         ensures firm { StaysFirm self.old.loose.loose self.new.loose.loose }
         ensures takes { Takes K.takes keep.new self.new.number (self.new.cylinders * 15) }
-        ensures run { (p : PortView) → Ran surely K.hears
+        ensures run { (p : PortView) → Ran surely (Heard K.hears K.takes)
             (all_firm_told contents (self.old.cylinders * 15) (over (self.old.cylinders * 15) (settled_but contents writing.now) (state_of self.old)))
             (outside p self.old keep.old) (state_of self.new) tt (outside p self.new keep.new) }
     {
@@ -94,7 +95,7 @@ impl<V: Volume> DeviceStore<V> {
         ensures weight { weight self.new.loose ≡ weight self.old.loose }
         ensures firm { StaysFirm self.old.loose.loose self.new.loose.loose }
         ensures takes { Takes K.takes keep.new self.new.number (self.new.cylinders * 15) }
-        ensures run { (p : PortView) → Ran surely K.hears
+        ensures run { (p : PortView) → Ran surely (Heard K.hears K.takes)
             (all_firm_told contents (self.old.cylinders * 15) (side_lost contents (state_of self.old) side writing)) (outside p self.old keep.old)
             (state_of self.new) tt (outside p self.new keep.new) }
     {
@@ -117,7 +118,7 @@ impl<V: Volume> DeviceStore<V> {
         ensures weight { weight self.new.loose ≡ weight self.old.loose }
         ensures firm { StaysFirm self.old.loose.loose self.new.loose.loose }
         ensures takes { Takes K.takes keep.new self.new.number (self.new.cylinders * 15) }
-        ensures run { (p : PortView) → Ran surely K.hears (call_failed contents (state_of self.old) side writing) (outside p self.old keep.old)
+        ensures run { (p : PortView) → Ran surely (Heard K.hears K.takes) (call_failed contents (state_of self.old) side writing) (outside p self.old keep.old)
             (state_of self.new) tt (outside p self.new keep.new) }
     {
         if self.pair.is_paired() {

@@ -116,7 +116,7 @@ impl<V: Volume> DeviceStore<V> {
         ensures takes { Takes K.takes keep.new self.new.number (self.new.cylinders * 15) }
         ensures loose { self.new.loose ≡ self.old.loose }
         ensures run { (u : Usage) (first : ℕ) (p : PortView)
-            → Ran surely K.hears (write_by contents u first t (edited_image edit (frame_in (state_of self.old) t)) edit (state_of self.old)
+            → Ran surely (Heard K.hears K.takes) (write_by contents u first t (edited_image edit (frame_in (state_of self.old) t)) edit (state_of self.old)
             (Fast slot)) (outside p self.old keep.old) (state_of self.new) Whole (outside p self.new keep.new) }
     {
         edit_firm(
@@ -176,7 +176,7 @@ impl<V: Volume> DeviceStore<V> {
         ensures same { OnErr result (self.new.half ≡ self.old.half) }
         ensures takes { Takes K.takes keep.new self.new.number (self.new.cylinders * 15) }
         ensures loose { self.new.loose ≡ self.old.loose }
-        ensures run { (u : Usage) (first : ℕ) → Ran (where_ok result) K.hears
+        ensures run { (u : Usage) (first : ℕ) → Ran (where_ok result) (Heard K.hears K.takes)
             (write_chosen contents u first t (frame_in (state_of self.old) t) edit (state_of self.old) (Fast slot))
             (outside (P.view port.old) self.old keep.old) (state_of self.new) (had (λ took. took) result) (outside (P.view port.new) self.new keep.new) }
     {
@@ -212,7 +212,7 @@ impl<V: Volume> DeviceStore<V> {
         ensures same { OnErr result (self.new.half ≡ self.old.half) }
         ensures takes { Takes K.takes keep.new self.new.number (self.new.cylinders * 15) }
         ensures weight { weight self.new.loose ≤ weight self.old.loose + 2 }
-        ensures run { (u : Usage) (first : ℕ) → Ran (where_ok result) K.hears
+        ensures run { (u : Usage) (first : ℕ) → Ran (where_ok result) (Heard K.hears K.takes)
             (write_chosen contents u first t (frame_in (state_of self.old) t) edit (state_of self.old) Provisional)
             (outside (P.view port.old) self.old keep.old) (state_of self.new) (had (λ took. took) result) (outside (P.view port.new) self.new keep.new) }
     {
@@ -262,7 +262,7 @@ impl<V: Volume> DeviceStore<V> {
         ensures same { OnErr result (self.new.half ≡ self.old.half) }
         ensures takes { Takes K.takes keep.new self.new.number (self.new.cylinders * 15) }
         ensures weight { weight self.new.loose ≤ weight self.old.loose + 2 }
-        ensures run { Ran (where_ok result) K.hears
+        ensures run { Ran (where_ok result) (Heard K.hears K.takes)
             (write_chosen contents usage.now first t (frame_in (state_of self.old) t) edit (state_of self.old) Through)
             (outside (P.view port.old) self.old keep.old) (state_of self.new) (had (λ took. took) result) (outside (P.view port.new) self.new keep.new) }
     {
@@ -298,9 +298,9 @@ impl<V: Volume> DeviceStore<V> {
         ensures takes { Takes K.takes keep.new self.new.number (self.new.cylinders * 15) }
         ensures weight { weight self.new.loose ≤ weight self.old.loose + 2 }
         ensures run { (p : PortView) → p ≡ P.view port.old
-            → Ran surely K.hears (choose contents (state_of self.old) usage.now t) (outside p self.old keep.old) (state_of self.old) Through
+            → Ran surely (Heard K.hears K.takes) (choose contents (state_of self.old) usage.now t) (outside p self.old keep.old) (state_of self.old) Through
             (outside (P.view port.old) self.old keep.old)
-            → Ran (where_ok result) K.hears (write contents (state_of self.old) usage.now first t (frame_in (state_of self.old) t) edit)
+            → Ran (where_ok result) (Heard K.hears K.takes) (write contents (state_of self.old) usage.now first t (frame_in (state_of self.old) t) edit)
             (outside p self.old keep.old) (state_of self.new) (had (λ took. took) result) (outside (P.view port.new) self.new keep.new) }
     {
         match self.edited_frame(t, copy) {
@@ -334,7 +334,7 @@ impl<V: Volume> DeviceStore<V> {
         ensures same { OnErr result (self.new.half ≡ self.old.half) }
         ensures takes { Takes K.takes keep.new self.new.number (self.new.cylinders * 15) }
         ensures weight { weight self.new.loose ≤ weight self.old.loose + 2 }
-        ensures run { Ran (where_ok result) K.hears (write contents (state_of self.old) usage.now first t (frame_in (state_of self.old) t) edit)
+        ensures run { Ran (where_ok result) (Heard K.hears K.takes) (write contents (state_of self.old) usage.now first t (frame_in (state_of self.old) t) edit)
             (outside (P.view port.old) self.old keep.old) (state_of self.new) (had (λ took. took) result) (outside (P.view port.new) self.new keep.new) }
     {
         let choice = self.choose::<P, K>(usage, t, port);
@@ -365,7 +365,7 @@ impl<V: Volume> DeviceStore<V> {
         ensures same { OnErr result (self.new.half ≡ self.old.half) }
         ensures takes { Takes K.takes keep.new self.new.number (self.new.cylinders * 15) }
         ensures weight { weight self.new.loose ≤ weight self.old.loose + 2 }
-        ensures run { Ran (where_ok result) K.hears (write contents (state_of self.old) usage.now first t (frame_in (state_of self.old) t) edit)
+        ensures run { Ran (where_ok result) (Heard K.hears K.takes) (write contents (state_of self.old) usage.now first t (frame_in (state_of self.old) t) edit)
             (outside (P.view port.old) self.old keep.old) (state_of self.new) (had (λ took. took) result) (outside (P.view port.new) self.new keep.new) }
     {
         let copy = match self.room_framed(usage, t, &edit) {

@@ -1,4 +1,5 @@
 ghost use Rattle.std.specs.Prelude.{◌≡◌, ◌<◌, ◌*◌, None, false, is_some, option_map, true};
+ghost use Rattle.device_outside.specs.Keeper.{Heard};
 ghost use Rattle.device_outside.specs.Outside.{Ran};
 ghost use Rattle.device_defs.specs.Contents.{contents};
 ghost use Rattle.device_defs.specs.Image.{filled, framed};
@@ -89,7 +90,7 @@ impl<V: Volume> DeviceStore<V> {
         ensures loose { self.new.loose ≡ self.old.loose }
         ensures there { is_some (frame_at (state_of self.new) t) ≡ true }
         ensures image { frame_in (state_of self.new) t ≡ image }
-        ensures run { (k : K) → Ran surely K.hears (filled contents (state_of self.old) t image) (outside (P.view port.old) self.old k)
+        ensures run { (k : K) → Ran surely (Heard K.hears K.takes) (filled contents (state_of self.old) t image) (outside (P.view port.old) self.old k)
             (state_of self.new) tt (outside (P.view port.new) self.new k) }
     {
         if self.patches.has(t) {

@@ -1,5 +1,6 @@
 ghost use Rattle.std.specs.Option.{option_copied};
 ghost use Rattle.std.specs.Prelude.{◌≡◌, ◌<◌, ◌*◌, IfOk, IfSome, None, Some, false, is_some, true};
+ghost use Rattle.device_outside.specs.Keeper.{Heard};
 ghost use Rattle.device_outside.specs.Outside.{PortView, Ran, where_ok};
 ghost use Rattle.device_defs.specs.Contents.{contents};
 ghost use Rattle.ckd_types.specs.Parameters.{is_bypass};
@@ -97,7 +98,7 @@ impl<V: Volume> DeviceStore<V> {
         ensures weight { weight self.new.loose ≡ weight self.old.loose }
         ensures firm { StaysFirm self.old.loose.loose self.new.loose.loose }
         ensures takes { Takes K.takes keep.new self.new.number (self.new.cylinders * 15) }
-        ensures run { (p : PortView) → Ran surely K.hears (read_b contents (state_of self.old) t fault) (outside p self.old keep.old)
+        ensures run { (p : PortView) → Ran surely (Heard K.hears K.takes) (read_b contents (state_of self.old) t fault) (outside p self.old keep.old)
             (state_of self.new) (got_by self.new.buffer result) (outside p self.new keep.new) }
     {
         let side = Side::B;
@@ -131,7 +132,7 @@ impl<V: Volume> DeviceStore<V> {
         ensures weight { weight self.new.loose ≡ weight self.old.loose }
         ensures firm { StaysFirm self.old.loose.loose self.new.loose.loose }
         ensures takes { Takes K.takes keep.new self.new.number (self.new.cylinders * 15) }
-        ensures run { (p : PortView) → Ran surely K.hears (level_bytes contents (state_of self.old) t) (outside p self.old keep.old)
+        ensures run { (p : PortView) → Ran surely (Heard K.hears K.takes) (level_bytes contents (state_of self.old) t) (outside p self.old keep.old)
             (state_of self.new) (got_by self.new.buffer result) (outside p self.new keep.new) }
     {
         if !self.pair.is_level(Side::A, t) {
@@ -215,7 +216,7 @@ impl<V: Volume> DeviceStore<V> {
         ensures half { self.new.half ≡ self.old.half }
         ensures loose { self.new.loose ≡ self.old.loose }
         ensures there { IfOk result (IsThere (state_of self.new) t) }
-        ensures run { (k : K) → Ran (where_ok result) K.hears (loaded contents (state_of self.old) t image mode)
+        ensures run { (k : K) → Ran (where_ok result) (Heard K.hears K.takes) (loaded contents (state_of self.old) t image mode)
             (outside (P.view port.old) self.old k) (state_of self.new) (had (imaged (state_of self.new) t) result) (outside (P.view port.new) self.new k) }
     {
         if !loads(mode) {
@@ -247,7 +248,7 @@ impl<V: Volume> DeviceStore<V> {
         ensures half { self.new.half ≡ self.old.half }
         ensures loose { self.new.loose ≡ self.old.loose }
         ensures there { IfOk result (IsThere (state_of self.new) t) }
-        ensures run { (k : K) → Ran (where_ok result) K.hears
+        ensures run { (k : K) → Ran (where_ok result) (Heard K.hears K.takes)
             (missed contents usage.now t (state_of self.old) (got side (Some self.old.buffer) None) (Some self.old.buffer))
             (outside (P.view port.old) self.old k) (state_of self.new) (had (imaged (state_of self.new) t) result) (outside (P.view port.new) self.new k) }
     {
@@ -278,8 +279,9 @@ impl<V: Volume> DeviceStore<V> {
         ensures weight { weight self.new.loose ≡ weight self.old.loose }
         ensures takes { Takes K.takes keep.new self.new.number (self.new.cylinders * 15) }
         ensures there { IfOk result (IsThere (state_of self.new) t) }
-        ensures run { Ran (where_ok result) K.hears (miss contents (state_of self.old) usage.now t) (outside (P.view port.old) self.old keep.old)
-            (state_of self.new) (had (imaged (state_of self.new) t) result) (outside (P.view port.new) self.new keep.new) }
+        ensures run { Ran (where_ok result) (Heard K.hears K.takes) (miss contents (state_of self.old) usage.now t)
+            (outside (P.view port.old) self.old keep.old) (state_of self.new) (had (imaged (state_of self.new) t) result)
+            (outside (P.view port.new) self.new keep.new) }
     {
         let got = self.level_bytes(t, keep);
         if got.given {
@@ -307,7 +309,7 @@ impl<V: Volume> DeviceStore<V> {
         ensures weight { weight self.new.loose ≡ weight self.old.loose }
         ensures takes { Takes K.takes keep.new self.new.number (self.new.cylinders * 15) }
         ensures there { IfOk result (IsThere (state_of self.new) t) }
-        ensures run { Ran (where_ok result) K.hears (clean_by (state_of self.old) usage.now t) (outside (P.view port.old) self.old keep.old)
+        ensures run { Ran (where_ok result) (Heard K.hears K.takes) (clean_by (state_of self.old) usage.now t) (outside (P.view port.old) self.old keep.old)
             (state_of self.new) (had (imaged (state_of self.new) t) result) (outside (P.view port.new) self.new keep.new) }
     {
         if is_bypass(usage.mode) {
@@ -336,8 +338,9 @@ impl<V: Volume> DeviceStore<V> {
         ensures weight { weight self.new.loose ≡ weight self.old.loose }
         ensures takes { Takes K.takes keep.new self.new.number (self.new.cylinders * 15) }
         ensures there { IfOk result (IsThere (state_of self.new) t) }
-        ensures run { Ran (where_ok result) K.hears (image contents (state_of self.old) usage.now t) (outside (P.view port.old) self.old keep.old)
-            (state_of self.new) (had (imaged (state_of self.new) t) result) (outside (P.view port.new) self.new keep.new) }
+        ensures run { Ran (where_ok result) (Heard K.hears K.takes) (image contents (state_of self.old) usage.now t)
+            (outside (P.view port.old) self.old keep.old) (state_of self.new) (had (imaged (state_of self.new) t) result)
+            (outside (P.view port.new) self.new keep.new) }
     {
         if self.frames.modified(t) {
             return Ok(Looked::Frame);

@@ -5,6 +5,7 @@ ghost use Rattle.device_defs.specs.Effects.{loose_lost};
 ghost use Rattle.device_defs.specs.Events.{losing, lost_by, one_more, with_loss};
 ghost use Rattle.device_defs.specs.Losses.{all_firm_told, cache_lost, down, firm_told, over, patch_lost, settled, side_lost, store_lost, without_frame};
 ghost use Rattle.device_defs.specs.Store.{is_loose};
+ghost use Rattle.device_outside.specs.Keeper.{Heard};
 ghost use Rattle.device_outside.specs.Outside.{PortView, Ran};
 ghost use Rattle.event_notes.specs.Loose.{weight};
 ghost use Rattle.plain_defs.specs.Loose.{next_number};
@@ -120,7 +121,7 @@ impl<V: Volume> DeviceStore<V> {
         ensures half { self.new.half ≡ self.old.half }
         ensures weight { weight self.new.loose ≡ weight self.old.loose }
         ensures takes { Takes K.takes keep.new self.new.number (self.new.cylinders * 15) }
-        ensures run { (p : PortView) → Ran surely K.hears (firm_told contents t (patch_lost contents t (state_of self.old)))
+        ensures run { (p : PortView) → Ran surely (Heard K.hears K.takes) (firm_told contents t (patch_lost contents t (state_of self.old)))
             (outside p self.old keep.old) (state_of self.new) tt (outside p self.new keep.new) }
     {
         if !self.patches.has(t) {
@@ -145,8 +146,8 @@ impl<V: Volume> DeviceStore<V> {
         ensures half { self.new.half ≡ self.old.half }
         ensures weight { weight self.new.loose ≡ weight self.old.loose }
         ensures takes { Takes K.takes keep.new self.new.number (self.new.cylinders * 15) }
-        ensures run { (p : PortView) → Ran surely K.hears (all_firm_told contents (self.old.cylinders * 15) (store_lost contents (state_of self.old)))
-            (outside p self.old keep.old) (state_of self.new) tt (outside p self.new keep.new) }
+        ensures run { (p : PortView) → Ran surely (Heard K.hears K.takes) (all_firm_told contents (self.old.cylinders * 15)
+            (store_lost contents (state_of self.old))) (outside p self.old keep.old) (state_of self.new) tt (outside p self.new keep.new) }
     {
         let tracks = u16::from(self.cylinders) * HEADS;
         for t in 0..tracks {
@@ -162,7 +163,7 @@ impl<V: Volume> DeviceStore<V> {
         ensures half { self.new.half ≡ self.old.half }
         ensures weight { weight self.new.loose ≤ weight self.old.loose }
         ensures takes { Takes K.takes keep.new self.new.number (self.new.cylinders * 15) }
-        ensures run { (p : PortView) → Ran surely K.hears
+        ensures run { (p : PortView) → Ran surely (Heard K.hears K.takes)
             (all_firm_told contents (self.old.cylinders * 15) (lost_by contents (state_of self.old) loss)) (outside p self.old keep.old)
             (state_of self.new) tt (outside p self.new keep.new) }
     {
@@ -184,8 +185,8 @@ impl<V: Volume> DeviceStore<V> {
         ensures half { self.new.half ≡ self.old.half }
         ensures weight { weight self.new.loose ≤ weight self.old.loose }
         ensures takes { Takes K.takes keep.new self.new.number (self.new.cylinders * 15) }
-        ensures run { (p : PortView) → Ran surely K.hears (losing contents (state_of self.old) loss) (outside p self.old keep.old) (state_of self.new)
-            tt (outside p self.new keep.new) }
+        ensures run { (p : PortView) → Ran surely (Heard K.hears K.takes) (losing contents (state_of self.old) loss) (outside p self.old keep.old)
+            (state_of self.new) tt (outside p self.new keep.new) }
     {
         count_loss(&mut self.counts.losses, loss);
         self.lose_by(loss, keep);

@@ -1,6 +1,7 @@
 ghost use Rattle.std.specs.Prelude.{◌≡◌, ◌*◌};
 ghost use Rattle.device_defs.specs.Contents.{contents};
 ghost use Rattle.device_defs.specs.Owed.{dropped, hear};
+ghost use Rattle.device_outside.specs.Keeper.{Heard};
 ghost use Rattle.device_outside.specs.Outside.{Ran};
 ghost use Rattle.device_store.specs.State.{state_of, outside, surely};
 
@@ -32,8 +33,8 @@ impl<V: Volume> DeviceStore<V> {
         ensures fixed { (self.new.number ≡ self.old.number) × (self.new.cylinders ≡ self.old.cylinders) }
         ensures half { self.new.half ≡ self.old.half }
         ensures loose { self.new.loose ≡ self.old.loose }
-        ensures run { (k : K) → Ran surely K.hears (hear contents 960 (state_of self.old)) (outside (P.view port.old) self.old k) (state_of self.new)
-            tt (outside (P.view port.new) self.new k) }
+        ensures run { (k : K) → Ran surely (Heard K.hears K.takes) (hear contents 960 (state_of self.old)) (outside (P.view port.old) self.old k)
+            (state_of self.new) tt (outside (P.view port.new) self.new k) }
     {
         for _turn in 0..NOTES {
             match port.next_notice(self.number) {

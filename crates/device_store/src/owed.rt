@@ -15,6 +15,7 @@ ghost use Rattle.device_defs.specs.Owed.{
   waits,
 };
 ghost use Rattle.device_defs.specs.Store.{no_debt, owed_at};
+ghost use Rattle.device_outside.specs.Keeper.{Heard};
 ghost use Rattle.device_outside.specs.Outside.{Ran};
 ghost use Rattle.track_table.specs.Bits.{is_marked};
 ghost use Rattle.device_store.specs.State.{state_of, outside, surely};
@@ -88,7 +89,7 @@ impl<V: Volume> DeviceStore<V> {
     }
 
     fn tell_modified<P: Port, K: Keep<TrackImage>>(&self, t: TrackNo, port: &mut P)
-        ensures run { (k : K) → Ran surely K.hears (modified_told contents t (state_of self.now)) (outside (P.view port.old) self.now k)
+        ensures run { (k : K) → Ran surely (Heard K.hears K.takes) (modified_told contents t (state_of self.now)) (outside (P.view port.old) self.now k)
             (state_of self.now) tt (outside (P.view port.new) self.now k) }
     {
         if !self.owed.at(t).modified {
@@ -100,7 +101,7 @@ impl<V: Volume> DeviceStore<V> {
     }
 
     fn tell_dropped<P: Port, K: Keep<TrackImage>>(&self, t: TrackNo, port: &mut P)
-        ensures run { (k : K) → Ran surely K.hears (dropped_told contents t (state_of self.now)) (outside (P.view port.old) self.now k)
+        ensures run { (k : K) → Ran surely (Heard K.hears K.takes) (dropped_told contents t (state_of self.now)) (outside (P.view port.old) self.now k)
             (state_of self.now) tt (outside (P.view port.new) self.now k) }
     {
         if self.owed.at(t).dropped {
@@ -109,7 +110,7 @@ impl<V: Volume> DeviceStore<V> {
     }
 
     fn tell_freed<P: Port, K: Keep<TrackImage>>(&self, t: TrackNo, port: &mut P)
-        ensures run { (k : K) → Ran surely K.hears (freed_told contents (state_of self.now) (owed_at (state_of self.now) t).freed)
+        ensures run { (k : K) → Ran surely (Heard K.hears K.takes) (freed_told contents (state_of self.now) (owed_at (state_of self.now) t).freed)
             (outside (P.view port.old) self.now k) (state_of self.now) tt (outside (P.view port.new) self.now k) }
     {
         match self.owed.at(t).freed {
@@ -125,7 +126,7 @@ impl<V: Volume> DeviceStore<V> {
         ensures volume { self.new.pair.volumes ≡ self.old.pair.volumes }
         ensures loose { self.new.loose ≡ self.old.loose }
         ensures rest { state_of self.new ≡ record (state_of self.old) { owed = self.new.owed } }
-        ensures run { (k : K) → Ran surely K.hears (settles_debt contents t (state_of self.old)) (outside (P.view port.old) self.old k)
+        ensures run { (k : K) → Ran surely (Heard K.hears K.takes) (settles_debt contents t (state_of self.old)) (outside (P.view port.old) self.old k)
             (state_of self.new) tt (outside (P.view port.new) self.new k) }
     {
         self.tell_modified::<P, K>(t, port);
@@ -140,7 +141,7 @@ impl<V: Volume> DeviceStore<V> {
         ensures volume { self.new.pair.volumes ≡ self.old.pair.volumes }
         ensures loose { self.new.loose ≡ self.old.loose }
         ensures rest { state_of self.new ≡ record (state_of self.old) { owed = self.new.owed } }
-        ensures run { (k : K) → Ran surely K.hears (track_told contents t (state_of self.old)) (outside (P.view port.old) self.old k)
+        ensures run { (k : K) → Ran surely (Heard K.hears K.takes) (track_told contents t (state_of self.old)) (outside (P.view port.old) self.old k)
             (state_of self.new) tt (outside (P.view port.new) self.new k) }
     {
         if is_owed(&self.owed.at(t)) {
@@ -155,7 +156,7 @@ impl<V: Volume> DeviceStore<V> {
         ensures volume { self.new.pair.volumes ≡ self.old.pair.volumes }
         ensures loose { self.new.loose ≡ self.old.loose }
         ensures rest { state_of self.new ≡ record (state_of self.old) { owed = self.new.owed } }
-        ensures run { (k : K) → Ran surely K.hears (all_told contents (self.old.cylinders * 15) (state_of self.old))
+        ensures run { (k : K) → Ran surely (Heard K.hears K.takes) (all_told contents (self.old.cylinders * 15) (state_of self.old))
             (outside (P.view port.old) self.old k) (state_of self.new) tt (outside (P.view port.new) self.new k) }
     {
         let tracks = u16::from(self.cylinders) * HEADS;
@@ -171,7 +172,7 @@ impl<V: Volume> DeviceStore<V> {
         ensures volume { self.new.pair.volumes ≡ self.old.pair.volumes }
         ensures loose { self.new.loose ≡ self.old.loose }
         ensures rest { state_of self.new ≡ record (state_of self.old) { owed = self.new.owed } }
-        ensures run { (k : K) → Ran surely K.hears (all_told contents (self.old.cylinders * 15) (state_of self.old))
+        ensures run { (k : K) → Ran surely (Heard K.hears K.takes) (all_told contents (self.old.cylinders * 15) (state_of self.old))
             (outside (P.view port.old) self.old k) (state_of self.new) tt (outside (P.view port.new) self.new k) }
     {
         if self.owed.are_paid() {
@@ -183,7 +184,7 @@ impl<V: Volume> DeviceStore<V> {
 
     /// The port is told how many tracks wait, where it is another number than before.
     fn tell_waiting<P: Port, K: Keep<TrackImage>>(&self, before: u16, port: &mut P)
-        ensures run { (k : K) → Ran surely K.hears (waiting_told contents before (state_of self.now)) (outside (P.view port.old) self.now k)
+        ensures run { (k : K) → Ran surely (Heard K.hears K.takes) (waiting_told contents before (state_of self.now)) (outside (P.view port.old) self.now k)
             (state_of self.now) tt (outside (P.view port.new) self.now k) }
     {
         let waiting = self.waiting_count();
@@ -200,7 +201,7 @@ impl<V: Volume> DeviceStore<V> {
         ensures volume { self.new.pair.volumes ≡ self.old.pair.volumes }
         ensures loose { self.new.loose ≡ self.old.loose }
         ensures rest { state_of self.new ≡ record (state_of self.old) { owed = self.new.owed } }
-        ensures run { (k : K) → Ran surely K.hears (ended contents before (state_of self.old)) (outside (P.view port.old) self.old k)
+        ensures run { (k : K) → Ran surely (Heard K.hears K.takes) (ended contents before (state_of self.old)) (outside (P.view port.old) self.old k)
             (state_of self.new) tt (outside (P.view port.new) self.new k) }
     {
         self.tell_all::<P, K>(port);

@@ -1,4 +1,5 @@
 ghost use Rattle.std.specs.Prelude.{◌≡◌, ℕ, ◌<◌, ◌*◌, IfOk, is_some, true};
+ghost use Rattle.device_outside.specs.Keeper.{Heard};
 ghost use Rattle.device_outside.specs.Outside.{Ran, where_ok};
 ghost use Rattle.device_defs.specs.Contents.{contents};
 ghost use Rattle.device_defs.specs.Peek.{peek_usage, peek_track, peeked};
@@ -69,7 +70,7 @@ impl<V: Volume> DeviceStore<V> {
         ensures weight { weight self.new.loose ≡ weight self.old.loose }
         ensures takes { Takes K.takes keep.new self.new.number (self.new.cylinders * 15) }
         ensures there { IfOk result (IsPeeked (state_of self.new) t) }
-        ensures run { Ran (where_ok result) K.hears (peek_track contents (state_of self.old) t) (outside (P.view port.old) self.old keep.old)
+        ensures run { Ran (where_ok result) (Heard K.hears K.takes) (peek_track contents (state_of self.old) t) (outside (P.view port.old) self.old keep.old)
             (state_of self.new) (had (peeked_by (state_of self.new) t) result) (outside (P.view port.new) self.new keep.new) }
     {
         if self.lost.has(t) {

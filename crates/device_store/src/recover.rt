@@ -4,6 +4,7 @@ ghost use Rattle.device_store.specs.declared.half.Origin.TheVariants.{OfBackgrou
 ghost use Rattle.device_defs.specs.Background.{did, recover, recovered_bytes, saved_by, saving, to_recover};
 ghost use Rattle.device_defs.specs.Contents.{contents};
 ghost use Rattle.device_defs.specs.Store.{frame_at, is_loose};
+ghost use Rattle.device_outside.specs.Keeper.{Heard};
 ghost use Rattle.device_outside.specs.Outside.{Ran, where_ok};
 ghost use Rattle.event_notes.specs.Loose.{weight};
 ghost use Rattle.device_store.specs.State.{state_of, outside, surely, OnlyBackground, Takes, had, got_by};
@@ -46,7 +47,7 @@ impl<V: Volume> DeviceStore<V> {
         ensures opened { OnlyBackground self.new.half }
         ensures loose { self.new.loose ≡ self.old.loose }
         ensures run { (k : K) (fault : Option Side)
-            → Ran surely K.hears (saved_by contents half.track half.image done fault was_loose written.fault (state_of self.old) written.took)
+            → Ran surely (Heard K.hears K.takes) (saved_by contents half.track half.image done fault was_loose written.fault (state_of self.old) written.took)
             (outside (P.view port.old) self.old k) (state_of self.new) (did fault result) (outside (P.view port.new) self.new k) }
     {
         match written.took {
@@ -81,7 +82,7 @@ impl<V: Volume> DeviceStore<V> {
         ensures opened { OnlyBackground self.new.half }
         ensures weight { weight self.new.loose ≡ weight self.old.loose }
         ensures takes { Takes K.takes keep.new self.new.number (self.new.cylinders * 15) }
-        ensures run { Ran surely K.hears (saving contents (state_of self.old) t image done fault) (outside (P.view port.old) self.old keep.old)
+        ensures run { Ran surely (Heard K.hears K.takes) (saving contents (state_of self.old) t image done fault) (outside (P.view port.old) self.old keep.old)
             (state_of self.new) result (outside (P.view port.new) self.new keep.new) }
     {
         let was_loose = self.firm_first(t, keep);
@@ -113,7 +114,7 @@ impl<V: Volume> DeviceStore<V> {
         ensures opened { OnlyBackground self.new.half }
         ensures weight { weight self.new.loose ≡ weight self.old.loose }
         ensures takes { Takes K.takes keep.new self.new.number (self.new.cylinders * 15) }
-        ensures run { Ran (where_ok result) K.hears
+        ensures run { Ran (where_ok result) (Heard K.hears K.takes)
             (recovered_bytes contents t (state_of self.old) (got_by self.old.buffer given) (Some self.old.buffer))
             (outside (P.view port.old) self.old keep.old) (state_of self.new) (had (λ did. did) result) (outside (P.view port.new) self.new keep.new) }
     {
@@ -140,7 +141,7 @@ impl<V: Volume> DeviceStore<V> {
         ensures opened { OnlyBackground self.new.half }
         ensures weight { weight self.new.loose ≡ weight self.old.loose }
         ensures takes { Takes K.takes keep.new self.new.number (self.new.cylinders * 15) }
-        ensures run { Ran (where_ok result) K.hears (recover contents (state_of self.old) t (frame_at (state_of self.old) t))
+        ensures run { Ran (where_ok result) (Heard K.hears K.takes) (recover contents (state_of self.old) t (frame_at (state_of self.old) t))
             (outside (P.view port.old) self.old keep.old) (state_of self.new) (had (λ did. did) result) (outside (P.view port.new) self.new keep.new) }
     {
         if self.frames.has(t) {

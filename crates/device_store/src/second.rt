@@ -6,6 +6,7 @@ ghost use Rattle.device_defs.specs.Losses.{settled};
 ghost use Rattle.device_defs.specs.Second.{closed, cut_kept, left_by, second_done, second_part};
 ghost use Rattle.device_defs.specs.Store.{frame_at, is_loose, takes_b};
 ghost use Rattle.device_defs.specs.Writing.{write_second};
+ghost use Rattle.device_outside.specs.Keeper.{Heard};
 ghost use Rattle.device_outside.specs.Outside.{PortView, Ran};
 ghost use Rattle.device_outside.specs.Volume.{WriteOf, counted, counted_if};
 ghost use Rattle.duplex_pair.specs.Sides.{HasSides};
@@ -89,7 +90,7 @@ impl<V: Volume> DeviceStore<V> {
         ensures half { self.new.half ≡ self.old.half }
         ensures loose { self.new.loose ≡ self.old.loose }
         ensures takes { Takes K.takes keep.new self.new.number (self.new.cylinders * 15) }
-        ensures run { Ran surely K.hears (second_done contents (state_of self.old) half.track half.image (origin_of half.origin))
+        ensures run { Ran surely (Heard K.hears K.takes) (second_done contents (state_of self.old) half.track half.image (origin_of half.origin))
             (outside (P.view port.old) self.old keep.old) (state_of self.new) true (outside (P.view port.new) self.new keep.new) }
     {
         match half.origin {
@@ -196,7 +197,7 @@ impl<V: Volume> DeviceStore<V> {
         ensures weight { weight self.new.loose ≡ weight self.old.loose }
         ensures takes { Takes K.takes keep.new self.new.number (self.new.cylinders * 15) }
         ensures run { (h : HalfWrite) (p : PortView) → self.old.half ≡ Some h
-            → Ran surely K.hears (write_second contents (state_of self.old) h.track (track_bytes h.image.track)) (outside p self.old keep.old)
+            → Ran surely (Heard K.hears K.takes) (write_second contents (state_of self.old) h.track (track_bytes h.image.track)) (outside p self.old keep.old)
             (state_of self.new) tt (outside p self.new keep.new) }
     {
         if self.takes_second() {
@@ -221,7 +222,7 @@ impl<V: Volume> DeviceStore<V> {
         ensures half { self.new.half ≡ None }
         ensures loose { self.new.loose ≡ self.old.loose }
         ensures takes { Takes K.takes keep.new self.new.number (self.new.cylinders * 15) }
-        ensures run { Ran surely K.hears (closing (state_of self.old) half.track half.image (origin_of half.origin))
+        ensures run { Ran surely (Heard K.hears K.takes) (closing (state_of self.old) half.track half.image (origin_of half.origin))
             (outside (P.view port.old) self.old keep.old) (state_of self.new) result (outside (P.view port.new) self.new keep.new) }
     {
         if self.has_level(half.track) {
@@ -243,7 +244,7 @@ impl<V: Volume> DeviceStore<V> {
         ensures track { (h : HalfWrite) → self.old.half ≡ Some h → result.track ≡ h.track }
         ensures command { (h : HalfWrite) → self.old.half ≡ Some h → result.of_command ≡ is_of_command (origin_of h.origin) }
         ensures run { (h : HalfWrite) → self.old.half ≡ Some h
-            → Ran surely K.hears (second_part contents (state_of self.old) (half_of h)) (outside (P.view port.old) self.old keep.old)
+            → Ran surely (Heard K.hears K.takes) (second_part contents (state_of self.old) (half_of h)) (outside (P.view port.old) self.old keep.old)
             (state_of self.new) result.done (outside (P.view port.new) self.new keep.new) }
     {
         self.write_half(keep);
@@ -266,7 +267,7 @@ impl<V: Volume> DeviceStore<V> {
         ensures half { IfSome self.new.half (λ h. is_of_command (origin_of h.origin) ≡ false) }
         ensures loose { self.new.loose ≡ self.old.loose }
         ensures takes { Takes K.takes keep.new self.new.number (self.new.cylinders * 15) }
-        ensures run { (p : PortView) → Ran surely K.hears (half_cut contents (state_of self.old) (state_of self.old).half)
+        ensures run { (p : PortView) → Ran surely (Heard K.hears K.takes) (half_cut contents (state_of self.old) (state_of self.old).half)
             (outside p self.old keep.old) (state_of self.new) tt (outside p self.new keep.new) }
     {
         if self.half.is_some() {
@@ -283,7 +284,7 @@ impl<V: Volume> DeviceStore<V> {
         ensures track { result.track ≡ half.track }
         ensures command { is_of_command (origin_of result.origin) ≡ false }
         ensures takes { Takes K.takes keep.new self.now.number (self.now.cylinders * 15) }
-        ensures run { (p : PortView) → Ran surely K.hears
+        ensures run { (p : PortView) → Ran surely (Heard K.hears K.takes)
             (half_cut contents (record (state_of self.now) { half = Some (half_of half) }) (Some (half_of half))) (outside p self.now keep.old)
             (record (state_of self.now) { half = Some (half_of result) }) tt (outside p self.now keep.new) }
     {

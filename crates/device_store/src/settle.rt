@@ -15,6 +15,7 @@ ghost use Rattle.device_defs.specs.Losses.{
 ghost use Rattle.device_defs.specs.Store.{frame_at, half_is, has_level, is_loose, is_lost, takes_b, with_stale};
 ghost use Rattle.ckd_types.specs.declared.paths.Side.TheVariants.{A, B};
 ghost use Rattle.device_defs.specs.Writing.{unwritten};
+ghost use Rattle.device_outside.specs.Keeper.{Heard};
 ghost use Rattle.device_outside.specs.Outside.{PortView, Ran};
 ghost use Rattle.event_notes.specs.Loose.{weight};
 ghost use Rattle.track_cache.specs.declared.frames.Frame.{Frame};
@@ -266,7 +267,7 @@ impl<V: Volume> DeviceStore<V> {
         ensures firm { StaysFirm self.old.loose.loose self.new.loose.loose }
         ensures weight { weight self.new.loose ≡ weight self.old.loose }
         ensures takes { Takes K.takes keep.new self.new.number (self.new.cylinders * 15) }
-        ensures run { (p : PortView) → Ran surely K.hears (firm_told contents t (settled contents (state_of self.old) t))
+        ensures run { (p : PortView) → Ran surely (Heard K.hears K.takes) (firm_told contents t (settled contents (state_of self.old) t))
             (outside p self.old keep.old) (state_of self.new) tt (outside p self.new keep.new) }
     {
         if self.loose.has(t) {
@@ -288,7 +289,7 @@ impl<V: Volume> DeviceStore<V> {
         ensures firm { StaysFirm self.old.loose.loose self.new.loose.loose }
         ensures weight { weight self.new.loose ≡ weight self.old.loose }
         ensures takes { Takes K.takes keep.new self.new.number (self.new.cylinders * 15) }
-        ensures run { (p : PortView) → Ran surely K.hears (firm_told contents t (settled contents (state_of self.old) t))
+        ensures run { (p : PortView) → Ran surely (Heard K.hears K.takes) (firm_told contents t (settled contents (state_of self.old) t))
             (outside p self.old keep.old) (state_of self.new) tt (outside p self.new keep.new) }
     {
         self.owed.no_firm();
@@ -310,7 +311,7 @@ impl<V: Volume> DeviceStore<V> {
         ensures firm { StaysFirm self.old.loose.loose self.new.loose.loose }
         ensures weight { weight self.new.loose ≡ weight self.old.loose }
         ensures takes { Takes K.takes keep.new self.new.number (self.new.cylinders * 15) }
-        ensures run { (p : PortView) → Ran surely K.hears
+        ensures run { (p : PortView) → Ran surely (Heard K.hears K.takes)
             (firm_told contents t (by_frame contents (state_of self.old) t (frame_at (state_of self.old) t))) (outside p self.old keep.old)
             (state_of self.new) tt (outside p self.new keep.new) }
     {

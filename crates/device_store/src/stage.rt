@@ -1,4 +1,5 @@
 ghost use Rattle.std.specs.Prelude.{◌≡◌, ◌<◌, ◌*◌, Some, false, is_some, true};
+ghost use Rattle.device_outside.specs.Keeper.{Heard};
 ghost use Rattle.device_outside.specs.Outside.{Ran, where_ok};
 ghost use Rattle.device_defs.specs.Background.{granted, stage, staged_bytes};
 ghost use Rattle.device_defs.specs.Contents.{contents};
@@ -27,7 +28,7 @@ impl<V: Volume> DeviceStore<V> {
         ensures fixed { (self.new.number ≡ self.old.number) × (self.new.cylinders ≡ self.old.cylinders) }
         ensures half { self.new.half ≡ self.old.half }
         ensures loose { self.new.loose ≡ self.old.loose }
-        ensures run { (k : K) → Ran (where_ok result) K.hears
+        ensures run { (k : K) → Ran (where_ok result) (Heard K.hears K.takes)
             (staged_bytes contents t (state_of self.old) (got_by self.old.buffer given) (Some self.old.buffer)) (outside (P.view port.old) self.old k)
             (state_of self.new) (had (λ did. did) result) (outside (P.view port.new) self.new k) }
     {
@@ -61,7 +62,7 @@ impl<V: Volume> DeviceStore<V> {
         ensures half { self.new.half ≡ self.old.half }
         ensures weight { weight self.new.loose ≡ weight self.old.loose }
         ensures takes { Takes K.takes keep.new self.new.number (self.new.cylinders * 15) }
-        ensures run { Ran (where_ok result) K.hears (granted contents (state_of self.old) t true) (outside (P.view port.old) self.old keep.old)
+        ensures run { Ran (where_ok result) (Heard K.hears K.takes) (granted contents (state_of self.old) t true) (outside (P.view port.old) self.old keep.old)
             (state_of self.new) (had (λ did. did) result) (outside (P.view port.new) self.new keep.new) }
     {
         let got = self.level_bytes(t, keep);
@@ -85,7 +86,7 @@ impl<V: Volume> DeviceStore<V> {
         ensures half { self.new.half ≡ self.old.half }
         ensures weight { weight self.new.loose ≡ weight self.old.loose }
         ensures takes { Takes K.takes keep.new self.new.number (self.new.cylinders * 15) }
-        ensures run { Ran (where_ok result) K.hears (stage contents (state_of self.old) t) (outside (P.view port.old) self.old keep.old)
+        ensures run { Ran (where_ok result) (Heard K.hears K.takes) (stage contents (state_of self.old) t) (outside (P.view port.old) self.old keep.old)
             (state_of self.new) (had (λ did. did) result) (outside (P.view port.new) self.new keep.new) }
     {
         if self.frames.has(t) {

@@ -21,6 +21,7 @@ ghost use Rattle.device_defs.specs.Writing.{
   write_second,
   write_side,
 };
+ghost use Rattle.device_outside.specs.Keeper.{Heard};
 ghost use Rattle.device_outside.specs.Outside.{PortView, Ran};
 ghost use Rattle.device_outside.specs.Volume.{WriteOf, counted, counted_if};
 ghost use Rattle.duplex_pair.specs.Sides.{HasSides, other_of, state_in, volume_of};
@@ -100,7 +101,7 @@ impl<V: Volume> DeviceStore<V> {
         ensures takes { Takes K.takes keep.new self.new.number (self.new.cylinders * 15) }
         ensures frames { self.new.frames ≡ self.old.frames }
         ensures firm { is_loose (state_of self.new) t ≡ false }
-        ensures run { (p : PortView) → Ran surely K.hears (firm_first contents (state_of self.old) t) (outside p self.old keep.old)
+        ensures run { (p : PortView) → Ran surely (Heard K.hears K.takes) (firm_first contents (state_of self.old) t) (outside p self.old keep.old)
             (state_of self.new) result (outside p self.new keep.new) }
     {
         if self.loose.has(t) {
@@ -123,7 +124,7 @@ impl<V: Volume> DeviceStore<V> {
         ensures loose { self.new.loose ≡ self.old.loose }
         ensures refused { result.took ≡ Unwritten }
         ensures run { (p : PortView) (k : K) (bytes : List ℕ)
-            → Ran surely K.hears (write_first contents (state_of self.old) t bytes) (outside p self.old k) (state_of self.new) (wrote_by result)
+            → Ran surely (Heard K.hears K.takes) (write_first contents (state_of self.old) t bytes) (outside p self.old k) (state_of self.new) (wrote_by result)
             (outside p self.new k) }
     {
         self.settle(t);
@@ -168,7 +169,7 @@ impl<V: Volume> DeviceStore<V> {
         ensures weight { weight self.new.loose ≡ weight self.old.loose }
         ensures firm { StaysFirm self.old.loose.loose self.new.loose.loose }
         ensures takes { Takes K.takes keep.new self.new.number (self.new.cylinders * 15) }
-        ensures run { (p : PortView) → Ran surely K.hears
+        ensures run { (p : PortView) → Ran surely (Heard K.hears K.takes)
             (write_side contents (state_of self.old) B t (track_bytes image.now.track) (alone_b contents t fault first)) (outside p self.old keep.old)
             (state_of self.new) (wrote_by result) (outside p self.new keep.new) }
     {
@@ -202,7 +203,7 @@ impl<V: Volume> DeviceStore<V> {
         ensures weight { weight self.new.loose ≡ weight self.old.loose }
         ensures firm { StaysFirm self.old.loose.loose self.new.loose.loose }
         ensures takes { Takes K.takes keep.new self.new.number (self.new.cylinders * 15) }
-        ensures run { (p : PortView) → Ran surely K.hears (failed_a contents t (track_bytes image.now.track) takes (state_of self.old))
+        ensures run { (p : PortView) → Ran surely (Heard K.hears K.takes) (failed_a contents t (track_bytes image.now.track) takes (state_of self.old))
             (outside p self.old keep.old) (state_of self.new) (wrote_by result) (outside p self.new keep.new) }
     {
         if takes {
@@ -231,7 +232,7 @@ impl<V: Volume> DeviceStore<V> {
         ensures weight { weight self.new.loose ≡ weight self.old.loose }
         ensures firm { StaysFirm self.old.loose.loose self.new.loose.loose }
         ensures takes { Takes K.takes keep.new self.new.number (self.new.cylinders * 15) }
-        ensures run { (p : PortView) → Ran surely K.hears (write_first contents (state_of self.old) t (track_bytes image.now.track))
+        ensures run { (p : PortView) → Ran surely (Heard K.hears K.takes) (write_first contents (state_of self.old) t (track_bytes image.now.track))
             (outside p self.old keep.old) (state_of self.new) (wrote_by result) (outside p self.new keep.new) }
     {
         let takes = self.pair.takes_b();
@@ -261,7 +262,7 @@ impl<V: Volume> DeviceStore<V> {
         ensures weight { weight self.new.loose ≡ weight self.old.loose }
         ensures firm { StaysFirm self.old.loose.loose self.new.loose.loose }
         ensures takes { Takes K.takes keep.new self.new.number (self.new.cylinders * 15) }
-        ensures run { (p : PortView) → Ran surely K.hears (write_first contents (state_of self.old) t (track_bytes image.now.track))
+        ensures run { (p : PortView) → Ran surely (Heard K.hears K.takes) (write_first contents (state_of self.old) t (track_bytes image.now.track))
             (outside p self.old keep.old) (state_of self.new) (wrote_by result) (outside p self.new keep.new) }
     {
         if self.pair.a.up {
@@ -285,8 +286,8 @@ impl<V: Volume> DeviceStore<V> {
         ensures kept { result.took ≡ Whole → self.new.frames ≡ self.old.frames }
         ensures whole { (result.took ≡ Opened) → ⊥ }
         ensures run { (p : PortView) (k : K) (bytes : List ℕ)
-            → Ran surely K.hears (first_a contents t bytes (state_of self.old) done) (outside p self.old k) (state_of self.new) (wrote_by result)
-            (outside p self.new k) }
+            → Ran surely (Heard K.hears K.takes) (first_a contents t bytes (state_of self.old) done) (outside p self.old k) (state_of self.new)
+            (wrote_by result) (outside p self.new k) }
     {
         if done {
             self.taken_a(t);
@@ -313,7 +314,7 @@ impl<V: Volume> DeviceStore<V> {
         ensures loose { self.new.loose ≡ self.old.loose }
         ensures kept { result.took ≡ Whole → self.new.frames ≡ self.old.frames }
         ensures whole { (result.took ≡ Opened) → ⊥ }
-        ensures run { (p : PortView) (k : K) → Ran surely K.hears
+        ensures run { (p : PortView) (k : K) → Ran surely (Heard K.hears K.takes)
             (write_first contents (state_of self.old) t (track_bytes (frame_in (state_of self.old) t).track)) (outside p self.old k)
             (state_of self.new) (wrote_by result) (outside p self.new k) }
     {
@@ -335,7 +336,7 @@ impl<V: Volume> DeviceStore<V> {
         ensures weight { weight self.new.loose ≡ weight self.old.loose }
         ensures firm { StaysFirm self.old.loose.loose self.new.loose.loose }
         ensures takes { Takes K.takes keep.new self.new.number (self.new.cylinders * 15) }
-        ensures run { (p : PortView) → Ran surely K.hears (tried_b contents t (state_of self.old) took) (outside p self.old keep.old)
+        ensures run { (p : PortView) → Ran surely (Heard K.hears K.takes) (tried_b contents t (state_of self.old) took) (outside p self.old keep.old)
             (state_of self.new) tt (outside p self.new keep.new) }
     {
         if took {
@@ -354,7 +355,7 @@ impl<V: Volume> DeviceStore<V> {
         ensures weight { weight self.new.loose ≡ weight self.old.loose }
         ensures firm { StaysFirm self.old.loose.loose self.new.loose.loose }
         ensures takes { Takes K.takes keep.new self.new.number (self.new.cylinders * 15) }
-        ensures run { (p : PortView) → Ran surely K.hears (write_second contents (state_of self.old) t (track_bytes image.now.track))
+        ensures run { (p : PortView) → Ran surely (Heard K.hears K.takes) (write_second contents (state_of self.old) t (track_bytes image.now.track))
             (outside p self.old keep.old) (state_of self.new) tt (outside p self.new keep.new) }
     {
         if self.takes_second() {
@@ -376,7 +377,7 @@ impl<V: Volume> DeviceStore<V> {
         ensures volume { self.new.pair.volumes ≡ self.old.pair.volumes }
         ensures half { self.new.half ≡ Some half }
         ensures loose { self.new.loose ≡ self.old.loose }
-        ensures run { (k : K) → Ran surely K.hears (opened contents (state_of self.old) half.track half.image (origin_of half.origin) was_loose)
+        ensures run { (k : K) → Ran surely (Heard K.hears K.takes) (opened contents (state_of self.old) half.track half.image (origin_of half.origin) was_loose)
             (outside (P.view port.old) self.old k) (state_of self.new) tt (outside (P.view port.new) self.new k) }
     {
         if was_loose {
@@ -394,7 +395,7 @@ impl<V: Volume> DeviceStore<V> {
         ensures volume { self.new.pair.volumes ≡ self.old.pair.volumes }
         ensures half { self.new.half ≡ self.old.half }
         ensures loose { self.new.loose ≡ self.old.loose }
-        ensures run { (k : K) → Ran surely K.hears (unpatched contents (state_of self.old) t) (outside (P.view port.old) self.old k)
+        ensures run { (k : K) → Ran surely (Heard K.hears K.takes) (unpatched contents (state_of self.old) t) (outside (P.view port.old) self.old k)
             (state_of self.new) tt (outside (P.view port.new) self.new k) }
     {
         match self.patches.slot_of(t) {
@@ -419,8 +420,8 @@ impl<V: Volume> DeviceStore<V> {
         ensures volume { self.new.pair.volumes ≡ self.old.pair.volumes }
         ensures half { self.new.half ≡ self.old.half }
         ensures loose { self.new.loose ≡ self.old.loose }
-        ensures run { (k : K) → Ran surely K.hears (done_by contents (state_of self.old) t image bypass true) (outside (P.view port.old) self.old k)
-            (state_of self.new) tt (outside (P.view port.new) self.new k) }
+        ensures run { (k : K) → Ran surely (Heard K.hears K.takes) (done_by contents (state_of self.old) t image bypass true)
+            (outside (P.view port.old) self.old k) (state_of self.new) tt (outside (P.view port.new) self.new k) }
     {
         if bypass {
             port.drop_frame(self.number, t);
@@ -447,8 +448,8 @@ impl<V: Volume> DeviceStore<V> {
         ensures volume { self.new.pair.volumes ≡ self.old.pair.volumes }
         ensures half { self.new.half ≡ self.old.half }
         ensures loose { self.new.loose ≡ self.old.loose }
-        ensures run { (k : K) → Ran surely K.hears (write_done contents (state_of self.old) t image bypass) (outside (P.view port.old) self.old k)
-            (state_of self.new) tt (outside (P.view port.new) self.new k) }
+        ensures run { (k : K) → Ran surely (Heard K.hears K.takes) (write_done contents (state_of self.old) t image bypass)
+            (outside (P.view port.old) self.old k) (state_of self.new) tt (outside (P.view port.new) self.new k) }
     {
         if self.frames.has(t) {
             self.framed_done::<P, K>(t, image, bypass, port);
@@ -465,7 +466,7 @@ impl<V: Volume> DeviceStore<V> {
         ensures volume { self.new.pair.volumes ≡ self.old.pair.volumes }
         ensures half { self.new.half ≡ self.old.half }
         ensures loose { self.new.loose ≡ self.old.loose }
-        ensures run { (k : K) → Ran surely K.hears (write_done contents (state_of self.old) t (frame_in (state_of self.old) t) false)
+        ensures run { (k : K) → Ran surely (Heard K.hears K.takes) (write_done contents (state_of self.old) t (frame_in (state_of self.old) t) false)
             (outside (P.view port.old) self.old k) (state_of self.new) tt (outside (P.view port.new) self.new k) }
     {
         port.set_clean(self.number, t);
@@ -489,7 +490,7 @@ impl<V: Volume> DeviceStore<V> {
         ensures half { self.new.half ≡ self.old.half }
         ensures loose { self.new.loose ≡ self.old.loose }
         ensures takes { Takes K.takes keep.new self.new.number (self.new.cylinders * 15) }
-        ensures run { (e : Edit) → Ran surely K.hears (whole contents (state_of self.old) t image e bypass)
+        ensures run { (e : Edit) → Ran surely (Heard K.hears K.takes) (whole contents (state_of self.old) t image e bypass)
             (outside (P.view port.old) self.old keep.old) (state_of self.new) Whole (outside (P.view port.new) self.new keep.new) }
     {
         keep.firm(self.number, t, &image);
@@ -513,7 +514,7 @@ impl<V: Volume> DeviceStore<V> {
         ensures weight { weight self.new.loose ≡ weight self.old.loose }
         ensures takes { Takes K.takes keep.new self.new.number (self.new.cylinders * 15) }
         ensures ends { (result ≡ Opened) → ⊥ }
-        ensures run { (e : Edit) → Ran surely K.hears (at_once contents (state_of self.old) t image e bypass)
+        ensures run { (e : Edit) → Ran surely (Heard K.hears K.takes) (at_once contents (state_of self.old) t image e bypass)
             (outside (P.view port.old) self.old keep.old) (state_of self.new) result (outside (P.view port.new) self.new keep.new) }
     {
         self.write_second(t, &image, keep);
@@ -545,7 +546,7 @@ impl<V: Volume> DeviceStore<V> {
         ensures weight { weight self.new.loose ≡ weight self.old.loose }
         ensures takes { Takes K.takes keep.new self.new.number (self.new.cylinders * 15) }
         ensures run { (e : Edit) → origin_of half.origin ≡ OfCommand bypass e
-            → Ran surely K.hears (through_by contents half.track half.image e bypass opens was_loose (state_of self.old) took)
+            → Ran surely (Heard K.hears K.takes) (through_by contents half.track half.image e bypass opens was_loose (state_of self.old) took)
             (outside (P.view port.old) self.old keep.old) (state_of self.new) result (outside (P.view port.new) self.new keep.new) }
     {
         match took {
@@ -584,7 +585,7 @@ impl<V: Volume> DeviceStore<V> {
         ensures half { is_some self.new.half ≡ is_opened result }
         ensures weight { weight self.new.loose ≡ weight self.old.loose }
         ensures takes { Takes K.takes keep.new self.new.number (self.new.cylinders * 15) }
-        ensures run { Ran surely K.hears (through contents (state_of self.old) t image edit bypass opens)
+        ensures run { Ran surely (Heard K.hears K.takes) (through contents (state_of self.old) t image edit bypass opens)
             (outside (P.view port.old) self.old keep.old) (state_of self.new) result (outside (P.view port.new) self.new keep.new) }
     {
         let was_loose = self.firm_first(t, keep);

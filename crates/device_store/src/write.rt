@@ -156,7 +156,7 @@ impl<V: Volume> DeviceStore<V> {
         ensures half { is_some self.new.half ≡ is_opened result }
         ensures takes { Takes K.takes keep.new self.new.number (self.new.cylinders * 15) }
         ensures weight { weight self.new.loose ≤ weight self.old.loose + 2 }
-        ensures run { Ran surely K.hears (write_by contents usage.now first t image edit (state_of self.old) choice)
+        ensures run { Ran surely (Heard K.hears K.takes) (write_by contents usage.now first t image edit (state_of self.old) choice)
             (outside (P.view port.old) self.old keep.old) (state_of self.new) result (outside (P.view port.new) self.new keep.new) }
     {
         match choice {
@@ -205,7 +205,7 @@ impl<V: Volume> DeviceStore<V> {
     }
 
     fn clean_again<P: Port, K: Keep<TrackImage>>(&self, t: TrackNo, port: &mut P)
-        ensures run { (k : K) → Ran surely K.hears (clean_again contents (state_of self.now) t) (outside (P.view port.old) self.now k)
+        ensures run { (k : K) → Ran surely (Heard K.hears K.takes) (clean_again contents (state_of self.now) t) (outside (P.view port.old) self.now k)
             (state_of self.now) None (outside (P.view port.new) self.now k) }
     {
         if self.is_clean(t) {
@@ -214,7 +214,7 @@ impl<V: Volume> DeviceStore<V> {
     }
 
     fn give_back<P: Port, K: Keep<TrackImage>>(&self, t: TrackNo, slot: Option<usize>, port: &mut P)
-        ensures run { (k : K) → Ran surely K.hears (unchosen contents (state_of self.now) t (Fast slot)) (outside (P.view port.old) self.now k)
+        ensures run { (k : K) → Ran surely (Heard K.hears K.takes) (unchosen contents (state_of self.now) t (Fast slot)) (outside (P.view port.old) self.now k)
             (state_of self.now) None (outside (P.view port.new) self.now k) }
     {
         match slot {
@@ -233,7 +233,7 @@ impl<V: Volume> DeviceStore<V> {
         choice: Choice,
         port: &mut P,
     )
-        ensures run { (k : K) → Ran surely K.hears (unchosen contents (state_of self.now) t choice) (outside (P.view port.old) self.now k)
+        ensures run { (k : K) → Ran surely (Heard K.hears K.takes) (unchosen contents (state_of self.now) t choice) (outside (P.view port.old) self.now k)
             (state_of self.now) None (outside (P.view port.new) self.now k) }
     {
         match choice {
@@ -269,7 +269,7 @@ impl<V: Volume> DeviceStore<V> {
         ensures same { OnErr result (self.new.half ≡ self.old.half) }
         ensures takes { Takes K.takes keep.new self.new.number (self.new.cylinders * 15) }
         ensures weight { weight self.new.loose ≤ weight self.old.loose + 2 }
-        ensures run { Ran (where_ok result) K.hears (told_before (state_of self.old) usage.now first t old.now edit choice)
+        ensures run { Ran (where_ok result) (Heard K.hears K.takes) (told_before (state_of self.old) usage.now first t old.now edit choice)
             (outside (P.view port.old) self.old keep.old) (state_of self.new) (had (λ took. took) result) (outside (P.view port.new) self.new keep.new) }
     {
         match keep.before_edit(self.number, t, old) {
@@ -305,7 +305,7 @@ impl<V: Volume> DeviceStore<V> {
         ensures same { OnErr result (self.new.half ≡ self.old.half) }
         ensures takes { Takes K.takes keep.new self.new.number (self.new.cylinders * 15) }
         ensures weight { weight self.new.loose ≤ weight self.old.loose + 2 }
-        ensures run { Ran (where_ok result) K.hears
+        ensures run { Ran (where_ok result) (Heard K.hears K.takes)
             (and_then (choose contents (state_of self.old) usage.now t) (write_chosen contents usage.now first t old.now edit))
             (outside (P.view port.old) self.old keep.old) (state_of self.new) (had (λ took. took) result) (outside (P.view port.new) self.new keep.new) }
     {
@@ -338,7 +338,7 @@ impl<V: Volume> DeviceStore<V> {
         ensures same { OnErr result (self.new.half ≡ self.old.half) }
         ensures takes { Takes K.takes keep.new self.new.number (self.new.cylinders * 15) }
         ensures weight { weight self.new.loose ≤ weight self.old.loose + 2 }
-        ensures run { Ran (where_ok result) K.hears (write contents (state_of self.old) usage.now first t old.now edit)
+        ensures run { Ran (where_ok result) (Heard K.hears K.takes) (write contents (state_of self.old) usage.now first t old.now edit)
             (outside (P.view port.old) self.old keep.old) (state_of self.new) (had (λ took. took) result) (outside (P.view port.new) self.new keep.new) }
     {
         let image = match edited(self.alloc, old, &edit) {
@@ -390,7 +390,8 @@ impl<V: Volume> DeviceStore<V> {
         ensures same { OnErr result (self.new.half ≡ self.old.half) }
         ensures takes { Takes K.takes keep.new self.new.number (self.new.cylinders * 15) }
         ensures weight { weight self.new.loose ≤ weight self.old.loose + 2 }
-        ensures run { Ran (where_ok result) K.hears (told_before (state_of self.old) usage.now first t (frame_in (state_of self.old) t) edit choice)
+        ensures run { Ran (where_ok result) (Heard K.hears K.takes)
+            (told_before (state_of self.old) usage.now first t (frame_in (state_of self.old) t) edit choice)
             (outside (P.view port.old) self.old keep.old) (state_of self.new) (had (λ took. took) result) (outside (P.view port.new) self.new keep.new) }
     {
         match self.tell_frame(t, keep) {

@@ -10,12 +10,13 @@ use Rattle.track_image.specs.Image.{Image}
 use Rattle.device_outside.specs.declared.keep.NoKeep.{NoKeep}
 use Rattle.device_outside.specs.declared.volume.Volume.{Ghosts}
 use Rattle.device_outside.specs.Interaction.{Interaction}
-use Rattle.device_outside.specs.Keeper.{Hearing}
+use Rattle.device_outside.specs.Keeper.{Heard, Hearing}
 use Rattle.device_outside.specs.Outside.{Outside, Ran, done, tried, asked, read, wrote, told, with_view}
 use Rattle.device_outside.specs.Volume.{VolumeView}
 use Rattle.frame_pool.specs.Shared.{Shared}
 use Rattle.device_defs.specs.Contents.{contents}
 use Rattle.device_store.specs.State.{Takes}
+use Rattle.device_store.proofs.Moves.{heard_alone}
 use Rattle.device_core.specs.declared.device.Device.{Device}
 use Rattle.device_core.specs.State.{DefinedDevice}
 use Rattle.subsystem_defs.specs.declared.event.Event.{Event}
@@ -35,9 +36,11 @@ use Rattle.subsystem_core.specs.Comes.{
   Came,
   CameKeptBy,
   CameKept,
+  Joins,
+  JoinsKept,
 }
 use Rattle.subsystem_core.specs.Devices.{devices_of, device_at, numbers_of}
-use Rattle.subsystem_core.specs.Keepers.{GoesOnTaking, Span, span_of, spans_of, TakesAll, hears_none}
+use Rattle.subsystem_core.specs.Keepers.{Span, span_of, spans_of, TakesAll, hears_none}
 use Rattle.subsystem_core.specs.Seats.{Seat, seats_of}
 
 -- Numbers and sizes
@@ -119,40 +122,41 @@ view_keeper : {R K : Type 0} (w : Outside R K) (side : Side) (v : VolumeView R) 
 view_keeper w A v = refl
 view_keeper w B v = refl
 
-pub ran_still : {R K S X : Type 0} {had : Bool → Type 0} {hears : Hearing Image K} {takes : K → ℕ → ℕ → Image → Type 0} {i : Interaction R Image S X}
-    {before behind : Outside R K} {s : S} {a : X} → GoesOnTaking hears takes → Ran had hears i before s a behind →
-    Still takes before.keeper behind.keeper
-ran_still g done = λ d t i may. may
-ran_still g (tried ok x r) = ran_still g r
-ran_still g (asked says r) = ran_still g r
-ran_still {takes = takes} g (read {side = side} {u = u} {w = w} {z = z} is of r) =
-    subst (λ k. Still takes k z.keeper) (sym (view_keeper w side u)) (ran_still g r)
-ran_still {takes = takes} g (wrote {side = side} {u = u} {w = w} {z = z} is of r) =
-    subst (λ k. Still takes k z.keeper) (sym (view_keeper w side u)) (ran_still g r)
-ran_still g (told {m = m} {l = l} {w = w} reply heard x r) =
-    λ d t i may. ran_still g r d t i (g.goes w.keeper l m reply heard d t i may)
+pub ran_still : {R K S X : Type 0} {had : Bool → Type 0} {hears : Hearing Image K} (takes : K → ℕ → ℕ → Image → Type 0) {i : Interaction R Image S X}
+    {before behind : Outside R K} {s : S} {a : X} → Ran had (Heard hears takes) i before s a behind → Still takes before.keeper behind.keeper
+ran_still takes done = λ d t i may. may
+ran_still takes (tried ok x r) = ran_still takes r
+ran_still takes (asked says r) = ran_still takes r
+ran_still takes (read {side = side} {u = u} {w = w} {z = z} is of r) =
+    subst (λ k. Still takes k z.keeper) (sym (view_keeper w side u)) (ran_still takes r)
+ran_still takes (wrote {side = side} {u = u} {w = w} {z = z} is of r) =
+    subst (λ k. Still takes k z.keeper) (sym (view_keeper w side u)) (ran_still takes r)
+ran_still takes (told reply heard x r) = λ d t i may. ran_still takes r d t i (heard.still d t i may)
 
-module _ {V : Type 0} {G : Ghosts V} {K : Type 0} {hears : Hearing Image K} {takes : K → ℕ → ℕ → Image → Type 0} (g : GoesOnTaking hears takes) where
-  pub swept_still : (f : DefinedDevice → Talk (Unit {0})) {s z : Shared × K} {xs ys : List (Device V G)} → SweptBy (SweepsKept hears f) s xs ys z →
-      Still takes s.1 z.1
+module _ {V : Type 0} {G : Ghosts V} {K : Type 0} (hears : Hearing Image K) (takes : K → ℕ → ℕ → Image → Type 0) where
+  pub swept_still : (f : DefinedDevice → Talk (Unit {0})) {s z : Shared × K} {xs ys : List (Device V G)} →
+      SweptBy (SweepsKept (Heard hears takes) f) s xs ys z → Still takes s.1 z.1
   swept_still f over = λ d t i may. may
-  swept_still f (next ran rest) = λ d t i may. swept_still f rest d t i (ran_still g ran d t i may)
+  swept_still f (next ran rest) = λ d t i may. swept_still f rest d t i (ran_still takes ran d t i may)
 
-  deed_still : (e : OwnDeed) (old new : Subsystem V G) (k l : K) (a : Option EventEnd) → CameKeptBy hears e old k a new l → Still takes k l
+  deed_still : (e : OwnDeed) (old new : Subsystem V G) (k l : K) (a : Option EventEnd) → CameKeptBy (Heard hears takes) e old k a new l →
+      Still takes k l
   deed_still (Ends end) old new k l a came = same_still takes k l came.1
   deed_still (Becomes d end) old new k l a came = same_still takes k l came.1
-  deed_still (Asks d talk) old new k l a came = ran_still g came.is_so
+  deed_still (Asks d talk) old new k l a came = ran_still takes came.is_so
   deed_still (Each pool f) old new k l a came = swept_still f came.1
   deed_still (Repairs pool) old new k l a came = same_still takes k l came.1
   deed_still (Lends x y) old new k l a came = same_still takes k l came.2
 
-  pub came_still : (e : Event) (old new : Subsystem V G) (k l : K) (a : Option EventEnd) → CameKept hears e old k a new l → Still takes k l
+  pub came_still : (e : Event) (old new : Subsystem V G) (k l : K) (a : Option EventEnd) → CameKept (Heard hears takes) e old k a new l →
+      Still takes k l
   came_still e old new k l a came = deed_still (deed contents old.pool.pool (devices_of old.devices.items) e) old new k l a came
 
 -- A keeper that keeps nothing
 
-pub none_goes : GoesOnTaking {I = Image} hears_none (λ _ _ _ _. Unit {0})
-none_goes = record { goes = λ old new m r heard d t i may. tt }
+-- it hears all, and may be called with all
+abbrev pub none_heard : Hearing Image NoKeep
+none_heard = Heard hears_none (λ _ _ _ _. Unit {0})
 
 module _ {V : Type 0} {G : Ghosts V} where
   pub none_takes : (k : NoKeep) (ds : List (Device V G)) → TakesAll (λ _ _ _ _. Unit {0}) k ds
@@ -169,18 +173,35 @@ module _ {V : Type 0} {G : Ghosts V} where
     is_so = f ch.before ch.behind ch.is_so;
   }
 
-  plain_sweep : (f : DefinedDevice → Talk (Unit {0})) {s z : Shared × NoKeep} {xs ys : List (Device V G)} → SweptBy (SweepsKept hears_none f) s xs ys z →
+  plain_sweep : (f : DefinedDevice → Talk (Unit {0})) {s z : Shared × NoKeep} {xs ys : List (Device V G)} → SweptBy (SweepsKept none_heard f) s xs ys z →
       SweptBy (SweepsOne f) s.0 xs ys z.0
   plain_sweep f over = over
-  plain_sweep f (next ran rest) = next (λ (j : NoKeep). ran) (plain_sweep f rest)
+  plain_sweep f (next ran rest) = next (λ (j : NoKeep). heard_alone ran) (plain_sweep f rest)
 
-  plain_by : (e : OwnDeed) (old new : Subsystem V G) (k l : NoKeep) (a : Option EventEnd) → CameKeptBy hears_none e old k a new l → CameBy e old a new
+  plain_joins : {to from : ℕ} {y : DefinedDevice} {old new : Subsystem V G} → JoinsKept none_heard to from y old new → Joins to from y old new
+  plain_joins j = record {
+    before = j.before;
+    behind = j.behind;
+    first = j.first;
+    second = j.second;
+    volume = j.volume;
+    stood = j.stood;
+    asked = λ (k : NoKeep). heard_alone (j.asked k);
+    gone = j.gone;
+    other = j.other;
+    joined = j.joined;
+    a = j.a;
+    b = j.b;
+    stands = j.stands;
+  }
+
+  plain_by : (e : OwnDeed) (old new : Subsystem V G) (k l : NoKeep) (a : Option EventEnd) → CameKeptBy none_heard e old k a new l → CameBy e old a new
   plain_by (Ends end) old new k l a came = came.0
   plain_by (Becomes d end) old new k l a came = came.0
-  plain_by (Asks d talk) old new k l a came = changed_less (λ x y ran. λ (j : NoKeep). ran) came
+  plain_by (Asks d talk) old new k l a came = changed_less (λ x y ran. λ (j : NoKeep). heard_alone ran) came
   plain_by (Each pool f) old new k l a came = (came.0, plain_sweep f came.1)
   plain_by (Repairs pool) old new k l a came = came.0
-  plain_by (Lends x y) old new k l a came = (came.0, came.1)
+  plain_by (Lends x y) old new k l a came = (came.0, plain_joins came.1)
 
-  pub came_plain : (e : Event) (old new : Subsystem V G) (k l : NoKeep) (a : Option EventEnd) → CameKept hears_none e old k a new l → Came e old a new
+  pub came_plain : (e : Event) (old new : Subsystem V G) (k l : NoKeep) (a : Option EventEnd) → CameKept none_heard e old k a new l → Came e old a new
   came_plain e old new k l a came = plain_by (deed contents old.pool.pool (devices_of old.devices.items) e) old new k l a came

@@ -3,17 +3,13 @@ use Rattle.std.specs.Prelude.{◌≡◌, ℕ, ◌*◌, List, map, All}
 use Rattle.track_image.specs.Image.{Image}
 use Rattle.device_outside.specs.declared.keep.NoKeep.{NoKeep}
 use Rattle.device_outside.specs.declared.volume.Volume.{Ghosts}
-use Rattle.device_outside.specs.Keeper.{Message, ReplyTo, Hearing, reply}
+use Rattle.device_outside.specs.Keeper.{Hearing, reply}
 use Rattle.device_store.specs.State.{Takes}
 use Rattle.device_core.specs.declared.device.Device.{Device}
 
 -- a keeper that keeps nothing, and never lacks memory
 abbrev pub hears_none : Hearing Image NoKeep
 hears_none = λ _ m r _. r ≡ reply m
-
--- whatever a keeper hears, it may be called with all that it might be called with before
-pub record GoesOnTaking {I K : Type 0} (hears : Hearing I K) (takes : K → ℕ → ℕ → I → Type 0) : Type 0 where
-  pub goes : (old new : K) (m : Message I) (r : ReplyTo m) → hears old m r new → (d t : ℕ) (i : I) → takes old d t i → takes new d t i
 
 -- the number of a device, and how many cylinders it has
 pub record Span : Type 0 where

@@ -1,4 +1,5 @@
 ghost use Rattle.std.specs.Prelude.{◌≡◌, ◌<◌, ◌*◌, IfOk, IfSome, IsSome, None, OnErr, Some, false, is_some, true};
+ghost use Rattle.device_outside.specs.Keeper.{Heard};
 ghost use Rattle.device_outside.specs.Lists.{is_in};
 ghost use Rattle.device_outside.specs.Outside.{where_ok};
 ghost use Rattle.plain_defs.specs.History.{is_path_of};
@@ -64,7 +65,7 @@ impl<V: Volume> Subsystem<V> {
         requires whole { IfSome (device_at self.old.devices.items d) (λ x. is_some (device_of x).store.half ≡ false) }
         requires takes { IfSome (device_at self.old.devices.items d) (λ x. Takes K.takes keep.old x.store.number (x.store.cylinders * 15)) }
         ensures spans { spans_of self.new.devices.items ≡ spans_of self.old.devices.items }
-        ensures asked { Changes d (λ x y. AskedKept K.hears (where_ok result) (command contents (device_of x)) (step_had y.past result)
+        ensures asked { Changes d (λ x y. AskedKept (Heard K.hears K.takes) (where_ok result) (command contents (device_of x)) (step_had y.past result)
             self.old.pool keep.old x y self.new.pool keep.new) self.old.devices.items self.new.devices.items }
     {
         let at = self.place(d);
@@ -77,7 +78,7 @@ impl<V: Volume> Subsystem<V> {
         ensures spans { spans_of self.new.devices.items ≡ spans_of self.old.devices.items }
         ensures asked { Changes d (λ x y. IsSome (second_seen y.past result)
             × ((e : SecondEnd) → second_seen y.past result ≡ Some e
-            → AskedKept K.hears surely (second contents (device_of x)) e self.old.pool keep.old x y self.new.pool keep.new))
+            → AskedKept (Heard K.hears K.takes) surely (second contents (device_of x)) e self.old.pool keep.old x y self.new.pool keep.new))
             self.old.devices.items self.new.devices.items }
     {
         let at = self.place(d);
@@ -93,7 +94,7 @@ impl<V: Volume> Subsystem<V> {
         requires here { is_in d (numbers_of self.old.devices.items) ≡ true }
         requires takes { IfSome (device_at self.old.devices.items d) (λ x. Takes K.takes keep.old x.store.number (x.store.cylinders * 15)) }
         ensures spans { spans_of self.new.devices.items ≡ spans_of self.old.devices.items }
-        ensures asked { Changes d (λ x y. AskedKept K.hears (where_ok result) (background contents (device_of x)) (had (λ did. did) result)
+        ensures asked { Changes d (λ x y. AskedKept (Heard K.hears K.takes) (where_ok result) (background contents (device_of x)) (had (λ did. did) result)
             self.old.pool keep.old x y self.new.pool keep.new) self.old.devices.items self.new.devices.items }
     {
         let at = self.place(d);
@@ -104,8 +105,8 @@ impl<V: Volume> Subsystem<V> {
         requires here { is_in d (numbers_of self.old.devices.items) ≡ true }
         requires takes { IfSome (device_at self.old.devices.items d) (λ x. Takes K.takes keep.old x.store.number (x.store.cylinders * 15)) }
         ensures spans { spans_of self.new.devices.items ≡ spans_of self.old.devices.items }
-        ensures asked { Changes d (λ x y. AskedKept K.hears surely (reset contents (device_of x) path) tt self.old.pool keep.old x y self.new.pool keep.new)
-            self.old.devices.items self.new.devices.items }
+        ensures asked { Changes d (λ x y. AskedKept (Heard K.hears K.takes) surely (reset contents (device_of x) path) tt self.old.pool keep.old x y
+            self.new.pool keep.new) self.old.devices.items self.new.devices.items }
     {
         let at = self.place(d);
         self.devices[at].reset_with(path, keep);
@@ -115,8 +116,8 @@ impl<V: Volume> Subsystem<V> {
         requires here { is_in d (numbers_of self.old.devices.items) ≡ true }
         requires takes { IfSome (device_at self.old.devices.items d) (λ x. Takes K.takes keep.old x.store.number (x.store.cylinders * 15)) }
         ensures spans { spans_of self.new.devices.items ≡ spans_of self.old.devices.items }
-        ensures asked { Changes d (λ x y. AskedKept K.hears surely (lose contents (device_of x) loss) tt self.old.pool keep.old x y self.new.pool keep.new)
-            self.old.devices.items self.new.devices.items }
+        ensures asked { Changes d (λ x y. AskedKept (Heard K.hears K.takes) surely (lose contents (device_of x) loss) tt self.old.pool keep.old x y
+            self.new.pool keep.new) self.old.devices.items self.new.devices.items }
     {
         let at = self.place(d);
         self.devices[at].lose_with(loss, &mut self.pool, keep);
@@ -132,7 +133,7 @@ impl<V: Volume> Subsystem<V> {
         requires track { IfSome (device_at self.old.devices.items d) (λ x. t < x.store.cylinders * 15) }
         requires takes { IfSome (device_at self.old.devices.items d) (λ x. Takes K.takes keep.old x.store.number (x.store.cylinders * 15)) }
         ensures spans { spans_of self.new.devices.items ≡ spans_of self.old.devices.items }
-        ensures asked { Changes d (λ x y. IfOk result (IsPeeked (state_of y.store) t) × AskedKept K.hears (where_ok result)
+        ensures asked { Changes d (λ x y. IfOk result (IsPeeked (state_of y.store) t) × AskedKept (Heard K.hears K.takes) (where_ok result)
             (peek contents (device_of x) t) (had (peeked_by (state_of y.store) t) result) self.old.pool keep.old x y self.new.pool keep.new)
             self.old.devices.items self.new.devices.items }
     {

@@ -1,9 +1,10 @@
 ghost use Rattle.std.specs.Prelude.{◌≡◌};
+ghost use Rattle.device_outside.specs.Keeper.{Heard};
 ghost use Rattle.device_defs.specs.Contents.{contents};
 ghost use Rattle.device_defs.specs.Cutting.{power};
 ghost use Rattle.device_defs.specs.Events.{lose};
 ghost use Rattle.subsystem_core.specs.Comes.{SweptKept};
-ghost use Rattle.subsystem_core.specs.Keepers.{spans_of, GoesOnTaking, TakesAll};
+ghost use Rattle.subsystem_core.specs.Keepers.{spans_of, TakesAll};
 ghost use Rattle.subsystem_core.specs.Seats.{seats_of};
 
 use crate::Subsystem;
@@ -20,10 +21,9 @@ fn lose_each<V: Volume, K: Keep<TrackImage>>(
     pool: &mut Pool,
     keep: &mut K,
 )
-    requires goes { GoesOnTaking K.hears K.takes }
     requires takes { TakesAll K.takes keep.old devices.old }
     ensures seats { seats_of devices.new ≡ seats_of devices.old }
-    ensures each { SweptKept K.hears (λ x. lose contents x loss) pool.old keep.old devices.old devices.new pool.new keep.new }
+    ensures each { SweptKept (Heard K.hears K.takes) (λ x. lose contents x loss) pool.old keep.old devices.old devices.new pool.new keep.new }
 {
     for i in 0..devices.len() {
         devices[i].lose_with(loss, pool, keep);
@@ -36,10 +36,9 @@ fn power_each<V: Volume, K: Keep<TrackImage>>(
     pool: &mut Pool,
     keep: &mut K,
 )
-    requires goes { GoesOnTaking K.hears K.takes }
     requires takes { TakesAll K.takes keep.old devices.old }
     ensures seats { seats_of devices.new ≡ seats_of devices.old }
-    ensures each { SweptKept K.hears (power contents) pool.old keep.old devices.old devices.new pool.new keep.new }
+    ensures each { SweptKept (Heard K.hears K.takes) (power contents) pool.old keep.old devices.old devices.new pool.new keep.new }
 {
     for i in 0..devices.len() {
         devices[i].power_with(pool, keep);
@@ -48,20 +47,19 @@ fn power_each<V: Volume, K: Keep<TrackImage>>(
 
 impl<V: Volume> Subsystem<V> {
     pub(crate) fn lose_all<K: Keep<TrackImage>>(&mut self, loss: Loss, keep: &mut K)
-        requires goes { GoesOnTaking K.hears K.takes }
         requires takes { TakesAll K.takes keep.old self.old.devices.items }
         ensures spans { spans_of self.new.devices.items ≡ spans_of self.old.devices.items }
-        ensures each { SweptKept K.hears (λ x. lose contents x loss) self.old.pool keep.old self.old.devices.items self.new.devices.items self.new.pool
-            keep.new }
+        ensures each { SweptKept (Heard K.hears K.takes) (λ x. lose contents x loss) self.old.pool keep.old self.old.devices.items self.new.devices.items
+            self.new.pool keep.new }
     {
         lose_each(&mut self.devices, loss, &mut self.pool, keep);
     }
 
     pub(crate) fn power_all<K: Keep<TrackImage>>(&mut self, keep: &mut K)
-        requires goes { GoesOnTaking K.hears K.takes }
         requires takes { TakesAll K.takes keep.old self.old.devices.items }
         ensures spans { spans_of self.new.devices.items ≡ spans_of self.old.devices.items }
-        ensures each { SweptKept K.hears (power contents) self.old.pool keep.old self.old.devices.items self.new.devices.items self.new.pool keep.new }
+        ensures each { SweptKept (Heard K.hears K.takes) (power contents) self.old.pool keep.old self.old.devices.items self.new.devices.items self.new.pool
+            keep.new }
     {
         power_each(&mut self.devices, &mut self.pool, keep);
     }

@@ -1,4 +1,5 @@
 ghost use Rattle.std.specs.Prelude.{◌≡◌, ◌*◌, IfSome, Some, true};
+ghost use Rattle.device_outside.specs.Keeper.{Heard};
 ghost use Rattle.device_outside.specs.Lists.{is_in};
 ghost use Rattle.device_store.specs.State.{Takes};
 ghost use Rattle.device_core.specs.State.{device_of};
@@ -6,7 +7,7 @@ ghost use Rattle.subsystem_defs.specs.Deeds.{is_own};
 ghost use Rattle.subsystem_core.specs.Comes.{CameKept};
 ghost use Rattle.subsystem_core.specs.Devices.{device_at, numbers_of};
 ghost use Rattle.subsystem_core.specs.Ends.{answer_of};
-ghost use Rattle.subsystem_core.specs.Keepers.{spans_of, GoesOnTaking, TakesAll};
+ghost use Rattle.subsystem_core.specs.Keepers.{spans_of, TakesAll};
 
 use crate::refusal::{fail_fault, resume_fault, suspend_fault};
 use crate::{EventEnd, Subsystem};
@@ -37,7 +38,7 @@ impl<V: Volume> Subsystem<V> {
     ) -> Result<EventEnd, NoMemory>
         requires { is_in d (numbers_of self.old.devices.items) ≡ true }
         ensures spans { spans_of self.new.devices.items ≡ spans_of self.old.devices.items }
-        ensures came { (k : K) → CameKept K.hears (Event.Start path d) self.old k (answer_of result) self.new k }
+        ensures came { (k : K) → CameKept (Heard K.hears K.takes) (Event.Start path d) self.old k (answer_of result) self.new k }
     {
         let device = self.device(d);
         if is_own(path, device) {
@@ -61,7 +62,7 @@ impl<V: Volume> Subsystem<V> {
         requires here { is_in d (numbers_of self.old.devices.items) ≡ true }
         requires takes { IfSome (device_at self.old.devices.items d) (λ x. Takes K.takes keep.old x.store.number (x.store.cylinders * 15)) }
         ensures spans { spans_of self.new.devices.items ≡ spans_of self.old.devices.items }
-        ensures came { CameKept K.hears (Event.Step d) self.old keep.old (answer_of result) self.new keep.new }
+        ensures came { CameKept (Heard K.hears K.takes) (Event.Step d) self.old keep.old (answer_of result) self.new keep.new }
     {
         let device = self.device(d);
         if device.half_open() {
@@ -86,7 +87,7 @@ impl<V: Volume> Subsystem<V> {
         requires here { is_in d (numbers_of self.old.devices.items) ≡ true }
         requires takes { IfSome (device_at self.old.devices.items d) (λ x. Takes K.takes keep.old x.store.number (x.store.cylinders * 15)) }
         ensures spans { spans_of self.new.devices.items ≡ spans_of self.old.devices.items }
-        ensures came { CameKept K.hears (Event.Back d) self.old keep.old (answer_of result) self.new keep.new }
+        ensures came { CameKept (Heard K.hears K.takes) (Event.Back d) self.old keep.old (answer_of result) self.new keep.new }
     {
         if self.device(d).half_open() {
             return Ok(EventEnd::Second(self.second_at(d, keep)));
@@ -107,7 +108,7 @@ impl<V: Volume> Subsystem<V> {
         requires here { is_in d (numbers_of self.old.devices.items) ≡ true }
         requires takes { IfSome (device_at self.old.devices.items d) (λ x. Takes K.takes keep.old x.store.number (x.store.cylinders * 15)) }
         ensures spans { spans_of self.new.devices.items ≡ spans_of self.old.devices.items }
-        ensures came { CameKept K.hears (Event.Reset path d) self.old keep.old (Some result) self.new keep.new }
+        ensures came { CameKept (Heard K.hears K.takes) (Event.Reset path d) self.old keep.old (Some result) self.new keep.new }
     {
         self.reset_at(path, d, keep);
         EventEnd::Done
@@ -123,7 +124,7 @@ impl<V: Volume> Subsystem<V> {
         requires here { is_in d (numbers_of self.old.devices.items) ≡ true }
         requires takes { IfSome (device_at self.old.devices.items d) (λ x. Takes K.takes keep.old x.store.number (x.store.cylinders * 15)) }
         ensures spans { spans_of self.new.devices.items ≡ spans_of self.old.devices.items }
-        ensures came { CameKept K.hears (Event.FailVolume d side) self.old keep.old (Some result) self.new keep.new }
+        ensures came { CameKept (Heard K.hears K.takes) (Event.FailVolume d side) self.old keep.old (Some result) self.new keep.new }
     {
         if let Some(fault) = fail_fault(self.device(d), side) {
             return EventEnd::Refused(fault);
@@ -136,7 +137,7 @@ impl<V: Volume> Subsystem<V> {
     pub(crate) fn suspend<K: Keep<TrackImage>>(&mut self, d: DeviceNo) -> EventEnd
         requires { is_in d (numbers_of self.old.devices.items) ≡ true }
         ensures spans { spans_of self.new.devices.items ≡ spans_of self.old.devices.items }
-        ensures came { (k : K) → CameKept K.hears (Event.Suspend d) self.old k (Some result) self.new k }
+        ensures came { (k : K) → CameKept (Heard K.hears K.takes) (Event.Suspend d) self.old k (Some result) self.new k }
     {
         if let Some(fault) = suspend_fault(self.device(d)) {
             return EventEnd::Refused(fault);
@@ -149,7 +150,7 @@ impl<V: Volume> Subsystem<V> {
     pub(crate) fn resume<K: Keep<TrackImage>>(&mut self, d: DeviceNo) -> EventEnd
         requires { is_in d (numbers_of self.old.devices.items) ≡ true }
         ensures spans { spans_of self.new.devices.items ≡ spans_of self.old.devices.items }
-        ensures came { (k : K) → CameKept K.hears (Event.Resume d) self.old k (Some result) self.new k }
+        ensures came { (k : K) → CameKept (Heard K.hears K.takes) (Event.Resume d) self.old k (Some result) self.new k }
     {
         if let Some(fault) = resume_fault(self.device(d)) {
             return EventEnd::Refused(fault);
@@ -163,10 +164,9 @@ impl<V: Volume> Subsystem<V> {
 impl<V: Volume> Subsystem<V> {
     /// The loss of the cache.
     pub(crate) fn fail_cache<K: Keep<TrackImage>>(&mut self, keep: &mut K) -> EventEnd
-        requires goes { GoesOnTaking K.hears K.takes }
         requires takes { TakesAll K.takes keep.old self.old.devices.items }
         ensures spans { spans_of self.new.devices.items ≡ spans_of self.old.devices.items }
-        ensures came { CameKept K.hears Event.FailCache self.old keep.old (Some result) self.new keep.new }
+        ensures came { CameKept (Heard K.hears K.takes) Event.FailCache self.old keep.old (Some result) self.new keep.new }
     {
         if !self.pool.cache_up() {
             return EventEnd::Refused(OrderFault::Down);
@@ -178,10 +178,9 @@ impl<V: Volume> Subsystem<V> {
 
     /// The loss of the store.
     pub(crate) fn fail_store<K: Keep<TrackImage>>(&mut self, keep: &mut K) -> EventEnd
-        requires goes { GoesOnTaking K.hears K.takes }
         requires takes { TakesAll K.takes keep.old self.old.devices.items }
         ensures spans { spans_of self.new.devices.items ≡ spans_of self.old.devices.items }
-        ensures came { CameKept K.hears Event.FailStore self.old keep.old (Some result) self.new keep.new }
+        ensures came { CameKept (Heard K.hears K.takes) Event.FailStore self.old keep.old (Some result) self.new keep.new }
     {
         if !self.pool.store_up() {
             return EventEnd::Refused(OrderFault::Down);
@@ -193,10 +192,9 @@ impl<V: Volume> Subsystem<V> {
 
     /// A loss of power.
     pub(crate) fn power<K: Keep<TrackImage>>(&mut self, keep: &mut K) -> EventEnd
-        requires goes { GoesOnTaking K.hears K.takes }
         requires takes { TakesAll K.takes keep.old self.old.devices.items }
         ensures spans { spans_of self.new.devices.items ≡ spans_of self.old.devices.items }
-        ensures came { CameKept K.hears Event.Power self.old keep.old (Some result) self.new keep.new }
+        ensures came { CameKept (Heard K.hears K.takes) Event.Power self.old keep.old (Some result) self.new keep.new }
     {
         self.pool.power();
         self.power_all(keep);
@@ -206,7 +204,7 @@ impl<V: Volume> Subsystem<V> {
     /// The cache is up again, unless a track waits for its recovery.
     pub(crate) fn repair_cache<K: Keep<TrackImage>>(&mut self) -> EventEnd
         ensures spans { spans_of self.new.devices.items ≡ spans_of self.old.devices.items }
-        ensures came { (k : K) → CameKept K.hears Event.RepairCache self.old k (Some result) self.new k }
+        ensures came { (k : K) → CameKept (Heard K.hears K.takes) Event.RepairCache self.old k (Some result) self.new k }
     {
         if self.pool.cache_up() {
             return EventEnd::Refused(OrderFault::Up);
@@ -220,7 +218,7 @@ impl<V: Volume> Subsystem<V> {
     /// The store is up again, unless a track waits for its recovery.
     pub(crate) fn repair_store<K: Keep<TrackImage>>(&mut self) -> EventEnd
         ensures spans { spans_of self.new.devices.items ≡ spans_of self.old.devices.items }
-        ensures came { (k : K) → CameKept K.hears Event.RepairStore self.old k (Some result) self.new k }
+        ensures came { (k : K) → CameKept (Heard K.hears K.takes) Event.RepairStore self.old k (Some result) self.new k }
     {
         if self.pool.store_up() {
             return EventEnd::Refused(OrderFault::Up);

@@ -1,4 +1,5 @@
 ghost use Rattle.std.specs.Prelude.{◌≡◌, ◌*◌, IfErr, IfOk, IfSome, None, OnErr, OnOk, Some, false, is_some, true};
+ghost use Rattle.device_outside.specs.Keeper.{Heard};
 ghost use Rattle.device_outside.specs.Lists.{is_in};
 ghost use Rattle.device_core.specs.State.{device_of};
 ghost use Rattle.subsystem_defs.specs.Happening.{is_lent_to};
@@ -54,7 +55,7 @@ impl<V: Volume> Subsystem<V> {
         requires here { is_in d (numbers_of self.old.devices.items) ≡ true }
         requires fine { HasPairFault (device_at self.old.devices.items to) (device_at self.old.devices.items d) None }
         ensures spans { spans_of self.new.devices.items ≡ spans_of self.old.devices.items }
-        ensures lent { Changes d (IsLent K.hears to result self.old.pool self.new.pool) self.old.devices.items self.new.devices.items }
+        ensures lent { Changes d (IsLent (Heard K.hears K.takes) to result self.old.pool self.new.pool) self.old.devices.items self.new.devices.items }
     {
         let at = self.place(d);
         self.devices[at].lend_with::<Pool, K>(to, &mut self.pool)
@@ -79,7 +80,7 @@ impl<V: Volume> Subsystem<V> {
         requires b { is_in b (numbers_of self.old.devices.items) ≡ true }
         requires fine { HasPairFault (device_at self.old.devices.items a) (device_at self.old.devices.items b) None }
         ensures spans { spans_of self.new.devices.items ≡ spans_of self.old.devices.items }
-        ensures joined { IfSome (device_at self.old.devices.items b) (λ y. JoinsKept K.hears a b (device_of y) self.old self.new) }
+        ensures joined { IfSome (device_at self.old.devices.items b) (λ y. JoinsKept (Heard K.hears K.takes) a b (device_of y) self.old self.new) }
     {
         let volume = match self.lend_at(b, a, keep) {
             Some(volume) => volume,
@@ -98,7 +99,7 @@ impl<V: Volume> Subsystem<V> {
         requires a { is_in a (numbers_of self.old.devices.items) ≡ true }
         requires b { is_in b (numbers_of self.old.devices.items) ≡ true }
         ensures spans { spans_of self.new.devices.items ≡ spans_of self.old.devices.items }
-        ensures came { CameKept K.hears (Event.Pair a b) self.old keep.now (Some result) self.new keep.now }
+        ensures came { CameKept (Heard K.hears K.takes) (Event.Pair a b) self.old keep.now (Some result) self.new keep.now }
     {
         if let Some(fault) = self.pair_fault(a, b) {
             return EventEnd::Refused(fault);

@@ -1,4 +1,5 @@
 ghost use Rattle.std.specs.Prelude.{◌≡◌, ◌<◌, ◌*◌, IfOk, IfSome, true};
+ghost use Rattle.device_outside.specs.Keeper.{Heard};
 ghost use Rattle.device_outside.specs.Lists.{is_in};
 ghost use Rattle.device_outside.specs.Outside.{where_ok};
 ghost use Rattle.device_defs.specs.Contents.{contents};
@@ -8,7 +9,7 @@ ghost use Rattle.device_store.specs.State.{had, state_of};
 ghost use Rattle.device_core.specs.State.{device_of};
 ghost use Rattle.subsystem_core.specs.Comes.{AskedKept, AskedWith, Changes};
 ghost use Rattle.subsystem_core.specs.Devices.{device_at, numbers_of};
-ghost use Rattle.subsystem_core.specs.Keepers.{GoesOnTaking, TakesAll};
+ghost use Rattle.subsystem_core.specs.Keepers.{TakesAll};
 
 use crate::Subsystem;
 use ckd_types::{DeviceNo, NoMemory, TrackNo};
@@ -27,11 +28,10 @@ impl<V: Volume> Subsystem<V> {
     ) -> Result<Peeked, NoMemory>
         requires here { is_in d (numbers_of self.old.devices.items) ≡ true }
         requires track { IfSome (device_at self.old.devices.items d) (λ x. t < x.store.cylinders * 15) }
-        requires goes { GoesOnTaking K.hears K.takes }
         requires takes { TakesAll K.takes keep.old self.old.devices.items }
         ensures numbers { numbers_of self.new.devices.items ≡ numbers_of self.old.devices.items }
         ensures takes { TakesAll K.takes keep.new self.new.devices.items }
-        ensures looked { Changes d (λ x y. IfOk result (IsPeeked (state_of y.store) t) × AskedKept K.hears (where_ok result)
+        ensures looked { Changes d (λ x y. IfOk result (IsPeeked (state_of y.store) t) × AskedKept (Heard K.hears K.takes) (where_ok result)
             (peek contents (device_of x) t) (had (peeked_by (state_of y.store) t) result) self.old.pool keep.old x y self.new.pool keep.new)
             self.old.devices.items self.new.devices.items }
     {

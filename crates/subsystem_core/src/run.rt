@@ -1,8 +1,9 @@
 ghost use Rattle.std.specs.Prelude.{◌≡◌, IfOk, OnErr, true};
+ghost use Rattle.device_outside.specs.Keeper.{Heard};
 ghost use Rattle.subsystem_core.specs.Comes.{Came, CameKept};
 ghost use Rattle.subsystem_core.specs.Devices.{numbers_of};
 ghost use Rattle.subsystem_core.specs.Ends.{answer_of};
-ghost use Rattle.subsystem_core.specs.Keepers.{spans_of, GoesOnTaking, TakesAll};
+ghost use Rattle.subsystem_core.specs.Keepers.{spans_of, TakesAll};
 ghost use Rattle.subsystem_core.specs.Places.{may_all_come, may_come};
 ghost use Rattle.subsystem_core.specs.Runs.{Runs, Stops};
 
@@ -17,10 +18,9 @@ impl<V: Volume> Subsystem<V> {
     /// One event, by its kind.
     fn happen<K: Keep<TrackImage>>(&mut self, e: Event, keep: &mut K) -> Result<EventEnd, NoMemory>
         requires may { may_come (numbers_of self.old.devices.items) e ≡ true }
-        requires goes { GoesOnTaking K.hears K.takes }
         requires takes { TakesAll K.takes keep.old self.old.devices.items }
         ensures spans { spans_of self.new.devices.items ≡ spans_of self.old.devices.items }
-        ensures came { CameKept K.hears e self.old keep.old (answer_of result) self.new keep.new }
+        ensures came { CameKept (Heard K.hears K.takes) e self.old keep.old (answer_of result) self.new keep.new }
     {
         match e {
             Event::Start(path, d) => self.start::<K>(path, d),
@@ -47,11 +47,10 @@ impl<V: Volume> Subsystem<V> {
         keep: &mut K,
     ) -> Result<EventEnd, NoMemory>
         requires may { may_come (numbers_of self.old.devices.items) e ≡ true }
-        requires goes { GoesOnTaking K.hears K.takes }
         requires takes { TakesAll K.takes keep.old self.old.devices.items }
         ensures numbers { numbers_of self.new.devices.items ≡ numbers_of self.old.devices.items }
         ensures takes { TakesAll K.takes keep.new self.new.devices.items }
-        ensures came { CameKept K.hears e self.old keep.old (answer_of result) self.new keep.new }
+        ensures came { CameKept (Heard K.hears K.takes) e self.old keep.old (answer_of result) self.new keep.new }
     {
         self.happen(e, keep)
     }

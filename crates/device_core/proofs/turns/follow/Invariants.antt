@@ -1,4 +1,5 @@
 use Rattle.std.proofs.Common.{◌≡◌, ◌-◌, ◌*◌, ◌<◌, None}
+use Rattle.device_outside.specs.Keeper.{Heard}
 use Rattle.event_notes.specs.Loose.{weight}
 use Rattle.device_defs.specs.Command.{follow}
 use Rattle.device_defs.specs.Contents.{contents}
@@ -16,11 +17,11 @@ invariant-loop-turn g l = record {
   at : IsAt l.fn.store.cylinders l.chain;
   hand : IsSameHand l.fn.chain l.chain;
   inside : l.t < l.fn.store.cylinders * 15;
-  rest : Rest surely g.K.Keep.hears (follow contents (l.fn.store.cylinders * 15 - l._turn) l.fn.first l.chain l.t (state_of l.store))
+  rest : Rest surely (Heard g.K.Keep.hears g.K.Keep.takes) (follow contents (l.fn.store.cylinders * 15 - l._turn) l.fn.first l.chain l.t (state_of l.store))
       (outside (g.P.Port.view l.port) l.store l.keep)
       (follow contents (l.fn.store.cylinders * 15) l.fn.first l.fn.chain l.fn.first (state_of l.fn.store))
       (outside (g.P.Port.view l.fn.port) l.fn.store l.fn.keep);
-  lacks : Rest maybe g.K.Keep.hears (follow contents (l.fn.store.cylinders * 15 - l._turn) l.fn.first l.chain l.t (state_of l.store))
+  lacks : Rest maybe (Heard g.K.Keep.hears g.K.Keep.takes) (follow contents (l.fn.store.cylinders * 15 - l._turn) l.fn.first l.chain l.t (state_of l.store))
       (outside (g.P.Port.view l.port) l.store l.keep)
       (follow contents (l.fn.store.cylinders * 15) l.fn.first l.fn.chain l.fn.first (state_of l.fn.store))
       (outside (g.P.Port.view l.fn.port) l.fn.store l.fn.keep);

@@ -1,4 +1,5 @@
 use Rattle.std.proofs.Common.{◌≡◌, ◌<◌, ◌∙◌, refl, add-one, get_or, length}
+use Rattle.device_outside.specs.Keeper.{Heard}
 use Rattle.device_defs.specs.Contents.{contents}
 use Rattle.device_defs.specs.Events.{lose}
 use Rattle.device_laws.proofs.BasedEvents.{lose_based}
@@ -17,7 +18,7 @@ loop-i-init g c = record { seats = refl; rest = refl; each = over }
 pub loop-i-preserved : goal.loop-i-preserved
 loop-i-preserved g c =
     let ds = c.loop-i.devices in
-    let how = SweepsKept g.K.Keep.hears (λ x. lose contents x c.args.loss) in
+    let how = SweepsKept (Heard g.K.Keep.hears g.K.Keep.takes) (λ x. lose contents x c.args.loss) in
     let within : c.loop-i.i < length ds = below_same c.loop-i-test.true c.loop-i.auto.devices in
     let here : c.loop-i.i < length c.args.devices.now = c.loop-i-test.true in
     let x = get_or ds c.loop-i.i c.index-devices-i.result in
@@ -37,10 +38,12 @@ pub lose_with-requires : goal.lose_with-requires
 lose_with-requires g c =
     let ds = c.loop-i.devices in
     let within : c.loop-i.i < length ds = below_same c.loop-i-test.true c.loop-i.auto.devices in
-    takes_on c.args.keep.now c.loop-i.keep c.args.devices.now ds (swept_still c.requires.goes (λ x. lose contents x c.args.loss) c.loop-i.invariant.each)
+    takes_on c.args.keep.now c.loop-i.keep c.args.devices.now ds
+    (swept_still g.K.Keep.hears g.K.Keep.takes (λ x. lose contents x c.args.loss) c.loop-i.invariant.each)
     (spans_by_seats ds c.args.devices.now c.loop-i.invariant.seats) c.requires.takes c.loop-i.i c.index-devices-i.result within
 
 pub returns-clause-each : goal.returns-clause-each
 returns-clause-each g c =
-    swept_all (SweepsKept g.K.Keep.hears (λ x. lose contents x c.args.loss)) c.loop-i.i c.args.devices.now c.loop-i.devices c.loop-i-test.false
+    swept_all (SweepsKept (Heard g.K.Keep.hears g.K.Keep.takes) (λ x. lose contents x c.args.loss)) c.loop-i.i c.args.devices.now c.loop-i.devices
+    c.loop-i-test.false
     (above_same c.loop-i-test.false c.loop-i.auto.devices) c.loop-i.invariant.each

@@ -1,4 +1,5 @@
 use Rattle.std.proofs.Common.{◌≡◌, ◌<◌, ◌∙◌, refl, add-one, get_or, length}
+use Rattle.device_outside.specs.Keeper.{Heard}
 use Rattle.device_defs.specs.Contents.{contents}
 use Rattle.device_defs.specs.Cutting.{power}
 use Rattle.device_laws.proofs.BasedEvents.{power_based}
@@ -17,7 +18,7 @@ loop-i-init g c = record { seats = refl; rest = refl; each = over }
 pub loop-i-preserved : goal.loop-i-preserved
 loop-i-preserved g c =
     let ds = c.loop-i.devices in
-    let how = SweepsKept g.K.Keep.hears (power contents) in
+    let how = SweepsKept (Heard g.K.Keep.hears g.K.Keep.takes) (power contents) in
     let within : c.loop-i.i < length ds = below_same c.loop-i-test.true c.loop-i.auto.devices in
     let here : c.loop-i.i < length c.args.devices.now = c.loop-i-test.true in
     let x = get_or ds c.loop-i.i c.index-devices-i.result in
@@ -38,11 +39,12 @@ power_with-requires g c =
     let ds = c.loop-i.devices in
     let within : c.loop-i.i < length ds = below_same c.loop-i-test.true c.loop-i.auto.devices in
     record {
-      takes = takes_on c.args.keep.now c.loop-i.keep c.args.devices.now ds (swept_still c.requires.goes (power contents) c.loop-i.invariant.each)
+      takes = takes_on c.args.keep.now c.loop-i.keep c.args.devices.now ds
+          (swept_still g.K.Keep.hears g.K.Keep.takes (power contents) c.loop-i.invariant.each)
           (spans_by_seats ds c.args.devices.now c.loop-i.invariant.seats) c.requires.takes c.loop-i.i c.index-devices-i.result within;
     }
 
 pub returns-clause-each : goal.returns-clause-each
 returns-clause-each g c =
-    swept_all (SweepsKept g.K.Keep.hears (power contents)) c.loop-i.i c.args.devices.now c.loop-i.devices c.loop-i-test.false
+    swept_all (SweepsKept (Heard g.K.Keep.hears g.K.Keep.takes) (power contents)) c.loop-i.i c.args.devices.now c.loop-i.devices c.loop-i-test.false
     (above_same c.loop-i-test.false c.loop-i.auto.devices) c.loop-i.invariant.each

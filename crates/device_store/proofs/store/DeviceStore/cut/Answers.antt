@@ -8,7 +8,7 @@ use Rattle.device_store.proofs.Seconds.{cut_none}
 use Rattle.device_store.proofs.store.DeviceStore.cut.Goals as goal
 
 pub returns-in-OfCommand-clause-run : goal.returns-in-OfCommand-clause-run
-returns-in-OfCommand-clause-run g c = λ p. rw c.in-OfCommand.is (tells tt c.firm.ensures.moves tt done)
+returns-in-OfCommand-clause-run g c = λ p. rw c.in-OfCommand.is (tells tt c.firm.ensures tt done)
 
 pub returns-in-OfCut-clause-run : goal.returns-in-OfCut-clause-run
 returns-in-OfCut-clause-run g c =

@@ -5,8 +5,8 @@ use Rattle.device_outside.proofs.Runs.{tells, joined, ran_weaker}
 use Rattle.device_store.proofs.store.DeviceStore.framed_fast.Goals as goal
 
 pub returns-in-Err-clause-run : goal.returns-in-Err-clause-run
-returns-in-Err-clause-run g c = λ u first. tells false c.in-Err.ensures.moves tt (ran_weaker (λ ok is. tt) (c.unchosen.ensures.run _))
+returns-in-Err-clause-run g c = λ u first. tells false c.in-Err.ensures tt (ran_weaker (λ ok is. tt) (c.unchosen.ensures.run _))
 
 pub returns-in-Ok-clause-run : goal.returns-in-Ok-clause-run
 returns-in-Ok-clause-run g c = λ u first.
-    tells true c.in-Ok.ensures.moves refl (joined (λ z took. Done z (Some took)) (c.edit_fast.ensures.run u first _) done)
+    tells true c.in-Ok.ensures refl (joined (λ z took. Done z (Some took)) (c.edit_fast.ensures.run u first _) done)

@@ -7,10 +7,10 @@ use Rattle.device_store.proofs.Moves.{lands}
 use Rattle.device_store.proofs.store.DeviceStore.framed_loose.Goals as goal
 
 pub returns-in-Err-clause-run : goal.returns-in-Err-clause-run
-returns-in-Err-clause-run g c = λ u first. tells false c.in-Err.ensures.moves tt (ran_weaker (λ ok is. tt) (c.unchosen.ensures.run _))
+returns-in-Err-clause-run g c = λ u first. tells false c.in-Err.ensures tt (ran_weaker (λ ok is. tt) (c.unchosen.ensures.run _))
 
 pub returns-in-Ok-clause-run : goal.returns-in-Ok-clause-run
 returns-in-Ok-clause-run g c = λ u first.
-    tells true c.in-Ok.ensures.moves refl (lands (ap (λ x. outside_of (g.P.Port.view c.args.port.now) g.V.Volume.view x c.tell_frame.new.keep)
+    tells true c.in-Ok.ensures refl (lands (ap (λ x. outside_of (g.P.Port.view c.args.port.now) g.V.Volume.view x c.tell_frame.new.keep)
     (sym c.edit_loose.ensures.volume))
     (joined (λ z took. Done z (Some took)) (ended (sym (c.edit_loose.ensures.state c.args.edit)) refl) done))

@@ -1,4 +1,5 @@
 use Rattle.std.proofs.Common.{◌≡◌, ◌-◌}
+use Rattle.device_outside.specs.Keeper.{Heard}
 use Rattle.device_defs.specs.Contents.{contents}
 use Rattle.device_defs.specs.Owed.{hear}
 use Rattle.device_store.specs.State.{state_of, outside, surely, Rest}
@@ -10,6 +11,7 @@ invariant-loop-turn g l = record {
   cylinders : l.self.cylinders ≡ l.fn.self.cylinders;
   half : l.self.half ≡ l.fn.self.half;
   loose : l.self.loose ≡ l.fn.self.loose;
-  rest : (k : g.row.K.Denot) → Rest surely g.K.Keep.hears (hear contents (960 - l._turn) (state_of l.self)) (outside (g.P.Port.view l.port) l.self k)
+  rest : (k : g.row.K.Denot) → Rest surely (Heard g.K.Keep.hears g.K.Keep.takes) (hear contents (960 - l._turn) (state_of l.self))
+      (outside (g.P.Port.view l.port) l.self k)
       (hear contents 960 (state_of l.fn.self)) (outside (g.P.Port.view l.fn.port) l.fn.self k);
 }

@@ -1,4 +1,5 @@
 use Rattle.std.proofs.Common.{◌≡◌, ◌*◌}
+use Rattle.device_outside.specs.Keeper.{Heard}
 use Rattle.device_outside.specs.Outside.{PortView, Ran}
 use Rattle.device_defs.specs.Contents.{contents}
 use Rattle.device_defs.specs.Losses.{all_firm_told, over, settled_but}
@@ -15,6 +16,7 @@ invariant-loop-t g l = record {
   weight : weight l.self.loose ≡ weight l.fn.self.loose;
   firm : StaysFirm l.fn.self.loose.loose l.self.loose.loose;
   takes : Takes g.K.Keep.takes l.keep l.self.number (l.self.cylinders * 15);
-  ran : (p : PortView) → Ran surely g.K.Keep.hears (all_firm_told contents l.t (over l.t (settled_but contents l.fn.writing) (state_of l.fn.self)))
+  ran : (p : PortView) → Ran surely (Heard g.K.Keep.hears g.K.Keep.takes)
+      (all_firm_told contents l.t (over l.t (settled_but contents l.fn.writing) (state_of l.fn.self)))
       (outside p l.fn.self l.fn.keep) (state_of l.self) tt (outside p l.self l.keep);
 }

@@ -1,6 +1,7 @@
 use Rattle.std.proofs.Common.{◌≡◌}
 use Rattle.device_defs.specs.Contents.{contents}
 use Rattle.device_defs.specs.Owed.{all_told}
+use Rattle.device_outside.specs.Keeper.{Heard}
 use Rattle.device_outside.specs.Outside.{Ran}
 use Rattle.device_store.specs.State.{state_of, outside, surely}
 use Rattle.device_store.proofs.store.DeviceStore.tell_each.Given as goal
@@ -13,6 +14,7 @@ invariant-loop-t g l = record {
   half : l.self.half ≡ l.fn.self.half;
   loose : l.self.loose ≡ l.fn.self.loose;
   rest : state_of l.self ≡ record (state_of l.fn.self) { owed = l.self.owed };
-  ran : (k : g.row.K.Denot) → Ran surely g.K.Keep.hears (all_told contents l.t (state_of l.fn.self)) (outside (g.P.Port.view l.fn.port) l.fn.self k)
+  ran : (k : g.row.K.Denot) → Ran surely (Heard g.K.Keep.hears g.K.Keep.takes) (all_told contents l.t (state_of l.fn.self))
+      (outside (g.P.Port.view l.fn.port) l.fn.self k)
       (state_of l.self) tt (outside (g.P.Port.view l.port) l.self k);
 }

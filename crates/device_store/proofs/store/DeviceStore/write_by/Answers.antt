@@ -13,4 +13,4 @@ returns-in-Provisional-clause-run g c =
 pub returns-in-Fast-clause-run : goal.returns-in-Fast-clause-run
 returns-in-Fast-clause-run g c =
     rw c.in-Fast.is (lands (ap (λ x. outside_of (g.P.Port.view c.args.port.now) g.V.Volume.view x c.firm.new.self) (sym c.write_fast.ensures.volume))
-    (tells tt c.firm.ensures.moves tt (ended (sym c.write_fast.ensures.state) refl)))
+    (tells tt c.firm.ensures tt (ended (sym c.write_fast.ensures.state) refl)))

@@ -1,8 +1,5 @@
-use Rattle.subsystem_core.proofs.Hearing.{came_plain, none_goes, none_takes}
+use Rattle.subsystem_core.proofs.Hearing.{came_plain, none_takes}
 use Rattle.subsystem_core.proofs.subsystem.Subsystem.event.Goals as goal
-
-pub event_with-requires-clause-goes : goal.event_with-requires-clause-goes
-event_with-requires-clause-goes g c = none_goes
 
 pub event_with-requires-clause-takes : goal.event_with-requires-clause-takes
 event_with-requires-clause-takes g c = none_takes _ _

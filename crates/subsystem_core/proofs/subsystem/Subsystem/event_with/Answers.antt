@@ -7,5 +7,5 @@ returns-clause-numbers g c = numbers_by_spans _ _ c.happen.ensures.spans
 pub returns-clause-takes : goal.returns-clause-takes
 returns-clause-takes g c =
     takes_on c.args.keep.now c.happen.new.keep c.args.self.now.devices.items c.happen.new.self.devices.items
-    (came_still c.requires.goes c.args.e c.args.self.now c.happen.new.self c.args.keep.now c.happen.new.keep _ c.happen.ensures.came)
+    (came_still g.K.Keep.hears g.K.Keep.takes c.args.e c.args.self.now c.happen.new.self c.args.keep.now c.happen.new.keep _ c.happen.ensures.came)
     c.happen.ensures.spans c.requires.takes

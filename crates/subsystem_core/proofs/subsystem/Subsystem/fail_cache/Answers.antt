@@ -5,6 +5,7 @@ use Rattle.subsystem_core.specs.declared.end.EventEnd.TheVariants as ends
 use Rattle.subsystem_defs.specs.declared.event.Event.TheVariants as events
 use Rattle.subsystem_defs.specs.declared.end.OrderFault.TheVariants.{Down}
 use Rattle.loss_model.specs.declared.Loss.TheVariants as losses
+use Rattle.device_outside.specs.Keeper.{Heard}
 use Rattle.device_outside.specs.Pool.{cache_failed}
 use Rattle.device_defs.specs.Events.{lose}
 use Rattle.subsystem_core.proofs.Coming.{all_swept, ended}
@@ -13,7 +14,7 @@ use Rattle.subsystem_core.proofs.subsystem.Subsystem.fail_cache.Goals as goal
 
 pub returns-then-not-cache_up-clause-came : goal.returns-then-not-cache_up-clause-came
 returns-then-not-cache_up-clause-came g c =
-    ended g.K.Keep.hears c.args.keep.now c.args.self.now _ (events.FailCache) (answers.Refused Down) (ends.Refused Down)
+    ended (Heard g.K.Keep.hears g.K.Keep.takes) c.args.keep.now c.args.self.now _ (events.FailCache) (answers.Refused Down) (ends.Refused Down)
     (deeds.cache_down contents _ _ (sym c.cache_up.ensures ∙ c.if-not-cache_up.true)) (λ p. refl) (refl, refl)
 
 pub returns-clause-came : goal.returns-clause-came

@@ -1,4 +1,5 @@
 use Rattle.std.proofs.Common.{◌∙◌, refl, sym}
+use Rattle.device_outside.specs.Keeper.{Heard}
 use Rattle.device_defs.specs.Contents.{contents}
 use Rattle.subsystem_defs.specs.declared.end.EventEnd.TheVariants as answers
 use Rattle.subsystem_core.specs.declared.end.EventEnd.TheVariants as ends
@@ -12,7 +13,7 @@ use Rattle.subsystem_core.proofs.subsystem.Subsystem.fail_volume.Goals as goal
 
 pub returns-in-Some-clause-came : goal.returns-in-Some-clause-came
 returns-in-Some-clause-came g c =
-    ended g.K.Keep.hears c.args.keep.now c.args.self.now _ (events.FailVolume c.args.d c.args.side)
+    ended (Heard g.K.Keep.hears g.K.Keep.takes) c.args.keep.now c.args.self.now _ (events.FailVolume c.args.d c.args.side)
     (answers.Refused c.in-Some.fault) (ends.Refused c.in-Some.fault)
     (deeds.loss_refused contents _ _ _ _ (found_in c.args.self.now.devices.items c.args.d _ c.device.ensures) c.args.side c.in-Some.fault
     (sym c.fail_fault.ensures ∙ c.in-Some.is)) (λ p. refl) (refl, refl)

@@ -10,4 +10,4 @@ returns-clause-numbers g c = numbers_by_spans _ _ c.peek_at.ensures.spans
 pub returns-clause-takes : goal.returns-clause-takes
 returns-clause-takes g c =
     takes_on c.args.keep.now c.peek_at.new.keep c.args.self.now.devices.items c.peek_at.new.self.devices.items
-    (ran_still c.requires.goes c.peek_at.ensures.asked.is_so.1) c.peek_at.ensures.spans c.requires.takes
+    (ran_still g.K.Keep.takes c.peek_at.ensures.asked.is_so.1) c.peek_at.ensures.spans c.requires.takes

@@ -1,4 +1,5 @@
 use Rattle.std.proofs.Common.{◌∙◌, refl, sym, ap, Some}
+use Rattle.device_outside.specs.Keeper.{Heard}
 use Rattle.device_defs.specs.Contents.{contents}
 use Rattle.subsystem_defs.specs.declared.end.EventEnd.TheVariants as answers
 use Rattle.subsystem_core.specs.declared.end.EventEnd.TheVariants as ends
@@ -10,16 +11,16 @@ use Rattle.subsystem_core.proofs.subsystem.Subsystem.repair_cache.Goals as goal
 
 pub returns-then-cache_up-clause-came : goal.returns-then-cache_up-clause-came
 returns-then-cache_up-clause-came g c =
-    λ k. ended g.K.Keep.hears k c.args.self.now _ (events.RepairCache) (answers.Refused Up) (ends.Refused Up)
+    λ k. ended (Heard g.K.Keep.hears g.K.Keep.takes) k c.args.self.now _ (events.RepairCache) (answers.Refused Up) (ends.Refused Up)
     (deeds.cache_is_up contents _ _ (sym c.cache_up.ensures ∙ c.if-cache_up.true)) (λ p. refl) (refl, refl)
 
 pub returns-in-Ok-clause-came : goal.returns-in-Ok-clause-came
 returns-in-Ok-clause-came g c =
-    λ k. repaired g.K.Keep.hears k c.args.self.now _ (events.RepairCache) _
+    λ k. repaired (Heard g.K.Keep.hears g.K.Keep.takes) k c.args.self.now _ (events.RepairCache) _
     (deeds.cache_again contents _ _ (sym c.cache_up.ensures ∙ c.if-cache_up.false) (none_wait _ c.in-Ok.ensures.0)) c.in-Ok.ensures.1 refl
 
 pub returns-in-Err-clause-came : goal.returns-in-Err-clause-came
 returns-in-Err-clause-came g c =
-    λ k. ended g.K.Keep.hears k c.args.self.now _ (events.RepairCache) _ (ends.Pending c.in-Err.pending.n)
+    λ k. ended (Heard g.K.Keep.hears g.K.Keep.takes) k c.args.self.now _ (events.RepairCache) _ (ends.Pending c.in-Err.pending.n)
     (deeds.cache_waits contents _ _ (sym c.cache_up.ensures ∙ c.if-cache_up.false) (some_wait _ c.in-Err.pending.n c.in-Err.ensures.0 c.in-Err.ensures.1))
     (λ p. ap (λ m. Some (answers.Pending m)) c.in-Err.ensures.0) (c.in-Err.ensures.2, refl)

@@ -1,4 +1,5 @@
 use Rattle.std.proofs.Common.{◌∙◌, refl, sym}
+use Rattle.device_outside.specs.Keeper.{Heard}
 use Rattle.device_defs.specs.Contents.{contents}
 use Rattle.subsystem_defs.specs.declared.end.EventEnd.TheVariants as answers
 use Rattle.subsystem_core.specs.declared.end.EventEnd.TheVariants as ends
@@ -25,7 +26,7 @@ returns-then-half_open-clause-came g c =
 
 pub returns-in-None-clause-came : goal.returns-in-None-clause-came
 returns-in-None-clause-came g c =
-    ended g.K.Keep.hears c.args.keep.now c.args.self.now _ (events.Step c.args.d) answers.Idle ends.Idle
+    ended (Heard g.K.Keep.hears g.K.Keep.takes) c.args.keep.now c.args.self.now _ (events.Step c.args.d) answers.Idle ends.Idle
     (deeds.idle contents _ _ _ _ (found_in c.args.self.now.devices.items c.args.d _ c.device-device.ensures)
     (sym c.half_open.ensures ∙ c.if-half_open.false) (open_none c.device-device.result.now.past.running (sym c.active.ensures ∙ c.in-None.is)))
     (λ p. refl) (refl, refl)

@@ -1,4 +1,5 @@
 use Rattle.std.proofs.Common.{◌∙◌, refl, sym}
+use Rattle.device_outside.specs.Keeper.{Heard}
 use Rattle.device_defs.specs.Contents.{contents}
 use Rattle.device_defs.specs.Orders.{hold}
 use Rattle.device_core.specs.State.{device_of}
@@ -13,13 +14,15 @@ use Rattle.subsystem_core.proofs.subsystem.Subsystem.suspend.Goals as goal
 
 pub returns-in-Some-clause-came : goal.returns-in-Some-clause-came
 returns-in-Some-clause-came g c =
-    λ k. ended g.K.Keep.hears k c.args.self.now _ (events.Suspend c.args.d) (answers.Refused c.in-Some.fault) (ends.Refused c.in-Some.fault)
+    λ k. ended (Heard g.K.Keep.hears g.K.Keep.takes) k c.args.self.now _ (events.Suspend c.args.d) (answers.Refused c.in-Some.fault)
+    (ends.Refused c.in-Some.fault)
     (deeds.suspend_refused contents _ _ _ _ (found_in c.args.self.now.devices.items c.args.d _ c.device.ensures) c.in-Some.fault
     (sym c.suspend_fault.ensures ∙ c.in-Some.is)) (λ p. refl) (refl, refl)
 
 pub returns-clause-came : goal.returns-clause-came
 returns-clause-came g c =
-    λ k. became g.K.Keep.hears k c.args.self.now _ (events.Suspend c.args.d) c.args.d c.device.result.now (hold (device_of c.device.result.now))
+    λ k. became (Heard g.K.Keep.hears g.K.Keep.takes) k c.args.self.now _ (events.Suspend c.args.d) c.args.d
+    c.device.result.now (hold (device_of c.device.result.now))
     answers.Done ends.Done (λ x y. IsNow (hold (device_of x)) x y) c.device.ensures
     (deeds.suspended contents _ _ _ _ (found_in c.args.self.now.devices.items c.args.d _ c.device.ensures)
     (sym c.suspend_fault.ensures ∙ c.in_default.is)) refl (λ p. refl) c.hold_at.ensures.pool (λ y is. is) c.hold_at.ensures.held

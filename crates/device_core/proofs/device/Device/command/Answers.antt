@@ -1,0 +1,9 @@
+use Rattle.device_store.proofs.Moves.{heard_alone}
+use Rattle.seen_laws.proofs.Calls.{ends_as_seen}
+use Rattle.device_core.proofs.device.Device.command.Goals as goal
+
+pub returns-clause-run : goal.returns-clause-run
+returns-clause-run g c = λ k. heard_alone c.command_with.ensures.run
+
+pub returns-clause-ends_as_seen : goal.returns-clause-ends_as_seen
+returns-clause-ends_as_seen g c = λ k. ends_as_seen _ _ _ (returns-clause-run g c k)
