@@ -198,7 +198,6 @@ module _ (a : AuditedDevice) (s : Sound a) (t : ℕ) (o : OpenEntry) (running : 
   next_is_same = ap (λ (p : Part). p.next) part_is
 
 module _ (a : AuditedDevice) (t : ℕ) (loose : is_loose (state_of a) t ≡ true) where
-
   -- the program that runs then is the one that ran, with the act
   ran : (o : OpenEntry) (x : OpenEntry) → a.history.running ≡ Some o → (acted a.history (Harden t)).running ≡ Some x
       → x ≡ with_one_act o (Harden t)

@@ -148,7 +148,6 @@ resets_used_4 u false false false false = refl
 -- Behind the entry of a program, and the resets that waited
 
 module _ (h : History) (o : OpenEntry) (how : How) (e : OpenEntry) (same : e.path ≡ o.path) (open_is : h.running ≡ Some o) where
-
   pub count_later : (i n : ℕ) (paths : List ℕ) → n ≡ count_by (is_of_path i) h.items + own_count h.running i
       → n ≡ count_by (is_of_path i) (h.items ++ entry_of e how ∷ resets_of paths) + 0
   count_later i n paths is =

@@ -18,7 +18,6 @@ use Rattle.deck_audit.proofs.KeptPaths.{path_cases}
 -- A reset that is done, while no program runs
 
 module _ (r : ReplayedState) (h : History) (k : KeepsPaths r h) (idle : h.running ≡ None) where
-
   count_same : (p i n : ℕ) → n ≡ count_by (is_of_path i) h.items + own_count h.running i
       → n ≡ count_by (is_of_path i) (h.items ++ items.Reset p ∷ []) + own_count h.running i
   count_same p i n is =

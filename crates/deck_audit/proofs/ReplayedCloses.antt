@@ -75,7 +75,6 @@ closed_is plans r true true true true =
 module _ (r : ReplayedState) (a : AuditedDevice) (before : List Item) (waiting : List ℕ) (w : WaitsAs r.waits waiting)
     (number_is : r.number ≡ a.number) (half_is : r.half ≡ a.half) (lent_is : r.lent ≡ a.lent)
     (device_is : r.device ≡ replay a.plans a.empty before) where
-
   closed_here : IsClosed a.plans r (replayed.closed r) waiting
   closed_here =
       subst (λ (l : List ℕ). IsClosed a.plans r (replayed.closed r) l) (sym w.waiting_are)

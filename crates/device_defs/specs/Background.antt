@@ -41,7 +41,6 @@ other A = B
 other B = A
 
 module _ {F P H : Type 0} where
-
   -- the side that is up, not held, and has the track stale, where the other has it level
   abbrev pub copies_to : Store F P H → ℕ → Option Side
   copies_to s t =

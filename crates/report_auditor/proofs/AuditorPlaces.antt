@@ -85,7 +85,6 @@ last_of_and true y is = is
 last_of_and false y is = absurd (cc)
 
 module _ (p e m k : ℕ) where
-
   cut_step : (a : AuditedDevice) (ds : List AuditedDevice) (running : Option OpenEntry) → a.history.running ≡ running
       → in_power_of (outline_of a) (lines.Over p e m (how.Cut k)) (in_power (lines.Over p e m (how.Cut k)) (map outline_of ds)) (open_program running) ≡ true
       → (in_power (lines.Over p e m (how.Cut k)) (map outline_of ds) ≡ true → NoneRuns (place_of ds e) ds)
