@@ -84,6 +84,7 @@ use Rattle.deck_run.proofs.RunCounts.{event_counted}
 use Rattle.deck_run.proofs.Telling.{AreKnown, all_known, known_at, one_tells, running_known}
 use Rattle.subsystem_defs.specs.Beside.{new_acts}
 use Rattle.deck_run.specs.Loosening.{acts_by}
+use Rattle.deck_run.specs.Seen.{SeesEnd, ShowsEnd}
 use Rattle.deck_run.proofs.Acting.{brought_none, new_are, none_new, started_new}
 use Rattle.deck_run.proofs.Stays.{HasOf, Is, background_stays, command_stays, lose_stays, reset_stays, second_stays}
 use Rattle.deck_run.proofs.Surely.{Surely, s_done, s_then, surely_so, ran_so}
@@ -557,17 +558,18 @@ module _ {V : Type 0} {G : Ghosts V} where
     pub own_behind : AreOwn new.devices.items
     own_behind = record { each = so.own; accounted = subst AreAccounted (sym so.sides) own.accounted }
 
-    pub end_is : (y : Device V G) → device_at new.devices.items n ≡ Some y → end_seen y.past a ≡ Some so.end
-    end_is y at = ap (λ (z : Device V G). end_seen z.past a) (some_same (sym at ∙ so.stands)) ∙ so.seen
+    pub shows_end : ShowsEnd new n a
+    shows_end =
+        subst (λ (o : Option (Device V G)). IfSome o (λ y. IsSome (end_seen y.past a))) (sym so.stands) (subst IsSome (sym so.seen) refl)
 
-    pub is_told : (y : Device V G) → device_at new.devices.items n ≡ Some y → IsSome (end_seen y.past a)
-    is_told y at = subst IsSome (sym (end_is y at)) refl
-
-    pub happens_so : (y : Device V G) (end : ends.EventEnd) (run : runs.Subsystem) → device_at new.devices.items n ≡ Some y → end_seen y.past a ≡ Some end →
-        ChainsStand old.devices.items → StandsAs old run → ((happens run e).end ≡ end) × StandsAs new (happens run e).behind
-    happens_so y end run at seen stand all =
-        let h = event_happens e n (has_one old.devices.items n here).device old new a run so own.each stand all in
-        (h.0 ∙ some_same (sym (end_is y at) ∙ seen), h.1)
+    pub happens_so : (run : runs.Subsystem) → ChainsStand old.devices.items → StandsAs old run →
+        SeesEnd new n a (happens run e).end × StandsAs new (happens run e).behind
+    happens_so run stand all =
+        let h = event_happens e n (has_one old.devices.items n here).device old new a run so own.each stand all in (
+          subst (λ (o : Option (Device V G)). IfSome o (λ y. end_seen y.past a ≡ Some (happens run e).end)) (sym so.stands)
+              (so.seen ∙ ap Some (sym h.0)),
+          h.1,
+        )
 
     -- what the event tells
     pub told_so : (run : runs.Subsystem) → ChainsStand old.devices.items → StandsAs old run → IsTold old new e n run

@@ -24,4 +24,5 @@ pub mod Going
 pub mod Settling
 pub mod Closing
 pub mod Loosened
+pub mod Seen
 pub mod Ready

@@ -10,16 +10,17 @@ use Rattle.run_report.specs.OneDevice.{lines_by}
 use Rattle.subsystem_core.specs.declared.subsystem.Subsystem.{Subsystem}
 use Rattle.subsystem_core.specs.Devices.{device_at}
 use Rattle.subsystem_defs.specs.declared.event.Event.{Event}
-use Rattle.subsystem_defs.specs.declared.end.EventEnd.{EventEnd}
 use Rattle.subsystem_defs.specs.Beside.{behind_first, has_power, loose_count, new_acts}
 use Rattle.subsystem_defs.specs.Happening.{happens}
 use Rattle.subsystem_defs.specs.Subsystem as runs
 use Rattle.deck_run.specs.declared.pass.Passed.{Passed}
 use Rattle.deck_run.specs.Counting.{more_calls}
 use Rattle.deck_run.specs.Passing.{HasPassed}
-use Rattle.deck_run.specs.Loosening.{acts_by, all_loosed}
+use Rattle.deck_run.specs.Loosening.{all_loosed, is_quiet}
 use Rattle.deck_run.specs.Recording.{IsTold, loosed_between, running_of}
+use Rattle.deck_run.specs.Seen.{SeesEnd, acts_seen}
 use Rattle.deck_run.specs.Standing.{StandsAs}
+use Rattle.deck_run.proofs.Seen.{acts_are, sees_at}
 
 some_same : {X : Type 0} {x y : X} → Some x ≡ Some y → x ≡ y
 some_same e = cc
@@ -27,8 +28,9 @@ some_same e = cc
 module _ {V : Type 0} {G : Ghosts V} where
   pub passed_so : (old new : Subsystem V G) (e : Event) (d : ℕ) (run : runs.Subsystem) (x y : Device V G) (p : Passed) (loose : ℕ) →
       device_at old.devices.items d ≡ Some x → device_at new.devices.items d ≡ Some y → IsTold old new e d run →
-      StandsAs new (happens run e).behind → (happens run e).end ≡ p.end → p.running ≡ running_of x → p.items ≡ length x.past.items.items →
-      p.acts.items ≡ all_loosed d loose (device_of y).store.number (acts_by e p.end (device_of y)) (has_power (behind_first p.items y.past.items.items)) →
+      StandsAs new (happens run e).behind → SeesEnd new d p.end (happens run e).end → p.running ≡ running_of x → p.items ≡ length x.past.items.items →
+      p.acts.items ≡ all_loosed d loose (device_of y).store.number (acts_seen (is_quiet e) p.end (device_of y))
+      (has_power (behind_first p.items y.past.items.items)) →
       loose ≡ loose_count (device_of x).store →
       ((k : ℕ) → y.store.counts.reads ≡ more_calls k x.store.counts.reads → p.calls.reads ≡ k) →
       ((k : ℕ) → y.store.counts.writes ≡ more_calls k x.store.counts.writes → p.calls.writes ≡ k) →
@@ -44,11 +46,12 @@ module _ {V : Type 0} {G : Ghosts V} where
             let came = behind_first (length x.past.items.items) z.past.items.items in
             let number = (device_of z).store.number in
             let noted : p.acts.items ≡ loosed_between d x z =
-            subst (λ (v : Device V G). p.acts.items ≡ all_loosed d loose (device_of v).store.number (acts_by e p.end (device_of v))
+            subst (λ (v : Device V G). p.acts.items ≡ all_loosed d loose (device_of v).store.number (acts_seen (is_quiet e) p.end (device_of v))
             (has_power (behind_first p.items v.past.items.items))) (same z there) acts
-            ∙ ap (λ (n : ℕ). all_loosed d n number (acts_by e p.end (device_of z)) (has_power (behind_first p.items z.past.items.items))) counted
-            ∙ ap (λ (end : EventEnd). all_loosed d (loose_count (device_of x).store) number (acts_by e end (device_of z))
-            (has_power (behind_first p.items z.past.items.items))) (sym ended)
+            ∙ ap (λ (n : ℕ). all_loosed d n number (acts_seen (is_quiet e) p.end (device_of z)) (has_power (behind_first p.items z.past.items.items)))
+            counted
+            ∙ ap (λ (l : List Act). all_loosed d (loose_count (device_of x).store) number l (has_power (behind_first p.items z.past.items.items)))
+            (acts_are z.past (happens run e).end (is_quiet e) p.end (device_of z) (sees_at new d p.end (happens run e).end z there ended))
             ∙ ap (λ (l : List Act). all_loosed d (loose_count (device_of x).store) number l (has_power (behind_first p.items z.past.items.items)))
             (sym (told x z at there).acts)
             ∙ ap (λ (n : ℕ). all_loosed d (loose_count (device_of x).store) number (new_acts (history_of x.past) (history_of z.past))

@@ -20,6 +20,7 @@ use Rattle.run_report.specs.Events.{lines_of, running_in, work_lines, work_told}
 use Rattle.run_report.specs.OneDevice.{lines_by}
 use Rattle.subsystem_core.specs.declared.subsystem.Subsystem.{Subsystem}
 use Rattle.subsystem_core.specs.Devices.{device_at}
+use Rattle.subsystem_core.specs.Ends.{end_seen}
 use Rattle.subsystem_defs.specs.declared.end.EventEnd.{EventEnd}
 use Rattle.subsystem_defs.specs.declared.event.Event.{Event}
 use Rattle.subsystem_defs.specs.declared.event.Event.TheVariants as events
@@ -31,8 +32,11 @@ use Rattle.subsystem_defs.specs.Lines.{Logged, Once, Run, Settle, logged}
 use Rattle.subsystem_defs.specs.Subsystem as runs
 use Rattle.subsystem_defs.specs.Subsystem.{Mounted, devices_of, mounted_in}
 use Rattle.deck_run.specs.declared.pass.Passed.{Passed}
-use Rattle.deck_run.specs.Passing.{HasPassed}
+use Rattle.deck_run.specs.Passing.{HasPassed, lines_passed}
 use Rattle.deck_run.specs.Recording.{all_lines, lines_when}
+use Rattle.deck_run.specs.Seen.{start_end}
+use Rattle.deck_run.specs.Sweeping.{order_end}
+use Rattle.deck_run.proofs.Seen.{order_is, sees_at, start_is}
 
 asks_before : (s : runs.Subsystem) (n : ℕ) (o : Option Mounted) (talk : Talk (Option EventEnd)) → (asks s n o talk).before ≡ s
 asks_before s n (Some m) talk = refl
@@ -144,31 +148,36 @@ module _ {V : Type 0} {G : Ghosts V} (s : Subsystem V G) (run : runs.Subsystem) 
       more ≡ told ++ lines_by d h acts p.calls.reads p.calls.writes items
   roomy h room same is = is ∙ ap (λ (l : List ReportLine). l ++ lines_by d h acts p.calls.reads p.calls.writes items) same
 
-  pub work_recorded : (idle h : report.Happened) (room : List ReportLine) → room ≡ told → h ≡ work_told d p.running idle p.end →
-      more ≡ room ++ lines_by d h acts p.calls.reads p.calls.writes items →
-      more ≡ told ++ lines_when run e (work_told d (running_in (devices_of run) d) idle (happens run e).end)
-  work_recorded idle h room same did_so is =
-      recorded h (roomy h room same is)
-      ∙ ap (λ (x : report.Happened). told ++ lines_when run e x) did_so
-      ∙ ap (λ (r : Option RunningProgram). told ++ lines_when run e (work_told d r idle p.end)) (sym has.running)
-      ∙ ap (λ (x : EventEnd). told ++ lines_when run e (work_told d (running_in (devices_of run) d) idle x)) (sym has.ended)
+  seen : end_seen y.past p.end ≡ Some (happens run e).end
+  seen = sees_at s d p.end (happens run e).end y at has.ended
 
-  pub start_recorded : (path : ℕ) (a : StartAnswer) (room : List ReportLine) → room ≡ told → a ≡ start_answer p.end →
+  pub start_recorded : (path : ℕ) (a : StartAnswer) (room : List ReportLine) → room ≡ told → a ≡ start_answer (start_end p.end) →
       more ≡ room ++ lines_by d (did.Started path d a) acts p.calls.reads p.calls.writes items →
       more ≡ told ++ lines_when run e (did.Started path d (start_answer (happens run e).end))
   start_recorded path a room same answered is =
       recorded (did.Started path d a) (roomy (did.Started path d a) room same is)
-      ∙ ap (λ (x : StartAnswer). told ++ lines_when run e (did.Started path d x)) answered
-      ∙ ap (λ (x : EventEnd). told ++ lines_when run e (did.Started path d (start_answer x))) (sym has.ended)
+      ∙ ap (λ (x : StartAnswer). told ++ lines_when run e (did.Started path d x)) (answered ∙ start_is y.past (happens run e).end p.end seen)
 
-  pub order_recorded : (order : Order) (a : OrderAnswer) (room : List ReportLine) → room ≡ told → a ≡ order_answer p.end →
+  pub order_recorded : (order : Order) (a : OrderAnswer) (room : List ReportLine) → room ≡ told → a ≡ order_answer (order_end p.end) →
       more ≡ room ++ lines_by d (did.Ordered order a) acts p.calls.reads p.calls.writes items →
       more ≡ told ++ lines_when run e (did.Ordered order (order_answer (happens run e).end))
   order_recorded order a room same answered is =
       recorded (did.Ordered order a) (roomy (did.Ordered order a) room same is)
-      ∙ ap (λ (x : OrderAnswer). told ++ lines_when run e (did.Ordered order x)) answered
-      ∙ ap (λ (x : EventEnd). told ++ lines_when run e (did.Ordered order (order_answer x))) (sym has.ended)
+      ∙ ap (λ (x : OrderAnswer). told ++ lines_when run e (did.Ordered order x)) (answered ∙ order_is y.past (happens run e).end p.end seen)
 
   pub reset_recorded : (path : ℕ) (room : List ReportLine) → room ≡ told →
       more ≡ room ++ lines_by d (did.Reset path d) acts p.calls.reads p.calls.writes items → more ≡ told ++ lines_when run e (did.Reset path d)
   reset_recorded path room same is = recorded (did.Reset path d) (roomy (did.Reset path d) room same is)
+
+-- A piece of work: its lines are those that passed
+module _ {V : Type 0} {G : Ghosts V} (s : Subsystem V G) (run : runs.Subsystem) (e : Event) (d : ℕ) (p : Passed) (has : HasPassed s run e d p)
+    (y : Device V G) (at : device_at s.devices.items d ≡ Some y) (told more room : List ReportLine) (same : room ≡ told) where
+  pub work_recorded : (idle : report.Happened) →
+      ((end : EventEnd) → end_seen y.past p.end ≡ Some end → more ≡ room ++ lines_passed d y p (work_told d p.running idle end)) →
+      more ≡ told ++ lines_when run e (work_told d (running_in (devices_of run) d) idle (happens run e).end)
+  work_recorded idle tells =
+      let end = (happens run e).end in
+      tells end (sees_at s d p.end end y at has.ended)
+      ∙ ap (λ (l : List ReportLine). l ++ lines_passed d y p (work_told d p.running idle end)) same
+      ∙ ap (λ (l : List ReportLine). told ++ l) (sym (has.lines y at (work_told d p.running idle end)))
+      ∙ ap (λ (x : Option RunningProgram). told ++ lines_when run e (work_told d x idle end)) (sym has.running)

@@ -4,6 +4,7 @@ pub mod Owning
 pub mod Standing
 pub mod Counting
 pub mod Loosening
+pub mod Seen
 pub mod Recording
 pub mod Sweeping
 pub mod Ordered

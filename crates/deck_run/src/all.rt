@@ -12,7 +12,7 @@ ghost use Rattle.deck_run.specs.Standing.{StandsAs};
 ghost use Rattle.deck_run.specs.Sweeping.{IsOpenOfAll, TellsAll, gone_lines, gone_one, no_stock, order_end, order_of, stock_of};
 
 use crate::event::chains_stand;
-use crate::loosed::{all_loosed, is_quiet, loose_of};
+use crate::loosed::{acts_when, all_loosed, is_quiet, loose_of};
 use crate::pass::behind_first;
 use ckd_types::NoMemory;
 use device_core::Device;
@@ -49,12 +49,12 @@ fn stocks_of<V: Volume>(alloc: Global, devices: &[Device<V>]) -> Result<Vec<Stoc
     Ok(stocks)
 }
 
-pub(crate) fn order_end(end: EventEnd) -> End
-    ensures { result ≡ order_end end }
+pub(crate) fn order_end(end: &EventEnd) -> End
+    ensures { result ≡ order_end end.now }
 {
     match end {
-        EventEnd::Pending(n) => End::Pending(n),
-        EventEnd::Refused(fault) => End::Refused(fault),
+        EventEnd::Pending(n) => End::Pending(*n),
+        EventEnd::Refused(fault) => End::Refused(*fault),
         _ => End::Done,
     }
 }
@@ -86,7 +86,7 @@ fn do_all<V: Volume>(sub: &mut Subsystem<V>, e: Event) -> Result<End, NoMemory>
         Err(NoMemory) => return Err(NoMemory),
         Ok(end) => end,
     };
-    Ok(order_end(end))
+    Ok(order_end(&end))
 }
 
 fn stock_at(stocks: &[Stock], i: usize) -> Stock
@@ -114,15 +114,8 @@ fn record_one<V: Volume>(
     ensures { OnOk result (report.new ≡ report.old ++ gone_one quiet end.now stock device.now) }
 {
     let items = behind_first(device.journal(), stock.items);
-    let acts = all_loosed(
-        alloc,
-        device.number(),
-        stock.loose,
-        device,
-        quiet,
-        end,
-        items,
-    )?;
+    let noted = acts_when(quiet, end, device);
+    let acts = all_loosed(alloc, device.number(), stock.loose, device, noted, items)?;
     let gained = Gained { acts: &acts, items };
     record_power_of(report, device.number(), &gained)?;
     Ok(())

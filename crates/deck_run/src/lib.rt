@@ -12,6 +12,7 @@ mod pair;
 mod pass;
 mod replace;
 mod run;
+mod work;
 
 pub use open::open_deck;
 pub use run::{FinishedRun, run_deck};

@@ -4,31 +4,30 @@ ghost use Rattle.report_text.specs.declared.answers.BackAnswer.TheVariants as no
 ghost use Rattle.report_text.specs.declared.event.Happened.TheVariants as did;
 ghost use Rattle.run_report.specs.Answers.{order_answer, start_answer};
 ghost use Rattle.run_report.specs.Events.{running_in, work_told};
-ghost use Rattle.run_report.specs.OneDevice.{lines_by};
 ghost use Rattle.subsystem_core.specs.Devices.{numbers_of};
 ghost use Rattle.subsystem_defs.specs.Happening.{happens};
-ghost use Rattle.subsystem_defs.specs.Lines.{asked_by, backs, is_busy, is_settled, last_behind, line_logged, run_logged, steps, stops};
+ghost use Rattle.subsystem_defs.specs.Lines.{asked_by, backs, is_busy, is_settled, last_behind, line_logged, run_logged, steps};
 ghost use Rattle.subsystem_defs.specs.Subsystem as runs;
 ghost use Rattle.subsystem_defs.specs.Subsystem.{devices_of};
 ghost use Rattle.deck_run.specs.Opening.{is_open_line};
 ghost use Rattle.deck_run.specs.Owning.{AreOwn, IsOpenOn};
 ghost use Rattle.deck_run.specs.Recording.{all_lines, lines_when};
+ghost use Rattle.deck_run.specs.Seen.{idle_told};
 ghost use Rattle.deck_run.specs.Standing.{StandsAs};
 
-use crate::all::order_all;
+use crate::all::{order_all, order_end};
 use crate::pair::{pair, unpair};
 use crate::pass::{behind_first, pass};
 use crate::replace::replace;
+use crate::work::{Asker, record_passed, record_work, settles, start_end};
 use ckd_types::{DeviceNo, NoMemory, PathNo};
 use deck_plan::EventLine;
-use device_defs::Did;
 use device_outside::{MemVolume, Volume};
-use plain_defs::Item;
-use report_text::{BackAnswer, Happened, Loosed, Order, ReportLine, RunRecord};
-use run_report::{Calls, Gained, order_answer, record_event, start_answer, work_told};
+use report_text::{Happened, Order, ReportLine, RunRecord};
+use run_report::{order_answer, start_answer};
 use std::alloc::Global;
 use subsystem_core::Subsystem;
-use subsystem_defs::{Event, EventEnd};
+use subsystem_defs::Event;
 
 /// As many events as the rest of a program takes at most.
 const MOST_STEPS: u32 = 8193;
@@ -36,28 +35,13 @@ const MOST_STEPS: u32 = 8193;
 /// As many pieces of work in the background as there are at most.
 const MOST_BACKS: u32 = 2946;
 
-/// The lines of an event of one device.
-fn record_passed(
-    report: &mut RunRecord,
-    d: DeviceNo,
-    happened: Happened,
-    acts: &[Loosed],
-    items: &[Item],
-    calls: Calls,
-) -> Result<(), NoMemory>
-    ensures { OnOk result (report.new ≡ report.old ++ lines_by d happened acts.now calls.reads calls.writes items.now) }
-{
-    let gained = Gained { acts, items };
-    record_event(report, d, happened, &gained, calls)
-}
-
 /// One step. Room for its lines is made before it is done, as before every event.
 fn step<V: Volume>(
     alloc: Global,
     sub: &mut Subsystem<V>,
     report: &mut RunRecord,
     d: DeviceNo,
-    idle: Happened,
+    asker: Asker,
 ) -> Result<(), NoMemory>
     requires here { is_in d (numbers_of sub.old.devices.items) ≡ true }
     requires own { AreOwn sub.old.devices.items }
@@ -66,33 +50,12 @@ fn step<V: Volume>(
     ensures stands { (run : runs.Subsystem) → StandsAs sub.old run → OnOk result (StandsAs sub.new (happens run (Event.Step d)).behind) }
     ensures lines { (run : runs.Subsystem) → StandsAs sub.old run
         → OnOk result (report.new ≡ report.old ++ lines_when run (Event.Step d)
-        (work_told d (running_in (devices_of run) d) idle (happens run (Event.Step d)).end)) }
+        (work_told d (running_in (devices_of run) d) (idle_told d asker) (happens run (Event.Step d)).end)) }
 {
     report.make_room()?;
     let passed = pass(alloc, sub, d, Event::Step(d))?;
-    let items = behind_first(sub.device(d).journal(), passed.items);
-    let end = passed.end;
-    let happened = work_told(d, &passed.running, idle, end);
-    record_passed(report, d, happened, &passed.acts, items, passed.calls)?;
+    record_work(report, sub.device(d), d, &passed, asker)?;
     Ok(())
-}
-
-fn stops(did: Did) -> bool
-    ensures { result ≡ stops did }
-{
-    match did {
-        Did::Nothing | Did::Fault(_) | Did::BadBytes(_) => true,
-        _ => false,
-    }
-}
-
-fn is_settled(end: &EventEnd) -> bool
-    ensures { result ≡ is_settled end.now }
-{
-    match end {
-        EventEnd::Back(did) => stops(*did),
-        _ => false,
-    }
 }
 
 /// One piece of work in the background, and whether nothing more is done by itself.
@@ -114,12 +77,8 @@ fn work<V: Volume>(
 {
     report.make_room()?;
     let passed = pass(alloc, sub, d, Event::Back(d))?;
-    let items = behind_first(sub.device(d).journal(), passed.items);
-    let end = passed.end;
-    let settled = is_settled(&end);
-    let idle = Happened::Back(d, BackAnswer::Nothing);
-    let happened = work_told(d, &passed.running, idle, end);
-    record_passed(report, d, happened, &passed.acts, items, passed.calls)?;
+    let settled = settles(&passed.end);
+    record_work(report, sub.device(d), d, &passed, Asker::Back)?;
     Ok(settled)
 }
 
@@ -188,7 +147,7 @@ fn start<V: Volume>(
     report.make_room()?;
     let passed = pass(alloc, sub, d, Event::Start(path, d))?;
     let items = behind_first(sub.device(d).journal(), passed.items);
-    let started = Happened::Started(path, d, start_answer(&passed.end));
+    let started = Happened::Started(path, d, start_answer(&start_end(&passed.end)));
     record_passed(report, d, started, &passed.acts, items, passed.calls)?;
     Ok(())
 }
@@ -237,7 +196,7 @@ fn order_one<V: Volume>(
     report.make_room()?;
     let passed = pass(alloc, sub, d, e)?;
     let items = behind_first(sub.device(d).journal(), passed.items);
-    let happened = Happened::Ordered(order, order_answer(&passed.end));
+    let happened = Happened::Ordered(order, order_answer(&order_end(&passed.end)));
     record_passed(report, d, happened, &passed.acts, items, passed.calls)?;
     Ok(())
 }
@@ -271,7 +230,7 @@ fn steps<V: Volume>(
         if !is_busy(sub, d) {
             return Ok(());
         }
-        match step(alloc, sub, report, d, Happened::RunIdle(d)) {
+        match step(alloc, sub, report, d, Asker::Run) {
             Err(NoMemory) => return Err(NoMemory),
             Ok(()) => (),
         }
@@ -317,7 +276,7 @@ pub(crate) fn do_line(
 {
     match line {
         EventLine::Start(path, d) => start(alloc, sub, report, path, d),
-        EventLine::Step(d) => step(alloc, sub, report, d, Happened::StepIdle(d)),
+        EventLine::Step(d) => step(alloc, sub, report, d, Asker::Step),
         EventLine::Run(d) => finish(alloc, sub, report, d),
         EventLine::Back(d) => back(alloc, sub, report, d),
         EventLine::Settle(d) => settle(alloc, sub, report, d),

@@ -5,6 +5,7 @@ ghost use Rattle.device_core.specs.State.{device_of};
 ghost use Rattle.run_report.specs.Beside.{id_of};
 ghost use Rattle.subsystem_defs.specs.Beside.{has_power, is_power, loose_count};
 ghost use Rattle.deck_run.specs.Loosening.{acts_when, all_loosed, is_quiet, loosed_by, power_by};
+ghost use Rattle.deck_run.specs.Seen.{acts_seen};
 
 use ckd_types::{DeviceNo, NoMemory};
 use device_core::Device;
@@ -12,7 +13,8 @@ use device_outside::Volume;
 use plain_defs::{Act, Item};
 use report_text::{LooseAnswer, Loosed};
 use std::alloc::Global;
-use subsystem_defs::{Event, EventEnd};
+use subsystem_core::EventEnd;
+use subsystem_defs::{Event, EventEnd as End};
 
 fn count_of<V: Volume>(device: &Device<V>) -> usize
     ensures value { result ≡ loose_count (device_of device.now).store }
@@ -60,9 +62,24 @@ fn done_acts<V: Volume>(quiet: bool, device: &Device<V>) -> &[Act]
     noted(device)
 }
 
-/// The acts that came with an event which ended so.
-fn acts_when<'a, V: Volume>(quiet: bool, end: &EventEnd, device: &'a Device<V>) -> &'a [Act]
+/// The acts that came with an event which ended so, as the definitions have its end.
+pub(crate) fn acts_when<'a, V: Volume>(quiet: bool, end: &End, device: &'a Device<V>) -> &'a [Act]
     ensures { result.now ≡ acts_when quiet end.now (device_of device.now) }
+{
+    match end {
+        End::Stepped(_) | End::Second(_) | End::Back(_) => noted(device),
+        End::Done => done_acts(quiet, device),
+        _ => &[],
+    }
+}
+
+/// The same, as the subsystem says it.
+pub(crate) fn acts_seen<'a, V: Volume>(
+    quiet: bool,
+    end: &EventEnd,
+    device: &'a Device<V>,
+) -> &'a [Act]
+    ensures { result.now ≡ acts_seen quiet end.now (device_of device.now) }
 {
     match end {
         EventEnd::Stepped(_) | EventEnd::Second(_) | EventEnd::Back(_) => noted(device),
@@ -113,22 +130,20 @@ fn has_power(items: &[Item]) -> bool
     false
 }
 
-/// What came to a device in an event that ended so: of its acts, and of a loss of power among the items that came.
+/// What came to a device in an event: of the acts that came with it, and of a loss of power among the items that came.
 pub(crate) fn all_loosed<V: Volume>(
     alloc: Global,
     d: DeviceNo,
     count: u16,
     device: &Device<V>,
-    quiet: bool,
-    end: &EventEnd,
+    acts: &[Act],
     items: &[Item],
 ) -> Result<Vec<Loosed>, NoMemory>
-    ensures { IfOk result (λ told. told.items ≡ all_loosed d count (device_of device.now).store.number
-        (acts_when quiet end.now (device_of device.now)) (has_power items.now)) }
+    ensures { IfOk result (λ told. told.items ≡ all_loosed d count (device_of device.now).store.number acts.now (has_power items.now)) }
 {
     let number = data_of(device);
     let mut told = Vec::new(alloc);
-    for act in acts_when(quiet, end, device) {
+    for act in acts {
         told.push(loosed_by(d, count, number, *act))?;
     }
     if has_power(items) && count != 0 {

@@ -37,7 +37,7 @@ fn join<V: Volume>(sub: &mut Subsystem<V>, a: DeviceNo, b: DeviceNo) -> Result<E
         Err(NoMemory) => return Err(NoMemory),
         Ok(end) => end,
     };
-    Ok(order_end(end))
+    Ok(order_end(&end))
 }
 
 /// A pair of two devices.
@@ -81,7 +81,7 @@ fn part(
         Err((NoMemory, _)) => return Err(NoMemory),
         Ok(end) => end,
     };
-    Ok(order_end(end))
+    Ok(order_end(&end))
 }
 
 /// A pair is taken apart. None of the new volume's calls fails.

@@ -9,10 +9,11 @@ ghost use Rattle.deck_run.specs.Counting.{more_calls};
 ghost use Rattle.deck_run.specs.Owning.{AreOwn, IsOpenOn};
 ghost use Rattle.deck_run.specs.Passing.{HasPassed};
 ghost use Rattle.deck_run.specs.Recording.{running_of};
+ghost use Rattle.deck_run.specs.Seen.{ShowsEnd};
 ghost use Rattle.deck_run.specs.Standing.{StandsAs};
 
 use crate::event::do_event;
-use crate::loosed::{all_loosed, is_quiet, loose_of};
+use crate::loosed::{acts_seen, all_loosed, is_quiet, loose_of};
 use ckd_types::{DeviceNo, NoMemory};
 use device_core::Device;
 use device_outside::Volume;
@@ -20,11 +21,11 @@ use plain_defs::Item;
 use report_text::Loosed;
 use run_report::{Calls, RunningProgram};
 use std::alloc::Global;
-use subsystem_core::Subsystem;
-use subsystem_defs::{Event, EventEnd};
+use subsystem_core::{EventEnd, Subsystem};
+use subsystem_defs::Event;
 
-/// What passed at an event of a device: its end, the program that ran there before it, how many items the journal had then, and the
-/// what came of data of cache fast write, and the volume calls of the event.
+/// What passed at an event of a device: how it ended, the program that ran there before it, how many items the journal had then,
+/// what came of data of cache fast write, and the volume calls of the event. The end of a command stands in the device's journal.
 #[derive(Drop)]
 pub(crate) struct Passed {
     pub end: EventEnd,
@@ -99,6 +100,7 @@ pub(crate) fn pass<V: Volume>(
     requires own { AreOwn sub.old.devices.items }
     ensures numbers { numbers_of sub.new.devices.items ≡ numbers_of sub.old.devices.items }
     ensures own { OnOk result (AreOwn sub.new.devices.items) }
+    ensures shows { IfOk result (λ passed. ShowsEnd sub.new d passed.end) }
     ensures passed { (run : runs.Subsystem) → StandsAs sub.old run → IfOk result (λ passed. HasPassed sub.new run e d passed) }
 {
     let device = sub.device(d);
@@ -107,11 +109,12 @@ pub(crate) fn pass<V: Volume>(
     let loose = loose_of(device);
     let before = calls_of(device);
     let quiet = is_quiet(&e);
-    let end = do_event(alloc, sub, d, e)?;
+    let end = do_event(sub, d, e)?;
     let behind = sub.device(d);
     let calls = calls_between(before, calls_of(behind))?;
     let came = behind_first(behind.journal(), items);
-    let acts = all_loosed(alloc, d, loose, behind, quiet, &end, came)?;
+    let noted = acts_seen(quiet, &end, behind);
+    let acts = all_loosed(alloc, d, loose, behind, noted, came)?;
     Ok(Passed {
         end,
         running,

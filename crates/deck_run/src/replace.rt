@@ -43,7 +43,7 @@ fn put_volume(
         Err((NoMemory, _)) => return Err(NoMemory),
         Ok(end) => end,
     };
-    Ok(order_end(end))
+    Ok(order_end(&end))
 }
 
 /// A new volume of empty tracks in place of a failed side's. None of its calls fails.

@@ -2,6 +2,7 @@ pub mod HistoryShown
 pub mod OneDevice
 pub mod ActsCome
 pub mod Quiet
+pub mod Ended
 mod ReportText
 pub mod Showing
 mod ToldAs

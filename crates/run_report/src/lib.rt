@@ -13,6 +13,8 @@ pub use law::{
     acts_come_to_a_history, events_show_a_history, histories_show, one_device_tells,
     quiet_events_tell_nothing, report_is_text, same_lines_are_told,
 };
-pub use record::{Calls, Gained, over_of, record_event, record_order, record_power_of};
+pub use record::{
+    Calls, Gained, over_of, record_ended, record_event, record_order, record_power_of,
+};
 pub use told::RunningProgram;
-pub use work::work_told;
+pub use work::half_told;

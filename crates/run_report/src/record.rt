@@ -1,14 +1,17 @@
 ghost use Rattle.std.specs.Prelude.{◌≡◌, ◌++◌, ◌∷◌, [], OnOk, map};
 ghost use Rattle.report_text.specs.declared.line.ReportLine.TheVariants as lines;
-ghost use Rattle.report_text.specs.Events.{loosed_line, program_over_lines};
+ghost use Rattle.report_text.specs.Ends.{data_lines, sense_lines};
+ghost use Rattle.report_text.specs.Events.{ended_lines, first_lines, io_lines, loosed_line, program_over_lines};
 ghost use Rattle.run_report.specs.Answers.{order_answer};
 ghost use Rattle.run_report.specs.Beside.{over_of, program_over};
+ghost use Rattle.run_report.specs.Events.{end_told};
 ghost use Rattle.run_report.specs.OneDevice.{lines_by, power_lines_by};
 
 use crate::answers::{how_over, order_answer};
-use ckd_types::{DeviceNo, NoMemory};
+use crate::told::RunningProgram;
+use ckd_types::{CommandEnd, DeviceNo, NoMemory, PathNo, Sense};
 use plain_defs::{Entry, Item};
-use report_text::{Happened, Loosed, Order, ProgramOver, ReportLine, RunEvent, RunRecord};
+use report_text::{EndLine, Happened, Loosed, Order, ProgramOver, ReportLine, RunEvent, RunRecord};
 use subsystem_defs::EventEnd;
 
 fn program_over(device: DeviceNo, entry: &Entry) -> ProgramOver
@@ -83,6 +86,95 @@ fn record_acts(run: &mut RunRecord, acts: &[Loosed]) -> Result<(), NoMemory>
     for act in acts {
         run.push(ReportLine::Loose(act.device, act.answer))?;
     }
+    Ok(())
+}
+
+fn record_sent(run: &mut RunRecord, sent: &[u8]) -> Result<(), NoMemory>
+    ensures { OnOk result (run.new ≡ run.old ++ data_lines sent.now) }
+{
+    if sent.is_empty() {
+        return Ok(());
+    }
+    run.push_data(sent)
+}
+
+fn record_sense(run: &mut RunRecord, sense: &Option<Sense>) -> Result<(), NoMemory>
+    ensures { OnOk result (run.new ≡ run.old ++ sense_lines sense.now) }
+{
+    match sense {
+        Some(sense) => run.push(ReportLine::Sense(*sense)),
+        None => Ok(()),
+    }
+}
+
+/// The lines of a command's end.
+fn record_end(
+    run: &mut RunRecord,
+    path: PathNo,
+    device: DeviceNo,
+    ordinal: u16,
+    end: &CommandEnd,
+) -> Result<(), NoMemory>
+    ensures { OnOk result (run.new ≡ run.old ++ ended_lines path device ordinal end.now) }
+{
+    run.push(ReportLine::End(EndLine {
+        path,
+        device,
+        ordinal,
+        index: end.index,
+        status: end.status,
+        residual: end.residual,
+        note: end.note,
+    }))?;
+    record_sent(run, end.sent.as_slice())?;
+    record_sense(run, &end.sense)?;
+    Ok(())
+}
+
+/// The same, of the program that ran there.
+fn record_first(
+    run: &mut RunRecord,
+    device: DeviceNo,
+    running: &Option<RunningProgram>,
+    end: &CommandEnd,
+) -> Result<(), NoMemory>
+    ensures { OnOk result (run.new ≡ run.old ++ first_lines (end_told device running.now end.now)) }
+{
+    match running {
+        Some(r) => record_end(run, r.path, device, r.ordinal, end),
+        None => run.push(ReportLine::StepIdle(device)),
+    }
+}
+
+fn record_calls(run: &mut RunRecord, calls: Calls) -> Result<(), NoMemory>
+    ensures { OnOk result (run.new ≡ run.old ++ io_lines calls.reads calls.writes) }
+{
+    if calls.reads == 0 && calls.writes == 0 {
+        return Ok(());
+    }
+    run.push(ReportLine::Io {
+        reads: calls.reads,
+        writes: calls.writes,
+    })
+}
+
+/// Records an event of one device with which a command ended, by the program that ran there before it. The end is read where it
+/// stands, and only the bytes that it sent are copied.
+pub fn record_ended(
+    run: &mut RunRecord,
+    device: DeviceNo,
+    running: &Option<RunningProgram>,
+    end: &CommandEnd,
+    gained: &Gained,
+    calls: Calls,
+) -> Result<(), NoMemory>
+    ensures { OnOk result (run.new ≡ run.old ++ lines_by device (end_told device running.now end.now) gained.now.acts.now calls.reads calls.writes
+        gained.now.items.now) }
+{
+    record_first(run, device, running, end)?;
+    record_acts(run, gained.acts)?;
+    record_calls(run, calls)?;
+    record_over(run, &over_of(device, gained.items))?;
     Ok(())
 }
 

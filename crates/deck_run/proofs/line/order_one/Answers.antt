@@ -1,4 +1,5 @@
 use Rattle.std.proofs.Common.{◌∙◌, ap}
+use Rattle.run_report.specs.Answers.{order_answer}
 use Rattle.subsystem_defs.specs.Beside.{behind_first}
 use Rattle.deck_run.proofs.Recorded.{order_recorded}
 use Rattle.deck_run.proofs.line.order_one.Goals as goal
@@ -12,4 +13,5 @@ returns-clause-lines g c = λ run all.
     c.device.result.now c.device.ensures c.behind_first-items.result.now
     (c.behind_first-items.ensures ∙ ap (behind_first c.in_ok-passed.passed.items) c.journal.ensures) c.deref.result.now c.deref.ensures.value
     c.args.report.now c.record_passed.new.report
-    c.args.order c.order_answer.result c.make_room.new.self c.in_ok-make_room.ensures c.order_answer.ensures c.in_ok-record_passed.ensures
+    c.args.order c.order_answer.result c.make_room.new.self c.in_ok-make_room.ensures
+    (c.order_answer.ensures ∙ ap order_answer c.order_end.ensures) c.in_ok-record_passed.ensures

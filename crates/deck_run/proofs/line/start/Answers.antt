@@ -1,4 +1,5 @@
 use Rattle.std.proofs.Common.{◌∙◌, ap}
+use Rattle.run_report.specs.Answers.{start_answer}
 use Rattle.subsystem_defs.specs.declared.event.Event.TheVariants as events
 use Rattle.subsystem_defs.specs.Beside.{behind_first}
 use Rattle.deck_run.proofs.Recorded.{start_recorded}
@@ -13,4 +14,5 @@ returns-clause-lines g c = λ run all.
     c.device.result.now c.device.ensures c.behind_first-items.result.now
     (c.behind_first-items.ensures ∙ ap (behind_first c.in_ok-passed.passed.items) c.journal.ensures) c.deref.result.now c.deref.ensures.value
     c.args.report.now c.record_passed.new.report
-    c.args.path c.start_answer.result c.make_room.new.self c.in_ok-make_room.ensures c.start_answer.ensures c.in_ok-record_passed.ensures
+    c.args.path c.start_answer.result c.make_room.new.self c.in_ok-make_room.ensures
+    (c.start_answer.ensures ∙ ap start_answer c.start_end.ensures) c.in_ok-record_passed.ensures

@@ -1,8 +1,12 @@
-use Rattle.std.proofs.Common.{◌∙◌, ap}
 use Rattle.subsystem_defs.specs.declared.event.Event.TheVariants as events
-use Rattle.subsystem_defs.specs.Beside.{behind_first}
+use Rattle.deck_run.specs.Seen.{idle_told}
 use Rattle.deck_run.proofs.Recorded.{work_recorded}
+use Rattle.deck_run.proofs.Seen.{shows_at}
 use Rattle.deck_run.proofs.line.step.Goals as goal
+
+pub record_work-requires : goal.record_work-requires
+record_work-requires g c =
+    shows_at c.pass.new.sub c.args.d c.in_ok-passed.passed.end c.device.result.now c.device.ensures c.in_ok-passed.ensures.shows
 
 pub returns-clause-stands : goal.returns-clause-stands
 returns-clause-stands g c = λ run all. (c.in_ok-passed.ensures.passed run all).stands
@@ -10,7 +14,5 @@ returns-clause-stands g c = λ run all. (c.in_ok-passed.ensures.passed run all).
 pub returns-clause-lines : goal.returns-clause-lines
 returns-clause-lines g c = λ run all.
     work_recorded c.pass.new.sub run (events.Step c.args.d) c.args.d c.in_ok-passed.passed (c.in_ok-passed.ensures.passed run all)
-    c.device.result.now c.device.ensures c.behind_first-items.result.now
-    (c.behind_first-items.ensures ∙ ap (behind_first c.in_ok-passed.passed.items) c.journal.ensures) c.deref.result.now c.deref.ensures.value
-    c.args.report.now c.record_passed.new.report
-    c.args.idle c.work_told-happened.result c.make_room.new.self c.in_ok-make_room.ensures c.work_told-happened.ensures c.in_ok-record_passed.ensures
+    c.device.result.now c.device.ensures c.args.report.now c.record_work.new.report c.make_room.new.self c.in_ok-make_room.ensures
+    (idle_told c.args.d c.args.asker) c.in_ok-record_work.ensures
