@@ -1,6 +1,6 @@
 -- From what an event of the code came to, to what happens in a run.
 use Rattle.std.proofs.Common.{◌≡◌, ◌≤◌, ◌∙◌, arith, ℕ, Bool, true, false, List, [], ◌∷◌, Option, Some, None, refl, sym, ap, subst}
-use Rattle.std.specs.Prelude.{Result, Ok, Err, OnOk, IfOk, option_map, is_some, IfSome, IsSome, ◌+◌, ◌==◌, if◌then◌else◌}
+use Rattle.std.specs.Prelude.{Result, Ok, Err, OnOk, option_map, is_some, IfSome, IsSome, ◌+◌, ◌==◌, if◌then◌else◌}
 use Rattle.std.proofs.lemmas.Bool.{cond_both}
 use Rattle.std.proofs.lemmas.Bool.Decides.{nat_tests}
 use Rattle.ckd_types.specs.declared.channel.Ccw.{Ccw}
@@ -617,14 +617,6 @@ open_may_come ns n events.RepairStore on here = absurd on
 open_may_come ns n (events.Pair a b) on here = absurd on
 open_may_come ns n (events.Suspend d) on here = may_by ns n d on here
 open_may_come ns n (events.Resume d) on here = may_by ns n d on here
-
-pub all_ok : {X E : Type 0} (r : Result X E) (p : Type 0) → p → OnOk r p
-all_ok (Ok x) p h = h
-all_ok (Err e) p h = tt
-
-pub where_so : {X E : Type 0} (r : Result X E) (p q : X → Type 0) → ((x : X) → p x → q x) → IfOk r p → IfOk r q
-where_so (Ok x) p q f h = f x h
-where_so (Err e) p q f h = tt
 
 pub ok_so : {X E : Type 0} (r : Result X E) (p q : Type 0) → (p → q) → OnOk r p → OnOk r q
 ok_so (Ok x) p q f h = f h

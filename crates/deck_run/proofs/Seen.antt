@@ -188,8 +188,9 @@ module _ {V : Type 0} {G : Ghosts V} where
     command_tells e ended last is =
         passed_is (end_told d p.running e) (work_told d p.running idle told) (ended_is y.past told d p.running idle e p.end ended last seen) is
 
-    pub work_tells : is_ended p.end ≡ false →
-        new ≡ old ++ lines_by d (work_seen d p.running idle p.end) acts p.calls.reads p.calls.writes items →
-        new ≡ old ++ lines_passed d y p (work_told d p.running idle told)
-    work_tells ended is =
-        passed_is (work_seen d p.running idle p.end) (work_told d p.running idle told) (work_is y.past told d p.running idle p.end ended seen) is
+    pub work_tells : (i h : report.Happened) → i ≡ idle → h ≡ work_seen d p.running i p.end → is_ended p.end ≡ false →
+        new ≡ old ++ lines_by d h acts p.calls.reads p.calls.writes items → new ≡ old ++ lines_passed d y p (work_told d p.running idle told)
+    work_tells i h same did_so ended is =
+        passed_is h (work_told d p.running idle told)
+        (work_is y.past told d p.running idle p.end ended seen
+        ∙ sym (did_so ∙ ap (λ (x : report.Happened). work_seen d p.running x p.end) same)) is

@@ -13,15 +13,15 @@ pub returns-then-is_ended : goal.returns-then-is_ended
 returns-then-is_ended g c = λ told seen.
     ok_so c.record_command.result _ _
     (command_tells c.args.device.now c.args.d c.args.passed.now (idle_told c.args.d c.args.asker) told c.behind_first-items.result.now
-    (c.behind_first-items.ensures ∙ ap (behind_first c.args.passed.now.items) c.journal.ensures) c.as_slice-acts.result.now c.as_slice-acts.ensures
+    (c.behind_first-items.ensures ∙ ap (behind_first c.args.passed.now.items) c.journal.ensures) c.as_slice-acts.result.now c.as_slice-acts.ensures.value
     c.args.report.now c.record_command.new.report seen c.last_end-end.result.now (sym c.is_ended.ensures ∙ c.if-is_ended.true) c.last_end-end.ensures)
     c.record_command.ensures
 
 pub returns : goal.returns
 returns g c = λ told seen.
     ok_so c.record_passed.result _ _
-    (λ is. work_tells c.args.device.now c.args.d c.args.passed.now (idle_told c.args.d c.args.asker) told c.behind_first-items.result.now
-    (c.behind_first-items.ensures ∙ ap (behind_first c.args.passed.now.items) c.journal.ensures) c.as_slice-acts.result.now c.as_slice-acts.ensures
-    c.args.report.now c.record_passed.new.report seen (sym c.is_ended.ensures ∙ c.if-is_ended.false)
-    (rw (c.work_seen-happened.ensures, c.idle_told-idle.ensures) at is))
+    (work_tells c.args.device.now c.args.d c.args.passed.now (idle_told c.args.d c.args.asker) told c.behind_first-items.result.now
+    (c.behind_first-items.ensures ∙ ap (behind_first c.args.passed.now.items) c.journal.ensures) c.as_slice-acts.result.now c.as_slice-acts.ensures.value
+    c.args.report.now c.record_passed.new.report seen c.idle_told-idle.result c.work_seen-happened.result c.idle_told-idle.ensures
+    c.work_seen-happened.ensures (sym c.is_ended.ensures ∙ c.if-is_ended.false))
     c.record_passed.ensures
