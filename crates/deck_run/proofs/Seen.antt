@@ -37,14 +37,11 @@ use Rattle.deck_run.specs.Sweeping.{order_end}
 some_is : {X : Type 0} {x y : X} → Some x ≡ Some y → x ≡ y
 some_is e = cc
 
-none_some : {X : Type 0} {x : X} → None ≡ Some x → ⊥
-none_some e = absurd (cc)
-
 -- of an end with a part of its own
 end_so : {A : Type 0} (f : A → defs.EventEnd) (o : Option A) (told : defs.EventEnd) (q : defs.EventEnd → Type 0) → end_of f o ≡ Some told →
     ((a : A) → q (f a)) → q told
 end_so f (Some a) told q is h = subst q (some_is is) (h a)
-end_so f None told q is h = absurd (none_some is)
+end_so f None told q is h = absurd (cc)
 
 module _ (p : Past) (told : defs.EventEnd) where
   pub acts_are : (quiet : Bool) (a : EventEnd) (d : DefinedDevice) → end_seen p a ≡ Some told → acts_seen quiet a d ≡ acts_when quiet told d

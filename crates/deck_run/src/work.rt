@@ -2,7 +2,6 @@
 
 ghost use Rattle.std.specs.Prelude.{◌≡◌, ◌++◌, IsSome, OnOk, Some};
 ghost use Rattle.device_core.specs.State.{last_end_of};
-ghost use Rattle.report_text.specs.declared.event.Happened.{Happened};
 ghost use Rattle.run_report.specs.Events.{end_told, work_told};
 ghost use Rattle.run_report.specs.OneDevice.{lines_by};
 ghost use Rattle.subsystem_core.specs.Ends.{end_seen};
