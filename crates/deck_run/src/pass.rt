@@ -89,6 +89,7 @@ pub(crate) fn behind_first(items: &[Item], n: usize) -> &[Item]
 }
 
 /// An event of one device, which is what happens in the defined run.
+#[inline(always)]
 pub(crate) fn pass<V: Volume>(
     alloc: Global,
     sub: &mut Subsystem<V>,

@@ -186,6 +186,7 @@ fn record_command(
 }
 
 /// The lines of a piece of work. The end of a command is read where it stands in the device's journal.
+#[inline(always)]
 pub(crate) fn record_work<V: Volume>(
     report: &mut RunRecord,
     device: &Device<V>,
