@@ -1,0 +1,56 @@
+"""Runs programs on decks: what they write, their instructions, their processor time, their memory."""
+import os
+import re
+import shlex
+import subprocess
+import sys
+import tempfile
+
+HERE = os.path.dirname(os.path.abspath(__file__))
+OURS = os.environ.get("PROGRAM", os.path.join(HERE, "../crates/deck_runner/out/deck_runner"))
+EVENT = re.compile(rb"^(?:START|END|BACK|PAIR|UNPAIR|FAIL|REPAIR) ", re.M)
+
+
+def stop(why):
+    sys.exit(f"{os.path.basename(sys.argv[0])}: {why}")
+
+
+def have_ours():
+    if not os.access(OURS, os.X_OK):
+        stop("there is no program yet: run rt ci first")
+    return [os.path.abspath(OURS)]
+
+
+def words_of(command):
+    return shlex.split(command)
+
+
+def report(program, deck, word="run"):
+    return subprocess.run([*program, word], input=deck.encode(), capture_output=True, check=True).stdout
+
+
+def events(text):
+    return len(EVENT.findall(text))
+
+
+def instructions(program, deck, word="run"):
+    """By callgrind, which counts the same each time."""
+    counter = ["valgrind", "--tool=callgrind", "--callgrind-out-file=/dev/null", "--trace-children=yes"]
+    told = subprocess.run([*counter, *program, word], input=deck.encode(), stdout=subprocess.DEVNULL, stderr=subprocess.PIPE, check=True)
+    return int(re.findall(rb"Collected : (\d+)", told.stderr)[-1])
+
+
+def seconds_and_memory(programs, deck, word="run", times=5):
+    """For each program the least processor time of some runs in turn, and the most memory that was resident, in KiB."""
+    found = [[] for _ in programs]
+    with tempfile.NamedTemporaryFile("w") as file:
+        file.write(deck)
+        file.flush()
+        for _ in range(times):
+            for program, runs in zip(programs, found):
+                with open(file.name, "rb") as source:
+                    timed = ["/usr/bin/time", "-f", "%U %S %M", *program, word]
+                    told = subprocess.run(timed, stdin=source, stdout=subprocess.DEVNULL, stderr=subprocess.PIPE, text=True, check=True)
+                user, system, memory = told.stderr.split()[-3:]
+                runs.append((float(user) + float(system), int(memory)))
+    return [(min(seconds for seconds, _ in runs), max(memory for _, memory in runs)) for runs in found]
