@@ -1,5 +1,5 @@
 #!/usr/bin/env python3
-"""Writes the deck of a kind: bench/kind_decks.py KIND [UNITS] [CYLINDERS] [FRAMES]
+"""Writes the deck of a kind: bench/kind_decks.py KIND [UNITS]
 
 A kind is a function. It puts what comes before (tracks with records, a pair) into a deck, and then asks for units: each is a
 program or a few, and their event lines. Where a deck declares more units than it runs, the rest are programs that never start.
@@ -7,6 +7,7 @@ program or a few, and their event lines. Where a deck declares more units than i
 import sys
 
 HEADS = 15
+OTHERS = 8
 EIGHT = "1122334455667788"
 
 
@@ -41,7 +42,7 @@ class Deck:
 
     def __init__(self, run, declared, cylinders=1, frames=64, slots=16, devices=1):
         self.run, self.declared, self.cylinders, self.frames, self.slots = run, declared, cylinders, frames, slots
-        self.devices, self.programs, self.events, self.runs, self.units = devices, [], [], True, 0
+        self.devices, self.programs, self.events, self.runs, self.units, self.others = devices, [], [], True, 0, 0
 
     def track(self, number):
         """Fifteen tracks a cylinder, the number's of all."""
@@ -81,9 +82,23 @@ class Deck:
             self.program([self.extent("C0", attributes), *format_track(track, size)], 1, device)
             self.event(f"START 1 {device}", f"RUN {device}")
 
+    def fill(self, count):
+        """Reads so many tracks of other devices, so that they have frames."""
+        tracks = [(OTHERS + number // 960, number % 960) for number in range(count)]
+        self.others = -(-count // 960)
+        for device in range(OTHERS, OTHERS + self.others):
+            mine = [track for at, track in tracks if at == device]
+            for first in range(0, len(mine), 127):
+                words = [extent("40", "C0")]
+                for track in mine[first : first + 127]:
+                    words += [locate("06", 1, track, 0), "CCW 06 60 8"]
+                self.program(words, 4, device)
+                self.event(f"START 4 {device}", f"RUN {device}")
+
     def text(self):
         head = ["DECK 1", f"CACHE {self.frames}", f"STORE {self.slots}"]
         head += [f"DEVICE {device} 3390 {self.cylinders}" for device in range(self.devices)]
+        head += [f"DEVICE {device} 3390 64" for device in range(OTHERS, OTHERS + self.others)]
         return "\n".join([*head, *self.programs, "EVENTS", *self.events]) + "\n"
 
 
@@ -122,14 +137,16 @@ def tracks(deck):
 
 
 def misses(deck):
-    """Reads of eight bytes, each from a track that isn't in the cache: 90 tracks in turn over fewer frames."""
-    deck.cylinders = max(deck.cylinders, 6)
-    deck.formatted(range(90), 4096)
+    """Reads of eight bytes, each from a track that isn't in the cache: of half as many tracks again as there are frames, in turn."""
+    count = max(15, 3 * deck.frames // 2)
+    deck.cylinders = max(deck.cylinders, -(-count // HEADS))
+    places = [number * HEADS * deck.cylinders // count for number in range(count)]
+    deck.formatted(places, 4096)
     number = 0
     while deck.unit():
         words = [deck.extent("40", "C0")]
         for _ in range(60):
-            words += [locate("06", 1, number % 90, 12), read(8)]
+            words += [locate("06", 1, places[number % count], 12), read(8)]
             number += 1
         deck.stepped(words)
 
@@ -259,13 +276,14 @@ KINDS = {
 BY_NAME = {kind.__name__: kind for kind in KINDS}
 
 
-def deck_of(kind, run, declared=None, cylinders=1, frames=64):
+def deck_of(kind, run, declared=None, cylinders=1, frames=64, filled=0):
+    """A deck of so many units, with frames of which some are filled before."""
     deck = Deck(run, declared or run, cylinders, frames)
+    deck.fill(filled)
     kind(deck)
     return deck.text()
 
 
 if __name__ == "__main__":
-    name, *numbers = sys.argv[1:]
-    numbers = [int(it) for it in numbers] or [KINDS[BY_NAME[name]][0]]
-    print(deck_of(BY_NAME[name], numbers[0], None, *numbers[1:]), end="")
+    name, *units = sys.argv[1:]
+    print(deck_of(BY_NAME[name], int((units or [KINDS[BY_NAME[name]][0]])[0])), end="")

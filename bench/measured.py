@@ -8,6 +8,10 @@ import tempfile
 
 HERE = os.path.dirname(os.path.abspath(__file__))
 OURS = os.environ.get("PROGRAM", os.path.join(HERE, "../crates/deck_runner/out/deck_runner"))
+AUDIT = os.environ.get("AUDIT_PROGRAM", os.path.join(HERE, "../crates/audit_runner/out/audit_runner"))
+# A copy or a fill by one instruction (rep movsb) is counted once a byte, whereas a loop of wide ones isn't: so no program uses the first.
+THRESHOLDS = "glibc.cpu.x86_rep_movsb_threshold=1000000000:glibc.cpu.x86_rep_stosb_threshold=1000000000"
+COUNTED = {**os.environ, "GLIBC_TUNABLES": THRESHOLDS}
 EVENT = re.compile(rb"^(?:START|END|BACK|PAIR|UNPAIR|FAIL|REPAIR) ", re.M)
 
 
@@ -15,10 +19,10 @@ def stop(why):
     sys.exit(f"{os.path.basename(sys.argv[0])}: {why}")
 
 
-def have_ours():
-    if not os.access(OURS, os.X_OK):
+def program_at(path):
+    if not os.access(path, os.X_OK):
         stop("there is no program yet: run rt ci first")
-    return [os.path.abspath(OURS)]
+    return [os.path.abspath(path)]
 
 
 def words_of(command):
@@ -36,7 +40,7 @@ def events(text):
 def instructions(program, deck, word="run"):
     """By callgrind, which counts the same each time."""
     counter = ["valgrind", "--tool=callgrind", "--callgrind-out-file=/dev/null", "--trace-children=yes"]
-    told = subprocess.run([*counter, *program, word], input=deck.encode(), stdout=subprocess.DEVNULL, stderr=subprocess.PIPE, check=True)
+    told = subprocess.run([*counter, *program, word], input=deck.encode(), env=COUNTED, stdout=subprocess.DEVNULL, stderr=subprocess.PIPE, check=True)
     return int(re.findall(rb"Collected : (\d+)", told.stderr)[-1])
 
 
