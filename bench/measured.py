@@ -44,17 +44,27 @@ def instructions(program, deck, word="run"):
     return int(re.findall(rb"Collected : (\d+)", told.stderr)[-1])
 
 
+def timed(words, file=None):
+    """The processor time of a command, in seconds, and the most memory that was resident, in KiB."""
+    with open(file or os.devnull, "rb") as source, tempfile.TemporaryFile("w+") as told:
+        # /usr/bin/time is small, so that the memory isn't that of this program before it became the command
+        started = subprocess.Popen(["/usr/bin/time", "-f", "%M", *words], stdin=source, stdout=subprocess.DEVNULL, stderr=told)
+        _, status, used = os.wait4(started.pid, 0)
+        started.returncode = os.waitstatus_to_exitcode(status)
+        told.seek(0)
+        memory = told.read().split()
+    if started.returncode:
+        stop(f"{' '.join(words)} ended with status {started.returncode}")
+    return used.ru_utime + used.ru_stime, int(memory[-1])
+
+
 def seconds_and_memory(programs, deck, word="run", times=5):
-    """For each program the least processor time of some runs in turn, and the most memory that was resident, in KiB."""
+    """For each program the least processor time of some runs in turn, and the most memory."""
     found = [[] for _ in programs]
     with tempfile.NamedTemporaryFile("w") as file:
         file.write(deck)
         file.flush()
         for _ in range(times):
             for program, runs in zip(programs, found):
-                with open(file.name, "rb") as source:
-                    timed = ["/usr/bin/time", "-f", "%U %S %M", *program, word]
-                    told = subprocess.run(timed, stdin=source, stdout=subprocess.DEVNULL, stderr=subprocess.PIPE, text=True, check=True)
-                user, system, memory = told.stderr.split()[-3:]
-                runs.append((float(user) + float(system), int(memory)))
+                runs.append(timed([*program, word], file.name))
     return [(min(seconds for seconds, _ in runs), max(memory for _, memory in runs)) for runs in found]
