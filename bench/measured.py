@@ -37,18 +37,20 @@ def events(text):
     return len(EVENT.findall(text))
 
 
-def instructions(program, deck, word="run"):
+def instructions(program, deck="", word="run"):
     """By callgrind, which counts the same each time."""
     counter = ["valgrind", "--tool=callgrind", "--callgrind-out-file=/dev/null", "--trace-children=yes"]
-    told = subprocess.run([*counter, *program, word], input=deck.encode(), env=COUNTED, stdout=subprocess.DEVNULL, stderr=subprocess.PIPE, check=True)
+    words = [*counter, *program, *word.split()]
+    told = subprocess.run(words, input=deck.encode(), env=COUNTED, stdout=subprocess.DEVNULL, stderr=subprocess.PIPE, check=True)
     return int(re.findall(rb"Collected : (\d+)", told.stderr)[-1])
 
 
-def timed(words, file=None):
+def timed(words, file=None, **environment):
     """The processor time of a command, in seconds, and the most memory that was resident, in KiB."""
     with open(file or os.devnull, "rb") as source, tempfile.TemporaryFile("w+") as told:
         # /usr/bin/time is small, so that the memory isn't that of this program before it became the command
-        started = subprocess.Popen(["/usr/bin/time", "-f", "%M", *words], stdin=source, stdout=subprocess.DEVNULL, stderr=told)
+        command = ["/usr/bin/time", "-f", "%M", *words]
+        started = subprocess.Popen(command, stdin=source, stdout=subprocess.DEVNULL, stderr=told, env={**os.environ, **environment})
         _, status, used = os.wait4(started.pid, 0)
         started.returncode = os.waitstatus_to_exitcode(status)
         told.seek(0)
