@@ -102,7 +102,7 @@ class Deck:
         return "\n".join([*head, *self.programs, "EVENTS", *self.events]) + "\n"
 
 
-def in_turn(first, command, tracks, times=10, records=11):
+def in_turn(first, command, tracks, times=11, records=11):
     """A program: a locate record and commands on eleven records, track by track."""
     words = [first]
     for time in range(times):
@@ -145,7 +145,7 @@ def misses(deck):
     number = 0
     while deck.unit():
         words = [deck.extent("40", "C0")]
-        for _ in range(60):
+        for _ in range(77):
             words += [locate("06", 1, places[number % count], 12), read(8)]
             number += 1
         deck.stepped(words)
@@ -196,10 +196,10 @@ def destaging(deck):
     deck.event("SETTLE 0")
     while deck.unit():
         words = [deck.extent("80", "C0")]
-        for number in range(30):
+        for number in range(43):
             words += [locate("01", 1, deck.track(number % 15), 1 + number % 12), update(8)]
         deck.program(words)
-        deck.event("START 1 0", "STEP 0", *["STEP 0", "STEP 0", "BACK 0"] * 30)
+        deck.event("START 1 0", "STEP 0", *["STEP 0", "STEP 0", "BACK 0"] * 43)
 
 
 def pairs(deck):
@@ -209,10 +209,10 @@ def pairs(deck):
     deck.event("PAIR 0 1", "SETTLE 0")
     while deck.unit():
         words = [deck.extent("80", "C1")]
-        for number in range(30):
+        for number in range(43):
             words += [locate("01", 1, deck.track(number % 15), 1 + number % 12), update(8)]
         deck.program(words)
-        deck.event("START 1 0", "STEP 0", *["STEP 0"] * 90)
+        deck.event("START 1 0", "STEP 0", *["STEP 0"] * 129)
 
 
 def copies(deck):
@@ -267,10 +267,10 @@ def paths(deck):
             deck.event(*[f"STEP {device}" for device in range(8)])
 
 
-# Of each kind how many units are timed, and how many are counted.
+# Of each kind how many units are timed (most have nearly 65,536 event lines), and how many are counted.
 KINDS = {
-    hits8: (500, 4), hits4096: (120, 4), tracks: (60, 2), misses: (400, 2), ahead: (60, 2), fast8: (480, 4), fast4096: (480, 4),
-    destaging: (480, 4), cachefast: (480, 4), through: (480, 4), pairs: (480, 4), copies: (3000, 20), recovery: (480, 4),
+    hits8: (488, 4), hits4096: (120, 4), tracks: (60, 2), misses: (415, 2), ahead: (60, 2), fast8: (488, 4), fast4096: (488, 4),
+    destaging: (495, 4), cachefast: (488, 4), through: (488, 4), pairs: (495, 4), copies: (3000, 20), recovery: (480, 4),
     formats: (500, 4), searches: (250, 1), paths: (60, 1),
 }
 BY_NAME = {kind.__name__: kind for kind in KINDS}
