@@ -1,0 +1,46 @@
+-- How an audit goes along a run, from each event line of the deck to the next.
+use Rattle.std.specs.Prelude.{◌≡◌, ◌++◌, ℕ, List, [], ◌∷◌, map}
+use Rattle.std.specs.List.{flat_map}
+use Rattle.deck_plan.specs.declared.event.EventLine.{EventLine}
+use Rattle.deck_plan.specs.declared.event.EventLine.TheVariants as events
+use Rattle.report_text.specs.declared.line.ReportLine.{ReportLine}
+use Rattle.report_places.specs.declared.state.Due.TheVariants.{Nothing}
+use Rattle.deck_audit.specs.State.{AuditState}
+use Rattle.run_report.specs.Closing.{ending_lines}
+use Rattle.run_report.specs.Events.{lines_of}
+use Rattle.subsystem_defs.specs.Closing.{ending}
+use Rattle.subsystem_defs.specs.Lines.{asked_by, last_behind, line_logged, run_lines}
+use Rattle.subsystem_defs.specs.Subsystem.{Subsystem}
+use Rattle.run_audit_laws.specs.Standing.{LeadsBy, stand}
+use Rattle.run_audit_laws.specs.Steps.{LeadsTowards}
+
+-- the subsystem behind an event line
+abbrev pub line_behind : Subsystem → EventLine → Subsystem
+line_behind s e = last_behind s (line_logged s (asked_by e))
+
+-- the lines of an event line lead the audit from where it stands before it to where it stands behind it, or to where it still waits for
+-- the next line
+abbrev pub LineGoes : Subsystem → EventLine → Type 0
+LineGoes s e =
+    (later : List EventLine) → LeadsTowards (stand s (e ∷ later)) (flat_map lines_of (line_logged s (asked_by e))) (stand (line_behind s e) later)
+
+-- a volume's failure may be told by a line that reads as one of the work before it
+abbrev pub IsNoVolumeFailure : EventLine → Type 0
+IsNoVolumeFailure (events.FailVolume d side) = ⊥
+IsNoVolumeFailure e = Unit {0}
+
+-- so does each line of these, run one after another
+abbrev pub AllGo : Subsystem → List EventLine → Type 0
+AllGo s [] = Unit {0}
+AllGo s (e ∷ later) = IsNoVolumeFailure e × LineGoes s e × AllGo (line_behind s e) later
+
+abbrev pub behind_lines : Subsystem → List EventLine → Subsystem
+behind_lines s events = last_behind s (run_lines (map asked_by events) s)
+
+-- the report of these event lines, to FINISH
+abbrev pub report_from : Subsystem → List EventLine → List ReportLine
+report_from s events = flat_map lines_of (run_lines (map asked_by events) s) ++ ending_lines (ending (behind_lines s events))
+
+-- the audit is led to its end
+abbrev pub WholeLeads : AuditState → List ReportLine → Type 0
+WholeLeads s lines = (t : AuditState) × LeadsBy s lines t × (t.due ≡ Nothing)
