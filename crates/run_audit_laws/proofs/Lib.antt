@@ -14,3 +14,6 @@ mod Commands
 mod StillLines
 mod StepEnds
 mod Backs
+mod NextLines
+mod Runs
+mod CameOut
