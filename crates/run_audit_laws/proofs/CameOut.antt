@@ -90,12 +90,14 @@ use Rattle.plain_defs.specs.Legal.{
 }
 use Rattle.plain_defs.specs.Loose.{act_done, is_loose, is_loose_in}
 use Rattle.plain_defs.specs.PlainState.{LooseTrack, PathsState, PlainState}
+use Rattle.plain_defs.specs.Program as P
 use Rattle.plain_defs.specs.Program.{Part, acts_at, acts_done, part_of}
 use Rattle.plain_defs.proofs.PartLemmas.{IsBeside, acted_beside, more_ends, part_more}
 use Rattle.device_defs.specs.Command.{is_loss}
 use Rattle.device_defs.specs.Device.{all_acted}
 use Rattle.device_laws.proofs.HistoryEnds.{one_longer}
 use Rattle.device_laws.proofs.OpenProgram.{bare_before, part_is_acted, state_here, with_one_act}
+use Rattle.deck_audit.specs.Device as A
 use Rattle.deck_audit.specs.Device.{
   AuditedDevice,
   check_end,
@@ -231,7 +233,7 @@ module _ (s : PlainState) (path : ℕ) (ccws : List Ccw) (xs : List Acted) (n : 
 
   beside_behind : IsBeside bare behind
   beside_behind =
-      subst (λ (p : Part). IsBeside bare p) (sym (part_is_acted path ccws s more n ∙ ap (λ (p : Part). Rattle.plain_defs.specs.Program.acted more p)
+      subst (λ (p : Part). IsBeside bare p) (sym (part_is_acted path ccws s more n ∙ ap (λ (p : Part). P.acted more p)
       (same_bare s path ccws n acts xs))) (acted_beside more bare)
 
   same_next : behind.next ≡ before.next
@@ -528,7 +530,7 @@ one_loose (x ∷ l) t firm = by_test (x.track == t) (one_loose l t firm) where
   by_test false more = more
 
 loosens_by : (p : Part) (edit : Option TrackEdit) (t : ℕ) → track_of edit ≡ Some t → is_provisional p.stance.extent ≡ true → is_loose p.state t ≡ false →
-    Rattle.deck_audit.specs.Device.loosens p edit t ≡ true
+    A.loosens p edit t ≡ true
 loosens_by p (Some e) t is provisional not_loose =
     let same : e.track ≡ t = cc in
     both ((e.track == t) && is_provisional p.stance.extent) (not (is_loose p.state t))

@@ -17,3 +17,4 @@ mod Backs
 mod NextLines
 mod Runs
 mod CameOut
+mod Enough
