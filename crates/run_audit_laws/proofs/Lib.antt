@@ -18,3 +18,4 @@ mod NextLines
 mod Runs
 mod CameOut
 mod Enough
+mod StepParts

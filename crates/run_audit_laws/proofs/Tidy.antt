@@ -168,7 +168,7 @@ TurnFits c (turns.Ended e) = Fits c e
 TurnFits c turns.Onward = ⊤
 TurnFits c (turns.Edits edit e) = Fits c e
 
-abbrev LookFits : Ccw → Looked → Type 0
+abbrev pub LookFits : Ccw → Looked → Type 0
 LookFits c l = TurnFits c l.turned
 
 search_fits : (t : Track) (area : SearchArea) (s : Stance) (c : Ccw) (k : Sought) → SoughtFits k → LookFits c (search_sought t area s c k)
