@@ -19,3 +19,4 @@ mod Runs
 mod CameOut
 mod Enough
 mod StepParts
+mod WorkEnds
