@@ -324,7 +324,7 @@ acts_in_journal plans [] z early acts legal = by_acts acts z early legal where
   by_acts [] y e legal = tt
   by_acts (act ∷ l) y e legal = first_act y act l legal.0 (by_acts l (act_done y act) (e ++ items.Act act ∷ []) legal.1)
 
-idle_acts : (acts : List Act) (h : History) → all_acted (record h { running = None }) acts
+pub idle_acts : (acts : List Act) (h : History) → all_acted (record h { running = None }) acts
     ≡ record h { items = h.items ++ map (λ (act : Act). items.Act act) acts; running = None }
 idle_acts [] h = ap (λ (l : List Item). record h { items = l; running = None }) (sym (append-nil h.items))
 idle_acts (act ∷ acts) h =

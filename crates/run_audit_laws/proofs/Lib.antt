@@ -20,3 +20,5 @@ mod CameOut
 mod Enough
 mod StepParts
 mod WorkEnds
+mod Lossless
+mod PieceLines
