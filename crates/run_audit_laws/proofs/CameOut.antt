@@ -341,6 +341,10 @@ pub data EndsSo (a : AuditedDevice) (o : OpenEntry) (e : CommandEnd) : List Act 
       may_loosen (acted_to a acts) (all_acted a.history acts).running t ≡ true →
       is_next_legal (acted_to a (acts ++ Loosen t ∷ [])) (all_acted a.history (acts ++ Loosen t ∷ [])).running ≡ true → EndsSo a o e (acts ++ Loosen t ∷ [])
 
+pub ends_plain : (a : AuditedDevice) (o : OpenEntry) (e : CommandEnd) (acts : List Act) → EndsSo a o e acts → plain_end a o ≡ Some e
+ends_plain a o e acts (firmly bs plain none are legal) = plain
+ends_plain a o e acts (loosely bs t plain none are may legal) = plain
+
 -- or a check in its place
 pub record ChecksSo (a : AuditedDevice) (o : OpenEntry) (e : CommandEnd) (acts : List Act) : Type 0 where
   pub plain : CommandEnd

@@ -108,6 +108,18 @@ comes f some state path s c on =
 
 -- A program's parts
 
+-- a program goes by the device that began it
+pub part_fixed : (path : ℕ) (ccws : List Ccw) (xs : List Acted) (state : PlainState) (k : ℕ) →
+    (part_of state path ccws xs k).fixed.cylinders ≡ state.cylinders
+unfolding P.part_of
+part_fixed path ccws xs state zero = ap (λ (f : Fixed). f.cylinders) (acted_beside xs (P.first_part state path ccws)).fixed
+part_fixed path ccws xs state (suc k) =
+    let p = part_of state path ccws xs k in
+    ap (λ (f : Fixed). f.cylinders) (acted_beside xs (stepped path ccws p)).fixed ∙ stepped_fixed p p.next ∙ part_fixed path ccws xs state k where
+  stepped_fixed : (p : Part) (next : Option ℕ) → (stepped_at path ccws p next).fixed.cylinders ≡ p.fixed.cylinders
+  stepped_fixed p (Some i) = refl
+  stepped_fixed p None = refl
+
 module _ (path : ℕ) (ccws : List Ccw) (xs : List Acted) (state : PlainState) (some : 0 < state.cylinders) where
   record StandsOn (p : Part) : Type 0 where
     fixed : p.fixed.cylinders ≡ state.cylinders

@@ -22,3 +22,4 @@ mod StepParts
 mod WorkEnds
 mod Lossless
 mod PieceLines
+mod Pieces
