@@ -23,3 +23,4 @@ mod WorkEnds
 mod Lossless
 mod PieceLines
 mod Pieces
+mod PieceEvents
