@@ -24,3 +24,4 @@ mod Lossless
 mod PieceLines
 mod Pieces
 mod PieceEvents
+mod WorkLines

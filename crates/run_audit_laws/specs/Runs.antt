@@ -1,5 +1,5 @@
 -- How an audit goes along a run, from each event line of the deck to the next.
-use Rattle.std.specs.Prelude.{◌≡◌, ◌++◌, ℕ, List, [], ◌∷◌, map}
+use Rattle.std.specs.Prelude.{◌≡◌, ◌++◌, ℕ, false, List, [], ◌∷◌, map}
 use Rattle.std.specs.List.{flat_map}
 use Rattle.deck_plan.specs.declared.event.EventLine.{EventLine}
 use Rattle.deck_plan.specs.declared.event.EventLine.TheVariants as events
@@ -9,8 +9,8 @@ use Rattle.deck_audit.specs.State.{AuditState}
 use Rattle.run_report.specs.Closing.{ending_lines}
 use Rattle.run_report.specs.Events.{lines_of}
 use Rattle.subsystem_defs.specs.Closing.{ending}
-use Rattle.subsystem_defs.specs.Lines.{asked_by, last_behind, line_logged, run_lines}
-use Rattle.subsystem_defs.specs.Subsystem.{Subsystem}
+use Rattle.subsystem_defs.specs.Lines.{asked_by, is_busy, last_behind, line_logged, run_lines}
+use Rattle.subsystem_defs.specs.Subsystem.{Subsystem, mounted_in}
 use Rattle.run_audit_laws.specs.Standing.{LeadsBy, stand}
 use Rattle.run_audit_laws.specs.Steps.{LeadsTowards}
 
@@ -28,6 +28,10 @@ LineGoes s e =
 abbrev pub IsNoVolumeFailure : EventLine → Type 0
 IsNoVolumeFailure (events.FailVolume d side) = ⊥
 IsNoVolumeFailure e = Unit {0}
+
+-- the program and the half write of a device of which all is run
+abbrev pub RunIsOver : Subsystem → ℕ → Type 0
+RunIsOver s d = is_busy (mounted_in (line_behind s (events.Run d)).mounted d) ≡ false
 
 -- so does each line of these, run one after another
 abbrev pub AllGo : Subsystem → List EventLine → Type 0
