@@ -525,13 +525,13 @@ module _ (a : AuditedDevice) (plainly : IsPlain a.plans a.empty a.history) (acts
 
 -- A track that became loose
 
-one_loose : (l : List LooseTrack) (t : ℕ) (firm : Track) → is_loose_in (l ++ record { track = t; firm = firm } ∷ []) t ≡ true
-one_loose [] t firm = ap (λ (b : Bool). if b then true else false) (same_number t)
-one_loose (x ∷ l) t firm = by_test (x.track == t) (one_loose l t firm) where
-  by_test : (b : Bool) → is_loose_in (l ++ record { track = t; firm = firm } ∷ []) t ≡ true →
-      (if b then true else is_loose_in (l ++ record { track = t; firm = firm } ∷ []) t) ≡ true
-  by_test true more = refl
-  by_test false more = more
+one_loose : (l : List LooseTrack) (t : ℕ) (track : Track) → is_loose_in (l ++ record { track = t; firm = track } ∷ []) t ≡ true
+one_loose [] t track = ap (λ (b : Bool). if b then true else false) (same_number t)
+one_loose (x ∷ l) t track = by_test (x.track == t) (one_loose l t track) where
+  by_test : (b : Bool) → is_loose_in (l ++ record { track = t; firm = track } ∷ []) t ≡ true →
+      (if b then true else is_loose_in (l ++ record { track = t; firm = track } ∷ []) t) ≡ true
+  by_test true rest = refl
+  by_test false rest = rest
 
 loosens_by : (p : Part) (edit : Option TrackEdit) (t : ℕ) → track_of edit ≡ Some t → is_provisional p.stance.extent ≡ true → is_loose p.state t ≡ false →
     A.loosens p edit t ≡ true

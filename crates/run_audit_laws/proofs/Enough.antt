@@ -96,7 +96,9 @@ module _ (f : Fixed) (some : 0 < f.cylinders) (paths : PathsState) (tracks : ℕ
   effect_comes s (openings.Looks look) fits on =
       walk_comes (f.cylinders * 15) (whole_cylinders f.cylinders) f.geometry tracks start starts c look on.1 (f.cylinders * 15) s on.0 (omega arith)
   effect_comes s (openings.Asks act) fits on = record {
-    other = fits_by c _ _ (act_fits f paths path start c act (act_fault paths path act));
+    other = fits_by c (acted_by f paths path start c act (act_fault paths path act)).outcome.ending
+        (acted_by f paths path start c act (act_fault paths path act)).outcome.ending.sense
+        (act_fits f paths path start c act (act_fault paths path act));
     on = acted_on act (act_fault paths path act);
   }
 

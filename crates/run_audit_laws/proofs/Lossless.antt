@@ -22,7 +22,7 @@ losses (act ∷ acts) = one_if (is_loss act) + losses acts
 
 both_losses : (xs ys : List Act) → losses (xs ++ ys) ≡ losses xs + losses ys
 unfolding losses
-both_losses [] ys = refl
+both_losses [] ys = omega arith
 both_losses (x ∷ xs) ys = let rest = both_losses xs ys in omega (arith, rest)
 
 acted_losses : (n : ℕ) (xs : List Acted) → fold (λ (k : ℕ) (a : Acted). k + (if is_loss a.act then 1 else 0)) n xs ≡ n + losses (acts_of_entry xs)
@@ -32,7 +32,7 @@ acted_losses n (x ∷ xs) = let rest = acted_losses (n + (if is_loss x.act then 
 
 item_losses : (x : Item) → losses_of x ≡ losses (acts_of_item x)
 unfolding losses
-item_losses (items.Program e) = acted_losses 0 e.acts
+item_losses (items.Program e) = let all = acted_losses 0 e.acts in omega (arith, all)
 item_losses (items.Act act) = omega arith
 item_losses (items.Reset path) = refl
 item_losses items.Fresh = refl
@@ -49,7 +49,7 @@ journal_losses (x ∷ xs) =
 
 open_losses : (r : Option OpenEntry) → running_losses r ≡ losses (acts_running r)
 unfolding losses
-open_losses (Some o) = acted_losses 0 o.acts
+open_losses (Some o) = let all = acted_losses 0 o.acts in omega (arith, all)
 open_losses None = refl
 
 history_losses : (h : History) → all_losses h ≡ losses (acts_in h)
@@ -62,8 +62,8 @@ history_losses h =
 none_by : (acts : List Act) → losses acts ≡ 0 → NoLoss acts
 unfolding losses
 none_by [] is = tt
-none_by (Loosen t ∷ acts) is = (refl, none_by acts is)
-none_by (Harden t ∷ acts) is = (refl, none_by acts is)
+none_by (Loosen t ∷ acts) is = (refl, none_by acts (omega (arith, is)))
+none_by (Harden t ∷ acts) is = (refl, none_by acts (omega (arith, is)))
 none_by (CfwLost ∷ acts) is = absurd (omega (arith, is))
 
 -- of the acts that came to it

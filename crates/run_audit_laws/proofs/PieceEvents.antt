@@ -114,6 +114,12 @@ module _ (s : Subsystem) (x : MarksDevice) (at : device_in (devices_of s) x.stor
   -- The event of one device
 
   module _ (w : EventLine) (asked : Asked) (idle : Happened) (p : Piece x.store.device w asked idle) where
+    abbrev lines_to : EventEnd → ℕ → ℕ → Mounted → List ReportLine
+    lines_to end reads writes z = event_lines asked end reads writes (devices_of s) (devices_of (with_mounted s x.store.device z))
+
+    abbrev its_lines : EventEnd → ℕ → ℕ → MarksDevice → List ReportLine
+    its_lines end reads writes y = device_lines (work_told x.store.device (option_map running_program x.history.running) idle end) reads writes x y
+
     module _ (talk : Talk (Option EventEnd)) (h : Had talk (λ y end. ComesTo x y end w idle)) where
       with_mounted_goes : (m : Mounted) → mounted_in s.mounted x.store.device ≡ Some m → m.device ≡ x →
           PieceGoes s x.store.device w asked (asks s x.store.device (Some m) talk)
@@ -127,12 +133,6 @@ module _ (s : Subsystem) (x : MarksDevice) (at : device_in (devices_of s) x.stor
             busy = ap is_busy (put_found s.mounted n m z there c.number) ∙ busy_by y.store.half y.history.running;
             goes = λ later. leads later o z c;
           } where
-        abbrev lines_to : EventEnd → ℕ → ℕ → Mounted → List ReportLine
-        lines_to end reads writes z = event_lines asked end reads writes (devices_of s) (devices_of (with_mounted s x.store.device z))
-
-        abbrev its_lines : EventEnd → ℕ → ℕ → MarksDevice → List ReportLine
-        its_lines end reads writes y = device_lines (work_told x.store.device (option_map running_program x.history.running) idle end) reads writes x y
-
         lines_same : (end : EventEnd) (reads writes : ℕ) (z : Mounted) →
             event_lines asked end reads writes (devices_of s) (devices_of (with_mounted s x.store.device z))
             ≡ device_lines (work_told x.store.device (option_map running_program x.history.running) idle end) reads writes x z.device

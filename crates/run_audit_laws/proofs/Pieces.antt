@@ -1,6 +1,6 @@
 -- The lines of a piece of work on a device of a run lead the audit from that device before it to that device behind it.
 use Rattle.std.proofs.Common.{◌≡◌, ◌<◌, ◌==◌, ◌++◌, ◌*◌, ℕ, Bool, true, false, List, [], ◌∷◌, map, length, Option, Some, None, refl, sym, ap, subst, ◌∙◌, arith}
-use Rattle.std.specs.Prelude.{option_map, IsSome, IfSome}
+use Rattle.std.specs.Prelude.{◌&&◌, option_map, IsSome, IfSome}
 use Rattle.ckd_types.specs.declared.channel.CommandEnd.{CommandEnd}
 use Rattle.ckd_types.specs.Fixed.{Fixed}
 use Rattle.ckd_types.specs.Sense.{equipment_sense}
@@ -39,6 +39,7 @@ use Rattle.report_text.specs.declared.event.Happened.{Happened}
 use Rattle.report_text.specs.declared.event.Happened.TheVariants as did
 use Rattle.report_text.specs.declared.line.ReportLine.{ReportLine}
 use Rattle.report_text.specs.declared.line.ReportLine.TheVariants as lines
+use Rattle.report_text.specs.Events.{io_lines, line_if}
 use Rattle.report_places.specs.declared.state.Due.TheVariants.{Next}
 use Rattle.report_places.specs.declared.state.HalfWrite.{HalfWrite}
 use Rattle.report_places.specs.declared.state.HalfWrite.TheVariants as half
@@ -56,7 +57,7 @@ use Rattle.subsystem_defs.specs.Deeds.{end_of, ends_by, may_end_by}
 use Rattle.subsystem_defs.specs.Happening.{Talk}
 use Rattle.subsystem_defs.specs.Lines.{is_settled}
 use Rattle.run_audit_laws.specs.Standing.{LeadsBy, audited, half_by, half_of}
-use Rattle.run_audit_laws.specs.Steps.{LeadsTowards, NoLoss, over_if, over_told, step_lines}
+use Rattle.run_audit_laws.specs.Steps.{LeadsTowards, NoLoss, act_line, over_if, over_told, step_lines}
 use Rattle.run_audit_laws.proofs.CameOut.{ChecksSo, EndsSo, acts_so, checks_so, ends_plain, ends_so}
 use Rattle.run_audit_laws.proofs.Enough.{end_is_other, part_fixed}
 use Rattle.run_audit_laws.proofs.Lossless.{none_lost}
@@ -196,7 +197,8 @@ module _ (num : ℕ) (empty : PlainState) (x y : MarksDevice) (f : Follows num e
       let none = acts_lossless kept acts same in
       subst (λ (l : List ReportLine). LeadsTowards (record { devices = xs; events = w ∷ later; due = Next }) l (behind_piece xs w later (audited y) false))
       (sym (lines_are x y acts None (did.Half o.path x.store.device track) reads writes refl (acted_tells x y acts none same)))
-      (subst (λ (b : AuditedDevice). LeadsTowards (record { devices = xs; events = w ∷ later; due = Next }) _ (behind_piece xs w later b false))
+      (subst (λ (b : AuditedDevice). LeadsTowards (record { devices = xs; events = w ∷ later; due = Next })
+      ((lines.Half o.path x.store.device track ∷ map (act_line x.store.device) acts) ++ (io_lines reads writes ++ line_if None)) (behind_piece xs w later b false))
       (sym (audited_by x y half.OfCommand now p same))
       (halves_lead xs later a has o running w k is plainly track acts none
       (acts_so a plainly acts (subst (λ (l : History). IsPlain x.plans a.empty l) same (plain_behind half.OfCommand p))) reads writes))
@@ -214,7 +216,8 @@ module _ (num : ℕ) (empty : PlainState) (x y : MarksDevice) (f : Follows num e
       let behind = back_half a answer in
       subst (λ (l : List ReportLine). LeadsTowards (record { devices = xs; events = w ∷ later; due = Next }) l (behind_piece xs w later (audited y) last))
       (sym (lines_are x y acts None (did.Back x.store.device answer) reads writes refl (acted_tells x y acts none same)))
-      (subst (λ (b : AuditedDevice). LeadsTowards (record { devices = xs; events = w ∷ later; due = Next }) _ (behind_piece xs w later b last))
+      (subst (λ (b : AuditedDevice). LeadsTowards (record { devices = xs; events = w ∷ later; due = Next })
+      ((lines.Back x.store.device answer ∷ map (act_line x.store.device) acts) ++ (io_lines reads writes ++ line_if None)) (behind_piece xs w later b last))
       (sym (audited_by x y behind now p same))
       (tells_lead xs later a has w answer h k is plainly acts none
       (acts_so a plainly acts (subst (λ (l : History). IsPlain x.plans a.empty l) same (plain_behind behind p))) reads writes))

@@ -83,12 +83,12 @@ turned_left x w path chain (came.HalfOpen t) p = same_store x w (turned_by w pat
 -- A store by what is kept of it
 
 module _ (x : MarksDevice) where
-  record IsStored (h : HalfWrite) (c : Core) : Type 0 where
-    number : c.device ≡ x.store.device
-    geometry : c.geometry ≡ x.store.geometry
-    cylinders : c.cylinders ≡ x.store.cylinders
-    lent : c.lent ≡ x.store.lent
-    half_is : half_by c.half ≡ h
+  pub record IsStored (h : HalfWrite) (c : Core) : Type 0 where
+    pub number : c.device ≡ x.store.device
+    pub geometry : c.geometry ≡ x.store.geometry
+    pub cylinders : c.cylinders ≡ x.store.cylinders
+    pub lent : c.lent ≡ x.store.lent
+    pub half_is : half_by c.half ≡ h
 
   pub stored_parts : (w : MarksDevice) (h : HalfWrite) → w.plans ≡ x.plans → IsStored h (core_of w.store) → HasParts x w h
   stored_parts w h plans s = record {
@@ -348,8 +348,8 @@ module _ (num : ℕ) (empty : PlainState) (x : MarksDevice) (f : Follows num emp
   unwritten_or : (s z : MarksStore) (t : ℕ) (origin : Origin) (done : Bool) → IsToldBy origin (seconds.Finished t) → IsToldBy origin (seconds.Unwritten t) →
       IsStored x half.Closed (core_of z) →
       IsSecond x (with_store (record (event_begun x) { store = s }) z) origin (if done then seconds.Finished t else seconds.Unwritten t)
-  unwritten_or s z t origin true yes other stored = record { parts = started_parts s z stored; told = yes }
-  unwritten_or s z t origin false yes other stored = record { parts = started_parts s z stored; told = other }
+  unwritten_or s z t origin true said other stored = record { parts = started_parts s z stored; told = said }
+  unwritten_or s z t origin false said other stored = record { parts = started_parts s z stored; told = other }
 
   by_origin : (s z : MarksStore) (t : ℕ) (origin : Origin) (done : Bool) → IsMidOf (core_of x.store) t origin x.history.running f.before x.chain →
       IsStored x half.Closed (core_of z) → AreActs (plain_of x.plans empty x.history) None z.acts →
