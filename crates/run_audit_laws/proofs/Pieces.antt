@@ -23,7 +23,7 @@ use Rattle.device_defs.specs.Events.{second}
 use Rattle.device_defs.specs.Marks.{MarksDevice}
 use Rattle.device_defs.specs.Store as store
 use Rattle.device_defs.specs.Store.{Origin, OfBackground, OfCommand, OfCut}
-use Rattle.device_laws.proofs.Had.{Had, had_done, had_then}
+use Rattle.device_laws.proofs.Had.{Had, had_done, had_then, had_weaker}
 use Rattle.device_laws.proofs.HistoryTold.{HasActed, HasEnded, SecondTold, StepTold, acted_so, checked_so, command_told, ended_so, second_event_told}
 use Rattle.device_laws.proofs.LooseLosses.{command_has, second_has}
 use Rattle.device_laws.proofs.PlainCommand.{command_follows}
@@ -235,10 +235,10 @@ module _ (num : ℕ) (empty : PlainState) (x : MarksDevice) (f : Follows num emp
   command_so : (o : OpenEntry) → x.history.running ≡ Some o → x.store.half ≡ None →
       Had (command by_plain x) (λ y answer. CommandSo num empty x y answer)
   command_so o running whole =
-      had_then {p = λ y answer. (Follows num empty y × IsLeft x y answer) × (StepTold x.history y.history answer × (all_losses y.history ≡ all_losses x.history))}
+      had_weaker
       (had_both (had_both (command_follows num empty x f o running whole) (command_left num empty x f o running whole))
       (had_both (had_always (command_told by_plain x)) (had_always (command_has by_plain (all_losses x.history) x refl))))
-      (λ y answer g. had_done (record { follows = g.0.0; left = g.0.1; told = g.1.0; kept = g.1.1 }))
+      (λ y answer g. record { follows = g.0.0; left = g.0.1; told = g.1.0; kept = g.1.1 })
 
   closed_half : x.store.half ≡ None → (audited x).half ≡ half.Closed
   closed_half whole = ap half_by whole
@@ -286,11 +286,10 @@ ends_by_command of_settle = settle_seconds
 module _ (num : ℕ) (empty : PlainState) (x : MarksDevice) (f : Follows num empty x) where
   second_so : (h : store.HalfWrite (Unit {0})) → x.store.half ≡ Some h → Had (second by_plain x) (λ y answer. SecondSo num empty x y h.origin answer)
   second_so h there =
-      had_then {p = λ y answer. (Follows num empty y × IsSecond x y h.origin answer)
-      × (SecondTold x.history y.history answer × (all_losses y.history ≡ all_losses x.history))}
+      had_weaker
       (had_both (had_both (second_follows num empty x f h there) (second_left num empty x f h there))
       (had_both (had_always (second_event_told by_plain x)) (had_always (second_has by_plain (all_losses x.history) x refl))))
-      (λ y answer g. had_done (record { follows = g.0.0; left = g.0.1; told = g.1.0; kept = g.1.1 }))
+      (λ y answer g. record { follows = g.0.0; left = g.0.1; told = g.1.0; kept = g.1.1 })
 
   -- the command's own end, of a program that runs
   ended_comes : (h : store.HalfWrite (Unit {0})) → x.store.half ≡ Some h → (bypass : Bool) (edit : _) → h.origin ≡ OfCommand bypass edit →
