@@ -118,9 +118,9 @@ part_fixed path ccws xs state zero = ap (λ (f : Fixed). f.cylinders) (acted_bes
 part_fixed path ccws xs state (suc k) =
     let p = part_of state path ccws xs k in
     ap (λ (f : Fixed). f.cylinders) (acted_beside xs (stepped path ccws p)).fixed ∙ stepped_fixed p p.next ∙ part_fixed path ccws xs state k where
-  stepped_fixed : (p : Part) (next : Option ℕ) → (stepped_at path ccws p next).fixed.cylinders ≡ p.fixed.cylinders
-  stepped_fixed p (Some i) = refl
-  stepped_fixed p None = refl
+      stepped_fixed : (p : Part) (next : Option ℕ) → (stepped_at path ccws p next).fixed.cylinders ≡ p.fixed.cylinders
+      stepped_fixed p (Some i) = refl
+      stepped_fixed p None = refl
 
 module _ (path : ℕ) (ccws : List Ccw) (xs : List Acted) (state : PlainState) (some : 0 < state.cylinders) where
   record StandsOn (p : Part) : Type 0 where
@@ -160,9 +160,9 @@ module _ (path : ℕ) (ccws : List Ccw) (xs : List Acted) (state : PlainState) (
   end_at p h (Some i) e is =
       subst (λ (o : Option CommandEnd). IsOther (sense_of o)) is
       (comes p.fixed (some_own p h) p.state path p.stance (ccw_at ccws i) (on_own p h)).other where
-    sense_of : Option CommandEnd → Option Sense
-    sense_of (Some x) = x.sense
-    sense_of None = None
+        sense_of : Option CommandEnd → Option Sense
+        sense_of (Some x) = x.sense
+        sense_of None = None
   end_at p h None e is = absurd (cc)
 
   pub end_is_other : (k : ℕ) (next : Option ℕ) (e : CommandEnd) → plain_end_at path ccws (part_of state path ccws xs k) next ≡ Some e →

@@ -133,29 +133,29 @@ module _ (s : Subsystem) (x : MarksDevice) (at : device_in (devices_of s) x.stor
             busy = ap is_busy (put_found s.mounted n m z there c.number) ∙ busy_by y.store.half y.history.running;
             goes = λ later. leads later o z c;
           } where
-        lines_same : (end : EventEnd) (reads writes : ℕ) (z : Mounted) →
-            event_lines asked end reads writes (devices_of s) (devices_of (with_mounted s x.store.device z))
-            ≡ device_lines (work_told x.store.device (option_map running_program x.history.running) idle end) reads writes x z.device
-        lines_same end reads writes z =
-            piece_lines p end reads writes (devices_of s) (devices_of (with_mounted s n z))
-            ∙ ap (λ (d : Option MarksDevice). work_lines (work_told n (running_by d) idle end) reads writes (devices_of s) (devices_of (with_mounted s n z))) at
-            ∙ (tells_alone s n z).tells (work_told n (option_map running_program x.history.running) idle end) reads writes
-            ∙ ap (λ (k : Option Mounted). lines_at (work_told n (option_map running_program x.history.running) idle end) reads writes k z.device) there
-            ∙ ap (λ (d : MarksDevice). device_lines (work_told n (option_map running_program x.history.running) idle end) reads writes d z.device) is
+            lines_same : (end : EventEnd) (reads writes : ℕ) (z : Mounted) →
+                event_lines asked end reads writes (devices_of s) (devices_of (with_mounted s x.store.device z))
+                ≡ device_lines (work_told x.store.device (option_map running_program x.history.running) idle end) reads writes x z.device
+            lines_same end reads writes z =
+                piece_lines p end reads writes (devices_of s) (devices_of (with_mounted s n z))
+                ∙ ap (λ (d : Option MarksDevice). work_lines (work_told n (running_by d) idle end) reads writes (devices_of s) (devices_of (with_mounted s n z))) at
+                ∙ (tells_alone s n z).tells (work_told n (option_map running_program x.history.running) idle end) reads writes
+                ∙ ap (λ (k : Option Mounted). lines_at (work_told n (option_map running_program x.history.running) idle end) reads writes k z.device) there
+                ∙ ap (λ (d : MarksDevice). device_lines (work_told n (option_map running_program x.history.running) idle end) reads writes d z.device) is
 
-        leads : (later : List EventLine) (o : Outcome MarksDevice (Option EventEnd)) (z : Mounted) →
-            ComesTo x z.device o.answer w idle →
-            LeadsTowards (stand s (w ∷ later)) (event_lines asked (told_end o.answer) o.told.reads o.told.writes (devices_of s)
-            (devices_of (with_mounted s x.store.device z)))
-            (stand (with_mounted s x.store.device z) (left_by w (audited z.device) (is_settled (told_end o.answer)) later))
-        leads later o z c =
-            subst (λ (e : Option EventEnd). LeadsTowards (stand s (w ∷ later)) (lines_to (told_end e) o.told.reads o.told.writes z)
-            (stand (with_mounted s n z) (left_by w (audited z.device) (is_settled (told_end e)) later))) (sym c.is)
-            (subst (λ (l : List ReportLine). LeadsTowards (stand s (w ∷ later)) l
-            (stand (with_mounted s n z) (left_by w (audited z.device) (is_settled c.its) later))) (sym (lines_same c.its o.told.reads o.told.writes z))
-            (subst (λ (l : List AuditedDevice). LeadsTowards (stand s (w ∷ later)) (its_lines c.its o.told.reads o.told.writes z.device)
-            (record { devices = l; events = left_by w (audited z.device) (is_settled c.its) later; due = Next })) (put_at s.mounted n z c.number)
-            (c.so (map audited (devices_of s)) later (found_one (devices_of s) n x at) o.told.reads o.told.writes)))
+            leads : (later : List EventLine) (o : Outcome MarksDevice (Option EventEnd)) (z : Mounted) →
+                ComesTo x z.device o.answer w idle →
+                LeadsTowards (stand s (w ∷ later)) (event_lines asked (told_end o.answer) o.told.reads o.told.writes (devices_of s)
+                (devices_of (with_mounted s x.store.device z)))
+                (stand (with_mounted s x.store.device z) (left_by w (audited z.device) (is_settled (told_end o.answer)) later))
+            leads later o z c =
+                subst (λ (e : Option EventEnd). LeadsTowards (stand s (w ∷ later)) (lines_to (told_end e) o.told.reads o.told.writes z)
+                (stand (with_mounted s n z) (left_by w (audited z.device) (is_settled (told_end e)) later))) (sym c.is)
+                (subst (λ (l : List ReportLine). LeadsTowards (stand s (w ∷ later)) l
+                (stand (with_mounted s n z) (left_by w (audited z.device) (is_settled c.its) later))) (sym (lines_same c.its o.told.reads o.told.writes z))
+                (subst (λ (l : List AuditedDevice). LeadsTowards (stand s (w ∷ later)) (its_lines c.its o.told.reads o.told.writes z.device)
+                (record { devices = l; events = left_by w (audited z.device) (is_settled c.its) later; due = Next })) (put_at s.mounted n z c.number)
+                (c.so (map audited (devices_of s)) later (found_one (devices_of s) n x at) o.told.reads o.told.writes)))
 
       pub asks_goes : PieceGoes s x.store.device w asked (asks s x.store.device (mounted_in s.mounted x.store.device) talk)
       asks_goes =
@@ -198,13 +198,13 @@ module _ (s : Subsystem) (x : MarksDevice) (at : device_in (devices_of s) x.stor
     its = audited x;
     busy = idle_busy whole none ∙ sym (ap not (idle_is whole none));
     goes = λ later. (
-        stand s later,
-        subst (λ (l : List ReportLine). LeadsBy (stand s (wanted.Step n ∷ later)) l (stand s later)) (sym (quiet_lines (did.StepIdle n) (devices_of s)))
-            (idle_leads (wanted.Step n) (lines.StepIdle n) of_step whole
-            (ap (λ (k : Option Outline). holds k (λ b. may_step b (lines.StepIdle n) (lines.StepIdle n) b.half)) (outline_one (devices_of s) n x at)
-            ∙ idle_fits (lines.StepIdle n) (same_number n) whole none)
-            (λ z. refl) later),
-        is_there refl,
+      stand s later,
+      subst (λ (l : List ReportLine). LeadsBy (stand s (wanted.Step n ∷ later)) l (stand s later)) (sym (quiet_lines (did.StepIdle n) (devices_of s)))
+          (idle_leads (wanted.Step n) (lines.StepIdle n) of_step whole
+          (ap (λ (k : Option Outline). holds k (λ b. may_step b (lines.StepIdle n) (lines.StepIdle n) b.half)) (outline_one (devices_of s) n x at)
+          ∙ idle_fits (lines.StepIdle n) (same_number n) whole none)
+          (λ z. refl) later),
+      is_there refl,
     );
   }
 

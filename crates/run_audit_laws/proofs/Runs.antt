@@ -65,8 +65,7 @@ lines_end events s go framed =
     let z = behind_lines s events in
     let t : AuditState = record (stand z []) { due = Nothing } in
     let first = lines_towards events s go in
-    let told = flat_map lines_of (run_lines (map asked_by events) s) in
-    (
+    let told = flat_map lines_of (run_lines (map asked_by events) s) in (
       t,
       leads_on (stand s events) first.0 t told (ending_lines (ending z)) first.1
           (to_the_end z [] tt first.0 first.2 (ending_lines (ending z)) t refl (ending_leads z framed)),

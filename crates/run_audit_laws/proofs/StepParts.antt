@@ -174,16 +174,16 @@ module _ (num : ℕ) (empty : PlainState) (x : MarksDevice) (f : Follows num emp
       turn_stored k turn c (ended_so end after d end_is chain_is edit) = edit_stored (k x.store.plain).edit d edit
       turn_stored k turn c (half_open t edit next d word below does half_is) =
           alike_half half_is.bypass half_is.before d half_is.is half_is.on where
-        alike_half : (bypass : Bool) (b d : Core) → d ≡ record b { half = Some (record { track = t; origin = OfCommand bypass edit; image = tt }) } →
-            On x p b → IsStored x half.OfCommand d
-        alike_half bypass b d how w =
-            let s = walked_stored x p b w in record {
-              number = ap (λ (k : Core). k.device) how ∙ s.number;
-              geometry = ap (λ (k : Core). k.geometry) how ∙ s.geometry;
-              cylinders = ap (λ (k : Core). k.cylinders) how ∙ s.cylinders;
-              lent = ap (λ (k : Core). k.lent) how ∙ s.lent;
-              half_is = ap (λ (k : Core). half_by k.half) how;
-            }
+            alike_half : (bypass : Bool) (b d : Core) → d ≡ record b { half = Some (record { track = t; origin = OfCommand bypass edit; image = tt }) } →
+                On x p b → IsStored x half.OfCommand d
+            alike_half bypass b d how w =
+                let s = walked_stored x p b w in record {
+                  number = ap (λ (k : Core). k.device) how ∙ s.number;
+                  geometry = ap (λ (k : Core). k.geometry) how ∙ s.geometry;
+                  cylinders = ap (λ (k : Core). k.cylinders) how ∙ s.cylinders;
+                  lent = ap (λ (k : Core). k.lent) how ∙ s.lent;
+                  half_is = ap (λ (k : Core). half_by k.half) how;
+                }
       turn_stored k turn c (equipment last d word w) = walked_stored x p d w
       turn_stored k turn c (data_check last d word w) = walked_stored x p d w
 

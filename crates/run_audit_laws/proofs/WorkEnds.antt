@@ -208,8 +208,7 @@ module _ (xs : List AuditedDevice) (later : List EventLine) (a : AuditedDevice) 
           (leads.0, leads.1, subst (λ (t : AuditState). Reaches leads.0 t) (over_piece (acted_to a bs) refl true e legal (over_told a o how.Full) e.over) leads.2)
       ends_lead reads writes e acts (loosely bs t plain none are may legal) few =
           let leads = loose_command_leads xs w later a has (works (ends_work k)) o running plainly (end_stands w h k is) (makes w (ends_work k)) e plain few bs
-          none are reads writes t may legal in
-          (
+          none are reads writes t may legal in (
             leads.0,
             leads.1,
             subst (λ (z : AuditState). Reaches leads.0 z)
@@ -257,8 +256,7 @@ module _ (xs : List AuditedDevice) (later : List EventLine) (a : AuditedDevice) 
     halves_lead w k closed plainly track acts none are reads writes =
         let leads = work_leads xs w later a has (works (ends_work k)) plainly half.OfCommand Halved (λ b. refl) (λ b. over_halved b b.history.running)
         (lines.Half o.path a.number track)
-        (first_judged w (ends_work k) (lines.Half o.path a.number track) (half_stands w k closed track)) acts none are reads writes in
-        (
+        (first_judged w (ends_work k) (lines.Half o.path a.number track) (half_stands w k closed track)) acts none are reads writes in (
           leads.0,
           leads.1,
           subst (λ (z : AuditState). Reaches leads.0 z)
@@ -309,8 +307,7 @@ module _ (xs : List AuditedDevice) (later : List EventLine) (a : AuditedDevice) 
   tells_lead w answer h k is plainly acts none are reads writes =
       let leads = work_leads xs w later a has (works (tells_work k)) plainly (back_half a answer) (Worked (is_last answer)) (λ b. refl)
       (λ b. over_worked b (is_last answer) b.history.running) (lines.Back a.number answer)
-      (first_judged w (tells_work k) (lines.Back a.number answer) (tells_stand k is)) acts none are reads writes in
-      (
+      (first_judged w (tells_work k) (lines.Back a.number answer) (tells_stand k is)) acts none are reads writes in (
         leads.0,
         leads.1,
         subst (λ (z : AuditState). Reaches leads.0 z)

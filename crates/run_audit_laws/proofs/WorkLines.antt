@@ -157,12 +157,11 @@ steps_lead : (k : ℕ) (s : Subsystem) → ArePlain s.mounted → (d : ℕ) → 
     LeadsTowards (stand s (wanted.Run d ∷ later)) (flat_map lines_of (steps k d s)) (stand (last_behind s (steps k d s))
     (left_run (last_behind s (steps k d s)) d later))
 unfolding L.steps
-steps_lead zero s plain d busy later =
-    (
-      stand s (wanted.Run d ∷ later),
-      refl,
-      is_there (ap (λ (b : Bool). stand s (if b then wanted.Run d ∷ later else later)) (sym busy)),
-    )
+steps_lead zero s plain d busy later = (
+  stand s (wanted.Run d ∷ later),
+  refl,
+  is_there (ap (λ (b : Bool). stand s (if b then wanted.Run d ∷ later else later)) (sym busy)),
+)
 steps_lead (suc k) s plain d busy later =
     let h = happens s (events.Step d) in
     let p = piece_of_run s plain d busy in
