@@ -25,3 +25,4 @@ mod PieceLines
 mod Pieces
 mod PieceEvents
 mod WorkLines
+mod BackParts

@@ -7,10 +7,11 @@ use Rattle.deck_plan.specs.declared.event.EventLine.TheVariants as wanted
 use Rattle.plain_defs.specs.History.{OpenEntry}
 use Rattle.device_outside.specs.Told.{Outcome}
 use Rattle.device_defs.specs.Command.{command}
-use Rattle.device_defs.specs.Events.{second}
+use Rattle.device_defs.specs.Events.{background, second}
 use Rattle.device_defs.specs.Contents.{by_plain}
 use Rattle.device_defs.specs.Marks.{MarksDevice}
 use Rattle.device_defs.specs.Store as store
+use Rattle.device_laws.proofs.Changes as C
 use Rattle.device_laws.proofs.Had.{Had, held}
 use Rattle.report_text.specs.declared.answers.BackAnswer.TheVariants as back
 use Rattle.report_text.specs.declared.event.Happened.{Happened}
@@ -36,19 +37,20 @@ use Rattle.subsystem_defs.specs.declared.end.EventEnd.{EventEnd}
 use Rattle.subsystem_defs.specs.declared.end.EventEnd.TheVariants as ends
 use Rattle.subsystem_defs.specs.declared.event.Event.TheVariants as events
 use Rattle.subsystem_defs.specs.Deeds as E
-use Rattle.subsystem_defs.specs.Deeds.{Asks, Ends, device_in, may_end_by, on_device, seconds, step}
+use Rattle.subsystem_defs.specs.Deeds.{Asks, Ends, back as back_deed, device_in, may_end_by, on_device, seconds, step}
 use Rattle.subsystem_defs.specs.Happening as H
 use Rattle.subsystem_defs.specs.Happening.{Happened as Happening, MarksDeed, Talk, asks, happens, happens_by, held_with, mounted_behind, quietly, told_end, told_to}
 use Rattle.subsystem_defs.specs.Lines.{Asked, Once, Run, Settle, is_busy, is_settled}
 use Rattle.subsystem_defs.specs.Subsystem.{Mounted, Subsystem, devices_of, mounted_in, number_of, put_in, with_mounted}
 use Rattle.subsystem_laws.proofs.FoundDevices.{number_found}
+use Rattle.subsystem_laws.proofs.GoodMarks.{Good, by_lent}
 use Rattle.subsystem_laws.proofs.PlainRuns.{ArePlain, Plainly}
 use Rattle.subsystem_laws.proofs.Walks.{device_so}
 use Rattle.run_audit_laws.specs.Standing.{LeadsBy, audited, half_by, half_of, stand}
 use Rattle.run_audit_laws.specs.Steps.{LeadsTowards, is_there}
 use Rattle.run_audit_laws.proofs.Found.{found_one, mounted_too, outline_one, put_at}
 use Rattle.run_audit_laws.proofs.Leading.{one_leads, quiet_lines}
-use Rattle.run_audit_laws.proofs.Pieces.{ComesTo, command_leads, second_leads}
+use Rattle.run_audit_laws.proofs.Pieces.{ComesTo, IsBack, backs_lead, command_leads, second_leads}
 use Rattle.run_audit_laws.proofs.Saying.{same_number}
 use Rattle.run_audit_laws.proofs.WorkEnds.{IsWork, MayEnd, behind_piece, first_judged, left_by, of_back, of_run, of_settle, of_step, run_ends, step_ends}
 
@@ -77,6 +79,7 @@ piece_lines settle_piece end reads writes before behind = refl
 -- from where the audit stands before it to where it stands behind it, as its device then is
 pub record PieceGoes (s : Subsystem) (n : ℕ) (w : EventLine) (asked : Asked) (h : Happening) : Type 0 where
   pub its : AuditedDevice
+  pub there : (m : Mounted) × (mounted_in h.behind.mounted n ≡ Some m)
   pub busy : is_busy (mounted_in h.behind.mounted n) ≡ not (is_idle its)
   pub goes : (later : List EventLine) →
       LeadsTowards (stand s (w ∷ later)) (event_lines asked h.end h.reads h.writes (devices_of s) (devices_of h.behind))
@@ -130,6 +133,7 @@ module _ (s : Subsystem) (x : MarksDevice) (at : device_in (devices_of s) x.stor
           let c = held true h (told_to s.pool m) in
           record {
             its = audited y;
+            there = (z, put_found s.mounted n m z there c.number);
             busy = ap is_busy (put_found s.mounted n m z there c.number) ∙ busy_by y.store.half y.history.running;
             goes = λ later. leads later o z c;
           } where
@@ -196,6 +200,7 @@ module _ (s : Subsystem) (x : MarksDevice) (at : device_in (devices_of s) x.stor
       PieceGoes s x.store.device (wanted.Step x.store.device) (Once (events.Step x.store.device)) (quietly s s ends.Idle)
   step_idle_goes whole none = record {
     its = audited x;
+    there = let m = mounted_too s.mounted n x at in (m.0, m.1);
     busy = idle_busy whole none ∙ sym (ap not (idle_is whole none));
     goes = λ later. (
       stand s later,
@@ -262,3 +267,27 @@ module _ (s : Subsystem) (x : MarksDevice) (at : device_in (devices_of s) x.stor
     run_step_goes busy =
         step_goes (wanted.Run n) (Run n) (did.RunIdle n) run_piece run_ends
         (λ whole none. absurd (let both : true ≡ false = sym busy ∙ idle_busy whole none in cc))
+
+    -- BACK, and each piece of SETTLE
+
+    module _ (g : Good x) where
+      single : is_some x.store.lent ≡ false → x.store.paired ≡ false → x.store.b.up ≡ false
+      unfolding C.rest_of
+      single free = (g.well free).here.alone
+
+      alone : x.store.paired ≡ false → x.store.b.up ≡ false
+      alone = by_lent x single (λ lent single_is. (g.gone lent).store.other)
+
+      back_by : (w : EventLine) (asked : Asked) (idle : Happened) → Piece x.store.device w asked idle → IsBack x.store.device w →
+          (h : Option (store.HalfWrite (Unit {0}))) → x.store.half ≡ h →
+          PieceGoes s x.store.device w asked (happens_by s (if is_some h then seconds by_plain x else Asks x (may_end_by ends.Back (background by_plain x))))
+      back_by w asked idle p k (Some h) there = seconds_go w asked idle p h there
+      back_by w asked idle p k None none =
+          asks_goes w asked idle p (may_end_by ends.Back (background by_plain x)) (backs_lead q.number q.empty x q.follows none alone w idle k)
+
+      pub back_goes : (w : EventLine) (asked : Asked) (idle : Happened) → Piece x.store.device w asked idle → IsBack x.store.device w →
+          PieceGoes s x.store.device w asked (happens s (events.Back x.store.device))
+      unfolding H.happens E.deed
+      back_goes w asked idle p k =
+          subst (λ (o : Option MarksDevice). PieceGoes s x.store.device w asked (happens_by s (on_device o (back_deed by_plain)))) (sym at)
+          (back_by w asked idle p k x.store.half refl)

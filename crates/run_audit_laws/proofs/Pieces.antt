@@ -1,17 +1,19 @@
 -- The lines of a piece of work on a device of a run lead the audit from that device before it to that device behind it.
 use Rattle.std.proofs.Common.{◌≡◌, ◌<◌, ◌==◌, ◌++◌, ◌*◌, ℕ, Bool, true, false, List, [], ◌∷◌, map, length, Option, Some, None, refl, sym, ap, subst, ◌∙◌, arith}
-use Rattle.std.specs.Prelude.{◌&&◌, option_map, IsSome, IfSome}
+use Rattle.std.specs.Prelude.{◌&&◌, not, option_map, IsSome, IfSome}
 use Rattle.ckd_types.specs.declared.channel.CommandEnd.{CommandEnd}
 use Rattle.ckd_types.specs.Fixed.{Fixed}
 use Rattle.ckd_types.specs.Sense.{equipment_sense}
 use Rattle.ckd_chain.specs.State.{ChainState}
 use Rattle.deck_plan.specs.declared.event.EventLine.{EventLine}
+use Rattle.deck_plan.specs.declared.event.EventLine.TheVariants as wanted
 use Rattle.plain_defs.specs.declared.journal.Act.{Act}
 use Rattle.plain_defs.specs.History.{History, IsPlain, OpenEntry, checked, ended, open_part}
 use Rattle.plain_defs.specs.Journal.{Plans, program_of, replay}
 use Rattle.plain_defs.specs.PlainState.{PlainState}
 use Rattle.device_outside.specs.Told.{Told}
 use Rattle.device_defs.specs.declared.answers.Did.{Did as BackDid}
+use Rattle.device_defs.specs.declared.answers.Did.TheVariants as dids
 use Rattle.device_defs.specs.declared.answers.SecondEnd.{SecondEnd}
 use Rattle.device_defs.specs.declared.answers.SecondEnd.TheVariants as seconds
 use Rattle.device_defs.specs.declared.answers.Stepped.{Stepped}
@@ -19,15 +21,16 @@ use Rattle.device_defs.specs.declared.answers.Stepped.TheVariants as stepped
 use Rattle.device_defs.specs.Command.{command}
 use Rattle.device_defs.specs.Contents.{by_plain}
 use Rattle.device_defs.specs.Device.{all_acted}
-use Rattle.device_defs.specs.Events.{second}
+use Rattle.device_defs.specs.Events.{background, second}
 use Rattle.device_defs.specs.Marks.{MarksDevice}
 use Rattle.device_defs.specs.Store as store
 use Rattle.device_defs.specs.Store.{Origin, OfBackground, OfCommand, OfCut}
 use Rattle.device_laws.proofs.Had.{Had, had_done, had_then, had_weaker}
-use Rattle.device_laws.proofs.HistoryTold.{HasActed, HasEnded, SecondTold, StepTold, acted_so, checked_so, command_told, ended_so, second_event_told}
-use Rattle.device_laws.proofs.LooseLosses.{command_has, second_has}
+use Rattle.device_laws.proofs.HistoryTold.{HasActed, HasEnded, SecondTold, StepTold, acted_so, background_told, checked_so, command_told, ended_so, second_event_told}
+use Rattle.device_laws.proofs.LooseLosses.{background_has, command_has, second_has}
 use Rattle.device_laws.proofs.PlainCommand.{command_follows}
 use Rattle.device_laws.proofs.PlainEvents.{had_always, had_both}
+use Rattle.device_laws.proofs.PlainLosses.{background_follows}
 use Rattle.device_laws.proofs.PlainSeconds.{second_follows}
 use Rattle.device_laws.proofs.PlainTurns.{ChainOf, Follows, IsMid, IsMidOf, RunsAt, some_none}
 use Rattle.device_laws.proofs.PlainStores.{core_of}
@@ -43,10 +46,11 @@ use Rattle.report_text.specs.Events.{io_lines, line_if}
 use Rattle.report_places.specs.declared.state.Due.TheVariants.{Next}
 use Rattle.report_places.specs.declared.state.HalfWrite.{HalfWrite}
 use Rattle.report_places.specs.declared.state.HalfWrite.TheVariants as half
-use Rattle.report_places.specs.Place.{is_second_line}
+use Rattle.report_places.specs.Place.{is_back_line, is_second, is_second_line}
 use Rattle.deck_audit.specs.Device.{AuditedDevice, device_in, part_of_open, plain_end, words_of_open}
 use Rattle.deck_audit.specs.History.{back_half, is_last}
 use Rattle.run_report.specs.declared.told.RunningProgram.{RunningProgram}
+use Rattle.run_report.specs.Answers.{back_answer}
 use Rattle.run_report.specs.Events.{running_program, work_told}
 use Rattle.run_report.specs.OneDevice.{device_lines}
 use Rattle.run_report.proofs.ActsCome.{all_acts, checked_acts, ended_acts}
@@ -55,9 +59,10 @@ use Rattle.subsystem_defs.specs.declared.end.EventEnd.TheVariants as ends
 use Rattle.subsystem_defs.specs.Beside.{acts_in}
 use Rattle.subsystem_defs.specs.Deeds.{end_of, ends_by, may_end_by}
 use Rattle.subsystem_defs.specs.Happening.{Talk}
-use Rattle.subsystem_defs.specs.Lines.{is_settled}
+use Rattle.subsystem_defs.specs.Lines.{is_settled, stops}
 use Rattle.run_audit_laws.specs.Standing.{LeadsBy, audited, half_by, half_of}
 use Rattle.run_audit_laws.specs.Steps.{LeadsTowards, NoLoss, act_line, over_if, over_told, step_lines}
+use Rattle.run_audit_laws.proofs.BackParts.{BackLeft, back_left}
 use Rattle.run_audit_laws.proofs.CameOut.{ChecksSo, EndsSo, acts_so, checks_so, ends_plain, ends_so}
 use Rattle.run_audit_laws.proofs.Enough.{end_is_other, part_fixed}
 use Rattle.run_audit_laws.proofs.Lossless.{none_lost}
@@ -70,6 +75,7 @@ use Rattle.run_audit_laws.proofs.WorkEnds.{
   MayEnd,
   MayTell,
   back_seconds,
+  back_tells,
   behind_piece,
   checks_lead,
   ends_lead,
@@ -82,6 +88,7 @@ use Rattle.run_audit_laws.proofs.WorkEnds.{
   run_seconds,
   seconds_by,
   settle_seconds,
+  settle_tells,
   step_ends,
   step_seconds,
   tells_lead,
@@ -358,3 +365,72 @@ module _ (num : ℕ) (empty : PlainState) (x : MarksDevice) (f : Follows num emp
       Had (ends_by ends.Second (second by_plain x)) (λ y end. ComesTo x y end w idle)
   second_leads h there w idle k =
       had_then (second_so h there) (λ y answer c. had_done (second_comes h there h.origin refl w idle k y answer c))
+
+-- Work in the background
+
+-- the lines that ask for it
+pub data IsBack (n : ℕ) : EventLine → Type 0 where
+  by_back : IsBack n (wanted.Back n)
+  by_settle : IsBack n (wanted.Settle n)
+
+may_tell : (xs : List AuditedDevice) (later : List EventLine) (a : AuditedDevice) (has : device_in xs a.number ≡ Some a) (w : EventLine) (answer : BackAnswer) →
+    IsBack a.number w → is_back_line a.number (lines.Back a.number answer) ≡ true → MayTell xs later a has w answer half.Closed
+may_tell xs later a has w answer by_back so = back_tells so
+may_tell xs later a has w answer by_settle so = settle_tells so
+
+back_line : (n : ℕ) (d : BackDid) → is_back_line n (lines.Back n (back_answer d)) ≡ true
+back_line n d = both (n == n) (not (is_second (back_answer d))) (same_number n) (by_did d) where
+  by_did : (d : BackDid) → not (is_second (back_answer d)) ≡ true
+  by_did dids.Nothing = refl
+  by_did (dids.Recovered t) = refl
+  by_did (dids.Copied t) = refl
+  by_did (dids.Staged t) = refl
+  by_did (dids.Skipped t) = refl
+  by_did (dids.Destaged t) = refl
+  by_did (dids.Half t) = refl
+  by_did (dids.Fault side) = refl
+  by_did (dids.BadBytes side) = refl
+
+last_is : (d : BackDid) → is_last (back_answer d) ≡ stops d
+last_is dids.Nothing = refl
+last_is (dids.Recovered t) = refl
+last_is (dids.Copied t) = refl
+last_is (dids.Staged t) = refl
+last_is (dids.Skipped t) = refl
+last_is (dids.Destaged t) = refl
+last_is (dids.Half t) = refl
+last_is (dids.Fault side) = refl
+last_is (dids.BadBytes side) = refl
+
+record BackSo (num : ℕ) (empty : PlainState) (x y : MarksDevice) (answer : Option BackDid) : Type 0 where
+  follows : Follows num empty y
+  left : BackLeft x y answer
+  told : HasActed x.history y.history
+  kept : all_losses y.history ≡ all_losses x.history
+
+module _ (num : ℕ) (empty : PlainState) (x : MarksDevice) (f : Follows num empty x) (none : x.store.half ≡ None)
+    (alone : x.store.paired ≡ false → x.store.b.up ≡ false) where
+  back_so : Had (background by_plain x) (λ y answer. BackSo num empty x y answer)
+  back_so =
+      had_weaker
+      (had_both (had_both (background_follows num empty x f none) (back_left num empty x f none alone))
+      (had_both (had_always (background_told by_plain x)) (had_always (background_has by_plain (all_losses x.history) x refl))))
+      (λ y answer g. record { follows = g.0.0; left = g.0.1; told = g.1.0; kept = g.1.1 })
+
+  back_comes : (w : EventLine) (idle : Happened) → IsBack x.store.device w → (y : MarksDevice) (answer : Option BackDid) → BackSo num empty x y answer →
+      ComesTo x y (end_of ends.Back answer) w idle
+  back_comes w idle k y (Some d) c = record {
+    its = ends.Back d;
+    is = refl;
+    number = c.left.number;
+    so = λ xs later has reads writes.
+        subst (λ (b : Bool). LeadsTowards (record { devices = xs; events = w ∷ later; due = Next })
+        (device_lines (did.Back x.store.device (back_answer d)) reads writes x y) (behind_piece xs w later (audited y) b)) (last_is d)
+        (told_by num empty x y f c.follows c.kept w (back_answer d) half.Closed xs later has
+        (may_tell xs later (audited x) has w (back_answer d) k (back_line x.store.device d)) (ap half_by none) c.left reads writes y.history c.told refl);
+  }
+  back_comes w idle k y None c = absurd c.left
+
+  pub backs_lead : (w : EventLine) (idle : Happened) → IsBack x.store.device w →
+      Had (may_end_by ends.Back (background by_plain x)) (λ y end. ComesTo x y end w idle)
+  backs_lead w idle k = had_then back_so (λ y answer c. had_done (back_comes w idle k y answer c))

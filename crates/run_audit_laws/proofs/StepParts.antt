@@ -110,7 +110,7 @@ module _ (x : MarksDevice) where
   }
 
   -- an end changes nothing of it
-  ended_parts : (w : MarksDevice) (h : HalfWrite) (z : MarksStore) → core_of z ≡ core_of w.store → HasParts x w h → HasParts x (record w { store = z }) h
+  pub ended_parts : (w : MarksDevice) (h : HalfWrite) (z : MarksStore) → core_of z ≡ core_of w.store → HasParts x w h → HasParts x (record w { store = z }) h
   ended_parts w h z e p = stored_parts (record w { store = z }) h p.plans (subst (IsStored h) (sym e) (parts_stored w h p))
 
   abbrev pub On : PlainState → Core → Type 0

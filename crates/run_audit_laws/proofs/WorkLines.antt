@@ -10,13 +10,16 @@ use Rattle.deck_text.specs.Parse.{parsed}
 use Rattle.plain_defs.specs.History.{OpenEntry}
 use Rattle.device_defs.specs.Marks.{MarksDevice}
 use Rattle.device_defs.specs.Store as store
+use Rattle.report_text.specs.declared.answers.BackAnswer.TheVariants as back
+use Rattle.report_text.specs.declared.event.Happened.TheVariants as did
 use Rattle.report_text.specs.declared.line.ReportLine.{ReportLine}
 use Rattle.deck_audit.specs.Device.{is_idle}
 use Rattle.deck_audit.specs.State.{AuditState}
 use Rattle.run_report.specs.Events.{event_lines, lines_of}
 use Rattle.subsystem_defs.specs.declared.end.EventEnd.TheVariants as ends
 use Rattle.subsystem_defs.specs.declared.event.Event.TheVariants as events
-use Rattle.subsystem_defs.specs.Decks.{run_of}
+use Rattle.subsystem_defs.specs.Decks as D
+use Rattle.subsystem_defs.specs.Decks.{opened, run_of}
 use Rattle.subsystem_defs.specs.Deeds.{device_in}
 use Rattle.subsystem_defs.specs.Happening.{Happened, happens, quietly}
 use Rattle.subsystem_defs.specs.Lines as L
@@ -25,12 +28,15 @@ use Rattle.subsystem_defs.specs.Lines.{
   Logged,
   Once,
   Run,
+  Settle,
   asked_by,
+  backs,
   is_busy,
   is_settled,
   last_behind,
   line_logged,
   logged,
+  most_backs,
   most_steps,
   run_logged,
   step_logged,
@@ -38,16 +44,20 @@ use Rattle.subsystem_defs.specs.Lines.{
 }
 use Rattle.subsystem_defs.specs.Subsystem.{Mounted, Subsystem, devices_of, mounted_in, number_of}
 use Rattle.subsystem_laws.proofs.FoundDevices.{number_found}
+use Rattle.subsystem_laws.specs.Served.{IsServedDeck}
+use Rattle.subsystem_laws.proofs.GoodMarks.{Good, good_kept, opened_good}
 use Rattle.subsystem_laws.proofs.PlainRuns.{ArePlain, Plainly, event_plain, plain_behind}
 use Rattle.subsystem_laws.proofs.ReadDecks.{read_served}
+use Rattle.subsystem_laws.proofs.RunLines.{AnyEvent, all_asked}
 use Rattle.subsystem_laws.proofs.RunLinks.{event_from}
-use Rattle.subsystem_laws.proofs.Walks.{device_so, mounted_number}
-use Rattle.run_audit_laws.specs.Runs.{LineGoes, RunIsOver, line_behind}
+use Rattle.subsystem_laws.proofs.Walks.{AreSo, device_so, event_so, lines_end_so}
+use Rattle.run_audit_laws.specs.Runs.{LineGoes, RunIsOver, SettleIsOver, ends_settled, line_behind}
 use Rattle.run_audit_laws.specs.Standing.{HasDevice, LeadsBy, stand}
 use Rattle.run_audit_laws.specs.Steps.{LeadsTowards, is_there}
 use Rattle.run_audit_laws.proofs.Found.{mounted_too}
 use Rattle.run_audit_laws.proofs.NextLines.{towards_then}
-use Rattle.run_audit_laws.proofs.PieceEvents.{PieceGoes, run_idle_leads, run_step_goes, step_line_goes}
+use Rattle.run_audit_laws.proofs.PieceEvents.{PieceGoes, back_goes, back_piece, run_idle_leads, run_step_goes, settle_piece, step_line_goes}
+use Rattle.run_audit_laws.proofs.Pieces.{by_back, by_settle}
 use Rattle.run_audit_laws.proofs.StillLines.{some_device}
 use Rattle.run_audit_laws.proofs.WorkEnds.{left_by}
 
@@ -226,6 +236,101 @@ module _ (s : Subsystem) (plain : ArePlain s.mounted) (d : ℕ) where
     by_busy true busy = busy_goes busy over
     by_busy false idle = some_device (device_in (devices_of s) d) has (λ x at. idle_goes x at idle)
 
+-- BACK and SETTLE
+
+good_of : (s : Subsystem) → AreSo Good s.mounted → (n : ℕ) (x : MarksDevice) → device_in (devices_of s) n ≡ Some x → Good x
+good_of s good n x at = subst (λ (o : Option MarksDevice). IfSome o Good) at (device_so Good s.mounted n good)
+
+back_logged_is : (s : Subsystem) (d : ℕ) → line_logged s (Once (events.Back d)) ≡ logged (Once (events.Back d)) (happens s (events.Back d)) ∷ []
+unfolding L.line_logged
+back_logged_is s d = refl
+
+settle_logged_is : (s : Subsystem) (d : ℕ) → line_logged s (Settle d) ≡ backs most_backs d s
+unfolding L.line_logged
+settle_logged_is s d = refl
+
+one_back : (k d : ℕ) (s : Subsystem) → backs (suc k) d s
+    ≡ logged (Settle d) (happens s (events.Back d)) ∷ (if is_settled (happens s (events.Back d)).end then [] else backs k d (happens s (events.Back d)).behind)
+unfolding L.backs
+one_back k d s = refl
+
+settled_behind : (t : Logged) (ts : List Logged) → is_settled t.happened.end ≡ false → ends_settled (t ∷ ts) ≡ ends_settled ts
+settled_behind t [] is = is
+settled_behind t (u ∷ ts) is = refl
+
+left_settle : List Logged → ℕ → List EventLine → List EventLine
+left_settle ts d later = if ends_settled ts then later else wanted.Settle d ∷ later
+
+module _ (s : Subsystem) (plain : ArePlain s.mounted) (good : AreSo Good s.mounted) where
+  piece_of_back : (d : ℕ) (x : MarksDevice) → device_in (devices_of s) d ≡ Some x →
+      PieceGoes s d (wanted.Back d) (Once (events.Back d)) (happens s (events.Back d))
+  piece_of_back d x at =
+      subst (λ (k : ℕ). PieceGoes s k (wanted.Back k) (Once (events.Back k)) (happens s (events.Back k))) (number_found s.mounted d x at)
+      (back_goes s x (own_place s d x at) (plain_of s plain d x at) (good_of s good d x at) (wanted.Back x.store.device) (Once (events.Back x.store.device))
+      (did.Back x.store.device back.Nothing) back_piece by_back)
+
+  piece_of_settle : (d : ℕ) (x : MarksDevice) → device_in (devices_of s) d ≡ Some x → PieceGoes s d (wanted.Settle d) (Settle d) (happens s (events.Back d))
+  piece_of_settle d x at =
+      subst (λ (k : ℕ). PieceGoes s k (wanted.Settle k) (Settle k) (happens s (events.Back k))) (number_found s.mounted d x at)
+      (back_goes s x (own_place s d x at) (plain_of s plain d x at) (good_of s good d x at) (wanted.Settle x.store.device) (Settle x.store.device)
+      (did.Back x.store.device back.Nothing) settle_piece by_settle)
+
+  pub back_goes_on : (d : ℕ) → HasDevice s d → LineGoes s (wanted.Back d)
+  back_goes_on d has =
+      some_device (device_in (devices_of s) d) has (λ x at.
+      let p = piece_of_back d x at in
+      one_goes s (wanted.Back d) (happens s (events.Back d)) (back_logged_is s d) (event_from s (events.Back d)) p.goes)
+
+module _ (d : ℕ) (later : List EventLine) where
+  abbrev settled_to : Subsystem → List Logged → AuditState
+  settled_to s ts = stand (last_behind s ts) (left_settle ts d later)
+
+  -- the pieces behind the first one
+  more_backs : (s : Subsystem) (h : Happened) (k : ℕ) (ls : List ReportLine) (b : Bool) → is_settled h.end ≡ b →
+      LeadsTowards (stand s (wanted.Settle d ∷ later)) ls (stand h.behind (if b then later else wanted.Settle d ∷ later)) →
+      (b ≡ false → LeadsTowards (stand h.behind (wanted.Settle d ∷ later)) (flat_map lines_of (backs k d h.behind))
+      (settled_to h.behind (backs k d h.behind))) →
+      LeadsTowards (stand s (wanted.Settle d ∷ later)) (ls ++ flat_map lines_of (if b then [] else backs k d h.behind))
+      (settled_to s (logged (Settle d) h ∷ (if b then [] else backs k d h.behind)))
+  unfolding left_settle
+  more_backs s h k ls true is first rest =
+      subst (λ (l : List ReportLine). LeadsTowards (stand s (wanted.Settle d ∷ later)) l (settled_to s (logged (Settle d) h ∷ []))) (sym (append-nil ls))
+      (subst (λ (c : Bool). LeadsTowards (stand s (wanted.Settle d ∷ later)) ls (stand h.behind (if c then later else wanted.Settle d ∷ later))) (sym is) first)
+  more_backs s h k ls false is first rest =
+      let ts = backs k d h.behind in
+      subst (λ (c : Bool). LeadsTowards (stand s (wanted.Settle d ∷ later)) (ls ++ flat_map lines_of ts)
+      (stand (last_behind h.behind ts) (if c then later else wanted.Settle d ∷ later))) (sym (settled_behind (logged (Settle d) h) ts is))
+      (towards_then h.behind (wanted.Settle d ∷ later) tt (stand s (wanted.Settle d ∷ later)) (settled_to h.behind ts) ls (flat_map lines_of ts) first
+      (rest refl))
+
+all_backs_lead : (k : ℕ) (s : Subsystem) → ArePlain s.mounted → AreSo Good s.mounted → (d : ℕ) (x : MarksDevice) → device_in (devices_of s) d ≡ Some x →
+    (later : List EventLine) →
+    LeadsTowards (stand s (wanted.Settle d ∷ later)) (flat_map lines_of (backs k d s)) (stand (last_behind s (backs k d s))
+    (left_settle (backs k d s) d later))
+unfolding L.backs left_settle
+all_backs_lead zero s plain good d x at later = (stand s (wanted.Settle d ∷ later), refl, is_there refl)
+all_backs_lead (suc k) s plain good d x at later =
+    let h = happens s (events.Back d) in
+    let p = piece_of_settle s plain good d x at in
+    subst (λ (ts : List Logged). LeadsTowards (stand s (wanted.Settle d ∷ later)) (flat_map lines_of ts) (stand (last_behind s ts)
+    (left_settle ts d later))) (sym (one_back k d s))
+    (more_backs d later s h k (lines_of (logged (Settle d) h)) (is_settled h.end) refl
+    (subst (λ (l : List ReportLine). LeadsTowards (stand s (wanted.Settle d ∷ later)) l
+    (stand h.behind (if is_settled h.end then later else wanted.Settle d ∷ later))) (told_from s (Settle d) h (event_from s (events.Back d))) (p.goes later))
+    (λ more. all_backs_lead k h.behind (event_plain s plain (events.Back d) tt) (event_so Good AnyEvent good_kept s good (events.Back d) tt) d
+    p.there.0.device (device_there h.behind.mounted d p.there.0 p.there.1) later))
+
+-- of which the last piece says that nothing is left to do
+pub settle_goes_on : (s : Subsystem) → ArePlain s.mounted → AreSo Good s.mounted → (d : ℕ) → HasDevice s d → SettleIsOver s d → LineGoes s (wanted.Settle d)
+unfolding left_settle
+settle_goes_on s plain good d has over later =
+    let same = settle_logged_is s d in
+    subst (λ (ts : List Logged). LeadsTowards (stand s (wanted.Settle d ∷ later)) (flat_map lines_of ts) (stand (last_behind s ts) later)) (sym same)
+    (subst (λ (l : List EventLine). LeadsTowards (stand s (wanted.Settle d ∷ later)) (flat_map lines_of (backs most_backs d s))
+    (stand (last_behind s (backs most_backs d s)) l))
+    (ap (λ (b : Bool). if b then later else wanted.Settle d ∷ later) (ap ends_settled (sym same) ∙ over))
+    (some_device (device_in (devices_of s) d) has (λ x at. all_backs_lead most_backs s plain good d x at later)))
+
 -- Behind the run of a deck that was read
 
 pub step_line_leads : (text : List ℕ) (deck : DeckLines) → parsed text ≡ Ok deck → (d : ℕ) → HasDevice (run_of deck).behind d →
@@ -235,3 +340,21 @@ step_line_leads text deck read d has = step_goes_on (run_of deck).behind (plain_
 pub run_line_leads : (text : List ℕ) (deck : DeckLines) → parsed text ≡ Ok deck → (d : ℕ) → HasDevice (run_of deck).behind d →
     RunIsOver (run_of deck).behind d → LineGoes (run_of deck).behind (wanted.Run d)
 run_line_leads text deck read d has over = run_goes_on (run_of deck).behind (plain_behind deck (read_served text deck read)) d has over
+
+good_behind : (deck : DeckLines) → IsServedDeck deck → AreSo Good (run_of deck).behind.mounted
+unfolding D.run_asked
+good_behind deck h =
+    lines_end_so Good AnyEvent good_kept (record { step = λ d. tt; back = λ d. tt }) (map asked_by deck.events) (opened deck)
+    (all_asked (map asked_by deck.events)) (opened_good deck deck.devices h.devices)
+
+pub back_line_leads : (text : List ℕ) (deck : DeckLines) → parsed text ≡ Ok deck → (d : ℕ) → HasDevice (run_of deck).behind d →
+    LineGoes (run_of deck).behind (wanted.Back d)
+back_line_leads text deck read d has =
+    let served = read_served text deck read in
+    back_goes_on (run_of deck).behind (plain_behind deck served) (good_behind deck served) d has
+
+pub settle_line_leads : (text : List ℕ) (deck : DeckLines) → parsed text ≡ Ok deck → (d : ℕ) → HasDevice (run_of deck).behind d →
+    SettleIsOver (run_of deck).behind d → LineGoes (run_of deck).behind (wanted.Settle d)
+settle_line_leads text deck read d has over =
+    let served = read_served text deck read in
+    settle_goes_on (run_of deck).behind (plain_behind deck served) (good_behind deck served) d has over

@@ -1,5 +1,5 @@
 -- How an audit goes along a run, from each event line of the deck to the next.
-use Rattle.std.specs.Prelude.{◌≡◌, ◌++◌, ℕ, false, List, [], ◌∷◌, map}
+use Rattle.std.specs.Prelude.{◌≡◌, ◌++◌, ℕ, Bool, true, false, List, [], ◌∷◌, map}
 use Rattle.std.specs.List.{flat_map}
 use Rattle.deck_plan.specs.declared.event.EventLine.{EventLine}
 use Rattle.deck_plan.specs.declared.event.EventLine.TheVariants as events
@@ -9,7 +9,7 @@ use Rattle.deck_audit.specs.State.{AuditState}
 use Rattle.run_report.specs.Closing.{ending_lines}
 use Rattle.run_report.specs.Events.{lines_of}
 use Rattle.subsystem_defs.specs.Closing.{ending}
-use Rattle.subsystem_defs.specs.Lines.{asked_by, is_busy, last_behind, line_logged, run_lines}
+use Rattle.subsystem_defs.specs.Lines.{Logged, asked_by, is_busy, is_settled, last_behind, line_logged, run_lines}
 use Rattle.subsystem_defs.specs.Subsystem.{Subsystem, mounted_in}
 use Rattle.run_audit_laws.specs.Standing.{LeadsBy, stand}
 use Rattle.run_audit_laws.specs.Steps.{LeadsTowards}
@@ -32,6 +32,15 @@ IsNoVolumeFailure e = Unit {0}
 -- the program and the half write of a device of which all is run
 abbrev pub RunIsOver : Subsystem → ℕ → Type 0
 RunIsOver s d = is_busy (mounted_in (line_behind s (events.Run d)).mounted d) ≡ false
+
+-- the last of these says that nothing is left to do in the background, or that it is stopped
+abbrev pub ends_settled : List Logged → Bool
+ends_settled [] = false
+ends_settled (t ∷ []) = is_settled t.happened.end
+ends_settled (t ∷ u ∷ ts) = ends_settled (u ∷ ts)
+
+abbrev pub SettleIsOver : Subsystem → ℕ → Type 0
+SettleIsOver s d = ends_settled (line_logged s (asked_by (events.Settle d))) ≡ true
 
 -- so does each line of these, run one after another
 abbrev pub AllGo : Subsystem → List EventLine → Type 0

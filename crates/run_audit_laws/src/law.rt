@@ -1,6 +1,6 @@
 ghost use Rattle.std.specs.Prelude.{◌≡◌, ℕ, Bool, true, false, List, [], ◌∷◌, Some, Ok};
 ghost use Rattle.deck_plan.specs.declared.event.EventLine.{EventLine};
-ghost use Rattle.deck_plan.specs.declared.event.EventLine.TheVariants.{Run, Step};
+ghost use Rattle.deck_plan.specs.declared.event.EventLine.TheVariants.{Back, Run, Settle, Step};
 ghost use Rattle.deck_text.specs.DeckLines.{DeckLines};
 ghost use Rattle.deck_text.specs.Parse.{parsed};
 ghost use Rattle.plain_defs.specs.History.{OpenEntry};
@@ -17,7 +17,7 @@ ghost use Rattle.run_report.specs.Report.{report_lines};
 ghost use Rattle.subsystem_defs.specs.Closing.{ending};
 ghost use Rattle.subsystem_defs.specs.Decks.{opened, run_of};
 ghost use Rattle.subsystem_defs.specs.Subsystem.{Subsystem};
-ghost use Rattle.run_audit_laws.specs.Runs.{AllGo, LineGoes, RunIsOver, WholeLeads};
+ghost use Rattle.run_audit_laws.specs.Runs.{AllGo, LineGoes, RunIsOver, SettleIsOver, WholeLeads};
 ghost use Rattle.run_audit_laws.specs.Standing.{FramesAreDeclared, HasDevice, IsStill, LeadsBy, LineLeads, stand};
 ghost use Rattle.run_audit_laws.specs.Steps.{BackLeads, HalfLeads, StepEnds, WholeStepLeads};
 
@@ -77,6 +77,17 @@ pub fn step_line_leads()
 pub fn run_line_leads()
     ensures { (text : List ℕ) (deck : DeckLines) → parsed text ≡ Ok deck → (d : ℕ) → HasDevice (run_of deck).behind d → RunIsOver (run_of deck).behind d
         → LineGoes (run_of deck).behind (Run d) }
+{}
+
+/// So do the lines of a BACK, whatever the device does by itself.
+pub fn back_line_leads()
+    ensures { (text : List ℕ) (deck : DeckLines) → parsed text ≡ Ok deck → (d : ℕ) → HasDevice (run_of deck).behind d → LineGoes (run_of deck).behind (Back d) }
+{}
+
+/// And those of a SETTLE of which the last piece of work says that nothing is left to do, or is stopped.
+pub fn settle_line_leads()
+    ensures { (text : List ℕ) (deck : DeckLines) → parsed text ≡ Ok deck → (d : ℕ) → HasDevice (run_of deck).behind d → SettleIsOver (run_of deck).behind d
+        → LineGoes (run_of deck).behind (Settle d) }
 {}
 
 /// Where each event line of a deck leads an audit so from where the run has come to, and none of them is a FAIL VOLUME, and each frame of the pool
