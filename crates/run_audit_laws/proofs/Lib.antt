@@ -14,3 +14,7 @@ mod Commands
 mod StillLines
 mod StepEnds
 mod Backs
+mod LossDevices
+mod ActLines
+mod LentDevices
+mod Ties
