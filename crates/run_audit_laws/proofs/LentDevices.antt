@@ -3,7 +3,7 @@ use Rattle.std.proofs.Common.{◌≡◌, ℕ, zero, suc, true, Option, Some, Non
 use Rattle.std.proofs.lemmas.Bool.{cond_both}
 use Rattle.device_outside.specs.Interaction.{Done}
 use Rattle.device_defs.specs.Contents.{by_plain}
-use Rattle.device_defs.specs.Device.{event_begun}
+use Rattle.device_defs.specs.Device.{event_begun, event_ended}
 use Rattle.device_defs.specs.Losses as L
 use Rattle.device_defs.specs.Losses.{gives_up, over, slot_in, without_frame}
 use Rattle.device_defs.specs.Marks.{MarksDevice, MarksStore}
@@ -94,5 +94,5 @@ module _ (x : MarksDevice) (to : ℕ) where
   pub lend_makes : Had (lend by_plain x to) (λ y (_ : Unit {0}). IsLent to x y)
   unfolding O.lend
   lend_makes =
-      had_then {p = λ y _. IsLent to x y} (had_done lent_first)
+      had_then {S = MarksDevice} {A = Unit {0}} {f = event_ended by_plain x} {p = λ y _. IsLent to x y} (had_done lent_first)
       (λ y a g. had_then (ended_kept (waiting_count by_plain x.store) y.store) (λ z _ k. had_done (lent_same y z k g)))

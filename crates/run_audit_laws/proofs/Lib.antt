@@ -18,3 +18,8 @@ mod LossDevices
 mod ActLines
 mod LentDevices
 mod Ties
+mod PairLines
+mod FirmMarks
+mod DeckNumbers
+mod LossLines
+mod OrderedLines

@@ -377,10 +377,10 @@ module _ (num : ℕ) (empty : PlainState) (d : MarksDevice) (f : Follows num emp
       let number : number_behind (has_loose s) s.number ≡ n =
       ap (λ (x : Bool). number_behind x s.number) same ∙ ap (λ (c : Core). number_behind (has_loose d.store) c.number) e in
       let made = cache_makes counted (loose_many s e) (ap (λ (c : Core). c.acts) e) in
-      had_then {p = λ z _. NoneLoose acts n (core_of z)}
+      had_weaker
       (told_holds (NoneLoose acts n) (none_hard acts n) (tracks_of s) (cache_lost by_plain counted)
       (made.0, (made.1.0 ∙ ap lost_acts same, made.1.1 ∙ number)))
-      (λ z a w. had_done w.1))
+      (λ z a w. w.1))
 
   pub store_acts : PatchedAreFirm d.store → Had (lose by_plain d losses.Store) (λ y (_ : Unit {0}). IsLoss empty d y × (y.store.acts ≡ []))
   store_acts firm =

@@ -92,7 +92,7 @@ use Rattle.subsystem_laws.proofs.FoundDevices.{number_found}
 use Rattle.subsystem_laws.proofs.LendBase.{at, stays_still}
 use Rattle.subsystem_laws.proofs.RunLines.{AnyEvent, Goes, lines_keep, logs_end}
 use Rattle.subsystem_laws.proofs.StoreFacts.{Bears, Facts, facts_of, failed_more, fallen}
-use Rattle.subsystem_laws.proofs.Walks.{hold_answer, mounted_number, put_other}
+use Rattle.subsystem_laws.proofs.Walks.{hold_answer, mounted_number}
 use Rattle.run_audit_laws.proofs.Found.{mounted_too}
 use Rattle.run_audit_laws.proofs.LentDevices.{IsLent, lend_makes}
 
@@ -436,10 +436,33 @@ module _ (d : MarksDevice) where
 
 -- Deeds
 
+not_of : (k a b : ℕ) (y : Mounted) (o : Option Mounted) → k ≡ b → (b == a) ≡ false → (if k == a then Some y else o) ≡ o
+not_of k a b y o e other = ap (λ (x : ℕ). if x == a then Some y else o) e ∙ ap (λ (t : Bool). if t then Some y else o) other
+
+-- another one's place
+pub others_stay : (ms : List Mounted) (a b : ℕ) (y : Mounted) → number_of y ≡ b → (b == a) ≡ false → mounted_in (put_in ms b y) a ≡ mounted_in ms a
+others_stay [] a b y number other = refl
+others_stay (k ∷ ms) a b y number other = by_test (number_of k == b) refl (others_stay ms a b y number other) where
+  by_test : (t : Bool) → (number_of k == b) ≡ t → mounted_in (put_in ms b y) a ≡ mounted_in ms a →
+      mounted_in (if t then y ∷ ms else k ∷ put_in ms b y) a ≡ (if number_of k == a then Some k else mounted_in ms a)
+  by_test true is rest =
+      not_of (number_of y) a b y (mounted_in ms a) number other ∙ sym (not_of (number_of k) a b k (mounted_in ms a) (eqb-true (number_of k) b is) other)
+  by_test false is rest = ap (λ (o : Option Mounted). if number_of k == a then Some k else o) rest
+
 put_same : (ms : List Mounted) (n : ℕ) (x m : Mounted) → mounted_in ms n ≡ Some m → tie x.device ≡ tie m.device → ties (put_in ms n x) ≡ ties ms
 put_same ms n x m there same =
     let number : (tie x.device).number ≡ n = ap (λ (t : Tie). t.number) same ∙ mounted_number ms n m there in
     ties_put ms n x ∙ put_own n (tie x.device) number (ties ms) (tie m.device) (tie_found ms n m there) same
+
+-- so many are lent to each where the same is
+pub lent_stays : (ms : List Mounted) (n : ℕ) (x m : Mounted) → mounted_in ms n ≡ Some m → number_of x ≡ n →
+    x.device.store.lent ≡ m.device.store.lent → (k : ℕ) → lent_count k (ties (put_in ms n x)) ≡ lent_count k (ties ms)
+lent_stays ms n x m there number lent k =
+    let one = lent_put n (tie x.device) number k (ties ms) (tie m.device) (tie_found ms n m there) in
+    let same : one_if (is_lent_to x.device.store.lent k) ≡ one_if (is_lent_to m.device.store.lent k) =
+    ap (λ (l : Option ℕ). one_if (is_lent_to l k)) lent in
+    let are : lent_count k (ties (put_in ms n x)) ≡ lent_count k (put_tie n (tie x.device) (ties ms)) = ap (lent_count k) (ties_put ms n x) in
+    omega (arith, one, same, are)
 
 swept_same : (f : MarksDevice → Talk (Unit {0})) → ((d : MarksDevice) (t : Told) → tie (T.hold true (f d) t).state ≡ tie d) → (ms : List Mounted)
     (pool : Pool) → ties (sweep f ms pool).mounted ≡ ties ms
@@ -451,21 +474,21 @@ swept_same f h (m ∷ ms) pool =
     ∙ ap (λ (l : List Tie). tie m.device ∷ l) (swept_same f h ms o.told.pool)
 
 -- what a pair's fault says where there is none
-record MayPair (x y : MarksDevice) : Type 0 where
-  other : (y.store.device == x.store.device) ≡ false
-  free : x.store.lent ≡ None
-  home : y.store.lent ≡ None
-  single : x.store.paired ≡ false
-  alone : y.store.paired ≡ false
+pub record MayPair (x y : MarksDevice) : Type 0 where
+  pub other : (y.store.device == x.store.device) ≡ false
+  pub free : x.store.lent ≡ None
+  pub home : y.store.lent ≡ None
+  pub single : x.store.paired ≡ false
+  pub alone : y.store.paired ≡ false
 
 lent_none : (l : Option ℕ) → R.lent_by l ≡ None → l ≡ None
 lent_none (Some to) is = absurd (cc)
 lent_none None is = refl
 
-turned : (a b : ℕ) → (a == b) ≡ false → (b == a) ≡ false
+pub turned : (a b : ℕ) → (a == b) ≡ false → (b == a) ≡ false
 turned a b is = ne_eqb b a (λ e. eqb-false a b is (sym e))
 
-may_pair : (x y : MarksDevice) → pair_fault x y ≡ None → MayPair x y
+pub may_pair : (x y : MarksDevice) → pair_fault x y ≡ None → MayPair x y
 unfolding R.pair_fault
 may_pair x y is =
     let a = first_none (R.where_so (x.store.device == y.store.device) Same) _ is in
@@ -544,7 +567,7 @@ module _ (ns : List ℕ) where
         let fx = found x stands_x in
         let still : mounted_in z.mounted x.store.device ≡ Some fx.0 =
         ap (λ (l : List Mounted). mounted_in l x.store.device) are
-        ∙ put_other s.mounted x.store.device y.store.device w g.number (may_pair x y fault).other ∙ fx.1 in
+        ∙ others_stay s.mounted x.store.device y.store.device w g.number (may_pair x y fault).other ∙ fx.1 in
         subst (λ (k : Option Mounted). Tied ns (ties (joined z x.store.device volume k).mounted)) (sym still ∙ at_x)
         (joined_tied z volume fx.0 still fx.2 w g are t)
 

@@ -15,6 +15,7 @@ ghost use Rattle.run_report.specs.Closing.{ending_lines};
 ghost use Rattle.subsystem_defs.specs.Closing.{ending};
 ghost use Rattle.subsystem_defs.specs.Decks.{run_of};
 ghost use Rattle.subsystem_defs.specs.Subsystem.{Subsystem};
+ghost use Rattle.run_audit_laws.specs.Ordered.{IsLossOrPair};
 ghost use Rattle.run_audit_laws.specs.Standing.{FramesAreDeclared, IsStill, LeadsBy, LineLeads, stand};
 ghost use Rattle.run_audit_laws.specs.Steps.{BackLeads, HalfLeads, StepEnds, WholeStepLeads};
 
@@ -23,6 +24,12 @@ ghost use Rattle.run_audit_laws.specs.Steps.{BackLeads, HalfLeads, StepEnds, Who
 /// lines in the report stand where they may, and show what a plain device answers.
 pub fn still_line_leads()
     ensures { (text : List ℕ) (deck : DeckLines) → parsed text ≡ Ok deck → (e : EventLine) → IsStill (run_of deck).behind e
+        → LineLeads (run_of deck).behind e }
+{}
+
+/// So does one at which the store or a side is lost, or two devices become a pair or part.
+pub fn loss_or_pair_leads()
+    ensures { (text : List ℕ) (deck : DeckLines) → parsed text ≡ Ok deck → (e : EventLine) → IsLossOrPair (run_of deck).behind e
         → LineLeads (run_of deck).behind e }
 {}
 
