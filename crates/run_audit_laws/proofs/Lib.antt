@@ -22,4 +22,7 @@ mod PairLines
 mod FirmMarks
 mod DeckNumbers
 mod LossLines
+mod LooseOnce
+mod KnownDevices
+mod CacheLines
 mod OrderedLines

@@ -220,7 +220,7 @@ unframed_core z t =
     (λ (y : MarksStore). core_of y ≡ core_of z) (λ _. framed_same z t None) (λ _. refl)
 
 module _ (s : MarksStore) (many : length s.loose ≡ tracks_of s) where
-  none_at : (o : Option ℕ) → least (tracks_of s) (is_loose s) ≡ o → is_some o ≡ false → (q : ℕ) → is_loose s q ≡ false
+  pub none_at : (o : Option ℕ) → least (tracks_of s) (is_loose s) ≡ o → is_some o ≡ false → (q : ℕ) → is_loose s q ≡ false
   none_at o is none q = by_place (cases_lt q (tracks_of s)) where
     by_place : (q < tracks_of s) ⊎ (tracks_of s ≤ q) → is_loose s q ≡ false
     by_place (inl lt) = none_below (tracks_of s) (is_loose s) (ap (λ (k : Option ℕ). is_some k) is ∙ none) q lt

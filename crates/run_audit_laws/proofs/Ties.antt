@@ -253,12 +253,12 @@ paired_tied ns ts a b x y o u here free single there home alone number lent none
   by_test : (k : ℕ) (c : Bool) → (a == k) ≡ c → lent_count k (put_tie a x (put_tie b y ts)) ≤ pair_count k (put_tie a x (put_tie b y ts))
   by_test k true is = subst (λ (i : ℕ). lent_count i (put_tie a x (put_tie b y ts)) ≤ pair_count i (put_tie a x (put_tie b y ts))) (eqb-true a k is)
       (
-        let many = counts a in
-        let before = t.single a in
-        let none_before : pair_count a ts ≡ 0 = pair_at a ts o here ∙ ap one_if single in
-        let now : pair_count a (put_tie a x (put_tie b y ts)) ≡ 1 = pair_here a x own (put_tie b y ts) o here_still ∙ ap one_if pair in
-        let one : one_if (a == a) ≡ 1 = ap one_if (eq-eqb a a refl) in
-        omega (arith, many, before, none_before, now, one)
+      let many = counts a in
+      let before = t.single a in
+      let none_before : pair_count a ts ≡ 0 = pair_at a ts o here ∙ ap one_if single in
+      let now : pair_count a (put_tie a x (put_tie b y ts)) ≡ 1 = pair_here a x own (put_tie b y ts) o here_still ∙ ap one_if pair in
+      let one : one_if (a == a) ≡ 1 = ap one_if (eq-eqb a a refl) in
+      omega (arith, many, before, none_before, now, one)
       )
   by_test k false is =
       let many = counts k in
@@ -340,11 +340,11 @@ parted_tied ns ts a x o here own lent single t = record {
   by_test k true is =
       subst (λ (i : ℕ). lent_count i (restored_tie a (put_tie a x ts)) ≤ pair_count i (restored_tie a (put_tie a x ts))) (eqb-true a k is)
       (
-        let many = counts a in
-        let before = t.single a in
-        let most = pair_most a ts in
-        let none = none_restored a (put_tie a x ts) (omega (arith, many, before, most)) in
-        omega (arith, none)
+      let many = counts a in
+      let before = t.single a in
+      let most = pair_most a ts in
+      let none = none_restored a (put_tie a x ts) (omega (arith, many, before, most)) in
+      omega (arith, none)
       )
   by_test k false is =
       let fewer = fewer_restored a k (put_tie a x ts) in
