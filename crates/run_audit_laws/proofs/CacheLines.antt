@@ -105,7 +105,7 @@ record IsLostNow (x y : MarksDevice) : Type 0 where
 abbrev IsTold : MarksDevice → MarksDevice → Type 0
 IsTold x y = (over_lines x y ≡ []) × (IsQuiet x y ⊎ IsLostNow x y)
 
-loss_told : (n c k m : ℕ) → c ≡ k → m ≡ next_number n → (d : ℕ) →
+pub loss_told : (n c k m : ℕ) → c ≡ k → m ≡ next_number n → (d : ℕ) →
     lines.Loose d (loose.Lost c (id_of m)) ≡ (let id = next_number n in lines.Loose d (loose.Lost k (id / 256 ∷ id % 256 ∷ [])))
 loss_told n c k m count number d =
     ap (λ (i : ℕ). lines.Loose d (loose.Lost i (id_of m))) count ∙ ap (λ (i : ℕ). lines.Loose d (loose.Lost k (id_of i))) number
@@ -125,9 +125,9 @@ module _ (x y : MarksDevice) (p : Plainly x) (g : IsLoss p.empty x y) where
         lines_are = acts_told x y y.store.acts g.history
             ∙ ap (λ (l : List Act). map loosed_line (map (loosed x.store.device) (map (told_act x.store y.store) l))) one
             ∙ ap (λ (l : ReportLine). l ∷ [])
-            (loss_told (state_of (audited x)).number (loose_count x.store) (length (state_of (audited x)).loose) y.store.number (count_is x k)
-            (number ∙ ap next_number (sym k.of.number)) x.store.device);
-        some = sym (has_is x k) ∙ some;
+            (loss_told (state_of (audited x)).number (loose_count x.store) (length (state_of (audited x)).loose) y.store.number (count_is (audited x) x.store k)
+            (number ∙ ap next_number (sym k.number_is)) x.store.device);
+        some = sym (has_is (audited x) x.store k) ∙ some;
         audits = audited_by x y (half_by x.store.half) (acted x.history CfwLost) g.parts
             (g.history ∙ ap (λ (l : List Act). all_acted x.history l) one);
       }

@@ -25,4 +25,6 @@ mod LossLines
 mod LooseOnce
 mod KnownDevices
 mod CacheLines
+mod PowerDevices
+mod PowerTold
 mod OrderedLines

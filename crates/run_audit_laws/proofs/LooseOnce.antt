@@ -143,7 +143,7 @@ module _ (state : PlainState) (path : ℕ) (ccws : List Ccw) (acts : List Acted)
       step_once p p.next
       (acted_once k (a k (omega arith)) (bare_once k (λ j lt. a j (omega (arith, lt))) o))
 
-  part_once : (k : ℕ) → HasActs state path ccws acts k → StandOnce state.loose → StandOnce (part_of state path ccws acts k).state.loose
+  pub part_once : (k : ℕ) → HasActs state path ccws acts k → StandOnce state.loose → StandOnce (part_of state path ccws acts k).state.loose
   part_once k h o =
       acted_once k (record { edited = None; are = h.last })
       (bare_once k (λ j lt. record {
@@ -158,7 +158,7 @@ module _ (plans : Plans) where
   power_once s [] is = subst StandOnce (sym is) tt
   power_once s (x ∷ l) is = tt
 
-  items_once : (s : PlainState) (earlier xs : List Item) → StandOnce s.loose → IsLegalFrom plans s earlier xs → StandOnce (replay plans s xs).loose
+  pub items_once : (s : PlainState) (earlier xs : List Item) → StandOnce s.loose → IsLegalFrom plans s earlier xs → StandOnce (replay plans s xs).loose
   items_once s earlier [] o legal = o
   items_once s earlier (items.Program e ∷ xs) o legal =
       items_once (replay_item plans s (items.Program e)) (earlier ++ items.Program e ∷ []) xs

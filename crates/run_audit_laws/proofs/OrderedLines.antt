@@ -1,10 +1,11 @@
 -- An event line at which something is lost, or two devices become a pair or part, behind the run of a deck.
-use Rattle.std.proofs.Common.{◌≡◌, ◌≤◌, ℕ, List, [], ◌∷◌, map, Option, Some, None, refl, arith}
+use Rattle.std.proofs.Common.{◌≡◌, ◌≤◌, ℕ, List, [], ◌∷◌, map, Option, Some, None, refl, sym, subst, ◌∙◌, arith}
 use Rattle.std.specs.Prelude.{Ok}
 use Rattle.deck_plan.specs.declared.event.EventLine.{EventLine}
 use Rattle.deck_plan.specs.declared.event.EventLine.TheVariants as wanted
 use Rattle.deck_text.specs.DeckLines.{DeckLines}
 use Rattle.deck_text.specs.Parse.{parsed}
+use Rattle.device_defs.specs.Marks.{MarksDevice}
 use Rattle.subsystem_defs.specs.declared.end.OrderFault.{OrderFault}
 use Rattle.subsystem_defs.specs.declared.event.Event.TheVariants as events
 use Rattle.subsystem_defs.specs.Decks as D
@@ -24,6 +25,8 @@ use Rattle.subsystem_laws.proofs.RunLines.{AnyEvent, all_asked}
 use Rattle.subsystem_laws.proofs.Walks.{AreSo, lines_end_so}
 use Rattle.run_audit_laws.specs.Ordered.{IsLossOrPair}
 use Rattle.run_audit_laws.specs.Standing.{LineLeads}
+use Rattle.run_audit_laws.proofs.CacheLines.{fail_cache_leads, numbers_same}
+use Rattle.run_audit_laws.proofs.DeckNumbers.{RisesFrom, read_rises}
 use Rattle.run_audit_laws.proofs.LossLines.{fail_store_leads, fail_volume_leads}
 use Rattle.run_audit_laws.proofs.PairLines.{pair_leads, unpair_leads}
 use Rattle.run_audit_laws.proofs.StillLines.{once, one_line, some_device}
@@ -49,12 +52,17 @@ pub record IsBehind (numbers : List ℕ) (s : Subsystem) : Type 0 where
   pub plain : ArePlain s.mounted
   pub good : AreSo Good s.mounted
   pub tied : Tied numbers (ties s.mounted)
+  pub rises : RisesFrom 0 numbers
 
 module _ (numbers : List ℕ) (s : Subsystem) (k : IsBehind numbers s) where
   few : (a : ℕ) → lent_count a (ties s.mounted) ≤ 1
   few a = let one = k.tied.single a in let most = pair_most a (ties s.mounted) in omega (arith, one, most)
 
+  rising : RisesFrom 0 (map (λ (d : MarksDevice). d.store.device) (devices_of s))
+  rising = subst (RisesFrom 0) (sym (numbers_same s.mounted ∙ k.tied.numbers_are)) k.rises
+
   pub ordered_leads : (e : EventLine) → IsLossOrPair s e → LineLeads s e
+  ordered_leads wanted.FailCache has = once s k.plain wanted.FailCache events.FailCache refl (fail_cache_leads s k.plain rising)
   ordered_leads wanted.FailStore has = once s k.plain wanted.FailStore events.FailStore refl (fail_store_leads s k.plain k.good)
   ordered_leads (wanted.FailVolume d side) has =
       some_device s k.plain (device_in (devices_of s) d) has
@@ -73,7 +81,6 @@ module _ (numbers : List ℕ) (s : Subsystem) (k : IsBehind numbers s) where
   ordered_leads (wanted.Back d) has = absurd has
   ordered_leads (wanted.Settle d) has = absurd has
   ordered_leads (wanted.Reset path d) has = absurd has
-  ordered_leads wanted.FailCache has = absurd has
   ordered_leads wanted.RepairCache has = absurd has
   ordered_leads wanted.RepairStore has = absurd has
   ordered_leads (wanted.Replace d side) has = absurd has
@@ -92,7 +99,7 @@ good_behind deck h =
 pub run_is_behind : (text : List ℕ) (deck : DeckLines) → parsed text ≡ Ok deck → IsBehind (numbers_in deck) (run_of deck).behind
 run_is_behind text deck read =
     let served = read_served text deck read in
-    record { plain = plain_behind deck served; good = good_behind deck served; tied = tied_behind deck }
+    record { plain = plain_behind deck served; good = good_behind deck served; tied = tied_behind deck; rises = read_rises text deck read }
 
 pub ordered_line_leads : (text : List ℕ) (deck : DeckLines) → parsed text ≡ Ok deck → (e : EventLine) → IsLossOrPair (run_of deck).behind e →
     LineLeads (run_of deck).behind e

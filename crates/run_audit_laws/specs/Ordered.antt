@@ -6,6 +6,7 @@ use Rattle.subsystem_defs.specs.Subsystem.{Subsystem}
 use Rattle.run_audit_laws.specs.Standing.{HasDevice}
 
 abbrev pub IsLossOrPair : Subsystem → EventLine → Type 0
+IsLossOrPair s events.FailCache = Unit {0}
 IsLossOrPair s events.FailStore = Unit {0}
 IsLossOrPair s (events.FailVolume d side) = HasDevice s d
 IsLossOrPair s (events.Pair a b) = HasDevice s a × HasDevice s b
