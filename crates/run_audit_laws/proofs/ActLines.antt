@@ -1,6 +1,6 @@
 -- What is told of devices to which only acts came, or nothing, or an empty volume.
 use Rattle.std.proofs.Common.{◌≡◌, ◌⊎◌, ◌++◌, ℕ, Bool, true, false, List, [], ◌∷◌, map, Option, Some, None, length, refl, sym, ap, subst, ◌∙◌, append_assoc, inl, inr}
-use Rattle.std.proofs.lemmas.List.{append-nil}
+use Rattle.std.proofs.lemmas.List.{append-nil, map-append}
 use Rattle.plain_defs.specs.declared.journal.Act.{Act}
 use Rattle.plain_defs.specs.declared.journal.Act.TheVariants.{Loosen, Harden, CfwLost}
 use Rattle.plain_defs.specs.declared.journal.Item.{Item}
@@ -39,12 +39,8 @@ act_items (act ∷ acts) h =
       are = more.are
           ∙ ap (λ (l : List Item). l ++ map (λ (a : Act). items.Act a) more.acts) one.are
           ∙ append_assoc h.items (map (λ (a : Act). items.Act a) one.acts) (map (λ (a : Act). items.Act a) more.acts)
-          ∙ ap (λ (l : List Item). h.items ++ l) (sym (both_mapped one.acts more.acts));
-    } where
-      both_mapped : (xs ys : List Act) →
-          map (λ (a : Act). items.Act a) (xs ++ ys) ≡ map (λ (a : Act). items.Act a) xs ++ map (λ (a : Act). items.Act a) ys
-      both_mapped [] ys = refl
-      both_mapped (x ∷ xs) ys = ap (λ (l : List Item). items.Act x ∷ l) (both_mapped xs ys)
+          ∙ ap (λ (l : List Item). h.items ++ l) (sym (map-append (λ (a : Act). items.Act a) one.acts more.acts));
+    }
 
 no_power : (acts : List Act) → has_power (map (λ (a : Act). items.Act a) acts) ≡ false
 no_power [] = refl

@@ -27,4 +27,5 @@ mod KnownDevices
 mod CacheLines
 mod PowerDevices
 mod PowerTold
+mod PowerLines
 mod OrderedLines

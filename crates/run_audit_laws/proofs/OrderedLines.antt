@@ -29,6 +29,7 @@ use Rattle.run_audit_laws.proofs.CacheLines.{fail_cache_leads, numbers_same}
 use Rattle.run_audit_laws.proofs.DeckNumbers.{RisesFrom, read_rises}
 use Rattle.run_audit_laws.proofs.LossLines.{fail_store_leads, fail_volume_leads}
 use Rattle.run_audit_laws.proofs.PairLines.{pair_leads, unpair_leads}
+use Rattle.run_audit_laws.proofs.PowerLines.{power_leads}
 use Rattle.run_audit_laws.proofs.StillLines.{once, one_line, some_device}
 use Rattle.run_audit_laws.proofs.Ties.{Tied, numbers_in, pair_count, pair_most, lent_count, tied_behind, ties}
 
@@ -86,7 +87,7 @@ module _ (numbers : List ℕ) (s : Subsystem) (k : IsBehind numbers s) where
   ordered_leads (wanted.Replace d side) has = absurd has
   ordered_leads (wanted.Suspend d) has = absurd has
   ordered_leads (wanted.Resume d) has = absurd has
-  ordered_leads wanted.Power has = absurd has
+  ordered_leads wanted.Power has = once s k.plain wanted.Power events.Power refl (power_leads s k.plain rising)
 
 -- Decks
 

@@ -11,4 +11,5 @@ IsLossOrPair s events.FailStore = Unit {0}
 IsLossOrPair s (events.FailVolume d side) = HasDevice s d
 IsLossOrPair s (events.Pair a b) = HasDevice s a × HasDevice s b
 IsLossOrPair s (events.Unpair a) = HasDevice s a
+IsLossOrPair s events.Power = Unit {0}
 IsLossOrPair s _ = ⊥

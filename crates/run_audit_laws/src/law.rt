@@ -27,7 +27,7 @@ pub fn still_line_leads()
         → LineLeads (run_of deck).behind e }
 {}
 
-/// So does one at which the cache, the store or a side is lost, or two devices become a pair or part.
+/// So does one at which the cache, the store, a side or the power is lost, or two devices become a pair or part.
 pub fn loss_or_pair_leads()
     ensures { (text : List ℕ) (deck : DeckLines) → parsed text ≡ Ok deck → (e : EventLine) → IsLossOrPair (run_of deck).behind e
         → LineLeads (run_of deck).behind e }
