@@ -28,4 +28,6 @@ mod CacheLines
 mod PowerDevices
 mod PowerTold
 mod PowerLines
+mod DeckEvents
+mod Behind
 mod OrderedLines

@@ -25,7 +25,8 @@ use Rattle.subsystem_laws.proofs.RunLines.{AnyEvent, all_asked}
 use Rattle.subsystem_laws.proofs.Walks.{AreSo, lines_end_so}
 use Rattle.run_audit_laws.specs.Ordered.{IsLossOrPair}
 use Rattle.run_audit_laws.specs.Standing.{LineLeads}
-use Rattle.run_audit_laws.proofs.CacheLines.{fail_cache_leads, numbers_same}
+use Rattle.run_audit_laws.proofs.Behind.{IsBehind, rising, run_is_behind}
+use Rattle.run_audit_laws.proofs.CacheLines.{fail_cache_leads}
 use Rattle.run_audit_laws.proofs.DeckNumbers.{RisesFrom, read_rises}
 use Rattle.run_audit_laws.proofs.LossLines.{fail_store_leads, fail_volume_leads}
 use Rattle.run_audit_laws.proofs.PairLines.{pair_leads, unpair_leads}
@@ -48,22 +49,12 @@ unpaired_before s a = by_mounted (mounted_in s.mounted a) where
   by_mounted (Some m) = by_fault m (unpair_fault m.device)
   by_mounted None = refl
 
--- what holds behind each run of a deck that was read
-pub record IsBehind (numbers : List ℕ) (s : Subsystem) : Type 0 where
-  pub plain : ArePlain s.mounted
-  pub good : AreSo Good s.mounted
-  pub tied : Tied numbers (ties s.mounted)
-  pub rises : RisesFrom 0 numbers
-
 module _ (numbers : List ℕ) (s : Subsystem) (k : IsBehind numbers s) where
   few : (a : ℕ) → lent_count a (ties s.mounted) ≤ 1
   few a = let one = k.tied.single a in let most = pair_most a (ties s.mounted) in omega (arith, one, most)
 
-  rising : RisesFrom 0 (map (λ (d : MarksDevice). d.store.device) (devices_of s))
-  rising = subst (RisesFrom 0) (sym (numbers_same s.mounted ∙ k.tied.numbers_are)) k.rises
-
   pub ordered_leads : (e : EventLine) → IsLossOrPair s e → LineLeads s e
-  ordered_leads wanted.FailCache has = once s k.plain wanted.FailCache events.FailCache refl (fail_cache_leads s k.plain rising)
+  ordered_leads wanted.FailCache has = once s k.plain wanted.FailCache events.FailCache refl (fail_cache_leads s k.plain (rising numbers s k))
   ordered_leads wanted.FailStore has = once s k.plain wanted.FailStore events.FailStore refl (fail_store_leads s k.plain k.good)
   ordered_leads (wanted.FailVolume d side) has =
       some_device s k.plain (device_in (devices_of s) d) has
@@ -87,20 +78,9 @@ module _ (numbers : List ℕ) (s : Subsystem) (k : IsBehind numbers s) where
   ordered_leads (wanted.Replace d side) has = absurd has
   ordered_leads (wanted.Suspend d) has = absurd has
   ordered_leads (wanted.Resume d) has = absurd has
-  ordered_leads wanted.Power has = once s k.plain wanted.Power events.Power refl (power_leads s k.plain rising)
+  ordered_leads wanted.Power has = once s k.plain wanted.Power events.Power refl (power_leads s k.plain (rising numbers s k))
 
 -- Decks
-
-pub good_behind : (deck : DeckLines) → IsServedDeck deck → AreSo Good (run_of deck).behind.mounted
-unfolding D.run_asked
-good_behind deck h =
-    lines_end_so Good AnyEvent good_kept (record { step = λ d. tt; back = λ d. tt }) (map asked_by deck.events) (opened deck)
-    (all_asked (map asked_by deck.events)) (opened_good deck deck.devices h.devices)
-
-pub run_is_behind : (text : List ℕ) (deck : DeckLines) → parsed text ≡ Ok deck → IsBehind (numbers_in deck) (run_of deck).behind
-run_is_behind text deck read =
-    let served = read_served text deck read in
-    record { plain = plain_behind deck served; good = good_behind deck served; tied = tied_behind deck; rises = read_rises text deck read }
 
 pub ordered_line_leads : (text : List ℕ) (deck : DeckLines) → parsed text ≡ Ok deck → (e : EventLine) → IsLossOrPair (run_of deck).behind e →
     LineLeads (run_of deck).behind e

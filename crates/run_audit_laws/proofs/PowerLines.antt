@@ -183,7 +183,7 @@ module _ (later : List EventLine) where
         (record { devices = map without_power (front ++ mid) ++ []; events = later; due = Next })
     ends_lead =
         let line = lines.Order orders.Power answers.Done in
-        let t = record { devices = map without_power ((front ++ mid) ++ []); events = later; due = Next } in
+        let t : AuditState = record { devices = map without_power ((front ++ mid) ++ []); events = later; due = Next } in
         subst (λ (l : List AuditedDevice). LeadsBy (at ((front ++ mid) ++ []) (due_at last)) (line ∷ []) (record { devices = l; events = later; due = Next }))
         (ap (map without_power) (append-nil (front ++ mid)) ∙ sym (append-nil (map without_power (front ++ mid))))
         (one_leads (at ((front ++ mid) ++ []) (due_at last)) t line (judged_so line [] t refl refl))
@@ -390,7 +390,7 @@ module _ (later : List EventLine) where
       let first = at ((front ++ mid) ++ audited x ∷ map audited xs) (due_at last) in
       let second = at ((one.front_now ++ one.mid_now) ++ t.middle ∷ map audited xs) (due_at one.last_now) in
       let third = at ((two.front_now ++ two.mid_now) ++ map audited xs) (due_at two.last_now) in
-      let final = record { devices = map without_power (two.front_now ++ two.mid_now) ++ map audited ys; events = later; due = Next } in
+      let final : AuditState = record { devices = map without_power (two.front_now ++ two.mid_now) ++ map audited ys; events = later; due = Next } in
       let rest_lines = of_each power_lines xs ys ++ lines.Order orders.Power answers.Done ∷ [] in
       subst (λ (l : List AuditedDevice). LeadsBy first
       (((over_lines x y ++ loose_lines x y) ++ of_each power_lines xs ys) ++ lines.Order orders.Power answers.Done ∷ [])

@@ -24,6 +24,7 @@ use Rattle.std.proofs.Common.{
 }
 use Rattle.std.specs.Prelude.{if◌then◌else◌}
 use Rattle.std.proofs.lemmas.Bool.{eq-eqb, eqb-false, eqb-true, ne_eqb}
+use Rattle.std.proofs.lemmas.List.Elements.{All-head}
 use Rattle.ckd_types.specs.declared.paths.Side.{Side}
 use Rattle.ckd_types.specs.declared.paths.Side.TheVariants as sides
 use Rattle.loss_model.specs.declared.Loss.{Loss}
@@ -80,7 +81,7 @@ use Rattle.subsystem_defs.specs.Happening.{
   unpaired_at,
   unpaired_by,
 }
-use Rattle.subsystem_defs.specs.Lines.{Logged, asked_by, last_behind, run_lines}
+use Rattle.subsystem_defs.specs.Lines.{Asked, Logged, asked_by, last_behind, line_logged, run_lines}
 use Rattle.subsystem_defs.specs.Refusals as R
 use Rattle.subsystem_defs.specs.Refusals.{pair_fault, replace_fault, unpair_fault}
 use Rattle.subsystem_defs.specs.Subsystem.{Mounted, Subsystem, devices_of, mounted_in, number_of, put_in, unfailing, with_calls}
@@ -90,7 +91,7 @@ use Rattle.subsystem_laws.proofs.DeedWalk.{IsDeedwise, IsSeat, Stands, deed_is, 
 use Rattle.subsystem_laws.proofs.FactsEvents.{background_leaves, command_leaves, lose_leaves, power_leaves, reset_leaves, second_leaves}
 use Rattle.subsystem_laws.proofs.FoundDevices.{number_found}
 use Rattle.subsystem_laws.proofs.LendBase.{at, stays_still}
-use Rattle.subsystem_laws.proofs.RunLines.{AnyEvent, Goes, lines_keep, logs_end}
+use Rattle.subsystem_laws.proofs.RunLines.{AnyEvent, Goes, MayAsk, all_asked, line_goes, lines_keep, logs_end}
 use Rattle.subsystem_laws.proofs.StoreFacts.{Bears, Facts, facts_of, failed_more, fallen}
 use Rattle.subsystem_laws.proofs.Walks.{hold_answer, mounted_number}
 use Rattle.run_audit_laws.proofs.Found.{mounted_too}
@@ -669,6 +670,12 @@ module _ (ns : List ℕ) where
     unpairs = λ s a t. (unpaired_tied s a (mounted_in s.mounted a) refl t, tt);
   }
 
+-- behind one line
+pub line_tied : (ns : List ℕ) (s : Subsystem) (x : Asked) → Tied ns (ties s.mounted) → Tied ns (ties (last_behind s (line_logged s x)).mounted)
+line_tied ns s x t =
+    logs_end (So ns) (Shown ns) s (line_logged s x)
+    (line_goes (So ns) (Shown ns) AnyEvent (ties_go ns) x s (All-head (MayAsk AnyEvent) x [] (all_asked (x ∷ []))) t)
+
 -- Decks
 
 abbrev pub numbers_in : DeckLines → List ℕ
@@ -683,7 +690,7 @@ opened_alone : (deck : DeckLines) (ds : List DeviceLine) (a : ℕ) → lent_coun
 opened_alone deck [] a = refl
 opened_alone deck (d ∷ ds) a = let rest = opened_alone deck ds a in omega (arith, rest)
 
-opened_tied : (deck : DeckLines) → Tied (numbers_in deck) (ties (opened deck).mounted)
+pub opened_tied : (deck : DeckLines) → Tied (numbers_in deck) (ties (opened deck).mounted)
 opened_tied deck = record {
   numbers_are = opened_numbers deck deck.devices;
   single = λ a. let none = opened_alone deck deck.devices a in omega (arith, none);
