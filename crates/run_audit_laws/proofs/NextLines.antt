@@ -51,10 +51,14 @@ use Rattle.report_auditor.specs.declared.status.AuditWhy.{AuditWhy}
 use Rattle.report_auditor.specs.declared.status.AuditWhy.TheVariants.{Place}
 use Rattle.report_auditor.specs.Verdict.{judged}
 use Rattle.subsystem_defs.specs.Subsystem.{Subsystem}
-use Rattle.run_audit_laws.specs.Runs.{IsNoVolumeFailure}
+use Rattle.run_audit_laws.specs.Runs.{MayFollow}
 use Rattle.run_audit_laws.specs.Standing.{LeadsBy, stand}
 use Rattle.run_audit_laws.specs.Steps.{LeadsTowards, Reaches, is_there, is_waiting}
 use Rattle.run_audit_laws.proofs.Leading.{leads_on, waiting_leads}
+
+-- an event line that isn't a volume's failure
+abbrev pub IsCalm : EventLine → Type 0
+IsCalm e = MayFollow true e
 
 -- A line that begins no event
 
@@ -120,7 +124,7 @@ module _ (line : ReportLine) (b : BeginsNothing line) where
   no_power [] = b.power
   no_power (a ∷ left) = no_power_of a (in_power line left) (no_power left) a.running
 
-  begins_none : (s : List Outline) (e : EventLine) → IsNoVolumeFailure e → in_event s line e ≡ false
+  begins_none : (s : List Outline) (e : EventLine) → IsCalm e → in_event s line e ≡ false
   begins_none s (events.Start path d) calm = b.starts path d
   begins_none s (events.Step d) calm =
       never_holds (outline_in s d) (λ a. may_step a (lines.StepIdle d) line a.half) (λ a. no_step a (lines.StepIdle d) (b.steps d) a.half)
@@ -220,7 +224,7 @@ of_none line no_io act more (Some d) = ap (λ (b : Bool). b || is_act_of more d 
 -- the event lines that are left begin with no failure of a volume
 abbrev pub BeginCalm : List EventLine → Type 0
 BeginCalm [] = Unit {0}
-BeginCalm (e ∷ later) = IsNoVolumeFailure e
+BeginCalm (e ∷ later) = IsCalm e
 
 module _ (s : List Outline) (later : List EventLine) (calm : BeginCalm later) (more : Bool) (w : Option ℕ) where
   next_begins_none : (line : ReportLine) → BeginsNothing line → (l : List EventLine) → BeginCalm l → in_next s line l ≡ false
@@ -291,6 +295,12 @@ module _ (s : Subsystem) (later : List EventLine) (calm : BeginCalm later) where
   to_the_end u reaches [] t done leads =
       absurd (let none : Nothing ≡ Next = sym done ∙ ap (λ (z : AuditState). z.due) leads in cc)
   to_the_end u reaches (line ∷ ls) t done leads = leads_from u reaches line ls t leads
+
+  -- to where other events are left
+  pub exactly_from : (u : AuditState) → Reaches u (stand s later) → (z : Subsystem) (rest : List EventLine) → (later ≡ rest → ⊥) → (ls : List ReportLine) →
+      LeadsBy (stand s later) ls (stand z rest) → LeadsBy u ls (stand z rest)
+  exactly_from u reaches z rest other [] leads = absurd (other (ap (λ (k : AuditState). k.events) (sym leads)))
+  exactly_from u reaches z rest other (line ∷ ls) leads = leads_from u reaches line ls (stand z rest) leads
 
   -- lines lead on behind others
   pub towards_then : (z t : AuditState) (xs ys : List ReportLine) → LeadsTowards z xs (stand s later) → LeadsTowards (stand s later) ys t →

@@ -341,9 +341,9 @@ pub run_line_leads : (text : List ℕ) (deck : DeckLines) → parsed text ≡ Ok
     RunIsOver (run_of deck).behind d → LineGoes (run_of deck).behind (wanted.Run d)
 run_line_leads text deck read d has over = run_goes_on (run_of deck).behind (plain_behind deck (read_served text deck read)) d has over
 
-good_behind : (deck : DeckLines) → IsServedDeck deck → AreSo Good (run_of deck).behind.mounted
+good_behind_run : (deck : DeckLines) → IsServedDeck deck → AreSo Good (run_of deck).behind.mounted
 unfolding D.run_asked
-good_behind deck h =
+good_behind_run deck h =
     lines_end_so Good AnyEvent good_kept (record { step = λ d. tt; back = λ d. tt }) (map asked_by deck.events) (opened deck)
     (all_asked (map asked_by deck.events)) (opened_good deck deck.devices h.devices)
 
@@ -351,10 +351,10 @@ pub back_line_leads : (text : List ℕ) (deck : DeckLines) → parsed text ≡ O
     LineGoes (run_of deck).behind (wanted.Back d)
 back_line_leads text deck read d has =
     let served = read_served text deck read in
-    back_goes_on (run_of deck).behind (plain_behind deck served) (good_behind deck served) d has
+    back_goes_on (run_of deck).behind (plain_behind deck served) (good_behind_run deck served) d has
 
 pub settle_line_leads : (text : List ℕ) (deck : DeckLines) → parsed text ≡ Ok deck → (d : ℕ) → HasDevice (run_of deck).behind d →
     SettleIsOver (run_of deck).behind d → LineGoes (run_of deck).behind (wanted.Settle d)
 settle_line_leads text deck read d has over =
     let served = read_served text deck read in
-    settle_goes_on (run_of deck).behind (plain_behind deck served) (good_behind deck served) d has over
+    settle_goes_on (run_of deck).behind (plain_behind deck served) (good_behind_run deck served) d has over

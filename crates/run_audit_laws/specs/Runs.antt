@@ -11,7 +11,7 @@ use Rattle.run_report.specs.Events.{lines_of}
 use Rattle.subsystem_defs.specs.Closing.{ending}
 use Rattle.subsystem_defs.specs.Lines.{Logged, asked_by, is_busy, is_settled, last_behind, line_logged, run_lines}
 use Rattle.subsystem_defs.specs.Subsystem.{Subsystem, mounted_in}
-use Rattle.run_audit_laws.specs.Standing.{LeadsBy, stand}
+use Rattle.run_audit_laws.specs.Standing.{LeadsBy, LineLeads, stand}
 use Rattle.run_audit_laws.specs.Steps.{LeadsTowards}
 
 -- the subsystem behind an event line
@@ -23,11 +23,6 @@ line_behind s e = last_behind s (line_logged s (asked_by e))
 abbrev pub LineGoes : Subsystem → EventLine → Type 0
 LineGoes s e =
     (later : List EventLine) → LeadsTowards (stand s (e ∷ later)) (flat_map lines_of (line_logged s (asked_by e))) (stand (line_behind s e) later)
-
--- a volume's failure may be told by a line that reads as one of the work before it
-abbrev pub IsNoVolumeFailure : EventLine → Type 0
-IsNoVolumeFailure (events.FailVolume d side) = ⊥
-IsNoVolumeFailure e = Unit {0}
 
 -- the program and the half write of a device of which all is run
 abbrev pub RunIsOver : Subsystem → ℕ → Type 0
@@ -42,10 +37,44 @@ ends_settled (t ∷ u ∷ ts) = ends_settled (u ∷ ts)
 abbrev pub SettleIsOver : Subsystem → ℕ → Type 0
 SettleIsOver s d = ends_settled (line_logged s (asked_by (events.Settle d))) ≡ true
 
--- so does each line of these, run one after another
-abbrev pub AllGo : Subsystem → List EventLine → Type 0
-AllGo s [] = Unit {0}
-AllGo s (e ∷ later) = IsNoVolumeFailure e × LineGoes s e × AllGo (line_behind s e) later
+-- behind a piece of work the audit may wait so; behind any other line it stands where the run does
+abbrev pub is_work : EventLine → Bool
+is_work (events.Step d) = true
+is_work (events.Run d) = true
+is_work (events.Back d) = true
+is_work (events.Settle d) = true
+is_work e = false
+
+abbrev pub LineDoes : Subsystem → EventLine → Type 0
+LineDoes s (events.Step d) = LineGoes s (events.Step d)
+LineDoes s (events.Run d) = LineGoes s (events.Run d)
+LineDoes s (events.Back d) = LineGoes s (events.Back d)
+LineDoes s (events.Settle d) = LineGoes s (events.Settle d)
+LineDoes s e = LineLeads s e
+
+-- directly behind a piece of work a volume's failure may be told by a line that reads as one more of it
+abbrev pub MayFollow : Bool → EventLine → Type 0
+MayFollow true (events.FailVolume d side) = ⊥
+MayFollow waits e = Unit {0}
+
+abbrev pub AllMayFollow : Bool → List EventLine → Type 0
+AllMayFollow waits [] = Unit {0}
+AllMayFollow waits (e ∷ later) = MayFollow waits e × AllMayFollow (is_work e) later
+
+-- what each line does, run one after another
+abbrev pub AllDo : Subsystem → List EventLine → Type 0
+AllDo s [] = Unit {0}
+AllDo s (e ∷ later) = LineDoes s e × AllDo (line_behind s e) later
+
+-- each RUN and each SETTLE comes to its end
+abbrev pub IsOver : Subsystem → EventLine → Type 0
+IsOver s (events.Run d) = RunIsOver s d
+IsOver s (events.Settle d) = SettleIsOver s d
+IsOver s e = Unit {0}
+
+abbrev pub AllAreOver : Subsystem → List EventLine → Type 0
+AllAreOver s [] = Unit {0}
+AllAreOver s (e ∷ later) = IsOver s e × AllAreOver (line_behind s e) later
 
 abbrev pub behind_lines : Subsystem → List EventLine → Subsystem
 behind_lines s events = last_behind s (run_lines (map asked_by events) s)

@@ -17,7 +17,8 @@ ghost use Rattle.run_report.specs.Report.{report_lines};
 ghost use Rattle.subsystem_defs.specs.Closing.{ending};
 ghost use Rattle.subsystem_defs.specs.Decks.{opened, run_of};
 ghost use Rattle.subsystem_defs.specs.Subsystem.{Subsystem};
-ghost use Rattle.run_audit_laws.specs.Runs.{AllGo, LineGoes, RunIsOver, SettleIsOver, WholeLeads};
+ghost use Rattle.run_audit_laws.specs.Ordered.{IsLossOrPair};
+ghost use Rattle.run_audit_laws.specs.Runs.{AllAreOver, AllMayFollow, LineGoes, RunIsOver, SettleIsOver, WholeLeads};
 ghost use Rattle.run_audit_laws.specs.Standing.{FramesAreDeclared, HasDevice, IsStill, LeadsBy, LineLeads, stand};
 ghost use Rattle.run_audit_laws.specs.Steps.{BackLeads, HalfLeads, StepEnds, WholeStepLeads};
 
@@ -26,6 +27,12 @@ ghost use Rattle.run_audit_laws.specs.Steps.{BackLeads, HalfLeads, StepEnds, Who
 /// lines in the report stand where they may, and show what a plain device answers.
 pub fn still_line_leads()
     ensures { (text : List ℕ) (deck : DeckLines) → parsed text ≡ Ok deck → (e : EventLine) → IsStill (run_of deck).behind e
+        → LineLeads (run_of deck).behind e }
+{}
+
+/// So does one at which the cache, the store, a side or the power is lost, or two devices become a pair or part.
+pub fn loss_or_pair_leads()
+    ensures { (text : List ℕ) (deck : DeckLines) → parsed text ≡ Ok deck → (e : EventLine) → IsLossOrPair (run_of deck).behind e
         → LineLeads (run_of deck).behind e }
 {}
 
@@ -90,9 +97,10 @@ pub fn settle_line_leads()
         → LineGoes (run_of deck).behind (Settle d) }
 {}
 
-/// Where each event line of a deck leads an audit so from where the run has come to, and none of them is a FAIL VOLUME, and each frame of the pool
-/// is at last of a device, the whole report of the deck's run leads the audit from its first state to FINISH.
-pub fn run_leads()
-    ensures { (deck : DeckLines) → AllGo (opened deck) deck.events → FramesAreDeclared (run_of deck).behind
-        → WholeLeads (first_state deck) (report_lines (run_of deck)) }
+/// So where each RUN and each SETTLE of a deck that was read comes to its end, no FAIL VOLUME stands directly behind a STEP, RUN, BACK or SETTLE, and
+/// each frame of the pool is at last of a device, the whole report of the deck's run leads an audit of it from its first state to FINISH: no line
+/// stands where it may not, and none shows what no plain device answers.
+pub fn report_leads()
+    ensures { (text : List ℕ) (deck : DeckLines) → parsed text ≡ Ok deck → AllMayFollow false deck.events → AllAreOver (opened deck) deck.events
+        → FramesAreDeclared (run_of deck).behind → WholeLeads (first_state deck) (report_lines (run_of deck)) }
 {}
