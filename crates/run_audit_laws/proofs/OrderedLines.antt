@@ -14,7 +14,7 @@ use Rattle.subsystem_defs.specs.Deeds.{device_in}
 use Rattle.subsystem_defs.specs.Happening as H
 use Rattle.subsystem_defs.specs.Happening.{unpaired, unpaired_at, unpaired_by}
 use Rattle.subsystem_defs.specs.Lines as L
-use Rattle.subsystem_defs.specs.Lines.{Unpair, asked_by, line_logged, logged}
+use Rattle.subsystem_defs.specs.Lines.{Unpair, asked_by, last_behind, line_logged, logged}
 use Rattle.subsystem_defs.specs.Refusals.{unpair_fault}
 use Rattle.subsystem_defs.specs.Subsystem.{Mounted, Subsystem, devices_of, mounted_in, unfailing}
 use Rattle.subsystem_laws.specs.Served.{IsServedDeck}
@@ -23,15 +23,16 @@ use Rattle.subsystem_laws.proofs.PlainRuns.{ArePlain, plain_behind}
 use Rattle.subsystem_laws.proofs.ReadDecks.{read_served}
 use Rattle.subsystem_laws.proofs.RunLines.{AnyEvent, all_asked}
 use Rattle.subsystem_laws.proofs.Walks.{AreSo, lines_end_so}
-use Rattle.run_audit_laws.specs.Ordered.{IsLossOrPair}
-use Rattle.run_audit_laws.specs.Standing.{LineLeads}
-use Rattle.run_audit_laws.proofs.Behind.{IsBehind, rising, run_is_behind}
+use Rattle.run_audit_laws.specs.Ordered.{AllLead, IsLossOrPair, IsNoWork}
+use Rattle.run_audit_laws.specs.Standing.{HasDevice, LineLeads}
+use Rattle.run_audit_laws.proofs.Behind.{AllSo, IsBehind, deck_all_so, rising, run_is_behind}
 use Rattle.run_audit_laws.proofs.CacheLines.{fail_cache_leads}
 use Rattle.run_audit_laws.proofs.DeckNumbers.{RisesFrom, read_rises}
+use Rattle.run_audit_laws.proofs.DeckEvents.{OfNamed}
 use Rattle.run_audit_laws.proofs.LossLines.{fail_store_leads, fail_volume_leads}
 use Rattle.run_audit_laws.proofs.PairLines.{pair_leads, unpair_leads}
 use Rattle.run_audit_laws.proofs.PowerLines.{power_leads}
-use Rattle.run_audit_laws.proofs.StillLines.{once, one_line, some_device}
+use Rattle.run_audit_laws.proofs.StillLines.{once, one_line, some_device, still_leads}
 use Rattle.run_audit_laws.proofs.Ties.{Tied, numbers_in, pair_count, pair_most, lent_count, tied_behind, ties}
 
 unpair_logged : (s : Subsystem) (a : ℕ) → line_logged s (Unpair a) ≡ logged (Unpair a) (unpaired s a unfailing) ∷ []
@@ -86,3 +87,34 @@ pub ordered_line_leads : (text : List ℕ) (deck : DeckLines) → parsed text �
     LineLeads (run_of deck).behind e
 ordered_line_leads text deck read e has =
     ordered_leads (numbers_in deck) (run_of deck).behind (run_is_behind text deck read) e has
+
+-- Along a whole deck
+
+no_work_leads : (numbers : List ℕ) (s : Subsystem) → IsBehind numbers s → (e : EventLine) → OfNamed (HasDevice s) e → IsNoWork e → LineLeads s e
+no_work_leads numbers s k (wanted.Start path d) has calm = still_leads s k.plain (wanted.Start path d) has
+no_work_leads numbers s k (wanted.Step d) has calm = absurd calm
+no_work_leads numbers s k (wanted.Run d) has calm = absurd calm
+no_work_leads numbers s k (wanted.Back d) has calm = absurd calm
+no_work_leads numbers s k (wanted.Settle d) has calm = absurd calm
+no_work_leads numbers s k (wanted.Reset path d) has calm = still_leads s k.plain (wanted.Reset path d) has
+no_work_leads numbers s k wanted.FailCache has calm = ordered_leads numbers s k wanted.FailCache tt
+no_work_leads numbers s k wanted.FailStore has calm = ordered_leads numbers s k wanted.FailStore tt
+no_work_leads numbers s k (wanted.FailVolume d side) has calm = ordered_leads numbers s k (wanted.FailVolume d side) has
+no_work_leads numbers s k wanted.RepairCache has calm = still_leads s k.plain wanted.RepairCache tt
+no_work_leads numbers s k wanted.RepairStore has calm = still_leads s k.plain wanted.RepairStore tt
+no_work_leads numbers s k (wanted.Replace d side) has calm = still_leads s k.plain (wanted.Replace d side) has
+no_work_leads numbers s k (wanted.Pair a b) has calm = ordered_leads numbers s k (wanted.Pair a b) has
+no_work_leads numbers s k (wanted.Unpair a) has calm = ordered_leads numbers s k (wanted.Unpair a) has
+no_work_leads numbers s k (wanted.Suspend d) has calm = still_leads s k.plain (wanted.Suspend d) has
+no_work_leads numbers s k (wanted.Resume d) has calm = still_leads s k.plain (wanted.Resume d) has
+no_work_leads numbers s k wanted.Power has calm = ordered_leads numbers s k wanted.Power tt
+
+all_lead : (events : List EventLine) (s : Subsystem) → AllSo (λ (z : Subsystem) (e : EventLine). IsNoWork e → LineLeads z e) s events → AllLead s events
+all_lead [] s so = tt
+all_lead (e ∷ later) s so = (so.0, all_lead later (last_behind s (line_logged s (asked_by e))) so.1)
+
+pub each_line_leads : (text : List ℕ) (deck : DeckLines) → parsed text ≡ Ok deck → AllLead (opened deck) deck.events
+each_line_leads text deck read =
+    all_lead deck.events (opened deck)
+    (deck_all_so text deck read (λ (z : Subsystem) (e : EventLine). IsNoWork e → LineLeads z e)
+    (λ s e k served named. no_work_leads (numbers_in deck) s k e named))

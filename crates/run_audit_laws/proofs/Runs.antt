@@ -42,7 +42,7 @@ use Rattle.run_audit_laws.proofs.NextLines.{IsCalm, exactly_from, to_the_end, to
 use Rattle.run_audit_laws.proofs.Leading.{leads_on}
 use Rattle.run_audit_laws.proofs.Behind.{AllSo, IsBehind, deck_all_so}
 use Rattle.run_audit_laws.proofs.DeckEvents.{OfNamed}
-use Rattle.run_audit_laws.proofs.DeckNumbers.{numbers_in}
+use Rattle.run_audit_laws.proofs.Ties.{numbers_in}
 use Rattle.run_audit_laws.proofs.OrderedLines.{ordered_leads}
 use Rattle.run_audit_laws.proofs.StillLines.{still_leads}
 use Rattle.run_audit_laws.proofs.WorkLines.{back_goes_on, run_goes_on, settle_goes_on, step_goes_on}

@@ -17,7 +17,7 @@ ghost use Rattle.run_report.specs.Report.{report_lines};
 ghost use Rattle.subsystem_defs.specs.Closing.{ending};
 ghost use Rattle.subsystem_defs.specs.Decks.{opened, run_of};
 ghost use Rattle.subsystem_defs.specs.Subsystem.{Subsystem};
-ghost use Rattle.run_audit_laws.specs.Ordered.{IsLossOrPair};
+ghost use Rattle.run_audit_laws.specs.Ordered.{AllLead, IsLossOrPair};
 ghost use Rattle.run_audit_laws.specs.Runs.{AllAreOver, AllMayFollow, LineGoes, RunIsOver, SettleIsOver, WholeLeads};
 ghost use Rattle.run_audit_laws.specs.Standing.{FramesAreDeclared, HasDevice, IsStill, LeadsBy, LineLeads, stand};
 ghost use Rattle.run_audit_laws.specs.Steps.{BackLeads, HalfLeads, StepEnds, WholeStepLeads};
@@ -34,6 +34,11 @@ pub fn still_line_leads()
 pub fn loss_or_pair_leads()
     ensures { (text : List ℕ) (deck : DeckLines) → parsed text ≡ Ok deck → (e : EventLine) → IsLossOrPair (run_of deck).behind e
         → LineLeads (run_of deck).behind e }
+{}
+
+/// Along the run of a deck that was read each event line but STEP, RUN, BACK and SETTLE leads an audit from before it to behind it.
+pub fn each_line_leads()
+    ensures { (text : List ℕ) (deck : DeckLines) → parsed text ≡ Ok deck → AllLead (opened deck) deck.events }
 {}
 
 /// The lines at the end of a run lead an audit that knows its devices so to FINISH, where each frame of the pool is of one of them.
