@@ -43,3 +43,4 @@ mod PowerLines
 mod DeckEvents
 mod Behind
 mod OrderedLines
+mod Texts
