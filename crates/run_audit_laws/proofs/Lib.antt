@@ -44,3 +44,4 @@ mod DeckEvents
 mod Behind
 mod OrderedLines
 mod Texts
+mod CommandCount
