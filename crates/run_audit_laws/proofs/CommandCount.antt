@@ -60,6 +60,7 @@ use Rattle.plain_defs.specs.Journal.{Plans, program_of, replay}
 use Rattle.plain_defs.specs.PlainState.{PathsState, PlainState}
 use Rattle.plain_defs.specs.Program as P
 use Rattle.plain_defs.specs.Program.{Part, part_of, stepped, stepped_at}
+use Rattle.ckd_rules.proofs.Goes.{over_stops}
 use Rattle.plain_defs.proofs.PartLemmas.{acted_beside}
 use Rattle.device_laws.proofs.HistoryEnds.{one_longer}
 
@@ -82,14 +83,14 @@ less_by true x y is = is
 less_by false x y is = refl
 
 module _ (s : Stance) where
-  placed_counts : (place : Place) (passes : ℕ) (after : After) (m : ℕ) →
-      (counted (one_less (record s { place = place; passes = passes; after = after })) m).commands ≡ s.commands + 1
-  placed_counts place passes after m =
+  placed_counts : (place : Place) (passes : ℕ) (after : After) →
+      (one_less (record s { place = place; passes = passes; after = after })).commands + 1 ≡ s.commands + 1
+  placed_counts place passes after =
       let z = record s { place = place; passes = passes; after = after } in ap (λ (n : ℕ). n + 1) (less_by (is_some z.domain) _ z refl)
 
   read_counts : (t : Track) (area : ReadArea) (c : Ccw) (x : Sought) → LookCounts s (read_sought t area s c x)
   read_counts t area c (sought.Here i passes) =
-      record { is = placed_counts (read_place (length t.records) area i) (read_passes area passes) (read_after area s.after) _ }
+      record { is = placed_counts (read_place (length t.records) area i) (read_passes area passes) (read_after area s.after) }
   read_counts t area c (sought.Onward u) = record { is = refl }
   read_counts t area c (sought.Nowhere sense) = record { is = refl }
 
@@ -100,11 +101,11 @@ module _ (s : Stance) where
 
   data_counts : (in_domain : Bool) (c : Ccw) (i : ℕ) (r : Record) → LookCounts s (update_data in_domain s c i r)
   data_counts in_domain c i r =
-      either s (length r.body == 0) _ _ (record { is = placed_counts (places.Body i) 0 (after_update in_domain) _ })
-      (record { is = placed_counts (places.Body i) 0 (after_update in_domain) _ })
+      either s (length r.body == 0) _ _ (record { is = placed_counts (places.Body i) 0 (after_update in_domain) })
+      (record { is = placed_counts (places.Body i) 0 (after_update in_domain) })
 
   record_counts : (with_key in_domain : Bool) (c : Ccw) (i : ℕ) (r : Record) → LookCounts s (update_record with_key in_domain s c i r)
-  record_counts true in_domain c i r = record { is = placed_counts (places.Body i) 0 (after_update in_domain) _ }
+  record_counts true in_domain c i r = record { is = placed_counts (places.Body i) 0 (after_update in_domain) }
   record_counts false in_domain c i r = data_counts in_domain c i r
 
   update_counts : (with_key in_domain : Bool) (records : List Record) (c : Ccw) (x : Sought) → LookCounts s (update_sought with_key in_domain records s c x)
@@ -114,11 +115,11 @@ module _ (s : Stance) where
 
   format_counts : (g : Geometry) (records : List Record) (after : After) (c : Ccw) (i : ℕ) → LookCounts s (format_behind g records after s c i)
   format_counts g records after c i =
-      either s (has_room_behind g records i (key_given c) (body_given c)) _ _ (record { is = placed_counts (places.Body (i + 1)) 0 after _ })
+      either s (has_room_behind g records i (key_given c) (body_given c)) _ _ (record { is = placed_counts (places.Body (i + 1)) 0 after })
       (record { is = refl })
 
   zero_counts : (c : Ccw) → LookCounts s (zero_on s c)
-  zero_counts c = either s (is_zero_given c) _ _ (record { is = placed_counts (places.Body 0) 0 afters.Wrote _ }) (record { is = refl })
+  zero_counts c = either s (is_zero_given c) _ _ (record { is = placed_counts (places.Body 0) 0 afters.Wrote }) (record { is = refl })
 
   write_counts : (g : Geometry) (t : Track) (c : Ccw) (w : Write) → LookCounts s (write_on g t s c w)
   write_counts g t c writes.Data = update_counts false (is_some s.domain) t.records c _
@@ -254,7 +255,7 @@ goes_few ccws i o = by_over (is_over (ccw_at ccws i) o) refl where
   none_goes (Some j) is some = cc
 
   by_over : (b : Bool) → is_over (ccw_at ccws i) o ≡ b → IsSome (goes_to ccws i o) → o.stance.commands < 4096
-  by_over true over some = absurd (none_goes (goes_to ccws i o) (ap (λ (b : Bool). if b then None else _) over) some)
+  by_over true over some = absurd (none_goes (goes_to ccws i o) (over_stops ccws i o over) some)
   by_over false on some =
       below o.stance.commands (not_limit (nat_le 4096 o.stance.commands) _ (not_limit (not (would_go_on (ccw_at ccws i) o.ending)) (at_limit o.stance) on).1).0
 

@@ -45,3 +45,4 @@ mod Behind
 mod OrderedLines
 mod Texts
 mod CommandCount
+mod RunEnds

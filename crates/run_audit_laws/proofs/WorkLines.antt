@@ -76,12 +76,12 @@ one_goes s w h is before leads later =
     (subst (λ (l : List ReportLine). LeadsTowards (stand s (w ∷ later)) l (stand h.behind later))
     (told_from s (asked_by w) h before ∙ sym (append-nil (lines_of (logged (asked_by w) h)))) (leads later))
 
-plain_of : (s : Subsystem) → ArePlain s.mounted → (n : ℕ) (x : MarksDevice) → device_in (devices_of s) n ≡ Some x → Plainly x
+pub plain_of : (s : Subsystem) → ArePlain s.mounted → (n : ℕ) (x : MarksDevice) → device_in (devices_of s) n ≡ Some x → Plainly x
 plain_of s plain n x at = subst (λ (o : Option MarksDevice). IfSome o Plainly) at (device_so Plainly s.mounted n plain)
 
 -- A device by its own number
 
-own_place : (s : Subsystem) (n : ℕ) (x : MarksDevice) → device_in (devices_of s) n ≡ Some x → device_in (devices_of s) x.store.device ≡ Some x
+pub own_place : (s : Subsystem) (n : ℕ) (x : MarksDevice) → device_in (devices_of s) n ≡ Some x → device_in (devices_of s) x.store.device ≡ Some x
 own_place s n x at = subst (λ (k : ℕ). device_in (devices_of s) k ≡ Some x) (sym (number_found s.mounted n x at)) at
 
 step_logged_is : (s : Subsystem) (d : ℕ) → line_logged s (Once (events.Step d)) ≡ logged (Once (events.Step d)) (happens s (events.Step d)) ∷ []
@@ -104,21 +104,21 @@ device_if : (b : Bool) (k m : Mounted) (o : Option Mounted) (q : Option MarksDev
 device_if true k m o q at more = let same : k ≡ m = cc in ap (λ (z : Mounted). Some z.device) same
 device_if false k m o q at more = more at
 
-device_there : (ms : List Mounted) (n : ℕ) (m : Mounted) → mounted_in ms n ≡ Some m → device_in (map (λ (k : Mounted). k.device) ms) n ≡ Some m.device
+pub device_there : (ms : List Mounted) (n : ℕ) (m : Mounted) → mounted_in ms n ≡ Some m → device_in (map (λ (k : Mounted). k.device) ms) n ≡ Some m.device
 device_there [] n m at = absurd (cc)
 device_there (k ∷ ms) n m at =
     device_if (number_of k == n) k m (mounted_in ms n) (device_in (map (λ (z : Mounted). z.device) ms) n) at (device_there ms n m)
 
-busy_there : (o : Option Mounted) → is_busy o ≡ true → (m : Mounted) × (o ≡ Some m)
+pub busy_there : (o : Option Mounted) → is_busy o ≡ true → (m : Mounted) × (o ≡ Some m)
 busy_there (Some m) busy = (m, refl)
 busy_there None busy = absurd (cc)
 
-no_steps : (k d : ℕ) (s : Subsystem) → is_busy (mounted_in s.mounted d) ≡ false → steps k d s ≡ []
+pub no_steps : (k d : ℕ) (s : Subsystem) → is_busy (mounted_in s.mounted d) ≡ false → steps k d s ≡ []
 unfolding L.steps
 no_steps zero d s idle = refl
 no_steps (suc k) d s idle = ap (λ (b : Bool). if b then step_logged s d (steps k d) else []) idle
 
-one_step : (k d : ℕ) (s : Subsystem) → is_busy (mounted_in s.mounted d) ≡ true →
+pub one_step : (k d : ℕ) (s : Subsystem) → is_busy (mounted_in s.mounted d) ≡ true →
     steps (suc k) d s ≡ logged (Run d) (happens s (events.Step d)) ∷ steps k d (happens s (events.Step d)).behind
 unfolding L.steps
 one_step k d s busy = ap (λ (b : Bool). if b then step_logged s d (steps k d) else []) busy
@@ -187,11 +187,11 @@ run_logged_is : (s : Subsystem) (d : ℕ) → line_logged s (Run d) ≡ run_logg
 unfolding L.line_logged
 run_logged_is s d = refl
 
-run_busy : (s : Subsystem) (d : ℕ) → is_busy (mounted_in s.mounted d) ≡ true → line_logged s (Run d) ≡ steps most_steps d s
+pub run_busy : (s : Subsystem) (d : ℕ) → is_busy (mounted_in s.mounted d) ≡ true → line_logged s (Run d) ≡ steps most_steps d s
 run_busy s d busy =
     run_logged_is s d ∙ ap (λ (b : Bool). if b then steps most_steps d s else logged (Run d) (quietly s s ends.Idle) ∷ []) busy
 
-run_idle : (s : Subsystem) (d : ℕ) → is_busy (mounted_in s.mounted d) ≡ false → line_logged s (Run d) ≡ logged (Run d) (quietly s s ends.Idle) ∷ []
+pub run_idle : (s : Subsystem) (d : ℕ) → is_busy (mounted_in s.mounted d) ≡ false → line_logged s (Run d) ≡ logged (Run d) (quietly s s ends.Idle) ∷ []
 run_idle s d idle =
     run_logged_is s d ∙ ap (λ (b : Bool). if b then steps most_steps d s else logged (Run d) (quietly s s ends.Idle) ∷ []) idle
 
