@@ -1,7 +1,10 @@
 -- RUN comes to its end: each step brings a program and a half write nearer to it.
 use Rattle.std.proofs.Common.{◌≡◌, ◌<◌, ◌≤◌, ◌+◌, ◌-◌, ◌*◌, ℕ, zero, suc, Bool, true, false, List, [], ◌∷◌, length, Option, Some, None, refl, sym, ap, subst, ◌∙◌, arith, if◌then◌else◌}
-use Rattle.std.specs.Prelude.{◌||◌, is_some, IsSome}
+use Rattle.std.specs.Prelude.{◌||◌, is_some, IsSome, Ok}
 use Rattle.ckd_types.specs.declared.channel.CommandEnd.{CommandEnd}
+use Rattle.deck_plan.specs.declared.event.EventLine.TheVariants as wanted
+use Rattle.deck_text.specs.DeckLines.{DeckLines}
+use Rattle.deck_text.specs.Parse.{parsed}
 use Rattle.plain_defs.specs.declared.journal.Act.{Act}
 use Rattle.plain_defs.specs.History.{History, IsPlain, OpenEntry, checked, closed, ended, with_end}
 use Rattle.plain_defs.specs.declared.journal.How.TheVariants.{Full}
@@ -26,6 +29,7 @@ use Rattle.report_places.specs.declared.state.HalfWrite.TheVariants as half
 use Rattle.subsystem_defs.specs.declared.end.EventEnd.{EventEnd}
 use Rattle.subsystem_defs.specs.declared.end.EventEnd.TheVariants as ends
 use Rattle.subsystem_defs.specs.declared.event.Event.TheVariants as events
+use Rattle.subsystem_defs.specs.Decks.{run_of}
 use Rattle.subsystem_defs.specs.Deeds as E
 use Rattle.subsystem_defs.specs.Deeds.{Asks, Ends, device_in, ends_by, may_end_by, on_device, step}
 use Rattle.subsystem_defs.specs.Happening as H
@@ -34,15 +38,16 @@ use Rattle.subsystem_defs.specs.Lines as L
 use Rattle.subsystem_defs.specs.Lines.{Logged, is_busy, last_behind, most_steps, steps}
 use Rattle.subsystem_defs.specs.Subsystem.{Mounted, Subsystem, devices_of, mounted_in, with_mounted}
 use Rattle.subsystem_laws.proofs.FoundDevices.{number_found}
-use Rattle.subsystem_laws.proofs.PlainRuns.{ArePlain, Plainly, event_plain}
-use Rattle.run_audit_laws.specs.Runs.{RunIsOver}
-use Rattle.run_audit_laws.specs.Standing.{half_by, half_of}
+use Rattle.subsystem_laws.proofs.PlainRuns.{ArePlain, Plainly, event_plain, plain_behind}
+use Rattle.subsystem_laws.proofs.ReadDecks.{read_served}
+use Rattle.run_audit_laws.specs.Runs.{LineGoes, RunIsOver}
+use Rattle.run_audit_laws.specs.Standing.{HasDevice, half_by, half_of}
 use Rattle.run_audit_laws.proofs.CameOut.{acts_run, idle_acts, with_acts}
 use Rattle.run_audit_laws.proofs.CommandCount.{few_ends}
 use Rattle.run_audit_laws.proofs.Found.{mounted_too}
 use Rattle.run_audit_laws.proofs.PieceEvents.{put_found}
 use Rattle.run_audit_laws.proofs.Pieces.{CommandSo, SecondSo, command_so, second_so}
-use Rattle.run_audit_laws.proofs.WorkLines.{busy_there, device_there, no_steps, one_step, own_place, plain_of, run_busy, run_idle}
+use Rattle.run_audit_laws.proofs.WorkLines.{busy_there, device_there, no_steps, one_step, own_place, plain_of, run_busy, run_goes_on, run_idle}
 
 -- How many commands may still end
 
@@ -120,9 +125,9 @@ some_left x q o running =
 
 -- Each step takes one at least
 
-pub record Lessens (x y : MarksDevice) : Type 0 where
-  pub number : y.store.device ≡ x.store.device
-  pub less : steps_left y < steps_left x
+record Lessens (x y : MarksDevice) : Type 0 where
+  number : y.store.device ≡ x.store.device
+  less : steps_left y < steps_left x
 
 closed_steps : (y : MarksDevice) → half_by y.store.half ≡ half.Closed → steps_left y ≡ 2 * ends_left y.history.running
 unfolding steps_by
@@ -284,15 +289,18 @@ steps_end zero s plain d m at few =
     ap is_busy at
     ∙ not_busy (is_busy (Some m)) (λ busy.
     let some = busy_by_parts m.device (at_device s plain d m at) m.device.store.half refl m.device.history.running refl busy in omega (arith, some, few))
-steps_end (suc k) s plain d m at few = by_busy (is_busy (Some m)) refl where
-  by_busy : (b : Bool) → is_busy (Some m) ≡ b → is_busy (mounted_in (last_behind s (steps (suc k) d s)).mounted d) ≡ false
-  by_busy true busy =
-      let z = (happens s (events.Step d)).behind in
+steps_end (suc k) s plain d m at few =
+    by_busy (is_busy (Some m)) refl (λ now there less. steps_end k (happens s (events.Step d)).behind (event_plain s plain (events.Step d) tt) d now there less) where
+  by_busy : (b : Bool) → is_busy (Some m) ≡ b →
+      ((now : Mounted) → mounted_in (happens s (events.Step d)).behind.mounted d ≡ Some now → steps_left now.device ≤ k →
+      is_busy (mounted_in (last_behind (happens s (events.Step d)).behind (steps k d (happens s (events.Step d)).behind)).mounted d) ≡ false) →
+      is_busy (mounted_in (last_behind s (steps (suc k) d s)).mounted d) ≡ false
+  by_busy true busy go =
       let l = lessens_at s plain d m at busy in
       let less = l.less in
       ap (λ (ts : List Logged). is_busy (mounted_in (last_behind s ts).mounted d)) (one_step k d s (ap is_busy at ∙ busy))
-      ∙ steps_end k z (event_plain s plain (events.Step d) tt) d l.now l.there (omega (arith, less, few))
-  by_busy false idle =
+      ∙ go l.now l.there (omega (arith, less, few))
+  by_busy false idle go =
       ap (λ (ts : List Logged). is_busy (mounted_in (last_behind s ts).mounted d)) (no_steps (suc k) d s (ap is_busy at ∙ idle)) ∙ ap is_busy at ∙ idle
 
 -- whatever device it is of
@@ -305,3 +313,11 @@ run_is_over s plain d = by_busy (is_busy (mounted_in s.mounted d)) refl where
       ∙ steps_end most_steps s plain d m.0 m.1 (most_by (ends_left m.0.device.history.running) (half_by m.0.device.store.half)
       (most_left m.0.device.history.running))
   by_busy false idle = ap (λ (ts : List Logged). is_busy (mounted_in (last_behind s ts).mounted d)) (run_idle s d idle) ∙ idle
+
+-- so the lines of a RUN lead an audit on behind the run of a deck that was read
+pub run_line_leads : (text : List ℕ) (deck : DeckLines) → parsed text ≡ Ok deck → (d : ℕ) → HasDevice (run_of deck).behind d →
+    RunIsOver (run_of deck).behind d × LineGoes (run_of deck).behind (wanted.Run d)
+run_line_leads text deck read d has =
+    let plain = plain_behind deck (read_served text deck read) in
+    let over = run_is_over (run_of deck).behind plain d in
+    (over, run_goes_on (run_of deck).behind plain d has over)

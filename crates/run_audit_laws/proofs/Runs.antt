@@ -44,6 +44,7 @@ use Rattle.run_audit_laws.proofs.Behind.{AllSo, IsBehind, deck_all_so}
 use Rattle.run_audit_laws.proofs.DeckEvents.{OfNamed}
 use Rattle.run_audit_laws.proofs.Ties.{numbers_in}
 use Rattle.run_audit_laws.proofs.OrderedLines.{ordered_leads}
+use Rattle.run_audit_laws.proofs.RunEnds.{run_is_over}
 use Rattle.run_audit_laws.proofs.StillLines.{still_leads}
 use Rattle.run_audit_laws.proofs.WorkLines.{back_goes_on, run_goes_on, settle_goes_on, step_goes_on}
 
@@ -175,7 +176,7 @@ run_leads deck may does framed =
 module _ (s : Subsystem) (numbers : List ℕ) (k : IsBehind numbers s) where
   line_does : (e : EventLine) → OfNamed (HasDevice s) e → IsOver s e → LineDoes s e
   line_does (events.Step d) has over = step_goes_on s k.plain d has
-  line_does (events.Run d) has over = run_goes_on s k.plain d has over
+  line_does (events.Run d) has over = run_goes_on s k.plain d has (run_is_over s k.plain d)
   line_does (events.Back d) has over = back_goes_on s k.plain k.good d has
   line_does (events.Settle d) has over = settle_goes_on s k.plain k.good d has over
   line_does (events.FailVolume d side) has over = ordered_leads numbers s k (events.FailVolume d side) has

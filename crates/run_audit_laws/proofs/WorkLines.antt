@@ -337,10 +337,6 @@ pub step_line_leads : (text : List ℕ) (deck : DeckLines) → parsed text ≡ O
     LineGoes (run_of deck).behind (wanted.Step d)
 step_line_leads text deck read d has = step_goes_on (run_of deck).behind (plain_behind deck (read_served text deck read)) d has
 
-pub run_line_leads : (text : List ℕ) (deck : DeckLines) → parsed text ≡ Ok deck → (d : ℕ) → HasDevice (run_of deck).behind d →
-    RunIsOver (run_of deck).behind d → LineGoes (run_of deck).behind (wanted.Run d)
-run_line_leads text deck read d has over = run_goes_on (run_of deck).behind (plain_behind deck (read_served text deck read)) d has over
-
 good_behind_run : (deck : DeckLines) → IsServedDeck deck → AreSo Good (run_of deck).behind.mounted
 unfolding D.run_asked
 good_behind_run deck h =

@@ -1,4 +1,4 @@
-ghost use Rattle.std.specs.Prelude.{◌≡◌, ℕ, Bool, true, false, List, [], ◌∷◌, Some, Ok};
+ghost use Rattle.std.specs.Prelude.{◌≡◌, ◌×◌, ℕ, Bool, true, false, List, [], ◌∷◌, Some, Ok};
 ghost use Rattle.deck_plan.specs.declared.event.EventLine.{EventLine};
 ghost use Rattle.deck_plan.specs.declared.event.EventLine.TheVariants.{Back, Run, Settle, Step};
 ghost use Rattle.deck_text.specs.DeckLines.{DeckLines};
@@ -90,10 +90,10 @@ pub fn step_line_leads()
     ensures { (text : List ℕ) (deck : DeckLines) → parsed text ≡ Ok deck → (d : ℕ) → HasDevice (run_of deck).behind d → LineGoes (run_of deck).behind (Step d) }
 {}
 
-/// So do the lines of a RUN that comes to its end.
+/// A RUN comes to its end: at last neither a program runs on its device nor is a half write open; and its lines lead an audit on so.
 pub fn run_line_leads()
-    ensures { (text : List ℕ) (deck : DeckLines) → parsed text ≡ Ok deck → (d : ℕ) → HasDevice (run_of deck).behind d → RunIsOver (run_of deck).behind d
-        → LineGoes (run_of deck).behind (Run d) }
+    ensures { (text : List ℕ) (deck : DeckLines) → parsed text ≡ Ok deck → (d : ℕ) → HasDevice (run_of deck).behind d
+        → RunIsOver (run_of deck).behind d × LineGoes (run_of deck).behind (Run d) }
 {}
 
 /// So do the lines of a BACK, whatever the device does by itself.
@@ -107,7 +107,7 @@ pub fn settle_line_leads()
         → LineGoes (run_of deck).behind (Settle d) }
 {}
 
-/// So where each RUN and each SETTLE of a deck that was read comes to its end, no FAIL VOLUME stands directly behind a STEP, RUN, BACK or SETTLE, and
+/// So where each SETTLE of a deck that was read comes to its end, no FAIL VOLUME stands directly behind a STEP, RUN, BACK or SETTLE, and
 /// each frame of the pool is at last of a device, the whole report of the deck's run leads an audit of it from its first state to FINISH: no line
 /// stands where it may not, and none shows what no plain device answers.
 pub fn report_leads()
