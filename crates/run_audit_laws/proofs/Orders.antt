@@ -84,6 +84,12 @@ module _ (s : Subsystem) (e : EventLine) (o : Order) (asked : Asked) (is : IsOrd
   pending_leads n later =
       told_leads s (ends.Pending n) later (quiet_lines (did.Ordered o (order_answer (ends.Pending n))) (devices_of s)) (is.pending (stand s (e ∷ later)) n)
 
+  -- it is refused, or this is done
+  pub ordered : (fault : Option OrderFault) (x : MarksDeed) → (fault ≡ None → EventLeads s e asked (happens_by s x)) →
+      EventLeads s e asked (happens_by s (order fault x))
+  ordered (Some fault) x go = refused_leads fault
+  ordered None x go = go refl
+
   module _ (done : IsDone e o) where
     -- nothing that a device knows
     pub pool_leads : (pool : Pool) → EventLeads s e asked (quietly s (record s { pool = pool }) ends.Done)
@@ -105,11 +111,6 @@ module _ (s : Subsystem) (e : EventLine) (o : Order) (asked : Asked) (is : IsOrd
         ∙ ap (λ (l : List AuditedDevice). Some (record { devices = l; events = later; due = (stand s later).due }))
         (sym (put_same s.mounted n z (λ y found. let both_are : Some m ≡ Some y = sym there ∙ found in
         let it : m ≡ y = cc in same ∙ ap (λ (k : Mounted). audited k.device) it))))
-
-    ordered : (fault : Option OrderFault) (x : MarksDeed) → (fault ≡ None → EventLeads s e asked (happens_by s x)) →
-        EventLeads s e asked (happens_by s (order fault x))
-    ordered (Some fault) x go = refused_leads fault
-    ordered None x go = go refl
 
     becomes_leads : (n : ℕ) (d y : MarksDevice) → device_in (devices_of s) n ≡ Some d → y.history ≡ d.history → audited y ≡ audited d → (k : ℕ) → k ≡ n →
         EventLeads s e asked (quietly s (becomes s k (mounted_in s.mounted k) y) ends.Done)
@@ -178,7 +179,7 @@ module _ (s : Subsystem) where
         let asked = Once (events.Suspend n) in
         subst (λ (o : Option MarksDevice). EventLeads s e asked (happens_by s (on_device o (λ d. order (suspend_fault d) (Becomes (hold d) ends.Done)))))
         (sym at)
-        (ordered s e (orders.Suspend n) asked (suspends n) (λ z. refl) (suspend_fault x) (Becomes (hold x) ends.Done)
+        (ordered s e (orders.Suspend n) asked (suspends n) (suspend_fault x) (Becomes (hold x) ends.Done)
         (λ free. becomes_leads s e (orders.Suspend n) asked (suspends n) (λ z. refl) n x (hold x) at refl refl x.store.device (number_found s.mounted n x at)))
 
     pub resume_leads : EventLeads s (wanted.Resume n) (Once (events.Resume n)) (happens s (events.Resume n))
@@ -188,7 +189,7 @@ module _ (s : Subsystem) where
         let asked = Once (events.Resume n) in
         subst (λ (o : Option MarksDevice). EventLeads s e asked (happens_by s (on_device o (λ d. order (resume_fault d) (Becomes (resume d) ends.Done)))))
         (sym at)
-        (ordered s e (orders.Resume n) asked (resumes n) (λ z. refl) (resume_fault x) (Becomes (resume x) ends.Done)
+        (ordered s e (orders.Resume n) asked (resumes n) (resume_fault x) (Becomes (resume x) ends.Done)
         (λ free. becomes_leads s e (orders.Resume n) asked (resumes n) (λ z. refl) n x (resume x) at refl refl x.store.device (number_found s.mounted n x at)))
 
     -- A new volume

@@ -99,7 +99,7 @@ by_loose : (l p : Bool) → (l ≡ true → p ≡ true) → (not l || p) ≡ tru
 by_loose true p h = h refl
 by_loose false p h = refl
 
-legal_by : (p : Part) (edit : Option TrackEdit) → MayEdit p.state p.stance edit → is_edit_legal p edit ≡ true
+pub legal_by : (p : Part) (edit : Option TrackEdit) → MayEdit p.state p.stance edit → is_edit_legal p edit ≡ true
 legal_by p (Some e) h = by_loose (is_loose p.state e.track) (is_provisional p.stance.extent) h
 legal_by p None h = refl
 

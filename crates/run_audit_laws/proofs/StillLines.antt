@@ -58,7 +58,7 @@ replaced_before s d side = by_mounted (mounted_in s.mounted d) where
 
 -- of one event
 module _ (s : Subsystem) (e : EventLine) (asked : Asked) (h : Happened) where
-  one_line : asked_by e ≡ asked → line_logged s asked ≡ logged asked h ∷ [] → h.before ≡ s → EventLeads s e asked h → LineLeads s e
+  pub one_line : asked_by e ≡ asked → line_logged s asked ≡ logged asked h ∷ [] → h.before ≡ s → EventLeads s e asked h → LineLeads s e
   one_line asks_so is before leads later =
       subst (λ (ts : List Logged). LeadsBy (stand s (e ∷ later)) (flat_map lines_of ts) (stand (last_behind s ts) later))
       (sym (ap (line_logged s) asks_so ∙ is))
@@ -75,16 +75,16 @@ replace_logged : (s : Subsystem) (d : ℕ) (side : _) → line_logged s (Replace
 unfolding L.line_logged
 replace_logged s d side = refl
 
-module _ (s : Subsystem) (plain : ArePlain s.mounted) where
-  once : (line : EventLine) (e : Event) → asked_by line ≡ Once e → EventLeads s line (Once e) (happens s e) → LineLeads s line
-  once line e same leads = one_line s line (Once e) (happens s e) same (once_logged s e) (happens_before s e) leads
+pub some_device : {T : Type 0} (o : Option MarksDevice) → IsSome o → ((x : MarksDevice) → o ≡ Some x → T) → T
+some_device (Some x) some go = go x refl
+some_device None some go = absurd (none_there None refl some) where
+  none_there : (o : Option MarksDevice) → o ≡ None → IsSome o → ⊥
+  none_there None is so = cc
+  none_there (Some x) is so = cc
 
-  some_device : {T : Type 0} (o : Option MarksDevice) → IsSome o → ((x : MarksDevice) → o ≡ Some x → T) → T
-  some_device (Some x) some go = go x refl
-  some_device None some go = absurd (none_there None refl some) where
-    none_there : (o : Option MarksDevice) → o ≡ None → IsSome o → ⊥
-    none_there None is so = cc
-    none_there (Some x) is so = cc
+module _ (s : Subsystem) (plain : ArePlain s.mounted) where
+  pub once : (line : EventLine) (e : Event) → asked_by line ≡ Once e → EventLeads s line (Once e) (happens s e) → LineLeads s line
+  once line e same leads = one_line s line (Once e) (happens s e) same (once_logged s e) (happens_before s e) leads
 
   pub still_leads : (e : EventLine) → IsStill s e → LineLeads s e
   still_leads (wanted.Start path d) has =

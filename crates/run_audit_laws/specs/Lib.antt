@@ -1,2 +1,5 @@
 pub mod Standing
 pub mod Steps
+pub mod Runs
+pub mod Ordered
+pub mod Texts

@@ -1,5 +1,6 @@
-ghost use Rattle.std.specs.Prelude.{◌≡◌, ℕ, Bool, true, false, List, [], ◌∷◌, Some, Ok};
+ghost use Rattle.std.specs.Prelude.{◌≡◌, ◌×◌, ℕ, Bool, true, false, List, [], ◌∷◌, Some, Ok};
 ghost use Rattle.deck_plan.specs.declared.event.EventLine.{EventLine};
+ghost use Rattle.deck_plan.specs.declared.event.EventLine.TheVariants.{Back, Run, Settle, Step};
 ghost use Rattle.deck_text.specs.DeckLines.{DeckLines};
 ghost use Rattle.deck_text.specs.Parse.{parsed};
 ghost use Rattle.plain_defs.specs.History.{OpenEntry};
@@ -8,15 +9,23 @@ ghost use Rattle.report_places.specs.declared.state.Did.{Did};
 ghost use Rattle.report_places.specs.declared.state.Due.TheVariants.{Behind, Next, Nothing};
 ghost use Rattle.report_places.specs.Place.{holds, is_of_work};
 ghost use Rattle.deck_audit.specs.History.{is_legal};
-ghost use Rattle.deck_audit.specs.State.{AuditState, settled, worker, worker_number};
+ghost use Rattle.deck_audit.specs.State.{AuditState, first_state, settled, worker, worker_number};
 ghost use Rattle.report_places.specs.declared.state.HalfWrite.TheVariants.{Closed};
 ghost use Rattle.deck_audit.specs.Device.{AuditedDevice, device_in};
+ghost use Rattle.report_auditor.specs.declared.status.AuditStatus.TheVariants.{Yes};
+ghost use Rattle.report_auditor.specs.Verdict.{read_back};
 ghost use Rattle.run_report.specs.Closing.{ending_lines};
+ghost use Rattle.run_report.specs.Report.{report_lines};
 ghost use Rattle.subsystem_defs.specs.Closing.{ending};
-ghost use Rattle.subsystem_defs.specs.Decks.{run_of};
+ghost use Rattle.subsystem_defs.specs.Decks.{opened, run_of};
 ghost use Rattle.subsystem_defs.specs.Subsystem.{Subsystem};
-ghost use Rattle.run_audit_laws.specs.Standing.{FramesAreDeclared, IsStill, LeadsBy, LineLeads, stand};
+ghost use Rattle.run_audit_laws.specs.Ordered.{AllLead, IsLossOrPair};
+ghost use Rattle.run_audit_laws.specs.Runs.{AllAreOver, AllMayFollow, LineGoes, RunIsOver, SettleIsOver, WholeLeads};
+ghost use Rattle.run_audit_laws.specs.Standing.{FramesAreDeclared, HasDevice, IsStill, LeadsBy, LineLeads, stand};
+ghost use Rattle.run_audit_laws.specs.Texts.{IsOwnReport};
 ghost use Rattle.run_audit_laws.specs.Steps.{BackLeads, HalfLeads, StepEnds, WholeStepLeads};
+
+use report_reading::reads_back;
 
 /// Behind the run of a deck that was read an audit knows each device as the run has it, and one more event line at which no command runs and
 /// nothing is written or lost (a start, a reset, a repair, a new volume, a side held or let go) leads it to where it does so again: its
@@ -24,6 +33,17 @@ ghost use Rattle.run_audit_laws.specs.Steps.{BackLeads, HalfLeads, StepEnds, Who
 pub fn still_line_leads()
     ensures { (text : List ℕ) (deck : DeckLines) → parsed text ≡ Ok deck → (e : EventLine) → IsStill (run_of deck).behind e
         → LineLeads (run_of deck).behind e }
+{}
+
+/// So does one at which the cache, the store, a side or the power is lost, or two devices become a pair or part.
+pub fn loss_or_pair_leads()
+    ensures { (text : List ℕ) (deck : DeckLines) → parsed text ≡ Ok deck → (e : EventLine) → IsLossOrPair (run_of deck).behind e
+        → LineLeads (run_of deck).behind e }
+{}
+
+/// Along the run of a deck that was read each event line but STEP, RUN, BACK and SETTLE leads an audit from before it to behind it.
+pub fn each_line_leads()
+    ensures { (text : List ℕ) (deck : DeckLines) → parsed text ≡ Ok deck → AllLead (opened deck) deck.events }
 {}
 
 /// The lines at the end of a run lead an audit that knows its devices so to FINISH, where each frame of the pool is of one of them.
@@ -63,3 +83,42 @@ pub fn work_is_done_at_next_line()
         → is_of_work more (worker_number s) line ≡ false → holds (worker s) (is_legal did) ≡ true → (settled s did).due ≡ Next
         → LeadsBy (settled s did) (line ∷ lines) t → LeadsBy s (line ∷ lines) t }
 {}
+
+/// Behind the run of a deck that was read the lines of a STEP lead an audit on, whatever the command or the half write comes to: to where it knows
+/// each device as the run has it, or waits for the next line with a piece of work that may be known to be done only there.
+pub fn step_line_leads()
+    ensures { (text : List ℕ) (deck : DeckLines) → parsed text ≡ Ok deck → (d : ℕ) → HasDevice (run_of deck).behind d → LineGoes (run_of deck).behind (Step d) }
+{}
+
+/// A RUN comes to its end: at last neither a program runs on its device nor is a half write open; and its lines lead an audit on so.
+pub fn run_line_leads()
+    ensures { (text : List ℕ) (deck : DeckLines) → parsed text ≡ Ok deck → (d : ℕ) → HasDevice (run_of deck).behind d
+        → RunIsOver (run_of deck).behind d × LineGoes (run_of deck).behind (Run d) }
+{}
+
+/// So do the lines of a BACK, whatever the device does by itself.
+pub fn back_line_leads()
+    ensures { (text : List ℕ) (deck : DeckLines) → parsed text ≡ Ok deck → (d : ℕ) → HasDevice (run_of deck).behind d → LineGoes (run_of deck).behind (Back d) }
+{}
+
+/// And those of a SETTLE of which the last piece of work says that nothing is left to do, or is stopped.
+pub fn settle_line_leads()
+    ensures { (text : List ℕ) (deck : DeckLines) → parsed text ≡ Ok deck → (d : ℕ) → HasDevice (run_of deck).behind d → SettleIsOver (run_of deck).behind d
+        → LineGoes (run_of deck).behind (Settle d) }
+{}
+
+/// So where each SETTLE of a deck that was read comes to its end, no FAIL VOLUME stands directly behind a STEP, RUN, BACK or SETTLE, and
+/// each frame of the pool is at last of a device, the whole report of the deck's run leads an audit of it from its first state to FINISH: no line
+/// stands where it may not, and none shows what no plain device answers.
+pub fn report_leads()
+    ensures { (text : List ℕ) (deck : DeckLines) → parsed text ≡ Ok deck → AllMayFollow false deck.events → AllAreOver (opened deck) deck.events
+        → FramesAreDeclared (run_of deck).behind → WholeLeads (first_state deck) (report_lines (run_of deck)) }
+{}
+
+/// And the audit of a text of such a deck, of a line REPORT and of the report of the deck's run says yes.
+pub fn own_report_is_yes()
+    ensures { (text : List ℕ) (deck : DeckLines) → IsOwnReport text deck → AllMayFollow false deck.events → AllAreOver (opened deck) deck.events
+        → FramesAreDeclared (run_of deck).behind → read_back text ≡ Yes }
+{
+    reads_back();
+}

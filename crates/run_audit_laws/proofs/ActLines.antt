@@ -1,0 +1,138 @@
+-- What is told of devices to which only acts came, or nothing, or an empty volume.
+use Rattle.std.proofs.Common.{◌≡◌, ◌⊎◌, ◌++◌, ℕ, Bool, true, false, List, [], ◌∷◌, map, Option, Some, None, length, refl, sym, ap, subst, ◌∙◌, append_assoc, inl, inr}
+use Rattle.std.proofs.lemmas.List.{append-nil, map-append}
+use Rattle.plain_defs.specs.declared.journal.Act.{Act}
+use Rattle.plain_defs.specs.declared.journal.Act.TheVariants.{Loosen, Harden, CfwLost}
+use Rattle.plain_defs.specs.declared.journal.Item.{Item}
+use Rattle.plain_defs.specs.declared.journal.Item.TheVariants as items
+use Rattle.plain_defs.specs.History.{History, OpenEntry, acted, acted_in, emptied}
+use Rattle.device_defs.specs.Device.{all_acted}
+use Rattle.device_defs.specs.Marks.{MarksDevice}
+use Rattle.report_text.specs.declared.line.ReportLine.{ReportLine}
+use Rattle.report_text.specs.Events.{loosed_line, program_over_lines}
+use Rattle.run_report.specs.Beside.{loose_lines, loosed, of_each, over_lines, over_of}
+use Rattle.run_report.proofs.ActsCome.{acts_both, acts_come}
+use Rattle.run_report.proofs.OneDevice.{none_behind}
+use Rattle.run_report.proofs.Quiet.{behind_more}
+use Rattle.subsystem_defs.specs.Beside.{acts_in, acts_of_items, acts_running, behind_first, has_power, new_acts, new_items, power_told, told_act}
+use Rattle.run_audit_laws.specs.Steps.{NoLoss, act_line}
+use Rattle.run_audit_laws.proofs.Quiet.{none_loose}
+
+-- Acts
+
+-- only they are new
+record AreActItems (h k : History) : Type 0 where
+  acts : List Act
+  are : k.items ≡ h.items ++ map (λ (a : Act). items.Act a) acts
+
+one_item : (h : History) (act : Act) (r : Option OpenEntry) → AreActItems h (acted_in h act r)
+one_item h act (Some o) = record { acts = []; are = sym (append-nil h.items) }
+one_item h act None = record { acts = act ∷ []; are = refl }
+
+act_items : (acts : List Act) (h : History) → AreActItems h (all_acted h acts)
+act_items [] h = record { acts = []; are = sym (append-nil h.items) }
+act_items (act ∷ acts) h =
+    let one = one_item h act h.running in
+    let more = act_items acts (acted h act) in
+    record {
+      acts = one.acts ++ more.acts;
+      are = more.are
+          ∙ ap (λ (l : List Item). l ++ map (λ (a : Act). items.Act a) more.acts) one.are
+          ∙ append_assoc h.items (map (λ (a : Act). items.Act a) one.acts) (map (λ (a : Act). items.Act a) more.acts)
+          ∙ ap (λ (l : List Item). h.items ++ l) (sym (map-append (λ (a : Act). items.Act a) one.acts more.acts));
+    }
+
+no_power : (acts : List Act) → has_power (map (λ (a : Act). items.Act a) acts) ≡ false
+no_power [] = refl
+no_power (a ∷ acts) = no_power acts
+
+no_over : (n : ℕ) (acts : List Act) → over_of n (map (λ (a : Act). items.Act a) acts) ≡ None
+no_over n [] = refl
+no_over n (a ∷ acts) = refl
+
+module _ (x y : MarksDevice) (acts : List Act) (is : y.history ≡ all_acted x.history acts) where
+  abbrev n : ℕ
+  n = x.store.device
+
+  items_are : new_items x.history y.history ≡ map (λ (a : Act). items.Act a) (act_items acts x.history).acts
+  items_are =
+      ap (λ (h : History). new_items x.history h) is
+      ∙ ap (λ (l : List Item). behind_first (length x.history.items) l) (act_items acts x.history).are
+      ∙ behind_more x.history.items (map (λ (a : Act). items.Act a) (act_items acts x.history).acts)
+
+  pub acts_over : over_lines x y ≡ []
+  acts_over =
+      ap (λ (l : List Item). program_over_lines (over_of x.store.device l)) items_are
+      ∙ ap program_over_lines (no_over x.store.device (act_items acts x.history).acts)
+
+  -- each act is told
+  pub acts_told : loose_lines x y ≡ map loosed_line (map (loosed x.store.device) (map (told_act x.store y.store) acts))
+  acts_told =
+      ap (λ (b : Bool). map loosed_line (map (loosed x.store.device)
+      (map (told_act x.store y.store) (new_acts x.history y.history) ++ power_told x.store y.store b)))
+      (ap has_power items_are ∙ no_power (act_items acts x.history).acts)
+      ∙ ap (λ (l : List Act). map loosed_line (map (loosed x.store.device) (map (told_act x.store y.store) l ++ [])))
+      (ap (λ (h : History). new_acts x.history h) is ∙ acts_come x.history acts)
+      ∙ ap (λ (l : List _). map loosed_line (map (loosed x.store.device) l)) (append-nil (map (told_act x.store y.store) acts))
+
+  pub acts_lines : NoLoss acts → loose_lines x y ≡ map (act_line x.store.device) acts
+  acts_lines none = acts_told ∙ each acts none where
+    each : (l : List Act) → NoLoss l →
+        map loosed_line (map (loosed x.store.device) (map (told_act x.store y.store) l)) ≡ map (act_line x.store.device) l
+    each [] none = refl
+    each (Loosen t ∷ l) none = ap (λ (k : List ReportLine). act_line x.store.device (Loosen t) ∷ k) (each l none.1)
+    each (Harden t ∷ l) none = ap (λ (k : List ReportLine). act_line x.store.device (Harden t) ∷ k) (each l none.1)
+    each (CfwLost ∷ l) none = absurd (let is : true ≡ false = none.0 in cc)
+
+-- Devices to which nothing came, or an empty volume
+
+abbrev pub Silent : History → History → Type 0
+Silent h k = (k ≡ h) ⊎ (k ≡ emptied h)
+
+fresh_acts : (h : History) → acts_in (emptied h) ≡ acts_in h
+fresh_acts h =
+    ap (λ (l : List Act). l ++ acts_running h.running) (acts_both h.items (items.Fresh ∷ []) ∙ append-nil (acts_of_items h.items))
+
+silent_items : (h k : History) → Silent h k → (xs : List Item) × (new_items h k ≡ xs) × (has_power xs ≡ false) × ((n : ℕ) → over_of n xs ≡ None)
+    × (acts_in k ≡ acts_in h)
+silent_items h k (inl same) =
+    ([], ap (λ (z : History). new_items h z) same ∙ none_behind h.items, refl, (λ n. refl), ap acts_in same)
+silent_items h k (inr fresh) = (
+  items.Fresh ∷ [],
+  ap (λ (z : History). new_items h z) fresh ∙ behind_more h.items (items.Fresh ∷ []),
+  refl,
+  (λ n. refl),
+  ap acts_in fresh ∙ fresh_acts h,
+)
+
+silent_loose : (x y : MarksDevice) → Silent x.history y.history → loose_lines x y ≡ []
+silent_loose x y so = let s = silent_items x.history y.history so in none_loose x y s.0 s.1 s.2 s.4
+
+silent_over : (x y : MarksDevice) → Silent x.history y.history → over_lines x y ≡ []
+silent_over x y so =
+    let s = silent_items x.history y.history so in
+    ap (λ (l : List Item). program_over_lines (over_of x.store.device l)) s.1 ∙ ap program_over_lines (s.3 x.store.device)
+
+abbrev pub history_of : MarksDevice → History
+history_of d = d.history
+
+abbrev pub AllSilent : List History → List History → Type 0
+AllSilent [] [] = Unit {0}
+AllSilent (h ∷ hs) (k ∷ ks) = Silent h k × AllSilent hs ks
+AllSilent _ _ = ⊥
+
+pub all_same : (hs : List History) → AllSilent hs hs
+all_same [] = tt
+all_same (h ∷ hs) = (inl refl, all_same hs)
+
+pub nothing_loose : (xs ys : List MarksDevice) → AllSilent (map history_of xs) (map history_of ys) → of_each loose_lines xs ys ≡ []
+nothing_loose [] ys so = refl
+nothing_loose (x ∷ xs) [] so = refl
+nothing_loose (x ∷ xs) (y ∷ ys) so =
+    ap (λ (l : List ReportLine). l ++ of_each loose_lines xs ys) (silent_loose x y so.0) ∙ nothing_loose xs ys so.1
+
+pub nothing_over : (xs ys : List MarksDevice) → AllSilent (map history_of xs) (map history_of ys) → of_each over_lines xs ys ≡ []
+nothing_over [] ys so = refl
+nothing_over (x ∷ xs) [] so = refl
+nothing_over (x ∷ xs) (y ∷ ys) so =
+    ap (λ (l : List ReportLine). l ++ of_each over_lines xs ys) (silent_over x y so.0) ∙ nothing_over xs ys so.1

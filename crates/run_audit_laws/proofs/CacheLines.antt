@@ -1,0 +1,335 @@
+-- FAIL CACHE: that the data of cache fast write of a device are lost is told of one device after another.
+use Rattle.std.proofs.Common.{
+  ◌≡◌,
+  ◌≤◌,
+  ◌<◌,
+  ◌+◌,
+  ◌/◌,
+  ◌%◌,
+  ◌==◌,
+  ◌++◌,
+  ℕ,
+  Bool,
+  true,
+  false,
+  not,
+  List,
+  [],
+  ◌∷◌,
+  map,
+  length,
+  Option,
+  Some,
+  None,
+  refl,
+  sym,
+  ap,
+  subst,
+  ◌∙◌,
+  append_assoc,
+  if◌then◌else◌,
+  arith,
+  inl,
+  inr,
+}
+use Rattle.std.specs.Prelude.{◌||◌, ◌&&◌, ◌⊎◌, Ok, Err, nat_lt, option_map}
+use Rattle.std.proofs.lemmas.Bool.{eq-eqb, ne_eqb}
+use Rattle.std.proofs.lemmas.Bool.Decides.{nat_tests}
+use Rattle.deck_plan.specs.declared.event.EventLine.{EventLine}
+use Rattle.deck_plan.specs.declared.event.EventLine.TheVariants as wanted
+use Rattle.loss_model.specs.declared.Loss.TheVariants as losses
+use Rattle.plain_defs.specs.declared.journal.Act.{Act}
+use Rattle.plain_defs.specs.declared.journal.Act.TheVariants.{CfwLost}
+use Rattle.plain_defs.specs.History.{acted}
+use Rattle.plain_defs.specs.Loose.{next_number}
+use Rattle.device_outside.specs.Pool.{Pool, cache_failed}
+use Rattle.device_defs.specs.Contents.{by_plain}
+use Rattle.device_defs.specs.Device.{all_acted}
+use Rattle.device_defs.specs.Events.{lose}
+use Rattle.device_defs.specs.Marks.{MarksDevice}
+use Rattle.device_defs.specs.Store.{has_loose}
+use Rattle.device_laws.proofs.Had.{held}
+use Rattle.report_text.specs.declared.answers.LooseAnswer.TheVariants as loose
+use Rattle.report_text.specs.declared.answers.OrderAnswer.TheVariants as answers
+use Rattle.report_text.specs.declared.line.ReportLine.{ReportLine}
+use Rattle.report_text.specs.declared.line.ReportLine.TheVariants as lines
+use Rattle.report_text.specs.declared.order.Order.TheVariants as orders
+use Rattle.report_text.specs.Events.{loosed_line}
+use Rattle.report_places.specs.declared.state.Due.{Due}
+use Rattle.report_places.specs.declared.state.Due.TheVariants.{Next, Losses}
+use Rattle.report_places.specs.declared.state.Outline.{Outline}
+use Rattle.report_places.specs.Place.{holds, outline_in}
+use Rattle.report_places.specs.Same.{says}
+use Rattle.deck_audit.specs.Device as A
+use Rattle.deck_audit.specs.Device.{AuditedDevice, outline_of, state_of, with_device}
+use Rattle.deck_audit.specs.History.{act_made, loss_line, loss_made, order_made}
+use Rattle.deck_audit.specs.State.{AuditState, passed, then_of}
+use Rattle.report_auditor.specs.declared.status.AuditWhy.TheVariants.{Place}
+use Rattle.report_auditor.specs.Verdict.{judged, or_history}
+use Rattle.run_report.specs.Beside.{id_of, loose_lines, loosed, of_each, over_lines}
+use Rattle.run_report.specs.Events.{event_lines}
+use Rattle.subsystem_defs.specs.Beside.{loose_count, told_act}
+use Rattle.subsystem_defs.specs.declared.end.EventEnd.TheVariants as ends
+use Rattle.subsystem_defs.specs.declared.end.OrderFault.TheVariants as faults
+use Rattle.subsystem_defs.specs.declared.event.Event.TheVariants as events
+use Rattle.subsystem_defs.specs.Deeds as E
+use Rattle.subsystem_defs.specs.Deeds.{Each, Ends}
+use Rattle.subsystem_defs.specs.Happening as H
+use Rattle.subsystem_defs.specs.Happening.{happens, happens_by, held_with, quietly, sweep, swept, told_to}
+use Rattle.subsystem_defs.specs.Lines.{Once}
+use Rattle.subsystem_defs.specs.Subsystem.{Mounted, Subsystem, devices_of}
+use Rattle.subsystem_laws.proofs.PlainRuns.{ArePlain, Plainly}
+use Rattle.run_audit_laws.specs.Standing.{LeadsBy, audited, half_by, stand}
+use Rattle.run_audit_laws.proofs.ActLines.{acts_over, acts_told}
+use Rattle.run_audit_laws.proofs.DeckNumbers.{RisesFrom}
+use Rattle.run_audit_laws.proofs.Found.{devices, outlined}
+use Rattle.run_audit_laws.proofs.KnownDevices.{count_is, has_is, known}
+use Rattle.run_audit_laws.proofs.Leading.{EventLeads, one_leads, then_some}
+use Rattle.run_audit_laws.proofs.LossDevices.{IsLoss, cache_acts, lost_acts, number_behind}
+use Rattle.run_audit_laws.proofs.Orders.{IsOrder, refused_leads}
+use Rattle.run_audit_laws.proofs.ResetDevices.{audited_by}
+use Rattle.run_audit_laws.proofs.Saying.{both, same_loose, same_number}
+use Rattle.run_audit_laws.proofs.Ties.{Tie, ties}
+
+-- What is told of a device
+
+record IsQuiet (x y : MarksDevice) : Type 0 where
+  lines_are : loose_lines x y ≡ []
+  audits : audited y ≡ audited x
+
+record IsLostNow (x y : MarksDevice) : Type 0 where
+  lines_are : loose_lines x y ≡ loss_line (audited x) ∷ []
+  some : A.has_loose (audited x) ≡ true
+  audits : audited y ≡ record (audited x) { history = acted x.history CfwLost }
+
+abbrev IsTold : MarksDevice → MarksDevice → Type 0
+IsTold x y = (over_lines x y ≡ []) × (IsQuiet x y ⊎ IsLostNow x y)
+
+pub loss_told : (n c k m : ℕ) → c ≡ k → m ≡ next_number n → (d : ℕ) →
+    lines.Loose d (loose.Lost c (id_of m)) ≡ (let id = next_number n in lines.Loose d (loose.Lost k (id / 256 ∷ id % 256 ∷ [])))
+loss_told n c k m count number d =
+    ap (λ (i : ℕ). lines.Loose d (loose.Lost i (id_of m))) count ∙ ap (λ (i : ℕ). lines.Loose d (loose.Lost k (id_of i))) number
+
+module _ (x y : MarksDevice) (p : Plainly x) (g : IsLoss p.empty x y) where
+  quiet_device : y.store.acts ≡ [] → IsQuiet x y
+  quiet_device none = record {
+    lines_are = acts_told x y y.store.acts g.history
+        ∙ ap (λ (l : List Act). map loosed_line (map (loosed x.store.device) (map (told_act x.store y.store) l))) none;
+    audits = audited_by x y (half_by x.store.half) x.history g.parts (g.history ∙ ap (λ (l : List Act). all_acted x.history l) none);
+  }
+
+  lost_device : y.store.acts ≡ CfwLost ∷ [] → y.store.number ≡ next_number x.store.number → has_loose x.store ≡ true → IsLostNow x y
+  lost_device one number some =
+      let k = known x p in
+      record {
+        lines_are = acts_told x y y.store.acts g.history
+            ∙ ap (λ (l : List Act). map loosed_line (map (loosed x.store.device) (map (told_act x.store y.store) l))) one
+            ∙ ap (λ (l : ReportLine). l ∷ [])
+            (loss_told (state_of (audited x)).number (loose_count x.store) (length (state_of (audited x)).loose) y.store.number (count_is (audited x) x.store k)
+            (number ∙ ap next_number (sym k.number_is)) x.store.device);
+        some = sym (has_is (audited x) x.store k) ∙ some;
+        audits = audited_by x y (half_by x.store.half) (acted x.history CfwLost) g.parts
+            (g.history ∙ ap (λ (l : List Act). all_acted x.history l) one);
+      }
+
+  cache_told : (b : Bool) → has_loose x.store ≡ b → y.store.acts ≡ lost_acts b → y.store.number ≡ number_behind b x.store.number → IsTold x y
+  cache_told true some acts number = (acts_over x y y.store.acts g.history, inr (lost_device acts number some))
+  cache_told false none acts number = (acts_over x y y.store.acts g.history, inl (quiet_device acts))
+
+abbrev AllTold : List MarksDevice → List MarksDevice → Type 0
+AllTold [] [] = Unit {0}
+AllTold (x ∷ xs) (y ∷ ys) = IsTold x y × AllTold xs ys
+AllTold _ _ = ⊥
+
+cache_swept : (ms : List Mounted) (pool : Pool) → ArePlain ms →
+    AllTold (devices ms) (devices (sweep (λ x. lose by_plain x losses.Cache) ms pool).mounted)
+unfolding H.sweep
+cache_swept [] pool p = tt
+cache_swept (m ∷ ms) pool p =
+    let d = m.device in
+    let o = held_with pool m (lose by_plain d losses.Cache) in
+    let is = held true (cache_acts p.0.number p.0.empty d p.0.follows) (told_to pool m) in
+    (cache_told d o.state p.0 is.0 (has_loose d.store) refl is.1.0 is.1.1, cache_swept ms o.told.pool p.1)
+
+none_over : (xs ys : List MarksDevice) → AllTold xs ys → of_each over_lines xs ys ≡ []
+none_over [] ys told = refl
+none_over (x ∷ xs) [] told = refl
+none_over (x ∷ xs) (y ∷ ys) told = ap (λ (l : List ReportLine). l ++ of_each over_lines xs ys) told.0.0 ∙ none_over xs ys told.1
+
+-- A device behind others of lower numbers
+
+abbrev pub IsBelow : ℕ → List AuditedDevice → Type 0
+IsBelow low [] = Unit {0}
+IsBelow low (a ∷ all) = (a.number < low) × IsBelow low all
+
+pub below_more : (low more : ℕ) (all : List AuditedDevice) → low ≤ more → IsBelow low all → IsBelow more all
+below_more low more [] le b = tt
+below_more low more (a ∷ all) le b = let lt = b.0 in (omega (arith, lt, le), below_more low more all le b.1)
+
+pub below_one : (low : ℕ) (all : List AuditedDevice) (a : AuditedDevice) → IsBelow low all → low ≤ a.number → IsBelow (a.number + 1) (all ++ a ∷ [])
+below_one low [] a b le = (omega arith, tt)
+below_one low (x ∷ all) a b le = let lt = b.0 in (omega (arith, lt, le), below_one low all a b.1 le)
+
+module _ (low : ℕ) (a : AuditedDevice) (least_is : low ≤ a.number) (rest : List AuditedDevice) where
+  other : (x : AuditedDevice) → x.number < low → (x.number == a.number) ≡ false
+  other x lt = ne_eqb x.number a.number (λ e. omega (arith, lt, least_is, e))
+
+  pub found_here : (done : List AuditedDevice) → IsBelow low done → A.device_in (done ++ a ∷ rest) a.number ≡ Some a
+  found_here [] b = ap (λ (c : Bool). if c then Some a else A.device_in rest a.number) (same_number a.number)
+  found_here (x ∷ done) b =
+      ap (λ (c : Bool). if c then Some x else A.device_in (done ++ a ∷ rest) a.number) (other x b.0) ∙ found_here done b.1
+
+  pub put_here : (done : List AuditedDevice) (b : AuditedDevice) → b.number ≡ a.number → IsBelow low done →
+      with_device (done ++ a ∷ rest) b ≡ done ++ b ∷ rest
+  put_here [] b same low_done = ap (λ (c : Bool). if c then b ∷ rest else a ∷ with_device rest b) (eq-eqb a.number b.number (sym same))
+  put_here (x ∷ done) b same low_done =
+      ap (λ (k : ℕ). if x.number == k then b ∷ (done ++ a ∷ rest) else x ∷ with_device (done ++ a ∷ rest) b) same
+      ∙ ap (λ (c : Bool). if c then b ∷ (done ++ a ∷ rest) else x ∷ with_device (done ++ a ∷ rest) b) (other x low_done.0)
+      ∙ ap (λ (l : List AuditedDevice). x ∷ l) (put_here done b same low_done.1)
+
+  pub outline_here : (done : List AuditedDevice) → IsBelow low done → outline_in (map outline_of (done ++ a ∷ rest)) a.number ≡ Some (outline_of a)
+  outline_here done b =
+      outlined (done ++ a ∷ rest) a.number ∙ ap (λ (o : Option AuditedDevice). option_map outline_of o) (found_here done b)
+
+-- The lines, one device after another
+
+above : (d n : ℕ) → d < n → nat_lt d n ≡ true
+above d n lt = grind (arith, nat_tests, lt)
+
+abbrev due_by : Option ℕ → Due
+due_by None = Next
+due_by (Some d) = Losses d
+
+abbrev LastBelow : Option ℕ → ℕ → Type 0
+LastBelow None low = Unit {0}
+LastBelow (Some d) low = d < low
+
+last_more : (last : Option ℕ) (low more : ℕ) → low ≤ more → LastBelow last low → LastBelow last more
+last_more None low more le b = tt
+last_more (Some d) low more le b = omega (arith, le, b)
+
+module _ (later : List EventLine) where
+  abbrev at : List AuditedDevice → Due → AuditState
+  at all due = record { devices = all; events = wanted.FailCache ∷ later; due = due }
+
+  loss_judged : (low : ℕ) (done rest : List AuditedDevice) (a : AuditedDevice) (last : Option ℕ) → IsBelow low done → LastBelow last low →
+      low ≤ a.number → A.has_loose a ≡ true →
+      judged (at (done ++ a ∷ rest) (due_by last)) (loss_line a)
+      ≡ Ok (at (done ++ record a { history = acted a.history CfwLost } ∷ rest) (Losses a.number))
+  loss_judged low done rest a last b l le some = by_last last l where
+    line : ReportLine
+    line = loss_line a
+
+    all : List AuditedDevice
+    all = done ++ a ∷ rest
+
+    made : (due : Due) → or_history (order_made (at (done ++ a ∷ rest) due) (loss_line a) wanted.FailCache)
+        ≡ Ok (at (done ++ record a { history = acted a.history CfwLost } ∷ rest) (Losses a.number))
+    made due =
+        let s = at (done ++ a ∷ rest) due in
+        ap or_history (then_some (A.device_in (done ++ a ∷ rest) a.number) a (loss_made s (loss_line a)) (found_here low a le rest done b))
+        ∙ ap (λ (c : Bool). or_history (if c then Some (act_made s a CfwLost (Losses a.number)) else None))
+        (both (A.has_loose a) (says (loss_line a) (loss_line a)) some
+        (both (a.number == a.number) _ (same_number a.number)
+        (same_loose (let id = next_number (state_of a).number in loose.Lost (length (state_of a).loose) (id / 256 ∷ id % 256 ∷ [])))))
+        ∙ ap (λ (l : List AuditedDevice). Ok (at l (Losses a.number)))
+        (put_here low a le rest done (record a { history = acted a.history CfwLost }) refl b)
+
+    by_last : (k : Option ℕ) → LastBelow k low → judged (at (done ++ a ∷ rest) (due_by k)) (loss_line a)
+        ≡ Ok (at (done ++ record a { history = acted a.history CfwLost } ∷ rest) (Losses a.number))
+    by_last None lt =
+        ap (λ (o : Option Outline). if holds o (λ (x : Outline). true) || false
+        then or_history (order_made (at (done ++ a ∷ rest) Next) (loss_line a) wanted.FailCache) else Err Place)
+        (outline_here low a le rest done b)
+        ∙ made Next
+    by_last (Some d) lt =
+        ap (λ (o : Option Outline). if (nat_lt d a.number && holds o (λ (x : Outline). true)) || false
+        then or_history (order_made (at (done ++ a ∷ rest) (Losses d)) (loss_line a) wanted.FailCache) else Err Place)
+        (outline_here low a le rest done b)
+        ∙ ap (λ (c : Bool). if (c && true) || false
+        then or_history (order_made (at (done ++ a ∷ rest) (Losses d)) (loss_line a) wanted.FailCache) else Err Place)
+        (above d a.number (omega (arith, lt, le)))
+        ∙ made (Losses d)
+
+  abbrev order_line : ReportLine
+  order_line = lines.Order orders.FailCache answers.Done
+
+  last_leads : (all : List AuditedDevice) (last : Option ℕ) →
+      LeadsBy (at all (due_by last)) (lines.Order orders.FailCache answers.Done ∷ []) (record { devices = all; events = later; due = Next })
+  last_leads all None = one_leads (at all Next) (record { devices = all; events = later; due = Next }) (lines.Order orders.FailCache answers.Done) refl
+  last_leads all (Some d) =
+      one_leads (at all (Losses d)) (record { devices = all; events = later; due = Next }) (lines.Order orders.FailCache answers.Done) refl
+
+  each_leads : (low : ℕ) (done : List AuditedDevice) (last : Option ℕ) (xs ys : List MarksDevice) → IsBelow low done → LastBelow last low →
+      RisesFrom low (map (λ (d : MarksDevice). d.store.device) xs) → AllTold xs ys →
+      LeadsBy (at (done ++ map audited xs) (due_by last)) (of_each loose_lines xs ys ++ lines.Order orders.FailCache answers.Done ∷ [])
+      (record { devices = done ++ map audited ys; events = later; due = Next })
+  each_leads low done last [] [] b l rises told = last_leads (done ++ []) last
+  each_leads low done last [] (y ∷ ys) b l rises told = absurd told
+  each_leads low done last (x ∷ xs) [] b l rises told = absurd told
+  each_leads low done last (x ∷ xs) (y ∷ ys) b l rises told =
+      by_told told.0.1 (λ (next : Option ℕ) (lb : LastBelow next (x.store.device + 1)) (same : (audited y).number ≡ x.store.device).
+      subst (λ (all : List AuditedDevice). LeadsBy (at (done ++ audited y ∷ map audited xs) (due_by next))
+      (of_each loose_lines xs ys ++ lines.Order orders.FailCache answers.Done ∷ []) (record { devices = all; events = later; due = Next }))
+      (append_assoc done (audited y ∷ []) (map audited ys))
+      (subst (λ (all : List AuditedDevice). LeadsBy (at all (due_by next))
+      (of_each loose_lines xs ys ++ lines.Order orders.FailCache answers.Done ∷ [])
+      (record { devices = (done ++ audited y ∷ []) ++ map audited ys; events = later; due = Next }))
+      (append_assoc done (audited y ∷ []) (map audited xs))
+      (each_leads (x.store.device + 1) (done ++ audited y ∷ []) next xs ys
+      (subst (λ (n : ℕ). IsBelow (n + 1) (done ++ audited y ∷ [])) same
+      (below_one low done (audited y) b (subst (λ (n : ℕ). low ≤ n) (sym same) rises.0)))
+      lb rises.1 told.1)))
+    where
+      by_told : IsQuiet x y ⊎ IsLostNow x y → ((next : Option ℕ) → LastBelow next (x.store.device + 1) → (audited y).number ≡ x.store.device →
+          LeadsBy (at (done ++ audited y ∷ map audited xs) (due_by next)) (of_each loose_lines xs ys ++ lines.Order orders.FailCache answers.Done ∷ [])
+          (record { devices = done ++ audited y ∷ map audited ys; events = later; due = Next })) →
+          LeadsBy (at (done ++ audited x ∷ map audited xs) (due_by last))
+          ((loose_lines x y ++ of_each loose_lines xs ys) ++ lines.Order orders.FailCache answers.Done ∷ [])
+          (record { devices = done ++ audited y ∷ map audited ys; events = later; due = Next })
+      by_told (inl quiet) more =
+          subst (λ (ls : List ReportLine). LeadsBy (at (done ++ audited x ∷ map audited xs) (due_by last))
+          ((ls ++ of_each loose_lines xs ys) ++ lines.Order orders.FailCache answers.Done ∷ [])
+          (record { devices = done ++ audited y ∷ map audited ys; events = later; due = Next })) (sym quiet.lines_are)
+          (subst (λ (a : AuditedDevice). LeadsBy (at (done ++ a ∷ map audited xs) (due_by last))
+          (of_each loose_lines xs ys ++ lines.Order orders.FailCache answers.Done ∷ [])
+          (record { devices = done ++ audited y ∷ map audited ys; events = later; due = Next })) quiet.audits
+          (more last (last_more last low (x.store.device + 1) (let le = rises.0 in omega (arith, le)) l) (ap (λ (a : AuditedDevice). a.number) quiet.audits)))
+      by_told (inr lost) more =
+          let a = audited x in
+          subst (λ (ls : List ReportLine). LeadsBy (at (done ++ audited x ∷ map audited xs) (due_by last))
+          ((ls ++ of_each loose_lines xs ys) ++ lines.Order orders.FailCache answers.Done ∷ [])
+          (record { devices = done ++ audited y ∷ map audited ys; events = later; due = Next })) (sym lost.lines_are) (
+            at (done ++ audited y ∷ map audited xs) (Losses x.store.device),
+            loss_judged low done (map audited xs) a last b l rises.0 lost.some
+                ∙ ap (λ (c : AuditedDevice). Ok (at (done ++ c ∷ map audited xs) (Losses x.store.device))) (sym lost.audits),
+            more (Some x.store.device) (omega arith) (ap (λ (c : AuditedDevice). c.number) lost.audits),
+          )
+
+-- The event
+
+fails_cache : IsOrder wanted.FailCache orders.FailCache (Once events.FailCache)
+fails_cache = record { stands = λ outs answer. refl; refused = λ z fault. refl; pending = λ z n. refl; lines_are = λ end reads writes ds ks. refl }
+
+pub numbers_same : (ms : List Mounted) → map (λ (d : MarksDevice). d.store.device) (devices ms) ≡ map (λ (t : Tie). t.number) (ties ms)
+numbers_same [] = refl
+numbers_same (m ∷ ms) = ap (λ (l : List ℕ). m.device.store.device ∷ l) (numbers_same ms)
+
+module _ (s : Subsystem) (plain : ArePlain s.mounted) (rises : RisesFrom 0 (map (λ (d : MarksDevice). d.store.device) (devices_of s))) where
+  cache_leads : EventLeads s wanted.FailCache (Once events.FailCache)
+      (quietly s (swept (sweep (λ x. lose by_plain x losses.Cache) s.mounted (cache_failed s.pool))) ends.Done)
+  cache_leads later =
+      let behind = swept (sweep (λ x. lose by_plain x losses.Cache) s.mounted (cache_failed s.pool)) in
+      let told = cache_swept s.mounted (cache_failed s.pool) plain in
+      subst (λ (ls : List ReportLine). LeadsBy (stand s (wanted.FailCache ∷ later))
+      (of_each loose_lines (devices_of s) (devices_of behind) ++ (ls ++ lines.Order orders.FailCache answers.Done ∷ [])) (stand behind later))
+      (sym (none_over (devices_of s) (devices_of behind) told))
+      (each_leads later 0 [] None (devices_of s) (devices_of behind) tt tt rises told)
+
+  pub fail_cache_leads : EventLeads s wanted.FailCache (Once events.FailCache) (happens s events.FailCache)
+  unfolding H.happens E.deed
+  fail_cache_leads = by_up (not s.pool.cache_up) where
+    by_up : (b : Bool) → EventLeads s wanted.FailCache (Once events.FailCache)
+        (happens_by s (if b then Ends (ends.Refused faults.Down) else Each (cache_failed s.pool) (λ x. lose by_plain x losses.Cache)))
+    by_up true = refused_leads s wanted.FailCache orders.FailCache (Once events.FailCache) fails_cache faults.Down
+    by_up false = cache_leads

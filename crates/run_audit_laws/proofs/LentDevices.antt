@@ -1,0 +1,98 @@
+-- What an order makes of a device that is lent.
+use Rattle.std.proofs.Common.{◌≡◌, ℕ, zero, suc, true, Option, Some, None, is_some, set, refl, ap, ◌∙◌}
+use Rattle.std.proofs.lemmas.Bool.{cond_both}
+use Rattle.device_outside.specs.Interaction.{Done}
+use Rattle.device_defs.specs.Contents.{by_plain}
+use Rattle.device_defs.specs.Device.{event_begun, event_ended}
+use Rattle.device_defs.specs.Losses as L
+use Rattle.device_defs.specs.Losses.{gives_up, over, slot_in, without_frame}
+use Rattle.device_defs.specs.Marks.{MarksDevice, MarksStore}
+use Rattle.device_defs.specs.Orders as O
+use Rattle.device_defs.specs.Orders.{given_up, lend, lent_to, with_tracks}
+use Rattle.device_defs.specs.Owed.{ended, waiting_count}
+use Rattle.device_defs.specs.Store.{frame_at, owed_at, patch_at, tracks_of, with_frame}
+use Rattle.device_laws.proofs.Had.{Had, had_done, had_then}
+use Rattle.device_laws.proofs.PlainStores.{Core, core_of}
+use Rattle.device_laws.proofs.PlainWalks.{framed_same, patch_same}
+use Rattle.device_laws.proofs.PoolWalks.{asks_had, ended_asks}
+use Rattle.run_audit_laws.specs.Standing.{half_by}
+
+pub record IsLent (to : ℕ) (x y : MarksDevice) : Type 0 where
+  pub number : y.store.device ≡ x.store.device
+  pub geometry : y.store.geometry ≡ x.store.geometry
+  pub cylinders : y.store.cylinders ≡ x.store.cylinders
+  pub plans : y.plans ≡ x.plans
+  pub half : half_by y.store.half ≡ half_by x.store.half
+  pub lent : y.store.lent ≡ Some to
+  pub paired : y.store.paired ≡ x.store.paired
+  pub history : y.history ≡ x.history
+
+-- what is kept of a store: its core, and whether it is paired
+record Kept (s z : MarksStore) : Type 0 where
+  core : core_of z ≡ core_of s
+  paired : z.paired ≡ s.paired
+
+kept_on : (s z y : MarksStore) → Kept s z → Kept z y → Kept s y
+kept_on s z y f g = record { core = g.core ∙ f.core; paired = g.paired ∙ f.paired }
+
+unframed_kept : (t : ℕ) (s : MarksStore) → Kept s (without_frame s t)
+unframed_kept t s =
+    cond_both (is_some (frame_at s t)) (record (with_frame s t None) { owed = set s.owed t (record (owed_at s t) { dropped = true }) }) s
+    (Kept s) (λ _. record { core = framed_same s t None; paired = refl }) (λ _. record { core = refl; paired = refl })
+
+slot_kept : (s : MarksStore) (t : ℕ) (o : Option ℕ) → Kept s (gives_up s t o)
+slot_kept s t None = record { core = refl; paired = refl }
+slot_kept s t (Some slot) = record { core = patch_same s t (Some slot); paired = refl }
+
+given_kept : (t : ℕ) (s : MarksStore) → Kept s (given_up by_plain t s)
+given_kept t s =
+    let z = without_frame s t in
+    kept_on s z (given_up by_plain t s) (unframed_kept t s) (slot_kept z t (slot_in by_plain (patch_at z t)))
+
+over_kept : (k : ℕ) (s : MarksStore) → Kept s (over k (given_up by_plain) s)
+unfolding L.over
+over_kept zero s = record { core = refl; paired = refl }
+over_kept (suc k) s =
+    kept_on s (over k (given_up by_plain) s) (given_up by_plain k (over k (given_up by_plain) s)) (over_kept k s)
+    (given_kept k (over k (given_up by_plain) s))
+
+ended_kept : (before : ℕ) (s : MarksStore) → Had (ended by_plain before s) (λ y (_ : Unit {0}). Kept s y)
+ended_kept before s =
+    asks_had (ended_asks by_plain (Kept s) (λ z t e. record { core = e.core; paired = e.paired }) before s (record { core = refl; paired = refl }))
+
+module _ (x : MarksDevice) (to : ℕ) where
+  lent_same : (y : MarksDevice) (z : MarksStore) → Kept y.store z → IsLent to x y → IsLent to x (record y { store = z })
+  lent_same y z k g = record {
+    number = ap (λ (c : Core). c.device) k.core ∙ g.number;
+    geometry = ap (λ (c : Core). c.geometry) k.core ∙ g.geometry;
+    cylinders = ap (λ (c : Core). c.cylinders) k.core ∙ g.cylinders;
+    plans = g.plans;
+    half = ap (λ (c : Core). half_by c.half) k.core ∙ g.half;
+    lent = ap (λ (c : Core). c.lent) k.core ∙ g.lent;
+    paired = k.paired ∙ g.paired;
+    history = g.history;
+  }
+
+  abbrev lent_now : MarksDevice
+  lent_now = let z = event_begun x in with_tracks z (lent_to (over (tracks_of z.store) (given_up by_plain) z.store) to)
+
+  lent_first : IsLent to x lent_now
+  lent_first =
+      let z = event_begun x in
+      let k = over_kept (tracks_of z.store) z.store in
+      record {
+        number = ap (λ (c : Core). c.device) k.core;
+        geometry = ap (λ (c : Core). c.geometry) k.core;
+        cylinders = ap (λ (c : Core). c.cylinders) k.core;
+        plans = refl;
+        half = ap (λ (c : Core). half_by c.half) k.core;
+        lent = refl;
+        paired = k.paired;
+        history = refl;
+      }
+
+  pub lend_makes : Had (lend by_plain x to) (λ y (_ : Unit {0}). IsLent to x y)
+  unfolding O.lend
+  lend_makes =
+      had_then {S = MarksDevice} {A = Unit {0}} {f = event_ended by_plain x} {p = λ y _. IsLent to x y} (had_done lent_first)
+      (λ y a g. had_then (ended_kept (waiting_count by_plain x.store) y.store) (λ z _ k. had_done (lent_same y z k g)))

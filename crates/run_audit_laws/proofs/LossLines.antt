@@ -1,0 +1,286 @@
+-- FAIL STORE, which tells nothing of the devices, and FAIL VOLUME, which tells of each track that becomes firm.
+use Rattle.std.proofs.Common.{
+  ◌≡◌,
+  ◌+◌,
+  ◌==◌,
+  ◌++◌,
+  ℕ,
+  Bool,
+  true,
+  false,
+  not,
+  List,
+  [],
+  ◌∷◌,
+  map,
+  Option,
+  Some,
+  None,
+  refl,
+  sym,
+  ap,
+  subst,
+  ◌∙◌,
+  if◌then◌else◌,
+  inl,
+}
+use Rattle.std.specs.Prelude.{◌||◌, IfSome, Ok, Err}
+use Rattle.ckd_types.specs.declared.paths.Side.{Side}
+use Rattle.deck_plan.specs.declared.event.EventLine.{EventLine}
+use Rattle.deck_plan.specs.declared.event.EventLine.TheVariants as wanted
+use Rattle.loss_model.specs.declared.Loss.TheVariants as losses
+use Rattle.plain_defs.specs.declared.journal.Act.{Act}
+use Rattle.plain_defs.specs.declared.journal.Act.TheVariants.{Loosen, Harden, CfwLost}
+use Rattle.plain_defs.specs.History.{History, IsPlain, acted, plain_of}
+use Rattle.plain_defs.specs.Legal.{AreActs}
+use Rattle.plain_defs.specs.Loose.{is_loose}
+use Rattle.plain_defs.specs.PlainState.{PlainState}
+use Rattle.device_outside.specs.Interaction.{Done}
+use Rattle.device_outside.specs.Pool.{Pool, store_failed}
+use Rattle.device_defs.specs.Contents.{by_plain}
+use Rattle.device_defs.specs.Device.{all_acted}
+use Rattle.device_defs.specs.Events.{lose}
+use Rattle.device_defs.specs.Marks.{MarksDevice}
+use Rattle.device_laws.proofs.Had.{Had, had_done, had_then, held}
+use Rattle.device_laws.proofs.HistoryActs.{acted_plain, acted_state, acts_first, acts_rest}
+use Rattle.seen_laws.proofs.Counting.{counts_done, counts_then, held_moved}
+use Rattle.seen_laws.proofs.EventCounts.{lose_counts}
+use Rattle.report_text.specs.declared.answers.LooseAnswer.TheVariants as loose
+use Rattle.report_text.specs.declared.answers.OrderAnswer.TheVariants as answers
+use Rattle.report_text.specs.declared.event.Happened.TheVariants as did
+use Rattle.report_text.specs.declared.line.ReportLine.{ReportLine}
+use Rattle.report_text.specs.declared.line.ReportLine.TheVariants as lines
+use Rattle.report_text.specs.declared.order.Order.TheVariants as orders
+use Rattle.report_places.specs.declared.state.Due.TheVariants.{Next}
+use Rattle.deck_audit.specs.Device as A
+use Rattle.deck_audit.specs.Device.{AuditedDevice, state_of, with_device}
+use Rattle.deck_audit.specs.History.{act_made, harden_made}
+use Rattle.deck_audit.specs.State.{AuditState, outlines, passed, then_of}
+use Rattle.report_auditor.specs.declared.status.AuditWhy.TheVariants.{Place}
+use Rattle.report_auditor.specs.Verdict.{judged, or_history}
+use Rattle.run_report.specs.Answers.{order_answer}
+use Rattle.run_report.specs.Beside.{loose_lines, over_lines}
+use Rattle.run_report.specs.Events.{event_lines, work_lines}
+use Rattle.run_report.specs.OneDevice.{lines_at}
+use Rattle.run_report.proofs.OneDevice.{tells_alone}
+use Rattle.subsystem_defs.specs.declared.end.EventEnd.{EventEnd}
+use Rattle.subsystem_defs.specs.declared.end.EventEnd.TheVariants as ends
+use Rattle.subsystem_defs.specs.declared.end.OrderFault.{OrderFault}
+use Rattle.subsystem_defs.specs.declared.end.OrderFault.TheVariants as faults
+use Rattle.subsystem_defs.specs.declared.event.Event.TheVariants as events
+use Rattle.subsystem_defs.specs.Deeds as E
+use Rattle.subsystem_defs.specs.Deeds.{Asks, Each, Ends, device_in, ends_by, ends_done, on_device, order}
+use Rattle.subsystem_defs.specs.Happening as H
+use Rattle.subsystem_defs.specs.Happening.{Happened, asks, happens, happens_by, held_with, mounted_behind, quietly, sweep, swept, told_end, told_to}
+use Rattle.subsystem_defs.specs.Lines.{Once}
+use Rattle.subsystem_defs.specs.Refusals.{fail_fault}
+use Rattle.subsystem_defs.specs.Subsystem.{Mounted, Subsystem, devices_of, mounted_in, with_mounted}
+use Rattle.subsystem_laws.proofs.FoundDevices.{number_found}
+use Rattle.subsystem_laws.proofs.GoodMarks.{Good}
+use Rattle.subsystem_laws.proofs.PlainRuns.{ArePlain, Plainly}
+use Rattle.subsystem_laws.proofs.Walks.{AreSo, device_so}
+use Rattle.run_audit_laws.specs.Standing.{LeadsBy, audited, half_by, stand}
+use Rattle.run_audit_laws.specs.Steps.{NoLoss, act_line}
+use Rattle.run_audit_laws.proofs.ActLines.{AllSilent, Silent, acts_lines, acts_over, history_of}
+use Rattle.run_audit_laws.proofs.FirmMarks.{firm_of}
+use Rattle.run_audit_laws.proofs.Found.{devices, found_one, mounted_too, put_at, put_same}
+use Rattle.run_audit_laws.proofs.Leading.{EventLeads, leads_on, one_leads, then_some}
+use Rattle.run_audit_laws.proofs.LossDevices.{IsLoss, side_acts, store_acts}
+use Rattle.run_audit_laws.proofs.Orders.{IsOrder, ordered, refused_leads, told_leads}
+use Rattle.run_audit_laws.proofs.PairLines.{silent_lines}
+use Rattle.run_audit_laws.proofs.ResetDevices.{audited_by}
+use Rattle.run_audit_laws.proofs.Saying.{same_number, same_order}
+use Rattle.run_audit_laws.proofs.Work.{found_put, put_again}
+
+-- FAIL STORE
+
+fails_store : IsOrder wanted.FailStore orders.FailStore (Once events.FailStore)
+fails_store = record { stands = λ outs answer. refl; refused = λ z fault. refl; pending = λ z n. refl; lines_are = λ end reads writes ds ks. refl }
+
+-- the audit knows the same of the devices
+record SweptSame (ms ks : List Mounted) : Type 0 where
+  audits : map audited (devices ks) ≡ map audited (devices ms)
+  silent : AllSilent (map history_of (devices ms)) (map history_of (devices ks))
+
+store_swept : (ms : List Mounted) (pool : Pool) → ArePlain ms → AreSo Good ms →
+    SweptSame ms (sweep (λ x. lose by_plain x losses.Store) ms pool).mounted
+unfolding H.sweep
+store_swept [] pool p g = record { audits = refl; silent = tt }
+store_swept (m ∷ ms) pool p g =
+    let d = m.device in
+    let o = held_with pool m (lose by_plain d losses.Store) in
+    let is = held true (store_acts p.0.number p.0.empty d p.0.follows (firm_of d g.0)) (told_to pool m) in
+    let rest = store_swept ms o.told.pool p.1 g.1 in
+    let same : o.state.history ≡ d.history = is.0.history ∙ ap (λ (acts : List Act). all_acted d.history acts) is.1 in
+    record {
+      audits = ap (λ (a : AuditedDevice). a ∷ map audited (devices (sweep (λ x. lose by_plain x losses.Store) ms o.told.pool).mounted))
+          (audited_by d o.state (half_by d.store.half) d.history is.0.parts same)
+          ∙ ap (λ (l : List AuditedDevice). audited d ∷ l) rest.audits;
+      silent = (inl same, rest.silent);
+    }
+
+module _ (s : Subsystem) (plain : ArePlain s.mounted) (good : AreSo Good s.mounted) where
+  store_leads : EventLeads s wanted.FailStore (Once events.FailStore)
+      (quietly s (swept (sweep (λ x. lose by_plain x losses.Store) s.mounted (store_failed s.pool))) ends.Done)
+  store_leads later =
+      let e = wanted.FailStore in
+      let behind = swept (sweep (λ x. lose by_plain x losses.Store) s.mounted (store_failed s.pool)) in
+      let is = store_swept s.mounted (store_failed s.pool) plain good in
+      told_leads s e orders.FailStore (Once events.FailStore) fails_store behind ends.Done later
+      (silent_lines orders.FailStore answers.Done (devices_of s) (devices_of behind) is.silent)
+      (ap (λ (l : List AuditedDevice). Some (record { devices = l; events = later; due = (stand s later).due })) (sym is.audits))
+
+  pub fail_store_leads : EventLeads s wanted.FailStore (Once events.FailStore) (happens s events.FailStore)
+  unfolding H.happens E.deed
+  fail_store_leads = by_up (not s.pool.store_up) where
+    by_up : (b : Bool) → EventLeads s wanted.FailStore (Once events.FailStore)
+        (happens_by s (if b then Ends (ends.Refused faults.Down) else Each (store_failed s.pool) (λ x. lose by_plain x losses.Store)))
+    by_up true = refused_leads s wanted.FailStore orders.FailStore (Once events.FailStore) fails_store faults.Down
+    by_up false = store_leads
+
+-- FAIL VOLUME
+
+fails_volume : (n : ℕ) (side : Side) → IsOrder (wanted.FailVolume n side) (orders.FailVolume n side) (Once (events.FailVolume n side))
+fails_volume n side = record {
+  stands = λ outs answer. same_order (orders.FailVolume n side);
+  refused = λ z fault. refl;
+  pending = λ z k. refl;
+  lines_are = λ end reads writes ds ks. refl;
+}
+
+-- the acts, one after another
+module _ (xs : List AuditedDevice) (n : ℕ) (side : Side) (later : List EventLine) (first : AuditedDevice) (has : A.device_in xs n ≡ Some first) where
+  abbrev e : EventLine
+  e = wanted.FailVolume n side
+
+  abbrev at : AuditedDevice → AuditState
+  at a = record { devices = with_device xs a; events = wanted.FailVolume n side ∷ later; due = Next }
+
+  harden_judged : (a : AuditedDevice) → a.number ≡ n → (t : ℕ) → is_loose (state_of a) t ≡ true →
+      judged (at a) (lines.Loose n (loose.Harden t)) ≡ Ok (at (record a { history = acted a.history (Harden t) }))
+  harden_judged a same t is =
+      let s = at a in
+      let line = lines.Loose n (loose.Harden t) in
+      let b = record a { history = acted a.history (Harden t) } in
+      ap (λ (c : Bool). if c || false then or_history (then_of (A.device_in s.devices n) (λ k. harden_made s k t Next)) else Err Place) (same_number n)
+      ∙ ap or_history (then_some (A.device_in s.devices n) a (λ k. harden_made s k t Next) (found_put xs n first a has same))
+      ∙ ap (λ (c : Bool). or_history (if c then Some (act_made s a (Harden t) Next) else None)) is
+      ∙ ap (λ (l : List AuditedDevice). Ok (record { devices = l; events = wanted.FailVolume n side ∷ later; due = s.due })) (put_again xs a b refl)
+
+  hardens_lead : (a : AuditedDevice) → a.number ≡ n → (acts : List Act) → IsPlain a.plans a.empty a.history → NoLoss acts → AreActs (state_of a) None acts →
+      LeadsBy (at a) (map (act_line n) acts) (at (record a { history = all_acted a.history acts }))
+  hardens_lead a same [] plain none are = refl
+  hardens_lead a same (Harden t ∷ acts) plain none are =
+      let b = record a { history = acted a.history (Harden t) } in (
+        at b,
+        harden_judged a same t are.0,
+        hardens_lead b same acts (acted_plain a.plans a.empty a.history plain (Harden t) (acts_first (state_of a) (Harden t) acts are)) none.1
+            (subst (λ (s : PlainState). AreActs s None acts) (sym (acted_state a.plans a.empty a.history plain (Harden t)))
+            (acts_rest (state_of a) (Harden t) acts are)),
+      )
+  hardens_lead a same (Loosen t ∷ []) plain none are = absurd (let no_edit : None ≡ Some t = are.1 in cc)
+  hardens_lead a same (Loosen t ∷ act ∷ acts) plain none are = absurd are
+  hardens_lead a same (CfwLost ∷ acts) plain none are = absurd (let is : true ≡ false = none.0 in cc)
+
+-- what came of the event
+record IsSideLost (empty : PlainState) (x y : MarksDevice) (end : Option EventEnd) : Type 0 where
+  loss : IsLoss empty x y
+  none : NoLoss y.store.acts
+  done : end ≡ Some ends.Done
+
+module _ (s : Subsystem) (plain : ArePlain s.mounted) (n : ℕ) (x : MarksDevice) (at_n : device_in (devices_of s) n ≡ Some x) (side : Side) where
+  plainly : Plainly x
+  plainly = subst (λ (o : Option MarksDevice). IfSome o Plainly) at_n (device_so Plainly s.mounted n plain)
+
+  number_is : x.store.device ≡ n
+  number_is = number_found s.mounted n x at_n
+
+  side_had : Had (ends_by ends_done (lose by_plain x (losses.Side side))) (λ y end. IsSideLost (plainly).empty x y end)
+  side_had =
+      had_then (side_acts plainly.number plainly.empty x plainly.follows side)
+      (λ y a g. had_done (record { loss = g.0; none = g.1; done = refl }))
+
+  abbrev from : List EventLine → AuditState
+  from later = stand s (wanted.FailVolume n side ∷ later)
+
+  -- the acts of the device, and the line of the order
+  acts_lead : (later : List EventLine) (m : Mounted) → m.device ≡ x → mounted_in s.mounted n ≡ Some m → (z : Mounted) (end : Option EventEnd) →
+      IsSideLost plainly.empty x z.device end →
+      LeadsBy (stand s (wanted.FailVolume n side ∷ later))
+      (work_lines (did.Ordered (orders.FailVolume n side) answers.Done) 0 0 (devices_of s) (devices_of (with_mounted s n z)))
+      (stand (with_mounted s n z) later)
+  acts_lead later m it_is there z end g =
+      let y = z.device in
+      let a = audited x in
+      let acts = y.store.acts in
+      let xs = map audited (devices_of s) in
+      let h = did.Ordered (orders.FailVolume n side) answers.Done in
+      let line = lines.Order (orders.FailVolume n side) answers.Done in
+      let b = record a { history = all_acted x.history acts } in
+      let first = at xs n side later a (found_one (devices_of s) n x at_n) a in
+      let behind = at xs n side later a (found_one (devices_of s) n x at_n) b in
+      let same_base : plainly.empty ≡ a.empty = plainly.follows.base in
+      let begins : first ≡ stand s (wanted.FailVolume n side ∷ later) =
+      ap (λ (l : List AuditedDevice). record { devices = l; events = wanted.FailVolume n side ∷ later; due = (stand s later).due })
+      (ap (λ (d : MarksDevice). with_device xs (audited d)) (sym it_is)
+      ∙ put_at s.mounted n m (ap (λ (d : MarksDevice). d.store.device) it_is ∙ number_is)
+      ∙ put_same s.mounted n m (λ k found. let both_are : Some m ≡ Some k = sym there ∙ found in
+      let it : m ≡ k = cc in ap (λ (i : Mounted). audited i.device) it)) in
+      let ends_so : record { devices = with_device xs b; events = later; due = (stand s later).due } ≡ stand (with_mounted s n z) later =
+      ap (λ (l : List AuditedDevice). record { devices = l; events = later; due = (stand s later).due })
+      (ap (with_device xs) (sym (audited_by x y (half_by x.store.half) (all_acted x.history acts) g.loss.parts g.loss.history))
+      ∙ put_at s.mounted n z (g.loss.parts.number ∙ number_is)) in
+      subst (λ (l : List ReportLine). LeadsBy (stand s (wanted.FailVolume n side ∷ later)) l (stand (with_mounted s n z) later))
+      (sym ((tells_alone s n z).tells h 0 0
+      ∙ ap (λ (o : Option Mounted). lines_at h 0 0 o y) there
+      ∙ ap (λ (d : MarksDevice). loose_lines d y ++ (over_lines d y ++ line ∷ [])) it_is
+      ∙ ap (λ (l : List ReportLine). l ++ (over_lines x y ++ line ∷ []))
+      (acts_lines x y acts g.loss.history g.none ∙ ap (λ (k : ℕ). map (act_line k) acts) number_is)
+      ∙ ap (λ (l : List ReportLine). map (act_line n) acts ++ (l ++ line ∷ [])) (acts_over x y acts g.loss.history)))
+      (leads_on (stand s (wanted.FailVolume n side ∷ later)) behind (stand (with_mounted s n z) later) (map (act_line n) acts) (line ∷ [])
+      (subst (λ (u : AuditState). LeadsBy u (map (act_line n) acts) behind) begins
+      (hardens_lead xs n side later a (found_one (devices_of s) n x at_n) a number_is acts
+      (subst (λ (k : PlainState). IsPlain x.plans k x.history) same_base plainly.follows.stands.plain) g.none
+      (subst (λ (k : PlainState). AreActs (plain_of x.plans k x.history) None acts) same_base g.loss.are)))
+      (one_leads behind (stand (with_mounted s n z) later) line
+      (ap (λ (c : Bool). if c then or_history (Some (passed behind)) else Err Place) (same_order (orders.FailVolume n side))
+      ∙ ap (λ (u : AuditState). Ok u) ends_so)))
+
+  abbrev its_lines : Happened → List ReportLine
+  its_lines h = event_lines (Once (events.FailVolume n side)) h.end h.reads h.writes (devices_of s) (devices_of h.behind)
+
+  asked_leads : (k : ℕ) → k ≡ n → EventLeads s (wanted.FailVolume n side) (Once (events.FailVolume n side))
+      (asks s k (mounted_in s.mounted k) (ends_by ends_done (lose by_plain x (losses.Side side))))
+  asked_leads k is later =
+      let m = mounted_too s.mounted n x at_n in
+      let talk = ends_by ends_done (lose by_plain x (losses.Side side)) in
+      let o = held_with s.pool m.0 talk in
+      let z = mounted_behind o in
+      let g = held true side_had (told_to s.pool m.0) in
+      let moves = held_moved {q = λ r w (y : MarksDevice) (a : Option EventEnd). (r ≡ 0) × (w ≡ 0)} true
+      (counts_then (λ y a. Done y (Some (ends_done a))) (lose_counts by_plain x (losses.Side side)) (λ r w y a h. counts_done h))
+      (told_to s.pool m.0) refl refl in
+      let from_here = stand s (wanted.FailVolume n side ∷ later) in
+      subst (λ (i : ℕ). LeadsBy from_here (its_lines (asks s i (mounted_in s.mounted i) talk))
+      (stand (asks s i (mounted_in s.mounted i) talk).behind later)) (sym is)
+      (subst (λ (q : Option Mounted). LeadsBy from_here (its_lines (asks s n q talk)) (stand (asks s n q talk).behind later)) (sym m.1)
+      (subst (λ (a : Option EventEnd). LeadsBy from_here
+      (work_lines (did.Ordered (orders.FailVolume n side) (order_answer (told_end a))) o.told.reads o.told.writes
+      (devices_of s) (devices_of (with_mounted s n z))) (stand (with_mounted s n z) later)) (sym g.done)
+      (subst (λ (r : ℕ). LeadsBy from_here
+      (work_lines (did.Ordered (orders.FailVolume n side) answers.Done) r o.told.writes (devices_of s) (devices_of (with_mounted s n z)))
+      (stand (with_mounted s n z) later)) (sym moves.0)
+      (subst (λ (w : ℕ). LeadsBy from_here
+      (work_lines (did.Ordered (orders.FailVolume n side) answers.Done) 0 w (devices_of s) (devices_of (with_mounted s n z)))
+      (stand (with_mounted s n z) later)) (sym moves.1)
+      (acts_lead later m.0 m.2 m.1 z o.answer g)))))
+
+  pub fail_volume_leads : EventLeads s (wanted.FailVolume n side) (Once (events.FailVolume n side)) (happens s (events.FailVolume n side))
+  unfolding H.happens E.deed
+  fail_volume_leads =
+      let e = wanted.FailVolume n side in
+      let asked = Once (events.FailVolume n side) in
+      subst (λ (o : Option MarksDevice). EventLeads s e asked (happens_by s (on_device o
+      (λ d. order (fail_fault d side) (Asks d (ends_by ends_done (lose by_plain d (losses.Side side)))))))) (sym at_n)
+      (ordered s e (orders.FailVolume n side) asked (fails_volume n side) (fail_fault x side)
+      (Asks x (ends_by ends_done (lose by_plain x (losses.Side side)))) (λ free. asked_leads x.store.device number_is))

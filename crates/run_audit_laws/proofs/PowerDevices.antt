@@ -1,0 +1,211 @@
+-- What a loss of power makes of a device, and what is told of it.
+use Rattle.std.proofs.Common.{
+  ◌≡◌,
+  ◌+◌,
+  ◌*◌,
+  ◌==◌,
+  ◌++◌,
+  ℕ,
+  zero,
+  suc,
+  Bool,
+  true,
+  false,
+  not,
+  List,
+  [],
+  ◌∷◌,
+  map,
+  length,
+  Option,
+  Some,
+  None,
+  is_some,
+  cond,
+  get_or,
+  refl,
+  sym,
+  ap,
+  subst,
+  ◌∙◌,
+  append_assoc,
+  if◌then◌else◌,
+  arith,
+  inl,
+  inr,
+}
+use Rattle.std.specs.Prelude.{◌&&◌, ◌⊎◌}
+use Rattle.std.proofs.lemmas.Bool.{cases_Bool, true≢false}
+use Rattle.std.proofs.lemmas.List.{append-nil}
+use Rattle.ckd_types.specs.declared.geometry.Geometry.{Geometry}
+use Rattle.loss_model.specs.declared.Loss.TheVariants as losses
+use Rattle.plain_defs.specs.declared.journal.Act.{Act}
+use Rattle.plain_defs.specs.declared.journal.How.TheVariants.{Cut}
+use Rattle.plain_defs.specs.declared.journal.Item.{Item}
+use Rattle.plain_defs.specs.declared.journal.Item.TheVariants as items
+use Rattle.plain_defs.specs.History.{History, OpenEntry, entry_of, lost_power, lost_power_in, plain_of}
+use Rattle.plain_defs.specs.Journal.{program_of, replay}
+use Rattle.plain_defs.specs.Legal.{MayEdit, is_started, next_edit}
+use Rattle.plain_defs.specs.History.{open_part}
+use Rattle.plain_defs.specs.Loose.{is_loose_in, next_number}
+use Rattle.plain_defs.specs.PlainState.{PlainState}
+use Rattle.plain_defs.proofs.JournalLaws.{replay-append}
+use Rattle.track_table.specs.Tracks.{least}
+use Rattle.device_outside.specs.Interaction.{Done}
+use Rattle.device_defs.specs.Contents.{by_plain}
+use Rattle.device_defs.specs.Cutting as K
+use Rattle.device_defs.specs.Cutting.{counts_one_by, half_cut, half_ended, half_lost, loose_gone, origin_cut, power, powered_off, powerless}
+use Rattle.device_defs.specs.Device.{event_begun, event_ended}
+use Rattle.device_defs.specs.Effects.{gone_back}
+use Rattle.device_defs.specs.Events.{with_loss}
+use Rattle.device_defs.specs.Losses.{over, settled, slot_in, without_frame}
+use Rattle.device_defs.specs.Marks.{MarksDevice, MarksStore}
+use Rattle.device_defs.specs.Owed.{begun, waiting_count}
+use Rattle.device_defs.specs.Store.{Origin, OfCommand, OfCut, OfBackground, has_loose, is_loose, patch_at, tracks_of}
+use Rattle.device_defs.specs.Store as store
+use Rattle.device_laws.proofs.Had.{Had, had_done, had_tell, had_then}
+use Rattle.device_laws.proofs.HistoryCuts.{cut_entry, taken_state}
+use Rattle.device_laws.proofs.HistoryEnds.{running_is_open}
+use Rattle.device_laws.proofs.PlainCuts.{CutSo, half_so, may, taken_by}
+use Rattle.device_laws.proofs.PlainEvents.{had_both}
+use Rattle.device_laws.proofs.PlainStores.{Core, IsOf, core_of, hardened_core, loose_at, with_half}
+use Rattle.device_laws.proofs.PlainTurns.{Follows}
+use Rattle.device_laws.proofs.PlainWalks.{ended_same, over_holds, patch_same, settled_holds}
+use Rattle.device_laws.proofs.WaitingResets.{started-append}
+use Rattle.run_audit_laws.proofs.LossDevices.{number_behind, unframed_core}
+
+-- What is cut of an open half write leaves all but its track
+
+record Spares (s z : MarksStore) : Type 0 where
+  device : z.device ≡ s.device
+  geometry : z.geometry ≡ s.geometry
+  cylinders : z.cylinders ≡ s.cylinders
+  lent : z.lent ≡ s.lent
+  number : z.number ≡ s.number
+  loose : z.loose ≡ s.loose
+
+spares_all : (s : MarksStore) → Spares s s
+spares_all s = record { device = refl; geometry = refl; cylinders = refl; lent = refl; number = refl; loose = refl }
+
+half_spares : (s : MarksStore) (h : Option (store.HalfWrite (Unit {0}))) → Had (half_cut by_plain s h) (λ z (_ : Unit {0}). Spares s z)
+half_spares s (Some h) = by_origin h.origin where
+  by_origin : (o : Origin) → Had (origin_cut by_plain s h o) (λ z (_ : Unit {0}). Spares s z)
+  by_origin (OfCommand bypass e) =
+      had_tell (had_done (record { device = refl; geometry = refl; cylinders = refl; lent = refl; number = refl; loose = refl }))
+  by_origin (OfCut bypass) = had_done (spares_all s)
+  by_origin OfBackground = had_done (spares_all s)
+half_spares s None = had_done (spares_all s)
+
+-- All frames go, and data of cache fast write where there are some
+
+record OffCore (x : MarksStore) (n : ℕ) (c : Core) : Type 0 where
+  device : c.device ≡ x.device
+  geometry : c.geometry ≡ x.geometry
+  cylinders : c.cylinders ≡ x.cylinders
+  lent : c.lent ≡ x.lent
+  number : c.number ≡ n
+  half : c.half ≡ None
+
+off_hard : (x : MarksStore) (n : ℕ) (c : Core) (t : ℕ) → OffCore x n c → loose_at c t ≡ true → OffCore x n (hardened_core c t)
+off_hard x n c t w is = record {
+  device = w.device;
+  geometry = w.geometry;
+  cylinders = w.cylinders;
+  lent = w.lent;
+  number = w.number;
+  half = w.half;
+}
+
+ended_core : (z : MarksStore) (h : store.HalfWrite (Unit {0})) (origin : Origin) → core_of (half_ended by_plain z h origin) ≡ with_half (core_of z) None
+ended_core z h (OfCommand bypass e) =
+    patch_same (record z { half = None }) h.track (slot_in by_plain (patch_at (record z { half = None }) h.track))
+ended_core z h (OfCut bypass) = patch_same (record z { half = None }) h.track (slot_in by_plain (patch_at (record z { half = None }) h.track))
+ended_core z h OfBackground = refl
+
+lost_core : (z : MarksStore) (h : Option (store.HalfWrite (Unit {0}))) → z.half ≡ h → core_of (half_lost by_plain z h) ≡ with_half (core_of z) None
+lost_core z None is = ap (λ (h : Option (store.HalfWrite (Unit {0}))). with_half (core_of z) h) is
+lost_core z (Some h) is = ended_core z h h.origin
+
+gone_off : (s : MarksStore) (b : Bool) → OffCore s (number_behind b s.number) (with_half (core_of (if b then gone_back s else s)) None)
+gone_off s true = record { device = refl; geometry = refl; cylinders = refl; lent = refl; number = refl; half = refl }
+gone_off s false = record { device = refl; geometry = refl; cylinders = refl; lent = refl; number = refl; half = refl }
+
+gone_half : (s : MarksStore) (b : Bool) → (if b then gone_back s else s).half ≡ s.half
+gone_half s true = refl
+gone_half s false = refl
+
+powerless_off : (s : MarksStore) → OffCore s (number_behind (has_loose s) s.number) (core_of (powerless by_plain s))
+powerless_off s =
+    let n = number_behind (has_loose s) s.number in
+    let z = loose_gone by_plain s in
+    over_holds (OffCore s n) (off_hard s n) (tracks_of s) (λ t y. settled by_plain (without_frame y t) t)
+    (λ t y w. settled_holds (OffCore s n) (off_hard s n) (without_frame y t) t (subst (OffCore s n) (sym (unframed_core y t)) w))
+    (record (half_lost by_plain z s.half) { queue = [] })
+    (subst (OffCore s n) (sym (lost_core z s.half (gone_half s (has_loose s)))) (gone_off s (has_loose s)))
+
+-- The device
+
+pub record IsOff (num : ℕ) (empty : PlainState) (x : MarksDevice) (f : Follows num empty x) (y : MarksDevice) : Type 0 where
+  pub number : y.store.device ≡ x.store.device
+  pub geometry : y.store.geometry ≡ x.store.geometry
+  pub cylinders : y.store.cylinders ≡ x.store.cylinders
+  pub plans : y.plans ≡ x.plans
+  pub lent : y.store.lent ≡ x.store.lent
+  pub half : y.store.half ≡ None
+  pub data_number : y.store.number ≡ number_behind (has_loose x.store) x.store.number
+  pub history : y.history ≡ lost_power x.history (counts_one_by x.store.half)
+  -- of the plain device behind what was cut
+  pub cut : Core
+  pub taken : IsOf (taken_by num empty x f x.history.running (counts_one_by x.store.half)) cut
+  pub cut_loose : cut.loose ≡ x.store.loose
+  pub cut_number : cut.number ≡ x.store.number
+
+module _ (num : ℕ) (empty : PlainState) (x : MarksDevice) (f : Follows num empty x) where
+  off_same : (y : MarksDevice) (z : MarksStore) → core_of z ≡ core_of y.store → IsOff num empty x f y → IsOff num empty x f (record y { store = z })
+  off_same y z e g = record {
+    number = ap (λ (c : Core). c.device) e ∙ g.number;
+    geometry = ap (λ (c : Core). c.geometry) e ∙ g.geometry;
+    cylinders = ap (λ (c : Core). c.cylinders) e ∙ g.cylinders;
+    plans = g.plans;
+    lent = ap (λ (c : Core). c.lent) e ∙ g.lent;
+    half = ap (λ (c : Core). c.half) e ∙ g.half;
+    data_number = ap (λ (c : Core). c.number) e ∙ g.data_number;
+    history = g.history;
+    cut = g.cut;
+    taken = g.taken;
+    cut_loose = g.cut_loose;
+    cut_number = g.cut_number;
+  }
+
+  off_first : (s : MarksStore) → CutSo num empty x f x.history.running (counts_one_by x.store.half) (begun x.store) s → Spares (begun x.store) s →
+      IsOff num empty x f (powered_off by_plain (event_begun x) s)
+  off_first s cut k =
+      let counted = with_loss s losses.Cache in
+      let w = powerless_off counted in
+      let loose_is : has_loose s ≡ has_loose x.store =
+      ap (λ (l : List Bool). is_some (least (s.cylinders * 15) (λ t. get_or l t false))) k.loose
+      ∙ ap (λ (n : ℕ). is_some (least (n * 15) (λ t. get_or x.store.loose t false))) k.cylinders in
+      record {
+        number = w.device ∙ k.device;
+        geometry = w.geometry ∙ k.geometry;
+        cylinders = w.cylinders ∙ k.cylinders;
+        plans = refl;
+        lent = w.lent ∙ k.lent;
+        half = w.half;
+        data_number = w.number ∙ ap (λ (b : Bool). number_behind b s.number) loose_is ∙ ap (number_behind (has_loose x.store)) k.number;
+        history = refl;
+        cut = core_of s;
+        taken = cut.of;
+        cut_loose = k.loose;
+        cut_number = k.number;
+      }
+
+  pub power_makes : Had (power by_plain x) (λ y (_ : Unit {0}). IsOff num empty x f y)
+  unfolding K.power
+  power_makes =
+      had_then {S = MarksDevice} {A = Unit {0}} {f = event_ended by_plain x} {p = λ y _. IsOff num empty x f y}
+      (had_then
+      (had_both (half_so num empty x f (begun x.store) refl x.history.running refl x.store.half refl refl)
+      (half_spares (begun x.store) x.store.half))
+      (λ s _ g. had_done (off_first s g.0 g.1)))
+      (λ y a g. had_then (ended_same (waiting_count by_plain x.store) y.store) (λ z _ e. had_done (off_same y z e g)))

@@ -1,0 +1,705 @@
+-- In a run each device keeps its number, and to a pair one device is lent, to any other none.
+use Rattle.std.proofs.Common.{
+  ◌≡◌,
+  ◌≤◌,
+  ◌+◌,
+  ◌==◌,
+  ℕ,
+  Bool,
+  true,
+  false,
+  List,
+  [],
+  ◌∷◌,
+  map,
+  Option,
+  Some,
+  None,
+  refl,
+  sym,
+  ap,
+  subst,
+  ◌∙◌,
+  arith,
+}
+use Rattle.std.specs.Prelude.{if◌then◌else◌}
+use Rattle.std.proofs.lemmas.Bool.{eq-eqb, eqb-false, eqb-true, ne_eqb}
+use Rattle.std.proofs.lemmas.List.Elements.{All-head}
+use Rattle.ckd_types.specs.declared.paths.Side.{Side}
+use Rattle.ckd_types.specs.declared.paths.Side.TheVariants as sides
+use Rattle.loss_model.specs.declared.Loss.{Loss}
+use Rattle.loss_model.specs.declared.Loss.TheVariants as losses
+use Rattle.deck_text.specs.declared.line.DeviceLine.{DeviceLine}
+use Rattle.deck_text.specs.DeckLines.{DeckLines}
+use Rattle.track_image.specs.Image.{Image}
+use Rattle.device_outside.specs.Interaction.{Interaction, Done, and_then}
+use Rattle.device_outside.specs.Pool.{Pool}
+use Rattle.device_outside.specs.Told as T
+use Rattle.device_outside.specs.Told.{Calls, Told}
+use Rattle.device_defs.specs.Command.{command}
+use Rattle.device_defs.specs.Contents.{by_plain}
+use Rattle.device_defs.specs.Cutting.{power, reset}
+use Rattle.device_defs.specs.Events.{background, lose, second}
+use Rattle.device_defs.specs.Marks.{MarksDevice}
+use Rattle.device_defs.specs.Orders.{hold, join, lend, replace, restore, resume, split}
+use Rattle.device_defs.specs.Start as S
+use Rattle.device_defs.specs.Start.{next_ordinal, start}
+use Rattle.device_laws.proofs.Always.{Always}
+use Rattle.device_laws.proofs.Based.{Any, Base, Based, based_any, kept}
+use Rattle.device_laws.proofs.BasedEvents.{background_based, base_in, command_based, lose_based, power_based, reset_body, second_based, with_one_loss}
+use Rattle.device_laws.proofs.Had.{held}
+use Rattle.subsystem_defs.specs.declared.end.EventEnd.{EventEnd}
+use Rattle.subsystem_defs.specs.declared.end.EventEnd.TheVariants as ends
+use Rattle.subsystem_defs.specs.declared.end.OrderFault.{OrderFault}
+use Rattle.subsystem_defs.specs.declared.event.Event.{Event}
+use Rattle.subsystem_defs.specs.declared.event.Event.TheVariants as events
+use Rattle.subsystem_defs.specs.Decks as D
+use Rattle.subsystem_defs.specs.Decks.{opened, opened_device, run_of}
+use Rattle.subsystem_defs.specs.Deeds.{Asks, Becomes, Each, Ends, Lends, Repairs, deed, device_in, end_of, ends_done}
+use Rattle.subsystem_defs.specs.Happening as H
+use Rattle.subsystem_defs.specs.Happening.{
+  MarksDeed,
+  Talk,
+  asks,
+  becomes,
+  behind_outcome,
+  happens,
+  happens_by,
+  held_with,
+  is_lent_to,
+  joined,
+  lends,
+  mounted_behind,
+  quietly,
+  replaced,
+  replaced_at,
+  replaced_by,
+  restored_in,
+  sweep,
+  told_to,
+  unpaired,
+  unpaired_at,
+  unpaired_by,
+}
+use Rattle.subsystem_defs.specs.Lines.{Asked, Logged, asked_by, last_behind, line_logged, run_lines}
+use Rattle.subsystem_defs.specs.Refusals as R
+use Rattle.subsystem_defs.specs.Refusals.{pair_fault, replace_fault, unpair_fault}
+use Rattle.subsystem_defs.specs.Subsystem.{Mounted, Subsystem, devices_of, mounted_in, number_of, put_in, unfailing, with_calls}
+use Rattle.subsystem_defs.specs.declared.end.OrderFault.TheVariants.{Paired, Same}
+use Rattle.subsystem_defs.proofs.Unrefused.{first_none, where_none}
+use Rattle.subsystem_laws.proofs.DeedWalk.{IsDeedwise, IsSeat, Stands, deed_is, seat_of}
+use Rattle.subsystem_laws.proofs.FactsEvents.{background_leaves, command_leaves, lose_leaves, power_leaves, reset_leaves, second_leaves}
+use Rattle.subsystem_laws.proofs.FoundDevices.{number_found}
+use Rattle.subsystem_laws.proofs.LendBase.{at, stays_still}
+use Rattle.subsystem_laws.proofs.RunLines.{AnyEvent, Goes, MayAsk, all_asked, line_goes, lines_keep, logs_end}
+use Rattle.subsystem_laws.proofs.StoreFacts.{Bears, Facts, facts_of, failed_more, fallen}
+use Rattle.subsystem_laws.proofs.Walks.{hold_answer, mounted_number}
+use Rattle.run_audit_laws.proofs.Found.{mounted_too}
+use Rattle.run_audit_laws.proofs.LentDevices.{IsLent, lend_makes}
+
+-- What is kept of a device
+
+pub record Tie : Type 0 where
+  pub number : ℕ
+  pub lent : Option ℕ
+  pub paired : Bool
+
+abbrev pub tie : MarksDevice → Tie
+tie d = record { number = d.store.device; lent = d.store.lent; paired = d.store.paired }
+
+abbrev pub ties : List Mounted → List Tie
+ties ms = map (λ (m : Mounted). tie m.device) ms
+
+abbrev pub one_if : Bool → ℕ
+one_if b = if b then 1 else 0
+
+-- how many are lent to it, and how many may be
+abbrev pub lent_count : ℕ → List Tie → ℕ
+lent_count a [] = 0
+lent_count a (t ∷ ts) = one_if (is_lent_to t.lent a) + lent_count a ts
+
+abbrev pub pair_count : ℕ → List Tie → ℕ
+pair_count a [] = 0
+pair_count a (t ∷ ts) = if t.number == a then one_if t.paired else pair_count a ts
+
+pub record Tied (numbers : List ℕ) (ts : List Tie) : Type 0 where
+  pub numbers_are : map (λ (t : Tie). t.number) ts ≡ numbers
+  pub single : (a : ℕ) → lent_count a ts ≤ pair_count a ts
+
+-- Another one in the place of one
+
+abbrev tie_at : ℕ → List Tie → Option Tie
+tie_at n [] = None
+tie_at n (t ∷ ts) = if t.number == n then Some t else tie_at n ts
+
+abbrev put_tie : ℕ → Tie → List Tie → List Tie
+put_tie n x [] = []
+put_tie n x (t ∷ ts) = if t.number == n then x ∷ ts else t ∷ put_tie n x ts
+
+ties_put : (ms : List Mounted) (n : ℕ) (x : Mounted) → ties (put_in ms n x) ≡ put_tie n (tie x.device) (ties ms)
+ties_put [] n x = refl
+ties_put (m ∷ ms) n x = by_test (number_of m == n) (ties_put ms n x) where
+  by_test : (b : Bool) → ties (put_in ms n x) ≡ put_tie n (tie x.device) (ties ms) →
+      ties (if b then x ∷ ms else m ∷ put_in ms n x)
+      ≡ (if b then tie x.device ∷ ties ms else tie m.device ∷ put_tie n (tie x.device) (ties ms))
+  by_test true rest = refl
+  by_test false rest = ap (λ (l : List Tie). tie m.device ∷ l) rest
+
+tie_found : (ms : List Mounted) (n : ℕ) (m : Mounted) → mounted_in ms n ≡ Some m → tie_at n (ties ms) ≡ Some (tie m.device)
+tie_found [] n m is = absurd (cc)
+tie_found (k ∷ ms) n m is = by_test (number_of k == n) is (tie_found ms n m) where
+  by_test : (b : Bool) → (if b then Some k else mounted_in ms n) ≡ Some m → (mounted_in ms n ≡ Some m → tie_at n (ties ms) ≡ Some (tie m.device)) →
+      (if b then Some (tie k.device) else tie_at n (ties ms)) ≡ Some (tie m.device)
+  by_test true found rest = let same : k ≡ m = cc in ap (λ (x : Mounted). Some (tie x.device)) same
+  by_test false found rest = rest found
+
+module _ (n : ℕ) (x : Tie) (same : x.number ≡ n) where
+  put_own : (ts : List Tie) (o : Tie) → tie_at n ts ≡ Some o → x ≡ o → put_tie n x ts ≡ ts
+  put_own [] o is e = absurd (cc)
+  put_own (t ∷ ts) o is e = by_test (t.number == n) is (λ found. put_own ts o found e) where
+    by_test : (b : Bool) → (if b then Some t else tie_at n ts) ≡ Some o → (tie_at n ts ≡ Some o → put_tie n x ts ≡ ts) →
+        (if b then x ∷ ts else t ∷ put_tie n x ts) ≡ t ∷ ts
+    by_test true found rest = let it : t ≡ o = cc in ap (λ (y : Tie). y ∷ ts) (e ∙ sym it)
+    by_test false found rest = ap (λ (l : List Tie). t ∷ l) (rest found)
+
+  numbers_put : (ts : List Tie) → map (λ (t : Tie). t.number) (put_tie n x ts) ≡ map (λ (t : Tie). t.number) ts
+  numbers_put [] = refl
+  numbers_put (t ∷ ts) = by_test (t.number == n) refl (numbers_put ts) where
+    by_test : (b : Bool) → (t.number == n) ≡ b → map (λ (t : Tie). t.number) (put_tie n x ts) ≡ map (λ (t : Tie). t.number) ts →
+        map (λ (t : Tie). t.number) (if b then x ∷ ts else t ∷ put_tie n x ts) ≡ t.number ∷ map (λ (t : Tie). t.number) ts
+    by_test true is rest = ap (λ (k : ℕ). k ∷ map (λ (t : Tie). t.number) ts) (same ∙ sym (eqb-true t.number n is))
+    by_test false is rest = ap (λ (l : List ℕ). t.number ∷ l) rest
+
+  lent_put : (a : ℕ) (ts : List Tie) (o : Tie) → tie_at n ts ≡ Some o →
+      lent_count a (put_tie n x ts) + one_if (is_lent_to o.lent a) ≡ lent_count a ts + one_if (is_lent_to x.lent a)
+  lent_put a [] o is = absurd (cc)
+  lent_put a (t ∷ ts) o is = by_test (t.number == n) is (lent_put a ts o) where
+    by_test : (b : Bool) → (if b then Some t else tie_at n ts) ≡ Some o →
+        (tie_at n ts ≡ Some o → lent_count a (put_tie n x ts) + one_if (is_lent_to o.lent a) ≡ lent_count a ts + one_if (is_lent_to x.lent a)) →
+        lent_count a (if b then x ∷ ts else t ∷ put_tie n x ts) + one_if (is_lent_to o.lent a)
+        ≡ (one_if (is_lent_to t.lent a) + lent_count a ts) + one_if (is_lent_to x.lent a)
+    by_test true found rest =
+        let it : t ≡ o = cc in
+        let lent : one_if (is_lent_to t.lent a) ≡ one_if (is_lent_to o.lent a) = ap (λ (y : Tie). one_if (is_lent_to y.lent a)) it in
+        omega (arith, lent)
+    by_test false found rest = let more = rest found in omega (arith, more)
+
+  pair_here : (ts : List Tie) (o : Tie) → tie_at n ts ≡ Some o → pair_count n (put_tie n x ts) ≡ one_if x.paired
+  pair_here [] o is = absurd (cc)
+  pair_here (t ∷ ts) o is = by_test (t.number == n) refl is (pair_here ts o) where
+    by_test : (b : Bool) → (t.number == n) ≡ b → (if b then Some t else tie_at n ts) ≡ Some o →
+        (tie_at n ts ≡ Some o → pair_count n (put_tie n x ts) ≡ one_if x.paired) →
+        pair_count n (if b then x ∷ ts else t ∷ put_tie n x ts) ≡ one_if x.paired
+    by_test true test found rest = ap (λ (b : Bool). if b then one_if x.paired else pair_count n ts) (eq-eqb x.number n same)
+    by_test false test found rest = ap (λ (b : Bool). if b then one_if t.paired else pair_count n (put_tie n x ts)) test ∙ rest found
+
+  pair_other : (a : ℕ) → (n == a) ≡ false → (ts : List Tie) → pair_count a (put_tie n x ts) ≡ pair_count a ts
+  pair_other a far [] = refl
+  pair_other a far (t ∷ ts) = by_test (t.number == n) refl (pair_other a far ts) where
+    by_test : (b : Bool) → (t.number == n) ≡ b → pair_count a (put_tie n x ts) ≡ pair_count a ts →
+        pair_count a (if b then x ∷ ts else t ∷ put_tie n x ts) ≡ (if t.number == a then one_if t.paired else pair_count a ts)
+    by_test true test rest =
+        ap (λ (b : Bool). if b then one_if x.paired else pair_count a ts) (ap (λ (k : ℕ). k == a) same ∙ far)
+        ∙ sym (ap (λ (b : Bool). if b then one_if t.paired else pair_count a ts) (ap (λ (k : ℕ). k == a) (eqb-true t.number n test) ∙ far))
+    by_test false test rest = ap (λ (k : ℕ). if t.number == a then one_if t.paired else k) rest
+
+  tie_other : (a : ℕ) → (n == a) ≡ false → (ts : List Tie) → tie_at a (put_tie n x ts) ≡ tie_at a ts
+  tie_other a far [] = refl
+  tie_other a far (t ∷ ts) = by_test (t.number == n) refl (tie_other a far ts) where
+    by_test : (b : Bool) → (t.number == n) ≡ b → tie_at a (put_tie n x ts) ≡ tie_at a ts →
+        tie_at a (if b then x ∷ ts else t ∷ put_tie n x ts) ≡ (if t.number == a then Some t else tie_at a ts)
+    by_test true test rest =
+        ap (λ (b : Bool). if b then Some x else tie_at a ts) (ap (λ (k : ℕ). k == a) same ∙ far)
+        ∙ sym (ap (λ (b : Bool). if b then Some t else tie_at a ts) (ap (λ (k : ℕ). k == a) (eqb-true t.number n test) ∙ far))
+    by_test false test rest = ap (λ (k : Option Tie). if t.number == a then Some t else k) rest
+
+pair_at : (n : ℕ) (ts : List Tie) (o : Tie) → tie_at n ts ≡ Some o → pair_count n ts ≡ one_if o.paired
+pair_at n [] o is = absurd (cc)
+pair_at n (t ∷ ts) o is = by_test (t.number == n) is (pair_at n ts o) where
+  by_test : (b : Bool) → (if b then Some t else tie_at n ts) ≡ Some o → (tie_at n ts ≡ Some o → pair_count n ts ≡ one_if o.paired) →
+      (if b then one_if t.paired else pair_count n ts) ≡ one_if o.paired
+  by_test true found rest = let it : t ≡ o = cc in ap (λ (y : Tie). one_if y.paired) it
+  by_test false found rest = rest found
+
+pub pair_most : (a : ℕ) (ts : List Tie) → pair_count a ts ≤ 1
+pair_most a [] = omega arith
+pair_most a (t ∷ ts) = by_test (t.number == a) t.paired (pair_most a ts) where
+  by_test : (b c : Bool) → pair_count a ts ≤ 1 → (if b then one_if c else pair_count a ts) ≤ 1
+  by_test true true most = omega arith
+  by_test true false most = omega arith
+  by_test false c most = most
+
+-- Two devices become a pair
+
+paired_tied : (ns : List ℕ) (ts : List Tie) (a b : ℕ) (x y o u : Tie) → tie_at a ts ≡ Some o → o.lent ≡ None → o.paired ≡ false → tie_at b ts ≡ Some u →
+    u.lent ≡ None → u.paired ≡ false → y.number ≡ b → y.lent ≡ Some a → y.paired ≡ false → x.number ≡ a → x.lent ≡ None → (b == a) ≡ false →
+    Tied ns ts → x.paired ≡ true → Tied ns (put_tie a x (put_tie b y ts))
+paired_tied ns ts a b x y o u here free single there home alone number lent none own held far t pair = record {
+  numbers_are = numbers_put a x own (put_tie b y ts) ∙ numbers_put b y number ts ∙ t.numbers_are;
+  single = λ k. by_test k (a == k) refl;
+} where
+  here_still : tie_at a (put_tie b y ts) ≡ Some o
+  here_still = tie_other b y number a far ts ∙ here
+
+  counts : (k : ℕ) → lent_count k (put_tie a x (put_tie b y ts)) ≡ lent_count k ts + one_if (a == k)
+  counts k =
+      let one = lent_put a x own k (put_tie b y ts) o here_still in
+      let two = lent_put b y number k ts u there in
+      let c1 : one_if (is_lent_to o.lent k) ≡ 0 = ap (λ (l : Option ℕ). one_if (is_lent_to l k)) free in
+      let c2 : one_if (is_lent_to x.lent k) ≡ 0 = ap (λ (l : Option ℕ). one_if (is_lent_to l k)) held in
+      let c3 : one_if (is_lent_to u.lent k) ≡ 0 = ap (λ (l : Option ℕ). one_if (is_lent_to l k)) home in
+      let c4 : one_if (is_lent_to y.lent k) ≡ one_if (a == k) = ap (λ (l : Option ℕ). one_if (is_lent_to l k)) lent in
+      omega (arith, one, two, c1, c2, c3, c4)
+
+  by_test : (k : ℕ) (c : Bool) → (a == k) ≡ c → lent_count k (put_tie a x (put_tie b y ts)) ≤ pair_count k (put_tie a x (put_tie b y ts))
+  by_test k true is = subst (λ (i : ℕ). lent_count i (put_tie a x (put_tie b y ts)) ≤ pair_count i (put_tie a x (put_tie b y ts))) (eqb-true a k is)
+      (
+      let many = counts a in
+      let before = t.single a in
+      let none_before : pair_count a ts ≡ 0 = pair_at a ts o here ∙ ap one_if single in
+      let now : pair_count a (put_tie a x (put_tie b y ts)) ≡ 1 = pair_here a x own (put_tie b y ts) o here_still ∙ ap one_if pair in
+      let one : one_if (a == a) ≡ 1 = ap one_if (eq-eqb a a refl) in
+      omega (arith, many, before, none_before, now, one)
+      )
+  by_test k false is =
+      let many = counts k in
+      let before = t.single k in
+      let apart : one_if (a == k) ≡ 0 = ap one_if is in
+      let now : pair_count k (put_tie a x (put_tie b y ts)) ≡ pair_count k (put_tie b y ts) = pair_other a x own k is (put_tie b y ts) in
+      let still : pair_count k (put_tie b y ts) ≡ pair_count k ts = by_other (b == k) refl in
+      omega (arith, many, before, apart, now, still)
+    where
+      by_other : (c : Bool) → (b == k) ≡ c → pair_count k (put_tie b y ts) ≡ pair_count k ts
+      by_other true same =
+          subst (λ (i : ℕ). pair_count i (put_tie b y ts) ≡ pair_count i ts) (eqb-true b k same)
+          (pair_here b y number ts u there ∙ ap one_if none ∙ sym (pair_at b ts u there ∙ ap one_if alone))
+      by_other false other = pair_other b y number k other ts
+
+-- A pair parts: the first device that was lent to it comes back
+
+abbrev restored_tie : ℕ → List Tie → List Tie
+restored_tie a [] = []
+restored_tie a (t ∷ ts) = if is_lent_to t.lent a then record t { lent = None } ∷ ts else t ∷ restored_tie a ts
+
+ties_restored : (ms : List Mounted) (a : ℕ) (volume : Calls) → ties (restored_in ms a volume) ≡ restored_tie a (ties ms)
+ties_restored [] a volume = refl
+ties_restored (m ∷ ms) a volume = by_test (is_lent_to m.device.store.lent a) (ties_restored ms a volume) where
+  by_test : (b : Bool) → ties (restored_in ms a volume) ≡ restored_tie a (ties ms) →
+      ties (if b then record m { device = restore m.device; a = volume } ∷ ms else m ∷ restored_in ms a volume)
+      ≡ (if b then record (tie m.device) { lent = None } ∷ ties ms else tie m.device ∷ restored_tie a (ties ms))
+  by_test true rest = refl
+  by_test false rest = ap (λ (l : List Tie). tie m.device ∷ l) rest
+
+numbers_restored : (a : ℕ) (ts : List Tie) → map (λ (t : Tie). t.number) (restored_tie a ts) ≡ map (λ (t : Tie). t.number) ts
+numbers_restored a [] = refl
+numbers_restored a (t ∷ ts) = by_test (is_lent_to t.lent a) (numbers_restored a ts) where
+  by_test : (b : Bool) → map (λ (t : Tie). t.number) (restored_tie a ts) ≡ map (λ (t : Tie). t.number) ts →
+      map (λ (t : Tie). t.number) (if b then record t { lent = None } ∷ ts else t ∷ restored_tie a ts) ≡ t.number ∷ map (λ (t : Tie). t.number) ts
+  by_test true rest = refl
+  by_test false rest = ap (λ (l : List ℕ). t.number ∷ l) rest
+
+pairs_restored : (a k : ℕ) (ts : List Tie) → pair_count k (restored_tie a ts) ≡ pair_count k ts
+pairs_restored a k [] = refl
+pairs_restored a k (t ∷ ts) = by_test (is_lent_to t.lent a) (pairs_restored a k ts) where
+  by_test : (b : Bool) → pair_count k (restored_tie a ts) ≡ pair_count k ts →
+      pair_count k (if b then record t { lent = None } ∷ ts else t ∷ restored_tie a ts) ≡ (if t.number == k then one_if t.paired else pair_count k ts)
+  by_test true rest = refl
+  by_test false rest = ap (λ (n : ℕ). if t.number == k then one_if t.paired else n) rest
+
+fewer_restored : (a k : ℕ) (ts : List Tie) → lent_count k (restored_tie a ts) ≤ lent_count k ts
+fewer_restored a k [] = omega arith
+fewer_restored a k (t ∷ ts) = by_test (is_lent_to t.lent a) (fewer_restored a k ts) where
+  by_test : (b : Bool) → lent_count k (restored_tie a ts) ≤ lent_count k ts →
+      lent_count k (if b then record t { lent = None } ∷ ts else t ∷ restored_tie a ts) ≤ one_if (is_lent_to t.lent k) + lent_count k ts
+  by_test true rest = omega arith
+  by_test false rest = omega (arith, rest)
+
+none_restored : (a : ℕ) (ts : List Tie) → lent_count a ts ≤ 1 → lent_count a (restored_tie a ts) ≡ 0
+none_restored a [] most = refl
+none_restored a (t ∷ ts) most = by_test (is_lent_to t.lent a) refl (none_restored a ts) where
+  by_test : (b : Bool) → is_lent_to t.lent a ≡ b → (lent_count a ts ≤ 1 → lent_count a (restored_tie a ts) ≡ 0) →
+      lent_count a (if b then record t { lent = None } ∷ ts else t ∷ restored_tie a ts) ≡ 0
+  by_test true is rest = let one : one_if (is_lent_to t.lent a) ≡ 1 = ap one_if is in omega (arith, one, most)
+  by_test false is rest =
+      let none : one_if (is_lent_to t.lent a) ≡ 0 = ap one_if is in
+      let more = rest (omega (arith, none, most)) in
+      omega (arith, none, more)
+
+parted_tied : (ns : List ℕ) (ts : List Tie) (a : ℕ) (x o : Tie) → tie_at a ts ≡ Some o → x.number ≡ a → x.lent ≡ o.lent → x.paired ≡ false →
+    Tied ns ts → Tied ns (restored_tie a (put_tie a x ts))
+parted_tied ns ts a x o here own lent single t = record {
+  numbers_are = numbers_restored a (put_tie a x ts) ∙ numbers_put a x own ts ∙ t.numbers_are;
+  single = λ k. by_test k (a == k) refl;
+} where
+  counts : (k : ℕ) → lent_count k (put_tie a x ts) ≡ lent_count k ts
+  counts k =
+      let one = lent_put a x own k ts o here in
+      let same : one_if (is_lent_to x.lent k) ≡ one_if (is_lent_to o.lent k) = ap (λ (l : Option ℕ). one_if (is_lent_to l k)) lent in
+      omega (arith, one, same)
+
+  by_test : (k : ℕ) (c : Bool) → (a == k) ≡ c → lent_count k (restored_tie a (put_tie a x ts)) ≤ pair_count k (restored_tie a (put_tie a x ts))
+  by_test k true is =
+      subst (λ (i : ℕ). lent_count i (restored_tie a (put_tie a x ts)) ≤ pair_count i (restored_tie a (put_tie a x ts))) (eqb-true a k is)
+      (
+      let many = counts a in
+      let before = t.single a in
+      let most = pair_most a ts in
+      let none = none_restored a (put_tie a x ts) (omega (arith, many, before, most)) in
+      omega (arith, none)
+      )
+  by_test k false is =
+      let fewer = fewer_restored a k (put_tie a x ts) in
+      let many = counts k in
+      let before = t.single k in
+      let now = pairs_restored a k (put_tie a x ts) in
+      let other = pair_other a x own k is ts in
+      omega (arith, fewer, many, before, now, other)
+
+-- What a device's own events keep
+
+same_tie : (d y : MarksDevice) → y.store.device ≡ d.store.device → y.store.lent ≡ d.store.lent → y.store.paired ≡ d.store.paired → tie y ≡ tie d
+same_tie d y n l p =
+    ap (λ (k : ℕ). record (tie y) { number = k }) n
+    ∙ ap (λ (k : Option ℕ). record (tie y) { number = d.store.device; lent = k }) l
+    ∙ ap (λ (b : Bool). record (tie d) { paired = b }) p
+
+abbrev IsPaired : Bool → Facts → Type 0
+IsPaired b x = x.paired ≡ b
+
+fallen_pair : (b : Bool) (x : Facts) (side : Side) → IsPaired b x → IsPaired b (fallen side x)
+fallen_pair b x sides.A is = is
+fallen_pair b x sides.B is = is
+
+pair_bears : (b : Bool) → Bears (IsPaired b)
+pair_bears b = record {
+  loses = λ x t is. is;
+  fails = λ x is. is;
+  falls = λ x side pair is. fallen_pair b (failed_more x) side is;
+}
+
+kept_tie : {X : Type 0} (d : MarksDevice) (talk : Interaction Bool Image MarksDevice X) (b : Base) → b.device ≡ d.store.device →
+    b.lent ≡ d.store.lent → Based base_in Any b talk → Always talk (λ y (_ : X). IsPaired d.store.paired (facts_of y.store)) → (t : Told) →
+    tie (T.hold true talk t).state ≡ tie d
+kept_tie d talk b number lent based pair t =
+    let k = at (stays_still based) t in
+    same_tie d (T.hold true talk t).state (k.0 ∙ number) (k.2 ∙ lent) (at pair t)
+
+module _ (d : MarksDevice) where
+  abbrev q : Facts → Type 0
+  q = IsPaired d.store.paired
+
+  command_tie : (t : Told) → tie (T.hold true (command by_plain d) t).state ≡ tie d
+  command_tie t =
+      kept_tie d (command by_plain d) (kept d.store) refl refl (command_based by_plain d) (command_leaves by_plain q (pair_bears d.store.paired) d refl) t
+
+  second_tie : (t : Told) → tie (T.hold true (second by_plain d) t).state ≡ tie d
+  second_tie t =
+      kept_tie d (second by_plain d) (kept d.store) refl refl (second_based by_plain d) (second_leaves by_plain q (pair_bears d.store.paired) d refl) t
+
+  background_tie : (t : Told) → tie (T.hold true (background by_plain d) t).state ≡ tie d
+  background_tie t =
+      kept_tie d (background by_plain d) (kept d.store) refl refl (background_based by_plain d)
+      (background_leaves by_plain q (pair_bears d.store.paired) d refl) t
+
+  reset_tie : (path : ℕ) (t : Told) → tie (T.hold true (reset by_plain d path) t).state ≡ tie d
+  reset_tie path t =
+      kept_tie d (reset by_plain d path) (kept d.store) refl refl (based_any (reset_body by_plain d path))
+      (reset_leaves by_plain q (pair_bears d.store.paired).loses d path refl) t
+
+  cache_tie : (t : Told) → tie (T.hold true (lose by_plain d losses.Cache) t).state ≡ tie d
+  cache_tie t =
+      kept_tie d (lose by_plain d losses.Cache) (with_one_loss losses.Cache (kept d.store)) refl refl (lose_based by_plain d losses.Cache)
+      (lose_leaves by_plain q (pair_bears d.store.paired).loses d losses.Cache refl (λ x is. is)) t
+
+  store_tie : (t : Told) → tie (T.hold true (lose by_plain d losses.Store) t).state ≡ tie d
+  store_tie t =
+      kept_tie d (lose by_plain d losses.Store) (with_one_loss losses.Store (kept d.store)) refl refl (lose_based by_plain d losses.Store)
+      (lose_leaves by_plain q (pair_bears d.store.paired).loses d losses.Store refl (λ x is. is)) t
+
+  side_tie : (side : Side) (t : Told) → tie (T.hold true (lose by_plain d (losses.Side side)) t).state ≡ tie d
+  side_tie side t =
+      kept_tie d (lose by_plain d (losses.Side side)) (with_one_loss (losses.Side side) (kept d.store)) refl refl
+      (lose_based by_plain d (losses.Side side))
+      (lose_leaves by_plain q (pair_bears d.store.paired).loses d (losses.Side side) refl (λ x is. fallen_pair d.store.paired x side is)) t
+
+  power_tie : (t : Told) → tie (T.hold true (power by_plain d) t).state ≡ tie d
+  power_tie t =
+      kept_tie d (power by_plain d) (with_one_loss losses.Cache (kept d.store)) refl refl (power_based by_plain d)
+      (power_leaves by_plain q (pair_bears d.store.paired).loses d refl) t
+
+  start_tie : (path : ℕ) → tie (start d path) ≡ tie d
+  unfolding S.start
+  start_tie path = refl
+
+  replace_tie : (side : Side) → tie (replace d side) ≡ tie d
+  replace_tie sides.A = refl
+  replace_tie sides.B = refl
+
+-- Deeds
+
+not_of : (k a b : ℕ) (y : Mounted) (o : Option Mounted) → k ≡ b → (b == a) ≡ false → (if k == a then Some y else o) ≡ o
+not_of k a b y o e other = ap (λ (x : ℕ). if x == a then Some y else o) e ∙ ap (λ (t : Bool). if t then Some y else o) other
+
+-- another one's place
+pub others_stay : (ms : List Mounted) (a b : ℕ) (y : Mounted) → number_of y ≡ b → (b == a) ≡ false → mounted_in (put_in ms b y) a ≡ mounted_in ms a
+others_stay [] a b y number other = refl
+others_stay (k ∷ ms) a b y number other = by_test (number_of k == b) refl (others_stay ms a b y number other) where
+  by_test : (t : Bool) → (number_of k == b) ≡ t → mounted_in (put_in ms b y) a ≡ mounted_in ms a →
+      mounted_in (if t then y ∷ ms else k ∷ put_in ms b y) a ≡ (if number_of k == a then Some k else mounted_in ms a)
+  by_test true is rest =
+      not_of (number_of y) a b y (mounted_in ms a) number other ∙ sym (not_of (number_of k) a b k (mounted_in ms a) (eqb-true (number_of k) b is) other)
+  by_test false is rest = ap (λ (o : Option Mounted). if number_of k == a then Some k else o) rest
+
+put_same : (ms : List Mounted) (n : ℕ) (x m : Mounted) → mounted_in ms n ≡ Some m → tie x.device ≡ tie m.device → ties (put_in ms n x) ≡ ties ms
+put_same ms n x m there same =
+    let number : (tie x.device).number ≡ n = ap (λ (t : Tie). t.number) same ∙ mounted_number ms n m there in
+    ties_put ms n x ∙ put_own n (tie x.device) number (ties ms) (tie m.device) (tie_found ms n m there) same
+
+-- so many are lent to each where the same is
+pub lent_stays : (ms : List Mounted) (n : ℕ) (x m : Mounted) → mounted_in ms n ≡ Some m → number_of x ≡ n →
+    x.device.store.lent ≡ m.device.store.lent → (k : ℕ) → lent_count k (ties (put_in ms n x)) ≡ lent_count k (ties ms)
+lent_stays ms n x m there number lent k =
+    let one = lent_put n (tie x.device) number k (ties ms) (tie m.device) (tie_found ms n m there) in
+    let same : one_if (is_lent_to x.device.store.lent k) ≡ one_if (is_lent_to m.device.store.lent k) =
+    ap (λ (l : Option ℕ). one_if (is_lent_to l k)) lent in
+    let are : lent_count k (ties (put_in ms n x)) ≡ lent_count k (put_tie n (tie x.device) (ties ms)) = ap (lent_count k) (ties_put ms n x) in
+    omega (arith, one, same, are)
+
+swept_same : (f : MarksDevice → Talk (Unit {0})) → ((d : MarksDevice) (t : Told) → tie (T.hold true (f d) t).state ≡ tie d) → (ms : List Mounted)
+    (pool : Pool) → ties (sweep f ms pool).mounted ≡ ties ms
+unfolding H.sweep
+swept_same f h [] pool = refl
+swept_same f h (m ∷ ms) pool =
+    let o = held_with pool m (f m.device) in
+    ap (λ (t : Tie). t ∷ ties (sweep f ms o.told.pool).mounted) (h m.device (told_to pool m))
+    ∙ ap (λ (l : List Tie). tie m.device ∷ l) (swept_same f h ms o.told.pool)
+
+-- what a pair's fault says where there is none
+pub record MayPair (x y : MarksDevice) : Type 0 where
+  pub other : (y.store.device == x.store.device) ≡ false
+  pub free : x.store.lent ≡ None
+  pub home : y.store.lent ≡ None
+  pub single : x.store.paired ≡ false
+  pub alone : y.store.paired ≡ false
+
+lent_none : (l : Option ℕ) → R.lent_by l ≡ None → l ≡ None
+lent_none (Some to) is = absurd (cc)
+lent_none None is = refl
+
+pub turned : (a b : ℕ) → (a == b) ≡ false → (b == a) ≡ false
+turned a b is = ne_eqb b a (λ e. eqb-false a b is (sym e))
+
+pub may_pair : (x y : MarksDevice) → pair_fault x y ≡ None → MayPair x y
+unfolding R.pair_fault
+may_pair x y is =
+    let a = first_none (R.where_so (x.store.device == y.store.device) Same) _ is in
+    let b = first_none (R.lent_by x.store.lent) _ a.1 in
+    let c = first_none (R.lent_by y.store.lent) _ b.1 in
+    let d = first_none (R.where_so x.store.paired Paired) _ c.1 in
+    let e = first_none (R.where_so y.store.paired Paired) _ d.1 in
+    record {
+      other = turned x.store.device y.store.device (where_none (x.store.device == y.store.device) Same a.0);
+      free = lent_none x.store.lent b.0;
+      home = lent_none y.store.lent c.0;
+      single = where_none x.store.paired Paired d.0;
+      alone = where_none y.store.paired Paired e.0;
+    }
+
+abbrev KeepsTies : Subsystem → MarksDeed → Type 0
+KeepsTies s (Ends end) = Unit {0}
+KeepsTies s (Becomes d end) = (m : Mounted) → mounted_in s.mounted d.store.device ≡ Some m → tie d ≡ tie m.device
+KeepsTies s (Asks d talk) = IsSeat s d × ((t : Told) → tie (T.hold true talk t).state ≡ tie d)
+KeepsTies s (Each pool f) = (d : MarksDevice) (t : Told) → tie (T.hold true (f d) t).state ≡ tie d
+KeepsTies s (Repairs pool) = Unit {0}
+KeepsTies s (Lends a b) = (pair_fault a b ≡ None) × Stands s a × Stands s b
+
+module _ (ns : List ℕ) where
+  same_tied : (ts us : List Tie) → us ≡ ts → Tied ns ts → Tied ns us
+  same_tied ts us is t = subst (Tied ns) (sym is) t
+
+  becomes_tied : (s : Subsystem) (d : MarksDevice) → ((m : Mounted) → mounted_in s.mounted d.store.device ≡ Some m → tie d ≡ tie m.device) →
+      (o : Option Mounted) → mounted_in s.mounted d.store.device ≡ o → Tied ns (ties s.mounted) →
+      Tied ns (ties (becomes s d.store.device o d).mounted)
+  becomes_tied s d same None there t = t
+  becomes_tied s d same (Some m) there t =
+      same_tied (ties s.mounted) _ (put_same s.mounted d.store.device (record m { device = d }) m there (same m there)) t
+
+  asks_tied : (s : Subsystem) (d : MarksDevice) (talk : Talk (Option EventEnd)) → IsSeat s d → ((t : Told) → tie (T.hold true talk t).state ≡ tie d) →
+      (o : Option Mounted) → mounted_in s.mounted d.store.device ≡ o → Tied ns (ties s.mounted) →
+      Tied ns (ties (asks s d.store.device o talk).behind.mounted)
+  asks_tied s d talk seat same None there t = t
+  asks_tied s d talk seat same (Some m) there t =
+      same_tied (ties s.mounted) _
+      (put_same s.mounted d.store.device (mounted_behind (held_with s.pool m talk)) m there (same (told_to s.pool m) ∙ ap tie (sym (seat m there)))) t
+
+  module _ (s : Subsystem) (x y : MarksDevice) (fault : pair_fault x y ≡ None) (stands_x : Stands s x) (stands_y : Stands s y) where
+    abbrev a : ℕ
+    a = x.store.device
+
+    abbrev b : ℕ
+    b = y.store.device
+
+    found : (d : MarksDevice) → Stands s d → (m : Mounted) × (mounted_in s.mounted d.store.device ≡ Some m) × (m.device ≡ d)
+    found d stands =
+        mounted_too s.mounted d.store.device d
+        (ap (λ (n : ℕ). device_in (devices_of s) n) (number_found s.mounted stands.number d stands.found) ∙ stands.found)
+
+    joined_tied : (z : Subsystem) (volume : Calls) (m : Mounted) → mounted_in z.mounted x.store.device ≡ Some m → m.device ≡ x →
+        (w : Mounted) → IsLent x.store.device y w.device → z.mounted ≡ put_in s.mounted y.store.device w → Tied ns (ties s.mounted) →
+        Tied ns (ties (joined z x.store.device volume (Some m)).mounted)
+    joined_tied z volume m there it_is w g are t =
+        let may = may_pair x y fault in
+        let fy = found y stands_y in
+        let fx = found x stands_x in
+        subst (Tied ns)
+        (sym (ties_put z.mounted x.store.device (record m { device = join m.device; b = volume })
+        ∙ ap (λ (l : List Mounted). put_tie x.store.device (tie (join m.device)) (ties l)) are
+        ∙ ap (put_tie x.store.device (tie (join m.device))) (ties_put s.mounted y.store.device w)))
+        (paired_tied ns (ties s.mounted) x.store.device y.store.device (tie (join m.device)) (tie w.device) (tie x) (tie y)
+        (tie_found s.mounted x.store.device fx.0 fx.1 ∙ ap (λ (d : MarksDevice). Some (tie d)) fx.2) may.free may.single
+        (tie_found s.mounted y.store.device fy.0 fy.1 ∙ ap (λ (d : MarksDevice). Some (tie d)) fy.2) may.home may.alone
+        g.number g.lent (g.paired ∙ may.alone) (ap (λ (d : MarksDevice). d.store.device) it_is)
+        (ap (λ (d : MarksDevice). d.store.lent) it_is ∙ may.free) may.other t refl)
+
+    lent_tied : (z : Subsystem) (volume : Calls) (w : Mounted) → IsLent x.store.device y w.device → z.mounted ≡ put_in s.mounted y.store.device w →
+        (o : Option Mounted) → mounted_in z.mounted x.store.device ≡ o → Tied ns (ties s.mounted) →
+        Tied ns (ties (joined z x.store.device volume o).mounted)
+    lent_tied z volume w g are o at_x t =
+        let fx = found x stands_x in
+        let still : mounted_in z.mounted x.store.device ≡ Some fx.0 =
+        ap (λ (l : List Mounted). mounted_in l x.store.device) are
+        ∙ others_stay s.mounted x.store.device y.store.device w g.number (may_pair x y fault).other ∙ fx.1 in
+        subst (λ (k : Option Mounted). Tied ns (ties (joined z x.store.device volume k).mounted)) (sym still ∙ at_x)
+        (joined_tied z volume fx.0 still fx.2 w g are t)
+
+    lends_tied : (o : Option Mounted) → mounted_in s.mounted y.store.device ≡ o → Tied ns (ties s.mounted) →
+        Tied ns (ties (lends s x.store.device y.store.device o).mounted)
+    lends_tied None there t = t
+    lends_tied (Some m) there t =
+        let o = held_with s.pool m (lend by_plain m.device x.store.device) in
+        let z = behind_outcome s y.store.device o in
+        let it_is : m.device ≡ y = seat_of s y stands_y m there in
+        lent_tied z o.told.a (mounted_behind o)
+        (subst (λ (d : MarksDevice). IsLent x.store.device d o.state) it_is (held true (lend_makes m.device x.store.device) (told_to s.pool m))) refl
+        (mounted_in z.mounted x.store.device) refl t
+
+  happens_tied : (s : Subsystem) (x : MarksDeed) → KeepsTies s x → Tied ns (ties s.mounted) → Tied ns (ties (happens_by s x).behind.mounted)
+  happens_tied s (Ends end) h t = t
+  happens_tied s (Becomes d end) h t = becomes_tied s d h (mounted_in s.mounted d.store.device) refl t
+  happens_tied s (Asks d talk) h t = asks_tied s d talk h.0 h.1 (mounted_in s.mounted d.store.device) refl t
+  happens_tied s (Each pool f) h t = same_tied (ties s.mounted) _ (swept_same f h s.mounted pool) t
+  happens_tied s (Repairs pool) h t = t
+  happens_tied s (Lends a b) h t = lends_tied s a b h.0 h.1 h.2 (mounted_in s.mounted b.store.device) refl t
+
+-- an answer changes no device
+answered : {X Y : Type 0} (d : MarksDevice) (talk : Talk X) (f : X → Y) → ((t : Told) → tie (T.hold true talk t).state ≡ tie d) →
+    (t : Told) → tie (T.hold true (and_then talk (λ z a. Done z (f a))) t).state ≡ tie d
+answered d talk f h t = ap tie (hold_answer talk f t) ∙ h t
+
+becomes_so : (s : Subsystem) (d y : MarksDevice) → Stands s d → tie y ≡ tie d → (m : Mounted) → mounted_in s.mounted y.store.device ≡ Some m →
+    tie y ≡ tie m.device
+becomes_so s d y stands same m there =
+    same ∙ ap tie (sym (seat_of s d stands m (ap (λ (t : Tie). mounted_in s.mounted t.number) (sym same) ∙ there)))
+
+ties_keep : (s : Subsystem) → IsDeedwise s (KeepsTies s)
+ties_keep s = record {
+  ended = λ end. tt;
+  started = λ d x path fault. becomes_so s d (start d path) x (start_tie d path);
+  seconded = λ d x h is. (seat_of s d x, answered d (second by_plain d) (λ a. Some (ends.Second a)) (second_tie d));
+  commanded = λ d x whole o running. (seat_of s d x, answered d (command by_plain d) (end_of ends.Stepped) (command_tie d));
+  worked = λ d x whole. (seat_of s d x, answered d (background by_plain d) (end_of ends.Back) (background_tie d));
+  cut = λ d x path. (seat_of s d x, answered d (reset by_plain d path) (λ a. Some (ends_done a)) (reset_tie d path));
+  lost_cache = λ d t. cache_tie d t;
+  lost_store = λ d t. store_tie d t;
+  lost_side = λ d x side fault. (seat_of s d x, answered d (lose by_plain d (losses.Side side)) (λ a. Some (ends_done a)) (side_tie d side));
+  lost_power = λ d t. power_tie d t;
+  repaired_cache = tt;
+  repaired_store = tt;
+  lent = λ x y z w fault. (fault, z, w);
+  held = λ d x fault. becomes_so s d (hold d) x refl;
+  resumed = λ d x fault. becomes_so s d (resume d) x refl;
+}
+
+-- Lines
+
+module _ (ns : List ℕ) where
+  abbrev So : Subsystem → Type 0
+  So s = Tied ns (ties s.mounted)
+
+  abbrev Shown : Subsystem → Logged → Type 0
+  Shown s t = Unit {0}
+
+  event_tied : (s : Subsystem) (e : Event) → So s → So (happens s e).behind
+  unfolding H.happens
+  event_tied s e t = happens_tied ns s (deed by_plain s.pool (devices_of s) e) (deed_is s (KeepsTies s) (ties_keep s) e) t
+
+  side_same : (m : Mounted) (side : Side) (volume : Calls) → tie (with_calls (record m { device = replace m.device side }) side volume).device ≡ tie m.device
+  side_same m sides.A volume = refl
+  side_same m sides.B volume = refl
+
+  replaced_tied : (s : Subsystem) (n : ℕ) (side : Side) (o : Option Mounted) → mounted_in s.mounted n ≡ o → So s →
+      So (replaced_at s n side unfailing o).behind
+  replaced_tied s n side None there t = t
+  replaced_tied s n side (Some m) there t = by_fault (replace_fault m.device side) where
+    by_fault : (f : Option OrderFault) → So (replaced_by s n side unfailing m f).behind
+    by_fault (Some fault) = t
+    by_fault None =
+        same_tied ns (ties s.mounted) _
+        (put_same s.mounted n (with_calls (record m { device = replace m.device side }) side unfailing) m there (side_same m side unfailing)) t
+
+  unpaired_tied : (s : Subsystem) (n : ℕ) (o : Option Mounted) → mounted_in s.mounted n ≡ o → So s → So (unpaired_at s n unfailing o).behind
+  unpaired_tied s n None there t = t
+  unpaired_tied s n (Some m) there t = by_fault (unpair_fault m.device) where
+    by_fault : (f : Option OrderFault) → So (unpaired_by s n unfailing m f).behind
+    by_fault (Some fault) = t
+    by_fault None =
+        let x = record m { device = split m.device } in
+        subst (Tied ns)
+        (sym (ties_restored (put_in s.mounted n x) n unfailing ∙ ap (restored_tie n) (ties_put s.mounted n x)))
+        (parted_tied ns (ties s.mounted) n (tie (split m.device)) (tie m.device) (tie_found s.mounted n m there) (mounted_number s.mounted n m there)
+        refl refl t)
+
+  ties_go : Goes So Shown AnyEvent
+  unfolding H.replaced H.unpaired
+  ties_go = record {
+    once = λ s e may t. (event_tied s e t, tt);
+    stepped = λ s d t. (event_tied s (events.Step d) t, tt);
+    idle = λ s d t. (t, tt);
+    backed = λ s d t. (event_tied s (events.Back d) t, tt);
+    replaces = λ s d side t. (replaced_tied s d side (mounted_in s.mounted d) refl t, tt);
+    unpairs = λ s a t. (unpaired_tied s a (mounted_in s.mounted a) refl t, tt);
+  }
+
+-- behind one line
+pub line_tied : (ns : List ℕ) (s : Subsystem) (x : Asked) → Tied ns (ties s.mounted) → Tied ns (ties (last_behind s (line_logged s x)).mounted)
+line_tied ns s x t =
+    logs_end (So ns) (Shown ns) s (line_logged s x)
+    (line_goes (So ns) (Shown ns) AnyEvent (ties_go ns) x s (All-head (MayAsk AnyEvent) x [] (all_asked (x ∷ []))) t)
+
+-- Decks
+
+abbrev pub numbers_in : DeckLines → List ℕ
+numbers_in deck = map (λ (d : DeviceLine). d.number) deck.devices
+
+opened_numbers : (deck : DeckLines) (ds : List DeviceLine) →
+    map (λ (t : Tie). t.number) (ties (map (opened_device deck) ds)) ≡ map (λ (d : DeviceLine). d.number) ds
+opened_numbers deck [] = refl
+opened_numbers deck (d ∷ ds) = ap (λ (l : List ℕ). d.number ∷ l) (opened_numbers deck ds)
+
+opened_alone : (deck : DeckLines) (ds : List DeviceLine) (a : ℕ) → lent_count a (ties (map (opened_device deck) ds)) ≡ 0
+opened_alone deck [] a = refl
+opened_alone deck (d ∷ ds) a = let rest = opened_alone deck ds a in omega (arith, rest)
+
+pub opened_tied : (deck : DeckLines) → Tied (numbers_in deck) (ties (opened deck).mounted)
+opened_tied deck = record {
+  numbers_are = opened_numbers deck deck.devices;
+  single = λ a. let none = opened_alone deck deck.devices a in omega (arith, none);
+}
+
+pub tied_behind : (deck : DeckLines) → Tied (numbers_in deck) (ties (run_of deck).behind.mounted)
+unfolding D.run_asked
+tied_behind deck =
+    let ns = numbers_in deck in
+    let asked = map asked_by deck.events in
+    logs_end (So ns) (Shown ns) (opened deck) (run_lines asked (opened deck))
+    (lines_keep (So ns) (Shown ns) (ties_go ns) asked (opened deck) (opened_tied deck))
