@@ -96,13 +96,13 @@ module _ {V : Type 0} {G : Ghosts V} where
 module _ {V : Type 0} {G : Ghosts V} {K : Type 0} {takes : K → ℕ → ℕ → Image → Type 0} where
   -- of the device of a number
   pub takes_at : (k : K) (ds : List (Device V G)) (n : ℕ) → TakesAll takes k ds →
-      IfSome (device_at ds n) (λ x. Takes takes k x.store.number (x.store.cylinders * 15))
-  takes_at k ds n all = all_at (λ (x : Device V G). Takes takes k x.store.number (x.store.cylinders * 15)) ds n all
+      IfSome (device_at ds n) (λ x. Takes takes k x.store.number x.store.geometry (x.store.cylinders * 15))
+  takes_at k ds n all = all_at (λ (x : Device V G). Takes takes k x.store.number x.store.geometry (x.store.cylinders * 15)) ds n all
 
-  takes_span : (k l : K) (x y : Device V G) → Still takes k l → span_of y ≡ span_of x → Takes takes k x.store.number (x.store.cylinders * 15) →
-      Takes takes l y.store.number (y.store.cylinders * 15)
+  takes_span : (k l : K) (x y : Device V G) → Still takes k l → span_of y ≡ span_of x → Takes takes k x.store.number x.store.geometry (x.store.cylinders * 15) →
+      Takes takes l y.store.number y.store.geometry (y.store.cylinders * 15)
   takes_span k l x y still is may =
-      subst (λ (s : Span). Takes takes l s.number (s.cylinders * 15)) (sym is)
+      subst (λ (s : Span). Takes takes l s.number s.geometry (s.cylinders * 15)) (sym is)
       (record { all = λ t i below. still x.store.number t i (may.all t i below) })
 
   -- of all devices that are where these were

@@ -25,4 +25,4 @@ module _ {V : Type 0} {G : Ghosts V} where
 
   -- a keeper may be told of all tracks of all these devices
   abbrev pub TakesAll : {K : Type 0} → (K → ℕ → ℕ → Image → Type 0) → K → List (Device V G) → Type 0
-  TakesAll takes keeper ds = All (λ (d : Device V G). Takes takes keeper d.store.number (d.store.cylinders * 15)) ds
+  TakesAll takes keeper ds = All (λ (d : Device V G). Takes takes keeper d.store.number d.store.geometry (d.store.cylinders * 15)) ds

@@ -26,7 +26,7 @@ loop-i-preserved g c =
     record {
       seats = seats_kept ds c.loop-i.i x c.lose_with.new.self read (record {
         number = c.lose_with.ensures.fixed.0;
-        cylinders = c.lose_with.ensures.fixed.1;
+        cylinders = c.lose_with.ensures.fixed.1.0;
         lent = ran_lent (lose_based contents (device_of x) c.args.loss) c.lose_with.ensures.run;
       }) ∙ c.loop-i.invariant.seats;
       rest = rw add-one (rest_more how c.loop-i.i c.args.devices.now ds c.lose_with.new.self here within c.loop-i.invariant.rest);

@@ -15,7 +15,7 @@ invariant_of-self g c =
       table = rw same c.args.self.now.table;
       alike = alike_kept c.args.self.now.devices.items c.place-at.result c.index_mut.result.now c.second_with.new.self c.index_mut.ensures.value (record {
         number = c.second_with.ensures.fixed.0;
-        cylinders = c.second_with.ensures.fixed.1;
+        cylinders = c.second_with.ensures.fixed.1.0;
         lent = second_lent (second_seen c.second_with.new.self.past c.second_with.result) c.index_mut.result.now c.second_with.new.self _ _
             c.second_with.ensures.seen c.second_with.ensures.run;
       }) c.args.self.now.alike;
@@ -24,7 +24,7 @@ invariant_of-self g c =
 pub returns-clause-spans : goal.returns-clause-spans
 returns-clause-spans g c =
     spans_kept c.args.self.now.devices.items c.place-at.result c.index_mut.result.now c.second_with.new.self c.index_mut.ensures.value
-    c.second_with.ensures.fixed.0 c.second_with.ensures.fixed.1
+    c.second_with.ensures.fixed.0 c.second_with.ensures.fixed.1.0
 
 pub returns-clause-asked : goal.returns-clause-asked
 returns-clause-asked g c =
@@ -35,6 +35,6 @@ pub second_with-requires : goal.second_with-requires
 second_with-requires g c = record {
   takes =
       held c.args.self.now.devices.items c.args.d c.place-at.result c.index_mut.result.now
-      (λ x. Takes g.K.Keep.takes c.args.keep.now x.store.number (x.store.cylinders * 15))
+      (λ x. Takes g.K.Keep.takes c.args.keep.now x.store.number x.store.geometry (x.store.cylinders * 15))
       c.args.self.now.rising c.place-at.ensures.range c.place-at.ensures.found c.index_mut.ensures.value c.requires.takes;
 }
