@@ -24,7 +24,7 @@ invariant_of-self g c =
 pub returns-clause-spans : goal.returns-clause-spans
 returns-clause-spans g c =
     spans_kept c.args.self.now.devices.items c.place-at.result c.index_mut.result.now c.second_with.new.self c.index_mut.ensures.value
-    c.second_with.ensures.fixed.0 c.second_with.ensures.fixed.1.0
+    c.second_with.ensures.fixed.0 c.second_with.ensures.fixed.1.0 c.second_with.ensures.fixed.1.1
 
 pub returns-clause-asked : goal.returns-clause-asked
 returns-clause-asked g c =
