@@ -18,3 +18,6 @@ returns-in-Ok-Some-clause-run g c =
 
 pub save_read-requires-clause-kept : goal.save_read-requires-clause-kept
 save_read-requires-clause-kept g c = λ loose. modified_there _ (c.args.self.now.loose_modified c.requires.here c.args.t loose)
+
+pub save_read-requires-clause-of : goal.save_read-requires-clause-of
+save_read-requires-clause-of g c = rw c.in-Ok-Some.field-0-is at c.in-Ok-Some.ensures.of

@@ -18,3 +18,6 @@ pub returns-in-Ok-Some-clause-run : goal.returns-in-Ok-Some-clause-run
 returns-in-Ok-Some-clause-run g c =
     λ k. tries true refl (rw (← c.in-Ok-Some.ensures.image, c.in-Ok-Some.field-0-is)
     (joined (λ z x. Done z (Some (did c.args.given.fault (Staged c.args.t)))) (c.fill.ensures.run k) (ended refl (ap Some (sym c.did-in-Ok-Some.ensures)))))
+
+pub fill-requires-clause-of : goal.fill-requires-clause-of
+fill-requires-clause-of g c = rw c.in-Ok-Some.field-0-is at c.in-Ok-Some.ensures.of
