@@ -39,8 +39,8 @@ loop-turn-preserved g c =
     let ran = rw c.in-On.is at c.in-Ok.ensures.run in
     record {
       number = c.in-Ok.ensures.fixed.0 ∙ c.loop-turn.invariant.number;
-      cylinders = c.in-Ok.ensures.fixed.1.0 ∙ c.loop-turn.invariant.cylinders;
-      geometry = c.in-Ok.ensures.fixed.1.1 ∙ c.loop-turn.invariant.geometry;
+      cylinders = c.in-Ok.ensures.fixed.1 ∙ c.loop-turn.invariant.cylinders;
+      geometry = c.in-Ok.ensures.fixed.2 ∙ c.loop-turn.invariant.geometry;
       loose = same ∙ c.loop-turn.invariant.loose;
       none = none_by c.look.new.store.half (subst (λ x. is_some c.look.new.store.half ≡ is_half_over x) c.in-On.is c.in-Ok.ensures.half);
       takes = c.in-Ok.ensures.takes;

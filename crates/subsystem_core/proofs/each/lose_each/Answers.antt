@@ -26,10 +26,10 @@ loop-i-preserved g c =
     record {
       seats = seats_kept ds c.loop-i.i x c.lose_with.new.self read (record {
         number = c.lose_with.ensures.fixed.0;
-        cylinders = c.lose_with.ensures.fixed.1.0;
+        cylinders = c.lose_with.ensures.fixed.1;
         lent = ran_lent (lose_based contents (device_of x) c.args.loss) c.lose_with.ensures.run;
       }) ∙ c.loop-i.invariant.seats;
-      spans = spans_kept ds c.loop-i.i x c.lose_with.new.self read c.lose_with.ensures.fixed.0 c.lose_with.ensures.fixed.1.0 c.lose_with.ensures.fixed.1.1
+      spans = spans_kept ds c.loop-i.i x c.lose_with.new.self read c.lose_with.ensures.fixed.0 c.lose_with.ensures.fixed.1 c.lose_with.ensures.fixed.2
           ∙ c.loop-i.invariant.spans;
       rest = rw add-one (rest_more how c.loop-i.i c.args.devices.now ds c.lose_with.new.self here within c.loop-i.invariant.rest);
       each = rw add-one (swept_more how c.loop-i.i c.args.devices.now ds x c.lose_with.new.self within c.loop-i.invariant.rest read c.loop-i.invariant.each

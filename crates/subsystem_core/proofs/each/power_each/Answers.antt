@@ -26,10 +26,10 @@ loop-i-preserved g c =
     record {
       seats = seats_kept ds c.loop-i.i x c.power_with.new.self read (record {
         number = c.power_with.ensures.fixed.0;
-        cylinders = c.power_with.ensures.fixed.1.0;
+        cylinders = c.power_with.ensures.fixed.1;
         lent = ran_lent (power_based contents (device_of x)) c.power_with.ensures.run;
       }) ∙ c.loop-i.invariant.seats;
-      spans = spans_kept ds c.loop-i.i x c.power_with.new.self read c.power_with.ensures.fixed.0 c.power_with.ensures.fixed.1.0 c.power_with.ensures.fixed.1.1
+      spans = spans_kept ds c.loop-i.i x c.power_with.new.self read c.power_with.ensures.fixed.0 c.power_with.ensures.fixed.1 c.power_with.ensures.fixed.2
           ∙ c.loop-i.invariant.spans;
       rest = rw add-one (rest_more how c.loop-i.i c.args.devices.now ds c.power_with.new.self here within c.loop-i.invariant.rest);
       each = rw add-one (swept_more how c.loop-i.i c.args.devices.now ds x c.power_with.new.self within c.loop-i.invariant.rest read c.loop-i.invariant.each

@@ -23,7 +23,7 @@ invariant_of-self-2 g c =
     let l = c.args.self.now.store.loose in
     let whole : weight l ≡ loose_count l.loose + length c.acts.result.now = omega (arith, ap length c.acts.ensures) in
     record {
-      at_word = at_word_same c.note_acts.new.self.running c.args.self.now.past.running _ _ c.note_acts.ensures.chain c.end_event.ensures.fixed.1.0
+      at_word = at_word_same c.note_acts.new.self.running c.args.self.now.past.running _ _ c.note_acts.ensures.chain c.end_event.ensures.fixed.1
           c.args.self.now.at_word;
       keeps = c.note_acts.ensures.keeps;
       half_waits = λ one. waits_same c.note_acts.new.self.running c.args.self.now.past.running c.note_acts.ensures.chain c.note_acts.ensures.ends

@@ -38,7 +38,7 @@ returns-in-Ok-clause-run g c =
 pub invariant_of-self-in-Err-clause-at_word : goal.invariant_of-self-in-Err-clause-at_word
 invariant_of-self-in-Err-clause-at_word g c =
     at_word_same c.note_acts.new.self.running c.on_past.new.running c.on_past.new.store.cylinders c.args.self.now.store.cylinders c.note_acts.ensures.chain
-    c.on_past.ensures.fixed.1.0 c.in-Err.ensures.word
+    c.on_past.ensures.fixed.1 c.in-Err.ensures.word
 
 pub invariant_of-self-in-Err-clause-keeps : goal.invariant_of-self-in-Err-clause-keeps
 invariant_of-self-in-Err-clause-keeps g c = c.note_acts.ensures.keeps
@@ -55,7 +55,7 @@ invariant_of-self-in-Err-clause-act_room g c =
 pub invariant_of-self-in-Ok-2-clause-at_word : goal.invariant_of-self-in-Ok-2-clause-at_word
 invariant_of-self-in-Ok-2-clause-at_word g c =
     let n = c.args.self.now.store.cylinders in
-    at_word_same c.turned.new.self.running c.turned.new.self.running c.on_past.new.store.cylinders n refl c.on_past.ensures.fixed.1.0
+    at_word_same c.turned.new.self.running c.turned.new.self.running c.on_past.new.store.cylinders n refl c.on_past.ensures.fixed.1
     (c.turned.ensures.word n (same_chain (λ z. Left n z c.in-Ok.came) c.note_acts-in-Ok.new.self.running c.on_past.new.running
     c.note_acts-in-Ok.ensures.chain c.in-Ok.ensures.left))
 

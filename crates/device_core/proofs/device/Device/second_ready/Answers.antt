@@ -97,7 +97,7 @@ invariant_of-self-then-part g c =
     let le : loose_count s.loose.loose + length c.acts.result.now ≤ w = omega (arith, c.second-part.ensures.weight, ap length c.acts.ensures) in
     record {
       at_word = c.end_write.ensures.word s.cylinders (cylinders_held c.note_acts.new.self.running old.past.running s.cylinders old.store.cylinders
-          c.note_acts.ensures.chain c.second-part.ensures.fixed.1.0 old.at_word);
+          c.note_acts.ensures.chain c.second-part.ensures.fixed.1 old.at_word);
       half_waits = λ one. absurd (none_counts s.half c.second-part.ensures.half one);
       keeps = c.end_write.ensures.keeps;
       act_room = c.end_write.ensures.room (loose_count s.loose.loose) (c.note_acts.ensures.room (loose_count s.loose.loose)
@@ -112,7 +112,7 @@ invariant_of-self-else-part g c =
     let le : loose_count s.loose.loose + length c.acts.result.now ≤ w = omega (arith, c.second-part.ensures.weight, ap length c.acts.ensures) in
     record {
       at_word = at_word_same c.note_acts.new.self.running old.past.running s.cylinders old.store.cylinders c.note_acts.ensures.chain
-          c.second-part.ensures.fixed.1.0 old.at_word;
+          c.second-part.ensures.fixed.1 old.at_word;
       half_waits = λ one. absurd (none_counts s.half c.second-part.ensures.half one);
       keeps = c.note_acts.ensures.keeps;
       act_room = c.note_acts.ensures.room (loose_count s.loose.loose)

@@ -24,4 +24,4 @@ pub load-requires-clause-here : goal.load-requires-clause-here
 load-requires-clause-here g c = ap is_some c.queue_ahead.ensures.lent ∙ c.requires.here
 
 pub load-requires-clause-of : goal.load-requires-clause-of
-load-requires-clause-of g c = rw c.queue_ahead.ensures.fixed.1.1 (rw c.in-Ok-Some.field-0-is at c.in-Ok-Some.ensures.of)
+load-requires-clause-of g c = rw c.queue_ahead.ensures.fixed.2 (rw c.in-Ok-Some.field-0-is at c.in-Ok-Some.ensures.of)

@@ -17,7 +17,7 @@ returns-clause-run g c = λ u first p.
 
 pub returns-clause-takes : goal.returns-clause-takes
 returns-clause-takes g c =
-    rw (c.keep_edit.ensures.fixed.0, c.keep_edit.ensures.fixed.1.0, c.keep_edit.ensures.fixed.1.1)
+    rw (c.keep_edit.ensures.fixed.0, c.keep_edit.ensures.fixed.1, c.keep_edit.ensures.fixed.2)
     (record { all = λ t i below of fits. (c.edit_firm.ensures.told (state_of c.args.self.now) refl).still c.args.self.now.number t i
         (c.requires.takes.all t i below of fits) })
 

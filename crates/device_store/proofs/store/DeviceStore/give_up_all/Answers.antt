@@ -20,8 +20,8 @@ loop-t-init g c = record {
 pub loop-t-preserved : goal.loop-t-preserved
 loop-t-preserved g c = record {
   number = c.give_up.ensures.fixed.0 ∙ c.loop-t.invariant.number;
-  cylinders = c.give_up.ensures.fixed.1.0 ∙ c.loop-t.invariant.cylinders;
-  geometry = c.give_up.ensures.fixed.1.1 ∙ c.loop-t.invariant.geometry;
+  cylinders = c.give_up.ensures.fixed.1 ∙ c.loop-t.invariant.cylinders;
+  geometry = c.give_up.ensures.fixed.2 ∙ c.loop-t.invariant.geometry;
   volume = c.give_up.ensures.volume ∙ c.loop-t.invariant.volume;
   half = c.give_up.ensures.half ∙ c.loop-t.invariant.half;
   loose = c.give_up.ensures.loose ∙ c.loop-t.invariant.loose;

@@ -21,8 +21,8 @@ loop-t-init g c = record {
 pub loop-t-preserved : goal.loop-t-preserved
 loop-t-preserved g c = record {
   number = c.lose_frame.ensures.fixed.0 ∙ c.loop-t.invariant.number;
-  cylinders = c.lose_frame.ensures.fixed.1.0 ∙ c.loop-t.invariant.cylinders;
-  geometry = c.lose_frame.ensures.fixed.1.1 ∙ c.loop-t.invariant.geometry;
+  cylinders = c.lose_frame.ensures.fixed.1 ∙ c.loop-t.invariant.cylinders;
+  geometry = c.lose_frame.ensures.fixed.2 ∙ c.loop-t.invariant.geometry;
   volume = c.lose_frame.ensures.volume ∙ c.loop-t.invariant.volume;
   half = c.lose_frame.ensures.half ∙ c.loop-t.invariant.half;
   weight = c.lose_frame.ensures.weight ∙ c.loop-t.invariant.weight;

@@ -26,7 +26,7 @@ returns-clause-state g c =
     in
     c.lose_frames.ensures.state
     ∙ ap (λ n. over (n * 15) (λ t z. settled contents (without_frame z t) t) (record s { queue = c.clear.new.self }))
-    (c.end_half.ensures.fixed.1.0 ∙ c.clear_loose.ensures.fixed.1.0)
+    (c.end_half.ensures.fixed.1 ∙ c.clear_loose.ensures.fixed.1)
     ∙ ap (λ z. over (c.args.self.now.cylinders * 15) (λ t y. settled contents (without_frame y t) t) z) same
 
 pub returns-clause-volume : goal.returns-clause-volume

@@ -23,8 +23,8 @@ loop-t-init g c = record {
 pub loop-t-preserved : goal.loop-t-preserved
 loop-t-preserved g c = record {
   number = c.lose_patch.ensures.fixed.0 ∙ c.loop-t.invariant.number;
-  cylinders = c.lose_patch.ensures.fixed.1.0 ∙ c.loop-t.invariant.cylinders;
-  geometry = c.lose_patch.ensures.fixed.1.1 ∙ c.loop-t.invariant.geometry;
+  cylinders = c.lose_patch.ensures.fixed.1 ∙ c.loop-t.invariant.cylinders;
+  geometry = c.lose_patch.ensures.fixed.2 ∙ c.loop-t.invariant.geometry;
   volume = c.lose_patch.ensures.volume ∙ c.loop-t.invariant.volume;
   half = c.lose_patch.ensures.half ∙ c.loop-t.invariant.half;
   weight = c.lose_patch.ensures.weight ∙ c.loop-t.invariant.weight;

@@ -24,8 +24,8 @@ loop-t-init g c = record {
 pub loop-t-preserved : goal.loop-t-preserved
 loop-t-preserved g c = record {
   number = c.settle_other.ensures.fixed.0 ∙ c.loop-t.invariant.number;
-  cylinders = c.settle_other.ensures.fixed.1.0 ∙ c.loop-t.invariant.cylinders;
-  geometry = c.settle_other.ensures.fixed.1.1 ∙ c.loop-t.invariant.geometry;
+  cylinders = c.settle_other.ensures.fixed.1 ∙ c.loop-t.invariant.cylinders;
+  geometry = c.settle_other.ensures.fixed.2 ∙ c.loop-t.invariant.geometry;
   volume = c.settle_other.ensures.volume ∙ c.loop-t.invariant.volume;
   half = c.settle_other.ensures.half ∙ c.loop-t.invariant.half;
   weight = c.settle_other.ensures.weight ∙ c.loop-t.invariant.weight;

@@ -24,8 +24,8 @@ loop-t-init g c = record {
 pub loop-t-preserved : goal.loop-t-preserved
 loop-t-preserved g c = record {
   number = c.tell_track.ensures.fixed.0 ∙ c.loop-t.invariant.number;
-  cylinders = c.tell_track.ensures.fixed.1.0 ∙ c.loop-t.invariant.cylinders;
-  geometry = c.tell_track.ensures.fixed.1.1 ∙ c.loop-t.invariant.geometry;
+  cylinders = c.tell_track.ensures.fixed.1 ∙ c.loop-t.invariant.cylinders;
+  geometry = c.tell_track.ensures.fixed.2 ∙ c.loop-t.invariant.geometry;
   volume = c.tell_track.ensures.volume ∙ c.loop-t.invariant.volume;
   half = c.tell_track.ensures.half ∙ c.loop-t.invariant.half;
   loose = c.tell_track.ensures.loose ∙ c.loop-t.invariant.loose;

@@ -17,7 +17,7 @@ invariant_of-self g c =
       table = rw same c.args.self.now.table;
       alike = alike_kept c.args.self.now.devices.items c.place-at.result c.index_mut.result.now c.background_with.new.self c.index_mut.ensures.value (record {
         number = c.background_with.ensures.fixed.0;
-        cylinders = c.background_with.ensures.fixed.1.0;
+        cylinders = c.background_with.ensures.fixed.1;
         lent = ran_lent (background_based contents (device_of c.index_mut.result.now)) c.background_with.ensures.run;
       }) c.args.self.now.alike;
     }
@@ -25,7 +25,7 @@ invariant_of-self g c =
 pub returns-clause-spans : goal.returns-clause-spans
 returns-clause-spans g c =
     spans_kept c.args.self.now.devices.items c.place-at.result c.index_mut.result.now c.background_with.new.self c.index_mut.ensures.value
-    c.background_with.ensures.fixed.0 c.background_with.ensures.fixed.1.0 c.background_with.ensures.fixed.1.1
+    c.background_with.ensures.fixed.0 c.background_with.ensures.fixed.1 c.background_with.ensures.fixed.2
 
 pub returns-clause-asked : goal.returns-clause-asked
 returns-clause-asked g c =

@@ -33,7 +33,7 @@ invariant_of-self g c =
       table = rw same c.args.self.now.table;
       alike = alike_kept c.args.self.now.devices.items c.place-at.result c.index_mut.result.now c.command_with.new.self c.index_mut.ensures.value (record {
         number = c.command_with.ensures.fixed.0;
-        cylinders = c.command_with.ensures.fixed.1.0;
+        cylinders = c.command_with.ensures.fixed.1;
         lent = ran_lent (command_based contents (device_of c.index_mut.result.now)) c.command_with.ensures.run;
       }) c.args.self.now.alike;
     }
@@ -41,7 +41,7 @@ invariant_of-self g c =
 pub returns-clause-spans : goal.returns-clause-spans
 returns-clause-spans g c =
     spans_kept c.args.self.now.devices.items c.place-at.result c.index_mut.result.now c.command_with.new.self c.index_mut.ensures.value
-    c.command_with.ensures.fixed.0 c.command_with.ensures.fixed.1.0 c.command_with.ensures.fixed.1.1
+    c.command_with.ensures.fixed.0 c.command_with.ensures.fixed.1 c.command_with.ensures.fixed.2
 
 pub returns-clause-asked : goal.returns-clause-asked
 returns-clause-asked g c =

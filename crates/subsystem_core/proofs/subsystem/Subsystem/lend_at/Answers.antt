@@ -24,14 +24,14 @@ invariant_of-self g c =
     record {
       rising = rw same c.args.self.now.rising;
       table = rw same c.args.self.now.table;
-      alike = alike_lent ds c.place-at.result c.args.to x c.lend_with.new.self l.to at.stands c.lend_with.ensures.fixed.0 c.lend_with.ensures.fixed.1.0
+      alike = alike_lent ds c.place-at.result c.args.to x c.lend_with.new.self l.to at.stands c.lend_with.ensures.fixed.0 c.lend_with.ensures.fixed.1
           (ran_lent (lend_based (device_of x) c.args.to) (c.lend_with.ensures.run c.args._keep.now)) l.stands l.may.alike c.args.self.now.alike;
     }
 
 pub returns-clause-spans : goal.returns-clause-spans
 returns-clause-spans g c =
     spans_kept c.args.self.now.devices.items c.place-at.result c.index_mut.result.now c.lend_with.new.self c.index_mut.ensures.value
-    c.lend_with.ensures.fixed.0 c.lend_with.ensures.fixed.1.0 c.lend_with.ensures.fixed.1.1
+    c.lend_with.ensures.fixed.0 c.lend_with.ensures.fixed.1 c.lend_with.ensures.fixed.2
 
 pub returns-clause-lent : goal.returns-clause-lent
 returns-clause-lent g c =

@@ -18,7 +18,7 @@ invariant_of-self g c =
       table = rw same c.args.self.now.table;
       alike = alike_kept c.args.self.now.devices.items c.place-at.result c.index_mut.result.now c.reset_with.new.self c.index_mut.ensures.value (record {
         number = c.reset_with.ensures.fixed.0;
-        cylinders = c.reset_with.ensures.fixed.1.0;
+        cylinders = c.reset_with.ensures.fixed.1;
         lent = ran_lent (reset_body contents (device_of c.index_mut.result.now) c.args.path) (c.reset_with.ensures.run (P.no_pool 0));
       }) c.args.self.now.alike;
     }
@@ -26,7 +26,7 @@ invariant_of-self g c =
 pub returns-clause-spans : goal.returns-clause-spans
 returns-clause-spans g c =
     spans_kept c.args.self.now.devices.items c.place-at.result c.index_mut.result.now c.reset_with.new.self c.index_mut.ensures.value
-    c.reset_with.ensures.fixed.0 c.reset_with.ensures.fixed.1.0 c.reset_with.ensures.fixed.1.1
+    c.reset_with.ensures.fixed.0 c.reset_with.ensures.fixed.1 c.reset_with.ensures.fixed.2
 
 pub returns-clause-asked : goal.returns-clause-asked
 returns-clause-asked g c =

@@ -15,7 +15,7 @@ invariant_of-self g c =
       table = rw same c.args.self.now.table;
       alike = alike_kept c.args.self.now.devices.items c.place-at.result c.index_mut.result.now c.second_with.new.self c.index_mut.ensures.value (record {
         number = c.second_with.ensures.fixed.0;
-        cylinders = c.second_with.ensures.fixed.1.0;
+        cylinders = c.second_with.ensures.fixed.1;
         lent = second_lent (second_seen c.second_with.new.self.past c.second_with.result) c.index_mut.result.now c.second_with.new.self _ _
             c.second_with.ensures.seen c.second_with.ensures.run;
       }) c.args.self.now.alike;
@@ -24,7 +24,7 @@ invariant_of-self g c =
 pub returns-clause-spans : goal.returns-clause-spans
 returns-clause-spans g c =
     spans_kept c.args.self.now.devices.items c.place-at.result c.index_mut.result.now c.second_with.new.self c.index_mut.ensures.value
-    c.second_with.ensures.fixed.0 c.second_with.ensures.fixed.1.0 c.second_with.ensures.fixed.1.1
+    c.second_with.ensures.fixed.0 c.second_with.ensures.fixed.1 c.second_with.ensures.fixed.2
 
 pub returns-clause-asked : goal.returns-clause-asked
 returns-clause-asked g c =
