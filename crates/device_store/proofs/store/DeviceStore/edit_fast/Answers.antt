@@ -18,8 +18,10 @@ returns-clause-run g c = λ u first p.
 pub returns-clause-takes : goal.returns-clause-takes
 returns-clause-takes g c =
     rw (c.keep_edit.ensures.fixed.0, c.keep_edit.ensures.fixed.1, c.keep_edit.ensures.fixed.2)
-    (record { all = λ t i below of fits. (c.edit_firm.ensures.told (state_of c.args.self.now) refl).still c.args.self.now.number t i
-        (c.requires.takes.all t i below of fits) })
+    (record {
+      all = λ t i below of fits. (c.edit_firm.ensures.told (state_of c.args.self.now) refl).still c.args.self.now.number t i
+          (c.requires.takes.all t i below of fits);
+    })
 
 pub invariant_of-self-clause-frame_of_each : goal.invariant_of-self-clause-frame_of_each
 invariant_of-self-clause-frame_of_each g c =
