@@ -5,7 +5,7 @@ use Rattle.device_store.proofs.Hearings.{hear_on, hear_over, hear_end}
 use Rattle.device_store.proofs.store.DeviceStore.hear.Goals as goal
 
 pub loop-turn-init : goal.loop-turn-init
-loop-turn-init g c = record { number = refl; cylinders = refl; half = refl; loose = refl; rest = λ k. record { ends = λ s a z ran. ran } }
+loop-turn-init g c = record { number = refl; cylinders = refl; geometry = refl; half = refl; loose = refl; rest = λ k. record { ends = λ s a z ran. ran } }
 
 pub loop-turn-preserved : goal.loop-turn-preserved
 loop-turn-preserved g c = record {
