@@ -139,7 +139,7 @@ impl<V: Volume> Device<V> {
     /// The acts of an event come to the device, and the event ends, before which so many tracks waited.
     pub(crate) fn close_event<P: Port, K: Keep<TrackImage>>(&mut self, before: u16, port: &mut P)
         requires room { ActRoom (weight self.old.store.loose) self.old.past }
-        ensures fixed { (self.new.store.number ≡ self.old.store.number) × (self.new.store.cylinders ≡ self.old.store.cylinders) }
+        ensures fixed { (self.new.store.number ≡ self.old.store.number) × (self.new.store.cylinders ≡ self.old.store.cylinders) × (self.new.store.geometry ≡ self.old.store.geometry) }
         ensures rest { state_of self.new.store ≡ record (state_of self.old.store) { owed = self.new.store.owed } }
         ensures run { (k : K) → Ran surely (Heard K.hears K.takes) (ended contents before (state_of self.old.store))
             (outside (P.view port.old) self.old.store k) (state_of self.new.store) tt (outside (P.view port.new) self.new.store k) }

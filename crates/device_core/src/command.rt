@@ -35,11 +35,11 @@ pub(crate) fn on_tracks<V: Volume, P: Port, K: Keep<TrackImage>>(
     keep: &mut K,
 ) -> Result<Came, NoMemory>
     requires track { t < store.old.cylinders * 15 }
-    requires takes { Takes K.takes keep.old store.old.number (store.old.cylinders * 15) }
+    requires takes { Takes K.takes keep.old store.old.number store.old.geometry (store.old.cylinders * 15) }
     requires at { IsAt store.old.cylinders running.old.chain }
     requires none { store.old.half ≡ None }
-    ensures fixed { (store.new.number ≡ store.old.number) × (store.new.cylinders ≡ store.old.cylinders) }
-    ensures takes { Takes K.takes keep.new store.new.number (store.new.cylinders * 15) }
+    ensures fixed { (store.new.number ≡ store.old.number) × (store.new.cylinders ≡ store.old.cylinders) × (store.new.geometry ≡ store.old.geometry) }
+    ensures takes { Takes K.takes keep.new store.new.number store.new.geometry (store.new.cylinders * 15) }
     ensures open { (open_of running.new ≡ open_of running.old) × (running.new.ends ≡ running.old.ends) }
     ensures acts { (running.new.acts ≡ running.old.acts) × (running.new.room ≡ running.old.room) }
     ensures left { IfOk result (Left store.old.cylinders running.new.chain) }

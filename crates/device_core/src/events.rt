@@ -28,9 +28,9 @@ impl<V: Volume> Device<V> {
         keep: &mut K,
     ) -> Result<Did, NoMemory>
         requires whole { is_some (device_of self.old).store.half ≡ false }
-        requires takes { Takes K.takes keep.old self.old.store.number (self.old.store.cylinders * 15) }
-        ensures fixed { (self.new.store.number ≡ self.old.store.number) × (self.new.store.cylinders ≡ self.old.store.cylinders) }
-        ensures takes { Takes K.takes keep.new self.new.store.number (self.new.store.cylinders * 15) }
+        requires takes { Takes K.takes keep.old self.old.store.number self.old.store.geometry (self.old.store.cylinders * 15) }
+        ensures fixed { (self.new.store.number ≡ self.old.store.number) × (self.new.store.cylinders ≡ self.old.store.cylinders) × (self.new.store.geometry ≡ self.old.store.geometry) }
+        ensures takes { Takes K.takes keep.new self.new.store.number self.new.store.geometry (self.new.store.cylinders * 15) }
         ensures run { Ran (where_ok result) (Heard K.hears K.takes) (background contents (device_of self.old))
             (outside (P.view port.old) self.old.store keep.old) (device_of self.new) (had (λ did. did) result)
             (outside (P.view port.new) self.new.store keep.new) }
@@ -48,7 +48,7 @@ impl<V: Volume> Device<V> {
     /// The same, with a keeper that keeps nothing.
     pub fn background<P: Port>(&mut self, port: &mut P) -> Result<Did, NoMemory>
         requires whole { is_some (device_of self.old).store.half ≡ false }
-        ensures fixed { (self.new.store.number ≡ self.old.store.number) × (self.new.store.cylinders ≡ self.old.store.cylinders) }
+        ensures fixed { (self.new.store.number ≡ self.old.store.number) × (self.new.store.cylinders ≡ self.old.store.cylinders) × (self.new.store.geometry ≡ self.old.store.geometry) }
         ensures run { (k : NoKeep) → Ran (where_ok result) (λ _ m r _. r ≡ reply m) (background contents (device_of self.old))
             (outside (P.view port.old) self.old.store k) (device_of self.new) (had (λ did. did) result) (outside (P.view port.new) self.new.store k) }
         ensures paths { KeepsPaths (device_of self.old) (device_of self.new) }
@@ -66,9 +66,9 @@ impl<V: Volume> Device<V> {
         keep: &mut K,
     ) -> Result<Peeked, NoMemory>
         requires track { t < self.old.store.cylinders * 15 }
-        requires takes { Takes K.takes keep.old self.old.store.number (self.old.store.cylinders * 15) }
-        ensures fixed { (self.new.store.number ≡ self.old.store.number) × (self.new.store.cylinders ≡ self.old.store.cylinders) }
-        ensures takes { Takes K.takes keep.new self.new.store.number (self.new.store.cylinders * 15) }
+        requires takes { Takes K.takes keep.old self.old.store.number self.old.store.geometry (self.old.store.cylinders * 15) }
+        ensures fixed { (self.new.store.number ≡ self.old.store.number) × (self.new.store.cylinders ≡ self.old.store.cylinders) × (self.new.store.geometry ≡ self.old.store.geometry) }
+        ensures takes { Takes K.takes keep.new self.new.store.number self.new.store.geometry (self.new.store.cylinders * 15) }
         ensures there { IfOk result (IsPeeked (state_of self.new.store) t) }
         ensures run { Ran (where_ok result) (Heard K.hears K.takes) (peek contents (device_of self.old) t) (outside (P.view port.old) self.old.store keep.old)
             (device_of self.new) (had (peeked_by (state_of self.new.store) t) result) (outside (P.view port.new) self.new.store keep.new) }
@@ -85,7 +85,7 @@ impl<V: Volume> Device<V> {
     /// The same, with a keeper that keeps nothing.
     pub fn peek<P: Port>(&mut self, t: TrackNo, port: &mut P) -> Result<Peeked, NoMemory>
         requires { t < self.old.store.cylinders * 15 }
-        ensures fixed { (self.new.store.number ≡ self.old.store.number) × (self.new.store.cylinders ≡ self.old.store.cylinders) }
+        ensures fixed { (self.new.store.number ≡ self.old.store.number) × (self.new.store.cylinders ≡ self.old.store.cylinders) × (self.new.store.geometry ≡ self.old.store.geometry) }
         ensures there { IfOk result (IsPeeked (state_of self.new.store) t) }
         ensures run { (k : NoKeep) → Ran (where_ok result) (λ _ m r _. r ≡ reply m) (peek contents (device_of self.old) t)
             (outside (P.view port.old) self.old.store k) (device_of self.new) (had (peeked_by (state_of self.new.store) t) result)

@@ -109,7 +109,7 @@ impl<V: Volume> Device<V> {
         port: &mut P,
     ) -> Option<V>
         requires { (device_of self.old).store.paired ≡ false }
-        ensures fixed { (self.new.store.number ≡ self.old.store.number) × (self.new.store.cylinders ≡ self.old.store.cylinders) }
+        ensures fixed { (self.new.store.number ≡ self.old.store.number) × (self.new.store.cylinders ≡ self.old.store.cylinders) × (self.new.store.geometry ≡ self.old.store.geometry) }
         ensures a { on_a self.new.store ≡ None }
         ensures b { on_b self.new.store ≡ None }
         ensures back { result ≡ on_a self.old.store }
@@ -126,7 +126,7 @@ impl<V: Volume> Device<V> {
     /// The same, with a keeper that keeps nothing.
     pub fn lend<P: Port>(&mut self, to: DeviceNo, port: &mut P) -> Option<V>
         requires { (device_of self.old).store.paired ≡ false }
-        ensures fixed { (self.new.store.number ≡ self.old.store.number) × (self.new.store.cylinders ≡ self.old.store.cylinders) }
+        ensures fixed { (self.new.store.number ≡ self.old.store.number) × (self.new.store.cylinders ≡ self.old.store.cylinders) × (self.new.store.geometry ≡ self.old.store.geometry) }
         ensures a { on_a self.new.store ≡ None }
         ensures b { on_b self.new.store ≡ None }
         ensures back { result ≡ on_a self.old.store }

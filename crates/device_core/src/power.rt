@@ -74,9 +74,9 @@ impl<V: Volume> Device<V> {
     /// The loss of power. Takes no memory. The device takes no notes. An open half write ends; that of a command counts as done, and
     /// the keeper is told of its edit.
     pub fn power_with<P: Port, K: Keep<TrackImage>>(&mut self, port: &mut P, keep: &mut K)
-        requires takes { Takes K.takes keep.old self.old.store.number (self.old.store.cylinders * 15) }
-        ensures fixed { (self.new.store.number ≡ self.old.store.number) × (self.new.store.cylinders ≡ self.old.store.cylinders) }
-        ensures takes { Takes K.takes keep.new self.new.store.number (self.new.store.cylinders * 15) }
+        requires takes { Takes K.takes keep.old self.old.store.number self.old.store.geometry (self.old.store.cylinders * 15) }
+        ensures fixed { (self.new.store.number ≡ self.old.store.number) × (self.new.store.cylinders ≡ self.old.store.cylinders) × (self.new.store.geometry ≡ self.old.store.geometry) }
+        ensures takes { Takes K.takes keep.new self.new.store.number self.new.store.geometry (self.new.store.cylinders * 15) }
         ensures run { Ran surely (Heard K.hears K.takes) (power contents (device_of self.old)) (outside (P.view port.old) self.old.store keep.old)
             (device_of self.new) tt (outside (P.view port.new) self.new.store keep.new) }
         ensures transfers { MovesNothing (device_of self.old) (device_of self.new) }
@@ -93,7 +93,7 @@ impl<V: Volume> Device<V> {
 
     /// The same, with a keeper that keeps nothing.
     pub fn power<P: Port>(&mut self, port: &mut P)
-        ensures fixed { (self.new.store.number ≡ self.old.store.number) × (self.new.store.cylinders ≡ self.old.store.cylinders) }
+        ensures fixed { (self.new.store.number ≡ self.old.store.number) × (self.new.store.cylinders ≡ self.old.store.cylinders) × (self.new.store.geometry ≡ self.old.store.geometry) }
         ensures run { (k : NoKeep) → Ran surely (λ _ m r _. r ≡ reply m) (power contents (device_of self.old))
             (outside (P.view port.old) self.old.store k) (device_of self.new) tt (outside (P.view port.new) self.new.store k) }
         ensures transfers { MovesNothing (device_of self.old) (device_of self.new) }

@@ -120,10 +120,10 @@ impl<V: Volume> Device<V> {
     /// Its path's reset cuts the program that runs. An open half write of its command counts as done.
     fn cut_program<K: Keep<TrackImage>>(&mut self, path: PathNo, keep: &mut K)
         requires runs { is_path_of (history_of self.old.past).running path ≡ true }
-        requires takes { Takes K.takes keep.old self.old.store.number (self.old.store.cylinders * 15) }
-        ensures fixed { (self.new.store.number ≡ self.old.store.number) × (self.new.store.cylinders ≡ self.old.store.cylinders) }
+        requires takes { Takes K.takes keep.old self.old.store.number self.old.store.geometry (self.old.store.cylinders * 15) }
+        ensures fixed { (self.new.store.number ≡ self.old.store.number) × (self.new.store.cylinders ≡ self.old.store.cylinders) × (self.new.store.geometry ≡ self.old.store.geometry) }
         ensures volume { self.new.store.pair.volumes ≡ self.old.store.pair.volumes }
-        ensures takes { Takes K.takes keep.new self.new.store.number (self.new.store.cylinders * 15) }
+        ensures takes { Takes K.takes keep.new self.new.store.number self.new.store.geometry (self.new.store.cylinders * 15) }
         ensures run { (p : PortView) → Ran surely (Heard K.hears K.takes) (reset contents (device_of self.old) path) (outside p self.old.store keep.old)
             (device_of self.new) tt (outside p self.new.store keep.new) }
     {
@@ -135,13 +135,13 @@ impl<V: Volume> Device<V> {
     /// A path is reset: a program that it runs is cut, and where another path's runs, the reset waits for its end. Of a path that used
     /// nothing since its last reset it is none. Takes no memory. The keeper is told of an edit that takes effect.
     pub fn reset_with<K: Keep<TrackImage>>(&mut self, path: PathNo, keep: &mut K)
-        requires takes { Takes K.takes keep.old self.old.store.number (self.old.store.cylinders * 15) }
-        ensures fixed { (self.new.store.number ≡ self.old.store.number) × (self.new.store.cylinders ≡ self.old.store.cylinders) }
+        requires takes { Takes K.takes keep.old self.old.store.number self.old.store.geometry (self.old.store.cylinders * 15) }
+        ensures fixed { (self.new.store.number ≡ self.old.store.number) × (self.new.store.cylinders ≡ self.old.store.cylinders) × (self.new.store.geometry ≡ self.old.store.geometry) }
         ensures volume { self.new.store.pair.volumes ≡ self.old.store.pair.volumes }
         ensures run { (p : PortView) → Ran surely (Heard K.hears K.takes) (reset contents (device_of self.old) path) (outside p self.old.store keep.old)
             (device_of self.new) tt (outside p self.new.store keep.new) }
         ensures transfers { MovesNothing (device_of self.old) (device_of self.new) }
-        ensures takes { Takes K.takes keep.new self.new.store.number (self.new.store.cylinders * 15) }
+        ensures takes { Takes K.takes keep.new self.new.store.number self.new.store.geometry (self.new.store.cylinders * 15) }
     {
         if self.past.runs_on(path) {
             self.cut_program(path, keep);
@@ -155,7 +155,7 @@ impl<V: Volume> Device<V> {
 
     /// The same, with a keeper that keeps nothing.
     pub fn reset(&mut self, path: PathNo)
-        ensures fixed { (self.new.store.number ≡ self.old.store.number) × (self.new.store.cylinders ≡ self.old.store.cylinders) }
+        ensures fixed { (self.new.store.number ≡ self.old.store.number) × (self.new.store.cylinders ≡ self.old.store.cylinders) × (self.new.store.geometry ≡ self.old.store.geometry) }
         ensures volume { self.new.store.pair.volumes ≡ self.old.store.pair.volumes }
         ensures run { (p : PortView) (k : NoKeep) → Ran surely (λ _ m r _. r ≡ reply m) (reset contents (device_of self.old) path)
             (outside p self.old.store k) (device_of self.new) tt (outside p self.new.store k) }

@@ -78,9 +78,9 @@ impl<V: Volume> Device<V> {
         requires fresh { self.old.store.loose.acts ≡ [] }
         requires whole { self.old.store.half ≡ None }
         requires room { ActRoom (weight self.old.store.loose + 2) self.old.past }
-        requires takes { Takes K.takes keep.old self.old.store.number (self.old.store.cylinders * 15) }
-        ensures fixed { (self.new.store.number ≡ self.old.store.number) × (self.new.store.cylinders ≡ self.old.store.cylinders) }
-        ensures takes { Takes K.takes keep.new self.new.store.number (self.new.store.cylinders * 15) }
+        requires takes { Takes K.takes keep.old self.old.store.number self.old.store.geometry (self.old.store.cylinders * 15) }
+        ensures fixed { (self.new.store.number ≡ self.old.store.number) × (self.new.store.cylinders ≡ self.old.store.cylinders) × (self.new.store.geometry ≡ self.old.store.geometry) }
+        ensures takes { Takes K.takes keep.new self.new.store.number self.new.store.geometry (self.new.store.cylinders * 15) }
         ensures half { IfOk result (λ step. is_some self.new.store.half ≡ is_half_step step) }
         ensures same { OnErr result (self.new.store.half ≡ None) }
         ensures run { Ran (where_ok result) (Heard K.hears K.takes)
@@ -116,9 +116,9 @@ impl<V: Volume> Device<V> {
         requires ends { IfSome self.old.past.running (λ r. HasEndRoom r.ends) }
         requires room { ActRoom (loose_count self.old.store.loose.loose + 2) self.old.past }
         requires whole { self.old.store.half ≡ None }
-        requires takes { Takes K.takes keep.old self.old.store.number (self.old.store.cylinders * 15) }
-        ensures fixed { (self.new.store.number ≡ self.old.store.number) × (self.new.store.cylinders ≡ self.old.store.cylinders) }
-        ensures takes { Takes K.takes keep.new self.new.store.number (self.new.store.cylinders * 15) }
+        requires takes { Takes K.takes keep.old self.old.store.number self.old.store.geometry (self.old.store.cylinders * 15) }
+        ensures fixed { (self.new.store.number ≡ self.old.store.number) × (self.new.store.cylinders ≡ self.old.store.cylinders) × (self.new.store.geometry ≡ self.old.store.geometry) }
+        ensures takes { Takes K.takes keep.new self.new.store.number self.new.store.geometry (self.new.store.cylinders * 15) }
         ensures half { IfOk result (λ step. is_some self.new.store.half ≡ is_half_step step) }
         ensures same { OnErr result (self.new.store.half ≡ None) }
         ensures run { Ran (where_ok result) (Heard K.hears K.takes) (event contents (device_of self.old) (λ z. command_by contents z z.history.running z.chain))
@@ -142,9 +142,9 @@ impl<V: Volume> Device<V> {
     ) -> Result<Stepped, NoMemory>
         requires running { IsSome self.old.past.running }
         requires whole { is_some (device_of self.old).store.half ≡ false }
-        requires takes { Takes K.takes keep.old self.old.store.number (self.old.store.cylinders * 15) }
-        ensures fixed { (self.new.store.number ≡ self.old.store.number) × (self.new.store.cylinders ≡ self.old.store.cylinders) }
-        ensures takes { Takes K.takes keep.new self.new.store.number (self.new.store.cylinders * 15) }
+        requires takes { Takes K.takes keep.old self.old.store.number self.old.store.geometry (self.old.store.cylinders * 15) }
+        ensures fixed { (self.new.store.number ≡ self.old.store.number) × (self.new.store.cylinders ≡ self.old.store.cylinders) × (self.new.store.geometry ≡ self.old.store.geometry) }
+        ensures takes { Takes K.takes keep.new self.new.store.number self.new.store.geometry (self.new.store.cylinders * 15) }
         ensures half { IfOk result (λ step. is_some (device_of self.new).store.half ≡ is_half_step step) }
         ensures same { OnErr result (is_some (device_of self.new).store.half ≡ false) }
         ensures run { Ran (where_ok result) (Heard K.hears K.takes) (command contents (device_of self.old)) (outside (P.view port.old) self.old.store keep.old)
@@ -168,7 +168,7 @@ impl<V: Volume> Device<V> {
     pub fn command<P: Port>(&mut self, port: &mut P) -> Result<Stepped, NoMemory>
         requires running { IsSome self.old.past.running }
         requires whole { is_some (device_of self.old).store.half ≡ false }
-        ensures fixed { (self.new.store.number ≡ self.old.store.number) × (self.new.store.cylinders ≡ self.old.store.cylinders) }
+        ensures fixed { (self.new.store.number ≡ self.old.store.number) × (self.new.store.cylinders ≡ self.old.store.cylinders) × (self.new.store.geometry ≡ self.old.store.geometry) }
         ensures half { IfOk result (λ step. is_some (device_of self.new).store.half ≡ is_half_step step) }
         ensures same { OnErr result (is_some (device_of self.new).store.half ≡ false) }
         ensures run { (k : NoKeep) → Ran (where_ok result) (λ _ m r _. r ≡ reply m) (command contents (device_of self.old))

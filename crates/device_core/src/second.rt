@@ -61,9 +61,9 @@ impl<V: Volume> Device<V> {
     ) -> SecondStep
         requires open { is_some self.old.store.half ≡ true }
         requires room { ActRoom (weight self.old.store.loose) self.old.past }
-        requires takes { Takes K.takes keep.old self.old.store.number (self.old.store.cylinders * 15) }
-        ensures fixed { (self.new.store.number ≡ self.old.store.number) × (self.new.store.cylinders ≡ self.old.store.cylinders) }
-        ensures takes { Takes K.takes keep.new self.new.store.number (self.new.store.cylinders * 15) }
+        requires takes { Takes K.takes keep.old self.old.store.number self.old.store.geometry (self.old.store.cylinders * 15) }
+        ensures fixed { (self.new.store.number ≡ self.old.store.number) × (self.new.store.cylinders ≡ self.old.store.cylinders) × (self.new.store.geometry ≡ self.old.store.geometry) }
+        ensures takes { Takes K.takes keep.new self.new.store.number self.new.store.geometry (self.new.store.cylinders * 15) }
         ensures whole { self.new.store.half ≡ None }
         ensures seen { IsSome (second_seen self.new.past result) }
         ensures run { (e : SecondEnd) → second_seen self.new.past result ≡ Some e
@@ -88,9 +88,9 @@ impl<V: Volume> Device<V> {
     ) -> SecondStep
         requires room { ActRoom (weight self.old.store.loose) self.old.past }
         requires fresh { self.old.store.loose.acts ≡ [] }
-        requires takes { Takes K.takes keep.old self.old.store.number (self.old.store.cylinders * 15) }
-        ensures fixed { (self.new.store.number ≡ self.old.store.number) × (self.new.store.cylinders ≡ self.old.store.cylinders) }
-        ensures takes { Takes K.takes keep.new self.new.store.number (self.new.store.cylinders * 15) }
+        requires takes { Takes K.takes keep.old self.old.store.number self.old.store.geometry (self.old.store.cylinders * 15) }
+        ensures fixed { (self.new.store.number ≡ self.old.store.number) × (self.new.store.cylinders ≡ self.old.store.cylinders) × (self.new.store.geometry ≡ self.old.store.geometry) }
+        ensures takes { Takes K.takes keep.new self.new.store.number self.new.store.geometry (self.new.store.cylinders * 15) }
         ensures whole { self.new.store.half ≡ None }
         ensures seen { IsSome (second_seen self.new.past result) }
         ensures run { (e : SecondEnd) → second_seen self.new.past result ≡ Some e
@@ -110,9 +110,9 @@ impl<V: Volume> Device<V> {
         port: &mut P,
         keep: &mut K,
     ) -> SecondStep
-        requires takes { Takes K.takes keep.old self.old.store.number (self.old.store.cylinders * 15) }
-        ensures fixed { (self.new.store.number ≡ self.old.store.number) × (self.new.store.cylinders ≡ self.old.store.cylinders) }
-        ensures takes { Takes K.takes keep.new self.new.store.number (self.new.store.cylinders * 15) }
+        requires takes { Takes K.takes keep.old self.old.store.number self.old.store.geometry (self.old.store.cylinders * 15) }
+        ensures fixed { (self.new.store.number ≡ self.old.store.number) × (self.new.store.cylinders ≡ self.old.store.cylinders) × (self.new.store.geometry ≡ self.old.store.geometry) }
+        ensures takes { Takes K.takes keep.new self.new.store.number self.new.store.geometry (self.new.store.cylinders * 15) }
         ensures whole { self.new.store.half ≡ None }
         ensures seen { IsSome (second_seen self.new.past result) }
         ensures run { (e : SecondEnd) → second_seen self.new.past result ≡ Some e
@@ -131,7 +131,7 @@ impl<V: Volume> Device<V> {
 
     /// The same, with a keeper that keeps nothing.
     pub fn second<P: Port>(&mut self, port: &mut P) -> SecondStep
-        ensures fixed { (self.new.store.number ≡ self.old.store.number) × (self.new.store.cylinders ≡ self.old.store.cylinders) }
+        ensures fixed { (self.new.store.number ≡ self.old.store.number) × (self.new.store.cylinders ≡ self.old.store.cylinders) × (self.new.store.geometry ≡ self.old.store.geometry) }
         ensures whole { self.new.store.half ≡ None }
         ensures seen { IsSome (second_seen self.new.past result) }
         ensures run { (k : NoKeep) (e : SecondEnd) → second_seen self.new.past result ≡ Some e

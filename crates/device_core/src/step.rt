@@ -37,10 +37,10 @@ fn on_running<V: Volume, P: Port, K: Keep<TrackImage>>(
 ) -> Result<Came, NoMemory>
     requires fresh { store.old.loose.acts ≡ [] }
     requires word { IsAtWord store.old.cylinders running.old.chain }
-    requires takes { Takes K.takes keep.old store.old.number (store.old.cylinders * 15) }
+    requires takes { Takes K.takes keep.old store.old.number store.old.geometry (store.old.cylinders * 15) }
     requires none { store.old.half ≡ None }
-    ensures fixed { (store.new.number ≡ store.old.number) × (store.new.cylinders ≡ store.old.cylinders) }
-    ensures takes { Takes K.takes keep.new store.new.number (store.new.cylinders * 15) }
+    ensures fixed { (store.new.number ≡ store.old.number) × (store.new.cylinders ≡ store.old.cylinders) × (store.new.geometry ≡ store.old.geometry) }
+    ensures takes { Takes K.takes keep.new store.new.number store.new.geometry (store.new.cylinders * 15) }
     ensures open { (open_of running.new ≡ open_of running.old) × (running.new.ends ≡ running.old.ends) }
     ensures acts { (running.new.acts ≡ running.old.acts) × (running.new.room ≡ running.old.room) }
     ensures left { IfOk result (Left store.old.cylinders running.new.chain) }
@@ -87,10 +87,10 @@ fn on_program<V: Volume, P: Port, K: Keep<TrackImage>>(
 ) -> Result<Came, NoMemory>
     requires fresh { store.old.loose.acts ≡ [] }
     requires word { IsAtWord store.old.cylinders running.old.chain }
-    requires takes { Takes K.takes keep.old store.old.number (store.old.cylinders * 15) }
+    requires takes { Takes K.takes keep.old store.old.number store.old.geometry (store.old.cylinders * 15) }
     requires none { store.old.half ≡ None }
-    ensures fixed { (store.new.number ≡ store.old.number) × (store.new.cylinders ≡ store.old.cylinders) }
-    ensures takes { Takes K.takes keep.new store.new.number (store.new.cylinders * 15) }
+    ensures fixed { (store.new.number ≡ store.old.number) × (store.new.cylinders ≡ store.old.cylinders) × (store.new.geometry ≡ store.old.geometry) }
+    ensures takes { Takes K.takes keep.new store.new.number store.new.geometry (store.new.cylinders * 15) }
     ensures open { (open_of running.new ≡ open_of running.old) × (running.new.ends ≡ running.old.ends) }
     ensures acts { (running.new.acts ≡ running.old.acts) × (running.new.room ≡ running.old.room) }
     ensures left { IfOk result (Left store.old.cylinders running.new.chain) }
@@ -121,10 +121,10 @@ pub(crate) fn on_past<V: Volume, P: Port, K: Keep<TrackImage>>(
     requires fresh { store.old.loose.acts ≡ [] }
     requires word { IfSome running.old (λ r. IsAtWord store.old.cylinders r.chain) }
     requires room { IfSome running.old (λ r. HasEndRoom r.ends) }
-    requires takes { Takes K.takes keep.old store.old.number (store.old.cylinders * 15) }
+    requires takes { Takes K.takes keep.old store.old.number store.old.geometry (store.old.cylinders * 15) }
     requires none { store.old.half ≡ None }
-    ensures fixed { (store.new.number ≡ store.old.number) × (store.new.cylinders ≡ store.old.cylinders) }
-    ensures takes { Takes K.takes keep.new store.new.number (store.new.cylinders * 15) }
+    ensures fixed { (store.new.number ≡ store.old.number) × (store.new.cylinders ≡ store.old.cylinders) × (store.new.geometry ≡ store.old.geometry) }
+    ensures takes { Takes K.takes keep.new store.new.number store.new.geometry (store.new.cylinders * 15) }
     ensures running { IsSome running.new }
     ensures room { IfSome running.new (λ r. HasEndRoom r.ends) }
     ensures open { option_map open_of running.new ≡ option_map open_of running.old }

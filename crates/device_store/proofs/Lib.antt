@@ -19,3 +19,4 @@ pub mod Seconds
 pub mod Orders
 pub mod Lending
 pub mod Copying
+pub mod Placed

@@ -18,6 +18,7 @@ use Rattle.device_store.specs.declared.store.Looked.{Looked}
 use Rattle.device_store.specs.declared.store.Looked.TheVariants as looks
 use Rattle.device_store.specs.declared.store.Peeked as answers
 use Rattle.device_store.specs.declared.store.Peeked.TheVariants as peeks
+use Rattle.device_store.specs.Images.{IsImageOf}
 
 abbrev pub StoreOf : Type 0
 StoreOf = Store Frame Stored Image
@@ -32,10 +33,14 @@ imaged s t (looks.Has i) = Has i
 imaged s t (looks.NoBytes fault) = NoBytes fault
 imaged s t (looks.BadTrack side) = BadTrack side
 
--- a track whose image is in its frame has one, and one that was read is of a volume that isn't lent
+-- an image that was read is the track's, of a volume that isn't lent
+abbrev pub IsRead : StoreOf → ℕ → Image → Type 0
+IsRead s t i = (is_some s.lent ≡ false) × IsImageOf s.geometry t i
+
+-- a track whose image is in its frame has one
 abbrev pub IsThere : StoreOf → ℕ → Looked → Type 0
 IsThere s t looks.Frame = is_some (frame_at s t) ≡ true
-IsThere s t (looks.Has i) = is_some s.lent ≡ false
+IsThere s t (looks.Has i) = IsRead s t i
 IsThere s t _ = Unit {0}
 
 -- the image of a track that was looked at: one that was read, or the one in its frame
@@ -44,7 +49,7 @@ seen s t (Some i) = i
 seen s t None = frame_in s t
 
 abbrev pub IsSeen : StoreOf → ℕ → Option Image → Type 0
-IsSeen s t (Some i) = is_some s.lent ≡ false
+IsSeen s t (Some i) = IsRead s t i
 IsSeen s t None = is_some (frame_at s t) ≡ true
 
 abbrev pub peeked_by : StoreOf → ℕ → answers.Peeked → Peeked

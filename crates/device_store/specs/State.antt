@@ -39,6 +39,7 @@ use Rattle.device_defs.specs.declared.answers.Took.TheVariants.{Opened}
 use Rattle.device_defs.specs.Marks.{no_counts}
 use Rattle.device_defs.specs.Store.{Store, has_level, new_side, no_side, no_debt}
 use Rattle.ckd_types.specs.declared.geometry.Geometry.{Geometry}
+use Rattle.ckd_types.specs.Track.{Fits}
 use Rattle.device_defs.specs.Writing.{Wrote, wrote}
 use Rattle.device_store.specs.declared.image.Given.{Given}
 use Rattle.device_store.specs.declared.through.Written.{Written}
@@ -46,6 +47,7 @@ use Rattle.device_store.specs.declared.store.DeviceStore.{DeviceStore}
 use Rattle.device_store.specs.declared.half.HalfWrite.{HalfWrite}
 use Rattle.device_store.specs.declared.half.Origin.{Origin}
 use Rattle.device_store.specs.declared.half.Origin.TheVariants as origins
+use Rattle.device_store.specs.Images.{IsImageOf}
 use Rattle.device_defs.specs.Store as definitions
 use Rattle.device_defs.specs.Store.{OfCommand, OfCut, OfBackground}
 use Rattle.duplex_pair.specs.declared.pair.DuplexPair.{DuplexPair}
@@ -127,9 +129,9 @@ outside {G = G} port s keeper = outside_of port G.view s.pair.volumes keeper
 abbrev pub surely : Bool → Type 0
 surely ok = ok ≡ true
 
--- a keeper may be told of all tracks of a device
-pub record Takes {K : Type 0} (takes : K → ℕ → ℕ → Image → Type 0) (keeper : K) (d n : ℕ) : Type 0 where
-  pub all : (t : ℕ) (i : Image) → t < n → takes keeper d t i
+-- a keeper may be told each image of a track of a device that fits there
+pub record Takes {K : Type 0} (takes : K → ℕ → ℕ → Image → Type 0) (keeper : K) (d : ℕ) (g : Geometry) (n : ℕ) : Type 0 where
+  pub all : (t : ℕ) (i : Image) → t < n → IsImageOf g t i → Fits i.geometry i.track → takes keeper d t i
 
 abbrev pub had : {A X E : Type 0} → (X → A) → Result X E → Option A
 had view (Ok x) = Some (view x)

@@ -42,12 +42,12 @@ impl<V: Volume> DeviceStore<V> {
         keep: &mut K,
     ) -> Did
         requires track { t < self.old.cylinders * 15 }
-        requires takes { Takes K.takes keep.old self.old.number (self.old.cylinders * 15) }
-        ensures fixed { (self.new.number ≡ self.old.number) × (self.new.cylinders ≡ self.old.cylinders) }
+        requires takes { Takes K.takes keep.old self.old.number self.old.geometry (self.old.cylinders * 15) }
+        ensures fixed { (self.new.number ≡ self.old.number) × (self.new.cylinders ≡ self.old.cylinders) × (self.new.geometry ≡ self.old.geometry) }
         ensures volume { self.new.pair.volumes ≡ self.old.pair.volumes }
         ensures half { self.new.half ≡ self.old.half }
         ensures weight { weight self.new.loose ≡ weight self.old.loose }
-        ensures takes { Takes K.takes keep.new self.new.number (self.new.cylinders * 15) }
+        ensures takes { Takes K.takes keep.new self.new.number self.new.geometry (self.new.cylinders * 15) }
         ensures run { (p : PortView) → Ran surely (Heard K.hears K.takes) (copied contents t side (state_of self.old) took) (outside p self.old keep.old)
             (state_of self.new) (Some result) (outside p self.new keep.new) }
     {
@@ -64,11 +64,11 @@ impl<V: Volume> DeviceStore<V> {
         requires track { t < self.old.cylinders * 15 }
         requires a { self.old.pair.a.up ≡ true }
         requires b { self.old.pair.b.up ≡ true }
-        requires takes { Takes K.takes keep.old self.old.number (self.old.cylinders * 15) }
-        ensures fixed { (self.new.number ≡ self.old.number) × (self.new.cylinders ≡ self.old.cylinders) }
+        requires takes { Takes K.takes keep.old self.old.number self.old.geometry (self.old.cylinders * 15) }
+        ensures fixed { (self.new.number ≡ self.old.number) × (self.new.cylinders ≡ self.old.cylinders) × (self.new.geometry ≡ self.old.geometry) }
         ensures half { self.new.half ≡ self.old.half }
         ensures weight { weight self.new.loose ≡ weight self.old.loose }
-        ensures takes { Takes K.takes keep.new self.new.number (self.new.cylinders * 15) }
+        ensures takes { Takes K.takes keep.new self.new.number self.new.geometry (self.new.cylinders * 15) }
         ensures run { (p : PortView) → Ran surely (Heard K.hears K.takes) (copy_by contents (state_of self.old) t (Some side)) (outside p self.old keep.old)
             (state_of self.new) (Some result) (outside p self.new keep.new) }
     {
@@ -91,11 +91,11 @@ impl<V: Volume> DeviceStore<V> {
     /// Copies a track that is to be copied.
     pub(crate) fn copy_one<K: Keep<TrackImage>>(&mut self, t: TrackNo, keep: &mut K) -> Did
         requires track { t < self.old.cylinders * 15 }
-        requires takes { Takes K.takes keep.old self.old.number (self.old.cylinders * 15) }
-        ensures fixed { (self.new.number ≡ self.old.number) × (self.new.cylinders ≡ self.old.cylinders) }
+        requires takes { Takes K.takes keep.old self.old.number self.old.geometry (self.old.cylinders * 15) }
+        ensures fixed { (self.new.number ≡ self.old.number) × (self.new.cylinders ≡ self.old.cylinders) × (self.new.geometry ≡ self.old.geometry) }
         ensures half { self.new.half ≡ self.old.half }
         ensures weight { weight self.new.loose ≡ weight self.old.loose }
-        ensures takes { Takes K.takes keep.new self.new.number (self.new.cylinders * 15) }
+        ensures takes { Takes K.takes keep.new self.new.number self.new.geometry (self.new.cylinders * 15) }
         ensures run { (p : PortView) → Ran surely (Heard K.hears K.takes) (copy_by contents (state_of self.old) t (copies_to (state_of self.old) t))
             (outside p self.old keep.old) (state_of self.new) (Some result) (outside p self.new keep.new) }
     {

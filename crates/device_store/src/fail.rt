@@ -26,7 +26,7 @@ fn is_written(writing: &Option<TrackNo>, t: TrackNo) -> bool
 impl<V: Volume> DeviceStore<V> {
     /// A side is down, and a held mark ends.
     fn down(&mut self, side: Side)
-        ensures fixed { (self.new.number ≡ self.old.number) × (self.new.cylinders ≡ self.old.cylinders) }
+        ensures fixed { (self.new.number ≡ self.old.number) × (self.new.cylinders ≡ self.old.cylinders) × (self.new.geometry ≡ self.old.geometry) }
         ensures volume { self.new.pair.volumes ≡ self.old.pair.volumes }
         ensures half { self.new.half ≡ self.old.half }
         ensures loose { self.new.loose ≡ self.old.loose }
@@ -44,13 +44,13 @@ impl<V: Volume> DeviceStore<V> {
         keep: &mut K,
     )
         requires track { t < self.old.cylinders * 15 }
-        requires takes { Takes K.takes keep.old self.old.number (self.old.cylinders * 15) }
-        ensures fixed { (self.new.number ≡ self.old.number) × (self.new.cylinders ≡ self.old.cylinders) }
+        requires takes { Takes K.takes keep.old self.old.number self.old.geometry (self.old.cylinders * 15) }
+        ensures fixed { (self.new.number ≡ self.old.number) × (self.new.cylinders ≡ self.old.cylinders) × (self.new.geometry ≡ self.old.geometry) }
         ensures volume { self.new.pair ≡ self.old.pair }
         ensures half { self.new.half ≡ self.old.half }
         ensures weight { weight self.new.loose ≡ weight self.old.loose }
         ensures firm { StaysFirm self.old.loose.loose self.new.loose.loose }
-        ensures takes { Takes K.takes keep.new self.new.number (self.new.cylinders * 15) }
+        ensures takes { Takes K.takes keep.new self.new.number self.new.geometry (self.new.cylinders * 15) }
         ensures run { (p : PortView) → Ran surely (Heard K.hears K.takes) (firm_told contents t (settled_but contents writing.now t (state_of self.old)))
             (outside p self.old keep.old) (state_of self.new) tt (outside p self.new keep.new) }
     {
@@ -63,13 +63,13 @@ impl<V: Volume> DeviceStore<V> {
 
     /// Each track that is level on no side is settled. The keeper is told of those that become firm.
     fn settle_all<K: Keep<TrackImage>>(&mut self, writing: &Option<TrackNo>, keep: &mut K)
-        requires takes { Takes K.takes keep.old self.old.number (self.old.cylinders * 15) }
-        ensures fixed { (self.new.number ≡ self.old.number) × (self.new.cylinders ≡ self.old.cylinders) }
+        requires takes { Takes K.takes keep.old self.old.number self.old.geometry (self.old.cylinders * 15) }
+        ensures fixed { (self.new.number ≡ self.old.number) × (self.new.cylinders ≡ self.old.cylinders) × (self.new.geometry ≡ self.old.geometry) }
         ensures volume { self.new.pair ≡ self.old.pair }
         ensures half { self.new.half ≡ self.old.half }
         ensures weight { weight self.new.loose ≡ weight self.old.loose }
         ensures firm { StaysFirm self.old.loose.loose self.new.loose.loose }
-        ensures takes { Takes K.takes keep.new self.new.number (self.new.cylinders * 15) }
+        ensures takes { Takes K.takes keep.new self.new.number self.new.geometry (self.new.cylinders * 15) }
         ensures run { (p : PortView) → Ran surely (Heard K.hears K.takes)
             (all_firm_told contents (self.old.cylinders * 15) (over (self.old.cylinders * 15) (settled_but contents writing.now) (state_of self.old)))
             (outside p self.old keep.old) (state_of self.new) tt (outside p self.new keep.new) }
@@ -87,14 +87,14 @@ impl<V: Volume> DeviceStore<V> {
         writing: Option<TrackNo>,
         keep: &mut K,
     )
-        requires takes { Takes K.takes keep.old self.old.number (self.old.cylinders * 15) }
-        ensures fixed { (self.new.number ≡ self.old.number) × (self.new.cylinders ≡ self.old.cylinders) }
+        requires takes { Takes K.takes keep.old self.old.number self.old.geometry (self.old.cylinders * 15) }
+        ensures fixed { (self.new.number ≡ self.old.number) × (self.new.cylinders ≡ self.old.cylinders) × (self.new.geometry ≡ self.old.geometry) }
         ensures volume { self.new.pair.volumes ≡ self.old.pair.volumes }
         ensures half { self.new.half ≡ self.old.half }
         ensures up_b { side ≡ sides.A → self.new.pair.b.up ≡ self.old.pair.b.up }
         ensures weight { weight self.new.loose ≡ weight self.old.loose }
         ensures firm { StaysFirm self.old.loose.loose self.new.loose.loose }
-        ensures takes { Takes K.takes keep.new self.new.number (self.new.cylinders * 15) }
+        ensures takes { Takes K.takes keep.new self.new.number self.new.geometry (self.new.cylinders * 15) }
         ensures run { (p : PortView) → Ran surely (Heard K.hears K.takes)
             (all_firm_told contents (self.old.cylinders * 15) (side_lost contents (state_of self.old) side writing)) (outside p self.old keep.old)
             (state_of self.new) tt (outside p self.new keep.new) }
@@ -110,14 +110,14 @@ impl<V: Volume> DeviceStore<V> {
         writing: Option<TrackNo>,
         keep: &mut K,
     )
-        requires takes { Takes K.takes keep.old self.old.number (self.old.cylinders * 15) }
-        ensures fixed { (self.new.number ≡ self.old.number) × (self.new.cylinders ≡ self.old.cylinders) }
+        requires takes { Takes K.takes keep.old self.old.number self.old.geometry (self.old.cylinders * 15) }
+        ensures fixed { (self.new.number ≡ self.old.number) × (self.new.cylinders ≡ self.old.cylinders) × (self.new.geometry ≡ self.old.geometry) }
         ensures volume { self.new.pair.volumes ≡ self.old.pair.volumes }
         ensures half { self.new.half ≡ self.old.half }
         ensures up_b { side ≡ sides.A → self.new.pair.b.up ≡ self.old.pair.b.up }
         ensures weight { weight self.new.loose ≡ weight self.old.loose }
         ensures firm { StaysFirm self.old.loose.loose self.new.loose.loose }
-        ensures takes { Takes K.takes keep.new self.new.number (self.new.cylinders * 15) }
+        ensures takes { Takes K.takes keep.new self.new.number self.new.geometry (self.new.cylinders * 15) }
         ensures run { (p : PortView) → Ran surely (Heard K.hears K.takes) (call_failed contents (state_of self.old) side writing) (outside p self.old keep.old)
             (state_of self.new) tt (outside p self.new keep.new) }
     {

@@ -15,8 +15,10 @@ ghost use Rattle.nv_store.specs.Patches.{stored_at};
 ghost use Rattle.nv_store.specs.Room.{room_for};
 ghost use Rattle.track_cache.specs.Frames as framed;
 ghost use Rattle.track_cache.specs.Frames.{HasFrameRoom, SuitsFrame};
-ghost use Rattle.track_image.specs.Image.{edited_image, Image};
+ghost use Rattle.track_cache.specs.declared.frames.Frame.{Frame};
+ghost use Rattle.track_image.specs.Image.{edited_image};
 ghost use Rattle.ckd_types.specs.declared.record.Edit.{Edit};
+ghost use Rattle.ckd_types.specs.Track.{Fits};
 ghost use Rattle.device_store.specs.Chosen.{FitsSlot};
 ghost use Rattle.device_store.specs.Looks.{frame_in, StoreOf};
 ghost use Rattle.device_store.specs.State.{is_opened, state_of, outside, surely, Takes, had};
@@ -61,7 +63,8 @@ fn edit_firm<K: Keep<TrackImage>>(
     requires there { is_some (framed.frame_at frames.old t) ≡ true }
     requires suits { SuitsFrame edit (framed.frame_at frames.old t) }
     requires room { HasFrameRoom edit (framed.frame_at frames.old t) records.old }
-    requires takes { (i : Image) → K.takes keep.old d t i }
+    requires takes { (f : Frame) → framed.frame_at frames.old t ≡ Some f → Fits f.image.geometry (edited_image edit f.image).track
+        → K.takes keep.old d t (edited_image edit f.image) }
     ensures frames { (s : StoreOf) → s.frames ≡ frames.old → frames.new
         ≡ slice_set frames.old t (Some (record { image = edited_image edit (frame_in s t); modified = true })) }
     ensures told { (s : StoreOf) → s.frames ≡ frames.old → Heard K.hears K.takes keep.old (Firm d t (edited_image edit (frame_in s t))) tt keep.new }
@@ -71,6 +74,7 @@ fn edit_firm<K: Keep<TrackImage>>(
     };
     let mut image = frame.image;
     edit_within(&mut image, edit, records);
+    image.fits();
     keep.firm(d, t, &image);
     let modified = true;
     frames.set(t, Some(Frame { image, modified }));
@@ -79,7 +83,7 @@ fn edit_firm<K: Keep<TrackImage>>(
 impl<V: Volume> DeviceStore<V> {
     /// Makes all room that an edit in place needs, and a copy of it for the frame.
     fn room_framed(&mut self, usage: &Usage, t: TrackNo, edit: &Edit) -> Result<Edit, NoMemory>
-        ensures fixed { (self.new.number ≡ self.old.number) × (self.new.cylinders ≡ self.old.cylinders) }
+        ensures fixed { (self.new.number ≡ self.old.number) × (self.new.cylinders ≡ self.old.cylinders) × (self.new.geometry ≡ self.old.geometry) }
         ensures half { self.new.half ≡ self.old.half }
         ensures volume { self.new.pair.volumes ≡ self.old.pair.volumes }
         ensures weight { weight self.new.loose ≡ weight self.old.loose }
@@ -110,10 +114,10 @@ impl<V: Volume> DeviceStore<V> {
         requires suits { SuitsFrame edit (framed.frame_at self.old.frames t) }
         requires patch { room_for (stored_at self.old.patches t) ≤ self.old.edits }
         requires frame { HasFrameRoom edit (framed.frame_at self.old.frames t) self.old.records }
-        requires takes { Takes K.takes keep.old self.old.number (self.old.cylinders * 15) }
-        ensures fixed { (self.new.number ≡ self.old.number) × (self.new.cylinders ≡ self.old.cylinders) }
+        requires takes { Takes K.takes keep.old self.old.number self.old.geometry (self.old.cylinders * 15) }
+        ensures fixed { (self.new.number ≡ self.old.number) × (self.new.cylinders ≡ self.old.cylinders) × (self.new.geometry ≡ self.old.geometry) }
         ensures half { self.new.half ≡ self.old.half }
-        ensures takes { Takes K.takes keep.new self.new.number (self.new.cylinders * 15) }
+        ensures takes { Takes K.takes keep.new self.new.number self.new.geometry (self.new.cylinders * 15) }
         ensures loose { self.new.loose ≡ self.old.loose }
         ensures run { (u : Usage) (first : ℕ) (p : PortView)
             → Ran surely (Heard K.hears K.takes) (write_by contents u first t (edited_image edit (frame_in (state_of self.old) t)) edit (state_of self.old)
@@ -138,7 +142,7 @@ impl<V: Volume> DeviceStore<V> {
         requires suits { SuitsFrame edit (framed.frame_at self.old.frames t) }
         requires frame { HasFrameRoom edit (framed.frame_at self.old.frames t) self.old.records }
         requires room { loose_count self.old.loose.loose + 2 ≤ self.old.loose.spare }
-        ensures fixed { (self.new.number ≡ self.old.number) × (self.new.cylinders ≡ self.old.cylinders) }
+        ensures fixed { (self.new.number ≡ self.old.number) × (self.new.cylinders ≡ self.old.cylinders) × (self.new.geometry ≡ self.old.geometry) }
         ensures half { self.new.half ≡ self.old.half }
         ensures volume { self.new.pair.volumes ≡ self.old.pair.volumes }
         ensures weight { weight self.new.loose ≤ weight self.old.loose + 2 }
@@ -170,11 +174,11 @@ impl<V: Volume> DeviceStore<V> {
         requires suits { SuitsFrame edit (framed.frame_at self.old.frames t) }
         requires patch { room_for (stored_at self.old.patches t) ≤ self.old.edits }
         requires frame { HasFrameRoom edit (framed.frame_at self.old.frames t) self.old.records }
-        requires takes { Takes K.takes keep.old self.old.number (self.old.cylinders * 15) }
-        ensures fixed { (self.new.number ≡ self.old.number) × (self.new.cylinders ≡ self.old.cylinders) }
+        requires takes { Takes K.takes keep.old self.old.number self.old.geometry (self.old.cylinders * 15) }
+        ensures fixed { (self.new.number ≡ self.old.number) × (self.new.cylinders ≡ self.old.cylinders) × (self.new.geometry ≡ self.old.geometry) }
         ensures half { IfOk result (λ took. is_some self.new.half ≡ is_opened took) }
         ensures same { OnErr result (self.new.half ≡ self.old.half) }
-        ensures takes { Takes K.takes keep.new self.new.number (self.new.cylinders * 15) }
+        ensures takes { Takes K.takes keep.new self.new.number self.new.geometry (self.new.cylinders * 15) }
         ensures loose { self.new.loose ≡ self.old.loose }
         ensures run { (u : Usage) (first : ℕ) → Ran (where_ok result) (Heard K.hears K.takes)
             (write_chosen contents u first t (frame_in (state_of self.old) t) edit (state_of self.old) (Fast slot))
@@ -206,11 +210,11 @@ impl<V: Volume> DeviceStore<V> {
         requires suits { SuitsFrame edit (framed.frame_at self.old.frames t) }
         requires frame { HasFrameRoom edit (framed.frame_at self.old.frames t) self.old.records }
         requires room { loose_count self.old.loose.loose + 2 ≤ self.old.loose.spare }
-        requires takes { Takes K.takes keep.old self.old.number (self.old.cylinders * 15) }
-        ensures fixed { (self.new.number ≡ self.old.number) × (self.new.cylinders ≡ self.old.cylinders) }
+        requires takes { Takes K.takes keep.old self.old.number self.old.geometry (self.old.cylinders * 15) }
+        ensures fixed { (self.new.number ≡ self.old.number) × (self.new.cylinders ≡ self.old.cylinders) × (self.new.geometry ≡ self.old.geometry) }
         ensures half { IfOk result (λ took. is_some self.new.half ≡ is_opened took) }
         ensures same { OnErr result (self.new.half ≡ self.old.half) }
-        ensures takes { Takes K.takes keep.new self.new.number (self.new.cylinders * 15) }
+        ensures takes { Takes K.takes keep.new self.new.number self.new.geometry (self.new.cylinders * 15) }
         ensures weight { weight self.new.loose ≤ weight self.old.loose + 2 }
         ensures run { (u : Usage) (first : ℕ) → Ran (where_ok result) (Heard K.hears K.takes)
             (write_chosen contents u first t (frame_in (state_of self.old) t) edit (state_of self.old) Provisional)
@@ -256,11 +260,11 @@ impl<V: Volume> DeviceStore<V> {
         requires image { image ≡ edited_image edit (frame_in (state_of self.old) t) }
         requires patch { room_for (stored_at self.old.patches t) ≤ self.old.edits }
         requires loose { usage.now.provisional ≡ true → loose_count self.old.loose.loose + 2 ≤ self.old.loose.spare }
-        requires takes { Takes K.takes keep.old self.old.number (self.old.cylinders * 15) }
-        ensures fixed { (self.new.number ≡ self.old.number) × (self.new.cylinders ≡ self.old.cylinders) }
+        requires takes { Takes K.takes keep.old self.old.number self.old.geometry (self.old.cylinders * 15) }
+        ensures fixed { (self.new.number ≡ self.old.number) × (self.new.cylinders ≡ self.old.cylinders) × (self.new.geometry ≡ self.old.geometry) }
         ensures half { IfOk result (λ took. is_some self.new.half ≡ is_opened took) }
         ensures same { OnErr result (self.new.half ≡ self.old.half) }
-        ensures takes { Takes K.takes keep.new self.new.number (self.new.cylinders * 15) }
+        ensures takes { Takes K.takes keep.new self.new.number self.new.geometry (self.new.cylinders * 15) }
         ensures weight { weight self.new.loose ≤ weight self.old.loose + 2 }
         ensures run { Ran (where_ok result) (Heard K.hears K.takes)
             (write_chosen contents usage.now first t (frame_in (state_of self.old) t) edit (state_of self.old) Through)
@@ -291,11 +295,11 @@ impl<V: Volume> DeviceStore<V> {
         requires suits { Suits (frame_in (state_of self.old) t).geometry (frame_in (state_of self.old) t).track.records edit }
         requires patch { room_for (stored_at self.old.patches t) ≤ self.old.edits }
         requires loose { usage.now.provisional ≡ true → loose_count self.old.loose.loose + 2 ≤ self.old.loose.spare }
-        requires takes { Takes K.takes keep.old self.old.number (self.old.cylinders * 15) }
-        ensures fixed { (self.new.number ≡ self.old.number) × (self.new.cylinders ≡ self.old.cylinders) }
+        requires takes { Takes K.takes keep.old self.old.number self.old.geometry (self.old.cylinders * 15) }
+        ensures fixed { (self.new.number ≡ self.old.number) × (self.new.cylinders ≡ self.old.cylinders) × (self.new.geometry ≡ self.old.geometry) }
         ensures half { IfOk result (λ took. is_some self.new.half ≡ is_opened took) }
         ensures same { OnErr result (self.new.half ≡ self.old.half) }
-        ensures takes { Takes K.takes keep.new self.new.number (self.new.cylinders * 15) }
+        ensures takes { Takes K.takes keep.new self.new.number self.new.geometry (self.new.cylinders * 15) }
         ensures weight { weight self.new.loose ≤ weight self.old.loose + 2 }
         ensures run { (p : PortView) → p ≡ P.view port.old
             → Ran surely (Heard K.hears K.takes) (choose contents (state_of self.old) usage.now t) (outside p self.old keep.old) (state_of self.old) Through
@@ -328,11 +332,11 @@ impl<V: Volume> DeviceStore<V> {
         requires patch { room_for (stored_at self.old.patches t) ≤ self.old.edits }
         requires loose { usage.now.provisional ≡ true → loose_count self.old.loose.loose + 2 ≤ self.old.loose.spare }
         requires frame { HasFrameRoom edit (framed.frame_at self.old.frames t) self.old.records }
-        requires takes { Takes K.takes keep.old self.old.number (self.old.cylinders * 15) }
-        ensures fixed { (self.new.number ≡ self.old.number) × (self.new.cylinders ≡ self.old.cylinders) }
+        requires takes { Takes K.takes keep.old self.old.number self.old.geometry (self.old.cylinders * 15) }
+        ensures fixed { (self.new.number ≡ self.old.number) × (self.new.cylinders ≡ self.old.cylinders) × (self.new.geometry ≡ self.old.geometry) }
         ensures half { IfOk result (λ took. is_some self.new.half ≡ is_opened took) }
         ensures same { OnErr result (self.new.half ≡ self.old.half) }
-        ensures takes { Takes K.takes keep.new self.new.number (self.new.cylinders * 15) }
+        ensures takes { Takes K.takes keep.new self.new.number self.new.geometry (self.new.cylinders * 15) }
         ensures weight { weight self.new.loose ≤ weight self.old.loose + 2 }
         ensures run { Ran (where_ok result) (Heard K.hears K.takes) (write contents (state_of self.old) usage.now first t (frame_in (state_of self.old) t) edit)
             (outside (P.view port.old) self.old keep.old) (state_of self.new) (had (λ took. took) result) (outside (P.view port.new) self.new keep.new) }
@@ -359,11 +363,11 @@ impl<V: Volume> DeviceStore<V> {
         requires track { t < self.old.cylinders * 15 }
         requires there { is_some (frame_at (state_of self.old) t) ≡ true }
         requires suits { Suits (frame_in (state_of self.old) t).geometry (frame_in (state_of self.old) t).track.records edit }
-        requires takes { Takes K.takes keep.old self.old.number (self.old.cylinders * 15) }
-        ensures fixed { (self.new.number ≡ self.old.number) × (self.new.cylinders ≡ self.old.cylinders) }
+        requires takes { Takes K.takes keep.old self.old.number self.old.geometry (self.old.cylinders * 15) }
+        ensures fixed { (self.new.number ≡ self.old.number) × (self.new.cylinders ≡ self.old.cylinders) × (self.new.geometry ≡ self.old.geometry) }
         ensures half { IfOk result (λ took. is_some self.new.half ≡ is_opened took) }
         ensures same { OnErr result (self.new.half ≡ self.old.half) }
-        ensures takes { Takes K.takes keep.new self.new.number (self.new.cylinders * 15) }
+        ensures takes { Takes K.takes keep.new self.new.number self.new.geometry (self.new.cylinders * 15) }
         ensures weight { weight self.new.loose ≤ weight self.old.loose + 2 }
         ensures run { Ran (where_ok result) (Heard K.hears K.takes) (write contents (state_of self.old) usage.now first t (frame_in (state_of self.old) t) edit)
             (outside (P.view port.old) self.old keep.old) (state_of self.new) (had (λ took. took) result) (outside (P.view port.new) self.new keep.new) }

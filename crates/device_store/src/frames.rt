@@ -5,6 +5,7 @@ ghost use Rattle.device_defs.specs.Contents.{contents};
 ghost use Rattle.device_defs.specs.Image.{filled, framed};
 ghost use Rattle.device_defs.specs.Owed.{is_clean};
 ghost use Rattle.device_defs.specs.Store.{frame_at, is_loose, with_frame};
+ghost use Rattle.device_store.specs.Images.{IsImageOf};
 ghost use Rattle.device_store.specs.Looks.{frame_in, seen, IsSeen};
 ghost use Rattle.device_store.specs.State.{state_of, outside, surely};
 ghost use Rattle.track_cache.specs.Frames.{is_modified};
@@ -29,7 +30,8 @@ impl<V: Volume> DeviceStore<V> {
     /// The image in a track's frame.
     pub fn frame_image(&self, t: TrackNo) -> &TrackImage
         requires { is_some (frame_at (state_of self.now) t) ≡ true }
-        ensures { result.now ≡ frame_in (state_of self.now) t }
+        ensures image { result.now ≡ frame_in (state_of self.now) t }
+        ensures of { IsImageOf self.now.geometry t result.now }
     {
         match self.frames.get(t) {
             Some(image) => image,
@@ -40,7 +42,8 @@ impl<V: Volume> DeviceStore<V> {
     /// The image of a track that was looked at: one that was read, or else the one in its frame.
     pub fn seen<'a>(&'a self, t: TrackNo, read: Option<&'a TrackImage>) -> &'a TrackImage
         requires { IsSeen (state_of self.now) t (option_map (λ i. i.now) read) }
-        ensures { result.now ≡ seen (state_of self.now) t (option_map (λ i. i.now) read.entry) }
+        ensures image { result.now ≡ seen (state_of self.now) t (option_map (λ i. i.now) read.entry) }
+        ensures of { IsImageOf self.now.geometry t result.now }
     {
         match read {
             Some(image) => image,
@@ -51,7 +54,7 @@ impl<V: Volume> DeviceStore<V> {
     /// A track has no frame any more.
     pub(crate) fn forget(&mut self, t: TrackNo)
         requires { is_modified self.old.frames t ≡ false }
-        ensures fixed { (self.new.number ≡ self.old.number) × (self.new.cylinders ≡ self.old.cylinders) }
+        ensures fixed { (self.new.number ≡ self.old.number) × (self.new.cylinders ≡ self.old.cylinders) × (self.new.geometry ≡ self.old.geometry) }
         ensures half { self.new.half ≡ self.old.half }
         ensures loose { self.new.loose ≡ self.old.loose }
         ensures volume { self.new.pair.volumes ≡ self.old.pair.volumes }
@@ -64,8 +67,9 @@ impl<V: Volume> DeviceStore<V> {
     /// An image becomes a track's frame.
     pub(crate) fn put_frame(&mut self, t: TrackNo, image: TrackImage, modified: bool)
         requires track { t < self.old.cylinders * 15 }
+        requires of { IsImageOf self.old.geometry t image }
         requires firm { is_loose (state_of self.old) t ≡ false }
-        ensures fixed { (self.new.number ≡ self.old.number) × (self.new.cylinders ≡ self.old.cylinders) }
+        ensures fixed { (self.new.number ≡ self.old.number) × (self.new.cylinders ≡ self.old.cylinders) × (self.new.geometry ≡ self.old.geometry) }
         ensures half { self.new.half ≡ self.old.half }
         ensures loose { self.new.loose ≡ self.old.loose }
         ensures volume { self.new.pair.volumes ≡ self.old.pair.volumes }
@@ -84,8 +88,9 @@ impl<V: Volume> DeviceStore<V> {
         port: &mut P,
     )
         requires track { t < self.old.cylinders * 15 }
+        requires of { IsImageOf self.old.geometry t image }
         requires firm { is_loose (state_of self.old) t ≡ false }
-        ensures fixed { (self.new.number ≡ self.old.number) × (self.new.cylinders ≡ self.old.cylinders) }
+        ensures fixed { (self.new.number ≡ self.old.number) × (self.new.cylinders ≡ self.old.cylinders) × (self.new.geometry ≡ self.old.geometry) }
         ensures half { self.new.half ≡ self.old.half }
         ensures loose { self.new.loose ≡ self.old.loose }
         ensures there { is_some (frame_at (state_of self.new) t) ≡ true }

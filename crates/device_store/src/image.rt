@@ -7,6 +7,7 @@ ghost use Rattle.ckd_types.specs.Parameters.{is_bypass};
 ghost use Rattle.device_defs.specs.Image.{loads, is_sequential, queued, ahead, image_of, first_fault, level_bytes, loaded, miss, missed, got, image, read_b};
 ghost use Rattle.device_defs.specs.Store.{frame_at, is_loose};
 ghost use Rattle.event_notes.specs.Loose.{weight};
+ghost use Rattle.device_store.specs.Images.{IsImageOf};
 ghost use Rattle.device_store.specs.Looks.{imaged, IsThere, applied_by, clean_by};
 ghost use Rattle.device_store.specs.State.{state_of, outside, surely, StaysFirm, Takes, had, got_by};
 ghost use Rattle.track_cache.specs.Frames.{is_modified};
@@ -91,13 +92,13 @@ impl<V: Volume> DeviceStore<V> {
         keep: &mut K,
     ) -> Given
         requires track { t < self.old.cylinders * 15 }
-        requires takes { Takes K.takes keep.old self.old.number (self.old.cylinders * 15) }
-        ensures fixed { (self.new.number ≡ self.old.number) × (self.new.cylinders ≡ self.old.cylinders) }
+        requires takes { Takes K.takes keep.old self.old.number self.old.geometry (self.old.cylinders * 15) }
+        ensures fixed { (self.new.number ≡ self.old.number) × (self.new.cylinders ≡ self.old.cylinders) × (self.new.geometry ≡ self.old.geometry) }
         ensures half { self.new.half ≡ self.old.half }
         ensures here { result.given ≡ true → (is_some self.old.pair.lent ≡ false) × (is_some self.new.pair.lent ≡ false) }
         ensures weight { weight self.new.loose ≡ weight self.old.loose }
         ensures firm { StaysFirm self.old.loose.loose self.new.loose.loose }
-        ensures takes { Takes K.takes keep.new self.new.number (self.new.cylinders * 15) }
+        ensures takes { Takes K.takes keep.new self.new.number self.new.geometry (self.new.cylinders * 15) }
         ensures run { (p : PortView) → Ran surely (Heard K.hears K.takes) (read_b contents (state_of self.old) t fault) (outside p self.old keep.old)
             (state_of self.new) (got_by self.new.buffer result) (outside p self.new keep.new) }
     {
@@ -125,13 +126,13 @@ impl<V: Volume> DeviceStore<V> {
     /// Reads a track from side A where it is level, else from side B, also where A fails.
     pub(crate) fn level_bytes<K: Keep<TrackImage>>(&mut self, t: TrackNo, keep: &mut K) -> Given
         requires track { t < self.old.cylinders * 15 }
-        requires takes { Takes K.takes keep.old self.old.number (self.old.cylinders * 15) }
-        ensures fixed { (self.new.number ≡ self.old.number) × (self.new.cylinders ≡ self.old.cylinders) }
+        requires takes { Takes K.takes keep.old self.old.number self.old.geometry (self.old.cylinders * 15) }
+        ensures fixed { (self.new.number ≡ self.old.number) × (self.new.cylinders ≡ self.old.cylinders) × (self.new.geometry ≡ self.old.geometry) }
         ensures half { self.new.half ≡ self.old.half }
         ensures here { result.given ≡ true → (is_some self.old.pair.lent ≡ false) × (is_some self.new.pair.lent ≡ false) }
         ensures weight { weight self.new.loose ≡ weight self.old.loose }
         ensures firm { StaysFirm self.old.loose.loose self.new.loose.loose }
-        ensures takes { Takes K.takes keep.new self.new.number (self.new.cylinders * 15) }
+        ensures takes { Takes K.takes keep.new self.new.number self.new.geometry (self.new.cylinders * 15) }
         ensures run { (p : PortView) → Ran surely (Heard K.hears K.takes) (level_bytes contents (state_of self.old) t) (outside p self.old keep.old)
             (state_of self.new) (got_by self.new.buffer result) (outside p self.new keep.new) }
     {
@@ -157,7 +158,8 @@ impl<V: Volume> DeviceStore<V> {
 
     /// The image that the bytes in the buffer make.
     pub(crate) fn image_of(&self, t: TrackNo) -> Result<Option<TrackImage>, NoMemory>
-        ensures { IfOk result (λ i. i ≡ image_of contents (state_of self.now) t self.now.buffer) }
+        ensures image { IfOk result (λ i. i ≡ image_of contents (state_of self.now) t self.now.buffer) }
+        ensures of { IfOk result (λ i. IfSome i (IsImageOf self.now.geometry t)) }
     {
         match TrackImage::from_bytes(self.alloc, self.geometry, t, self.buffer.bytes()) {
             Err(BytesFault::NoMemory) => Err(NoMemory),
@@ -169,7 +171,7 @@ impl<V: Volume> DeviceStore<V> {
     /// Queues a track for staging where it is in the extent.
     fn queue_one(&mut self, last: Option<TrackNo>, t: u16)
         requires { IfSome last (λ l. l < self.old.cylinders * 15) }
-        ensures fixed { (self.new.number ≡ self.old.number) × (self.new.cylinders ≡ self.old.cylinders) }
+        ensures fixed { (self.new.number ≡ self.old.number) × (self.new.cylinders ≡ self.old.cylinders) × (self.new.geometry ≡ self.old.geometry) }
         ensures half { self.new.half ≡ self.old.half }
         ensures loose { self.new.loose ≡ self.old.loose }
         ensures volume { self.new.pair.volumes ≡ self.old.pair.volumes }
@@ -187,7 +189,7 @@ impl<V: Volume> DeviceStore<V> {
     /// In sequential mode the two tracks behind a missed one are to be staged.
     fn queue_ahead(&mut self, usage: &Usage, t: TrackNo)
         requires { IfSome usage.now.last (λ l. l < self.old.cylinders * 15) }
-        ensures fixed { (self.new.number ≡ self.old.number) × (self.new.cylinders ≡ self.old.cylinders) }
+        ensures fixed { (self.new.number ≡ self.old.number) × (self.new.cylinders ≡ self.old.cylinders) × (self.new.geometry ≡ self.old.geometry) }
         ensures half { self.new.half ≡ self.old.half }
         ensures loose { self.new.loose ≡ self.old.loose }
         ensures volume { self.new.pair.volumes ≡ self.old.pair.volumes }
@@ -210,9 +212,10 @@ impl<V: Volume> DeviceStore<V> {
         port: &mut P,
     ) -> Result<Looked, NoMemory>
         requires track { t < self.old.cylinders * 15 }
+        requires of { IsImageOf self.old.geometry t image }
         requires here { is_some self.old.pair.lent ≡ false }
         requires firm { is_loose (state_of self.old) t ≡ false }
-        ensures fixed { (self.new.number ≡ self.old.number) × (self.new.cylinders ≡ self.old.cylinders) }
+        ensures fixed { (self.new.number ≡ self.old.number) × (self.new.cylinders ≡ self.old.cylinders) × (self.new.geometry ≡ self.old.geometry) }
         ensures half { self.new.half ≡ self.old.half }
         ensures loose { self.new.loose ≡ self.old.loose }
         ensures there { IfOk result (IsThere (state_of self.new) t) }
@@ -244,7 +247,7 @@ impl<V: Volume> DeviceStore<V> {
         requires last { IfSome usage.now.last (λ l. l < self.old.cylinders * 15) }
         requires here { is_some self.old.pair.lent ≡ false }
         requires firm { is_loose (state_of self.old) t ≡ false }
-        ensures fixed { (self.new.number ≡ self.old.number) × (self.new.cylinders ≡ self.old.cylinders) }
+        ensures fixed { (self.new.number ≡ self.old.number) × (self.new.cylinders ≡ self.old.cylinders) × (self.new.geometry ≡ self.old.geometry) }
         ensures half { self.new.half ≡ self.old.half }
         ensures loose { self.new.loose ≡ self.old.loose }
         ensures there { IfOk result (IsThere (state_of self.new) t) }
@@ -272,12 +275,12 @@ impl<V: Volume> DeviceStore<V> {
     ) -> Result<Looked, NoMemory>
         requires track { t < self.old.cylinders * 15 }
         requires last { IfSome usage.now.last (λ l. l < self.old.cylinders * 15) }
-        requires takes { Takes K.takes keep.old self.old.number (self.old.cylinders * 15) }
+        requires takes { Takes K.takes keep.old self.old.number self.old.geometry (self.old.cylinders * 15) }
         requires firm { is_some self.old.pair.lent ≡ false → is_loose (state_of self.old) t ≡ false }
-        ensures fixed { (self.new.number ≡ self.old.number) × (self.new.cylinders ≡ self.old.cylinders) }
+        ensures fixed { (self.new.number ≡ self.old.number) × (self.new.cylinders ≡ self.old.cylinders) × (self.new.geometry ≡ self.old.geometry) }
         ensures half { self.new.half ≡ self.old.half }
         ensures weight { weight self.new.loose ≡ weight self.old.loose }
-        ensures takes { Takes K.takes keep.new self.new.number (self.new.cylinders * 15) }
+        ensures takes { Takes K.takes keep.new self.new.number self.new.geometry (self.new.cylinders * 15) }
         ensures there { IfOk result (IsThere (state_of self.new) t) }
         ensures run { Ran (where_ok result) (Heard K.hears K.takes) (miss contents (state_of self.old) usage.now t)
             (outside (P.view port.old) self.old keep.old) (state_of self.new) (had (imaged (state_of self.new) t) result)
@@ -300,14 +303,14 @@ impl<V: Volume> DeviceStore<V> {
     ) -> Result<Looked, NoMemory>
         requires track { t < self.old.cylinders * 15 }
         requires last { IfSome usage.now.last (λ l. l < self.old.cylinders * 15) }
-        requires takes { Takes K.takes keep.old self.old.number (self.old.cylinders * 15) }
+        requires takes { Takes K.takes keep.old self.old.number self.old.geometry (self.old.cylinders * 15) }
         requires clean { is_modified self.old.frames t ≡ false }
         requires firm { is_some self.old.pair.lent ≡ false → is_loose (state_of self.old) t ≡ false }
         requires there { is_some (frame_at (state_of self.old) t) ≡ true }
-        ensures fixed { (self.new.number ≡ self.old.number) × (self.new.cylinders ≡ self.old.cylinders) }
+        ensures fixed { (self.new.number ≡ self.old.number) × (self.new.cylinders ≡ self.old.cylinders) × (self.new.geometry ≡ self.old.geometry) }
         ensures half { self.new.half ≡ self.old.half }
         ensures weight { weight self.new.loose ≡ weight self.old.loose }
-        ensures takes { Takes K.takes keep.new self.new.number (self.new.cylinders * 15) }
+        ensures takes { Takes K.takes keep.new self.new.number self.new.geometry (self.new.cylinders * 15) }
         ensures there { IfOk result (IsThere (state_of self.new) t) }
         ensures run { Ran (where_ok result) (Heard K.hears K.takes) (clean_by (state_of self.old) usage.now t) (outside (P.view port.old) self.old keep.old)
             (state_of self.new) (had (imaged (state_of self.new) t) result) (outside (P.view port.new) self.new keep.new) }
@@ -332,11 +335,11 @@ impl<V: Volume> DeviceStore<V> {
     ) -> Result<Looked, NoMemory>
         requires track { t < self.old.cylinders * 15 }
         requires last { IfSome usage.now.last (λ l. l < self.old.cylinders * 15) }
-        requires takes { Takes K.takes keep.old self.old.number (self.old.cylinders * 15) }
-        ensures fixed { (self.new.number ≡ self.old.number) × (self.new.cylinders ≡ self.old.cylinders) }
+        requires takes { Takes K.takes keep.old self.old.number self.old.geometry (self.old.cylinders * 15) }
+        ensures fixed { (self.new.number ≡ self.old.number) × (self.new.cylinders ≡ self.old.cylinders) × (self.new.geometry ≡ self.old.geometry) }
         ensures half { self.new.half ≡ self.old.half }
         ensures weight { weight self.new.loose ≡ weight self.old.loose }
-        ensures takes { Takes K.takes keep.new self.new.number (self.new.cylinders * 15) }
+        ensures takes { Takes K.takes keep.new self.new.number self.new.geometry (self.new.cylinders * 15) }
         ensures there { IfOk result (IsThere (state_of self.new) t) }
         ensures run { Ran (where_ok result) (Heard K.hears K.takes) (image contents (state_of self.old) usage.now t)
             (outside (P.view port.old) self.old keep.old) (state_of self.new) (had (imaged (state_of self.new) t) result)

@@ -16,7 +16,7 @@ const NOTES: u32 = 960;
 impl<V: Volume> DeviceStore<V> {
     /// A note of a track that has a clean frame drops it.
     fn drop_noted(&mut self, t: TrackNo)
-        ensures fixed { (self.new.number ≡ self.old.number) × (self.new.cylinders ≡ self.old.cylinders) }
+        ensures fixed { (self.new.number ≡ self.old.number) × (self.new.cylinders ≡ self.old.cylinders) × (self.new.geometry ≡ self.old.geometry) }
         ensures half { self.new.half ≡ self.old.half }
         ensures loose { self.new.loose ≡ self.old.loose }
         ensures volume { self.new.pair.volumes ≡ self.old.pair.volumes }
@@ -30,7 +30,7 @@ impl<V: Volume> DeviceStore<V> {
 
     /// Takes the notes of the device, at most 960, and drops the clean frames that they name.
     pub fn hear<P: Port, K: Keep<TrackImage>>(&mut self, port: &mut P)
-        ensures fixed { (self.new.number ≡ self.old.number) × (self.new.cylinders ≡ self.old.cylinders) }
+        ensures fixed { (self.new.number ≡ self.old.number) × (self.new.cylinders ≡ self.old.cylinders) × (self.new.geometry ≡ self.old.geometry) }
         ensures half { self.new.half ≡ self.old.half }
         ensures loose { self.new.loose ≡ self.old.loose }
         ensures run { (k : K) → Ran surely (Heard K.hears K.takes) (hear contents 960 (state_of self.old)) (outside (P.view port.old) self.old k)

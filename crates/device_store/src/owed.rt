@@ -48,7 +48,7 @@ fn is_owed(owed: &Owed) -> bool
 impl<V: Volume> DeviceStore<V> {
     /// An event begins.
     pub fn begin_event(&mut self)
-        ensures fixed { (self.new.number ≡ self.old.number) × (self.new.cylinders ≡ self.old.cylinders) }
+        ensures fixed { (self.new.number ≡ self.old.number) × (self.new.cylinders ≡ self.old.cylinders) × (self.new.geometry ≡ self.old.geometry) }
         ensures half { self.new.half ≡ self.old.half }
         ensures volume { self.new.pair.volumes ≡ self.old.pair.volumes }
         ensures loose { self.new.loose.loose ≡ self.old.loose.loose }
@@ -121,7 +121,7 @@ impl<V: Volume> DeviceStore<V> {
 
     /// The port is told what it is owed of a track.
     fn settle_debt<P: Port, K: Keep<TrackImage>>(&mut self, t: TrackNo, port: &mut P)
-        ensures fixed { (self.new.number ≡ self.old.number) × (self.new.cylinders ≡ self.old.cylinders) }
+        ensures fixed { (self.new.number ≡ self.old.number) × (self.new.cylinders ≡ self.old.cylinders) × (self.new.geometry ≡ self.old.geometry) }
         ensures half { self.new.half ≡ self.old.half }
         ensures volume { self.new.pair.volumes ≡ self.old.pair.volumes }
         ensures loose { self.new.loose ≡ self.old.loose }
@@ -136,7 +136,7 @@ impl<V: Volume> DeviceStore<V> {
     }
 
     fn tell_track<P: Port, K: Keep<TrackImage>>(&mut self, t: TrackNo, port: &mut P)
-        ensures fixed { (self.new.number ≡ self.old.number) × (self.new.cylinders ≡ self.old.cylinders) }
+        ensures fixed { (self.new.number ≡ self.old.number) × (self.new.cylinders ≡ self.old.cylinders) × (self.new.geometry ≡ self.old.geometry) }
         ensures half { self.new.half ≡ self.old.half }
         ensures volume { self.new.pair.volumes ≡ self.old.pair.volumes }
         ensures loose { self.new.loose ≡ self.old.loose }
@@ -151,7 +151,7 @@ impl<V: Volume> DeviceStore<V> {
 
     /// The port is told what it is owed of each track.
     fn tell_each<P: Port, K: Keep<TrackImage>>(&mut self, port: &mut P)
-        ensures fixed { (self.new.number ≡ self.old.number) × (self.new.cylinders ≡ self.old.cylinders) }
+        ensures fixed { (self.new.number ≡ self.old.number) × (self.new.cylinders ≡ self.old.cylinders) × (self.new.geometry ≡ self.old.geometry) }
         ensures half { self.new.half ≡ self.old.half }
         ensures volume { self.new.pair.volumes ≡ self.old.pair.volumes }
         ensures loose { self.new.loose ≡ self.old.loose }
@@ -167,7 +167,7 @@ impl<V: Volume> DeviceStore<V> {
 
     /// The same. Where nothing is owed no track is looked at.
     fn tell_all<P: Port, K: Keep<TrackImage>>(&mut self, port: &mut P)
-        ensures fixed { (self.new.number ≡ self.old.number) × (self.new.cylinders ≡ self.old.cylinders) }
+        ensures fixed { (self.new.number ≡ self.old.number) × (self.new.cylinders ≡ self.old.cylinders) × (self.new.geometry ≡ self.old.geometry) }
         ensures half { self.new.half ≡ self.old.half }
         ensures volume { self.new.pair.volumes ≡ self.old.pair.volumes }
         ensures loose { self.new.loose ≡ self.old.loose }
@@ -196,7 +196,7 @@ impl<V: Volume> DeviceStore<V> {
 
     /// An event ends before which so many tracks waited: the port is told what it is owed, and then how many tracks wait.
     pub fn end_event<P: Port, K: Keep<TrackImage>>(&mut self, before: u16, port: &mut P)
-        ensures fixed { (self.new.number ≡ self.old.number) × (self.new.cylinders ≡ self.old.cylinders) }
+        ensures fixed { (self.new.number ≡ self.old.number) × (self.new.cylinders ≡ self.old.cylinders) × (self.new.geometry ≡ self.old.geometry) }
         ensures half { self.new.half ≡ self.old.half }
         ensures volume { self.new.pair.volumes ≡ self.old.pair.volumes }
         ensures loose { self.new.loose ≡ self.old.loose }

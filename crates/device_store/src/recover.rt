@@ -7,6 +7,7 @@ ghost use Rattle.device_defs.specs.Store.{frame_at, is_loose};
 ghost use Rattle.device_outside.specs.Keeper.{Heard};
 ghost use Rattle.device_outside.specs.Outside.{Ran, where_ok};
 ghost use Rattle.event_notes.specs.Loose.{weight};
+ghost use Rattle.device_store.specs.Images.{IsImageOf};
 ghost use Rattle.device_store.specs.State.{state_of, outside, surely, OnlyBackground, Takes, had, got_by};
 
 use crate::background::did;
@@ -40,10 +41,11 @@ impl<V: Volume> DeviceStore<V> {
         port: &mut P,
     ) -> Did
         requires track { half.track < self.old.cylinders * 15 }
+        requires of { IsImageOf self.old.geometry half.track half.image }
         requires firm { is_loose (state_of self.old) half.track ≡ false }
         requires background { half.origin ≡ OfBackground }
         requires none { self.old.half ≡ None }
-        ensures fixed { (self.new.number ≡ self.old.number) × (self.new.cylinders ≡ self.old.cylinders) }
+        ensures fixed { (self.new.number ≡ self.old.number) × (self.new.cylinders ≡ self.old.cylinders) × (self.new.geometry ≡ self.old.geometry) }
         ensures opened { OnlyBackground self.new.half }
         ensures loose { self.new.loose ≡ self.old.loose }
         ensures run { (k : K) (fault : Option Side)
@@ -75,13 +77,14 @@ impl<V: Volume> DeviceStore<V> {
         keep: &mut K,
     ) -> Did
         requires track { t < self.old.cylinders * 15 }
+        requires of { IsImageOf self.old.geometry t image }
         requires kept { is_loose (state_of self.old) t ≡ true → is_some (frame_at (state_of self.old) t) ≡ true }
         requires none { self.old.half ≡ None }
-        requires takes { Takes K.takes keep.old self.old.number (self.old.cylinders * 15) }
-        ensures fixed { (self.new.number ≡ self.old.number) × (self.new.cylinders ≡ self.old.cylinders) }
+        requires takes { Takes K.takes keep.old self.old.number self.old.geometry (self.old.cylinders * 15) }
+        ensures fixed { (self.new.number ≡ self.old.number) × (self.new.cylinders ≡ self.old.cylinders) × (self.new.geometry ≡ self.old.geometry) }
         ensures opened { OnlyBackground self.new.half }
         ensures weight { weight self.new.loose ≡ weight self.old.loose }
-        ensures takes { Takes K.takes keep.new self.new.number (self.new.cylinders * 15) }
+        ensures takes { Takes K.takes keep.new self.new.number self.new.geometry (self.new.cylinders * 15) }
         ensures run { Ran surely (Heard K.hears K.takes) (saving contents (state_of self.old) t image done fault) (outside (P.view port.old) self.old keep.old)
             (state_of self.new) result (outside (P.view port.new) self.new keep.new) }
     {
@@ -109,11 +112,11 @@ impl<V: Volume> DeviceStore<V> {
         requires track { t < self.old.cylinders * 15 }
         requires here { is_some self.old.pair.lent ≡ false }
         requires none { self.old.half ≡ None }
-        requires takes { Takes K.takes keep.old self.old.number (self.old.cylinders * 15) }
-        ensures fixed { (self.new.number ≡ self.old.number) × (self.new.cylinders ≡ self.old.cylinders) }
+        requires takes { Takes K.takes keep.old self.old.number self.old.geometry (self.old.cylinders * 15) }
+        ensures fixed { (self.new.number ≡ self.old.number) × (self.new.cylinders ≡ self.old.cylinders) × (self.new.geometry ≡ self.old.geometry) }
         ensures opened { OnlyBackground self.new.half }
         ensures weight { weight self.new.loose ≡ weight self.old.loose }
-        ensures takes { Takes K.takes keep.new self.new.number (self.new.cylinders * 15) }
+        ensures takes { Takes K.takes keep.new self.new.number self.new.geometry (self.new.cylinders * 15) }
         ensures run { Ran (where_ok result) (Heard K.hears K.takes)
             (recovered_bytes contents t (state_of self.old) (got_by self.old.buffer given) (Some self.old.buffer))
             (outside (P.view port.old) self.old keep.old) (state_of self.new) (had (λ did. did) result) (outside (P.view port.new) self.new keep.new) }
@@ -136,11 +139,11 @@ impl<V: Volume> DeviceStore<V> {
     ) -> Result<Did, NoMemory>
         requires track { t < self.old.cylinders * 15 }
         requires none { self.old.half ≡ None }
-        requires takes { Takes K.takes keep.old self.old.number (self.old.cylinders * 15) }
-        ensures fixed { (self.new.number ≡ self.old.number) × (self.new.cylinders ≡ self.old.cylinders) }
+        requires takes { Takes K.takes keep.old self.old.number self.old.geometry (self.old.cylinders * 15) }
+        ensures fixed { (self.new.number ≡ self.old.number) × (self.new.cylinders ≡ self.old.cylinders) × (self.new.geometry ≡ self.old.geometry) }
         ensures opened { OnlyBackground self.new.half }
         ensures weight { weight self.new.loose ≡ weight self.old.loose }
-        ensures takes { Takes K.takes keep.new self.new.number (self.new.cylinders * 15) }
+        ensures takes { Takes K.takes keep.new self.new.number self.new.geometry (self.new.cylinders * 15) }
         ensures run { Ran (where_ok result) (Heard K.hears K.takes) (recover contents (state_of self.old) t (frame_at (state_of self.old) t))
             (outside (P.view port.old) self.old keep.old) (state_of self.new) (had (λ did. did) result) (outside (P.view port.new) self.new keep.new) }
     {

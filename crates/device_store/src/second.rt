@@ -14,6 +14,7 @@ ghost use Rattle.duplex_pair.specs.Volumes.{IsThere, view_in};
 ghost use Rattle.event_notes.specs.Loose.{weight};
 ghost use Rattle.device_store.specs.declared.half.HalfWrite.{HalfWrite};
 ghost use Rattle.device_store.specs.Halves.{half_below};
+ghost use Rattle.device_store.specs.Images.{IsImageOf};
 ghost use Rattle.device_store.specs.Looks.{StoreOf};
 ghost use Rattle.device_store.specs.State.{closing, half_of, origin_of, state_of, outside, surely, Takes};
 
@@ -84,17 +85,19 @@ impl<V: Volume> DeviceStore<V> {
         keep: &mut K,
     )
         requires track { half.track < self.old.cylinders * 15 }
+        requires of { IsImageOf self.old.geometry half.track half.image }
         requires firm { is_loose (state_of self.old) half.track ≡ false }
-        requires takes { Takes K.takes keep.old self.old.number (self.old.cylinders * 15) }
-        ensures fixed { (self.new.number ≡ self.old.number) × (self.new.cylinders ≡ self.old.cylinders) }
+        requires takes { Takes K.takes keep.old self.old.number self.old.geometry (self.old.cylinders * 15) }
+        ensures fixed { (self.new.number ≡ self.old.number) × (self.new.cylinders ≡ self.old.cylinders) × (self.new.geometry ≡ self.old.geometry) }
         ensures half { self.new.half ≡ self.old.half }
         ensures loose { self.new.loose ≡ self.old.loose }
-        ensures takes { Takes K.takes keep.new self.new.number (self.new.cylinders * 15) }
+        ensures takes { Takes K.takes keep.new self.new.number self.new.geometry (self.new.cylinders * 15) }
         ensures run { Ran surely (Heard K.hears K.takes) (second_done contents (state_of self.old) half.track half.image (origin_of half.origin))
             (outside (P.view port.old) self.old keep.old) (state_of self.new) true (outside (P.view port.new) self.new keep.new) }
     {
         match half.origin {
             Origin::OfCommand(bypass, _) => {
+                half.image.fits();
                 keep.firm(self.number, half.track, &half.image);
                 self.write_done::<P, K>(half.track, half.image, bypass, port);
             }
@@ -110,8 +113,9 @@ impl<V: Volume> DeviceStore<V> {
     /// The write of a cut command isn't done: a frame has the new track, and the patch, which is of the old one, goes.
     fn keep_cut(&mut self, t: TrackNo, image: TrackImage)
         requires track { t < self.old.cylinders * 15 }
+        requires of { IsImageOf self.old.geometry t image }
         requires firm { is_loose (state_of self.old) t ≡ false }
-        ensures fixed { (self.new.number ≡ self.old.number) × (self.new.cylinders ≡ self.old.cylinders) }
+        ensures fixed { (self.new.number ≡ self.old.number) × (self.new.cylinders ≡ self.old.cylinders) × (self.new.geometry ≡ self.old.geometry) }
         ensures volume { self.new.pair ≡ self.old.pair }
         ensures half { self.new.half ≡ self.old.half }
         ensures loose { self.new.loose ≡ self.old.loose }
@@ -127,8 +131,9 @@ impl<V: Volume> DeviceStore<V> {
     /// What a write that isn't done leaves of its track.
     fn leave(&mut self, half: HalfWrite)
         requires track { half.track < self.old.cylinders * 15 }
+        requires of { IsImageOf self.old.geometry half.track half.image }
         requires firm { is_loose (state_of self.old) half.track ≡ false }
-        ensures fixed { (self.new.number ≡ self.old.number) × (self.new.cylinders ≡ self.old.cylinders) }
+        ensures fixed { (self.new.number ≡ self.old.number) × (self.new.cylinders ≡ self.old.cylinders) × (self.new.geometry ≡ self.old.geometry) }
         ensures volume { self.new.pair ≡ self.old.pair }
         ensures half { self.new.half ≡ self.old.half }
         ensures loose { self.new.loose ≡ self.old.loose }
@@ -144,8 +149,9 @@ impl<V: Volume> DeviceStore<V> {
     /// No side has the track: the write isn't done.
     fn second_absent(&mut self, half: HalfWrite)
         requires track { half.track < self.old.cylinders * 15 }
+        requires of { IsImageOf self.old.geometry half.track half.image }
         requires firm { is_loose (state_of self.old) half.track ≡ false }
-        ensures fixed { (self.new.number ≡ self.old.number) × (self.new.cylinders ≡ self.old.cylinders) }
+        ensures fixed { (self.new.number ≡ self.old.number) × (self.new.cylinders ≡ self.old.cylinders) × (self.new.geometry ≡ self.old.geometry) }
         ensures volume { self.new.pair ≡ self.old.pair }
         ensures half { self.new.half ≡ self.old.half }
         ensures loose { self.new.loose ≡ self.old.loose }
@@ -157,15 +163,16 @@ impl<V: Volume> DeviceStore<V> {
     }
 
     /// Takes the open half write, which is closed then.
-    #[tactic(auto, using(crate::proofs::Halved::half_firm, crate::proofs::Halved::half_within))]
+    #[tactic(auto, using(crate::proofs::Halved::half_firm, crate::proofs::Halved::half_within, crate::proofs::Placed::half_image))]
     fn take_half(&mut self) -> HalfWrite
         requires open { is_some self.old.half ≡ true }
-        ensures fixed { (self.new.number ≡ self.old.number) × (self.new.cylinders ≡ self.old.cylinders) }
+        ensures fixed { (self.new.number ≡ self.old.number) × (self.new.cylinders ≡ self.old.cylinders) × (self.new.geometry ≡ self.old.geometry) }
         ensures volume { self.new.pair ≡ self.old.pair }
         ensures half { self.new.half ≡ None }
         ensures loose { self.new.loose ≡ self.old.loose }
         ensures was { self.old.half ≡ Some result }
         ensures track { result.track < self.new.cylinders * 15 }
+        ensures of { IsImageOf self.new.geometry result.track result.image }
         ensures firm { is_loose (state_of self.new) result.track ≡ false }
         ensures state { state_of self.new ≡ closed (state_of self.old) }
     {
@@ -191,11 +198,11 @@ impl<V: Volume> DeviceStore<V> {
     /// Side B is given the track of the open half write, where it is up and not held.
     fn write_half<K: Keep<TrackImage>>(&mut self, keep: &mut K)
         requires open { is_some self.old.half ≡ true }
-        requires takes { Takes K.takes keep.old self.old.number (self.old.cylinders * 15) }
-        ensures fixed { (self.new.number ≡ self.old.number) × (self.new.cylinders ≡ self.old.cylinders) }
+        requires takes { Takes K.takes keep.old self.old.number self.old.geometry (self.old.cylinders * 15) }
+        ensures fixed { (self.new.number ≡ self.old.number) × (self.new.cylinders ≡ self.old.cylinders) × (self.new.geometry ≡ self.old.geometry) }
         ensures half { self.new.half ≡ self.old.half }
         ensures weight { weight self.new.loose ≡ weight self.old.loose }
-        ensures takes { Takes K.takes keep.new self.new.number (self.new.cylinders * 15) }
+        ensures takes { Takes K.takes keep.new self.new.number self.new.geometry (self.new.cylinders * 15) }
         ensures run { (h : HalfWrite) (p : PortView) → self.old.half ≡ Some h
             → Ran surely (Heard K.hears K.takes) (write_second contents (state_of self.old) h.track (track_bytes h.image.track)) (outside p self.old keep.old)
             (state_of self.new) tt (outside p self.new keep.new) }
@@ -216,12 +223,13 @@ impl<V: Volume> DeviceStore<V> {
     ) -> bool
         requires closed { self.old.half ≡ None }
         requires track { half.track < self.old.cylinders * 15 }
+        requires of { IsImageOf self.old.geometry half.track half.image }
         requires firm { is_loose (state_of self.old) half.track ≡ false }
-        requires takes { Takes K.takes keep.old self.old.number (self.old.cylinders * 15) }
-        ensures fixed { (self.new.number ≡ self.old.number) × (self.new.cylinders ≡ self.old.cylinders) }
+        requires takes { Takes K.takes keep.old self.old.number self.old.geometry (self.old.cylinders * 15) }
+        ensures fixed { (self.new.number ≡ self.old.number) × (self.new.cylinders ≡ self.old.cylinders) × (self.new.geometry ≡ self.old.geometry) }
         ensures half { self.new.half ≡ None }
         ensures loose { self.new.loose ≡ self.old.loose }
-        ensures takes { Takes K.takes keep.new self.new.number (self.new.cylinders * 15) }
+        ensures takes { Takes K.takes keep.new self.new.number self.new.geometry (self.new.cylinders * 15) }
         ensures run { Ran surely (Heard K.hears K.takes) (closing (state_of self.old) half.track half.image (origin_of half.origin))
             (outside (P.view port.old) self.old keep.old) (state_of self.new) result (outside (P.view port.new) self.new keep.new) }
     {
@@ -236,11 +244,11 @@ impl<V: Volume> DeviceStore<V> {
     /// The second part of the open half write.
     pub fn second<P: Port, K: Keep<TrackImage>>(&mut self, port: &mut P, keep: &mut K) -> SecondPart
         requires open { is_some self.old.half ≡ true }
-        requires takes { Takes K.takes keep.old self.old.number (self.old.cylinders * 15) }
-        ensures fixed { (self.new.number ≡ self.old.number) × (self.new.cylinders ≡ self.old.cylinders) }
+        requires takes { Takes K.takes keep.old self.old.number self.old.geometry (self.old.cylinders * 15) }
+        ensures fixed { (self.new.number ≡ self.old.number) × (self.new.cylinders ≡ self.old.cylinders) × (self.new.geometry ≡ self.old.geometry) }
         ensures half { self.new.half ≡ None }
         ensures weight { weight self.new.loose ≡ weight self.old.loose }
-        ensures takes { Takes K.takes keep.new self.new.number (self.new.cylinders * 15) }
+        ensures takes { Takes K.takes keep.new self.new.number self.new.geometry (self.new.cylinders * 15) }
         ensures track { (h : HalfWrite) → self.old.half ≡ Some h → result.track ≡ h.track }
         ensures command { (h : HalfWrite) → self.old.half ≡ Some h → result.of_command ≡ is_of_command (origin_of h.origin) }
         ensures run { (h : HalfWrite) → self.old.half ≡ Some h
@@ -261,12 +269,12 @@ impl<V: Volume> DeviceStore<V> {
 
     /// An open half write of the command at hand counts as done: its edit takes effect now, and the keeper is told.
     pub fn cut_half<K: Keep<TrackImage>>(&mut self, keep: &mut K)
-        requires takes { Takes K.takes keep.old self.old.number (self.old.cylinders * 15) }
-        ensures fixed { (self.new.number ≡ self.old.number) × (self.new.cylinders ≡ self.old.cylinders) }
+        requires takes { Takes K.takes keep.old self.old.number self.old.geometry (self.old.cylinders * 15) }
+        ensures fixed { (self.new.number ≡ self.old.number) × (self.new.cylinders ≡ self.old.cylinders) × (self.new.geometry ≡ self.old.geometry) }
         ensures volume { self.new.pair ≡ self.old.pair }
         ensures half { IfSome self.new.half (λ h. is_of_command (origin_of h.origin) ≡ false) }
         ensures loose { self.new.loose ≡ self.old.loose }
-        ensures takes { Takes K.takes keep.new self.new.number (self.new.cylinders * 15) }
+        ensures takes { Takes K.takes keep.new self.new.number self.new.geometry (self.new.cylinders * 15) }
         ensures run { (p : PortView) → Ran surely (Heard K.hears K.takes) (half_cut contents (state_of self.old) (state_of self.old).half)
             (outside p self.old keep.old) (state_of self.new) tt (outside p self.new keep.new) }
     {
@@ -280,16 +288,19 @@ impl<V: Volume> DeviceStore<V> {
     /// A half write of the command at hand counts as done, and is of a cut command then.
     fn cut<K: Keep<TrackImage>>(&self, half: HalfWrite, keep: &mut K) -> HalfWrite
         requires track { half.track < self.now.cylinders * 15 }
-        requires takes { Takes K.takes keep.old self.now.number (self.now.cylinders * 15) }
+        requires of { IsImageOf self.now.geometry half.track half.image }
+        requires takes { Takes K.takes keep.old self.now.number self.now.geometry (self.now.cylinders * 15) }
         ensures track { result.track ≡ half.track }
+        ensures of { IsImageOf self.now.geometry result.track result.image }
         ensures command { is_of_command (origin_of result.origin) ≡ false }
-        ensures takes { Takes K.takes keep.new self.now.number (self.now.cylinders * 15) }
+        ensures takes { Takes K.takes keep.new self.now.number self.now.geometry (self.now.cylinders * 15) }
         ensures run { (p : PortView) → Ran surely (Heard K.hears K.takes)
             (half_cut contents (record (state_of self.now) { half = Some (half_of half) }) (Some (half_of half))) (outside p self.now keep.old)
             (record (state_of self.now) { half = Some (half_of result) }) tt (outside p self.now keep.new) }
     {
         match half.origin {
             Origin::OfCommand(bypass, _) => {
+                half.image.fits();
                 keep.firm(self.number, half.track, &half.image);
                 HalfWrite {
                     track: half.track,
@@ -304,7 +315,7 @@ impl<V: Volume> DeviceStore<V> {
 
     /// A half write ended: a command's or a cut one's patch is of the old track.
     fn end_by(&mut self, half: HalfWrite)
-        ensures fixed { (self.new.number ≡ self.old.number) × (self.new.cylinders ≡ self.old.cylinders) }
+        ensures fixed { (self.new.number ≡ self.old.number) × (self.new.cylinders ≡ self.old.cylinders) × (self.new.geometry ≡ self.old.geometry) }
         ensures volume { self.new.pair ≡ self.old.pair }
         ensures half { self.new.half ≡ self.old.half }
         ensures loose { self.new.loose ≡ self.old.loose }
@@ -319,7 +330,7 @@ impl<V: Volume> DeviceStore<V> {
 
     /// An open half write ends with the power.
     pub(crate) fn end_half(&mut self)
-        ensures fixed { (self.new.number ≡ self.old.number) × (self.new.cylinders ≡ self.old.cylinders) }
+        ensures fixed { (self.new.number ≡ self.old.number) × (self.new.cylinders ≡ self.old.cylinders) × (self.new.geometry ≡ self.old.geometry) }
         ensures volume { self.new.pair ≡ self.old.pair }
         ensures half { self.new.half ≡ None }
         ensures loose { self.new.loose ≡ self.old.loose }

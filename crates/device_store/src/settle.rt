@@ -29,7 +29,7 @@ use track_image::TrackImage;
 impl<V: Volume> DeviceStore<V> {
     /// The frame was marked modified.
     fn owe_modified(&mut self, t: TrackNo)
-        ensures fixed { (self.new.number ≡ self.old.number) × (self.new.cylinders ≡ self.old.cylinders) }
+        ensures fixed { (self.new.number ≡ self.old.number) × (self.new.cylinders ≡ self.old.cylinders) × (self.new.geometry ≡ self.old.geometry) }
         ensures volume { self.new.pair ≡ self.old.pair }
         ensures half { self.new.half ≡ self.old.half }
         ensures weight { weight self.new.loose ≡ weight self.old.loose }
@@ -44,7 +44,7 @@ impl<V: Volume> DeviceStore<V> {
     /// The frame of a track is given up. It isn't loose, or the volume is lent.
     pub(crate) fn give_up_frame(&mut self, t: TrackNo)
         requires { is_some self.old.pair.lent ≡ false → is_loose (state_of self.old) t ≡ false }
-        ensures fixed { (self.new.number ≡ self.old.number) × (self.new.cylinders ≡ self.old.cylinders) }
+        ensures fixed { (self.new.number ≡ self.old.number) × (self.new.cylinders ≡ self.old.cylinders) × (self.new.geometry ≡ self.old.geometry) }
         ensures volume { self.new.pair ≡ self.old.pair }
         ensures half { self.new.half ≡ self.old.half }
         ensures weight { weight self.new.loose ≡ weight self.old.loose }
@@ -61,7 +61,7 @@ impl<V: Volume> DeviceStore<V> {
 
     /// The patch is given up with its slot.
     pub(crate) fn give_up_patch(&mut self, t: TrackNo)
-        ensures fixed { (self.new.number ≡ self.old.number) × (self.new.cylinders ≡ self.old.cylinders) }
+        ensures fixed { (self.new.number ≡ self.old.number) × (self.new.cylinders ≡ self.old.cylinders) × (self.new.geometry ≡ self.old.geometry) }
         ensures volume { self.new.pair ≡ self.old.pair }
         ensures half { self.new.half ≡ self.old.half }
         ensures weight { weight self.new.loose ≡ weight self.old.loose }
@@ -82,7 +82,7 @@ impl<V: Volume> DeviceStore<V> {
     /// The track is lost, and with it its patch.
     fn lose_track(&mut self, t: TrackNo)
         requires { t < self.old.cylinders * 15 }
-        ensures fixed { (self.new.number ≡ self.old.number) × (self.new.cylinders ≡ self.old.cylinders) }
+        ensures fixed { (self.new.number ≡ self.old.number) × (self.new.cylinders ≡ self.old.cylinders) × (self.new.geometry ≡ self.old.geometry) }
         ensures volume { self.new.pair ≡ self.old.pair }
         ensures half { self.new.half ≡ self.old.half }
         ensures weight { weight self.new.loose ≡ weight self.old.loose }
@@ -96,7 +96,7 @@ impl<V: Volume> DeviceStore<V> {
     /// Its frame, which is modified then, keeps the track.
     fn keep_by_frame(&mut self, t: TrackNo)
         requires { is_some (frame_at (state_of self.old) t) ≡ true }
-        ensures fixed { (self.new.number ≡ self.old.number) × (self.new.cylinders ≡ self.old.cylinders) }
+        ensures fixed { (self.new.number ≡ self.old.number) × (self.new.cylinders ≡ self.old.cylinders) × (self.new.geometry ≡ self.old.geometry) }
         ensures volume { self.new.pair ≡ self.old.pair }
         ensures half { self.new.half ≡ self.old.half }
         ensures weight { weight self.new.loose ≡ weight self.old.loose }
@@ -113,7 +113,7 @@ impl<V: Volume> DeviceStore<V> {
     pub(crate) fn harden(&mut self, t: TrackNo)
         requires track { t < self.old.cylinders * 15 }
         requires loose { is_loose (state_of self.old) t ≡ true }
-        ensures fixed { (self.new.number ≡ self.old.number) × (self.new.cylinders ≡ self.old.cylinders) }
+        ensures fixed { (self.new.number ≡ self.old.number) × (self.new.cylinders ≡ self.old.cylinders) × (self.new.geometry ≡ self.old.geometry) }
         ensures volume { self.new.pair ≡ self.old.pair }
         ensures half { self.new.half ≡ self.old.half }
         ensures weight { weight self.new.loose ≡ weight self.old.loose }
@@ -144,7 +144,7 @@ impl<V: Volume> DeviceStore<V> {
     fn keep_or_lose(&mut self, t: TrackNo)
         requires track { t < self.old.cylinders * 15 }
         requires firm { is_loose (state_of self.old) t ≡ false }
-        ensures fixed { (self.new.number ≡ self.old.number) × (self.new.cylinders ≡ self.old.cylinders) }
+        ensures fixed { (self.new.number ≡ self.old.number) × (self.new.cylinders ≡ self.old.cylinders) × (self.new.geometry ≡ self.old.geometry) }
         ensures volume { self.new.pair ≡ self.old.pair }
         ensures half { self.new.half ≡ self.old.half }
         ensures weight { weight self.new.loose ≡ weight self.old.loose }
@@ -165,7 +165,7 @@ impl<V: Volume> DeviceStore<V> {
     pub(crate) fn settle(&mut self, t: TrackNo)
         requires track { t < self.old.cylinders * 15 }
         requires firm { is_loose (state_of self.old) t ≡ false }
-        ensures fixed { (self.new.number ≡ self.old.number) × (self.new.cylinders ≡ self.old.cylinders) }
+        ensures fixed { (self.new.number ≡ self.old.number) × (self.new.cylinders ≡ self.old.cylinders) × (self.new.geometry ≡ self.old.geometry) }
         ensures volume { self.new.pair ≡ self.old.pair }
         ensures half { self.new.half ≡ self.old.half }
         ensures weight { weight self.new.loose ≡ weight self.old.loose }
@@ -181,7 +181,7 @@ impl<V: Volume> DeviceStore<V> {
     /// Marks a track of a side as stale, or as level.
     pub(crate) fn mark(&mut self, side: Side, t: TrackNo, stale: bool)
         requires track { t < self.old.cylinders * 15 }
-        ensures fixed { (self.new.number ≡ self.old.number) × (self.new.cylinders ≡ self.old.cylinders) }
+        ensures fixed { (self.new.number ≡ self.old.number) × (self.new.cylinders ≡ self.old.cylinders) × (self.new.geometry ≡ self.old.geometry) }
         ensures volume { self.new.pair.volumes ≡ self.old.pair.volumes }
         ensures half { self.new.half ≡ self.old.half }
         ensures loose { self.new.loose ≡ self.old.loose }
@@ -196,7 +196,7 @@ impl<V: Volume> DeviceStore<V> {
     /// No side holds a track.
     pub(crate) fn stale_everywhere(&mut self, t: TrackNo)
         requires track { t < self.old.cylinders * 15 }
-        ensures fixed { (self.new.number ≡ self.old.number) × (self.new.cylinders ≡ self.old.cylinders) }
+        ensures fixed { (self.new.number ≡ self.old.number) × (self.new.cylinders ≡ self.old.cylinders) × (self.new.geometry ≡ self.old.geometry) }
         ensures volume { self.new.pair.volumes ≡ self.old.pair.volumes }
         ensures half { self.new.half ≡ self.old.half }
         ensures loose { self.new.loose ≡ self.old.loose }
@@ -212,7 +212,7 @@ impl<V: Volume> DeviceStore<V> {
     /// Marks a track of side A as stale, or as level.
     pub(crate) fn mark_a(&mut self, t: TrackNo, stale: bool)
         requires track { t < self.old.cylinders * 15 }
-        ensures fixed { (self.new.number ≡ self.old.number) × (self.new.cylinders ≡ self.old.cylinders) }
+        ensures fixed { (self.new.number ≡ self.old.number) × (self.new.cylinders ≡ self.old.cylinders) × (self.new.geometry ≡ self.old.geometry) }
         ensures volume { self.new.pair.volumes ≡ self.old.pair.volumes }
         ensures half { self.new.half ≡ self.old.half }
         ensures loose { self.new.loose ≡ self.old.loose }
@@ -226,7 +226,7 @@ impl<V: Volume> DeviceStore<V> {
     /// The same of side B.
     pub(crate) fn mark_b(&mut self, t: TrackNo, stale: bool)
         requires track { t < self.old.cylinders * 15 }
-        ensures fixed { (self.new.number ≡ self.old.number) × (self.new.cylinders ≡ self.old.cylinders) }
+        ensures fixed { (self.new.number ≡ self.old.number) × (self.new.cylinders ≡ self.old.cylinders) × (self.new.geometry ≡ self.old.geometry) }
         ensures volume { self.new.pair.volumes ≡ self.old.pair.volumes }
         ensures half { self.new.half ≡ self.old.half }
         ensures loose { self.new.loose ≡ self.old.loose }
@@ -241,7 +241,7 @@ impl<V: Volume> DeviceStore<V> {
     pub(crate) fn refuse(&mut self, t: TrackNo)
         requires track { t < self.old.cylinders * 15 }
         requires firm { is_loose (state_of self.old) t ≡ false }
-        ensures fixed { (self.new.number ≡ self.old.number) × (self.new.cylinders ≡ self.old.cylinders) }
+        ensures fixed { (self.new.number ≡ self.old.number) × (self.new.cylinders ≡ self.old.cylinders) × (self.new.geometry ≡ self.old.geometry) }
         ensures volume { self.new.pair.volumes ≡ self.old.pair.volumes }
         ensures half { self.new.half ≡ self.old.half }
         ensures weight { weight self.new.loose ≡ weight self.old.loose }
@@ -260,13 +260,13 @@ impl<V: Volume> DeviceStore<V> {
     /// The same of any track. The keeper is told of a loose one that becomes firm, which its frame alone keeps.
     pub(crate) fn settle_told<K: Keep<TrackImage>>(&mut self, t: TrackNo, keep: &mut K)
         requires track { t < self.old.cylinders * 15 }
-        requires takes { Takes K.takes keep.old self.old.number (self.old.cylinders * 15) }
-        ensures fixed { (self.new.number ≡ self.old.number) × (self.new.cylinders ≡ self.old.cylinders) }
+        requires takes { Takes K.takes keep.old self.old.number self.old.geometry (self.old.cylinders * 15) }
+        ensures fixed { (self.new.number ≡ self.old.number) × (self.new.cylinders ≡ self.old.cylinders) × (self.new.geometry ≡ self.old.geometry) }
         ensures volume { self.new.pair ≡ self.old.pair }
         ensures half { self.new.half ≡ self.old.half }
         ensures firm { StaysFirm self.old.loose.loose self.new.loose.loose }
         ensures weight { weight self.new.loose ≡ weight self.old.loose }
-        ensures takes { Takes K.takes keep.new self.new.number (self.new.cylinders * 15) }
+        ensures takes { Takes K.takes keep.new self.new.number self.new.geometry (self.new.cylinders * 15) }
         ensures run { (p : PortView) → Ran surely (Heard K.hears K.takes) (firm_told contents t (settled contents (state_of self.old) t))
             (outside p self.old keep.old) (state_of self.new) tt (outside p self.new keep.new) }
     {
@@ -282,13 +282,13 @@ impl<V: Volume> DeviceStore<V> {
     fn settle_loose<K: Keep<TrackImage>>(&mut self, t: TrackNo, keep: &mut K)
         requires track { t < self.old.cylinders * 15 }
         requires loose { is_loose (state_of self.old) t ≡ true }
-        requires takes { Takes K.takes keep.old self.old.number (self.old.cylinders * 15) }
-        ensures fixed { (self.new.number ≡ self.old.number) × (self.new.cylinders ≡ self.old.cylinders) }
+        requires takes { Takes K.takes keep.old self.old.number self.old.geometry (self.old.cylinders * 15) }
+        ensures fixed { (self.new.number ≡ self.old.number) × (self.new.cylinders ≡ self.old.cylinders) × (self.new.geometry ≡ self.old.geometry) }
         ensures volume { self.new.pair ≡ self.old.pair }
         ensures half { self.new.half ≡ self.old.half }
         ensures firm { StaysFirm self.old.loose.loose self.new.loose.loose }
         ensures weight { weight self.new.loose ≡ weight self.old.loose }
-        ensures takes { Takes K.takes keep.new self.new.number (self.new.cylinders * 15) }
+        ensures takes { Takes K.takes keep.new self.new.number self.new.geometry (self.new.cylinders * 15) }
         ensures run { (p : PortView) → Ran surely (Heard K.hears K.takes) (firm_told contents t (settled contents (state_of self.old) t))
             (outside p self.old keep.old) (state_of self.new) tt (outside p self.new keep.new) }
     {
@@ -304,19 +304,21 @@ impl<V: Volume> DeviceStore<V> {
         requires track { t < self.old.cylinders * 15 }
         requires here { is_some self.old.pair.lent ≡ false }
         requires loose { is_loose (state_of self.old) t ≡ true }
-        requires takes { Takes K.takes keep.old self.old.number (self.old.cylinders * 15) }
-        ensures fixed { (self.new.number ≡ self.old.number) × (self.new.cylinders ≡ self.old.cylinders) }
+        requires takes { Takes K.takes keep.old self.old.number self.old.geometry (self.old.cylinders * 15) }
+        ensures fixed { (self.new.number ≡ self.old.number) × (self.new.cylinders ≡ self.old.cylinders) × (self.new.geometry ≡ self.old.geometry) }
         ensures volume { self.new.pair ≡ self.old.pair }
         ensures half { self.new.half ≡ self.old.half }
         ensures firm { StaysFirm self.old.loose.loose self.new.loose.loose }
         ensures weight { weight self.new.loose ≡ weight self.old.loose }
-        ensures takes { Takes K.takes keep.new self.new.number (self.new.cylinders * 15) }
+        ensures takes { Takes K.takes keep.new self.new.number self.new.geometry (self.new.cylinders * 15) }
         ensures run { (p : PortView) → Ran surely (Heard K.hears K.takes)
             (firm_told contents t (by_frame contents (state_of self.old) t (frame_at (state_of self.old) t))) (outside p self.old keep.old)
             (state_of self.new) tt (outside p self.new keep.new) }
     {
         self.owed.no_firm();
-        keep.firm(self.number, t, self.frame_image(t));
+        let image = self.frame_image(t);
+        image.fits();
+        keep.firm(self.number, t, image);
         self.harden(t);
     }
 }

@@ -19,7 +19,7 @@ impl<V: Volume> DeviceStore<V> {
         requires here { self.old.pair.lent ≡ None }
         requires there { is_some (volume_of self.old.pair.volumes side) ≡ true }
         requires size { (V.view volume).tracks ≡ self.old.cylinders * 15 }
-        ensures fixed { (self.new.number ≡ self.old.number) × (self.new.cylinders ≡ self.old.cylinders) }
+        ensures fixed { (self.new.number ≡ self.old.number) × (self.new.cylinders ≡ self.old.cylinders) × (self.new.geometry ≡ self.old.geometry) }
         ensures half { self.new.half ≡ self.old.half }
         ensures loose { self.new.loose ≡ self.old.loose }
         ensures volume { volume_of self.new.pair.volumes side ≡ Some volume }
@@ -34,7 +34,7 @@ impl<V: Volume> DeviceStore<V> {
     pub fn join(&mut self, volume: V)
         requires here { self.old.pair.lent ≡ None }
         requires size { (V.view volume).tracks ≡ self.old.cylinders * 15 }
-        ensures fixed { (self.new.number ≡ self.old.number) × (self.new.cylinders ≡ self.old.cylinders) }
+        ensures fixed { (self.new.number ≡ self.old.number) × (self.new.cylinders ≡ self.old.cylinders) × (self.new.geometry ≡ self.old.geometry) }
         ensures half { self.new.half ≡ self.old.half }
         ensures loose { self.new.loose ≡ self.old.loose }
         ensures a { on_a self.new ≡ on_a self.old }
@@ -46,7 +46,7 @@ impl<V: Volume> DeviceStore<V> {
 
     /// Side B leaves, and a held mark ends. It answers its volume.
     pub fn split(&mut self) -> Option<V>
-        ensures fixed { (self.new.number ≡ self.old.number) × (self.new.cylinders ≡ self.old.cylinders) }
+        ensures fixed { (self.new.number ≡ self.old.number) × (self.new.cylinders ≡ self.old.cylinders) × (self.new.geometry ≡ self.old.geometry) }
         ensures half { self.new.half ≡ self.old.half }
         ensures loose { self.new.loose ≡ self.old.loose }
         ensures a { on_a self.new ≡ on_a self.old }
@@ -59,7 +59,7 @@ impl<V: Volume> DeviceStore<V> {
 
     /// Side B takes nothing from here on.
     pub fn hold(&mut self)
-        ensures fixed { (self.new.number ≡ self.old.number) × (self.new.cylinders ≡ self.old.cylinders) }
+        ensures fixed { (self.new.number ≡ self.old.number) × (self.new.cylinders ≡ self.old.cylinders) × (self.new.geometry ≡ self.old.geometry) }
         ensures half { self.new.half ≡ self.old.half }
         ensures loose { self.new.loose ≡ self.old.loose }
         ensures volume { self.new.pair.volumes ≡ self.old.pair.volumes }
@@ -70,7 +70,7 @@ impl<V: Volume> DeviceStore<V> {
 
     /// Side B takes what is written from here on, and what is stale there is copied.
     pub fn resume(&mut self)
-        ensures fixed { (self.new.number ≡ self.old.number) × (self.new.cylinders ≡ self.old.cylinders) }
+        ensures fixed { (self.new.number ≡ self.old.number) × (self.new.cylinders ≡ self.old.cylinders) × (self.new.geometry ≡ self.old.geometry) }
         ensures half { self.new.half ≡ self.old.half }
         ensures loose { self.new.loose ≡ self.old.loose }
         ensures volume { self.new.pair.volumes ≡ self.old.pair.volumes }
@@ -82,7 +82,7 @@ impl<V: Volume> DeviceStore<V> {
     /// An empty volume takes the place of one that was lent, and no track is loose.
     pub fn restore(&mut self, volume: V)
         requires size { (V.view volume).tracks ≡ self.old.cylinders * 15 }
-        ensures fixed { (self.new.number ≡ self.old.number) × (self.new.cylinders ≡ self.old.cylinders) }
+        ensures fixed { (self.new.number ≡ self.old.number) × (self.new.cylinders ≡ self.old.cylinders) × (self.new.geometry ≡ self.old.geometry) }
         ensures half { self.new.half ≡ self.old.half }
         ensures weight { weight self.new.loose ≤ weight self.old.loose }
         ensures a { on_a self.new ≡ Some volume }
@@ -98,7 +98,7 @@ impl<V: Volume> DeviceStore<V> {
     fn give_up(&mut self, t: TrackNo)
         requires track { t < self.old.cylinders * 15 }
         requires away { is_some self.old.pair.lent ≡ true }
-        ensures fixed { (self.new.number ≡ self.old.number) × (self.new.cylinders ≡ self.old.cylinders) }
+        ensures fixed { (self.new.number ≡ self.old.number) × (self.new.cylinders ≡ self.old.cylinders) × (self.new.geometry ≡ self.old.geometry) }
         ensures volume { self.new.pair ≡ self.old.pair }
         ensures half { self.new.half ≡ self.old.half }
         ensures loose { self.new.loose ≡ self.old.loose }
@@ -111,7 +111,7 @@ impl<V: Volume> DeviceStore<V> {
     /// The same of all tracks.
     fn give_up_all(&mut self)
         requires { is_some self.old.pair.lent ≡ true }
-        ensures fixed { (self.new.number ≡ self.old.number) × (self.new.cylinders ≡ self.old.cylinders) }
+        ensures fixed { (self.new.number ≡ self.old.number) × (self.new.cylinders ≡ self.old.cylinders) × (self.new.geometry ≡ self.old.geometry) }
         ensures volume { self.new.pair ≡ self.old.pair }
         ensures half { self.new.half ≡ self.old.half }
         ensures loose { self.new.loose ≡ self.old.loose }
@@ -127,7 +127,7 @@ impl<V: Volume> DeviceStore<V> {
     /// Its loose tracks stay that. It answers the volume.
     pub fn lend(&mut self, to: DeviceNo) -> Option<V>
         requires { self.old.pair.b.up ≡ false }
-        ensures fixed { (self.new.number ≡ self.old.number) × (self.new.cylinders ≡ self.old.cylinders) }
+        ensures fixed { (self.new.number ≡ self.old.number) × (self.new.cylinders ≡ self.old.cylinders) × (self.new.geometry ≡ self.old.geometry) }
         ensures half { self.new.half ≡ self.old.half }
         ensures loose { self.new.loose ≡ self.old.loose }
         ensures a { on_a self.new ≡ None }

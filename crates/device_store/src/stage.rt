@@ -25,7 +25,7 @@ impl<V: Volume> DeviceStore<V> {
     ) -> Result<Did, NoMemory>
         requires track { t < self.old.cylinders * 15 }
         requires firm { is_loose (state_of self.old) t ≡ false }
-        ensures fixed { (self.new.number ≡ self.old.number) × (self.new.cylinders ≡ self.old.cylinders) }
+        ensures fixed { (self.new.number ≡ self.old.number) × (self.new.cylinders ≡ self.old.cylinders) × (self.new.geometry ≡ self.old.geometry) }
         ensures half { self.new.half ≡ self.old.half }
         ensures loose { self.new.loose ≡ self.old.loose }
         ensures run { (k : K) → Ran (where_ok result) (Heard K.hears K.takes)
@@ -56,12 +56,12 @@ impl<V: Volume> DeviceStore<V> {
         keep: &mut K,
     ) -> Result<Did, NoMemory>
         requires track { t < self.old.cylinders * 15 }
-        requires takes { Takes K.takes keep.old self.old.number (self.old.cylinders * 15) }
+        requires takes { Takes K.takes keep.old self.old.number self.old.geometry (self.old.cylinders * 15) }
         requires firm { is_some self.old.pair.lent ≡ false → is_loose (state_of self.old) t ≡ false }
-        ensures fixed { (self.new.number ≡ self.old.number) × (self.new.cylinders ≡ self.old.cylinders) }
+        ensures fixed { (self.new.number ≡ self.old.number) × (self.new.cylinders ≡ self.old.cylinders) × (self.new.geometry ≡ self.old.geometry) }
         ensures half { self.new.half ≡ self.old.half }
         ensures weight { weight self.new.loose ≡ weight self.old.loose }
-        ensures takes { Takes K.takes keep.new self.new.number (self.new.cylinders * 15) }
+        ensures takes { Takes K.takes keep.new self.new.number self.new.geometry (self.new.cylinders * 15) }
         ensures run { Ran (where_ok result) (Heard K.hears K.takes) (granted contents (state_of self.old) t true) (outside (P.view port.old) self.old keep.old)
             (state_of self.new) (had (λ did. did) result) (outside (P.view port.new) self.new keep.new) }
     {
@@ -81,11 +81,11 @@ impl<V: Volume> DeviceStore<V> {
         keep: &mut K,
     ) -> Result<Did, NoMemory>
         requires track { t < self.old.cylinders * 15 }
-        requires takes { Takes K.takes keep.old self.old.number (self.old.cylinders * 15) }
-        ensures fixed { (self.new.number ≡ self.old.number) × (self.new.cylinders ≡ self.old.cylinders) }
+        requires takes { Takes K.takes keep.old self.old.number self.old.geometry (self.old.cylinders * 15) }
+        ensures fixed { (self.new.number ≡ self.old.number) × (self.new.cylinders ≡ self.old.cylinders) × (self.new.geometry ≡ self.old.geometry) }
         ensures half { self.new.half ≡ self.old.half }
         ensures weight { weight self.new.loose ≡ weight self.old.loose }
-        ensures takes { Takes K.takes keep.new self.new.number (self.new.cylinders * 15) }
+        ensures takes { Takes K.takes keep.new self.new.number self.new.geometry (self.new.cylinders * 15) }
         ensures run { Ran (where_ok result) (Heard K.hears K.takes) (stage contents (state_of self.old) t) (outside (P.view port.old) self.old keep.old)
             (state_of self.new) (had (λ did. did) result) (outside (P.view port.new) self.new keep.new) }
     {

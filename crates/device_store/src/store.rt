@@ -1,7 +1,9 @@
 ghost use Rattle.std.specs.Prelude.{◌≡◌, ◌≤◌, ◌*◌, ℕ, false, is_some, length, true};
+ghost use Rattle.std.proofs.Props.{props};
 ghost use Rattle.track_cache.specs.Frames.{is_modified};
 ghost use Rattle.event_notes.specs.Loose.{is_loose_in};
 ghost use Rattle.device_store.specs.Halves.{half_below, half_is_firm};
+ghost use Rattle.device_store.specs.Images.{AreImagesOf, IsHalfOf};
 ghost use Rattle.device_store.specs.Queued.{are_below};
 
 use crate::HalfWrite;
@@ -52,6 +54,8 @@ pub struct DeviceStore<V: Volume> {
     pub ghost half_here: { half_below (cylinders * 15) half ≡ true },
     pub ghost half_firm: { half_is_firm loose.loose half ≡ true },
     pub ghost queue_of_device: { are_below (cylinders * 15) queue ≡ true },
+    pub ghost frames_of_tracks: { AreImagesOf geometry frames } by { Prim.hlevel props },
+    pub ghost half_of_track: { IsHalfOf geometry half } by { Prim.hlevel props },
 }
 
 /// The image of a track is in its frame, or is this one; or no side gave its bytes, and the first one that failed; or the bytes of

@@ -28,6 +28,7 @@ ghost use Rattle.duplex_pair.specs.Sides.{HasSides, other_of, state_in, volume_o
 ghost use Rattle.duplex_pair.specs.Volumes.{IsThere, view_in};
 ghost use Rattle.event_notes.specs.Loose.{weight};
 ghost use Rattle.track_cache.specs.Frames.{has_frame, image_at};
+ghost use Rattle.device_store.specs.Images.{IsImageOf};
 ghost use Rattle.device_store.specs.Looks.{frame_in};
 ghost use Rattle.device_store.specs.State.{is_opened, origin_of, state_of, outside, surely, StaysFirm, Takes, wrote_by};
 
@@ -93,19 +94,21 @@ impl<V: Volume> DeviceStore<V> {
     pub(crate) fn firm_first<K: Keep<TrackImage>>(&mut self, t: TrackNo, keep: &mut K) -> bool
         requires track { t < self.old.cylinders * 15 }
         requires kept { is_loose (state_of self.old) t ≡ true → is_some (frame_at (state_of self.old) t) ≡ true }
-        requires takes { Takes K.takes keep.old self.old.number (self.old.cylinders * 15) }
-        ensures fixed { (self.new.number ≡ self.old.number) × (self.new.cylinders ≡ self.old.cylinders) }
+        requires takes { Takes K.takes keep.old self.old.number self.old.geometry (self.old.cylinders * 15) }
+        ensures fixed { (self.new.number ≡ self.old.number) × (self.new.cylinders ≡ self.old.cylinders) × (self.new.geometry ≡ self.old.geometry) }
         ensures volume { self.new.pair.volumes ≡ self.old.pair.volumes }
         ensures half { self.new.half ≡ self.old.half }
         ensures weight { weight self.new.loose ≡ weight self.old.loose }
-        ensures takes { Takes K.takes keep.new self.new.number (self.new.cylinders * 15) }
+        ensures takes { Takes K.takes keep.new self.new.number self.new.geometry (self.new.cylinders * 15) }
         ensures frames { self.new.frames ≡ self.old.frames }
         ensures firm { is_loose (state_of self.new) t ≡ false }
         ensures run { (p : PortView) → Ran surely (Heard K.hears K.takes) (firm_first contents (state_of self.old) t) (outside p self.old keep.old)
             (state_of self.new) result (outside p self.new keep.new) }
     {
         if self.loose.has(t) {
-            keep.firm(self.number, t, self.frame_image(t));
+            let image = self.frame_image(t);
+            image.fits();
+            keep.firm(self.number, t, image);
             self.harden(t);
             self.stale_everywhere(t);
             return true;
@@ -119,7 +122,7 @@ impl<V: Volume> DeviceStore<V> {
         requires firm { is_loose (state_of self.old) t ≡ false }
         requires down { self.old.pair.a.up ≡ false }
         requires none { takes_b (state_of self.old) ≡ false }
-        ensures fixed { (self.new.number ≡ self.old.number) × (self.new.cylinders ≡ self.old.cylinders) }
+        ensures fixed { (self.new.number ≡ self.old.number) × (self.new.cylinders ≡ self.old.cylinders) × (self.new.geometry ≡ self.old.geometry) }
         ensures half { self.new.half ≡ self.old.half }
         ensures loose { self.new.loose ≡ self.old.loose }
         ensures refused { result.took ≡ Unwritten }
@@ -137,7 +140,7 @@ impl<V: Volume> DeviceStore<V> {
     /// Side A took a track, which is stale on a side B that is up.
     fn taken_a(&mut self, t: TrackNo)
         requires { t < self.old.cylinders * 15 }
-        ensures fixed { (self.new.number ≡ self.old.number) × (self.new.cylinders ≡ self.old.cylinders) }
+        ensures fixed { (self.new.number ≡ self.old.number) × (self.new.cylinders ≡ self.old.cylinders) × (self.new.geometry ≡ self.old.geometry) }
         ensures volume { self.new.pair.volumes ≡ self.old.pair.volumes }
         ensures half { self.new.half ≡ self.old.half }
         ensures loose { self.new.loose ≡ self.old.loose }
@@ -162,13 +165,13 @@ impl<V: Volume> DeviceStore<V> {
     ) -> Written
         requires track { t < self.old.cylinders * 15 }
         requires firm { is_loose (state_of self.old) t ≡ false }
-        requires takes { Takes K.takes keep.old self.old.number (self.old.cylinders * 15) }
+        requires takes { Takes K.takes keep.old self.old.number self.old.geometry (self.old.cylinders * 15) }
         requires up { self.old.pair.b.up ≡ true }
-        ensures fixed { (self.new.number ≡ self.old.number) × (self.new.cylinders ≡ self.old.cylinders) }
+        ensures fixed { (self.new.number ≡ self.old.number) × (self.new.cylinders ≡ self.old.cylinders) × (self.new.geometry ≡ self.old.geometry) }
         ensures half { self.new.half ≡ self.old.half }
         ensures weight { weight self.new.loose ≡ weight self.old.loose }
         ensures firm { StaysFirm self.old.loose.loose self.new.loose.loose }
-        ensures takes { Takes K.takes keep.new self.new.number (self.new.cylinders * 15) }
+        ensures takes { Takes K.takes keep.new self.new.number self.new.geometry (self.new.cylinders * 15) }
         ensures run { (p : PortView) → Ran surely (Heard K.hears K.takes)
             (write_side contents (state_of self.old) B t (track_bytes image.now.track) (alone_b contents t fault first)) (outside p self.old keep.old)
             (state_of self.new) (wrote_by result) (outside p self.new keep.new) }
@@ -196,13 +199,13 @@ impl<V: Volume> DeviceStore<V> {
     ) -> Written
         requires track { t < self.old.cylinders * 15 }
         requires firm { is_loose (state_of self.old) t ≡ false }
-        requires takes { Takes K.takes keep.old self.old.number (self.old.cylinders * 15) }
+        requires takes { Takes K.takes keep.old self.old.number self.old.geometry (self.old.cylinders * 15) }
         requires up { takes ≡ true → self.old.pair.b.up ≡ true }
-        ensures fixed { (self.new.number ≡ self.old.number) × (self.new.cylinders ≡ self.old.cylinders) }
+        ensures fixed { (self.new.number ≡ self.old.number) × (self.new.cylinders ≡ self.old.cylinders) × (self.new.geometry ≡ self.old.geometry) }
         ensures half { self.new.half ≡ self.old.half }
         ensures weight { weight self.new.loose ≡ weight self.old.loose }
         ensures firm { StaysFirm self.old.loose.loose self.new.loose.loose }
-        ensures takes { Takes K.takes keep.new self.new.number (self.new.cylinders * 15) }
+        ensures takes { Takes K.takes keep.new self.new.number self.new.geometry (self.new.cylinders * 15) }
         ensures run { (p : PortView) → Ran surely (Heard K.hears K.takes) (failed_a contents t (track_bytes image.now.track) takes (state_of self.old))
             (outside p self.old keep.old) (state_of self.new) (wrote_by result) (outside p self.new keep.new) }
     {
@@ -225,13 +228,13 @@ impl<V: Volume> DeviceStore<V> {
     ) -> Written
         requires track { t < self.old.cylinders * 15 }
         requires firm { is_loose (state_of self.old) t ≡ false }
-        requires takes { Takes K.takes keep.old self.old.number (self.old.cylinders * 15) }
+        requires takes { Takes K.takes keep.old self.old.number self.old.geometry (self.old.cylinders * 15) }
         requires up { self.old.pair.a.up ≡ true }
-        ensures fixed { (self.new.number ≡ self.old.number) × (self.new.cylinders ≡ self.old.cylinders) }
+        ensures fixed { (self.new.number ≡ self.old.number) × (self.new.cylinders ≡ self.old.cylinders) × (self.new.geometry ≡ self.old.geometry) }
         ensures half { self.new.half ≡ self.old.half }
         ensures weight { weight self.new.loose ≡ weight self.old.loose }
         ensures firm { StaysFirm self.old.loose.loose self.new.loose.loose }
-        ensures takes { Takes K.takes keep.new self.new.number (self.new.cylinders * 15) }
+        ensures takes { Takes K.takes keep.new self.new.number self.new.geometry (self.new.cylinders * 15) }
         ensures run { (p : PortView) → Ran surely (Heard K.hears K.takes) (write_first contents (state_of self.old) t (track_bytes image.now.track))
             (outside p self.old keep.old) (state_of self.new) (wrote_by result) (outside p self.new keep.new) }
     {
@@ -256,12 +259,12 @@ impl<V: Volume> DeviceStore<V> {
     ) -> Written
         requires track { t < self.old.cylinders * 15 }
         requires firm { is_loose (state_of self.old) t ≡ false }
-        requires takes { Takes K.takes keep.old self.old.number (self.old.cylinders * 15) }
-        ensures fixed { (self.new.number ≡ self.old.number) × (self.new.cylinders ≡ self.old.cylinders) }
+        requires takes { Takes K.takes keep.old self.old.number self.old.geometry (self.old.cylinders * 15) }
+        ensures fixed { (self.new.number ≡ self.old.number) × (self.new.cylinders ≡ self.old.cylinders) × (self.new.geometry ≡ self.old.geometry) }
         ensures half { self.new.half ≡ self.old.half }
         ensures weight { weight self.new.loose ≡ weight self.old.loose }
         ensures firm { StaysFirm self.old.loose.loose self.new.loose.loose }
-        ensures takes { Takes K.takes keep.new self.new.number (self.new.cylinders * 15) }
+        ensures takes { Takes K.takes keep.new self.new.number self.new.geometry (self.new.cylinders * 15) }
         ensures run { (p : PortView) → Ran surely (Heard K.hears K.takes) (write_first contents (state_of self.old) t (track_bytes image.now.track))
             (outside p self.old keep.old) (state_of self.new) (wrote_by result) (outside p self.new keep.new) }
     {
@@ -279,7 +282,7 @@ impl<V: Volume> DeviceStore<V> {
         requires track { t < self.old.cylinders * 15 }
         requires firm { is_loose (state_of self.old) t ≡ false }
         requires single { (state_of self.old).paired ≡ false }
-        ensures fixed { (self.new.number ≡ self.old.number) × (self.new.cylinders ≡ self.old.cylinders) }
+        ensures fixed { (self.new.number ≡ self.old.number) × (self.new.cylinders ≡ self.old.cylinders) × (self.new.geometry ≡ self.old.geometry) }
         ensures volume { self.new.pair.volumes ≡ self.old.pair.volumes }
         ensures half { self.new.half ≡ self.old.half }
         ensures loose { self.new.loose ≡ self.old.loose }
@@ -309,7 +312,7 @@ impl<V: Volume> DeviceStore<V> {
         requires firm { is_loose (state_of self.old) t ≡ false }
         requires framed { is_some (frame_at (state_of self.old) t) ≡ true }
         requires single { (state_of self.old).paired ≡ false }
-        ensures fixed { (self.new.number ≡ self.old.number) × (self.new.cylinders ≡ self.old.cylinders) }
+        ensures fixed { (self.new.number ≡ self.old.number) × (self.new.cylinders ≡ self.old.cylinders) × (self.new.geometry ≡ self.old.geometry) }
         ensures half { self.new.half ≡ self.old.half }
         ensures loose { self.new.loose ≡ self.old.loose }
         ensures kept { result.took ≡ Whole → self.new.frames ≡ self.old.frames }
@@ -329,13 +332,13 @@ impl<V: Volume> DeviceStore<V> {
     /// Behind a write of side B in a second part.
     pub(crate) fn tried_b<K: Keep<TrackImage>>(&mut self, t: TrackNo, took: bool, keep: &mut K)
         requires track { t < self.old.cylinders * 15 }
-        requires takes { Takes K.takes keep.old self.old.number (self.old.cylinders * 15) }
+        requires takes { Takes K.takes keep.old self.old.number self.old.geometry (self.old.cylinders * 15) }
         ensures volume { self.new.pair.volumes ≡ self.old.pair.volumes }
-        ensures fixed { (self.new.number ≡ self.old.number) × (self.new.cylinders ≡ self.old.cylinders) }
+        ensures fixed { (self.new.number ≡ self.old.number) × (self.new.cylinders ≡ self.old.cylinders) × (self.new.geometry ≡ self.old.geometry) }
         ensures half { self.new.half ≡ self.old.half }
         ensures weight { weight self.new.loose ≡ weight self.old.loose }
         ensures firm { StaysFirm self.old.loose.loose self.new.loose.loose }
-        ensures takes { Takes K.takes keep.new self.new.number (self.new.cylinders * 15) }
+        ensures takes { Takes K.takes keep.new self.new.number self.new.geometry (self.new.cylinders * 15) }
         ensures run { (p : PortView) → Ran surely (Heard K.hears K.takes) (tried_b contents t (state_of self.old) took) (outside p self.old keep.old)
             (state_of self.new) tt (outside p self.new keep.new) }
     {
@@ -349,12 +352,12 @@ impl<V: Volume> DeviceStore<V> {
     /// The second part of a write: side B, where it is up and not held.
     fn write_second<K: Keep<TrackImage>>(&mut self, t: TrackNo, image: &TrackImage, keep: &mut K)
         requires track { t < self.old.cylinders * 15 }
-        requires takes { Takes K.takes keep.old self.old.number (self.old.cylinders * 15) }
-        ensures fixed { (self.new.number ≡ self.old.number) × (self.new.cylinders ≡ self.old.cylinders) }
+        requires takes { Takes K.takes keep.old self.old.number self.old.geometry (self.old.cylinders * 15) }
+        ensures fixed { (self.new.number ≡ self.old.number) × (self.new.cylinders ≡ self.old.cylinders) × (self.new.geometry ≡ self.old.geometry) }
         ensures half { self.new.half ≡ self.old.half }
         ensures weight { weight self.new.loose ≡ weight self.old.loose }
         ensures firm { StaysFirm self.old.loose.loose self.new.loose.loose }
-        ensures takes { Takes K.takes keep.new self.new.number (self.new.cylinders * 15) }
+        ensures takes { Takes K.takes keep.new self.new.number self.new.geometry (self.new.cylinders * 15) }
         ensures run { (p : PortView) → Ran surely (Heard K.hears K.takes) (write_second contents (state_of self.old) t (track_bytes image.now.track))
             (outside p self.old keep.old) (state_of self.new) tt (outside p self.new keep.new) }
     {
@@ -372,8 +375,9 @@ impl<V: Volume> DeviceStore<V> {
         port: &mut P,
     )
         requires track { half.track < self.old.cylinders * 15 }
+        requires of { IsImageOf self.old.geometry half.track half.image }
         requires firm { is_loose (state_of self.old) half.track ≡ false }
-        ensures fixed { (self.new.number ≡ self.old.number) × (self.new.cylinders ≡ self.old.cylinders) }
+        ensures fixed { (self.new.number ≡ self.old.number) × (self.new.cylinders ≡ self.old.cylinders) × (self.new.geometry ≡ self.old.geometry) }
         ensures volume { self.new.pair.volumes ≡ self.old.pair.volumes }
         ensures half { self.new.half ≡ Some half }
         ensures loose { self.new.loose ≡ self.old.loose }
@@ -391,7 +395,7 @@ impl<V: Volume> DeviceStore<V> {
 
     /// The patch goes with its slot.
     fn free_patch<P: Port, K: Keep<TrackImage>>(&mut self, t: TrackNo, port: &mut P)
-        ensures fixed { (self.new.number ≡ self.old.number) × (self.new.cylinders ≡ self.old.cylinders) }
+        ensures fixed { (self.new.number ≡ self.old.number) × (self.new.cylinders ≡ self.old.cylinders) × (self.new.geometry ≡ self.old.geometry) }
         ensures volume { self.new.pair.volumes ≡ self.old.pair.volumes }
         ensures half { self.new.half ≡ self.old.half }
         ensures loose { self.new.loose ≡ self.old.loose }
@@ -416,7 +420,8 @@ impl<V: Volume> DeviceStore<V> {
         port: &mut P,
     )
         requires firm { is_loose (state_of self.old) t ≡ false }
-        ensures fixed { (self.new.number ≡ self.old.number) × (self.new.cylinders ≡ self.old.cylinders) }
+        requires of { IsImageOf self.old.geometry t image }
+        ensures fixed { (self.new.number ≡ self.old.number) × (self.new.cylinders ≡ self.old.cylinders) × (self.new.geometry ≡ self.old.geometry) }
         ensures volume { self.new.pair.volumes ≡ self.old.pair.volumes }
         ensures half { self.new.half ≡ self.old.half }
         ensures loose { self.new.loose ≡ self.old.loose }
@@ -444,7 +449,8 @@ impl<V: Volume> DeviceStore<V> {
         port: &mut P,
     )
         requires firm { is_loose (state_of self.old) t ≡ false }
-        ensures fixed { (self.new.number ≡ self.old.number) × (self.new.cylinders ≡ self.old.cylinders) }
+        requires of { IsImageOf self.old.geometry t image }
+        ensures fixed { (self.new.number ≡ self.old.number) × (self.new.cylinders ≡ self.old.cylinders) × (self.new.geometry ≡ self.old.geometry) }
         ensures volume { self.new.pair.volumes ≡ self.old.pair.volumes }
         ensures half { self.new.half ≡ self.old.half }
         ensures loose { self.new.loose ≡ self.old.loose }
@@ -462,7 +468,7 @@ impl<V: Volume> DeviceStore<V> {
     pub(crate) fn frame_done<P: Port, K: Keep<TrackImage>>(&mut self, t: TrackNo, port: &mut P)
         requires firm { is_loose (state_of self.old) t ≡ false }
         requires framed { is_some (frame_at (state_of self.old) t) ≡ true }
-        ensures fixed { (self.new.number ≡ self.old.number) × (self.new.cylinders ≡ self.old.cylinders) }
+        ensures fixed { (self.new.number ≡ self.old.number) × (self.new.cylinders ≡ self.old.cylinders) × (self.new.geometry ≡ self.old.geometry) }
         ensures volume { self.new.pair.volumes ≡ self.old.pair.volumes }
         ensures half { self.new.half ≡ self.old.half }
         ensures loose { self.new.loose ≡ self.old.loose }
@@ -484,15 +490,17 @@ impl<V: Volume> DeviceStore<V> {
         keep: &mut K,
     )
         requires track { t < self.old.cylinders * 15 }
+        requires of { IsImageOf self.old.geometry t image }
         requires firm { is_loose (state_of self.old) t ≡ false }
-        requires takes { Takes K.takes keep.old self.old.number (self.old.cylinders * 15) }
-        ensures fixed { (self.new.number ≡ self.old.number) × (self.new.cylinders ≡ self.old.cylinders) }
+        requires takes { Takes K.takes keep.old self.old.number self.old.geometry (self.old.cylinders * 15) }
+        ensures fixed { (self.new.number ≡ self.old.number) × (self.new.cylinders ≡ self.old.cylinders) × (self.new.geometry ≡ self.old.geometry) }
         ensures half { self.new.half ≡ self.old.half }
         ensures loose { self.new.loose ≡ self.old.loose }
-        ensures takes { Takes K.takes keep.new self.new.number (self.new.cylinders * 15) }
+        ensures takes { Takes K.takes keep.new self.new.number self.new.geometry (self.new.cylinders * 15) }
         ensures run { (e : Edit) → Ran surely (Heard K.hears K.takes) (whole contents (state_of self.old) t image e bypass)
             (outside (P.view port.old) self.old keep.old) (state_of self.new) Whole (outside (P.view port.new) self.new keep.new) }
     {
+        image.fits();
         keep.firm(self.number, t, &image);
         self.write_done::<P, K>(t, image, bypass, port);
     }
@@ -507,12 +515,13 @@ impl<V: Volume> DeviceStore<V> {
         keep: &mut K,
     ) -> Took
         requires track { t < self.old.cylinders * 15 }
+        requires of { IsImageOf self.old.geometry t image }
         requires firm { is_loose (state_of self.old) t ≡ false }
-        requires takes { Takes K.takes keep.old self.old.number (self.old.cylinders * 15) }
-        ensures fixed { (self.new.number ≡ self.old.number) × (self.new.cylinders ≡ self.old.cylinders) }
+        requires takes { Takes K.takes keep.old self.old.number self.old.geometry (self.old.cylinders * 15) }
+        ensures fixed { (self.new.number ≡ self.old.number) × (self.new.cylinders ≡ self.old.cylinders) × (self.new.geometry ≡ self.old.geometry) }
         ensures half { self.new.half ≡ self.old.half }
         ensures weight { weight self.new.loose ≡ weight self.old.loose }
-        ensures takes { Takes K.takes keep.new self.new.number (self.new.cylinders * 15) }
+        ensures takes { Takes K.takes keep.new self.new.number self.new.geometry (self.new.cylinders * 15) }
         ensures ends { (result ≡ Opened) → ⊥ }
         ensures run { (e : Edit) → Ran surely (Heard K.hears K.takes) (at_once contents (state_of self.old) t image e bypass)
             (outside (P.view port.old) self.old keep.old) (state_of self.new) result (outside (P.view port.new) self.new keep.new) }
@@ -538,13 +547,14 @@ impl<V: Volume> DeviceStore<V> {
         keep: &mut K,
     ) -> Took
         requires track { half.track < self.old.cylinders * 15 }
+        requires of { IsImageOf self.old.geometry half.track half.image }
         requires firm { is_loose (state_of self.old) half.track ≡ false }
         requires none { self.old.half ≡ None }
-        requires takes { Takes K.takes keep.old self.old.number (self.old.cylinders * 15) }
-        ensures fixed { (self.new.number ≡ self.old.number) × (self.new.cylinders ≡ self.old.cylinders) }
+        requires takes { Takes K.takes keep.old self.old.number self.old.geometry (self.old.cylinders * 15) }
+        ensures fixed { (self.new.number ≡ self.old.number) × (self.new.cylinders ≡ self.old.cylinders) × (self.new.geometry ≡ self.old.geometry) }
         ensures half { self.new.half ≡ (if is_opened result then Some half else None) }
         ensures weight { weight self.new.loose ≡ weight self.old.loose }
-        ensures takes { Takes K.takes keep.new self.new.number (self.new.cylinders * 15) }
+        ensures takes { Takes K.takes keep.new self.new.number self.new.geometry (self.new.cylinders * 15) }
         ensures run { (e : Edit) → origin_of half.origin ≡ OfCommand bypass e
             → Ran surely (Heard K.hears K.takes) (through_by contents half.track half.image e bypass opens was_loose (state_of self.old) took)
             (outside (P.view port.old) self.old keep.old) (state_of self.new) result (outside (P.view port.new) self.new keep.new) }
@@ -578,13 +588,14 @@ impl<V: Volume> DeviceStore<V> {
         keep: &mut K,
     ) -> Took
         requires track { t < self.old.cylinders * 15 }
+        requires of { IsImageOf self.old.geometry t image }
         requires kept { is_loose (state_of self.old) t ≡ true → is_some (frame_at (state_of self.old) t) ≡ true }
         requires none { self.old.half ≡ None }
-        requires takes { Takes K.takes keep.old self.old.number (self.old.cylinders * 15) }
-        ensures fixed { (self.new.number ≡ self.old.number) × (self.new.cylinders ≡ self.old.cylinders) }
+        requires takes { Takes K.takes keep.old self.old.number self.old.geometry (self.old.cylinders * 15) }
+        ensures fixed { (self.new.number ≡ self.old.number) × (self.new.cylinders ≡ self.old.cylinders) × (self.new.geometry ≡ self.old.geometry) }
         ensures half { is_some self.new.half ≡ is_opened result }
         ensures weight { weight self.new.loose ≡ weight self.old.loose }
-        ensures takes { Takes K.takes keep.new self.new.number (self.new.cylinders * 15) }
+        ensures takes { Takes K.takes keep.new self.new.number self.new.geometry (self.new.cylinders * 15) }
         ensures run { Ran surely (Heard K.hears K.takes) (through contents (state_of self.old) t image edit bypass opens)
             (outside (P.view port.old) self.old keep.old) (state_of self.new) result (outside (P.view port.new) self.new keep.new) }
     {

@@ -14,6 +14,7 @@ ghost use Rattle.nv_store.specs.Patches.{stored_at};
 ghost use Rattle.nv_store.specs.Room.{room_for};
 ghost use Rattle.track_image.specs.Image.{edited_image};
 ghost use Rattle.device_store.specs.Chosen.{Fits, FitsSlot, told_before};
+ghost use Rattle.device_store.specs.Images.{IsImageOf};
 ghost use Rattle.device_store.specs.Looks.{frame_in};
 ghost use Rattle.device_store.specs.State.{is_opened, state_of, outside, surely, Takes, had};
 
@@ -63,7 +64,7 @@ fn edited(alloc: Global, image: &TrackImage, edit: &Edit) -> Result<TrackImage, 
 impl<V: Volume> DeviceStore<V> {
     /// Makes room for an edit of a track's patch, and for the track to become loose where it may.
     pub(crate) fn make_room(&mut self, usage: &Usage, t: TrackNo) -> Result<(), NoMemory>
-        ensures fixed { (self.new.number ≡ self.old.number) × (self.new.cylinders ≡ self.old.cylinders) }
+        ensures fixed { (self.new.number ≡ self.old.number) × (self.new.cylinders ≡ self.old.cylinders) × (self.new.geometry ≡ self.old.geometry) }
         ensures half { self.new.half ≡ self.old.half }
         ensures volume { self.new.pair.volumes ≡ self.old.pair.volumes }
         ensures weight { weight self.new.loose ≡ weight self.old.loose }
@@ -82,7 +83,7 @@ impl<V: Volume> DeviceStore<V> {
     pub(crate) fn keep_edit(&mut self, t: TrackNo, edit: Edit, slot: Option<usize>)
         requires fits { FitsSlot (is_some (patch_at (state_of self.old) t)) slot }
         requires room { room_for (stored_at self.old.patches t) ≤ self.old.edits }
-        ensures fixed { (self.new.number ≡ self.old.number) × (self.new.cylinders ≡ self.old.cylinders) }
+        ensures fixed { (self.new.number ≡ self.old.number) × (self.new.cylinders ≡ self.old.cylinders) × (self.new.geometry ≡ self.old.geometry) }
         ensures half { self.new.half ≡ self.old.half }
         ensures volume { self.new.pair.volumes ≡ self.old.pair.volumes }
         ensures loose { self.new.loose ≡ self.old.loose }
@@ -103,8 +104,9 @@ impl<V: Volume> DeviceStore<V> {
     /// A fast write: to the frame and the patch.
     fn write_fast(&mut self, t: TrackNo, image: TrackImage, edit: Edit, slot: Option<usize>)
         requires fits { FitsSlot (is_some (patch_at (state_of self.old) t)) slot }
+        requires of { IsImageOf self.old.geometry t image }
         requires room { room_for (stored_at self.old.patches t) ≤ self.old.edits }
-        ensures fixed { (self.new.number ≡ self.old.number) × (self.new.cylinders ≡ self.old.cylinders) }
+        ensures fixed { (self.new.number ≡ self.old.number) × (self.new.cylinders ≡ self.old.cylinders) × (self.new.geometry ≡ self.old.geometry) }
         ensures half { self.new.half ≡ self.old.half }
         ensures volume { self.new.pair.volumes ≡ self.old.pair.volumes }
         ensures loose { self.new.loose ≡ self.old.loose }
@@ -119,8 +121,9 @@ impl<V: Volume> DeviceStore<V> {
     fn write_provisional(&mut self, t: TrackNo, image: TrackImage)
         requires none { self.old.half ≡ None }
         requires track { t < self.old.cylinders * 15 }
+        requires of { IsImageOf self.old.geometry t image }
         requires room { loose_count self.old.loose.loose + 2 ≤ self.old.loose.spare }
-        ensures fixed { (self.new.number ≡ self.old.number) × (self.new.cylinders ≡ self.old.cylinders) }
+        ensures fixed { (self.new.number ≡ self.old.number) × (self.new.cylinders ≡ self.old.cylinders) × (self.new.geometry ≡ self.old.geometry) }
         ensures half { self.new.half ≡ self.old.half }
         ensures volume { self.new.pair.volumes ≡ self.old.pair.volumes }
         ensures weight { weight self.new.loose ≤ weight self.old.loose + 2 }
@@ -147,14 +150,15 @@ impl<V: Volume> DeviceStore<V> {
     ) -> Took
         requires none { self.old.half ≡ None }
         requires track { t < self.old.cylinders * 15 }
+        requires of { IsImageOf self.old.geometry t image }
         requires kept { is_loose (state_of self.old) t ≡ true → is_some (frame_at (state_of self.old) t) ≡ true }
         requires fits { Fits usage.now.provisional (is_some (patch_at (state_of self.old) t)) choice }
         requires patch { room_for (stored_at self.old.patches t) ≤ self.old.edits }
         requires loose { usage.now.provisional ≡ true → loose_count self.old.loose.loose + 2 ≤ self.old.loose.spare }
-        requires takes { Takes K.takes keep.old self.old.number (self.old.cylinders * 15) }
-        ensures fixed { (self.new.number ≡ self.old.number) × (self.new.cylinders ≡ self.old.cylinders) }
+        requires takes { Takes K.takes keep.old self.old.number self.old.geometry (self.old.cylinders * 15) }
+        ensures fixed { (self.new.number ≡ self.old.number) × (self.new.cylinders ≡ self.old.cylinders) × (self.new.geometry ≡ self.old.geometry) }
         ensures half { is_some self.new.half ≡ is_opened result }
-        ensures takes { Takes K.takes keep.new self.new.number (self.new.cylinders * 15) }
+        ensures takes { Takes K.takes keep.new self.new.number self.new.geometry (self.new.cylinders * 15) }
         ensures weight { weight self.new.loose ≤ weight self.old.loose + 2 }
         ensures run { Ran surely (Heard K.hears K.takes) (write_by contents usage.now first t image edit (state_of self.old) choice)
             (outside (P.view port.old) self.old keep.old) (state_of self.new) result (outside (P.view port.new) self.new keep.new) }
@@ -165,6 +169,7 @@ impl<V: Volume> DeviceStore<V> {
                 Took::Whole
             }
             Choice::Fast(slot) => {
+                image.fits();
                 keep.firm(self.number, t, &image);
                 self.write_fast(t, image, edit, slot);
                 Took::Whole
@@ -258,20 +263,22 @@ impl<V: Volume> DeviceStore<V> {
     ) -> Result<Took, NoMemory>
         requires none { self.old.half ≡ None }
         requires track { t < self.old.cylinders * 15 }
+        requires of { IsImageOf self.old.geometry t old.now }
         requires kept { is_loose (state_of self.old) t ≡ true → is_some (frame_at (state_of self.old) t) ≡ true }
         requires image { image ≡ edited_image edit old.now }
         requires fits { Fits usage.now.provisional (is_some (patch_at (state_of self.old) t)) choice }
         requires patch { room_for (stored_at self.old.patches t) ≤ self.old.edits }
         requires loose { usage.now.provisional ≡ true → loose_count self.old.loose.loose + 2 ≤ self.old.loose.spare }
-        requires takes { Takes K.takes keep.old self.old.number (self.old.cylinders * 15) }
-        ensures fixed { (self.new.number ≡ self.old.number) × (self.new.cylinders ≡ self.old.cylinders) }
+        requires takes { Takes K.takes keep.old self.old.number self.old.geometry (self.old.cylinders * 15) }
+        ensures fixed { (self.new.number ≡ self.old.number) × (self.new.cylinders ≡ self.old.cylinders) × (self.new.geometry ≡ self.old.geometry) }
         ensures half { IfOk result (λ took. is_some self.new.half ≡ is_opened took) }
         ensures same { OnErr result (self.new.half ≡ self.old.half) }
-        ensures takes { Takes K.takes keep.new self.new.number (self.new.cylinders * 15) }
+        ensures takes { Takes K.takes keep.new self.new.number self.new.geometry (self.new.cylinders * 15) }
         ensures weight { weight self.new.loose ≤ weight self.old.loose + 2 }
         ensures run { Ran (where_ok result) (Heard K.hears K.takes) (told_before (state_of self.old) usage.now first t old.now edit choice)
             (outside (P.view port.old) self.old keep.old) (state_of self.new) (had (λ took. took) result) (outside (P.view port.new) self.new keep.new) }
     {
+        old.fits();
         match keep.before_edit(self.number, t, old) {
             Err(NoMemory) => {
                 self.unchosen::<P, K>(t, choice, port);
@@ -295,15 +302,16 @@ impl<V: Volume> DeviceStore<V> {
     ) -> Result<Took, NoMemory>
         requires none { self.old.half ≡ None }
         requires track { t < self.old.cylinders * 15 }
+        requires of { IsImageOf self.old.geometry t old.now }
         requires kept { is_loose (state_of self.old) t ≡ true → is_some (frame_at (state_of self.old) t) ≡ true }
         requires image { image ≡ edited_image edit old.now }
         requires patch { room_for (stored_at self.old.patches t) ≤ self.old.edits }
         requires loose { usage.now.provisional ≡ true → loose_count self.old.loose.loose + 2 ≤ self.old.loose.spare }
-        requires takes { Takes K.takes keep.old self.old.number (self.old.cylinders * 15) }
-        ensures fixed { (self.new.number ≡ self.old.number) × (self.new.cylinders ≡ self.old.cylinders) }
+        requires takes { Takes K.takes keep.old self.old.number self.old.geometry (self.old.cylinders * 15) }
+        ensures fixed { (self.new.number ≡ self.old.number) × (self.new.cylinders ≡ self.old.cylinders) × (self.new.geometry ≡ self.old.geometry) }
         ensures half { IfOk result (λ took. is_some self.new.half ≡ is_opened took) }
         ensures same { OnErr result (self.new.half ≡ self.old.half) }
-        ensures takes { Takes K.takes keep.new self.new.number (self.new.cylinders * 15) }
+        ensures takes { Takes K.takes keep.new self.new.number self.new.geometry (self.new.cylinders * 15) }
         ensures weight { weight self.new.loose ≤ weight self.old.loose + 2 }
         ensures run { Ran (where_ok result) (Heard K.hears K.takes)
             (and_then (choose contents (state_of self.old) usage.now t) (write_chosen contents usage.now first t old.now edit))
@@ -330,13 +338,14 @@ impl<V: Volume> DeviceStore<V> {
     ) -> Result<Took, NoMemory>
         requires none { self.old.half ≡ None }
         requires track { t < self.old.cylinders * 15 }
+        requires of { IsImageOf self.old.geometry t old.now }
         requires here { is_some self.old.pair.lent ≡ false }
         requires suits { Suits old.now.geometry old.now.track.records edit }
-        requires takes { Takes K.takes keep.old self.old.number (self.old.cylinders * 15) }
-        ensures fixed { (self.new.number ≡ self.old.number) × (self.new.cylinders ≡ self.old.cylinders) }
+        requires takes { Takes K.takes keep.old self.old.number self.old.geometry (self.old.cylinders * 15) }
+        ensures fixed { (self.new.number ≡ self.old.number) × (self.new.cylinders ≡ self.old.cylinders) × (self.new.geometry ≡ self.old.geometry) }
         ensures half { IfOk result (λ took. is_some self.new.half ≡ is_opened took) }
         ensures same { OnErr result (self.new.half ≡ self.old.half) }
-        ensures takes { Takes K.takes keep.new self.new.number (self.new.cylinders * 15) }
+        ensures takes { Takes K.takes keep.new self.new.number self.new.geometry (self.new.cylinders * 15) }
         ensures weight { weight self.new.loose ≤ weight self.old.loose + 2 }
         ensures run { Ran (where_ok result) (Heard K.hears K.takes) (write contents (state_of self.old) usage.now first t old.now edit)
             (outside (P.view port.old) self.old keep.old) (state_of self.new) (had (λ took. took) result) (outside (P.view port.new) self.new keep.new) }
@@ -359,10 +368,12 @@ impl<V: Volume> DeviceStore<V> {
     ) -> Result<(), NoMemory>
         requires track { t < self.now.cylinders * 15 }
         requires framed { is_some (frame_at (state_of self.now) t) ≡ true }
-        requires takes { Takes K.takes keep.old self.now.number (self.now.cylinders * 15) }
+        requires takes { Takes K.takes keep.old self.now.number self.now.geometry (self.now.cylinders * 15) }
         ensures { Heard K.hears K.takes keep.old (BeforeEdit self.now.number t (frame_in (state_of self.now) t)) (is_ok result) keep.new }
     {
-        keep.before_edit(self.number, t, self.frame_image(t))
+        let image = self.frame_image(t);
+        image.fits();
+        keep.before_edit(self.number, t, image)
     }
 
     /// The keeper is told the track before an edit that is given to something.
@@ -384,11 +395,11 @@ impl<V: Volume> DeviceStore<V> {
         requires fits { Fits usage.now.provisional (is_some (patch_at (state_of self.old) t)) choice }
         requires patch { room_for (stored_at self.old.patches t) ≤ self.old.edits }
         requires loose { usage.now.provisional ≡ true → loose_count self.old.loose.loose + 2 ≤ self.old.loose.spare }
-        requires takes { Takes K.takes keep.old self.old.number (self.old.cylinders * 15) }
-        ensures fixed { (self.new.number ≡ self.old.number) × (self.new.cylinders ≡ self.old.cylinders) }
+        requires takes { Takes K.takes keep.old self.old.number self.old.geometry (self.old.cylinders * 15) }
+        ensures fixed { (self.new.number ≡ self.old.number) × (self.new.cylinders ≡ self.old.cylinders) × (self.new.geometry ≡ self.old.geometry) }
         ensures half { IfOk result (λ took. is_some self.new.half ≡ is_opened took) }
         ensures same { OnErr result (self.new.half ≡ self.old.half) }
-        ensures takes { Takes K.takes keep.new self.new.number (self.new.cylinders * 15) }
+        ensures takes { Takes K.takes keep.new self.new.number self.new.geometry (self.new.cylinders * 15) }
         ensures weight { weight self.new.loose ≤ weight self.old.loose + 2 }
         ensures run { Ran (where_ok result) (Heard K.hears K.takes)
             (told_before (state_of self.old) usage.now first t (frame_in (state_of self.old) t) edit choice)

@@ -41,30 +41,20 @@ use Rattle.subsystem_core.specs.Comes.{
 }
 use Rattle.subsystem_core.specs.Devices.{devices_of, device_at, numbers_of}
 use Rattle.subsystem_core.specs.Keepers.{Span, span_of, spans_of, TakesAll, hears_none}
-use Rattle.subsystem_core.specs.Seats.{Seat, seats_of}
 
 -- Numbers and sizes
-
-abbrev span_in : Seat → Span
-span_in s = record { number = s.number; cylinders = s.cylinders }
 
 abbrev number_in : Span → ℕ
 number_in s = s.number
 
 module _ {V : Type 0} {G : Ghosts V} where
-  same_span : (x y : Device V G) → y.store.number ≡ x.store.number → y.store.cylinders ≡ x.store.cylinders → span_of y ≡ span_of x
-  same_span x y number cylinders = rw (number, cylinders) refl
+  same_span : (x y : Device V G) → y.store.number ≡ x.store.number → y.store.cylinders ≡ x.store.cylinders → y.store.geometry ≡ x.store.geometry →
+      span_of y ≡ span_of x
+  same_span x y number cylinders geometry = rw (number, cylinders, geometry) refl
 
   pub spans_kept : (ds : List (Device V G)) (i : ℕ) (x y : Device V G) → x ≡ get_or ds i x → y.store.number ≡ x.store.number →
-      y.store.cylinders ≡ x.store.cylinders → spans_of (set ds i y) ≡ spans_of ds
-  spans_kept ds i x y here number cylinders = map-set_same span_of ds i y x (same_span x y number cylinders ∙ ap span_of here)
-
-  by_seats : (ds : List (Device V G)) → spans_of ds ≡ map span_in (seats_of ds)
-  by_seats [] = refl
-  by_seats (d ∷ ds) = ap (λ (ss : List Span). span_of d ∷ ss) (by_seats ds)
-
-  pub spans_by_seats : (xs ys : List (Device V G)) → seats_of xs ≡ seats_of ys → spans_of xs ≡ spans_of ys
-  spans_by_seats xs ys same = by_seats xs ∙ ap (map span_in) same ∙ sym (by_seats ys)
+      y.store.cylinders ≡ x.store.cylinders → y.store.geometry ≡ x.store.geometry → spans_of (set ds i y) ≡ spans_of ds
+  spans_kept ds i x y here number cylinders geometry = map-set_same span_of ds i y x (same_span x y number cylinders geometry ∙ ap span_of here)
 
   by_spans : (ds : List (Device V G)) → numbers_of ds ≡ map number_in (spans_of ds)
   by_spans [] = refl
@@ -96,14 +86,14 @@ module _ {V : Type 0} {G : Ghosts V} where
 module _ {V : Type 0} {G : Ghosts V} {K : Type 0} {takes : K → ℕ → ℕ → Image → Type 0} where
   -- of the device of a number
   pub takes_at : (k : K) (ds : List (Device V G)) (n : ℕ) → TakesAll takes k ds →
-      IfSome (device_at ds n) (λ x. Takes takes k x.store.number (x.store.cylinders * 15))
-  takes_at k ds n all = all_at (λ (x : Device V G). Takes takes k x.store.number (x.store.cylinders * 15)) ds n all
+      IfSome (device_at ds n) (λ x. Takes takes k x.store.number x.store.geometry (x.store.cylinders * 15))
+  takes_at k ds n all = all_at (λ (x : Device V G). Takes takes k x.store.number x.store.geometry (x.store.cylinders * 15)) ds n all
 
-  takes_span : (k l : K) (x y : Device V G) → Still takes k l → span_of y ≡ span_of x → Takes takes k x.store.number (x.store.cylinders * 15) →
-      Takes takes l y.store.number (y.store.cylinders * 15)
+  takes_span : (k l : K) (x y : Device V G) → Still takes k l → span_of y ≡ span_of x → Takes takes k x.store.number x.store.geometry (x.store.cylinders * 15) →
+      Takes takes l y.store.number y.store.geometry (y.store.cylinders * 15)
   takes_span k l x y still is may =
-      subst (λ (s : Span). Takes takes l s.number (s.cylinders * 15)) (sym is)
-      (record { all = λ t i below. still x.store.number t i (may.all t i below) })
+      subst (λ (s : Span). Takes takes l s.number s.geometry (s.cylinders * 15)) (sym is)
+      (record { all = λ t i below of fits. still x.store.number t i (may.all t i below of fits) })
 
   -- of all devices that are where these were
   pub takes_on : (k l : K) (olds news : List (Device V G)) → Still takes k l → spans_of news ≡ spans_of olds → TakesAll takes k olds →
@@ -160,7 +150,7 @@ none_heard = Heard hears_none (λ _ _ _ _. Unit {0})
 
 module _ {V : Type 0} {G : Ghosts V} where
   pub none_takes : (k : NoKeep) (ds : List (Device V G)) → TakesAll (λ _ _ _ _. Unit {0}) k ds
-  none_takes k ds i d within = record { all = λ t image below. tt }
+  none_takes k ds i d within = record { all = λ t image below of fits. tt }
 
   -- a device changed so, said in another way
   pub changed_less : {n : ℕ} {olds news : List (Device V G)} {how less : Device V G → Device V G → Type 0} → ((x y : Device V G) → how x y → less x y) →

@@ -63,7 +63,7 @@ impl<V: Volume> Subsystem<V> {
         requires here { is_in d (numbers_of self.old.devices.items) ≡ true }
         requires running { IfSome (device_at self.old.devices.items d) (λ x. IsSome x.past.running) }
         requires whole { IfSome (device_at self.old.devices.items d) (λ x. is_some (device_of x).store.half ≡ false) }
-        requires takes { IfSome (device_at self.old.devices.items d) (λ x. Takes K.takes keep.old x.store.number (x.store.cylinders * 15)) }
+        requires takes { IfSome (device_at self.old.devices.items d) (λ x. Takes K.takes keep.old x.store.number x.store.geometry (x.store.cylinders * 15)) }
         ensures spans { spans_of self.new.devices.items ≡ spans_of self.old.devices.items }
         ensures asked { Changes d (λ x y. AskedKept (Heard K.hears K.takes) (where_ok result) (command contents (device_of x)) (step_had y.past result)
             self.old.pool keep.old x y self.new.pool keep.new) self.old.devices.items self.new.devices.items }
@@ -74,7 +74,7 @@ impl<V: Volume> Subsystem<V> {
 
     pub(crate) fn second_at<K: Keep<TrackImage>>(&mut self, d: DeviceNo, keep: &mut K) -> SecondStep
         requires here { is_in d (numbers_of self.old.devices.items) ≡ true }
-        requires takes { IfSome (device_at self.old.devices.items d) (λ x. Takes K.takes keep.old x.store.number (x.store.cylinders * 15)) }
+        requires takes { IfSome (device_at self.old.devices.items d) (λ x. Takes K.takes keep.old x.store.number x.store.geometry (x.store.cylinders * 15)) }
         ensures spans { spans_of self.new.devices.items ≡ spans_of self.old.devices.items }
         ensures asked { Changes d (λ x y. IsSome (second_seen y.past result)
             × ((e : SecondEnd) → second_seen y.past result ≡ Some e
@@ -92,7 +92,7 @@ impl<V: Volume> Subsystem<V> {
     ) -> Result<Did, NoMemory>
         requires whole { IfSome (device_at self.old.devices.items d) (λ x. is_some (device_of x).store.half ≡ false) }
         requires here { is_in d (numbers_of self.old.devices.items) ≡ true }
-        requires takes { IfSome (device_at self.old.devices.items d) (λ x. Takes K.takes keep.old x.store.number (x.store.cylinders * 15)) }
+        requires takes { IfSome (device_at self.old.devices.items d) (λ x. Takes K.takes keep.old x.store.number x.store.geometry (x.store.cylinders * 15)) }
         ensures spans { spans_of self.new.devices.items ≡ spans_of self.old.devices.items }
         ensures asked { Changes d (λ x y. AskedKept (Heard K.hears K.takes) (where_ok result) (background contents (device_of x)) (had (λ did. did) result)
             self.old.pool keep.old x y self.new.pool keep.new) self.old.devices.items self.new.devices.items }
@@ -103,7 +103,7 @@ impl<V: Volume> Subsystem<V> {
 
     pub(crate) fn reset_at<K: Keep<TrackImage>>(&mut self, path: PathNo, d: DeviceNo, keep: &mut K)
         requires here { is_in d (numbers_of self.old.devices.items) ≡ true }
-        requires takes { IfSome (device_at self.old.devices.items d) (λ x. Takes K.takes keep.old x.store.number (x.store.cylinders * 15)) }
+        requires takes { IfSome (device_at self.old.devices.items d) (λ x. Takes K.takes keep.old x.store.number x.store.geometry (x.store.cylinders * 15)) }
         ensures spans { spans_of self.new.devices.items ≡ spans_of self.old.devices.items }
         ensures asked { Changes d (λ x y. AskedKept (Heard K.hears K.takes) surely (reset contents (device_of x) path) tt self.old.pool keep.old x y
             self.new.pool keep.new) self.old.devices.items self.new.devices.items }
@@ -114,7 +114,7 @@ impl<V: Volume> Subsystem<V> {
 
     pub(crate) fn lose_at<K: Keep<TrackImage>>(&mut self, d: DeviceNo, loss: Loss, keep: &mut K)
         requires here { is_in d (numbers_of self.old.devices.items) ≡ true }
-        requires takes { IfSome (device_at self.old.devices.items d) (λ x. Takes K.takes keep.old x.store.number (x.store.cylinders * 15)) }
+        requires takes { IfSome (device_at self.old.devices.items d) (λ x. Takes K.takes keep.old x.store.number x.store.geometry (x.store.cylinders * 15)) }
         ensures spans { spans_of self.new.devices.items ≡ spans_of self.old.devices.items }
         ensures asked { Changes d (λ x y. AskedKept (Heard K.hears K.takes) surely (lose contents (device_of x) loss) tt self.old.pool keep.old x y
             self.new.pool keep.new) self.old.devices.items self.new.devices.items }
@@ -131,7 +131,7 @@ impl<V: Volume> Subsystem<V> {
     ) -> Result<Peeked, NoMemory>
         requires here { is_in d (numbers_of self.old.devices.items) ≡ true }
         requires track { IfSome (device_at self.old.devices.items d) (λ x. t < x.store.cylinders * 15) }
-        requires takes { IfSome (device_at self.old.devices.items d) (λ x. Takes K.takes keep.old x.store.number (x.store.cylinders * 15)) }
+        requires takes { IfSome (device_at self.old.devices.items d) (λ x. Takes K.takes keep.old x.store.number x.store.geometry (x.store.cylinders * 15)) }
         ensures spans { spans_of self.new.devices.items ≡ spans_of self.old.devices.items }
         ensures asked { Changes d (λ x y. IfOk result (IsPeeked (state_of y.store) t) × AskedKept (Heard K.hears K.takes) (where_ok result)
             (peek contents (device_of x) t) (had (peeked_by (state_of y.store) t) result) self.old.pool keep.old x y self.new.pool keep.new)

@@ -23,6 +23,7 @@ fn lose_each<V: Volume, K: Keep<TrackImage>>(
 )
     requires takes { TakesAll K.takes keep.old devices.old }
     ensures seats { seats_of devices.new ≡ seats_of devices.old }
+    ensures spans { spans_of devices.new ≡ spans_of devices.old }
     ensures each { SweptKept (Heard K.hears K.takes) (λ x. lose contents x loss) pool.old keep.old devices.old devices.new pool.new keep.new }
 {
     for i in 0..devices.len() {
@@ -38,6 +39,7 @@ fn power_each<V: Volume, K: Keep<TrackImage>>(
 )
     requires takes { TakesAll K.takes keep.old devices.old }
     ensures seats { seats_of devices.new ≡ seats_of devices.old }
+    ensures spans { spans_of devices.new ≡ spans_of devices.old }
     ensures each { SweptKept (Heard K.hears K.takes) (power contents) pool.old keep.old devices.old devices.new pool.new keep.new }
 {
     for i in 0..devices.len() {

@@ -60,7 +60,7 @@ impl<V: Volume> Subsystem<V> {
         keep: &mut K,
     ) -> Result<EventEnd, NoMemory>
         requires here { is_in d (numbers_of self.old.devices.items) ≡ true }
-        requires takes { IfSome (device_at self.old.devices.items d) (λ x. Takes K.takes keep.old x.store.number (x.store.cylinders * 15)) }
+        requires takes { IfSome (device_at self.old.devices.items d) (λ x. Takes K.takes keep.old x.store.number x.store.geometry (x.store.cylinders * 15)) }
         ensures spans { spans_of self.new.devices.items ≡ spans_of self.old.devices.items }
         ensures came { CameKept (Heard K.hears K.takes) (Event.Step d) self.old keep.old (answer_of result) self.new keep.new }
     {
@@ -85,7 +85,7 @@ impl<V: Volume> Subsystem<V> {
         keep: &mut K,
     ) -> Result<EventEnd, NoMemory>
         requires here { is_in d (numbers_of self.old.devices.items) ≡ true }
-        requires takes { IfSome (device_at self.old.devices.items d) (λ x. Takes K.takes keep.old x.store.number (x.store.cylinders * 15)) }
+        requires takes { IfSome (device_at self.old.devices.items d) (λ x. Takes K.takes keep.old x.store.number x.store.geometry (x.store.cylinders * 15)) }
         ensures spans { spans_of self.new.devices.items ≡ spans_of self.old.devices.items }
         ensures came { CameKept (Heard K.hears K.takes) (Event.Back d) self.old keep.old (answer_of result) self.new keep.new }
     {
@@ -106,7 +106,7 @@ impl<V: Volume> Subsystem<V> {
         keep: &mut K,
     ) -> EventEnd
         requires here { is_in d (numbers_of self.old.devices.items) ≡ true }
-        requires takes { IfSome (device_at self.old.devices.items d) (λ x. Takes K.takes keep.old x.store.number (x.store.cylinders * 15)) }
+        requires takes { IfSome (device_at self.old.devices.items d) (λ x. Takes K.takes keep.old x.store.number x.store.geometry (x.store.cylinders * 15)) }
         ensures spans { spans_of self.new.devices.items ≡ spans_of self.old.devices.items }
         ensures came { CameKept (Heard K.hears K.takes) (Event.Reset path d) self.old keep.old (Some result) self.new keep.new }
     {
@@ -122,7 +122,7 @@ impl<V: Volume> Subsystem<V> {
         keep: &mut K,
     ) -> EventEnd
         requires here { is_in d (numbers_of self.old.devices.items) ≡ true }
-        requires takes { IfSome (device_at self.old.devices.items d) (λ x. Takes K.takes keep.old x.store.number (x.store.cylinders * 15)) }
+        requires takes { IfSome (device_at self.old.devices.items d) (λ x. Takes K.takes keep.old x.store.number x.store.geometry (x.store.cylinders * 15)) }
         ensures spans { spans_of self.new.devices.items ≡ spans_of self.old.devices.items }
         ensures came { CameKept (Heard K.hears K.takes) (Event.FailVolume d side) self.old keep.old (Some result) self.new keep.new }
     {

@@ -20,6 +20,7 @@ pub loop-turn-init : goal.loop-turn-init
 loop-turn-init g c = record {
   number = refl;
   cylinders = refl;
+  geometry = refl;
   loose = refl;
   none = c.requires.none;
   takes = c.requires.takes;
@@ -39,6 +40,7 @@ loop-turn-preserved g c =
     record {
       number = c.in-Ok.ensures.fixed.0 ∙ c.loop-turn.invariant.number;
       cylinders = c.in-Ok.ensures.fixed.1 ∙ c.loop-turn.invariant.cylinders;
+      geometry = c.in-Ok.ensures.fixed.2 ∙ c.loop-turn.invariant.geometry;
       loose = same ∙ c.loop-turn.invariant.loose;
       none = none_by c.look.new.store.half (subst (λ x. is_some c.look.new.store.half ≡ is_half_over x) c.in-On.is c.in-Ok.ensures.half);
       takes = c.in-Ok.ensures.takes;

@@ -11,9 +11,10 @@ abbrev pub invariant-loop-turn : goal.invariant-loop-turn
 invariant-loop-turn g l = record {
   number : l.store.number ≡ l.fn.store.number;
   cylinders : l.store.cylinders ≡ l.fn.store.cylinders;
+  geometry : l.store.geometry ≡ l.fn.store.geometry;
   loose : weight l.store.loose ≡ weight l.fn.store.loose;
   none : l.store.half ≡ None;
-  takes : Takes g.K.Keep.takes l.keep l.store.number (l.store.cylinders * 15);
+  takes : Takes g.K.Keep.takes l.keep l.store.number l.store.geometry (l.store.cylinders * 15);
   at : IsAt l.fn.store.cylinders l.chain;
   hand : IsSameHand l.fn.chain l.chain;
   inside : l.t < l.fn.store.cylinders * 15;

@@ -23,15 +23,15 @@ returns-in-Err-clause-hand g c = record { again = ap again_from (c.in-Err.ensure
 
 pub returns-in-Ended-clause-run : goal.returns-in-Ended-clause-run
 returns-in-Ended-clause-run g c =
-    rw (← c.seen-image.ensures) (tries true refl (rw (← c.in-Ok.ensures.progress, c.in-Ended.is, ← c.in-Ok.ensures.chain) done))
+    rw (← c.seen-image.ensures.image) (tries true refl (rw (← c.in-Ok.ensures.progress, c.in-Ended.is, ← c.in-Ok.ensures.chain) done))
 
 pub returns-in-Need-clause-run : goal.returns-in-Need-clause-run
 returns-in-Need-clause-run g c =
-    rw (← c.seen-image.ensures) (tries true refl (rw (← c.in-Ok.ensures.progress, c.in-Need.is, ← c.in-Ok.ensures.chain) done))
+    rw (← c.seen-image.ensures.image) (tries true refl (rw (← c.in-Ok.ensures.progress, c.in-Need.is, ← c.in-Ok.ensures.chain) done))
 
 pub returns-in-Local-clause-run : goal.returns-in-Local-clause-run
 returns-in-Local-clause-run g c =
-    rw (← c.seen-image.ensures) (tries true refl
+    rw (← c.seen-image.ensures.image) (tries true refl
     (from_equal (λ x. went_by contents (usage_of c.args.chain.now) c.args.first c.args.t (state_of c.args.store.now) c.seen-image.result.now x
     (stepped c.args.chain.now (Some c.seen-image.result.now)).progress) c.in-Ok.ensures.chain refl
     (from_equal (λ p. went_by contents (usage_of c.args.chain.now) c.args.first c.args.t (state_of c.args.store.now) c.seen-image.result.now c.step.new.self p)
@@ -40,8 +40,8 @@ returns-in-Local-clause-run g c =
 pub returns-in-Write-clause-run : goal.returns-in-Write-clause-run
 returns-in-Write-clause-run g c =
     tries true (had_ok c.write_edit.result)
-    (rw (← c.seen-image.ensures) (rw (← c.in-Ok.ensures.progress, c.in-Write.is, ← c.in-Ok.ensures.chain, ← c.requires.usage)
-    (rw (← c.seen-image.ensures) at c.write_edit.ensures.run)))
+    (rw (← c.seen-image.ensures.image) (rw (← c.in-Ok.ensures.progress, c.in-Write.is, ← c.in-Ok.ensures.chain, ← c.requires.usage)
+    (rw (← c.seen-image.ensures.image) at c.write_edit.ensures.run)))
 
 pub check-requires : goal.check-requires
 check-requires g c =
@@ -101,4 +101,4 @@ returns-in-Write-clause-hand g c =
 
 pub write_edit-requires-clause-suits : goal.write_edit-requires-clause-suits
 write_edit-requires-clause-suits g c =
-    rw (← c.seen-image.ensures) (subst (λ p. SuitsTrack (Some c.seen-image.result.now) p) c.in-Write.is c.in-Ok.ensures.suits)
+    rw (← c.seen-image.ensures.image) (subst (λ p. SuitsTrack (Some c.seen-image.result.now) p) c.in-Write.is c.in-Ok.ensures.suits)

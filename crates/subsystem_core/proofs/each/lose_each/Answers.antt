@@ -6,14 +6,14 @@ use Rattle.device_laws.proofs.BasedEvents.{lose_based}
 use Rattle.device_core.specs.State.{device_of}
 use Rattle.subsystem_core.specs.Comes.{SweepsKept, over}
 use Rattle.subsystem_core.proofs.Found.{read_again}
-use Rattle.subsystem_core.proofs.Hearing.{spans_by_seats, swept_still, takes_on}
+use Rattle.subsystem_core.proofs.Hearing.{spans_kept, swept_still, takes_on}
 use Rattle.subsystem_core.proofs.Numbers.{above_same, below_same}
 use Rattle.subsystem_core.proofs.Seating.{ran_lent, seats_kept}
 use Rattle.subsystem_core.proofs.Sweeping.{swept_more, rest_more, swept_all}
 use Rattle.subsystem_core.proofs.each.lose_each.Goals as goal
 
 pub loop-i-init : goal.loop-i-init
-loop-i-init g c = record { seats = refl; rest = refl; each = over }
+loop-i-init g c = record { seats = refl; spans = refl; rest = refl; each = over }
 
 pub loop-i-preserved : goal.loop-i-preserved
 loop-i-preserved g c =
@@ -29,6 +29,8 @@ loop-i-preserved g c =
         cylinders = c.lose_with.ensures.fixed.1;
         lent = ran_lent (lose_based contents (device_of x) c.args.loss) c.lose_with.ensures.run;
       }) ∙ c.loop-i.invariant.seats;
+      spans = spans_kept ds c.loop-i.i x c.lose_with.new.self read c.lose_with.ensures.fixed.0 c.lose_with.ensures.fixed.1 c.lose_with.ensures.fixed.2
+          ∙ c.loop-i.invariant.spans;
       rest = rw add-one (rest_more how c.loop-i.i c.args.devices.now ds c.lose_with.new.self here within c.loop-i.invariant.rest);
       each = rw add-one (swept_more how c.loop-i.i c.args.devices.now ds x c.lose_with.new.self within c.loop-i.invariant.rest read c.loop-i.invariant.each
           c.lose_with.ensures.run);
@@ -40,7 +42,7 @@ lose_with-requires g c =
     let within : c.loop-i.i < length ds = below_same c.loop-i-test.true c.loop-i.auto.devices in
     takes_on c.args.keep.now c.loop-i.keep c.args.devices.now ds
     (swept_still g.K.Keep.hears g.K.Keep.takes (λ x. lose contents x c.args.loss) c.loop-i.invariant.each)
-    (spans_by_seats ds c.args.devices.now c.loop-i.invariant.seats) c.requires.takes c.loop-i.i c.index-devices-i.result within
+    c.loop-i.invariant.spans c.requires.takes c.loop-i.i c.index-devices-i.result within
 
 pub returns-clause-each : goal.returns-clause-each
 returns-clause-each g c =

@@ -17,3 +17,6 @@ pub returns-clause-run : goal.returns-clause-run
 returns-clause-run g c =
     joined (write_chosen contents c.args.usage.now c.args.first c.args.t c.args.old.now c.args.edit) (c.choose-choice.ensures.run _)
     (rw (← c.is_given.ensures, c.if-is_given.false) (joined (λ z took. Done z (Some took)) (rw c.requires.image at c.write_by.ensures.run) done))
+
+pub write_by-requires-clause-of : goal.write_by-requires-clause-of
+write_by-requires-clause-of g c = rw c.requires.image c.requires.of

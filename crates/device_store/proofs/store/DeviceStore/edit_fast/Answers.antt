@@ -1,10 +1,12 @@
-use Rattle.std.proofs.Common.{◌∙◌, ◌<◌, length, refl, sym, ap, arith}
+use Rattle.std.proofs.Common.{◌∙◌, ◌<◌, length, refl, sym, ap, arith, subst}
 use Rattle.std.proofs.lemmas.List.{length-set}
 use Rattle.device_outside.proofs.Runs.{ended, tells}
 use Rattle.event_notes.specs.Loose.{is_loose_in}
 use Rattle.device_store.specs.State.{outside_of, state_of}
 use Rattle.device_store.proofs.Moves.{lands}
 use Rattle.device_store.proofs.InPlace.{still_modified}
+use Rattle.device_defs.specs.Store.{frame_at}
+use Rattle.device_store.proofs.Placed.{framed_of, reframed, IsFrameOf}
 use Rattle.device_store.proofs.store.DeviceStore.edit_fast.Goals as goal
 
 pub returns-clause-run : goal.returns-clause-run
@@ -15,8 +17,11 @@ returns-clause-run g c = λ u first p.
 
 pub returns-clause-takes : goal.returns-clause-takes
 returns-clause-takes g c =
-    rw (c.keep_edit.ensures.fixed.0, c.keep_edit.ensures.fixed.1)
-    (record { all = λ t i below. (c.edit_firm.ensures.told (state_of c.args.self.now) refl).still c.args.self.now.number t i (c.requires.takes.all t i below) })
+    rw (c.keep_edit.ensures.fixed.0, c.keep_edit.ensures.fixed.1, c.keep_edit.ensures.fixed.2)
+    (record {
+      all = λ t i below of fits. (c.edit_firm.ensures.told (state_of c.args.self.now) refl).still c.args.self.now.number t i
+          (c.requires.takes.all t i below of fits);
+    })
 
 pub invariant_of-self-clause-frame_of_each : goal.invariant_of-self-clause-frame_of_each
 invariant_of-self-clause-frame_of_each g c =
@@ -27,3 +32,15 @@ invariant_of-self-clause-loose_modified g c =
     let there : c.args.t < length c.args.self.now.frames = omega (arith, c.requires.track, c.args.self.now.frame_of_each) in
     λ here. rw (c.edit_firm.ensures.frames (state_of c.args.self.now) refl)
     (still_modified c.args.self.now.frames (is_loose_in c.args.self.now.loose.loose) c.args.t _ refl there (c.args.self.now.loose_modified here))
+
+pub invariant_of-self-clause-frames_of_tracks : goal.invariant_of-self-clause-frames_of_tracks
+invariant_of-self-clause-frames_of_tracks g c =
+    let s = state_of c.args.self.now in
+    rw (c.edit_firm.ensures.frames s refl)
+    (reframed s.geometry s.frames c.args.t _ c.args.self.now.frames_of_tracks
+    (framed_of s.geometry s c.args.t (frame_at s c.args.t) c.requires.there (c.args.self.now.frames_of_tracks c.args.t)))
+
+pub edit_firm-requires-clause-takes : goal.edit_firm-requires-clause-takes
+edit_firm-requires-clause-takes g c =
+    let s = c.args.self.now in
+    λ f is fits. c.requires.takes.all c.args.t _ c.requires.track (subst (IsFrameOf s.geometry c.args.t) is (s.frames_of_tracks c.args.t)) fits

@@ -10,6 +10,7 @@ pub loop-t-init : goal.loop-t-init
 loop-t-init g c = record {
   number = refl;
   cylinders = refl;
+  geometry = refl;
   volume = refl;
   half = refl;
   loose = refl;
@@ -20,6 +21,7 @@ pub loop-t-preserved : goal.loop-t-preserved
 loop-t-preserved g c = record {
   number = c.give_up.ensures.fixed.0 ∙ c.loop-t.invariant.number;
   cylinders = c.give_up.ensures.fixed.1 ∙ c.loop-t.invariant.cylinders;
+  geometry = c.give_up.ensures.fixed.2 ∙ c.loop-t.invariant.geometry;
   volume = c.give_up.ensures.volume ∙ c.loop-t.invariant.volume;
   half = c.give_up.ensures.half ∙ c.loop-t.invariant.half;
   loose = c.give_up.ensures.loose ∙ c.loop-t.invariant.loose;

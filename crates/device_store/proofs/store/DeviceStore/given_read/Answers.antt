@@ -10,3 +10,6 @@ returns-in-Err-clause-run g c = tells false c.in-Err.ensures tt (ran_weaker (λ 
 pub returns-in-Ok-clause-run : goal.returns-in-Ok-clause-run
 returns-in-Ok-clause-run g c =
     tells true c.in-Ok.ensures refl (joined (λ z took. Done z (Some took)) (rw c.requires.image at c.write_by.ensures.run) done)
+
+pub write_by-requires-clause-of : goal.write_by-requires-clause-of
+write_by-requires-clause-of g c = rw c.requires.image c.requires.of

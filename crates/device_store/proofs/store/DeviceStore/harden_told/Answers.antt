@@ -12,4 +12,4 @@ returns-clause-run g c =
     (sym (hardened_told contents c.args.t (state_of c.args.self.now)
     (modified_there _ (c.args.self.now.loose_modified c.requires.here c.args.t c.requires.loose)) c.requires.loose (c.no_firm.ensures c.args.t)
     (subst (λ n. c.args.t < n) (sym c.args.self.now.owed_of_each) c.requires.track))) refl
-    (tells tt (rw c.frame_image.ensures at c.firm.ensures) tt (ended (sym c.harden.ensures.state) refl)))
+    (tells tt (rw c.frame_image-image.ensures.image at c.firm.ensures) tt (ended (sym c.harden.ensures.state) refl)))

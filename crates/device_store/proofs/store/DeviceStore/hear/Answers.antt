@@ -5,12 +5,13 @@ use Rattle.device_store.proofs.Hearings.{hear_on, hear_over, hear_end}
 use Rattle.device_store.proofs.store.DeviceStore.hear.Goals as goal
 
 pub loop-turn-init : goal.loop-turn-init
-loop-turn-init g c = record { number = refl; cylinders = refl; half = refl; loose = refl; rest = λ k. record { ends = λ s a z ran. ran } }
+loop-turn-init g c = record { number = refl; cylinders = refl; geometry = refl; half = refl; loose = refl; rest = λ k. record { ends = λ s a z ran. ran } }
 
 pub loop-turn-preserved : goal.loop-turn-preserved
 loop-turn-preserved g c = record {
   number = c.drop_noted.ensures.fixed.0 ∙ c.loop-turn.invariant.number;
   cylinders = c.drop_noted.ensures.fixed.1 ∙ c.loop-turn.invariant.cylinders;
+  geometry = c.drop_noted.ensures.fixed.2 ∙ c.loop-turn.invariant.geometry;
   half = c.drop_noted.ensures.half ∙ c.loop-turn.invariant.half;
   loose = c.drop_noted.ensures.loose ∙ c.loop-turn.invariant.loose;
   rest = λ k. hear_on contents 960 c.loop-turn._turn c.in-Some.t (state_of c.loop-turn.self) c.loop-turn-test.true (c.loop-turn.invariant.rest k)

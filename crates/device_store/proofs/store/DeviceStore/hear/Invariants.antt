@@ -9,6 +9,7 @@ abbrev pub invariant-loop-turn : goal.invariant-loop-turn
 invariant-loop-turn g l = record {
   number : l.self.number ≡ l.fn.self.number;
   cylinders : l.self.cylinders ≡ l.fn.self.cylinders;
+  geometry : l.self.geometry ≡ l.fn.self.geometry;
   half : l.self.half ≡ l.fn.self.half;
   loose : l.self.loose ≡ l.fn.self.loose;
   rest : (k : g.row.K.Denot) → Rest surely (Heard g.K.Keep.hears g.K.Keep.takes) (hear contents (960 - l._turn) (state_of l.self))

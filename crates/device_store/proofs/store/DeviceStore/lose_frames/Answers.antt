@@ -10,6 +10,7 @@ pub loop-t-init : goal.loop-t-init
 loop-t-init g c = record {
   number = refl;
   cylinders = refl;
+  geometry = refl;
   volume = refl;
   half = refl;
   weight = refl;
@@ -21,6 +22,7 @@ pub loop-t-preserved : goal.loop-t-preserved
 loop-t-preserved g c = record {
   number = c.lose_frame.ensures.fixed.0 ∙ c.loop-t.invariant.number;
   cylinders = c.lose_frame.ensures.fixed.1 ∙ c.loop-t.invariant.cylinders;
+  geometry = c.lose_frame.ensures.fixed.2 ∙ c.loop-t.invariant.geometry;
   volume = c.lose_frame.ensures.volume ∙ c.loop-t.invariant.volume;
   half = c.lose_frame.ensures.half ∙ c.loop-t.invariant.half;
   weight = c.lose_frame.ensures.weight ∙ c.loop-t.invariant.weight;

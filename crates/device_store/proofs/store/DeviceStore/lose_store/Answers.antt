@@ -12,6 +12,7 @@ pub loop-t-init : goal.loop-t-init
 loop-t-init g c = record {
   number = refl;
   cylinders = refl;
+  geometry = refl;
   volume = refl;
   half = refl;
   weight = refl;
@@ -23,6 +24,7 @@ pub loop-t-preserved : goal.loop-t-preserved
 loop-t-preserved g c = record {
   number = c.lose_patch.ensures.fixed.0 ∙ c.loop-t.invariant.number;
   cylinders = c.lose_patch.ensures.fixed.1 ∙ c.loop-t.invariant.cylinders;
+  geometry = c.lose_patch.ensures.fixed.2 ∙ c.loop-t.invariant.geometry;
   volume = c.lose_patch.ensures.volume ∙ c.loop-t.invariant.volume;
   half = c.lose_patch.ensures.half ∙ c.loop-t.invariant.half;
   weight = c.lose_patch.ensures.weight ∙ c.loop-t.invariant.weight;

@@ -11,10 +11,11 @@ abbrev pub invariant-loop-t : goal.invariant-loop-t
 invariant-loop-t g l = record {
   number : l.self.number ≡ l.fn.self.number;
   cylinders : l.self.cylinders ≡ l.fn.self.cylinders;
+  geometry : l.self.geometry ≡ l.fn.self.geometry;
   volume : l.self.pair.volumes ≡ l.fn.self.pair.volumes;
   half : l.self.half ≡ l.fn.self.half;
   weight : weight l.self.loose ≡ weight l.fn.self.loose;
-  takes : Takes g.K.Keep.takes l.keep l.self.number (l.self.cylinders * 15);
+  takes : Takes g.K.Keep.takes l.keep l.self.number l.self.geometry (l.self.cylinders * 15);
   ran : (p : PortView) → Ran surely (Heard g.K.Keep.hears g.K.Keep.takes)
       (all_firm_told contents l.t (over l.t (λ t z. patch_lost contents t z) (state_of l.fn.self)))
       (outside p l.fn.self l.fn.keep) (state_of l.self) tt (outside p l.self l.keep);

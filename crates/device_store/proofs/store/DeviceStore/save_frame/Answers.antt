@@ -17,5 +17,5 @@ returns-in-Err-clause-run g c = tries false tt done
 pub returns-in-Ok-clause-run : goal.returns-in-Ok-clause-run
 returns-in-Ok-clause-run g c =
     tries true refl (joined (λ z e. Done z (Some e))
-    (from_equal (λ i. saving contents (state_of c.args.self.now) c.args.t i c.args.done None) (c.in-Ok.ensures ∙ c.frame_image.ensures) refl
+    (from_equal (λ i. saving contents (state_of c.args.self.now) c.args.t i c.args.done None) (c.in-Ok.ensures ∙ c.frame_image.ensures.image) refl
     c.save_read.ensures.run) done)

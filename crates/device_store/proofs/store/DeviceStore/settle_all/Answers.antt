@@ -12,6 +12,7 @@ pub loop-t-init : goal.loop-t-init
 loop-t-init g c = record {
   number = refl;
   cylinders = refl;
+  geometry = refl;
   volume = refl;
   half = refl;
   weight = refl;
@@ -24,6 +25,7 @@ pub loop-t-preserved : goal.loop-t-preserved
 loop-t-preserved g c = record {
   number = c.settle_other.ensures.fixed.0 ∙ c.loop-t.invariant.number;
   cylinders = c.settle_other.ensures.fixed.1 ∙ c.loop-t.invariant.cylinders;
+  geometry = c.settle_other.ensures.fixed.2 ∙ c.loop-t.invariant.geometry;
   volume = c.settle_other.ensures.volume ∙ c.loop-t.invariant.volume;
   half = c.settle_other.ensures.half ∙ c.loop-t.invariant.half;
   weight = c.settle_other.ensures.weight ∙ c.loop-t.invariant.weight;

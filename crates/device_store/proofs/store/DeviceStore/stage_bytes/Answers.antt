@@ -11,10 +11,13 @@ returns-in-Err-clause-run g c = λ k. tries false tt (asks c.drop_frame.ensures 
 
 pub returns-in-Ok-None-clause-run : goal.returns-in-Ok-None-clause-run
 returns-in-Ok-None-clause-run g c =
-    λ k. tries true refl (rw (← c.in-Ok-None.ensures, c.in-Ok-None.field-0-is)
+    λ k. tries true refl (rw (← c.in-Ok-None.ensures.image, c.in-Ok-None.field-0-is)
     (asks c.drop_frame-in-Ok-None.ensures (ended refl (ap Some (sym c.did.ensures)))))
 
 pub returns-in-Ok-Some-clause-run : goal.returns-in-Ok-Some-clause-run
 returns-in-Ok-Some-clause-run g c =
-    λ k. tries true refl (rw (← c.in-Ok-Some.ensures, c.in-Ok-Some.field-0-is)
+    λ k. tries true refl (rw (← c.in-Ok-Some.ensures.image, c.in-Ok-Some.field-0-is)
     (joined (λ z x. Done z (Some (did c.args.given.fault (Staged c.args.t)))) (c.fill.ensures.run k) (ended refl (ap Some (sym c.did-in-Ok-Some.ensures)))))
+
+pub fill-requires-clause-of : goal.fill-requires-clause-of
+fill-requires-clause-of g c = rw c.in-Ok-Some.field-0-is at c.in-Ok-Some.ensures.of

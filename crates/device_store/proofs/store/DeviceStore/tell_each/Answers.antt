@@ -13,6 +13,7 @@ pub loop-t-init : goal.loop-t-init
 loop-t-init g c = record {
   number = refl;
   cylinders = refl;
+  geometry = refl;
   volume = refl;
   half = refl;
   loose = refl;
@@ -24,6 +25,7 @@ pub loop-t-preserved : goal.loop-t-preserved
 loop-t-preserved g c = record {
   number = c.tell_track.ensures.fixed.0 ∙ c.loop-t.invariant.number;
   cylinders = c.tell_track.ensures.fixed.1 ∙ c.loop-t.invariant.cylinders;
+  geometry = c.tell_track.ensures.fixed.2 ∙ c.loop-t.invariant.geometry;
   volume = c.tell_track.ensures.volume ∙ c.loop-t.invariant.volume;
   half = c.tell_track.ensures.half ∙ c.loop-t.invariant.half;
   loose = c.tell_track.ensures.loose ∙ c.loop-t.invariant.loose;

@@ -10,6 +10,7 @@ abbrev pub invariant-loop-t : goal.invariant-loop-t
 invariant-loop-t g l = record {
   number : l.self.number ≡ l.fn.self.number;
   cylinders : l.self.cylinders ≡ l.fn.self.cylinders;
+  geometry : l.self.geometry ≡ l.fn.self.geometry;
   volume : l.self.pair.volumes ≡ l.fn.self.pair.volumes;
   half : l.self.half ≡ l.fn.self.half;
   loose : l.self.loose ≡ l.fn.self.loose;

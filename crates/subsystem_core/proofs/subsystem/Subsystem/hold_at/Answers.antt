@@ -18,7 +18,7 @@ invariant_of-self g c =
 pub returns-clause-spans : goal.returns-clause-spans
 returns-clause-spans g c =
     spans_kept c.args.self.now.devices.items c.place-at.result c.index_mut.result.now c.hold.new.self c.index_mut.ensures.value
-    (ap (λ d. d.store.device) c.hold.ensures.device) (ap (λ d. d.store.cylinders) c.hold.ensures.device)
+    (ap (λ d. d.store.device) c.hold.ensures.device) (ap (λ d. d.store.cylinders) c.hold.ensures.device) (ap (λ d. d.store.geometry) c.hold.ensures.device)
 
 pub returns-clause-held : goal.returns-clause-held
 returns-clause-held g c =

@@ -30,6 +30,7 @@ pub returns-clause-spans : goal.returns-clause-spans
 returns-clause-spans g c =
     spans_kept c.args.self.now.devices.items c.place-at.result c.index_mut.result.now c.join_volume.new.self c.index_mut.ensures.value
     (ap (λ d. d.store.device) c.join_volume.ensures.device) (ap (λ d. d.store.cylinders) c.join_volume.ensures.device)
+    (ap (λ d. d.store.geometry) c.join_volume.ensures.device)
 
 pub returns-clause-joined : goal.returns-clause-joined
 returns-clause-joined g c =

@@ -31,7 +31,7 @@ invariant_of-self g c =
 pub returns-clause-spans : goal.returns-clause-spans
 returns-clause-spans g c =
     spans_kept c.args.self.now.devices.items c.place-at.result c.index_mut.result.now c.lend_with.new.self c.index_mut.ensures.value
-    c.lend_with.ensures.fixed.0 c.lend_with.ensures.fixed.1
+    c.lend_with.ensures.fixed.0 c.lend_with.ensures.fixed.1 c.lend_with.ensures.fixed.2
 
 pub returns-clause-lent : goal.returns-clause-lent
 returns-clause-lent g c =

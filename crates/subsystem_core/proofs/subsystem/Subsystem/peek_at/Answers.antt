@@ -16,7 +16,7 @@ peek_with-requires-clause-track g c =
 pub peek_with-requires-clause-takes : goal.peek_with-requires-clause-takes
 peek_with-requires-clause-takes g c =
     held c.args.self.now.devices.items c.args.d c.place-at.result c.index_mut.result.now
-    (λ x. Takes g.K.Keep.takes c.args.keep.now x.store.number (x.store.cylinders * 15))
+    (λ x. Takes g.K.Keep.takes c.args.keep.now x.store.number x.store.geometry (x.store.cylinders * 15))
     c.args.self.now.rising c.place-at.ensures.range c.place-at.ensures.found c.index_mut.ensures.value c.requires.takes
 
 pub invariant_of-self : goal.invariant_of-self
@@ -36,7 +36,7 @@ invariant_of-self g c =
 pub returns-clause-spans : goal.returns-clause-spans
 returns-clause-spans g c =
     spans_kept c.args.self.now.devices.items c.place-at.result c.index_mut.result.now c.peek_with.new.self c.index_mut.ensures.value
-    c.peek_with.ensures.fixed.0 c.peek_with.ensures.fixed.1
+    c.peek_with.ensures.fixed.0 c.peek_with.ensures.fixed.1 c.peek_with.ensures.fixed.2
 
 pub returns-clause-asked : goal.returns-clause-asked
 returns-clause-asked g c =

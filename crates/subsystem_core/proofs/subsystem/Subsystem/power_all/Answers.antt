@@ -1,7 +1,8 @@
 use Rattle.std.proofs.Common.{◌≡◌, ◌∙◌, ◌≤◌, arith, ap, length}
+use Rattle.subsystem_core.specs.Keepers.{spans_of}
 use Rattle.subsystem_core.specs.Seats.{seats_of}
 use Rattle.subsystem_core.proofs.Found.{all_written}
-use Rattle.subsystem_core.proofs.Hearing.{numbers_by_spans, spans_by_seats}
+use Rattle.subsystem_core.proofs.Hearing.{numbers_by_spans}
 use Rattle.subsystem_core.proofs.subsystem.Subsystem.power_all.Goals as goal
 
 pub power_each-requires : goal.power_each-requires
@@ -14,7 +15,9 @@ invariant_of-self g c =
     let room : length ds ≤ c.args.self.now.devices.len = omega (arith, ap length c.deref_mut.ensures.value, c.deref_mut.ensures.len) in
     let seats = ap seats_of (all_written c.args.self.now.devices.len ds c.power_each.new.devices room count)
     ∙ c.power_each.ensures.seats ∙ ap seats_of c.deref_mut.ensures.value in
-    let same = numbers_by_spans _ _ (spans_by_seats _ _ seats) in
+    let spans = ap spans_of (all_written c.args.self.now.devices.len ds c.power_each.new.devices room count)
+    ∙ c.power_each.ensures.spans ∙ ap spans_of c.deref_mut.ensures.value in
+    let same = numbers_by_spans _ _ spans in
     record { rising = rw same c.args.self.now.rising; table = rw same c.args.self.now.table; alike = rw seats c.args.self.now.alike }
 
 pub returns-clause-spans : goal.returns-clause-spans
@@ -22,8 +25,8 @@ returns-clause-spans g c =
     let ds = c.args.self.now.devices.items in
     let count : length c.power_each.new.devices ≡ length ds = c.power_each.auto.devices ∙ ap length c.deref_mut.ensures.value in
     let room : length ds ≤ c.args.self.now.devices.len = omega (arith, ap length c.deref_mut.ensures.value, c.deref_mut.ensures.len) in
-    spans_by_seats _ _ (ap seats_of (all_written c.args.self.now.devices.len ds c.power_each.new.devices room count)
-    ∙ c.power_each.ensures.seats ∙ ap seats_of c.deref_mut.ensures.value)
+    ap spans_of (all_written c.args.self.now.devices.len ds c.power_each.new.devices room count)
+    ∙ c.power_each.ensures.spans ∙ ap spans_of c.deref_mut.ensures.value
 
 pub returns-clause-each : goal.returns-clause-each
 returns-clause-each g c =

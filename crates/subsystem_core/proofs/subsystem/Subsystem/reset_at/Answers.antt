@@ -26,7 +26,7 @@ invariant_of-self g c =
 pub returns-clause-spans : goal.returns-clause-spans
 returns-clause-spans g c =
     spans_kept c.args.self.now.devices.items c.place-at.result c.index_mut.result.now c.reset_with.new.self c.index_mut.ensures.value
-    c.reset_with.ensures.fixed.0 c.reset_with.ensures.fixed.1
+    c.reset_with.ensures.fixed.0 c.reset_with.ensures.fixed.1 c.reset_with.ensures.fixed.2
 
 pub returns-clause-asked : goal.returns-clause-asked
 returns-clause-asked g c =
@@ -37,6 +37,6 @@ pub reset_with-requires : goal.reset_with-requires
 reset_with-requires g c = record {
   takes =
       held c.args.self.now.devices.items c.args.d c.place-at.result c.index_mut.result.now
-      (λ x. Takes g.K.Keep.takes c.args.keep.now x.store.number (x.store.cylinders * 15))
+      (λ x. Takes g.K.Keep.takes c.args.keep.now x.store.number x.store.geometry (x.store.cylinders * 15))
       c.args.self.now.rising c.place-at.ensures.range c.place-at.ensures.found c.index_mut.ensures.value c.requires.takes;
 }

@@ -19,6 +19,7 @@ pub returns-clause-spans : goal.returns-clause-spans
 returns-clause-spans g c =
     spans_kept c.args.self.now.devices.items c.place-at.result c.index_mut.result.now c.resume.new.self c.index_mut.ensures.value
     (ap (λ d. d.store.device) c.resume.ensures.device) (ap (λ d. d.store.cylinders) c.resume.ensures.device)
+    (ap (λ d. d.store.geometry) c.resume.ensures.device)
 
 pub returns-clause-resumed : goal.returns-clause-resumed
 returns-clause-resumed g c =

@@ -37,6 +37,7 @@ pub returns-clause-spans : goal.returns-clause-spans
 returns-clause-spans g c =
     spans_kept c.args.self.now.devices.items c.place-at.result c.index_mut.result.now c.start-outcome.new.self c.index_mut.ensures.value
     (ap (λ s. s.number) c.start-outcome.ensures.store) (ap (λ s. s.cylinders) c.start-outcome.ensures.store)
+    (ap (λ s. s.geometry) c.start-outcome.ensures.store)
 
 pub returns-clause-done : goal.returns-clause-done
 returns-clause-done g c =
