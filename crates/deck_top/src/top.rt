@@ -4,7 +4,6 @@ ghost use Rattle.ckd_outside.specs.Causes.{Rose, HasCause};
 ghost use Rattle.ckd_outside.specs.Texts.{Writes, AppendsFront};
 ghost use Rattle.deck_text.specs.DeckLines.{DeckLines};
 ghost use Rattle.device_outside.specs.Bay.{Bay};
-ghost use Rattle.deck_text.specs.Answers.{Parses};
 ghost use Rattle.deck_text.specs.Parse.{parsed};
 ghost use Rattle.deck_run.specs.Opening.{WasRead};
 ghost use Rattle.deck_gen.specs.Generated.{deck_of_seed};
@@ -133,28 +132,15 @@ fn serve_deck<K: Sink>(
     }
 }
 
-/// The deck that was read. Its text isn't kept.
-fn deck_of(alloc: Global, text: Vec<u8>) -> Result<Deck, DeckFault>
-    ensures { Parses result (parsed text.items) }
-{
-    read_deck(alloc, &text)
-}
-
-fn answer<K: Sink>(
-    alloc: Global,
-    task: Task,
-    text: Vec<u8>,
-    sink: &mut K,
-    bay: &mut MemBay,
-) -> Status
+fn answer<K: Sink>(alloc: Global, task: Task, text: &[u8], sink: &mut K, bay: &mut MemBay) -> Status
     ensures spoiled { bay.new.spoiled ≡ bay.old.spoiled }
     ensures kept { result ≢ Status.Reported → bay.new.taken ≡ bay.old.taken }
     ensures check { is_run (Some task) ≡ false → bay.new ≡ bay.old }
-    ensures told { TellsDeck result task (parsed text.items) bay.old bay.new (K.held sink.old) (K.held sink.new) }
+    ensures told { TellsDeck result task (parsed text.now) bay.old bay.new (K.held sink.old) (K.held sink.new) }
     ensures later { K.faults sink.old ≤ K.faults sink.new }
     ensures write { result ≡ Status.WriteFault → Rose (K.faults sink.old) (K.faults sink.new) }
 {
-    match deck_of(alloc, text) {
+    match read_deck(alloc, text) {
         Ok(deck) => serve_deck(alloc, task, &deck, sink, bay),
         Err(DeckFault::Refused { line, why }) => refuse(sink, line, why),
         Err(DeckFault::Limit(which)) => limit(sink, which),
@@ -212,7 +198,7 @@ fn serve_read<S: Source, K: Sink>(
     ensures write { result ≡ Status.WriteFault → Rose (K.faults sink.old) (K.faults sink.new) }
 {
     match read_up_to(alloc, source, MOST_READ) {
-        Ok(text) => answer(alloc, task, text, sink, bay),
+        Ok(text) => answer(alloc, task, &text, sink, bay),
         Err(ReadError::Failed) => Status::ReadFault,
         Err(ReadError::NoMemory) => Status::NoMemory,
     }
