@@ -27,8 +27,8 @@ def read(size):
     return f"CCW 86 60 {size}"
 
 
-def update(size):
-    return f"CCW 85 60 {size} {EIGHT}"
+def update(size, given=EIGHT):
+    return f"CCW 85 60 {size} {given}"
 
 
 def format_track(track, size, records=12):
@@ -160,16 +160,22 @@ def ahead(deck):
         deck.stepped([deck.extent("40", "CC"), locate("0C", 15, first, 0), *["CCW DE 60 65535"] * 15], behind=["BACK 0"])
 
 
-def updates(deck, size, attributes):
+def updates(deck, size, attributes, given=EIGHT):
     deck.formatted(map(deck.track, range(10)), size, attributes="C0")
     deck.event("SETTLE 0")
+    command = ("01", update(size, given))
     while deck.unit():
-        deck.stepped(in_turn(deck.extent("80", attributes), ("01", update(size)), [deck.track(number) for number in range(10)]))
+        deck.stepped(in_turn(deck.extent("80", attributes), command, [deck.track(number) for number in range(10)]))
 
 
 def fast8(deck):
     """Fast writes of eight bytes, on ten tracks."""
     updates(deck, 8, "C0")
+
+
+def fast80(deck):
+    """The same of eighty bytes, all of which the deck has."""
+    updates(deck, 80, "C0", 10 * EIGHT)
 
 
 def fast4096(deck):
