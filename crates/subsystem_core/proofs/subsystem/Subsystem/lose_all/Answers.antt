@@ -5,8 +5,8 @@ use Rattle.subsystem_core.proofs.Found.{all_written}
 use Rattle.subsystem_core.proofs.Hearing.{numbers_by_spans}
 use Rattle.subsystem_core.proofs.subsystem.Subsystem.lose_all.Goals as goal
 
-pub lose_each-requires-clause-takes : goal.lose_each-requires-clause-takes
-lose_each-requires-clause-takes g c = rw c.deref_mut.ensures.value c.requires.takes
+pub lose_each-requires : goal.lose_each-requires
+lose_each-requires g c = record { takes = rw c.deref_mut.ensures.value c.requires.takes }
 
 pub invariant_of-self : goal.invariant_of-self
 invariant_of-self g c =

@@ -5,8 +5,8 @@ use Rattle.subsystem_core.proofs.Found.{all_written}
 use Rattle.subsystem_core.proofs.Hearing.{numbers_by_spans}
 use Rattle.subsystem_core.proofs.subsystem.Subsystem.power_all.Goals as goal
 
-pub power_each-requires-clause-takes : goal.power_each-requires-clause-takes
-power_each-requires-clause-takes g c = rw c.deref_mut.ensures.value c.requires.takes
+pub power_each-requires : goal.power_each-requires
+power_each-requires g c = record { takes = rw c.deref_mut.ensures.value c.requires.takes }
 
 pub invariant_of-self : goal.invariant_of-self
 invariant_of-self g c =
