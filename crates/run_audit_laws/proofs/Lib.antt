@@ -28,6 +28,10 @@ mod CacheLines
 mod PowerDevices
 mod PowerTold
 mod PowerLines
+mod OwnCalls
+mod OwnParts
+mod OwnEvents
+mod FramesOwned
 mod DeckEvents
 mod Behind
 mod OrderedLines
