@@ -206,15 +206,6 @@ module _ (P : ℕ → Type 0) where
 
 -- Deeds
 
-number_at : (ms : List Mounted) (n : ℕ) (m : Mounted) → mounted_in ms n ≡ Some m → IsOneOf (map (λ (t : Tie). t.number) (ties ms)) n
-number_at [] n m is = absurd (cc)
-number_at (k ∷ ms) n m is = by_test (number_of k == n) refl is (number_at ms n m) where
-  by_test : (b : Bool) → (number_of k == n) ≡ b → (if b then Some k else mounted_in ms n) ≡ Some m →
-      (mounted_in ms n ≡ Some m → IsOneOf (map (λ (t : Tie). t.number) (ties ms)) n) →
-      (k.device.store.device ≡ n) ⊎ IsOneOf (map (λ (t : Tie). t.number) (ties ms)) n
-  by_test true test found more = inl (eqb-true (number_of k) n test)
-  by_test false test found more = inr (more found)
-
 abbrev OwnTalk : {A : Type 0} → MarksDevice → Talk A → Type 0
 OwnTalk d talk = Own (λ (z : MarksDevice). z.store.device) d.store.device talk
 

@@ -43,6 +43,11 @@ pub fn ending_leads()
     ensures { (s : Subsystem) → FramesAreDeclared s → LeadsBy (stand s []) (ending_lines (ending s)) (record (stand s []) { due = Nothing }) }
 {}
 
+/// Behind the run of any deck each frame of the pool is of a device of the deck: so its lines at the end of the run lead to FINISH.
+pub fn frames_are_declared()
+    ensures { (deck : DeckLines) → FramesAreDeclared (run_of deck).behind }
+{}
+
 /// The lines of a command's end lead on where it ends as on the plain device, and where equipment check or data check is in place of that.
 pub fn step_ends_lead()
     ensures { (xs : List AuditedDevice) (later : List EventLine) (a : AuditedDevice) → device_in xs a.number ≡ Some a → a.half ≡ Closed
