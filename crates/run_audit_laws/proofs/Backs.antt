@@ -67,11 +67,11 @@ first_of : (a b : Bool) → b ≡ true → (a || b) ≡ true
 first_of true b is = refl
 first_of false b is = is
 
-over_halved : (b : AuditedDevice) (r : Option OpenEntry) → over_by b Halved r ≡ None
+pub over_halved : (b : AuditedDevice) (r : Option OpenEntry) → over_by b Halved r ≡ None
 over_halved b (Some o) = refl
 over_halved b None = refl
 
-over_worked : (b : AuditedDevice) (last : Bool) (r : Option OpenEntry) → over_by b (Worked last) r ≡ None
+pub over_worked : (b : AuditedDevice) (last : Bool) (r : Option OpenEntry) → over_by b (Worked last) r ≡ None
 over_worked b last (Some o) = refl
 over_worked b last None = refl
 

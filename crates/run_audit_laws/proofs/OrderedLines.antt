@@ -58,14 +58,14 @@ module _ (numbers : List ℕ) (s : Subsystem) (k : IsBehind numbers s) where
   ordered_leads wanted.FailCache has = once s k.plain wanted.FailCache events.FailCache refl (fail_cache_leads s k.plain (rising numbers s k))
   ordered_leads wanted.FailStore has = once s k.plain wanted.FailStore events.FailStore refl (fail_store_leads s k.plain k.good)
   ordered_leads (wanted.FailVolume d side) has =
-      some_device s k.plain (device_in (devices_of s) d) has
+      some_device (device_in (devices_of s) d) has
       (λ x at. once s k.plain (wanted.FailVolume d side) (events.FailVolume d side) refl (fail_volume_leads s k.plain d x at side))
   ordered_leads (wanted.Pair a b) has =
-      some_device s k.plain (device_in (devices_of s) a) has.0
-      (λ x at_a. some_device s k.plain (device_in (devices_of s) b) has.1
+      some_device (device_in (devices_of s) a) has.0
+      (λ x at_a. some_device (device_in (devices_of s) b) has.1
       (λ y at_b. once s k.plain (wanted.Pair a b) (events.Pair a b) refl (pair_leads s a b x y at_a at_b)))
   ordered_leads (wanted.Unpair a) has =
-      some_device s k.plain (device_in (devices_of s) a) has
+      some_device (device_in (devices_of s) a) has
       (λ x at. one_line s (wanted.Unpair a) (Unpair a) (unpaired s a unfailing) refl (unpair_logged s a) (unpaired_before s a)
       (unpair_leads s k.plain a (few a) x at))
   ordered_leads (wanted.Start path d) has = absurd has

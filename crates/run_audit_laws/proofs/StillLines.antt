@@ -75,16 +75,16 @@ replace_logged : (s : Subsystem) (d : ℕ) (side : _) → line_logged s (Replace
 unfolding L.line_logged
 replace_logged s d side = refl
 
+pub some_device : {T : Type 0} (o : Option MarksDevice) → IsSome o → ((x : MarksDevice) → o ≡ Some x → T) → T
+some_device (Some x) some go = go x refl
+some_device None some go = absurd (none_there None refl some) where
+  none_there : (o : Option MarksDevice) → o ≡ None → IsSome o → ⊥
+  none_there None is so = cc
+  none_there (Some x) is so = cc
+
 module _ (s : Subsystem) (plain : ArePlain s.mounted) where
   pub once : (line : EventLine) (e : Event) → asked_by line ≡ Once e → EventLeads s line (Once e) (happens s e) → LineLeads s line
   once line e same leads = one_line s line (Once e) (happens s e) same (once_logged s e) (happens_before s e) leads
-
-  pub some_device : {T : Type 0} (o : Option MarksDevice) → IsSome o → ((x : MarksDevice) → o ≡ Some x → T) → T
-  some_device (Some x) some go = go x refl
-  some_device None some go = absurd (none_there None refl some) where
-    none_there : (o : Option MarksDevice) → o ≡ None → IsSome o → ⊥
-    none_there None is so = cc
-    none_there (Some x) is so = cc
 
   pub still_leads : (e : EventLine) → IsStill s e → LineLeads s e
   still_leads (wanted.Start path d) has =

@@ -76,14 +76,14 @@ use Rattle.plain_defs.specs.PlainState.{PathsState, PlainState}
 use Rattle.run_audit_laws.proofs.EndLines.{TidyBy}
 
 -- a sense that a rule gives
-abbrev IsRule : Sense → Type 0
+abbrev pub IsRule : Sense → Type 0
 IsRule sense = (bytes_eq sense.bytes equipment_sense.bytes ≡ false) × (bytes_eq sense.bytes data_check_sense.bytes ≡ false)
 
-abbrev FitsBy : Ccw → Ending → Option Sense → Type 0
+abbrev pub FitsBy : Ccw → Ending → Option Sense → Type 0
 FitsBy c e (Some sense) = (e.status ≡ check) × (e.residual ≡ c.count) × (e.note ≡ Plain) × (e.sent ≡ []) × IsRule sense
 FitsBy c e None = (check.0 == e.status.0) ≡ false
 
-abbrev Fits : Ccw → Ending → Type 0
+abbrev pub Fits : Ccw → Ending → Type 0
 Fits c e = FitsBy c e e.sense
 
 rejects : (n : ℕ) → IsRule (reject_sense n)
@@ -163,12 +163,12 @@ found_fits b s None again = missed_fits b s again
 
 -- A look at a track
 
-abbrev TurnFits : Ccw → Turned → Type 0
+abbrev pub TurnFits : Ccw → Turned → Type 0
 TurnFits c (turns.Ended e) = Fits c e
 TurnFits c turns.Onward = ⊤
 TurnFits c (turns.Edits edit e) = Fits c e
 
-abbrev LookFits : Ccw → Looked → Type 0
+abbrev pub LookFits : Ccw → Looked → Type 0
 LookFits c l = TurnFits c l.turned
 
 search_fits : (t : Track) (area : SearchArea) (s : Stance) (c : Ccw) (k : Sought) → SoughtFits k → LookFits c (search_sought t area s c k)
@@ -220,7 +220,7 @@ found_record_fits : (s : Stance) (c : Ccw) (d : Domain) (o : Option ℕ) → Fit
 found_record_fits s c d (Some i) = refl
 found_record_fits s c d None = refused_fits s c no_record_sense (refl, refl)
 
-look_fits : (g : Geometry) (t : Track) (s : Stance) (c : Ccw) (look : Look) → LookFits c (look_on g t s c look)
+pub look_fits : (g : Geometry) (t : Track) (s : Stance) (c : Ccw) (look : Look) → LookFits c (look_on g t s c look)
 look_fits g t s c (Finds d) = found_record_fits s c d _
 look_fits g t s c (Searches x) = search_fits t x.area s c _ (found_fits x.multitrack s _ _)
 look_fits g t s c (Reads r) = reads_fit t r.area s c _ (found_fits r.multitrack s _ _)
@@ -282,7 +282,7 @@ order_fits f s c (Some command) =
     (λ _. cond_both (nat_lt c.count (required_count command)) (Err (reject_sense 3)) (permitted_order s command (decoded f s c command)) OrderFits
     (λ _. rejects 3) (λ _. permitted_fits s command (decoded f s c command)))
 
-abbrev OpeningFits : Ccw → Opening → Type 0
+abbrev pub OpeningFits : Ccw → Opening → Type 0
 OpeningFits c (openings.Over e) = Fits c e
 OpeningFits c (openings.Looks look) = ⊤
 OpeningFits c (openings.Asks act) = ⊤
@@ -342,6 +342,9 @@ opened_fits : (s : Stance) (c : Ccw) (r : Result Order Sense) → OrderFits r �
 opened_fits s c (Ok order) h = begun_fits s c order
 opened_fits s c (Err sense) h = refused_fits s c sense h
 
+pub opening_fits : (f : Fixed) (s : Stance) (c : Ccw) → OpeningFits c (opening_of f s c).opening
+opening_fits f s c = opened_fits s c (order_of f s c) (order_fits f s c _)
+
 -- The whole effect
 
 done_fits : (s : Stance) (c : Ccw) (bytes : List ℕ) (act : LocalAct) → Fits c (act_outcome s c bytes act).ending
@@ -353,7 +356,7 @@ done_fits s c bytes acts.Release = refl
 done_fits s c bytes acts.Steal = refl
 done_fits s c bytes acts.SenseGroup = refl
 
-act_fits : (f : Fixed) (paths : PathsState) (path : ℕ) (s : Stance) (c : Ccw) (act : LocalAct) (o : Option GroupFault) →
+pub act_fits : (f : Fixed) (paths : PathsState) (path : ℕ) (s : Stance) (c : Ccw) (act : LocalAct) (o : Option GroupFault) →
     Fits c (acted_by f paths path s c act o).outcome.ending
 act_fits f paths path s c act (Some fault) = refused_fits s c (reject_sense 4) (rejects 4)
 act_fits f paths path s c act None = done_fits s c _ act
@@ -366,7 +369,7 @@ effect_fits f paths tracks path start c s (openings.Asks act) h = inl (act_fits 
 
 pub outcome_fits : (f : Fixed) (state : PlainState) (path : ℕ) (s : Stance) (c : Ccw) → WalkFits c (effect_on f state path s c).outcome
 outcome_fits f state path s c =
-    effect_fits f state.paths _ path s c (opening_of f s c).stance (opening_of f s c).opening (opened_fits s c (order_of f s c) (order_fits f s c _))
+    effect_fits f state.paths _ path s c (opening_of f s c).stance (opening_of f s c).opening (opening_fits f s c)
 
 -- Its end
 

@@ -1,5 +1,6 @@
 ghost use Rattle.std.specs.Prelude.{◌≡◌, ℕ, Bool, true, false, List, [], ◌∷◌, Some, Ok};
 ghost use Rattle.deck_plan.specs.declared.event.EventLine.{EventLine};
+ghost use Rattle.deck_plan.specs.declared.event.EventLine.TheVariants.{Back, Run, Settle, Step};
 ghost use Rattle.deck_text.specs.DeckLines.{DeckLines};
 ghost use Rattle.deck_text.specs.Parse.{parsed};
 ghost use Rattle.plain_defs.specs.History.{OpenEntry};
@@ -8,15 +9,17 @@ ghost use Rattle.report_places.specs.declared.state.Did.{Did};
 ghost use Rattle.report_places.specs.declared.state.Due.TheVariants.{Behind, Next, Nothing};
 ghost use Rattle.report_places.specs.Place.{holds, is_of_work};
 ghost use Rattle.deck_audit.specs.History.{is_legal};
-ghost use Rattle.deck_audit.specs.State.{AuditState, settled, worker, worker_number};
+ghost use Rattle.deck_audit.specs.State.{AuditState, first_state, settled, worker, worker_number};
 ghost use Rattle.report_places.specs.declared.state.HalfWrite.TheVariants.{Closed};
 ghost use Rattle.deck_audit.specs.Device.{AuditedDevice, device_in};
 ghost use Rattle.run_report.specs.Closing.{ending_lines};
+ghost use Rattle.run_report.specs.Report.{report_lines};
 ghost use Rattle.subsystem_defs.specs.Closing.{ending};
 ghost use Rattle.subsystem_defs.specs.Decks.{opened, run_of};
 ghost use Rattle.subsystem_defs.specs.Subsystem.{Subsystem};
 ghost use Rattle.run_audit_laws.specs.Ordered.{AllLead, IsLossOrPair};
-ghost use Rattle.run_audit_laws.specs.Standing.{FramesAreDeclared, IsStill, LeadsBy, LineLeads, stand};
+ghost use Rattle.run_audit_laws.specs.Runs.{AllAreOver, AllMayFollow, LineGoes, RunIsOver, SettleIsOver, WholeLeads};
+ghost use Rattle.run_audit_laws.specs.Standing.{FramesAreDeclared, HasDevice, IsStill, LeadsBy, LineLeads, stand};
 ghost use Rattle.run_audit_laws.specs.Steps.{BackLeads, HalfLeads, StepEnds, WholeStepLeads};
 
 /// Behind the run of a deck that was read an audit knows each device as the run has it, and one more event line at which no command runs and
@@ -79,4 +82,35 @@ pub fn work_is_done_at_next_line()
     ensures { (s t : AuditState) (line : ReportLine) (lines : List ReportLine) (more : Bool) (did : Did) → s.due ≡ Behind more did
         → is_of_work more (worker_number s) line ≡ false → holds (worker s) (is_legal did) ≡ true → (settled s did).due ≡ Next
         → LeadsBy (settled s did) (line ∷ lines) t → LeadsBy s (line ∷ lines) t }
+{}
+
+/// Behind the run of a deck that was read the lines of a STEP lead an audit on, whatever the command or the half write comes to: to where it knows
+/// each device as the run has it, or waits for the next line with a piece of work that may be known to be done only there.
+pub fn step_line_leads()
+    ensures { (text : List ℕ) (deck : DeckLines) → parsed text ≡ Ok deck → (d : ℕ) → HasDevice (run_of deck).behind d → LineGoes (run_of deck).behind (Step d) }
+{}
+
+/// So do the lines of a RUN that comes to its end.
+pub fn run_line_leads()
+    ensures { (text : List ℕ) (deck : DeckLines) → parsed text ≡ Ok deck → (d : ℕ) → HasDevice (run_of deck).behind d → RunIsOver (run_of deck).behind d
+        → LineGoes (run_of deck).behind (Run d) }
+{}
+
+/// So do the lines of a BACK, whatever the device does by itself.
+pub fn back_line_leads()
+    ensures { (text : List ℕ) (deck : DeckLines) → parsed text ≡ Ok deck → (d : ℕ) → HasDevice (run_of deck).behind d → LineGoes (run_of deck).behind (Back d) }
+{}
+
+/// And those of a SETTLE of which the last piece of work says that nothing is left to do, or is stopped.
+pub fn settle_line_leads()
+    ensures { (text : List ℕ) (deck : DeckLines) → parsed text ≡ Ok deck → (d : ℕ) → HasDevice (run_of deck).behind d → SettleIsOver (run_of deck).behind d
+        → LineGoes (run_of deck).behind (Settle d) }
+{}
+
+/// So where each RUN and each SETTLE of a deck that was read comes to its end, no FAIL VOLUME stands directly behind a STEP, RUN, BACK or SETTLE, and
+/// each frame of the pool is at last of a device, the whole report of the deck's run leads an audit of it from its first state to FINISH: no line
+/// stands where it may not, and none shows what no plain device answers.
+pub fn report_leads()
+    ensures { (text : List ℕ) (deck : DeckLines) → parsed text ≡ Ok deck → AllMayFollow false deck.events → AllAreOver (opened deck) deck.events
+        → FramesAreDeclared (run_of deck).behind → WholeLeads (first_state deck) (report_lines (run_of deck)) }
 {}

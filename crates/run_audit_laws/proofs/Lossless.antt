@@ -1,0 +1,76 @@
+-- No data of cache fast write are lost where the count of such losses in a history stays.
+use Rattle.std.proofs.Common.{◌≡◌, ◌+◌, ◌++◌, ℕ, Bool, true, false, List, [], ◌∷◌, map, Option, Some, None, refl, sym, ap, ◌∙◌, arith, if◌then◌else◌}
+use Rattle.std.specs.Prelude.{fold}
+use Rattle.plain_defs.specs.declared.journal.Act.{Act}
+use Rattle.plain_defs.specs.declared.journal.Act.TheVariants.{CfwLost, Harden, Loosen}
+use Rattle.plain_defs.specs.declared.journal.Acted.{Acted}
+use Rattle.plain_defs.specs.declared.journal.Item.{Item}
+use Rattle.plain_defs.specs.declared.journal.Item.TheVariants as items
+use Rattle.plain_defs.specs.History.{History, OpenEntry}
+use Rattle.device_defs.specs.Command.{is_loss}
+use Rattle.device_defs.specs.Excused.{loose_losses, losses_of}
+use Rattle.device_laws.specs.Unharmed.{all_losses, running_losses}
+use Rattle.subsystem_defs.specs.Beside.{acts_in, acts_of_entry, acts_of_item, acts_of_items, acts_running}
+use Rattle.run_audit_laws.specs.Steps.{NoLoss}
+
+abbrev one_if : Bool → ℕ
+one_if b = if b then 1 else 0
+
+losses : List Act → ℕ
+losses [] = 0
+losses (act ∷ acts) = one_if (is_loss act) + losses acts
+
+both_losses : (xs ys : List Act) → losses (xs ++ ys) ≡ losses xs + losses ys
+unfolding losses
+both_losses [] ys = omega arith
+both_losses (x ∷ xs) ys = let rest = both_losses xs ys in omega (arith, rest)
+
+acted_losses : (n : ℕ) (xs : List Acted) → fold (λ (k : ℕ) (a : Acted). k + (if is_loss a.act then 1 else 0)) n xs ≡ n + losses (acts_of_entry xs)
+unfolding losses
+acted_losses n [] = omega arith
+acted_losses n (x ∷ xs) = let rest = acted_losses (n + (if is_loss x.act then 1 else 0)) xs in omega (arith, rest)
+
+item_losses : (x : Item) → losses_of x ≡ losses (acts_of_item x)
+unfolding losses
+item_losses (items.Program e) = let all = acted_losses 0 e.acts in omega (arith, all)
+item_losses (items.Act act) = omega arith
+item_losses (items.Reset path) = refl
+item_losses items.Fresh = refl
+item_losses items.Power = refl
+
+journal_losses : (xs : List Item) → loose_losses xs ≡ losses (acts_of_items xs)
+unfolding losses
+journal_losses [] = refl
+journal_losses (x ∷ xs) =
+    let first = item_losses x in
+    let rest = journal_losses xs in
+    let all = both_losses (acts_of_item x) (acts_of_items xs) in
+    omega (arith, first, rest, all)
+
+open_losses : (r : Option OpenEntry) → running_losses r ≡ losses (acts_running r)
+unfolding losses
+open_losses (Some o) = let all = acted_losses 0 o.acts in omega (arith, all)
+open_losses None = refl
+
+history_losses : (h : History) → all_losses h ≡ losses (acts_in h)
+history_losses h =
+    let first = journal_losses h.items in
+    let rest = open_losses h.running in
+    let all = both_losses (acts_of_items h.items) (acts_running h.running) in
+    omega (arith, first, rest, all)
+
+none_by : (acts : List Act) → losses acts ≡ 0 → NoLoss acts
+unfolding losses
+none_by [] is = tt
+none_by (Loosen t ∷ acts) is = (refl, none_by acts (omega (arith, is)))
+none_by (Harden t ∷ acts) is = (refl, none_by acts (omega (arith, is)))
+none_by (CfwLost ∷ acts) is = absurd (omega (arith, is))
+
+-- of the acts that came to it
+pub none_lost : (h k : History) (acts : List Act) → acts_in k ≡ acts_in h ++ acts → all_losses k ≡ all_losses h → NoLoss acts
+none_lost h k acts more same =
+    let one = history_losses h in
+    let two = history_losses k in
+    let all = both_losses (acts_in h) acts in
+    let grown : losses (acts_in k) ≡ losses (acts_in h ++ acts) = ap losses more in
+    none_by acts (omega (arith, one, two, all, grown, same))

@@ -1,0 +1,309 @@
+-- The first line of an event isn't of the work before it, so lines that lead on from where that work is known to be done do so from where it isn't.
+use Rattle.std.proofs.Common.{◌≡◌, ◌==◌, ◌++◌, ℕ, Bool, true, false, not, List, [], ◌∷◌, Option, Some, None, refl, sym, ap, subst, ◌∙◌, if◌then◌else◌}
+use Rattle.std.specs.Prelude.{◌||◌, ◌&&◌, Result, Ok, Err}
+use Rattle.deck_plan.specs.declared.event.EventLine.{EventLine}
+use Rattle.deck_plan.specs.declared.event.EventLine.TheVariants as events
+use Rattle.report_text.specs.declared.answers.LooseAnswer.{LooseAnswer}
+use Rattle.report_text.specs.declared.answers.LooseAnswer.TheVariants as loose
+use Rattle.report_text.specs.declared.line.ReportLine.{ReportLine}
+use Rattle.report_text.specs.declared.line.ReportLine.TheVariants as lines
+use Rattle.report_text.specs.declared.order.Order.{Order}
+use Rattle.report_text.specs.declared.order.Order.TheVariants as orders
+use Rattle.report_places.specs.declared.state.Did.{Did}
+use Rattle.report_places.specs.declared.state.Due.{Due}
+use Rattle.report_places.specs.declared.state.Due.TheVariants.{Next, Behind, Nothing}
+use Rattle.report_places.specs.declared.state.HalfWrite.{HalfWrite}
+use Rattle.report_places.specs.declared.state.HalfWrite.TheVariants as half
+use Rattle.report_places.specs.declared.state.OpenProgram.{OpenProgram}
+use Rattle.report_places.specs.declared.state.Outline.{Outline}
+use Rattle.report_places.specs.Place.{
+  holds,
+  in_event,
+  in_next,
+  in_power,
+  in_power_of,
+  in_steps,
+  in_totals_of,
+  is_act_of,
+  is_back_line,
+  is_cut,
+  is_end,
+  is_half,
+  is_harden,
+  is_io,
+  is_loss,
+  is_loss_of,
+  is_of_work,
+  is_order,
+  is_power_done,
+  is_reset,
+  is_second_line,
+  is_start,
+  may_back,
+  may_reset,
+  may_step,
+  outline_in,
+  second_of,
+}
+use Rattle.report_places.specs.Same.{says}
+use Rattle.deck_audit.specs.State.{AuditState, outlines, settled, worker_number}
+use Rattle.report_auditor.specs.declared.status.AuditWhy.{AuditWhy}
+use Rattle.report_auditor.specs.declared.status.AuditWhy.TheVariants.{Place}
+use Rattle.report_auditor.specs.Verdict.{judged}
+use Rattle.subsystem_defs.specs.Subsystem.{Subsystem}
+use Rattle.run_audit_laws.specs.Runs.{MayFollow}
+use Rattle.run_audit_laws.specs.Standing.{LeadsBy, stand}
+use Rattle.run_audit_laws.specs.Steps.{LeadsTowards, Reaches, is_there, is_waiting}
+use Rattle.run_audit_laws.proofs.Leading.{leads_on, waiting_leads}
+
+-- an event line that isn't a volume's failure
+abbrev pub IsCalm : EventLine → Type 0
+IsCalm e = MayFollow true e
+
+-- A line that begins no event
+
+record BeginsNothing (line : ReportLine) : Type 0 where
+  ends : (d : ℕ) (o : OpenProgram) → is_end d o line ≡ false
+  halves : (d : ℕ) (o : OpenProgram) → is_half d o line ≡ false
+  seconds : (d : ℕ) → is_second_line d line ≡ false
+  backs : (d : ℕ) → is_back_line d line ≡ false
+  steps : (d : ℕ) → says (lines.StepIdle d) line ≡ false
+  runs : (d : ℕ) → says (lines.RunIdle d) line ≡ false
+  starts : (path d : ℕ) → is_start path d line ≡ false
+  resets : (path d : ℕ) → is_reset path d line ≡ false
+  cuts : (d : ℕ) (o : OpenProgram) → is_cut d o line ≡ false
+  orders_are : (o : Order) → is_order o line ≡ false
+  losses : (s : List Outline) → is_loss s line ≡ false
+  loss_of : (d : ℕ) → is_loss_of d line ≡ false
+  power : is_power_done line ≡ false
+  totals : (s : List Outline) → in_next s line [] ≡ false
+
+neither : (a b : Bool) → a ≡ false → b ≡ false → (a || b) ≡ false
+neither a b e f = ap (λ (x : Bool). x || b) e ∙ f
+
+never_both : (a b : Bool) → b ≡ false → (a && b) ≡ false
+never_both true b e = e
+never_both false b e = refl
+
+never_holds : {T : Type 0} (o : Option T) (f : T → Bool) → ((x : T) → f x ≡ false) → holds o f ≡ false
+never_holds None f no_one = refl
+never_holds (Some x) f no_one = no_one x
+
+module _ (line : ReportLine) (b : BeginsNothing line) where
+  in_no_steps : (a : Outline) (idle : ReportLine) → says idle line ≡ false → (r : Option OpenProgram) → in_steps a idle line r ≡ false
+  in_no_steps a idle no_idle (Some o) = neither (is_end a.number o line) (is_half a.number o line) (b.ends a.number o) (b.halves a.number o)
+  in_no_steps a idle no_idle None = no_idle
+
+  no_second : (a : Outline) (r : Option OpenProgram) → second_of a line r ≡ false
+  no_second a r = never_holds r (λ o. is_end a.number o line) (b.ends a.number)
+
+  no_step : (a : Outline) (idle : ReportLine) → says idle line ≡ false → (h : HalfWrite) → may_step a idle line h ≡ false
+  no_step a idle no_idle half.Closed = in_no_steps a idle no_idle a.running
+  no_step a idle no_idle half.OfCommand = no_second a a.running
+  no_step a idle no_idle half.OfBackground = b.seconds a.number
+
+  no_back : (a : Outline) (h : HalfWrite) → may_back a line h ≡ false
+  no_back a half.Closed = b.backs a.number
+  no_back a half.OfCommand = no_second a a.running
+  no_back a half.OfBackground = b.seconds a.number
+
+  reset_by : (path d : ℕ) (o : OpenProgram) (own : Bool) → (if own then is_cut d o line else is_reset path d line) ≡ false
+  reset_by path d o true = b.cuts d o
+  reset_by path d o false = b.resets path d
+
+  no_reset : (path d : ℕ) (a : Outline) (r : Option OpenProgram) → may_reset path d a line r ≡ false
+  no_reset path d a (Some o) = reset_by path d o (o.path == path)
+  no_reset path d a None = b.resets path d
+
+  no_power_of : (a : Outline) (below : Bool) → below ≡ false → (r : Option OpenProgram) → in_power_of a line below r ≡ false
+  no_power_of a below none (Some o) = b.cuts a.number o
+  no_power_of a below none None =
+      neither (is_loss_of a.number line) (not a.loose && below) (b.loss_of a.number) (never_both (not a.loose) below none)
+
+  no_power : (s : List Outline) → in_power line s ≡ false
+  no_power [] = b.power
+  no_power (a ∷ left) = no_power_of a (in_power line left) (no_power left) a.running
+
+  begins_none : (s : List Outline) (e : EventLine) → IsCalm e → in_event s line e ≡ false
+  begins_none s (events.Start path d) calm = b.starts path d
+  begins_none s (events.Step d) calm =
+      never_holds (outline_in s d) (λ a. may_step a (lines.StepIdle d) line a.half) (λ a. no_step a (lines.StepIdle d) (b.steps d) a.half)
+  begins_none s (events.Run d) calm =
+      never_holds (outline_in s d) (λ a. may_step a (lines.RunIdle d) line a.half) (λ a. no_step a (lines.RunIdle d) (b.runs d) a.half)
+  begins_none s (events.Back d) calm = never_holds (outline_in s d) (λ a. may_back a line a.half) (λ a. no_back a a.half)
+  begins_none s (events.Settle d) calm = never_holds (outline_in s d) (λ a. may_back a line a.half) (λ a. no_back a a.half)
+  begins_none s (events.Reset path d) calm = never_holds (outline_in s d) (λ a. may_reset path d a line a.running) (λ a. no_reset path d a a.running)
+  begins_none s events.FailCache calm = neither (is_loss s line) (is_order orders.FailCache line) (b.losses s) (b.orders_are orders.FailCache)
+  begins_none s events.FailStore calm = b.orders_are orders.FailStore
+  begins_none s (events.FailVolume d side) calm = absurd calm
+  begins_none s events.RepairCache calm = b.orders_are orders.RepairCache
+  begins_none s events.RepairStore calm = b.orders_are orders.RepairStore
+  begins_none s (events.Replace d side) calm = b.orders_are (orders.Replace d side)
+  begins_none s (events.Pair x y) calm = b.orders_are (orders.Pair x y)
+  begins_none s (events.Unpair x) calm = b.orders_are (orders.Unpair x)
+  begins_none s (events.Suspend x) calm = b.orders_are (orders.Suspend x)
+  begins_none s (events.Resume x) calm = b.orders_are (orders.Resume x)
+  begins_none s events.Power calm = no_power s
+
+-- Lines of work behind its first one
+
+io_begins_none : (reads writes : ℕ) → BeginsNothing (lines.Io reads writes)
+io_begins_none reads writes = record {
+  ends = λ d o. refl;
+  halves = λ d o. refl;
+  seconds = λ d. refl;
+  backs = λ d. refl;
+  steps = λ d. refl;
+  runs = λ d. refl;
+  starts = λ path d. refl;
+  resets = λ path d. refl;
+  cuts = λ d o. refl;
+  orders_are = λ o. refl;
+  losses = λ s. refl;
+  loss_of = λ d. refl;
+  power = refl;
+  totals = by_outlines;
+} where
+  by_outlines : (s : List Outline) → in_next s (lines.Io reads writes) [] ≡ false
+  by_outlines [] = refl
+  by_outlines (a ∷ left) = refl
+
+harden_begins_none : (n t : ℕ) → BeginsNothing (lines.Loose n (loose.Harden t))
+harden_begins_none n t = record {
+  ends = λ d o. refl;
+  halves = λ d o. refl;
+  seconds = λ d. refl;
+  backs = λ d. refl;
+  steps = λ d. refl;
+  runs = λ d. refl;
+  starts = λ path d. refl;
+  resets = λ path d. refl;
+  cuts = λ d o. refl;
+  orders_are = λ o. refl;
+  losses = λ s. refl;
+  loss_of = λ d. refl;
+  power = refl;
+  totals = by_outlines;
+} where
+  by_outlines : (s : List Outline) → in_next s (lines.Loose n (loose.Harden t)) [] ≡ false
+  by_outlines [] = refl
+  by_outlines (a ∷ left) = refl
+
+loosen_begins_none : (n t : ℕ) → BeginsNothing (lines.Loose n (loose.Loosen t))
+loosen_begins_none n t = record {
+  ends = λ d o. refl;
+  halves = λ d o. refl;
+  seconds = λ d. refl;
+  backs = λ d. refl;
+  steps = λ d. refl;
+  runs = λ d. refl;
+  starts = λ path d. refl;
+  resets = λ path d. refl;
+  cuts = λ d o. refl;
+  orders_are = λ o. refl;
+  losses = λ s. refl;
+  loss_of = λ d. refl;
+  power = refl;
+  totals = by_outlines;
+} where
+  by_outlines : (s : List Outline) → in_next s (lines.Loose n (loose.Loosen t)) [] ≡ false
+  by_outlines [] = refl
+  by_outlines (a ∷ left) = refl
+
+-- Every line
+
+no_act : (more : Bool) (d : ℕ) (line : ReportLine) → is_act_of true d line ≡ false → is_act_of more d line ≡ false
+no_act true d line is = is
+no_act false d line is = refl
+
+of_none : (line : ReportLine) → is_io line ≡ false → ((d : ℕ) → is_act_of true d line ≡ false) → (more : Bool) (w : Option ℕ) →
+    is_of_work more w line ≡ false
+of_none line no_io act more None = ap (λ (b : Bool). b || false) no_io
+of_none line no_io act more (Some d) = ap (λ (b : Bool). b || is_act_of more d line) no_io ∙ no_act more d line (act d)
+
+-- the event lines that are left begin with no failure of a volume
+abbrev pub BeginCalm : List EventLine → Type 0
+BeginCalm [] = Unit {0}
+BeginCalm (e ∷ later) = IsCalm e
+
+module _ (s : List Outline) (later : List EventLine) (calm : BeginCalm later) (more : Bool) (w : Option ℕ) where
+  next_begins_none : (line : ReportLine) → BeginsNothing line → (l : List EventLine) → BeginCalm l → in_next s line l ≡ false
+  next_begins_none line b [] c = b.totals s
+  next_begins_none line b (e ∷ l) c = begins_none line b s e c
+
+  refuted : (line : ReportLine) → BeginsNothing line → in_next s line later ≡ true → is_of_work more w line ≡ false
+  refuted line b is = absurd (let both : true ≡ false = sym is ∙ next_begins_none line b later calm in cc)
+
+  loose_by : (n : ℕ) (a : LooseAnswer) → in_next s (lines.Loose n a) later ≡ true → is_of_work more w (lines.Loose n a) ≡ false
+  loose_by n (loose.Harden t) is = refuted (lines.Loose n (loose.Harden t)) (harden_begins_none n t) is
+  loose_by n (loose.Loosen t) is = refuted (lines.Loose n (loose.Loosen t)) (loosen_begins_none n t) is
+  loose_by n (loose.Lost count id) is = of_none (lines.Loose n (loose.Lost count id)) refl (λ d. refl) more w
+
+  -- a line that may come next is none of the work before
+  pub next_is_other : (line : ReportLine) → in_next s line later ≡ true → is_of_work more w line ≡ false
+  next_is_other (lines.Loose n a) is = loose_by n a is
+  next_is_other (lines.Io reads writes) is = refuted (lines.Io reads writes) (io_begins_none reads writes) is
+  next_is_other (lines.Start path d a) is = of_none (lines.Start path d a) refl (λ k. refl) more w
+  next_is_other (lines.End e) is = of_none (lines.End e) refl (λ k. refl) more w
+  next_is_other (lines.Data bytes) is = of_none (lines.Data bytes) refl (λ k. refl) more w
+  next_is_other (lines.Sense sense) is = of_none (lines.Sense sense) refl (λ k. refl) more w
+  next_is_other (lines.Half path d t) is = of_none (lines.Half path d t) refl (λ k. refl) more w
+  next_is_other (lines.Back d a) is = of_none (lines.Back d a) refl (λ k. refl) more w
+  next_is_other (lines.StepIdle d) is = of_none (lines.StepIdle d) refl (λ k. refl) more w
+  next_is_other (lines.RunIdle d) is = of_none (lines.RunIdle d) refl (λ k. refl) more w
+  next_is_other (lines.Over path d n how) is = of_none (lines.Over path d n how) refl (λ k. refl) more w
+  next_is_other (lines.Reset path d) is = of_none (lines.Reset path d) refl (λ k. refl) more w
+  next_is_other (lines.Order o a) is = of_none (lines.Order o a) refl (λ k. refl) more w
+  next_is_other (lines.Device d t) is = of_none (lines.Device d t) refl (λ k. refl) more w
+  next_is_other (lines.Lost d t) is = of_none (lines.Lost d t) refl (λ k. refl) more w
+  next_is_other (lines.Frame d t m) is = of_none (lines.Frame d t m) refl (λ k. refl) more w
+  next_is_other (lines.Fresh d) is = of_none (lines.Fresh d) refl (λ k. refl) more w
+  next_is_other (lines.Left path d n) is = of_none (lines.Left path d n) refl (λ k. refl) more w
+  next_is_other (lines.Unused n) is = of_none (lines.Unused n) refl (λ k. refl) more w
+  next_is_other lines.Finish is = of_none lines.Finish refl (λ k. refl) more w
+  next_is_other (lines.Sum of n) is = of_none (lines.Sum of n) refl (λ k. refl) more w
+
+-- From where a piece of work is known to be done at the next line
+
+may_stand : (b : Bool) (r : Result AuditState AuditWhy) (u : AuditState) → (if b then r else Err Place) ≡ Ok u → b ≡ true
+may_stand true r u is = refl
+may_stand false r u is = absurd (cc)
+
+module _ (s : Subsystem) (later : List EventLine) (calm : BeginCalm later) where
+  pub leads_from : (u : AuditState) → Reaches u (stand s later) → (line : ReportLine) (lines : List ReportLine) (t : AuditState) →
+      LeadsBy (stand s later) (line ∷ lines) t → LeadsBy u (line ∷ lines) t
+  leads_from u (is_there same) line lines t leads = subst (λ (z : AuditState). LeadsBy z (line ∷ lines) t) (sym same) leads
+  leads_from u (is_waiting more did is legal same) line lines t leads =
+      waiting_leads u t line lines more did is
+      (next_is_other (outlines (stand s later)) later calm more (worker_number u) line
+      (may_stand (in_next (outlines (stand s later)) line later) _ leads.0 leads.1))
+      legal (ap (λ (z : AuditState). z.due) same)
+      (subst (λ (z : AuditState). LeadsBy z (line ∷ lines) t) (sym same) leads)
+
+  pub towards_from : (u : AuditState) → Reaches u (stand s later) → (ls : List ReportLine) (t : AuditState) →
+      LeadsTowards (stand s later) ls t → LeadsTowards u ls t
+  towards_from u reaches [] t leads = (u, refl, by_way leads.2) where
+    by_way : Reaches leads.0 t → Reaches u t
+    by_way (is_there same) = subst (λ (z : AuditState). Reaches u z) (sym leads.1 ∙ same) reaches
+    by_way (is_waiting more did is legal same) =
+        absurd (let none : Next ≡ Behind more did = ap (λ (z : AuditState). z.due) (sym leads.1) ∙ is in cc)
+  towards_from u reaches (line ∷ ls) t leads = (leads.0, leads_from u reaches line ls leads.0 leads.1, leads.2)
+
+  -- to the end
+  pub to_the_end : (u : AuditState) → Reaches u (stand s later) → (ls : List ReportLine) (t : AuditState) → t.due ≡ Nothing →
+      LeadsBy (stand s later) ls t → LeadsBy u ls t
+  to_the_end u reaches [] t done leads =
+      absurd (let none : Nothing ≡ Next = sym done ∙ ap (λ (z : AuditState). z.due) leads in cc)
+  to_the_end u reaches (line ∷ ls) t done leads = leads_from u reaches line ls t leads
+
+  -- to where other events are left
+  pub exactly_from : (u : AuditState) → Reaches u (stand s later) → (z : Subsystem) (rest : List EventLine) → (later ≡ rest → ⊥) → (ls : List ReportLine) →
+      LeadsBy (stand s later) ls (stand z rest) → LeadsBy u ls (stand z rest)
+  exactly_from u reaches z rest other [] leads = absurd (other (ap (λ (k : AuditState). k.events) (sym leads)))
+  exactly_from u reaches z rest other (line ∷ ls) leads = leads_from u reaches line ls (stand z rest) leads
+
+  -- lines lead on behind others
+  pub towards_then : (z t : AuditState) (xs ys : List ReportLine) → LeadsTowards z xs (stand s later) → LeadsTowards (stand s later) ys t →
+      LeadsTowards z (xs ++ ys) t
+  towards_then z t xs ys first rest =
+      let more = towards_from first.0 first.2 ys t rest in (more.0, leads_on z first.0 more.0 xs ys first.1 more.1, more.2)

@@ -1,0 +1,316 @@
+-- The lines of one piece of work, whichever event line has it.
+use Rattle.std.proofs.Common.{◌≡◌, ◌==◌, ◌++◌, ℕ, Bool, true, false, not, List, [], ◌∷◌, map, Option, Some, None, refl, sym, ap, subst, ◌∙◌, if◌then◌else◌}
+use Rattle.std.specs.Prelude.{◌&&◌, ◌||◌, Ok, Err, option_map}
+use Rattle.ckd_types.specs.declared.channel.CommandEnd.{CommandEnd}
+use Rattle.ckd_types.specs.Sense.{equipment_sense}
+use Rattle.deck_plan.specs.declared.event.EventLine.{EventLine}
+use Rattle.deck_plan.specs.declared.event.EventLine.TheVariants as events
+use Rattle.plain_defs.specs.declared.journal.Act.{Act}
+use Rattle.plain_defs.specs.declared.journal.Act.TheVariants.{Loosen}
+use Rattle.plain_defs.specs.History.{IsPlain, OpenEntry, checked, ended}
+use Rattle.plain_defs.specs.Legal.{AreActs}
+use Rattle.device_defs.specs.Device.{all_acted}
+use Rattle.report_text.specs.declared.answers.BackAnswer.{BackAnswer}
+use Rattle.report_text.specs.declared.answers.HowOver.TheVariants as how
+use Rattle.report_text.specs.declared.line.ReportLine.{ReportLine}
+use Rattle.report_text.specs.declared.line.ReportLine.TheVariants as lines
+use Rattle.report_text.specs.Ends.{end_line}
+use Rattle.report_text.specs.Events.{io_lines, line_if}
+use Rattle.report_places.specs.declared.state.Did.{Did}
+use Rattle.report_places.specs.declared.state.Did.TheVariants.{CheckEnded, Ended, Halved, Worked}
+use Rattle.report_places.specs.declared.state.Due.TheVariants.{Behind, Next}
+use Rattle.report_places.specs.declared.state.HalfWrite.{HalfWrite}
+use Rattle.report_places.specs.declared.state.HalfWrite.TheVariants as half
+use Rattle.report_places.specs.declared.state.Outline.{Outline}
+use Rattle.report_places.specs.Place.{holds, in_event, in_steps, is_back_line, is_end, is_half, is_second_line, may_back, may_step, outline_in, second_of, worker_of}
+use Rattle.deck_audit.specs.Device.{
+  AuditedDevice,
+  check_end,
+  device_in,
+  is_idle,
+  is_next_legal,
+  open_program,
+  outline_of,
+  plain_end,
+  state_of,
+  with_device,
+  words_of_open,
+}
+use Rattle.deck_audit.specs.History.{back_half, event_made, is_last, is_legal, work_made}
+use Rattle.deck_audit.specs.State.{AuditState, is_event_over, outlines, worked}
+use Rattle.report_auditor.specs.declared.status.AuditWhy.TheVariants.{Place}
+use Rattle.report_auditor.specs.Verdict.{judged, or_history}
+use Rattle.run_audit_laws.specs.Standing.{LeadsBy}
+use Rattle.run_audit_laws.specs.Steps.{LeadsTowards, NoLoss, Reaches, act_line, acted_to, over_if, over_told, step_lines}
+use Rattle.run_audit_laws.proofs.Backs.{over_halved, over_worked, work_leads}
+use Rattle.run_audit_laws.proofs.CameOut.{ChecksSo, EndsSo, firmly, loosely}
+use Rattle.run_audit_laws.proofs.Commands.{check_command_leads, loose_command_leads, plain_command_leads}
+use Rattle.run_audit_laws.proofs.Found.{outlined}
+use Rattle.run_audit_laws.proofs.Leading.{then_some}
+use Rattle.run_audit_laws.proofs.Saying.{both, same_number}
+use Rattle.run_audit_laws.proofs.Work.{at_work, behind_event, end_of}
+
+-- The event lines whose pieces of work are of the device of a number
+
+pub data IsWork (n : ℕ) : EventLine → Type 0 where
+  of_step : IsWork n (events.Step n)
+  of_run : IsWork n (events.Run n)
+  of_back : IsWork n (events.Back n)
+  of_settle : IsWork n (events.Settle n)
+
+pub works : {n : ℕ} {w : EventLine} → IsWork n w → worker_of w ≡ Some n
+works of_step = refl
+works of_run = refl
+works of_back = refl
+works of_settle = refl
+
+-- what is left of the events behind a piece: the line goes on, or is over
+abbrev pub left_by : EventLine → AuditedDevice → Bool → List EventLine → List EventLine
+left_by (events.Run d) a last later = if is_idle a then later else events.Run d ∷ later
+left_by (events.Settle d) a last later = if last then later else events.Settle d ∷ later
+left_by w a last later = later
+
+abbrev pub last_of : Did → Bool
+last_of (Worked last) = last
+last_of did = false
+
+-- where the audit then stands
+abbrev pub behind_piece : List AuditedDevice → EventLine → List EventLine → AuditedDevice → Bool → AuditState
+behind_piece xs w later b last = record { devices = with_device xs b; events = left_by w b last later; due = Next }
+
+by_test : (l : List AuditedDevice) (w : EventLine) (later : List EventLine) (b : Bool) → ◌≡◌ {A = AuditState} (if b then
+    record { devices = l; events = later; due = Next }
+    else record { devices = l; events = w ∷ later; due = Next }) (record { devices = l; events = if b then later else w ∷ later; due = Next })
+by_test l w later true = refl
+by_test l w later false = refl
+
+module _ (xs : List AuditedDevice) (later : List EventLine) (n : ℕ) (first : AuditedDevice) (has : device_in xs n ≡ Some first) where
+  settle_is : (b : AuditedDevice) (did : Did) → behind_event xs (events.Settle n) later n refl first has b did
+      ≡ behind_piece xs (events.Settle n) later b (last_of did)
+  settle_is b (Worked last) = by_test (with_device xs b) (events.Settle n) later last
+  settle_is b (Ended e) = refl
+  settle_is b (CheckEnded e) = refl
+  settle_is b Halved = refl
+
+  pub piece_is : (w : EventLine) (k : IsWork n w) (b : AuditedDevice) (did : Did) → behind_event xs w later n (works k) first has b did
+      ≡ behind_piece xs w later b (last_of did)
+  piece_is w of_step b did = refl
+  piece_is w of_back b did = refl
+  piece_is w of_run b did = by_test (with_device xs b) (events.Run n) later (is_idle b)
+  piece_is w of_settle b did = settle_is b did
+
+-- Which lines stand first
+
+-- the command's end: no half write is open, of STEP and RUN, or that of the command, of all four
+pub data MayEnd (n : ℕ) : EventLine → HalfWrite → Type 0 where
+  step_ends : MayEnd n (events.Step n) half.Closed
+  run_ends : MayEnd n (events.Run n) half.Closed
+  step_seconds : MayEnd n (events.Step n) half.OfCommand
+  run_seconds : MayEnd n (events.Run n) half.OfCommand
+  back_seconds : MayEnd n (events.Back n) half.OfCommand
+  settle_seconds : MayEnd n (events.Settle n) half.OfCommand
+
+pub ends_work : {n : ℕ} {w : EventLine} {h : HalfWrite} → MayEnd n w h → IsWork n w
+ends_work step_ends = of_step
+ends_work run_ends = of_run
+ends_work step_seconds = of_step
+ends_work run_seconds = of_run
+ends_work back_seconds = of_back
+ends_work settle_seconds = of_settle
+
+first_of : (a b : Bool) → a ≡ true → (a || b) ≡ true
+first_of a b is = ap (λ (x : Bool). x || b) is
+
+second_is : (a b : Bool) → b ≡ true → (a || b) ≡ true
+second_is true b is = refl
+second_is false b is = is
+
+module _ (xs : List AuditedDevice) (later : List EventLine) (a : AuditedDevice) (has : device_in xs a.number ≡ Some a) where
+  abbrev n : ℕ
+  n = a.number
+
+  abbrev pub before : EventLine → AuditState
+  before w = record { devices = xs; events = w ∷ later; due = Next }
+
+  its_outline : (f : Outline → Bool) → holds (outline_in (outlines (record { devices = xs; events = later; due = Next })) a.number) f ≡ f (outline_of a)
+  its_outline f =
+      ap (λ (k : Option Outline). holds k f) (outlined xs a.number ∙ ap (λ (k : Option AuditedDevice). option_map outline_of k) has)
+
+  -- where a line may stand
+  abbrev MayStand : EventLine → ReportLine → Type 0
+  MayStand w line = in_event (outlines (record { devices = xs; events = w ∷ later; due = Next })) line w ≡ true
+
+  pub makes : (w : EventLine) → IsWork a.number w → (line : ReportLine) →
+      event_made (record { devices = xs; events = w ∷ later; due = Next }) line w ≡ work_made (record { devices = xs; events = w ∷ later; due = Next }) line a
+  makes w of_step line = then_some (device_in xs a.number) a (work_made (before w) line) has
+  makes w of_run line = then_some (device_in xs a.number) a (work_made (before w) line) has
+  makes w of_back line = then_some (device_in xs a.number) a (work_made (before w) line) has
+  makes w of_settle line = then_some (device_in xs a.number) a (work_made (before w) line) has
+
+  -- what a line that stands first makes
+  pub first_judged : (w : EventLine) → IsWork a.number w → (line : ReportLine) →
+      in_event (outlines (record { devices = xs; events = w ∷ later; due = Next })) line w ≡ true →
+      judged (record { devices = xs; events = w ∷ later; due = Next }) line
+      ≡ or_history (work_made (record { devices = xs; events = w ∷ later; due = Next }) line a)
+  first_judged w k line fits =
+      ap (λ (b : Bool). if b then or_history (event_made (before w) line w) else Err Place) fits ∙ ap (λ (o : Option AuditState). or_history o) (makes w k line)
+
+  module _ (o : OpenEntry) (running : a.history.running ≡ Some o) where
+    abbrev end_told : CommandEnd → ReportLine
+    end_told e = lines.End (end_line o.path a.number o.ordinal e)
+
+    its_end : (e : CommandEnd) → ((o.path == o.path) && (a.number == a.number) && (o.ordinal == o.ordinal)) ≡ true
+    its_end e =
+        both ((o.path == o.path) && (a.number == a.number)) (o.ordinal == o.ordinal)
+        (both (o.path == o.path) (a.number == a.number) (same_number o.path) (same_number a.number)) (same_number o.ordinal)
+
+    first_end : (idle : ReportLine) (e : CommandEnd) → a.half ≡ half.Closed → may_step (outline_of a) idle (end_told e) a.half ≡ true
+    first_end idle e closed =
+        ap (may_step (outline_of a) idle (end_told e)) closed
+        ∙ ap (λ (r : Option OpenEntry). in_steps (outline_of a) idle (end_told e) (open_program r)) running
+        ∙ first_of ((o.path == o.path) && (a.number == a.number) && (o.ordinal == o.ordinal)) false (its_end e)
+
+    second_end : (e : CommandEnd) → second_of (outline_of a) (end_told e) (open_program a.history.running) ≡ true
+    second_end e = ap (λ (r : Option OpenEntry). second_of (outline_of a) (end_told e) (open_program r)) running ∙ its_end e
+
+    pub end_stands : (w : EventLine) (h : HalfWrite) → MayEnd a.number w h → a.half ≡ h → (e : CommandEnd) →
+        in_event (outlines (record { devices = xs; events = w ∷ later; due = Next })) (lines.End (end_line o.path a.number o.ordinal e)) w ≡ true
+    end_stands w h step_ends is e =
+        its_outline (λ b. may_step b (lines.StepIdle a.number) (end_told e) b.half) ∙ first_end (lines.StepIdle a.number) e is
+    end_stands w h run_ends is e =
+        its_outline (λ b. may_step b (lines.RunIdle a.number) (end_told e) b.half) ∙ first_end (lines.RunIdle a.number) e is
+    end_stands w h step_seconds is e =
+        its_outline (λ b. may_step b (lines.StepIdle a.number) (end_told e) b.half)
+        ∙ ap (may_step (outline_of a) (lines.StepIdle a.number) (end_told e)) is ∙ second_end e
+    end_stands w h run_seconds is e =
+        its_outline (λ b. may_step b (lines.RunIdle a.number) (end_told e) b.half)
+        ∙ ap (may_step (outline_of a) (lines.RunIdle a.number) (end_told e)) is ∙ second_end e
+    end_stands w h back_seconds is e =
+        its_outline (λ b. may_back b (end_told e) b.half) ∙ ap (may_back (outline_of a) (end_told e)) is ∙ second_end e
+    end_stands w h settle_seconds is e =
+        its_outline (λ b. may_back b (end_told e) b.half) ∙ ap (may_back (outline_of a) (end_told e)) is ∙ second_end e
+
+    -- A command that ends
+
+    module _ (w : EventLine) (h : HalfWrite) (k : MayEnd a.number w h) (is : a.half ≡ h) (plainly : IsPlain a.plans a.empty a.history) where
+      over_piece : (b : AuditedDevice) (same : b.number ≡ a.number) (more : Bool) (e : CommandEnd) (legal : is_legal (Ended e) b ≡ true)
+          (line : ReportLine) (over : Bool) →
+          end_of xs w later a.number (works (ends_work k)) a has b same more (Ended e) legal (over_if over line) ≡ behind_piece xs w later (worked b (Ended e)) false
+      over_piece b same more e legal line true = piece_is xs later a.number a has w (ends_work k) (worked b (Ended e)) Halved
+      over_piece b same more e legal line false = piece_is xs later a.number a has w (ends_work k) (worked b (Ended e)) (Ended e)
+
+      pub ends_lead : (reads writes : ℕ) (e : CommandEnd) (acts : List Act) → EndsSo a o e acts → (e.sense ≡ Some equipment_sense → ⊥) →
+          LeadsTowards (record { devices = xs; events = w ∷ later; due = Next }) (step_lines a o e acts reads writes (over_if e.over (over_told a o how.Full)))
+          (behind_piece xs w later (record a { history = ended (all_acted a.history acts) e; half = half.Closed }) false)
+      ends_lead reads writes e acts (firmly bs plain none are legal) few =
+          let leads = plain_command_leads xs w later a has (works (ends_work k)) o running plainly (end_stands w h k is) (makes w (ends_work k)) e plain few bs
+          none are reads writes legal in
+          (leads.0, leads.1, subst (λ (t : AuditState). Reaches leads.0 t) (over_piece (acted_to a bs) refl true e legal (over_told a o how.Full) e.over) leads.2)
+      ends_lead reads writes e acts (loosely bs t plain none are may legal) few =
+          let leads = loose_command_leads xs w later a has (works (ends_work k)) o running plainly (end_stands w h k is) (makes w (ends_work k)) e plain few bs
+          none are reads writes t may legal in (
+            leads.0,
+            leads.1,
+            subst (λ (z : AuditState). Reaches leads.0 z)
+                (over_piece (acted_to a (bs ++ Loosen t ∷ [])) refl false e legal (over_told a o how.Full) e.over) leads.2,
+          )
+
+      pub checks_lead : (reads writes : ℕ) (e : CommandEnd) (acts : List Act) → NoLoss acts → (c : ChecksSo a o e acts) → (c.plain.sense ≡ Some equipment_sense → ⊥) →
+          LeadsTowards (record { devices = xs; events = w ∷ later; due = Next }) (step_lines a o e acts reads writes (Some (over_told a o how.Checked)))
+          (behind_piece xs w later (record a { history = checked (all_acted a.history acts) e; half = half.Closed }) false)
+      checks_lead reads writes e acts none c few =
+          let leads = check_command_leads xs w later a has (works (ends_work k)) o running plainly (end_stands w h k is) (makes w (ends_work k)) c.plain c.is_plain
+          few acts none c.are reads writes c.sense c.is_check in
+          subst (λ (f : CommandEnd). LeadsTowards (before w) (step_lines a o f acts reads writes (Some (over_told a o how.Checked)))
+          (behind_piece xs w later (record a { history = checked (all_acted a.history acts) f; half = half.Closed }) false)) (sym c.is_so) (
+            leads.0,
+            leads.1,
+            subst (λ (z : AuditState). Reaches leads.0 z)
+                (piece_is xs later a.number a has w (ends_work k) (worked (acted_to a acts) (CheckEnded (check_end (words_of_open a o) c.plain.index c.sense)))
+                Halved) leads.2,
+          )
+
+    -- The first part of a write
+
+    half_line : (track : ℕ) → ((o.path == o.path) && (a.number == a.number)) ≡ true
+    half_line track = both (o.path == o.path) (a.number == a.number) (same_number o.path) (same_number a.number)
+
+    half_first : (idle : ReportLine) (track : ℕ) → a.half ≡ half.Closed → may_step (outline_of a) idle (lines.Half o.path a.number track) a.half ≡ true
+    half_first idle track closed =
+        ap (may_step (outline_of a) idle (lines.Half o.path a.number track)) closed
+        ∙ ap (λ (r : Option OpenEntry). in_steps (outline_of a) idle (lines.Half o.path a.number track) (open_program r)) running
+        ∙ second_is false ((o.path == o.path) && (a.number == a.number)) (half_line track)
+
+    half_stands : (w : EventLine) → MayEnd a.number w half.Closed → a.half ≡ half.Closed → (track : ℕ) →
+        in_event (outlines (record { devices = xs; events = w ∷ later; due = Next })) (lines.Half o.path a.number track) w ≡ true
+    half_stands w step_ends closed track =
+        its_outline (λ b. may_step b (lines.StepIdle a.number) (lines.Half o.path a.number track) b.half) ∙ half_first (lines.StepIdle a.number) track closed
+    half_stands w run_ends closed track =
+        its_outline (λ b. may_step b (lines.RunIdle a.number) (lines.Half o.path a.number track) b.half) ∙ half_first (lines.RunIdle a.number) track closed
+
+    pub halves_lead : (w : EventLine) (k : MayEnd a.number w half.Closed) → a.half ≡ half.Closed → IsPlain a.plans a.empty a.history → (track : ℕ)
+        (acts : List Act) → NoLoss acts → AreActs (state_of a) None acts → (reads writes : ℕ) →
+        LeadsTowards (record { devices = xs; events = w ∷ later; due = Next })
+        ((lines.Half o.path a.number track ∷ map (act_line a.number) acts) ++ (io_lines reads writes ++ line_if None))
+        (behind_piece xs w later (record a { history = all_acted a.history acts; half = half.OfCommand }) false)
+    halves_lead w k closed plainly track acts none are reads writes =
+        let leads = work_leads xs w later a has (works (ends_work k)) plainly half.OfCommand Halved (λ b. refl) (λ b. over_halved b b.history.running)
+        (lines.Half o.path a.number track)
+        (first_judged w (ends_work k) (lines.Half o.path a.number track) (half_stands w k closed track)) acts none are reads writes in (
+          leads.0,
+          leads.1,
+          subst (λ (z : AuditState). Reaches leads.0 z)
+              (piece_is xs later a.number a has w (ends_work k) (record a { history = all_acted a.history acts; half = half.OfCommand }) Halved) leads.2,
+        )
+
+  -- What the background says
+
+  -- of a write that no command waits for, whichever line asks; of other work, BACK and SETTLE alone
+  pub data MayTell : EventLine → BackAnswer → HalfWrite → Type 0 where
+    seconds_by : {w : EventLine} {answer : BackAnswer} → IsWork a.number w → is_second_line a.number (lines.Back a.number answer) ≡ true →
+        MayTell w answer half.OfBackground
+    back_tells : {answer : BackAnswer} → is_back_line a.number (lines.Back a.number answer) ≡ true → MayTell (events.Back a.number) answer half.Closed
+    settle_tells : {answer : BackAnswer} → is_back_line a.number (lines.Back a.number answer) ≡ true → MayTell (events.Settle a.number) answer half.Closed
+
+  tells_work : {w : EventLine} {answer : BackAnswer} {h : HalfWrite} → MayTell w answer h → IsWork a.number w
+  tells_work (seconds_by k so) = k
+  tells_work (back_tells so) = of_back
+  tells_work (settle_tells so) = of_settle
+
+  second_stands : (w : EventLine) → IsWork a.number w → (answer : BackAnswer) → a.half ≡ half.OfBackground →
+      is_second_line a.number (lines.Back a.number answer) ≡ true →
+      in_event (outlines (record { devices = xs; events = w ∷ later; due = Next })) (lines.Back a.number answer) w ≡ true
+  second_stands w of_step answer is so =
+      its_outline (λ b. may_step b (lines.StepIdle a.number) (lines.Back a.number answer) b.half)
+      ∙ ap (may_step (outline_of a) (lines.StepIdle a.number) (lines.Back a.number answer)) is ∙ so
+  second_stands w of_run answer is so =
+      its_outline (λ b. may_step b (lines.RunIdle a.number) (lines.Back a.number answer) b.half)
+      ∙ ap (may_step (outline_of a) (lines.RunIdle a.number) (lines.Back a.number answer)) is ∙ so
+  second_stands w of_back answer is so =
+      its_outline (λ b. may_back b (lines.Back a.number answer) b.half) ∙ ap (may_back (outline_of a) (lines.Back a.number answer)) is ∙ so
+  second_stands w of_settle answer is so =
+      its_outline (λ b. may_back b (lines.Back a.number answer) b.half) ∙ ap (may_back (outline_of a) (lines.Back a.number answer)) is ∙ so
+
+  tells_stand : {w : EventLine} {answer : BackAnswer} {h : HalfWrite} → (k : MayTell w answer h) → a.half ≡ h →
+      in_event (outlines (record { devices = xs; events = w ∷ later; due = Next })) (lines.Back a.number answer) w ≡ true
+  tells_stand {w = w} {answer = answer} (seconds_by k so) is = second_stands w k answer is so
+  tells_stand {answer = answer} (back_tells so) is =
+      its_outline (λ b. may_back b (lines.Back a.number answer) b.half) ∙ ap (may_back (outline_of a) (lines.Back a.number answer)) is ∙ so
+  tells_stand {answer = answer} (settle_tells so) is =
+      its_outline (λ b. may_back b (lines.Back a.number answer) b.half) ∙ ap (may_back (outline_of a) (lines.Back a.number answer)) is ∙ so
+
+  pub tells_lead : (w : EventLine) (answer : BackAnswer) (h : HalfWrite) (k : MayTell w answer h) → a.half ≡ h → IsPlain a.plans a.empty a.history →
+      (acts : List Act) → NoLoss acts → AreActs (state_of a) None acts → (reads writes : ℕ) →
+      LeadsTowards (record { devices = xs; events = w ∷ later; due = Next })
+      ((lines.Back a.number answer ∷ map (act_line a.number) acts) ++ (io_lines reads writes ++ line_if None))
+      (behind_piece xs w later (record a { history = all_acted a.history acts; half = back_half a answer }) (is_last answer))
+  tells_lead w answer h k is plainly acts none are reads writes =
+      let leads = work_leads xs w later a has (works (tells_work k)) plainly (back_half a answer) (Worked (is_last answer)) (λ b. refl)
+      (λ b. over_worked b (is_last answer) b.history.running) (lines.Back a.number answer)
+      (first_judged w (tells_work k) (lines.Back a.number answer) (tells_stand k is)) acts none are reads writes in (
+        leads.0,
+        leads.1,
+        subst (λ (z : AuditState). Reaches leads.0 z)
+            (piece_is xs later a.number a has w (tells_work k) (record a { history = all_acted a.history acts; half = back_half a answer })
+            (Worked (is_last answer))) leads.2,
+      )
