@@ -44,6 +44,8 @@ mod OwnCalls
 mod OwnParts
 mod OwnEvents
 mod FramesOwned
+mod CommandCounts
+mod RunEnds
 mod DeckEvents
 mod Behind
 mod OrderedLines
