@@ -49,3 +49,4 @@ mod RunEnds
 mod DeckEvents
 mod Behind
 mod OrderedLines
+mod Texts

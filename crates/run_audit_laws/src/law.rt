@@ -12,6 +12,8 @@ ghost use Rattle.deck_audit.specs.History.{is_legal};
 ghost use Rattle.deck_audit.specs.State.{AuditState, first_state, settled, worker, worker_number};
 ghost use Rattle.report_places.specs.declared.state.HalfWrite.TheVariants.{Closed};
 ghost use Rattle.deck_audit.specs.Device.{AuditedDevice, device_in};
+ghost use Rattle.report_auditor.specs.declared.status.AuditStatus.TheVariants.{Yes};
+ghost use Rattle.report_auditor.specs.Verdict.{read_back};
 ghost use Rattle.run_report.specs.Closing.{ending_lines};
 ghost use Rattle.run_report.specs.Report.{report_lines};
 ghost use Rattle.subsystem_defs.specs.Closing.{ending};
@@ -20,7 +22,10 @@ ghost use Rattle.subsystem_defs.specs.Subsystem.{Subsystem};
 ghost use Rattle.run_audit_laws.specs.Ordered.{AllLead, IsLossOrPair};
 ghost use Rattle.run_audit_laws.specs.Runs.{AllAreOver, AllMayFollow, LineGoes, RunIsOver, SettleIsOver, WholeLeads};
 ghost use Rattle.run_audit_laws.specs.Standing.{FramesAreDeclared, HasDevice, IsStill, LeadsBy, LineLeads, stand};
+ghost use Rattle.run_audit_laws.specs.Texts.{IsOwnReport};
 ghost use Rattle.run_audit_laws.specs.Steps.{BackLeads, HalfLeads, StepEnds, WholeStepLeads};
+
+use report_reading::reads_back;
 
 /// Behind the run of a deck that was read an audit knows each device as the run has it, and one more event line at which no command runs and
 /// nothing is written or lost (a start, a reset, a repair, a new volume, a side held or let go) leads it to where it does so again: its
@@ -114,3 +119,11 @@ pub fn report_leads()
     ensures { (text : List ℕ) (deck : DeckLines) → parsed text ≡ Ok deck → AllMayFollow false deck.events → AllAreOver (opened deck) deck.events
         → FramesAreDeclared (run_of deck).behind → WholeLeads (first_state deck) (report_lines (run_of deck)) }
 {}
+
+/// And the audit of a text of such a deck, of a line REPORT and of the report of the deck's run says yes.
+pub fn own_report_is_yes()
+    ensures { (text : List ℕ) (deck : DeckLines) → IsOwnReport text deck → AllMayFollow false deck.events → AllAreOver (opened deck) deck.events
+        → FramesAreDeclared (run_of deck).behind → read_back text ≡ Yes }
+{
+    reads_back();
+}
