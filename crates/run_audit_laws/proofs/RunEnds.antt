@@ -36,6 +36,7 @@ use Rattle.std.proofs.lemmas.Bool.{cond_both, leb-false}
 use Rattle.ckd_types.specs.declared.channel.Ccw.{Ccw}
 use Rattle.ckd_types.specs.declared.channel.CommandEnd.{CommandEnd}
 use Rattle.ckd_types.specs.Ccw.{ccw_at}
+use Rattle.ckd_rules.specs.declared.stance.Stance.{Stance}
 use Rattle.ckd_rules.specs.Ends.{at_limit, goes_to, is_over, would_go_on}
 use Rattle.ckd_rules.specs.Ending.{Outcome}
 use Rattle.plain_defs.specs.declared.journal.Act.{Act}
@@ -46,7 +47,7 @@ use Rattle.plain_defs.specs.History as Y
 use Rattle.plain_defs.specs.History.{History, OpenEntry, acted_in, checked, checked_in, closed, ended_in, with_end}
 use Rattle.plain_defs.specs.Journal.{program_of, replay}
 use Rattle.plain_defs.specs.PlainState.{PlainState}
-use Rattle.plain_defs.specs.Program.{Part, one_more, part_of, stepped, stepped_at}
+use Rattle.plain_defs.specs.Program.{Part, first_part, one_more, part_of, stepped, stepped_at}
 use Rattle.plain_defs.proofs.PartLemmas.{acted_beside, first_next, no_ends, over_stays, part_more}
 use Rattle.device_outside.specs.Interaction.{Done, and_then}
 use Rattle.device_outside.specs.Told as T
@@ -133,7 +134,7 @@ module _ (path : ℕ) (ccws : List Ccw) (acts : List Acted) (state : PlainState)
       let next_is : (one_more path ccws acts p).next ≡ goes_to ccws i e.outcome =
       beside.next ∙ ap (λ (o : Option ℕ). (stepped_at path ccws p o).next) is in
       let stance_is : (one_more path ccws acts p).stance.commands ≡ e.outcome.stance.commands =
-      ap (λ (s : _). s.commands) (beside.stance ∙ ap (λ (o : Option ℕ). (stepped_at path ccws p o).stance) is) in
+      ap (λ (s : Stance). s.commands) (beside.stance ∙ ap (λ (o : Option ℕ). (stepped_at path ccws p o).stance) is) in
       let goes = not_over (is_over (ccw_at ccws i) e.outcome) _ (subst (λ (o : Option ℕ). IsSome o) next_is some) in
       let less = below_limit (ccw_at ccws i) e.outcome goes in
       let one = effect_counts p.fixed p.state path p.stance (ccw_at ccws i) in
@@ -142,7 +143,7 @@ module _ (path : ℕ) (ccws : List Ccw) (acts : List Acted) (state : PlainState)
 
   few_of : (k : ℕ) → IsSome (part_of state path ccws acts k).next → Few k (part_of state path ccws acts k)
   unfolding part_of
-  few_of zero some = record { counted = ap (λ (s : _). s.commands) (acted_beside acts _).stance; few = omega arith }
+  few_of zero some = record { counted = ap (λ (s : Stance). s.commands) (acted_beside acts (first_part state path ccws)).stance; few = omega arith }
   few_of (suc k) some = more_few k (part_of state path ccws acts k).next refl (few_of k) some
 
 few_ends : (x : MarksDevice) → Plainly x → (o : OpenEntry) → x.history.running ≡ Some o → length o.ends < 4096
