@@ -43,7 +43,9 @@ use Rattle.run_audit_laws.proofs.Leading.{leads_on}
 use Rattle.run_audit_laws.proofs.Behind.{AllSo, IsBehind, deck_all_so}
 use Rattle.run_audit_laws.proofs.DeckEvents.{OfNamed}
 use Rattle.run_audit_laws.proofs.Ties.{numbers_in}
+use Rattle.run_audit_laws.proofs.FramesOwned.{frames_are_declared}
 use Rattle.run_audit_laws.proofs.OrderedLines.{ordered_leads}
+use Rattle.run_audit_laws.proofs.RunEnds.{run_is_over}
 use Rattle.run_audit_laws.proofs.StillLines.{still_leads}
 use Rattle.run_audit_laws.proofs.WorkLines.{back_goes_on, run_goes_on, settle_goes_on, step_goes_on}
 
@@ -175,7 +177,7 @@ run_leads deck may does framed =
 module _ (s : Subsystem) (numbers : List ℕ) (k : IsBehind numbers s) where
   line_does : (e : EventLine) → OfNamed (HasDevice s) e → IsOver s e → LineDoes s e
   line_does (events.Step d) has over = step_goes_on s k.plain d has
-  line_does (events.Run d) has over = run_goes_on s k.plain d has over
+  line_does (events.Run d) has over = run_goes_on s k.plain d has (run_is_over s k.plain d has)
   line_does (events.Back d) has over = back_goes_on s k.plain k.good d has
   line_does (events.Settle d) has over = settle_goes_on s k.plain k.good d has over
   line_does (events.FailVolume d side) has over = ordered_leads numbers s k (events.FailVolume d side) has
@@ -197,8 +199,8 @@ all_do [] s so over = tt
 all_do (e ∷ later) s so over = (so.0 over.0, all_do later (line_behind s e) so.1 over.1)
 
 pub report_leads : (text : List ℕ) (deck : DeckLines) → parsed text ≡ Ok deck → AllMayFollow false deck.events → AllAreOver (opened deck) deck.events →
-    FramesAreDeclared (run_of deck).behind → WholeLeads (first_state deck) (report_lines (run_of deck))
-report_leads text deck read may over framed =
+    WholeLeads (first_state deck) (report_lines (run_of deck))
+report_leads text deck read may over =
     run_leads deck may
     (all_do deck.events (opened deck)
-    (deck_all_so text deck read (λ z e. IsOver z e → LineDoes z e) (λ z e k served has over. line_does z (numbers_in deck) k e has over)) over) framed
+    (deck_all_so text deck read (λ z e. IsOver z e → LineDoes z e) (λ z e k served has over. line_does z (numbers_in deck) k e has over)) over) (frames_are_declared deck)

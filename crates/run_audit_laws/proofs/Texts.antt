@@ -23,7 +23,7 @@ use Rattle.report_auditor.specs.Verdict.{at_end, cut_lines, deck_judged, deck_pa
 use Rattle.run_report.specs.Report.{report_lines}
 use Rattle.subsystem_defs.specs.Decks.{opened, run_of}
 use Rattle.run_audit_laws.specs.Runs.{AllAreOver, AllMayFollow, WholeLeads}
-use Rattle.run_audit_laws.specs.Standing.{FramesAreDeclared, LeadsBy}
+use Rattle.run_audit_laws.specs.Standing.{LeadsBy}
 use Rattle.run_audit_laws.specs.Texts.{IsOwnReport, IsWritten}
 use Rattle.run_audit_laws.proofs.Runs.{report_leads}
 
@@ -56,6 +56,6 @@ module _ (again : (line : ReportLine) → IsLine line → line_of (text_of line)
       ∙ all_texts (report_lines (run_of deck)) (o.lines + 2) (first_state deck) leads.0 o.written leads.1 leads.2
 
   pub own_report_is_yes : (text : List ℕ) (deck : DeckLines) → IsOwnReport text deck → AllMayFollow false deck.events → AllAreOver (opened deck) deck.events →
-      FramesAreDeclared (run_of deck).behind → read_back text ≡ Yes
-  own_report_is_yes text deck o may over framed =
-      yes_by text deck o (report_leads (deck_part text (Some o.lines)) deck o.parses may over framed)
+      read_back text ≡ Yes
+  own_report_is_yes text deck o may over =
+      yes_by text deck o (report_leads (deck_part text (Some o.lines)) deck o.parses may over)

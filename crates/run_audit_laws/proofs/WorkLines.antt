@@ -58,6 +58,7 @@ use Rattle.run_audit_laws.proofs.Found.{mounted_too}
 use Rattle.run_audit_laws.proofs.NextLines.{towards_then}
 use Rattle.run_audit_laws.proofs.PieceEvents.{PieceGoes, back_goes, back_piece, run_idle_leads, run_step_goes, settle_piece, step_line_goes}
 use Rattle.run_audit_laws.proofs.Pieces.{by_back, by_settle}
+use Rattle.run_audit_laws.proofs.RunEnds.{run_is_over}
 use Rattle.run_audit_laws.proofs.StillLines.{some_device}
 use Rattle.run_audit_laws.proofs.WorkEnds.{left_by}
 
@@ -338,8 +339,13 @@ pub step_line_leads : (text : List ℕ) (deck : DeckLines) → parsed text ≡ O
 step_line_leads text deck read d has = step_goes_on (run_of deck).behind (plain_behind deck (read_served text deck read)) d has
 
 pub run_line_leads : (text : List ℕ) (deck : DeckLines) → parsed text ≡ Ok deck → (d : ℕ) → HasDevice (run_of deck).behind d →
-    RunIsOver (run_of deck).behind d → LineGoes (run_of deck).behind (wanted.Run d)
-run_line_leads text deck read d has over = run_goes_on (run_of deck).behind (plain_behind deck (read_served text deck read)) d has over
+    LineGoes (run_of deck).behind (wanted.Run d)
+run_line_leads text deck read d has =
+    let plain = plain_behind deck (read_served text deck read) in
+    run_goes_on (run_of deck).behind plain d has (run_is_over (run_of deck).behind plain d has)
+
+pub runs_end : (text : List ℕ) (deck : DeckLines) → parsed text ≡ Ok deck → (d : ℕ) → HasDevice (run_of deck).behind d → RunIsOver (run_of deck).behind d
+runs_end text deck read d has = run_is_over (run_of deck).behind (plain_behind deck (read_served text deck read)) d has
 
 good_behind_run : (deck : DeckLines) → IsServedDeck deck → AreSo Good (run_of deck).behind.mounted
 unfolding D.run_asked

@@ -66,9 +66,8 @@ abbrev pub AllDo : Subsystem → List EventLine → Type 0
 AllDo s [] = Unit {0}
 AllDo s (e ∷ later) = LineDoes s e × AllDo (line_behind s e) later
 
--- each RUN and each SETTLE comes to its end
+-- each SETTLE comes to its end
 abbrev pub IsOver : Subsystem → EventLine → Type 0
-IsOver s (events.Run d) = RunIsOver s d
 IsOver s (events.Settle d) = SettleIsOver s d
 IsOver s e = Unit {0}
 

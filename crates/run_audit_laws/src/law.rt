@@ -95,10 +95,14 @@ pub fn step_line_leads()
     ensures { (text : List ℕ) (deck : DeckLines) → parsed text ≡ Ok deck → (d : ℕ) → HasDevice (run_of deck).behind d → LineGoes (run_of deck).behind (Step d) }
 {}
 
-/// So do the lines of a RUN that comes to its end.
+/// A RUN there comes to its end: behind it nothing of its device runs, neither a program nor a half write.
+pub fn runs_end()
+    ensures { (text : List ℕ) (deck : DeckLines) → parsed text ≡ Ok deck → (d : ℕ) → HasDevice (run_of deck).behind d → RunIsOver (run_of deck).behind d }
+{}
+
+/// So do the lines of a RUN.
 pub fn run_line_leads()
-    ensures { (text : List ℕ) (deck : DeckLines) → parsed text ≡ Ok deck → (d : ℕ) → HasDevice (run_of deck).behind d → RunIsOver (run_of deck).behind d
-        → LineGoes (run_of deck).behind (Run d) }
+    ensures { (text : List ℕ) (deck : DeckLines) → parsed text ≡ Ok deck → (d : ℕ) → HasDevice (run_of deck).behind d → LineGoes (run_of deck).behind (Run d) }
 {}
 
 /// So do the lines of a BACK, whatever the device does by itself.
@@ -112,18 +116,18 @@ pub fn settle_line_leads()
         → LineGoes (run_of deck).behind (Settle d) }
 {}
 
-/// So where each RUN and each SETTLE of a deck that was read comes to its end, no FAIL VOLUME stands directly behind a STEP, RUN, BACK or SETTLE, and
-/// each frame of the pool is at last of a device, the whole report of the deck's run leads an audit of it from its first state to FINISH: no line
-/// stands where it may not, and none shows what no plain device answers.
+/// So where each SETTLE of a deck that was read comes to its end, and no FAIL VOLUME stands directly behind a STEP, RUN, BACK or SETTLE, the whole
+/// report of the deck's run leads an audit of it from its first state to FINISH: no line stands where it may not, and none shows what no plain
+/// device answers.
 pub fn report_leads()
     ensures { (text : List ℕ) (deck : DeckLines) → parsed text ≡ Ok deck → AllMayFollow false deck.events → AllAreOver (opened deck) deck.events
-        → FramesAreDeclared (run_of deck).behind → WholeLeads (first_state deck) (report_lines (run_of deck)) }
+        → WholeLeads (first_state deck) (report_lines (run_of deck)) }
 {}
 
 /// And the audit of a text of such a deck, of a line REPORT and of the report of the deck's run says yes.
 pub fn own_report_is_yes()
     ensures { (text : List ℕ) (deck : DeckLines) → IsOwnReport text deck → AllMayFollow false deck.events → AllAreOver (opened deck) deck.events
-        → FramesAreDeclared (run_of deck).behind → read_back text ≡ Yes }
+        → read_back text ≡ Yes }
 {
     reads_back();
 }
