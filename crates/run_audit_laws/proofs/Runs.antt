@@ -119,7 +119,7 @@ ReachesEnd u ls t = (v : AuditState) × LeadsBy u ls v × ((n : Option ℕ) × R
 lines_towards : (events : List EventLine) (before : Option ℕ) (s : Subsystem) (u : AuditState) → AllMayFollow before events → AllDo s events →
     Reaches before u (stand s events) → ReachesEnd u (flat_map lines_of (run_lines (map asked_by events) s)) (stand (behind_lines s events) [])
 unfolding L.run_lines
-lines_towards [] before s u may does reaches = (u, refl, before, reaches)
+lines_towards [] before s u may does reaches = (u, refl, (before, reaches))
 lines_towards (e ∷ later) before s u may does reaches =
     let ts = line_logged s (asked_by e) in
     let z = line_behind s e in
