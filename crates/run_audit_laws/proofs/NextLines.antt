@@ -12,42 +12,12 @@ use Rattle.report_text.specs.declared.line.ReportLine.{ReportLine}
 use Rattle.report_text.specs.declared.line.ReportLine.TheVariants as lines
 use Rattle.report_text.specs.declared.order.Order.{Order}
 use Rattle.report_text.specs.declared.order.Order.TheVariants as orders
-use Rattle.report_places.specs.declared.state.Did.{Did}
-use Rattle.report_places.specs.declared.state.Due.{Due}
 use Rattle.report_places.specs.declared.state.Due.TheVariants.{Next, Behind, Nothing}
 use Rattle.report_places.specs.declared.state.HalfWrite.{HalfWrite}
 use Rattle.report_places.specs.declared.state.HalfWrite.TheVariants as half
 use Rattle.report_places.specs.declared.state.OpenProgram.{OpenProgram}
 use Rattle.report_places.specs.declared.state.Outline.{Outline}
-use Rattle.report_places.specs.Place.{
-  holds,
-  in_event,
-  in_next,
-  in_power,
-  in_power_of,
-  in_steps,
-  in_totals_of,
-  is_act_of,
-  is_back_line,
-  is_cut,
-  is_end,
-  is_half,
-  is_harden,
-  is_io,
-  is_loss,
-  is_loss_of,
-  is_of_work,
-  is_order,
-  is_power_done,
-  is_reset,
-  is_second_line,
-  is_start,
-  may_back,
-  may_reset,
-  may_step,
-  outline_in,
-  second_of,
-}
+use Rattle.report_places.specs.Place.{holds, in_event, in_next, in_power, in_power_of, in_steps, is_act_of, is_back_line, is_cut, is_end, is_half, is_harden, is_io, is_loss, is_loss_of, is_of_work, is_order, is_power_done, is_reset, is_second_line, is_start, may_back, may_reset, may_step, outline_in, second_of}
 use Rattle.report_places.specs.Same.{says}
 use Rattle.plain_defs.specs.declared.journal.Act.TheVariants.{Harden}
 use Rattle.plain_defs.specs.PlainState.{LooseTrack}
@@ -55,11 +25,11 @@ use Rattle.plain_defs.specs.Loose.{is_loose_in}
 use Rattle.deck_audit.specs.Device as A
 use Rattle.deck_audit.specs.Device.{AuditedDevice, state_of}
 use Rattle.deck_audit.specs.History.{act_made, event_made, harden_made, next_made}
-use Rattle.deck_audit.specs.State.{AuditState, outlines, settled, then_of, worker_number}
+use Rattle.deck_audit.specs.State.{AuditState, outlines, then_of, worker_number}
 use Rattle.device_defs.specs.Marks.{MarksDevice}
 use Rattle.report_auditor.specs.declared.status.AuditWhy.{AuditWhy}
 use Rattle.report_auditor.specs.declared.status.AuditWhy.TheVariants.{History, Place}
-use Rattle.report_auditor.specs.Verdict.{judged, or_history}
+use Rattle.report_auditor.specs.Verdict.{or_history}
 use Rattle.subsystem_defs.specs.Deeds.{device_in}
 use Rattle.subsystem_defs.specs.Subsystem.{Subsystem, devices_of}
 use Rattle.run_audit_laws.specs.Runs.{HasNoneLoose, MayFollow}

@@ -1,8 +1,7 @@
 -- Where the lines of each event line lead an audit on, those of the whole run do.
-use Rattle.std.proofs.Common.{◌≡◌, ◌++◌, ℕ, List, [], ◌∷◌, Option, Some, None, map, length, arith, refl, sym, ap, subst, ◌∙◌, append_assoc}
+use Rattle.std.proofs.Common.{◌≡◌, ◌++◌, ℕ, List, [], ◌∷◌, Option, None, map, length, arith, refl, sym, ap, subst, ◌∙◌, append_assoc}
 use Rattle.std.specs.List.{flat_map}
 use Rattle.std.specs.Prelude.{Ok}
-use Rattle.ckd_types.specs.declared.paths.Side.{Side}
 use Rattle.deck_plan.specs.declared.event.EventLine.{EventLine}
 use Rattle.deck_plan.specs.declared.event.EventLine.TheVariants as events
 use Rattle.deck_text.specs.declared.line.DeviceLine.{DeviceLine}
@@ -12,7 +11,6 @@ use Rattle.report_text.specs.declared.line.ReportLine.{ReportLine}
 use Rattle.report_places.specs.declared.state.Due.TheVariants.{Nothing}
 use Rattle.deck_audit.specs.Device.{AuditedDevice, new_device}
 use Rattle.deck_audit.specs.State.{AuditState, first_state}
-use Rattle.device_defs.specs.Marks.{MarksDevice}
 use Rattle.run_report.specs.Closing.{ending_lines}
 use Rattle.run_report.specs.Events.{lines_of}
 use Rattle.run_report.specs.Report.{report_lines}
@@ -21,7 +19,7 @@ use Rattle.subsystem_defs.specs.Decks as D
 use Rattle.subsystem_defs.specs.Decks.{opened, opened_device, run_of}
 use Rattle.subsystem_defs.specs.Lines as L
 use Rattle.subsystem_defs.specs.Lines.{Asked, Logged, asked_by, last_behind, line_logged, run_lines}
-use Rattle.subsystem_defs.specs.Subsystem.{Mounted, Subsystem, devices_of}
+use Rattle.subsystem_defs.specs.Subsystem.{Mounted, Subsystem}
 use Rattle.report_places.specs.Place.{worker_of}
 use Rattle.run_audit_laws.specs.Runs.{
   AllAreOver,
@@ -36,7 +34,7 @@ use Rattle.run_audit_laws.specs.Runs.{
   line_behind,
 }
 use Rattle.run_audit_laws.specs.Standing.{FramesAreDeclared, HasDevice, LeadsBy, LineLeads, audited, stand}
-use Rattle.run_audit_laws.specs.Steps.{LeadsTowards, Reaches, is_there}
+use Rattle.run_audit_laws.specs.Steps.{Reaches, is_there}
 use Rattle.run_audit_laws.proofs.Endings.{ending_leads}
 use Rattle.run_audit_laws.proofs.NextLines.{exactly_from, to_the_end, towards_other}
 use Rattle.run_audit_laws.proofs.Leading.{leads_on}
