@@ -50,3 +50,4 @@ mod DeckEvents
 mod Behind
 mod OrderedLines
 mod Texts
+mod Feeds

@@ -1,6 +1,8 @@
 -- The first line of an event isn't of the work before it, so lines that lead on from where that work is known to be done do so from where it isn't.
 use Rattle.std.proofs.Common.{◌≡◌, ◌==◌, ◌++◌, ℕ, Bool, true, false, not, List, [], ◌∷◌, Option, Some, None, refl, sym, ap, subst, ◌∙◌, if◌then◌else◌}
 use Rattle.std.specs.Prelude.{◌||◌, ◌&&◌, Result, Ok, Err}
+use Rattle.std.proofs.lemmas.Bool.{eqb-true, ne_eqb}
+use Rattle.ckd_types.specs.declared.paths.Side.{Side}
 use Rattle.deck_plan.specs.declared.event.EventLine.{EventLine}
 use Rattle.deck_plan.specs.declared.event.EventLine.TheVariants as events
 use Rattle.report_text.specs.declared.answers.LooseAnswer.{LooseAnswer}
@@ -57,8 +59,9 @@ use Rattle.run_audit_laws.specs.Steps.{LeadsTowards, Reaches, is_there, is_waiti
 use Rattle.run_audit_laws.proofs.Leading.{leads_on, waiting_leads}
 
 -- an event line that isn't a volume's failure
-abbrev pub IsCalm : EventLine → Type 0
-IsCalm e = MayFollow true e
+abbrev IsCalm : EventLine → Type 0
+IsCalm (events.FailVolume d side) = ⊥
+IsCalm e = Unit {0}
 
 -- A line that begins no event
 
@@ -221,28 +224,76 @@ of_none : (line : ReportLine) → is_io line ≡ false → ((d : ℕ) → is_act
 of_none line no_io act more None = ap (λ (b : Bool). b || false) no_io
 of_none line no_io act more (Some d) = ap (λ (b : Bool). b || is_act_of more d line) no_io ∙ no_act more d line (act d)
 
--- the event lines that are left begin with no failure of a volume
-abbrev pub BeginCalm : List EventLine → Type 0
-BeginCalm [] = Unit {0}
-BeginCalm (e ∷ later) = IsCalm e
+-- the first event line that is left may follow a piece of work of this device
+abbrev pub BeginMay : Option ℕ → List EventLine → Type 0
+BeginMay w [] = Unit {0}
+BeginMay w (e ∷ later) = MayFollow w e
 
-module _ (s : List Outline) (later : List EventLine) (calm : BeginCalm later) (more : Bool) (w : Option ℕ) where
-  next_begins_none : (line : ReportLine) → BeginsNothing line → (l : List EventLine) → BeginCalm l → in_next s line l ≡ false
-  next_begins_none line b [] c = b.totals s
-  next_begins_none line b (e ∷ l) c = begins_none line b s e c
+-- a volume's failure that isn't of the device of the work
+other_number : (more : Bool) (x n d t : ℕ) → (x ≡ d → ⊥) → ((n == d) || false) ≡ true → is_act_of more x (lines.Loose n (loose.Harden t)) ≡ false
+other_number false x n d t other is = refl
+other_number true x n d t other is = ne_eqb n x (λ same. other (sym same ∙ eqb-true n d (only_first (n == d) is))) where
+  only_first : (b : Bool) → (b || false) ≡ true → b ≡ true
+  only_first true so = refl
+  only_first false so = so
 
-  refuted : (line : ReportLine) → BeginsNothing line → in_next s line later ≡ true → is_of_work more w line ≡ false
-  refuted line b is = absurd (let both : true ≡ false = sym is ∙ next_begins_none line b later calm in cc)
+module _ (s : List Outline) (later : List EventLine) (more : Bool) (w : Option ℕ) (may : BeginMay w later) where
+  -- where the line is of a volume's failure it is none of the work
+  abbrev FailsAside : ReportLine → Type 0
+  FailsAside line =
+      (d : ℕ) (side : Side) → MayFollow w (events.FailVolume d side) → in_event s line (events.FailVolume d side) ≡ true → is_of_work more w line ≡ false
+
+  never : (line : ReportLine) → BeginsNothing line → (e : EventLine) → IsCalm e → in_event s line e ≡ true → is_of_work more w line ≡ false
+  never line b e calm is = absurd (let both : true ≡ false = sym is ∙ begins_none line b s e calm in cc)
+
+  refuted_by : (line : ReportLine) → BeginsNothing line → FailsAside line → (e : EventLine) → MayFollow w e → in_event s line e ≡ true →
+      is_of_work more w line ≡ false
+  refuted_by line b aside (events.FailVolume d side) follows is = aside d side follows is
+  refuted_by line b aside (events.Start path d) follows is = never line b (events.Start path d) tt is
+  refuted_by line b aside (events.Step d) follows is = never line b (events.Step d) tt is
+  refuted_by line b aside (events.Run d) follows is = never line b (events.Run d) tt is
+  refuted_by line b aside (events.Back d) follows is = never line b (events.Back d) tt is
+  refuted_by line b aside (events.Settle d) follows is = never line b (events.Settle d) tt is
+  refuted_by line b aside (events.Reset path d) follows is = never line b (events.Reset path d) tt is
+  refuted_by line b aside events.FailCache follows is = never line b events.FailCache tt is
+  refuted_by line b aside events.FailStore follows is = never line b events.FailStore tt is
+  refuted_by line b aside events.RepairCache follows is = never line b events.RepairCache tt is
+  refuted_by line b aside events.RepairStore follows is = never line b events.RepairStore tt is
+  refuted_by line b aside (events.Replace d side) follows is = never line b (events.Replace d side) tt is
+  refuted_by line b aside (events.Pair x y) follows is = never line b (events.Pair x y) tt is
+  refuted_by line b aside (events.Unpair x) follows is = never line b (events.Unpair x) tt is
+  refuted_by line b aside (events.Suspend x) follows is = never line b (events.Suspend x) tt is
+  refuted_by line b aside (events.Resume x) follows is = never line b (events.Resume x) tt is
+  refuted_by line b aside events.Power follows is = never line b events.Power tt is
+
+  refuted_in : (line : ReportLine) → BeginsNothing line → FailsAside line → (l : List EventLine) → BeginMay w l → in_next s line l ≡ true →
+      is_of_work more w line ≡ false
+  refuted_in line b aside [] follows is = absurd (let both : true ≡ false = sym is ∙ b.totals s in cc)
+  refuted_in line b aside (e ∷ l) follows is = refuted_by line b aside e follows is
+
+  no_failure : (line : ReportLine) → BeginsNothing line → ((d : ℕ) → is_harden d line ≡ false) → FailsAside line
+  no_failure line b firm d side follows is =
+      absurd (let both : true ≡ false =
+      sym is ∙ neither (is_harden d line) (is_order (orders.FailVolume d side) line) (firm d) (b.orders_are (orders.FailVolume d side)) in cc)
+
+  aside_by : (k : Option ℕ) (n t d : ℕ) (side : Side) → MayFollow k (events.FailVolume d side) → ((n == d) || false) ≡ true →
+      is_of_work more k (lines.Loose n (loose.Harden t)) ≡ false
+  aside_by None n t d side follows is = refl
+  aside_by (Some x) n t d side follows is = other_number more x n d t follows is
+
+  refuted : (line : ReportLine) → BeginsNothing line → ((d : ℕ) → is_harden d line ≡ false) → in_next s line later ≡ true → is_of_work more w line ≡ false
+  refuted line b firm is = refuted_in line b (no_failure line b firm) later may is
 
   loose_by : (n : ℕ) (a : LooseAnswer) → in_next s (lines.Loose n a) later ≡ true → is_of_work more w (lines.Loose n a) ≡ false
-  loose_by n (loose.Harden t) is = refuted (lines.Loose n (loose.Harden t)) (harden_begins_none n t) is
-  loose_by n (loose.Loosen t) is = refuted (lines.Loose n (loose.Loosen t)) (loosen_begins_none n t) is
+  loose_by n (loose.Harden t) is =
+      refuted_in (lines.Loose n (loose.Harden t)) (harden_begins_none n t) (λ d side follows so. aside_by w n t d side follows so) later may is
+  loose_by n (loose.Loosen t) is = refuted (lines.Loose n (loose.Loosen t)) (loosen_begins_none n t) (λ d. refl) is
   loose_by n (loose.Lost count id) is = of_none (lines.Loose n (loose.Lost count id)) refl (λ d. refl) more w
 
   -- a line that may come next is none of the work before
   pub next_is_other : (line : ReportLine) → in_next s line later ≡ true → is_of_work more w line ≡ false
   next_is_other (lines.Loose n a) is = loose_by n a is
-  next_is_other (lines.Io reads writes) is = refuted (lines.Io reads writes) (io_begins_none reads writes) is
+  next_is_other (lines.Io reads writes) is = refuted (lines.Io reads writes) (io_begins_none reads writes) (λ d. refl) is
   next_is_other (lines.Start path d a) is = of_none (lines.Start path d a) refl (λ k. refl) more w
   next_is_other (lines.End e) is = of_none (lines.End e) refl (λ k. refl) more w
   next_is_other (lines.Data bytes) is = of_none (lines.Data bytes) refl (λ k. refl) more w
@@ -269,41 +320,56 @@ may_stand : (b : Bool) (r : Result AuditState AuditWhy) (u : AuditState) → (if
 may_stand true r u is = refl
 may_stand false r u is = absurd (cc)
 
-module _ (s : Subsystem) (later : List EventLine) (calm : BeginCalm later) where
-  pub leads_from : (u : AuditState) → Reaches u (stand s later) → (line : ReportLine) (lines : List ReportLine) (t : AuditState) →
+module _ (s : Subsystem) (later : List EventLine) (n : Option ℕ) (may : BeginMay n later) where
+  pub leads_from : (u : AuditState) → Reaches n u (stand s later) → (line : ReportLine) (lines : List ReportLine) (t : AuditState) →
       LeadsBy (stand s later) (line ∷ lines) t → LeadsBy u (line ∷ lines) t
   leads_from u (is_there same) line lines t leads = subst (λ (z : AuditState). LeadsBy z (line ∷ lines) t) (sym same) leads
-  leads_from u (is_waiting more did is legal same) line lines t leads =
+  leads_from u (is_waiting more did is works legal same) line lines t leads =
       waiting_leads u t line lines more did is
-      (next_is_other (outlines (stand s later)) later calm more (worker_number u) line
+      (ap (λ (k : Option ℕ). is_of_work more k line) works
+      ∙ next_is_other (outlines (stand s later)) later more n may line
       (may_stand (in_next (outlines (stand s later)) line later) _ leads.0 leads.1))
       legal (ap (λ (z : AuditState). z.due) same)
       (subst (λ (z : AuditState). LeadsBy z (line ∷ lines) t) (sym same) leads)
 
-  pub towards_from : (u : AuditState) → Reaches u (stand s later) → (ls : List ReportLine) (t : AuditState) →
-      LeadsTowards (stand s later) ls t → LeadsTowards u ls t
+  -- lines of the same device's work
+  pub towards_from : (u : AuditState) → Reaches n u (stand s later) → (ls : List ReportLine) (t : AuditState) →
+      (leads : (v : AuditState) × LeadsBy (stand s later) ls v × Reaches n v t) → (v : AuditState) × LeadsBy u ls v × Reaches n v t
   towards_from u reaches [] t leads = (u, refl, by_way leads.2) where
-    by_way : Reaches leads.0 t → Reaches u t
-    by_way (is_there same) = subst (λ (z : AuditState). Reaches u z) (sym leads.1 ∙ same) reaches
-    by_way (is_waiting more did is legal same) =
+    by_way : Reaches n leads.0 t → Reaches n u t
+    by_way (is_there same) = subst (λ (z : AuditState). Reaches n u z) (sym leads.1 ∙ same) reaches
+    by_way (is_waiting more did is works legal same) =
         absurd (let none : Next ≡ Behind more did = ap (λ (z : AuditState). z.due) (sym leads.1) ∙ is in cc)
   towards_from u reaches (line ∷ ls) t leads = (leads.0, leads_from u reaches line ls leads.0 leads.1, leads.2)
 
   -- to the end
-  pub to_the_end : (u : AuditState) → Reaches u (stand s later) → (ls : List ReportLine) (t : AuditState) → t.due ≡ Nothing →
+  pub to_the_end : (u : AuditState) → Reaches n u (stand s later) → (ls : List ReportLine) (t : AuditState) → t.due ≡ Nothing →
       LeadsBy (stand s later) ls t → LeadsBy u ls t
   to_the_end u reaches [] t done leads =
       absurd (let none : Nothing ≡ Next = sym done ∙ ap (λ (z : AuditState). z.due) leads in cc)
   to_the_end u reaches (line ∷ ls) t done leads = leads_from u reaches line ls t leads
 
   -- to where other events are left
-  pub exactly_from : (u : AuditState) → Reaches u (stand s later) → (z : Subsystem) (rest : List EventLine) → (later ≡ rest → ⊥) → (ls : List ReportLine) →
+  pub exactly_from : (u : AuditState) → Reaches n u (stand s later) → (z : Subsystem) (rest : List EventLine) → (later ≡ rest → ⊥) → (ls : List ReportLine) →
       LeadsBy (stand s later) ls (stand z rest) → LeadsBy u ls (stand z rest)
   exactly_from u reaches z rest other [] leads = absurd (other (ap (λ (k : AuditState). k.events) (sym leads)))
   exactly_from u reaches z rest other (line ∷ ls) leads = leads_from u reaches line ls (stand z rest) leads
 
+  -- or towards there
+  pub towards_other : (u : AuditState) → Reaches n u (stand s later) → (z : Subsystem) (rest : List EventLine) → (later ≡ rest → ⊥) → (ls : List ReportLine) →
+      (k : Option ℕ) → (leads : (v : AuditState) × LeadsBy (stand s later) ls v × Reaches k v (stand z rest)) →
+      (v : AuditState) × LeadsBy u ls v × Reaches k v (stand z rest)
+  towards_other u reaches z rest other [] k leads = absurd (by_way leads.2) where
+    by_way : Reaches k leads.0 (stand z rest) → ⊥
+    by_way (is_there same) = other (ap (λ (y : AuditState). y.events) (sym leads.1 ∙ same))
+    by_way (is_waiting more did is works legal same) =
+        let none : Next ≡ Behind more did = ap (λ (y : AuditState). y.due) (sym leads.1) ∙ is in cc
+  towards_other u reaches z rest other (line ∷ ls) k leads = (leads.0, leads_from u reaches line ls leads.0 leads.1, leads.2)
+
   -- lines lead on behind others
-  pub towards_then : (z t : AuditState) (xs ys : List ReportLine) → LeadsTowards z xs (stand s later) → LeadsTowards (stand s later) ys t →
-      LeadsTowards z (xs ++ ys) t
-  towards_then z t xs ys first rest =
-      let more = towards_from first.0 first.2 ys t rest in (more.0, leads_on z first.0 more.0 xs ys first.1 more.1, more.2)
+  pub towards_then : (z t : AuditState) (xs ys : List ReportLine) → worker_number z ≡ n → worker_number (stand s later) ≡ n →
+      LeadsTowards z xs (stand s later) → LeadsTowards (stand s later) ys t → LeadsTowards z (xs ++ ys) t
+  towards_then z t xs ys one two first rest =
+      let from = subst (λ (k : Option ℕ). Reaches k first.0 (stand s later)) one first.2 in
+      let more = towards_from first.0 from ys t (rest.0, rest.1, subst (λ (k : Option ℕ). Reaches k rest.0 t) two rest.2) in
+      (more.0, leads_on z first.0 more.0 xs ys first.1 more.1, subst (λ (k : Option ℕ). Reaches k more.0 t) (sym one) more.2)

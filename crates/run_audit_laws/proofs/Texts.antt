@@ -55,7 +55,7 @@ module _ (again : (line : ReportLine) → IsLine line → line_of (text_of line)
       ∙ ap (judged_lines (o.lines + 2) (first_state deck)) o.says
       ∙ all_texts (report_lines (run_of deck)) (o.lines + 2) (first_state deck) leads.0 o.written leads.1 leads.2
 
-  pub own_report_is_yes : (text : List ℕ) (deck : DeckLines) → IsOwnReport text deck → AllMayFollow false deck.events → AllAreOver (opened deck) deck.events →
+  pub own_report_is_yes : (text : List ℕ) (deck : DeckLines) → IsOwnReport text deck → AllMayFollow None deck.events → AllAreOver (opened deck) deck.events →
       read_back text ≡ Yes
   own_report_is_yes text deck o may over =
       yes_by text deck o (report_leads (deck_part text (Some o.lines)) deck o.parses may over)

@@ -205,13 +205,13 @@ module _ (xs : List AuditedDevice) (later : List EventLine) (a : AuditedDevice) 
       ends_lead reads writes e acts (firmly bs plain none are legal) few =
           let leads = plain_command_leads xs w later a has (works (ends_work k)) o running plainly (end_stands w h k is) (makes w (ends_work k)) e plain few bs
           none are reads writes legal in
-          (leads.0, leads.1, subst (λ (t : AuditState). Reaches leads.0 t) (over_piece (acted_to a bs) refl true e legal (over_told a o how.Full) e.over) leads.2)
+          (leads.0, leads.1, subst (λ (t : AuditState). Reaches (worker_of w) leads.0 t) (over_piece (acted_to a bs) refl true e legal (over_told a o how.Full) e.over) leads.2)
       ends_lead reads writes e acts (loosely bs t plain none are may legal) few =
           let leads = loose_command_leads xs w later a has (works (ends_work k)) o running plainly (end_stands w h k is) (makes w (ends_work k)) e plain few bs
           none are reads writes t may legal in (
             leads.0,
             leads.1,
-            subst (λ (z : AuditState). Reaches leads.0 z)
+            subst (λ (z : AuditState). Reaches (worker_of w) leads.0 z)
                 (over_piece (acted_to a (bs ++ Loosen t ∷ [])) refl false e legal (over_told a o how.Full) e.over) leads.2,
           )
 
@@ -225,7 +225,7 @@ module _ (xs : List AuditedDevice) (later : List EventLine) (a : AuditedDevice) 
           (behind_piece xs w later (record a { history = checked (all_acted a.history acts) f; half = half.Closed }) false)) (sym c.is_so) (
             leads.0,
             leads.1,
-            subst (λ (z : AuditState). Reaches leads.0 z)
+            subst (λ (z : AuditState). Reaches (worker_of w) leads.0 z)
                 (piece_is xs later a.number a has w (ends_work k) (worked (acted_to a acts) (CheckEnded (check_end (words_of_open a o) c.plain.index c.sense)))
                 Halved) leads.2,
           )
@@ -259,7 +259,7 @@ module _ (xs : List AuditedDevice) (later : List EventLine) (a : AuditedDevice) 
         (first_judged w (ends_work k) (lines.Half o.path a.number track) (half_stands w k closed track)) acts none are reads writes in (
           leads.0,
           leads.1,
-          subst (λ (z : AuditState). Reaches leads.0 z)
+          subst (λ (z : AuditState). Reaches (worker_of w) leads.0 z)
               (piece_is xs later a.number a has w (ends_work k) (record a { history = all_acted a.history acts; half = half.OfCommand }) Halved) leads.2,
         )
 
@@ -310,7 +310,7 @@ module _ (xs : List AuditedDevice) (later : List EventLine) (a : AuditedDevice) 
       (first_judged w (tells_work k) (lines.Back a.number answer) (tells_stand k is)) acts none are reads writes in (
         leads.0,
         leads.1,
-        subst (λ (z : AuditState). Reaches leads.0 z)
+        subst (λ (z : AuditState). Reaches (worker_of w) leads.0 z)
             (piece_is xs later a.number a has w (tells_work k) (record a { history = all_acted a.history acts; half = back_half a answer })
             (Worked (is_last answer))) leads.2,
       )

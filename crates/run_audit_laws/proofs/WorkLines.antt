@@ -154,7 +154,7 @@ module _ (d : ℕ) (later : List EventLine) (k : ℕ) where
     by_busy : (b : Bool) → is_busy (mounted_in z.mounted d) ≡ b →
         LeadsTowards (stand s (wanted.Run d ∷ later)) (ls ++ flat_map lines_of (steps k d z)) (ended z)
     by_busy true busy =
-        towards_then z (wanted.Run d ∷ later) tt (stand s (wanted.Run d ∷ later)) (ended z) ls (flat_map lines_of (steps k d z))
+        towards_then z (wanted.Run d ∷ later) (Some d) tt (stand s (wanted.Run d ∷ later)) (ended z) ls (flat_map lines_of (steps k d z)) refl refl
         (subst (λ (l : List EventLine). LeadsTowards (stand s (wanted.Run d ∷ later)) ls (stand z l))
         (is ∙ ap (λ (b : Bool). if b then wanted.Run d ∷ later else later) busy) first)
         (rest busy)
@@ -301,7 +301,7 @@ module _ (d : ℕ) (later : List EventLine) where
       let ts = backs k d h.behind in
       subst (λ (c : Bool). LeadsTowards (stand s (wanted.Settle d ∷ later)) (ls ++ flat_map lines_of ts)
       (stand (last_behind h.behind ts) (if c then later else wanted.Settle d ∷ later))) (sym (settled_behind (logged (Settle d) h) ts is))
-      (towards_then h.behind (wanted.Settle d ∷ later) tt (stand s (wanted.Settle d ∷ later)) (settled_to h.behind ts) ls (flat_map lines_of ts) first
+      (towards_then h.behind (wanted.Settle d ∷ later) (Some d) tt (stand s (wanted.Settle d ∷ later)) (settled_to h.behind ts) ls (flat_map lines_of ts) refl refl first
       (rest refl))
 
 all_backs_lead : (k : ℕ) (s : Subsystem) → ArePlain s.mounted → AreSo Good s.mounted → (d : ℕ) (x : MarksDevice) → device_in (devices_of s) d ≡ Some x →

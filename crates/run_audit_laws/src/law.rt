@@ -1,4 +1,4 @@
-ghost use Rattle.std.specs.Prelude.{◌≡◌, ℕ, Bool, true, false, List, [], ◌∷◌, Some, Ok};
+ghost use Rattle.std.specs.Prelude.{◌≡◌, ℕ, Bool, true, false, List, [], ◌∷◌, None, Some, Ok};
 ghost use Rattle.deck_plan.specs.declared.event.EventLine.{EventLine};
 ghost use Rattle.deck_plan.specs.declared.event.EventLine.TheVariants.{Back, Run, Settle, Step};
 ghost use Rattle.deck_text.specs.DeckLines.{DeckLines};
@@ -116,17 +116,17 @@ pub fn settle_line_leads()
         → LineGoes (run_of deck).behind (Settle d) }
 {}
 
-/// So where each SETTLE of a deck that was read comes to its end, and no FAIL VOLUME stands directly behind a STEP, RUN, BACK or SETTLE, the whole
-/// report of the deck's run leads an audit of it from its first state to FINISH: no line stands where it may not, and none shows what no plain
-/// device answers.
+/// So where each SETTLE of a deck that was read comes to its end, and no FAIL VOLUME stands directly behind a STEP, RUN, BACK or SETTLE of the
+/// same device, the whole report of the deck's run leads an audit of it from its first state to FINISH: no line stands where it may not, and none
+/// shows what no plain device answers.
 pub fn report_leads()
-    ensures { (text : List ℕ) (deck : DeckLines) → parsed text ≡ Ok deck → AllMayFollow false deck.events → AllAreOver (opened deck) deck.events
+    ensures { (text : List ℕ) (deck : DeckLines) → parsed text ≡ Ok deck → AllMayFollow None deck.events → AllAreOver (opened deck) deck.events
         → WholeLeads (first_state deck) (report_lines (run_of deck)) }
 {}
 
 /// And the audit of a text of such a deck, of a line REPORT and of the report of the deck's run says yes.
 pub fn own_report_is_yes()
-    ensures { (text : List ℕ) (deck : DeckLines) → IsOwnReport text deck → AllMayFollow false deck.events → AllAreOver (opened deck) deck.events
+    ensures { (text : List ℕ) (deck : DeckLines) → IsOwnReport text deck → AllMayFollow None deck.events → AllAreOver (opened deck) deck.events
         → read_back text ≡ Yes }
 {
     reads_back();
