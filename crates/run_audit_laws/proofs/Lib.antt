@@ -51,3 +51,4 @@ mod Behind
 mod OrderedLines
 mod Texts
 mod Feeds
+mod OwnTexts
