@@ -1,5 +1,5 @@
 -- Each command of a program counts one more in its stance, so no more than 4,096 of them end.
-use Rattle.std.proofs.Common.{◌≡◌, ◌<◌, ◌+◌, ◌*◌, ◌==◌, ℕ, zero, suc, Bool, true, false, List, Option, Some, None, is_some, Ok, Err, refl, sym, ap, ◌∙◌}
+use Rattle.std.proofs.Common.{◌≡◌, ◌+◌, ◌*◌, ◌==◌, ℕ, zero, suc, Bool, true, false, List, Option, Some, None, is_some, Ok, Err, refl, sym, ap, ◌∙◌}
 use Rattle.std.specs.Prelude.{if◌then◌else◌, Result, length}
 use Rattle.ckd_types.specs.declared.channel.Ccw.{Ccw}
 use Rattle.ckd_types.specs.declared.command.Read.{Read}

@@ -71,7 +71,7 @@ use Rattle.device_outside.specs.Told as T
 use Rattle.device_outside.specs.Told.{Calls, Told, calls_of, hold, read_counted, read_fails, write_counted, write_fails}
 use Rattle.device_defs.specs.Command.{command}
 use Rattle.device_defs.specs.Contents.{by_plain}
-use Rattle.device_defs.specs.Cutting.{power, reset}
+use Rattle.device_defs.specs.Cutting.{reset}
 use Rattle.device_defs.specs.Events.{background, lose, second}
 use Rattle.device_defs.specs.Marks.{MarksDevice}
 use Rattle.device_defs.specs.Orders.{lend}
@@ -115,8 +115,8 @@ use Rattle.subsystem_laws.proofs.DeedWalk.{IsDeedwise, deed_is}
 use Rattle.subsystem_laws.proofs.RunLines.{AnyEvent, Goes, lines_keep, logs_end}
 use Rattle.run_audit_laws.specs.Standing.{FramesAreDeclared, audited, stand}
 use Rattle.run_audit_laws.proofs.OwnCalls.{IsOwn, Own, own_ask, own_done, own_read, own_tell, own_then, own_try, own_write}
-use Rattle.run_audit_laws.proofs.OwnEvents.{OwnEvent, background_own, command_own, lend_own, lose_own, power_own, reset_own, second_own}
-use Rattle.run_audit_laws.proofs.Ties.{Tie, Tied, event_tied, numbers_in, opened_tied, replaced_tied, tie, ties, unpaired_tied}
+use Rattle.run_audit_laws.proofs.OwnEvents.{background_own, command_own, lend_own, lose_own, power_own, reset_own, second_own}
+use Rattle.run_audit_laws.proofs.Ties.{Tie, Tied, event_tied, numbers_in, opened_tied, replaced_tied, ties, unpaired_tied}
 
 -- Frames of devices with a number of these
 

@@ -51,4 +51,5 @@ mod Behind
 mod OrderedLines
 mod Texts
 mod Feeds
+mod DeckTexts
 mod OwnTexts

@@ -9,7 +9,7 @@ use Rattle.device_outside.specs.declared.port.SlotGrant.{SlotGrant}
 use Rattle.device_outside.specs.declared.port.SlotGrant.TheVariants as grants
 use Rattle.device_outside.specs.Interaction.{Interaction, Done, Try, Ask, Read, Write, Tell, and_then}
 use Rattle.device_outside.specs.Keeper.{Message, ReplyTo}
-use Rattle.device_outside.specs.Pool.{Call, SetModified, WantFrame, AnswerTo}
+use Rattle.device_outside.specs.Pool.{Call, WantFrame, AnswerTo}
 use Rattle.device_defs.specs.Contents.{Contents}
 use Rattle.device_defs.specs.declared.usage.Usage.{Usage}
 use Rattle.device_defs.specs.Choosing as G
@@ -35,7 +35,7 @@ use Rattle.device_defs.specs.Owed.{
   waiting_told,
   ended,
 }
-use Rattle.device_defs.specs.Store.{Store, no_debt, tracks_of, frame_at, patch_at, is_loose, owed_at, with_frame, with_patch, with_owed}
+use Rattle.device_defs.specs.Store.{Store, no_debt, tracks_of, frame_at, patch_at, is_loose, owed_at, with_frame, with_owed}
 use Rattle.device_defs.specs.Writing as V
 use Rattle.device_defs.specs.Writing.{slot_freed, write_done}
 

@@ -1,6 +1,6 @@
 -- The text of a deck, a line REPORT and the report of its run is cut into these lines.
 use Rattle.std.proofs.Common.{◌≡◌, ◌≤◌, ◌+◌, ◌==◌, ◌++◌, ℕ, zero, suc, Bool, true, false, not, List, [], ◌∷◌, drop, length, map, take, Option, Some, None, refl, sym, ap, subst, ◌∙◌, append_assoc, arith, if◌then◌else◌}
-use Rattle.std.specs.Prelude.{◌&&◌, All, codes, Ok}
+use Rattle.std.specs.Prelude.{◌&&◌, All, codes, Ok, Err}
 use Rattle.std.specs.List.{flat_map}
 use Rattle.std.specs.Str.{bytes_eq}
 use Rattle.std.proofs.lemmas.Bool.{and_parts}
@@ -15,14 +15,19 @@ use Rattle.report_text.specs.Lines.{line_text, text_of}
 use Rattle.report_auditor.specs.Verdict.{cut_lines, deck_part, ended_line, report_from}
 use Rattle.run_report.specs.Report.{report_lines, report_of}
 use Rattle.subsystem_defs.specs.Decks.{run_of}
-use Rattle.run_audit_laws.specs.Texts.{HasLines, IsOwnReport, IsWritten, own_text}
-use Rattle.run_audit_laws.proofs.Feeds.{is_whole, text_whole}
+use Rattle.report_reading.specs.declared.fault.LineFault.{LineFault}
+use Rattle.report_reading.specs.Ranges.{IsLine, form_fault, has_form}
+use Rattle.report_reading.specs.Reading.{line_of}
+use Rattle.report_auditor.specs.declared.status.AuditStatus.TheVariants.{Yes}
+use Rattle.report_auditor.specs.Verdict.{read_back}
+use Rattle.subsystem_defs.specs.Decks.{opened}
+use Rattle.run_audit_laws.specs.Runs.{AllAreOver, AllMayFollow}
+use Rattle.run_audit_laws.specs.Texts.{IsEnded, IsOwnReport, IsWritten, own_text}
+use Rattle.run_audit_laws.proofs.Feeds.{AreWhole, is_whole, not_feed, text_whole}
+use Rattle.run_audit_laws.proofs.DeckTexts.{read_has_none}
+use Rattle.run_audit_laws.proofs.Texts.{own_report_is_yes}
 
 -- Cutting
-
-not_feed : (b : Bool) → not b ≡ true → b ≡ false
-not_feed true h = absurd (cc)
-not_feed false h = refl
 
 cut_one : (x rest : List ℕ) → is_whole x ≡ true → cut_lines (x ++ 10 ∷ rest) ≡ x ∷ cut_lines rest
 cut_one [] rest h = refl
@@ -30,10 +35,6 @@ cut_one (b ∷ x) rest h =
     let p = and_parts (not (b == 10)) (is_whole x) h in
     ap (λ (c : Bool). if c then [] ∷ cut_lines (x ++ 10 ∷ rest) else onto_first b (cut_lines (x ++ 10 ∷ rest))) (not_feed (b == 10) p.0)
     ∙ ap (onto_first b) (cut_one x rest p.1)
-
-abbrev AreWhole : List (List ℕ) → Type 0
-AreWhole [] = Unit {0}
-AreWhole (x ∷ xs) = (is_whole x ≡ true) × AreWhole xs
 
 -- lines that are ended, and what stands behind them
 cut_ended : (xs : List (List ℕ)) (rest : List ℕ) → AreWhole xs → cut_lines (flat_map ended_line xs ++ rest) ≡ xs ++ cut_lines rest
@@ -75,7 +76,7 @@ front (x ∷ xs) ys = ap (λ (l : List _). x ∷ l) (front xs ys)
 behind : {X : Type 0} (xs : List X) (y : X) (ys : List X) → drop (length xs + 1) (xs ++ y ∷ ys) ≡ ys
 behind [] y ys = refl
 behind {X} (x ∷ xs) y ys =
-    let one = ((omega arith) : length (x ∷ xs) + 1 ≡ suc (length xs + 1)) in
+    let one : length (x ∷ xs) + 1 ≡ suc (length xs + 1) = omega arith in
     ap (λ (k : ℕ). drop k (x ∷ xs ++ y ∷ ys)) one ∙ behind xs y ys
 
 -- The report
@@ -89,7 +90,7 @@ lines_ended : (lines : List ReportLine) → lines_text lines ≡ flat_map ended_
 lines_ended [] = refl
 lines_ended (line ∷ lines) = ap (λ (l : List ℕ). line_text line ++ l) (lines_ended lines)
 
-module _ (text : List ℕ) (deck : DeckLines) (h : HasLines text) (w : All IsWritten (report_lines (run_of deck))) where
+module _ (text : List ℕ) (deck : DeckLines) (h : IsEnded text) (w : All IsWritten (report_lines (run_of deck))) where
   abbrev lines : List (List ℕ)
   lines = cut_lines text
 
@@ -104,20 +105,27 @@ module _ (text : List ℕ) (deck : DeckLines) (h : HasLines text) (w : All IsWri
 
   all_cut : cut_lines (own_text text deck) ≡ lines ++ codes "REPORT" ∷ told
   all_cut =
-      ap (λ (t : List ℕ). cut_lines (t ++ (codes "REPORT\n" ++ report_of deck))) (sym h.ended)
+      ap (λ (t : List ℕ). cut_lines (t ++ (codes "REPORT\n" ++ report_of deck))) (sym h)
       ∙ cut_ended lines (codes "REPORT\n" ++ report_of deck) (cut_whole text)
       ∙ ap (λ (l : List (List ℕ)). lines ++ codes "REPORT" ∷ l) report_cut
 
-  pub own_is : parsed text ≡ Ok deck → length (own_text text deck) ≤ 268435456 → IsOwnReport (own_text text deck) deck
+  own_is : parsed text ≡ Ok deck → length (own_text text deck) ≤ 268435456 → IsOwnReport (own_text text deck) deck
   own_is read size = record {
     lines = length (cut_lines text);
     size = size;
-    found = ap (report_from 0) all_cut ∙ found 0 lines told h.none ∙ ap (λ (k : ℕ). Some k) (omega arith);
+    found = ap (report_from 0) all_cut ∙ found 0 lines told (read_has_none text deck lines (cut_whole text) h read) ∙ ap (λ (k : ℕ). Some k) (omega arith);
     parses =
         ap (λ (l : List (List ℕ)). parsed (flat_map ended_line (take (length lines) l))) all_cut
         ∙ ap (λ (l : List (List ℕ)). parsed (flat_map ended_line l)) (front lines (codes "REPORT" ∷ told))
-        ∙ ap parsed h.ended
+        ∙ ap parsed h
         ∙ read;
     says = ap (λ (l : List (List ℕ)). drop (length lines + 1) l) all_cut ∙ behind lines (codes "REPORT") told;
     written = w;
   }
+
+-- where what is written is read back
+pub own_text_is_yes : ((line : ReportLine) → IsLine line → line_of (text_of line) ≡ (if has_form line then Ok line else Err (form_fault line))) →
+    (text : List ℕ) (deck : DeckLines) → parsed text ≡ Ok deck → IsEnded text → length (own_text text deck) ≤ 268435456 →
+    All IsWritten (report_lines (run_of deck)) → AllMayFollow None (opened deck) deck.events → AllAreOver (opened deck) deck.events →
+    read_back (own_text text deck) ≡ Yes
+own_text_is_yes again text deck read h size w = own_report_is_yes again (own_text text deck) deck (own_is text deck h w read size)

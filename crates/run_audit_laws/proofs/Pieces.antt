@@ -1,6 +1,6 @@
 -- The lines of a piece of work on a device of a run lead the audit from that device before it to that device behind it.
-use Rattle.std.proofs.Common.{◌≡◌, ◌<◌, ◌==◌, ◌++◌, ◌*◌, ℕ, Bool, true, false, List, [], ◌∷◌, map, length, Option, Some, None, refl, sym, ap, subst, ◌∙◌, arith}
-use Rattle.std.specs.Prelude.{◌&&◌, not, option_map, IsSome, IfSome}
+use Rattle.std.proofs.Common.{◌≡◌, ◌<◌, ◌==◌, ◌++◌, ℕ, Bool, true, false, List, ◌∷◌, map, length, Option, Some, None, refl, sym, ap, subst, ◌∙◌, arith}
+use Rattle.std.specs.Prelude.{◌&&◌, not, option_map, IsSome}
 use Rattle.ckd_types.specs.declared.channel.CommandEnd.{CommandEnd}
 use Rattle.ckd_types.specs.Fixed.{Fixed}
 use Rattle.ckd_types.specs.Sense.{equipment_sense}
@@ -8,10 +8,9 @@ use Rattle.ckd_chain.specs.State.{ChainState}
 use Rattle.deck_plan.specs.declared.event.EventLine.{EventLine}
 use Rattle.deck_plan.specs.declared.event.EventLine.TheVariants as wanted
 use Rattle.plain_defs.specs.declared.journal.Act.{Act}
-use Rattle.plain_defs.specs.History.{History, IsPlain, OpenEntry, checked, ended, open_part}
+use Rattle.plain_defs.specs.History.{History, IsPlain, OpenEntry}
 use Rattle.plain_defs.specs.Journal.{Plans, program_of, replay}
 use Rattle.plain_defs.specs.PlainState.{PlainState}
-use Rattle.device_outside.specs.Told.{Told}
 use Rattle.device_defs.specs.declared.answers.Did.{Did as BackDid}
 use Rattle.device_defs.specs.declared.answers.Did.TheVariants as dids
 use Rattle.device_defs.specs.declared.answers.SecondEnd.{SecondEnd}
@@ -58,41 +57,18 @@ use Rattle.subsystem_defs.specs.declared.end.EventEnd.{EventEnd}
 use Rattle.subsystem_defs.specs.declared.end.EventEnd.TheVariants as ends
 use Rattle.subsystem_defs.specs.Beside.{acts_in}
 use Rattle.subsystem_defs.specs.Deeds.{end_of, ends_by, may_end_by}
-use Rattle.subsystem_defs.specs.Happening.{Talk}
 use Rattle.subsystem_defs.specs.Lines.{is_settled, stops}
-use Rattle.run_audit_laws.specs.Standing.{LeadsBy, audited, half_by, half_of}
+use Rattle.run_audit_laws.specs.Standing.{audited, half_by, half_of}
 use Rattle.run_audit_laws.specs.Steps.{LeadsTowards, NoLoss, act_line, over_if, over_told, step_lines}
 use Rattle.run_audit_laws.proofs.BackParts.{BackLeft, back_left}
-use Rattle.run_audit_laws.proofs.CameOut.{ChecksSo, EndsSo, acts_so, checks_so, ends_plain, ends_so}
+use Rattle.run_audit_laws.proofs.CameOut.{acts_so, checks_so, ends_plain, ends_so}
 use Rattle.run_audit_laws.proofs.Enough.{end_is_other, part_fixed}
 use Rattle.run_audit_laws.proofs.Lossless.{none_lost}
-use Rattle.run_audit_laws.proofs.PieceLines.{TellsBeside, acted_tells, checked_tells, ended_tells, lines_are}
+use Rattle.run_audit_laws.proofs.PieceLines.{acted_tells, checked_tells, ended_tells, lines_are}
 use Rattle.run_audit_laws.proofs.ResetDevices.{HasParts, audited_by}
 use Rattle.run_audit_laws.proofs.Saying.{both, same_number}
-use Rattle.run_audit_laws.proofs.StepParts.{IsLeft, IsSecond, IsToldBy, command_left, second_left}
-use Rattle.run_audit_laws.proofs.WorkEnds.{
-  IsWork,
-  MayEnd,
-  MayTell,
-  back_seconds,
-  back_tells,
-  behind_piece,
-  checks_lead,
-  ends_lead,
-  halves_lead,
-  of_back,
-  of_run,
-  of_settle,
-  of_step,
-  run_ends,
-  run_seconds,
-  seconds_by,
-  settle_seconds,
-  settle_tells,
-  step_ends,
-  step_seconds,
-  tells_lead,
-}
+use Rattle.run_audit_laws.proofs.StepParts.{IsLeft, IsSecond, command_left, second_left}
+use Rattle.run_audit_laws.proofs.WorkEnds.{IsWork, MayEnd, MayTell, back_seconds, back_tells, behind_piece, checks_lead, ends_lead, halves_lead, of_back, of_run, of_settle, of_step, run_seconds, seconds_by, settle_seconds, settle_tells, step_seconds, tells_lead}
 
 -- whichever event line has it, with what is told where there is nothing to do
 abbrev pub PieceSo : MarksDevice → MarksDevice → EventEnd → EventLine → Happened → Type 0

@@ -1,38 +1,7 @@
 -- A RUN comes to its end: of the program that runs at most 4,096 commands end, each in two events, and a half write may be open from before.
-use Rattle.std.proofs.Common.{
-  ◌≡◌,
-  ◌≤◌,
-  ◌<◌,
-  ◌+◌,
-  ◌*◌,
-  ◌==◌,
-  ◌++◌,
-  ℕ,
-  zero,
-  suc,
-  Bool,
-  true,
-  false,
-  List,
-  [],
-  ◌∷◌,
-  length,
-  map,
-  Option,
-  Some,
-  None,
-  is_some,
-  refl,
-  sym,
-  ap,
-  subst,
-  ◌∙◌,
-  arith,
-  inl,
-  inr,
-}
+use Rattle.std.proofs.Common.{◌≡◌, ◌≤◌, ◌<◌, ◌+◌, ◌*◌, ◌==◌, ℕ, zero, suc, Bool, true, false, List, [], ◌∷◌, length, map, Option, Some, None, is_some, refl, sym, ap, subst, ◌∙◌, arith, inl, inr}
 use Rattle.std.specs.Prelude.{◌||◌, ◌⊎◌, IfSome, IsSome, if◌then◌else◌, nat_le, not}
-use Rattle.std.proofs.lemmas.Bool.{cond_both, leb-false}
+use Rattle.std.proofs.lemmas.Bool.{leb-false}
 use Rattle.ckd_types.specs.declared.channel.Ccw.{Ccw}
 use Rattle.ckd_types.specs.declared.channel.CommandEnd.{CommandEnd}
 use Rattle.ckd_types.specs.Ccw.{ccw_at}
@@ -41,14 +10,14 @@ use Rattle.ckd_rules.specs.Ends.{at_limit, goes_to, is_over, would_go_on}
 use Rattle.ckd_rules.specs.Ending.{Outcome}
 use Rattle.plain_defs.specs.declared.journal.Act.{Act}
 use Rattle.plain_defs.specs.declared.journal.Acted.{Acted}
-use Rattle.plain_defs.specs.declared.journal.How.TheVariants.{Checked, Full}
-use Rattle.plain_defs.specs.Effect.{Effect, effect_on}
+use Rattle.plain_defs.specs.declared.journal.How.TheVariants.{Full}
+use Rattle.plain_defs.specs.Effect.{effect_on}
 use Rattle.plain_defs.specs.History as Y
 use Rattle.plain_defs.specs.History.{History, OpenEntry, acted_in, checked, checked_in, closed, ended_in, with_end}
 use Rattle.plain_defs.specs.Journal.{program_of, replay}
 use Rattle.plain_defs.specs.PlainState.{PlainState}
 use Rattle.plain_defs.specs.Program.{Part, first_part, one_more, part_of, stepped, stepped_at}
-use Rattle.plain_defs.proofs.PartLemmas.{acted_beside, first_next, no_ends, over_stays, part_more}
+use Rattle.plain_defs.proofs.PartLemmas.{acted_beside, over_stays}
 use Rattle.device_outside.specs.Interaction.{Done, and_then}
 use Rattle.device_outside.specs.Told as T
 use Rattle.device_outside.specs.Told.{Told}
@@ -63,7 +32,7 @@ use Rattle.device_defs.specs.Events.{second}
 use Rattle.device_defs.specs.Marks.{MarksDevice}
 use Rattle.device_defs.specs.Store.{Origin, OfCommand, OfCut, OfBackground}
 use Rattle.device_defs.specs.Store as store
-use Rattle.device_laws.proofs.Had.{Had, had_weaker, held}
+use Rattle.device_laws.proofs.Had.{held}
 use Rattle.device_laws.proofs.HistoryEnds.{one_longer, running_is_open}
 use Rattle.device_laws.proofs.HistoryTold.{HasActed, HasEnded, SecondTold, StepTold, acted_so, checked_so, command_told, ended_so, second_event_told}
 use Rattle.device_laws.proofs.PlainEvents.{had_always, had_both}
@@ -80,7 +49,7 @@ use Rattle.subsystem_defs.specs.Happening as H
 use Rattle.subsystem_defs.specs.Happening.{Happened, Talk, asks, happens, happens_by, held_with, mounted_behind, quietly, told_to}
 use Rattle.subsystem_defs.specs.Lines as L
 use Rattle.subsystem_defs.specs.Lines.{Logged, Run, is_busy, last_behind, line_logged, logged, most_steps, step_logged, steps}
-use Rattle.subsystem_defs.specs.Subsystem.{Mounted, Subsystem, devices_of, mounted_in, number_of, put_in, with_mounted}
+use Rattle.subsystem_defs.specs.Subsystem.{Mounted, Subsystem, devices_of, mounted_in, number_of}
 use Rattle.subsystem_laws.proofs.FoundDevices.{number_found}
 use Rattle.subsystem_laws.proofs.PlainRuns.{ArePlain, Plainly, event_plain}
 use Rattle.subsystem_laws.proofs.Walks.{device_so, hold_answer}

@@ -1,8 +1,7 @@
 -- Where the lines of each event line lead an audit on, those of the whole run do.
-use Rattle.std.proofs.Common.{◌≡◌, ◌++◌, ℕ, List, [], ◌∷◌, Option, Some, None, map, length, arith, refl, sym, ap, subst, ◌∙◌, append_assoc}
+use Rattle.std.proofs.Common.{◌≡◌, ◌++◌, ℕ, List, [], ◌∷◌, Option, None, map, length, arith, refl, sym, ap, subst, ◌∙◌, append_assoc}
 use Rattle.std.specs.List.{flat_map}
 use Rattle.std.specs.Prelude.{Ok}
-use Rattle.ckd_types.specs.declared.paths.Side.{Side}
 use Rattle.deck_plan.specs.declared.event.EventLine.{EventLine}
 use Rattle.deck_plan.specs.declared.event.EventLine.TheVariants as events
 use Rattle.deck_text.specs.declared.line.DeviceLine.{DeviceLine}
@@ -12,7 +11,6 @@ use Rattle.report_text.specs.declared.line.ReportLine.{ReportLine}
 use Rattle.report_places.specs.declared.state.Due.TheVariants.{Nothing}
 use Rattle.deck_audit.specs.Device.{AuditedDevice, new_device}
 use Rattle.deck_audit.specs.State.{AuditState, first_state}
-use Rattle.device_defs.specs.Marks.{MarksDevice}
 use Rattle.run_report.specs.Closing.{ending_lines}
 use Rattle.run_report.specs.Events.{lines_of}
 use Rattle.run_report.specs.Report.{report_lines}
@@ -21,7 +19,7 @@ use Rattle.subsystem_defs.specs.Decks as D
 use Rattle.subsystem_defs.specs.Decks.{opened, opened_device, run_of}
 use Rattle.subsystem_defs.specs.Lines as L
 use Rattle.subsystem_defs.specs.Lines.{Asked, Logged, asked_by, last_behind, line_logged, run_lines}
-use Rattle.subsystem_defs.specs.Subsystem.{Mounted, Subsystem, devices_of}
+use Rattle.subsystem_defs.specs.Subsystem.{Mounted, Subsystem}
 use Rattle.report_places.specs.Place.{worker_of}
 use Rattle.run_audit_laws.specs.Runs.{
   AllAreOver,
@@ -36,7 +34,7 @@ use Rattle.run_audit_laws.specs.Runs.{
   line_behind,
 }
 use Rattle.run_audit_laws.specs.Standing.{FramesAreDeclared, HasDevice, LeadsBy, LineLeads, audited, stand}
-use Rattle.run_audit_laws.specs.Steps.{LeadsTowards, Reaches, is_there}
+use Rattle.run_audit_laws.specs.Steps.{Reaches, is_there}
 use Rattle.run_audit_laws.proofs.Endings.{ending_leads}
 use Rattle.run_audit_laws.proofs.NextLines.{exactly_from, to_the_end, towards_other}
 use Rattle.run_audit_laws.proofs.Leading.{leads_on}
@@ -76,7 +74,7 @@ module _ (before : Option ℕ) (s : Subsystem) (later : List EventLine) (u : Aud
   lines_at e = flat_map lines_of (line_logged s (asked_by e))
 
   -- to where the run stands
-  exactly : (e : EventLine) → MayFollow before e → Reaches before u (stand s (e ∷ later)) → LineLeads s e → (n : Option ℕ) →
+  exactly : (e : EventLine) → MayFollow before s e → Reaches before u (stand s (e ∷ later)) → LineLeads s e → (n : Option ℕ) →
       Onward n (line_behind s e) later u (lines_at e)
   exactly e may reaches leads n = record {
     to = stand (line_behind s e) later;
@@ -85,13 +83,13 @@ module _ (before : Option ℕ) (s : Subsystem) (later : List EventLine) (u : Aud
   }
 
   -- or to where it waits
-  towards : (e : EventLine) → MayFollow before e → Reaches before u (stand s (e ∷ later)) → LineGoes s e →
+  towards : (e : EventLine) → MayFollow before s e → Reaches before u (stand s (e ∷ later)) → LineGoes s e →
       Onward (worker_of e) (line_behind s e) later u (lines_at e)
   towards e may reaches goes =
       let more = towards_other s (e ∷ later) before may u reaches (line_behind s e) later (not_longer e later) (lines_at e) (worker_of e) (goes later) in
       record { to = more.0; leads = more.1; reaches = more.2 }
 
-one_line : (before : Option ℕ) (s : Subsystem) (later : List EventLine) (u : AuditState) (e : EventLine) → MayFollow before e →
+one_line : (before : Option ℕ) (s : Subsystem) (later : List EventLine) (u : AuditState) (e : EventLine) → MayFollow before s e →
     Reaches before u (stand s (e ∷ later)) → LineDoes s e → Onward (worker_of e) (line_behind s e) later u (flat_map lines_of (line_logged s (asked_by e)))
 one_line before s later u (events.Step d) may reaches does = towards before s later u (events.Step d) may reaches does
 one_line before s later u (events.Run d) may reaches does = towards before s later u (events.Run d) may reaches does
@@ -116,7 +114,7 @@ one_line before s later u events.Power may reaches does = exactly before s later
 abbrev ReachesEnd : AuditState → List ReportLine → AuditState → Type 0
 ReachesEnd u ls t = (v : AuditState) × LeadsBy u ls v × ((n : Option ℕ) × Reaches n v t)
 
-lines_towards : (events : List EventLine) (before : Option ℕ) (s : Subsystem) (u : AuditState) → AllMayFollow before events → AllDo s events →
+lines_towards : (events : List EventLine) (before : Option ℕ) (s : Subsystem) (u : AuditState) → AllMayFollow before s events → AllDo s events →
     Reaches before u (stand s events) → ReachesEnd u (flat_map lines_of (run_lines (map asked_by events) s)) (stand (behind_lines s events) [])
 unfolding L.run_lines
 lines_towards [] before s u may does reaches = (u, refl, (before, reaches))
@@ -131,7 +129,7 @@ lines_towards (e ∷ later) before s u may does reaches =
     (rest.0, leads_on u first.to rest.0 (flat_map lines_of ts) (flat_map lines_of us) first.leads rest.1, rest.2))
 
 -- and those at the end
-lines_end : (events : List EventLine) (s : Subsystem) → AllMayFollow None events → AllDo s events → FramesAreDeclared (behind_lines s events) →
+lines_end : (events : List EventLine) (s : Subsystem) → AllMayFollow None s events → AllDo s events → FramesAreDeclared (behind_lines s events) →
     WholeLeads (stand s events) (flat_map lines_of (run_lines (map asked_by events) s) ++ ending_lines (ending (behind_lines s events)))
 lines_end events s may does framed =
     let z = behind_lines s events in
@@ -154,7 +152,7 @@ first_devices deck (d ∷ ds) = ap (λ (l : List AuditedDevice). new_device deck
 pub first_stands : (deck : DeckLines) → first_state deck ≡ stand (opened deck) deck.events
 first_stands deck = ap (λ (l : List AuditedDevice). record (first_state deck) { devices = l }) (first_devices deck deck.devices)
 
-pub run_leads : (deck : DeckLines) → AllMayFollow None deck.events → AllDo (opened deck) deck.events → FramesAreDeclared (run_of deck).behind →
+pub run_leads : (deck : DeckLines) → AllMayFollow None (opened deck) deck.events → AllDo (opened deck) deck.events → FramesAreDeclared (run_of deck).behind →
     WholeLeads (first_state deck) (report_lines (run_of deck))
 unfolding D.run_asked
 run_leads deck may does framed =
@@ -186,7 +184,7 @@ all_do : (events : List EventLine) (s : Subsystem) → AllSo (λ z e. IsOver z e
 all_do [] s so over = tt
 all_do (e ∷ later) s so over = (so.0 over.0, all_do later (line_behind s e) so.1 over.1)
 
-pub report_leads : (text : List ℕ) (deck : DeckLines) → parsed text ≡ Ok deck → AllMayFollow None deck.events → AllAreOver (opened deck) deck.events →
+pub report_leads : (text : List ℕ) (deck : DeckLines) → parsed text ≡ Ok deck → AllMayFollow None (opened deck) deck.events → AllAreOver (opened deck) deck.events →
     WholeLeads (first_state deck) (report_lines (run_of deck))
 report_leads text deck read may over =
     run_leads deck may

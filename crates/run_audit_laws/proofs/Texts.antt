@@ -1,21 +1,18 @@
 -- An audit says yes to a text of which the lines lead it to FINISH.
-use Rattle.std.proofs.Common.{◌≡◌, ◌≤◌, ◌+◌, ℕ, Bool, true, false, List, [], ◌∷◌, drop, length, map, Option, Some, None, refl, sym, ap, ◌∙◌, if◌then◌else◌, arith}
+use Rattle.std.proofs.Common.{◌≡◌, ◌≤◌, ◌+◌, ℕ, Bool, false, List, [], ◌∷◌, length, map, Some, None, sym, ap, ◌∙◌, if◌then◌else◌, arith}
 use Rattle.std.specs.Prelude.{All, nat_lt, Result, Ok, Err}
 use Rattle.std.proofs.lemmas.Bool.Decides.{nat_tests}
 use Rattle.std.proofs.lemmas.List.Elements.{All-head, All-tail}
 use Rattle.deck_text.specs.declared.line.DeckFault.{DeckFault}
 use Rattle.deck_text.specs.declared.line.Which.TheVariants.{Size}
 use Rattle.deck_text.specs.DeckLines.{DeckLines}
-use Rattle.deck_text.specs.Parse.{parsed}
 use Rattle.report_reading.specs.declared.fault.LineFault.{LineFault}
 use Rattle.report_reading.specs.Ranges.{IsLine, form_fault, has_form}
 use Rattle.report_reading.specs.Reading.{line_of}
 use Rattle.report_text.specs.declared.line.ReportLine.{ReportLine}
 use Rattle.report_text.specs.Lines.{text_of}
-use Rattle.report_places.specs.declared.state.Due.{Due}
 use Rattle.report_places.specs.declared.state.Due.TheVariants.{Nothing}
 use Rattle.deck_audit.specs.State.{AuditState, first_state}
-use Rattle.report_auditor.specs.declared.status.AuditStatus.{AuditStatus}
 use Rattle.report_auditor.specs.declared.status.AuditStatus.TheVariants.{Limit, Yes}
 use Rattle.report_auditor.specs.declared.status.AuditWhy.{AuditWhy}
 use Rattle.report_auditor.specs.Verdict as V
@@ -55,7 +52,7 @@ module _ (again : (line : ReportLine) → IsLine line → line_of (text_of line)
       ∙ ap (judged_lines (o.lines + 2) (first_state deck)) o.says
       ∙ all_texts (report_lines (run_of deck)) (o.lines + 2) (first_state deck) leads.0 o.written leads.1 leads.2
 
-  pub own_report_is_yes : (text : List ℕ) (deck : DeckLines) → IsOwnReport text deck → AllMayFollow None deck.events → AllAreOver (opened deck) deck.events →
+  pub own_report_is_yes : (text : List ℕ) (deck : DeckLines) → IsOwnReport text deck → AllMayFollow None (opened deck) deck.events → AllAreOver (opened deck) deck.events →
       read_back text ≡ Yes
   own_report_is_yes text deck o may over =
       yes_by text deck o (report_leads (deck_part text (Some o.lines)) deck o.parses may over)

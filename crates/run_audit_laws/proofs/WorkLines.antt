@@ -1,15 +1,13 @@
 -- The lines of STEP and RUN lead the audit on behind the run of a deck.
 use Rattle.std.proofs.Common.{◌≡◌, ◌==◌, ◌++◌, ℕ, zero, suc, Bool, true, false, not, List, [], ◌∷◌, map, Option, Some, None, refl, sym, ap, subst, ◌∙◌, if◌then◌else◌}
-use Rattle.std.specs.Prelude.{◌||◌, is_some, IfSome, IsSome, Ok}
+use Rattle.std.specs.Prelude.{◌||◌, is_some, IfSome, Ok}
 use Rattle.std.specs.List.{flat_map}
 use Rattle.std.proofs.lemmas.List.{append-nil}
 use Rattle.deck_plan.specs.declared.event.EventLine.{EventLine}
 use Rattle.deck_plan.specs.declared.event.EventLine.TheVariants as wanted
 use Rattle.deck_text.specs.DeckLines.{DeckLines}
 use Rattle.deck_text.specs.Parse.{parsed}
-use Rattle.plain_defs.specs.History.{OpenEntry}
 use Rattle.device_defs.specs.Marks.{MarksDevice}
-use Rattle.device_defs.specs.Store as store
 use Rattle.report_text.specs.declared.answers.BackAnswer.TheVariants as back
 use Rattle.report_text.specs.declared.event.Happened.TheVariants as did
 use Rattle.report_text.specs.declared.line.ReportLine.{ReportLine}
@@ -51,7 +49,7 @@ use Rattle.subsystem_laws.proofs.ReadDecks.{read_served}
 use Rattle.subsystem_laws.proofs.RunLines.{AnyEvent, all_asked}
 use Rattle.subsystem_laws.proofs.RunLinks.{event_from}
 use Rattle.subsystem_laws.proofs.Walks.{AreSo, device_so, event_so, lines_end_so}
-use Rattle.run_audit_laws.specs.Runs.{LineGoes, RunIsOver, SettleIsOver, ends_settled, line_behind}
+use Rattle.run_audit_laws.specs.Runs.{LineGoes, RunIsOver, SettleIsOver, ends_settled}
 use Rattle.run_audit_laws.specs.Standing.{HasDevice, LeadsBy, stand}
 use Rattle.run_audit_laws.specs.Steps.{LeadsTowards, is_there}
 use Rattle.run_audit_laws.proofs.Found.{mounted_too}

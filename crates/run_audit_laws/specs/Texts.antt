@@ -1,6 +1,6 @@
 -- The text of a deck and of the report of its run, as an audit is given it.
+use Rattle.std.specs.Prelude.{◌≡◌, ◌≤◌, ◌+◌, ◌++◌, ℕ, true, All, List, codes, drop, length, map, Some, Ok}
 use Rattle.std.specs.List.{flat_map}
-use Rattle.std.specs.Prelude.{◌++◌, None, codes, ◌≡◌, ◌≤◌, ◌+◌, ℕ, All, List, drop, length, map, Some, Ok, true}
 use Rattle.deck_text.specs.DeckLines.{DeckLines}
 use Rattle.deck_text.specs.Parse.{parsed}
 use Rattle.report_text.specs.declared.line.ReportLine.{ReportLine}
@@ -23,10 +23,9 @@ pub record IsOwnReport (text : List ℕ) (deck : DeckLines) : Type 0 where
   pub says : drop (lines + 1) (cut_lines text) ≡ map text_of (report_lines (run_of deck))
   pub written : All IsWritten (report_lines (run_of deck))
 
--- each line of a deck's text is ended, and none is REPORT
-pub record HasLines (text : List ℕ) : Type 0 where
-  pub ended : flat_map ended_line (cut_lines text) ≡ text
-  pub none : report_from 0 (cut_lines text) ≡ None
+-- each line is ended
+abbrev pub IsEnded : List ℕ → Type 0
+IsEnded text = flat_map ended_line (cut_lines text) ≡ text
 
 -- behind the deck's text a line REPORT, and the report of its run
 abbrev pub own_text : List ℕ → DeckLines → List ℕ

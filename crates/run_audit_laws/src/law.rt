@@ -1,4 +1,4 @@
-ghost use Rattle.std.specs.Prelude.{◌≡◌, ℕ, Bool, true, false, List, [], ◌∷◌, None, Some, Ok};
+ghost use Rattle.std.specs.Prelude.{◌≡◌, ◌≤◌, ℕ, Bool, true, false, All, List, [], ◌∷◌, length, None, Some, Ok};
 ghost use Rattle.deck_plan.specs.declared.event.EventLine.{EventLine};
 ghost use Rattle.deck_plan.specs.declared.event.EventLine.TheVariants.{Back, Run, Settle, Step};
 ghost use Rattle.deck_text.specs.DeckLines.{DeckLines};
@@ -22,7 +22,7 @@ ghost use Rattle.subsystem_defs.specs.Subsystem.{Subsystem};
 ghost use Rattle.run_audit_laws.specs.Ordered.{AllLead, IsLossOrPair};
 ghost use Rattle.run_audit_laws.specs.Runs.{AllAreOver, AllMayFollow, LineGoes, RunIsOver, SettleIsOver, WholeLeads};
 ghost use Rattle.run_audit_laws.specs.Standing.{FramesAreDeclared, HasDevice, IsStill, LeadsBy, LineLeads, stand};
-ghost use Rattle.run_audit_laws.specs.Texts.{IsOwnReport};
+ghost use Rattle.run_audit_laws.specs.Texts.{IsEnded, IsOwnReport, IsWritten, own_text};
 ghost use Rattle.run_audit_laws.specs.Steps.{BackLeads, HalfLeads, StepEnds, WholeStepLeads};
 
 use report_reading::reads_back;
@@ -116,18 +116,28 @@ pub fn settle_line_leads()
         → LineGoes (run_of deck).behind (Settle d) }
 {}
 
-/// So where each SETTLE of a deck that was read comes to its end, and no FAIL VOLUME stands directly behind a STEP, RUN, BACK or SETTLE of the
-/// same device, the whole report of the deck's run leads an audit of it from its first state to FINISH: no line stands where it may not, and none
-/// shows what no plain device answers.
+/// So where each SETTLE of a deck that was read comes to its end, and no FAIL VOLUME of a device that then has loose tracks stands directly
+/// behind a STEP, RUN, BACK or SETTLE of it, the whole report of the deck's run leads an audit of it from its first state to FINISH: no line stands
+/// where it may not, and none shows what no plain device answers.
 pub fn report_leads()
-    ensures { (text : List ℕ) (deck : DeckLines) → parsed text ≡ Ok deck → AllMayFollow None deck.events → AllAreOver (opened deck) deck.events
+    ensures { (text : List ℕ) (deck : DeckLines) → parsed text ≡ Ok deck → AllMayFollow None (opened deck) deck.events → AllAreOver (opened deck) deck.events
         → WholeLeads (first_state deck) (report_lines (run_of deck)) }
 {}
 
 /// And the audit of a text of such a deck, of a line REPORT and of the report of the deck's run says yes.
 pub fn own_report_is_yes()
-    ensures { (text : List ℕ) (deck : DeckLines) → IsOwnReport text deck → AllMayFollow None deck.events → AllAreOver (opened deck) deck.events
+    ensures { (text : List ℕ) (deck : DeckLines) → IsOwnReport text deck → AllMayFollow None (opened deck) deck.events → AllAreOver (opened deck) deck.events
         → read_back text ≡ Yes }
+{
+    reads_back();
+}
+
+/// So does the audit of the text of such a deck, all of whose lines are ended, with a line REPORT and the report of its run behind it, where no number
+/// or byte of the report is out of its range.
+pub fn own_text_is_yes()
+    ensures { (text : List ℕ) (deck : DeckLines) → parsed text ≡ Ok deck → IsEnded text → length (own_text text deck) ≤ 268435456
+        → All IsWritten (report_lines (run_of deck)) → AllMayFollow None (opened deck) deck.events → AllAreOver (opened deck) deck.events
+        → read_back (own_text text deck) ≡ Yes }
 {
     reads_back();
 }
