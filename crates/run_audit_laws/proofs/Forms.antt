@@ -47,7 +47,7 @@ use Rattle.subsystem_defs.specs.Lines.{Asked, Logged, Once, Replace, Run, Settle
 use Rattle.subsystem_defs.specs.Subsystem.{Subsystem, devices_of, unfailing}
 use Rattle.subsystem_laws.proofs.RunLines.{AnyEvent, Goes, run_shows}
 
-abbrev Formed : ReportLine → Type 0
+abbrev pub Formed : ReportLine → Type 0
 Formed line = has_form line ≡ true
 
 one : (line : ReportLine) → has_form line ≡ true → All Formed (line ∷ [])

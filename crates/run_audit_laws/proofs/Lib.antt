@@ -51,3 +51,6 @@ mod Behind
 mod OrderedLines
 mod Texts
 mod Forms
+mod Feeds
+mod DeckTexts
+mod OwnTexts

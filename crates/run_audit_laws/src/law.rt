@@ -1,11 +1,11 @@
-ghost use Rattle.std.specs.Prelude.{◌≡◌, ℕ, Bool, true, false, List, [], ◌∷◌, None, Some, Ok, All};
+ghost use Rattle.std.specs.Prelude.{◌≡◌, ◌≤◌, ℕ, Bool, true, false, All, List, [], ◌∷◌, length, None, Some, Ok};
 ghost use Rattle.deck_plan.specs.declared.event.EventLine.{EventLine};
 ghost use Rattle.deck_plan.specs.declared.event.EventLine.TheVariants.{Back, Run, Settle, Step};
 ghost use Rattle.deck_text.specs.DeckLines.{DeckLines};
 ghost use Rattle.deck_text.specs.Parse.{parsed};
 ghost use Rattle.plain_defs.specs.History.{OpenEntry};
 ghost use Rattle.report_text.specs.declared.line.ReportLine.{ReportLine};
-ghost use Rattle.report_reading.specs.Ranges.{has_form};
+ghost use Rattle.report_reading.specs.Ranges.{IsLine, has_form};
 ghost use Rattle.report_places.specs.declared.state.Did.{Did};
 ghost use Rattle.report_places.specs.declared.state.Due.TheVariants.{Behind, Next, Nothing};
 ghost use Rattle.report_places.specs.Place.{holds, is_of_work};
@@ -23,7 +23,7 @@ ghost use Rattle.subsystem_defs.specs.Subsystem.{Subsystem};
 ghost use Rattle.run_audit_laws.specs.Ordered.{AllLead, IsLossOrPair};
 ghost use Rattle.run_audit_laws.specs.Runs.{AllAreOver, AllMayFollow, LineGoes, RunIsOver, SettleIsOver, WholeLeads};
 ghost use Rattle.run_audit_laws.specs.Standing.{FramesAreDeclared, HasDevice, IsStill, LeadsBy, LineLeads, stand};
-ghost use Rattle.run_audit_laws.specs.Texts.{IsOwnReport};
+ghost use Rattle.run_audit_laws.specs.Texts.{IsEnded, IsOwnReport, own_text};
 ghost use Rattle.run_audit_laws.specs.Steps.{BackLeads, HalfLeads, StepEnds, WholeStepLeads};
 
 use report_reading::reads_back;
@@ -134,6 +134,16 @@ pub fn report_has_form()
 pub fn own_report_is_yes()
     ensures { (text : List ℕ) (deck : DeckLines) → IsOwnReport text deck → AllMayFollow None (opened deck) deck.events → AllAreOver (opened deck) deck.events
         → read_back text ≡ Yes }
+{
+    reads_back();
+}
+
+/// So does the audit of the text of such a deck, all of whose lines are ended, with a line REPORT and the report of its run behind it, where no number
+/// or byte of the report is out of its range.
+pub fn own_text_is_yes()
+    ensures { (text : List ℕ) (deck : DeckLines) → parsed text ≡ Ok deck → IsEnded text → length (own_text text deck) ≤ 268435456
+        → All IsLine (report_lines (run_of deck)) → AllMayFollow None (opened deck) deck.events → AllAreOver (opened deck) deck.events
+        → read_back (own_text text deck) ≡ Yes }
 {
     reads_back();
 }
