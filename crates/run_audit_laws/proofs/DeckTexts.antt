@@ -38,7 +38,7 @@ begins (b ∷ x) rest h =
 
 -- REPORT is no first word of a deck's line
 refused : (n : ℕ) (s : State) → take_line n (codes "REPORT") s ≡ Err (Refused n Word)
-unfolding K.head_of, K.event_word_of
+unfolding K.head_of K.event_word_of
 refused n s = refl
 
 report_ends : (m : ℕ) (s : State) (rest : List ℕ) → read_lines m s (lines_of (codes "REPORT" ++ 10 ∷ rest)) ≡ Err (Refused m Word)

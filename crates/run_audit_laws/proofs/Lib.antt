@@ -52,4 +52,5 @@ mod OrderedLines
 mod Texts
 mod Feeds
 mod DeckTexts
+mod Forms
 mod OwnTexts

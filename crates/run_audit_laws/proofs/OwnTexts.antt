@@ -22,7 +22,7 @@ use Rattle.report_auditor.specs.declared.status.AuditStatus.TheVariants.{Yes}
 use Rattle.report_auditor.specs.Verdict.{read_back}
 use Rattle.subsystem_defs.specs.Decks.{opened}
 use Rattle.run_audit_laws.specs.Runs.{AllAreOver, AllMayFollow}
-use Rattle.run_audit_laws.specs.Texts.{IsEnded, IsOwnReport, IsWritten, own_text}
+use Rattle.run_audit_laws.specs.Texts.{IsEnded, IsOwnReport, own_text}
 use Rattle.run_audit_laws.proofs.Feeds.{AreWhole, is_whole, not_feed, text_whole}
 use Rattle.run_audit_laws.proofs.DeckTexts.{read_has_none}
 use Rattle.run_audit_laws.proofs.Texts.{own_report_is_yes}
@@ -81,16 +81,16 @@ behind {X} (x ∷ xs) y ys =
 
 -- The report
 
-written_whole : (lines : List ReportLine) → All IsWritten lines → AreWhole (map text_of lines)
+written_whole : (lines : List ReportLine) → All IsLine lines → AreWhole (map text_of lines)
 written_whole [] w = tt
 written_whole (line ∷ lines) w =
-    (text_whole line (All-head IsWritten line lines w).0, written_whole lines (All-tail IsWritten line lines w))
+    (text_whole line (All-head IsLine line lines w), written_whole lines (All-tail IsLine line lines w))
 
 lines_ended : (lines : List ReportLine) → lines_text lines ≡ flat_map ended_line (map text_of lines)
 lines_ended [] = refl
 lines_ended (line ∷ lines) = ap (λ (l : List ℕ). line_text line ++ l) (lines_ended lines)
 
-module _ (text : List ℕ) (deck : DeckLines) (h : IsEnded text) (w : All IsWritten (report_lines (run_of deck))) where
+module _ (text : List ℕ) (deck : DeckLines) (h : IsEnded text) (w : All IsLine (report_lines (run_of deck))) where
   abbrev lines : List (List ℕ)
   lines = cut_lines text
 
@@ -126,6 +126,6 @@ module _ (text : List ℕ) (deck : DeckLines) (h : IsEnded text) (w : All IsWrit
 -- where what is written is read back
 pub own_text_is_yes : ((line : ReportLine) → IsLine line → line_of (text_of line) ≡ (if has_form line then Ok line else Err (form_fault line))) →
     (text : List ℕ) (deck : DeckLines) → parsed text ≡ Ok deck → IsEnded text → length (own_text text deck) ≤ 268435456 →
-    All IsWritten (report_lines (run_of deck)) → AllMayFollow None (opened deck) deck.events → AllAreOver (opened deck) deck.events →
+    All IsLine (report_lines (run_of deck)) → AllMayFollow None (opened deck) deck.events → AllAreOver (opened deck) deck.events →
     read_back (own_text text deck) ≡ Yes
 own_text_is_yes again text deck read h size w = own_report_is_yes again (own_text text deck) deck (own_is text deck h w read size)

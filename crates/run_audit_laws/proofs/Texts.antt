@@ -1,5 +1,5 @@
 -- An audit says yes to a text of which the lines lead it to FINISH.
-use Rattle.std.proofs.Common.{◌≡◌, ◌≤◌, ◌+◌, ℕ, Bool, false, List, [], ◌∷◌, length, map, Some, None, sym, ap, ◌∙◌, if◌then◌else◌, arith}
+use Rattle.std.proofs.Common.{◌≡◌, ◌≤◌, ◌+◌, ℕ, Bool, true, false, List, [], ◌∷◌, length, map, Some, None, sym, ap, ◌∙◌, if◌then◌else◌, arith}
 use Rattle.std.specs.Prelude.{All, nat_lt, Result, Ok, Err}
 use Rattle.std.proofs.lemmas.Bool.Decides.{nat_tests}
 use Rattle.std.proofs.lemmas.List.Elements.{All-head, All-tail}
@@ -21,7 +21,8 @@ use Rattle.run_report.specs.Report.{report_lines}
 use Rattle.subsystem_defs.specs.Decks.{opened, run_of}
 use Rattle.run_audit_laws.specs.Runs.{AllAreOver, AllMayFollow, WholeLeads}
 use Rattle.run_audit_laws.specs.Standing.{LeadsBy}
-use Rattle.run_audit_laws.specs.Texts.{IsOwnReport, IsWritten}
+use Rattle.run_audit_laws.specs.Texts.{IsOwnReport}
+use Rattle.run_audit_laws.proofs.Forms.{AllFormed, report_formed}
 use Rattle.run_audit_laws.proofs.Runs.{report_leads}
 
 not_long : (most n : ℕ) → n ≤ most → nat_lt most n ≡ false
@@ -29,18 +30,18 @@ not_long most n le = grind (arith, nat_tests, le)
 
 -- where what is written is read back
 module _ (again : (line : ReportLine) → IsLine line → line_of (text_of line) ≡ (if has_form line then Ok line else Err (form_fault line))) where
-  read_again : (line : ReportLine) → IsWritten line → line_of (text_of line) ≡ Ok line
-  read_again line w = again line w.0 ∙ ap (λ (b : Bool). by_form b) w.1 where
+  read_again : (line : ReportLine) → IsLine line → has_form line ≡ true → line_of (text_of line) ≡ Ok line
+  read_again line ranges form = again line ranges ∙ ap (λ (b : Bool). by_form b) form where
     by_form : Bool → Result ReportLine LineFault
     by_form b = if b then Ok line else Err (form_fault line)
 
-  all_texts : (lines : List ReportLine) (n : ℕ) (s t : AuditState) → All IsWritten lines → LeadsBy s lines t → t.due ≡ Nothing →
+  all_texts : (lines : List ReportLine) (n : ℕ) (s t : AuditState) → All IsLine lines → AllFormed lines → LeadsBy s lines t → t.due ≡ Nothing →
       judged_lines n s (map text_of lines) ≡ Yes
-  all_texts [] n s t written leads done = ap (at_end n) (ap (λ (z : AuditState). z.due) (sym leads) ∙ done)
-  all_texts (line ∷ lines) n s t written leads done =
-      let first = ap (judged_by s) (read_again line (All-head IsWritten line lines written)) ∙ leads.1 in
+  all_texts [] n s t written formed leads done = ap (at_end n) (ap (λ (z : AuditState). z.due) (sym leads) ∙ done)
+  all_texts (line ∷ lines) n s t written formed leads done =
+      let first = ap (judged_by s) (read_again line (All-head IsLine line lines written) formed.0) ∙ leads.1 in
       ap (λ (r : Result AuditState AuditWhy). or_no n r (λ u. judged_lines (n + 1) u (map text_of lines))) first
-      ∙ all_texts lines (n + 1) leads.0 t (All-tail IsWritten line lines written) leads.2 done
+      ∙ all_texts lines (n + 1) leads.0 t (All-tail IsLine line lines written) formed.1 leads.2 done
 
   -- a whole text
   yes_by : (text : List ℕ) (deck : DeckLines) → (o : IsOwnReport text deck) → WholeLeads (first_state deck) (report_lines (run_of deck)) → read_back text ≡ Yes
@@ -50,7 +51,7 @@ module _ (again : (line : ReportLine) → IsLine line → line_of (text_of line)
       ∙ ap (read_back_at text) o.found
       ∙ ap (λ (r : Result DeckLines DeckFault). deck_judged r text (Some o.lines)) o.parses
       ∙ ap (judged_lines (o.lines + 2) (first_state deck)) o.says
-      ∙ all_texts (report_lines (run_of deck)) (o.lines + 2) (first_state deck) leads.0 o.written leads.1 leads.2
+      ∙ all_texts (report_lines (run_of deck)) (o.lines + 2) (first_state deck) leads.0 o.written (report_formed deck) leads.1 leads.2
 
   pub own_report_is_yes : (text : List ℕ) (deck : DeckLines) → IsOwnReport text deck → AllMayFollow None (opened deck) deck.events → AllAreOver (opened deck) deck.events →
       read_back text ≡ Yes

@@ -14,6 +14,7 @@ ghost use Rattle.report_places.specs.declared.state.HalfWrite.TheVariants.{Close
 ghost use Rattle.deck_audit.specs.Device.{AuditedDevice, device_in};
 ghost use Rattle.report_auditor.specs.declared.status.AuditStatus.TheVariants.{Yes};
 ghost use Rattle.report_auditor.specs.Verdict.{read_back};
+ghost use Rattle.report_reading.specs.Ranges.{IsLine};
 ghost use Rattle.run_report.specs.Closing.{ending_lines};
 ghost use Rattle.run_report.specs.Report.{report_lines};
 ghost use Rattle.subsystem_defs.specs.Closing.{ending};
@@ -22,7 +23,7 @@ ghost use Rattle.subsystem_defs.specs.Subsystem.{Subsystem};
 ghost use Rattle.run_audit_laws.specs.Ordered.{AllLead, IsLossOrPair};
 ghost use Rattle.run_audit_laws.specs.Runs.{AllAreOver, AllMayFollow, LineGoes, RunIsOver, SettleIsOver, WholeLeads};
 ghost use Rattle.run_audit_laws.specs.Standing.{FramesAreDeclared, HasDevice, IsStill, LeadsBy, LineLeads, stand};
-ghost use Rattle.run_audit_laws.specs.Texts.{IsEnded, IsOwnReport, IsWritten, own_text};
+ghost use Rattle.run_audit_laws.specs.Texts.{IsEnded, IsOwnReport, own_text};
 ghost use Rattle.run_audit_laws.specs.Steps.{BackLeads, HalfLeads, StepEnds, WholeStepLeads};
 
 use report_reading::reads_back;
@@ -136,7 +137,7 @@ pub fn own_report_is_yes()
 /// or byte of the report is out of its range.
 pub fn own_text_is_yes()
     ensures { (text : List ℕ) (deck : DeckLines) → parsed text ≡ Ok deck → IsEnded text → length (own_text text deck) ≤ 268435456
-        → All IsWritten (report_lines (run_of deck)) → AllMayFollow None (opened deck) deck.events → AllAreOver (opened deck) deck.events
+        → All IsLine (report_lines (run_of deck)) → AllMayFollow None (opened deck) deck.events → AllAreOver (opened deck) deck.events
         → read_back (own_text text deck) ≡ Yes }
 {
     reads_back();
