@@ -30,11 +30,12 @@ begins : (x rest : List ℕ) → is_whole x ≡ true → BeginsLine (x ++ 10 ∷
 begins [] rest h = ([], refl)
 begins (b ∷ x) rest h =
     let p = and_parts (not (b == 10)) (is_whole x) h in
-    let g = begins_by b (is_passed_over b (x ++ 10 ∷ rest)) (x ++ 10 ∷ rest) rest (begins x rest p.1) in
-    (g.0,
-     ap (λ (c : Bool). if c then [] ∷ lines_of (x ++ 10 ∷ rest)
-         else if is_passed_over b (x ++ 10 ∷ rest) then lines_of (x ++ 10 ∷ rest) else onto_first b (lines_of (x ++ 10 ∷ rest))) (not_feed (b == 10) p.0)
-     ∙ g.1)
+    let g = begins_by b (is_passed_over b (x ++ 10 ∷ rest)) (x ++ 10 ∷ rest) rest (begins x rest p.1) in (
+      g.0,
+      ap (λ (c : Bool). if c then [] ∷ lines_of (x ++ 10 ∷ rest)
+          else if is_passed_over b (x ++ 10 ∷ rest) then lines_of (x ++ 10 ∷ rest) else onto_first b (lines_of (x ++ 10 ∷ rest))) (not_feed (b == 10) p.0)
+          ∙ g.1,
+    )
 
 -- REPORT is no first word of a deck's line
 refused : (n : ℕ) (s : State) → take_line n (codes "REPORT") s ≡ Err (Refused n Word)

@@ -141,8 +141,6 @@ hex_digit (suc (suc (suc (suc (suc (suc (suc (suc (suc (suc (suc (suc (suc (suc 
 hex_digit (suc (suc (suc (suc (suc (suc (suc (suc (suc (suc (suc (suc (suc (suc (suc zero))))))))))))))) = refl
 hex_digit (suc (suc (suc (suc (suc (suc (suc (suc (suc (suc (suc (suc (suc (suc (suc (suc k)))))))))))))))) = refl
 
-
-
 hex_whole : (bytes : List ℕ) → is_whole (encode_upper bytes) ≡ true
 unfolding encode_with
 hex_whole [] = refl

@@ -50,7 +50,7 @@ mod DeckEvents
 mod Behind
 mod OrderedLines
 mod Texts
+mod Forms
 mod Feeds
 mod DeckTexts
-mod Forms
 mod OwnTexts

@@ -22,7 +22,7 @@ use Rattle.subsystem_defs.specs.Decks.{opened, run_of}
 use Rattle.run_audit_laws.specs.Runs.{AllAreOver, AllMayFollow, WholeLeads}
 use Rattle.run_audit_laws.specs.Standing.{LeadsBy}
 use Rattle.run_audit_laws.specs.Texts.{IsOwnReport}
-use Rattle.run_audit_laws.proofs.Forms.{AllFormed, report_formed}
+use Rattle.run_audit_laws.proofs.Forms.{Formed, report_has_form}
 use Rattle.run_audit_laws.proofs.Runs.{report_leads}
 
 not_long : (most n : ℕ) → n ≤ most → nat_lt most n ≡ false
@@ -35,13 +35,13 @@ module _ (again : (line : ReportLine) → IsLine line → line_of (text_of line)
     by_form : Bool → Result ReportLine LineFault
     by_form b = if b then Ok line else Err (form_fault line)
 
-  all_texts : (lines : List ReportLine) (n : ℕ) (s t : AuditState) → All IsLine lines → AllFormed lines → LeadsBy s lines t → t.due ≡ Nothing →
+  all_texts : (lines : List ReportLine) (n : ℕ) (s t : AuditState) → All IsLine lines → All Formed lines → LeadsBy s lines t → t.due ≡ Nothing →
       judged_lines n s (map text_of lines) ≡ Yes
   all_texts [] n s t written formed leads done = ap (at_end n) (ap (λ (z : AuditState). z.due) (sym leads) ∙ done)
   all_texts (line ∷ lines) n s t written formed leads done =
-      let first = ap (judged_by s) (read_again line (All-head IsLine line lines written) formed.0) ∙ leads.1 in
+      let first = ap (judged_by s) (read_again line (All-head IsLine line lines written) (All-head Formed line lines formed)) ∙ leads.1 in
       ap (λ (r : Result AuditState AuditWhy). or_no n r (λ u. judged_lines (n + 1) u (map text_of lines))) first
-      ∙ all_texts lines (n + 1) leads.0 t (All-tail IsLine line lines written) formed.1 leads.2 done
+      ∙ all_texts lines (n + 1) leads.0 t (All-tail IsLine line lines written) (All-tail Formed line lines formed) leads.2 done
 
   -- a whole text
   yes_by : (text : List ℕ) (deck : DeckLines) → (o : IsOwnReport text deck) → WholeLeads (first_state deck) (report_lines (run_of deck)) → read_back text ≡ Yes
@@ -51,7 +51,7 @@ module _ (again : (line : ReportLine) → IsLine line → line_of (text_of line)
       ∙ ap (read_back_at text) o.found
       ∙ ap (λ (r : Result DeckLines DeckFault). deck_judged r text (Some o.lines)) o.parses
       ∙ ap (judged_lines (o.lines + 2) (first_state deck)) o.says
-      ∙ all_texts (report_lines (run_of deck)) (o.lines + 2) (first_state deck) leads.0 o.written (report_formed deck) leads.1 leads.2
+      ∙ all_texts (report_lines (run_of deck)) (o.lines + 2) (first_state deck) leads.0 o.written (report_has_form deck) leads.1 leads.2
 
   pub own_report_is_yes : (text : List ℕ) (deck : DeckLines) → IsOwnReport text deck → AllMayFollow None (opened deck) deck.events → AllAreOver (opened deck) deck.events →
       read_back text ≡ Yes

@@ -9,8 +9,8 @@ use Rattle.report_auditor.specs.Verdict.{cut_lines, deck_part, ended_line, repor
 use Rattle.run_report.specs.Report.{report_lines, report_of}
 use Rattle.subsystem_defs.specs.Decks.{run_of}
 
--- so many lines are the deck's, then comes REPORT, and behind it the text of each line of the run's report, whose numbers and bytes are in their
--- ranges
+-- so many lines are the deck's, then comes REPORT, and behind it the text of each line of the run's report. Its numbers and bytes are in their
+-- ranges, so that each text is read as that line
 pub record IsOwnReport (text : List ℕ) (deck : DeckLines) : Type 0 where
   pub lines : ℕ
   pub size : length text ≤ 268435456

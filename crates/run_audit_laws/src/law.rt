@@ -5,6 +5,7 @@ ghost use Rattle.deck_text.specs.DeckLines.{DeckLines};
 ghost use Rattle.deck_text.specs.Parse.{parsed};
 ghost use Rattle.plain_defs.specs.History.{OpenEntry};
 ghost use Rattle.report_text.specs.declared.line.ReportLine.{ReportLine};
+ghost use Rattle.report_reading.specs.Ranges.{IsLine, has_form};
 ghost use Rattle.report_places.specs.declared.state.Did.{Did};
 ghost use Rattle.report_places.specs.declared.state.Due.TheVariants.{Behind, Next, Nothing};
 ghost use Rattle.report_places.specs.Place.{holds, is_of_work};
@@ -14,7 +15,6 @@ ghost use Rattle.report_places.specs.declared.state.HalfWrite.TheVariants.{Close
 ghost use Rattle.deck_audit.specs.Device.{AuditedDevice, device_in};
 ghost use Rattle.report_auditor.specs.declared.status.AuditStatus.TheVariants.{Yes};
 ghost use Rattle.report_auditor.specs.Verdict.{read_back};
-ghost use Rattle.report_reading.specs.Ranges.{IsLine};
 ghost use Rattle.run_report.specs.Closing.{ending_lines};
 ghost use Rattle.run_report.specs.Report.{report_lines};
 ghost use Rattle.subsystem_defs.specs.Closing.{ending};
@@ -123,6 +123,11 @@ pub fn settle_line_leads()
 pub fn report_leads()
     ensures { (text : List ℕ) (deck : DeckLines) → parsed text ≡ Ok deck → AllMayFollow None (opened deck) deck.events → AllAreOver (opened deck) deck.events
         → WholeLeads (first_state deck) (report_lines (run_of deck)) }
+{}
+
+/// Each line of any run's report has its form: an IO line tells of a volume call, and a loss of power is done.
+pub fn report_has_form()
+    ensures { (deck : DeckLines) → All (λ (line : ReportLine). has_form line ≡ true) (report_lines (run_of deck)) }
 {}
 
 /// And the audit of a text of such a deck, of a line REPORT and of the report of the deck's run says yes.
