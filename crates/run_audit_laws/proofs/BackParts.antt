@@ -1,13 +1,13 @@
 -- What a piece of work in the background makes of a device beside its history: a half write is open behind it where it says so, and only there.
 use Rattle.std.proofs.Common.{◌≡◌, ℕ, zero, suc, Bool, true, false, List, [], ◌∷◌, Option, Some, None, refl, sym, ap, subst, ◌∙◌, if◌then◌else◌}
-use Rattle.std.specs.Prelude.{◌||◌, ◌&&◌, not, is_some}
+use Rattle.std.specs.Prelude.{◌||◌, ◌&&◌, is_some}
 use Rattle.ckd_types.specs.declared.paths.Side.{Side}
 use Rattle.ckd_types.specs.declared.paths.Side.TheVariants.{A, B}
 use Rattle.ckd_types.specs.declared.record.Track.{Track}
 use Rattle.ckd_types.specs.declared.geometry.Geometry.{Geometry}
 use Rattle.plain_defs.specs.PlainState.{PlainState}
 use Rattle.track_image.specs.Image.{Image}
-use Rattle.device_outside.specs.Interaction.{Interaction, Done, and_then}
+use Rattle.device_outside.specs.Interaction.{Done, and_then}
 use Rattle.device_defs.specs.declared.answers.Did.{Did}
 use Rattle.device_defs.specs.declared.answers.Did.TheVariants as dids
 use Rattle.device_defs.specs.declared.answers.Took.{Took}
@@ -69,7 +69,7 @@ use Rattle.device_laws.proofs.PlainWalks.{
   opened_half,
   stale_same,
 }
-use Rattle.device_laws.proofs.SidesKept.{lost_same, state_of}
+use Rattle.device_laws.proofs.SidesKept.{lost_same}
 use Rattle.deck_audit.specs.History.{back_half}
 use Rattle.run_report.specs.Answers.{back_answer}
 use Rattle.plain_defs.specs.History.{plain_of}

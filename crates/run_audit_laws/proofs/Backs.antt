@@ -46,7 +46,7 @@ module _ (xs : List AuditedDevice) (w : EventLine) (later : List EventLine) (a :
 
   pub work_leads : (u : AuditState) × LeadsBy (record { devices = xs; events = w ∷ later; due = Next })
       ((line ∷ map (act_line a.number) acts) ++ (io_lines reads writes ++ line_if None)) u
-      × Reaches u (end_of xs w later a.number is_work a has (record a { history = all_acted a.history acts; half = half }) refl true did
+      × Reaches (worker_of w) u (end_of xs w later a.number is_work a has (record a { history = all_acted a.history acts; half = half }) refl true did
       (legal (record a { history = all_acted a.history acts; half = half })) None)
   work_leads =
       let b = record a { half = half } in

@@ -13,7 +13,7 @@ use Rattle.device_defs.specs.Marks.{MarksDevice}
 use Rattle.subsystem_defs.specs.Decks as D
 use Rattle.subsystem_defs.specs.Decks.{opened, run_of}
 use Rattle.subsystem_defs.specs.Deeds.{device_in}
-use Rattle.subsystem_defs.specs.Lines.{Asked, asked_by, last_behind, line_logged, run_lines}
+use Rattle.subsystem_defs.specs.Lines.{Asked, asked_by, last_behind, line_logged}
 use Rattle.subsystem_defs.specs.Subsystem.{Subsystem, devices_of}
 use Rattle.subsystem_laws.specs.Served.{IsServed, IsServedDeck}
 use Rattle.subsystem_laws.proofs.GoodMarks.{Good, good_kept, opened_good}

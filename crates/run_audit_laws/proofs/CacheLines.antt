@@ -63,11 +63,10 @@ use Rattle.report_places.specs.Same.{says}
 use Rattle.deck_audit.specs.Device as A
 use Rattle.deck_audit.specs.Device.{AuditedDevice, outline_of, state_of, with_device}
 use Rattle.deck_audit.specs.History.{act_made, loss_line, loss_made, order_made}
-use Rattle.deck_audit.specs.State.{AuditState, passed, then_of}
+use Rattle.deck_audit.specs.State.{AuditState}
 use Rattle.report_auditor.specs.declared.status.AuditWhy.TheVariants.{Place}
 use Rattle.report_auditor.specs.Verdict.{judged, or_history}
 use Rattle.run_report.specs.Beside.{id_of, loose_lines, loosed, of_each, over_lines}
-use Rattle.run_report.specs.Events.{event_lines}
 use Rattle.subsystem_defs.specs.Beside.{loose_count, told_act}
 use Rattle.subsystem_defs.specs.declared.end.EventEnd.TheVariants as ends
 use Rattle.subsystem_defs.specs.declared.end.OrderFault.TheVariants as faults

@@ -1,38 +1,7 @@
 -- What came of a command, and of acts, is what a plain device does: read off a history that is a plain device's before it and behind it.
-use Rattle.std.proofs.Common.{
-  ◌≡◌,
-  ◌==◌,
-  ◌++◌,
-  ◌-◌,
-  ◌<◌,
-  ℕ,
-  suc,
-  Bool,
-  true,
-  false,
-  not,
-  List,
-  [],
-  ◌∷◌,
-  map,
-  length,
-  Option,
-  Some,
-  None,
-  refl,
-  sym,
-  ap,
-  subst,
-  ◌∙◌,
-  if◌then◌else◌,
-  inl,
-  inr,
-  arith,
-  append_assoc,
-}
+use Rattle.std.proofs.Common.{◌≡◌, ◌==◌, ◌++◌, ◌-◌, ℕ, suc, Bool, true, false, not, List, [], ◌∷◌, map, length, Option, Some, None, refl, sym, ap, subst, ◌∙◌, if◌then◌else◌, inl, inr, arith, append_assoc}
 use Rattle.std.specs.Prelude.{◌&&◌, ◌⊎◌, IsSome, IfSome}
 use Rattle.std.proofs.lemmas.List.{append-nil, append_cancel_left}
-use Rattle.std.proofs.lemmas.Bool.{eqb-true}
 use Rattle.ckd_types.specs.declared.channel.Ccw.{Ccw}
 use Rattle.ckd_types.specs.declared.channel.CommandEnd.{CommandEnd}
 use Rattle.ckd_types.specs.declared.channel.Note.{Note}
@@ -51,29 +20,11 @@ use Rattle.ckd_rules.specs.Walk.{TrackEdit}
 use Rattle.plain_defs.specs.declared.journal.Act.{Act}
 use Rattle.plain_defs.specs.declared.journal.Act.TheVariants.{Loosen, Harden, CfwLost}
 use Rattle.plain_defs.specs.declared.journal.Acted.{Acted}
-use Rattle.plain_defs.specs.declared.journal.How.{How}
 use Rattle.plain_defs.specs.declared.journal.How.TheVariants.{Full, Checked}
 use Rattle.plain_defs.specs.declared.journal.Item.{Item}
 use Rattle.plain_defs.specs.declared.journal.Item.TheVariants as items
 use Rattle.plain_defs.specs.Effect.{Effect, effect_on}
-use Rattle.plain_defs.specs.History.{
-  History,
-  IsOpen,
-  IsPlain,
-  OpenEntry,
-  acted,
-  acted_in,
-  checked,
-  checked_in,
-  closed,
-  ended,
-  ended_in,
-  entry_of,
-  open_part,
-  resets_of,
-  state_by,
-  with_end,
-}
+use Rattle.plain_defs.specs.History.{History, IsOpen, IsPlain, OpenEntry, checked, closed, ended, entry_of, resets_of, state_by, with_end}
 use Rattle.plain_defs.specs.Journal.{Plans, program_of, replay, replay_item}
 use Rattle.plain_defs.specs.Legal.{
   AreActs,

@@ -140,7 +140,7 @@ module _ (xs : List AuditedDevice) (w : EventLine) (later : List EventLine) (a :
         LeadsBy (record { devices = xs; events = w ∷ later; due = Next }) firsts
         (at_work xs w later a.number is_work a has (record a { history = all_acted a.history acts; half = Closed }) (Behind more did)) →
         (u : AuditState) × LeadsBy (record { devices = xs; events = w ∷ later; due = Next }) (firsts ++ (io_lines reads writes ++ line_if over)) u
-        × Reaches u
+        × Reaches (worker_of w) u
         (end_of xs w later a.number is_work a has (record a { history = all_acted a.history acts; half = Closed }) refl more did legal over)
     all_lead firsts reads writes leads =
         let s = at_work xs w later a.number is_work a has (behind_acts acts) (Behind more did) in
@@ -234,7 +234,7 @@ module _ (xs : List AuditedDevice) (w : EventLine) (later : List EventLine) (a :
         (u : AuditState) × LeadsBy (record { devices = xs; events = w ∷ later; due = Next })
         ((ended_lines o.path a.number o.ordinal p ++ map (act_line a.number) acts)
         ++ (io_lines reads writes ++ line_if (over_if p.over (over_told a o how.Full)))) u
-        × Reaches u (end_of xs w later a.number is_work a has (acted_to a acts) refl true (Ended p) legal (over_if p.over (over_told a o how.Full)))
+        × Reaches (worker_of w) u (end_of xs w later a.number is_work a has (acted_to a acts) refl true (Ended p) legal (over_if p.over (over_told a o how.Full)))
     plain_command_leads reads writes legal =
         all_lead acts true (Ended p) legal (over_if p.over (over_told a o how.Full)) full_over (if_wanted p.over)
         (ended_lines o.path a.number o.ordinal p ++ map (act_line a.number) acts) reads writes plain_acts_lead
@@ -243,7 +243,7 @@ module _ (xs : List AuditedDevice) (w : EventLine) (later : List EventLine) (a :
         (u : AuditState) × LeadsBy (record { devices = xs; events = w ∷ later; due = Next })
         ((ended_lines o.path a.number o.ordinal (check_end (words_of_open a o) p.index sense) ++ map (act_line a.number) acts)
         ++ (io_lines reads writes ++ line_if (Some (over_told a o how.Checked)))) u
-        × Reaches u (end_of xs w later a.number is_work a has (acted_to a acts) refl true (CheckEnded (check_end (words_of_open a o) p.index sense)) refl
+        × Reaches (worker_of w) u (end_of xs w later a.number is_work a has (acted_to a acts) refl true (CheckEnded (check_end (words_of_open a o) p.index sense)) refl
         (Some (over_told a o how.Checked)))
     check_command_leads reads writes sense is =
         let e = check_end (words_of_open a o) p.index sense in
@@ -299,7 +299,7 @@ module _ (xs : List AuditedDevice) (w : EventLine) (later : List EventLine) (a :
         (u : AuditState) × LeadsBy (record { devices = xs; events = w ∷ later; due = Next })
         ((ended_lines o.path a.number o.ordinal p ++ map (act_line a.number) (acts ++ Loosen t ∷ []))
         ++ (io_lines reads writes ++ line_if (over_if p.over (over_told a o how.Full)))) u
-        × Reaches u (end_of xs w later a.number is_work a has (acted_to a (acts ++ Loosen t ∷ [])) refl false (Ended p) legal
+        × Reaches (worker_of w) u (end_of xs w later a.number is_work a has (acted_to a (acts ++ Loosen t ∷ [])) refl false (Ended p) legal
         (over_if p.over (over_told a o how.Full)))
     loose_command_leads reads writes t may legal =
         all_lead (acts ++ Loosen t ∷ []) false (Ended p) legal (over_if p.over (over_told a o how.Full)) (loose_over t) (loose_wanted p.over)

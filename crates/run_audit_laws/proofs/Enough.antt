@@ -1,6 +1,6 @@
 -- A command on a plain device ends before it has looked at more tracks than there are: so never with equipment check.
 use Rattle.std.proofs.Common.{◌≡◌, ◌<◌, ◌≤◌, ◌+◌, ◌*◌, ℕ, zero, suc, List, Option, Some, None, refl, sym, ap, subst, ◌∙◌, arith}
-use Rattle.std.specs.Prelude.{◌%◌, Bool, false, true, IsSome}
+use Rattle.std.specs.Prelude.{◌%◌, false, true}
 use Rattle.std.specs.Str.{bytes_eq}
 use Rattle.ckd_types.specs.declared.channel.Ccw.{Ccw}
 use Rattle.ckd_types.specs.declared.channel.CommandEnd.{CommandEnd}
@@ -32,13 +32,12 @@ use Rattle.plain_defs.specs.Effect.{acted_by, effect_by, effect_on}
 use Rattle.plain_defs.specs.PlainState.{PathsState, PlainState}
 use Rattle.plain_defs.specs.Program as P
 use Rattle.plain_defs.specs.Program.{Part, part_of, stepped, stepped_at}
-use Rattle.plain_defs.proofs.PartLemmas.{acted_beside, part_more}
-use Rattle.deck_audit.specs.Device.{AuditedDevice, part_of_open, plain_end, plain_end_at, words_of_open}
+use Rattle.plain_defs.proofs.PartLemmas.{acted_beside}
+use Rattle.deck_audit.specs.Device.{plain_end_at}
 use Rattle.device_laws.proofs.ChainTracks.{FurtherBy, look_further, whole_cylinders}
-use Rattle.plain_defs.specs.History.{OpenEntry}
 use Rattle.subsystem_laws.proofs.StancePlaces.{On, Opens, SeeksOn, look_leaves_on, opening_is_on}
 use Rattle.run_audit_laws.proofs.Saying.{same_bytes}
-use Rattle.run_audit_laws.proofs.Tidy.{Fits, FitsBy, OpeningFits, TurnFits, act_fits, look_fits, opening_fits}
+use Rattle.run_audit_laws.proofs.Tidy.{FitsBy, OpeningFits, TurnFits, act_fits, look_fits, opening_fits}
 
 abbrev IsOther : Option Sense → Type 0
 IsOther sense = sense ≡ Some equipment_sense → ⊥

@@ -1,7 +1,6 @@
 -- What an order makes of a device that is lent.
 use Rattle.std.proofs.Common.{◌≡◌, ℕ, zero, suc, true, Option, Some, None, is_some, set, refl, ap, ◌∙◌}
 use Rattle.std.proofs.lemmas.Bool.{cond_both}
-use Rattle.device_outside.specs.Interaction.{Done}
 use Rattle.device_defs.specs.Contents.{by_plain}
 use Rattle.device_defs.specs.Device.{event_begun, event_ended}
 use Rattle.device_defs.specs.Losses as L

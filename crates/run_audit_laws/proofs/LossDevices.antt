@@ -34,7 +34,6 @@ use Rattle.std.proofs.Common.{
 use Rattle.std.specs.Prelude.{◌⊎◌, if◌then◌else◌}
 use Rattle.std.proofs.lemmas.Bool.{cases_lt, cond_both, eqb-false, eqb-true, true≢false}
 use Rattle.std.proofs.lemmas.List.{get_or-set_other, get_or-set_same, get_or_past, length-set}
-use Rattle.ckd_types.specs.declared.geometry.Geometry.{Geometry}
 use Rattle.ckd_types.specs.declared.paths.Side.{Side}
 use Rattle.ckd_types.specs.declared.paths.Side.TheVariants as sides
 use Rattle.loss_model.specs.declared.Loss.{Loss}
@@ -96,7 +95,7 @@ use Rattle.device_laws.proofs.PlainEvents.{had_both}
 use Rattle.device_laws.proofs.PlainLosses.{Walked, losing_goes, walks_first}
 use Rattle.device_laws.proofs.PlainStores.{Core, Open, Stays, core_of, hardened_core, loose_at}
 use Rattle.device_laws.proofs.PlainTurns.{Follows}
-use Rattle.device_laws.proofs.PlainWalks.{ended_same, framed_same, hear_same, over_holds, settled_holds, side_holds, told_holds}
+use Rattle.device_laws.proofs.PlainWalks.{ended_same, framed_same, over_holds, settled_holds, side_holds, told_holds}
 use Rattle.device_laws.proofs.PoolWalks.{asks_had, hear_asks}
 use Rattle.run_audit_laws.specs.Standing.{half_by}
 use Rattle.run_audit_laws.specs.Steps.{NoLoss}

@@ -1,29 +1,5 @@
 -- FAIL STORE, which tells nothing of the devices, and FAIL VOLUME, which tells of each track that becomes firm.
-use Rattle.std.proofs.Common.{
-  ◌≡◌,
-  ◌+◌,
-  ◌==◌,
-  ◌++◌,
-  ℕ,
-  Bool,
-  true,
-  false,
-  not,
-  List,
-  [],
-  ◌∷◌,
-  map,
-  Option,
-  Some,
-  None,
-  refl,
-  sym,
-  ap,
-  subst,
-  ◌∙◌,
-  if◌then◌else◌,
-  inl,
-}
+use Rattle.std.proofs.Common.{◌≡◌, ◌++◌, ℕ, Bool, true, false, not, List, [], ◌∷◌, map, Option, Some, None, refl, sym, ap, subst, ◌∙◌, if◌then◌else◌, inl}
 use Rattle.std.specs.Prelude.{◌||◌, IfSome, Ok, Err}
 use Rattle.ckd_types.specs.declared.paths.Side.{Side}
 use Rattle.deck_plan.specs.declared.event.EventLine.{EventLine}
@@ -31,7 +7,7 @@ use Rattle.deck_plan.specs.declared.event.EventLine.TheVariants as wanted
 use Rattle.loss_model.specs.declared.Loss.TheVariants as losses
 use Rattle.plain_defs.specs.declared.journal.Act.{Act}
 use Rattle.plain_defs.specs.declared.journal.Act.TheVariants.{Loosen, Harden, CfwLost}
-use Rattle.plain_defs.specs.History.{History, IsPlain, acted, plain_of}
+use Rattle.plain_defs.specs.History.{IsPlain, acted, plain_of}
 use Rattle.plain_defs.specs.Legal.{AreActs}
 use Rattle.plain_defs.specs.Loose.{is_loose}
 use Rattle.plain_defs.specs.PlainState.{PlainState}
@@ -55,7 +31,7 @@ use Rattle.report_places.specs.declared.state.Due.TheVariants.{Next}
 use Rattle.deck_audit.specs.Device as A
 use Rattle.deck_audit.specs.Device.{AuditedDevice, state_of, with_device}
 use Rattle.deck_audit.specs.History.{act_made, harden_made}
-use Rattle.deck_audit.specs.State.{AuditState, outlines, passed, then_of}
+use Rattle.deck_audit.specs.State.{AuditState, passed, then_of}
 use Rattle.report_auditor.specs.declared.status.AuditWhy.TheVariants.{Place}
 use Rattle.report_auditor.specs.Verdict.{judged, or_history}
 use Rattle.run_report.specs.Answers.{order_answer}
@@ -65,7 +41,6 @@ use Rattle.run_report.specs.OneDevice.{lines_at}
 use Rattle.run_report.proofs.OneDevice.{tells_alone}
 use Rattle.subsystem_defs.specs.declared.end.EventEnd.{EventEnd}
 use Rattle.subsystem_defs.specs.declared.end.EventEnd.TheVariants as ends
-use Rattle.subsystem_defs.specs.declared.end.OrderFault.{OrderFault}
 use Rattle.subsystem_defs.specs.declared.end.OrderFault.TheVariants as faults
 use Rattle.subsystem_defs.specs.declared.event.Event.TheVariants as events
 use Rattle.subsystem_defs.specs.Deeds as E
@@ -81,7 +56,7 @@ use Rattle.subsystem_laws.proofs.PlainRuns.{ArePlain, Plainly}
 use Rattle.subsystem_laws.proofs.Walks.{AreSo, device_so}
 use Rattle.run_audit_laws.specs.Standing.{LeadsBy, audited, half_by, stand}
 use Rattle.run_audit_laws.specs.Steps.{NoLoss, act_line}
-use Rattle.run_audit_laws.proofs.ActLines.{AllSilent, Silent, acts_lines, acts_over, history_of}
+use Rattle.run_audit_laws.proofs.ActLines.{AllSilent, acts_lines, acts_over, history_of}
 use Rattle.run_audit_laws.proofs.FirmMarks.{firm_of}
 use Rattle.run_audit_laws.proofs.Found.{devices, found_one, mounted_too, put_at, put_same}
 use Rattle.run_audit_laws.proofs.Leading.{EventLeads, leads_on, one_leads, then_some}

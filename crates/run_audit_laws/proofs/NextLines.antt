@@ -1,6 +1,9 @@
 -- The first line of an event isn't of the work before it, so lines that lead on from where that work is known to be done do so from where it isn't.
-use Rattle.std.proofs.Common.{◌≡◌, ◌==◌, ◌++◌, ℕ, Bool, true, false, not, List, [], ◌∷◌, Option, Some, None, refl, sym, ap, subst, ◌∙◌, if◌then◌else◌}
-use Rattle.std.specs.Prelude.{◌||◌, ◌&&◌, Result, Ok, Err}
+use Rattle.std.proofs.Common.{◌≡◌, ◌==◌, ◌++◌, ℕ, Bool, true, false, not, List, [], ◌∷◌, arith, length, map, Option, Some, None, refl, sym, ap, subst, ◌∙◌, if◌then◌else◌}
+use Rattle.std.specs.Prelude.{◌||◌, ◌&&◌, Result, Ok, Err, nat_lt, option_map}
+use Rattle.std.proofs.lemmas.Bool.{eqb-true}
+use Rattle.std.proofs.lemmas.Bool.Decides.{nat_tests}
+use Rattle.ckd_types.specs.declared.paths.Side.{Side}
 use Rattle.deck_plan.specs.declared.event.EventLine.{EventLine}
 use Rattle.deck_plan.specs.declared.event.EventLine.TheVariants as events
 use Rattle.report_text.specs.declared.answers.LooseAnswer.{LooseAnswer}
@@ -9,56 +12,36 @@ use Rattle.report_text.specs.declared.line.ReportLine.{ReportLine}
 use Rattle.report_text.specs.declared.line.ReportLine.TheVariants as lines
 use Rattle.report_text.specs.declared.order.Order.{Order}
 use Rattle.report_text.specs.declared.order.Order.TheVariants as orders
-use Rattle.report_places.specs.declared.state.Did.{Did}
-use Rattle.report_places.specs.declared.state.Due.{Due}
 use Rattle.report_places.specs.declared.state.Due.TheVariants.{Next, Behind, Nothing}
 use Rattle.report_places.specs.declared.state.HalfWrite.{HalfWrite}
 use Rattle.report_places.specs.declared.state.HalfWrite.TheVariants as half
 use Rattle.report_places.specs.declared.state.OpenProgram.{OpenProgram}
 use Rattle.report_places.specs.declared.state.Outline.{Outline}
-use Rattle.report_places.specs.Place.{
-  holds,
-  in_event,
-  in_next,
-  in_power,
-  in_power_of,
-  in_steps,
-  in_totals_of,
-  is_act_of,
-  is_back_line,
-  is_cut,
-  is_end,
-  is_half,
-  is_harden,
-  is_io,
-  is_loss,
-  is_loss_of,
-  is_of_work,
-  is_order,
-  is_power_done,
-  is_reset,
-  is_second_line,
-  is_start,
-  may_back,
-  may_reset,
-  may_step,
-  outline_in,
-  second_of,
-}
+use Rattle.report_places.specs.Place.{holds, in_event, in_next, in_power, in_power_of, in_steps, is_act_of, is_back_line, is_cut, is_end, is_half, is_harden, is_io, is_loss, is_loss_of, is_of_work, is_order, is_power_done, is_reset, is_second_line, is_start, may_back, may_reset, may_step, outline_in, second_of}
 use Rattle.report_places.specs.Same.{says}
-use Rattle.deck_audit.specs.State.{AuditState, outlines, settled, worker_number}
+use Rattle.plain_defs.specs.declared.journal.Act.TheVariants.{Harden}
+use Rattle.plain_defs.specs.PlainState.{LooseTrack}
+use Rattle.plain_defs.specs.Loose.{is_loose_in}
+use Rattle.deck_audit.specs.Device as A
+use Rattle.deck_audit.specs.Device.{AuditedDevice, state_of}
+use Rattle.deck_audit.specs.History.{act_made, event_made, harden_made, next_made}
+use Rattle.deck_audit.specs.State.{AuditState, outlines, then_of, worker_number}
+use Rattle.device_defs.specs.Marks.{MarksDevice}
 use Rattle.report_auditor.specs.declared.status.AuditWhy.{AuditWhy}
-use Rattle.report_auditor.specs.declared.status.AuditWhy.TheVariants.{Place}
-use Rattle.report_auditor.specs.Verdict.{judged}
-use Rattle.subsystem_defs.specs.Subsystem.{Subsystem}
-use Rattle.run_audit_laws.specs.Runs.{MayFollow}
-use Rattle.run_audit_laws.specs.Standing.{LeadsBy, stand}
+use Rattle.report_auditor.specs.declared.status.AuditWhy.TheVariants.{History, Place}
+use Rattle.report_auditor.specs.Verdict.{or_history}
+use Rattle.subsystem_defs.specs.Deeds.{device_in}
+use Rattle.subsystem_defs.specs.Subsystem.{Subsystem, devices_of}
+use Rattle.run_audit_laws.specs.Runs.{HasNoneLoose, MayFollow}
+use Rattle.run_audit_laws.specs.Standing.{LeadsBy, audited, stand}
 use Rattle.run_audit_laws.specs.Steps.{LeadsTowards, Reaches, is_there, is_waiting}
+use Rattle.run_audit_laws.proofs.Found.{found}
 use Rattle.run_audit_laws.proofs.Leading.{leads_on, waiting_leads}
 
 -- an event line that isn't a volume's failure
-abbrev pub IsCalm : EventLine → Type 0
-IsCalm e = MayFollow true e
+abbrev IsCalm : EventLine → Type 0
+IsCalm (events.FailVolume d side) = ⊥
+IsCalm e = Unit {0}
 
 -- A line that begins no event
 
@@ -221,89 +204,195 @@ of_none : (line : ReportLine) → is_io line ≡ false → ((d : ℕ) → is_act
 of_none line no_io act more None = ap (λ (b : Bool). b || false) no_io
 of_none line no_io act more (Some d) = ap (λ (b : Bool). b || is_act_of more d line) no_io ∙ no_act more d line (act d)
 
--- the event lines that are left begin with no failure of a volume
-abbrev pub BeginCalm : List EventLine → Type 0
-BeginCalm [] = Unit {0}
-BeginCalm (e ∷ later) = IsCalm e
+-- the first event line that is left may follow a piece of work of this device
+abbrev pub BeginMay : Option ℕ → Subsystem → List EventLine → Type 0
+BeginMay w s [] = Unit {0}
+BeginMay w s (e ∷ later) = MayFollow w s e
 
-module _ (s : List Outline) (later : List EventLine) (calm : BeginCalm later) (more : Bool) (w : Option ℕ) where
-  next_begins_none : (line : ReportLine) → BeginsNothing line → (l : List EventLine) → BeginCalm l → in_next s line l ≡ false
-  next_begins_none line b [] c = b.totals s
-  next_begins_none line b (e ∷ l) c = begins_none line b s e c
+-- a track becomes firm only where it is loose
 
-  refuted : (line : ReportLine) → BeginsNothing line → in_next s line later ≡ true → is_of_work more w line ≡ false
-  refuted line b is = absurd (let both : true ≡ false = sym is ∙ next_begins_none line b later calm in cc)
+none_in : (l : List LooseTrack) (t : ℕ) → nat_lt 0 (length l) ≡ false → is_loose_in l t ≡ false
+none_in [] t none = refl
+none_in (x ∷ l) t none = absurd (let some : nat_lt 0 (length (x ∷ l)) ≡ true = grind (arith, nat_tests) in cc)
 
-  loose_by : (n : ℕ) (a : LooseAnswer) → in_next s (lines.Loose n a) later ≡ true → is_of_work more w (lines.Loose n a) ≡ false
-  loose_by n (loose.Harden t) is = refuted (lines.Loose n (loose.Harden t)) (harden_begins_none n t) is
-  loose_by n (loose.Loosen t) is = refuted (lines.Loose n (loose.Loosen t)) (loosen_begins_none n t) is
-  loose_by n (loose.Lost count id) is = of_none (lines.Loose n (loose.Lost count id)) refl (λ d. refl) more w
+module _ (s : Subsystem) (later : List EventLine) (n t : ℕ) (v : AuditState) (none : HasNoneLoose s n)
+    (made : or_history (then_of (A.device_in (map audited (devices_of s)) n) (λ a. harden_made (stand s later) a t Next)) ≡ Ok v) where
+  abbrev makes : Option AuditedDevice → Result AuditState AuditWhy
+  makes o = or_history (then_of o (λ a. harden_made (stand s later) a t Next))
 
-  -- a line that may come next is none of the work before
-  pub next_is_other : (line : ReportLine) → in_next s line later ≡ true → is_of_work more w line ≡ false
-  next_is_other (lines.Loose n a) is = loose_by n a is
-  next_is_other (lines.Io reads writes) is = refuted (lines.Io reads writes) (io_begins_none reads writes) is
-  next_is_other (lines.Start path d a) is = of_none (lines.Start path d a) refl (λ k. refl) more w
-  next_is_other (lines.End e) is = of_none (lines.End e) refl (λ k. refl) more w
-  next_is_other (lines.Data bytes) is = of_none (lines.Data bytes) refl (λ k. refl) more w
-  next_is_other (lines.Sense sense) is = of_none (lines.Sense sense) refl (λ k. refl) more w
-  next_is_other (lines.Half path d t) is = of_none (lines.Half path d t) refl (λ k. refl) more w
-  next_is_other (lines.Back d a) is = of_none (lines.Back d a) refl (λ k. refl) more w
-  next_is_other (lines.StepIdle d) is = of_none (lines.StepIdle d) refl (λ k. refl) more w
-  next_is_other (lines.RunIdle d) is = of_none (lines.RunIdle d) refl (λ k. refl) more w
-  next_is_other (lines.Over path d n how) is = of_none (lines.Over path d n how) refl (λ k. refl) more w
-  next_is_other (lines.Reset path d) is = of_none (lines.Reset path d) refl (λ k. refl) more w
-  next_is_other (lines.Order o a) is = of_none (lines.Order o a) refl (λ k. refl) more w
-  next_is_other (lines.Device d t) is = of_none (lines.Device d t) refl (λ k. refl) more w
-  next_is_other (lines.Lost d t) is = of_none (lines.Lost d t) refl (λ k. refl) more w
-  next_is_other (lines.Frame d t m) is = of_none (lines.Frame d t m) refl (λ k. refl) more w
-  next_is_other (lines.Fresh d) is = of_none (lines.Fresh d) refl (λ k. refl) more w
-  next_is_other (lines.Left path d n) is = of_none (lines.Left path d n) refl (λ k. refl) more w
-  next_is_other (lines.Unused n) is = of_none (lines.Unused n) refl (λ k. refl) more w
-  next_is_other lines.Finish is = of_none lines.Finish refl (λ k. refl) more w
-  next_is_other (lines.Sum of n) is = of_none (lines.Sum of n) refl (λ k. refl) more w
+  by_device : (o : Option MarksDevice) → device_in (devices_of s) n ≡ o → makes (option_map audited o) ≡ Ok v → ⊥
+  by_device None at is = let never : Err History ≡ Ok v = is in cc
+  by_device (Some x) at is =
+      let firm = none_in (state_of (audited x)).loose t (none x at) in
+      let never : Err History ≡ Ok v =
+      sym (ap (λ (b : Bool). or_history (if b then Some (act_made (stand s later) (audited x) (Harden t) Next) else None)) firm) ∙ is in cc
+
+  never_firm : ⊥
+  never_firm = by_device (device_in (devices_of s) n) refl (sym (ap makes (found (devices_of s) n)) ∙ made)
+
+module _ (at : Subsystem) (later : List EventLine) (more : Bool) (w : Option ℕ) (may : BeginMay w at later) where
+  abbrev s : List Outline
+  s = outlines (stand at later)
+
+  never : (line : ReportLine) → BeginsNothing line → (e : EventLine) → IsCalm e → in_event (outlines (stand at later)) line e ≡ true →
+      is_of_work more w line ≡ false
+  never line b e calm is = absurd (let both : true ≡ false = sym is ∙ begins_none line b s e calm in cc)
+
+  -- where the line isn't of a volume's failure, or is none of the work then
+  refuted_by : (line : ReportLine) → BeginsNothing line → (e : EventLine) →
+      ((d : ℕ) (side : Side) → e ≡ events.FailVolume d side → is_of_work more w line ≡ false) → in_event (outlines (stand at later)) line e ≡ true →
+      is_of_work more w line ≡ false
+  refuted_by line b (events.FailVolume d side) aside is = aside d side refl
+  refuted_by line b (events.Start path d) aside is = never line b (events.Start path d) tt is
+  refuted_by line b (events.Step d) aside is = never line b (events.Step d) tt is
+  refuted_by line b (events.Run d) aside is = never line b (events.Run d) tt is
+  refuted_by line b (events.Back d) aside is = never line b (events.Back d) tt is
+  refuted_by line b (events.Settle d) aside is = never line b (events.Settle d) tt is
+  refuted_by line b (events.Reset path d) aside is = never line b (events.Reset path d) tt is
+  refuted_by line b events.FailCache aside is = never line b events.FailCache tt is
+  refuted_by line b events.FailStore aside is = never line b events.FailStore tt is
+  refuted_by line b events.RepairCache aside is = never line b events.RepairCache tt is
+  refuted_by line b events.RepairStore aside is = never line b events.RepairStore tt is
+  refuted_by line b (events.Replace d side) aside is = never line b (events.Replace d side) tt is
+  refuted_by line b (events.Pair x y) aside is = never line b (events.Pair x y) tt is
+  refuted_by line b (events.Unpair x) aside is = never line b (events.Unpair x) tt is
+  refuted_by line b (events.Suspend x) aside is = never line b (events.Suspend x) tt is
+  refuted_by line b (events.Resume x) aside is = never line b (events.Resume x) tt is
+  refuted_by line b events.Power aside is = never line b events.Power tt is
+
+  -- a line that makes no track firm
+  refuted_in : (line : ReportLine) → BeginsNothing line → ((d : ℕ) → is_harden d line ≡ false) → (l : List EventLine) →
+      in_next (outlines (stand at later)) line l ≡ true → is_of_work more w line ≡ false
+  refuted_in line b firm [] is = absurd (let both : true ≡ false = sym is ∙ b.totals s in cc)
+  refuted_in line b firm (e ∷ l) is =
+      refuted_by line b e (λ d side same. absurd (let both : true ≡ false =
+      sym is ∙ ap (in_event s line) same
+      ∙ neither (is_harden d line) (is_order (orders.FailVolume d side) line) (firm d) (b.orders_are (orders.FailVolume d side)) in cc)) is
+
+  refuted : (line : ReportLine) → BeginsNothing line → ((d : ℕ) → is_harden d line ≡ false) → in_next (outlines (stand at later)) line later ≡ true →
+      is_of_work more w line ≡ false
+  refuted line b firm is = refuted_in line b firm later is
+
+  -- one that does so for a volume's failure
+  module _ (n t : ℕ) (v : AuditState) where
+    abbrev Makes : EventLine → Type 0
+    Makes e = or_history (event_made (stand at later) (lines.Loose n (loose.Harden t)) e) ≡ Ok v
+
+    only_first : (b : Bool) → (b || false) ≡ true → b ≡ true
+    only_first true so = refl
+    only_first false so = so
+
+    other_number : (x d : ℕ) (side : Side) → MayFollow (Some x) at (events.FailVolume d side) → ((n == d) || false) ≡ true →
+        Makes (events.FailVolume d side) → (m : Bool) → is_act_of m x (lines.Loose n (loose.Harden t)) ≡ false
+    other_number x d side follows is made false = refl
+    other_number x d side follows is made true = by_same (n == x) refl where
+      by_same : (b : Bool) → (n == x) ≡ b → b ≡ false
+      by_same false so = refl
+      by_same true so =
+          let to = eqb-true n d (only_first (n == d) is) in
+          absurd (never_firm at later n t v (subst (HasNoneLoose at) (sym to) (follows (sym (eqb-true n x so) ∙ to))) made)
+
+    aside_by : (k : Option ℕ) (d : ℕ) (side : Side) → MayFollow k at (events.FailVolume d side) → ((n == d) || false) ≡ true →
+        Makes (events.FailVolume d side) → is_of_work more k (lines.Loose n (loose.Harden t)) ≡ false
+    aside_by None d side follows is made = refl
+    aside_by (Some x) d side follows is made = other_number x d side follows is made more
+
+    harden_in : (l : List EventLine) → BeginMay w at l → in_next (outlines (stand at later)) (lines.Loose n (loose.Harden t)) l ≡ true →
+        or_history (next_made (stand at later) (lines.Loose n (loose.Harden t)) l) ≡ Ok v → is_of_work more w (lines.Loose n (loose.Harden t)) ≡ false
+    harden_in [] follows is made =
+        absurd (let both : true ≡ false = sym is ∙ (harden_begins_none n t).totals s in cc)
+    harden_in (e ∷ l) follows is made =
+        refuted_by (lines.Loose n (loose.Harden t)) (harden_begins_none n t) e (λ d side same.
+        aside_by w d side (subst (MayFollow w at) same follows)
+        (subst (λ (x : EventLine). in_event s (lines.Loose n (loose.Harden t)) x ≡ true) same is) (subst Makes same made)) is
+
+  loose_by : (n : ℕ) (a : LooseAnswer) (v : AuditState) → in_next (outlines (stand at later)) (lines.Loose n a) later ≡ true →
+      or_history (next_made (stand at later) (lines.Loose n a) later) ≡ Ok v → is_of_work more w (lines.Loose n a) ≡ false
+  loose_by n (loose.Harden t) v is made = harden_in n t v later may is made
+  loose_by n (loose.Loosen t) v is made = refuted (lines.Loose n (loose.Loosen t)) (loosen_begins_none n t) (λ d. refl) is
+  loose_by n (loose.Lost count id) v is made = of_none (lines.Loose n (loose.Lost count id)) refl (λ d. refl) more w
+
+  -- a line that comes next is none of the work before
+  next_is_other : (line : ReportLine) (v : AuditState) → in_next (outlines (stand at later)) line later ≡ true →
+      or_history (next_made (stand at later) line later) ≡ Ok v → is_of_work more w line ≡ false
+  next_is_other (lines.Loose n a) v is made = loose_by n a v is made
+  next_is_other (lines.Io reads writes) v is made = refuted (lines.Io reads writes) (io_begins_none reads writes) (λ d. refl) is
+  next_is_other (lines.Start path d a) v is made = of_none (lines.Start path d a) refl (λ k. refl) more w
+  next_is_other (lines.End e) v is made = of_none (lines.End e) refl (λ k. refl) more w
+  next_is_other (lines.Data bytes) v is made = of_none (lines.Data bytes) refl (λ k. refl) more w
+  next_is_other (lines.Sense sense) v is made = of_none (lines.Sense sense) refl (λ k. refl) more w
+  next_is_other (lines.Half path d t) v is made = of_none (lines.Half path d t) refl (λ k. refl) more w
+  next_is_other (lines.Back d a) v is made = of_none (lines.Back d a) refl (λ k. refl) more w
+  next_is_other (lines.StepIdle d) v is made = of_none (lines.StepIdle d) refl (λ k. refl) more w
+  next_is_other (lines.RunIdle d) v is made = of_none (lines.RunIdle d) refl (λ k. refl) more w
+  next_is_other (lines.Over path d n how) v is made = of_none (lines.Over path d n how) refl (λ k. refl) more w
+  next_is_other (lines.Reset path d) v is made = of_none (lines.Reset path d) refl (λ k. refl) more w
+  next_is_other (lines.Order o a) v is made = of_none (lines.Order o a) refl (λ k. refl) more w
+  next_is_other (lines.Device d t) v is made = of_none (lines.Device d t) refl (λ k. refl) more w
+  next_is_other (lines.Lost d t) v is made = of_none (lines.Lost d t) refl (λ k. refl) more w
+  next_is_other (lines.Frame d t m) v is made = of_none (lines.Frame d t m) refl (λ k. refl) more w
+  next_is_other (lines.Fresh d) v is made = of_none (lines.Fresh d) refl (λ k. refl) more w
+  next_is_other (lines.Left path d n) v is made = of_none (lines.Left path d n) refl (λ k. refl) more w
+  next_is_other (lines.Unused n) v is made = of_none (lines.Unused n) refl (λ k. refl) more w
+  next_is_other lines.Finish v is made = of_none lines.Finish refl (λ k. refl) more w
+  next_is_other (lines.Sum of n) v is made = of_none (lines.Sum of n) refl (λ k. refl) more w
 
 -- From where a piece of work is known to be done at the next line
 
-may_stand : (b : Bool) (r : Result AuditState AuditWhy) (u : AuditState) → (if b then r else Err Place) ≡ Ok u → b ≡ true
-may_stand true r u is = refl
-may_stand false r u is = absurd (cc)
+stands_so : (b : Bool) (r : Result AuditState AuditWhy) (u : AuditState) → (if b then r else Err Place) ≡ Ok u → (b ≡ true) × (r ≡ Ok u)
+stands_so true r u is = (refl, is)
+stands_so false r u is = absurd (cc)
 
-module _ (s : Subsystem) (later : List EventLine) (calm : BeginCalm later) where
-  pub leads_from : (u : AuditState) → Reaches u (stand s later) → (line : ReportLine) (lines : List ReportLine) (t : AuditState) →
+module _ (s : Subsystem) (later : List EventLine) (n : Option ℕ) (may : BeginMay n s later) where
+  pub leads_from : (u : AuditState) → Reaches n u (stand s later) → (line : ReportLine) (lines : List ReportLine) (t : AuditState) →
       LeadsBy (stand s later) (line ∷ lines) t → LeadsBy u (line ∷ lines) t
   leads_from u (is_there same) line lines t leads = subst (λ (z : AuditState). LeadsBy z (line ∷ lines) t) (sym same) leads
-  leads_from u (is_waiting more did is legal same) line lines t leads =
+  leads_from u (is_waiting more did is works legal same) line lines t leads =
+      let z = stand s later in
+      let so = stands_so (in_next (outlines z) line later) (or_history (next_made z line later)) leads.0 leads.1 in
       waiting_leads u t line lines more did is
-      (next_is_other (outlines (stand s later)) later calm more (worker_number u) line
-      (may_stand (in_next (outlines (stand s later)) line later) _ leads.0 leads.1))
+      (ap (λ (k : Option ℕ). is_of_work more k line) works ∙ next_is_other s later more n may line leads.0 so.0 so.1)
       legal (ap (λ (z : AuditState). z.due) same)
       (subst (λ (z : AuditState). LeadsBy z (line ∷ lines) t) (sym same) leads)
 
-  pub towards_from : (u : AuditState) → Reaches u (stand s later) → (ls : List ReportLine) (t : AuditState) →
-      LeadsTowards (stand s later) ls t → LeadsTowards u ls t
+  -- lines of the same device's work
+  pub towards_from : (u : AuditState) → Reaches n u (stand s later) → (ls : List ReportLine) (t : AuditState) →
+      (leads : (v : AuditState) × LeadsBy (stand s later) ls v × Reaches n v t) → (v : AuditState) × LeadsBy u ls v × Reaches n v t
   towards_from u reaches [] t leads = (u, refl, by_way leads.2) where
-    by_way : Reaches leads.0 t → Reaches u t
-    by_way (is_there same) = subst (λ (z : AuditState). Reaches u z) (sym leads.1 ∙ same) reaches
-    by_way (is_waiting more did is legal same) =
+    by_way : Reaches n leads.0 t → Reaches n u t
+    by_way (is_there same) = subst (λ (z : AuditState). Reaches n u z) (sym leads.1 ∙ same) reaches
+    by_way (is_waiting more did is works legal same) =
         absurd (let none : Next ≡ Behind more did = ap (λ (z : AuditState). z.due) (sym leads.1) ∙ is in cc)
   towards_from u reaches (line ∷ ls) t leads = (leads.0, leads_from u reaches line ls leads.0 leads.1, leads.2)
 
   -- to the end
-  pub to_the_end : (u : AuditState) → Reaches u (stand s later) → (ls : List ReportLine) (t : AuditState) → t.due ≡ Nothing →
+  pub to_the_end : (u : AuditState) → Reaches n u (stand s later) → (ls : List ReportLine) (t : AuditState) → t.due ≡ Nothing →
       LeadsBy (stand s later) ls t → LeadsBy u ls t
   to_the_end u reaches [] t done leads =
       absurd (let none : Nothing ≡ Next = sym done ∙ ap (λ (z : AuditState). z.due) leads in cc)
   to_the_end u reaches (line ∷ ls) t done leads = leads_from u reaches line ls t leads
 
   -- to where other events are left
-  pub exactly_from : (u : AuditState) → Reaches u (stand s later) → (z : Subsystem) (rest : List EventLine) → (later ≡ rest → ⊥) → (ls : List ReportLine) →
+  pub exactly_from : (u : AuditState) → Reaches n u (stand s later) → (z : Subsystem) (rest : List EventLine) → (later ≡ rest → ⊥) → (ls : List ReportLine) →
       LeadsBy (stand s later) ls (stand z rest) → LeadsBy u ls (stand z rest)
   exactly_from u reaches z rest other [] leads = absurd (other (ap (λ (k : AuditState). k.events) (sym leads)))
   exactly_from u reaches z rest other (line ∷ ls) leads = leads_from u reaches line ls (stand z rest) leads
 
+  -- or towards there
+  pub towards_other : (u : AuditState) → Reaches n u (stand s later) → (z : Subsystem) (rest : List EventLine) → (later ≡ rest → ⊥) → (ls : List ReportLine) →
+      (k : Option ℕ) → (leads : (v : AuditState) × LeadsBy (stand s later) ls v × Reaches k v (stand z rest)) →
+      (v : AuditState) × LeadsBy u ls v × Reaches k v (stand z rest)
+  towards_other u reaches z rest other [] k leads = absurd (by_way leads.2) where
+    by_way : Reaches k leads.0 (stand z rest) → ⊥
+    by_way (is_there same) = other (ap (λ (y : AuditState). y.events) (sym leads.1 ∙ same))
+    by_way (is_waiting more did is works legal same) =
+        let none : Next ≡ Behind more did = ap (λ (y : AuditState). y.due) (sym leads.1) ∙ is in cc
+  towards_other u reaches z rest other (line ∷ ls) k leads = (leads.0, leads_from u reaches line ls leads.0 leads.1, leads.2)
+
   -- lines lead on behind others
-  pub towards_then : (z t : AuditState) (xs ys : List ReportLine) → LeadsTowards z xs (stand s later) → LeadsTowards (stand s later) ys t →
-      LeadsTowards z (xs ++ ys) t
-  towards_then z t xs ys first rest =
-      let more = towards_from first.0 first.2 ys t rest in (more.0, leads_on z first.0 more.0 xs ys first.1 more.1, more.2)
+  pub towards_then : (z t : AuditState) (xs ys : List ReportLine) → worker_number z ≡ n → worker_number (stand s later) ≡ n →
+      LeadsTowards z xs (stand s later) → LeadsTowards (stand s later) ys t → LeadsTowards z (xs ++ ys) t
+  towards_then z t xs ys one two first rest =
+      let from = subst (λ (k : Option ℕ). Reaches k first.0 (stand s later)) one first.2 in
+      let more = towards_from first.0 from ys t (rest.0, rest.1, subst (λ (k : Option ℕ). Reaches k rest.0 t) two rest.2) in
+      (more.0, leads_on z first.0 more.0 xs ys first.1 more.1, subst (λ (k : Option ℕ). Reaches k more.0 t) (sym one) more.2)

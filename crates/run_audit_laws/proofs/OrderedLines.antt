@@ -1,14 +1,12 @@
 -- An event line at which something is lost, or two devices become a pair or part, behind the run of a deck.
-use Rattle.std.proofs.Common.{◌≡◌, ◌≤◌, ℕ, List, [], ◌∷◌, map, Option, Some, None, refl, sym, subst, ◌∙◌, arith}
+use Rattle.std.proofs.Common.{◌≡◌, ◌≤◌, ℕ, List, [], ◌∷◌, Option, Some, None, refl, arith}
 use Rattle.std.specs.Prelude.{Ok}
 use Rattle.deck_plan.specs.declared.event.EventLine.{EventLine}
 use Rattle.deck_plan.specs.declared.event.EventLine.TheVariants as wanted
 use Rattle.deck_text.specs.DeckLines.{DeckLines}
 use Rattle.deck_text.specs.Parse.{parsed}
-use Rattle.device_defs.specs.Marks.{MarksDevice}
 use Rattle.subsystem_defs.specs.declared.end.OrderFault.{OrderFault}
 use Rattle.subsystem_defs.specs.declared.event.Event.TheVariants as events
-use Rattle.subsystem_defs.specs.Decks as D
 use Rattle.subsystem_defs.specs.Decks.{opened, run_of}
 use Rattle.subsystem_defs.specs.Deeds.{device_in}
 use Rattle.subsystem_defs.specs.Happening as H
@@ -17,23 +15,16 @@ use Rattle.subsystem_defs.specs.Lines as L
 use Rattle.subsystem_defs.specs.Lines.{Unpair, asked_by, last_behind, line_logged, logged}
 use Rattle.subsystem_defs.specs.Refusals.{unpair_fault}
 use Rattle.subsystem_defs.specs.Subsystem.{Mounted, Subsystem, devices_of, mounted_in, unfailing}
-use Rattle.subsystem_laws.specs.Served.{IsServedDeck}
-use Rattle.subsystem_laws.proofs.GoodMarks.{Good, good_kept, opened_good}
-use Rattle.subsystem_laws.proofs.PlainRuns.{ArePlain, plain_behind}
-use Rattle.subsystem_laws.proofs.ReadDecks.{read_served}
-use Rattle.subsystem_laws.proofs.RunLines.{AnyEvent, all_asked}
-use Rattle.subsystem_laws.proofs.Walks.{AreSo, lines_end_so}
 use Rattle.run_audit_laws.specs.Ordered.{AllLead, IsLossOrPair, IsNoWork}
 use Rattle.run_audit_laws.specs.Standing.{HasDevice, LineLeads}
 use Rattle.run_audit_laws.proofs.Behind.{AllSo, IsBehind, deck_all_so, rising, run_is_behind}
 use Rattle.run_audit_laws.proofs.CacheLines.{fail_cache_leads}
-use Rattle.run_audit_laws.proofs.DeckNumbers.{RisesFrom, read_rises}
 use Rattle.run_audit_laws.proofs.DeckEvents.{OfNamed}
 use Rattle.run_audit_laws.proofs.LossLines.{fail_store_leads, fail_volume_leads}
 use Rattle.run_audit_laws.proofs.PairLines.{pair_leads, unpair_leads}
 use Rattle.run_audit_laws.proofs.PowerLines.{power_leads}
 use Rattle.run_audit_laws.proofs.StillLines.{once, one_line, some_device, still_leads}
-use Rattle.run_audit_laws.proofs.Ties.{Tied, numbers_in, pair_count, pair_most, lent_count, tied_behind, ties}
+use Rattle.run_audit_laws.proofs.Ties.{numbers_in, pair_most, lent_count, ties}
 
 unpair_logged : (s : Subsystem) (a : ℕ) → line_logged s (Unpair a) ≡ logged (Unpair a) (unpaired s a unfailing) ∷ []
 unfolding L.line_logged

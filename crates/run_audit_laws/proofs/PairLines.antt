@@ -1,39 +1,12 @@
 -- PAIR and UNPAIR: a device is lent, or comes back empty.
-use Rattle.std.proofs.Common.{
-  ◌≡◌,
-  ◌≤◌,
-  ◌+◌,
-  ◌==◌,
-  ◌++◌,
-  ℕ,
-  Bool,
-  true,
-  false,
-  List,
-  [],
-  ◌∷◌,
-  map,
-  Option,
-  Some,
-  None,
-  refl,
-  sym,
-  ap,
-  subst,
-  ◌∙◌,
-  if◌then◌else◌,
-  arith,
-  inl,
-  inr,
-}
+use Rattle.std.proofs.Common.{◌≡◌, ◌≤◌, ◌==◌, ◌++◌, ℕ, Bool, true, false, List, [], ◌∷◌, map, Option, Some, None, refl, sym, ap, subst, ◌∙◌, if◌then◌else◌, arith, inl, inr}
 use Rattle.std.specs.Prelude.{◌&&◌, ◌||◌}
 use Rattle.std.specs.List.{list_any}
-use Rattle.deck_plan.specs.declared.event.EventLine.{EventLine}
 use Rattle.deck_plan.specs.declared.event.EventLine.TheVariants as wanted
 use Rattle.device_outside.specs.Told.{Calls}
 use Rattle.plain_defs.specs.History.{History, OpenEntry, emptied}
 use Rattle.plain_defs.specs.Journal.{Plans}
-use Rattle.plain_defs.specs.PlainState.{PlainState, empty_state}
+use Rattle.plain_defs.specs.PlainState.{empty_state}
 use Rattle.ckd_types.specs.declared.geometry.Geometry.{Geometry}
 use Rattle.device_defs.specs.Contents.{by_plain}
 use Rattle.device_defs.specs.Marks.{MarksDevice}
@@ -51,8 +24,8 @@ use Rattle.deck_audit.specs.Device as A
 use Rattle.deck_audit.specs.Device.{AuditedDevice, runs, with_device}
 use Rattle.deck_audit.specs.History as M
 use Rattle.deck_audit.specs.History.{event_made, given_back, runs_lent}
-use Rattle.deck_audit.specs.State.{AuditState, passed, then_of}
-use Rattle.run_report.specs.Beside.{loose_lines, of_each, over_lines}
+use Rattle.deck_audit.specs.State.{passed, then_of}
+use Rattle.run_report.specs.Beside.{of_each, over_lines}
 use Rattle.run_report.specs.Events.{work_lines}
 use Rattle.subsystem_defs.specs.declared.end.EventEnd.TheVariants as ends
 use Rattle.subsystem_defs.specs.declared.end.OrderFault.{OrderFault}
@@ -83,8 +56,8 @@ use Rattle.subsystem_defs.specs.Subsystem.{Mounted, Subsystem, devices_of, mount
 use Rattle.subsystem_laws.proofs.FoundDevices.{number_found}
 use Rattle.subsystem_laws.proofs.PlainRuns.{ArePlain}
 use Rattle.subsystem_laws.proofs.Walks.{mounted_number}
-use Rattle.run_audit_laws.specs.Standing.{LeadsBy, audited, stand}
-use Rattle.run_audit_laws.proofs.ActLines.{AllSilent, Silent, all_same, history_of, nothing_loose, nothing_over}
+use Rattle.run_audit_laws.specs.Standing.{audited, stand}
+use Rattle.run_audit_laws.proofs.ActLines.{AllSilent, all_same, history_of, nothing_loose, nothing_over}
 use Rattle.run_audit_laws.proofs.Found.{devices, found_one, mounted_too, put_at, put_same}
 use Rattle.run_audit_laws.proofs.Leading.{EventLeads, then_some}
 use Rattle.run_audit_laws.proofs.LentDevices.{IsLent, lend_makes}

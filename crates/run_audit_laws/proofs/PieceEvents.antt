@@ -1,6 +1,6 @@
 -- An event of a run that is a piece of work leads the audit on.
-use Rattle.std.proofs.Common.{◌≡◌, ◌==◌, ◌++◌, ℕ, Bool, true, false, not, List, [], ◌∷◌, map, Option, Some, None, refl, sym, ap, subst, ◌∙◌, if◌then◌else◌}
-use Rattle.std.specs.Prelude.{◌||◌, ◌&&◌, is_some, option_map, IfSome}
+use Rattle.std.proofs.Common.{◌≡◌, ◌==◌, ℕ, Bool, true, false, not, List, [], ◌∷◌, map, Option, Some, None, refl, sym, ap, subst, ◌∙◌, if◌then◌else◌}
+use Rattle.std.specs.Prelude.{◌||◌, ◌&&◌, is_some, option_map}
 use Rattle.std.proofs.lemmas.Bool.{eq-eqb}
 use Rattle.deck_plan.specs.declared.event.EventLine.{EventLine}
 use Rattle.deck_plan.specs.declared.event.EventLine.TheVariants as wanted
@@ -18,18 +18,16 @@ use Rattle.report_text.specs.declared.event.Happened.{Happened}
 use Rattle.report_text.specs.declared.event.Happened.TheVariants as did
 use Rattle.report_text.specs.declared.line.ReportLine.{ReportLine}
 use Rattle.report_text.specs.declared.line.ReportLine.TheVariants as lines
-use Rattle.report_text.specs.Events.{first_lines, last_line, line_if}
 use Rattle.report_places.specs.declared.state.Due.TheVariants.{Next}
 use Rattle.report_places.specs.declared.state.HalfWrite.{HalfWrite}
 use Rattle.report_places.specs.declared.state.HalfWrite.TheVariants as half
 use Rattle.report_places.specs.declared.state.Outline.{Outline}
 use Rattle.report_places.specs.Same.{says}
 use Rattle.report_places.specs.Place.{holds, in_event, in_steps, may_step}
-use Rattle.deck_audit.specs.Device.{AuditedDevice, is_closed, is_idle, open_program, outline_of, runs, with_device}
+use Rattle.deck_audit.specs.Device.{AuditedDevice, is_closed, is_idle, open_program, outline_of, runs}
 use Rattle.deck_audit.specs.History.{work_made}
 use Rattle.deck_audit.specs.State.{AuditState, passed}
 use Rattle.report_auditor.specs.Verdict.{or_history}
-use Rattle.run_report.specs.declared.told.RunningProgram.{RunningProgram}
 use Rattle.run_report.specs.Events.{event_lines, running_by, running_in, running_program, work_lines, work_told}
 use Rattle.run_report.specs.OneDevice.{device_lines, lines_at}
 use Rattle.run_report.proofs.OneDevice.{tells_alone}
@@ -42,17 +40,15 @@ use Rattle.subsystem_defs.specs.Happening as H
 use Rattle.subsystem_defs.specs.Happening.{Happened as Happening, MarksDeed, Talk, asks, happens, happens_by, held_with, mounted_behind, quietly, told_end, told_to}
 use Rattle.subsystem_defs.specs.Lines.{Asked, Once, Run, Settle, is_busy, is_settled}
 use Rattle.subsystem_defs.specs.Subsystem.{Mounted, Subsystem, devices_of, mounted_in, number_of, put_in, with_mounted}
-use Rattle.subsystem_laws.proofs.FoundDevices.{number_found}
 use Rattle.subsystem_laws.proofs.GoodMarks.{Good, by_lent}
-use Rattle.subsystem_laws.proofs.PlainRuns.{ArePlain, Plainly}
-use Rattle.subsystem_laws.proofs.Walks.{device_so}
+use Rattle.subsystem_laws.proofs.PlainRuns.{Plainly}
 use Rattle.run_audit_laws.specs.Standing.{LeadsBy, audited, half_by, half_of, stand}
 use Rattle.run_audit_laws.specs.Steps.{LeadsTowards, is_there}
 use Rattle.run_audit_laws.proofs.Found.{found_one, mounted_too, outline_one, put_at}
 use Rattle.run_audit_laws.proofs.Leading.{one_leads, quiet_lines}
 use Rattle.run_audit_laws.proofs.Pieces.{ComesTo, IsBack, backs_lead, command_leads, second_leads}
 use Rattle.run_audit_laws.proofs.Saying.{same_number}
-use Rattle.run_audit_laws.proofs.WorkEnds.{IsWork, MayEnd, behind_piece, first_judged, left_by, of_back, of_run, of_settle, of_step, run_ends, step_ends}
+use Rattle.run_audit_laws.proofs.WorkEnds.{IsWork, MayEnd, first_judged, left_by, of_back, of_run, of_settle, of_step, run_ends, step_ends}
 
 -- The pieces of work: whose line asks, what it asks for, and what is told where there is nothing to do
 

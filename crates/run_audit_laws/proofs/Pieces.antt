@@ -1,6 +1,6 @@
 -- The lines of a piece of work on a device of a run lead the audit from that device before it to that device behind it.
-use Rattle.std.proofs.Common.{◌≡◌, ◌<◌, ◌==◌, ◌++◌, ◌*◌, ℕ, Bool, true, false, List, [], ◌∷◌, map, length, Option, Some, None, refl, sym, ap, subst, ◌∙◌, arith}
-use Rattle.std.specs.Prelude.{◌&&◌, not, option_map, IsSome, IfSome}
+use Rattle.std.proofs.Common.{◌≡◌, ◌<◌, ◌==◌, ◌++◌, ℕ, Bool, true, false, List, ◌∷◌, map, length, Option, Some, None, refl, sym, ap, subst, ◌∙◌, arith}
+use Rattle.std.specs.Prelude.{◌&&◌, not, option_map, IsSome}
 use Rattle.ckd_types.specs.declared.channel.CommandEnd.{CommandEnd}
 use Rattle.ckd_types.specs.Fixed.{Fixed}
 use Rattle.ckd_types.specs.Sense.{equipment_sense}
@@ -8,10 +8,9 @@ use Rattle.ckd_chain.specs.State.{ChainState}
 use Rattle.deck_plan.specs.declared.event.EventLine.{EventLine}
 use Rattle.deck_plan.specs.declared.event.EventLine.TheVariants as wanted
 use Rattle.plain_defs.specs.declared.journal.Act.{Act}
-use Rattle.plain_defs.specs.History.{History, IsPlain, OpenEntry, checked, ended, open_part}
+use Rattle.plain_defs.specs.History.{History, IsPlain, OpenEntry}
 use Rattle.plain_defs.specs.Journal.{Plans, program_of, replay}
 use Rattle.plain_defs.specs.PlainState.{PlainState}
-use Rattle.device_outside.specs.Told.{Told}
 use Rattle.device_defs.specs.declared.answers.Did.{Did as BackDid}
 use Rattle.device_defs.specs.declared.answers.Did.TheVariants as dids
 use Rattle.device_defs.specs.declared.answers.SecondEnd.{SecondEnd}
@@ -58,41 +57,18 @@ use Rattle.subsystem_defs.specs.declared.end.EventEnd.{EventEnd}
 use Rattle.subsystem_defs.specs.declared.end.EventEnd.TheVariants as ends
 use Rattle.subsystem_defs.specs.Beside.{acts_in}
 use Rattle.subsystem_defs.specs.Deeds.{end_of, ends_by, may_end_by}
-use Rattle.subsystem_defs.specs.Happening.{Talk}
 use Rattle.subsystem_defs.specs.Lines.{is_settled, stops}
-use Rattle.run_audit_laws.specs.Standing.{LeadsBy, audited, half_by, half_of}
+use Rattle.run_audit_laws.specs.Standing.{audited, half_by, half_of}
 use Rattle.run_audit_laws.specs.Steps.{LeadsTowards, NoLoss, act_line, over_if, over_told, step_lines}
 use Rattle.run_audit_laws.proofs.BackParts.{BackLeft, back_left}
-use Rattle.run_audit_laws.proofs.CameOut.{ChecksSo, EndsSo, acts_so, checks_so, ends_plain, ends_so}
+use Rattle.run_audit_laws.proofs.CameOut.{acts_so, checks_so, ends_plain, ends_so}
 use Rattle.run_audit_laws.proofs.Enough.{end_is_other, part_fixed}
 use Rattle.run_audit_laws.proofs.Lossless.{none_lost}
-use Rattle.run_audit_laws.proofs.PieceLines.{TellsBeside, acted_tells, checked_tells, ended_tells, lines_are}
+use Rattle.run_audit_laws.proofs.PieceLines.{acted_tells, checked_tells, ended_tells, lines_are}
 use Rattle.run_audit_laws.proofs.ResetDevices.{HasParts, audited_by}
 use Rattle.run_audit_laws.proofs.Saying.{both, same_number}
-use Rattle.run_audit_laws.proofs.StepParts.{IsLeft, IsSecond, IsToldBy, command_left, second_left}
-use Rattle.run_audit_laws.proofs.WorkEnds.{
-  IsWork,
-  MayEnd,
-  MayTell,
-  back_seconds,
-  back_tells,
-  behind_piece,
-  checks_lead,
-  ends_lead,
-  halves_lead,
-  of_back,
-  of_run,
-  of_settle,
-  of_step,
-  run_ends,
-  run_seconds,
-  seconds_by,
-  settle_seconds,
-  settle_tells,
-  step_ends,
-  step_seconds,
-  tells_lead,
-}
+use Rattle.run_audit_laws.proofs.StepParts.{IsLeft, IsSecond, command_left, second_left}
+use Rattle.run_audit_laws.proofs.WorkEnds.{IsWork, MayEnd, MayTell, back_seconds, back_tells, behind_piece, checks_lead, ends_lead, halves_lead, of_back, of_run, of_settle, of_step, run_seconds, seconds_by, settle_seconds, settle_tells, step_seconds, tells_lead}
 
 -- whichever event line has it, with what is told where there is nothing to do
 abbrev pub PieceSo : MarksDevice → MarksDevice → EventEnd → EventLine → Happened → Type 0
@@ -232,14 +208,14 @@ module _ (num : ℕ) (empty : PlainState) (x y : MarksDevice) (f : Follows num e
 -- A command
 
 pub record CommandSo (num : ℕ) (empty : PlainState) (x y : MarksDevice) (answer : Option Stepped) : Type 0 where
-  pub follows : Follows num empty y
-  pub left : IsLeft x y answer
-  pub told : StepTold x.history y.history answer
-  pub kept : all_losses y.history ≡ all_losses x.history
+  follows : Follows num empty y
+  left : IsLeft x y answer
+  told : StepTold x.history y.history answer
+  kept : all_losses y.history ≡ all_losses x.history
 
 module _ (num : ℕ) (empty : PlainState) (x : MarksDevice) (f : Follows num empty x) where
   -- STEP and RUN, where no half write is open and a program runs
-  pub command_so : (o : OpenEntry) → x.history.running ≡ Some o → x.store.half ≡ None →
+  command_so : (o : OpenEntry) → x.history.running ≡ Some o → x.store.half ≡ None →
       Had (command by_plain x) (λ y answer. CommandSo num empty x y answer)
   command_so o running whole =
       had_weaker
@@ -278,11 +254,11 @@ module _ (num : ℕ) (empty : PlainState) (x : MarksDevice) (f : Follows num emp
 
 -- The second part of a write
 
-pub record SecondSo (num : ℕ) (empty : PlainState) (x y : MarksDevice) (origin : Origin) (answer : SecondEnd) : Type 0 where
-  pub follows : Follows num empty y
-  pub left : IsSecond x y origin answer
-  pub told : SecondTold x.history y.history answer
-  pub kept : all_losses y.history ≡ all_losses x.history
+record SecondSo (num : ℕ) (empty : PlainState) (x y : MarksDevice) (origin : Origin) (answer : SecondEnd) : Type 0 where
+  follows : Follows num empty y
+  left : IsSecond x y origin answer
+  told : SecondTold x.history y.history answer
+  kept : all_losses y.history ≡ all_losses x.history
 
 pub ends_by_command : {n : ℕ} {w : EventLine} → IsWork n w → MayEnd n w half.OfCommand
 ends_by_command of_step = step_seconds
@@ -291,7 +267,7 @@ ends_by_command of_back = back_seconds
 ends_by_command of_settle = settle_seconds
 
 module _ (num : ℕ) (empty : PlainState) (x : MarksDevice) (f : Follows num empty x) where
-  pub second_so : (h : store.HalfWrite (Unit {0})) → x.store.half ≡ Some h → Had (second by_plain x) (λ y answer. SecondSo num empty x y h.origin answer)
+  second_so : (h : store.HalfWrite (Unit {0})) → x.store.half ≡ Some h → Had (second by_plain x) (λ y answer. SecondSo num empty x y h.origin answer)
   second_so h there =
       had_weaker
       (had_both (had_both (second_follows num empty x f h there) (second_left num empty x f h there))

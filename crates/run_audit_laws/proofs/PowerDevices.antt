@@ -1,77 +1,26 @@
 -- What a loss of power makes of a device, and what is told of it.
-use Rattle.std.proofs.Common.{
-  ◌≡◌,
-  ◌+◌,
-  ◌*◌,
-  ◌==◌,
-  ◌++◌,
-  ℕ,
-  zero,
-  suc,
-  Bool,
-  true,
-  false,
-  not,
-  List,
-  [],
-  ◌∷◌,
-  map,
-  length,
-  Option,
-  Some,
-  None,
-  is_some,
-  cond,
-  get_or,
-  refl,
-  sym,
-  ap,
-  subst,
-  ◌∙◌,
-  append_assoc,
-  if◌then◌else◌,
-  arith,
-  inl,
-  inr,
-}
-use Rattle.std.specs.Prelude.{◌&&◌, ◌⊎◌}
-use Rattle.std.proofs.lemmas.Bool.{cases_Bool, true≢false}
-use Rattle.std.proofs.lemmas.List.{append-nil}
-use Rattle.ckd_types.specs.declared.geometry.Geometry.{Geometry}
+use Rattle.std.proofs.Common.{◌≡◌, ◌*◌, ℕ, Bool, true, false, List, [], Option, Some, None, is_some, get_or, refl, sym, ap, subst, ◌∙◌, if◌then◌else◌}
 use Rattle.loss_model.specs.declared.Loss.TheVariants as losses
-use Rattle.plain_defs.specs.declared.journal.Act.{Act}
-use Rattle.plain_defs.specs.declared.journal.How.TheVariants.{Cut}
-use Rattle.plain_defs.specs.declared.journal.Item.{Item}
-use Rattle.plain_defs.specs.declared.journal.Item.TheVariants as items
-use Rattle.plain_defs.specs.History.{History, OpenEntry, entry_of, lost_power, lost_power_in, plain_of}
-use Rattle.plain_defs.specs.Journal.{program_of, replay}
-use Rattle.plain_defs.specs.Legal.{MayEdit, is_started, next_edit}
-use Rattle.plain_defs.specs.History.{open_part}
-use Rattle.plain_defs.specs.Loose.{is_loose_in, next_number}
+use Rattle.plain_defs.specs.History.{lost_power}
 use Rattle.plain_defs.specs.PlainState.{PlainState}
-use Rattle.plain_defs.proofs.JournalLaws.{replay-append}
 use Rattle.track_table.specs.Tracks.{least}
-use Rattle.device_outside.specs.Interaction.{Done}
 use Rattle.device_defs.specs.Contents.{by_plain}
 use Rattle.device_defs.specs.Cutting as K
 use Rattle.device_defs.specs.Cutting.{counts_one_by, half_cut, half_ended, half_lost, loose_gone, origin_cut, power, powered_off, powerless}
 use Rattle.device_defs.specs.Device.{event_begun, event_ended}
 use Rattle.device_defs.specs.Effects.{gone_back}
 use Rattle.device_defs.specs.Events.{with_loss}
-use Rattle.device_defs.specs.Losses.{over, settled, slot_in, without_frame}
+use Rattle.device_defs.specs.Losses.{settled, slot_in, without_frame}
 use Rattle.device_defs.specs.Marks.{MarksDevice, MarksStore}
 use Rattle.device_defs.specs.Owed.{begun, waiting_count}
 use Rattle.device_defs.specs.Store.{Origin, OfCommand, OfCut, OfBackground, has_loose, is_loose, patch_at, tracks_of}
 use Rattle.device_defs.specs.Store as store
 use Rattle.device_laws.proofs.Had.{Had, had_done, had_tell, had_then}
-use Rattle.device_laws.proofs.HistoryCuts.{cut_entry, taken_state}
-use Rattle.device_laws.proofs.HistoryEnds.{running_is_open}
-use Rattle.device_laws.proofs.PlainCuts.{CutSo, half_so, may, taken_by}
+use Rattle.device_laws.proofs.PlainCuts.{CutSo, half_so, taken_by}
 use Rattle.device_laws.proofs.PlainEvents.{had_both}
 use Rattle.device_laws.proofs.PlainStores.{Core, IsOf, core_of, hardened_core, loose_at, with_half}
 use Rattle.device_laws.proofs.PlainTurns.{Follows}
 use Rattle.device_laws.proofs.PlainWalks.{ended_same, over_holds, patch_same, settled_holds}
-use Rattle.device_laws.proofs.WaitingResets.{started-append}
 use Rattle.run_audit_laws.proofs.LossDevices.{number_behind, unframed_core}
 
 -- What is cut of an open half write leaves all but its track

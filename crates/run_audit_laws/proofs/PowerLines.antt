@@ -1,38 +1,5 @@
 -- POWER: what it does is told of one device after another.
-use Rattle.std.proofs.Common.{
-  ◌≡◌,
-  ◌≤◌,
-  ◌<◌,
-  ◌+◌,
-  ◌/◌,
-  ◌%◌,
-  ◌==◌,
-  ◌++◌,
-  ℕ,
-  Bool,
-  true,
-  false,
-  not,
-  List,
-  [],
-  ◌∷◌,
-  map,
-  length,
-  drop,
-  Option,
-  Some,
-  None,
-  refl,
-  sym,
-  ap,
-  subst,
-  ◌∙◌,
-  append_assoc,
-  if◌then◌else◌,
-  arith,
-  inl,
-  inr,
-}
+use Rattle.std.proofs.Common.{◌≡◌, ◌≤◌, ◌+◌, ◌/◌, ◌%◌, ◌==◌, ◌++◌, ℕ, Bool, true, false, not, List, [], ◌∷◌, map, length, drop, Option, Some, None, refl, sym, ap, subst, ◌∙◌, append_assoc, if◌then◌else◌, arith, inl, inr}
 use Rattle.std.specs.Prelude.{◌||◌, ◌&&◌, ◌⊎◌, Ok, Err}
 use Rattle.std.proofs.lemmas.Bool.{eq-eqb, ne_eqb}
 use Rattle.std.proofs.lemmas.List.{append-nil, map-append}
@@ -54,7 +21,6 @@ use Rattle.report_text.specs.declared.line.ReportLine.TheVariants as lines
 use Rattle.report_text.specs.declared.order.Order.TheVariants as orders
 use Rattle.report_places.specs.declared.state.Due.{Due}
 use Rattle.report_places.specs.declared.state.Due.TheVariants.{Next, Powers}
-use Rattle.report_places.specs.declared.state.Outline.{Outline}
 use Rattle.report_places.specs.Place.{in_power, in_power_of, is_loss_of}
 use Rattle.report_places.specs.Same.{says}
 use Rattle.deck_audit.specs.Device as A
@@ -71,7 +37,7 @@ use Rattle.subsystem_defs.specs.Happening.{happens, held_with, sweep, told_to}
 use Rattle.subsystem_defs.specs.Lines.{Once}
 use Rattle.subsystem_defs.specs.Subsystem.{Mounted, Subsystem, devices_of}
 use Rattle.subsystem_laws.proofs.PlainRuns.{ArePlain}
-use Rattle.run_audit_laws.specs.Standing.{LeadsBy, audited, stand}
+use Rattle.run_audit_laws.specs.Standing.{LeadsBy, audited}
 use Rattle.run_audit_laws.proofs.CacheLines.{IsBelow, below_one, found_here, put_here}
 use Rattle.run_audit_laws.proofs.DeckNumbers.{RisesFrom}
 use Rattle.run_audit_laws.proofs.Found.{devices}

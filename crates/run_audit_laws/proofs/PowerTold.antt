@@ -36,7 +36,7 @@ use Rattle.plain_defs.specs.declared.journal.Act.{Act}
 use Rattle.plain_defs.specs.declared.journal.How.TheVariants.{Cut}
 use Rattle.plain_defs.specs.declared.journal.Item.{Item}
 use Rattle.plain_defs.specs.declared.journal.Item.TheVariants as items
-use Rattle.plain_defs.specs.History.{History, OpenEntry, entry_of, lost_power, lost_power_in, open_part, plain_of}
+use Rattle.plain_defs.specs.History.{History, OpenEntry, entry_of, lost_power_in, open_part, plain_of}
 use Rattle.plain_defs.specs.Journal.{Plans, program_of, replay}
 use Rattle.plain_defs.specs.Legal.{MayEdit, is_started, next_edit}
 use Rattle.plain_defs.specs.Loose.{is_loose_in, next_number}
@@ -49,7 +49,7 @@ use Rattle.device_defs.specs.Store as store
 use Rattle.device_laws.proofs.HistoryCuts.{MayTake, cut_entry, taken_state}
 use Rattle.device_laws.proofs.HistoryEnds.{running_is_open}
 use Rattle.device_laws.proofs.PlainCuts.{may, taken_by}
-use Rattle.device_laws.proofs.PlainStores.{Core, IsOf}
+use Rattle.device_laws.proofs.PlainStores.{IsOf}
 use Rattle.device_laws.proofs.PlainTurns.{Follows}
 use Rattle.device_laws.proofs.WaitingResets.{started-append}
 use Rattle.report_text.specs.declared.answers.HowOver.TheVariants as how
@@ -64,19 +64,7 @@ use Rattle.run_report.specs.Beside.{loose_lines, loosed, over_lines, over_of}
 use Rattle.run_report.proofs.ActsCome.{acts_both, same_program}
 use Rattle.run_report.proofs.OneDevice.{none_behind}
 use Rattle.run_report.proofs.Quiet.{behind_more}
-use Rattle.subsystem_defs.specs.Beside.{
-  WentBack,
-  acts_in,
-  acts_of_entry,
-  acts_of_items,
-  acts_running,
-  behind_first,
-  has_power,
-  loose_count,
-  new_items,
-  power_told,
-  told_act,
-}
+use Rattle.subsystem_defs.specs.Beside.{WentBack, acts_in, acts_of_entry, acts_of_items, behind_first, has_power, loose_count, new_items, power_told, told_act}
 use Rattle.subsystem_laws.proofs.PlainRuns.{Plainly}
 use Rattle.run_audit_laws.specs.Standing.{audited, half_by}
 use Rattle.run_audit_laws.proofs.CacheLines.{loss_told}

@@ -1,323 +1,376 @@
--- RUN comes to its end: each step brings a program and a half write nearer to it.
-use Rattle.std.proofs.Common.{◌≡◌, ◌<◌, ◌≤◌, ◌+◌, ◌-◌, ◌*◌, ℕ, zero, suc, Bool, true, false, List, [], ◌∷◌, length, Option, Some, None, refl, sym, ap, subst, ◌∙◌, arith, if◌then◌else◌}
-use Rattle.std.specs.Prelude.{◌||◌, is_some, IsSome, Ok}
+-- A RUN comes to its end: of the program that runs at most 4,096 commands end, each in two events, and a half write may be open from before.
+use Rattle.std.proofs.Common.{◌≡◌, ◌≤◌, ◌<◌, ◌+◌, ◌*◌, ◌==◌, ℕ, zero, suc, Bool, true, false, List, [], ◌∷◌, length, map, Option, Some, None, is_some, refl, sym, ap, subst, ◌∙◌, arith, inl, inr}
+use Rattle.std.specs.Prelude.{◌||◌, ◌⊎◌, IfSome, IsSome, if◌then◌else◌, nat_le, not}
+use Rattle.std.proofs.lemmas.Bool.{leb-false}
+use Rattle.ckd_types.specs.declared.channel.Ccw.{Ccw}
 use Rattle.ckd_types.specs.declared.channel.CommandEnd.{CommandEnd}
-use Rattle.deck_plan.specs.declared.event.EventLine.TheVariants as wanted
-use Rattle.deck_text.specs.DeckLines.{DeckLines}
-use Rattle.deck_text.specs.Parse.{parsed}
+use Rattle.ckd_types.specs.Ccw.{ccw_at}
+use Rattle.ckd_rules.specs.declared.stance.Stance.{Stance}
+use Rattle.ckd_rules.specs.Ends.{at_limit, goes_to, is_over, would_go_on}
+use Rattle.ckd_rules.specs.Ending.{Outcome}
 use Rattle.plain_defs.specs.declared.journal.Act.{Act}
-use Rattle.plain_defs.specs.History.{History, IsPlain, OpenEntry, checked, closed, ended, with_end}
+use Rattle.plain_defs.specs.declared.journal.Acted.{Acted}
 use Rattle.plain_defs.specs.declared.journal.How.TheVariants.{Full}
+use Rattle.plain_defs.specs.Effect.{effect_on}
+use Rattle.plain_defs.specs.History as Y
+use Rattle.plain_defs.specs.History.{History, OpenEntry, acted_in, checked, checked_in, closed, ended_in, with_end}
+use Rattle.plain_defs.specs.Journal.{program_of, replay}
+use Rattle.plain_defs.specs.PlainState.{PlainState}
+use Rattle.plain_defs.specs.Program.{Part, first_part, one_more, part_of, stepped, stepped_at}
+use Rattle.plain_defs.proofs.PartLemmas.{acted_beside, over_stays}
+use Rattle.device_outside.specs.Interaction.{Done, and_then}
+use Rattle.device_outside.specs.Told as T
+use Rattle.device_outside.specs.Told.{Told}
 use Rattle.device_defs.specs.declared.answers.SecondEnd.{SecondEnd}
 use Rattle.device_defs.specs.declared.answers.SecondEnd.TheVariants as seconds
 use Rattle.device_defs.specs.declared.answers.Stepped.{Stepped}
-use Rattle.device_defs.specs.declared.answers.Stepped.TheVariants as stepped
+use Rattle.device_defs.specs.declared.answers.Stepped.TheVariants as steps_are
 use Rattle.device_defs.specs.Command.{command}
 use Rattle.device_defs.specs.Contents.{by_plain}
 use Rattle.device_defs.specs.Device.{all_acted}
 use Rattle.device_defs.specs.Events.{second}
 use Rattle.device_defs.specs.Marks.{MarksDevice}
+use Rattle.device_defs.specs.Store.{Origin, OfCommand, OfCut, OfBackground}
 use Rattle.device_defs.specs.Store as store
-use Rattle.device_defs.specs.Store.{OfBackground, OfCommand, OfCut, Origin}
-use Rattle.device_laws.proofs.Had.{Had, had_done, had_then, held}
-use Rattle.device_laws.proofs.HistoryEnds.{one_longer}
-use Rattle.device_laws.proofs.HistoryTold.{HasActed, HasEnded, acted_so, checked_so, ended_so}
+use Rattle.device_laws.proofs.Had.{held}
+use Rattle.device_laws.proofs.HistoryEnds.{one_longer, running_is_open}
+use Rattle.device_laws.proofs.HistoryTold.{HasActed, HasEnded, SecondTold, StepTold, acted_so, checked_so, command_told, ended_so, second_event_told}
+use Rattle.device_laws.proofs.PlainEvents.{had_always, had_both}
 use Rattle.device_laws.proofs.PlainStores.{core_of}
-use Rattle.device_laws.proofs.PlainTurns.{Follows, IsMid, IsMidOf, some_none}
+use Rattle.device_laws.proofs.PlainTurns.{IsMid, IsMidOf}
 use Rattle.report_places.specs.declared.state.HalfWrite.{HalfWrite}
 use Rattle.report_places.specs.declared.state.HalfWrite.TheVariants as half
 use Rattle.subsystem_defs.specs.declared.end.EventEnd.{EventEnd}
 use Rattle.subsystem_defs.specs.declared.end.EventEnd.TheVariants as ends
 use Rattle.subsystem_defs.specs.declared.event.Event.TheVariants as events
-use Rattle.subsystem_defs.specs.Decks.{run_of}
 use Rattle.subsystem_defs.specs.Deeds as E
-use Rattle.subsystem_defs.specs.Deeds.{Asks, Ends, device_in, ends_by, may_end_by, on_device, step}
+use Rattle.subsystem_defs.specs.Deeds.{Asks, Ends, device_in, end_of, ends_by, may_end_by, on_device, seconds as seconds_of, step}
 use Rattle.subsystem_defs.specs.Happening as H
-use Rattle.subsystem_defs.specs.Happening.{Talk, asks, happens, happens_by, held_with, mounted_behind, quietly, told_to}
+use Rattle.subsystem_defs.specs.Happening.{Happened, Talk, asks, happens, happens_by, held_with, mounted_behind, quietly, told_to}
 use Rattle.subsystem_defs.specs.Lines as L
-use Rattle.subsystem_defs.specs.Lines.{Logged, is_busy, last_behind, most_steps, steps}
-use Rattle.subsystem_defs.specs.Subsystem.{Mounted, Subsystem, devices_of, mounted_in, with_mounted}
+use Rattle.subsystem_defs.specs.Lines.{Logged, Run, is_busy, last_behind, line_logged, logged, most_steps, step_logged, steps}
+use Rattle.subsystem_defs.specs.Subsystem.{Mounted, Subsystem, devices_of, mounted_in, number_of}
 use Rattle.subsystem_laws.proofs.FoundDevices.{number_found}
-use Rattle.subsystem_laws.proofs.PlainRuns.{ArePlain, Plainly, event_plain, plain_behind}
-use Rattle.subsystem_laws.proofs.ReadDecks.{read_served}
-use Rattle.run_audit_laws.specs.Runs.{LineGoes, RunIsOver}
+use Rattle.subsystem_laws.proofs.PlainRuns.{ArePlain, Plainly, event_plain}
+use Rattle.subsystem_laws.proofs.Walks.{device_so, hold_answer}
+use Rattle.run_audit_laws.specs.Runs.{RunIsOver}
 use Rattle.run_audit_laws.specs.Standing.{HasDevice, half_by, half_of}
-use Rattle.run_audit_laws.proofs.CameOut.{acts_run, idle_acts, with_acts}
-use Rattle.run_audit_laws.proofs.CommandCount.{few_ends}
+use Rattle.run_audit_laws.proofs.CameOut.{acts_run, with_acts}
+use Rattle.run_audit_laws.proofs.CommandCounts.{effect_counts}
 use Rattle.run_audit_laws.proofs.Found.{mounted_too}
 use Rattle.run_audit_laws.proofs.PieceEvents.{put_found}
-use Rattle.run_audit_laws.proofs.Pieces.{CommandSo, SecondSo, command_so, second_so}
-use Rattle.run_audit_laws.proofs.WorkLines.{busy_there, device_there, no_steps, one_step, own_place, plain_of, run_busy, run_goes_on, run_idle}
+use Rattle.run_audit_laws.proofs.StepParts.{IsLeft, IsSecond, command_left, second_left}
 
--- How many commands may still end
+-- A program that runs has fewer ends than may be
 
-ends_left : Option OpenEntry → ℕ
-ends_left (Some o) = 4096 - length o.ends
-ends_left None = 0
+none_there : (o : Option ℕ) → o ≡ None → IsSome o → ⊥
+none_there None is some = cc
+none_there (Some x) is some = cc
 
-acts_leave : (acts : List Act) (h : History) (r : Option OpenEntry) → h.running ≡ r → ends_left (all_acted h acts).running ≡ ends_left h.running
-unfolding ends_left
-acts_leave acts h (Some o) is =
-    ap (λ (k : History). ends_left k.running) (acts_run acts h o is) ∙ sym (ap (λ (r : Option OpenEntry). ends_left r) is)
-acts_leave acts h None is =
-    ap (λ (k : History). ends_left k.running) (ap (λ (r : Option OpenEntry). all_acted (record h { running = r }) acts) is ∙ idle_acts acts h)
-    ∙ sym (ap (λ (r : Option OpenEntry). ends_left r) is)
+not_over : (b : Bool) (o : Option ℕ) → IsSome (if b then None else o) → b ≡ false
+not_over true o some = absurd (none_there None refl some)
+not_over false o some = refl
 
-over_leaves : (h : History) (o : OpenEntry) (e : CommandEnd) (b : Bool) →
-    ends_left (if b then closed h (with_end o e) Full else record h { running = Some (with_end o e) }).running ≤ 4096 - length o.ends - 1
-unfolding ends_left
-over_leaves h o e true = omega arith
-over_leaves h o e false = let longer = one_longer o.ends e in omega (arith, longer)
+or_right : (a b : Bool) → (a || b) ≡ false → b ≡ false
+or_right true b is = absurd (cc)
+or_right false b is = is
 
-end_leaves : (h : History) (acts : List Act) (o : OpenEntry) → h.running ≡ Some o → (e : CommandEnd) →
-    ends_left (ended (all_acted h acts) e).running ≤ ends_left h.running - 1
-unfolding ends_left
-end_leaves h acts o is e =
-    let same = acts_run acts h o is in
-    subst (λ (n : ℕ). ends_left (ended (all_acted h acts) e).running ≤ n - 1) (sym (ap (λ (r : Option OpenEntry). ends_left r) is))
-    (subst (λ (k : History). ends_left (ended k e).running ≤ 4096 - length o.ends - 1) (sym same)
-    (over_leaves (record h { running = Some (with_acts o acts) }) (with_acts o acts) e e.over))
+or_left : (a b : Bool) → (a || b) ≡ false → a ≡ false
+or_left true b is = absurd (cc)
+or_left false b is = refl
 
-check_leaves : (h : History) (acts : List Act) (o : OpenEntry) → h.running ≡ Some o → (e : CommandEnd) →
-    ends_left (checked (all_acted h acts) e).running ≡ 0
-unfolding ends_left
-check_leaves h acts o is e = ap (λ (k : History). ends_left (checked k e).running) (acts_run acts h o is)
+below_limit : (c : Ccw) (o : Outcome) → is_over c o ≡ false → o.stance.commands < 4096
+below_limit c o is =
+    leb-false 4096 o.stance.commands
+    (or_left (nat_le 4096 o.stance.commands) (nat_le 1048576 o.stance.moved) (or_right (not (would_go_on c o.ending)) (at_limit o.stance) is))
 
-told_leaves : (h k : History) (o : OpenEntry) → h.running ≡ Some o → (e : CommandEnd) → HasEnded h e k → ends_left k.running ≤ ends_left h.running - 1
-told_leaves h k o is e (ended_so acts) = end_leaves h acts o is e
-told_leaves h k o is e (checked_so acts) = let none = check_leaves h acts o is e in omega (arith, none)
+record Few (k : ℕ) (p : Part) : Type 0 where
+  counted : p.stance.commands ≡ k
+  few : k < 4096
 
-acted_leaves : (h k : History) → HasActed h k → ends_left k.running ≡ ends_left h.running
-acted_leaves h k (acted_so acts) = acts_leave acts h h.running refl
+module _ (path : ℕ) (ccws : List Ccw) (acts : List Acted) (state : PlainState) where
+  more_few : (k : ℕ) (n : Option ℕ) → (part_of state path ccws acts k).next ≡ n →
+      (IsSome (part_of state path ccws acts k).next → Few k (part_of state path ccws acts k)) →
+      IsSome (one_more path ccws acts (part_of state path ccws acts k)).next → Few (suc k) (one_more path ccws acts (part_of state path ccws acts k))
+  more_few k None is before some =
+      absurd (none_there (one_more path ccws acts (part_of state path ccws acts k)).next
+      (ap (λ (p : Part). p.next) (over_stays path ccws acts (part_of state path ccws acts k) is) ∙ is) some)
+  more_few k (Some i) is before some =
+      let p = part_of state path ccws acts k in
+      let e = effect_on p.fixed p.state path p.stance (ccw_at ccws i) in
+      let beside = acted_beside acts (stepped path ccws p) in
+      let earlier = before (subst (λ (o : Option ℕ). IsSome o) (sym is) refl) in
+      let next_is : (one_more path ccws acts p).next ≡ goes_to ccws i e.outcome =
+      beside.next ∙ ap (λ (o : Option ℕ). (stepped_at path ccws p o).next) is in
+      let stance_is : (one_more path ccws acts p).stance.commands ≡ e.outcome.stance.commands =
+      ap (λ (s : Stance). s.commands) (beside.stance ∙ ap (λ (o : Option ℕ). (stepped_at path ccws p o).stance) is) in
+      let goes = not_over (is_over (ccw_at ccws i) e.outcome) _ (subst (λ (o : Option ℕ). IsSome o) next_is some) in
+      let less = below_limit (ccw_at ccws i) e.outcome goes in
+      let one = effect_counts p.fixed p.state path p.stance (ccw_at ccws i) in
+      let counted = earlier.counted in
+      record { counted = stance_is ∙ one ∙ omega (arith, counted); few = omega (arith, less, one, counted) }
 
--- How many steps
+  few_of : (k : ℕ) → IsSome (part_of state path ccws acts k).next → Few k (part_of state path ccws acts k)
+  unfolding part_of
+  few_of zero some = record { counted = ap (λ (s : Stance). s.commands) (acted_beside acts (first_part state path ccws)).stance; few = omega arith }
+  few_of (suc k) some = more_few k (part_of state path ccws acts k).next refl (few_of k) some
 
-steps_by : ℕ → HalfWrite → ℕ
-steps_by n half.Closed = 2 * n
-steps_by n half.OfCommand = 2 * n - 1
-steps_by n half.OfBackground = 2 * n + 1
+few_ends : (x : MarksDevice) → Plainly x → (o : OpenEntry) → x.history.running ≡ Some o → length o.ends < 4096
+few_ends x p o running =
+    let s = replay x.plans p.empty x.history.items in
+    let is_open = running_is_open x.plans p.empty x.history p.follows.stands.plain p.follows.stands.due o running in
+    (few_of o.path (program_of x.plans o.path o.ordinal) o.acts s (length o.ends) is_open.runs).few
 
-abbrev steps_left : MarksDevice → ℕ
-steps_left d = steps_by (ends_left d.history.running) (half_by d.store.half)
+no_program : (r : Option OpenEntry) → r ≡ None → IsSome r → ⊥
+no_program None is some = cc
+no_program (Some o) is some = cc
 
-most_left : (r : Option OpenEntry) → ends_left r ≤ 4096
-unfolding ends_left
-most_left (Some o) = omega arith
-most_left None = omega arith
+-- So many events are enough
 
-most_by : (n : ℕ) (h : HalfWrite) → n ≤ 4096 → steps_by n h ≤ 8193
-unfolding steps_by
-most_by n half.Closed le = omega (arith, le)
-most_by n half.OfCommand le = omega (arith, le)
-most_by n half.OfBackground le = omega (arith, le)
+abbrev Enough : ℕ → Option OpenEntry → HalfWrite → Type 0
+Enough k (Some o) half.Closed = 8192 ≤ k + 2 * length o.ends
+Enough k (Some o) half.OfCommand = 8192 ≤ k + 1 + 2 * length o.ends
+Enough k (Some o) half.OfBackground = 8193 ≤ k + 2 * length o.ends
+Enough k None half.Closed = Unit {0}
+Enough k None half.OfCommand = 1 ≤ k
+Enough k None half.OfBackground = 1 ≤ k
 
-half_less : (n m : ℕ) (h : HalfWrite) → h ≡ half.OfCommand → m ≡ n → 0 < n → steps_by m h < 2 * n
-unfolding steps_by
-half_less n m h is same some =
-    subst (λ (k : HalfWrite). steps_by m k < 2 * n) (sym is) (omega (arith, same, some))
+at_first : (r : Option OpenEntry) (h : HalfWrite) → Enough most_steps r h
+at_first (Some o) half.Closed = omega arith
+at_first (Some o) half.OfCommand = omega arith
+at_first (Some o) half.OfBackground = omega arith
+at_first None half.Closed = tt
+at_first None half.OfCommand = omega arith
+at_first None half.OfBackground = omega arith
 
--- a program that runs has some left
-some_left : (x : MarksDevice) → Plainly x → (o : OpenEntry) → x.history.running ≡ Some o → 0 < ends_left x.history.running
-unfolding ends_left
-some_left x q o running =
-    let few = few_ends x.plans q.empty x.history q.follows.stands.plain o running in
-    subst (λ (r : Option OpenEntry). 0 < ends_left r) (sym running) (omega (arith, few))
+-- with none left nothing is to do
+at_last : (r : Option OpenEntry) (h : HalfWrite) → ((o : OpenEntry) → r ≡ Some o → length o.ends < 4096) → Enough 0 r h → (r ≡ None) × (h ≡ half.Closed)
+at_last (Some o) half.Closed few enough = absurd (let less = few o refl in omega (arith, less, enough))
+at_last (Some o) half.OfCommand few enough = absurd (let less = few o refl in omega (arith, less, enough))
+at_last (Some o) half.OfBackground few enough = absurd (let less = few o refl in omega (arith, less, enough))
+at_last None half.Closed few enough = (refl, refl)
+at_last None half.OfCommand few enough = absurd (omega (arith, enough))
+at_last None half.OfBackground few enough = absurd (omega (arith, enough))
 
--- Each step takes one at least
+-- What a history is behind an event
 
-record Lessens (x y : MarksDevice) : Type 0 where
-  number : y.store.device ≡ x.store.device
-  less : steps_left y < steps_left x
+-- the program is over, or one more command of it ended
+abbrev OneMore : OpenEntry → Option OpenEntry → Type 0
+OneMore o r = (r ≡ None) ⊎ ((z : OpenEntry) × (r ≡ Some z) × (length z.ends ≡ length o.ends + 1))
 
-closed_steps : (y : MarksDevice) → half_by y.store.half ≡ half.Closed → steps_left y ≡ 2 * ends_left y.history.running
-unfolding steps_by
-closed_steps y is = ap (steps_by (ends_left y.history.running)) is
+over_by : (h : History) (o : OpenEntry) (e : CommandEnd) (b : Bool) →
+    OneMore o (if b then closed h (with_end o e) Full else record h { running = Some (with_end o e) }).running
+over_by h o e true = inl refl
+over_by h o e false = inr (with_end o e, refl, one_longer o.ends e ∙ omega arith)
 
-module _ (x : MarksDevice) (q : Plainly x) where
-  module _ (o : OpenEntry) (running : x.history.running ≡ Some o) (whole : x.store.half ≡ None) where
-    before : steps_left x ≡ 2 * ends_left x.history.running
-    before = closed_steps x (ap half_by whole)
+ended_more : (h : History) (e : CommandEnd) (o : OpenEntry) → h.running ≡ Some o → {k : History} → HasEnded h e k → OneMore o k.running
+ended_more h e o is (ended_so acts) =
+    subst (λ (z : History). OneMore o (Y.ended z e).running) (sym (acts_run acts h o is))
+    (over_by (record h { running = Some (with_acts o acts) }) (with_acts o acts) e e.over)
+ended_more h e o is (checked_so acts) =
+    inl (ap (λ (z : History). (checked z e).running) (acts_run acts h o is))
 
-    command_lessens : (y : MarksDevice) (a : Option Stepped) → CommandSo q.number q.empty x y a → Lessens x y
-    unfolding steps_by
-    command_lessens y (Some (stepped.Ended e)) c =
-        let now = closed_steps y c.left.half_is in
-        let some = some_left x q o running in
-        let fewer = told_leaves x.history y.history o running e c.told in
-        record { number = c.left.number; less = omega (arith, before, now, some, fewer) }
-    command_lessens y (Some (stepped.Half t)) c =
-        let some = some_left x q o running in
-        let same = acted_leaves x.history y.history c.told in
-        let now = half_less (ends_left x.history.running) (ends_left y.history.running) (half_by y.store.half) c.left.half_is same some in
-        record { number = c.left.number; less = omega (arith, before, now) }
-    command_lessens y None c = absurd c.left
+acted_more : (h : History) (o : OpenEntry) → h.running ≡ Some o → {k : History} → HasActed h k → (z : OpenEntry) × (k.running ≡ Some z) × (z.ends ≡ o.ends)
+acted_more h o is (acted_so acts) = (with_acts o acts, ap (λ (z : History). z.running) (acts_run acts h o is), refl)
 
-    command_steps : Had (may_end_by ends.Stepped (command by_plain x)) (λ y end. Lessens x y)
-    command_steps = had_then (command_so q.number q.empty x q.follows o running whole) (λ y a c. had_done (command_lessens y a c))
+idle_by : (h : History) (act : Act) (r : Option OpenEntry) → r ≡ None → h.running ≡ None → (acted_in h act r).running ≡ None
+idle_by h act (Some o) is none = absurd (cc)
+idle_by h act None is none = none
 
-  module _ (h : store.HalfWrite (Unit {0})) (there : x.store.half ≡ Some h) where
-    of_background : half_of h.origin ≡ half.OfBackground → steps_left x ≡ 2 * ends_left x.history.running + 1
-    unfolding steps_by
-    of_background is = ap (steps_by (ends_left x.history.running)) (ap half_by there ∙ is)
+idle_acts : (acts : List Act) (h : History) → h.running ≡ None → (all_acted h acts).running ≡ None
+idle_acts [] h none = none
+idle_acts (act ∷ acts) h none = idle_acts acts (Y.acted h act) (idle_by h act h.running none none)
 
-    of_command : half_of h.origin ≡ half.OfCommand → steps_left x ≡ 2 * ends_left x.history.running - 1
-    unfolding steps_by
-    of_command is = ap (steps_by (ends_left x.history.running)) (ap half_by there ∙ is)
+acted_none : (h : History) → h.running ≡ None → {k : History} → HasActed h k → k.running ≡ None
+acted_none h none (acted_so acts) = idle_acts acts h none
 
-    acted_lessens : (y : MarksDevice) → half_of h.origin ≡ half.OfBackground → y.store.device ≡ x.store.device → half_by y.store.half ≡ half.Closed →
-        HasActed x.history y.history → Lessens x y
-    acted_lessens y is number closed_is told =
-        let now = closed_steps y closed_is in
-        let same = acted_leaves x.history y.history told in
-        let was = of_background is in
-        record { number = number; less = omega (arith, now, same, was) }
+-- One event fewer is enough behind an event
 
-    by_program : (y : MarksDevice) (e : CommandEnd) → half_of h.origin ≡ half.OfCommand → y.store.device ≡ x.store.device →
-        half_by y.store.half ≡ half.Closed → HasEnded x.history e y.history → (r : Option OpenEntry) → x.history.running ≡ r →
-        is_some r ≡ true → Lessens x y
-    by_program y e is number closed_is told (Some o) running some =
-        let now = closed_steps y closed_is in
-        let left = some_left x q o running in
-        let fewer = told_leaves x.history y.history o running e told in
-        let was = of_command is in
-        record { number = number; less = omega (arith, now, left, fewer, was) }
-    by_program y e is number closed_is told None running some = absurd (cc)
+enough_as : (k : ℕ) (y : MarksDevice) (r : Option OpenEntry) (h : HalfWrite) → y.history.running ≡ r → half_by y.store.half ≡ h → Enough k r h →
+    Enough k y.history.running (half_by y.store.half)
+enough_as k y r h runs is enough =
+    subst (λ (x : Option OpenEntry). Enough k x (half_by y.store.half)) (sym runs) (subst (λ (z : HalfWrite). Enough k r z) (sym is) enough)
 
-    some_is : (r : Option OpenEntry) → IsSome r → is_some r ≡ true
-    some_is (Some o) some = refl
-    some_is None some = absurd (none_is None refl some) where
-      none_is : (k : Option OpenEntry) → k ≡ None → IsSome k → ⊥
-      none_is None is some = cc
-      none_is (Some o) is some = cc
+ended_enough : (k : ℕ) (o : OpenEntry) (y : MarksDevice) → OneMore o y.history.running → half_by y.store.half ≡ half.Closed →
+    8192 ≤ suc k + 1 + 2 * length o.ends → Enough k y.history.running (half_by y.store.half)
+ended_enough k o y (inl none) is enough = enough_as k y None half.Closed none is tt
+ended_enough k o y (inr z) is enough =
+    let more = z.2 in enough_as k y (Some z.0) half.Closed z.1 is (omega (arith, more, enough))
 
-    second_lessens : (origin : Origin) → h.origin ≡ origin → (y : MarksDevice) (a : SecondEnd) → SecondSo q.number q.empty x y origin a → Lessens x y
-    second_lessens (OfCommand bypass edit) is y (seconds.Ended e) c =
-        let f = q.follows in
-        let mid = subst (λ (o : Origin). IsMidOf (core_of x.store) h.track o x.history.running f.before x.chain) is
-        (subst (λ (m : Option (store.HalfWrite (Unit {0}))). IsMid (core_of x.store) m x.history.running f.before x.chain) there f.mid) in
-        by_program y e (ap half_of is) c.left.parts.number c.left.parts.half_is c.told x.history.running refl
-        (some_is x.history.running mid.runs)
-    second_lessens (OfCommand bypass edit) is y (seconds.Finished t) c = absurd c.left.told
-    second_lessens (OfCommand bypass edit) is y (seconds.Unwritten t) c = absurd c.left.told
-    second_lessens (OfCut bypass) is y (seconds.Ended e) c = absurd c.left.told
-    second_lessens (OfCut bypass) is y (seconds.Finished t) c = acted_lessens y (ap half_of is) c.left.parts.number c.left.parts.half_is c.told
-    second_lessens (OfCut bypass) is y (seconds.Unwritten t) c = acted_lessens y (ap half_of is) c.left.parts.number c.left.parts.half_is c.told
-    second_lessens OfBackground is y (seconds.Ended e) c = absurd c.left.told
-    second_lessens OfBackground is y (seconds.Finished t) c = acted_lessens y (ap half_of is) c.left.parts.number c.left.parts.half_is c.told
-    second_lessens OfBackground is y (seconds.Unwritten t) c = acted_lessens y (ap half_of is) c.left.parts.number c.left.parts.half_is c.told
+acted_enough : (k : ℕ) (x y : MarksDevice) → HasActed x.history y.history → half_by y.store.half ≡ half.Closed → (r : Option OpenEntry) →
+    x.history.running ≡ r → Enough (suc k) r half.OfBackground → Enough k y.history.running (half_by y.store.half)
+acted_enough k x y acted is (Some o) runs enough =
+    let z = acted_more x.history o runs acted in
+    let same : length (z.0).ends ≡ length o.ends = ap length z.2 in
+    enough_as k y (Some z.0) half.Closed z.1 is (omega (arith, same, enough))
+acted_enough k x y acted is None runs enough = enough_as k y None half.Closed (acted_none x.history runs acted) is tt
 
-    second_steps : Had (ends_by ends.Second (second by_plain x)) (λ y end. Lessens x y)
-    second_steps = had_then (second_so q.number q.empty x q.follows h there) (λ y a c. had_done (second_lessens h.origin refl y a c))
+halved_enough : (k : ℕ) (o : OpenEntry) (y : MarksDevice) → (z : OpenEntry) × (y.history.running ≡ Some z) × (z.ends ≡ o.ends) →
+    half_by y.store.half ≡ half.OfCommand → 8192 ≤ suc k + 2 * length o.ends → Enough k y.history.running (half_by y.store.half)
+halved_enough k o y z is enough =
+    let same : length (z.0).ends ≡ length o.ends = ap length z.2 in
+    enough_as k y (Some z.0) half.OfCommand z.1 is (omega (arith, same, enough))
 
--- In a run
+module _ (x : MarksDevice) (p : Plainly x) (k : ℕ) where
+  abbrev Goes : MarksDevice → Type 0
+  Goes y = (y.store.device ≡ x.store.device) × Enough k y.history.running (half_by y.store.half)
 
-record StepLessens (s : Subsystem) (x : MarksDevice) (n : ℕ) (z : Subsystem) : Type 0 where
-  now : Mounted
-  there : mounted_in z.mounted n ≡ Some now
-  less : steps_left now.device < steps_left x
+  second_by : (w : store.HalfWrite (Unit {0})) → x.store.half ≡ Some w → (origin : Origin) → w.origin ≡ origin → (y : MarksDevice) (a : SecondEnd) →
+      IsSecond x y origin a → SecondTold x.history y.history a → Enough (suc k) x.history.running (half_by x.store.half) →
+      Enough k y.history.running (half_by y.store.half)
+  second_by w is (OfCommand bypass e) from y (seconds.Ended end) s told enough =
+      by_running x.history.running refl
+    where
+      mid : IsMidOf (core_of x.store) w.track (OfCommand bypass e) x.history.running p.follows.before x.chain
+      mid = subst (λ (o : Origin). IsMidOf (core_of x.store) w.track o x.history.running p.follows.before x.chain) from
+          (subst (λ (h : Option (store.HalfWrite (Unit {0}))). IsMid (core_of x.store) h x.history.running p.follows.before x.chain) is p.follows.mid)
 
-module _ (s : Subsystem) (x : MarksDevice) (at : device_in (devices_of s) x.store.device ≡ Some x) where
-  asked_lessens : (talk : Talk (Option EventEnd)) → Had talk (λ y end. Lessens x y) →
-      StepLessens s x x.store.device (asks s x.store.device (mounted_in s.mounted x.store.device) talk).behind
-  asked_lessens talk h =
-      let m = mounted_too s.mounted x.store.device x at in
-      subst (λ (k : Option Mounted). StepLessens s x x.store.device (asks s x.store.device k talk).behind) (sym m.1)
-      (let o = held_with s.pool m.0 talk in
-      let c = held true h (told_to s.pool m.0) in
-      record { now = mounted_behind o; there = put_found s.mounted x.store.device m.0 (mounted_behind o) m.1 c.number; less = c.less })
+      half_is : half_by x.store.half ≡ half.OfCommand
+      half_is = ap half_by is ∙ ap half_of from
 
-  step_by : Plainly x → (h : Option (store.HalfWrite (Unit {0}))) → x.store.half ≡ h → (r : Option OpenEntry) → x.history.running ≡ r →
-      (is_some h || is_some r) ≡ true →
-      StepLessens s x x.store.device (happens_by s (if is_some h then E.seconds by_plain x
+      by_running : (r : Option OpenEntry) → x.history.running ≡ r → Enough k y.history.running (half_by y.store.half)
+      by_running None runs = absurd (no_program x.history.running runs mid.runs)
+      by_running (Some o) runs =
+          ended_enough k o y (ended_more x.history end o runs told) s.parts.half_is
+          (subst (λ (h : HalfWrite). Enough (suc k) (Some o) h) half_is
+          (subst (λ (r : Option OpenEntry). Enough (suc k) r (half_by x.store.half)) runs enough))
+  second_by w is (OfCommand bypass e) from y (seconds.Finished t) s told enough = absurd s.told
+  second_by w is (OfCommand bypass e) from y (seconds.Unwritten t) s told enough = absurd s.told
+  second_by w is (OfCut bypass) from y (seconds.Ended end) s told enough = absurd s.told
+  second_by w is (OfCut bypass) from y (seconds.Finished t) s told enough =
+      acted_enough k x y told s.parts.half_is x.history.running refl
+      (subst (λ (h : HalfWrite). Enough (suc k) x.history.running h) (ap half_by is ∙ ap half_of from) enough)
+  second_by w is (OfCut bypass) from y (seconds.Unwritten t) s told enough =
+      acted_enough k x y told s.parts.half_is x.history.running refl
+      (subst (λ (h : HalfWrite). Enough (suc k) x.history.running h) (ap half_by is ∙ ap half_of from) enough)
+  second_by w is OfBackground from y (seconds.Ended end) s told enough = absurd s.told
+  second_by w is OfBackground from y (seconds.Finished t) s told enough =
+      acted_enough k x y told s.parts.half_is x.history.running refl
+      (subst (λ (h : HalfWrite). Enough (suc k) x.history.running h) (ap half_by is ∙ ap half_of from) enough)
+  second_by w is OfBackground from y (seconds.Unwritten t) s told enough =
+      acted_enough k x y told s.parts.half_is x.history.running refl
+      (subst (λ (h : HalfWrite). Enough (suc k) x.history.running h) (ap half_by is ∙ ap half_of from) enough)
+
+  second_goes : (w : store.HalfWrite (Unit {0})) → x.store.half ≡ Some w → Enough (suc k) x.history.running (half_by x.store.half) → (t : Told) →
+      Goes (T.hold true (second by_plain x) t).state
+  second_goes w is enough t =
+      let g = held true (had_both (second_left p.number p.empty x p.follows w is) (had_always (second_event_told by_plain x))) t in
+      let o = T.hold true (second by_plain x) t in
+      (g.0.parts.number, second_by w is w.origin refl o.state o.answer g.0 g.1 enough)
+
+  command_by : (o : OpenEntry) → x.history.running ≡ Some o → x.store.half ≡ None → (y : MarksDevice) (a : Option Stepped) → IsLeft x y a →
+      StepTold x.history y.history a → 8192 ≤ suc k + 2 * length o.ends → Goes y
+  command_by o runs whole y (Some (steps_are.Ended e)) left told enough =
+      (left.number, ended_enough k o y (ended_more x.history e o runs told) left.half_is (omega (arith, enough)))
+  command_by o runs whole y (Some (steps_are.Half t)) left told enough =
+      (left.number, halved_enough k o y (acted_more x.history o runs told) left.half_is enough)
+  command_by o runs whole y None left told enough = absurd left
+
+  command_goes : (o : OpenEntry) → x.history.running ≡ Some o → x.store.half ≡ None → Enough (suc k) x.history.running (half_by x.store.half) → (t : Told) →
+      Goes (T.hold true (command by_plain x) t).state
+  command_goes o runs whole enough t =
+      let g = held true (had_both (command_left p.number p.empty x p.follows o runs whole) (had_always (command_told by_plain x))) t in
+      let z = T.hold true (command by_plain x) t in
+      command_by o runs whole z.state z.answer g.0 g.1
+      (subst (λ (h : HalfWrite). Enough (suc k) (Some o) h) (ap half_by whole)
+      (subst (λ (r : Option OpenEntry). Enough (suc k) r (half_by x.store.half)) runs enough))
+
+-- An event of the run
+
+module _ (s : Subsystem) (plain : ArePlain s.mounted) (d : ℕ) (x : MarksDevice) (at : device_in (devices_of s) d ≡ Some x) (k : ℕ) where
+  plainly : Plainly x
+  plainly = subst (λ (o : Option MarksDevice). IfSome o Plainly) at (device_so Plainly s.mounted d plain)
+
+  -- where the device is then, and how many events are enough
+  record OneFewer (z : Subsystem) : Type 0 where
+    behind : Mounted
+    there : mounted_in z.mounted d ≡ Some behind
+    enough : Enough k behind.device.history.running (half_by behind.device.store.half)
+
+  asked : {X : Type 0} (talk : Talk X) (f : X → Option EventEnd) → ((t : Told) → Goes x plainly k (T.hold true talk t).state) → (n : ℕ) → n ≡ d →
+      OneFewer (asks s n (mounted_in s.mounted n) (and_then talk (λ y a. Done y (f a)))).behind
+  asked talk f goes n is =
+      let m = mounted_too s.mounted d x at in
+      let t = told_to s.pool m.0 in
+      let o = held_with s.pool m.0 (and_then talk (λ y a. Done y (f a))) in
+      let g = subst (Goes x plainly k) (sym (hold_answer talk f t)) (goes t) in
+      subst (λ (i : ℕ). OneFewer (asks s i (mounted_in s.mounted i) (and_then talk (λ y a. Done y (f a)))).behind) (sym is)
+      (subst (λ (q : Option Mounted). OneFewer (asks s d q (and_then talk (λ y a. Done y (f a)))).behind) (sym m.1)
+      (record {
+        behind = mounted_behind o;
+        there = put_found s.mounted d m.0 (mounted_behind o) m.1 (g.0 ∙ number_found s.mounted d x at);
+        enough = g.1;
+      }))
+
+  step_by : (h : Option (store.HalfWrite (Unit {0}))) → x.store.half ≡ h → (r : Option OpenEntry) → x.history.running ≡ r → (is_some h || is_some r) ≡ true →
+      Enough (suc k) x.history.running (half_by x.store.half) →
+      OneFewer (happens_by s (if is_some h then seconds_of by_plain x
       else if is_some r then Asks x (may_end_by ends.Stepped (command by_plain x)) else Ends ends.Idle)).behind
-  step_by q (Some h) there r running busy = asked_lessens (ends_by ends.Second (second by_plain x)) (second_steps x q h there)
-  step_by q None whole (Some o) running busy = asked_lessens (may_end_by ends.Stepped (command by_plain x)) (command_steps x q o running whole)
-  step_by q None whole None stands busy = absurd (cc)
+  step_by (Some w) is r runs busy enough =
+      asked (second by_plain x) (λ a. Some (ends.Second a)) (second_goes x plainly k w is enough) x.store.device (number_found s.mounted d x at)
+  step_by None whole (Some o) runs busy enough =
+      asked (command by_plain x) (end_of ends.Stepped) (command_goes x plainly k o runs whole enough) x.store.device (number_found s.mounted d x at)
+  step_by None whole None runs busy enough = absurd (cc)
 
-  step_lessens : Plainly x → (is_some x.store.half || is_some x.history.running) ≡ true →
-      StepLessens s x x.store.device (happens s (events.Step x.store.device)).behind
+  step_fewer : is_busy (mounted_in s.mounted d) ≡ true → Enough (suc k) x.history.running (half_by x.store.half) →
+      OneFewer (happens s (events.Step d)).behind
   unfolding H.happens E.deed
-  step_lessens q busy =
-      subst (λ (o : Option MarksDevice). StepLessens s x x.store.device (happens_by s (on_device o (step by_plain))).behind) (sym at)
-      (step_by q x.store.half refl x.history.running refl busy)
+  step_fewer busy enough =
+      let m = mounted_too s.mounted d x at in
+      subst (λ (o : Option MarksDevice). OneFewer (happens_by s (on_device o (step by_plain))).behind) (sym at)
+      (step_by x.store.half refl x.history.running refl
+      (sym (ap is_busy m.1 ∙ ap (λ (y : MarksDevice). is_some y.store.half || is_some y.history.running) m.2) ∙ busy) enough)
 
--- A device that is busy has some left
+device_there : (ms : List Mounted) (n : ℕ) (m : Mounted) → mounted_in ms n ≡ Some m → device_in (map (λ (k : Mounted). k.device) ms) n ≡ Some m.device
+device_there [] n m is = absurd (cc)
+device_there (k ∷ ms) n m is = by_test (number_of k == n) is (device_there ms n m) where
+  by_test : (b : Bool) → (if b then Some k else mounted_in ms n) ≡ Some m →
+      (mounted_in ms n ≡ Some m → device_in (map (λ (z : Mounted). z.device) ms) n ≡ Some m.device) →
+      (if b then Some k.device else device_in (map (λ (z : Mounted). z.device) ms) n) ≡ Some m.device
+  by_test true found more = let it : k ≡ m = cc in ap (λ (z : Mounted). Some z.device) it
+  by_test false found more = more found
 
-half_some : (n : ℕ) (h : HalfWrite) → 0 < n → 0 < steps_by n h
-unfolding steps_by
-half_some n half.Closed some = omega (arith, some)
-half_some n half.OfCommand some = omega (arith, some)
-half_some n half.OfBackground some = omega (arith, some)
+-- All events
 
-idle_half : (x : MarksDevice) → Plainly x → (h : store.HalfWrite (Unit {0})) → x.store.half ≡ Some h → x.history.running ≡ None → (o : Origin) →
-    h.origin ≡ o → 0 < steps_left x
-idle_half x q h there stands (OfCommand bypass edit) is =
-    let f = q.follows in
-    let mid = subst (λ (o : Origin). IsMidOf (core_of x.store) h.track o x.history.running f.before x.chain) is
-    (subst (λ (m : Option (store.HalfWrite (Unit {0}))). IsMid (core_of x.store) m x.history.running f.before x.chain) there f.mid) in
-    absurd (some_none x.history.running mid.runs stands)
-idle_half x q h there stands (OfCut bypass) is = let was = of_background x q h there (ap half_of is) in omega (arith, was)
-idle_half x q h there stands OfBackground is = let was = of_background x q h there (ap half_of is) in omega (arith, was)
+half_none : (h : Option (store.HalfWrite (Unit {0}))) → half_by h ≡ half.Closed → is_some h ≡ false
+half_none (Some w) is = absurd (never w.origin is) where
+  never : (o : Origin) → half_of o ≡ half.Closed → ⊥
+  never (OfCommand bypass e) e2 = cc
+  never (OfCut bypass) e2 = cc
+  never OfBackground e2 = cc
+half_none None is = refl
 
-busy_by_parts : (x : MarksDevice) → Plainly x → (h : Option (store.HalfWrite (Unit {0}))) → x.store.half ≡ h → (r : Option OpenEntry) →
-    x.history.running ≡ r → (is_some h || is_some r) ≡ true → 0 < steps_left x
-busy_by_parts x q h there (Some o) running busy = half_some (ends_left x.history.running) (half_by x.store.half) (some_left x q o running)
-busy_by_parts x q (Some h) there None stands busy = idle_half x q h there stands h.origin refl
-busy_by_parts x q None whole None stands busy = absurd (cc)
-
--- The steps of RUN
-
-at_device : (s : Subsystem) → ArePlain s.mounted → (d : ℕ) (m : Mounted) → mounted_in s.mounted d ≡ Some m → Plainly m.device
-at_device s plain d m at = plain_of s plain d m.device (device_there s.mounted d m at)
-
-lessens_at : (s : Subsystem) → ArePlain s.mounted → (d : ℕ) (m : Mounted) → mounted_in s.mounted d ≡ Some m → is_busy (Some m) ≡ true →
-    StepLessens s m.device d (happens s (events.Step d)).behind
-lessens_at s plain d m at busy =
-    let x = m.device in
-    let there = device_there s.mounted d m at in
-    subst (λ (k : ℕ). StepLessens s x k (happens s (events.Step k)).behind) (number_found s.mounted d x there)
-    (step_lessens s x (own_place s d x there) (at_device s plain d m at) busy)
-
-not_busy : (b : Bool) → (b ≡ true → ⊥) → b ≡ false
-not_busy true never = absurd (never refl)
-not_busy false never = refl
-
-steps_end : (k : ℕ) (s : Subsystem) → ArePlain s.mounted → (d : ℕ) (m : Mounted) → mounted_in s.mounted d ≡ Some m → steps_left m.device ≤ k →
-    is_busy (mounted_in (last_behind s (steps k d s)).mounted d) ≡ false
+steps_end : (k : ℕ) (s : Subsystem) → ArePlain s.mounted → (d : ℕ) (x : MarksDevice) → device_in (devices_of s) d ≡ Some x →
+    Enough k x.history.running (half_by x.store.half) → is_busy (mounted_in (last_behind s (steps k d s)).mounted d) ≡ false
 unfolding L.steps
-steps_end zero s plain d m at few =
-    ap is_busy at
-    ∙ not_busy (is_busy (Some m)) (λ busy.
-    let some = busy_by_parts m.device (at_device s plain d m at) m.device.store.half refl m.device.history.running refl busy in omega (arith, some, few))
-steps_end (suc k) s plain d m at few =
-    by_busy (is_busy (Some m)) refl (λ now there less. steps_end k (happens s (events.Step d)).behind (event_plain s plain (events.Step d) tt) d now there less) where
-  by_busy : (b : Bool) → is_busy (Some m) ≡ b →
-      ((now : Mounted) → mounted_in (happens s (events.Step d)).behind.mounted d ≡ Some now → steps_left now.device ≤ k →
-      is_busy (mounted_in (last_behind (happens s (events.Step d)).behind (steps k d (happens s (events.Step d)).behind)).mounted d) ≡ false) →
-      is_busy (mounted_in (last_behind s (steps (suc k) d s)).mounted d) ≡ false
-  by_busy true busy go =
-      let l = lessens_at s plain d m at busy in
-      let less = l.less in
-      ap (λ (ts : List Logged). is_busy (mounted_in (last_behind s ts).mounted d)) (one_step k d s (ap is_busy at ∙ busy))
-      ∙ go l.now l.there (omega (arith, less, few))
-  by_busy false idle go =
-      ap (λ (ts : List Logged). is_busy (mounted_in (last_behind s ts).mounted d)) (no_steps (suc k) d s (ap is_busy at ∙ idle)) ∙ ap is_busy at ∙ idle
+steps_end zero s plain d x at enough =
+    let m = mounted_too s.mounted d x at in
+    let p = subst (λ (o : Option MarksDevice). IfSome o Plainly) at (device_so Plainly s.mounted d plain) in
+    let none = at_last x.history.running (half_by x.store.half) (few_ends x p) enough in
+    ap is_busy m.1 ∙ ap (λ (y : MarksDevice). is_some y.store.half || is_some y.history.running) m.2
+    ∙ ap (λ (r : Option OpenEntry). is_some x.store.half || is_some r) none.0
+    ∙ ap (λ (b : Bool). b || false) (half_none x.store.half none.1)
+steps_end (suc k) s plain d x at enough = by_busy (is_busy (mounted_in s.mounted d)) refl
+    (λ busy. let h = happens s (events.Step d) in
+    let z = step_fewer s plain d x at k busy enough in
+    steps_end k h.behind (event_plain s plain (events.Step d) tt) d z.behind.device (device_there h.behind.mounted d z.behind z.there) z.enough)
+  where
+    by_busy : (b : Bool) → is_busy (mounted_in s.mounted d) ≡ b →
+        (is_busy (mounted_in s.mounted d) ≡ true →
+        is_busy (mounted_in (last_behind (happens s (events.Step d)).behind (steps k d (happens s (events.Step d)).behind)).mounted d) ≡ false) →
+        is_busy (mounted_in (last_behind s (if b then step_logged s d (steps k d) else [])).mounted d) ≡ false
+    by_busy true is more = more is
+    by_busy false is more = is
 
--- whatever device it is of
-pub run_is_over : (s : Subsystem) → ArePlain s.mounted → (d : ℕ) → RunIsOver s d
-run_is_over s plain d = by_busy (is_busy (mounted_in s.mounted d)) refl where
-  by_busy : (b : Bool) → is_busy (mounted_in s.mounted d) ≡ b → RunIsOver s d
-  by_busy true busy =
-      let m = busy_there (mounted_in s.mounted d) busy in
-      ap (λ (ts : List Logged). is_busy (mounted_in (last_behind s ts).mounted d)) (run_busy s d busy)
-      ∙ steps_end most_steps s plain d m.0 m.1 (most_by (ends_left m.0.device.history.running) (half_by m.0.device.store.half)
-      (most_left m.0.device.history.running))
-  by_busy false idle = ap (λ (ts : List Logged). is_busy (mounted_in (last_behind s ts).mounted d)) (run_idle s d idle) ∙ idle
+pub run_is_over : (s : Subsystem) → ArePlain s.mounted → (d : ℕ) → HasDevice s d → RunIsOver s d
+unfolding L.line_logged
+run_is_over s plain d has = by_busy (is_busy (mounted_in s.mounted d)) refl where
+  by_device : (o : Option MarksDevice) → device_in (devices_of s) d ≡ o → IsSome o →
+      is_busy (mounted_in (last_behind s (steps most_steps d s)).mounted d) ≡ false
+  by_device (Some x) at some = steps_end most_steps s plain d x at (at_first x.history.running (half_by x.store.half))
+  by_device None at some = absurd (cc)
 
--- so the lines of a RUN lead an audit on behind the run of a deck that was read
-pub run_line_leads : (text : List ℕ) (deck : DeckLines) → parsed text ≡ Ok deck → (d : ℕ) → HasDevice (run_of deck).behind d →
-    RunIsOver (run_of deck).behind d × LineGoes (run_of deck).behind (wanted.Run d)
-run_line_leads text deck read d has =
-    let plain = plain_behind deck (read_served text deck read) in
-    let over = run_is_over (run_of deck).behind plain d in
-    (over, run_goes_on (run_of deck).behind plain d has over)
+  by_busy : (b : Bool) → is_busy (mounted_in s.mounted d) ≡ b →
+      is_busy (mounted_in (last_behind s (if b then steps most_steps d s else logged (Run d) (quietly s s ends.Idle) ∷ [])).mounted d) ≡ false
+  by_busy true is = by_device (device_in (devices_of s) d) refl has
+  by_busy false is = is

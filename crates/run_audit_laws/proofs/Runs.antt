@@ -1,8 +1,7 @@
 -- Where the lines of each event line lead an audit on, those of the whole run do.
-use Rattle.std.proofs.Common.{◌≡◌, ◌++◌, ℕ, Bool, true, false, List, [], ◌∷◌, map, length, arith, refl, sym, ap, subst, ◌∙◌, append_assoc}
+use Rattle.std.proofs.Common.{◌≡◌, ◌++◌, ℕ, List, [], ◌∷◌, Option, None, map, length, arith, refl, sym, ap, subst, ◌∙◌, append_assoc}
 use Rattle.std.specs.List.{flat_map}
 use Rattle.std.specs.Prelude.{Ok}
-use Rattle.ckd_types.specs.declared.paths.Side.{Side}
 use Rattle.deck_plan.specs.declared.event.EventLine.{EventLine}
 use Rattle.deck_plan.specs.declared.event.EventLine.TheVariants as events
 use Rattle.deck_text.specs.declared.line.DeviceLine.{DeviceLine}
@@ -12,7 +11,6 @@ use Rattle.report_text.specs.declared.line.ReportLine.{ReportLine}
 use Rattle.report_places.specs.declared.state.Due.TheVariants.{Nothing}
 use Rattle.deck_audit.specs.Device.{AuditedDevice, new_device}
 use Rattle.deck_audit.specs.State.{AuditState, first_state}
-use Rattle.device_defs.specs.Marks.{MarksDevice}
 use Rattle.run_report.specs.Closing.{ending_lines}
 use Rattle.run_report.specs.Events.{lines_of}
 use Rattle.run_report.specs.Report.{report_lines}
@@ -21,7 +19,8 @@ use Rattle.subsystem_defs.specs.Decks as D
 use Rattle.subsystem_defs.specs.Decks.{opened, opened_device, run_of}
 use Rattle.subsystem_defs.specs.Lines as L
 use Rattle.subsystem_defs.specs.Lines.{Asked, Logged, asked_by, last_behind, line_logged, run_lines}
-use Rattle.subsystem_defs.specs.Subsystem.{Mounted, Subsystem, devices_of}
+use Rattle.subsystem_defs.specs.Subsystem.{Mounted, Subsystem}
+use Rattle.report_places.specs.Place.{worker_of}
 use Rattle.run_audit_laws.specs.Runs.{
   AllAreOver,
   AllDo,
@@ -32,17 +31,17 @@ use Rattle.run_audit_laws.specs.Runs.{
   MayFollow,
   WholeLeads,
   behind_lines,
-  is_work,
   line_behind,
 }
 use Rattle.run_audit_laws.specs.Standing.{FramesAreDeclared, HasDevice, LeadsBy, LineLeads, audited, stand}
-use Rattle.run_audit_laws.specs.Steps.{LeadsTowards, Reaches, is_there}
+use Rattle.run_audit_laws.specs.Steps.{Reaches, is_there}
 use Rattle.run_audit_laws.proofs.Endings.{ending_leads}
-use Rattle.run_audit_laws.proofs.NextLines.{IsCalm, exactly_from, to_the_end, towards_from}
+use Rattle.run_audit_laws.proofs.NextLines.{exactly_from, to_the_end, towards_other}
 use Rattle.run_audit_laws.proofs.Leading.{leads_on}
 use Rattle.run_audit_laws.proofs.Behind.{AllSo, IsBehind, deck_all_so}
 use Rattle.run_audit_laws.proofs.DeckEvents.{OfNamed}
 use Rattle.run_audit_laws.proofs.Ties.{numbers_in}
+use Rattle.run_audit_laws.proofs.FramesOwned.{frames_are_declared}
 use Rattle.run_audit_laws.proofs.OrderedLines.{ordered_leads}
 use Rattle.run_audit_laws.proofs.RunEnds.{run_is_over}
 use Rattle.run_audit_laws.proofs.StillLines.{still_leads}
@@ -64,94 +63,82 @@ behind_both s (t ∷ ts) us = behind_both t.happened.behind ts us
 not_longer : (e : EventLine) (later : List EventLine) → e ∷ later ≡ later → ⊥
 not_longer e later is = let more : length (e ∷ later) ≡ length later = ap length is in omega (arith, more)
 
--- where the audit is behind some event lines: it waits only behind a piece of work
-record IsAt (waits : Bool) (s : Subsystem) (later : List EventLine) (u : AuditState) : Type 0 where
-  reaches : Reaches u (stand s later)
-  exact : waits ≡ false → u ≡ stand s later
-
-record Onward (waits : Bool) (s z : Subsystem) (later : List EventLine) (u : AuditState) (ls : List ReportLine) : Type 0 where
+-- where lines lead an audit: to where it stands behind an event line, or waits behind a piece of work of this device
+record Onward (n : Option ℕ) (z : Subsystem) (later : List EventLine) (u : AuditState) (ls : List ReportLine) : Type 0 where
   to : AuditState
   leads : LeadsBy u ls to
-  at : IsAt waits z later to
+  reaches : Reaches n to (stand z later)
 
-module _ (waits : Bool) (s : Subsystem) (later : List EventLine) (u : AuditState) where
+module _ (before : Option ℕ) (s : Subsystem) (later : List EventLine) (u : AuditState) where
   abbrev lines_at : EventLine → List ReportLine
   lines_at e = flat_map lines_of (line_logged s (asked_by e))
 
   -- to where the run stands
-  exactly : (e : EventLine) → IsCalm e → IsAt waits s (e ∷ later) u → LineLeads s e → Onward false s (line_behind s e) later u (lines_at e)
-  exactly e calm at leads = record {
+  exactly : (e : EventLine) → MayFollow before s e → Reaches before u (stand s (e ∷ later)) → LineLeads s e → (n : Option ℕ) →
+      Onward n (line_behind s e) later u (lines_at e)
+  exactly e may reaches leads n = record {
     to = stand (line_behind s e) later;
-    leads = exactly_from s (e ∷ later) calm u at.reaches (line_behind s e) later (not_longer e later) (lines_at e) (leads later);
-    at = record { reaches = is_there refl; exact = λ no_wait. refl };
+    leads = exactly_from s (e ∷ later) before may u reaches (line_behind s e) later (not_longer e later) (lines_at e) (leads later);
+    reaches = is_there refl;
   }
 
   -- or to where it waits
-  towards : (e : EventLine) → IsCalm e → IsAt waits s (e ∷ later) u → LineGoes s e → Onward true s (line_behind s e) later u (lines_at e)
-  towards e calm at goes =
-      let more = towards_from s (e ∷ later) calm u at.reaches (lines_at e) (stand (line_behind s e) later) (goes later) in
-      record { to = more.0; leads = more.1; at = record { reaches = more.2; exact = λ no_wait. absurd (cc) } }
+  towards : (e : EventLine) → MayFollow before s e → Reaches before u (stand s (e ∷ later)) → LineGoes s e →
+      Onward (worker_of e) (line_behind s e) later u (lines_at e)
+  towards e may reaches goes =
+      let more = towards_other s (e ∷ later) before may u reaches (line_behind s e) later (not_longer e later) (lines_at e) (worker_of e) (goes later) in
+      record { to = more.0; leads = more.1; reaches = more.2 }
 
--- a volume's failure, where the audit doesn't wait
-failed : (waits : Bool) (s : Subsystem) (later : List EventLine) (u : AuditState) (d : ℕ) (side : Side) → MayFollow waits (events.FailVolume d side) →
-    IsAt waits s (events.FailVolume d side ∷ later) u → LineLeads s (events.FailVolume d side) →
-    Onward false s (line_behind s (events.FailVolume d side)) later u (flat_map lines_of (line_logged s (asked_by (events.FailVolume d side))))
-failed true s later u d side may at leads = absurd may
-failed false s later u d side may at leads =
-    let e = events.FailVolume d side in record {
-      to = stand (line_behind s e) later;
-      leads = subst (λ (z : AuditState). LeadsBy z (flat_map lines_of (line_logged s (asked_by e))) (stand (line_behind s e) later)) (sym (at.exact refl))
-          (leads later);
-      at = record { reaches = is_there refl; exact = λ no_wait. refl };
-    }
-
-one_line : (waits : Bool) (s : Subsystem) (later : List EventLine) (u : AuditState) (e : EventLine) → MayFollow waits e → IsAt waits s (e ∷ later) u →
-    LineDoes s e → Onward (is_work e) s (line_behind s e) later u (flat_map lines_of (line_logged s (asked_by e)))
-one_line waits s later u (events.Step d) may at does = towards waits s later u (events.Step d) tt at does
-one_line waits s later u (events.Run d) may at does = towards waits s later u (events.Run d) tt at does
-one_line waits s later u (events.Back d) may at does = towards waits s later u (events.Back d) tt at does
-one_line waits s later u (events.Settle d) may at does = towards waits s later u (events.Settle d) tt at does
-one_line waits s later u (events.FailVolume d side) may at does = failed waits s later u d side may at does
-one_line waits s later u (events.Start path d) may at does = exactly waits s later u (events.Start path d) tt at does
-one_line waits s later u (events.Reset path d) may at does = exactly waits s later u (events.Reset path d) tt at does
-one_line waits s later u events.FailCache may at does = exactly waits s later u events.FailCache tt at does
-one_line waits s later u events.FailStore may at does = exactly waits s later u events.FailStore tt at does
-one_line waits s later u events.RepairCache may at does = exactly waits s later u events.RepairCache tt at does
-one_line waits s later u events.RepairStore may at does = exactly waits s later u events.RepairStore tt at does
-one_line waits s later u (events.Replace d side) may at does = exactly waits s later u (events.Replace d side) tt at does
-one_line waits s later u (events.Pair a b) may at does = exactly waits s later u (events.Pair a b) tt at does
-one_line waits s later u (events.Unpair a) may at does = exactly waits s later u (events.Unpair a) tt at does
-one_line waits s later u (events.Suspend a) may at does = exactly waits s later u (events.Suspend a) tt at does
-one_line waits s later u (events.Resume a) may at does = exactly waits s later u (events.Resume a) tt at does
-one_line waits s later u events.Power may at does = exactly waits s later u events.Power tt at does
+one_line : (before : Option ℕ) (s : Subsystem) (later : List EventLine) (u : AuditState) (e : EventLine) → MayFollow before s e →
+    Reaches before u (stand s (e ∷ later)) → LineDoes s e → Onward (worker_of e) (line_behind s e) later u (flat_map lines_of (line_logged s (asked_by e)))
+one_line before s later u (events.Step d) may reaches does = towards before s later u (events.Step d) may reaches does
+one_line before s later u (events.Run d) may reaches does = towards before s later u (events.Run d) may reaches does
+one_line before s later u (events.Back d) may reaches does = towards before s later u (events.Back d) may reaches does
+one_line before s later u (events.Settle d) may reaches does = towards before s later u (events.Settle d) may reaches does
+one_line before s later u (events.Start path d) may reaches does = exactly before s later u (events.Start path d) may reaches does None
+one_line before s later u (events.Reset path d) may reaches does = exactly before s later u (events.Reset path d) may reaches does None
+one_line before s later u events.FailCache may reaches does = exactly before s later u events.FailCache may reaches does None
+one_line before s later u events.FailStore may reaches does = exactly before s later u events.FailStore may reaches does None
+one_line before s later u (events.FailVolume d side) may reaches does = exactly before s later u (events.FailVolume d side) may reaches does None
+one_line before s later u events.RepairCache may reaches does = exactly before s later u events.RepairCache may reaches does None
+one_line before s later u events.RepairStore may reaches does = exactly before s later u events.RepairStore may reaches does None
+one_line before s later u (events.Replace d side) may reaches does = exactly before s later u (events.Replace d side) may reaches does None
+one_line before s later u (events.Pair a b) may reaches does = exactly before s later u (events.Pair a b) may reaches does None
+one_line before s later u (events.Unpair a) may reaches does = exactly before s later u (events.Unpair a) may reaches does None
+one_line before s later u (events.Suspend a) may reaches does = exactly before s later u (events.Suspend a) may reaches does None
+one_line before s later u (events.Resume a) may reaches does = exactly before s later u (events.Resume a) may reaches does None
+one_line before s later u events.Power may reaches does = exactly before s later u events.Power may reaches does None
 
 -- The lines of all of them
 
-lines_towards : (events : List EventLine) (waits : Bool) (s : Subsystem) (u : AuditState) → AllMayFollow waits events → AllDo s events →
-    IsAt waits s events u → LeadsTowards u (flat_map lines_of (run_lines (map asked_by events) s)) (stand (behind_lines s events) [])
+abbrev ReachesEnd : AuditState → List ReportLine → AuditState → Type 0
+ReachesEnd u ls t = (v : AuditState) × LeadsBy u ls v × ((n : Option ℕ) × Reaches n v t)
+
+lines_towards : (events : List EventLine) (before : Option ℕ) (s : Subsystem) (u : AuditState) → AllMayFollow before s events → AllDo s events →
+    Reaches before u (stand s events) → ReachesEnd u (flat_map lines_of (run_lines (map asked_by events) s)) (stand (behind_lines s events) [])
 unfolding L.run_lines
-lines_towards [] waits s u may does at = (u, refl, at.reaches)
-lines_towards (e ∷ later) waits s u may does at =
+lines_towards [] before s u may does reaches = (u, refl, (before, reaches))
+lines_towards (e ∷ later) before s u may does reaches =
     let ts = line_logged s (asked_by e) in
     let z = line_behind s e in
     let us = run_lines (map asked_by later) z in
-    let first = one_line waits s later u e may.0 at does.0 in
-    let rest = lines_towards later (is_work e) z first.to may.1 does.1 first.at in
-    subst (λ (l : List ReportLine). LeadsTowards u l (stand (last_behind s (ts ++ us)) [])) (sym (lines_both ts us))
-    (subst (λ (k : Subsystem). LeadsTowards u (flat_map lines_of ts ++ flat_map lines_of us) (stand k [])) (sym (behind_both s ts us))
+    let first = one_line before s later u e may.0 reaches does.0 in
+    let rest = lines_towards later (worker_of e) z first.to may.1 does.1 first.reaches in
+    subst (λ (l : List ReportLine). ReachesEnd u l (stand (last_behind s (ts ++ us)) [])) (sym (lines_both ts us))
+    (subst (λ (k : Subsystem). ReachesEnd u (flat_map lines_of ts ++ flat_map lines_of us) (stand k [])) (sym (behind_both s ts us))
     (rest.0, leads_on u first.to rest.0 (flat_map lines_of ts) (flat_map lines_of us) first.leads rest.1, rest.2))
 
 -- and those at the end
-lines_end : (events : List EventLine) (s : Subsystem) → AllMayFollow false events → AllDo s events → FramesAreDeclared (behind_lines s events) →
+lines_end : (events : List EventLine) (s : Subsystem) → AllMayFollow None s events → AllDo s events → FramesAreDeclared (behind_lines s events) →
     WholeLeads (stand s events) (flat_map lines_of (run_lines (map asked_by events) s) ++ ending_lines (ending (behind_lines s events)))
 lines_end events s may does framed =
     let z = behind_lines s events in
     let t : AuditState = record (stand z []) { due = Nothing } in
-    let first = lines_towards events false s (stand s events) may does (record { reaches = is_there refl; exact = λ no_wait. refl }) in
+    let first = lines_towards events None s (stand s events) may does (is_there refl) in
     let told = flat_map lines_of (run_lines (map asked_by events) s) in (
       t,
       leads_on (stand s events) first.0 t told (ending_lines (ending z)) first.1
-          (to_the_end z [] tt first.0 first.2 (ending_lines (ending z)) t refl (ending_leads z framed)),
+          (to_the_end z [] (first.2).0 tt first.0 (first.2).1 (ending_lines (ending z)) t refl (ending_leads z framed)),
       refl,
     )
 
@@ -165,7 +152,7 @@ first_devices deck (d ∷ ds) = ap (λ (l : List AuditedDevice). new_device deck
 pub first_stands : (deck : DeckLines) → first_state deck ≡ stand (opened deck) deck.events
 first_stands deck = ap (λ (l : List AuditedDevice). record (first_state deck) { devices = l }) (first_devices deck deck.devices)
 
-pub run_leads : (deck : DeckLines) → AllMayFollow false deck.events → AllDo (opened deck) deck.events → FramesAreDeclared (run_of deck).behind →
+pub run_leads : (deck : DeckLines) → AllMayFollow None (opened deck) deck.events → AllDo (opened deck) deck.events → FramesAreDeclared (run_of deck).behind →
     WholeLeads (first_state deck) (report_lines (run_of deck))
 unfolding D.run_asked
 run_leads deck may does framed =
@@ -176,7 +163,7 @@ run_leads deck may does framed =
 module _ (s : Subsystem) (numbers : List ℕ) (k : IsBehind numbers s) where
   line_does : (e : EventLine) → OfNamed (HasDevice s) e → IsOver s e → LineDoes s e
   line_does (events.Step d) has over = step_goes_on s k.plain d has
-  line_does (events.Run d) has over = run_goes_on s k.plain d has (run_is_over s k.plain d)
+  line_does (events.Run d) has over = run_goes_on s k.plain d has (run_is_over s k.plain d has)
   line_does (events.Back d) has over = back_goes_on s k.plain k.good d has
   line_does (events.Settle d) has over = settle_goes_on s k.plain k.good d has over
   line_does (events.FailVolume d side) has over = ordered_leads numbers s k (events.FailVolume d side) has
@@ -197,9 +184,9 @@ all_do : (events : List EventLine) (s : Subsystem) → AllSo (λ z e. IsOver z e
 all_do [] s so over = tt
 all_do (e ∷ later) s so over = (so.0 over.0, all_do later (line_behind s e) so.1 over.1)
 
-pub report_leads : (text : List ℕ) (deck : DeckLines) → parsed text ≡ Ok deck → AllMayFollow false deck.events → AllAreOver (opened deck) deck.events →
-    FramesAreDeclared (run_of deck).behind → WholeLeads (first_state deck) (report_lines (run_of deck))
-report_leads text deck read may over framed =
+pub report_leads : (text : List ℕ) (deck : DeckLines) → parsed text ≡ Ok deck → AllMayFollow None (opened deck) deck.events → AllAreOver (opened deck) deck.events →
+    WholeLeads (first_state deck) (report_lines (run_of deck))
+report_leads text deck read may over =
     run_leads deck may
     (all_do deck.events (opened deck)
-    (deck_all_so text deck read (λ z e. IsOver z e → LineDoes z e) (λ z e k served has over. line_does z (numbers_in deck) k e has over)) over) framed
+    (deck_all_so text deck read (λ z e. IsOver z e → LineDoes z e) (λ z e k served has over. line_does z (numbers_in deck) k e has over)) over) (frames_are_declared deck)

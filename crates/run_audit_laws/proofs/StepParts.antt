@@ -1,6 +1,5 @@
 -- What a command, and the second part of a write, make of a device beside its history: it is the same device, with a half write or none.
-use Rattle.std.proofs.Common.{◌≡◌, ◌*◌, ℕ, Bool, true, false, List, Option, Some, None, refl, sym, ap, subst, ◌∙◌, arith, if◌then◌else◌}
-use Rattle.ckd_types.specs.declared.channel.CommandEnd.{CommandEnd}
+use Rattle.std.proofs.Common.{◌≡◌, ℕ, Bool, true, false, List, Option, Some, None, refl, sym, ap, subst, ◌∙◌, arith, if◌then◌else◌}
 use Rattle.ckd_chain.specs.declared.progress.Progress.{Progress}
 use Rattle.ckd_chain.specs.declared.progress.Progress.TheVariants as progresses
 use Rattle.ckd_chain.specs.declared.progress.Settled.TheVariants.{Equipment}
@@ -12,7 +11,7 @@ use Rattle.ckd_types.specs.declared.record.Track.{Track}
 use Rattle.plain_defs.specs.History.{History, OpenEntry, ended, plain_of}
 use Rattle.plain_defs.specs.Journal.{replay}
 use Rattle.plain_defs.specs.Legal.{AreActs}
-use Rattle.plain_defs.specs.PlainState.{PathsState, PlainState}
+use Rattle.plain_defs.specs.PlainState.{PlainState}
 use Rattle.plain_device.specs.Acted.{paths_behind, settled_act}
 use Rattle.track_image.specs.Image.{Image}
 use Rattle.device_outside.specs.Interaction.{Interaction}
@@ -29,15 +28,14 @@ use Rattle.device_defs.specs.Device.{all_acted, event, event_begun, with_store}
 use Rattle.device_defs.specs.Events as V
 use Rattle.device_defs.specs.Events.{command_ended, second, second_ended, second_of, second_turn}
 use Rattle.device_defs.specs.Marks.{MarksDevice, MarksStore}
-use Rattle.device_defs.specs.Outcomes.{Turn, checks, ends_with, program_over, sense_kept, settles, told_step, turned, turned_by}
+use Rattle.device_defs.specs.Outcomes.{Turn, checks, program_over, sense_kept, settles, told_step, turned, turned_by}
 use Rattle.device_defs.specs.Owed.{begun, waiting_count}
-use Rattle.device_defs.specs.Second.{second_part}
 use Rattle.device_defs.specs.Store as store
 use Rattle.device_defs.specs.Store.{Origin, OfBackground, OfCommand, OfCut, tracks_of}
 use Rattle.device_laws.proofs.Had.{Had, had_done, had_if, had_then, had_try}
 use Rattle.device_laws.proofs.PlainCommand.{on, runs_on, walking_first}
 use Rattle.device_laws.proofs.PlainLooks.{EditSo, FollowSo, TurnIs, data_check, ended_so, equipment, follow_so, from_itself, half_open}
-use Rattle.device_laws.proofs.PlainSeconds.{Edited, SecondSo, holds_first, part_so}
+use Rattle.device_laws.proofs.PlainSeconds.{SecondSo, holds_first, part_so}
 use Rattle.device_laws.proofs.PlainStores.{Core, Open, Walks, core_of, open_of}
 use Rattle.device_laws.proofs.PlainTurns.{Follows, Halfway, IsMid, IsMidOf, RunsAt, none_mid, some_none}
 use Rattle.device_laws.proofs.PlainWalks.{IsEdited, ended_same, firmly, hear_same, loosely, loosened}

@@ -1,21 +1,18 @@
 -- An audit says yes to a text of which the lines lead it to FINISH.
-use Rattle.std.proofs.Common.{◌≡◌, ◌≤◌, ◌+◌, ℕ, Bool, true, false, List, [], ◌∷◌, drop, length, map, Option, Some, None, refl, sym, ap, ◌∙◌, if◌then◌else◌, arith}
+use Rattle.std.proofs.Common.{◌≡◌, ◌≤◌, ◌+◌, ℕ, Bool, true, false, List, [], ◌∷◌, length, map, Some, None, sym, ap, ◌∙◌, if◌then◌else◌, arith}
 use Rattle.std.specs.Prelude.{All, nat_lt, Result, Ok, Err}
 use Rattle.std.proofs.lemmas.Bool.Decides.{nat_tests}
 use Rattle.std.proofs.lemmas.List.Elements.{All-head, All-tail}
 use Rattle.deck_text.specs.declared.line.DeckFault.{DeckFault}
 use Rattle.deck_text.specs.declared.line.Which.TheVariants.{Size}
 use Rattle.deck_text.specs.DeckLines.{DeckLines}
-use Rattle.deck_text.specs.Parse.{parsed}
 use Rattle.report_reading.specs.declared.fault.LineFault.{LineFault}
 use Rattle.report_reading.specs.Ranges.{IsLine, form_fault, has_form}
 use Rattle.report_reading.specs.Reading.{line_of}
 use Rattle.report_text.specs.declared.line.ReportLine.{ReportLine}
 use Rattle.report_text.specs.Lines.{text_of}
-use Rattle.report_places.specs.declared.state.Due.{Due}
 use Rattle.report_places.specs.declared.state.Due.TheVariants.{Nothing}
 use Rattle.deck_audit.specs.State.{AuditState, first_state}
-use Rattle.report_auditor.specs.declared.status.AuditStatus.{AuditStatus}
 use Rattle.report_auditor.specs.declared.status.AuditStatus.TheVariants.{Limit, Yes}
 use Rattle.report_auditor.specs.declared.status.AuditWhy.{AuditWhy}
 use Rattle.report_auditor.specs.Verdict as V
@@ -23,8 +20,9 @@ use Rattle.report_auditor.specs.Verdict.{at_end, cut_lines, deck_judged, deck_pa
 use Rattle.run_report.specs.Report.{report_lines}
 use Rattle.subsystem_defs.specs.Decks.{opened, run_of}
 use Rattle.run_audit_laws.specs.Runs.{AllAreOver, AllMayFollow, WholeLeads}
-use Rattle.run_audit_laws.specs.Standing.{FramesAreDeclared, LeadsBy}
-use Rattle.run_audit_laws.specs.Texts.{IsOwnReport, IsWritten}
+use Rattle.run_audit_laws.specs.Standing.{LeadsBy}
+use Rattle.run_audit_laws.specs.Texts.{IsOwnReport}
+use Rattle.run_audit_laws.proofs.Forms.{Formed, report_has_form}
 use Rattle.run_audit_laws.proofs.Runs.{report_leads}
 
 not_long : (most n : ℕ) → n ≤ most → nat_lt most n ≡ false
@@ -32,18 +30,18 @@ not_long most n le = grind (arith, nat_tests, le)
 
 -- where what is written is read back
 module _ (again : (line : ReportLine) → IsLine line → line_of (text_of line) ≡ (if has_form line then Ok line else Err (form_fault line))) where
-  read_again : (line : ReportLine) → IsWritten line → line_of (text_of line) ≡ Ok line
-  read_again line w = again line w.0 ∙ ap (λ (b : Bool). by_form b) w.1 where
+  read_again : (line : ReportLine) → IsLine line → has_form line ≡ true → line_of (text_of line) ≡ Ok line
+  read_again line ranges form = again line ranges ∙ ap (λ (b : Bool). by_form b) form where
     by_form : Bool → Result ReportLine LineFault
     by_form b = if b then Ok line else Err (form_fault line)
 
-  all_texts : (lines : List ReportLine) (n : ℕ) (s t : AuditState) → All IsWritten lines → LeadsBy s lines t → t.due ≡ Nothing →
+  all_texts : (lines : List ReportLine) (n : ℕ) (s t : AuditState) → All IsLine lines → All Formed lines → LeadsBy s lines t → t.due ≡ Nothing →
       judged_lines n s (map text_of lines) ≡ Yes
-  all_texts [] n s t written leads done = ap (at_end n) (ap (λ (z : AuditState). z.due) (sym leads) ∙ done)
-  all_texts (line ∷ lines) n s t written leads done =
-      let first = ap (judged_by s) (read_again line (All-head IsWritten line lines written)) ∙ leads.1 in
+  all_texts [] n s t written formed leads done = ap (at_end n) (ap (λ (z : AuditState). z.due) (sym leads) ∙ done)
+  all_texts (line ∷ lines) n s t written formed leads done =
+      let first = ap (judged_by s) (read_again line (All-head IsLine line lines written) (All-head Formed line lines formed)) ∙ leads.1 in
       ap (λ (r : Result AuditState AuditWhy). or_no n r (λ u. judged_lines (n + 1) u (map text_of lines))) first
-      ∙ all_texts lines (n + 1) leads.0 t (All-tail IsWritten line lines written) leads.2 done
+      ∙ all_texts lines (n + 1) leads.0 t (All-tail IsLine line lines written) (All-tail Formed line lines formed) leads.2 done
 
   -- a whole text
   yes_by : (text : List ℕ) (deck : DeckLines) → (o : IsOwnReport text deck) → WholeLeads (first_state deck) (report_lines (run_of deck)) → read_back text ≡ Yes
@@ -53,9 +51,9 @@ module _ (again : (line : ReportLine) → IsLine line → line_of (text_of line)
       ∙ ap (read_back_at text) o.found
       ∙ ap (λ (r : Result DeckLines DeckFault). deck_judged r text (Some o.lines)) o.parses
       ∙ ap (judged_lines (o.lines + 2) (first_state deck)) o.says
-      ∙ all_texts (report_lines (run_of deck)) (o.lines + 2) (first_state deck) leads.0 o.written leads.1 leads.2
+      ∙ all_texts (report_lines (run_of deck)) (o.lines + 2) (first_state deck) leads.0 o.written (report_has_form deck) leads.1 leads.2
 
-  pub own_report_is_yes : (text : List ℕ) (deck : DeckLines) → IsOwnReport text deck → AllMayFollow false deck.events → AllAreOver (opened deck) deck.events →
-      FramesAreDeclared (run_of deck).behind → read_back text ≡ Yes
-  own_report_is_yes text deck o may over framed =
-      yes_by text deck o (report_leads (deck_part text (Some o.lines)) deck o.parses may over framed)
+  pub own_report_is_yes : (text : List ℕ) (deck : DeckLines) → IsOwnReport text deck → AllMayFollow None (opened deck) deck.events → AllAreOver (opened deck) deck.events →
+      read_back text ≡ Yes
+  own_report_is_yes text deck o may over =
+      yes_by text deck o (report_leads (deck_part text (Some o.lines)) deck o.parses may over)

@@ -27,7 +27,6 @@ use Rattle.std.proofs.lemmas.Bool.{eq-eqb, eqb-false, eqb-true, ne_eqb}
 use Rattle.std.proofs.lemmas.List.Elements.{All-head}
 use Rattle.ckd_types.specs.declared.paths.Side.{Side}
 use Rattle.ckd_types.specs.declared.paths.Side.TheVariants as sides
-use Rattle.loss_model.specs.declared.Loss.{Loss}
 use Rattle.loss_model.specs.declared.Loss.TheVariants as losses
 use Rattle.deck_text.specs.declared.line.DeviceLine.{DeviceLine}
 use Rattle.deck_text.specs.DeckLines.{DeckLines}
@@ -629,7 +628,7 @@ module _ (ns : List ℕ) where
   abbrev Shown : Subsystem → Logged → Type 0
   Shown s t = Unit {0}
 
-  event_tied : (s : Subsystem) (e : Event) → So s → So (happens s e).behind
+  pub event_tied : (s : Subsystem) (e : Event) → So s → So (happens s e).behind
   unfolding H.happens
   event_tied s e t = happens_tied ns s (deed by_plain s.pool (devices_of s) e) (deed_is s (KeepsTies s) (ties_keep s) e) t
 
@@ -637,7 +636,7 @@ module _ (ns : List ℕ) where
   side_same m sides.A volume = refl
   side_same m sides.B volume = refl
 
-  replaced_tied : (s : Subsystem) (n : ℕ) (side : Side) (o : Option Mounted) → mounted_in s.mounted n ≡ o → So s →
+  pub replaced_tied : (s : Subsystem) (n : ℕ) (side : Side) (o : Option Mounted) → mounted_in s.mounted n ≡ o → So s →
       So (replaced_at s n side unfailing o).behind
   replaced_tied s n side None there t = t
   replaced_tied s n side (Some m) there t = by_fault (replace_fault m.device side) where
@@ -647,7 +646,7 @@ module _ (ns : List ℕ) where
         same_tied ns (ties s.mounted) _
         (put_same s.mounted n (with_calls (record m { device = replace m.device side }) side unfailing) m there (side_same m side unfailing)) t
 
-  unpaired_tied : (s : Subsystem) (n : ℕ) (o : Option Mounted) → mounted_in s.mounted n ≡ o → So s → So (unpaired_at s n unfailing o).behind
+  pub unpaired_tied : (s : Subsystem) (n : ℕ) (o : Option Mounted) → mounted_in s.mounted n ≡ o → So s → So (unpaired_at s n unfailing o).behind
   unpaired_tied s n None there t = t
   unpaired_tied s n (Some m) there t = by_fault (unpair_fault m.device) where
     by_fault : (f : Option OrderFault) → So (unpaired_by s n unfailing m f).behind

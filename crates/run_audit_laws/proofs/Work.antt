@@ -259,11 +259,11 @@ module _ (xs : List AuditedDevice) (w : EventLine) (later : List EventLine) (n :
     -- no volume call: the program is over at once, or what was done is known at the next line
     quiet_tail : (o : Option ReportLine) → over_by a did a.history.running ≡ o → ((line : ReportLine) → o ≡ Some line → IsOver line
         × (is_of_work more (worker_number (at_work a (Behind more did))) line ≡ false)) →
-        (u : AuditState) × LeadsBy (at_work a (Behind more did)) (line_if o) u × Reaches u (end_of o)
+        (u : AuditState) × LeadsBy (at_work a (Behind more did)) (line_if o) u × Reaches (worker_of w) u (end_of o)
     quiet_tail None none over = (
       at_work a (Behind more did),
       refl,
-      is_waiting more did refl (ap (λ (k : Option AuditedDevice). holds k (is_legal did)) (worker_is a (Behind more did) same) ∙ legal) (settled_plainly none),
+      is_waiting more did refl refl (ap (λ (k : Option AuditedDevice). holds k (is_legal did)) (worker_is a (Behind more did) same) ∙ legal) (settled_plainly none),
     )
     quiet_tail (Some line) is over =
         let s = at_work a (Behind more did) in
@@ -284,7 +284,7 @@ module _ (xs : List AuditedDevice) (w : EventLine) (later : List EventLine) (n :
     -- volume calls, and the program that is over
     told_tail : (io : ReportLine) → is_io io ≡ true → (o : Option ReportLine) → over_by a did a.history.running ≡ o →
         ((line : ReportLine) → o ≡ Some line → IsOver line) →
-        (u : AuditState) × LeadsBy (at_work a (Behind more did)) (io ∷ line_if o) u × Reaches u (end_of o)
+        (u : AuditState) × LeadsBy (at_work a (Behind more did)) (io ∷ line_if o) u × Reaches (worker_of w) u (end_of o)
     told_tail io is None none over = (
       behind_event (worked a did) did,
       (behind_event (worked a did) did, io_judged a same more did io is legal ∙ ap (λ (y : AuditState). Ok y) (settled_plainly none), refl),
@@ -303,9 +303,9 @@ module _ (xs : List AuditedDevice) (w : EventLine) (later : List EventLine) (n :
 
     pub tail_leads : (reads writes : ℕ) (o : Option ReportLine) → over_by a did a.history.running ≡ o → ((line : ReportLine) → o ≡ Some line → IsOver line
         × (is_of_work more (worker_number (at_work a (Behind more did))) line ≡ false)) →
-        (u : AuditState) × LeadsBy (at_work a (Behind more did)) (io_lines reads writes ++ line_if o) u × Reaches u (end_of o)
+        (u : AuditState) × LeadsBy (at_work a (Behind more did)) (io_lines reads writes ++ line_if o) u × Reaches (worker_of w) u (end_of o)
     tail_leads reads writes o is over = by_calls ((reads == 0) && (writes == 0)) where
       by_calls : (b : Bool) → (u : AuditState) × LeadsBy (at_work a (Behind more did)) ((if b then [] else lines.Io reads writes ∷ []) ++ line_if o) u
-          × Reaches u (end_of o)
+          × Reaches (worker_of w) u (end_of o)
       by_calls true = quiet_tail o is over
       by_calls false = told_tail (lines.Io reads writes) refl o is (λ line found. (over line found).0)

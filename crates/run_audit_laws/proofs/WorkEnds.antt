@@ -1,6 +1,6 @@
 -- The lines of one piece of work, whichever event line has it.
-use Rattle.std.proofs.Common.{◌≡◌, ◌==◌, ◌++◌, ℕ, Bool, true, false, not, List, [], ◌∷◌, map, Option, Some, None, refl, sym, ap, subst, ◌∙◌, if◌then◌else◌}
-use Rattle.std.specs.Prelude.{◌&&◌, ◌||◌, Ok, Err, option_map}
+use Rattle.std.proofs.Common.{◌≡◌, ◌==◌, ◌++◌, ℕ, Bool, true, false, List, [], ◌∷◌, map, Option, Some, None, refl, sym, ap, subst, ◌∙◌, if◌then◌else◌}
+use Rattle.std.specs.Prelude.{◌&&◌, ◌||◌, Err, option_map}
 use Rattle.ckd_types.specs.declared.channel.CommandEnd.{CommandEnd}
 use Rattle.ckd_types.specs.Sense.{equipment_sense}
 use Rattle.deck_plan.specs.declared.event.EventLine.{EventLine}
@@ -18,29 +18,16 @@ use Rattle.report_text.specs.Ends.{end_line}
 use Rattle.report_text.specs.Events.{io_lines, line_if}
 use Rattle.report_places.specs.declared.state.Did.{Did}
 use Rattle.report_places.specs.declared.state.Did.TheVariants.{CheckEnded, Ended, Halved, Worked}
-use Rattle.report_places.specs.declared.state.Due.TheVariants.{Behind, Next}
+use Rattle.report_places.specs.declared.state.Due.TheVariants.{Next}
 use Rattle.report_places.specs.declared.state.HalfWrite.{HalfWrite}
 use Rattle.report_places.specs.declared.state.HalfWrite.TheVariants as half
 use Rattle.report_places.specs.declared.state.Outline.{Outline}
-use Rattle.report_places.specs.Place.{holds, in_event, in_steps, is_back_line, is_end, is_half, is_second_line, may_back, may_step, outline_in, second_of, worker_of}
-use Rattle.deck_audit.specs.Device.{
-  AuditedDevice,
-  check_end,
-  device_in,
-  is_idle,
-  is_next_legal,
-  open_program,
-  outline_of,
-  plain_end,
-  state_of,
-  with_device,
-  words_of_open,
-}
+use Rattle.report_places.specs.Place.{holds, in_event, in_steps, is_back_line, is_second_line, may_back, may_step, outline_in, second_of, worker_of}
+use Rattle.deck_audit.specs.Device.{AuditedDevice, check_end, device_in, is_idle, open_program, outline_of, state_of, with_device, words_of_open}
 use Rattle.deck_audit.specs.History.{back_half, event_made, is_last, is_legal, work_made}
-use Rattle.deck_audit.specs.State.{AuditState, is_event_over, outlines, worked}
+use Rattle.deck_audit.specs.State.{AuditState, outlines, worked}
 use Rattle.report_auditor.specs.declared.status.AuditWhy.TheVariants.{Place}
 use Rattle.report_auditor.specs.Verdict.{judged, or_history}
-use Rattle.run_audit_laws.specs.Standing.{LeadsBy}
 use Rattle.run_audit_laws.specs.Steps.{LeadsTowards, NoLoss, Reaches, act_line, acted_to, over_if, over_told, step_lines}
 use Rattle.run_audit_laws.proofs.Backs.{over_halved, over_worked, work_leads}
 use Rattle.run_audit_laws.proofs.CameOut.{ChecksSo, EndsSo, firmly, loosely}
@@ -48,7 +35,7 @@ use Rattle.run_audit_laws.proofs.Commands.{check_command_leads, loose_command_le
 use Rattle.run_audit_laws.proofs.Found.{outlined}
 use Rattle.run_audit_laws.proofs.Leading.{then_some}
 use Rattle.run_audit_laws.proofs.Saying.{both, same_number}
-use Rattle.run_audit_laws.proofs.Work.{at_work, behind_event, end_of}
+use Rattle.run_audit_laws.proofs.Work.{behind_event, end_of}
 
 -- The event lines whose pieces of work are of the device of a number
 
@@ -205,13 +192,13 @@ module _ (xs : List AuditedDevice) (later : List EventLine) (a : AuditedDevice) 
       ends_lead reads writes e acts (firmly bs plain none are legal) few =
           let leads = plain_command_leads xs w later a has (works (ends_work k)) o running plainly (end_stands w h k is) (makes w (ends_work k)) e plain few bs
           none are reads writes legal in
-          (leads.0, leads.1, subst (λ (t : AuditState). Reaches leads.0 t) (over_piece (acted_to a bs) refl true e legal (over_told a o how.Full) e.over) leads.2)
+          (leads.0, leads.1, subst (λ (t : AuditState). Reaches (worker_of w) leads.0 t) (over_piece (acted_to a bs) refl true e legal (over_told a o how.Full) e.over) leads.2)
       ends_lead reads writes e acts (loosely bs t plain none are may legal) few =
           let leads = loose_command_leads xs w later a has (works (ends_work k)) o running plainly (end_stands w h k is) (makes w (ends_work k)) e plain few bs
           none are reads writes t may legal in (
             leads.0,
             leads.1,
-            subst (λ (z : AuditState). Reaches leads.0 z)
+            subst (λ (z : AuditState). Reaches (worker_of w) leads.0 z)
                 (over_piece (acted_to a (bs ++ Loosen t ∷ [])) refl false e legal (over_told a o how.Full) e.over) leads.2,
           )
 
@@ -225,7 +212,7 @@ module _ (xs : List AuditedDevice) (later : List EventLine) (a : AuditedDevice) 
           (behind_piece xs w later (record a { history = checked (all_acted a.history acts) f; half = half.Closed }) false)) (sym c.is_so) (
             leads.0,
             leads.1,
-            subst (λ (z : AuditState). Reaches leads.0 z)
+            subst (λ (z : AuditState). Reaches (worker_of w) leads.0 z)
                 (piece_is xs later a.number a has w (ends_work k) (worked (acted_to a acts) (CheckEnded (check_end (words_of_open a o) c.plain.index c.sense)))
                 Halved) leads.2,
           )
@@ -259,7 +246,7 @@ module _ (xs : List AuditedDevice) (later : List EventLine) (a : AuditedDevice) 
         (first_judged w (ends_work k) (lines.Half o.path a.number track) (half_stands w k closed track)) acts none are reads writes in (
           leads.0,
           leads.1,
-          subst (λ (z : AuditState). Reaches leads.0 z)
+          subst (λ (z : AuditState). Reaches (worker_of w) leads.0 z)
               (piece_is xs later a.number a has w (ends_work k) (record a { history = all_acted a.history acts; half = half.OfCommand }) Halved) leads.2,
         )
 
@@ -310,7 +297,7 @@ module _ (xs : List AuditedDevice) (later : List EventLine) (a : AuditedDevice) 
       (first_judged w (tells_work k) (lines.Back a.number answer) (tells_stand k is)) acts none are reads writes in (
         leads.0,
         leads.1,
-        subst (λ (z : AuditState). Reaches leads.0 z)
+        subst (λ (z : AuditState). Reaches (worker_of w) leads.0 z)
             (piece_is xs later a.number a has w (tells_work k) (record a { history = all_acted a.history acts; half = back_half a answer })
             (Worked (is_last answer))) leads.2,
       )

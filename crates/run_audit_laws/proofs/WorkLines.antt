@@ -1,15 +1,13 @@
 -- The lines of STEP and RUN lead the audit on behind the run of a deck.
 use Rattle.std.proofs.Common.{◌≡◌, ◌==◌, ◌++◌, ℕ, zero, suc, Bool, true, false, not, List, [], ◌∷◌, map, Option, Some, None, refl, sym, ap, subst, ◌∙◌, if◌then◌else◌}
-use Rattle.std.specs.Prelude.{◌||◌, is_some, IfSome, IsSome, Ok}
+use Rattle.std.specs.Prelude.{◌||◌, is_some, IfSome, Ok}
 use Rattle.std.specs.List.{flat_map}
 use Rattle.std.proofs.lemmas.List.{append-nil}
 use Rattle.deck_plan.specs.declared.event.EventLine.{EventLine}
 use Rattle.deck_plan.specs.declared.event.EventLine.TheVariants as wanted
 use Rattle.deck_text.specs.DeckLines.{DeckLines}
 use Rattle.deck_text.specs.Parse.{parsed}
-use Rattle.plain_defs.specs.History.{OpenEntry}
 use Rattle.device_defs.specs.Marks.{MarksDevice}
-use Rattle.device_defs.specs.Store as store
 use Rattle.report_text.specs.declared.answers.BackAnswer.TheVariants as back
 use Rattle.report_text.specs.declared.event.Happened.TheVariants as did
 use Rattle.report_text.specs.declared.line.ReportLine.{ReportLine}
@@ -51,13 +49,14 @@ use Rattle.subsystem_laws.proofs.ReadDecks.{read_served}
 use Rattle.subsystem_laws.proofs.RunLines.{AnyEvent, all_asked}
 use Rattle.subsystem_laws.proofs.RunLinks.{event_from}
 use Rattle.subsystem_laws.proofs.Walks.{AreSo, device_so, event_so, lines_end_so}
-use Rattle.run_audit_laws.specs.Runs.{LineGoes, RunIsOver, SettleIsOver, ends_settled, line_behind}
+use Rattle.run_audit_laws.specs.Runs.{LineGoes, RunIsOver, SettleIsOver, ends_settled}
 use Rattle.run_audit_laws.specs.Standing.{HasDevice, LeadsBy, stand}
 use Rattle.run_audit_laws.specs.Steps.{LeadsTowards, is_there}
 use Rattle.run_audit_laws.proofs.Found.{mounted_too}
 use Rattle.run_audit_laws.proofs.NextLines.{towards_then}
 use Rattle.run_audit_laws.proofs.PieceEvents.{PieceGoes, back_goes, back_piece, run_idle_leads, run_step_goes, settle_piece, step_line_goes}
 use Rattle.run_audit_laws.proofs.Pieces.{by_back, by_settle}
+use Rattle.run_audit_laws.proofs.RunEnds.{run_is_over}
 use Rattle.run_audit_laws.proofs.StillLines.{some_device}
 use Rattle.run_audit_laws.proofs.WorkEnds.{left_by}
 
@@ -76,12 +75,12 @@ one_goes s w h is before leads later =
     (subst (λ (l : List ReportLine). LeadsTowards (stand s (w ∷ later)) l (stand h.behind later))
     (told_from s (asked_by w) h before ∙ sym (append-nil (lines_of (logged (asked_by w) h)))) (leads later))
 
-pub plain_of : (s : Subsystem) → ArePlain s.mounted → (n : ℕ) (x : MarksDevice) → device_in (devices_of s) n ≡ Some x → Plainly x
+plain_of : (s : Subsystem) → ArePlain s.mounted → (n : ℕ) (x : MarksDevice) → device_in (devices_of s) n ≡ Some x → Plainly x
 plain_of s plain n x at = subst (λ (o : Option MarksDevice). IfSome o Plainly) at (device_so Plainly s.mounted n plain)
 
 -- A device by its own number
 
-pub own_place : (s : Subsystem) (n : ℕ) (x : MarksDevice) → device_in (devices_of s) n ≡ Some x → device_in (devices_of s) x.store.device ≡ Some x
+own_place : (s : Subsystem) (n : ℕ) (x : MarksDevice) → device_in (devices_of s) n ≡ Some x → device_in (devices_of s) x.store.device ≡ Some x
 own_place s n x at = subst (λ (k : ℕ). device_in (devices_of s) k ≡ Some x) (sym (number_found s.mounted n x at)) at
 
 step_logged_is : (s : Subsystem) (d : ℕ) → line_logged s (Once (events.Step d)) ≡ logged (Once (events.Step d)) (happens s (events.Step d)) ∷ []
@@ -104,21 +103,21 @@ device_if : (b : Bool) (k m : Mounted) (o : Option Mounted) (q : Option MarksDev
 device_if true k m o q at more = let same : k ≡ m = cc in ap (λ (z : Mounted). Some z.device) same
 device_if false k m o q at more = more at
 
-pub device_there : (ms : List Mounted) (n : ℕ) (m : Mounted) → mounted_in ms n ≡ Some m → device_in (map (λ (k : Mounted). k.device) ms) n ≡ Some m.device
+device_there : (ms : List Mounted) (n : ℕ) (m : Mounted) → mounted_in ms n ≡ Some m → device_in (map (λ (k : Mounted). k.device) ms) n ≡ Some m.device
 device_there [] n m at = absurd (cc)
 device_there (k ∷ ms) n m at =
     device_if (number_of k == n) k m (mounted_in ms n) (device_in (map (λ (z : Mounted). z.device) ms) n) at (device_there ms n m)
 
-pub busy_there : (o : Option Mounted) → is_busy o ≡ true → (m : Mounted) × (o ≡ Some m)
+busy_there : (o : Option Mounted) → is_busy o ≡ true → (m : Mounted) × (o ≡ Some m)
 busy_there (Some m) busy = (m, refl)
 busy_there None busy = absurd (cc)
 
-pub no_steps : (k d : ℕ) (s : Subsystem) → is_busy (mounted_in s.mounted d) ≡ false → steps k d s ≡ []
+no_steps : (k d : ℕ) (s : Subsystem) → is_busy (mounted_in s.mounted d) ≡ false → steps k d s ≡ []
 unfolding L.steps
 no_steps zero d s idle = refl
 no_steps (suc k) d s idle = ap (λ (b : Bool). if b then step_logged s d (steps k d) else []) idle
 
-pub one_step : (k d : ℕ) (s : Subsystem) → is_busy (mounted_in s.mounted d) ≡ true →
+one_step : (k d : ℕ) (s : Subsystem) → is_busy (mounted_in s.mounted d) ≡ true →
     steps (suc k) d s ≡ logged (Run d) (happens s (events.Step d)) ∷ steps k d (happens s (events.Step d)).behind
 unfolding L.steps
 one_step k d s busy = ap (λ (b : Bool). if b then step_logged s d (steps k d) else []) busy
@@ -153,7 +152,7 @@ module _ (d : ℕ) (later : List EventLine) (k : ℕ) where
     by_busy : (b : Bool) → is_busy (mounted_in z.mounted d) ≡ b →
         LeadsTowards (stand s (wanted.Run d ∷ later)) (ls ++ flat_map lines_of (steps k d z)) (ended z)
     by_busy true busy =
-        towards_then z (wanted.Run d ∷ later) tt (stand s (wanted.Run d ∷ later)) (ended z) ls (flat_map lines_of (steps k d z))
+        towards_then z (wanted.Run d ∷ later) (Some d) tt (stand s (wanted.Run d ∷ later)) (ended z) ls (flat_map lines_of (steps k d z)) refl refl
         (subst (λ (l : List EventLine). LeadsTowards (stand s (wanted.Run d ∷ later)) ls (stand z l))
         (is ∙ ap (λ (b : Bool). if b then wanted.Run d ∷ later else later) busy) first)
         (rest busy)
@@ -187,11 +186,11 @@ run_logged_is : (s : Subsystem) (d : ℕ) → line_logged s (Run d) ≡ run_logg
 unfolding L.line_logged
 run_logged_is s d = refl
 
-pub run_busy : (s : Subsystem) (d : ℕ) → is_busy (mounted_in s.mounted d) ≡ true → line_logged s (Run d) ≡ steps most_steps d s
+run_busy : (s : Subsystem) (d : ℕ) → is_busy (mounted_in s.mounted d) ≡ true → line_logged s (Run d) ≡ steps most_steps d s
 run_busy s d busy =
     run_logged_is s d ∙ ap (λ (b : Bool). if b then steps most_steps d s else logged (Run d) (quietly s s ends.Idle) ∷ []) busy
 
-pub run_idle : (s : Subsystem) (d : ℕ) → is_busy (mounted_in s.mounted d) ≡ false → line_logged s (Run d) ≡ logged (Run d) (quietly s s ends.Idle) ∷ []
+run_idle : (s : Subsystem) (d : ℕ) → is_busy (mounted_in s.mounted d) ≡ false → line_logged s (Run d) ≡ logged (Run d) (quietly s s ends.Idle) ∷ []
 run_idle s d idle =
     run_logged_is s d ∙ ap (λ (b : Bool). if b then steps most_steps d s else logged (Run d) (quietly s s ends.Idle) ∷ []) idle
 
@@ -300,7 +299,7 @@ module _ (d : ℕ) (later : List EventLine) where
       let ts = backs k d h.behind in
       subst (λ (c : Bool). LeadsTowards (stand s (wanted.Settle d ∷ later)) (ls ++ flat_map lines_of ts)
       (stand (last_behind h.behind ts) (if c then later else wanted.Settle d ∷ later))) (sym (settled_behind (logged (Settle d) h) ts is))
-      (towards_then h.behind (wanted.Settle d ∷ later) tt (stand s (wanted.Settle d ∷ later)) (settled_to h.behind ts) ls (flat_map lines_of ts) first
+      (towards_then h.behind (wanted.Settle d ∷ later) (Some d) tt (stand s (wanted.Settle d ∷ later)) (settled_to h.behind ts) ls (flat_map lines_of ts) refl refl first
       (rest refl))
 
 all_backs_lead : (k : ℕ) (s : Subsystem) → ArePlain s.mounted → AreSo Good s.mounted → (d : ℕ) (x : MarksDevice) → device_in (devices_of s) d ≡ Some x →
@@ -336,6 +335,15 @@ settle_goes_on s plain good d has over later =
 pub step_line_leads : (text : List ℕ) (deck : DeckLines) → parsed text ≡ Ok deck → (d : ℕ) → HasDevice (run_of deck).behind d →
     LineGoes (run_of deck).behind (wanted.Step d)
 step_line_leads text deck read d has = step_goes_on (run_of deck).behind (plain_behind deck (read_served text deck read)) d has
+
+pub run_line_leads : (text : List ℕ) (deck : DeckLines) → parsed text ≡ Ok deck → (d : ℕ) → HasDevice (run_of deck).behind d →
+    LineGoes (run_of deck).behind (wanted.Run d)
+run_line_leads text deck read d has =
+    let plain = plain_behind deck (read_served text deck read) in
+    run_goes_on (run_of deck).behind plain d has (run_is_over (run_of deck).behind plain d has)
+
+pub runs_end : (text : List ℕ) (deck : DeckLines) → parsed text ≡ Ok deck → (d : ℕ) → HasDevice (run_of deck).behind d → RunIsOver (run_of deck).behind d
+runs_end text deck read d has = run_is_over (run_of deck).behind (plain_behind deck (read_served text deck read)) d has
 
 good_behind_run : (deck : DeckLines) → IsServedDeck deck → AreSo Good (run_of deck).behind.mounted
 unfolding D.run_asked

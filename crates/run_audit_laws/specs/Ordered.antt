@@ -1,5 +1,5 @@
 -- Event lines at which something is lost, or two devices become a pair or part.
-use Rattle.std.specs.Prelude.{ℕ, List, [], ◌∷◌}
+use Rattle.std.specs.Prelude.{List, [], ◌∷◌}
 use Rattle.deck_plan.specs.declared.event.EventLine.{EventLine}
 use Rattle.deck_plan.specs.declared.event.EventLine.TheVariants as events
 use Rattle.subsystem_defs.specs.Lines.{asked_by, last_behind, line_logged}

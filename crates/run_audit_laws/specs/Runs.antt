@@ -1,17 +1,21 @@
 -- How an audit goes along a run, from each event line of the deck to the next.
-use Rattle.std.specs.Prelude.{◌≡◌, ◌++◌, ℕ, Bool, true, false, List, [], ◌∷◌, map}
+use Rattle.std.specs.Prelude.{◌≡◌, ◌++◌, ℕ, Bool, true, false, List, [], ◌∷◌, map, Option, Some}
 use Rattle.std.specs.List.{flat_map}
 use Rattle.deck_plan.specs.declared.event.EventLine.{EventLine}
 use Rattle.deck_plan.specs.declared.event.EventLine.TheVariants as events
 use Rattle.report_text.specs.declared.line.ReportLine.{ReportLine}
 use Rattle.report_places.specs.declared.state.Due.TheVariants.{Nothing}
+use Rattle.report_places.specs.Place.{worker_of}
+use Rattle.deck_audit.specs.Device.{has_loose}
 use Rattle.deck_audit.specs.State.{AuditState}
+use Rattle.device_defs.specs.Marks.{MarksDevice}
 use Rattle.run_report.specs.Closing.{ending_lines}
 use Rattle.run_report.specs.Events.{lines_of}
 use Rattle.subsystem_defs.specs.Closing.{ending}
+use Rattle.subsystem_defs.specs.Deeds.{device_in}
 use Rattle.subsystem_defs.specs.Lines.{Logged, asked_by, is_busy, is_settled, last_behind, line_logged, run_lines}
-use Rattle.subsystem_defs.specs.Subsystem.{Subsystem, mounted_in}
-use Rattle.run_audit_laws.specs.Standing.{LeadsBy, LineLeads, stand}
+use Rattle.subsystem_defs.specs.Subsystem.{Subsystem, devices_of, mounted_in}
+use Rattle.run_audit_laws.specs.Standing.{LeadsBy, LineLeads, audited, stand}
 use Rattle.run_audit_laws.specs.Steps.{LeadsTowards}
 
 -- the subsystem behind an event line
@@ -37,14 +41,7 @@ ends_settled (t ∷ u ∷ ts) = ends_settled (u ∷ ts)
 abbrev pub SettleIsOver : Subsystem → ℕ → Type 0
 SettleIsOver s d = ends_settled (line_logged s (asked_by (events.Settle d))) ≡ true
 
--- behind a piece of work the audit may wait so; behind any other line it stands where the run does
-abbrev pub is_work : EventLine → Bool
-is_work (events.Step d) = true
-is_work (events.Run d) = true
-is_work (events.Back d) = true
-is_work (events.Settle d) = true
-is_work e = false
-
+-- behind a piece of work of a device the audit may wait so; behind any other line it stands where the run does
 abbrev pub LineDoes : Subsystem → EventLine → Type 0
 LineDoes s (events.Step d) = LineGoes s (events.Step d)
 LineDoes s (events.Run d) = LineGoes s (events.Run d)
@@ -52,14 +49,19 @@ LineDoes s (events.Back d) = LineGoes s (events.Back d)
 LineDoes s (events.Settle d) = LineGoes s (events.Settle d)
 LineDoes s e = LineLeads s e
 
--- directly behind a piece of work a volume's failure may be told by a line that reads as one more of it
-abbrev pub MayFollow : Bool → EventLine → Type 0
-MayFollow true (events.FailVolume d side) = ⊥
-MayFollow waits e = Unit {0}
+-- by its history the device holds no loose track
+abbrev pub HasNoneLoose : Subsystem → ℕ → Type 0
+HasNoneLoose s d = (x : MarksDevice) → device_in (devices_of s) d ≡ Some x → has_loose (audited x) ≡ false
 
-abbrev pub AllMayFollow : Bool → List EventLine → Type 0
-AllMayFollow waits [] = Unit {0}
-AllMayFollow waits (e ∷ later) = MayFollow waits e × AllMayFollow (is_work e) later
+-- directly behind a piece of work of the same device a volume's failure that makes tracks firm is told by lines that read as more of that work
+abbrev pub MayFollow : Option ℕ → Subsystem → EventLine → Type 0
+MayFollow (Some n) s (events.FailVolume d side) = n ≡ d → HasNoneLoose s d
+MayFollow before s e = Unit {0}
+
+-- run one after another, where the piece of work before them, if there is one, is of this device
+abbrev pub AllMayFollow : Option ℕ → Subsystem → List EventLine → Type 0
+AllMayFollow before s [] = Unit {0}
+AllMayFollow before s (e ∷ later) = MayFollow before s e × AllMayFollow (worker_of e) (line_behind s e) later
 
 -- what each line does, run one after another
 abbrev pub AllDo : Subsystem → List EventLine → Type 0

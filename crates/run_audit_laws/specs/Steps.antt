@@ -26,7 +26,7 @@ use Rattle.report_places.specs.declared.state.HalfWrite.{HalfWrite}
 use Rattle.report_places.specs.Place.{holds, may_back}
 use Rattle.deck_audit.specs.Device.{AuditedDevice, check_end, is_next_legal, may_loosen, outline_of, plain_end, state_of, with_device, words_of_open}
 use Rattle.deck_audit.specs.History.{back_half, is_legal}
-use Rattle.deck_audit.specs.State.{AuditState, settled, worker}
+use Rattle.deck_audit.specs.State.{AuditState, settled, worker, worker_number}
 use Rattle.run_audit_laws.specs.Standing.{LeadsBy}
 
 abbrev pub IsCheckSense : Sense → Type 0
@@ -50,11 +50,12 @@ pub record EndsLead (xs : List AuditedDevice) (later : List EventLine) (a : Audi
 abbrev pub StepEnds : List AuditedDevice → List EventLine → AuditedDevice → OpenEntry → Type 0
 StepEnds xs later a o = (p : CommandEnd) → plain_end a o ≡ Some p → (p.sense ≡ Some equipment_sense → ⊥) → EndsLead xs later a o p
 
--- Where a state leads once nothing is half told: a piece of work may be known to be done only at the next line
+-- Where a state leads once nothing is half told: a piece of work of this device may be known to be done only at the next line
 
-pub data Reaches (s t : AuditState) : Type 0 where
-  is_there : s ≡ t → Reaches s t
-  is_waiting : (more : Bool) (did : Did) → s.due ≡ Behind more did → holds (worker s) (is_legal did) ≡ true → settled s did ≡ t → Reaches s t
+pub data Reaches (n : Option ℕ) (s t : AuditState) : Type 0 where
+  is_there : s ≡ t → Reaches n s t
+  is_waiting : (more : Bool) (did : Did) → s.due ≡ Behind more did → worker_number s ≡ n → holds (worker s) (is_legal did) ≡ true → settled s did ≡ t →
+      Reaches n s t
 
 -- All lines of the step: its end, acts of cache fast write by which tracks become firm, volume calls, the program that is over
 
@@ -86,7 +87,7 @@ step_lines a o e acts reads writes over =
     (ended_lines o.path a.number o.ordinal e ++ map (act_line a.number) acts) ++ (io_lines reads writes ++ line_if over)
 
 abbrev pub LeadsTowards : AuditState → List ReportLine → AuditState → Type 0
-LeadsTowards s ls t = (u : AuditState) × LeadsBy s ls u × Reaches u t
+LeadsTowards s ls t = (u : AuditState) × LeadsBy s ls u × Reaches (worker_number s) u t
 
 pub record StepLeads (xs : List AuditedDevice) (later : List EventLine) (a : AuditedDevice) (o : OpenEntry) (p : CommandEnd) (acts : List Act) : Type 0 where
   -- the command may edit its track

@@ -1,10 +1,11 @@
-ghost use Rattle.std.specs.Prelude.{◌≡◌, ◌×◌, ℕ, Bool, true, false, List, [], ◌∷◌, Some, Ok};
+ghost use Rattle.std.specs.Prelude.{◌≡◌, ◌≤◌, ℕ, Bool, true, false, All, List, [], ◌∷◌, length, None, Some, Ok};
 ghost use Rattle.deck_plan.specs.declared.event.EventLine.{EventLine};
 ghost use Rattle.deck_plan.specs.declared.event.EventLine.TheVariants.{Back, Run, Settle, Step};
 ghost use Rattle.deck_text.specs.DeckLines.{DeckLines};
 ghost use Rattle.deck_text.specs.Parse.{parsed};
 ghost use Rattle.plain_defs.specs.History.{OpenEntry};
 ghost use Rattle.report_text.specs.declared.line.ReportLine.{ReportLine};
+ghost use Rattle.report_reading.specs.Ranges.{IsLine, has_form};
 ghost use Rattle.report_places.specs.declared.state.Did.{Did};
 ghost use Rattle.report_places.specs.declared.state.Due.TheVariants.{Behind, Next, Nothing};
 ghost use Rattle.report_places.specs.Place.{holds, is_of_work};
@@ -22,7 +23,7 @@ ghost use Rattle.subsystem_defs.specs.Subsystem.{Subsystem};
 ghost use Rattle.run_audit_laws.specs.Ordered.{AllLead, IsLossOrPair};
 ghost use Rattle.run_audit_laws.specs.Runs.{AllAreOver, AllMayFollow, LineGoes, RunIsOver, SettleIsOver, WholeLeads};
 ghost use Rattle.run_audit_laws.specs.Standing.{FramesAreDeclared, HasDevice, IsStill, LeadsBy, LineLeads, stand};
-ghost use Rattle.run_audit_laws.specs.Texts.{IsOwnReport};
+ghost use Rattle.run_audit_laws.specs.Texts.{IsEnded, IsOwnReport, own_text};
 ghost use Rattle.run_audit_laws.specs.Steps.{BackLeads, HalfLeads, StepEnds, WholeStepLeads};
 
 use report_reading::reads_back;
@@ -49,6 +50,11 @@ pub fn each_line_leads()
 /// The lines at the end of a run lead an audit that knows its devices so to FINISH, where each frame of the pool is of one of them.
 pub fn ending_leads()
     ensures { (s : Subsystem) → FramesAreDeclared s → LeadsBy (stand s []) (ending_lines (ending s)) (record (stand s []) { due = Nothing }) }
+{}
+
+/// Behind the run of any deck each frame of the pool is of a device of the deck: so its lines at the end of the run lead to FINISH.
+pub fn frames_are_declared()
+    ensures { (deck : DeckLines) → FramesAreDeclared (run_of deck).behind }
 {}
 
 /// The lines of a command's end lead on where it ends as on the plain device, and where equipment check or data check is in place of that.
@@ -90,10 +96,14 @@ pub fn step_line_leads()
     ensures { (text : List ℕ) (deck : DeckLines) → parsed text ≡ Ok deck → (d : ℕ) → HasDevice (run_of deck).behind d → LineGoes (run_of deck).behind (Step d) }
 {}
 
-/// A RUN comes to its end: at last neither a program runs on its device nor is a half write open; and its lines lead an audit on so.
+/// A RUN there comes to its end: behind it nothing of its device runs, neither a program nor a half write.
+pub fn runs_end()
+    ensures { (text : List ℕ) (deck : DeckLines) → parsed text ≡ Ok deck → (d : ℕ) → HasDevice (run_of deck).behind d → RunIsOver (run_of deck).behind d }
+{}
+
+/// So do the lines of a RUN.
 pub fn run_line_leads()
-    ensures { (text : List ℕ) (deck : DeckLines) → parsed text ≡ Ok deck → (d : ℕ) → HasDevice (run_of deck).behind d
-        → RunIsOver (run_of deck).behind d × LineGoes (run_of deck).behind (Run d) }
+    ensures { (text : List ℕ) (deck : DeckLines) → parsed text ≡ Ok deck → (d : ℕ) → HasDevice (run_of deck).behind d → LineGoes (run_of deck).behind (Run d) }
 {}
 
 /// So do the lines of a BACK, whatever the device does by itself.
@@ -107,18 +117,33 @@ pub fn settle_line_leads()
         → LineGoes (run_of deck).behind (Settle d) }
 {}
 
-/// So where each SETTLE of a deck that was read comes to its end, no FAIL VOLUME stands directly behind a STEP, RUN, BACK or SETTLE, and
-/// each frame of the pool is at last of a device, the whole report of the deck's run leads an audit of it from its first state to FINISH: no line
-/// stands where it may not, and none shows what no plain device answers.
+/// So where each SETTLE of a deck that was read comes to its end, and no FAIL VOLUME of a device that then has loose tracks stands directly
+/// behind a STEP, RUN, BACK or SETTLE of it, the whole report of the deck's run leads an audit of it from its first state to FINISH: no line stands
+/// where it may not, and none shows what no plain device answers.
 pub fn report_leads()
-    ensures { (text : List ℕ) (deck : DeckLines) → parsed text ≡ Ok deck → AllMayFollow false deck.events → AllAreOver (opened deck) deck.events
-        → FramesAreDeclared (run_of deck).behind → WholeLeads (first_state deck) (report_lines (run_of deck)) }
+    ensures { (text : List ℕ) (deck : DeckLines) → parsed text ≡ Ok deck → AllMayFollow None (opened deck) deck.events → AllAreOver (opened deck) deck.events
+        → WholeLeads (first_state deck) (report_lines (run_of deck)) }
+{}
+
+/// Each line of any run's report has its form: an IO line tells of a volume call, and a loss of power is done.
+pub fn report_has_form()
+    ensures { (deck : DeckLines) → All (λ (line : ReportLine). has_form line ≡ true) (report_lines (run_of deck)) }
 {}
 
 /// And the audit of a text of such a deck, of a line REPORT and of the report of the deck's run says yes.
 pub fn own_report_is_yes()
-    ensures { (text : List ℕ) (deck : DeckLines) → IsOwnReport text deck → AllMayFollow false deck.events → AllAreOver (opened deck) deck.events
-        → FramesAreDeclared (run_of deck).behind → read_back text ≡ Yes }
+    ensures { (text : List ℕ) (deck : DeckLines) → IsOwnReport text deck → AllMayFollow None (opened deck) deck.events → AllAreOver (opened deck) deck.events
+        → read_back text ≡ Yes }
+{
+    reads_back();
+}
+
+/// So does the audit of the text of such a deck, all of whose lines are ended, with a line REPORT and the report of its run behind it, where no number
+/// or byte of the report is out of its range.
+pub fn own_text_is_yes()
+    ensures { (text : List ℕ) (deck : DeckLines) → parsed text ≡ Ok deck → IsEnded text → length (own_text text deck) ≤ 268435456
+        → All IsLine (report_lines (run_of deck)) → AllMayFollow None (opened deck) deck.events → AllAreOver (opened deck) deck.events
+        → read_back (own_text text deck) ≡ Yes }
 {
     reads_back();
 }

@@ -1,4 +1,4 @@
-use Rattle.run_audit_laws.proofs.RunEnds.{run_line_leads}
+use Rattle.run_audit_laws.proofs.WorkLines.{run_line_leads}
 use Rattle.run_audit_laws.proofs.law.run_line_leads.Goals as goal
 
 pub returns : goal.returns

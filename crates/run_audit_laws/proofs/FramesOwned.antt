@@ -1,0 +1,408 @@
+-- In a run each frame of the pool is of a device of the deck.
+use Rattle.std.proofs.Common.{
+  ◌≡◌,
+  ◌==◌,
+  ◌⊎◌,
+  ℕ,
+  Bool,
+  true,
+  false,
+  List,
+  [],
+  ◌∷◌,
+  map,
+  Option,
+  Some,
+  None,
+  cond,
+  refl,
+  sym,
+  ap,
+  subst,
+  ◌∙◌,
+  inl,
+  inr,
+}
+use Rattle.std.specs.Prelude.{All, IfSome, if◌then◌else◌}
+use Rattle.std.specs.Map.{lookup_entry, remove_entry, set_value}
+use Rattle.std.specs.Option.{option_map_or}
+use Rattle.std.proofs.lemmas.Bool.{cond_both, eq-eqb, eqb-true}
+use Rattle.std.proofs.lemmas.List.Elements.{All-cons, All-nil}
+use Rattle.ckd_types.specs.declared.paths.Side.{Side}
+use Rattle.ckd_types.specs.declared.paths.Side.TheVariants as sides
+use Rattle.deck_text.specs.DeckLines.{DeckLines}
+use Rattle.loss_model.specs.declared.Loss.TheVariants as losses
+use Rattle.track_image.specs.Image.{Image}
+use Rattle.device_outside.specs.Interaction.{Interaction, Done, and_then}
+use Rattle.device_outside.specs.Keeper.{reply}
+use Rattle.device_outside.specs.Pool as O
+use Rattle.device_outside.specs.Pool.{
+  AnswerTo,
+  Call,
+  DropFrame,
+  Frame,
+  FreeSlot,
+  NextNotice,
+  Pool,
+  SetClean,
+  SetModified,
+  TellWaiting,
+  Touch,
+  WantFrame,
+  WantSlot,
+  after,
+  all_waiting,
+  answer,
+  cache_failed,
+  cache_repaired,
+  evicted,
+  frames_wanted,
+  grants,
+  in_front,
+  is_listed,
+  is_of,
+  less_frame,
+  power_lost,
+  store_failed,
+  store_repaired,
+  without,
+}
+use Rattle.device_outside.specs.Told as T
+use Rattle.device_outside.specs.Told.{Calls, Told, calls_of, hold, read_counted, read_fails, write_counted, write_fails}
+use Rattle.device_defs.specs.Command.{command}
+use Rattle.device_defs.specs.Contents.{by_plain}
+use Rattle.device_defs.specs.Cutting.{reset}
+use Rattle.device_defs.specs.Events.{background, lose, second}
+use Rattle.device_defs.specs.Marks.{MarksDevice}
+use Rattle.device_defs.specs.Orders.{lend}
+use Rattle.deck_audit.specs.Device.{outline_of}
+use Rattle.deck_audit.specs.State.{outlines}
+use Rattle.report_places.specs.declared.state.Outline.{Outline}
+use Rattle.report_places.specs.Place.{holds, is_declared, outline_in}
+use Rattle.subsystem_defs.specs.declared.end.EventEnd.{EventEnd}
+use Rattle.subsystem_defs.specs.declared.end.EventEnd.TheVariants as ends
+use Rattle.subsystem_defs.specs.declared.end.OrderFault.{OrderFault}
+use Rattle.subsystem_defs.specs.declared.event.Event.{Event}
+use Rattle.subsystem_defs.specs.declared.event.Event.TheVariants as events
+use Rattle.subsystem_defs.specs.Decks as D
+use Rattle.subsystem_defs.specs.Decks.{opened, run_of}
+use Rattle.subsystem_defs.specs.Deeds.{Asks, Becomes, Each, Ends, Lends, Repairs, deed, end_of, ends_done}
+use Rattle.subsystem_defs.specs.Happening as H
+use Rattle.subsystem_defs.specs.Happening.{
+  MarksDeed,
+  Talk,
+  asks,
+  becomes,
+  behind_outcome,
+  happens,
+  happens_by,
+  held_with,
+  joined,
+  lends,
+  replaced,
+  replaced_at,
+  replaced_by,
+  sweep,
+  told_to,
+  unpaired,
+  unpaired_at,
+  unpaired_by,
+}
+use Rattle.subsystem_defs.specs.Lines.{Logged, asked_by, run_lines}
+use Rattle.subsystem_defs.specs.Refusals.{replace_fault, unpair_fault}
+use Rattle.subsystem_defs.specs.Subsystem.{Mounted, Subsystem, devices_of, mounted_in, number_of, unfailing}
+use Rattle.subsystem_laws.proofs.DeedWalk.{IsDeedwise, deed_is}
+use Rattle.subsystem_laws.proofs.RunLines.{AnyEvent, Goes, lines_keep, logs_end}
+use Rattle.run_audit_laws.specs.Standing.{FramesAreDeclared, audited, stand}
+use Rattle.run_audit_laws.proofs.OwnCalls.{IsOwn, Own, own_ask, own_done, own_read, own_tell, own_then, own_try, own_write}
+use Rattle.run_audit_laws.proofs.OwnEvents.{background_own, command_own, lend_own, lose_own, power_own, reset_own, second_own}
+use Rattle.run_audit_laws.proofs.Ties.{Tie, Tied, event_tied, numbers_in, opened_tied, replaced_tied, ties, unpaired_tied}
+
+-- Frames of devices with a number of these
+
+abbrev pub IsOneOf : List ℕ → ℕ → Type 0
+IsOneOf [] n = ⊥
+IsOneOf (k ∷ ks) n = (k ≡ n) ⊎ IsOneOf ks n
+
+module _ (P : ℕ → Type 0) where
+  abbrev pub AllOf : List Frame → Type 0
+  AllOf [] = Unit {0}
+  AllOf (f ∷ fs) = P f.0.0 × AllOf fs
+
+  removed_of : (test : ℕ × ℕ → Bool) (fs : List Frame) → AllOf fs → AllOf (remove_entry test fs)
+  removed_of test [] a = tt
+  removed_of test (f ∷ fs) a =
+      cond_both (test f.0) fs (f ∷ remove_entry test fs) AllOf (λ _. a.1) (λ _. (a.0, removed_of test fs a.1))
+
+  set_of : (test : ℕ × ℕ → Bool) (fs : List Frame) (m : Bool) → AllOf fs → AllOf (set_value test fs m)
+  set_of test [] m a = tt
+  set_of test (f ∷ fs) m a =
+      cond_both (test f.0) ((f.0, m) ∷ fs) (f ∷ set_value test fs m) AllOf (λ _. (a.0, a.1)) (λ _. (a.0, set_of test fs m a.1))
+
+  abbrev IsOf : Frame → Type 0
+  IsOf f = P f.0.0
+
+  found_if : (b : Bool) (f : Frame) (o : Option Frame) → P f.0.0 → IfSome o IsOf → IfSome (cond b (Some f) o) IsOf
+  found_if true f o p rest = p
+  found_if false f o p rest = rest
+
+  looked_of : (test : ℕ × ℕ → Bool) (fs : List Frame) → AllOf fs → IfSome (lookup_entry test fs) IsOf
+  looked_of test [] a = tt
+  looked_of test (f ∷ fs) a = found_if (test f.0) f (lookup_entry test fs) a.0 (looked_of test fs a.1)
+
+  front_by : (o : Option Frame) (fs rest : List Frame) → IfSome o IsOf → AllOf fs → AllOf rest → AllOf (option_map_or (λ f. f ∷ rest) o fs)
+  front_by (Some f) fs rest p a b = (p, b)
+  front_by None fs rest p a b = a
+
+  front_of : (fs : List Frame) (d t : ℕ) → AllOf fs → AllOf (in_front fs d t)
+  front_of fs d t a =
+      front_by (lookup_entry (is_of d t) fs) fs (without fs d t) (looked_of (is_of d t) fs a) a (removed_of (is_of d t) fs a)
+
+  less_of : (fs : List Frame) (o : Option (ℕ × ℕ)) → AllOf fs → AllOf (less_frame fs o)
+  less_of fs None a = a
+  less_of fs (Some f) a = removed_of (is_of f.0 f.1) fs a
+
+  wanted_of : (p : Pool) (d t : ℕ) → P d → AllOf p.frames → AllOf (frames_wanted p d t)
+  wanted_of p d t own a =
+      cond_both (is_listed p.frames d t) (in_front p.frames d t) (if grants p then ((d, t), false) ∷ less_frame p.frames (evicted p) else p.frames) AllOf
+      (λ _. front_of p.frames d t a)
+      (λ _. cond_both (grants p) (((d, t), false) ∷ less_frame p.frames (evicted p)) p.frames AllOf
+      (λ _. (own, less_of p.frames (evicted p) a)) (λ _. a))
+
+  module _ (n : ℕ) (has : P n) where
+    after_of : (p : Pool) (call : Call) (a : AnswerTo call) → IsOwn n call → AllOf p.frames → AllOf (after p call a).frames
+    unfolding O.after
+    after_of p (NextNotice d) a own all = all
+    after_of p (Touch d t) a own all = front_of p.frames d t all
+    after_of p (WantFrame d t) a own all = wanted_of p d t (subst P (sym own) has) all
+    after_of p (SetModified d t) a own all = set_of (is_of d t) p.frames true all
+    after_of p (SetClean d t) a own all = set_of (is_of d t) p.frames false all
+    after_of p (DropFrame d t) a own all = removed_of (is_of d t) p.frames all
+    after_of p WantSlot a own all = all
+    after_of p (FreeSlot k) a own all = all
+    after_of p (TellWaiting d k) a own all = all
+
+    read_of : (w : Told) (side : Side) → AllOf w.pool.frames → AllOf (read_counted w side).pool.frames
+    read_of w sides.A all = all
+    read_of w sides.B all = all
+
+    write_of : (w : Told) (side : Side) → AllOf w.pool.frames → AllOf (write_counted w side).pool.frames
+    write_of w sides.A all = all
+    write_of w sides.B all = all
+
+    -- behind a device's own event
+    held_of : {S A : Type 0} {device : S → ℕ} {i : Interaction Bool Image S A} → Own device n i → (w : Told) → AllOf w.pool.frames →
+        AllOf (hold true i w).told.pool.frames
+    unfolding T.hold
+    held_of (own_done e) w all = all
+    held_of (own_try x) w all = held_of (x true) w all
+    held_of (own_ask {call = call} own x) w all =
+        let a = answer w.pool call in held_of (x a) (record w { pool = after w.pool call a }) (after_of w.pool call a own all)
+    held_of (own_read {side = side} x) w all =
+        held_of (x (if read_fails (calls_of w side) then None else Some true)) (read_counted w side) (read_of w side all)
+    held_of (own_write {side = side} x) w all =
+        held_of (x (if write_fails (calls_of w side) then false else true)) (write_counted w side) (write_of w side all)
+    held_of (own_tell {m = m} x) w all = held_of (x (reply m)) w all
+
+-- Deeds
+
+abbrev OwnTalk : {A : Type 0} → MarksDevice → Talk A → Type 0
+OwnTalk d talk = Own (λ (z : MarksDevice). z.store.device) d.store.device talk
+
+module _ (P : ℕ → Type 0) where
+  abbrev KeepsFrames : Subsystem → MarksDeed → Type 0
+  KeepsFrames s (Ends end) = Unit {0}
+  KeepsFrames s (Becomes d end) = Unit {0}
+  KeepsFrames s (Asks d talk) = OwnTalk d talk
+  KeepsFrames s (Each pool f) = (AllOf P s.pool.frames → AllOf P pool.frames) × ((d : MarksDevice) → OwnTalk d (f d))
+  KeepsFrames s (Repairs pool) = AllOf P s.pool.frames → AllOf P pool.frames
+  KeepsFrames s (Lends a b) = Unit {0}
+
+  -- each device that is mounted has such a number
+  abbrev AreSome : List Mounted → Type 0
+  AreSome [] = Unit {0}
+  AreSome (m ∷ ms) = P (number_of m) × AreSome ms
+
+  swept_of : (f : MarksDevice → Talk (Unit {0})) → ((d : MarksDevice) → OwnTalk d (f d)) → (ms : List Mounted) → AreSome ms → (pool : Pool) →
+      AllOf P pool.frames → AllOf P (sweep f ms pool).pool.frames
+  unfolding H.sweep
+  swept_of f own [] has pool all = all
+  swept_of f own (m ∷ ms) has pool all =
+      swept_of f own ms has.1 (held_with pool m (f m.device)).told.pool
+      (held_of P (number_of m) has.0 (own m.device) (told_to pool m) all)
+
+  some_at : (ms : List Mounted) (n : ℕ) (m : Mounted) → mounted_in ms n ≡ Some m → AreSome ms → (P n) × (number_of m ≡ n)
+  some_at [] n m is has = absurd (cc)
+  some_at (k ∷ ms) n m is has = by_test (number_of k == n) refl is (λ found. some_at ms n m found has.1) where
+    by_test : (b : Bool) → (number_of k == n) ≡ b → (if b then Some k else mounted_in ms n) ≡ Some m →
+        (mounted_in ms n ≡ Some m → (P n) × (number_of m ≡ n)) → (P n) × (number_of m ≡ n)
+    by_test true test found more =
+        let same : number_of k ≡ n = eqb-true (number_of k) n test in
+        let it : k ≡ m = cc in
+        (subst P same has.0, ap (λ (x : Mounted). number_of x) (sym it) ∙ same)
+    by_test false test found more = more found
+
+  becomes_of : (s : Subsystem) (n : ℕ) (d : MarksDevice) (o : Option Mounted) → (becomes s n o d).pool ≡ s.pool
+  becomes_of s n d (Some m) = refl
+  becomes_of s n d None = refl
+
+  joined_of : (s : Subsystem) (n : ℕ) (volume : Calls) (o : Option Mounted) → (joined s n volume o).pool ≡ s.pool
+  joined_of s n volume (Some m) = refl
+  joined_of s n volume None = refl
+
+  asks_of : (s : Subsystem) (d : MarksDevice) (talk : Talk (Option EventEnd)) → OwnTalk d talk → AreSome s.mounted → AllOf P s.pool.frames →
+      (o : Option Mounted) → mounted_in s.mounted d.store.device ≡ o → AllOf P (asks s d.store.device o talk).behind.pool.frames
+  asks_of s d talk own has all (Some m) there =
+      held_of P d.store.device (some_at s.mounted d.store.device m there has).0 own (told_to s.pool m) all
+  asks_of s d talk own has all None there = all
+
+  lends_of : (s : Subsystem) (a b : ℕ) → AreSome s.mounted → AllOf P s.pool.frames → (o : Option Mounted) → mounted_in s.mounted b ≡ o →
+      AllOf P (lends s a b o).pool.frames
+  lends_of s a b has all (Some m) there =
+      let o = held_with s.pool m (lend by_plain m.device a) in
+      let z = behind_outcome s b o in
+      let found = some_at s.mounted b m there has in
+      subst (λ (p : Pool). AllOf P p.frames) (sym (joined_of z a o.told.a (mounted_in z.mounted a)))
+      (held_of P (number_of m) (subst P (sym found.1) found.0) (lend_own by_plain m.device a) (told_to s.pool m) all)
+  lends_of s a b has all None there = all
+
+  happens_of : (s : Subsystem) (x : MarksDeed) → KeepsFrames s x → AreSome s.mounted → AllOf P s.pool.frames →
+      AllOf P (happens_by s x).behind.pool.frames
+  happens_of s (Ends end) h has all = all
+  happens_of s (Becomes d end) h has all =
+      subst (λ (p : Pool). AllOf P p.frames) (sym (becomes_of s d.store.device d (mounted_in s.mounted d.store.device))) all
+  happens_of s (Asks d talk) h has all = asks_of s d talk h has all (mounted_in s.mounted d.store.device) refl
+  happens_of s (Each pool f) h has all = swept_of f h.1 s.mounted has pool (h.0 all)
+  happens_of s (Repairs pool) h has all = h all
+  happens_of s (Lends a b) h has all = lends_of s a.store.device b.store.device has all (mounted_in s.mounted b.store.device) refl
+
+  -- an answer asks nothing
+  answered : {X Y : Type 0} (d : MarksDevice) (talk : Talk X) (f : X → Y) → OwnTalk d talk → OwnTalk d (and_then talk (λ z a. Done z (f a)))
+  answered d talk f own = own_then (λ z a. Done z (f a)) own (λ z a. own_done refl)
+
+  repaired_of : (p q : Pool) (b : Bool) → q.frames ≡ p.frames → AllOf P p.frames → AllOf P (if b then q else p).frames
+  repaired_of p q true same all = subst (AllOf P) (sym same) all
+  repaired_of p q false same all = all
+
+  frames_keep : (s : Subsystem) → IsDeedwise s (KeepsFrames s)
+  frames_keep s = record {
+    ended = λ end. tt;
+    started = λ d x path fault. tt;
+    seconded = λ d x h is. answered d (second by_plain d) (λ a. Some (ends.Second a)) (second_own by_plain d);
+    commanded = λ d x whole o running. answered d (command by_plain d) (end_of ends.Stepped) (command_own by_plain d);
+    worked = λ d x whole. answered d (background by_plain d) (end_of ends.Back) (background_own by_plain d);
+    cut = λ d x path. answered d (reset by_plain d path) (λ a. Some (ends_done a)) (reset_own by_plain d path);
+    lost_cache = ((λ all. tt), λ d. lose_own by_plain d losses.Cache);
+    lost_store = ((λ all. all), λ d. lose_own by_plain d losses.Store);
+    lost_side = λ d x side fault. answered d (lose by_plain d (losses.Side side)) (λ a. Some (ends_done a)) (lose_own by_plain d (losses.Side side));
+    lost_power = ((λ all. tt), λ d. power_own by_plain d);
+    repaired_cache = λ all. repaired_of s.pool (record s.pool { cache_up = true }) (all_waiting s.pool == 0) refl all;
+    repaired_store = λ all. repaired_of s.pool (record s.pool { store_up = true }) (all_waiting s.pool == 0) refl all;
+    lent = λ x y z w fault. tt;
+    held = λ d x fault. tt;
+    resumed = λ d x fault. tt;
+  }
+
+-- Lines
+
+all_some : (ns : List ℕ) (ms : List Mounted) (P : ℕ → Type 0) → map (λ (t : Tie). t.number) (ties ms) ≡ ns → ((n : ℕ) → IsOneOf ns n → P n) →
+    AreSome P ms
+all_some ns [] P are has = tt
+all_some [] (m ∷ ms) P are has = absurd (cc)
+all_some (n ∷ ns) (m ∷ ms) P are has =
+    let first : number_of m ≡ n = cc in
+    let rest : map (λ (t : Tie). t.number) (ties ms) ≡ ns = cc in
+    (has (number_of m) (inl (sym first)), all_some ns ms P rest (λ k is. has k (inr is)))
+
+module _ (ns : List ℕ) where
+  abbrev So : Subsystem → Type 0
+  So s = Tied ns (ties s.mounted) × AllOf (IsOneOf ns) s.pool.frames
+
+  abbrev Shown : Subsystem → Logged → Type 0
+  Shown s t = Unit {0}
+
+  some_of : (s : Subsystem) → Tied ns (ties s.mounted) → AreSome (IsOneOf ns) s.mounted
+  some_of s t = all_some ns s.mounted (IsOneOf ns) t.numbers_are (λ n is. is)
+
+  event_framed : (s : Subsystem) (e : Event) → So s → So (happens s e).behind
+  unfolding H.happens
+  event_framed s e q = (
+    event_tied ns s e q.0,
+    happens_of (IsOneOf ns) s (deed by_plain s.pool (devices_of s) e)
+        (deed_is s (KeepsFrames (IsOneOf ns) s) (frames_keep (IsOneOf ns) s) e) (some_of s q.0) q.1,
+  )
+
+  replaced_pool : (s : Subsystem) (n : ℕ) (side : Side) (o : Option Mounted) → (replaced_at s n side unfailing o).behind.pool ≡ s.pool
+  replaced_pool s n side None = refl
+  replaced_pool s n side (Some m) = by_fault (replace_fault m.device side) where
+    by_fault : (f : Option OrderFault) → (replaced_by s n side unfailing m f).behind.pool ≡ s.pool
+    by_fault (Some fault) = refl
+    by_fault None = refl
+
+  unpaired_pool : (s : Subsystem) (n : ℕ) (o : Option Mounted) → (unpaired_at s n unfailing o).behind.pool ≡ s.pool
+  unpaired_pool s n None = refl
+  unpaired_pool s n (Some m) = by_fault (unpair_fault m.device) where
+    by_fault : (f : Option OrderFault) → (unpaired_by s n unfailing m f).behind.pool ≡ s.pool
+    by_fault (Some fault) = refl
+    by_fault None = refl
+
+  frames_go : Goes So Shown AnyEvent
+  unfolding H.replaced H.unpaired
+  frames_go = record {
+    once = λ s e may q. (event_framed s e q, tt);
+    stepped = λ s d q. (event_framed s (events.Step d) q, tt);
+    idle = λ s d q. (q, tt);
+    backed = λ s d q. (event_framed s (events.Back d) q, tt);
+    replaces = λ s d side q. (
+      (
+        replaced_tied ns s d side (mounted_in s.mounted d) refl q.0,
+        subst (λ (p : Pool). AllOf (IsOneOf ns) p.frames) (sym (replaced_pool s d side (mounted_in s.mounted d))) q.1,
+      ),
+      tt,
+    );
+    unpairs = λ s a q. (
+      (
+        unpaired_tied ns s a (mounted_in s.mounted a) refl q.0,
+        subst (λ (p : Pool). AllOf (IsOneOf ns) p.frames) (sym (unpaired_pool s a (mounted_in s.mounted a))) q.1,
+      ),
+      tt,
+    );
+  }
+
+run_so : (deck : DeckLines) → So (numbers_in deck) (run_of deck).behind
+unfolding D.run_asked
+run_so deck =
+    let ns = numbers_in deck in
+    let asked = map asked_by deck.events in
+    logs_end (So ns) (Shown ns) (opened deck) (run_lines asked (opened deck))
+    (lines_keep (So ns) (Shown ns) (frames_go ns) asked (opened deck) (opened_tied deck, tt))
+
+-- They are declared
+
+declared_if : (b : Bool) (o : Option Outline) (x : Outline) → holds o (λ (a : Outline). true) ≡ true →
+    holds (if b then Some x else o) (λ (a : Outline). true) ≡ true
+declared_if true o x is = refl
+declared_if false o x is = is
+
+declared_at : (ms : List Mounted) (n : ℕ) → IsOneOf (map (λ (t : Tie). t.number) (ties ms)) n →
+    is_declared (map outline_of (map audited (map (λ (m : Mounted). m.device) ms))) n ≡ true
+declared_at [] n is = absurd is
+declared_at (m ∷ ms) n (inl same) =
+    ap (λ (b : Bool). holds (if b then Some (outline_of (audited m.device))
+    else outline_in (map outline_of (map audited (map (λ (x : Mounted). x.device) ms))) n) (λ (a : Outline). true))
+    (eq-eqb m.device.store.device n same)
+declared_at (m ∷ ms) n (inr more) =
+    declared_if (m.device.store.device == n) (outline_in (map outline_of (map audited (map (λ (x : Mounted). x.device) ms))) n)
+    (outline_of (audited m.device)) (declared_at ms n more)
+
+all_declared : (s : Subsystem) (fs : List Frame) → AllOf (IsOneOf (map (λ (t : Tie). t.number) (ties s.mounted))) fs →
+    All (λ (f : Frame). is_declared (outlines (stand s [])) f.0.0 ≡ true) fs
+all_declared s [] all = All-nil (λ (f : Frame). is_declared (outlines (stand s [])) f.0.0 ≡ true)
+all_declared s (f ∷ fs) all =
+    All-cons (λ (x : Frame). is_declared (outlines (stand s [])) x.0.0 ≡ true) f fs (declared_at s.mounted f.0.0 all.0) (all_declared s fs all.1)
+
+pub frames_are_declared : (deck : DeckLines) → FramesAreDeclared (run_of deck).behind
+frames_are_declared deck =
+    let s = (run_of deck).behind in
+    let q = run_so deck in
+    all_declared s s.pool.frames (subst (λ (ns : List ℕ). AllOf (IsOneOf ns) s.pool.frames) (sym q.0.numbers_are) q.1)

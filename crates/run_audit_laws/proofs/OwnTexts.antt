@@ -1,0 +1,130 @@
+-- The text of a deck, a line REPORT and the report of its run is cut into these lines.
+use Rattle.std.proofs.Common.{◌≡◌, ◌≤◌, ◌+◌, ◌==◌, ◌++◌, ℕ, suc, Bool, true, false, not, List, [], ◌∷◌, drop, length, map, take, Option, Some, None, refl, sym, ap, ◌∙◌, append_assoc, arith, if◌then◌else◌}
+use Rattle.std.specs.Prelude.{◌&&◌, All, codes, Ok, Err}
+use Rattle.std.specs.List.{flat_map}
+use Rattle.std.specs.Str.{bytes_eq}
+use Rattle.std.proofs.lemmas.Bool.{and_parts}
+use Rattle.std.proofs.lemmas.List.{append-nil}
+use Rattle.std.proofs.lemmas.List.Elements.{All-head, All-tail}
+use Rattle.deck_text.specs.DeckLines.{DeckLines}
+use Rattle.deck_text.specs.Lines.{onto_first}
+use Rattle.deck_text.specs.Parse.{parsed}
+use Rattle.report_text.specs.declared.line.ReportLine.{ReportLine}
+use Rattle.report_text.specs.Ends.{lines_text}
+use Rattle.report_text.specs.Lines.{line_text, text_of}
+use Rattle.report_auditor.specs.Verdict.{cut_lines, ended_line, report_from}
+use Rattle.run_report.specs.Report.{report_lines, report_of}
+use Rattle.subsystem_defs.specs.Decks.{run_of}
+use Rattle.report_reading.specs.Ranges.{IsLine, form_fault, has_form}
+use Rattle.report_reading.specs.Reading.{line_of}
+use Rattle.report_auditor.specs.declared.status.AuditStatus.TheVariants.{Yes}
+use Rattle.report_auditor.specs.Verdict.{read_back}
+use Rattle.subsystem_defs.specs.Decks.{opened}
+use Rattle.run_audit_laws.specs.Runs.{AllAreOver, AllMayFollow}
+use Rattle.run_audit_laws.specs.Texts.{IsEnded, IsOwnReport, own_text}
+use Rattle.run_audit_laws.proofs.Feeds.{AreWhole, is_whole, not_feed, text_whole}
+use Rattle.run_audit_laws.proofs.DeckTexts.{read_has_none}
+use Rattle.run_audit_laws.proofs.Texts.{own_report_is_yes}
+
+-- Cutting
+
+cut_one : (x rest : List ℕ) → is_whole x ≡ true → cut_lines (x ++ 10 ∷ rest) ≡ x ∷ cut_lines rest
+cut_one [] rest h = refl
+cut_one (b ∷ x) rest h =
+    let p = and_parts (not (b == 10)) (is_whole x) h in
+    ap (λ (c : Bool). if c then [] ∷ cut_lines (x ++ 10 ∷ rest) else onto_first b (cut_lines (x ++ 10 ∷ rest))) (not_feed (b == 10) p.0)
+    ∙ ap (onto_first b) (cut_one x rest p.1)
+
+-- lines that are ended, and what stands behind them
+cut_ended : (xs : List (List ℕ)) (rest : List ℕ) → AreWhole xs → cut_lines (flat_map ended_line xs ++ rest) ≡ xs ++ cut_lines rest
+cut_ended [] rest h = refl
+cut_ended (x ∷ xs) rest h =
+    ap cut_lines (append_assoc (ended_line x) (flat_map ended_line xs) rest ∙ append_assoc x (codes "\n") (flat_map ended_line xs ++ rest))
+    ∙ cut_one x (flat_map ended_line xs ++ rest) h.0
+    ∙ ap (λ (l : List (List ℕ)). x ∷ l) (cut_ended xs rest h.1)
+
+-- the lines of any text have none
+first_whole : (b : ℕ) → not (b == 10) ≡ true → (xs : List (List ℕ)) → AreWhole xs → AreWhole (onto_first b xs)
+first_whole b h [] w = (ap (λ (c : Bool). c && true) h, tt)
+first_whole b h (x ∷ xs) w = (ap (λ (c : Bool). c && is_whole x) h ∙ w.0, w.1)
+
+cut_if : (b : ℕ) (c : Bool) → (b == 10) ≡ c → (xs : List (List ℕ)) → AreWhole xs → AreWhole (if c then [] ∷ xs else onto_first b xs)
+cut_if b true is xs w = (refl, w)
+cut_if b false is xs w = first_whole b (ap not is) xs w
+
+cut_whole : (text : List ℕ) → AreWhole (cut_lines text)
+cut_whole [] = tt
+cut_whole (b ∷ text) = cut_if b (b == 10) refl (cut_lines text) (cut_whole text)
+
+-- Finding REPORT
+
+found_by : (n : ℕ) (b : Bool) (o q : Option ℕ) (k : ℕ) → (if b then Some n else o) ≡ None → (o ≡ None → q ≡ Some k) → (if b then Some n else q) ≡ Some k
+found_by n true o q k none go = absurd (cc)
+found_by n false o q k none go = go none
+
+found : (n : ℕ) (xs rest : List (List ℕ)) → report_from n xs ≡ None → report_from n (xs ++ codes "REPORT" ∷ rest) ≡ Some (n + length xs)
+found n [] rest none = ap (λ (k : ℕ). Some k) (omega arith)
+found n (x ∷ xs) rest none =
+    found_by n (bytes_eq x (codes "REPORT")) (report_from (n + 1) xs) (report_from (n + 1) (xs ++ codes "REPORT" ∷ rest)) (n + length (x ∷ xs)) none
+    (λ later. found (n + 1) xs rest later ∙ ap (λ (k : ℕ). Some k) (omega arith))
+
+front : {X : Type 0} (xs ys : List X) → take (length xs) (xs ++ ys) ≡ xs
+front [] ys = refl
+front (x ∷ xs) ys = ap (λ (l : List _). x ∷ l) (front xs ys)
+
+behind : {X : Type 0} (xs : List X) (y : X) (ys : List X) → drop (length xs + 1) (xs ++ y ∷ ys) ≡ ys
+behind [] y ys = refl
+behind {X} (x ∷ xs) y ys =
+    let one : length (x ∷ xs) + 1 ≡ suc (length xs + 1) = omega arith in
+    ap (λ (k : ℕ). drop k (x ∷ xs ++ y ∷ ys)) one ∙ behind xs y ys
+
+-- The report
+
+written_whole : (lines : List ReportLine) → All IsLine lines → AreWhole (map text_of lines)
+written_whole [] w = tt
+written_whole (line ∷ lines) w =
+    (text_whole line (All-head IsLine line lines w), written_whole lines (All-tail IsLine line lines w))
+
+lines_ended : (lines : List ReportLine) → lines_text lines ≡ flat_map ended_line (map text_of lines)
+lines_ended [] = refl
+lines_ended (line ∷ lines) = ap (λ (l : List ℕ). line_text line ++ l) (lines_ended lines)
+
+module _ (text : List ℕ) (deck : DeckLines) (h : IsEnded text) (w : All IsLine (report_lines (run_of deck))) where
+  abbrev lines : List (List ℕ)
+  lines = cut_lines text
+
+  abbrev told : List (List ℕ)
+  told = map text_of (report_lines (run_of deck))
+
+  report_cut : cut_lines (report_of deck) ≡ told
+  report_cut =
+      ap cut_lines (lines_ended (report_lines (run_of deck)) ∙ sym (append-nil (flat_map ended_line told)))
+      ∙ cut_ended told [] (written_whole (report_lines (run_of deck)) w)
+      ∙ append-nil told
+
+  all_cut : cut_lines (own_text text deck) ≡ lines ++ codes "REPORT" ∷ told
+  all_cut =
+      ap (λ (t : List ℕ). cut_lines (t ++ (codes "REPORT\n" ++ report_of deck))) (sym h)
+      ∙ cut_ended lines (codes "REPORT\n" ++ report_of deck) (cut_whole text)
+      ∙ ap (λ (l : List (List ℕ)). lines ++ codes "REPORT" ∷ l) report_cut
+
+  own_is : parsed text ≡ Ok deck → length (own_text text deck) ≤ 268435456 → IsOwnReport (own_text text deck) deck
+  own_is read size = record {
+    lines = length (cut_lines text);
+    size = size;
+    found = ap (report_from 0) all_cut ∙ found 0 lines told (read_has_none text deck lines (cut_whole text) h read) ∙ ap (λ (k : ℕ). Some k) (omega arith);
+    parses =
+        ap (λ (l : List (List ℕ)). parsed (flat_map ended_line (take (length lines) l))) all_cut
+        ∙ ap (λ (l : List (List ℕ)). parsed (flat_map ended_line l)) (front lines (codes "REPORT" ∷ told))
+        ∙ ap parsed h
+        ∙ read;
+    says = ap (λ (l : List (List ℕ)). drop (length lines + 1) l) all_cut ∙ behind lines (codes "REPORT") told;
+    written = w;
+  }
+
+-- where what is written is read back
+pub own_text_is_yes : ((line : ReportLine) → IsLine line → line_of (text_of line) ≡ (if has_form line then Ok line else Err (form_fault line))) →
+    (text : List ℕ) (deck : DeckLines) → parsed text ≡ Ok deck → IsEnded text → length (own_text text deck) ≤ 268435456 →
+    All IsLine (report_lines (run_of deck)) → AllMayFollow None (opened deck) deck.events → AllAreOver (opened deck) deck.events →
+    read_back (own_text text deck) ≡ Yes
+own_text_is_yes again text deck read h size w = own_report_is_yes again (own_text text deck) deck (own_is text deck h w read size)
