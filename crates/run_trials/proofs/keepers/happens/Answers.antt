@@ -1,7 +1,4 @@
 use Rattle.run_trials.proofs.keepers.happens.Goals as goal
 
-pub event_with-requires-clause-goes : goal.event_with-requires-clause-goes
-event_with-requires-clause-goes c = record { goes = λ old new m r heard d t i may. tt }
-
 pub event_with-requires-clause-takes : goal.event_with-requires-clause-takes
-event_with-requires-clause-takes c = λ k d within. record { all = λ t i below. tt }
+event_with-requires-clause-takes c = λ k d within. record { all = λ t i below of fits. tt }
