@@ -1,5 +1,5 @@
 -- Each line of a run's report has its form: an IO line tells of a call, and an order POWER is done.
-use Rattle.std.proofs.Common.{◌≡◌, ◌==◌, ◌++◌, ℕ, Bool, true, false, not, List, [], ◌∷◌, length, map, Option, Some, None, refl, sym, ap, subst, ◌∙◌, if◌then◌else◌}
+use Rattle.std.proofs.Common.{◌≡◌, ◌==◌, ◌++◌, ℕ, Bool, true, false, not, List, [], ◌∷◌, length, map, Option, Some, None, refl, ap, if◌then◌else◌}
 use Rattle.std.specs.Prelude.{◌&&◌, All}
 use Rattle.std.specs.List.{flat_map}
 use Rattle.std.proofs.lemmas.List.Elements.{All-append, All-cons, All-head, All-nil, All-tail}
@@ -7,11 +7,8 @@ use Rattle.ckd_types.specs.declared.channel.CommandEnd.{CommandEnd}
 use Rattle.ckd_types.specs.declared.paths.Side.{Side}
 use Rattle.ckd_types.specs.declared.sense.Sense.{Sense}
 use Rattle.deck_text.specs.DeckLines.{DeckLines}
-use Rattle.plain_defs.specs.declared.journal.Item.{Item}
 use Rattle.device_outside.specs.Pool.{Frame}
-use Rattle.device_defs.specs.declared.answers.SecondEnd.{SecondEnd}
 use Rattle.device_defs.specs.declared.answers.SecondEnd.TheVariants as seconds
-use Rattle.device_defs.specs.declared.answers.Stepped.{Stepped}
 use Rattle.device_defs.specs.declared.answers.Stepped.TheVariants as stepped
 use Rattle.device_defs.specs.Marks.{MarksDevice}
 use Rattle.report_text.specs.declared.answers.BackAnswer.TheVariants as back
@@ -27,10 +24,10 @@ use Rattle.report_text.specs.Ends.{data_lines, end_line, sense_lines}
 use Rattle.report_text.specs.Events.{first_lines, io_lines, last_line, line_if, loosed_line, program_over_lines}
 use Rattle.report_reading.specs.Ranges.{has_answer, has_form}
 use Rattle.run_report.specs.declared.told.RunningProgram.{RunningProgram}
-use Rattle.run_report.specs.Answers.{back_answer, order_answer, start_answer}
+use Rattle.run_report.specs.Answers.{order_answer, start_answer}
 use Rattle.run_report.specs.Beside.{loose_lines, loosed, of_each, over_lines, over_of, power_lines}
 use Rattle.run_report.specs.Closing.{device_lines, ending_lines, frame_line}
-use Rattle.run_report.specs.Events.{end_told, event_lines, half_told, lines_of, running_in, second_told, step_told, told, work_lines, work_told}
+use Rattle.run_report.specs.Events.{end_told, event_lines, half_told, lines_of, running_in, work_lines, work_told}
 use Rattle.run_report.specs.Report.{report_lines}
 use Rattle.subsystem_defs.specs.declared.end.EventEnd.{EventEnd}
 use Rattle.subsystem_defs.specs.declared.end.EventEnd.TheVariants as ends
@@ -43,7 +40,7 @@ use Rattle.subsystem_defs.specs.Decks.{opened, run_of}
 use Rattle.subsystem_defs.specs.Deeds as E
 use Rattle.subsystem_defs.specs.Happening as H
 use Rattle.subsystem_defs.specs.Happening.{Happened, happens, quietly, replaced, unpaired}
-use Rattle.subsystem_defs.specs.Lines.{Asked, Logged, Once, Replace, Run, Settle, Unpair, asked_by, logged, run_lines}
+use Rattle.subsystem_defs.specs.Lines.{Logged, Once, Replace, Run, Settle, Unpair, asked_by, logged, run_lines}
 use Rattle.subsystem_defs.specs.Subsystem.{Subsystem, devices_of, unfailing}
 use Rattle.subsystem_laws.proofs.RunLines.{AnyEvent, Goes, run_shows}
 

@@ -1,5 +1,5 @@
 -- The text of a deck, a line REPORT and the report of its run is cut into these lines.
-use Rattle.std.proofs.Common.{◌≡◌, ◌≤◌, ◌+◌, ◌==◌, ◌++◌, ℕ, zero, suc, Bool, true, false, not, List, [], ◌∷◌, drop, length, map, take, Option, Some, None, refl, sym, ap, subst, ◌∙◌, append_assoc, arith, if◌then◌else◌}
+use Rattle.std.proofs.Common.{◌≡◌, ◌≤◌, ◌+◌, ◌==◌, ◌++◌, ℕ, suc, Bool, true, false, not, List, [], ◌∷◌, drop, length, map, take, Option, Some, None, refl, sym, ap, ◌∙◌, append_assoc, arith, if◌then◌else◌}
 use Rattle.std.specs.Prelude.{◌&&◌, All, codes, Ok, Err}
 use Rattle.std.specs.List.{flat_map}
 use Rattle.std.specs.Str.{bytes_eq}
@@ -12,10 +12,9 @@ use Rattle.deck_text.specs.Parse.{parsed}
 use Rattle.report_text.specs.declared.line.ReportLine.{ReportLine}
 use Rattle.report_text.specs.Ends.{lines_text}
 use Rattle.report_text.specs.Lines.{line_text, text_of}
-use Rattle.report_auditor.specs.Verdict.{cut_lines, deck_part, ended_line, report_from}
+use Rattle.report_auditor.specs.Verdict.{cut_lines, ended_line, report_from}
 use Rattle.run_report.specs.Report.{report_lines, report_of}
 use Rattle.subsystem_defs.specs.Decks.{run_of}
-use Rattle.report_reading.specs.declared.fault.LineFault.{LineFault}
 use Rattle.report_reading.specs.Ranges.{IsLine, form_fault, has_form}
 use Rattle.report_reading.specs.Reading.{line_of}
 use Rattle.report_auditor.specs.declared.status.AuditStatus.TheVariants.{Yes}
