@@ -138,8 +138,8 @@ pub fn own_report_is_yes()
     reads_back();
 }
 
-/// So does the audit of the text of such a deck, all of whose lines are ended, with a line REPORT and the report of its run behind it, where no number
-/// or byte of the report is out of its range.
+/// So does the audit of the text of such a deck, all of whose lines are ended, with a line REPORT and the report of its run behind it, where both have
+/// at most 268,435,456 bytes, and no number or byte of the report is out of its range.
 pub fn own_text_is_yes()
     ensures { (text : List ℕ) (deck : DeckLines) → parsed text ≡ Ok deck → IsEnded text → length (own_text text deck) ≤ 268435456
         → All IsLine (report_lines (run_of deck)) → AllMayFollow None (opened deck) deck.events → AllAreOver (opened deck) deck.events
