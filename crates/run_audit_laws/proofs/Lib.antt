@@ -54,3 +54,7 @@ mod Forms
 mod Feeds
 mod DeckTexts
 mod OwnTexts
+mod DeviceSizes
+mod NamedEvents
+mod RangedLines
+mod RangedRuns

@@ -1,0 +1,265 @@
+-- The paths and devices that the lines of an event name are in their ranges.
+use Rattle.std.proofs.Common.{◌≡◌, ◌≤◌, ◌<◌, ◌+◌, ◌==◌, ◌++◌, zero, suc, ℕ, Bool, true, false, List, [], ◌∷◌, map, Option, Some, None, refl, if◌then◌else◌, arith}
+use Rattle.std.specs.Prelude.{◌&&◌, ◌^◌, All, IfSome, option_map}
+use Rattle.std.proofs.lemmas.List.Elements.{All-append, All-cons, All-head, All-nil, All-tail}
+use Rattle.ckd_types.specs.declared.channel.CommandEnd.{CommandEnd}
+use Rattle.ckd_types.specs.declared.sense.Sense.{Sense}
+use Rattle.deck_text.proofs.DeckAgain.{Each}
+use Rattle.plain_defs.specs.declared.journal.Item.{Item}
+use Rattle.plain_defs.specs.declared.journal.Item.TheVariants as items
+use Rattle.plain_defs.specs.History.{IsOpen, OpenEntry}
+use Rattle.plain_defs.specs.Journal.{Plans, replay, replay_item}
+use Rattle.plain_defs.specs.Legal.{IsLegalFrom, IsLegalItem}
+use Rattle.plain_defs.specs.PlainState.{PlainState}
+use Rattle.device_defs.specs.declared.answers.SecondEnd.TheVariants as seconds
+use Rattle.device_defs.specs.declared.answers.Stepped.TheVariants as stepped
+use Rattle.device_defs.specs.Marks.{MarksDevice}
+use Rattle.report_text.specs.declared.answers.BackAnswer.TheVariants as back
+use Rattle.report_text.specs.declared.event.Happened as report
+use Rattle.report_text.specs.declared.event.Happened.TheVariants as did
+use Rattle.report_text.specs.declared.line.ReportLine.{ReportLine}
+use Rattle.report_text.specs.declared.line.ReportLine.TheVariants as lines
+use Rattle.report_text.specs.declared.order.Order.TheVariants as orders
+use Rattle.report_text.specs.Ends.{data_lines, end_line, sense_lines}
+use Rattle.report_text.specs.Events.{first_lines, io_lines, last_line, line_if, loosed_line, program_over_lines}
+use Rattle.report_reading.specs.Ranges.{IsDevice, IsLine, IsLong, IsOrder, IsPath}
+use Rattle.run_report.specs.declared.told.RunningProgram.{RunningProgram}
+use Rattle.run_report.specs.Answers.{order_answer, start_answer}
+use Rattle.run_report.specs.Beside.{how_over, loose_lines, loosed, of_each, over_lines, over_of, power_lines}
+use Rattle.run_report.specs.Events.{end_told, event_lines, half_told, running_by, running_in, running_program, told, work_lines, work_told}
+use Rattle.subsystem_defs.specs.declared.end.EventEnd.{EventEnd}
+use Rattle.subsystem_defs.specs.declared.end.EventEnd.TheVariants as ends
+use Rattle.subsystem_defs.specs.declared.event.Event.{Event}
+use Rattle.subsystem_defs.specs.declared.event.Event.TheVariants as events
+use Rattle.subsystem_defs.specs.Beside.{LooseTold, behind_first, loose_told, new_items}
+use Rattle.subsystem_defs.specs.Deeds.{device_in}
+use Rattle.subsystem_defs.specs.Lines.{Asked, Once, Replace, Run, Settle, Unpair}
+use Rattle.subsystem_defs.specs.Promised.{HasPlainHistory, empty_of}
+use Rattle.run_audit_laws.specs.Ranges.{RestIsIn}
+use Rattle.run_audit_laws.proofs.DeviceSizes.{Sized}
+use Rattle.run_audit_laws.proofs.NamedEvents.{Names}
+
+-- with what isn't shown of it, it is in its ranges
+abbrev pub Known : ReportLine → Type 0
+Known line = RestIsIn line → IsLine line
+
+pub one : (line : ReportLine) → Known line → All Known (line ∷ [])
+one line is = All-cons Known line [] is (All-nil Known)
+
+-- What a device is by itself, and its history
+pub record Ranged (d : MarksDevice) : Type 0 where
+  pub sized : Sized d
+  pub plain : HasPlainHistory d
+
+abbrev HasPath : RunningProgram → Type 0
+HasPath r = IsPath r.path
+
+abbrev HasNames : report.Happened → Type 0
+HasNames (did.Started path d a) = IsPath path × IsDevice d
+HasNames (did.Ended path d n e) = IsPath path × IsDevice d
+HasNames (did.Half path d t) = IsPath path × IsDevice d
+HasNames (did.Back d a) = IsDevice d
+HasNames (did.StepIdle d) = IsDevice d
+HasNames (did.RunIdle d) = IsDevice d
+HasNames (did.Reset path d) = IsPath path × IsDevice d
+HasNames (did.Ordered order a) = IsOrder order
+
+-- What an event did
+
+data_known : (bytes : List ℕ) → All Known (data_lines bytes)
+data_known [] = All-nil Known
+data_known (b ∷ bytes) = one (lines.Data (b ∷ bytes)) (λ r. r)
+
+sense_known : (sense : Option Sense) → All Known (sense_lines sense)
+sense_known (Some sense) = one (lines.Sense sense) (λ r. r)
+sense_known None = All-nil Known
+
+end_known : (path d n : ℕ) (e : CommandEnd) → IsPath path → IsDevice d → Known (lines.End (end_line path d n e))
+end_known path d n e p k = λ r. record { path = p; device = k; ordinal = r.ordinal; index = r.index; status = r.status; residual = r.residual }
+
+first_known : (h : report.Happened) → HasNames h → All Known (first_lines h)
+first_known (did.Started path d a) n = one (lines.Start path d a) (λ r. (n.0, n.1, r))
+first_known (did.Ended path d n e) k =
+    All-append Known (lines.End (end_line path d n e) ∷ []) (data_lines e.sent ++ sense_lines e.sense)
+    (one (lines.End (end_line path d n e)) (end_known path d n e k.0 k.1))
+    (All-append Known (data_lines e.sent) (sense_lines e.sense) (data_known e.sent) (sense_known e.sense))
+first_known (did.Half path d t) n = one (lines.Half path d t) (λ r. (n.0, n.1, r))
+first_known (did.Back d a) n = one (lines.Back d a) (λ r. (n, r))
+first_known (did.StepIdle d) n = one (lines.StepIdle d) (λ r. n)
+first_known (did.RunIdle d) n = one (lines.RunIdle d) (λ r. n)
+first_known (did.Reset path d) n = All-nil Known
+first_known (did.Ordered order a) n = All-nil Known
+
+last_known : (h : report.Happened) → HasNames h → All Known (line_if (last_line h))
+last_known (did.Started path d a) n = All-nil Known
+last_known (did.Ended path d n e) k = All-nil Known
+last_known (did.Half path d t) n = All-nil Known
+last_known (did.Back d a) n = All-nil Known
+last_known (did.StepIdle d) n = All-nil Known
+last_known (did.RunIdle d) n = All-nil Known
+last_known (did.Reset path d) n = one (lines.Reset path d) (λ r. n)
+last_known (did.Ordered order a) n = one (lines.Order order a) (λ r. (n, r))
+
+module _ (d : ℕ) (k : IsDevice d) where
+  end_names : (r : Option RunningProgram) → IfSome r HasPath → (e : CommandEnd) → HasNames (end_told d r e)
+  end_names (Some r) p e = (p, k)
+  end_names None p e = k
+
+  half_names : (r : Option RunningProgram) → IfSome r HasPath → (t : ℕ) → HasNames (half_told d r t)
+  half_names (Some r) p t = (p, k)
+  half_names None p t = k
+
+  work_names : (r : Option RunningProgram) → IfSome r HasPath → (idle : report.Happened) → HasNames idle → (end : EventEnd) →
+      HasNames (work_told d r idle end)
+  work_names r p idle n (ends.Stepped (stepped.Ended e)) = end_names r p e
+  work_names r p idle n (ends.Stepped (stepped.Half t)) = half_names r p t
+  work_names r p idle n (ends.Second (seconds.Ended e)) = end_names r p e
+  work_names r p idle n (ends.Second (seconds.Finished t)) = k
+  work_names r p idle n (ends.Second (seconds.Unwritten t)) = k
+  work_names r p idle n (ends.Back x) = k
+  work_names r p idle n (ends.Started m) = n
+  work_names r p idle n (ends.NotStarted f) = n
+  work_names r p idle n ends.Running = n
+  work_names r p idle n ends.Idle = n
+  work_names r p idle n ends.Done = n
+  work_names r p idle n (ends.Pending m) = n
+  work_names r p idle n (ends.Refused f) = n
+
+path_of_open : (plans : Plans) (state : PlainState) (xs : List Item) (r : Option OpenEntry) → IfSome r (IsOpen plans state xs) →
+    IfSome (option_map running_program r) HasPath
+path_of_open plans state xs (Some o) i = record { least = i.start.least; most = i.start.most }
+path_of_open plans state xs None i = tt
+
+running_path : (o : Option MarksDevice) → IfSome o Ranged → IfSome (running_by o) HasPath
+running_path (Some d) r = path_of_open d.plans (replay d.plans (empty_of d) d.history.items) d.history.items d.history.running r.plain.at
+running_path None r = tt
+
+found_ranged : (b : Bool) (d : MarksDevice) (o : Option MarksDevice) → Ranged d → IfSome o Ranged → IfSome (if b then Some d else o) Ranged
+found_ranged true d o r rest = r
+found_ranged false d o r rest = rest
+
+pub device_ranged : (ds : List MarksDevice) (n : ℕ) → All Ranged ds → IfSome (device_in ds n) Ranged
+device_ranged [] n all = tt
+device_ranged (d ∷ ds) n all =
+    found_ranged (d.store.device == n) d (device_in ds n) (All-head Ranged d ds all) (device_ranged ds n (All-tail Ranged d ds all))
+
+module _ (xs : List MarksDevice) (all : All Ranged xs) where
+  path_in : (d : ℕ) → IfSome (running_in xs d) HasPath
+  path_in d = running_path (device_in xs d) (device_ranged xs d all)
+
+  told_names : (end : EventEnd) (asked : Asked) → Names asked → HasNames (told xs end asked)
+  told_names end (Once (events.Start path d)) n = n
+  told_names end (Once (events.Step d)) n = work_names d n (running_in xs d) (path_in d) (did.StepIdle d) n end
+  told_names end (Once (events.Back d)) n = work_names d n (running_in xs d) (path_in d) (did.Back d back.Nothing) n end
+  told_names end (Once (events.Reset path d)) n = n
+  told_names end (Once events.FailCache) n = tt
+  told_names end (Once events.FailStore) n = tt
+  told_names end (Once (events.FailVolume d side)) n = n
+  told_names end (Once events.RepairCache) n = tt
+  told_names end (Once events.RepairStore) n = tt
+  told_names end (Once (events.Pair a b)) n = n
+  told_names end (Once (events.Suspend a)) n = n
+  told_names end (Once (events.Resume a)) n = n
+  told_names end (Once events.Power) n = tt
+  told_names end (Replace d side) n = n
+  told_names end (Unpair a) n = n
+  told_names end (Run d) n = work_names d n (running_in xs d) (path_in d) (did.RunIdle d) n end
+  told_names end (Settle d) n = work_names d n (running_in xs d) (path_in d) (did.Back d back.Nothing) n end
+
+-- Beside it
+
+loosed_known : (d : ℕ) → IsDevice d → (ls : List LooseTold) → All Known (map loosed_line (map (loosed d) ls))
+loosed_known d k [] = All-nil Known
+loosed_known d k (l ∷ ls) =
+    All-cons Known (loosed_line (loosed d l)) (map loosed_line (map (loosed d) ls)) (λ r. (k, r)) (loosed_known d k ls)
+
+loose_known : (x y : MarksDevice) → Ranged x → Ranged y → All Known (loose_lines x y)
+loose_known x y r s = loosed_known x.store.device r.sized.device (loose_told x y)
+
+abbrev ItemHasPath : Item → Type 0
+ItemHasPath (items.Program e) = IsPath e.path
+ItemHasPath _ = Unit {0}
+
+item_path : (plans : Plans) (state : PlainState) (earlier : List Item) (x : Item) (later : List Item) → IsLegalItem plans state earlier x later → ItemHasPath x
+item_path plans state earlier (items.Program e) later l = record { least = l.0.started.least; most = l.0.started.most }
+item_path plans state earlier (items.Reset path) later l = tt
+item_path plans state earlier items.Fresh later l = tt
+item_path plans state earlier (items.Act act) later l = tt
+item_path plans state earlier items.Power later l = tt
+
+item_paths : (plans : Plans) (state : PlainState) (earlier xs : List Item) → IsLegalFrom plans state earlier xs → Each ItemHasPath xs
+item_paths plans state earlier [] l = tt
+item_paths plans state earlier (x ∷ xs) l =
+    (item_path plans state earlier x xs l.0, item_paths plans (replay_item plans state x) (earlier ++ x ∷ []) xs l.1)
+
+rest_paths : (n : ℕ) (xs : List Item) → Each ItemHasPath xs → Each ItemHasPath (behind_first n xs)
+rest_paths zero xs p = p
+rest_paths (suc n) [] p = tt
+rest_paths (suc n) (x ∷ xs) p = rest_paths n xs p.1
+
+over_known : (d : ℕ) → IsDevice d → (xs : List Item) → Each ItemHasPath xs → All Known (program_over_lines (over_of d xs))
+over_known d k [] p = All-nil Known
+over_known d k (items.Program e ∷ xs) p = one (lines.Over e.path d e.ordinal (how_over e.how)) (λ r. (p.0, k, r.0, r.1))
+over_known d k (items.Reset path ∷ xs) p = All-nil Known
+over_known d k (items.Fresh ∷ xs) p = All-nil Known
+over_known d k (items.Act act ∷ xs) p = All-nil Known
+over_known d k (items.Power ∷ xs) p = All-nil Known
+
+overs_known : (x y : MarksDevice) → Ranged x → Ranged y → All Known (over_lines x y)
+overs_known x y r s =
+    over_known x.store.device r.sized.device (new_items x.history y.history)
+    (rest_paths _ y.history.items (item_paths y.plans (empty_of y) [] y.history.items s.plain.legal))
+
+power_known : (x y : MarksDevice) → Ranged x → Ranged y → All Known (power_lines x y)
+power_known x y r s = All-append Known (over_lines x y) (loose_lines x y) (overs_known x y r s) (loose_known x y r s)
+
+each_known : (f : MarksDevice → MarksDevice → List ReportLine) → ((x y : MarksDevice) → Ranged x → Ranged y → All Known (f x y)) →
+    (xs ys : List MarksDevice) → All Ranged xs → All Ranged ys → All Known (of_each f xs ys)
+each_known f known [] ys r s = All-nil Known
+each_known f known (x ∷ xs) [] r s = All-nil Known
+each_known f known (x ∷ xs) (y ∷ ys) r s =
+    All-append Known (f x y) (of_each f xs ys) (known x y (All-head Ranged x xs r) (All-head Ranged y ys s))
+    (each_known f known xs ys (All-tail Ranged x xs r) (All-tail Ranged y ys s))
+
+-- An event
+
+module _ (reads writes : ℕ) (few : IsLong reads × IsLong writes) (xs ys : List MarksDevice) (before : All Ranged xs) (behind : All Ranged ys) where
+  io_known : All Known (io_lines reads writes)
+  io_known = by_calls ((reads == 0) && (writes == 0)) where
+    by_calls : (b : Bool) → All Known (if b then [] else lines.Io reads writes ∷ [])
+    by_calls true = All-nil Known
+    by_calls false = one (lines.Io reads writes) (λ r. few)
+
+  work_known : (h : report.Happened) → HasNames h → All Known (work_lines h reads writes xs ys)
+  work_known h n =
+      let last = line_if (last_line h) in
+      let overs = of_each over_lines xs ys in
+      let looses = of_each loose_lines xs ys in
+      let io = io_lines reads writes in
+      All-append Known (first_lines h) (looses ++ (io ++ (overs ++ last))) (first_known h n)
+      (All-append Known looses (io ++ (overs ++ last)) (each_known loose_lines loose_known xs ys before behind)
+      (All-append Known io (overs ++ last) io_known
+      (All-append Known overs last (each_known over_lines overs_known xs ys before behind) (last_known h n))))
+
+  pub event_known : (end : EventEnd) (asked : Asked) → Names asked → All Known (event_lines asked end reads writes xs ys)
+  event_known end asked n = by_asked asked (told_names xs before end asked n) where
+    by_asked : (asked : Asked) → HasNames (told xs end asked) → All Known (event_lines asked end reads writes xs ys)
+    by_asked (Once (events.Start path d)) h = work_known (told xs end (Once (events.Start path d))) h
+    by_asked (Once (events.Step d)) h = work_known (told xs end (Once (events.Step d))) h
+    by_asked (Once (events.Back d)) h = work_known (told xs end (Once (events.Back d))) h
+    by_asked (Once (events.Reset path d)) h = work_known (told xs end (Once (events.Reset path d))) h
+    by_asked (Once events.FailCache) h = work_known (told xs end (Once events.FailCache)) h
+    by_asked (Once events.FailStore) h = work_known (told xs end (Once events.FailStore)) h
+    by_asked (Once (events.FailVolume d side)) h = work_known (told xs end (Once (events.FailVolume d side))) h
+    by_asked (Once events.RepairCache) h = work_known (told xs end (Once events.RepairCache)) h
+    by_asked (Once events.RepairStore) h = work_known (told xs end (Once events.RepairStore)) h
+    by_asked (Once (events.Pair a b)) h = work_known (told xs end (Once (events.Pair a b))) h
+    by_asked (Once (events.Suspend a)) h = work_known (told xs end (Once (events.Suspend a))) h
+    by_asked (Once (events.Resume a)) h = work_known (told xs end (Once (events.Resume a))) h
+    by_asked (Once events.Power) h =
+        All-append Known (of_each power_lines xs ys) (lines.Order orders.Power (order_answer end) ∷ []) (each_known power_lines power_known xs ys before behind)
+        (one (lines.Order orders.Power (order_answer end)) (λ r. (tt, r)))
+    by_asked (Replace d side) h = work_known (told xs end (Replace d side)) h
+    by_asked (Unpair a) h = work_known (told xs end (Unpair a)) h
+    by_asked (Run d) h = work_known (told xs end (Run d)) h
+    by_asked (Settle d) h = work_known (told xs end (Settle d)) h
