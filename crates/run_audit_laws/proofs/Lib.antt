@@ -56,5 +56,8 @@ mod DeckTexts
 mod OwnTexts
 mod DeviceSizes
 mod NamedEvents
+mod RangedDevices
+mod RangedEnds
+mod FewDevices
 mod RangedLines
 mod RangedRuns

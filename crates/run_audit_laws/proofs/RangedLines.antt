@@ -1,5 +1,5 @@
 -- The paths and devices that the lines of an event name are in their ranges.
-use Rattle.std.proofs.Common.{◌≡◌, ◌≤◌, ◌<◌, ◌+◌, ◌==◌, ◌++◌, zero, suc, ℕ, Bool, true, false, List, [], ◌∷◌, map, Option, Some, None, refl, if◌then◌else◌, arith}
+use Rattle.std.proofs.Common.{◌≡◌, ◌≤◌, ◌<◌, ◌+◌, ◌==◌, ◌++◌, zero, suc, ℕ, Bool, true, false, List, [], ◌∷◌, length, map, Option, Some, None, if◌then◌else◌}
 use Rattle.std.specs.Prelude.{◌&&◌, ◌^◌, All, IfSome, option_map}
 use Rattle.std.proofs.lemmas.List.Elements.{All-append, All-cons, All-head, All-nil, All-tail}
 use Rattle.ckd_types.specs.declared.channel.CommandEnd.{CommandEnd}
@@ -8,7 +8,7 @@ use Rattle.deck_text.proofs.DeckAgain.{Each}
 use Rattle.plain_defs.specs.declared.journal.Item.{Item}
 use Rattle.plain_defs.specs.declared.journal.Item.TheVariants as items
 use Rattle.plain_defs.specs.History.{IsOpen, OpenEntry}
-use Rattle.plain_defs.specs.Journal.{Plans, replay, replay_item}
+use Rattle.plain_defs.specs.Journal.{Plans, planned, replay, replay_item}
 use Rattle.plain_defs.specs.Legal.{IsLegalFrom, IsLegalItem}
 use Rattle.plain_defs.specs.PlainState.{PlainState}
 use Rattle.device_defs.specs.declared.answers.SecondEnd.TheVariants as seconds
@@ -22,7 +22,7 @@ use Rattle.report_text.specs.declared.line.ReportLine.TheVariants as lines
 use Rattle.report_text.specs.declared.order.Order.TheVariants as orders
 use Rattle.report_text.specs.Ends.{data_lines, end_line, sense_lines}
 use Rattle.report_text.specs.Events.{first_lines, io_lines, last_line, line_if, loosed_line, program_over_lines}
-use Rattle.report_reading.specs.Ranges.{IsDevice, IsLine, IsLong, IsOrder, IsPath}
+use Rattle.report_reading.specs.Ranges.{IsAnswer, IsDevice, IsLine, IsLong, IsOrder, IsPath, IsShort, IsStart}
 use Rattle.run_report.specs.declared.told.RunningProgram.{RunningProgram}
 use Rattle.run_report.specs.Answers.{order_answer, start_answer}
 use Rattle.run_report.specs.Beside.{how_over, loose_lines, loosed, of_each, over_lines, over_of, power_lines}
@@ -34,10 +34,11 @@ use Rattle.subsystem_defs.specs.declared.event.Event.TheVariants as events
 use Rattle.subsystem_defs.specs.Beside.{LooseTold, behind_first, loose_told, new_items}
 use Rattle.subsystem_defs.specs.Deeds.{device_in}
 use Rattle.subsystem_defs.specs.Lines.{Asked, Once, Replace, Run, Settle, Unpair}
-use Rattle.subsystem_defs.specs.Promised.{HasPlainHistory, empty_of}
-use Rattle.run_audit_laws.specs.Ranges.{RestIsIn}
-use Rattle.run_audit_laws.proofs.DeviceSizes.{Sized}
+use Rattle.subsystem_defs.specs.Promised.{empty_of}
+use Rattle.run_audit_laws.specs.Ranges.{RestIsIn, RestOfStart}
 use Rattle.run_audit_laws.proofs.NamedEvents.{Names}
+use Rattle.run_audit_laws.proofs.RangedDevices.{Ranged, device_ranged, few_programs}
+use Rattle.run_audit_laws.proofs.RangedEnds.{Answers, AnswersOnce, OrderIn, StartIn}
 
 -- with what isn't shown of it, it is in its ranges
 abbrev pub Known : ReportLine → Type 0
@@ -46,23 +47,18 @@ Known line = RestIsIn line → IsLine line
 pub one : (line : ReportLine) → Known line → All Known (line ∷ [])
 one line is = All-cons Known line [] is (All-nil Known)
 
--- What a device is by itself, and its history
-pub record Ranged (d : MarksDevice) : Type 0 where
-  pub sized : Sized d
-  pub plain : HasPlainHistory d
-
 abbrev HasPath : RunningProgram → Type 0
-HasPath r = IsPath r.path
+HasPath r = IsPath r.path × IsShort r.ordinal
 
 abbrev HasNames : report.Happened → Type 0
-HasNames (did.Started path d a) = IsPath path × IsDevice d
-HasNames (did.Ended path d n e) = IsPath path × IsDevice d
+HasNames (did.Started path d a) = IsPath path × IsDevice d × (RestOfStart a → IsStart a)
+HasNames (did.Ended path d n e) = IsPath path × IsDevice d × IsShort n
 HasNames (did.Half path d t) = IsPath path × IsDevice d
 HasNames (did.Back d a) = IsDevice d
 HasNames (did.StepIdle d) = IsDevice d
 HasNames (did.RunIdle d) = IsDevice d
 HasNames (did.Reset path d) = IsPath path × IsDevice d
-HasNames (did.Ordered order a) = IsOrder order
+HasNames (did.Ordered order a) = IsOrder order × IsAnswer a
 
 -- What an event did
 
@@ -74,14 +70,14 @@ sense_known : (sense : Option Sense) → All Known (sense_lines sense)
 sense_known (Some sense) = one (lines.Sense sense) (λ r. r)
 sense_known None = All-nil Known
 
-end_known : (path d n : ℕ) (e : CommandEnd) → IsPath path → IsDevice d → Known (lines.End (end_line path d n e))
-end_known path d n e p k = λ r. record { path = p; device = k; ordinal = r.ordinal; index = r.index; status = r.status; residual = r.residual }
+end_known : (path d n : ℕ) (e : CommandEnd) → IsPath path → IsDevice d → IsShort n → Known (lines.End (end_line path d n e))
+end_known path d n e p k o = λ r. record { path = p; device = k; ordinal = o; index = r.index; status = r.status; residual = r.residual }
 
 first_known : (h : report.Happened) → HasNames h → All Known (first_lines h)
-first_known (did.Started path d a) n = one (lines.Start path d a) (λ r. (n.0, n.1, r))
+first_known (did.Started path d a) n = one (lines.Start path d a) (λ r. (n.0, n.1, n.2 r))
 first_known (did.Ended path d n e) k =
     All-append Known (lines.End (end_line path d n e) ∷ []) (data_lines e.sent ++ sense_lines e.sense)
-    (one (lines.End (end_line path d n e)) (end_known path d n e k.0 k.1))
+    (one (lines.End (end_line path d n e)) (end_known path d n e k.0 k.1 k.2))
     (All-append Known (data_lines e.sent) (sense_lines e.sense) (data_known e.sent) (sense_known e.sense))
 first_known (did.Half path d t) n = one (lines.Half path d t) (λ r. (n.0, n.1, r))
 first_known (did.Back d a) n = one (lines.Back d a) (λ r. (n, r))
@@ -98,15 +94,15 @@ last_known (did.Back d a) n = All-nil Known
 last_known (did.StepIdle d) n = All-nil Known
 last_known (did.RunIdle d) n = All-nil Known
 last_known (did.Reset path d) n = one (lines.Reset path d) (λ r. n)
-last_known (did.Ordered order a) n = one (lines.Order order a) (λ r. (n, r))
+last_known (did.Ordered order a) n = one (lines.Order order a) (λ r. n)
 
 module _ (d : ℕ) (k : IsDevice d) where
   end_names : (r : Option RunningProgram) → IfSome r HasPath → (e : CommandEnd) → HasNames (end_told d r e)
-  end_names (Some r) p e = (p, k)
+  end_names (Some r) p e = (p.0, k, p.1)
   end_names None p e = k
 
   half_names : (r : Option RunningProgram) → IfSome r HasPath → (t : ℕ) → HasNames (half_told d r t)
-  half_names (Some r) p t = (p, k)
+  half_names (Some r) p t = (p.0, k)
   half_names None p t = k
 
   work_names : (r : Option RunningProgram) → IfSome r HasPath → (idle : report.Happened) → HasNames idle → (end : EventEnd) →
@@ -125,46 +121,53 @@ module _ (d : ℕ) (k : IsDevice d) where
   work_names r p idle n (ends.Pending m) = n
   work_names r p idle n (ends.Refused f) = n
 
-path_of_open : (plans : Plans) (state : PlainState) (xs : List Item) (r : Option OpenEntry) → IfSome r (IsOpen plans state xs) →
+path_of_open : (d : MarksDevice) → Ranged d → (state : PlainState) (xs : List Item) (r : Option OpenEntry) → IfSome r (IsOpen d.plans state xs) →
     IfSome (option_map running_program r) HasPath
-path_of_open plans state xs (Some o) i = record { least = i.start.least; most = i.start.most }
-path_of_open plans state xs None i = tt
+path_of_open d k state xs (Some o) i = (
+  record { least = i.start.least; most = i.start.most },
+  few_programs o.ordinal (length (planned d.plans o.path)) i.start.in_plan (k.sized.plans o.path),
+)
+path_of_open d k state xs None i = tt
 
 running_path : (o : Option MarksDevice) → IfSome o Ranged → IfSome (running_by o) HasPath
-running_path (Some d) r = path_of_open d.plans (replay d.plans (empty_of d) d.history.items) d.history.items d.history.running r.plain.at
+running_path (Some d) r = path_of_open d r (replay d.plans (empty_of d) d.history.items) d.history.items d.history.running r.plain.at
 running_path None r = tt
 
-found_ranged : (b : Bool) (d : MarksDevice) (o : Option MarksDevice) → Ranged d → IfSome o Ranged → IfSome (if b then Some d else o) Ranged
-found_ranged true d o r rest = r
-found_ranged false d o r rest = rest
+abbrev Repairs : Event → EventEnd → Type 0
+Repairs events.RepairCache end = OrderIn end
+Repairs events.RepairStore end = OrderIn end
+Repairs _ end = Unit {0}
 
-pub device_ranged : (ds : List MarksDevice) (n : ℕ) → All Ranged ds → IfSome (device_in ds n) Ranged
-device_ranged [] n all = tt
-device_ranged (d ∷ ds) n all =
-    found_ranged (d.store.device == n) d (device_in ds n) (All-head Ranged d ds all) (device_ranged ds n (All-tail Ranged d ds all))
+-- what a repair answers
+abbrev pub RepairsIn : Asked → EventEnd → Type 0
+RepairsIn (Once e) end = Repairs e end
+RepairsIn _ end = Unit {0}
 
 module _ (xs : List MarksDevice) (all : All Ranged xs) where
   path_in : (d : ℕ) → IfSome (running_in xs d) HasPath
   path_in d = running_path (device_in xs d) (device_ranged xs d all)
 
-  told_names : (end : EventEnd) (asked : Asked) → Names asked → HasNames (told xs end asked)
-  told_names end (Once (events.Start path d)) n = n
-  told_names end (Once (events.Step d)) n = work_names d n (running_in xs d) (path_in d) (did.StepIdle d) n end
-  told_names end (Once (events.Back d)) n = work_names d n (running_in xs d) (path_in d) (did.Back d back.Nothing) n end
-  told_names end (Once (events.Reset path d)) n = n
-  told_names end (Once events.FailCache) n = tt
-  told_names end (Once events.FailStore) n = tt
-  told_names end (Once (events.FailVolume d side)) n = n
-  told_names end (Once events.RepairCache) n = tt
-  told_names end (Once events.RepairStore) n = tt
-  told_names end (Once (events.Pair a b)) n = n
-  told_names end (Once (events.Suspend a)) n = n
-  told_names end (Once (events.Resume a)) n = n
-  told_names end (Once events.Power) n = tt
-  told_names end (Replace d side) n = n
-  told_names end (Unpair a) n = n
-  told_names end (Run d) n = work_names d n (running_in xs d) (path_in d) (did.RunIdle d) n end
-  told_names end (Settle d) n = work_names d n (running_in xs d) (path_in d) (did.Back d back.Nothing) n end
+  once_names : (end : EventEnd) (e : Event) → Names (Once e) → AnswersOnce e end → Repairs e end → HasNames (told xs end (Once e))
+  once_names end (events.Start path d) n a w = (n.0, n.1, a)
+  once_names end (events.Step d) n a w = work_names d n (running_in xs d) (path_in d) (did.StepIdle d) n end
+  once_names end (events.Back d) n a w = work_names d n (running_in xs d) (path_in d) (did.Back d back.Nothing) n end
+  once_names end (events.Reset path d) n a w = n
+  once_names end events.FailCache n a w = (tt, a)
+  once_names end events.FailStore n a w = (tt, a)
+  once_names end (events.FailVolume d side) n a w = (n, a)
+  once_names end events.RepairCache n a w = (tt, w)
+  once_names end events.RepairStore n a w = (tt, w)
+  once_names end (events.Pair x y) n a w = (n, a)
+  once_names end (events.Suspend x) n a w = (n, a)
+  once_names end (events.Resume x) n a w = (n, a)
+  once_names end events.Power n a w = (tt, a)
+
+  told_names : (end : EventEnd) (asked : Asked) → Names asked → Answers asked end → RepairsIn asked end → HasNames (told xs end asked)
+  told_names end (Once e) n a w = once_names end e n a w
+  told_names end (Replace d side) n a w = (n, a)
+  told_names end (Unpair x) n a w = (n, a)
+  told_names end (Run d) n a w = work_names d n (running_in xs d) (path_in d) (did.RunIdle d) n end
+  told_names end (Settle d) n a w = work_names d n (running_in xs d) (path_in d) (did.Back d back.Nothing) n end
 
 -- Beside it
 
@@ -177,20 +180,23 @@ loose_known : (x y : MarksDevice) → Ranged x → Ranged y → All Known (loose
 loose_known x y r s = loosed_known x.store.device r.sized.device (loose_told x y)
 
 abbrev ItemHasPath : Item → Type 0
-ItemHasPath (items.Program e) = IsPath e.path
+ItemHasPath (items.Program e) = IsPath e.path × IsShort e.ordinal
 ItemHasPath _ = Unit {0}
 
-item_path : (plans : Plans) (state : PlainState) (earlier : List Item) (x : Item) (later : List Item) → IsLegalItem plans state earlier x later → ItemHasPath x
-item_path plans state earlier (items.Program e) later l = record { least = l.0.started.least; most = l.0.started.most }
-item_path plans state earlier (items.Reset path) later l = tt
-item_path plans state earlier items.Fresh later l = tt
-item_path plans state earlier (items.Act act) later l = tt
-item_path plans state earlier items.Power later l = tt
+module _ (plans : Plans) (few : (path : ℕ) → length (planned plans path) ≤ 512) where
+  item_path : (state : PlainState) (earlier : List Item) (x : Item) (later : List Item) → IsLegalItem plans state earlier x later → ItemHasPath x
+  item_path state earlier (items.Program e) later l =
+      let s = l.0.started in
+      (record { least = s.least; most = s.most }, few_programs e.ordinal (length (planned plans e.path)) s.in_plan (few e.path))
+  item_path state earlier (items.Reset path) later l = tt
+  item_path state earlier items.Fresh later l = tt
+  item_path state earlier (items.Act act) later l = tt
+  item_path state earlier items.Power later l = tt
 
-item_paths : (plans : Plans) (state : PlainState) (earlier xs : List Item) → IsLegalFrom plans state earlier xs → Each ItemHasPath xs
-item_paths plans state earlier [] l = tt
-item_paths plans state earlier (x ∷ xs) l =
-    (item_path plans state earlier x xs l.0, item_paths plans (replay_item plans state x) (earlier ++ x ∷ []) xs l.1)
+  item_paths : (state : PlainState) (earlier xs : List Item) → IsLegalFrom plans state earlier xs → Each ItemHasPath xs
+  item_paths state earlier [] l = tt
+  item_paths state earlier (x ∷ xs) l =
+      (item_path state earlier x xs l.0, item_paths (replay_item plans state x) (earlier ++ x ∷ []) xs l.1)
 
 rest_paths : (n : ℕ) (xs : List Item) → Each ItemHasPath xs → Each ItemHasPath (behind_first n xs)
 rest_paths zero xs p = p
@@ -199,7 +205,7 @@ rest_paths (suc n) (x ∷ xs) p = rest_paths n xs p.1
 
 over_known : (d : ℕ) → IsDevice d → (xs : List Item) → Each ItemHasPath xs → All Known (program_over_lines (over_of d xs))
 over_known d k [] p = All-nil Known
-over_known d k (items.Program e ∷ xs) p = one (lines.Over e.path d e.ordinal (how_over e.how)) (λ r. (p.0, k, r.0, r.1))
+over_known d k (items.Program e ∷ xs) p = one (lines.Over e.path d e.ordinal (how_over e.how)) (λ r. (p.0.0, k, p.0.1, r))
 over_known d k (items.Reset path ∷ xs) p = All-nil Known
 over_known d k (items.Fresh ∷ xs) p = All-nil Known
 over_known d k (items.Act act ∷ xs) p = All-nil Known
@@ -208,7 +214,7 @@ over_known d k (items.Power ∷ xs) p = All-nil Known
 overs_known : (x y : MarksDevice) → Ranged x → Ranged y → All Known (over_lines x y)
 overs_known x y r s =
     over_known x.store.device r.sized.device (new_items x.history y.history)
-    (rest_paths _ y.history.items (item_paths y.plans (empty_of y) [] y.history.items s.plain.legal))
+    (rest_paths _ y.history.items (item_paths y.plans s.sized.plans (empty_of y) [] y.history.items s.plain.legal))
 
 power_known : (x y : MarksDevice) → Ranged x → Ranged y → All Known (power_lines x y)
 power_known x y r s = All-append Known (over_lines x y) (loose_lines x y) (overs_known x y r s) (loose_known x y r s)
@@ -241,8 +247,9 @@ module _ (reads writes : ℕ) (few : IsLong reads × IsLong writes) (xs ys : Lis
       (All-append Known io (overs ++ last) io_known
       (All-append Known overs last (each_known over_lines overs_known xs ys before behind) (last_known h n))))
 
-  pub event_known : (end : EventEnd) (asked : Asked) → Names asked → All Known (event_lines asked end reads writes xs ys)
-  event_known end asked n = by_asked asked (told_names xs before end asked n) where
+  pub event_known : (end : EventEnd) (asked : Asked) → Names asked → Answers asked end → RepairsIn asked end →
+      All Known (event_lines asked end reads writes xs ys)
+  event_known end asked n a w = by_asked asked (told_names xs before end asked n a w) where
     by_asked : (asked : Asked) → HasNames (told xs end asked) → All Known (event_lines asked end reads writes xs ys)
     by_asked (Once (events.Start path d)) h = work_known (told xs end (Once (events.Start path d))) h
     by_asked (Once (events.Step d)) h = work_known (told xs end (Once (events.Step d))) h
@@ -258,7 +265,7 @@ module _ (reads writes : ℕ) (few : IsLong reads × IsLong writes) (xs ys : Lis
     by_asked (Once (events.Resume a)) h = work_known (told xs end (Once (events.Resume a))) h
     by_asked (Once events.Power) h =
         All-append Known (of_each power_lines xs ys) (lines.Order orders.Power (order_answer end) ∷ []) (each_known power_lines power_known xs ys before behind)
-        (one (lines.Order orders.Power (order_answer end)) (λ r. (tt, r)))
+        (one (lines.Order orders.Power (order_answer end)) (λ r. h))
     by_asked (Replace d side) h = work_known (told xs end (Replace d side)) h
     by_asked (Unpair a) h = work_known (told xs end (Unpair a)) h
     by_asked (Run d) h = work_known (told xs end (Run d)) h

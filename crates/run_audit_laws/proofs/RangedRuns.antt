@@ -39,11 +39,14 @@ use Rattle.std.proofs.lemmas.List.Elements.{All-append, All-cons, All-head, All-
 use Rattle.deck_text.specs.declared.line.DeviceLine.{DeviceLine}
 use Rattle.deck_text.specs.DeckLines.{DeckLines}
 use Rattle.deck_text.specs.Parse.{parsed}
+use Rattle.track_table.proofs.Counts.{few_marked}
 use Rattle.deck_audit.specs.Device.{outline_of}
 use Rattle.deck_audit.specs.State.{outlines}
 use Rattle.device_outside.specs.Pool.{Frame}
+use Rattle.device_defs.specs.Contents.{by_plain}
 use Rattle.device_defs.specs.Marks.{MarksDevice, MarksStore}
-use Rattle.device_defs.specs.Store.{HalfWrite, is_lost, takes_b}
+use Rattle.device_defs.specs.Owed.{waits}
+use Rattle.device_defs.specs.Store.{HalfWrite, is_lost, takes_b, tracks_of}
 use Rattle.device_defs.specs.Transfers.{both}
 use Rattle.plain_defs.specs.History.{IsPlain}
 use Rattle.plain_defs.specs.PlainState.{PlainState}
@@ -58,6 +61,7 @@ use Rattle.run_report.specs.Events.{lines_of}
 use Rattle.run_report.specs.Report.{lines_of_run, report_lines}
 use Rattle.seen_laws.specs.Moved.{NoTransfers, SecondTransfers, half_writing}
 use Rattle.subsystem_defs.specs.declared.end.EventEnd.{EventEnd}
+use Rattle.subsystem_defs.specs.declared.end.EventEnd.TheVariants as ends
 use Rattle.subsystem_defs.specs.declared.event.Event.{Event}
 use Rattle.subsystem_defs.specs.declared.event.Event.TheVariants as events
 use Rattle.subsystem_defs.specs.Closing.{Counted, DeviceEnd, Ending, LentTo, device_end, device_end_by, ending, lost_tracks, where_true}
@@ -67,20 +71,26 @@ use Rattle.subsystem_defs.specs.Deeds.{device_in}
 use Rattle.subsystem_defs.specs.Lines.{Asked, Logged, Once, Replace, Run, Settle, Unpair, asked_by, run_lines}
 use Rattle.subsystem_defs.specs.Promised.{HasPlainHistory}
 use Rattle.subsystem_defs.specs.Subsystem.{Mounted, Subsystem, devices_of}
+use Rattle.subsystem_laws.specs.Waits.{RepairsBy, TellsWaiting, repair_end, waiting_in, waiting_of}
 use Rattle.subsystem_laws.specs.Transfers.{AskedTransfers, BackBy, BackTransfers, EventTransfers, MovesByTable, RunTransfers, RunningTransfers, StepBy, StepTransfers}
 use Rattle.subsystem_laws.proofs.CalmRuns.{AllSo}
 use Rattle.subsystem_laws.proofs.FailedCalls.{read_run_reads_few, read_run_writes_few}
 use Rattle.subsystem_laws.proofs.MovedRuns.{run_moves}
 use Rattle.subsystem_laws.proofs.PlainRuns.{Plainly, opened_plain, run_plainly}
-use Rattle.subsystem_laws.proofs.ReadDecks.{read_served}
+use Rattle.subsystem_laws.proofs.ReadDecks.{read_numbered, read_served}
+use Rattle.subsystem_laws.proofs.RunLines.{Logs, lines_keep}
 use Rattle.subsystem_laws.proofs.RunLinks.{Linked, lines_linked}
+use Rattle.subsystem_laws.proofs.Waiting.{run_tells_of_waiting}
 use Rattle.subsystem_laws.proofs.Walks.{AreSo, both_behind}
 use Rattle.run_audit_laws.specs.Ranges.{RestIsIn}
 use Rattle.run_audit_laws.specs.Standing.{FramesAreDeclared, audited, stand}
 use Rattle.run_audit_laws.proofs.DeviceSizes.{Sized, first_sized, run_sized, sized_behind}
+use Rattle.run_audit_laws.proofs.FewDevices.{run_has_few}
 use Rattle.run_audit_laws.proofs.FramesOwned.{frames_are_declared}
 use Rattle.run_audit_laws.proofs.NamedEvents.{Names, run_names}
-use Rattle.run_audit_laws.proofs.RangedLines.{Known, Ranged, device_ranged, event_known, one}
+use Rattle.run_audit_laws.proofs.RangedDevices.{Ranged, device_ranged}
+use Rattle.run_audit_laws.proofs.RangedEnds.{Answers, AnswersSo, OrderIn, answers_go}
+use Rattle.run_audit_laws.proofs.RangedLines.{Known, RepairsIn, event_known, one}
 
 -- The calls of an event
 
@@ -180,18 +190,95 @@ both_ranged s (t ∷ ts) l here all =
 abbrev NamesLogged : Logged → Type 0
 NamesLogged t = Names t.asked
 
-one_known : (t : Logged) → BothRanged t → Names t.asked → MovesByTable t → All Known (lines_of t)
-one_known t r n m =
-    let h = t.happened in
-    event_known h.reads h.writes (long_few h.reads h.writes (asked_calls h.reads h.writes t.asked h.before h.end r.0 m)) (devices_of h.before)
-    (devices_of h.behind) r.0 r.1 h.end t.asked n
+abbrev AnswersLogged : Logged → Type 0
+AnswersLogged t = Answers t.asked t.happened.end
 
-all_known : (ts : List Logged) → All BothRanged ts → All NamesLogged ts → All MovesByTable ts → All Known (flat_map lines_of ts)
-all_known [] r n m = All-nil Known
-all_known (t ∷ ts) r n m =
+all_answer : (s : Subsystem) (ts : List Logged) → Linked s ts → Logs (λ s. Unit {0}) AnswersSo s ts → All BothRanged ts → All AnswersLogged ts
+all_answer s [] l g r = All-nil AnswersLogged
+all_answer s (t ∷ ts) l g r =
+    All-cons AnswersLogged t ts (g.0 (subst AllRanged l.0 (All-head BothRanged t ts r).0))
+    (all_answer t.happened.behind ts l.1 g.1 (All-tail BothRanged t ts r))
+
+-- What a repair answers
+
+few_waiting : (k a b c : ℕ) → k ≤ 64 → a ≤ k * 15 → b ≤ c * 960 → a + b ≤ suc c * 960
+few_waiting k a b c small few rest = omega (arith, small, few, rest)
+
+all_waiting : (ds : List MarksDevice) → All Ranged ds → waiting_in ds ≤ length ds * 960
+all_waiting [] r = omega arith
+all_waiting (d ∷ ds) r =
+    few_waiting d.store.cylinders (waiting_of d) (waiting_in ds) (length ds) (All-head Ranged d ds r).sized.cylinders
+    (few_marked (tracks_of d.store) (waits by_plain d.store)) (all_waiting ds (All-tail Ranged d ds r))
+
+repair_in : (up : Bool) (n k : ℕ) → n ≤ k * 960 → k ≤ 16 → OrderIn (repair_end up n)
+repair_in true n k few most = tt
+repair_in false n k few most = by_test (n == 0) where
+  by_test : (b : Bool) → OrderIn (if b then ends.Done else ends.Pending n)
+  by_test true = tt
+  by_test false = omega (arith, few, most)
+
+abbrev IsFew : Logged → Type 0
+IsFew t = length (devices_of t.happened.before) ≤ 16
+
+repairs_in : (t : Logged) → AllRanged t.happened.before → IsFew t → TellsWaiting t → RepairsIn t.asked t.happened.end
+repairs_in t r few w = by_asked t.asked w.repairs where
+  by_event : (e : Event) → RepairsBy (Once e) t.happened → RepairsIn (Once e) t.happened.end
+  by_event events.RepairCache is =
+      subst OrderIn (sym is) (repair_in t.happened.before.pool.cache_up (waiting_in (devices_of t.happened.before)) (length (devices_of t.happened.before))
+      (all_waiting (devices_of t.happened.before) r) few)
+  by_event events.RepairStore is =
+      subst OrderIn (sym is) (repair_in t.happened.before.pool.store_up (waiting_in (devices_of t.happened.before)) (length (devices_of t.happened.before))
+      (all_waiting (devices_of t.happened.before) r) few)
+  by_event (events.Start path d) is = tt
+  by_event (events.Step d) is = tt
+  by_event (events.Back d) is = tt
+  by_event (events.Reset path d) is = tt
+  by_event events.FailCache is = tt
+  by_event events.FailStore is = tt
+  by_event (events.FailVolume d side) is = tt
+  by_event (events.Pair a b) is = tt
+  by_event (events.Suspend a) is = tt
+  by_event (events.Resume a) is = tt
+  by_event events.Power is = tt
+
+  by_asked : (x : Asked) → RepairsBy x t.happened → RepairsIn x t.happened.end
+  by_asked (Once e) is = by_event e is
+  by_asked (Replace d side) is = tt
+  by_asked (Unpair a) is = tt
+  by_asked (Run d) is = tt
+  by_asked (Settle d) is = tt
+
+-- and of every event all that is known
+pub record Shows (t : Logged) : Type 0 where
+  pub ranged : BothRanged t
+  pub few : IsFew t
+  pub names : NamesLogged t
+  pub moves : MovesByTable t
+  pub answers : AnswersLogged t
+  pub waiting : TellsWaiting t
+
+one_known : (t : Logged) → Shows t → All Known (lines_of t)
+one_known t k =
+    let h = t.happened in
+    let r = k.ranged in
+    event_known h.reads h.writes (long_few h.reads h.writes (asked_calls h.reads h.writes t.asked h.before h.end r.0 k.moves)) (devices_of h.before)
+    (devices_of h.behind) r.0 r.1 h.end t.asked k.names k.answers (repairs_in t r.0 k.few k.waiting)
+
+all_known : (ts : List Logged) → All BothRanged ts → All IsFew ts → All NamesLogged ts → All MovesByTable ts → All AnswersLogged ts →
+    All TellsWaiting ts → All Known (flat_map lines_of ts)
+all_known [] r f n m a w = All-nil Known
+all_known (t ∷ ts) r f n m a w =
     All-append Known (lines_of t) (flat_map lines_of ts)
-    (one_known t (All-head BothRanged t ts r) (All-head NamesLogged t ts n) (All-head MovesByTable t ts m))
-    (all_known ts (All-tail BothRanged t ts r) (All-tail NamesLogged t ts n) (All-tail MovesByTable t ts m))
+    (one_known t (record {
+      ranged = All-head BothRanged t ts r;
+      few = All-head IsFew t ts f;
+      names = All-head NamesLogged t ts n;
+      moves = All-head MovesByTable t ts m;
+      answers = All-head AnswersLogged t ts a;
+      waiting = All-head TellsWaiting t ts w;
+    }))
+    (all_known ts (All-tail BothRanged t ts r) (All-tail IsFew t ts f) (All-tail NamesLogged t ts n) (All-tail MovesByTable t ts m)
+    (All-tail AnswersLogged t ts a) (All-tail TellsWaiting t ts w))
 
 both_so : (d : MarksDevice) → Sized d → HasPlainHistory d → Ranged d
 both_so d s p = record { sized = s; plain = p }
@@ -307,11 +394,15 @@ module _ (text : List ℕ) (deck : DeckLines) (read : parsed text ≡ Ok deck) w
   events_known : All Known (lines_of_run (run_of deck))
   unfolding D.run_asked
   events_known =
-      let ts = run_lines (map asked_by deck.events) (opened deck) in
-      all_known ts
-      (both_ranged (opened deck) ts (lines_linked (map asked_by deck.events) (opened deck)) first_ranged
-      (both_behind Sized HasPlainHistory Ranged both_so ts (run_sized text deck read) (run_plainly deck (read_served text deck read))))
-      (run_names text deck read) (run_moves deck)
+      let asked = map asked_by deck.events in
+      let ts = run_lines asked (opened deck) in
+      let linked = lines_linked asked (opened deck) in
+      let ranged = both_ranged (opened deck) ts linked first_ranged
+      (both_behind Sized HasPlainHistory Ranged both_so ts (run_sized text deck read) (run_plainly deck (read_served text deck read)))
+      in
+      all_known ts ranged (run_has_few text deck read) (run_names text deck read) (run_moves deck)
+      (all_answer (opened deck) ts linked (lines_keep (λ s. Unit {0}) AnswersSo answers_go asked (opened deck) tt) ranged)
+      (run_tells_of_waiting deck (read_served text deck read) (read_numbered text deck read))
 
   pub report_known : All Known (report_lines (run_of deck))
   report_known =
