@@ -56,6 +56,7 @@ mod DeckTexts
 mod OwnTexts
 mod DeviceSizes
 mod NamedEvents
+mod LooseNumbers
 mod RangedDevices
 mod RangedEnds
 mod FewDevices

@@ -1,10 +1,13 @@
 -- The paths and devices that the lines of an event name are in their ranges.
-use Rattle.std.proofs.Common.{◌≡◌, ◌≤◌, ◌<◌, ◌+◌, ◌==◌, ◌++◌, zero, suc, ℕ, Bool, true, false, List, [], ◌∷◌, length, map, Option, Some, None, if◌then◌else◌}
-use Rattle.std.specs.Prelude.{◌&&◌, ◌^◌, All, IfSome, option_map}
+use Rattle.std.proofs.Common.{◌≡◌, ◌≤◌, ◌<◌, ◌+◌, ◌==◌, ◌++◌, zero, suc, ℕ, Bool, true, false, List, [], ◌∷◌, length, map, Option, Some, None, refl, if◌then◌else◌, arith}
+use Rattle.std.specs.Prelude.{◌&&◌, ◌^◌, not, All, IfSome, option_map}
 use Rattle.std.proofs.lemmas.List.Elements.{All-append, All-cons, All-head, All-nil, All-tail}
 use Rattle.ckd_types.specs.declared.channel.CommandEnd.{CommandEnd}
 use Rattle.ckd_types.specs.declared.sense.Sense.{Sense}
+use Rattle.hex.specs.Hex.{IsBytes}
 use Rattle.deck_text.proofs.DeckAgain.{Each}
+use Rattle.plain_defs.specs.declared.journal.Act.{Act}
+use Rattle.plain_defs.specs.declared.journal.Act.TheVariants.{CfwLost, Harden, Loosen}
 use Rattle.plain_defs.specs.declared.journal.Item.{Item}
 use Rattle.plain_defs.specs.declared.journal.Item.TheVariants as items
 use Rattle.plain_defs.specs.History.{IsOpen, OpenEntry}
@@ -22,16 +25,16 @@ use Rattle.report_text.specs.declared.line.ReportLine.TheVariants as lines
 use Rattle.report_text.specs.declared.order.Order.TheVariants as orders
 use Rattle.report_text.specs.Ends.{data_lines, end_line, sense_lines}
 use Rattle.report_text.specs.Events.{first_lines, io_lines, last_line, line_if, loosed_line, program_over_lines}
-use Rattle.report_reading.specs.Ranges.{IsAnswer, IsDevice, IsLine, IsLong, IsOrder, IsPath, IsShort, IsStart}
+use Rattle.report_reading.specs.Ranges.{AreBytes, IsAnswer, IsDevice, IsLine, IsLong, IsOrder, IsPath, IsShort, IsStart}
 use Rattle.run_report.specs.declared.told.RunningProgram.{RunningProgram}
 use Rattle.run_report.specs.Answers.{order_answer, start_answer}
-use Rattle.run_report.specs.Beside.{how_over, loose_lines, loosed, of_each, over_lines, over_of, power_lines}
+use Rattle.run_report.specs.Beside.{how_over, id_of, loose_lines, loosed, of_each, over_lines, over_of, power_lines}
 use Rattle.run_report.specs.Events.{end_told, event_lines, half_told, running_by, running_in, running_program, told, work_lines, work_told}
 use Rattle.subsystem_defs.specs.declared.end.EventEnd.{EventEnd}
 use Rattle.subsystem_defs.specs.declared.end.EventEnd.TheVariants as ends
 use Rattle.subsystem_defs.specs.declared.event.Event.{Event}
 use Rattle.subsystem_defs.specs.declared.event.Event.TheVariants as events
-use Rattle.subsystem_defs.specs.Beside.{LooseTold, behind_first, loose_told, new_items}
+use Rattle.subsystem_defs.specs.Beside.{Hardened, LooseTold, Loosened, WentBack, behind_first, has_power, loose_count, loose_told, new_acts, new_items, power_told, told_act}
 use Rattle.subsystem_defs.specs.Deeds.{device_in}
 use Rattle.subsystem_defs.specs.Lines.{Asked, Once, Replace, Run, Settle, Unpair}
 use Rattle.subsystem_defs.specs.Promised.{empty_of}
@@ -171,13 +174,50 @@ module _ (xs : List MarksDevice) (all : All Ranged xs) where
 
 -- Beside it
 
-loosed_known : (d : ℕ) → IsDevice d → (ls : List LooseTold) → All Known (map loosed_line (map (loosed d) ls))
-loosed_known d k [] = All-nil Known
-loosed_known d k (l ∷ ls) =
-    All-cons Known (loosed_line (loosed d l)) (map loosed_line (map (loosed d) ls)) (λ r. (k, r)) (loosed_known d k ls)
+-- how many went back, and the new number
+abbrev TellsIn : LooseTold → Type 0
+TellsIn (Loosened t) = Unit {0}
+TellsIn (Hardened t) = Unit {0}
+TellsIn (WentBack count number) = IsShort count × IsShort number
 
-loose_known : (x y : MarksDevice) → Ranged x → Ranged y → All Known (loose_lines x y)
-loose_known x y r s = loosed_known x.store.device r.sized.device (loose_told x y)
+id_bytes : (n : ℕ) → IsShort n → AreBytes 2 (id_of n)
+id_bytes n short = record { count = refl; each = each } where
+  each : IsBytes (id_of n)
+  each zero = omega (arith, short)
+  each (suc zero) = omega arith
+  each (suc (suc i)) = omega arith
+
+one_loosed : (d : ℕ) → IsDevice d → (l : LooseTold) → TellsIn l → Known (loosed_line (loosed d l))
+one_loosed d k (Loosened t) i = λ r. (k, r)
+one_loosed d k (Hardened t) i = λ r. (k, r)
+one_loosed d k (WentBack count number) i = λ r. (k, (i.0, id_bytes number i.1))
+
+loosed_known : (d : ℕ) → IsDevice d → (ls : List LooseTold) → Each TellsIn ls → All Known (map loosed_line (map (loosed d) ls))
+loosed_known d k [] i = All-nil Known
+loosed_known d k (l ∷ ls) i =
+    All-cons Known (loosed_line (loosed d l)) (map loosed_line (map (loosed d) ls)) (one_loosed d k l i.0) (loosed_known d k ls i.1)
+
+module _ (x y : MarksDevice) (r : Ranged x) (s : Ranged y) where
+  act_in : (act : Act) → TellsIn (told_act x.store y.store act)
+  act_in (Loosen t) = tt
+  act_in (Harden t) = tt
+  act_in CfwLost = (r.loose, s.number)
+
+  power_in : (lost : Bool) → Each TellsIn (power_told x.store y.store lost)
+  power_in lost = by_test (lost && not (loose_count x.store == 0)) where
+    by_test : (b : Bool) → Each TellsIn (if b then WentBack (loose_count x.store) y.store.number ∷ [] else [])
+    by_test true = ((r.loose, s.number), tt)
+    by_test false = tt
+
+  acts_in : (acts : List Act) (rest : List LooseTold) → Each TellsIn rest → Each TellsIn (map (told_act x.store y.store) acts ++ rest)
+  acts_in [] rest i = i
+  acts_in (act ∷ acts) rest i = (act_in act, acts_in acts rest i)
+
+  loose_known : All Known (loose_lines x y)
+  loose_known =
+      loosed_known x.store.device r.sized.device (loose_told x y)
+      (acts_in (new_acts x.history y.history) (power_told x.store y.store (has_power (new_items x.history y.history)))
+      (power_in (has_power (new_items x.history y.history))))
 
 abbrev ItemHasPath : Item → Type 0
 ItemHasPath (items.Program e) = IsPath e.path × IsShort e.ordinal

@@ -69,14 +69,13 @@ use Rattle.subsystem_defs.specs.Decks as D
 use Rattle.subsystem_defs.specs.Decks.{opened, run_of}
 use Rattle.subsystem_defs.specs.Deeds.{device_in}
 use Rattle.subsystem_defs.specs.Lines.{Asked, Logged, Once, Replace, Run, Settle, Unpair, asked_by, run_lines}
-use Rattle.subsystem_defs.specs.Promised.{HasPlainHistory}
 use Rattle.subsystem_defs.specs.Subsystem.{Mounted, Subsystem, devices_of}
 use Rattle.subsystem_laws.specs.Waits.{RepairsBy, TellsWaiting, repair_end, waiting_in, waiting_of}
 use Rattle.subsystem_laws.specs.Transfers.{AskedTransfers, BackBy, BackTransfers, EventTransfers, MovesByTable, RunTransfers, RunningTransfers, StepBy, StepTransfers}
 use Rattle.subsystem_laws.proofs.CalmRuns.{AllSo}
 use Rattle.subsystem_laws.proofs.FailedCalls.{read_run_reads_few, read_run_writes_few}
 use Rattle.subsystem_laws.proofs.MovedRuns.{run_moves}
-use Rattle.subsystem_laws.proofs.PlainRuns.{Plainly, opened_plain, run_plainly}
+use Rattle.subsystem_laws.proofs.PlainRuns.{Plainly, opened_plain, run_stays_plain}
 use Rattle.subsystem_laws.proofs.ReadDecks.{read_numbered, read_served}
 use Rattle.subsystem_laws.proofs.RunLines.{Logs, lines_keep}
 use Rattle.subsystem_laws.proofs.RunLinks.{Linked, lines_linked}
@@ -87,6 +86,7 @@ use Rattle.run_audit_laws.specs.Standing.{FramesAreDeclared, audited, stand}
 use Rattle.run_audit_laws.proofs.DeviceSizes.{Sized, first_sized, run_sized, sized_behind}
 use Rattle.run_audit_laws.proofs.FewDevices.{run_has_few}
 use Rattle.run_audit_laws.proofs.FramesOwned.{frames_are_declared}
+use Rattle.run_audit_laws.proofs.LooseNumbers.{count_short, number_short}
 use Rattle.run_audit_laws.proofs.NamedEvents.{Names, run_names}
 use Rattle.run_audit_laws.proofs.RangedDevices.{Ranged, device_ranged}
 use Rattle.run_audit_laws.proofs.RangedEnds.{Answers, AnswersSo, OrderIn, answers_go}
@@ -280,18 +280,17 @@ all_known (t ∷ ts) r f n m a w =
     (all_known ts (All-tail BothRanged t ts r) (All-tail IsFew t ts f) (All-tail NamesLogged t ts n) (All-tail MovesByTable t ts m)
     (All-tail AnswersLogged t ts a) (All-tail TellsWaiting t ts w))
 
-both_so : (d : MarksDevice) → Sized d → HasPlainHistory d → Ranged d
-both_so d s p = record { sized = s; plain = p }
+both_so : (d : MarksDevice) → Sized d → Plainly d → Ranged d
+both_so d s p = record {
+  sized = s;
+  plain = subst (λ (x : PlainState). IsPlain d.plans x d.history) p.follows.base p.follows.stands.plain;
+  loose = count_short d p s.cylinders;
+  number = number_short d p;
+}
 
-plain_of_all : (ms : List Mounted) → AreSo Plainly ms → AreSo Sized ms → All Ranged (map (λ (m : Mounted). m.device) ms)
-plain_of_all [] p s = All-nil Ranged
-plain_of_all (m ∷ ms) p s =
-    All-cons Ranged m.device (map (λ (x : Mounted). x.device) ms)
-    (record {
-      sized = s.0;
-      plain = subst (λ (x : PlainState). IsPlain m.device.plans x m.device.history) p.0.follows.base p.0.follows.stands.plain;
-    })
-    (plain_of_all ms p.1 s.1)
+all_so : (ms : List Mounted) → AreSo Plainly ms → AreSo Sized ms → All Ranged (map (λ (m : Mounted). m.device) ms)
+all_so [] p s = All-nil Ranged
+all_so (m ∷ ms) p s = All-cons Ranged m.device (map (λ (x : Mounted). x.device) ms) (both_so m.device s.0 p.0) (all_so ms p.1 s.1)
 
 -- The end
 
@@ -389,7 +388,7 @@ module _ (s : Subsystem) (sized : AreSo Sized s.mounted) where
 module _ (text : List ℕ) (deck : DeckLines) (read : parsed text ≡ Ok deck) where
   first_ranged : AllRanged (opened deck)
   first_ranged =
-      plain_of_all (opened deck).mounted (opened_plain deck deck.devices (read_served text deck read).devices) (first_sized text deck read)
+      all_so (opened deck).mounted (opened_plain deck deck.devices (read_served text deck read).devices) (first_sized text deck read)
 
   events_known : All Known (lines_of_run (run_of deck))
   unfolding D.run_asked
@@ -398,7 +397,7 @@ module _ (text : List ℕ) (deck : DeckLines) (read : parsed text ≡ Ok deck) w
       let ts = run_lines asked (opened deck) in
       let linked = lines_linked asked (opened deck) in
       let ranged = both_ranged (opened deck) ts linked first_ranged
-      (both_behind Sized HasPlainHistory Ranged both_so ts (run_sized text deck read) (run_plainly deck (read_served text deck read)))
+      (both_behind Sized Plainly Ranged both_so ts (run_sized text deck read) (run_stays_plain deck (read_served text deck read)))
       in
       all_known ts ranged (run_has_few text deck read) (run_names text deck read) (run_moves deck)
       (all_answer (opened deck) ts linked (lines_keep (λ s. Unit {0}) AnswersSo answers_go asked (opened deck) tt) ranged)
