@@ -54,3 +54,11 @@ mod Forms
 mod Feeds
 mod DeckTexts
 mod OwnTexts
+mod DeviceSizes
+mod NamedEvents
+mod LooseNumbers
+mod RangedDevices
+mod RangedEnds
+mod FewDevices
+mod RangedLines
+mod RangedRuns

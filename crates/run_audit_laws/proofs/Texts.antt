@@ -23,6 +23,7 @@ use Rattle.run_audit_laws.specs.Runs.{AllAreOver, AllMayFollow, WholeLeads}
 use Rattle.run_audit_laws.specs.Standing.{LeadsBy}
 use Rattle.run_audit_laws.specs.Texts.{IsOwnReport}
 use Rattle.run_audit_laws.proofs.Forms.{Formed, report_has_form}
+use Rattle.run_audit_laws.proofs.RangedRuns.{report_is_in_range}
 use Rattle.run_audit_laws.proofs.Runs.{report_leads}
 
 not_long : (most n : ℕ) → n ≤ most → nat_lt most n ≡ false
@@ -51,7 +52,8 @@ module _ (again : (line : ReportLine) → IsLine line → line_of (text_of line)
       ∙ ap (read_back_at text) o.found
       ∙ ap (λ (r : Result DeckLines DeckFault). deck_judged r text (Some o.lines)) o.parses
       ∙ ap (judged_lines (o.lines + 2) (first_state deck)) o.says
-      ∙ all_texts (report_lines (run_of deck)) (o.lines + 2) (first_state deck) leads.0 o.written (report_has_form deck) leads.1 leads.2
+      ∙ all_texts (report_lines (run_of deck)) (o.lines + 2) (first_state deck) leads.0
+      (report_is_in_range (deck_part text (Some o.lines)) deck o.parses o.written) (report_has_form deck) leads.1 leads.2
 
   pub own_report_is_yes : (text : List ℕ) (deck : DeckLines) → IsOwnReport text deck → AllMayFollow None (opened deck) deck.events → AllAreOver (opened deck) deck.events →
       read_back text ≡ Yes

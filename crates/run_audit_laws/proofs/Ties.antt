@@ -430,10 +430,6 @@ module _ (d : MarksDevice) where
   unfolding S.start
   start_tie path = refl
 
-  replace_tie : (side : Side) → tie (replace d side) ≡ tie d
-  replace_tie sides.A = refl
-  replace_tie sides.B = refl
-
 -- Deeds
 
 not_of : (k a b : ℕ) (y : Mounted) (o : Option Mounted) → k ≡ b → (b == a) ≡ false → (if k == a then Some y else o) ≡ o

@@ -123,10 +123,6 @@ module _ (xs : List AuditedDevice) (later : List EventLine) (a : AuditedDevice) 
   its_outline f =
       ap (λ (k : Option Outline). holds k f) (outlined xs a.number ∙ ap (λ (k : Option AuditedDevice). option_map outline_of k) has)
 
-  -- where a line may stand
-  abbrev MayStand : EventLine → ReportLine → Type 0
-  MayStand w line = in_event (outlines (record { devices = xs; events = w ∷ later; due = Next })) line w ≡ true
-
   pub makes : (w : EventLine) → IsWork a.number w → (line : ReportLine) →
       event_made (record { devices = xs; events = w ∷ later; due = Next }) line w ≡ work_made (record { devices = xs; events = w ∷ later; due = Next }) line a
   makes w of_step line = then_some (device_in xs a.number) a (work_made (before w) line) has

@@ -2,4 +2,5 @@ pub mod Standing
 pub mod Steps
 pub mod Runs
 pub mod Ordered
+pub mod Ranges
 pub mod Texts

@@ -21,6 +21,7 @@ ghost use Rattle.subsystem_defs.specs.Closing.{ending};
 ghost use Rattle.subsystem_defs.specs.Decks.{opened, run_of};
 ghost use Rattle.subsystem_defs.specs.Subsystem.{Subsystem};
 ghost use Rattle.run_audit_laws.specs.Ordered.{AllLead, IsLossOrPair};
+ghost use Rattle.run_audit_laws.specs.Ranges.{RestIsIn};
 ghost use Rattle.run_audit_laws.specs.Runs.{AllAreOver, AllMayFollow, LineGoes, RunIsOver, SettleIsOver, WholeLeads};
 ghost use Rattle.run_audit_laws.specs.Standing.{FramesAreDeclared, HasDevice, IsStill, LeadsBy, LineLeads, stand};
 ghost use Rattle.run_audit_laws.specs.Texts.{IsEnded, IsOwnReport, own_text};
@@ -130,6 +131,11 @@ pub fn report_has_form()
     ensures { (deck : DeckLines) → All (λ (line : ReportLine). has_form line ≡ true) (report_lines (run_of deck)) }
 {}
 
+/// Each number and byte of the report of a deck that was read is in its range, where those are of which that isn't shown.
+pub fn report_is_in_range()
+    ensures { (text : List ℕ) (deck : DeckLines) → parsed text ≡ Ok deck → All RestIsIn (report_lines (run_of deck)) → All IsLine (report_lines (run_of deck)) }
+{}
+
 /// And the audit of a text of such a deck, of a line REPORT and of the report of the deck's run says yes.
 pub fn own_report_is_yes()
     ensures { (text : List ℕ) (deck : DeckLines) → IsOwnReport text deck → AllMayFollow None (opened deck) deck.events → AllAreOver (opened deck) deck.events
@@ -139,10 +145,10 @@ pub fn own_report_is_yes()
 }
 
 /// So does the audit of the text of such a deck, all of whose lines are ended, with a line REPORT and the report of its run behind it, where both have
-/// at most 268,435,456 bytes, and no number or byte of the report is out of its range.
+/// at most 268,435,456 bytes, and none of the numbers and bytes of the report is out of its range of which that isn't shown.
 pub fn own_text_is_yes()
     ensures { (text : List ℕ) (deck : DeckLines) → parsed text ≡ Ok deck → IsEnded text → length (own_text text deck) ≤ 268435456
-        → All IsLine (report_lines (run_of deck)) → AllMayFollow None (opened deck) deck.events → AllAreOver (opened deck) deck.events
+        → All RestIsIn (report_lines (run_of deck)) → AllMayFollow None (opened deck) deck.events → AllAreOver (opened deck) deck.events
         → read_back (own_text text deck) ≡ Yes }
 {
     reads_back();

@@ -1,0 +1,141 @@
+-- In the run of a deck that was read each device keeps its number, its cylinders and its plans, and is lent to a device.
+use Rattle.std.proofs.Common.{◌≡◌, ◌≤◌, ◌<◌, ℕ, Bool, true, List, [], ◌∷◌, length, map, Option, Ok, refl, sym, subst, ◌∙◌, arith}
+use Rattle.std.specs.Prelude.{All, IfSome}
+use Rattle.std.proofs.lemmas.List.Elements.{All-cons, All-head, All-nil, All-tail}
+use Rattle.ckd_types.specs.declared.paths.Side.{Side}
+use Rattle.ckd_types.specs.declared.paths.Side.TheVariants as sides
+use Rattle.deck_text.specs.declared.line.DeviceLine.{DeviceLine}
+use Rattle.deck_text.specs.DeckLines.{DeckLines}
+use Rattle.deck_text.specs.Parse.{parsed}
+use Rattle.deck_text.proofs.PlanLemmas.{plan_bound}
+use Rattle.deck_text.proofs.Reached.{parsed_good}
+use Rattle.plain_defs.specs.Journal.{Plans, planned}
+use Rattle.loss_model.specs.declared.Loss.TheVariants as losses
+use Rattle.track_image.specs.Image.{Image}
+use Rattle.device_outside.specs.Interaction.{Interaction}
+use Rattle.device_outside.specs.Told as T
+use Rattle.device_outside.specs.Told.{Told}
+use Rattle.device_defs.specs.Command.{command}
+use Rattle.device_defs.specs.Contents.{by_plain}
+use Rattle.device_defs.specs.Cutting.{power, reset}
+use Rattle.device_defs.specs.Events.{background, lose, second}
+use Rattle.device_defs.specs.Marks.{MarksDevice}
+use Rattle.device_defs.specs.Orders.{hold, join, replace, restore, resume, split}
+use Rattle.device_defs.specs.Start as S
+use Rattle.device_defs.specs.Start.{start}
+use Rattle.device_laws.proofs.Based.{Any, Base, Based, based_any, kept}
+use Rattle.device_laws.proofs.BasedEvents.{background_based, base_in, command_based, lose_based, power_based, reset_body, second_based, with_one_loss}
+use Rattle.device_laws.proofs.Had.{held}
+use Rattle.device_laws.proofs.KeptEvents.{background_goes, command_goes, lose_goes, second_goes}
+use Rattle.subsystem_defs.specs.Decks as D
+use Rattle.subsystem_defs.specs.Decks.{opened, opened_device, run_of}
+use Rattle.subsystem_defs.specs.Lines.{Logged, asked_by}
+use Rattle.subsystem_defs.specs.Subsystem.{devices_of}
+use Rattle.subsystem_laws.specs.Waits.{AreNumbered}
+use Rattle.subsystem_laws.proofs.Explained.{its_own}
+use Rattle.subsystem_laws.proofs.LendBase.{at, lend_lends, stays_still}
+use Rattle.subsystem_laws.proofs.ReadDecks.{read_numbered, read_small}
+use Rattle.subsystem_laws.proofs.RunLines.{AnyEvent, all_asked}
+use Rattle.subsystem_laws.proofs.Shapes.{power_shape, reset_shape}
+use Rattle.subsystem_laws.proofs.Walks.{AreSo, IsKept, lines_end_so, run_keeps}
+use Rattle.run_audit_laws.proofs.LentDevices.{lend_makes}
+
+pub record Sized (d : MarksDevice) : Type 0 where
+  pub device : d.store.device < 16
+  pub cylinders : d.store.cylinders ≤ 64
+  pub lent : IfSome d.store.lent (λ n. n < 16)
+  pub plans : (path : ℕ) → length (planned d.plans path) ≤ 512
+
+sized_as : (d y : MarksDevice) → y.store.device ≡ d.store.device → y.store.cylinders ≡ d.store.cylinders → y.store.lent ≡ d.store.lent →
+    y.plans ≡ d.plans → Sized d → Sized y
+sized_as d y number cylinders lent plans s = record {
+  device = subst (λ (k : ℕ). k < 16) (sym number) s.device;
+  cylinders = subst (λ (k : ℕ). k ≤ 64) (sym cylinders) s.cylinders;
+  lent = subst (λ (o : Option ℕ). IfSome o (λ n. n < 16)) (sym lent) s.lent;
+  plans = λ path. subst (λ (k : Plans). length (planned k path) ≤ 512) (sym plans) (s.plans path);
+}
+
+stays : {X : Type 0} (d : MarksDevice) (talk : Interaction Bool Image MarksDevice X) (b : Base) → b.device ≡ d.store.device →
+    b.cylinders ≡ d.store.cylinders → b.lent ≡ d.store.lent → Based base_in Any b talk →
+    ((t : Told) → (T.hold true talk t).state.plans ≡ d.plans) → Sized d → (t : Told) → Sized (T.hold true talk t).state
+stays d talk b number cylinders lent x plans s t =
+    let k = at (stays_still x) t in sized_as d (T.hold true talk t).state (k.0 ∙ number) (k.1 ∙ cylinders) (k.2 ∙ lent) (plans t) s
+
+start_sized : (d : MarksDevice) (path : ℕ) → Sized d → Sized (start d path)
+unfolding S.start
+start_sized d path s = sized_as d (start d path) refl refl refl refl s
+
+replace_sized : (d : MarksDevice) (side : Side) → Sized d → Sized (replace d side)
+replace_sized d sides.A s = sized_as d (replace d sides.A) refl refl refl refl s
+replace_sized d sides.B s = sized_as d (replace d sides.B) refl refl refl refl s
+
+sized_kept : IsKept Sized AnyEvent
+sized_kept = record {
+  started = λ d path n may fault s. start_sized d path s;
+  commanded = λ d o running whole s. stays d (command by_plain d) (kept d.store) refl refl refl (command_based by_plain d)
+      (λ t. (at (command_goes by_plain d.plans d.history d (its_own d)) t).plans) s;
+  seconded = λ d h is s. stays d (second by_plain d) (kept d.store) refl refl refl (second_based by_plain d)
+      (λ t. (at (second_goes by_plain d.plans d.history d (its_own d)) t).plans) s;
+  worked = λ d whole s. stays d (background by_plain d) (kept d.store) refl refl refl (background_based by_plain d)
+      (λ t. (at (background_goes by_plain d.plans d.history d (its_own d)) t).plans) s;
+  cut = λ d path s. stays d (reset by_plain d path) (kept d.store) refl refl refl (based_any (reset_body by_plain d path))
+      (λ t. (reset_shape d path t).1) s;
+  lost_cache = λ d s.
+      stays d (lose by_plain d losses.Cache) (with_one_loss losses.Cache (kept d.store)) refl refl refl (lose_based by_plain d losses.Cache)
+      (λ t. (at (lose_goes by_plain d.plans d.history d losses.Cache (its_own d)) t).plans) s;
+  lost_store = λ d s.
+      stays d (lose by_plain d losses.Store) (with_one_loss losses.Store (kept d.store)) refl refl refl (lose_based by_plain d losses.Store)
+      (λ t. (at (lose_goes by_plain d.plans d.history d losses.Store (its_own d)) t).plans) s;
+  lost_side = λ d side fault s.
+      stays d (lose by_plain d (losses.Side side)) (with_one_loss (losses.Side side) (kept d.store)) refl refl refl
+      (lose_based by_plain d (losses.Side side))
+      (λ t. (at (lose_goes by_plain d.plans d.history d (losses.Side side) (its_own d)) t).plans) s;
+  lost_power = λ d s. stays d (power by_plain d) (with_one_loss losses.Cache (kept d.store)) refl refl refl (power_based by_plain d)
+      (λ t. (power_shape d t).1) s;
+  held = λ d fault s. sized_as d (hold d) refl refl refl refl s;
+  resumed = λ d fault s. sized_as d (resume d) refl refl refl refl s;
+  replaced = λ d side fault s. replace_sized d side s;
+  lent = λ x y fault r s t.
+      let l = lend_lends y x.store.device t in record {
+        device = subst (λ (k : ℕ). k < 16) (sym l.number) s.device;
+        cylinders = subst (λ (k : ℕ). k ≤ 64) (sym l.cylinders) s.cylinders;
+        lent = subst (λ (o : Option ℕ). IfSome o (λ n. n < 16)) (sym l.lent) r.device;
+        plans = λ path.
+            subst (λ (k : Plans). length (planned k path) ≤ 512) (sym (held true (lend_makes y x.store.device) t).plans) (s.plans path);
+      };
+  joins = λ d free s. sized_as d (join d) refl refl refl refl s;
+  splits = λ d fault s. sized_as d (split d) refl refl refl refl s;
+  restored = λ d a is s. record { device = s.device; cylinders = s.cylinders; lent = tt; plans = s.plans };
+}
+
+abbrev Small : DeviceLine → Type 0
+Small d = d.cylinders ≤ 64
+
+most_plans : (n k : ℕ) → n ≤ k → k ≤ 512 → n ≤ 512
+most_plans n k le few = omega (arith, le, few)
+
+opened_sized : (deck : DeckLines) → length deck.programs ≤ 512 → (seen : List ℕ) (ds : List DeviceLine) → AreNumbered seen ds → All Small ds → AreSo Sized (map (opened_device deck) ds)
+opened_sized deck few seen [] n s = tt
+opened_sized deck few seen (d ∷ ds) n s = (
+  record {
+    device = n.1;
+    cylinders = All-head Small d ds s;
+    lent = tt;
+    plans = λ path. most_plans _ (length deck.programs) (plan_bound deck.programs d.number path) few;
+  },
+  opened_sized deck few (d.number ∷ seen) ds n.2 (All-tail Small d ds s),
+)
+
+module _ (text : List ℕ) (deck : DeckLines) (read : parsed text ≡ Ok deck) where
+  pub first_sized : AreSo Sized (opened deck).mounted
+  first_sized = opened_sized deck (parsed_good text deck read).program_count [] deck.devices (read_numbered text deck read) (read_small text deck read)
+
+  pub run_sized : All (λ (x : Logged). All Sized (devices_of x.happened.behind)) (run_of deck).events
+  unfolding D.run_asked
+  run_sized = run_keeps Sized sized_kept (map asked_by deck.events) (opened deck) first_sized
+
+  pub sized_behind : AreSo Sized (run_of deck).behind.mounted
+  unfolding D.run_asked
+  sized_behind =
+      lines_end_so Sized AnyEvent sized_kept (record { step = λ d. tt; back = λ d. tt }) (map asked_by deck.events) (opened deck)
+      (all_asked (map asked_by deck.events)) first_sized

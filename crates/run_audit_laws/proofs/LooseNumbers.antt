@@ -1,0 +1,93 @@
+-- How many tracks of a device are loose, and the number of the data of cache fast write, are numbers of 16 bits.
+use Rattle.std.proofs.Common.{◌≡◌, ◌≤◌, ◌<◌, ◌+◌, ◌*◌, ◌==◌, zero, suc, ℕ, Bool, true, false, List, [], ◌∷◌, length, Option, Some, None, refl, subst, if◌then◌else◌, arith}
+use Rattle.std.proofs.lemmas.Bool.{eqb-false}
+use Rattle.std.proofs.lemmas.List.Sums.{count_by-le-length}
+use Rattle.ckd_types.specs.declared.channel.Ccw.{Ccw}
+use Rattle.plain_defs.specs.declared.journal.Act.{Act}
+use Rattle.plain_defs.specs.declared.journal.Act.TheVariants.{CfwLost, Harden, Loosen}
+use Rattle.plain_defs.specs.declared.journal.Acted.{Acted}
+use Rattle.plain_defs.specs.declared.journal.Item.{Item}
+use Rattle.plain_defs.specs.declared.journal.Item.TheVariants as items
+use Rattle.plain_defs.specs.Entry.{ProgramEntry}
+use Rattle.plain_defs.specs.History.{History, OpenEntry, open_part, plain_of, state_by}
+use Rattle.plain_defs.specs.Journal.{Plans, effects_of, program_of, replay, replay_item}
+use Rattle.plain_defs.specs.Loose.{act_done, lost_by_power, next_number, power_off}
+use Rattle.plain_defs.specs.PlainState.{LooseTrack, PlainState}
+use Rattle.plain_defs.specs.Program as G
+use Rattle.plain_defs.specs.Program.{Part, acted, acted_at, acts_at, first_part, one_more, part_of, stepped, stepped_at, with_act, with_acts}
+use Rattle.device_defs.specs.Marks.{MarksDevice}
+use Rattle.report_reading.specs.Ranges.{IsShort}
+use Rattle.subsystem_defs.specs.Beside.{loose_count}
+use Rattle.subsystem_defs.specs.Promised.{empty_of}
+use Rattle.subsystem_laws.proofs.PlainRuns.{Plainly}
+use Rattle.run_audit_laws.specs.Standing.{audited}
+use Rattle.run_audit_laws.proofs.KnownDevices.{known}
+
+abbrev Small : PlainState → Type 0
+Small s = s.number < 65536
+
+one_on : (n : ℕ) → n < 65536 → (n ≡ 65535 → ⊥) → n + 1 < 65536
+one_on n less apart = omega (arith, less, apart)
+
+next_small : (n : ℕ) → n < 65536 → next_number n < 65536
+next_small n less = by_test (n == 65535) refl where
+  by_test : (b : Bool) → (n == 65535) ≡ b → (if b then 0 else n + 1) < 65536
+  by_test true is = omega arith
+  by_test false is = one_on n less (eqb-false n 65535 is)
+
+act_small : (s : PlainState) (act : Act) → Small s → Small (act_done s act)
+act_small s (Loosen t) h = h
+act_small s (Harden t) h = h
+act_small s CfwLost h = next_small s.number h
+
+with_small : (acts : List Act) (p : Part) → Small p.state → Small (with_acts acts p).state
+with_small [] p h = h
+with_small (act ∷ acts) p h = with_small acts (with_act p act) (act_small p.state act h)
+
+acted_small : (acts : List Acted) (p : Part) (o : Option ℕ) → Small p.state → Small (acted_at acts p o).state
+acted_small acts p (Some i) h = with_small (acts_at acts (length p.ends)) p h
+acted_small acts p None h = h
+
+stepped_small : (path : ℕ) (ccws : List Ccw) (p : Part) (o : Option ℕ) → Small p.state → Small (stepped_at path ccws p o).state
+stepped_small path ccws p (Some i) h = h
+stepped_small path ccws p None h = h
+
+part_small : (s : PlainState) (path : ℕ) (ccws : List Ccw) (acts : List Acted) (k : ℕ) → Small s → Small (part_of s path ccws acts k).state
+unfolding G.part_of
+part_small s path ccws acts zero h = acted_small acts (first_part s path ccws) (first_part s path ccws).next h
+part_small s path ccws acts (suc k) h =
+    let p = part_of s path ccws acts k in
+    let q = stepped path ccws p in
+    acted_small acts q q.next (stepped_small path ccws p p.next (part_small s path ccws acts k h))
+
+power_small : (s : PlainState) (l : List LooseTrack) → Small s → Small (lost_by_power s l)
+power_small s [] h = h
+power_small s (x ∷ l) h = next_small s.number h
+
+item_small : (plans : Plans) (s : PlainState) (x : Item) → Small s → Small (replay_item plans s x)
+item_small plans s (items.Program e) h = part_small s e.path (program_of plans e.path e.ordinal) e.acts (effects_of e.how e.ends) h
+item_small plans s (items.Reset path) h = h
+item_small plans s items.Fresh h = h
+item_small plans s (items.Act act) h = act_small s act h
+item_small plans s items.Power h = power_small s s.loose h
+
+replay_small : (plans : Plans) (s : PlainState) (xs : List Item) → Small s → Small (replay plans s xs)
+replay_small plans s [] h = h
+replay_small plans s (x ∷ xs) h = replay_small plans (replay_item plans s x) xs (item_small plans s x h)
+
+state_small : (plans : Plans) (s : PlainState) (o : Option OpenEntry) → Small s → Small (state_by plans s o)
+state_small plans s (Some o) h = part_small s o.path (program_of plans o.path o.ordinal) o.acts (length o.ends) h
+state_small plans s None h = h
+
+pub number_short : (d : MarksDevice) → Plainly d → IsShort d.store.number
+number_short d p =
+    subst IsShort (known d p).number_is
+    (state_small d.plans (replay d.plans (empty_of d) d.history.items) d.history.running
+    (replay_small d.plans (empty_of d) d.history.items (omega arith)))
+
+few_loose : (n k c : ℕ) → n ≤ k → k ≡ c * 15 → c ≤ 64 → IsShort n
+few_loose n k c le is small = omega (arith, le, is, small)
+
+pub count_short : (d : MarksDevice) → Plainly d → d.store.cylinders ≤ 64 → IsShort (loose_count d.store)
+count_short d p small =
+    few_loose (loose_count d.store) (length d.store.loose) d.store.cylinders (count_by-le-length (λ (x : Bool). x) d.store.loose) (known d p).many small

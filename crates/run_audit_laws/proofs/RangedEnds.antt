@@ -1,0 +1,462 @@
+-- What a start and each order of a run answer is in its range, but for whoever has a device reserved.
+use Rattle.std.proofs.Common.{
+  ◌≡◌,
+  ◌≤◌,
+  ◌<◌,
+  ◌+◌,
+  ◌-◌,
+  ◌*◌,
+  ◌==◌,
+  ℕ,
+  Bool,
+  true,
+  false,
+  List,
+  [],
+  ◌∷◌,
+  length,
+  map,
+  Option,
+  Some,
+  None,
+  is_some,
+  refl,
+  sym,
+  ap,
+  subst,
+  ◌∙◌,
+  if◌then◌else◌,
+  arith,
+}
+use Rattle.std.specs.Prelude.{◌&&◌, All, IfSome, not}
+use Rattle.std.proofs.lemmas.Bool.{eqb-false}
+use Rattle.std.proofs.lemmas.List.Elements.{All-cons, All-head, All-nil, All-tail}
+use Rattle.ckd_types.specs.declared.paths.Owner.{Owner}
+use Rattle.ckd_types.specs.declared.paths.Side.{Side}
+use Rattle.loss_model.specs.declared.Loss.TheVariants as losses
+use Rattle.plain_defs.specs.History.{IsOpen, OpenEntry}
+use Rattle.plain_defs.specs.Journal.{planned, replay}
+use Rattle.track_image.specs.Image.{Image}
+use Rattle.track_table.proofs.Counts.{few_marked}
+use Rattle.deck_text.proofs.DeckAgain.{Each}
+use Rattle.device_outside.specs.Interaction.{Ask, Done, Interaction, Read, Tell, Try, Write, and_then}
+use Rattle.device_outside.specs.Keeper.{reply}
+use Rattle.device_outside.specs.Pool.{Pool, after, answer, cache_failed, store_failed}
+use Rattle.device_outside.specs.Told as T
+use Rattle.device_outside.specs.Told.{Told, calls_of, read_counted, read_fails, write_counted, write_fails}
+use Rattle.device_defs.specs.declared.answers.StartFault.{StartFault}
+use Rattle.device_defs.specs.declared.answers.StartFault.TheVariants as refusals
+use Rattle.device_defs.specs.Contents.{by_plain}
+use Rattle.device_defs.specs.Events.{lose}
+use Rattle.device_defs.specs.Marks.{MarksDevice, MarksStore}
+use Rattle.device_defs.specs.Orders.{hold, resume}
+use Rattle.device_defs.specs.Start as S
+use Rattle.device_defs.specs.Start.{fault_by, idle_fault, is_shut, keeps_out, left, next_ordinal, reserved_fault, running_fault, start, start_fault, started_count}
+use Rattle.device_defs.specs.Store.{side_of, stale_at, tracks_of}
+use Rattle.report_text.specs.declared.answers.StartAnswer.{StartAnswer}
+use Rattle.report_reading.specs.Ranges.{IsAnswer, IsFault, IsPath, IsStart}
+use Rattle.run_report.specs.Answers.{order_answer, refused_as, start_answer, start_refused}
+use Rattle.subsystem_defs.specs.declared.end.EventEnd.{EventEnd}
+use Rattle.subsystem_defs.specs.declared.end.EventEnd.TheVariants as ends
+use Rattle.subsystem_defs.specs.declared.end.OrderFault.{OrderFault}
+use Rattle.subsystem_defs.specs.declared.end.OrderFault.TheVariants as faults
+use Rattle.subsystem_defs.specs.declared.event.Event.{Event}
+use Rattle.subsystem_defs.specs.declared.event.Event.TheVariants as events
+use Rattle.subsystem_defs.specs.Deeds as E
+use Rattle.subsystem_defs.specs.Deeds.{Asks, Becomes, Each as Sweeps, Ends, Lends, Repairs, device_in, ends_done, is_own, on_device, order, start_by, starts}
+use Rattle.subsystem_defs.specs.Happening as H
+use Rattle.subsystem_defs.specs.Happening.{MarksDeed, Talk, asks, happens, happens_by, replaced, replaced_at, replaced_by, unpaired, unpaired_at, unpaired_by}
+use Rattle.subsystem_defs.specs.Happening.{told_end}
+use Rattle.subsystem_defs.specs.Lines.{Asked, Logged, Once, Replace, Run, Settle, Unpair, logged}
+use Rattle.subsystem_defs.specs.Promised.{empty_of}
+use Rattle.subsystem_defs.specs.Refusals as R
+use Rattle.subsystem_defs.specs.Refusals.{active_by, fail_fault, first_cause, has_side, is_alike, lent_by, not_level_by, pair_fault, replace_fault, resume_fault, stale_count, suspend_fault, unpair_fault, where_so}
+use Rattle.subsystem_defs.specs.Subsystem.{Mounted, Subsystem, devices_of, mounted_in, unfailing}
+use Rattle.subsystem_laws.proofs.RunLines.{AnyEvent, Goes}
+use Rattle.run_audit_laws.specs.Ranges.{RestOfStart}
+use Rattle.run_audit_laws.proofs.RangedDevices.{Ranged, device_ranged, few_programs}
+
+-- An event's end, by what happens to the devices
+
+module _ (P : EventEnd → Type 0) (done : P ends.Done) (idle : P ends.Idle) where
+  abbrev Fine : MarksDeed → Type 0
+  Fine (Ends end) = P end
+  Fine (Becomes d end) = P end
+  Fine (Asks d talk) = (t : Told) → P (told_end (T.hold true talk t).answer)
+  Fine (Sweeps pool f) = Unit {0}
+  Fine (Repairs pool) = Unit {0}
+  Fine (Lends x y) = Unit {0}
+
+  asks_fine : (s : Subsystem) (n : ℕ) (o : Option Mounted) (talk : Talk (Option EventEnd)) →
+      ((t : Told) → P (told_end (T.hold true talk t).answer)) → P (asks s n o talk).end
+  asks_fine s n (Some m) talk h = h _
+  asks_fine s n None talk h = idle
+
+  fine_end : (s : Subsystem) (x : MarksDeed) → Fine x → P (happens_by s x).end
+  fine_end s (Ends end) h = h
+  fine_end s (Becomes d end) h = h
+  fine_end s (Asks d talk) h = asks_fine s d.store.device (mounted_in s.mounted d.store.device) talk h
+  fine_end s (Sweeps pool f) h = done
+  fine_end s (Repairs pool) h = done
+  fine_end s (Lends x y) h = done
+
+  on_fine : (o : Option MarksDevice) (f : MarksDevice → MarksDeed) → IfSome o Ranged → ((d : MarksDevice) → Ranged d → Fine (f d)) → Fine (on_device o f)
+  on_fine (Some d) f r h = h d r
+  on_fine None f r h = done
+
+-- memory is had: an answer is handed on
+handed_on : {X : Type 0} (i : Talk X) (f : X → EventEnd) (t : Told) →
+    (T.hold true (and_then i (λ d a. Done d (Some (f a)))) t).answer ≡ Some (f (T.hold true i t).answer)
+unfolding T.hold
+handed_on (Done s a) f t = refl
+handed_on (Try k) f t = handed_on (k true) f t
+handed_on (Ask call k) f t = handed_on (k (answer t.pool call)) f (record t { pool = after t.pool call (answer t.pool call) })
+handed_on (Read side q k) f t = handed_on (k (if read_fails (calls_of t side) then None else Some true)) f (read_counted t side)
+handed_on (Write side q r k) f t = handed_on (k (if write_fails (calls_of t side) then false else true)) f (write_counted t side)
+handed_on (Tell m k) f t = handed_on (k (reply m)) f t
+
+-- Orders
+
+abbrev pub OrderIn : EventEnd → Type 0
+OrderIn end = IsAnswer (order_answer end)
+
+abbrev FaultIn : OrderFault → Type 0
+FaultIn f = IsFault (refused_as f)
+
+abbrev CauseIn : Option OrderFault → Type 0
+CauseIn o = IfSome o FaultIn
+
+first_in : (l : List (Option OrderFault)) → Each CauseIn l → CauseIn (first_cause l)
+first_in [] all = tt
+first_in (Some f ∷ l) all = all.0
+first_in (None ∷ l) all = first_in l all.1
+
+where_in : (b : Bool) (f : OrderFault) → FaultIn f → CauseIn (where_so b f)
+where_in true f h = h
+where_in false f h = tt
+
+lent_in : (o : Option ℕ) → IfSome o (λ n. n < 16) → CauseIn (lent_by o)
+lent_in (Some to) h = h
+lent_in None h = tt
+
+active_in : (d : MarksDevice) → Ranged d → (r : Option OpenEntry) → IfSome r (IsOpen d.plans (replay d.plans (empty_of d) d.history.items) d.history.items) →
+    CauseIn (active_by r)
+active_in d k (Some o) h = record { least = h.start.least; most = h.start.most }
+active_in d k None h = tt
+
+level_in : (n k : ℕ) → k ≤ 64 → n ≤ k * 15 → CauseIn (not_level_by n)
+level_in n k most few = where_in (not (n == 0)) (faults.NotLevel n) (omega (arith, most, few))
+
+pair_in : (x y : MarksDevice) → Ranged x → Ranged y → CauseIn (pair_fault x y)
+unfolding R.pair_fault
+pair_in x y r s =
+    first_in (where_so (x.store.device == y.store.device) faults.Same ∷ lent_by x.store.lent ∷ lent_by y.store.lent ∷ where_so x.store.paired faults.Paired
+    ∷ where_so y.store.paired faults.Paired ∷ active_by x.history.running ∷ active_by y.history.running
+    ∷ where_so (not (is_alike x.store y.store)) faults.Geometry ∷ where_so (not x.store.a.up) faults.Down ∷ where_so (not y.store.a.up) faults.Down ∷ []) (
+      where_in (x.store.device == y.store.device) faults.Same tt,
+      (
+        lent_in x.store.lent r.sized.lent,
+        (
+          lent_in y.store.lent s.sized.lent,
+          (
+            where_in x.store.paired faults.Paired tt,
+            (
+              where_in y.store.paired faults.Paired tt,
+              (
+                active_in x r x.history.running r.plain.at,
+                (
+                  active_in y s y.history.running s.plain.at,
+                  (
+                    where_in (not (is_alike x.store y.store)) faults.Geometry tt,
+                    (
+                      where_in (not x.store.a.up) faults.Down tt,
+                      (
+                        where_in (not y.store.a.up) faults.Down tt,
+                        tt,
+                      ),
+                    ),
+                  ),
+                ),
+              ),
+            ),
+          ),
+        ),
+      ),
+    )
+
+unpair_in : (x : MarksDevice) → Ranged x → CauseIn (unpair_fault x)
+unfolding R.unpair_fault
+unpair_in x r =
+    first_in (where_so (not x.store.paired) faults.Unpaired ∷ active_by x.history.running ∷ where_so (is_some x.store.half) faults.Half
+    ∷ where_so (not x.store.a.up) faults.Down ∷ not_level_by (stale_count x.store) ∷ []) (
+      where_in (not x.store.paired) faults.Unpaired tt,
+      (
+        active_in x r x.history.running r.plain.at,
+        (
+          where_in (is_some x.store.half) faults.Half tt,
+          (
+            where_in (not x.store.a.up) faults.Down tt,
+            (
+              level_in (stale_count x.store) x.store.cylinders r.sized.cylinders (few_marked (tracks_of x.store) (stale_at x.store.a)),
+              tt,
+            ),
+          ),
+        ),
+      ),
+    )
+
+suspend_in : (x : MarksDevice) → Ranged x → CauseIn (suspend_fault x)
+unfolding R.suspend_fault
+suspend_in x r =
+    first_in (where_so (not x.store.paired) faults.Unpaired ∷ where_so (is_some x.store.half) faults.Half
+    ∷ where_so (not (x.store.a.up && x.store.b.up)) faults.Down ∷ where_so x.store.held faults.Held ∷ []) (
+      where_in (not x.store.paired) faults.Unpaired tt,
+      (
+        where_in (is_some x.store.half) faults.Half tt,
+        (
+          where_in (not (x.store.a.up && x.store.b.up)) faults.Down tt,
+          (
+            where_in x.store.held faults.Held tt,
+            tt,
+          ),
+        ),
+      ),
+    )
+
+resume_in : (x : MarksDevice) → Ranged x → CauseIn (resume_fault x)
+unfolding R.resume_fault
+resume_in x r =
+    first_in (where_so (not x.store.paired) faults.Unpaired ∷ where_so (not x.store.held) faults.NotHeld ∷ []) (
+      where_in (not x.store.paired) faults.Unpaired tt,
+      (
+        where_in (not x.store.held) faults.NotHeld tt,
+        tt,
+      ),
+    )
+
+fail_in : (x : MarksDevice) (side : Side) → Ranged x → CauseIn (fail_fault x side)
+unfolding R.fail_fault
+fail_in x side r =
+    first_in (lent_by x.store.lent ∷ where_so (not (has_side x.store side)) faults.NoSide ∷ where_so (not (side_of x.store side).up) faults.Down ∷ []) (
+      lent_in x.store.lent r.sized.lent,
+      (
+        where_in (not (has_side x.store side)) faults.NoSide tt,
+        (
+          where_in (not (side_of x.store side).up) faults.Down tt,
+          tt,
+        ),
+      ),
+    )
+
+replace_in : (x : MarksDevice) (side : Side) → Ranged x → CauseIn (replace_fault x side)
+unfolding R.replace_fault
+replace_in x side r =
+    first_in (lent_by x.store.lent ∷ where_so (not (has_side x.store side)) faults.NoSide ∷ where_so (side_of x.store side).up faults.Up
+    ∷ where_so (is_some x.store.half) faults.Half ∷ []) (
+      lent_in x.store.lent r.sized.lent,
+      (
+        where_in (not (has_side x.store side)) faults.NoSide tt,
+        (
+          where_in (side_of x.store side).up faults.Up tt,
+          (
+            where_in (is_some x.store.half) faults.Half tt,
+            tt,
+          ),
+        ),
+      ),
+    )
+
+abbrev FineOrder : MarksDeed → Type 0
+FineOrder x = Fine OrderIn tt tt x
+
+ordered : (o : Option OrderFault) (x : MarksDeed) → CauseIn o → FineOrder x → FineOrder (order o x)
+ordered (Some f) x h k = h
+ordered None x h k = k
+
+lost_in : (d : MarksDevice) (side : Side) (t : Told) →
+    OrderIn (told_end (T.hold true (and_then (lose by_plain d (losses.Side side)) (λ z a. Done z (Some (ends_done a)))) t).answer)
+lost_in d side t =
+    subst (λ (o : Option EventEnd). OrderIn (told_end o)) (sym (handed_on (lose by_plain d (losses.Side side)) ends_done t)) tt
+
+down_in : (b : Bool) (pool : Pool) (f : MarksDevice → Talk (Unit {0})) → FineOrder (E.order_if_not b faults.Down (Sweeps pool f))
+down_in true pool f = tt
+down_in false pool f = tt
+
+-- A start
+
+abbrev pub StartIn : EventEnd → Type 0
+StartIn end = RestOfStart (start_answer end) → IsStart (start_answer end)
+
+abbrev FineStart : MarksDeed → Type 0
+FineStart x = Fine StartIn (λ r. tt) (λ r. tt) x
+
+module _ (d : MarksDevice) (k : Ranged d) (path : ℕ) where
+  abbrev Refused : Option StartFault → Type 0
+  Refused o = IfSome o (λ f. StartIn (ends.NotStarted f))
+
+  reserved_in : (o : Option Owner) → Refused (reserved_fault d o)
+  reserved_in (Some owner) = by_test (is_shut d) where
+    by_test : (b : Bool) → StartIn (ends.NotStarted (if b then refusals.Shut owner else refusals.Reserved owner))
+    by_test true = λ r. r
+    by_test false = λ r. r
+  reserved_in None = tt
+
+  idle_in : Refused (idle_fault d path)
+  idle_in = by_left (left d path == 0) where
+    by_out : (b : Bool) → Refused (if b then reserved_fault d d.paths.owner else None)
+    by_out true = reserved_in d.paths.owner
+    by_out false = tt
+
+    by_left : (b : Bool) → Refused (if b then Some refusals.PlanDone else if keeps_out d path then reserved_fault d d.paths.owner else None)
+    by_left true = λ r. tt
+    by_left false = by_out (keeps_out d path)
+
+  running_in : (r : Option OpenEntry) → IfSome r (IsOpen d.plans (replay d.plans (empty_of d) d.history.items) d.history.items) →
+      Refused (running_fault d path r)
+  running_in (Some o) h = λ r. record { least = h.start.least; most = h.start.most }
+  running_in None h = idle_in
+
+  lent_start : (o : Option ℕ) → IfSome o (λ n. n < 16) → Refused (fault_by d path o)
+  lent_start (Some of) h = λ r. h
+  lent_start None h = running_in d.history.running k.plain.at
+
+  fault_in : Refused (start_fault d path)
+  unfolding S.start_fault
+  fault_in = lent_start d.store.lent k.sized.lent
+
+  some_left : (n m : ℕ) → (n - m ≡ 0 → ⊥) → m + 1 ≤ n
+  some_left n m apart = omega (arith, apart)
+
+  left_if : (b : Bool) → (left d path == 0) ≡ b → (if b then Some refusals.PlanDone else if keeps_out d path then reserved_fault d d.paths.owner else None) ≡ None →
+      next_ordinal d path ≤ length (planned d.plans path)
+  left_if true is none = absurd (cc)
+  left_if false is none = some_left (length (planned d.plans path)) (started_count d.history path) (eqb-false (left d path) 0 is)
+
+  running_left : (r : Option OpenEntry) → running_fault d path r ≡ None → next_ordinal d path ≤ length (planned d.plans path)
+  running_left (Some o) none = absurd (cc)
+  running_left None none = left_if (left d path == 0) refl none
+
+  lent_left : (o : Option ℕ) → fault_by d path o ≡ None → next_ordinal d path ≤ length (planned d.plans path)
+  lent_left (Some of) none = absurd (cc)
+  lent_left None none = running_left d.history.running none
+
+  planned_next : start_fault d path ≡ None → next_ordinal d path ≤ length (planned d.plans path)
+  unfolding S.start_fault
+  planned_next none = lent_left d.store.lent none
+
+  start_by_in : (o : Option StartFault) → start_fault d path ≡ o → Refused o → FineStart (start_by d path o)
+  start_by_in (Some f) is h = h
+  start_by_in None is h = λ r. few_programs (next_ordinal d path) (length (planned d.plans path)) (planned_next is) (k.sized.plans path)
+
+  starts_in : FineStart (starts path d)
+  starts_in = by_own (is_own path d.history.running) where
+    by_own : (b : Bool) → FineStart (if b then Ends ends.Running else start_by d path (start_fault d path))
+    by_own true = λ r. tt
+    by_own false = start_by_in (start_fault d path) refl fault_in
+
+-- All events: what a repair answers is shown elsewhere
+
+abbrev pub AnswersOnce : Event → EventEnd → Type 0
+AnswersOnce (events.Start path d) end = StartIn end
+AnswersOnce (events.Step d) end = Unit {0}
+AnswersOnce (events.Back d) end = Unit {0}
+AnswersOnce (events.Reset path d) end = Unit {0}
+AnswersOnce events.RepairCache end = Unit {0}
+AnswersOnce events.RepairStore end = Unit {0}
+AnswersOnce _ end = OrderIn end
+
+abbrev pub Answers : Asked → EventEnd → Type 0
+Answers (Once e) end = AnswersOnce e end
+Answers (Replace d side) end = OrderIn end
+Answers (Unpair a) end = OrderIn end
+Answers _ end = Unit {0}
+
+module _ (s : Subsystem) (all : All Ranged (devices_of s)) where
+  there : (n : ℕ) → IfSome (device_in (devices_of s) n) Ranged
+  there n = device_ranged (devices_of s) n all
+
+  once_answers : (e : Event) → AnswersOnce e (happens s e).end
+  unfolding H.happens E.deed
+  once_answers (events.Start path d) =
+      fine_end StartIn (λ r. tt) (λ r. tt) s (on_device (device_in (devices_of s) d) (starts path))
+      (on_fine StartIn (λ r. tt) (λ r. tt) (device_in (devices_of s) d) (starts path) (there d) (λ x k. starts_in x k path))
+  once_answers (events.Step d) = tt
+  once_answers (events.Back d) = tt
+  once_answers (events.Reset path d) = tt
+  once_answers events.FailCache =
+      fine_end OrderIn tt tt s (E.order_if_not (not s.pool.cache_up) faults.Down (Sweeps (cache_failed s.pool) (λ x. lose by_plain x losses.Cache)))
+      (down_in (not s.pool.cache_up) (cache_failed s.pool) (λ x. lose by_plain x losses.Cache))
+  once_answers events.FailStore =
+      fine_end OrderIn tt tt s (E.order_if_not (not s.pool.store_up) faults.Down (Sweeps (store_failed s.pool) (λ x. lose by_plain x losses.Store)))
+      (down_in (not s.pool.store_up) (store_failed s.pool) (λ x. lose by_plain x losses.Store))
+  once_answers (events.FailVolume d side) =
+      let f = λ (x : MarksDevice). order (fail_fault x side) (Asks x (E.ends_by ends_done (lose by_plain x (losses.Side side)))) in
+      fine_end OrderIn tt tt s (on_device (device_in (devices_of s) d) f)
+      (on_fine OrderIn tt tt (device_in (devices_of s) d) f (there d) (λ x k. ordered (fail_fault x side)
+      (Asks x (E.ends_by ends_done (lose by_plain x (losses.Side side)))) (fail_in x side k) (lost_in x side)))
+  once_answers events.RepairCache = tt
+  once_answers events.RepairStore = tt
+  once_answers (events.Pair a b) =
+      let g = λ (x y : MarksDevice). order (pair_fault x y) (Lends x y) in
+      let f = λ (x : MarksDevice). on_device (device_in (devices_of s) b) (g x) in
+      fine_end OrderIn tt tt s (on_device (device_in (devices_of s) a) f)
+      (on_fine OrderIn tt tt (device_in (devices_of s) a) f (there a) (λ x k. on_fine OrderIn tt tt (device_in (devices_of s) b) (g x) (there b)
+      (λ y l. ordered (pair_fault x y) (Lends x y) (pair_in x y k l) tt)))
+  once_answers (events.Suspend a) =
+      let f = λ (x : MarksDevice). order (suspend_fault x) (Becomes (hold x) ends.Done) in
+      fine_end OrderIn tt tt s (on_device (device_in (devices_of s) a) f)
+      (on_fine OrderIn tt tt (device_in (devices_of s) a) f (there a) (λ x k. ordered (suspend_fault x) (Becomes (hold x) ends.Done) (suspend_in x k) tt))
+  once_answers (events.Resume a) =
+      let f = λ (x : MarksDevice). order (resume_fault x) (Becomes (resume x) ends.Done) in
+      fine_end OrderIn tt tt s (on_device (device_in (devices_of s) a) f)
+      (on_fine OrderIn tt tt (device_in (devices_of s) a) f (there a) (λ x k. ordered (resume_fault x) (Becomes (resume x) ends.Done) (resume_in x k) tt))
+  once_answers events.Power = tt
+
+  mounted_ranged : (ms : List Mounted) (n : ℕ) → All Ranged (map (λ (m : Mounted). m.device) ms) → IfSome (mounted_in ms n) (λ m. Ranged m.device)
+  mounted_ranged [] n r = tt
+  mounted_ranged (m ∷ ms) n r =
+      by_test (m.device.store.device == n) (All-head Ranged m.device (map (λ (x : Mounted). x.device) ms) r)
+      (mounted_ranged ms n (All-tail Ranged m.device (map (λ (x : Mounted). x.device) ms) r))
+    where
+      by_test : (b : Bool) → Ranged m.device → IfSome (mounted_in ms n) (λ x. Ranged x.device) →
+          IfSome (if b then Some m else mounted_in ms n) (λ x. Ranged x.device)
+      by_test true k rest = k
+      by_test false k rest = rest
+
+  replaced_end : (d : ℕ) (side : Side) (m : Mounted) (o : Option OrderFault) → CauseIn o → OrderIn (replaced_by s d side unfailing m o).end
+  replaced_end d side m (Some f) h = h
+  replaced_end d side m None h = tt
+
+  replaced_found : (d : ℕ) (side : Side) (o : Option Mounted) → IfSome o (λ m. Ranged m.device) → OrderIn (replaced_at s d side unfailing o).end
+  replaced_found d side (Some m) k = replaced_end d side m (replace_fault m.device side) (replace_in m.device side k)
+  replaced_found d side None k = tt
+
+  replaced_answers : (d : ℕ) (side : Side) → OrderIn (replaced s d side unfailing).end
+  unfolding H.replaced
+  replaced_answers d side = replaced_found d side (mounted_in s.mounted d) (mounted_ranged s.mounted d all)
+
+  unpaired_end : (a : ℕ) (m : Mounted) (o : Option OrderFault) → CauseIn o → OrderIn (unpaired_by s a unfailing m o).end
+  unpaired_end a m (Some f) h = h
+  unpaired_end a m None h = tt
+
+  unpaired_found : (a : ℕ) (o : Option Mounted) → IfSome o (λ m. Ranged m.device) → OrderIn (unpaired_at s a unfailing o).end
+  unpaired_found a (Some m) k = unpaired_end a m (unpair_fault m.device) (unpair_in m.device k)
+  unpaired_found a None k = tt
+
+  unpaired_answers : (a : ℕ) → OrderIn (unpaired s a unfailing).end
+  unfolding H.unpaired
+  unpaired_answers a = unpaired_found a (mounted_in s.mounted a) (mounted_ranged s.mounted a all)
+
+-- of devices in their ranges
+abbrev pub AnswersSo : Subsystem → Logged → Type 0
+AnswersSo s t = All Ranged (devices_of s) → Answers t.asked t.happened.end
+
+pub answers_go : Goes (λ s. Unit {0}) AnswersSo AnyEvent
+answers_go = record {
+  once = λ s e may q. (tt, λ all. once_answers s all e);
+  stepped = λ s d q. (tt, λ all. tt);
+  idle = λ s d q. (tt, λ all. tt);
+  backed = λ s d q. (tt, λ all. tt);
+  replaces = λ s d side q. (tt, λ all. replaced_answers s all d side);
+  unpairs = λ s a q. (tt, λ all. unpaired_answers s all a);
+}

@@ -1,0 +1,312 @@
+-- The paths and devices that the lines of an event name are in their ranges.
+use Rattle.std.proofs.Common.{◌≡◌, ◌≤◌, ◌<◌, ◌+◌, ◌==◌, ◌++◌, zero, suc, ℕ, Bool, true, false, List, [], ◌∷◌, length, map, Option, Some, None, refl, if◌then◌else◌, arith}
+use Rattle.std.specs.Prelude.{◌&&◌, ◌^◌, not, All, IfSome, option_map}
+use Rattle.std.proofs.lemmas.List.Elements.{All-append, All-cons, All-head, All-nil, All-tail}
+use Rattle.ckd_types.specs.declared.channel.CommandEnd.{CommandEnd}
+use Rattle.ckd_types.specs.declared.sense.Sense.{Sense}
+use Rattle.hex.specs.Hex.{IsBytes}
+use Rattle.deck_text.proofs.DeckAgain.{Each}
+use Rattle.plain_defs.specs.declared.journal.Act.{Act}
+use Rattle.plain_defs.specs.declared.journal.Act.TheVariants.{CfwLost, Harden, Loosen}
+use Rattle.plain_defs.specs.declared.journal.Item.{Item}
+use Rattle.plain_defs.specs.declared.journal.Item.TheVariants as items
+use Rattle.plain_defs.specs.History.{IsOpen, OpenEntry}
+use Rattle.plain_defs.specs.Journal.{Plans, planned, replay, replay_item}
+use Rattle.plain_defs.specs.Legal.{IsLegalFrom, IsLegalItem}
+use Rattle.plain_defs.specs.PlainState.{PlainState}
+use Rattle.device_defs.specs.declared.answers.SecondEnd.TheVariants as seconds
+use Rattle.device_defs.specs.declared.answers.Stepped.TheVariants as stepped
+use Rattle.device_defs.specs.Marks.{MarksDevice}
+use Rattle.report_text.specs.declared.answers.BackAnswer.TheVariants as back
+use Rattle.report_text.specs.declared.event.Happened as report
+use Rattle.report_text.specs.declared.event.Happened.TheVariants as did
+use Rattle.report_text.specs.declared.line.ReportLine.{ReportLine}
+use Rattle.report_text.specs.declared.line.ReportLine.TheVariants as lines
+use Rattle.report_text.specs.declared.order.Order.TheVariants as orders
+use Rattle.report_text.specs.Ends.{data_lines, end_line, sense_lines}
+use Rattle.report_text.specs.Events.{first_lines, io_lines, last_line, line_if, loosed_line, program_over_lines}
+use Rattle.report_reading.specs.Ranges.{AreBytes, IsAnswer, IsDevice, IsLine, IsLong, IsOrder, IsPath, IsShort, IsStart}
+use Rattle.run_report.specs.declared.told.RunningProgram.{RunningProgram}
+use Rattle.run_report.specs.Answers.{order_answer, start_answer}
+use Rattle.run_report.specs.Beside.{how_over, id_of, loose_lines, loosed, of_each, over_lines, over_of, power_lines}
+use Rattle.run_report.specs.Events.{end_told, event_lines, half_told, running_by, running_in, running_program, told, work_lines, work_told}
+use Rattle.subsystem_defs.specs.declared.end.EventEnd.{EventEnd}
+use Rattle.subsystem_defs.specs.declared.end.EventEnd.TheVariants as ends
+use Rattle.subsystem_defs.specs.declared.event.Event.{Event}
+use Rattle.subsystem_defs.specs.declared.event.Event.TheVariants as events
+use Rattle.subsystem_defs.specs.Beside.{Hardened, LooseTold, Loosened, WentBack, behind_first, has_power, loose_count, loose_told, new_acts, new_items, power_told, told_act}
+use Rattle.subsystem_defs.specs.Deeds.{device_in}
+use Rattle.subsystem_defs.specs.Lines.{Asked, Once, Replace, Run, Settle, Unpair}
+use Rattle.subsystem_defs.specs.Promised.{empty_of}
+use Rattle.run_audit_laws.specs.Ranges.{RestIsIn, RestOfStart}
+use Rattle.run_audit_laws.proofs.NamedEvents.{Names}
+use Rattle.run_audit_laws.proofs.RangedDevices.{Ranged, device_ranged, few_programs}
+use Rattle.run_audit_laws.proofs.RangedEnds.{Answers, AnswersOnce, OrderIn, StartIn}
+
+-- with what isn't shown of it, it is in its ranges
+abbrev pub Known : ReportLine → Type 0
+Known line = RestIsIn line → IsLine line
+
+pub one : (line : ReportLine) → Known line → All Known (line ∷ [])
+one line is = All-cons Known line [] is (All-nil Known)
+
+abbrev HasPath : RunningProgram → Type 0
+HasPath r = IsPath r.path × IsShort r.ordinal
+
+abbrev HasNames : report.Happened → Type 0
+HasNames (did.Started path d a) = IsPath path × IsDevice d × (RestOfStart a → IsStart a)
+HasNames (did.Ended path d n e) = IsPath path × IsDevice d × IsShort n
+HasNames (did.Half path d t) = IsPath path × IsDevice d
+HasNames (did.Back d a) = IsDevice d
+HasNames (did.StepIdle d) = IsDevice d
+HasNames (did.RunIdle d) = IsDevice d
+HasNames (did.Reset path d) = IsPath path × IsDevice d
+HasNames (did.Ordered order a) = IsOrder order × IsAnswer a
+
+-- What an event did
+
+data_known : (bytes : List ℕ) → All Known (data_lines bytes)
+data_known [] = All-nil Known
+data_known (b ∷ bytes) = one (lines.Data (b ∷ bytes)) (λ r. r)
+
+sense_known : (sense : Option Sense) → All Known (sense_lines sense)
+sense_known (Some sense) = one (lines.Sense sense) (λ r. r)
+sense_known None = All-nil Known
+
+end_known : (path d n : ℕ) (e : CommandEnd) → IsPath path → IsDevice d → IsShort n → Known (lines.End (end_line path d n e))
+end_known path d n e p k o = λ r. record { path = p; device = k; ordinal = o; index = r.index; status = r.status; residual = r.residual }
+
+first_known : (h : report.Happened) → HasNames h → All Known (first_lines h)
+first_known (did.Started path d a) n = one (lines.Start path d a) (λ r. (n.0, n.1, n.2 r))
+first_known (did.Ended path d n e) k =
+    All-append Known (lines.End (end_line path d n e) ∷ []) (data_lines e.sent ++ sense_lines e.sense)
+    (one (lines.End (end_line path d n e)) (end_known path d n e k.0 k.1 k.2))
+    (All-append Known (data_lines e.sent) (sense_lines e.sense) (data_known e.sent) (sense_known e.sense))
+first_known (did.Half path d t) n = one (lines.Half path d t) (λ r. (n.0, n.1, r))
+first_known (did.Back d a) n = one (lines.Back d a) (λ r. (n, r))
+first_known (did.StepIdle d) n = one (lines.StepIdle d) (λ r. n)
+first_known (did.RunIdle d) n = one (lines.RunIdle d) (λ r. n)
+first_known (did.Reset path d) n = All-nil Known
+first_known (did.Ordered order a) n = All-nil Known
+
+last_known : (h : report.Happened) → HasNames h → All Known (line_if (last_line h))
+last_known (did.Started path d a) n = All-nil Known
+last_known (did.Ended path d n e) k = All-nil Known
+last_known (did.Half path d t) n = All-nil Known
+last_known (did.Back d a) n = All-nil Known
+last_known (did.StepIdle d) n = All-nil Known
+last_known (did.RunIdle d) n = All-nil Known
+last_known (did.Reset path d) n = one (lines.Reset path d) (λ r. n)
+last_known (did.Ordered order a) n = one (lines.Order order a) (λ r. n)
+
+module _ (d : ℕ) (k : IsDevice d) where
+  end_names : (r : Option RunningProgram) → IfSome r HasPath → (e : CommandEnd) → HasNames (end_told d r e)
+  end_names (Some r) p e = (p.0, k, p.1)
+  end_names None p e = k
+
+  half_names : (r : Option RunningProgram) → IfSome r HasPath → (t : ℕ) → HasNames (half_told d r t)
+  half_names (Some r) p t = (p.0, k)
+  half_names None p t = k
+
+  work_names : (r : Option RunningProgram) → IfSome r HasPath → (idle : report.Happened) → HasNames idle → (end : EventEnd) →
+      HasNames (work_told d r idle end)
+  work_names r p idle n (ends.Stepped (stepped.Ended e)) = end_names r p e
+  work_names r p idle n (ends.Stepped (stepped.Half t)) = half_names r p t
+  work_names r p idle n (ends.Second (seconds.Ended e)) = end_names r p e
+  work_names r p idle n (ends.Second (seconds.Finished t)) = k
+  work_names r p idle n (ends.Second (seconds.Unwritten t)) = k
+  work_names r p idle n (ends.Back x) = k
+  work_names r p idle n (ends.Started m) = n
+  work_names r p idle n (ends.NotStarted f) = n
+  work_names r p idle n ends.Running = n
+  work_names r p idle n ends.Idle = n
+  work_names r p idle n ends.Done = n
+  work_names r p idle n (ends.Pending m) = n
+  work_names r p idle n (ends.Refused f) = n
+
+path_of_open : (d : MarksDevice) → Ranged d → (state : PlainState) (xs : List Item) (r : Option OpenEntry) → IfSome r (IsOpen d.plans state xs) →
+    IfSome (option_map running_program r) HasPath
+path_of_open d k state xs (Some o) i = (
+  record { least = i.start.least; most = i.start.most },
+  few_programs o.ordinal (length (planned d.plans o.path)) i.start.in_plan (k.sized.plans o.path),
+)
+path_of_open d k state xs None i = tt
+
+running_path : (o : Option MarksDevice) → IfSome o Ranged → IfSome (running_by o) HasPath
+running_path (Some d) r = path_of_open d r (replay d.plans (empty_of d) d.history.items) d.history.items d.history.running r.plain.at
+running_path None r = tt
+
+abbrev Repairs : Event → EventEnd → Type 0
+Repairs events.RepairCache end = OrderIn end
+Repairs events.RepairStore end = OrderIn end
+Repairs _ end = Unit {0}
+
+-- what a repair answers
+abbrev pub RepairsIn : Asked → EventEnd → Type 0
+RepairsIn (Once e) end = Repairs e end
+RepairsIn _ end = Unit {0}
+
+module _ (xs : List MarksDevice) (all : All Ranged xs) where
+  path_in : (d : ℕ) → IfSome (running_in xs d) HasPath
+  path_in d = running_path (device_in xs d) (device_ranged xs d all)
+
+  once_names : (end : EventEnd) (e : Event) → Names (Once e) → AnswersOnce e end → Repairs e end → HasNames (told xs end (Once e))
+  once_names end (events.Start path d) n a w = (n.0, n.1, a)
+  once_names end (events.Step d) n a w = work_names d n (running_in xs d) (path_in d) (did.StepIdle d) n end
+  once_names end (events.Back d) n a w = work_names d n (running_in xs d) (path_in d) (did.Back d back.Nothing) n end
+  once_names end (events.Reset path d) n a w = n
+  once_names end events.FailCache n a w = (tt, a)
+  once_names end events.FailStore n a w = (tt, a)
+  once_names end (events.FailVolume d side) n a w = (n, a)
+  once_names end events.RepairCache n a w = (tt, w)
+  once_names end events.RepairStore n a w = (tt, w)
+  once_names end (events.Pair x y) n a w = (n, a)
+  once_names end (events.Suspend x) n a w = (n, a)
+  once_names end (events.Resume x) n a w = (n, a)
+  once_names end events.Power n a w = (tt, a)
+
+  told_names : (end : EventEnd) (asked : Asked) → Names asked → Answers asked end → RepairsIn asked end → HasNames (told xs end asked)
+  told_names end (Once e) n a w = once_names end e n a w
+  told_names end (Replace d side) n a w = (n, a)
+  told_names end (Unpair x) n a w = (n, a)
+  told_names end (Run d) n a w = work_names d n (running_in xs d) (path_in d) (did.RunIdle d) n end
+  told_names end (Settle d) n a w = work_names d n (running_in xs d) (path_in d) (did.Back d back.Nothing) n end
+
+-- Beside it
+
+-- how many went back, and the new number
+abbrev TellsIn : LooseTold → Type 0
+TellsIn (Loosened t) = Unit {0}
+TellsIn (Hardened t) = Unit {0}
+TellsIn (WentBack count number) = IsShort count × IsShort number
+
+id_bytes : (n : ℕ) → IsShort n → AreBytes 2 (id_of n)
+id_bytes n short = record { count = refl; each = each } where
+  each : IsBytes (id_of n)
+  each zero = omega (arith, short)
+  each (suc zero) = omega arith
+  each (suc (suc i)) = omega arith
+
+one_loosed : (d : ℕ) → IsDevice d → (l : LooseTold) → TellsIn l → Known (loosed_line (loosed d l))
+one_loosed d k (Loosened t) i = λ r. (k, r)
+one_loosed d k (Hardened t) i = λ r. (k, r)
+one_loosed d k (WentBack count number) i = λ r. (k, (i.0, id_bytes number i.1))
+
+loosed_known : (d : ℕ) → IsDevice d → (ls : List LooseTold) → Each TellsIn ls → All Known (map loosed_line (map (loosed d) ls))
+loosed_known d k [] i = All-nil Known
+loosed_known d k (l ∷ ls) i =
+    All-cons Known (loosed_line (loosed d l)) (map loosed_line (map (loosed d) ls)) (one_loosed d k l i.0) (loosed_known d k ls i.1)
+
+module _ (x y : MarksDevice) (r : Ranged x) (s : Ranged y) where
+  act_in : (act : Act) → TellsIn (told_act x.store y.store act)
+  act_in (Loosen t) = tt
+  act_in (Harden t) = tt
+  act_in CfwLost = (r.loose, s.number)
+
+  power_in : (lost : Bool) → Each TellsIn (power_told x.store y.store lost)
+  power_in lost = by_test (lost && not (loose_count x.store == 0)) where
+    by_test : (b : Bool) → Each TellsIn (if b then WentBack (loose_count x.store) y.store.number ∷ [] else [])
+    by_test true = ((r.loose, s.number), tt)
+    by_test false = tt
+
+  acts_in : (acts : List Act) (rest : List LooseTold) → Each TellsIn rest → Each TellsIn (map (told_act x.store y.store) acts ++ rest)
+  acts_in [] rest i = i
+  acts_in (act ∷ acts) rest i = (act_in act, acts_in acts rest i)
+
+  loose_known : All Known (loose_lines x y)
+  loose_known =
+      loosed_known x.store.device r.sized.device (loose_told x y)
+      (acts_in (new_acts x.history y.history) (power_told x.store y.store (has_power (new_items x.history y.history)))
+      (power_in (has_power (new_items x.history y.history))))
+
+abbrev ItemHasPath : Item → Type 0
+ItemHasPath (items.Program e) = IsPath e.path × IsShort e.ordinal
+ItemHasPath _ = Unit {0}
+
+module _ (plans : Plans) (few : (path : ℕ) → length (planned plans path) ≤ 512) where
+  item_path : (state : PlainState) (earlier : List Item) (x : Item) (later : List Item) → IsLegalItem plans state earlier x later → ItemHasPath x
+  item_path state earlier (items.Program e) later l =
+      let s = l.0.started in
+      (record { least = s.least; most = s.most }, few_programs e.ordinal (length (planned plans e.path)) s.in_plan (few e.path))
+  item_path state earlier (items.Reset path) later l = tt
+  item_path state earlier items.Fresh later l = tt
+  item_path state earlier (items.Act act) later l = tt
+  item_path state earlier items.Power later l = tt
+
+  item_paths : (state : PlainState) (earlier xs : List Item) → IsLegalFrom plans state earlier xs → Each ItemHasPath xs
+  item_paths state earlier [] l = tt
+  item_paths state earlier (x ∷ xs) l =
+      (item_path state earlier x xs l.0, item_paths (replay_item plans state x) (earlier ++ x ∷ []) xs l.1)
+
+rest_paths : (n : ℕ) (xs : List Item) → Each ItemHasPath xs → Each ItemHasPath (behind_first n xs)
+rest_paths zero xs p = p
+rest_paths (suc n) [] p = tt
+rest_paths (suc n) (x ∷ xs) p = rest_paths n xs p.1
+
+over_known : (d : ℕ) → IsDevice d → (xs : List Item) → Each ItemHasPath xs → All Known (program_over_lines (over_of d xs))
+over_known d k [] p = All-nil Known
+over_known d k (items.Program e ∷ xs) p = one (lines.Over e.path d e.ordinal (how_over e.how)) (λ r. (p.0.0, k, p.0.1, r))
+over_known d k (items.Reset path ∷ xs) p = All-nil Known
+over_known d k (items.Fresh ∷ xs) p = All-nil Known
+over_known d k (items.Act act ∷ xs) p = All-nil Known
+over_known d k (items.Power ∷ xs) p = All-nil Known
+
+overs_known : (x y : MarksDevice) → Ranged x → Ranged y → All Known (over_lines x y)
+overs_known x y r s =
+    over_known x.store.device r.sized.device (new_items x.history y.history)
+    (rest_paths _ y.history.items (item_paths y.plans s.sized.plans (empty_of y) [] y.history.items s.plain.legal))
+
+power_known : (x y : MarksDevice) → Ranged x → Ranged y → All Known (power_lines x y)
+power_known x y r s = All-append Known (over_lines x y) (loose_lines x y) (overs_known x y r s) (loose_known x y r s)
+
+each_known : (f : MarksDevice → MarksDevice → List ReportLine) → ((x y : MarksDevice) → Ranged x → Ranged y → All Known (f x y)) →
+    (xs ys : List MarksDevice) → All Ranged xs → All Ranged ys → All Known (of_each f xs ys)
+each_known f known [] ys r s = All-nil Known
+each_known f known (x ∷ xs) [] r s = All-nil Known
+each_known f known (x ∷ xs) (y ∷ ys) r s =
+    All-append Known (f x y) (of_each f xs ys) (known x y (All-head Ranged x xs r) (All-head Ranged y ys s))
+    (each_known f known xs ys (All-tail Ranged x xs r) (All-tail Ranged y ys s))
+
+-- An event
+
+module _ (reads writes : ℕ) (few : IsLong reads × IsLong writes) (xs ys : List MarksDevice) (before : All Ranged xs) (behind : All Ranged ys) where
+  io_known : All Known (io_lines reads writes)
+  io_known = by_calls ((reads == 0) && (writes == 0)) where
+    by_calls : (b : Bool) → All Known (if b then [] else lines.Io reads writes ∷ [])
+    by_calls true = All-nil Known
+    by_calls false = one (lines.Io reads writes) (λ r. few)
+
+  work_known : (h : report.Happened) → HasNames h → All Known (work_lines h reads writes xs ys)
+  work_known h n =
+      let last = line_if (last_line h) in
+      let overs = of_each over_lines xs ys in
+      let looses = of_each loose_lines xs ys in
+      let io = io_lines reads writes in
+      All-append Known (first_lines h) (looses ++ (io ++ (overs ++ last))) (first_known h n)
+      (All-append Known looses (io ++ (overs ++ last)) (each_known loose_lines loose_known xs ys before behind)
+      (All-append Known io (overs ++ last) io_known
+      (All-append Known overs last (each_known over_lines overs_known xs ys before behind) (last_known h n))))
+
+  pub event_known : (end : EventEnd) (asked : Asked) → Names asked → Answers asked end → RepairsIn asked end →
+      All Known (event_lines asked end reads writes xs ys)
+  event_known end asked n a w = by_asked asked (told_names xs before end asked n a w) where
+    by_asked : (asked : Asked) → HasNames (told xs end asked) → All Known (event_lines asked end reads writes xs ys)
+    by_asked (Once (events.Start path d)) h = work_known (told xs end (Once (events.Start path d))) h
+    by_asked (Once (events.Step d)) h = work_known (told xs end (Once (events.Step d))) h
+    by_asked (Once (events.Back d)) h = work_known (told xs end (Once (events.Back d))) h
+    by_asked (Once (events.Reset path d)) h = work_known (told xs end (Once (events.Reset path d))) h
+    by_asked (Once events.FailCache) h = work_known (told xs end (Once events.FailCache)) h
+    by_asked (Once events.FailStore) h = work_known (told xs end (Once events.FailStore)) h
+    by_asked (Once (events.FailVolume d side)) h = work_known (told xs end (Once (events.FailVolume d side))) h
+    by_asked (Once events.RepairCache) h = work_known (told xs end (Once events.RepairCache)) h
+    by_asked (Once events.RepairStore) h = work_known (told xs end (Once events.RepairStore)) h
+    by_asked (Once (events.Pair a b)) h = work_known (told xs end (Once (events.Pair a b))) h
+    by_asked (Once (events.Suspend a)) h = work_known (told xs end (Once (events.Suspend a))) h
+    by_asked (Once (events.Resume a)) h = work_known (told xs end (Once (events.Resume a))) h
+    by_asked (Once events.Power) h =
+        All-append Known (of_each power_lines xs ys) (lines.Order orders.Power (order_answer end) ∷ []) (each_known power_lines power_known xs ys before behind)
+        (one (lines.Order orders.Power (order_answer end)) (λ r. h))
+    by_asked (Replace d side) h = work_known (told xs end (Replace d side)) h
+    by_asked (Unpair a) h = work_known (told xs end (Unpair a)) h
+    by_asked (Run d) h = work_known (told xs end (Run d)) h
+    by_asked (Settle d) h = work_known (told xs end (Settle d)) h

@@ -1,0 +1,420 @@
+-- What is shown of the ranges of a whole report's lines.
+use Rattle.std.proofs.Common.{
+  ◌≡◌,
+  ◌≤◌,
+  ◌<◌,
+  ◌+◌,
+  ◌*◌,
+  ◌==◌,
+  ◌++◌,
+  ◌⊎◌,
+  zero,
+  suc,
+  ℕ,
+  Bool,
+  true,
+  false,
+  List,
+  [],
+  ◌∷◌,
+  length,
+  map,
+  Option,
+  Some,
+  None,
+  Ok,
+  is_some,
+  refl,
+  sym,
+  subst,
+  inl,
+  inr,
+  if◌then◌else◌,
+  arith,
+}
+use Rattle.std.specs.Prelude.{◌^◌, All, IfSome}
+use Rattle.std.specs.List.{flat_map, range_with_len}
+use Rattle.std.proofs.lemmas.Bool.{eqb-true}
+use Rattle.std.proofs.lemmas.List.Elements.{All-append, All-cons, All-head, All-nil, All-tail}
+use Rattle.deck_text.specs.declared.line.DeviceLine.{DeviceLine}
+use Rattle.deck_text.specs.DeckLines.{DeckLines}
+use Rattle.deck_text.specs.Parse.{parsed}
+use Rattle.track_table.proofs.Counts.{few_marked}
+use Rattle.deck_audit.specs.Device.{outline_of}
+use Rattle.deck_audit.specs.State.{outlines}
+use Rattle.device_outside.specs.Pool.{Frame}
+use Rattle.device_defs.specs.Contents.{by_plain}
+use Rattle.device_defs.specs.Marks.{MarksDevice, MarksStore}
+use Rattle.device_defs.specs.Owed.{waits}
+use Rattle.device_defs.specs.Store.{HalfWrite, is_lost, takes_b, tracks_of}
+use Rattle.device_defs.specs.Transfers.{both}
+use Rattle.plain_defs.specs.History.{IsPlain}
+use Rattle.plain_defs.specs.PlainState.{PlainState}
+use Rattle.report_places.specs.declared.state.Outline.{Outline}
+use Rattle.report_places.specs.Place.{holds, is_declared, outline_in}
+use Rattle.report_text.specs.declared.answers.DeviceTotals.TheVariants as totals
+use Rattle.report_text.specs.declared.line.ReportLine.{ReportLine}
+use Rattle.report_text.specs.declared.line.ReportLine.TheVariants as lines
+use Rattle.report_reading.specs.Ranges.{IsDevice, IsLine, IsLong, IsShort, IsTrack}
+use Rattle.run_report.specs.Closing.{device_lines, ending_lines, frame_line}
+use Rattle.run_report.specs.Events.{lines_of}
+use Rattle.run_report.specs.Report.{lines_of_run, report_lines}
+use Rattle.seen_laws.specs.Moved.{NoTransfers, SecondTransfers, half_writing}
+use Rattle.subsystem_defs.specs.declared.end.EventEnd.{EventEnd}
+use Rattle.subsystem_defs.specs.declared.end.EventEnd.TheVariants as ends
+use Rattle.subsystem_defs.specs.declared.event.Event.{Event}
+use Rattle.subsystem_defs.specs.declared.event.Event.TheVariants as events
+use Rattle.subsystem_defs.specs.Closing.{Counted, DeviceEnd, Ending, LentTo, device_end, device_end_by, ending, lost_tracks, where_true}
+use Rattle.subsystem_defs.specs.Decks as D
+use Rattle.subsystem_defs.specs.Decks.{opened, run_of}
+use Rattle.subsystem_defs.specs.Deeds.{device_in}
+use Rattle.subsystem_defs.specs.Lines.{Asked, Logged, Once, Replace, Run, Settle, Unpair, asked_by, run_lines}
+use Rattle.subsystem_defs.specs.Subsystem.{Mounted, Subsystem, devices_of}
+use Rattle.subsystem_laws.specs.Waits.{RepairsBy, TellsWaiting, repair_end, waiting_in, waiting_of}
+use Rattle.subsystem_laws.specs.Transfers.{AskedTransfers, BackBy, BackTransfers, EventTransfers, MovesByTable, RunTransfers, RunningTransfers, StepBy, StepTransfers}
+use Rattle.subsystem_laws.proofs.CalmRuns.{AllSo}
+use Rattle.subsystem_laws.proofs.FailedCalls.{read_run_reads_few, read_run_writes_few}
+use Rattle.subsystem_laws.proofs.MovedRuns.{run_moves}
+use Rattle.subsystem_laws.proofs.PlainRuns.{Plainly, opened_plain, run_stays_plain}
+use Rattle.subsystem_laws.proofs.ReadDecks.{read_numbered, read_served}
+use Rattle.subsystem_laws.proofs.RunLines.{Logs, lines_keep}
+use Rattle.subsystem_laws.proofs.RunLinks.{Linked, lines_linked}
+use Rattle.subsystem_laws.proofs.Waiting.{run_tells_of_waiting}
+use Rattle.subsystem_laws.proofs.Walks.{AreSo, both_behind}
+use Rattle.run_audit_laws.specs.Ranges.{RestIsIn}
+use Rattle.run_audit_laws.specs.Standing.{FramesAreDeclared, audited, stand}
+use Rattle.run_audit_laws.proofs.DeviceSizes.{Sized, first_sized, run_sized, sized_behind}
+use Rattle.run_audit_laws.proofs.FewDevices.{run_has_few}
+use Rattle.run_audit_laws.proofs.FramesOwned.{frames_are_declared}
+use Rattle.run_audit_laws.proofs.LooseNumbers.{count_short, number_short}
+use Rattle.run_audit_laws.proofs.NamedEvents.{Names, run_names}
+use Rattle.run_audit_laws.proofs.RangedDevices.{Ranged, device_ranged}
+use Rattle.run_audit_laws.proofs.RangedEnds.{Answers, AnswersSo, OrderIn, answers_go}
+use Rattle.run_audit_laws.proofs.RangedLines.{Known, RepairsIn, event_known, one}
+
+-- The calls of an event
+
+abbrev Few : ℕ → ℕ → Type 0
+Few reads writes = (reads ≤ 1920) × (writes ≤ 2)
+
+no_calls : (r w : ℕ) → NoTransfers r w → Few r w
+no_calls r w n = (let a = n.0 in omega (arith, a), let b = n.1 in omega (arith, b))
+
+commanded : (a b : Bool) (c r w : ℕ) → c ≤ 64 → r ≤ c * 15 * both a b → w ≤ both a b → Few r w
+commanded true true c r w most reads writes = (omega (arith, most, reads), omega (arith, writes))
+commanded true false c r w most reads writes = (omega (arith, most, reads), omega (arith, writes))
+commanded false true c r w most reads writes = (omega (arith, most, reads), omega (arith, writes))
+commanded false false c r w most reads writes = (omega (arith, most, reads), omega (arith, writes))
+
+worked : (a b : Bool) (r w : ℕ) → r ≤ both a b → w ≤ both a b → Few r w
+worked true true r w reads writes = (omega (arith, reads), omega (arith, writes))
+worked true false r w reads writes = (omega (arith, reads), omega (arith, writes))
+worked false true r w reads writes = (omega (arith, reads), omega (arith, writes))
+worked false false r w reads writes = (omega (arith, reads), omega (arith, writes))
+
+halved : (b : Bool) (r w : ℕ) → r ≡ 0 → w ≡ both b false → Few r w
+halved true r w reads writes = (omega (arith, reads), omega (arith, writes))
+halved false r w reads writes = (omega (arith, reads), omega (arith, writes))
+
+module _ (r w : ℕ) where
+  second_calls : (d : MarksDevice) (h : Option (HalfWrite (Unit {0}))) → SecondTransfers (half_writing d.store h) r w → Few r w
+  second_calls d (Some h) m = halved (takes_b d.store) r w m.0 m.1
+  second_calls d None m = no_calls r w m
+
+  running_calls : (d : MarksDevice) → Ranged d → (b : Bool) → RunningTransfers d b r w → Few r w
+  running_calls d k true m = commanded d.store.a.up d.store.b.up d.store.cylinders r w k.sized.cylinders m.most_reads m.most_writes
+  running_calls d k false m = no_calls r w m
+
+  stepped_calls : (d : MarksDevice) → Ranged d → (b : Bool) → StepBy d b r w → Few r w
+  stepped_calls d k true m = second_calls d d.store.half m
+  stepped_calls d k false m = running_calls d k (is_some d.history.running) m
+
+  step_calls : (o : Option MarksDevice) → IfSome o Ranged → StepTransfers o r w → Few r w
+  step_calls (Some d) k m = stepped_calls d k (is_some d.store.half) m
+  step_calls None k m = no_calls r w m
+
+  worked_calls : (d : MarksDevice) (b : Bool) (end : EventEnd) → BackBy d b end r w → Few r w
+  worked_calls d true end m = second_calls d d.store.half m
+  worked_calls d false end m = worked d.store.a.up d.store.b.up r w m.most_reads m.most_writes
+
+  back_calls : (o : Option MarksDevice) (end : EventEnd) → BackTransfers o end r w → Few r w
+  back_calls (Some d) end m = worked_calls d (is_some d.store.half) end m
+  back_calls None end m = no_calls r w m
+
+  run_calls : (o : Option MarksDevice) → IfSome o Ranged → (end : EventEnd) → RunTransfers o end r w → Few r w
+  run_calls o k end (inl idle) = no_calls r w idle.1
+  run_calls o k end (inr m) = step_calls o k m
+
+  once_calls : (e : Event) (s : Subsystem) (end : EventEnd) → All Ranged (devices_of s) → EventTransfers e s end r w → Few r w
+  once_calls (events.Start path d) s end all m = no_calls r w m
+  once_calls (events.Step d) s end all m = step_calls (device_in (devices_of s) d) (device_ranged (devices_of s) d all) m
+  once_calls (events.Back d) s end all m = back_calls (device_in (devices_of s) d) end m
+  once_calls (events.Reset path d) s end all m = no_calls r w m
+  once_calls events.FailCache s end all m = no_calls r w m
+  once_calls events.FailStore s end all m = no_calls r w m
+  once_calls (events.FailVolume d side) s end all m = no_calls r w m
+  once_calls events.RepairCache s end all m = no_calls r w m
+  once_calls events.RepairStore s end all m = no_calls r w m
+  once_calls (events.Pair a b) s end all m = no_calls r w m
+  once_calls (events.Suspend a) s end all m = no_calls r w m
+  once_calls (events.Resume a) s end all m = no_calls r w m
+  once_calls events.Power s end all m = no_calls r w m
+
+  asked_calls : (x : Asked) (s : Subsystem) (end : EventEnd) → All Ranged (devices_of s) → AskedTransfers x s end r w → Few r w
+  asked_calls (Once e) s end all m = once_calls e s end all m
+  asked_calls (Replace d side) s end all m = no_calls r w m
+  asked_calls (Unpair a) s end all m = no_calls r w m
+  asked_calls (Run d) s end all m = run_calls (device_in (devices_of s) d) (device_ranged (devices_of s) d all) end m
+  asked_calls (Settle d) s end all m = back_calls (device_in (devices_of s) d) end m
+
+long_few : (r w : ℕ) → Few r w → IsLong r × IsLong w
+long_few r w f = (let a = f.0 in omega (arith, a), let b = f.1 in omega (arith, b))
+
+-- All events
+
+abbrev AllRanged : Subsystem → Type 0
+AllRanged s = All Ranged (devices_of s)
+
+abbrev BothRanged : Logged → Type 0
+BothRanged t = AllRanged t.happened.before × AllRanged t.happened.behind
+
+abbrev BehindRanged : Logged → Type 0
+BehindRanged t = AllRanged t.happened.behind
+
+both_ranged : (s : Subsystem) (ts : List Logged) → Linked s ts → AllRanged s → All BehindRanged ts → All BothRanged ts
+both_ranged s [] l here all = All-nil BothRanged
+both_ranged s (t ∷ ts) l here all =
+    let next = All-head BehindRanged t ts all in
+    All-cons BothRanged t ts (subst AllRanged (sym l.0) here, next) (both_ranged t.happened.behind ts l.1 next (All-tail BehindRanged t ts all))
+
+abbrev NamesLogged : Logged → Type 0
+NamesLogged t = Names t.asked
+
+abbrev AnswersLogged : Logged → Type 0
+AnswersLogged t = Answers t.asked t.happened.end
+
+all_answer : (s : Subsystem) (ts : List Logged) → Linked s ts → Logs (λ s. Unit {0}) AnswersSo s ts → All BothRanged ts → All AnswersLogged ts
+all_answer s [] l g r = All-nil AnswersLogged
+all_answer s (t ∷ ts) l g r =
+    All-cons AnswersLogged t ts (g.0 (subst AllRanged l.0 (All-head BothRanged t ts r).0))
+    (all_answer t.happened.behind ts l.1 g.1 (All-tail BothRanged t ts r))
+
+-- What a repair answers
+
+few_waiting : (k a b c : ℕ) → k ≤ 64 → a ≤ k * 15 → b ≤ c * 960 → a + b ≤ suc c * 960
+few_waiting k a b c small few rest = omega (arith, small, few, rest)
+
+all_waiting : (ds : List MarksDevice) → All Ranged ds → waiting_in ds ≤ length ds * 960
+all_waiting [] r = omega arith
+all_waiting (d ∷ ds) r =
+    few_waiting d.store.cylinders (waiting_of d) (waiting_in ds) (length ds) (All-head Ranged d ds r).sized.cylinders
+    (few_marked (tracks_of d.store) (waits by_plain d.store)) (all_waiting ds (All-tail Ranged d ds r))
+
+repair_in : (up : Bool) (n k : ℕ) → n ≤ k * 960 → k ≤ 16 → OrderIn (repair_end up n)
+repair_in true n k few most = tt
+repair_in false n k few most = by_test (n == 0) where
+  by_test : (b : Bool) → OrderIn (if b then ends.Done else ends.Pending n)
+  by_test true = tt
+  by_test false = omega (arith, few, most)
+
+abbrev IsFew : Logged → Type 0
+IsFew t = length (devices_of t.happened.before) ≤ 16
+
+repairs_in : (t : Logged) → AllRanged t.happened.before → IsFew t → TellsWaiting t → RepairsIn t.asked t.happened.end
+repairs_in t r few w = by_asked t.asked w.repairs where
+  by_event : (e : Event) → RepairsBy (Once e) t.happened → RepairsIn (Once e) t.happened.end
+  by_event events.RepairCache is =
+      subst OrderIn (sym is) (repair_in t.happened.before.pool.cache_up (waiting_in (devices_of t.happened.before)) (length (devices_of t.happened.before))
+      (all_waiting (devices_of t.happened.before) r) few)
+  by_event events.RepairStore is =
+      subst OrderIn (sym is) (repair_in t.happened.before.pool.store_up (waiting_in (devices_of t.happened.before)) (length (devices_of t.happened.before))
+      (all_waiting (devices_of t.happened.before) r) few)
+  by_event (events.Start path d) is = tt
+  by_event (events.Step d) is = tt
+  by_event (events.Back d) is = tt
+  by_event (events.Reset path d) is = tt
+  by_event events.FailCache is = tt
+  by_event events.FailStore is = tt
+  by_event (events.FailVolume d side) is = tt
+  by_event (events.Pair a b) is = tt
+  by_event (events.Suspend a) is = tt
+  by_event (events.Resume a) is = tt
+  by_event events.Power is = tt
+
+  by_asked : (x : Asked) → RepairsBy x t.happened → RepairsIn x t.happened.end
+  by_asked (Once e) is = by_event e is
+  by_asked (Replace d side) is = tt
+  by_asked (Unpair a) is = tt
+  by_asked (Run d) is = tt
+  by_asked (Settle d) is = tt
+
+-- and of every event all that is known
+pub record Shows (t : Logged) : Type 0 where
+  pub ranged : BothRanged t
+  pub few : IsFew t
+  pub names : NamesLogged t
+  pub moves : MovesByTable t
+  pub answers : AnswersLogged t
+  pub waiting : TellsWaiting t
+
+one_known : (t : Logged) → Shows t → All Known (lines_of t)
+one_known t k =
+    let h = t.happened in
+    let r = k.ranged in
+    event_known h.reads h.writes (long_few h.reads h.writes (asked_calls h.reads h.writes t.asked h.before h.end r.0 k.moves)) (devices_of h.before)
+    (devices_of h.behind) r.0 r.1 h.end t.asked k.names k.answers (repairs_in t r.0 k.few k.waiting)
+
+all_known : (ts : List Logged) → All BothRanged ts → All IsFew ts → All NamesLogged ts → All MovesByTable ts → All AnswersLogged ts →
+    All TellsWaiting ts → All Known (flat_map lines_of ts)
+all_known [] r f n m a w = All-nil Known
+all_known (t ∷ ts) r f n m a w =
+    All-append Known (lines_of t) (flat_map lines_of ts)
+    (one_known t (record {
+      ranged = All-head BothRanged t ts r;
+      few = All-head IsFew t ts f;
+      names = All-head NamesLogged t ts n;
+      moves = All-head MovesByTable t ts m;
+      answers = All-head AnswersLogged t ts a;
+      waiting = All-head TellsWaiting t ts w;
+    }))
+    (all_known ts (All-tail BothRanged t ts r) (All-tail IsFew t ts f) (All-tail NamesLogged t ts n) (All-tail MovesByTable t ts m)
+    (All-tail AnswersLogged t ts a) (All-tail TellsWaiting t ts w))
+
+both_so : (d : MarksDevice) → Sized d → Plainly d → Ranged d
+both_so d s p = record {
+  sized = s;
+  plain = subst (λ (x : PlainState). IsPlain d.plans x d.history) p.follows.base p.follows.stands.plain;
+  loose = count_short d p s.cylinders;
+  number = number_short d p;
+}
+
+all_so : (ms : List Mounted) → AreSo Plainly ms → AreSo Sized ms → All Ranged (map (λ (m : Mounted). m.device) ms)
+all_so [] p s = All-nil Ranged
+all_so (m ∷ ms) p s = All-cons Ranged m.device (map (λ (x : Mounted). x.device) ms) (both_so m.device s.0 p.0) (all_so ms p.1 s.1)
+
+-- The end
+
+abbrev Under : ℕ → ℕ → Type 0
+Under n t = t < n
+
+more_track : (f : ℕ → Bool) (a n : ℕ) → All (Under (a + n)) (where_true f (range_with_len a n))
+more_track f a zero = All-nil (Under (a + zero))
+more_track f a (suc n) = by_test (f a) (later (where_true f (range_with_len (a + 1) n)) (more_track f (a + 1) n)) where
+  later : (ts : List ℕ) → All (Under ((a + 1) + n)) ts → All (Under (a + suc n)) ts
+  later [] all = All-nil (Under (a + suc n))
+  later (t ∷ ts) all =
+      let less : t < (a + 1) + n = All-head (Under ((a + 1) + n)) t ts all in
+      All-cons (Under (a + suc n)) t ts (omega (arith, less)) (later ts (All-tail (Under ((a + 1) + n)) t ts all))
+
+  by_test : (b : Bool) → All (Under (a + suc n)) (where_true f (range_with_len (a + 1) n)) →
+      All (Under (a + suc n)) (if b then a ∷ where_true f (range_with_len (a + 1) n) else where_true f (range_with_len (a + 1) n))
+  by_test true rest = All-cons (Under (a + suc n)) a (where_true f (range_with_len (a + 1) n)) (omega arith) rest
+  by_test false rest = rest
+
+few_if : (b : Bool) (t k : ℕ) (l : List ℕ) → length l ≤ k → length (if b then t ∷ l else l) ≤ suc k
+few_if true t k l few = omega (arith, few)
+few_if false t k l few = omega (arith, few)
+
+few_true : (f : ℕ → Bool) (a n : ℕ) → length (where_true f (range_with_len a n)) ≤ n
+few_true f a zero = omega arith
+few_true f a (suc n) = few_if (f a) a n (where_true f (range_with_len (a + 1) n)) (few_true f (a + 1) n)
+
+lost_known : (d : ℕ) → IsDevice d → (k : ℕ) → k ≤ 64 → (ts : List ℕ) → All (Under (0 + k * 15)) ts → All Known (map (lines.Lost d) ts)
+lost_known d n k most [] all = All-nil Known
+lost_known d n k most (t ∷ ts) all =
+    let less : t < 0 + k * 15 = All-head (Under (0 + k * 15)) t ts all in
+    All-cons Known (lines.Lost d t) (map (lines.Lost d) ts) (λ r. (n, omega (arith, most, less)))
+    (lost_known d n k most ts (All-tail (Under (0 + k * 15)) t ts all))
+
+module _ (s : MarksStore) (number : IsDevice s.device) (small : s.cylinders ≤ 64) (reads : s.counts.reads ≤ 1033065725952)
+    (writes : s.counts.writes ≤ 1033065725952) where
+  few_lost : length (lost_tracks s) < 2 ^ 16
+  few_lost = let few = few_true (is_lost s) 0 (s.cylinders * 15) in omega (arith, few, small)
+
+  end_known : (o : Option ℕ) → IfSome o IsDevice → All Known (device_lines (device_end_by s o))
+  end_known (Some to) lent = one (lines.Device s.device (totals.Lent to)) (λ r. (number, lent))
+  end_known None lent =
+      All-cons Known (lines.Device s.device (totals.Calls s.counts.reads s.counts.writes (length (lost_tracks s)))) (map (lines.Lost s.device) (lost_tracks s))
+      (λ r. (number, (omega (arith, reads), omega (arith, writes), few_lost)))
+      (lost_known s.device number s.cylinders small (lost_tracks s) (more_track (is_lost s) 0 (s.cylinders * 15)))
+
+abbrev FewReads : MarksDevice → Type 0
+FewReads d = d.store.counts.reads ≤ 1033065725952
+
+abbrev FewWrites : MarksDevice → Type 0
+FewWrites d = d.store.counts.writes ≤ 1033065725952
+
+abbrev mounted_devices : List Mounted → List MarksDevice
+mounted_devices ms = map (λ (m : Mounted). m.device) ms
+
+ends_known : (ms : List Mounted) → AreSo Sized ms → AllSo FewReads (mounted_devices ms) → AllSo FewWrites (mounted_devices ms) →
+    All Known (flat_map device_lines (map device_end ms))
+ends_known [] s r w = All-nil Known
+ends_known (m ∷ ms) s r w =
+    All-append Known (device_lines (device_end m)) (flat_map device_lines (map device_end ms))
+    (end_known m.device.store s.0.device s.0.cylinders r.0 w.0 m.device.store.lent s.0.lent) (ends_known ms s.1 r.1 w.1)
+
+-- a declared device is one that is mounted
+declared_device : (ms : List Mounted) → AreSo Sized ms → (n : ℕ) → is_declared (map outline_of (map audited (mounted_devices ms))) n ≡ true → IsDevice n
+declared_device [] s n is = absurd (cc)
+declared_device (m ∷ ms) s n is = by_test (m.device.store.device == n) refl is (declared_device ms s.1 n) where
+  rest : List Outline
+  rest = map outline_of (map audited (mounted_devices ms))
+
+  by_test : (b : Bool) → (m.device.store.device == n) ≡ b →
+      holds (if b then Some (outline_of (audited m.device)) else outline_in rest n) (λ (a : Outline). true) ≡ true →
+      (is_declared rest n ≡ true → IsDevice n) → IsDevice n
+  by_test true same is more = subst IsDevice (eqb-true m.device.store.device n same) s.0.device
+  by_test false other is more = more is
+
+module _ (s : Subsystem) (sized : AreSo Sized s.mounted) where
+  abbrev IsDeclared : Frame → Type 0
+  IsDeclared f = is_declared (outlines (stand s [])) f.0.0 ≡ true
+
+  frames_known : (fs : List Frame) → All IsDeclared fs → All Known (map frame_line fs)
+  frames_known [] all = All-nil Known
+  frames_known (f ∷ fs) all =
+      All-cons Known (frame_line f) (map frame_line fs) (λ r. (declared_device s.mounted sized f.0.0 (All-head IsDeclared f fs all), r))
+      (frames_known fs (All-tail IsDeclared f fs all))
+
+  ending_known : FramesAreDeclared s → AllSo FewReads (devices_of s) → AllSo FewWrites (devices_of s) → All Known (ending_lines (ending s))
+  ending_known frames reads writes =
+      let e = ending s in
+      All-append Known (flat_map device_lines e.devices) (map frame_line e.frames ++ lines.Finish ∷ []) (ends_known s.mounted sized reads writes)
+      (All-append Known (map frame_line e.frames) (lines.Finish ∷ []) (frames_known e.frames frames) (one lines.Finish (λ r. tt)))
+
+-- The whole
+
+module _ (text : List ℕ) (deck : DeckLines) (read : parsed text ≡ Ok deck) where
+  first_ranged : AllRanged (opened deck)
+  first_ranged =
+      all_so (opened deck).mounted (opened_plain deck deck.devices (read_served text deck read).devices) (first_sized text deck read)
+
+  events_known : All Known (lines_of_run (run_of deck))
+  unfolding D.run_asked
+  events_known =
+      let asked = map asked_by deck.events in
+      let ts = run_lines asked (opened deck) in
+      let linked = lines_linked asked (opened deck) in
+      let ranged = both_ranged (opened deck) ts linked first_ranged
+      (both_behind Sized Plainly Ranged both_so ts (run_sized text deck read) (run_stays_plain deck (read_served text deck read)))
+      in
+      all_known ts ranged (run_has_few text deck read) (run_names text deck read) (run_moves deck)
+      (all_answer (opened deck) ts linked (lines_keep (λ s. Unit {0}) AnswersSo answers_go asked (opened deck) tt) ranged)
+      (run_tells_of_waiting deck (read_served text deck read) (read_numbered text deck read))
+
+  pub report_known : All Known (report_lines (run_of deck))
+  report_known =
+      let r = run_of deck in
+      All-append Known (lines_of_run r) (ending_lines (ending r.behind)) events_known
+      (ending_known r.behind (sized_behind text deck read) (frames_are_declared deck) (read_run_reads_few text deck read)
+      (read_run_writes_few text deck read))
+
+known_are : (ls : List ReportLine) → All Known ls → All RestIsIn ls → All IsLine ls
+known_are [] known rest = All-nil IsLine
+known_are (l ∷ ls) known rest =
+    All-cons IsLine l ls (All-head Known l ls known (All-head RestIsIn l ls rest)) (known_are ls (All-tail Known l ls known) (All-tail RestIsIn l ls rest))
+
+pub report_is_in_range : (text : List ℕ) (deck : DeckLines) → parsed text ≡ Ok deck → All RestIsIn (report_lines (run_of deck)) →
+    All IsLine (report_lines (run_of deck))
+report_is_in_range text deck read rest = known_are (report_lines (run_of deck)) (report_known text deck read) rest
