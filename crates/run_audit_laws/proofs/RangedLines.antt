@@ -1,6 +1,6 @@
 -- The paths and devices that the lines of an event name are in their ranges.
-use Rattle.std.proofs.Common.{◌≡◌, ◌≤◌, ◌<◌, ◌+◌, ◌==◌, ◌++◌, zero, suc, ℕ, Bool, true, false, List, [], ◌∷◌, length, map, Option, Some, None, refl, if◌then◌else◌, arith}
-use Rattle.std.specs.Prelude.{◌&&◌, ◌^◌, not, All, IfSome, option_map}
+use Rattle.std.proofs.Common.{◌≤◌, ◌+◌, ◌==◌, ◌++◌, zero, suc, ℕ, Bool, true, false, List, [], ◌∷◌, length, map, Option, Some, None, refl, if◌then◌else◌, arith}
+use Rattle.std.specs.Prelude.{◌&&◌, not, All, IfSome, option_map}
 use Rattle.std.proofs.lemmas.List.Elements.{All-append, All-cons, All-head, All-nil, All-tail}
 use Rattle.ckd_types.specs.declared.channel.CommandEnd.{CommandEnd}
 use Rattle.ckd_types.specs.declared.sense.Sense.{Sense}
@@ -30,7 +30,7 @@ use Rattle.report_text.specs.Ends.{data_lines, end_line, sense_lines}
 use Rattle.report_text.specs.Events.{first_lines, io_lines, last_line, line_if, loosed_line, program_over_lines}
 use Rattle.report_reading.specs.Ranges.{AreBytes, IsAnswer, IsDevice, IsLine, IsLong, IsOrder, IsOver, IsPath, IsShort, IsStart}
 use Rattle.run_report.specs.declared.told.RunningProgram.{RunningProgram}
-use Rattle.run_report.specs.Answers.{order_answer, start_answer}
+use Rattle.run_report.specs.Answers.{order_answer}
 use Rattle.run_report.specs.Beside.{how_over, id_of, loose_lines, loosed, of_each, over_lines, over_of, power_lines}
 use Rattle.run_report.specs.Events.{end_told, event_lines, half_told, running_by, running_in, running_program, told, work_lines, work_told}
 use Rattle.subsystem_defs.specs.declared.end.EventEnd.{EventEnd}
@@ -45,7 +45,7 @@ use Rattle.run_audit_laws.specs.Ranges.{RestIsIn, RestOfStart}
 use Rattle.run_audit_laws.proofs.NamedEvents.{Names}
 use Rattle.run_audit_laws.proofs.RangedDevices.{Ranged, device_ranged, few_programs}
 use Rattle.run_audit_laws.proofs.RunEnds.{few_of}
-use Rattle.run_audit_laws.proofs.RangedEnds.{Answers, AnswersOnce, OrderIn, StartIn}
+use Rattle.run_audit_laws.proofs.RangedEnds.{Answers, AnswersOnce, OrderIn}
 
 -- with what isn't shown of it, it is in its ranges
 abbrev pub Known : ReportLine → Type 0
