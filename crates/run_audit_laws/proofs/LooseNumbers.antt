@@ -8,19 +8,17 @@ use Rattle.plain_defs.specs.declared.journal.Act.TheVariants.{CfwLost, Harden, L
 use Rattle.plain_defs.specs.declared.journal.Acted.{Acted}
 use Rattle.plain_defs.specs.declared.journal.Item.{Item}
 use Rattle.plain_defs.specs.declared.journal.Item.TheVariants as items
-use Rattle.plain_defs.specs.Entry.{ProgramEntry}
-use Rattle.plain_defs.specs.History.{History, OpenEntry, open_part, plain_of, state_by}
+use Rattle.plain_defs.specs.History.{OpenEntry, state_by}
 use Rattle.plain_defs.specs.Journal.{Plans, effects_of, program_of, replay, replay_item}
-use Rattle.plain_defs.specs.Loose.{act_done, lost_by_power, next_number, power_off}
+use Rattle.plain_defs.specs.Loose.{act_done, lost_by_power, next_number}
 use Rattle.plain_defs.specs.PlainState.{LooseTrack, PlainState}
 use Rattle.plain_defs.specs.Program as G
-use Rattle.plain_defs.specs.Program.{Part, acted, acted_at, acts_at, first_part, one_more, part_of, stepped, stepped_at, with_act, with_acts}
+use Rattle.plain_defs.specs.Program.{Part, acted_at, acts_at, first_part, part_of, stepped, stepped_at, with_act, with_acts}
 use Rattle.device_defs.specs.Marks.{MarksDevice}
 use Rattle.report_reading.specs.Ranges.{IsShort}
 use Rattle.subsystem_defs.specs.Beside.{loose_count}
 use Rattle.subsystem_defs.specs.Promised.{empty_of}
 use Rattle.subsystem_laws.proofs.PlainRuns.{Plainly}
-use Rattle.run_audit_laws.specs.Standing.{audited}
 use Rattle.run_audit_laws.proofs.KnownDevices.{known}
 
 abbrev Small : PlainState → Type 0

@@ -1,5 +1,5 @@
 -- The paths and devices that the events of a deck that was read name are in their ranges.
-use Rattle.std.proofs.Common.{◌≡◌, ◌≤◌, ◌<◌, ◌==◌, zero, suc, ℕ, Bool, true, false, List, [], ◌∷◌, ◌++◌, map, Ok, refl, sym, ap, subst, ◌∙◌}
+use Rattle.std.proofs.Common.{◌≡◌, ◌<◌, ◌==◌, zero, suc, ℕ, Bool, true, false, List, [], ◌∷◌, map, Ok, refl, subst}
 use Rattle.std.specs.Prelude.{◌||◌, All, Result}
 use Rattle.std.proofs.lemmas.Bool.{cond_both, eqb-true}
 use Rattle.std.proofs.lemmas.List.Elements.{All-append, All-cons, All-head, All-nil, All-tail}
@@ -24,28 +24,7 @@ use Rattle.subsystem_defs.specs.Decks as D
 use Rattle.subsystem_defs.specs.Decks.{opened, run_of}
 use Rattle.subsystem_defs.specs.Happening.{happens}
 use Rattle.subsystem_defs.specs.Lines as L
-use Rattle.subsystem_defs.specs.Lines.{
-  Asked,
-  Logged,
-  Once,
-  Replace,
-  Run,
-  Settle,
-  Unpair,
-  asked_by,
-  backs,
-  is_busy,
-  is_settled,
-  last_behind,
-  line_logged,
-  logged,
-  most_backs,
-  most_steps,
-  run_lines,
-  run_logged,
-  step_logged,
-  steps,
-}
+use Rattle.subsystem_defs.specs.Lines.{Asked, Logged, Once, Replace, Run, Settle, Unpair, asked_by, backs, is_busy, is_settled, last_behind, line_logged, logged, most_backs, most_steps, run_lines, step_logged, steps}
 use Rattle.subsystem_defs.specs.Subsystem.{Subsystem, mounted_in}
 use Rattle.subsystem_defs.specs.Happening.{quietly}
 use Rattle.subsystem_defs.specs.declared.end.EventEnd.TheVariants as ends

@@ -1,45 +1,16 @@
 -- What a start and each order of a run answer is in its range, but for whoever has a device reserved.
-use Rattle.std.proofs.Common.{
-  ◌≡◌,
-  ◌≤◌,
-  ◌<◌,
-  ◌+◌,
-  ◌-◌,
-  ◌*◌,
-  ◌==◌,
-  ℕ,
-  Bool,
-  true,
-  false,
-  List,
-  [],
-  ◌∷◌,
-  length,
-  map,
-  Option,
-  Some,
-  None,
-  is_some,
-  refl,
-  sym,
-  ap,
-  subst,
-  ◌∙◌,
-  if◌then◌else◌,
-  arith,
-}
+use Rattle.std.proofs.Common.{◌≡◌, ◌≤◌, ◌<◌, ◌+◌, ◌-◌, ◌*◌, ◌==◌, ℕ, Bool, true, false, List, [], ◌∷◌, length, map, Option, Some, None, is_some, refl, sym, subst, if◌then◌else◌, arith}
 use Rattle.std.specs.Prelude.{◌&&◌, All, IfSome, not}
 use Rattle.std.proofs.lemmas.Bool.{eqb-false}
-use Rattle.std.proofs.lemmas.List.Elements.{All-cons, All-head, All-nil, All-tail}
+use Rattle.std.proofs.lemmas.List.Elements.{All-head, All-tail}
 use Rattle.ckd_types.specs.declared.paths.Owner.{Owner}
 use Rattle.ckd_types.specs.declared.paths.Side.{Side}
 use Rattle.loss_model.specs.declared.Loss.TheVariants as losses
 use Rattle.plain_defs.specs.History.{IsOpen, OpenEntry}
 use Rattle.plain_defs.specs.Journal.{planned, replay}
-use Rattle.track_image.specs.Image.{Image}
 use Rattle.track_table.proofs.Counts.{few_marked}
 use Rattle.deck_text.proofs.DeckAgain.{Each}
-use Rattle.device_outside.specs.Interaction.{Ask, Done, Interaction, Read, Tell, Try, Write, and_then}
+use Rattle.device_outside.specs.Interaction.{Ask, Done, Read, Tell, Try, Write, and_then}
 use Rattle.device_outside.specs.Keeper.{reply}
 use Rattle.device_outside.specs.Pool.{Pool, after, answer, cache_failed, store_failed}
 use Rattle.device_outside.specs.Told as T
@@ -48,14 +19,13 @@ use Rattle.device_defs.specs.declared.answers.StartFault.{StartFault}
 use Rattle.device_defs.specs.declared.answers.StartFault.TheVariants as refusals
 use Rattle.device_defs.specs.Contents.{by_plain}
 use Rattle.device_defs.specs.Events.{lose}
-use Rattle.device_defs.specs.Marks.{MarksDevice, MarksStore}
+use Rattle.device_defs.specs.Marks.{MarksDevice}
 use Rattle.device_defs.specs.Orders.{hold, resume}
 use Rattle.device_defs.specs.Start as S
 use Rattle.device_defs.specs.Start.{fault_by, idle_fault, is_shut, keeps_out, left, next_ordinal, reserved_fault, running_fault, start, start_fault, started_count}
 use Rattle.device_defs.specs.Store.{side_of, stale_at, tracks_of}
-use Rattle.report_text.specs.declared.answers.StartAnswer.{StartAnswer}
-use Rattle.report_reading.specs.Ranges.{IsAnswer, IsFault, IsPath, IsStart}
-use Rattle.run_report.specs.Answers.{order_answer, refused_as, start_answer, start_refused}
+use Rattle.report_reading.specs.Ranges.{IsAnswer, IsFault, IsStart}
+use Rattle.run_report.specs.Answers.{order_answer, refused_as, start_answer}
 use Rattle.subsystem_defs.specs.declared.end.EventEnd.{EventEnd}
 use Rattle.subsystem_defs.specs.declared.end.EventEnd.TheVariants as ends
 use Rattle.subsystem_defs.specs.declared.end.OrderFault.{OrderFault}
@@ -67,7 +37,7 @@ use Rattle.subsystem_defs.specs.Deeds.{Asks, Becomes, Each as Sweeps, Ends, Lend
 use Rattle.subsystem_defs.specs.Happening as H
 use Rattle.subsystem_defs.specs.Happening.{MarksDeed, Talk, asks, happens, happens_by, replaced, replaced_at, replaced_by, unpaired, unpaired_at, unpaired_by}
 use Rattle.subsystem_defs.specs.Happening.{told_end}
-use Rattle.subsystem_defs.specs.Lines.{Asked, Logged, Once, Replace, Run, Settle, Unpair, logged}
+use Rattle.subsystem_defs.specs.Lines.{Asked, Logged, Once, Replace, Unpair}
 use Rattle.subsystem_defs.specs.Promised.{empty_of}
 use Rattle.subsystem_defs.specs.Refusals as R
 use Rattle.subsystem_defs.specs.Refusals.{active_by, fail_fault, first_cause, has_side, is_alike, lent_by, not_level_by, pair_fault, replace_fault, resume_fault, stale_count, suspend_fault, unpair_fault, where_so}

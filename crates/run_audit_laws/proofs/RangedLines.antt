@@ -1,6 +1,6 @@
 -- The paths and devices that the lines of an event name are in their ranges.
-use Rattle.std.proofs.Common.{◌≡◌, ◌≤◌, ◌<◌, ◌+◌, ◌==◌, ◌++◌, zero, suc, ℕ, Bool, true, false, List, [], ◌∷◌, length, map, Option, Some, None, refl, if◌then◌else◌, arith}
-use Rattle.std.specs.Prelude.{◌&&◌, ◌^◌, not, All, IfSome, option_map}
+use Rattle.std.proofs.Common.{◌≤◌, ◌+◌, ◌==◌, ◌++◌, zero, suc, ℕ, Bool, true, false, List, [], ◌∷◌, length, map, Option, Some, None, refl, if◌then◌else◌, arith}
+use Rattle.std.specs.Prelude.{◌&&◌, not, All, IfSome, option_map}
 use Rattle.std.proofs.lemmas.List.Elements.{All-append, All-cons, All-head, All-nil, All-tail}
 use Rattle.ckd_types.specs.declared.channel.CommandEnd.{CommandEnd}
 use Rattle.ckd_types.specs.declared.sense.Sense.{Sense}
@@ -8,11 +8,14 @@ use Rattle.hex.specs.Hex.{IsBytes}
 use Rattle.deck_text.proofs.DeckAgain.{Each}
 use Rattle.plain_defs.specs.declared.journal.Act.{Act}
 use Rattle.plain_defs.specs.declared.journal.Act.TheVariants.{CfwLost, Harden, Loosen}
+use Rattle.plain_defs.specs.declared.journal.How.{How}
+use Rattle.plain_defs.specs.declared.journal.How.TheVariants as hows
 use Rattle.plain_defs.specs.declared.journal.Item.{Item}
 use Rattle.plain_defs.specs.declared.journal.Item.TheVariants as items
+use Rattle.plain_defs.specs.Entry.{ProgramEntry}
 use Rattle.plain_defs.specs.History.{IsOpen, OpenEntry}
-use Rattle.plain_defs.specs.Journal.{Plans, planned, replay, replay_item}
-use Rattle.plain_defs.specs.Legal.{IsLegalFrom, IsLegalItem}
+use Rattle.plain_defs.specs.Journal.{Plans, planned, program_of, replay, replay_item}
+use Rattle.plain_defs.specs.Legal.{HasEnds, IsLegalFrom, IsLegalItem}
 use Rattle.plain_defs.specs.PlainState.{PlainState}
 use Rattle.device_defs.specs.declared.answers.SecondEnd.TheVariants as seconds
 use Rattle.device_defs.specs.declared.answers.Stepped.TheVariants as stepped
@@ -25,9 +28,9 @@ use Rattle.report_text.specs.declared.line.ReportLine.TheVariants as lines
 use Rattle.report_text.specs.declared.order.Order.TheVariants as orders
 use Rattle.report_text.specs.Ends.{data_lines, end_line, sense_lines}
 use Rattle.report_text.specs.Events.{first_lines, io_lines, last_line, line_if, loosed_line, program_over_lines}
-use Rattle.report_reading.specs.Ranges.{AreBytes, IsAnswer, IsDevice, IsLine, IsLong, IsOrder, IsPath, IsShort, IsStart}
+use Rattle.report_reading.specs.Ranges.{AreBytes, IsAnswer, IsDevice, IsLine, IsLong, IsOrder, IsOver, IsPath, IsShort, IsStart}
 use Rattle.run_report.specs.declared.told.RunningProgram.{RunningProgram}
-use Rattle.run_report.specs.Answers.{order_answer, start_answer}
+use Rattle.run_report.specs.Answers.{order_answer}
 use Rattle.run_report.specs.Beside.{how_over, id_of, loose_lines, loosed, of_each, over_lines, over_of, power_lines}
 use Rattle.run_report.specs.Events.{end_told, event_lines, half_told, running_by, running_in, running_program, told, work_lines, work_told}
 use Rattle.subsystem_defs.specs.declared.end.EventEnd.{EventEnd}
@@ -41,7 +44,8 @@ use Rattle.subsystem_defs.specs.Promised.{empty_of}
 use Rattle.run_audit_laws.specs.Ranges.{RestIsIn, RestOfStart}
 use Rattle.run_audit_laws.proofs.NamedEvents.{Names}
 use Rattle.run_audit_laws.proofs.RangedDevices.{Ranged, device_ranged, few_programs}
-use Rattle.run_audit_laws.proofs.RangedEnds.{Answers, AnswersOnce, OrderIn, StartIn}
+use Rattle.run_audit_laws.proofs.RunEnds.{few_of}
+use Rattle.run_audit_laws.proofs.RangedEnds.{Answers, AnswersOnce, OrderIn}
 
 -- with what isn't shown of it, it is in its ranges
 abbrev pub Known : ReportLine → Type 0
@@ -220,14 +224,26 @@ module _ (x y : MarksDevice) (r : Ranged x) (s : Ranged y) where
       (power_in (has_power (new_items x.history y.history))))
 
 abbrev ItemHasPath : Item → Type 0
-ItemHasPath (items.Program e) = IsPath e.path × IsShort e.ordinal
+ItemHasPath (items.Program e) = IsPath e.path × IsShort e.ordinal × IsOver (how_over e.how)
 ItemHasPath _ = Unit {0}
 
 module _ (plans : Plans) (few : (path : ℕ) → length (planned plans path) ≤ 512) where
+  -- a program that ran on behind fewer than 4,096 ends may have the effect of one command more
+  how_in : (state : PlainState) (e : ProgramEntry) (how : How) → HasEnds plans state e how → IsOver (how_over how)
+  how_in state e hows.Full h = tt
+  how_in state e (hows.Cut effect) h =
+      let less = (few_of e.path (program_of plans e.path e.ordinal) e.acts state (length e.ends) h.ran_on).few in
+      let most = h.most in
+      omega (arith, less, most)
+  how_in state e hows.Checked h = tt
+
   item_path : (state : PlainState) (earlier : List Item) (x : Item) (later : List Item) → IsLegalItem plans state earlier x later → ItemHasPath x
   item_path state earlier (items.Program e) later l =
-      let s = l.0.started in
-      (record { least = s.least; most = s.most }, few_programs e.ordinal (length (planned plans e.path)) s.in_plan (few e.path))
+      let s = l.0.started in (
+        record { least = s.least; most = s.most },
+        few_programs e.ordinal (length (planned plans e.path)) s.in_plan (few e.path),
+        how_in state e e.how l.0.ends,
+      )
   item_path state earlier (items.Reset path) later l = tt
   item_path state earlier items.Fresh later l = tt
   item_path state earlier (items.Act act) later l = tt
@@ -245,7 +261,7 @@ rest_paths (suc n) (x ∷ xs) p = rest_paths n xs p.1
 
 over_known : (d : ℕ) → IsDevice d → (xs : List Item) → Each ItemHasPath xs → All Known (program_over_lines (over_of d xs))
 over_known d k [] p = All-nil Known
-over_known d k (items.Program e ∷ xs) p = one (lines.Over e.path d e.ordinal (how_over e.how)) (λ r. (p.0.0, k, p.0.1, r))
+over_known d k (items.Program e ∷ xs) p = one (lines.Over e.path d e.ordinal (how_over e.how)) (λ r. (p.0.0, k, p.0.1, p.0.2))
 over_known d k (items.Reset path ∷ xs) p = All-nil Known
 over_known d k (items.Fresh ∷ xs) p = All-nil Known
 over_known d k (items.Act act ∷ xs) p = All-nil Known

@@ -1,42 +1,9 @@
 -- What is shown of the ranges of a whole report's lines.
-use Rattle.std.proofs.Common.{
-  ◌≡◌,
-  ◌≤◌,
-  ◌<◌,
-  ◌+◌,
-  ◌*◌,
-  ◌==◌,
-  ◌++◌,
-  ◌⊎◌,
-  zero,
-  suc,
-  ℕ,
-  Bool,
-  true,
-  false,
-  List,
-  [],
-  ◌∷◌,
-  length,
-  map,
-  Option,
-  Some,
-  None,
-  Ok,
-  is_some,
-  refl,
-  sym,
-  subst,
-  inl,
-  inr,
-  if◌then◌else◌,
-  arith,
-}
+use Rattle.std.proofs.Common.{◌≡◌, ◌≤◌, ◌<◌, ◌+◌, ◌*◌, ◌==◌, ◌++◌, zero, suc, ℕ, Bool, true, false, List, [], ◌∷◌, length, map, Option, Some, None, Ok, is_some, refl, sym, subst, inl, inr, if◌then◌else◌, arith}
 use Rattle.std.specs.Prelude.{◌^◌, All, IfSome}
 use Rattle.std.specs.List.{flat_map, range_with_len}
 use Rattle.std.proofs.lemmas.Bool.{eqb-true}
 use Rattle.std.proofs.lemmas.List.Elements.{All-append, All-cons, All-head, All-nil, All-tail}
-use Rattle.deck_text.specs.declared.line.DeviceLine.{DeviceLine}
 use Rattle.deck_text.specs.DeckLines.{DeckLines}
 use Rattle.deck_text.specs.Parse.{parsed}
 use Rattle.track_table.proofs.Counts.{few_marked}
@@ -55,7 +22,7 @@ use Rattle.report_places.specs.Place.{holds, is_declared, outline_in}
 use Rattle.report_text.specs.declared.answers.DeviceTotals.TheVariants as totals
 use Rattle.report_text.specs.declared.line.ReportLine.{ReportLine}
 use Rattle.report_text.specs.declared.line.ReportLine.TheVariants as lines
-use Rattle.report_reading.specs.Ranges.{IsDevice, IsLine, IsLong, IsShort, IsTrack}
+use Rattle.report_reading.specs.Ranges.{IsDevice, IsLine, IsLong}
 use Rattle.run_report.specs.Closing.{device_lines, ending_lines, frame_line}
 use Rattle.run_report.specs.Events.{lines_of}
 use Rattle.run_report.specs.Report.{lines_of_run, report_lines}
@@ -64,7 +31,7 @@ use Rattle.subsystem_defs.specs.declared.end.EventEnd.{EventEnd}
 use Rattle.subsystem_defs.specs.declared.end.EventEnd.TheVariants as ends
 use Rattle.subsystem_defs.specs.declared.event.Event.{Event}
 use Rattle.subsystem_defs.specs.declared.event.Event.TheVariants as events
-use Rattle.subsystem_defs.specs.Closing.{Counted, DeviceEnd, Ending, LentTo, device_end, device_end_by, ending, lost_tracks, where_true}
+use Rattle.subsystem_defs.specs.Closing.{device_end, device_end_by, ending, lost_tracks, where_true}
 use Rattle.subsystem_defs.specs.Decks as D
 use Rattle.subsystem_defs.specs.Decks.{opened, run_of}
 use Rattle.subsystem_defs.specs.Deeds.{device_in}

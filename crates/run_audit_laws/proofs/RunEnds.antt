@@ -84,9 +84,9 @@ below_limit c o is =
     leb-false 4096 o.stance.commands
     (or_left (nat_le 4096 o.stance.commands) (nat_le 1048576 o.stance.moved) (or_right (not (would_go_on c o.ending)) (at_limit o.stance) is))
 
-record Few (k : ℕ) (p : Part) : Type 0 where
-  counted : p.stance.commands ≡ k
-  few : k < 4096
+pub record Few (k : ℕ) (p : Part) : Type 0 where
+  pub counted : p.stance.commands ≡ k
+  pub few : k < 4096
 
 module _ (path : ℕ) (ccws : List Ccw) (acts : List Acted) (state : PlainState) where
   more_few : (k : ℕ) (n : Option ℕ) → (part_of state path ccws acts k).next ≡ n →
@@ -110,7 +110,7 @@ module _ (path : ℕ) (ccws : List Ccw) (acts : List Acted) (state : PlainState)
       let counted = earlier.counted in
       record { counted = stance_is ∙ one ∙ omega (arith, counted); few = omega (arith, less, one, counted) }
 
-  few_of : (k : ℕ) → IsSome (part_of state path ccws acts k).next → Few k (part_of state path ccws acts k)
+  pub few_of : (k : ℕ) → IsSome (part_of state path ccws acts k).next → Few k (part_of state path ccws acts k)
   unfolding part_of
   few_of zero some = record { counted = ap (λ (s : Stance). s.commands) (acted_beside acts (first_part state path ccws)).stance; few = omega arith }
   few_of (suc k) some = more_few k (part_of state path ccws acts k).next refl (few_of k) some

@@ -1,5 +1,5 @@
 -- What isn't shown to be in its range of a line of a run's report. That its paths, devices and ordinals are is shown, and that all is of what orders
--- answer, of CFW LOST and of STEP IDLE, RUN IDLE, RESET, IO, DEVICE and LOST.
+-- answer, of CFW LOST, of OVER and of STEP IDLE, RUN IDLE, RESET, IO, DEVICE and LOST.
 use Rattle.std.specs.Prelude.{◌<◌, ℕ}
 use Rattle.hex.specs.Hex.{IsBytes}
 use Rattle.report_text.specs.declared.answers.LooseAnswer.{LooseAnswer}
@@ -9,7 +9,7 @@ use Rattle.report_text.specs.declared.answers.StartAnswer.TheVariants as start
 use Rattle.report_text.specs.declared.line.EndLine.{EndLine}
 use Rattle.report_text.specs.declared.line.ReportLine.{ReportLine}
 use Rattle.report_text.specs.declared.line.ReportLine.TheVariants as lines
-use Rattle.report_reading.specs.Ranges.{AreBytes, IsBack, IsOver, IsOwner, IsShort, IsTrack}
+use Rattle.report_reading.specs.Ranges.{AreBytes, IsBack, IsOwner, IsShort, IsTrack}
 
 pub record EndIsIn (e : EndLine) : Type 0 where
   pub index : IsShort e.index
@@ -35,6 +35,5 @@ RestIsIn (lines.Sense sense) = AreBytes 32 sense.bytes
 RestIsIn (lines.Half path device track) = IsTrack track
 RestIsIn (lines.Back device answer) = IsBack answer
 RestIsIn (lines.Loose device answer) = RestOfLoose answer
-RestIsIn (lines.Over path device ordinal how) = IsOver how
 RestIsIn (lines.Frame device track modified) = IsTrack track
 RestIsIn _ = Unit {0}

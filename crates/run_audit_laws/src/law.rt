@@ -131,7 +131,8 @@ pub fn report_has_form()
     ensures { (deck : DeckLines) → All (λ (line : ReportLine). has_form line ≡ true) (report_lines (run_of deck)) }
 {}
 
-/// Each number and byte of the report of a deck that was read is in its range, where those are of which that isn't shown.
+/// All numbers and bytes of the report of a deck that was read are in their ranges, where these few are: tracks of HALF, BACK, CFW and FRAME, index, status
+/// and residual of each END, the bytes of DATA and SENSE, and who has a device reserved.
 pub fn report_is_in_range()
     ensures { (text : List ℕ) (deck : DeckLines) → parsed text ≡ Ok deck → All RestIsIn (report_lines (run_of deck)) → All IsLine (report_lines (run_of deck)) }
 {}
@@ -145,7 +146,7 @@ pub fn own_report_is_yes()
 }
 
 /// So does the audit of the text of such a deck, all of whose lines are ended, with a line REPORT and the report of its run behind it, where both have
-/// at most 268,435,456 bytes, and none of the numbers and bytes of the report is out of its range of which that isn't shown.
+/// at most 268,435,456 bytes and these few numbers and bytes of the report are in their ranges.
 pub fn own_text_is_yes()
     ensures { (text : List ℕ) (deck : DeckLines) → parsed text ≡ Ok deck → IsEnded text → length (own_text text deck) ≤ 268435456
         → All RestIsIn (report_lines (run_of deck)) → AllMayFollow None (opened deck) deck.events → AllAreOver (opened deck) deck.events
