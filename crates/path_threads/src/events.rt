@@ -1,0 +1,171 @@
+ghost use Rattle.std.specs.Prelude.{◌≡◌, None, false, is_some, true};
+ghost use Rattle.plain_defs.specs.History.{is_path_of};
+ghost use Rattle.device_core.specs.State.{device_of};
+ghost use Rattle.path_threads.specs.Keeping.{Moves};
+
+use ckd_types::{NoMemory, PathNo};
+use device_core::{Device, HalfOrigin, NotStarted};
+use device_defs::StartFault;
+use device_outside::{Gate, Port, Volume};
+
+/// What came of a look at a device.
+#[derive(Clone, Copy, Debug, PartialEq, Eq)]
+pub(crate) enum Came {
+    /// An event was done.
+    Went,
+    /// Others have the device, or hold it: this one tries again.
+    Again,
+    /// Nothing is left to do here.
+    Over,
+    /// Memory is wanting.
+    Lacked,
+}
+
+/// The events of a path's worker: through which gate they go, and how many there were.
+pub(crate) struct Visitor<'a, G: Gate> {
+    pub path: PathNo,
+    pub gate: &'a G,
+    pub calls: u64,
+}
+
+impl<'a, G: Gate> Visitor<'a, G> {
+    fn before<V: Volume>(&mut self, device: &Device<V>)
+        ensures { (self.new.path ≡ self.old.path) × (self.new.gate ≡ self.old.gate) }
+    {
+        self.calls = self.calls.saturating_add(1);
+        self.gate
+            .before_transfer(self.path, device.number(), self.calls);
+    }
+
+    fn after<V: Volume>(&self, device: &Device<V>) {
+        self.gate
+            .after_transfer(self.path, device.number(), self.calls);
+    }
+}
+
+fn fault_came(fault: StartFault) -> Came {
+    match fault {
+        StartFault::Busy { .. } => Came::Again,
+        StartFault::Reserved { .. } => Came::Again,
+        StartFault::Secondary { .. } => Came::Over,
+        StartFault::PlanDone => Came::Over,
+        StartFault::Shut { .. } => Came::Over,
+    }
+}
+
+fn start_came(outcome: Result<u16, NotStarted>) -> Came {
+    match outcome {
+        Ok(_) => Came::Went,
+        Err(NotStarted::NoMemory) => Came::Lacked,
+        Err(NotStarted::Refused(fault)) => fault_came(fault),
+    }
+}
+
+/// A command's end, or the first part of its write.
+fn step_came<T>(outcome: Result<T, NoMemory>) -> Came {
+    match outcome {
+        Ok(_) => Came::Went,
+        Err(NoMemory) => Came::Lacked,
+    }
+}
+
+/// The next program of the path starts, where nothing keeps it out.
+fn start_next<V: Volume, G: Gate>(device: &mut Device<V>, visitor: &mut Visitor<G>) -> Came
+    requires idle { (device_of device.old).history.running ≡ None }
+    ensures path { visitor.new.path ≡ visitor.old.path }
+    ensures moves { Moves visitor.old.path device.old device.new }
+{
+    if let Some(fault) = device.start_fault(visitor.path) {
+        return fault_came(fault);
+    }
+    visitor.before(device);
+    let outcome = device.start(visitor.path);
+    visitor.after(device);
+    start_came(outcome)
+}
+
+/// A command of the path's program that runs.
+fn command<V: Volume, P: Port, G: Gate>(
+    device: &mut Device<V>,
+    visitor: &mut Visitor<G>,
+    port: &mut P,
+) -> Came
+    requires home { (device_of device.old).store.lent ≡ None }
+    requires runs { is_path_of (device_of device.old).history.running visitor.old.path ≡ true }
+    requires whole { is_some (device_of device.old).store.half ≡ false }
+    ensures path { visitor.new.path ≡ visitor.old.path }
+    ensures moves { Moves visitor.old.path device.old device.new }
+{
+    visitor.before(device);
+    let outcome = device.command(port);
+    visitor.after(device);
+    step_came(outcome)
+}
+
+/// The other part of the write of the path's command.
+fn second<V: Volume, P: Port, G: Gate>(
+    device: &mut Device<V>,
+    visitor: &mut Visitor<G>,
+    port: &mut P,
+) -> Came
+    requires home { (device_of device.old).store.lent ≡ None }
+    requires runs { is_path_of (device_of device.old).history.running visitor.old.path ≡ true }
+    ensures path { visitor.new.path ≡ visitor.old.path }
+    ensures moves { Moves visitor.old.path device.old device.new }
+{
+    visitor.before(device);
+    device.second(port);
+    visitor.after(device);
+    Came::Went
+}
+
+/// Whether the open half write is of the command of the program that runs.
+fn is_of_command<V: Volume>(device: &Device<V>) -> bool {
+    match device.half_of() {
+        Some((_, origin)) => origin == HalfOrigin::Command,
+        None => false,
+    }
+}
+
+/// The other part of the path's own write; another worker's is waited for.
+fn half_event<V: Volume, P: Port, G: Gate>(
+    device: &mut Device<V>,
+    visitor: &mut Visitor<G>,
+    port: &mut P,
+) -> Came
+    requires home { (device_of device.old).store.lent ≡ None }
+    ensures path { visitor.new.path ≡ visitor.old.path }
+    ensures moves { Moves visitor.old.path device.old device.new }
+{
+    if is_of_command(device) && device.active() == Some(visitor.path) {
+        return second(device, visitor, port);
+    }
+    Came::Again
+}
+
+/// One event of a path at a device, where one is due: its half write comes first, then its program that runs, then its next
+/// one. Half writes of others are waited for, and so is a path that holds the device.
+pub(crate) fn path_event<V: Volume, P: Port, G: Gate>(
+    device: &mut Device<V>,
+    visitor: &mut Visitor<G>,
+    port: &mut P,
+) -> Came
+    ensures path { visitor.new.path ≡ visitor.old.path }
+    ensures moves { Moves visitor.old.path device.old device.new }
+{
+    if device.lent_to().is_some() {
+        return Came::Over;
+    }
+    if device.half_open() {
+        return half_event(device, visitor, port);
+    }
+    match device.active() {
+        None => start_next(device, visitor),
+        Some(path) => {
+            if path == visitor.path {
+                return command(device, visitor, port);
+            }
+            Came::Again
+        }
+    }
+}

@@ -1,0 +1,185 @@
+ghost use Rattle.std.specs.Prelude.{◌≡◌, ◌<◌, AllZip, IfOk, OnOk, vec_len};
+ghost use Rattle.device_core.specs.State.{device_of};
+ghost use Rattle.device_defs.specs.Pledge.{seat_counts};
+ghost use Rattle.device_turn.specs.Rule.{zeros};
+ghost use Rattle.path_threads.specs.Keeping.{Stays};
+ghost use Rattle.path_threads.specs.Seating.{AreSet, IsPromise, IsSet};
+
+use crate::promise::{DeviceSeat, DeviceTurn, Promise};
+use ckd_types::NoMemory;
+use device_core::Device;
+use device_defs::Losses;
+use device_outside::Volume;
+use device_turn::Turn;
+use std::alloc::Global;
+use std::snapshot::Snapshot;
+
+/// A turn with the seats of its six workers: the operator's is the first.
+pub(crate) struct Setting<V: Volume> {
+    pub turn: DeviceTurn<V>,
+    pub operator: DeviceSeat<V>,
+    pub first: DeviceSeat<V>,
+    pub second: DeviceSeat<V>,
+    pub third: DeviceSeat<V>,
+    pub fourth: DeviceSeat<V>,
+    pub background: DeviceSeat<V>,
+}
+
+/// The turns of all devices, in their order, and the seats of each worker at them.
+pub(crate) struct Table<V: Volume> {
+    pub turns: Vec<DeviceTurn<V>>,
+    pub operator: Vec<DeviceSeat<V>>,
+    pub seats: Seats<V>,
+}
+
+pub(crate) struct Seats<V: Volume> {
+    pub first: Vec<DeviceSeat<V>>,
+    pub second: Vec<DeviceSeat<V>>,
+    pub third: Vec<DeviceSeat<V>>,
+    pub fourth: Vec<DeviceSeat<V>>,
+    pub background: Vec<DeviceSeat<V>>,
+}
+
+/// A device stands in a turn, with a seat for each worker.
+fn set<V: Volume>(
+    alloc: Global,
+    device: Device<V>,
+    promise: &Promise<V>,
+) -> Result<Setting<V>, NoMemory>
+    requires stays { Stays promise.now device }
+    requires unused { seat_counts (device_of device) ≡ zeros }
+    ensures { IfOk result (IsSet promise.now) }
+{
+    let (turn, mut operator) = match Turn::make(alloc, device, promise) {
+        Err((NoMemory, _)) => return Err(NoMemory),
+        Ok(made) => made,
+    };
+    let first = turn.split(&mut operator);
+    let second = turn.split(&mut operator);
+    let third = turn.split(&mut operator);
+    let fourth = turn.split(&mut operator);
+    let background = turn.split(&mut operator);
+    Ok(Setting {
+        turn,
+        operator,
+        first,
+        second,
+        third,
+        fourth,
+        background,
+    })
+}
+
+/// The operator's seat takes in the next one.
+fn take_in<V: Volume>(turn: &DeviceTurn<V>, operator: &mut DeviceSeat<V>, gone: DeviceSeat<V>)
+{
+    turn.join(operator, gone);
+}
+
+/// The device leaves its turn, once all seats have come home.
+fn clear<V: Volume>(setting: Setting<V>) -> Device<V>
+    ensures { (p : Promise V) → IsSet p setting → Stays p result }
+{
+    let Setting {
+        turn,
+        mut operator,
+        first,
+        second,
+        third,
+        fourth,
+        background,
+    } = setting;
+    take_in(&turn, &mut operator, first);
+    take_in(&turn, &mut operator, second);
+    take_in(&turn, &mut operator, third);
+    take_in(&turn, &mut operator, fourth);
+    take_in(&turn, &mut operator, background);
+    turn.close(operator)
+}
+
+impl<V: Volume> Table<V> {
+    fn new(alloc: Global) -> Table<V> {
+        Table {
+            turns: Vec::new(alloc),
+            operator: Vec::new(alloc),
+            seats: Seats {
+                first: Vec::new(alloc),
+                second: Vec::new(alloc),
+                third: Vec::new(alloc),
+                fourth: Vec::new(alloc),
+                background: Vec::new(alloc),
+            },
+        }
+    }
+
+    fn push(&mut self, setting: Setting<V>) -> Result<(), NoMemory> {
+        let Setting {
+            turn,
+            operator,
+            first,
+            second,
+            third,
+            fourth,
+            background,
+        } = setting;
+        self.turns.push(turn)?;
+        self.operator.push(operator)?;
+        self.seats.first.push(first)?;
+        self.seats.second.push(second)?;
+        self.seats.third.push(third)?;
+        self.seats.fourth.push(fourth)?;
+        self.seats.background.push(background)?;
+        Ok(())
+    }
+
+    fn pop(&mut self) -> Setting<V> {
+        Setting {
+            turn: self.turns.pop().unwrap(),
+            operator: self.operator.pop().unwrap(),
+            first: self.seats.first.pop().unwrap(),
+            second: self.seats.second.pop().unwrap(),
+            third: self.seats.third.pop().unwrap(),
+            fourth: self.seats.fourth.pop().unwrap(),
+            background: self.seats.background.pop().unwrap(),
+        }
+    }
+}
+
+/// The losses that a device has and those that may still come.
+pub(crate) fn most_of(has: Losses, more: Losses) -> Losses {
+    Losses {
+        cache: has.cache.saturating_add(more.cache),
+        store: has.store.saturating_add(more.store),
+        sides: has.sides.saturating_add(more.sides),
+    }
+}
+
+/// Each device stands in a turn.
+pub(crate) fn set_all<V: Volume>(
+    alloc: Global,
+    devices: Vec<Device<V>>,
+) -> Result<Table<V>, NoMemory> {
+    let mut table = Table::new(alloc);
+    for device in devices {
+        let promise = Promise {
+            made: Snapshot::of(&device),
+            most: device.losses(),
+        };
+        let setting = set(alloc, device, &promise)?;
+        table.push(setting)?;
+    }
+    Ok(table)
+}
+
+/// The devices, in their order.
+pub(crate) fn clear_all<V: Volume>(
+    alloc: Global,
+    mut table: Table<V>,
+) -> Result<Vec<Device<V>>, NoMemory> {
+    let mut devices = Vec::new(alloc);
+    for _ in 0..table.turns.len() {
+        let setting = table.pop();
+        devices.insert(0, clear(setting))?;
+    }
+    Ok(devices)
+}
