@@ -22,6 +22,7 @@ pub(crate) enum Came {
 }
 
 /// The events of a path's worker: through which gate they go, and how many there were.
+#[derive(Drop)]
 pub(crate) struct Visitor<'a, G: Gate> {
     pub path: PathNo,
     pub gate: &'a G,

@@ -37,6 +37,7 @@ impl Shared {
 }
 
 /// The pool as the workers see it: locked for each call, and so never while a volume is called. It tells no pool.
+#[derive(Drop)]
 pub(crate) struct SharedPool<'a, R: Wait> {
     rt: &'a R,
     pool: &'a Mutex<Pool>,

@@ -1,0 +1,100 @@
+-- What holds behind the run of a device's event over a port that tells no pool, where memory is had and its volumes tell what they hold: the step over
+-- marks has a device beside it of which holds what always holds behind that step.
+use Rattle.std.proofs.Common.{◌≡◌, ℕ, Bool, true, false, List, Option, Some, None, set, get_or, refl, ap, sym, subst, ◌∙◌}
+use Rattle.std.proofs.lemmas.List.{get_or_default}
+use Rattle.ckd_types.specs.declared.paths.Side.{Side}
+use Rattle.ckd_types.specs.declared.paths.Side.TheVariants as sides
+use Rattle.device_outside.specs.Both.{Both, both_done, both_try, both_ask, both_free, both_read, both_write, both_tell}
+use Rattle.device_outside.specs.Pool.{Call, FreeSlot, AnswerTo, unnumbered}
+use Rattle.device_outside.specs.Slots.{MayAnswer, held_after}
+use Rattle.device_outside.specs.Volume.{VolumeView, Delivers, Stores}
+use Rattle.device_outside.specs.Keeper.{Hearing, Message, ReplyTo, reply}
+use Rattle.device_outside.specs.Interaction.{Interaction, Done, Try, Ask, Read, Write, Tell}
+use Rattle.device_outside.specs.Outside.{Outside, view_of, with_view, Ran, done, tried, asked, read, wrote, told}
+use Rattle.device_outside.specs.After.{Holdings, holds_of, with_held, with_slots}
+use Rattle.turn_laws.specs.Standing.{Untold}
+use Rattle.device_laws.proofs.Had as H
+use Rattle.device_laws.proofs.Had.{BehindHad}
+
+side_tells : {R K : Type 0} (w : Outside R K) (h : Holdings R) (side : Side) {v : VolumeView R} → Untold w h → view_of w side ≡ Some v →
+    v.contents ≡ Some (holds_of h side)
+side_tells w h sides.A t e = rw e at t.a
+side_tells w h sides.B t e = rw e at t.b
+
+has_same : {R K : Type 0} (w : Outside R K) (h : Holdings R) (side : Side) (u : VolumeView R) → Untold w h → u.contents ≡ Some (holds_of h side) →
+    Untold (with_view w side u) h
+has_same w h sides.A u t e = record { a = e; b = t.b; slots = t.slots }
+has_same w h sides.B u t e = record { a = t.a; b = e; slots = t.slots }
+
+has_written : {R K : Type 0} (w : Outside R K) (h : Holdings R) (side : Side) (u : VolumeView R) (t : ℕ) (r : R) → Untold w h →
+    u.contents ≡ Some (set (holds_of h side) t r) → Untold (with_view w side u) (with_held h side t r)
+has_written w h sides.A u t r x e = record { a = e; b = x.b; slots = x.slots }
+has_written w h sides.B u t r x e = record { a = x.a; b = e; slots = x.slots }
+
+asked_still : {R K : Type 0} (w : Outside R K) (h : Holdings R) (p : _) (call : Call) (a : AnswerTo call) → Untold w h →
+    Untold (record w { port = p }) (with_slots h call a)
+asked_still w h p call a t = record { a = t.a; b = t.b; slots = ap (λ (o : Option (List ℕ)). held_after o call a) t.slots }
+
+may_answer : (slots : Option (List ℕ)) (call : Call) (a : AnswerTo call) → slots ≡ None → MayAnswer slots call a
+may_answer slots call a is = subst (λ (o : Option (List ℕ)). MayAnswer o call a) (sym is) tt
+
+-- the other one's end, and what holds of it
+pub record Twinned {R K S A T B : Type 0} (q : S → A → T → B → Holdings R → Type 0) (p : T → B → Type 0) (s : S) (a : A) (w : Outside R K) : Type 0 where
+  pub state : T
+  pub answer : B
+  pub holdings : Holdings R
+  pub untold : Untold w holdings
+  pub is : q s a state answer holdings
+  pub had : p state answer
+
+module _ {R O I S A T B : Type 0} (z : R) (g : O) (q : S → A → T → B → Holdings R → Type 0) where
+  -- behind a read
+  record GoesOn (k : Option R → Interaction R I S A) (l : Option O → Interaction O I T B) (h : Holdings R) (got : Option R) : Type 0 where
+    also : Option O
+    both : Both z g q (k got) (l also) h
+
+  after_got : (k : Option R → Interaction R I S A) (l : Option O → Interaction O I T B) (h : Holdings R) (side : Side) (n : ℕ) (got : Option R) →
+      Delivers (Some (holds_of h side)) n got → Both z g q (k None) (l None) h → Both z g q (k (Some (get_or (holds_of h side) n z))) (l (Some g)) h →
+      GoesOn k l h got
+  after_got k l h side n None d x y = record { also = None; both = x }
+  after_got k l h side n (Some r) d x y = record {
+    also = Some g;
+    both = subst (λ (v : R). Both z g q (k (Some v)) (l (Some g)) h) (get_or_default (holds_of h side) n z r d.0 ∙ sym d.1) y;
+  }
+
+  -- behind a write
+  record Wrote (k : Bool → Interaction R I S A) (l : Bool → Interaction O I T B) (h : Holdings R) (side : Side) (n : ℕ) (ok : Bool) (new : Option (List R)) :
+      Type 0 where
+    left : R
+    holds : new ≡ Some (set (holds_of h side) n left)
+    both : Both z g q (k ok) (l ok) (with_held h side n left)
+
+  after_put : (k : Bool → Interaction R I S A) (l : Bool → Interaction O I T B) (h : Holdings R) (side : Side) (n : ℕ) (b : R) (ok : Bool)
+      (new : Option (List R)) → Stores (Some (holds_of h side)) n b ok new → Both z g q (k true) (l true) (with_held h side n b) →
+      ((x : R) → Both z g q (k false) (l false) (with_held h side n x)) → Wrote k l h side n ok new
+  after_put k l h side n b true new e x y = record { left = b; holds = e; both = x }
+  after_put k l h side n b false new e x y = record { left = e.0; holds = e.1; both = y e.0 }
+
+  module _ {K : Type 0} (p : T → B → Type 0) {hears : Hearing I K}
+      (heard : (k : K) (m : Message I) (r : ReplyTo m) (l : K) → hears k m r l → r ≡ reply m) where
+    pub twinned : {i : Interaction R I S A} {j : Interaction O I T B} (h : Holdings R) {u w : Outside R K} {s : S} {a : A} → Both z g q i j h →
+        BehindHad j p → Untold u h → Ran (λ ok. ok ≡ true) hears i u s a w → Twinned q p s a w
+    unfolding H.BehindHad
+    twinned h (both_done x) f t done = record { state = _; answer = _; holdings = h; untold = t; is = x; had = f }
+    twinned h (both_try x y) f t (tried true m r) = twinned h x f t r
+    twinned h (both_try x y) f t (tried false m r) = absurd (cc)
+    twinned h {u = u} (both_ask {call = call} e x) f t (asked {a = a} {p = port} says r) =
+        twinned (with_slots h call a) (x a (may_answer h.slots call a t.slots)) (f (unnumbered call a)) (asked_still u h port call a t) r
+    twinned h {u = u} (both_free {slot = slot} o x) f t (asked {a = a} {p = port} says r) =
+        twinned (with_slots h (FreeSlot slot) tt) x (f tt) (asked_still u h port (FreeSlot slot) tt t) r
+    twinned h {u = u} (both_read {side = side} {t = n} {k = k} {l = l} x y) f t (read {got = got} {v = v} {u = new} seen gives r) =
+        let c = side_tells u h side t seen in
+        let on = after_got k l h side n got (rw c at gives.delivers) x y in
+        twinned h on.both (f on.also) (has_same u h side new t (ap (λ (y : VolumeView _). y.contents) gives.after ∙ c)) r
+    twinned h {u = u} (both_write {side = side} {t = n} {r = b} {k = k} {l = l} x y) f t (wrote {ok = ok} {v = v} {u = new} seen takes r) =
+        let c = side_tells u h side t seen in
+        let put = after_put k l h side n b ok new.contents (rw c at takes.stores) x y in
+        twinned (with_held h side n put.left) put.both (f ok) (has_written u h side new n put.left t put.holds) r
+    twinned h {u = u} (both_tell {m = m} {l = l} x) f t (told {l = keeper} y hears had r) =
+        twinned h (x y) (subst (λ (r : ReplyTo m). BehindHad (l r) p) (sym (heard u.keeper m y keeper hears)) f)
+        (record { a = t.a; b = t.b; slots = t.slots }) r

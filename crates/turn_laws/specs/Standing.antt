@@ -1,0 +1,34 @@
+-- A device beside the plain device of its history, over volumes that tell what they hold and a port that tells nothing.
+use Rattle.std.specs.Prelude.{◌≡◌, ◌≤◌, ℕ, List, Option, Some, None}
+use Rattle.ckd_types.specs.Ccw.{ccw_at}
+use Rattle.ckd_types.specs.declared.record.Track.{Track}
+use Rattle.plain_defs.specs.Journal.{Plans, program_of}
+use Rattle.plain_defs.specs.PlainState.{empty_state}
+use Rattle.plain_defs.specs.Whole.{GivesBytes}
+use Rattle.device_outside.specs.After.{Holdings, Tells}
+use Rattle.device_outside.specs.Outside.{Outside}
+use Rattle.device_laws.specs.Agrees.{Held}
+use Rattle.device_laws.specs.InOrder.{IsInOrder}
+use Rattle.device_laws.specs.Whole.{WholeDevice, marks_device}
+use Rattle.device_laws.proofs.PlainTurns.{Follows}
+
+-- the words of all programs of four paths give bytes
+abbrev pub GiveBytes : Plans → Type 0
+GiveBytes plans = (path ordinal : ℕ) → 1 ≤ path → path ≤ 4 → (i : ℕ) → GivesBytes (ccw_at (program_of plans path ordinal) i)
+
+-- the volumes tell these holdings, and of slots nothing is told
+pub record Untold {R K : Type 0} (w : Outside R K) (h : Holdings R) : Type 0 where
+  pub a : Tells w.a h.a
+  pub b : Tells w.b h.b
+  pub slots : h.slots ≡ None
+
+-- The device is in order with a plain volume and one without data of cache fast write, its history is a plain device's whose volume that is, and the
+-- program that runs goes on as there
+pub record Stands {K : Type 0} (d : WholeDevice) (u : Outside (List ℕ) K) : Type 0 where
+  pub plain : List Track
+  pub firm : List Track
+  pub held : Held
+  pub untold : Untold u held
+  pub order : IsInOrder plain firm d.store held
+  pub follows : Follows d.store.device (empty_state d.store.geometry d.store.cylinders) (marks_device plain firm d)
+  pub gives : GiveBytes d.plans

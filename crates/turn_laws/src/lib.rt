@@ -1,0 +1,5 @@
+//! Laws of a device in a turn.
+#![tactic(auto)]
+
+/// Nothing.
+pub fn nothing() {}
