@@ -1,6 +1,4 @@
-ghost use Rattle.std.specs.Prelude.{◌≡◌, None, Some, false, is_some};
-ghost use Rattle.device_defs.specs.Store.{HalfWrite, OfBackground};
-ghost use Rattle.track_image.specs.Image.{Image};
+ghost use Rattle.std.specs.Prelude.{◌≡◌, None, OnOk, false, is_some};
 ghost use Rattle.device_core.specs.State.{device_of};
 ghost use Rattle.path_threads.specs.Keeping.{Moves};
 
@@ -37,35 +35,38 @@ fn rested<V: Volume>(device: &Device<V>, rests: bool) -> Came {
     }
 }
 
-fn work<V: Volume, P: Port>(device: &mut Device<V>, port: &mut P) -> Came
+fn work<V: Volume, P: Port>(device: &mut Device<V>, port: &mut P) -> Result<Came, NoMemory>
     requires home { (device_of device.old).store.lent ≡ None }
     requires whole { is_some (device_of device.old).store.half ≡ false }
-    ensures moves { Moves 5 device.old device.new }
+    ensures moves { OnOk result (Moves 5 device.old device.new) }
 {
     match device.background(port) {
-        Err(NoMemory) => Came::Lacked,
-        Ok(did) => rested(device, is_idle(did)),
+        Err(NoMemory) => Err(NoMemory),
+        Ok(did) => Ok(rested(device, is_idle(did))),
     }
 }
 
 /// The other part of the background's own write; another worker's is waited for.
-fn half_work<V: Volume, P: Port>(device: &mut Device<V>, port: &mut P) -> Came
+fn half_work<V: Volume, P: Port>(device: &mut Device<V>, port: &mut P) -> Result<Came, NoMemory>
     requires home { (device_of device.old).store.lent ≡ None }
-    ensures moves { Moves 5 device.old device.new }
+    ensures moves { OnOk result (Moves 5 device.old device.new) }
 {
     if !is_own(device) {
-        return Came::Again;
+        return Ok(Came::Again);
     }
     device.second(port);
-    Came::Went
+    Ok(Came::Went)
 }
 
 /// One event in the background, and whether the device is finished and rests.
-pub(crate) fn background_event<V: Volume, P: Port>(device: &mut Device<V>, port: &mut P) -> Came
-    ensures moves { Moves 5 device.old device.new }
+pub(crate) fn background_event<V: Volume, P: Port>(
+    device: &mut Device<V>,
+    port: &mut P,
+) -> Result<Came, NoMemory>
+    ensures moves { OnOk result (Moves 5 device.old device.new) }
 {
     if device.lent_to().is_some() {
-        return Came::Over;
+        return Ok(Came::Over);
     }
     if device.half_open() {
         return half_work(device, port);

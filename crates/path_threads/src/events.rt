@@ -1,4 +1,4 @@
-ghost use Rattle.std.specs.Prelude.{◌≡◌, None, false, is_some, true};
+ghost use Rattle.std.specs.Prelude.{◌≡◌, None, OnOk, false, is_some, true};
 ghost use Rattle.plain_defs.specs.History.{is_path_of};
 ghost use Rattle.device_core.specs.State.{device_of};
 ghost use Rattle.path_threads.specs.Keeping.{Moves};
@@ -17,8 +17,6 @@ pub(crate) enum Came {
     Again,
     /// Nothing is left to do here.
     Over,
-    /// Memory is wanting.
-    Lacked,
 }
 
 /// The events of a path's worker: through which gate they go, and how many there were.
@@ -54,30 +52,25 @@ fn fault_came(fault: StartFault) -> Came {
     }
 }
 
-fn start_came(outcome: Result<u16, NotStarted>) -> Came {
+fn start_came(outcome: Result<u16, NotStarted>) -> Result<Came, NoMemory> {
     match outcome {
-        Ok(_) => Came::Went,
-        Err(NotStarted::NoMemory) => Came::Lacked,
-        Err(NotStarted::Refused(fault)) => fault_came(fault),
-    }
-}
-
-/// A command's end, or the first part of its write.
-fn step_came<T>(outcome: Result<T, NoMemory>) -> Came {
-    match outcome {
-        Ok(_) => Came::Went,
-        Err(NoMemory) => Came::Lacked,
+        Ok(_) => Ok(Came::Went),
+        Err(NotStarted::NoMemory) => Err(NoMemory),
+        Err(NotStarted::Refused(fault)) => Ok(fault_came(fault)),
     }
 }
 
 /// The next program of the path starts, where nothing keeps it out.
-fn start_next<V: Volume, G: Gate>(device: &mut Device<V>, visitor: &mut Visitor<G>) -> Came
+fn start_next<V: Volume, G: Gate>(
+    device: &mut Device<V>,
+    visitor: &mut Visitor<G>,
+) -> Result<Came, NoMemory>
     requires idle { (device_of device.old).history.running ≡ None }
     ensures path { visitor.new.path ≡ visitor.old.path }
-    ensures moves { Moves visitor.old.path device.old device.new }
+    ensures moves { OnOk result (Moves visitor.old.path device.old device.new) }
 {
     if let Some(fault) = device.start_fault(visitor.path) {
-        return fault_came(fault);
+        return Ok(fault_came(fault));
     }
     visitor.before(device);
     let outcome = device.start(visitor.path);
@@ -90,17 +83,20 @@ fn command<V: Volume, P: Port, G: Gate>(
     device: &mut Device<V>,
     visitor: &mut Visitor<G>,
     port: &mut P,
-) -> Came
+) -> Result<Came, NoMemory>
     requires home { (device_of device.old).store.lent ≡ None }
     requires runs { is_path_of (device_of device.old).history.running visitor.old.path ≡ true }
     requires whole { is_some (device_of device.old).store.half ≡ false }
     ensures path { visitor.new.path ≡ visitor.old.path }
-    ensures moves { Moves visitor.old.path device.old device.new }
+    ensures moves { OnOk result (Moves visitor.old.path device.old device.new) }
 {
     visitor.before(device);
     let outcome = device.command(port);
     visitor.after(device);
-    step_came(outcome)
+    match outcome {
+        Err(NoMemory) => Err(NoMemory),
+        Ok(_) => Ok(Came::Went),
+    }
 }
 
 /// The other part of the write of the path's command.
@@ -108,16 +104,16 @@ fn second<V: Volume, P: Port, G: Gate>(
     device: &mut Device<V>,
     visitor: &mut Visitor<G>,
     port: &mut P,
-) -> Came
+) -> Result<Came, NoMemory>
     requires home { (device_of device.old).store.lent ≡ None }
     requires runs { is_path_of (device_of device.old).history.running visitor.old.path ≡ true }
     ensures path { visitor.new.path ≡ visitor.old.path }
-    ensures moves { Moves visitor.old.path device.old device.new }
+    ensures moves { OnOk result (Moves visitor.old.path device.old device.new) }
 {
     visitor.before(device);
     device.second(port);
     visitor.after(device);
-    Came::Went
+    Ok(Came::Went)
 }
 
 /// Whether the open half write is of the command of the program that runs.
@@ -133,15 +129,15 @@ fn half_event<V: Volume, P: Port, G: Gate>(
     device: &mut Device<V>,
     visitor: &mut Visitor<G>,
     port: &mut P,
-) -> Came
+) -> Result<Came, NoMemory>
     requires home { (device_of device.old).store.lent ≡ None }
     ensures path { visitor.new.path ≡ visitor.old.path }
-    ensures moves { Moves visitor.old.path device.old device.new }
+    ensures moves { OnOk result (Moves visitor.old.path device.old device.new) }
 {
     if is_of_command(device) && device.active() == Some(visitor.path) {
         return second(device, visitor, port);
     }
-    Came::Again
+    Ok(Came::Again)
 }
 
 /// One event of a path at a device, where one is due: its half write comes first, then its program that runs, then its next
@@ -150,12 +146,12 @@ pub(crate) fn path_event<V: Volume, P: Port, G: Gate>(
     device: &mut Device<V>,
     visitor: &mut Visitor<G>,
     port: &mut P,
-) -> Came
+) -> Result<Came, NoMemory>
     ensures path { visitor.new.path ≡ visitor.old.path }
-    ensures moves { Moves visitor.old.path device.old device.new }
+    ensures moves { OnOk result (Moves visitor.old.path device.old device.new) }
 {
     if device.lent_to().is_some() {
-        return Came::Over;
+        return Ok(Came::Over);
     }
     if device.half_open() {
         return half_event(device, visitor, port);
@@ -166,7 +162,7 @@ pub(crate) fn path_event<V: Volume, P: Port, G: Gate>(
             if path == visitor.path {
                 return command(device, visitor, port);
             }
-            Came::Again
+            Ok(Came::Again)
         }
     }
 }

@@ -1,4 +1,7 @@
-ghost use Rattle.std.specs.Prelude.{◌≡◌, AllZip, IfOk};
+ghost use Rattle.std.specs.Prelude.{◌≡◌, ◌≤◌, All, AllZip, IfOk};
+ghost use Rattle.std.specs.Thread.{IsSync};
+ghost use Rattle.path_threads.specs.Keeping.{IsFinished, IsReady, KeepsAll};
+ghost use Rattle.path_threads.specs.Seating.{AreSeated, IsAt};
 
 use crate::finish::finish_all;
 use crate::promise::{DeviceSeat, DeviceTurn};
@@ -19,7 +22,9 @@ pub struct Ran<V: Volume> {
     pub pool: Pool,
 }
 
-type Pair<V> = (Vec<DeviceSeat<V>>, Vec<DeviceSeat<V>>);
+type Row<V> = Vec<DeviceSeat<V>>;
+
+type Walked<V> = Result<Row<V>, NoMemory>;
 
 fn two_walk<R: Threads + Wait + Sync, V: Volume + Send, G: Gate + Sync>(
     rt: &R,
@@ -27,15 +32,34 @@ fn two_walk<R: Threads + Wait + Sync, V: Volume + Send, G: Gate + Sync>(
     turns: &[DeviceTurn<V>],
     gate: &G,
     paths: (PathNo, PathNo),
-    seats: Pair<V>,
-) -> Pair<V> {
+    seats: (Row<V>, Row<V>),
+) -> (Walked<V>, Walked<V>)
+    requires first { AllZip (λ t s. IsAt paths.0 t.table.shared.table_id s.seat.table_id s.number s.seat.me) turns.now seats.0.items }
+    requires second { AllZip (λ t s. IsAt paths.1 t.table.shared.table_id s.seat.table_id s.number s.seat.me) turns.now seats.1.items }
+    ensures first { IfOk result.0 (λ v. AllZip (λ t s. IsAt paths.0 t.table.shared.table_id s.seat.table_id s.number s.seat.me) turns.now v.items) }
+    ensures second { IfOk result.1 (λ v. AllZip (λ t s. IsAt paths.1 t.table.shared.table_id s.seat.table_id s.number s.seat.me) turns.now v.items) }
+{
     let (a, b) = seats;
     let (one, two) = paths;
     join(
         rt,
-        || walk(rt, shared, turns, a, one, gate),
-        || walk(rt, shared, turns, b, two, gate),
+        || -> Walked<V>
+            requires { IsSync R.row × AllZip (λ t s. IsAt one t.table.shared.table_id s.seat.table_id s.number s.seat.me) turns.now a.items }
+            ensures { IfOk result (λ v. AllZip (λ t s. IsAt one t.table.shared.table_id s.seat.table_id s.number s.seat.me) turns.entry.now v.items) }
+        { walk(rt, shared, turns, a, one, gate) },
+        || -> Walked<V>
+            requires { IsSync R.row × AllZip (λ t s. IsAt two t.table.shared.table_id s.seat.table_id s.number s.seat.me) turns.now b.items }
+            ensures { IfOk result (λ v. AllZip (λ t s. IsAt two t.table.shared.table_id s.seat.table_id s.number s.seat.me) turns.entry.now v.items) }
+        { walk(rt, shared, turns, b, two, gate) },
     )
+}
+
+fn path(number: u8) -> PathNo
+    requires least { 1 ≤ number }
+    requires most { number ≤ 4 }
+    ensures { result ≡ number }
+{
+    PathNo::new(number).unwrap()
 }
 
 fn four_walk<R: Threads + Wait + Sync, V: Volume + Send, G: Gate + Sync>(
@@ -43,27 +67,38 @@ fn four_walk<R: Threads + Wait + Sync, V: Volume + Send, G: Gate + Sync>(
     shared: &Shared,
     turns: &[DeviceTurn<V>],
     gate: &G,
-    first: Pair<V>,
-    second: Pair<V>,
-) -> (Pair<V>, Pair<V>) {
+    first: (Row<V>, Row<V>),
+    second: (Row<V>, Row<V>),
+) -> ((Walked<V>, Walked<V>), (Walked<V>, Walked<V>))
+    requires first { AllZip (λ t s. IsAt 1 t.table.shared.table_id s.seat.table_id s.number s.seat.me) turns.now first.0.items × AllZip (λ t s. IsAt 2 t.table.shared.table_id s.seat.table_id s.number s.seat.me) turns.now first.1.items }
+    requires second { AllZip (λ t s. IsAt 3 t.table.shared.table_id s.seat.table_id s.number s.seat.me) turns.now second.0.items × AllZip (λ t s. IsAt 4 t.table.shared.table_id s.seat.table_id s.number s.seat.me) turns.now second.1.items }
+    ensures first { IfOk result.0.0 (λ v. AllZip (λ t s. IsAt 1 t.table.shared.table_id s.seat.table_id s.number s.seat.me) turns.now v.items) × IfOk result.0.1 (λ v. AllZip (λ t s. IsAt 2 t.table.shared.table_id s.seat.table_id s.number s.seat.me) turns.now v.items) }
+    ensures second { IfOk result.1.0 (λ v. AllZip (λ t s. IsAt 3 t.table.shared.table_id s.seat.table_id s.number s.seat.me) turns.now v.items) × IfOk result.1.1 (λ v. AllZip (λ t s. IsAt 4 t.table.shared.table_id s.seat.table_id s.number s.seat.me) turns.now v.items) }
+{
     join(
         rt,
-        || two_walk(rt, shared, turns, gate, (path(1), path(2)), first),
-        || two_walk(rt, shared, turns, gate, (path(3), path(4)), second),
+        || -> (Walked<V>, Walked<V>)
+            requires { IsSync R.row × AllZip (λ t s. IsAt 1 t.table.shared.table_id s.seat.table_id s.number s.seat.me) turns.now first.0.items × AllZip (λ t s. IsAt 2 t.table.shared.table_id s.seat.table_id s.number s.seat.me) turns.now first.1.items }
+            ensures { IfOk result.0 (λ v. AllZip (λ t s. IsAt 1 t.table.shared.table_id s.seat.table_id s.number s.seat.me) turns.entry.now v.items) × IfOk result.1 (λ v. AllZip (λ t s. IsAt 2 t.table.shared.table_id s.seat.table_id s.number s.seat.me) turns.entry.now v.items) }
+        { two_walk(rt, shared, turns, gate, (path(1), path(2)), first) },
+        || -> (Walked<V>, Walked<V>)
+            requires { IsSync R.row × AllZip (λ t s. IsAt 3 t.table.shared.table_id s.seat.table_id s.number s.seat.me) turns.now second.0.items × AllZip (λ t s. IsAt 4 t.table.shared.table_id s.seat.table_id s.number s.seat.me) turns.now second.1.items }
+            ensures { IfOk result.0 (λ v. AllZip (λ t s. IsAt 3 t.table.shared.table_id s.seat.table_id s.number s.seat.me) turns.entry.now v.items) × IfOk result.1 (λ v. AllZip (λ t s. IsAt 4 t.table.shared.table_id s.seat.table_id s.number s.seat.me) turns.entry.now v.items) }
+        { two_walk(rt, shared, turns, gate, (path(3), path(4)), second) },
     )
 }
 
-fn path(number: u8) -> PathNo {
-    PathNo::new(number).unwrap()
-}
-
+/// All workers run until each is done.
 fn all_walk<R: Threads + Wait + Sync, V: Volume + Send, G: Gate + Sync>(
     rt: &R,
     shared: &Shared,
     turns: &[DeviceTurn<V>],
     gate: &G,
     seats: Seats<V>,
-) -> Seats<V> {
+) -> Result<Seats<V>, NoMemory>
+    requires { AreSeated turns.now seats }
+    ensures { IfOk result (AreSeated turns.now) }
+{
     let Seats {
         first,
         second,
@@ -71,36 +106,50 @@ fn all_walk<R: Threads + Wait + Sync, V: Volume + Send, G: Gate + Sync>(
         fourth,
         background,
     } = seats;
-    let (((first, second), (third, fourth)), background) = join(
+    let low = (first, second);
+    let high = (third, fourth);
+    let ((low, high), background) = join(
         rt,
-        || four_walk(rt, shared, turns, gate, (first, second), (third, fourth)),
-        || work_behind(rt, shared, turns, background),
+        || -> ((Walked<V>, Walked<V>), (Walked<V>, Walked<V>))
+            requires { IsSync R.row × AllZip (λ t s. IsAt 1 t.table.shared.table_id s.seat.table_id s.number s.seat.me) turns.now low.0.items × AllZip (λ t s. IsAt 2 t.table.shared.table_id s.seat.table_id s.number s.seat.me) turns.now low.1.items ×
+                AllZip (λ t s. IsAt 3 t.table.shared.table_id s.seat.table_id s.number s.seat.me) turns.now high.0.items × AllZip (λ t s. IsAt 4 t.table.shared.table_id s.seat.table_id s.number s.seat.me) turns.now high.1.items }
+            ensures { IfOk result.0.0 (λ v. AllZip (λ t s. IsAt 1 t.table.shared.table_id s.seat.table_id s.number s.seat.me) turns.entry.now v.items) × IfOk result.0.1 (λ v. AllZip (λ t s. IsAt 2 t.table.shared.table_id s.seat.table_id s.number s.seat.me) turns.entry.now v.items) ×
+                IfOk result.1.0 (λ v. AllZip (λ t s. IsAt 3 t.table.shared.table_id s.seat.table_id s.number s.seat.me) turns.entry.now v.items) × IfOk result.1.1 (λ v. AllZip (λ t s. IsAt 4 t.table.shared.table_id s.seat.table_id s.number s.seat.me) turns.entry.now v.items) }
+        { four_walk(rt, shared, turns, gate, low, high) },
+        || -> Walked<V>
+            requires { IsSync R.row × AllZip (λ t s. IsAt 5 t.table.shared.table_id s.seat.table_id s.number s.seat.me) turns.now background.items }
+            ensures { IfOk result (λ v. AllZip (λ t s. IsAt 5 t.table.shared.table_id s.seat.table_id s.number s.seat.me) turns.entry.now v.items) }
+        { work_behind(rt, shared, turns, background) },
     );
-    Seats {
-        first,
-        second,
-        third,
-        fourth,
-        background,
-    }
+    Ok(Seats {
+        first: low.0?,
+        second: low.1?,
+        third: high.0?,
+        fourth: high.1?,
+        background: background?,
+    })
 }
 
-/// Runs the programs of the devices' plans, each path's in a thread of its own.
+/// Runs the programs of the devices' plans, each path's in a thread of its own, with another thread for what the devices do by themselves; what
+/// is left then, this thread does. No program of the devices was started yet.
 pub fn run_paths<R: Threads + Wait + Sync, V: Volume + Send, G: Gate + Sync>(
     rt: &R,
     alloc: Global,
     devices: Vec<Device<V>>,
     pool: Pool,
     gate: &G,
-) -> Result<Ran<V>, NoMemory> {
+) -> Result<Ran<V>, NoMemory>
+    requires ready { All IsReady devices.items }
+    ensures kept { IfOk result (λ r. AllZip KeepsAll devices.items r.devices.items) }
+    ensures finished { IfOk result (λ r. All IsFinished r.devices.items) }
+{
     let Table {
         turns,
         operator,
         seats,
     } = set_all(alloc, devices)?;
     let shared = Shared::new(pool);
-    let seats = all_walk(rt, &shared, &turns, gate, seats);
-    let lacks = shared.is_stopped();
+    let seats = all_walk(rt, &shared, &turns, gate, seats)?;
     let mut devices = clear_all(
         alloc,
         Table {
@@ -109,9 +158,6 @@ pub fn run_paths<R: Threads + Wait + Sync, V: Volume + Send, G: Gate + Sync>(
             seats,
         },
     )?;
-    if lacks {
-        return Err(NoMemory);
-    }
     let mut pool = shared.into_pool();
     finish_all(rt, &mut devices, &mut pool)?;
     Ok(Ran { devices, pool })

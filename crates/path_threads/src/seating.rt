@@ -71,8 +71,7 @@ fn set<V: Volume>(
 }
 
 /// The operator's seat takes in the next one.
-fn take_in<V: Volume>(turn: &DeviceTurn<V>, operator: &mut DeviceSeat<V>, gone: DeviceSeat<V>)
-{
+fn take_in<V: Volume>(turn: &DeviceTurn<V>, operator: &mut DeviceSeat<V>, gone: DeviceSeat<V>) {
     turn.join(operator, gone);
 }
 

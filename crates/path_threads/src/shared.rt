@@ -1,4 +1,4 @@
-ghost use Rattle.std.specs.Prelude.{◌≡◌};
+ghost use Rattle.std.specs.Prelude.{IsErr};
 ghost use Rattle.device_outside.specs.Outside.{no_pool};
 
 use ckd_types::{DeviceNo, NoMemory, TrackNo};
@@ -26,9 +26,12 @@ impl Shared {
         pool.into_inner()
     }
 
-    /// A worker lacks memory, and all stop.
-    pub fn stop(&self) {
+    /// A worker lacks memory: it stops, and so will all others.
+    pub fn stop<T>(&self) -> Result<T, NoMemory>
+        ensures { IsErr result }
+    {
         self.lacks.store(true, Ordering::SeqCst);
+        Err(NoMemory)
     }
 
     pub fn is_stopped(&self) -> bool {

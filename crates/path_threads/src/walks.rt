@@ -1,12 +1,12 @@
-ghost use Rattle.std.specs.Prelude.{◌≡◌, AllZip};
+ghost use Rattle.std.specs.Prelude.{◌≡◌, AllZip, IfOk, OnOk};
 ghost use Rattle.device_turn.specs.Answers.{IsAway};
-ghost use Rattle.path_threads.specs.Keeping.{IsAt, Rests};
+ghost use Rattle.path_threads.specs.Seating.{IsAt, Rests};
 
 use crate::events::{Came, Visitor};
 use crate::promise::{DeviceSeat, DeviceTurn};
 use crate::shared::{Shared, SharedPool};
 use crate::turns::{background_turn, path_turn};
-use ckd_types::PathNo;
+use ckd_types::{NoMemory, PathNo};
 use device_outside::{Gate, Port, Volume};
 use std::sync::Wait;
 use std::thread::yield_now;
@@ -19,22 +19,26 @@ fn serve<R: Wait, V: Volume, G: Gate, P: Port>(
     seat: &mut DeviceSeat<V>,
     visitor: &mut Visitor<G>,
     port: &mut P,
-)
+) -> Result<(), NoMemory>
     requires own { seat.old.seat.table_id ≡ turn.now.table.shared.table_id }
     requires away { IsAway seat.old.seat.me }
     requires path { seat.old.number ≡ visitor.old.path }
     ensures path { visitor.new.path ≡ visitor.old.path }
-    ensures rests { Rests seat.old seat.new }
+    ensures own { OnOk result ((seat.new.seat.table_id ≡ seat.old.seat.table_id) × (seat.new.number ≡ seat.old.number) × (seat.new.made ≡ seat.old.made)) }
+    ensures rests { OnOk result (Rests seat.old.seat.me seat.new.seat.me) }
 {
     for _ in rt.forever() {
         if shared.is_stopped() {
-            return;
+            return Err(NoMemory);
         }
-        match path_turn(turn, seat, visitor, port) {
+        let came = match path_turn(turn, seat, visitor, port) {
+            Err(NoMemory) => return shared.stop(),
+            Ok(came) => came,
+        };
+        match came {
             Came::Went => (),
             Came::Again => yield_now(),
-            Came::Over => return,
-            Came::Lacked => shared.stop(),
+            Came::Over => return Ok(()),
         }
     }
     unreachable!()
@@ -48,9 +52,9 @@ pub(crate) fn walk<R: Wait, V: Volume, G: Gate>(
     mut seats: Vec<DeviceSeat<V>>,
     path: PathNo,
     gate: &G,
-) -> Vec<DeviceSeat<V>>
-    requires { AllZip (IsAt path) turns.now seats.items }
-    ensures { AllZip (IsAt path) turns.now result.items }
+) -> Result<Vec<DeviceSeat<V>>, NoMemory>
+    requires { AllZip (λ t s. IsAt path t.table.shared.table_id s.seat.table_id s.number s.seat.me) turns.now seats.items }
+    ensures { IfOk result (λ v. AllZip (λ t s. IsAt path t.table.shared.table_id s.seat.table_id s.number s.seat.me) turns.now v.items) }
 {
     let mut port = SharedPool::new(rt, shared);
     let mut visitor = Visitor {
@@ -66,34 +70,26 @@ pub(crate) fn walk<R: Wait, V: Volume, G: Gate>(
             &mut seats[i],
             &mut visitor,
             &mut port,
-        );
+        )?;
     }
-    seats
+    Ok(seats)
 }
 
 /// A round in the background, and whether every device is finished and rests.
 fn round<V: Volume, P: Port>(
-    shared: &Shared,
     turns: &[DeviceTurn<V>],
     seats: &mut [DeviceSeat<V>],
     port: &mut P,
-) -> bool
-    requires { AllZip (IsAt 5) turns.now seats.old }
-    ensures { AllZip (IsAt 5) turns.now seats.new }
+) -> Result<bool, NoMemory>
+    requires { AllZip (λ t s. IsAt 5 t.table.shared.table_id s.seat.table_id s.number s.seat.me) turns.now seats.old }
+    ensures { OnOk result (AllZip (λ t s. IsAt 5 t.table.shared.table_id s.seat.table_id s.number s.seat.me) turns.now seats.new) }
 {
     let mut over = true;
     for i in 0..turns.len() {
-        match background_turn(&turns[i], &mut seats[i], port) {
-            Came::Over => (),
-            Came::Went => over = false,
-            Came::Again => over = false,
-            Came::Lacked => {
-                shared.stop();
-                over = false;
-            }
-        }
+        let came = background_turn(&turns[i], &mut seats[i], port)?;
+        over = over && came == Came::Over;
     }
-    over
+    Ok(over)
 }
 
 /// The worker of the background: round by round, until every device is finished and rests.
@@ -102,16 +98,20 @@ pub(crate) fn work_behind<R: Wait, V: Volume>(
     shared: &Shared,
     turns: &[DeviceTurn<V>],
     mut seats: Vec<DeviceSeat<V>>,
-) -> Vec<DeviceSeat<V>>
-    requires { AllZip (IsAt 5) turns.now seats.items }
-    ensures { AllZip (IsAt 5) turns.now result.items }
+) -> Result<Vec<DeviceSeat<V>>, NoMemory>
+    requires { AllZip (λ t s. IsAt 5 t.table.shared.table_id s.seat.table_id s.number s.seat.me) turns.now seats.items }
+    ensures { IfOk result (λ v. AllZip (λ t s. IsAt 5 t.table.shared.table_id s.seat.table_id s.number s.seat.me) turns.now v.items) }
 {
     let mut port = SharedPool::new(rt, shared);
     for _ in rt.forever() {
-        if shared.is_stopped() || round(shared, turns, &mut seats, &mut port) {
-            return seats;
+        if shared.is_stopped() {
+            return Err(NoMemory);
         }
-        yield_now();
+        match round(turns, &mut seats, &mut port) {
+            Err(NoMemory) => return shared.stop(),
+            Ok(true) => return Ok(seats),
+            Ok(false) => yield_now(),
+        }
     }
     unreachable!()
 }

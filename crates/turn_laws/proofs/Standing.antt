@@ -51,8 +51,23 @@ own_follows : (num : ℕ) (empty : PlainState) (m : MarksDevice) → Follows num
 own_follows num empty m f =
     subst (λ (x : PlainState). Follows m.store.device x m) f.base (subst (λ (n : ℕ). Follows n empty m) (sym f.number) f)
 
-module _ {K : Type 0} {hears : Hearing Image K} (heard : (k : K) (m : Message Image) (r : ReplyTo m) (l : K) → hears k m r l → r ≡ reply m)
-    {d e : WholeDevice} {u z : Outside (List ℕ) K} (s : Stands d u) where
+-- the chain of the program that runs, while no write is half done
+runs_by : (plans : Plans) (x : PlainState) (o : OpenEntry) (before : Option ChainState) (g : Geometry) (n : ℕ) (chain : ChainState) → before ≡ Some chain →
+    GiveBytes plans → 1 ≤ o.path → o.path ≤ 4 → RunsAt plans x (Some o) before → ChainOf g n before → IsChain chain → RunsOn n g chain
+runs_by plans x o None g n chain is gives least most at of c = absurd (cc)
+runs_by plans x o (Some origin) g n chain is gives least most at of c =
+    let same : origin ≡ chain = some_same origin chain is in
+    subst (λ (k : ChainState). IsChain k → RunsOn n g k) same
+    (λ c. record {
+      is = record { is = c; cylinders = of.1 };
+      geometry = of.0;
+      gives = λ i. subst (λ (l : List Ccw). GivesBytes (ccw_at l i)) (sym at.hand.words) (gives o.path o.ordinal least most i);
+    }) c
+    where
+  some_same : (x y : ChainState) → Some x ≡ Some y → x ≡ y
+  some_same x y e = cc
+
+module _ {K : Type 0} {d : WholeDevice} {u : Outside (List ℕ) K} (s : Stands d u) where
   abbrev num : ℕ
   num = d.store.device
 
@@ -61,38 +76,6 @@ module _ {K : Type 0} {hears : Hearing Image K} (heard : (k : K) (m : Message Im
 
   abbrev beside : MarksDevice
   beside = marks_device s.plain s.firm d
-
-  behind : {A B : Type 0} {a : A} {p : List Track → Type 0} {i : Interaction (List ℕ) Image WholeDevice A} {j : Interaction Bool Image MarksDevice A} →
-      WholeTwins (Leaves p) i j s.held → Had j (λ y _. Follows num empty y) → Always i (λ y _. Continues d.plans d.history y) →
-      Ran (λ ok. ok ≡ true) hears i u e a z → Stands e z
-  behind {a = a} {p = p} {i = i} both had goes r =
-      let o = twinned [] true (WholeTwin (Leaves p)) (λ y _. Follows num empty y) heard s.held both had.holds s.untold r in
-      let same = (always_ran i (λ y _. Continues d.plans d.history y) goes.holds r).plans in
-      record {
-        plain = o.is.plain;
-        firm = o.is.firm;
-        held = o.holdings;
-        untold = o.untold;
-        order = o.is.is.order;
-        follows = own_follows num empty (marks_device o.is.plain o.is.firm e) (subst (λ (m : MarksDevice). Follows num empty m) (sym o.is.marks) o.had);
-        gives = subst GiveBytes (sym same) s.gives;
-      }
-
-  -- the chain of the program that runs, while no write is half done
-  runs_by : (plans : Plans) (x : PlainState) (o : OpenEntry) (before : Option ChainState) (g : Geometry) (n : ℕ) (chain : ChainState) → before ≡ Some chain →
-      GiveBytes plans → 1 ≤ o.path → o.path ≤ 4 → RunsAt plans x (Some o) before → ChainOf g n before → IsChain chain → RunsOn n g chain
-  runs_by plans x o None g n chain is gives least most at of c = absurd (cc)
-  runs_by plans x o (Some origin) g n chain is gives least most at of c =
-      let same : origin ≡ chain = some_same origin chain is in
-      subst (λ (k : ChainState). IsChain k → RunsOn n g k) same
-      (λ c. record {
-        is = record { is = c; cylinders = of.1 };
-        geometry = of.0;
-        gives = λ i. subst (λ (l : List Ccw). GivesBytes (ccw_at l i)) (sym at.hand.words) (gives o.path o.ordinal least most i);
-      }) c
-      where
-    some_same : (x y : ChainState) → Some x ≡ Some y → x ≡ y
-    some_same x y e = cc
 
   runs_on : (none : d.store.half ≡ None) (o : OpenEntry) → d.history.running ≡ Some o → (chain : ChainState) → d.chain ≡ Some chain → IsChain chain →
       RunsOn d.store.cylinders d.store.geometry chain
@@ -104,30 +87,48 @@ module _ {K : Type 0} {hears : Hearing Image K} (heard : (k : K) (m : Message Im
       (sym (none_mid _ beside.store.half d.history.running f.before d.chain whole f.mid) ∙ is) s.gives start.least start.most
       (subst (λ (r : Option OpenEntry). RunsAt d.plans (replay d.plans empty d.history.items) r f.before) runs f.runs) f.chain c
 
-  pub command_stands : (a : Option Stepped) (o : OpenEntry) → d.store.half ≡ None → d.history.running ≡ Some o →
-      ((chain : ChainState) → d.chain ≡ Some chain → IsChain chain) → Ran (λ ok. ok ≡ true) hears (command contents d) u e a z → Stands e z
-  command_stands a o none runs chains r =
-      let n = d.store.cylinders in
-      let on = d.store.geometry in
-      behind {B = Unit {0}}
-      (command_whole (n * 15) on (LooksAt n on) (chain_feeds n on) s.plain s.firm d s.held s.order refl refl none
-      (λ chain q is needs. runs_looks n on chain q (runs_on none o runs chain is (chains chain is)) needs))
-      (command_follows num empty beside s.follows o runs (ap (option_map half_mark) none)) (command_goes contents d.plans d.history d (itself d)) r
+  module _ {hears : Hearing Image K} (heard : (k : K) (m : Message Image) (r : ReplyTo m) (l : K) → hears k m r l → r ≡ reply m)
+      {e : WholeDevice} {z : Outside (List ℕ) K} where
+    behind : {A B : Type 0} {a : A} {p : List Track → Type 0} {i : Interaction (List ℕ) Image WholeDevice A} {j : Interaction Bool Image MarksDevice A} →
+        WholeTwins (Leaves p) i j s.held → Had j (λ y _. Follows num empty y) → Always i (λ y _. Continues d.plans d.history y) →
+        Ran (λ ok. ok ≡ true) hears i u e a z → Stands e z
+    behind {a = a} {p = p} {i = i} both had goes r =
+        let o = twinned [] true (WholeTwin (Leaves p)) (λ y _. Follows num empty y) heard s.held both had.holds s.untold r in
+        let same = (always_ran i (λ y _. Continues d.plans d.history y) goes.holds r).plans in
+        record {
+          plain = o.is.plain;
+          firm = o.is.firm;
+          held = o.holdings;
+          untold = o.untold;
+          order = o.is.is.order;
+          follows = own_follows num empty (marks_device o.is.plain o.is.firm e) (subst (λ (m : MarksDevice). Follows num empty m) (sym o.is.marks) o.had);
+          gives = subst GiveBytes (sym same) s.gives;
+        }
 
-  pub second_stands : (a : SecondEnd) (h : HalfWrite Image) → d.store.half ≡ Some h → Ran (λ ok. ok ≡ true) hears (second contents d) u e a z → Stands e z
-  second_stands a h half r =
-      behind {B = Unit {0}} (second_whole s.plain s.firm d s.held s.order (λ i is. (s.order.opened i is).suits))
-      (second_follows num empty beside s.follows (half_mark h) (ap (option_map half_mark) half)) (second_goes contents d.plans d.history d (itself d)) r
+    pub command_stands : (a : Option Stepped) (o : OpenEntry) → d.store.half ≡ None → d.history.running ≡ Some o →
+        ((chain : ChainState) → d.chain ≡ Some chain → IsChain chain) → Ran (λ ok. ok ≡ true) hears (command contents d) u e a z → Stands e z
+    command_stands a o none runs chains r =
+        let n = d.store.cylinders in
+        let on = d.store.geometry in
+        behind {B = Unit {0}}
+        (command_whole (n * 15) on (LooksAt n on) (chain_feeds n on) s.plain s.firm d s.held s.order refl refl none
+        (λ chain q is needs. runs_looks n on chain q (runs_on none o runs chain is (chains chain is)) needs))
+        (command_follows num empty beside s.follows o runs (ap (option_map half_mark) none)) (command_goes contents d.plans d.history d (itself d)) r
 
-  pub background_stands : (a : Option Did) → d.store.half ≡ None → Ran (λ ok. ok ≡ true) hears (background contents d) u e a z → Stands e z
-  background_stands a none r =
-      behind {B = Unit {0}} (background_whole s.plain s.firm d s.held s.order none)
-      (background_follows num empty beside s.follows (ap (option_map half_mark) none)) (background_goes contents d.plans d.history d (itself d)) r
+    pub second_stands : (a : SecondEnd) (h : HalfWrite Image) → d.store.half ≡ Some h → Ran (λ ok. ok ≡ true) hears (second contents d) u e a z → Stands e z
+    second_stands a h half r =
+        behind {B = Unit {0}} (second_whole s.plain s.firm d s.held s.order (λ i is. (s.order.opened i is).suits))
+        (second_follows num empty beside s.follows (half_mark h) (ap (option_map half_mark) half)) (second_goes contents d.plans d.history d (itself d)) r
 
-  pub loss_stands : (loss : Loss) (a : Unit {0}) → Ran (λ ok. ok ≡ true) hears (lose contents d loss) u e a z → Stands e z
-  loss_stands loss a r =
-      behind {B = Unit {0}} (loss_whole s.plain s.firm d s.held loss s.order) (loss_follows num empty beside s.follows loss)
-      (lose_goes contents d.plans d.history d loss (itself d)) r
+    pub background_stands : (a : Option Did) → d.store.half ≡ None → Ran (λ ok. ok ≡ true) hears (background contents d) u e a z → Stands e z
+    background_stands a none r =
+        behind {B = Unit {0}} (background_whole s.plain s.firm d s.held s.order none)
+        (background_follows num empty beside s.follows (ap (option_map half_mark) none)) (background_goes contents d.plans d.history d (itself d)) r
+
+    pub loss_stands : (loss : Loss) (a : Unit {0}) → Ran (λ ok. ok ≡ true) hears (lose contents d loss) u e a z → Stands e z
+    loss_stands loss a r =
+        behind {B = Unit {0}} (loss_whole s.plain s.firm d s.held loss s.order) (loss_follows num empty beside s.follows loss)
+        (lose_goes contents d.plans d.history d loss (itself d)) r
 
 -- the start of a program
 pub start_stands : {K : Type 0} (d : WholeDevice) (u : Outside (List ℕ) K) (path : ℕ) → Stands d u → 1 ≤ path → path ≤ 4 → start_fault d path ≡ None →
