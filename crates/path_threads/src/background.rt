@@ -1,6 +1,6 @@
-ghost use Rattle.std.specs.Prelude.{◌≡◌, None, OnOk, false, is_some};
+ghost use Rattle.std.specs.Prelude.{◌≡◌, None, OnOk, false, is_some, true};
 ghost use Rattle.device_core.specs.State.{device_of};
-ghost use Rattle.path_threads.specs.Keeping.{Moves};
+ghost use Rattle.path_threads.specs.Keeping.{IsOwn, Moves};
 
 use crate::events::Came;
 use ckd_types::NoMemory;
@@ -19,7 +19,9 @@ fn is_idle(did: Did) -> bool {
 }
 
 /// Whether the open half write is the background's own.
-fn is_own<V: Volume>(device: &Device<V>) -> bool {
+fn is_own<V: Volume>(device: &Device<V>) -> bool
+    ensures { result ≡ true → IsOwn (device_of device.now).store.half }
+{
     match device.half_of() {
         Some((_, origin)) => origin == HalfOrigin::Background,
         None => false,

@@ -1,4 +1,5 @@
-ghost use Rattle.std.specs.Prelude.{◌≡◌, None, OnOk, false, is_some, true};
+ghost use Rattle.std.specs.Prelude.{◌≡◌, ◌≤◌, IfSome, None, OnOk, false, is_some, true};
+ghost use Rattle.ckd_chain.specs.Facts.{IsChain};
 ghost use Rattle.plain_defs.specs.History.{is_path_of};
 ghost use Rattle.device_core.specs.State.{device_of};
 ghost use Rattle.path_threads.specs.Keeping.{Moves};
@@ -25,9 +26,22 @@ pub(crate) struct Visitor<'a, G: Gate> {
     pub path: PathNo,
     pub gate: &'a G,
     pub calls: u64,
+    ghost least: { 1 ≤ path },
+    ghost most: { path ≤ 4 },
 }
 
 impl<'a, G: Gate> Visitor<'a, G> {
+    pub fn new(path: PathNo, gate: &'a G) -> Visitor<'a, G>
+        ensures { result.path ≡ path }
+    {
+        let _number = path.get();
+        Visitor {
+            path,
+            gate,
+            calls: 0,
+        }
+    }
+
     fn before<V: Volume>(&mut self, device: &Device<V>)
         ensures { (self.new.path ≡ self.old.path) × (self.new.gate ≡ self.old.gate) }
     {
@@ -57,6 +71,16 @@ fn start_came(outcome: Result<u16, NotStarted>) -> Result<Came, NoMemory> {
         Ok(_) => Ok(Came::Went),
         Err(NotStarted::NoMemory) => Err(NoMemory),
         Err(NotStarted::Refused(fault)) => Ok(fault_came(fault)),
+    }
+}
+
+/// The chain of the program that runs keeps to what chains keep to.
+pub(crate) fn chain_stands<V: Volume>(device: &Device<V>)
+    ensures { IfSome device.now.past.running (λ r. IsChain r.chain) }
+{
+    match &device.past.running {
+        Some(running) => running.chain.stands(),
+        None => (),
     }
 }
 
@@ -90,6 +114,7 @@ fn command<V: Volume, P: Port, G: Gate>(
     ensures path { visitor.new.path ≡ visitor.old.path }
     ensures moves { OnOk result (Moves visitor.old.path device.old device.new) }
 {
+    chain_stands(device);
     visitor.before(device);
     let outcome = device.command(port);
     visitor.after(device);
@@ -107,6 +132,7 @@ fn second<V: Volume, P: Port, G: Gate>(
 ) -> Result<Came, NoMemory>
     requires home { (device_of device.old).store.lent ≡ None }
     requires runs { is_path_of (device_of device.old).history.running visitor.old.path ≡ true }
+    requires half { is_some (device_of device.old).store.half ≡ true }
     ensures path { visitor.new.path ≡ visitor.old.path }
     ensures moves { OnOk result (Moves visitor.old.path device.old device.new) }
 {
@@ -117,7 +143,9 @@ fn second<V: Volume, P: Port, G: Gate>(
 }
 
 /// Whether the open half write is of the command of the program that runs.
-fn is_of_command<V: Volume>(device: &Device<V>) -> bool {
+fn is_of_command<V: Volume>(device: &Device<V>) -> bool
+    ensures { result ≡ true → is_some (device_of device.now).store.half ≡ true }
+{
     match device.half_of() {
         Some((_, origin)) => origin == HalfOrigin::Command,
         None => false,

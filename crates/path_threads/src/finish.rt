@@ -2,6 +2,7 @@ ghost use Rattle.std.specs.Prelude.{◌≡◌, All, AllZip, None, OnOk, false, i
 ghost use Rattle.device_core.specs.State.{device_of};
 ghost use Rattle.path_threads.specs.Keeping.{IsFinished, StaysOn};
 
+use crate::events::chain_stands;
 use ckd_types::{NoMemory, PathNo};
 use device_core::{Device, NotStarted};
 use device_outside::{Port, Volume};
@@ -10,7 +11,7 @@ use std::sync::Wait;
 /// The next program of a path starts, where nothing keeps it out.
 fn start<V: Volume>(device: &mut Device<V>, path: PathNo) -> Result<(), NoMemory>
     requires idle { (device_of device.old).history.running ≡ None }
-    ensures stays { StaysOn device.old device.new }
+    ensures stays { OnOk result (StaysOn device.old device.new) }
 {
     match device.start(path) {
         Err(NotStarted::NoMemory) => Err(NoMemory),
@@ -21,7 +22,7 @@ fn start<V: Volume>(device: &mut Device<V>, path: PathNo) -> Result<(), NoMemory
 /// The first path's next program that nothing keeps out.
 fn start_first<V: Volume>(device: &mut Device<V>) -> Result<(), NoMemory>
     requires idle { (device_of device.old).history.running ≡ None }
-    ensures stays { StaysOn device.old device.new }
+    ensures stays { OnOk result (StaysOn device.old device.new) }
 {
     for number in 1..5 {
         let Some(path) = PathNo::new(number) else {
@@ -36,7 +37,7 @@ fn start_first<V: Volume>(device: &mut Device<V>) -> Result<(), NoMemory>
 
 /// One event of a device: the other part of its half write, a command of its program that runs, or the start of a program.
 fn next_event<V: Volume, P: Port>(device: &mut Device<V>, port: &mut P) -> Result<(), NoMemory>
-    ensures stays { StaysOn device.old device.new }
+    ensures stays { OnOk result (StaysOn device.old device.new) }
 {
     if device.lent_to().is_some() {
         return Ok(());
@@ -46,6 +47,7 @@ fn next_event<V: Volume, P: Port>(device: &mut Device<V>, port: &mut P) -> Resul
         return Ok(());
     }
     if device.active().is_some() {
+        chain_stands(device);
         device.command(port)?;
         return Ok(());
     }
@@ -58,7 +60,7 @@ pub(crate) fn finish<R: Wait, V: Volume, P: Port>(
     device: &mut Device<V>,
     port: &mut P,
 ) -> Result<(), NoMemory>
-    ensures stays { StaysOn device.old device.new }
+    ensures stays { OnOk result (StaysOn device.old device.new) }
     ensures finished { OnOk result (IsFinished device.new) }
     ensures whole { OnOk result (is_some (device_of device.new).store.half ≡ false) }
 {
@@ -77,7 +79,7 @@ pub(crate) fn finish_all<R: Wait, V: Volume, P: Port>(
     devices: &mut [Device<V>],
     port: &mut P,
 ) -> Result<(), NoMemory>
-    ensures stay { AllZip StaysOn devices.old devices.new }
+    ensures stay { OnOk result (AllZip StaysOn devices.old devices.new) }
     ensures finished { OnOk result (All IsFinished devices.new) }
 {
     for i in 0..devices.len() {

@@ -34,22 +34,22 @@ fn two_walk<R: Threads + Wait + Sync, V: Volume + Send, G: Gate + Sync>(
     paths: (PathNo, PathNo),
     seats: (Row<V>, Row<V>),
 ) -> (Walked<V>, Walked<V>)
-    requires first { AllZip (λ t s. IsAt paths.0 t.table.shared.table_id s.seat.table_id s.number s.seat.me) turns.now seats.0.items }
-    requires second { AllZip (λ t s. IsAt paths.1 t.table.shared.table_id s.seat.table_id s.number s.seat.me) turns.now seats.1.items }
-    ensures first { IfOk result.0 (λ v. AllZip (λ t s. IsAt paths.0 t.table.shared.table_id s.seat.table_id s.number s.seat.me) turns.now v.items) }
-    ensures second { IfOk result.1 (λ v. AllZip (λ t s. IsAt paths.1 t.table.shared.table_id s.seat.table_id s.number s.seat.me) turns.now v.items) }
+    requires first { AllZip (IsAt paths.0) turns.now seats.0.items }
+    requires second { AllZip (IsAt paths.1) turns.now seats.1.items }
+    ensures first { IfOk result.0 (λ v. AllZip (IsAt paths.0) turns.now v.items) }
+    ensures second { IfOk result.1 (λ v. AllZip (IsAt paths.1) turns.now v.items) }
 {
     let (a, b) = seats;
     let (one, two) = paths;
     join(
         rt,
         || -> Walked<V>
-            requires { IsSync R.row × AllZip (λ t s. IsAt one t.table.shared.table_id s.seat.table_id s.number s.seat.me) turns.now a.items }
-            ensures { IfOk result (λ v. AllZip (λ t s. IsAt one t.table.shared.table_id s.seat.table_id s.number s.seat.me) turns.entry.now v.items) }
+            requires { IsSync R.row × AllZip (IsAt one) turns.now a.items }
+            ensures { IfOk result (λ v. AllZip (IsAt one) turns.entry.now v.items) }
         { walk(rt, shared, turns, a, one, gate) },
         || -> Walked<V>
-            requires { IsSync R.row × AllZip (λ t s. IsAt two t.table.shared.table_id s.seat.table_id s.number s.seat.me) turns.now b.items }
-            ensures { IfOk result (λ v. AllZip (λ t s. IsAt two t.table.shared.table_id s.seat.table_id s.number s.seat.me) turns.entry.now v.items) }
+            requires { IsSync R.row × AllZip (IsAt two) turns.now b.items }
+            ensures { IfOk result (λ v. AllZip (IsAt two) turns.entry.now v.items) }
         { walk(rt, shared, turns, b, two, gate) },
     )
 }
@@ -70,20 +70,20 @@ fn four_walk<R: Threads + Wait + Sync, V: Volume + Send, G: Gate + Sync>(
     first: (Row<V>, Row<V>),
     second: (Row<V>, Row<V>),
 ) -> ((Walked<V>, Walked<V>), (Walked<V>, Walked<V>))
-    requires first { AllZip (λ t s. IsAt 1 t.table.shared.table_id s.seat.table_id s.number s.seat.me) turns.now first.0.items × AllZip (λ t s. IsAt 2 t.table.shared.table_id s.seat.table_id s.number s.seat.me) turns.now first.1.items }
-    requires second { AllZip (λ t s. IsAt 3 t.table.shared.table_id s.seat.table_id s.number s.seat.me) turns.now second.0.items × AllZip (λ t s. IsAt 4 t.table.shared.table_id s.seat.table_id s.number s.seat.me) turns.now second.1.items }
-    ensures first { IfOk result.0.0 (λ v. AllZip (λ t s. IsAt 1 t.table.shared.table_id s.seat.table_id s.number s.seat.me) turns.now v.items) × IfOk result.0.1 (λ v. AllZip (λ t s. IsAt 2 t.table.shared.table_id s.seat.table_id s.number s.seat.me) turns.now v.items) }
-    ensures second { IfOk result.1.0 (λ v. AllZip (λ t s. IsAt 3 t.table.shared.table_id s.seat.table_id s.number s.seat.me) turns.now v.items) × IfOk result.1.1 (λ v. AllZip (λ t s. IsAt 4 t.table.shared.table_id s.seat.table_id s.number s.seat.me) turns.now v.items) }
+    requires first { AllZip (IsAt 1) turns.now first.0.items × AllZip (IsAt 2) turns.now first.1.items }
+    requires second { AllZip (IsAt 3) turns.now second.0.items × AllZip (IsAt 4) turns.now second.1.items }
+    ensures first { IfOk result.0.0 (λ v. AllZip (IsAt 1) turns.now v.items) × IfOk result.0.1 (λ v. AllZip (IsAt 2) turns.now v.items) }
+    ensures second { IfOk result.1.0 (λ v. AllZip (IsAt 3) turns.now v.items) × IfOk result.1.1 (λ v. AllZip (IsAt 4) turns.now v.items) }
 {
     join(
         rt,
         || -> (Walked<V>, Walked<V>)
-            requires { IsSync R.row × AllZip (λ t s. IsAt 1 t.table.shared.table_id s.seat.table_id s.number s.seat.me) turns.now first.0.items × AllZip (λ t s. IsAt 2 t.table.shared.table_id s.seat.table_id s.number s.seat.me) turns.now first.1.items }
-            ensures { IfOk result.0 (λ v. AllZip (λ t s. IsAt 1 t.table.shared.table_id s.seat.table_id s.number s.seat.me) turns.entry.now v.items) × IfOk result.1 (λ v. AllZip (λ t s. IsAt 2 t.table.shared.table_id s.seat.table_id s.number s.seat.me) turns.entry.now v.items) }
+            requires { IsSync R.row × AllZip (IsAt 1) turns.now first.0.items × AllZip (IsAt 2) turns.now first.1.items }
+            ensures { IfOk result.0 (λ v. AllZip (IsAt 1) turns.entry.now v.items) × IfOk result.1 (λ v. AllZip (IsAt 2) turns.entry.now v.items) }
         { two_walk(rt, shared, turns, gate, (path(1), path(2)), first) },
         || -> (Walked<V>, Walked<V>)
-            requires { IsSync R.row × AllZip (λ t s. IsAt 3 t.table.shared.table_id s.seat.table_id s.number s.seat.me) turns.now second.0.items × AllZip (λ t s. IsAt 4 t.table.shared.table_id s.seat.table_id s.number s.seat.me) turns.now second.1.items }
-            ensures { IfOk result.0 (λ v. AllZip (λ t s. IsAt 3 t.table.shared.table_id s.seat.table_id s.number s.seat.me) turns.entry.now v.items) × IfOk result.1 (λ v. AllZip (λ t s. IsAt 4 t.table.shared.table_id s.seat.table_id s.number s.seat.me) turns.entry.now v.items) }
+            requires { IsSync R.row × AllZip (IsAt 3) turns.now second.0.items × AllZip (IsAt 4) turns.now second.1.items }
+            ensures { IfOk result.0 (λ v. AllZip (IsAt 3) turns.entry.now v.items) × IfOk result.1 (λ v. AllZip (IsAt 4) turns.entry.now v.items) }
         { two_walk(rt, shared, turns, gate, (path(3), path(4)), second) },
     )
 }
@@ -111,14 +111,14 @@ fn all_walk<R: Threads + Wait + Sync, V: Volume + Send, G: Gate + Sync>(
     let ((low, high), background) = join(
         rt,
         || -> ((Walked<V>, Walked<V>), (Walked<V>, Walked<V>))
-            requires { IsSync R.row × AllZip (λ t s. IsAt 1 t.table.shared.table_id s.seat.table_id s.number s.seat.me) turns.now low.0.items × AllZip (λ t s. IsAt 2 t.table.shared.table_id s.seat.table_id s.number s.seat.me) turns.now low.1.items ×
-                AllZip (λ t s. IsAt 3 t.table.shared.table_id s.seat.table_id s.number s.seat.me) turns.now high.0.items × AllZip (λ t s. IsAt 4 t.table.shared.table_id s.seat.table_id s.number s.seat.me) turns.now high.1.items }
-            ensures { IfOk result.0.0 (λ v. AllZip (λ t s. IsAt 1 t.table.shared.table_id s.seat.table_id s.number s.seat.me) turns.entry.now v.items) × IfOk result.0.1 (λ v. AllZip (λ t s. IsAt 2 t.table.shared.table_id s.seat.table_id s.number s.seat.me) turns.entry.now v.items) ×
-                IfOk result.1.0 (λ v. AllZip (λ t s. IsAt 3 t.table.shared.table_id s.seat.table_id s.number s.seat.me) turns.entry.now v.items) × IfOk result.1.1 (λ v. AllZip (λ t s. IsAt 4 t.table.shared.table_id s.seat.table_id s.number s.seat.me) turns.entry.now v.items) }
+            requires { IsSync R.row × AllZip (IsAt 1) turns.now low.0.items × AllZip (IsAt 2) turns.now low.1.items ×
+                AllZip (IsAt 3) turns.now high.0.items × AllZip (IsAt 4) turns.now high.1.items }
+            ensures { IfOk result.0.0 (λ v. AllZip (IsAt 1) turns.entry.now v.items) × IfOk result.0.1 (λ v. AllZip (IsAt 2) turns.entry.now v.items) ×
+                IfOk result.1.0 (λ v. AllZip (IsAt 3) turns.entry.now v.items) × IfOk result.1.1 (λ v. AllZip (IsAt 4) turns.entry.now v.items) }
         { four_walk(rt, shared, turns, gate, low, high) },
         || -> Walked<V>
-            requires { IsSync R.row × AllZip (λ t s. IsAt 5 t.table.shared.table_id s.seat.table_id s.number s.seat.me) turns.now background.items }
-            ensures { IfOk result (λ v. AllZip (λ t s. IsAt 5 t.table.shared.table_id s.seat.table_id s.number s.seat.me) turns.entry.now v.items) }
+            requires { IsSync R.row × AllZip (IsAt 5) turns.now background.items }
+            ensures { IfOk result (λ v. AllZip (IsAt 5) turns.entry.now v.items) }
         { work_behind(rt, shared, turns, background) },
     );
     Ok(Seats {

@@ -1,14 +1,13 @@
-ghost use Rattle.std.specs.Prelude.{◌≡◌, ◌<◌, AllZip, IfOk, OnOk, vec_len};
+ghost use Rattle.std.specs.Prelude.{◌≡◌, ◌<◌, ◌+◌, ◌++◌, ◌∷◌, [], ℕ, All, AllZip, IfOk, OnOk, Some, true, vec_len};
 ghost use Rattle.device_core.specs.State.{device_of};
 ghost use Rattle.device_defs.specs.Pledge.{seat_counts};
-ghost use Rattle.device_turn.specs.Rule.{zeros};
-ghost use Rattle.path_threads.specs.Keeping.{Stays};
-ghost use Rattle.path_threads.specs.Seating.{AreSet, IsPromise, IsSet};
+ghost use Rattle.device_turn.specs.Rule.{has, zeros};
+ghost use Rattle.path_threads.specs.Keeping.{IsReady, Stays};
+ghost use Rattle.path_threads.specs.Seating.{AreSet, Clears, ClearsAll, IsAt, IsHome, IsSet, Promised};
 
 use crate::promise::{DeviceSeat, DeviceTurn, Promise};
 use ckd_types::NoMemory;
 use device_core::Device;
-use device_defs::Losses;
 use device_outside::Volume;
 use device_turn::Turn;
 use std::alloc::Global;
@@ -48,7 +47,8 @@ fn set<V: Volume>(
 ) -> Result<Setting<V>, NoMemory>
     requires stays { Stays promise.now device }
     requires unused { seat_counts (device_of device) ≡ zeros }
-    ensures { IfOk result (IsSet promise.now) }
+    ensures set { IfOk result IsSet }
+    ensures pledge { IfOk result (λ s. s.operator.seat.seat.me.0.pledge ≡ Some promise.now) }
 {
     let (turn, mut operator) = match Turn::make(alloc, device, promise) {
         Err((NoMemory, _)) => return Err(NoMemory),
@@ -60,24 +60,37 @@ fn set<V: Volume>(
     let fourth = turn.split(&mut operator);
     let background = turn.split(&mut operator);
     Ok(Setting {
-        turn,
-        operator,
-        first,
-        second,
-        third,
-        fourth,
-        background,
+        turn: DeviceTurn { turn },
+        operator: DeviceSeat { seat: operator },
+        first: DeviceSeat { seat: first },
+        second: DeviceSeat { seat: second },
+        third: DeviceSeat { seat: third },
+        fourth: DeviceSeat { seat: fourth },
+        background: DeviceSeat { seat: background },
     })
 }
 
 /// The operator's seat takes in the next one.
-fn take_in<V: Volume>(turn: &DeviceTurn<V>, operator: &mut DeviceSeat<V>, gone: DeviceSeat<V>) {
-    turn.join(operator, gone);
+fn take_in<V: Volume>(
+    turn: &DeviceTurn<V>,
+    operator: &mut DeviceSeat<V>,
+    gone: DeviceSeat<V>,
+    number: u64,
+)
+    requires operator { IsHome turn.now operator.old }
+    requires gone { IsAt number turn.now gone }
+    requires before { (k : ℕ) → 0 < k → k < number → has k operator.old.seat.seat.me.0.joined ≡ true }
+    ensures operator { IsHome turn.now operator.new }
+    ensures pledge { operator.new.seat.seat.me.0.pledge ≡ operator.old.seat.seat.me.0.pledge }
+    ensures after { (k : ℕ) → 0 < k → k < number + 1 → has k operator.new.seat.seat.me.0.joined ≡ true }
+{
+    turn.turn.join(&mut operator.seat, gone.seat);
 }
 
 /// The device leaves its turn, once all seats have come home.
 fn clear<V: Volume>(setting: Setting<V>) -> Device<V>
-    ensures { (p : Promise V) → IsSet p setting → Stays p result }
+    requires { IsSet setting }
+    ensures { Clears setting result }
 {
     let Setting {
         turn,
@@ -88,16 +101,19 @@ fn clear<V: Volume>(setting: Setting<V>) -> Device<V>
         fourth,
         background,
     } = setting;
-    take_in(&turn, &mut operator, first);
-    take_in(&turn, &mut operator, second);
-    take_in(&turn, &mut operator, third);
-    take_in(&turn, &mut operator, fourth);
-    take_in(&turn, &mut operator, background);
-    turn.close(operator)
+    take_in(&turn, &mut operator, first, 1);
+    take_in(&turn, &mut operator, second, 2);
+    take_in(&turn, &mut operator, third, 3);
+    take_in(&turn, &mut operator, fourth, 4);
+    take_in(&turn, &mut operator, background, 5);
+    turn.turn.close(operator.seat)
 }
 
 impl<V: Volume> Table<V> {
-    fn new(alloc: Global) -> Table<V> {
+    fn new(alloc: Global) -> Table<V>
+        ensures set { AreSet result }
+        ensures none { result.operator.items ≡ [] }
+    {
         Table {
             turns: Vec::new(alloc),
             operator: Vec::new(alloc),
@@ -111,7 +127,12 @@ impl<V: Volume> Table<V> {
         }
     }
 
-    fn push(&mut self, setting: Setting<V>) -> Result<(), NoMemory> {
+    fn push(&mut self, setting: Setting<V>) -> Result<(), NoMemory>
+        requires old { AreSet self.old }
+        requires more { IsSet setting }
+        ensures set { OnOk result (AreSet self.new) }
+        ensures operator { OnOk result (self.new.operator.items ≡ self.old.operator.items ++ setting.operator ∷ []) }
+    {
         let Setting {
             turn,
             operator,
@@ -131,7 +152,14 @@ impl<V: Volume> Table<V> {
         Ok(())
     }
 
-    fn pop(&mut self) -> Setting<V> {
+    fn pop(&mut self) -> Setting<V>
+        requires some { 0 < vec_len self.old.turns }
+        requires set { AreSet self.old }
+        ensures set { AreSet self.new }
+        ensures one { IsSet result }
+        ensures operator { self.old.operator.items ≡ self.new.operator.items ++ result.operator ∷ [] }
+        ensures fewer { vec_len self.new.turns + 1 ≡ vec_len self.old.turns }
+    {
         Setting {
             turn: self.turns.pop().unwrap(),
             operator: self.operator.pop().unwrap(),
@@ -144,20 +172,15 @@ impl<V: Volume> Table<V> {
     }
 }
 
-/// The losses that a device has and those that may still come.
-pub(crate) fn most_of(has: Losses, more: Losses) -> Losses {
-    Losses {
-        cache: has.cache.saturating_add(more.cache),
-        store: has.store.saturating_add(more.store),
-        sides: has.sides.saturating_add(more.sides),
-    }
-}
-
 /// Each device stands in a turn.
 pub(crate) fn set_all<V: Volume>(
     alloc: Global,
     devices: Vec<Device<V>>,
-) -> Result<Table<V>, NoMemory> {
+) -> Result<Table<V>, NoMemory>
+    requires { All IsReady devices.items }
+    ensures set { IfOk result AreSet }
+    ensures promised { IfOk result (λ t. AllZip Promised devices.items t.operator.items) }
+{
     let mut table = Table::new(alloc);
     for device in devices {
         let promise = Promise {
@@ -174,7 +197,10 @@ pub(crate) fn set_all<V: Volume>(
 pub(crate) fn clear_all<V: Volume>(
     alloc: Global,
     mut table: Table<V>,
-) -> Result<Vec<Device<V>>, NoMemory> {
+) -> Result<Vec<Device<V>>, NoMemory>
+    requires { AreSet table }
+    ensures { IfOk result (λ v. ClearsAll table.operator.items v.items) }
+{
     let mut devices = Vec::new(alloc);
     for _ in 0..table.turns.len() {
         let setting = table.pop();

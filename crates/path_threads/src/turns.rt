@@ -1,6 +1,5 @@
 ghost use Rattle.std.specs.Prelude.{◌≡◌, OnOk};
-ghost use Rattle.device_turn.specs.Answers.{IsAway};
-ghost use Rattle.path_threads.specs.Seating.{Rests};
+ghost use Rattle.path_threads.specs.Seating.{IsAt, Rests};
 
 use crate::background::background_event;
 use crate::events::{Came, Visitor, path_event};
@@ -16,21 +15,18 @@ pub(crate) fn path_turn<V: Volume, P: Port, G: Gate>(
     visitor: &mut Visitor<G>,
     port: &mut P,
 ) -> Result<Came, NoMemory>
-    requires own { seat.old.seat.table_id ≡ turn.now.table.shared.table_id }
-    requires away { IsAway seat.old.seat.me }
-    requires path { seat.old.number ≡ visitor.old.path }
+    requires at { IsAt visitor.old.path turn.now seat.old }
     ensures path { visitor.new.path ≡ visitor.old.path }
-    ensures own { OnOk result ((seat.new.seat.table_id ≡ seat.old.seat.table_id) × (seat.new.number ≡ seat.old.number) × (seat.new.made ≡ seat.old.made)) }
-    ensures rests { OnOk result (Rests seat.old.seat.me seat.new.seat.me) }
+    ensures rests { OnOk result (Rests seat.old seat.new) }
 {
-    match turn.enter(seat) {
+    match turn.turn.enter(&mut seat.seat) {
         Enter::Taken { .. } => Ok(Came::Again),
         Enter::Got(mut device) => {
             let came = match path_event(&mut device, visitor, port) {
                 Err(NoMemory) => return Err(NoMemory),
                 Ok(came) => came,
             };
-            turn.leave(seat, device);
+            turn.turn.leave(&mut seat.seat, device);
             Ok(came)
         }
     }
@@ -42,20 +38,17 @@ pub(crate) fn background_turn<V: Volume, P: Port>(
     seat: &mut DeviceSeat<V>,
     port: &mut P,
 ) -> Result<Came, NoMemory>
-    requires own { seat.old.seat.table_id ≡ turn.now.table.shared.table_id }
-    requires away { IsAway seat.old.seat.me }
-    requires number { seat.old.number ≡ 5 }
-    ensures own { OnOk result ((seat.new.seat.table_id ≡ seat.old.seat.table_id) × (seat.new.number ≡ seat.old.number) × (seat.new.made ≡ seat.old.made)) }
-    ensures rests { OnOk result (Rests seat.old.seat.me seat.new.seat.me) }
+    requires at { IsAt 5 turn.now seat.old }
+    ensures rests { OnOk result (Rests seat.old seat.new) }
 {
-    match turn.enter(seat) {
+    match turn.turn.enter(&mut seat.seat) {
         Enter::Taken { .. } => Ok(Came::Again),
         Enter::Got(mut device) => {
             let came = match background_event(&mut device, port) {
                 Err(NoMemory) => return Err(NoMemory),
                 Ok(came) => came,
             };
-            turn.leave(seat, device);
+            turn.turn.leave(&mut seat.seat, device);
             Ok(came)
         }
     }

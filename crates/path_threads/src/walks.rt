@@ -1,5 +1,4 @@
 ghost use Rattle.std.specs.Prelude.{◌≡◌, AllZip, IfOk, OnOk};
-ghost use Rattle.device_turn.specs.Answers.{IsAway};
 ghost use Rattle.path_threads.specs.Seating.{IsAt, Rests};
 
 use crate::events::{Came, Visitor};
@@ -20,12 +19,9 @@ fn serve<R: Wait, V: Volume, G: Gate, P: Port>(
     visitor: &mut Visitor<G>,
     port: &mut P,
 ) -> Result<(), NoMemory>
-    requires own { seat.old.seat.table_id ≡ turn.now.table.shared.table_id }
-    requires away { IsAway seat.old.seat.me }
-    requires path { seat.old.number ≡ visitor.old.path }
+    requires at { IsAt visitor.old.path turn.now seat.old }
     ensures path { visitor.new.path ≡ visitor.old.path }
-    ensures own { OnOk result ((seat.new.seat.table_id ≡ seat.old.seat.table_id) × (seat.new.number ≡ seat.old.number) × (seat.new.made ≡ seat.old.made)) }
-    ensures rests { OnOk result (Rests seat.old.seat.me seat.new.seat.me) }
+    ensures rests { OnOk result (Rests seat.old seat.new) }
 {
     for _ in rt.forever() {
         if shared.is_stopped() {
@@ -53,15 +49,11 @@ pub(crate) fn walk<R: Wait, V: Volume, G: Gate>(
     path: PathNo,
     gate: &G,
 ) -> Result<Vec<DeviceSeat<V>>, NoMemory>
-    requires { AllZip (λ t s. IsAt path t.table.shared.table_id s.seat.table_id s.number s.seat.me) turns.now seats.items }
-    ensures { IfOk result (λ v. AllZip (λ t s. IsAt path t.table.shared.table_id s.seat.table_id s.number s.seat.me) turns.now v.items) }
+    requires { AllZip (IsAt path) turns.now seats.items }
+    ensures { IfOk result (λ v. AllZip (IsAt path) turns.now v.items) }
 {
     let mut port = SharedPool::new(rt, shared);
-    let mut visitor = Visitor {
-        path,
-        gate,
-        calls: 0,
-    };
+    let mut visitor = Visitor::new(path, gate);
     for i in 0..turns.len() {
         serve(
             rt,
@@ -81,8 +73,8 @@ fn round<V: Volume, P: Port>(
     seats: &mut [DeviceSeat<V>],
     port: &mut P,
 ) -> Result<bool, NoMemory>
-    requires { AllZip (λ t s. IsAt 5 t.table.shared.table_id s.seat.table_id s.number s.seat.me) turns.now seats.old }
-    ensures { OnOk result (AllZip (λ t s. IsAt 5 t.table.shared.table_id s.seat.table_id s.number s.seat.me) turns.now seats.new) }
+    requires { AllZip (IsAt 5) turns.now seats.old }
+    ensures { OnOk result (AllZip (IsAt 5) turns.now seats.new) }
 {
     let mut over = true;
     for i in 0..turns.len() {
@@ -99,8 +91,8 @@ pub(crate) fn work_behind<R: Wait, V: Volume>(
     turns: &[DeviceTurn<V>],
     mut seats: Vec<DeviceSeat<V>>,
 ) -> Result<Vec<DeviceSeat<V>>, NoMemory>
-    requires { AllZip (λ t s. IsAt 5 t.table.shared.table_id s.seat.table_id s.number s.seat.me) turns.now seats.items }
-    ensures { IfOk result (λ v. AllZip (λ t s. IsAt 5 t.table.shared.table_id s.seat.table_id s.number s.seat.me) turns.now v.items) }
+    requires { AllZip (IsAt 5) turns.now seats.items }
+    ensures { IfOk result (λ v. AllZip (IsAt 5) turns.now v.items) }
 {
     let mut port = SharedPool::new(rt, shared);
     for _ in rt.forever() {

@@ -114,7 +114,7 @@ closed_other : (h : History) (o : OpenEntry) (e : CommandEnd) (how : How) (q : �
     path_count (closed h (with_end o e) how) q ≡ path_count h q
 closed_other h o e how q is other =
     let more : count_by (is_of_path q) (h.items ++ entry_of (with_end o e) how ∷ resets_of h.waiting) ≡ count_by (is_of_path q) h.items
-        = count_more (is_of_path q) h.items (entry_of (with_end o e) how ∷ resets_of h.waiting) (other, no_resets q h.waiting) in
+    = count_more (is_of_path q) h.items (entry_of (with_end o e) how ∷ resets_of h.waiting) (other, no_resets q h.waiting) in
     let idle : is_path_of h.running q ≡ false = ap (λ (r : Option OpenEntry). is_path_of r q) is ∙ other in
     ap (λ (n : ℕ). 2 * n + 0) more ∙ ap (λ (b : Bool). 2 * count_by (is_of_path q) h.items + (if b then 1 else 0)) (sym idle)
 

@@ -1,3 +1,4 @@
 pub mod Counts
 pub mod Untold
 pub mod Standing
+pub mod Sound

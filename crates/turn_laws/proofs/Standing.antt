@@ -14,7 +14,10 @@ use Rattle.plain_defs.specs.Whole.{GivesBytes}
 use Rattle.track_image.specs.Image.{Image}
 use Rattle.device_outside.specs.Interaction.{Interaction}
 use Rattle.device_outside.specs.Keeper.{Hearing, Message, ReplyTo, reply}
+use Rattle.device_outside.specs.After.{Has}
 use Rattle.device_outside.specs.Outside.{Outside, Ran}
+use Rattle.device_outside.specs.Slots.{SlotsTold}
+use Rattle.device_outside.proofs.Runs.{ran_weaker}
 use Rattle.device_defs.specs.declared.answers.Did.{Did}
 use Rattle.device_defs.specs.declared.answers.SecondEnd.{SecondEnd}
 use Rattle.device_defs.specs.declared.answers.Stepped.{Stepped}
@@ -27,13 +30,14 @@ use Rattle.device_defs.specs.Start.{start, start_fault}
 use Rattle.device_defs.specs.Store.{HalfWrite}
 use Rattle.loss_model.specs.declared.Loss.{Loss}
 use Rattle.device_laws.specs.Standing.{LooksAt, RunsOn}
-use Rattle.device_laws.specs.Whole.{WholeDevice, WholeTwin, WholeTwins, Leaves, marks_device}
+use Rattle.device_laws.specs.Whole.{WholeDevice, WholeTwin, WholeTwins, Leaves, BehindCommand, marks_device}
 use Rattle.device_laws.proofs.Always.{Always}
 use Rattle.device_laws.proofs.ChainFeeds.{chain_feeds, runs_looks}
 use Rattle.device_laws.proofs.Had.{Had}
-use Rattle.device_laws.proofs.KeepLaws.{always_ran}
+use Rattle.device_laws.proofs.CleanParts.{Holds, command_clean, second_clean}
+use Rattle.device_laws.proofs.KeepLaws.{always_ran, clean_ran}
 use Rattle.device_laws.proofs.KeptEvents.{Continues, command_goes, second_goes, background_goes, lose_goes}
-use Rattle.device_laws.proofs.KeptHistories.{extends_itself}
+use Rattle.device_laws.proofs.KeptHistories.{data_checks, extends_itself}
 use Rattle.device_laws.proofs.PlainCommand.{command_follows}
 use Rattle.device_laws.proofs.PlainEvents.{start_follows}
 use Rattle.device_laws.proofs.PlainLosses.{background_follows, loss_follows}
@@ -63,9 +67,9 @@ runs_by plans x o (Some origin) g n chain is gives least most at of c =
       geometry = of.0;
       gives = λ i. subst (λ (l : List Ccw). GivesBytes (ccw_at l i)) (sym at.hand.words) (gives o.path o.ordinal least most i);
     }) c
-    where
-  some_same : (x y : ChainState) → Some x ≡ Some y → x ≡ y
-  some_same x y e = cc
+  where
+    some_same : (x y : ChainState) → Some x ≡ Some y → x ≡ y
+    some_same x y e = cc
 
 module _ {K : Type 0} {d : WholeDevice} {u : Outside (List ℕ) K} (s : Stands d u) where
   abbrev num : ℕ
@@ -87,9 +91,20 @@ module _ {K : Type 0} {d : WholeDevice} {u : Outside (List ℕ) K} (s : Stands d
       (sym (none_mid _ beside.store.half d.history.running f.before d.chain whole f.mid) ∙ is) s.gives start.least start.most
       (subst (λ (r : Option OpenEntry). RunsAt d.plans (replay d.plans empty d.history.items) r f.before) runs f.runs) f.chain c
 
+  whole_of : (o : OpenEntry) (none : d.store.half ≡ None) → d.history.running ≡ Some o → ((chain : ChainState) → d.chain ≡ Some chain → IsChain chain) →
+      WholeTwins (Leaves (BehindCommand s.plain (d.store.cylinders * 15) d.chain)) (command contents d) (command by_plain beside) s.held
+  whole_of o none runs chains =
+      let n = d.store.cylinders in
+      let on = d.store.geometry in
+      command_whole (n * 15) on (LooksAt n on) (chain_feeds n on) s.plain s.firm d s.held s.order refl refl none
+      (λ chain q is needs. runs_looks n on chain q (runs_on none o runs chain is (chains chain is)) needs)
+
+  has : Has [] u s.held
+  has = record { a = s.untold.a; b = s.untold.b; slots = subst (λ (o : Option (List ℕ)). SlotsTold u.port.pool o []) (sym s.untold.slots) tt }
+
   module _ {hears : Hearing Image K} (heard : (k : K) (m : Message Image) (r : ReplyTo m) (l : K) → hears k m r l → r ≡ reply m)
       {e : WholeDevice} {z : Outside (List ℕ) K} where
-    behind : {A B : Type 0} {a : A} {p : List Track → Type 0} {i : Interaction (List ℕ) Image WholeDevice A} {j : Interaction Bool Image MarksDevice A} →
+    behind : {A : Type 0} {a : A} {p : List Track → Type 0} {i : Interaction (List ℕ) Image WholeDevice A} {j : Interaction Bool Image MarksDevice A} →
         WholeTwins (Leaves p) i j s.held → Had j (λ y _. Follows num empty y) → Always i (λ y _. Continues d.plans d.history y) →
         Ran (λ ok. ok ≡ true) hears i u e a z → Stands e z
     behind {a = a} {p = p} {i = i} both had goes r =
@@ -108,26 +123,36 @@ module _ {K : Type 0} {d : WholeDevice} {u : Outside (List ℕ) K} (s : Stands d
     pub command_stands : (a : Option Stepped) (o : OpenEntry) → d.store.half ≡ None → d.history.running ≡ Some o →
         ((chain : ChainState) → d.chain ≡ Some chain → IsChain chain) → Ran (λ ok. ok ≡ true) hears (command contents d) u e a z → Stands e z
     command_stands a o none runs chains r =
-        let n = d.store.cylinders in
-        let on = d.store.geometry in
-        behind {B = Unit {0}}
-        (command_whole (n * 15) on (LooksAt n on) (chain_feeds n on) s.plain s.firm d s.held s.order refl refl none
-        (λ chain q is needs. runs_looks n on chain q (runs_on none o runs chain is (chains chain is)) needs))
+        behind (whole_of o none runs chains)
         (command_follows num empty beside s.follows o runs (ap (option_map half_mark) none)) (command_goes contents d.plans d.history d (itself d)) r
+
+    -- no data check comes of a command, nor of the other part of its write
+    pub command_checks : (a : Option Stepped) (o : OpenEntry) → d.store.half ≡ None → d.history.running ≡ Some o →
+        ((chain : ChainState) → d.chain ≡ Some chain → IsChain chain) → Ran (λ ok. ok ≡ true) hears (command contents d) u e a z →
+        data_checks e.history ≡ data_checks d.history
+    command_checks a o none runs chains r =
+        clean_ran (λ y _. data_checks y.history ≡ data_checks d.history) (λ y _. Holds (data_checks d.history) y) [] s.held (whole_of o none runs chains)
+        (command_clean beside) (λ x y f. f) has (ran_weaker (λ ok h. tt) r)
+
+    pub second_checks : (a : SecondEnd) → Ran (λ ok. ok ≡ true) hears (second contents d) u e a z → data_checks e.history ≡ data_checks d.history
+    second_checks a r =
+        clean_ran (λ y _. data_checks y.history ≡ data_checks d.history) (λ y _. Holds (data_checks d.history) y) [] s.held
+        (second_whole s.plain s.firm d s.held s.order (λ i is. (s.order.opened i is).suits))
+        (second_clean beside) (λ x y f. f) has (ran_weaker (λ ok h. tt) r)
 
     pub second_stands : (a : SecondEnd) (h : HalfWrite Image) → d.store.half ≡ Some h → Ran (λ ok. ok ≡ true) hears (second contents d) u e a z → Stands e z
     second_stands a h half r =
-        behind {B = Unit {0}} (second_whole s.plain s.firm d s.held s.order (λ i is. (s.order.opened i is).suits))
+        behind (second_whole s.plain s.firm d s.held s.order (λ i is. (s.order.opened i is).suits))
         (second_follows num empty beside s.follows (half_mark h) (ap (option_map half_mark) half)) (second_goes contents d.plans d.history d (itself d)) r
 
     pub background_stands : (a : Option Did) → d.store.half ≡ None → Ran (λ ok. ok ≡ true) hears (background contents d) u e a z → Stands e z
     background_stands a none r =
-        behind {B = Unit {0}} (background_whole s.plain s.firm d s.held s.order none)
+        behind (background_whole s.plain s.firm d s.held s.order none)
         (background_follows num empty beside s.follows (ap (option_map half_mark) none)) (background_goes contents d.plans d.history d (itself d)) r
 
     pub loss_stands : (loss : Loss) (a : Unit {0}) → Ran (λ ok. ok ≡ true) hears (lose contents d loss) u e a z → Stands e z
     loss_stands loss a r =
-        behind {B = Unit {0}} (loss_whole s.plain s.firm d s.held loss s.order) (loss_follows num empty beside s.follows loss)
+        behind (loss_whole s.plain s.firm d s.held loss s.order) (loss_follows num empty beside s.follows loss)
         (lose_goes contents d.plans d.history d loss (itself d)) r
 
 -- the start of a program

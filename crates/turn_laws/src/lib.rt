@@ -1,5 +1,51 @@
-//! Laws of a device in a turn.
+//! Laws of a device in a turn, whose port tells nothing: it goes on to stand beside the plain device of its history, and is sound.
+//! No code but law functions.
 #![tactic(auto)]
 
-/// Nothing.
-pub fn nothing() {}
+ghost use Rattle.std.specs.Prelude.{◌≡◌, ◌≤◌, true, ℕ, List, Option, None, Some};
+ghost use Rattle.ckd_chain.specs.Facts.{IsChain};
+ghost use Rattle.ckd_chain.specs.State.{ChainState};
+ghost use Rattle.loss_model.specs.declared.Loss.{Loss};
+ghost use Rattle.plain_defs.specs.History.{IsPlain, OpenEntry};
+ghost use Rattle.plain_defs.specs.PlainState.{empty_state};
+ghost use Rattle.track_image.specs.Image.{Image};
+ghost use Rattle.device_outside.specs.declared.keep.NoKeep.{NoKeep};
+ghost use Rattle.device_outside.specs.After.{Tells};
+ghost use Rattle.device_outside.specs.Keeper.{reply};
+ghost use Rattle.device_outside.specs.Outside.{Outside, Ran};
+ghost use Rattle.device_defs.specs.declared.answers.Did.{Did};
+ghost use Rattle.device_defs.specs.declared.answers.SecondEnd.{SecondEnd};
+ghost use Rattle.device_defs.specs.declared.answers.Stepped.{Stepped};
+ghost use Rattle.device_defs.specs.Command.{command};
+ghost use Rattle.device_defs.specs.Contents.{contents};
+ghost use Rattle.device_defs.specs.Events.{second, background, lose};
+ghost use Rattle.device_defs.specs.Sound.{IsSound};
+ghost use Rattle.device_defs.specs.Start.{start, start_fault};
+ghost use Rattle.device_defs.specs.Store.{HalfWrite};
+ghost use Rattle.device_laws.specs.Agrees.{Held};
+ghost use Rattle.device_laws.specs.Whole.{WholeDevice};
+ghost use Rattle.turn_laws.specs.Standing.{Stands};
+
+/// Behind each event, whatever the port answers and whichever calls fail, the device stands beside the plain device of its history, where memory was
+/// had and its volumes tell what they hold.
+pub fn device_stands_on()
+    ensures starts { (d : WholeDevice) (u : Outside (List ℕ) NoKeep) (path : ℕ) → Stands d u → 1 ≤ path → path ≤ 4 → start_fault d path ≡ None →
+        Stands (start d path) u }
+    ensures command { (d e : WholeDevice) (u z : Outside (List ℕ) NoKeep) (a : Option Stepped) (o : OpenEntry) → Stands d u → d.store.half ≡ None →
+        d.history.running ≡ Some o → ((chain : ChainState) → d.chain ≡ Some chain → IsChain chain) →
+        Ran (λ ok. ok ≡ true) (λ _ m r _. r ≡ reply m) (command contents d) u e a z → Stands e z }
+    ensures second { (d e : WholeDevice) (u z : Outside (List ℕ) NoKeep) (a : SecondEnd) (h : HalfWrite Image) → Stands d u → d.store.half ≡ Some h →
+        Ran (λ ok. ok ≡ true) (λ _ m r _. r ≡ reply m) (second contents d) u e a z → Stands e z }
+    ensures background { (d e : WholeDevice) (u z : Outside (List ℕ) NoKeep) (a : Option Did) → Stands d u → d.store.half ≡ None →
+        Ran (λ ok. ok ≡ true) (λ _ m r _. r ≡ reply m) (background contents d) u e a z → Stands e z }
+    ensures lose { (d e : WholeDevice) (u z : Outside (List ℕ) NoKeep) (a : Unit {0}) (loss : Loss) → Stands d u →
+        Ran (λ ok. ok ≡ true) (λ _ m r _. r ≡ reply m) (lose contents d loss) u e a z → Stands e z }
+{}
+
+/// Its frames, its patches and what its volumes hold agree track by track with the plain device of its history, which is one that a plain device
+/// could have.
+pub fn standing_device_is_sound()
+    ensures sound { (d : WholeDevice) (u : Outside (List ℕ) NoKeep) → Stands d u → (h : Held) × Tells u.a h.a × Tells u.b h.b × IsSound d h }
+    ensures plain { (d : WholeDevice) (u : Outside (List ℕ) NoKeep) → Stands d u →
+        IsPlain d.plans (empty_state d.store.geometry d.store.cylinders) d.history }
+{}
