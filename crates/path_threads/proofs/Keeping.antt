@@ -229,15 +229,22 @@ module _ {V : Type 0} {G : Ghosts V} where
   module _ (d e : Device V G) (path : ℕ) (least : 1 ≤ path) (most : path ≤ 4) (is : device_of e ≡ start (device_of d) path)
       (same : e.store ≡ d.store) where
     started_keeps : (p : Pledge) → (start_fault (device_of d) path ≡ None) → KeepsPledge p d → (x : DeviceStore V G) → x ≡ d.store →
-        StaysInTurn p (start (device_of d) path) (record { allowance = allowance_in (outside (no_pool 0) x (tt {0}));
-        tells = tells (outside (no_pool 0) x (tt {0})).a && tells (outside (no_pool 0) x (tt {0})).b; told = p.told }) (outside (no_pool 0) x (tt {0}))
+        StaysInTurn p (start (device_of d) path) (record {
+          allowance = allowance_in (outside (no_pool 0) x (tt {0}));
+          tells = tells (outside (no_pool 0) x (tt {0})).a && tells (outside (no_pool 0) x (tt {0})).b;
+          told = p.told;
+        }) (outside (no_pool 0) x (tt {0}))
         × (p.told ≡ true → (device_of d).store.lent ≡ None → Stands (start (device_of d) path) (outside (no_pool 0) x (tt {0})))
-    started_keeps p none k x as =
-        subst (λ (x : DeviceStore V G). StaysInTurn p (start (device_of d) path) (record { allowance = allowance_in (outside (no_pool 0) x (tt {0}));
-        tells = tells (outside (no_pool 0) x (tt {0})).a && tells (outside (no_pool 0) x (tt {0})).b; told = p.told }) (outside (no_pool 0) x (tt {0}))
-        × (p.told ≡ true → (device_of d).store.lent ≡ None → Stands (start (device_of d) path) (outside (no_pool 0) x (tt {0})))) (sym as)
-        (start_kept p (handed_of p.told d) (device_of d) (told_of d) path k.keeps,
-        (λ told home. start_stands (device_of d) (told_of d) path (k.stands told home) least most none))
+    started_keeps p none k x as_before =
+        subst (λ (x : DeviceStore V G). StaysInTurn p (start (device_of d) path) (record {
+          allowance = allowance_in (outside (no_pool 0) x (tt {0}));
+          tells = tells (outside (no_pool 0) x (tt {0})).a && tells (outside (no_pool 0) x (tt {0})).b;
+          told = p.told;
+        }) (outside (no_pool 0) x (tt {0}))
+        × (p.told ≡ true → (device_of d).store.lent ≡ None → Stands (start (device_of d) path) (outside (no_pool 0) x (tt {0})))) (sym as_before) (
+          start_kept p (handed_of p.told d) (device_of d) (told_of d) path k.keeps,
+          (λ told home. start_stands (device_of d) (told_of d) path (k.stands told home) least most none),
+        )
 
     pub started_stays : (start_fault (device_of d) path ≡ None) → StaysOn d e
     started_stays none p k =
@@ -246,9 +253,9 @@ module _ {V : Type 0} {G : Ghosts V} where
           keeps = subst (λ (x : WholeDevice). StaysInTurn p x (handed_of p.told e) (told_of e)) (sym is) on.0;
           stands = λ told home. subst (λ (x : WholeDevice). Stands x (told_of e)) (sym is) (on.1 told (lent_same home));
         }
-        where
-      lent_same : (device_of e).store.lent ≡ None → (device_of d).store.lent ≡ None
-      lent_same home = ap (λ (x : DeviceStore V G). x.pair.lent) (sym same) ∙ home
+      where
+        lent_same : (device_of e).store.lent ≡ None → (device_of d).store.lent ≡ None
+        lent_same home = ap (λ (x : DeviceStore V G). x.pair.lent) (sym same) ∙ home
 
     pub started_moves : (device_of d).history.running ≡ None → (start_fault (device_of d) path ≡ None) → Moves path d e
     started_moves idle none = record {

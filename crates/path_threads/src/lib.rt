@@ -5,6 +5,7 @@
 mod background;
 mod events;
 mod finish;
+mod giving;
 mod promise;
 mod run;
 mod seating;
@@ -12,5 +13,6 @@ mod shared;
 mod turns;
 mod walks;
 
+pub use giving::plans_give;
 pub use promise::Promise;
 pub use run::{Ran, run_paths};

@@ -32,10 +32,9 @@ use Rattle.plain_defs.specs.declared.journal.Act.{Act}
 use Rattle.plain_defs.specs.declared.journal.How.{How}
 use Rattle.plain_defs.specs.declared.journal.How.TheVariants.{Full, Checked}
 use Rattle.plain_defs.specs.declared.journal.Item.TheVariants as items
-use Rattle.plain_defs.specs.History.{OpenEntry, History, acted, acted_in, checked, checked_in, closed, ended, ended_in, entry_of, is_path_of, resets_of, started, with_end}
+use Rattle.plain_defs.specs.History.{OpenEntry, History, acted, acted_in, checked_in, closed, ended_in, entry_of, is_path_of, resets_of, started, with_end}
 use Rattle.plain_defs.specs.Legal.{is_of_path}
 use Rattle.track_image.specs.Image.{Image}
-use Rattle.device_outside.specs.Interaction.{Interaction, Done, and_then}
 use Rattle.device_outside.specs.Keeper.{Hearing}
 use Rattle.device_outside.specs.Outside.{Outside, Ran}
 use Rattle.device_defs.specs.declared.answers.Did.{Did}
@@ -43,13 +42,12 @@ use Rattle.device_defs.specs.declared.answers.SecondEnd.{SecondEnd}
 use Rattle.device_defs.specs.declared.answers.SecondEnd.TheVariants as seconds
 use Rattle.device_defs.specs.declared.answers.Stepped.{Stepped}
 use Rattle.device_defs.specs.declared.answers.Stepped.TheVariants as steps
-use Rattle.device_defs.specs.Command as N
 use Rattle.device_defs.specs.Command.{command}
 use Rattle.device_defs.specs.Contents.{Contents}
 use Rattle.device_defs.specs.Device.{Device, all_acted, event_begun}
 use Rattle.device_defs.specs.Events as V
 use Rattle.device_defs.specs.Events.{background, lose, second, second_ended, second_of}
-use Rattle.device_defs.specs.Owed.{ended as told_at_end, hear, waiting_count}
+use Rattle.device_defs.specs.Owed.{ended as told_at_end, waiting_count}
 use Rattle.device_defs.specs.Pledge.{command_count, seat_counts}
 use Rattle.device_defs.specs.Second.{second_part}
 use Rattle.device_defs.specs.Start as S

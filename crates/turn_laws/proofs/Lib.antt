@@ -2,3 +2,4 @@ pub mod Counts
 pub mod Untold
 pub mod Standing
 pub mod Sound
+pub mod NewDevice

@@ -1,11 +1,9 @@
 -- A device that stands beside the plain device of its history is sound, its history is a plain device's, and so is a new one.
-use Rattle.std.proofs.Common.{◌≡◌, ◌<◌, ◌≤◌, ◌*◌, ℕ, Bool, true, false, List, [], Option, Some, None, refl, sym, ap, subst}
+use Rattle.std.proofs.Common.{◌≡◌, ◌<◌, ℕ, Bool, true, false, List, sym, ap, subst}
 use Rattle.std.specs.Prelude.{is_some}
-use Rattle.ckd_types.specs.declared.geometry.Geometry.{Geometry}
 use Rattle.ckd_types.specs.declared.record.Track.{Track}
-use Rattle.ckd_types.specs.Volume.{empty_volume, track_in}
+use Rattle.ckd_types.specs.Volume.{track_in}
 use Rattle.plain_defs.specs.History.{IsPlain}
-use Rattle.plain_defs.specs.Journal.{Plans}
 use Rattle.plain_defs.specs.Loose.{firm}
 use Rattle.plain_defs.specs.PlainState.{empty_state}
 use Rattle.track_image.specs.Image.{Image}

@@ -1,6 +1,6 @@
 -- A device goes on to stand beside the plain device of its history behind each event of a turn, where memory is had.
 use Rattle.std.proofs.Common.{◌≡◌, ◌≤◌, ◌*◌, ℕ, Bool, true, List, [], Option, Some, None, refl, sym, ap, subst, ◌∙◌}
-use Rattle.std.specs.Prelude.{IfSome, IsSome, option_map}
+use Rattle.std.specs.Prelude.{IfSome, option_map}
 use Rattle.ckd_types.specs.Ccw.{ccw_at}
 use Rattle.ckd_types.specs.declared.channel.Ccw.{Ccw}
 use Rattle.ckd_types.specs.declared.geometry.Geometry.{Geometry}
@@ -8,7 +8,7 @@ use Rattle.ckd_types.specs.declared.record.Track.{Track}
 use Rattle.ckd_chain.specs.Facts.{IsChain}
 use Rattle.ckd_chain.specs.State.{ChainState}
 use Rattle.plain_defs.specs.History.{OpenEntry, IsOpen}
-use Rattle.plain_defs.specs.Journal.{Plans, program_of, replay}
+use Rattle.plain_defs.specs.Journal.{Plans, replay}
 use Rattle.plain_defs.specs.PlainState.{PlainState, empty_state}
 use Rattle.plain_defs.specs.Whole.{GivesBytes}
 use Rattle.track_image.specs.Image.{Image}
@@ -42,11 +42,11 @@ use Rattle.device_laws.proofs.PlainCommand.{command_follows}
 use Rattle.device_laws.proofs.PlainEvents.{start_follows}
 use Rattle.device_laws.proofs.PlainLosses.{background_follows, loss_follows}
 use Rattle.device_laws.proofs.PlainSeconds.{second_follows}
-use Rattle.device_laws.proofs.PlainTurns.{AtPart, Follows, RunsAt, ChainOf, none_mid}
+use Rattle.device_laws.proofs.PlainTurns.{Follows, RunsAt, ChainOf, none_mid}
 use Rattle.device_laws.proofs.WholeCommand.{command_whole}
 use Rattle.device_laws.proofs.WholeParts.{background_whole, loss_whole, second_whole, start_order, start_fault_same}
-use Rattle.turn_laws.specs.Standing.{GiveBytes, Stands, Untold}
-use Rattle.turn_laws.proofs.Untold.{Twinned, twinned}
+use Rattle.turn_laws.specs.Standing.{GiveBytes, Stands}
+use Rattle.turn_laws.proofs.Untold.{twinned}
 
 itself : (d : WholeDevice) → Continues d.plans d.history d
 itself d = record { plans = refl; history = extends_itself d.history }

@@ -1,6 +1,6 @@
 -- What holds behind the run of a device's event over a port that tells no pool, where memory is had and its volumes tell what they hold: the step over
 -- marks has a device beside it of which holds what always holds behind that step.
-use Rattle.std.proofs.Common.{◌≡◌, ℕ, Bool, true, false, List, Option, Some, None, set, get_or, refl, ap, sym, subst, ◌∙◌}
+use Rattle.std.proofs.Common.{◌≡◌, ℕ, Bool, true, false, List, Option, Some, None, set, get_or, ap, sym, subst, ◌∙◌}
 use Rattle.std.proofs.lemmas.List.{get_or_default}
 use Rattle.ckd_types.specs.declared.paths.Side.{Side}
 use Rattle.ckd_types.specs.declared.paths.Side.TheVariants as sides
@@ -9,7 +9,7 @@ use Rattle.device_outside.specs.Pool.{Call, FreeSlot, AnswerTo, unnumbered}
 use Rattle.device_outside.specs.Slots.{MayAnswer, held_after}
 use Rattle.device_outside.specs.Volume.{VolumeView, Delivers, Stores}
 use Rattle.device_outside.specs.Keeper.{Hearing, Message, ReplyTo, reply}
-use Rattle.device_outside.specs.Interaction.{Interaction, Done, Try, Ask, Read, Write, Tell}
+use Rattle.device_outside.specs.Interaction.{Interaction}
 use Rattle.device_outside.specs.Outside.{Outside, view_of, with_view, Ran, done, tried, asked, read, wrote, told}
 use Rattle.device_outside.specs.After.{Holdings, holds_of, with_held, with_slots}
 use Rattle.turn_laws.specs.Standing.{Untold}

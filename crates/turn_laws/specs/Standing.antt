@@ -1,6 +1,7 @@
 -- A device beside the plain device of its history, over volumes that tell what they hold and a port that tells nothing.
-use Rattle.std.specs.Prelude.{◌≡◌, ◌≤◌, ℕ, List, Option, Some, None}
+use Rattle.std.specs.Prelude.{◌≡◌, ◌≤◌, ℕ, List, None}
 use Rattle.ckd_types.specs.Ccw.{ccw_at}
+use Rattle.ckd_types.specs.declared.channel.Ccw.{Ccw}
 use Rattle.ckd_types.specs.declared.record.Track.{Track}
 use Rattle.plain_defs.specs.Journal.{Plans, program_of}
 use Rattle.plain_defs.specs.PlainState.{empty_state}
@@ -12,9 +13,13 @@ use Rattle.device_laws.specs.InOrder.{IsInOrder}
 use Rattle.device_laws.specs.Whole.{WholeDevice, marks_device}
 use Rattle.device_laws.proofs.PlainTurns.{Follows}
 
--- the words of all programs of four paths give bytes
+-- each of a program's words gives bytes
+abbrev pub GivesAll : List Ccw → Type 0
+GivesAll ccws = (i : ℕ) → GivesBytes (ccw_at ccws i)
+
+-- so do all programs of four paths
 abbrev pub GiveBytes : Plans → Type 0
-GiveBytes plans = (path ordinal : ℕ) → 1 ≤ path → path ≤ 4 → (i : ℕ) → GivesBytes (ccw_at (program_of plans path ordinal) i)
+GiveBytes plans = (path ordinal : ℕ) → 1 ≤ path → path ≤ 4 → GivesAll (program_of plans path ordinal)
 
 -- the volumes tell these holdings, and of slots nothing is told
 pub record Untold {R K : Type 0} (w : Outside R K) (h : Holdings R) : Type 0 where

@@ -2,15 +2,18 @@
 //! No code but law functions.
 #![tactic(auto)]
 
-ghost use Rattle.std.specs.Prelude.{◌≡◌, ◌≤◌, true, ℕ, List, Option, None, Some};
+ghost use Rattle.std.specs.Prelude.{◌≡◌, ◌≤◌, ◌*◌, [], true, ℕ, List, Option, None, Some};
 ghost use Rattle.ckd_chain.specs.Facts.{IsChain};
 ghost use Rattle.ckd_chain.specs.State.{ChainState};
+ghost use Rattle.ckd_types.specs.declared.geometry.Geometry.{Geometry};
 ghost use Rattle.loss_model.specs.declared.Loss.{Loss};
 ghost use Rattle.plain_defs.specs.History.{IsPlain, OpenEntry};
+ghost use Rattle.plain_defs.specs.Journal.{Plans};
 ghost use Rattle.plain_defs.specs.PlainState.{empty_state};
 ghost use Rattle.track_image.specs.Image.{Image};
 ghost use Rattle.device_outside.specs.declared.keep.NoKeep.{NoKeep};
 ghost use Rattle.device_outside.specs.After.{Tells};
+ghost use Rattle.device_outside.specs.Disk.{empty_contents};
 ghost use Rattle.device_outside.specs.Keeper.{reply};
 ghost use Rattle.device_outside.specs.Outside.{Outside, Ran};
 ghost use Rattle.device_defs.specs.declared.answers.Did.{Did};
@@ -24,7 +27,7 @@ ghost use Rattle.device_defs.specs.Start.{start, start_fault};
 ghost use Rattle.device_defs.specs.Store.{HalfWrite};
 ghost use Rattle.device_laws.specs.Agrees.{Held};
 ghost use Rattle.device_laws.specs.Whole.{WholeDevice};
-ghost use Rattle.turn_laws.specs.Standing.{Stands};
+ghost use Rattle.turn_laws.specs.Standing.{GiveBytes, Stands, new_device};
 
 /// Behind each event, whatever the port answers and whichever calls fail, the device stands beside the plain device of its history, where memory was
 /// had and its volumes tell what they hold.
@@ -48,4 +51,10 @@ pub fn standing_device_is_sound()
     ensures sound { (d : WholeDevice) (u : Outside (List ℕ) NoKeep) → Stands d u → (h : Held) × Tells u.a h.a × Tells u.b h.b × IsSound d h }
     ensures plain { (d : WholeDevice) (u : Outside (List ℕ) NoKeep) → Stands d u →
         IsPlain d.plans (empty_state d.store.geometry d.store.cylinders) d.history }
+{}
+
+/// A new device on a volume of empty tracks stands so.
+pub fn new_device_stands()
+    ensures { (d : ℕ) (g : Geometry) (n : ℕ) (plans : Plans) (u : Outside (List ℕ) NoKeep) → 1 ≤ n → n ≤ 64 → Tells u.a (empty_contents (n * 15)) →
+        Tells u.b [] → GiveBytes plans → Stands (new_device d g n plans) u }
 {}
