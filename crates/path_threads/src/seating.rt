@@ -14,6 +14,7 @@ use std::alloc::Global;
 use std::snapshot::Snapshot;
 
 /// A turn with the seats of its six workers: the operator's is the first.
+#[derive(Drop)]
 pub(crate) struct Setting<V: Volume> {
     pub turn: DeviceTurn<V>,
     pub operator: DeviceSeat<V>,
@@ -25,12 +26,14 @@ pub(crate) struct Setting<V: Volume> {
 }
 
 /// The turns of all devices, in their order, and the seats of each worker at them.
+#[derive(Drop)]
 pub(crate) struct Table<V: Volume> {
     pub turns: Vec<DeviceTurn<V>>,
     pub operator: Vec<DeviceSeat<V>>,
     pub seats: Seats<V>,
 }
 
+#[derive(Drop)]
 pub(crate) struct Seats<V: Volume> {
     pub first: Vec<DeviceSeat<V>>,
     pub second: Vec<DeviceSeat<V>>,

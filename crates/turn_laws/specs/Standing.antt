@@ -2,14 +2,17 @@
 use Rattle.std.specs.Prelude.{◌≡◌, ◌≤◌, ℕ, List, None}
 use Rattle.ckd_types.specs.Ccw.{ccw_at}
 use Rattle.ckd_types.specs.declared.channel.Ccw.{Ccw}
+use Rattle.ckd_types.specs.declared.geometry.Geometry.{Geometry}
 use Rattle.ckd_types.specs.declared.record.Track.{Track}
+use Rattle.plain_defs.specs.History.{no_history}
 use Rattle.plain_defs.specs.Journal.{Plans, program_of}
-use Rattle.plain_defs.specs.PlainState.{empty_state}
+use Rattle.plain_defs.specs.PlainState.{empty_state, fresh_paths}
 use Rattle.plain_defs.specs.Whole.{GivesBytes}
 use Rattle.device_outside.specs.After.{Holdings, Tells}
 use Rattle.device_outside.specs.Outside.{Outside}
 use Rattle.device_laws.specs.Agrees.{Held}
 use Rattle.device_laws.specs.InOrder.{IsInOrder}
+use Rattle.device_laws.specs.NewDevice.{new_contents}
 use Rattle.device_laws.specs.Whole.{WholeDevice, marks_device}
 use Rattle.device_laws.proofs.PlainTurns.{Follows}
 
@@ -37,3 +40,7 @@ pub record Stands {K : Type 0} (d : WholeDevice) (u : Outside (List ℕ) K) : Ty
   pub order : IsInOrder plain firm d.store held
   pub follows : Follows d.store.device (empty_state d.store.geometry d.store.cylinders) (marks_device plain firm d)
   pub gives : GiveBytes d.plans
+
+-- a device to which nothing happened, on an empty volume
+abbrev pub new_device : ℕ → Geometry → ℕ → Plans → WholeDevice
+new_device d g n plans = record { store = new_contents d g n; paths = fresh_paths; plans = plans; history = no_history; chain = None }
