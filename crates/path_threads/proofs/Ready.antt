@@ -2,17 +2,24 @@
 use Rattle.std.proofs.Common.{◌≡◌, ◌≤◌, ◌+◌, ◌*◌, zero, suc, ℕ, Bool, true, false, List, [], ◌∷◌, Option, Some, None, length, refl, sym, ap, subst, ◌∙◌, arith}
 use Rattle.std.specs.Prelude.{◌&&◌, count_by, if◌then◌else◌}
 use Rattle.std.specs.List.{fold}
+use Rattle.ckd_types.specs.declared.geometry.Geometry.{Geometry}
 use Rattle.plain_defs.specs.declared.journal.Item.{Item}
 use Rattle.plain_defs.specs.declared.journal.Item.TheVariants as items
 use Rattle.plain_defs.specs.History.{OpenEntry, is_path_of}
+use Rattle.plain_defs.specs.Journal.{Plans}
 use Rattle.plain_defs.specs.Legal.{is_of_path}
 use Rattle.device_outside.specs.declared.volume.Volume.{Ghosts}
+use Rattle.device_outside.specs.After.{Tells}
+use Rattle.device_outside.specs.Disk.{empty_contents}
 use Rattle.device_defs.specs.Pledge.{StaysWithin, ends_with_data_check, failures_of, fresh_count, is_fresh, is_kept_journal, seat_counts}
 use Rattle.device_laws.specs.Handed.{allowance_in}
+use Rattle.device_laws.specs.Whole.{WholeDevice}
 use Rattle.device_laws.proofs.KeptHistories.{AreNot, count_more}
 use Rattle.device_turn.specs.Rule.{zeros}
+use Rattle.turn_laws.specs.Standing.{GiveBytes, Stands}
+use Rattle.turn_laws.proofs.NewDevice.{new_stands}
 use Rattle.device_core.specs.declared.device.Device.{Device}
-use Rattle.device_core.specs.State.{device_of}
+use Rattle.device_core.specs.State.{device_of, opened_device}
 use Rattle.path_threads.specs.Keeping.{IsReady, KeepsAll, are_fresh, told_of}
 
 and_left : (x y : Bool) → (x && y) ≡ true → x ≡ true
@@ -95,3 +102,14 @@ module _ {V : Type 0} {G : Ghosts V} (d : Device V G) (r : IsReady d) where
 
   pub ready_zeros : seat_counts (device_of d) ≡ zeros
   ready_zeros = rw (count_none 1, count_none 2, count_none 3, count_none 4) refl
+
+-- so is a device that was opened
+pub opened_ready : {V : Type 0} {G : Ghosts V} (x : Device V G) (number : ℕ) (g : Geometry) (n : ℕ) (plans : Plans) →
+    device_of x ≡ opened_device number g n plans → 1 ≤ n → n ≤ 64 → Tells (told_of x).a (empty_contents (n * 15)) → Tells (told_of x).b [] →
+    GiveBytes plans → IsReady x
+opened_ready x number g n plans is some most a b gives = record {
+  idle = ap (λ (d : WholeDevice). d.history.running) is;
+  none = ap (λ (d : WholeDevice). d.history.waiting) is;
+  journal = ap (λ (d : WholeDevice). are_fresh d.history.items) is;
+  stands = λ told home. subst (λ (d : WholeDevice). Stands d (told_of x)) (sym is) (new_stands number g n plans (told_of x) some most a b gives);
+}

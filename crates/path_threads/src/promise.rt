@@ -11,6 +11,7 @@ use device_turn::{Holder, Turn, TurnSeat};
 use std::snapshot::Snapshot;
 
 /// What a turn's device was when the turn was made, and how many losses of each kind it may have in all.
+#[derive(Drop)]
 pub struct Promise<V: Volume> {
     pub made: Snapshot<Device<V>>,
     pub most: Losses,

@@ -17,6 +17,7 @@ use std::sync::Wait;
 use std::thread::{Threads, join};
 
 /// The pool and the devices behind a run.
+#[derive(Drop)]
 pub struct Ran<V: Volume> {
     pub devices: Vec<Device<V>>,
     pub pool: Pool,

@@ -8,6 +8,7 @@ use std::sync::atomic::{AtomicBool, Ordering};
 use std::sync::{Mutex, Wait};
 
 /// What the workers share beside the turns: the pool, and whether one of them lacked memory.
+#[derive(Drop)]
 pub(crate) struct Shared {
     pub pool: Mutex<Pool>,
     pub lacks: AtomicBool,

@@ -9,6 +9,7 @@ use std::thread::yield_now;
 const LOOKS: u64 = 1_000_000_000;
 
 /// Keeps path 1 before its first event on device 0 until path 2 is behind one of device 1.
+#[derive(Drop)]
 struct Meeting {
     came: AtomicBool,
     missed: AtomicBool,

@@ -1,10 +1,13 @@
+ghost use Rattle.std.specs.Prelude.{All, IfOk};
+ghost use Rattle.path_threads.specs.Keeping.{IsReady};
+
 use ckd_ccw::Program;
 use ckd_types::{Bytes, Ccw, DeviceNo, Geometry, PathNo};
 use deck_plan::PathPlans;
 use device_core::Device;
 use device_outside::{Gate, MemVolume, NoGate};
 use frame_pool::Pool;
-use path_threads::{Ran, run_paths};
+use path_threads::{Ran, plans_give, run_paths};
 use std::alloc::Global;
 use std::sync::Wait;
 use std::test::Fail;
@@ -57,7 +60,10 @@ pub(crate) fn one_read(alloc: Global, path: u8) -> Result<PathPlans, Fail> {
     Ok(plans)
 }
 
-fn device(alloc: Global, number: u8, plans: PathPlans) -> Result<Device<MemVolume>, Fail> {
+fn device(alloc: Global, number: u8, plans: PathPlans) -> Result<Device<MemVolume>, Fail>
+    ensures { IfOk result IsReady }
+{
+    plans_give(&plans);
     let number = DeviceNo::new(number).ok_or("device")?;
     let volume = MemVolume::new(alloc, 1, &[], &[])?;
     match Device::open(alloc, number, Geometry::D3390, 1, volume, plans) {
@@ -70,7 +76,9 @@ fn device(alloc: Global, number: u8, plans: PathPlans) -> Result<Device<MemVolum
 pub(crate) fn devices_of(
     alloc: Global,
     plans: Vec<PathPlans>,
-) -> Result<Vec<Device<MemVolume>>, Fail> {
+) -> Result<Vec<Device<MemVolume>>, Fail>
+    ensures { IfOk result (λ v. All IsReady v.items) }
+{
     let mut devices = Vec::new(alloc);
     let mut number = 0;
     for plan in plans {
@@ -85,7 +93,9 @@ pub(crate) fn run<R: Threads + Wait + Sync, G: Gate + Sync>(
     alloc: Global,
     devices: Vec<Device<MemVolume>>,
     gate: &G,
-) -> Result<Ran<MemVolume>, Fail> {
+) -> Result<Ran<MemVolume>, Fail>
+    requires { All IsReady devices.items }
+{
     let pool = Pool::new(alloc, 4, 2)?;
     Ok(run_paths(rt, alloc, devices, pool, gate)?)
 }
