@@ -1,6 +1,7 @@
-ghost use Rattle.std.specs.Prelude.{◌≡◌, ◌≤◌, IfSome, None, OnOk, false, is_some, true};
+ghost use Rattle.std.specs.Prelude.{◌≡◌, ◌≤◌, IfSome, IsOk, None, OnOk, false, is_some, true};
 ghost use Rattle.ckd_chain.specs.Facts.{IsChain};
 ghost use Rattle.plain_defs.specs.History.{is_path_of};
+ghost use Rattle.device_core.specs.Starting.{fault_told};
 ghost use Rattle.device_core.specs.State.{device_of};
 ghost use Rattle.path_threads.specs.Keeping.{Moves};
 
@@ -66,12 +67,33 @@ fn fault_came(fault: StartFault) -> Came {
     }
 }
 
-fn start_came(outcome: Result<u16, NotStarted>) -> Result<Came, NoMemory> {
+/// A start that nothing kept out.
+pub(crate) fn start_came(outcome: Result<u16, NotStarted>) -> Result<Came, NoMemory>
+    requires { fault_told outcome ≡ None }
+    ensures { OnOk result (IsOk outcome) }
+{
     match outcome {
         Ok(_) => Ok(Came::Went),
         Err(NotStarted::NoMemory) => Err(NoMemory),
-        Err(NotStarted::Refused(fault)) => Ok(fault_came(fault)),
+        Err(NotStarted::Refused(_)) => unreachable!(),
     }
+}
+
+/// The path's program runs.
+fn runs_on<V: Volume>(device: &Device<V>, path: PathNo) -> bool
+    ensures { result ≡ is_path_of (device_of device.now).history.running path }
+{
+    match device.active() {
+        Some(active) => active == path,
+        None => false,
+    }
+}
+
+/// Some path's program runs.
+pub(crate) fn is_busy<V: Volume>(device: &Device<V>) -> bool
+    ensures { result ≡ is_some (device_of device.now).history.running }
+{
+    device.active().is_some()
 }
 
 /// The chain of the program that runs keeps to what chains keep to.
@@ -89,7 +111,7 @@ fn start_next<V: Volume, G: Gate>(
     device: &mut Device<V>,
     visitor: &mut Visitor<G>,
 ) -> Result<Came, NoMemory>
-    requires idle { (device_of device.old).history.running ≡ None }
+    requires idle { is_some (device_of device.old).history.running ≡ false }
     ensures path { visitor.new.path ≡ visitor.old.path }
     ensures moves { OnOk result (Moves visitor.old.path device.old device.new) }
 {
@@ -162,7 +184,7 @@ fn half_event<V: Volume, P: Port, G: Gate>(
     ensures path { visitor.new.path ≡ visitor.old.path }
     ensures moves { OnOk result (Moves visitor.old.path device.old device.new) }
 {
-    if is_of_command(device) && device.active() == Some(visitor.path) {
+    if runs_on(device, visitor.path) && is_of_command(device) {
         return second(device, visitor, port);
     }
     Ok(Came::Again)
@@ -184,13 +206,11 @@ pub(crate) fn path_event<V: Volume, P: Port, G: Gate>(
     if device.half_open() {
         return half_event(device, visitor, port);
     }
-    match device.active() {
-        None => start_next(device, visitor),
-        Some(path) => {
-            if path == visitor.path {
-                return command(device, visitor, port);
-            }
-            Ok(Came::Again)
-        }
+    if runs_on(device, visitor.path) {
+        return command(device, visitor, port);
     }
+    if is_busy(device) {
+        return Ok(Came::Again);
+    }
+    start_next(device, visitor)
 }

@@ -1,38 +1,50 @@
-ghost use Rattle.std.specs.Prelude.{◌≡◌, All, AllZip, None, OnOk, false, is_some};
+ghost use Rattle.std.specs.Prelude.{◌≡◌, All, AllZip, IfSome, None, OnOk, false, is_some};
+ghost use Rattle.device_defs.specs.Start.{start_fault};
 ghost use Rattle.device_core.specs.State.{device_of};
 ghost use Rattle.path_threads.specs.Keeping.{IsFinished, StaysOn};
 
-use crate::events::chain_stands;
+use crate::events::{chain_stands, is_busy, start_came};
 use ckd_types::{NoMemory, PathNo};
-use device_core::{Device, NotStarted};
+use device_core::Device;
 use device_outside::{Port, Volume};
 use std::sync::Wait;
 
-/// The next program of a path starts, where nothing keeps it out.
+/// The next program of a path starts.
 fn start<V: Volume>(device: &mut Device<V>, path: PathNo) -> Result<(), NoMemory>
-    requires idle { (device_of device.old).history.running ≡ None }
+    requires idle { is_some (device_of device.old).history.running ≡ false }
+    requires free { start_fault (device_of device.old) path ≡ None }
     ensures stays { OnOk result (StaysOn device.old device.new) }
 {
-    match device.start(path) {
-        Err(NotStarted::NoMemory) => Err(NoMemory),
-        _ => Ok(()),
-    }
+    let _number = path.get();
+    let outcome = device.start(path);
+    start_came(outcome)?;
+    Ok(())
 }
 
-/// The first path's next program that nothing keeps out.
-fn start_first<V: Volume>(device: &mut Device<V>) -> Result<(), NoMemory>
-    requires idle { (device_of device.old).history.running ≡ None }
-    ensures stays { OnOk result (StaysOn device.old device.new) }
+/// The first path whose next program nothing keeps out.
+fn first_free<V: Volume>(device: &Device<V>) -> Option<PathNo>
+    ensures { IfSome result (λ path. start_fault (device_of device.now) path ≡ None) }
 {
     for number in 1..5 {
         let Some(path) = PathNo::new(number) else {
             continue;
         };
         if device.start_fault(path).is_none() {
-            return start(device, path);
+            return Some(path);
         }
     }
-    Ok(())
+    None
+}
+
+/// Its next program starts.
+fn start_first<V: Volume>(device: &mut Device<V>) -> Result<(), NoMemory>
+    requires idle { is_some (device_of device.old).history.running ≡ false }
+    ensures stays { OnOk result (StaysOn device.old device.new) }
+{
+    match first_free(device) {
+        Some(path) => start(device, path),
+        None => Ok(()),
+    }
 }
 
 /// One event of a device: the other part of its half write, a command of its program that runs, or the start of a program.
@@ -46,7 +58,7 @@ fn next_event<V: Volume, P: Port>(device: &mut Device<V>, port: &mut P) -> Resul
         device.second(port);
         return Ok(());
     }
-    if device.active().is_some() {
+    if is_busy(device) {
         chain_stands(device);
         device.command(port)?;
         return Ok(());
