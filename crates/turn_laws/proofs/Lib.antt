@@ -3,3 +3,4 @@ pub mod Untold
 pub mod Standing
 pub mod Sound
 pub mod NewDevice
+pub mod Orders

@@ -2,10 +2,12 @@
 //! No code but law functions.
 #![tactic(auto)]
 
-ghost use Rattle.std.specs.Prelude.{◌≡◌, ◌≤◌, ◌*◌, [], true, ℕ, List, Option, None, Some};
+ghost use Rattle.std.specs.Prelude.{◌≡◌, ◌≤◌, ◌*◌, [], false, true, length, ℕ, List, Option, None, Some};
 ghost use Rattle.ckd_chain.specs.Facts.{IsChain};
 ghost use Rattle.ckd_chain.specs.State.{ChainState};
 ghost use Rattle.ckd_types.specs.declared.geometry.Geometry.{Geometry};
+ghost use Rattle.ckd_types.specs.declared.paths.Side.{Side};
+ghost use Rattle.ckd_types.specs.declared.paths.Side.TheVariants.{B};
 ghost use Rattle.loss_model.specs.declared.Loss.{Loss};
 ghost use Rattle.plain_defs.specs.History.{IsPlain, OpenEntry};
 ghost use Rattle.plain_defs.specs.Journal.{Plans};
@@ -15,16 +17,18 @@ ghost use Rattle.device_outside.specs.declared.keep.NoKeep.{NoKeep};
 ghost use Rattle.device_outside.specs.After.{Tells};
 ghost use Rattle.device_outside.specs.Disk.{empty_contents};
 ghost use Rattle.device_outside.specs.Keeper.{reply};
-ghost use Rattle.device_outside.specs.Outside.{Outside, Ran};
+ghost use Rattle.device_outside.specs.Outside.{Outside, Ran, with_view};
+ghost use Rattle.device_outside.specs.Volume.{VolumeView};
 ghost use Rattle.device_defs.specs.declared.answers.Did.{Did};
 ghost use Rattle.device_defs.specs.declared.answers.SecondEnd.{SecondEnd};
 ghost use Rattle.device_defs.specs.declared.answers.Stepped.{Stepped};
 ghost use Rattle.device_defs.specs.Command.{command};
 ghost use Rattle.device_defs.specs.Contents.{contents};
 ghost use Rattle.device_defs.specs.Events.{second, background, lose};
+ghost use Rattle.device_defs.specs.Orders.{hold, replace, resume};
 ghost use Rattle.device_defs.specs.Sound.{IsSound};
 ghost use Rattle.device_defs.specs.Start.{start, start_fault};
-ghost use Rattle.device_defs.specs.Store.{HalfWrite};
+ghost use Rattle.device_defs.specs.Store.{HalfWrite, side_of, tracks_of};
 ghost use Rattle.device_laws.specs.Agrees.{Held};
 ghost use Rattle.device_laws.specs.Whole.{WholeDevice};
 ghost use Rattle.turn_laws.specs.Standing.{GiveBytes, Stands, new_device};
@@ -57,4 +61,12 @@ pub fn standing_device_is_sound()
 pub fn new_device_stands()
     ensures { (d : ℕ) (g : Geometry) (n : ℕ) (plans : Plans) (u : Outside (List ℕ) NoKeep) → 1 ≤ n → n ≤ 64 → Tells u.a (empty_contents (n * 15)) →
         Tells u.b [] → GiveBytes plans → Stands (new_device d g n plans) u }
+{}
+
+/// So it does behind the orders that hold side B, resume it, or put a volume of as many tracks in place of a failed one.
+pub fn orders_let_stand()
+    ensures held { (d : WholeDevice) (u : Outside (List ℕ) NoKeep) → Stands d u → Stands (hold d) u × Stands (resume d) u }
+    ensures replaced { (d : WholeDevice) (u : Outside (List ℕ) NoKeep) (side : Side) (v : VolumeView (List ℕ)) (l : List (List ℕ)) → Stands d u →
+        (side_of d.store side).up ≡ false → (side ≡ B → d.store.paired ≡ true) → v.contents ≡ Some l → length l ≡ tracks_of d.store →
+        Stands (replace d side) (with_view u side v) }
 {}

@@ -1,0 +1,9 @@
+use Rattle.std.proofs.Common.{true, false}
+use Rattle.turn_laws.proofs.Orders.{held_stands, replaced_stands}
+use Rattle.turn_laws.proofs.orders_let_stand.Goals as goal
+
+pub returns : goal.returns
+returns c = record {
+  held = λ d u s. (held_stands d u true s, held_stands d u false s);
+  replaced = λ d u side v l s down has tells long. replaced_stands d u v l tells long side s down has;
+}
