@@ -1,5 +1,5 @@
 -- A new device stands beside the plain device.
-use Rattle.std.proofs.Common.{◌≡◌, ◌<◌, ◌≤◌, ◌*◌, ℕ, List, [], None, refl, sym, subst, arith}
+use Rattle.std.proofs.Common.{◌≤◌, ◌*◌, ℕ, List, [], None, refl, sym, subst, arith}
 use Rattle.ckd_types.specs.declared.geometry.Geometry.{Geometry}
 use Rattle.ckd_types.specs.Volume.{empty_volume}
 use Rattle.plain_defs.specs.History.{no_history}

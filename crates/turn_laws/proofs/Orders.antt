@@ -1,6 +1,5 @@
 -- A device goes on to stand behind the orders that hold a side, resume it, or put an empty volume in place of a failed one.
-use Rattle.std.proofs.Common.{◌≡◌, ℕ, Bool, true, false, List, Option, Some, length, refl, ap, sym, subst}
-use Rattle.std.specs.Prelude.{option_map}
+use Rattle.std.proofs.Common.{◌≡◌, ℕ, Bool, true, false, List, Some, length, refl, sym, subst}
 use Rattle.ckd_types.specs.declared.paths.Side.{Side}
 use Rattle.ckd_types.specs.declared.paths.Side.TheVariants.{A, B}
 use Rattle.device_outside.specs.Outside.{Outside, with_view}
