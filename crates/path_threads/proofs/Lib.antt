@@ -1,3 +1,4 @@
 pub mod Zips
 pub mod Keeping
 pub mod Ready
+pub mod Leaving

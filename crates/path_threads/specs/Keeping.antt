@@ -1,5 +1,5 @@
 -- What a device keeps while its turn goes round, and what an event of a worker leaves of it.
-use Rattle.std.specs.Prelude.{◌≡◌, ◌&&◌, ℕ, Bool, true, List, [], ◌∷◌, Option, Some, None, is_some, slice_set}
+use Rattle.std.specs.Prelude.{◌≡◌, ◌&&◌, ℕ, Bool, true, false, List, [], ◌∷◌, Option, Some, None, is_some, slice_set}
 use Rattle.plain_defs.specs.declared.journal.Item.{Item}
 use Rattle.device_outside.specs.declared.volume.Volume.{Ghosts}
 use Rattle.device_outside.specs.Outside.{Outside, no_pool}
@@ -69,8 +69,9 @@ module _ {V : Type 0} {G : Ghosts V} where
   abbrev pub KeepsAll : Device V G → Device V G → Type 0
   KeepsAll d e = KeepsPledge (pledge_with d d.store.counts.losses) e
 
+  -- no program runs, and each path has none left here or is kept out; and no write is half done
   abbrev pub IsFinished : Device V G → Type 0
-  IsFinished d = is_finished (device_of d) ≡ true
+  IsFinished d = (is_finished (device_of d) ≡ true) × (is_some (device_of d).store.half ≡ false)
 
   -- No program was started, and no reset waits; where its volumes tell what they hold, the device stands beside the plain device of its history
 

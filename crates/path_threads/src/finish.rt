@@ -1,4 +1,5 @@
-ghost use Rattle.std.specs.Prelude.{◌≡◌, All, AllZip, IfSome, None, OnOk, false, is_some};
+ghost use Rattle.std.specs.Prelude.{◌≡◌, All, IfSome, None, OnOk, false, is_some};
+ghost use Rattle.std.specs.List.{AllZip};
 ghost use Rattle.device_defs.specs.Start.{start_fault};
 ghost use Rattle.device_core.specs.State.{device_of};
 ghost use Rattle.path_threads.specs.Keeping.{IsFinished, StaysOn};
@@ -74,7 +75,6 @@ pub(crate) fn finish<R: Wait, V: Volume, P: Port>(
 ) -> Result<(), NoMemory>
     ensures stays { OnOk result (StaysOn device.old device.new) }
     ensures finished { OnOk result (IsFinished device.new) }
-    ensures whole { OnOk result (is_some (device_of device.new).store.half ≡ false) }
 {
     for _ in rt.forever() {
         if !device.half_open() && device.finished() {

@@ -6,6 +6,7 @@ mod background;
 mod events;
 mod finish;
 mod giving;
+mod places;
 mod promise;
 mod run;
 mod seating;

@@ -17,17 +17,9 @@ pub struct Promise<V: Volume> {
     pub most: Losses,
 }
 
-/// The turn of a device.
-#[derive(Drop)]
-pub(crate) struct DeviceTurn<V: Volume> {
-    pub turn: Turn<Device<V>, Promise<V>>,
-}
+pub(crate) type DeviceTurn<V> = Turn<Device<V>, Promise<V>>;
 
-/// A worker's seat at it.
-#[derive(Drop)]
-pub(crate) struct DeviceSeat<V: Volume> {
-    pub seat: TurnSeat<Device<V>, Promise<V>>,
-}
+pub(crate) type DeviceSeat<V> = TurnSeat<Device<V>, Promise<V>>;
 
 /// The path of a seat: seats 1 to 4 are the paths'.
 fn path_of(seat: u64) -> Option<PathNo>

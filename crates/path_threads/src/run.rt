@@ -1,11 +1,13 @@
-ghost use Rattle.std.specs.Prelude.{◌≡◌, ◌≤◌, All, AllZip, IfOk};
+ghost use Rattle.std.specs.Prelude.{◌≡◌, ◌≤◌, All, IfOk};
+ghost use Rattle.std.specs.List.{AllZip};
 ghost use Rattle.std.specs.Thread.{IsSync};
 ghost use Rattle.path_threads.specs.Keeping.{IsFinished, IsReady, KeepsAll};
 ghost use Rattle.path_threads.specs.Seating.{AreSeated, IsAt};
 
 use crate::finish::finish_all;
-use crate::promise::{DeviceSeat, DeviceTurn};
-use crate::seating::{Seats, Table, clear_all, set_all};
+use crate::places::{clear_all, set_all};
+use crate::promise::{DeviceSeat, DeviceTurn, Promise};
+use crate::seating::{Seats, Table};
 use crate::shared::Shared;
 use crate::walks::{walk, work_behind};
 use ckd_types::{NoMemory, PathNo};
@@ -24,6 +26,8 @@ pub struct Ran<V: Volume> {
 }
 
 type Row<V> = Vec<DeviceSeat<V>>;
+
+type DeviceSeats<V> = Seats<Device<V>, Promise<V>>;
 
 type Walked<V> = Result<Row<V>, NoMemory>;
 
@@ -95,8 +99,8 @@ fn all_walk<R: Threads + Wait + Sync, V: Volume + Send, G: Gate + Sync>(
     shared: &Shared,
     turns: &[DeviceTurn<V>],
     gate: &G,
-    seats: Seats<V>,
-) -> Result<Seats<V>, NoMemory>
+    seats: DeviceSeats<V>,
+) -> Result<DeviceSeats<V>, NoMemory>
     requires { AreSeated turns.now seats }
     ensures { IfOk result (AreSeated turns.now) }
 {

@@ -1,59 +1,53 @@
-ghost use Rattle.std.specs.Prelude.{◌≡◌, ◌<◌, ◌+◌, ◌++◌, ◌∷◌, [], ℕ, All, AllZip, IfOk, OnOk, Some, true, vec_len};
-ghost use Rattle.device_core.specs.State.{device_of};
-ghost use Rattle.device_defs.specs.Pledge.{seat_counts};
-ghost use Rattle.device_turn.specs.Rule.{has, zeros};
-ghost use Rattle.path_threads.specs.Keeping.{IsReady, Stays};
-ghost use Rattle.path_threads.specs.Seating.{AreSet, Clears, ClearsAll, IsAt, IsHome, IsSet, Promised};
+ghost use Rattle.std.specs.Prelude.{◌≡◌, ◌<◌, ◌+◌, ◌++◌, ◌∷◌, [], ℕ, IfOk, OnOk, Some, true, vec_len};
+ghost use Rattle.device_turn.specs.Rule.{KeptBy, has, zeros};
+ghost use Rattle.path_threads.specs.Seating.{AreSet, IsAt, IsHome, IsSet};
 
-use crate::promise::{DeviceSeat, DeviceTurn, Promise};
 use ckd_types::NoMemory;
-use device_core::Device;
-use device_outside::Volume;
-use device_turn::Turn;
+use device_turn::{Holder, Turn, TurnSeat};
 use std::alloc::Global;
-use std::snapshot::Snapshot;
 
 /// A turn with the seats of its six workers: the operator's is the first.
 #[derive(Drop)]
-pub(crate) struct Setting<V: Volume> {
-    pub turn: DeviceTurn<V>,
-    pub operator: DeviceSeat<V>,
-    pub first: DeviceSeat<V>,
-    pub second: DeviceSeat<V>,
-    pub third: DeviceSeat<V>,
-    pub fourth: DeviceSeat<V>,
-    pub background: DeviceSeat<V>,
+pub(crate) struct Setting<H: Holder<P>, P> {
+    pub turn: Turn<H, P>,
+    pub operator: TurnSeat<H, P>,
+    pub first: TurnSeat<H, P>,
+    pub second: TurnSeat<H, P>,
+    pub third: TurnSeat<H, P>,
+    pub fourth: TurnSeat<H, P>,
+    pub background: TurnSeat<H, P>,
 }
 
-/// The turns of all devices, in their order, and the seats of each worker at them.
+/// The seats of the paths and of the background at some turns.
 #[derive(Drop)]
-pub(crate) struct Table<V: Volume> {
-    pub turns: Vec<DeviceTurn<V>>,
-    pub operator: Vec<DeviceSeat<V>>,
-    pub seats: Seats<V>,
+pub(crate) struct Seats<H: Holder<P>, P> {
+    pub first: Vec<TurnSeat<H, P>>,
+    pub second: Vec<TurnSeat<H, P>>,
+    pub third: Vec<TurnSeat<H, P>>,
+    pub fourth: Vec<TurnSeat<H, P>>,
+    pub background: Vec<TurnSeat<H, P>>,
 }
 
+/// Some turns, and the seats of each worker at them.
 #[derive(Drop)]
-pub(crate) struct Seats<V: Volume> {
-    pub first: Vec<DeviceSeat<V>>,
-    pub second: Vec<DeviceSeat<V>>,
-    pub third: Vec<DeviceSeat<V>>,
-    pub fourth: Vec<DeviceSeat<V>>,
-    pub background: Vec<DeviceSeat<V>>,
+pub(crate) struct Table<H: Holder<P>, P> {
+    pub turns: Vec<Turn<H, P>>,
+    pub operator: Vec<TurnSeat<H, P>>,
+    pub seats: Seats<H, P>,
 }
 
-/// A device stands in a turn, with a seat for each worker.
-fn set<V: Volume>(
+/// A holder stands in a turn, with a seat for each worker.
+pub(crate) fn set<H: Holder<P>, P>(
     alloc: Global,
-    device: Device<V>,
-    promise: &Promise<V>,
-) -> Result<Setting<V>, NoMemory>
-    requires stays { Stays promise.now device }
-    requires unused { seat_counts (device_of device) ≡ zeros }
+    holder: H,
+    promise: &P,
+) -> Result<Setting<H, P>, NoMemory>
+    requires keeps { H.keeps promise.now holder }
+    requires unused { H.counts holder ≡ zeros }
     ensures set { IfOk result IsSet }
-    ensures pledge { IfOk result (λ s. s.operator.seat.seat.me.0.pledge ≡ Some promise.now) }
+    ensures pledge { IfOk result (λ s. s.operator.seat.me.0.pledge ≡ Some promise.now) }
 {
-    let (turn, mut operator) = match Turn::make(alloc, device, promise) {
+    let (turn, mut operator) = match Turn::make(alloc, holder, promise) {
         Err((NoMemory, _)) => return Err(NoMemory),
         Ok(made) => made,
     };
@@ -63,37 +57,37 @@ fn set<V: Volume>(
     let fourth = turn.split(&mut operator);
     let background = turn.split(&mut operator);
     Ok(Setting {
-        turn: DeviceTurn { turn },
-        operator: DeviceSeat { seat: operator },
-        first: DeviceSeat { seat: first },
-        second: DeviceSeat { seat: second },
-        third: DeviceSeat { seat: third },
-        fourth: DeviceSeat { seat: fourth },
-        background: DeviceSeat { seat: background },
+        turn,
+        operator,
+        first,
+        second,
+        third,
+        fourth,
+        background,
     })
 }
 
 /// The operator's seat takes in the next one.
-fn take_in<V: Volume>(
-    turn: &DeviceTurn<V>,
-    operator: &mut DeviceSeat<V>,
-    gone: DeviceSeat<V>,
+fn take_in<H: Holder<P>, P>(
+    turn: &Turn<H, P>,
+    operator: &mut TurnSeat<H, P>,
+    gone: TurnSeat<H, P>,
     number: u64,
 )
     requires operator { IsHome turn.now operator.old }
     requires gone { IsAt number turn.now gone }
-    requires before { (k : ℕ) → 0 < k → k < number → has k operator.old.seat.seat.me.0.joined ≡ true }
+    requires before { (k : ℕ) → 0 < k → k < number → has k operator.old.seat.me.0.joined ≡ true }
     ensures operator { IsHome turn.now operator.new }
-    ensures pledge { operator.new.seat.seat.me.0.pledge ≡ operator.old.seat.seat.me.0.pledge }
-    ensures after { (k : ℕ) → 0 < k → k < number + 1 → has k operator.new.seat.seat.me.0.joined ≡ true }
+    ensures pledge { operator.new.seat.me.0.pledge ≡ operator.old.seat.me.0.pledge }
+    ensures after { (k : ℕ) → 0 < k → k < number + 1 → has k operator.new.seat.me.0.joined ≡ true }
 {
-    turn.turn.join(&mut operator.seat, gone.seat);
+    turn.join(operator, gone);
 }
 
-/// The device leaves its turn, once all seats have come home.
-fn clear<V: Volume>(setting: Setting<V>) -> Device<V>
+/// The holder leaves its turn, once all seats have come home.
+pub(crate) fn clear<H: Holder<P>, P>(setting: Setting<H, P>) -> H
     requires { IsSet setting }
-    ensures { Clears setting result }
+    ensures { KeptBy H.keeps setting.operator.seat.me.0.pledge result }
 {
     let Setting {
         turn,
@@ -109,11 +103,11 @@ fn clear<V: Volume>(setting: Setting<V>) -> Device<V>
     take_in(&turn, &mut operator, third, 3);
     take_in(&turn, &mut operator, fourth, 4);
     take_in(&turn, &mut operator, background, 5);
-    turn.turn.close(operator.seat)
+    turn.close(operator)
 }
 
-impl<V: Volume> Table<V> {
-    fn new(alloc: Global) -> Table<V>
+impl<H: Holder<P>, P> Table<H, P> {
+    pub fn new(alloc: Global) -> Table<H, P>
         ensures set { AreSet result }
         ensures none { result.operator.items ≡ [] }
     {
@@ -130,7 +124,7 @@ impl<V: Volume> Table<V> {
         }
     }
 
-    fn push(&mut self, setting: Setting<V>) -> Result<(), NoMemory>
+    pub fn push(&mut self, setting: Setting<H, P>) -> Result<(), NoMemory>
         requires old { AreSet self.old }
         requires more { IsSet setting }
         ensures set { OnOk result (AreSet self.new) }
@@ -155,7 +149,7 @@ impl<V: Volume> Table<V> {
         Ok(())
     }
 
-    fn pop(&mut self) -> Setting<V>
+    pub fn pop(&mut self) -> Setting<H, P>
         requires some { 0 < vec_len self.old.turns }
         requires set { AreSet self.old }
         ensures set { AreSet self.new }
@@ -173,41 +167,4 @@ impl<V: Volume> Table<V> {
             background: self.seats.background.pop().unwrap(),
         }
     }
-}
-
-/// Each device stands in a turn.
-pub(crate) fn set_all<V: Volume>(
-    alloc: Global,
-    devices: Vec<Device<V>>,
-) -> Result<Table<V>, NoMemory>
-    requires { All IsReady devices.items }
-    ensures set { IfOk result AreSet }
-    ensures promised { IfOk result (λ t. AllZip Promised devices.items t.operator.items) }
-{
-    let mut table = Table::new(alloc);
-    for device in devices {
-        let promise = Promise {
-            made: Snapshot::of(&device),
-            most: device.losses(),
-        };
-        let setting = set(alloc, device, &promise)?;
-        table.push(setting)?;
-    }
-    Ok(table)
-}
-
-/// The devices, in their order.
-pub(crate) fn clear_all<V: Volume>(
-    alloc: Global,
-    mut table: Table<V>,
-) -> Result<Vec<Device<V>>, NoMemory>
-    requires { AreSet table }
-    ensures { IfOk result (λ v. ClearsAll table.operator.items v.items) }
-{
-    let mut devices = Vec::new(alloc);
-    for _ in 0..table.turns.len() {
-        let setting = table.pop();
-        devices.insert(0, clear(setting))?;
-    }
-    Ok(devices)
 }

@@ -19,14 +19,14 @@ pub(crate) fn path_turn<V: Volume, P: Port, G: Gate>(
     ensures path { visitor.new.path ≡ visitor.old.path }
     ensures rests { OnOk result (Rests seat.old seat.new) }
 {
-    match turn.turn.enter(&mut seat.seat) {
+    match turn.enter(seat) {
         Enter::Taken { .. } => Ok(Came::Again),
         Enter::Got(mut device) => {
             let came = match path_event(&mut device, visitor, port) {
                 Err(NoMemory) => return Err(NoMemory),
                 Ok(came) => came,
             };
-            turn.turn.leave(&mut seat.seat, device);
+            turn.leave(seat, device);
             Ok(came)
         }
     }
@@ -41,14 +41,14 @@ pub(crate) fn background_turn<V: Volume, P: Port>(
     requires at { IsAt 5 turn.now seat.old }
     ensures rests { OnOk result (Rests seat.old seat.new) }
 {
-    match turn.turn.enter(&mut seat.seat) {
+    match turn.enter(seat) {
         Enter::Taken { .. } => Ok(Came::Again),
         Enter::Got(mut device) => {
             let came = match background_event(&mut device, port) {
                 Err(NoMemory) => return Err(NoMemory),
                 Ok(came) => came,
             };
-            turn.turn.leave(&mut seat.seat, device);
+            turn.leave(seat, device);
             Ok(came)
         }
     }
