@@ -1,4 +1,3 @@
-pub mod Zips
 pub mod Keeping
 pub mod Ready
 pub mod Leaving

@@ -20,6 +20,11 @@ abbrev pub tells : {R : Type 0} → Option (VolumeView R) → Bool
 tells None = true
 tells (Some v) = is_some v.contents
 
+-- nothing but empty volumes came
+abbrev pub are_fresh : List Item → Bool
+are_fresh [] = true
+are_fresh (x ∷ xs) = is_fresh x && are_fresh xs
+
 -- an open half write is of the background
 abbrev pub IsOwn : {H : Type 0} → Option (HalfWrite H) → Type 0
 IsOwn None = ⊥
@@ -73,12 +78,7 @@ module _ {V : Type 0} {G : Ghosts V} where
   abbrev pub IsFinished : Device V G → Type 0
   IsFinished d = (is_finished (device_of d) ≡ true) × (is_some (device_of d).store.half ≡ false)
 
-  -- No program was started, and no reset waits; where its volumes tell what they hold, the device stands beside the plain device of its history
-
-  abbrev pub are_fresh : List Item → Bool
-  are_fresh [] = true
-  are_fresh (x ∷ xs) = is_fresh x && are_fresh xs
-
+  -- no program was started, and no reset waits; where its volumes tell what they hold, it stands beside the plain device of its history
   pub record IsReady (d : Device V G) : Type 0 where
     pub idle : (device_of d).history.running ≡ None
     pub none : (device_of d).history.waiting ≡ []

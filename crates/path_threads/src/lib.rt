@@ -9,7 +9,6 @@ mod giving;
 mod places;
 mod promise;
 mod run;
-mod seating;
 mod shared;
 mod turns;
 mod walks;

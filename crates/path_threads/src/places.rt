@@ -2,10 +2,10 @@ ghost use Rattle.std.specs.Prelude.{All, IfOk};
 ghost use Rattle.std.specs.List.{AllZip};
 ghost use Rattle.path_threads.specs.Keeping.{IsReady};
 ghost use Rattle.path_threads.specs.Places.{ClearsAll, Promised};
-ghost use Rattle.path_threads.specs.Seating.{AreSet};
+ghost use Rattle.turn_seats.specs.Seating.{AreSet};
 
 use crate::promise::Promise;
-use crate::seating::{Table, clear, set};
+use turn_seats::{Table, clear, set};
 use ckd_types::NoMemory;
 use device_core::Device;
 use device_outside::Volume;

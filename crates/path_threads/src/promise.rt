@@ -1,4 +1,4 @@
-ghost use Rattle.std.specs.Prelude.{◌≡◌, ◌≤◌};
+ghost use Rattle.std.specs.Prelude.{◌<◌, refl};
 ghost use Rattle.device_defs.specs.Pledge.{seat_counts};
 ghost use Rattle.device_core.specs.State.{device_of};
 ghost use Rattle.path_threads.specs.Keeping.{Stays};

@@ -2,12 +2,12 @@ ghost use Rattle.std.specs.Prelude.{◌≡◌, ◌≤◌, All, IfOk};
 ghost use Rattle.std.specs.List.{AllZip};
 ghost use Rattle.std.specs.Thread.{IsSync};
 ghost use Rattle.path_threads.specs.Keeping.{IsFinished, IsReady, KeepsAll};
-ghost use Rattle.path_threads.specs.Seating.{AreSeated, IsAt};
+ghost use Rattle.turn_seats.specs.Seating.{AreSeated, IsAt};
 
 use crate::finish::finish_all;
 use crate::places::{clear_all, set_all};
 use crate::promise::{DeviceSeat, DeviceTurn, Promise};
-use crate::seating::{Seats, Table};
+use turn_seats::{Seats, Table};
 use crate::shared::Shared;
 use crate::walks::{walk, work_behind};
 use ckd_types::{NoMemory, PathNo};

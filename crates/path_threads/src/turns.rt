@@ -1,5 +1,5 @@
 ghost use Rattle.std.specs.Prelude.{◌≡◌, OnOk};
-ghost use Rattle.path_threads.specs.Seating.{IsAt, Rests};
+ghost use Rattle.turn_seats.specs.Seating.{IsAt, Rests};
 
 use crate::background::background_event;
 use crate::events::{Came, Visitor, path_event};

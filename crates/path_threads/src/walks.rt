@@ -1,6 +1,6 @@
 ghost use Rattle.std.specs.Prelude.{◌≡◌, IfOk, OnOk};
 ghost use Rattle.std.specs.List.{AllZip};
-ghost use Rattle.path_threads.specs.Seating.{IsAt, Rests};
+ghost use Rattle.turn_seats.specs.Seating.{IsAt, Rests};
 
 use crate::events::{Came, Visitor};
 use crate::promise::{DeviceSeat, DeviceTurn};

@@ -5,9 +5,9 @@ use Rattle.device_turn.specs.Answers.{IsAway}
 use Rattle.device_turn.specs.declared.holder.Holder.{Ghosts}
 use Rattle.device_turn.specs.declared.place.Turn.{Turn}
 use Rattle.device_turn.specs.declared.seat.TurnSeat.{TurnSeat}
-use Rattle.path_threads.specs.declared.seating.Seats.{Seats}
-use Rattle.path_threads.specs.declared.seating.Setting.{Setting}
-use Rattle.path_threads.specs.declared.seating.Table.{Table}
+use Rattle.turn_seats.specs.declared.seating.Seats.{Seats}
+use Rattle.turn_seats.specs.declared.seating.Setting.{Setting}
+use Rattle.turn_seats.specs.declared.seating.Table.{Table}
 
 module _ {H P : Type 0} {G : Ghosts H P} where
   -- a seat of this number rests at the turn

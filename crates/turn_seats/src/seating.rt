@@ -1,6 +1,6 @@
 ghost use Rattle.std.specs.Prelude.{◌≡◌, ◌<◌, ◌+◌, ◌++◌, ◌∷◌, [], ℕ, IfOk, OnOk, Some, true, vec_len};
 ghost use Rattle.device_turn.specs.Rule.{KeptBy, has, zeros};
-ghost use Rattle.path_threads.specs.Seating.{AreSet, IsAt, IsHome, IsSet};
+ghost use Rattle.turn_seats.specs.Seating.{AreSet, IsAt, IsHome, IsSet};
 
 use ckd_types::NoMemory;
 use device_turn::{Holder, Turn, TurnSeat};
@@ -8,7 +8,7 @@ use std::alloc::Global;
 
 /// A turn with the seats of its six workers: the operator's is the first.
 #[derive(Drop)]
-pub(crate) struct Setting<H: Holder<P>, P> {
+pub struct Setting<H: Holder<P>, P> {
     pub turn: Turn<H, P>,
     pub operator: TurnSeat<H, P>,
     pub first: TurnSeat<H, P>,
@@ -20,7 +20,7 @@ pub(crate) struct Setting<H: Holder<P>, P> {
 
 /// The seats of the paths and of the background at some turns.
 #[derive(Drop)]
-pub(crate) struct Seats<H: Holder<P>, P> {
+pub struct Seats<H: Holder<P>, P> {
     pub first: Vec<TurnSeat<H, P>>,
     pub second: Vec<TurnSeat<H, P>>,
     pub third: Vec<TurnSeat<H, P>>,
@@ -30,14 +30,14 @@ pub(crate) struct Seats<H: Holder<P>, P> {
 
 /// Some turns, and the seats of each worker at them.
 #[derive(Drop)]
-pub(crate) struct Table<H: Holder<P>, P> {
+pub struct Table<H: Holder<P>, P> {
     pub turns: Vec<Turn<H, P>>,
     pub operator: Vec<TurnSeat<H, P>>,
     pub seats: Seats<H, P>,
 }
 
 /// A holder stands in a turn, with a seat for each worker.
-pub(crate) fn set<H: Holder<P>, P>(
+pub fn set<H: Holder<P>, P>(
     alloc: Global,
     holder: H,
     promise: &P,
@@ -85,7 +85,7 @@ fn take_in<H: Holder<P>, P>(
 }
 
 /// The holder leaves its turn, once all seats have come home.
-pub(crate) fn clear<H: Holder<P>, P>(setting: Setting<H, P>) -> H
+pub fn clear<H: Holder<P>, P>(setting: Setting<H, P>) -> H
     requires { IsSet setting }
     ensures { KeptBy H.keeps setting.operator.seat.me.0.pledge result }
 {

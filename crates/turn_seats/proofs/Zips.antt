@@ -1,5 +1,6 @@
 -- Two lists that agree place by place.
-use Rattle.std.proofs.Common.{◌≡◌, ◌<◌, ◌+◌, zero, suc, ℕ, List, [], ◌∷◌, ◌++◌, length, get_or, set, arith}
+use Rattle.std.proofs.Common.{◌≡◌, ◌<◌, ◌+◌, zero, suc, ℕ, List, [], ◌∷◌, ◌++◌, Option, Some, length, get_or, set, arith, sym, ap, subst, ◌∙◌}
+use Rattle.std.specs.Prelude.{option_to_list}
 use Rattle.std.specs.List.{AllZip}
 
 module _ {A B : Type 0} (R : A → B → Type 0) where
@@ -36,3 +37,16 @@ module _ {A B : Type 0} (R : A → B → Type 0) where
   zip_last [] (z ∷ ys) x y h = absurd (none_left ys y h.1)
   zip_last (w ∷ xs) [] x y h = absurd (none_right xs x h.1)
   zip_last (w ∷ xs) (z ∷ ys) x y h = let l = zip_last xs ys x y h.1 in ((h.0, l.0), l.1)
+
+  -- one more of both
+  pub zip_pushed : (xs new : List A) (ys more : List B) (x : A) (y : B) → AllZip R xs ys → R x y → new ≡ xs ++ x ∷ [] → more ≡ ys ++ y ∷ [] → AllZip R new more
+  zip_pushed xs new ys more x y h r e f =
+      subst (λ (a : List A). AllZip R a more) (sym e) (subst (λ (b : List B). AllZip R (xs ++ x ∷ []) b) (sym f) (zip_snoc xs ys x y h r))
+
+  -- the last of both
+  pub zip_popped : (xs old : List A) (ys before : List B) (o : Option A) (p : Option B) (x : A) (y : B) → AllZip R old before →
+      old ≡ xs ++ option_to_list o → o ≡ Some x → before ≡ ys ++ option_to_list p → p ≡ Some y → AllZip R xs ys × R x y
+  zip_popped xs old ys before o p x y h e i f j =
+      zip_last xs ys x y
+      (subst (λ (a : List A). AllZip R a (ys ++ y ∷ [])) (e ∙ ap (λ (o : Option A). xs ++ option_to_list o) i)
+      (subst (λ (b : List B). AllZip R old b) (f ∙ ap (λ (o : Option B). ys ++ option_to_list o) j) h))
