@@ -2,14 +2,14 @@
 //! No code but law functions.
 #![tactic(auto)]
 
-ghost use Rattle.std.specs.Prelude.{◌≡◌, ◌≤◌, ◌*◌, [], false, true, length, ℕ, List, Option, None, Some};
+ghost use Rattle.std.specs.Prelude.{◌≡◌, ◌≤◌, ◌*◌, [], false, true, length, slice_set, ℕ, List, Option, None, Some};
 ghost use Rattle.ckd_chain.specs.Facts.{IsChain};
 ghost use Rattle.ckd_chain.specs.State.{ChainState};
 ghost use Rattle.ckd_types.specs.declared.geometry.Geometry.{Geometry};
 ghost use Rattle.ckd_types.specs.declared.paths.Side.{Side};
 ghost use Rattle.ckd_types.specs.declared.paths.Side.TheVariants.{B};
 ghost use Rattle.loss_model.specs.declared.Loss.{Loss};
-ghost use Rattle.plain_defs.specs.History.{IsPlain, OpenEntry};
+ghost use Rattle.plain_defs.specs.History.{IsPlain, OpenEntry, is_path_of};
 ghost use Rattle.plain_defs.specs.Journal.{Plans};
 ghost use Rattle.plain_defs.specs.PlainState.{empty_state};
 ghost use Rattle.track_image.specs.Image.{Image};
@@ -26,9 +26,10 @@ ghost use Rattle.device_defs.specs.Command.{command};
 ghost use Rattle.device_defs.specs.Contents.{contents};
 ghost use Rattle.device_defs.specs.Events.{second, background, lose};
 ghost use Rattle.device_defs.specs.Orders.{hold, replace, resume};
+ghost use Rattle.device_defs.specs.Pledge.{command_count, seat_counts};
 ghost use Rattle.device_defs.specs.Sound.{IsSound};
 ghost use Rattle.device_defs.specs.Start.{start, start_fault};
-ghost use Rattle.device_defs.specs.Store.{HalfWrite, side_of, tracks_of};
+ghost use Rattle.device_defs.specs.Store.{HalfWrite, OfBackground, side_of, tracks_of};
 ghost use Rattle.device_laws.specs.Agrees.{Held};
 ghost use Rattle.device_laws.specs.Whole.{WholeDevice};
 ghost use Rattle.turn_laws.specs.Standing.{GiveBytes, Stands, new_device};
@@ -69,4 +70,23 @@ pub fn orders_let_stand()
     ensures replaced { (d : WholeDevice) (u : Outside (List ℕ) NoKeep) (side : Side) (v : VolumeView (List ℕ)) (l : List (List ℕ)) → Stands d u →
         (side_of d.store side).up ≡ false → (side ≡ B → d.store.paired ≡ true) → v.contents ≡ Some l → length l ≡ tracks_of d.store →
         Stands (replace d side) (with_view u side v) }
+{}
+
+/// An event of a path changes the count of that path alone: the start of its next program, a command of its program that runs, and the second part of
+/// that command's write. What the device does by itself, the second part of its own write, and a loss change none.
+pub fn events_count_one_path()
+    ensures starts { (d : WholeDevice) (path : ℕ) → 1 ≤ path → path ≤ 4 → d.history.running ≡ None →
+        seat_counts (start d path) ≡ slice_set (seat_counts d) path (command_count (start d path) path) }
+    ensures command { (d e : WholeDevice) (u z : Outside (List ℕ) NoKeep) (a : Option Stepped) (path : ℕ) → 1 ≤ path → path ≤ 4 →
+        is_path_of d.history.running path ≡ true → Ran (λ ok. Unit {0}) (λ _ m r _. r ≡ reply m) (command contents d) u e a z →
+        seat_counts e ≡ slice_set (seat_counts d) path (command_count e path) }
+    ensures second { (d e : WholeDevice) (u z : Outside (List ℕ) NoKeep) (a : SecondEnd) (path : ℕ) → 1 ≤ path → path ≤ 4 →
+        is_path_of d.history.running path ≡ true → Ran (λ ok. Unit {0}) (λ _ m r _. r ≡ reply m) (second contents d) u e a z →
+        seat_counts e ≡ slice_set (seat_counts d) path (command_count e path) }
+    ensures own { (d e : WholeDevice) (u z : Outside (List ℕ) NoKeep) (a : SecondEnd) (h : HalfWrite Image) → d.store.half ≡ Some h → h.origin ≡ OfBackground →
+        Ran (λ ok. Unit {0}) (λ _ m r _. r ≡ reply m) (second contents d) u e a z → seat_counts e ≡ seat_counts d }
+    ensures background { (d e : WholeDevice) (u z : Outside (List ℕ) NoKeep) (a : Option Did) →
+        Ran (λ ok. Unit {0}) (λ _ m r _. r ≡ reply m) (background contents d) u e a z → seat_counts e ≡ seat_counts d }
+    ensures lose { (d e : WholeDevice) (u z : Outside (List ℕ) NoKeep) (a : Unit {0}) (loss : Loss) →
+        Ran (λ ok. Unit {0}) (λ _ m r _. r ≡ reply m) (lose contents d loss) u e a z → seat_counts e ≡ seat_counts d }
 {}
