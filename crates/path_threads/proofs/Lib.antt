@@ -1,3 +1,0 @@
-pub mod Keeping
-pub mod Ready
-pub mod Leaving

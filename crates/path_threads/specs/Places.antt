@@ -5,8 +5,8 @@ use Rattle.device_outside.specs.declared.volume.Volume.{Ghosts}
 use Rattle.device_turn.specs.declared.holder.Holder as holders
 use Rattle.device_turn.specs.declared.seat.TurnSeat.{TurnSeat}
 use Rattle.device_core.specs.declared.device.Device.{Device}
-use Rattle.path_threads.specs.declared.promise.Promise.{Promise}
-use Rattle.path_threads.specs.Keeping.{IsPromise, KeepsAll}
+use Rattle.path_turns.specs.declared.promise.Promise.{Promise}
+use Rattle.path_turns.specs.Keeping.{IsPromise, KeepsAll}
 
 module _ {V : Type 0} {G : Ghosts V} {N : holders.Ghosts (Device V G) (Promise V G)} where
   -- what was promised of a device, as it was then

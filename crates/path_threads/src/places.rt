@@ -1,16 +1,16 @@
 ghost use Rattle.std.specs.Prelude.{All, IfOk};
 ghost use Rattle.std.specs.List.{AllZip};
-ghost use Rattle.path_threads.specs.Keeping.{IsReady};
+ghost use Rattle.path_turns.specs.Keeping.{IsReady};
 ghost use Rattle.path_threads.specs.Places.{ClearsAll, Promised};
 ghost use Rattle.turn_seats.specs.Seating.{AreSet};
 
-use crate::promise::Promise;
-use turn_seats::{Table, clear, set};
+use path_turns::Promise;
 use ckd_types::NoMemory;
 use device_core::Device;
 use device_outside::Volume;
 use std::alloc::Global;
 use std::snapshot::Snapshot;
+use turn_seats::{Table, clear, set};
 
 type DeviceTable<V> = Table<Device<V>, Promise<V>>;
 

@@ -1,13 +1,12 @@
 ghost use Rattle.std.specs.Prelude.{◌≡◌, ◌≤◌, All, IfOk};
 ghost use Rattle.std.specs.List.{AllZip};
 ghost use Rattle.std.specs.Thread.{IsSync};
-ghost use Rattle.path_threads.specs.Keeping.{IsFinished, IsReady, KeepsAll};
+ghost use Rattle.path_turns.specs.Keeping.{IsFinished, IsReady, KeepsAll};
 ghost use Rattle.turn_seats.specs.Seating.{AreSeated, IsAt};
 
-use crate::finish::finish_all;
+use path_turns::finish_all;
 use crate::places::{clear_all, set_all};
-use crate::promise::{DeviceSeat, DeviceTurn, Promise};
-use turn_seats::{Seats, Table};
+use path_turns::{DeviceSeat, DeviceTurn, Promise};
 use crate::shared::Shared;
 use crate::walks::{walk, work_behind};
 use ckd_types::{NoMemory, PathNo};
@@ -17,6 +16,7 @@ use frame_pool::Pool;
 use std::alloc::Global;
 use std::sync::Wait;
 use std::thread::{Threads, join};
+use turn_seats::{Seats, Table};
 
 /// The pool and the devices behind a run.
 #[derive(Drop)]

@@ -2,10 +2,10 @@ ghost use Rattle.std.specs.Prelude.{◌≡◌, IfOk, OnOk};
 ghost use Rattle.std.specs.List.{AllZip};
 ghost use Rattle.turn_seats.specs.Seating.{IsAt, Rests};
 
-use crate::events::{Came, Visitor};
-use crate::promise::{DeviceSeat, DeviceTurn};
+use path_turns::{Came, Visitor};
+use path_turns::{DeviceSeat, DeviceTurn};
 use crate::shared::{Shared, SharedPool};
-use crate::turns::{background_turn, path_turn};
+use path_turns::{background_turn, path_turn};
 use ckd_types::{NoMemory, PathNo};
 use device_outside::{Gate, Port, Volume};
 use std::sync::Wait;

@@ -1,5 +1,5 @@
 ghost use Rattle.std.specs.Prelude.{All, IfOk};
-ghost use Rattle.path_threads.specs.Keeping.{IsReady};
+ghost use Rattle.path_turns.specs.Keeping.{IsReady};
 
 use ckd_ccw::Program;
 use ckd_types::{Bytes, Ccw, DeviceNo, Geometry, PathNo};
@@ -7,7 +7,8 @@ use deck_plan::PathPlans;
 use device_core::Device;
 use device_outside::{Gate, MemVolume, NoGate};
 use frame_pool::Pool;
-use path_threads::{Ran, plans_give, run_paths};
+use path_threads::{Ran, run_paths};
+use path_turns::plans_give;
 use std::alloc::Global;
 use std::sync::Wait;
 use std::test::Fail;

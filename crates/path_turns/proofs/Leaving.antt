@@ -9,8 +9,8 @@ use Rattle.device_turn.specs.declared.view.View.{View}
 use Rattle.device_turn.proofs.Views.{kept_through, still_set}
 use Rattle.device_core.specs.declared.device.Device.{Device}
 use Rattle.device_core.specs.State.{device_of}
-use Rattle.path_threads.specs.Keeping.{Moves, Stays, pledge_with}
-use Rattle.path_threads.specs.declared.promise.Promise.{Promise}
+use Rattle.path_turns.specs.Keeping.{Moves, Stays, pledge_with}
+use Rattle.path_turns.specs.declared.promise.Promise.{Promise}
 
 module _ {V : Type 0} {G : Ghosts V} where
   abbrev counts_of : Device V G → List ℕ

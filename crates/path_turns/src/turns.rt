@@ -9,7 +9,7 @@ use device_outside::{Gate, Port, Volume};
 use device_turn::Enter;
 
 /// One event of a path, in a turn of its own. Where memory is wanting, the turn isn't given back.
-pub(crate) fn path_turn<V: Volume, P: Port, G: Gate>(
+pub fn path_turn<V: Volume, P: Port, G: Gate>(
     turn: &DeviceTurn<V>,
     seat: &mut DeviceSeat<V>,
     visitor: &mut Visitor<G>,
@@ -33,7 +33,7 @@ pub(crate) fn path_turn<V: Volume, P: Port, G: Gate>(
 }
 
 /// One event in the background, in a turn of its own. Where memory is wanting, the turn isn't given back.
-pub(crate) fn background_turn<V: Volume, P: Port>(
+pub fn background_turn<V: Volume, P: Port>(
     turn: &DeviceTurn<V>,
     seat: &mut DeviceSeat<V>,
     port: &mut P,

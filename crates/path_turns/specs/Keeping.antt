@@ -13,7 +13,7 @@ use Rattle.turn_laws.specs.Standing.{Stands}
 use Rattle.device_store.specs.State.{outside}
 use Rattle.device_core.specs.declared.device.Device.{Device}
 use Rattle.device_core.specs.State.{device_of}
-use Rattle.path_threads.specs.declared.promise.Promise.{Promise}
+use Rattle.path_turns.specs.declared.promise.Promise.{Promise}
 
 -- a volume tells what it holds
 abbrev pub tells : {R : Type 0} → Option (VolumeView R) → Bool

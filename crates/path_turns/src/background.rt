@@ -1,6 +1,6 @@
 ghost use Rattle.std.specs.Prelude.{◌≡◌, None, OnOk, false, is_some, true};
 ghost use Rattle.device_core.specs.State.{device_of};
-ghost use Rattle.path_threads.specs.Keeping.{IsOwn, Moves};
+ghost use Rattle.path_turns.specs.Keeping.{IsOwn, Moves};
 
 use crate::events::Came;
 use ckd_types::NoMemory;
@@ -61,7 +61,7 @@ fn half_work<V: Volume, P: Port>(device: &mut Device<V>, port: &mut P) -> Result
 }
 
 /// One event in the background, and whether the device is finished and rests.
-pub(crate) fn background_event<V: Volume, P: Port>(
+pub fn background_event<V: Volume, P: Port>(
     device: &mut Device<V>,
     port: &mut P,
 ) -> Result<Came, NoMemory>

@@ -2,7 +2,7 @@ ghost use Rattle.std.specs.Prelude.{◌≡◌, All, IfSome, None, OnOk, false, i
 ghost use Rattle.std.specs.List.{AllZip};
 ghost use Rattle.device_defs.specs.Start.{start_fault};
 ghost use Rattle.device_core.specs.State.{device_of};
-ghost use Rattle.path_threads.specs.Keeping.{IsFinished, StaysOn};
+ghost use Rattle.path_turns.specs.Keeping.{IsFinished, StaysOn};
 
 use crate::events::{chain_stands, is_busy, start_came};
 use ckd_types::{NoMemory, PathNo};
@@ -68,7 +68,7 @@ fn next_event<V: Volume, P: Port>(device: &mut Device<V>, port: &mut P) -> Resul
 }
 
 /// Does what is left of a device, until it is finished and no write is half done.
-pub(crate) fn finish<R: Wait, V: Volume, P: Port>(
+pub fn finish<R: Wait, V: Volume, P: Port>(
     rt: &R,
     device: &mut Device<V>,
     port: &mut P,
@@ -86,7 +86,7 @@ pub(crate) fn finish<R: Wait, V: Volume, P: Port>(
 }
 
 /// Finishes each device.
-pub(crate) fn finish_all<R: Wait, V: Volume, P: Port>(
+pub fn finish_all<R: Wait, V: Volume, P: Port>(
     rt: &R,
     devices: &mut [Device<V>],
     port: &mut P,

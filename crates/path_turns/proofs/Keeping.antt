@@ -1,6 +1,6 @@
 -- What an event leaves of a device in its turn.
 use Rattle.std.proofs.Common.{◌≡◌, ◌≤◌, ◌<◌, ◌+◌, ℕ, Bool, true, false, List, Option, Some, None, refl, sym, ap, subst, ◌∙◌, arith}
-use Rattle.std.specs.Prelude.{◌&&◌, IfSome, IsSome, is_some, option_map, slice_set}
+use Rattle.std.specs.Prelude.{◌&&◌, IfSome, is_some, option_map, slice_set}
 use Rattle.ckd_chain.specs.Facts.{IsChain}
 use Rattle.ckd_chain.specs.State.{ChainState}
 use Rattle.plain_defs.specs.History.{OpenEntry, is_path_of}
@@ -42,8 +42,8 @@ use Rattle.device_store.specs.State.{outside}
 use Rattle.device_store.specs.declared.store.DeviceStore.{DeviceStore}
 use Rattle.device_core.specs.declared.device.Device.{Device}
 use Rattle.device_core.specs.declared.past.Running.{Running}
-use Rattle.device_core.specs.State.{device_of, chain_of, open_of}
-use Rattle.path_threads.specs.Keeping.{KeepsPledge, Moves, StaysOn, handed_of, tells, told_of}
+use Rattle.device_core.specs.State.{device_of, chain_of}
+use Rattle.path_turns.specs.Keeping.{KeepsPledge, Moves, StaysOn, handed_of, tells, told_of}
 
 abbrev pub hears : Hearing Image NoKeep
 hears = λ _ m r _. r ≡ reply m
@@ -67,11 +67,9 @@ pub runs_some : (path : ℕ) (r : Option OpenEntry) → is_path_of r path ≡ tr
 runs_some path (Some o) is = record { entry = o; is = refl }
 runs_some path None is = absurd (cc)
 
-pub some_runs : (r : Option OpenEntry) → IsSome r → Runs r
+pub some_runs : (r : Option OpenEntry) → is_some r ≡ true → Runs r
 some_runs (Some o) is = record { entry = o; is = refl }
-some_runs None is = absurd (no is) where
-  no : IsSome {Y = OpenEntry} None → ⊥
-  no is = cc
+some_runs None is = absurd (cc)
 
 told_true : {R : Type 0} (v : Option (VolumeView R)) (l : List R) → Tells v l → tells v ≡ true
 told_true None l t = refl

@@ -1,7 +1,7 @@
 ghost use Rattle.std.specs.Prelude.{◌<◌, refl};
 ghost use Rattle.device_defs.specs.Pledge.{seat_counts};
 ghost use Rattle.device_core.specs.State.{device_of};
-ghost use Rattle.path_threads.specs.Keeping.{Stays};
+ghost use Rattle.path_turns.specs.Keeping.{Stays};
 
 use ckd_types::PathNo;
 use device_core::Device;
@@ -17,9 +17,9 @@ pub struct Promise<V: Volume> {
     pub most: Losses,
 }
 
-pub(crate) type DeviceTurn<V> = Turn<Device<V>, Promise<V>>;
+pub type DeviceTurn<V> = Turn<Device<V>, Promise<V>>;
 
-pub(crate) type DeviceSeat<V> = TurnSeat<Device<V>, Promise<V>>;
+pub type DeviceSeat<V> = TurnSeat<Device<V>, Promise<V>>;
 
 /// The path of a seat: seats 1 to 4 are the paths'.
 fn path_of(seat: u64) -> Option<PathNo>

@@ -20,7 +20,7 @@ use Rattle.turn_laws.specs.Standing.{GiveBytes, Stands}
 use Rattle.turn_laws.proofs.NewDevice.{new_stands}
 use Rattle.device_core.specs.declared.device.Device.{Device}
 use Rattle.device_core.specs.State.{device_of, opened_device}
-use Rattle.path_threads.specs.Keeping.{IsReady, KeepsAll, are_fresh, told_of}
+use Rattle.path_turns.specs.Keeping.{IsReady, KeepsAll, are_fresh, told_of}
 
 and_left : (x y : Bool) → (x && y) ≡ true → x ≡ true
 and_left true y e = refl

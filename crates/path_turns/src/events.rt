@@ -3,7 +3,7 @@ ghost use Rattle.ckd_chain.specs.Facts.{IsChain};
 ghost use Rattle.plain_defs.specs.History.{is_path_of};
 ghost use Rattle.device_core.specs.Starting.{fault_told};
 ghost use Rattle.device_core.specs.State.{device_of};
-ghost use Rattle.path_threads.specs.Keeping.{Moves};
+ghost use Rattle.path_turns.specs.Keeping.{Moves};
 
 use ckd_types::{NoMemory, PathNo};
 use device_core::{Device, HalfOrigin, NotStarted};
@@ -12,7 +12,7 @@ use device_outside::{Gate, Port, Volume};
 
 /// What came of a look at a device.
 #[derive(Clone, Copy, Debug, PartialEq, Eq)]
-pub(crate) enum Came {
+pub enum Came {
     /// An event was done.
     Went,
     /// Others have the device, or hold it: this one tries again.
@@ -23,7 +23,7 @@ pub(crate) enum Came {
 
 /// The events of a path's worker: through which gate they go, and how many there were.
 #[derive(Drop)]
-pub(crate) struct Visitor<'a, G: Gate> {
+pub struct Visitor<'a, G: Gate> {
     pub path: PathNo,
     pub gate: &'a G,
     pub calls: u64,
@@ -68,7 +68,7 @@ fn fault_came(fault: StartFault) -> Came {
 }
 
 /// A start that nothing kept out.
-pub(crate) fn start_came(outcome: Result<u16, NotStarted>) -> Result<Came, NoMemory>
+pub fn start_came(outcome: Result<u16, NotStarted>) -> Result<Came, NoMemory>
     requires { fault_told outcome ≡ None }
     ensures { OnOk result (IsOk outcome) }
 {
@@ -90,14 +90,14 @@ fn runs_on<V: Volume>(device: &Device<V>, path: PathNo) -> bool
 }
 
 /// Some path's program runs.
-pub(crate) fn is_busy<V: Volume>(device: &Device<V>) -> bool
+pub fn is_busy<V: Volume>(device: &Device<V>) -> bool
     ensures { result ≡ is_some (device_of device.now).history.running }
 {
     device.active().is_some()
 }
 
 /// The chain of the program that runs keeps to what chains keep to.
-pub(crate) fn chain_stands<V: Volume>(device: &Device<V>)
+pub fn chain_stands<V: Volume>(device: &Device<V>)
     ensures { IfSome device.now.past.running (λ r. IsChain r.chain) }
 {
     match &device.past.running {
@@ -192,7 +192,7 @@ fn half_event<V: Volume, P: Port, G: Gate>(
 
 /// One event of a path at a device, where one is due: its half write comes first, then its program that runs, then its next
 /// one. Half writes of others are waited for, and so is a path that holds the device.
-pub(crate) fn path_event<V: Volume, P: Port, G: Gate>(
+pub fn path_event<V: Volume, P: Port, G: Gate>(
     device: &mut Device<V>,
     visitor: &mut Visitor<G>,
     port: &mut P,
