@@ -80,7 +80,7 @@ pub fn start_came(outcome: Result<u16, NotStarted>) -> Result<Came, NoMemory>
 }
 
 /// The path's program runs.
-fn runs_on<V: Volume>(device: &Device<V>, path: PathNo) -> bool
+pub(crate) fn runs_on<V: Volume>(device: &Device<V>, path: PathNo) -> bool
     ensures { result ≡ is_path_of (device_of device.now).history.running path }
 {
     match device.active() {

@@ -2,15 +2,15 @@
 #![tactic(auto)]
 
 mod background;
+mod ending;
 mod events;
-mod finish;
 mod giving;
 mod promise;
 mod turns;
 
 pub use background::background_event;
+pub use ending::{finish, finish_all};
 pub use events::{Came, Visitor, path_event};
-pub use finish::{finish, finish_all};
 pub use giving::plans_give;
 pub use promise::{DeviceSeat, DeviceTurn, Promise};
 pub use turns::{background_turn, path_turn};
