@@ -71,6 +71,14 @@ pub some_runs : (r : Option OpenEntry) → is_some r ≡ true → Runs r
 some_runs (Some o) is = record { entry = o; is = refl }
 some_runs None is = absurd (cc)
 
+pub none_of : {X : Type 0} (o : Option X) → is_some o ≡ false → o ≡ None
+none_of None is = refl
+none_of (Some x) is = absurd (cc)
+
+pub with_some : {X : Type 0} (o : Option X) (Q : Type 0) → is_some o ≡ true → ((x : X) → o ≡ Some x → Q) → Q
+with_some (Some x) Q is f = f x refl
+with_some None Q is f = absurd (cc)
+
 told_true : {R : Type 0} (v : Option (VolumeView R)) (l : List R) → Tells v l → tells v ≡ true
 told_true None l t = refl
 told_true (Some v) l t = ap (λ (o : Option (List _)). is_some o) t

@@ -16,13 +16,10 @@ module _ {V : Type 0} {G : Ghosts V} where
   abbrev counts_of : Device V G → List ℕ
   counts_of d = seat_counts (device_of d)
 
-  abbrev Knows : Type 0
-  Knows = View (Option (Promise V G)) × List (ℕ × Option (Device V G))
-
-  pub may_leave : (seat : ℕ) (me after : Knows) (before behind : Device V G) → Entered (KeptBy Stays) counts_of me after (Got before) →
+  pub may_leave : (seat : ℕ) (me after : View (Option (Promise V G)) × List (ℕ × Option (Device V G))) (before behind : Device V G) → Entered (KeptBy Stays) counts_of me after (Got before) →
       after.0.number ≡ seat → Moves seat before behind → MayLeave (KeptBy Stays) counts_of after.0 behind
   may_leave seat me after before behind e number moves =
-      let loaded : after.0.loaded ≡ e.0 = ap (λ (m : Knows). m.0.loaded) e.1 in
+      let loaded : after.0.loaded ≡ e.0 = ap (λ (m : View (Option (Promise V G)) × List (ℕ × Option (Device V G))). m.0.loaded) e.1 in
       let apart : Without seat after.0.loaded =
       subst (λ (k : ℕ). Without k after.0.loaded) number (subst (λ (es : List (ℕ × ℕ)). Without after.0.number es) (sym loaded) e.3) in (
         kept_through Stays after.0.pledge before behind (λ p k. moves.stays (pledge_with p.made.value p.most) k) e.4.0,

@@ -52,7 +52,7 @@ fresh_from n (items.Act x ∷ xs) e = absurd (cc)
 fresh_from n (items.Power ∷ xs) e = absurd (cc)
 
 all_counted : (xs : List Item) → are_fresh xs ≡ true → fresh_count xs ≡ length xs
-all_counted xs e = fresh_from 0 xs e
+all_counted xs e = let all = fresh_from 0 xs e in omega (arith, all)
 
 kept_long : (xs : List Item) → are_fresh xs ≡ true → is_kept_journal (length xs) xs ≡ true
 kept_long [] e = refl
