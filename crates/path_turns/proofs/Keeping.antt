@@ -48,8 +48,8 @@ use Rattle.path_turns.specs.Keeping.{KeepsPledge, Moves, StaysOn, handed_of, tel
 abbrev pub hears : Hearing Image NoKeep
 hears = λ _ m r _. r ≡ reply m
 
-abbrev nothing : NoKeep
-nothing = record {}
+abbrev pub no_keep : NoKeep
+no_keep = record {}
 
 -- the chain of the program that runs, told of the device
 pub chain_told : (r : Option Running) → IfSome r (λ r. IsChain r.chain) → (chain : ChainState) → option_map chain_of r ≡ Some chain → IsChain chain
@@ -112,10 +112,10 @@ module _ {V : Type 0} {G : Ghosts V} where
 
   module _ (d e : Device V G) (old new : PortView) where
     abbrev u : Outside (List ℕ) NoKeep
-    u = outside old d.store nothing
+    u = outside old d.store no_keep
 
     abbrev z : Outside (List ℕ) NoKeep
-    z = outside new e.store nothing
+    z = outside new e.store no_keep
 
     abbrev Came : {A : Type 0} → (Bool → Type 0) → Interaction (List ℕ) Image WholeDevice A → A → Type 0
     Came had i a = Ran had hears i u (device_of e) a z
@@ -163,7 +163,7 @@ module _ {V : Type 0} {G : Ghosts V} where
           store = k.keeps.store;
           sides = k.keeps.sides;
           failures = k.keeps.failures;
-          tells = λ told. stands_tells e z new nothing refl (stands told);
+          tells = λ told. stands_tells e z new no_keep refl (stands told);
           told = k.keeps.told;
           checks = k.keeps.checks;
         };
