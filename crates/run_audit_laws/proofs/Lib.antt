@@ -54,3 +54,5 @@ mod Forms
 mod Feeds
 mod DeckTexts
 mod OwnTexts
+mod Weights
+mod Lighter
