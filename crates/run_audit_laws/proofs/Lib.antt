@@ -56,3 +56,4 @@ mod DeckTexts
 mod OwnTexts
 mod Weights
 mod Lighter
+mod SecondLighter

@@ -39,7 +39,7 @@ use Rattle.run_audit_laws.proofs.Weights.{Spot, copies, due_by, left, modified_b
 abbrev pub Lower : MarksStore → MarksStore → Type 0
 Lower s z = left z + 1 ≤ left s
 
-abbrev rest_of : MarksStore → ℕ
+abbrev pub rest_of : MarksStore → ℕ
 rest_of s = length s.queue + one (is_some s.half)
 
 pub lower_all : (s z : MarksStore) → z.cylinders ≡ s.cylinders → ((q : ℕ) → q < tracks_of s → weight_at z q ≤ weight_at s q) → rest_of z + 1 ≤ rest_of s → Lower s z
@@ -63,7 +63,7 @@ pub record Same (s z : MarksStore) : Type 0 where
   pub half : z.half ≡ s.half
   pub spots : (q : ℕ) → spot_at z q ≡ spot_at s q
 
-same_self : (s : MarksStore) → Same s s
+pub same_self : (s : MarksStore) → Same s s
 same_self s = record { cylinders = refl; queue = refl; half = refl; spots = λ q. refl }
 
 pub as_least : (m n : ℕ) → m ≡ n → m ≤ n
@@ -71,19 +71,19 @@ as_least m n is = omega (arith, is)
 
 -- Only one track is changed
 
-record Near (s z : MarksStore) (t : ℕ) : Type 0 where
-  cylinders : z.cylinders ≡ s.cylinders
-  queue : z.queue ≡ s.queue
-  half : z.half ≡ s.half
-  a : z.a.up ≡ s.a.up
-  b : z.b.up ≡ s.b.up
-  held : z.held ≡ s.held
-  others : (q : ℕ) → q ≢ t → spot_at z q ≡ spot_at s q
+pub record Near (s z : MarksStore) (t : ℕ) : Type 0 where
+  pub cylinders : z.cylinders ≡ s.cylinders
+  pub queue : z.queue ≡ s.queue
+  pub half : z.half ≡ s.half
+  pub a : z.a.up ≡ s.a.up
+  pub b : z.b.up ≡ s.b.up
+  pub held : z.held ≡ s.held
+  pub others : (q : ℕ) → q ≢ t → spot_at z q ≡ spot_at s q
 
-near_self : (s : MarksStore) (t : ℕ) → Near s s t
+pub near_self : (s : MarksStore) (t : ℕ) → Near s s t
 near_self s t = record { cylinders = refl; queue = refl; half = refl; a = refl; b = refl; held = refl; others = λ q ne. refl }
 
-near_on : (s z y : MarksStore) (t : ℕ) → Near s z t → Near z y t → Near s y t
+pub near_on : (s z y : MarksStore) (t : ℕ) → Near s z t → Near z y t → Near s y t
 near_on s z y t f g = record {
   cylinders = g.cylinders ∙ f.cylinders;
   queue = g.queue ∙ f.queue;
@@ -94,7 +94,7 @@ near_on s z y t f g = record {
   others = λ q ne. g.others q ne ∙ f.others q ne;
 }
 
-near_if : (s z y : MarksStore) (t : ℕ) (b : Bool) → Near s z t → Near s y t → Near s (if b then z else y) t
+pub near_if : (s z y : MarksStore) (t : ℕ) (b : Bool) → Near s z t → Near s y t → Near s (if b then z else y) t
 near_if s z y t true f g = f
 near_if s z y t false f g = g
 
@@ -104,25 +104,25 @@ near_stale_a s t v = record {
   others = λ q ne. ap (λ (x : Bool). record (spot_at s q) { a_stale = x }) (get_or-set_other s.a.stale t q v false ne);
 }
 
-near_stale_b : (s : MarksStore) (t : ℕ) (v : Bool) → Near s (with_stale s B t v) t
+pub near_stale_b : (s : MarksStore) (t : ℕ) (v : Bool) → Near s (with_stale s B t v) t
 near_stale_b s t v = record {
   cylinders = refl; queue = refl; half = refl; a = refl; b = refl; held = refl;
   others = λ q ne. ap (λ (x : Bool). record (spot_at s q) { b_stale = x }) (get_or-set_other s.b.stale t q v false ne);
 }
 
-near_firm : (s : MarksStore) (t : ℕ) → Near s (hardened s t) t
+pub near_firm : (s : MarksStore) (t : ℕ) → Near s (hardened s t) t
 near_firm s t = record {
   cylinders = refl; queue = refl; half = refl; a = refl; b = refl; held = refl;
   others = λ q ne. ap (λ (x : Bool). record (spot_at s q) { loose = x }) (get_or-set_other s.loose t q false false ne);
 }
 
-near_frame : (s : MarksStore) (t : ℕ) (f : Option Bool) → Near s (with_frame s t f) t
+pub near_frame : (s : MarksStore) (t : ℕ) (f : Option Bool) → Near s (with_frame s t f) t
 near_frame s t f = record {
   cylinders = refl; queue = refl; half = refl; a = refl; b = refl; held = refl;
   others = λ q ne. ap (λ (x : Option Bool). record (spot_at s q) { frame = x }) (get_or-set_other s.frames t q f None ne);
 }
 
-near_bare : (s : MarksStore) (t : ℕ) → Near s (with_patch s t None) t
+pub near_bare : (s : MarksStore) (t : ℕ) → Near s (with_patch s t None) t
 near_bare s t = record {
   cylinders = refl; queue = refl; half = refl; a = refl; b = refl; held = refl;
   others = λ q ne. ap (λ (x : Option (Unit {0})). record (spot_at s q) { patched = is_some x }) (get_or-set_other s.patches t q None None ne);
@@ -138,12 +138,12 @@ near_taken s t =
     let z = with_stale s A t false in
     near_if s (with_stale z B t true) z t s.b.up (near_on s z (with_stale z B t true) t (near_stale_a s t false) (near_stale_b z t true)) (near_stale_a s t false)
 
-false_at : (l : List Bool) (t : ℕ) → get_or (set l t false) t false ≡ false
+pub false_at : (l : List Bool) (t : ℕ) → get_or (set l t false) t false ≡ false
 false_at [] t = refl
 false_at (x ∷ l) zero = refl
 false_at (x ∷ l) (suc t) = false_at l t
 
-some_at : (l : List (Option Bool)) (t : ℕ) (x : Bool) → is_some (get_or l t None) ≡ true → get_or (set l t (Some x)) t None ≡ Some x
+pub some_at : (l : List (Option Bool)) (t : ℕ) (x : Bool) → is_some (get_or l t None) ≡ true → get_or (set l t (Some x)) t None ≡ Some x
 some_at [] t x e = absurd (cc)
 some_at (y ∷ l) zero x e = refl
 some_at (y ∷ l) (suc t) x e = some_at l t x e
@@ -162,7 +162,7 @@ no_copies_b false stale c k true e is none = absurd (cc)
 no_copies_b false stale c true false e is none = refl
 no_copies_b false stale c false false e is none = refl
 
-idle : (lost : Bool) (f : Option Bool) (p l : Bool) → modified_by f ≡ false → p ≡ false → l ≡ false →
+pub idle : (lost : Bool) (f : Option Bool) (p l : Bool) → modified_by f ≡ false → p ≡ false → l ≡ false →
     ((not lost && due_by f p l) || (l || (modified_by f && p))) ≡ false
 idle lost f true l clean bare firm = absurd (cc)
 idle lost f false true clean bare firm = absurd (cc)
@@ -243,7 +243,7 @@ both_sides true true e f = refl
 both_sides true false e f = absurd (cc)
 both_sides false k e f = absurd (cc)
 
-takes_same : (s z : MarksStore) (t : ℕ) → Near s z t → takes_b z ≡ takes_b s
+pub takes_same : (s z : MarksStore) (t : ℕ) → Near s z t → takes_b z ≡ takes_b s
 takes_same s z t n = ap (λ (x : Bool). x && not z.held) n.b ∙ ap (λ (x : Bool). s.b.up && not x) n.held
 
 took_by : (s : MarksStore) (t : ℕ) (b : Bool) → takes_b s ≡ b → s.a.up ≡ true → Takes s t (taken_a s t) (W.wrote (if b then Opened else Whole) None)
@@ -262,7 +262,7 @@ took_by s t false is up =
     }
 
 -- what is failed is told
-any_had : (s : MarksStore) (side : Side) (w : Option ℕ) → Had (call_failed by_plain s side w) (λ z (_ : Unit {0}). Unit {0})
+pub any_had : (s : MarksStore) (side : Side) (w : Option ℕ) → Had (call_failed by_plain s side w) (λ z (_ : Unit {0}). Unit {0})
 any_had s side w = had_always (always_any (call_failed by_plain s side w))
 
 late_b : (s : MarksStore) (t : ℕ) (z : MarksStore) (ok : Bool) → Had (alone_b by_plain t (Some A) A z ok) (Takes s t)
@@ -346,7 +346,7 @@ record DoneSo (s z : MarksStore) (t : ℕ) : Type 0 where
   b : z.b ≡ s.b
   off : is_loose s t ≡ false → works (spot_at z t) ≡ false
 
-clean_off : (o : Option Bool) → is_some o ≡ false → modified_by o ≡ false
+pub clean_off : (o : Option Bool) → is_some o ≡ false → modified_by o ≡ false
 clean_off None e = refl
 clean_off (Some m) e = absurd (cc)
 
@@ -379,10 +379,10 @@ record OpenSo (s z : MarksStore) (t : ℕ) : Type 0 where
   mine : half_is z.half t ≡ true
   others : (q : ℕ) → q ≢ t → spot_at z q ≡ spot_at s q
 
-own_is : (t : ℕ) → (t == t) ≡ true
+pub own_is : (t : ℕ) → (t == t) ≡ true
 own_is t = grind arith
 
-not_own : (t q : ℕ) → q ≢ t → (t == q) ≡ false
+pub not_own : (t q : ℕ) → q ≢ t → (t == q) ≡ false
 not_own t q ne = by_test (t == q) refl where
   by_test : (b : Bool) → (t == q) ≡ b → (t == q) ≡ false
   by_test true is = absurd (ne (sym (eqb-true t q is)))
@@ -424,18 +424,18 @@ bad_stops s z None side e = absurd (cc)
 
 -- The weight of a track
 
-half_off : (b : Bool) (n m : ℕ) → b ≡ false → (if b then n else m) ≡ m
+pub half_off : (b : Bool) (n m : ℕ) → b ≡ false → (if b then n else m) ≡ m
 half_off true n m e = absurd (cc)
 half_off false n m e = refl
 
-half_on : (b : Bool) (n m : ℕ) → b ≡ true → (if b then n else m) ≡ n
+pub half_on : (b : Bool) (n m : ℕ) → b ≡ true → (if b then n else m) ≡ n
 half_on true n m e = refl
 half_on false n m e = absurd (cc)
 
-spot_whole : (s : MarksStore) (q : ℕ) → s.half ≡ None → half_is s.half q ≡ false
+pub spot_whole : (s : MarksStore) (q : ℕ) → s.half ≡ None → half_is s.half q ≡ false
 spot_whole s q whole = ap (λ (h : Option (store.HalfWrite (Unit {0}))). half_is h q) whole
 
-whole_at : (s : MarksStore) (q : ℕ) → s.half ≡ None → weight_at s q ≡ whole_weight (spot_at s q)
+pub whole_at : (s : MarksStore) (q : ℕ) → s.half ≡ None → weight_at s q ≡ whole_weight (spot_at s q)
 whole_at s q whole = half_off (half_is s.half q) (one (s.a.up && stale_at s.a q)) (whole_weight (spot_at s q)) (spot_whole s q whole)
 
 works_weigh : (s : MarksStore) (q : ℕ) → s.half ≡ None → works (spot_at s q) ≡ true → sides (spot_at s q) ≤ weight_at s q
@@ -444,20 +444,20 @@ works_weigh s q whole is =
     let n = half_on (works (spot_at s q)) (sides (spot_at s q)) 0 is in
     omega (arith, w, n)
 
-light : (s : MarksStore) (q : ℕ) → s.half ≡ None → works (spot_at s q) ≡ false → copies (spot_at s q) ≡ false → weight_at s q ≡ 0
+pub light : (s : MarksStore) (q : ℕ) → s.half ≡ None → works (spot_at s q) ≡ false → copies (spot_at s q) ≡ false → weight_at s q ≡ 0
 light s q whole off none =
     let w = whole_at s q whole in
     let n = half_off (works (spot_at s q)) (sides (spot_at s q)) 0 off in
     let m : one (copies (spot_at s q)) ≡ 0 = ap one none in
     omega (arith, w, n, m)
 
-none_open : (s : MarksStore) → s.half ≡ None → one (is_some s.half) ≡ 0
+pub none_open : (s : MarksStore) → s.half ≡ None → one (is_some s.half) ≡ 0
 none_open s whole = ap (λ (h : Option (store.HalfWrite (Unit {0}))). one (is_some h)) whole
 
-sides_near : (s z : MarksStore) (t q : ℕ) → Near s z t → sides (spot_at z q) ≡ sides (spot_at s q)
+pub sides_near : (s z : MarksStore) (t q : ℕ) → Near s z t → sides (spot_at z q) ≡ sides (spot_at s q)
 sides_near s z t q n = ap (λ (x : Bool). one x + one (takes_b z)) n.a ∙ ap (λ (x : Bool). one s.a.up + one x) (takes_same s z t n)
 
-same_weight : (s z : MarksStore) (q : ℕ) → spot_at z q ≡ spot_at s q → weight_at z q ≤ weight_at s q
+pub same_weight : (s z : MarksStore) (q : ℕ) → spot_at z q ≡ spot_at s q → weight_at z q ≤ weight_at s q
 same_weight s z q is = as_least (weight_at z q) (weight_at s q) (ap weight is)
 
 module _ (s : MarksStore) (whole : s.half ≡ None) (t : ℕ) (lt : t < tracks_of s) (due : works (spot_at s t) ≡ true) where
@@ -625,11 +625,11 @@ copied_b false stale true false true e = absurd (cc)
 copied_b false stale true false false e = absurd (cc)
 copied_b false stale false b_stale held e = absurd (cc)
 
-or_on : (x y : Bool) → x ≡ true → (x || y) ≡ true
+pub or_on : (x y : Bool) → x ≡ true → (x || y) ≡ true
 or_on true y e = refl
 or_on false y e = absurd (cc)
 
-or_on_right : (x y : Bool) → y ≡ true → (x || y) ≡ true
+pub or_on_right : (x y : Bool) → y ≡ true → (x || y) ≡ true
 or_on_right true y e = refl
 or_on_right false y e = e
 
@@ -722,7 +722,7 @@ set_there [] t x = inr refl
 set_there (y ∷ l) zero x = inl refl
 set_there (y ∷ l) (suc t) x = set_there l t x
 
-abbrev works_by : Bool → Option Bool → Bool → Bool → Bool
+abbrev pub works_by : Bool → Option Bool → Bool → Bool → Bool
 works_by lost f p l = (not lost && due_by f p l) || (l || (modified_by f && p))
 
 filled_works : (lost p l : Bool) → lost ≡ false → works_by lost (Some p) p l ≡ works_by lost None p l
@@ -733,7 +733,7 @@ filled_works false false true e = refl
 filled_works false false false e = refl
 
 -- the weight by whether there is work
-abbrev weight_if : Spot → Bool → ℕ
+abbrev pub weight_if : Spot → Bool → ℕ
 weight_if p b = if p.half then one (p.a && p.a_stale) else (if b then sides p else 0) + one (copies p)
 
 framed_least : (z : MarksStore) (t : ℕ) (m : Bool) → is_some (patch_at z t) ≡ m → frame_at z t ≡ None → is_lost z t ≡ false →
