@@ -57,3 +57,4 @@ mod OwnTexts
 mod Weights
 mod Lighter
 mod SecondLighter
+mod SecondWork

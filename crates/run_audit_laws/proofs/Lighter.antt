@@ -320,15 +320,15 @@ write_so s t r =
 
 -- The write is done
 
-record Bared (s z : MarksStore) (t : ℕ) : Type 0 where
-  near : Near s z t
-  a : z.a ≡ s.a
-  b : z.b ≡ s.b
-  loose : z.loose ≡ s.loose
-  frame : frame_at z t ≡ frame_at s t
-  bare : is_some (patch_at z t) ≡ false
+pub record Bared (s z : MarksStore) (t : ℕ) : Type 0 where
+  pub near : Near s z t
+  pub a : z.a ≡ s.a
+  pub b : z.b ≡ s.b
+  pub loose : z.loose ≡ s.loose
+  pub frame : frame_at z t ≡ frame_at s t
+  pub bare : is_some (patch_at z t) ≡ false
 
-freed_so : (s : MarksStore) (t : ℕ) (o : Option (Unit {0})) → patch_at s t ≡ o →
+pub freed_so : (s : MarksStore) (t : ℕ) (o : Option (Unit {0})) → patch_at s t ≡ o →
     Had (slot_freed by_plain s t (slot_in by_plain o)) (λ z (_ : Unit {0}). Bared s z t)
 freed_so s t None e = had_done (record { near = near_self s t; a = refl; b = refl; loose = refl; frame = refl; bare = ap (λ (x : Option (Unit {0})). is_some x) e })
 freed_so s t (Some p) e = had_ask (λ _. had_done (record {

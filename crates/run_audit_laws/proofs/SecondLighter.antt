@@ -25,28 +25,28 @@ use Rattle.run_audit_laws.proofs.Lighter.{Lower, Near, Same, any_had, as_least, 
 
 -- Settling of a track
 
-record Settles (s z : MarksStore) (t : ℕ) : Type 0 where
-  near : Near s z t
-  a : z.a ≡ s.a
-  b : z.b ≡ s.b
+pub record Settles (s z : MarksStore) (t : ℕ) : Type 0 where
+  pub near : Near s z t
+  pub a : z.a ≡ s.a
+  pub b : z.b ≡ s.b
 
 -- what it makes of the track
-abbrev is_level : Spot → Bool
+abbrev pub is_level : Spot → Bool
 is_level p = (p.a && not p.a_stale) || (p.b && not p.b_stale)
 
-abbrev BecomesFirm : Spot → Spot → Type 0
+abbrev pub BecomesFirm : Spot → Spot → Type 0
 BecomesFirm p r = (p.loose ≡ true) × (r ≡ record p { loose = false })
 
-abbrev BecomesModified : Spot → Spot → Type 0
+abbrev pub BecomesModified : Spot → Spot → Type 0
 BecomesModified p r = (p.frame ≡ Some false) × (p.loose ≡ false) × (p.lost ≡ false) × (is_level p ≡ false) × (r ≡ record p { frame = Some true })
 
-abbrev BecomesLost : Spot → Spot → Type 0
+abbrev pub BecomesLost : Spot → Spot → Type 0
 BecomesLost p r = (p.frame ≡ None) × ((x : Bool) × (r ≡ record p { lost = x; patched = false }))
 
-abbrev Made : Spot → Spot → Type 0
+abbrev pub Made : Spot → Spot → Type 0
 Made p r = (r ≡ p) ⊎ (BecomesFirm p r ⊎ (BecomesModified p r ⊎ BecomesLost p r))
 
-abbrev Settled : MarksStore → MarksStore → ℕ → Type 0
+abbrev pub Settled : MarksStore → MarksStore → ℕ → Type 0
 Settled s z t = Settles s z t × Made (spot_at s t) (spot_at z t)
 
 unchanged : (s : MarksStore) (t : ℕ) → Settled s s t
@@ -116,7 +116,7 @@ frame_settled s t here off (Some m) is =
 frame_settled s t here off None is =
     settled_if s s (lost_now by_plain s t) t (half_is s.half t) (λ _. unchanged s t) (λ _. lost_given s t (patch_at s t) refl is)
 
-settled_so : (s : MarksStore) (t : ℕ) → Settled s (settled by_plain s t) t
+pub settled_so : (s : MarksStore) (t : ℕ) → Settled s (settled by_plain s t) t
 unfolding L.settled
 settled_so s t =
     settled_if s s _ t (is_some s.lent) (λ _. unchanged s t)
@@ -152,10 +152,10 @@ fallen_least true before true a_stale true b_stale held up how = by_how (how ref
       ∙ ap (λ (x : Bool). one ((true && true && (true && not x)) || ((true && not held) && x && (true && not true)))) k.1 in
       omega (arith, none, copied)
 
-abbrev fell : Spot → Spot
+abbrev pub fell : Spot → Spot
 fell p = record p { b = false; held = false }
 
-abbrev IsSafe : Spot → Type 0
+abbrev pub IsSafe : Spot → Type 0
 IsSafe p = p.frame ≡ Some false → p.loose ≡ false → p.lost ≡ false → is_level p ≡ false → ⊥
 
 lost_works : (x l : Bool) → works_by x None false l ≡ true → l ≡ true
@@ -207,7 +207,7 @@ sides_made d r (inr (inl k)) = let e = k.1 in (ap (λ (x : Spot). x.half) e, ap 
 sides_made d r (inr (inr (inl k))) = let e = k.4 in (ap (λ (x : Spot). x.half) e, ap (λ (x : Spot). x.a) e, ap (λ (x : Spot). x.a_stale) e, ap (λ (x : Spot). x.b) e, ap (λ (x : Spot). x.b_stale) e, ap (λ (x : Spot). x.held) e)
 sides_made d r (inr (inr (inr k))) = let e = (k.1).1 in (ap (λ (x : Spot). x.half) e, ap (λ (x : Spot). x.a) e, ap (λ (x : Spot). x.a_stale) e, ap (λ (x : Spot). x.b) e, ap (λ (x : Spot). x.b_stale) e, ap (λ (x : Spot). x.held) e)
 
-made_least : (p r : Spot) → p.half ≡ false → p.b ≡ true → IsSafe p → Made (fell p) r → weight r ≤ weight p
+pub made_least : (p r : Spot) → p.half ≡ false → p.b ≡ true → IsSafe p → Made (fell p) r → weight r ≤ weight p
 made_least p r whole up safe m =
     let e = sides_made (fell p) r m in
     let first = half_off p.half (one (p.a && p.a_stale)) (whole_weight p) whole in
