@@ -19,7 +19,7 @@ use Rattle.device_defs.specs.Writing as W
 use Rattle.device_defs.specs.Writing.{slot_freed, taken_b, tried_b, write_done, write_second}
 use Rattle.device_laws.proofs.Had.{Had, had_ask, had_done, had_if, had_tell, had_then, had_weaker, had_write}
 use Rattle.run_audit_laws.proofs.Weights.{Spot, copies, left, modified_by, one, sides, spot_at, sum, takes, weight, weight_at, whole_weight, works}
-use Rattle.run_audit_laws.proofs.Lighter.{Bared, Lower, Near, as_least, clean_off, false_at, freed_so, half_off, half_on, idle, light, lower_all, near_frame, near_on, near_self, near_stale_b, none_open, not_own, own_is, rest_of, same_weight, sides_near, spot_whole, whole_at}
+use Rattle.run_audit_laws.proofs.Lighter.{Bared, Lower, Near, as_least, clean_off, false_at, freed_so, half_off, half_on, idle, light, lower_all, near_bare, near_frame, near_on, near_self, near_stale_b, none_open, not_own, own_is, rest_of, same_weight, sides_near, spot_whole, whole_at}
 use Rattle.run_audit_laws.proofs.SecondLighter.{IsSafe, Made, Settles, fell, made_least, settled_so}
 
 -- All tracks but that of the write
@@ -56,9 +56,6 @@ falls_self : (s : MarksStore) → Falls s s
 falls_self s = record { cylinders = refl; queue = refl; half = refl; a = refl; b = refl; held = refl }
 
 module _ (t : ℕ) where
-  each : ℕ → MarksStore → MarksStore
-  each = settled_but by_plain (Some t)
-
   each_by : (b : Bool) (k : ℕ) (w : MarksStore) → Falls w (if b then w else settled by_plain w k) ×
       ((q : ℕ) → q ≢ k → spot_at (if b then w else settled by_plain w k) q ≡ spot_at w q)
   each_by true k w = (falls_self w, λ q ne. refl)
@@ -275,3 +272,115 @@ absent_sides false stale true true true shut off = omega arith
 absent_sides false stale true false true shut off = absurd (cc)
 absent_sides false stale true held false shut off = absurd (cc)
 absent_sides false stale false held b_stale shut off = omega arith
+
+copies_same : (y v : MarksStore) (t : ℕ) → v.a ≡ y.a → v.b ≡ y.b → v.held ≡ y.held →
+    sides (spot_at v t) + one (copies (spot_at v t)) ≡ sides (spot_at y t) + one (copies (spot_at y t))
+copies_same y v t a b held =
+    ap (λ (m : store.SideMarks). let p = record (spot_at v t) { a = m.up; a_stale = stale_at m t } in sides p + one (copies p)) a
+    ∙ ap (λ (m : store.SideMarks). let p = record (spot_at v t) { a = y.a.up; a_stale = stale_at y.a t; b = m.up; b_stale = stale_at m t } in sides p + one (copies p)) b
+    ∙ ap (λ (h : Bool). let p = record (spot_at y t) { held = h } in sides p + one (copies p)) held
+
+only_copies : (y v : MarksStore) (t : ℕ) → v.a ≡ y.a → v.b ≡ y.b → v.held ≡ y.held → copies (spot_at v t) ≡ copies (spot_at y t)
+only_copies y v t a b held =
+    ap (λ (m : store.SideMarks). copies (record (spot_at v t) { a = m.up; a_stale = stale_at m t })) a
+    ∙ ap (λ (m : store.SideMarks). copies (record (spot_at v t) { a = y.a.up; a_stale = stale_at y.a t; b = m.up; b_stale = stale_at m t })) b
+    ∙ ap (λ (h : Bool). copies (record (spot_at y t) { held = h })) held
+
+written_on : (s z y : MarksStore) (t : ℕ) → Written s z t → Written z y t → Written s y t
+written_on s z y t f g = record { near = near_on s z y t f.near g.near; a = g.a ∙ f.a; b = g.b ∙ f.b }
+
+given_up : (s : MarksStore) (t : ℕ) (o : Option (Unit {0})) → Written s (L.gives_up s t (slot_in by_plain o)) t
+given_up s t None = record { near = near_self s t; a = refl; b = refl }
+given_up s t (Some p) = record {
+  near = record { cylinders = refl; queue = refl; half = refl; a = refl; b = refl; held = refl; others = (near_bare s t).others };
+  a = refl;
+  b = refl;
+}
+
+kept_written : (s : MarksStore) (t : ℕ) (i : Image) (o : Option Bool) → Written s (cut_kept by_plain s t i o) t
+kept_written s t i None = record { near = near_self s t; a = refl; b = refl }
+kept_written s t i (Some m) =
+    let z = with_frame s t (Some m) in
+    written_on s z _ t (record { near = near_frame s t (Some m); a = refl; b = refl }) (given_up z t (patch_at z t))
+
+left_written : (s : MarksStore) (t : ℕ) (i : Image) (origin : Origin) → Written s (left_by by_plain s t i origin) t
+left_written s t i (OfCommand bypass e) = record { near = near_self s t; a = refl; b = refl }
+left_written s t i (OfCut bypass) = kept_written s t i (frame_at s t)
+left_written s t i OfBackground = record { near = near_self s t; a = refl; b = refl }
+
+settled_written : (s : MarksStore) (t : ℕ) → Written s (settled by_plain s t) t
+settled_written s t = let k = (settled_so s t).0 in record { near = k.near; a = k.a; b = k.b }
+
+module _ (s : MarksStore) (h : store.HalfWrite (Unit {0})) (is : s.half ≡ Some h) where
+  mine : half_is s.half h.track ≡ true
+  mine = ap (λ (o : Option (store.HalfWrite (Unit {0}))). half_is o h.track) is ∙ own_is h.track
+
+  others_off : (q : ℕ) → q ≢ h.track → half_is s.half q ≡ false
+  others_off q ne = ap (λ (o : Option (store.HalfWrite (Unit {0}))). half_is o q) is ∙ not_own h.track q ne
+
+  closing_lower : (y v : MarksStore) → Second s y h.track → Written (closed y) v h.track →
+      weight_at v h.track ≤ one (y.a.up && stale_at y.a h.track) → Lower s v
+  closing_lower y v k g less =
+      lower_all s v (g.near.cylinders ∙ k.cylinders) (λ q lt. by_place q lt (cases_eq q h.track))
+      (let queued = ap length (g.near.queue ∙ k.queue) in
+      let shut = none_open v g.near.half in
+      let opens : one (is_some s.half) ≡ 1 = ap (λ (o : Option (store.HalfWrite (Unit {0}))). one (is_some o)) is in
+      omega (arith, queued, shut, opens))
+    where
+      by_place : (q : ℕ) → q < tracks_of s → ((q ≡ h.track) ⊎ (q ≢ h.track)) → weight_at v q ≤ weight_at s q
+      by_place q lt (inl here) =
+          let before = half_on (half_is s.half h.track) (one (s.a.up && stale_at s.a h.track)) (whole_weight (spot_at s h.track)) mine in
+          let same = ap (λ (m : store.SideMarks). one (m.up && stale_at m h.track)) k.a in
+          subst (λ (i : ℕ). weight_at v i ≤ weight_at s i) (sym here) (omega (arith, less, before, same))
+      by_place q lt (inr ne) =
+          let off = ap (λ (o : Option (store.HalfWrite (Unit {0}))). half_is o q) k.half ∙ others_off q ne in
+          let closed_is : spot_at (closed y) q ≡ spot_at y q = ap (λ (b : Bool). record (spot_at y q) { half = b }) (sym off) in
+          let same = ap weight (g.near.others q ne ∙ closed_is) in
+          let below = k.others q lt ne in
+          omega (arith, same, below)
+
+  done_lower : (y v : MarksStore) → Second s y h.track → Written (closed y) v h.track → works (spot_at v h.track) ≡ false → Lower s v
+  done_lower y v k g off =
+      let t = h.track in
+      let w = whole_at v t g.near.half in
+      let n = half_off (works (spot_at v t)) (sides (spot_at v t)) 0 off in
+      let same = ap one (only_copies (closed y) v t g.a g.b g.near.held) in
+      let least = done_copies y.a.up (stale_at y.a t) (y.b.up && not (stale_at y.b t)) (takes_b y) (stale_at y.b t) (y.a.up && not (stale_at y.a t)) k.shut in
+      closing_lower y v k g (omega (arith, w, n, same, least))
+
+  absent_lower : (y v : MarksStore) → Second s y h.track → Written (closed y) v h.track → has_level y h.track ≡ false → Lower s v
+  absent_lower y v k g off =
+      let t = h.track in
+      let w = whole_at v t g.near.half in
+      let n = if_least (works (spot_at v t)) (sides (spot_at v t)) in
+      let same = copies_same (closed y) v t g.a g.b g.near.held in
+      let least = absent_sides y.a.up (stale_at y.a t) y.b.up y.held (stale_at y.b t) k.shut off in
+      closing_lower y v k g (omega (arith, w, n, same, least))
+
+  finished_so : (y x : MarksStore) (i : Image) (bypass : Bool) → Second s y h.track → Written (closed y) x h.track → is_loose x h.track ≡ false →
+      Had (finished by_plain x h.track i bypass) (λ v (_ : Bool). Lower s v)
+  finished_so y x i bypass k g firm =
+      had_then (write_is_done x h.track i bypass firm)
+      (λ v _ d. had_done (done_lower y v k (written_on (closed y) x v h.track g d.0) d.1))
+
+  done_so : (y : MarksStore) (i : Image) (origin : Origin) → Second s y h.track → is_loose y h.track ≡ false →
+      Had (D.second_done by_plain (closed y) h.track i origin) (λ v (_ : Bool). Lower s v)
+  done_so y i (OfCommand bypass e) k firm =
+      had_tell (finished_so y _ i bypass k
+      (record { near = record { cylinders = refl; queue = refl; half = refl; a = refl; b = refl; held = refl; others = λ q ne. refl }; a = refl; b = refl }) firm)
+  done_so y i (OfCut bypass) k firm = finished_so y (closed y) i bypass k (record { near = near_self (closed y) h.track; a = refl; b = refl }) firm
+  done_so y i OfBackground k firm = finished_so y (closed y) i false k (record { near = near_self (closed y) h.track; a = refl; b = refl }) firm
+
+  by_level : (y : MarksStore) (i : Image) (origin : Origin) → Second s y h.track → is_loose y h.track ≡ false →
+      Had (second_by by_plain h.track i origin y) (λ v (_ : Bool). Lower s v)
+  by_level y i origin k firm =
+      had_if (has_level y h.track) (λ _. done_so y i origin k firm)
+      (λ off. had_done (absent_lower y (settled by_plain (left_by by_plain (closed y) h.track i origin) h.track) k
+      (written_on (closed y) (left_by by_plain (closed y) h.track i origin) _ h.track (left_written (closed y) h.track i origin)
+      (settled_written (left_by by_plain (closed y) h.track i origin) h.track)) off))
+
+  pub part_so : s.paired ≡ true → ((q : ℕ) → q < tracks_of s → q ≢ h.track → IsSafe (spot_at s q)) → is_loose s h.track ≡ false →
+      Had (second_part by_plain s h) (λ v (_ : Bool). Lower s v)
+  unfolding D.second_part
+  part_so paired safe firm =
+      had_then (second_so s h.track paired others_off safe true) (λ y _ k. by_level y _ h.origin k (k.loose ∙ firm))
