@@ -58,3 +58,4 @@ mod Weights
 mod Lighter
 mod SecondLighter
 mod SecondWork
+mod BackEvents
