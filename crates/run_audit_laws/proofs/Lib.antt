@@ -59,3 +59,4 @@ mod Lighter
 mod SecondLighter
 mod SecondWork
 mod BackEvents
+mod BackEnds
