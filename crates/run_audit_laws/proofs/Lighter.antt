@@ -100,31 +100,56 @@ near_if s z y t false f g = g
 
 near_stale_a : (s : MarksStore) (t : ℕ) (v : Bool) → Near s (with_stale s A t v) t
 near_stale_a s t v = record {
-  cylinders = refl; queue = refl; half = refl; a = refl; b = refl; held = refl;
+  cylinders = refl;
+  queue = refl;
+  half = refl;
+  a = refl;
+  b = refl;
+  held = refl;
   others = λ q ne. ap (λ (x : Bool). record (spot_at s q) { a_stale = x }) (get_or-set_other s.a.stale t q v false ne);
 }
 
 pub near_stale_b : (s : MarksStore) (t : ℕ) (v : Bool) → Near s (with_stale s B t v) t
 near_stale_b s t v = record {
-  cylinders = refl; queue = refl; half = refl; a = refl; b = refl; held = refl;
+  cylinders = refl;
+  queue = refl;
+  half = refl;
+  a = refl;
+  b = refl;
+  held = refl;
   others = λ q ne. ap (λ (x : Bool). record (spot_at s q) { b_stale = x }) (get_or-set_other s.b.stale t q v false ne);
 }
 
 pub near_firm : (s : MarksStore) (t : ℕ) → Near s (hardened s t) t
 near_firm s t = record {
-  cylinders = refl; queue = refl; half = refl; a = refl; b = refl; held = refl;
+  cylinders = refl;
+  queue = refl;
+  half = refl;
+  a = refl;
+  b = refl;
+  held = refl;
   others = λ q ne. ap (λ (x : Bool). record (spot_at s q) { loose = x }) (get_or-set_other s.loose t q false false ne);
 }
 
 pub near_frame : (s : MarksStore) (t : ℕ) (f : Option Bool) → Near s (with_frame s t f) t
 near_frame s t f = record {
-  cylinders = refl; queue = refl; half = refl; a = refl; b = refl; held = refl;
+  cylinders = refl;
+  queue = refl;
+  half = refl;
+  a = refl;
+  b = refl;
+  held = refl;
   others = λ q ne. ap (λ (x : Option Bool). record (spot_at s q) { frame = x }) (get_or-set_other s.frames t q f None ne);
 }
 
 pub near_bare : (s : MarksStore) (t : ℕ) → Near s (with_patch s t None) t
 near_bare s t = record {
-  cylinders = refl; queue = refl; half = refl; a = refl; b = refl; held = refl;
+  cylinders = refl;
+  queue = refl;
+  half = refl;
+  a = refl;
+  b = refl;
+  held = refl;
   others = λ q ne. ap (λ (x : Option (Unit {0})). record (spot_at s q) { patched = is_some x }) (get_or-set_other s.patches t q None None ne);
 }
 
@@ -302,7 +327,12 @@ alone_so s t down is true =
     let z = taken_b y t in
     had_done (record {
       near = record {
-        cylinders = refl; queue = refl; half = refl; a = refl; b = refl; held = refl;
+        cylinders = refl;
+        queue = refl;
+        half = refl;
+        a = refl;
+        b = refl;
+        held = refl;
         others = (near_stale_b s t false).others;
       };
       none = no_copies_b z.a.up (stale_at z.a t) (z.b.up && not (stale_at z.b t)) (takes_b z) (stale_at z.b t) (z.a.up && not (stale_at z.a t)) down
@@ -396,11 +426,19 @@ opened_so : (s : MarksStore) (t : ℕ) (i : Image) (was : Bool) → s.half ≡ N
 opened_so s t i true whole =
     let y = with_frame s t (cleaned by_plain (frame_at s t)) in
     had_ask (λ _. had_done (record {
-      cylinders = refl; queue = refl; a = refl; open_is = refl; mine = own_is t;
+      cylinders = refl;
+      queue = refl;
+      a = refl;
+      open_is = refl;
+      mine = own_is t;
       others = λ q ne. opened_spot y t q whole ne ∙ (near_frame s t (cleaned by_plain (frame_at s t))).others q ne;
     }))
 opened_so s t i false whole = had_done (record {
-  cylinders = refl; queue = refl; a = refl; open_is = refl; mine = own_is t;
+  cylinders = refl;
+  queue = refl;
+  a = refl;
+  open_is = refl;
+  mine = own_is t;
   others = λ q ne. opened_spot s t q whole ne;
 })
 

@@ -60,7 +60,13 @@ firm_settled : (s : MarksStore) (t : ℕ) → is_loose s t ≡ true → Settled 
 firm_settled s t e = (
   record {
     near = record {
-      cylinders = refl; queue = refl; half = refl; a = refl; b = refl; held = refl; others = (near_firm s t).others;
+      cylinders = refl;
+      queue = refl;
+      half = refl;
+      a = refl;
+      b = refl;
+      held = refl;
+      others = (near_firm s t).others;
     };
     a = refl;
     b = refl;
@@ -73,7 +79,12 @@ lost_given : (s : MarksStore) (t : ℕ) (o : Option (Unit {0})) → patch_at s t
 lost_given s t None e bare = (
   record {
     near = record {
-      cylinders = refl; queue = refl; half = refl; a = refl; b = refl; held = refl;
+      cylinders = refl;
+      queue = refl;
+      half = refl;
+      a = refl;
+      b = refl;
+      held = refl;
       others = λ q ne. ap (λ (x : Bool). record (spot_at s q) { lost = x }) (get_or-set_other s.lost t q true false ne);
     };
     a = refl;
@@ -84,7 +95,12 @@ lost_given s t None e bare = (
 lost_given s t (Some p) e bare = (
   record {
     near = record {
-      cylinders = refl; queue = refl; half = refl; a = refl; b = refl; held = refl;
+      cylinders = refl;
+      queue = refl;
+      half = refl;
+      a = refl;
+      b = refl;
+      held = refl;
       others = λ q ne.
           ap (λ (x : Bool). record (spot_at s q) { lost = x; patched = is_some (get_or (set s.patches t None) q None) }) (get_or-set_other s.lost t q true false ne)
           ∙ ap (λ (x : Option (Unit {0})). record (spot_at s q) { patched = is_some x }) (get_or-set_other s.patches t q None None ne);
@@ -105,13 +121,24 @@ frame_settled s t here off (Some m) is =
     kept false e firm = (
       record {
         near = record {
-          cylinders = refl; queue = refl; half = refl; a = refl; b = refl; held = refl; others = (near_frame s t (Some true)).others;
+          cylinders = refl;
+          queue = refl;
+          half = refl;
+          a = refl;
+          b = refl;
+          held = refl;
+          others = (near_frame s t (Some true)).others;
         };
         a = refl;
         b = refl;
       },
-      inr (inr (inl (e, firm, here, off,
-      ap (λ (x : Option Bool). record (spot_at s t) { frame = x }) (some_at s.frames t true (ap (λ (x : Option Bool). is_some x) e))))),
+      inr (inr (inl (
+        e,
+        firm,
+        here,
+        off,
+        ap (λ (x : Option Bool). record (spot_at s t) { frame = x }) (some_at s.frames t true (ap (λ (x : Option Bool). is_some x) e)),
+      ))),
     )
 frame_settled s t here off None is =
     settled_if s s (lost_now by_plain s t) t (half_is s.half t) (λ _. unchanged s t) (λ _. lost_given s t (patch_at s t) refl is)

@@ -221,7 +221,7 @@ written_bared : (s x z : MarksStore) (t : ℕ) → Near s x t → x.a ≡ s.a �
 written_bared s x z t n a b loose clean firm k = (
   record { near = near_on s x z t n k.near; a = k.a ∙ a; b = k.b ∙ b },
   idle (is_lost z t) (frame_at z t) (is_some (patch_at z t)) (is_loose z t) (ap modified_by k.frame ∙ clean) k.bare
-  (ap (λ (l : List Bool). get_or l t false) (k.loose ∙ loose) ∙ firm),
+      (ap (λ (l : List Bool). get_or l t false) (k.loose ∙ loose) ∙ firm),
 )
 
 modified_set : (l : List (Option Bool)) (t : ℕ) (x : Option Bool) → modified_by x ≡ false → is_some (get_or l t None) ≡ true → modified_by (get_or (set l t x) t None) ≡ false
