@@ -60,3 +60,7 @@ mod SecondLighter
 mod SecondWork
 mod BackEvents
 mod BackEnds
+mod Queues
+mod QueueEvents
+mod QueueRuns
+mod QueueKept

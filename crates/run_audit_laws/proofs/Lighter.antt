@@ -153,12 +153,12 @@ near_bare s t = record {
   others = λ q ne. ap (λ (x : Option (Unit {0})). record (spot_at s q) { patched = is_some x }) (get_or-set_other s.patches t q None None ne);
 }
 
-near_everywhere : (s : MarksStore) (t : ℕ) → Near s (stale_everywhere s t) t
+pub near_everywhere : (s : MarksStore) (t : ℕ) → Near s (stale_everywhere s t) t
 near_everywhere s t =
     let z = with_stale s A t true in
     near_if s (with_stale z B t true) z t s.paired (near_on s z (with_stale z B t true) t (near_stale_a s t true) (near_stale_b z t true)) (near_stale_a s t true)
 
-near_taken : (s : MarksStore) (t : ℕ) → Near s (taken_a s t) t
+pub near_taken : (s : MarksStore) (t : ℕ) → Near s (taken_a s t) t
 near_taken s t =
     let z = with_stale s A t false in
     near_if s (with_stale z B t true) z t s.b.up (near_on s z (with_stale z B t true) t (near_stale_a s t false) (near_stale_b z t true)) (near_stale_a s t false)

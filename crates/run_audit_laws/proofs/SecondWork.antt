@@ -211,10 +211,10 @@ module _ (s : MarksStore) (t : ℕ) (paired : s.paired ≡ true) (whole : (q : �
 
 -- The write is done, or no side has it
 
-record Written (s z : MarksStore) (t : ℕ) : Type 0 where
-  near : Near s z t
-  a : z.a ≡ s.a
-  b : z.b ≡ s.b
+pub record Written (s z : MarksStore) (t : ℕ) : Type 0 where
+  pub near : Near s z t
+  pub a : z.a ≡ s.a
+  pub b : z.b ≡ s.b
 
 written_bared : (s x z : MarksStore) (t : ℕ) → Near s x t → x.a ≡ s.a → x.b ≡ s.b → x.loose ≡ s.loose → modified_by (frame_at x t) ≡ false → is_loose s t ≡ false →
     Bared x z t → Written s z t × (works (spot_at z t) ≡ false)
@@ -289,7 +289,7 @@ only_copies y v t a b held =
 written_on : (s z y : MarksStore) (t : ℕ) → Written s z t → Written z y t → Written s y t
 written_on s z y t f g = record { near = near_on s z y t f.near g.near; a = g.a ∙ f.a; b = g.b ∙ f.b }
 
-given_up : (s : MarksStore) (t : ℕ) (o : Option (Unit {0})) → Written s (L.gives_up s t (slot_in by_plain o)) t
+pub given_up : (s : MarksStore) (t : ℕ) (o : Option (Unit {0})) → Written s (L.gives_up s t (slot_in by_plain o)) t
 given_up s t None = record { near = near_self s t; a = refl; b = refl }
 given_up s t (Some p) = record {
   near = record { cylinders = refl; queue = refl; half = refl; a = refl; b = refl; held = refl; others = (near_bare s t).others };
@@ -303,7 +303,7 @@ kept_written s t i (Some m) =
     let z = with_frame s t (Some m) in
     written_on s z _ t (record { near = near_frame s t (Some m); a = refl; b = refl }) (given_up z t (patch_at z t))
 
-left_written : (s : MarksStore) (t : ℕ) (i : Image) (origin : Origin) → Written s (left_by by_plain s t i origin) t
+pub left_written : (s : MarksStore) (t : ℕ) (i : Image) (origin : Origin) → Written s (left_by by_plain s t i origin) t
 left_written s t i (OfCommand bypass e) = record { near = near_self s t; a = refl; b = refl }
 left_written s t i (OfCut bypass) = kept_written s t i (frame_at s t)
 left_written s t i OfBackground = record { near = near_self s t; a = refl; b = refl }
