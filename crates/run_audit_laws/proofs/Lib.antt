@@ -64,3 +64,4 @@ mod Queues
 mod QueueEvents
 mod QueueRuns
 mod QueueKept
+mod SettleEnds
