@@ -1,21 +1,15 @@
 -- Each event of a device's work in the background that doesn't stop leaves less to do, and so a SETTLE comes to its end.
-use Rattle.std.proofs.Common.{◌≡◌, ◌≢◌, ◌<◌, ◌≤◌, ◌+◌, ◌*◌, ◌⊎◌, ◌==◌, ℕ, zero, suc, Bool, true, false, List, [], ◌∷◌, length, Option, Some, None, is_some, get_or, set, refl, sym, ap, subst, ◌∙◌, arith, inl, inr}
+use Rattle.std.proofs.Common.{◌≡◌, ◌≢◌, ◌<◌, ◌≤◌, ◌*◌, ◌⊎◌, ℕ, Bool, true, false, length, Option, Some, None, is_some, refl, sym, ap, subst, ◌∙◌, arith, inl, inr}
 use Rattle.std.proofs.lemmas.Bool.{cases_eq}
-use Rattle.std.specs.Prelude.{◌&&◌, ◌||◌, if◌then◌else◌, not, IfSome, IsSome}
-use Rattle.device_outside.specs.Interaction.{Done, and_then}
-use Rattle.device_outside.specs.Told as T
-use Rattle.device_outside.specs.Told.{Told}
+use Rattle.std.specs.Prelude.{if◌then◌else◌}
 use Rattle.device_defs.specs.declared.answers.Did.{Did}
 use Rattle.device_defs.specs.declared.answers.SecondEnd.{SecondEnd}
-use Rattle.device_defs.specs.Background.{work}
 use Rattle.device_defs.specs.Contents.{by_plain}
 use Rattle.device_defs.specs.Device.{event_begun, with_store}
 use Rattle.device_defs.specs.Events as V
 use Rattle.device_defs.specs.Events.{background, command_ended, second, second_ended, second_of}
 use Rattle.device_defs.specs.Marks.{MarksDevice, MarksStore}
 use Rattle.device_defs.specs.Owed.{begun, ended, hear, is_clean, waiting_count}
-use Rattle.device_defs.specs.Outcomes.{Turn}
-use Rattle.device_defs.specs.Second.{second_part}
 use Rattle.device_defs.specs.Store as store
 use Rattle.device_defs.specs.Store.{Origin, OfBackground, OfCommand, OfCut, frame_at, half_is, has_level, is_lost, is_loose, patch_at, tracks_of, with_frame}
 use Rattle.plain_defs.specs.History.{OpenEntry}
@@ -23,14 +17,14 @@ use Rattle.ckd_chain.specs.State.{ChainState}
 use Rattle.device_laws.proofs.Changes as C
 use Rattle.device_laws.proofs.FailedCall.{IsWell}
 use Rattle.device_laws.proofs.FramesKept.{none_at}
-use Rattle.device_laws.proofs.Had.{Had, had_done, had_then, had_weaker, held}
+use Rattle.device_laws.proofs.Had.{Had, had_done, had_then, had_weaker}
 use Rattle.device_laws.proofs.PoolWalks.{asks_had, ended_asks, hear_asks}
 use Rattle.device_laws.proofs.TrackMarks as M
 use Rattle.device_laws.proofs.TrackMarks.{is_good, marks}
 use Rattle.device_laws.proofs.WholeEvents.{turned_same}
 use Rattle.subsystem_laws.proofs.GoodMarks.{Good, by_lent, half_home}
-use Rattle.run_audit_laws.proofs.Weights.{Spot, left, modified_by, one, spot_at, sum, sum_least, weight, weight_at, works}
-use Rattle.run_audit_laws.proofs.Lighter.{Lower, Same, WorkSo, as_least, half_on, not_own, own_is, lower_on, near_frame, same_least, same_self, weight_if, works_by, work_so}
+use Rattle.run_audit_laws.proofs.Weights.{Spot, left, one, spot_at, sum, sum_least, weight, weight_at}
+use Rattle.run_audit_laws.proofs.Lighter.{Lower, Same, WorkSo, as_least, not_own, own_is, lower_on, near_frame, same_least, same_self, weight_if, works_by, work_so}
 use Rattle.run_audit_laws.proofs.SecondLighter.{IsSafe, is_level}
 use Rattle.run_audit_laws.proofs.SecondWork.{part_so}
 

@@ -7,7 +7,6 @@ use Rattle.ckd_types.specs.declared.paths.Side.{Side}
 use Rattle.ckd_types.specs.declared.paths.Side.TheVariants.{A, B}
 use Rattle.track_image.specs.Image.{Image}
 use Rattle.track_table.specs.Tracks.{least}
-use Rattle.device_outside.specs.Interaction.{Done, and_then}
 use Rattle.device_defs.specs.declared.answers.Did.{Did}
 use Rattle.device_defs.specs.declared.answers.Did.TheVariants as dids
 use Rattle.device_defs.specs.declared.answers.Took.{Took}
@@ -19,7 +18,7 @@ use Rattle.device_defs.specs.Effects.{hardened}
 use Rattle.device_defs.specs.Image as I
 use Rattle.device_defs.specs.Image.{Got, filled, first_read, level_bytes, read_b, second_read}
 use Rattle.device_defs.specs.Losses.{call_failed, slot_in, stale_everywhere}
-use Rattle.device_defs.specs.Marks.{MarksDevice, MarksStore}
+use Rattle.device_defs.specs.Marks.{MarksStore}
 use Rattle.device_defs.specs.Owed as O
 use Rattle.device_defs.specs.Owed.{waits, waits_by}
 use Rattle.device_defs.specs.Store as store
@@ -32,7 +31,7 @@ use Rattle.device_laws.proofs.KeptEvents.{always_any}
 use Rattle.device_laws.proofs.Working.{least_found}
 use Rattle.device_laws.proofs.PlainEvents.{had_always}
 use Rattle.subsystem_defs.specs.Lines.{stops}
-use Rattle.run_audit_laws.proofs.Weights.{Spot, copies, due_by, left, modified_by, one, sides, spot_at, sum, sum_least, sum_less, takes, weight, weight_at, whole_weight, works}
+use Rattle.run_audit_laws.proofs.Weights.{Spot, copies, due_by, left, modified_by, one, sides, spot_at, sum, sum_least, sum_less, weight, weight_at, whole_weight, works}
 
 -- Less is left
 

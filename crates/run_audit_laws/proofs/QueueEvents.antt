@@ -1,32 +1,29 @@
 -- A device's queue of tracks to stage stays at most 64 long: through each of its events.
-use Rattle.std.proofs.Common.{◌≡◌, ◌≤◌, ◌<◌, ◌+◌, ℕ, zero, suc, Bool, true, false, List, [], ◌∷◌, length, Option, Some, None, is_some, refl, sym, ap, subst, ◌∙◌, arith}
-use Rattle.std.specs.Prelude.{if◌then◌else◌, ◌||◌, ◌==◌}
-use Rattle.ckd_chain.specs.State.{ChainState}
+use Rattle.std.proofs.Common.{◌≡◌, ℕ, Bool, true, false, List, [], ◌∷◌, length, Option, Some, None, is_some, refl, ap, ◌∙◌, arith}
+use Rattle.std.specs.Prelude.{◌||◌}
 use Rattle.ckd_types.specs.declared.paths.Side.{Side}
 use Rattle.ckd_types.specs.declared.paths.Side.TheVariants.{A, B}
 use Rattle.track_image.specs.Image.{Image}
-use Rattle.device_outside.specs.Interaction.{Interaction, Done, and_then}
 use Rattle.device_defs.specs.declared.answers.Did.{Did}
 use Rattle.device_defs.specs.declared.answers.Took.{Took}
 use Rattle.device_defs.specs.declared.answers.Took.TheVariants.{Opened, Unwritten, Whole}
-use Rattle.device_defs.specs.declared.usage.Usage.{Usage}
 use Rattle.device_defs.specs.Background as G
 use Rattle.device_defs.specs.Background.{copied, copies_to, copy_by, copy_first, copy_read, destage_first, did, granted, other, recover, recover_first, recovered_bytes, recovered_image, saved, saved_by, stage, stage_first, staged_bytes, to_copy, to_destage, to_recover, work}
 use Rattle.device_defs.specs.Contents.{by_plain}
 use Rattle.device_defs.specs.Image as I
 use Rattle.device_defs.specs.Image.{Got}
-use Rattle.device_defs.specs.Losses.{call_failed, settled}
-use Rattle.device_defs.specs.Marks.{MarksDevice, MarksStore}
+use Rattle.device_defs.specs.Losses.{settled}
+use Rattle.device_defs.specs.Marks.{MarksStore}
 use Rattle.device_defs.specs.Second as D
 use Rattle.device_defs.specs.Second.{closed, finished, half_image_of, left_by, second_by, second_done, second_part}
 use Rattle.device_defs.specs.Store as store
 use Rattle.device_defs.specs.Store.{HalfWrite, OfBackground, OfCommand, OfCut, Origin, frame_at, has_level, is_lost, takes_b, with_stale}
 use Rattle.device_defs.specs.Writing as W
-use Rattle.device_laws.proofs.Always.{Always, always_ask, always_done, always_read, always_tell, always_then, always_try, always_write}
+use Rattle.device_laws.proofs.Always.{always_ask, always_done, always_read, always_tell, always_then, always_try, always_write}
 use Rattle.device_laws.proofs.KeptEvents.{always_if}
 use Rattle.device_laws.proofs.PoolWalks.{asks_always, filled_asks}
 use Rattle.run_audit_laws.proofs.Queues.{Keeps, Short, done_keeps, failed_keeps, firm_keeps, first_write_keeps, keep, level_keeps, opened_keeps, second_write_keeps, settled_queue}
-use Rattle.run_audit_laws.proofs.SecondWork.{Written, left_written}
+use Rattle.run_audit_laws.proofs.SecondWork.{left_written}
 
 -- By itself
 

@@ -1,5 +1,5 @@
 -- A device's queue of tracks to stage stays at most 64 long, and its cylinders at most 64: behind all events of a run.
-use Rattle.std.proofs.Common.{◌≡◌, ◌≤◌, ◌+◌, ℕ, zero, suc, Bool, true, false, List, [], ◌∷◌, length, Option, Some, None, is_some, refl, sym, ap, subst, ◌∙◌, arith}
+use Rattle.std.proofs.Common.{◌≡◌, ◌≤◌, ℕ, Bool, true, false, [], length, Option, Some, None, is_some, refl, ap, ◌∙◌, arith}
 use Rattle.std.specs.Prelude.{if◌then◌else◌, ◌==◌}
 use Rattle.ckd_types.specs.declared.paths.Side.{Side}
 use Rattle.ckd_types.specs.declared.paths.Side.TheVariants.{A, B}
@@ -7,7 +7,6 @@ use Rattle.loss_model.specs.declared.Loss.{Loss}
 use Rattle.loss_model.specs.declared.Loss.TheVariants as losses
 use Rattle.plain_defs.specs.History.{OpenEntry}
 use Rattle.device_outside.specs.Interaction.{Interaction, Done, and_then}
-use Rattle.device_outside.specs.Told.{Told}
 use Rattle.device_defs.specs.Contents.{by_plain}
 use Rattle.device_defs.specs.Device.{event_begun, quiet_event, with_store}
 use Rattle.device_defs.specs.Cutting as C
@@ -31,7 +30,7 @@ use Rattle.device_defs.specs.Losses.{cache_lost, over, patch_lost, settled, side
 use Rattle.device_defs.specs.Effects.{loose_lost}
 use Rattle.device_defs.specs.Marks.{MarksDevice, MarksStore}
 use Rattle.device_defs.specs.Store.{HalfWrite, OfBackground, OfCommand, OfCut, Origin, frame_at, half_is, owed_at, patch_at, tracks_of, with_frame, with_owed}
-use Rattle.device_laws.proofs.Always.{Always, always_done, always_tell, always_then}
+use Rattle.device_laws.proofs.Always.{always_done, always_tell, always_then}
 use Rattle.run_audit_laws.proofs.Lighter.{near_everywhere}
 use Rattle.run_audit_laws.proofs.QueueRuns.{Leaves, background_leaves, command_leaves, event_leaves, second_leaves}
 use Rattle.run_audit_laws.proofs.Queues.{Keeps, Short, keep, over_queue, queue_if, settled_queue, side_queue, told_keeps}

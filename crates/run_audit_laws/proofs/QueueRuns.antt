@@ -1,19 +1,11 @@
 -- A device's queue of tracks to stage stays at most 64 long, and its cylinders are as many: along a run.
-use Rattle.std.proofs.Common.{◌≡◌, ◌≤◌, ◌<◌, ◌+◌, ℕ, zero, suc, Bool, true, false, List, [], ◌∷◌, length, Option, Some, None, is_some, refl, sym, ap, subst, ◌∙◌, arith}
-use Rattle.std.specs.Prelude.{if◌then◌else◌, ◌||◌, ◌==◌}
+use Rattle.std.proofs.Common.{ℕ, zero, suc, Bool, Option, Some, None, sym, subst}
 use Rattle.ckd_chain.specs.State.{ChainState}
 use Rattle.ckd_chain.specs.declared.progress.Progress.{Progress}
 use Rattle.ckd_chain.specs.declared.progress.Progress.TheVariants as progresses
-use Rattle.ckd_types.specs.declared.paths.Side.{Side}
-use Rattle.loss_model.specs.declared.Loss.{Loss}
-use Rattle.loss_model.specs.declared.Loss.TheVariants as losses
 use Rattle.plain_defs.specs.History.{OpenEntry}
 use Rattle.track_image.specs.Image.{Image}
 use Rattle.device_outside.specs.Interaction.{Interaction, Done, and_then}
-use Rattle.device_outside.specs.Told as T
-use Rattle.device_outside.specs.Told.{Told}
-use Rattle.device_defs.specs.declared.answers.SecondEnd.{SecondEnd}
-use Rattle.device_defs.specs.declared.answers.Took.{Took}
 use Rattle.device_defs.specs.declared.usage.Usage.{Usage}
 use Rattle.device_defs.specs.Command as M
 use Rattle.ckd_chain.specs.Steps.{need_of}
@@ -23,20 +15,19 @@ use Rattle.device_defs.specs.Background.{work}
 use Rattle.plain_device.specs.Acted.{settled_act, paths_behind}
 use Rattle.ckd_chain.specs.declared.progress.Settled.TheVariants.{Equipment}
 use Rattle.device_defs.specs.Contents.{by_plain}
-use Rattle.device_defs.specs.Device.{event, event_begun, event_ended, quiet_event, with_store}
+use Rattle.device_defs.specs.Device.{event, event_begun, with_store}
 use Rattle.device_defs.specs.Events as V
 use Rattle.device_defs.specs.Events.{background, command_ended, second, second_ended, second_of}
 use Rattle.device_defs.specs.Image.{Imaged, Has, NoBytes, BadTrack}
 use Rattle.device_defs.specs.Marks.{MarksDevice, MarksStore}
 use Rattle.device_defs.specs.Memory.{and_had}
-use Rattle.device_defs.specs.Owed.{ended, hear, waiting_count}
-use Rattle.device_defs.specs.Store as store
+use Rattle.device_defs.specs.Owed.{waiting_count}
 use Rattle.device_defs.specs.Store.{HalfWrite, OfBackground, OfCommand, OfCut, Origin, is_lost, tracks_of}
-use Rattle.device_laws.proofs.Always.{Always, always_ask, always_done, always_read, always_tell, always_then, always_try, always_write}
+use Rattle.device_laws.proofs.Always.{Always, always_done, always_then, always_try}
 use Rattle.device_laws.proofs.KeptEvents.{always_if}
 use Rattle.device_laws.proofs.PoolWalks.{asks_always, ended_asks, hear_asks}
 use Rattle.device_laws.proofs.WholeEvents.{turned_same}
-use Rattle.run_audit_laws.proofs.Queues.{Keeps, Short, image_keeps, keep, write_keeps}
+use Rattle.run_audit_laws.proofs.Queues.{Keeps, Short, image_keeps, write_keeps}
 use Rattle.run_audit_laws.proofs.QueueEvents.{part_keeps, work_keeps}
 
 had_keeps : {X Y : Type 0} {i : Interaction Bool Image MarksStore (Option X)} {f : MarksStore → X → Interaction Bool Image MarksStore (Option Y)} →

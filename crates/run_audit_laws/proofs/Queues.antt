@@ -1,19 +1,19 @@
 -- A device's queue of tracks to stage stays at most 64 long: through a command.
-use Rattle.std.proofs.Common.{◌≡◌, ◌≤◌, ◌<◌, ◌+◌, ◌++◌, ℕ, zero, suc, Bool, true, false, List, [], ◌∷◌, length, Option, Some, None, is_some, refl, sym, ap, subst, ◌∙◌, arith}
-use Rattle.std.specs.Prelude.{if◌then◌else◌, ◌==◌, nat_le, nat_lt, not}
+use Rattle.std.proofs.Common.{◌≡◌, ◌≤◌, ◌<◌, ◌+◌, ◌++◌, ℕ, zero, suc, Bool, true, false, List, [], ◌∷◌, length, Option, Some, None, is_some, refl, sym, subst, ◌∙◌, arith}
+use Rattle.std.specs.Prelude.{if◌then◌else◌, ◌==◌, nat_le, nat_lt}
 use Rattle.std.proofs.lemmas.Bool.Decides.{nat_tests}
 use Rattle.ckd_types.specs.declared.paths.Side.{Side}
 use Rattle.ckd_types.specs.declared.paths.Side.TheVariants.{A, B}
 use Rattle.ckd_types.specs.declared.record.Edit.{Edit}
 use Rattle.ckd_types.specs.Parameters.{is_bypass}
 use Rattle.track_image.specs.Image.{Image}
-use Rattle.device_outside.specs.Interaction.{Interaction, Done, and_then}
+use Rattle.device_outside.specs.Interaction.{Interaction}
 use Rattle.device_defs.specs.declared.answers.Choice.{Choice}
 use Rattle.device_defs.specs.declared.answers.Choice.TheVariants.{Provisional, Fast, Through}
 use Rattle.device_defs.specs.declared.answers.Took.{Took}
 use Rattle.device_defs.specs.declared.answers.Took.TheVariants.{Opened, Unwritten, Whole}
 use Rattle.device_defs.specs.declared.usage.Usage.{Usage}
-use Rattle.device_defs.specs.Choosing.{choose, provisionally_written}
+use Rattle.device_defs.specs.Choosing.{provisionally_written}
 use Rattle.device_defs.specs.Contents.{by_plain}
 use Rattle.device_defs.specs.Editing as X
 use Rattle.device_defs.specs.Editing.{at_once, clean_again, is_given, through, through_by, unchosen, whole, write, write_by, write_chosen, written}
@@ -23,15 +23,13 @@ use Rattle.device_defs.specs.Image.{Got, Imaged, ahead, clean_image, first_read,
 use Rattle.device_defs.specs.Losses as L
 use Rattle.device_defs.specs.Losses.{all_firm_told, call_failed, down, over, settled, settled_but, side_lost, stale_everywhere}
 use Rattle.device_defs.specs.Marks.{MarksStore}
-use Rattle.device_defs.specs.Memory.{had_by}
-use Rattle.device_defs.specs.Owed.{hear}
 use Rattle.device_defs.specs.Store as store
 use Rattle.device_defs.specs.Store.{Origin, has_level, is_loose, level_at, owed_at, takes_b, tracks_of, with_frame, with_stale}
 use Rattle.device_defs.specs.Writing as W
 use Rattle.device_defs.specs.Writing.{alone_b, failed_a, first_a, firm_first, opened, taken_a, tried_b, unwritten, write_done, write_first, write_second}
-use Rattle.device_laws.proofs.Always.{Always, always_ask, always_done, always_read, always_tell, always_then, always_try, always_weaker, always_write}
+use Rattle.device_laws.proofs.Always.{Always, always_ask, always_done, always_read, always_tell, always_then, always_try, always_write}
 use Rattle.device_laws.proofs.KeptEvents.{always_if}
-use Rattle.device_laws.proofs.PoolWalks.{asks_always, choose_asks, done_asks, filled_asks, missed_asks}
+use Rattle.device_laws.proofs.PoolWalks.{asks_always, choose_asks, done_asks, missed_asks}
 use Rattle.run_audit_laws.proofs.Lighter.{near_everywhere, near_taken}
 use Rattle.run_audit_laws.proofs.SecondLighter.{settled_so}
 

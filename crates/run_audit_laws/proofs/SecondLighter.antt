@@ -1,27 +1,15 @@
 -- The second part of a write leaves less to do, also where its call fails and takes side B down.
-use Rattle.std.proofs.Common.{◌≡◌, ◌≢◌, ◌<◌, ◌≤◌, ◌+◌, ◌*◌, ◌⊎◌, ◌==◌, ℕ, zero, suc, Bool, true, false, List, [], ◌∷◌, Option, Some, None, is_some, length, get_or, set, refl, sym, ap, subst, ◌∙◌, arith, inl, inr, eqb-true}
-use Rattle.std.proofs.lemmas.Bool.{cases_eq, cases_lt}
+use Rattle.std.proofs.Common.{◌≡◌, ◌≤◌, ◌+◌, ◌⊎◌, ℕ, Bool, true, false, Option, Some, None, is_some, get_or, set, refl, sym, ap, ◌∙◌, arith, inl, inr}
 use Rattle.std.proofs.lemmas.List.{get_or-set_other}
 use Rattle.std.specs.Prelude.{◌&&◌, ◌||◌, if◌then◌else◌, not}
-use Rattle.ckd_types.specs.declared.paths.Side.{Side}
-use Rattle.ckd_types.specs.declared.paths.Side.TheVariants.{A, B}
-use Rattle.track_image.specs.Image.{Image}
-use Rattle.device_outside.specs.Interaction.{Done, and_then}
 use Rattle.device_defs.specs.Contents.{by_plain}
-use Rattle.device_defs.specs.Effects.{hardened}
 use Rattle.device_defs.specs.Losses as L
 use Rattle.device_defs.specs.Losses.{all_firm_told, by_frame, call_failed, down, gives_up, hardened_by_loss, kept_by_frame, lost_now, over, settled, settled_but, side_lost, slot_in, without_patch}
 use Rattle.device_defs.specs.Marks.{MarksStore}
-use Rattle.device_defs.specs.Second as D
-use Rattle.device_defs.specs.Second.{closed, cut_kept, finished, half_image_of, left_by, second_by, second_done, second_part}
-use Rattle.device_defs.specs.Store as store
-use Rattle.device_defs.specs.Store.{Origin, OfBackground, OfCommand, OfCut, frame_at, half_is, has_level, is_lost, is_loose, level_at, owed_at, patch_at, stale_at, takes_b, tracks_of, with_frame, with_loose, with_lost, with_patch, with_stale}
-use Rattle.device_defs.specs.Writing as W
-use Rattle.device_defs.specs.Writing.{slot_freed, taken_b, write_done, write_second}
+use Rattle.device_defs.specs.Store.{frame_at, half_is, has_level, is_lost, is_loose, patch_at, with_lost}
 use Rattle.device_laws.proofs.FramesKept.{none_at}
-use Rattle.device_laws.proofs.Had.{Had, had_ask, had_done, had_if, had_tell, had_then, had_weaker, had_write}
-use Rattle.run_audit_laws.proofs.Weights.{Spot, copies, due_by, left, modified_by, one, sides, spot_at, sum, takes, weight, weight_at, whole_weight, works}
-use Rattle.run_audit_laws.proofs.Lighter.{Lower, Near, Same, any_had, as_least, false_at, half_off, half_on, light, lower_all, near_firm, near_frame, near_bare, near_if, near_on, near_self, near_stale_b, none_open, not_own, or_on, or_on_right, rest_of, same_self, same_weight, some_at, spot_whole, whole_at, works_by}
+use Rattle.run_audit_laws.proofs.Weights.{Spot, modified_by, one, spot_at, weight, whole_weight, works}
+use Rattle.run_audit_laws.proofs.Lighter.{Near, false_at, half_off, half_on, near_firm, near_frame, near_self, or_on, or_on_right, some_at, works_by}
 
 -- Settling of a track
 

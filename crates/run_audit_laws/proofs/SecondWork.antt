@@ -1,12 +1,10 @@
 -- The second part of a write leaves less to do.
-use Rattle.std.proofs.Common.{◌≡◌, ◌≢◌, ◌<◌, ◌≤◌, ◌+◌, ◌*◌, ◌⊎◌, ◌==◌, ℕ, zero, suc, Bool, true, false, List, [], ◌∷◌, Option, Some, None, is_some, length, get_or, set, refl, sym, ap, subst, ◌∙◌, arith, inl, inr, eqb-true}
-use Rattle.std.proofs.lemmas.Bool.{cases_eq, cases_lt}
-use Rattle.std.proofs.lemmas.List.{get_or-set_other}
+use Rattle.std.proofs.Common.{◌≡◌, ◌≢◌, ◌<◌, ◌≤◌, ◌+◌, ◌⊎◌, ◌==◌, ℕ, zero, suc, Bool, true, false, List, [], ◌∷◌, Option, Some, None, is_some, length, get_or, set, refl, sym, ap, subst, ◌∙◌, arith, inl, inr}
+use Rattle.std.proofs.lemmas.Bool.{cases_eq}
 use Rattle.std.specs.Prelude.{◌&&◌, ◌||◌, if◌then◌else◌, not}
-use Rattle.ckd_types.specs.declared.paths.Side.{Side}
-use Rattle.ckd_types.specs.declared.paths.Side.TheVariants.{A, B}
+use Rattle.ckd_types.specs.declared.paths.Side.TheVariants.{B}
 use Rattle.track_image.specs.Image.{Image}
-use Rattle.device_outside.specs.Interaction.{Done, and_then}
+use Rattle.device_outside.specs.Interaction.{Done}
 use Rattle.device_defs.specs.Contents.{by_plain}
 use Rattle.device_defs.specs.Losses as L
 use Rattle.device_defs.specs.Losses.{all_firm_told, call_failed, down, over, settled, settled_but, side_lost, slot_in}
@@ -18,8 +16,8 @@ use Rattle.device_defs.specs.Store.{Origin, OfBackground, OfCommand, OfCut, fram
 use Rattle.device_defs.specs.Writing as W
 use Rattle.device_defs.specs.Writing.{slot_freed, taken_b, tried_b, write_done, write_second}
 use Rattle.device_laws.proofs.Had.{Had, had_ask, had_done, had_if, had_tell, had_then, had_weaker, had_write}
-use Rattle.run_audit_laws.proofs.Weights.{Spot, copies, left, modified_by, one, sides, spot_at, sum, takes, weight, weight_at, whole_weight, works}
-use Rattle.run_audit_laws.proofs.Lighter.{Bared, Lower, Near, as_least, clean_off, false_at, freed_so, half_off, half_on, idle, light, lower_all, near_bare, near_frame, near_on, near_self, near_stale_b, none_open, not_own, own_is, rest_of, same_weight, sides_near, spot_whole, whole_at}
+use Rattle.run_audit_laws.proofs.Weights.{Spot, copies, modified_by, one, sides, spot_at, weight, weight_at, whole_weight, works}
+use Rattle.run_audit_laws.proofs.Lighter.{Bared, Lower, Near, as_least, clean_off, false_at, freed_so, half_off, half_on, idle, lower_all, near_bare, near_frame, near_on, near_self, near_stale_b, none_open, not_own, own_is, same_weight, whole_at}
 use Rattle.run_audit_laws.proofs.SecondLighter.{IsSafe, Made, Settles, fell, made_least, settled_so}
 
 -- All tracks but that of the write

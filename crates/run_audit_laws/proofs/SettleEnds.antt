@@ -1,6 +1,6 @@
 -- Behind the run of a deck that was read each SETTLE comes to its end.
-use Rattle.std.proofs.Common.{◌≡◌, ◌≤◌, ℕ, List, [], ◌∷◌, map, Option, Some, None, subst, arith}
-use Rattle.std.specs.Prelude.{All, IfSome, IsSome, Ok}
+use Rattle.std.proofs.Common.{◌≡◌, ◌≤◌, ℕ, List, [], ◌∷◌, map, Option, subst, arith}
+use Rattle.std.specs.Prelude.{All, IfSome, Ok}
 use Rattle.std.proofs.lemmas.List.Elements.{All-head, All-tail}
 use Rattle.deck_text.specs.declared.line.DeviceLine.{DeviceLine}
 use Rattle.deck_text.specs.DeckLines.{DeckLines}
