@@ -24,7 +24,8 @@ use Rattle.device_laws.proofs.TrackMarks.{is_good, marks}
 use Rattle.device_laws.proofs.WholeEvents.{turned_same}
 use Rattle.subsystem_laws.proofs.GoodMarks.{Good, by_lent, half_home}
 use Rattle.run_audit_laws.proofs.Weights.{Spot, left, one, spot_at, sum, sum_least, weight, weight_at}
-use Rattle.run_audit_laws.proofs.Lighter.{Lower, Same, WorkSo, as_least, not_own, own_is, lower_on, near_frame, same_least, same_self, weight_if, works_by, work_so}
+use Rattle.run_audit_laws.proofs.Lighter.{Lower, Same, WorkSo, as_least, not_own, own_is, lower_on, near_frame, same_least, same_self}
+use Rattle.run_audit_laws.proofs.InOrder.{weight_if, works_by, work_so}
 use Rattle.run_audit_laws.proofs.SecondLighter.{IsSafe, is_level}
 use Rattle.run_audit_laws.proofs.SecondWork.{part_so}
 

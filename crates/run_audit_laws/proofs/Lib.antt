@@ -65,3 +65,4 @@ mod QueueEvents
 mod QueueRuns
 mod QueueKept
 mod SettleEnds
+mod InOrder

@@ -9,7 +9,8 @@ use Rattle.device_defs.specs.Marks.{MarksStore}
 use Rattle.device_defs.specs.Store.{frame_at, half_is, has_level, is_lost, is_loose, patch_at, with_lost}
 use Rattle.device_laws.proofs.FramesKept.{none_at}
 use Rattle.run_audit_laws.proofs.Weights.{Spot, modified_by, one, spot_at, weight, whole_weight, works}
-use Rattle.run_audit_laws.proofs.Lighter.{Near, false_at, half_off, half_on, near_firm, near_frame, near_self, or_on, or_on_right, some_at, works_by}
+use Rattle.run_audit_laws.proofs.Lighter.{Near, false_at, half_off, half_on, near_firm, near_frame, near_self, or_on, or_on_right, some_at}
+use Rattle.run_audit_laws.proofs.InOrder.{works_by}
 
 -- Settling of a track
 
