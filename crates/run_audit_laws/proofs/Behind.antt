@@ -18,18 +18,21 @@ use Rattle.subsystem_defs.specs.Subsystem.{Subsystem, devices_of}
 use Rattle.subsystem_laws.specs.Served.{IsServed, IsServedDeck}
 use Rattle.subsystem_laws.proofs.GoodMarks.{Good, good_kept, opened_good}
 use Rattle.subsystem_laws.proofs.PlainRuns.{ArePlain, line_plain, opened_plain, plain_behind}
-use Rattle.subsystem_laws.proofs.ReadDecks.{read_served}
+use Rattle.subsystem_laws.proofs.ReadDecks.{read_served, read_small}
 use Rattle.subsystem_laws.proofs.RunLines.{AnyEvent, MayAsk, all_asked}
 use Rattle.subsystem_laws.proofs.Walks.{AreSo, line_keeps, lines_end_so}
 use Rattle.run_audit_laws.specs.Standing.{HasDevice}
 use Rattle.run_audit_laws.proofs.CacheLines.{numbers_same}
 use Rattle.run_audit_laws.proofs.DeckEvents.{OfNamed, declared_has, read_names}
 use Rattle.run_audit_laws.proofs.DeckNumbers.{RisesFrom, read_rises}
+use Rattle.run_audit_laws.proofs.QueueKept.{Fits, fits_kept}
+use Rattle.run_audit_laws.proofs.SettleEnds.{fits_behind, opened_fits}
 use Rattle.run_audit_laws.proofs.Ties.{Tied, line_tied, numbers_in, opened_tied, tied_behind, ties}
 
 pub record IsBehind (numbers : List ℕ) (s : Subsystem) : Type 0 where
   pub plain : ArePlain s.mounted
   pub good : AreSo Good s.mounted
+  pub fits : AreSo Fits s.mounted
   pub tied : Tied numbers (ties s.mounted)
   pub rises : RisesFrom 0 numbers
 
@@ -50,7 +53,7 @@ good_behind deck h =
 pub run_is_behind : (text : List ℕ) (deck : DeckLines) → parsed text ≡ Ok deck → IsBehind (numbers_in deck) (run_of deck).behind
 run_is_behind text deck read =
     let served = read_served text deck read in
-    record { plain = plain_behind deck served; good = good_behind deck served; tied = tied_behind deck; rises = read_rises text deck read }
+    record { plain = plain_behind deck served; good = good_behind deck served; fits = fits_behind text deck read; tied = tied_behind deck; rises = read_rises text deck read }
 
 -- Before it, and behind each of its lines
 
@@ -60,6 +63,7 @@ opened_is_behind text deck read =
     record {
       plain = opened_plain deck deck.devices served.devices;
       good = opened_good deck deck.devices served.devices;
+      fits = opened_fits deck deck.devices (read_small text deck read);
       tied = opened_tied deck;
       rises = read_rises text deck read;
     }
@@ -68,6 +72,7 @@ pub line_stays : (numbers : List ℕ) (s : Subsystem) (x : Asked) → IsServed x
 line_stays numbers s x served k = record {
   plain = line_plain x s served k.plain;
   good = line_keeps Good AnyEvent good_kept (record { step = λ d. tt; back = λ d. tt }) x s (All-head (MayAsk AnyEvent) x [] (all_asked (x ∷ []))) k.good;
+  fits = line_keeps Fits AnyEvent fits_kept (record { step = λ d. tt; back = λ d. tt }) x s (All-head (MayAsk AnyEvent) x [] (all_asked (x ∷ []))) k.fits;
   tied = line_tied numbers s x k.tied;
   rises = k.rises;
 }

@@ -62,3 +62,15 @@ mod RangedEnds
 mod FewDevices
 mod RangedLines
 mod RangedRuns
+mod Weights
+mod Lighter
+mod SecondLighter
+mod SecondWork
+mod BackEvents
+mod BackEnds
+mod Queues
+mod QueueEvents
+mod QueueRuns
+mod QueueKept
+mod SettleEnds
+mod InOrder

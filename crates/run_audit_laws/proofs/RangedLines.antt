@@ -1,5 +1,5 @@
 -- The paths and devices that the lines of an event name are in their ranges.
-use Rattle.std.proofs.Common.{◌≤◌, ◌+◌, ◌==◌, ◌++◌, zero, suc, ℕ, Bool, true, false, List, [], ◌∷◌, length, map, Option, Some, None, refl, if◌then◌else◌, arith}
+use Rattle.std.proofs.Common.{◌≤◌, ◌==◌, ◌++◌, zero, suc, ℕ, Bool, true, false, List, [], ◌∷◌, length, map, Option, Some, None, refl, if◌then◌else◌, arith}
 use Rattle.std.specs.Prelude.{◌&&◌, not, All, IfSome, option_map}
 use Rattle.std.proofs.lemmas.List.Elements.{All-append, All-cons, All-head, All-nil, All-tail}
 use Rattle.ckd_types.specs.declared.channel.CommandEnd.{CommandEnd}

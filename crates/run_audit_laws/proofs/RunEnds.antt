@@ -321,7 +321,7 @@ module _ (s : Subsystem) (plain : ArePlain s.mounted) (d : ℕ) (x : MarksDevice
       (step_by x.store.half refl x.history.running refl
       (sym (ap is_busy m.1 ∙ ap (λ (y : MarksDevice). is_some y.store.half || is_some y.history.running) m.2) ∙ busy) enough)
 
-device_there : (ms : List Mounted) (n : ℕ) (m : Mounted) → mounted_in ms n ≡ Some m → device_in (map (λ (k : Mounted). k.device) ms) n ≡ Some m.device
+pub device_there : (ms : List Mounted) (n : ℕ) (m : Mounted) → mounted_in ms n ≡ Some m → device_in (map (λ (k : Mounted). k.device) ms) n ≡ Some m.device
 device_there [] n m is = absurd (cc)
 device_there (k ∷ ms) n m is = by_test (number_of k == n) is (device_there ms n m) where
   by_test : (b : Bool) → (if b then Some k else mounted_in ms n) ≡ Some m →

@@ -22,10 +22,8 @@ use Rattle.subsystem_defs.specs.Lines.{Asked, Logged, asked_by, last_behind, lin
 use Rattle.subsystem_defs.specs.Subsystem.{Mounted, Subsystem}
 use Rattle.report_places.specs.Place.{worker_of}
 use Rattle.run_audit_laws.specs.Runs.{
-  AllAreOver,
   AllDo,
   AllMayFollow,
-  IsOver,
   LineDoes,
   LineGoes,
   MayFollow,
@@ -35,6 +33,7 @@ use Rattle.run_audit_laws.specs.Runs.{
 }
 use Rattle.run_audit_laws.specs.Standing.{FramesAreDeclared, HasDevice, LeadsBy, LineLeads, audited, stand}
 use Rattle.run_audit_laws.specs.Steps.{Reaches, is_there}
+use Rattle.run_audit_laws.proofs.SettleEnds.{settle_over}
 use Rattle.run_audit_laws.proofs.Endings.{ending_leads}
 use Rattle.run_audit_laws.proofs.NextLines.{exactly_from, to_the_end, towards_other}
 use Rattle.run_audit_laws.proofs.Leading.{leads_on}
@@ -161,32 +160,32 @@ run_leads deck may does framed =
 -- of a deck that was read
 
 module _ (s : Subsystem) (numbers : List ℕ) (k : IsBehind numbers s) where
-  line_does : (e : EventLine) → OfNamed (HasDevice s) e → IsOver s e → LineDoes s e
-  line_does (events.Step d) has over = step_goes_on s k.plain d has
-  line_does (events.Run d) has over = run_goes_on s k.plain d has (run_is_over s k.plain d has)
-  line_does (events.Back d) has over = back_goes_on s k.plain k.good d has
-  line_does (events.Settle d) has over = settle_goes_on s k.plain k.good d has over
-  line_does (events.FailVolume d side) has over = ordered_leads numbers s k (events.FailVolume d side) has
-  line_does (events.Start path d) has over = still_leads s k.plain (events.Start path d) has
-  line_does (events.Reset path d) has over = still_leads s k.plain (events.Reset path d) has
-  line_does events.FailCache has over = ordered_leads numbers s k events.FailCache tt
-  line_does events.FailStore has over = ordered_leads numbers s k events.FailStore tt
-  line_does events.RepairCache has over = still_leads s k.plain events.RepairCache tt
-  line_does events.RepairStore has over = still_leads s k.plain events.RepairStore tt
-  line_does (events.Replace d side) has over = still_leads s k.plain (events.Replace d side) has
-  line_does (events.Pair a b) has over = ordered_leads numbers s k (events.Pair a b) has
-  line_does (events.Unpair a) has over = ordered_leads numbers s k (events.Unpair a) has
-  line_does (events.Suspend a) has over = still_leads s k.plain (events.Suspend a) has
-  line_does (events.Resume a) has over = still_leads s k.plain (events.Resume a) has
-  line_does events.Power has over = ordered_leads numbers s k events.Power tt
+  line_does : (e : EventLine) → OfNamed (HasDevice s) e → LineDoes s e
+  line_does (events.Step d) has = step_goes_on s k.plain d has
+  line_does (events.Run d) has = run_goes_on s k.plain d has (run_is_over s k.plain d has)
+  line_does (events.Back d) has = back_goes_on s k.plain k.good d has
+  line_does (events.Settle d) has = settle_goes_on s k.plain k.good d has (settle_over s k.good k.fits d has)
+  line_does (events.FailVolume d side) has = ordered_leads numbers s k (events.FailVolume d side) has
+  line_does (events.Start path d) has = still_leads s k.plain (events.Start path d) has
+  line_does (events.Reset path d) has = still_leads s k.plain (events.Reset path d) has
+  line_does events.FailCache has = ordered_leads numbers s k events.FailCache tt
+  line_does events.FailStore has = ordered_leads numbers s k events.FailStore tt
+  line_does events.RepairCache has = still_leads s k.plain events.RepairCache tt
+  line_does events.RepairStore has = still_leads s k.plain events.RepairStore tt
+  line_does (events.Replace d side) has = still_leads s k.plain (events.Replace d side) has
+  line_does (events.Pair a b) has = ordered_leads numbers s k (events.Pair a b) has
+  line_does (events.Unpair a) has = ordered_leads numbers s k (events.Unpair a) has
+  line_does (events.Suspend a) has = still_leads s k.plain (events.Suspend a) has
+  line_does (events.Resume a) has = still_leads s k.plain (events.Resume a) has
+  line_does events.Power has = ordered_leads numbers s k events.Power tt
 
-all_do : (events : List EventLine) (s : Subsystem) → AllSo (λ z e. IsOver z e → LineDoes z e) s events → AllAreOver s events → AllDo s events
-all_do [] s so over = tt
-all_do (e ∷ later) s so over = (so.0 over.0, all_do later (line_behind s e) so.1 over.1)
+all_do : (events : List EventLine) (s : Subsystem) → AllSo (λ z e. LineDoes z e) s events → AllDo s events
+all_do [] s so = tt
+all_do (e ∷ later) s so = (so.0, all_do later (line_behind s e) so.1)
 
-pub report_leads : (text : List ℕ) (deck : DeckLines) → parsed text ≡ Ok deck → AllMayFollow None (opened deck) deck.events → AllAreOver (opened deck) deck.events →
+pub report_leads : (text : List ℕ) (deck : DeckLines) → parsed text ≡ Ok deck → AllMayFollow None (opened deck) deck.events →
     WholeLeads (first_state deck) (report_lines (run_of deck))
-report_leads text deck read may over =
+report_leads text deck read may =
     run_leads deck may
     (all_do deck.events (opened deck)
-    (deck_all_so text deck read (λ z e. IsOver z e → LineDoes z e) (λ z e k served has over. line_does z (numbers_in deck) k e has over)) over) (frames_are_declared deck)
+    (deck_all_so text deck read (λ z e. LineDoes z e) (λ z e k served has. line_does z (numbers_in deck) k e has))) (frames_are_declared deck)

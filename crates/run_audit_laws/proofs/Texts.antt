@@ -19,7 +19,7 @@ use Rattle.report_auditor.specs.Verdict as V
 use Rattle.report_auditor.specs.Verdict.{at_end, cut_lines, deck_judged, deck_part, judged_by, judged_lines, or_no, read_back, read_back_at, report_from}
 use Rattle.run_report.specs.Report.{report_lines}
 use Rattle.subsystem_defs.specs.Decks.{opened, run_of}
-use Rattle.run_audit_laws.specs.Runs.{AllAreOver, AllMayFollow, WholeLeads}
+use Rattle.run_audit_laws.specs.Runs.{AllMayFollow, WholeLeads}
 use Rattle.run_audit_laws.specs.Standing.{LeadsBy}
 use Rattle.run_audit_laws.specs.Texts.{IsOwnReport}
 use Rattle.run_audit_laws.proofs.Forms.{Formed, report_has_form}
@@ -55,7 +55,7 @@ module _ (again : (line : ReportLine) → IsLine line → line_of (text_of line)
       ∙ all_texts (report_lines (run_of deck)) (o.lines + 2) (first_state deck) leads.0
       (report_is_in_range (deck_part text (Some o.lines)) deck o.parses o.written) (report_has_form deck) leads.1 leads.2
 
-  pub own_report_is_yes : (text : List ℕ) (deck : DeckLines) → IsOwnReport text deck → AllMayFollow None (opened deck) deck.events → AllAreOver (opened deck) deck.events →
+  pub own_report_is_yes : (text : List ℕ) (deck : DeckLines) → IsOwnReport text deck → AllMayFollow None (opened deck) deck.events →
       read_back text ≡ Yes
-  own_report_is_yes text deck o may over =
-      yes_by text deck o (report_leads (deck_part text (Some o.lines)) deck o.parses may over)
+  own_report_is_yes text deck o may =
+      yes_by text deck o (report_leads (deck_part text (Some o.lines)) deck o.parses may)

@@ -68,15 +68,6 @@ abbrev pub AllDo : Subsystem → List EventLine → Type 0
 AllDo s [] = Unit {0}
 AllDo s (e ∷ later) = LineDoes s e × AllDo (line_behind s e) later
 
--- each SETTLE comes to its end
-abbrev pub IsOver : Subsystem → EventLine → Type 0
-IsOver s (events.Settle d) = SettleIsOver s d
-IsOver s e = Unit {0}
-
-abbrev pub AllAreOver : Subsystem → List EventLine → Type 0
-AllAreOver s [] = Unit {0}
-AllAreOver s (e ∷ later) = IsOver s e × AllAreOver (line_behind s e) later
-
 abbrev pub behind_lines : Subsystem → List EventLine → Subsystem
 behind_lines s events = last_behind s (run_lines (map asked_by events) s)
 

@@ -1,0 +1,165 @@
+-- What a device does by itself, in its order: it leaves less to do, unless its answer is one that stops.
+use Rattle.std.proofs.Common.{◌≡◌, ◌≢◌, ◌<◌, ◌≤◌, ◌+◌, ◌⊎◌, ℕ, zero, suc, Bool, true, false, List, [], ◌∷◌, Option, Some, None, is_some, length, get_or, set, refl, sym, ap, subst, ◌∙◌, arith, inl, inr}
+use Rattle.std.proofs.lemmas.Bool.{cases_eq}
+use Rattle.std.specs.Prelude.{◌&&◌, ◌||◌, if◌then◌else◌, not}
+use Rattle.ckd_types.specs.declared.paths.Side.{Side}
+use Rattle.track_table.specs.Tracks.{least}
+use Rattle.device_defs.specs.declared.answers.Did.TheVariants as dids
+use Rattle.device_defs.specs.Background as G
+use Rattle.device_defs.specs.Background.{copied, copies_to, copy_by, copy_first, copy_read, destage_first, did, is_destaged, other, recover, recover_first, recovered_bytes, saved, saved_by, saving, stage, stage_first, staged_bytes, to_copy, to_destage, to_recover, work}
+use Rattle.device_defs.specs.Contents.{by_plain}
+use Rattle.device_defs.specs.Image.{Got}
+use Rattle.device_defs.specs.Marks.{MarksStore}
+use Rattle.device_defs.specs.Owed as O
+use Rattle.device_defs.specs.Owed.{waits, waits_by}
+use Rattle.device_defs.specs.Store.{frame_at, is_lost, is_loose, patch_at, some_up, tracks_of, with_frame}
+use Rattle.device_laws.proofs.Had.{Had, had_ask, had_done, had_if, had_then, had_try}
+use Rattle.device_laws.proofs.Working.{least_found}
+use Rattle.subsystem_defs.specs.Lines.{stops}
+use Rattle.run_audit_laws.proofs.Weights.{Spot, copies, due_by, modified_by, one, sides, spot_at, sum_least, weight_at, works}
+use Rattle.run_audit_laws.proofs.Lighter.{GotSo, Lower, Same, WorkSo, as_least, bad_stops, copy_so, level_so, lower_all, near_frame, or_on, or_on_right, recover_so, same_least, same_weight, saved_so}
+
+-- Staging
+
+set_there : (l : List (Option Bool)) (t : ℕ) (x : Option Bool) → (get_or (set l t x) t None ≡ x) ⊎ (get_or (set l t x) t None ≡ get_or l t None)
+set_there [] t x = inr refl
+set_there (y ∷ l) zero x = inl refl
+set_there (y ∷ l) (suc t) x = set_there l t x
+
+abbrev pub works_by : Bool → Option Bool → Bool → Bool → Bool
+works_by lost f p l = (not lost && due_by f p l) || (l || (modified_by f && p))
+
+filled_works : (lost p l : Bool) → lost ≡ false → works_by lost (Some p) p l ≡ works_by lost None p l
+filled_works true p l e = absurd (cc)
+filled_works false true true e = refl
+filled_works false true false e = refl
+filled_works false false true e = refl
+filled_works false false false e = refl
+
+-- the weight by whether there is work
+abbrev pub weight_if : Spot → Bool → ℕ
+weight_if p b = if p.half then one (p.a && p.a_stale) else (if b then sides p else 0) + one (copies p)
+
+framed_least : (z : MarksStore) (t : ℕ) (m : Bool) → is_some (patch_at z t) ≡ m → frame_at z t ≡ None → is_lost z t ≡ false →
+    (q : ℕ) → weight_at (with_frame z t (Some m)) q ≤ weight_at z q
+framed_least z t m patched bare here q = by_place (cases_eq q t) (set_there z.frames t (Some m)) where
+  v : MarksStore
+  v = with_frame z t (Some m)
+
+  at : (f : Option Bool) → frame_at v t ≡ f → works_by (is_lost z t) f (is_some (patch_at z t)) (is_loose z t) ≡ works (spot_at z t) → weight_at v t ≤ weight_at z t
+  at f is same = as_least (weight_at v t) (weight_at z t)
+      (ap (λ (o : Option Bool). weight_if (spot_at z t) (works_by (is_lost z t) o (is_some (patch_at z t)) (is_loose z t))) is
+      ∙ ap (weight_if (spot_at z t)) same)
+
+  by_place : ((q ≡ t) ⊎ (q ≢ t)) → ((frame_at v t ≡ Some m) ⊎ (frame_at v t ≡ frame_at z t)) → weight_at v q ≤ weight_at z q
+  by_place (inr ne) there = same_weight z v q ((near_frame z t (Some m)).others q ne)
+  by_place (inl is) (inl there) =
+      subst (λ (k : ℕ). weight_at v k ≤ weight_at z k) (sym is)
+      (at (Some m) there
+      (ap (λ (k : Bool). works_by (is_lost z t) (Some k) (is_some (patch_at z t)) (is_loose z t)) (sym patched)
+      ∙ filled_works (is_lost z t) (is_some (patch_at z t)) (is_loose z t) here
+      ∙ ap (λ (o : Option Bool). works_by (is_lost z t) o (is_some (patch_at z t)) (is_loose z t)) (sym bare)))
+  by_place (inl is) (inr there) = subst (λ (k : ℕ). weight_at v k ≤ weight_at z k) (sym is) (at (frame_at z t) there refl)
+
+module _ (s : MarksStore) (t : ℕ) (ts : List ℕ) (queue : s.queue ≡ t ∷ ts) where
+  abbrev shorter : MarksStore
+  shorter = record s { queue = ts }
+
+  one_shorter : Lower s shorter
+  one_shorter =
+      let longer = ap length queue in
+      lower_all s shorter refl (λ q _. as_least (weight_at s q) (weight_at s q) refl) (omega (arith, longer))
+
+  filled_lower : (z : MarksStore) → Same shorter z → frame_at s t ≡ None → is_lost s t ≡ false → (m : Bool) → is_some (patch_at z t) ≡ m →
+      Lower s (with_frame z t (Some m))
+  filled_lower z e bare here m patched =
+      let v = with_frame z t (Some m) in
+      let first = one_shorter in
+      let second = same_least shorter z e in
+      let below = sum_least (tracks_of z) (weight_at z) (weight_at v)
+      (λ q _. framed_least z t m patched (ap (λ (p : Spot). p.frame) (e.spots t) ∙ bare) (ap (λ (p : Spot). p.lost) (e.spots t) ∙ here) q) in
+      omega (arith, first, second, below)
+
+  staged_answer : (z : MarksStore) (f : Option Side) → (f ≡ None → Lower s z) → stops (did f (dids.Staged t)) ≡ false → Lower s z
+  staged_answer z (Some side) lower e = absurd (cc)
+  staged_answer z None lower e = lower refl
+
+  got_same : (z : MarksStore) (f : Option Side) → GotSo shorter z f → f ≡ None → Same shorter z
+  got_same z (Some side) e is = absurd (cc)
+  got_same z None e is = e
+
+  nothing_said : (z : MarksStore) (f : Option Side) → stops (did f dids.Nothing) ≡ false → Lower s z
+  nothing_said z (Some side) e = absurd (cc)
+  nothing_said z None e = absurd (cc)
+
+  bytes_staged : (z : MarksStore) (g : Got Bool) → GotSo shorter z g.fault → frame_at s t ≡ None → is_lost s t ≡ false → (o : Option Bool) →
+      Had (staged_bytes by_plain t z g o) (WorkSo s)
+  bytes_staged z g e bare here None = had_ask (λ _. had_done (nothing_said z g.fault))
+  bytes_staged z g e bare here (Some true) =
+      had_try (had_then {p = λ y (_ : Unit {0}). (g.fault ≡ None → Lower s y)}
+      (had_if (is_some (patch_at z t))
+      (λ patched. had_ask (λ _. had_done (λ fine. filled_lower z (got_same z g.fault e fine) bare here true patched)))
+      (λ patched. had_done (λ fine. filled_lower z (got_same z g.fault e fine) bare here false patched)))
+      (λ y _ h. had_done (staged_answer y g.fault h)))
+  bytes_staged z g e bare here (Some false) = had_try (had_ask (λ _. had_done (bad_stops s z g.fault g.side)))
+
+  none_framed : (o : Option Bool) (lost : Bool) → (is_some o || lost) ≡ false → (o ≡ None) × (lost ≡ false)
+  none_framed None lost e = (refl, e)
+  none_framed (Some f) lost e = absurd (cc)
+
+  stage_so : Had (stage by_plain shorter t) (WorkSo s)
+  stage_so =
+      had_if (is_some (frame_at s t) || is_lost s t) (λ _. had_done (λ _. one_shorter))
+      (λ e. let f = none_framed (frame_at s t) (is_lost s t) e in
+      had_try (had_ask (λ given. had_if given
+      (λ _. had_then (level_so shorter t) (λ z g h. bytes_staged z g h f.0 f.1 g.bytes))
+      (λ _. had_done (λ _. one_shorter)))))
+
+-- The order
+
+waits_due : (s : MarksStore) (t : ℕ) (o : Option Bool) → waits_by by_plain s t o ≡ due_by o (is_some (patch_at s t)) (is_loose s t)
+waits_due s t None = refl
+waits_due s t (Some m) = refl
+
+waits_works : (s : MarksStore) (t : ℕ) → waits by_plain s t ≡ true → works (spot_at s t) ≡ true
+unfolding O.waits
+waits_works s t e =
+    or_on (not (is_lost s t) && due_by (frame_at s t) (is_some (patch_at s t)) (is_loose s t)) _
+    (ap (λ (b : Bool). not (is_lost s t) && b) (sym (waits_due s t (frame_at s t))) ∙ e)
+
+modified_is : (o : Option Bool) → O.is_modified by_plain o ≡ modified_by o
+modified_is None = refl
+modified_is (Some m) = refl
+
+destaged_works : (s : MarksStore) (t : ℕ) → is_destaged by_plain s t ≡ true → works (spot_at s t) ≡ true
+destaged_works s t e =
+    or_on_right _ (is_loose s t || (modified_by (frame_at s t) && is_some (patch_at s t)))
+    (ap (λ (b : Bool). is_loose s t || (b && is_some (patch_at s t))) (sym (modified_is (frame_at s t))) ∙ e)
+
+found_if : (n : ℕ) (p : ℕ → Bool) (b : Bool) (t : ℕ) → (if b then least n p else None) ≡ Some t → (t < n) × (p t ≡ true)
+found_if n p true t e = least_found n p t e
+found_if n p false t e = absurd (cc)
+
+destage_so : (s : MarksStore) → s.half ≡ None → (o : Option ℕ) → to_destage by_plain s ≡ o → Had (destage_first by_plain s o) (WorkSo s)
+destage_so s whole None is = had_done (λ e. absurd (cc))
+destage_so s whole (Some t) is =
+    let f = found_if (tracks_of s) (is_destaged by_plain s) (some_up s) t is in
+    saved_so s whole t f.0 (destaged_works s t f.1) _ (dids.Destaged t) None
+
+stages_so : (s : MarksStore) → s.half ≡ None → (l : List ℕ) → s.queue ≡ l → Had (stage_first by_plain s l) (WorkSo s)
+stages_so s whole [] is = destage_so s whole (to_destage by_plain s) refl
+stages_so s whole (t ∷ ts) is = stage_so s t ts is
+
+copy_first_so : (s : MarksStore) → s.half ≡ None → (o : Option ℕ) → to_copy s ≡ o → Had (copy_first by_plain s o) (WorkSo s)
+copy_first_so s whole None is = stages_so s whole s.queue refl
+copy_first_so s whole (Some t) is = copy_so s t whole (least_found (tracks_of s) (λ q. is_some (copies_to s q)) t is).0 (copies_to s t) refl
+
+recover_first_so : (s : MarksStore) → s.half ≡ None → (o : Option ℕ) → to_recover by_plain s ≡ o → Had (recover_first by_plain s o) (WorkSo s)
+recover_first_so s whole None is = copy_first_so s whole (to_copy s) refl
+recover_first_so s whole (Some t) is =
+    let f = found_if (tracks_of s) (waits by_plain s) (some_up s) t is in
+    recover_so s t (frame_at s t) whole f.0 (waits_works s t f.1)
+
+pub work_so : (s : MarksStore) → s.half ≡ None → Had (work by_plain s) (WorkSo s)
+unfolding G.work
+work_so s whole = recover_first_so s whole (to_recover by_plain s) refl

@@ -1,0 +1,384 @@
+-- The second part of a write leaves less to do.
+use Rattle.std.proofs.Common.{◌≡◌, ◌≢◌, ◌<◌, ◌≤◌, ◌+◌, ◌⊎◌, ◌==◌, ℕ, zero, suc, Bool, true, false, List, [], ◌∷◌, Option, Some, None, is_some, length, get_or, set, refl, sym, ap, subst, ◌∙◌, arith, inl, inr}
+use Rattle.std.proofs.lemmas.Bool.{cases_eq}
+use Rattle.std.specs.Prelude.{◌&&◌, ◌||◌, if◌then◌else◌, not}
+use Rattle.ckd_types.specs.declared.paths.Side.TheVariants.{B}
+use Rattle.track_image.specs.Image.{Image}
+use Rattle.device_outside.specs.Interaction.{Done}
+use Rattle.device_defs.specs.Contents.{by_plain}
+use Rattle.device_defs.specs.Losses as L
+use Rattle.device_defs.specs.Losses.{all_firm_told, call_failed, down, over, settled, settled_but, side_lost, slot_in}
+use Rattle.device_defs.specs.Marks.{MarksStore}
+use Rattle.device_defs.specs.Second as D
+use Rattle.device_defs.specs.Second.{closed, cut_kept, finished, left_by, second_by, second_part}
+use Rattle.device_defs.specs.Store as store
+use Rattle.device_defs.specs.Store.{Origin, OfBackground, OfCommand, OfCut, frame_at, half_is, has_level, is_lost, is_loose, level_at, owed_at, patch_at, stale_at, takes_b, tracks_of, with_frame, with_patch, with_stale}
+use Rattle.device_defs.specs.Writing as W
+use Rattle.device_defs.specs.Writing.{slot_freed, taken_b, tried_b, write_done, write_second}
+use Rattle.device_laws.proofs.Had.{Had, had_ask, had_done, had_if, had_tell, had_then, had_weaker, had_write}
+use Rattle.run_audit_laws.proofs.Weights.{Spot, copies, modified_by, one, sides, spot_at, weight, weight_at, whole_weight, works}
+use Rattle.run_audit_laws.proofs.Lighter.{Bared, Lower, Near, as_least, clean_off, false_at, freed_so, half_off, half_on, idle, lower_all, near_bare, near_frame, near_on, near_self, near_stale_b, none_open, not_own, own_is, same_weight, whole_at}
+use Rattle.run_audit_laws.proofs.SecondLighter.{IsSafe, Made, Settles, fell, made_least, settled_so}
+
+-- All tracks but that of the write
+
+record Falls (s z : MarksStore) : Type 0 where
+  cylinders : z.cylinders ≡ s.cylinders
+  queue : z.queue ≡ s.queue
+  half : z.half ≡ s.half
+  a : z.a ≡ s.a
+  b : z.b ≡ s.b
+  held : z.held ≡ s.held
+
+falls_on : (s z y : MarksStore) → Falls s z → Falls z y → Falls s y
+falls_on s z y f g = record {
+  cylinders = g.cylinders ∙ f.cylinders;
+  queue = g.queue ∙ f.queue;
+  half = g.half ∙ f.half;
+  a = g.a ∙ f.a;
+  b = g.b ∙ f.b;
+  held = g.held ∙ f.held;
+}
+
+settles_falls : (s z : MarksStore) (t : ℕ) → Settles s z t → Falls s z
+settles_falls s z t k = record {
+  cylinders = k.near.cylinders;
+  queue = k.near.queue;
+  half = k.near.half;
+  a = k.a;
+  b = k.b;
+  held = k.near.held;
+}
+
+falls_self : (s : MarksStore) → Falls s s
+falls_self s = record { cylinders = refl; queue = refl; half = refl; a = refl; b = refl; held = refl }
+
+module _ (t : ℕ) where
+  each_by : (b : Bool) (k : ℕ) (w : MarksStore) → Falls w (if b then w else settled by_plain w k) ×
+      ((q : ℕ) → q ≢ k → spot_at (if b then w else settled by_plain w k) q ≡ spot_at w q)
+  each_by true k w = (falls_self w, λ q ne. refl)
+  each_by false k w = let g = settled_so w k in (settles_falls w (settled by_plain w k) k g.0, λ q ne. g.0.near.others q ne)
+
+  over_falls : (k : ℕ) (s : MarksStore) → Falls s (over k (settled_but by_plain (Some t)) s)
+  unfolding L.over
+  over_falls zero s = falls_self s
+  over_falls (suc k) s =
+      let w = over k (settled_but by_plain (Some t)) s in falls_on s w _ (over_falls k s) (each_by (k == t) k w).0
+
+  -- one that isn't come to yet is as it was
+  over_later : (k : ℕ) (s : MarksStore) (q : ℕ) → k ≤ q → spot_at (over k (settled_but by_plain (Some t)) s) q ≡ spot_at s q
+  unfolding L.over
+  over_later zero s q le = refl
+  over_later (suc k) s q le =
+      let w = over k (settled_but by_plain (Some t)) s in
+      (each_by (k == t) k w).1 q (λ e. absurd (omega (arith, le, e))) ∙ over_later k s q (omega (arith, le))
+
+  over_own : (k : ℕ) (s : MarksStore) → spot_at (over k (settled_but by_plain (Some t)) s) t ≡ spot_at s t
+  unfolding L.over
+  over_own zero s = refl
+  over_own (suc k) s = by_place (k == t) refl (over_own k s) where
+    by_place : (b : Bool) → (k == t) ≡ b → spot_at (over k (settled_but by_plain (Some t)) s) t ≡ spot_at s t →
+        spot_at (if b then over k (settled_but by_plain (Some t)) s else settled by_plain (over k (settled_but by_plain (Some t)) s) k) t ≡ spot_at s t
+    by_place true is rest = rest
+    by_place false is rest =
+        let w = over k (settled_but by_plain (Some t)) s in
+        (each_by false k w).1 t (λ e. absurd (let mine : (k == t) ≡ true = ap (λ (x : ℕ). x == t) (sym e) ∙ own_is t in let both : true ≡ false = sym mine ∙ is in cc)) ∙ rest
+
+  -- with side B down
+  over_least : (k : ℕ) (s : MarksStore) (q : ℕ) → q ≢ t → half_is s.half q ≡ false → s.b.up ≡ true → IsSafe (spot_at s q) →
+      weight_at (over k (settled_but by_plain (Some t)) (down s B)) q ≤ weight_at s q
+  unfolding L.over
+  over_least zero s q ne whole up safe = made_least (spot_at s q) (spot_at (down s B) q) whole up safe (inl refl)
+  over_least (suc k) s q ne whole up safe = by_place (k == t) refl (cases_eq q k) (over_least k s q ne whole up safe) where
+    w : MarksStore
+    w = over k (settled_but by_plain (Some t)) (down s B)
+
+    by_place : (b : Bool) → (k == t) ≡ b → ((q ≡ k) ⊎ (q ≢ k)) → weight_at (over k (settled_but by_plain (Some t)) (down s B)) q ≤ weight_at s q →
+        weight_at (if b then over k (settled_but by_plain (Some t)) (down s B) else settled by_plain (over k (settled_but by_plain (Some t)) (down s B)) k) q ≤ weight_at s q
+    by_place true mine here rest = rest
+    by_place false mine (inr other) rest =
+        let o = over k (settled_but by_plain (Some t)) (down s B) in
+        let same = ap weight ((each_by false k o).1 q other) in
+        omega (arith, same, rest)
+    by_place false mine (inl is) rest =
+        let o = over k (settled_but by_plain (Some t)) (down s B) in
+        let z = settled by_plain o k in
+        let before : spot_at o q ≡ fell (spot_at s q) = over_later k (down s B) q (omega (arith, is)) in
+        made_least (spot_at s q) (spot_at z q) whole up safe
+        (subst (λ (p : Spot). Made p (spot_at z q)) before
+        (subst (λ (i : ℕ). Made (spot_at o i) (spot_at z i)) (sym is) (settled_so o k).1))
+
+-- The second part of a write
+
+record Second (s z : MarksStore) (t : ℕ) : Type 0 where
+  cylinders : z.cylinders ≡ s.cylinders
+  queue : z.queue ≡ s.queue
+  half : z.half ≡ s.half
+  a : z.a ≡ s.a
+  shut : (takes_b z && stale_at z.b t) ≡ false
+  loose : is_loose z t ≡ is_loose s t
+  others : (q : ℕ) → q < tracks_of s → q ≢ t → weight_at z q ≤ weight_at s q
+
+told_falls : (k : ℕ) (s : MarksStore) → Had (all_firm_told by_plain k s) (λ z (_ : Unit {0}). Falls s z × ((q : ℕ) → spot_at z q ≡ spot_at s q))
+unfolding L.all_firm_told
+told_falls zero s = had_done (falls_self s, λ q. refl)
+told_falls (suc k) s =
+    had_then (told_falls k s)
+    (λ z _ g. had_if (owed_at z k).firm
+    (λ _. had_tell (had_done (record { cylinders = g.0.cylinders; queue = g.0.queue; half = g.0.half; a = g.0.a; b = g.0.b; held = g.0.held }, λ q. g.1 q)))
+    (λ _. had_done g))
+
+down_shut : (up held stale : Bool) → up ≡ false → ((up && not held) && stale) ≡ false
+down_shut true held stale e = absurd (cc)
+down_shut false held stale e = refl
+
+off_stale : (takes stale : Bool) → stale ≡ false → (takes && stale) ≡ false
+off_stale true stale e = e
+off_stale false stale e = refl
+
+off_takes : (takes stale : Bool) → takes ≡ false → (takes && stale) ≡ false
+off_takes true stale e = absurd (cc)
+off_takes false stale e = refl
+
+up_of : (up held : Bool) → (up && not held) ≡ true → up ≡ true
+up_of true held e = refl
+up_of false held e = absurd (cc)
+
+module _ (s : MarksStore) (t : ℕ) (paired : s.paired ≡ true) (whole : (q : ℕ) → q ≢ t → half_is s.half q ≡ false)
+    (safe : (q : ℕ) → q < tracks_of s → q ≢ t → IsSafe (spot_at s q)) where
+  failed_so : (n : ℕ) → takes_b s ≡ true → (b : Bool) → b ≡ true →
+      Had (if b then all_firm_told by_plain n (side_lost by_plain s B (Some t)) else Done s (tt {0})) (λ z (_ : Unit {0}). Second s z t)
+  unfolding L.side_lost
+  failed_so n is false e = absurd (cc)
+  failed_so n is true e =
+      let y = over (tracks_of s) (settled_but by_plain (Some t)) (down s B) in
+      let f = over_falls t (tracks_of s) (down s B) in
+      had_weaker (told_falls n y) (λ z _ g. record {
+        cylinders = g.0.cylinders ∙ f.cylinders;
+        queue = g.0.queue ∙ f.queue;
+        half = g.0.half ∙ f.half;
+        a = g.0.a ∙ f.a;
+        shut = down_shut z.b.up z.held (stale_at z.b t) (ap (λ (m : store.SideMarks). m.up) (g.0.b ∙ f.b));
+        loose = ap (λ (p : Spot). p.loose) (g.1 t ∙ over_own t (tracks_of s) (down s B));
+        others = λ q lt ne.
+            let same = ap weight (g.1 q) in
+            let less = over_least t (tracks_of s) s q ne (whole q ne) (up_of s.b.up s.held is) (safe q lt ne) in
+            omega (arith, same, less);
+      })
+
+-- the counts of calls count for nothing here
+again : (s : MarksStore) (t : ℕ) (z : MarksStore) → Second (W.write_counted s false) z t → Second s z t
+again s t z k = record {
+  cylinders = k.cylinders;
+  queue = k.queue;
+  half = k.half;
+  a = k.a;
+  shut = k.shut;
+  loose = k.loose;
+  others = k.others;
+}
+
+module _ (s : MarksStore) (t : ℕ) (paired : s.paired ≡ true) (whole : (q : ℕ) → q ≢ t → half_is s.half q ≡ false)
+    (safe : (q : ℕ) → q < tracks_of s → q ≢ t → IsSafe (spot_at s q)) where
+  tried_so : takes_b s ≡ true → (ok : Bool) → Had (tried_b by_plain t (W.write_counted s ok) ok) (λ z (_ : Unit {0}). Second s z t)
+  tried_so is true = had_done (record {
+    cylinders = refl;
+    queue = refl;
+    half = refl;
+    a = refl;
+    shut = off_stale (takes_b s) _ (false_at s.b.stale t);
+    loose = refl;
+    others = λ q lt ne. same_weight s (with_stale s B t false) q ((near_stale_b s t false).others q ne);
+  })
+  tried_so is false =
+      had_weaker (failed_so (W.write_counted s false) t paired whole safe (tracks_of s) is s.paired paired) (λ z _ k. again s t z k)
+
+  second_so : (r : Bool) → Had (write_second by_plain s t r) (λ z (_ : Unit {0}). Second s z t)
+  unfolding W.write_second
+  second_so r =
+      had_if (takes_b s) (λ is. had_write (λ ok. tried_so is ok))
+      (λ off. had_done (record {
+        cylinders = refl;
+        queue = refl;
+        half = refl;
+        a = refl;
+        shut = off_takes (takes_b s) (stale_at s.b t) off;
+        loose = refl;
+        others = λ q lt ne. as_least (weight_at s q) (weight_at s q) refl;
+      }))
+
+-- The write is done, or no side has it
+
+pub record Written (s z : MarksStore) (t : ℕ) : Type 0 where
+  pub near : Near s z t
+  pub a : z.a ≡ s.a
+  pub b : z.b ≡ s.b
+
+written_bared : (s x z : MarksStore) (t : ℕ) → Near s x t → x.a ≡ s.a → x.b ≡ s.b → x.loose ≡ s.loose → modified_by (frame_at x t) ≡ false → is_loose s t ≡ false →
+    Bared x z t → Written s z t × (works (spot_at z t) ≡ false)
+written_bared s x z t n a b loose clean firm k = (
+  record { near = near_on s x z t n k.near; a = k.a ∙ a; b = k.b ∙ b },
+  idle (is_lost z t) (frame_at z t) (is_some (patch_at z t)) (is_loose z t) (ap modified_by k.frame ∙ clean) k.bare
+      (ap (λ (l : List Bool). get_or l t false) (k.loose ∙ loose) ∙ firm),
+)
+
+modified_set : (l : List (Option Bool)) (t : ℕ) (x : Option Bool) → modified_by x ≡ false → is_some (get_or l t None) ≡ true → modified_by (get_or (set l t x) t None) ≡ false
+modified_set [] t x e some = absurd (cc)
+modified_set (y ∷ l) zero x e some = e
+modified_set (y ∷ l) (suc t) x e some = modified_set l t x e some
+
+write_is_done : (s : MarksStore) (t : ℕ) (i : Image) (bypass : Bool) → is_loose s t ≡ false →
+    Had (write_done by_plain s t i bypass) (λ z (_ : Unit {0}). Written s z t × (works (spot_at z t) ≡ false))
+unfolding W.write_done
+write_is_done s t i bypass firm =
+    had_if (is_some (frame_at s t))
+    (λ there. had_if bypass (λ _. had_ask (λ _. framed None refl there)) (λ _. had_ask (λ _. framed (Some false) refl there)))
+    (λ none. had_weaker (freed_so s t (patch_at s t) refl)
+    (λ z _ k. written_bared s s z t (near_self s t) refl refl refl (clean_off (frame_at s t) none) firm k))
+  where
+    framed : (f : Option Bool) → modified_by f ≡ false → is_some (frame_at s t) ≡ true →
+        Had (slot_freed by_plain (with_frame s t f) t (slot_in by_plain (patch_at s t))) (λ z (_ : Unit {0}). Written s z t × (works (spot_at z t) ≡ false))
+    framed f clean there =
+        had_weaker (freed_so (with_frame s t f) t (patch_at s t) refl)
+        (λ z _ k. written_bared s (with_frame s t f) z t (near_frame s t f) refl refl refl (modified_set s.frames t f clean there) firm k)
+
+-- at most what a stale side A leaves to copy
+done_copies : (a stale c k d e : Bool) → (k && d) ≡ false → one ((a && stale && c) || (k && d && e)) ≤ one (a && stale)
+done_copies true true true k d e shut = omega arith
+done_copies true true false true false e shut = omega arith
+done_copies true true false true true e shut = absurd (cc)
+done_copies true true false false d e shut = omega arith
+done_copies true false c true false e shut = omega arith
+done_copies true false c true true e shut = absurd (cc)
+done_copies true false c false d e shut = omega arith
+done_copies false stale c true false e shut = omega arith
+done_copies false stale c true true e shut = absurd (cc)
+done_copies false stale c false d e shut = omega arith
+
+if_least : (b : Bool) (n : ℕ) → (if b then n else 0) ≤ n
+if_least true n = omega arith
+if_least false n = omega arith
+
+absent_sides : (a stale b held b_stale : Bool) → ((b && not held) && b_stale) ≡ false → ((a && not stale) || (b && not b_stale)) ≡ false →
+    one a + one (b && not held) + one ((a && stale && (b && not b_stale)) || ((b && not held) && b_stale && (a && not stale))) ≤ one (a && stale)
+absent_sides true false b held b_stale shut off = absurd (cc)
+absent_sides true true true true true shut off = omega arith
+absent_sides true true true false true shut off = absurd (cc)
+absent_sides true true true held false shut off = absurd (cc)
+absent_sides true true false held b_stale shut off = omega arith
+absent_sides false stale true true true shut off = omega arith
+absent_sides false stale true false true shut off = absurd (cc)
+absent_sides false stale true held false shut off = absurd (cc)
+absent_sides false stale false held b_stale shut off = omega arith
+
+copies_same : (y v : MarksStore) (t : ℕ) → v.a ≡ y.a → v.b ≡ y.b → v.held ≡ y.held →
+    sides (spot_at v t) + one (copies (spot_at v t)) ≡ sides (spot_at y t) + one (copies (spot_at y t))
+copies_same y v t a b held =
+    ap (λ (m : store.SideMarks). let p = record (spot_at v t) { a = m.up; a_stale = stale_at m t } in sides p + one (copies p)) a
+    ∙ ap (λ (m : store.SideMarks). let p = record (spot_at v t) { a = y.a.up; a_stale = stale_at y.a t; b = m.up; b_stale = stale_at m t } in sides p + one (copies p)) b
+    ∙ ap (λ (h : Bool). let p = record (spot_at y t) { held = h } in sides p + one (copies p)) held
+
+only_copies : (y v : MarksStore) (t : ℕ) → v.a ≡ y.a → v.b ≡ y.b → v.held ≡ y.held → copies (spot_at v t) ≡ copies (spot_at y t)
+only_copies y v t a b held =
+    ap (λ (m : store.SideMarks). copies (record (spot_at v t) { a = m.up; a_stale = stale_at m t })) a
+    ∙ ap (λ (m : store.SideMarks). copies (record (spot_at v t) { a = y.a.up; a_stale = stale_at y.a t; b = m.up; b_stale = stale_at m t })) b
+    ∙ ap (λ (h : Bool). copies (record (spot_at y t) { held = h })) held
+
+written_on : (s z y : MarksStore) (t : ℕ) → Written s z t → Written z y t → Written s y t
+written_on s z y t f g = record { near = near_on s z y t f.near g.near; a = g.a ∙ f.a; b = g.b ∙ f.b }
+
+pub given_up : (s : MarksStore) (t : ℕ) (o : Option (Unit {0})) → Written s (L.gives_up s t (slot_in by_plain o)) t
+given_up s t None = record { near = near_self s t; a = refl; b = refl }
+given_up s t (Some p) = record {
+  near = record { cylinders = refl; queue = refl; half = refl; a = refl; b = refl; held = refl; others = (near_bare s t).others };
+  a = refl;
+  b = refl;
+}
+
+kept_written : (s : MarksStore) (t : ℕ) (i : Image) (o : Option Bool) → Written s (cut_kept by_plain s t i o) t
+kept_written s t i None = record { near = near_self s t; a = refl; b = refl }
+kept_written s t i (Some m) =
+    let z = with_frame s t (Some m) in
+    written_on s z _ t (record { near = near_frame s t (Some m); a = refl; b = refl }) (given_up z t (patch_at z t))
+
+pub left_written : (s : MarksStore) (t : ℕ) (i : Image) (origin : Origin) → Written s (left_by by_plain s t i origin) t
+left_written s t i (OfCommand bypass e) = record { near = near_self s t; a = refl; b = refl }
+left_written s t i (OfCut bypass) = kept_written s t i (frame_at s t)
+left_written s t i OfBackground = record { near = near_self s t; a = refl; b = refl }
+
+settled_written : (s : MarksStore) (t : ℕ) → Written s (settled by_plain s t) t
+settled_written s t = let k = (settled_so s t).0 in record { near = k.near; a = k.a; b = k.b }
+
+module _ (s : MarksStore) (h : store.HalfWrite (Unit {0})) (is : s.half ≡ Some h) where
+  mine : half_is s.half h.track ≡ true
+  mine = ap (λ (o : Option (store.HalfWrite (Unit {0}))). half_is o h.track) is ∙ own_is h.track
+
+  others_off : (q : ℕ) → q ≢ h.track → half_is s.half q ≡ false
+  others_off q ne = ap (λ (o : Option (store.HalfWrite (Unit {0}))). half_is o q) is ∙ not_own h.track q ne
+
+  closing_lower : (y v : MarksStore) → Second s y h.track → Written (closed y) v h.track →
+      weight_at v h.track ≤ one (y.a.up && stale_at y.a h.track) → Lower s v
+  closing_lower y v k g less =
+      lower_all s v (g.near.cylinders ∙ k.cylinders) (λ q lt. by_place q lt (cases_eq q h.track))
+      (let queued = ap length (g.near.queue ∙ k.queue) in
+      let shut = none_open v g.near.half in
+      let opens : one (is_some s.half) ≡ 1 = ap (λ (o : Option (store.HalfWrite (Unit {0}))). one (is_some o)) is in
+      omega (arith, queued, shut, opens))
+    where
+      by_place : (q : ℕ) → q < tracks_of s → ((q ≡ h.track) ⊎ (q ≢ h.track)) → weight_at v q ≤ weight_at s q
+      by_place q lt (inl here) =
+          let before = half_on (half_is s.half h.track) (one (s.a.up && stale_at s.a h.track)) (whole_weight (spot_at s h.track)) mine in
+          let same = ap (λ (m : store.SideMarks). one (m.up && stale_at m h.track)) k.a in
+          subst (λ (i : ℕ). weight_at v i ≤ weight_at s i) (sym here) (omega (arith, less, before, same))
+      by_place q lt (inr ne) =
+          let off = ap (λ (o : Option (store.HalfWrite (Unit {0}))). half_is o q) k.half ∙ others_off q ne in
+          let closed_is : spot_at (closed y) q ≡ spot_at y q = ap (λ (b : Bool). record (spot_at y q) { half = b }) (sym off) in
+          let same = ap weight (g.near.others q ne ∙ closed_is) in
+          let below = k.others q lt ne in
+          omega (arith, same, below)
+
+  done_lower : (y v : MarksStore) → Second s y h.track → Written (closed y) v h.track → works (spot_at v h.track) ≡ false → Lower s v
+  done_lower y v k g off =
+      let t = h.track in
+      let w = whole_at v t g.near.half in
+      let n = half_off (works (spot_at v t)) (sides (spot_at v t)) 0 off in
+      let same = ap one (only_copies (closed y) v t g.a g.b g.near.held) in
+      let least = done_copies y.a.up (stale_at y.a t) (y.b.up && not (stale_at y.b t)) (takes_b y) (stale_at y.b t) (y.a.up && not (stale_at y.a t)) k.shut in
+      closing_lower y v k g (omega (arith, w, n, same, least))
+
+  absent_lower : (y v : MarksStore) → Second s y h.track → Written (closed y) v h.track → has_level y h.track ≡ false → Lower s v
+  absent_lower y v k g off =
+      let t = h.track in
+      let w = whole_at v t g.near.half in
+      let n = if_least (works (spot_at v t)) (sides (spot_at v t)) in
+      let same = copies_same (closed y) v t g.a g.b g.near.held in
+      let least = absent_sides y.a.up (stale_at y.a t) y.b.up y.held (stale_at y.b t) k.shut off in
+      closing_lower y v k g (omega (arith, w, n, same, least))
+
+  finished_so : (y x : MarksStore) (i : Image) (bypass : Bool) → Second s y h.track → Written (closed y) x h.track → is_loose x h.track ≡ false →
+      Had (finished by_plain x h.track i bypass) (λ v (_ : Bool). Lower s v)
+  finished_so y x i bypass k g firm =
+      had_then (write_is_done x h.track i bypass firm)
+      (λ v _ d. had_done (done_lower y v k (written_on (closed y) x v h.track g d.0) d.1))
+
+  done_so : (y : MarksStore) (i : Image) (origin : Origin) → Second s y h.track → is_loose y h.track ≡ false →
+      Had (D.second_done by_plain (closed y) h.track i origin) (λ v (_ : Bool). Lower s v)
+  done_so y i (OfCommand bypass e) k firm =
+      had_tell (finished_so y _ i bypass k
+      (record { near = record { cylinders = refl; queue = refl; half = refl; a = refl; b = refl; held = refl; others = λ q ne. refl }; a = refl; b = refl }) firm)
+  done_so y i (OfCut bypass) k firm = finished_so y (closed y) i bypass k (record { near = near_self (closed y) h.track; a = refl; b = refl }) firm
+  done_so y i OfBackground k firm = finished_so y (closed y) i false k (record { near = near_self (closed y) h.track; a = refl; b = refl }) firm
+
+  by_level : (y : MarksStore) (i : Image) (origin : Origin) → Second s y h.track → is_loose y h.track ≡ false →
+      Had (second_by by_plain h.track i origin y) (λ v (_ : Bool). Lower s v)
+  by_level y i origin k firm =
+      had_if (has_level y h.track) (λ _. done_so y i origin k firm)
+      (λ off. had_done (absent_lower y (settled by_plain (left_by by_plain (closed y) h.track i origin) h.track) k
+      (written_on (closed y) (left_by by_plain (closed y) h.track i origin) _ h.track (left_written (closed y) h.track i origin)
+      (settled_written (left_by by_plain (closed y) h.track i origin) h.track)) off))
+
+  pub part_so : s.paired ≡ true → ((q : ℕ) → q < tracks_of s → q ≢ h.track → IsSafe (spot_at s q)) → is_loose s h.track ≡ false →
+      Had (second_part by_plain s h) (λ v (_ : Bool). Lower s v)
+  unfolding D.second_part
+  part_so paired safe firm =
+      had_then (second_so s h.track paired others_off safe true) (λ y _ k. by_level y _ h.origin k (k.loose ∙ firm))
