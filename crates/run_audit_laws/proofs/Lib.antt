@@ -62,3 +62,5 @@ mod RangedEnds
 mod FewDevices
 mod RangedLines
 mod RangedRuns
+mod RangedSteps
+mod RangedWork

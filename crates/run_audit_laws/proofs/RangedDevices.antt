@@ -8,12 +8,14 @@ use Rattle.subsystem_defs.specs.Beside.{loose_count}
 use Rattle.subsystem_defs.specs.Deeds.{device_in}
 use Rattle.subsystem_defs.specs.Promised.{HasPlainHistory}
 use Rattle.run_audit_laws.proofs.DeviceSizes.{Sized}
+use Rattle.run_audit_laws.proofs.RangedWork.{WorksOn}
 
 pub record Ranged (d : MarksDevice) : Type 0 where
   pub sized : Sized d
   pub plain : HasPlainHistory d
   pub loose : IsShort (loose_count d.store)
   pub number : IsShort d.store.number
+  pub works : WorksOn d
 
 found_ranged : (b : Bool) (d : MarksDevice) (o : Option MarksDevice) → Ranged d → IfSome o Ranged → IfSome (if b then Some d else o) Ranged
 found_ranged true d o r rest = r

@@ -9,7 +9,7 @@ use Rattle.report_text.specs.declared.answers.StartAnswer.TheVariants as start
 use Rattle.report_text.specs.declared.line.EndLine.{EndLine}
 use Rattle.report_text.specs.declared.line.ReportLine.{ReportLine}
 use Rattle.report_text.specs.declared.line.ReportLine.TheVariants as lines
-use Rattle.report_reading.specs.Ranges.{AreBytes, IsBack, IsOwner, IsShort, IsTrack}
+use Rattle.report_reading.specs.Ranges.{AreBytes, IsOwner, IsShort, IsTrack}
 
 pub record EndIsIn (e : EndLine) : Type 0 where
   pub index : IsShort e.index
@@ -32,8 +32,6 @@ RestIsIn (lines.Start path device answer) = RestOfStart answer
 RestIsIn (lines.End end) = EndIsIn end
 RestIsIn (lines.Data bytes) = IsBytes bytes
 RestIsIn (lines.Sense sense) = AreBytes 32 sense.bytes
-RestIsIn (lines.Half path device track) = IsTrack track
-RestIsIn (lines.Back device answer) = IsBack answer
 RestIsIn (lines.Loose device answer) = RestOfLoose answer
 RestIsIn (lines.Frame device track modified) = IsTrack track
 RestIsIn _ = Unit {0}
