@@ -57,6 +57,7 @@ mod OwnTexts
 mod DeviceSizes
 mod NamedEvents
 mod LooseNumbers
+mod RangedActs
 mod RangedDevices
 mod RangedEnds
 mod FewDevices

@@ -1,5 +1,5 @@
 -- A device of a run: what it is by itself is in its ranges, and its history is one of a plain device.
-use Rattle.std.proofs.Common.{◌≤◌, ◌==◌, ℕ, Bool, true, false, List, [], ◌∷◌, Option, Some, if◌then◌else◌, arith}
+use Rattle.std.proofs.Common.{◌≤◌, ◌<◌, ◌==◌, ℕ, Bool, true, false, List, [], ◌∷◌, Option, Some, if◌then◌else◌, arith}
 use Rattle.std.specs.Prelude.{All, IfSome}
 use Rattle.std.proofs.lemmas.List.Elements.{All-head, All-tail}
 use Rattle.device_defs.specs.Marks.{MarksDevice}
@@ -16,6 +16,7 @@ pub record Ranged (d : MarksDevice) : Type 0 where
   pub loose : IsShort (loose_count d.store)
   pub number : IsShort d.store.number
   pub works : WorksOn d
+  pub some : 0 < d.store.cylinders
 
 found_ranged : (b : Bool) (d : MarksDevice) (o : Option MarksDevice) → Ranged d → IfSome o Ranged → IfSome (if b then Some d else o) Ranged
 found_ranged true d o r rest = r

@@ -37,16 +37,18 @@ use Rattle.subsystem_defs.specs.declared.end.EventEnd.{EventEnd}
 use Rattle.subsystem_defs.specs.declared.end.EventEnd.TheVariants as ends
 use Rattle.subsystem_defs.specs.declared.event.Event.{Event}
 use Rattle.subsystem_defs.specs.declared.event.Event.TheVariants as events
-use Rattle.subsystem_defs.specs.Beside.{Hardened, LooseTold, Loosened, WentBack, behind_first, has_power, loose_count, loose_told, new_acts, new_items, power_told, told_act}
+use Rattle.subsystem_defs.specs.Beside.{acts_in, Hardened, LooseTold, Loosened, WentBack, behind_first, has_power, loose_count, loose_told, new_acts, new_items, power_told, told_act}
 use Rattle.subsystem_defs.specs.Deeds.{device_in}
 use Rattle.subsystem_defs.specs.Lines.{Asked, Once, Replace, Run, Settle, Unpair}
 use Rattle.subsystem_defs.specs.Promised.{empty_of}
 use Rattle.run_audit_laws.specs.Ranges.{RestIsIn, RestOfStart}
 use Rattle.run_audit_laws.proofs.NamedEvents.{Names}
+use Rattle.run_audit_laws.proofs.RangedActs.{ActOn, each_behind, history_on}
 use Rattle.run_audit_laws.proofs.RangedDevices.{Ranged, device_ranged, few_programs}
 use Rattle.run_audit_laws.proofs.RunEnds.{few_of}
 use Rattle.run_audit_laws.proofs.RangedEnds.{Answers, AnswersOnce, OrderIn}
 use Rattle.run_audit_laws.proofs.RangedSteps.{WorkAsked, WorkIn}
+use Rattle.run_audit_laws.proofs.RangedWork.{track_in_range}
 
 -- with what isn't shown of it, it is in its ranges
 abbrev pub Known : ReportLine → Type 0
@@ -179,10 +181,10 @@ module _ (xs : List MarksDevice) (all : All Ranged xs) where
 
 -- Beside it
 
--- how many went back, and the new number
+-- its track; or how many went back, and the new number
 abbrev TellsIn : LooseTold → Type 0
-TellsIn (Loosened t) = Unit {0}
-TellsIn (Hardened t) = Unit {0}
+TellsIn (Loosened t) = IsTrack t
+TellsIn (Hardened t) = IsTrack t
 TellsIn (WentBack count number) = IsShort count × IsShort number
 
 id_bytes : (n : ℕ) → IsShort n → AreBytes 2 (id_of n)
@@ -193,8 +195,8 @@ id_bytes n short = record { count = refl; each = each } where
   each (suc (suc i)) = omega arith
 
 one_loosed : (d : ℕ) → IsDevice d → (l : LooseTold) → TellsIn l → Known (loosed_line (loosed d l))
-one_loosed d k (Loosened t) i = λ r. (k, r)
-one_loosed d k (Hardened t) i = λ r. (k, r)
+one_loosed d k (Loosened t) i = λ r. (k, i)
+one_loosed d k (Hardened t) i = λ r. (k, i)
 one_loosed d k (WentBack count number) i = λ r. (k, (i.0, id_bytes number i.1))
 
 loosed_known : (d : ℕ) → IsDevice d → (ls : List LooseTold) → Each TellsIn ls → All Known (map loosed_line (map (loosed d) ls))
@@ -203,10 +205,13 @@ loosed_known d k (l ∷ ls) i =
     All-cons Known (loosed_line (loosed d l)) (map loosed_line (map (loosed d) ls)) (one_loosed d k l i.0) (loosed_known d k ls i.1)
 
 module _ (x y : MarksDevice) (r : Ranged x) (s : Ranged y) where
-  act_in : (act : Act) → TellsIn (told_act x.store y.store act)
-  act_in (Loosen t) = tt
-  act_in (Harden t) = tt
-  act_in CfwLost = (r.loose, s.number)
+  abbrev OnDevice : Act → Type 0
+  OnDevice act = ActOn y.store.cylinders s.some act
+
+  act_in : (act : Act) → OnDevice act → TellsIn (told_act x.store y.store act)
+  act_in (Loosen t) lt = track_in_range y.store.cylinders t s.sized.cylinders lt
+  act_in (Harden t) lt = track_in_range y.store.cylinders t s.sized.cylinders lt
+  act_in CfwLost lt = (r.loose, s.number)
 
   power_in : (lost : Bool) → Each TellsIn (power_told x.store y.store lost)
   power_in lost = by_test (lost && not (loose_count x.store == 0)) where
@@ -214,14 +219,20 @@ module _ (x y : MarksDevice) (r : Ranged x) (s : Ranged y) where
     by_test true = ((r.loose, s.number), tt)
     by_test false = tt
 
-  acts_in : (acts : List Act) (rest : List LooseTold) → Each TellsIn rest → Each TellsIn (map (told_act x.store y.store) acts ++ rest)
-  acts_in [] rest i = i
-  acts_in (act ∷ acts) rest i = (act_in act, acts_in acts rest i)
+  acts_told : (acts : List Act) → Each OnDevice acts → (rest : List LooseTold) → Each TellsIn rest →
+      Each TellsIn (map (told_act x.store y.store) acts ++ rest)
+  acts_told [] on rest i = i
+  acts_told (act ∷ acts) on rest i = (act_in act on.0, acts_told acts on.1 rest i)
+
+  new_on : Each OnDevice (new_acts x.history y.history)
+  new_on =
+      each_behind OnDevice (length (acts_in x.history)) (acts_in y.history)
+      (history_on y.store.cylinders s.some y.plans (empty_of y) y.history refl refl s.plain)
 
   loose_known : All Known (loose_lines x y)
   loose_known =
       loosed_known x.store.device r.sized.device (loose_told x y)
-      (acts_in (new_acts x.history y.history) (power_told x.store y.store (has_power (new_items x.history y.history)))
+      (acts_told (new_acts x.history y.history) new_on (power_told x.store y.store (has_power (new_items x.history y.history)))
       (power_in (has_power (new_items x.history y.history))))
 
 abbrev ItemHasPath : Item → Type 0

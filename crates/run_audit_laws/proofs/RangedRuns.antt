@@ -264,9 +264,10 @@ all_known (t ∷ ts) r f n m a o w =
 record Fit (d : MarksDevice) : Type 0 where
   sized : Sized d
   works : WorksOn d
+  some : 0 < d.store.cylinders
 
 fits : (d : MarksDevice) → Sized d → Good d → Fit d
-fits d s g = record { sized = s; works = works_on d g s }
+fits d s g = record { sized = s; works = works_on d g s; some = g.some }
 
 both_so : (d : MarksDevice) → Fit d → Plainly d → Ranged d
 both_so d f p = record {
@@ -275,6 +276,7 @@ both_so d f p = record {
   loose = count_short d p f.sized.cylinders;
   number = number_short d p;
   works = f.works;
+  some = f.some;
 }
 
 all_so : (ms : List Mounted) → AreSo Plainly ms → AreSo Sized ms → AreSo Good ms → All Ranged (map (λ (m : Mounted). m.device) ms)

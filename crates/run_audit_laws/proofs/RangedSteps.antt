@@ -1,9 +1,7 @@
 -- Each track that a step or a piece of work of a run tells of is in its range.
-use Rattle.std.proofs.Common.{◌≡◌, ◌≤◌, ◌<◌, ◌*◌, ◌∙◌, ℕ, Bool, true, false, List, Option, Some, None, is_some, refl, sym, subst}
+use Rattle.std.proofs.Common.{◌≡◌, ◌<◌, ◌∙◌, ℕ, Bool, true, false, List, Option, Some, None, is_some, refl, sym, subst}
 use Rattle.std.specs.Prelude.{All, IfSome, if◌then◌else◌}
 use Rattle.ckd_chain.specs.State.{ChainState}
-use Rattle.device_outside.specs.Told as T
-use Rattle.device_outside.specs.Told.{Told}
 use Rattle.device_defs.specs.declared.answers.Did.{Did}
 use Rattle.device_defs.specs.declared.answers.Stepped.{Stepped}
 use Rattle.device_defs.specs.Contents.{by_plain}
@@ -13,7 +11,7 @@ use Rattle.device_defs.specs.Marks.{MarksDevice}
 use Rattle.device_defs.specs.Store.{HalfWrite, tracks_of}
 use Rattle.device_laws.specs.InOrder.{AreBelow}
 use Rattle.device_laws.specs.Standing.{IsWithin}
-use Rattle.device_laws.proofs.Had.{Had, had_done, had_then, held}
+use Rattle.device_laws.proofs.Had.{had_done, had_then, held}
 use Rattle.device_laws.proofs.Sweeps.{all_queued, half_within}
 use Rattle.subsystem_defs.specs.declared.end.EventEnd.{EventEnd}
 use Rattle.subsystem_defs.specs.declared.end.EventEnd.TheVariants as ends
@@ -22,10 +20,9 @@ use Rattle.subsystem_defs.specs.declared.event.Event.TheVariants as events
 use Rattle.subsystem_defs.specs.Deeds as E
 use Rattle.subsystem_defs.specs.Deeds.{Asks, Ends, back, device_in, end_of, on_device, seconds, step}
 use Rattle.subsystem_defs.specs.Happening as H
-use Rattle.subsystem_defs.specs.Happening.{MarksDeed, Talk, happens, told_end}
-use Rattle.subsystem_defs.specs.Lines.{Asked, Logged, Once, Replace, Run, Settle, Unpair}
+use Rattle.subsystem_defs.specs.Happening.{MarksDeed, happens, told_end}
+use Rattle.subsystem_defs.specs.Lines.{Asked, Logged, Once, Run, Settle}
 use Rattle.subsystem_defs.specs.Subsystem.{Subsystem, devices_of}
-use Rattle.subsystem_laws.proofs.ChainRuns.{HasChainOn}
 use Rattle.subsystem_laws.proofs.GoodMarks.{Good, by_lent, within}
 use Rattle.subsystem_laws.proofs.RunLines.{AnyEvent, Goes}
 use Rattle.run_audit_laws.proofs.DeviceSizes.{Sized}

@@ -1,5 +1,5 @@
 -- The tracks that a step and a piece of work tell of are the device's: that of its half write, of its chain, of its queue, or the least that needs something.
-use Rattle.std.proofs.Common.{◌≡◌, ◌≤◌, ◌<◌, ◌+◌, ◌*◌, ◌||◌, zero, suc, ℕ, Bool, true, false, List, [], ◌∷◌, Option, Some, None, is_some, refl, sym, ap, subst, ◌∙◌, if◌then◌else◌, arith}
+use Rattle.std.proofs.Common.{◌≡◌, ◌≤◌, ◌<◌, ◌*◌, ◌||◌, zero, suc, ℕ, Bool, true, false, List, [], ◌∷◌, Option, Some, None, is_some, refl, sym, subst, if◌then◌else◌, arith}
 use Rattle.std.specs.Prelude.{IfSome}
 use Rattle.ckd_types.specs.declared.paths.Side.{Side}
 use Rattle.ckd_chain.specs.declared.progress.Progress.{Progress}
@@ -82,7 +82,7 @@ pub record WorksOn (d : MarksDevice) : Type 0 where
   pub chain : IfSome d.chain (IsWithin (tracks_of d.store))
 
 -- a track of a device with so many cylinders
-track_in_range : (k t : ℕ) → k ≤ 64 → t < k * 15 → IsTrack t
+pub track_in_range : (k t : ℕ) → k ≤ 64 → t < k * 15 → IsTrack t
 track_in_range k t small lt = omega (arith, small, lt)
 
 -- Whatever is done
