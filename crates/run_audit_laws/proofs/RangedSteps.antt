@@ -83,7 +83,8 @@ module _ (d : MarksDevice) (r : Ranged d) where
     by_run true = λ t. held true (had_then {q = λ _ o. EndIn o} (command_in d r.works) (λ z a h. had_done (step_end a h))) t
     by_run false = tt
 
-    by_half : (b : Bool) → FineWork (if b then seconds by_plain d else if is_some d.history.running then Asks d (E.may_end_by ends.Stepped (command by_plain d)) else Ends ends.Idle)
+    by_half : (b : Bool) → FineWork (if b then seconds by_plain d
+        else if is_some d.history.running then Asks d (E.may_end_by ends.Stepped (command by_plain d)) else Ends ends.Idle)
     by_half true = seconds_fine
     by_half false = by_run (is_some d.history.running)
 

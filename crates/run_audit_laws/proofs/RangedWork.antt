@@ -137,7 +137,8 @@ event_had : {A : Type 0} (P : A → Type 0) (d : MarksDevice) (body : MarksDevic
     ((z : MarksDevice) → WorksOn z → Had (body z) (λ y a. P a)) → Had (event by_plain d body) (λ y a. P a)
 event_had P d body w h =
     had_then (had_then (hear_keeps 960 d.store (begun d.store) (record { half = refl; queue = refl; cylinders = refl }))
-    (λ s _ k. h (record (event_begun d) { store = s }) (heard_works d s k w))) (λ y a p. had_then (any_had (ended by_plain (waiting_count by_plain d.store) y.store)) (λ z _ _. had_done p))
+    (λ s _ k. h (record (event_begun d) { store = s }) (heard_works d s k w)))
+    (λ y a p. had_then (any_had (ended by_plain (waiting_count by_plain d.store) y.store)) (λ z _ _. had_done p))
 
 -- The second part of a write
 
@@ -201,7 +202,8 @@ module _ (t : ℕ) (lt : IsTrack t) where
 
   saved_in : (s : MarksStore) (i : Image) (x : Did) (f : Option Side) → DidIn x → Had (saved by_plain s t i x f) (λ y a. MayDidIn a)
   saved_in s i x f h =
-      had_try (had_then (had_then (any_had (firm_first by_plain s t)) (λ z loose _. had_then (any_had (write_first by_plain z t (by_plain.bytes i))) (λ y w _. saved_by_in i x f loose w.fault y w.took h)))
+      had_try (had_then (had_then (any_had (firm_first by_plain s t))
+      (λ z loose _. had_then (any_had (write_first by_plain z t (by_plain.bytes i))) (λ y w _. saved_by_in i x f loose w.fault y w.took h)))
       (λ z e k. had_done k))
 
   recovered_image_in : (s : MarksStore) (g : Got Bool) (o : Option Image) → Had (recovered_image by_plain t s g o) (λ y a. MayDidIn a)
@@ -277,7 +279,9 @@ module _ (s : MarksStore) (small : s.cylinders ≤ 64) where
 
 pub background_in : (d : MarksDevice) → WorksOn d → Had (background by_plain d) (λ y a. MayDidIn a)
 unfolding V.background
-background_in d w = event_had MayDidIn d (λ z. and_then (work by_plain z.store) (λ s x. Done (with_store z s) x)) w (λ z k. had_then (work_in z.store k.cylinders k.queued) (λ s did h. had_done h))
+background_in d w =
+    event_had MayDidIn d (λ z. and_then (work by_plain z.store) (λ s x. Done (with_store z s) x)) w
+    (λ z k. had_then (work_in z.store k.cylinders k.queued) (λ s did h. had_done h))
 
 -- A command
 
@@ -328,10 +332,13 @@ module _ (k : ℕ) (small : k ≤ 64) where
 
   look_in : (chain : ChainState) (first t : ℕ) (s : MarksStore) → IsWithin (k * 15) chain → t < k * 15 → Had (look by_plain chain first t s) (λ y a. WentIn a)
   unfolding N.look
-  look_in chain first t s w lt = had_if (is_lost s t) (λ _. had_done tt) (λ _. had_then (any_had (image by_plain s (usage_of chain) t)) (λ z o _. looked_in chain first t w lt z o))
+  look_in chain first t s w lt =
+      had_if (is_lost s t) (λ _. had_done tt)
+      (λ _. had_then (any_had (image by_plain s (usage_of chain) t)) (λ z o _. looked_in chain first t w lt z o))
 
   abbrev Follows : ℕ → ℕ → Type 0
-  Follows n first = (chain : ChainState) (t : ℕ) (s : MarksStore) → IsWithin (k * 15) chain → t < k * 15 → Had (follow by_plain n first chain t s) (λ y a. TurnIn a)
+  Follows n first = (chain : ChainState) (t : ℕ) (s : MarksStore) → IsWithin (k * 15) chain → t < k * 15 →
+      Had (follow by_plain n first chain t s) (λ y a. TurnIn a)
 
   goes_in : (n first : ℕ) → Follows n first → (z : MarksStore) (o : Option Went) → WentIn o →
       Had (had_by (goes_on by_plain (follow by_plain n first)) z o) (λ y a. TurnIn a)
@@ -371,4 +378,6 @@ command_by_in d w None c on = had_done tt
 
 pub command_in : (d : MarksDevice) → WorksOn d → Had (command by_plain d) (λ y a. MayStepIn a)
 unfolding N.command
-command_in d w = had_try (event_had MayStepIn d (λ z. command_by by_plain z z.history.running z.chain) w (λ z k. command_by_in z k z.history.running z.chain k.chain))
+command_in d w =
+    had_try (event_had MayStepIn d (λ z. command_by by_plain z z.history.running z.chain) w
+    (λ z k. command_by_in z k z.history.running z.chain k.chain))
