@@ -57,6 +57,7 @@ mod OwnTexts
 mod DeviceSizes
 mod NamedEvents
 mod LooseNumbers
+mod RangedActs
 mod RangedDevices
 mod RangedEnds
 mod FewDevices
@@ -74,3 +75,5 @@ mod QueueRuns
 mod QueueKept
 mod SettleEnds
 mod InOrder
+mod RangedSteps
+mod RangedWork

@@ -1,5 +1,5 @@
 -- A device of a run: what it is by itself is in its ranges, and its history is one of a plain device.
-use Rattle.std.proofs.Common.{◌≤◌, ◌==◌, ℕ, Bool, true, false, List, [], ◌∷◌, Option, Some, if◌then◌else◌, arith}
+use Rattle.std.proofs.Common.{◌≤◌, ◌<◌, ◌==◌, ℕ, Bool, true, false, List, [], ◌∷◌, Option, Some, if◌then◌else◌, arith}
 use Rattle.std.specs.Prelude.{All, IfSome}
 use Rattle.std.proofs.lemmas.List.Elements.{All-head, All-tail}
 use Rattle.device_defs.specs.Marks.{MarksDevice}
@@ -8,12 +8,15 @@ use Rattle.subsystem_defs.specs.Beside.{loose_count}
 use Rattle.subsystem_defs.specs.Deeds.{device_in}
 use Rattle.subsystem_defs.specs.Promised.{HasPlainHistory}
 use Rattle.run_audit_laws.proofs.DeviceSizes.{Sized}
+use Rattle.run_audit_laws.proofs.RangedWork.{WorksOn}
 
 pub record Ranged (d : MarksDevice) : Type 0 where
   pub sized : Sized d
   pub plain : HasPlainHistory d
   pub loose : IsShort (loose_count d.store)
   pub number : IsShort d.store.number
+  pub works : WorksOn d
+  pub some : 0 < d.store.cylinders
 
 found_ranged : (b : Bool) (d : MarksDevice) (o : Option MarksDevice) → Ranged d → IfSome o Ranged → IfSome (if b then Some d else o) Ranged
 found_ranged true d o r rest = r

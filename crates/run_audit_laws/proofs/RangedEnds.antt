@@ -49,7 +49,7 @@ use Rattle.run_audit_laws.proofs.RangedDevices.{Ranged, device_ranged, few_progr
 -- An event's end, by what happens to the devices
 
 module _ (P : EventEnd → Type 0) (done : P ends.Done) (idle : P ends.Idle) where
-  abbrev Fine : MarksDeed → Type 0
+  abbrev pub Fine : MarksDeed → Type 0
   Fine (Ends end) = P end
   Fine (Becomes d end) = P end
   Fine (Asks d talk) = (t : Told) → P (told_end (T.hold true talk t).answer)
@@ -62,7 +62,7 @@ module _ (P : EventEnd → Type 0) (done : P ends.Done) (idle : P ends.Idle) whe
   asks_fine s n (Some m) talk h = h _
   asks_fine s n None talk h = idle
 
-  fine_end : (s : Subsystem) (x : MarksDeed) → Fine x → P (happens_by s x).end
+  pub fine_end : (s : Subsystem) (x : MarksDeed) → Fine x → P (happens_by s x).end
   fine_end s (Ends end) h = h
   fine_end s (Becomes d end) h = h
   fine_end s (Asks d talk) h = asks_fine s d.store.device (mounted_in s.mounted d.store.device) talk h
@@ -70,7 +70,7 @@ module _ (P : EventEnd → Type 0) (done : P ends.Done) (idle : P ends.Idle) whe
   fine_end s (Repairs pool) h = done
   fine_end s (Lends x y) h = done
 
-  on_fine : (o : Option MarksDevice) (f : MarksDevice → MarksDeed) → IfSome o Ranged → ((d : MarksDevice) → Ranged d → Fine (f d)) → Fine (on_device o f)
+  pub on_fine : (o : Option MarksDevice) (f : MarksDevice → MarksDeed) → IfSome o Ranged → ((d : MarksDevice) → Ranged d → Fine (f d)) → Fine (on_device o f)
   on_fine (Some d) f r h = h d r
   on_fine None f r h = done
 

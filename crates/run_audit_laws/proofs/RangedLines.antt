@@ -28,7 +28,7 @@ use Rattle.report_text.specs.declared.line.ReportLine.TheVariants as lines
 use Rattle.report_text.specs.declared.order.Order.TheVariants as orders
 use Rattle.report_text.specs.Ends.{data_lines, end_line, sense_lines}
 use Rattle.report_text.specs.Events.{first_lines, io_lines, last_line, line_if, loosed_line, program_over_lines}
-use Rattle.report_reading.specs.Ranges.{AreBytes, IsAnswer, IsDevice, IsLine, IsLong, IsOrder, IsOver, IsPath, IsShort, IsStart}
+use Rattle.report_reading.specs.Ranges.{AreBytes, IsAnswer, IsBack, IsDevice, IsLine, IsLong, IsOrder, IsOver, IsPath, IsShort, IsStart, IsTrack}
 use Rattle.run_report.specs.declared.told.RunningProgram.{RunningProgram}
 use Rattle.run_report.specs.Answers.{order_answer}
 use Rattle.run_report.specs.Beside.{how_over, id_of, loose_lines, loosed, of_each, over_lines, over_of, power_lines}
@@ -37,15 +37,18 @@ use Rattle.subsystem_defs.specs.declared.end.EventEnd.{EventEnd}
 use Rattle.subsystem_defs.specs.declared.end.EventEnd.TheVariants as ends
 use Rattle.subsystem_defs.specs.declared.event.Event.{Event}
 use Rattle.subsystem_defs.specs.declared.event.Event.TheVariants as events
-use Rattle.subsystem_defs.specs.Beside.{Hardened, LooseTold, Loosened, WentBack, behind_first, has_power, loose_count, loose_told, new_acts, new_items, power_told, told_act}
+use Rattle.subsystem_defs.specs.Beside.{acts_in, Hardened, LooseTold, Loosened, WentBack, behind_first, has_power, loose_count, loose_told, new_acts, new_items, power_told, told_act}
 use Rattle.subsystem_defs.specs.Deeds.{device_in}
 use Rattle.subsystem_defs.specs.Lines.{Asked, Once, Replace, Run, Settle, Unpair}
 use Rattle.subsystem_defs.specs.Promised.{empty_of}
 use Rattle.run_audit_laws.specs.Ranges.{RestIsIn, RestOfStart}
 use Rattle.run_audit_laws.proofs.NamedEvents.{Names}
+use Rattle.run_audit_laws.proofs.RangedActs.{ActOn, each_behind, history_on}
 use Rattle.run_audit_laws.proofs.RangedDevices.{Ranged, device_ranged, few_programs}
 use Rattle.run_audit_laws.proofs.RunEnds.{few_of}
 use Rattle.run_audit_laws.proofs.RangedEnds.{Answers, AnswersOnce, OrderIn}
+use Rattle.run_audit_laws.proofs.RangedSteps.{WorkAsked, WorkIn}
+use Rattle.run_audit_laws.proofs.RangedWork.{track_in_range}
 
 -- with what isn't shown of it, it is in its ranges
 abbrev pub Known : ReportLine → Type 0
@@ -60,8 +63,8 @@ HasPath r = IsPath r.path × IsShort r.ordinal
 abbrev HasNames : report.Happened → Type 0
 HasNames (did.Started path d a) = IsPath path × IsDevice d × (RestOfStart a → IsStart a)
 HasNames (did.Ended path d n e) = IsPath path × IsDevice d × IsShort n
-HasNames (did.Half path d t) = IsPath path × IsDevice d
-HasNames (did.Back d a) = IsDevice d
+HasNames (did.Half path d t) = IsPath path × IsDevice d × IsTrack t
+HasNames (did.Back d a) = IsDevice d × IsBack a
 HasNames (did.StepIdle d) = IsDevice d
 HasNames (did.RunIdle d) = IsDevice d
 HasNames (did.Reset path d) = IsPath path × IsDevice d
@@ -86,8 +89,8 @@ first_known (did.Ended path d n e) k =
     All-append Known (lines.End (end_line path d n e) ∷ []) (data_lines e.sent ++ sense_lines e.sense)
     (one (lines.End (end_line path d n e)) (end_known path d n e k.0 k.1 k.2))
     (All-append Known (data_lines e.sent) (sense_lines e.sense) (data_known e.sent) (sense_known e.sense))
-first_known (did.Half path d t) n = one (lines.Half path d t) (λ r. (n.0, n.1, r))
-first_known (did.Back d a) n = one (lines.Back d a) (λ r. (n, r))
+first_known (did.Half path d t) n = one (lines.Half path d t) (λ r. n)
+first_known (did.Back d a) n = one (lines.Back d a) (λ r. n)
 first_known (did.StepIdle d) n = one (lines.StepIdle d) (λ r. n)
 first_known (did.RunIdle d) n = one (lines.RunIdle d) (λ r. n)
 first_known (did.Reset path d) n = All-nil Known
@@ -108,25 +111,25 @@ module _ (d : ℕ) (k : IsDevice d) where
   end_names (Some r) p e = (p.0, k, p.1)
   end_names None p e = k
 
-  half_names : (r : Option RunningProgram) → IfSome r HasPath → (t : ℕ) → HasNames (half_told d r t)
-  half_names (Some r) p t = (p.0, k)
-  half_names None p t = k
+  half_names : (r : Option RunningProgram) → IfSome r HasPath → (t : ℕ) → IsTrack t → HasNames (half_told d r t)
+  half_names (Some r) p t lt = (p.0, k, lt)
+  half_names None p t lt = k
 
-  work_names : (r : Option RunningProgram) → IfSome r HasPath → (idle : report.Happened) → HasNames idle → (end : EventEnd) →
+  work_names : (r : Option RunningProgram) → IfSome r HasPath → (idle : report.Happened) → HasNames idle → (end : EventEnd) → WorkIn end →
       HasNames (work_told d r idle end)
-  work_names r p idle n (ends.Stepped (stepped.Ended e)) = end_names r p e
-  work_names r p idle n (ends.Stepped (stepped.Half t)) = half_names r p t
-  work_names r p idle n (ends.Second (seconds.Ended e)) = end_names r p e
-  work_names r p idle n (ends.Second (seconds.Finished t)) = k
-  work_names r p idle n (ends.Second (seconds.Unwritten t)) = k
-  work_names r p idle n (ends.Back x) = k
-  work_names r p idle n (ends.Started m) = n
-  work_names r p idle n (ends.NotStarted f) = n
-  work_names r p idle n ends.Running = n
-  work_names r p idle n ends.Idle = n
-  work_names r p idle n ends.Done = n
-  work_names r p idle n (ends.Pending m) = n
-  work_names r p idle n (ends.Refused f) = n
+  work_names r p idle n (ends.Stepped (stepped.Ended e)) o = end_names r p e
+  work_names r p idle n (ends.Stepped (stepped.Half t)) o = half_names r p t o
+  work_names r p idle n (ends.Second (seconds.Ended e)) o = end_names r p e
+  work_names r p idle n (ends.Second (seconds.Finished t)) o = (k, o)
+  work_names r p idle n (ends.Second (seconds.Unwritten t)) o = (k, o)
+  work_names r p idle n (ends.Back x) o = (k, o)
+  work_names r p idle n (ends.Started m) o = n
+  work_names r p idle n (ends.NotStarted f) o = n
+  work_names r p idle n ends.Running o = n
+  work_names r p idle n ends.Idle o = n
+  work_names r p idle n ends.Done o = n
+  work_names r p idle n (ends.Pending m) o = n
+  work_names r p idle n (ends.Refused f) o = n
 
 path_of_open : (d : MarksDevice) → Ranged d → (state : PlainState) (xs : List Item) (r : Option OpenEntry) → IfSome r (IsOpen d.plans state xs) →
     IfSome (option_map running_program r) HasPath
@@ -154,34 +157,34 @@ module _ (xs : List MarksDevice) (all : All Ranged xs) where
   path_in : (d : ℕ) → IfSome (running_in xs d) HasPath
   path_in d = running_path (device_in xs d) (device_ranged xs d all)
 
-  once_names : (end : EventEnd) (e : Event) → Names (Once e) → AnswersOnce e end → Repairs e end → HasNames (told xs end (Once e))
-  once_names end (events.Start path d) n a w = (n.0, n.1, a)
-  once_names end (events.Step d) n a w = work_names d n (running_in xs d) (path_in d) (did.StepIdle d) n end
-  once_names end (events.Back d) n a w = work_names d n (running_in xs d) (path_in d) (did.Back d back.Nothing) n end
-  once_names end (events.Reset path d) n a w = n
-  once_names end events.FailCache n a w = (tt, a)
-  once_names end events.FailStore n a w = (tt, a)
-  once_names end (events.FailVolume d side) n a w = (n, a)
-  once_names end events.RepairCache n a w = (tt, w)
-  once_names end events.RepairStore n a w = (tt, w)
-  once_names end (events.Pair x y) n a w = (n, a)
-  once_names end (events.Suspend x) n a w = (n, a)
-  once_names end (events.Resume x) n a w = (n, a)
-  once_names end events.Power n a w = (tt, a)
+  once_names : (end : EventEnd) (e : Event) → Names (Once e) → AnswersOnce e end → WorkAsked (Once e) end → Repairs e end → HasNames (told xs end (Once e))
+  once_names end (events.Start path d) n a o w = (n.0, n.1, a)
+  once_names end (events.Step d) n a o w = work_names d n (running_in xs d) (path_in d) (did.StepIdle d) n end o
+  once_names end (events.Back d) n a o w = work_names d n (running_in xs d) (path_in d) (did.Back d back.Nothing) (n, tt) end o
+  once_names end (events.Reset path d) n a o w = n
+  once_names end events.FailCache n a o w = (tt, a)
+  once_names end events.FailStore n a o w = (tt, a)
+  once_names end (events.FailVolume d side) n a o w = (n, a)
+  once_names end events.RepairCache n a o w = (tt, w)
+  once_names end events.RepairStore n a o w = (tt, w)
+  once_names end (events.Pair x y) n a o w = (n, a)
+  once_names end (events.Suspend x) n a o w = (n, a)
+  once_names end (events.Resume x) n a o w = (n, a)
+  once_names end events.Power n a o w = (tt, a)
 
-  told_names : (end : EventEnd) (asked : Asked) → Names asked → Answers asked end → RepairsIn asked end → HasNames (told xs end asked)
-  told_names end (Once e) n a w = once_names end e n a w
-  told_names end (Replace d side) n a w = (n, a)
-  told_names end (Unpair x) n a w = (n, a)
-  told_names end (Run d) n a w = work_names d n (running_in xs d) (path_in d) (did.RunIdle d) n end
-  told_names end (Settle d) n a w = work_names d n (running_in xs d) (path_in d) (did.Back d back.Nothing) n end
+  told_names : (end : EventEnd) (asked : Asked) → Names asked → Answers asked end → WorkAsked asked end → RepairsIn asked end → HasNames (told xs end asked)
+  told_names end (Once e) n a o w = once_names end e n a o w
+  told_names end (Replace d side) n a o w = (n, a)
+  told_names end (Unpair x) n a o w = (n, a)
+  told_names end (Run d) n a o w = work_names d n (running_in xs d) (path_in d) (did.RunIdle d) n end o
+  told_names end (Settle d) n a o w = work_names d n (running_in xs d) (path_in d) (did.Back d back.Nothing) (n, tt) end o
 
 -- Beside it
 
--- how many went back, and the new number
+-- its track; or how many went back, and the new number
 abbrev TellsIn : LooseTold → Type 0
-TellsIn (Loosened t) = Unit {0}
-TellsIn (Hardened t) = Unit {0}
+TellsIn (Loosened t) = IsTrack t
+TellsIn (Hardened t) = IsTrack t
 TellsIn (WentBack count number) = IsShort count × IsShort number
 
 id_bytes : (n : ℕ) → IsShort n → AreBytes 2 (id_of n)
@@ -192,8 +195,8 @@ id_bytes n short = record { count = refl; each = each } where
   each (suc (suc i)) = omega arith
 
 one_loosed : (d : ℕ) → IsDevice d → (l : LooseTold) → TellsIn l → Known (loosed_line (loosed d l))
-one_loosed d k (Loosened t) i = λ r. (k, r)
-one_loosed d k (Hardened t) i = λ r. (k, r)
+one_loosed d k (Loosened t) i = λ r. (k, i)
+one_loosed d k (Hardened t) i = λ r. (k, i)
 one_loosed d k (WentBack count number) i = λ r. (k, (i.0, id_bytes number i.1))
 
 loosed_known : (d : ℕ) → IsDevice d → (ls : List LooseTold) → Each TellsIn ls → All Known (map loosed_line (map (loosed d) ls))
@@ -202,10 +205,13 @@ loosed_known d k (l ∷ ls) i =
     All-cons Known (loosed_line (loosed d l)) (map loosed_line (map (loosed d) ls)) (one_loosed d k l i.0) (loosed_known d k ls i.1)
 
 module _ (x y : MarksDevice) (r : Ranged x) (s : Ranged y) where
-  act_in : (act : Act) → TellsIn (told_act x.store y.store act)
-  act_in (Loosen t) = tt
-  act_in (Harden t) = tt
-  act_in CfwLost = (r.loose, s.number)
+  abbrev OnDevice : Act → Type 0
+  OnDevice act = ActOn y.store.cylinders s.some act
+
+  act_in : (act : Act) → OnDevice act → TellsIn (told_act x.store y.store act)
+  act_in (Loosen t) lt = track_in_range y.store.cylinders t s.sized.cylinders lt
+  act_in (Harden t) lt = track_in_range y.store.cylinders t s.sized.cylinders lt
+  act_in CfwLost lt = (r.loose, s.number)
 
   power_in : (lost : Bool) → Each TellsIn (power_told x.store y.store lost)
   power_in lost = by_test (lost && not (loose_count x.store == 0)) where
@@ -213,14 +219,20 @@ module _ (x y : MarksDevice) (r : Ranged x) (s : Ranged y) where
     by_test true = ((r.loose, s.number), tt)
     by_test false = tt
 
-  acts_in : (acts : List Act) (rest : List LooseTold) → Each TellsIn rest → Each TellsIn (map (told_act x.store y.store) acts ++ rest)
-  acts_in [] rest i = i
-  acts_in (act ∷ acts) rest i = (act_in act, acts_in acts rest i)
+  acts_told : (acts : List Act) → Each OnDevice acts → (rest : List LooseTold) → Each TellsIn rest →
+      Each TellsIn (map (told_act x.store y.store) acts ++ rest)
+  acts_told [] on rest i = i
+  acts_told (act ∷ acts) on rest i = (act_in act on.0, acts_told acts on.1 rest i)
+
+  new_on : Each OnDevice (new_acts x.history y.history)
+  new_on =
+      each_behind OnDevice (length (acts_in x.history)) (acts_in y.history)
+      (history_on y.store.cylinders s.some y.plans (empty_of y) y.history refl refl s.plain)
 
   loose_known : All Known (loose_lines x y)
   loose_known =
       loosed_known x.store.device r.sized.device (loose_told x y)
-      (acts_in (new_acts x.history y.history) (power_told x.store y.store (has_power (new_items x.history y.history)))
+      (acts_told (new_acts x.history y.history) new_on (power_told x.store y.store (has_power (new_items x.history y.history)))
       (power_in (has_power (new_items x.history y.history))))
 
 abbrev ItemHasPath : Item → Type 0
@@ -303,9 +315,9 @@ module _ (reads writes : ℕ) (few : IsLong reads × IsLong writes) (xs ys : Lis
       (All-append Known io (overs ++ last) io_known
       (All-append Known overs last (each_known over_lines overs_known xs ys before behind) (last_known h n))))
 
-  pub event_known : (end : EventEnd) (asked : Asked) → Names asked → Answers asked end → RepairsIn asked end →
+  pub event_known : (end : EventEnd) (asked : Asked) → Names asked → Answers asked end → WorkAsked asked end → RepairsIn asked end →
       All Known (event_lines asked end reads writes xs ys)
-  event_known end asked n a w = by_asked asked (told_names xs before end asked n a w) where
+  event_known end asked n a o w = by_asked asked (told_names xs before end asked n a o w) where
     by_asked : (asked : Asked) → HasNames (told xs end asked) → All Known (event_lines asked end reads writes xs ys)
     by_asked (Once (events.Start path d)) h = work_known (told xs end (Once (events.Start path d))) h
     by_asked (Once (events.Step d)) h = work_known (told xs end (Once (events.Step d))) h

@@ -41,13 +41,14 @@ use Rattle.subsystem_laws.specs.Waits.{RepairsBy, TellsWaiting, repair_end, wait
 use Rattle.subsystem_laws.specs.Transfers.{AskedTransfers, BackBy, BackTransfers, EventTransfers, MovesByTable, RunTransfers, RunningTransfers, StepBy, StepTransfers}
 use Rattle.subsystem_laws.proofs.CalmRuns.{AllSo}
 use Rattle.subsystem_laws.proofs.FailedCalls.{read_run_reads_few, read_run_writes_few}
+use Rattle.subsystem_laws.proofs.GoodMarks.{Good, good_kept, opened_good}
 use Rattle.subsystem_laws.proofs.MovedRuns.{run_moves}
 use Rattle.subsystem_laws.proofs.PlainRuns.{Plainly, opened_plain, run_stays_plain}
 use Rattle.subsystem_laws.proofs.ReadDecks.{read_numbered, read_served}
 use Rattle.subsystem_laws.proofs.RunLines.{Logs, lines_keep}
 use Rattle.subsystem_laws.proofs.RunLinks.{Linked, lines_linked}
 use Rattle.subsystem_laws.proofs.Waiting.{run_tells_of_waiting}
-use Rattle.subsystem_laws.proofs.Walks.{AreSo, both_behind}
+use Rattle.subsystem_laws.proofs.Walks.{AreSo, both_behind, run_keeps}
 use Rattle.run_audit_laws.specs.Ranges.{RestIsIn}
 use Rattle.run_audit_laws.specs.Standing.{FramesAreDeclared, audited, stand}
 use Rattle.run_audit_laws.proofs.DeviceSizes.{Sized, first_sized, run_sized, sized_behind}
@@ -58,6 +59,8 @@ use Rattle.run_audit_laws.proofs.NamedEvents.{Names, run_names}
 use Rattle.run_audit_laws.proofs.RangedDevices.{Ranged, device_ranged}
 use Rattle.run_audit_laws.proofs.RangedEnds.{Answers, AnswersSo, OrderIn, answers_go}
 use Rattle.run_audit_laws.proofs.RangedLines.{Known, RepairsIn, event_known, one}
+use Rattle.run_audit_laws.proofs.RangedSteps.{WorkAsked, WorksSo, works_go, works_on}
+use Rattle.run_audit_laws.proofs.RangedWork.{WorksOn}
 
 -- The calls of an event
 
@@ -166,6 +169,15 @@ all_answer s (t ∷ ts) l g r =
     All-cons AnswersLogged t ts (g.0 (subst AllRanged l.0 (All-head BothRanged t ts r).0))
     (all_answer t.happened.behind ts l.1 g.1 (All-tail BothRanged t ts r))
 
+abbrev WorksLogged : Logged → Type 0
+WorksLogged t = WorkAsked t.asked t.happened.end
+
+all_work : (s : Subsystem) (ts : List Logged) → Linked s ts → Logs (λ s. Unit {0}) WorksSo s ts → All BothRanged ts → All WorksLogged ts
+all_work s [] l g r = All-nil WorksLogged
+all_work s (t ∷ ts) l g r =
+    All-cons WorksLogged t ts (g.0 (subst AllRanged l.0 (All-head BothRanged t ts r).0))
+    (all_work t.happened.behind ts l.1 g.1 (All-tail BothRanged t ts r))
+
 -- What a repair answers
 
 few_waiting : (k a b c : ℕ) → k ≤ 64 → a ≤ k * 15 → b ≤ c * 960 → a + b ≤ suc c * 960
@@ -222,6 +234,7 @@ pub record Shows (t : Logged) : Type 0 where
   pub names : NamesLogged t
   pub moves : MovesByTable t
   pub answers : AnswersLogged t
+  pub works : WorksLogged t
   pub waiting : TellsWaiting t
 
 one_known : (t : Logged) → Shows t → All Known (lines_of t)
@@ -229,12 +242,12 @@ one_known t k =
     let h = t.happened in
     let r = k.ranged in
     event_known h.reads h.writes (long_few h.reads h.writes (asked_calls h.reads h.writes t.asked h.before h.end r.0 k.moves)) (devices_of h.before)
-    (devices_of h.behind) r.0 r.1 h.end t.asked k.names k.answers (repairs_in t r.0 k.few k.waiting)
+    (devices_of h.behind) r.0 r.1 h.end t.asked k.names k.answers k.works (repairs_in t r.0 k.few k.waiting)
 
 all_known : (ts : List Logged) → All BothRanged ts → All IsFew ts → All NamesLogged ts → All MovesByTable ts → All AnswersLogged ts →
-    All TellsWaiting ts → All Known (flat_map lines_of ts)
-all_known [] r f n m a w = All-nil Known
-all_known (t ∷ ts) r f n m a w =
+    All WorksLogged ts → All TellsWaiting ts → All Known (flat_map lines_of ts)
+all_known [] r f n m a o w = All-nil Known
+all_known (t ∷ ts) r f n m a o w =
     All-append Known (lines_of t) (flat_map lines_of ts)
     (one_known t (record {
       ranged = All-head BothRanged t ts r;
@@ -242,22 +255,34 @@ all_known (t ∷ ts) r f n m a w =
       names = All-head NamesLogged t ts n;
       moves = All-head MovesByTable t ts m;
       answers = All-head AnswersLogged t ts a;
+      works = All-head WorksLogged t ts o;
       waiting = All-head TellsWaiting t ts w;
     }))
     (all_known ts (All-tail BothRanged t ts r) (All-tail IsFew t ts f) (All-tail NamesLogged t ts n) (All-tail MovesByTable t ts m)
-    (All-tail AnswersLogged t ts a) (All-tail TellsWaiting t ts w))
+    (All-tail AnswersLogged t ts a) (All-tail WorksLogged t ts o) (All-tail TellsWaiting t ts w))
 
-both_so : (d : MarksDevice) → Sized d → Plainly d → Ranged d
-both_so d s p = record {
-  sized = s;
+record Fit (d : MarksDevice) : Type 0 where
+  sized : Sized d
+  works : WorksOn d
+  some : 0 < d.store.cylinders
+
+fits : (d : MarksDevice) → Sized d → Good d → Fit d
+fits d s g = record { sized = s; works = works_on d g s; some = g.some }
+
+both_so : (d : MarksDevice) → Fit d → Plainly d → Ranged d
+both_so d f p = record {
+  sized = f.sized;
   plain = subst (λ (x : PlainState). IsPlain d.plans x d.history) p.follows.base p.follows.stands.plain;
-  loose = count_short d p s.cylinders;
+  loose = count_short d p f.sized.cylinders;
   number = number_short d p;
+  works = f.works;
+  some = f.some;
 }
 
-all_so : (ms : List Mounted) → AreSo Plainly ms → AreSo Sized ms → All Ranged (map (λ (m : Mounted). m.device) ms)
-all_so [] p s = All-nil Ranged
-all_so (m ∷ ms) p s = All-cons Ranged m.device (map (λ (x : Mounted). x.device) ms) (both_so m.device s.0 p.0) (all_so ms p.1 s.1)
+all_so : (ms : List Mounted) → AreSo Plainly ms → AreSo Sized ms → AreSo Good ms → All Ranged (map (λ (m : Mounted). m.device) ms)
+all_so [] p s g = All-nil Ranged
+all_so (m ∷ ms) p s g =
+    All-cons Ranged m.device (map (λ (x : Mounted). x.device) ms) (both_so m.device (fits m.device s.0 g.0) p.0) (all_so ms p.1 s.1 g.1)
 
 -- The end
 
@@ -355,7 +380,8 @@ module _ (s : Subsystem) (sized : AreSo Sized s.mounted) where
 module _ (text : List ℕ) (deck : DeckLines) (read : parsed text ≡ Ok deck) where
   first_ranged : AllRanged (opened deck)
   first_ranged =
-      all_so (opened deck).mounted (opened_plain deck deck.devices (read_served text deck read).devices) (first_sized text deck read)
+      let devices = (read_served text deck read).devices in
+      all_so (opened deck).mounted (opened_plain deck deck.devices devices) (first_sized text deck read) (opened_good deck deck.devices devices)
 
   events_known : All Known (lines_of_run (run_of deck))
   unfolding D.run_asked
@@ -363,11 +389,14 @@ module _ (text : List ℕ) (deck : DeckLines) (read : parsed text ≡ Ok deck) w
       let asked = map asked_by deck.events in
       let ts = run_lines asked (opened deck) in
       let linked = lines_linked asked (opened deck) in
+      let good = run_keeps Good good_kept asked (opened deck) (opened_good deck deck.devices (read_served text deck read).devices) in
       let ranged = both_ranged (opened deck) ts linked first_ranged
-      (both_behind Sized Plainly Ranged both_so ts (run_sized text deck read) (run_stays_plain deck (read_served text deck read)))
+      (both_behind Fit Plainly Ranged both_so ts (both_behind Sized Good Fit fits ts (run_sized text deck read) good)
+      (run_stays_plain deck (read_served text deck read)))
       in
       all_known ts ranged (run_has_few text deck read) (run_names text deck read) (run_moves deck)
       (all_answer (opened deck) ts linked (lines_keep (λ s. Unit {0}) AnswersSo answers_go asked (opened deck) tt) ranged)
+      (all_work (opened deck) ts linked (lines_keep (λ s. Unit {0}) WorksSo works_go asked (opened deck) tt) ranged)
       (run_tells_of_waiting deck (read_served text deck read) (read_numbered text deck read))
 
   pub report_known : All Known (report_lines (run_of deck))

@@ -1,15 +1,13 @@
 -- What isn't shown to be in its range of a line of a run's report. That its paths, devices and ordinals are is shown, and that all is of what orders
--- answer, of CFW LOST, of OVER and of STEP IDLE, RUN IDLE, RESET, IO, DEVICE and LOST.
+-- answer, of CFW, OVER, HALF, BACK, STEP IDLE, RUN IDLE, RESET, IO, DEVICE and LOST.
 use Rattle.std.specs.Prelude.{◌<◌}
 use Rattle.hex.specs.Hex.{IsBytes}
-use Rattle.report_text.specs.declared.answers.LooseAnswer.{LooseAnswer}
-use Rattle.report_text.specs.declared.answers.LooseAnswer.TheVariants as loose
 use Rattle.report_text.specs.declared.answers.StartAnswer.{StartAnswer}
 use Rattle.report_text.specs.declared.answers.StartAnswer.TheVariants as start
 use Rattle.report_text.specs.declared.line.EndLine.{EndLine}
 use Rattle.report_text.specs.declared.line.ReportLine.{ReportLine}
 use Rattle.report_text.specs.declared.line.ReportLine.TheVariants as lines
-use Rattle.report_reading.specs.Ranges.{AreBytes, IsBack, IsOwner, IsShort, IsTrack}
+use Rattle.report_reading.specs.Ranges.{AreBytes, IsOwner, IsShort, IsTrack}
 
 pub record EndIsIn (e : EndLine) : Type 0 where
   pub index : IsShort e.index
@@ -22,18 +20,10 @@ RestOfStart (start.Reserved owner) = IsOwner owner
 RestOfStart (start.Shut owner) = IsOwner owner
 RestOfStart _ = Unit {0}
 
-abbrev pub RestOfLoose : LooseAnswer → Type 0
-RestOfLoose (loose.Harden track) = IsTrack track
-RestOfLoose (loose.Loosen track) = IsTrack track
-RestOfLoose (loose.Lost count id) = Unit {0}
-
 abbrev pub RestIsIn : ReportLine → Type 0
 RestIsIn (lines.Start path device answer) = RestOfStart answer
 RestIsIn (lines.End end) = EndIsIn end
 RestIsIn (lines.Data bytes) = IsBytes bytes
 RestIsIn (lines.Sense sense) = AreBytes 32 sense.bytes
-RestIsIn (lines.Half path device track) = IsTrack track
-RestIsIn (lines.Back device answer) = IsBack answer
-RestIsIn (lines.Loose device answer) = RestOfLoose answer
 RestIsIn (lines.Frame device track modified) = IsTrack track
 RestIsIn _ = Unit {0}

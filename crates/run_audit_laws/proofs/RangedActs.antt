@@ -1,0 +1,319 @@
+-- A track that becomes loose or firm in a plain device's history is one of the device's.
+use Rattle.std.proofs.Common.{◌≡◌, ◌≤◌, ◌<◌, ◌+◌, ◌-◌, ◌*◌, ◌==◌, ◌++◌, zero, suc, ℕ, Bool, true, false, List, [], ◌∷◌, length, Option, Some, None, cond, refl, sym, ap, subst, ◌∙◌, inl, inr, arith}
+use Rattle.std.specs.Prelude.{◌⊎◌, IfSome, IsSome, not}
+use Rattle.std.proofs.lemmas.Bool.{cases_lt, eq-eqb, eqb-true}
+use Rattle.ckd_types.specs.declared.channel.Ccw.{Ccw}
+use Rattle.ckd_types.specs.declared.geometry.Geometry.{Geometry}
+use Rattle.ckd_types.specs.declared.record.Track.{Track}
+use Rattle.ckd_types.specs.Ccw.{ccw_at}
+use Rattle.ckd_types.specs.Fixed.{Fixed}
+use Rattle.ckd_rules.specs.declared.grouping.GroupFault.{GroupFault}
+use Rattle.ckd_rules.specs.declared.opening.Opening.{Opening}
+use Rattle.ckd_rules.specs.declared.opening.Opening.TheVariants as openings
+use Rattle.ckd_rules.specs.declared.order.LocalAct.{LocalAct}
+use Rattle.ckd_rules.specs.declared.order.LocalAct.TheVariants as acts
+use Rattle.ckd_rules.specs.declared.order.Look.{Look}
+use Rattle.ckd_rules.specs.declared.stance.Stance.{Stance}
+use Rattle.ckd_rules.specs.declared.turned.Turned.{Turned}
+use Rattle.ckd_rules.specs.declared.turned.Turned.TheVariants as turns
+use Rattle.ckd_rules.specs.Look.{look_on}
+use Rattle.ckd_rules.specs.Opening.{opening_of}
+use Rattle.ckd_rules.specs.Walk as W
+use Rattle.ckd_rules.specs.Walk.{TrackEdit, Walked, walk, walked}
+use Rattle.deck_text.proofs.DeckAgain.{Each}
+use Rattle.plain_defs.specs.declared.journal.Act.{Act}
+use Rattle.plain_defs.specs.declared.journal.Act.TheVariants.{CfwLost, Harden, Loosen}
+use Rattle.plain_defs.specs.declared.journal.Acted.{Acted}
+use Rattle.plain_defs.specs.declared.journal.How.{How}
+use Rattle.plain_defs.specs.declared.journal.How.TheVariants as hows
+use Rattle.plain_defs.specs.declared.journal.Item.{Item}
+use Rattle.plain_defs.specs.declared.journal.Item.TheVariants as items
+use Rattle.plain_defs.specs.Acts.{act_fault, act_outcome}
+use Rattle.plain_defs.specs.Effect.{Effect, acted_by, effect_by, effect_on}
+use Rattle.plain_defs.specs.Entry.{ProgramEntry}
+use Rattle.plain_defs.specs.History.{History, IsOpen, IsPlain, OpenEntry}
+use Rattle.plain_defs.specs.Journal.{Plans, effects_of, program_of, replay, replay_item}
+use Rattle.plain_defs.specs.Legal.{AreActs, AreInOrder, HasActs, HasEnds, IsLegalFrom, IsLegalItem, acts_stop, bare_part, edit_at, next_edit, track_of}
+use Rattle.plain_defs.specs.Loose.{act_done, is_loose_in, lost_by_power, without}
+use Rattle.plain_defs.specs.PlainState.{LooseTrack, PathsState, PlainState}
+use Rattle.plain_defs.specs.Program as G
+use Rattle.plain_defs.specs.Program.{Part, acted, acted_at, acts_at, acts_done, first_part, part_of, stepped, stepped_at}
+use Rattle.plain_defs.proofs.PartLemmas.{acted_beside, part_counts}
+use Rattle.device_laws.proofs.ChainTracks.{whole_cylinders}
+use Rattle.device_laws.proofs.OpenProgram.{part_is_acted, with_acts_state}
+use Rattle.subsystem_defs.specs.Beside.{acts_in, acts_of_entry, acts_of_item, acts_of_items, acts_running, behind_first}
+use Rattle.subsystem_laws.proofs.StancePlaces.{On, Opens, SeeksOn, look_leaves_on, opening_is_on}
+
+each_append : {X : Type 0} (P : X → Type 0) (xs ys : List X) → Each P xs → Each P ys → Each P (xs ++ ys)
+each_append P [] ys a b = b
+each_append P (x ∷ xs) ys a b = (a.0, each_append P xs ys a.1 b)
+
+pub each_behind : {X : Type 0} (P : X → Type 0) (n : ℕ) (xs : List X) → Each P xs → Each P (behind_first n xs)
+each_behind P zero xs a = a
+each_behind P (suc n) [] a = tt
+each_behind P (suc n) (x ∷ xs) a = each_behind P n xs a.1
+
+module _ (k : ℕ) (some : 0 < k) where
+  abbrev n : ℕ
+  n = k * 15
+
+  -- A command
+
+  record EditsOn (stance : Stance) (edit : Option TrackEdit) : Type 0 where
+    at : On n stance
+    edited : IfSome edit (λ e. e.track < n)
+
+  abbrev WalksOn : Walked → Type 0
+  WalksOn w = EditsOn w.outcome.stance w.edit
+
+  turned_on : (t : ℕ) → t < n → (on : Stance → Walked) (z : Stance) (turned : Turned) → On n z → WalksOn (on z) → WalksOn (walked t on z turned)
+  turned_on t lt on z (turns.Ended e) f rest = record { at = f; edited = tt }
+  turned_on t lt on z turns.Onward f rest = record { at = rest.at; edited = rest.edited }
+  turned_on t lt on z (turns.Edits edit e) f rest = record { at = f; edited = lt }
+
+  walk_on : (m : ℕ) (g : Geometry) (tracks : ℕ → Track) (start : Stance) (c : Ccw) (look : Look) (s : Stance) → On n start → SeeksOn n look → On n s →
+      WalksOn (walk m g tracks start c look s)
+  unfolding W.walk
+  walk_on zero g tracks start c look s first seek on = record { at = record { track = first.track; extent = first.extent }; edited = tt }
+  walk_on (suc m) g tracks start c look s first seek on =
+      let l = look_on g (tracks s.track) s c look in
+      let f = look_leaves_on n s on (whole_cylinders k) g (tracks s.track) c look seek in
+      turned_on s.track on.track (walk m g tracks start c look) l.stance l.turned f (walk_on m g tracks start c look l.stance first seek f)
+
+  abbrev HasEdit : Effect → Type 0
+  HasEdit e = EditsOn e.outcome.stance e.edit
+
+  outcome_on : (s : Stance) (c : Ccw) (bytes : List ℕ) (act : LocalAct) → On n s → On n (act_outcome s c bytes act).stance
+  outcome_on s c bytes (acts.SetGroup function id) on = record { track = on.track; extent = on.extent }
+  outcome_on s c bytes acts.Sense on = record { track = on.track; extent = on.extent }
+  outcome_on s c bytes acts.Reserve on = record { track = on.track; extent = on.extent }
+  outcome_on s c bytes acts.Release on = record { track = on.track; extent = on.extent }
+  outcome_on s c bytes acts.Steal on = record { track = on.track; extent = on.extent }
+  outcome_on s c bytes acts.SenseGroup on = record { track = on.track; extent = on.extent }
+  outcome_on s c bytes acts.SenseId on = record { track = on.track; extent = on.extent }
+
+  acted_edits : (f : Fixed) (paths : PathsState) (path : ℕ) (s : Stance) (c : Ccw) (act : LocalAct) (o : Option GroupFault) → On n s →
+      HasEdit (acted_by f paths path s c act o)
+  acted_edits f paths path s c act (Some fault) on = record { at = record { track = on.track; extent = on.extent }; edited = tt }
+  acted_edits f paths path s c act None on = record { at = outcome_on s c _ act on; edited = tt }
+
+  by_opening : (f : Fixed) (paths : PathsState) (tracks : ℕ → Track) (path : ℕ) (start : Stance) (c : Ccw) (z : Stance) (o : Opening) → On n start →
+      Opens n z o → HasEdit (effect_by f paths tracks path start c z o)
+  by_opening f paths tracks path start c z (openings.Over e) first on = record { at = on; edited = tt }
+  by_opening f paths tracks path start c z (openings.Looks look) first on =
+      let w = walk_on (f.cylinders * 15) f.geometry tracks start c look z first on.1 on.0 in record { at = w.at; edited = w.edited }
+  by_opening f paths tracks path start c z (openings.Asks act) first on = acted_edits f paths path start c act (act_fault paths path act) first
+
+  effect_edits : (f : Fixed) → f.cylinders ≡ k → (state : PlainState) (path : ℕ) (s : Stance) (c : Ccw) → On n s → HasEdit (effect_on f state path s c)
+  effect_edits f same state path s c on =
+      by_opening f state.paths _ path s c (opening_of f s c).stance (opening_of f s c).opening on (opening_is_on f s c k same on some)
+
+  -- Acts
+
+  abbrev pub ActOn : Act → Type 0
+  ActOn (Loosen t) = t < n
+  ActOn (Harden t) = t < n
+  ActOn CfwLost = Unit {0}
+
+  abbrev LooseOn : List LooseTrack → Type 0
+  LooseOn l = Each (λ (x : LooseTrack). x.track < n) l
+
+  loose_below : (l : List LooseTrack) (t : ℕ) → LooseOn l → is_loose_in l t ≡ true → t < n
+  loose_below [] t on is = absurd (cc)
+  loose_below (x ∷ l) t on is = by_test (x.track == t) refl is (loose_below l t on.1) where
+    by_test : (b : Bool) → (x.track == t) ≡ b → cond b true (is_loose_in l t) ≡ true → (is_loose_in l t ≡ true → t < n) → t < n
+    by_test true same is more = subst (λ (q : ℕ). q < n) (eqb-true x.track t same) on.0
+    by_test false other is more = more is
+
+  fewer_loose : (t : ℕ) (l : List LooseTrack) → LooseOn l → LooseOn (without t l)
+  fewer_loose t [] on = tt
+  fewer_loose t (x ∷ l) on = by_test (x.track == t) (fewer_loose t l on.1) where
+    by_test : (b : Bool) → LooseOn (without t l) → LooseOn (cond (not b) (x ∷ without t l) (without t l))
+    by_test true more = more
+    by_test false more = (on.0, more)
+
+  record StateOn (s : PlainState) : Type 0 where
+    cylinders : s.cylinders ≡ k
+    loose : LooseOn s.loose
+
+  record ActsOn (acts : List Act) (s : PlainState) : Type 0 where
+    each : Each ActOn acts
+    state : StateOn s
+
+  acts_on : (acts : List Act) (s : PlainState) (edited : Option ℕ) → StateOn s → IfSome edited (λ t. t < n) → AreActs s edited acts →
+      ActsOn acts (acts_done s acts)
+  acts_on [] s edited on at are = record { each = tt; state = on }
+  acts_on (Loosen t ∷ []) s edited on at are =
+      let lt : t < n = subst (λ (o : Option ℕ). IfSome o (λ q. q < n)) are.1 at in
+      record {
+        each = (lt, tt);
+        state = record { cylinders = on.cylinders; loose = each_append (λ (x : LooseTrack). x.track < n) s.loose _ on.loose (lt, tt) };
+      }
+  acts_on (Loosen t ∷ act ∷ acts) s edited on at are = absurd are
+  acts_on (Harden t ∷ acts) s edited on at are =
+      let rest = acts_on acts (act_done s (Harden t)) edited (record { cylinders = on.cylinders; loose = fewer_loose t s.loose on.loose }) at are.1 in
+      record { each = (loose_below s.loose t on.loose are.0, rest.each); state = rest.state }
+  acts_on (CfwLost ∷ acts) s edited on at are =
+      let rest = acts_on acts (act_done s CfwLost) edited (record { cylinders = on.cylinders; loose = tt }) at are.1 in
+      record { each = (tt, rest.each); state = rest.state }
+
+  -- A program
+
+  record PlaceOn (p : Part) : Type 0 where
+    fixed : p.fixed.cylinders ≡ k
+    at : On n p.stance
+
+  module _ (state : PlainState) (on : StateOn state) (path : ℕ) (ccws : List Ccw) (acts : List Acted) where
+    beside_place : (p : Part) → PlaceOn p → PlaceOn (acted acts p)
+    beside_place p f =
+        let b = acted_beside acts p in
+        record {
+          fixed = ap (λ (x : Fixed). x.cylinders) b.fixed ∙ f.fixed;
+          at = subst (On n) (sym b.stance) f.at;
+        }
+
+    stepped_place : (p : Part) (next : Option ℕ) → PlaceOn p → PlaceOn (stepped_at path ccws p next)
+    stepped_place p (Some i) f =
+        record { fixed = f.fixed; at = (effect_edits p.fixed f.fixed p.state path p.stance (ccw_at ccws i) f.at).at }
+    stepped_place p None f = f
+
+    part_place : (j : ℕ) → PlaceOn (part_of state path ccws acts j)
+    unfolding G.part_of
+    part_place zero =
+        beside_place (first_part state path ccws) (record { fixed = on.cylinders; at = record { track = omega (arith, some); extent = tt } })
+    part_place (suc j) =
+        let p = part_of state path ccws acts j in
+        beside_place (stepped path ccws p) (stepped_place p p.next (part_place j))
+
+    edit_on : (p : Part) (next : Option ℕ) → PlaceOn p → IfSome (edit_at path ccws p next) (λ e. e.track < n)
+    edit_on p (Some i) f = (effect_edits p.fixed f.fixed p.state path p.stance (ccw_at ccws i) f.at).edited
+    edit_on p None f = tt
+
+    tracked : (o : Option TrackEdit) → IfSome o (λ e. e.track < n) → IfSome (track_of o) (λ t. t < n)
+    tracked (Some e) lt = lt
+    tracked None lt = tt
+
+    record ActsAt (j : ℕ) : Type 0 where
+      edited : Option ℕ
+      below : IfSome edited (λ t. t < n)
+      are : AreActs (bare_part state path ccws acts j).state edited (acts_at acts j)
+
+    part_state : (j : ℕ) → ActsAt j → StateOn (bare_part state path ccws acts j).state → StateOn (part_of state path ccws acts j).state
+    part_state j a s =
+        let b = bare_part state path ccws acts j in
+        subst (λ (p : Part). StateOn p.state) (sym (part_is_acted path ccws state acts j)) (by_next b.next refl)
+      where
+        by_next : (o : Option ℕ) → (bare_part state path ccws acts j).next ≡ o → StateOn (acted_at acts (bare_part state path ccws acts j) o).state
+        by_next None is = s
+        by_next (Some i) is =
+            let b = bare_part state path ccws acts j in
+            let beside = acted_beside acts b in
+            let part = part_is_acted path ccws state acts j in
+            let runs : IsSome (part_of state path ccws acts j).next =
+            subst (λ (x : Option ℕ). IsSome x) (sym (ap (λ (p : Part). p.next) part ∙ beside.next ∙ is)) refl in
+            let many : length b.ends ≡ j =
+            ap length (sym (ap (λ (p : Part). p.ends) part ∙ beside.ends)) ∙ (part_counts path ccws acts state j).all runs in
+            subst StateOn (sym (with_acts_state (acts_at acts (length b.ends)) b))
+            (subst (λ (m : ℕ). StateOn (acts_done b.state (acts_at acts m))) (sym many)
+            (acts_on (acts_at acts j) b.state a.edited s a.below a.are).state)
+
+    stepped_state : (p : Part) (next : Option ℕ) → StateOn p.state → StateOn (stepped_at path ccws p next).state
+    stepped_state p (Some i) s = record { cylinders = s.cylinders; loose = s.loose }
+    stepped_state p None s = s
+
+    bare_state : (j : ℕ) → ((i : ℕ) → i < j → ActsAt i) → StateOn (bare_part state path ccws acts j).state
+    bare_state zero a = record { cylinders = on.cylinders; loose = on.loose }
+    bare_state (suc j) a =
+        let p = part_of state path ccws acts j in
+        stepped_state p p.next (part_state j (a j (omega arith)) (bare_state j (λ i lt. a i (omega (arith, lt)))))
+
+    module _ (m : ℕ) (h : HasActs state path ccws acts m) where
+      acts_below : (j : ℕ) → j < m → ActsAt j
+      acts_below j lt =
+          let p = part_of state path ccws acts j in record {
+            edited = track_of (next_edit path ccws p);
+            below = tracked (next_edit path ccws p) (edit_on p p.next (part_place j));
+            are = (h.points j lt).acts_are;
+          }
+
+      last_acts : ActsAt m
+      last_acts = record { edited = None; below = tt; are = h.last }
+
+      at_place : (j : ℕ) → (j < m) ⊎ (m ≤ j) → j ≤ m → ActsAt j
+      at_place j (inl lt) le = acts_below j lt
+      at_place j (inr more) le = let same : m ≡ j = omega (arith, more, le) in subst ActsAt same last_acts
+
+      each_at : (j : ℕ) → j ≤ m → Each ActOn (acts_at acts j)
+      each_at j le =
+          let a = at_place j (cases_lt j m) le in
+          (acts_on (acts_at acts j) (bare_part state path ccws acts j).state a.edited (bare_state j (λ i lt. acts_below i (omega (arith, lt, le))))
+          a.below a.are).each
+
+      behind_program : StateOn (part_of state path ccws acts m).state
+      behind_program = part_state m last_acts (bare_state m acts_below)
+
+  later_at : (a : Acted) (acts : List Acted) (j : ℕ) → Each ActOn (acts_at (a ∷ acts) j) → Each ActOn (acts_at acts j)
+  later_at a acts j = by_test (a.after == j) where
+    by_test : (b : Bool) → Each ActOn (cond b (a.act ∷ acts_at acts j) (acts_at acts j)) → Each ActOn (acts_at acts j)
+    by_test true all = all.1
+    by_test false all = all
+
+  first_at : (a : Acted) (acts : List Acted) → Each ActOn (acts_at (a ∷ acts) a.after) → ActOn a.act
+  first_at a acts all =
+      (subst (λ (b : Bool). Each ActOn (cond b (a.act ∷ acts_at acts a.after) (acts_at acts a.after))) (eq-eqb a.after a.after refl) all).0
+
+  entry_on : (m from stop : ℕ) (acts : List Acted) → stop ≤ suc m → AreInOrder from stop acts → ((j : ℕ) → j ≤ m → Each ActOn (acts_at acts j)) →
+      Each ActOn (acts_of_entry acts)
+  entry_on m from stop [] few order all = tt
+  entry_on m from stop (a ∷ acts) few order all =
+      let lt = order.1 in (
+        first_at a acts (all a.after (omega (arith, few, lt))),
+        entry_on m a.after stop acts few order.2 (λ j le. later_at a acts j (all j le)),
+      )
+
+  -- A history
+
+  module _ (plans : Plans) where
+    few_stops : (s : PlainState) (e : ProgramEntry) (how : How) → HasEnds plans s e how → acts_stop how e.ends ≤ suc (effects_of how e.ends)
+    few_stops s e hows.Full h = omega arith
+    few_stops s e (hows.Cut effect) h = let least = h.least in omega (arith, least)
+    few_stops s e hows.Checked h = omega arith
+
+    power_on : (s : PlainState) (l : List LooseTrack) → StateOn s → StateOn (lost_by_power s l)
+    power_on s [] on = on
+    power_on s (x ∷ l) on = record { cylinders = on.cylinders; loose = tt }
+
+    item_on : (s : PlainState) (earlier : List Item) (x : Item) (later : List Item) → StateOn s → IsLegalItem plans s earlier x later →
+        ActsOn (acts_of_item x) (replay_item plans s x)
+    item_on s earlier (items.Program e) later on l =
+        let m = effects_of e.how e.ends in
+        let ccws = program_of plans e.path e.ordinal in
+        let behind = behind_program s on e.path ccws e.acts m l.0.acts in
+        record {
+          each = entry_on m 0 (acts_stop e.how e.ends) e.acts (few_stops s e e.how l.0.ends) l.0.order (each_at s on e.path ccws e.acts m l.0.acts);
+          state = record { cylinders = behind.cylinders; loose = behind.loose };
+        }
+    item_on s earlier (items.Reset path) later on l = record { each = tt; state = record { cylinders = on.cylinders; loose = on.loose } }
+    item_on s earlier items.Fresh later on l = record { each = tt; state = record { cylinders = on.cylinders; loose = tt } }
+    item_on s earlier (items.Act act) later on l = acts_on (act ∷ []) s None on tt l
+    item_on s earlier items.Power later on l =
+        let behind = power_on s s.loose on in record { each = tt; state = record { cylinders = behind.cylinders; loose = behind.loose } }
+
+    items_on : (s : PlainState) (earlier xs : List Item) → StateOn s → IsLegalFrom plans s earlier xs → ActsOn (acts_of_items xs) (replay plans s xs)
+    items_on s earlier [] on l = record { each = tt; state = on }
+    items_on s earlier (x ∷ xs) on l =
+        let first = item_on s earlier x xs on l.0 in
+        let rest = items_on (replay_item plans s x) (earlier ++ x ∷ []) xs first.state l.1 in
+        record { each = each_append ActOn (acts_of_item x) (acts_of_items xs) first.each rest.each; state = rest.state }
+
+    running_on : (s : PlainState) (xs : List Item) (o : Option OpenEntry) → StateOn s → IfSome o (IsOpen plans s xs) → Each ActOn (acts_running o)
+    running_on s xs (Some o) on at =
+        let m = length o.ends in
+        entry_on m 0 (m + 1) o.acts (omega arith) at.order (each_at s on o.path (program_of plans o.path o.ordinal) o.acts m at.acts)
+    running_on s xs None on at = tt
+
+    pub history_on : (empty : PlainState) (h : History) → empty.cylinders ≡ k → empty.loose ≡ [] → IsPlain plans empty h → Each ActOn (acts_in h)
+    history_on empty h same none plain =
+        let first = items_on empty [] h.items (record { cylinders = same; loose = subst LooseOn (sym none) tt }) plain.legal in
+        each_append ActOn (acts_of_items h.items) (acts_running h.running) first.each
+        (running_on (replay plans empty h.items) h.items h.running first.state plain.at)
