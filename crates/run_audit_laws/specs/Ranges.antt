@@ -1,5 +1,5 @@
 -- What isn't shown to be in its range of a line of a run's report. That its paths, devices and ordinals are is shown, and that all is of what orders
--- answer, of CFW LOST, of OVER and of STEP IDLE, RUN IDLE, RESET, IO, DEVICE and LOST.
+-- answer, of CFW LOST, of OVER and of STEP IDLE, RUN IDLE, RESET, IO, DEVICE, LOST and FRAME.
 use Rattle.std.specs.Prelude.{◌<◌, ℕ}
 use Rattle.hex.specs.Hex.{IsBytes}
 use Rattle.report_text.specs.declared.answers.LooseAnswer.{LooseAnswer}
@@ -35,5 +35,4 @@ RestIsIn (lines.Sense sense) = AreBytes 32 sense.bytes
 RestIsIn (lines.Half path device track) = IsTrack track
 RestIsIn (lines.Back device answer) = IsBack answer
 RestIsIn (lines.Loose device answer) = RestOfLoose answer
-RestIsIn (lines.Frame device track modified) = IsTrack track
 RestIsIn _ = Unit {0}
