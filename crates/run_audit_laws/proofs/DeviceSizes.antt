@@ -69,7 +69,7 @@ replace_sized : (d : MarksDevice) (side : Side) → Sized d → Sized (replace d
 replace_sized d sides.A s = sized_as d (replace d sides.A) refl refl refl refl s
 replace_sized d sides.B s = sized_as d (replace d sides.B) refl refl refl refl s
 
-sized_kept : IsKept Sized AnyEvent
+pub sized_kept : IsKept Sized AnyEvent
 sized_kept = record {
   started = λ d path n may fault s. start_sized d path s;
   commanded = λ d o running whole s. stays d (command by_plain d) (kept d.store) refl refl refl (command_based by_plain d)

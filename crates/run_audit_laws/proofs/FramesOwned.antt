@@ -1,4 +1,4 @@
--- In a run each frame of the pool is of a device of the deck.
+-- In a run each frame of the pool is of a device of the deck, and of a track that the devices come to.
 use Rattle.std.proofs.Common.{
   ◌≡◌,
   ◌==◌,
@@ -67,7 +67,7 @@ use Rattle.device_outside.specs.Pool.{
   store_repaired,
   without,
 }
-use Rattle.device_outside.specs.Told as T
+use Rattle.device_outside.specs.Told as Heard
 use Rattle.device_outside.specs.Told.{Calls, Told, calls_of, hold, read_counted, read_fails, write_counted, write_fails}
 use Rattle.device_defs.specs.Command.{command}
 use Rattle.device_defs.specs.Contents.{by_plain}
@@ -111,8 +111,12 @@ use Rattle.subsystem_defs.specs.Happening.{
 use Rattle.subsystem_defs.specs.Lines.{Logged, asked_by, run_lines}
 use Rattle.subsystem_defs.specs.Refusals.{replace_fault, unpair_fault}
 use Rattle.subsystem_defs.specs.Subsystem.{Mounted, Subsystem, devices_of, mounted_in, number_of, unfailing}
-use Rattle.subsystem_laws.proofs.DeedWalk.{IsDeedwise, deed_is}
+use Rattle.subsystem_laws.proofs.DeedWalk.{IsDeedwise, Stands, deed_is}
 use Rattle.subsystem_laws.proofs.RunLines.{AnyEvent, Goes, lines_keep, logs_end}
+use Rattle.subsystem_laws.proofs.Walks.{AreSo, IsKept, device_so, event_so, mounted_so, replaced_so, unpaired_so}
+use Rattle.ckd_chain.specs.State.{ChainState}
+use Rattle.deck_text.proofs.DeckAgain.{Each as EachIs}
+use Rattle.run_audit_laws.proofs.NextTracks.{Comes}
 use Rattle.run_audit_laws.specs.Standing.{FramesAreDeclared, audited, stand}
 use Rattle.run_audit_laws.proofs.OwnCalls.{IsOwn, Own, own_ask, own_done, own_read, own_tell, own_then, own_try, own_write}
 use Rattle.run_audit_laws.proofs.OwnEvents.{background_own, command_own, lend_own, lose_own, power_own, reset_own, second_own}
@@ -124,10 +128,10 @@ abbrev pub IsOneOf : List ℕ → ℕ → Type 0
 IsOneOf [] n = ⊥
 IsOneOf (k ∷ ks) n = (k ≡ n) ⊎ IsOneOf ks n
 
-module _ (P : ℕ → Type 0) where
+module _ (P T : ℕ → Type 0) where
   abbrev pub AllOf : List Frame → Type 0
   AllOf [] = Unit {0}
-  AllOf (f ∷ fs) = P f.0.0 × AllOf fs
+  AllOf (f ∷ fs) = (P f.0.0 × T f.0.1) × AllOf fs
 
   removed_of : (test : ℕ × ℕ → Bool) (fs : List Frame) → AllOf fs → AllOf (remove_entry test fs)
   removed_of test [] a = tt
@@ -140,9 +144,9 @@ module _ (P : ℕ → Type 0) where
       cond_both (test f.0) ((f.0, m) ∷ fs) (f ∷ set_value test fs m) AllOf (λ _. (a.0, a.1)) (λ _. (a.0, set_of test fs m a.1))
 
   abbrev IsOf : Frame → Type 0
-  IsOf f = P f.0.0
+  IsOf f = P f.0.0 × T f.0.1
 
-  found_if : (b : Bool) (f : Frame) (o : Option Frame) → P f.0.0 → IfSome o IsOf → IfSome (cond b (Some f) o) IsOf
+  found_if : (b : Bool) (f : Frame) (o : Option Frame) → IsOf f → IfSome o IsOf → IfSome (cond b (Some f) o) IsOf
   found_if true f o p rest = p
   found_if false f o p rest = rest
 
@@ -162,7 +166,7 @@ module _ (P : ℕ → Type 0) where
   less_of fs None a = a
   less_of fs (Some f) a = removed_of (is_of f.0 f.1) fs a
 
-  wanted_of : (p : Pool) (d t : ℕ) → P d → AllOf p.frames → AllOf (frames_wanted p d t)
+  wanted_of : (p : Pool) (d t : ℕ) → P d × T t → AllOf p.frames → AllOf (frames_wanted p d t)
   wanted_of p d t own a =
       cond_both (is_listed p.frames d t) (in_front p.frames d t) (if grants p then ((d, t), false) ∷ less_frame p.frames (evicted p) else p.frames) AllOf
       (λ _. front_of p.frames d t a)
@@ -170,11 +174,11 @@ module _ (P : ℕ → Type 0) where
       (λ _. (own, less_of p.frames (evicted p) a)) (λ _. a))
 
   module _ (n : ℕ) (has : P n) where
-    after_of : (p : Pool) (call : Call) (a : AnswerTo call) → IsOwn n call → AllOf p.frames → AllOf (after p call a).frames
+    after_of : (p : Pool) (call : Call) (a : AnswerTo call) → IsOwn T n call → AllOf p.frames → AllOf (after p call a).frames
     unfolding O.after
     after_of p (NextNotice d) a own all = all
     after_of p (Touch d t) a own all = front_of p.frames d t all
-    after_of p (WantFrame d t) a own all = wanted_of p d t (subst P (sym own) has) all
+    after_of p (WantFrame d t) a own all = wanted_of p d t (subst P (sym own.0) has, own.1) all
     after_of p (SetModified d t) a own all = set_of (is_of d t) p.frames true all
     after_of p (SetClean d t) a own all = set_of (is_of d t) p.frames false all
     after_of p (DropFrame d t) a own all = removed_of (is_of d t) p.frames all
@@ -191,9 +195,9 @@ module _ (P : ℕ → Type 0) where
     write_of w sides.B all = all
 
     -- behind a device's own event
-    held_of : {S A : Type 0} {device : S → ℕ} {i : Interaction Bool Image S A} → Own device n i → (w : Told) → AllOf w.pool.frames →
+    held_of : {S A : Type 0} {device : S → ℕ} {i : Interaction Bool Image S A} → Own T device n i → (w : Told) → AllOf w.pool.frames →
         AllOf (hold true i w).told.pool.frames
-    unfolding T.hold
+    unfolding Heard.hold
     held_of (own_done e) w all = all
     held_of (own_try x) w all = held_of (x true) w all
     held_of (own_ask {call = call} own x) w all =
@@ -206,16 +210,16 @@ module _ (P : ℕ → Type 0) where
 
 -- Deeds
 
-abbrev OwnTalk : {A : Type 0} → MarksDevice → Talk A → Type 0
-OwnTalk d talk = Own (λ (z : MarksDevice). z.store.device) d.store.device talk
+module _ (P T : ℕ → Type 0) where
+  abbrev OwnTalk : {A : Type 0} → MarksDevice → Talk A → Type 0
+  OwnTalk d talk = Own T (λ (z : MarksDevice). z.store.device) d.store.device talk
 
-module _ (P : ℕ → Type 0) where
   abbrev KeepsFrames : Subsystem → MarksDeed → Type 0
   KeepsFrames s (Ends end) = Unit {0}
   KeepsFrames s (Becomes d end) = Unit {0}
   KeepsFrames s (Asks d talk) = OwnTalk d talk
-  KeepsFrames s (Each pool f) = (AllOf P s.pool.frames → AllOf P pool.frames) × ((d : MarksDevice) → OwnTalk d (f d))
-  KeepsFrames s (Repairs pool) = AllOf P s.pool.frames → AllOf P pool.frames
+  KeepsFrames s (Each pool f) = (AllOf P T s.pool.frames → AllOf P T pool.frames) × ((d : MarksDevice) → OwnTalk d (f d))
+  KeepsFrames s (Repairs pool) = AllOf P T s.pool.frames → AllOf P T pool.frames
   KeepsFrames s (Lends a b) = Unit {0}
 
   -- each device that is mounted has such a number
@@ -224,12 +228,12 @@ module _ (P : ℕ → Type 0) where
   AreSome (m ∷ ms) = P (number_of m) × AreSome ms
 
   swept_of : (f : MarksDevice → Talk (Unit {0})) → ((d : MarksDevice) → OwnTalk d (f d)) → (ms : List Mounted) → AreSome ms → (pool : Pool) →
-      AllOf P pool.frames → AllOf P (sweep f ms pool).pool.frames
+      AllOf P T pool.frames → AllOf P T (sweep f ms pool).pool.frames
   unfolding H.sweep
   swept_of f own [] has pool all = all
   swept_of f own (m ∷ ms) has pool all =
       swept_of f own ms has.1 (held_with pool m (f m.device)).told.pool
-      (held_of P (number_of m) has.0 (own m.device) (told_to pool m) all)
+      (held_of P T (number_of m) has.0 (own m.device) (told_to pool m) all)
 
   some_at : (ms : List Mounted) (n : ℕ) (m : Mounted) → mounted_in ms n ≡ Some m → AreSome ms → (P n) × (number_of m ≡ n)
   some_at [] n m is has = absurd (cc)
@@ -250,27 +254,27 @@ module _ (P : ℕ → Type 0) where
   joined_of s n volume (Some m) = refl
   joined_of s n volume None = refl
 
-  asks_of : (s : Subsystem) (d : MarksDevice) (talk : Talk (Option EventEnd)) → OwnTalk d talk → AreSome s.mounted → AllOf P s.pool.frames →
-      (o : Option Mounted) → mounted_in s.mounted d.store.device ≡ o → AllOf P (asks s d.store.device o talk).behind.pool.frames
+  asks_of : (s : Subsystem) (d : MarksDevice) (talk : Talk (Option EventEnd)) → OwnTalk d talk → AreSome s.mounted → AllOf P T s.pool.frames →
+      (o : Option Mounted) → mounted_in s.mounted d.store.device ≡ o → AllOf P T (asks s d.store.device o talk).behind.pool.frames
   asks_of s d talk own has all (Some m) there =
-      held_of P d.store.device (some_at s.mounted d.store.device m there has).0 own (told_to s.pool m) all
+      held_of P T d.store.device (some_at s.mounted d.store.device m there has).0 own (told_to s.pool m) all
   asks_of s d talk own has all None there = all
 
-  lends_of : (s : Subsystem) (a b : ℕ) → AreSome s.mounted → AllOf P s.pool.frames → (o : Option Mounted) → mounted_in s.mounted b ≡ o →
-      AllOf P (lends s a b o).pool.frames
+  lends_of : (s : Subsystem) (a b : ℕ) → AreSome s.mounted → AllOf P T s.pool.frames → (o : Option Mounted) → mounted_in s.mounted b ≡ o →
+      AllOf P T (lends s a b o).pool.frames
   lends_of s a b has all (Some m) there =
       let o = held_with s.pool m (lend by_plain m.device a) in
       let z = behind_outcome s b o in
       let found = some_at s.mounted b m there has in
-      subst (λ (p : Pool). AllOf P p.frames) (sym (joined_of z a o.told.a (mounted_in z.mounted a)))
-      (held_of P (number_of m) (subst P (sym found.1) found.0) (lend_own by_plain m.device a) (told_to s.pool m) all)
+      subst (λ (p : Pool). AllOf P T p.frames) (sym (joined_of z a o.told.a (mounted_in z.mounted a)))
+      (held_of P T (number_of m) (subst P (sym found.1) found.0) (lend_own T by_plain m.device a) (told_to s.pool m) all)
   lends_of s a b has all None there = all
 
-  happens_of : (s : Subsystem) (x : MarksDeed) → KeepsFrames s x → AreSome s.mounted → AllOf P s.pool.frames →
-      AllOf P (happens_by s x).behind.pool.frames
+  happens_of : (s : Subsystem) (x : MarksDeed) → KeepsFrames s x → AreSome s.mounted → AllOf P T s.pool.frames →
+      AllOf P T (happens_by s x).behind.pool.frames
   happens_of s (Ends end) h has all = all
   happens_of s (Becomes d end) h has all =
-      subst (λ (p : Pool). AllOf P p.frames) (sym (becomes_of s d.store.device d (mounted_in s.mounted d.store.device))) all
+      subst (λ (p : Pool). AllOf P T p.frames) (sym (becomes_of s d.store.device d (mounted_in s.mounted d.store.device))) all
   happens_of s (Asks d talk) h has all = asks_of s d talk h has all (mounted_in s.mounted d.store.device) refl
   happens_of s (Each pool f) h has all = swept_of f h.1 s.mounted has pool (h.0 all)
   happens_of s (Repairs pool) h has all = h all
@@ -280,102 +284,159 @@ module _ (P : ℕ → Type 0) where
   answered : {X Y : Type 0} (d : MarksDevice) (talk : Talk X) (f : X → Y) → OwnTalk d talk → OwnTalk d (and_then talk (λ z a. Done z (f a)))
   answered d talk f own = own_then (λ z a. Done z (f a)) own (λ z a. own_done refl)
 
-  repaired_of : (p q : Pool) (b : Bool) → q.frames ≡ p.frames → AllOf P p.frames → AllOf P (if b then q else p).frames
-  repaired_of p q true same all = subst (AllOf P) (sym same) all
+  repaired_of : (p q : Pool) (b : Bool) → q.frames ≡ p.frames → AllOf P T p.frames → AllOf P T (if b then q else p).frames
+  repaired_of p q true same all = subst (AllOf P T) (sym same) all
   repaired_of p q false same all = all
 
-  frames_keep : (s : Subsystem) → IsDeedwise s (KeepsFrames s)
-  frames_keep s = record {
-    ended = λ end. tt;
-    started = λ d x path fault. tt;
-    seconded = λ d x h is. answered d (second by_plain d) (λ a. Some (ends.Second a)) (second_own by_plain d);
-    commanded = λ d x whole o running. answered d (command by_plain d) (end_of ends.Stepped) (command_own by_plain d);
-    worked = λ d x whole. answered d (background by_plain d) (end_of ends.Back) (background_own by_plain d);
-    cut = λ d x path. answered d (reset by_plain d path) (λ a. Some (ends_done a)) (reset_own by_plain d path);
-    lost_cache = ((λ all. tt), λ d. lose_own by_plain d losses.Cache);
-    lost_store = ((λ all. all), λ d. lose_own by_plain d losses.Store);
-    lost_side = λ d x side fault. answered d (lose by_plain d (losses.Side side)) (λ a. Some (ends_done a)) (lose_own by_plain d (losses.Side side));
-    lost_power = ((λ all. tt), λ d. power_own by_plain d);
-    repaired_cache = λ all. repaired_of s.pool (record s.pool { cache_up = true }) (all_waiting s.pool == 0) refl all;
-    repaired_store = λ all. repaired_of s.pool (record s.pool { store_up = true }) (all_waiting s.pool == 0) refl all;
-    lent = λ x y z w fault. tt;
-    held = λ d x fault. tt;
-    resumed = λ d x fault. tt;
-  }
+  -- of devices of which this is so, whose commands and queues come to these tracks
+  module _ (In : ChainState → Type 0) (comes : Comes T In) (K : MarksDevice → Type 0)
+      (near : (d : MarksDevice) → K d → IfSome d.chain In × EachIs T d.store.queue) where
+    of_one : (s : Subsystem) → AreSo K s.mounted → (d : MarksDevice) → Stands s d → K d
+    of_one s all d x = subst (λ (o : Option MarksDevice). IfSome o K) x.found (device_so K s.mounted x.number all)
+
+    frames_keep : (s : Subsystem) → AreSo K s.mounted → IsDeedwise s (KeepsFrames s)
+    frames_keep s so = record {
+      ended = λ end. tt;
+      started = λ d x path fault. tt;
+      seconded = λ d x h is. answered d (second by_plain d) (λ a. Some (ends.Second a)) (second_own T by_plain d);
+      commanded = λ d x whole o running.
+          answered d (command by_plain d) (end_of ends.Stepped) (command_own T by_plain In comes d (near d (of_one s so d x)).0);
+      worked = λ d x whole.
+          answered d (background by_plain d) (end_of ends.Back) (background_own T by_plain d (near d (of_one s so d x)).1);
+      cut = λ d x path. answered d (reset by_plain d path) (λ a. Some (ends_done a)) (reset_own T by_plain d path);
+      lost_cache = ((λ all. tt), λ d. lose_own T by_plain d losses.Cache);
+      lost_store = ((λ all. all), λ d. lose_own T by_plain d losses.Store);
+      lost_side = λ d x side fault.
+          answered d (lose by_plain d (losses.Side side)) (λ a. Some (ends_done a)) (lose_own T by_plain d (losses.Side side));
+      lost_power = ((λ all. tt), λ d. power_own T by_plain d);
+      repaired_cache = λ all. repaired_of s.pool (record s.pool { cache_up = true }) (all_waiting s.pool == 0) refl all;
+      repaired_store = λ all. repaired_of s.pool (record s.pool { store_up = true }) (all_waiting s.pool == 0) refl all;
+      lent = λ x y z w fault. tt;
+      held = λ d x fault. tt;
+      resumed = λ d x fault. tt;
+    }
 
 -- Lines
 
-all_some : (ns : List ℕ) (ms : List Mounted) (P : ℕ → Type 0) → map (λ (t : Tie). t.number) (ties ms) ≡ ns → ((n : ℕ) → IsOneOf ns n → P n) →
-    AreSome P ms
-all_some ns [] P are has = tt
-all_some [] (m ∷ ms) P are has = absurd (cc)
-all_some (n ∷ ns) (m ∷ ms) P are has =
+all_some : (ns : List ℕ) (ms : List Mounted) (P T : ℕ → Type 0) → map (λ (t : Tie). t.number) (ties ms) ≡ ns → ((n : ℕ) → IsOneOf ns n → P n) →
+    AreSome P T ms
+all_some ns [] P T are has = tt
+all_some [] (m ∷ ms) P T are has = absurd (cc)
+all_some (n ∷ ns) (m ∷ ms) P T are has =
     let first : number_of m ≡ n = cc in
     let rest : map (λ (t : Tie). t.number) (ties ms) ≡ ns = cc in
-    (has (number_of m) (inl (sym first)), all_some ns ms P rest (λ k is. has k (inr is)))
+    (has (number_of m) (inl (sym first)), all_some ns ms P T rest (λ k is. has k (inr is)))
 
-module _ (ns : List ℕ) where
-  abbrev So : Subsystem → Type 0
-  So s = Tied ns (ties s.mounted) × AllOf (IsOneOf ns) s.pool.frames
+module _ (T : ℕ → Type 0) (In : ChainState → Type 0) (comes : Comes T In) (K : MarksDevice → Type 0) (kept : IsKept K AnyEvent)
+    (near : (d : MarksDevice) → K d → IfSome d.chain In × EachIs T d.store.queue) where
+  module _ (ns : List ℕ) where
+    abbrev So : Subsystem → Type 0
+    So s = Tied ns (ties s.mounted) × AreSo K s.mounted × AllOf (IsOneOf ns) T s.pool.frames
 
-  abbrev Shown : Subsystem → Logged → Type 0
-  Shown s t = Unit {0}
+    abbrev Shown : Subsystem → Logged → Type 0
+    Shown s t = Unit {0}
 
-  some_of : (s : Subsystem) → Tied ns (ties s.mounted) → AreSome (IsOneOf ns) s.mounted
-  some_of s t = all_some ns s.mounted (IsOneOf ns) t.numbers_are (λ n is. is)
+    some_of : (s : Subsystem) → Tied ns (ties s.mounted) → AreSome (IsOneOf ns) T s.mounted
+    some_of s t = all_some ns s.mounted (IsOneOf ns) T t.numbers_are (λ n is. is)
 
-  event_framed : (s : Subsystem) (e : Event) → So s → So (happens s e).behind
-  unfolding H.happens
-  event_framed s e q = (
-    event_tied ns s e q.0,
-    happens_of (IsOneOf ns) s (deed by_plain s.pool (devices_of s) e)
-        (deed_is s (KeepsFrames (IsOneOf ns) s) (frames_keep (IsOneOf ns) s) e) (some_of s q.0) q.1,
-  )
+    event_framed : (s : Subsystem) (e : Event) → So s → So (happens s e).behind
+    unfolding H.happens
+    event_framed s e q = (
+      event_tied ns s e q.0,
+      event_so K AnyEvent kept s q.1 e tt,
+      happens_of (IsOneOf ns) T s (deed by_plain s.pool (devices_of s) e)
+          (deed_is s (KeepsFrames (IsOneOf ns) T s) (frames_keep (IsOneOf ns) T In comes K near s q.1) e) (some_of s q.0) q.2,
+    )
 
-  replaced_pool : (s : Subsystem) (n : ℕ) (side : Side) (o : Option Mounted) → (replaced_at s n side unfailing o).behind.pool ≡ s.pool
-  replaced_pool s n side None = refl
-  replaced_pool s n side (Some m) = by_fault (replace_fault m.device side) where
-    by_fault : (f : Option OrderFault) → (replaced_by s n side unfailing m f).behind.pool ≡ s.pool
-    by_fault (Some fault) = refl
-    by_fault None = refl
+    replaced_pool : (s : Subsystem) (n : ℕ) (side : Side) (o : Option Mounted) → (replaced_at s n side unfailing o).behind.pool ≡ s.pool
+    replaced_pool s n side None = refl
+    replaced_pool s n side (Some m) = by_fault (replace_fault m.device side) where
+      by_fault : (f : Option OrderFault) → (replaced_by s n side unfailing m f).behind.pool ≡ s.pool
+      by_fault (Some fault) = refl
+      by_fault None = refl
 
-  unpaired_pool : (s : Subsystem) (n : ℕ) (o : Option Mounted) → (unpaired_at s n unfailing o).behind.pool ≡ s.pool
-  unpaired_pool s n None = refl
-  unpaired_pool s n (Some m) = by_fault (unpair_fault m.device) where
-    by_fault : (f : Option OrderFault) → (unpaired_by s n unfailing m f).behind.pool ≡ s.pool
-    by_fault (Some fault) = refl
-    by_fault None = refl
+    unpaired_pool : (s : Subsystem) (n : ℕ) (o : Option Mounted) → (unpaired_at s n unfailing o).behind.pool ≡ s.pool
+    unpaired_pool s n None = refl
+    unpaired_pool s n (Some m) = by_fault (unpair_fault m.device) where
+      by_fault : (f : Option OrderFault) → (unpaired_by s n unfailing m f).behind.pool ≡ s.pool
+      by_fault (Some fault) = refl
+      by_fault None = refl
 
-  frames_go : Goes So Shown AnyEvent
-  unfolding H.replaced H.unpaired
-  frames_go = record {
-    once = λ s e may q. (event_framed s e q, tt);
-    stepped = λ s d q. (event_framed s (events.Step d) q, tt);
-    idle = λ s d q. (q, tt);
-    backed = λ s d q. (event_framed s (events.Back d) q, tt);
-    replaces = λ s d side q. (
-      (
-        replaced_tied ns s d side (mounted_in s.mounted d) refl q.0,
-        subst (λ (p : Pool). AllOf (IsOneOf ns) p.frames) (sym (replaced_pool s d side (mounted_in s.mounted d))) q.1,
-      ),
-      tt,
-    );
-    unpairs = λ s a q. (
-      (
-        unpaired_tied ns s a (mounted_in s.mounted a) refl q.0,
-        subst (λ (p : Pool). AllOf (IsOneOf ns) p.frames) (sym (unpaired_pool s a (mounted_in s.mounted a))) q.1,
-      ),
-      tt,
-    );
-  }
+    same_frames : (p q : Pool) → p ≡ q → AllOf (IsOneOf ns) T q.frames → AllOf (IsOneOf ns) T p.frames
+    same_frames p q same all = subst (λ (x : Pool). AllOf (IsOneOf ns) T x.frames) (sym same) all
 
-run_so : (deck : DeckLines) → So (numbers_in deck) (run_of deck).behind
-unfolding D.run_asked
-run_so deck =
-    let ns = numbers_in deck in
-    let asked = map asked_by deck.events in
-    logs_end (So ns) (Shown ns) (opened deck) (run_lines asked (opened deck))
-    (lines_keep (So ns) (Shown ns) (frames_go ns) asked (opened deck) (opened_tied deck, tt))
+    frames_go : Goes So Shown AnyEvent
+    unfolding H.replaced H.unpaired
+    frames_go = record {
+      once = λ s e may q. (event_framed s e q, tt);
+      stepped = λ s d q. (event_framed s (events.Step d) q, tt);
+      idle = λ s d q. (q, tt);
+      backed = λ s d q. (event_framed s (events.Back d) q, tt);
+      replaces = λ s d side q. (
+        (
+          replaced_tied ns s d side (mounted_in s.mounted d) refl q.0,
+          replaced_so K AnyEvent kept s d side unfailing q.1 (mounted_in s.mounted d) (mounted_so K s.mounted d q.1),
+          same_frames (replaced_at s d side unfailing (mounted_in s.mounted d)).behind.pool s.pool (replaced_pool s d side (mounted_in s.mounted d)) q.2,
+        ),
+        tt,
+      );
+      unpairs = λ s a q. (
+        (
+          unpaired_tied ns s a (mounted_in s.mounted a) refl q.0,
+          unpaired_so K AnyEvent kept s a unfailing q.1 (mounted_in s.mounted a) (mounted_so K s.mounted a q.1),
+          same_frames (unpaired_at s a unfailing (mounted_in s.mounted a)).behind.pool s.pool (unpaired_pool s a (mounted_in s.mounted a)) q.2,
+        ),
+        tt,
+      );
+    }
+
+  pub run_so : (deck : DeckLines) → AreSo K (opened deck).mounted → So (numbers_in deck) (run_of deck).behind
+  unfolding D.run_asked
+  run_so deck first =
+      let ns = numbers_in deck in
+      let asked = map asked_by deck.events in
+      logs_end (So ns) (Shown ns) (opened deck) (run_lines asked (opened deck))
+      (lines_keep (So ns) (Shown ns) (frames_go ns) asked (opened deck) (opened_tied deck, first, tt))
+
+-- Any tracks
+
+abbrev Any : {X : Type 0} → X → Type 0
+Any x = Unit {0}
+
+any_comes : Comes Any Any
+any_comes = record { needs = λ chain t is e. tt; goes = λ chain i q is e. (tt, tt) }
+
+any_queued : (queue : List ℕ) → EachIs Any queue
+any_queued [] = tt
+any_queued (t ∷ ts) = (tt, any_queued ts)
+
+any_chain : (o : Option ChainState) → IfSome o Any
+any_chain (Some chain) = tt
+any_chain None = tt
+
+any_are : (ms : List Mounted) → AreSo Any ms
+any_are [] = tt
+any_are (m ∷ ms) = (tt, any_are ms)
+
+any_kept : IsKept Any AnyEvent
+any_kept = record {
+  started = λ d path n may fault s. tt;
+  commanded = λ d o running whole s t. tt;
+  seconded = λ d h is s t. tt;
+  worked = λ d whole s t. tt;
+  cut = λ d path s t. tt;
+  lost_cache = λ d s t. tt;
+  lost_store = λ d s t. tt;
+  lost_side = λ d side fault s t. tt;
+  lost_power = λ d s t. tt;
+  held = λ d fault s. tt;
+  resumed = λ d fault s. tt;
+  replaced = λ d side fault s. tt;
+  lent = λ x y fault r s t. tt;
+  joins = λ d free s. tt;
+  splits = λ d fault s. tt;
+  restored = λ d a is s. tt;
+}
 
 -- They are declared
 
@@ -395,14 +456,14 @@ declared_at (m ∷ ms) n (inr more) =
     declared_if (m.device.store.device == n) (outline_in (map outline_of (map audited (map (λ (x : Mounted). x.device) ms))) n)
     (outline_of (audited m.device)) (declared_at ms n more)
 
-all_declared : (s : Subsystem) (fs : List Frame) → AllOf (IsOneOf (map (λ (t : Tie). t.number) (ties s.mounted))) fs →
+all_declared : (s : Subsystem) (fs : List Frame) → AllOf (IsOneOf (map (λ (t : Tie). t.number) (ties s.mounted))) Any fs →
     All (λ (f : Frame). is_declared (outlines (stand s [])) f.0.0 ≡ true) fs
 all_declared s [] all = All-nil (λ (f : Frame). is_declared (outlines (stand s [])) f.0.0 ≡ true)
 all_declared s (f ∷ fs) all =
-    All-cons (λ (x : Frame). is_declared (outlines (stand s [])) x.0.0 ≡ true) f fs (declared_at s.mounted f.0.0 all.0) (all_declared s fs all.1)
+    All-cons (λ (x : Frame). is_declared (outlines (stand s [])) x.0.0 ≡ true) f fs (declared_at s.mounted f.0.0 all.0.0) (all_declared s fs all.1)
 
 pub frames_are_declared : (deck : DeckLines) → FramesAreDeclared (run_of deck).behind
 frames_are_declared deck =
     let s = (run_of deck).behind in
-    let q = run_so deck in
-    all_declared s s.pool.frames (subst (λ (ns : List ℕ). AllOf (IsOneOf ns) s.pool.frames) (sym q.0.numbers_are) q.1)
+    let q = run_so Any Any any_comes Any any_kept (λ d k. (any_chain d.chain, any_queued d.store.queue)) deck (any_are (opened deck).mounted) in
+    all_declared s s.pool.frames (subst (λ (ns : List ℕ). AllOf (IsOneOf ns) Any s.pool.frames) (sym q.0.numbers_are) q.2)

@@ -42,8 +42,10 @@ mod PowerTold
 mod PowerLines
 mod OwnCalls
 mod OwnParts
+mod NextTracks
 mod OwnEvents
 mod FramesOwned
+mod FrameTracks
 mod CommandCounts
 mod RunEnds
 mod DeckEvents

@@ -1,4 +1,4 @@
--- Each frame that a device wants is one of its own tracks: its calls, of how an event begins and ends, of the choice of a write, of what a write
+-- Each frame that a device wants is one of its own tracks, and of those that it comes to: its calls, of how an event begins and ends, of the choice of a write, of what a write
 -- that is done leaves and of what a miss does with its bytes.
 use Rattle.std.proofs.Common.{◌≡◌, ℕ, zero, suc, Bool, true, false, Option, Some, None, is_some, refl, subst, ◌∙◌}
 use Rattle.std.specs.Prelude.{◌==◌, ◌&&◌, if◌then◌else◌, length, nat_le, nat_lt}
@@ -36,60 +36,92 @@ use Rattle.device_defs.specs.Owed.{
   ended,
 }
 use Rattle.device_defs.specs.Store.{Store, no_debt, tracks_of, frame_at, patch_at, is_loose, owed_at, with_frame, with_owed}
+use Rattle.device_laws.proofs.Always as W
+use Rattle.device_laws.proofs.Always.{Always, Behind, always_ask, always_done, always_weaker}
 use Rattle.device_defs.specs.Writing as V
 use Rattle.device_defs.specs.Writing.{slot_freed, write_done}
 
--- the frame of a track of the device of this number
-abbrev pub IsOwn : ℕ → Call → Type 0
-IsOwn n (WantFrame d t) = d ≡ n
-IsOwn n call = Unit {0}
+-- the frame of one of these tracks of the device of this number
+abbrev pub IsOwn : (ℕ → Type 0) → ℕ → Call → Type 0
+IsOwn T n (WantFrame d t) = (d ≡ n) × T t
+IsOwn T n call = Unit {0}
 
 -- an interaction wants no other frames, and the device keeps its number
-pub data Own {R S A : Type 0} (device : S → ℕ) (n : ℕ) : Interaction R Image S A → Type 0 where
-  own_done : {s : S} {a : A} → device s ≡ n → Own device n (Done s a)
-  own_try : {k : Bool → Interaction R Image S A} → ((ok : Bool) → Own device n (k ok)) → Own device n (Try k)
-  own_ask : {call : Call} {k : AnswerTo call → Interaction R Image S A} → IsOwn n call → ((a : AnswerTo call) → Own device n (k a)) →
-      Own device n (Ask call k)
-  own_read : {side : Side} {t : ℕ} {k : Option R → Interaction R Image S A} → ((got : Option R) → Own device n (k got)) →
-      Own device n (Read side t k)
-  own_write : {side : Side} {t : ℕ} {r : R} {k : Bool → Interaction R Image S A} → ((ok : Bool) → Own device n (k ok)) →
-      Own device n (Write side t r k)
-  own_tell : {m : Message Image} {k : ReplyTo m → Interaction R Image S A} → ((r : ReplyTo m) → Own device n (k r)) → Own device n (Tell m k)
+pub data Own {R S A : Type 0} (T : ℕ → Type 0) (device : S → ℕ) (n : ℕ) : Interaction R Image S A → Type 0 where
+  own_done : {s : S} {a : A} → device s ≡ n → Own T device n (Done s a)
+  own_try : {k : Bool → Interaction R Image S A} → ((ok : Bool) → Own T device n (k ok)) → Own T device n (Try k)
+  own_ask : {call : Call} {k : AnswerTo call → Interaction R Image S A} → IsOwn T n call → ((a : AnswerTo call) → Own T device n (k a)) →
+      Own T device n (Ask call k)
+  own_read : {side : Side} {t : ℕ} {k : Option R → Interaction R Image S A} → ((got : Option R) → Own T device n (k got)) →
+      Own T device n (Read side t k)
+  own_write : {side : Side} {t : ℕ} {r : R} {k : Bool → Interaction R Image S A} → ((ok : Bool) → Own T device n (k ok)) →
+      Own T device n (Write side t r k)
+  own_tell : {m : Message Image} {k : ReplyTo m → Interaction R Image S A} → ((r : ReplyTo m) → Own T device n (k r)) → Own T device n (Tell m k)
 
-pub own_then : {R S T A B : Type 0} {device : S → ℕ} {other : T → ℕ} {n : ℕ} {i : Interaction R Image S A}
-    (f : S → A → Interaction R Image T B) → Own device n i → ((s : S) (a : A) → Own other (device s) (f s a)) → Own other n (and_then i f)
-own_then {other = other} f (own_done {s = s} {a = a} e) w = subst (λ (k : ℕ). Own other k (f s a)) e (w s a)
+pub own_then : {R S Z A B : Type 0} {T : ℕ → Type 0} {device : S → ℕ} {other : Z → ℕ} {n : ℕ} {i : Interaction R Image S A}
+    (f : S → A → Interaction R Image Z B) → Own T device n i → ((s : S) (a : A) → Own T other (device s) (f s a)) → Own T other n (and_then i f)
+own_then {T = T} {other = other} f (own_done {s = s} {a = a} e) w = subst (λ (k : ℕ). Own T other k (f s a)) e (w s a)
 own_then f (own_try x) w = own_try (λ ok. own_then f (x ok) w)
 own_then f (own_ask m x) w = own_ask m (λ a. own_then f (x a) w)
 own_then f (own_read x) w = own_read (λ got. own_then f (x got) w)
 own_then f (own_write x) w = own_write (λ ok. own_then f (x ok) w)
 own_then f (own_tell x) w = own_tell (λ r. own_then f (x r) w)
 
-pub own_if : {R S A : Type 0} {device : S → ℕ} {n : ℕ} (b : Bool) {i j : Interaction R Image S A} → Own device n i → Own device n j →
-    Own device n (if b then i else j)
+pub own_if : {R S A : Type 0} {T : ℕ → Type 0} {device : S → ℕ} {n : ℕ} (b : Bool) {i j : Interaction R Image S A} → Own T device n i → Own T device n j →
+    Own T device n (if b then i else j)
 own_if true x y = x
 own_if false x y = y
 
-pub own_tried : {R S A : Type 0} {device : S → ℕ} {n : ℕ} (s : S) (i : Interaction R Image S (Option A)) → device s ≡ n → Own device n i →
-    Own device n (tried s i)
+pub own_tried : {R S A : Type 0} {T : ℕ → Type 0} {device : S → ℕ} {n : ℕ} (s : S) (i : Interaction R Image S (Option A)) → device s ≡ n → Own T device n i →
+    Own T device n (tried s i)
 own_tried s i e x = own_try (λ ok. own_if ok x (own_done e))
 
 -- one, and then another unless memory was lacking
-pub own_had : {R S A B : Type 0} {device : S → ℕ} {n : ℕ} {i : Interaction R Image S (Option A)}
-    (f : S → A → Interaction R Image S (Option B)) → Own device n i → ((s : S) (a : A) → Own device (device s) (f s a)) → Own device n (and_had i f)
-own_had {S = S} {A = X} {device = device} f x w = own_then (had_by f) x by_answer
+pub own_had : {R S A B : Type 0} {T : ℕ → Type 0} {device : S → ℕ} {n : ℕ} {i : Interaction R Image S (Option A)}
+    (f : S → A → Interaction R Image S (Option B)) → Own T device n i → ((s : S) (a : A) → Own T device (device s) (f s a)) → Own T device n (and_had i f)
+own_had {S = S} {A = X} {T = T} {device = device} f x w = own_then (had_by f) x by_answer
   where
-    by_answer : (s : S) (o : Option X) → Own device (device s) (had_by f s o)
+    by_answer : (s : S) (o : Option X) → Own T device (device s) (had_by f s o)
     by_answer s (Some a) = w s a
     by_answer s None = own_done refl
+
+module _ {R S A : Type 0} {T : ℕ → Type 0} {device : S → ℕ} {Q : S → A → Type 0} where
+  -- one, and then another that stands on what holds behind the first
+  so_then : {Z B : Type 0} {other : Z → ℕ} {n : ℕ} {i : Interaction R Image S A} (f : S → A → Interaction R Image Z B) → Own T device n i →
+      Behind i Q → ((s : S) (a : A) → Q s a → Own T other (device s) (f s a)) → Own T other n (and_then i f)
+  unfolding W.Behind
+  so_then {other = other} f (own_done {s = s} {a = a} e) q w = subst (λ (k : ℕ). Own T other k (f s a)) e (w s a q)
+  so_then f (own_try x) q w = own_try (λ ok. so_then f (x ok) (q ok) w)
+  so_then f (own_ask m x) q w = own_ask m (λ a. so_then f (x a) (q a) w)
+  so_then f (own_read x) q w = own_read (λ got. so_then f (x got) (q got) w)
+  so_then f (own_write x) q w = own_write (λ ok. so_then f (x ok) (q ok) w)
+  so_then f (own_tell x) q w = own_tell (λ r. so_then f (x r) (q r) w)
+
+  pub own_so : {Z B : Type 0} {other : Z → ℕ} {n : ℕ} {i : Interaction R Image S A} (f : S → A → Interaction R Image Z B) → Own T device n i →
+      Always i Q → ((s : S) (a : A) → Q s a → Own T other (device s) (f s a)) → Own T other n (and_then i f)
+  own_so f x q w = so_then f x q.holds w
+
+-- behind an interaction of which nothing is asked
+module _ {R S A : Type 0} where
+  behind_any : (i : Interaction R Image S A) → Behind i (λ s a. Unit {0})
+  unfolding W.Behind
+  behind_any (Done s a) = tt
+  behind_any (Try k) = λ ok. behind_any (k ok)
+  behind_any (Ask call k) = λ a. behind_any (k a)
+  behind_any (Read side t k) = λ got. behind_any (k got)
+  behind_any (Write side t r k) = λ ok. behind_any (k ok)
+  behind_any (Tell m k) = λ r. behind_any (k r)
+
+  pub always_any : {i : Interaction R Image S A} → Always i (λ s a. Unit {0})
+  always_any {i = i} = record { holds = behind_any i }
 
 pub device_if : {F P H : Type 0} (b : Bool) (s z : Store F P H) {n : ℕ} → s.device ≡ n → z.device ≡ n → (if b then s else z).device ≡ n
 device_if true s z e f = e
 device_if false s z e f = f
 
-module _ {F P H R : Type 0} (c : Contents F P H R) where
+module _ {F P H R : Type 0} (T : ℕ → Type 0) (c : Contents F P H R) where
   abbrev pub Owns : {A : Type 0} → Store F P H → Interaction R Image (Store F P H) A → Type 0
-  Owns s i = Own (λ (z : Store F P H). z.device) s.device i
+  Owns s i = Own T (λ (z : Store F P H). z.device) s.device i
 
   -- the notices: a clean frame is dropped
   heard_own : (n : ℕ) (s : Store F P H) (note : Option ℕ) → ((z : Store F P H) → Owns z (hear c n z)) → Owns s (heard c (hear c n) s note)
@@ -104,6 +136,26 @@ module _ {F P H R : Type 0} (c : Contents F P H R) where
   unfolding O.hear
   hear_own zero s = own_done refl
   hear_own (suc n) s = own_ask tt (λ note. heard_own n s note (hear_own n))
+
+  -- and the queue stays
+  queue_if : (s : Store F P H) (t : ℕ) (b : Bool) → (if b then with_frame s t None else s).queue ≡ s.queue
+  queue_if s t true = refl
+  queue_if s t false = refl
+
+  abbrev pub KeepsQueue : {A : Type 0} → Store F P H → Interaction R Image (Store F P H) A → Type 0
+  KeepsQueue s i = Always i (λ z a. z.queue ≡ s.queue)
+
+  heard_queue : (n : ℕ) (s : Store F P H) (note : Option ℕ) → ((z : Store F P H) → KeepsQueue z (hear c n z)) →
+      KeepsQueue s (heard c (hear c n) s note)
+  heard_queue n s None more = always_done refl
+  heard_queue n s (Some t) more =
+      let z = if is_clean c (frame_at s t) then with_frame s t None else s in
+      always_weaker (more z) (λ y a e. e ∙ queue_if s t (is_clean c (frame_at s t)))
+
+  pub hear_queue : (n : ℕ) (s : Store F P H) → KeepsQueue s (hear c n s)
+  unfolding O.hear
+  hear_queue zero s = always_done refl
+  hear_queue (suc n) s = always_ask (λ note. heard_queue n s note (hear_queue n))
 
   -- what is told at the end: a debt is settled
   freed_own : (s : Store F P H) (o : Option ℕ) → Owns s (freed_told c s o)
@@ -173,8 +225,8 @@ module _ {F P H R : Type 0} (c : Contents F P H R) where
   granted_own : (s : Store F P H) (t : ℕ) (i : Image) (given : Bool) → Owns s (I.granted c s t i given)
   granted_own s t i given = own_if given (own_then (λ z _. Done z (Some (Has i))) (filled_own s t i) (λ z _. own_done refl)) (own_done refl)
 
-  loaded_own : (s : Store F P H) (t : ℕ) (i : Image) (mode : Mode) → Owns s (loaded c s t i mode)
-  loaded_own s t i mode = own_if (loads mode) (own_tried s _ refl (own_ask refl (λ given. granted_own s t i given))) (own_done refl)
+  loaded_own : (s : Store F P H) (t : ℕ) (i : Image) (mode : Mode) → T t → Owns s (loaded c s t i mode)
+  loaded_own s t i mode on = own_if (loads mode) (own_tried s _ refl (own_ask (refl, on) (λ given. granted_own s t i given))) (own_done refl)
 
   queued_device : (last : Option ℕ) (s : Store F P H) (t : ℕ) → (queued last s t).device ≡ s.device
   queued_device None s t = refl
@@ -183,12 +235,12 @@ module _ {F P H R : Type 0} (c : Contents F P H R) where
   ahead_device : (u : Usage) (s : Store F P H) (t : ℕ) → (ahead u s t).device ≡ s.device
   ahead_device u s t = device_if (is_sequential u.mode) _ _ (queued_device u.last _ _ ∙ queued_device u.last s _) refl
 
-  delivered_own : (u : Usage) (t : ℕ) (side : Side) (s : Store F P H) (o : Option Image) → Owns s (delivered c u t side s o)
-  delivered_own u t side s None = own_done refl
-  delivered_own u t side s (Some i) =
-      subst (λ (n : ℕ). Own (λ (z : Store F P H). z.device) n (loaded c (ahead u s t) t i u.mode)) (ahead_device u s t)
-      (loaded_own (ahead u s t) t i u.mode)
+  delivered_own : (u : Usage) (t : ℕ) (side : Side) (s : Store F P H) (o : Option Image) → T t → Owns s (delivered c u t side s o)
+  delivered_own u t side s None on = own_done refl
+  delivered_own u t side s (Some i) on =
+      subst (λ (n : ℕ). Own T (λ (z : Store F P H). z.device) n (loaded c (ahead u s t) t i u.mode)) (ahead_device u s t)
+      (loaded_own (ahead u s t) t i u.mode on)
 
-  pub missed_own : (u : Usage) (t : ℕ) (s : Store F P H) (g : Got R) (o : Option R) → Owns s (missed c u t s g o)
-  missed_own u t s g None = own_done refl
-  missed_own u t s g (Some r) = own_tried s _ refl (delivered_own u t g.side s (I.image_of c s t r))
+  pub missed_own : (u : Usage) (t : ℕ) (s : Store F P H) (g : Got R) (o : Option R) → T t → Owns s (missed c u t s g o)
+  missed_own u t s g None on = own_done refl
+  missed_own u t s g (Some r) on = own_tried s _ refl (delivered_own u t g.side s (I.image_of c s t r) on)

@@ -1,6 +1,6 @@
--- Each event of a device wants frames of its own tracks alone.
-use Rattle.std.proofs.Common.{◌≡◌, zero, suc, ℕ, Bool, true, false, [], Option, Some, None, refl, ap, ◌∙◌, ◌==◌}
-use Rattle.std.specs.Prelude.{if◌then◌else◌}
+-- Each event of a device wants frames of its own tracks alone, and of those that its commands and its queue come to.
+use Rattle.std.proofs.Common.{◌≡◌, zero, suc, ℕ, Bool, true, false, [], Option, Some, None, refl, sym, ap, subst, ◌∙◌, ◌==◌}
+use Rattle.std.specs.Prelude.{IfSome, if◌then◌else◌}
 use Rattle.ckd_chain.specs.declared.progress.Progress.{Progress}
 use Rattle.ckd_chain.specs.declared.progress.Progress.TheVariants as progresses
 use Rattle.ckd_chain.specs.declared.progress.Settled.TheVariants.{Equipment}
@@ -74,7 +74,24 @@ use Rattle.device_defs.specs.Outcomes.{Turn, ends_with, settles, checks, usage_o
 use Rattle.device_defs.specs.Owed.{hear, waiting_count}
 use Rattle.device_defs.specs.Store.{Origin, OfCommand, OfCut, OfBackground, HalfWrite, Store, has_loose, is_lost, tracks_of}
 use Rattle.device_laws.proofs.Based.{Base, swept_base, unframed_base, unpatched_base}
-use Rattle.run_audit_laws.proofs.OwnCalls.{Own, Owns, ended_own, hear_own, own_done, own_had, own_if, own_then, own_tried, own_try}
+use Rattle.deck_text.proofs.DeckAgain.{Each}
+use Rattle.device_defs.specs.Memory.{had_by}
+use Rattle.run_audit_laws.proofs.NextTracks.{Comes, Next, look_next}
+use Rattle.run_audit_laws.proofs.OwnCalls.{
+  Own,
+  Owns,
+  always_any,
+  ended_own,
+  hear_own,
+  hear_queue,
+  own_done,
+  own_had,
+  own_if,
+  own_so,
+  own_then,
+  own_tried,
+  own_try,
+}
 use Rattle.run_audit_laws.proofs.OwnParts.{cut_own, image_own, losing_own, second_own as second_part_own, work_own, write_own}
 use Rattle.device_laws.proofs.WholeEvents.{turned_same}
 
@@ -84,53 +101,56 @@ device_number d = d.store.device
 number : {x y : Base} → x ≡ y → x.device ≡ y.device
 number e = ap (λ (b : Base). b.device) e
 
-module _ {F P H R : Type 0} (c : Contents F P H R) where
+module _ {F P H R : Type 0} (T : ℕ → Type 0) (c : Contents F P H R) where
   -- A command from track to track
 
-  came_own : (chain : ChainState) (t : ℕ) (s : Store F P H) (took : Took) → Owns c s (came_of_write c chain t s took)
+  came_own : (chain : ChainState) (t : ℕ) (s : Store F P H) (took : Took) → Owns T c s (came_of_write c chain t s took)
   came_own chain t s took = own_done refl
 
-  went_own : (u : Usage) (first t : ℕ) (s : Store F P H) (i : Image) (chain : ChainState) (p : Progress) → Owns c s (went_by c u first t s i chain p)
+  went_own : (u : Usage) (first t : ℕ) (s : Store F P H) (i : Image) (chain : ChainState) (p : Progress) → Owns T c s (went_by c u first t s i chain p)
   went_own u first t s i chain (progresses.Ended e) = own_done refl
   went_own u first t s i chain (progresses.Need q) = own_done refl
   went_own u first t s i chain (progresses.Write q e) =
-      own_had (came_of_write c chain t) (write_own c s u first t i e) (λ z took. came_own chain t z took)
+      own_had (came_of_write c chain t) (write_own T c s u first t i e) (λ z took. came_own chain t z took)
   went_own u first t s i chain (progresses.Local act) = own_done refl
 
-  looked_own : (chain : ChainState) (first t : ℕ) (s : Store F P H) (i : Imaged) → Owns c s (looked c chain first t s i)
+  looked_own : (chain : ChainState) (first t : ℕ) (s : Store F P H) (i : Imaged) → Owns T c s (looked c chain first t s i)
   looked_own chain first t s (Has i) =
       own_tried s _ refl (went_own (usage_of chain) first t s i (stepped chain (Some i)).chain (stepped chain (Some i)).progress)
   looked_own chain first t s (NoBytes fault) = own_done refl
   looked_own chain first t s (BadTrack side) = own_done refl
 
-  look_own : (chain : ChainState) (first t : ℕ) (s : Store F P H) → Owns c s (look c chain first t s)
+  look_own : (chain : ChainState) (first t : ℕ) (s : Store F P H) → T t → Owns T c s (look c chain first t s)
   unfolding N.look
-  look_own chain first t s =
+  look_own chain first t s on =
       own_if (is_lost s t) (own_done refl)
-      (own_had (looked c chain first t) (image_own c s (usage_of chain) t) (λ z i. looked_own chain first t z i))
+      (own_had (looked c chain first t) (image_own T c s (usage_of chain) t on) (λ z i. looked_own chain first t z i))
 
-  goes_own : (next : ChainState → ℕ → Store F P H → Interaction R Image (Store F P H) (Option Turn)) →
-      ((chain : ChainState) (t : ℕ) (s : Store F P H) → Owns c s (next chain t s)) → (s : Store F P H) (w : Went) → Owns c s (goes_on c next s w)
-  goes_own next more s (Over turn) = own_done refl
-  goes_own next more s (On chain t) = more chain t s
+  module _ (In : ChainState → Type 0) (comes : Comes T In) where
+    further : (next : ChainState → ℕ → Store F P H → Interaction R Image (Store F P H) (Option Turn)) →
+        ((chain : ChainState) (t : ℕ) (s : Store F P H) → In chain → T t → Owns T c s (next chain t s)) → (s : Store F P H) (w : Option Went) →
+        Next T In comes c w → Owns T c s (had_by (goes_on c next) s w)
+    further next more s None x = own_done refl
+    further next more s (Some (Over turn)) x = own_done refl
+    further next more s (Some (On chain t)) x = more chain t s x.0 x.1
 
-  follow_own : (n first : ℕ) (chain : ChainState) (t : ℕ) (s : Store F P H) → Owns c s (follow c n first chain t s)
-  unfolding N.follow
-  follow_own zero first chain t s = own_done refl
-  follow_own (suc n) first chain t s =
-      own_had (goes_on c (follow c n first)) (look_own chain first t s)
-      (λ z w. goes_own (follow c n first) (λ chain q y. follow_own n first chain q y) z w)
+    follow_own : (n first : ℕ) (chain : ChainState) (t : ℕ) (s : Store F P H) → In chain → T t → Owns T c s (follow c n first chain t s)
+    unfolding N.follow
+    follow_own zero first chain t s is on = own_done refl
+    follow_own (suc n) first chain t s is on =
+        own_so (had_by (goes_on c (follow c n first))) (look_own chain first t s on) (look_next T In comes c chain first t s is)
+        (λ z w x. further (follow c n first) (λ next q y k l. follow_own n first next q y k l) z w x)
 
   -- Whole events
 
   abbrev pub OwnEvent : {A : Type 0} → Device F P H → Interaction R Image (Device F P H) A → Type 0
-  OwnEvent d i = Own (λ (z : Device F P H). z.store.device) d.store.device i
+  OwnEvent d i = Own T (λ (z : Device F P H). z.store.device) d.store.device i
 
   out_own : (d : Device F P H) (path : ℕ) (turn : Turn) → OwnEvent d (came_out c d path turn)
   out_own d path turn = own_done (ap (λ (x : Store F P H). x.device) (turned_same d path turn.chain turn.came))
 
   on_own : (d : Device F P H) (path : ℕ) (chain : ChainState) (s : Store F P H) (o : Option Turn) →
-      Own (λ (z : Device F P H). z.store.device) s.device (on_tracks c d path chain s o)
+      Own T (λ (z : Device F P H). z.store.device) s.device (on_tracks c d path chain s o)
   on_own d path chain s (Some turn) = out_own (with_store d s) path turn
   on_own d path chain s None = own_done refl
 
@@ -141,17 +161,21 @@ module _ {F P H R : Type 0} (c : Contents F P H R) where
   answered_own d path chain (progresses.Need q) = out_own d path (checks chain Equipment)
   answered_own d path chain (progresses.Write q e) = out_own d path (checks chain Equipment)
 
-  at_own : (d : Device F P H) (path : ℕ) (chain : ChainState) (o : Option ℕ) → OwnEvent d (command_at c d path chain o)
-  at_own d path chain (Some t) =
-      own_then (on_tracks c d path chain) (follow_own (tracks_of d.store) t chain t d.store) (λ s o. on_own d path chain s o)
-  at_own d path chain None =
-      own_try (λ ok. own_if ok (answered_own d path (stepped chain None).chain (stepped chain None).progress) (own_done refl))
+  module _ (In : ChainState → Type 0) (comes : Comes T In) where
+    at_own : (d : Device F P H) (path : ℕ) (chain : ChainState) (o : Option ℕ) → ((t : ℕ) → o ≡ Some t → T t) → In chain →
+        OwnEvent d (command_at c d path chain o)
+    at_own d path chain (Some t) needs is =
+        own_then (on_tracks c d path chain) (follow_own In comes (tracks_of d.store) t chain t d.store is (needs t refl))
+        (λ s o. on_own d path chain s o)
+    at_own d path chain None needs is =
+        own_try (λ ok. own_if ok (answered_own d path (stepped chain None).chain (stepped chain None).progress) (own_done refl))
 
-  by_own : (d : Device F P H) (o : Option OpenEntry) (k : Option ChainState) → OwnEvent d (command_by c d o k)
-  by_own d (Some o) (Some chain) =
-      own_if (has_loss o.acts) (out_own d o.path (checks chain Equipment)) (at_own d o.path chain (need_of chain))
-  by_own d (Some o) None = own_done refl
-  by_own d None k = own_done refl
+    by_own : (d : Device F P H) (o : Option OpenEntry) (k : Option ChainState) → IfSome k In → OwnEvent d (command_by c d o k)
+    by_own d (Some o) (Some chain) is =
+        own_if (has_loss o.acts) (out_own d o.path (checks chain Equipment))
+        (at_own d o.path chain (need_of chain) (λ t e. comes.needs chain t is e) is)
+    by_own d (Some o) None is = own_done refl
+    by_own d None k is = own_done refl
 
   command_ended_own : (d : Device F P H) (t : ℕ) (o : Option OpenEntry) (k : Option ChainState) (done : Bool) → OwnEvent d (command_ended c d t o k done)
   command_ended_own d t (Some o) (Some chain) done =
@@ -166,7 +190,7 @@ module _ {F P H R : Type 0} (c : Contents F P H R) where
 
   second_of_own : (d : Device F P H) (o : Option (HalfWrite H)) → OwnEvent d (second_of c d o)
   second_of_own d (Some h) =
-      own_then (λ s done. second_ended c (with_store d s) h.track h.origin done) (second_part_own c d.store h)
+      own_then (λ s done. second_ended c (with_store d s) h.track h.origin done) (second_part_own T c d.store h)
       (λ s done. second_ended_own (with_store d s) h.track h.origin done)
   second_of_own d None = own_done refl
 
@@ -175,33 +199,38 @@ module _ {F P H R : Type 0} (c : Contents F P H R) where
         OwnEvent d (quiet_event c d body)
     quiet_own d body x =
         own_then (event_ended c d) x
-        (λ y a. own_then (λ z _. Done (record y { store = z }) a) (ended_own c (waiting_count c d.store) y.store) (λ z _. own_done refl))
+        (λ y a. own_then (λ z _. Done (record y { store = z }) a) (ended_own T c (waiting_count c d.store) y.store) (λ z _. own_done refl))
 
-    event_own : (d : Device F P H) (body : Device F P H → Interaction R Image (Device F P H) A) → ((y : Device F P H) → OwnEvent y (body y)) →
+    event_own : (d : Device F P H) (body : Device F P H → Interaction R Image (Device F P H) A) →
+        ((s : Store F P H) → s.queue ≡ d.store.queue →
+        OwnEvent (record (event_begun d) { store = s }) (body (record (event_begun d) { store = s }))) →
         OwnEvent d (event c d body)
     event_own d body x =
         quiet_own d (λ z. and_then (hear c 960 z.store) (λ s _. body (record z { store = s })))
-        (own_then (λ s _. body (record (event_begun d) { store = s })) (hear_own c 960 (event_begun d).store) (λ s _. x (record (event_begun d) { store = s })))
+        (own_so (λ s _. body (record (event_begun d) { store = s })) (hear_own T c 960 (event_begun d).store) (hear_queue T c 960 (event_begun d).store)
+        (λ s _ e. x s e))
 
-  pub command_own : (d : Device F P H) → OwnEvent d (command c d)
+  pub command_own : (In : ChainState → Type 0) → Comes T In → (d : Device F P H) → IfSome d.chain In → OwnEvent d (command c d)
   unfolding N.command
-  command_own d = own_tried d _ refl (event_own d (λ z. command_by c z z.history.running z.chain) (λ y. by_own y y.history.running y.chain))
+  command_own In comes d is =
+      own_tried d _ refl (event_own d (λ z. command_by c z z.history.running z.chain)
+      (λ s e. by_own In comes (record (event_begun d) { store = s }) d.history.running d.chain is))
 
   pub second_own : (d : Device F P H) → OwnEvent d (second c d)
   unfolding E.second
-  second_own d = event_own d (λ z. second_of c z z.store.half) (λ y. second_of_own y y.store.half)
+  second_own d = event_own d (λ z. second_of c z z.store.half) (λ s e. second_of_own (record (event_begun d) { store = s }) s.half)
 
-  pub background_own : (d : Device F P H) → OwnEvent d (background c d)
+  pub background_own : (d : Device F P H) → Each T d.store.queue → OwnEvent d (background c d)
   unfolding E.background
-  background_own d =
+  background_own d on =
       event_own d (λ z. and_then (work c z.store) (λ s did. Done (with_store z s) did))
-      (λ y. own_then (λ s did. Done (with_store y s) did) (work_own c y.store) (λ s did. own_done refl))
+      (λ s e. own_then (λ z did. Done (with_store (record (event_begun d) { store = s }) z) did) (work_own T c s (subst (Each T) (sym e) on)) (λ z did. own_done refl))
 
   pub lose_own : (d : Device F P H) (loss : Loss) → OwnEvent d (lose c d loss)
   unfolding E.lose
   lose_own d loss =
       event_own d (λ z. and_then (losing c z.store loss) (λ s _. Done (with_store z s) tt))
-      (λ y. own_then (λ s _. Done (with_store y s) (tt {0})) (losing_own c y.store loss) (λ s _. own_done refl))
+      (λ s e. own_then (λ z _. Done (with_store (record (event_begun d) { store = s }) z) (tt {0})) (losing_own T c s loss) (λ z _. own_done refl))
 
   -- Cuts
 
@@ -211,7 +240,7 @@ module _ {F P H R : Type 0} (c : Contents F P H R) where
         store = s;
         chain = None;
         paths = all_reset (reset_path d.paths path) d.history.waiting;
-      }) (tt {0})) (cut_own c d.store d.store.half) (λ s _. own_done refl)
+      }) (tt {0})) (cut_own T c d.store d.store.half) (λ s _. own_done refl)
 
   reset_by_own : (d : Device F P H) (path : ℕ) (o : Option OpenEntry) → OwnEvent d (reset_by c d path o)
   reset_by_own d path (Some o) = own_if (o.path == path) (path_own d path) (own_done refl)
@@ -243,7 +272,7 @@ module _ {F P H R : Type 0} (c : Contents F P H R) where
   unfolding U.power
   power_own d =
       quiet_own d (λ z. and_then (half_cut c z.store z.store.half) (λ s _. Done (powered_off c z s) tt))
-      (own_then (λ s _. Done (powered_off c (event_begun d) s) (tt {0})) (cut_own c (event_begun d).store (event_begun d).store.half)
+      (own_then (λ s _. Done (powered_off c (event_begun d) s) (tt {0})) (cut_own T c (event_begun d).store (event_begun d).store.half)
       (λ s _. own_done (powerless_number (with_loss s losses.Cache))))
 
   -- A device that is lent

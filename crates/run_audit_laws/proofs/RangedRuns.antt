@@ -54,6 +54,7 @@ use Rattle.run_audit_laws.specs.Standing.{FramesAreDeclared, audited, stand}
 use Rattle.run_audit_laws.proofs.DeviceSizes.{Sized, first_sized, run_sized, sized_behind}
 use Rattle.run_audit_laws.proofs.FewDevices.{run_has_few}
 use Rattle.run_audit_laws.proofs.FramesOwned.{frames_are_declared}
+use Rattle.run_audit_laws.proofs.FrameTracks.{OnTrack, frames_have_tracks}
 use Rattle.run_audit_laws.proofs.LooseNumbers.{count_short, number_short}
 use Rattle.run_audit_laws.proofs.NamedEvents.{Names, run_names}
 use Rattle.run_audit_laws.proofs.RangedDevices.{Ranged, device_ranged}
@@ -363,17 +364,17 @@ module _ (s : Subsystem) (sized : AreSo Sized s.mounted) where
   abbrev IsDeclared : Frame → Type 0
   IsDeclared f = is_declared (outlines (stand s [])) f.0.0 ≡ true
 
-  frames_known : (fs : List Frame) → All IsDeclared fs → All Known (map frame_line fs)
-  frames_known [] all = All-nil Known
-  frames_known (f ∷ fs) all =
-      All-cons Known (frame_line f) (map frame_line fs) (λ r. (declared_device s.mounted sized f.0.0 (All-head IsDeclared f fs all), r))
-      (frames_known fs (All-tail IsDeclared f fs all))
+  frames_known : (fs : List Frame) → All IsDeclared fs → All OnTrack fs → All Known (map frame_line fs)
+  frames_known [] all on = All-nil Known
+  frames_known (f ∷ fs) all on =
+      All-cons Known (frame_line f) (map frame_line fs) (λ r. (declared_device s.mounted sized f.0.0 (All-head IsDeclared f fs all), All-head OnTrack f fs on))
+      (frames_known fs (All-tail IsDeclared f fs all) (All-tail OnTrack f fs on))
 
-  ending_known : FramesAreDeclared s → AllSo FewReads (devices_of s) → AllSo FewWrites (devices_of s) → All Known (ending_lines (ending s))
-  ending_known frames reads writes =
+  ending_known : FramesAreDeclared s → All OnTrack s.pool.frames → AllSo FewReads (devices_of s) → AllSo FewWrites (devices_of s) → All Known (ending_lines (ending s))
+  ending_known frames on reads writes =
       let e = ending s in
       All-append Known (flat_map device_lines e.devices) (map frame_line e.frames ++ lines.Finish ∷ []) (ends_known s.mounted sized reads writes)
-      (All-append Known (map frame_line e.frames) (lines.Finish ∷ []) (frames_known e.frames frames) (one lines.Finish (λ r. tt)))
+      (All-append Known (map frame_line e.frames) (lines.Finish ∷ []) (frames_known e.frames frames on) (one lines.Finish (λ r. tt)))
 
 -- The whole
 
@@ -403,7 +404,7 @@ module _ (text : List ℕ) (deck : DeckLines) (read : parsed text ≡ Ok deck) w
   report_known =
       let r = run_of deck in
       All-append Known (lines_of_run r) (ending_lines (ending r.behind)) events_known
-      (ending_known r.behind (sized_behind text deck read) (frames_are_declared deck) (read_run_reads_few text deck read)
+      (ending_known r.behind (sized_behind text deck read) (frames_are_declared deck) (frames_have_tracks text deck read) (read_run_reads_few text deck read)
       (read_run_writes_few text deck read))
 
 known_are : (ls : List ReportLine) → All Known ls → All RestIsIn ls → All IsLine ls

@@ -1,6 +1,6 @@
 -- What isn't shown to be in its range of a line of a run's report. That its paths, devices and ordinals are is shown, and that all is of what orders
--- answer, of CFW, OVER, HALF, BACK, STEP IDLE, RUN IDLE, RESET, IO, DEVICE and LOST.
-use Rattle.std.specs.Prelude.{◌<◌}
+-- answer, of CFW LOST, of OVER and of STEP IDLE, RUN IDLE, RESET, IO, DEVICE, LOST and FRAME.
+use Rattle.std.specs.Prelude.{◌<◌, ℕ}
 use Rattle.hex.specs.Hex.{IsBytes}
 use Rattle.report_text.specs.declared.answers.StartAnswer.{StartAnswer}
 use Rattle.report_text.specs.declared.answers.StartAnswer.TheVariants as start
@@ -25,5 +25,4 @@ RestIsIn (lines.Start path device answer) = RestOfStart answer
 RestIsIn (lines.End end) = EndIsIn end
 RestIsIn (lines.Data bytes) = IsBytes bytes
 RestIsIn (lines.Sense sense) = AreBytes 32 sense.bytes
-RestIsIn (lines.Frame device track modified) = IsTrack track
 RestIsIn _ = Unit {0}
