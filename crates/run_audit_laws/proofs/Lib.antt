@@ -57,6 +57,7 @@ mod OwnTexts
 mod DeviceSizes
 mod NamedEvents
 mod LooseNumbers
+mod RangedCommands
 mod RangedDevices
 mod RangedEnds
 mod FewDevices
