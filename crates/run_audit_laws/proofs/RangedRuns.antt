@@ -250,6 +250,7 @@ all_known (t ∷ ts) r f n m a w =
 both_so : (d : MarksDevice) → Sized d → Plainly d → Ranged d
 both_so d s p = record {
   sized = s;
+  follows = p;
   plain = subst (λ (x : PlainState). IsPlain d.plans x d.history) p.follows.base p.follows.stands.plain;
   loose = count_short d p s.cylinders;
   number = number_short d p;

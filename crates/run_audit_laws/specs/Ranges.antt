@@ -1,6 +1,6 @@
--- What isn't shown to be in its range of a line of a run's report. That its paths, devices and ordinals are is shown, and that all is of what orders
--- answer, of CFW LOST, of OVER and of STEP IDLE, RUN IDLE, RESET, IO, DEVICE and LOST.
-use Rattle.std.specs.Prelude.{◌<◌, ℕ}
+-- What isn't shown to be in its range of a line of a run's report. That its paths, devices and ordinals are is shown, and each END's status, and that
+-- all is of what orders answer, of CFW LOST, of OVER, of SENSE and of STEP IDLE, RUN IDLE, RESET, IO, DEVICE and LOST.
+use Rattle.std.specs.Prelude.{ℕ}
 use Rattle.hex.specs.Hex.{IsBytes}
 use Rattle.report_text.specs.declared.answers.LooseAnswer.{LooseAnswer}
 use Rattle.report_text.specs.declared.answers.LooseAnswer.TheVariants as loose
@@ -9,11 +9,10 @@ use Rattle.report_text.specs.declared.answers.StartAnswer.TheVariants as start
 use Rattle.report_text.specs.declared.line.EndLine.{EndLine}
 use Rattle.report_text.specs.declared.line.ReportLine.{ReportLine}
 use Rattle.report_text.specs.declared.line.ReportLine.TheVariants as lines
-use Rattle.report_reading.specs.Ranges.{AreBytes, IsBack, IsOwner, IsShort, IsTrack}
+use Rattle.report_reading.specs.Ranges.{IsBack, IsOwner, IsShort, IsTrack}
 
 pub record EndIsIn (e : EndLine) : Type 0 where
   pub index : IsShort e.index
-  pub status : e.status.0 < 256
   pub residual : IsShort e.residual
 
 -- who has the device reserved
@@ -31,7 +30,6 @@ abbrev pub RestIsIn : ReportLine → Type 0
 RestIsIn (lines.Start path device answer) = RestOfStart answer
 RestIsIn (lines.End end) = EndIsIn end
 RestIsIn (lines.Data bytes) = IsBytes bytes
-RestIsIn (lines.Sense sense) = AreBytes 32 sense.bytes
 RestIsIn (lines.Half path device track) = IsTrack track
 RestIsIn (lines.Back device answer) = IsBack answer
 RestIsIn (lines.Loose device answer) = RestOfLoose answer
