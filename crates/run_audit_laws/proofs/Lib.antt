@@ -37,6 +37,7 @@ mod LossLines
 mod LooseOnce
 mod KnownDevices
 mod CacheLines
+mod PlannedWords
 mod PowerDevices
 mod PowerTold
 mod PowerLines
