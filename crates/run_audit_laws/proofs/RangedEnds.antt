@@ -348,7 +348,7 @@ had_in d talk h = λ t. told_in (T.hold true talk t).answer (held true h t)
 
 module _ (d : MarksDevice) (k : Ranged d) where
   seconds_in : (h : HalfWrite (Unit {0})) → d.store.half ≡ Some h → FineWork (E.seconds by_plain d)
-  seconds_in h there = had_in d (E.ends_by ends.Second (second by_plain d)) (second_in d k.follows h there)
+  seconds_in h there = had_in d (E.ends_by ends.Second (second by_plain d)) (second_in d k.follows k.sized.words h there)
 
   steps_in : FineWork (E.step by_plain d)
   steps_in = by_half d.store.half refl d.history.running refl where
@@ -357,7 +357,7 @@ module _ (d : MarksDevice) (k : Ranged d) where
         else if is_some r then Asks d (E.may_end_by ends.Stepped (command by_plain d)) else Ends ends.Idle)
     by_half (Some h) there r running = seconds_in h there
     by_half None whole (Some o) running =
-        had_in d (E.may_end_by ends.Stepped (command by_plain d)) (command_in d k.follows o running whole)
+        had_in d (E.may_end_by ends.Stepped (command by_plain d)) (command_in d k.follows k.sized.words o running whole)
     by_half None whole None running = tt
 
   backs_in : FineWork (E.back by_plain d)

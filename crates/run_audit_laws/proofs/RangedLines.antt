@@ -79,7 +79,7 @@ sense_known (Some sense) i = one (lines.Sense sense) (λ r. i)
 sense_known None i = All-nil Known
 
 end_known : (path d n : ℕ) (e : CommandEnd) → IsPath path → IsDevice d → IsShort n → EndIn e → Known (lines.End (end_line path d n e))
-end_known path d n e p k o i = λ r. record { path = p; device = k; ordinal = o; index = r.index; status = i.status; residual = r.residual }
+end_known path d n e p k o i = λ r. record { path = p; device = k; ordinal = o; index = i.index; status = i.status; residual = i.residual }
 
 first_known : (h : report.Happened) → HasNames h → All Known (first_lines h)
 first_known (did.Started path d a) n = one (lines.Start path d a) (λ r. (n.0, n.1, n.2 r))
