@@ -3,9 +3,8 @@ use Rattle.std.proofs.Common.{◌≡◌, ◌≤◌, ◌<◌, ◌+◌, ◌-◌, �
 use Rattle.std.specs.Prelude.{nat_lt, slice_index_or, slice_set}
 use Rattle.std.proofs.lemmas.Bool.{ltb-false}
 use Rattle.ckd_types.specs.declared.channel.Ccw.{Ccw}
-use Rattle.ckd_types.specs.declared.channel.Why.{Why}
 use Rattle.ckd_types.specs.declared.channel.Why.TheVariants.{Empty, TooLong}
-use Rattle.ckd_types.specs.Ccw.{ccw_at, is_chained, is_transfer, no_ccw}
+use Rattle.ckd_types.specs.Ccw.{ccw_at, is_chained, is_transfer}
 use Rattle.ckd_types.specs.Program.{IsProgram, fault_from, next_ccw, target}
 use Rattle.ckd_types.specs.Status.{has_status_modifier}
 use Rattle.ckd_rules.specs.Ending.{Outcome}
@@ -20,7 +19,7 @@ use Rattle.plain_defs.specs.declared.journal.Acted.{Acted}
 use Rattle.plain_defs.specs.Effect.{effect_on}
 use Rattle.plain_defs.specs.Journal.{Plans, program_of}
 use Rattle.plain_defs.specs.PlainState.{PlainState}
-use Rattle.plain_defs.specs.Program.{Part, acted, first_part, one_more, part_of}
+use Rattle.plain_defs.specs.Program.{Part, first_part, one_more, part_of}
 use Rattle.plain_defs.proofs.PartLemmas.{acted_beside, more_next, over_stays}
 
 pub record GoodWords (ccws : List Ccw) : Type 0 where

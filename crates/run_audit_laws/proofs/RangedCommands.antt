@@ -1,6 +1,6 @@
 -- Index, status, residual and sense of a command's end are in their ranges, whatever event of a device ends it.
-use Rattle.std.proofs.Common.{◌≡◌, ◌≤◌, ◌<◌, ℕ, List, length, Option, Some, None, refl, sym, ap, subst, ◌∙◌, inl, inr, arith}
-use Rattle.std.specs.Prelude.{IfSome, IsSome}
+use Rattle.std.proofs.Common.{◌≡◌, ◌<◌, ℕ, List, length, Option, Some, None, refl, sym, ap, subst, ◌∙◌, inl, inr, arith}
+use Rattle.std.specs.Prelude.{IfSome}
 use Rattle.ckd_types.specs.declared.channel.Ccw.{Ccw}
 use Rattle.ckd_types.specs.declared.channel.CommandEnd.{CommandEnd}
 use Rattle.ckd_types.specs.declared.sense.Sense.{Sense}
@@ -23,7 +23,8 @@ use Rattle.device_defs.specs.declared.answers.Stepped.{Stepped}
 use Rattle.device_defs.specs.declared.answers.Stepped.TheVariants as stepped
 use Rattle.device_defs.specs.Command.{command}
 use Rattle.device_defs.specs.Contents.{by_plain}
-use Rattle.device_defs.specs.Events.{background, second}
+use Rattle.device_defs.specs.Device.{all_acted}
+use Rattle.device_defs.specs.Events.{second}
 use Rattle.device_defs.specs.Marks.{MarksDevice}
 use Rattle.device_defs.specs.Store as store
 use Rattle.device_defs.specs.Store.{Origin, OfBackground, OfCommand, OfCut}
@@ -41,15 +42,14 @@ use Rattle.subsystem_defs.specs.declared.end.EventEnd.TheVariants as ends
 use Rattle.subsystem_defs.specs.Beside.{acts_in}
 use Rattle.subsystem_defs.specs.Deeds.{end_of as end_with, ends_by, may_end_by}
 use Rattle.subsystem_laws.proofs.PlainRuns.{Plainly}
-use Rattle.device_defs.specs.Device.{all_acted}
 use Rattle.run_audit_laws.specs.Standing.{audited}
 use Rattle.run_audit_laws.specs.Steps.{IsCheckSense}
-use Rattle.run_audit_laws.proofs.CameOut.{ChecksSo, checks_so, ends_plain, ends_so}
+use Rattle.run_audit_laws.proofs.CameOut.{checks_so, ends_plain, ends_so}
 use Rattle.run_audit_laws.proofs.Lossless.{none_lost}
 use Rattle.run_audit_laws.proofs.Pieces.{CommandSo, SecondSo, command_so, plain_behind, plainly, second_so}
 use Rattle.run_audit_laws.proofs.PlannedWords.{GoodWords, part_index}
 use Rattle.run_audit_laws.proofs.ResetDevices.{HasParts}
-use Rattle.run_audit_laws.proofs.Tidy.{FitsBy, IsGood, WalkFits, outcome_fits, sense_bytes}
+use Rattle.run_audit_laws.proofs.Tidy.{FitsBy, WalkFits, outcome_fits, sense_bytes}
 
 abbrev SenseIn : Sense → Type 0
 SenseIn sense = AreBytes 32 sense.bytes

@@ -56,7 +56,7 @@ use Rattle.ckd_rules.specs.declared.turned.Turned.{Turned}
 use Rattle.ckd_rules.specs.declared.turned.Turned.TheVariants as turns
 use Rattle.ckd_rules.specs.Checks.{mask_fault, masked_order, order_by, order_of, permitted_order, placed_order, is_within, first_track, is_in_sequence, decoded}
 use Rattle.ckd_rules.specs.Control.{located, unseen_place}
-use Rattle.ckd_rules.specs.Ending.{Outcome, check, ended, exception, immediate, normal, refused}
+use Rattle.ckd_rules.specs.Ending.{Outcome, check, exception, normal, refused}
 use Rattle.ckd_rules.specs.Ends.{at_limit, end_of, is_plain, note_of}
 use Rattle.ckd_rules.specs.Finding.{find_from, from_index, missed, moves_on, next_track, track_after}
 use Rattle.ckd_rules.specs.Formats.{format_behind, format_ended, record_given, has_room_behind, is_zero_given, key_given, body_given, zero_on}
@@ -72,10 +72,10 @@ use Rattle.ckd_rules.specs.Updates.{update_data, update_ended, update_record, up
 use Rattle.ckd_rules.specs.Walk as W
 use Rattle.ckd_rules.specs.Walk.{Walked, touching, walk, walked}
 use Rattle.ckd_rules.specs.Writes.{write_on}
+use Rattle.hex.specs.Hex.{IsBytes}
 use Rattle.plain_defs.specs.Acts.{act_fault, act_outcome}
 use Rattle.plain_defs.specs.Effect.{acted_by, effect_by, effect_on}
 use Rattle.plain_defs.specs.PlainState.{PathsState, PlainState}
-use Rattle.hex.specs.Hex.{IsBytes}
 use Rattle.report_reading.specs.Ranges.{AreBytes}
 use Rattle.run_audit_laws.proofs.EndLines.{TidyBy}
 

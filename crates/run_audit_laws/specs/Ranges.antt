@@ -1,6 +1,5 @@
 -- What isn't shown to be in its range of a line of a run's report. That its paths, devices and ordinals are is shown, and that all is of what orders
 -- answer, of CFW LOST, of OVER, of END, of SENSE and of STEP IDLE, RUN IDLE, RESET, IO, DEVICE and LOST.
-use Rattle.std.specs.Prelude.{ℕ}
 use Rattle.hex.specs.Hex.{IsBytes}
 use Rattle.report_text.specs.declared.answers.LooseAnswer.{LooseAnswer}
 use Rattle.report_text.specs.declared.answers.LooseAnswer.TheVariants as loose
