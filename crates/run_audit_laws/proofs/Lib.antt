@@ -37,6 +37,7 @@ mod LossLines
 mod LooseOnce
 mod KnownDevices
 mod CacheLines
+mod PlannedWords
 mod PowerDevices
 mod PowerTold
 mod PowerLines
@@ -60,6 +61,7 @@ mod DeviceSizes
 mod NamedEvents
 mod LooseNumbers
 mod RangedActs
+mod RangedCommands
 mod RangedDevices
 mod RangedEnds
 mod FewDevices

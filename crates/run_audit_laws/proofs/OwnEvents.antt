@@ -77,21 +77,7 @@ use Rattle.device_laws.proofs.Based.{Base, swept_base, unframed_base, unpatched_
 use Rattle.deck_text.proofs.DeckAgain.{Each}
 use Rattle.device_defs.specs.Memory.{had_by}
 use Rattle.run_audit_laws.proofs.NextTracks.{Comes, Next, look_next}
-use Rattle.run_audit_laws.proofs.OwnCalls.{
-  Own,
-  Owns,
-  always_any,
-  ended_own,
-  hear_own,
-  hear_queue,
-  own_done,
-  own_had,
-  own_if,
-  own_so,
-  own_then,
-  own_tried,
-  own_try,
-}
+use Rattle.run_audit_laws.proofs.OwnCalls.{Own, Owns, ended_own, hear_own, hear_queue, own_done, own_had, own_if, own_so, own_then, own_tried, own_try}
 use Rattle.run_audit_laws.proofs.OwnParts.{cut_own, image_own, losing_own, second_own as second_part_own, work_own, write_own}
 use Rattle.device_laws.proofs.WholeEvents.{turned_same}
 

@@ -86,13 +86,13 @@ pub record ComesTo (x y : MarksDevice) (end : Option EventEnd) (w : EventLine) (
   pub so : PieceSo x y its w idle
 
 module _ (num : ℕ) (empty : PlainState) (x y : MarksDevice) (f : Follows num empty x) (g : Follows num empty y) where
-  abbrev a : AuditedDevice
+  abbrev pub a : AuditedDevice
   a = audited x
 
-  plainly : IsPlain x.plans (audited x).empty x.history
+  pub plainly : IsPlain x.plans (audited x).empty x.history
   plainly = subst (λ (e : PlainState). IsPlain x.plans e x.history) f.base f.stands.plain
 
-  plain_behind : (h : HalfWrite) → HasParts x y h → IsPlain x.plans (audited x).empty y.history
+  pub plain_behind : (h : HalfWrite) → HasParts x y h → IsPlain x.plans (audited x).empty y.history
   plain_behind h p =
       subst (λ (e : PlainState). IsPlain x.plans e y.history) f.base
       (subst (λ (l : Plans). IsPlain l empty y.history) p.plans g.stands.plain)
@@ -208,14 +208,14 @@ module _ (num : ℕ) (empty : PlainState) (x y : MarksDevice) (f : Follows num e
 -- A command
 
 pub record CommandSo (num : ℕ) (empty : PlainState) (x y : MarksDevice) (answer : Option Stepped) : Type 0 where
-  follows : Follows num empty y
-  left : IsLeft x y answer
-  told : StepTold x.history y.history answer
-  kept : all_losses y.history ≡ all_losses x.history
+  pub follows : Follows num empty y
+  pub left : IsLeft x y answer
+  pub told : StepTold x.history y.history answer
+  pub kept : all_losses y.history ≡ all_losses x.history
 
 module _ (num : ℕ) (empty : PlainState) (x : MarksDevice) (f : Follows num empty x) where
   -- STEP and RUN, where no half write is open and a program runs
-  command_so : (o : OpenEntry) → x.history.running ≡ Some o → x.store.half ≡ None →
+  pub command_so : (o : OpenEntry) → x.history.running ≡ Some o → x.store.half ≡ None →
       Had (command by_plain x) (λ y answer. CommandSo num empty x y answer)
   command_so o running whole =
       had_weaker
@@ -254,11 +254,11 @@ module _ (num : ℕ) (empty : PlainState) (x : MarksDevice) (f : Follows num emp
 
 -- The second part of a write
 
-record SecondSo (num : ℕ) (empty : PlainState) (x y : MarksDevice) (origin : Origin) (answer : SecondEnd) : Type 0 where
-  follows : Follows num empty y
-  left : IsSecond x y origin answer
-  told : SecondTold x.history y.history answer
-  kept : all_losses y.history ≡ all_losses x.history
+pub record SecondSo (num : ℕ) (empty : PlainState) (x y : MarksDevice) (origin : Origin) (answer : SecondEnd) : Type 0 where
+  pub follows : Follows num empty y
+  pub left : IsSecond x y origin answer
+  pub told : SecondTold x.history y.history answer
+  pub kept : all_losses y.history ≡ all_losses x.history
 
 pub ends_by_command : {n : ℕ} {w : EventLine} → IsWork n w → MayEnd n w half.OfCommand
 ends_by_command of_step = step_seconds
@@ -267,7 +267,7 @@ ends_by_command of_back = back_seconds
 ends_by_command of_settle = settle_seconds
 
 module _ (num : ℕ) (empty : PlainState) (x : MarksDevice) (f : Follows num empty x) where
-  second_so : (h : store.HalfWrite (Unit {0})) → x.store.half ≡ Some h → Had (second by_plain x) (λ y answer. SecondSo num empty x y h.origin answer)
+  pub second_so : (h : store.HalfWrite (Unit {0})) → x.store.half ≡ Some h → Had (second by_plain x) (λ y answer. SecondSo num empty x y h.origin answer)
   second_so h there =
       had_weaker
       (had_both (had_both (second_follows num empty x f h there) (second_left num empty x f h there))

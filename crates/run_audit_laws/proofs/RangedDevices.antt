@@ -7,11 +7,13 @@ use Rattle.report_reading.specs.Ranges.{IsShort}
 use Rattle.subsystem_defs.specs.Beside.{loose_count}
 use Rattle.subsystem_defs.specs.Deeds.{device_in}
 use Rattle.subsystem_defs.specs.Promised.{HasPlainHistory}
+use Rattle.subsystem_laws.proofs.PlainRuns.{Plainly}
 use Rattle.run_audit_laws.proofs.DeviceSizes.{Sized}
 use Rattle.run_audit_laws.proofs.RangedWork.{WorksOn}
 
 pub record Ranged (d : MarksDevice) : Type 0 where
   pub sized : Sized d
+  pub follows : Plainly d
   pub plain : HasPlainHistory d
   pub loose : IsShort (loose_count d.store)
   pub number : IsShort d.store.number

@@ -18,12 +18,17 @@ use Rattle.device_outside.specs.Told.{Told, calls_of, read_counted, read_fails, 
 use Rattle.device_defs.specs.declared.answers.StartFault.{StartFault}
 use Rattle.device_defs.specs.declared.answers.StartFault.TheVariants as refusals
 use Rattle.device_defs.specs.Contents.{by_plain}
-use Rattle.device_defs.specs.Events.{lose}
+use Rattle.device_defs.specs.declared.answers.Did.{Did as BackDid}
+use Rattle.device_defs.specs.Command.{command}
+use Rattle.device_defs.specs.Events.{background, lose, second}
 use Rattle.device_defs.specs.Marks.{MarksDevice}
 use Rattle.device_defs.specs.Orders.{hold, resume}
 use Rattle.device_defs.specs.Start as S
 use Rattle.device_defs.specs.Start.{fault_by, idle_fault, is_shut, keeps_out, left, next_ordinal, reserved_fault, running_fault, start, start_fault, started_count}
-use Rattle.device_defs.specs.Store.{side_of, stale_at, tracks_of}
+use Rattle.device_defs.specs.Store.{HalfWrite, side_of, stale_at, tracks_of}
+use Rattle.device_laws.proofs.Had.{Had, had_done, had_then, held}
+use Rattle.device_laws.proofs.HistoryTold.{background_told}
+use Rattle.device_laws.proofs.PlainEvents.{had_always}
 use Rattle.report_reading.specs.Ranges.{IsAnswer, IsFault, IsStart}
 use Rattle.run_report.specs.Answers.{order_answer, refused_as, start_answer}
 use Rattle.subsystem_defs.specs.declared.end.EventEnd.{EventEnd}
@@ -37,13 +42,14 @@ use Rattle.subsystem_defs.specs.Deeds.{Asks, Becomes, Each as Sweeps, Ends, Lend
 use Rattle.subsystem_defs.specs.Happening as H
 use Rattle.subsystem_defs.specs.Happening.{MarksDeed, Talk, asks, happens, happens_by, replaced, replaced_at, replaced_by, unpaired, unpaired_at, unpaired_by}
 use Rattle.subsystem_defs.specs.Happening.{told_end}
-use Rattle.subsystem_defs.specs.Lines.{Asked, Logged, Once, Replace, Unpair}
+use Rattle.subsystem_defs.specs.Lines.{Asked, Logged, Once, Replace, Run, Settle, Unpair}
 use Rattle.subsystem_defs.specs.Promised.{empty_of}
 use Rattle.subsystem_defs.specs.Refusals as R
 use Rattle.subsystem_defs.specs.Refusals.{active_by, fail_fault, first_cause, has_side, is_alike, lent_by, not_level_by, pair_fault, replace_fault, resume_fault, stale_count, suspend_fault, unpair_fault, where_so}
 use Rattle.subsystem_defs.specs.Subsystem.{Mounted, Subsystem, devices_of, mounted_in, unfailing}
 use Rattle.subsystem_laws.proofs.RunLines.{AnyEvent, Goes}
 use Rattle.run_audit_laws.specs.Ranges.{RestOfStart}
+use Rattle.run_audit_laws.proofs.RangedCommands.{EventIn, command_in, second_in}
 use Rattle.run_audit_laws.proofs.RangedDevices.{Ranged, device_ranged, few_programs}
 
 -- An event's end, by what happens to the devices
@@ -324,12 +330,51 @@ module _ (d : MarksDevice) (k : Ranged d) (path : ℕ) where
     by_own true = λ r. tt
     by_own false = start_by_in (start_fault d path) refl fault_in
 
+-- A piece of work
+
+abbrev FineWork : MarksDeed → Type 0
+FineWork x = Fine EventIn tt tt x
+
+told_in : (o : Option EventEnd) → IfSome o EventIn → EventIn (told_end o)
+told_in (Some end) h = h
+told_in None h = tt
+
+never_ends : (o : Option BackDid) → IfSome (E.end_of ends.Back o) EventIn
+never_ends (Some d) = tt
+never_ends None = tt
+
+had_in : (d : MarksDevice) (talk : Talk (Option EventEnd)) → Had talk (λ y end. IfSome end EventIn) → FineWork (Asks d talk)
+had_in d talk h = λ t. told_in (T.hold true talk t).answer (held true h t)
+
+module _ (d : MarksDevice) (k : Ranged d) where
+  seconds_in : (h : HalfWrite (Unit {0})) → d.store.half ≡ Some h → FineWork (E.seconds by_plain d)
+  seconds_in h there = had_in d (E.ends_by ends.Second (second by_plain d)) (second_in d k.follows k.sized.words h there)
+
+  steps_in : FineWork (E.step by_plain d)
+  steps_in = by_half d.store.half refl d.history.running refl where
+    by_half : (h : Option (HalfWrite (Unit {0}))) → d.store.half ≡ h → (r : Option OpenEntry) → d.history.running ≡ r →
+        FineWork (if is_some h then E.seconds by_plain d
+        else if is_some r then Asks d (E.may_end_by ends.Stepped (command by_plain d)) else Ends ends.Idle)
+    by_half (Some h) there r running = seconds_in h there
+    by_half None whole (Some o) running =
+        had_in d (E.may_end_by ends.Stepped (command by_plain d)) (command_in d k.follows k.sized.words o running whole)
+    by_half None whole None running = tt
+
+  backs_in : FineWork (E.back by_plain d)
+  backs_in = by_half d.store.half refl where
+    by_half : (h : Option (HalfWrite (Unit {0}))) → d.store.half ≡ h →
+        FineWork (if is_some h then E.seconds by_plain d else Asks d (E.may_end_by ends.Back (background by_plain d)))
+    by_half (Some h) there = seconds_in h there
+    by_half None whole =
+        had_in d (E.may_end_by ends.Back (background by_plain d))
+        (had_then (had_always (background_told by_plain d)) (λ y answer c. had_done (never_ends answer)))
+
 -- All events: what a repair answers is shown elsewhere
 
 abbrev pub AnswersOnce : Event → EventEnd → Type 0
 AnswersOnce (events.Start path d) end = StartIn end
-AnswersOnce (events.Step d) end = Unit {0}
-AnswersOnce (events.Back d) end = Unit {0}
+AnswersOnce (events.Step d) end = EventIn end
+AnswersOnce (events.Back d) end = EventIn end
 AnswersOnce (events.Reset path d) end = Unit {0}
 AnswersOnce events.RepairCache end = Unit {0}
 AnswersOnce events.RepairStore end = Unit {0}
@@ -339,7 +384,8 @@ abbrev pub Answers : Asked → EventEnd → Type 0
 Answers (Once e) end = AnswersOnce e end
 Answers (Replace d side) end = OrderIn end
 Answers (Unpair a) end = OrderIn end
-Answers _ end = Unit {0}
+Answers (Run d) end = EventIn end
+Answers (Settle d) end = EventIn end
 
 module _ (s : Subsystem) (all : All Ranged (devices_of s)) where
   there : (n : ℕ) → IfSome (device_in (devices_of s) n) Ranged
@@ -350,8 +396,12 @@ module _ (s : Subsystem) (all : All Ranged (devices_of s)) where
   once_answers (events.Start path d) =
       fine_end StartIn (λ r. tt) (λ r. tt) s (on_device (device_in (devices_of s) d) (starts path))
       (on_fine StartIn (λ r. tt) (λ r. tt) (device_in (devices_of s) d) (starts path) (there d) (λ x k. starts_in x k path))
-  once_answers (events.Step d) = tt
-  once_answers (events.Back d) = tt
+  once_answers (events.Step d) =
+      fine_end EventIn tt tt s (on_device (device_in (devices_of s) d) (E.step by_plain))
+      (on_fine EventIn tt tt (device_in (devices_of s) d) (E.step by_plain) (there d) steps_in)
+  once_answers (events.Back d) =
+      fine_end EventIn tt tt s (on_device (device_in (devices_of s) d) (E.back by_plain))
+      (on_fine EventIn tt tt (device_in (devices_of s) d) (E.back by_plain) (there d) backs_in)
   once_answers (events.Reset path d) = tt
   once_answers events.FailCache =
       fine_end OrderIn tt tt s (E.order_if_not (not s.pool.cache_up) faults.Down (Sweeps (cache_failed s.pool) (λ x. lose by_plain x losses.Cache)))
@@ -424,9 +474,9 @@ AnswersSo s t = All Ranged (devices_of s) → Answers t.asked t.happened.end
 pub answers_go : Goes (λ s. Unit {0}) AnswersSo AnyEvent
 answers_go = record {
   once = λ s e may q. (tt, λ all. once_answers s all e);
-  stepped = λ s d q. (tt, λ all. tt);
+  stepped = λ s d q. (tt, λ all. once_answers s all (events.Step d));
   idle = λ s d q. (tt, λ all. tt);
-  backed = λ s d q. (tt, λ all. tt);
+  backed = λ s d q. (tt, λ all. once_answers s all (events.Back d));
   replaces = λ s d side q. (tt, λ all. replaced_answers s all d side);
   unpairs = λ s a q. (tt, λ all. unpaired_answers s all a);
 }

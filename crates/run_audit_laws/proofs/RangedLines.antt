@@ -44,6 +44,7 @@ use Rattle.subsystem_defs.specs.Promised.{empty_of}
 use Rattle.run_audit_laws.specs.Ranges.{RestIsIn, RestOfStart}
 use Rattle.run_audit_laws.proofs.NamedEvents.{Names}
 use Rattle.run_audit_laws.proofs.RangedActs.{ActOn, each_behind, history_on}
+use Rattle.run_audit_laws.proofs.RangedCommands.{EndIn, EventIn}
 use Rattle.run_audit_laws.proofs.RangedDevices.{Ranged, device_ranged, few_programs}
 use Rattle.run_audit_laws.proofs.RunEnds.{few_of}
 use Rattle.run_audit_laws.proofs.RangedEnds.{Answers, AnswersOnce, OrderIn}
@@ -62,7 +63,7 @@ HasPath r = IsPath r.path × IsShort r.ordinal
 
 abbrev HasNames : report.Happened → Type 0
 HasNames (did.Started path d a) = IsPath path × IsDevice d × (RestOfStart a → IsStart a)
-HasNames (did.Ended path d n e) = IsPath path × IsDevice d × IsShort n
+HasNames (did.Ended path d n e) = IsPath path × IsDevice d × IsShort n × EndIn e
 HasNames (did.Half path d t) = IsPath path × IsDevice d × IsTrack t
 HasNames (did.Back d a) = IsDevice d × IsBack a
 HasNames (did.StepIdle d) = IsDevice d
@@ -76,19 +77,19 @@ data_known : (bytes : List ℕ) → All Known (data_lines bytes)
 data_known [] = All-nil Known
 data_known (b ∷ bytes) = one (lines.Data (b ∷ bytes)) (λ r. r)
 
-sense_known : (sense : Option Sense) → All Known (sense_lines sense)
-sense_known (Some sense) = one (lines.Sense sense) (λ r. r)
-sense_known None = All-nil Known
+sense_known : (o : Option Sense) → IfSome o (λ sense. AreBytes 32 sense.bytes) → All Known (sense_lines o)
+sense_known (Some sense) i = one (lines.Sense sense) (λ r. i)
+sense_known None i = All-nil Known
 
-end_known : (path d n : ℕ) (e : CommandEnd) → IsPath path → IsDevice d → IsShort n → Known (lines.End (end_line path d n e))
-end_known path d n e p k o = λ r. record { path = p; device = k; ordinal = o; index = r.index; status = r.status; residual = r.residual }
+end_known : (path d n : ℕ) (e : CommandEnd) → IsPath path → IsDevice d → IsShort n → EndIn e → Known (lines.End (end_line path d n e))
+end_known path d n e p k o i = λ r. record { path = p; device = k; ordinal = o; index = i.index; status = i.status; residual = i.residual }
 
 first_known : (h : report.Happened) → HasNames h → All Known (first_lines h)
 first_known (did.Started path d a) n = one (lines.Start path d a) (λ r. (n.0, n.1, n.2 r))
 first_known (did.Ended path d n e) k =
     All-append Known (lines.End (end_line path d n e) ∷ []) (data_lines e.sent ++ sense_lines e.sense)
-    (one (lines.End (end_line path d n e)) (end_known path d n e k.0 k.1 k.2))
-    (All-append Known (data_lines e.sent) (sense_lines e.sense) (data_known e.sent) (sense_known e.sense))
+    (one (lines.End (end_line path d n e)) (end_known path d n e k.0 k.1 k.2 k.3))
+    (All-append Known (data_lines e.sent) (sense_lines e.sense) (data_known e.sent) (sense_known e.sense k.3.sense))
 first_known (did.Half path d t) n = one (lines.Half path d t) (λ r. n)
 first_known (did.Back d a) n = one (lines.Back d a) (λ r. n)
 first_known (did.StepIdle d) n = one (lines.StepIdle d) (λ r. n)
@@ -107,29 +108,29 @@ last_known (did.Reset path d) n = one (lines.Reset path d) (λ r. n)
 last_known (did.Ordered order a) n = one (lines.Order order a) (λ r. n)
 
 module _ (d : ℕ) (k : IsDevice d) where
-  end_names : (r : Option RunningProgram) → IfSome r HasPath → (e : CommandEnd) → HasNames (end_told d r e)
-  end_names (Some r) p e = (p.0, k, p.1)
-  end_names None p e = k
+  end_names : (r : Option RunningProgram) → IfSome r HasPath → (e : CommandEnd) → EndIn e → HasNames (end_told d r e)
+  end_names (Some r) p e i = (p.0, k, p.1, i)
+  end_names None p e i = k
 
   half_names : (r : Option RunningProgram) → IfSome r HasPath → (t : ℕ) → IsTrack t → HasNames (half_told d r t)
   half_names (Some r) p t lt = (p.0, k, lt)
   half_names None p t lt = k
 
-  work_names : (r : Option RunningProgram) → IfSome r HasPath → (idle : report.Happened) → HasNames idle → (end : EventEnd) → WorkIn end →
+  work_names : (r : Option RunningProgram) → IfSome r HasPath → (idle : report.Happened) → HasNames idle → (end : EventEnd) → EventIn end → WorkIn end →
       HasNames (work_told d r idle end)
-  work_names r p idle n (ends.Stepped (stepped.Ended e)) o = end_names r p e
-  work_names r p idle n (ends.Stepped (stepped.Half t)) o = half_names r p t o
-  work_names r p idle n (ends.Second (seconds.Ended e)) o = end_names r p e
-  work_names r p idle n (ends.Second (seconds.Finished t)) o = (k, o)
-  work_names r p idle n (ends.Second (seconds.Unwritten t)) o = (k, o)
-  work_names r p idle n (ends.Back x) o = (k, o)
-  work_names r p idle n (ends.Started m) o = n
-  work_names r p idle n (ends.NotStarted f) o = n
-  work_names r p idle n ends.Running o = n
-  work_names r p idle n ends.Idle o = n
-  work_names r p idle n ends.Done o = n
-  work_names r p idle n (ends.Pending m) o = n
-  work_names r p idle n (ends.Refused f) o = n
+  work_names r p idle n (ends.Stepped (stepped.Ended e)) i o = end_names r p e i
+  work_names r p idle n (ends.Stepped (stepped.Half t)) i o = half_names r p t o
+  work_names r p idle n (ends.Second (seconds.Ended e)) i o = end_names r p e i
+  work_names r p idle n (ends.Second (seconds.Finished t)) i o = (k, o)
+  work_names r p idle n (ends.Second (seconds.Unwritten t)) i o = (k, o)
+  work_names r p idle n (ends.Back x) i o = (k, o)
+  work_names r p idle n (ends.Started m) i o = n
+  work_names r p idle n (ends.NotStarted f) i o = n
+  work_names r p idle n ends.Running i o = n
+  work_names r p idle n ends.Idle i o = n
+  work_names r p idle n ends.Done i o = n
+  work_names r p idle n (ends.Pending m) i o = n
+  work_names r p idle n (ends.Refused f) i o = n
 
 path_of_open : (d : MarksDevice) → Ranged d → (state : PlainState) (xs : List Item) (r : Option OpenEntry) → IfSome r (IsOpen d.plans state xs) →
     IfSome (option_map running_program r) HasPath
@@ -159,8 +160,8 @@ module _ (xs : List MarksDevice) (all : All Ranged xs) where
 
   once_names : (end : EventEnd) (e : Event) → Names (Once e) → AnswersOnce e end → WorkAsked (Once e) end → Repairs e end → HasNames (told xs end (Once e))
   once_names end (events.Start path d) n a o w = (n.0, n.1, a)
-  once_names end (events.Step d) n a o w = work_names d n (running_in xs d) (path_in d) (did.StepIdle d) n end o
-  once_names end (events.Back d) n a o w = work_names d n (running_in xs d) (path_in d) (did.Back d back.Nothing) (n, tt) end o
+  once_names end (events.Step d) n a o w = work_names d n (running_in xs d) (path_in d) (did.StepIdle d) n end a o
+  once_names end (events.Back d) n a o w = work_names d n (running_in xs d) (path_in d) (did.Back d back.Nothing) (n, tt) end a o
   once_names end (events.Reset path d) n a o w = n
   once_names end events.FailCache n a o w = (tt, a)
   once_names end events.FailStore n a o w = (tt, a)
@@ -176,8 +177,8 @@ module _ (xs : List MarksDevice) (all : All Ranged xs) where
   told_names end (Once e) n a o w = once_names end e n a o w
   told_names end (Replace d side) n a o w = (n, a)
   told_names end (Unpair x) n a o w = (n, a)
-  told_names end (Run d) n a o w = work_names d n (running_in xs d) (path_in d) (did.RunIdle d) n end o
-  told_names end (Settle d) n a o w = work_names d n (running_in xs d) (path_in d) (did.Back d back.Nothing) (n, tt) end o
+  told_names end (Run d) n a o w = work_names d n (running_in xs d) (path_in d) (did.RunIdle d) n end a o
+  told_names end (Settle d) n a o w = work_names d n (running_in xs d) (path_in d) (did.Back d back.Nothing) (n, tt) end a o
 
 -- Beside it
 

@@ -273,6 +273,7 @@ fits d s g = record { sized = s; works = works_on d g s; some = g.some }
 both_so : (d : MarksDevice) → Fit d → Plainly d → Ranged d
 both_so d f p = record {
   sized = f.sized;
+  follows = p;
   plain = subst (λ (x : PlainState). IsPlain d.plans x d.history) p.follows.base p.follows.stands.plain;
   loose = count_short d p f.sized.cylinders;
   number = number_short d p;

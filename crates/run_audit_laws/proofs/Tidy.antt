@@ -1,6 +1,7 @@
--- The form of an end on the plain device: with sense it has that of a check, and of another cause; without sense another status.
-use Rattle.std.proofs.Common.{◌≡◌, ◌==◌, ◌+◌, ℕ, zero, suc, Bool, true, false, List, Option, Some, None, refl, ap, ◌∙◌, ◌*◌, inl, inr}
-use Rattle.std.specs.Prelude.{◌%◌, ◌&&◌, [], ◌⊎◌, not, is_some, length, nat_le, nat_lt, Result, Ok, Err, ⊤, if◌then◌else◌}
+-- The form of an end on the plain device: with sense it has that of a check, and of another cause; without sense another status. Status, residual
+-- and sense are in their ranges.
+use Rattle.std.proofs.Common.{◌≡◌, ◌==◌, ◌+◌, ℕ, zero, suc, Bool, true, false, List, Option, Some, None, refl, ap, ◌∙◌, ◌*◌, inl, inr, arith}
+use Rattle.std.specs.Prelude.{◌%◌, ◌&&◌, ◌-◌, ◌≤◌, ◌<◌, [], ◌⊎◌, min, not, replicate, slice_index, is_some, length, nat_le, nat_lt, Result, Ok, Err, ⊤, if◌then◌else◌}
 use Rattle.std.specs.Str.{bytes_eq}
 use Rattle.std.proofs.lemmas.Bool.{cond_both}
 use Rattle.ckd_types.specs.declared.channel.Ccw.{Ccw}
@@ -28,6 +29,7 @@ use Rattle.ckd_types.specs.Sense.{
   file_protected_sense,
   equipment_sense,
   data_check_sense,
+  sense_of,
 }
 use Rattle.ckd_rules.specs.declared.finding.Sought.{Sought}
 use Rattle.ckd_rules.specs.declared.finding.Sought.TheVariants.{Here, Onward, Nowhere}
@@ -70,50 +72,96 @@ use Rattle.ckd_rules.specs.Updates.{update_data, update_ended, update_record, up
 use Rattle.ckd_rules.specs.Walk as W
 use Rattle.ckd_rules.specs.Walk.{Walked, touching, walk, walked}
 use Rattle.ckd_rules.specs.Writes.{write_on}
+use Rattle.hex.specs.Hex.{IsBytes}
 use Rattle.plain_defs.specs.Acts.{act_fault, act_outcome}
 use Rattle.plain_defs.specs.Effect.{acted_by, effect_by, effect_on}
 use Rattle.plain_defs.specs.PlainState.{PathsState, PlainState}
+use Rattle.report_reading.specs.Ranges.{AreBytes}
 use Rattle.run_audit_laws.proofs.EndLines.{TidyBy}
+
+no_bytes : (n i : ℕ) → slice_index (replicate n 0) i < 256
+no_bytes zero i = omega arith
+no_bytes (suc n) zero = omega arith
+no_bytes (suc n) (suc i) = no_bytes n i
+
+pub sense_bytes : (first second seventh : ℕ) → first < 256 → second < 256 → seventh < 256 → AreBytes 32 (sense_of first second seventh).bytes
+sense_bytes first second seventh a b c = record { count = refl; each = each } where
+  each : IsBytes (sense_of first second seventh).bytes
+  each zero = a
+  each (suc zero) = b
+  each (suc (suc zero)) = omega arith
+  each (suc (suc (suc zero))) = omega arith
+  each (suc (suc (suc (suc zero)))) = omega arith
+  each (suc (suc (suc (suc (suc zero))))) = omega arith
+  each (suc (suc (suc (suc (suc (suc zero)))))) = omega arith
+  each (suc (suc (suc (suc (suc (suc (suc zero))))))) = c
+  each (suc (suc (suc (suc (suc (suc (suc (suc i)))))))) = no_bytes 24 i
 
 -- a sense that a rule gives
 abbrev pub IsRule : Sense → Type 0
-IsRule sense = (bytes_eq sense.bytes equipment_sense.bytes ≡ false) × (bytes_eq sense.bytes data_check_sense.bytes ≡ false)
+IsRule sense = (bytes_eq sense.bytes equipment_sense.bytes ≡ false) × (bytes_eq sense.bytes data_check_sense.bytes ≡ false) × AreBytes 32 sense.bytes
+
+abbrev pub IsGood : UnitStatus → Type 0
+IsGood status = ((check.0 == status.0) ≡ false) × (status.0 < 256)
 
 abbrev pub FitsBy : Ccw → Ending → Option Sense → Type 0
 FitsBy c e (Some sense) = (e.status ≡ check) × (e.residual ≡ c.count) × (e.note ≡ Plain) × (e.sent ≡ []) × IsRule sense
-FitsBy c e None = (check.0 == e.status.0) ≡ false
+FitsBy c e None = IsGood e.status × (e.residual ≤ c.count)
 
 abbrev pub Fits : Ccw → Ending → Type 0
 Fits c e = FitsBy c e e.sense
 
-rejects : (n : ℕ) → IsRule (reject_sense n)
-rejects n = (refl, refl)
+rejects : (n : ℕ) → n < 256 → IsRule (reject_sense n)
+rejects n few = (refl, refl, sense_bytes 0x80 0 n (omega arith) (omega arith) few)
+
+protected_rule : IsRule file_protected_sense
+protected_rule = (refl, refl, sense_bytes 0 4 0 (omega arith) (omega arith) (omega arith))
+
+cylinder_rule : IsRule end_of_cylinder_sense
+cylinder_rule = (refl, refl, sense_bytes 0 0x20 0 (omega arith) (omega arith) (omega arith))
+
+no_record_rule : IsRule no_record_sense
+no_record_rule = (refl, refl, sense_bytes 0 8 0 (omega arith) (omega arith) (omega arith))
+
+format_rule : IsRule track_format_sense
+format_rule = (refl, refl, sense_bytes 0 0x40 0 (omega arith) (omega arith) (omega arith))
 
 refused_fits : (s : Stance) (c : Ccw) (sense : Sense) → IsRule sense → Fits c (refused s c sense).ending
 refused_fits s c sense rule = (refl, refl, refl, refl, rule)
 
-abbrev Good : UnitStatus → Type 0
-Good status = (check.0 == status.0) ≡ false
+good : IsGood normal
+good = (refl, omega arith)
 
-status_good : (body : List ℕ) → Good (status_of body)
+status_good : (body : List ℕ) → IsGood (status_of body)
 status_good body = by_test (length body == 0) where
-  by_test : (b : Bool) → Good (if b then exception else normal)
-  by_test true = refl
-  by_test false = refl
+  by_test : (b : Bool) → IsGood (if b then exception else normal)
+  by_test true = (refl, omega arith)
+  by_test false = good
 
-search_good : (met : Bool) → Good (search_status met)
-search_good true = refl
-search_good false = refl
+-- at most its count is left
+ended_fits : (c : Ccw) (area : ℕ) (status : UnitStatus) → IsGood status → IsGood status × (c.count - min c.count area ≤ c.count)
+ended_fits c area status is = (is, left c.count (min c.count area)) where
+  left : (n m : ℕ) → n - m ≤ n
+  left n m = omega arith
 
-read_good : (area : ReadArea) (body : List ℕ) → Good (read_status area body)
-read_good reads.Home body = refl
-read_good reads.Zero body = refl
-read_good reads.Count body = refl
+immediate_fits : (c : Ccw) → IsGood normal × (c.count ≤ c.count)
+immediate_fits c = (good, all c.count) where
+  all : (n : ℕ) → n ≤ n
+  all n = omega arith
+
+search_good : (met : Bool) → IsGood (search_status met)
+search_good true = (refl, omega arith)
+search_good false = good
+
+read_good : (area : ReadArea) (body : List ℕ) → IsGood (read_status area body)
+read_good reads.Home body = good
+read_good reads.Zero body = good
+read_good reads.Count body = good
 read_good reads.Data body = status_good body
 read_good reads.KeyData body = status_good body
-read_good reads.CountKeyData body = refl
-read_good reads.Multiple body = refl
-read_good reads.Track body = refl
+read_good reads.CountKeyData body = good
+read_good reads.Multiple body = good
+read_good reads.Track body = good
 
 -- Where a record isn't found
 
@@ -129,17 +177,17 @@ MoveFits (Err sense) = IsRule sense
 after_fits : (e : Option Extent) (t : ℕ) → MoveFits (track_after e t)
 after_fits None t = by_test (t % 15 == 14) where
   by_test : (b : Bool) → MoveFits (if b then Err end_of_cylinder_sense else Ok (t + 1))
-  by_test true = (refl, refl)
+  by_test true = cylinder_rule
   by_test false = tt
 after_fits (Some e) t = by_test (nat_le e.last t) where
   by_test : (b : Bool) → MoveFits (if b then Err file_protected_sense else Ok (t + 1))
-  by_test true = (refl, refl)
+  by_test true = protected_rule
   by_test false = tt
 
 next_fits : (s : Stance) → MoveFits (next_track s)
 next_fits s = by_test _ (after_fits s.extent s.track) where
   by_test : (b : Bool) → MoveFits (track_after s.extent s.track) → MoveFits (if b then Err file_protected_sense else track_after s.extent s.track)
-  by_test true h = (refl, refl)
+  by_test true h = protected_rule
   by_test false h = h
 
 moves_fits : (r : Result ℕ Sense) → MoveFits r → SoughtFits (moves_on r)
@@ -148,13 +196,13 @@ moves_fits (Err sense) h = h
 
 index_fits : (passes : ℕ) (o : Option ℕ) → SoughtFits (from_index passes o)
 index_fits passes (Some i) = tt
-index_fits passes None = (refl, refl)
+index_fits passes None = no_record_rule
 
 missed_fits : (b : Bool) (s : Stance) (again : Option ℕ) → SoughtFits (missed b s again)
 missed_fits true s again = moves_fits (next_track s) (next_fits s)
 missed_fits false s again = by_test (nat_le 1 s.passes) where
   by_test : (b : Bool) → SoughtFits (if b then Nowhere no_record_sense else from_index (s.passes + 1) again)
-  by_test true = (refl, refl)
+  by_test true = no_record_rule
   by_test false = index_fits (s.passes + 1) again
 
 found_fits : (b : Bool) (s : Stance) (o again : Option ℕ) → SoughtFits (find_from b s o again)
@@ -172,12 +220,12 @@ abbrev pub LookFits : Ccw → Looked → Type 0
 LookFits c l = TurnFits c l.turned
 
 search_fits : (t : Track) (area : SearchArea) (s : Stance) (c : Ccw) (k : Sought) → SoughtFits k → LookFits c (search_sought t area s c k)
-search_fits t area s c (Here i passes) h = search_good _
+search_fits t area s c (Here i passes) h = ended_fits c _ _ (search_good _)
 search_fits t area s c (Onward u) h = tt
 search_fits t area s c (Nowhere sense) h = refused_fits s c sense h
 
 reads_fit : (t : Track) (area : ReadArea) (s : Stance) (c : Ccw) (k : Sought) → SoughtFits k → LookFits c (read_sought t area s c k)
-reads_fit t area s c (Here i passes) h = read_good area _
+reads_fit t area s c (Here i passes) h = ended_fits c _ _ (read_good area _)
 reads_fit t area s c (Onward u) h = tt
 reads_fit t area s c (Nowhere sense) h = refused_fits s c sense h
 
@@ -185,10 +233,10 @@ data_fits : (d : Bool) (s : Stance) (c : Ccw) (i : ℕ) (r : Record) → LookFit
 data_fits d s c i r =
     cond_both (length r.body == 0) (ends (update_ended d s c i r.body 0))
     (edits (Update i r.key (given_at 0 (length r.body) c)) (update_ended d s c i r.body (length r.body))) (LookFits c)
-    (λ _. status_good r.body) (λ _. status_good r.body)
+    (λ _. ended_fits c _ _ (status_good r.body)) (λ _. ended_fits c _ _ (status_good r.body))
 
 record_fits : (key d : Bool) (s : Stance) (c : Ccw) (i : ℕ) (r : Record) → LookFits c (update_record key d s c i r)
-record_fits true d s c i r = status_good r.body
+record_fits true d s c i r = ended_fits c _ _ (status_good r.body)
 record_fits false d s c i r = data_fits d s c i r
 
 updates_fit : (key d : Bool) (records : List Record) (s : Stance) (c : Ccw) (k : Sought) → SoughtFits k → LookFits c (update_sought key d records s c k)
@@ -200,12 +248,12 @@ formats_fit : (g : Geometry) (records : List Record) (after : After) (s : Stance
 formats_fit g records after s c i =
     cond_both (has_room_behind g records i (key_given c) (body_given c))
     (edits (Format i (record_given c)) (format_ended after s c (i + 1) (8 + key_given c + body_given c)))
-    (ends (refused s c track_format_sense)) (LookFits c) (λ _. refl) (λ _. refused_fits s c track_format_sense (refl, refl))
+    (ends (refused s c track_format_sense)) (LookFits c) (λ _. ended_fits c _ _ good) (λ _. refused_fits s c track_format_sense format_rule)
 
 zeros_fit : (s : Stance) (c : Ccw) → LookFits c (zero_on s c)
 zeros_fit s c =
     cond_both (is_zero_given c) (edits (ZeroEdit (record_given c)) (format_ended Wrote s c 0 16)) (ends (refused s c track_format_sense)) (LookFits c)
-    (λ _. refl) (λ _. refused_fits s c track_format_sense (refl, refl))
+    (λ _. ended_fits c _ _ good) (λ _. refused_fits s c track_format_sense format_rule)
 
 writes_fit : (g : Geometry) (t : Track) (s : Stance) (c : Ccw) (w : Write) → LookFits c (write_on g t s c w)
 writes_fit g t s c Data = updates_fit false (is_some s.domain) t.records s c _ (found_fits (is_some s.domain) s _ _)
@@ -217,8 +265,8 @@ writes_fit g t s c NextTrack = formats_fit g t.records Other s c 0
 writes_fit g t s c Zero = zeros_fit s c
 
 found_record_fits : (s : Stance) (c : Ccw) (d : Domain) (o : Option ℕ) → Fits c (located s c d o).ending
-found_record_fits s c d (Some i) = refl
-found_record_fits s c d None = refused_fits s c no_record_sense (refl, refl)
+found_record_fits s c d (Some i) = ended_fits c _ _ good
+found_record_fits s c d None = refused_fits s c no_record_sense no_record_rule
 
 pub look_fits : (g : Geometry) (t : Track) (s : Stance) (c : Ccw) (look : Look) → LookFits c (look_on g t s c look)
 look_fits g t s c (Finds d) = found_record_fits s c d _
@@ -228,8 +276,8 @@ look_fits g t s c (Writes w) = writes_fit g t s c w
 
 -- From track to track: but for one that looks at more tracks than there are
 
-abbrev WalkFits : Ccw → Outcome → Type 0
-WalkFits c o = Fits c o.ending ⊎ (o.ending.sense ≡ Some equipment_sense)
+abbrev pub WalkFits : Ccw → Outcome → Type 0
+WalkFits c o = Fits c o.ending ⊎ ((o.ending.sense ≡ Some equipment_sense) × (o.ending.status ≡ check) × (o.ending.residual ≡ c.count))
 
 turned_fits : (c : Ccw) (t : ℕ) (on : Stance → Walked) (s : Stance) (k : Turned) → TurnFits c k → ((z : Stance) → WalkFits c (on z).outcome) →
     WalkFits c (walked t on s k).outcome
@@ -240,7 +288,7 @@ turned_fits c t on s (turns.Edits edit e) h go = inl h
 walk_fits : (n : ℕ) (g : Geometry) (tracks : ℕ → Track) (start : Stance) (c : Ccw) (look : Look) (s : Stance) →
     WalkFits c (walk n g tracks start c look s).outcome
 unfolding W.walk
-walk_fits zero g tracks start c look s = inr refl
+walk_fits zero g tracks start c look s = inr (refl, refl, refl)
 walk_fits (suc n) g tracks start c look s =
     turned_fits c s.track (walk n g tracks start c look) (look_on g (tracks s.track) s c look).stance (look_on g (tracks s.track) s c look).turned
     (look_fits g (tracks s.track) s c look) (walk_fits n g tracks start c look)
@@ -252,15 +300,15 @@ OrderFits (Ok order) = ⊤
 OrderFits (Err sense) = IsRule sense
 
 placed_fits : (s : Stance) (order : Order) → OrderFits (placed_order s order)
-placed_fits s order = cond_both (is_within s.extent (first_track s order)) (Ok order) (Err file_protected_sense) OrderFits (λ _. tt) (λ _. (refl, refl))
+placed_fits s order = cond_both (is_within s.extent (first_track s order)) (Ok order) (Err file_protected_sense) OrderFits (λ _. tt) (λ _. protected_rule)
 
 abbrev FaultFits : Option Sense → Type 0
 FaultFits (Some sense) = IsRule sense
 FaultFits None = ⊤
 
 mask_fits : (mask : ℕ) (command : Command) → FaultFits (mask_fault mask command)
-mask_fits mask (commands.Control k) = cond_both (permits_seek mask k) None (Some file_protected_sense) FaultFits (λ _. tt) (λ _. (refl, refl))
-mask_fits mask (commands.Write w) = cond_both (permits_write mask w) None (Some (reject_sense 2)) FaultFits (λ _. tt) (λ _. (refl, refl))
+mask_fits mask (commands.Control k) = cond_both (permits_seek mask k) None (Some file_protected_sense) FaultFits (λ _. tt) (λ _. protected_rule)
+mask_fits mask (commands.Write w) = cond_both (permits_write mask w) None (Some (reject_sense 2)) FaultFits (λ _. tt) (λ _. rejects 2 (omega arith))
 mask_fits mask (commands.Search x) = tt
 mask_fits mask (commands.Read r) = tt
 mask_fits mask (commands.Device d) = tt
@@ -270,17 +318,17 @@ masked_fits s order (Some sense) h = h
 masked_fits s order None h = placed_fits s order
 
 permitted_fits : (s : Stance) (command : Command) (o : Option Order) → OrderFits (permitted_order s command o)
-permitted_fits s command None = rejects 4
+permitted_fits s command None = rejects 4 (omega arith)
 permitted_fits s command (Some order) = masked_fits s order (mask_fault s.mask command) (mask_fits s.mask command)
 
 order_fits : (f : Fixed) (s : Stance) (c : Ccw) (o : Option Command) → OrderFits (order_by f s c o)
-order_fits f s c None = rejects 1
+order_fits f s c None = rejects 1 (omega arith)
 order_fits f s c (Some command) =
     cond_both (not (is_in_sequence s s.domain command)) (Err (reject_sense 2))
     (if nat_lt c.count (required_count command) then Err (reject_sense 3) else permitted_order s command (decoded f s c command)) OrderFits
-    (λ _. rejects 2)
+    (λ _. rejects 2 (omega arith))
     (λ _. cond_both (nat_lt c.count (required_count command)) (Err (reject_sense 3)) (permitted_order s command (decoded f s c command)) OrderFits
-    (λ _. rejects 3) (λ _. permitted_fits s command (decoded f s c command)))
+    (λ _. rejects 3 (omega arith)) (λ _. permitted_fits s command (decoded f s c command)))
 
 abbrev pub OpeningFits : Ccw → Opening → Type 0
 OpeningFits c (openings.Over e) = Fits c e
@@ -324,16 +372,16 @@ look_from_fits s c (Reads r) = read_from_fits s c r r.area s.place
 look_from_fits s c (Writes w) = write_from_fits s c w
 
 locating_fits : (s : Stance) (c : Ccw) (d : Domain) (o : Option Place) → OpeningFits c (locating s c d o).opening
-locating_fits s c d (Some place) = refl
+locating_fits s c d (Some place) = ended_fits c _ _ good
 locating_fits s c d None = tt
 
 begun_fits : (s : Stance) (c : Ccw) (order : Order) → OpeningFits c (begun s c order).opening
-begun_fits s c Nothing = refl
-begun_fits s c (Seeks t) = refl
-begun_fits s c Recalibrates = refl
-begun_fits s c SetsSector = refl
-begun_fits s c (SetsMask mask) = refl
-begun_fits s c (Defines e) = refl
+begun_fits s c Nothing = immediate_fits c
+begun_fits s c (Seeks t) = ended_fits c _ _ good
+begun_fits s c Recalibrates = immediate_fits c
+begun_fits s c SetsSector = ended_fits c _ _ good
+begun_fits s c (SetsMask mask) = ended_fits c _ _ good
+begun_fits s c (Defines e) = ended_fits c _ _ good
 begun_fits s c (Locates d) = locating_fits s c d (unseen_place d.orientation)
 begun_fits s c (Looks look) = look_from_fits s c look
 begun_fits s c (Asks act) = tt
@@ -348,17 +396,17 @@ opening_fits f s c = opened_fits s c (order_of f s c) (order_fits f s c _)
 -- The whole effect
 
 done_fits : (s : Stance) (c : Ccw) (bytes : List ℕ) (act : LocalAct) → Fits c (act_outcome s c bytes act).ending
-done_fits s c bytes (acts.SetGroup function id) = refl
-done_fits s c bytes acts.Sense = refl
-done_fits s c bytes acts.SenseId = refl
-done_fits s c bytes acts.Reserve = refl
-done_fits s c bytes acts.Release = refl
-done_fits s c bytes acts.Steal = refl
-done_fits s c bytes acts.SenseGroup = refl
+done_fits s c bytes (acts.SetGroup function id) = ended_fits c _ _ good
+done_fits s c bytes acts.Sense = ended_fits c _ _ good
+done_fits s c bytes acts.SenseId = ended_fits c _ _ good
+done_fits s c bytes acts.Reserve = ended_fits c _ _ good
+done_fits s c bytes acts.Release = ended_fits c _ _ good
+done_fits s c bytes acts.Steal = ended_fits c _ _ good
+done_fits s c bytes acts.SenseGroup = ended_fits c _ _ good
 
 pub act_fits : (f : Fixed) (paths : PathsState) (path : ℕ) (s : Stance) (c : Ccw) (act : LocalAct) (o : Option GroupFault) →
     Fits c (acted_by f paths path s c act o).outcome.ending
-act_fits f paths path s c act (Some fault) = refused_fits s c (reject_sense 4) (rejects 4)
+act_fits f paths path s c act (Some fault) = refused_fits s c (reject_sense 4) (rejects 4 (omega arith))
 act_fits f paths path s c act None = done_fits s c _ act
 
 effect_fits : (f : Fixed) (paths : PathsState) (tracks : ℕ → Track) (path : ℕ) (start : Stance) (c : Ccw) (s : Stance) (o : Opening) → OpeningFits c o →
@@ -386,7 +434,7 @@ note_is i c o is =
 
 tidy_by : (i : ℕ) (c : Ccw) (o : Outcome) (s : Option Sense) → FitsBy c o.ending s → TidyBy c (end_of i c o) s
 tidy_by i c o (Some sense) h = (h.0, h.1, note_is i c o h.0 ∙ h.2, h.3, h.4.0, h.4.1)
-tidy_by i c o None h = h
+tidy_by i c o None h = h.0.0
 
 -- an end of the plain device, of a command that ends before it has looked at more tracks than there are
 pub end_is_tidy : (i : ℕ) (f : Fixed) (state : PlainState) (path : ℕ) (s : Stance) (c : Ccw) →
@@ -396,4 +444,4 @@ end_is_tidy i f state path s c few = by_fits (outcome_fits f state path s c) whe
   by_fits : WalkFits c (effect_on f state path s c).outcome →
       TidyBy c (end_of i c (effect_on f state path s c).outcome) (end_of i c (effect_on f state path s c).outcome).sense
   by_fits (inl h) = tidy_by i c (effect_on f state path s c).outcome (effect_on f state path s c).outcome.ending.sense h
-  by_fits (inr many) = absurd (few many)
+  by_fits (inr many) = absurd (few many.0)

@@ -1,18 +1,10 @@
--- What isn't shown to be in its range of a line of a run's report. That its paths, devices and ordinals are is shown, and that all is of what orders
--- answer, of CFW LOST, of OVER and of STEP IDLE, RUN IDLE, RESET, IO, DEVICE, LOST and FRAME.
-use Rattle.std.specs.Prelude.{◌<◌, ℕ}
+-- What isn't shown to be in its range of a line of a run's report: who has a device reserved, and the bytes of DATA. All else is.
 use Rattle.hex.specs.Hex.{IsBytes}
 use Rattle.report_text.specs.declared.answers.StartAnswer.{StartAnswer}
 use Rattle.report_text.specs.declared.answers.StartAnswer.TheVariants as start
-use Rattle.report_text.specs.declared.line.EndLine.{EndLine}
 use Rattle.report_text.specs.declared.line.ReportLine.{ReportLine}
 use Rattle.report_text.specs.declared.line.ReportLine.TheVariants as lines
-use Rattle.report_reading.specs.Ranges.{AreBytes, IsOwner, IsShort, IsTrack}
-
-pub record EndIsIn (e : EndLine) : Type 0 where
-  pub index : IsShort e.index
-  pub status : e.status.0 < 256
-  pub residual : IsShort e.residual
+use Rattle.report_reading.specs.Ranges.{IsOwner}
 
 -- who has the device reserved
 abbrev pub RestOfStart : StartAnswer → Type 0
@@ -22,7 +14,5 @@ RestOfStart _ = Unit {0}
 
 abbrev pub RestIsIn : ReportLine → Type 0
 RestIsIn (lines.Start path device answer) = RestOfStart answer
-RestIsIn (lines.End end) = EndIsIn end
 RestIsIn (lines.Data bytes) = IsBytes bytes
-RestIsIn (lines.Sense sense) = AreBytes 32 sense.bytes
 RestIsIn _ = Unit {0}

@@ -135,8 +135,8 @@ pub fn report_has_form()
     ensures { (deck : DeckLines) → All (λ (line : ReportLine). has_form line ≡ true) (report_lines (run_of deck)) }
 {}
 
-/// All numbers and bytes of the report of a deck that was read are in their ranges, where these few are: index, status
-/// and residual of each END, the bytes of DATA and SENSE, and who has a device reserved.
+/// All numbers and bytes of the report of a deck that was read are in their ranges, where these few are: the bytes of DATA lines, and who has a
+/// device reserved.
 pub fn report_is_in_range()
     ensures { (text : List ℕ) (deck : DeckLines) → parsed text ≡ Ok deck → All RestIsIn (report_lines (run_of deck)) → All IsLine (report_lines (run_of deck)) }
 {}

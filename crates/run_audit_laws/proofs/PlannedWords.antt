@@ -1,0 +1,144 @@
+-- The words of each program of a deck that was read: at most 256 of them, with counts of 16 bits; so the words that end have indices of 16 bits.
+use Rattle.std.proofs.Common.{◌≡◌, ◌≤◌, ◌<◌, ◌+◌, ◌-◌, ◌==◌, ◌++◌, ℕ, zero, suc, Bool, true, false, List, [], ◌∷◌, length, Option, Some, None, refl, sym, ap, subst, ◌∙◌, if◌then◌else◌, arith}
+use Rattle.std.specs.Prelude.{nat_lt, slice_index_or, slice_set}
+use Rattle.std.proofs.lemmas.Bool.{ltb-false}
+use Rattle.ckd_types.specs.declared.channel.Ccw.{Ccw}
+use Rattle.ckd_types.specs.declared.channel.Why.TheVariants.{Empty, TooLong}
+use Rattle.ckd_types.specs.Ccw.{ccw_at, is_chained, is_transfer}
+use Rattle.ckd_types.specs.Program.{IsProgram, fault_from, next_ccw, target}
+use Rattle.ckd_types.specs.Status.{has_status_modifier}
+use Rattle.ckd_rules.specs.Ending.{Outcome}
+use Rattle.ckd_rules.specs.Ends.{goes_to, is_over}
+use Rattle.deck_plan.specs.Plans.{no_plans, plan_of, with_program}
+use Rattle.deck_text.specs.declared.line.DeviceLine.{DeviceLine}
+use Rattle.deck_text.specs.declared.line.PlannedProgram.{PlannedProgram}
+use Rattle.deck_text.specs.Plans.{planned, planned_all, plans_of}
+use Rattle.deck_text.proofs.CcwAgain.{CcwFacts}
+use Rattle.deck_text.proofs.DeckAgain.{Each, ProgramOk}
+use Rattle.plain_defs.specs.declared.journal.Acted.{Acted}
+use Rattle.plain_defs.specs.Effect.{effect_on}
+use Rattle.plain_defs.specs.Journal.{Plans, program_of}
+use Rattle.plain_defs.specs.PlainState.{PlainState}
+use Rattle.plain_defs.specs.Program.{Part, first_part, one_more, part_of}
+use Rattle.plain_defs.proofs.PartLemmas.{acted_beside, more_next, over_stays}
+
+pub record GoodWords (ccws : List Ccw) : Type 0 where
+  pub words : length ccws ≤ 256
+  pub counts : (i : ℕ) → (ccw_at ccws i).count < 65536
+
+-- A program that was read
+
+each_count : (ccws : List Ccw) → Each CcwFacts ccws → (i : ℕ) → (ccw_at ccws i).count < 65536
+each_count [] facts i = omega arith
+each_count (c ∷ ccws) facts zero = facts.0.count
+each_count (c ∷ ccws) facts (suc i) = each_count ccws facts.1 i
+
+few_words : (ccws : List Ccw) → IsProgram ccws → length ccws ≤ 256
+few_words ccws is = by_empty (length ccws == 0) (nat_lt 256 (length ccws)) refl is where
+  by_empty : (a b : Bool) → nat_lt 256 (length ccws) ≡ b →
+      (if a then Some (0, Empty) else if b then Some (256, TooLong) else fault_from ccws 0 ccws) ≡ None → length ccws ≤ 256
+  by_empty true b long none = absurd (cc)
+  by_empty false true long none = absurd (cc)
+  by_empty false false long none = let few = ltb-false 256 (length ccws) long in omega (arith, few)
+
+no_words : GoodWords []
+no_words = record { words = omega arith; counts = λ i. omega arith }
+
+-- The plans of a device
+
+abbrev AreGood : List (List Ccw) → Type 0
+AreGood plan = (n : ℕ) → GoodWords (slice_index_or plan n [])
+
+abbrev AllGood : Plans → Type 0
+AllGood plans = (j n : ℕ) → GoodWords (slice_index_or (slice_index_or plans j []) n [])
+
+good_set : (plans : Plans) (i j : ℕ) (plan : List (List Ccw)) → AreGood plan → AreGood (slice_index_or plans j []) →
+    AreGood (slice_index_or (slice_set plans i plan) j [])
+good_set [] i j plan one old = old
+good_set (p ∷ plans) zero zero plan one old = one
+good_set (p ∷ plans) zero (suc j) plan one old = old
+good_set (p ∷ plans) (suc i) zero plan one old = old
+good_set (p ∷ plans) (suc i) (suc j) plan one old = good_set plans i j plan one old
+
+good_more : (plan : List (List Ccw)) (program : List Ccw) → AreGood plan → GoodWords program → AreGood (plan ++ program ∷ [])
+good_more [] program old one zero = one
+good_more [] program old one (suc n) = no_words
+good_more (p ∷ plan) program old one zero = old zero
+good_more (p ∷ plan) program old one (suc n) = good_more plan program (λ m. old (suc m)) one n
+
+good_if : (b : Bool) (plans more : Plans) → AllGood plans → AllGood more → AllGood (if b then more else plans)
+good_if true plans more h g = g
+good_if false plans more h g = h
+
+good_all : (devices : List DeviceLine) (d : ℕ) (plans : Plans) (ps : List PlannedProgram) → AllGood plans → Each (ProgramOk devices) ps →
+    AllGood (planned_all d plans ps)
+good_all devices d plans [] h ok = h
+good_all devices d plans (p ∷ ps) h ok =
+    let one : GoodWords p.program = record { words = few_words p.program ok.0.program; counts = each_count p.program ok.0.ccws } in
+    good_all devices d (planned d plans p) ps
+    (good_if (p.device == d) plans (with_program plans p.path p.program) h
+    (λ j. good_set plans (p.path - 1) j (plan_of plans p.path ++ p.program ∷ []) (good_more (plan_of plans p.path) p.program (h (p.path - 1)) one) (h j)))
+    ok.1
+
+good_none : AllGood no_plans
+good_none zero n = no_words
+good_none (suc zero) n = no_words
+good_none (suc (suc zero)) n = no_words
+good_none (suc (suc (suc zero))) n = no_words
+good_none (suc (suc (suc (suc j)))) n = no_words
+
+pub planned_words : (devices : List DeviceLine) (programs : List PlannedProgram) (d : ℕ) → Each (ProgramOk devices) programs → (path ordinal : ℕ) →
+    GoodWords (program_of (plans_of programs d) path ordinal)
+planned_words devices programs d ok path ordinal = good_all devices d no_plans programs good_none ok (path - 1) (ordinal - 1)
+
+-- The word of the next command
+
+module _ (ccws : List Ccw) (good : GoodWords ccws) where
+  -- no word behind the last one is chained
+  among : (l : List Ccw) (i : ℕ) → is_chained (ccw_at l i) ≡ true → i < length l
+  among [] i is = absurd (cc)
+  among (c ∷ l) zero is = omega arith
+  among (c ∷ l) (suc i) is = let less = among l i is in omega (arith, less)
+
+  target_small : (i : ℕ) → i < 65536 → target ccws i < 65536
+  target_small i less = by_test (is_transfer (ccw_at ccws i)) where
+    by_test : (b : Bool) → (if b then (ccw_at ccws i).count else i) < 65536
+    by_test true = good.counts i
+    by_test false = less
+
+  next_small : (i : ℕ) (modified : Bool) (j : ℕ) → next_ccw ccws i modified ≡ Some j → j < 65536
+  next_small i modified j = by_test (is_chained (ccw_at ccws i)) refl modified where
+    further : (k : ℕ) → k ≤ 2 → i < length ccws → length ccws ≤ 256 → i + k < 65536
+    further k few less most = omega (arith, few, less, most)
+
+    by_test : (b : Bool) → is_chained (ccw_at ccws i) ≡ b → (m : Bool) → (if b then Some (target ccws (i + (if m then 2 else 1))) else None) ≡ Some j →
+        j < 65536
+    by_test true is true some =
+        let same : target ccws (i + 2) ≡ j = cc in
+        subst (λ (n : ℕ). n < 65536) same (target_small (i + 2) (further 2 (omega arith) (among ccws i is) good.words))
+    by_test true is false some =
+        let same : target ccws (i + 1) ≡ j = cc in
+        subst (λ (n : ℕ). n < 65536) same (target_small (i + 1) (further 1 (omega arith) (among ccws i is) good.words))
+    by_test false is m some = absurd (cc)
+
+  goes_small : (i : ℕ) (o : Outcome) (j : ℕ) → goes_to ccws i o ≡ Some j → j < 65536
+  goes_small i o j = by_test (is_over (ccw_at ccws i) o) where
+    by_test : (b : Bool) → (if b then None else next_ccw ccws i (has_status_modifier o.ending.status)) ≡ Some j → j < 65536
+    by_test true some = absurd (cc)
+    by_test false some = next_small i (has_status_modifier o.ending.status) j some
+
+  module _ (path : ℕ) (acts : List Acted) (state : PlainState) where
+    more_small : (p : Part) (n : Option ℕ) → p.next ≡ n → (j : ℕ) → (one_more path ccws acts p).next ≡ Some j → j < 65536
+    more_small p (Some i) is j some =
+        let o = (effect_on p.fixed p.state path p.stance (ccw_at ccws i)).outcome in
+        goes_small i o j (sym (more_next path ccws acts p i is) ∙ some)
+    more_small p None is j some =
+        let none : None ≡ Some j = sym (ap (λ (q : Part). q.next) (over_stays path ccws acts p is) ∙ is) ∙ some in absurd (cc)
+
+    pub part_index : (k j : ℕ) → (part_of state path ccws acts k).next ≡ Some j → j < 65536
+    unfolding part_of
+    part_index zero j some =
+        let first : Some 0 ≡ Some j = sym (acted_beside acts (first_part state path ccws)).next ∙ some in
+        let same : 0 ≡ j = cc in
+        subst (λ (n : ℕ). n < 65536) same (omega arith)
+    part_index (suc k) j some = more_small (part_of state path ccws acts k) (part_of state path ccws acts k).next refl j some
