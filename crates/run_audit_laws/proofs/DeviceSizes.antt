@@ -39,12 +39,15 @@ use Rattle.subsystem_laws.proofs.RunLines.{AnyEvent, all_asked}
 use Rattle.subsystem_laws.proofs.Shapes.{power_shape, reset_shape}
 use Rattle.subsystem_laws.proofs.Walks.{AreSo, IsKept, lines_end_so, run_keeps}
 use Rattle.run_audit_laws.proofs.LentDevices.{lend_makes}
+use Rattle.deck_text.proofs.DeckAgain.{Each, ProgramOk}
+use Rattle.run_audit_laws.proofs.PlannedWords.{GiveBytes, plans_give}
 
 pub record Sized (d : MarksDevice) : Type 0 where
   pub device : d.store.device < 16
   pub cylinders : d.store.cylinders ≤ 64
   pub lent : IfSome d.store.lent (λ n. n < 16)
   pub plans : (path : ℕ) → length (planned d.plans path) ≤ 512
+  pub words : GiveBytes d.plans
 
 sized_as : (d y : MarksDevice) → y.store.device ≡ d.store.device → y.store.cylinders ≡ d.store.cylinders → y.store.lent ≡ d.store.lent →
     y.plans ≡ d.plans → Sized d → Sized y
@@ -53,6 +56,7 @@ sized_as d y number cylinders lent plans s = record {
   cylinders = subst (λ (k : ℕ). k ≤ 64) (sym cylinders) s.cylinders;
   lent = subst (λ (o : Option ℕ). IfSome o (λ n. n < 16)) (sym lent) s.lent;
   plans = λ path. subst (λ (k : Plans). length (planned k path) ≤ 512) (sym plans) (s.plans path);
+  words = subst (λ (k : Plans). GiveBytes k) (sym plans) s.words;
 }
 
 stays : {X : Type 0} (d : MarksDevice) (talk : Interaction Bool Image MarksDevice X) (b : Base) → b.device ≡ d.store.device →
@@ -102,10 +106,11 @@ sized_kept = record {
         lent = subst (λ (o : Option ℕ). IfSome o (λ n. n < 16)) (sym l.lent) r.device;
         plans = λ path.
             subst (λ (k : Plans). length (planned k path) ≤ 512) (sym (held true (lend_makes y x.store.device) t).plans) (s.plans path);
+        words = subst (λ (k : Plans). GiveBytes k) (sym (held true (lend_makes y x.store.device) t).plans) s.words;
       };
   joins = λ d free s. sized_as d (join d) refl refl refl refl s;
   splits = λ d fault s. sized_as d (split d) refl refl refl refl s;
-  restored = λ d a is s. record { device = s.device; cylinders = s.cylinders; lent = tt; plans = s.plans };
+  restored = λ d a is s. record { device = s.device; cylinders = s.cylinders; lent = tt; plans = s.plans; words = s.words };
 }
 
 abbrev Small : DeviceLine → Type 0
@@ -114,21 +119,22 @@ Small d = d.cylinders ≤ 64
 most_plans : (n k : ℕ) → n ≤ k → k ≤ 512 → n ≤ 512
 most_plans n k le few = omega (arith, le, few)
 
-opened_sized : (deck : DeckLines) → length deck.programs ≤ 512 → (seen : List ℕ) (ds : List DeviceLine) → AreNumbered seen ds → All Small ds → AreSo Sized (map (opened_device deck) ds)
-opened_sized deck few seen [] n s = tt
-opened_sized deck few seen (d ∷ ds) n s = (
+opened_sized : (deck : DeckLines) → length deck.programs ≤ 512 → Each (ProgramOk deck.devices) deck.programs → (seen : List ℕ) (ds : List DeviceLine) → AreNumbered seen ds → All Small ds → AreSo Sized (map (opened_device deck) ds)
+opened_sized deck few ok seen [] n s = tt
+opened_sized deck few ok seen (d ∷ ds) n s = (
   record {
     device = n.1;
     cylinders = All-head Small d ds s;
     lent = tt;
     plans = λ path. most_plans _ (length deck.programs) (plan_bound deck.programs d.number path) few;
+    words = plans_give deck.devices d.number deck.programs ok;
   },
-  opened_sized deck few (d.number ∷ seen) ds n.2 (All-tail Small d ds s),
+  opened_sized deck few ok (d.number ∷ seen) ds n.2 (All-tail Small d ds s),
 )
 
 module _ (text : List ℕ) (deck : DeckLines) (read : parsed text ≡ Ok deck) where
   pub first_sized : AreSo Sized (opened deck).mounted
-  first_sized = opened_sized deck (parsed_good text deck read).program_count [] deck.devices (read_numbered text deck read) (read_small text deck read)
+  first_sized = opened_sized deck (parsed_good text deck read).program_count (parsed_good text deck read).programs [] deck.devices (read_numbered text deck read) (read_small text deck read)
 
   pub run_sized : All (λ (x : Logged). All Sized (devices_of x.happened.behind)) (run_of deck).events
   unfolding D.run_asked

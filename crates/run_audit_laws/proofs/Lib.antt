@@ -46,6 +46,9 @@ mod NextTracks
 mod OwnEvents
 mod FramesOwned
 mod FrameTracks
+mod NamedGroups
+mod NamedPrograms
+mod NamedOpenings
 mod CommandCounts
 mod RunEnds
 mod DeckEvents
@@ -57,6 +60,7 @@ mod Feeds
 mod DeckTexts
 mod OwnTexts
 mod DeviceSizes
+mod PlannedWords
 mod NamedEvents
 mod LooseNumbers
 mod RangedDevices

@@ -132,7 +132,7 @@ pub fn report_has_form()
 {}
 
 /// All numbers and bytes of the report of a deck that was read are in their ranges, where these few are: tracks of HALF, BACK and CFW, index, status
-/// and residual of each END, the bytes of DATA and SENSE, and who has a device reserved.
+/// and residual of each END, and the bytes of DATA and SENSE.
 pub fn report_is_in_range()
     ensures { (text : List ℕ) (deck : DeckLines) → parsed text ≡ Ok deck → All RestIsIn (report_lines (run_of deck)) → All IsLine (report_lines (run_of deck)) }
 {}
