@@ -47,6 +47,9 @@ mod NextTracks
 mod OwnEvents
 mod FramesOwned
 mod FrameTracks
+mod NamedGroups
+mod NamedPrograms
+mod NamedOpenings
 mod CommandCounts
 mod RunEnds
 mod DeckEvents
@@ -58,6 +61,7 @@ mod Feeds
 mod DeckTexts
 mod OwnTexts
 mod DeviceSizes
+mod GivenWords
 mod NamedEvents
 mod LooseNumbers
 mod RangedActs

@@ -3,7 +3,7 @@ use Rattle.std.proofs.Common.{◌≤◌, ◌<◌, ◌==◌, ℕ, Bool, true, fal
 use Rattle.std.specs.Prelude.{All, IfSome}
 use Rattle.std.proofs.lemmas.List.Elements.{All-head, All-tail}
 use Rattle.device_defs.specs.Marks.{MarksDevice}
-use Rattle.report_reading.specs.Ranges.{IsShort}
+use Rattle.report_reading.specs.Ranges.{IsOwner, IsShort}
 use Rattle.subsystem_defs.specs.Beside.{loose_count}
 use Rattle.subsystem_defs.specs.Deeds.{device_in}
 use Rattle.subsystem_defs.specs.Promised.{HasPlainHistory}
@@ -19,6 +19,7 @@ pub record Ranged (d : MarksDevice) : Type 0 where
   pub number : IsShort d.store.number
   pub works : WorksOn d
   pub some : 0 < d.store.cylinders
+  pub owner : IfSome d.paths.owner IsOwner
 
 found_ranged : (b : Bool) (d : MarksDevice) (o : Option MarksDevice) → Ranged d → IfSome o Ranged → IfSome (if b then Some d else o) Ranged
 found_ranged true d o r rest = r

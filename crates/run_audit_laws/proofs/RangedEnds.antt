@@ -1,4 +1,4 @@
--- What a start and each order of a run answer is in its range, but for whoever has a device reserved.
+-- What a start and each order of a run answer is in its range.
 use Rattle.std.proofs.Common.{◌≡◌, ◌≤◌, ◌<◌, ◌+◌, ◌-◌, ◌*◌, ◌==◌, ℕ, Bool, true, false, List, [], ◌∷◌, length, map, Option, Some, None, is_some, refl, sym, subst, if◌then◌else◌, arith}
 use Rattle.std.specs.Prelude.{◌&&◌, All, IfSome, not}
 use Rattle.std.proofs.lemmas.Bool.{eqb-false}
@@ -29,7 +29,7 @@ use Rattle.device_defs.specs.Store.{HalfWrite, side_of, stale_at, tracks_of}
 use Rattle.device_laws.proofs.Had.{Had, had_done, had_then, held}
 use Rattle.device_laws.proofs.HistoryTold.{background_told}
 use Rattle.device_laws.proofs.PlainEvents.{had_always}
-use Rattle.report_reading.specs.Ranges.{IsAnswer, IsFault, IsStart}
+use Rattle.report_reading.specs.Ranges.{IsOwner, IsAnswer, IsFault, IsStart}
 use Rattle.run_report.specs.Answers.{order_answer, refused_as, start_answer}
 use Rattle.subsystem_defs.specs.declared.end.EventEnd.{EventEnd}
 use Rattle.subsystem_defs.specs.declared.end.EventEnd.TheVariants as ends
@@ -270,17 +270,17 @@ module _ (d : MarksDevice) (k : Ranged d) (path : ℕ) where
   abbrev Refused : Option StartFault → Type 0
   Refused o = IfSome o (λ f. StartIn (ends.NotStarted f))
 
-  reserved_in : (o : Option Owner) → Refused (reserved_fault d o)
-  reserved_in (Some owner) = by_test (is_shut d) where
+  reserved_in : (o : Option Owner) → IfSome o IsOwner → Refused (reserved_fault d o)
+  reserved_in (Some owner) h = by_test (is_shut d) where
     by_test : (b : Bool) → StartIn (ends.NotStarted (if b then refusals.Shut owner else refusals.Reserved owner))
-    by_test true = λ r. r
-    by_test false = λ r. r
-  reserved_in None = tt
+    by_test true = λ r. h
+    by_test false = λ r. h
+  reserved_in None h = tt
 
   idle_in : Refused (idle_fault d path)
   idle_in = by_left (left d path == 0) where
     by_out : (b : Bool) → Refused (if b then reserved_fault d d.paths.owner else None)
-    by_out true = reserved_in d.paths.owner
+    by_out true = reserved_in d.paths.owner k.owner
     by_out false = tt
 
     by_left : (b : Bool) → Refused (if b then Some refusals.PlanDone else if keeps_out d path then reserved_fault d d.paths.owner else None)

@@ -16,13 +16,13 @@ use Rattle.device_defs.specs.Owed.{waits}
 use Rattle.device_defs.specs.Store.{HalfWrite, is_lost, takes_b, tracks_of}
 use Rattle.device_defs.specs.Transfers.{both}
 use Rattle.plain_defs.specs.History.{IsPlain}
-use Rattle.plain_defs.specs.PlainState.{PlainState}
+use Rattle.plain_defs.specs.PlainState.{PathsState, PlainState}
 use Rattle.report_places.specs.declared.state.Outline.{Outline}
 use Rattle.report_places.specs.Place.{holds, is_declared, outline_in}
 use Rattle.report_text.specs.declared.answers.DeviceTotals.TheVariants as totals
 use Rattle.report_text.specs.declared.line.ReportLine.{ReportLine}
 use Rattle.report_text.specs.declared.line.ReportLine.TheVariants as lines
-use Rattle.report_reading.specs.Ranges.{IsDevice, IsLine, IsLong}
+use Rattle.report_reading.specs.Ranges.{IsDevice, IsLine, IsLong, IsOwner}
 use Rattle.run_report.specs.Closing.{device_lines, ending_lines, frame_line}
 use Rattle.run_report.specs.Events.{lines_of}
 use Rattle.run_report.specs.Report.{lines_of_run, report_lines}
@@ -56,6 +56,9 @@ use Rattle.run_audit_laws.proofs.FewDevices.{run_has_few}
 use Rattle.run_audit_laws.proofs.FramesOwned.{frames_are_declared}
 use Rattle.run_audit_laws.proofs.FrameTracks.{OnTrack, frames_have_tracks}
 use Rattle.run_audit_laws.proofs.LooseNumbers.{count_short, number_short}
+use Rattle.run_audit_laws.proofs.NamedGroups.{AreNamed}
+use Rattle.run_audit_laws.proofs.NamedOpenings.{opening_named}
+use Rattle.run_audit_laws.proofs.NamedPrograms.{history_named}
 use Rattle.run_audit_laws.proofs.NamedEvents.{Names, run_names}
 use Rattle.run_audit_laws.proofs.RangedDevices.{Ranged, device_ranged}
 use Rattle.run_audit_laws.proofs.RangedEnds.{Answers, AnswersSo, OrderIn, answers_go}
@@ -262,6 +265,13 @@ all_known (t ∷ ts) r f n m a o w =
     (all_known ts (All-tail BothRanged t ts r) (All-tail IsFew t ts f) (All-tail NamesLogged t ts n) (All-tail MovesByTable t ts m)
     (All-tail AnswersLogged t ts a) (All-tail WorksLogged t ts o) (All-tail TellsWaiting t ts w))
 
+owner_in : (d : MarksDevice) → Sized d → Plainly d → IfSome d.paths.owner IsOwner
+owner_in d s p =
+    let none : AreNamed p.empty.paths = subst (λ (x : PlainState). AreNamed x.paths) (sym p.follows.base)
+    (record { states = (tt, (tt, (tt, (tt, tt)))); owner = tt }) in
+    subst (λ (x : PathsState). IfSome x.owner IsOwner) (sym p.follows.keeps)
+    (history_named d.plans (λ path ordinal i f z. opening_named f z _ (s.given path ordinal i)) p.empty d.history p.follows.stands.plain none).owner
+
 record Fit (d : MarksDevice) : Type 0 where
   sized : Sized d
   works : WorksOn d
@@ -279,6 +289,7 @@ both_so d f p = record {
   number = number_short d p;
   works = f.works;
   some = f.some;
+  owner = owner_in d f.sized p;
 }
 
 all_so : (ms : List Mounted) → AreSo Plainly ms → AreSo Sized ms → AreSo Good ms → All Ranged (map (λ (m : Mounted). m.device) ms)

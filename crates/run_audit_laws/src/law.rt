@@ -135,8 +135,7 @@ pub fn report_has_form()
     ensures { (deck : DeckLines) → All (λ (line : ReportLine). has_form line ≡ true) (report_lines (run_of deck)) }
 {}
 
-/// All numbers and bytes of the report of a deck that was read are in their ranges, where these few are: the bytes of DATA lines, and who has a
-/// device reserved.
+/// All numbers and bytes of the report of a deck that was read are in their ranges, where the bytes of its DATA lines are.
 pub fn report_is_in_range()
     ensures { (text : List ℕ) (deck : DeckLines) → parsed text ≡ Ok deck → All RestIsIn (report_lines (run_of deck)) → All IsLine (report_lines (run_of deck)) }
 {}
@@ -150,7 +149,7 @@ pub fn own_report_is_yes()
 }
 
 /// So does the audit of the text of such a deck, all of whose lines are ended, with a line REPORT and the report of its run behind it, where both have
-/// at most 268,435,456 bytes and these few numbers and bytes of the report are in their ranges.
+/// at most 268,435,456 bytes and the bytes of its DATA lines are in their range.
 pub fn own_text_is_yes()
     ensures { (text : List ℕ) (deck : DeckLines) → parsed text ≡ Ok deck → IsEnded text → length (own_text text deck) ≤ 268435456
         → All RestIsIn (report_lines (run_of deck)) → AllMayFollow None (opened deck) deck.events
