@@ -2,6 +2,7 @@ mod Saying
 mod Found
 mod Leading
 mod Quiet
+mod SentBytes
 mod Starts
 mod ResetDevices
 mod Resets
