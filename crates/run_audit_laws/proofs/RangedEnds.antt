@@ -48,7 +48,6 @@ use Rattle.subsystem_defs.specs.Refusals as R
 use Rattle.subsystem_defs.specs.Refusals.{active_by, fail_fault, first_cause, has_side, is_alike, lent_by, not_level_by, pair_fault, replace_fault, resume_fault, stale_count, suspend_fault, unpair_fault, where_so}
 use Rattle.subsystem_defs.specs.Subsystem.{Mounted, Subsystem, devices_of, mounted_in, unfailing}
 use Rattle.subsystem_laws.proofs.RunLines.{AnyEvent, Goes}
-use Rattle.run_audit_laws.specs.Ranges.{RestOfStart}
 use Rattle.run_audit_laws.proofs.RangedCommands.{EventIn, command_in, second_in}
 use Rattle.run_audit_laws.proofs.RangedDevices.{Ranged, device_ranged, few_programs}
 
@@ -261,10 +260,10 @@ down_in false pool f = tt
 -- A start
 
 abbrev pub StartIn : EventEnd → Type 0
-StartIn end = RestOfStart (start_answer end) → IsStart (start_answer end)
+StartIn end = IsStart (start_answer end)
 
 abbrev FineStart : MarksDeed → Type 0
-FineStart x = Fine StartIn (λ r. tt) (λ r. tt) x
+FineStart x = Fine StartIn tt tt x
 
 module _ (d : MarksDevice) (k : Ranged d) (path : ℕ) where
   abbrev Refused : Option StartFault → Type 0
@@ -273,8 +272,8 @@ module _ (d : MarksDevice) (k : Ranged d) (path : ℕ) where
   reserved_in : (o : Option Owner) → IfSome o IsOwner → Refused (reserved_fault d o)
   reserved_in (Some owner) h = by_test (is_shut d) where
     by_test : (b : Bool) → StartIn (ends.NotStarted (if b then refusals.Shut owner else refusals.Reserved owner))
-    by_test true = λ r. h
-    by_test false = λ r. h
+    by_test true = h
+    by_test false = h
   reserved_in None h = tt
 
   idle_in : Refused (idle_fault d path)
@@ -284,16 +283,16 @@ module _ (d : MarksDevice) (k : Ranged d) (path : ℕ) where
     by_out false = tt
 
     by_left : (b : Bool) → Refused (if b then Some refusals.PlanDone else if keeps_out d path then reserved_fault d d.paths.owner else None)
-    by_left true = λ r. tt
+    by_left true = tt
     by_left false = by_out (keeps_out d path)
 
   running_in : (r : Option OpenEntry) → IfSome r (IsOpen d.plans (replay d.plans (empty_of d) d.history.items) d.history.items) →
       Refused (running_fault d path r)
-  running_in (Some o) h = λ r. record { least = h.start.least; most = h.start.most }
+  running_in (Some o) h = record { least = h.start.least; most = h.start.most }
   running_in None h = idle_in
 
   lent_start : (o : Option ℕ) → IfSome o (λ n. n < 16) → Refused (fault_by d path o)
-  lent_start (Some of) h = λ r. h
+  lent_start (Some of) h = h
   lent_start None h = running_in d.history.running k.plain.at
 
   fault_in : Refused (start_fault d path)
@@ -322,12 +321,12 @@ module _ (d : MarksDevice) (k : Ranged d) (path : ℕ) where
 
   start_by_in : (o : Option StartFault) → start_fault d path ≡ o → Refused o → FineStart (start_by d path o)
   start_by_in (Some f) is h = h
-  start_by_in None is h = λ r. few_programs (next_ordinal d path) (length (planned d.plans path)) (planned_next is) (k.sized.plans path)
+  start_by_in None is h = few_programs (next_ordinal d path) (length (planned d.plans path)) (planned_next is) (k.sized.plans path)
 
   starts_in : FineStart (starts path d)
   starts_in = by_own (is_own path d.history.running) where
     by_own : (b : Bool) → FineStart (if b then Ends ends.Running else start_by d path (start_fault d path))
-    by_own true = λ r. tt
+    by_own true = tt
     by_own false = start_by_in (start_fault d path) refl fault_in
 
 -- A piece of work
@@ -394,8 +393,8 @@ module _ (s : Subsystem) (all : All Ranged (devices_of s)) where
   once_answers : (e : Event) → AnswersOnce e (happens s e).end
   unfolding H.happens E.deed
   once_answers (events.Start path d) =
-      fine_end StartIn (λ r. tt) (λ r. tt) s (on_device (device_in (devices_of s) d) (starts path))
-      (on_fine StartIn (λ r. tt) (λ r. tt) (device_in (devices_of s) d) (starts path) (there d) (λ x k. starts_in x k path))
+      fine_end StartIn tt tt s (on_device (device_in (devices_of s) d) (starts path))
+      (on_fine StartIn tt tt (device_in (devices_of s) d) (starts path) (there d) (λ x k. starts_in x k path))
   once_answers (events.Step d) =
       fine_end EventIn tt tt s (on_device (device_in (devices_of s) d) (E.step by_plain))
       (on_fine EventIn tt tt (device_in (devices_of s) d) (E.step by_plain) (there d) steps_in)

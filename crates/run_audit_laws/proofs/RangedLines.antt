@@ -41,7 +41,7 @@ use Rattle.subsystem_defs.specs.Beside.{acts_in, Hardened, LooseTold, Loosened, 
 use Rattle.subsystem_defs.specs.Deeds.{device_in}
 use Rattle.subsystem_defs.specs.Lines.{Asked, Once, Replace, Run, Settle, Unpair}
 use Rattle.subsystem_defs.specs.Promised.{empty_of}
-use Rattle.run_audit_laws.specs.Ranges.{RestIsIn, RestOfStart}
+use Rattle.run_audit_laws.specs.Ranges.{RestIsIn}
 use Rattle.run_audit_laws.proofs.NamedEvents.{Names}
 use Rattle.run_audit_laws.proofs.RangedActs.{ActOn, each_behind, history_on}
 use Rattle.run_audit_laws.proofs.RangedCommands.{EndIn, EventIn}
@@ -62,7 +62,7 @@ abbrev HasPath : RunningProgram → Type 0
 HasPath r = IsPath r.path × IsShort r.ordinal
 
 abbrev HasNames : report.Happened → Type 0
-HasNames (did.Started path d a) = IsPath path × IsDevice d × (RestOfStart a → IsStart a)
+HasNames (did.Started path d a) = IsPath path × IsDevice d × IsStart a
 HasNames (did.Ended path d n e) = IsPath path × IsDevice d × IsShort n × EndIn e
 HasNames (did.Half path d t) = IsPath path × IsDevice d × IsTrack t
 HasNames (did.Back d a) = IsDevice d × IsBack a
@@ -85,7 +85,7 @@ end_known : (path d n : ℕ) (e : CommandEnd) → IsPath path → IsDevice d →
 end_known path d n e p k o i = λ r. record { path = p; device = k; ordinal = o; index = i.index; status = i.status; residual = i.residual }
 
 first_known : (h : report.Happened) → HasNames h → All Known (first_lines h)
-first_known (did.Started path d a) n = one (lines.Start path d a) (λ r. (n.0, n.1, n.2 r))
+first_known (did.Started path d a) n = one (lines.Start path d a) (λ r. n)
 first_known (did.Ended path d n e) k =
     All-append Known (lines.End (end_line path d n e) ∷ []) (data_lines e.sent ++ sense_lines e.sense)
     (one (lines.End (end_line path d n e)) (end_known path d n e k.0 k.1 k.2 k.3))
