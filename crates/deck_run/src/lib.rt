@@ -14,5 +14,8 @@ mod replace;
 mod run;
 mod work;
 
+pub use close::lost_in;
+pub use loosed::loosed_by;
 pub use open::open_deck;
+pub use pair::join;
 pub use run::{FinishedRun, run_deck};

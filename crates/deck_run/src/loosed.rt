@@ -95,7 +95,7 @@ fn id_of(number: u16) -> [u8; 2]
 }
 
 /// What is told of an act, where so many tracks were loose before, and this is the number of the data behind.
-fn loosed_by(device: DeviceNo, count: u16, number: u16, act: Act) -> Loosed
+pub fn loosed_by(device: DeviceNo, count: u16, number: u16, act: Act) -> Loosed
     ensures { result ≡ loosed_by device count number act }
 {
     let answer = match act {

@@ -23,7 +23,11 @@ use subsystem_core::Subsystem;
 use subsystem_defs::{Event, EventEnd};
 
 /// The second one's volume becomes side B of the first, and how the order ends.
-fn join<V: Volume>(sub: &mut Subsystem<V>, a: DeviceNo, b: DeviceNo) -> Result<EventEnd, NoMemory>
+pub fn join<V: Volume>(
+    sub: &mut Subsystem<V>,
+    a: DeviceNo,
+    b: DeviceNo,
+) -> Result<EventEnd, NoMemory>
     requires a { is_in a (numbers_of sub.old.devices.items) ≡ true }
     requires b { is_in b (numbers_of sub.old.devices.items) ≡ true }
     requires own { AreOwn sub.old.devices.items }

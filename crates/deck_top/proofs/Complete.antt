@@ -24,19 +24,19 @@ parse_long text long = grind (arith, nat_tests)
 no_fault : (d : DeckLines) (f : DeckFault) (deck : Result DeckLines DeckFault) → deck ≡ Ok d → deck ≡ Err f → ⊥
 no_fault d f deck p q = cc
 
-same_text : (task : Task) (text read : List ℕ) (after : Option (List ℕ)) (d : DeckLines) → Reads (Some text) after read → parsed text ≡ Ok d
-    → read ≡ text
-same_text task text read None d r p = absurd r.read
-same_text task text read (Some rest) d r p = elim (cases_lt (length read) 16777217) [
+-- a deck's text that was read is the whole one
+same_text : (text read : List ℕ) (after : Option (List ℕ)) (d : DeckLines) → Reads (Some text) after read → parsed text ≡ Ok d → read ≡ text
+same_text text read None d r p = absurd r.read
+same_text text read (Some rest) d r p = elim (cases_lt (length read) 16777217) [
   | inl short ↦ sym (r.read ∙ ap (λ (l : List ℕ). read ++ l) (r.whole short) ∙ append-nil read)
   | inr long ↦ absurd (no_fault d (faults.Limit Size) (parsed text) p
       (parse_long text (omega (arith, ap length r.read, length-append read rest))))
 ]
 
-refused : (task : Task) (text read : List ℕ) (before after : Option (List ℕ)) (d : DeckLines) (f : DeckFault) → before ≡ Some text → Reads before after read
+pub refused : (text read : List ℕ) (before after : Option (List ℕ)) (d : DeckLines) (f : DeckFault) → before ≡ Some text → Reads before after read
     → parsed text ≡ Ok d → parsed read ≡ Err f → ⊥
-refused task text read before after d f is r p q =
-    no_fault d f (parsed read) (ap parsed (same_text task text read after d (subst (λ b. Reads b after read) is r) p) ∙ p) q
+refused text read before after d f is r p q =
+    no_fault d f (parsed read) (ap parsed (same_text text read after d (subst (λ b. Reads b after read) is r) p) ∙ p) q
 
 by_read : (status : Status) (task : Task) (old new : Bay) (before after held holds : Option (List ℕ)) (text : List ℕ) (d : DeckLines)
     → before ≡ Some text → parsed text ≡ Ok d → TellsRead status task old new before after held holds → (status ≡ ReadFault → ⊥)
@@ -48,9 +48,9 @@ by_read ReadFault task old new before after held holds text d is p told nr nw = 
 by_read WriteFault task old new before after held holds text d is p told nr nw = absurd (nw refl)
 by_read Usage task old new before after held holds text d is p told nr nw = absurd told.2
 by_read (DeckRefused line why) task old new before after held holds text d is p told nr nw =
-    absurd (refused task text told.0 before after d (faults.Refused line why) is told.1 p told.2.0)
+    absurd (refused text told.0 before after d (faults.Refused line why) is told.1 p told.2.0)
 by_read (Limit which) task old new before after held holds text d is p told nr nw =
-    absurd (refused task text told.0 before after d (faults.Limit which) is told.1 p told.2.0)
+    absurd (refused text told.0 before after d (faults.Limit which) is told.1 p told.2.0)
 
 by_generated : (status : Status) (seed count : ℕ) (old new : Bay) (before after held holds : Option (List ℕ))
     → TellsTask status (Generate seed count) old new before after held holds → (status ≡ WriteFault → ⊥) → (status ≡ Reported) ⊎ (status ≡ NoMemory)

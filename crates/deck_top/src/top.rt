@@ -68,8 +68,9 @@ pub fn words_of<'a>(arguments: Option<&'a [&'a str]>) -> &'a [&'a str]
     }
 }
 
+/// Writes which words there are.
 #[tactic(auto, unfolding(crate::specs::Answers::usage_text))]
-fn write_usage<K: Sink>(sink: &mut K) -> Result<(), Failed>
+pub fn write_usage<K: Sink>(sink: &mut K) -> Result<(), Failed>
     ensures bytes { Writes (K.held sink.old) (K.held sink.new) result usage_text }
     ensures cause { HasCause (K.faults sink.old) (K.faults sink.new) result }
 {
