@@ -1,0 +1,9 @@
+pub mod Recorded
+pub mod Paired
+pub mod Ended
+pub mod NewDevices
+pub mod Readied
+pub mod Finished
+pub mod RunTold
+pub mod Complete
+pub mod Few

@@ -1,0 +1,219 @@
+-- The devices of a deck behind its first pairs are ready for the run of their paths.
+use Rattle.std.proofs.Common.{◌≡◌, ◌<◌, ◌∙◌, ℕ, zero, suc, Bool, true, false, List, [], ◌∷◌, length, map, Option, Some, None, is_some, refl, sym, ap, subst, arith}
+use Rattle.std.specs.Prelude.{◌&&◌, ◌==◌, slice_index_or}
+use Rattle.std.specs.List.{AllZip}
+use Rattle.ckd_types.specs.declared.paths.Side.{Side}
+use Rattle.ckd_types.specs.declared.paths.Side.TheVariants as sides
+use Rattle.ckd_types.specs.declared.record.Track.{Track}
+use Rattle.deck_text.specs.declared.line.DeviceLine.{DeviceLine}
+use Rattle.deck_text.specs.DeckLines.{DeckLines}
+use Rattle.deck_text.specs.Plans.{plans_of}
+use Rattle.plain_defs.specs.History.{History, no_history}
+use Rattle.plain_defs.specs.PlainState.{PlainState, empty_state}
+use Rattle.track_image.specs.Image.{Image}
+use Rattle.device_outside.specs.declared.volume.Volume.{Ghosts}
+use Rattle.device_outside.specs.After.{Tells, holds_of}
+use Rattle.device_outside.specs.Both.{SideTold}
+use Rattle.device_outside.specs.Outside.{Outside, no_pool}
+use Rattle.device_outside.specs.Told.{Calls}
+use Rattle.device_outside.specs.Volume.{VolumeView}
+use Rattle.device_defs.specs.Contents.{contents}
+use Rattle.device_defs.specs.Sound.{DeviceStore, IsHeld, IsHeldBy, IsKept, IsWritten}
+use Rattle.device_defs.specs.Store.{HalfWrite, is_lost, patch_at, side_of, tracks_of}
+use Rattle.device_laws.specs.Agrees.{Held}
+use Rattle.device_laws.specs.InOrder.{IsInOrder}
+use Rattle.device_laws.specs.Lent.{in_order, is_away}
+use Rattle.device_laws.specs.Lent as lent
+use Rattle.device_laws.specs.Whole.{marks_device}
+use Rattle.device_laws.proofs.PlainTurns.{Follows}
+use Rattle.turn_laws.specs.Standing.{GiveBytes, Stands}
+use Rattle.device_core.specs.declared.device.Device.{Device}
+use Rattle.device_core.specs.State.{device_of}
+use Rattle.subsystem_core.specs.declared.subsystem.Subsystem.{Subsystem}
+use Rattle.subsystem_defs.specs.Subsystem.{Mounted}
+use Rattle.subsystem_laws.specs.WholeStood.{Stood, IsMounted, is_mounted, AreMountedBy, one_more}
+use Rattle.deck_run.specs.Owning.{AllOwn}
+use Rattle.deck_run.specs.Standing.{StandsAs, all_stood, stood_of}
+use Rattle.path_turns.specs.Keeping.{IsReady, are_fresh, tells}
+use Rattle.path_top.specs.Pairs.{all_lent, lent_of, paired}
+use Rattle.path_top.proofs.NewDevices.{AreNew, IsNew}
+
+-- Of slots nothing needs to be told
+
+module _ (h : Held) where
+  abbrev untold : Held
+  untold = record h { slots = None }
+
+  holds_same : (side : Side) → holds_of untold side ≡ holds_of h side
+  holds_same sides.A = refl
+  holds_same sides.B = refl
+
+  kept_same : (s : DeviceStore) (t : ℕ) (plain kept : Image) → IsKept s h t plain kept → IsKept s untold t plain kept
+  kept_same s t plain kept x = record {
+    frame = x.frame;
+    sides = λ side level.
+        subst (λ (l : List (List ℕ)). contents.read s.geometry t (patch_at s t) (slice_index_or l t []) kept ≡ Some kept) (sym (holds_same side))
+        (x.sides side level);
+  }
+
+  written_same : (s : DeviceStore) (plain : Image) (w : HalfWrite Image) → IsWritten s h plain w → IsWritten s untold plain w
+  written_same s plain w x = record {
+    image = x.image;
+    sides = λ side level. ap (λ (l : List (List ℕ)). slice_index_or l w.track []) (holds_same side) ∙ x.sides side level;
+    frame = x.frame;
+  }
+
+  one_of : (b : Bool) {X Y U V : Type 0} → (X → U) → (Y → V) → elim b as (λ (x : Bool). Type 0) [ true ↦ X | false ↦ Y ] →
+      elim b as (λ (x : Bool). Type 0) [ true ↦ U | false ↦ V ]
+  one_of true f g x = f x
+  one_of false f g x = g x
+
+  half_same : (s : DeviceStore) (t : ℕ) (plain kept : Image) (o : Option (HalfWrite Image)) → IsHeldBy s h t plain kept o → IsHeldBy s untold t plain kept o
+  half_same s t plain kept None x = kept_same s t plain kept x
+  half_same s t plain kept (Some w) x = one_of (w.track == t) (written_same s plain w) (kept_same s t plain kept) x
+
+  held_same : (s : DeviceStore) (t : ℕ) (plain kept : Image) → IsHeld s h t plain kept → IsHeld s untold t plain kept
+  held_same s t plain kept x = one_of (is_lost s t) (λ (u : Unit {0}). u) (half_same s t plain kept s.half) x
+
+  long_same : (s : DeviceStore) → ((side : Side) → (side_of s side).up ≡ true → length (holds_of h side) ≡ tracks_of s) → (side : Side) →
+      (side_of s side).up ≡ true → length (holds_of untold side) ≡ tracks_of s
+  long_same s f side up = ap (λ (l : List (List ℕ)). length l) (holds_same side) ∙ f side up
+
+  order_same : (v w : List Track) (s : DeviceStore) → IsInOrder v w s h → IsInOrder v w s untold
+  order_same v w s i = record {
+    agrees = record {
+      ground = record {
+        sizes = i.agrees.ground.sizes;
+        plain = i.agrees.ground.plain;
+        firm = i.agrees.ground.firm;
+        same = i.agrees.ground.same;
+        apart = i.agrees.ground.apart;
+        patches = i.agrees.ground.patches;
+        long = long_same s i.agrees.ground.long;
+        slots = tt;
+      };
+      held = λ t lt. held_same s t _ _ (i.agrees.held t lt);
+    };
+    told = i.told;
+    free = i.free;
+    alone = i.alone;
+    whole = i.whole;
+    marks = i.marks;
+    queued = i.queued;
+    nowhere = i.nowhere;
+    within = i.within;
+    there = i.there;
+    patched = i.patched;
+    opened = i.opened;
+  }
+
+-- A device that is mounted
+
+side_tells : (v : Option (VolumeView (List ℕ))) (l : List (List ℕ)) (u : Calls) → SideTold v l u → Tells v l
+side_tells None l u told = tt
+side_tells (Some v) l u told = told.contents
+
+some_so : {X : Type 0} (o : Option X) (x : X) → o ≡ Some x → is_some o ≡ true
+some_so (Some y) x e = refl
+some_so None x e = absurd (cc)
+
+tells_so : (v : Option (VolumeView (List ℕ))) (l : List (List ℕ)) (u : Calls) → SideTold v l u → tells v ≡ true
+tells_so None l u told = refl
+tells_so (Some v) l u told = some_so v.contents l told.contents
+
+both_so : (b c : Bool) → b ≡ true → c ≡ true → (b && c) ≡ true
+both_so true c e f = f
+both_so false c e f = absurd (cc)
+
+abbrev outside_of : Stood → Outside (List ℕ) (Unit {0})
+outside_of x = record { port = no_pool 0; a = x.a; b = x.b; keeper = tt {0} }
+
+none_some : {X Y : Type 0} (o : Option X) → o ≡ None → is_some o ≡ true → Y
+none_some (Some x) e f = absurd (cc)
+none_some None e f = absurd (cc)
+
+-- what is so of the one that stands there
+pub record IsUsable (deck : DeckLines) (line : DeviceLine) (to : Option ℕ) (x : Stood) : Type 0 where
+  pub number : x.device.store.device ≡ line.number
+  pub plans : x.device.plans ≡ plans_of deck.programs line.number
+  pub none : x.device.history ≡ no_history
+  pub base : empty_state line.geometry line.cylinders ≡ empty_state x.device.store.geometry x.device.store.cylinders
+  pub lent : x.device.store.lent ≡ to
+  pub tells_it : (tells x.a && tells x.b) ≡ true
+  pub stands : x.device.store.lent ≡ None → Stands x.device (outside_of x)
+
+follows_so : (line : DeviceLine) (m : Mounted) → Follows line.number (empty_state line.geometry line.cylinders) m.device →
+    Follows m.device.store.device (empty_state m.device.store.geometry m.device.store.cylinders) m.device
+follows_so line m f =
+    subst (λ (n : ℕ). Follows n (empty_state m.device.store.geometry m.device.store.cylinders) m.device) (sym f.number)
+    (subst (λ (p : PlainState). Follows line.number p m.device) f.base f)
+
+one_usable : {mine : List ℕ} {x : Stood} {m : Mounted} (deck : DeckLines) (line : DeviceLine) → IsMounted mine x m → IsNew deck line m →
+    GiveBytes x.device.plans → IsUsable deck line (lent_of m) x
+one_usable deck line (is_mounted d v w h on_a on_b a b stands slots told_a told_b) p gives = record {
+  number = p.follows.number;
+  plans = p.plans;
+  none = p.none;
+  base = p.follows.base;
+  lent = refl;
+  tells_it = both_so (tells on_a) (tells on_b) (tells_so on_a h.a a told_a) (tells_so on_b h.b b told_b);
+  stands = λ free. by_place free stands;
+}
+  where
+    by_place : d.store.lent ≡ None → lent.Stands v w d h → Stands d (record { port = no_pool 0; a = on_a; b = on_b; keeper = tt {0} })
+    by_place free (in_order i) = record {
+      plain = v;
+      firm = w;
+      held = untold h;
+      untold = record { a = side_tells on_a h.a a told_a; b = side_tells on_b h.b b told_b; slots = refl };
+      order = order_same h v w d.store i;
+      follows = follows_so line (record { device = marks_device v w d; a = a; b = b }) p.follows;
+      gives = gives;
+    }
+    by_place free (is_away l) = none_some d.store.lent free l.store.lent
+
+module _ {V : Type 0} {G : Ghosts V} where
+  -- a device in code, and to whom it is lent
+  abbrev pub IsOpened : DeckLines → DeviceLine → Device V G → Type 0
+  IsOpened deck line x = IsUsable deck line (device_of x).store.lent (stood_of x)
+
+  all_opened : {used taken : List ℕ} (deck : DeckLines) (ls : List DeviceLine) (xs : List (Device V G)) (ms : List Mounted) →
+      AreMountedBy used taken (all_stood xs) ms → AreNew deck ls ms → AllOwn xs →
+      AllZip (IsOpened deck) ls xs × (map (λ (x : Device V G). (device_of x).store.lent) xs ≡ map lent_of ms)
+  all_opened deck [] [] [] a n o = (tt, refl)
+  all_opened deck [] [] (m ∷ ms) a n o = absurd n
+  all_opened deck [] (x ∷ xs) [] a n o = elim a [ ]
+  all_opened deck [] (x ∷ xs) (m ∷ ms) a n o = absurd n
+  all_opened deck (line ∷ ls) [] [] a n o = absurd n
+  all_opened deck (line ∷ ls) [] (m ∷ ms) a n o = elim a [ ]
+  all_opened deck (line ∷ ls) (x ∷ xs) [] a n o = absurd n
+  all_opened deck (line ∷ ls) (x ∷ xs) (m ∷ ms) (one_more mine is apart rest) n o =
+      let u = one_usable deck line is n.0 o.0.plans in
+      let more = all_opened deck ls xs ms rest n.1 o.1 in (
+        (record { number = u.number; plans = u.plans; none = u.none; base = u.base; lent = refl; tells_it = u.tells_it; stands = u.stands }, more.0),
+        ap (λ (l : List (Option ℕ)). (device_of x).store.lent ∷ l) more.1 ∙ ap (λ (o : Option ℕ). o ∷ map lent_of ms) u.lent,
+      )
+
+  pub are_opened : (deck : DeckLines) (s : Subsystem V G) → StandsAs s (paired deck) → AreNew deck deck.devices (paired deck).mounted →
+      AllOwn s.devices.items →
+      AllZip (IsOpened deck) deck.devices s.devices.items
+      × (map (λ (x : Device V G). (device_of x).store.lent) s.devices.items ≡ all_lent (paired deck))
+  are_opened deck s stands new own = all_opened deck deck.devices s.devices.items (paired deck).mounted stands.mounted new own
+
+  -- Ready for the run
+
+  one_ready : (deck : DeckLines) (line : DeviceLine) (x : Device V G) → IsOpened deck line x → IsReady x
+  one_ready deck line x u = record {
+    idle = ap (λ (h : History). h.running) u.none;
+    none = ap (λ (h : History). h.waiting) u.none;
+    journal = ap (λ (h : History). are_fresh h.items) u.none;
+    stands = λ told free. u.stands free;
+  }
+
+  pub ready_at : (deck : DeckLines) (ls : List DeviceLine) (xs : List (Device V G)) → AllZip (IsOpened deck) ls xs → (k : ℕ) (d : Device V G) →
+      k < length xs → IsReady (slice_index_or xs k d)
+  ready_at deck [] [] z k d within = absurd (omega (arith, within))
+  ready_at deck [] (x ∷ xs) z k d within = absurd z
+  ready_at deck (line ∷ ls) [] z k d within = absurd z
+  ready_at deck (line ∷ ls) (x ∷ xs) z zero d within = one_ready deck line x z.0
+  ready_at deck (line ∷ ls) (x ∷ xs) z (suc k) d within = ready_at deck ls xs z.1 k d (omega (arith, within))

@@ -1,0 +1,98 @@
+-- What the history of a deck tells of the devices behind the run of its paths.
+use Rattle.std.proofs.Common.{◌≡◌, ◌∙◌, ℕ, true, List, [], ◌∷◌, length, map, Option, Some, None, is_some, refl, sym, ap, subst, arith}
+use Rattle.std.specs.Prelude.{All}
+use Rattle.std.specs.List.{AllZip}
+use Rattle.std.proofs.lemmas.List.Elements.{All-head, All-tail}
+use Rattle.ckd_types.specs.declared.geometry.Geometry.{Geometry}
+use Rattle.deck_text.specs.declared.line.DeviceLine.{DeviceLine}
+use Rattle.deck_text.specs.DeckLines.{DeckLines}
+use Rattle.deck_text.specs.Plans.{plans_of}
+use Rattle.plain_defs.specs.declared.journal.Item.{Item}
+use Rattle.plain_defs.specs.History.{History}
+use Rattle.plain_defs.specs.Journal.{Plans}
+use Rattle.plain_defs.specs.Legal.{IsLegal}
+use Rattle.plain_defs.specs.PlainState.{PlainState, empty_state}
+use Rattle.device_outside.specs.declared.volume.Volume.{Ghosts}
+use Rattle.device_defs.specs.Pledge.{fresh_count, is_kept_journal}
+use Rattle.turn_laws.proofs.Sound.{stands_plainly}
+use Rattle.device_core.specs.declared.device.Device.{Device}
+use Rattle.device_core.specs.State.{device_of}
+use Rattle.deck_run.specs.Ending.{lost_in}
+use Rattle.path_turns.specs.Keeping.{IsFinished, KeepsAll, told_of}
+use Rattle.path_top.specs.Devices.{all_told, told_by}
+use Rattle.path_top.specs.Histories.{AreToldOf, IsToldBy, IsToldOf}
+use Rattle.path_top.specs.Pairs.{all_lent, paired}
+use Rattle.path_top.specs.Told.{DeviceTold}
+use Rattle.path_top.proofs.Finished.{IsOver, told_so}
+use Rattle.path_top.proofs.Readied.{IsOpened}
+
+none_in : (xs : List Item) → length xs ≡ 0 → xs ≡ []
+none_in [] e = refl
+none_in (x ∷ xs) e = absurd (omega (arith, e))
+
+same_empty : (g h : Geometry) (n m : ℕ) → g ≡ h → n ≡ m → empty_state g n ≡ empty_state h m
+same_empty g h n m e f = ap (λ (x : Geometry). empty_state x n) e ∙ ap (λ (k : ℕ). empty_state h k) f
+
+module _ {V : Type 0} {G : Ghosts V} (deck : DeckLines) where
+  module _ (line : DeviceLine) (d e : Device V G) (u : IsOpened deck line d) (k : KeepsAll d e) (f : IsFinished e) where
+    no_fresh : fresh_count (device_of d).history.items ≡ 0
+    no_fresh = ap (λ (h : History). fresh_count h.items) u.none
+
+    away : is_some (device_of e).store.lent ≡ true → (device_of e).history.items ≡ []
+    away lent =
+        none_in (device_of e).history.items
+        (k.keeps.keeps.still (sym (ap (λ (o : Option ℕ). is_some o) k.keeps.keeps.lent) ∙ lent) ∙ no_fresh)
+
+    abbrev empty : PlainState
+    empty = empty_state (device_of e).store.geometry (device_of e).store.cylinders
+
+    legal_by : (o : Option ℕ) → (device_of e).store.lent ≡ o → IsLegal (device_of e).plans empty (device_of e).history.items
+    legal_by None free = (stands_plainly (device_of e) (told_of e) (k.stands u.tells_it free)).legal
+    legal_by (Some to) lent =
+        subst (IsLegal (device_of e).plans empty) (sym (away (ap (λ (o : Option ℕ). is_some o) lent))) tt
+
+    over : IsOver (device_of e) (lost_in e)
+    over = record {
+      over = f.over;
+      kept = subst (λ (n : ℕ). is_kept_journal n (device_of e).history.items ≡ true) no_fresh k.keeps.keeps.journal;
+      good = k.keeps.keeps.checks u.tells_it;
+      away = away;
+      legal = legal_by (device_of e).store.lent refl;
+      paths = λ free. (k.stands u.tells_it free).follows.keeps;
+    }
+
+    base : empty ≡ empty_state line.geometry line.cylinders
+    base =
+        same_empty (device_of e).store.geometry (device_of d).store.geometry (device_of e).store.cylinders (device_of d).store.cylinders
+        k.keeps.keeps.geometry k.keeps.keeps.cylinders ∙ sym u.base
+
+    pub one_told : IsToldOf deck line (told_by e)
+    one_told = record {
+      device = k.keeps.keeps.number ∙ u.number;
+      is = subst (λ (p : PlainState). IsToldBy (plans_of deck.programs line.number) p (told_by e)) base
+          (subst (λ (p : Plans). IsToldBy p empty (told_by e)) (k.keeps.keeps.plans ∙ u.plans) (told_so (device_of e) (lost_in e) over));
+    }
+
+  all_so : (ls : List DeviceLine) (xs ys : List (Device V G)) → AllZip (IsOpened deck) ls xs → AllZip KeepsAll xs ys → All IsFinished ys →
+      AllZip (IsToldOf deck) ls (all_told ys)
+  all_so [] [] [] o k f = tt
+  all_so [] [] (y ∷ ys) o k f = absurd k
+  all_so [] (x ∷ xs) ys o k f = absurd o
+  all_so (line ∷ ls) [] ys o k f = absurd o
+  all_so (line ∷ ls) (x ∷ xs) [] o k f = absurd k
+  all_so (line ∷ ls) (x ∷ xs) (y ∷ ys) o k f =
+      (one_told line x y o.0 k.0 (All-head IsFinished y ys f), all_so ls xs ys o.1 k.1 (All-tail IsFinished y ys f))
+
+  lents : (xs ys : List (Device V G)) → AllZip KeepsAll xs ys →
+      map (λ (x : DeviceTold). x.lent) (all_told ys) ≡ map (λ (x : Device V G). (device_of x).store.lent) xs
+  lents [] [] k = refl
+  lents [] (y ∷ ys) k = absurd k
+  lents (x ∷ xs) [] k = absurd k
+  lents (x ∷ xs) (y ∷ ys) k =
+      ap (λ (l : List (Option ℕ)). (device_of y).store.lent ∷ l) (lents xs ys k.1)
+      ∙ ap (λ (o : Option ℕ). o ∷ map (λ (z : Device V G). (device_of z).store.lent) xs) k.0.keeps.keeps.lent
+
+  pub all_are_told : (xs ys : List (Device V G)) →
+      AllZip (IsOpened deck) deck.devices xs × (map (λ (x : Device V G). (device_of x).store.lent) xs ≡ all_lent (paired deck)) →
+      AllZip KeepsAll xs ys → All IsFinished ys → AreToldOf deck (all_told ys)
+  all_are_told xs ys o k f = record { each = all_so deck.devices xs ys o.0 k f; lent = lents xs ys k ∙ o.1 }

@@ -1,0 +1,6 @@
+pub mod Journals
+pub mod Pairs
+pub mod Told
+pub mod Devices
+pub mod Histories
+pub mod Answers

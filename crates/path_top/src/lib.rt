@@ -1,0 +1,10 @@
+//! A deck whose paths run beside each other: the top call over a source and a sink, and the history that it writes.
+#![tactic(auto)]
+
+mod history;
+mod journal;
+mod pairs;
+mod run;
+mod top;
+
+pub use top::paths_top;

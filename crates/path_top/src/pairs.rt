@@ -1,0 +1,108 @@
+//! The PAIR lines that stand before the first START line.
+
+ghost use Rattle.std.specs.Prelude.{◌≡◌, IfOk, OnOk, count_by, fold, length, true};
+ghost use Rattle.deck_run.specs.Opening.{are_open_lines, is_open_line};
+ghost use Rattle.deck_run.specs.Owning.{AreOwn};
+ghost use Rattle.deck_run.specs.Standing.{StandsAs};
+ghost use Rattle.subsystem_core.specs.Devices.{numbers_of};
+ghost use Rattle.subsystem_defs.specs.Subsystem as runs;
+ghost use Rattle.path_top.specs.Pairs.{before_start, behind_line, behind_pairs, is_pair, is_start, unused_in};
+
+use ckd_types::NoMemory;
+use deck_plan::EventLine;
+use deck_run::join;
+use device_outside::Volume;
+use subsystem_core::Subsystem;
+
+fn is_start(line: &EventLine) -> bool
+    ensures { result ≡ is_start line.now }
+{
+    match line {
+        EventLine::Start(_, _) => true,
+        _ => false,
+    }
+}
+
+fn is_pair(line: &EventLine) -> bool
+    ensures { result ≡ is_pair line.now }
+{
+    match line {
+        EventLine::Pair(_, _) => true,
+        _ => false,
+    }
+}
+
+/// Where the first START line is, or behind all lines.
+fn start_at(lines: &[EventLine]) -> usize
+    ensures { result ≡ length (before_start lines.now) }
+{
+    let mut n = 0;
+    for line in lines {
+        if is_start(line) {
+            return n;
+        }
+        n += 1;
+    }
+    n
+}
+
+fn before_start(lines: &[EventLine]) -> &[EventLine]
+    ensures { result.now ≡ before_start lines.now }
+{
+    lines.split_at(start_at(lines)).0
+}
+
+fn count_pairs(lines: &[EventLine]) -> usize
+    ensures { result ≡ count_by is_pair lines.now }
+{
+    lines.iter().filter(|line| is_pair(line)).count()
+}
+
+/// How many event lines are not among them.
+pub(crate) fn unused_in(lines: &[EventLine]) -> usize
+    ensures { result ≡ unused_in lines.now }
+{
+    lines.len().saturating_sub(count_pairs(before_start(lines)))
+}
+
+/// A PAIR line makes two devices a pair.
+fn pair_line<V: Volume>(sub: &mut Subsystem<V>, line: &EventLine) -> Result<(), NoMemory>
+    requires here { is_open_line (numbers_of sub.old.devices.items) line.now ≡ true }
+    requires own { AreOwn sub.old.devices.items }
+    ensures numbers { numbers_of sub.new.devices.items ≡ numbers_of sub.old.devices.items }
+    ensures own { OnOk result (AreOwn sub.new.devices.items) }
+    ensures stands { (run : runs.Subsystem) → StandsAs sub.old run → OnOk result (StandsAs sub.new (behind_line run line.now)) }
+{
+    let EventLine::Pair(a, b) = line else {
+        return Ok(());
+    };
+    join(sub, *a, *b)?;
+    Ok(())
+}
+
+fn pair_lines<V: Volume>(sub: &mut Subsystem<V>, lines: &[EventLine]) -> Result<(), NoMemory>
+    requires here { are_open_lines (numbers_of sub.old.devices.items) lines.now ≡ true }
+    requires own { AreOwn sub.old.devices.items }
+    ensures numbers { numbers_of sub.new.devices.items ≡ numbers_of sub.old.devices.items }
+    ensures own { OnOk result (AreOwn sub.new.devices.items) }
+    ensures stands { (run : runs.Subsystem) → StandsAs sub.old run → OnOk result (StandsAs sub.new (fold behind_line run lines.now)) }
+{
+    for line in lines {
+        pair_line(sub, line)?;
+    }
+    Ok(())
+}
+
+/// The devices become pairs as these lines say, one after another, up to the first START line.
+pub(crate) fn pair_first<V: Volume>(
+    sub: &mut Subsystem<V>,
+    lines: &[EventLine],
+) -> Result<(), NoMemory>
+    requires here { are_open_lines (numbers_of sub.old.devices.items) lines.now ≡ true }
+    requires own { AreOwn sub.old.devices.items }
+    ensures numbers { numbers_of sub.new.devices.items ≡ numbers_of sub.old.devices.items }
+    ensures own { OnOk result (AreOwn sub.new.devices.items) }
+    ensures stands { (run : runs.Subsystem) → StandsAs sub.old run → OnOk result (StandsAs sub.new (behind_pairs run lines.now)) }
+{
+    pair_lines(sub, before_start(lines))
+}
