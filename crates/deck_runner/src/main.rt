@@ -1,9 +1,10 @@
-//! The program: runs a deck of channel programs and writes a report, or checks a deck.
+//! The program: runs a deck of channel programs and writes a report, or its paths beside each other and writes a history; or checks a deck.
 #![tactic(auto)]
 
 use ckd_outside::{StdSink, StdSource};
 use deck_top::{Status, code_of, deck_top, words_of};
-use device_outside::MemBay;
+use device_outside::{MemBay, NoGate};
+use path_top::paths_top;
 use std::alloc::AllocError;
 use std::env::Args;
 use std::process::ExitCode;
@@ -13,12 +14,23 @@ fn ended(status: Status) -> ExitCode {
     ExitCode::from(code_of(status))
 }
 
-/// Runs over the standard streams and an empty bay.
+fn begins_with_paths(words: &[&str]) -> bool {
+    match words.first() {
+        Some(word) => word.as_bytes() == b"paths".as_slice(),
+        None => false,
+    }
+}
+
+/// Runs over the standard streams, and over an empty bay or beside each other.
 fn serve(rt: &HostRuntime, arguments: Option<&[&str]>) -> ExitCode {
     let mut source = StdSource::new(rt.reader());
     let mut sink = StdSink::new(io::writer(rt));
-    let mut bay = MemBay::new(rt.alloc());
     let words = words_of(arguments);
+    if begins_with_paths(words) {
+        let gate = NoGate;
+        return ended(paths_top(rt, rt.alloc(), words, &mut source, &mut sink, &gate));
+    }
+    let mut bay = MemBay::new(rt.alloc());
     ended(deck_top(rt.alloc(), words, &mut source, &mut sink, &mut bay))
 }
 
