@@ -7,3 +7,4 @@ pub mod Finished
 pub mod RunTold
 pub mod Complete
 pub mod Few
+mod Rows

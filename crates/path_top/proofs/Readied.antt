@@ -1,27 +1,18 @@
 -- The devices of a deck behind its first pairs are ready for the run of their paths.
 use Rattle.std.proofs.Common.{◌≡◌, ◌<◌, ◌∙◌, ℕ, zero, suc, Bool, true, false, List, [], ◌∷◌, length, map, Option, Some, None, is_some, refl, sym, ap, subst, arith}
-use Rattle.std.specs.Prelude.{◌&&◌, ◌==◌, slice_index_or}
+use Rattle.std.specs.Prelude.{◌&&◌, slice_index_or}
 use Rattle.std.specs.List.{AllZip}
-use Rattle.ckd_types.specs.declared.paths.Side.{Side}
-use Rattle.ckd_types.specs.declared.paths.Side.TheVariants as sides
-use Rattle.ckd_types.specs.declared.record.Track.{Track}
 use Rattle.deck_text.specs.declared.line.DeviceLine.{DeviceLine}
 use Rattle.deck_text.specs.DeckLines.{DeckLines}
 use Rattle.deck_text.specs.Plans.{plans_of}
 use Rattle.plain_defs.specs.History.{History, no_history}
 use Rattle.plain_defs.specs.PlainState.{PlainState, empty_state}
-use Rattle.track_image.specs.Image.{Image}
 use Rattle.device_outside.specs.declared.volume.Volume.{Ghosts}
-use Rattle.device_outside.specs.After.{Tells, holds_of}
+use Rattle.device_outside.specs.After.{Tells}
 use Rattle.device_outside.specs.Both.{SideTold}
 use Rattle.device_outside.specs.Outside.{Outside, no_pool}
 use Rattle.device_outside.specs.Told.{Calls}
 use Rattle.device_outside.specs.Volume.{VolumeView}
-use Rattle.device_defs.specs.Contents.{contents}
-use Rattle.device_defs.specs.Sound.{DeviceStore, IsHeld, IsHeldBy, IsKept, IsWritten}
-use Rattle.device_defs.specs.Store.{HalfWrite, is_lost, patch_at, side_of, tracks_of}
-use Rattle.device_laws.specs.Agrees.{Held}
-use Rattle.device_laws.specs.InOrder.{IsInOrder}
 use Rattle.device_laws.specs.Lent.{in_order, is_away}
 use Rattle.device_laws.specs.Lent as lent
 use Rattle.device_laws.specs.Whole.{marks_device}
@@ -34,78 +25,10 @@ use Rattle.subsystem_defs.specs.Subsystem.{Mounted}
 use Rattle.subsystem_laws.specs.WholeStood.{Stood, IsMounted, is_mounted, AreMountedBy, one_more}
 use Rattle.deck_run.specs.Owning.{AllOwn}
 use Rattle.deck_run.specs.Standing.{StandsAs, all_stood, stood_of}
+use Rattle.path_turns.proofs.Pooled.{untold_order}
 use Rattle.path_turns.specs.Keeping.{IsReady, are_fresh, tells}
 use Rattle.path_top.specs.Pairs.{all_lent, lent_of, paired}
 use Rattle.path_top.proofs.NewDevices.{AreNew, IsNew}
-
--- Of slots nothing needs to be told
-
-module _ (h : Held) where
-  abbrev untold : Held
-  untold = record h { slots = None }
-
-  holds_same : (side : Side) → holds_of untold side ≡ holds_of h side
-  holds_same sides.A = refl
-  holds_same sides.B = refl
-
-  kept_same : (s : DeviceStore) (t : ℕ) (plain kept : Image) → IsKept s h t plain kept → IsKept s untold t plain kept
-  kept_same s t plain kept x = record {
-    frame = x.frame;
-    sides = λ side level.
-        subst (λ (l : List (List ℕ)). contents.read s.geometry t (patch_at s t) (slice_index_or l t []) kept ≡ Some kept) (sym (holds_same side))
-        (x.sides side level);
-  }
-
-  written_same : (s : DeviceStore) (plain : Image) (w : HalfWrite Image) → IsWritten s h plain w → IsWritten s untold plain w
-  written_same s plain w x = record {
-    image = x.image;
-    sides = λ side level. ap (λ (l : List (List ℕ)). slice_index_or l w.track []) (holds_same side) ∙ x.sides side level;
-    frame = x.frame;
-  }
-
-  one_of : (b : Bool) {X Y U V : Type 0} → (X → U) → (Y → V) → elim b as (λ (x : Bool). Type 0) [ true ↦ X | false ↦ Y ] →
-      elim b as (λ (x : Bool). Type 0) [ true ↦ U | false ↦ V ]
-  one_of true f g x = f x
-  one_of false f g x = g x
-
-  half_same : (s : DeviceStore) (t : ℕ) (plain kept : Image) (o : Option (HalfWrite Image)) → IsHeldBy s h t plain kept o → IsHeldBy s untold t plain kept o
-  half_same s t plain kept None x = kept_same s t plain kept x
-  half_same s t plain kept (Some w) x = one_of (w.track == t) (written_same s plain w) (kept_same s t plain kept) x
-
-  held_same : (s : DeviceStore) (t : ℕ) (plain kept : Image) → IsHeld s h t plain kept → IsHeld s untold t plain kept
-  held_same s t plain kept x = one_of (is_lost s t) (λ (u : Unit {0}). u) (half_same s t plain kept s.half) x
-
-  long_same : (s : DeviceStore) → ((side : Side) → (side_of s side).up ≡ true → length (holds_of h side) ≡ tracks_of s) → (side : Side) →
-      (side_of s side).up ≡ true → length (holds_of untold side) ≡ tracks_of s
-  long_same s f side up = ap (λ (l : List (List ℕ)). length l) (holds_same side) ∙ f side up
-
-  order_same : (v w : List Track) (s : DeviceStore) → IsInOrder v w s h → IsInOrder v w s untold
-  order_same v w s i = record {
-    agrees = record {
-      ground = record {
-        sizes = i.agrees.ground.sizes;
-        plain = i.agrees.ground.plain;
-        firm = i.agrees.ground.firm;
-        same = i.agrees.ground.same;
-        apart = i.agrees.ground.apart;
-        patches = i.agrees.ground.patches;
-        long = long_same s i.agrees.ground.long;
-        slots = tt;
-      };
-      held = λ t lt. held_same s t _ _ (i.agrees.held t lt);
-    };
-    told = i.told;
-    free = i.free;
-    alone = i.alone;
-    whole = i.whole;
-    marks = i.marks;
-    queued = i.queued;
-    nowhere = i.nowhere;
-    within = i.within;
-    there = i.there;
-    patched = i.patched;
-    opened = i.opened;
-  }
 
 -- A device that is mounted
 
@@ -164,9 +87,9 @@ one_usable deck line (is_mounted d v w h on_a on_b a b stands slots told_a told_
     by_place free (in_order i) = record {
       plain = v;
       firm = w;
-      held = untold h;
+      held = record h { slots = None };
       untold = record { a = side_tells on_a h.a a told_a; b = side_tells on_b h.b b told_b; slots = refl };
-      order = order_same h v w d.store i;
+      order = untold_order d.store h v w i;
       follows = follows_so line (record { device = marks_device v w d; a = a; b = b }) p.follows;
       gives = gives;
     }

@@ -18,7 +18,8 @@ use Rattle.turn_laws.proofs.Sound.{stands_plainly}
 use Rattle.device_core.specs.declared.device.Device.{Device}
 use Rattle.device_core.specs.State.{device_of}
 use Rattle.deck_run.specs.Ending.{lost_in}
-use Rattle.path_turns.specs.Keeping.{IsFinished, KeepsAll, told_of}
+use Rattle.device_defs.specs.declared.counts.Losses.{Losses}
+use Rattle.path_turns.specs.Keeping.{IsFinished, KeepsAll, KeepsWithin, told_of}
 use Rattle.path_top.specs.Devices.{all_told, told_by}
 use Rattle.path_top.specs.Histories.{AreToldOf, IsToldBy, IsToldOf}
 use Rattle.path_top.specs.Pairs.{all_lent, paired}
@@ -34,7 +35,7 @@ same_empty : (g h : Geometry) (n m : ℕ) → g ≡ h → n ≡ m → empty_stat
 same_empty g h n m e f = ap (λ (x : Geometry). empty_state x n) e ∙ ap (λ (k : ℕ). empty_state h k) f
 
 module _ {V : Type 0} {G : Ghosts V} (deck : DeckLines) where
-  module _ (line : DeviceLine) (d e : Device V G) (u : IsOpened deck line d) (k : KeepsAll d e) (f : IsFinished e) where
+  module _ (line : DeviceLine) (most : Losses) (d e : Device V G) (u : IsOpened deck line d) (k : KeepsWithin most d e) (f : IsFinished e) where
     no_fresh : fresh_count (device_of d).history.items ≡ 0
     no_fresh = ap (λ (h : History). fresh_count h.items) u.none
 
@@ -66,33 +67,41 @@ module _ {V : Type 0} {G : Ghosts V} (deck : DeckLines) where
         same_empty (device_of e).store.geometry (device_of d).store.geometry (device_of e).store.cylinders (device_of d).store.cylinders
         k.keeps.keeps.geometry k.keeps.keeps.cylinders ∙ sym u.base
 
-    pub one_told : IsToldOf deck line (told_by e)
+    one_told : IsToldOf deck line (told_by e)
     one_told = record {
       device = k.keeps.keeps.number ∙ u.number;
       is = subst (λ (p : PlainState). IsToldBy (plans_of deck.programs line.number) p (told_by e)) base
           (subst (λ (p : Plans). IsToldBy p empty (told_by e)) (k.keeps.keeps.plans ∙ u.plans) (told_so (device_of e) (lost_in e) over));
     }
 
-  all_so : (ls : List DeviceLine) (xs ys : List (Device V G)) → AllZip (IsOpened deck) ls xs → AllZip KeepsAll xs ys → All IsFinished ys →
-      AllZip (IsToldOf deck) ls (all_told ys)
-  all_so [] [] [] o k f = tt
-  all_so [] [] (y ∷ ys) o k f = absurd k
-  all_so [] (x ∷ xs) ys o k f = absurd o
-  all_so (line ∷ ls) [] ys o k f = absurd o
-  all_so (line ∷ ls) (x ∷ xs) [] o k f = absurd k
-  all_so (line ∷ ls) (x ∷ xs) (y ∷ ys) o k f =
-      (one_told line x y o.0 k.0 (All-head IsFinished y ys f), all_so ls xs ys o.1 k.1 (All-tail IsFinished y ys f))
+  -- whatever losses it may have had
+  module _ (Keeps : Device V G → Device V G → Type 0) (within : (d e : Device V G) → Keeps d e → (most : Losses) × KeepsWithin most d e) where
+    all_so : (ls : List DeviceLine) (xs ys : List (Device V G)) → AllZip (IsOpened deck) ls xs → AllZip Keeps xs ys → All IsFinished ys →
+        AllZip (IsToldOf deck) ls (all_told ys)
+    all_so [] [] [] o k f = tt
+    all_so [] [] (y ∷ ys) o k f = absurd k
+    all_so [] (x ∷ xs) ys o k f = absurd o
+    all_so (line ∷ ls) [] ys o k f = absurd o
+    all_so (line ∷ ls) (x ∷ xs) [] o k f = absurd k
+    all_so (line ∷ ls) (x ∷ xs) (y ∷ ys) o k f =
+        let w = within x y k.0 in
+        (one_told line w.0 x y o.0 w.1 (All-head IsFinished y ys f), all_so ls xs ys o.1 k.1 (All-tail IsFinished y ys f))
 
-  lents : (xs ys : List (Device V G)) → AllZip KeepsAll xs ys →
-      map (λ (x : DeviceTold). x.lent) (all_told ys) ≡ map (λ (x : Device V G). (device_of x).store.lent) xs
-  lents [] [] k = refl
-  lents [] (y ∷ ys) k = absurd k
-  lents (x ∷ xs) [] k = absurd k
-  lents (x ∷ xs) (y ∷ ys) k =
-      ap (λ (l : List (Option ℕ)). (device_of y).store.lent ∷ l) (lents xs ys k.1)
-      ∙ ap (λ (o : Option ℕ). o ∷ map (λ (z : Device V G). (device_of z).store.lent) xs) k.0.keeps.keeps.lent
+    lents : (xs ys : List (Device V G)) → AllZip Keeps xs ys →
+        map (λ (x : DeviceTold). x.lent) (all_told ys) ≡ map (λ (x : Device V G). (device_of x).store.lent) xs
+    lents [] [] k = refl
+    lents [] (y ∷ ys) k = absurd k
+    lents (x ∷ xs) [] k = absurd k
+    lents (x ∷ xs) (y ∷ ys) k =
+        ap (λ (l : List (Option ℕ)). (device_of y).store.lent ∷ l) (lents xs ys k.1)
+        ∙ ap (λ (o : Option ℕ). o ∷ map (λ (z : Device V G). (device_of z).store.lent) xs) (within x y k.0).1.keeps.keeps.lent
+
+    all_are_told_by : (xs ys : List (Device V G)) →
+        AllZip (IsOpened deck) deck.devices xs × (map (λ (x : Device V G). (device_of x).store.lent) xs ≡ all_lent (paired deck)) →
+        AllZip Keeps xs ys → All IsFinished ys → AreToldOf deck (all_told ys)
+    all_are_told_by xs ys o k f = record { each = all_so deck.devices xs ys o.0 k f; lent = lents xs ys k ∙ o.1 }
 
   pub all_are_told : (xs ys : List (Device V G)) →
       AllZip (IsOpened deck) deck.devices xs × (map (λ (x : Device V G). (device_of x).store.lent) xs ≡ all_lent (paired deck)) →
       AllZip KeepsAll xs ys → All IsFinished ys → AreToldOf deck (all_told ys)
-  all_are_told xs ys o k f = record { each = all_so deck.devices xs ys o.0 k f; lent = lents xs ys k ∙ o.1 }
+  all_are_told = all_are_told_by KeepsAll (λ d e k. (d.store.counts.losses, k))
