@@ -3,3 +3,4 @@ pub mod Lines
 pub mod Calls
 pub mod HexLemmas
 pub mod DecimalLengths
+pub mod Blocks
