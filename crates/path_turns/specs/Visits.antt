@@ -39,6 +39,9 @@ module _ {H : Type 0} where
   is_backgrounds None = false
   is_backgrounds (Some h) = is_of_background h.origin
 
+abbrev pub half_came : Bool → Came
+half_came own = if own then Went else Again
+
 module _ {F P H : Type 0} where
   abbrev pub has_own_half : Device F P H → ℕ → Bool
   has_own_half d path = is_path_of d.history.running path && is_commands d.store.half
@@ -47,7 +50,7 @@ module _ {F P H : Type 0} where
   abbrev pub path_came : Device F P H → ℕ → Came
   path_came d path =
       if is_some d.store.lent then Over
-      else if is_some d.store.half then (if has_own_half d path then Went else Again)
+      else if is_some d.store.half then half_came (has_own_half d path)
       else if is_path_of d.history.running path then Went
       else start_came (start_fault d path)
 
@@ -69,11 +72,15 @@ started_by d path (Some fault) = nothing d
 started_by d path None = Try (λ had. nothing (if had then start d path else d))
 
 module _ {F P H R : Type 0} (c : Contents F P H R) where
+  -- the other part of a write that is half done, where it is one's own
+  abbrev pub half_event : Device F P H → Bool → Interaction R Image (Device F P H) (Unit {0})
+  half_event d own = if own then whatever (second c d) else nothing d
+
   -- of a path: the other part of its command's write, the next command of its program, or the start of its next program
   abbrev pub path_event : Device F P H → ℕ → Interaction R Image (Device F P H) (Unit {0})
   path_event d path =
       if is_some d.store.lent then nothing d
-      else if is_some d.store.half then (if has_own_half d path then whatever (second c d) else nothing d)
+      else if is_some d.store.half then half_event d (has_own_half d path)
       else if is_path_of d.history.running path then whatever (command c d)
       else started_by d path (start_fault d path)
 
@@ -81,5 +88,5 @@ module _ {F P H R : Type 0} (c : Contents F P H R) where
   abbrev pub background_event : Device F P H → Interaction R Image (Device F P H) (Unit {0})
   background_event d =
       if is_some d.store.lent then nothing d
-      else if is_some d.store.half then (if is_backgrounds d.store.half then whatever (second c d) else nothing d)
+      else if is_some d.store.half then half_event d (is_backgrounds d.store.half)
       else whatever (background c d)

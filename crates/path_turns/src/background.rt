@@ -1,13 +1,11 @@
-ghost use Rattle.std.specs.Prelude.{◌≡◌, IfOk, None, OnOk, false, is_some, true, if◌then◌else◌};
-ghost use Rattle.device_outside.specs.declared.keep.NoKeep.{NoKeep};
-ghost use Rattle.device_outside.specs.Keeper.{reply};
-ghost use Rattle.device_outside.specs.Outside.{Ran, where_ok};
+ghost use Rattle.std.specs.Prelude.{◌≡◌, IfOk, None, OnOk, false, is_some, true};
+ghost use Rattle.device_outside.specs.Outside.{where_ok};
 ghost use Rattle.device_defs.specs.Contents.{contents};
-ghost use Rattle.device_defs.specs.Events.{background, second};
-ghost use Rattle.device_store.specs.State.{outside};
+ghost use Rattle.device_defs.specs.Events.{background};
 ghost use Rattle.device_core.specs.State.{device_of};
+ghost use Rattle.path_turns.specs.Comes.{Comes};
 ghost use Rattle.path_turns.specs.Keeping.{Moves};
-ghost use Rattle.path_turns.specs.Visits.{background_event, is_backgrounds, is_done, nothing, whatever};
+ghost use Rattle.path_turns.specs.Visits.{background_event, half_event, is_backgrounds, is_done, whatever};
 ghost use Rattle.path_turns.specs.declared.events.Came.TheVariants.{Over};
 
 use crate::events::{Came, is_lent};
@@ -50,8 +48,8 @@ fn rested<V: Volume>(device: &Device<V>, rests: bool) -> Came
 fn work<V: Volume, P: Port>(device: &mut Device<V>, port: &mut P) -> Result<Came, NoMemory>
     requires home { (device_of device.old).store.lent ≡ None }
     requires whole { is_some (device_of device.old).store.half ≡ false }
-    ensures run { (k : NoKeep) → Ran (where_ok result) (λ _ m r _. r ≡ reply m) (whatever (background contents (device_of device.old)))
-        (outside (P.view port.old) device.old.store k) (device_of device.new) tt (outside (P.view port.new) device.new.store k) }
+    ensures run { Comes (where_ok result) (whatever (background contents (device_of device.old)))
+        (P.view port.old) device.old (P.view port.new) device.new }
     ensures over { IfOk result (λ came. came ≡ Over → is_done (device_of device.new) ≡ true) }
     ensures moves { OnOk result (Moves 5 device.old device.new) }
 {
@@ -64,8 +62,8 @@ fn work<V: Volume, P: Port>(device: &mut Device<V>, port: &mut P) -> Result<Came
 /// The other part of the background's own write; another worker's is waited for.
 fn half_work<V: Volume, P: Port>(device: &mut Device<V>, port: &mut P) -> Result<Came, NoMemory>
     requires home { (device_of device.old).store.lent ≡ None }
-    ensures run { (k : NoKeep) → Ran (where_ok result) (λ _ m r _. r ≡ reply m) (if is_backgrounds (device_of device.old).store.half then whatever (second contents (device_of device.old)) else nothing (device_of device.old))
-        (outside (P.view port.old) device.old.store k) (device_of device.new) tt (outside (P.view port.new) device.new.store k) }
+    ensures run { Comes (where_ok result) (half_event contents (device_of device.old) (is_backgrounds (device_of device.old).store.half))
+        (P.view port.old) device.old (P.view port.new) device.new }
     ensures over { IfOk result (λ came. came ≡ Over → is_done (device_of device.new) ≡ true) }
     ensures moves { OnOk result (Moves 5 device.old device.new) }
 {
@@ -81,8 +79,8 @@ pub fn background_event<V: Volume, P: Port>(
     device: &mut Device<V>,
     port: &mut P,
 ) -> Result<Came, NoMemory>
-    ensures run { (k : NoKeep) → Ran (where_ok result) (λ _ m r _. r ≡ reply m) (background_event contents (device_of device.old))
-        (outside (P.view port.old) device.old.store k) (device_of device.new) tt (outside (P.view port.new) device.new.store k) }
+    ensures run { Comes (where_ok result) (background_event contents (device_of device.old))
+        (P.view port.old) device.old (P.view port.new) device.new }
     ensures over { IfOk result (λ came. came ≡ Over → is_done (device_of device.new) ≡ true) }
     ensures moves { OnOk result (Moves 5 device.old device.new) }
 {

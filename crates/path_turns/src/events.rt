@@ -1,18 +1,16 @@
-ghost use Rattle.std.specs.Prelude.{◌≡◌, ◌≤◌, IfOk, IfSome, None, OnErr, OnOk, Some, false, is_some, true, if◌then◌else◌};
+ghost use Rattle.std.specs.Prelude.{◌≡◌, ◌≤◌, IfOk, IfSome, None, OnErr, OnOk, Some, false, is_some, true};
 ghost use Rattle.ckd_chain.specs.Facts.{IsChain};
 ghost use Rattle.plain_defs.specs.History.{is_path_of};
-ghost use Rattle.device_outside.specs.declared.keep.NoKeep.{NoKeep};
-ghost use Rattle.device_outside.specs.Keeper.{reply};
-ghost use Rattle.device_outside.specs.Outside.{PortView, Ran, where_ok};
+ghost use Rattle.device_outside.specs.Outside.{PortView, where_ok};
 ghost use Rattle.device_defs.specs.Command.{command};
 ghost use Rattle.device_defs.specs.Contents.{contents};
 ghost use Rattle.device_defs.specs.Events.{second};
 ghost use Rattle.device_defs.specs.Start.{start, start_fault};
-ghost use Rattle.device_store.specs.State.{outside};
 ghost use Rattle.device_core.specs.State.{device_of};
+ghost use Rattle.path_turns.specs.Comes.{Comes};
 ghost use Rattle.path_turns.specs.Keeping.{Moves};
-ghost use Rattle.path_turns.specs.Visits.{has_own_half, is_commands, nothing, path_came, path_event, start_came, started_by, whatever};
-ghost use Rattle.path_turns.specs.declared.events.Came.TheVariants.{Again, Went};
+ghost use Rattle.path_turns.specs.Visits.{half_came, half_event, has_own_half, is_commands, path_came, path_event, start_came, started_by, whatever};
+ghost use Rattle.path_turns.specs.declared.events.Came.TheVariants.{Went};
 
 use ckd_types::{NoMemory, PathNo};
 use device_core::{Device, HalfOrigin, NotStarted};
@@ -126,9 +124,8 @@ fn start_next<V: Volume, G: Gate>(
 ) -> Result<Came, NoMemory>
     ensures path { visitor.new.path ≡ visitor.old.path }
     ensures came { IfOk result (λ came. came ≡ start_came (start_fault (device_of device.old) visitor.old.path)) }
-    ensures run { (k : NoKeep) (view : PortView) → Ran (where_ok result) (λ _ m r _. r ≡ reply m)
-        (started_by (device_of device.old) visitor.old.path (start_fault (device_of device.old) visitor.old.path))
-        (outside view device.old.store k) (device_of device.new) tt (outside view device.new.store k) }
+    ensures run { (view : PortView) → Comes (where_ok result)
+        (started_by (device_of device.old) visitor.old.path (start_fault (device_of device.old) visitor.old.path)) view device.old view device.new }
     ensures moves { OnOk result (Moves visitor.old.path device.old device.new) }
 {
     let path = visitor.path;
@@ -155,8 +152,8 @@ fn command<V: Volume, P: Port, G: Gate>(
     requires whole { is_some (device_of device.old).store.half ≡ false }
     ensures path { visitor.new.path ≡ visitor.old.path }
     ensures came { IfOk result (λ came. came ≡ Went) }
-    ensures run { (k : NoKeep) → Ran (where_ok result) (λ _ m r _. r ≡ reply m) (whatever (command contents (device_of device.old)))
-        (outside (P.view port.old) device.old.store k) (device_of device.new) tt (outside (P.view port.new) device.new.store k) }
+    ensures run { Comes (where_ok result) (whatever (command contents (device_of device.old)))
+        (P.view port.old) device.old (P.view port.new) device.new }
     ensures moves { OnOk result (Moves visitor.old.path device.old device.new) }
 {
     chain_stands(device);
@@ -180,8 +177,8 @@ fn second<V: Volume, P: Port, G: Gate>(
     requires half { is_some (device_of device.old).store.half ≡ true }
     ensures path { visitor.new.path ≡ visitor.old.path }
     ensures came { IfOk result (λ came. came ≡ Went) }
-    ensures run { (k : NoKeep) → Ran (where_ok result) (λ _ m r _. r ≡ reply m) (whatever (second contents (device_of device.old)))
-        (outside (P.view port.old) device.old.store k) (device_of device.new) tt (outside (P.view port.new) device.new.store k) }
+    ensures run { Comes (where_ok result) (whatever (second contents (device_of device.old)))
+        (P.view port.old) device.old (P.view port.new) device.new }
     ensures moves { OnOk result (Moves visitor.old.path device.old device.new) }
 {
     visitor.before(device);
@@ -215,9 +212,9 @@ fn half_event<V: Volume, P: Port, G: Gate>(
 ) -> Result<Came, NoMemory>
     requires home { (device_of device.old).store.lent ≡ None }
     ensures path { visitor.new.path ≡ visitor.old.path }
-    ensures came { IfOk result (λ came. came ≡ (if has_own_half (device_of device.old) visitor.old.path then Went else Again)) }
-    ensures run { (k : NoKeep) → Ran (where_ok result) (λ _ m r _. r ≡ reply m) (if has_own_half (device_of device.old) visitor.old.path then whatever (second contents (device_of device.old)) else nothing (device_of device.old))
-        (outside (P.view port.old) device.old.store k) (device_of device.new) tt (outside (P.view port.new) device.new.store k) }
+    ensures came { IfOk result (λ came. came ≡ half_came (has_own_half (device_of device.old) visitor.old.path)) }
+    ensures run { Comes (where_ok result) (half_event contents (device_of device.old) (has_own_half (device_of device.old) visitor.old.path))
+        (P.view port.old) device.old (P.view port.new) device.new }
     ensures moves { OnOk result (Moves visitor.old.path device.old device.new) }
 {
     if has_own_half(device, visitor.path) {
@@ -235,8 +232,8 @@ pub fn path_event<V: Volume, P: Port, G: Gate>(
 ) -> Result<Came, NoMemory>
     ensures path { visitor.new.path ≡ visitor.old.path }
     ensures came { IfOk result (λ came. came ≡ path_came (device_of device.old) visitor.old.path) }
-    ensures run { (k : NoKeep) → Ran (where_ok result) (λ _ m r _. r ≡ reply m) (path_event contents (device_of device.old) visitor.old.path)
-        (outside (P.view port.old) device.old.store k) (device_of device.new) tt (outside (P.view port.new) device.new.store k) }
+    ensures run { Comes (where_ok result) (path_event contents (device_of device.old) visitor.old.path)
+        (P.view port.old) device.old (P.view port.new) device.new }
     ensures moves { OnOk result (Moves visitor.old.path device.old device.new) }
 {
     if is_lent(device) {

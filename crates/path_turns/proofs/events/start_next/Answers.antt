@@ -6,7 +6,7 @@ use Rattle.path_turns.proofs.Visiting.{begins, kept_out, lacks_memory}
 use Rattle.path_turns.proofs.events.start_next.Goals as goal
 
 pub returns-in-Some-clause-run : goal.returns-in-Some-clause-run
-returns-in-Some-clause-run g c k view =
+returns-in-Some-clause-run g c view k =
     let device = c.args.device.now in
     kept_out (device_of device) c.args.visitor.now.path (outside view device.store k) (outside view device.store k) _ c.in-Some.fault
     (sym c.start_fault.ensures ∙ c.in-Some.is)
@@ -16,14 +16,14 @@ returns-in-Some-clause-moves g c =
     let visitor = c.args.visitor.now in none_moves c.args.device.now visitor.path visitor.least visitor.most
 
 pub returns-in-Ok-clause-run : goal.returns-in-Ok-clause-run
-returns-in-Ok-clause-run g c k view =
+returns-in-Ok-clause-run g c view k =
     let device = c.args.device.now in
     let behind = c.begin-began.new.device in
     begins (device_of device) c.args.visitor.now.path (outside view device.store k) (outside view behind.store k) _ (device_of behind)
     (sym c.start_fault.ensures ∙ c.in_default.is) c.in-Ok.ensures.started (ap (λ s. outside view s k) c.begin-began.ensures.store)
 
 pub returns-in-Err-clause-run : goal.returns-in-Err-clause-run
-returns-in-Err-clause-run g c k view =
+returns-in-Err-clause-run g c view k =
     let device = c.args.device.now in
     let behind = c.begin-began.new.device in
     lacks_memory (device_of device) c.args.visitor.now.path (outside view device.store k) (outside view behind.store k) _ (device_of behind)
