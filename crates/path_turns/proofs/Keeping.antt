@@ -21,7 +21,7 @@ use Rattle.device_defs.specs.Contents.{contents}
 use Rattle.device_defs.specs.Events.{background, second}
 use Rattle.device_defs.specs.Pledge.{Pledge, command_count, seat_counts}
 use Rattle.device_defs.specs.Start.{start, start_fault}
-use Rattle.device_defs.specs.Store.{HalfWrite, OfBackground}
+use Rattle.device_defs.specs.Store.{HalfWrite, Origin, OfCommand, OfCut, OfBackground}
 use Rattle.device_laws.specs.Handed.{StaysInTurn, allowance_in}
 use Rattle.device_laws.specs.Whole.{WholeDevice}
 use Rattle.device_laws.proofs.KeepLaws.{start_kept, command_kept, second_kept, background_kept, background_checks}
@@ -43,7 +43,9 @@ use Rattle.device_store.specs.declared.store.DeviceStore.{DeviceStore}
 use Rattle.device_core.specs.declared.device.Device.{Device}
 use Rattle.device_core.specs.declared.past.Running.{Running}
 use Rattle.device_core.specs.State.{device_of, chain_of}
-use Rattle.path_turns.specs.Keeping.{KeepsPledge, Moves, StaysOn, handed_of, tells, told_of}
+use Rattle.path_turns.specs.Keeping.{KeepsPledge, Moves, StaysKept, handed_of, tells, told_of}
+use Rattle.path_turns.proofs.Visiting.{free_idle}
+use Rattle.path_turns.specs.Visits.{is_backgrounds, is_commands, is_of_background}
 
 abbrev pub hears : Hearing Image NoKeep
 hears = λ _ m r _. r ≡ reply m
@@ -79,6 +81,19 @@ pub with_some : {X : Type 0} (o : Option X) (Q : Type 0) → is_some o ≡ true 
 with_some (Some x) Q is f = f x refl
 with_some None Q is f = absurd (cc)
 
+pub commands_open : {H : Type 0} (o : Option (HalfWrite H)) → is_commands o ≡ true → is_some o ≡ true
+commands_open (Some h) is = refl
+commands_open None is = absurd (cc)
+
+origin_own : (o : Origin) → is_of_background o ≡ true → o ≡ OfBackground
+origin_own OfBackground is = refl
+origin_own (OfCommand bypass e) is = absurd (cc)
+origin_own (OfCut bypass) is = absurd (cc)
+
+pub with_own : {H : Type 0} (o : Option (HalfWrite H)) (Q : Type 0) → is_backgrounds o ≡ true → ((h : HalfWrite H) → o ≡ Some h → h.origin ≡ OfBackground → Q) → Q
+with_own (Some h) Q is f = f h refl (origin_own h.origin is)
+with_own None Q is f = absurd (cc)
+
 told_true : {R : Type 0} (v : Option (VolumeView R)) (l : List R) → Tells v l → tells v ≡ true
 told_true None l t = refl
 told_true (Some v) l t = ap (λ (o : Option (List _)). is_some o) t
@@ -88,7 +103,7 @@ and_both true y e f = f
 and_both false y e f = absurd (cc)
 
 module _ {V : Type 0} {G : Ghosts V} where
-  pub stays_same : (d : Device V G) → StaysOn d d
+  pub stays_same : (d : Device V G) → StaysKept d d
   stays_same d p s = s
 
   pub none_moves : (d : Device V G) (path : ℕ) → 1 ≤ path → path ≤ 4 → Moves path d d
@@ -175,7 +190,7 @@ module _ {V : Type 0} {G : Ghosts V} where
 
     module _ (home : (device_of d).store.lent ≡ None) where
       pub command_stays : {a : Option Stepped} → (device_of d).store.half ≡ None → Runs (device_of d).history.running →
-          IfSome d.past.running (λ r. IsChain r.chain) → Came (λ ok. ok ≡ true) (command contents (device_of d)) a → StaysOn d e
+          IfSome d.past.running (λ r. IsChain r.chain) → Came (λ ok. ok ≡ true) (command contents (device_of d)) a → StaysKept d e
       command_stays {a = a} none runs chain r p k =
           let chains = chain_told d.past.running chain in
           to_keeps p _
@@ -184,14 +199,14 @@ module _ {V : Type 0} {G : Ghosts V} where
           (λ told. command_stands (of_stands (k.stands told home)) (λ _ m r l h. h) a runs.entry none runs.is chains r)
 
       pub second_stays : {a : SecondEnd} (h : HalfWrite Image) → (device_of d).store.half ≡ Some h →
-          Came (λ ok. ok ≡ true) (second contents (device_of d)) a → StaysOn d e
+          Came (λ ok. ok ≡ true) (second contents (device_of d)) a → StaysKept d e
       second_stays {a = a} h half r p k =
           to_keeps p _
           (second_kept contents hears p (handed_of p.told d) (device_of d) (device_of e) u z (of_keeps p k) home
           (λ told. second_checks (of_stands (k.stands told home)) (λ _ m r l h. h) a r) a (ran_weaker (λ ok h. tt) r))
           (λ told. second_stands (of_stands (k.stands told home)) (λ _ m r l h. h) a h half r)
 
-      pub background_stays : {a : Option Did} → (device_of d).store.half ≡ None → Came (λ ok. ok ≡ true) (background contents (device_of d)) a → StaysOn d e
+      pub background_stays : {a : Option Did} → (device_of d).store.half ≡ None → Came (λ ok. ok ≡ true) (background contents (device_of d)) a → StaysKept d e
       background_stays {a = a} none r p k =
           let ran = ran_weaker (λ ok h. tt) r in
           to_keeps p _
@@ -252,7 +267,7 @@ module _ {V : Type 0} {G : Ghosts V} where
           (λ told home. start_stands (device_of d) (told_of d) path (k.stands told home) least most none),
         )
 
-    pub started_stays : (start_fault (device_of d) path ≡ None) → StaysOn d e
+    pub started_stays : (start_fault (device_of d) path ≡ None) → StaysKept d e
     started_stays none p k =
         let on = started_keeps p none k e.store same in
         record {
@@ -263,10 +278,10 @@ module _ {V : Type 0} {G : Ghosts V} where
         lent_same : (device_of e).store.lent ≡ None → (device_of d).store.lent ≡ None
         lent_same home = ap (λ (x : DeviceStore V G). x.pair.lent) (sym same) ∙ home
 
-    pub started_moves : (device_of d).history.running ≡ None → (start_fault (device_of d) path ≡ None) → Moves path d e
-    started_moves idle none = record {
+    pub started_moves : (start_fault (device_of d) path ≡ None) → Moves path d e
+    started_moves none = record {
       stays = started_stays none;
       count = command_count (device_of e) path;
       counts = others_set (device_of d) (device_of e) path least most
-          (subst (λ (x : WholeDevice). OtherPaths path (device_of d).history x.history) (sym is) (start_counts (device_of d) path idle));
+          (subst (λ (x : WholeDevice). OtherPaths path (device_of d).history x.history) (sym is) (start_counts (device_of d) path (free_idle (device_of d) path none)));
     }

@@ -1,3 +1,5 @@
 pub mod Keeping
 pub mod Ready
 pub mod Leaving
+pub mod Visiting
+pub mod Finishing

@@ -11,6 +11,7 @@ use Rattle.plain_defs.specs.Legal.{is_of_path}
 use Rattle.device_outside.specs.declared.volume.Volume.{Ghosts}
 use Rattle.device_outside.specs.After.{Tells}
 use Rattle.device_outside.specs.Disk.{empty_contents}
+use Rattle.device_defs.specs.declared.counts.Losses.{Losses}
 use Rattle.device_defs.specs.Pledge.{StaysWithin, ends_with_data_check, failures_of, fresh_count, is_fresh, is_kept_journal, seat_counts}
 use Rattle.device_laws.specs.Handed.{allowance_in}
 use Rattle.device_laws.specs.Whole.{WholeDevice}
@@ -20,7 +21,7 @@ use Rattle.turn_laws.specs.Standing.{GiveBytes, Stands}
 use Rattle.turn_laws.proofs.NewDevice.{new_stands}
 use Rattle.device_core.specs.declared.device.Device.{Device}
 use Rattle.device_core.specs.State.{device_of, opened_device}
-use Rattle.path_turns.specs.Keeping.{IsReady, KeepsAll, are_fresh, told_of}
+use Rattle.path_turns.specs.Keeping.{IsReady, IsWithin, KeepsWithin, are_fresh, told_of}
 
 and_left : (x y : Bool) → (x && y) ≡ true → x ≡ true
 and_left true y e = refl
@@ -62,13 +63,13 @@ kept_long (items.Reset x ∷ xs) e = absurd (cc)
 kept_long (items.Act x ∷ xs) e = absurd (cc)
 kept_long (items.Power ∷ xs) e = absurd (cc)
 
-within : (failed : ℕ) (o : Option ℕ) → StaysWithin (failures_of failed o) failed o
-within failed None = tt
-within failed (Some n) = omega arith
+failed_within : (failed : ℕ) (o : Option ℕ) → StaysWithin (failures_of failed o) failed o
+failed_within failed None = tt
+failed_within failed (Some n) = omega arith
 
 module _ {V : Type 0} {G : Ghosts V} (d : Device V G) (r : IsReady d) where
-  pub ready_keeps : KeepsAll d d
-  ready_keeps = record {
+  pub ready_keeps : (most : Losses) → IsWithin d.store.counts.losses most → KeepsWithin most d d
+  ready_keeps most within = record {
     keeps = record {
       keeps = record {
         number = refl;
@@ -80,10 +81,10 @@ module _ {V : Type 0} {G : Ghosts V} (d : Device V G) (r : IsReady d) where
         journal = subst (λ (n : ℕ). is_kept_journal n (device_of d).history.items ≡ true) (sym (all_counted (device_of d).history.items r.journal))
             (kept_long (device_of d).history.items r.journal);
         still = λ lent. sym (all_counted (device_of d).history.items r.journal);
-        cache = omega arith;
-        store = omega arith;
-        sides = omega arith;
-        failures = within (device_of d).store.counts.failed (allowance_in (told_of d));
+        cache = within.cache;
+        store = within.store;
+        sides = within.sides;
+        failures = failed_within (device_of d).store.counts.failed (allowance_in (told_of d));
         tells = λ e. e;
         told = λ e. e;
         checks = λ e. none_counted ends_with_data_check refl (device_of d).history.items r.journal;

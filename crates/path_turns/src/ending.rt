@@ -1,25 +1,55 @@
-ghost use Rattle.std.specs.Prelude.{◌≡◌, All, IfSome, None, OnOk, false, is_some};
+ghost use Rattle.std.specs.Prelude.{◌≡◌, All, IfSome, None, OnOk, false, is_some, true};
 ghost use Rattle.std.specs.List.{AllZip};
 ghost use Rattle.device_defs.specs.Start.{start_fault};
 ghost use Rattle.device_core.specs.State.{device_of};
-ghost use Rattle.path_turns.specs.Keeping.{IsFinished, StaysOn};
+ghost use Rattle.path_turns.specs.Keeping.{IsFinished, StaysKept};
 
-use crate::events::{chain_stands, is_busy, start_came};
+use crate::events::{begin, chain_stands, is_lent};
 use ckd_types::{NoMemory, PathNo};
 use device_core::Device;
 use device_outside::{Port, Volume};
 use std::sync::Wait;
 
-/// The next program of a path starts.
+/// The next program of a path starts, which nothing keeps out.
 fn start<V: Volume>(device: &mut Device<V>, path: PathNo) -> Result<(), NoMemory>
-    requires idle { is_some (device_of device.old).history.running ≡ false }
     requires free { start_fault (device_of device.old) path ≡ None }
-    ensures stays { OnOk result (StaysOn device.old device.new) }
+    ensures stays { OnOk result (StaysKept device.old device.new) }
 {
     let _number = path.get();
-    let outcome = device.start(path);
-    start_came(outcome)?;
-    Ok(())
+    match begin(device, path) {
+        Err(NoMemory) => Err(NoMemory),
+        Ok(()) => Ok(()),
+    }
+}
+
+/// Some path's program runs.
+fn is_busy<V: Volume>(device: &Device<V>) -> bool
+    ensures { result ≡ is_some (device_of device.now).history.running }
+{
+    device.active().is_some()
+}
+
+/// The command at hand.
+fn command<V: Volume, P: Port>(device: &mut Device<V>, port: &mut P) -> Result<(), NoMemory>
+    requires home { (device_of device.old).store.lent ≡ None }
+    requires runs { is_some (device_of device.old).history.running ≡ true }
+    requires whole { is_some (device_of device.old).store.half ≡ false }
+    ensures stays { OnOk result (StaysKept device.old device.new) }
+{
+    chain_stands(device);
+    match device.command(port) {
+        Err(NoMemory) => Err(NoMemory),
+        Ok(_) => Ok(()),
+    }
+}
+
+/// The other part of a write.
+fn second<V: Volume, P: Port>(device: &mut Device<V>, port: &mut P)
+    requires home { (device_of device.old).store.lent ≡ None }
+    requires half { is_some (device_of device.old).store.half ≡ true }
+    ensures { StaysKept device.old device.new }
+{
+    device.second(port);
 }
 
 /// The first path whose next program nothing keeps out.
@@ -39,8 +69,7 @@ fn first_free<V: Volume>(device: &Device<V>) -> Option<PathNo>
 
 /// Its next program starts.
 fn start_first<V: Volume>(device: &mut Device<V>) -> Result<(), NoMemory>
-    requires idle { is_some (device_of device.old).history.running ≡ false }
-    ensures stays { OnOk result (StaysOn device.old device.new) }
+    ensures stays { OnOk result (StaysKept device.old device.new) }
 {
     match first_free(device) {
         Some(path) => start(device, path),
@@ -50,19 +79,17 @@ fn start_first<V: Volume>(device: &mut Device<V>) -> Result<(), NoMemory>
 
 /// One event of a device: the other part of its half write, a command of its program that runs, or the start of a program.
 fn next_event<V: Volume, P: Port>(device: &mut Device<V>, port: &mut P) -> Result<(), NoMemory>
-    ensures stays { OnOk result (StaysOn device.old device.new) }
+    ensures stays { OnOk result (StaysKept device.old device.new) }
 {
-    if device.lent_to().is_some() {
+    if is_lent(device) {
         return Ok(());
     }
     if device.half_open() {
-        device.second(port);
+        second(device, port);
         return Ok(());
     }
     if is_busy(device) {
-        chain_stands(device);
-        device.command(port)?;
-        return Ok(());
+        return command(device, port);
     }
     start_first(device)
 }
@@ -73,7 +100,7 @@ pub fn finish<R: Wait, V: Volume, P: Port>(
     device: &mut Device<V>,
     port: &mut P,
 ) -> Result<(), NoMemory>
-    ensures stays { OnOk result (StaysOn device.old device.new) }
+    ensures stays { OnOk result (StaysKept device.old device.new) }
     ensures finished { OnOk result (IsFinished device.new) }
 {
     for _ in rt.forever() {
@@ -91,7 +118,7 @@ pub fn finish_all<R: Wait, V: Volume, P: Port>(
     devices: &mut [Device<V>],
     port: &mut P,
 ) -> Result<(), NoMemory>
-    ensures stay { OnOk result (AllZip StaysOn devices.old devices.new) }
+    ensures stay { OnOk result (AllZip StaysKept devices.old devices.new) }
     ensures finished { OnOk result (All IsFinished devices.new) }
 {
     for i in 0..devices.len() {

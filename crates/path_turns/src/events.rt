@@ -1,9 +1,16 @@
-ghost use Rattle.std.specs.Prelude.{◌≡◌, ◌≤◌, IfSome, IsOk, None, OnOk, false, is_some, true};
+ghost use Rattle.std.specs.Prelude.{◌≡◌, ◌≤◌, IfOk, IfSome, None, OnErr, OnOk, Some, false, is_some, true};
 ghost use Rattle.ckd_chain.specs.Facts.{IsChain};
 ghost use Rattle.plain_defs.specs.History.{is_path_of};
-ghost use Rattle.device_core.specs.Starting.{fault_told};
+ghost use Rattle.device_outside.specs.Outside.{PortView, where_ok};
+ghost use Rattle.device_defs.specs.Command.{command};
+ghost use Rattle.device_defs.specs.Contents.{contents};
+ghost use Rattle.device_defs.specs.Events.{second};
+ghost use Rattle.device_defs.specs.Start.{start, start_fault};
 ghost use Rattle.device_core.specs.State.{device_of};
+ghost use Rattle.path_turns.specs.Comes.{Comes};
 ghost use Rattle.path_turns.specs.Keeping.{Moves};
+ghost use Rattle.path_turns.specs.Visits.{half_came, half_event, has_own_half, is_commands, path_came, path_event, start_came, started_by, whatever};
+ghost use Rattle.path_turns.specs.declared.events.Came.TheVariants.{Went};
 
 use ckd_types::{NoMemory, PathNo};
 use device_core::{Device, HalfOrigin, NotStarted};
@@ -57,7 +64,9 @@ impl<'a, G: Gate> Visitor<'a, G> {
     }
 }
 
-fn fault_came(fault: StartFault) -> Came {
+fn fault_came(fault: StartFault) -> Came
+    ensures { result ≡ start_came (Some fault) }
+{
     match fault {
         StartFault::Busy { .. } => Came::Again,
         StartFault::Reserved { .. } => Came::Again,
@@ -67,13 +76,15 @@ fn fault_came(fault: StartFault) -> Came {
     }
 }
 
-/// A start that nothing kept out.
-pub fn start_came(outcome: Result<u16, NotStarted>) -> Result<Came, NoMemory>
-    requires { fault_told outcome ≡ None }
-    ensures { OnOk result (IsOk outcome) }
+/// The next program of a path starts, which nothing keeps out.
+pub(crate) fn begin<V: Volume>(device: &mut Device<V>, path: PathNo) -> Result<(), NoMemory>
+    requires free { start_fault (device_of device.old) path ≡ None }
+    ensures started { OnOk result (device_of device.new ≡ start (device_of device.old) path) }
+    ensures same { OnErr result (device_of device.new ≡ device_of device.old) }
+    ensures store { device.new.store ≡ device.old.store }
 {
-    match outcome {
-        Ok(_) => Ok(Came::Went),
+    match device.start(path) {
+        Ok(_) => Ok(()),
         Err(NotStarted::NoMemory) => Err(NoMemory),
         Err(NotStarted::Refused(_)) => unreachable!(),
     }
@@ -89,15 +100,15 @@ pub(crate) fn runs_on<V: Volume>(device: &Device<V>, path: PathNo) -> bool
     }
 }
 
-/// Some path's program runs.
-pub fn is_busy<V: Volume>(device: &Device<V>) -> bool
-    ensures { result ≡ is_some (device_of device.now).history.running }
+/// The device's volume is lent.
+pub(crate) fn is_lent<V: Volume>(device: &Device<V>) -> bool
+    ensures { result ≡ is_some (device_of device.now).store.lent }
 {
-    device.active().is_some()
+    device.lent_to().is_some()
 }
 
 /// The chain of the program that runs keeps to what chains keep to.
-pub fn chain_stands<V: Volume>(device: &Device<V>)
+pub(crate) fn chain_stands<V: Volume>(device: &Device<V>)
     ensures { IfSome device.now.past.running (λ r. IsChain r.chain) }
 {
     match &device.past.running {
@@ -111,17 +122,23 @@ fn start_next<V: Volume, G: Gate>(
     device: &mut Device<V>,
     visitor: &mut Visitor<G>,
 ) -> Result<Came, NoMemory>
-    requires idle { is_some (device_of device.old).history.running ≡ false }
     ensures path { visitor.new.path ≡ visitor.old.path }
+    ensures came { IfOk result (λ came. came ≡ start_came (start_fault (device_of device.old) visitor.old.path)) }
+    ensures run { (view : PortView) → Comes (where_ok result)
+        (started_by (device_of device.old) visitor.old.path (start_fault (device_of device.old) visitor.old.path)) view device.old view device.new }
     ensures moves { OnOk result (Moves visitor.old.path device.old device.new) }
 {
-    if let Some(fault) = device.start_fault(visitor.path) {
+    let path = visitor.path;
+    if let Some(fault) = device.start_fault(path) {
         return Ok(fault_came(fault));
     }
     visitor.before(device);
-    let outcome = device.start(visitor.path);
+    let began = begin(device, path);
     visitor.after(device);
-    start_came(outcome)
+    match began {
+        Err(NoMemory) => Err(NoMemory),
+        Ok(()) => Ok(Came::Went),
+    }
 }
 
 /// A command of the path's program that runs.
@@ -134,6 +151,9 @@ fn command<V: Volume, P: Port, G: Gate>(
     requires runs { is_path_of (device_of device.old).history.running visitor.old.path ≡ true }
     requires whole { is_some (device_of device.old).store.half ≡ false }
     ensures path { visitor.new.path ≡ visitor.old.path }
+    ensures came { IfOk result (λ came. came ≡ Went) }
+    ensures run { Comes (where_ok result) (whatever (command contents (device_of device.old)))
+        (P.view port.old) device.old (P.view port.new) device.new }
     ensures moves { OnOk result (Moves visitor.old.path device.old device.new) }
 {
     chain_stands(device);
@@ -156,6 +176,9 @@ fn second<V: Volume, P: Port, G: Gate>(
     requires runs { is_path_of (device_of device.old).history.running visitor.old.path ≡ true }
     requires half { is_some (device_of device.old).store.half ≡ true }
     ensures path { visitor.new.path ≡ visitor.old.path }
+    ensures came { IfOk result (λ came. came ≡ Went) }
+    ensures run { Comes (where_ok result) (whatever (second contents (device_of device.old)))
+        (P.view port.old) device.old (P.view port.new) device.new }
     ensures moves { OnOk result (Moves visitor.old.path device.old device.new) }
 {
     visitor.before(device);
@@ -164,14 +187,21 @@ fn second<V: Volume, P: Port, G: Gate>(
     Ok(Came::Went)
 }
 
-/// Whether the open half write is of the command of the program that runs.
+/// Whether the open half write is of a command.
 fn is_of_command<V: Volume>(device: &Device<V>) -> bool
-    ensures { result ≡ true → is_some (device_of device.now).store.half ≡ true }
+    ensures { result ≡ is_commands (device_of device.now).store.half }
 {
     match device.half_of() {
         Some((_, origin)) => origin == HalfOrigin::Command,
         None => false,
     }
+}
+
+/// It is of the command of the path's program.
+fn has_own_half<V: Volume>(device: &Device<V>, path: PathNo) -> bool
+    ensures { result ≡ has_own_half (device_of device.now) path }
+{
+    runs_on(device, path) && is_of_command(device)
 }
 
 /// The other part of the path's own write; another worker's is waited for.
@@ -182,9 +212,12 @@ fn half_event<V: Volume, P: Port, G: Gate>(
 ) -> Result<Came, NoMemory>
     requires home { (device_of device.old).store.lent ≡ None }
     ensures path { visitor.new.path ≡ visitor.old.path }
+    ensures came { IfOk result (λ came. came ≡ half_came (has_own_half (device_of device.old) visitor.old.path)) }
+    ensures run { Comes (where_ok result) (half_event contents (device_of device.old) (has_own_half (device_of device.old) visitor.old.path))
+        (P.view port.old) device.old (P.view port.new) device.new }
     ensures moves { OnOk result (Moves visitor.old.path device.old device.new) }
 {
-    if runs_on(device, visitor.path) && is_of_command(device) {
+    if has_own_half(device, visitor.path) {
         return second(device, visitor, port);
     }
     Ok(Came::Again)
@@ -198,9 +231,12 @@ pub fn path_event<V: Volume, P: Port, G: Gate>(
     port: &mut P,
 ) -> Result<Came, NoMemory>
     ensures path { visitor.new.path ≡ visitor.old.path }
+    ensures came { IfOk result (λ came. came ≡ path_came (device_of device.old) visitor.old.path) }
+    ensures run { Comes (where_ok result) (path_event contents (device_of device.old) visitor.old.path)
+        (P.view port.old) device.old (P.view port.new) device.new }
     ensures moves { OnOk result (Moves visitor.old.path device.old device.new) }
 {
-    if device.lent_to().is_some() {
+    if is_lent(device) {
         return Ok(Came::Over);
     }
     if device.half_open() {
@@ -208,9 +244,6 @@ pub fn path_event<V: Volume, P: Port, G: Gate>(
     }
     if runs_on(device, visitor.path) {
         return command(device, visitor, port);
-    }
-    if is_busy(device) {
-        return Ok(Came::Again);
     }
     start_next(device, visitor)
 }

@@ -2,7 +2,7 @@ ghost use Rattle.std.specs.Prelude.{◌≡◌, ◌<◌, ◌⊎◌, IfSome, None,
 ghost use Rattle.device_defs.specs.Pledge.{command_count, seat_counts};
 ghost use Rattle.device_defs.specs.Start.{started_count};
 ghost use Rattle.device_core.specs.State.{device_of};
-ghost use Rattle.path_turns.specs.Keeping.{Stays};
+ghost use Rattle.path_turns.specs.Keeping.{KeepsPromise};
 
 use crate::events::runs_on;
 use ckd_types::PathNo;
@@ -49,7 +49,7 @@ fn count_of<V: Volume>(device: &Device<V>, path: PathNo) -> u64
 }
 
 impl<V: Volume> Holder<Promise<V>> for Device<V> {
-    ghost keeps = { Stays };
+    ghost keeps = { KeepsPromise };
 
     ghost counts = { λ d. seat_counts (device_of d) };
 

@@ -1,5 +1,12 @@
 use Rattle.path_turns.proofs.Keeping.{command_moves, none_of, no_keep}
+use Rattle.path_turns.proofs.Visiting.{whatever_ran}
 use Rattle.path_turns.proofs.events.command.Goals as goal
+
+pub returns-in-Err-clause-run : goal.returns-in-Err-clause-run
+returns-in-Err-clause-run g c k = whatever_ran (c.in-Err.ensures.run k)
+
+pub returns-in-Ok-clause-run : goal.returns-in-Ok-clause-run
+returns-in-Ok-clause-run g c k = whatever_ran (c.in-Ok.ensures.run k)
 
 pub returns-in-Ok-clause-moves : goal.returns-in-Ok-clause-moves
 returns-in-Ok-clause-moves g c =
