@@ -1,5 +1,5 @@
 -- Devices of which one more was finished.
-use Rattle.std.proofs.Common.{◌≡◌, ◌<◌, ℕ, List, [], ◌∷◌, length, get_or, set}
+use Rattle.std.proofs.Common.{◌<◌, ℕ, List, [], ◌∷◌, length, get_or, set}
 use Rattle.std.specs.List.{AllZip}
 use Rattle.device_outside.specs.declared.volume.Volume.{Ghosts}
 use Rattle.device_core.specs.declared.device.Device.{Device}

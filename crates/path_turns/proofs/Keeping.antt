@@ -1,6 +1,6 @@
 -- What an event leaves of a device in its turn.
-use Rattle.std.proofs.Common.{◌≡◌, ◌≤◌, ◌<◌, ◌+◌, ℕ, Bool, true, false, List, Option, Some, None, refl, sym, ap, subst, ◌∙◌, arith}
-use Rattle.std.specs.Prelude.{◌&&◌, IfSome, is_some, option_map, slice_set}
+use Rattle.std.proofs.Common.{◌≡◌, ◌≤◌, ℕ, Bool, true, false, List, Option, Some, None, refl, sym, ap, subst, ◌∙◌}
+use Rattle.std.specs.Prelude.{◌&&◌, IfSome, is_some, option_map}
 use Rattle.ckd_chain.specs.Facts.{IsChain}
 use Rattle.ckd_chain.specs.State.{ChainState}
 use Rattle.plain_defs.specs.History.{OpenEntry, is_path_of}
@@ -19,13 +19,12 @@ use Rattle.device_defs.specs.declared.answers.Stepped.{Stepped}
 use Rattle.device_defs.specs.Command.{command}
 use Rattle.device_defs.specs.Contents.{contents}
 use Rattle.device_defs.specs.Events.{background, second}
-use Rattle.device_defs.specs.Pledge.{Pledge, command_count, seat_counts}
+use Rattle.device_defs.specs.Pledge.{Pledge, command_count}
 use Rattle.device_defs.specs.Start.{start, start_fault}
 use Rattle.device_defs.specs.Store.{HalfWrite, Origin, OfCommand, OfCut, OfBackground}
 use Rattle.device_laws.specs.Handed.{StaysInTurn, allowance_in}
 use Rattle.device_laws.specs.Whole.{WholeDevice}
 use Rattle.device_laws.proofs.KeepLaws.{start_kept, command_kept, second_kept, background_kept, background_checks}
-use Rattle.device_laws.proofs.KeptHistories.{data_checks}
 use Rattle.turn_laws.specs.Standing.{Stands}
 use Rattle.turn_laws.proofs.Counts.{
   OtherPaths,
@@ -117,7 +116,7 @@ module _ {V : Type 0} {G : Ghosts V} where
   none_works d = record { stays = stays_same d; count = 0; counts = refl }
 
   -- a device that stands tells all
-  stands_tells : {K : Type 0} (d : Device V G) (u : Outside (List ℕ) K) (port : PortView) (k : K) → u ≡ outside port d.store k → Stands (device_of d) u →
+  pub stands_tells : {K : Type 0} (d : Device V G) (u : Outside (List ℕ) K) (port : PortView) (k : K) → u ≡ outside port d.store k → Stands (device_of d) u →
       (tells (told_of d).a && tells (told_of d).b) ≡ true
   stands_tells d u port k is s =
       let t = s.untold in
@@ -126,19 +125,19 @@ module _ {V : Type 0} {G : Ghosts V} where
       (told_true (told_of d).b s.held.b (subst (λ (u : Outside _ _). Tells u.b s.held.b) is t.b))
 
   module _ (d e : Device V G) (old new : PortView) where
-    abbrev u : Outside (List ℕ) NoKeep
+    abbrev pub u : Outside (List ℕ) NoKeep
     u = outside old d.store no_keep
 
-    abbrev z : Outside (List ℕ) NoKeep
+    abbrev pub z : Outside (List ℕ) NoKeep
     z = outside new e.store no_keep
 
-    abbrev Came : {A : Type 0} → (Bool → Type 0) → Interaction (List ℕ) Image WholeDevice A → A → Type 0
+    abbrev pub Came : {A : Type 0} → (Bool → Type 0) → Interaction (List ℕ) Image WholeDevice A → A → Type 0
     Came had i a = Ran had hears i u (device_of e) a z
 
-    of_keeps : (p : Pledge) → KeepsPledge p d → StaysInTurn p (device_of d) (handed_of p.told d) u
+    pub of_keeps : (p : Pledge) → KeepsPledge p d → StaysInTurn p (device_of d) (handed_of p.told d) u
     of_keeps p k = record { keeps = k.keeps.keeps; allowance = k.keeps.allowance; none = k.keeps.none }
 
-    of_stands : Stands (device_of d) (told_of d) → Stands (device_of d) u
+    pub of_stands : Stands (device_of d) (told_of d) → Stands (device_of d) u
     of_stands s = record {
       plain = s.plain;
       firm = s.firm;
@@ -149,7 +148,7 @@ module _ {V : Type 0} {G : Ghosts V} where
       gives = s.gives;
     }
 
-    to_stands : Stands (device_of e) z → Stands (device_of e) (told_of e)
+    pub to_stands : Stands (device_of e) z → Stands (device_of e) (told_of e)
     to_stands s = record {
       plain = s.plain;
       firm = s.firm;
@@ -161,7 +160,7 @@ module _ {V : Type 0} {G : Ghosts V} where
     }
 
     -- behind an event that keeps the pledge and lets the device stand
-    to_keeps : (p : Pledge) (tells_before : Bool) → StaysInTurn p (device_of e) (record { allowance = allowance_in z; tells = tells_before; told = p.told }) z →
+    pub to_keeps : (p : Pledge) (tells_before : Bool) → StaysInTurn p (device_of e) (record { allowance = allowance_in z; tells = tells_before; told = p.told }) z →
         (p.told ≡ true → Stands (device_of e) z) → KeepsPledge p e
     to_keeps p before k stands = record {
       keeps = record {

@@ -13,7 +13,7 @@ use Rattle.path_turns.specs.Keeping.{KeepsPromise, Moves, pledge_with}
 use Rattle.path_turns.specs.declared.promise.Promise.{Promise}
 
 module _ {V : Type 0} {G : Ghosts V} where
-  abbrev counts_of : Device V G → List ℕ
+  abbrev pub counts_of : Device V G → List ℕ
   counts_of d = seat_counts (device_of d)
 
   pub may_leave : (seat : ℕ) (me after : View (Option (Promise V G)) × List (ℕ × Option (Device V G))) (before behind : Device V G) → Entered (KeptBy KeepsPromise) counts_of me after (Got before) →

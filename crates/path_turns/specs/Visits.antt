@@ -1,5 +1,5 @@
 -- One event of a worker at a device, and what the worker is told.
-use Rattle.std.specs.Prelude.{◌≡◌, ◌&&◌, ◌||◌, ℕ, Bool, true, false, Option, Some, None, is_some, if◌then◌else◌}
+use Rattle.std.specs.Prelude.{◌&&◌, ◌||◌, ℕ, Bool, true, false, Option, Some, None, is_some, if◌then◌else◌}
 use Rattle.plain_defs.specs.History.{is_path_of}
 use Rattle.track_image.specs.Image.{Image}
 use Rattle.device_outside.specs.Interaction.{Interaction, Done, Try, and_then}
