@@ -3,3 +3,4 @@ pub mod Ready
 pub mod Leaving
 pub mod Visiting
 pub mod Finishing
+pub mod Pooled
