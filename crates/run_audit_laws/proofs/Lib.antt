@@ -85,3 +85,8 @@ mod SettleEnds
 mod InOrder
 mod RangedSteps
 mod RangedWork
+mod Pasts
+mod AlikeDevices
+mod AlikeLines
+mod Hardens
+mod FailedVolumes

@@ -19,9 +19,7 @@ use Rattle.report_reading.specs.Ranges.{IsLine, form_fault, has_form}
 use Rattle.report_reading.specs.Reading.{line_of}
 use Rattle.report_auditor.specs.declared.status.AuditStatus.TheVariants.{Yes}
 use Rattle.report_auditor.specs.Verdict.{read_back}
-use Rattle.subsystem_defs.specs.Decks.{opened}
 use Rattle.run_audit_laws.specs.Ranges.{RestIsIn}
-use Rattle.run_audit_laws.specs.Runs.{AllMayFollow}
 use Rattle.run_audit_laws.specs.Texts.{IsEnded, IsOwnReport, own_text}
 use Rattle.run_audit_laws.proofs.Feeds.{AreWhole, is_whole, not_feed, text_whole}
 use Rattle.run_audit_laws.proofs.DeckTexts.{read_has_none}
@@ -127,6 +125,5 @@ module _ (text : List ℕ) (deck : DeckLines) (read : parsed text ≡ Ok deck) (
 -- where what is written is read back
 pub own_text_is_yes : ((line : ReportLine) → IsLine line → line_of (text_of line) ≡ (if has_form line then Ok line else Err (form_fault line))) →
     (text : List ℕ) (deck : DeckLines) → parsed text ≡ Ok deck → IsEnded text → length (own_text text deck) ≤ 268435456 →
-    All RestIsIn (report_lines (run_of deck)) → AllMayFollow None (opened deck) deck.events →
-    read_back (own_text text deck) ≡ Yes
+    All RestIsIn (report_lines (run_of deck)) → read_back (own_text text deck) ≡ Yes
 own_text_is_yes again text deck read h size w = own_report_is_yes again (own_text text deck) deck (own_is text deck read h w size)

@@ -1,5 +1,5 @@
 -- An audit says yes to a text of which the lines lead it to FINISH.
-use Rattle.std.proofs.Common.{◌≡◌, ◌≤◌, ◌+◌, ℕ, Bool, true, false, List, [], ◌∷◌, length, map, Some, None, sym, ap, ◌∙◌, if◌then◌else◌, arith}
+use Rattle.std.proofs.Common.{◌≡◌, ◌≤◌, ◌+◌, ℕ, Bool, true, false, List, [], ◌∷◌, length, map, Some, sym, ap, ◌∙◌, if◌then◌else◌, arith}
 use Rattle.std.specs.Prelude.{All, nat_lt, Result, Ok, Err}
 use Rattle.std.proofs.lemmas.Bool.Decides.{nat_tests}
 use Rattle.std.proofs.lemmas.List.Elements.{All-head, All-tail}
@@ -18,8 +18,8 @@ use Rattle.report_auditor.specs.declared.status.AuditWhy.{AuditWhy}
 use Rattle.report_auditor.specs.Verdict as V
 use Rattle.report_auditor.specs.Verdict.{at_end, cut_lines, deck_judged, deck_part, judged_by, judged_lines, or_no, read_back, read_back_at, report_from}
 use Rattle.run_report.specs.Report.{report_lines}
-use Rattle.subsystem_defs.specs.Decks.{opened, run_of}
-use Rattle.run_audit_laws.specs.Runs.{AllMayFollow, WholeLeads}
+use Rattle.subsystem_defs.specs.Decks.{run_of}
+use Rattle.run_audit_laws.specs.Runs.{WholeLeads}
 use Rattle.run_audit_laws.specs.Standing.{LeadsBy}
 use Rattle.run_audit_laws.specs.Texts.{IsOwnReport}
 use Rattle.run_audit_laws.proofs.Forms.{Formed, report_has_form}
@@ -55,7 +55,5 @@ module _ (again : (line : ReportLine) → IsLine line → line_of (text_of line)
       ∙ all_texts (report_lines (run_of deck)) (o.lines + 2) (first_state deck) leads.0
       (report_is_in_range (deck_part text (Some o.lines)) deck o.parses o.written) (report_has_form deck) leads.1 leads.2
 
-  pub own_report_is_yes : (text : List ℕ) (deck : DeckLines) → IsOwnReport text deck → AllMayFollow None (opened deck) deck.events →
-      read_back text ≡ Yes
-  own_report_is_yes text deck o may =
-      yes_by text deck o (report_leads (deck_part text (Some o.lines)) deck o.parses may)
+  pub own_report_is_yes : (text : List ℕ) (deck : DeckLines) → IsOwnReport text deck → read_back text ≡ Yes
+  own_report_is_yes text deck o = yes_by text deck o (report_leads (deck_part text (Some o.lines)) deck o.parses)
