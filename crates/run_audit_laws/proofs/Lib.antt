@@ -48,7 +48,12 @@ mod OwnEvents
 mod FramesOwned
 mod FrameTracks
 mod NamedGroups
-mod NamedPrograms
+mod GivenBytes
+mod SentBytes
+mod EditedBytes
+mod KeptSenses
+mod AnsweredBytes
+mod KeptBytes
 mod NamedOpenings
 mod CommandCounts
 mod RunEnds
@@ -61,7 +66,6 @@ mod Feeds
 mod DeckTexts
 mod OwnTexts
 mod DeviceSizes
-mod GivenWords
 mod NamedEvents
 mod LooseNumbers
 mod RangedActs

@@ -53,7 +53,7 @@ module _ (again : (line : ReportLine) → IsLine line → line_of (text_of line)
       ∙ ap (λ (r : Result DeckLines DeckFault). deck_judged r text (Some o.lines)) o.parses
       ∙ ap (judged_lines (o.lines + 2) (first_state deck)) o.says
       ∙ all_texts (report_lines (run_of deck)) (o.lines + 2) (first_state deck) leads.0
-      (report_is_in_range (deck_part text (Some o.lines)) deck o.parses o.written) (report_has_form deck) leads.1 leads.2
+      (report_is_in_range (deck_part text (Some o.lines)) deck o.parses) (report_has_form deck) leads.1 leads.2
 
   pub own_report_is_yes : (text : List ℕ) (deck : DeckLines) → IsOwnReport text deck → read_back text ≡ Yes
   own_report_is_yes text deck o = yes_by text deck o (report_leads (deck_part text (Some o.lines)) deck o.parses)

@@ -21,7 +21,6 @@ ghost use Rattle.subsystem_defs.specs.Closing.{ending};
 ghost use Rattle.subsystem_defs.specs.Decks.{opened, run_of};
 ghost use Rattle.subsystem_defs.specs.Subsystem.{Subsystem};
 ghost use Rattle.run_audit_laws.specs.Ordered.{AllLead, IsLossOrPair};
-ghost use Rattle.run_audit_laws.specs.Ranges.{RestIsIn};
 ghost use Rattle.run_audit_laws.specs.Runs.{LineGoes, RunIsOver, SettleIsOver, WholeLeads};
 ghost use Rattle.run_audit_laws.specs.Standing.{FramesAreDeclared, HasDevice, IsStill, LeadsBy, LineLeads, stand};
 ghost use Rattle.run_audit_laws.specs.Texts.{IsEnded, IsOwnReport, own_text};
@@ -133,9 +132,9 @@ pub fn report_has_form()
     ensures { (deck : DeckLines) → All (λ (line : ReportLine). has_form line ≡ true) (report_lines (run_of deck)) }
 {}
 
-/// All numbers and bytes of the report of a deck that was read are in their ranges, where the bytes of its DATA lines are.
+/// All numbers and bytes of the report of a deck that was read are in their ranges.
 pub fn report_is_in_range()
-    ensures { (text : List ℕ) (deck : DeckLines) → parsed text ≡ Ok deck → All RestIsIn (report_lines (run_of deck)) → All IsLine (report_lines (run_of deck)) }
+    ensures { (text : List ℕ) (deck : DeckLines) → parsed text ≡ Ok deck → All IsLine (report_lines (run_of deck)) }
 {}
 
 /// And the audit of a text of such a deck, of a line REPORT and of the report of the deck's run says yes.
@@ -146,10 +145,10 @@ pub fn own_report_is_yes()
 }
 
 /// So does the audit of the text of such a deck, all of whose lines are ended, with a line REPORT and the report of its run behind it, where both have
-/// at most 268,435,456 bytes and the bytes of its DATA lines are in their range.
+/// at most 268,435,456 bytes.
 pub fn own_text_is_yes()
     ensures { (text : List ℕ) (deck : DeckLines) → parsed text ≡ Ok deck → IsEnded text → length (own_text text deck) ≤ 268435456
-        → All RestIsIn (report_lines (run_of deck)) → read_back (own_text text deck) ≡ Yes }
+        → read_back (own_text text deck) ≡ Yes }
 {
     reads_back();
 }
