@@ -3,7 +3,7 @@ use Rattle.std.proofs.Common.{◌≡◌, ◌≢◌, ◌∙◌, ◌<◌, ℕ, Boo
 use Rattle.std.specs.Prelude.{◌||◌, is_some, if◌then◌else◌}
 use Rattle.std.proofs.lemmas.List.{get_or-set_other}
 use Rattle.ckd_types.specs.declared.paths.Side.TheVariants.{A, B}
-use Rattle.device_outside.specs.Interaction.{Done, Tell}
+use Rattle.device_outside.specs.Interaction.{Done}
 use Rattle.device_outside.specs.Keeper.{Hearing}
 use Rattle.device_outside.specs.Outside.{Outside, Ran, done, told}
 use Rattle.track_image.specs.Image.{Image}

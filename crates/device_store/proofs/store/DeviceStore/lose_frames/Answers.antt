@@ -1,4 +1,4 @@
-use Rattle.std.proofs.Common.{◌≡◌, ◌∙◌, ◌*◌, ◌<◌, ℕ, Bool, true, List, [], ◌∷◌, refl, sym, ap, subst, arith}
+use Rattle.std.proofs.Common.{◌≡◌, ◌∙◌, ◌*◌, ◌<◌, ℕ, Bool, true, [], ◌∷◌, refl, sym, ap, subst, arith}
 use Rattle.std.specs.Prelude.{◌||◌}
 use Rattle.event_notes.specs.Loose.{is_loose_in}
 use Rattle.device_defs.specs.Contents.{contents}
@@ -9,7 +9,7 @@ use Rattle.track_table.specs.Bits.{is_marked}
 use Rattle.track_table.specs.Marked.{marked_left}
 use Rattle.device_store.specs.State.{state_of}
 use Rattle.device_store.proofs.Losing.{over_none}
-use Rattle.device_store.proofs.Elsewhere.{FramesGo, frames_next, frames_gone}
+use Rattle.device_store.proofs.Elsewhere.{frames_next, frames_gone}
 use Rattle.device_store.proofs.Skipping.{begun, next_few}
 use Rattle.device_store.proofs.Marked.{has_place, none_some, or_first, or_second, some_of}
 use Rattle.device_store.proofs.store.DeviceStore.lose_frames.Goals as goal

@@ -1,4 +1,4 @@
-use Rattle.std.proofs.Common.{◌≡◌, ◌∙◌, ◌*◌, ◌+◌, ◌<◌, ℕ, Bool, true, false, Option, None, List, [], ◌∷◌, refl, sym, ap, subst, arith}
+use Rattle.std.proofs.Common.{◌≡◌, ◌∙◌, ◌*◌, ◌+◌, ◌<◌, ℕ, true, Option, None, List, [], ◌∷◌, refl, sym, ap, subst}
 use Rattle.std.specs.Prelude.{slice_index_or}
 use Rattle.device_outside.specs.Interaction.{and_then}
 use Rattle.device_outside.specs.Outside.{done, no_pool}
@@ -7,7 +7,6 @@ use Rattle.device_defs.specs.Contents.{contents}
 use Rattle.device_defs.specs.Losses.{all_firm_told, firm_told, over, patch_lost, store_lost}
 use Rattle.device_defs.specs.Store.{patch_at}
 use Rattle.nv_store.specs.declared.patches.Stored.{Stored}
-use Rattle.nv_store.specs.Patches.{has_patch}
 use Rattle.track_table.specs.Bits.{is_marked}
 use Rattle.track_table.specs.Marked.{marked_left}
 use Rattle.device_store.specs.Looks.{StoreOf}

@@ -1,4 +1,4 @@
-use Rattle.std.proofs.Common.{◌≡◌, ◌∙◌, ◌*◌, ◌+◌, ◌<◌, ℕ, Bool, true, false, List, [], ◌∷◌, refl, sym, ap, subst}
+use Rattle.std.proofs.Common.{◌≡◌, ◌∙◌, ◌*◌, ◌+◌, ◌<◌, ℕ, true, [], ◌∷◌, refl, sym, ap, subst}
 use Rattle.device_outside.specs.Outside.{done}
 use Rattle.device_outside.proofs.Runs.{joined}
 use Rattle.device_defs.specs.Contents.{contents}
